@@ -1,0 +1,11 @@
+pub mod Words
+pub mod Terms
+pub mod Source
+pub mod Machines
+pub mod View
+pub mod Stores
+pub mod Meaning
+pub mod Runs
+pub mod Touched
+pub mod Trees
+pub mod Codes

@@ -1,0 +1,57 @@
+-- What expressions, guards and assignments mean in a store. Numbers have no bounds.
+use Rattle.std.specs.Prelude.{ℕ, Bool, true, not, ◌&&◌, ◌||◌, cond, ℤ, ◌+ℤ◌, ◌-ℤ◌, ◌*ℤ◌, neg_ℤ, int_lt, List, [], ◌∷◌, Option, Some, None}
+use Rattle.std.specs.Ordering.{int_eq}
+use Rattle.integers.specs.Division.{quotient, remainder}
+use Rattle.fs_model.specs.declared.parts.Rel.{Rel}
+use Rattle.fs_model.specs.declared.parts.Rel.TheVariants.{Eq, Ne, Lt, Le, Gt, Ge}
+use Rattle.fs_model.specs.Terms.{Term, Number, Variable, Element, Sum, Difference, Product, Quotient, Remainder, Negative, Literal, Formula, Test, Not, And, Or, Action, Assign, Write, Line}
+use Rattle.fs_model.specs.Stores.{Store, assigned, written}
+
+abbrev pub value : Term ℕ → Store → ℤ
+value (Number n) s = n
+value (Variable x) s = s.scalar x
+value (Element x i) s = s.array x (value i s)
+value (Sum a b) s = value a s +ℤ value b s
+value (Difference a b) s = value a s -ℤ value b s
+value (Product a b) s = value a s *ℤ value b s
+value (Quotient a b) s = quotient (value a s) (value b s)
+value (Remainder a b) s = remainder (value a s) (value b s)
+value (Negative a) s = neg_ℤ (value a s)
+
+-- whether a relation holds between two numbers
+abbrev pub relates : Rel → ℤ → ℤ → Bool
+relates Eq a b = int_eq a b
+relates Ne a b = not (int_eq a b)
+relates Lt a b = int_lt a b
+relates Le a b = not (int_lt b a)
+relates Gt a b = int_lt b a
+relates Ge a b = not (int_lt a b)
+
+abbrev pub literal_holds : Literal ℕ → Store → Bool
+literal_holds l s = relates l.relation (value l.left s) (value l.right s)
+
+abbrev pub holds : Formula ℕ → Store → Bool
+holds (Test l) s = literal_holds l s
+holds (Not g) s = not (holds g s)
+holds (And a b) s = holds a s && holds b s
+holds (Or a b) s = holds a s || holds b s
+
+-- a transition without guard may always be taken
+abbrev pub guard_holds : Option (Formula ℕ) → Store → Bool
+guard_holds None s = true
+guard_holds (Some g) s = holds g s
+
+-- the first transition whose guard holds
+abbrev pub line_taken : List (Line ℕ ℕ) → Store → Option (Line ℕ ℕ)
+line_taken [] s = None
+line_taken (l ∷ ls) s = cond (guard_holds l.guard s) (Some l) (line_taken ls s)
+
+-- what an action does to a store, with its right side and its index valued in the store before the step
+abbrev pub act : Action ℕ → Store → Store → Store
+act (Assign x e) before s = assigned s x (value e before)
+act (Write x i e) before s = written s x (value i before) (value e before)
+
+-- the actions of a transition, in order, all valued in the store before the step
+abbrev pub act_all : List (Action ℕ) → Store → Store → Store
+act_all [] before s = s
+act_all (a ∷ rest) before s = act_all rest before (act a before s)

@@ -1,0 +1,91 @@
+-- Steps and runs of a machine, and when two machines have the same behaviour.
+use Rattle.std.specs.Prelude.{◌≡◌, ◌≢◌, ℕ, zero, suc, ◌+◌, Bool, true, false, ◌&&◌, cond, ℤ, pos, List, [], ◌∷◌, Option, Some, None, slice_get}
+use Rattle.std.specs.Str.{bytes_eq}
+use Rattle.fs_model.specs.declared.parts.Role.{Role}
+use Rattle.fs_model.specs.declared.parts.Role.TheVariants.{Input, Output, Local}
+use Rattle.fs_model.specs.declared.parts.Sort.{Sort}
+use Rattle.fs_model.specs.declared.parts.Sort.TheVariants.{Scalar, Array}
+use Rattle.fs_model.specs.declared.parts.VarInfo.{VarInfo}
+use Rattle.fs_model.specs.Terms.{Line}
+use Rattle.fs_model.specs.Machines.{Fsmd, lines_of}
+use Rattle.fs_model.specs.Stores.{Store}
+use Rattle.fs_model.specs.Meaning.{line_taken, act_all}
+
+-- from state q and store s, the first transition whose guard holds leads to state r and store t
+pub record Step (m : Fsmd) (q : ℕ) (s : Store) (r : ℕ) (t : Store) : Type 0 where
+  pub line : Line ℕ ℕ
+  pub taken : line_taken (lines_of m q) s ≡ Some line
+  pub target : r ≡ line.target
+  pub store : t ≡ act_all line.actions s s
+
+-- one step, after which After stands
+pub record AfterStep (m : Fsmd) (q : ℕ) (s : Store) (After : ℕ → Store → Type 0) : Type 0 where
+  pub state : ℕ
+  pub store : Store
+  pub step : Step m q s state store
+  pub after : After state store
+
+-- from state q and store s, the reset state is reached for the first time after n steps, with store t
+abbrev pub Returns : Fsmd → ℕ → ℕ → Store → Store → Type 0
+Returns m zero q s t = (q ≡ m.reset) × (s ≡ t)
+Returns m (suc n) q s t = (q ≢ m.reset) × AfterStep m q s (λ r u. Returns m n r u t)
+
+-- the same with at least one step, whatever state it begins in
+abbrev pub Goes : Fsmd → ℕ → ℕ → Store → Store → Type 0
+Goes m zero q s t = ⊥
+Goes m (suc n) q s t = AfterStep m q s (λ r u. Returns m n r u t)
+
+-- a number and an array for each name, of which a machine takes what its inputs are
+pub record Inputs : Type 0 where
+  pub scalar : List ℕ → ℤ
+  pub array : List ℕ → ℤ → ℤ
+
+-- what an output holds at the end
+pub data Content : Type 0 where
+  Number : ℤ → Content
+  Entries : (ℤ → ℤ) → Content
+
+abbrev pub is_input : Role → Bool
+is_input Input = true
+is_input Output = false
+is_input Local = false
+
+abbrev pub is_output : Role → Bool
+is_output Input = false
+is_output Output = true
+is_output Local = false
+
+abbrev pub first_scalar : Inputs → Option VarInfo → ℤ
+first_scalar ins None = pos 0
+first_scalar ins (Some v) = cond (is_input v.role) (ins.scalar v.name) (pos 0)
+
+abbrev pub first_array : Inputs → Option VarInfo → ℤ → ℤ
+first_array ins None i = pos 0
+first_array ins (Some v) i = cond (is_input v.role) (ins.array v.name i) (pos 0)
+
+-- the store in which a run begins: the inputs as given, all else 0
+abbrev pub start : Fsmd → Inputs → Store
+start m ins = record { scalar = λ x. first_scalar ins (slice_get m.variables x); array = λ x i. first_array ins (slice_get m.variables x) i }
+
+abbrev pub content : Sort → ℕ → Store → Content
+content Scalar x s = Number (s.scalar x)
+content Array x s = Entries (s.array x)
+
+abbrev pub output_from : List VarInfo → ℕ → Store → List ℕ → Option Content
+output_from [] x s name = None
+output_from (v ∷ vs) x s name = cond (is_output v.role && bytes_eq v.name name) (Some (content v.sort x s)) (output_from vs (x + 1) s name)
+
+-- what the output of a name holds, and nothing where the name is no output
+abbrev pub output : Fsmd → Store → List ℕ → Option Content
+output m s name = output_from m.variables 0 s name
+
+-- from these inputs the machine returns to its reset state for the first time after n steps, with these outputs
+pub record Run (m : Fsmd) (ins : Inputs) (outs : List ℕ → Option Content) (n : ℕ) : Type 0 where
+  pub end : Store
+  pub goes : Goes m n m.reset (start m ins) end
+  pub gives : (name : List ℕ) → output m end name ≡ outs name
+
+-- each run of one has a run of the other from the same inputs to the same outputs
+pub record SameBehaviour (a b : Fsmd) : Type 0 where
+  pub forth : (ins : Inputs) (outs : List ℕ → Option Content) (n : ℕ) → Run a ins outs n → (k : ℕ) × Run b ins outs k
+  pub back : (ins : Inputs) (outs : List ℕ → Option Content) (n : ℕ) → Run b ins outs n → (k : ℕ) × Run a ins outs k

@@ -1,0 +1,36 @@
+-- Expressions, guards and assignments as plain data. X tells variables apart, and S states.
+use Rattle.std.specs.Prelude.{ℤ, List, Option}
+use Rattle.fs_model.specs.declared.parts.Rel.{Rel}
+
+pub data Term (X : Type 0) : Type 0 where
+  Number : ℤ → Term X
+  Variable : X → Term X
+  Element : X → (index : Term X) → Term X
+  Sum : (a b : Term X) → Term X
+  Difference : (a b : Term X) → Term X
+  Product : (a b : Term X) → Term X
+  Quotient : (a b : Term X) → Term X
+  Remainder : (a b : Term X) → Term X
+  Negative : Term X → Term X
+
+pub record Literal (X : Type 0) : Type 0 where
+  pub relation : Rel
+  pub left : Term X
+  pub right : Term X
+
+pub data Formula (X : Type 0) : Type 0 where
+  Test : Literal X → Formula X
+  Not : Formula X → Formula X
+  And : (a b : Formula X) → Formula X
+  Or : (a b : Formula X) → Formula X
+
+-- a scalar is assigned, or an array is written at an index
+pub data Action (X : Type 0) : Type 0 where
+  Assign : X → Term X → Action X
+  Write : X → (index value : Term X) → Action X
+
+-- a transition: it is taken where its guard holds, or always where it has none
+pub record Line (X S : Type 0) : Type 0 where
+  pub guard : Option (Formula X)
+  pub target : S
+  pub actions : List (Action X)

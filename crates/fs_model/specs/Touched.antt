@@ -1,0 +1,59 @@
+-- The numbers that a step touches: the values of the literals on the way taken, of the right sides and indices
+-- of the transition taken, and of all their parts.
+use Rattle.std.specs.Prelude.{ℕ, zero, suc, cond, ℤ, FitsSigned, List, [], ◌∷◌, ◌++◌, Option, Some, None}
+use Rattle.std.specs.Int.{w128}
+use Rattle.fs_model.specs.Terms.{Term, Number, Variable, Element, Sum, Difference, Product, Quotient, Remainder, Negative, Formula, Test, Not, And, Or, Action, Assign, Write, Line}
+use Rattle.fs_model.specs.Machines.{Fsmd, lines_of}
+use Rattle.fs_model.specs.Stores.{Store}
+use Rattle.fs_model.specs.Meaning.{value, holds, guard_holds}
+use Rattle.fs_model.specs.Runs.{Step}
+
+-- the value of a term and of all its parts
+abbrev pub touched_by_term : Term ℕ → Store → List ℤ
+touched_by_term (Number n) s = n ∷ []
+touched_by_term (Variable x) s = s.scalar x ∷ []
+touched_by_term (Element x i) s = value (Element x i) s ∷ touched_by_term i s
+touched_by_term (Sum a b) s = value (Sum a b) s ∷ (touched_by_term a s ++ touched_by_term b s)
+touched_by_term (Difference a b) s = value (Difference a b) s ∷ (touched_by_term a s ++ touched_by_term b s)
+touched_by_term (Product a b) s = value (Product a b) s ∷ (touched_by_term a s ++ touched_by_term b s)
+touched_by_term (Quotient a b) s = value (Quotient a b) s ∷ (touched_by_term a s ++ touched_by_term b s)
+touched_by_term (Remainder a b) s = value (Remainder a b) s ∷ (touched_by_term a s ++ touched_by_term b s)
+touched_by_term (Negative a) s = value (Negative a) s ∷ touched_by_term a s
+
+-- of a guard, the literals that are looked at: the second of two only where the first leaves it open
+abbrev pub touched_by_formula : Formula ℕ → Store → List ℤ
+touched_by_formula (Test l) s = touched_by_term l.left s ++ touched_by_term l.right s
+touched_by_formula (Not g) s = touched_by_formula g s
+touched_by_formula (And a b) s = touched_by_formula a s ++ cond (holds a s) (touched_by_formula b s) []
+touched_by_formula (Or a b) s = touched_by_formula a s ++ cond (holds a s) [] (touched_by_formula b s)
+
+abbrev pub touched_by_guard : Option (Formula ℕ) → Store → List ℤ
+touched_by_guard None s = []
+touched_by_guard (Some g) s = touched_by_formula g s
+
+abbrev pub touched_by_action : Action ℕ → Store → List ℤ
+touched_by_action (Assign x e) s = touched_by_term e s
+touched_by_action (Write x i e) s = touched_by_term i s ++ touched_by_term e s
+
+abbrev pub touched_by_actions : List (Action ℕ) → Store → List ℤ
+touched_by_actions [] s = []
+touched_by_actions (a ∷ rest) s = touched_by_action a s ++ touched_by_actions rest s
+
+-- the guards up to the transition taken, and its actions
+abbrev pub touched_by_lines : List (Line ℕ ℕ) → Store → List ℤ
+touched_by_lines [] s = []
+touched_by_lines (l ∷ ls) s = touched_by_guard l.guard s ++ cond (guard_holds l.guard s) (touched_by_actions l.actions s) (touched_by_lines ls s)
+
+-- the numbers touched by the step from a state and a store
+abbrev pub touched : Fsmd → ℕ → Store → List ℤ
+touched m q s = touched_by_lines (lines_of m q) s
+
+-- each number lies within 128 bits
+abbrev pub AllNarrow : List ℤ → Type 0
+AllNarrow [] = Unit {0}
+AllNarrow (z ∷ zs) = FitsSigned w128 z × AllNarrow zs
+
+-- each number touched by the first n steps from state q and store s lies within 128 bits
+abbrev pub StaysNarrow : Fsmd → ℕ → ℕ → Store → Type 0
+StaysNarrow m zero q s = Unit {0}
+StaysNarrow m (suc n) q s = AllNarrow (touched m q s) × ((r : ℕ) (t : Store) → Step m q s r t → StaysNarrow m n r t)

@@ -1,0 +1,58 @@
+-- The decision tree of a state's transitions, and its branches.
+use Rattle.std.specs.Prelude.{ℕ, ◌+◌, List, [], ◌∷◌, ◌++◌, Option, Some, None}
+use Rattle.fs_model.specs.declared.parts.Rel.{Rel}
+use Rattle.fs_model.specs.declared.parts.Rel.TheVariants.{Eq, Ne, Lt, Le, Gt, Ge}
+use Rattle.fs_model.specs.Terms.{Literal, Formula, Test, Not, And, Or, Action, Line}
+
+-- a leaf takes a transition, or none where there is none left
+pub data Tree : Type 0 where
+  Empty : Tree
+  Leaf : List (Action ℕ) → (target : ℕ) → Tree
+  Node : Literal ℕ → (on_yes on_no : Tree) → Tree
+
+abbrev pub tree_of_formula : Formula ℕ → (on_yes on_no : Tree) → Tree
+tree_of_formula (Test l) on_yes on_no = Node l on_yes on_no
+tree_of_formula (Not c) on_yes on_no = tree_of_formula c on_no on_yes
+tree_of_formula (And c d) on_yes on_no = tree_of_formula c (tree_of_formula d on_yes on_no) on_no
+tree_of_formula (Or c d) on_yes on_no = tree_of_formula c on_yes (tree_of_formula d on_yes on_no)
+
+abbrev pub tree_of_guard : Option (Formula ℕ) → (on_yes on_no : Tree) → Tree
+tree_of_guard None on_yes on_no = on_yes
+tree_of_guard (Some c) on_yes on_no = tree_of_formula c on_yes on_no
+
+abbrev pub tree_of_lines : List (Line ℕ ℕ) → Tree
+tree_of_lines [] = Empty
+tree_of_lines (l ∷ ls) = tree_of_guard l.guard (Leaf l.actions l.target) (tree_of_lines ls)
+
+-- the relation that holds where another doesn't
+abbrev pub opposite : Rel → Rel
+opposite Eq = Ne
+opposite Ne = Eq
+opposite Lt = Ge
+opposite Ge = Lt
+opposite Le = Gt
+opposite Gt = Le
+
+abbrev pub negated : Literal ℕ → Literal ℕ
+negated l = record { relation = opposite l.relation; left = l.left; right = l.right }
+
+-- a leaf, with the literals on its way in order
+pub record Branch : Type 0 where
+  pub literals : List (Literal ℕ)
+  pub actions : List (Action ℕ)
+  pub target : ℕ
+
+-- the leaves below a way, yes before no; on a no way the literal is negated
+abbrev pub leaves : Tree → List (Literal ℕ) → List Branch
+leaves Empty way = []
+leaves (Leaf actions target) way = record { literals = way; actions = actions; target = target } ∷ []
+leaves (Node l on_yes on_no) way = leaves on_yes (way ++ l ∷ []) ++ leaves on_no (way ++ negated l ∷ [])
+
+-- the branches of a state
+abbrev pub branches_of : List (Line ℕ ℕ) → List Branch
+branches_of ls = leaves (tree_of_lines ls) []
+
+abbrev pub count_leaves : Tree → ℕ
+count_leaves Empty = 0
+count_leaves (Leaf actions target) = 1
+count_leaves (Node l on_yes on_no) = count_leaves on_yes + count_leaves on_no

@@ -1,0 +1,33 @@
+//! Laws of steps, runs and behaviour, over the definitions alone. The functions do nothing.
+
+ghost use Rattle.std.specs.Prelude.{◌≡◌, ℕ};
+ghost use Rattle.fs_model.specs.Machines.{Fsmd};
+ghost use Rattle.fs_model.specs.Stores.{Store};
+ghost use Rattle.fs_model.specs.Runs.{Step, Goes, Returns, SameBehaviour};
+
+/// One step is determined: from a state and a store it leads to one state and one store.
+pub fn one_step_is_determined()
+    ensures state { (m : Fsmd) (q : ℕ) (s : Store) (r u : ℕ) (t v : Store) → Step m q s r t → Step m q s u v → r ≡ u }
+    ensures store { (m : Fsmd) (q : ℕ) (s : Store) (r u : ℕ) (t v : Store) → Step m q s r t → Step m q s u v → t ≡ v }
+{}
+
+/// A run's end is determined: where it ends, and after how many steps.
+pub fn a_run_is_determined()
+    ensures steps { (m : Fsmd) (s t u : Store) (n k : ℕ) → Goes m n m.reset s t → Goes m k m.reset s u → n ≡ k }
+    ensures end { (m : Fsmd) (s t u : Store) (n k : ℕ) → Goes m n m.reset s t → Goes m k m.reset s u → t ≡ u }
+{}
+
+/// A machine has the behaviour that it has.
+pub fn same_behaviour_is_reflexive()
+    ensures { (a : Fsmd) → SameBehaviour a a }
+{}
+
+/// Behaviour is the same both ways.
+pub fn same_behaviour_is_symmetric()
+    ensures { (a b : Fsmd) → SameBehaviour a b → SameBehaviour b a }
+{}
+
+/// Behaviour goes through a third machine.
+pub fn same_behaviour_is_transitive()
+    ensures { (a b c : Fsmd) → SameBehaviour a b → SameBehaviour b c → SameBehaviour a c }
+{}

@@ -1,0 +1,2 @@
+//! Quotients and remainders of whole numbers.
+#![tactic(auto)]
