@@ -1,8 +1,11 @@
 -- The decision tree of a state's transitions, and its branches.
-use Rattle.std.specs.Prelude.{ℕ, ◌+◌, List, [], ◌∷◌, ◌++◌, Option, Some, None}
+use Rattle.std.specs.Prelude.{ℕ, ◌+◌, Bool, List, [], ◌∷◌, ◌++◌, map, filter, Option, Some, None, option_map}
+use Rattle.std.specs.List.{list_all}
 use Rattle.fs_model.specs.declared.parts.Rel.{Rel}
 use Rattle.fs_model.specs.declared.parts.Rel.TheVariants.{Eq, Ne, Lt, Le, Gt, Ge}
 use Rattle.fs_model.specs.Terms.{Literal, Formula, Test, Not, And, Or, Action, Line}
+use Rattle.fs_model.specs.Stores.{Store}
+use Rattle.fs_model.specs.Meaning.{literal_holds, line_taken}
 
 -- a leaf takes a transition, or none where there is none left
 pub data Tree : Type 0 where
@@ -56,3 +59,18 @@ abbrev pub count_leaves : Tree → ℕ
 count_leaves Empty = 0
 count_leaves (Leaf actions target) = 1
 count_leaves (Node l on_yes on_no) = count_leaves on_yes + count_leaves on_no
+
+-- whether all literals of a branch hold
+abbrev pub branch_holds : Store → Branch → Bool
+branch_holds s b = list_all (λ l. literal_holds l s) b.literals
+
+-- what is done on a branch or a transition: its actions and its target
+abbrev pub Deed : Type 0
+Deed = List (Action ℕ) × ℕ
+
+-- what the branches do whose literals all hold
+abbrev pub deeds_open : List Branch → Store → List Deed
+deeds_open bs s = map (λ b. (b.actions, b.target)) (filter (branch_holds s) bs)
+
+abbrev pub deed_taken : List (Line ℕ ℕ) → Store → Option Deed
+deed_taken ls s = option_map (λ l. (l.actions, l.target)) (line_taken ls s)

@@ -1,8 +1,11 @@
 //! Laws of steps, runs and behaviour, over the definitions alone. The functions do nothing.
 
-ghost use Rattle.std.specs.Prelude.{◌≡◌, ℕ};
+ghost use Rattle.std.specs.Prelude.{◌≡◌, ℕ, List};
+ghost use Rattle.std.specs.Option.{option_to_list};
+ghost use Rattle.fs_model.specs.Terms.{Line};
 ghost use Rattle.fs_model.specs.Machines.{Fsmd};
 ghost use Rattle.fs_model.specs.Stores.{Store};
+ghost use Rattle.fs_model.specs.Trees.{branches_of, deeds_open, deed_taken};
 ghost use Rattle.fs_model.specs.Runs.{Step, Goes, Returns, SameBehaviour};
 
 /// One step is determined: from a state and a store it leads to one state and one store.
@@ -30,4 +33,9 @@ pub fn same_behaviour_is_symmetric()
 /// Behaviour goes through a third machine.
 pub fn same_behaviour_is_transitive()
     ensures { (a b c : Fsmd) → SameBehaviour a b → SameBehaviour b c → SameBehaviour a c }
+{}
+
+/// In each store the branches whose literals all hold are one, that of the transition taken, or none where none is taken.
+pub fn one_branch_is_open()
+    ensures { (lines : List (Line ℕ ℕ)) (s : Store) → deeds_open (branches_of lines) s ≡ option_to_list (deed_taken lines s) }
 {}
