@@ -1,0 +1,4 @@
+pub mod Outside
+pub mod Stored
+pub mod Memory
+pub mod Sinks

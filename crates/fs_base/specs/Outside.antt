@@ -1,0 +1,97 @@
+-- What files and sinks promise, and when a fault may come.
+use Rattle.std.specs.Prelude.{◌≡◌, ◌≢◌, ℕ, ◌+◌, ◌-◌, ◌^◌, ◌<◌, ◌≤◌, ◌⊎◌, List, ◌++◌, length, Option, Some, None}
+use Rattle.fs_base.specs.declared.outside.LoadError.{LoadError}
+use Rattle.fs_base.specs.declared.outside.LoadError.TheVariants.{Failed, TooLong, NoMemory}
+use Rattle.fs_base.specs.declared.outside.StoreError.{StoreError}
+use Rattle.fs_base.specs.declared.outside.StoreError.TheVariants.{Failed as NotStored, NoMemory as NoRoom}
+
+-- what is told of a name: nothing is known, no file stands there, or a file of these bytes
+pub data Held : Type 0 where
+  Untold : Held
+  Nothing : Held
+  Bytes : List ℕ → Held
+
+-- the last value of a count
+abbrev pub last_count : ℕ
+last_count = 2 ^ 64 - 1
+
+-- a count rose, or stands at its last value
+abbrev pub Rose : ℕ → ℕ → Type 0
+Rose old new = (old < new) ⊎ (new ≡ last_count)
+
+-- no name's count fell
+abbrev pub NoneFell : (List ℕ → ℕ) → (List ℕ → ℕ) → Type 0
+NoneFell old new = (name : List ℕ) → old name ≤ new name
+
+-- every name's count stayed
+abbrev pub SameCounts : (List ℕ → ℕ) → (List ℕ → ℕ) → Type 0
+SameCounts old new = (name : List ℕ) → new name ≡ old name
+
+-- every name holds what it held
+abbrev pub SameHeld : (List ℕ → Held) → (List ℕ → Held) → Type 0
+SameHeld old new = (name : List ℕ) → new name ≡ old name
+
+-- every other name holds what it held
+abbrev pub OthersHeld : List ℕ → (List ℕ → Held) → (List ℕ → Held) → Type 0
+OthersHeld name old new = (other : List ℕ) → other ≢ name → new other ≡ old other
+
+-- where it is told what a name holds, it is these bytes
+abbrev pub AreHeld : Held → List ℕ → Type 0
+AreHeld Untold bytes = Unit {0}
+AreHeld Nothing bytes = ⊥
+AreHeld (Bytes held) bytes = bytes ≡ held
+
+-- where it is told what a name holds, it is more than so many bytes
+abbrev pub MoreAreHeld : Held → ℕ → Type 0
+MoreAreHeld Untold limit = Unit {0}
+MoreAreHeld Nothing limit = ⊥
+MoreAreHeld (Bytes held) limit = limit < length held
+
+-- if the load failed, then P
+abbrev pub WhereFailed : Type 0 → LoadError → Type 0
+WhereFailed P Failed = P
+WhereFailed P TooLong = Unit {0}
+WhereFailed P NoMemory = Unit {0}
+
+-- if the file was too long, then P
+abbrev pub WhereTooLong : Type 0 → LoadError → Type 0
+WhereTooLong P Failed = Unit {0}
+WhereTooLong P TooLong = P
+WhereTooLong P NoMemory = Unit {0}
+
+-- if a load had no memory, then P
+abbrev pub WhereNoMemory : Type 0 → LoadError → Type 0
+WhereNoMemory P Failed = Unit {0}
+WhereNoMemory P TooLong = Unit {0}
+WhereNoMemory P NoMemory = P
+
+-- what a name holds once bytes were stored under it: these bytes, where it is told
+abbrev pub held_after : Held → List ℕ → Held
+held_after Untold bytes = Untold
+held_after Nothing bytes = Bytes bytes
+held_after (Bytes held) bytes = Bytes bytes
+
+-- if the store failed, then P
+abbrev pub WhereNotStored : Type 0 → StoreError → Type 0
+WhereNotStored P NotStored = P
+WhereNotStored P NoRoom = Unit {0}
+
+-- if a store had no memory, then P
+abbrev pub WhereNoRoom : Type 0 → StoreError → Type 0
+WhereNoRoom P NotStored = Unit {0}
+WhereNoRoom P NoRoom = P
+
+-- what a sink got once it took more bytes, where it is told
+abbrev pub appended : Option (List ℕ) → List ℕ → Option (List ℕ)
+appended None bytes = None
+appended (Some got) bytes = Some (got ++ bytes)
+
+-- the room that is left once so many bytes were taken, where it is told
+abbrev pub lowered : Option ℕ → ℕ → Option ℕ
+lowered None taken = None
+lowered (Some spare) taken = Some (spare - taken)
+
+-- so many bytes have room, where it is told
+abbrev pub HasRoom : Option ℕ → ℕ → Type 0
+HasRoom None count = Unit {0}
+HasRoom (Some spare) count = count ≤ spare

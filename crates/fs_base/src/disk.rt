@@ -1,0 +1,166 @@
+//! Files and standard output of the system.
+ghost use Rattle.std.specs.Prelude.{◌≡◌, ◌+◌, ◌<◌, ◌≤◌, length, IfOk, IfSome};
+ghost use Rattle.std.specs.Result.{IfErr};
+ghost use Rattle.fs_base.specs.Outside.{WhereTooLong};
+
+use crate::outside::{Files, LoadError, Sink, SinkFailed, StoreError};
+use std::alloc::Global;
+use std::fs::File;
+use std::io::{Read, Write};
+use std::marker::Model;
+use std::{fs, io, rt};
+
+// A file is read by parts of at most so many bytes.
+const PART: usize = 8192;
+
+/// The files of the system, seen as the count of their failures. What they hold is untold.
+///
+/// The one count, which stops at `u64::MAX`, is the count of both kinds of faults for every name.
+#[derive(Drop)]
+pub struct DiskFiles<'a, R: rt::Files> {
+    runtime: &'a R,
+    failures: u64,
+}
+
+impl<'a, R: rt::Files> Model for DiskFiles<'a, R> {
+    ghost use Rattle.std.specs.Prelude.{ℕ};
+
+    ghost Value = { ℕ };
+
+    ghost view = { λ files. files.failures };
+}
+
+impl<'a, R: rt::Files> DiskFiles<'a, R> {
+    /// The files that this runtime reaches. No call has failed.
+    pub fn new(runtime: &'a R) -> DiskFiles<'a, R>
+        ensures { result ≡ 0 }
+    {
+        DiskFiles {
+            runtime,
+            failures: 0,
+        }
+    }
+}
+
+// All that a reader has left, if that is at most `limit` bytes. It reads at most `limit + 1`.
+fn read_within<S: Read>(alloc: Global, reader: &mut S, limit: u64) -> Result<Vec<u8>, LoadError>
+    ensures within { IfOk result (λ bytes. length bytes.items ≤ limit) }
+    ensures whole { IfOk result (λ bytes. IfSome (S.remaining reader.old) (λ left. bytes.items ≡ left)) }
+    ensures too_long { IfErr result (WhereTooLong (IfSome (S.remaining reader.old) (λ left. limit < length left))) }
+{
+    let mut bytes = Vec::new(alloc);
+    let mut part = [0; PART];
+    while bytes.len() as u64 <= limit {
+        let most = part_of(limit - bytes.len() as u64);
+        let Ok(count) = reader.read(&mut part[..most]) else {
+            return Err(LoadError::Failed);
+        };
+        if count == 0 {
+            return Ok(bytes);
+        }
+        if bytes.extend_from_slice(&part[..count]).is_err() {
+            return Err(LoadError::NoMemory);
+        }
+    }
+    Err(LoadError::TooLong)
+}
+
+// How many bytes to read where one more than `left` may be read.
+fn part_of(left: u64) -> usize
+    ensures some { 0 < result }
+    ensures within { result ≤ left + 1 }
+    ensures fits { result ≤ PART }
+{
+    if left < PART as u64 {
+        left as usize + 1
+    } else {
+        PART
+    }
+}
+
+impl<R: rt::Files> Files for DiskFiles<'_, R> {
+    ghost use Rattle.fs_base.specs.Outside.{Untold};
+
+    ghost faults = { λ failures name. failures };
+
+    ghost store_faults = { λ failures name. failures };
+
+    ghost holds = { λ files name. Untold };
+
+    fn load(&mut self, alloc: Global, name: &str, limit: u64) -> Result<Vec<u8>, LoadError> {
+        let loaded = match File::open(self.runtime, name) {
+            Ok(mut file) => read_within(alloc, &mut file, limit),
+            Err(_) => Err(LoadError::Failed),
+        };
+        if matches!(loaded, Err(LoadError::Failed)) {
+            self.failures = self.failures.saturating_add(1);
+        }
+        loaded
+    }
+
+    fn store(&mut self, _alloc: Global, name: &str, bytes: &[u8]) -> Result<(), StoreError> {
+        match fs::write(self.runtime, name, bytes) {
+            Ok(()) => Ok(()),
+            Err(_) => {
+                self.failures = self.failures.saturating_add(1);
+                Err(StoreError::Failed)
+            }
+        }
+    }
+}
+
+/// Standard output, seen as the count of its failures. What it got, and the room that it has, are untold.
+///
+/// The count stops at `u64::MAX`.
+#[derive(Drop)]
+pub struct StdSink<'a, R: Print> {
+    runtime: &'a R,
+    failures: u64,
+}
+
+impl<'a, R: Print> Model for StdSink<'a, R> {
+    ghost use Rattle.std.specs.Prelude.{ℕ};
+
+    ghost Value = { ℕ };
+
+    ghost view = { λ sink. sink.failures };
+}
+
+impl<'a, R: Print> StdSink<'a, R> {
+    /// The standard output of this runtime. No put has failed.
+    pub fn new(runtime: &'a R) -> StdSink<'a, R>
+        ensures { result ≡ 0 }
+    {
+        StdSink {
+            runtime,
+            failures: 0,
+        }
+    }
+}
+
+impl<R: Print> Sink for StdSink<'_, R> {
+    ghost use Rattle.std.specs.Prelude.{None};
+
+    ghost faults = { λ failures. failures };
+
+    ghost got = { λ sink. None };
+
+    ghost spare = { λ sink. None };
+
+    fn room(&self) -> Option<u64> {
+        None
+    }
+
+    fn put(&mut self, piece: &[u8]) -> Result<u64, SinkFailed> {
+        if piece.is_empty() {
+            return Ok(0);
+        }
+        match io::writer(self.runtime).write(piece) {
+            Ok(taken) if 0 < taken => Ok(taken as u64),
+            _ => {
+                self.failures = self.failures.saturating_add(1);
+                Err(SinkFailed)
+            }
+        }
+    }
+}
