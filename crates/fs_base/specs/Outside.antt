@@ -81,6 +81,12 @@ abbrev pub WhereNoRoom : Type 0 → StoreError → Type 0
 WhereNoRoom P NotStored = Unit {0}
 WhereNoRoom P NoRoom = P
 
+-- where it is told what a reader has left, it lost at most so many bytes
+abbrev pub LosesAtMost : ℕ → Option (List ℕ) → Option (List ℕ) → Type 0
+LosesAtMost most None new = Unit {0}
+LosesAtMost most (Some old) None = ⊥
+LosesAtMost most (Some old) (Some new) = length old ≤ length new + most
+
 -- what a sink got once it took more bytes, where it is told
 abbrev pub appended : Option (List ℕ) → List ℕ → Option (List ℕ)
 appended None bytes = None

@@ -1,7 +1,7 @@
 //! Files and standard output of the system.
 ghost use Rattle.std.specs.Prelude.{◌≡◌, ◌+◌, ◌<◌, ◌≤◌, length, IfOk, IfSome};
 ghost use Rattle.std.specs.Result.{IfErr};
-ghost use Rattle.fs_base.specs.Outside.{WhereTooLong};
+ghost use Rattle.fs_base.specs.Outside.{LosesAtMost, WhereTooLong};
 
 use crate::outside::{Files, LoadError, Sink, SinkFailed, StoreError};
 use std::alloc::Global;
@@ -44,6 +44,7 @@ impl<'a, R: rt::Files> DiskFiles<'a, R> {
 
 // All that a reader has left, if that is at most `limit` bytes. It reads at most `limit + 1`.
 fn read_within<S: Read>(alloc: Global, reader: &mut S, limit: u64) -> Result<Vec<u8>, LoadError>
+    ensures reads { LosesAtMost (limit + 1) (S.remaining reader.old) (S.remaining reader.new) }
     ensures within { IfOk result (λ bytes. length bytes.items ≤ limit) }
     ensures whole { IfOk result (λ bytes. IfSome (S.remaining reader.old) (λ left. bytes.items ≡ left)) }
     ensures too_long { IfErr result (WhereTooLong (IfSome (S.remaining reader.old) (λ left. limit < length left))) }

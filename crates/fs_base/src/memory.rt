@@ -4,7 +4,7 @@ ghost use Rattle.std.specs.Option.{option_map};
 ghost use Rattle.std.specs.Result.{IfErr, OnErr};
 ghost use Rattle.fs_base.specs.Outside.{WhereFailed, WhereTooLong};
 ghost use Rattle.fs_base.specs.Stored.{newest};
-ghost use Rattle.fs_base.specs.Memory.{Listed, no_calls, fails_next, after_call, after_failure, with_file};
+ghost use Rattle.fs_base.specs.Memory.{ScriptedFiles, no_calls, fails_next, after_call, after_failure, with_file};
 
 use crate::outside::{Files, LoadError, NoMemory, StoreError};
 use std::alloc::Global;
@@ -54,6 +54,7 @@ fn put_first(
     }
 }
 
+// A file of that name and these bytes.
 fn new_file(alloc: Global, name: &str, bytes: &[u8]) -> Result<StoredFile, NoMemory>
     ensures { IfOk result (λ file. file ≡ (name.now, bytes.now)) }
 {
@@ -82,10 +83,11 @@ fn load_copy(alloc: Global, bytes: &[u8], limit: u64) -> Result<Vec<u8>, LoadErr
     }
 }
 
-/// Files in memory, of which each fault is by a list of the calls that fail, or a load of a name without a file.
+/// Files in memory that fail where they are told to: at the calls that a list numbers, and at a load of a name without
+/// a file.
 ///
-/// The calls of `load` and `store` are numbered from 0, except those that had no memory; the numbers stop at
-/// `u64::MAX`. One count of failures is the count of both kinds for every name.
+/// The calls of `load` and `store` are numbered from 0, up to `u64::MAX`; a call that had no memory gets no number, and a
+/// store that fails changes no file. One count of failures is the count of both kinds for every name.
 #[derive(Drop)]
 pub struct MemFiles {
     alloc: Global,
@@ -96,9 +98,9 @@ pub struct MemFiles {
 }
 
 impl Model for MemFiles {
-    ghost use Rattle.fs_base.specs.Memory.{Listed};
+    ghost use Rattle.fs_base.specs.Memory.{ScriptedFiles};
 
-    ghost Value = { Listed };
+    ghost Value = { ScriptedFiles };
 
     ghost view = { λ held. record { files = held.files.items; fails = held.fails.items; next_call = held.next_call; failures = held.failures } };
 }
@@ -155,7 +157,11 @@ impl MemFiles {
 }
 
 impl Files for MemFiles {
+    ghost use Rattle.std.specs.Prelude.{◌≡◌, ◌≤◌, true, length, Some, Err, IfOk, ◌↔◌};
+    ghost use Rattle.std.specs.Result.{IfErr};
+    ghost use Rattle.fs_base.specs.Outside.{Rose, MoreAreHeld, WhereFailed, WhereTooLong, WhereNotStored};
     ghost use Rattle.fs_base.specs.Stored.{newest, held_or_nothing};
+    ghost use Rattle.fs_base.specs.Memory.{fails_next, CannotLoad, after_load, after_store};
 
     ghost faults = { λ held name. held.failures };
 
@@ -163,7 +169,16 @@ impl Files for MemFiles {
 
     ghost holds = { λ held name. held_or_nothing (newest held.files name) };
 
-    fn load(&mut self, alloc: Global, name: &str, limit: u64) -> Result<Vec<u8>, LoadError> {
+    fn load(&mut self, alloc: Global, name: &str, limit: u64) -> Result<Vec<u8>, LoadError>
+        ensures bytes { IfOk result (λ bytes. newest self.old.files name.now ≡ Some bytes.items) }
+        ensures within { IfOk result (λ bytes. length bytes.items ≤ limit) }
+        ensures listed { fails_next self.old ≡ true → result ≡ Err LoadError.Failed }
+        ensures failed { IfErr result (WhereFailed (CannotLoad self.old name.now)) }
+        ensures too_long { IfErr result (WhereTooLong (MoreAreHeld (held_or_nothing (newest self.old.files name.now)) limit)) }
+        ensures after { self.new ≡ after_load self.old result }
+        ensures counts { self.old.failures ≤ self.new.failures }
+        ensures rose { IfErr result (WhereFailed (Rose self.old.failures self.new.failures)) }
+    {
         if self.fails_next() {
             self.fail_call();
             return Err(LoadError::Failed);
@@ -179,7 +194,12 @@ impl Files for MemFiles {
         loaded
     }
 
-    fn store(&mut self, _alloc: Global, name: &str, bytes: &[u8]) -> Result<(), StoreError> {
+    fn store(&mut self, _alloc: Global, name: &str, bytes: &[u8]) -> Result<(), StoreError>
+        ensures failed { (result ≡ Err StoreError.Failed) ↔ (fails_next self.old ≡ true) }
+        ensures after { self.new ≡ after_store self.old name.now bytes.now result }
+        ensures counts { self.old.failures ≤ self.new.failures }
+        ensures rose { IfErr result (WhereNotStored (Rose self.old.failures self.new.failures)) }
+    {
         if self.fails_next() {
             self.fail_call();
             return Err(StoreError::Failed);
@@ -237,6 +257,9 @@ impl CleanFiles {
 }
 
 impl Files for CleanFiles {
+    ghost use Rattle.std.specs.Prelude.{◌≡◌, ◌≤◌, ◌∷◌, length, IfOk, OnOk};
+    ghost use Rattle.std.specs.Result.{IfErr, OnErr};
+    ghost use Rattle.fs_base.specs.Outside.{AreHeld, MoreAreHeld, WhereFailed, WhereTooLong};
     ghost use Rattle.fs_base.specs.Stored.{newest, held_or_empty};
 
     ghost faults = { λ held name. 0 };
@@ -245,14 +268,24 @@ impl Files for CleanFiles {
 
     ghost holds = { λ held name. held_or_empty (newest held name) };
 
-    fn load(&mut self, alloc: Global, name: &str, limit: u64) -> Result<Vec<u8>, LoadError> {
+    fn load(&mut self, alloc: Global, name: &str, limit: u64) -> Result<Vec<u8>, LoadError>
+        ensures bytes { IfOk result (λ bytes. AreHeld (held_or_empty (newest self.old name.now)) bytes.items) }
+        ensures within { IfOk result (λ bytes. length bytes.items ≤ limit) }
+        ensures too_long { IfErr result (WhereTooLong (MoreAreHeld (held_or_empty (newest self.old name.now)) limit)) }
+        ensures never_fails { IfErr result (WhereFailed ⊥) }
+        ensures unchanged { self.new ≡ self.old }
+    {
         match self.get(name) {
             Some(bytes) => load_copy(alloc, bytes, limit),
             None => Ok(Vec::new(alloc)),
         }
     }
 
-    fn store(&mut self, _alloc: Global, name: &str, bytes: &[u8]) -> Result<(), StoreError> {
+    fn store(&mut self, _alloc: Global, name: &str, bytes: &[u8]) -> Result<(), StoreError>
+        ensures ok { OnOk result (self.new ≡ (name.now, bytes.now) ∷ self.old) }
+        ensures never_fails { IfErr result (λ e. e ≡ StoreError.NoMemory) }
+        ensures err { OnErr result (self.new ≡ self.old) }
+    {
         match self.add(name, bytes) {
             Ok(()) => Ok(()),
             Err(NoMemory) => Err(StoreError::NoMemory),

@@ -48,13 +48,14 @@ pub trait Files {
     /// Reads the bytes under a name, at most `limit` of them. It changes no file.
     ///
     /// `Failed` where the file cannot be read, and the count of faults of this name rose; `TooLong` where it has more
-    /// than `limit` bytes; `NoMemory` where there is no memory, and then no count rose.
+    /// than `limit` bytes; `NoMemory` where there is no memory, and then no count changed.
     fn load(&mut self, alloc: Global, name: &str, limit: u64) -> Result<Vec<u8>, LoadError>
         ensures within { IfOk result (λ bytes. length bytes.items ≤ limit) }
         ensures held { IfOk result (λ bytes. AreHeld (holds self.old name.now) bytes.items) }
         ensures too_long { IfErr result (WhereTooLong (MoreAreHeld (holds self.old name.now) limit)) }
         ensures failed { IfErr result (WhereFailed (Rose (faults self.old name.now) (faults self.new name.now))) }
         ensures no_memory { IfErr result (WhereNoMemory (SameCounts (faults self.old) (faults self.new))) }
+        ensures no_memory_store { IfErr result (WhereNoMemory (SameCounts (store_faults self.old) (store_faults self.new))) }
         ensures counts { NoneFell (faults self.old) (faults self.new) }
         ensures store_counts { NoneFell (store_faults self.old) (store_faults self.new) }
         ensures unchanged { SameHeld (holds self.old) (holds self.new) };
@@ -68,7 +69,8 @@ pub trait Files {
         ensures others { OthersHeld name.now (holds self.old) (holds self.new) }
         ensures failed { IfErr result (WhereNotStored (Rose (store_faults self.old name.now) (store_faults self.new name.now))) }
         ensures no_memory { IfErr result (WhereNoRoom (SameHeld (holds self.old) (holds self.new))) }
-        ensures no_memory_counts { IfErr result (WhereNoRoom (SameCounts (store_faults self.old) (store_faults self.new))) }
+        ensures no_memory_load { IfErr result (WhereNoRoom (SameCounts (faults self.old) (faults self.new))) }
+        ensures no_memory_store { IfErr result (WhereNoRoom (SameCounts (store_faults self.old) (store_faults self.new))) }
         ensures counts { NoneFell (faults self.old) (faults self.new) }
         ensures store_counts { NoneFell (store_faults self.old) (store_faults self.new) };
 }

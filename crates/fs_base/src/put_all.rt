@@ -8,6 +8,7 @@ use crate::outside::Sink;
 /// The sink failed once it had taken the first `sent` bytes.
 #[derive(Clone, Copy, PartialEq, Eq, Debug)]
 pub struct PutError {
+    /// How many bytes the sink took.
     pub sent: u64,
 }
 

@@ -1,7 +1,7 @@
 //! Sinks in memory. Each takes its memory before it is put to, by `reserve`.
 ghost use Rattle.std.specs.Prelude.{◌≡◌, ℕ, ◌+◌, ◌<◌, ◌≤◌, List, [], ◌++◌, length, take, OnOk, IfOk, vec_len, vec_capacity};
 ghost use Rattle.std.specs.Result.{OnErr};
-ghost use Rattle.fs_base.specs.Sinks.{Roomy, with_room, Listed, no_calls, with_room_listed, taken_next, after_put, after_failed_put};
+ghost use Rattle.fs_base.specs.Sinks.{RoomySink, with_room, ScriptedSink, no_puts, with_room_scripted, taken_next, after_taking, after_failed_put};
 
 use crate::outside::{NoMemory, Sink, SinkFailed};
 use std::alloc::Global;
@@ -39,9 +39,9 @@ pub struct CleanSink {
 
 impl Model for CleanSink {
     ghost use Rattle.std.specs.Prelude.{◌+◌, ◌≤◌, vec_len, vec_capacity};
-    ghost use Rattle.fs_base.specs.Sinks.{Roomy};
+    ghost use Rattle.fs_base.specs.Sinks.{RoomySink};
 
-    ghost Value = { Roomy };
+    ghost Value = { RoomySink };
 
     ghost view = { λ sink. record { bytes = sink.bytes.items; room = sink.room } };
 
@@ -78,7 +78,8 @@ impl CleanSink {
 }
 
 impl Sink for CleanSink {
-    ghost use Rattle.std.specs.Prelude.{Some};
+    ghost use Rattle.std.specs.Prelude.{◌≡◌, ◌≤◌, length, Some, Ok};
+    ghost use Rattle.fs_base.specs.Sinks.{with_bytes};
 
     ghost faults = { λ sink. 0 };
 
@@ -90,7 +91,11 @@ impl Sink for CleanSink {
         Some(self.room)
     }
 
-    fn put(&mut self, piece: &[u8]) -> Result<u64, SinkFailed> {
+    fn put(&mut self, piece: &[u8]) -> Result<u64, SinkFailed>
+        requires { length piece.now ≤ self.old.room }
+        ensures whole { result ≡ Ok (length piece.now) }
+        ensures after { self.new ≡ with_bytes self.old piece.now }
+    {
         append_reserved(&mut self.bytes, piece);
         let taken = piece.len() as u64;
         self.room -= taken;
@@ -100,7 +105,7 @@ impl Sink for CleanSink {
 
 /// A sink in memory whose calls of `put` take at most what a list says.
 ///
-/// The calls are numbered from 0, up to `usize::MAX`. Call number i takes at most `takes[i]` bytes, and past the list
+/// The calls are numbered from 0, up to `u64::MAX`. Call number i takes at most `takes[i]` bytes, and past the list
 /// all, but no more than have room. A call that takes nothing of a piece that is not empty fails.
 #[derive(Drop)]
 pub struct MemSink {
@@ -113,9 +118,9 @@ pub struct MemSink {
 
 impl Model for MemSink {
     ghost use Rattle.std.specs.Prelude.{◌+◌, ◌≤◌, vec_len, vec_capacity};
-    ghost use Rattle.fs_base.specs.Sinks.{Listed};
+    ghost use Rattle.fs_base.specs.Sinks.{ScriptedSink};
 
-    ghost Value = { Listed };
+    ghost Value = { ScriptedSink };
 
     ghost view = { λ sink. record { bytes = sink.bytes.items; takes = sink.takes.items; next_call = sink.next_call; room = sink.room; failures = sink.failures } };
 
@@ -125,7 +130,7 @@ impl Model for MemSink {
 impl MemSink {
     /// A sink that took nothing and has no room.
     pub fn new(alloc: Global, takes: Vec<u64>) -> MemSink
-        ensures { result ≡ no_calls takes.items }
+        ensures { result ≡ no_puts takes.items }
     {
         MemSink {
             bytes: Vec::new(alloc),
@@ -138,7 +143,7 @@ impl MemSink {
 
     /// Makes room for so many bytes more. An error for want of memory, and then nothing changed.
     pub fn reserve(&mut self, bytes: u64) -> Result<(), NoMemory>
-        ensures ok { OnOk result (self.new ≡ with_room_listed self.old bytes) }
+        ensures ok { OnOk result (self.new ≡ with_room_scripted self.old bytes) }
         ensures err { OnErr result (self.new ≡ self.old) }
     {
         reserve_room(&mut self.bytes, bytes)?;
@@ -166,7 +171,7 @@ impl MemSink {
 
     fn take(&mut self, bytes: &[u8])
         requires { length bytes.now ≤ self.old.room }
-        ensures { self.new ≡ after_put self.old bytes.now }
+        ensures { self.new ≡ after_taking self.old bytes.now }
     {
         append_reserved(&mut self.bytes, bytes);
         self.room -= bytes.len() as u64;
@@ -183,7 +188,10 @@ impl MemSink {
 }
 
 impl Sink for MemSink {
-    ghost use Rattle.std.specs.Prelude.{Some, None};
+    ghost use Rattle.std.specs.Prelude.{◌≡◌, ◌<◌, ◌≤◌, length, Some, None, IfOk};
+    ghost use Rattle.std.specs.Result.{OnErr};
+    ghost use Rattle.fs_base.specs.Outside.{Rose};
+    ghost use Rattle.fs_base.specs.Sinks.{taken_next, after_put};
 
     ghost faults = { λ sink. sink.failures };
 
@@ -195,7 +203,15 @@ impl Sink for MemSink {
         None
     }
 
-    fn put(&mut self, piece: &[u8]) -> Result<u64, SinkFailed> {
+    fn put(&mut self, piece: &[u8]) -> Result<u64, SinkFailed>
+        ensures taken { IfOk result (λ taken. taken ≡ taken_next self.old (length piece.now)) }
+        ensures some { IfOk result (λ taken. 0 < length piece.now → 0 < taken) }
+        ensures none { OnErr result (taken_next self.old (length piece.now) ≡ 0) }
+        ensures not_empty { OnErr result (0 < length piece.now) }
+        ensures after { self.new ≡ after_put self.old piece.now result }
+        ensures counts { self.old.failures ≤ self.new.failures }
+        ensures rose { OnErr result (Rose self.old.failures self.new.failures) }
+    {
         let taken = self.taken_next(piece.len() as u64);
         if taken == 0 && !piece.is_empty() {
             self.fail();

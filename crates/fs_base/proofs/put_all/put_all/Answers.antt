@@ -1,4 +1,4 @@
-use Rattle.std.proofs.Common.{◌≡◌, ℕ, List, ◌+◌, ◌++◌, ◌-◌, ◌≤◌, Option, Some, None, refl, ap, ◌∙◌, append_assoc, arith, take, drop, length, length-drop}
+use Rattle.std.proofs.Common.{◌≡◌, ℕ, List, ◌+◌, ◌-◌, ◌≤◌, Option, Some, None, refl, ap, ◌∙◌, append_assoc, arith, take, drop, length, length-drop}
 use Rattle.std.proofs.lemmas.List.{take_rest}
 use Rattle.std.proofs.Math.Seq.{take-add}
 use Rattle.fs_base.specs.Outside.{appended, lowered}
@@ -10,9 +10,9 @@ appended-take : (got : Option (List ℕ)) (bytes : List ℕ) (i n : ℕ) →
 appended-take None bytes i n = refl
 appended-take (Some got) bytes i n = grind (arith, take_rest bytes i, take-add i n bytes, append_assoc got (take i bytes) (take n (drop i bytes)))
 
-one_more : (old now new : Option (List ℕ)) (bytes : List ℕ) (i n : ℕ) → now ≡ appended old (take i bytes) →
+next_piece : (old now new : Option (List ℕ)) (bytes : List ℕ) (i n : ℕ) → now ≡ appended old (take i bytes) →
     new ≡ appended now (take n (take (length bytes - i) (drop i bytes))) → new ≡ appended old (take (i + n) bytes)
-one_more old now new bytes i n e f = f ∙ ap (λ got. appended got (take n (take (length bytes - i) (drop i bytes)))) e ∙ appended-take old bytes i n
+next_piece old now new bytes i n e f = f ∙ ap (λ got. appended got (take n (take (length bytes - i) (drop i bytes)))) e ∙ appended-take old bytes i n
 
 lowered-twice : (spare : Option ℕ) (i n : ℕ) → lowered (lowered spare i) n ≡ lowered spare (i + n)
 lowered-twice None i n = refl
@@ -27,7 +27,7 @@ within bytes i n h k = omega (arith, length-drop i bytes, rw take_rest at k)
 pub loop-sent-preserved : goal.loop-sent-preserved
 loop-sent-preserved g c = record {
   within = within _ _ _ c.loop-sent.invariant.within c.in-Ok.ensures.within;
-  got = one_more (g.S.Sink.got c.args.sink.now) (g.S.Sink.got c.loop-sent.sink) (g.S.Sink.got c.put.new.self) c.args.bytes.now c.loop-sent.sent c.in-Ok.taken c.loop-sent.invariant.got c.in-Ok.ensures.got;
+  got = next_piece (g.S.Sink.got c.args.sink.now) (g.S.Sink.got c.loop-sent.sink) (g.S.Sink.got c.put.new.self) c.args.bytes.now c.loop-sent.sent c.in-Ok.taken c.loop-sent.invariant.got c.in-Ok.ensures.got;
   spare = less_spare (g.S.Sink.spare c.args.sink.now) (g.S.Sink.spare c.loop-sent.sink) (g.S.Sink.spare c.put.new.self) c.loop-sent.sent c.in-Ok.taken c.loop-sent.invariant.spare c.in-Ok.ensures.spare;
   counts = omega (arith, c.loop-sent.invariant.counts, c.in-Ok.ensures.counts);
 }
