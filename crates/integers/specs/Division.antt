@@ -1,11 +1,11 @@
--- Division of whole numbers, total.
-use Rattle.std.specs.Prelude.{cond, ℤ, pos, int_div, int_rem}
+-- Division of integers that is total.
+use Rattle.std.specs.Prelude.{ℤ, pos, cond, int_div, int_rem}
 use Rattle.std.specs.Ordering.{int_eq}
 
--- the quotient, rounded toward zero, and 0 where the divisor is 0
+-- the quotient, truncated toward zero, and 0 where the divisor is 0
 abbrev pub quotient : ℤ → ℤ → ℤ
 quotient a b = cond (int_eq b (pos 0)) (pos 0) (int_div a b)
 
--- what is left, with the dividend's sign, and 0 where the divisor is 0
+-- what the quotient leaves, with the sign of the dividend, and 0 where the divisor is 0
 abbrev pub remainder : ℤ → ℤ → ℤ
 remainder a b = cond (int_eq b (pos 0)) (pos 0) (int_rem a b)
