@@ -9,7 +9,7 @@ use Rattle.fs_model.specs.declared.parts.Rel.TheVariants.{Eq, Ne, Lt, Le, Gt, Ge
 use Rattle.fs_model.specs.Terms.{Literal, Formula, Test, Not, And, Or, Line}
 use Rattle.fs_model.specs.Stores.{Store}
 use Rattle.fs_model.specs.Meaning.{value, relates, literal_holds, holds, guard_holds, line_taken}
-use Rattle.fs_model.specs.Trees.{Tree, Empty, Leaf, Node, Branch, Deed, tree_of_formula, tree_of_guard, tree_of_lines, opposite, negated, leaves, branches_of, deeds_open, deed_taken}
+use Rattle.fs_model.specs.Trees.{Tree, Empty, Leaf, Node, Branch, Effect, tree_of_formula, tree_of_guard, tree_of_lines, opposite, negated, leaves, branches_of, effects_open, effect_taken}
 
 opposite_relates : (r : Rel) (a b : ℤ) → relates (opposite r) a b ≡ not (relates r a b)
 opposite_relates Eq a b = refl
@@ -24,7 +24,7 @@ opposite_holds : (l : Literal ℕ) (s : Store) → literal_holds (negated l) s �
 opposite_holds l s = opposite_relates l.relation (value l.left s) (value l.right s)
 
 -- what is done at the leaf that a store comes to
-abbrev pub reached : Tree → Store → Option Deed
+abbrev pub reached : Tree → Store → Option Effect
 reached Empty s = None
 reached (Leaf actions target) s = Some (actions, target)
 reached (Node l y n) s = cond (literal_holds l s) (reached y s) (reached n s)
@@ -39,38 +39,38 @@ reached-guard : (g : Option (Formula ℕ)) (y n : Tree) (s : Store) → reached 
 reached-guard None y n s = refl
 reached-guard (Some g) y n s = reached-formula g y n s
 
-deed_where : (b : Bool) (l : Line ℕ ℕ) (o : Option (Line ℕ ℕ))
-    → cond {A = Option Deed} b (Some (l.actions, l.target)) (option_map (λ (k : Line ℕ ℕ). (k.actions, k.target)) o) ≡ option_map (λ (k : Line ℕ ℕ). (k.actions, k.target)) (cond b (Some l) o)
-deed_where true l o = refl
-deed_where false l o = refl
+effect_where : (b : Bool) (l : Line ℕ ℕ) (o : Option (Line ℕ ℕ))
+    → cond {A = Option Effect} b (Some (l.actions, l.target)) (option_map (λ (k : Line ℕ ℕ). (k.actions, k.target)) o) ≡ option_map (λ (k : Line ℕ ℕ). (k.actions, k.target)) (cond b (Some l) o)
+effect_where true l o = refl
+effect_where false l o = refl
 
-reached-lines : (ls : List (Line ℕ ℕ)) (s : Store) → reached (tree_of_lines ls) s ≡ deed_taken ls s
+reached-lines : (ls : List (Line ℕ ℕ)) (s : Store) → reached (tree_of_lines ls) s ≡ effect_taken ls s
 reached-lines [] s = refl
 reached-lines (l ∷ ls) s =
     reached-guard l.guard (Leaf l.actions l.target) (tree_of_lines ls) s
-    ∙ ap (λ (o : Option Deed). cond {A = Option Deed} (guard_holds l.guard s) (Some (l.actions, l.target)) o) (reached-lines ls s)
-    ∙ deed_where (guard_holds l.guard s) l (line_taken ls s)
+    ∙ ap (λ (o : Option Effect). cond {A = Option Effect} (guard_holds l.guard s) (Some (l.actions, l.target)) o) (reached-lines ls s)
+    ∙ effect_where (guard_holds l.guard s) l (line_taken ls s)
 
-deeds_open-append : (a b : List Branch) (s : Store) → deeds_open (a ++ b) s ≡ deeds_open a s ++ deeds_open b s
-deeds_open-append [] b s = refl
-deeds_open-append (w ∷ a) b s = grind (arith, deeds_open-append a b s)
+effects_open-append : (a b : List Branch) (s : Store) → effects_open (a ++ b) s ≡ effects_open a s ++ effects_open b s
+effects_open-append [] b s = refl
+effects_open-append (w ∷ a) b s = grind (arith, effects_open-append a b s)
 
-joined : (p h l r : Bool) (a b : Option Deed) → l ≡ (p && (h && true)) → r ≡ (p && (not h && true))
+joined : (p h l r : Bool) (a b : Option Effect) → l ≡ (p && (h && true)) → r ≡ (p && (not h && true))
     → cond l (option_to_list a) [] ++ cond r (option_to_list b) [] ≡ cond p (option_to_list (cond h a b)) []
-joined p h l r a b e f = grind (arith, e, f, append-nil {A = Deed})
+joined p h l r a b e f = grind (arith, e, f, append-nil {A = Effect})
 
 -- whether all literals of a way hold
 abbrev pub all_hold : List (Literal ℕ) → Store → Bool
 all_hold ls s = list_all (λ l. literal_holds l s) ls
 
 -- where the way so far is open, the leaves below give the one that the store comes to
-below : (t : Tree) (way : List (Literal ℕ)) (s : Store) → deeds_open (leaves t way) s ≡ cond (all_hold way s) (option_to_list (reached t s)) []
+below : (t : Tree) (way : List (Literal ℕ)) (s : Store) → effects_open (leaves t way) s ≡ cond (all_hold way s) (option_to_list (reached t s)) []
 below Empty way s = grind arith
 below (Leaf actions target) way s = grind arith
 below (Node l y n) way s =
-    deeds_open-append (leaves y (way ++ l ∷ [])) (leaves n (way ++ negated l ∷ [])) s
+    effects_open-append (leaves y (way ++ l ∷ [])) (leaves n (way ++ negated l ∷ [])) s
     ∙ ap₂ (λ u v. u ++ v) (below y (way ++ l ∷ []) s) (below n (way ++ negated l ∷ []) s)
     ∙ joined (all_hold way s) (literal_holds l s) _ _ (reached y s) (reached n s) (list_all-append (λ k. literal_holds k s) way (l ∷ [])) (list_all-append (λ k. literal_holds k s) way (negated l ∷ []) ∙ ap (λ z. all_hold way s && (z && true)) (opposite_holds l s))
 
-pub one_leaf_open : (ls : List (Line ℕ ℕ)) (s : Store) → deeds_open (branches_of ls) s ≡ option_to_list (deed_taken ls s)
+pub one_leaf_open : (ls : List (Line ℕ ℕ)) (s : Store) → effects_open (branches_of ls) s ≡ option_to_list (effect_taken ls s)
 one_leaf_open ls s = below (tree_of_lines ls) [] s ∙ ap option_to_list (reached-lines ls s)

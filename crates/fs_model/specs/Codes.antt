@@ -9,7 +9,7 @@ use Rattle.fs_model.specs.declared.parts.Role.TheVariants.{Input, Output, Local}
 use Rattle.fs_model.specs.declared.parts.Sort.{Sort}
 use Rattle.fs_model.specs.declared.parts.Sort.TheVariants.{Scalar, Array}
 use Rattle.fs_model.specs.declared.parts.VarInfo.{VarInfo}
-use Rattle.fs_model.specs.Terms.{Term, Number, Variable, Element, Sum, Difference, Product, Quotient, Remainder, Negative, Literal, Formula, Test, Not, And, Or, Action, Assign, Write, Line}
+use Rattle.fs_model.specs.Terms.{Term, Number, Variable, Read, Sum, Difference, Product, Quotient, Remainder, Negative, Literal, Formula, Test, Not, And, Or, Action, Assign, Write, Line}
 use Rattle.fs_model.specs.Machines.{State, Fsmd}
 
 abbrev pub code_rel : Rel → Gv
@@ -106,7 +106,7 @@ inj_int (negsuc m) (negsuc n) e = cc
 abbrev pub code_term : Term ℕ → Gv
 code_term (Number x0) = gcons (gnum 0) (code_int x0)
 code_term (Variable x0) = gcons (gnum 1) (gnum x0)
-code_term (Element x0 x1) = gcons (gnum 2) ((gcons (gnum x0) (code_term x1)))
+code_term (Read x0 x1) = gcons (gnum 2) ((gcons (gnum x0) (code_term x1)))
 code_term (Sum x0 x1) = gcons (gnum 3) ((gcons (code_term x0) (code_term x1)))
 code_term (Difference x0 x1) = gcons (gnum 4) ((gcons (code_term x0) (code_term x1)))
 code_term (Product x0 x1) = gcons (gnum 5) ((gcons (code_term x0) (code_term x1)))
@@ -117,7 +117,7 @@ code_term (Negative x0) = gcons (gnum 8) (code_term x0)
 pub inj_term : (x y : Term ℕ) → code_term x ≡ code_term y → x ≡ y
 inj_term (Number x0) (Number y0) e = let e0 : x0 ≡ y0 = inj_int x0 y0 (cc) in cc
 inj_term (Number x0) (Variable y0) e = cc
-inj_term (Number x0) (Element y0 y1) e = cc
+inj_term (Number x0) (Read y0 y1) e = cc
 inj_term (Number x0) (Sum y0 y1) e = cc
 inj_term (Number x0) (Difference y0 y1) e = cc
 inj_term (Number x0) (Product y0 y1) e = cc
@@ -126,25 +126,25 @@ inj_term (Number x0) (Remainder y0 y1) e = cc
 inj_term (Number x0) (Negative y0) e = cc
 inj_term (Variable x0) (Number y0) e = cc
 inj_term (Variable x0) (Variable y0) e = cc
-inj_term (Variable x0) (Element y0 y1) e = cc
+inj_term (Variable x0) (Read y0 y1) e = cc
 inj_term (Variable x0) (Sum y0 y1) e = cc
 inj_term (Variable x0) (Difference y0 y1) e = cc
 inj_term (Variable x0) (Product y0 y1) e = cc
 inj_term (Variable x0) (Quotient y0 y1) e = cc
 inj_term (Variable x0) (Remainder y0 y1) e = cc
 inj_term (Variable x0) (Negative y0) e = cc
-inj_term (Element x0 x1) (Number y0) e = cc
-inj_term (Element x0 x1) (Variable y0) e = cc
-inj_term (Element x0 x1) (Element y0 y1) e = let e1 : x1 ≡ y1 = inj_term x1 y1 (cc) in cc
-inj_term (Element x0 x1) (Sum y0 y1) e = cc
-inj_term (Element x0 x1) (Difference y0 y1) e = cc
-inj_term (Element x0 x1) (Product y0 y1) e = cc
-inj_term (Element x0 x1) (Quotient y0 y1) e = cc
-inj_term (Element x0 x1) (Remainder y0 y1) e = cc
-inj_term (Element x0 x1) (Negative y0) e = cc
+inj_term (Read x0 x1) (Number y0) e = cc
+inj_term (Read x0 x1) (Variable y0) e = cc
+inj_term (Read x0 x1) (Read y0 y1) e = let e1 : x1 ≡ y1 = inj_term x1 y1 (cc) in cc
+inj_term (Read x0 x1) (Sum y0 y1) e = cc
+inj_term (Read x0 x1) (Difference y0 y1) e = cc
+inj_term (Read x0 x1) (Product y0 y1) e = cc
+inj_term (Read x0 x1) (Quotient y0 y1) e = cc
+inj_term (Read x0 x1) (Remainder y0 y1) e = cc
+inj_term (Read x0 x1) (Negative y0) e = cc
 inj_term (Sum x0 x1) (Number y0) e = cc
 inj_term (Sum x0 x1) (Variable y0) e = cc
-inj_term (Sum x0 x1) (Element y0 y1) e = cc
+inj_term (Sum x0 x1) (Read y0 y1) e = cc
 inj_term (Sum x0 x1) (Sum y0 y1) e = let e0 : x0 ≡ y0 = inj_term x0 y0 (cc) in let e1 : x1 ≡ y1 = inj_term x1 y1 (cc) in cc
 inj_term (Sum x0 x1) (Difference y0 y1) e = cc
 inj_term (Sum x0 x1) (Product y0 y1) e = cc
@@ -153,7 +153,7 @@ inj_term (Sum x0 x1) (Remainder y0 y1) e = cc
 inj_term (Sum x0 x1) (Negative y0) e = cc
 inj_term (Difference x0 x1) (Number y0) e = cc
 inj_term (Difference x0 x1) (Variable y0) e = cc
-inj_term (Difference x0 x1) (Element y0 y1) e = cc
+inj_term (Difference x0 x1) (Read y0 y1) e = cc
 inj_term (Difference x0 x1) (Sum y0 y1) e = cc
 inj_term (Difference x0 x1) (Difference y0 y1) e = let e0 : x0 ≡ y0 = inj_term x0 y0 (cc) in let e1 : x1 ≡ y1 = inj_term x1 y1 (cc) in cc
 inj_term (Difference x0 x1) (Product y0 y1) e = cc
@@ -162,7 +162,7 @@ inj_term (Difference x0 x1) (Remainder y0 y1) e = cc
 inj_term (Difference x0 x1) (Negative y0) e = cc
 inj_term (Product x0 x1) (Number y0) e = cc
 inj_term (Product x0 x1) (Variable y0) e = cc
-inj_term (Product x0 x1) (Element y0 y1) e = cc
+inj_term (Product x0 x1) (Read y0 y1) e = cc
 inj_term (Product x0 x1) (Sum y0 y1) e = cc
 inj_term (Product x0 x1) (Difference y0 y1) e = cc
 inj_term (Product x0 x1) (Product y0 y1) e = let e0 : x0 ≡ y0 = inj_term x0 y0 (cc) in let e1 : x1 ≡ y1 = inj_term x1 y1 (cc) in cc
@@ -171,7 +171,7 @@ inj_term (Product x0 x1) (Remainder y0 y1) e = cc
 inj_term (Product x0 x1) (Negative y0) e = cc
 inj_term (Quotient x0 x1) (Number y0) e = cc
 inj_term (Quotient x0 x1) (Variable y0) e = cc
-inj_term (Quotient x0 x1) (Element y0 y1) e = cc
+inj_term (Quotient x0 x1) (Read y0 y1) e = cc
 inj_term (Quotient x0 x1) (Sum y0 y1) e = cc
 inj_term (Quotient x0 x1) (Difference y0 y1) e = cc
 inj_term (Quotient x0 x1) (Product y0 y1) e = cc
@@ -180,7 +180,7 @@ inj_term (Quotient x0 x1) (Remainder y0 y1) e = cc
 inj_term (Quotient x0 x1) (Negative y0) e = cc
 inj_term (Remainder x0 x1) (Number y0) e = cc
 inj_term (Remainder x0 x1) (Variable y0) e = cc
-inj_term (Remainder x0 x1) (Element y0 y1) e = cc
+inj_term (Remainder x0 x1) (Read y0 y1) e = cc
 inj_term (Remainder x0 x1) (Sum y0 y1) e = cc
 inj_term (Remainder x0 x1) (Difference y0 y1) e = cc
 inj_term (Remainder x0 x1) (Product y0 y1) e = cc
@@ -189,7 +189,7 @@ inj_term (Remainder x0 x1) (Remainder y0 y1) e = let e0 : x0 ≡ y0 = inj_term x
 inj_term (Remainder x0 x1) (Negative y0) e = cc
 inj_term (Negative x0) (Number y0) e = cc
 inj_term (Negative x0) (Variable y0) e = cc
-inj_term (Negative x0) (Element y0 y1) e = cc
+inj_term (Negative x0) (Read y0 y1) e = cc
 inj_term (Negative x0) (Sum y0 y1) e = cc
 inj_term (Negative x0) (Difference y0 y1) e = cc
 inj_term (Negative x0) (Product y0 y1) e = cc

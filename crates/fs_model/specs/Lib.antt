@@ -9,3 +9,4 @@ pub mod Runs
 pub mod Touched
 pub mod Trees
 pub mod Codes
+pub mod WellFormed

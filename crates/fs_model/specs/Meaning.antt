@@ -4,13 +4,13 @@ use Rattle.std.specs.Ordering.{int_eq}
 use Rattle.integers.specs.Division.{quotient, remainder}
 use Rattle.fs_model.specs.declared.parts.Rel.{Rel}
 use Rattle.fs_model.specs.declared.parts.Rel.TheVariants.{Eq, Ne, Lt, Le, Gt, Ge}
-use Rattle.fs_model.specs.Terms.{Term, Number, Variable, Element, Sum, Difference, Product, Quotient, Remainder, Negative, Literal, Formula, Test, Not, And, Or, Action, Assign, Write, Line}
+use Rattle.fs_model.specs.Terms.{Term, Number, Variable, Read, Sum, Difference, Product, Quotient, Remainder, Negative, Literal, Formula, Test, Not, And, Or, Action, Assign, Write, Line}
 use Rattle.fs_model.specs.Stores.{Store, assigned, written}
 
 abbrev pub value : Term ℕ → Store → ℤ
 value (Number n) s = n
 value (Variable x) s = s.scalar x
-value (Element x i) s = s.array x (value i s)
+value (Read x i) s = s.array x (value i s)
 value (Sum a b) s = value a s +ℤ value b s
 value (Difference a b) s = value a s -ℤ value b s
 value (Product a b) s = value a s *ℤ value b s

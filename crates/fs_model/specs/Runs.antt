@@ -1,5 +1,5 @@
 -- Steps and runs of a machine, and when two machines have the same behaviour.
-use Rattle.std.specs.Prelude.{◌≡◌, ◌≢◌, ℕ, zero, suc, ◌+◌, Bool, true, false, ◌&&◌, cond, ℤ, pos, List, [], ◌∷◌, Option, Some, None, slice_get}
+use Rattle.std.specs.Prelude.{◌≡◌, ◌≢◌, ℕ, zero, suc, ◌+◌, Bool, true, false, not, ◌&&◌, cond, ℤ, pos, List, [], ◌∷◌, Option, Some, None, slice_get}
 use Rattle.std.specs.Str.{bytes_eq}
 use Rattle.fs_model.specs.declared.parts.Role.{Role}
 use Rattle.fs_model.specs.declared.parts.Role.TheVariants.{Input, Output, Local}
@@ -55,13 +55,17 @@ is_output Input = false
 is_output Output = true
 is_output Local = false
 
+abbrev pub is_scalar : Sort → Bool
+is_scalar Scalar = true
+is_scalar Array = false
+
 abbrev pub first_scalar : Inputs → Option VarInfo → ℤ
 first_scalar ins None = pos 0
-first_scalar ins (Some v) = cond (is_input v.role) (ins.scalar v.name) (pos 0)
+first_scalar ins (Some v) = cond (is_input v.role && is_scalar v.sort) (ins.scalar v.name) (pos 0)
 
 abbrev pub first_array : Inputs → Option VarInfo → ℤ → ℤ
 first_array ins None i = pos 0
-first_array ins (Some v) i = cond (is_input v.role) (ins.array v.name i) (pos 0)
+first_array ins (Some v) i = cond (is_input v.role && not (is_scalar v.sort)) (ins.array v.name i) (pos 0)
 
 -- the store in which a run begins: the inputs as given, all else 0
 abbrev pub start : Fsmd → Inputs → Store

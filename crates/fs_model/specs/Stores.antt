@@ -2,8 +2,7 @@
 use Rattle.std.specs.Prelude.{ℕ, ◌==◌, cond, ℤ}
 use Rattle.std.specs.Ordering.{int_eq}
 
--- A number for each scalar, and for each array a number at each index. An array that a run meets has
--- finitely many that are not 0, if its inputs have.
+-- A number for each scalar, and for each array a number at each index.
 pub record Store : Type 0 where
   pub scalar : ℕ → ℤ
   pub array : ℕ → ℤ → ℤ

@@ -5,7 +5,7 @@ use Rattle.fs_model.specs.declared.parts.Rel.{Rel}
 pub data Term (X : Type 0) : Type 0 where
   Number : ℤ → Term X
   Variable : X → Term X
-  Element : X → (index : Term X) → Term X
+  Read : X → (index : Term X) → Term X
   Sum : (a b : Term X) → Term X
   Difference : (a b : Term X) → Term X
   Product : (a b : Term X) → Term X

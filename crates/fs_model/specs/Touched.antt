@@ -1,8 +1,8 @@
 -- The numbers that a step touches: the values of the literals on the way taken, of the right sides and indices
 -- of the transition taken, and of all their parts.
-use Rattle.std.specs.Prelude.{ℕ, zero, suc, cond, ℤ, FitsSigned, List, [], ◌∷◌, ◌++◌, Option, Some, None}
+use Rattle.std.specs.Prelude.{◌≢◌, ℕ, zero, suc, cond, ℤ, FitsSigned, List, [], ◌∷◌, ◌++◌, Option, Some, None}
 use Rattle.std.specs.Int.{w128}
-use Rattle.fs_model.specs.Terms.{Term, Number, Variable, Element, Sum, Difference, Product, Quotient, Remainder, Negative, Formula, Test, Not, And, Or, Action, Assign, Write, Line}
+use Rattle.fs_model.specs.Terms.{Term, Number, Variable, Read, Sum, Difference, Product, Quotient, Remainder, Negative, Formula, Test, Not, And, Or, Action, Assign, Write, Line}
 use Rattle.fs_model.specs.Machines.{Fsmd, lines_of}
 use Rattle.fs_model.specs.Stores.{Store}
 use Rattle.fs_model.specs.Meaning.{value, holds, guard_holds}
@@ -12,7 +12,7 @@ use Rattle.fs_model.specs.Runs.{Step}
 abbrev pub touched_by_term : Term ℕ → Store → List ℤ
 touched_by_term (Number n) s = n ∷ []
 touched_by_term (Variable x) s = s.scalar x ∷ []
-touched_by_term (Element x i) s = value (Element x i) s ∷ touched_by_term i s
+touched_by_term (Read x i) s = value (Read x i) s ∷ touched_by_term i s
 touched_by_term (Sum a b) s = value (Sum a b) s ∷ (touched_by_term a s ++ touched_by_term b s)
 touched_by_term (Difference a b) s = value (Difference a b) s ∷ (touched_by_term a s ++ touched_by_term b s)
 touched_by_term (Product a b) s = value (Product a b) s ∷ (touched_by_term a s ++ touched_by_term b s)
@@ -49,11 +49,11 @@ abbrev pub touched : Fsmd → ℕ → Store → List ℤ
 touched m q s = touched_by_lines (lines_of m q) s
 
 -- each number lies within 128 bits
-abbrev pub AllNarrow : List ℤ → Type 0
-AllNarrow [] = Unit {0}
-AllNarrow (z ∷ zs) = FitsSigned w128 z × AllNarrow zs
+abbrev pub AllInRange : List ℤ → Type 0
+AllInRange [] = Unit {0}
+AllInRange (z ∷ zs) = FitsSigned w128 z × AllInRange zs
 
--- each number touched by the first n steps from state q and store s lies within 128 bits
-abbrev pub StaysNarrow : Fsmd → ℕ → ℕ → Store → Type 0
-StaysNarrow m zero q s = Unit {0}
-StaysNarrow m (suc n) q s = AllNarrow (touched m q s) × ((r : ℕ) (t : Store) → Step m q s r t → StaysNarrow m n r t)
+-- from state q and store s, each number touched by the next n steps lies within 128 bits, up to the return to the reset state
+abbrev pub StaysInRange : Fsmd → ℕ → ℕ → Store → Type 0
+StaysInRange m zero q s = Unit {0}
+StaysInRange m (suc n) q s = AllInRange (touched m q s) × ((r : ℕ) (t : Store) → Step m q s r t → r ≢ m.reset → StaysInRange m n r t)

@@ -65,12 +65,12 @@ abbrev pub branch_holds : Store → Branch → Bool
 branch_holds s b = list_all (λ l. literal_holds l s) b.literals
 
 -- what is done on a branch or a transition: its actions and its target
-abbrev pub Deed : Type 0
-Deed = List (Action ℕ) × ℕ
+abbrev pub Effect : Type 0
+Effect = List (Action ℕ) × ℕ
 
 -- what the branches do whose literals all hold
-abbrev pub deeds_open : List Branch → Store → List Deed
-deeds_open bs s = map (λ b. (b.actions, b.target)) (filter (branch_holds s) bs)
+abbrev pub effects_open : List Branch → Store → List Effect
+effects_open bs s = map (λ b. (b.actions, b.target)) (filter (branch_holds s) bs)
 
-abbrev pub deed_taken : List (Line ℕ ℕ) → Store → Option Deed
-deed_taken ls s = option_map (λ l. (l.actions, l.target)) (line_taken ls s)
+abbrev pub effect_taken : List (Line ℕ ℕ) → Store → Option Effect
+effect_taken ls s = option_map (λ l. (l.actions, l.target)) (line_taken ls s)

@@ -13,7 +13,7 @@ use Rattle.fs_model.specs.declared.parts.RawLine.{RawLine}
 use Rattle.fs_model.specs.declared.parts.RawState.{RawState}
 use Rattle.fs_model.specs.declared.parts.Parts.{Parts}
 use Rattle.fs_model.specs.declared.parts.Branch.{Branch}
-use Rattle.fs_model.specs.Terms.{Term, Number, Variable, Element, Sum, Difference, Product, Quotient, Remainder, Negative, Literal, Formula, Test, Not, And, Or, Action, Assign as assigned, Write as written}
+use Rattle.fs_model.specs.Terms.{Term, Number, Variable, Read, Sum, Difference, Product, Quotient, Remainder, Negative, Literal, Formula, Test, Not, And, Or, Action, Assign as assigned, Write as written}
 use Rattle.fs_model.specs.Source.{Declaration, SourceLine, SourceState, Source}
 use Rattle.fs_model.specs.Trees.{Branch as Leaf}
 
@@ -21,7 +21,7 @@ use Rattle.fs_model.specs.Trees.{Branch as Leaf}
 abbrev pub term_by : {V X : Type 0} → (V → X) → Expr V → Term X
 term_by f (Num n) = Number n
 term_by f (Var x) = Variable (f x)
-term_by f (Read' x p i) = Element (f x) (term_by f i)
+term_by f (Read' x p i) = Read (f x) (term_by f i)
 term_by f (Add' p a q b) = Sum (term_by f a) (term_by f b)
 term_by f (Sub' p a q b) = Difference (term_by f a) (term_by f b)
 term_by f (Mul' p a q b) = Product (term_by f a) (term_by f b)

@@ -5,7 +5,7 @@ ghost use Rattle.std.specs.Option.{option_to_list};
 ghost use Rattle.fs_model.specs.Terms.{Line};
 ghost use Rattle.fs_model.specs.Machines.{Fsmd};
 ghost use Rattle.fs_model.specs.Stores.{Store};
-ghost use Rattle.fs_model.specs.Trees.{branches_of, deeds_open, deed_taken};
+ghost use Rattle.fs_model.specs.Trees.{branches_of, effects_open, effect_taken};
 ghost use Rattle.fs_model.specs.Runs.{Step, Goes, Returns, SameBehaviour};
 
 /// One step is determined: from a state and a store it leads to one state and one store.
@@ -37,5 +37,5 @@ pub fn same_behaviour_is_transitive()
 
 /// In each store the branches whose literals all hold are one, that of the transition taken, or none where none is taken.
 pub fn one_branch_is_open()
-    ensures { (lines : List (Line ℕ ℕ)) (s : Store) → deeds_open (branches_of lines) s ≡ option_to_list (deed_taken lines s) }
+    ensures { (lines : List (Line ℕ ℕ)) (s : Store) → effects_open (branches_of lines) s ≡ option_to_list (effect_taken lines s) }
 {}

@@ -7,3 +7,4 @@
 pub mod laws;
 pub mod name;
 pub mod parts;
+pub mod well_formed;

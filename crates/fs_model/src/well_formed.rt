@@ -1,0 +1,176 @@
+//! Parts that a text can spell: no number is negative, each declaration has a name, and each guard and
+//! each assignment has at most 128 operators and needed brackets.
+
+ghost use Rattle.std.specs.Prelude.{◌≡◌, ◌+◌, min, ◌||◌, map, option_map};
+ghost use Rattle.std.specs.List.{list_all};
+ghost use Rattle.fs_model.specs.View.{named_term, named_formula, named_action, declaration_of, source_line_of, source_state_of, source_of};
+ghost use Rattle.fs_model.specs.WellFormed.{is_sum, is_product, is_and, is_or, bracket, signs_of_term, signs_of_formula, signs_of_action, is_natural_term, is_natural_formula, is_natural_action, is_well_formed_guard, is_well_formed_action, is_well_formed_line, is_well_formed_state, has_names, is_well_formed};
+
+use crate::name::Name;
+use crate::parts::{Assign, Decl, Expr, Guard, Parts, RawLine, RawState};
+
+/// The most operators and opening brackets of a guard or an assignment.
+pub const SIGN_LIMIT: u32 = 128;
+
+impl Parts {
+    /// Whether a text can spell these parts: no number is negative, each declaration has a name, and each
+    /// guard and each assignment has at most 128 operators and opening brackets in its shortest text.
+    /// Takes no memory.
+    pub fn is_well_formed(&self) -> bool
+        ensures { result ≡ is_well_formed (source_of self.now) }
+    {
+        have_names(&self.decls) && are_well_formed_states(&self.states)
+    }
+}
+
+fn have_names(decls: &[Decl]) -> bool
+    ensures { result ≡ list_all has_names (map declaration_of decls.now) }
+{
+    decls.iter().all(|decl| !decl.names.is_empty())
+}
+
+fn are_well_formed_states(states: &[RawState]) -> bool
+    ensures { result ≡ list_all is_well_formed_state (map source_state_of states.now) }
+{
+    states
+        .iter()
+        .all(|state| are_well_formed_lines(&state.lines))
+}
+
+fn are_well_formed_lines(lines: &[RawLine]) -> bool
+    ensures { result ≡ list_all is_well_formed_line (map source_line_of lines.now) }
+{
+    lines.iter().all(|line| is_well_formed_guard(&line.guard)
+        && are_well_formed_actions(&line.assigns))
+}
+
+fn is_well_formed_guard(guard: &Option<Guard>) -> bool
+    ensures { result ≡ is_well_formed_guard (option_map named_formula guard.now) }
+{
+    match guard {
+        None => true,
+        Some(guard) => is_natural_guard(guard) && signs_of_guard(guard) <= SIGN_LIMIT,
+    }
+}
+
+fn are_well_formed_actions(assigns: &[Assign<Name>]) -> bool
+    ensures { result ≡ list_all is_well_formed_action (map named_action assigns.now) }
+{
+    assigns.iter().all(|assign| is_natural_assign(assign) && signs_of_assign(assign) <= SIGN_LIMIT)
+}
+
+fn is_natural(expr: &Expr<Name>) -> bool
+    ensures { result ≡ is_natural_term (named_term expr.now) }
+{
+    match expr {
+        Expr::Num(n) => *n >= 0,
+        Expr::Var(_) => true,
+        Expr::Read(_, index) => is_natural(index),
+        Expr::Add(a, b) | Expr::Sub(a, b) | Expr::Mul(a, b) | Expr::Div(a, b) | Expr::Rem(a, b) =>
+            is_natural(a) && is_natural(b),
+        Expr::Neg(a) => is_natural(a),
+    }
+}
+
+fn is_natural_guard(guard: &Guard) -> bool
+    ensures { result ≡ is_natural_formula (named_formula guard.now) }
+{
+    match guard {
+        Guard::Lit(lit) => is_natural(&lit.left) && is_natural(&lit.right),
+        Guard::Not(a) => is_natural_guard(a),
+        Guard::And(a, b) | Guard::Or(a, b) => is_natural_guard(a) && is_natural_guard(b),
+    }
+}
+
+fn is_natural_assign(assign: &Assign<Name>) -> bool
+    ensures { result ≡ is_natural_action (named_action assign.now) }
+{
+    match assign {
+        Assign::Set(_, value) => is_natural(value),
+        Assign::Put(_, index, value) => is_natural(index) && is_natural(value),
+    }
+}
+
+fn is_sum(expr: &Expr<Name>) -> bool
+    ensures { result ≡ is_sum (named_term expr.now) }
+{
+    matches!(expr, Expr::Add(..) | Expr::Sub(..))
+}
+
+fn is_product(expr: &Expr<Name>) -> bool
+    ensures { result ≡ is_product (named_term expr.now) }
+{
+    matches!(expr, Expr::Mul(..) | Expr::Div(..) | Expr::Rem(..))
+}
+
+fn is_and(guard: &Guard) -> bool
+    ensures { result ≡ is_and (named_formula guard.now) }
+{
+    matches!(guard, Guard::And(..))
+}
+
+fn is_or(guard: &Guard) -> bool
+    ensures { result ≡ is_or (named_formula guard.now) }
+{
+    matches!(guard, Guard::Or(..))
+}
+
+/// One opening bracket where it is needed.
+fn bracket(needed: bool) -> u32
+    ensures { result ≡ bracket needed }
+{
+    if needed { 1 } else { 0 }
+}
+
+/// One more than the sum, as far as 32 bits go.
+fn one_more(a: u32, b: u32) -> u32
+    ensures { result ≡ min (1 + (a + b)) 4294967295 }
+{
+    a.saturating_add(b).saturating_add(1)
+}
+
+/// The operators and opening brackets of an expression's shortest text, as far as 32 bits go.
+fn signs(expr: &Expr<Name>) -> u32
+    ensures { result ≡ min (signs_of_term (named_term expr.now)) 4294967295 }
+{
+    match expr {
+        Expr::Num(_) | Expr::Var(_) => 0,
+        Expr::Read(_, index) => one_more(0, signs(index)),
+        Expr::Add(a, b) | Expr::Sub(a, b) => {
+            one_more(signs(a), bracket(is_sum(b)).saturating_add(signs(b)))
+        }
+        Expr::Mul(a, b) | Expr::Div(a, b) | Expr::Rem(a, b) => one_more(
+            bracket(is_sum(a)).saturating_add(signs(a)),
+            bracket(is_sum(b) || is_product(b)).saturating_add(signs(b)),
+        ),
+        Expr::Neg(a) => one_more(bracket(is_sum(a) || is_product(a)), signs(a)),
+    }
+}
+
+/// The same of a guard, with braces for brackets.
+fn signs_of_guard(guard: &Guard) -> u32
+    ensures { result ≡ min (signs_of_formula (named_formula guard.now)) 4294967295 }
+{
+    match guard {
+        Guard::Lit(lit) => one_more(signs(&lit.left), signs(&lit.right)),
+        Guard::Not(a) => one_more(bracket(is_and(a) || is_or(a)), signs_of_guard(a)),
+        Guard::And(a, b) => one_more(
+            bracket(is_or(a)).saturating_add(signs_of_guard(a)),
+            bracket(is_and(b) || is_or(b)).saturating_add(signs_of_guard(b)),
+        ),
+        Guard::Or(a, b) => one_more(
+            signs_of_guard(a),
+            bracket(is_or(b)).saturating_add(signs_of_guard(b)),
+        ),
+    }
+}
+
+/// The same of an assignment.
+fn signs_of_assign(assign: &Assign<Name>) -> u32
+    ensures { result ≡ min (signs_of_action (named_action assign.now)) 4294967295 }
+{
+    match assign {
+        Assign::Set(_, value) => signs(value),
+        Assign::Put(_, index, value) => one_more(signs(index), signs(value)),
+    }
+}
