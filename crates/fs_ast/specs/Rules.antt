@@ -1,5 +1,5 @@
 -- The rules that the parts of a machine keep, and the line at which each is broken.
-use Rattle.std.specs.Prelude.{◌≡◌, ℕ, zero, suc, ◌<◌, ◌==◌, nat_lt, nat_le, Bool, true, false, not, ◌&&◌, ◌||◌, cond, ◌⊎◌, Contains, List, [], ◌∷◌, ◌++◌, length, take, drop, map, Option, Some, None, is_some, slice_get}
+use Rattle.std.specs.Prelude.{◌≡◌, ℕ, zero, suc, ◌<◌, ◌==◌, nat_lt, Bool, true, false, not, ◌&&◌, ◌||◌, cond, ◌⊎◌, Contains, List, [], ◌∷◌, ◌++◌, length, take, drop, map, Some, is_some, slice_get}
 use Rattle.std.specs.List.{list_all, list_any, flat_map}
 use Rattle.std.specs.Str.{bytes_eq}
 use Rattle.fs_model.specs.declared.parts.VarInfo.{VarInfo}
@@ -11,7 +11,7 @@ use Rattle.fs_ast.specs.declared.check.CheckRule.{CheckRule}
 use Rattle.fs_ast.specs.declared.check.CheckRule.TheVariants.{TwiceNamed, UnknownName, WrongSort, AssignInput, AssignedTwice, NoElse, AfterElse, TooManyBranches, EndlessLine, UnknownState, TooMany}
 use Rattle.fs_ast.specs.declared.check.CheckFault.{CheckFault}
 use Rattle.fs_ast.specs.Spelled.{variables_of, names_of, state_names, place, line_spelled, machine_of}
-use Rattle.fs_ast.specs.Sound.{most_variables, most_states, most_branches, scalar_at, array_at, input_at, all_differ, assigned_in, changed_by, scalars_in_guard, arrays_in_guard, scalars_in_actions, arrays_in_actions, is_open, is_cutpoint, first_target}
+use Rattle.fs_ast.specs.Sound.{most_variables, most_states, most_branches, scalar_at, array_at, input_at, all_differ, assigned_in, changed_by, scalars_in_guard, arrays_in_guard, scalars_in_actions, arrays_in_actions, is_cutpoint, first_line_target}
 
 -- a rule at each of these lines
 abbrev pub at_lines : CheckRule → List ℕ → List CheckFault
@@ -88,10 +88,10 @@ branches_too_often vs ss s = nat_lt most_branches (count_leaves (tree_of_lines (
 abbrev pub branch_faults : Source → List CheckFault
 branch_faults p = flat_map (λ s. broken_where (branches_too_often (names_of (variables_of p.declarations)) (state_names p.states) s) TooManyBranches s.line) p.states
 
--- the state that n steps by first branches lead to
+-- the state that n steps by first transitions lead to
 abbrev pub after_steps : Fsmd → ℕ → ℕ → ℕ
 after_steps m zero q = q
-after_steps m (suc n) q = after_steps m n (first_target (lines_of m q))
+after_steps m (suc n) q = after_steps m n (first_line_target (lines_of m q))
 
 -- going on from a state comes back to it and passes no cutpoint
 pub record IsEndless (m : Fsmd) (q : ℕ) : Type 0 where

@@ -1,12 +1,11 @@
 -- What holds of each machine that was built: numbers in range, sorts right, and no way round without end.
-use Rattle.std.specs.Prelude.{◌≡◌, ℕ, zero, suc, ◌+◌, ◌<◌, ◌≤◌, ◌==◌, nat_lt, nat_le, Bool, true, false, not, ◌&&◌, ◌||◌, cond, IsTrue, ℤ, List, [], ◌∷◌, ◌++◌, length, map, Option, Some, None, is_none, slice_get}
-use Rattle.std.specs.List.{list_all, list_any, slice_index_or}
+use Rattle.std.specs.Prelude.{◌≡◌, ℕ, zero, suc, ◌<◌, ◌≤◌, ◌==◌, nat_lt, Bool, true, false, not, ◌&&◌, ◌||◌, cond, IsTrue, ℤ, List, [], ◌∷◌, ◌++◌, length, map, Option, Some, None, is_none, slice_get}
+use Rattle.std.specs.List.{list_all, list_any}
 use Rattle.std.specs.Str.{bytes_eq}
-use Rattle.fs_model.specs.declared.parts.Role.{Role}
 use Rattle.fs_model.specs.declared.parts.Sort.{Sort}
 use Rattle.fs_model.specs.declared.parts.Sort.TheVariants.{Scalar, Array}
 use Rattle.fs_model.specs.declared.parts.VarInfo.{VarInfo}
-use Rattle.fs_model.specs.Terms.{Term, Number, Variable, Element, Sum, Difference, Product, Quotient, Remainder, Negative, Literal, Formula, Test, Not, And, Or, Action, Assign, Write, Line}
+use Rattle.fs_model.specs.Terms.{Term, Number, Variable, Read, Sum, Difference, Product, Quotient, Remainder, Negative, Formula, Test, Not, And, Or, Action, Assign, Write, Line}
 use Rattle.fs_model.specs.Machines.{State, Fsmd, lines_of}
 use Rattle.fs_model.specs.Runs.{is_input}
 use Rattle.fs_model.specs.Trees.{branches_of}
@@ -25,7 +24,7 @@ most_branches = 64
 abbrev pub scalars_in : Term ℕ → List ℕ
 scalars_in (Number n) = []
 scalars_in (Variable x) = x ∷ []
-scalars_in (Element x i) = scalars_in i
+scalars_in (Read x i) = scalars_in i
 scalars_in (Sum a b) = scalars_in a ++ scalars_in b
 scalars_in (Difference a b) = scalars_in a ++ scalars_in b
 scalars_in (Product a b) = scalars_in a ++ scalars_in b
@@ -36,7 +35,7 @@ scalars_in (Negative a) = scalars_in a
 abbrev pub arrays_in : Term ℕ → List ℕ
 arrays_in (Number n) = []
 arrays_in (Variable x) = []
-arrays_in (Element x i) = x ∷ arrays_in i
+arrays_in (Read x i) = x ∷ arrays_in i
 arrays_in (Sum a b) = arrays_in a ++ arrays_in b
 arrays_in (Difference a b) = arrays_in a ++ arrays_in b
 arrays_in (Product a b) = arrays_in a ++ arrays_in b
@@ -148,10 +147,10 @@ ends_open (l ∷ k ∷ rest) = not (is_open l) && ends_open (k ∷ rest)
 abbrev pub branch_count : Fsmd → ℕ → ℕ
 branch_count m q = length (branches_of (lines_of m q))
 
--- where the first branch of a state leads
-abbrev pub first_target : List (Line ℕ ℕ) → ℕ
-first_target [] = 0
-first_target (l ∷ ls) = l.target
+-- where the first transition leads, which is the only one of a state with one branch
+abbrev pub first_line_target : List (Line ℕ ℕ) → ℕ
+first_line_target [] = 0
+first_line_target (l ∷ ls) = l.target
 
 -- a path is cut at the reset state and at each state with more than one branch
 abbrev pub is_cutpoint : Fsmd → ℕ → Bool
@@ -160,7 +159,7 @@ is_cutpoint m q = (q == m.reset) || nat_lt 1 (branch_count m q)
 -- within n steps through states with one branch a cutpoint comes
 abbrev pub reaches_cutpoint : Fsmd → ℕ → ℕ → Bool
 reaches_cutpoint m zero q = is_cutpoint m q
-reaches_cutpoint m (suc n) q = is_cutpoint m q || reaches_cutpoint m n (first_target (lines_of m q))
+reaches_cutpoint m (suc n) q = is_cutpoint m q || reaches_cutpoint m n (first_line_target (lines_of m q))
 
 pub record IsSound (m : Fsmd) : Type 0 where
   pub few_variables : length m.variables ≤ most_variables
@@ -177,7 +176,7 @@ pub record IsSound (m : Fsmd) : Type 0 where
 abbrev pub numbers_in : Term ℕ → List ℤ
 numbers_in (Number n) = n ∷ []
 numbers_in (Variable x) = []
-numbers_in (Element x i) = numbers_in i
+numbers_in (Read x i) = numbers_in i
 numbers_in (Sum a b) = numbers_in a ++ numbers_in b
 numbers_in (Difference a b) = numbers_in a ++ numbers_in b
 numbers_in (Product a b) = numbers_in a ++ numbers_in b

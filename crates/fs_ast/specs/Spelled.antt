@@ -1,9 +1,9 @@
 -- The machine that the parts of a text spell: names become numbers, in order of declaration.
-use Rattle.std.specs.Prelude.{ℕ, suc, cond, List, [], ◌∷◌, ◌++◌, map, option_map}
+use Rattle.std.specs.Prelude.{ℕ, suc, cond, List, [], ◌∷◌, map, option_map}
 use Rattle.std.specs.List.{flat_map}
 use Rattle.std.specs.Str.{bytes_eq}
 use Rattle.fs_model.specs.declared.parts.VarInfo.{VarInfo}
-use Rattle.fs_model.specs.Terms.{Term, Number, Variable, Element, Sum, Difference, Product, Quotient, Remainder, Negative, Literal, Formula, Test, Not, And, Or, Action, Assign, Write, Line}
+use Rattle.fs_model.specs.Terms.{Term, Number, Variable, Read, Sum, Difference, Product, Quotient, Remainder, Negative, Literal, Formula, Test, Not, And, Or, Action, Assign, Write, Line}
 use Rattle.fs_model.specs.Source.{Declaration, SourceLine, SourceState, Source}
 use Rattle.fs_model.specs.Machines.{State, Fsmd}
 
@@ -29,7 +29,7 @@ state_names ss = map (λ s. s.name) ss
 abbrev pub term_over : {X Y : Type 0} → (X → Y) → Term X → Term Y
 term_over f (Number n) = Number n
 term_over f (Variable x) = Variable (f x)
-term_over f (Element x i) = Element (f x) (term_over f i)
+term_over f (Read x i) = Read (f x) (term_over f i)
 term_over f (Sum a b) = Sum (term_over f a) (term_over f b)
 term_over f (Difference a b) = Difference (term_over f a) (term_over f b)
 term_over f (Product a b) = Product (term_over f a) (term_over f b)

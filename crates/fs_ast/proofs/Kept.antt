@@ -1,0 +1,379 @@
+-- Where no rule is broken, the machine that parts spell is sound.
+use Rattle.std.proofs.Common.{◌≡◌, ℕ, zero, suc, ◌<◌, ◌≤◌, Bool, true, false, cond, List, [], ◌∷◌, ◌++◌, length, refl, sym, ◌∙◌, ap, ap₂, subst, inl, inr, ⊎_elim, arith}
+use Rattle.std.specs.Prelude.{◌&&◌, ◌||◌, ◌⊎◌, not, nat_lt, Option, Some, None, option_map, is_some, is_none, map, slice_get}
+use Rattle.std.specs.List.{list_all, list_any, flat_map, slice_index_or}
+use Rattle.std.specs.Str.{bytes_eq}
+use Rattle.std.proofs.lemmas.Slice.Eq.{bytes_eq-Decides}
+use Rattle.std.proofs.lemmas.Bool.Decides.{nat_tests}
+use Rattle.fs_model.specs.declared.parts.VarInfo.{VarInfo}
+use Rattle.fs_model.specs.Terms.{Line}
+use Rattle.fs_model.specs.Source.{Declaration, SourceLine, SourceState, Source}
+use Rattle.fs_model.specs.Machines.{State, Fsmd, lines_of}
+use Rattle.fs_model.specs.Trees.{tree_of_lines, branches_of, count_leaves}
+use Rattle.fs_ast.specs.declared.check.CheckRule.{CheckRule}
+use Rattle.fs_ast.specs.declared.check.CheckRule.TheVariants.{TwiceNamed, UnknownName, WrongSort, AssignInput, AssignedTwice, NoElse, AfterElse, TooManyBranches, UnknownState, TooMany}
+use Rattle.std.proofs.lemmas.Option.{slice_get_within}
+use Rattle.fs_ast.specs.Spelled.{declared_by, variables_of, names_of, state_names, place, line_spelled, state_spelled, formula_over, machine_of}
+use Rattle.fs_ast.specs.Sound.{scalar_at, array_at, input_at, is_array, names_differ, all_differ, scalars_in_guard, arrays_in_guard, scalars_in_actions, arrays_in_actions, changed_by, assigned_in, IsSoundLine, IsSound, is_open, ends_open, branch_count, first_line_target, is_cutpoint, reaches_cutpoint, most_variables, most_states}
+use Rattle.fs_ast.specs.Rules.{at_lines, broken_where, declared_names, declared_states, repeated, past, is_known, uses_unknown, uses_wrong_sort, changes_input, line_faults, lines_faults, lacks_else, after_else, state_faults, plain_faults, branches_too_often, branch_faults, after_steps, IsLawful}
+use Rattle.fs_ast.specs.Places.{names_in}
+use Rattle.fs_ast.proofs.Turns.{map_map, length_mapped, map_joined}
+use Rattle.fs_ast.proofs.Leaves.{length_leaves}
+
+-- ---- lists with nothing in them
+
+pub kept : (b : Bool) (r : CheckRule) (n : ℕ) → broken_where b r n ≡ [] → b ≡ false
+kept false r n e = refl
+kept true r n e = absurd (cc)
+
+pub nil_left : {A : Type 0} (a b : List A) → a ++ b ≡ [] → a ≡ []
+nil_left [] b e = refl
+nil_left (x ∷ a) b e = absurd (cc)
+
+pub nil_right : {A : Type 0} (a b : List A) → a ++ b ≡ [] → b ≡ []
+nil_right [] b e = e
+nil_right (x ∷ a) b e = absurd (cc)
+
+pub lines_nil : (r : CheckRule) (ns : List ℕ) → at_lines r ns ≡ [] → ns ≡ []
+lines_nil r [] e = refl
+lines_nil r (n ∷ ns) e = absurd (cc)
+
+pub flat_nil : {A B : Type 0} (f : A → List B) (xs : List A) → flat_map f xs ≡ [] → (k : ℕ) (x : A) → slice_get xs k ≡ Some x → f x ≡ []
+flat_nil f [] e k x at = absurd (cc)
+flat_nil f (y ∷ ys) e zero x at = let same : y ≡ x = cc in ap f (sym same) ∙ nil_left (f y) (flat_map f ys) e
+flat_nil f (y ∷ ys) e (suc k) x at = flat_nil f ys (nil_right (f y) (flat_map f ys) e) k x at
+
+pub few_past : (most : ℕ) (ds : List (ℕ × List ℕ)) → past most ds ≡ [] → length ds ≤ most
+few_past zero [] e = omega arith
+few_past zero (d ∷ ds) e = absurd (cc)
+few_past (suc m) [] e = omega arith
+few_past (suc m) (d ∷ ds) e = let h : length ds ≤ m = few_past m ds e in omega arith
+
+-- ---- names that differ
+
+same_name : (n : List ℕ) → bytes_eq n n ≡ true
+same_name n = (bytes_eq-Decides n n).1 refl
+
+unrepeated_head : (b : Bool) (line : ℕ) (rest : List ℕ) → cond b (line ∷ rest) rest ≡ [] → (b ≡ false) × (rest ≡ [])
+unrepeated_head true line rest e = absurd (cc)
+unrepeated_head false line rest e = (refl, e)
+
+or_right : (a b : Bool) → b ≡ true → (a || b) ≡ true
+or_right true b e = refl
+or_right false b e = e
+
+or_false : (a b : Bool) → (a ≡ true → ⊥) → b ≡ false → (a || b) ≡ false
+or_false true b h e = absurd (h refl)
+or_false false b h e = e
+
+and_true : (a b : Bool) → a ≡ true → b ≡ true → (a && b) ≡ true
+and_true true b e f = f
+and_true false b e f = absurd (cc)
+
+record Apart (before : List (List ℕ)) (ns : List (List ℕ)) : Type 0 where
+  differ : names_differ ns ≡ true
+  apart : (x : List ℕ) → list_any (λ m. bytes_eq m x) before ≡ true → list_any (λ m. bytes_eq m x) ns ≡ false
+
+unrepeated : (before : List (List ℕ)) (ns : List (ℕ × List ℕ)) → repeated before ns ≡ [] → Apart before (names_in ns)
+unrepeated before [] e = record { differ = refl; apart = λ x h. refl }
+unrepeated before (n ∷ ns) e =
+    let h = unrepeated_head (list_any (λ m. bytes_eq m n.1) before) n.0 (repeated (n.1 ∷ before) ns) e in
+    let rest = unrepeated (n.1 ∷ before) ns h.1 in
+    record {
+      differ = and_true (not (list_any (λ m. bytes_eq m n.1) (names_in ns))) (names_differ (names_in ns)) (ap not (rest.apart n.1 (ap (λ b. b || list_any (λ m. bytes_eq m n.1) before) (same_name n.1)))) rest.differ;
+      apart = λ x seen.
+          or_false (bytes_eq n.1 x) (list_any (λ m. bytes_eq m x) (names_in ns))
+          (λ t. let same : n.1 ≡ x = (bytes_eq-Decides n.1 x).0 t in let s : list_any (λ m. bytes_eq m n.1) before ≡ true = ap (λ k. list_any (λ m. bytes_eq m k) before) same ∙ seen in let f = h.0 in cc)
+          (rest.apart x (or_right (bytes_eq n.1 x) (list_any (λ m. bytes_eq m x) before) seen));
+    }
+
+pub differ : (ns : List (ℕ × List ℕ)) → repeated [] ns ≡ [] → names_differ (names_in ns) ≡ true
+differ ns e = (unrepeated [] ns e).differ
+
+names_by : (d : Declaration) → names_in (map (λ n. (d.line, n)) d.names) ≡ names_of (declared_by d)
+names_by d = map_map (λ e. e.1) (λ n. (d.line, n)) d.names ∙ sym (map_map (λ v. v.name) (λ n. record { name = n; role = d.role; sort = d.sort }) d.names)
+
+pub names_declared : (ds : List Declaration) → names_in (declared_names ds) ≡ names_of (variables_of ds)
+names_declared [] = refl
+names_declared (d ∷ ds) =
+    map_joined (λ e. e.1) (map (λ n. (d.line, n)) d.names) (declared_names ds)
+    ∙ ap₂ (λ (a b : List (List ℕ)). a ++ b) (names_by d) (names_declared ds)
+    ∙ sym (map_joined (λ v. v.name) (declared_by d) (variables_of ds))
+
+pub names_stated : (ss : List SourceState) → names_in (declared_states ss) ≡ state_names ss
+names_stated ss = map_map (λ e. e.1) (λ s. (s.line, s.name)) ss
+
+-- ---- one transition
+
+not_false : (b : Bool) → not b ≡ false → b ≡ true
+not_false true e = refl
+not_false false e = absurd (cc)
+
+pub both_true : (a b : Bool) → (a && b) ≡ true → (a ≡ true) × (b ≡ true)
+both_true true b e = (refl, e)
+both_true false b e = absurd (cc)
+
+both_false : (a b : Bool) → (a || b) ≡ false → (a ≡ false) × (b ≡ false)
+both_false true b e = absurd (cc)
+both_false false b e = (refl, e)
+
+pub below : (x n : ℕ) → nat_lt x n ≡ true → x < n
+below x n e = grind (arith, nat_tests)
+
+scalar_known : (vs : List VarInfo) (x : ℕ) → x < length vs → array_at vs x ≡ false → scalar_at vs x ≡ true
+scalar_known [] x h e = absurd (omega arith)
+scalar_known (v ∷ vs) zero h e = ap not e
+scalar_known (v ∷ vs) (suc x) h e = scalar_known vs x (omega arith) e
+
+array_known : (vs : List VarInfo) (x : ℕ) → x < length vs → scalar_at vs x ≡ false → array_at vs x ≡ true
+array_known [] x h e = absurd (omega arith)
+array_known (v ∷ vs) zero h e = not_false (is_array v.sort) e
+array_known (v ∷ vs) (suc x) h e = array_known vs x (omega arith) e
+
+all_scalars : (vs : List VarInfo) (xs : List ℕ) → list_all (is_known vs) xs ≡ true → list_any (array_at vs) xs ≡ false → list_all (scalar_at vs) xs ≡ true
+all_scalars vs [] e f = refl
+all_scalars vs (x ∷ xs) e f =
+    let a = both_true (is_known vs x) (list_all (is_known vs) xs) e in
+    let b = both_false (array_at vs x) (list_any (array_at vs) xs) f in
+    and_true (scalar_at vs x) (list_all (scalar_at vs) xs) (scalar_known vs x (below x (length vs) a.0) b.0) (all_scalars vs xs a.1 b.1)
+
+all_arrays : (vs : List VarInfo) (xs : List ℕ) → list_all (is_known vs) xs ≡ true → list_any (scalar_at vs) xs ≡ false → list_all (array_at vs) xs ≡ true
+all_arrays vs [] e f = refl
+all_arrays vs (x ∷ xs) e f =
+    let a = both_true (is_known vs x) (list_all (is_known vs) xs) e in
+    let b = both_false (scalar_at vs x) (list_any (scalar_at vs) xs) f in
+    and_true (array_at vs x) (list_all (array_at vs) xs) (array_known vs x (below x (length vs) a.0) b.0) (all_arrays vs xs a.1 b.1)
+
+all_not : {A : Type 0} (p : A → Bool) (xs : List A) → list_any p xs ≡ false → list_all (λ x. not (p x)) xs ≡ true
+all_not p [] e = refl
+all_not p (x ∷ xs) e = let b = both_false (p x) (list_any p xs) e in and_true (not (p x)) (list_all (λ y. not (p y)) xs) (ap not b.0) (all_not p xs b.1)
+
+pub line_sound : (vs : List VarInfo) (count n : ℕ) (l : Line ℕ ℕ) → line_faults vs count n l ≡ [] → IsSoundLine vs count l
+line_sound vs count n l e =
+    let scalars = scalars_in_guard l.guard ++ scalars_in_actions l.actions in
+    let arrays = arrays_in_guard l.guard ++ arrays_in_actions l.actions in
+    let u = broken_where (uses_unknown vs l) UnknownName n in
+    let w = broken_where (uses_wrong_sort vs l) WrongSort n in
+    let p = broken_where (changes_input vs l) AssignInput n in
+    let t = broken_where (not (all_differ (assigned_in l.actions))) AssignedTwice n in
+    let s = broken_where (not (nat_lt l.target count)) UnknownState n in
+    let after_u = nil_right u (w ++ (p ++ (t ++ s))) e in
+    let after_w = nil_right w (p ++ (t ++ s)) after_u in
+    let after_p = nil_right p (t ++ s) after_w in
+    let known = both_true (list_all (is_known vs) scalars) (list_all (is_known vs) arrays) (not_false (list_all (is_known vs) scalars && list_all (is_known vs) arrays) (kept (uses_unknown vs l) UnknownName n (nil_left u (w ++ (p ++ (t ++ s))) e))) in
+    let sorts = both_false (list_any (array_at vs) scalars) (list_any (scalar_at vs) arrays) (kept (uses_wrong_sort vs l) WrongSort n (nil_left w (p ++ (t ++ s)) after_u)) in
+    record {
+      scalars = all_scalars vs scalars known.0 sorts.0;
+      arrays = all_arrays vs arrays known.1 sorts.1;
+      inputs_stay = all_not (λ a. input_at vs (changed_by a)) l.actions (kept (changes_input vs l) AssignInput n (nil_left p (t ++ s) after_w));
+      assigned_once = not_false (all_differ (assigned_in l.actions)) (kept (not (all_differ (assigned_in l.actions))) AssignedTwice n (nil_left t s after_p));
+      target_in = below l.target count (not_false (nat_lt l.target count) (kept (not (nat_lt l.target count)) UnknownState n (nil_right t s after_p)));
+    }
+
+-- ---- the transitions of a state
+
+open_guard : {A B : Type 0} (f : A → B) (g : Option A) → is_some g ≡ false → is_none (option_map f g) ≡ true
+open_guard f None e = refl
+open_guard f (Some x) e = absurd (cc)
+
+shut_guard : {A B : Type 0} (f : A → B) (g : Option A) → is_some g ≡ true → not (is_none (option_map f g)) ≡ true
+shut_guard f None e = absurd (cc)
+shut_guard f (Some x) e = refl
+
+else_head : (b : Bool) (line : ℕ) (rest other : List ℕ) → cond b (line ∷ rest) other ≡ [] → (b ≡ false) × (other ≡ [])
+else_head true line rest other e = absurd (cc)
+else_head false line rest other e = (refl, e)
+
+pub open_end : (ns ss : List (List ℕ)) (ls : List SourceLine) → lacks_else ls ≡ false → after_else false ls ≡ [] → ends_open (map (line_spelled ns ss) ls) ≡ true
+open_end ns ss [] e f = absurd (cc)
+open_end ns ss (l ∷ []) e f = open_guard (formula_over (place ns)) l.content.guard e
+open_end ns ss (l ∷ k ∷ ls) e f =
+    let h = else_head (not (is_some l.content.guard)) k.line (after_else true ls) (after_else (not (is_some k.content.guard)) ls) f in
+    and_true (not (is_open (line_spelled ns ss l))) (ends_open (map (line_spelled ns ss) (k ∷ ls)))
+    (shut_guard (formula_over (place ns)) l.content.guard (not_false (is_some l.content.guard) h.0)) (open_end ns ss (k ∷ ls) e h.1)
+
+-- ---- states by their places
+
+abbrev pub no_state : State
+no_state = record { name = []; lines = [] }
+
+pub lines_some : (ns ss : List (List ℕ)) (sts : List SourceState) (q : ℕ) (s : SourceState) → slice_get sts q ≡ Some s → (slice_index_or (map (state_spelled ns ss) sts) q no_state).lines ≡ map (line_spelled ns ss) s.lines
+lines_some ns ss [] q s e = absurd (cc)
+lines_some ns ss (t ∷ sts) zero s e = let same : t ≡ s = cc in ap (λ x. map (line_spelled ns ss) x.lines) same
+lines_some ns ss (t ∷ sts) (suc q) s e = lines_some ns ss sts q s e
+
+pub lines_none : (ns ss : List (List ℕ)) (sts : List SourceState) (q : ℕ) → slice_get sts q ≡ None → (slice_index_or (map (state_spelled ns ss) sts) q no_state).lines ≡ []
+lines_none ns ss [] q e = refl
+lines_none ns ss (t ∷ sts) zero e = absurd (cc)
+lines_none ns ss (t ∷ sts) (suc q) e = lines_none ns ss sts q e
+
+pub get_mapped : {A B : Type 0} (f : A → B) (xs : List A) (k : ℕ) (y : B) → slice_get (map f xs) k ≡ Some y → (x : A) × ((slice_get xs k ≡ Some x) × (y ≡ f x))
+get_mapped f [] k y e = absurd (cc)
+get_mapped f (x ∷ xs) zero y e = (x, (refl, cc))
+get_mapped f (x ∷ xs) (suc k) y e = get_mapped f xs k y e
+
+pub get_there : {A : Type 0} (xs : List A) (k : ℕ) → k < length xs → (x : A) × (slice_get xs k ≡ Some x)
+get_there [] k h = absurd (omega arith)
+get_there (x ∷ xs) zero h = (x, refl)
+get_there (x ∷ xs) (suc k) h = get_there xs k (omega arith)
+
+pub option_cases : {A : Type 0} (o : Option A) → (o ≡ None) ⊎ ((x : A) × (o ≡ Some x))
+option_cases None = inl refl
+option_cases (Some x) = inr (x, refl)
+
+-- ---- the whole
+
+-- the plain rules, one by one
+pub record AreKept (p : Source) : Type 0 where
+  pub variables_once : repeated [] (declared_names p.declarations) ≡ []
+  pub variables_few : past most_variables (declared_names p.declarations) ≡ []
+  pub states_once : repeated [] (declared_states p.states) ≡ []
+  pub states_few : past most_states (declared_states p.states) ≡ []
+  pub reset : place (state_names p.states) p.reset < length p.states
+  pub states : flat_map (state_faults (variables_of p.declarations) (state_names p.states)) p.states ≡ []
+
+pub all_kept : (p : Source) → plain_faults p ≡ [] → AreKept p
+all_kept p e =
+    let a = at_lines TwiceNamed (repeated [] (declared_names p.declarations)) in
+    let b = at_lines TooMany (past most_variables (declared_names p.declarations)) in
+    let c = at_lines TwiceNamed (repeated [] (declared_states p.states)) in
+    let d = at_lines TooMany (past most_states (declared_states p.states)) in
+    let there = nat_lt (place (state_names p.states) p.reset) (length p.states) in
+    let r = broken_where (not there) UnknownState p.reset_line in
+    let s = flat_map (state_faults (variables_of p.declarations) (state_names p.states)) p.states in
+    let e1 = nil_right a (b ++ (c ++ (d ++ (r ++ s)))) e in
+    let e2 = nil_right b (c ++ (d ++ (r ++ s))) e1 in
+    let e3 = nil_right c (d ++ (r ++ s)) e2 in
+    let e4 = nil_right d (r ++ s) e3 in
+    record {
+      variables_once = lines_nil TwiceNamed (repeated [] (declared_names p.declarations)) (nil_left a (b ++ (c ++ (d ++ (r ++ s)))) e);
+      variables_few = lines_nil TooMany (past most_variables (declared_names p.declarations)) (nil_left b (c ++ (d ++ (r ++ s))) e1);
+      states_once = lines_nil TwiceNamed (repeated [] (declared_states p.states)) (nil_left c (d ++ (r ++ s)) e2);
+      states_few = lines_nil TooMany (past most_states (declared_states p.states)) (nil_left d (r ++ s) e3);
+      reset = below (place (state_names p.states) p.reset) (length p.states) (not_false there (kept (not there) UnknownState p.reset_line (nil_left r s e4)));
+      states = nil_right r s e4;
+    }
+
+pub count_variables : (p : Source) → AreKept p → length (variables_of p.declarations) ≤ 128
+count_variables p k =
+    let h = few_past 128 (declared_names p.declarations) k.variables_few in
+    let a = length_mapped (λ (d : ℕ × List ℕ). d.1) (declared_names p.declarations) in
+    let b = length_mapped (λ (v : VarInfo). v.name) (variables_of p.declarations) in
+    let c = ap length (names_declared p.declarations) in
+    omega arith
+
+pub count_states : (p : Source) → AreKept p → length p.states ≤ 4096
+count_states p k =
+    let h = few_past 4096 (declared_states p.states) k.states_few in
+    let a : length (declared_states p.states) ≡ length p.states = length_mapped (λ s. (s.line, s.name)) p.states in
+    omega arith
+
+-- the rules of one state
+pub state_kept : (p : Source) → AreKept p → (q : ℕ) (s : SourceState) → slice_get p.states q ≡ Some s → state_faults (variables_of p.declarations) (state_names p.states) s ≡ []
+state_kept p k q s at = flat_nil (state_faults (variables_of p.declarations) (state_names p.states)) p.states k.states q s at
+
+pub state_ends : (p : Source) → AreKept p → (q : ℕ) (s : SourceState) → slice_get p.states q ≡ Some s → (lacks_else s.lines ≡ false) × (after_else false s.lines ≡ [])
+state_ends p k q s at =
+    let vs = variables_of p.declarations in
+    let ss = state_names p.states in
+    let e = state_kept p k q s at in
+    let n = broken_where (lacks_else s.lines) NoElse s.line in
+    let a = at_lines AfterElse (after_else false s.lines) in
+    let l = lines_faults vs ss s.lines in
+    (kept (lacks_else s.lines) NoElse s.line (nil_left n (a ++ l) e), lines_nil AfterElse (after_else false s.lines) (nil_left a l (nil_right n (a ++ l) e)))
+
+pub state_lines : (p : Source) → AreKept p → (q : ℕ) (s : SourceState) → slice_get p.states q ≡ Some s → (j : ℕ) (l : SourceLine) → slice_get s.lines j ≡ Some l
+    → IsSoundLine (variables_of p.declarations) (length p.states) (line_spelled (names_of (variables_of p.declarations)) (state_names p.states) l)
+state_lines p k q s at j l there =
+    let vs = variables_of p.declarations in
+    let ss = state_names p.states in
+    let e = state_kept p k q s at in
+    let n = broken_where (lacks_else s.lines) NoElse s.line in
+    let a = at_lines AfterElse (after_else false s.lines) in
+    let f = nil_right a (lines_faults vs ss s.lines) (nil_right n (a ++ lines_faults vs ss s.lines) e) in
+    let one = flat_nil (λ x. line_faults vs (length ss) x.line (line_spelled (names_of vs) ss x)) s.lines f j l there in
+    subst (λ c. IsSoundLine vs c (line_spelled (names_of vs) ss l)) (length_mapped (λ (x : SourceState). x.name) p.states) (line_sound vs (length ss) l.line (line_spelled (names_of vs) ss l) one)
+
+at_most : (n : ℕ) → nat_lt 64 n ≡ false → n ≤ 64
+at_most n e = grind (arith, nat_tests)
+
+pub sound : (p : Source) → AreKept p → branch_faults p ≡ [] → ((q : ℕ) → q < length p.states → reaches_cutpoint (machine_of p) (length p.states) q ≡ true) → IsSound (machine_of p)
+sound p k forked ends =
+    let vs = variables_of p.declarations in
+    let ns = names_of vs in
+    let ss = state_names p.states in
+    let count : length (map (state_spelled ns ss) p.states) ≡ length p.states = length_mapped (state_spelled ns ss) p.states in
+    record {
+      few_variables = count_variables p k;
+      few_states = let h = count_states p k in omega arith;
+      variables_differ = ap names_differ (sym (names_declared p.declarations)) ∙ differ (declared_names p.declarations) k.variables_once;
+      states_differ = ap names_differ (map_map (λ s. s.name) (state_spelled ns ss) p.states ∙ sym (names_stated p.states)) ∙ differ (declared_states p.states) k.states_once;
+      reset_in = let h = k.reset in omega arith;
+      lines_sound = λ q l j at.
+          ⊎_elim
+          (λ none. let empty : lines_of (machine_of p) q ≡ [] = lines_none ns ss p.states q none in let gone : slice_get (lines_of (machine_of p) q) j ≡ None = ap (λ ls. slice_get ls j) empty in absurd (cc))
+          (λ some.
+          let is : lines_of (machine_of p) q ≡ map (line_spelled ns ss) some.0.lines = lines_some ns ss p.states q some.0 some.1 in
+          let m = get_mapped (line_spelled ns ss) some.0.lines j l (ap (λ ls. slice_get ls j) (sym is) ∙ at) in
+          let one = state_lines p k q some.0 some.1 j m.0 m.1.0 in
+          subst (λ c. IsSoundLine vs c l) (sym count) (subst (λ x. IsSoundLine vs (length p.states) x) (sym m.1.1) one))
+          (option_cases (slice_get p.states q));
+      open_last = λ q h.
+          let s = get_there p.states q (omega arith) in
+          let e = state_ends p k q s.0 s.1 in
+          ap ends_open (lines_some ns ss p.states q s.0 s.1) ∙ open_end ns ss s.0.lines e.0 e.1;
+      few_branches = λ q.
+          ⊎_elim
+          (λ none. let zero_branches : branch_count (machine_of p) q ≡ 0 = ap (λ ls. length (branches_of ls)) (lines_none ns ss p.states q none) in omega arith)
+          (λ some.
+          let tree = tree_of_lines (map (line_spelled ns ss) some.0.lines) in
+          let is : branch_count (machine_of p) q ≡ count_leaves tree = ap (λ ls. length (branches_of ls)) (lines_some ns ss p.states q some.0 some.1) ∙ length_leaves tree [] in
+          let few : count_leaves tree ≤ 64 = at_most (count_leaves tree) (kept (branches_too_often ns ss some.0) TooManyBranches some.0.line (flat_nil (λ s. broken_where (branches_too_often ns ss s) TooManyBranches s.line) p.states forked q some.0 some.1)) in
+          omega arith)
+          (option_cases (slice_get p.states q));
+      cut = λ q h. ap (λ n. reaches_cutpoint (machine_of p) n q) count ∙ ends q (omega arith);
+    }
+
+or_rest : (a b : Bool) → a ≡ false → (a || b) ≡ true → b ≡ true
+or_rest true b e f = absurd (cc)
+or_rest false b e f = f
+
+-- a way on which a cut comes is not endless
+pub not_endless : (m : Fsmd) (n q : ℕ) → reaches_cutpoint m n q ≡ true → ((k : ℕ) → is_cutpoint m (after_steps m k q) ≡ false) → ⊥
+not_endless m zero q e f = let g : is_cutpoint m q ≡ false = f zero in cc
+not_endless m (suc n) q e f =
+    not_endless m n (first_line_target (lines_of m q)) (or_rest (is_cutpoint m q) (reaches_cutpoint m n (first_line_target (lines_of m q))) (f zero) e) (λ k. f (suc k))
+
+pub lawful : (p : Source) → plain_faults p ≡ [] → branch_faults p ≡ [] → ((q : ℕ) → q < length p.states → reaches_cutpoint (machine_of p) (length p.states) q ≡ true) → IsLawful p
+lawful p plain forked ends = record {
+  plain = plain;
+  branches = forked;
+  ends = λ n e. not_endless (machine_of p) (length p.states) e.place (ends e.place (slice_get_within p.states e.place e.state e.is_there)) e.endless.uncut;
+}
+
+-- ---- where first transitions lead
+
+first_low : (count : ℕ) (ls : List (Line ℕ ℕ)) (l : Line ℕ ℕ) → slice_get ls 0 ≡ Some l → l.target < count → first_line_target ls < count
+first_low count [] l e h = absurd (cc)
+first_low count (x ∷ ls) l e h = let same : x ≡ l = cc in subst (λ y. y.target < count) (sym same) h
+
+has_first : (ls : List SourceLine) → lacks_else ls ≡ false → 0 < length ls
+has_first [] e = absurd (cc)
+has_first (l ∷ ls) e = omega arith
+
+get_map : {A B : Type 0} (f : A → B) (xs : List A) (k : ℕ) (x : A) → slice_get xs k ≡ Some x → slice_get (map f xs) k ≡ Some (f x)
+get_map f [] k x e = absurd (cc)
+get_map f (y ∷ xs) zero x e = let same : y ≡ x = cc in ap (λ z. Some (f z)) same
+get_map f (y ∷ xs) (suc k) x e = get_map f xs k x e
+
+pub lead_on : (p : Source) → AreKept p → (q : ℕ) → q < length p.states → first_line_target (lines_of (machine_of p) q) < length p.states
+lead_on p k q h =
+    let vs = variables_of p.declarations in
+    let ns = names_of vs in
+    let ss = state_names p.states in
+    let s = get_there p.states q h in
+    let e = state_ends p k q s.0 s.1 in
+    let l = get_there s.0.lines 0 (has_first s.0.lines e.0) in
+    let one = state_lines p k q s.0 s.1 0 l.0 l.1 in
+    subst (λ ls. first_line_target ls < length p.states) (sym (lines_some ns ss p.states q s.0 s.1))
+    (first_low (length p.states) (map (line_spelled ns ss) s.0.lines) (line_spelled ns ss l.0) (get_map (line_spelled ns ss) s.0.lines 0 l.0 l.1) one.target_in)

@@ -1,0 +1,15 @@
+pub mod Firsts
+pub mod Results
+pub mod Uses
+pub mod Lines
+pub mod Turns
+pub mod Noted
+pub mod Leaves
+pub mod Walks
+pub mod Lasts
+pub mod Kept
+pub mod Whole
+pub mod Numbers
+pub mod Rounds
+pub mod Soonest
+pub mod Opens

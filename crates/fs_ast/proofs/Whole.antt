@@ -1,0 +1,139 @@
+-- From the parts of a text to a machine that keeps all rules.
+use Rattle.std.proofs.Common.{◌≡◌, ℕ, zero, suc, ◌<◌, ◌≤◌, Bool, true, List, [], ◌∷◌, ◌++◌, length, refl, sym, ◌∙◌, ap, ap₂, append_assoc, arith}
+use Rattle.std.specs.Prelude.{◌||◌, ◌==◌, nat_lt, Option, Some, None, map, slice_get}
+use Rattle.std.specs.List.{list_all, flat_map, slice_index_or}
+use Rattle.std.specs.Option.{option_to_list}
+use Rattle.fs_model.specs.declared.parts.VarInfo.{VarInfo}
+use Rattle.fs_model.specs.Source.{Source}
+use Rattle.fs_model.specs.Machines.{State, Fsmd, lines_of}
+use Rattle.fs_model.specs.Trees.{branches_of}
+use Rattle.fs_ast.specs.declared.check.CheckRule.TheVariants.{EndlessLine}
+use Rattle.fs_ast.specs.declared.check.CheckFault.{CheckFault}
+use Rattle.fs_ast.specs.declared.resolve.State.{State as NumberedState}
+use Rattle.fs_ast.specs.Spelled.{variables_of, names_of, state_names, place, machine_of}
+use Rattle.fs_ast.specs.Sound.{first_line_target, is_cutpoint, reaches_cutpoint}
+use Rattle.fs_ast.specs.Rules.{at_lines, declared_states, branch_faults}
+use Rattle.fs_ast.specs.Earliest.{sooner, earliest}
+use Rattle.fs_ast.specs.Places.{names_in}
+use Rattle.fs_ast.specs.Resolved.{state_of, placed_of, placed_spelled}
+use Rattle.fs_ast.specs.Late.{skeleton, forked_faults, endless_faults, LeadOn, IsLate}
+use Rattle.fs_ast.specs.Built.{IsScopeOf}
+use Rattle.fs_ast.proofs.Turns.{map_map, length_mapped, flat_map_map}
+use Rattle.fs_ast.proofs.Firsts.{earliest-append, earliest_three}
+use Rattle.fs_ast.proofs.Kept.{AreKept, count_variables, count_states, names_stated, lead_on, both_true, below, get_there, no_state}
+
+-- ---- what was noted
+
+some_first : (f : CheckFault) (fs : List CheckFault) → earliest (Some f) fs ≡ None → ⊥
+some_first f [] e = cc
+some_first f (g ∷ fs) e = some_first (sooner (Some f) g) fs e
+
+pub nothing_noted : (known : Option CheckFault) (fs : List CheckFault) → earliest known fs ≡ None → (known ≡ None) × (fs ≡ [])
+nothing_noted known [] e = (e, refl)
+nothing_noted known (f ∷ fs) e = absurd (some_first (sooner known f) fs e)
+
+pub names_noted : (known one two three four : Option CheckFault) (a b c d : List CheckFault) → one ≡ earliest known a → two ≡ earliest one b → three ≡ earliest two c → four ≡ earliest three d → four ≡ earliest known (a ++ (b ++ (c ++ d)))
+names_noted known one two three four a b c d e f g h =
+    h ∙ ap (λ k. earliest k d) (g ∙ ap (λ k. earliest k c) (f ∙ ap (λ k. earliest k b) e))
+    ∙ earliest_three (earliest known a) b c d ∙ sym (earliest-append known a (b ++ (c ++ d)))
+
+all_joined : (a b c d r s : List CheckFault) → (a ++ (b ++ (c ++ d))) ++ (r ++ s) ≡ a ++ (b ++ (c ++ (d ++ (r ++ s))))
+all_joined a b c d r s = simp append_assoc
+
+pub plain_noted : (known one two three : Option CheckFault) (a b c d r s : List CheckFault) → one ≡ earliest known (a ++ (b ++ (c ++ d))) → two ≡ earliest one r → three ≡ earliest two s
+    → three ≡ earliest known (a ++ (b ++ (c ++ (d ++ (r ++ s)))))
+plain_noted known one two three a b c d r s e f g =
+    g ∙ ap (λ k. earliest k s) (f ∙ ap (λ k. earliest k r) e) ∙ earliest_three known (a ++ (b ++ (c ++ d))) r s ∙ ap (earliest known) (all_joined a b c d r s)
+
+-- ---- names
+
+pub names_of_states : (p : Source) (vars : List VarInfo) (states : List (ℕ × List ℕ)) → IsScopeOf p vars states → names_in states ≡ state_names p.states
+names_of_states p vars states s = ap names_in s.stated ∙ names_stated p.states
+
+pub reset_known : (p : Source) (vars : List VarInfo) (states : List (ℕ × List ℕ)) → IsScopeOf p vars states → nat_lt (place (names_in states) p.reset) (length (names_in states)) ≡ nat_lt (place (state_names p.states) p.reset) (length p.states)
+reset_known p vars states s =
+    ap (λ ns. nat_lt (place ns p.reset) (length ns)) (names_of_states p vars states s) ∙ ap (nat_lt (place (state_names p.states) p.reset)) (length_mapped (λ x. x.name) p.states)
+
+pub few_vars : (p : Source) (vars : List VarInfo) (states : List (ℕ × List ℕ)) → IsScopeOf p vars states → AreKept p → length vars ≤ 128
+few_vars p vars states s k = let h = count_variables p k in let e : length vars ≡ length (variables_of p.declarations) = ap length s.vars in omega arith
+
+pub few_stated : (p : Source) (vars : List VarInfo) (states : List (ℕ × List ℕ)) → IsScopeOf p vars states → AreKept p → length states ≤ 4096
+few_stated p vars states s k =
+    let h = count_states p k in
+    let e : length states ≡ length (declared_states p.states) = ap length s.stated in
+    let f : length (declared_states p.states) ≡ length p.states = length_mapped (λ x. (x.line, x.name)) p.states in
+    omega arith
+
+-- ---- states
+
+abbrev pub placed : Source → List (ℕ × State)
+placed p = map (placed_spelled (names_of (variables_of p.declarations)) (state_names p.states)) p.states
+
+pub placed_is : (p : Source) (vars : List VarInfo) (states : List (ℕ × List ℕ)) (resolved : List NumberedState) → IsScopeOf p vars states
+    → map placed_of resolved ≡ map (placed_spelled (names_of vars) (names_in states)) p.states → map placed_of resolved ≡ placed p
+placed_is p vars states resolved s e = e ∙ ap₂ (λ (v : List VarInfo) (n : List (List ℕ)). map (placed_spelled (names_of v) n) p.states) s.vars (names_of_states p vars states s)
+
+pub placed_states : (p : Source) → map (λ s. s.1) (placed p) ≡ (machine_of p).states
+placed_states p = map_map (λ s. s.1) (placed_spelled (names_of (variables_of p.declarations)) (state_names p.states)) p.states
+
+pub states_are : (p : Source) (resolved : List NumberedState) → map placed_of resolved ≡ placed p → map state_of resolved ≡ (machine_of p).states
+states_are p resolved e = sym (map_map (λ s. s.1) placed_of resolved) ∙ ap (λ l. map (λ s. s.1) l) e ∙ placed_states p
+
+pub machine_is : (p : Source) (vars : List VarInfo) (states : List (ℕ × List ℕ)) (resolved : List NumberedState) (reset : ℕ) → IsScopeOf p vars states
+    → map placed_of resolved ≡ placed p → reset ≡ place (names_in states) p.reset → Path Fsmd (record { variables = vars; reset = reset; states = map state_of resolved }) (machine_of p)
+machine_is p vars states resolved reset s e f =
+    let r : reset ≡ place (state_names p.states) p.reset = f ∙ ap (λ ns. place ns p.reset) (names_of_states p vars states s) in
+    let t = states_are p resolved e in
+    λ i. record { variables = s.vars i; reset = r i; states = t i }
+
+pub leads_placed : (p : Source) → AreKept p → LeadOn (placed p)
+leads_placed p k q h =
+    let count : length (placed p) ≡ length p.states = length_mapped (placed_spelled (names_of (variables_of p.declarations)) (state_names p.states)) p.states in
+    let low = lead_on p k q (omega arith) in
+    let same : first_line_target (lines_of (skeleton (placed p) 0) q) ≡ first_line_target (lines_of (machine_of p) q) = ap (λ st. first_line_target (slice_index_or st q no_state).lines) (placed_states p) in
+    omega arith
+
+-- ---- branches and endless lines
+
+pub forked_is : (p : Source) → forked_faults (placed p) ≡ branch_faults p
+forked_is p = flat_map_map _ (placed_spelled (names_of (variables_of p.declarations)) (state_names p.states)) p.states
+
+none_endless : (ss : List (ℕ × State)) (qs : List ℕ) → list_all (λ q. nat_lt q (length ss)) qs ≡ true → endless_faults ss qs ≡ [] → length qs ≡ 0
+none_endless ss [] e f = refl
+none_endless ss (q ∷ qs) e f =
+    let b = both_true (nat_lt q (length ss)) (list_all (λ k. nat_lt k (length ss)) qs) e in
+    let low : q < length (map (λ (s : ℕ × State). s.0) ss) = let h = below q (length ss) b.0 in let c = length_mapped (λ (s : ℕ × State). s.0) ss in omega arith in
+    let n = get_there (map (λ (s : ℕ × State). s.0) ss) q low in
+    let g = ap (λ o. at_lines EndlessLine (option_to_list o ++ flat_map (λ k. option_to_list (slice_get (map (λ (s : ℕ × State). s.0) ss) k)) qs)) (sym n.1) ∙ f in
+    absurd (cc)
+
+pub cut_same : (m n : Fsmd) → m.states ≡ n.states → m.reset ≡ n.reset → (q : ℕ) → is_cutpoint m q ≡ is_cutpoint n q
+cut_same m n e f q = ap₂ (λ (st : List State) (r : ℕ). (q == r) || nat_lt 1 (length (branches_of (slice_index_or st q no_state).lines))) e f
+
+reach_same : (m n : Fsmd) → m.states ≡ n.states → m.reset ≡ n.reset → (k q : ℕ) → reaches_cutpoint m k q ≡ reaches_cutpoint n k q
+reach_same m n e f zero q = cut_same m n e f q
+reach_same m n e f (suc k) q =
+    ap₂ (λ (a b : Bool). a || b) (cut_same m n e f q)
+    (reach_same m n e f k (first_line_target (lines_of m q)) ∙ ap (λ st. reaches_cutpoint n k (first_line_target (slice_index_or st q no_state).lines)) e)
+
+pub late_kept : (p : Source) (ss : List (ℕ × State)) (reset : ℕ) (first : Option CheckFault) → ss ≡ placed p → reset ≡ place (state_names p.states) p.reset → first ≡ None → IsLate ss reset first
+    → (branch_faults p ≡ []) × ((q : ℕ) → q < length p.states → reaches_cutpoint (machine_of p) (length p.states) q ≡ true)
+late_kept p ss reset first e f none late =
+    let n = nothing_noted (earliest None (forked_faults ss)) (endless_faults ss late.endless) (sym late.is_first ∙ none) in
+    let b = nothing_noted None (forked_faults ss) n.0 in
+    let count : length ss ≡ length p.states = ap length e ∙ length_mapped (placed_spelled (names_of (variables_of p.declarations)) (state_names p.states)) p.states in
+    let st : (skeleton ss reset).states ≡ (machine_of p).states = ap (λ l. map (λ s. s.1) l) e ∙ placed_states p in (
+      sym (ap forked_faults e ∙ forked_is p) ∙ b.1,
+      λ q h. let low : q < length ss = omega arith in
+          ap (λ k. reaches_cutpoint (machine_of p) k q) (sym count) ∙ sym (reach_same (skeleton ss reset) (machine_of p) st f (length ss) q) ∙ late.ends (none_endless ss late.endless late.inside n.1) q low,
+    )
+
+pub reset_low : (p : Source) (vars : List VarInfo) (states : List (ℕ × List ℕ)) (reset : ℕ) (resolved : List NumberedState) → IsScopeOf p vars states → AreKept p → reset ≡ place (names_in states) p.reset
+    → map placed_of resolved ≡ placed p → reset < length resolved
+reset_low p vars states reset resolved s k e f =
+    let h = k.reset in
+    let r : reset ≡ place (state_names p.states) p.reset = e ∙ ap (λ ns. place ns p.reset) (names_of_states p vars states s) in
+    let a : length (map placed_of resolved) ≡ length resolved = length_mapped placed_of resolved in
+    let b : length (placed p) ≡ length p.states = length_mapped (placed_spelled (names_of (variables_of p.declarations)) (state_names p.states)) p.states in
+    let c : length (map placed_of resolved) ≡ length (placed p) = ap length f in
+    omega arith

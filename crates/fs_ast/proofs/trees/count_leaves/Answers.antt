@@ -1,0 +1,23 @@
+use Rattle.std.proofs.Common.{◌≡◌, ◌∙◌, ◌+◌, ◌-◌, ◌<◌, ◌∷◌, sym, ap, drop, length, arith}
+use Rattle.std.specs.Prelude.{map, ℕ}
+use Rattle.fs_model.specs.Trees.{tree_of_lines, count_leaves}
+use Rattle.fs_ast.specs.Resolved.{line_of}
+use Rattle.fs_ast.specs.Forks.{capped}
+use Rattle.fs_ast.proofs.Turns.{left_map}
+use Rattle.fs_ast.proofs.Leaves.{count_more}
+use Rattle.fs_ast.proofs.trees.count_leaves.Goals as goal
+
+pub loop-k-preserved : goal.loop-k-preserved
+loop-k-preserved c =
+    let xs = c.args.lines.now in
+    let n = length xs in
+    let k = c.loop-k.k in
+    let i : ℕ = n - 1 - k in
+    let x = c.index-lines-lines.result in
+    let h : k < n = c.loop-k-test.true in
+    let within : i < n = omega arith in
+    let after : n - k ≡ i + 1 = omega arith in
+    let before : i ≡ n - (k + 1) = omega arith in
+    count_more (line_of x) (map line_of (drop (n - k) xs)) c.loop-k.count c.count_line-count.result c.loop-k.invariant c.count_line-count.ensures
+    ∙ ap (λ ls. capped (count_leaves (tree_of_lines ls)))
+    (ap (λ j. line_of x ∷ map line_of (drop j xs)) after ∙ sym (left_map line_of xs i x within c.index-lines-lines.is) ∙ ap (λ j. map line_of (drop j xs)) before)

@@ -1,0 +1,25 @@
+-- Transitions and states over numbers, as the code has them.
+use Rattle.std.specs.Prelude.{ℕ, List, map, option_map}
+use Rattle.fs_model.specs.Terms.{Line}
+use Rattle.fs_model.specs.Machines.{State}
+use Rattle.fs_model.specs.View.{formula_of, action_of}
+use Rattle.fs_model.specs.Source.{SourceState}
+use Rattle.fs_ast.specs.Spelled.{state_spelled}
+use Rattle.fs_ast.specs.declared.resolve.Line.{Line as NumberedLine}
+use Rattle.fs_ast.specs.declared.resolve.State.{State as NumberedState}
+
+-- what a transition says
+abbrev pub line_of : NumberedLine → Line ℕ ℕ
+line_of l = record { guard = option_map formula_of l.guard; target = l.target.0; actions = map action_of l.assigns.items }
+
+-- what a state says
+abbrev pub state_of : NumberedState → State
+state_of s = record { name = s.name; lines = map line_of s.lines.items }
+
+-- a state and the line at which it stands
+abbrev pub placed_of : NumberedState → ℕ × State
+placed_of s = (s.line, state_of s)
+
+-- the same of a state of the text, over the places of names
+abbrev pub placed_spelled : List (List ℕ) → List (List ℕ) → SourceState → ℕ × State
+placed_spelled vs ss s = (s.line, state_spelled vs ss s)

@@ -1,0 +1,94 @@
+//! The numbers of guards and assignments, in order of the text.
+
+ghost use Rattle.std.specs.Prelude.{◌≡◌, ◌++◌, map, option_map, IfOk};
+ghost use Rattle.std.specs.Result.{OnOk};
+ghost use Rattle.fs_model.specs.View.{term_of, formula_of, action_of};
+ghost use Rattle.fs_ast.specs.Sound.{numbers_in, numbers_in_formula, numbers_in_guard, numbers_in_action, numbers_in_actions, numbers_in_lines, numbers_in_states};
+ghost use Rattle.fs_ast.specs.Resolved.{line_of, state_of};
+
+use crate::resolve::{Line, State};
+use crate::scope::push;
+use fs_model::name::NoMemory;
+use fs_model::parts::{Assign, Expr, Guard, VarId};
+use std::alloc::Global;
+
+/// The numbers of states.
+pub fn constants_of(alloc: Global, states: &[State]) -> Result<Vec<i128>, NoMemory>
+    ensures { IfOk result (λ out. out.items ≡ numbers_in_states (map state_of states.now)) }
+{
+    let mut out = Vec::new(alloc);
+    for state in states {
+        add_lines(&mut out, state.lines.as_slice())?;
+    }
+    Ok(out)
+}
+
+fn add_lines(out: &mut Vec<i128>, lines: &[Line]) -> Result<(), NoMemory>
+    ensures { OnOk result (out.new.items ≡ out.old.items ++ numbers_in_lines (map line_of lines.now)) }
+{
+    for line in lines {
+        add_line(out, line)?;
+    }
+    Ok(())
+}
+
+fn add_line(out: &mut Vec<i128>, line: &Line) -> Result<(), NoMemory>
+    ensures { OnOk result (out.new.items ≡ out.old.items ++ (numbers_in_guard (line_of line.now).guard ++ numbers_in_actions (line_of line.now).actions)) }
+{
+    if let Some(guard) = &line.guard {
+        add_guard(out, guard)?;
+    }
+    add_assigns(out, line.assigns.as_slice())
+}
+
+fn add_guard(out: &mut Vec<i128>, guard: &Guard<VarId>) -> Result<(), NoMemory>
+    ensures { OnOk result (out.new.items ≡ out.old.items ++ numbers_in_formula (formula_of guard.now)) }
+{
+    match guard {
+        Guard::Lit(lit) => {
+            add_expr(out, &lit.left)?;
+            add_expr(out, &lit.right)
+        }
+        Guard::Not(a) => add_guard(out, a),
+        Guard::And(a, b) | Guard::Or(a, b) => {
+            add_guard(out, a)?;
+            add_guard(out, b)
+        }
+    }
+}
+
+fn add_assigns(out: &mut Vec<i128>, assigns: &[Assign<VarId>]) -> Result<(), NoMemory>
+    ensures { OnOk result (out.new.items ≡ out.old.items ++ numbers_in_actions (map action_of assigns.now)) }
+{
+    for assign in assigns {
+        add_assign(out, assign)?;
+    }
+    Ok(())
+}
+
+fn add_assign(out: &mut Vec<i128>, assign: &Assign<VarId>) -> Result<(), NoMemory>
+    ensures { OnOk result (out.new.items ≡ out.old.items ++ numbers_in_action (action_of assign.now)) }
+{
+    match assign {
+        Assign::Set(_, value) => add_expr(out, value),
+        Assign::Put(_, index, value) => {
+            add_expr(out, index)?;
+            add_expr(out, value)
+        }
+    }
+}
+
+fn add_expr(out: &mut Vec<i128>, expr: &Expr<VarId>) -> Result<(), NoMemory>
+    ensures { OnOk result (out.new.items ≡ out.old.items ++ numbers_in (term_of expr.now)) }
+{
+    match expr {
+        Expr::Num(n) => push(out, *n),
+        Expr::Var(_) => Ok(()),
+        Expr::Read(_, index) => add_expr(out, index),
+        Expr::Add(a, b) | Expr::Sub(a, b) | Expr::Mul(a, b) | Expr::Div(a, b) | Expr::Rem(a, b) => {
+            add_expr(out, a)?;
+            add_expr(out, b)
+        }
+        Expr::Neg(a) => add_expr(out, a),
+    }
+}

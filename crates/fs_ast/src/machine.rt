@@ -1,0 +1,129 @@
+//! Machines that were checked.
+
+ghost use Rattle.std.specs.Prelude.{◌≡◌, ◌<◌, length, map, IfOk};
+ghost use Rattle.fs_model.specs.Machines.{lines_of};
+ghost use Rattle.fs_model.specs.Trees.{branches_of};
+ghost use Rattle.fs_model.specs.View.{branch_of};
+ghost use Rattle.fs_ast.specs.Sound.{IsSound, numbers_in_states};
+ghost use Rattle.fs_ast.specs.Resolved.{state_of};
+ghost use Rattle.fs_ast.specs.Stored.{name_of};
+
+use crate::constants::constants_of;
+use crate::resolve::State;
+use crate::scope::push;
+use crate::trees::branches;
+use fs_model::name::{Name, NoMemory};
+use fs_model::parts::{Branch, StateId, VarInfo};
+use std::alloc::Global;
+use std::marker::Model;
+
+/// A machine that keeps all rules. Contracts see its variables, its reset state and its transitions.
+#[derive(Drop)]
+pub struct Machine {
+    vars: Vec<VarInfo>,
+    reset: StateId,
+    states: Vec<State>,
+    branches: Vec<Vec<Branch>>,
+    constants: Vec<i128>,
+}
+
+impl Model for Machine {
+    ghost use Rattle.std.specs.Prelude.{map};
+    ghost use Rattle.fs_model.specs.Machines.{Fsmd};
+    ghost use Rattle.fs_model.specs.Codes.{coded_fsmd};
+    ghost use Rattle.fs_model.specs.View.{branch_of};
+    ghost use Rattle.fs_ast.specs.Resolved.{state_of};
+    ghost use Rattle.fs_ast.specs.Stored.{IsStored};
+
+    ghost Value = { Fsmd };
+
+    ghost coded = { coded_fsmd };
+
+    ghost view = { λ m. record { variables = m.vars.items; reset = m.reset.0; states = map state_of m.states.items } };
+
+    ghost invariant = { λ m. IsStored (record { variables = m.vars.items; reset = m.reset.0; states = map state_of m.states.items }) (map (λ b. map branch_of b.items) m.branches.items) m.constants.items };
+}
+
+impl Machine {
+    /// The variables in order of declaration. The number of a variable is its place here. Takes no memory.
+    pub fn vars(&self) -> &[VarInfo]
+        ensures vars { result.now ≡ self.now.variables }
+        ensures sound { IsSound self.now }
+    {
+        self.vars.as_slice()
+    }
+
+    /// How many states there are. Takes no memory.
+    pub fn state_count(&self) -> u32
+        ensures count { result ≡ length self.now.states }
+        ensures sound { IsSound self.now }
+    {
+        self.states.len() as u32
+    }
+
+    /// The name of a state. States are numbered in order of the text. Takes no memory.
+    pub fn state_name(&self, s: StateId) -> &Name
+        requires { s.0 < length self.now.states }
+        ensures name { result.now ≡ name_of self.now s.0 }
+        ensures sound { IsSound self.now }
+    {
+        &self.states[s.0 as usize].name
+    }
+
+    /// The reset state. Takes no memory.
+    pub fn reset(&self) -> StateId
+        ensures reset { result.0 ≡ self.now.reset }
+        ensures sound { IsSound self.now }
+    {
+        self.reset
+    }
+
+    /// The branches of a state: the leaves of its decision tree, yes before no. Takes no memory.
+    pub fn branches(&self, s: StateId) -> &[Branch]
+        requires { s.0 < length self.now.states }
+        ensures branches { map branch_of result.now ≡ branches_of (lines_of self.now s.0) }
+        ensures sound { IsSound self.now }
+    {
+        self.branches[s.0 as usize].as_slice()
+    }
+
+    /// Every number of guards and assignments in order of the text, repeats included. Takes no memory.
+    pub fn constants(&self) -> &[i128]
+        ensures constants { result.now ≡ numbers_in_states self.now.states }
+        ensures sound { IsSound self.now }
+    {
+        self.constants.as_slice()
+    }
+
+    /// The machine of these variables and states.
+    pub(crate) fn of(
+        alloc: Global,
+        vars: Vec<VarInfo>,
+        reset: StateId,
+        states: Vec<State>,
+    ) -> Result<Machine, NoMemory>
+        requires { IsSound (record { variables = vars.items; reset = reset.0; states = map state_of states.items }) }
+        ensures { IfOk result (λ m. m ≡ record { variables = vars.items; reset = reset.0; states = map state_of states.items }) }
+    {
+        let branches = all_branches(alloc, states.as_slice())?;
+        let constants = constants_of(alloc, states.as_slice())?;
+        Ok(Machine {
+            vars,
+            reset,
+            states,
+            branches,
+            constants,
+        })
+    }
+}
+
+/// The branches of states.
+fn all_branches(alloc: Global, states: &[State]) -> Result<Vec<Vec<Branch>>, NoMemory>
+    ensures { IfOk result (λ out. map (λ b. map branch_of b.items) out.items ≡ map (λ s. branches_of s.lines) (map state_of states.now)) }
+{
+    let mut out = Vec::new(alloc);
+    for state in states {
+        push(&mut out, branches(alloc, state.lines.as_slice())?)?;
+    }
+    Ok(out)
+}
