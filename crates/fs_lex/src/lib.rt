@@ -1,0 +1,345 @@
+//! The tokens of a machine text.
+//!
+//! Space, tab, CR and LF separate tokens; a comment runs from `#` to the end of its line. Words,
+//! numbers and signs are as long as they can be.
+#![tactic(auto)]
+
+ghost use Rattle.std.specs.Prelude.{◌≡◌, ◌<◌, ◌≤◌, ◌+◌, ◌^◌, ℕ, pos, true, length, IfOk, SomeIff};
+ghost use Rattle.std.specs.List.{prefix_len};
+ghost use Rattle.fs_model.specs.Words.{is_digit, is_word_byte};
+ghost use Rattle.fs_grammar.specs.Tokens.{MadeAs};
+ghost use Rattle.fs_lex.specs.Lexemes.{is_space, is_in_comment, keyword_of, word_of, decimal, number_of, double_sign, mark, operator, single_sign, sign_of, lexeme_of, size};
+ghost use Rattle.fs_lex.specs.Scan.{moved, is_operator, is_border, counted, is_over, is_bad, tokens_of};
+
+use fs_grammar::fault::{Place, ReadError};
+use fs_grammar::token::{Flaw, Token, TokenKind};
+use fs_model::name::{Name, is_digit, is_letter, is_word_byte};
+use fs_model::parts::{Rel, Role};
+use std::alloc::Global;
+
+/// The greatest number of a text, 2^127 - 1.
+const GREATEST: u128 = 0x7fff_ffff_ffff_ffff_ffff_ffff_ffff_ffff;
+
+/// The most operators and opening brackets of one guard or one assignment.
+pub const OPERATOR_LIMIT: usize = 128;
+
+/// What stands at the front of a text, and how many bytes it takes.
+#[derive(Drop)]
+pub enum Lexeme {
+    Blank(usize),
+    Token(TokenKind, usize),
+}
+
+fn is_space(b: u8) -> bool
+    ensures { result ≡ is_space b }
+{
+    b == b' ' || b == b'\t' || b == b'\r' || b == b'\n'
+}
+
+fn comment_len(bytes: &[u8]) -> usize
+    ensures is { result ≡ prefix_len is_in_comment bytes.now }
+    ensures fits { result ≤ length bytes.now }
+{
+    bytes.iter().take_while(|b| **b != b'\n').count()
+}
+
+fn word_len(bytes: &[u8]) -> usize
+    ensures is { result ≡ prefix_len is_word_byte bytes.now }
+    ensures fits { result ≤ length bytes.now }
+{
+    bytes.iter().take_while(|b| is_word_byte(**b)).count()
+}
+
+fn digits_len(bytes: &[u8]) -> usize
+    ensures is { result ≡ prefix_len is_digit bytes.now }
+    ensures fits { result ≤ length bytes.now }
+{
+    bytes.iter().take_while(|b| is_digit(**b)).count()
+}
+
+fn keyword(bytes: &[u8]) -> Option<TokenKind>
+    ensures { result ≡ keyword_of bytes.now }
+{
+    let kind = if bytes == b"fsmd".as_slice() {
+        TokenKind::Fsmd
+    } else if bytes == b"input".as_slice() {
+        TokenKind::Declare(Role::Input)
+    } else if bytes == b"output".as_slice() {
+        TokenKind::Declare(Role::Output)
+    } else if bytes == b"local".as_slice() {
+        TokenKind::Declare(Role::Local)
+    } else if bytes == b"array".as_slice() {
+        TokenKind::Array
+    } else if bytes == b"reset".as_slice() {
+        TokenKind::Reset
+    } else if bytes == b"state".as_slice() {
+        TokenKind::State
+    } else if bytes == b"when".as_slice() {
+        TokenKind::When
+    } else if bytes == b"goto".as_slice() {
+        TokenKind::Goto
+    } else if bytes == b"start".as_slice() {
+        TokenKind::Start
+    } else if bytes == b"done".as_slice() {
+        TokenKind::Done
+    } else if bytes == b"emit".as_slice() {
+        TokenKind::Emit
+    } else if bytes == b"port".as_slice() {
+        TokenKind::Port
+    } else {
+        return None;
+    };
+    Some(kind)
+}
+
+fn word(alloc: Global, bytes: &[u8]) -> Result<TokenKind, ReadError>
+    ensures { MadeAs result (λ t. t ≡ word_of bytes.now) }
+{
+    if let Some(kind) = keyword(bytes) {
+        return Ok(kind);
+    }
+    match Name::of(alloc, bytes)? {
+        Some(name) => Ok(TokenKind::Name(name)),
+        None => Ok(TokenKind::Bad(Flaw::Word)),
+    }
+}
+
+// The number that digits spell, where it is below 2^127.
+fn value(bytes: &[u8]) -> Option<u128>
+    ensures { SomeIff result (decimal bytes.now < 2 ^ 127) (decimal bytes.now) }
+{
+    let mut n: u128 = 0;
+    for b in bytes {
+        if n > GREATEST / 10 {
+            return None;
+        }
+        n = 10 * n + u128::from(b.saturating_sub(b'0'));
+        if n > GREATEST {
+            return None;
+        }
+    }
+    Some(n)
+}
+
+#[tactic(auto, unfolding(crate::specs::Lexemes::number_of))]
+fn number(bytes: &[u8]) -> TokenKind
+    ensures { result ≡ number_of bytes.now }
+{
+    match value(bytes) {
+        Some(n) => TokenKind::Number(n as i128),
+        None => TokenKind::Bad(Flaw::Number),
+    }
+}
+
+fn double_sign(first: u8, second: u8) -> Option<TokenKind>
+    ensures { result ≡ double_sign first second }
+{
+    match (first, second) {
+        (b'=', b'=') => Some(TokenKind::Relation(Rel::Eq)),
+        (b'!', b'=') => Some(TokenKind::Relation(Rel::Ne)),
+        (b'<', b'=') => Some(TokenKind::Relation(Rel::Le)),
+        (b'>', b'=') => Some(TokenKind::Relation(Rel::Ge)),
+        (b'&', b'&') => Some(TokenKind::AndAnd),
+        (b'|', b'|') => Some(TokenKind::OrOr),
+        _ => None,
+    }
+}
+
+fn mark(b: u8) -> Option<TokenKind>
+    ensures { result ≡ mark b }
+{
+    match b {
+        b';' => Some(TokenKind::Semicolon),
+        b':' => Some(TokenKind::Colon),
+        b',' => Some(TokenKind::Comma),
+        b'=' => Some(TokenKind::Equals),
+        b'(' => Some(TokenKind::OpenParen),
+        b')' => Some(TokenKind::CloseParen),
+        b'[' => Some(TokenKind::OpenBracket),
+        b']' => Some(TokenKind::CloseBracket),
+        b'{' => Some(TokenKind::OpenBrace),
+        b'}' => Some(TokenKind::CloseBrace),
+        _ => None,
+    }
+}
+
+fn operator(b: u8) -> TokenKind
+    ensures { result ≡ operator b }
+{
+    match b {
+        b'+' => TokenKind::Plus,
+        b'-' => TokenKind::Minus,
+        b'*' => TokenKind::Star,
+        b'/' => TokenKind::Slash,
+        b'%' => TokenKind::Percent,
+        b'!' => TokenKind::Bang,
+        b'<' => TokenKind::Relation(Rel::Lt),
+        b'>' => TokenKind::Relation(Rel::Gt),
+        _ => TokenKind::Bad(Flaw::Byte),
+    }
+}
+
+fn single_sign(b: u8) -> TokenKind
+    ensures { result ≡ single_sign b }
+{
+    match mark(b) {
+        Some(kind) => kind,
+        None => operator(b),
+    }
+}
+
+fn sign(bytes: &[u8]) -> Lexeme
+    requires { 0 < length bytes.now }
+    ensures is { result ≡ sign_of bytes.now }
+    ensures some { 0 < size result }
+    ensures fits { size result ≤ length bytes.now }
+{
+    if bytes.len() > 1 {
+        if let Some(kind) = double_sign(bytes[0], bytes[1]) {
+            return Lexeme::Token(kind, 2);
+        }
+    }
+    Lexeme::Token(single_sign(bytes[0]), 1)
+}
+
+fn next_lexeme(alloc: Global, bytes: &[u8]) -> Result<Lexeme, ReadError>
+    requires { 0 < length bytes.now }
+    ensures is { MadeAs result (λ l. l ≡ lexeme_of bytes.now) }
+    ensures some { IfOk result (λ l. 0 < size l) }
+    ensures fits { IfOk result (λ l. size l ≤ length bytes.now) }
+{
+    let first = bytes[0];
+    if is_space(first) {
+        return Ok(Lexeme::Blank(1));
+    }
+    if first == b'#' {
+        return Ok(Lexeme::Blank(comment_len(bytes)));
+    }
+    if is_letter(first) {
+        let n = word_len(bytes);
+        return Ok(Lexeme::Token(word(alloc, &bytes[..n])?, n));
+    }
+    if is_digit(first) {
+        let n = digits_len(bytes);
+        return Ok(Lexeme::Token(number(&bytes[..n]), n));
+    }
+    Ok(sign(bytes))
+}
+
+fn is_operator(kind: &TokenKind) -> bool
+    ensures { result ≡ is_operator kind.now }
+{
+    matches!(
+        kind,
+        TokenKind::Plus
+            | TokenKind::Minus
+            | TokenKind::Star
+            | TokenKind::Slash
+            | TokenKind::Percent
+            | TokenKind::OpenParen
+            | TokenKind::OpenBracket
+            | TokenKind::OpenBrace
+            | TokenKind::Bang
+            | TokenKind::AndAnd
+            | TokenKind::OrOr
+            | TokenKind::Relation(_)
+    )
+}
+
+fn is_border(kind: &TokenKind) -> bool
+    ensures { result ≡ is_border kind.now }
+{
+    matches!(kind, TokenKind::When | TokenKind::Colon | TokenKind::Comma)
+}
+
+fn is_bad(kind: &TokenKind) -> bool
+    ensures { result ≡ is_bad kind.now }
+{
+    matches!(kind, TokenKind::Bad(_))
+}
+
+fn counted(kind: &TokenKind, operators: usize) -> usize
+    requires { operators + 1 < 2 ^ 64 }
+    ensures is { result ≡ counted kind.now operators }
+    ensures small { result ≤ operators + 1 }
+{
+    if is_border(kind) {
+        0
+    } else if is_operator(kind) {
+        operators + 1
+    } else {
+        operators
+    }
+}
+
+fn is_over(kind: &TokenKind, operators: usize) -> bool
+    ensures { result ≡ is_over kind.now operators }
+{
+    is_operator(kind) && operators >= OPERATOR_LIMIT
+}
+
+fn moved(from: Place, bytes: &[u8]) -> Place
+    requires line { from.line + length bytes.now < 2 ^ 32 }
+    requires column { from.column + length bytes.now < 2 ^ 32 }
+    requires some { 0 < from.column }
+    ensures is { result ≡ moved from bytes.now }
+    ensures line { result.line ≤ from.line + length bytes.now }
+    ensures column { result.column ≤ from.column + length bytes.now }
+    ensures some { 0 < result.column }
+{
+    let mut place = from;
+    for b in bytes {
+        place = if *b == b'\n' {
+            Place {
+                line: place.line + 1,
+                column: 1,
+            }
+        } else {
+            Place {
+                line: place.line,
+                column: place.column + 1,
+            }
+        };
+    }
+    place
+}
+
+/// The tokens of a text of at most 1,048,576 bytes. The last is the end of the bytes, or the first
+/// that is no token of the language. An `Err` is want of memory.
+#[tactic(auto, using(crate::proofs::Scans::blank_scans, crate::proofs::Scans::token_scans))]
+pub fn tokens(alloc: Global, bytes: &[u8]) -> Result<Vec<Token>, ReadError>
+    requires { length bytes.now ≤ 1048576 }
+    ensures { MadeAs result (λ v. v.items ≡ tokens_of bytes.now) }
+{
+    let mut out = Vec::new(alloc);
+    let mut rest = bytes;
+    let mut place = Place { line: 1, column: 1 };
+    let mut operators = 0;
+    'each: while !rest.is_empty() {
+        match next_lexeme(alloc, rest)? {
+            Lexeme::Blank(n) => {
+                let (front, behind) = rest.split_at(n);
+                place = moved(place, front);
+                rest = behind;
+            }
+            Lexeme::Token(kind, n) => {
+                let over = is_over(&kind, operators);
+                let bad = is_bad(&kind);
+                operators = counted(&kind, operators);
+                out.push(Token { kind, over, place })?;
+                if bad {
+                    return Ok(out);
+                }
+                let (front, behind) = rest.split_at(n);
+                place = moved(place, front);
+                rest = behind;
+            }
+        }
+    }
+    out.push(Token {
+        kind: TokenKind::End,
+        over: false,
+        place,
+    })?;
+    Ok(out)
+}

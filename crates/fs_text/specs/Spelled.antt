@@ -1,0 +1,10 @@
+-- What the bytes of a machine text spell.
+use Rattle.std.specs.Prelude.{ℕ, List, Result}
+use Rattle.fs_model.specs.Source.{Source}
+use Rattle.fs_grammar.specs.declared.fault.TextFault.{TextFault}
+use Rattle.fs_grammar.specs.Grammar.{reading, at_start}
+use Rattle.fs_lex.specs.Scan.{tokens_of}
+
+-- the source that the bytes spell, or their first fault
+abbrev pub spelled : List ℕ → Result Source TextFault
+spelled bytes = reading (tokens_of bytes) at_start
