@@ -1,0 +1,9 @@
+-- Valuations that agree on some of the symbols.
+use Rattle.std.specs.Prelude.{◌≡◌, Bool, true}
+use Rattle.nf_terms.specs.Meaning.{Valuation}
+use Rattle.nf_terms.specs.declared.tree.Pos.{Pos}
+
+-- two valuations agree on the symbols that pass a test
+pub record AgreeOn (test : Pos → Bool) (v w : Valuation) : Type 0 where
+  pub scalars : (q : Pos) → test q ≡ true → v.scalar q ≡ w.scalar q
+  pub arrays : (q : Pos) → test q ≡ true → v.array q ≡ w.array q

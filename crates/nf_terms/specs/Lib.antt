@@ -1,0 +1,13 @@
+pub mod Terms
+pub mod View
+pub mod Order
+pub mod Measures
+pub mod Mentions
+pub mod Meaning
+pub mod Normal
+pub mod RawSums
+pub mod Keys
+pub mod TermKeys
+pub mod Codes
+pub mod Comparison
+pub mod Agreement

@@ -1,0 +1,49 @@
+-- What terms mean.
+use Rattle.std.specs.Prelude.{ℤ, pos, ◌+ℤ◌, ◌*ℤ◌, cond}
+use Rattle.std.specs.Ordering.{int_eq}
+use Rattle.integers.specs.Division.{quotient, remainder}
+use Rattle.nf_terms.specs.Terms.{Atom, Monomial, Polynomial, ArrayTerm, Writes, Symbol, Read, Quotient, Remainder, One, Times, Zero, Plus, Over, NoWrites, Write}
+use Rattle.nf_terms.specs.declared.tree.Pos.{Pos}
+use Rattle.nf_terms.specs.declared.tree.Base.{Base}
+use Rattle.nf_terms.specs.declared.tree.Base.TheVariants as base
+
+-- a pair of stores: a value for each position, a number or an array
+pub record Valuation : Type 0 where
+  pub scalar : Pos → ℤ
+  pub array : Pos → ℤ → ℤ
+
+-- what an array holds after v is written at i
+abbrev pub written : (ℤ → ℤ) → ℤ → ℤ → ℤ → ℤ
+written a i v = λ j. cond (int_eq i j) v (a j)
+
+-- what a base holds: 0 everywhere, or what its symbol holds
+abbrev pub contents_of_base : Valuation → Base → ℤ → ℤ
+contents_of_base s base.Zero = λ j. pos 0
+contents_of_base s (base.Sym p) = s.array p
+
+abbrev mutual
+  -- the number that an atom means
+  pub value_of_atom : Valuation → Atom → ℤ
+  value_of_atom s (Symbol p) = s.scalar p
+  value_of_atom s (Read a i) = contents s a (value_of s i)
+  value_of_atom s (Quotient a b) = quotient (value_of s a) (value_of s b)
+  value_of_atom s (Remainder a b) = remainder (value_of s a) (value_of s b)
+
+  -- the product of its atoms
+  pub value_of_monomial : Valuation → Monomial → ℤ
+  value_of_monomial s One = pos 1
+  value_of_monomial s (Times a m) = value_of_atom s a *ℤ value_of_monomial s m
+
+  -- the sum of its monomials times their coefficients
+  pub value_of : Valuation → Polynomial → ℤ
+  value_of s Zero = pos 0
+  value_of s (Plus m c p) = c *ℤ value_of_monomial s m +ℤ value_of s p
+
+  -- what an array holds after these writes, the first one first
+  pub contents_after : Valuation → Writes → (ℤ → ℤ) → ℤ → ℤ
+  contents_after s NoWrites a = a
+  contents_after s (Write i v ws) a = contents_after s ws (written a (value_of s i) (value_of s v))
+
+  -- what an array holds
+  pub contents : Valuation → ArrayTerm → ℤ → ℤ
+  contents s (Over b ws) = contents_after s ws (contents_of_base s b)

@@ -1,0 +1,17 @@
+//! Normal forms of terms: their trees, their order, their size, depth and weight.
+#![tactic(auto)]
+
+pub mod arr;
+pub mod clones;
+pub mod constants;
+pub mod measures;
+pub mod mentions;
+pub mod narrow;
+pub mod normal;
+pub mod order;
+pub mod ordered;
+pub mod poly;
+pub mod stop;
+#[cfg(test)]
+mod tests;
+pub mod tree;

@@ -1,0 +1,125 @@
+//! Whether a tree is in order: whether it is normal, but for its limits.
+
+ghost use Rattle.std.specs.Prelude.{◌≡◌, map};
+ghost use Rattle.nf_terms.specs.Terms.{writes_of};
+ghost use Rattle.nf_terms.specs.View.{atom_in, monomial_in, polynomial_in, array_in, write_in};
+ghost use Rattle.nf_terms.specs.Normal.{is_written as written, write_rises as rises, stays_read as stays, ordered_atom, ordered_monomial, ordered, ordered_array};
+
+use crate::constants::{constant_part, differs_by_constant, is_constant};
+use crate::order::{compare_atoms, compare_monos, compare_polys};
+use crate::tree::{ArrTree, Atom, Base, MonoTree, PolyTree};
+use std::cmp::Ordering;
+
+/// Whether one of the writes is at this index.
+pub fn is_written(index: &PolyTree, writes: &[(PolyTree, PolyTree)]) -> bool
+    ensures { result ≡ written (polynomial_in index.now) (writes_of (map write_in writes.now)) }
+{
+    for (other, _value) in writes {
+        if compare_polys(index, other) == Ordering::Equal {
+            return true;
+        }
+    }
+    false
+}
+
+/// Whether the next write's index is greater, where the two differ by a constant.
+pub fn write_rises(index: &PolyTree, writes: &[(PolyTree, PolyTree)]) -> bool
+    ensures { result ≡ rises (polynomial_in index.now) (writes_of (map write_in writes.now)) }
+{
+    match writes.first() {
+        None => true,
+        Some((next, _value)) => {
+            !differs_by_constant(index, next) || constant_part(index) < constant_part(next)
+        }
+    }
+}
+
+/// Whether a read of the array at the index stays an atom.
+#[tactic(auto, using(crate::proofs::LastWrite::last_write))]
+pub fn stays_read(array: &ArrTree, index: &PolyTree) -> bool
+    ensures { result ≡ stays (array_in array.now) (polynomial_in index.now) }
+{
+    match array.writes.last() {
+        Some((last, _value)) => !differs_by_constant(last, index),
+        None => match array.base {
+            Base::Zero => false,
+            Base::Sym(_) => true,
+        },
+    }
+}
+
+/// Whether an atom is in order.
+#[cycle(ordered)]
+pub fn is_ordered_atom(atom: &Atom) -> bool
+    ensures { result ≡ ordered_atom (atom_in atom.now) }
+{
+    match atom {
+        Atom::Sym(_) => true,
+        Atom::Read(array, index) => {
+            is_ordered_arr(array) && is_ordered_poly(index) && stays_read(array, index)
+        }
+        Atom::Div(left, right) => {
+            is_ordered_poly(left)
+                && is_ordered_poly(right)
+                && !(is_constant(left) && is_constant(right))
+        }
+        Atom::Rem(left, right) => {
+            is_ordered_poly(left)
+                && is_ordered_poly(right)
+                && !(is_constant(left) && is_constant(right))
+        }
+    }
+}
+
+/// Whether a monomial is in order.
+#[cycle(ordered)]
+pub fn is_ordered_mono(mono: &MonoTree) -> bool
+    ensures { result ≡ ordered_monomial (monomial_in mono.now) }
+{
+    for (i, atom) in mono.atoms.iter().enumerate() {
+        if !is_ordered_atom(atom) {
+            return false;
+        }
+        if let Some(next) = mono.atoms.get(i + 1) {
+            if compare_atoms(atom, next) == Ordering::Greater {
+                return false;
+            }
+        }
+    }
+    true
+}
+
+/// Whether a polynomial is in order.
+#[cycle(ordered)]
+pub fn is_ordered_poly(poly: &PolyTree) -> bool
+    ensures { result ≡ ordered (polynomial_in poly.now) }
+{
+    for (i, (mono, coefficient)) in poly.monos.iter().enumerate() {
+        if *coefficient == 0 || !is_ordered_mono(mono) {
+            return false;
+        }
+        if let Some((next, _)) = poly.monos.get(i + 1) {
+            if compare_monos(mono, next) != Ordering::Less {
+                return false;
+            }
+        }
+    }
+    true
+}
+
+/// Whether an array is in order.
+#[cycle(ordered)]
+pub fn is_ordered_arr(arr: &ArrTree) -> bool
+    ensures { result ≡ ordered_array (array_in arr.now) }
+{
+    for (i, (index, value)) in arr.writes.iter().enumerate() {
+        if !is_ordered_poly(index) || !is_ordered_poly(value) {
+            return false;
+        }
+        let later = &arr.writes[i + 1..];
+        if is_written(index, later) || !write_rises(index, later) {
+            return false;
+        }
+    }
+    true
+}
