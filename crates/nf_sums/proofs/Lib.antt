@@ -1,0 +1,12 @@
+pub mod Sorted
+pub mod Worth
+pub mod Bags
+pub mod Terms
+pub mod Merging
+pub mod Turns
+pub mod Joining
+pub mod Products
+pub mod Within
+pub mod Forms
+pub mod Negations
+pub mod Unique

@@ -1,0 +1,9 @@
+use Rattle.std.proofs.Common.{◌+◌, ◌-◌, length}
+use Rattle.nf_sums.proofs.Joining.{Joined}
+use Rattle.nf_sums.proofs.join.merged_atoms.Given as goal
+
+abbrev pub invariant-merge : goal.invariant-merge
+invariant-merge l = Joined l.l l.r l.out.items l.i l.j
+
+abbrev pub decreases-merge : goal.decreases-merge
+decreases-merge l = (length l.l - l.i) + (length l.r - l.j)

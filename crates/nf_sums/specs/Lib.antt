@@ -1,0 +1,2 @@
+pub mod OrderedSums
+pub mod Events

@@ -1,0 +1,13 @@
+//! Sums and products of normal forms.
+#![tactic(auto)]
+
+mod copies;
+mod join;
+pub mod laws;
+mod limits;
+mod merge;
+mod negation;
+mod product;
+pub mod sums;
+#[cfg(test)]
+mod tests;

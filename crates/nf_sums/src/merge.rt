@@ -1,0 +1,83 @@
+//! Merges of ordered lists of terms.
+
+ghost use Rattle.std.specs.Prelude.{◌≡◌, ◌+ℤ◌, ◌++◌, ◌∷◌, [], map, OnOk, IfOk, IsTrue, ◌+◌, ◌≤◌, unsigned_abs};
+ghost use Rattle.nf_terms.specs.Terms.{polynomial_of};
+ghost use Rattle.nf_terms.specs.View.{monomial_in, term_in};
+ghost use Rattle.nf_terms.specs.Measures.{weight_of};
+ghost use Rattle.nf_terms.specs.Normal.{ordered, weight_limit};
+ghost use Rattle.nf_sums.specs.OrderedSums.{IsOrderedSum, term_unless_zero};
+
+use crate::copies::push_copy;
+use nf_terms::order::compare_monos;
+use nf_terms::stop::NoMemory;
+use nf_terms::tree::MonoTree;
+use std::alloc::Global;
+use std::cmp::Ordering;
+
+/// Adds a copy of a monomial, with the sum of two coefficients, unless that is 0.
+fn push_sum(
+    alloc: Global,
+    out: &mut Vec<(MonoTree, i128)>,
+    mono: &MonoTree,
+    first: &i128,
+    second: &i128,
+) -> Result<(), NoMemory>
+    requires { unsigned_abs first.now + unsigned_abs second.now ≤ weight_limit }
+    ensures { OnOk result (map term_in out.new.items ≡ map term_in out.old.items ++ term_unless_zero (monomial_in mono.now) (first.now +ℤ second.now)) }
+{
+    let sum = *first + *second;
+    if sum == 0 {
+        return Ok(());
+    }
+    push_copy(alloc, out, mono, &sum)
+}
+
+/// The sum of two ordered lists of terms, whose weights together are within the limit.
+#[tactic(auto, using(crate::proofs::Turns::turns))]
+pub fn merged(
+    alloc: Global,
+    l: &[(MonoTree, i128)],
+    r: &[(MonoTree, i128)],
+) -> Result<Vec<(MonoTree, i128)>, NoMemory>
+    requires left { IsTrue (ordered (polynomial_of (map term_in l.now))) }
+    requires right { IsTrue (ordered (polynomial_of (map term_in r.now))) }
+    requires narrow { weight_of (polynomial_of (map term_in l.now)) + weight_of (polynomial_of (map term_in r.now)) ≤ weight_limit }
+    ensures { IfOk result (λ v. IsOrderedSum (polynomial_of (map term_in l.now)) (polynomial_of (map term_in r.now)) (polynomial_of (map term_in v.items))) }
+{
+    let mut out = Vec::new(alloc);
+    let mut i = 0;
+    let mut j = 0;
+    'merge: loop {
+        match l.get(i) {
+            None => match r.get(j) {
+                None => break 'merge,
+                Some((mono, coefficient)) => {
+                    push_copy(alloc, &mut out, mono, coefficient)?;
+                    j += 1;
+                }
+            },
+            Some((mono, coefficient)) => match r.get(j) {
+                None => {
+                    push_copy(alloc, &mut out, mono, coefficient)?;
+                    i += 1;
+                }
+                Some((other, more)) => match compare_monos(mono, other) {
+                    Ordering::Less => {
+                        push_copy(alloc, &mut out, mono, coefficient)?;
+                        i += 1;
+                    }
+                    Ordering::Greater => {
+                        push_copy(alloc, &mut out, other, more)?;
+                        j += 1;
+                    }
+                    Ordering::Equal => {
+                        push_sum(alloc, &mut out, mono, coefficient, more)?;
+                        i += 1;
+                        j += 1;
+                    }
+                },
+            },
+        }
+    }
+    Ok(out)
+}

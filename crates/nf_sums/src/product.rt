@@ -1,0 +1,81 @@
+//! Products of ordered lists of terms.
+
+ghost use Rattle.std.specs.Prelude.{◌≡◌, ◌*ℤ◌, ◌+◌, ◌*◌, ◌≤◌, ◌++◌, ◌∷◌, [], map, OnOk, IfOk, IsTrue, unsigned_abs, length};
+ghost use Rattle.nf_terms.specs.Terms.{polynomial_of};
+ghost use Rattle.nf_terms.specs.View.{monomial_in, term_in};
+ghost use Rattle.nf_terms.specs.Measures.{weight_of};
+ghost use Rattle.nf_terms.specs.Normal.{ordered, weight_limit};
+ghost use Rattle.nf_sums.specs.OrderedSums.{IsOrderedProduct};
+
+use crate::copies::push_term;
+use crate::join::joined;
+use crate::merge::merged;
+use nf_terms::stop::NoMemory;
+use nf_terms::tree::MonoTree;
+use std::alloc::Global;
+
+/// Adds a monomial with the product of two coefficients.
+fn push_product(
+    out: &mut Vec<(MonoTree, i128)>,
+    mono: MonoTree,
+    first: &i128,
+    second: &i128,
+) -> Result<(), NoMemory>
+    requires { unsigned_abs first.now * unsigned_abs second.now ≤ weight_limit }
+    ensures { OnOk result (map term_in out.new.items ≡ map term_in out.old.items ++ (monomial_in mono, first.now *ℤ second.now) ∷ []) }
+{
+    let product = *first * *second;
+    push_term(out, mono, &product)
+}
+
+/// The product of two ordered lists of at most one term.
+fn single(
+    alloc: Global,
+    l: &[(MonoTree, i128)],
+    r: &[(MonoTree, i128)],
+) -> Result<Vec<(MonoTree, i128)>, NoMemory>
+    requires left { IsTrue (ordered (polynomial_of (map term_in l.now))) }
+    requires right { IsTrue (ordered (polynomial_of (map term_in r.now))) }
+    requires narrow { weight_of (polynomial_of (map term_in l.now)) * weight_of (polynomial_of (map term_in r.now)) ≤ weight_limit }
+    requires left_short { length l.now ≤ 1 }
+    requires right_short { length r.now ≤ 1 }
+    ensures { IfOk result (λ v. IsOrderedProduct (polynomial_of (map term_in l.now)) (polynomial_of (map term_in r.now)) (polynomial_of (map term_in v.items))) }
+{
+    let mut out = Vec::new(alloc);
+    let Some((mono, coefficient)) = l.first() else {
+        return Ok(out);
+    };
+    let Some((other, factor)) = r.first() else {
+        return Ok(out);
+    };
+    push_product(&mut out, joined(alloc, mono, other)?, coefficient, factor)?;
+    Ok(out)
+}
+
+/// The product of two ordered lists of terms, the product of whose weights is within the limit.
+///
+/// A list of more than one term is halved, and the products of the halves are merged.
+pub fn multiplied(
+    alloc: Global,
+    l: &[(MonoTree, i128)],
+    r: &[(MonoTree, i128)],
+) -> Result<Vec<(MonoTree, i128)>, NoMemory>
+    requires left { IsTrue (ordered (polynomial_of (map term_in l.now))) }
+    requires right { IsTrue (ordered (polynomial_of (map term_in r.now))) }
+    requires narrow { weight_of (polynomial_of (map term_in l.now)) * weight_of (polynomial_of (map term_in r.now)) ≤ weight_limit }
+    ensures { IfOk result (λ v. IsOrderedProduct (polynomial_of (map term_in l.now)) (polynomial_of (map term_in r.now)) (polynomial_of (map term_in v.items))) }
+{
+    if l.len() > 1 {
+        let (front, back) = l.split_at(l.len() / 2);
+        let front = multiplied(alloc, front, r)?;
+        let back = multiplied(alloc, back, r)?;
+        return merged(alloc, &front, &back);
+    }
+    if r.len() > 1 {
+        let (front, back) = r.split_at(r.len() / 2);
+        let front = multiplied(alloc, l, front)?;
+        let back = multiplied(alloc, l, back)?;
+        return merged(alloc, &front, &back);
+    }
+    single(alloc, l, r)
+}
