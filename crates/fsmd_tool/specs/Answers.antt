@@ -1,0 +1,140 @@
+-- Which answers are due to the words of a command and to what its files hold.
+use Rattle.std.specs.Prelude.{◌≡◌, ℕ, true, false, List, Some, None, option_map, slice_get, codes}
+use Rattle.fs_base.specs.Outside.{Held, Rose, appended}
+use Rattle.fs_model.specs.Machines.{Fsmd}
+use Rattle.fs_model.specs.Runs.{SameBehaviour}
+use Rattle.fs_pair.specs.Faces.{interface_fault}
+use Rattle.nf_terms.specs.declared.tree.Side.{Side}
+use Rattle.nf_terms.specs.declared.stop.NfStop.TheVariants as stops
+use Rattle.straight_line.specs.Straight.{is_straight}
+use Rattle.straight_line.specs.Verdicts.{DiffersAt, StopsOn}
+use Rattle.fsmd_tool.specs.declared.answer.Operand.{Operand}
+use Rattle.fsmd_tool.specs.declared.answer.Operand.TheVariants.{Left, Right}
+use Rattle.fsmd_tool.specs.declared.answer.Status.TheVariants.{NoMemory}
+use Rattle.fsmd_tool.specs.declared.answer.Answer.{Answer}
+use Rattle.fsmd_tool.specs.declared.answer.Answer.TheVariants.{Usage, Equivalent, Stuck, Wide, Large, TextRefused, CheckRefused, Interfaces, TooLong, NotBuilt, CannotRead}
+use Rattle.fsmd_tool.specs.Statuses.{status_of}
+use Rattle.fsmd_tool.specs.Replies.{reply}
+use Rattle.fsmd_tool.specs.Puts.{Put, IsPut}
+use Rattle.fsmd_tool.specs.Commands.{word_of, IsCheck}
+use Rattle.fsmd_tool.specs.Texts.{Told, Spells, IsMachine, IsTooLong, HasTextFault, HasCheckFault}
+
+-- the words of a call, what each name held at its begin, and how often each had failed to be read before and at its end
+pub record Given : Type 0 where
+  pub words : List (List ℕ)
+  pub holds : List ℕ → Held
+  pub faults_before : List ℕ → ℕ
+  pub faults_now : List ℕ → ℕ
+
+abbrev pub given : List (List ℕ) → (List ℕ → Held) → (before now : List ℕ → ℕ) → Given
+given words holds before now = record { words = words; holds = holds; faults_before = before; faults_now = now }
+
+-- what is told of a file of the command
+abbrev pub held : Given → Operand → Held
+held g file = g.holds (word_of g.words file)
+
+-- a file of the command failed to be read
+abbrev pub FailedToRead : Given → Operand → Type 0
+FailedToRead g file = Rose (g.faults_before (word_of g.words file)) (g.faults_now (word_of g.words file))
+
+-- an answer that is due to one file, of which this is told; Failed says that it could not be read
+abbrev pub IsOfFile : Operand → Held → (Failed : Type 0) → Answer → Type 0
+IsOfFile file held Failed (TextRefused which fault) = (which ≡ file) × Told held (HasTextFault fault)
+IsOfFile file held Failed (CheckRefused which fault) = (which ≡ file) × Told held (HasCheckFault fault)
+IsOfFile file held Failed (TooLong which) = (which ≡ file) × Told held IsTooLong
+IsOfFile file held Failed (CannotRead which) = (which ≡ file) × Failed
+IsOfFile file held Failed _ = ⊥
+
+-- two machines with the same inputs and outputs that can be compared
+pub record AreComparable (a b : Fsmd) : Type 0 where
+  pub alike : interface_fault a b ≡ None
+  pub left : is_straight a ≡ true
+  pub right : is_straight b ≡ true
+
+-- the executions of both machines end, and this output of the left one is the first whose polynomials differ
+pub record IsFirstDifference (a b : Fsmd) (output : List ℕ) : Type 0 where
+  pub variable : ℕ
+  pub differs : DiffersAt a b variable
+  pub named : option_map (λ v. v.name) (slice_get a.variables variable) ≡ Some output
+
+-- the first operation past a limit, the left machine first, has operands whose weights are past it together
+pub record IsPastWeight (a b : Fsmd) : Type 0 where
+  pub side : Side
+  pub left : ℕ
+  pub right : ℕ
+  pub stops : StopsOn side a b (stops.Wide left right)
+
+-- the first operation past a limit, the left machine first, has a result past the limit of sizes
+pub record IsPastSize (a b : Fsmd) : Type 0 where
+  pub side : Side
+  pub units : ℕ
+  pub depth : ℕ
+  pub stops : StopsOn side a b (stops.Large units depth)
+
+-- an answer that is due to two machines
+abbrev pub IsOfPair : Fsmd → Fsmd → Answer → Type 0
+IsOfPair a b (Interfaces name) = interface_fault a b ≡ Some name
+IsOfPair a b (NotBuilt Left) = (interface_fault a b ≡ None) × (is_straight a ≡ false)
+IsOfPair a b (NotBuilt Right) = (interface_fault a b ≡ None) × (is_straight a ≡ true) × (is_straight b ≡ false)
+IsOfPair a b (Equivalent nodes) = AreComparable a b × SameBehaviour a b
+IsOfPair a b (Stuck output) = AreComparable a b × IsFirstDifference a b output
+IsOfPair a b Wide = AreComparable a b × IsPastWeight a b
+IsOfPair a b Large = AreComparable a b × IsPastSize a b
+IsOfPair a b _ = ⊥
+
+-- an answer that two machines may get; the same behaviour is shown by two nodes
+abbrev pub IsVerdict : Answer → Type 0
+IsVerdict (Interfaces name) = Unit {0}
+IsVerdict (NotBuilt file) = Unit {0}
+IsVerdict (Equivalent nodes) = nodes ≡ 2
+IsVerdict (Stuck output) = Unit {0}
+IsVerdict Wide = Unit {0}
+IsVerdict Large = Unit {0}
+IsVerdict _ = ⊥
+
+-- the bytes of two files spell machines that meet P
+pub record SpellPair (P : Fsmd → Fsmd → Type 0) (x y : List ℕ) : Type 0 where
+  pub a : Fsmd
+  pub b : Fsmd
+  pub left : Spells x a
+  pub right : Spells y b
+  pub meet : P a b
+
+-- both files of the command spell machines that meet P, where it is told what they hold
+abbrev pub PairTold : Given → (Fsmd → Fsmd → Type 0) → Type 0
+PairTold g P = Told (held g Left) (λ x. Told (held g Right) (λ y. SpellPair P x y))
+
+-- the answer that is due: the words are no command, or the left file is refused, or the left file spells a machine and the right
+-- one is refused, or both spell machines
+pub data IsDue (g : Given) (answer : Answer) : Type 0 where
+  NoCommand : (IsCheck g.words → ⊥) → answer ≡ Usage → IsDue g answer
+  LeftRefused : IsCheck g.words → IsOfFile Left (held g Left) (FailedToRead g Left) answer → IsDue g answer
+  RightRefused : IsCheck g.words → Told (held g Left) IsMachine → IsOfFile Right (held g Right) (FailedToRead g Right) answer → IsDue g answer
+  Compared : IsCheck g.words → IsVerdict answer → PairTold g (λ a b. IsOfPair a b answer) → IsDue g answer
+
+-- an answer that is due was put with its status, whole or cut by a sink that failed
+pub record Answered (g : Given) (p : Put) : Type 0 where
+  pub answer : Answer
+  pub due : IsDue g answer
+  pub put : IsPut (reply answer (word_of g.words Left) (word_of g.words Right)) (status_of answer) p
+
+-- there was no memory, and nothing was put
+pub record IsStarved (p : Put) : Type 0 where
+  pub status : p.status ≡ NoMemory
+  pub got : p.got_now ≡ p.got_before
+
+-- how a call ends
+pub data Outcome (g : Given) (p : Put) : Type 0 where
+  Answers : Answered g p → Outcome g p
+  Starves : IsStarved p → Outcome g p
+
+-- both files spell machines with the same behaviour, where it is told what they hold, and this was put
+pub record SaysSame (g : Given) (p : Put) : Type 0 where
+  pub check : IsCheck g.words
+  pub same : PairTold g SameBehaviour
+  pub put : p.got_now ≡ appended p.got_before (codes "equivalent: 2 nodes\n")
+
+-- a file of the command failed to be read, or the sink failed
+pub data HasCause (g : Given) (p : Put) : Type 0 where
+  FileFailed : (file : Operand) → IsCheck g.words → FailedToRead g file → HasCause g p
+  SinkFailed : Rose p.faults_before p.faults_now → HasCause g p

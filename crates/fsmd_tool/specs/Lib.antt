@@ -1,0 +1,7 @@
+pub mod Statuses
+pub mod Replies
+pub mod Puts
+pub mod Texts
+pub mod Commands
+pub mod Answers
+pub mod Refusals

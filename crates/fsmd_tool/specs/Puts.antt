@@ -1,0 +1,40 @@
+-- What a sink got of a reply.
+use Rattle.std.specs.Prelude.{◌≡◌, ℕ, ◌<◌, List, length, take, Option}
+use Rattle.fs_base.specs.Outside.{Rose, appended}
+use Rattle.fsmd_tool.specs.declared.answer.Status.{Status}
+use Rattle.fsmd_tool.specs.declared.answer.Status.TheVariants.{Fault}
+
+-- a status, and what a sink got and how often it had failed before and at the end
+pub record Put : Type 0 where
+  pub status : Status
+  pub got_before : Option (List ℕ)
+  pub got_now : Option (List ℕ)
+  pub faults_before : ℕ
+  pub faults_now : ℕ
+
+abbrev pub put : Status → (got_before got_now : Option (List ℕ)) → (faults_before faults_now : ℕ) → Put
+put status got_before got_now faults_before faults_now = record {
+  status = status;
+  got_before = got_before;
+  got_now = got_now;
+  faults_before = faults_before;
+  faults_now = faults_now;
+}
+
+-- the sink got the whole reply
+pub record IsWhole (reply : List ℕ) (meant : Status) (p : Put) : Type 0 where
+  pub status : p.status ≡ meant
+  pub got : p.got_now ≡ appended p.got_before reply
+
+-- the sink failed, and got the front of the reply alone
+pub record IsCut (reply : List ℕ) (p : Put) : Type 0 where
+  pub sent : ℕ
+  pub status : p.status ≡ Fault
+  pub failed : Rose p.faults_before p.faults_now
+  pub front : sent < length reply
+  pub got : p.got_now ≡ appended p.got_before (take sent reply)
+
+-- the reply was put whole with its status, or cut
+pub data IsPut (reply : List ℕ) (meant : Status) (p : Put) : Type 0 where
+  Whole : IsWhole reply meant p → IsPut reply meant p
+  Cut : IsCut reply p → IsPut reply meant p

@@ -1,0 +1,30 @@
+-- The numbers with which the program ends, and the status of each answer.
+use Rattle.std.specs.Prelude.{ℕ}
+use Rattle.fsmd_tool.specs.declared.answer.Status.{Status}
+use Rattle.fsmd_tool.specs.declared.answer.Status.TheVariants.{Fine, Differ, Undecided, Usage, BadInput, NoMemory, Fault}
+use Rattle.fsmd_tool.specs.declared.answer.Answer.{Answer}
+use Rattle.fsmd_tool.specs.declared.answer.Answer.TheVariants as answers
+
+-- the number of a status
+abbrev pub code_of : Status → ℕ
+code_of Fine = 0
+code_of Differ = 1
+code_of Undecided = 2
+code_of Usage = 64
+code_of BadInput = 65
+code_of NoMemory = 71
+code_of Fault = 74
+
+-- the status with which a command that answers this ends
+abbrev pub status_of : Answer → Status
+status_of answers.Usage = Usage
+status_of (answers.Equivalent nodes) = Fine
+status_of (answers.Stuck output) = Undecided
+status_of answers.Wide = Undecided
+status_of answers.Large = Undecided
+status_of (answers.TextRefused file fault) = BadInput
+status_of (answers.CheckRefused file fault) = BadInput
+status_of (answers.Interfaces name) = BadInput
+status_of (answers.TooLong file) = BadInput
+status_of (answers.NotBuilt file) = BadInput
+status_of (answers.CannotRead file) = Fault

@@ -1,0 +1,97 @@
+//! How a command ends, and what it answers.
+
+ghost use Rattle.std.specs.Prelude.{◌≡◌};
+ghost use Rattle.fsmd_tool.specs.Statuses.{code_of, status_of};
+
+use fs_ast::check::CheckFault;
+use fs_grammar::fault::TextFault;
+use fs_model::name::Name;
+
+/// How a command ended.
+#[derive(Clone, Copy, Debug, PartialEq, Eq)]
+pub enum Status {
+    /// The question was answered with yes.
+    Fine,
+    /// A difference was found.
+    Differ,
+    /// Neither sameness nor a difference was found.
+    Undecided,
+    /// The words are no command.
+    Usage,
+    /// A file that was named is refused.
+    BadInput,
+    /// There was no memory.
+    NoMemory,
+    /// A file could not be read, or the reply not be put.
+    Fault,
+}
+
+impl Status {
+    /// The number with which the program ends.
+    pub fn code(self) -> u8
+        ensures { result ≡ code_of self }
+    {
+        match self {
+            Status::Fine => 0,
+            Status::Differ => 1,
+            Status::Undecided => 2,
+            Status::Usage => 64,
+            Status::BadInput => 65,
+            Status::NoMemory => 71,
+            Status::Fault => 74,
+        }
+    }
+}
+
+/// Which of the two files of a command: the first or the second that it names.
+#[derive(Clone, Copy, Debug, PartialEq, Eq)]
+pub enum Operand {
+    Left,
+    Right,
+}
+
+/// What a command answers.
+#[derive(Drop)]
+pub enum Answer {
+    /// The words are no command.
+    Usage,
+    /// The machines have the same behaviour, which this many nodes show.
+    Equivalent { nodes: u32 },
+    /// The terms of an output differ.
+    Stuck { output: Name },
+    /// A coefficient may be past 128 bits.
+    Wide,
+    /// A term is too large.
+    Large,
+    /// A file spells no parts of a machine.
+    TextRefused { file: Operand, fault: TextFault },
+    /// The parts that a file spells break a rule.
+    CheckRefused { file: Operand, fault: CheckFault },
+    /// A name is an input or output of one machine and not alike of the other.
+    Interfaces { name: Name },
+    /// A file has more bytes than are read.
+    TooLong { file: Operand },
+    /// A machine has a form that is not compared yet.
+    NotBuilt { file: Operand },
+    /// A file could not be read.
+    CannotRead { file: Operand },
+}
+
+impl Answer {
+    /// The status with which a command that answers this ends.
+    pub fn status(&self) -> Status
+        ensures { result ≡ status_of self.now }
+    {
+        match self {
+            Answer::Equivalent { .. } => Status::Fine,
+            Answer::Stuck { .. } | Answer::Wide | Answer::Large => Status::Undecided,
+            Answer::Usage => Status::Usage,
+            Answer::TextRefused { .. }
+            | Answer::CheckRefused { .. }
+            | Answer::Interfaces { .. }
+            | Answer::TooLong { .. }
+            | Answer::NotBuilt { .. } => Status::BadInput,
+            Answer::CannotRead { .. } => Status::Fault,
+        }
+    }
+}

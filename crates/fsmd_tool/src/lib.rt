@@ -1,0 +1,11 @@
+//! The commands of `fsmd`: what is asked, what is answered, and the bytes that are put.
+#![tactic(auto)]
+
+pub mod answer;
+mod compare;
+pub mod drive;
+mod load;
+mod put;
+mod reply;
+#[cfg(test)]
+mod tests;

@@ -1,0 +1,142 @@
+//! The bytes of each answer.
+
+ghost use Rattle.std.specs.Prelude.{◌≡◌, ◌++◌, IfOk, codes, decimal, string_bytes};
+ghost use Rattle.fsmd_tool.specs.Replies.{kind_name, rule_name, file_word, reply};
+
+use crate::answer::{Answer, Operand};
+use fs_ast::check::{CheckFault, CheckRule};
+use fs_grammar::fault::{TextFault, TextKind};
+use fs_model::name::Name;
+use std::alloc::{AllocError, Global};
+
+const USAGE: &str =
+    "usage: fsmd check A B [--cert F] [--steps N] | verify A B C | run A I [--steps N] | replay A B I [--steps N] | fmt A | cuts A | generate N\n";
+
+fn kind_name(kind: TextKind) -> &'static str
+    ensures { result.now ≡ kind_name kind }
+{
+    match kind {
+        TextKind::BadByte => "BadByte",
+        TextKind::BadWord => "BadWord",
+        TextKind::NumberTooBig => "NumberTooBig",
+        TextKind::Unexpected => "Unexpected",
+        TextKind::Operators => "Operators",
+        TextKind::Ended => "Ended",
+    }
+}
+
+fn rule_name(rule: CheckRule) -> &'static str
+    ensures { result.now ≡ rule_name rule }
+{
+    match rule {
+        CheckRule::TwiceNamed => "TwiceNamed",
+        CheckRule::UnknownName => "UnknownName",
+        CheckRule::WrongSort => "WrongSort",
+        CheckRule::AssignInput => "AssignInput",
+        CheckRule::AssignedTwice => "AssignedTwice",
+        CheckRule::NoElse => "NoElse",
+        CheckRule::AfterElse => "AfterElse",
+        CheckRule::TooManyBranches => "TooManyBranches",
+        CheckRule::EndlessLine => "EndlessLine",
+        CheckRule::UnknownState => "UnknownState",
+        CheckRule::TooMany => "TooMany",
+    }
+}
+
+fn file_word<'a>(file: Operand, left: &'a str, right: &'a str) -> &'a str
+    ensures { result.now ≡ file_word file left.now right.now }
+{
+    match file {
+        Operand::Left => left,
+        Operand::Right => right,
+    }
+}
+
+// A name between two texts.
+fn with_name(alloc: Global, before: &str, name: &Name, after: &str) -> Result<Vec<u8>, AllocError>
+    ensures { IfOk result (λ bytes. bytes.items ≡ before.now ++ (name.now ++ after.now)) }
+{
+    let mut bytes = before.as_bytes().to_vec(alloc)?;
+    bytes.extend_from_slice(name.bytes())?;
+    bytes.extend_from_slice(after.as_bytes())?;
+    Ok(bytes)
+}
+
+fn text_refused(alloc: Global, word: &str, fault: &TextFault) -> Result<String, AllocError>
+    ensures { IfOk result (λ text. string_bytes text ≡ codes "bad input: " ++ (word.now ++ (codes ":" ++ (decimal fault.now.line ++ (codes ":" ++ (decimal fault.now.column ++ (codes ": " ++ (kind_name fault.now.kind ++ codes "\n")))))))) }
+{
+    let TextFault { line, column, kind } = *fault;
+    let kind = kind_name(kind);
+    format!(in alloc; "bad input: {word}:{line}:{column}: {kind}\n")
+}
+
+fn check_refused(alloc: Global, word: &str, fault: &CheckFault) -> Result<String, AllocError>
+    ensures { IfOk result (λ text. string_bytes text ≡ codes "bad input: " ++ (word.now ++ (codes ":" ++ (decimal fault.now.line ++ (codes ": " ++ (rule_name fault.now.rule ++ codes "\n")))))) }
+{
+    let CheckFault { rule, line } = *fault;
+    let rule = rule_name(rule);
+    format!(in alloc; "bad input: {word}:{line}: {rule}\n")
+}
+
+fn too_long(alloc: Global, word: &str) -> Result<String, AllocError>
+    ensures { IfOk result (λ text. string_bytes text ≡ codes "bad input: " ++ (word.now ++ codes ": longer than 1048576 bytes\n")) }
+{
+    format!(in alloc; "bad input: {word}: longer than 1048576 bytes\n")
+}
+
+fn not_built(alloc: Global, word: &str) -> Result<String, AllocError>
+    ensures { IfOk result (λ text. string_bytes text ≡ codes "bad input: " ++ (word.now ++ codes ": NotBuilt\n")) }
+{
+    format!(in alloc; "bad input: {word}: NotBuilt\n")
+}
+
+fn cannot_read(alloc: Global, word: &str) -> Result<String, AllocError>
+    ensures { IfOk result (λ text. string_bytes text ≡ codes "fault: cannot read " ++ (word.now ++ codes "\n")) }
+{
+    format!(in alloc; "fault: cannot read {word}\n")
+}
+
+fn equivalent(alloc: Global, nodes: u32) -> Result<String, AllocError>
+    ensures { IfOk result (λ text. string_bytes text ≡ codes "equivalent: " ++ (decimal nodes ++ codes " nodes\n")) }
+{
+    format!(in alloc; "equivalent: {nodes} nodes\n")
+}
+
+/// The line that an answer puts, where these words name the files.
+pub fn reply(alloc: Global, answer: &Answer, left: &str, right: &str) -> Result<Vec<u8>, AllocError>
+    ensures { IfOk result (λ bytes. bytes.items ≡ reply answer.now left.now right.now) }
+{
+    let text = match answer {
+        Answer::Stuck { output } => {
+            return with_name(
+                alloc,
+                "undecided: output ",
+                output,
+                " at start.0>done | start.0>done\n",
+            );
+        }
+        Answer::Interfaces { name } => {
+            return with_name(alloc, "bad input: interface: ", name, "\n");
+        }
+        Answer::Usage => String::from_str(alloc, USAGE)?,
+        Answer::Equivalent { nodes } => equivalent(alloc, *nodes)?,
+        Answer::Wide => String::from_str(
+            alloc,
+            "undecided: coefficient past 128 bits at start.0>done | start.0>done\n",
+        )?,
+        Answer::Large => String::from_str(
+            alloc,
+            "undecided: term too large at start.0>done | start.0>done\n",
+        )?,
+        Answer::TextRefused { file, fault } => {
+            text_refused(alloc, file_word(*file, left, right), fault)?
+        }
+        Answer::CheckRefused { file, fault } => {
+            check_refused(alloc, file_word(*file, left, right), fault)?
+        }
+        Answer::TooLong { file } => too_long(alloc, file_word(*file, left, right))?,
+        Answer::NotBuilt { file } => not_built(alloc, file_word(*file, left, right))?,
+        Answer::CannotRead { file } => cannot_read(alloc, file_word(*file, left, right))?,
+    };
+    Ok(text.into_bytes())
+}
