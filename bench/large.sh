@@ -4,6 +4,7 @@ set -eu
 cd "$(dirname "$0")/.."
 program=crates/fsmd/out/fsmd
 folder=${1:-$(mktemp -d)}
+mkdir -p "$folder"
 [ -x "$program" ] || { echo "build the program first: (cd crates/fsmd && rt run)"; exit 1; }
 
 # A chain of states, each with one assignment to one of many scalars.
@@ -26,7 +27,7 @@ long_line() { awk 'BEGIN {
     for (k = 0; k < 100000; k++) print "# filler"
   }'; }
 # Names without end.
-many_names() { awk 'BEGIN { printf "fsmd 1; local n0"; for (k = 1; k < 130000; k++) printf ", n%d", k; print "; reset s;" }'; }
+many_names() { awk 'BEGIN { printf "fsmd 1; local n0"; for (k = 1; k < 120000; k++) printf ", n%d", k; print "; reset s;" }'; }
 brackets() { awk 'BEGIN { printf "fsmd 1; output y; reset s; state s: goto s: y = "; for (k = 0; k < 1000000; k++) printf "("; }'; }
 
 chain 4096 125 > "$folder/chain.fsmd"
