@@ -1,0 +1,6 @@
+pub mod Signs
+pub mod Fit
+pub mod Lexed
+pub mod Counted
+pub mod Read
+pub mod Parts
