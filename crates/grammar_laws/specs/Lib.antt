@@ -1,0 +1,4 @@
+pub mod Spelling
+pub mod Walks
+pub mod Beginnings
+pub mod Faults

@@ -1,0 +1,75 @@
+//! What the reading of machine texts means by the grammar alone.
+//!
+//! `fs_grammar` says token by token how a text is read. Here the grammar is stated with no order
+//! of reading: which words spell which parts (`specs/Spelling`), and which words begin which rule
+//! (`specs/Beginnings`). Each function is a law, stated by its contract over all lists of tokens;
+//! it does nothing.
+#![tactic(auto)]
+
+ghost use Rattle.std.specs.Prelude.{◌≡◌, ℕ, List, [], ◌∷◌, ◌++◌, Some, None, Ok, Err};
+ghost use Rattle.fs_model.specs.declared.parts.Rel.{Rel};
+ghost use Rattle.fs_model.specs.Terms.{Term, Variable, Difference, Formula, Test, Not, And};
+ghost use Rattle.fs_model.specs.Source.{Source};
+ghost use Rattle.fs_grammar.specs.declared.fault.TextFault.{TextFault};
+ghost use Rattle.fs_grammar.specs.declared.token.TokenKind.{TokenKind};
+ghost use Rattle.fs_grammar.specs.declared.token.TokenKind.TheVariants.{Name, Minus, Bang, AndAnd, Relation};
+ghost use Rattle.fs_grammar.specs.declared.token.Token.{Token};
+ghost use Rattle.fs_grammar.specs.Grammar.{Owed, at_start, step, reading};
+ghost use Rattle.grammar_laws.specs.Spelling.{Word, at, IsSum, IsGuard, IsFile};
+ghost use Rattle.grammar_laws.specs.Walks.{walk};
+ghost use Rattle.grammar_laws.specs.Beginnings.{Rule, Part, IsAlternative, Spelled, AreSpelled, Begins, BeginsFile};
+ghost use Rattle.grammar_laws.specs.Faults.{Spells, StopsAt, IsEnded};
+
+/// A source that is read is spelled: the tokens up to the end spell it, and none of them is over.
+pub fn what_is_read_is_spelled()
+    ensures { (s : Source) (ts : List Token) → reading ts at_start ≡ Ok s → Spells s ts }
+{}
+
+/// A source that is spelled is read.
+pub fn what_is_spelled_is_read()
+    ensures { (s : Source) (ts : List Token) → Spells s ts → reading ts at_start ≡ Ok s }
+{}
+
+/// The fault is at the first token that is wrong, and says what is wrong with it. Tokens are ended
+/// where the last of them is the end, or faulty by itself, as those of a text are.
+pub fn the_fault_is_at_the_first_wrong_token()
+    ensures found { (f : TextFault) (ts : List Token) → IsEnded ts → reading ts at_start ≡ Err f → StopsAt ts f }
+    ensures only { (f : TextFault) (ts : List Token) → StopsAt ts f → reading ts at_start ≡ Err f }
+{}
+
+/// Words lead somewhere exactly where they begin a file, and a token can follow them exactly where
+/// the reading has a step for it.
+pub fn a_token_can_follow_where_there_is_a_step()
+    ensures leads { (ws : List Word) (s : Owed) → walk ws at_start ≡ Some s → BeginsFile ws }
+    ensures sticks { (ws : List Word) → walk ws at_start ≡ None → BeginsFile ws → ⊥ }
+    ensures follows { (ws : List Word) (s r : Owed) (n : ℕ) (t : TokenKind) → walk ws at_start ≡ Some s → step s n t ≡ Some r → BeginsFile (ws ++ at n t ∷ []) }
+    ensures fails { (ws : List Word) (s : Owed) (n : ℕ) (t : TokenKind) → walk ws at_start ≡ Some s → step s n t ≡ None → BeginsFile (ws ++ at n t ∷ []) → ⊥ }
+{}
+
+/// A text spells one source at most, and words spell one sum and one guard at most.
+pub fn a_text_spells_one_source()
+    ensures tokens { (s r : Source) (ts : List Token) → Spells s ts → Spells r ts → s ≡ r }
+    ensures words { (s r : Source) (ws : List Word) → IsFile s ws → IsFile r ws → s ≡ r }
+    ensures sums { (s r : Term (List ℕ)) (ws : List Word) → IsSum s ws → IsSum r ws → s ≡ r }
+    ensures guards { (g h : Formula (List ℕ)) (ws : List Word) → IsGuard g ws → IsGuard h ws → g ≡ h }
+{}
+
+/// Two examples of what is spelled: chains group to the left, as in `x - y - z`, and `!` binds more
+/// strongly than `&&` and takes a whole literal, as in `!x == y && x == z`.
+pub fn chains_group_to_the_left()
+    ensures sum { (n : ℕ) (x y z : List ℕ) → IsSum (Difference (Difference (Variable x) (Variable y)) (Variable z)) (at n (Name x) ∷ at n Minus ∷ at n (Name y) ∷ at n Minus ∷ at n (Name z) ∷ []) }
+    ensures guard { (n : ℕ) (r : Rel) (x y z : List ℕ) → IsGuard (And (Not (Test (record { relation = r; left = Variable x; right = Variable y }))) (Test (record { relation = r; left = Variable x; right = Variable z }))) (at n Bang ∷ at n (Name x) ∷ at n (Relation r) ∷ at n (Name y) ∷ at n AndAnd ∷ at n (Name x) ∷ at n (Relation r) ∷ at n (Name z) ∷ []) }
+{}
+
+/// A rule is spelled whole exactly by whole spellings of the parts of one of its alternatives.
+pub fn a_rule_is_spelled_by_its_alternatives()
+    ensures whole { (r : Rule) (ps : List Part) (ws : List Word) → IsAlternative r ps → AreSpelled ps ws → Spelled r ws }
+    ensures parts { (r : Rule) (ws : List Word) → Spelled r ws → (ps : List Part) × IsAlternative r ps × AreSpelled ps ws }
+{}
+
+/// What begins a rule is what can go on to a whole spelling of it: with some words behind it is
+/// one, and the words before any others of a whole spelling begin the rule.
+pub fn what_begins_a_rule_can_go_on()
+    ensures more { (r : Rule) (ws : List Word) → Begins r ws → (m : List Word) × Spelled r (ws ++ m) }
+    ensures front { (r : Rule) (a b : List Word) → Spelled r (a ++ b) → Begins r a }
+{}
