@@ -1,0 +1,6 @@
+pub mod OneBranch
+pub mod Branches
+pub mod Listed
+pub mod Loops
+pub mod Legs
+pub mod Cutting

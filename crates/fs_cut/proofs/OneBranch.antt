@@ -1,0 +1,67 @@
+-- A state with one branch has one transition, which has no guard.
+use Rattle.std.proofs.Common.{◌≡◌, ℕ, ◌+◌, ◌≤◌, List, [], ◌∷◌, ◌++◌, length, ap, sym, refl, ◌∙◌, arith, Option, Some, None, Bool, true, false, length-append}
+use Rattle.std.specs.Prelude.{not, ◌&&◌}
+use Rattle.std.specs.Option.{is_none}
+use Rattle.fs_model.specs.Terms.{Literal, Formula, Test, Not, And, Or, Line}
+use Rattle.fs_model.specs.Trees.{Tree, Empty, Leaf, Node, Branch, tree_of_formula, tree_of_guard, tree_of_lines, leaves, branches_of, count_leaves, negated}
+use Rattle.fs_ast.specs.Sound.{ends_open}
+
+pub length-leaves : (t : Tree) (way : List (Literal ℕ)) → length (leaves t way) ≡ count_leaves t
+length-leaves Empty way = refl
+length-leaves (Leaf actions target) way = refl
+length-leaves (Node l y n) way = omega (arith, length-append (leaves y (way ++ l ∷ [])) (leaves n (way ++ negated l ∷ [])), length-leaves y (way ++ l ∷ []), length-leaves n (way ++ negated l ∷ []))
+
+count-formula : (g : Formula ℕ) (y n : Tree) → count_leaves y + count_leaves n ≤ count_leaves (tree_of_formula g y n)
+count-formula (Test l) y n = omega arith
+count-formula (Not c) y n = omega (arith, count-formula c n y)
+count-formula (And c d) y n = omega (arith, count-formula c (tree_of_formula d y n) n, count-formula d y n)
+count-formula (Or c d) y n = omega (arith, count-formula c y (tree_of_formula d y n), count-formula d y n)
+
+count-guard : (o : Option (Formula ℕ)) (y n : Tree) → 1 ≤ count_leaves y → 1 ≤ count_leaves (tree_of_guard o y n)
+count-guard None y n h = h
+count-guard (Some g) y n h = omega (arith, count-formula g y n)
+
+count-guarded : (o : Option (Formula ℕ)) (y n : Tree) → is_none o ≡ false → count_leaves y + count_leaves n ≤ count_leaves (tree_of_guard o y n)
+count-guarded None y n h = absurd (cc)
+count-guarded (Some g) y n h = count-formula g y n
+
+open-guard : (o : Option (Formula ℕ)) → is_none o ≡ true → o ≡ None
+open-guard None h = refl
+open-guard (Some g) h = absurd (cc)
+
+not-true : (b c : Bool) → (not b && c) ≡ true → b ≡ false
+not-true true c h = absurd (cc)
+not-true false c h = refl
+
+and-right : (b c : Bool) → (b && c) ≡ true → c ≡ true
+and-right true c h = h
+and-right false c h = absurd (cc)
+
+pub count-lines : (ls : List (Line ℕ ℕ)) → ends_open ls ≡ true → 1 ≤ count_leaves (tree_of_lines ls)
+count-lines [] h = absurd (cc)
+count-lines (l ∷ []) h = count-guard l.guard (Leaf l.actions l.target) Empty (omega arith)
+count-lines (l ∷ k ∷ rest) h = count-guard l.guard (Leaf l.actions l.target) (tree_of_lines (k ∷ rest)) (omega arith)
+
+-- the one transition of a state with one branch
+pub record OnlyLine (ls : List (Line ℕ ℕ)) (b : Branch) : Type 0 where
+  pub line : Line ℕ ℕ
+  pub alone : ls ≡ line ∷ []
+  pub unguarded : line.guard ≡ None
+  pub actions : line.actions ≡ b.actions
+  pub target : line.target ≡ b.target
+
+pub only_line : (ls : List (Line ℕ ℕ)) (b : Branch) → ends_open ls ≡ true → branches_of ls ≡ b ∷ [] → OnlyLine ls b
+only_line [] b h e = absurd (cc)
+only_line (l ∷ []) b h e =
+    let g : l.guard ≡ None = open-guard l.guard h in
+    let f : branches_of (l ∷ []) ≡ record { literals = []; actions = l.actions; target = l.target } ∷ [] = ap (λ o. leaves (tree_of_guard o (Leaf l.actions l.target) Empty) []) g in
+    let same : record { literals = []; actions = l.actions; target = l.target } ≡ b = cc (sym f ∙ e) in
+    record { line = l; alone = refl; unguarded = g; actions = ap (λ x. x.actions) same; target = ap (λ x. x.target) same }
+only_line (l ∷ k ∷ rest) b h e =
+    absurd (omega (
+      arith,
+      ap length e,
+      length-leaves (tree_of_lines (l ∷ k ∷ rest)) [],
+      count-guarded l.guard (Leaf l.actions l.target) (tree_of_lines (k ∷ rest)) (not-true (is_none l.guard) (ends_open (k ∷ rest)) h),
+      count-lines (k ∷ rest) (and-right (not (is_none l.guard)) (ends_open (k ∷ rest)) h),
+    ))

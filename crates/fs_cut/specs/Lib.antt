@@ -1,0 +1,4 @@
+pub mod Paths
+pub mod Covers
+pub mod View
+pub mod Cuts
