@@ -1,10 +1,14 @@
 //! Machine texts, from their bytes to their parts.
 #![tactic(auto)]
 
-ghost use Rattle.std.specs.Prelude.{◌≡◌, ◌≤◌, length};
+ghost use Rattle.std.specs.Prelude.{◌≡◌, ◌≤◌, length, IsTrue, IfOk};
+ghost use Rattle.std.specs.Result.{IfErr};
 ghost use Rattle.fs_model.specs.View.{source_of};
+ghost use Rattle.fs_model.specs.WellFormed.{is_well_formed};
 ghost use Rattle.fs_grammar.specs.Tokens.{Gives};
-ghost use Rattle.fs_text.specs.Spelled.{spelled};
+ghost use Rattle.grammar_laws.specs.Faults.{Spells, StopsAt};
+ghost use Rattle.fs_lex.specs.Scan.{tokens_of};
+ghost use Rattle.fs_text.specs.Spelled.{spelled, IfText};
 
 mod guards;
 mod lines;
@@ -16,11 +20,15 @@ use fs_lex::tokens;
 use fs_model::parts::Parts;
 use std::alloc::Global;
 
-/// The parts that the bytes spell; at most 1,048,576 bytes are read. `Text` comes exactly where
-/// they spell none, with the place and kind of the first fault; `NoMemory` where there is none.
+/// The parts that the bytes spell, which are well formed; at most 1,048,576 bytes are read. `Text` comes
+/// exactly where they spell none: at the first token that is faulty or can follow in no file, with its line
+/// and column and what is wrong with it. `NoMemory` comes where there is none.
 pub fn read_parts(alloc: Global, bytes: &[u8]) -> Result<Parts, ReadError>
     requires { length bytes.now ≤ 1048576 }
-    ensures { Gives source_of result (spelled bytes.now) }
+    ensures read { Gives source_of result (spelled bytes.now) }
+    ensures spells { IfOk result (λ p. Spells (source_of p) (tokens_of bytes.now)) }
+    ensures well_formed { IfOk result (λ p. IsTrue (is_well_formed (source_of p))) }
+    ensures fault { IfErr result (λ e. IfText e (StopsAt (tokens_of bytes.now))) }
 {
     let tokens = tokens(alloc, bytes)?;
     states::parts(alloc, &tokens)

@@ -1,0 +1,29 @@
+-- What reading gives, by the grammar.
+use Rattle.std.proofs.Common.{ℕ, List}
+use Rattle.std.specs.Prelude.{Result, Ok, Err, IfOk, IsTrue}
+use Rattle.std.specs.Result.{IfErr}
+use Rattle.fs_model.specs.Source.{Source}
+use Rattle.fs_model.specs.WellFormed.{is_well_formed}
+use Rattle.fs_grammar.specs.declared.fault.ReadError.{ReadError}
+use Rattle.fs_grammar.specs.declared.fault.ReadError.TheVariants.{Text, NoMemory}
+use Rattle.fs_grammar.specs.Tokens.{Gives}
+use Rattle.fs_lex.specs.Scan.{tokens_of}
+use Rattle.grammar_laws.specs.Faults.{Spells, StopsAt}
+use Rattle.grammar_laws.proofs.Exact.{read_is_spelled, fault_is_first}
+use Rattle.text_laws.proofs.Read.{read_is_well_formed}
+use Rattle.fs_text.specs.Spelled.{spelled, IfText}
+use Rattle.fs_text.proofs.Ended.{tokens_end}
+
+module _ {P : Type 0} (view : P → Source) (bytes : List ℕ) where
+  pub spells : (r : Result P ReadError) → Gives view r (spelled bytes) → IfOk r (λ p. Spells (view p) (tokens_of bytes))
+  spells (Ok p) e = read_is_spelled (view p) (tokens_of bytes) e
+  spells (Err e) h = tt
+
+  pub well_formed : (r : Result P ReadError) → Gives view r (spelled bytes) → IfOk r (λ p. IsTrue (is_well_formed (view p)))
+  well_formed (Ok p) e = read_is_well_formed bytes (view p) e
+  well_formed (Err e) h = tt
+
+  pub fault : (r : Result P ReadError) → Gives view r (spelled bytes) → IfErr r (λ e. IfText e (StopsAt (tokens_of bytes)))
+  fault (Ok p) e = tt
+  fault (Err (Text f)) e = fault_is_first (tokens_of bytes) f (tokens_end bytes) e
+  fault (Err NoMemory) e = tt
