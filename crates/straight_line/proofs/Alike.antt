@@ -1,6 +1,6 @@
 -- Two symbolic runs with the same outputs give the same behaviour.
 use Rattle.std.proofs.Common.{◌≡◌, ℕ, zero, suc, List, [], ◌∷◌, ap, sym, refl, ◌∙◌, arith, Option, Some, None, Bool, true, false, subst, zero-add}
-use Rattle.std.specs.Prelude.{not, ◌&&◌, cond, slice_get, ℤ, pos}
+use Rattle.std.specs.Prelude.{Ok, not, ◌&&◌, cond, slice_get, ℤ, pos}
 use Rattle.std.specs.List.{slice_index_or}
 use Rattle.std.proofs.lemmas.Int.{ints}
 use Rattle.fs_model.specs.declared.parts.Role.{Role}
@@ -20,7 +20,8 @@ use Rattle.std.proofs.lemmas.Slice.Eq.{bytes_eq-Decides}
 use Rattle.straight_line.specs.Vectors.{store_in, LeadsTo, place_of, left_symbol, start_vector, first_difference}
 use Rattle.fs_ast.specs.Sound.{IsSound}
 use Rattle.straight_line.specs.Straight.{is_straight, has_scalars_only}
-use Rattle.straight_line.specs.Verdicts.{Executed}
+use Rattle.straight_line.specs.Execution.{Execution}
+use Rattle.straight_line.specs.Verdicts.{Executed, DiffersNowhere}
 use Rattle.straight_line.proofs.Names.{Lookup, Absent, Present, lookup, Compared, same_output, right_none, is_scalar}
 use Rattle.straight_line.proofs.Walks.{store_ext, straight_scalars}
 
@@ -125,14 +126,27 @@ same_behaviour a b left right c x =
       back = λ ins outs n r. other_run a.variables b a right left ins outs n kb ka x.right_run x.left_run (λ name. same_output a b left right (given a.variables ins) (start a ins).array (start b ins).array name c) r;
     }
 
--- the same, from what a comparison finds
+-- ---- the same, from what a comparison finds
+no_difference : (a b : Fsmd) (ws xs : List VarInfo) (left l right r : List Polynomial) → ws ≡ a.variables → xs ≡ b.variables → l ≡ left → r ≡ right
+    → first_difference ws l xs r ≡ None → first_difference a.variables left b.variables right ≡ None
+no_difference a b ws xs left l right r ew ex el er d =
+    subst (λ z. first_difference a.variables left b.variables z ≡ None) er (subst (λ z. first_difference a.variables left z r ≡ None) ex
+    (subst (λ z. first_difference a.variables z xs r ≡ None) el (subst (λ z. first_difference z l xs r ≡ None) ew d)))
+
 pub concluded : (a b : Fsmd) (us vs ws xs : List VarInfo) (left l right r : List Polynomial) → IsSound a → IsSound b → is_straight a ≡ true → is_straight b ≡ true → interface_fault a b ≡ None
     → us ≡ a.variables → vs ≡ a.variables → ws ≡ a.variables → xs ≡ b.variables → l ≡ left → r ≡ right
     → LeadsTo a (start_vector us a.variables) left → LeadsTo b (start_vector vs b.variables) right → first_difference ws l xs r ≡ None → SameBehaviour a b
 concluded a b us vs ws xs left l right r sa sb pa pb faces eu ev ew ex el er la lb d =
-    let same : first_difference a.variables left b.variables right ≡ None =
-    subst (λ z. first_difference a.variables left b.variables z ≡ None) er (subst (λ z. first_difference a.variables left z r ≡ None) ex
-    (subst (λ z. first_difference a.variables z xs r ≡ None) el (subst (λ z. first_difference z l xs r ≡ None) ew d))) in
     same_behaviour a b left right
-    (record { left_names = sa.variables_differ; right_names = sb.variables_differ; left_scalars = straight_scalars a pa; right_scalars = straight_scalars b pb; faces = faces; same = same })
+    (record { left_names = sa.variables_differ; right_names = sb.variables_differ; left_scalars = straight_scalars a pa; right_scalars = straight_scalars b pb; faces = faces; same = no_difference a b ws xs left l right r ew ex el er d })
     (record { left_run = subst (λ z. LeadsTo a (start_vector z a.variables) left) eu la; right_run = subst (λ z. LeadsTo b (start_vector z b.variables) right) ev lb })
+
+pub differs_nowhere : (a b : Fsmd) (us vs ws xs : List VarInfo) (left l right r : List Polynomial) → us ≡ a.variables → vs ≡ a.variables → ws ≡ a.variables → xs ≡ b.variables → l ≡ left → r ≡ right
+    → Execution us a (Ok left) → Execution vs b (Ok right) → first_difference ws l xs r ≡ None → DiffersNowhere a b
+differs_nowhere a b us vs ws xs left l right r eu ev ew ex el er la lb d = record {
+  left = left;
+  right = right;
+  left_ends = subst (λ z. Execution z a (Ok left)) eu la;
+  right_ends = subst (λ z. Execution z b (Ok right)) ev lb;
+  none = no_difference a b ws xs left l right r ew ex el er d;
+}

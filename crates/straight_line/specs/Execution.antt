@@ -1,5 +1,5 @@
 -- What symbolic execution gives: polynomials, or the event of the first operation that is past a limit.
-use Rattle.std.specs.Prelude.{◌≡◌, ℕ, zero, suc, ◌+◌, ◌*◌, ◌^◌, ◌==◌, Bool, true, false, ℤ, pos, neg_ℤ, List, [], ◌∷◌, length, Result, Ok, Err, MatchResult, IfOk, slice_set}
+use Rattle.std.specs.Prelude.{◌≡◌, ◌≢◌, ℕ, zero, suc, ◌+◌, ◌*◌, ◌^◌, ◌==◌, Bool, true, false, ℤ, pos, neg_ℤ, List, [], ◌∷◌, length, Result, Ok, Err, MatchResult, IfOk, slice_set}
 use Rattle.std.specs.List.{slice_index_or}
 use Rattle.fs_model.specs.declared.parts.VarInfo.{VarInfo}
 use Rattle.fs_model.specs.Terms.{Term, Number, Variable, Read, Sum, Difference, Product, Quotient, Remainder, Negative, Action, Assign, Write, Line}
@@ -46,15 +46,19 @@ Subtracts p q outcome = Operates p q (raw_difference p q) (weight_of p + weight_
 abbrev pub Multiplies : (p q : Polynomial) → Outcome Polynomial → Type 0
 Multiplies p q outcome = Operates p q (raw_product p q) (weight_of p * weight_of q) (size_of p * size_of q) outcome
 
+-- the least number of 128 bits, which weighs more than a polynomial may
+abbrev pub least_number : ℤ
+least_number = neg_ℤ (pos (2 ^ 127))
+
 -- a number is too wide only where it is the least of 128 bits
 abbrev pub NumberStops : ℤ → NfStop → Type 0
-NumberStops n (Wide left right) = (n ≡ neg_ℤ (pos (2 ^ 127))) × (left ≡ 2 ^ 127) × (right ≡ 0)
+NumberStops n (Wide left right) = (n ≡ least_number) × (left ≡ 2 ^ 127) × (right ≡ 0)
 NumberStops n (Large units depth) = ⊥
 NumberStops n NoMemory = Unit {0}
 
--- the polynomial of a number
+-- the polynomial of a number that is not too wide
 abbrev pub IsNumber : ℤ → Outcome Polynomial → Type 0
-IsNumber n outcome = MatchResult outcome (λ p. p ≡ polynomial_of_number n) (NumberStops n)
+IsNumber n outcome = MatchResult outcome (λ p. (n ≢ least_number) × (p ≡ polynomial_of_number n)) (NumberStops n)
 
 -- what a plain expression gives over a vector: the left operand, the right operand, and then the operation
 abbrev pub Evaluates : List Polynomial → Term ℕ → Outcome Polynomial → Type 0

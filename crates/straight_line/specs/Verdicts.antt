@@ -1,5 +1,5 @@
 -- What a comparison of two straight machines tells.
-use Rattle.std.specs.Prelude.{◌≡◌, ℕ, true, false, List, Some, Result, Ok, Err}
+use Rattle.std.specs.Prelude.{◌≡◌, ℕ, true, false, List, Some, None, Result, Ok, Err}
 use Rattle.fs_model.specs.Machines.{Fsmd}
 use Rattle.fs_model.specs.Runs.{SameBehaviour}
 use Rattle.nf_terms.specs.Terms.{Polynomial}
@@ -28,6 +28,14 @@ pub record DiffersAt (a b : Fsmd) (x : ℕ) : Type 0 where
   pub right_ends : Execution a.variables b (Ok right)
   pub first : first_difference a.variables left b.variables right ≡ Some x
 
+-- both executions end, and no output of the left machine has polynomials that differ
+pub record DiffersNowhere (a b : Fsmd) : Type 0 where
+  pub left : List Polynomial
+  pub right : List Polynomial
+  pub left_ends : Execution a.variables a (Ok left)
+  pub right_ends : Execution a.variables b (Ok right)
+  pub none : first_difference a.variables left b.variables right ≡ None
+
 -- the execution of a side's machine stops, and that of the left one, if it is the other, ends
 abbrev pub StopsOn : Side → Fsmd → Fsmd → NfStop → Type 0
 StopsOn Left a b stop = Execution a.variables a (Err stop)
@@ -39,9 +47,9 @@ stopped side (nf.Wide left right) = Ok (Wide side left right)
 stopped side (nf.Large units depth) = Ok (Large side units depth)
 stopped side nf.NoMemory = Err NoMemory
 
--- the same behaviour, the first output whose polynomials differ, or the first operation that is past a limit
+-- the same behaviour, with no output whose polynomials differ, or the first output whose polynomials differ, or the first operation that is past a limit
 abbrev pub Tells : Fsmd → Fsmd → Verdict → Type 0
-Tells a b Same = SameBehaviour a b
+Tells a b Same = SameBehaviour a b × DiffersNowhere a b
 Tells a b (Differs output) = DiffersAt a b output.0
 Tells a b (Wide side left right) = StopsOn side a b (nf.Wide left right)
 Tells a b (Large side units depth) = StopsOn side a b (nf.Large units depth)
