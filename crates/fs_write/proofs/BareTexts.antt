@@ -1,0 +1,503 @@
+-- A text without a bracket that it needs is the text of another term, or of another guard.
+use Rattle.std.proofs.Common.{◌≡◌, ℕ, ◌<◌, Bool, true, false, ◌||◌, cond, List, [], ◌++◌, length, codes, refl, sym, ap, ◌∙◌, append-nil, append_assoc, length-append, arith}
+use Rattle.fs_model.specs.Terms.{Term, Read, Sum, Difference, Product, Quotient, Remainder, Negative, Formula, Test, Not, And, Or}
+use Rattle.fs_model.specs.WellFormed.{is_sum, is_product, is_and, is_or}
+use Rattle.fs_write.specs.Canonical.{in_parens, in_braces, term_text, relation_text, formula_text}
+use Rattle.fs_write.specs.Bare.{BareTerm, sum_right, difference_right, product_left, product_right, quotient_left, quotient_right, remainder_left, remainder_right, under_minus, in_index, in_sum_left, in_sum_right, in_difference_left, in_difference_right, in_product_left, in_product_right, in_quotient_left, in_quotient_right, in_remainder_left, in_remainder_right, in_negative, BareGuard, under_not, and_left, and_right, or_right, in_test_left, in_test_right, in_not, in_and_left, in_and_right, in_or_left, in_or_right, IsTextOfAnother, IsTextOfAnotherGuard}
+
+-- ---- terms
+
+-- the term whose text is that of `a + t` without parentheses, where make t is `a + t`
+abbrev added : (Term (List ℕ) → Term (List ℕ)) → Term (List ℕ) → Term (List ℕ)
+added make (Sum c d) = Sum (added make c) d
+added make (Difference c d) = Difference (added make c) d
+added make t = make t
+
+added_text : (make : Term (List ℕ) → Term (List ℕ)) (before : List ℕ) → ((t : Term (List ℕ)) → is_sum t ≡ false → term_text (make t) ≡ before ++ term_text t) → (t : Term (List ℕ)) → term_text (added make t) ≡ before ++ term_text t
+added_text make before h (Sum c d) = ap (λ (w : List ℕ). w ++ (codes " + " ++ in_parens (is_sum d) (term_text d))) (added_text make before h c) ∙ append_assoc before (term_text c) _
+added_text make before h (Difference c d) = ap (λ (w : List ℕ). w ++ (codes " - " ++ in_parens (is_sum d) (term_text d))) (added_text make before h c) ∙ append_assoc before (term_text c) _
+added_text make before h t = h t refl
+
+-- the term whose text is that of `a * t` without parentheses round t, where make t is `a * t`
+abbrev hung : (Term (List ℕ) → Term (List ℕ)) → Term (List ℕ) → Term (List ℕ)
+hung make (Sum c d) = Sum (hung make c) d
+hung make (Difference c d) = Difference (hung make c) d
+hung make (Product c d) = Product (cond (is_sum c) (make c) (hung make c)) d
+hung make (Quotient c d) = Quotient (cond (is_sum c) (make c) (hung make c)) d
+hung make (Remainder c d) = Remainder (cond (is_sum c) (make c) (hung make c)) d
+hung make t = make t
+
+hung_no_sum : (make : Term (List ℕ) → Term (List ℕ)) → ((t : Term (List ℕ)) → is_sum (make t) ≡ false) → (t : Term (List ℕ)) → is_sum t ≡ false → is_sum (hung make t) ≡ false
+hung_no_sum make n (Sum c d) h = absurd cc
+hung_no_sum make n (Difference c d) h = absurd cc
+hung_no_sum make n (Product c d) h = refl
+hung_no_sum make n (Quotient c d) h = refl
+hung_no_sum make n (Remainder c d) h = refl
+hung_no_sum make n t h = n t
+
+-- the left operand of a product keeps its parentheses
+kept : (before : List ℕ) (c x y : Term (List ℕ)) (b : Bool) → is_sum c ≡ b → is_sum x ≡ false → (is_sum c ≡ false → is_sum y ≡ false) → term_text x ≡ before ++ in_parens (is_sum c || is_product c) (term_text c) → term_text y ≡ before ++ term_text c
+    → in_parens (is_sum (cond b x y)) (term_text (cond b x y)) ≡ before ++ in_parens b (term_text c)
+kept before c x y true e n m p q = rw n (append-nil (term_text x) ∙ p ∙ rw e refl)
+kept before c x y false e n m p q = rw (m e) (append-nil (term_text y) ∙ q ∙ rw (append-nil (term_text c)) refl)
+
+hung_text : (make : Term (List ℕ) → Term (List ℕ)) (before : List ℕ) → ((t : Term (List ℕ)) → is_sum (make t) ≡ false) → ((t : Term (List ℕ)) → term_text (make t) ≡ before ++ in_parens (is_sum t || is_product t) (term_text t)) → (t : Term (List ℕ))
+    → term_text (hung make t) ≡ before ++ term_text t
+hung_text make before n h (Sum c d) = ap (λ (w : List ℕ). w ++ (codes " + " ++ in_parens (is_sum d) (term_text d))) (hung_text make before n h c) ∙ append_assoc before (term_text c) _
+hung_text make before n h (Difference c d) = ap (λ (w : List ℕ). w ++ (codes " - " ++ in_parens (is_sum d) (term_text d))) (hung_text make before n h c) ∙ append_assoc before (term_text c) _
+hung_text make before n h (Product c d) =
+    ap (λ (w : List ℕ). w ++ (codes " * " ++ in_parens (is_sum d || is_product d) (term_text d))) (kept before c (make c) (hung make c) (is_sum c) refl (n c) (hung_no_sum make n c) (h c) (hung_text make before n h c))
+    ∙ append_assoc before (in_parens (is_sum c) (term_text c)) _
+hung_text make before n h (Quotient c d) =
+    ap (λ (w : List ℕ). w ++ (codes " / " ++ in_parens (is_sum d || is_product d) (term_text d))) (kept before c (make c) (hung make c) (is_sum c) refl (n c) (hung_no_sum make n c) (h c) (hung_text make before n h c))
+    ∙ append_assoc before (in_parens (is_sum c) (term_text c)) _
+hung_text make before n h (Remainder c d) =
+    ap (λ (w : List ℕ). w ++ (codes " % " ++ in_parens (is_sum d || is_product d) (term_text d))) (kept before c (make c) (hung make c) (is_sum c) refl (n c) (hung_no_sum make n c) (h c) (hung_text make before n h c))
+    ∙ append_assoc before (in_parens (is_sum c) (term_text c)) _
+hung_text make before n h t = h t ∙ ap (λ (w : List ℕ). before ++ w) (append-nil (term_text t))
+
+-- the text of `a * b` without parentheses round the sum a, where make d is `d * b`
+split_left : (make : Term (List ℕ) → Term (List ℕ)) (after : List ℕ) → ((d : Term (List ℕ)) → is_sum (make d) ≡ false) → ((d : Term (List ℕ)) → term_text (make d) ≡ in_parens (is_sum d) (term_text d) ++ after) → (a : Term (List ℕ)) → is_sum a ≡ true
+    → (u : Term (List ℕ)) × (term_text u ≡ term_text a ++ after) × ((is_sum u || is_product u) ≡ true)
+split_left make after n h (Sum c d) e =
+    (Sum c (make d), rw n (ap (λ (w : List ℕ). term_text c ++ (codes " + " ++ w)) (append-nil (term_text (make d)) ∙ h d) ∙ sym (append_assoc (term_text c) (codes " + " ++ in_parens (is_sum d) (term_text d)) after)), refl)
+split_left make after n h (Difference c d) e =
+    (Difference c (make d), rw n (ap (λ (w : List ℕ). term_text c ++ (codes " - " ++ w)) (append-nil (term_text (make d)) ∙ h d) ∙ sym (append_assoc (term_text c) (codes " - " ++ in_parens (is_sum d) (term_text d)) after)), refl)
+split_left make after n h _ e = absurd cc
+
+-- ---- another term with a shorter text
+
+abbrev is_compound : Term (List ℕ) → Bool
+is_compound t = is_sum t || is_product t
+
+-- a term with the text w, which is shorter than that of t; a sum where t is one, and a sum or a product where t is one of these
+record Other (t : Term (List ℕ)) (w : List ℕ) : Type 0 where
+  term : Term (List ℕ)
+  same : term_text term ≡ w
+  shorter : length w < length (term_text t)
+  sum : is_sum t ≡ true → is_sum term ≡ true
+  compound : is_compound t ≡ true → is_compound term ≡ true
+
+sum_compound : (t : Term (List ℕ)) → is_sum t ≡ true → is_compound t ≡ true
+sum_compound t e = rw e refl
+
+right_longer : (a op w : List ℕ) (b : Bool) → b ≡ true → length (a ++ (op ++ w)) < length (a ++ (op ++ in_parens b w))
+right_longer a op w true e = simp length-append (omega arith)
+right_longer a op w false e = absurd cc
+
+left_longer : (w rest : List ℕ) (b : Bool) → b ≡ true → length (w ++ rest) < length (in_parens b w ++ rest)
+left_longer w rest true e = simp length-append (omega arith)
+left_longer w rest false e = absurd cc
+
+right_shorter : (a op v w : List ℕ) (b : Bool) → length v < length w → length (a ++ (op ++ in_parens b v)) < length (a ++ (op ++ in_parens b w))
+right_shorter a op v w true h = simp length-append (omega arith)
+right_shorter a op v w false h = simp length-append (omega arith)
+
+left_shorter : (v w rest : List ℕ) (b : Bool) → length v < length w → length (in_parens b v ++ rest) < length (in_parens b w ++ rest)
+left_shorter v w rest true h = simp length-append (omega arith)
+left_shorter v w rest false h = simp length-append (omega arith)
+
+front_shorter : (v w rest : List ℕ) → length v < length w → length (v ++ rest) < length (w ++ rest)
+front_shorter v w rest h = simp length-append (omega arith)
+
+index_shorter : (x v w : List ℕ) → length v < length w → length (x ++ (codes "[" ++ (v ++ codes "]"))) < length (x ++ (codes "[" ++ (w ++ codes "]")))
+index_shorter x v w h = simp length-append (omega arith)
+
+added_is : (make : Term (List ℕ) → Term (List ℕ)) (a op : List ℕ) → ((t : Term (List ℕ)) → term_text (make t) ≡ a ++ (op ++ in_parens (is_sum t) (term_text t))) → (t : Term (List ℕ)) → term_text (added make t) ≡ a ++ (op ++ term_text t)
+added_is make a op h t = added_text make (a ++ op) (λ v e. h v ∙ rw (e, append-nil (term_text v)) (sym (append_assoc a op (term_text v)))) t ∙ append_assoc a op (term_text t)
+
+added_sum : (make : Term (List ℕ) → Term (List ℕ)) → ((t : Term (List ℕ)) → is_sum (make t) ≡ true) → (t : Term (List ℕ)) → is_sum (added make t) ≡ true
+added_sum make n (Sum c d) = refl
+added_sum make n (Difference c d) = refl
+added_sum make n t = n t
+
+hung_is : (make : Term (List ℕ) → Term (List ℕ)) (a op : List ℕ) → ((t : Term (List ℕ)) → is_sum (make t) ≡ false) → ((t : Term (List ℕ)) → term_text (make t) ≡ a ++ (op ++ in_parens (is_compound t) (term_text t))) → (t : Term (List ℕ)) → term_text (hung make t) ≡ a ++ (op ++ term_text t)
+hung_is make a op n h t = hung_text make (a ++ op) n (λ v. h v ∙ sym (append_assoc a op _)) t ∙ append_assoc a op (term_text t)
+
+hung_compound : (make : Term (List ℕ) → Term (List ℕ)) → ((t : Term (List ℕ)) → is_compound (make t) ≡ true) → (t : Term (List ℕ)) → is_compound (hung make t) ≡ true
+hung_compound make n (Sum c d) = refl
+hung_compound make n (Difference c d) = refl
+hung_compound make n (Product c d) = refl
+hung_compound make n (Quotient c d) = refl
+hung_compound make n (Remainder c d) = refl
+hung_compound make n t = n t
+
+-- ---- an operand changes
+
+-- on the right of a sum
+in_added : (make : Term (List ℕ) → Term (List ℕ)) (a op : List ℕ) → ((t : Term (List ℕ)) → term_text (make t) ≡ a ++ (op ++ in_parens (is_sum t) (term_text t))) → ((t : Term (List ℕ)) → is_sum (make t) ≡ true) → (b : Term (List ℕ)) (w : List ℕ) → Other b w → (k : Bool) → is_sum b ≡ k
+    → (u : Term (List ℕ)) × (term_text u ≡ a ++ (op ++ in_parens k w)) × (is_sum u ≡ true)
+in_added make a op h n b w o true e = (make o.term, h o.term ∙ rw (o.sum e, o.same) refl, n o.term)
+in_added make a op h n b w o false e = (added make o.term, added_is make a op h o.term ∙ rw (o.same, append-nil w) refl, added_sum make n o.term)
+
+-- on the right of a product, or under a minus
+in_hung : (make : Term (List ℕ) → Term (List ℕ)) (a op : List ℕ) → ((t : Term (List ℕ)) → is_sum (make t) ≡ false) → ((t : Term (List ℕ)) → term_text (make t) ≡ a ++ (op ++ in_parens (is_compound t) (term_text t))) → (b : Term (List ℕ)) (w : List ℕ) → Other b w → (k : Bool) → is_compound b ≡ k
+    → (u : Term (List ℕ)) × (term_text u ≡ a ++ (op ++ in_parens k w)) × (((t : Term (List ℕ)) → is_compound (make t) ≡ true) → is_compound u ≡ true)
+in_hung make a op n h b w o true e = (make o.term, h o.term ∙ rw (o.compound e, o.same) refl, λ c. c o.term)
+in_hung make a op n h b w o false e = (hung make o.term, hung_is make a op n h o.term ∙ rw (o.same, append-nil w) refl, λ c. hung_compound make c o.term)
+
+-- on the left of a product, where it has no parentheses
+in_bare_left : (make : Term (List ℕ) → Term (List ℕ)) (after : List ℕ) → ((d : Term (List ℕ)) → is_sum (make d) ≡ false) → ((d : Term (List ℕ)) → is_compound (make d) ≡ true) → ((d : Term (List ℕ)) → term_text (make d) ≡ in_parens (is_sum d) (term_text d) ++ after) → (v : Term (List ℕ)) (k : Bool) → is_sum v ≡ k
+    → (u : Term (List ℕ)) × (term_text u ≡ term_text v ++ after) × (is_compound u ≡ true)
+in_bare_left make after n c h v true e = let s = split_left make after n h v e in (s.0, s.1, s.2)
+in_bare_left make after n c h v false e = (make v, h v ∙ rw (e, append-nil (term_text v)) refl, c v)
+
+-- on the left of a product
+in_left : (make : Term (List ℕ) → Term (List ℕ)) (after : List ℕ) → ((d : Term (List ℕ)) → is_sum (make d) ≡ false) → ((d : Term (List ℕ)) → is_compound (make d) ≡ true) → ((d : Term (List ℕ)) → term_text (make d) ≡ in_parens (is_sum d) (term_text d) ++ after) → (a : Term (List ℕ)) (w : List ℕ) → Other a w → (k : Bool) → is_sum a ≡ k
+    → (u : Term (List ℕ)) × (term_text u ≡ in_parens k w ++ after) × (is_compound u ≡ true)
+in_left make after n c h a w o true e = (make o.term, h o.term ∙ rw (o.sum e, o.same) refl, c o.term)
+in_left make after n c h a w o false e = let s = in_bare_left make after n c h o.term (is_sum o.term) refl in (s.0, s.1 ∙ rw (o.same, append-nil w) refl, s.2)
+
+bare : (t : Term (List ℕ)) (text : List ℕ) → BareTerm t text → Other t text
+bare _ _ (sum_right a b e) = record {
+  term = added (λ v. Sum a v) b;
+  same = added_is (λ v. Sum a v) (term_text a) (codes " + ") (λ v. refl) b;
+  shorter = right_longer (term_text a) (codes " + ") (term_text b) (is_sum b) e;
+  sum = λ h. added_sum (λ v. Sum a v) (λ v. refl) b;
+  compound = λ h. sum_compound _ (added_sum (λ v. Sum a v) (λ v. refl) b);
+}
+bare _ _ (in_sum_left a b w d) = let o = bare a w d in record {
+  term = Sum o.term b;
+  same = ap (λ (v : List ℕ). v ++ (codes " + " ++ in_parens (is_sum b) (term_text b))) o.same;
+  shorter = front_shorter w (term_text a) _ o.shorter;
+  sum = λ h. refl;
+  compound = λ h. refl;
+}
+bare _ _ (in_sum_right a b w d) = let o = bare b w d in let s = in_added (λ v. Sum a v) (term_text a) (codes " + ") (λ v. refl) (λ v. refl) b w o (is_sum b) refl in record {
+  term = s.0;
+  same = s.1;
+  shorter = right_shorter (term_text a) (codes " + ") w (term_text b) (is_sum b) o.shorter;
+  sum = λ h. s.2;
+  compound = λ h. sum_compound s.0 s.2;
+}
+bare _ _ (difference_right a b e) = record {
+  term = added (λ v. Difference a v) b;
+  same = added_is (λ v. Difference a v) (term_text a) (codes " - ") (λ v. refl) b;
+  shorter = right_longer (term_text a) (codes " - ") (term_text b) (is_sum b) e;
+  sum = λ h. added_sum (λ v. Difference a v) (λ v. refl) b;
+  compound = λ h. sum_compound _ (added_sum (λ v. Difference a v) (λ v. refl) b);
+}
+bare _ _ (in_difference_left a b w d) = let o = bare a w d in record {
+  term = Difference o.term b;
+  same = ap (λ (v : List ℕ). v ++ (codes " - " ++ in_parens (is_sum b) (term_text b))) o.same;
+  shorter = front_shorter w (term_text a) _ o.shorter;
+  sum = λ h. refl;
+  compound = λ h. refl;
+}
+bare _ _ (in_difference_right a b w d) = let o = bare b w d in let s = in_added (λ v. Difference a v) (term_text a) (codes " - ") (λ v. refl) (λ v. refl) b w o (is_sum b) refl in record {
+  term = s.0;
+  same = s.1;
+  shorter = right_shorter (term_text a) (codes " - ") w (term_text b) (is_sum b) o.shorter;
+  sum = λ h. s.2;
+  compound = λ h. sum_compound s.0 s.2;
+}
+bare _ _ (product_left a b e) = let s = split_left (λ v. Product v b) (codes " * " ++ in_parens (is_sum b || is_product b) (term_text b)) (λ v. refl) (λ v. refl) a e in record {
+  term = s.0;
+  same = s.1;
+  shorter = left_longer (term_text a) _ (is_sum a) e;
+  sum = λ h. absurd cc;
+  compound = λ h. s.2;
+}
+bare _ _ (product_right a b e) = record {
+  term = hung (λ v. Product a v) b;
+  same = hung_is (λ v. Product a v) (in_parens (is_sum a) (term_text a)) (codes " * ") (λ v. refl) (λ v. refl) b;
+  shorter = right_longer (in_parens (is_sum a) (term_text a)) (codes " * ") (term_text b) (is_sum b || is_product b) e;
+  sum = λ h. absurd cc;
+  compound = λ h. hung_compound (λ v. Product a v) (λ v. refl) b;
+}
+bare _ _ (in_product_left a b w d) = let o = bare a w d in let s = in_left (λ v. Product v b) (codes " * " ++ in_parens (is_sum b || is_product b) (term_text b)) (λ v. refl) (λ v. refl) (λ v. refl) a w o (is_sum a) refl in record {
+  term = s.0;
+  same = s.1;
+  shorter = left_shorter w (term_text a) _ (is_sum a) o.shorter;
+  sum = λ h. absurd cc;
+  compound = λ h. s.2;
+}
+bare _ _ (in_product_right a b w d) = let o = bare b w d in let s = in_hung (λ v. Product a v) (in_parens (is_sum a) (term_text a)) (codes " * ") (λ v. refl) (λ v. refl) b w o (is_compound b) refl in record {
+  term = s.0;
+  same = s.1;
+  shorter = right_shorter (in_parens (is_sum a) (term_text a)) (codes " * ") w (term_text b) (is_compound b) o.shorter;
+  sum = λ h. absurd cc;
+  compound = λ h. s.2 (λ v. refl);
+}
+bare _ _ (quotient_left a b e) = let s = split_left (λ v. Quotient v b) (codes " / " ++ in_parens (is_sum b || is_product b) (term_text b)) (λ v. refl) (λ v. refl) a e in record {
+  term = s.0;
+  same = s.1;
+  shorter = left_longer (term_text a) _ (is_sum a) e;
+  sum = λ h. absurd cc;
+  compound = λ h. s.2;
+}
+bare _ _ (quotient_right a b e) = record {
+  term = hung (λ v. Quotient a v) b;
+  same = hung_is (λ v. Quotient a v) (in_parens (is_sum a) (term_text a)) (codes " / ") (λ v. refl) (λ v. refl) b;
+  shorter = right_longer (in_parens (is_sum a) (term_text a)) (codes " / ") (term_text b) (is_sum b || is_product b) e;
+  sum = λ h. absurd cc;
+  compound = λ h. hung_compound (λ v. Quotient a v) (λ v. refl) b;
+}
+bare _ _ (in_quotient_left a b w d) = let o = bare a w d in let s = in_left (λ v. Quotient v b) (codes " / " ++ in_parens (is_sum b || is_product b) (term_text b)) (λ v. refl) (λ v. refl) (λ v. refl) a w o (is_sum a) refl in record {
+  term = s.0;
+  same = s.1;
+  shorter = left_shorter w (term_text a) _ (is_sum a) o.shorter;
+  sum = λ h. absurd cc;
+  compound = λ h. s.2;
+}
+bare _ _ (in_quotient_right a b w d) = let o = bare b w d in let s = in_hung (λ v. Quotient a v) (in_parens (is_sum a) (term_text a)) (codes " / ") (λ v. refl) (λ v. refl) b w o (is_compound b) refl in record {
+  term = s.0;
+  same = s.1;
+  shorter = right_shorter (in_parens (is_sum a) (term_text a)) (codes " / ") w (term_text b) (is_compound b) o.shorter;
+  sum = λ h. absurd cc;
+  compound = λ h. s.2 (λ v. refl);
+}
+bare _ _ (remainder_left a b e) = let s = split_left (λ v. Remainder v b) (codes " % " ++ in_parens (is_sum b || is_product b) (term_text b)) (λ v. refl) (λ v. refl) a e in record {
+  term = s.0;
+  same = s.1;
+  shorter = left_longer (term_text a) _ (is_sum a) e;
+  sum = λ h. absurd cc;
+  compound = λ h. s.2;
+}
+bare _ _ (remainder_right a b e) = record {
+  term = hung (λ v. Remainder a v) b;
+  same = hung_is (λ v. Remainder a v) (in_parens (is_sum a) (term_text a)) (codes " % ") (λ v. refl) (λ v. refl) b;
+  shorter = right_longer (in_parens (is_sum a) (term_text a)) (codes " % ") (term_text b) (is_sum b || is_product b) e;
+  sum = λ h. absurd cc;
+  compound = λ h. hung_compound (λ v. Remainder a v) (λ v. refl) b;
+}
+bare _ _ (in_remainder_left a b w d) = let o = bare a w d in let s = in_left (λ v. Remainder v b) (codes " % " ++ in_parens (is_sum b || is_product b) (term_text b)) (λ v. refl) (λ v. refl) (λ v. refl) a w o (is_sum a) refl in record {
+  term = s.0;
+  same = s.1;
+  shorter = left_shorter w (term_text a) _ (is_sum a) o.shorter;
+  sum = λ h. absurd cc;
+  compound = λ h. s.2;
+}
+bare _ _ (in_remainder_right a b w d) = let o = bare b w d in let s = in_hung (λ v. Remainder a v) (in_parens (is_sum a) (term_text a)) (codes " % ") (λ v. refl) (λ v. refl) b w o (is_compound b) refl in record {
+  term = s.0;
+  same = s.1;
+  shorter = right_shorter (in_parens (is_sum a) (term_text a)) (codes " % ") w (term_text b) (is_compound b) o.shorter;
+  sum = λ h. absurd cc;
+  compound = λ h. s.2 (λ v. refl);
+}
+bare _ _ (under_minus a e) = record {
+  term = hung (λ v. Negative v) a;
+  same = hung_is (λ v. Negative v) [] (codes "-") (λ v. refl) (λ v. refl) a;
+  shorter = right_longer [] (codes "-") (term_text a) (is_sum a || is_product a) e;
+  sum = λ h. absurd cc;
+  compound = λ h. absurd cc;
+}
+bare _ _ (in_negative a w d) = let o = bare a w d in let s = in_hung (λ v. Negative v) [] (codes "-") (λ v. refl) (λ v. refl) a w o (is_compound a) refl in record {
+  term = s.0;
+  same = s.1;
+  shorter = right_shorter [] (codes "-") w (term_text a) (is_compound a) o.shorter;
+  sum = λ h. absurd cc;
+  compound = λ h. absurd cc;
+}
+bare _ _ (in_index x a w d) = let o = bare a w d in record {
+  term = Read x o.term;
+  same = ap (λ (v : List ℕ). x ++ (codes "[" ++ (v ++ codes "]"))) o.same;
+  shorter = index_shorter x w (term_text a) o.shorter;
+  sum = λ h. absurd cc;
+  compound = λ h. absurd cc;
+}
+
+pub bare_term : (t : Term (List ℕ)) (text : List ℕ) → BareTerm t text → IsTextOfAnother t text
+bare_term t text d =
+    let o = bare t text d in
+    (o.term, o.same, λ s. let same : length text ≡ length (term_text t) = ap length (sym o.same) ∙ ap (λ (v : Term (List ℕ)). length (term_text v)) s in omega (arith, o.shorter))
+
+-- ---- guards
+
+abbrev is_joined : Formula (List ℕ) → Bool
+is_joined g = is_and g || is_or g
+
+-- the guard whose text is that of `a || g` without braces, where make g is `a || g`
+abbrev joined_to : (Formula (List ℕ) → Formula (List ℕ)) → Formula (List ℕ) → Formula (List ℕ)
+joined_to make (Or c d) = Or (joined_to make c) d
+joined_to make g = make g
+
+joined_text : (make : Formula (List ℕ) → Formula (List ℕ)) (before : List ℕ) → ((g : Formula (List ℕ)) → is_or g ≡ false → formula_text (make g) ≡ before ++ formula_text g) → (g : Formula (List ℕ)) → formula_text (joined_to make g) ≡ before ++ formula_text g
+joined_text make before h (Or c d) = ap (λ (w : List ℕ). w ++ (codes " || " ++ in_braces (is_or d) (formula_text d))) (joined_text make before h c) ∙ append_assoc before (formula_text c) _
+joined_text make before h g = h g refl
+
+-- the guard whose text is that of `a && g` without braces round g, where make g is `a && g`
+abbrev met : (Formula (List ℕ) → Formula (List ℕ)) → Formula (List ℕ) → Formula (List ℕ)
+met make (Or c d) = Or (met make c) d
+met make (And c d) = And (cond (is_or c) (make c) (met make c)) d
+met make g = make g
+
+met_no_or : (make : Formula (List ℕ) → Formula (List ℕ)) → ((g : Formula (List ℕ)) → is_or (make g) ≡ false) → (g : Formula (List ℕ)) → is_or g ≡ false → is_or (met make g) ≡ false
+met_no_or make n (Or c d) h = absurd cc
+met_no_or make n (And c d) h = refl
+met_no_or make n g h = n g
+
+or_right_true : (a b : Bool) → b ≡ true → (a || b) ≡ true
+or_right_true true b e = refl
+or_right_true false b e = e
+
+-- the left operand of a conjunction keeps its braces
+kept_guard : (before : List ℕ) (c x y : Formula (List ℕ)) (b : Bool) → is_or c ≡ b → is_or x ≡ false → (is_or c ≡ false → is_or y ≡ false) → formula_text x ≡ before ++ in_braces (is_and c || is_or c) (formula_text c) → formula_text y ≡ before ++ formula_text c
+    → in_braces (is_or (cond b x y)) (formula_text (cond b x y)) ≡ before ++ in_braces b (formula_text c)
+kept_guard before c x y true e n m p q = let needed : (is_and c || is_or c) ≡ true = or_right_true (is_and c) (is_or c) e in rw n (append-nil (formula_text x) ∙ p ∙ rw needed refl)
+kept_guard before c x y false e n m p q = rw (m e) (append-nil (formula_text y) ∙ q ∙ rw (append-nil (formula_text c)) refl)
+
+met_text : (make : Formula (List ℕ) → Formula (List ℕ)) (before : List ℕ) → ((g : Formula (List ℕ)) → is_or (make g) ≡ false) → ((g : Formula (List ℕ)) → formula_text (make g) ≡ before ++ in_braces (is_and g || is_or g) (formula_text g)) → (g : Formula (List ℕ))
+    → formula_text (met make g) ≡ before ++ formula_text g
+met_text make before n h (Or c d) = ap (λ (w : List ℕ). w ++ (codes " || " ++ in_braces (is_or d) (formula_text d))) (met_text make before n h c) ∙ append_assoc before (formula_text c) _
+met_text make before n h (And c d) =
+    ap (λ (w : List ℕ). w ++ (codes " && " ++ in_braces (is_and d || is_or d) (formula_text d))) (kept_guard before c (make c) (met make c) (is_or c) refl (n c) (met_no_or make n c) (h c) (met_text make before n h c))
+    ∙ append_assoc before (in_braces (is_or c) (formula_text c)) _
+met_text make before n h g = h g ∙ ap (λ (w : List ℕ). before ++ w) (append-nil (formula_text g))
+
+-- a guard with the text w, which is shorter than that of g; an Or where g is one, and an And or an Or where g is one of these
+record OtherGuard (g : Formula (List ℕ)) (w : List ℕ) : Type 0 where
+  guard : Formula (List ℕ)
+  same : formula_text guard ≡ w
+  shorter : length w < length (formula_text g)
+  disjunction : is_or g ≡ true → is_or guard ≡ true
+  compound : is_joined g ≡ true → is_joined guard ≡ true
+
+or_joined : (g : Formula (List ℕ)) → is_or g ≡ true → is_joined g ≡ true
+or_joined g e = or_right_true (is_and g) (is_or g) e
+
+right_braced : (a op w : List ℕ) (b : Bool) → b ≡ true → length (a ++ (op ++ w)) < length (a ++ (op ++ in_braces b w))
+right_braced a op w true e = simp length-append (omega arith)
+right_braced a op w false e = absurd cc
+
+left_braced : (w rest : List ℕ) (b : Bool) → b ≡ true → length (w ++ rest) < length (in_braces b w ++ rest)
+left_braced w rest true e = simp length-append (omega arith)
+left_braced w rest false e = absurd cc
+
+right_less : (a op v w : List ℕ) (b : Bool) → length v < length w → length (a ++ (op ++ in_braces b v)) < length (a ++ (op ++ in_braces b w))
+right_less a op v w true h = simp length-append (omega arith)
+right_less a op v w false h = simp length-append (omega arith)
+
+left_less : (v w rest : List ℕ) (b : Bool) → length v < length w → length (in_braces b v ++ rest) < length (in_braces b w ++ rest)
+left_less v w rest true h = simp length-append (omega arith)
+left_less v w rest false h = simp length-append (omega arith)
+
+test_shorter : (a op v w : List ℕ) → length v < length w → length (a ++ (op ++ v)) < length (a ++ (op ++ w))
+test_shorter a op v w h = simp length-append (omega arith)
+
+joined_is : (make : Formula (List ℕ) → Formula (List ℕ)) (a op : List ℕ) → ((g : Formula (List ℕ)) → formula_text (make g) ≡ a ++ (op ++ in_braces (is_or g) (formula_text g))) → (g : Formula (List ℕ)) → formula_text (joined_to make g) ≡ a ++ (op ++ formula_text g)
+joined_is make a op h g = joined_text make (a ++ op) (λ v e. h v ∙ rw (e, append-nil (formula_text v)) (sym (append_assoc a op (formula_text v)))) g ∙ append_assoc a op (formula_text g)
+
+joined_or : (make : Formula (List ℕ) → Formula (List ℕ)) → ((g : Formula (List ℕ)) → is_or (make g) ≡ true) → (g : Formula (List ℕ)) → is_or (joined_to make g) ≡ true
+joined_or make n (Or c d) = refl
+joined_or make n g = n g
+
+met_is : (make : Formula (List ℕ) → Formula (List ℕ)) (a op : List ℕ) → ((g : Formula (List ℕ)) → is_or (make g) ≡ false) → ((g : Formula (List ℕ)) → formula_text (make g) ≡ a ++ (op ++ in_braces (is_joined g) (formula_text g))) → (g : Formula (List ℕ)) → formula_text (met make g) ≡ a ++ (op ++ formula_text g)
+met_is make a op n h g = met_text make (a ++ op) n (λ v. h v ∙ sym (append_assoc a op _)) g ∙ append_assoc a op (formula_text g)
+
+met_joined : (make : Formula (List ℕ) → Formula (List ℕ)) → ((g : Formula (List ℕ)) → is_joined (make g) ≡ true) → (g : Formula (List ℕ)) → is_joined (met make g) ≡ true
+met_joined make n (Or c d) = refl
+met_joined make n (And c d) = refl
+met_joined make n g = n g
+
+-- the text of `a && b` without braces round the Or a
+split_or : (a b : Formula (List ℕ)) → is_or a ≡ true → (u : Formula (List ℕ)) × (formula_text u ≡ formula_text a ++ (codes " && " ++ in_braces (is_joined b) (formula_text b))) × (is_joined u ≡ true)
+split_or (Or c d) b e =
+    (Or c (And d b), ap (λ (w : List ℕ). formula_text c ++ (codes " || " ++ w)) (append-nil (formula_text (And d b))) ∙ sym (append_assoc (formula_text c) (codes " || " ++ in_braces (is_or d) (formula_text d)) (codes " && " ++ in_braces (is_joined b) (formula_text b))), refl)
+split_or _ b e = absurd cc
+
+-- on the right of an Or
+in_joined : (make : Formula (List ℕ) → Formula (List ℕ)) (a op : List ℕ) → ((g : Formula (List ℕ)) → formula_text (make g) ≡ a ++ (op ++ in_braces (is_or g) (formula_text g))) → ((g : Formula (List ℕ)) → is_or (make g) ≡ true) → (b : Formula (List ℕ)) (w : List ℕ) → OtherGuard b w → (k : Bool) → is_or b ≡ k
+    → (u : Formula (List ℕ)) × (formula_text u ≡ a ++ (op ++ in_braces k w)) × (is_or u ≡ true)
+in_joined make a op h n b w o true e = (make o.guard, h o.guard ∙ rw (o.disjunction e, o.same) refl, n o.guard)
+in_joined make a op h n b w o false e = (joined_to make o.guard, joined_is make a op h o.guard ∙ rw (o.same, append-nil w) refl, joined_or make n o.guard)
+
+-- on the right of an And, or under a Not
+in_met : (make : Formula (List ℕ) → Formula (List ℕ)) (a op : List ℕ) → ((g : Formula (List ℕ)) → is_or (make g) ≡ false) → ((g : Formula (List ℕ)) → formula_text (make g) ≡ a ++ (op ++ in_braces (is_joined g) (formula_text g))) → (b : Formula (List ℕ)) (w : List ℕ) → OtherGuard b w → (k : Bool) → is_joined b ≡ k
+    → (u : Formula (List ℕ)) × (formula_text u ≡ a ++ (op ++ in_braces k w)) × (((g : Formula (List ℕ)) → is_joined (make g) ≡ true) → is_joined u ≡ true)
+in_met make a op n h b w o true e = (make o.guard, h o.guard ∙ rw (o.compound e, o.same) refl, λ c. c o.guard)
+in_met make a op n h b w o false e = (met make o.guard, met_is make a op n h o.guard ∙ rw (o.same, append-nil w) refl, λ c. met_joined make c o.guard)
+
+-- on the left of an And, where it has no braces
+in_bare_and : (v b : Formula (List ℕ)) (k : Bool) → is_or v ≡ k → (u : Formula (List ℕ)) × (formula_text u ≡ formula_text v ++ (codes " && " ++ in_braces (is_joined b) (formula_text b))) × (is_joined u ≡ true)
+in_bare_and v b true e = split_or v b e
+in_bare_and v b false e = (And v b, rw (e, append-nil (formula_text v)) refl, refl)
+
+-- on the left of an And
+in_and : (a b : Formula (List ℕ)) (w : List ℕ) → OtherGuard a w → (k : Bool) → is_or a ≡ k → (u : Formula (List ℕ)) × (formula_text u ≡ in_braces k w ++ (codes " && " ++ in_braces (is_joined b) (formula_text b))) × (is_joined u ≡ true)
+in_and a b w o true e = (And o.guard b, rw (o.disjunction e, o.same) refl, refl)
+in_and a b w o false e = let s = in_bare_and o.guard b (is_or o.guard) refl in (s.0, s.1 ∙ rw (o.same, append-nil w) refl, s.2)
+
+bare_formula : (g : Formula (List ℕ)) (text : List ℕ) → BareGuard g text → OtherGuard g text
+bare_formula _ _ (under_not a e) = record {
+  guard = met (λ v. Not v) a;
+  same = met_is (λ v. Not v) [] (codes "!") (λ v. refl) (λ v. refl) a;
+  shorter = right_braced [] (codes "!") (formula_text a) (is_and a || is_or a) e;
+  disjunction = λ h. absurd cc;
+  compound = λ h. absurd cc;
+}
+bare_formula _ _ (in_not a w d) = let o = bare_formula a w d in let s = in_met (λ v. Not v) [] (codes "!") (λ v. refl) (λ v. refl) a w o (is_joined a) refl in record {
+  guard = s.0;
+  same = s.1;
+  shorter = right_less [] (codes "!") w (formula_text a) (is_joined a) o.shorter;
+  disjunction = λ h. absurd cc;
+  compound = λ h. absurd cc;
+}
+bare_formula _ _ (and_left a b e) = let s = split_or a b e in record {
+  guard = s.0;
+  same = s.1;
+  shorter = left_braced (formula_text a) _ (is_or a) e;
+  disjunction = λ h. absurd cc;
+  compound = λ h. s.2;
+}
+bare_formula _ _ (and_right a b e) = record {
+  guard = met (λ v. And a v) b;
+  same = met_is (λ v. And a v) (in_braces (is_or a) (formula_text a)) (codes " && ") (λ v. refl) (λ v. refl) b;
+  shorter = right_braced (in_braces (is_or a) (formula_text a)) (codes " && ") (formula_text b) (is_and b || is_or b) e;
+  disjunction = λ h. absurd cc;
+  compound = λ h. met_joined (λ v. And a v) (λ v. refl) b;
+}
+bare_formula _ _ (in_and_left a b w d) = let o = bare_formula a w d in let s = in_and a b w o (is_or a) refl in record {
+  guard = s.0;
+  same = s.1;
+  shorter = left_less w (formula_text a) _ (is_or a) o.shorter;
+  disjunction = λ h. absurd cc;
+  compound = λ h. s.2;
+}
+bare_formula _ _ (in_and_right a b w d) = let o = bare_formula b w d in let s = in_met (λ v. And a v) (in_braces (is_or a) (formula_text a)) (codes " && ") (λ v. refl) (λ v. refl) b w o (is_joined b) refl in record {
+  guard = s.0;
+  same = s.1;
+  shorter = right_less (in_braces (is_or a) (formula_text a)) (codes " && ") w (formula_text b) (is_joined b) o.shorter;
+  disjunction = λ h. absurd cc;
+  compound = λ h. s.2 (λ v. refl);
+}
+bare_formula _ _ (or_right a b e) = record {
+  guard = joined_to (λ v. Or a v) b;
+  same = joined_is (λ v. Or a v) (formula_text a) (codes " || ") (λ v. refl) b;
+  shorter = right_braced (formula_text a) (codes " || ") (formula_text b) (is_or b) e;
+  disjunction = λ h. joined_or (λ v. Or a v) (λ v. refl) b;
+  compound = λ h. or_joined _ (joined_or (λ v. Or a v) (λ v. refl) b);
+}
+bare_formula _ _ (in_or_left a b w d) = let o = bare_formula a w d in record {
+  guard = Or o.guard b;
+  same = ap (λ (v : List ℕ). v ++ (codes " || " ++ in_braces (is_or b) (formula_text b))) o.same;
+  shorter = front_shorter w (formula_text a) _ o.shorter;
+  disjunction = λ h. refl;
+  compound = λ h. refl;
+}
+bare_formula _ _ (in_or_right a b w d) = let o = bare_formula b w d in let s = in_joined (λ v. Or a v) (formula_text a) (codes " || ") (λ v. refl) (λ v. refl) b w o (is_or b) refl in record {
+  guard = s.0;
+  same = s.1;
+  shorter = right_less (formula_text a) (codes " || ") w (formula_text b) (is_or b) o.shorter;
+  disjunction = λ h. s.2;
+  compound = λ h. or_joined s.0 s.2;
+}
+bare_formula _ _ (in_test_left r a b w d) = let o = bare a w d in record {
+  guard = Test (record { relation = r; left = o.term; right = b });
+  same = ap (λ (v : List ℕ). v ++ (relation_text r ++ term_text b)) o.same;
+  shorter = front_shorter w (term_text a) _ o.shorter;
+  disjunction = λ h. absurd cc;
+  compound = λ h. absurd cc;
+}
+bare_formula _ _ (in_test_right r a b w d) = let o = bare b w d in record {
+  guard = Test (record { relation = r; left = a; right = o.term });
+  same = ap (λ (v : List ℕ). term_text a ++ (relation_text r ++ v)) o.same;
+  shorter = test_shorter (term_text a) (relation_text r) w (term_text b) o.shorter;
+  disjunction = λ h. absurd cc;
+  compound = λ h. absurd cc;
+}
+
+pub bare_guard : (g : Formula (List ℕ)) (text : List ℕ) → BareGuard g text → IsTextOfAnotherGuard g text
+bare_guard g text d =
+    let o = bare_formula g text d in
+    (o.guard, o.same, λ s. let same : length text ≡ length (formula_text g) = ap length (sym o.same) ∙ ap (λ (v : Formula (List ℕ)). length (formula_text v)) s in omega (arith, o.shorter))

@@ -1,0 +1,10 @@
+pub mod Steps
+pub mod Ends
+pub mod Words
+pub mod Signs
+pub mod TermTexts
+pub mod GuardTexts
+pub mod LineTexts
+pub mod WholeTexts
+pub mod Again
+pub mod BareTexts

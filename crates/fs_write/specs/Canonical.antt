@@ -1,0 +1,113 @@
+-- The canonical text of the parts of a machine.
+use Rattle.std.specs.Prelude.{ℕ, Bool, ◌||◌, cond, Option, Some, None, List, [], ◌∷◌, ◌++◌, map, codes}
+use Rattle.std.specs.List.{flat_map}
+use Rattle.std.specs.Fmt.{signed_decimal}
+use Rattle.fs_model.specs.declared.parts.Rel.{Rel}
+use Rattle.fs_model.specs.declared.parts.Rel.TheVariants.{Eq, Ne, Lt, Le, Gt, Ge}
+use Rattle.fs_model.specs.declared.parts.Role.{Role}
+use Rattle.fs_model.specs.declared.parts.Role.TheVariants.{Input, Output, Local}
+use Rattle.fs_model.specs.declared.parts.Sort.{Sort}
+use Rattle.fs_model.specs.declared.parts.Sort.TheVariants as sorts
+use Rattle.fs_model.specs.Terms.{Term, Number, Variable, Read, Sum, Difference, Product, Quotient, Remainder, Negative, Formula, Test, Not, And, Or, Action, Assign, Write}
+use Rattle.fs_model.specs.Source.{Declaration, SourceLine, SourceState, Source}
+use Rattle.fs_model.specs.WellFormed.{is_sum, is_product, is_and, is_or}
+
+-- a bracket that stands only where it is needed
+abbrev pub bracket_text : Bool → List ℕ → List ℕ
+bracket_text needed bracket = cond needed bracket []
+
+-- a text in parentheses, where they are needed
+abbrev pub in_parens : Bool → List ℕ → List ℕ
+in_parens needed text = bracket_text needed (codes "(") ++ (text ++ bracket_text needed (codes ")"))
+
+-- a text in braces, where they are needed
+abbrev pub in_braces : Bool → List ℕ → List ℕ
+in_braces needed text = bracket_text needed (codes "{") ++ (text ++ bracket_text needed (codes "}"))
+
+-- an operator between two operands
+abbrev pub operator_text : Term (List ℕ) → List ℕ
+operator_text (Sum a b) = codes " + "
+operator_text (Difference a b) = codes " - "
+operator_text (Product a b) = codes " * "
+operator_text (Quotient a b) = codes " / "
+operator_text (Remainder a b) = codes " % "
+operator_text _ = []
+
+-- a term, with a space on each side of an operator between two operands
+abbrev pub term_text : Term (List ℕ) → List ℕ
+term_text (Number n) = signed_decimal n
+term_text (Variable x) = x
+term_text (Read x i) = x ++ (codes "[" ++ (term_text i ++ codes "]"))
+term_text (Sum a b) = term_text a ++ (codes " + " ++ in_parens (is_sum b) (term_text b))
+term_text (Difference a b) = term_text a ++ (codes " - " ++ in_parens (is_sum b) (term_text b))
+term_text (Product a b) = in_parens (is_sum a) (term_text a) ++ (codes " * " ++ in_parens (is_sum b || is_product b) (term_text b))
+term_text (Quotient a b) = in_parens (is_sum a) (term_text a) ++ (codes " / " ++ in_parens (is_sum b || is_product b) (term_text b))
+term_text (Remainder a b) = in_parens (is_sum a) (term_text a) ++ (codes " % " ++ in_parens (is_sum b || is_product b) (term_text b))
+term_text (Negative a) = codes "-" ++ in_parens (is_sum a || is_product a) (term_text a)
+
+-- a relation, with a space on each side
+abbrev pub relation_text : Rel → List ℕ
+relation_text Eq = codes " == "
+relation_text Ne = codes " != "
+relation_text Lt = codes " < "
+relation_text Le = codes " <= "
+relation_text Gt = codes " > "
+relation_text Ge = codes " >= "
+
+-- a guard
+abbrev pub formula_text : Formula (List ℕ) → List ℕ
+formula_text (Test l) = term_text l.left ++ (relation_text l.relation ++ term_text l.right)
+formula_text (Not g) = codes "!" ++ in_braces (is_and g || is_or g) (formula_text g)
+formula_text (And a b) = in_braces (is_or a) (formula_text a) ++ (codes " && " ++ in_braces (is_and b || is_or b) (formula_text b))
+formula_text (Or a b) = formula_text a ++ (codes " || " ++ in_braces (is_or b) (formula_text b))
+
+-- an assignment to a scalar, or to an array at an index
+abbrev pub action_text : Action (List ℕ) → List ℕ
+action_text (Assign x e) = x ++ (codes " = " ++ term_text e)
+action_text (Write x i e) = x ++ (codes "[" ++ (term_text i ++ (codes "] = " ++ term_text e)))
+
+-- a text that is not the first of a list
+abbrev pub after_comma : List ℕ → List ℕ
+after_comma text = codes ", " ++ text
+
+-- texts with commas between them
+abbrev pub listed : List (List ℕ) → List ℕ
+listed [] = []
+listed (text ∷ texts) = text ++ flat_map after_comma texts
+
+-- the end of a transition, up to its semicolon
+abbrev pub actions_text : List (Action (List ℕ)) → List ℕ
+actions_text [] = []
+actions_text (a ∷ actions) = codes ": " ++ listed (map action_text (a ∷ actions))
+
+-- what stands before goto
+abbrev pub guard_text : Option (Formula (List ℕ)) → List ℕ
+guard_text None = []
+guard_text (Some g) = codes "when " ++ (formula_text g ++ codes " ")
+
+-- a transition, on a line of its own that begins with two spaces
+abbrev pub line_text : SourceLine → List ℕ
+line_text l = codes "  " ++ (guard_text l.content.guard ++ (codes "goto " ++ (l.content.target ++ (actions_text l.content.actions ++ codes ";\n"))))
+
+-- a state's name on a line of its own, and its transitions
+abbrev pub state_text : SourceState → List ℕ
+state_text s = codes "state " ++ (s.name ++ (codes ":\n" ++ flat_map line_text s.lines))
+
+-- the word that begins a declaration
+abbrev pub role_text : Role → List ℕ
+role_text Input = codes "input "
+role_text Output = codes "output "
+role_text Local = codes "local "
+
+-- the word of a sort; that of scalars is none
+abbrev pub sort_text : Sort → List ℕ
+sort_text sorts.Scalar = []
+sort_text sorts.Array = codes "array "
+
+-- a declaration, on a line of its own
+abbrev pub declaration_text : Declaration → List ℕ
+declaration_text d = role_text d.role ++ (sort_text d.sort ++ (listed d.names ++ codes ";\n"))
+
+-- the text of a machine's parts
+abbrev pub canonical : Source → List ℕ
+canonical s = codes "fsmd 1;\n" ++ (flat_map declaration_text s.declarations ++ (codes "reset " ++ (s.reset ++ (codes ";\n" ++ flat_map state_text s.states))))

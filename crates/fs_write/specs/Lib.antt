@@ -1,0 +1,4 @@
+pub mod Canonical
+pub mod Spellable
+pub mod Relined
+pub mod Bare

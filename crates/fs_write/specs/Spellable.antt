@@ -1,0 +1,51 @@
+-- Parts over names and numbers that a text can spell.
+use Rattle.std.specs.Prelude.{ℕ, ◌^◌, Bool, true, ◌&&◌, pos, int_lt, Option, Some, None, List}
+use Rattle.std.specs.List.{list_all}
+use Rattle.fs_model.specs.Words.{is_name}
+use Rattle.fs_model.specs.Terms.{Term, Number, Variable, Read, Sum, Difference, Product, Quotient, Remainder, Negative, Formula, Test, Not, And, Or, Action, Assign, Write}
+use Rattle.fs_model.specs.Source.{Declaration, SourceLine, SourceState, Source}
+
+-- each name is a name, and no number is above 2^127 - 1
+abbrev pub is_spellable_term : Term (List ℕ) → Bool
+is_spellable_term (Number n) = int_lt n (pos (2 ^ 127))
+is_spellable_term (Variable x) = is_name x
+is_spellable_term (Read x i) = is_name x && is_spellable_term i
+is_spellable_term (Sum a b) = is_spellable_term a && is_spellable_term b
+is_spellable_term (Difference a b) = is_spellable_term a && is_spellable_term b
+is_spellable_term (Product a b) = is_spellable_term a && is_spellable_term b
+is_spellable_term (Quotient a b) = is_spellable_term a && is_spellable_term b
+is_spellable_term (Remainder a b) = is_spellable_term a && is_spellable_term b
+is_spellable_term (Negative a) = is_spellable_term a
+
+-- the same of a guard
+abbrev pub is_spellable_formula : Formula (List ℕ) → Bool
+is_spellable_formula (Test l) = is_spellable_term l.left && is_spellable_term l.right
+is_spellable_formula (Not g) = is_spellable_formula g
+is_spellable_formula (And a b) = is_spellable_formula a && is_spellable_formula b
+is_spellable_formula (Or a b) = is_spellable_formula a && is_spellable_formula b
+
+-- the same of an assignment
+abbrev pub is_spellable_action : Action (List ℕ) → Bool
+is_spellable_action (Assign x e) = is_name x && is_spellable_term e
+is_spellable_action (Write x i e) = is_name x && (is_spellable_term i && is_spellable_term e)
+
+-- the same of what may be a guard
+abbrev pub is_spellable_guard : Option (Formula (List ℕ)) → Bool
+is_spellable_guard None = true
+is_spellable_guard (Some g) = is_spellable_formula g
+
+-- the same of a transition
+abbrev pub is_spellable_line : SourceLine → Bool
+is_spellable_line l = is_spellable_guard l.content.guard && (is_name l.content.target && list_all is_spellable_action l.content.actions)
+
+-- the same of a state
+abbrev pub is_spellable_state : SourceState → Bool
+is_spellable_state s = is_name s.name && list_all is_spellable_line s.lines
+
+-- the same of a declaration
+abbrev pub is_spellable_declaration : Declaration → Bool
+is_spellable_declaration d = list_all is_name d.names
+
+-- each name of the parts is a name, and no number is above 2^127 - 1
+abbrev pub is_spellable : Source → Bool
+is_spellable s = list_all is_spellable_declaration s.declarations && (is_name s.reset && list_all is_spellable_state s.states)

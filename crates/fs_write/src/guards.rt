@@ -1,0 +1,87 @@
+//! The texts of guards.
+
+ghost use Rattle.std.specs.Prelude.{◌≡◌, ◌++◌, ◌||◌, IsTrue, OnOk, option_map};
+ghost use Rattle.fs_model.specs.View.{named_formula};
+ghost use Rattle.fs_model.specs.WellFormed.{is_and, is_or};
+ghost use Rattle.fs_write.specs.Canonical.{relation_text, formula_text, guard_text};
+ghost use Rattle.fs_write.specs.Spellable.{is_spellable_formula, is_spellable_guard};
+
+use crate::terms::{write_bracket, write_expr};
+use fs_model::parts::{Guard, Rel};
+use std::alloc::AllocError;
+
+fn relation(rel: Rel) -> &'static [u8]
+    ensures { result.now ≡ relation_text rel }
+{
+    match rel {
+        Rel::Eq => b" == ",
+        Rel::Ne => b" != ",
+        Rel::Lt => b" < ",
+        Rel::Le => b" <= ",
+        Rel::Gt => b" > ",
+        Rel::Ge => b" >= ",
+    }
+}
+
+fn is_and(guard: &Guard) -> bool
+    ensures { result ≡ is_and (named_formula guard.now) }
+{
+    matches!(guard, Guard::And(..))
+}
+
+fn is_or(guard: &Guard) -> bool
+    ensures { result ≡ is_or (named_formula guard.now) }
+{
+    matches!(guard, Guard::Or(..))
+}
+
+/// Writes a guard.
+fn write_guard(out: &mut Vec<u8>, guard: &Guard) -> Result<(), AllocError>
+    ensures text { OnOk result (out.new.items ≡ out.old.items ++ formula_text (named_formula guard.now)) }
+    ensures words { OnOk result (IsTrue (is_spellable_formula (named_formula guard.now))) }
+{
+    match guard {
+        Guard::Lit(literal) => {
+            write_expr(out, &literal.left)?;
+            out.extend_from_slice(relation(literal.rel))?;
+            write_expr(out, &literal.right)
+        }
+        Guard::Not(a) => {
+            let needed = is_and(a) || is_or(a);
+            out.extend_from_slice(b"!")?;
+            write_bracket(out, needed, b"{")?;
+            write_guard(out, a)?;
+            write_bracket(out, needed, b"}")
+        }
+        Guard::And(a, b) => {
+            write_bracket(out, is_or(a), b"{")?;
+            write_guard(out, a)?;
+            write_bracket(out, is_or(a), b"}")?;
+            out.extend_from_slice(b" && ")?;
+            let needed = is_and(b) || is_or(b);
+            write_bracket(out, needed, b"{")?;
+            write_guard(out, b)?;
+            write_bracket(out, needed, b"}")
+        }
+        Guard::Or(a, b) => {
+            write_guard(out, a)?;
+            out.extend_from_slice(b" || ")?;
+            write_bracket(out, is_or(b), b"{")?;
+            write_guard(out, b)?;
+            write_bracket(out, is_or(b), b"}")
+        }
+    }
+}
+
+/// Writes what stands before the target of a transition: its guard, or nothing.
+pub fn write_condition(out: &mut Vec<u8>, guard: &Option<Guard>) -> Result<(), AllocError>
+    ensures text { OnOk result (out.new.items ≡ out.old.items ++ guard_text (option_map named_formula guard.now)) }
+    ensures words { OnOk result (IsTrue (is_spellable_guard (option_map named_formula guard.now))) }
+{
+    let Some(guard) = guard else {
+        return Ok(());
+    };
+    out.extend_from_slice(b"when ")?;
+    write_guard(out, guard)?;
+    out.extend_from_slice(b" ")
+}

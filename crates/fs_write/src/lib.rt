@@ -1,0 +1,39 @@
+//! The canonical text of the parts of a machine.
+//!
+//! The text has a line for the head, each declaration, the reset state, each state and each
+//! transition, and parentheses and braces only where leaving them out would change the parts. The
+//! definitions stand in `specs/`.
+#![tactic(auto)]
+
+ghost use Rattle.std.specs.Prelude.{◌≡◌, IsTrue, IfOk, Ok};
+ghost use Rattle.fs_model.specs.View.{source_of};
+ghost use Rattle.fs_model.specs.WellFormed.{is_well_formed};
+ghost use Rattle.fs_grammar.specs.Grammar.{at_start, reading};
+ghost use Rattle.fs_lex.specs.Scan.{tokens_of};
+ghost use Rattle.fs_write.specs.Canonical.{canonical};
+ghost use Rattle.fs_write.specs.Relined.{relined};
+
+mod guards;
+pub mod laws;
+mod states;
+mod terms;
+#[cfg(test)]
+mod tests;
+
+use fs_model::name::NoMemory;
+use fs_model::parts::Parts;
+use std::alloc::Global;
+
+/// The canonical text of parts that a text can spell. Reading it gives the parts back, each with its
+/// line in this text. Takes time and memory in proportion to the text.
+pub fn write_parts(alloc: Global, parts: &Parts) -> Result<Vec<u8>, NoMemory>
+    requires { IsTrue (is_well_formed (source_of parts.now)) }
+    ensures text { IfOk result (λ bytes. bytes.items ≡ canonical (source_of parts.now)) }
+    ensures reads_back { IfOk result (λ bytes. reading (tokens_of bytes.items) at_start ≡ Ok (relined (source_of parts.now))) }
+{
+    let mut out = Vec::new(alloc);
+    match states::write_source(&mut out, parts) {
+        Ok(()) => Ok(out),
+        Err(_) => Err(NoMemory),
+    }
+}

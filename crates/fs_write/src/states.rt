@@ -1,0 +1,186 @@
+//! The texts of declarations, transitions and states.
+
+ghost use Rattle.std.specs.Prelude.{◌≡◌, ◌++◌, IsTrue, OnOk, codes, map};
+ghost use Rattle.std.specs.List.{flat_map, list_all};
+ghost use Rattle.fs_model.specs.Words.{is_name};
+ghost use Rattle.fs_model.specs.View.{named_action, declaration_of, source_line_of, source_state_of, source_of};
+ghost use Rattle.fs_write.specs.Canonical.{listed, after_comma, action_text, actions_text, line_text, state_text, role_text, sort_text, declaration_text, canonical};
+ghost use Rattle.fs_write.specs.Spellable.{is_spellable_action, is_spellable_line, is_spellable_state, is_spellable_declaration, is_spellable};
+
+use crate::guards::write_condition;
+use crate::terms::write_expr;
+use fs_model::name::Name;
+use fs_model::parts::{Assign, Decl, Parts, RawLine, RawState, Role, Sort};
+use std::alloc::AllocError;
+
+fn write_assign(out: &mut Vec<u8>, assign: &Assign<Name>) -> Result<(), AllocError>
+    ensures text { OnOk result (out.new.items ≡ out.old.items ++ action_text (named_action assign.now)) }
+    ensures words { OnOk result (IsTrue (is_spellable_action (named_action assign.now))) }
+{
+    match assign {
+        Assign::Set(name, value) => {
+            out.extend_from_slice(name.bytes())?;
+            out.extend_from_slice(b" = ")?;
+            write_expr(out, value)
+        }
+        Assign::Put(name, index, value) => {
+            out.extend_from_slice(name.bytes())?;
+            out.extend_from_slice(b"[")?;
+            write_expr(out, index)?;
+            out.extend_from_slice(b"] = ")?;
+            write_expr(out, value)
+        }
+    }
+}
+
+fn write_comma(out: &mut Vec<u8>) -> Result<(), AllocError>
+    ensures { OnOk result (out.new.items ≡ out.old.items ++ codes ", ") }
+{
+    out.extend_from_slice(b", ")
+}
+
+/// Writes the assignments after the first one.
+fn write_more_assigns(out: &mut Vec<u8>, assigns: &[Assign<Name>]) -> Result<(), AllocError>
+    ensures text { OnOk result (out.new.items ≡ out.old.items ++ flat_map after_comma (map action_text (map named_action assigns.now))) }
+    ensures words { OnOk result (IsTrue (list_all is_spellable_action (map named_action assigns.now))) }
+{
+    for assign in assigns {
+        write_comma(out)?;
+        write_assign(out, assign)?;
+    }
+    Ok(())
+}
+
+/// Writes the assignments of a transition, or nothing where it has none.
+fn write_assigns(out: &mut Vec<u8>, assigns: &[Assign<Name>]) -> Result<(), AllocError>
+    ensures text { OnOk result (out.new.items ≡ out.old.items ++ actions_text (map named_action assigns.now)) }
+    ensures words { OnOk result (IsTrue (list_all is_spellable_action (map named_action assigns.now))) }
+{
+    match assigns {
+        [] => Ok(()),
+        [first, rest @ ..] => {
+            out.extend_from_slice(b": ")?;
+            write_assign(out, first)?;
+            write_more_assigns(out, rest)
+        }
+    }
+}
+
+fn write_line(out: &mut Vec<u8>, line: &RawLine) -> Result<(), AllocError>
+    ensures text { OnOk result (out.new.items ≡ out.old.items ++ line_text (source_line_of line.now)) }
+    ensures words { OnOk result (IsTrue (is_spellable_line (source_line_of line.now))) }
+{
+    out.extend_from_slice(b"  ")?;
+    write_condition(out, &line.guard)?;
+    out.extend_from_slice(b"goto ")?;
+    out.extend_from_slice(line.target.bytes())?;
+    write_assigns(out, &line.assigns)?;
+    out.extend_from_slice(b";\n")
+}
+
+fn write_lines(out: &mut Vec<u8>, lines: &[RawLine]) -> Result<(), AllocError>
+    ensures text { OnOk result (out.new.items ≡ out.old.items ++ flat_map line_text (map source_line_of lines.now)) }
+    ensures words { OnOk result (IsTrue (list_all is_spellable_line (map source_line_of lines.now))) }
+{
+    for line in lines {
+        write_line(out, line)?;
+    }
+    Ok(())
+}
+
+fn write_state(out: &mut Vec<u8>, state: &RawState) -> Result<(), AllocError>
+    ensures text { OnOk result (out.new.items ≡ out.old.items ++ state_text (source_state_of state.now)) }
+    ensures words { OnOk result (IsTrue (is_spellable_state (source_state_of state.now))) }
+{
+    out.extend_from_slice(b"state ")?;
+    out.extend_from_slice(state.name.bytes())?;
+    out.extend_from_slice(b":\n")?;
+    write_lines(out, &state.lines)
+}
+
+fn write_states(out: &mut Vec<u8>, states: &[RawState]) -> Result<(), AllocError>
+    ensures text { OnOk result (out.new.items ≡ out.old.items ++ flat_map state_text (map source_state_of states.now)) }
+    ensures words { OnOk result (IsTrue (list_all is_spellable_state (map source_state_of states.now))) }
+{
+    for state in states {
+        write_state(out, state)?;
+    }
+    Ok(())
+}
+
+/// Writes the names after the first one.
+fn write_more_names(out: &mut Vec<u8>, names: &[Name]) -> Result<(), AllocError>
+    ensures text { OnOk result (out.new.items ≡ out.old.items ++ flat_map after_comma names.now) }
+    ensures words { OnOk result (IsTrue (list_all is_name names.now)) }
+{
+    for name in names {
+        write_comma(out)?;
+        out.extend_from_slice(name.bytes())?;
+    }
+    Ok(())
+}
+
+fn write_names(out: &mut Vec<u8>, names: &[Name]) -> Result<(), AllocError>
+    ensures text { OnOk result (out.new.items ≡ out.old.items ++ listed names.now) }
+    ensures words { OnOk result (IsTrue (list_all is_name names.now)) }
+{
+    match names {
+        [] => Ok(()),
+        [first, rest @ ..] => {
+            out.extend_from_slice(first.bytes())?;
+            write_more_names(out, rest)
+        }
+    }
+}
+
+fn role(role: Role) -> &'static [u8]
+    ensures { result.now ≡ role_text role }
+{
+    match role {
+        Role::Input => b"input ",
+        Role::Output => b"output ",
+        Role::Local => b"local ",
+    }
+}
+
+fn sort(sort: Sort) -> &'static [u8]
+    ensures { result.now ≡ sort_text sort }
+{
+    match sort {
+        Sort::Scalar => b"",
+        Sort::Array => b"array ",
+    }
+}
+
+fn write_declaration(out: &mut Vec<u8>, decl: &Decl) -> Result<(), AllocError>
+    ensures text { OnOk result (out.new.items ≡ out.old.items ++ declaration_text (declaration_of decl.now)) }
+    ensures words { OnOk result (IsTrue (is_spellable_declaration (declaration_of decl.now))) }
+{
+    out.extend_from_slice(role(decl.role))?;
+    out.extend_from_slice(sort(decl.sort))?;
+    write_names(out, &decl.names)?;
+    out.extend_from_slice(b";\n")
+}
+
+fn write_declarations(out: &mut Vec<u8>, decls: &[Decl]) -> Result<(), AllocError>
+    ensures text { OnOk result (out.new.items ≡ out.old.items ++ flat_map declaration_text (map declaration_of decls.now)) }
+    ensures words { OnOk result (IsTrue (list_all is_spellable_declaration (map declaration_of decls.now))) }
+{
+    for decl in decls {
+        write_declaration(out, decl)?;
+    }
+    Ok(())
+}
+
+/// Writes the whole text.
+pub fn write_source(out: &mut Vec<u8>, parts: &Parts) -> Result<(), AllocError>
+    ensures text { OnOk result (out.new.items ≡ out.old.items ++ canonical (source_of parts.now)) }
+    ensures words { OnOk result (IsTrue (is_spellable (source_of parts.now))) }
+{
+    out.extend_from_slice(b"fsmd 1;\n")?;
+    write_declarations(out, &parts.decls)?;
+    out.extend_from_slice(b"reset ")?;
+    out.extend_from_slice(parts.reset.bytes())?;
+    out.extend_from_slice(b";\n")?;
+    write_states(out, &parts.states)
+}

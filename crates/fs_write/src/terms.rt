@@ -1,0 +1,98 @@
+//! The texts of expressions.
+
+ghost use Rattle.std.specs.Prelude.{◌≡◌, ◌++◌, ◌^◌, ◌<ℤ◌, pos, IsTrue, OnOk};
+ghost use Rattle.std.specs.Fmt.{signed_decimal};
+ghost use Rattle.fs_model.specs.View.{named_term};
+ghost use Rattle.fs_model.specs.WellFormed.{is_sum, is_product};
+ghost use Rattle.fs_write.specs.Canonical.{bracket_text, operator_text, term_text};
+ghost use Rattle.fs_write.specs.Spellable.{is_spellable_term};
+
+use fs_model::name::Name;
+use fs_model::parts::Expr;
+use itoa::Buffer;
+use std::alloc::AllocError;
+
+/// Writes a bracket where it is needed.
+pub fn write_bracket(out: &mut Vec<u8>, needed: bool, bracket: &[u8]) -> Result<(), AllocError>
+    ensures { OnOk result (out.new.items ≡ out.old.items ++ bracket_text needed bracket.now) }
+{
+    if needed {
+        out.extend_from_slice(bracket)?;
+    }
+    Ok(())
+}
+
+fn write_number(out: &mut Vec<u8>, number: &i128) -> Result<(), AllocError>
+    ensures text { OnOk result (out.new.items ≡ out.old.items ++ signed_decimal number.now) }
+    ensures fits { number.now <ℤ pos (2 ^ 127) }
+{
+    let mut buffer = Buffer::new();
+    out.extend_from_slice(buffer.format(*number).as_bytes())
+}
+
+fn is_sum(expr: &Expr<Name>) -> bool
+    ensures { result ≡ is_sum (named_term expr.now) }
+{
+    matches!(expr, Expr::Add(..) | Expr::Sub(..))
+}
+
+fn is_product(expr: &Expr<Name>) -> bool
+    ensures { result ≡ is_product (named_term expr.now) }
+{
+    matches!(expr, Expr::Mul(..) | Expr::Div(..) | Expr::Rem(..))
+}
+
+/// The operator between two operands, and no bytes where there is none.
+fn operator(expr: &Expr<Name>) -> &'static [u8]
+    ensures { result.now ≡ operator_text (named_term expr.now) }
+{
+    match expr {
+        Expr::Add(..) => b" + ",
+        Expr::Sub(..) => b" - ",
+        Expr::Mul(..) => b" * ",
+        Expr::Div(..) => b" / ",
+        Expr::Rem(..) => b" % ",
+        _ => b"",
+    }
+}
+
+/// Writes an expression.
+pub fn write_expr(out: &mut Vec<u8>, expr: &Expr<Name>) -> Result<(), AllocError>
+    ensures text { OnOk result (out.new.items ≡ out.old.items ++ term_text (named_term expr.now)) }
+    ensures words { OnOk result (IsTrue (is_spellable_term (named_term expr.now))) }
+{
+    match expr {
+        Expr::Num(number) => write_number(out, number),
+        Expr::Var(name) => out.extend_from_slice(name.bytes()),
+        Expr::Read(name, index) => {
+            out.extend_from_slice(name.bytes())?;
+            out.extend_from_slice(b"[")?;
+            write_expr(out, index)?;
+            out.extend_from_slice(b"]")
+        }
+        Expr::Add(a, b) | Expr::Sub(a, b) => {
+            write_expr(out, a)?;
+            out.extend_from_slice(operator(expr))?;
+            write_bracket(out, is_sum(b), b"(")?;
+            write_expr(out, b)?;
+            write_bracket(out, is_sum(b), b")")
+        }
+        Expr::Mul(a, b) | Expr::Div(a, b) | Expr::Rem(a, b) => {
+            write_bracket(out, is_sum(a), b"(")?;
+            write_expr(out, a)?;
+            write_bracket(out, is_sum(a), b")")?;
+            out.extend_from_slice(operator(expr))?;
+            let needed = is_sum(b) || is_product(b);
+            write_bracket(out, needed, b"(")?;
+            write_expr(out, b)?;
+            write_bracket(out, needed, b")")
+        }
+        Expr::Neg(a) => {
+            let needed = is_sum(a) || is_product(a);
+            out.extend_from_slice(b"-")?;
+            write_bracket(out, needed, b"(")?;
+            write_expr(out, a)?;
+            write_bracket(out, needed, b")")
+        }
+    }
+}
