@@ -1,4 +1,5 @@
-//! Whether two machines with datapath have the same behaviour: `fsmd check A B`.
+//! Checks schedules: `check A B` tells whether two machines with datapath have the same behaviour, `fmt A` writes a
+//! machine's canonical text, and `cuts A` lists its paths.
 #![tactic(auto)]
 
 ghost use Rattle.std.specs.Prelude.{◌≡◌, ◌⊎◌};

@@ -1,3 +1,3 @@
 pub mod Outcomes
-pub mod Words
 pub mod Positions
+pub mod Listing

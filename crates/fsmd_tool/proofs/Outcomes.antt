@@ -1,48 +1,56 @@
 -- What a status tells of the answer.
-use Rattle.std.proofs.Common.{◌≡◌, ℕ, List, refl, sym, ◌∙◌, ap, subst, ◌++◌, codes, lit<}
+use Rattle.std.proofs.Common.{◌≡◌, ◌⊎◌, inl, inr, ℕ, List, IsTrue, Option, Some, None, refl, sym, ◌∙◌, ap, subst, ◌++◌, codes, lit<}
 use Rattle.std.proofs.lemmas.Fmt.{decimal_digit}
 use Rattle.fs_base.specs.Outside.{appended}
 use Rattle.fsmd_tool.specs.Replies.{reply}
 use Rattle.fs_base.specs.Outside.{Held, Untold, Nothing, Bytes}
 use Rattle.fs_model.specs.Runs.{SameBehaviour}
+use Rattle.straight_line.specs.Verdicts.{DiffersNowhere}
 use Rattle.fsmd_tool.specs.declared.answer.Operand.{Operand}
-use Rattle.fsmd_tool.specs.declared.answer.Operand.TheVariants.{Left, Right}
+use Rattle.fsmd_tool.specs.declared.answer.Operand.TheVariants.{First, Second}
 use Rattle.fsmd_tool.specs.declared.answer.Status.TheVariants.{Fine, Fault}
 use Rattle.fsmd_tool.specs.declared.answer.Answer.{Answer}
-use Rattle.fsmd_tool.specs.declared.answer.Answer.TheVariants.{Usage, Equivalent, Stuck, Wide, Large, TextRefused, CheckRefused, Interfaces, TooLong, NotBuilt, CannotRead}
+use Rattle.fsmd_tool.specs.declared.answer.Answer.TheVariants.{Usage, Equivalent, Text, Stuck, Wide, Large, TextRefused, CheckRefused, Interfaces, TooLong, NotBuilt, CannotRead}
 use Rattle.fsmd_tool.specs.Statuses.{status_of}
 use Rattle.fsmd_tool.specs.Puts.{Put, Whole, Cut}
-use Rattle.fsmd_tool.specs.Commands.{IsCheck}
-use Rattle.fsmd_tool.specs.Texts.{Told}
-use Rattle.fsmd_tool.specs.Answers.{Given, held, AreComparable, SpellPair, PairTold, IsDue, NoCommand, LeftRefused, RightRefused, Compared, Answered, SaysSame, HasCause, FileFailed, SinkFailed}
+use Rattle.fsmd_tool.specs.declared.command.Command.{Command}
+use Rattle.fsmd_tool.specs.declared.command.Command.TheVariants.{Check, Fmt, Cuts}
+use Rattle.fsmd_tool.specs.Commands.{command_of, names}
+use Rattle.fsmd_tool.specs.Texts.{Told, HasCanonicalText}
+use Rattle.fsmd_tool.specs.Paths.{HasPaths}
+use Rattle.fsmd_tool.specs.Answers.{Given, held, AreComparable, SpellPair, PairTold, FailedToRead, DueToTwo, FirstRefused, SecondRefused, Compared, DueToOne, Refused, Listed, IsDueTo, IsDue, Answered, SaysSame, HasCause, FileFailed, SinkFailed}
 
 told_map : (h : Held) (P Q : List ℕ → Type 0) → ((x : List ℕ) → P x → Q x) → Told h P → Told h Q
 told_map Untold P Q f t = tt
 told_map Nothing P Q f t = t
 told_map (Bytes x) P Q f t = f x t
 
-same_pair : (x y : List ℕ) → SpellPair (λ a b. AreComparable a b × SameBehaviour a b) x y → SpellPair SameBehaviour x y
+same_pair : (x y : List ℕ) → SpellPair (λ a b. AreComparable a b × SameBehaviour a b × DiffersNowhere a b) x y → SpellPair SameBehaviour x y
 same_pair x y p = record { a = p.a; b = p.b; left = p.left; right = p.right; meet = p.meet.1 }
 
 -- what is due where the answer is `equivalent`
 record DueSame (g : Given) (nodes : ℕ) : Type 0 where
-  check : IsCheck g.words
   two : nodes ≡ 2
   same : PairTold g SameBehaviour
 
-due_same : (g : Given) (nodes : ℕ) → IsDue g (Equivalent nodes) → DueSame g nodes
-due_same g nodes (NoCommand other e) = cc
-due_same g nodes (LeftRefused is_check h) = absurd h
-due_same g nodes (RightRefused is_check left h) = absurd h
-due_same g nodes (Compared is_check two told) = record {
-  check = is_check;
+due_same : (g : Given) (nodes : ℕ) → DueToTwo g (Equivalent nodes) → DueSame g nodes
+due_same g nodes (FirstRefused h) = absurd h
+due_same g nodes (SecondRefused first h) = absurd h
+due_same g nodes (Compared two told) = record {
   two = two;
-  same = told_map (held g Left) _ _ (λ x. told_map (held g Right) _ _ (same_pair x)) told;
+  same = told_map (held g First) _ _ (λ x. told_map (held g Second) _ _ (same_pair x)) told;
 }
 
-fine_answer : (answer : Answer) → status_of answer ≡ Fine → (nodes : ℕ) × (answer ≡ Equivalent nodes)
+-- a question about two machines is answered by no text
+due_text : (g : Given) (answer : Answer) (lines : _) → answer ≡ Text lines → DueToTwo g answer → ⊥
+due_text g answer lines t (FirstRefused h) = rw t at h
+due_text g answer lines t (SecondRefused first h) = rw t at h
+due_text g answer lines t (Compared verdict told) = rw t at verdict
+
+fine_answer : (answer : Answer) → status_of answer ≡ Fine → ((nodes : ℕ) × (answer ≡ Equivalent nodes)) ⊎ ((lines : _) × (answer ≡ Text lines))
 fine_answer Usage e = cc
-fine_answer (Equivalent nodes) e = (nodes, refl)
+fine_answer (Equivalent nodes) e = inl (nodes, refl)
+fine_answer (Text lines) e = inr (lines, refl)
 fine_answer (Stuck output) e = cc
 fine_answer Wide e = cc
 fine_answer Large e = cc
@@ -56,6 +64,7 @@ fine_answer (CannotRead file) e = cc
 fault_answer : (answer : Answer) → status_of answer ≡ Fault → (file : Operand) × (answer ≡ CannotRead file)
 fault_answer Usage e = cc
 fault_answer (Equivalent nodes) e = cc
+fault_answer (Text lines) e = cc
 fault_answer (Stuck output) e = cc
 fault_answer Wide e = cc
 fault_answer Large e = cc
@@ -66,22 +75,33 @@ fault_answer (TooLong file) e = cc
 fault_answer (NotBuilt file) e = cc
 fault_answer (CannotRead file) e = (file, refl)
 
-due_fault : (g : Given) (p : Put) (file : Operand) → IsDue g (CannotRead file) → HasCause g p
-due_fault g p file (NoCommand other e) = cc
-due_fault g p file (LeftRefused is_check h) = FileFailed Left is_check h.1
-due_fault g p file (RightRefused is_check left h) = FileFailed Right is_check h.1
-due_fault g p file (Compared is_check never told) = absurd never
+of_one : (P : (text bytes : List ℕ) → Type 0) (g : Given) (file : Operand) → DueToOne P g (CannotRead file) → (file ≡ First) × FailedToRead g First
+of_one P g file (Refused h) = h
+of_one P g file (Listed never told) = absurd never
 
-same_line : (answer : Answer) (nodes : ℕ) (left right : List ℕ) → answer ≡ Equivalent nodes → nodes ≡ 2 → reply answer left right ≡ codes "equivalent: 2 nodes\n"
-same_line answer nodes left right e two =
-    ap (λ a. reply a left right) (e ∙ ap Equivalent two) ∙ ap (λ d. codes "equivalent: " ++ (d ++ codes " nodes\n")) (decimal_digit 2 (lit< tt))
+of_two : (g : Given) (p : Put) (c : Command) (file : Operand) → command_of g.words ≡ Some c → ((f : Operand) → IsTrue (names c f)) → DueToTwo g (CannotRead file) → HasCause g p
+of_two g p c file is named (FirstRefused h) = FileFailed c First is (named First) h.1
+of_two g p c file is named (SecondRefused first h) = FileFailed c Second is (named Second) h.1
+of_two g p c file is named (Compared never told) = absurd never
 
-pub says_same : (g : Given) (p : Put) → Answered g p → p.status ≡ Fine → SaysSame g p
-says_same g p a e = elim a.put [
-  | Whole w ↦
-      let fine = fine_answer a.answer (sym w.status ∙ e) in
-      let due = due_same g fine.0 (subst (IsDue g) fine.1 a.due) in
-      record { check = due.check; same = due.same; put = w.got ∙ ap (appended p.got_before) (same_line a.answer fine.0 _ _ fine.1 due.two) }
+due_fault : (o : Option Command) (g : Given) (p : Put) (file : Operand) → command_of g.words ≡ o → IsDueTo o g (CannotRead file) → HasCause g p
+due_fault None g p file is e = cc
+due_fault (Some Check) g p file is d = of_two g p Check file is (λ f. refl) d
+due_fault (Some Fmt) g p file is d = FileFailed Fmt First is refl (of_one HasCanonicalText g file d).1
+due_fault (Some Cuts) g p file is d = FileFailed Cuts First is refl (of_one HasPaths g file d).1
+
+same_line : (answer : Answer) (nodes : ℕ) (words : List (List ℕ)) → answer ≡ Equivalent nodes → nodes ≡ 2 → reply answer words ≡ codes "equivalent: 2 nodes\n"
+same_line answer nodes words e two =
+    ap (λ a. reply a words) (e ∙ ap Equivalent two) ∙ ap (λ d. codes "equivalent: " ++ (d ++ codes " nodes\n")) (decimal_digit 2 (lit< tt))
+
+pub says_same : (g : Given) (p : Put) → Answered g p → p.status ≡ Fine → command_of g.words ≡ Some Check → SaysSame g p
+says_same g p a e check = elim a.put [
+  | Whole w ↦ elim (fine_answer a.answer (sym w.status ∙ e)) [
+    | inl fine ↦
+        let due = due_same g fine.0 (subst (λ o. IsDueTo o g (Equivalent fine.0)) check (subst (IsDue g) fine.1 a.due)) in
+        record { same = due.same; put = w.got ∙ ap (appended p.got_before) (same_line a.answer fine.0 g.words fine.1 due.two) }
+    | inr text ↦ absurd (due_text g a.answer text.0 text.1 (subst (λ o. IsDueTo o g a.answer) check a.due))
+  ]
   | Cut w ↦ absurd (let x : Fault ≡ Fine = sym w.status ∙ e in cc)
 ]
 
@@ -89,6 +109,6 @@ pub has_cause : (g : Given) (p : Put) → Answered g p → p.status ≡ Fault �
 has_cause g p a e = elim a.put [
   | Whole w ↦
       let fault = fault_answer a.answer (sym w.status ∙ e) in
-      due_fault g p fault.0 (subst (IsDue g) fault.1 a.due)
+      due_fault (command_of g.words) g p fault.0 refl (subst (IsDue g) fault.1 a.due)
   | Cut w ↦ SinkFailed w.failed
 ]

@@ -1,5 +1,5 @@
 -- A position in a list is below its length.
-use Rattle.std.proofs.Common.{◌≡◌, ◌<◌, ◌+◌, ℕ, Bool, true, false, cond, List, [], ◌∷◌, length, Option, Some, None, arith}
+use Rattle.std.proofs.Common.{◌≡◌, ◌<◌, ◌+◌, ℕ, Bool, true, false, cond, List, [], ◌∷◌, length, Option, Some, arith}
 use Rattle.std.specs.List.{position_from}
 
 first_or_later : (b : Bool) (i n x : ℕ) (later : Option ℕ) → (later ≡ Some x → x < i + 1 + n) → cond b (Some i) later ≡ Some x → x < i + (n + 1)

@@ -1,5 +1,5 @@
 -- Which answers are due to the words of a command and to what its files hold.
-use Rattle.std.specs.Prelude.{◌≡◌, ℕ, true, false, List, Some, None, option_map, slice_get, codes}
+use Rattle.std.specs.Prelude.{◌≡◌, ℕ, IsTrue, true, false, List, Option, Some, None, option_map, slice_get, codes}
 use Rattle.fs_base.specs.Outside.{Held, Rose, appended}
 use Rattle.fs_model.specs.Machines.{Fsmd}
 use Rattle.fs_model.specs.Runs.{SameBehaviour}
@@ -7,17 +7,20 @@ use Rattle.fs_pair.specs.Faces.{interface_fault}
 use Rattle.nf_terms.specs.declared.tree.Side.{Side}
 use Rattle.nf_terms.specs.declared.stop.NfStop.TheVariants as stops
 use Rattle.straight_line.specs.Straight.{is_straight}
-use Rattle.straight_line.specs.Verdicts.{DiffersAt, StopsOn}
+use Rattle.straight_line.specs.Verdicts.{DiffersAt, DiffersNowhere, StopsOn}
 use Rattle.fsmd_tool.specs.declared.answer.Operand.{Operand}
-use Rattle.fsmd_tool.specs.declared.answer.Operand.TheVariants.{Left, Right}
+use Rattle.fsmd_tool.specs.declared.answer.Operand.TheVariants.{First, Second}
 use Rattle.fsmd_tool.specs.declared.answer.Status.TheVariants.{NoMemory}
+use Rattle.fsmd_tool.specs.declared.command.Command.{Command}
+use Rattle.fsmd_tool.specs.declared.command.Command.TheVariants.{Check, Fmt, Cuts}
 use Rattle.fsmd_tool.specs.declared.answer.Answer.{Answer}
-use Rattle.fsmd_tool.specs.declared.answer.Answer.TheVariants.{Usage, Equivalent, Stuck, Wide, Large, TextRefused, CheckRefused, Interfaces, TooLong, NotBuilt, CannotRead}
+use Rattle.fsmd_tool.specs.declared.answer.Answer.TheVariants.{Usage, Equivalent, Text, Stuck, Wide, Large, TextRefused, CheckRefused, Interfaces, TooLong, NotBuilt, CannotRead}
 use Rattle.fsmd_tool.specs.Statuses.{status_of}
 use Rattle.fsmd_tool.specs.Replies.{reply}
+use Rattle.fsmd_tool.specs.Paths.{HasPaths}
 use Rattle.fsmd_tool.specs.Puts.{Put, IsPut}
-use Rattle.fsmd_tool.specs.Commands.{word_of, IsCheck}
-use Rattle.fsmd_tool.specs.Texts.{Told, Spells, IsMachine, IsTooLong, HasTextFault, HasCheckFault}
+use Rattle.fsmd_tool.specs.Commands.{word_of, command_of, names}
+use Rattle.fsmd_tool.specs.Texts.{Told, Spells, HasCanonicalText, IsMachine, IsTooLong, HasTextFault, HasCheckFault}
 
 -- the words of a call, what each name held at its begin, and how often each had failed to be read before and at its end
 pub record Given : Type 0 where
@@ -71,12 +74,12 @@ pub record IsPastSize (a b : Fsmd) : Type 0 where
   pub depth : ℕ
   pub stops : StopsOn side a b (stops.Large units depth)
 
--- an answer that is due to two machines
+-- an answer that is due to two machines; `equivalent` only where both executions end and no output's polynomials differ
 abbrev pub IsOfPair : Fsmd → Fsmd → Answer → Type 0
 IsOfPair a b (Interfaces name) = interface_fault a b ≡ Some name
-IsOfPair a b (NotBuilt Left) = (interface_fault a b ≡ None) × (is_straight a ≡ false)
-IsOfPair a b (NotBuilt Right) = (interface_fault a b ≡ None) × (is_straight a ≡ true) × (is_straight b ≡ false)
-IsOfPair a b (Equivalent nodes) = AreComparable a b × SameBehaviour a b
+IsOfPair a b (NotBuilt First) = (interface_fault a b ≡ None) × (is_straight a ≡ false)
+IsOfPair a b (NotBuilt Second) = (interface_fault a b ≡ None) × (is_straight a ≡ true) × (is_straight b ≡ false)
+IsOfPair a b (Equivalent nodes) = AreComparable a b × SameBehaviour a b × DiffersNowhere a b
 IsOfPair a b (Stuck output) = AreComparable a b × IsFirstDifference a b output
 IsOfPair a b Wide = AreComparable a b × IsPastWeight a b
 IsOfPair a b Large = AreComparable a b × IsPastSize a b
@@ -102,21 +105,42 @@ pub record SpellPair (P : Fsmd → Fsmd → Type 0) (x y : List ℕ) : Type 0 wh
 
 -- both files of the command spell machines that meet P, where it is told what they hold
 abbrev pub PairTold : Given → (Fsmd → Fsmd → Type 0) → Type 0
-PairTold g P = Told (held g Left) (λ x. Told (held g Right) (λ y. SpellPair P x y))
+PairTold g P = Told (held g First) (λ x. Told (held g Second) (λ y. SpellPair P x y))
 
--- the answer that is due: the words are no command, or the left file is refused, or the left file spells a machine and the right
--- one is refused, or both spell machines
-pub data IsDue (g : Given) (answer : Answer) : Type 0 where
-  NoCommand : (IsCheck g.words → ⊥) → answer ≡ Usage → IsDue g answer
-  LeftRefused : IsCheck g.words → IsOfFile Left (held g Left) (FailedToRead g Left) answer → IsDue g answer
-  RightRefused : IsCheck g.words → Told (held g Left) IsMachine → IsOfFile Right (held g Right) (FailedToRead g Right) answer → IsDue g answer
-  Compared : IsCheck g.words → IsVerdict answer → PairTold g (λ a b. IsOfPair a b answer) → IsDue g answer
+-- an answer of lines of which P holds
+abbrev pub IsText : (List ℕ → Type 0) → Answer → Type 0
+IsText P (Text lines) = P lines
+IsText P _ = ⊥
+
+-- the answer that is due to a question about two machines: the first file is refused, or the first file spells a machine and the
+-- second one is refused, or both spell machines
+pub data DueToTwo (g : Given) (answer : Answer) : Type 0 where
+  FirstRefused : IsOfFile First (held g First) (FailedToRead g First) answer → DueToTwo g answer
+  SecondRefused : Told (held g First) IsMachine → IsOfFile Second (held g Second) (FailedToRead g Second) answer → DueToTwo g answer
+  Compared : IsVerdict answer → PairTold g (λ a b. IsOfPair a b answer) → DueToTwo g answer
+
+-- the answer that is due to a question about one machine: the file is refused, or the answer is a text of which P holds with the
+-- bytes of the file
+pub data DueToOne (P : (text bytes : List ℕ) → Type 0) (g : Given) (answer : Answer) : Type 0 where
+  Refused : IsOfFile First (held g First) (FailedToRead g First) answer → DueToOne P g answer
+  Listed : IsText (λ text. Unit {0}) answer → Told (held g First) (λ bytes. IsText (λ text. P text bytes) answer) → DueToOne P g answer
+
+-- the answer that is due to a command, or to words that are none
+abbrev pub IsDueTo : Option Command → Given → Answer → Type 0
+IsDueTo None g answer = answer ≡ Usage
+IsDueTo (Some Check) g answer = DueToTwo g answer
+IsDueTo (Some Fmt) g answer = DueToOne HasCanonicalText g answer
+IsDueTo (Some Cuts) g answer = DueToOne HasPaths g answer
+
+-- the answer that is due
+abbrev pub IsDue : Given → Answer → Type 0
+IsDue g answer = IsDueTo (command_of g.words) g answer
 
 -- an answer that is due was put with its status, whole or cut by a sink that failed
 pub record Answered (g : Given) (p : Put) : Type 0 where
   pub answer : Answer
   pub due : IsDue g answer
-  pub put : IsPut (reply answer (word_of g.words Left) (word_of g.words Right)) (status_of answer) p
+  pub put : IsPut (reply answer g.words) (status_of answer) p
 
 -- there was no memory, and nothing was put
 pub record IsStarved (p : Put) : Type 0 where
@@ -130,11 +154,10 @@ pub data Outcome (g : Given) (p : Put) : Type 0 where
 
 -- both files spell machines with the same behaviour, where it is told what they hold, and this was put
 pub record SaysSame (g : Given) (p : Put) : Type 0 where
-  pub check : IsCheck g.words
   pub same : PairTold g SameBehaviour
   pub put : p.got_now ≡ appended p.got_before (codes "equivalent: 2 nodes\n")
 
--- a file of the command failed to be read, or the sink failed
+-- a file that the command names failed to be read, or the sink failed
 pub data HasCause (g : Given) (p : Put) : Type 0 where
-  FileFailed : (file : Operand) → IsCheck g.words → FailedToRead g file → HasCause g p
+  FileFailed : (c : Command) (file : Operand) → command_of g.words ≡ Some c → IsTrue (names c file) → FailedToRead g file → HasCause g p
   SinkFailed : Rose p.faults_before p.faults_now → HasCause g p

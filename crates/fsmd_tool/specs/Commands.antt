@@ -1,14 +1,35 @@
 -- The words of a command.
-use Rattle.std.specs.Prelude.{◌≡◌, ℕ, List, [], ◌∷◌, codes}
+use Rattle.std.specs.Prelude.{ℕ, Bool, true, false, cond, Option, Some, None, List, [], ◌∷◌, codes}
 use Rattle.std.specs.List.{slice_index_or}
+use Rattle.std.specs.Str.{bytes_eq}
 use Rattle.fsmd_tool.specs.declared.answer.Operand.{Operand}
-use Rattle.fsmd_tool.specs.declared.answer.Operand.TheVariants.{Left, Right}
+use Rattle.fsmd_tool.specs.declared.answer.Operand.TheVariants.{First, Second}
+use Rattle.fsmd_tool.specs.declared.command.Command.{Command}
+use Rattle.fsmd_tool.specs.declared.command.Command.TheVariants.{Check, Fmt, Cuts}
 
 -- the word that names a file: the first or the second after the command
 abbrev pub word_of : List (List ℕ) → Operand → List ℕ
-word_of words Left = slice_index_or words 1 []
-word_of words Right = slice_index_or words 2 []
+word_of words First = slice_index_or words 1 []
+word_of words Second = slice_index_or words 2 []
 
--- the words are `check` and two more
-abbrev pub IsCheck : List (List ℕ) → Type 0
-IsCheck words = words ≡ codes "check" ∷ (word_of words Left ∷ (word_of words Right ∷ []))
+-- the command of a name with one file
+abbrev pub one_file_command : List ℕ → Option Command
+one_file_command name = cond (bytes_eq name (codes "fmt")) (Some Fmt) (cond (bytes_eq name (codes "cuts")) (Some Cuts) None)
+
+-- the command of a name with two files
+abbrev pub two_file_command : List ℕ → Option Command
+two_file_command name = cond (bytes_eq name (codes "check")) (Some Check) None
+
+-- the command that words are: its name, and exactly its files
+abbrev pub command_of : List (List ℕ) → Option Command
+command_of (name ∷ a ∷ []) = one_file_command name
+command_of (name ∷ a ∷ b ∷ []) = two_file_command name
+command_of _ = None
+
+-- whether a command names a file
+abbrev pub names : Command → Operand → Bool
+names Check file = true
+names Fmt First = true
+names Fmt Second = false
+names Cuts First = true
+names Cuts Second = false

@@ -1,4 +1,9 @@
--- Why no answer was found.
+-- What loading a file gives, or why no answer was found.
+use Rattle.std.specs.Prelude.{◌≡◌, ℕ, List}
+use Rattle.fs_model.specs.Source.{Source}
+use Rattle.fs_model.specs.Machines.{Fsmd}
+use Rattle.fs_ast.specs.Spelled.{machine_of}
+use Rattle.fsmd_tool.specs.Texts.{SpellsParts}
 use Rattle.fsmd_tool.specs.declared.answer.Answer.{Answer}
 use Rattle.fsmd_tool.specs.declared.load.Refused.{Refused}
 use Rattle.fsmd_tool.specs.declared.load.Refused.TheVariants.{Answered, NoMemory}
@@ -7,3 +12,8 @@ use Rattle.fsmd_tool.specs.declared.load.Refused.TheVariants.{Answered, NoMemory
 abbrev pub WhereAnswered : (Answer → Type 0) → Refused → Type 0
 WhereAnswered P (Answered answer) = P answer
 WhereAnswered P NoMemory = Unit {0}
+
+-- these parts and this machine are what the bytes spell
+pub record IsLoaded (bytes : List ℕ) (parts : Source) (m : Fsmd) : Type 0 where
+  pub spells : SpellsParts bytes parts
+  pub machine : m ≡ machine_of parts

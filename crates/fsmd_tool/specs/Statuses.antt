@@ -19,6 +19,7 @@ code_of Fault = 74
 abbrev pub status_of : Answer → Status
 status_of answers.Usage = Usage
 status_of (answers.Equivalent nodes) = Fine
+status_of (answers.Text lines) = Fine
 status_of (answers.Stuck output) = Undecided
 status_of answers.Wide = Undecided
 status_of answers.Large = Undecided

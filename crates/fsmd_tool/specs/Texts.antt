@@ -5,6 +5,7 @@ use Rattle.fs_model.specs.Source.{Source}
 use Rattle.fs_model.specs.Machines.{Fsmd}
 use Rattle.fs_grammar.specs.declared.fault.TextFault.{TextFault}
 use Rattle.fs_text.specs.Spelled.{spelled}
+use Rattle.fs_write.specs.Canonical.{canonical}
 use Rattle.fs_ast.specs.declared.check.CheckFault.{CheckFault}
 use Rattle.fs_ast.specs.Spelled.{machine_of}
 use Rattle.fs_ast.specs.Rules.{IsLawful, IsFirstBroken}
@@ -26,6 +27,18 @@ pub record Spells (bytes : List ℕ) (m : Fsmd) : Type 0 where
   pub read : spelled bytes ≡ Ok parts
   pub lawful : IsLawful parts
   pub machine : m ≡ machine_of parts
+
+-- the bytes spell these parts, which break no rule
+pub record SpellsParts (bytes : List ℕ) (parts : Source) : Type 0 where
+  pub few : length bytes ≤ most_bytes
+  pub read : spelled bytes ≡ Ok parts
+  pub lawful : IsLawful parts
+
+-- the bytes spell a machine, of whose parts this is the canonical text
+pub record HasCanonicalText (text : List ℕ) (bytes : List ℕ) : Type 0 where
+  pub parts : Source
+  pub spells : SpellsParts bytes parts
+  pub is_canonical : text ≡ canonical parts
 
 -- the bytes spell some machine
 abbrev pub IsMachine : List ℕ → Type 0

@@ -6,6 +6,7 @@ ghost use Rattle.fsmd_tool.specs.Statuses.{code_of, status_of};
 use fs_ast::check::CheckFault;
 use fs_grammar::fault::TextFault;
 use fs_model::name::Name;
+use std::marker::Model;
 
 /// How a command ended.
 #[derive(Clone, Copy, Debug, PartialEq, Eq)]
@@ -43,11 +44,41 @@ impl Status {
     }
 }
 
-/// Which of the two files of a command: the first or the second that it names.
+/// Which file of a command: the first or the second that it names.
 #[derive(Clone, Copy, Debug, PartialEq, Eq)]
 pub enum Operand {
-    Left,
-    Right,
+    First,
+    Second,
+}
+
+/// Lines of text that a command answers. Contracts see their bytes.
+#[derive(Drop)]
+pub struct Lines {
+    bytes: Vec<u8>,
+}
+
+impl Model for Lines {
+    ghost use Rattle.std.specs.Prelude.{ℕ, List};
+
+    ghost Value = { List ℕ };
+
+    ghost view = { λ lines. lines.bytes.items };
+}
+
+impl Lines {
+    /// Lines of these bytes. Takes no memory.
+    pub fn of(bytes: Vec<u8>) -> Lines
+        ensures { result ≡ bytes.items }
+    {
+        Lines { bytes }
+    }
+
+    /// The bytes. Takes no memory.
+    pub fn bytes(&self) -> &[u8]
+        ensures { result.now ≡ self.now }
+    {
+        self.bytes.as_slice()
+    }
 }
 
 /// What a command answers.
@@ -57,6 +88,8 @@ pub enum Answer {
     Usage,
     /// The machines have the same behaviour, which this many nodes show.
     Equivalent { nodes: u32 },
+    /// What was asked of a machine.
+    Text { lines: Lines },
     /// The terms of an output differ.
     Stuck { output: Name },
     /// A coefficient may be past 128 bits.
@@ -83,7 +116,7 @@ impl Answer {
         ensures { result ≡ status_of self.now }
     {
         match self {
-            Answer::Equivalent { .. } => Status::Fine,
+            Answer::Equivalent { .. } | Answer::Text { .. } => Status::Fine,
             Answer::Stuck { .. } | Answer::Wide | Answer::Large => Status::Undecided,
             Answer::Usage => Status::Usage,
             Answer::TextRefused { .. }

@@ -37,10 +37,10 @@ fn compare_alike(alloc: Global, a: &Machine, b: &Machine) -> Result<Answer, Allo
         Ok(Verdict::Wide { .. }) => Ok(Answer::Wide),
         Ok(Verdict::Large { .. }) => Ok(Answer::Large),
         Err(Stop::NotBuilt(Side::Left)) => Ok(Answer::NotBuilt {
-            file: Operand::Left,
+            file: Operand::First,
         }),
         Err(Stop::NotBuilt(Side::Right)) => Ok(Answer::NotBuilt {
-            file: Operand::Right,
+            file: Operand::Second,
         }),
         Err(Stop::NoMemory) => Err(AllocError),
     }

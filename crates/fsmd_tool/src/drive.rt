@@ -1,57 +1,96 @@
 //! The top call: from words to a status.
 
-ghost use Rattle.std.specs.Prelude.{◌≡◌, ◌≤◌, ◌↔◌, IfOk, IsTrue, List, map, string_bytes};
+ghost use Rattle.std.specs.Prelude.{◌≡◌, ◌≤◌, Some, IfOk, map, string_bytes};
 ghost use Rattle.std.specs.Result.{IfErr, OnErr};
 ghost use Rattle.fs_base.specs.Outside.{NoneFell, SameHeld};
-ghost use Rattle.fsmd_tool.specs.Commands.{word_of, IsCheck};
-ghost use Rattle.fsmd_tool.specs.Answers.{IsDue, Answered, Outcome, SaysSame, HasCause, given};
+ghost use Rattle.fsmd_tool.specs.Commands.{command_of};
+ghost use Rattle.fsmd_tool.specs.Texts.{HasCanonicalText};
+ghost use Rattle.fsmd_tool.specs.Paths.{HasPaths};
+ghost use Rattle.fsmd_tool.specs.Answers.{DueToTwo, DueToOne, IsDueTo, IsDue, Answered, Outcome, SaysSame, HasCause, given};
 ghost use Rattle.fsmd_tool.specs.Puts.{put};
 ghost use Rattle.fsmd_tool.specs.Refusals.{WhereAnswered};
+ghost use Rattle.fsmd_tool.specs.declared.command.Command.TheVariants.{Check};
 ghost use Rattle.fsmd_tool.specs.declared.answer.Status.TheVariants.{Fine, Fault};
 
-use crate::answer::{Answer, Operand, Status};
+use crate::answer::{Answer, Lines, Operand, Status};
+use crate::command::{Command, command_of, word_of};
 use crate::compare::compare;
-use crate::load::{Refused, load_machine};
+use crate::load::{Loaded, Refused, load, load_machine};
+use crate::paths::list_paths;
 use crate::put::put_answer;
 use fs_base::outside::{Files, Sink};
+use fs_write::write_parts;
 use std::alloc::{AllocError, Global};
-
-// The word that names a file, or no text where there is none.
-fn word_of(words: &[String], file: Operand) -> &str
-    ensures { result.now ≡ word_of (map string_bytes words.now) file }
-{
-    let place = match file {
-        Operand::Left => 1,
-        Operand::Right => 2,
-    };
-    match words.get(place) {
-        Some(word) => word.as_str(),
-        None => "",
-    }
-}
-
-fn is_check(words: &[String]) -> bool
-    ensures { IsTrue result ↔ IsCheck (map string_bytes words.now) }
-{
-    match words {
-        [command, _, _] => command.as_str() == "check",
-        _ => false,
-    }
-}
 
 // The answer for two files.
 fn check<F: Files>(alloc: Global, words: &[String], files: &mut F) -> Result<Answer, Refused>
-    requires { IsCheck (map string_bytes words.now) }
-    ensures ok { IfOk result (IsDue
+    ensures ok { IfOk result (DueToTwo
         (given (map string_bytes words.now) (F.holds files.old) (F.faults files.old) (F.faults files.new))) }
-    ensures refused { IfErr result (WhereAnswered (IsDue
+    ensures refused { IfErr result (WhereAnswered (DueToTwo
         (given (map string_bytes words.now) (F.holds files.old) (F.faults files.old) (F.faults files.new)))) }
     ensures counts { NoneFell (F.faults files.old) (F.faults files.new) }
     ensures unchanged { SameHeld (F.holds files.old) (F.holds files.new) }
 {
-    let left = load_machine(alloc, Operand::Left, word_of(words, Operand::Left), files)?;
-    let right = load_machine(alloc, Operand::Right, word_of(words, Operand::Right), files)?;
+    let first = word_of(words, Operand::First);
+    let left = load_machine(alloc, Operand::First, first, files)?;
+    let second = word_of(words, Operand::Second);
+    let right = load_machine(alloc, Operand::Second, second, files)?;
     Ok(compare(alloc, &left, &right)?)
+}
+
+// The canonical text of the machine in a file.
+fn format_text<F: Files>(alloc: Global, words: &[String], files: &mut F) -> Result<Answer, Refused>
+    ensures ok { IfOk result (DueToOne HasCanonicalText
+        (given (map string_bytes words.now) (F.holds files.old) (F.faults files.old) (F.faults files.new))) }
+    ensures refused { IfErr result (WhereAnswered (DueToOne HasCanonicalText
+        (given (map string_bytes words.now) (F.holds files.old) (F.faults files.old) (F.faults files.new)))) }
+    ensures counts { NoneFell (F.faults files.old) (F.faults files.new) }
+    ensures unchanged { SameHeld (F.holds files.old) (F.holds files.new) }
+{
+    let word = word_of(words, Operand::First);
+    let Loaded { parts, .. } = load(alloc, Operand::First, word, files)?;
+    match write_parts(alloc, &parts) {
+        Ok(text) => Ok(Answer::Text {
+            lines: Lines::of(text),
+        }),
+        Err(_) => Err(Refused::NoMemory),
+    }
+}
+
+// The paths of the machine in a file.
+fn cut_paths<F: Files>(alloc: Global, words: &[String], files: &mut F) -> Result<Answer, Refused>
+    ensures ok { IfOk result (DueToOne HasPaths
+        (given (map string_bytes words.now) (F.holds files.old) (F.faults files.old) (F.faults files.new))) }
+    ensures refused { IfErr result (WhereAnswered (DueToOne HasPaths
+        (given (map string_bytes words.now) (F.holds files.old) (F.faults files.old) (F.faults files.new)))) }
+    ensures counts { NoneFell (F.faults files.old) (F.faults files.new) }
+    ensures unchanged { SameHeld (F.holds files.old) (F.holds files.new) }
+{
+    let word = word_of(words, Operand::First);
+    let machine = load_machine(alloc, Operand::First, word, files)?;
+    let lines = Lines::of(list_paths(alloc, &machine)?);
+    Ok(Answer::Text { lines })
+}
+
+// What is answered to the words of a command.
+fn obey<F: Files>(
+    alloc: Global,
+    command: Command,
+    words: &[String],
+    files: &mut F,
+) -> Result<Answer, Refused>
+    ensures ok { IfOk result (IsDueTo (Some command)
+        (given (map string_bytes words.now) (F.holds files.old) (F.faults files.old) (F.faults files.new))) }
+    ensures refused { IfErr result (WhereAnswered (IsDueTo (Some command)
+        (given (map string_bytes words.now) (F.holds files.old) (F.faults files.old) (F.faults files.new)))) }
+    ensures counts { NoneFell (F.faults files.old) (F.faults files.new) }
+    ensures unchanged { SameHeld (F.holds files.old) (F.holds files.new) }
+{
+    match command {
+        Command::Check => check(alloc, words, files),
+        Command::Fmt => format_text(alloc, words, files),
+        Command::Cuts => cut_paths(alloc, words, files),
+    }
 }
 
 // What is answered to the words.
@@ -61,10 +100,10 @@ fn answer<F: Files>(alloc: Global, words: &[String], files: &mut F) -> Result<An
     ensures counts { NoneFell (F.faults files.old) (F.faults files.new) }
     ensures unchanged { SameHeld (F.holds files.old) (F.holds files.new) }
 {
-    if !is_check(words) {
+    let Some(command) = command_of(words) else {
         return Ok(Answer::Usage);
-    }
-    match check(alloc, words, files) {
+    };
+    match obey(alloc, command, words, files) {
         Ok(answer) => Ok(answer),
         Err(Refused::Answered(answer)) => Ok(answer),
         Err(Refused::NoMemory) => Err(AllocError),
@@ -86,14 +125,12 @@ fn put_reply<F: Files, S: Sink>(
     ensures unchanged { SameHeld (F.holds files.old) (F.holds files.new) }
 {
     let answer = answer(alloc, words, files)?;
-    let left = word_of(words, Operand::Left);
-    let right = word_of(words, Operand::Right);
-    put_answer(alloc, &answer, left, right, out)
+    put_answer(alloc, &answer, words, out)
 }
 
 /// Does what the words ask, puts the reply, and tells how it ended.
 ///
-/// The words are those after the program's name: `check` and the names of two files. No file is changed.
+/// The words are those after the program's name: a command and the names of its files. No file is changed.
 /// `NoMemory` comes for want of memory, also where the sink has no room for the reply; then nothing was put.
 /// `Fault` comes where a file could not be read, which the reply says, or where the sink failed, which then got the
 /// front of the reply alone.
@@ -106,7 +143,7 @@ pub fn drive<F: Files, S: Sink>(
     ensures outcome { Outcome
         (given (map string_bytes words.now) (F.holds files.old) (F.faults files.old) (F.faults files.new))
         (put result (S.got out.old) (S.got out.new) (S.faults out.old) (S.faults out.new)) }
-    ensures equivalent { result ≡ Fine → SaysSame
+    ensures equivalent { result ≡ Fine → command_of (map string_bytes words.now) ≡ Some Check → SaysSame
         (given (map string_bytes words.now) (F.holds files.old) (F.faults files.old) (F.faults files.new))
         (put result (S.got out.old) (S.got out.new) (S.faults out.old) (S.faults out.new)) }
     ensures fault { result ≡ Fault → HasCause

@@ -2,9 +2,11 @@
 #![tactic(auto)]
 
 pub mod answer;
+pub mod command;
 mod compare;
 pub mod drive;
 mod load;
+mod paths;
 mod put;
 mod reply;
 #[cfg(test)]

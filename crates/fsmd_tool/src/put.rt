@@ -1,6 +1,6 @@
 //! Puts the reply of an answer.
 
-ghost use Rattle.std.specs.Prelude.{◌≡◌, ◌≤◌, IfOk, IsTrue};
+ghost use Rattle.std.specs.Prelude.{◌≡◌, ◌≤◌, IfOk, IsTrue, map, string_bytes};
 ghost use Rattle.std.specs.Result.{OnErr};
 ghost use Rattle.fs_base.specs.Outside.{HasRoom};
 ghost use Rattle.fsmd_tool.specs.Statuses.{status_of};
@@ -29,16 +29,15 @@ fn fits(room: Option<u64>, count: usize) -> bool
 pub fn put_answer<S: Sink>(
     alloc: Global,
     answer: &Answer,
-    left: &str,
-    right: &str,
+    words: &[String],
     out: &mut S,
 ) -> Result<Status, AllocError>
-    ensures ok { IfOk result (λ status. IsPut (reply answer.now left.now right.now) (status_of answer.now)
+    ensures ok { IfOk result (λ status. IsPut (reply answer.now (map string_bytes words.now)) (status_of answer.now)
         (put status (S.got out.old) (S.got out.new) (S.faults out.old) (S.faults out.new))) }
     ensures err { OnErr result (S.got out.new ≡ S.got out.old) }
     ensures counts { S.faults out.old ≤ S.faults out.new }
 {
-    let bytes = reply(alloc, answer, left, right)?;
+    let bytes = reply(alloc, answer, words)?;
     if !fits(out.room(), bytes.len()) {
         return Err(AllocError);
     }

@@ -1,9 +1,10 @@
 //! The bytes of each answer.
 
-ghost use Rattle.std.specs.Prelude.{◌≡◌, ◌++◌, IfOk, codes, decimal, string_bytes};
-ghost use Rattle.fsmd_tool.specs.Replies.{kind_name, rule_name, file_word, reply};
+ghost use Rattle.std.specs.Prelude.{◌≡◌, ◌++◌, IfOk, codes, decimal, map, string_bytes};
+ghost use Rattle.fsmd_tool.specs.Replies.{kind_name, rule_name, reply};
 
-use crate::answer::{Answer, Operand};
+use crate::answer::Answer;
+use crate::command::word_of;
 use fs_ast::check::{CheckFault, CheckRule};
 use fs_grammar::fault::{TextFault, TextKind};
 use fs_model::name::Name;
@@ -40,15 +41,6 @@ fn rule_name(rule: CheckRule) -> &'static str
         CheckRule::EndlessLine => "EndlessLine",
         CheckRule::UnknownState => "UnknownState",
         CheckRule::TooMany => "TooMany",
-    }
-}
-
-fn file_word<'a>(file: Operand, left: &'a str, right: &'a str) -> &'a str
-    ensures { result.now ≡ file_word file left.now right.now }
-{
-    match file {
-        Operand::Left => left,
-        Operand::Right => right,
     }
 }
 
@@ -102,9 +94,9 @@ fn equivalent(alloc: Global, nodes: u32) -> Result<String, AllocError>
     format!(in alloc; "equivalent: {nodes} nodes\n")
 }
 
-/// The line that an answer puts, where these words name the files.
-pub fn reply(alloc: Global, answer: &Answer, left: &str, right: &str) -> Result<Vec<u8>, AllocError>
-    ensures { IfOk result (λ bytes. bytes.items ≡ reply answer.now left.now right.now) }
+/// The lines that an answer puts, where these are the words of the command.
+pub fn reply(alloc: Global, answer: &Answer, words: &[String]) -> Result<Vec<u8>, AllocError>
+    ensures { IfOk result (λ bytes. bytes.items ≡ reply answer.now (map string_bytes words.now)) }
 {
     let text = match answer {
         Answer::Stuck { output } => {
@@ -118,6 +110,7 @@ pub fn reply(alloc: Global, answer: &Answer, left: &str, right: &str) -> Result<
         Answer::Interfaces { name } => {
             return with_name(alloc, "bad input: interface: ", name, "\n");
         }
+        Answer::Text { lines } => return lines.bytes().to_vec(alloc),
         Answer::Usage => String::from_str(alloc, USAGE)?,
         Answer::Equivalent { nodes } => equivalent(alloc, *nodes)?,
         Answer::Wide => String::from_str(
@@ -129,14 +122,14 @@ pub fn reply(alloc: Global, answer: &Answer, left: &str, right: &str) -> Result<
             "undecided: term too large at start.0>done | start.0>done\n",
         )?,
         Answer::TextRefused { file, fault } => {
-            text_refused(alloc, file_word(*file, left, right), fault)?
+            text_refused(alloc, word_of(words, *file), fault)?
         }
         Answer::CheckRefused { file, fault } => {
-            check_refused(alloc, file_word(*file, left, right), fault)?
+            check_refused(alloc, word_of(words, *file), fault)?
         }
-        Answer::TooLong { file } => too_long(alloc, file_word(*file, left, right))?,
-        Answer::NotBuilt { file } => not_built(alloc, file_word(*file, left, right))?,
-        Answer::CannotRead { file } => cannot_read(alloc, file_word(*file, left, right))?,
+        Answer::TooLong { file } => too_long(alloc, word_of(words, *file))?,
+        Answer::NotBuilt { file } => not_built(alloc, word_of(words, *file))?,
+        Answer::CannotRead { file } => cannot_read(alloc, word_of(words, *file))?,
     };
     Ok(text.into_bytes())
 }

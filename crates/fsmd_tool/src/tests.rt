@@ -12,7 +12,7 @@ state s0: goto s1: t = a + b;
 state s1: goto s0: y = t * t;
 ";
 
-const SUM_OF_SQUARES: &str = "fsmd 1; input a, b; output y; reset q0;
+const MULTIPLIED_OUT: &str = "fsmd 1; input a, b; output y; reset q0;
 state q0: goto q0: y = a * a + 2 * a * b + b * b;
 ";
 
@@ -75,7 +75,7 @@ fn compared(rt: HostRuntime) -> Result<(), Fail> {
     for (left, right, status, reply) in [
         (
             SQUARE_OF_SUM,
-            SUM_OF_SQUARES,
+            MULTIPLIED_OUT,
             Status::Fine,
             "equivalent: 2 nodes\n",
         ),
@@ -151,7 +151,7 @@ fn refused(rt: HostRuntime) -> Result<(), Fail> {
             "bad input: a.fsmd:4: UnknownState\n",
         ),
     ] {
-        let status = checked(&rt, alloc, left, SUM_OF_SQUARES, reply)?;
+        let status = checked(&rt, alloc, left, MULTIPLIED_OUT, reply)?;
         assert_eq!(rt; status, Status::BadInput, "{reply}");
     }
     Ok(())
@@ -200,7 +200,7 @@ fn sinks(rt: HostRuntime) -> Result<(), Fail> {
     let alloc = rt.alloc();
     let mut files = CleanFiles::new(alloc);
     assert_eq!(rt; files.add("a.fsmd", SQUARE_OF_SUM.as_bytes()), Ok(()));
-    assert_eq!(rt; files.add("b.fsmd", SUM_OF_SQUARES.as_bytes()), Ok(()));
+    assert_eq!(rt; files.add("b.fsmd", MULTIPLIED_OUT.as_bytes()), Ok(()));
     let words = words_of(alloc, &["check", "a.fsmd", "b.fsmd"])?;
 
     let mut failing = MemSink::new(alloc, vec![in alloc; 5, 0]?);
