@@ -1,0 +1,5 @@
+pub mod Outcomes
+pub mod Pairs
+pub mod Texts
+pub mod Files
+pub mod Due

@@ -1,0 +1,4 @@
+//! Laws of answers: at most one is due.
+#![tactic(auto)]
+
+pub mod laws;
