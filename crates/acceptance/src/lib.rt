@@ -1,0 +1,24 @@
+//! Worked examples of the program's behaviour, by the one call that the program makes, over files in memory.
+//!
+//! The crate gives nothing: each module is a set of tests, and each test is a table of texts with the replies that the
+//! rules of machine texts, of machines and of comparison give for them.
+#![tactic(auto)]
+
+#[cfg(test)]
+mod asked;
+#[cfg(test)]
+mod canonical_text;
+#[cfg(test)]
+mod faults;
+#[cfg(test)]
+mod forms;
+#[cfg(test)]
+mod fronts;
+#[cfg(test)]
+mod limits;
+#[cfg(test)]
+mod paths;
+#[cfg(test)]
+mod rules;
+#[cfg(test)]
+mod sums;

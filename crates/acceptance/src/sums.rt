@@ -1,0 +1,204 @@
+//! Machines of one branch a state, compared over numbers, scalars, `+`, `-` and `*`.
+
+use crate::asked::{each_pair, each_row};
+use std::test::Fail;
+
+const SAME: &str =
+    "check a.fsmd b.fsmd⊢fsmd 1; input a, b, c; output y; reset s0; state s0: goto s0: y = ⓪;⊢equivalent: 2 nodes¶";
+
+const OTHER: &str =
+    "check a.fsmd b.fsmd⊢fsmd 1; input a, b, c; output y; reset s0; state s0: goto s0: y = ⓪;⊢undecided: output y at start.0>done | start.0>done¶";
+
+const BOTH_WAYS: &str = "①;⊢fsmd 1; input a, b, c; output y; reset s0; state s0: goto s0: y = ②
+②;⊢fsmd 1; input a, b, c; output y; reset s0; state s0: goto s0: y = ①
+";
+
+const SAME_SUMS: &str = "(a - b) * (a + b)¦a * a - b * b
+(a + b) * (a + b)¦a * a + 2 * a * b + b * b
+(a - b) * (a * a + a * b + b * b)¦a * a * a - b * b * b
+a - b - c¦(a - b) - c
+a - b - c¦a - (b + c)
+a - b + c¦(a - b) + c
+a - b + c¦a + c - b
+a + b * c¦a + (b * c)
+a * b + c¦c + b * a
+a * b * c¦c * (b * a)
+-a * b¦-(a * b)
+-a * b¦a * -b
+-a - b¦-(a + b)
+-a + b¦b - a
+--a¦a
+---a¦-a
+a - -b¦a + b
+a - (-b)¦a + b
+-a * -b¦b * a
+-(a - b)¦b - a
+a - a¦0
+0 * a¦b - b
+1 * a¦a
+a + a + a¦3 * a
+1 - 2 - 3¦-4
+1 - (2 - 3)¦2
+8 - 4 * 2¦0
+2 * -3¦-6
+000012 * a¦12 * a
+(((a)))¦a
+y + a¦a
+a - y¦a + 5 * y
+";
+
+#[test]
+fn sums_that_are_the_same(rt: HostRuntime) -> Result<(), Fail> {
+    each_pair(&rt, rt.alloc(), SAME, BOTH_WAYS, SAME_SUMS)?;
+    Ok(())
+}
+
+const OTHER_SUMS: &str = "(a - b) * (a + b)¦a * a + b * b
+a - b - c¦a - (b - c)
+a - b + c¦a - (b + c)
+a + b * c¦(a + b) * c
+a * b + c¦a * (b + c)
+-a * b¦a * b
+-a - b¦-(a - b)
+-a + b¦-(a + b)
+--a¦-a
+a - -b¦a - b
+a - b¦b - a
+a¦b
+a¦-a
+a¦0
+a¦a + 1
+a¦2 * a
+a * a¦a
+a * a * b¦a * b * b
+1¦2
+1¦-1
+1 - 2 - 3¦2
+12¦21
+y¦a
+";
+
+#[test]
+fn sums_that_differ(rt: HostRuntime) -> Result<(), Fail> {
+    each_pair(&rt, rt.alloc(), OTHER, BOTH_WAYS, OTHER_SUMS)?;
+    Ok(())
+}
+
+const WITHIN: &str = "170141183460469231731687303715884105727
+-170141183460469231731687303715884105727
+170141183460469231731687303715884105727 * a
+170141183460469231731687303715884105727 * -a
+170141183460469231731687303715884105726 + 1
+170141183460469231731687303715884105726 - a
+170141183460469231731687303715884105727 + 0
+170141183460469231731687303715884105727 * 0
+13043817825332782212 * 13043817825332782212
+(13043817825332782211 * a + b) * 13043817825332782212
+85070591730234615865843651857942052863 * 2
+2 * (85070591730234615865843651857942052863 * a)
+";
+
+const TOO_WIDE: &str =
+    "170141183460469231731687303715884105727 + 1¦170141183460469231731687303715884105727 + 1
+170141183460469231731687303715884105727 - 1¦170141183460469231731687303715884105727 - 1
+1 - 170141183460469231731687303715884105727¦1 - 170141183460469231731687303715884105727
+170141183460469231731687303715884105727 + a¦170141183460469231731687303715884105727 + a
+170141183460469231731687303715884105726 + a - a¦170141183460469231731687303715884105726 + a - a
+0 * (170141183460469231731687303715884105727 + 1)¦0 * (170141183460469231731687303715884105727 + 1)
+13043817825332782213 * 13043817825332782212¦13043817825332782213 * 13043817825332782212
+(13043817825332782212 * a + b) * 13043817825332782212¦(13043817825332782212 * a + b) * 13043817825332782212
+85070591730234615865843651857942052864 * 2¦85070591730234615865843651857942052864 * 2
+2 * (85070591730234615865843651857942052864 * a)¦2 * (85070591730234615865843651857942052864 * a)
+170141183460469231731687303715884105727 + a¦b
+b¦170141183460469231731687303715884105727 + a
+";
+
+// The weights of two operands of `+` or `-` have a sum of at most 2 to the 127 less 1, and those of `*` a product of at
+// most that. The first operation past a limit is answered before any output that differs, the left machine's first.
+#[test]
+fn coefficients(rt: HostRuntime) -> Result<(), Fail> {
+    each_row(
+        &rt,
+        rt.alloc(),
+        "check a.fsmd b.fsmd⊢fsmd 1; input a, b, c; output y; reset s0; state s0: goto s0: y = ①;⊢fsmd 1; input a, b, c; output y; reset s0; state s0: goto s0: y = ①;⊢equivalent: 2 nodes¶",
+        WITHIN,
+    )?;
+    each_row(
+        &rt,
+        rt.alloc(),
+        "check a.fsmd b.fsmd⊢fsmd 1; input a, b, c; output y; reset s0; state s0: goto s0: y = ①;⊢fsmd 1; input a, b, c; output y; reset s0; state s0: goto s0: y = ②;⊢undecided: coefficient past 128 bits at start.0>done | start.0>done¶",
+        TOO_WIDE,
+    )?;
+    Ok(())
+}
+
+const SEVERAL_STATES: &str =
+    "fsmd 1; input a, b; output x, y; reset s; state s: goto t: x = a, y = b; state t: goto s: x = y, y = x;¦equivalent: 2 nodes¶
+fsmd 1; input b, a; output y, x; reset q; state r: goto q: x = y, y = x; state q: goto r: y = b, x = a;¦equivalent: 2 nodes¶
+fsmd 1; output y; local t, s; output x; input a, b; reset s; state s: goto t: t = a; state t: goto u: y = t, x = b; state u: goto s;¦equivalent: 2 nodes¶
+fsmd 1; input a, b; output x, y; reset s; state s: goto s: x = b, y = a; state z: goto s: x = 0;¦equivalent: 2 nodes¶
+fsmd 1; input a, b; output x, y; reset s; state s: goto t: x = a, y = b; state t: goto u: x = y; state u: goto s: y = x;¦undecided: output y at start.0>done | start.0>done¶
+fsmd 1; input a, b; output x, y; reset s; state s: goto s: y = a;¦undecided: output x at start.0>done | start.0>done¶
+fsmd 1; input a, b; output x, y; reset s; state s: goto s: x = a, y = b;¦undecided: output x at start.0>done | start.0>done¶
+fsmd 1; input a, b; output y, x; reset s; state s: goto s: x = a, y = b;¦undecided: output y at start.0>done | start.0>done¶
+fsmd 1; input a, b; output x, y; reset s; state s: goto s: x = b;¦undecided: output y at start.0>done | start.0>done¶
+fsmd 1; input a, b; output x, y; reset t; state s: goto t: x = b, y = a; state t: goto t;¦undecided: output x at start.0>done | start.0>done¶
+";
+
+#[test]
+fn machines_of_several_states(rt: HostRuntime) -> Result<(), Fail> {
+    each_row(
+        &rt,
+        rt.alloc(),
+        "check a.fsmd b.fsmd⊢①⊢fsmd 1; input a, b; output x, y; reset s; state s: goto s: x = b, y = a;⊢②",
+        SEVERAL_STATES,
+    )?;
+    Ok(())
+}
+
+// A machine that gives y a value in its second state. There t is a product of two sums of 32 scalars each, and u and w
+// are products of sums of 11 and of 31 scalars, and 1 or a more.
+const SIZED: &str =
+    "check a.fsmd b.fsmd⊢fsmd 1; input a, «64·v№, »v64; output y; local t, u, w; reset s; state s: goto r: t = («31·v№ + »v31) * («32..63·v№ + »v63), u = («10·v№ + »v10) * («32..62·v№ + »v62) + 1, w = («10·v№ + »v10) * («32..62·v№ + »v62) + a; state r: goto s: y = ①;⊢fsmd 1; input a, «64·v№, »v64; output y; local t, u, w; reset s; state s: goto r: t = («31·v№ + »v31) * («32..63·v№ + »v63), u = («10·v№ + »v10) * («32..62·v№ + »v62) + 1, w = («10·v№ + »v10) * («32..62·v№ + »v62) + a; state r: goto s: y = ②;⊢③";
+
+const SIZES: &str = "t¦t¦equivalent: 2 nodes¶
+-t¦-t¦equivalent: 2 nodes¶
+2 * t - 0¦2 * t - 0¦equivalent: 2 nodes¶
+0 * t¦0 * t¦equivalent: 2 nodes¶
+t + u¦t + u¦equivalent: 2 nodes¶
+u - t¦u - t¦equivalent: 2 nodes¶
+t + (u - 1 + 1)¦t + (u - 1 + 1)¦equivalent: 2 nodes¶
+t + w¦t + w¦undecided: term too large at start.0>done | start.0>done¶
+w - t¦w - t¦undecided: term too large at start.0>done | start.0>done¶
+t - t¦t - t¦undecided: term too large at start.0>done | start.0>done¶
+a * t¦a * t¦undecided: term too large at start.0>done | start.0>done¶
+(v0 + v1) * w¦(v0 + v1) * w¦undecided: term too large at start.0>done | start.0>done¶
+(v0 + v1) * u¦(v0 + v1) * u¦equivalent: 2 nodes¶
+t * t¦170141183460469231731687303715884105727 + a¦undecided: term too large at start.0>done | start.0>done¶
+170141183460469231731687303715884105727 + a¦t * t¦undecided: coefficient past 128 bits at start.0>done | start.0>done¶
+";
+
+// A scalar has size 2 in a sum, a product of two of them 3, and a number other than 0 has size 1. So t, u and w have the
+// sizes 3,072, 1,024 and 1,025. Two operands of `+` or `-` have together a size of at most 4,096, and the product of the
+// sizes of two operands of `*` is at most that.
+#[test]
+fn sizes(rt: HostRuntime) -> Result<(), Fail> {
+    each_row(&rt, rt.alloc(), SIZED, SIZES)?;
+    Ok(())
+}
+
+const PRODUCT: &str =
+    "check a.fsmd b.fsmd⊢fsmd 1; input «64·v№, »v64; output y; reset s; state s: goto s: y = («31·v№ + »v31) * (①);⊢fsmd 1; input «64·v№, »v64; output y; reset s; state s: goto s: y = («31·v№ + »v31) * (①);⊢②";
+
+const PRODUCTS: &str = "«32..63·v№ + »v63¦equivalent: 2 nodes¶
+«32..62·v№ + »v62 + 2¦equivalent: 2 nodes¶
+«32..63·v№ + »v63 + 2¦undecided: term too large at start.0>done | start.0>done¶
+«32..64·v№ + »v64¦undecided: term too large at start.0>done | start.0>done¶
+";
+
+// A product of two operands of the sizes 64 and 64 is within the limit, and one of 64 and 66 is not.
+#[test]
+fn sizes_of_a_product(rt: HostRuntime) -> Result<(), Fail> {
+    each_row(&rt, rt.alloc(), PRODUCT, PRODUCTS)?;
+    Ok(())
+}
