@@ -1,0 +1,8 @@
+pub mod Ways
+pub mod Slots
+pub mod Tries
+pub mod Steps
+pub mod Turns
+pub mod Givens
+pub mod Outs
+pub mod Listings

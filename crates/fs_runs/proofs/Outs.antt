@@ -1,0 +1,72 @@
+-- What the outputs of a machine hold.
+use Rattle.std.proofs.Common.{◌≡◌, get_or, ℕ, zero, suc, ◌+◌, ◌<◌, ◌≤◌, length, drop, Bool, true, false, cond, List, [], ◌∷◌, ◌++◌, refl, sym, ◌∙◌, ap, ap₂, subst, append_assoc, append-nil, arith}
+use Rattle.std.specs.Prelude.{◌&&◌, Option, Some, None, map, filter, slice_get}
+use Rattle.std.specs.Str.{bytes_eq}
+use Rattle.fs_model.specs.declared.parts.Sort.{Sort}
+use Rattle.fs_model.specs.declared.parts.VarInfo.{VarInfo}
+use Rattle.fs_model.specs.Machines.{Fsmd}
+use Rattle.fs_model.specs.Stores.{Store}
+use Rattle.fs_model.specs.Runs.{Content, Number, Entries, is_output, content, output_from, output}
+use Rattle.fs_runs.specs.declared.values.Value.{Value}
+use Rattle.fs_runs.specs.declared.values.Value.TheVariants.{Num, Arr}
+use Rattle.fs_runs.specs.Values.{number_in, entry_in, sort_of, content_of, store_from}
+use Rattle.fs_runs.specs.Outcomes.{output_names, outs_of, told}
+use Rattle.fs_runs.proofs.Slots.{left_cons}
+
+held : (vs : List Value) (j : ℕ) (w : Value) → slice_get vs j ≡ Some w → content (sort_of w) j (store_from vs) ≡ content_of w
+held vs j (Num n) e = ap (λ o. Number (number_in o)) e
+held vs j (Arr m) e = ap (λ o. Entries (entry_in o)) e
+
+one_out : (b : Bool) (c d : Content) (name : List ℕ) (v : VarInfo) (vars : List VarInfo) (outs : List Content) (o : Option Content) → c ≡ d → o ≡ told (map (λ v. v.name) vars) outs name
+    → cond (b && bytes_eq v.name name) (Some c) o ≡ told (map (λ v. v.name) (cond b (v ∷ vars) vars)) (cond b (d ∷ outs) outs) name
+one_out true c d name v vars outs o e f = ap₂ (λ (x : Content) (y : Option Content). cond (bytes_eq v.name name) (Some x) y) e f
+one_out false c d name v vars outs o e f = f
+
+told_from : (vars : List VarInfo) (vs : List Value) (x : ℕ) (s : Store) (name : List ℕ) → map sort_of vs ≡ map (λ v. v.sort) vars
+    → ((j : ℕ) (w : Value) → slice_get vs j ≡ Some w → content (sort_of w) (x + j) s ≡ content_of w)
+    → output_from vars x s name ≡ told (output_names vars) (outs_of vars vs) name
+told_from [] vs x s name e f = refl
+told_from (v ∷ vars) [] x s name e f = absurd (cc)
+told_from (v ∷ vars) (w ∷ vs) x s name e f =
+    let same : sort_of w ≡ v.sort = cc in
+    let rest : map sort_of vs ≡ map (λ v. v.sort) vars = cc in
+    let here : content v.sort x s ≡ content_of w = subst (λ t. content t x s ≡ content_of w) same (subst (λ k. content (sort_of w) k s ≡ content_of w) (last x) (f 0 w refl)) in
+    one_out (is_output v.role) (content v.sort x s) (content_of w) name v (filter (λ u. is_output u.role) vars) (outs_of vars vs) (output_from vars (x + 1) s name) here
+    (told_from vars vs (x + 1) s name rest (λ j u g. subst (λ k. content (sort_of u) k s ≡ content_of u) (moved x j) (f (suc j) u g)))
+  where
+    last : (x : ℕ) → x + 0 ≡ x
+    last x = omega arith
+
+    moved : (x j : ℕ) → x + suc j ≡ x + 1 + j
+    moved x j = omega arith
+
+pub told_all : (m : Fsmd) (vs : List Value) (name : List ℕ) → map sort_of vs ≡ map (λ v. v.sort) m.variables
+    → output m (store_from vs) name ≡ told (output_names m.variables) (outs_of m.variables vs) name
+told_all m vs name e = told_from m.variables vs 0 (store_from vs) name e (λ j w g. subst (λ k. content (sort_of w) k (store_from vs) ≡ content_of w) (first j) (held vs j w g))
+  where
+    first : (j : ℕ) → j ≡ 0 + j
+    first j = omega arith
+
+one_more : (b : Bool) (c : Content) (outs : List Content) → cond b (c ∷ outs) outs ≡ cond b (c ∷ []) [] ++ outs
+one_more true c outs = refl
+one_more false c outs = refl
+
+-- one more variable
+pub outs_next : (vars : List VarInfo) (vs : List Value) (k : ℕ) (v : VarInfo) (w : Value) (done more total : List Content) → k < length vars → k < length vs
+    → more ≡ done ++ outs_of (get_or vars k v ∷ []) (get_or vs k w ∷ []) → done ++ outs_of (drop k vars) (drop k vs) ≡ total → more ++ outs_of (drop (k + 1) vars) (drop (k + 1) vs) ≡ total
+outs_next vars vs k v w done more total h g e f =
+    ap (λ l. l ++ outs_of (drop (k + 1) vars) (drop (k + 1) vs)) e
+    ∙ append_assoc done (outs_of (get_or vars k v ∷ []) (get_or vs k w ∷ [])) (outs_of (drop (k + 1) vars) (drop (k + 1) vs))
+    ∙ ap (λ l. done ++ l) (sym (one_more (is_output (get_or vars k v).role) (content_of (get_or vs k w)) (outs_of (drop (k + 1) vars) (drop (k + 1) vs))))
+    ∙ ap₂ (λ (a : List VarInfo) (b : List Value). done ++ outs_of a b) (sym (left_cons vars k v h)) (sym (left_cons vs k w g))
+    ∙ f
+
+drop_past : {X : Type 0} (k : ℕ) (xs : List X) → length xs ≤ k → drop k xs ≡ []
+drop_past zero [] h = refl
+drop_past zero (x ∷ xs) h = absurd (omega arith)
+drop_past (suc k) [] h = refl
+drop_past (suc k) (x ∷ xs) h = drop_past k xs (omega arith)
+
+-- all variables
+pub outs_done : (vars : List VarInfo) (vs : List Value) (k : ℕ) (done : List Content) → length vars ≤ k → done ++ outs_of (drop k vars) (drop k vs) ≡ outs_of vars vs → done ≡ outs_of vars vs
+outs_done vars vs k done h e = sym (append-nil done) ∙ sym (ap (λ l. done ++ outs_of l (drop k vs)) (drop_past k vars h)) ∙ e

@@ -1,0 +1,205 @@
+-- What is left where one value of a store is replaced.
+use Rattle.std.proofs.Common.{◌≡◌, get_or, ℕ, zero, suc, List, [], ◌∷◌, ◌<◌, ◌==◌, ◌+◌, ◌∙◌, ap, sym, refl, subst, length, take, drop, add-one, drop-cons, arith, cond, Bool, true, false, Option, Some, None}
+use Rattle.std.specs.Prelude.{ℤ, pos, ◌&&◌, slice_get, slice_set, map, option_map}
+use Rattle.std.specs.List.{list_all}
+use Rattle.std.specs.Ordering.{int_eq}
+use Rattle.std.proofs.lemmas.Bool.{cases_lt}
+use Rattle.std.proofs.lemmas.Option.{slice_get-get_or, slice_get_past, slice_get-map}
+use Rattle.std.proofs.lemmas.List.Folds.{list_all_more}
+use Rattle.std.proofs.lemmas.Bool.Decides.{nat_tests}
+use Rattle.std.proofs.Math.Seq.{map-set_same}
+use Rattle.fs_model.specs.declared.parts.Sort.{Sort}
+use Rattle.fs_model.specs.declared.parts.Sort.TheVariants.{Scalar, Array}
+use Rattle.fs_model.specs.Stores.{Store, assigned, written}
+use Rattle.fs_runs.specs.declared.values.Value.{Value}
+use Rattle.fs_runs.specs.declared.values.Value.TheVariants.{Num, Arr}
+use Rattle.fs_runs.specs.declared.changes.Change.{Change}
+use Rattle.fs_runs.specs.declared.changes.Change.TheVariants.{Set, Put}
+use Rattle.fs_runs.specs.Values.{store_from, number_in, entry_in, sort_of}
+use Rattle.fs_runs.specs.Changes.{Alike, Puts, KeepsRoom, is_number, is_array, room_in, suits, is_ready, changed, changed_all}
+
+pub store_ext : (s t : Store) → ((x : ℕ) → s.scalar x ≡ t.scalar x) → ((x : ℕ) (i : ℤ) → s.array x i ≡ t.array x i) → s ≡ t
+store_ext s t p q = λ k. record { scalar = λ x. p x k; array = λ x i. q x i k }
+
+same_suc : (y x : ℕ) → (y == x) ≡ (suc y == suc x)
+same_suc y x = grind (arith, nat_tests)
+
+number_in-cond : (b : Bool) (v : Value) (o : Option Value) → number_in (cond b (Some v) o) ≡ cond b (number_in (Some v)) (number_in o)
+number_in-cond true v o = refl
+number_in-cond false v o = refl
+
+entry_in-cond : (b : Bool) (v : Value) (o : Option Value) (i : ℤ) → entry_in (cond b (Some v) o) i ≡ cond b (entry_in (Some v) i) (entry_in o i)
+entry_in-cond true v o i = refl
+entry_in-cond false v o i = refl
+
+-- one value replaced
+pub get-set_value : (vs : List Value) (x : ℕ) (o n : Value) (y : ℕ) → slice_get vs x ≡ Some o → slice_get (slice_set vs x n) y ≡ cond (y == x) (Some n) (slice_get vs y)
+get-set_value [] x o n y e = cc
+get-set_value (a ∷ rest) zero o n zero e = refl
+get-set_value (a ∷ rest) zero o n (suc y) e = grind arith
+get-set_value (a ∷ rest) (suc x) o n zero e = grind arith
+get-set_value (a ∷ rest) (suc x) o n (suc y) e = get-set_value rest x o n y e ∙ ap (λ b. cond b (Some n) (slice_get rest y)) (same_suc y x)
+
+-- a choice at the place itself
+at_place : (y x : ℕ) (f : Option Value → ℤ) (vs : List Value) (o : Value) → slice_get vs x ≡ Some o → cond (y == x) (f (Some o)) (f (slice_get vs y)) ≡ f (slice_get vs y)
+at_place y x f vs o e = grind (arith, nat_tests, e)
+
+written_there : (y x : ℕ) (i j v : ℤ) (vs : List Value) (o : Value) → slice_get vs x ≡ Some o
+    → cond (y == x) (cond (int_eq i j) v (entry_in (Some o) j)) (entry_in (slice_get vs y) j)
+    ≡ cond (y == x) (cond (int_eq i j) v (entry_in (slice_get vs y) j)) (entry_in (slice_get vs y) j)
+written_there y x i j v vs o e = grind (arith, nat_tests, e)
+
+pub put_stands : (vs : List Value) (x : ℕ) (o n : Value) (i v : ℤ) → slice_get vs x ≡ Some o → Puts i v o n
+    → store_from (slice_set vs x n) ≡ written (store_from vs) x i v
+put_stands vs x o n i v e u = store_ext _ _
+    (λ y. ap number_in (get-set_value vs x o n y e) ∙ number_in-cond (y == x) n (slice_get vs y) ∙ ap (λ w. cond (y == x) w (number_in (slice_get vs y))) u.number ∙ at_place y x number_in vs o e)
+    (λ y j. ap (λ o. entry_in o j) (get-set_value vs x o n y e) ∙ entry_in-cond (y == x) n (slice_get vs y) j
+    ∙ ap (λ w. cond (y == x) w (entry_in (slice_get vs y) j)) (u.entries j)
+    ∙ written_there y x i j v vs o e)
+
+pub same_stands : (vs : List Value) (x : ℕ) (o n : Value) → slice_get vs x ≡ Some o → Alike o n
+    → store_from (slice_set vs x n) ≡ store_from vs
+same_stands vs x o n e u = store_ext _ _
+    (λ y. ap number_in (get-set_value vs x o n y e) ∙ number_in-cond (y == x) n (slice_get vs y) ∙ ap (λ w. cond (y == x) w (number_in (slice_get vs y))) u.number ∙ at_place y x number_in vs o e)
+    (λ y j. ap (λ o. entry_in o j) (get-set_value vs x o n y e) ∙ entry_in-cond (y == x) n (slice_get vs y) j
+    ∙ ap (λ w. cond (y == x) w (entry_in (slice_get vs y) j)) (u.entries j)
+    ∙ at_place y x (λ o. entry_in o j) vs o e)
+
+no_entries : (o : Value) (j v : ℤ) → is_number (Some o) ≡ true → entry_in (Some (Num v)) j ≡ entry_in (Some o) j
+no_entries (Num n) j v e = refl
+no_entries (Arr m) j v e = absurd (cc)
+
+pub set_stands : (vs : List Value) (x : ℕ) (o : Value) (v : ℤ) → slice_get vs x ≡ Some o → is_number (Some o) ≡ true
+    → store_from (slice_set vs x (Num v)) ≡ assigned (store_from vs) x v
+set_stands vs x o v e u = store_ext _ _
+    (λ y. ap number_in (get-set_value vs x o (Num v) y e) ∙ number_in-cond (y == x) (Num v) (slice_get vs y))
+    (λ y j. ap (λ o. entry_in o j) (get-set_value vs x o (Num v) y e) ∙ entry_in-cond (y == x) (Num v) (slice_get vs y) j
+    ∙ ap (λ w. cond (y == x) w (entry_in (slice_get vs y) j)) (no_entries o j v u)
+    ∙ at_place y x (λ o. entry_in o j) vs o e)
+
+number_sort : (o : Value) (v : ℤ) → is_number (Some o) ≡ true → sort_of (Num v) ≡ sort_of o
+number_sort (Num n) v e = refl
+number_sort (Arr m) v e = absurd (cc)
+
+pub sorts_stand : (vs : List Value) (x : ℕ) (d n : Value) → sort_of n ≡ sort_of (get_or vs x d) → map sort_of (slice_set vs x n) ≡ map sort_of vs
+sorts_stand vs x d n h = map-set_same sort_of vs x n d h
+
+pub sorts_stand_number : (vs : List Value) (x : ℕ) (d : Value) (v : ℤ) → is_number (Some (get_or vs x d)) ≡ true → map sort_of (slice_set vs x (Num v)) ≡ map sort_of vs
+sorts_stand_number vs x d v h = sorts_stand vs x d (Num v) (number_sort (get_or vs x d) v h)
+
+-- a value that is there
+
+past_none : (vs : List Value) (x : ℕ) (f : Option Value → Bool) → f None ≡ false → f (slice_get vs x) ≡ true → x < length vs
+past_none vs x f n e = grind (arith, slice_get_past vs x, cases_lt x (length vs), n, e)
+
+pub within_number : (vs : List Value) (x : ℕ) → is_number (slice_get vs x) ≡ true → x < length vs
+within_number vs x e = past_none vs x is_number refl e
+
+pub within_array : (vs : List Value) (x : ℕ) → is_array (slice_get vs x) ≡ true → x < length vs
+within_array vs x e = past_none vs x is_array refl e
+
+pub within_room : (vs : List Value) (x : ℕ) (i : ℤ) → room_in (slice_get vs x) i ≡ true → x < length vs
+within_room vs x i e = past_none vs x (λ o. room_in o i) refl e
+
+pub is_there : (vs : List Value) (x : ℕ) (d : Value) → x < length vs → slice_get vs x ≡ Some (get_or vs x d)
+is_there vs x d h = slice_get-get_or vs x d h
+
+-- what is ready stays so
+
+number_by_sort : (o n : Value) → sort_of n ≡ sort_of o → is_number (Some n) ≡ is_number (Some o)
+number_by_sort (Num a) (Num b) e = refl
+number_by_sort (Num a) (Arr b) e = absurd (cc)
+number_by_sort (Arr a) (Num b) e = absurd (cc)
+number_by_sort (Arr a) (Arr b) e = refl
+
+is_number-cond : (b : Bool) (v : Value) (o : Option Value) → is_number (cond b (Some v) o) ≡ cond b (is_number (Some v)) (is_number o)
+is_number-cond true v o = refl
+is_number-cond false v o = refl
+
+at_bool : (y x : ℕ) (f : Option Value → Bool) (vs : List Value) (o : Value) → slice_get vs x ≡ Some o → cond (y == x) (f (Some o)) (f (slice_get vs y)) ≡ f (slice_get vs y)
+at_bool y x f vs o e = grind (arith, nat_tests, e)
+
+room_cond : (b : Bool) (o n : Value) (i : ℤ) (p : Option Value) → KeepsRoom o n → (b ≡ true → p ≡ Some o) → room_in p i ≡ true → room_in (cond b (Some n) p) i ≡ true
+room_cond true o n i p k h e = k.rooms i (sym (ap (λ q. room_in q i) (h refl)) ∙ e)
+room_cond false o n i p k h e = e
+
+same_place : (y x : ℕ) (vs : List Value) (o : Value) → slice_get vs x ≡ Some o → (y == x) ≡ true → slice_get vs y ≡ Some o
+same_place y x vs o e h = grind (arith, nat_tests, e, h)
+
+pub keeps_ready : (vs : List Value) (x : ℕ) (o n : Value) → slice_get vs x ≡ Some o → KeepsRoom o n → sort_of n ≡ sort_of o
+    → (c : Change) → is_ready vs c ≡ true → is_ready (slice_set vs x n) c ≡ true
+keeps_ready vs x o n e k h (Set y v) r =
+    ap is_number (get-set_value vs x o n y e) ∙ is_number-cond (y == x) n (slice_get vs y) ∙ ap (λ w. cond (y == x) w (is_number (slice_get vs y))) (number_by_sort o n h) ∙ at_bool y x is_number vs o e ∙ r
+keeps_ready vs x o n e k h (Put y i v) r =
+    ap (λ p. room_in p i) (get-set_value vs x o n y e) ∙ room_cond (y == x) o n i (slice_get vs y) k (same_place y x vs o e) r
+
+no_room : (o : Value) (i : ℤ) → is_number (Some o) ≡ true → room_in (Some o) i ≡ false
+no_room (Num n) i e = refl
+no_room (Arr m) i e = absurd (cc)
+
+pub number_keeps : (o : Value) (v : ℤ) → is_number (Some o) ≡ true → KeepsRoom o (Num v)
+number_keeps o v e = record { rooms = λ j r. absurd (cc (no_room o j e)) }
+
+-- sorts decide what suits
+
+suits_by : Change → Option Sort → Bool
+suits_by (Set x v) None = false
+suits_by (Set x v) (Some Scalar) = true
+suits_by (Set x v) (Some Array) = false
+suits_by (Put x i v) None = false
+suits_by (Put x i v) (Some Scalar) = false
+suits_by (Put x i v) (Some Array) = true
+
+place_of : Change → ℕ
+place_of (Set x v) = x
+place_of (Put x i v) = x
+
+suits_sort : (c : Change) (vs : List Value) → suits vs c ≡ suits_by c (option_map sort_of (slice_get vs (place_of c)))
+unfolding suits_by place_of
+suits_sort (Set x v) vs = elim (slice_get vs x) as (λ o. is_number o ≡ suits_by (Set x v) (option_map sort_of o)) [ None ↦ refl | Some w ↦ (elim w as (λ w. is_number (Some w) ≡ suits_by (Set x v) (option_map sort_of (Some w))) [ Num n ↦ refl | Arr m ↦ refl ]) ]
+suits_sort (Put x i v) vs = elim (slice_get vs x) as (λ o. is_array o ≡ suits_by (Put x i v) (option_map sort_of o)) [ None ↦ refl | Some w ↦ (elim w as (λ w. is_array (Some w) ≡ suits_by (Put x i v) (option_map sort_of (Some w))) [ Num n ↦ refl | Arr m ↦ refl ]) ]
+
+pub suits_same : (vs ws : List Value) (c : Change) → map sort_of vs ≡ map sort_of ws → suits vs c ≡ suits ws c
+suits_same vs ws c e =
+    suits_sort c vs ∙ ap (suits_by c) (sym (slice_get-map sort_of vs (place_of c)) ∙ ap (λ l. slice_get l (place_of c)) e ∙ slice_get-map sort_of ws (place_of c)) ∙ sym (suits_sort c ws)
+
+-- tests over lists
+
+first_of : (a b : Bool) → (a && b) ≡ true → a ≡ true
+first_of true b e = refl
+first_of false b e = absurd (cc)
+
+second_of : (a b : Bool) → (a && b) ≡ true → b ≡ true
+second_of true b e = e
+second_of false b e = absurd (cc)
+
+and_of : (a b : Bool) → a ≡ true → b ≡ true → (a && b) ≡ true
+and_of true b p q = q
+and_of false b p q = absurd (cc)
+
+pub all_at : {X : Type 0} (p : X → Bool) (xs : List X) (i : ℕ) (d : X) → i < length xs → list_all p xs ≡ true → p (get_or xs i d) ≡ true
+all_at p [] i d h e = absurd (omega arith)
+all_at p (x ∷ xs) zero d h e = first_of (p x) (list_all p xs) e
+all_at p (x ∷ xs) (suc i) d h e = all_at p xs i d (omega arith) (second_of (p x) (list_all p xs) e)
+
+pub all_mono : {X : Type 0} (p q : X → Bool) (xs : List X) → ((x : X) → p x ≡ true → q x ≡ true) → list_all p xs ≡ true → list_all q xs ≡ true
+all_mono p q [] h e = refl
+all_mono p q (x ∷ xs) h e = and_of (q x) (list_all q xs) (h x (first_of (p x) (list_all p xs) e)) (all_mono p q xs h (second_of (p x) (list_all p xs) e))
+
+pub all_more : {X : Type 0} (p : X → Bool) (xs : List X) (i : ℕ) (d : X) → i < length xs → list_all p (take i xs) ≡ true → p (get_or xs i d) ≡ true → list_all p (take (i + 1) xs) ≡ true
+all_more p xs i d h a b = list_all_more p xs i d h ∙ and_of (list_all p (take i xs)) (p (get_or xs i d)) a b
+
+pub left_cons : {X : Type 0} (xs : List X) (i : ℕ) (d : X) → i < length xs → drop i xs ≡ get_or xs i d ∷ drop (i + 1) xs
+left_cons xs i d h = drop-cons xs i d h ∙ ap (λ k. get_or xs i d ∷ drop k xs) (sym (add-one i))
+
+pub left_item : {X : Type 0} (xs : List X) (i : ℕ) (x : X) → i < length xs → x ≡ get_or xs i x → drop i xs ≡ x ∷ drop (i + 1) xs
+left_item xs i x h e = left_cons xs i x h ∙ ap (λ y. y ∷ drop (i + 1) xs) (sym e)
+
+pub all_first : {X : Type 0} (p : X → Bool) (x : X) (xs : List X) → list_all p (x ∷ xs) ≡ true → p x ≡ true
+all_first p x xs e = first_of (p x) (list_all p xs) e
+
+pub all_rest : {X : Type 0} (p : X → Bool) (x : X) (xs : List X) → list_all p (x ∷ xs) ≡ true → list_all p xs ≡ true
+all_rest p x xs e = second_of (p x) (list_all p xs) e
+
+pub number_there : (vs : List Value) (x : ℕ) (o : Value) → slice_get vs x ≡ Some o → is_number (slice_get vs x) ≡ true → is_number (Some o) ≡ true
+number_there vs x o e h = sym (ap is_number e) ∙ h

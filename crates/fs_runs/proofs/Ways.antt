@@ -1,0 +1,316 @@
+-- The numbers that are touched where branches are tried in order are those of the way that is taken.
+use Rattle.std.proofs.Common.{◌≡◌, ℕ, Bool, true, false, cond, List, [], ◌∷◌, ◌++◌, refl, sym, ◌∙◌, ap, ap₂, subst, append-nil, append_assoc, arith}
+use Rattle.std.specs.Prelude.{not, ◌&&◌, ◌||◌, is_none, is_some, ℤ, Option, Some, None, option_map, map, filter, FitsSigned}
+use Rattle.std.proofs.lemmas.List.Folds.{list_all-append}
+use Rattle.fs_model.specs.declared.parts.Rel.{Rel}
+use Rattle.fs_model.specs.declared.parts.Rel.TheVariants.{Eq, Ne, Lt, Le, Gt, Ge}
+use Rattle.fs_model.specs.Terms.{Term, Number, Variable, Read, Sum, Difference, Product, Quotient, Remainder, Negative, Literal, Formula, Test, Not, And, Or, Action, Line}
+use Rattle.fs_model.specs.Stores.{Store}
+use Rattle.fs_model.specs.Meaning.{value, relates, literal_holds, holds, guard_holds, line_taken}
+use Rattle.fs_model.specs.Touched.{touched_by_term, touched_by_formula, touched_by_guard, touched_by_actions, touched_by_lines, AllInRange}
+use Rattle.fs_model.specs.Trees.{Tree, Empty, Leaf, Node, tree_of_formula, tree_of_guard, tree_of_lines, opposite, negated, Branch, leaves, branches_of}
+use Rattle.fs_ast.specs.Sound.{ends_open, is_open}
+use Rattle.fs_ast.specs.Open.{all_hold, TakesOneBranch}
+use Rattle.fs_runs.specs.Reads.{EachFits, LiteralFits, touched_by_literal, touched_by_way, touched_by_branches, first_open, Both}
+
+-- lists of numbers in range
+
+pub both_parts : (a b : List ℤ) → AllInRange a → AllInRange b → AllInRange (a ++ b)
+both_parts [] b p q = q
+both_parts (z ∷ a) b p q = (p.0, both_parts a b p.1 q)
+
+pub front_part : (a b : List ℤ) → AllInRange (a ++ b) → AllInRange a
+front_part [] b p = tt
+front_part (z ∷ a) b p = (p.0, front_part a b p.1)
+
+pub back_part : (a b : List ℤ) → AllInRange (a ++ b) → AllInRange b
+back_part [] b p = p
+back_part (z ∷ a) b p = back_part a b p.1
+
+-- a term
+
+pub fits_touched : (t : Term ℕ) (s : Store) → EachFits t s → AllInRange (touched_by_term t s)
+fits_touched (Number n) s p = (p, tt)
+fits_touched (Variable x) s p = (p, tt)
+fits_touched (Read x i) s p = (p.1, fits_touched i s p.0)
+fits_touched (Sum a b) s p = (p.2, both_parts _ _ (fits_touched a s p.0) (fits_touched b s p.1))
+fits_touched (Difference a b) s p = (p.2, both_parts _ _ (fits_touched a s p.0) (fits_touched b s p.1))
+fits_touched (Product a b) s p = (p.2, both_parts _ _ (fits_touched a s p.0) (fits_touched b s p.1))
+fits_touched (Quotient a b) s p = (p.2, both_parts _ _ (fits_touched a s p.0) (fits_touched b s p.1))
+fits_touched (Remainder a b) s p = (p.2, both_parts _ _ (fits_touched a s p.0) (fits_touched b s p.1))
+fits_touched (Negative a) s p = (p.1, fits_touched a s p.0)
+
+pub touched_fits : (t : Term ℕ) (s : Store) → AllInRange (touched_by_term t s) → EachFits t s
+touched_fits (Number n) s p = p.0
+touched_fits (Variable x) s p = p.0
+touched_fits (Read x i) s p = (touched_fits i s p.1, p.0)
+touched_fits (Sum a b) s p = (touched_fits a s (front_part _ _ p.1), touched_fits b s (back_part (touched_by_term a s) _ p.1), p.0)
+touched_fits (Difference a b) s p = (touched_fits a s (front_part _ _ p.1), touched_fits b s (back_part (touched_by_term a s) _ p.1), p.0)
+touched_fits (Product a b) s p = (touched_fits a s (front_part _ _ p.1), touched_fits b s (back_part (touched_by_term a s) _ p.1), p.0)
+touched_fits (Quotient a b) s p = (touched_fits a s (front_part _ _ p.1), touched_fits b s (back_part (touched_by_term a s) _ p.1), p.0)
+touched_fits (Remainder a b) s p = (touched_fits a s (front_part _ _ p.1), touched_fits b s (back_part (touched_by_term a s) _ p.1), p.0)
+touched_fits (Negative a) s p = (touched_fits a s p.1, p.0)
+
+pub literal_fits : (l : Literal ℕ) (s : Store) → AllInRange (touched_by_literal l s) → LiteralFits l s
+literal_fits l s p = (touched_fits l.left s (front_part _ _ p), touched_fits l.right s (back_part (touched_by_term l.left s) _ p))
+
+pub fits_literal : (l : Literal ℕ) (s : Store) → LiteralFits l s → AllInRange (touched_by_literal l s)
+fits_literal l s p = both_parts _ _ (fits_touched l.left s p.0) (fits_touched l.right s p.1)
+
+-- a tree
+
+not_not : (b : Bool) → b ≡ not (not b)
+not_not true = refl
+not_not false = refl
+
+opposite_relates : (r : Rel) (a b : ℤ) → relates (opposite r) a b ≡ not (relates r a b)
+opposite_relates Eq a b = refl
+opposite_relates Ne a b = not_not _
+opposite_relates Lt a b = refl
+opposite_relates Le a b = not_not _
+opposite_relates Gt a b = refl
+opposite_relates Ge a b = not_not _
+
+-- a literal or its negation holds, and not both
+opposite_holds : (l : Literal ℕ) (s : Store) → literal_holds (negated l) s ≡ not (literal_holds l s)
+opposite_holds l s = opposite_relates l.relation (value l.left s) (value l.right s)
+
+-- the numbers that are looked at on the way down a tree
+abbrev pub touched_by_tree : Tree → Store → List ℤ
+touched_by_tree Empty s = []
+touched_by_tree (Leaf actions target) s = []
+touched_by_tree (Node l y n) s = touched_by_literal l s ++ cond (literal_holds l s) (touched_by_tree y s) (touched_by_tree n s)
+
+-- whether each way down ends at a leaf
+abbrev pub is_full : Tree → Bool
+is_full Empty = false
+is_full (Leaf actions target) = true
+is_full (Node l y n) = is_full y && is_full n
+
+both_true : (a b : Bool) → a ≡ true → b ≡ true → (a && b) ≡ true
+both_true a b p q = ap₂ (λ (x y : Bool). x && y) p q
+
+first_true : (a b : Bool) → (a && b) ≡ true → a ≡ true
+first_true true b e = refl
+first_true false b e = absurd (cc)
+
+second_true : (a b : Bool) → (a && b) ≡ true → b ≡ true
+second_true true b e = e
+second_true false b e = absurd (cc)
+
+full-formula : (g : Formula ℕ) (y n : Tree) → is_full y ≡ true → is_full n ≡ true → is_full (tree_of_formula g y n) ≡ true
+full-formula (Test l) y n p q = both_true _ _ p q
+full-formula (Not c) y n p q = full-formula c n y q p
+full-formula (And c d) y n p q = full-formula c _ n (full-formula d y n p q) q
+full-formula (Or c d) y n p q = full-formula c y _ p (full-formula d y n p q)
+
+full-guard : (g : Option (Formula ℕ)) (y n : Tree) → is_full y ≡ true → is_full n ≡ true → is_full (tree_of_guard g y n) ≡ true
+full-guard None y n p q = p
+full-guard (Some c) y n p q = full-formula c y n p q
+
+full-open : (g : Option (Formula ℕ)) (y n : Tree) → is_none g ≡ true → is_full y ≡ true → is_full (tree_of_guard g y n) ≡ true
+full-open None y n e p = p
+full-open (Some c) y n e p = absurd (cc)
+
+pub full-lines : (ls : List (Line ℕ ℕ)) → ends_open ls ≡ true → is_full (tree_of_lines ls) ≡ true
+full-lines [] e = absurd (cc)
+full-lines (l ∷ []) e = full-open l.guard (Leaf l.actions l.target) Empty e refl
+full-lines (l ∷ k ∷ ls) e = full-guard l.guard (Leaf l.actions l.target) (tree_of_lines (k ∷ ls)) refl (full-lines (k ∷ ls) (second_true (not (is_open l)) (ends_open (k ∷ ls)) e))
+
+and_then : (a b : Bool) (u v w x : List ℤ) → (u ++ cond a v []) ++ cond (a && b) w x ≡ u ++ cond a (v ++ cond b w x) x
+and_then true b u v w x = append_assoc u v (cond b w x)
+and_then false b u v w x = ap (λ z. z ++ x) (append-nil u)
+
+or_then : (a b : Bool) (u v w x : List ℤ) → (u ++ cond a [] v) ++ cond (a || b) w x ≡ u ++ cond a w (v ++ cond b w x)
+or_then true b u v w x = ap (λ z. z ++ w) (append-nil u)
+or_then false b u v w x = append_assoc u v (cond b w x)
+
+turned : (a : Bool) (w x : List ℤ) → cond (not a) w x ≡ cond a x w
+turned true w x = refl
+turned false w x = refl
+
+touched-formula : (g : Formula ℕ) (y n : Tree) (s : Store) → touched_by_tree (tree_of_formula g y n) s ≡ touched_by_formula g s ++ cond (holds g s) (touched_by_tree y s) (touched_by_tree n s)
+touched-formula (Test l) y n s = refl
+touched-formula (Not c) y n s = touched-formula c n y s ∙ ap (λ z. touched_by_formula c s ++ z) (sym (turned (holds c s) (touched_by_tree y s) (touched_by_tree n s)))
+touched-formula (And c d) y n s =
+    touched-formula c (tree_of_formula d y n) n s
+    ∙ ap (λ z. touched_by_formula c s ++ cond (holds c s) z (touched_by_tree n s)) (touched-formula d y n s)
+    ∙ sym (and_then (holds c s) (holds d s) (touched_by_formula c s) (touched_by_formula d s) (touched_by_tree y s) (touched_by_tree n s))
+touched-formula (Or c d) y n s =
+    touched-formula c y (tree_of_formula d y n) s
+    ∙ ap (λ z. touched_by_formula c s ++ cond (holds c s) (touched_by_tree y s) z) (touched-formula d y n s)
+    ∙ sym (or_then (holds c s) (holds d s) (touched_by_formula c s) (touched_by_formula d s) (touched_by_tree y s) (touched_by_tree n s))
+
+touched-guard : (g : Option (Formula ℕ)) (y n : Tree) (s : Store) → touched_by_tree (tree_of_guard g y n) s ≡ touched_by_guard g s ++ cond (guard_holds g s) (touched_by_tree y s) (touched_by_tree n s)
+touched-guard None y n s = refl
+touched-guard (Some c) y n s = touched-formula c y n s
+
+-- the actions of the transition taken
+abbrev pub actions_taken : Option (Line ℕ ℕ) → List (Action ℕ)
+actions_taken None = []
+actions_taken (Some l) = l.actions
+
+line_then : (b : Bool) (l : Line ℕ ℕ) (o : Option (Line ℕ ℕ)) (u v : List ℤ) (s : Store)
+    → u ++ cond b (touched_by_actions l.actions s) (v ++ touched_by_actions (actions_taken o) s) ≡ (u ++ cond b [] v) ++ touched_by_actions (actions_taken (cond b (Some l) o)) s
+line_then true l o u v s = ap (λ z. z ++ touched_by_actions l.actions s) (sym (append-nil u))
+line_then false l o u v s = sym (append_assoc u v (touched_by_actions (actions_taken o) s))
+
+-- what a step touches: the numbers on the way down the tree, and those of the actions
+pub touched-lines : (ls : List (Line ℕ ℕ)) (s : Store) → touched_by_lines ls s ≡ touched_by_tree (tree_of_lines ls) s ++ touched_by_actions (actions_taken (line_taken ls s)) s
+touched-lines [] s = refl
+touched-lines (l ∷ ls) s =
+    ap (λ z. touched_by_guard l.guard s ++ cond (guard_holds l.guard s) (touched_by_actions l.actions s) z) (touched-lines ls s)
+    ∙ line_then (guard_holds l.guard s) l (line_taken ls s) (touched_by_guard l.guard s) (touched_by_tree (tree_of_lines ls) s) s
+    ∙ ap (λ z. z ++ touched_by_actions (actions_taken (line_taken (l ∷ ls) s)) s) (sym (touched-guard l.guard (Leaf l.actions l.target) (tree_of_lines ls) s))
+
+-- branches in order
+
+all-more : (w : List (Literal ℕ)) (l : Literal ℕ) (s : Store) → all_hold (w ++ l ∷ []) s ≡ (all_hold w s && (literal_holds l s && true))
+all-more w l s = list_all-append (λ k. literal_holds k s) w (l ∷ [])
+
+and_true : (a : Bool) → (a && true) ≡ a
+and_true true = refl
+and_true false = refl
+
+way_cond : (h : Bool) (u v w : List ℤ) → u ++ cond h (v ++ w) [] ≡ (u ++ cond h v []) ++ cond h w []
+way_cond true u v w = sym (append_assoc u v w)
+way_cond false u v w = sym (append-nil (u ++ []))
+
+-- a way that holds so far, and one more literal
+way-more : (w : List (Literal ℕ)) (l : Literal ℕ) (s : Store) → all_hold w s ≡ true → touched_by_way (w ++ l ∷ []) s ≡ touched_by_way w s ++ touched_by_literal l s
+way-more [] l s e = ap (λ z. touched_by_literal l s ++ z) (cond_nil (literal_holds l s)) ∙ append-nil (touched_by_literal l s)
+  where
+    cond_nil : (b : Bool) → cond {A = List ℤ} b [] [] ≡ []
+    cond_nil true = refl
+    cond_nil false = refl
+way-more (k ∷ w) l s e =
+    let h : literal_holds k s ≡ true = first_true (literal_holds k s) (all_hold w s) e in
+    let ih : touched_by_way (w ++ l ∷ []) s ≡ touched_by_way w s ++ touched_by_literal l s = way-more w l s (second_true (literal_holds k s) (all_hold w s) e) in
+    ap (λ b. touched_by_literal k s ++ cond b (touched_by_way (w ++ l ∷ []) s) []) h
+    ∙ ap (λ z. touched_by_literal k s ++ z) ih
+    ∙ sym (append_assoc (touched_by_literal k s) (touched_by_way w s) (touched_by_literal l s))
+    ∙ ap (λ b. (touched_by_literal k s ++ cond b (touched_by_way w s) []) ++ touched_by_literal l s) (sym h)
+
+-- a way on which a literal fails, and more
+way-failed : (w v : List (Literal ℕ)) (s : Store) → all_hold w s ≡ false → touched_by_way (w ++ v) s ≡ touched_by_way w s
+way-failed [] v s e = absurd (cc)
+way-failed (k ∷ w) v s e = on_first (λ h. way-failed w v s h) (literal_holds k s) refl
+  where
+    on_first : (all_hold w s ≡ false → touched_by_way (w ++ v) s ≡ touched_by_way w s) → (b : Bool) → literal_holds k s ≡ b → touched_by_way ((k ∷ w) ++ v) s ≡ touched_by_way (k ∷ w) s
+    on_first ih true h = ap (λ z. touched_by_literal k s ++ cond (literal_holds k s) z []) (ih (sym (ap (λ b. b && all_hold w s) h) ∙ e))
+    on_first ih false h = ap (λ b. touched_by_literal k s ++ cond b (touched_by_way (w ++ v) s) []) h ∙ ap (λ b. touched_by_literal k s ++ cond b (touched_by_way w s) []) (sym h)
+
+-- the branches below a way on which a literal fails are passed
+failing : (t : Tree) (w : List (Literal ℕ)) (s : Store) (x : List Branch) → is_full t ≡ true → all_hold w s ≡ false
+    → Both (AllInRange (touched_by_branches (leaves t w ++ x) s)) (AllInRange (touched_by_way w s) × AllInRange (touched_by_branches x s))
+failing Empty w s x f e = absurd (cc)
+failing (Leaf actions target) w s x f e = record {
+  there = λ p. let q : AllInRange (touched_by_way w s ++ touched_by_branches x s) = subst (λ b. AllInRange (touched_by_way w s ++ cond b [] (touched_by_branches x s))) e p in
+      (front_part _ _ q, back_part (touched_by_way w s) _ q);
+  back = λ p. subst (λ b. AllInRange (touched_by_way w s ++ cond b [] (touched_by_branches x s))) (sym e) (both_parts _ _ p.0 p.1);
+}
+failing (Node l y n) w s x f e =
+    let no : all_hold (w ++ l ∷ []) s ≡ false = all-more w l s ∙ ap (λ b. b && (literal_holds l s && true)) e in
+    let no2 : all_hold (w ++ negated l ∷ []) s ≡ false = all-more w (negated l) s ∙ ap (λ b. b && (literal_holds (negated l) s && true)) e in
+    let rest : List Branch = leaves n (w ++ negated l ∷ []) ++ x in
+    let on_y = failing y (w ++ l ∷ []) s rest (first_true (is_full y) (is_full n) f) no in
+    let on_n = failing n (w ++ negated l ∷ []) s x (second_true (is_full y) (is_full n) f) no2 in
+    let same : touched_by_way (w ++ l ∷ []) s ≡ touched_by_way w s = way-failed w (l ∷ []) s e in
+    let same2 : touched_by_way (w ++ negated l ∷ []) s ≡ touched_by_way w s = way-failed w (negated l ∷ []) s e in
+    let joined : (leaves y (w ++ l ∷ []) ++ leaves n (w ++ negated l ∷ [])) ++ x ≡ leaves y (w ++ l ∷ []) ++ rest = append_assoc (leaves y (w ++ l ∷ [])) (leaves n (w ++ negated l ∷ [])) x in
+    record {
+      there = λ p. let a = on_y.there (subst (λ bs. AllInRange (touched_by_branches bs s)) joined p) in (subst AllInRange same a.0, (on_n.there a.1).1);
+      back = λ p. subst (λ bs. AllInRange (touched_by_branches bs s)) (sym joined) (on_y.back (subst AllInRange (sym same) p.0, on_n.back (subst AllInRange (sym same2) p.0, p.1)));
+    }
+
+-- below a way that holds, the numbers looked at are those on the way down the tree
+pub through : (t : Tree) (w : List (Literal ℕ)) (s : Store) (x : List Branch) → is_full t ≡ true → all_hold w s ≡ true
+    → Both (AllInRange (touched_by_branches (leaves t w ++ x) s)) (AllInRange (touched_by_way w s) × AllInRange (touched_by_tree t s))
+through Empty w s x f e = absurd (cc)
+through (Leaf actions target) w s x f e = record {
+  there = λ p. (front_part _ _ p, tt);
+  back = λ p. subst (λ b. AllInRange (touched_by_way w s ++ cond b [] (touched_by_branches x s))) (sym e) (both_parts (touched_by_way w s) [] p.0 tt);
+}
+through (Node l y n) w s x f e =
+    on_first (λ h. through y (w ++ l ∷ []) s rest (first_true (is_full y) (is_full n) f) h) (λ h. through n (w ++ negated l ∷ []) s x (second_true (is_full y) (is_full n) f) h) (literal_holds l s) refl
+  where
+    rest : List Branch
+    rest = leaves n (w ++ negated l ∷ []) ++ x
+
+    joined : (leaves y (w ++ l ∷ []) ++ leaves n (w ++ negated l ∷ [])) ++ x ≡ leaves y (w ++ l ∷ []) ++ rest
+    joined = append_assoc (leaves y (w ++ l ∷ [])) (leaves n (w ++ negated l ∷ [])) x
+
+    more : touched_by_way (w ++ l ∷ []) s ≡ touched_by_way w s ++ touched_by_literal l s
+    more = way-more w l s e
+
+    more2 : touched_by_way (w ++ negated l ∷ []) s ≡ touched_by_way w s ++ touched_by_literal l s
+    more2 = way-more w (negated l) s e
+
+    Below : Bool → Type 0
+    Below b = AllInRange (touched_by_literal l s ++ cond b (touched_by_tree y s) (touched_by_tree n s))
+
+    OnYes : Type 0
+    OnYes = all_hold (w ++ l ∷ []) s ≡ true → Both (AllInRange (touched_by_branches (leaves y (w ++ l ∷ []) ++ rest) s)) (AllInRange (touched_by_way (w ++ l ∷ []) s) × AllInRange (touched_by_tree y s))
+
+    OnNo : Type 0
+    OnNo = all_hold (w ++ negated l ∷ []) s ≡ true → Both (AllInRange (touched_by_branches rest s)) (AllInRange (touched_by_way (w ++ negated l ∷ []) s) × AllInRange (touched_by_tree n s))
+
+    on_first : OnYes → OnNo → (b : Bool) → literal_holds l s ≡ b → Both (AllInRange (touched_by_branches (leaves (Node l y n) w ++ x) s)) (AllInRange (touched_by_way w s) × AllInRange (touched_by_tree (Node l y n) s))
+    on_first yes_below no_below true h =
+        let all : all_hold (w ++ l ∷ []) s ≡ true = all-more w l s ∙ ap₂ (λ (a b : Bool). a && (b && true)) e h in
+        let on_y = yes_below all in
+        record {
+          there = λ p. let a = on_y.there (subst (λ bs. AllInRange (touched_by_branches bs s)) joined p) in
+              let q : AllInRange (touched_by_way w s ++ touched_by_literal l s) = subst AllInRange more a.0 in
+              (front_part _ _ q, subst Below (sym h) (both_parts _ _ (back_part (touched_by_way w s) _ q) a.1));
+          back = λ p. let r : AllInRange (touched_by_literal l s ++ touched_by_tree y s) = subst Below h p.1 in
+              subst (λ bs. AllInRange (touched_by_branches bs s)) (sym joined) (on_y.back (subst AllInRange (sym more) (both_parts _ _ p.0 (front_part _ _ r)), back_part (touched_by_literal l s) _ r));
+        }
+    on_first yes_below no_below false h =
+        let no : all_hold (w ++ l ∷ []) s ≡ false = all-more w l s ∙ ap₂ (λ (a b : Bool). a && (b && true)) e h in
+        let all : all_hold (w ++ negated l ∷ []) s ≡ true = all-more w (negated l) s ∙ ap₂ (λ (a b : Bool). a && (b && true)) e (opposite_holds l s ∙ ap not h) in
+        let on_y = failing y (w ++ l ∷ []) s rest (first_true (is_full y) (is_full n) f) no in
+        let on_n = no_below all in
+        record {
+          there = λ p. let a = on_y.there (subst (λ bs. AllInRange (touched_by_branches bs s)) joined p) in
+              let c = on_n.there a.1 in
+              let q : AllInRange (touched_by_way w s ++ touched_by_literal l s) = subst AllInRange more a.0 in
+              (front_part _ _ q, subst Below (sym h) (both_parts _ _ (back_part (touched_by_way w s) _ q) c.1));
+          back = λ p. let r : AllInRange (touched_by_literal l s ++ touched_by_tree n s) = subst Below h p.1 in
+              let q : AllInRange (touched_by_way w s ++ touched_by_literal l s) = both_parts _ _ p.0 (front_part _ _ r) in
+              subst (λ bs. AllInRange (touched_by_branches bs s)) (sym joined)
+              (on_y.back (subst AllInRange (sym more) q, on_n.back (subst AllInRange (sym more2) q, back_part (touched_by_literal l s) _ r)));
+        }
+
+-- the first open branch is the one that is open
+
+abbrev head_of : List Branch → Option Branch
+head_of [] = None
+head_of (b ∷ bs) = Some b
+
+head_cond : (h : Bool) (b : Branch) (bs : List Branch) → head_of (cond h (b ∷ bs) bs) ≡ cond h (Some b) (head_of bs)
+head_cond true b bs = refl
+head_cond false b bs = refl
+
+first_filtered : (bs : List Branch) (s : Store) → head_of (filter (λ b. all_hold b.literals s) bs) ≡ first_open bs s
+first_filtered [] s = refl
+first_filtered (b ∷ bs) s = head_cond (all_hold b.literals s) b (filter (λ c. all_hold c.literals s) bs) ∙ ap (λ o. cond (all_hold b.literals s) (Some b) o) (first_filtered bs s)
+
+pub first_taken : (ls : List (Line ℕ ℕ)) (s : Store) (one : TakesOneBranch ls s) → first_open (branches_of ls) s ≡ Some one.branch
+first_taken ls s one = sym (first_filtered (branches_of ls) s) ∙ ap head_of one.one
+
+nil_right : (bs : List Branch) → bs ++ [] ≡ bs
+nil_right bs = append-nil bs
+
+-- what a step touches are the numbers of the branches that are tried, and of the actions of the one that is open
+pub touched_taken : (ls : List (Line ℕ ℕ)) (s : Store) → ends_open ls ≡ true → (one : TakesOneBranch ls s)
+    → Both (AllInRange (touched_by_lines ls s)) (AllInRange (touched_by_branches (branches_of ls) s) × AllInRange (touched_by_actions one.branch.actions s))
+touched_taken ls s e one =
+    let t : Both (AllInRange (touched_by_branches (branches_of ls ++ []) s)) (AllInRange (touched_by_way [] s) × AllInRange (touched_by_tree (tree_of_lines ls) s)) = through (tree_of_lines ls) [] s [] (full-lines ls e) refl in
+    let acts : touched_by_actions (actions_taken (line_taken ls s)) s ≡ touched_by_actions one.branch.actions s = ap (λ o. touched_by_actions (actions_taken o) s) one.taken ∙ ap (λ a. touched_by_actions a s) (sym one.actions) in
+    let whole : touched_by_lines ls s ≡ touched_by_tree (tree_of_lines ls) s ++ touched_by_actions one.branch.actions s = touched-lines ls s ∙ ap (λ z. touched_by_tree (tree_of_lines ls) s ++ z) acts in
+    record {
+      there = λ p. let q = subst AllInRange whole p in
+          (subst (λ bs. AllInRange (touched_by_branches bs s)) (nil_right (branches_of ls)) (t.back (tt, front_part _ _ q)), back_part (touched_by_tree (tree_of_lines ls) s) _ q);
+      back = λ p. subst AllInRange (sym whole) (both_parts _ _ (t.there (subst (λ bs. AllInRange (touched_by_branches bs s)) (sym (nil_right (branches_of ls))) p.0)).1 p.1);
+    }

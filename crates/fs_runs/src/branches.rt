@@ -1,0 +1,62 @@
+//! The branch that a store takes.
+
+ghost use Rattle.std.specs.Prelude.{◌≡◌, IsSome, MatchOption, map};
+ghost use Rattle.std.specs.Option.{SomeIff};
+ghost use Rattle.fs_model.specs.Meaning.{relates, literal_holds};
+ghost use Rattle.fs_model.specs.Touched.{AllInRange};
+ghost use Rattle.fs_model.specs.View.{literal_of, branch_of};
+ghost use Rattle.fs_ast.specs.Open.{all_hold};
+ghost use Rattle.fs_runs.specs.Values.{store_from};
+ghost use Rattle.fs_runs.specs.Reads.{LiteralFits, touched_by_way, touched_by_branches, first_open};
+
+use crate::eval::value_of;
+use crate::values::Value;
+use fs_model::parts::{Branch, Lit, Rel, VarId};
+
+fn relates(rel: Rel, left: i128, right: i128) -> bool
+    ensures { result ≡ relates rel left right }
+{
+    match rel {
+        Rel::Eq => left == right,
+        Rel::Ne => left != right,
+        Rel::Lt => left < right,
+        Rel::Le => left <= right,
+        Rel::Gt => left > right,
+        Rel::Ge => left >= right,
+    }
+}
+
+/// Whether a literal holds, and none exactly where a number of it lies outside 128 bits.
+fn literal_holds(lit: &Lit<VarId>, values: &[Value]) -> Option<bool>
+    ensures { SomeIff result (LiteralFits (literal_of lit.now) (store_from values.now)) (literal_holds (literal_of lit.now) (store_from values.now)) }
+{
+    let left = value_of(&lit.left, values)?;
+    let right = value_of(&lit.right, values)?;
+    Some(relates(lit.rel, left, right))
+}
+
+/// Whether all literals of a way hold. What comes after one that fails is not looked at.
+fn all_hold(way: &[Lit<VarId>], values: &[Value]) -> Option<bool>
+    ensures { SomeIff result (AllInRange (touched_by_way (map literal_of way.now) (store_from values.now))) (all_hold (map literal_of way.now) (store_from values.now)) }
+{
+    for lit in way {
+        if !literal_holds(lit, values)? {
+            return Some(false);
+        }
+    }
+    Some(true)
+}
+
+/// The first branch whose literals all hold, and none exactly where a number that is looked at on
+/// the way to it lies outside 128 bits.
+pub fn open_branch<'a>(branches: &'a [Branch], values: &[Value]) -> Option<&'a Branch>
+    requires { IsSome (first_open (map branch_of branches.now) (store_from values.now)) }
+    ensures { MatchOption result (¬ AllInRange (touched_by_branches (map branch_of branches.now) (store_from values.now))) (λ b. AllInRange (touched_by_branches (map branch_of branches.now) (store_from values.now)) × (first_open (map branch_of branches.now) (store_from values.now) ≡ Some (branch_of b.now))) }
+{
+    for branch in branches {
+        if all_hold(branch.lits.as_slice(), values)? {
+            return Some(branch);
+        }
+    }
+    None
+}

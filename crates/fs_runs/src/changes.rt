@@ -1,0 +1,197 @@
+//! The changes of a step: valued in the store before it, then made all at once.
+
+ghost use Rattle.std.specs.Prelude.{◌≡◌, ◌++◌, ◌∷◌, [], true, ℤ, IsTrue, map, IfOk, IfErr, Some};
+ghost use Rattle.std.specs.Option.{SomeIff};
+ghost use Rattle.std.specs.Result.{OnOk, OnErr};
+ghost use Rattle.fs_model.specs.View.{action_of};
+ghost use Rattle.fs_runs.specs.Values.{store_from, sort_of};
+ghost use Rattle.fs_runs.specs.Changes.{done_by, ActionFits, ActionsFit, changed, changed_all, suits, is_ready, is_array, room_in, AllSuit, AllReady, Alike, Puts, KeepsRoom};
+ghost use Rattle.fs_runs.specs.Outcomes.{PastOnly};
+ghost use Rattle.fs_runs.specs.declared.changes.Change.{Change};
+
+use crate::eval::value_of;
+use crate::step::StepStop;
+use crate::values::Value;
+use fs_model::name::NoMemory;
+use fs_model::parts::{Assign, VarId};
+use std::alloc::Global;
+
+/// A number put into a scalar, or into an array at an index.
+#[derive(Drop)]
+pub enum Change {
+    Set(u32, i128),
+    Put(u32, i128, i128),
+}
+
+/// What an assignment changes, and none exactly where a number of it lies outside 128 bits.
+fn change_of(assign: &Assign<VarId>, values: &[Value]) -> Option<Change>
+    ensures { SomeIff result (ActionFits (store_from values.now) (action_of assign.now)) (done_by (store_from values.now) (action_of assign.now)) }
+{
+    match assign {
+        Assign::Set(x, e) => {
+            let v = value_of(e, values)?;
+            Some(Change::Set(x.0, v))
+        }
+        Assign::Put(x, i, e) => {
+            let at = value_of(i, values)?;
+            let v = value_of(e, values)?;
+            Some(Change::Put(x.0, at, v))
+        }
+    }
+}
+
+/// What assignments change, all valued before any change is made.
+pub fn changes_of(
+    alloc: Global,
+    assigns: &[Assign<VarId>],
+    values: &[Value],
+) -> Result<Vec<Change>, StepStop>
+    ensures changes { IfOk result (λ out. out.items ≡ map (done_by (store_from values.now)) (map action_of assigns.now)) }
+    ensures fit { OnOk result (ActionsFit (store_from values.now) (map action_of assigns.now)) }
+    ensures past { IfErr result (λ e. PastOnly e (¬ ActionsFit (store_from values.now) (map action_of assigns.now))) }
+{
+    let mut out = Vec::new(alloc);
+    for assign in assigns {
+        let Some(change) = change_of(assign, values) else {
+            return Err(StepStop::PastWide);
+        };
+        push(&mut out, change)?;
+    }
+    Ok(out)
+}
+
+fn push(out: &mut Vec<Change>, change: Change) -> Result<(), StepStop>
+    ensures pushed { OnOk result (out.new.items ≡ out.old.items ++ change ∷ []) }
+    ensures full { IfErr result (λ e. e ≡ StepStop.NoMemory) }
+{
+    match out.push(change) {
+        Ok(()) => Ok(()),
+        Err(_) => Err(StepStop::NoMemory),
+    }
+}
+
+/// Makes changes in order, or none of them where there is no memory. Entries that become 0 go.
+pub fn change_all(values: &mut [Value], changes: &[Change]) -> Result<(), NoMemory>
+    requires { AllSuit values.old changes.now }
+    ensures changed { OnOk result (store_from values.new ≡ changed_all (store_from values.old) changes.now) }
+    ensures unchanged { OnErr result (store_from values.new ≡ store_from values.old) }
+    ensures sorts { map sort_of values.new ≡ map sort_of values.old }
+{
+    let room = make_room(values, changes);
+    if room.is_ok() {
+        write_all(values, changes);
+    }
+    sweep_all(values, changes);
+    room
+}
+
+/// Makes room for changes: an entry, which may be 0, at each index that is written.
+fn make_room(values: &mut [Value], changes: &[Change]) -> Result<(), NoMemory>
+    requires { AllSuit values.old changes.now }
+    ensures room { OnOk result (AllReady values.new changes.now) }
+    ensures same { store_from values.new ≡ store_from values.old }
+    ensures sorts { map sort_of values.new ≡ map sort_of values.old }
+{
+    for change in changes {
+        make_room_for(values, change)?;
+    }
+    Ok(())
+}
+
+/// Makes room for one change. What was ready stays so.
+fn make_room_for(values: &mut [Value], change: &Change) -> Result<(), NoMemory>
+    requires { IsTrue (suits values.old change.now) }
+    ensures room { OnOk result (IsTrue (is_ready values.new change.now)) }
+    ensures keeps { (c : Change) → IsTrue (is_ready values.old c) → IsTrue (is_ready values.new c) }
+    ensures same { store_from values.new ≡ store_from values.old }
+    ensures sorts { map sort_of values.new ≡ map sort_of values.old }
+{
+    match change {
+        Change::Set(_, _) => Ok(()),
+        Change::Put(x, i, _) => match make_room_in(&mut values[*x as usize], *i) {
+            Ok(()) => Ok(()),
+            Err(e) => Err(e),
+        },
+    }
+}
+
+fn make_room_in(value: &mut Value, i: i128) -> Result<(), NoMemory>
+    requires { is_array (Some value.old) ≡ true }
+    ensures room { OnOk result (room_in (Some value.new) i ≡ true) }
+    ensures keeps { KeepsRoom value.old value.new }
+    ensures same { Alike value.old value.new }
+{
+    match value {
+        Value::Arr(entries) => match entries.make_room(i) {
+            Ok(()) => Ok(()),
+            Err(e) => Err(e),
+        },
+        Value::Num(_) => unreachable!(),
+    }
+}
+
+/// Makes changes in order.
+fn write_all(values: &mut [Value], changes: &[Change])
+    requires { AllReady values.old changes.now }
+    ensures changed { store_from values.new ≡ changed_all (store_from values.old) changes.now }
+    ensures sorts { map sort_of values.new ≡ map sort_of values.old }
+{
+    for change in changes {
+        write(values, change);
+    }
+}
+
+/// Makes one change. What was ready stays so.
+fn write(values: &mut [Value], change: &Change)
+    requires { IsTrue (is_ready values.old change.now) }
+    ensures changed { store_from values.new ≡ changed (store_from values.old) change.now }
+    ensures keeps { (c : Change) → IsTrue (is_ready values.old c) → IsTrue (is_ready values.new c) }
+    ensures sorts { map sort_of values.new ≡ map sort_of values.old }
+{
+    match change {
+        Change::Set(x, v) => values[*x as usize] = Value::Num(*v),
+        Change::Put(x, i, v) => write_in(&mut values[*x as usize], *i, *v),
+    }
+}
+
+fn write_in(value: &mut Value, i: i128, v: i128)
+    requires { room_in (Some value.old) i ≡ true }
+    ensures put { Puts i v value.old value.new }
+    ensures keeps { KeepsRoom value.old value.new }
+{
+    match value {
+        Value::Arr(entries) => entries.put(i, v),
+        Value::Num(_) => unreachable!(),
+    }
+}
+
+/// Takes out the entries that are 0 at the indices of changes.
+fn sweep_all(values: &mut [Value], changes: &[Change])
+    ensures same { store_from values.new ≡ store_from values.old }
+    ensures sorts { map sort_of values.new ≡ map sort_of values.old }
+{
+    for change in changes {
+        sweep(values, change);
+    }
+}
+
+fn sweep(values: &mut [Value], change: &Change)
+    ensures same { store_from values.new ≡ store_from values.old }
+    ensures sorts { map sort_of values.new ≡ map sort_of values.old }
+{
+    if let Change::Put(x, i, _) = change {
+        let at = *x as usize;
+        if at < values.len() {
+            sweep_in(&mut values[at], *i);
+        }
+    }
+}
+
+fn sweep_in(value: &mut Value, i: i128)
+    ensures { Alike value.old value.new }
+{
+    match value {
+        Value::Arr(entries) => entries.sweep(i),
+        Value::Num(_) => {}
+    }
+}

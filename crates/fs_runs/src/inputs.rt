@@ -1,0 +1,148 @@
+//! Inputs of machines, and the store in which a run begins.
+
+ghost use Rattle.std.specs.Prelude.{◌≡◌, ◌<◌, ◌++◌, ◌∷◌, [], true, length, map, slice_get, slice_set, IfOk, Some};
+ghost use Rattle.std.specs.Option.{option_map, option_copied};
+ghost use Rattle.std.specs.Result.{OnOk, OnErr};
+ghost use Rattle.fs_model.specs.Runs.{is_input, start};
+ghost use Rattle.fs_runs.specs.Values.{sort_of, content_of, store_of, IsStoreOf};
+ghost use Rattle.fs_runs.specs.Given.{given, given_values, inputs_of, faces_of, input_faces, face_sort, Serves, all_zero, first_content, face, AllZero};
+
+use crate::store::Store;
+use crate::values::Value;
+use fs_ast::machine::Machine;
+use fs_model::name::{Name, NoMemory};
+use fs_model::parts::{Role, Sort, VarInfo};
+use std::alloc::Global;
+
+/// The value of an input.
+#[derive(Drop)]
+pub struct Input {
+    name: Name,
+    value: Value,
+}
+
+/// A value for each input of the machine for which they were made, by name and sort.
+#[derive(Drop)]
+pub struct Inputs {
+    items: Vec<Input>,
+}
+
+impl Inputs {
+    /// A value for each input of a machine: 0, or 0 at each index.
+    pub fn zero(alloc: Global, m: &Machine) -> Result<Inputs, NoMemory>
+        ensures faces { IfOk result (λ ins. faces_of ins ≡ input_faces m.now.variables) }
+        ensures serves { IfOk result (λ ins. Serves (faces_of ins) m.now) }
+        ensures zero { IfOk result (λ ins. inputs_of ins ≡ all_zero) }
+    {
+        let mut items = Vec::new(alloc);
+        for var in m.vars() {
+            add_input(alloc, &mut items, var)?;
+        }
+        Ok(Inputs { items })
+    }
+
+    /// Gives the input of a number, counted in order of declaration from 0, a value of its sort.
+    pub fn set(&mut self, _alloc: Global, k: u32, value: Value) -> Result<(), NoMemory>
+        requires { option_map (λ f. f.1) (slice_get (faces_of self.old) k) ≡ Some (sort_of value) }
+        ensures values { OnOk result (given_values self.new ≡ slice_set (given_values self.old) k value) }
+        ensures faces { faces_of self.new ≡ faces_of self.old }
+        ensures unchanged { OnErr result (given_values self.new ≡ given_values self.old) }
+    {
+        self.items[k as usize].value = value;
+        Ok(())
+    }
+
+    /// The sort of the input of a number, and none where there are not so many. Takes no memory.
+    pub fn sort(&self, k: u32) -> Option<Sort>
+        ensures { result ≡ option_map (λ f. f.1) (slice_get (faces_of self.now) k) }
+    {
+        match self.items.get(k as usize) {
+            Some(item) => Some(item.value.sort()),
+            None => None,
+        }
+    }
+
+    /// The value of the input of a number. Takes no memory.
+    pub fn get(&self, k: u32) -> &Value
+        requires { k < length (faces_of self.now) }
+        ensures { slice_get (given_values self.now) k ≡ Some result.now }
+    {
+        &self.items[k as usize].value
+    }
+
+    /// The value of a name.
+    fn given(&self, name: &Name) -> Option<&Value>
+        ensures { option_copied result ≡ given self.now.items.items name.now }
+    {
+        for item in &self.items {
+            if item.name.is(name) {
+                return Some(&item.value);
+            }
+        }
+        None
+    }
+}
+
+fn is_input(var: &VarInfo) -> bool
+    ensures { result ≡ is_input var.now.role }
+{
+    match var.role {
+        Role::Input => true,
+        Role::Output | Role::Local => false,
+    }
+}
+
+/// Adds a value of 0 for a variable that is an input.
+fn add_input(alloc: Global, items: &mut Vec<Input>, var: &VarInfo) -> Result<(), NoMemory>
+    requires { AllZero items.old.items }
+    ensures faces { OnOk result (map face items.new.items ≡ map face items.old.items ++ input_faces (var.now ∷ [])) }
+    ensures zero { OnOk result (AllZero items.new.items) }
+{
+    if !is_input(var) {
+        return Ok(());
+    }
+    let input = Input {
+        name: var.name.try_clone(alloc)?,
+        value: Value::zero(alloc, var.sort),
+    };
+    push(items, input)?;
+    Ok(())
+}
+
+pub(crate) fn push<T: Drop>(out: &mut Vec<T>, item: T) -> Result<(), NoMemory>
+    ensures { OnOk result (out.new.items ≡ out.old.items ++ item ∷ []) }
+{
+    match out.push(item) {
+        Ok(()) => Ok(()),
+        Err(_) => Err(NoMemory),
+    }
+}
+
+/// The store in which a run begins: the inputs as given, every other scalar 0, and every other array
+/// 0 at each index.
+pub fn start(alloc: Global, m: &Machine, inputs: &Inputs) -> Result<Store, NoMemory>
+    requires { Serves (faces_of inputs.now) m.now }
+    ensures start { IfOk result (λ s. store_of s ≡ start m.now (inputs_of inputs.now)) }
+    ensures sorts { IfOk result (λ s. IsStoreOf m.now s) }
+{
+    let mut values = Vec::new(alloc);
+    for var in m.vars() {
+        push(&mut values, first_value(alloc, var, inputs)?)?;
+    }
+    Ok(Store { values })
+}
+
+/// What a variable holds as a run begins.
+fn first_value(alloc: Global, var: &VarInfo, inputs: &Inputs) -> Result<Value, NoMemory>
+    requires { is_input var.now.role ≡ true → face_sort (faces_of inputs.now) var.now.name ≡ Some var.now.sort }
+    ensures content { IfOk result (λ v. content_of v ≡ first_content (inputs_of inputs.now) var.now) }
+    ensures sort { IfOk result (λ v. sort_of v ≡ var.now.sort) }
+{
+    if !is_input(var) {
+        return Ok(Value::zero(alloc, var.sort));
+    }
+    match inputs.given(&var.name) {
+        Some(value) => Ok(value.try_clone()?),
+        None => unreachable!(),
+    }
+}

@@ -1,0 +1,48 @@
+//! One step of a machine.
+
+ghost use Rattle.std.specs.Prelude.{◌≡◌, ◌<◌, length, IfOk, IfErr};
+ghost use Rattle.std.specs.Result.{OnOk, OnErr};
+ghost use Rattle.fs_model.specs.Runs.{Step};
+ghost use Rattle.fs_model.specs.Touched.{touched, AllInRange};
+ghost use Rattle.fs_runs.specs.Values.{store_of, IsStoreOf};
+ghost use Rattle.fs_runs.specs.Outcomes.{PastOnly};
+
+use crate::branches::open_branch;
+use crate::changes::{change_all, changes_of};
+use crate::store::Store;
+use fs_ast::machine::Machine;
+use fs_model::parts::StateId;
+use std::alloc::Global;
+
+/// Why a step is not taken.
+#[derive(Clone, Copy, Debug, PartialEq, Eq)]
+pub enum StepStop {
+    /// A number that the step touches lies outside 128 bits.
+    PastWide,
+    NoMemory,
+}
+
+/// Takes the step from a state, and answers the state to which it leads.
+///
+/// The right sides and indices are valued in the store before, and the assignments are then done in
+/// order. `PastWide` comes exactly where a literal on the way taken, a right side, an index or a part
+/// of these has its value outside 128 bits. After an error the store is as before.
+pub fn step(alloc: Global, m: &Machine, store: &mut Store, s: StateId) -> Result<StateId, StepStop>
+    requires state { s.0 < length m.now.states }
+    requires store { IsStoreOf m.now store.old }
+    ensures step { IfOk result (λ r. Step m.now s.0 (store_of store.old) r.0 (store_of store.new)) }
+    ensures target { IfOk result (λ r. r.0 < length m.now.states) }
+    ensures in_range { OnOk result (AllInRange (touched m.now s.0 (store_of store.old))) }
+    ensures past { IfErr result (λ e. PastOnly e (¬ AllInRange (touched m.now s.0 (store_of store.old)))) }
+    ensures unchanged { OnErr result (store_of store.new ≡ store_of store.old) }
+    ensures kept { IsStoreOf m.now store.new }
+{
+    let Some(branch) = open_branch(m.branches(s), store.values.as_slice()) else {
+        return Err(StepStop::PastWide);
+    };
+    let changes = changes_of(alloc, branch.assigns.as_slice(), store.values.as_slice())?;
+    match change_all(store.values.as_mut_slice(), changes.as_slice()) {
+        Ok(()) => Ok(branch.target),
+        Err(_) => Err(StepStop::NoMemory),
+    }
+}

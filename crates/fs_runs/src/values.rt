@@ -1,0 +1,140 @@
+//! What variables hold: numbers, and arrays with finitely many entries that are not 0.
+
+ghost use Rattle.std.specs.Prelude.{◌≡◌, true, is_some, ℤ, pos, cond, IfOk};
+ghost use Rattle.std.specs.Ordering.{int_eq, int_cmp};
+ghost use Rattle.std.specs.Result.{OnOk, OnErr};
+ghost use Rattle.std.specs.BTreeMap.{get};
+ghost use Rattle.fs_runs.specs.Values.{entry, content_of, sort_of, zero_content};
+
+mod listing;
+
+use fs_model::name::NoMemory;
+use fs_model::parts::Sort;
+use std::alloc::Global;
+use std::collections::BTreeMap;
+
+/// What an array holds: a number of 128 bits at each index of 128 bits, of which finitely many are not 0.
+/// Contracts see it by the number at each index.
+#[derive(Drop)]
+pub struct Entries {
+    map: BTreeMap<i128, i128>,
+}
+
+/// What a variable holds: a number of 128 bits, or the entries of an array.
+#[derive(Drop)]
+pub enum Value {
+    Num(i128),
+    Arr(Entries),
+}
+
+impl Entries {
+    /// No entries: 0 at each index. Takes no memory.
+    pub fn new(alloc: Global) -> Entries
+        ensures { (i : ℤ) → entry result i ≡ pos 0 }
+    {
+        Entries {
+            map: BTreeMap::new(alloc),
+        }
+    }
+
+    /// The number at an index. Takes no memory.
+    pub fn get(&self, i: i128) -> i128
+        ensures { result ≡ entry self.now i }
+    {
+        self.map.get(&i).copied().unwrap_or(0)
+    }
+
+    /// Puts a number at an index. A 0 takes the entry out, and takes no memory.
+    pub fn set(&mut self, i: i128, v: i128) -> Result<(), NoMemory>
+        ensures set { OnOk result ((j : ℤ) → entry self.new j ≡ cond (int_eq i j) v (entry self.old j)) }
+        ensures unchanged { OnErr result ((j : ℤ) → entry self.new j ≡ entry self.old j) }
+    {
+        if v == 0 {
+            let _ = self.map.remove(&i);
+            return Ok(());
+        }
+        match self.map.insert(i, v) {
+            Ok(_) => Ok(()),
+            Err(_) => Err(NoMemory),
+        }
+    }
+    /// Makes room at an index: an entry stands there, if only 0.
+    pub(crate) fn make_room(&mut self, i: i128) -> Result<(), NoMemory>
+        ensures room { OnOk result (is_some (get int_cmp self.new.map i) ≡ true) }
+        ensures keeps { (j : ℤ) → is_some (get int_cmp self.old.map j) ≡ true → is_some (get int_cmp self.new.map j) ≡ true }
+        ensures same { (j : ℤ) → entry self.new j ≡ entry self.old j }
+    {
+        if self.map.contains_key(&i) {
+            return Ok(());
+        }
+        match self.map.insert(i, 0) {
+            Ok(_) => Ok(()),
+            Err(_) => Err(NoMemory),
+        }
+    }
+
+    /// Puts a number at an index at which there is room.
+    pub(crate) fn put(&mut self, i: i128, v: i128)
+        requires { is_some (get int_cmp self.old.map i) ≡ true }
+        ensures put { (j : ℤ) → entry self.new j ≡ cond (int_eq i j) v (entry self.old j) }
+        ensures keeps { (j : ℤ) → is_some (get int_cmp self.old.map j) ≡ true → is_some (get int_cmp self.new.map j) ≡ true }
+    {
+        match self.map.insert(i, v) {
+            Ok(_) => {}
+            Err(_) => unreachable!(),
+        }
+    }
+
+    /// Takes out the entry at an index if it is 0.
+    pub(crate) fn sweep(&mut self, i: i128)
+        ensures { (j : ℤ) → entry self.new j ≡ entry self.old j }
+    {
+        if self.get(i) == 0 {
+            let _ = self.map.remove(&i);
+        }
+    }
+
+    /// A copy.
+    pub fn try_clone(&self) -> Result<Entries, NoMemory>
+        ensures { IfOk result (λ copy. entry copy ≡ entry self.now) }
+    {
+        match self.map.clone() {
+            Ok(map) => Ok(Entries { map }),
+            Err(_) => Err(NoMemory),
+        }
+    }
+}
+
+impl Value {
+    /// Whether the value is a number or the entries of an array. Takes no memory.
+    pub fn sort(&self) -> Sort
+        ensures { result ≡ sort_of self.now }
+    {
+        match self {
+            Value::Num(_) => Sort::Scalar,
+            Value::Arr(_) => Sort::Array,
+        }
+    }
+
+    /// The value with which a variable that is no input begins: 0, or 0 at each index. Takes no memory.
+    pub fn zero(alloc: Global, sort: Sort) -> Value
+        ensures content { content_of result ≡ zero_content sort }
+        ensures sort { sort_of result ≡ sort }
+    {
+        match sort {
+            Sort::Scalar => Value::Num(0),
+            Sort::Array => Value::Arr(Entries::new(alloc)),
+        }
+    }
+
+    /// A copy.
+    pub fn try_clone(&self) -> Result<Value, NoMemory>
+        ensures content { IfOk result (λ copy. content_of copy ≡ content_of self.now) }
+        ensures sort { IfOk result (λ copy. sort_of copy ≡ sort_of self.now) }
+    {
+        match self {
+            Value::Num(n) => Ok(Value::Num(*n)),
+            Value::Arr(entries) => Ok(Value::Arr(entries.try_clone()?)),
+        }
+    }
+}

@@ -1,0 +1,42 @@
+-- What the outputs of a machine print as.
+use Rattle.std.specs.Prelude.{◌≡◌, ℕ, List, ◌++◌, Option, Some, IsSome, codes}
+use Rattle.std.specs.List.{AllByRecursion, AllZip}
+use Rattle.fs_model.specs.Runs.{Content}
+use Rattle.fs_show.specs.Shown.{Shows}
+
+-- what each output name holds
+abbrev pub Outputs : Type 0
+Outputs = List ℕ → Option Content
+
+abbrev pub item_of : (name text : List ℕ) → List ℕ
+item_of name text = name ++ (codes " = " ++ text)
+
+-- the name of an output, and what it holds
+pub record IsItem (outs : Outputs) (name item : List ℕ) : Type 0 where
+  pub content : Content
+  pub held : outs name ≡ Some content
+  pub text : List ℕ
+  pub shown : Shows content text
+  pub spelled : item ≡ item_of name text
+
+-- an item for each name, in order
+abbrev pub AreItems : Outputs → (names items : List (List ℕ)) → Type 0
+AreItems outs names items = AllZip (IsItem outs) names items
+
+-- items for the names are put behind others
+pub record AddsItems (outs : Outputs) (names old new : List (List ℕ)) : Type 0 where
+  pub added : List (List ℕ)
+  pub are_items : AreItems outs names added
+  pub all : new ≡ old ++ added
+
+-- each of the names holds something
+abbrev pub HoldsEach : Outputs → List (List ℕ) → Type 0
+HoldsEach outs names = AllByRecursion (λ name. IsSome (outs name)) names
+
+-- each name holds the same in both
+abbrev pub SameOutputs : Outputs → Outputs → Type 0
+SameOutputs left right = (name : List ℕ) → left name ≡ right name
+
+-- each of the names holds the same in both
+abbrev pub AgreeOn : Outputs → Outputs → List (List ℕ) → Type 0
+AgreeOn left right names = AllByRecursion (λ name. left name ≡ right name) names

@@ -1,0 +1,30 @@
+-- Each thing that prints has one text.
+use Rattle.std.specs.Prelude.{◌≡◌, ℕ, List}
+use Rattle.fs_model.specs.Machines.{Fsmd}
+use Rattle.fs_model.specs.Runs.{Inputs, Content}
+use Rattle.fs_runs.specs.declared.run.RunStop.{RunStop}
+use Rattle.fs_show.specs.declared.ends.Side.{Side}
+use Rattle.fs_show.specs.Shown.{Shows}
+use Rattle.fs_show.specs.Items.{Outputs}
+use Rattle.fs_show.specs.Runs.{IsRunText}
+use Rattle.fs_show.specs.Ends.{IsEndText, IsStopText, IsReplayText}
+
+-- of all things that have such a text, it is one
+abbrev pub IsOne : (List ℕ → Type 0) → Type 0
+IsOne P = (t u : List ℕ) → P t → P u → t ≡ u
+
+abbrev pub OneContentText : Type 0
+OneContentText = (c : Content) → IsOne (Shows c)
+
+abbrev pub OneEndText : Type 0
+OneEndText = (names : List (List ℕ)) (outs : Outputs) (steps : ℕ) → IsOne (IsEndText names outs steps)
+
+abbrev pub OneStopText : Type 0
+OneStopText = (side : Side) (stop : RunStop) → IsOne (IsStopText side stop)
+
+-- whatever a run of a machine on inputs answers
+abbrev pub OneRunText : Type 0
+OneRunText = (m : Fsmd) (ins : Inputs) (limit : ℕ) → IsOne (IsRunText m ins limit)
+
+abbrev pub OneReplayText : Type 0
+OneReplayText = (names : List (List ℕ)) (left right : Outputs) → IsOne (IsReplayText names left right)

@@ -1,0 +1,5 @@
+pub mod Shown
+pub mod Items
+pub mod Ends
+pub mod Runs
+pub mod Laws

@@ -1,0 +1,28 @@
+-- What contents print as.
+use Rattle.std.specs.Prelude.{◌≡◌, ℕ, ℤ, List, [], ◌∷◌, ◌++◌, map, codes}
+use Rattle.std.specs.List.{flat_map}
+use Rattle.std.specs.Fmt.{signed_decimal}
+use Rattle.fs_model.specs.Runs.{Content, Number, Entries}
+use Rattle.fs_runs.specs.Listing.{Entry, IsListing}
+
+-- texts, joined by a comma and a space
+abbrev pub joined : List (List ℕ) → List ℕ
+joined [] = []
+joined (first ∷ rest) = first ++ flat_map (λ item. codes ", " ++ item) rest
+
+abbrev pub entry_text : Entry → List ℕ
+entry_text e = signed_decimal e.0 ++ (codes ": " ++ signed_decimal e.1)
+
+abbrev pub array_text : List Entry → List ℕ
+array_text es = codes "{" ++ (joined (map entry_text es) ++ codes "}")
+
+-- an array prints as its entries that are not 0, by rising index
+pub record ShowsArray (f : ℤ → ℤ) (text : List ℕ) : Type 0 where
+  pub entries : List Entry
+  pub listing : IsListing f entries
+  pub spelled : text ≡ array_text entries
+
+-- a content prints as a text
+abbrev pub Shows : Content → List ℕ → Type 0
+Shows (Number n) text = text ≡ signed_decimal n
+Shows (Entries f) text = ShowsArray f text

@@ -1,0 +1,100 @@
+//! Outputs by name, and their text.
+
+ghost use Rattle.std.specs.Prelude.{◌≡◌, ℕ, List, [], ◌∷◌, map, option_map, IfOk};
+ghost use Rattle.std.specs.Result.{OnOk};
+ghost use Rattle.fs_model.specs.Runs.{is_output};
+ghost use Rattle.fs_runs.specs.Values.{content_of};
+ghost use Rattle.fs_runs.specs.Outcomes.{output_names, told_by};
+ghost use Rattle.fs_show.specs.Shown.{Shows};
+ghost use Rattle.fs_show.specs.Items.{AreItems, AddsItems, HoldsEach, item_of};
+
+use crate::shown::{append, push, value_text};
+use fs_ast::machine::Machine;
+use fs_model::name::{Name, NoMemory};
+use fs_model::parts::{Role, VarInfo};
+use fs_runs::values::Value;
+use std::alloc::Global;
+
+pub(crate) fn is_output(variable: &VarInfo) -> bool
+    ensures { result ≡ is_output variable.now.role }
+{
+    match variable.role {
+        Role::Output => true,
+        Role::Input | Role::Local => false,
+    }
+}
+
+/// What the output of a name holds, of values in order of the machine's outputs. Takes no memory.
+pub(crate) fn held<'a>(m: &Machine, outputs: &'a [Value], name: &Name) -> Option<&'a Value>
+    ensures { option_map (λ v. content_of v.now) result ≡ told_by m.now outputs.now name.now }
+{
+    let mut rest = outputs;
+    for variable in m.vars() {
+        if is_output(variable) {
+            let [value, others @ ..] = rest else {
+                return None;
+            };
+            if variable.name.is(name) {
+                return Some(value);
+            }
+            rest = others;
+        }
+    }
+    None
+}
+
+/// The name of an output and what it holds.
+fn item(alloc: Global, name: &Name, value: &Value) -> Result<Vec<u8>, NoMemory>
+    ensures { IfOk result (λ item. (text : List ℕ) × Shows (content_of value.now) text × (item.items ≡ item_of name.now text)) }
+{
+    let mut item = copied(alloc, name.bytes())?;
+    append(&mut item, b" = ".as_slice())?;
+    append(&mut item, value_text(alloc, value)?.as_slice())?;
+    Ok(item)
+}
+
+fn copied(alloc: Global, bytes: &[u8]) -> Result<Vec<u8>, NoMemory>
+    ensures { IfOk result (λ own. own.items ≡ bytes.now) }
+{
+    match bytes.to_vec(alloc) {
+        Ok(own) => Ok(own),
+        Err(_) => Err(NoMemory),
+    }
+}
+
+/// The outputs of a machine, named in the order of another's outputs.
+pub(crate) fn items(
+    alloc: Global,
+    order: &Machine,
+    m: &Machine,
+    outputs: &[Value],
+) -> Result<Vec<Vec<u8>>, NoMemory>
+    requires { HoldsEach (told_by m.now outputs.now) (output_names order.now.variables) }
+    ensures { IfOk result (λ items. AreItems (told_by m.now outputs.now) (output_names order.now.variables) (map (λ i. i.items) items.items)) }
+{
+    let mut items = Vec::new(alloc);
+    for variable in order.vars() {
+        add_item(alloc, &mut items, variable, m, outputs)?;
+    }
+    Ok(items)
+}
+
+/// Adds what the output of a variable's name holds, where the variable is an output.
+fn add_item(
+    alloc: Global,
+    items: &mut Vec<Vec<u8>>,
+    variable: &VarInfo,
+    m: &Machine,
+    outputs: &[Value],
+) -> Result<(), NoMemory>
+    requires { HoldsEach (told_by m.now outputs.now) (output_names (variable.now ∷ [])) }
+    ensures { OnOk result (AddsItems (told_by m.now outputs.now) (output_names (variable.now ∷ [])) (map (λ i. i.items) items.old.items) (map (λ i. i.items) items.new.items)) }
+{
+    if !is_output(variable) {
+        return Ok(());
+    }
+    match held(m, outputs, &variable.name) {
+        Some(value) => push(items, item(alloc, &variable.name, value)?),
+        None => Ok(()),
+    }
+}

@@ -1,0 +1,20 @@
+//! Laws: each thing that prints has one text. The functions do nothing.
+
+ghost use Rattle.fs_show.specs.Laws.{OneContentText, OneEndText, OneStopText, OneRunText, OneReplayText};
+
+/// A content prints as one text.
+pub fn a_content_has_one_text()
+    ensures { OneContentText }
+{}
+
+/// A run of a machine on inputs has one text, whatever it answers: the text of its end, or of its stop.
+pub fn a_run_has_one_text()
+    ensures ended { OneEndText }
+    ensures stopped { OneStopText }
+    ensures whole { OneRunText }
+{}
+
+/// Two runs that ended have one text.
+pub fn a_replay_has_one_text()
+    ensures { OneReplayText }
+{}

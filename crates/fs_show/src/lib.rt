@@ -1,0 +1,10 @@
+//! What runs answer, as text.
+#![tactic(auto)]
+
+pub mod ends;
+mod items;
+pub mod laws;
+pub mod replay;
+mod shown;
+#[cfg(test)]
+mod tests;

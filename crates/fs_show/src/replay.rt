@@ -1,0 +1,164 @@
+//! The text of a replay: what two runs answered, side by side.
+
+ghost use Rattle.std.specs.Prelude.{◌≡◌, ◌++◌, ◌∷◌, [], Option, None, List, ℕ, map, option_map, IfOk, codes};
+ghost use Rattle.std.specs.Bool.{Decides};
+ghost use Rattle.fs_pair.specs.Faces.{interface_fault};
+ghost use Rattle.fs_runs.specs.Values.{content_of, entry};
+ghost use Rattle.fs_runs.specs.Outcomes.{output_names, told_by};
+ghost use Rattle.fs_show.specs.Items.{HoldsEach, AgreeOn, SameOutputs};
+ghost use Rattle.fs_show.specs.Ends.{IsReplayText, replay_text, after_space, verdict_line};
+
+use crate::items::{held, is_output, items};
+use crate::shown::{append, joined};
+use fs_ast::machine::Machine;
+use fs_model::name::NoMemory;
+use fs_model::parts::VarInfo;
+use fs_runs::run::Ended;
+use fs_runs::values::{Entries, Value};
+use std::alloc::Global;
+
+/// What two runs that ended answered: whether the outputs are the same, and the text that says so.
+#[derive(Drop)]
+pub struct Replay {
+    pub same: bool,
+    pub text: Vec<u8>,
+}
+
+/// The text of two runs that ended, of machines with the same inputs and outputs: `same` or `differ`,
+/// and the outputs of both sides, in the order of the left machine's outputs.
+pub fn replay_text(
+    alloc: Global,
+    left: &Machine,
+    left_end: &Ended,
+    right: &Machine,
+    right_end: &Ended,
+) -> Result<Replay, NoMemory>
+    requires faces { interface_fault left.now right.now ≡ None }
+    requires left_outputs { HoldsEach (told_by left.now left_end.now.outputs.items) (output_names left.now.variables) }
+    requires right_outputs { HoldsEach (told_by right.now right_end.now.outputs.items) (output_names right.now.variables) }
+    ensures same { IfOk result (λ r. Decides r.same (SameOutputs (told_by left.now left_end.now.outputs.items) (told_by right.now right_end.now.outputs.items))) }
+    ensures text { IfOk result (λ r. IsReplayText (output_names left.now.variables) (told_by left.now left_end.now.outputs.items) (told_by right.now right_end.now.outputs.items) r.text.items) }
+{
+    let same = same_outputs(
+        alloc,
+        left,
+        left_end.outputs.as_slice(),
+        right,
+        right_end.outputs.as_slice(),
+    )?;
+    let lefts = items(alloc, left, left, left_end.outputs.as_slice())?;
+    let rights = items(alloc, left, right, right_end.outputs.as_slice())?;
+    let text = side_by_side(alloc, same, lefts.as_slice(), rights.as_slice())?;
+    Ok(Replay { same, text })
+}
+
+/// Whether the left machine's outputs hold the same on both sides.
+fn same_outputs(
+    alloc: Global,
+    left: &Machine,
+    lefts: &[Value],
+    right: &Machine,
+    rights: &[Value],
+) -> Result<bool, NoMemory>
+    ensures { IfOk result (λ r. Decides r (AgreeOn (told_by left.now lefts.now) (told_by right.now rights.now) (output_names left.now.variables))) }
+{
+    for variable in left.vars() {
+        if !same_output(alloc, variable, left, lefts, right, rights)? {
+            return Ok(false);
+        }
+    }
+    Ok(true)
+}
+
+/// Whether a variable is no output, or its name holds the same on both sides.
+fn same_output(
+    alloc: Global,
+    variable: &VarInfo,
+    left: &Machine,
+    lefts: &[Value],
+    right: &Machine,
+    rights: &[Value],
+) -> Result<bool, NoMemory>
+    ensures { IfOk result (λ r. Decides r (AgreeOn (told_by left.now lefts.now) (told_by right.now rights.now) (output_names (variable.now ∷ [])))) }
+{
+    if !is_output(variable) {
+        return Ok(true);
+    }
+    let left_value = held(left, lefts, &variable.name);
+    let right_value = held(right, rights, &variable.name);
+    same_content(alloc, left_value, right_value)
+}
+
+/// Whether two values hold the same, or neither is there.
+fn same_content(
+    alloc: Global,
+    left: Option<&Value>,
+    right: Option<&Value>,
+) -> Result<bool, NoMemory>
+    ensures { IfOk result (λ r. Decides r (option_map (λ v. content_of v.now) left.entry ≡ option_map (λ v. content_of v.now) right.entry)) }
+{
+    match (left, right) {
+        (None, None) => Ok(true),
+        (Some(left), Some(right)) => same_value(alloc, left, right),
+        _ => Ok(false),
+    }
+}
+
+fn same_value(alloc: Global, left: &Value, right: &Value) -> Result<bool, NoMemory>
+    ensures { IfOk result (λ r. Decides r (content_of left.now ≡ content_of right.now)) }
+{
+    match (left, right) {
+        (Value::Num(left), Value::Num(right)) => Ok(*left == *right),
+        (Value::Arr(left), Value::Arr(right)) => same_entries(alloc, left, right),
+        _ => Ok(false),
+    }
+}
+
+/// Whether two arrays hold the same number at each index.
+fn same_entries(alloc: Global, left: &Entries, right: &Entries) -> Result<bool, NoMemory>
+    ensures { IfOk result (λ r. Decides r (entry left.now ≡ entry right.now)) }
+{
+    let lefts = left.list(alloc)?;
+    let rights = right.list(alloc)?;
+    Ok(lefts.as_slice() == rights.as_slice())
+}
+
+fn side_by_side(
+    alloc: Global,
+    same: bool,
+    lefts: &[Vec<u8>],
+    rights: &[Vec<u8>],
+) -> Result<Vec<u8>, NoMemory>
+    ensures { IfOk result (λ text. text.items ≡ replay_text same (map (λ i. i.items) lefts.now) (map (λ i. i.items) rights.now)) }
+{
+    let mut text = Vec::new(alloc);
+    append(&mut text, verdict_line(same))?;
+    append(&mut text, b"left:".as_slice())?;
+    append(&mut text, after_space(alloc, lefts)?.as_slice())?;
+    append(&mut text, b"\nright:".as_slice())?;
+    append(&mut text, after_space(alloc, rights)?.as_slice())?;
+    append(&mut text, b"\n".as_slice())?;
+    Ok(text)
+}
+
+fn verdict_line(same: bool) -> &'static [u8]
+    ensures { result.now ≡ verdict_line same }
+{
+    if same {
+        b"same\n".as_slice()
+    } else {
+        b"differ\n".as_slice()
+    }
+}
+
+/// Items joined, after one space where there are any.
+fn after_space(alloc: Global, items: &[Vec<u8>]) -> Result<Vec<u8>, NoMemory>
+    ensures { IfOk result (λ text. text.items ≡ after_space (map (λ i. i.items) items.now)) }
+{
+    let mut text = Vec::new(alloc);
+    if !items.is_empty() {
+        append(&mut text, b" ".as_slice())?;
+        append(&mut text, joined(alloc, items)?.as_slice())?;
+    }
+    Ok(text)
+}
