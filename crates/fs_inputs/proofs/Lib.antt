@@ -1,0 +1,5 @@
+pub mod Decimal
+pub mod Readings
+pub mod Steps
+pub mod Places
+pub mod Spellings

@@ -1,0 +1,98 @@
+-- What an object of names and values is as a file of inputs.
+use Rattle.std.specs.Prelude.{ℕ, Bool, true, false, ◌&&◌, is_some, cond, ℤ, pos, List, [], Option, Some, None, option_map}
+use Rattle.std.specs.Option.{unwrap_or, option_or}
+use Rattle.std.specs.Ordering.{int_eq}
+use Rattle.std.specs.Str.{bytes_eq}
+use Rattle.serde_json.specs.Data.{Num, Data, Members, no_members, member}
+use Rattle.serde_json.specs.Find.{as_integer, as_number, as_str, as_object}
+use Rattle.fs_model.specs.declared.parts.Sort.{Sort}
+use Rattle.fs_model.specs.declared.parts.Sort.TheVariants.{Scalar, Array}
+use Rattle.fs_model.specs.Runs.{Inputs}
+use Rattle.fs_runs.specs.Given.{Face, face_sort}
+use Rattle.fs_inputs.specs.declared.faults.Fault.{Fault}
+use Rattle.fs_inputs.specs.declared.faults.Fault.TheVariants.{Shape, Unknown, TooBig}
+use Rattle.fs_inputs.specs.Numbers.{number_in, fits}
+
+-- the number that a value spells: a whole number of 64 bits, or the text of a number
+abbrev pub spelled : Option Num → Option (List ℕ) → Option ℤ
+spelled (Some n) text = as_integer n
+spelled None (Some text) = number_in text
+spelled None None = None
+
+abbrev pub number_of : Data → Option ℤ
+number_of d = spelled (as_number d) (as_str d)
+
+-- whether each name and each value spells a number
+abbrev pub are_numbers : Members → Bool
+are_numbers no_members = true
+are_numbers (member k d ms) = is_some (number_in k) && is_some (number_of d) && are_numbers ms
+
+-- a number that is spelled has 128 bits
+abbrev pub fits_if_any : Option ℤ → Bool
+fits_if_any None = true
+fits_if_any (Some z) = fits z
+
+-- whether no name and no value spells a number outside 128 bits
+abbrev pub all_fit : Members → Bool
+all_fit no_members = true
+all_fit (member k d ms) = fits_if_any (number_in k) && fits_if_any (number_of d) && all_fit ms
+
+abbrev pub number_fault : Option ℤ → Option Fault
+number_fault None = Some Shape
+number_fault (Some z) = cond (fits z) None (Some TooBig)
+
+-- the form of the whole array comes before the size of its numbers
+abbrev pub array_fault : Option Members → Option Fault
+array_fault None = Some Shape
+array_fault (Some ms) = cond (are_numbers ms) (cond (all_fit ms) None (Some TooBig)) (Some Shape)
+
+-- what is wrong with the value of an input of a sort
+abbrev pub value_fault : Sort → Data → Option Fault
+value_fault Scalar d = number_fault (number_of d)
+value_fault Array d = array_fault (as_object d)
+
+-- what is wrong with the value of a name of this sort, or of a name that no input has
+abbrev pub fault_at : Option Sort → Data → Option Fault
+fault_at None d = Some Unknown
+fault_at (Some sort) d = value_fault sort d
+
+-- the first name with a fault, in the order of the members
+abbrev pub first_fault : List Face → Members → Option (List ℕ × Fault)
+first_fault faces no_members = None
+first_fault faces (member name d ms) = option_or (option_map (λ f. (name, f)) (fault_at (face_sort faces name) d)) (first_fault faces ms)
+
+-- what is wrong with a file: of no name where it is no object
+abbrev pub file_fault : List Face → Option Members → Option (List ℕ × Fault)
+file_fault faces None = Some ([], Shape)
+file_fault faces (Some ms) = first_fault faces ms
+
+-- the value of the last member whose name passes a test
+abbrev pub last : (List ℕ → Bool) → Members → Option Data
+last test no_members = None
+last test (member k d ms) = option_or (last test ms) (cond (test k) (Some d) None)
+
+-- the number that a value spells, 0 where it spells none or there is no value
+abbrev pub number_at : Option Data → ℤ
+number_at None = pos 0
+number_at (Some d) = unwrap_or (number_of d) (pos 0)
+
+abbrev pub is_the : ℤ → Option ℤ → Bool
+is_the i None = false
+is_the i (Some j) = int_eq j i
+
+-- whether a text spells this number
+abbrev pub spells : ℤ → List ℕ → Bool
+spells i text = is_the i (number_in text)
+
+-- the number at an index: what the last member spells whose name spells the index
+abbrev pub element_in : Option Members → ℤ → ℤ
+element_in None i = pos 0
+element_in (Some ms) i = number_at (last (spells i) ms)
+
+abbrev pub element_at : Option Data → ℤ → ℤ
+element_at None i = pos 0
+element_at (Some d) i = element_in (as_object d) i
+
+-- the inputs that an object spells: of equal names the last counts, and what is not named is 0
+abbrev pub inputs_in : Members → Inputs
+inputs_in ms = record { scalar = λ name. number_at (last (λ k. bytes_eq k name) ms); array = λ name i. element_at (last (λ k. bytes_eq k name) ms) i }

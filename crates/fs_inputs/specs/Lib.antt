@@ -1,0 +1,4 @@
+pub mod Numbers
+pub mod Files
+pub mod Steps
+pub mod Refusals
