@@ -1,5 +1,6 @@
 //! Checks schedules: `check A B` tells whether two machines with datapath have the same behaviour, `fmt A` writes a
-//! machine's canonical text, and `cuts A` lists its paths.
+//! machine's canonical text, `cuts A` lists its paths, `run A I` runs it on inputs, and `replay A B I` runs two machines on
+//! the same inputs.
 #![tactic(auto)]
 
 ghost use Rattle.std.specs.Prelude.{◌≡◌, ◌⊎◌};

@@ -1,5 +1,5 @@
 -- What a status tells of the answer.
-use Rattle.std.proofs.Common.{◌≡◌, ◌⊎◌, inl, inr, ℕ, List, IsTrue, Option, Some, None, refl, sym, ◌∙◌, ap, subst, ◌++◌, codes, lit<}
+use Rattle.std.proofs.Common.{◌≡◌, ◌⊎◌, inl, inr, ℕ, List, Option, Some, None, refl, sym, ◌∙◌, ap, subst, ◌++◌, codes, lit<}
 use Rattle.std.proofs.lemmas.Fmt.{decimal_digit}
 use Rattle.fs_base.specs.Outside.{appended}
 use Rattle.fsmd_tool.specs.Replies.{reply}
@@ -7,18 +7,23 @@ use Rattle.fs_base.specs.Outside.{Held, Untold, Nothing, Bytes}
 use Rattle.fs_model.specs.Runs.{SameBehaviour}
 use Rattle.straight_line.specs.Verdicts.{DiffersNowhere}
 use Rattle.fsmd_tool.specs.declared.answer.Operand.{Operand}
-use Rattle.fsmd_tool.specs.declared.answer.Operand.TheVariants.{First, Second}
+use Rattle.fsmd_tool.specs.declared.answer.Operand.TheVariants.{First, Second, Third}
 use Rattle.fsmd_tool.specs.declared.answer.Status.TheVariants.{Fine, Fault}
 use Rattle.fsmd_tool.specs.declared.answer.Answer.{Answer}
-use Rattle.fsmd_tool.specs.declared.answer.Answer.TheVariants.{Usage, Equivalent, Text, Stuck, Wide, Large, TextRefused, CheckRefused, Interfaces, TooLong, NotBuilt, CannotRead}
+use Rattle.fsmd_tool.specs.declared.answer.Answer.TheVariants.{Usage, Equivalent, Text, Differs, Unended, NotJson, InputRefused, Stuck, Wide, Large, TextRefused, CheckRefused, Interfaces, TooLong, NotBuilt, CannotRead}
 use Rattle.fsmd_tool.specs.Statuses.{status_of}
 use Rattle.fsmd_tool.specs.Puts.{Put, Whole, Cut}
 use Rattle.fsmd_tool.specs.declared.command.Command.{Command}
-use Rattle.fsmd_tool.specs.declared.command.Command.TheVariants.{Check, Fmt, Cuts}
-use Rattle.fsmd_tool.specs.Commands.{command_of, names}
+use Rattle.fsmd_tool.specs.declared.command.Command.TheVariants.{Check, Fmt, Cuts, Run, Replay}
+use Rattle.fsmd_tool.specs.Commands.{command_of}
 use Rattle.fsmd_tool.specs.Texts.{Told, HasCanonicalText}
 use Rattle.fsmd_tool.specs.Paths.{HasPaths}
-use Rattle.fsmd_tool.specs.Answers.{Given, held, AreComparable, SpellPair, PairTold, FailedToRead, DueToTwo, FirstRefused, SecondRefused, Compared, DueToOne, Refused, Listed, IsDueTo, IsDue, Answered, SaysSame, HasCause, FileFailed, SinkFailed}
+use Rattle.fsmd_tool.specs.Answers.{Given, held, FailedToRead, AreComparable, SpellPair, PairTold, DueToTwo, FirstRefused, SecondRefused, Compared, DueToOne, Refused, Listed}
+use Rattle.fsmd_tool.specs.Runs.{DueToRun}
+use Rattle.fsmd_tool.specs.Runs as runs
+use Rattle.fsmd_tool.specs.Replays.{DueToReplay}
+use Rattle.fsmd_tool.specs.Replays as replays
+use Rattle.fsmd_tool.specs.Due.{IsDueTo, IsDue, Answered, SaysSame, HasCause, FileFailed, SinkFailed}
 
 told_map : (h : Held) (P Q : List ℕ → Type 0) → ((x : List ℕ) → P x → Q x) → Told h P → Told h Q
 told_map Untold P Q f t = tt
@@ -51,6 +56,10 @@ fine_answer : (answer : Answer) → status_of answer ≡ Fine → ((nodes : ℕ)
 fine_answer Usage e = cc
 fine_answer (Equivalent nodes) e = inl (nodes, refl)
 fine_answer (Text lines) e = inr (lines, refl)
+fine_answer (Differs lines) e = cc
+fine_answer (Unended lines) e = cc
+fine_answer (NotJson file) e = cc
+fine_answer (InputRefused file fault name) e = cc
 fine_answer (Stuck output) e = cc
 fine_answer Wide e = cc
 fine_answer Large e = cc
@@ -65,6 +74,10 @@ fault_answer : (answer : Answer) → status_of answer ≡ Fault → (file : Oper
 fault_answer Usage e = cc
 fault_answer (Equivalent nodes) e = cc
 fault_answer (Text lines) e = cc
+fault_answer (Differs lines) e = cc
+fault_answer (Unended lines) e = cc
+fault_answer (NotJson file) e = cc
+fault_answer (InputRefused file fault name) e = cc
 fault_answer (Stuck output) e = cc
 fault_answer Wide e = cc
 fault_answer Large e = cc
@@ -79,16 +92,32 @@ of_one : (P : (text bytes : List ℕ) → Type 0) (g : Given) (file : Operand) �
 of_one P g file (Refused h) = h
 of_one P g file (Listed never told) = absurd never
 
-of_two : (g : Given) (p : Put) (c : Command) (file : Operand) → command_of g.words ≡ Some c → ((f : Operand) → IsTrue (names c f)) → DueToTwo g (CannotRead file) → HasCause g p
-of_two g p c file is named (FirstRefused h) = FileFailed c First is (named First) h.1
-of_two g p c file is named (SecondRefused first h) = FileFailed c Second is (named Second) h.1
-of_two g p c file is named (Compared never told) = absurd never
+of_two : (g : Given) (p : Put) (file : Operand) → command_of g.words ≡ Some Check → DueToTwo g (CannotRead file) → HasCause g p
+of_two g p file is (FirstRefused h) = FileFailed Check First is refl h.1
+of_two g p file is (SecondRefused first h) = FileFailed Check Second is refl h.1
+of_two g p file is (Compared never told) = absurd never
+
+of_run : (g : Given) (p : Put) (file : Operand) → command_of g.words ≡ Some Run → DueToRun g (CannotRead file) → HasCause g p
+of_run g p file is (runs.MachineRefused h) = FileFailed Run First is refl h.1
+of_run g p file is (runs.InputsUnread told h) = FileFailed Run Second is refl h.1
+of_run g p file is (runs.InputsRefused never told) = absurd never
+of_run g p file is (runs.Ran never told) = absurd never
+
+of_replay : (g : Given) (p : Put) (file : Operand) → command_of g.words ≡ Some Replay → DueToReplay g (CannotRead file) → HasCause g p
+of_replay g p file is (replays.LeftRefused h) = FileFailed Replay First is refl h.1
+of_replay g p file is (replays.RightRefused told h) = FileFailed Replay Second is refl h.1
+of_replay g p file is (replays.FacesDiffer never told) = absurd never
+of_replay g p file is (replays.InputsUnread told h) = FileFailed Replay Third is refl h.1
+of_replay g p file is (replays.InputsRefused never told) = absurd never
+of_replay g p file is (replays.Replayed never told) = absurd never
 
 due_fault : (o : Option Command) (g : Given) (p : Put) (file : Operand) → command_of g.words ≡ o → IsDueTo o g (CannotRead file) → HasCause g p
 due_fault None g p file is e = cc
-due_fault (Some Check) g p file is d = of_two g p Check file is (λ f. refl) d
+due_fault (Some Check) g p file is d = of_two g p file is d
 due_fault (Some Fmt) g p file is d = FileFailed Fmt First is refl (of_one HasCanonicalText g file d).1
 due_fault (Some Cuts) g p file is d = FileFailed Cuts First is refl (of_one HasPaths g file d).1
+due_fault (Some Run) g p file is d = of_run g p file is d
+due_fault (Some Replay) g p file is d = of_replay g p file is d
 
 same_line : (answer : Answer) (nodes : ℕ) (words : List (List ℕ)) → answer ≡ Equivalent nodes → nodes ≡ 2 → reply answer words ≡ codes "equivalent: 2 nodes\n"
 same_line answer nodes words e two =

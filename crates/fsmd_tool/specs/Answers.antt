@@ -1,6 +1,6 @@
 -- Which answers are due to the words of a command and to what its files hold.
-use Rattle.std.specs.Prelude.{◌≡◌, ℕ, IsTrue, true, false, List, Option, Some, None, option_map, slice_get, codes}
-use Rattle.fs_base.specs.Outside.{Held, Rose, appended}
+use Rattle.std.specs.Prelude.{◌≡◌, ℕ, true, false, List, Some, None, option_map, slice_get}
+use Rattle.fs_base.specs.Outside.{Held, Rose}
 use Rattle.fs_model.specs.Machines.{Fsmd}
 use Rattle.fs_model.specs.Runs.{SameBehaviour}
 use Rattle.fs_pair.specs.Faces.{interface_fault}
@@ -10,17 +10,10 @@ use Rattle.straight_line.specs.Straight.{is_straight}
 use Rattle.straight_line.specs.Verdicts.{DiffersAt, DiffersNowhere, StopsOn}
 use Rattle.fsmd_tool.specs.declared.answer.Operand.{Operand}
 use Rattle.fsmd_tool.specs.declared.answer.Operand.TheVariants.{First, Second}
-use Rattle.fsmd_tool.specs.declared.answer.Status.TheVariants.{NoMemory}
-use Rattle.fsmd_tool.specs.declared.command.Command.{Command}
-use Rattle.fsmd_tool.specs.declared.command.Command.TheVariants.{Check, Fmt, Cuts}
 use Rattle.fsmd_tool.specs.declared.answer.Answer.{Answer}
-use Rattle.fsmd_tool.specs.declared.answer.Answer.TheVariants.{Usage, Equivalent, Text, Stuck, Wide, Large, TextRefused, CheckRefused, Interfaces, TooLong, NotBuilt, CannotRead}
-use Rattle.fsmd_tool.specs.Statuses.{status_of}
-use Rattle.fsmd_tool.specs.Replies.{reply}
-use Rattle.fsmd_tool.specs.Paths.{HasPaths}
-use Rattle.fsmd_tool.specs.Puts.{Put, IsPut}
-use Rattle.fsmd_tool.specs.Commands.{word_of, command_of, names}
-use Rattle.fsmd_tool.specs.Texts.{Told, Spells, HasCanonicalText, IsMachine, IsTooLong, HasTextFault, HasCheckFault}
+use Rattle.fsmd_tool.specs.declared.answer.Answer.TheVariants.{Equivalent, Text, Differs, Unended, Stuck, Wide, Large, TextRefused, CheckRefused, Interfaces, TooLong, NotBuilt, CannotRead}
+use Rattle.fsmd_tool.specs.Commands.{word_of}
+use Rattle.fsmd_tool.specs.Texts.{Told, Spells, IsMachine, IsTooLong, HasTextFault, HasCheckFault}
 
 -- the words of a call, what each name held at its begin, and how often each had failed to be read before and at its end
 pub record Given : Type 0 where
@@ -107,10 +100,18 @@ pub record SpellPair (P : Fsmd → Fsmd → Type 0) (x y : List ℕ) : Type 0 wh
 abbrev pub PairTold : Given → (Fsmd → Fsmd → Type 0) → Type 0
 PairTold g P = Told (held g First) (λ x. Told (held g Second) (λ y. SpellPair P x y))
 
--- an answer of lines of which P holds
+-- an answer of lines of which P holds: the text that was asked for, two runs with other outputs, or a run without an end
 abbrev pub IsText : (List ℕ → Type 0) → Answer → Type 0
 IsText P (Text lines) = P lines
 IsText P _ = ⊥
+
+abbrev pub IsDifference : (List ℕ → Type 0) → Answer → Type 0
+IsDifference P (Differs lines) = P lines
+IsDifference P _ = ⊥
+
+abbrev pub IsUnended : (List ℕ → Type 0) → Answer → Type 0
+IsUnended P (Unended lines) = P lines
+IsUnended P _ = ⊥
 
 -- the answer that is due to a question about two machines: the first file is refused, or the first file spells a machine and the
 -- second one is refused, or both spell machines
@@ -124,40 +125,3 @@ pub data DueToTwo (g : Given) (answer : Answer) : Type 0 where
 pub data DueToOne (P : (text bytes : List ℕ) → Type 0) (g : Given) (answer : Answer) : Type 0 where
   Refused : IsOfFile First (held g First) (FailedToRead g First) answer → DueToOne P g answer
   Listed : IsText (λ text. Unit {0}) answer → Told (held g First) (λ bytes. IsText (λ text. P text bytes) answer) → DueToOne P g answer
-
--- the answer that is due to a command, or to words that are none
-abbrev pub IsDueTo : Option Command → Given → Answer → Type 0
-IsDueTo None g answer = answer ≡ Usage
-IsDueTo (Some Check) g answer = DueToTwo g answer
-IsDueTo (Some Fmt) g answer = DueToOne HasCanonicalText g answer
-IsDueTo (Some Cuts) g answer = DueToOne HasPaths g answer
-
--- the answer that is due
-abbrev pub IsDue : Given → Answer → Type 0
-IsDue g answer = IsDueTo (command_of g.words) g answer
-
--- an answer that is due was put with its status, whole or cut by a sink that failed
-pub record Answered (g : Given) (p : Put) : Type 0 where
-  pub answer : Answer
-  pub due : IsDue g answer
-  pub put : IsPut (reply answer g.words) (status_of answer) p
-
--- there was no memory, and nothing was put
-pub record IsStarved (p : Put) : Type 0 where
-  pub status : p.status ≡ NoMemory
-  pub got : p.got_now ≡ p.got_before
-
--- how a call ends
-pub data Outcome (g : Given) (p : Put) : Type 0 where
-  Answers : Answered g p → Outcome g p
-  Starves : IsStarved p → Outcome g p
-
--- both files spell machines with the same behaviour, where it is told what they hold, and this was put
-pub record SaysSame (g : Given) (p : Put) : Type 0 where
-  pub same : PairTold g SameBehaviour
-  pub put : p.got_now ≡ appended p.got_before (codes "equivalent: 2 nodes\n")
-
--- a file that the command names failed to be read, or the sink failed
-pub data HasCause (g : Given) (p : Put) : Type 0 where
-  FileFailed : (c : Command) (file : Operand) → command_of g.words ≡ Some c → IsTrue (names c file) → FailedToRead g file → HasCause g p
-  SinkFailed : Rose p.faults_before p.faults_now → HasCause g p

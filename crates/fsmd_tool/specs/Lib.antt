@@ -6,3 +6,7 @@ pub mod Paths
 pub mod Commands
 pub mod Answers
 pub mod Refusals
+pub mod Inputs
+pub mod Runs
+pub mod Replays
+pub mod Due

@@ -4,8 +4,10 @@ use Rattle.fs_grammar.specs.declared.fault.TextKind.{TextKind}
 use Rattle.fs_grammar.specs.declared.fault.TextKind.TheVariants.{BadByte, BadWord, NumberTooBig, Unexpected, Operators, Ended}
 use Rattle.fs_ast.specs.declared.check.CheckRule.{CheckRule}
 use Rattle.fs_ast.specs.declared.check.CheckRule.TheVariants.{TwiceNamed, UnknownName, WrongSort, AssignInput, AssignedTwice, NoElse, AfterElse, TooManyBranches, EndlessLine, UnknownState, TooMany}
+use Rattle.fs_inputs.specs.declared.faults.Fault.{Fault}
+use Rattle.fs_inputs.specs.declared.faults.Fault.TheVariants.{Shape, Unknown, TooBig}
 use Rattle.fsmd_tool.specs.declared.answer.Answer.{Answer}
-use Rattle.fsmd_tool.specs.declared.answer.Answer.TheVariants.{Usage, Equivalent, Text, Stuck, Wide, Large, TextRefused, CheckRefused, Interfaces, TooLong, NotBuilt, CannotRead}
+use Rattle.fsmd_tool.specs.declared.answer.Answer.TheVariants.{Usage, Equivalent, Text, Differs, Unended, Stuck, Wide, Large, TextRefused, CheckRefused, NotJson, InputRefused, Interfaces, TooLong, NotBuilt, CannotRead}
 use Rattle.fsmd_tool.specs.Commands.{word_of}
 
 -- the name of what is wrong in a text
@@ -31,12 +33,20 @@ rule_name EndlessLine = codes "EndlessLine"
 rule_name UnknownState = codes "UnknownState"
 rule_name TooMany = codes "TooMany"
 
+-- the name of what is wrong in a file of inputs
+abbrev pub input_fault_name : Fault → List ℕ
+input_fault_name Shape = codes "Shape"
+input_fault_name Unknown = codes "UnknownName"
+input_fault_name TooBig = codes "NumberTooBig"
+
 -- the lines that each answer puts, where these are the words of the command
 abbrev pub reply : Answer → (words : List (List ℕ)) → List ℕ
 reply Usage words =
     codes "usage: fsmd check A B [--cert F] [--steps N] | verify A B C | run A I [--steps N] | replay A B I [--steps N] | fmt A | cuts A | generate N\n"
 reply (Equivalent nodes) words = codes "equivalent: " ++ (decimal nodes ++ codes " nodes\n")
 reply (Text lines) words = lines
+reply (Differs lines) words = lines
+reply (Unended lines) words = lines
 reply (Stuck output) words = codes "undecided: output " ++ (output ++ codes " at start.0>done | start.0>done\n")
 reply Wide words = codes "undecided: coefficient past 128 bits at start.0>done | start.0>done\n"
 reply Large words = codes "undecided: term too large at start.0>done | start.0>done\n"
@@ -44,6 +54,9 @@ reply (TextRefused file fault) words =
     codes "bad input: " ++ (word_of words file ++ (codes ":" ++ (decimal fault.line ++ (codes ":" ++ (decimal fault.column ++ (codes ": " ++ (kind_name fault.kind ++ codes "\n")))))))
 reply (CheckRefused file fault) words =
     codes "bad input: " ++ (word_of words file ++ (codes ":" ++ (decimal fault.line ++ (codes ": " ++ (rule_name fault.rule ++ codes "\n")))))
+reply (NotJson file) words = codes "bad input: " ++ (word_of words file ++ codes ": NotJson\n")
+reply (InputRefused file fault name) words =
+    codes "bad input: " ++ (word_of words file ++ (codes ": " ++ (input_fault_name fault ++ (codes " " ++ (name ++ codes "\n")))))
 reply (Interfaces name) words = codes "bad input: interface: " ++ (name ++ codes "\n")
 reply (TooLong file) words = codes "bad input: " ++ (word_of words file ++ codes ": longer than 1048576 bytes\n")
 reply (NotBuilt file) words = codes "bad input: " ++ (word_of words file ++ codes ": NotBuilt\n")

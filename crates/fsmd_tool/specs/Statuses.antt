@@ -20,11 +20,15 @@ abbrev pub status_of : Answer → Status
 status_of answers.Usage = Usage
 status_of (answers.Equivalent nodes) = Fine
 status_of (answers.Text lines) = Fine
+status_of (answers.Differs lines) = Differ
+status_of (answers.Unended lines) = Undecided
 status_of (answers.Stuck output) = Undecided
 status_of answers.Wide = Undecided
 status_of answers.Large = Undecided
 status_of (answers.TextRefused file fault) = BadInput
 status_of (answers.CheckRefused file fault) = BadInput
+status_of (answers.NotJson file) = BadInput
+status_of (answers.InputRefused file fault name) = BadInput
 status_of (answers.Interfaces name) = BadInput
 status_of (answers.TooLong file) = BadInput
 status_of (answers.NotBuilt file) = BadInput

@@ -5,6 +5,7 @@ ghost use Rattle.fsmd_tool.specs.Statuses.{code_of, status_of};
 
 use fs_ast::check::CheckFault;
 use fs_grammar::fault::TextFault;
+use fs_inputs::Fault as InputFault;
 use fs_model::name::Name;
 use std::marker::Model;
 
@@ -44,11 +45,12 @@ impl Status {
     }
 }
 
-/// Which file of a command: the first or the second that it names.
+/// Which file of a command: the first, the second or the third that it names.
 #[derive(Clone, Copy, Debug, PartialEq, Eq)]
 pub enum Operand {
     First,
     Second,
+    Third,
 }
 
 /// Lines of text that a command answers. Contracts see their bytes.
@@ -87,27 +89,65 @@ pub enum Answer {
     /// The words are no command.
     Usage,
     /// The machines have the same behaviour, which this many nodes show.
-    Equivalent { nodes: u32 },
-    /// What was asked of a machine.
-    Text { lines: Lines },
+    Equivalent {
+        nodes: u32,
+    },
+    /// What was asked of a machine, or of runs that ended, with the same outputs where they are two.
+    Text {
+        lines: Lines,
+    },
+    /// Two runs that ended with other outputs.
+    Differs {
+        lines: Lines,
+    },
+    /// A run that has no end within the limits.
+    Unended {
+        lines: Lines,
+    },
     /// The terms of an output differ.
-    Stuck { output: Name },
+    Stuck {
+        output: Name,
+    },
     /// A coefficient may be past 128 bits.
     Wide,
     /// A term is too large.
     Large,
     /// A file spells no parts of a machine.
-    TextRefused { file: Operand, fault: TextFault },
+    TextRefused {
+        file: Operand,
+        fault: TextFault,
+    },
     /// The parts that a file spells break a rule.
-    CheckRefused { file: Operand, fault: CheckFault },
+    CheckRefused {
+        file: Operand,
+        fault: CheckFault,
+    },
+    /// A file of inputs is no JSON.
+    NotJson {
+        file: Operand,
+    },
+    /// A file of inputs has a fault at a name.
+    InputRefused {
+        file: Operand,
+        fault: InputFault,
+        name: Lines,
+    },
     /// A name is an input or output of one machine and not alike of the other.
-    Interfaces { name: Name },
+    Interfaces {
+        name: Name,
+    },
     /// A file has more bytes than are read.
-    TooLong { file: Operand },
+    TooLong {
+        file: Operand,
+    },
     /// A machine has a form that is not compared yet.
-    NotBuilt { file: Operand },
+    NotBuilt {
+        file: Operand,
+    },
     /// A file could not be read.
-    CannotRead { file: Operand },
+    CannotRead {
+        file: Operand,
+    },
 }
 
 impl Answer {
@@ -117,10 +157,15 @@ impl Answer {
     {
         match self {
             Answer::Equivalent { .. } | Answer::Text { .. } => Status::Fine,
-            Answer::Stuck { .. } | Answer::Wide | Answer::Large => Status::Undecided,
+            Answer::Differs { .. } => Status::Differ,
+            Answer::Stuck { .. } | Answer::Wide | Answer::Large | Answer::Unended { .. } => {
+                Status::Undecided
+            }
             Answer::Usage => Status::Usage,
             Answer::TextRefused { .. }
             | Answer::CheckRefused { .. }
+            | Answer::NotJson { .. }
+            | Answer::InputRefused { .. }
             | Answer::Interfaces { .. }
             | Answer::TooLong { .. }
             | Answer::NotBuilt { .. } => Status::BadInput,

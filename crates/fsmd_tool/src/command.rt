@@ -1,7 +1,7 @@
 //! Which command words are.
 
 ghost use Rattle.std.specs.Prelude.{◌≡◌, map, string_bytes};
-ghost use Rattle.fsmd_tool.specs.Commands.{word_of, one_file_command, two_file_command, command_of};
+ghost use Rattle.fsmd_tool.specs.Commands.{word_of, one_file_command, two_file_command, three_file_command, command_of};
 
 use crate::answer::Operand;
 
@@ -14,6 +14,10 @@ pub enum Command {
     Fmt,
     /// `cuts A`: the paths of a machine between its cutpoints.
     Cuts,
+    /// `run A I`: a run of a machine on inputs.
+    Run,
+    /// `replay A B I`: runs of two machines on the same inputs.
+    Replay,
 }
 
 fn one_file_command(name: &str) -> Option<Command>
@@ -31,6 +35,16 @@ fn two_file_command(name: &str) -> Option<Command>
 {
     match name {
         "check" => Some(Command::Check),
+        "run" => Some(Command::Run),
+        _ => None,
+    }
+}
+
+fn three_file_command(name: &str) -> Option<Command>
+    ensures { result ≡ three_file_command name.now }
+{
+    match name {
+        "replay" => Some(Command::Replay),
         _ => None,
     }
 }
@@ -42,6 +56,7 @@ pub fn command_of(words: &[String]) -> Option<Command>
     match words {
         [name, _] => one_file_command(name.as_str()),
         [name, _, _] => two_file_command(name.as_str()),
+        [name, _, _, _] => three_file_command(name.as_str()),
         _ => None,
     }
 }
@@ -53,6 +68,7 @@ pub fn word_of(words: &[String], file: Operand) -> &str
     let place = match file {
         Operand::First => 1,
         Operand::Second => 2,
+        Operand::Third => 3,
     };
     match words.get(place) {
         Some(word) => word.as_str(),

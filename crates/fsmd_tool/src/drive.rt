@@ -4,73 +4,20 @@ ghost use Rattle.std.specs.Prelude.{◌≡◌, ◌≤◌, Some, IfOk, map, strin
 ghost use Rattle.std.specs.Result.{IfErr, OnErr};
 ghost use Rattle.fs_base.specs.Outside.{NoneFell, SameHeld};
 ghost use Rattle.fsmd_tool.specs.Commands.{command_of};
-ghost use Rattle.fsmd_tool.specs.Texts.{HasCanonicalText};
-ghost use Rattle.fsmd_tool.specs.Paths.{HasPaths};
-ghost use Rattle.fsmd_tool.specs.Answers.{DueToTwo, DueToOne, IsDueTo, IsDue, Answered, Outcome, SaysSame, HasCause, given};
+ghost use Rattle.fsmd_tool.specs.Answers.{given};
+ghost use Rattle.fsmd_tool.specs.Due.{IsDueTo, IsDue, Answered, Outcome, SaysSame, HasCause};
 ghost use Rattle.fsmd_tool.specs.Puts.{put};
 ghost use Rattle.fsmd_tool.specs.Refusals.{WhereAnswered};
 ghost use Rattle.fsmd_tool.specs.declared.command.Command.TheVariants.{Check};
 ghost use Rattle.fsmd_tool.specs.declared.answer.Status.TheVariants.{Fine, Fault};
 
-use crate::answer::{Answer, Lines, Operand, Status};
-use crate::command::{Command, command_of, word_of};
-use crate::compare::compare;
-use crate::load::{Loaded, Refused, load, load_machine};
-use crate::paths::list_paths;
+use crate::answer::{Answer, Status};
+use crate::command::{Command, command_of};
+use crate::commands::{check, cut_paths, format_text, replay_files, run_files};
+use crate::load::Refused;
 use crate::put::put_answer;
 use fs_base::outside::{Files, Sink};
-use fs_write::write_parts;
 use std::alloc::{AllocError, Global};
-
-// The answer for two files.
-fn check<F: Files>(alloc: Global, words: &[String], files: &mut F) -> Result<Answer, Refused>
-    ensures ok { IfOk result (DueToTwo
-        (given (map string_bytes words.now) (F.holds files.old) (F.faults files.old) (F.faults files.new))) }
-    ensures refused { IfErr result (WhereAnswered (DueToTwo
-        (given (map string_bytes words.now) (F.holds files.old) (F.faults files.old) (F.faults files.new)))) }
-    ensures counts { NoneFell (F.faults files.old) (F.faults files.new) }
-    ensures unchanged { SameHeld (F.holds files.old) (F.holds files.new) }
-{
-    let first = word_of(words, Operand::First);
-    let left = load_machine(alloc, Operand::First, first, files)?;
-    let second = word_of(words, Operand::Second);
-    let right = load_machine(alloc, Operand::Second, second, files)?;
-    Ok(compare(alloc, &left, &right)?)
-}
-
-// The canonical text of the machine in a file.
-fn format_text<F: Files>(alloc: Global, words: &[String], files: &mut F) -> Result<Answer, Refused>
-    ensures ok { IfOk result (DueToOne HasCanonicalText
-        (given (map string_bytes words.now) (F.holds files.old) (F.faults files.old) (F.faults files.new))) }
-    ensures refused { IfErr result (WhereAnswered (DueToOne HasCanonicalText
-        (given (map string_bytes words.now) (F.holds files.old) (F.faults files.old) (F.faults files.new)))) }
-    ensures counts { NoneFell (F.faults files.old) (F.faults files.new) }
-    ensures unchanged { SameHeld (F.holds files.old) (F.holds files.new) }
-{
-    let word = word_of(words, Operand::First);
-    let Loaded { parts, .. } = load(alloc, Operand::First, word, files)?;
-    match write_parts(alloc, &parts) {
-        Ok(text) => Ok(Answer::Text {
-            lines: Lines::of(text),
-        }),
-        Err(_) => Err(Refused::NoMemory),
-    }
-}
-
-// The paths of the machine in a file.
-fn cut_paths<F: Files>(alloc: Global, words: &[String], files: &mut F) -> Result<Answer, Refused>
-    ensures ok { IfOk result (DueToOne HasPaths
-        (given (map string_bytes words.now) (F.holds files.old) (F.faults files.old) (F.faults files.new))) }
-    ensures refused { IfErr result (WhereAnswered (DueToOne HasPaths
-        (given (map string_bytes words.now) (F.holds files.old) (F.faults files.old) (F.faults files.new)))) }
-    ensures counts { NoneFell (F.faults files.old) (F.faults files.new) }
-    ensures unchanged { SameHeld (F.holds files.old) (F.holds files.new) }
-{
-    let word = word_of(words, Operand::First);
-    let machine = load_machine(alloc, Operand::First, word, files)?;
-    let lines = Lines::of(list_paths(alloc, &machine)?);
-    Ok(Answer::Text { lines })
-}
 
 // What is answered to the words of a command.
 fn obey<F: Files>(
@@ -90,6 +37,8 @@ fn obey<F: Files>(
         Command::Check => check(alloc, words, files),
         Command::Fmt => format_text(alloc, words, files),
         Command::Cuts => cut_paths(alloc, words, files),
+        Command::Run => run_files(alloc, words, files),
+        Command::Replay => replay_files(alloc, words, files),
     }
 }
 

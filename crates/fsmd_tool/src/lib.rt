@@ -3,11 +3,13 @@
 
 pub mod answer;
 pub mod command;
+mod commands;
 mod compare;
 pub mod drive;
 mod load;
 mod paths;
 mod put;
 mod reply;
+mod runs;
 #[cfg(test)]
 mod tests;

@@ -1,12 +1,13 @@
 //! The bytes of each answer.
 
 ghost use Rattle.std.specs.Prelude.{◌≡◌, ◌++◌, IfOk, codes, decimal, map, string_bytes};
-ghost use Rattle.fsmd_tool.specs.Replies.{kind_name, rule_name, reply};
+ghost use Rattle.fsmd_tool.specs.Replies.{kind_name, rule_name, input_fault_name, reply};
 
 use crate::answer::Answer;
 use crate::command::word_of;
 use fs_ast::check::{CheckFault, CheckRule};
 use fs_grammar::fault::{TextFault, TextKind};
+use fs_inputs::Fault as InputFault;
 use fs_model::name::Name;
 use std::alloc::{AllocError, Global};
 
@@ -41,6 +42,16 @@ fn rule_name(rule: CheckRule) -> &'static str
         CheckRule::EndlessLine => "EndlessLine",
         CheckRule::UnknownState => "UnknownState",
         CheckRule::TooMany => "TooMany",
+    }
+}
+
+fn input_fault_name(fault: InputFault) -> &'static str
+    ensures { result.now ≡ input_fault_name fault }
+{
+    match fault {
+        InputFault::Shape => "Shape",
+        InputFault::Unknown => "UnknownName",
+        InputFault::TooBig => "NumberTooBig",
     }
 }
 
@@ -88,6 +99,34 @@ fn cannot_read(alloc: Global, word: &str) -> Result<String, AllocError>
     format!(in alloc; "fault: cannot read {word}\n")
 }
 
+fn not_json(alloc: Global, word: &str) -> Result<String, AllocError>
+    ensures { IfOk result (λ text. string_bytes text ≡ codes "bad input: " ++ (word.now ++ codes ": NotJson\n")) }
+{
+    format!(in alloc; "bad input: {word}: NotJson\n")
+}
+
+// What is refused of a file of inputs, up to the name.
+fn input_fault(alloc: Global, word: &str, fault: InputFault) -> Result<String, AllocError>
+    ensures { IfOk result (λ text. string_bytes text ≡ codes "bad input: " ++ (word.now ++ (codes ": " ++ (input_fault_name fault ++ codes " ")))) }
+{
+    let fault = input_fault_name(fault);
+    format!(in alloc; "bad input: {word}: {fault} ")
+}
+
+fn input_refused(
+    alloc: Global,
+    word: &str,
+    fault: InputFault,
+    name: &[u8],
+) -> Result<Vec<u8>, AllocError>
+    ensures { IfOk result (λ bytes. bytes.items ≡ codes "bad input: " ++ (word.now ++ (codes ": " ++ (input_fault_name fault ++ (codes " " ++ (name.now ++ codes "\n")))))) }
+{
+    let mut bytes = input_fault(alloc, word, fault)?.into_bytes();
+    bytes.extend_from_slice(name)?;
+    bytes.extend_from_slice(b"\n")?;
+    Ok(bytes)
+}
+
 fn equivalent(alloc: Global, nodes: u32) -> Result<String, AllocError>
     ensures { IfOk result (λ text. string_bytes text ≡ codes "equivalent: " ++ (decimal nodes ++ codes " nodes\n")) }
 {
@@ -110,7 +149,13 @@ pub fn reply(alloc: Global, answer: &Answer, words: &[String]) -> Result<Vec<u8>
         Answer::Interfaces { name } => {
             return with_name(alloc, "bad input: interface: ", name, "\n");
         }
-        Answer::Text { lines } => return lines.bytes().to_vec(alloc),
+        Answer::Text { lines } | Answer::Differs { lines } | Answer::Unended { lines } => {
+            return lines.bytes().to_vec(alloc);
+        }
+        Answer::InputRefused { file, fault, name } => {
+            return input_refused(alloc, word_of(words, *file), *fault, name.bytes());
+        }
+        Answer::NotJson { file } => not_json(alloc, word_of(words, *file))?,
         Answer::Usage => String::from_str(alloc, USAGE)?,
         Answer::Equivalent { nodes } => equivalent(alloc, *nodes)?,
         Answer::Wide => String::from_str(

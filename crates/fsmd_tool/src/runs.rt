@@ -1,0 +1,89 @@
+//! Runs machines on inputs, and says what they answer.
+
+ghost use Rattle.std.specs.Prelude.{◌≡◌, cond, None, IfOk};
+ghost use Rattle.fs_pair.specs.Faces.{interface_fault};
+ghost use Rattle.fs_runs.specs.Given.{inputs_of, faces_of, Serves};
+ghost use Rattle.fs_show.specs.Ends.{IsStopText};
+ghost use Rattle.fsmd_tool.specs.Answers.{IsUnended};
+ghost use Rattle.fsmd_tool.specs.Runs.{IsRunAnswer, IsOfRun};
+ghost use Rattle.fsmd_tool.specs.Replays.{IsReplayAnswer, IsOfReplay};
+ghost use Rattle.fsmd_tool.specs.declared.answer.Answer.TheVariants.{Text, Differs};
+
+use crate::answer::{Answer, Lines};
+use fs_ast::machine::Machine;
+use fs_runs::inputs::Inputs;
+use fs_runs::run::{RunStop, run};
+use fs_show::ends::{Side, end_text, stop_text};
+use fs_show::replay::{Replay, replay_text};
+use std::alloc::{AllocError, Global};
+
+/// The most steps of a run.
+const MOST_STEPS: u64 = 10_000;
+
+// What a run without an end answers.
+fn unended(alloc: Global, side: Side, stop: RunStop) -> Result<Answer, AllocError>
+    ensures { IfOk result (IsUnended (IsStopText side stop)) }
+{
+    match stop_text(alloc, side, stop) {
+        Ok(text) => Ok(Answer::Unended {
+            lines: Lines::of(text),
+        }),
+        Err(_) => Err(AllocError),
+    }
+}
+
+/// What a run of a machine from inputs answers.
+pub fn run_machine(alloc: Global, machine: &Machine, inputs: &Inputs) -> Result<Answer, AllocError>
+    requires { Serves (faces_of inputs.now) machine.now }
+    ensures answer { IfOk result IsRunAnswer }
+    ensures due { IfOk result (IsOfRun machine.now (inputs_of inputs.now)) }
+{
+    let ended = match run(alloc, machine, inputs, MOST_STEPS) {
+        Ok(ended) => ended,
+        Err(stop) => return unended(alloc, Side::Only, stop),
+    };
+    match end_text(alloc, machine, &ended) {
+        Ok(text) => Ok(Answer::Text {
+            lines: Lines::of(text),
+        }),
+        Err(_) => Err(AllocError),
+    }
+}
+
+// What two runs that ended answer, with the same outputs or others.
+fn compared(same: bool, lines: Lines) -> Answer
+    ensures { result ≡ cond same (Text lines) (Differs lines) }
+{
+    if same {
+        Answer::Text { lines }
+    } else {
+        Answer::Differs { lines }
+    }
+}
+
+/// What runs of two machines with the same inputs and outputs answer, from the same inputs.
+pub fn replay_machines(
+    alloc: Global,
+    left: &Machine,
+    right: &Machine,
+    inputs: &Inputs,
+) -> Result<Answer, AllocError>
+    requires alike { interface_fault left.now right.now ≡ None }
+    requires left_inputs { Serves (faces_of inputs.now) left.now }
+    requires right_inputs { Serves (faces_of inputs.now) right.now }
+    ensures answer { IfOk result IsReplayAnswer }
+    ensures due { IfOk result (IsOfReplay left.now right.now (inputs_of inputs.now)) }
+{
+    let left_end = match run(alloc, left, inputs, MOST_STEPS) {
+        Ok(ended) => ended,
+        Err(stop) => return unended(alloc, Side::Left, stop),
+    };
+    let right_end = match run(alloc, right, inputs, MOST_STEPS) {
+        Ok(ended) => ended,
+        Err(stop) => return unended(alloc, Side::Right, stop),
+    };
+    match replay_text(alloc, left, &left_end, right, &right_end) {
+        Ok(Replay { same, text }) => Ok(compared(same, Lines::of(text))),
+        Err(_) => Err(AllocError),
+    }
+}
