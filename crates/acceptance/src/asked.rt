@@ -1,7 +1,7 @@
 //! Cases: what is asked of the program over files in memory, and what it is to answer.
 //!
-//! A case is a text of four parts with `⊢` between two: the words, the bytes of `a.fsmd`, those of `b.fsmd`, and the
-//! reply. A table is a form and its rows, one a line: its cases are the form with the cells of a row, which `¦` parts,
+//! A case is a text of parts with `⊢` between two: the words, the bytes of `a.fsmd`, those of `b.fsmd`, the reply, and
+//! the bytes of `i.json`, if any. A table is a form and its rows, one a line: its cases are the form with the cells of a row, which `¦` parts,
 //! for `①`, `②`, `③` and so on. `¶` stands for a line break, `◇` for a machine, `«3·x»` and `⟪3·x⟫` for xxx, and
 //! `«2..4·x№†»` for x23x34: each number and the next. Where `▸` stands in `a.fsmd` is the place that `▸` in the reply
 //! means; it is no byte of the file.
@@ -108,18 +108,14 @@ fn holds(alloc: Global, case: &str) -> Result<bool, AllocError> {
     let left = parts.next().unwrap_or("");
     let right = parts.next().unwrap_or("");
     let reply = parts.next().unwrap_or("");
+    let inputs = parts.next().unwrap_or("");
     let (front, rest) = left.split_once('▸').unwrap_or((left, ""));
     let (line, column) = place_behind(front);
     let left = format!(in alloc; "{front}{rest}")?;
     let place = format!(in alloc; "{line}:{column}")?;
     let reply = reply.replace(alloc, '▸', place.as_str())?;
-    answers(
-        alloc,
-        words,
-        left.as_bytes(),
-        right.as_bytes(),
-        reply.as_str(),
-    )
+    let held = [left.as_bytes(), right.as_bytes(), inputs.as_bytes()];
+    answers(alloc, words, held, reply.as_str())
 }
 
 // The line and the column of the byte behind this text.
@@ -137,17 +133,19 @@ fn place_behind(text: &str) -> (usize, usize) {
     (line, column)
 }
 
-/// Whether these words over files of these bytes end with exactly this reply, and with the status that goes with it.
+/// Whether these words over the files `a.fsmd`, `b.fsmd` and `i.json` of these bytes end with exactly this reply, and with
+/// the status that goes with it.
 pub fn answers(
     alloc: Global,
     words: &str,
-    left: &[u8],
-    right: &[u8],
+    [left, right, inputs]: [&[u8]; 3],
     reply: &str,
 ) -> Result<bool, AllocError> {
     let mut files = CleanFiles::new(alloc);
     let mut out = CleanSink::new(alloc);
-    let held = files.add("a.fsmd", left).is_ok() && files.add("b.fsmd", right).is_ok();
+    let held = files.add("a.fsmd", left).is_ok()
+        && files.add("b.fsmd", right).is_ok()
+        && files.add("i.json", inputs).is_ok();
     if !held || out.reserve(2_000).is_err() {
         return Ok(false);
     }
@@ -169,6 +167,8 @@ fn status_of(reply: &str) -> Status {
         Status::BadInput
     } else if reply.starts_with("undecided: ") {
         Status::Undecided
+    } else if reply.starts_with("differ\n") {
+        Status::Differ
     } else if reply.starts_with("usage: ") {
         Status::Usage
     } else {

@@ -64,7 +64,7 @@ fn bytes_that_are_no_text(rt: HostRuntime) -> Result<(), Fail> {
     ];
     for (left, reply) in cases {
         assert!(rt;
-            answers(rt.alloc(), "check a.fsmd b.fsmd", left, b"", reply)?,
+            answers(rt.alloc(), "check a.fsmd b.fsmd", [left, b"", b""], reply)?,
             "{reply}"
         );
     }

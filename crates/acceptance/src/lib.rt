@@ -1,7 +1,7 @@
 //! Worked examples of the program's behaviour, by the one call that the program makes, over files in memory.
 //!
 //! The crate gives nothing: each module is a set of tests, and each test is a table of texts with the replies that the
-//! rules of machine texts, of machines and of comparison give for them.
+//! rules of machine texts, of machines, of runs and of comparison give for them.
 #![tactic(auto)]
 
 #[cfg(test)]
@@ -20,5 +20,7 @@ mod limits;
 mod paths;
 #[cfg(test)]
 mod rules;
+#[cfg(test)]
+mod runs;
 #[cfg(test)]
 mod sums;
