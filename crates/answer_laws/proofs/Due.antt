@@ -3,35 +3,25 @@ use Rattle.std.proofs.Common.{◌≡◌, ℕ, List, Option, Some, None, refl, sy
 use Rattle.fs_base.specs.Outside.{Held, Untold, Nothing, Bytes}
 use Rattle.fs_model.specs.Machines.{Fsmd}
 use Rattle.fsmd_tool.specs.declared.answer.Operand.{Operand}
-use Rattle.fsmd_tool.specs.declared.answer.Operand.TheVariants.{First, Second}
+use Rattle.fsmd_tool.specs.declared.answer.Operand.TheVariants.{First, Second, Third}
 use Rattle.fsmd_tool.specs.declared.command.Command.{Command}
-use Rattle.fsmd_tool.specs.declared.command.Command.TheVariants.{Check, Fmt, Cuts}
+use Rattle.fsmd_tool.specs.declared.command.Command.TheVariants.{Check, Fmt, Cuts, Run, Replay}
 use Rattle.fsmd_tool.specs.Commands.{command_of}
 use Rattle.fsmd_tool.specs.declared.answer.Answer.{Answer}
-use Rattle.fsmd_tool.specs.declared.answer.Answer.TheVariants.{Usage, Equivalent, Text, Stuck, Wide, Large, TextRefused, CheckRefused, Interfaces, TooLong, NotBuilt, CannotRead}
+use Rattle.fsmd_tool.specs.declared.answer.Answer.TheVariants.{Usage, Equivalent, Text, Differs, Unended, Stuck, Wide, Large, TextRefused, CheckRefused, NotJson, InputRefused, Interfaces, TooLong, NotBuilt, CannotRead}
 use Rattle.fsmd_tool.specs.Texts.{Told, IsMachine, HasCanonicalText}
 use Rattle.fsmd_tool.specs.Paths.{HasPaths}
-use Rattle.fsmd_tool.specs.Answers.{Given, held, FailedToRead, IsOfFile, IsOfPair, IsVerdict, SpellPair, PairTold, IsText, DueToTwo, FirstRefused, SecondRefused, Compared, DueToOne, Refused, Listed, IsDueTo, IsDue}
+use Rattle.fsmd_tool.specs.Answers.{Given, held, FailedToRead, IsOfFile, IsOfPair, IsVerdict, SpellPair, PairTold, IsText, DueToTwo, FirstRefused, SecondRefused, Compared, DueToOne, Refused, Listed}
+use Rattle.fsmd_tool.specs.Due.{IsDueTo, IsDue}
 use Rattle.answer_laws.specs.Settled.{Settles, IsSettled, AreSettled}
 use Rattle.answer_laws.proofs.Pairs.{pair_once}
 use Rattle.answer_laws.proofs.Texts.{spells_once, canonical_once, canonical_machine, paths_once}
 use Rattle.answer_laws.proofs.Files.{settled_once, settled_or_answer}
+use Rattle.answer_laws.proofs.Machines.{left_machine, right_machine}
+use Rattle.answer_laws.proofs.DueRuns.{due_run_once}
+use Rattle.answer_laws.proofs.DueReplays.{due_replay_once}
 
--- ---- two files that are told spell the machines of their pair
-
-left_machine : (h k : Held) (F G : Type 0) (P : Fsmd → Fsmd → Type 0) → Settles h F → Settles k G → Told h (λ x. Told k (λ y. SpellPair P x y)) → Told h IsMachine
-left_machine Untold k F G P s t w = absurd s
-left_machine Nothing k F G P s t w = absurd w
-left_machine (Bytes x) Untold F G P s t w = absurd t
-left_machine (Bytes x) Nothing F G P s t w = absurd w
-left_machine (Bytes x) (Bytes y) F G P s t w = (w.a, w.left)
-
-right_machine : (h k : Held) (F G : Type 0) (P : Fsmd → Fsmd → Type 0) → Settles h F → Settles k G → Told h (λ x. Told k (λ y. SpellPair P x y)) → Told k IsMachine
-right_machine Untold k F G P s t w = absurd s
-right_machine Nothing k F G P s t w = absurd w
-right_machine (Bytes x) Untold F G P s t w = absurd t
-right_machine (Bytes x) Nothing F G P s t w = absurd w
-right_machine (Bytes x) (Bytes y) F G P s t w = (w.b, w.right)
+-- ---- two files
 
 spelled_once : (u v : List ℕ) (x y : Answer) → IsVerdict x → IsVerdict y → SpellPair (λ a b. IsOfPair a b x) u v → SpellPair (λ a b. IsOfPair a b y) u v → x ≡ y
 spelled_once u v x y i j p q =
@@ -75,6 +65,10 @@ text_once : (P : (text bytes : List ℕ) → Type 0) (bytes : List ℕ) (x y : A
     → IsText (λ t. P t bytes) x → IsText (λ t. P t bytes) y → x ≡ y
 text_once P bytes (Text t) (Text u) once p q = ap Text (once t u p q)
 text_once P bytes (Text t) Usage once p q = absurd q
+text_once P bytes (Text t) (Differs lines) once p q = absurd q
+text_once P bytes (Text t) (Unended lines) once p q = absurd q
+text_once P bytes (Text t) (NotJson file) once p q = absurd q
+text_once P bytes (Text t) (InputRefused file fault name) once p q = absurd q
 text_once P bytes (Text t) (Equivalent nodes) once p q = absurd q
 text_once P bytes (Text t) (Stuck output) once p q = absurd q
 text_once P bytes (Text t) Wide once p q = absurd q
@@ -86,6 +80,10 @@ text_once P bytes (Text t) (TooLong file) once p q = absurd q
 text_once P bytes (Text t) (NotBuilt file) once p q = absurd q
 text_once P bytes (Text t) (CannotRead file) once p q = absurd q
 text_once P bytes Usage y once p q = absurd p
+text_once P bytes (Differs lines) y once p q = absurd p
+text_once P bytes (Unended lines) y once p q = absurd p
+text_once P bytes (NotJson file) y once p q = absurd p
+text_once P bytes (InputRefused file fault name) y once p q = absurd p
 text_once P bytes (Equivalent nodes) y once p q = absurd p
 text_once P bytes (Stuck output) y once p q = absurd p
 text_once P bytes Wide y once p q = absurd p
@@ -100,6 +98,10 @@ text_once P bytes (CannotRead file) y once p q = absurd p
 text_machine : (P : (text bytes : List ℕ) → Type 0) (bytes : List ℕ) (x : Answer) → ((t : List ℕ) → P t bytes → IsMachine bytes) → IsText (λ t. P t bytes) x → IsMachine bytes
 text_machine P bytes (Text t) spells p = spells t p
 text_machine P bytes Usage spells p = absurd p
+text_machine P bytes (Differs lines) spells p = absurd p
+text_machine P bytes (Unended lines) spells p = absurd p
+text_machine P bytes (NotJson file) spells p = absurd p
+text_machine P bytes (InputRefused file fault name) spells p = absurd p
 text_machine P bytes (Equivalent nodes) spells p = absurd p
 text_machine P bytes (Stuck output) spells p = absurd p
 text_machine P bytes Wide spells p = absurd p
@@ -141,6 +143,8 @@ due_to_once (Some Fmt) g x y is s p q =
     one_once HasCanonicalText (record { once = canonical_once; spells = canonical_machine }) g x y (s.settled Fmt First is refl) p q
 due_to_once (Some Cuts) g x y is s p q =
     one_once HasPaths (record { once = paths_once; spells = λ bytes t h. (h.machine, h.spells) }) g x y (s.settled Cuts First is refl) p q
+due_to_once (Some Run) g x y is s p q = due_run_once g x y (s.settled Run First is refl) (s.settled Run Second is refl) p q
+due_to_once (Some Replay) g x y is s p q = due_replay_once g x y (s.settled Replay First is refl) (s.settled Replay Second is refl) (s.settled Replay Third is refl) p q
 
 pub due_once : (g : Given) (x y : Answer) → AreSettled g → IsDue g x → IsDue g y → x ≡ y
 due_once g x y s p q = due_to_once (command_of g.words) g x y refl s p q

@@ -5,7 +5,7 @@ use Rattle.fs_grammar.specs.declared.fault.TextFault.{TextFault}
 use Rattle.fs_ast.specs.declared.check.CheckFault.{CheckFault}
 use Rattle.fsmd_tool.specs.declared.answer.Operand.{Operand}
 use Rattle.fsmd_tool.specs.declared.answer.Answer.{Answer}
-use Rattle.fsmd_tool.specs.declared.answer.Answer.TheVariants.{Usage, Equivalent, Text, Stuck, Wide, Large, TextRefused, CheckRefused, Interfaces, TooLong, NotBuilt, CannotRead}
+use Rattle.fsmd_tool.specs.declared.answer.Answer.TheVariants.{Usage, Equivalent, Text, Differs, Unended, Stuck, Wide, Large, TextRefused, CheckRefused, NotJson, InputRefused, Interfaces, TooLong, NotBuilt, CannotRead}
 use Rattle.fsmd_tool.specs.Texts.{Told, IsMachine, IsTooLong, HasTextFault, HasCheckFault}
 use Rattle.fsmd_tool.specs.Answers.{Given, held, FailedToRead, IsOfFile}
 use Rattle.answer_laws.specs.Settled.{Settles, IsSettled}
@@ -37,11 +37,15 @@ refusal : (file : Operand) (bytes : List ℕ) (Failed : Type 0) (answer : Answer
 refusal file bytes Failed Usage n h = absurd h
 refusal file bytes Failed (Equivalent nodes) n h = absurd h
 refusal file bytes Failed (Text lines) n h = absurd h
+refusal file bytes Failed (Differs lines) n h = absurd h
+refusal file bytes Failed (Unended lines) n h = absurd h
 refusal file bytes Failed (Stuck output) n h = absurd h
 refusal file bytes Failed Wide n h = absurd h
 refusal file bytes Failed Large n h = absurd h
 refusal file bytes Failed (TextRefused which fault) n h = ByText fault h.1 (ap (λ w. TextRefused w fault) h.0)
 refusal file bytes Failed (CheckRefused which fault) n h = ByCheck fault h.1 (ap (λ w. CheckRefused w fault) h.0)
+refusal file bytes Failed (NotJson which) n h = absurd h
+refusal file bytes Failed (InputRefused which fault name) n h = absurd h
 refusal file bytes Failed (Interfaces name) n h = absurd h
 refusal file bytes Failed (TooLong which) n h = ByLength h.1 (ap TooLong h.0)
 refusal file bytes Failed (NotBuilt which) n h = absurd h
@@ -52,11 +56,15 @@ unread : (file : Operand) (Failed : Type 0) (answer : Answer) → IsOfFile file 
 unread file Failed Usage h = absurd h
 unread file Failed (Equivalent nodes) h = absurd h
 unread file Failed (Text lines) h = absurd h
+unread file Failed (Differs lines) h = absurd h
+unread file Failed (Unended lines) h = absurd h
 unread file Failed (Stuck output) h = absurd h
 unread file Failed Wide h = absurd h
 unread file Failed Large h = absurd h
 unread file Failed (TextRefused which fault) h = absurd h.1
 unread file Failed (CheckRefused which fault) h = absurd h.1
+unread file Failed (NotJson which) h = absurd h
+unread file Failed (InputRefused which fault name) h = absurd h
 unread file Failed (Interfaces name) h = absurd h
 unread file Failed (TooLong which) h = absurd h.1
 unread file Failed (NotBuilt which) h = absurd h

@@ -12,17 +12,17 @@ use Rattle.straight_line.specs.Straight.{is_straight}
 use Rattle.straight_line.specs.Vectors.{first_difference}
 use Rattle.straight_line.specs.Execution.{Execution}
 use Rattle.straight_line.specs.Verdicts.{StopsOn}
-use Rattle.fsmd_tool.specs.declared.answer.Operand.TheVariants.{First, Second}
+use Rattle.fsmd_tool.specs.declared.answer.Operand.TheVariants.{First, Second, Third}
 use Rattle.fsmd_tool.specs.declared.answer.Answer.{Answer}
-use Rattle.fsmd_tool.specs.declared.answer.Answer.TheVariants.{Usage, Equivalent, Text, Stuck, Wide, Large, TextRefused, CheckRefused, Interfaces, TooLong, NotBuilt, CannotRead}
+use Rattle.fsmd_tool.specs.declared.answer.Answer.TheVariants.{Usage, Equivalent, Text, Differs, Unended, Stuck, Wide, Large, TextRefused, CheckRefused, NotJson, InputRefused, Interfaces, TooLong, NotBuilt, CannotRead}
 use Rattle.fsmd_tool.specs.Answers.{AreComparable, IsOfPair, IsVerdict}
 use Rattle.answer_laws.specs.Outcomes.{HadMemory}
 use Rattle.answer_laws.proofs.Outcomes.{execution_once, err_ok, stop_same, end_same, had_end}
 
-some_same : {A : Type 0} (x y : A) → Path (Option A) (Some x) (Some y) → x ≡ y
+pub some_same : {A : Type 0} (x y : A) → Path (Option A) (Some x) (Some y) → x ≡ y
 some_same x y e = cc
 
-some_none : {A : Type 0} (x : A) (o : Option A) → o ≡ Some x → o ≡ None → ⊥
+pub some_none : {A : Type 0} (x : A) (o : Option A) → o ≡ Some x → o ≡ None → ⊥
 some_none x o e n = let f : Some x ≡ None = sym e ∙ n in cc
 
 not_both : (b : Bool) → b ≡ true → b ≡ false → ⊥
@@ -97,15 +97,20 @@ grade : (a b : Fsmd) (answer : Answer) → IsVerdict answer → IsOfPair a b ans
 grade a b Usage v h = absurd v
 grade a b (Equivalent nodes) v h = let d = h.2 in ByEnds h.0 (BothEnd d.left d.right d.left_ends d.right_ends (subst (λ i. IsByOutputs a i (Equivalent nodes)) (sym d.none) (ap Equivalent v)))
 grade a b (Text lines) v h = absurd v
+grade a b (Differs lines) v h = absurd v
+grade a b (Unended lines) v h = absurd v
 grade a b (Stuck output) v h = let d = h.1.differs in ByEnds h.0 (BothEnd d.left d.right d.left_ends d.right_ends (subst (λ i. IsByOutputs a i (Stuck output)) (sym d.first) (output, (h.1.named, refl))))
 grade a b Wide v h = ByEnds h.0 (stops_on h.1.side a b (stops.Wide h.1.left h.1.right) Wide (wide_had h.1.left h.1.right) refl h.1.stops)
 grade a b Large v h = ByEnds h.0 (stops_on h.1.side a b (stops.Large h.1.units h.1.depth) Large (large_had h.1.units h.1.depth) refl h.1.stops)
 grade a b (TextRefused file fault) v h = absurd v
 grade a b (CheckRefused file fault) v h = absurd v
+grade a b (NotJson file) v h = absurd v
+grade a b (InputRefused file fault name) v h = absurd v
 grade a b (Interfaces name) v h = FacesDiffer name h refl
 grade a b (TooLong file) v h = absurd v
 grade a b (NotBuilt First) v h = LeftForm h.0 h.1 refl
 grade a b (NotBuilt Second) v h = RightForm h.0 h.1 h.2 refl
+grade a b (NotBuilt Third) v h = absurd h
 grade a b (CannotRead file) v h = absurd v
 
 grade_once : (a b : Fsmd) (x y : Answer) → Grade a b x → Grade a b y → x ≡ y

@@ -73,7 +73,7 @@ lawful_unbroken p f l b =
 
 -- ---- one machine, one fault, and not both
 
-few_not_many : (n m : ℕ) → n ≤ m → m < n → ⊥
+pub few_not_many : (n m : ℕ) → n ≤ m → m < n → ⊥
 few_not_many n m h k = omega arith
 
 pub spells_once : (bytes : List ℕ) (m n : Fsmd) → Spells bytes m → Spells bytes n → m ≡ n

@@ -11,7 +11,8 @@ ghost use Rattle.fsmd_tool.specs.declared.answer.Operand.{Operand};
 ghost use Rattle.fsmd_tool.specs.declared.answer.Answer.{Answer};
 ghost use Rattle.fsmd_tool.specs.Paths.{HasPaths};
 ghost use Rattle.fsmd_tool.specs.Texts.{Told, Spells, HasCanonicalText, IsMachine, IsTooLong, HasTextFault, HasCheckFault};
-ghost use Rattle.fsmd_tool.specs.Answers.{Given, held, FailedToRead, IsOfFile, IsOfPair, IsVerdict, IsDue};
+ghost use Rattle.fsmd_tool.specs.Answers.{Given, held, FailedToRead, IsOfFile, IsOfPair, IsVerdict};
+ghost use Rattle.fsmd_tool.specs.Due.{IsDue};
 ghost use Rattle.answer_laws.specs.Outcomes.{HadMemory};
 ghost use Rattle.answer_laws.specs.Settled.{IsSettled, AreSettled};
 
