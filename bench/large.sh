@@ -41,3 +41,23 @@ for name in chain narrow_chain long_line many_names brackets; do
   /usr/bin/env bash -c "TIMEFORMAT='%R s'; time $program check $file $file 2>&1 | head -c 100 | tr '\n' ' '" 2>&1 | tr '\n' ' '
   echo
 done
+
+# A loop of 10,000 steps over 128 names, which `run` stops there; 100,000 steps take ten times as long.
+loop() { awk 'BEGIN {
+    print "fsmd 1; input n; output y; output array m;"; printf "local v0"
+    for (k = 1; k < 125; k++) printf ", v%d", k
+    print "; reset s0; state s0: goto s1;"
+    printf "state s1: when n >= 0 goto s1: v0 = v0 + 1, m[v0] = v0 * v0"
+    for (k = 1; k < 100; k++) printf ", v%d = v%d + v%d %% 7", k, k - 1, k
+    print "; goto s0;"
+  }'; }
+loop > "$folder/loop.fsmd"
+echo '{"n": 1}' > "$folder/loop.json"
+printf '%-14s %8d bytes: ' loop "$(wc -c < "$folder/loop.fsmd")"
+/usr/bin/env bash -c "TIMEFORMAT='%R s'; time $program run $folder/loop.fsmd $folder/loop.json 2>&1 | head -c 100 | tr '\n' ' '" 2>&1 | tr '\n' ' '
+echo
+for command in fmt cuts; do
+  printf '%-14s %8d bytes: ' "$command" "$(wc -c < "$folder/chain.fsmd")"
+  /usr/bin/env bash -c "TIMEFORMAT='%R s'; time $program $command $folder/chain.fsmd 2>&1 | head -c 20 | tr '\n' ' '" 2>&1 | tr '\n' ' '
+  echo
+done
