@@ -7,6 +7,8 @@
 #[cfg(test)]
 mod asked;
 #[cfg(test)]
+mod calls;
+#[cfg(test)]
 mod canonical_text;
 #[cfg(test)]
 mod faults;
