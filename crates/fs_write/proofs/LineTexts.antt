@@ -39,37 +39,37 @@ semicolon_steps : (n : ℕ) (o : Opening) (a : Action (List ℕ)) → step (valu
 semicolon_steps n o (Assign x e) = refl
 semicolon_steps n o (Write x i e) = refl
 
-assign_reads : {row : ℕ} {r : Result Source TextFault} (x : List ℕ) (e : Term (List ℕ)) (rest : List ℕ) (u : TokenKind) (o : Opening) → is_name x ≡ true → TermReads e → signs_of_term e ≤ 128 → Follows rest u → IsNoIndex (Some u) → IsNoProduct (Some u)
-    → Reads row 0 rest (valued o (Assign x e)) r → Reads row 128 (action_text (Assign x e) ++ rest) (at_action o) r
-assign_reads {row} {r} x e rest u o h t few f i p d =
-    let after : Reads row 128 (term_text e ++ rest) (at_sum (value o (scalar x))) r = t.sum.reads row 0 128 rest u (at_sum (value o (scalar x))) (value o (scalar x)) r (omega arith) f i p (λ n v q. refl) d in
+assign_reads : {line_number : ℕ} {r : Result Source TextFault} (x : List ℕ) (e : Term (List ℕ)) (rest : List ℕ) (u : TokenKind) (o : Opening) → is_name x ≡ true → TermReads e → signs_of_term e ≤ 128 → Follows rest u → IsNoIndex (Some u) → IsNoProduct (Some u)
+    → Reads line_number 0 rest (valued o (Assign x e)) r → Reads line_number 128 (action_text (Assign x e) ++ rest) (at_action o) r
+assign_reads {line_number} {r} x e rest u o h t few f i p d =
+    let after : Reads line_number 128 (term_text e ++ rest) (at_sum (value o (scalar x))) r = t.sum.reads line_number 0 128 rest u (at_sum (value o (scalar x))) (value o (scalar x)) r (omega arith) f i p (λ n v q. refl) d in
     let body = term_text e ++ rest in
-    let equals : Reads row 128 (codes " = " ++ body) (after_action_name o x) r =
+    let equals : Reads line_number 128 (codes " = " ++ body) (after_action_name o x) r =
     space_reads (61 ∷ 32 ∷ body) (mark_reads 61 (32 ∷ body) tokens.Equals (after_action_name o x) (at_sum (value o (scalar x))) refl refl refl refl refl refl (space_reads body after))
     in
     joined x (codes " = " ++ term_text e) rest (name_reads x (codes " = " ++ body) (at_action o) (after_action_name o x) h refl refl equals)
 
-write_reads : {row : ℕ} {r : Result Source TextFault} (x : List ℕ) (j e : Term (List ℕ)) (rest : List ℕ) (u : TokenKind) (o : Opening) → is_name x ≡ true → TermReads j → TermReads e → 1 + (signs_of_term j + signs_of_term e) ≤ 128 → Follows rest u → IsNoIndex (Some u) → IsNoProduct (Some u)
-    → Reads row 0 rest (valued o (Write x j e)) r → Reads row 128 (action_text (Write x j e) ++ rest) (at_action o) r
-write_reads {row} {r} x j e rest u o h s t few f i p d =
+write_reads : {line_number : ℕ} {r : Result Source TextFault} (x : List ℕ) (j e : Term (List ℕ)) (rest : List ℕ) (u : TokenKind) (o : Opening) → is_name x ≡ true → TermReads j → TermReads e → 1 + (signs_of_term j + signs_of_term e) ≤ 128 → Follows rest u → IsNoIndex (Some u) → IsNoProduct (Some u)
+    → Reads line_number 0 rest (valued o (Write x j e)) r → Reads line_number 128 (action_text (Write x j e) ++ rest) (at_action o) r
+write_reads {line_number} {r} x j e rest u o h s t few f i p d =
     let signs = signs_of_term e in
-    let after : Reads row signs (term_text e ++ rest) (at_sum (value o (element x j))) r = t.sum.reads row 0 signs rest u (at_sum (value o (element x j))) (value o (element x j)) r (omega arith) f i p (λ n v q. refl) d in
+    let after : Reads line_number signs (term_text e ++ rest) (at_sum (value o (element x j))) r = t.sum.reads line_number 0 signs rest u (at_sum (value o (element x j))) (value o (element x j)) r (omega arith) f i p (λ n v q. refl) d in
     let body = term_text e ++ rest in
-    let equals : Reads row signs (codes " = " ++ body) (at_equals o (element x j)) r =
+    let equals : Reads line_number signs (codes " = " ++ body) (at_equals o (element x j)) r =
     space_reads (61 ∷ 32 ∷ body) (mark_reads 61 (32 ∷ body) tokens.Equals (at_equals o (element x j)) (at_sum (value o (element x j))) refl refl refl refl refl refl (space_reads body after))
     in
-    let close : Reads row signs (codes "] = " ++ body) (after_sum j (place o x)) r = mark_reads 93 (codes " = " ++ body) tokens.CloseBracket (after_sum j (place o x)) (at_equals o (element x j)) refl refl refl refl refl refl equals in
-    let inside : Reads row (signs_of_term j + signs) (term_text j ++ (codes "] = " ++ body)) (at_sum (place o x)) r =
-    s.sum.reads row signs (signs_of_term j + signs) (codes "] = " ++ body) tokens.CloseBracket (at_sum (place o x)) (place o x) r (omega arith) (record { first = λ q n. refl; stops = refl }) tt tt (λ n v q. refl) close
+    let close : Reads line_number signs (codes "] = " ++ body) (after_sum j (place o x)) r = mark_reads 93 (codes " = " ++ body) tokens.CloseBracket (after_sum j (place o x)) (at_equals o (element x j)) refl refl refl refl refl refl equals in
+    let inside : Reads line_number (signs_of_term j + signs) (term_text j ++ (codes "] = " ++ body)) (at_sum (place o x)) r =
+    s.sum.reads line_number signs (signs_of_term j + signs) (codes "] = " ++ body) tokens.CloseBracket (at_sum (place o x)) (place o x) r (omega arith) (record { first = λ q n. refl; stops = refl }) tt tt (λ n v q. refl) close
     in
     let tail = (term_text j ++ (codes "] = " ++ term_text e)) ++ rest in
-    let opened : Reads row 128 (91 ∷ tail) (after_action_name o x) r =
+    let opened : Reads line_number 128 (91 ∷ tail) (after_action_name o x) r =
     sign_reads 91 tail tokens.OpenBracket (after_action_name o x) (at_sum (place o x)) (open_bracket_lexeme tail) refl refl refl refl refl (omega arith) (joined (term_text j) (codes "] = " ++ term_text e) rest inside)
     in
     joined x (codes "[" ++ (term_text j ++ (codes "] = " ++ term_text e))) rest (name_reads x (91 ∷ tail) (at_action o) (after_action_name o x) h refl refl opened)
 
-action_reads : {row : ℕ} {r : Result Source TextFault} (a : Action (List ℕ)) (rest : List ℕ) (u : TokenKind) (o : Opening) → is_well_formed_action a ≡ true → is_spellable_action a ≡ true → Follows rest u → IsNoIndex (Some u) → IsNoProduct (Some u)
-    → Reads row 0 rest (valued o a) r → Reads row 128 (action_text a ++ rest) (at_action o) r
+action_reads : {line_number : ℕ} {r : Result Source TextFault} (a : Action (List ℕ)) (rest : List ℕ) (u : TokenKind) (o : Opening) → is_well_formed_action a ≡ true → is_spellable_action a ≡ true → Follows rest u → IsNoIndex (Some u) → IsNoProduct (Some u)
+    → Reads line_number 0 rest (valued o a) r → Reads line_number 128 (action_text a ++ rest) (at_action o) r
 action_reads (Assign x e) rest u o h l f i p d =
     let n = both (is_natural_term e) (nat_le (signs_of_term e) most_signs) h in
     let w = both (is_name x) (is_spellable_term e) l in
@@ -104,34 +104,34 @@ more_stops texts rest = (more_ends texts rest).follows.stops
 with_two : (o : Opening) (xs ys : List (Action (List ℕ))) → with_actions (with_actions o xs) ys ≡ with_actions o (xs ++ ys)
 with_two o xs ys = ap (λ (l : List (Action (List ℕ))). record o { actions = l }) (append_assoc o.actions xs ys)
 
-more_actions : {row : ℕ} {r : Result Source TextFault} (o : Opening) (a : Action (List ℕ)) (xs : List (Action (List ℕ))) (rest : List ℕ) → list_all is_well_formed_action xs ≡ true → list_all is_spellable_action xs ≡ true
-    → Reads (row + 1) 0 rest (at_line (closed (with_actions o (a ∷ xs)))) r → Reads row 0 (more (map action_text xs) rest) (valued o a) r
-more_actions {row} o a [] rest h l d = mark_reads 59 (10 ∷ rest) tokens.Semicolon (valued o a) (at_line (closed (with_actions o (a ∷ [])))) refl refl refl refl refl (semicolon_steps row o a) (newline_reads rest d)
-more_actions {row} {r} o a (b ∷ xs) rest h l d =
+more_actions : {line_number : ℕ} {r : Result Source TextFault} (o : Opening) (a : Action (List ℕ)) (xs : List (Action (List ℕ))) (rest : List ℕ) → list_all is_well_formed_action xs ≡ true → list_all is_spellable_action xs ≡ true
+    → Reads (line_number + 1) 0 rest (at_line (closed (with_actions o (a ∷ xs)))) r → Reads line_number 0 (more (map action_text xs) rest) (valued o a) r
+more_actions {line_number} o a [] rest h l d = mark_reads 59 (10 ∷ rest) tokens.Semicolon (valued o a) (at_line (closed (with_actions o (a ∷ [])))) refl refl refl refl refl (semicolon_steps line_number o a) (newline_reads rest d)
+more_actions {line_number} {r} o a (b ∷ xs) rest h l d =
     let n = both (is_well_formed_action b) (list_all is_well_formed_action xs) h in
     let w = both (is_spellable_action b) (list_all is_spellable_action xs) l in
     let p : Opening = with_actions o (a ∷ []) in
     let texts = map action_text xs in
     let e = more_ends texts rest in
-    let last : Reads (row + 1) 0 rest (at_line (closed (with_actions p (b ∷ xs)))) r = subst (λ (q : Opening). Reads (row + 1) 0 rest (at_line (closed q)) r) (sym (with_two o (a ∷ []) (b ∷ xs))) d in
-    let tail : Reads row 0 (more texts rest) (valued p b) r = more_actions p b xs rest n.1 w.1 last in
-    let next : Reads row 128 (action_text b ++ more texts rest) (at_action p) r = action_reads b (more texts rest) e.token p n.0 w.0 e.follows e.index e.product tail in
+    let last : Reads (line_number + 1) 0 rest (at_line (closed (with_actions p (b ∷ xs)))) r = subst (λ (q : Opening). Reads (line_number + 1) 0 rest (at_line (closed q)) r) (sym (with_two o (a ∷ []) (b ∷ xs))) d in
+    let tail : Reads line_number 0 (more texts rest) (valued p b) r = more_actions p b xs rest n.1 w.1 last in
+    let next : Reads line_number 128 (action_text b ++ more texts rest) (at_action p) r = action_reads b (more texts rest) e.token p n.0 w.0 e.follows e.index e.product tail in
     joined (after_comma (action_text b)) (flat_map after_comma texts) (59 ∷ 10 ∷ rest)
-    (one_token 44 [] (32 ∷ (action_text b ++ more texts rest)) tokens.Comma (valued o a) (at_action p) refl refl refl (border_room tokens.Comma 0 refl refl) (comma_steps row o a) (space_reads (action_text b ++ more texts rest) next))
+    (one_token 44 [] (32 ∷ (action_text b ++ more texts rest)) tokens.Comma (valued o a) (at_action p) refl refl refl (border_room tokens.Comma 0 refl refl) (comma_steps line_number o a) (space_reads (action_text b ++ more texts rest) next))
 
-actions_read : {row : ℕ} {r : Result Source TextFault} (o : Opening) (xs : List (Action (List ℕ))) (rest : List ℕ) → o.actions ≡ [] → list_all is_well_formed_action xs ≡ true → list_all is_spellable_action xs ≡ true
-    → Reads (row + 1) 0 rest (at_line (closed (record o { actions = xs }))) r → Reads row 0 (actions_text xs ++ (59 ∷ 10 ∷ rest)) (after_target o) r
-actions_read {row} {r} o [] rest e h l d =
-    mark_reads 59 (10 ∷ rest) tokens.Semicolon (after_target o) (at_line (closed o)) refl refl refl refl refl refl (newline_reads rest (subst (λ (q : List (Action (List ℕ))). Reads (row + 1) 0 rest (at_line (closed (record o { actions = q }))) r) (sym e) d))
-actions_read {row} {r} o (a ∷ xs) rest e h l d =
+actions_read : {line_number : ℕ} {r : Result Source TextFault} (o : Opening) (xs : List (Action (List ℕ))) (rest : List ℕ) → o.actions ≡ [] → list_all is_well_formed_action xs ≡ true → list_all is_spellable_action xs ≡ true
+    → Reads (line_number + 1) 0 rest (at_line (closed (record o { actions = xs }))) r → Reads line_number 0 (actions_text xs ++ (59 ∷ 10 ∷ rest)) (after_target o) r
+actions_read {line_number} {r} o [] rest e h l d =
+    mark_reads 59 (10 ∷ rest) tokens.Semicolon (after_target o) (at_line (closed o)) refl refl refl refl refl refl (newline_reads rest (subst (λ (q : List (Action (List ℕ))). Reads (line_number + 1) 0 rest (at_line (closed (record o { actions = q }))) r) (sym e) d))
+actions_read {line_number} {r} o (a ∷ xs) rest e h l d =
     let n = both (is_well_formed_action a) (list_all is_well_formed_action xs) h in
     let w = both (is_spellable_action a) (list_all is_spellable_action xs) l in
     let texts = map action_text xs in
     let f = more_ends texts rest in
-    let last : Reads (row + 1) 0 rest (at_line (closed (with_actions o (a ∷ xs)))) r = subst (λ (q : List (Action (List ℕ))). Reads (row + 1) 0 rest (at_line (closed (record o { actions = q ++ (a ∷ xs) }))) r) (sym e) d in
-    let tail : Reads row 0 (more texts rest) (valued o a) r = more_actions o a xs rest n.1 w.1 last in
-    let next : Reads row 128 (action_text a ++ more texts rest) (at_action o) r = action_reads a (more texts rest) f.token o n.0 w.0 f.follows f.index f.product tail in
-    let first : Reads row 128 ((action_text a ++ flat_map after_comma texts) ++ (59 ∷ 10 ∷ rest)) (at_action o) r = joined (action_text a) (flat_map after_comma texts) (59 ∷ 10 ∷ rest) next in
+    let last : Reads (line_number + 1) 0 rest (at_line (closed (with_actions o (a ∷ xs)))) r = subst (λ (q : List (Action (List ℕ))). Reads (line_number + 1) 0 rest (at_line (closed (record o { actions = q ++ (a ∷ xs) }))) r) (sym e) d in
+    let tail : Reads line_number 0 (more texts rest) (valued o a) r = more_actions o a xs rest n.1 w.1 last in
+    let next : Reads line_number 128 (action_text a ++ more texts rest) (at_action o) r = action_reads a (more texts rest) f.token o n.0 w.0 f.follows f.index f.product tail in
+    let first : Reads line_number 128 ((action_text a ++ flat_map after_comma texts) ++ (59 ∷ 10 ∷ rest)) (at_action o) r = joined (action_text a) (flat_map after_comma texts) (59 ∷ 10 ∷ rest) next in
     one_token 58 [] (32 ∷ (listed (map action_text (a ∷ xs)) ++ (59 ∷ 10 ∷ rest))) tokens.Colon (after_target o) (at_action o) refl refl refl (border_room tokens.Colon 0 refl refl) refl (space_reads (listed (map action_text (a ∷ xs)) ++ (59 ∷ 10 ∷ rest)) first)
 
 -- ---- transitions
@@ -141,59 +141,59 @@ actions_stop [] rest = record { token = tokens.Semicolon; follows = record { fir
 actions_stop (a ∷ xs) rest = record { token = tokens.Colon; follows = record { first = λ p n. refl; stops = refl }; index = tt; product = tt }
 
 -- from the word goto on
-goto_reads : {row : ℕ} {r : Result Source TextFault} (l : SourceLine) (d : Draft) (s : Owed) (rest : List ℕ) → is_name l.content.target ≡ true → list_all is_well_formed_action l.content.actions ≡ true → list_all is_spellable_action l.content.actions ≡ true
-    → step s row tokens.Goto ≡ Some (at_target d row l.content.guard) → Reads (row + 1) 0 rest (at_line (with_lines d (record { line = row; content = l.content } ∷ []))) r
-    → Reads row 0 (codes "goto " ++ (l.content.target ++ (actions_text l.content.actions ++ (59 ∷ 10 ∷ rest)))) s r
-goto_reads {row} {r} l d s rest x h w f c =
-    let o : Opening = record { draft = d; begins = row; guard = l.content.guard; target = l.content.target; actions = [] } in
+goto_reads : {line_number : ℕ} {r : Result Source TextFault} (l : SourceLine) (d : Draft) (s : Owed) (rest : List ℕ) → is_name l.content.target ≡ true → list_all is_well_formed_action l.content.actions ≡ true → list_all is_spellable_action l.content.actions ≡ true
+    → step s line_number tokens.Goto ≡ Some (at_target d line_number l.content.guard) → Reads (line_number + 1) 0 rest (at_line (with_lines d (record { line = line_number; content = l.content } ∷ []))) r
+    → Reads line_number 0 (codes "goto " ++ (l.content.target ++ (actions_text l.content.actions ++ (59 ∷ 10 ∷ rest)))) s r
+goto_reads {line_number} {r} l d s rest x h w f c =
+    let o : Opening = record { draft = d; begins = line_number; guard = l.content.guard; target = l.content.target; actions = [] } in
     let end = actions_text l.content.actions ++ (59 ∷ 10 ∷ rest) in
     let e = actions_stop l.content.actions rest in
-    let acts : Reads row 0 end (after_target o) r = actions_read o l.content.actions rest refl h w c in
-    let target : Reads row 0 (l.content.target ++ end) (at_target d row l.content.guard) r = name_reads l.content.target end (at_target d row l.content.guard) (after_target o) x e.follows.stops refl acts in
-    one_token 103 (codes "oto") (32 ∷ (l.content.target ++ end)) tokens.Goto s (at_target d row l.content.guard) refl refl refl (plain_room tokens.Goto 0 refl refl) f (space_reads (l.content.target ++ end) target)
+    let acts : Reads line_number 0 end (after_target o) r = actions_read o l.content.actions rest refl h w c in
+    let target : Reads line_number 0 (l.content.target ++ end) (at_target d line_number l.content.guard) r = name_reads l.content.target end (at_target d line_number l.content.guard) (after_target o) x e.follows.stops refl acts in
+    one_token 103 (codes "oto") (32 ∷ (l.content.target ++ end)) tokens.Goto s (at_target d line_number l.content.guard) refl refl refl (plain_room tokens.Goto 0 refl refl) f (space_reads (l.content.target ++ end) target)
 
-condition_reads : {row : ℕ} {r : Result Source TextFault} (g : Option (Formula (List ℕ))) (d : Draft) (rest : List ℕ) → is_well_formed_guard g ≡ true → is_spellable_guard g ≡ true
-    → ((s : Owed) → step s row tokens.Goto ≡ Some (at_target d row g) → Reads row 0 (codes "goto " ++ rest) s r) → Reads row 0 (guard_text g ++ (codes "goto " ++ rest)) (at_line d) r
+condition_reads : {line_number : ℕ} {r : Result Source TextFault} (g : Option (Formula (List ℕ))) (d : Draft) (rest : List ℕ) → is_well_formed_guard g ≡ true → is_spellable_guard g ≡ true
+    → ((s : Owed) → step s line_number tokens.Goto ≡ Some (at_target d line_number g) → Reads line_number 0 (codes "goto " ++ rest) s r) → Reads line_number 0 (guard_text g ++ (codes "goto " ++ rest)) (at_line d) r
 condition_reads None d rest h l f = f (at_line d) refl
-condition_reads {row} {r} (Some g) d rest h l f =
+condition_reads {line_number} {r} (Some g) d rest h l f =
     let n = both (is_natural_formula g) (nat_le (signs_of_formula g) most_signs) h in
     let few = at_most (signs_of_formula g) 128 n.1 in
     let end = codes " goto " ++ rest in
-    let goes : Reads row 0 end (after_guard g (grammar.line d row)) r = space_reads (codes "goto " ++ rest) (f (after_guard g (grammar.line d row)) refl) in
-    let guard : Reads row 128 (formula_text g ++ end) (at_guard (grammar.line d row)) r =
-    (formula_reads g n.0 l).guard.reads row 0 128 end tokens.Goto (grammar.line d row) r (omega arith) (record { first = λ p m. refl; stops = refl }) (record { index = tt; product = tt; sum = tt }) tt goes
+    let goes : Reads line_number 0 end (after_guard g (grammar.line d line_number)) r = space_reads (codes "goto " ++ rest) (f (after_guard g (grammar.line d line_number)) refl) in
+    let guard : Reads line_number 128 (formula_text g ++ end) (at_guard (grammar.line d line_number)) r =
+    (formula_reads g n.0 l).guard.reads line_number 0 128 end tokens.Goto (grammar.line d line_number) r (omega arith) (record { first = λ p m. refl; stops = refl }) (record { index = tt; product = tt; sum = tt }) tt goes
     in
-    one_token 119 (codes "hen") (32 ∷ ((formula_text g ++ codes " ") ++ (codes "goto " ++ rest))) tokens.When (at_line d) (at_guard (grammar.line d row)) refl refl refl (border_room tokens.When 0 refl refl) refl
+    one_token 119 (codes "hen") (32 ∷ ((formula_text g ++ codes " ") ++ (codes "goto " ++ rest))) tokens.When (at_line d) (at_guard (grammar.line d line_number)) refl refl refl (border_room tokens.When 0 refl refl) refl
     (space_reads ((formula_text g ++ codes " ") ++ (codes "goto " ++ rest)) (joined (formula_text g) (codes " ") (codes "goto " ++ rest) guard))
 
 -- a transition is read, and the next line begins
-pub line_reads : {row : ℕ} {r : Result Source TextFault} (l : SourceLine) (d : Draft) (rest : List ℕ) → is_well_formed_line l ≡ true → is_spellable_line l ≡ true
-    → Reads (row + 1) 0 rest (at_line (with_lines d (record { line = row; content = l.content } ∷ []))) r → Reads row 0 (line_text l ++ rest) (at_line d) r
-line_reads {row} {r} l d rest h s c =
+pub line_reads : {line_number : ℕ} {r : Result Source TextFault} (l : SourceLine) (d : Draft) (rest : List ℕ) → is_well_formed_line l ≡ true → is_spellable_line l ≡ true
+    → Reads (line_number + 1) 0 rest (at_line (with_lines d (record { line = line_number; content = l.content } ∷ []))) r → Reads line_number 0 (line_text l ++ rest) (at_line d) r
+line_reads {line_number} {r} l d rest h s c =
     let n = both (is_well_formed_guard l.content.guard) (list_all is_well_formed_action l.content.actions) h in
     let w = both (is_spellable_guard l.content.guard) (is_name l.content.target && list_all is_spellable_action l.content.actions) s in
     let v = both (is_name l.content.target) (list_all is_spellable_action l.content.actions) w.1 in
     let guard = guard_text l.content.guard in
     let tail = l.content.target ++ (actions_text l.content.actions ++ (59 ∷ 10 ∷ rest)) in
     let same : (guard ++ (codes "goto " ++ (l.content.target ++ (actions_text l.content.actions ++ codes ";\n")))) ++ rest ≡ guard ++ (codes "goto " ++ tail) = simp append_assoc in
-    let read : Reads row 0 (guard ++ (codes "goto " ++ tail)) (at_line d) r = condition_reads l.content.guard d tail n.0 w.0 (λ q e. goto_reads l d q rest v.0 n.1 v.1 e c) in
+    let read : Reads line_number 0 (guard ++ (codes "goto " ++ tail)) (at_line d) r = condition_reads l.content.guard d tail n.0 w.0 (λ q e. goto_reads l d q rest v.0 n.1 v.1 e c) in
     let body = (guard ++ (codes "goto " ++ (l.content.target ++ (actions_text l.content.actions ++ codes ";\n")))) ++ rest in
-    space_reads (32 ∷ body) (space_reads body (subst (λ (bytes : List ℕ). Reads row 0 bytes (at_line d) r) (sym same) read))
+    space_reads (32 ∷ body) (space_reads body (subst (λ (bytes : List ℕ). Reads line_number 0 bytes (at_line d) r) (sym same) read))
 
 with_lines_two : (d : Draft) (xs ys : List SourceLine) → with_lines (with_lines d xs) ys ≡ with_lines d (xs ++ ys)
 with_lines_two d xs ys = ap (λ (l : List SourceLine). record d { state = record d.state { lines = l } }) (append_assoc d.state.lines xs ys)
 
 -- the transitions of a state, each on its line
-pub lines_read : {r : Result Source TextFault} (row : ℕ) (ls : List SourceLine) (d : Draft) (rest : List ℕ) → list_all is_well_formed_line ls ≡ true → list_all is_spellable_line ls ≡ true
-    → Reads (row + length ls) 0 rest (at_line (with_lines d (lines_from row ls))) r → Reads row 0 (flat_map line_text ls ++ rest) (at_line d) r
-lines_read {r} row [] d rest h s c =
+pub lines_read : {r : Result Source TextFault} (line_number : ℕ) (ls : List SourceLine) (d : Draft) (rest : List ℕ) → list_all is_well_formed_line ls ≡ true → list_all is_spellable_line ls ≡ true
+    → Reads (line_number + length ls) 0 rest (at_line (with_lines d (lines_from line_number ls))) r → Reads line_number 0 (flat_map line_text ls ++ rest) (at_line d) r
+lines_read {r} line_number [] d rest h s c =
     let same : with_lines d [] ≡ d = ap (λ (l : List SourceLine). record d { state = record d.state { lines = l } }) (append-nil d.state.lines) in
-    subst (λ (q : Draft). Reads row 0 rest (at_line q) r) same (rw add-zero at c)
-lines_read {r} row (l ∷ ls) d rest h s c =
+    subst (λ (q : Draft). Reads line_number 0 rest (at_line q) r) same (rw add-zero at c)
+lines_read {r} line_number (l ∷ ls) d rest h s c =
     let n = both (is_well_formed_line l) (list_all is_well_formed_line ls) h in
     let w = both (is_spellable_line l) (list_all is_spellable_line ls) s in
-    let first : List SourceLine = record { line = row; content = l.content } ∷ [] in
-    let there : row + suc (length ls) ≡ row + 1 + length ls = omega arith in
-    let moved : Reads (row + 1 + length ls) 0 rest (at_line (with_lines d (lines_from row (l ∷ ls)))) r = subst (λ (k : ℕ). Reads k 0 rest (at_line (with_lines d (lines_from row (l ∷ ls)))) r) there c in
-    let last : Reads (row + 1 + length ls) 0 rest (at_line (with_lines (with_lines d first) (lines_from (row + 1) ls))) r = subst (λ (q : Draft). Reads (row + 1 + length ls) 0 rest (at_line q) r) (sym (with_lines_two d first (lines_from (row + 1) ls))) moved in
-    joined (line_text l) (flat_map line_text ls) rest (line_reads l d (flat_map line_text ls ++ rest) n.0 w.0 (lines_read (row + 1) ls (with_lines d first) rest n.1 w.1 last))
+    let first : List SourceLine = record { line = line_number; content = l.content } ∷ [] in
+    let there : line_number + suc (length ls) ≡ line_number + 1 + length ls = omega arith in
+    let moved : Reads (line_number + 1 + length ls) 0 rest (at_line (with_lines d (lines_from line_number (l ∷ ls)))) r = subst (λ (k : ℕ). Reads k 0 rest (at_line (with_lines d (lines_from line_number (l ∷ ls)))) r) there c in
+    let last : Reads (line_number + 1 + length ls) 0 rest (at_line (with_lines (with_lines d first) (lines_from (line_number + 1) ls))) r = subst (λ (q : Draft). Reads (line_number + 1 + length ls) 0 rest (at_line q) r) (sym (with_lines_two d first (lines_from (line_number + 1) ls))) moved in
+    joined (line_text l) (flat_map line_text ls) rest (line_reads l d (flat_map line_text ls ++ rest) n.0 w.0 (lines_read (line_number + 1) ls (with_lines d first) rest n.1 w.1 last))

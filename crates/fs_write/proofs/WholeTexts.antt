@@ -26,98 +26,98 @@ with_states_two : (s : Source) (xs ys : List SourceState) → with_states (with_
 with_states_two s xs ys = ap (λ (l : List SourceState). record s { states = l }) (append_assoc s.states xs ys)
 
 -- the text ends where it may
-end_reads : {row : ℕ} (s : Owed) (p : Source) → step s row tokens.End ≡ None → finish s ≡ Some p → Reads row 0 [] s (Ok p)
+end_reads : {line_number : ℕ} (s : Owed) (p : Source) → step s line_number tokens.End ≡ None → finish s ≡ Some p → Reads line_number 0 [] s (Ok p)
 end_reads s p e f = record { so = λ column n g. rw (e, f) refl }
 
 -- the states, each on lines of its own, up to the end of the text
-states_read : (row : ℕ) (ss : List SourceState) (s : Owed) (p : Source) → ((n : ℕ) → step s n tokens.State ≡ Some (at_state_name p n)) → ((n : ℕ) → step s n tokens.End ≡ None) → finish s ≡ Some p
-    → list_all is_well_formed_state ss ≡ true → list_all is_spellable_state ss ≡ true → Reads row 0 (flat_map state_text ss) s (Ok (with_states p (states_from row ss)))
-states_read row [] s p f g e h w =
+states_read : (line_number : ℕ) (ss : List SourceState) (s : Owed) (p : Source) → ((n : ℕ) → step s n tokens.State ≡ Some (at_state_name p n)) → ((n : ℕ) → step s n tokens.End ≡ None) → finish s ≡ Some p
+    → list_all is_well_formed_state ss ≡ true → list_all is_spellable_state ss ≡ true → Reads line_number 0 (flat_map state_text ss) s (Ok (with_states p (states_from line_number ss)))
+states_read line_number [] s p f g e h w =
     let same : p ≡ with_states p [] = ap (λ (l : List SourceState). record p { states = l }) (sym (append-nil p.states)) in
-    subst (λ (q : Source). Reads row 0 [] s (Ok q)) same (end_reads s p (g row) e)
-states_read row (t ∷ ss) s p f g e h w =
+    subst (λ (q : Source). Reads line_number 0 [] s (Ok q)) same (end_reads s p (g line_number) e)
+states_read line_number (t ∷ ss) s p f g e h w =
     let n = both (list_all is_well_formed_line t.lines) (list_all is_well_formed_state ss) h in
     let v = both (is_spellable_state t) (list_all is_spellable_state ss) w in
     let u = both (is_name t.name) (list_all is_spellable_line t.lines) v.0 in
     let rest = flat_map state_text ss in
-    let d : Draft = record { source = p; state = record { line = row; name = t.name; lines = [] } } in
-    let c : Draft = with_lines d (lines_from (row + 1) t.lines) in
+    let d : Draft = record { source = p; state = record { line = line_number; name = t.name; lines = [] } } in
+    let c : Draft = with_lines d (lines_from (line_number + 1) t.lines) in
     let one : List SourceState = c.state ∷ [] in
-    let after : Reads (row + 1 + length t.lines) 0 rest (at_line c) (Ok (with_states (drafted c) (states_from (row + 1 + length t.lines) ss))) =
-    states_read (row + 1 + length t.lines) ss (at_line c) (drafted c) (λ m. refl) (λ m. refl) refl n.1 v.1
+    let after : Reads (line_number + 1 + length t.lines) 0 rest (at_line c) (Ok (with_states (drafted c) (states_from (line_number + 1 + length t.lines) ss))) =
+    states_read (line_number + 1 + length t.lines) ss (at_line c) (drafted c) (λ m. refl) (λ m. refl) refl n.1 v.1
     in
-    let whole : Reads (row + 1 + length t.lines) 0 rest (at_line c) (Ok (with_states p (states_from row (t ∷ ss)))) =
-    subst (λ (q : Source). Reads (row + 1 + length t.lines) 0 rest (at_line c) (Ok q)) (with_states_two p one (states_from (row + 1 + length t.lines) ss)) after
+    let whole : Reads (line_number + 1 + length t.lines) 0 rest (at_line c) (Ok (with_states p (states_from line_number (t ∷ ss)))) =
+    subst (λ (q : Source). Reads (line_number + 1 + length t.lines) 0 rest (at_line c) (Ok q)) (with_states_two p one (states_from (line_number + 1 + length t.lines) ss)) after
     in
-    let lines : Reads (row + 1) 0 (flat_map line_text t.lines ++ rest) (at_line d) (Ok (with_states p (states_from row (t ∷ ss)))) = lines_read (row + 1) t.lines d rest n.0 u.1 whole in
+    let lines : Reads (line_number + 1) 0 (flat_map line_text t.lines ++ rest) (at_line d) (Ok (with_states p (states_from line_number (t ∷ ss)))) = lines_read (line_number + 1) t.lines d rest n.0 u.1 whole in
     let body = flat_map line_text t.lines ++ rest in
-    let colon : Reads row 0 (58 ∷ 10 ∷ body) (after_state_name d) (Ok (with_states p (states_from row (t ∷ ss)))) =
+    let colon : Reads line_number 0 (58 ∷ 10 ∷ body) (after_state_name d) (Ok (with_states p (states_from line_number (t ∷ ss)))) =
     one_token 58 [] (10 ∷ body) tokens.Colon (after_state_name d) (at_line d) refl refl refl (border_room tokens.Colon 0 refl refl) refl (newline_reads body (weaker body 0 128 (omega arith) lines))
     in
-    let name : Reads row 0 (t.name ++ (58 ∷ 10 ∷ body)) (at_state_name p row) (Ok (with_states p (states_from row (t ∷ ss)))) = name_reads t.name (58 ∷ 10 ∷ body) (at_state_name p row) (after_state_name d) u.0 refl refl colon in
+    let name : Reads line_number 0 (t.name ++ (58 ∷ 10 ∷ body)) (at_state_name p line_number) (Ok (with_states p (states_from line_number (t ∷ ss)))) = name_reads t.name (58 ∷ 10 ∷ body) (at_state_name p line_number) (after_state_name d) u.0 refl refl colon in
     let same : state_text t ++ rest ≡ codes "state " ++ (t.name ++ (58 ∷ 10 ∷ body)) = simp append_assoc in
-    subst (λ (bytes : List ℕ). Reads row 0 bytes s (Ok (with_states p (states_from row (t ∷ ss))))) (sym same)
-    (one_token 115 (codes "tate") (32 ∷ (t.name ++ (58 ∷ 10 ∷ body))) tokens.State s (at_state_name p row) refl refl refl (plain_room tokens.State 0 refl refl) (f row) (space_reads (t.name ++ (58 ∷ 10 ∷ body)) name))
+    subst (λ (bytes : List ℕ). Reads line_number 0 bytes s (Ok (with_states p (states_from line_number (t ∷ ss))))) (sym same)
+    (one_token 115 (codes "tate") (32 ∷ (t.name ++ (58 ∷ 10 ∷ body))) tokens.State s (at_state_name p line_number) refl refl refl (plain_room tokens.State 0 refl refl) (f line_number) (space_reads (t.name ++ (58 ∷ 10 ∷ body)) name))
 
 -- ---- declarations
 
 with_names_two : (d : Declaration) (xs ys : List (List ℕ)) → with_names (with_names d xs) ys ≡ with_names d (xs ++ ys)
 with_names_two d xs ys = ap (λ (l : List (List ℕ)). record d { names = l }) (append_assoc d.names xs ys)
 
-more_names : {row : ℕ} {r : Result Source TextFault} (ds : List Declaration) (d : Declaration) (xs : List (List ℕ)) (rest : List ℕ) → list_all is_name xs ≡ true → Reads (row + 1) 0 rest (at_declaration (ds ++ with_names d xs ∷ [])) r
-    → Reads row 0 (more xs rest) (after_declared ds d) r
-more_names {row} {r} ds d [] rest h c =
+more_names : {line_number : ℕ} {r : Result Source TextFault} (ds : List Declaration) (d : Declaration) (xs : List (List ℕ)) (rest : List ℕ) → list_all is_name xs ≡ true → Reads (line_number + 1) 0 rest (at_declaration (ds ++ with_names d xs ∷ [])) r
+    → Reads line_number 0 (more xs rest) (after_declared ds d) r
+more_names {line_number} {r} ds d [] rest h c =
     let same : with_names d [] ≡ d = ap (λ (l : List (List ℕ)). record d { names = l }) (append-nil d.names) in
-    mark_reads 59 (10 ∷ rest) tokens.Semicolon (after_declared ds d) (at_declaration (ds ++ d ∷ [])) refl refl refl refl refl refl (newline_reads rest (subst (λ (q : Declaration). Reads (row + 1) 0 rest (at_declaration (ds ++ q ∷ [])) r) same c))
-more_names {row} {r} ds d (x ∷ xs) rest h c =
+    mark_reads 59 (10 ∷ rest) tokens.Semicolon (after_declared ds d) (at_declaration (ds ++ d ∷ [])) refl refl refl refl refl refl (newline_reads rest (subst (λ (q : Declaration). Reads (line_number + 1) 0 rest (at_declaration (ds ++ q ∷ [])) r) same c))
+more_names {line_number} {r} ds d (x ∷ xs) rest h c =
     let n = both (is_name x) (list_all is_name xs) h in
     let e : Declaration = with_names d (x ∷ []) in
-    let last : Reads (row + 1) 0 rest (at_declaration (ds ++ with_names e xs ∷ [])) r = subst (λ (q : Declaration). Reads (row + 1) 0 rest (at_declaration (ds ++ q ∷ [])) r) (sym (with_names_two d (x ∷ []) xs)) c in
-    let tail : Reads row 0 (more xs rest) (after_declared ds e) r = more_names ds e xs rest n.1 last in
-    let name : Reads row 0 (x ++ more xs rest) (at_declared ds d) r = name_reads x (more xs rest) (at_declared ds d) (after_declared ds e) n.0 (more_stops xs rest) refl tail in
+    let last : Reads (line_number + 1) 0 rest (at_declaration (ds ++ with_names e xs ∷ [])) r = subst (λ (q : Declaration). Reads (line_number + 1) 0 rest (at_declaration (ds ++ q ∷ [])) r) (sym (with_names_two d (x ∷ []) xs)) c in
+    let tail : Reads line_number 0 (more xs rest) (after_declared ds e) r = more_names ds e xs rest n.1 last in
+    let name : Reads line_number 0 (x ++ more xs rest) (at_declared ds d) r = name_reads x (more xs rest) (at_declared ds d) (after_declared ds e) n.0 (more_stops xs rest) refl tail in
     joined (after_comma x) (flat_map after_comma xs) (59 ∷ 10 ∷ rest)
     (one_token 44 [] (32 ∷ (x ++ more xs rest)) tokens.Comma (after_declared ds d) (at_declared ds d) refl refl refl (border_room tokens.Comma 0 refl refl) refl (space_reads (x ++ more xs rest) (weaker (x ++ more xs rest) 0 128 (omega arith) name)))
 
-names_read : {row : ℕ} {r : Result Source TextFault} (ds : List Declaration) (role : Role) (sort : Sort) (xs : List (List ℕ)) (rest : List ℕ) → not (length xs == 0) ≡ true → list_all is_name xs ≡ true
-    → Reads (row + 1) 0 rest (at_declaration (ds ++ record { line = row; role = role; sort = sort; names = xs } ∷ [])) r → Reads row 0 (sort_text sort ++ (listed xs ++ (59 ∷ 10 ∷ rest))) (at_sort ds row role) r
+names_read : {line_number : ℕ} {r : Result Source TextFault} (ds : List Declaration) (role : Role) (sort : Sort) (xs : List (List ℕ)) (rest : List ℕ) → not (length xs == 0) ≡ true → list_all is_name xs ≡ true
+    → Reads (line_number + 1) 0 rest (at_declaration (ds ++ record { line = line_number; role = role; sort = sort; names = xs } ∷ [])) r → Reads line_number 0 (sort_text sort ++ (listed xs ++ (59 ∷ 10 ∷ rest))) (at_sort ds line_number role) r
 names_read ds role sort [] rest e h c = absurd cc
-names_read {row} {r} ds role sorts.Scalar (x ∷ xs) rest e h c =
+names_read {line_number} {r} ds role sorts.Scalar (x ∷ xs) rest e h c =
     let n = both (is_name x) (list_all is_name xs) h in
-    let d : Declaration = record { line = row; role = role; sort = sorts.Scalar; names = x ∷ [] } in
-    let tail : Reads row 0 (more xs rest) (after_declared ds d) r = more_names ds d xs rest n.1 c in
-    joined x (flat_map after_comma xs) (59 ∷ 10 ∷ rest) (name_reads x (more xs rest) (at_sort ds row role) (after_declared ds d) n.0 (more_stops xs rest) refl tail)
-names_read {row} {r} ds role sorts.Array (x ∷ xs) rest e h c =
+    let d : Declaration = record { line = line_number; role = role; sort = sorts.Scalar; names = x ∷ [] } in
+    let tail : Reads line_number 0 (more xs rest) (after_declared ds d) r = more_names ds d xs rest n.1 c in
+    joined x (flat_map after_comma xs) (59 ∷ 10 ∷ rest) (name_reads x (more xs rest) (at_sort ds line_number role) (after_declared ds d) n.0 (more_stops xs rest) refl tail)
+names_read {line_number} {r} ds role sorts.Array (x ∷ xs) rest e h c =
     let n = both (is_name x) (list_all is_name xs) h in
-    let b : Declaration = record { line = row; role = role; sort = sorts.Array; names = [] } in
-    let d : Declaration = record { line = row; role = role; sort = sorts.Array; names = x ∷ [] } in
-    let tail : Reads row 0 (more xs rest) (after_declared ds d) r = more_names ds d xs rest n.1 c in
+    let b : Declaration = record { line = line_number; role = role; sort = sorts.Array; names = [] } in
+    let d : Declaration = record { line = line_number; role = role; sort = sorts.Array; names = x ∷ [] } in
+    let tail : Reads line_number 0 (more xs rest) (after_declared ds d) r = more_names ds d xs rest n.1 c in
     let body = listed (x ∷ xs) ++ (59 ∷ 10 ∷ rest) in
-    let names : Reads row 0 body (at_declared ds b) r = joined x (flat_map after_comma xs) (59 ∷ 10 ∷ rest) (name_reads x (more xs rest) (at_declared ds b) (after_declared ds d) n.0 (more_stops xs rest) refl tail) in
-    one_token 97 (codes "rray") (32 ∷ body) tokens.Array (at_sort ds row role) (at_declared ds b) refl refl refl (plain_room tokens.Array 0 refl refl) refl (space_reads body names)
+    let names : Reads line_number 0 body (at_declared ds b) r = joined x (flat_map after_comma xs) (59 ∷ 10 ∷ rest) (name_reads x (more xs rest) (at_declared ds b) (after_declared ds d) n.0 (more_stops xs rest) refl tail) in
+    one_token 97 (codes "rray") (32 ∷ body) tokens.Array (at_sort ds line_number role) (at_declared ds b) refl refl refl (plain_room tokens.Array 0 refl refl) refl (space_reads body names)
 
-role_reads : {row : ℕ} {r : Result Source TextFault} (role : Role) (ds : List Declaration) (rest : List ℕ) → Reads row 0 rest (at_sort ds row role) r → Reads row 0 (role_text role ++ rest) (at_declaration ds) r
-role_reads {row} Input ds rest c = one_token 105 (codes "nput") (32 ∷ rest) (tokens.Declare Input) (at_declaration ds) (at_sort ds row Input) refl refl refl (plain_room (tokens.Declare Input) 0 refl refl) refl (space_reads rest c)
-role_reads {row} Output ds rest c = one_token 111 (codes "utput") (32 ∷ rest) (tokens.Declare Output) (at_declaration ds) (at_sort ds row Output) refl refl refl (plain_room (tokens.Declare Output) 0 refl refl) refl (space_reads rest c)
-role_reads {row} Local ds rest c = one_token 108 (codes "ocal") (32 ∷ rest) (tokens.Declare Local) (at_declaration ds) (at_sort ds row Local) refl refl refl (plain_room (tokens.Declare Local) 0 refl refl) refl (space_reads rest c)
+role_reads : {line_number : ℕ} {r : Result Source TextFault} (role : Role) (ds : List Declaration) (rest : List ℕ) → Reads line_number 0 rest (at_sort ds line_number role) r → Reads line_number 0 (role_text role ++ rest) (at_declaration ds) r
+role_reads {line_number} Input ds rest c = one_token 105 (codes "nput") (32 ∷ rest) (tokens.Declare Input) (at_declaration ds) (at_sort ds line_number Input) refl refl refl (plain_room (tokens.Declare Input) 0 refl refl) refl (space_reads rest c)
+role_reads {line_number} Output ds rest c = one_token 111 (codes "utput") (32 ∷ rest) (tokens.Declare Output) (at_declaration ds) (at_sort ds line_number Output) refl refl refl (plain_room (tokens.Declare Output) 0 refl refl) refl (space_reads rest c)
+role_reads {line_number} Local ds rest c = one_token 108 (codes "ocal") (32 ∷ rest) (tokens.Declare Local) (at_declaration ds) (at_sort ds line_number Local) refl refl refl (plain_room (tokens.Declare Local) 0 refl refl) refl (space_reads rest c)
 
 -- the declarations, each on its line
-declarations_read : {r : Result Source TextFault} (row : ℕ) (xs ds : List Declaration) (rest : List ℕ) → list_all has_names xs ≡ true → list_all is_spellable_declaration xs ≡ true
-    → Reads (row + length xs) 0 rest (at_declaration (ds ++ declarations_from row xs)) r → Reads row 0 (flat_map declaration_text xs ++ rest) (at_declaration ds) r
-declarations_read row [] ds rest h w c = rw (append-nil ds, add-zero) at c
-declarations_read {r} row (d ∷ xs) ds rest h w c =
+declarations_read : {r : Result Source TextFault} (line_number : ℕ) (xs ds : List Declaration) (rest : List ℕ) → list_all has_names xs ≡ true → list_all is_spellable_declaration xs ≡ true
+    → Reads (line_number + length xs) 0 rest (at_declaration (ds ++ declarations_from line_number xs)) r → Reads line_number 0 (flat_map declaration_text xs ++ rest) (at_declaration ds) r
+declarations_read line_number [] ds rest h w c = rw (append-nil ds, add-zero) at c
+declarations_read {r} line_number (d ∷ xs) ds rest h w c =
     let n = both (has_names d) (list_all has_names xs) h in
     let v = both (is_spellable_declaration d) (list_all is_spellable_declaration xs) w in
-    let one : List Declaration = record { line = row; role = d.role; sort = d.sort; names = d.names } ∷ [] in
-    let there : row + suc (length xs) ≡ row + 1 + length xs = omega arith in
-    let moved : Reads (row + 1 + length xs) 0 rest (at_declaration (ds ++ declarations_from row (d ∷ xs))) r = subst (λ (k : ℕ). Reads k 0 rest (at_declaration (ds ++ declarations_from row (d ∷ xs))) r) there c in
-    let last : Reads (row + 1 + length xs) 0 rest (at_declaration ((ds ++ one) ++ declarations_from (row + 1) xs)) r =
-    subst (λ (l : List Declaration). Reads (row + 1 + length xs) 0 rest (at_declaration l) r) (sym (append_assoc ds one (declarations_from (row + 1) xs))) moved
+    let one : List Declaration = record { line = line_number; role = d.role; sort = d.sort; names = d.names } ∷ [] in
+    let there : line_number + suc (length xs) ≡ line_number + 1 + length xs = omega arith in
+    let moved : Reads (line_number + 1 + length xs) 0 rest (at_declaration (ds ++ declarations_from line_number (d ∷ xs))) r = subst (λ (k : ℕ). Reads k 0 rest (at_declaration (ds ++ declarations_from line_number (d ∷ xs))) r) there c in
+    let last : Reads (line_number + 1 + length xs) 0 rest (at_declaration ((ds ++ one) ++ declarations_from (line_number + 1) xs)) r =
+    subst (λ (l : List Declaration). Reads (line_number + 1 + length xs) 0 rest (at_declaration l) r) (sym (append_assoc ds one (declarations_from (line_number + 1) xs))) moved
     in
     let body = flat_map declaration_text xs ++ rest in
-    let after : Reads (row + 1) 0 body (at_declaration (ds ++ one)) r = declarations_read (row + 1) xs (ds ++ one) rest n.1 v.1 last in
-    let read : Reads row 0 (role_text d.role ++ (sort_text d.sort ++ (listed d.names ++ (59 ∷ 10 ∷ body)))) (at_declaration ds) r = role_reads d.role ds (sort_text d.sort ++ (listed d.names ++ (59 ∷ 10 ∷ body))) (names_read ds d.role d.sort d.names body n.0 v.0 after) in
+    let after : Reads (line_number + 1) 0 body (at_declaration (ds ++ one)) r = declarations_read (line_number + 1) xs (ds ++ one) rest n.1 v.1 last in
+    let read : Reads line_number 0 (role_text d.role ++ (sort_text d.sort ++ (listed d.names ++ (59 ∷ 10 ∷ body)))) (at_declaration ds) r = role_reads d.role ds (sort_text d.sort ++ (listed d.names ++ (59 ∷ 10 ∷ body))) (names_read ds d.role d.sort d.names body n.0 v.0 after) in
     let same : (declaration_text d ++ flat_map declaration_text xs) ++ rest ≡ role_text d.role ++ (sort_text d.sort ++ (listed d.names ++ (59 ∷ 10 ∷ body))) = simp append_assoc in
-    subst (λ (bytes : List ℕ). Reads row 0 bytes (at_declaration ds) r) (sym same) read
+    subst (λ (bytes : List ℕ). Reads line_number 0 bytes (at_declaration ds) r) (sym same) read
 
 -- ---- the whole text
 
@@ -127,16 +127,16 @@ reads_back s h w =
     let n = both (list_all has_names s.declarations) (list_all is_well_formed_state s.states) h in
     let v = both (list_all is_spellable_declaration s.declarations) (is_name s.reset && list_all is_spellable_state s.states) w in
     let u = both (is_name s.reset) (list_all is_spellable_state s.states) v.1 in
-    let row = 2 + length s.declarations in
+    let line_number = 2 + length s.declarations in
     let ds = declarations_from 2 s.declarations in
-    let p : Source = record { declarations = ds; reset_line = row; reset = s.reset; states = [] } in
+    let p : Source = record { declarations = ds; reset_line = line_number; reset = s.reset; states = [] } in
     let states = flat_map state_text s.states in
     let r : Result Source TextFault = Ok (relined s) in
-    let last : Reads (row + 1) 0 states (at_state p) r = states_read (row + 1) s.states (at_state p) p (λ m. refl) (λ m. refl) refl n.1 u.1 in
-    let ended : Reads row 0 (59 ∷ 10 ∷ states) (after_reset p) r = mark_reads 59 (10 ∷ states) tokens.Semicolon (after_reset p) (at_state p) refl refl refl refl refl refl (newline_reads states last) in
+    let last : Reads (line_number + 1) 0 states (at_state p) r = states_read (line_number + 1) s.states (at_state p) p (λ m. refl) (λ m. refl) refl n.1 u.1 in
+    let ended : Reads line_number 0 (59 ∷ 10 ∷ states) (after_reset p) r = mark_reads 59 (10 ∷ states) tokens.Semicolon (after_reset p) (at_state p) refl refl refl refl refl refl (newline_reads states last) in
     let body = s.reset ++ (59 ∷ 10 ∷ states) in
-    let name : Reads row 0 body (at_reset ds row) r = name_reads s.reset (59 ∷ 10 ∷ states) (at_reset ds row) (after_reset p) u.0 refl refl ended in
-    let reset : Reads row 0 (codes "reset " ++ body) (at_declaration ds) r = one_token 114 (codes "eset") (32 ∷ body) tokens.Reset (at_declaration ds) (at_reset ds row) refl refl refl (plain_room tokens.Reset 0 refl refl) refl (space_reads body name) in
+    let name : Reads line_number 0 body (at_reset ds line_number) r = name_reads s.reset (59 ∷ 10 ∷ states) (at_reset ds line_number) (after_reset p) u.0 refl refl ended in
+    let reset : Reads line_number 0 (codes "reset " ++ body) (at_declaration ds) r = one_token 114 (codes "eset") (32 ∷ body) tokens.Reset (at_declaration ds) (at_reset ds line_number) refl refl refl (plain_room tokens.Reset 0 refl refl) refl (space_reads body name) in
     let tail = flat_map declaration_text s.declarations ++ (codes "reset " ++ body) in
     let declared : Reads 2 0 tail (at_declaration []) r = declarations_read 2 s.declarations [] (codes "reset " ++ body) n.0 v.0 reset in
     let semicolon : Reads 1 0 (59 ∷ 10 ∷ tail) at_semicolon r = mark_reads 59 (10 ∷ tail) tokens.Semicolon at_semicolon (at_declaration []) refl refl refl refl refl refl (newline_reads tail declared) in

@@ -25,7 +25,7 @@ use Rattle.fsmd_tool.specs.Replays.{DueToReplay}
 use Rattle.fsmd_tool.specs.Replays as replays
 use Rattle.fsmd_tool.specs.Due.{IsDueTo, IsDue, Answered, SaysSame, HasCause, FileFailed, SinkFailed}
 
-told_map : (h : Held) (P Q : List ℕ → Type 0) → ((x : List ℕ) → P x → Q x) → Told h P → Told h Q
+pub told_map : (h : Held) (P Q : List ℕ → Type 0) → ((x : List ℕ) → P x → Q x) → Told h P → Told h Q
 told_map Untold P Q f t = tt
 told_map Nothing P Q f t = t
 told_map (Bytes x) P Q f t = f x t

@@ -32,11 +32,7 @@ use Rattle.fsmd_tool.specs.Replays.{BothEnd, IsOfReplay, IsReplayAnswer, IsOfInt
 use Rattle.fsmd_tool.specs.Replays as replays
 use Rattle.fsmd_tool.specs.Due.{IsDue, Answered}
 use Rattle.fsmd_tool.specs.Refusals.{WhereAnswered, IsOfInputs, Unread, Refused}
-
-told_map : (h : Held) (P Q : List ℕ → Type 0) → ((x : List ℕ) → P x → Q x) → Told h P → Told h Q
-told_map Untold P Q f t = tt
-told_map Nothing P Q f t = t
-told_map (Bytes x) P Q f t = f x t
+use Rattle.fsmd_tool.proofs.Outcomes.{told_map}
 
 -- what is told of two files
 told_both : (h k : Held) (P Q : List ℕ → Type 0) (R : List ℕ → List ℕ → Type 0) → ((x y : List ℕ) → P x → Q y → R x y) → Told h P → Told k Q → Told h (λ x. Told k (R x))
