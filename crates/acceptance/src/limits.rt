@@ -219,7 +219,7 @@ fn each_sign_counts(rt: HostRuntime) -> Result<(), Fail> {
 const FULL_LINES: &str =
     "fsmd 1; input a; output y, z; reset s; state s: when «127·!»a > 0 goto s: y = «128·-»a, z = «128·-»a; when «127·!»a > 0 goto s: y = «128·-»a, z = «128·-»a; goto s: z = «128·-»a, y = «128·-»a";
 
-// Each guard and each assignment may have 128, and signs between them do not count.
+// Each guard and each assignment may have 128, and operator_count between them do not count.
 #[test]
 fn operators_count_anew(rt: HostRuntime) -> Result<(), Fail> {
     each_row(

@@ -1,15 +1,15 @@
 -- A replay gets one answer.
 use Rattle.std.proofs.Common.{◌≡◌, ℕ, List, Some, None, sym, ◌∙◌, ap, subst}
-use Rattle.fs_base.specs.Outside.{Held, Untold, Nothing, Bytes}
+use Rattle.fs_base.specs.Outside.{Held, Unknown, Nothing, Bytes}
 use Rattle.fs_model.specs.Machines.{Fsmd}
 use Rattle.fs_pair.specs.Faces.{interface_fault}
 use Rattle.fsmd_tool.specs.declared.answer.Operand.TheVariants.{First, Second, Third}
 use Rattle.fsmd_tool.specs.declared.answer.Answer.{Answer}
 use Rattle.fsmd_tool.specs.declared.answer.Answer.TheVariants.{Interfaces}
-use Rattle.fsmd_tool.specs.Texts.{Told, IsMachine}
+use Rattle.fsmd_tool.specs.Texts.{WhereKnown, IsMachine}
 use Rattle.fsmd_tool.specs.Answers.{Given, held, FailedToRead, IsOfFile, SpellPair, PairTold}
 use Rattle.fsmd_tool.specs.Inputs.{IsInputsAnswer}
-use Rattle.fsmd_tool.specs.Replays.{IsOfInterfaces, IsOfReplay, AreAlike, RefusesBoth, Replays, DueToReplay, LeftRefused, RightRefused, FacesDiffer, InputsUnread, InputsRefused, Replayed}
+use Rattle.fsmd_tool.specs.Replays.{IsOfInterfaces, IsOfReplay, AreAlike, RefusesBoth, Replays, CorrectForReplay, LeftRefused, RightRefused, FacesDiffer, InputsUnread, InputsRefused, Replayed}
 use Rattle.answer_laws.specs.Settled.{Settles, IsSettled}
 use Rattle.answer_laws.proofs.Pairs.{some_same, some_none}
 use Rattle.answer_laws.proofs.Texts.{spells_once}
@@ -34,12 +34,12 @@ pair_case_once k F x y a b s (SameFaces e p) (SameFaces f q) =
 -- ---- two files that spell machines
 
 abbrev Both : Held → Held → (Fsmd → Fsmd → Type 0) → Type 0
-Both h i P = Told h (λ u. Told i (λ v. SpellPair P u v))
+Both h i P = WhereKnown h (λ u. WhereKnown i (λ v. SpellPair P u v))
 
 both_map : (h i : Held) (P Q : Fsmd → Fsmd → Type 0) → ((a b : Fsmd) → P a b → Q a b) → Both h i P → Both h i Q
-both_map Untold i P Q f w = tt
+both_map Unknown i P Q f w = tt
 both_map Nothing i P Q f w = absurd w
-both_map (Bytes u) Untold P Q f w = tt
+both_map (Bytes u) Unknown P Q f w = tt
 both_map (Bytes u) Nothing P Q f w = absurd w
 both_map (Bytes u) (Bytes v) P Q f w = record { a = w.a; b = w.b; left = w.left; right = w.right; meet = f w.a w.b w.meet }
 
@@ -50,21 +50,21 @@ spelled_once k F x y u v s p q =
     pair_case_once k F x y q.a q.b s (subst (λ m. PairCase k F x m q.b) left (subst (λ m. PairCase k F x p.a m) right p.meet)) q.meet
 
 both_once : (h i k : Held) (F G H : Type 0) (x y : Answer) → Settles h G → Settles i H → Settles k F → Both h i (PairCase k F x) → Both h i (PairCase k F y) → x ≡ y
-both_once Untold i k F G H x y r s t p q = absurd r
+both_once Unknown i k F G H x y r s t p q = absurd r
 both_once Nothing i k F G H x y r s t p q = absurd p
-both_once (Bytes u) Untold k F G H x y r s t p q = absurd s
+both_once (Bytes u) Unknown k F G H x y r s t p q = absurd s
 both_once (Bytes u) Nothing k F G H x y r s t p q = absurd p
 both_once (Bytes u) (Bytes v) k F G H x y r s t p q = spelled_once k F x y u v t p q
 
 -- ---- the file of inputs
 
-with_refused : (h i k : Held) (F : Type 0) (x : Answer) → Settles k F → IsInputsAnswer Third x → Told k (λ z. Both h i (AreAlike (RefusesBoth x) z)) → Both h i (PairCase k F x)
-with_refused h i Untold F x s j w = absurd s
+with_refused : (h i k : Held) (F : Type 0) (x : Answer) → Settles k F → IsInputsAnswer Third x → WhereKnown k (λ z. Both h i (AreAlike (RefusesBoth x) z)) → Both h i (PairCase k F x)
+with_refused h i Unknown F x s j w = absurd s
 with_refused h i Nothing F x s j w = absurd w
 with_refused h i (Bytes z) F x s j w = both_map h i (AreAlike (RefusesBoth x) z) (PairCase (Bytes z) F x) (λ a b e. SameFaces e.alike (Refused j e.meet)) w
 
-with_inputs : (h i k : Held) (F : Type 0) (x : Answer) → Settles k F → Told k (λ z. Both h i (AreAlike (Replays x) z)) → Both h i (PairCase k F x)
-with_inputs h i Untold F x s w = absurd s
+with_inputs : (h i k : Held) (F : Type 0) (x : Answer) → Settles k F → WhereKnown k (λ z. Both h i (AreAlike (Replays x) z)) → Both h i (PairCase k F x)
+with_inputs h i Unknown F x s w = absurd s
 with_inputs h i Nothing F x s w = absurd w
 with_inputs h i (Bytes z) F x s w =
     both_map h i (AreAlike (Replays x) z) (PairCase (Bytes z) F x) (λ a b e. SameFaces e.alike (Spelled (record { inputs = e.meet.inputs; spells = e.meet.spells; follows = e.meet.runs }))) w
@@ -77,10 +77,10 @@ Paired g answer a b = PairCase (held g Third) (FailedToRead g Third) answer a b
 -- a machine's file is refused, or both spell machines
 data ReplayOrder (g : Given) (answer : Answer) : Type 0 where
   NoLeft : IsOfFile First (held g First) (FailedToRead g First) answer → ReplayOrder g answer
-  NoRight : Told (held g First) IsMachine → IsOfFile Second (held g Second) (FailedToRead g Second) answer → ReplayOrder g answer
+  NoRight : WhereKnown (held g First) IsMachine → IsOfFile Second (held g Second) (FailedToRead g Second) answer → ReplayOrder g answer
   WithBoth : PairTold g (Paired g answer) → ReplayOrder g answer
 
-order : (g : Given) (x : Answer) → IsSettled g Third → DueToReplay g x → ReplayOrder g x
+order : (g : Given) (x : Answer) → IsSettled g Third → CorrectForReplay g x → ReplayOrder g x
 order g x s (LeftRefused p) = NoLeft p
 order g x s (RightRefused m p) = NoRight m p
 order g x s (FacesDiffer i w) = WithBoth (both_map (held g First) (held g Second) (λ a b. IsOfInterfaces a b x) (Paired g x) (λ a b e. OtherFaces (interfaces_name a b x i e)) w)
@@ -88,10 +88,10 @@ order g x s (InputsUnread w u) = WithBoth (both_map (held g First) (held g Secon
 order g x s (InputsRefused i w) = WithBoth (with_refused (held g First) (held g Second) (held g Third) (FailedToRead g Third) x s i w)
 order g x s (Replayed i w) = WithBoth (with_inputs (held g First) (held g Second) (held g Third) (FailedToRead g Third) x s w)
 
-first_of : (g : Given) (x : Answer) → IsSettled g First → IsSettled g Second → PairTold g (Paired g x) → Told (held g First) IsMachine
+first_of : (g : Given) (x : Answer) → IsSettled g First → IsSettled g Second → PairTold g (Paired g x) → WhereKnown (held g First) IsMachine
 first_of g x s t w = left_machine (held g First) (held g Second) (FailedToRead g First) (FailedToRead g Second) (Paired g x) s t w
 
-second_of : (g : Given) (x : Answer) → IsSettled g First → IsSettled g Second → PairTold g (Paired g x) → Told (held g Second) IsMachine
+second_of : (g : Given) (x : Answer) → IsSettled g First → IsSettled g Second → PairTold g (Paired g x) → WhereKnown (held g Second) IsMachine
 second_of g x s t w = right_machine (held g First) (held g Second) (FailedToRead g First) (FailedToRead g Second) (Paired g x) s t w
 
 order_once : (g : Given) (x y : Answer) → IsSettled g First → IsSettled g Second → IsSettled g Third → ReplayOrder g x → ReplayOrder g y → x ≡ y
@@ -106,5 +106,5 @@ order_once g x y s t r (WithBoth p) (NoRight m q) = absurd (settled_or_answer g 
 order_once g x y s t r (WithBoth p) (WithBoth q) =
     both_once (held g First) (held g Second) (held g Third) (FailedToRead g Third) (FailedToRead g First) (FailedToRead g Second) x y s t r p q
 
-pub due_replay_once : (g : Given) (x y : Answer) → IsSettled g First → IsSettled g Second → IsSettled g Third → DueToReplay g x → DueToReplay g y → x ≡ y
+pub due_replay_once : (g : Given) (x y : Answer) → IsSettled g First → IsSettled g Second → IsSettled g Third → CorrectForReplay g x → CorrectForReplay g y → x ≡ y
 due_replay_once g x y s t r p q = order_once g x y s t r (order g x r p) (order g y r q)

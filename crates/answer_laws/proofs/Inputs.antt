@@ -1,6 +1,6 @@
 -- A file of inputs of a machine gets one answer.
 use Rattle.std.proofs.Common.{◌≡◌, ℕ, ◌≤◌, List, length, Option, Some, sym, ◌∙◌, ap, subst}
-use Rattle.fs_base.specs.Outside.{Held, Untold, Nothing, Bytes}
+use Rattle.fs_base.specs.Outside.{Held, Unknown, Nothing, Bytes}
 use Rattle.fs_model.specs.Machines.{Fsmd}
 use Rattle.fs_model.specs.Runs.{Inputs}
 use Rattle.fs_runs.specs.Given.{Face}
@@ -12,7 +12,7 @@ use Rattle.serde_json.specs.Find.{as_object}
 use Rattle.fsmd_tool.specs.declared.answer.Operand.{Operand}
 use Rattle.fsmd_tool.specs.declared.answer.Answer.{Answer}
 use Rattle.fsmd_tool.specs.declared.answer.Answer.TheVariants.{InputRefused, TooLong}
-use Rattle.fsmd_tool.specs.Texts.{Told, IsTooLong, most_bytes}
+use Rattle.fsmd_tool.specs.Texts.{WhereKnown, IsTooLong, most_bytes}
 use Rattle.fsmd_tool.specs.Inputs.{faces, IsUnread, IsInputsAnswer, RefusesInputs, SpellsInputs}
 use Rattle.answer_laws.specs.Settled.{Settles}
 use Rattle.answer_laws.proofs.Pairs.{some_same, some_none}
@@ -58,8 +58,8 @@ pub record Follows (P : Inputs → Answer → Type 0) (m : Fsmd) (answer : Answe
 -- a file of inputs can't be read, or is refused, or spells inputs from which the answer follows
 pub data InputsCase (P : Inputs → Answer → Type 0) (m : Fsmd) (file : Operand) (told : Held) (Failed : Type 0) (answer : Answer) : Type 0 where
   Unread : IsUnread file told Failed answer → InputsCase P m file told Failed answer
-  Refused : IsInputsAnswer file answer → Told told (RefusesInputs m answer) → InputsCase P m file told Failed answer
-  Spelled : Told told (Follows P m answer) → InputsCase P m file told Failed answer
+  Refused : IsInputsAnswer file answer → WhereKnown told (RefusesInputs m answer) → InputsCase P m file told Failed answer
+  Spelled : WhereKnown told (Follows P m answer) → InputsCase P m file told Failed answer
 
 -- the same of bytes
 data BytesCase (P : Inputs → Answer → Type 0) (m : Fsmd) (file : Operand) (bytes : List ℕ) (answer : Answer) : Type 0 where
@@ -98,6 +98,6 @@ nothing_case P m file F x y (Spelled p) q = absurd p
 
 pub inputs_case_once : (P : Inputs → Answer → Type 0) → ((ins : Inputs) (x y : Answer) → P ins x → P ins y → x ≡ y)
     → (m : Fsmd) (file : Operand) (h : Held) (F : Type 0) (x y : Answer) → Settles h F → InputsCase P m file h F x → InputsCase P m file h F y → x ≡ y
-inputs_case_once P once m file Untold F x y s p q = absurd s
+inputs_case_once P once m file Unknown F x y s p q = absurd s
 inputs_case_once P once m file Nothing F x y s p q = nothing_case P m file F x y p q
 inputs_case_once P once m file (Bytes bytes) F x y s p q = bytes_once P once m file bytes x y (bytes_case P m file bytes F x s p) (bytes_case P m file bytes F y s q)

@@ -2,9 +2,9 @@
 use Rattle.std.proofs.Common.{◌≡◌, ℕ, zero, suc, ◌+◌, ◌*◌, List, [], ◌∷◌, length, Bool, true, false, refl, sym, ◌∙◌, ap, subst}
 use Rattle.std.specs.Prelude.{◌==◌, ℤ, Ok, Err, slice_set}
 use Rattle.fs_model.specs.declared.parts.VarInfo.{VarInfo}
-use Rattle.fs_model.specs.Terms.{Term, Number, Variable, Read, Sum, Difference, Product, Quotient, Remainder, Negative, Action, Assign, Write}
-use Rattle.fs_model.specs.Machines.{Fsmd, lines_of}
-use Rattle.fs_ast.specs.Sound.{first_line_target}
+use Rattle.fs_model.specs.Terms.{Term, Number, Variable, Read, Sum, Difference, Product, Quotient, Remainder, Negative, Assignment, Assign, ArrayWrite}
+use Rattle.fs_model.specs.Machines.{Fsmd, transitions_of}
+use Rattle.fs_ast.specs.Sound.{first_transition_target}
 use Rattle.nf_terms.specs.Terms.{Polynomial}
 use Rattle.nf_terms.specs.Measures.{size_of, weight_of}
 use Rattle.nf_terms.specs.RawSums.{raw_sum, raw_difference, raw_product, raw_negation}
@@ -12,7 +12,7 @@ use Rattle.nf_terms.specs.declared.stop.NfStop.{NfStop}
 use Rattle.nf_terms.specs.declared.stop.NfStop.TheVariants.{Wide, Large, NoMemory}
 use Rattle.nf_sums.proofs.Unique.{normal_forms_equal}
 use Rattle.straight_line.specs.Vectors.{start_vector}
-use Rattle.straight_line.specs.Execution.{Outcome, InTurn, Stops, GoesOn, Operates, Adds, Subtracts, Multiplies, IsNumber, Evaluates, Assigns, AssignsAll, first_actions, ReturnsOr, Executes, Execution}
+use Rattle.straight_line.specs.Execution.{Outcome, InTurn, Stops, GoesOn, Operates, Adds, Subtracts, Multiplies, IsNumber, Evaluates, Assigns, AssignsAll, first_assignments, ReturnsOr, Executes, Execution}
 use Rattle.answer_laws.specs.Outcomes.{HadMemory}
 
 -- two outcomes that are no want of memory are the same
@@ -108,11 +108,11 @@ evaluates vector (Negative a) = record { once = turn (Evaluates vector a) (λ p 
 
 -- ---- assignments and states
 
-assigns : (before next : List Polynomial) (a : Action ℕ) → OneOutcome (Assigns before next a)
+assigns : (before next : List Polynomial) (a : Assignment ℕ) → OneOutcome (Assigns before next a)
 assigns before next (Assign v e) = record { once = turn (Evaluates before e) (λ p r. r ≡ Ok (slice_set next v p)) (evaluates before e) (λ p. is_one (Ok (slice_set next v p))) }
-assigns before next (Write v i e) = record { once = λ x y h k hx hy. absurd h }
+assigns before next (ArrayWrite v i e) = record { once = λ x y h k hx hy. absurd h }
 
-assigns_all : (before : List Polynomial) (actions : List (Action ℕ)) (next : List Polynomial) → OneOutcome (AssignsAll before actions next)
+assigns_all : (before : List Polynomial) (assignments : List (Assignment ℕ)) (next : List Polynomial) → OneOutcome (AssignsAll before assignments next)
 assigns_all before [] next = record { once = λ x y e f hx hy. e ∙ sym f }
 assigns_all before (a ∷ rest) next = record { once = turn (Assigns before next a) (AssignsAll before rest) (assigns before next a) (λ v. assigns_all before rest v) }
 
@@ -123,9 +123,9 @@ returns_or false GoesFrom f v = record { once = (f v).once }
 executes : (m : Fsmd) (n q : ℕ) (vector : List Polynomial) → OneOutcome (Executes m n q vector)
 executes m zero q vector = record { once = λ x y e f hx hy. absurd e }
 executes m (suc n) q vector = record {
-  once = turn (AssignsAll vector (first_actions (lines_of m q)) vector) (ReturnsOr (first_line_target (lines_of m q) == m.reset) (Executes m n (first_line_target (lines_of m q))))
-      (assigns_all vector (first_actions (lines_of m q)) vector)
-      (λ v. returns_or (first_line_target (lines_of m q) == m.reset) (Executes m n (first_line_target (lines_of m q))) (λ w. executes m n (first_line_target (lines_of m q)) w) v);
+  once = turn (AssignsAll vector (first_assignments (transitions_of m q)) vector) (ReturnsOr (first_transition_target (transitions_of m q) == m.reset) (Executes m n (first_transition_target (transitions_of m q))))
+      (assigns_all vector (first_assignments (transitions_of m q)) vector)
+      (λ v. returns_or (first_transition_target (transitions_of m q) == m.reset) (Executes m n (first_transition_target (transitions_of m q))) (λ w. executes m n (first_transition_target (transitions_of m q)) w) v);
 }
 
 pub execution_once : (lefts : List VarInfo) (m : Fsmd) (x y : Outcome (List Polynomial)) → Execution lefts m x → Execution lefts m y → HadMemory x → HadMemory y → x ≡ y

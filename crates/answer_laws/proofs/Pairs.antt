@@ -14,7 +14,7 @@ use Rattle.straight_line.specs.Execution.{Execution}
 use Rattle.straight_line.specs.Verdicts.{StopsOn}
 use Rattle.fsmd_tool.specs.declared.answer.Operand.TheVariants.{First, Second, Third}
 use Rattle.fsmd_tool.specs.declared.answer.Answer.{Answer}
-use Rattle.fsmd_tool.specs.declared.answer.Answer.TheVariants.{Usage, Equivalent, Text, Differs, Unended, Stuck, Wide, Large, TextRefused, CheckRefused, NotJson, InputRefused, Interfaces, TooLong, NotBuilt, CannotRead}
+use Rattle.fsmd_tool.specs.declared.answer.Answer.TheVariants.{Usage, Equivalent, Text, Differs, NoReturn, OutputDiffers, Wide, Large, TextRefused, CheckRefused, NotJson, InputRefused, Interfaces, TooLong, NotBuilt, CannotRead}
 use Rattle.fsmd_tool.specs.Answers.{AreComparable, IsOfPair, IsVerdict}
 use Rattle.answer_laws.specs.Outcomes.{HadMemory}
 use Rattle.answer_laws.proofs.Outcomes.{execution_once, err_ok, stop_same, end_same, had_end}
@@ -39,11 +39,11 @@ answer_at stops.NoMemory = Usage
 -- the answer where both end, by the first output whose polynomials differ
 abbrev IsByOutputs : Fsmd → Option ℕ → Answer → Type 0
 IsByOutputs a None answer = answer ≡ Equivalent 2
-IsByOutputs a (Some x) answer = (output : List ℕ) × ((option_map (λ v. v.name) (slice_get a.variables x) ≡ Some output) × (answer ≡ Stuck output))
+IsByOutputs a (Some x) answer = (output : List ℕ) × ((option_map (λ v. v.name) (slice_get a.variables x) ≡ Some output) × (answer ≡ OutputDiffers output))
 
 by_outputs_once : (a : Fsmd) (first : Option ℕ) (x y : Answer) → IsByOutputs a first x → IsByOutputs a first y → x ≡ y
 by_outputs_once a None x y e f = e ∙ sym f
-by_outputs_once a (Some v) x y s t = s.1.1 ∙ ap Stuck (some_same s.0 t.0 (sym s.1.0 ∙ t.1.0)) ∙ sym t.1.1
+by_outputs_once a (Some v) x y s t = s.1.1 ∙ ap OutputDiffers (some_same s.0 t.0 (sym s.1.0 ∙ t.1.0)) ∙ sym t.1.1
 
 -- how both executions end, and the answer that follows
 data Ends (a b : Fsmd) (answer : Answer) : Type 0 where
@@ -98,8 +98,8 @@ grade a b Usage v h = absurd v
 grade a b (Equivalent nodes) v h = let d = h.2 in ByEnds h.0 (BothEnd d.left d.right d.left_ends d.right_ends (subst (λ i. IsByOutputs a i (Equivalent nodes)) (sym d.none) (ap Equivalent v)))
 grade a b (Text lines) v h = absurd v
 grade a b (Differs lines) v h = absurd v
-grade a b (Unended lines) v h = absurd v
-grade a b (Stuck output) v h = let d = h.1.differs in ByEnds h.0 (BothEnd d.left d.right d.left_ends d.right_ends (subst (λ i. IsByOutputs a i (Stuck output)) (sym d.first) (output, (h.1.named, refl))))
+grade a b (NoReturn lines) v h = absurd v
+grade a b (OutputDiffers output) v h = let d = h.1.differs in ByEnds h.0 (BothEnd d.left d.right d.left_ends d.right_ends (subst (λ i. IsByOutputs a i (OutputDiffers output)) (sym d.first) (output, (h.1.named, refl))))
 grade a b Wide v h = ByEnds h.0 (stops_on h.1.side a b (stops.Wide h.1.left h.1.right) Wide (wide_had h.1.left h.1.right) refl h.1.stops)
 grade a b Large v h = ByEnds h.0 (stops_on h.1.side a b (stops.Large h.1.units h.1.depth) Large (large_had h.1.units h.1.depth) refl h.1.stops)
 grade a b (TextRefused file fault) v h = absurd v

@@ -10,7 +10,7 @@ use Rattle.fs_show.specs.Items.{Outputs, SameOutputs}
 use Rattle.fs_show.specs.Ends.{IsReplayText, IsStopText}
 use Rattle.fs_show.proofs.Once.{replay_once}
 use Rattle.fsmd_tool.specs.declared.answer.Answer.{Answer}
-use Rattle.fsmd_tool.specs.declared.answer.Answer.TheVariants.{Text, Differs, Unended}
+use Rattle.fsmd_tool.specs.declared.answer.Answer.TheVariants.{Text, Differs, NoReturn}
 use Rattle.fsmd_tool.specs.Runs.{most_steps, Ends}
 use Rattle.fsmd_tool.specs.Replays.{BothEnd, IsOfReplay, LeftStopped, RightStopped, Agreed, Differed}
 use Rattle.answer_laws.proofs.Shapes.{HasLines, text_lines, difference_lines, unended_lines}
@@ -28,7 +28,7 @@ compares_once names left right x y (Other s p) (Same t q) = absurd (s t)
 compares_once names left right x y (Other s p) (Other t q) = p.is ∙ ap Differs (replay_once names left right p.lines q.lines p.holds q.holds) ∙ sym q.is
 
 abbrev Stop : Side → RunStop → Answer → Type 0
-Stop side stop answer = HasLines (IsStopText side stop) Unended answer
+Stop side stop answer = HasLines (IsStopText side stop) NoReturn answer
 
 -- how two runs end, and the answer that follows
 data ReplayCase (a b : Fsmd) (ins : Inputs) (answer : Answer) : Type 0 where

@@ -2,7 +2,7 @@
 use Rattle.std.proofs.Common.{◌≡◌, ℕ, zero, suc, ◌-◌, ◌<◌, ◌≤◌, List, sym, ◌∙◌, ap, subst, arith}
 use Rattle.fs_model.specs.Machines.{Fsmd}
 use Rattle.fs_model.specs.Stores.{Store}
-use Rattle.fs_model.specs.Runs.{Inputs, AfterStep, Returns, Goes, start, output}
+use Rattle.fs_model.specs.Runs.{Inputs, AfterStep, ReachesReset, FirstReturn, start, output}
 use Rattle.fs_model.specs.Touched.{StaysInRange}
 use Rattle.fs_model.proofs.Determined.{same_state, same_store, goes_once}
 use Rattle.fs_runs.specs.declared.run.RunStop.{RunStop}
@@ -14,7 +14,7 @@ use Rattle.fs_show.specs.Items.{Outputs}
 use Rattle.fs_show.specs.Ends.{IsEndText, IsStopText}
 use Rattle.fs_show.proofs.Once.{end_once, stop_once}
 use Rattle.fsmd_tool.specs.declared.answer.Answer.{Answer}
-use Rattle.fsmd_tool.specs.declared.answer.Answer.TheVariants.{Text, Unended}
+use Rattle.fsmd_tool.specs.declared.answer.Answer.TheVariants.{Text, NoReturn}
 use Rattle.fsmd_tool.specs.Runs.{most_steps, Ends, IsOfRun, Ended, Stopped}
 use Rattle.answer_laws.proofs.Shapes.{HasLines, text_lines, unended_lines}
 
@@ -27,7 +27,7 @@ stays_less m (suc k) zero q s le x = absurd (omega arith)
 stays_less m (suc k) (suc n) q s le x = (x.0, λ r t st ne. stays_less m k n r t (omega arith) (x.1 r t st ne))
 
 -- behind the return nothing is touched
-after_on : (m : Fsmd) (k n q : ℕ) (s t : Store) → AfterStep m q s (λ r u. Returns m n r u t) → StaysInRange m (suc n) q s → StaysInRange m k q s
+after_on : (m : Fsmd) (k n q : ℕ) (s t : Store) → AfterStep m q s (λ r u. ReachesReset m n r u t) → StaysInRange m (suc n) q s → StaysInRange m k q s
 after_on m zero n q s t a x = tt
 after_on m (suc k) zero q s t a x = (x.0, λ r u st ne. absurd (ne (same_state m q s r a.state u a.store st a.step ∙ a.after.0)))
 after_on m (suc k) (suc n) q s t a x = (
@@ -35,10 +35,10 @@ after_on m (suc k) (suc n) q s t a x = (
   λ r u st ne.
       let e : a.state ≡ r = same_state m q s a.state r a.store u a.step st in
       let f : a.store ≡ u = same_store m q s a.state r a.store u a.step st in
-      after_on m k n r u t (subst (λ z. AfterStep m r z (λ w v. Returns m n w v t)) f (subst (λ z. AfterStep m z a.store (λ w v. Returns m n w v t)) e a.after.1)) (x.1 r u st ne),
+      after_on m k n r u t (subst (λ z. AfterStep m r z (λ w v. ReachesReset m n w v t)) f (subst (λ z. AfterStep m z a.store (λ w v. ReachesReset m n w v t)) e a.after.1)) (x.1 r u st ne),
 )
 
-goes_on : (m : Fsmd) (k n q : ℕ) (s t : Store) → Goes m n q s t → StaysInRange m n q s → StaysInRange m k q s
+goes_on : (m : Fsmd) (k n q : ℕ) (s t : Store) → FirstReturn m n q s t → StaysInRange m n q s → StaysInRange m k q s
 goes_on m k zero q s t goes x = absurd goes
 goes_on m k (suc n) q s t goes x = after_on m k n q s t goes x
 
@@ -75,10 +75,10 @@ one_stop m ins side t u NoMemory y a b p q = absurd p
 
 -- the answers of stops of one run are one
 pub stops_once : (m : Fsmd) (ins : Inputs) (side : Side) (s r : RunStop) (x y : Answer) → IsStopped m ins most_steps s → IsStopped m ins most_steps r
-    → HasLines (IsStopText side s) Unended x → HasLines (IsStopText side r) Unended y → x ≡ y
+    → HasLines (IsStopText side s) NoReturn x → HasLines (IsStopText side r) NoReturn y → x ≡ y
 stops_once m ins side s r x y a b p q =
     let same : s ≡ r = one_stop m ins side p.lines q.lines s r a b p.holds q.holds in
-    p.is ∙ ap Unended (stop_once side r p.lines q.lines (subst (λ z. IsStopText side z p.lines) same p.holds) q.holds) ∙ sym q.is
+    p.is ∙ ap NoReturn (stop_once side r p.lines q.lines (subst (λ z. IsStopText side z p.lines) same p.holds) q.holds) ∙ sym q.is
 
 pub one_count : (m : Fsmd) (ins : Inputs) (o p : Outputs) (n k : ℕ) → Ends m ins o n → Ends m ins p k → n ≡ k
 one_count m ins o p n k a b = (goes_once m m.reset (start m ins) a.run.end b.run.end n k a.run.goes b.run.goes).0
@@ -97,7 +97,7 @@ ends_once m ins o p n k x y a b s t =
     s.is ∙ ap Text (end_once names p k s.lines t.lines here t.holds) ∙ sym t.is
 
 pub end_or_stop : (m : Fsmd) (ins : Inputs) (outs : Outputs) (steps : ℕ) (side : Side) (stop : RunStop) (x : Answer)
-    → Ends m ins outs steps → IsStopped m ins most_steps stop → HasLines (IsStopText side stop) Unended x → ⊥
+    → Ends m ins outs steps → IsStopped m ins most_steps stop → HasLines (IsStopText side stop) NoReturn x → ⊥
 end_or_stop m ins outs steps side stop x a b p = no_stop m ins outs steps side stop p.lines a b p.holds
 
 pub run_answer_once : (m : Fsmd) (ins : Inputs) (x y : Answer) → IsOfRun m ins x → IsOfRun m ins y → x ≡ y

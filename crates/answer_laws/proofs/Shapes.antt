@@ -9,7 +9,7 @@ use Rattle.fs_inputs.specs.Refusals.{IsFaulty, IsJson}
 use Rattle.serde_json.specs.Data.{Data}
 use Rattle.fsmd_tool.specs.declared.answer.Operand.{Operand}
 use Rattle.fsmd_tool.specs.declared.answer.Answer.{Answer}
-use Rattle.fsmd_tool.specs.declared.answer.Answer.TheVariants.{Usage, Equivalent, Text, Differs, Unended, Stuck, Wide, Large, TextRefused, CheckRefused, NotJson, InputRefused, Interfaces, TooLong, NotBuilt, CannotRead}
+use Rattle.fsmd_tool.specs.declared.answer.Answer.TheVariants.{Usage, Equivalent, Text, Differs, NoReturn, OutputDiffers, Wide, Large, TextRefused, CheckRefused, NotJson, InputRefused, Interfaces, TooLong, NotBuilt, CannotRead}
 use Rattle.fsmd_tool.specs.Texts.{IsTooLong}
 use Rattle.fsmd_tool.specs.Answers.{IsText, IsDifference, IsUnended}
 use Rattle.fsmd_tool.specs.Inputs.{IsUnread, IsInputsAnswer, Refuses}
@@ -26,8 +26,8 @@ text_lines P Usage h = absurd h
 text_lines P (Equivalent nodes) h = absurd h
 text_lines P (Text lines) h = record { lines = lines; holds = h; is = refl }
 text_lines P (Differs lines) h = absurd h
-text_lines P (Unended lines) h = absurd h
-text_lines P (Stuck output) h = absurd h
+text_lines P (NoReturn lines) h = absurd h
+text_lines P (OutputDiffers output) h = absurd h
 text_lines P Wide h = absurd h
 text_lines P Large h = absurd h
 text_lines P (TextRefused which fault) h = absurd h
@@ -44,8 +44,8 @@ difference_lines P Usage h = absurd h
 difference_lines P (Equivalent nodes) h = absurd h
 difference_lines P (Text lines) h = absurd h
 difference_lines P (Differs lines) h = record { lines = lines; holds = h; is = refl }
-difference_lines P (Unended lines) h = absurd h
-difference_lines P (Stuck output) h = absurd h
+difference_lines P (NoReturn lines) h = absurd h
+difference_lines P (OutputDiffers output) h = absurd h
 difference_lines P Wide h = absurd h
 difference_lines P Large h = absurd h
 difference_lines P (TextRefused which fault) h = absurd h
@@ -57,13 +57,13 @@ difference_lines P (TooLong which) h = absurd h
 difference_lines P (NotBuilt which) h = absurd h
 difference_lines P (CannotRead which) h = absurd h
 
-pub unended_lines : (P : List ℕ → Type 0) (x : Answer) → IsUnended P x → HasLines P Unended x
+pub unended_lines : (P : List ℕ → Type 0) (x : Answer) → IsUnended P x → HasLines P NoReturn x
 unended_lines P Usage h = absurd h
 unended_lines P (Equivalent nodes) h = absurd h
 unended_lines P (Text lines) h = absurd h
 unended_lines P (Differs lines) h = absurd h
-unended_lines P (Unended lines) h = record { lines = lines; holds = h; is = refl }
-unended_lines P (Stuck output) h = absurd h
+unended_lines P (NoReturn lines) h = record { lines = lines; holds = h; is = refl }
+unended_lines P (OutputDiffers output) h = absurd h
 unended_lines P Wide h = absurd h
 unended_lines P Large h = absurd h
 unended_lines P (TextRefused which fault) h = absurd h
@@ -80,8 +80,8 @@ interfaces_name a b Usage h e = absurd h
 interfaces_name a b (Equivalent nodes) h e = absurd h
 interfaces_name a b (Text lines) h e = absurd h
 interfaces_name a b (Differs lines) h e = absurd h
-interfaces_name a b (Unended lines) h e = absurd h
-interfaces_name a b (Stuck output) h e = absurd h
+interfaces_name a b (NoReturn lines) h e = absurd h
+interfaces_name a b (OutputDiffers output) h e = absurd h
 interfaces_name a b Wide h e = absurd h
 interfaces_name a b Large h e = absurd h
 interfaces_name a b (TextRefused which fault) h e = absurd h
@@ -98,8 +98,8 @@ long_unread file bytes Failed Usage n h = absurd h
 long_unread file bytes Failed (Equivalent nodes) n h = absurd h
 long_unread file bytes Failed (Text lines) n h = absurd h
 long_unread file bytes Failed (Differs lines) n h = absurd h
-long_unread file bytes Failed (Unended lines) n h = absurd h
-long_unread file bytes Failed (Stuck output) n h = absurd h
+long_unread file bytes Failed (NoReturn lines) n h = absurd h
+long_unread file bytes Failed (OutputDiffers output) n h = absurd h
 long_unread file bytes Failed Wide n h = absurd h
 long_unread file bytes Failed Large n h = absurd h
 long_unread file bytes Failed (TextRefused which fault) n h = absurd h
@@ -116,8 +116,8 @@ no_file_unread file Failed Usage h = absurd h
 no_file_unread file Failed (Equivalent nodes) h = absurd h
 no_file_unread file Failed (Text lines) h = absurd h
 no_file_unread file Failed (Differs lines) h = absurd h
-no_file_unread file Failed (Unended lines) h = absurd h
-no_file_unread file Failed (Stuck output) h = absurd h
+no_file_unread file Failed (NoReturn lines) h = absurd h
+no_file_unread file Failed (OutputDiffers output) h = absurd h
 no_file_unread file Failed Wide h = absurd h
 no_file_unread file Failed Large h = absurd h
 no_file_unread file Failed (TextRefused which fault) h = absurd h
@@ -139,8 +139,8 @@ inputs_refusal file fs bytes Usage h r = absurd h
 inputs_refusal file fs bytes (Equivalent nodes) h r = absurd h
 inputs_refusal file fs bytes (Text lines) h r = absurd h
 inputs_refusal file fs bytes (Differs lines) h r = absurd h
-inputs_refusal file fs bytes (Unended lines) h r = absurd h
-inputs_refusal file fs bytes (Stuck output) h r = absurd h
+inputs_refusal file fs bytes (NoReturn lines) h r = absurd h
+inputs_refusal file fs bytes (OutputDiffers output) h r = absurd h
 inputs_refusal file fs bytes Wide h r = absurd h
 inputs_refusal file fs bytes Large h r = absurd h
 inputs_refusal file fs bytes (TextRefused which fault) h r = absurd h

@@ -1,6 +1,6 @@
 -- Files of which it is told what they hold.
 use Rattle.std.specs.Prelude.{◌≡◌, Some, IsTrue}
-use Rattle.fs_base.specs.Outside.{Held, Untold, Nothing, Bytes}
+use Rattle.fs_base.specs.Outside.{Held, Unknown, Nothing, Bytes}
 use Rattle.fsmd_tool.specs.declared.answer.Operand.{Operand}
 use Rattle.fsmd_tool.specs.declared.command.Command.{Command}
 use Rattle.fsmd_tool.specs.Commands.{command_of, names}
@@ -8,7 +8,7 @@ use Rattle.fsmd_tool.specs.Answers.{Given, held, FailedToRead}
 
 -- it is told that there is no file; or it is told what bytes the file has, and it did not fail to be read
 abbrev pub Settles : Held → (Failed : Type 0) → Type 0
-Settles Untold Failed = ⊥
+Settles Unknown Failed = ⊥
 Settles Nothing Failed = Unit {0}
 Settles (Bytes bytes) Failed = Failed → ⊥
 

@@ -10,9 +10,9 @@ ghost use Rattle.straight_line.specs.Execution.{Outcome, Execution};
 ghost use Rattle.fsmd_tool.specs.declared.answer.Operand.{Operand};
 ghost use Rattle.fsmd_tool.specs.declared.answer.Answer.{Answer};
 ghost use Rattle.fsmd_tool.specs.Paths.{HasPaths};
-ghost use Rattle.fsmd_tool.specs.Texts.{Told, Spells, HasCanonicalText, IsMachine, IsTooLong, HasTextFault, HasCheckFault};
+ghost use Rattle.fsmd_tool.specs.Texts.{WhereKnown, Spells, HasCanonicalText, IsMachine, IsTooLong, HasTextFault, HasCheckFault};
 ghost use Rattle.fsmd_tool.specs.Answers.{Given, held, FailedToRead, IsOfFile, IsOfPair, IsVerdict};
-ghost use Rattle.fsmd_tool.specs.Due.{IsDue};
+ghost use Rattle.fsmd_tool.specs.Due.{IsCorrectAnswer};
 ghost use Rattle.answer_laws.specs.Outcomes.{HadMemory};
 ghost use Rattle.answer_laws.specs.Settled.{IsSettled, AreSettled};
 
@@ -52,10 +52,10 @@ pub fn a_file_has_one_fault()
 /// A file that is settled gets at most one answer by itself, and none where it spells a machine.
 pub fn a_settled_file_gets_one_answer()
     ensures one { (g : Given) (file : Operand) (x y : Answer) → IsSettled g file → IsOfFile file (held g file) (FailedToRead g file) x → IsOfFile file (held g file) (FailedToRead g file) y → x ≡ y }
-    ensures none { (g : Given) (file : Operand) (x : Answer) → IsSettled g file → Told (held g file) IsMachine → IsOfFile file (held g file) (FailedToRead g file) x → ⊥ }
+    ensures none { (g : Given) (file : Operand) (x : Answer) → IsSettled g file → WhereKnown (held g file) IsMachine → IsOfFile file (held g file) (FailedToRead g file) x → ⊥ }
 {}
 
 /// At most one answer is due where the files of the command are settled.
 pub fn at_most_one_answer_is_due()
-    ensures { (g : Given) (x y : Answer) → AreSettled g → IsDue g x → IsDue g y → x ≡ y }
+    ensures { (g : Given) (x y : Answer) → AreSettled g → IsCorrectAnswer g x → IsCorrectAnswer g y → x ≡ y }
 {}

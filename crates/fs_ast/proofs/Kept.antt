@@ -6,15 +6,15 @@ use Rattle.std.specs.Str.{bytes_eq}
 use Rattle.std.proofs.lemmas.Slice.Eq.{bytes_eq-Decides}
 use Rattle.std.proofs.lemmas.Bool.Decides.{nat_tests}
 use Rattle.fs_model.specs.declared.parts.VarInfo.{VarInfo}
-use Rattle.fs_model.specs.Terms.{Line}
-use Rattle.fs_model.specs.Source.{Declaration, SourceLine, SourceState, Source}
-use Rattle.fs_model.specs.Machines.{State, Fsmd, lines_of}
-use Rattle.fs_model.specs.Trees.{tree_of_lines, branches_of, count_leaves}
+use Rattle.fs_model.specs.Terms.{Transition}
+use Rattle.fs_model.specs.Source.{Declaration, SourceTransition, SourceState, Source}
+use Rattle.fs_model.specs.Machines.{State, Fsmd, transitions_of}
+use Rattle.fs_model.specs.Trees.{tree_of_transitions, branches_of, count_leaves}
 use Rattle.fs_ast.specs.declared.check.CheckRule.{CheckRule}
 use Rattle.fs_ast.specs.declared.check.CheckRule.TheVariants.{TwiceNamed, UnknownName, WrongSort, AssignInput, AssignedTwice, NoElse, AfterElse, TooManyBranches, UnknownState, TooMany}
 use Rattle.std.proofs.lemmas.Option.{slice_get_within}
-use Rattle.fs_ast.specs.Spelled.{declared_by, variables_of, names_of, state_names, place, line_spelled, state_spelled, formula_over, machine_of}
-use Rattle.fs_ast.specs.Sound.{scalar_at, array_at, input_at, is_array, names_differ, all_differ, scalars_in_guard, arrays_in_guard, scalars_in_actions, arrays_in_actions, changed_by, assigned_in, IsSoundLine, IsSound, is_open, ends_open, branch_count, first_line_target, is_cutpoint, reaches_cutpoint, most_variables, most_states}
+use Rattle.fs_ast.specs.Spelled.{declared_by, variables_of, names_of, state_names, place, line_spelled, state_spelled, guard_over, machine_of}
+use Rattle.fs_ast.specs.Sound.{scalar_at, array_at, input_at, is_array, names_differ, all_differ, scalars_in_condition, arrays_in_condition, scalars_in_assignments, arrays_in_assignments, changed_by, assigned_in, IsSoundTransition, IsSound, is_open, ends_open, branch_count, first_transition_target, is_cutpoint, reaches_cutpoint, most_variables, most_states}
 use Rattle.fs_ast.specs.Rules.{at_lines, broken_where, declared_names, declared_states, repeated, past, is_known, uses_unknown, uses_wrong_sort, changes_input, line_faults, lines_faults, lacks_else, after_else, state_faults, plain_faults, branches_too_often, branch_faults, after_steps, IsLawful}
 use Rattle.fs_ast.specs.Places.{names_in}
 use Rattle.fs_ast.proofs.Turns.{map_map, length_mapped, map_joined}
@@ -148,14 +148,14 @@ all_not : {A : Type 0} (p : A → Bool) (xs : List A) → list_any p xs ≡ fals
 all_not p [] e = refl
 all_not p (x ∷ xs) e = let b = both_false (p x) (list_any p xs) e in and_true (not (p x)) (list_all (λ y. not (p y)) xs) (ap not b.0) (all_not p xs b.1)
 
-pub line_sound : (vs : List VarInfo) (count n : ℕ) (l : Line ℕ ℕ) → line_faults vs count n l ≡ [] → IsSoundLine vs count l
-line_sound vs count n l e =
-    let scalars = scalars_in_guard l.guard ++ scalars_in_actions l.actions in
-    let arrays = arrays_in_guard l.guard ++ arrays_in_actions l.actions in
+pub transition_sound : (vs : List VarInfo) (count n : ℕ) (l : Transition ℕ ℕ) → line_faults vs count n l ≡ [] → IsSoundTransition vs count l
+transition_sound vs count n l e =
+    let scalars = scalars_in_condition l.guard ++ scalars_in_assignments l.assignments in
+    let arrays = arrays_in_condition l.guard ++ arrays_in_assignments l.assignments in
     let u = broken_where (uses_unknown vs l) UnknownName n in
     let w = broken_where (uses_wrong_sort vs l) WrongSort n in
     let p = broken_where (changes_input vs l) AssignInput n in
-    let t = broken_where (not (all_differ (assigned_in l.actions))) AssignedTwice n in
+    let t = broken_where (not (all_differ (assigned_in l.assignments))) AssignedTwice n in
     let s = broken_where (not (nat_lt l.target count)) UnknownState n in
     let after_u = nil_right u (w ++ (p ++ (t ++ s))) e in
     let after_w = nil_right w (p ++ (t ++ s)) after_u in
@@ -165,8 +165,8 @@ line_sound vs count n l e =
     record {
       scalars = all_scalars vs scalars known.0 sorts.0;
       arrays = all_arrays vs arrays known.1 sorts.1;
-      inputs_stay = all_not (λ a. input_at vs (changed_by a)) l.actions (kept (changes_input vs l) AssignInput n (nil_left p (t ++ s) after_w));
-      assigned_once = not_false (all_differ (assigned_in l.actions)) (kept (not (all_differ (assigned_in l.actions))) AssignedTwice n (nil_left t s after_p));
+      inputs_stay = all_not (λ a. input_at vs (changed_by a)) l.assignments (kept (changes_input vs l) AssignInput n (nil_left p (t ++ s) after_w));
+      assigned_once = not_false (all_differ (assigned_in l.assignments)) (kept (not (all_differ (assigned_in l.assignments))) AssignedTwice n (nil_left t s after_p));
       target_in = below l.target count (not_false (nat_lt l.target count) (kept (not (nat_lt l.target count)) UnknownState n (nil_right t s after_p)));
     }
 
@@ -184,13 +184,13 @@ else_head : (b : Bool) (line : ℕ) (rest other : List ℕ) → cond b (line ∷
 else_head true line rest other e = absurd (cc)
 else_head false line rest other e = (refl, e)
 
-pub open_end : (ns ss : List (List ℕ)) (ls : List SourceLine) → lacks_else ls ≡ false → after_else false ls ≡ [] → ends_open (map (line_spelled ns ss) ls) ≡ true
+pub open_end : (ns ss : List (List ℕ)) (ls : List SourceTransition) → lacks_else ls ≡ false → after_else false ls ≡ [] → ends_open (map (line_spelled ns ss) ls) ≡ true
 open_end ns ss [] e f = absurd (cc)
-open_end ns ss (l ∷ []) e f = open_guard (formula_over (place ns)) l.content.guard e
+open_end ns ss (l ∷ []) e f = open_guard (guard_over (place ns)) l.content.guard e
 open_end ns ss (l ∷ k ∷ ls) e f =
     let h = else_head (not (is_some l.content.guard)) k.line (after_else true ls) (after_else (not (is_some k.content.guard)) ls) f in
     and_true (not (is_open (line_spelled ns ss l))) (ends_open (map (line_spelled ns ss) (k ∷ ls)))
-    (shut_guard (formula_over (place ns)) l.content.guard (not_false (is_some l.content.guard) h.0)) (open_end ns ss (k ∷ ls) e h.1)
+    (shut_guard (guard_over (place ns)) l.content.guard (not_false (is_some l.content.guard) h.0)) (open_end ns ss (k ∷ ls) e h.1)
 
 -- ---- states by their places
 
@@ -282,8 +282,8 @@ state_ends p k q s at =
     let l = lines_faults vs ss s.lines in
     (kept (lacks_else s.lines) NoElse s.line (nil_left n (a ++ l) e), lines_nil AfterElse (after_else false s.lines) (nil_left a l (nil_right n (a ++ l) e)))
 
-pub state_lines : (p : Source) → AreKept p → (q : ℕ) (s : SourceState) → slice_get p.states q ≡ Some s → (j : ℕ) (l : SourceLine) → slice_get s.lines j ≡ Some l
-    → IsSoundLine (variables_of p.declarations) (length p.states) (line_spelled (names_of (variables_of p.declarations)) (state_names p.states) l)
+pub state_lines : (p : Source) → AreKept p → (q : ℕ) (s : SourceState) → slice_get p.states q ≡ Some s → (j : ℕ) (l : SourceTransition) → slice_get s.lines j ≡ Some l
+    → IsSoundTransition (variables_of p.declarations) (length p.states) (line_spelled (names_of (variables_of p.declarations)) (state_names p.states) l)
 state_lines p k q s at j l there =
     let vs = variables_of p.declarations in
     let ss = state_names p.states in
@@ -292,7 +292,7 @@ state_lines p k q s at j l there =
     let a = at_lines AfterElse (after_else false s.lines) in
     let f = nil_right a (lines_faults vs ss s.lines) (nil_right n (a ++ lines_faults vs ss s.lines) e) in
     let one = flat_nil (λ x. line_faults vs (length ss) x.line (line_spelled (names_of vs) ss x)) s.lines f j l there in
-    subst (λ c. IsSoundLine vs c (line_spelled (names_of vs) ss l)) (length_mapped (λ (x : SourceState). x.name) p.states) (line_sound vs (length ss) l.line (line_spelled (names_of vs) ss l) one)
+    subst (λ c. IsSoundTransition vs c (line_spelled (names_of vs) ss l)) (length_mapped (λ (x : SourceState). x.name) p.states) (transition_sound vs (length ss) l.line (line_spelled (names_of vs) ss l) one)
 
 at_most : (n : ℕ) → nat_lt 64 n ≡ false → n ≤ 64
 at_most n e = grind (arith, nat_tests)
@@ -309,14 +309,14 @@ sound p k forked ends =
       variables_differ = ap names_differ (sym (names_declared p.declarations)) ∙ differ (declared_names p.declarations) k.variables_once;
       states_differ = ap names_differ (map_map (λ s. s.name) (state_spelled ns ss) p.states ∙ sym (names_stated p.states)) ∙ differ (declared_states p.states) k.states_once;
       reset_in = let h = k.reset in omega arith;
-      lines_sound = λ q l j at.
+      transitions_sound = λ q l j at.
           ⊎_elim
-          (λ none. let empty : lines_of (machine_of p) q ≡ [] = lines_none ns ss p.states q none in let gone : slice_get (lines_of (machine_of p) q) j ≡ None = ap (λ ls. slice_get ls j) empty in absurd (cc))
+          (λ none. let empty : transitions_of (machine_of p) q ≡ [] = lines_none ns ss p.states q none in let gone : slice_get (transitions_of (machine_of p) q) j ≡ None = ap (λ ls. slice_get ls j) empty in absurd (cc))
           (λ some.
-          let is : lines_of (machine_of p) q ≡ map (line_spelled ns ss) some.0.lines = lines_some ns ss p.states q some.0 some.1 in
+          let is : transitions_of (machine_of p) q ≡ map (line_spelled ns ss) some.0.lines = lines_some ns ss p.states q some.0 some.1 in
           let m = get_mapped (line_spelled ns ss) some.0.lines j l (ap (λ ls. slice_get ls j) (sym is) ∙ at) in
           let one = state_lines p k q some.0 some.1 j m.0 m.1.0 in
-          subst (λ c. IsSoundLine vs c l) (sym count) (subst (λ x. IsSoundLine vs (length p.states) x) (sym m.1.1) one))
+          subst (λ c. IsSoundTransition vs c l) (sym count) (subst (λ x. IsSoundTransition vs (length p.states) x) (sym m.1.1) one))
           (option_cases (slice_get p.states q));
       open_last = λ q h.
           let s = get_there p.states q (omega arith) in
@@ -326,7 +326,7 @@ sound p k forked ends =
           ⊎_elim
           (λ none. let zero_branches : branch_count (machine_of p) q ≡ 0 = ap (λ ls. length (branches_of ls)) (lines_none ns ss p.states q none) in omega arith)
           (λ some.
-          let tree = tree_of_lines (map (line_spelled ns ss) some.0.lines) in
+          let tree = tree_of_transitions (map (line_spelled ns ss) some.0.lines) in
           let is : branch_count (machine_of p) q ≡ count_leaves tree = ap (λ ls. length (branches_of ls)) (lines_some ns ss p.states q some.0 some.1) ∙ length_leaves tree [] in
           let few : count_leaves tree ≤ 64 = at_most (count_leaves tree) (kept (branches_too_often ns ss some.0) TooManyBranches some.0.line (flat_nil (λ s. broken_where (branches_too_often ns ss s) TooManyBranches s.line) p.states forked q some.0 some.1)) in
           omega arith)
@@ -342,7 +342,7 @@ or_rest false b e f = f
 pub not_endless : (m : Fsmd) (n q : ℕ) → reaches_cutpoint m n q ≡ true → ((k : ℕ) → is_cutpoint m (after_steps m k q) ≡ false) → ⊥
 not_endless m zero q e f = let g : is_cutpoint m q ≡ false = f zero in cc
 not_endless m (suc n) q e f =
-    not_endless m n (first_line_target (lines_of m q)) (or_rest (is_cutpoint m q) (reaches_cutpoint m n (first_line_target (lines_of m q))) (f zero) e) (λ k. f (suc k))
+    not_endless m n (first_transition_target (transitions_of m q)) (or_rest (is_cutpoint m q) (reaches_cutpoint m n (first_transition_target (transitions_of m q))) (f zero) e) (λ k. f (suc k))
 
 pub lawful : (p : Source) → plain_faults p ≡ [] → branch_faults p ≡ [] → ((q : ℕ) → q < length p.states → reaches_cutpoint (machine_of p) (length p.states) q ≡ true) → IsLawful p
 lawful p plain forked ends = record {
@@ -353,11 +353,11 @@ lawful p plain forked ends = record {
 
 -- ---- where first transitions lead
 
-first_low : (count : ℕ) (ls : List (Line ℕ ℕ)) (l : Line ℕ ℕ) → slice_get ls 0 ≡ Some l → l.target < count → first_line_target ls < count
+first_low : (count : ℕ) (ls : List (Transition ℕ ℕ)) (l : Transition ℕ ℕ) → slice_get ls 0 ≡ Some l → l.target < count → first_transition_target ls < count
 first_low count [] l e h = absurd (cc)
 first_low count (x ∷ ls) l e h = let same : x ≡ l = cc in subst (λ y. y.target < count) (sym same) h
 
-has_first : (ls : List SourceLine) → lacks_else ls ≡ false → 0 < length ls
+has_first : (ls : List SourceTransition) → lacks_else ls ≡ false → 0 < length ls
 has_first [] e = absurd (cc)
 has_first (l ∷ ls) e = omega arith
 
@@ -366,7 +366,7 @@ get_map f [] k x e = absurd (cc)
 get_map f (y ∷ xs) zero x e = let same : y ≡ x = cc in ap (λ z. Some (f z)) same
 get_map f (y ∷ xs) (suc k) x e = get_map f xs k x e
 
-pub lead_on : (p : Source) → AreKept p → (q : ℕ) → q < length p.states → first_line_target (lines_of (machine_of p) q) < length p.states
+pub lead_on : (p : Source) → AreKept p → (q : ℕ) → q < length p.states → first_transition_target (transitions_of (machine_of p) q) < length p.states
 lead_on p k q h =
     let vs = variables_of p.declarations in
     let ns = names_of vs in
@@ -375,5 +375,5 @@ lead_on p k q h =
     let e = state_ends p k q s.0 s.1 in
     let l = get_there s.0.lines 0 (has_first s.0.lines e.0) in
     let one = state_lines p k q s.0 s.1 0 l.0 l.1 in
-    subst (λ ls. first_line_target ls < length p.states) (sym (lines_some ns ss p.states q s.0 s.1))
+    subst (λ ls. first_transition_target ls < length p.states) (sym (lines_some ns ss p.states q s.0 s.1))
     (first_low (length p.states) (map (line_spelled ns ss) s.0.lines) (line_spelled ns ss l.0) (get_map (line_spelled ns ss) s.0.lines 0 l.0 l.1) one.target_in)

@@ -2,8 +2,8 @@
 use Rattle.std.proofs.Common.{◌≡◌, ℕ, Bool, List, ◌++◌, ◌∙◌, ap}
 use Rattle.std.specs.Prelude.{false, not, nat_lt, Option}
 use Rattle.fs_model.specs.declared.parts.VarInfo.{VarInfo}
-use Rattle.fs_model.specs.Terms.{Line}
-use Rattle.fs_model.specs.Source.{SourceLine, SourceState}
+use Rattle.fs_model.specs.Terms.{Transition}
+use Rattle.fs_model.specs.Source.{SourceTransition, SourceState}
 use Rattle.fs_ast.specs.declared.check.CheckRule.TheVariants.{UnknownName, WrongSort, AssignInput, AssignedTwice, UnknownState, NoElse, AfterElse}
 use Rattle.fs_ast.specs.declared.check.CheckFault.{CheckFault}
 use Rattle.fs_ast.specs.Sound.{assigned_in, all_differ}
@@ -11,7 +11,7 @@ use Rattle.fs_ast.specs.Rules.{uses_unknown, uses_wrong_sort, changes_input, lin
 use Rattle.fs_ast.specs.Earliest.{earliest}
 use Rattle.fs_ast.proofs.Firsts.{earliest_three}
 
-pub state_noted : (vs : List VarInfo) (ss : List (List ℕ)) (s : SourceState) (ls : List SourceLine) → ls ≡ s.lines → (known one two three : Option CheckFault) (b : Bool)
+pub state_noted : (vs : List VarInfo) (ss : List (List ℕ)) (s : SourceState) (ls : List SourceTransition) → ls ≡ s.lines → (known one two three : Option CheckFault) (b : Bool)
     → b ≡ lacks_else ls → one ≡ earliest known (broken_where b NoElse s.line) → two ≡ earliest one (at_lines AfterElse (after_else false ls)) → three ≡ earliest two (lines_faults vs ss ls)
     → three ≡ earliest known (state_faults vs ss s)
 state_noted vs ss s ls same known one two three b e f g h =
@@ -19,8 +19,8 @@ state_noted vs ss s ls same known one two three b e f g h =
     ∙ earliest_three known (broken_where (lacks_else ls) NoElse s.line) (at_lines AfterElse (after_else false ls)) (lines_faults vs ss ls)
     ∙ ap (λ l. earliest known (broken_where (lacks_else l) NoElse s.line ++ (at_lines AfterElse (after_else false l) ++ lines_faults vs ss l))) same
 
-pub line_noted : (vs : List VarInfo) (count n : ℕ) (l : Line ℕ ℕ) (known one two three four five : Option CheckFault) (unknown sort input twice target : Bool)
-    → unknown ≡ uses_unknown vs l → sort ≡ uses_wrong_sort vs l → input ≡ changes_input vs l → twice ≡ not (all_differ (assigned_in l.actions)) → target ≡ not (nat_lt l.target count)
+pub line_noted : (vs : List VarInfo) (count n : ℕ) (l : Transition ℕ ℕ) (known one two three four five : Option CheckFault) (unknown sort input twice target : Bool)
+    → unknown ≡ uses_unknown vs l → sort ≡ uses_wrong_sort vs l → input ≡ changes_input vs l → twice ≡ not (all_differ (assigned_in l.assignments)) → target ≡ not (nat_lt l.target count)
     → one ≡ earliest known (broken_where unknown UnknownName n) → two ≡ earliest one (broken_where sort WrongSort n) → three ≡ earliest two (broken_where input AssignInput n)
     → four ≡ earliest three (broken_where twice AssignedTwice n) → five ≡ earliest four (broken_where target UnknownState n)
     → five ≡ earliest known (line_faults vs count n l)
@@ -28,7 +28,7 @@ line_noted vs count n l known one two three four five unknown sort input twice t
     let u = broken_where (uses_unknown vs l) UnknownName n in
     let w = broken_where (uses_wrong_sort vs l) WrongSort n in
     let p = broken_where (changes_input vs l) AssignInput n in
-    let t = broken_where (not (all_differ (assigned_in l.actions))) AssignedTwice n in
+    let t = broken_where (not (all_differ (assigned_in l.assignments))) AssignedTwice n in
     let s = broken_where (not (nat_lt l.target count)) UnknownState n in
     let first : one ≡ earliest known u = f ∙ ap (λ x. earliest known (broken_where x UnknownName n)) a in
     let second : two ≡ earliest (earliest known u) w = g ∙ ap (λ x. earliest one (broken_where x WrongSort n)) b ∙ ap (λ k. earliest k w) first in

@@ -1,28 +1,28 @@
 -- Numbers in order of the text.
 use Rattle.std.proofs.Common.{◌≡◌, ℕ, ◌+◌, ◌<◌, List, [], ◌∷◌, ◌++◌, length, get_or, take, sym, ◌∙◌, ap, append_assoc, append-nil, zero, suc, arith}
 use Rattle.std.specs.Prelude.{ℤ, map}
-use Rattle.fs_model.specs.Terms.{Action, Line}
+use Rattle.fs_model.specs.Terms.{Assignment, Transition}
 use Rattle.fs_model.specs.Machines.{State}
-use Rattle.fs_ast.specs.Sound.{numbers_in_guard, numbers_in_action, numbers_in_actions, numbers_in_lines, numbers_in_states}
+use Rattle.fs_ast.specs.Sound.{numbers_in_condition, numbers_in_assignment, numbers_in_assignments, numbers_in_transitions, numbers_in_states}
 use Rattle.fs_ast.proofs.Turns.{taken_map}
 
-pub actions_push : (bs : List (Action ℕ)) (a : Action ℕ) → numbers_in_actions (bs ++ a ∷ []) ≡ numbers_in_actions bs ++ numbers_in_action a
-actions_push [] a = append-nil (numbers_in_action a)
-actions_push (b ∷ bs) a = ap (λ r. numbers_in_action b ++ r) (actions_push bs a) ∙ sym (append_assoc (numbers_in_action b) (numbers_in_actions bs) (numbers_in_action a))
+pub assignments_push : (bs : List (Assignment ℕ)) (a : Assignment ℕ) → numbers_in_assignments (bs ++ a ∷ []) ≡ numbers_in_assignments bs ++ numbers_in_assignment a
+assignments_push [] a = append-nil (numbers_in_assignment a)
+assignments_push (b ∷ bs) a = ap (λ r. numbers_in_assignment b ++ r) (assignments_push bs a) ∙ sym (append_assoc (numbers_in_assignment b) (numbers_in_assignments bs) (numbers_in_assignment a))
 
-abbrev pub numbers_in_line : Line ℕ ℕ → List ℤ
-numbers_in_line l = numbers_in_guard l.guard ++ numbers_in_actions l.actions
+abbrev pub numbers_in_transition : Transition ℕ ℕ → List ℤ
+numbers_in_transition l = numbers_in_condition l.guard ++ numbers_in_assignments l.assignments
 
-pub lines_push : (ls : List (Line ℕ ℕ)) (l : Line ℕ ℕ) → numbers_in_lines (ls ++ l ∷ []) ≡ numbers_in_lines ls ++ numbers_in_line l
-lines_push [] l = ap (λ r. numbers_in_guard l.guard ++ r) (append-nil (numbers_in_actions l.actions))
+pub lines_push : (ls : List (Transition ℕ ℕ)) (l : Transition ℕ ℕ) → numbers_in_transitions (ls ++ l ∷ []) ≡ numbers_in_transitions ls ++ numbers_in_transition l
+lines_push [] l = ap (λ r. numbers_in_condition l.guard ++ r) (append-nil (numbers_in_assignments l.assignments))
 lines_push (k ∷ ls) l =
-    ap (λ r. numbers_in_guard k.guard ++ (numbers_in_actions k.actions ++ r)) (lines_push ls l)
-    ∙ ap (λ r. numbers_in_guard k.guard ++ r) (sym (append_assoc (numbers_in_actions k.actions) (numbers_in_lines ls) (numbers_in_line l)))
-    ∙ sym (append_assoc (numbers_in_guard k.guard) (numbers_in_actions k.actions ++ numbers_in_lines ls) (numbers_in_line l))
+    ap (λ r. numbers_in_condition k.guard ++ (numbers_in_assignments k.assignments ++ r)) (lines_push ls l)
+    ∙ ap (λ r. numbers_in_condition k.guard ++ r) (sym (append_assoc (numbers_in_assignments k.assignments) (numbers_in_transitions ls) (numbers_in_transition l)))
+    ∙ sym (append_assoc (numbers_in_condition k.guard) (numbers_in_assignments k.assignments ++ numbers_in_transitions ls) (numbers_in_transition l))
 
-pub states_push : (ss : List State) (s : State) → numbers_in_states (ss ++ s ∷ []) ≡ numbers_in_states ss ++ numbers_in_lines s.lines
-states_push [] s = append-nil (numbers_in_lines s.lines)
-states_push (t ∷ ss) s = ap (λ r. numbers_in_lines t.lines ++ r) (states_push ss s) ∙ sym (append_assoc (numbers_in_lines t.lines) (numbers_in_states ss) (numbers_in_lines s.lines))
+pub states_push : (ss : List State) (s : State) → numbers_in_states (ss ++ s ∷ []) ≡ numbers_in_states ss ++ numbers_in_transitions s.lines
+states_push [] s = append-nil (numbers_in_transitions s.lines)
+states_push (t ∷ ss) s = ap (λ r. numbers_in_transitions t.lines ++ r) (states_push ss s) ∙ sym (append_assoc (numbers_in_transitions t.lines) (numbers_in_states ss) (numbers_in_transitions s.lines))
 
 -- numbers put at the end of those of what was done
 pub put_numbers : {A B : Type 0} (all : List B → List ℤ) (one : B → List ℤ) → ((bs : List B) (b : B) → all (bs ++ b ∷ []) ≡ all bs ++ one b) → (g : A → B) (xs : List A) (i : ℕ) (x : A) → i < length xs → x ≡ get_or xs i x

@@ -6,11 +6,11 @@ use Rattle.std.specs.Option.{option_to_list}
 use Rattle.std.proofs.lemmas.Bool.Decides.{nat_tests}
 use Rattle.std.proofs.lemmas.Option.{slice_get_within, slice_get-get_or}
 use Rattle.fs_model.specs.Source.{SourceState, Source}
-use Rattle.fs_model.specs.Machines.{State, Fsmd, lines_of}
+use Rattle.fs_model.specs.Machines.{State, Fsmd, transitions_of}
 use Rattle.fs_ast.specs.declared.check.CheckRule.TheVariants.{EndlessLine}
 use Rattle.fs_ast.specs.declared.check.CheckFault.{CheckFault}
 use Rattle.fs_ast.specs.Spelled.{names_of, variables_of, state_names, place, machine_of}
-use Rattle.fs_ast.specs.Sound.{first_line_target, is_cutpoint}
+use Rattle.fs_ast.specs.Sound.{first_transition_target, is_cutpoint}
 use Rattle.fs_ast.specs.Rules.{rank, is_sooner, plain_faults, branch_faults, after_steps, IsEndless, IsFirstBroken}
 use Rattle.fs_ast.specs.Earliest.{earliest}
 use Rattle.fs_ast.specs.Resolved.{placed_spelled}
@@ -141,7 +141,7 @@ lines_to lines (p ∷ qs) (suc i) q n e at = let r = lines_to lines qs i q n e a
 
 steps_alike : (m n : Fsmd) → m.states ≡ n.states → (k q : ℕ) → after_steps m k q ≡ after_steps n k q
 steps_alike m n e zero q = refl
-steps_alike m n e (suc k) q = steps_alike m n e k (first_line_target (lines_of m q)) ∙ ap (λ st. after_steps n k (first_line_target (slice_index_or st q no_state).lines)) e
+steps_alike m n e (suc k) q = steps_alike m n e k (first_transition_target (transitions_of m q)) ∙ ap (λ st. after_steps n k (first_transition_target (slice_index_or st q no_state).lines)) e
 
 endless_alike : (m n : Fsmd) → m.states ≡ n.states → m.reset ≡ n.reset → (q : ℕ) → IsEndless m q → IsEndless n q
 endless_alike m n e f q r = record {

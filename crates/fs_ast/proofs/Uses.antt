@@ -1,14 +1,14 @@
 -- Uses of two lists together.
 use Rattle.std.proofs.Common.{◌≡◌, ℕ, ◌+◌, ◌<◌, ◌≤◌, ◌==◌, length, get_or, take, drop, Bool, true, false, List, [], ◌∷◌, ◌++◌, refl, sym, ◌∙◌, ap, ap₂, append-nil, append_assoc, arith}
 use Rattle.std.specs.Prelude.{not, ◌&&◌, ◌||◌, map}
-use Rattle.fs_model.specs.Terms.{Action, Assign, Write}
+use Rattle.fs_model.specs.Terms.{Assignment, Assign, ArrayWrite}
 use Rattle.std.specs.List.{list_all, list_any}
 use Rattle.std.proofs.lemmas.List.{drop_all}
 use Rattle.std.proofs.lemmas.Bool.Decides.{nat_tests}
 use Rattle.fs_ast.proofs.Turns.{taken_map, left_map}
 use Rattle.std.proofs.lemmas.List.Folds.{list_all-append, list_any-append}
 use Rattle.fs_model.specs.declared.parts.VarInfo.{VarInfo}
-use Rattle.fs_ast.specs.Sound.{scalar_at, array_at, scalars_in_action, arrays_in_action, scalars_in_actions, arrays_in_actions, occurs, assigned_in, all_differ}
+use Rattle.fs_ast.specs.Sound.{scalar_at, array_at, scalars_in_assignment, arrays_in_assignment, scalars_in_assignments, arrays_in_assignments, occurs, assigned_in, all_differ}
 use Rattle.fs_ast.specs.Rules.{is_known}
 use Rattle.fs_ast.specs.Uses.{uses_of, either_of}
 
@@ -32,19 +32,19 @@ either_uses vs a b c d = λ k. record {
       ∙ ap₂ (λ (x y : Bool). x || y) (sym (list_any-append (array_at vs) a c)) (sym (list_any-append (scalar_at vs) b d))) k;
 }
 
-scalars_push : (bs : List (Action ℕ)) (a : Action ℕ) → scalars_in_actions (bs ++ a ∷ []) ≡ scalars_in_actions bs ++ scalars_in_action a
-scalars_push [] a = append-nil (scalars_in_action a)
-scalars_push (b ∷ bs) a = ap (λ r. scalars_in_action b ++ r) (scalars_push bs a) ∙ sym (append_assoc (scalars_in_action b) (scalars_in_actions bs) (scalars_in_action a))
+scalars_push : (bs : List (Assignment ℕ)) (a : Assignment ℕ) → scalars_in_assignments (bs ++ a ∷ []) ≡ scalars_in_assignments bs ++ scalars_in_assignment a
+scalars_push [] a = append-nil (scalars_in_assignment a)
+scalars_push (b ∷ bs) a = ap (λ r. scalars_in_assignment b ++ r) (scalars_push bs a) ∙ sym (append_assoc (scalars_in_assignment b) (scalars_in_assignments bs) (scalars_in_assignment a))
 
-arrays_push : (bs : List (Action ℕ)) (a : Action ℕ) → arrays_in_actions (bs ++ a ∷ []) ≡ arrays_in_actions bs ++ arrays_in_action a
-arrays_push [] a = append-nil (arrays_in_action a)
-arrays_push (b ∷ bs) a = ap (λ r. arrays_in_action b ++ r) (arrays_push bs a) ∙ sym (append_assoc (arrays_in_action b) (arrays_in_actions bs) (arrays_in_action a))
+arrays_push : (bs : List (Assignment ℕ)) (a : Assignment ℕ) → arrays_in_assignments (bs ++ a ∷ []) ≡ arrays_in_assignments bs ++ arrays_in_assignment a
+arrays_push [] a = append-nil (arrays_in_assignment a)
+arrays_push (b ∷ bs) a = ap (λ r. arrays_in_assignment b ++ r) (arrays_push bs a) ∙ sym (append_assoc (arrays_in_assignment b) (arrays_in_assignments bs) (arrays_in_assignment a))
 
--- one more action
-pub uses_push : (vs : List VarInfo) (bs : List (Action ℕ)) (a : Action ℕ)
-    → either_of (uses_of vs (scalars_in_actions bs) (arrays_in_actions bs)) (uses_of vs (scalars_in_action a) (arrays_in_action a)) ≡ uses_of vs (scalars_in_actions (bs ++ a ∷ [])) (arrays_in_actions (bs ++ a ∷ []))
+-- one more assignment
+pub uses_push : (vs : List VarInfo) (bs : List (Assignment ℕ)) (a : Assignment ℕ)
+    → either_of (uses_of vs (scalars_in_assignments bs) (arrays_in_assignments bs)) (uses_of vs (scalars_in_assignment a) (arrays_in_assignment a)) ≡ uses_of vs (scalars_in_assignments (bs ++ a ∷ [])) (arrays_in_assignments (bs ++ a ∷ []))
 uses_push vs bs a =
-    either_uses vs (scalars_in_actions bs) (arrays_in_actions bs) (scalars_in_action a) (arrays_in_action a)
+    either_uses vs (scalars_in_assignments bs) (arrays_in_assignments bs) (scalars_in_assignment a) (arrays_in_assignment a)
     ∙ ap₂ (uses_of vs) (sym (scalars_push bs a)) (sym (arrays_push bs a))
 
 -- each number is none of those before it, of which some are known
@@ -110,36 +110,36 @@ apart_nil (x ∷ xs) = apart_nil xs
 pub new_differ : (xs : List ℕ) → are_new [] xs ≡ all_differ xs
 new_differ xs = new_is [] xs ∙ ap (λ a. a && all_differ xs) (apart_nil xs)
 
-one_in : (a : Action ℕ) (bs : List (Action ℕ)) → assigned_in (a ∷ bs) ≡ assigned_in (a ∷ []) ++ assigned_in bs
+one_in : (a : Assignment ℕ) (bs : List (Assignment ℕ)) → assigned_in (a ∷ bs) ≡ assigned_in (a ∷ []) ++ assigned_in bs
 one_in (Assign x e) bs = refl
-one_in (Write x i e) bs = refl
+one_in (ArrayWrite x i e) bs = refl
 
-pub assigned_push : (bs : List (Action ℕ)) (a : Action ℕ) → assigned_in (bs ++ a ∷ []) ≡ assigned_in bs ++ assigned_in (a ∷ [])
+pub assigned_push : (bs : List (Assignment ℕ)) (a : Assignment ℕ) → assigned_in (bs ++ a ∷ []) ≡ assigned_in bs ++ assigned_in (a ∷ [])
 assigned_push [] a = refl
 assigned_push (Assign x e ∷ bs) a = ap (λ r. x ∷ r) (assigned_push bs a)
-assigned_push (Write x i e ∷ bs) a = assigned_push bs a
+assigned_push (ArrayWrite x i e ∷ bs) a = assigned_push bs a
 
 any_same : (p q : ℕ → Bool) → ((x : ℕ) → p x ≡ q x) → (xs : List ℕ) → list_any p xs ≡ list_any q xs
 any_same p q h [] = refl
 any_same p q h (x ∷ xs) = ap₂ (λ (a b : Bool). a || b) (h x) (any_same p q h xs)
 
-none_again : (a : Action ℕ) (seen rest : List ℕ) → list_any (λ q. occurs q seen) (assigned_in (a ∷ [])) ≡ false → are_new seen (assigned_in (a ∷ []) ++ rest) ≡ are_new (seen ++ assigned_in (a ∷ [])) rest
+none_again : (a : Assignment ℕ) (seen rest : List ℕ) → list_any (λ q. occurs q seen) (assigned_in (a ∷ [])) ≡ false → are_new seen (assigned_in (a ∷ []) ++ rest) ≡ are_new (seen ++ assigned_in (a ∷ [])) rest
 none_again (Assign x e) seen rest h = step_new (occurs x seen) (are_new (seen ++ x ∷ []) rest) h
-none_again (Write x i e) seen rest h = ap (λ r. are_new r rest) (sym (append-nil seen))
+none_again (ArrayWrite x i e) seen rest h = ap (λ r. are_new r rest) (sym (append-nil seen))
 
-some_again : (a : Action ℕ) (seen rest : List ℕ) → list_any (λ q. occurs q seen) (assigned_in (a ∷ [])) ≡ true → are_new seen (assigned_in (a ∷ []) ++ rest) ≡ false
+some_again : (a : Assignment ℕ) (seen rest : List ℕ) → list_any (λ q. occurs q seen) (assigned_in (a ∷ [])) ≡ true → are_new seen (assigned_in (a ∷ []) ++ rest) ≡ false
 some_again (Assign x e) seen rest h = step_old (occurs x seen) (are_new (seen ++ x ∷ []) rest) h
-some_again (Write x i e) seen rest h = cc
+some_again (ArrayWrite x i e) seen rest h = cc
 
--- one turn over actions, where the scalars seen are those assigned before
-pub record SeenTo (T : Type 0) (over : T → Action ℕ) (xs : List T) (i : ℕ) (has : ℕ → Bool) : Type 0 where
+-- one turn over assignments, where the scalars seen are those assigned before
+pub record SeenTo (T : Type 0) (over : T → Assignment ℕ) (xs : List T) (i : ℕ) (has : ℕ → Bool) : Type 0 where
   pub seen : (q : ℕ) → has q ≡ occurs q (assigned_in (map over (take i xs)))
   pub rest : are_new (assigned_in (map over (take i xs))) (assigned_in (map over (drop i xs))) ≡ all_differ (assigned_in (map over xs))
 
-pub seen_start : {T : Type 0} (over : T → Action ℕ) (xs : List T) (has : ℕ → Bool) → ((q : ℕ) → has q ≡ false) → SeenTo T over xs 0 has
+pub seen_start : {T : Type 0} (over : T → Assignment ℕ) (xs : List T) (has : ℕ → Bool) → ((q : ℕ) → has q ≡ false) → SeenTo T over xs 0 has
 seen_start over xs has h = record { seen = h; rest = new_differ (assigned_in (map over xs)) }
 
-pub seen_more : {T : Type 0} (over : T → Action ℕ) (xs : List T) (i : ℕ) (x : T) → i < length xs → x ≡ get_or xs i x → (has more : ℕ → Bool) → SeenTo T over xs i has
+pub seen_more : {T : Type 0} (over : T → Assignment ℕ) (xs : List T) (i : ℕ) (x : T) → i < length xs → x ≡ get_or xs i x → (has more : ℕ → Bool) → SeenTo T over xs i has
     → false ≡ list_any has (assigned_in (over x ∷ [])) → ((q : ℕ) → more q ≡ (has q || occurs q (assigned_in (over x ∷ [])))) → SeenTo T over xs (i + 1) more
 seen_more over xs i x h e has more s again put =
     let done = assigned_in (map over (take i xs)) in
@@ -152,7 +152,7 @@ seen_more over xs i x h e has more s again put =
       rest = ap (λ d. are_new d (assigned_in (map over (drop (i + 1) xs)))) t ∙ sym (none_again (over x) done (assigned_in (map over (drop (i + 1) xs))) none) ∙ ap (are_new done) (sym l) ∙ s.rest;
     }
 
-pub seen_again : {T : Type 0} (over : T → Action ℕ) (xs : List T) (i : ℕ) (x : T) → i < length xs → x ≡ get_or xs i x → (has : ℕ → Bool) → SeenTo T over xs i has
+pub seen_again : {T : Type 0} (over : T → Assignment ℕ) (xs : List T) (i : ℕ) (x : T) → i < length xs → x ≡ get_or xs i x → (has : ℕ → Bool) → SeenTo T over xs i has
     → true ≡ list_any has (assigned_in (over x ∷ [])) → all_differ (assigned_in (map over xs)) ≡ false
 seen_again over xs i x h e has s again =
     let done = assigned_in (map over (take i xs)) in
@@ -161,5 +161,5 @@ seen_again over xs i x h e has s again =
     let some : list_any (λ q. occurs q done) one ≡ true = sym (any_same has (λ q. occurs q done) s.seen one) ∙ sym again in
     sym s.rest ∙ ap (are_new done) l ∙ some_again (over x) done (assigned_in (map over (drop (i + 1) xs))) some
 
-pub seen_all : {T : Type 0} (over : T → Action ℕ) (xs : List T) (i : ℕ) (has : ℕ → Bool) → length xs ≤ i → SeenTo T over xs i has → all_differ (assigned_in (map over xs)) ≡ true
+pub seen_all : {T : Type 0} (over : T → Assignment ℕ) (xs : List T) (i : ℕ) (has : ℕ → Bool) → length xs ≤ i → SeenTo T over xs i has → all_differ (assigned_in (map over xs)) ≡ true
 seen_all over xs i has h s = sym s.rest ∙ ap (λ r. are_new (assigned_in (map over (take i xs))) (assigned_in (map over r))) (drop_all i xs h)

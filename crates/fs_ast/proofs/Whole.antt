@@ -5,13 +5,13 @@ use Rattle.std.specs.List.{list_all, flat_map, slice_index_or}
 use Rattle.std.specs.Option.{option_to_list}
 use Rattle.fs_model.specs.declared.parts.VarInfo.{VarInfo}
 use Rattle.fs_model.specs.Source.{Source}
-use Rattle.fs_model.specs.Machines.{State, Fsmd, lines_of}
+use Rattle.fs_model.specs.Machines.{State, Fsmd, transitions_of}
 use Rattle.fs_model.specs.Trees.{branches_of}
 use Rattle.fs_ast.specs.declared.check.CheckRule.TheVariants.{EndlessLine}
 use Rattle.fs_ast.specs.declared.check.CheckFault.{CheckFault}
 use Rattle.fs_ast.specs.declared.resolve.State.{State as NumberedState}
 use Rattle.fs_ast.specs.Spelled.{variables_of, names_of, state_names, place, machine_of}
-use Rattle.fs_ast.specs.Sound.{first_line_target, is_cutpoint, reaches_cutpoint}
+use Rattle.fs_ast.specs.Sound.{first_transition_target, is_cutpoint, reaches_cutpoint}
 use Rattle.fs_ast.specs.Rules.{at_lines, declared_states, branch_faults}
 use Rattle.fs_ast.specs.Earliest.{sooner, earliest}
 use Rattle.fs_ast.specs.Places.{names_in}
@@ -90,7 +90,7 @@ pub leads_placed : (p : Source) → AreKept p → LeadOn (placed p)
 leads_placed p k q h =
     let count : length (placed p) ≡ length p.states = length_mapped (placed_spelled (names_of (variables_of p.declarations)) (state_names p.states)) p.states in
     let low = lead_on p k q (omega arith) in
-    let same : first_line_target (lines_of (skeleton (placed p) 0) q) ≡ first_line_target (lines_of (machine_of p) q) = ap (λ st. first_line_target (slice_index_or st q no_state).lines) (placed_states p) in
+    let same : first_transition_target (transitions_of (skeleton (placed p) 0) q) ≡ first_transition_target (transitions_of (machine_of p) q) = ap (λ st. first_transition_target (slice_index_or st q no_state).lines) (placed_states p) in
     omega arith
 
 -- ---- branches and endless lines
@@ -114,7 +114,7 @@ reach_same : (m n : Fsmd) → m.states ≡ n.states → m.reset ≡ n.reset → 
 reach_same m n e f zero q = cut_same m n e f q
 reach_same m n e f (suc k) q =
     ap₂ (λ (a b : Bool). a || b) (cut_same m n e f q)
-    (reach_same m n e f k (first_line_target (lines_of m q)) ∙ ap (λ st. reaches_cutpoint n k (first_line_target (slice_index_or st q no_state).lines)) e)
+    (reach_same m n e f k (first_transition_target (transitions_of m q)) ∙ ap (λ st. reaches_cutpoint n k (first_transition_target (slice_index_or st q no_state).lines)) e)
 
 pub late_kept : (p : Source) (ss : List (ℕ × State)) (reset : ℕ) (first : Option CheckFault) → ss ≡ placed p → reset ≡ place (state_names p.states) p.reset → first ≡ None → IsLate ss reset first
     → (branch_faults p ≡ []) × ((q : ℕ) → q < length p.states → reaches_cutpoint (machine_of p) (length p.states) q ≡ true)

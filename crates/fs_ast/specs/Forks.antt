@@ -1,7 +1,7 @@
 -- Decision trees as the code has them, and how many leaves a guard gives.
 use Rattle.std.specs.Prelude.{ℕ, ◌+◌, min, Option, Some, None}
 use Rattle.fs_model.specs.View.{literal_of}
-use Rattle.fs_model.specs.Terms.{Formula, Test, Not, And, Or}
+use Rattle.fs_model.specs.Terms.{Guard, Test, Not, And, Or}
 use Rattle.fs_model.specs.Trees.{Tree, Empty, Leaf, Node}
 use Rattle.fs_ast.specs.declared.trees.Fork.{Fork}
 use Rattle.fs_ast.specs.declared.trees.Fork.TheVariants.{Nowhere, Take, Ask'}
@@ -10,20 +10,20 @@ use Rattle.fs_ast.specs.Resolved.{line_of}
 -- the tree that a value of the code stands for
 abbrev pub tree_of : Fork → Tree
 tree_of Nowhere = Empty
-tree_of (Take l) = Leaf (line_of l.now).actions (line_of l.now).target
+tree_of (Take l) = Leaf (line_of l.now).assignments (line_of l.now).target
 tree_of (Ask' l p on_yes q on_no) = Node (literal_of l.now) (tree_of on_yes) (tree_of on_no)
 
 -- the leaves of the tree of a guard, from those of its two subtrees
-abbrev pub leaves_by : Formula ℕ → (on_yes on_no : ℕ) → ℕ
+abbrev pub leaves_by : Guard ℕ → (on_yes on_no : ℕ) → ℕ
 leaves_by (Test l) on_yes on_no = on_yes + on_no
 leaves_by (Not c) on_yes on_no = leaves_by c on_no on_yes
 leaves_by (And c d) on_yes on_no = leaves_by c (leaves_by d on_yes on_no) on_no
 leaves_by (Or c d) on_yes on_no = leaves_by c on_yes (leaves_by d on_yes on_no)
 
 -- the same where there may be no guard
-abbrev pub leaves_by_guard : Option (Formula ℕ) → (on_yes on_no : ℕ) → ℕ
-leaves_by_guard None on_yes on_no = on_yes
-leaves_by_guard (Some c) on_yes on_no = leaves_by c on_yes on_no
+abbrev pub leaves_by_condition : Option (Guard ℕ) → (on_yes on_no : ℕ) → ℕ
+leaves_by_condition None on_yes on_no = on_yes
+leaves_by_condition (Some c) on_yes on_no = leaves_by c on_yes on_no
 
 -- a number of leaves, or 65 where there are more
 abbrev pub capped : ℕ → ℕ

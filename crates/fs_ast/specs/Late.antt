@@ -2,17 +2,17 @@
 use Rattle.std.specs.Prelude.{◌≡◌, ℕ, ◌<◌, nat_lt, true, List, [], length, map, Option, Some, None, slice_get}
 use Rattle.std.specs.List.{list_all, flat_map}
 use Rattle.std.specs.Option.{option_to_list}
-use Rattle.fs_model.specs.Machines.{State, Fsmd, lines_of}
-use Rattle.fs_model.specs.Trees.{tree_of_lines, count_leaves}
+use Rattle.fs_model.specs.Machines.{State, Fsmd, transitions_of}
+use Rattle.fs_model.specs.Trees.{tree_of_transitions, count_leaves}
 use Rattle.fs_ast.specs.declared.check.CheckRule.TheVariants.{TooManyBranches, EndlessLine}
 use Rattle.fs_ast.specs.declared.check.CheckFault.{CheckFault}
-use Rattle.fs_ast.specs.Sound.{most_branches, first_line_target, reaches_cutpoint}
+use Rattle.fs_ast.specs.Sound.{most_branches, first_transition_target, reaches_cutpoint}
 use Rattle.fs_ast.specs.Rules.{at_lines, broken_where, IsEndless}
 use Rattle.fs_ast.specs.Earliest.{earliest}
 
 -- the states of these, each with its line, that have too many branches
 abbrev pub forked_faults : List (ℕ × State) → List CheckFault
-forked_faults ss = flat_map (λ s. broken_where (nat_lt most_branches (count_leaves (tree_of_lines s.1.lines))) TooManyBranches s.0) ss
+forked_faults ss = flat_map (λ s. broken_where (nat_lt most_branches (count_leaves (tree_of_transitions s.1.lines))) TooManyBranches s.0) ss
 
 -- endless lines at states by their places
 abbrev pub endless_faults : List (ℕ × State) → List ℕ → List CheckFault
@@ -24,7 +24,7 @@ skeleton ss reset = record { variables = []; reset = reset; states = map (λ s. 
 
 -- each state's first transition leads to a state
 abbrev pub LeadOn : List (ℕ × State) → Type 0
-LeadOn ss = (q : ℕ) → q < length ss → first_line_target (lines_of (skeleton ss 0) q) < length ss
+LeadOn ss = (q : ℕ) → q < length ss → first_transition_target (transitions_of (skeleton ss 0) q) < length ss
 
 -- the first of the broken rules on branches and on endless lines
 pub record IsLate (ss : List (ℕ × State)) (reset : ℕ) (first : Option CheckFault) : Type 0 where

@@ -1,16 +1,16 @@
 -- Transitions and states over numbers, as the code has them.
 use Rattle.std.specs.Prelude.{ℕ, List, map, option_map}
-use Rattle.fs_model.specs.Terms.{Line}
+use Rattle.fs_model.specs.Terms.{Transition}
 use Rattle.fs_model.specs.Machines.{State}
-use Rattle.fs_model.specs.View.{formula_of, action_of}
+use Rattle.fs_model.specs.View.{guard_of, assignment_of}
 use Rattle.fs_model.specs.Source.{SourceState}
 use Rattle.fs_ast.specs.Spelled.{state_spelled}
-use Rattle.fs_ast.specs.declared.resolve.Line.{Line as NumberedLine}
+use Rattle.fs_ast.specs.declared.resolve.Transition.{Transition as NumberedLine}
 use Rattle.fs_ast.specs.declared.resolve.State.{State as NumberedState}
 
 -- what a transition says
-abbrev pub line_of : NumberedLine → Line ℕ ℕ
-line_of l = record { guard = option_map formula_of l.guard; target = l.target.0; actions = map action_of l.assigns.items }
+abbrev pub line_of : NumberedLine → Transition ℕ ℕ
+line_of l = record { guard = option_map guard_of l.guard; target = l.target.0; assignments = map assignment_of l.assigns.items }
 
 -- what a state says
 abbrev pub state_of : NumberedState → State

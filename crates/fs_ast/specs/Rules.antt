@@ -3,15 +3,15 @@ use Rattle.std.specs.Prelude.{◌≡◌, ℕ, zero, suc, ◌<◌, ◌==◌, nat_
 use Rattle.std.specs.List.{list_all, list_any, flat_map}
 use Rattle.std.specs.Str.{bytes_eq}
 use Rattle.fs_model.specs.declared.parts.VarInfo.{VarInfo}
-use Rattle.fs_model.specs.Terms.{Line}
-use Rattle.fs_model.specs.Source.{Declaration, SourceLine, SourceState, Source}
-use Rattle.fs_model.specs.Machines.{Fsmd, lines_of}
-use Rattle.fs_model.specs.Trees.{tree_of_lines, count_leaves}
+use Rattle.fs_model.specs.Terms.{Transition}
+use Rattle.fs_model.specs.Source.{Declaration, SourceTransition, SourceState, Source}
+use Rattle.fs_model.specs.Machines.{Fsmd, transitions_of}
+use Rattle.fs_model.specs.Trees.{tree_of_transitions, count_leaves}
 use Rattle.fs_ast.specs.declared.check.CheckRule.{CheckRule}
 use Rattle.fs_ast.specs.declared.check.CheckRule.TheVariants.{TwiceNamed, UnknownName, WrongSort, AssignInput, AssignedTwice, NoElse, AfterElse, TooManyBranches, EndlessLine, UnknownState, TooMany}
 use Rattle.fs_ast.specs.declared.check.CheckFault.{CheckFault}
 use Rattle.fs_ast.specs.Spelled.{variables_of, names_of, state_names, place, line_spelled, machine_of}
-use Rattle.fs_ast.specs.Sound.{most_variables, most_states, most_branches, scalar_at, array_at, input_at, all_differ, assigned_in, changed_by, scalars_in_guard, arrays_in_guard, scalars_in_actions, arrays_in_actions, is_cutpoint, first_line_target}
+use Rattle.fs_ast.specs.Sound.{most_variables, most_states, most_branches, scalar_at, array_at, input_at, all_differ, assigned_in, changed_by, scalars_in_condition, arrays_in_condition, scalars_in_assignments, arrays_in_assignments, is_cutpoint, first_transition_target}
 
 -- a rule at each of these lines
 abbrev pub at_lines : CheckRule → List ℕ → List CheckFault
@@ -41,33 +41,33 @@ past most ns = map (λ n. n.0) (take 1 (drop most ns))
 abbrev pub is_known : List VarInfo → ℕ → Bool
 is_known vs x = nat_lt x (length vs)
 
-abbrev pub uses_unknown : List VarInfo → Line ℕ ℕ → Bool
-uses_unknown vs l = not (list_all (is_known vs) (scalars_in_guard l.guard ++ scalars_in_actions l.actions) && list_all (is_known vs) (arrays_in_guard l.guard ++ arrays_in_actions l.actions))
+abbrev pub uses_unknown : List VarInfo → Transition ℕ ℕ → Bool
+uses_unknown vs l = not (list_all (is_known vs) (scalars_in_condition l.guard ++ scalars_in_assignments l.assignments) && list_all (is_known vs) (arrays_in_condition l.guard ++ arrays_in_assignments l.assignments))
 
-abbrev pub uses_wrong_sort : List VarInfo → Line ℕ ℕ → Bool
-uses_wrong_sort vs l = list_any (array_at vs) (scalars_in_guard l.guard ++ scalars_in_actions l.actions) || list_any (scalar_at vs) (arrays_in_guard l.guard ++ arrays_in_actions l.actions)
+abbrev pub uses_wrong_sort : List VarInfo → Transition ℕ ℕ → Bool
+uses_wrong_sort vs l = list_any (array_at vs) (scalars_in_condition l.guard ++ scalars_in_assignments l.assignments) || list_any (scalar_at vs) (arrays_in_condition l.guard ++ arrays_in_assignments l.assignments)
 
-abbrev pub changes_input : List VarInfo → Line ℕ ℕ → Bool
-changes_input vs l = list_any (λ a. input_at vs (changed_by a)) l.actions
+abbrev pub changes_input : List VarInfo → Transition ℕ ℕ → Bool
+changes_input vs l = list_any (λ a. input_at vs (changed_by a)) l.assignments
 
 -- the rules of one transition, of which n is the line
-abbrev pub line_faults : List VarInfo → ℕ → ℕ → Line ℕ ℕ → List CheckFault
+abbrev pub line_faults : List VarInfo → ℕ → ℕ → Transition ℕ ℕ → List CheckFault
 line_faults vs count n l =
     broken_where (uses_unknown vs l) UnknownName n ++ (broken_where (uses_wrong_sort vs l) WrongSort n ++ (broken_where (changes_input vs l) AssignInput n
-    ++ (broken_where (not (all_differ (assigned_in l.actions))) AssignedTwice n ++ broken_where (not (nat_lt l.target count)) UnknownState n)))
+    ++ (broken_where (not (all_differ (assigned_in l.assignments))) AssignedTwice n ++ broken_where (not (nat_lt l.target count)) UnknownState n)))
 
 -- no transition is there, or the last has a guard
-abbrev pub lacks_else : List SourceLine → Bool
+abbrev pub lacks_else : List SourceTransition → Bool
 lacks_else [] = true
 lacks_else (l ∷ []) = is_some l.content.guard
 lacks_else (l ∷ k ∷ rest) = lacks_else (k ∷ rest)
 
 -- the lines of the transitions after one without guard
-abbrev pub after_else : Bool → List SourceLine → List ℕ
+abbrev pub after_else : Bool → List SourceTransition → List ℕ
 after_else seen [] = []
 after_else seen (l ∷ ls) = cond seen (l.line ∷ after_else true ls) (after_else (not (is_some l.content.guard)) ls)
 
-abbrev pub lines_faults : List VarInfo → List (List ℕ) → List SourceLine → List CheckFault
+abbrev pub lines_faults : List VarInfo → List (List ℕ) → List SourceTransition → List CheckFault
 lines_faults vs ss ls = flat_map (λ l. line_faults vs (length ss) l.line (line_spelled (names_of vs) ss l)) ls
 
 abbrev pub state_faults : List VarInfo → List (List ℕ) → SourceState → List CheckFault
@@ -83,7 +83,7 @@ plain_faults p =
 
 -- whether the tree of a state's transitions has too many leaves
 abbrev pub branches_too_often : List (List ℕ) → List (List ℕ) → SourceState → Bool
-branches_too_often vs ss s = nat_lt most_branches (count_leaves (tree_of_lines (map (line_spelled vs ss) s.lines)))
+branches_too_often vs ss s = nat_lt most_branches (count_leaves (tree_of_transitions (map (line_spelled vs ss) s.lines)))
 
 abbrev pub branch_faults : Source → List CheckFault
 branch_faults p = flat_map (λ s. broken_where (branches_too_often (names_of (variables_of p.declarations)) (state_names p.states) s) TooManyBranches s.line) p.states
@@ -91,7 +91,7 @@ branch_faults p = flat_map (λ s. broken_where (branches_too_often (names_of (va
 -- the state that n steps by first transitions lead to
 abbrev pub after_steps : Fsmd → ℕ → ℕ → ℕ
 after_steps m zero q = q
-after_steps m (suc n) q = after_steps m n (first_line_target (lines_of m q))
+after_steps m (suc n) q = after_steps m n (first_transition_target (transitions_of m q))
 
 -- going on from a state comes back to it and passes no cutpoint
 pub record IsEndless (m : Fsmd) (q : ℕ) : Type 0 where

@@ -3,8 +3,8 @@ use Rattle.std.specs.Prelude.{ℕ, suc, cond, List, [], ◌∷◌, map, option_m
 use Rattle.std.specs.List.{flat_map}
 use Rattle.std.specs.Str.{bytes_eq}
 use Rattle.fs_model.specs.declared.parts.VarInfo.{VarInfo}
-use Rattle.fs_model.specs.Terms.{Term, Number, Variable, Read, Sum, Difference, Product, Quotient, Remainder, Negative, Literal, Formula, Test, Not, And, Or, Action, Assign, Write, Line}
-use Rattle.fs_model.specs.Source.{Declaration, SourceLine, SourceState, Source}
+use Rattle.fs_model.specs.Terms.{Term, Number, Variable, Read, Sum, Difference, Product, Quotient, Remainder, Negative, Literal, Guard, Test, Not, And, Or, Assignment, Assign, ArrayWrite, Transition}
+use Rattle.fs_model.specs.Source.{Declaration, SourceTransition, SourceState, Source}
 use Rattle.fs_model.specs.Machines.{State, Fsmd}
 
 -- the first place of a name, and the length of the list where it has none
@@ -40,22 +40,22 @@ term_over f (Negative a) = Negative (term_over f a)
 abbrev pub literal_over : {X Y : Type 0} → (X → Y) → Literal X → Literal Y
 literal_over f l = record { relation = l.relation; left = term_over f l.left; right = term_over f l.right }
 
-abbrev pub formula_over : {X Y : Type 0} → (X → Y) → Formula X → Formula Y
-formula_over f (Test l) = Test (literal_over f l)
-formula_over f (Not g) = Not (formula_over f g)
-formula_over f (And a b) = And (formula_over f a) (formula_over f b)
-formula_over f (Or a b) = Or (formula_over f a) (formula_over f b)
+abbrev pub guard_over : {X Y : Type 0} → (X → Y) → Guard X → Guard Y
+guard_over f (Test l) = Test (literal_over f l)
+guard_over f (Not g) = Not (guard_over f g)
+guard_over f (And a b) = And (guard_over f a) (guard_over f b)
+guard_over f (Or a b) = Or (guard_over f a) (guard_over f b)
 
-abbrev pub action_over : {X Y : Type 0} → (X → Y) → Action X → Action Y
-action_over f (Assign x e) = Assign (f x) (term_over f e)
-action_over f (Write x i e) = Write (f x) (term_over f i) (term_over f e)
+abbrev pub assignment_over : {X Y : Type 0} → (X → Y) → Assignment X → Assignment Y
+assignment_over f (Assign x e) = Assign (f x) (term_over f e)
+assignment_over f (ArrayWrite x i e) = ArrayWrite (f x) (term_over f i) (term_over f e)
 
 -- the same transition, where f tells the variables and g the states
-abbrev pub line_over : {X Y S T : Type 0} → (X → Y) → (S → T) → Line X S → Line Y T
-line_over f g l = record { guard = option_map (formula_over f) l.guard; target = g l.target; actions = map (action_over f) l.actions }
+abbrev pub line_over : {X Y S T : Type 0} → (X → Y) → (S → T) → Transition X S → Transition Y T
+line_over f g l = record { guard = option_map (guard_over f) l.guard; target = g l.target; assignments = map (assignment_over f) l.assignments }
 
 -- a transition over the places of names
-abbrev pub line_spelled : List (List ℕ) → List (List ℕ) → SourceLine → Line ℕ ℕ
+abbrev pub line_spelled : List (List ℕ) → List (List ℕ) → SourceTransition → Transition ℕ ℕ
 line_spelled vs ss l = line_over (place vs) (place ss) l.content
 
 abbrev pub state_spelled : List (List ℕ) → List (List ℕ) → SourceState → State

@@ -2,11 +2,11 @@
 
 ghost use Rattle.std.specs.Prelude.{◌≡◌, ◌++◌, map, option_map, IfOk};
 ghost use Rattle.std.specs.Result.{OnOk};
-ghost use Rattle.fs_model.specs.View.{term_of, formula_of, action_of};
-ghost use Rattle.fs_ast.specs.Sound.{numbers_in, numbers_in_formula, numbers_in_guard, numbers_in_action, numbers_in_actions, numbers_in_lines, numbers_in_states};
+ghost use Rattle.fs_model.specs.View.{term_of, guard_of, assignment_of};
+ghost use Rattle.fs_ast.specs.Sound.{numbers_in, numbers_in_guard, numbers_in_condition, numbers_in_assignment, numbers_in_assignments, numbers_in_transitions, numbers_in_states};
 ghost use Rattle.fs_ast.specs.Resolved.{line_of, state_of};
 
-use crate::resolve::{Line, State};
+use crate::resolve::{Transition, State};
 use crate::scope::push;
 use fs_model::name::NoMemory;
 use fs_model::parts::{Assign, Expr, Guard, VarId};
@@ -23,8 +23,8 @@ pub fn constants_of(alloc: Global, states: &[State]) -> Result<Vec<i128>, NoMemo
     Ok(out)
 }
 
-fn add_lines(out: &mut Vec<i128>, lines: &[Line]) -> Result<(), NoMemory>
-    ensures { OnOk result (out.new.items ≡ out.old.items ++ numbers_in_lines (map line_of lines.now)) }
+fn add_lines(out: &mut Vec<i128>, lines: &[Transition]) -> Result<(), NoMemory>
+    ensures { OnOk result (out.new.items ≡ out.old.items ++ numbers_in_transitions (map line_of lines.now)) }
 {
     for line in lines {
         add_line(out, line)?;
@@ -32,8 +32,8 @@ fn add_lines(out: &mut Vec<i128>, lines: &[Line]) -> Result<(), NoMemory>
     Ok(())
 }
 
-fn add_line(out: &mut Vec<i128>, line: &Line) -> Result<(), NoMemory>
-    ensures { OnOk result (out.new.items ≡ out.old.items ++ (numbers_in_guard (line_of line.now).guard ++ numbers_in_actions (line_of line.now).actions)) }
+fn add_line(out: &mut Vec<i128>, line: &Transition) -> Result<(), NoMemory>
+    ensures { OnOk result (out.new.items ≡ out.old.items ++ (numbers_in_condition (line_of line.now).guard ++ numbers_in_assignments (line_of line.now).assignments)) }
 {
     if let Some(guard) = &line.guard {
         add_guard(out, guard)?;
@@ -42,7 +42,7 @@ fn add_line(out: &mut Vec<i128>, line: &Line) -> Result<(), NoMemory>
 }
 
 fn add_guard(out: &mut Vec<i128>, guard: &Guard<VarId>) -> Result<(), NoMemory>
-    ensures { OnOk result (out.new.items ≡ out.old.items ++ numbers_in_formula (formula_of guard.now)) }
+    ensures { OnOk result (out.new.items ≡ out.old.items ++ numbers_in_guard (guard_of guard.now)) }
 {
     match guard {
         Guard::Lit(lit) => {
@@ -58,7 +58,7 @@ fn add_guard(out: &mut Vec<i128>, guard: &Guard<VarId>) -> Result<(), NoMemory>
 }
 
 fn add_assigns(out: &mut Vec<i128>, assigns: &[Assign<VarId>]) -> Result<(), NoMemory>
-    ensures { OnOk result (out.new.items ≡ out.old.items ++ numbers_in_actions (map action_of assigns.now)) }
+    ensures { OnOk result (out.new.items ≡ out.old.items ++ numbers_in_assignments (map assignment_of assigns.now)) }
 {
     for assign in assigns {
         add_assign(out, assign)?;
@@ -67,7 +67,7 @@ fn add_assigns(out: &mut Vec<i128>, assigns: &[Assign<VarId>]) -> Result<(), NoM
 }
 
 fn add_assign(out: &mut Vec<i128>, assign: &Assign<VarId>) -> Result<(), NoMemory>
-    ensures { OnOk result (out.new.items ≡ out.old.items ++ numbers_in_action (action_of assign.now)) }
+    ensures { OnOk result (out.new.items ≡ out.old.items ++ numbers_in_assignment (assignment_of assign.now)) }
 {
     match assign {
         Assign::Set(_, value) => add_expr(out, value),

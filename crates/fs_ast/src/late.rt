@@ -2,17 +2,17 @@
 
 ghost use Rattle.std.specs.Prelude.{◌≡◌, ◌<◌, ◌||◌, ◌==◌, ℕ, [], ◌∷◌, length, map, nat_lt, false, IfOk};
 ghost use Rattle.std.specs.List.{slice_index_or};
-ghost use Rattle.fs_ast.specs.Sound.{first_line_target, is_cutpoint};
+ghost use Rattle.fs_ast.specs.Sound.{first_transition_target, is_cutpoint};
 ghost use Rattle.fs_ast.specs.Earliest.{earliest};
 ghost use Rattle.fs_ast.specs.Resolved.{line_of, state_of, placed_of};
 ghost use Rattle.fs_ast.specs.Walks.{is_cut};
-ghost use Rattle.fs_model.specs.Trees.{tree_of_lines, count_leaves};
+ghost use Rattle.fs_model.specs.Trees.{tree_of_transitions, count_leaves};
 ghost use Rattle.fs_ast.specs.Late.{forked_faults, endless_faults, skeleton, LeadOn, IsLate};
 
 use crate::check::{CheckFault, CheckRule};
 use crate::endless::find_endless;
 use crate::faults::Faults;
-use crate::resolve::{Line, State};
+use crate::resolve::{Transition, State};
 use crate::scope::push;
 use crate::trees::{BRANCH_LIMIT, count_leaves};
 use fs_model::name::NoMemory;
@@ -68,18 +68,18 @@ fn note_endless_at(states: &[State], place: usize, faults: &mut Faults)
 
 /// Where the first transition of each state leads.
 fn first_targets(alloc: Global, states: &[State]) -> Result<Vec<usize>, NoMemory>
-    ensures { IfOk result (λ next. next.items ≡ map (λ s. first_line_target (state_of s).lines) states.now) }
+    ensures { IfOk result (λ next. next.items ≡ map (λ s. first_transition_target (state_of s).lines) states.now) }
 {
     let mut next = Vec::new(alloc);
     for state in states {
-        push(&mut next, first_line_target(state.lines.as_slice()))?;
+        push(&mut next, first_transition_target(state.lines.as_slice()))?;
     }
     Ok(next)
 }
 
 /// Where the first of some transitions leads.
-fn first_line_target(lines: &[Line]) -> usize
-    ensures { result ≡ first_line_target (map line_of lines.now) }
+fn first_transition_target(lines: &[Transition]) -> usize
+    ensures { result ≡ first_transition_target (map line_of lines.now) }
 {
     match lines {
         [] => 0,
@@ -89,7 +89,7 @@ fn first_line_target(lines: &[Line]) -> usize
 
 /// Whether a state at a place cuts paths.
 fn cuts(state: &State, place: usize, reset: usize) -> bool
-    ensures { result ≡ (place == reset || nat_lt 1 (count_leaves (tree_of_lines (state_of state.now).lines))) }
+    ensures { result ≡ (place == reset || nat_lt 1 (count_leaves (tree_of_transitions (state_of state.now).lines))) }
 {
     place == reset || count_leaves(state.lines.as_slice()) > 1
 }

@@ -1,7 +1,7 @@
 //! Machines that were checked.
 
 ghost use Rattle.std.specs.Prelude.{◌≡◌, ◌<◌, length, map, IfOk};
-ghost use Rattle.fs_model.specs.Machines.{lines_of};
+ghost use Rattle.fs_model.specs.Machines.{transitions_of};
 ghost use Rattle.fs_model.specs.Trees.{branches_of};
 ghost use Rattle.fs_model.specs.View.{branch_of};
 ghost use Rattle.fs_ast.specs.Sound.{IsSound, numbers_in_states};
@@ -81,7 +81,7 @@ impl Machine {
     /// The branches of a state: the leaves of its decision tree, yes before no. Takes no memory.
     pub fn branches(&self, s: StateId) -> &[Branch]
         requires { s.0 < length self.now.states }
-        ensures branches { map branch_of result.now ≡ branches_of (lines_of self.now s.0) }
+        ensures branches { map branch_of result.now ≡ branches_of (transitions_of self.now s.0) }
         ensures sound { IsSound self.now }
     {
         self.branches[s.0 as usize].as_slice()

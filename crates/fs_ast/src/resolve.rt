@@ -1,8 +1,8 @@
 //! Transitions over the numbers of variables and states.
 
 ghost use Rattle.std.specs.Prelude.{◌≡◌, ◌≤◌, length, map, option_map, IfOk};
-ghost use Rattle.fs_model.specs.View.{named_term, named_formula, named_action, term_of, literal_of, formula_of, action_of, source_line_of, source_state_of};
-ghost use Rattle.fs_ast.specs.Spelled.{place, names_of, term_over, formula_over, action_over, line_spelled};
+ghost use Rattle.fs_model.specs.View.{named_term, named_guard, named_assignment, term_of, literal_of, guard_of, assignment_of, source_transition_of, source_state_of};
+ghost use Rattle.fs_ast.specs.Spelled.{place, names_of, term_over, guard_over, assignment_over, line_spelled};
 ghost use Rattle.fs_ast.specs.Places.{names_in};
 ghost use Rattle.fs_ast.specs.Sound.{most_variables, most_states};
 ghost use Rattle.fs_ast.specs.Resolved.{line_of, placed_of, placed_spelled};
@@ -14,7 +14,7 @@ use std::alloc::Global;
 
 /// A transition over the numbers of variables and states.
 #[derive(Drop)]
-pub struct Line {
+pub struct Transition {
     pub guard: Option<Guard<VarId>>,
     pub target: StateId,
     pub assigns: Vec<Assign<VarId>>,
@@ -25,7 +25,7 @@ pub struct Line {
 pub struct State {
     pub line: u32,
     pub name: Name,
-    pub lines: Vec<Line>,
+    pub lines: Vec<Transition>,
 }
 
 /// Puts a value into a box.
@@ -94,7 +94,7 @@ impl Scope {
     /// A guard over the numbers of variables.
     fn guard(&self, alloc: Global, guard: &Guard) -> Result<Guard<VarId>, NoMemory>
         requires { length self.now.vars.items ≤ most_variables }
-        ensures { IfOk result (λ g. formula_of g ≡ formula_over (place (names_of self.now.vars.items)) (named_formula guard.now)) }
+        ensures { IfOk result (λ g. guard_of g ≡ guard_over (place (names_of self.now.vars.items)) (named_guard guard.now)) }
     {
         match guard {
             Guard::Lit(lit) => Ok(Guard::Lit(Lit {
@@ -121,7 +121,7 @@ impl Scope {
         guard: &Option<Guard>,
     ) -> Result<Option<Guard<VarId>>, NoMemory>
         requires { length self.now.vars.items ≤ most_variables }
-        ensures { IfOk result (λ g. option_map formula_of g ≡ option_map (formula_over (place (names_of self.now.vars.items))) (option_map named_formula guard.now)) }
+        ensures { IfOk result (λ g. option_map guard_of g ≡ option_map (guard_over (place (names_of self.now.vars.items))) (option_map named_guard guard.now)) }
     {
         match guard {
             None => Ok(None),
@@ -132,7 +132,7 @@ impl Scope {
     /// An assignment over the numbers of variables.
     fn assign(&self, alloc: Global, assign: &Assign<Name>) -> Result<Assign<VarId>, NoMemory>
         requires { length self.now.vars.items ≤ most_variables }
-        ensures { IfOk result (λ a. action_of a ≡ action_over (place (names_of self.now.vars.items)) (named_action assign.now)) }
+        ensures { IfOk result (λ a. assignment_of a ≡ assignment_over (place (names_of self.now.vars.items)) (named_assignment assign.now)) }
     {
         match assign {
             Assign::Set(x, value) => Ok(Assign::Set(self.variable_id(x), self.expr(alloc, value)?)),
@@ -151,7 +151,7 @@ impl Scope {
         assigns: &[Assign<Name>],
     ) -> Result<Vec<Assign<VarId>>, NoMemory>
         requires { length self.now.vars.items ≤ most_variables }
-        ensures { IfOk result (λ out. map action_of out.items ≡ map (action_over (place (names_of self.now.vars.items))) (map named_action assigns.now)) }
+        ensures { IfOk result (λ out. map assignment_of out.items ≡ map (assignment_over (place (names_of self.now.vars.items))) (map named_assignment assigns.now)) }
     {
         let mut out = Vec::new(alloc);
         for assign in assigns {
@@ -161,14 +161,14 @@ impl Scope {
     }
 
     /// A transition over numbers.
-    fn line(&self, alloc: Global, line: &RawLine) -> Result<Line, NoMemory>
+    fn line(&self, alloc: Global, line: &RawLine) -> Result<Transition, NoMemory>
         requires variables { length self.now.vars.items ≤ most_variables }
         requires states { length self.now.states ≤ most_states }
-        ensures { IfOk result (λ l. line_of l ≡ line_spelled (names_of self.now.vars.items) (names_in self.now.states) (source_line_of line.now)) }
+        ensures { IfOk result (λ l. line_of l ≡ line_spelled (names_of self.now.vars.items) (names_in self.now.states) (source_transition_of line.now)) }
     {
         let guard = self.line_guard(alloc, &line.guard)?;
         let assigns = self.assigns(alloc, &line.assigns)?;
-        Ok(Line {
+        Ok(Transition {
             guard,
             target: self.state_id(&line.target),
             assigns,
@@ -176,10 +176,10 @@ impl Scope {
     }
 
     /// Transitions over numbers.
-    fn lines(&self, alloc: Global, lines: &[RawLine]) -> Result<Vec<Line>, NoMemory>
+    fn lines(&self, alloc: Global, lines: &[RawLine]) -> Result<Vec<Transition>, NoMemory>
         requires variables { length self.now.vars.items ≤ most_variables }
         requires states { length self.now.states ≤ most_states }
-        ensures { IfOk result (λ out. map line_of out.items ≡ map (line_spelled (names_of self.now.vars.items) (names_in self.now.states)) (map source_line_of lines.now)) }
+        ensures { IfOk result (λ out. map line_of out.items ≡ map (line_spelled (names_of self.now.vars.items) (names_in self.now.states)) (map source_transition_of lines.now)) }
     {
         let mut out = Vec::new(alloc);
         for line in lines {

@@ -5,10 +5,10 @@ ghost use Rattle.std.specs.List.{list_any};
 ghost use Rattle.std.specs.Result.{OnOk};
 ghost use Rattle.std.specs.Ordering.{nat_cmp};
 ghost use Rattle.std.specs.BTreeSet.{contains};
-ghost use Rattle.fs_model.specs.View.{named_term, named_formula, named_action, source_line_of, source_state_of};
+ghost use Rattle.fs_model.specs.View.{named_term, named_guard, named_assignment, source_transition_of, source_state_of};
 ghost use Rattle.fs_ast.specs.declared.check.CheckRule.TheVariants.{AfterElse};
-ghost use Rattle.fs_ast.specs.Spelled.{place, names_of, term_over, formula_over, action_over, line_spelled};
-ghost use Rattle.fs_ast.specs.Sound.{scalars_in, arrays_in, scalars_in_formula, arrays_in_formula, scalars_in_guard, arrays_in_guard, scalars_in_action, arrays_in_action, scalars_in_actions, arrays_in_actions, input_at, changed_by, assigned_in, all_differ, occurs};
+ghost use Rattle.fs_ast.specs.Spelled.{place, names_of, term_over, guard_over, assignment_over, line_spelled};
+ghost use Rattle.fs_ast.specs.Sound.{scalars_in, arrays_in, scalars_in_guard, arrays_in_guard, scalars_in_condition, arrays_in_condition, scalars_in_assignment, arrays_in_assignment, scalars_in_assignments, arrays_in_assignments, input_at, changed_by, assigned_in, all_differ, occurs};
 ghost use Rattle.fs_ast.specs.Rules.{at_lines, line_faults, lines_faults, lacks_else, after_else, state_faults, changes_input};
 ghost use Rattle.std.specs.List.{flat_map};
 ghost use Rattle.fs_ast.specs.Earliest.{earliest};
@@ -96,7 +96,7 @@ impl Scope {
 
     /// What is wrong with the uses of a guard.
     fn guard_uses(&self, guard: &Guard) -> Uses
-        ensures { let g = formula_over (place (names_of self.now.vars.items)) (named_formula guard.now) in result ≡ uses_of self.now.vars.items (scalars_in_formula g) (arrays_in_formula g) }
+        ensures { let g = guard_over (place (names_of self.now.vars.items)) (named_guard guard.now) in result ≡ uses_of self.now.vars.items (scalars_in_guard g) (arrays_in_guard g) }
     {
         match guard {
             Guard::Lit(lit) => either(self.expr_uses(&lit.left), self.expr_uses(&lit.right)),
@@ -107,7 +107,7 @@ impl Scope {
 
     /// What is wrong with the uses of an assignment.
     fn assign_uses(&self, assign: &Assign<Name>) -> Uses
-        ensures { let a = action_over (place (names_of self.now.vars.items)) (named_action assign.now) in result ≡ uses_of self.now.vars.items (scalars_in_action a) (arrays_in_action a) }
+        ensures { let a = assignment_over (place (names_of self.now.vars.items)) (named_assignment assign.now) in result ≡ uses_of self.now.vars.items (scalars_in_assignment a) (arrays_in_assignment a) }
     {
         match assign {
             Assign::Set(name, value) => either(self.scalar_use(name), self.expr_uses(value)),
@@ -120,7 +120,7 @@ impl Scope {
 
     /// What is wrong with the uses of assignments.
     fn assigns_uses(&self, assigns: &[Assign<Name>]) -> Uses
-        ensures { let l = map (action_over (place (names_of self.now.vars.items))) (map named_action assigns.now) in result ≡ uses_of self.now.vars.items (scalars_in_actions l) (arrays_in_actions l) }
+        ensures { let l = map (assignment_over (place (names_of self.now.vars.items))) (map named_assignment assigns.now) in result ≡ uses_of self.now.vars.items (scalars_in_assignments l) (arrays_in_assignments l) }
     {
         let mut uses = Uses {
             unknown: false,
@@ -134,8 +134,8 @@ impl Scope {
 
     /// What is wrong with the uses of a transition.
     fn line_uses(&self, line: &RawLine) -> Uses
-        ensures { let vs = self.now.vars.items in let l = line_spelled (names_of vs) (names_in self.now.states) (source_line_of line.now) in
-            result ≡ uses_of vs (scalars_in_guard l.guard ++ scalars_in_actions l.actions) (arrays_in_guard l.guard ++ arrays_in_actions l.actions) }
+        ensures { let vs = self.now.vars.items in let l = line_spelled (names_of vs) (names_in self.now.states) (source_transition_of line.now) in
+            result ≡ uses_of vs (scalars_in_condition l.guard ++ scalars_in_assignments l.assignments) (arrays_in_condition l.guard ++ arrays_in_assignments l.assignments) }
     {
         let assigns = self.assigns_uses(&line.assigns);
         match &line.guard {
@@ -148,7 +148,7 @@ impl Scope {
 impl Scope {
     /// Whether an assignment changes an input.
     fn changes_input(&self, assign: &Assign<Name>) -> bool
-        ensures { let a = action_over (place (names_of self.now.vars.items)) (named_action assign.now) in result ≡ input_at self.now.vars.items (changed_by a) }
+        ensures { let a = assignment_over (place (names_of self.now.vars.items)) (named_assignment assign.now) in result ≡ input_at self.now.vars.items (changed_by a) }
     {
         let (Assign::Set(name, _) | Assign::Put(name, _, _)) = assign;
         match self.variable(name) {
@@ -159,14 +159,14 @@ impl Scope {
 
     /// Whether one of some assignments changes an input.
     fn some_changes_input(&self, assigns: &[Assign<Name>]) -> bool
-        ensures { result ≡ list_any (λ a. input_at self.now.vars.items (changed_by a)) (map (action_over (place (names_of self.now.vars.items))) (map named_action assigns.now)) }
+        ensures { result ≡ list_any (λ a. input_at self.now.vars.items (changed_by a)) (map (assignment_over (place (names_of self.now.vars.items))) (map named_assignment assigns.now)) }
     {
         assigns.iter().any(|assign| self.changes_input(assign))
     }
 
     /// Whether a scalar is assigned twice.
     fn assigns_twice(&self, alloc: Global, assigns: &[Assign<Name>]) -> Result<bool, NoMemory>
-        ensures { IfOk result (λ twice. twice ≡ not (all_differ (assigned_in (map (action_over (place (names_of self.now.vars.items))) (map named_action assigns.now))))) }
+        ensures { IfOk result (λ twice. twice ≡ not (all_differ (assigned_in (map (assignment_over (place (names_of self.now.vars.items))) (map named_assignment assigns.now))))) }
     {
         let mut seen = BTreeSet::new(alloc);
         for assign in assigns {
@@ -183,8 +183,8 @@ impl Scope {
         assign: &Assign<Name>,
         seen: &mut BTreeSet<usize>,
     ) -> Result<bool, NoMemory>
-        ensures again { IfOk result (λ again. again ≡ list_any (contains nat_cmp seen.old) (assigned_in (action_over (place (names_of self.now.vars.items)) (named_action assign.now) ∷ []))) }
-        ensures seen { OnOk result ((q : ℕ) → contains nat_cmp seen.new q ≡ (contains nat_cmp seen.old q || occurs q (assigned_in (action_over (place (names_of self.now.vars.items)) (named_action assign.now) ∷ [])))) }
+        ensures again { IfOk result (λ again. again ≡ list_any (contains nat_cmp seen.old) (assigned_in (assignment_over (place (names_of self.now.vars.items)) (named_assignment assign.now) ∷ []))) }
+        ensures seen { OnOk result ((q : ℕ) → contains nat_cmp seen.new q ≡ (contains nat_cmp seen.old q || occurs q (assigned_in (assignment_over (place (names_of self.now.vars.items)) (named_assignment assign.now) ∷ [])))) }
     {
         match assign {
             Assign::Set(name, _) => add(seen, self.variable_place(name)),
@@ -195,7 +195,7 @@ impl Scope {
     /// Notes each rule that a transition breaks.
     fn check_line(&self, alloc: Global, line: &RawLine, faults: &mut Faults) -> Result<(), NoMemory>
         ensures { OnOk result (faults.new.first ≡ earliest faults.old.first
-            (line_faults self.now.vars.items (length (names_in self.now.states)) line.now.line (line_spelled (names_of self.now.vars.items) (names_in self.now.states) (source_line_of line.now)))) }
+            (line_faults self.now.vars.items (length (names_in self.now.states)) line.now.line (line_spelled (names_of self.now.vars.items) (names_in self.now.states) (source_transition_of line.now)))) }
     {
         let uses = self.line_uses(line);
         let assigns = line.assigns.as_slice();
@@ -217,7 +217,7 @@ impl Scope {
         lines: &[RawLine],
         faults: &mut Faults,
     ) -> Result<(), NoMemory>
-        ensures { OnOk result (faults.new.first ≡ earliest faults.old.first (lines_faults self.now.vars.items (names_in self.now.states) (map source_line_of lines.now))) }
+        ensures { OnOk result (faults.new.first ≡ earliest faults.old.first (lines_faults self.now.vars.items (names_in self.now.states) (map source_transition_of lines.now))) }
     {
         for line in lines {
             self.check_line(alloc, line, faults)?;
@@ -269,7 +269,7 @@ fn add(seen: &mut BTreeSet<usize>, place: usize) -> Result<bool, NoMemory>
 
 /// Whether the last transition has a guard, or there is none.
 fn lacks_else(lines: &[RawLine]) -> bool
-    ensures { result ≡ lacks_else (map source_line_of lines.now) }
+    ensures { result ≡ lacks_else (map source_transition_of lines.now) }
 {
     match lines.last() {
         None => true,
@@ -279,7 +279,7 @@ fn lacks_else(lines: &[RawLine]) -> bool
 
 /// Notes each transition after one without guard.
 fn note_after_else(lines: &[RawLine], faults: &mut Faults)
-    ensures { faults.new.first ≡ earliest faults.old.first (at_lines AfterElse (after_else false (map source_line_of lines.now))) }
+    ensures { faults.new.first ≡ earliest faults.old.first (at_lines AfterElse (after_else false (map source_transition_of lines.now))) }
 {
     let mut seen = false;
     for line in lines {

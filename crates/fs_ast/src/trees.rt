@@ -2,12 +2,12 @@
 
 ghost use Rattle.std.specs.Prelude.{◌≡◌, ◌++◌, [], ◌∷◌, map, option_map, IfOk};
 ghost use Rattle.std.specs.Result.{OnOk};
-ghost use Rattle.fs_model.specs.View.{term_of, literal_of, formula_of, action_of, branch_of};
-ghost use Rattle.fs_model.specs.Trees.{tree_of_formula, tree_of_lines, opposite, negated, leaves, branches_of, count_leaves};
+ghost use Rattle.fs_model.specs.View.{term_of, literal_of, guard_of, assignment_of, branch_of};
+ghost use Rattle.fs_model.specs.Trees.{tree_of_guard, tree_of_transitions, opposite, negated, leaves, branches_of, count_leaves};
 ghost use Rattle.fs_ast.specs.Resolved.{line_of};
-ghost use Rattle.fs_ast.specs.Forks.{tree_of, leaves_by, leaves_by_guard, capped};
+ghost use Rattle.fs_ast.specs.Forks.{tree_of, leaves_by, leaves_by_condition, capped};
 
-use crate::resolve::{Line, boxed};
+use crate::resolve::{Transition, boxed};
 use crate::scope::push;
 use fs_model::name::NoMemory;
 use fs_model::parts::{Assign, Branch, Expr, Guard, Lit, Rel, VarId};
@@ -20,13 +20,13 @@ pub const BRANCH_LIMIT: u32 = 64;
 #[derive(Drop)]
 enum Fork<'a> {
     Nowhere,
-    Take(&'a Line),
+    Take(&'a Transition),
     Ask(&'a Lit<VarId>, Box<Fork<'a>>, Box<Fork<'a>>),
 }
 
 /// How many leaves the tree of transitions has, or 65 where there are more.
-pub fn count_leaves(lines: &[Line]) -> u32
-    ensures { result ≡ capped (count_leaves (tree_of_lines (map line_of lines.now))) }
+pub fn count_leaves(lines: &[Transition]) -> u32
+    ensures { result ≡ capped (count_leaves (tree_of_transitions (map line_of lines.now))) }
 {
     let mut count = 0;
     for k in 0..lines.len() {
@@ -36,8 +36,8 @@ pub fn count_leaves(lines: &[Line]) -> u32
 }
 
 /// How many leaves there are from one transition on.
-fn count_line(line: &Line, rest: u32) -> u32
-    ensures { result ≡ capped (leaves_by_guard (line_of line.now).guard 1 rest) }
+fn count_line(line: &Transition, rest: u32) -> u32
+    ensures { result ≡ capped (leaves_by_condition (line_of line.now).guard 1 rest) }
 {
     match &line.guard {
         None => 1,
@@ -48,7 +48,7 @@ fn count_line(line: &Line, rest: u32) -> u32
 /// How many leaves the tree of a guard has, from those of its two subtrees.
 #[tactic(auto, using(crate::proofs::Leaves::capped_yes, crate::proofs::Leaves::capped_no))]
 fn count_guard(guard: &Guard<VarId>, on_yes: u32, on_no: u32) -> u32
-    ensures { result ≡ capped (leaves_by (formula_of guard.now) on_yes on_no) }
+    ensures { result ≡ capped (leaves_by (guard_of guard.now) on_yes on_no) }
 {
     match guard {
         Guard::Lit(_) => on_yes.saturating_add(on_no).min(BRANCH_LIMIT + 1),
@@ -59,7 +59,7 @@ fn count_guard(guard: &Guard<VarId>, on_yes: u32, on_no: u32) -> u32
 }
 
 /// The branches of the tree of transitions, yes before no.
-pub fn branches(alloc: Global, lines: &[Line]) -> Result<Vec<Branch>, NoMemory>
+pub fn branches(alloc: Global, lines: &[Transition]) -> Result<Vec<Branch>, NoMemory>
     ensures { IfOk result (λ out. map branch_of out.items ≡ branches_of (map line_of lines.now)) }
 {
     let tree = fork_lines(alloc, lines)?;
@@ -70,8 +70,8 @@ pub fn branches(alloc: Global, lines: &[Line]) -> Result<Vec<Branch>, NoMemory>
 }
 
 /// The tree of transitions.
-fn fork_lines<'a>(alloc: Global, lines: &'a [Line]) -> Result<Fork<'a>, NoMemory>
-    ensures { IfOk result (λ tree. tree_of tree ≡ tree_of_lines (map line_of lines.now)) }
+fn fork_lines<'a>(alloc: Global, lines: &'a [Transition]) -> Result<Fork<'a>, NoMemory>
+    ensures { IfOk result (λ tree. tree_of tree ≡ tree_of_transitions (map line_of lines.now)) }
 {
     match lines {
         [] => Ok(Fork::Nowhere),
@@ -92,7 +92,7 @@ fn fork_guard<'a>(
     on_yes: &Fork<'a>,
     on_no: &Fork<'a>,
 ) -> Result<Fork<'a>, NoMemory>
-    ensures { IfOk result (λ tree. tree_of tree ≡ tree_of_formula (formula_of guard.now) (tree_of on_yes.now) (tree_of on_no.now)) }
+    ensures { IfOk result (λ tree. tree_of tree ≡ tree_of_guard (guard_of guard.now) (tree_of on_yes.now) (tree_of on_no.now)) }
 {
     match guard {
         Guard::Lit(lit) => Ok(Fork::Ask(
@@ -152,8 +152,8 @@ fn walk(
 }
 
 /// The branch that takes a transition at the end of a way.
-fn branch(alloc: Global, way: &[Lit<VarId>], line: &Line) -> Result<Branch, NoMemory>
-    ensures { IfOk result (λ b. branch_of b ≡ record { literals = map literal_of way.now; actions = (line_of line.now).actions; target = (line_of line.now).target }) }
+fn branch(alloc: Global, way: &[Lit<VarId>], line: &Transition) -> Result<Branch, NoMemory>
+    ensures { IfOk result (λ b. branch_of b ≡ record { literals = map literal_of way.now; assignments = (line_of line.now).assignments; target = (line_of line.now).target }) }
 {
     Ok(Branch {
         lits: copy_way(alloc, way)?,
@@ -173,7 +173,7 @@ fn copy_way(alloc: Global, way: &[Lit<VarId>]) -> Result<Vec<Lit<VarId>>, NoMemo
 }
 
 fn copy_assigns(alloc: Global, assigns: &[Assign<VarId>]) -> Result<Vec<Assign<VarId>>, NoMemory>
-    ensures { IfOk result (λ out. map action_of out.items ≡ map action_of assigns.now) }
+    ensures { IfOk result (λ out. map assignment_of out.items ≡ map assignment_of assigns.now) }
 {
     let mut out = Vec::new(alloc);
     for assign in assigns {
@@ -183,7 +183,7 @@ fn copy_assigns(alloc: Global, assigns: &[Assign<VarId>]) -> Result<Vec<Assign<V
 }
 
 fn copy_assign(alloc: Global, assign: &Assign<VarId>) -> Result<Assign<VarId>, NoMemory>
-    ensures { IfOk result (λ copy. action_of copy ≡ action_of assign.now) }
+    ensures { IfOk result (λ copy. assignment_of copy ≡ assignment_of assign.now) }
 {
     match assign {
         Assign::Set(x, value) => Ok(Assign::Set(*x, copy_expr(alloc, value)?)),

@@ -7,7 +7,7 @@ use Rattle.fs_base.specs.declared.outside.StoreError.TheVariants.{Failed as NotS
 
 -- what is told of a name: nothing is known, no file stands there, or a file of these bytes
 pub data Held : Type 0 where
-  Untold : Held
+  Unknown : Held
   Nothing : Held
   Bytes : List ℕ → Held
 
@@ -37,13 +37,13 @@ OthersHeld name old new = (other : List ℕ) → other ≢ name → new other �
 
 -- where it is told what a name holds, it is these bytes
 abbrev pub AreHeld : Held → List ℕ → Type 0
-AreHeld Untold bytes = Unit {0}
+AreHeld Unknown bytes = Unit {0}
 AreHeld Nothing bytes = ⊥
 AreHeld (Bytes held) bytes = bytes ≡ held
 
 -- where it is told what a name holds, it is more than so many bytes
 abbrev pub MoreAreHeld : Held → ℕ → Type 0
-MoreAreHeld Untold limit = Unit {0}
+MoreAreHeld Unknown limit = Unit {0}
 MoreAreHeld Nothing limit = ⊥
 MoreAreHeld (Bytes held) limit = limit < length held
 
@@ -67,7 +67,7 @@ WhereNoMemory P NoMemory = P
 
 -- what a name holds once bytes were stored under it: these bytes, where it is told
 abbrev pub held_after : Held → List ℕ → Held
-held_after Untold bytes = Untold
+held_after Unknown bytes = Unknown
 held_after Nothing bytes = Bytes bytes
 held_after (Bytes held) bytes = Bytes bytes
 

@@ -80,13 +80,13 @@ fn part_of(left: u64) -> usize
 }
 
 impl<R: rt::Files> Files for DiskFiles<'_, R> {
-    ghost use Rattle.fs_base.specs.Outside.{Untold};
+    ghost use Rattle.fs_base.specs.Outside.{Unknown};
 
     ghost faults = { λ failures name. failures };
 
     ghost store_faults = { λ failures name. failures };
 
-    ghost holds = { λ files name. Untold };
+    ghost holds = { λ files name. Unknown };
 
     fn load(&mut self, alloc: Global, name: &str, limit: u64) -> Result<Vec<u8>, LoadError> {
         let loaded = match File::open(self.runtime, name) {

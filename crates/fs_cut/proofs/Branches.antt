@@ -4,17 +4,17 @@ use Rattle.std.specs.Prelude.{◌&&◌, cond, nat_lt, slice_get, filter}
 use Rattle.std.specs.List.{list_all, slice_index_or}
 use Rattle.std.proofs.lemmas.Bool.Decides.{nat_tests}
 use Rattle.std.proofs.lemmas.List.Folds.{list_all-append}
-use Rattle.fs_model.specs.Terms.{Literal, Formula, Test, Not, And, Or, Action, Line}
-use Rattle.fs_model.specs.Machines.{Fsmd, lines_of}
+use Rattle.fs_model.specs.Terms.{Literal, Guard, Test, Not, And, Or, Assignment, Transition}
+use Rattle.fs_model.specs.Machines.{Fsmd, transitions_of}
 use Rattle.fs_model.specs.Stores.{Store}
-use Rattle.fs_model.specs.Meaning.{line_taken, act_all}
+use Rattle.fs_model.specs.Meaning.{transition_taken, act_all}
 use Rattle.fs_model.specs.Runs.{Step as StepOf, AfterStep}
-use Rattle.fs_model.specs.Trees.{Tree, Empty, Leaf, Node, Branch, tree_of_formula, tree_of_guard, tree_of_lines, leaves, branches_of, negated, branch_holds}
-use Rattle.fs_ast.specs.Sound.{IsSound, branch_count, is_cutpoint, first_line_target}
+use Rattle.fs_model.specs.Trees.{Tree, Empty, Leaf, Node, Branch, tree_of_guard, tree_of_condition, tree_of_transitions, leaves, branches_of, negated, branch_holds}
+use Rattle.fs_ast.specs.Sound.{IsSound, branch_count, is_cutpoint, first_transition_target}
 use Rattle.fs_ast.proofs.Opens.{takes_one}
 use Rattle.fs_cut.specs.Paths.{Step, branch_at, target_of, after}
-use Rattle.fs_cut.specs.Cuts.{first_open, branch_taken}
-use Rattle.fs_cut.proofs.OneBranch.{length-leaves, count-lines, only_line}
+use Rattle.fs_cut.specs.Cuts.{taken_index, branch_taken}
+use Rattle.fs_cut.proofs.OneBranch.{length-leaves, count-lines, only_transition}
 
 pub and-left : (b c : Bool) → (b && c) ≡ true → b ≡ true
 and-left true c h = refl
@@ -37,7 +37,7 @@ above x n h = grind (arith, nat_tests)
 -- whether each leaf leads to one of n states
 abbrev lead_in : ℕ → Tree → Bool
 lead_in n Empty = true
-lead_in n (Leaf actions target) = nat_lt target n
+lead_in n (Leaf assignments target) = nat_lt target n
 lead_in n (Node l on_yes on_no) = lead_in n on_yes && lead_in n on_no
 
 abbrev within : ℕ → Branch → Bool
@@ -45,24 +45,24 @@ within n b = nat_lt b.target n
 
 leaves_lead : (n : ℕ) (t : Tree) (way : List (Literal ℕ)) → lead_in n t ≡ true → list_all (within n) (leaves t way) ≡ true
 leaves_lead n Empty way h = refl
-leaves_lead n (Leaf actions target) way h = both (nat_lt target n) true h refl
+leaves_lead n (Leaf assignments target) way h = both (nat_lt target n) true h refl
 leaves_lead n (Node l y f) way h =
     list_all-append (within n) (leaves y (way ++ l ∷ [])) (leaves f (way ++ negated l ∷ []))
     ∙ both _ _ (leaves_lead n y (way ++ l ∷ []) (and-left (lead_in n y) (lead_in n f) h)) (leaves_lead n f (way ++ negated l ∷ []) (and-right (lead_in n y) (lead_in n f) h))
 
-formula_leads : (n : ℕ) (g : Formula ℕ) (y f : Tree) → lead_in n y ≡ true → lead_in n f ≡ true → lead_in n (tree_of_formula g y f) ≡ true
-formula_leads n (Test l) y f p q = both (lead_in n y) (lead_in n f) p q
-formula_leads n (Not c) y f p q = formula_leads n c f y q p
-formula_leads n (And c d) y f p q = formula_leads n c (tree_of_formula d y f) f (formula_leads n d y f p q) q
-formula_leads n (Or c d) y f p q = formula_leads n c y (tree_of_formula d y f) p (formula_leads n d y f p q)
+guard_leads : (n : ℕ) (g : Guard ℕ) (y f : Tree) → lead_in n y ≡ true → lead_in n f ≡ true → lead_in n (tree_of_guard g y f) ≡ true
+guard_leads n (Test l) y f p q = both (lead_in n y) (lead_in n f) p q
+guard_leads n (Not c) y f p q = guard_leads n c f y q p
+guard_leads n (And c d) y f p q = guard_leads n c (tree_of_guard d y f) f (guard_leads n d y f p q) q
+guard_leads n (Or c d) y f p q = guard_leads n c y (tree_of_guard d y f) p (guard_leads n d y f p q)
 
-guard_leads : (n : ℕ) (g : Option (Formula ℕ)) (y f : Tree) → lead_in n y ≡ true → lead_in n f ≡ true → lead_in n (tree_of_guard g y f) ≡ true
-guard_leads n None y f p q = p
-guard_leads n (Some c) y f p q = formula_leads n c y f p q
+condition_leads : (n : ℕ) (g : Option (Guard ℕ)) (y f : Tree) → lead_in n y ≡ true → lead_in n f ≡ true → lead_in n (tree_of_condition g y f) ≡ true
+condition_leads n None y f p q = p
+condition_leads n (Some c) y f p q = guard_leads n c y f p q
 
-lines_lead : (n : ℕ) (ls : List (Line ℕ ℕ)) → ((k : ℕ) (l : Line ℕ ℕ) → slice_get ls k ≡ Some l → l.target < n) → lead_in n (tree_of_lines ls) ≡ true
+lines_lead : (n : ℕ) (ls : List (Transition ℕ ℕ)) → ((k : ℕ) (l : Transition ℕ ℕ) → slice_get ls k ≡ Some l → l.target < n) → lead_in n (tree_of_transitions ls) ≡ true
 lines_lead n [] h = refl
-lines_lead n (l ∷ ls) h = guard_leads n l.guard (Leaf l.actions l.target) (tree_of_lines ls) (below l.target n (h 0 l refl)) (lines_lead n ls (λ k m e. h (suc k) m e))
+lines_lead n (l ∷ ls) h = condition_leads n l.guard (Leaf l.assignments l.target) (tree_of_transitions ls) (below l.target n (h 0 l refl)) (lines_lead n ls (λ k m e. h (suc k) m e))
 
 pub test_at : {X : Type 0} (test : X → Bool) (xs : List X) (k : ℕ) (d : X) → list_all test xs ≡ true → k < length xs → test (slice_index_or xs k d) ≡ true
 test_at test [] k d h i = absurd (omega arith)
@@ -79,12 +79,12 @@ few : (m : Fsmd) (q : ℕ) → is_cutpoint m q ≡ false → branch_count m q �
 few m q c = grind (arith, nat_tests)
 
 abbrev pub no_branch : Branch
-no_branch = record { literals = []; actions = []; target = 0 }
+no_branch = record { literals = []; assignments = []; target = 0 }
 
 -- ---- the branch that is open
 record Finds (bs : List Branch) (s : Store) (b : Branch) : Type 0 where
-  within : first_open bs s < length bs
-  is : slice_index_or bs (first_open bs s) no_branch ≡ b
+  within : taken_index bs s < length bs
+  is : slice_index_or bs (taken_index bs s) no_branch ≡ b
 
 finds_by : (w b : Branch) (bs : List Branch) (s : Store) (t : Bool) → branch_holds s w ≡ t → cond t (w ∷ filter (branch_holds s) bs) (filter (branch_holds s) bs) ≡ b ∷ []
     → (filter (branch_holds s) bs ≡ b ∷ [] → Finds bs s b) → Finds (w ∷ bs) s b
@@ -107,30 +107,30 @@ none_open (b ∷ bs) zero s h i e = none_by b bs 0 s (branch_holds s b) refl h (
 none_open (b ∷ bs) (suc k) s h i e = none_by b bs k s (branch_holds s b) refl h (λ f g. none_open bs k s g (omega arith) e)
 
 only_by : (w b : Branch) (bs : List Branch) (k : ℕ) (s : Store) (t : Bool) → branch_holds s w ≡ t → cond t (w ∷ filter (branch_holds s) bs) (filter (branch_holds s) bs) ≡ b ∷ []
-    → k < length bs → branch_holds s (slice_index_or bs k no_branch) ≡ true → (filter (branch_holds s) bs ≡ b ∷ [] → first_open bs s ≡ k) → cond t 0 (suc (first_open bs s)) ≡ suc k
+    → k < length bs → branch_holds s (slice_index_or bs k no_branch) ≡ true → (filter (branch_holds s) bs ≡ b ∷ [] → taken_index bs s ≡ k) → cond t 0 (suc (taken_index bs s)) ≡ suc k
 only_by w b bs k s true e h i o next = absurd (none_open bs k s (cc h) i o)
 only_by w b bs k s false e h i o next = ap suc (next h)
 
-only_open : (bs : List Branch) (s : Store) (b : Branch) (k : ℕ) → filter (branch_holds s) bs ≡ b ∷ [] → k < length bs → branch_holds s (slice_index_or bs k no_branch) ≡ true → first_open bs s ≡ k
+only_open : (bs : List Branch) (s : Store) (b : Branch) (k : ℕ) → filter (branch_holds s) bs ≡ b ∷ [] → k < length bs → branch_holds s (slice_index_or bs k no_branch) ≡ true → taken_index bs s ≡ k
 only_open [] s b k h i e = absurd (omega arith)
-only_open (w ∷ bs) s b zero h i e = ap (λ t. cond t 0 (suc (first_open bs s))) e
+only_open (w ∷ bs) s b zero h i e = ap (λ t. cond t 0 (suc (taken_index bs s))) e
 only_open (w ∷ bs) s b (suc k) h i e = only_by w b bs k s (branch_holds s w) refl h (omega arith) e (λ g. only_open bs s b k g (omega arith) e)
 
-open_by : (w : Branch) (bs : List Branch) (s : Store) (t : Bool) → branch_holds s w ≡ t → cond t 0 (suc (first_open bs s)) < suc (length bs)
-    → (first_open bs s < length bs → branch_holds s (slice_index_or bs (first_open bs s) no_branch) ≡ true) → branch_holds s (slice_index_or (w ∷ bs) (cond t 0 (suc (first_open bs s))) no_branch) ≡ true
+open_by : (w : Branch) (bs : List Branch) (s : Store) (t : Bool) → branch_holds s w ≡ t → cond t 0 (suc (taken_index bs s)) < suc (length bs)
+    → (taken_index bs s < length bs → branch_holds s (slice_index_or bs (taken_index bs s) no_branch) ≡ true) → branch_holds s (slice_index_or (w ∷ bs) (cond t 0 (suc (taken_index bs s))) no_branch) ≡ true
 open_by w bs s true e h next = e
 open_by w bs s false e h next = next (omega arith)
 
-first_is_open : (bs : List Branch) (s : Store) → first_open bs s < length bs → branch_holds s (slice_index_or bs (first_open bs s) no_branch) ≡ true
+first_is_open : (bs : List Branch) (s : Store) → taken_index bs s < length bs → branch_holds s (slice_index_or bs (taken_index bs s) no_branch) ≡ true
 first_is_open [] s h = absurd (omega arith)
 first_is_open (w ∷ bs) s h = open_by w bs s (branch_holds s w) refl h (first_is_open bs s)
 
 -- the branch that a store takes is that of the transition
 pub record Takes (m : Fsmd) (q : ℕ) (s : Store) : Type 0 where
   pub within : branch_taken m q s < branch_count m q
-  pub line : Line ℕ ℕ
-  pub taken : line_taken (lines_of m q) s ≡ Some line
-  pub actions : (branch_at m q (branch_taken m q s)).actions ≡ line.actions
+  pub line : Transition ℕ ℕ
+  pub taken : transition_taken (transitions_of m q) s ≡ Some line
+  pub assignments : (branch_at m q (branch_taken m q s)).assignments ≡ line.assignments
   pub target : target_of m q (branch_taken m q s) ≡ line.target
 
 -- the step that a store takes
@@ -142,34 +142,34 @@ module _ (m : Fsmd) (sound : IsSound m) where
   pub target_in : (q k : ℕ) → k < branch_count m q → target_of m q k < length m.states
   target_in q k h =
       let n = length m.states in
-      let bs = branches_of (lines_of m q) in
-      above (target_of m q k) n (test_at (within n) bs k no_branch (leaves_lead n (tree_of_lines (lines_of m q)) [] (lines_lead n (lines_of m q) (λ j l e. (sound.lines_sound q l j e).target_in))) h)
+      let bs = branches_of (transitions_of m q) in
+      above (target_of m q k) n (test_at (within n) bs k no_branch (leaves_lead n (tree_of_transitions (transitions_of m q)) [] (lines_lead n (transitions_of m q) (λ j l e. (sound.transitions_sound q l j e).target_in))) h)
 
   -- each state has a branch
   pub some_branch : (q : ℕ) → q < length m.states → 0 < branch_count m q
-  some_branch q h = omega (arith, length-leaves (tree_of_lines (lines_of m q)) [], count-lines (lines_of m q) (sound.open_last q h))
+  some_branch q h = omega (arith, length-leaves (tree_of_transitions (transitions_of m q)) [], count-lines (transitions_of m q) (sound.open_last q h))
 
   -- the one branch leads where the first transition leads
-  pub first_target : (q : ℕ) → q < length m.states → is_cutpoint m q ≡ false → first_line_target (lines_of m q) ≡ target_of m q 0
+  pub first_target : (q : ℕ) → q < length m.states → is_cutpoint m q ≡ false → first_transition_target (transitions_of m q) ≡ target_of m q 0
   first_target q h c =
-      let a = alone (branches_of (lines_of m q)) (some_branch q h) (few m q c) in
-      let o = only_line (lines_of m q) a.0 (sound.open_last q h) a.1 in
-      ap first_line_target o.alone ∙ o.target ∙ sym (ap (λ (bs : List Branch). (slice_index_or bs 0 no_branch).target) a.1)
+      let a = alone (branches_of (transitions_of m q)) (some_branch q h) (few m q c) in
+      let o = only_transition (transitions_of m q) a.0 (sound.open_last q h) a.1 in
+      ap first_transition_target o.alone ∙ o.target ∙ sym (ap (λ (bs : List Branch). (slice_index_or bs 0 no_branch).target) a.1)
 
   pub takes_branch : (q : ℕ) (s : Store) → q < length m.states → Takes m q s
   takes_branch q s h =
-      let o = takes_one (lines_of m q) s (sound.open_last q h) in
-      let f = finds (branches_of (lines_of m q)) s o.branch o.one in
-      record { within = f.within; line = o.line; taken = o.taken; actions = ap (λ (b : Branch). b.actions) f.is ∙ o.actions; target = ap (λ (b : Branch). b.target) f.is ∙ o.target }
+      let o = takes_one (transitions_of m q) s (sound.open_last q h) in
+      let f = finds (branches_of (transitions_of m q)) s o.branch o.one in
+      record { within = f.within; line = o.line; taken = o.taken; assignments = ap (λ (b : Branch). b.assignments) f.is ∙ o.assignments; target = ap (λ (b : Branch). b.target) f.is ∙ o.target }
 
   -- a store takes the one branch whose literals hold
   pub taken_is : (q k : ℕ) (s : Store) → q < length m.states → k < branch_count m q → branch_holds s (branch_at m q k) ≡ true → branch_taken m q s ≡ k
   taken_is q k s h i e =
-      let o = takes_one (lines_of m q) s (sound.open_last q h) in
-      only_open (branches_of (lines_of m q)) s o.branch k o.one i e
+      let o = takes_one (transitions_of m q) s (sound.open_last q h) in
+      only_open (branches_of (transitions_of m q)) s o.branch k o.one i e
 
   pub taken_holds : (q : ℕ) (s : Store) → q < length m.states → branch_holds s (branch_at m q (branch_taken m q s)) ≡ true
-  taken_holds q s h = first_is_open (branches_of (lines_of m q)) s (takes_branch q s h).within
+  taken_holds q s h = first_is_open (branches_of (transitions_of m q)) s (takes_branch q s h).within
 
   -- a state with one branch is left by it
   pub only_branch : (q : ℕ) (s : Store) → q < length m.states → is_cutpoint m q ≡ false → branch_taken m q s ≡ 0
@@ -180,14 +180,14 @@ module _ (m : Fsmd) (sound : IsSound m) where
   step_down q s After h w =
       let o = takes_branch q s h in
       let same : w.step.line ≡ o.line = cc (sym w.step.taken ∙ o.taken) in
-      let at : w.state ≡ target_of m q (branch_taken m q s) = w.step.target ∙ ap (λ (l : Line ℕ ℕ). l.target) same ∙ sym o.target in
-      let holds : w.store ≡ after m (step_at m q s) s = w.step.store ∙ ap (λ (l : Line ℕ ℕ). act_all l.actions s s) same ∙ sym (ap (λ (a : List (Action ℕ)). act_all a s s) o.actions) in
+      let at : w.state ≡ target_of m q (branch_taken m q s) = w.step.target ∙ ap (λ (l : Transition ℕ ℕ). l.target) same ∙ sym o.target in
+      let holds : w.store ≡ after m (step_at m q s) s = w.step.store ∙ ap (λ (l : Transition ℕ ℕ). act_all l.assignments s s) same ∙ sym (ap (λ (a : List (Assignment ℕ)). act_all a s s) o.assignments) in
       subst (λ (r : ℕ). After r (after m (step_at m q s) s)) at (subst (λ (u : Store). After w.state u) holds w.after)
 
   pub step_taken : (q : ℕ) (s : Store) → q < length m.states → StepOf m q s (target_of m q (branch_taken m q s)) (after m (step_at m q s) s)
   step_taken q s h =
       let o = takes_branch q s h in
-      record { line = o.line; taken = o.taken; target = o.target; store = ap (λ (acts : List (Action ℕ)). act_all acts s s) o.actions }
+      record { line = o.line; taken = o.taken; target = o.target; store = ap (λ (acts : List (Assignment ℕ)). act_all acts s s) o.assignments }
 
   pub step_up : (q : ℕ) (s : Store) (After : ℕ → Store → Type 0) → q < length m.states → After (target_of m q (branch_taken m q s)) (after m (step_at m q s) s) → AfterStep m q s After
   step_up q s After h a = record { state = target_of m q (branch_taken m q s); store = after m (step_at m q s) s; step = step_taken q s h; after = a }

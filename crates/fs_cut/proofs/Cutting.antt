@@ -5,7 +5,7 @@ use Rattle.std.specs.List.{slice_index_or}
 use Rattle.std.proofs.lemmas.Bool.Decides.{nat_tests}
 use Rattle.fs_model.specs.Machines.{Fsmd}
 use Rattle.fs_model.specs.Stores.{Store}
-use Rattle.fs_model.specs.Runs.{Returns, Goes}
+use Rattle.fs_model.specs.Runs.{ReachesReset, FirstReturn}
 use Rattle.fs_ast.specs.Sound.{IsSound, is_cutpoint}
 use Rattle.fs_cut.specs.Paths.{Point, Start, At, Done, Path, IsPath, Step, is_point, is_fork, state_of, target_of, Passes, steps_in, after, effect}
 use Rattle.fs_cut.specs.Covers.{cover_of, paths_from}
@@ -61,35 +61,35 @@ module _ (m : Fsmd) where
           all = ap₂ (λ (x : Step) (l : List Step). x ∷ l) same f.all;
         }
 
-    front : (n q : ℕ) (s t : Store) → q < length m.states → Returns m n q s t → Front m q (steps_of m n q s)
+    front : (n q : ℕ) (s t : Store) → q < length m.states → ReachesReset m n q s t → Front m q (steps_of m n q s)
     front zero q s t h r = at_reset q r.0
     front (suc n) q s t h r =
         let k = branch_taken m q s in
-        one_more q s _ (is_cutpoint m q) h r.0 refl (front n (target_of m q k) (after m (step_at m q s) s) t (target_in m sound q k (takes_branch m sound q s h).within) (step_down m sound q s (λ x u. Returns m n x u t) h r.1))
+        one_more q s _ (is_cutpoint m q) h r.0 refl (front n (target_of m q k) (after m (step_at m q s) s) t (target_in m sound q k (takes_branch m sound q s h).within) (step_down m sound q s (λ x u. ReachesReset m n x u t) h r.1))
 
-    cut_of : (s t : Store) (n : ℕ) → Goes m n m.reset s t → (ps : List Path) × IsCut m (steps_of m n m.reset s) ps
+    cut_of : (s t : Store) (n : ℕ) → FirstReturn m n m.reset s t → (ps : List Path) × IsCut m (steps_of m n m.reset s) ps
     cut_of s t zero g = absurd g
     cut_of s t (suc n) g =
         let q = m.reset in
         let h = sound.reset_in in
         let k = branch_taken m q s in
-        let f = front n (target_of m q k) (after m (step_at m q s) s) t (target_in m sound q k (takes_branch m sound q s h).within) (step_down m sound q s (λ x u. Returns m n x u t) h g) in
+        let f = front n (target_of m q k) (after m (step_at m q s) s) t (target_in m sound q k (takes_branch m sound q s h).within) (step_down m sound q s (λ x u. ReachesReset m n x u t) h g) in
         let d = front_path Start s _ refl (λ e. cc e) h f in
         (d.0 ∷ d.1, record { chain = (d.2, d.3, d.4); all = d.5 })
 
-    leads_on : (n q : ℕ) (s t : Store) → q < length m.states → Returns m n q s t → effect m (steps_of m n q s) s ≡ t
+    leads_on : (n q : ℕ) (s t : Store) → q < length m.states → ReachesReset m n q s t → effect m (steps_of m n q s) s ≡ t
     leads_on zero q s t h r = r.1
     leads_on (suc n) q s t h r =
         let k = branch_taken m q s in
-        leads_on n (target_of m q k) (after m (step_at m q s) s) t (target_in m sound q k (takes_branch m sound q s h).within) (step_down m sound q s (λ x u. Returns m n x u t) h r.1)
+        leads_on n (target_of m q k) (after m (step_at m q s) s) t (target_in m sound q k (takes_branch m sound q s h).within) (step_down m sound q s (λ x u. ReachesReset m n x u t) h r.1)
 
-    leads : (s t : Store) (n : ℕ) → Goes m n m.reset s t → effect m (steps_of m n m.reset s) s ≡ t
+    leads : (s t : Store) (n : ℕ) → FirstReturn m n m.reset s t → effect m (steps_of m n m.reset s) s ≡ t
     leads s t zero g = absurd g
     leads s t (suc n) g =
         let q = m.reset in
         let h = sound.reset_in in
         let k = branch_taken m q s in
-        leads_on n (target_of m q k) (after m (step_at m q s) s) t (target_in m sound q k (takes_branch m sound q s h).within) (step_down m sound q s (λ x u. Returns m n x u t) h g)
+        leads_on n (target_of m q k) (after m (step_at m q s) s) t (target_in m sound q k (takes_branch m sound q s h).within) (step_down m sound q s (λ x u. ReachesReset m n x u t) h g)
 
   same_branch : (p r : Path) (a b : List Step) → IsPath m p → IsPath m r → steps_in p ++ a ≡ steps_in r ++ b → p.branch ≡ r.branch
   same_branch p r a b v w e =

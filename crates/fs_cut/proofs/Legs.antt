@@ -4,7 +4,7 @@ use Rattle.std.specs.Prelude.{◌≢◌}
 use Rattle.std.proofs.lemmas.Bool.Decides.{nat_tests}
 use Rattle.fs_model.specs.Machines.{Fsmd}
 use Rattle.fs_model.specs.Stores.{Store}
-use Rattle.fs_model.specs.Runs.{Returns, Goes}
+use Rattle.fs_model.specs.Runs.{ReachesReset, FirstReturn}
 use Rattle.fs_ast.specs.Sound.{IsSound, is_cutpoint}
 use Rattle.fs_cut.specs.Paths.{Point, Start, At, Done, Path, IsPath, Step, is_point, state_of, target_of, Passes, steps_by, steps_in, after, effect, takes}
 use Rattle.fs_cut.specs.Covers.{path_by}
@@ -25,12 +25,12 @@ effect_joined m [] ys s = refl
 effect_joined m (x ∷ xs) ys s = effect_joined m xs ys (after m x s)
 
 module _ (m : Fsmd) where
-  goes_at : (P : Point) (n : ℕ) (s t : Store) → P ≢ Done → Remains m P n s t → Goes m n (state_of m P) s t
+  goes_at : (P : Point) (n : ℕ) (s t : Store) → P ≢ Done → Remains m P n s t → FirstReturn m n (state_of m P) s t
   goes_at Start n s t h r = r
   goes_at (At q) n s t h r = r
   goes_at Done n s t h r = absurd (h refl)
 
-  at_goes : (P : Point) (n : ℕ) (s t : Store) → P ≢ Done → Goes m n (state_of m P) s t → Remains m P n s t
+  at_goes : (P : Point) (n : ℕ) (s t : Store) → P ≢ Done → FirstReturn m n (state_of m P) s t → Remains m P n s t
   at_goes Start n s t h r = r
   at_goes (At q) n s t h r = r
   at_goes Done n s t h r = absurd (h refl)
@@ -38,13 +38,13 @@ module _ (m : Fsmd) where
   not_reset : (q : ℕ) → is_cutpoint m q ≡ false → q ≢ m.reset
   not_reset q h e = grind (arith, nat_tests)
 
-  end_down : (b : Bool) (q n : ℕ) (s t : Store) → (q == m.reset) ≡ b → Returns m n q s t → Remains m (cond b Done (At q)) n s t
+  end_down : (b : Bool) (q n : ℕ) (s t : Store) → (q == m.reset) ≡ b → ReachesReset m n q s t → Remains m (cond b Done (At q)) n s t
   end_down true q zero s t e r = (refl, r.1)
   end_down true q (suc n) s t e r = absurd (r.0 (grind (arith, nat_tests)))
   end_down false q zero s t e r = absurd (grind (arith, nat_tests, r.0))
   end_down false q (suc n) s t e r = r.1
 
-  end_up : (b : Bool) (q n : ℕ) (s t : Store) → (q == m.reset) ≡ b → Remains m (cond b Done (At q)) n s t → Returns m n q s t
+  end_up : (b : Bool) (q n : ℕ) (s t : Store) → (q == m.reset) ≡ b → Remains m (cond b Done (At q)) n s t → ReachesReset m n q s t
   end_up true q zero s t e r = (grind (arith, nat_tests), r.1)
   end_up true q (suc n) s t e r = absurd (omega (arith, r.0))
   end_up false q zero s t e r = absurd r
@@ -52,19 +52,19 @@ module _ (m : Fsmd) where
 
   module _ (sound : IsSound m) where
     -- one step, by the branch that is taken
-    moved : (q k n : ℕ) (s t : Store) → q < length m.states → branch_taken m q s ≡ k → Goes m n q s t → (j : ℕ) × (n ≡ suc j) × Returns m j (target_of m q k) (after m (record { state = q; branch = k }) s) t
+    moved : (q k n : ℕ) (s t : Store) → q < length m.states → branch_taken m q s ≡ k → FirstReturn m n q s t → (j : ℕ) × (n ≡ suc j) × ReachesReset m j (target_of m q k) (after m (record { state = q; branch = k }) s) t
     moved q k zero s t h e g = absurd g
     moved q k (suc n) s t h e g =
-        (n, refl, subst (λ (b : ℕ). Returns m n (target_of m q b) (after m (record { state = q; branch = b }) s) t) e (step_down m sound q s (λ r u. Returns m n r u t) h g))
+        (n, refl, subst (λ (b : ℕ). ReachesReset m n (target_of m q b) (after m (record { state = q; branch = b }) s) t) e (step_down m sound q s (λ r u. ReachesReset m n r u t) h g))
 
-    moves : (q k n : ℕ) (s t : Store) → q < length m.states → branch_taken m q s ≡ k → Returns m n (target_of m q k) (after m (record { state = q; branch = k }) s) t → Goes m (suc n) q s t
+    moves : (q k n : ℕ) (s t : Store) → q < length m.states → branch_taken m q s ≡ k → ReachesReset m n (target_of m q k) (after m (record { state = q; branch = k }) s) t → FirstReturn m (suc n) q s t
     moves q k n s t h e r =
-        step_up m sound q s (λ x u. Returns m n x u t) h (subst (λ (b : ℕ). Returns m n (target_of m q b) (after m (record { state = q; branch = b }) s) t) (sym e) r)
+        step_up m sound q s (λ x u. ReachesReset m n x u t) h (subst (λ (b : ℕ). ReachesReset m n (target_of m q b) (after m (record { state = q; branch = b }) s) t) (sym e) r)
 
     next_in : (q : ℕ) → q < length m.states → target_of m q 0 < length m.states
     next_in q h = target_in m sound q 0 (some_branch m sound q h)
 
-    passes_down : (rs : List ℕ) (q n : ℕ) (P : Point) (s t : Store) → q < length m.states → Passes m q rs P → Returns m n q s t → (k : ℕ) × (n ≡ length rs + k) × Remains m P k (effect m (map only_step rs) s) t
+    passes_down : (rs : List ℕ) (q n : ℕ) (P : Point) (s t : Store) → q < length m.states → Passes m q rs P → ReachesReset m n q s t → (k : ℕ) × (n ≡ length rs + k) × Remains m P k (effect m (map only_step rs) s) t
     passes_down [] q n P s t h w r = (n, omega arith, subst (λ (X : Point). Remains m X n s t) (sym w.1) (end_down (q == m.reset) q n s t refl r))
     passes_down (x ∷ rs) q zero P s t h w r = absurd (not_reset q w.0 r.0)
     passes_down (x ∷ rs) q (suc n) P s t h w r =
@@ -72,7 +72,7 @@ module _ (m : Fsmd) where
         let d = passes_down rs (target_of m q 0) a.0 P (after m (only_step q) s) t (next_in q h) w.2 a.2 in
         (d.0, omega (arith, d.1, a.1), subst (λ (y : ℕ). Remains m P d.0 (effect m (map only_step rs) (after m (only_step y) s)) t) (sym w.1) d.2)
 
-    passes_up : (rs : List ℕ) (q n : ℕ) (P : Point) (s t : Store) → q < length m.states → Passes m q rs P → Remains m P n (effect m (map only_step rs) s) t → (k : ℕ) × (k ≡ length rs + n) × Returns m k q s t
+    passes_up : (rs : List ℕ) (q n : ℕ) (P : Point) (s t : Store) → q < length m.states → Passes m q rs P → Remains m P n (effect m (map only_step rs) s) t → (k : ℕ) × (k ≡ length rs + n) × ReachesReset m k q s t
     passes_up [] q n P s t h w r = (n, omega arith, end_up (q == m.reset) q n s t refl (subst (λ (X : Point). Remains m X n s t) w.1 r))
     passes_up (x ∷ rs) q n P s t h w r =
         let d = passes_up rs (target_of m q 0) n P (after m (only_step q) s) t (next_in q h) w.2 (subst (λ (y : ℕ). Remains m P n (effect m (map only_step rs) (after m (only_step y) s)) t) w.1 r) in

@@ -4,9 +4,9 @@ use Rattle.std.specs.Prelude.{◌≢◌, ◌&&◌, ◌||◌, cond, nat_lt, filte
 use Rattle.std.specs.List.{list_all, list_any, slice_index_or, range_with_len}
 use Rattle.std.proofs.lemmas.Bool.Decides.{nat_tests}
 use Rattle.std.proofs.lemmas.List.FromFn.{get_or-map-range_with_len, length-map-range_with_len, length-range_with_len}
-use Rattle.fs_model.specs.Machines.{State, Fsmd, lines_of}
+use Rattle.fs_model.specs.Machines.{State, Fsmd, transitions_of}
 use Rattle.fs_model.specs.Trees.{branches_of}
-use Rattle.fs_ast.specs.Sound.{IsSound, branch_count, is_cutpoint, first_line_target, reaches_cutpoint}
+use Rattle.fs_ast.specs.Sound.{IsSound, branch_count, is_cutpoint, first_transition_target, reaches_cutpoint}
 use Rattle.fs_cut.specs.Paths.{Point, Start, At, Done, Path, IsPath, is_fork, is_point, state_of, end_at, target_of, Passes}
 use Rattle.fs_cut.specs.Covers.{passed, reached, path_by, paths_by, paths_of, points_of, Entry, entries, cover_of, same_point, has_point, paths_from}
 use Rattle.fs_cut.specs.View.{listed, ListsPoints}
@@ -53,7 +53,7 @@ pub passes : (m : Fsmd) → IsSound m → (n q : ℕ) → q < length m.states �
 passes m sound zero q h c = (c, refl)
 passes m sound (suc n) q h c =
     passes_by m n q (is_cutpoint m q) refl (λ e. passes m sound n (target_of m q 0) (target_in m sound q 0 (some_branch m sound q h))
-    (subst (λ (r : ℕ). reaches_cutpoint m n r ≡ true) (first_target m sound q h e) (or-right (is_cutpoint m q) (reaches_cutpoint m n (first_line_target (lines_of m q))) e c)))
+    (subst (λ (r : ℕ). reaches_cutpoint m n r ≡ true) (first_target m sound q h e) (or-right (is_cutpoint m q) (reaches_cutpoint m n (first_transition_target (transitions_of m q))) e c)))
 
 pub passes_unique : (m : Fsmd) (xs ys : List ℕ) (q : ℕ) (P Q : Point) → Passes m q xs P → Passes m q ys Q → (xs ≡ ys) × (P ≡ Q)
 passes_unique m [] [] q P Q v w = (refl, v.1 ∙ sym w.1)

@@ -4,7 +4,7 @@ use Rattle.std.specs.Prelude.{cond, filter}
 use Rattle.std.specs.List.{slice_index_or, range_with_len}
 use Rattle.std.proofs.lemmas.List.{get_or-map, length-map}
 use Rattle.fs_model.specs.declared.parts.Branch.{Branch as CodeBranch}
-use Rattle.fs_model.specs.Machines.{Fsmd, lines_of}
+use Rattle.fs_model.specs.Machines.{Fsmd, transitions_of}
 use Rattle.fs_model.specs.Trees.{Branch, branches_of}
 use Rattle.fs_model.specs.View.{branch_of}
 use Rattle.fs_ast.specs.Sound.{IsSound, branch_count, is_cutpoint}
@@ -15,23 +15,23 @@ use Rattle.fs_cut.proofs.Branches.{target_in, some_branch, no_branch}
 use Rattle.fs_cut.proofs.Listed.{found, missing, none_past}
 
 -- ---- a branch of the code
-count_is : (m : Fsmd) (q : ℕ) (bs : List CodeBranch) → map branch_of bs ≡ branches_of (lines_of m q) → length bs ≡ branch_count m q
+count_is : (m : Fsmd) (q : ℕ) (bs : List CodeBranch) → map branch_of bs ≡ branches_of (transitions_of m q) → length bs ≡ branch_count m q
 count_is m q bs e = sym (length-map bs branch_of) ∙ ap length e
 
-target_at : (m : Fsmd) (q k : ℕ) (bs : List CodeBranch) (b : CodeBranch) → map branch_of bs ≡ branches_of (lines_of m q) → k < branch_count m q → (slice_index_or bs k b).target.0 ≡ target_of m q k
+target_at : (m : Fsmd) (q k : ℕ) (bs : List CodeBranch) (b : CodeBranch) → map branch_of bs ≡ branches_of (transitions_of m q) → k < branch_count m q → (slice_index_or bs k b).target.0 ≡ target_of m q k
 target_at m q k bs b e h =
     ap (λ (x : Branch). x.target) (sym (get_or-map branch_of bs k b no_branch (omega (arith, count_is m q bs e)))) ∙ ap (λ (l : List Branch). (slice_index_or l k no_branch).target) e
 
-pub target_is_in : (m : Fsmd) (q k : ℕ) (bs : List CodeBranch) (b : CodeBranch) → IsSound m → map branch_of bs ≡ branches_of (lines_of m q) → k < branch_count m q → (slice_index_or bs k b).target.0 < length m.states
+pub target_is_in : (m : Fsmd) (q k : ℕ) (bs : List CodeBranch) (b : CodeBranch) → IsSound m → map branch_of bs ≡ branches_of (transitions_of m q) → k < branch_count m q → (slice_index_or bs k b).target.0 < length m.states
 target_is_in m q k bs b sound e h = subst (λ n. n < length m.states) (sym (target_at m q k bs b e h)) (target_in m sound q k h)
 
-pub first_target_at : (m : Fsmd) (q : ℕ) (bs : List CodeBranch) (b : CodeBranch) → IsSound m → q < length m.states → map branch_of bs ≡ branches_of (lines_of m q) → (slice_index_or bs 0 b).target.0 ≡ target_of m q 0
+pub first_target_at : (m : Fsmd) (q : ℕ) (bs : List CodeBranch) (b : CodeBranch) → IsSound m → q < length m.states → map branch_of bs ≡ branches_of (transitions_of m q) → (slice_index_or bs 0 b).target.0 ≡ target_of m q 0
 first_target_at m q bs b sound h e = target_at m q 0 bs b e (some_branch m sound q h)
 
-pub first_target_is_in : (m : Fsmd) (q : ℕ) (bs : List CodeBranch) (b : CodeBranch) → IsSound m → q < length m.states → map branch_of bs ≡ branches_of (lines_of m q) → (slice_index_or bs 0 b).target.0 < length m.states
+pub first_target_is_in : (m : Fsmd) (q : ℕ) (bs : List CodeBranch) (b : CodeBranch) → IsSound m → q < length m.states → map branch_of bs ≡ branches_of (transitions_of m q) → (slice_index_or bs 0 b).target.0 < length m.states
 first_target_is_in m q bs b sound h e = target_is_in m q 0 bs b sound e (some_branch m sound q h)
 
-pub has_first : (m : Fsmd) (q : ℕ) (bs : List CodeBranch) → IsSound m → q < length m.states → map branch_of bs ≡ branches_of (lines_of m q) → 0 < length bs
+pub has_first : (m : Fsmd) (q : ℕ) (bs : List CodeBranch) → IsSound m → q < length m.states → map branch_of bs ≡ branches_of (transitions_of m q) → 0 < length bs
 has_first m q bs sound h e = omega (arith, count_is m q bs e, some_branch m sound q h)
 
 -- ---- one more

@@ -1,19 +1,19 @@
 -- Runs cut into paths.
 use Rattle.std.specs.Prelude.{◌≡◌, ℕ, zero, suc, ◌+◌, true, cond, length, List, [], ◌∷◌, ◌++◌}
-use Rattle.fs_model.specs.Machines.{Fsmd, lines_of}
+use Rattle.fs_model.specs.Machines.{Fsmd, transitions_of}
 use Rattle.fs_model.specs.Stores.{Store}
-use Rattle.fs_model.specs.Runs.{Goes}
+use Rattle.fs_model.specs.Runs.{FirstReturn}
 use Rattle.fs_model.specs.Trees.{Branch, branches_of, branch_holds}
 use Rattle.fs_cut.specs.Paths.{Point, Start, At, Done, Path, IsPath, Step, steps_in, target_of, after, effect, takes}
 
 -- the number of the first branch whose literals all hold
-abbrev pub first_open : List Branch → Store → ℕ
-first_open [] s = 0
-first_open (b ∷ bs) s = cond (branch_holds s b) 0 (suc (first_open bs s))
+abbrev pub taken_index : List Branch → Store → ℕ
+taken_index [] s = 0
+taken_index (b ∷ bs) s = cond (branch_holds s b) 0 (suc (taken_index bs s))
 
 -- the branch that a store takes
 abbrev pub branch_taken : Fsmd → ℕ → Store → ℕ
-branch_taken m q s = first_open (branches_of (lines_of m q)) s
+branch_taken m q s = taken_index (branches_of (transitions_of m q)) s
 
 -- the next n steps from a state and a store
 abbrev pub steps_of : Fsmd → ℕ → ℕ → Store → List Step
@@ -37,14 +37,14 @@ pub record IsCut (m : Fsmd) (steps : List Step) (ps : List Path) : Type 0 where
 
 -- each run is cut into paths in exactly one way
 pub record CutsInOneWay (m : Fsmd) : Type 0 where
-  pub leads : (s t : Store) (n : ℕ) → Goes m n m.reset s t → effect m (steps_of m n m.reset s) s ≡ t
-  pub some : (s t : Store) (n : ℕ) → Goes m n m.reset s t → (ps : List Path) × IsCut m (steps_of m n m.reset s) ps
+  pub leads : (s t : Store) (n : ℕ) → FirstReturn m n m.reset s t → effect m (steps_of m n m.reset s) s ≡ t
+  pub some : (s t : Store) (n : ℕ) → FirstReturn m n m.reset s t → (ps : List Path) × IsCut m (steps_of m n m.reset s) ps
   pub one : (steps : List Step) (ps qs : List Path) → IsCut m steps ps → IsCut m steps qs → ps ≡ qs
 
 -- from a point and a store, n steps are left of a run, and it ends with store t
 abbrev pub Remains : Fsmd → Point → ℕ → Store → Store → Type 0
-Remains m Start n s t = Goes m n m.reset s t
-Remains m (At q) n s t = Goes m n q s t
+Remains m Start n s t = FirstReturn m n m.reset s t
+Remains m (At q) n s t = FirstReturn m n q s t
 Remains m Done n s t = (n ≡ 0) × (s ≡ t)
 
 -- the path that a store takes from a point

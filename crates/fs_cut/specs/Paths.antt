@@ -1,7 +1,7 @@
 -- Points of a machine, and the paths between them.
 use Rattle.std.specs.Prelude.{◌≡◌, ◌≢◌, ℕ, ◌<◌, ◌==◌, nat_lt, Bool, true, false, not, ◌&&◌, cond, List, [], ◌∷◌, map}
 use Rattle.std.specs.List.{slice_index_or}
-use Rattle.fs_model.specs.Machines.{Fsmd, lines_of}
+use Rattle.fs_model.specs.Machines.{Fsmd, transitions_of}
 use Rattle.fs_model.specs.Stores.{Store}
 use Rattle.fs_model.specs.Meaning.{act_all}
 use Rattle.fs_model.specs.Trees.{Branch, branches_of, branch_holds}
@@ -34,7 +34,7 @@ end_at m q = cond (q == m.reset) Done (At q)
 
 -- a branch of a state by its number
 abbrev pub branch_at : Fsmd → ℕ → ℕ → Branch
-branch_at m q k = slice_index_or (branches_of (lines_of m q)) k (record { literals = []; actions = []; target = 0 })
+branch_at m q k = slice_index_or (branches_of (transitions_of m q)) k (record { literals = []; assignments = []; target = 0 })
 
 -- where a branch leads
 abbrev pub target_of : Fsmd → ℕ → ℕ → ℕ
@@ -76,7 +76,7 @@ steps_in p = steps_by p.branch p.states
 
 -- the store after a step
 abbrev pub after : Fsmd → Step → Store → Store
-after m x s = act_all (branch_at m x.state x.branch).actions s s
+after m x s = act_all (branch_at m x.state x.branch).assignments s s
 
 -- the store after steps
 abbrev pub effect : Fsmd → List Step → Store → Store

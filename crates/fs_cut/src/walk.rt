@@ -69,7 +69,7 @@ fn first_target(m: &Machine, state: StateId) -> StateId
     m.branches(state)[0].target
 }
 
-/// Goes from a state through states with one branch, and adds them to those left before. Gives the
+/// FirstReturn from a state through states with one branch, and adds them to those left before. Gives the
 /// state with a cut to which they lead.
 fn pass(m: &Machine, first: StateId, left: &mut Vec<StateId>) -> Result<StateId, NoMemory>
     requires { first.0 < length m.now.states }

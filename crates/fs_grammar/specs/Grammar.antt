@@ -3,9 +3,9 @@ use Rattle.std.specs.Prelude.{ℕ, zero, suc, ℤ, pos, List, [], ◌∷◌, ◌
 use Rattle.fs_model.specs.declared.parts.Rel.{Rel}
 use Rattle.fs_model.specs.declared.parts.Role.{Role}
 use Rattle.fs_model.specs.declared.parts.Sort.TheVariants as sorts
-use Rattle.fs_model.specs.Terms.{Term, Variable, Read, Sum, Difference, Product, Quotient, Remainder, Negative, Formula, Test, Not, And, Or, Action, Assign, Write}
+use Rattle.fs_model.specs.Terms.{Term, Variable, Read, Sum, Difference, Product, Quotient, Remainder, Negative, Guard, Test, Not, And, Or, Assignment, Assign, ArrayWrite}
 use Rattle.fs_model.specs.Terms as terms
-use Rattle.fs_model.specs.Source.{Declaration, SourceLine, SourceState, Source}
+use Rattle.fs_model.specs.Source.{Declaration, SourceTransition, SourceState, Source}
 use Rattle.fs_grammar.specs.declared.fault.TextKind.TheVariants.{Operators}
 use Rattle.fs_grammar.specs.declared.fault.TextFault.{TextFault}
 use Rattle.fs_grammar.specs.declared.token.TokenKind.{TokenKind}
@@ -24,36 +24,36 @@ abbrev pub with_states : Source → List SourceState → Source
 with_states s xs = record s { states = s.states ++ xs }
 
 -- the states that were read, and the one that is being read
-pub record Draft : Type 0 where
+pub record OpenState : Type 0 where
   pub source : Source
   pub state : SourceState
 
 -- more lines of the state that is being read
-abbrev pub with_lines : Draft → List SourceLine → Draft
+abbrev pub with_lines : OpenState → List SourceTransition → OpenState
 with_lines d ls = record d { state = record d.state { lines = d.state.lines ++ ls } }
 
 -- the source with the state that is being read
-abbrev pub drafted : Draft → Source
+abbrev pub drafted : OpenState → Source
 drafted d = with_states d.source (d.state ∷ [])
 
 -- a line up to its target or its last assignment
-pub record Opening : Type 0 where
-  pub draft : Draft
+pub record OpenTransition : Type 0 where
+  pub draft : OpenState
   pub begins : ℕ
-  pub guard : Option (Formula (List ℕ))
+  pub guard : Option (Guard (List ℕ))
   pub target : List ℕ
-  pub actions : List (Action (List ℕ))
+  pub assignments : List (Assignment (List ℕ))
 
 -- more assignments of the line that is being read
-abbrev pub with_actions : Opening → List (Action (List ℕ)) → Opening
-with_actions o xs = record o { actions = o.actions ++ xs }
+abbrev pub with_assignments : OpenTransition → List (Assignment (List ℕ)) → OpenTransition
+with_assignments o xs = record o { assignments = o.assignments ++ xs }
 
 -- the line that is being read, where it ends
-abbrev pub line_read : Opening → SourceLine
-line_read o = record { line = o.begins; content = record { guard = o.guard; target = o.target; actions = o.actions } }
+abbrev pub line_read : OpenTransition → SourceTransition
+line_read o = record { line = o.begins; content = record { guard = o.guard; target = o.target; assignments = o.assignments } }
 
 -- its state with the line that ends
-abbrev pub closed : Opening → Draft
+abbrev pub closed : OpenTransition → OpenState
 closed o = with_lines o.draft (line_read o ∷ [])
 
 -- what is assigned: a scalar, or an array at an index
@@ -62,87 +62,87 @@ pub data Destination : Type 0 where
   element : List ℕ → (at : Term (List ℕ)) → Destination
 
 -- a value is assigned
-abbrev pub assigned : Destination → Term (List ℕ) → Action (List ℕ)
+abbrev pub assigned : Destination → Term (List ℕ) → Assignment (List ℕ)
 assigned (scalar x) e = Assign x e
-assigned (element x i) e = Write x i e
+assigned (element x i) e = ArrayWrite x i e
 
 -- ---- what is still owed
 
 -- what a unit, a conjunction and a guard are read for
 mutual
-  pub data ForUnit : Type 0 where
-    negates : ForUnit → ForUnit
-    first_of_all : ForConjunction → ForUnit
-    and_after : Formula (List ℕ) → ForConjunction → ForUnit
+  pub data UnitContext : Type 0 where
+    negates : UnitContext → UnitContext
+    first_of_all : ConjunctionContext → UnitContext
+    and_after : Guard (List ℕ) → ConjunctionContext → UnitContext
 
-  pub data ForConjunction : Type 0 where
-    first_of_any : ForGuard → ForConjunction
-    or_after : Formula (List ℕ) → ForGuard → ForConjunction
+  pub data ConjunctionContext : Type 0 where
+    first_of_any : GuardContext → ConjunctionContext
+    or_after : Guard (List ℕ) → GuardContext → ConjunctionContext
 
-  pub data ForGuard : Type 0 where
-    braces : ForUnit → ForGuard
-    line : Draft → ℕ → ForGuard
+  pub data GuardContext : Type 0 where
+    braces : UnitContext → GuardContext
+    line : OpenState → ℕ → GuardContext
 
 -- what a factor, a product and a sum are read for
 mutual
-  pub data ForFactor : Type 0 where
-    first_factor : ForProduct → ForFactor
-    times : Term (List ℕ) → ForProduct → ForFactor
-    divides : Term (List ℕ) → ForProduct → ForFactor
-    leaves : Term (List ℕ) → ForProduct → ForFactor
-    negative : ForFactor → ForFactor
+  pub data FactorContext : Type 0 where
+    first_factor : ProductContext → FactorContext
+    times : Term (List ℕ) → ProductContext → FactorContext
+    divides : Term (List ℕ) → ProductContext → FactorContext
+    leaves : Term (List ℕ) → ProductContext → FactorContext
+    negative : FactorContext → FactorContext
 
-  pub data ForProduct : Type 0 where
-    first_product : ForSum → ForProduct
-    plus : Term (List ℕ) → ForSum → ForProduct
-    minus : Term (List ℕ) → ForSum → ForProduct
+  pub data ProductContext : Type 0 where
+    first_product : SumContext → ProductContext
+    plus : Term (List ℕ) → SumContext → ProductContext
+    minus : Term (List ℕ) → SumContext → ProductContext
 
-  pub data ForSum : Type 0 where
-    parens : ForFactor → ForSum
-    index : List ℕ → ForFactor → ForSum
-    left : ForUnit → ForSum
-    right : Rel → Term (List ℕ) → ForUnit → ForSum
-    place : Opening → List ℕ → ForSum
-    value : Opening → Destination → ForSum
+  pub data SumContext : Type 0 where
+    parens : FactorContext → SumContext
+    index : List ℕ → FactorContext → SumContext
+    left : UnitContext → SumContext
+    right : Rel → Term (List ℕ) → UnitContext → SumContext
+    place : OpenTransition → List ℕ → SumContext
+    value : OpenTransition → Destination → SumContext
 
 -- a place between two tokens
-pub data Owed : Type 0 where
-  at_start : Owed
-  at_one : Owed
-  at_semicolon : Owed
-  at_declaration : List Declaration → Owed
-  at_sort : List Declaration → ℕ → Role → Owed
-  at_declared : List Declaration → Declaration → Owed
-  after_declared : List Declaration → Declaration → Owed
-  at_reset : List Declaration → ℕ → Owed
-  after_reset : Source → Owed
-  at_state : Source → Owed
-  at_state_name : Source → ℕ → Owed
-  after_state_name : Draft → Owed
-  at_line : Draft → Owed
-  at_target : Draft → ℕ → Option (Formula (List ℕ)) → Owed
-  after_target : Opening → Owed
-  at_action : Opening → Owed
-  after_action_name : Opening → List ℕ → Owed
-  at_equals : Opening → Destination → Owed
-  at_unit : ForUnit → Owed
-  after_conjunction : Formula (List ℕ) → ForConjunction → Owed
-  after_guard : Formula (List ℕ) → ForGuard → Owed
-  at_factor : ForFactor → Owed
-  after_name : List ℕ → ForFactor → Owed
-  after_product : Term (List ℕ) → ForProduct → Owed
-  after_sum : Term (List ℕ) → ForSum → Owed
+pub data ParseState : Type 0 where
+  at_start : ParseState
+  at_one : ParseState
+  at_semicolon : ParseState
+  at_declaration : List Declaration → ParseState
+  at_sort : List Declaration → ℕ → Role → ParseState
+  at_declared : List Declaration → Declaration → ParseState
+  after_declared : List Declaration → Declaration → ParseState
+  at_reset : List Declaration → ℕ → ParseState
+  after_reset : Source → ParseState
+  at_state : Source → ParseState
+  at_state_name : Source → ℕ → ParseState
+  after_state_name : OpenState → ParseState
+  at_line : OpenState → ParseState
+  at_target : OpenState → ℕ → Option (Guard (List ℕ)) → ParseState
+  after_target : OpenTransition → ParseState
+  at_assignment : OpenTransition → ParseState
+  after_assignment_name : OpenTransition → List ℕ → ParseState
+  at_equals : OpenTransition → Destination → ParseState
+  at_unit : UnitContext → ParseState
+  after_conjunction : Guard (List ℕ) → ConjunctionContext → ParseState
+  after_guard : Guard (List ℕ) → GuardContext → ParseState
+  at_factor : FactorContext → ParseState
+  after_name : List ℕ → FactorContext → ParseState
+  after_product : Term (List ℕ) → ProductContext → ParseState
+  after_sum : Term (List ℕ) → SumContext → ParseState
 
 -- where a sum begins
-abbrev pub at_sum : ForSum → Owed
+abbrev pub at_sum : SumContext → ParseState
 at_sum k = at_factor (first_factor (first_product k))
 
 -- where a guard begins
-abbrev pub at_guard : ForGuard → Owed
+abbrev pub at_guard : GuardContext → ParseState
 at_guard k = at_unit (first_of_all (first_of_any k))
 
 -- a factor has been read
-abbrev pub factor_done : Term (List ℕ) → ForFactor → Owed
+abbrev pub factor_done : Term (List ℕ) → FactorContext → ParseState
 factor_done f (first_factor k) = after_product f k
 factor_done f (times p k) = after_product (Product p f) k
 factor_done f (divides p k) = after_product (Quotient p f) k
@@ -150,106 +150,106 @@ factor_done f (leaves p k) = after_product (Remainder p f) k
 factor_done f (negative k) = factor_done (Negative f) k
 
 -- a product has been read, and does not go on
-abbrev pub product_done : Term (List ℕ) → ForProduct → Owed
+abbrev pub product_done : Term (List ℕ) → ProductContext → ParseState
 product_done p (first_product k) = after_sum p k
 product_done p (plus s k) = after_sum (Sum s p) k
 product_done p (minus s k) = after_sum (Difference s p) k
 
 -- a unit has been read
-abbrev pub unit_done : Formula (List ℕ) → ForUnit → Owed
+abbrev pub unit_done : Guard (List ℕ) → UnitContext → ParseState
 unit_done u (negates k) = unit_done (Not u) k
 unit_done u (first_of_all k) = after_conjunction u k
 unit_done u (and_after c k) = after_conjunction (And c u) k
 
 -- a conjunction has been read, and does not go on
-abbrev pub conjunction_done : Formula (List ℕ) → ForConjunction → Owed
+abbrev pub conjunction_done : Guard (List ℕ) → ConjunctionContext → ParseState
 conjunction_done c (first_of_any k) = after_guard c k
 conjunction_done c (or_after g k) = after_guard (Or g c) k
 
 -- a literal has been read
-abbrev pub literal_done : Rel → Term (List ℕ) → Term (List ℕ) → ForUnit → Owed
+abbrev pub literal_done : Rel → Term (List ℕ) → Term (List ℕ) → UnitContext → ParseState
 literal_done r a b k = unit_done (Test (record { relation = r; left = a; right = b })) k
 
 -- ---- which token can follow, and what it leads to
 
-abbrev pub step_factor : TokenKind → ForFactor → Option Owed
+abbrev pub step_factor : TokenKind → FactorContext → Option ParseState
 step_factor (Number n) k = Some (factor_done (terms.Number n) k)
 step_factor (Name x) k = Some (after_name x k)
 step_factor Minus k = Some (at_factor (negative k))
 step_factor OpenParen k = Some (at_sum (parens k))
 step_factor _ k = None
 
-abbrev pub step_unit : TokenKind → ForUnit → Option Owed
+abbrev pub step_unit : TokenKind → UnitContext → Option ParseState
 step_unit Bang k = Some (at_unit (negates k))
 step_unit OpenBrace k = Some (at_guard (braces k))
 step_unit t k = step_factor t (first_factor (first_product (left k)))
 
-abbrev pub step_guard : TokenKind → Formula (List ℕ) → ForGuard → Option Owed
+abbrev pub step_guard : TokenKind → Guard (List ℕ) → GuardContext → Option ParseState
 step_guard OrOr g k = Some (at_unit (first_of_all (or_after g k)))
 step_guard CloseBrace g (braces k) = Some (unit_done g k)
 step_guard Goto g (line d n) = Some (at_target d n (Some g))
 step_guard _ g k = None
 
 -- after a guard that may go on
-abbrev pub step_guarded : TokenKind → Owed → Option Owed
+abbrev pub step_guarded : TokenKind → ParseState → Option ParseState
 step_guarded t (after_guard g k) = step_guard t g k
 step_guarded t _ = None
 
-abbrev pub step_conjunction : TokenKind → Formula (List ℕ) → ForConjunction → Option Owed
+abbrev pub step_conjunction : TokenKind → Guard (List ℕ) → ConjunctionContext → Option ParseState
 step_conjunction AndAnd c k = Some (at_unit (and_after c k))
 step_conjunction t c k = step_guarded t (conjunction_done c k)
 
 -- after a conjunction that may go on
-abbrev pub step_joined : TokenKind → Owed → Option Owed
+abbrev pub step_joined : TokenKind → ParseState → Option ParseState
 step_joined t (after_conjunction c k) = step_conjunction t c k
 step_joined t _ = None
 
-abbrev pub step_sum : TokenKind → Term (List ℕ) → ForSum → Option Owed
+abbrev pub step_sum : TokenKind → Term (List ℕ) → SumContext → Option ParseState
 step_sum Plus s k = Some (at_factor (first_factor (plus s k)))
 step_sum Minus s k = Some (at_factor (first_factor (minus s k)))
 step_sum CloseParen s (parens k) = Some (factor_done s k)
 step_sum CloseBracket s (index x k) = Some (factor_done (Read x s) k)
 step_sum CloseBracket s (place o x) = Some (at_equals o (element x s))
 step_sum (Relation r) s (left k) = Some (at_sum (right r s k))
-step_sum Comma s (value o d) = Some (at_action (with_actions o (assigned d s ∷ [])))
-step_sum Semicolon s (value o d) = Some (at_line (closed (with_actions o (assigned d s ∷ []))))
+step_sum Comma s (value o d) = Some (at_assignment (with_assignments o (assigned d s ∷ [])))
+step_sum Semicolon s (value o d) = Some (at_line (closed (with_assignments o (assigned d s ∷ []))))
 step_sum t s (right r l k) = step_joined t (literal_done r l s k)
 step_sum _ s k = None
 
 -- after a sum that may go on
-abbrev pub step_summed : TokenKind → Owed → Option Owed
+abbrev pub step_summed : TokenKind → ParseState → Option ParseState
 step_summed t (after_sum s k) = step_sum t s k
 step_summed t _ = None
 
-abbrev pub step_product : TokenKind → Term (List ℕ) → ForProduct → Option Owed
+abbrev pub step_product : TokenKind → Term (List ℕ) → ProductContext → Option ParseState
 step_product Star p k = Some (at_factor (times p k))
 step_product Slash p k = Some (at_factor (divides p k))
 step_product Percent p k = Some (at_factor (leaves p k))
 step_product t p k = step_summed t (product_done p k)
 
 -- after a product that may go on
-abbrev pub step_multiplied : TokenKind → Owed → Option Owed
+abbrev pub step_multiplied : TokenKind → ParseState → Option ParseState
 step_multiplied t (after_product p k) = step_product t p k
 step_multiplied t _ = None
 
-abbrev pub step_name : TokenKind → List ℕ → ForFactor → Option Owed
+abbrev pub step_name : TokenKind → List ℕ → FactorContext → Option ParseState
 step_name OpenBracket x k = Some (at_sum (index x k))
 step_name t x k = step_multiplied t (factor_done (Variable x) k)
 
 -- n is the line of the token
-abbrev pub step_line : ℕ → TokenKind → Draft → Option Owed
+abbrev pub step_line : ℕ → TokenKind → OpenState → Option ParseState
 step_line n When d = Some (at_guard (line d n))
 step_line n Goto d = Some (at_target d n None)
 step_line n State d = Some (at_state_name (drafted d) n)
 step_line n _ d = None
 
 -- the number after the first word is 1
-abbrev pub step_one : ℤ → Option Owed
+abbrev pub step_one : ℤ → Option ParseState
 step_one (pos (suc zero)) = Some at_semicolon
 step_one _ = None
 
 -- what a token on line n leads to, or none where it cannot follow
-abbrev pub step : Owed → ℕ → TokenKind → Option Owed
+abbrev pub step : ParseState → ℕ → TokenKind → Option ParseState
 step at_start n Fsmd = Some at_one
 step at_start n _ = None
 step at_one n (Number k) = step_one k
@@ -278,16 +278,16 @@ step (at_state_name s m) n _ = None
 step (after_state_name d) n Colon = Some (at_line d)
 step (after_state_name d) n _ = None
 step (at_line d) n t = step_line n t d
-step (at_target d m g) n (Name x) = Some (after_target (record { draft = d; begins = m; guard = g; target = x; actions = [] }))
+step (at_target d m g) n (Name x) = Some (after_target (record { draft = d; begins = m; guard = g; target = x; assignments = [] }))
 step (at_target d m g) n _ = None
-step (after_target o) n Colon = Some (at_action o)
+step (after_target o) n Colon = Some (at_assignment o)
 step (after_target o) n Semicolon = Some (at_line (closed o))
 step (after_target o) n _ = None
-step (at_action o) n (Name x) = Some (after_action_name o x)
-step (at_action o) n _ = None
-step (after_action_name o x) n Equals = Some (at_sum (value o (scalar x)))
-step (after_action_name o x) n OpenBracket = Some (at_sum (place o x))
-step (after_action_name o x) n _ = None
+step (at_assignment o) n (Name x) = Some (after_assignment_name o x)
+step (at_assignment o) n _ = None
+step (after_assignment_name o x) n Equals = Some (at_sum (value o (scalar x)))
+step (after_assignment_name o x) n OpenBracket = Some (at_sum (place o x))
+step (after_assignment_name o x) n _ = None
 step (at_equals o d) n Equals = Some (at_sum (value o d))
 step (at_equals o d) n _ = None
 step (at_unit k) n t = step_unit t k
@@ -299,7 +299,7 @@ step (after_product p k) n t = step_product t p k
 step (after_sum s k) n t = step_sum t s k
 
 -- the source, where a text may end here
-abbrev pub finish : Owed → Option Source
+abbrev pub finish : ParseState → Option Source
 finish (at_state s) = Some s
 finish (at_line d) = Some (drafted d)
 finish _ = None
@@ -310,11 +310,11 @@ stop End f (Some s) = Ok s
 stop _ f _ = Err f
 
 -- a token that can follow is taken where it is not over
-abbrev pub next : Token → Option Owed → (Owed → Result Source TextFault) → Option Source → Result Source TextFault
-next t (Some s) go end = cond t.over (Err (fault_at t Operators)) (go s)
+abbrev pub next : Token → Option ParseState → (ParseState → Result Source TextFault) → Option Source → Result Source TextFault
+next t (Some s) go end = cond t.past_limit (Err (fault_at t Operators)) (go s)
 next t None go end = stop t.kind (refusal (t ∷ [])) end
 
 -- what the tokens read as from a state on, or the first fault
-abbrev pub reading : List Token → Owed → Result Source TextFault
+abbrev pub reading : List Token → ParseState → Result Source TextFault
 reading [] s = Err (refusal [])
 reading (t ∷ ts) s = next t (step s t.place.line t.kind) (reading ts) (finish s)

@@ -27,9 +27,9 @@ Gives view (Ok x) reading = reading ≡ Ok (view x)
 Gives view (Err e) reading = Fails e reading
 
 -- the whole reading goes on after x as next says, or stops at this fault, or there was no memory
-abbrev pub Goes : {X Y : Type 0} → Result X ReadError → Result Y TextFault → (X → Result Y TextFault) → Type 0
-Goes (Ok x) reading next = reading ≡ next x
-Goes (Err e) reading next = Fails e reading
+abbrev pub ParsesOn : {X Y : Type 0} → Result X ReadError → Result Y TextFault → (X → Result Y TextFault) → Type 0
+ParsesOn (Ok x) reading next = reading ≡ next x
+ParsesOn (Err e) reading next = Fails e reading
 
 -- what was made is so, or there was no memory
 abbrev pub MadeAs : {X : Type 0} → Result X ReadError → (X → Type 0) → Type 0
@@ -66,4 +66,4 @@ refusal (t ∷ ts) = fault_at t (fault_of t.kind)
 -- the tokens after a first one that can follow
 abbrev pub accepted : List Token → Result (List Token) TextFault
 accepted [] = Err (refusal [])
-accepted (t ∷ ts) = cond t.over (Err (fault_at t Operators)) (Ok ts)
+accepted (t ∷ ts) = cond t.past_limit (Err (fault_at t Operators)) (Ok ts)

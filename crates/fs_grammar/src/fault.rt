@@ -9,7 +9,7 @@ use thiserror::Error;
 
 /// A place in a text; lines and columns count from 1.
 #[derive(Clone, Copy, Debug, PartialEq, Eq)]
-pub struct Place {
+pub struct TextPlace {
     pub line: u32,
     pub column: u32,
 }

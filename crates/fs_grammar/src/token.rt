@@ -4,7 +4,7 @@ ghost use Rattle.std.specs.Prelude.{◌≡◌, ◌<◌, length, IfOk, option_cop
 ghost use Rattle.fs_grammar.specs.declared.fault.ReadError.TheVariants.{Text};
 ghost use Rattle.fs_grammar.specs.Tokens.{Gives, kind_at, line_at, fault_of, accepted, refusal};
 
-use crate::fault::{Place, ReadError, TextFault, TextKind};
+use crate::fault::{TextPlace, ReadError, TextFault, TextKind};
 use fs_model::name::Name;
 use fs_model::parts::{Rel, Role};
 
@@ -95,8 +95,8 @@ pub enum TokenKind {
 #[derive(Drop)]
 pub struct Token {
     pub kind: TokenKind,
-    pub over: bool,
-    pub place: Place,
+    pub past_limit: bool,
+    pub place: TextPlace,
 }
 
 /// What the first token is.
@@ -127,7 +127,7 @@ pub fn accept(tokens: &[Token]) -> Result<&[Token], ReadError>
     match tokens {
         [] => Err(refuse(tokens)),
         [first, rest @ ..] => {
-            if first.over {
+            if first.past_limit {
                 return Err(fault_at(first.place, TextKind::Operators));
             }
             Ok(rest)
@@ -140,12 +140,12 @@ pub fn refuse(tokens: &[Token]) -> ReadError
     ensures { result ≡ Text (refusal tokens.now) }
 {
     match tokens {
-        [] => fault_at(Place { line: 0, column: 0 }, TextKind::Ended),
+        [] => fault_at(TextPlace { line: 0, column: 0 }, TextKind::Ended),
         [first, ..] => fault_at(first.place, fault_of(&first.kind)),
     }
 }
 
-fn fault_at(place: Place, kind: TextKind) -> ReadError
+fn fault_at(place: TextPlace, kind: TextKind) -> ReadError
     ensures { result ≡ Text (record { line = place.line; column = place.column; kind = kind }) }
 {
     ReadError::Text(TextFault {

@@ -58,9 +58,9 @@ decimal bs = fold shifted 0 bs
 unfoldable pub number_of : List ℕ → TokenKind
 number_of bs = cond (nat_lt (decimal bs) (2 ^ 127)) (Number (pos (decimal bs))) (Bad flaws.Number)
 
--- a sign of two bytes
-abbrev pub double_sign : ℕ → ℕ → Option TokenKind
-double_sign b c =
+-- a punctuation of two bytes
+abbrev pub double_punctuation : ℕ → ℕ → Option TokenKind
+double_punctuation b c =
     cond (bytes_eq (b ∷ c ∷ []) (codes "==")) (Some (Relation Eq))
     (cond (bytes_eq (b ∷ c ∷ []) (codes "!=")) (Some (Relation Ne))
     (cond (bytes_eq (b ∷ c ∷ []) (codes "<=")) (Some (Relation Le))
@@ -68,7 +68,7 @@ double_sign b c =
     (cond (bytes_eq (b ∷ c ∷ []) (codes "&&")) (Some AndAnd)
     (cond (bytes_eq (b ∷ c ∷ []) (codes "||")) (Some OrOr) None)))))
 
--- a sign of one byte that groups or separates
+-- a punctuation of one byte that groups or separates
 abbrev pub mark : ℕ → Option TokenKind
 mark b =
     cond (bytes_eq (b ∷ []) (codes ";")) (Some Semicolon)
@@ -82,7 +82,7 @@ mark b =
     (cond (bytes_eq (b ∷ []) (codes "{")) (Some OpenBrace)
     (cond (bytes_eq (b ∷ []) (codes "}")) (Some CloseBrace) None)))))))))
 
--- a sign of one byte that computes or compares, or a byte that begins no token
+-- a punctuation of one byte that computes or compares, or a byte that begins no token
 abbrev pub operator : ℕ → TokenKind
 operator b =
     cond (bytes_eq (b ∷ []) (codes "+")) Plus
@@ -99,18 +99,18 @@ or_operator b (Some t) = t
 or_operator b None = operator b
 
 -- the token of one byte that is no letter or digit
-abbrev pub single_sign : ℕ → TokenKind
-single_sign b = or_operator b (mark b)
+abbrev pub single_punctuation : ℕ → TokenKind
+single_punctuation b = or_operator b (mark b)
 
 abbrev pub longest : Option TokenKind → ℕ → Lexeme
 longest (Some t) b = Token t 2
-longest None b = Token (single_sign b) 1
+longest None b = Token (single_punctuation b) 1
 
--- the longest sign is taken
-abbrev pub sign_of : List ℕ → Lexeme
-sign_of [] = Blank 0
-sign_of (b ∷ []) = Token (single_sign b) 1
-sign_of (b ∷ c ∷ bs) = longest (double_sign b c) b
+-- the longest punctuation is taken
+abbrev pub punctuation_of : List ℕ → Lexeme
+punctuation_of [] = Blank 0
+punctuation_of (b ∷ []) = Token (single_punctuation b) 1
+punctuation_of (b ∷ c ∷ bs) = longest (double_punctuation b c) b
 
 -- what the front of the bytes is: a word or a run of digits is as long as it can be
 abbrev pub lexeme_of : List ℕ → Lexeme
@@ -119,7 +119,7 @@ lexeme_of (b ∷ bs) =
     cond (is_space b) (Blank 1)
     (cond (b == 35) (Blank (prefix_len is_in_comment (b ∷ bs)))
     (cond (is_letter b) (Token (word_of (take (prefix_len is_word_byte (b ∷ bs)) (b ∷ bs))) (prefix_len is_word_byte (b ∷ bs)))
-    (cond (is_digit b) (Token (number_of (take (prefix_len is_digit (b ∷ bs)) (b ∷ bs))) (prefix_len is_digit (b ∷ bs))) (sign_of (b ∷ bs)))))
+    (cond (is_digit b) (Token (number_of (take (prefix_len is_digit (b ∷ bs)) (b ∷ bs))) (prefix_len is_digit (b ∷ bs))) (punctuation_of (b ∷ bs)))))
 
 -- how many bytes it takes
 abbrev pub size : Lexeme → ℕ

@@ -1,6 +1,6 @@
 -- The tokens of a text, with their places.
 use Rattle.std.specs.Prelude.{ℕ, zero, suc, ◌+◌, ◌-◌, Bool, true, false, cond, ◌&&◌, ◌==◌, nat_le, List, [], ◌∷◌}
-use Rattle.fs_grammar.specs.declared.fault.Place.{Place}
+use Rattle.fs_grammar.specs.declared.fault.TextPlace.{TextPlace}
 use Rattle.fs_grammar.specs.declared.token.TokenKind.{TokenKind}
 use Rattle.fs_grammar.specs.declared.token.TokenKind.TheVariants.{When, Colon, Comma, OpenParen, OpenBracket, OpenBrace, Plus, Minus, Star, Slash, Percent, Bang, AndAnd, OrOr, Relation, Bad, End}
 use Rattle.fs_grammar.specs.declared.token.Token.{Token}
@@ -9,11 +9,11 @@ use Rattle.fs_lex.specs.declared.Lexeme.TheVariants as lexemes
 use Rattle.fs_lex.specs.Lexemes.{lexeme_of}
 
 -- the place after a byte
-abbrev pub after : Place → ℕ → Place
+abbrev pub after : TextPlace → ℕ → TextPlace
 after p b = cond (b == 10) (record { line = p.line + 1; column = 1 }) (record { line = p.line; column = p.column + 1 })
 
 -- the place after some bytes
-abbrev pub moved : Place → List ℕ → Place
+abbrev pub moved : TextPlace → List ℕ → TextPlace
 moved p [] = p
 moved p (b ∷ bs) = moved (after p b) bs
 
@@ -34,32 +34,32 @@ is_operator (Relation r) = true
 is_operator _ = false
 
 -- a guard or an assignment begins after it
-abbrev pub is_border : TokenKind → Bool
-is_border When = true
-is_border Colon = true
-is_border Comma = true
-is_border _ = false
+abbrev pub starts_expression : TokenKind → Bool
+starts_expression When = true
+starts_expression Colon = true
+starts_expression Comma = true
+starts_expression _ = false
 
 -- how many operators the guard or assignment has up to the token, where n stand before the token
 abbrev pub counted : TokenKind → ℕ → ℕ
-counted t n = cond (is_border t) 0 (cond (is_operator t) (n + 1) n)
+counted t n = cond (starts_expression t) 0 (cond (is_operator t) (n + 1) n)
 
 -- an operator after 128 others
-abbrev pub is_over : TokenKind → ℕ → Bool
-is_over t n = is_operator t && nat_le 128 n
+abbrev pub is_past_limit : TokenKind → ℕ → Bool
+is_past_limit t n = is_operator t && nat_le 128 n
 
 abbrev pub is_bad : TokenKind → Bool
 is_bad (Bad flaw) = true
 is_bad _ = false
 
 -- blanks give no token, and nothing comes after a token that is bad
-abbrev pub emitted : Lexeme → Place → ℕ → (ℕ → ℕ → List Token) → List Token
+abbrev pub emitted : Lexeme → TextPlace → ℕ → (ℕ → ℕ → List Token) → List Token
 emitted (lexemes.Blank n) p operators go = go (n - 1) operators
-emitted (lexemes.Token t n) p operators go = record { kind = t; over = is_over t operators; place = p } ∷ cond (is_bad t) [] (go (n - 1) (counted t operators))
+emitted (lexemes.Token t n) p operators go = record { kind = t; past_limit = is_past_limit t operators; place = p } ∷ cond (is_bad t) [] (go (n - 1) (counted t operators))
 
 -- the tokens from a place on, where skip bytes still belong to the token before
-abbrev pub scan : List ℕ → ℕ → Place → ℕ → List Token
-scan [] skip p operators = record { kind = End; over = false; place = p } ∷ []
+abbrev pub scan : List ℕ → ℕ → TextPlace → ℕ → List Token
+scan [] skip p operators = record { kind = End; past_limit = false; place = p } ∷ []
 scan (b ∷ bs) (suc skip) p operators = scan bs skip (after p b) operators
 scan (b ∷ bs) zero p operators = emitted (lexeme_of (b ∷ bs)) p operators (λ skip n. scan bs skip (after p b) n)
 

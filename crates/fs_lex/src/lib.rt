@@ -1,17 +1,17 @@
 //! The tokens of a machine text.
 //!
 //! Space, tab, CR and LF separate tokens; a comment runs from `#` to the end of its line. Words,
-//! numbers and signs are as long as they can be.
+//! numbers and operator_count are as long as they can be.
 #![tactic(auto)]
 
 ghost use Rattle.std.specs.Prelude.{◌≡◌, ◌<◌, ◌≤◌, ◌+◌, ◌^◌, ℕ, pos, true, length, IfOk, SomeIff};
 ghost use Rattle.std.specs.List.{prefix_len};
 ghost use Rattle.fs_model.specs.Words.{is_digit, is_word_byte};
 ghost use Rattle.fs_grammar.specs.Tokens.{MadeAs};
-ghost use Rattle.fs_lex.specs.Lexemes.{is_space, is_in_comment, keyword_of, word_of, decimal, number_of, double_sign, mark, operator, single_sign, sign_of, lexeme_of, size};
-ghost use Rattle.fs_lex.specs.Scan.{moved, is_operator, is_border, counted, is_over, is_bad, tokens_of};
+ghost use Rattle.fs_lex.specs.Lexemes.{is_space, is_in_comment, keyword_of, word_of, decimal, number_of, double_punctuation, mark, operator, single_punctuation, punctuation_of, lexeme_of, size};
+ghost use Rattle.fs_lex.specs.Scan.{moved, is_operator, starts_expression, counted, is_past_limit, is_bad, tokens_of};
 
-use fs_grammar::fault::{Place, ReadError};
+use fs_grammar::fault::{TextPlace, ReadError};
 use fs_grammar::token::{Flaw, Token, TokenKind};
 use fs_model::name::{Name, is_digit, is_letter, is_word_byte};
 use fs_model::parts::{Rel, Role};
@@ -131,8 +131,8 @@ fn number(bytes: &[u8]) -> TokenKind
     }
 }
 
-fn double_sign(first: u8, second: u8) -> Option<TokenKind>
-    ensures { result ≡ double_sign first second }
+fn double_punctuation(first: u8, second: u8) -> Option<TokenKind>
+    ensures { result ≡ double_punctuation first second }
 {
     match (first, second) {
         (b'=', b'=') => Some(TokenKind::Relation(Rel::Eq)),
@@ -179,8 +179,8 @@ fn operator(b: u8) -> TokenKind
     }
 }
 
-fn single_sign(b: u8) -> TokenKind
-    ensures { result ≡ single_sign b }
+fn single_punctuation(b: u8) -> TokenKind
+    ensures { result ≡ single_punctuation b }
 {
     match mark(b) {
         Some(kind) => kind,
@@ -188,18 +188,18 @@ fn single_sign(b: u8) -> TokenKind
     }
 }
 
-fn sign(bytes: &[u8]) -> Lexeme
+fn punctuation(bytes: &[u8]) -> Lexeme
     requires { 0 < length bytes.now }
-    ensures is { result ≡ sign_of bytes.now }
+    ensures is { result ≡ punctuation_of bytes.now }
     ensures some { 0 < size result }
     ensures fits { size result ≤ length bytes.now }
 {
     if bytes.len() > 1 {
-        if let Some(kind) = double_sign(bytes[0], bytes[1]) {
+        if let Some(kind) = double_punctuation(bytes[0], bytes[1]) {
             return Lexeme::Token(kind, 2);
         }
     }
-    Lexeme::Token(single_sign(bytes[0]), 1)
+    Lexeme::Token(single_punctuation(bytes[0]), 1)
 }
 
 fn next_lexeme(alloc: Global, bytes: &[u8]) -> Result<Lexeme, ReadError>
@@ -223,7 +223,7 @@ fn next_lexeme(alloc: Global, bytes: &[u8]) -> Result<Lexeme, ReadError>
         let n = digits_len(bytes);
         return Ok(Lexeme::Token(number(&bytes[..n]), n));
     }
-    Ok(sign(bytes))
+    Ok(punctuation(bytes))
 }
 
 fn is_operator(kind: &TokenKind) -> bool
@@ -246,8 +246,8 @@ fn is_operator(kind: &TokenKind) -> bool
     )
 }
 
-fn is_border(kind: &TokenKind) -> bool
-    ensures { result ≡ is_border kind.now }
+fn starts_expression(kind: &TokenKind) -> bool
+    ensures { result ≡ starts_expression kind.now }
 {
     matches!(kind, TokenKind::When | TokenKind::Colon | TokenKind::Comma)
 }
@@ -263,7 +263,7 @@ fn counted(kind: &TokenKind, operators: usize) -> usize
     ensures is { result ≡ counted kind.now operators }
     ensures small { result ≤ operators + 1 }
 {
-    if is_border(kind) {
+    if starts_expression(kind) {
         0
     } else if is_operator(kind) {
         operators + 1
@@ -272,13 +272,13 @@ fn counted(kind: &TokenKind, operators: usize) -> usize
     }
 }
 
-fn is_over(kind: &TokenKind, operators: usize) -> bool
-    ensures { result ≡ is_over kind.now operators }
+fn is_past_limit(kind: &TokenKind, operators: usize) -> bool
+    ensures { result ≡ is_past_limit kind.now operators }
 {
     is_operator(kind) && operators >= OPERATOR_LIMIT
 }
 
-fn moved(from: Place, bytes: &[u8]) -> Place
+fn moved(from: TextPlace, bytes: &[u8]) -> TextPlace
     requires line { from.line + length bytes.now < 2 ^ 32 }
     requires column { from.column + length bytes.now < 2 ^ 32 }
     requires some { 0 < from.column }
@@ -290,12 +290,12 @@ fn moved(from: Place, bytes: &[u8]) -> Place
     let mut place = from;
     for b in bytes {
         place = if *b == b'\n' {
-            Place {
+            TextPlace {
                 line: place.line + 1,
                 column: 1,
             }
         } else {
-            Place {
+            TextPlace {
                 line: place.line,
                 column: place.column + 1,
             }
@@ -313,7 +313,7 @@ pub fn tokens(alloc: Global, bytes: &[u8]) -> Result<Vec<Token>, ReadError>
 {
     let mut out = Vec::new(alloc);
     let mut rest = bytes;
-    let mut place = Place { line: 1, column: 1 };
+    let mut place = TextPlace { line: 1, column: 1 };
     let mut operators = 0;
     'each: while !rest.is_empty() {
         match next_lexeme(alloc, rest)? {
@@ -323,10 +323,10 @@ pub fn tokens(alloc: Global, bytes: &[u8]) -> Result<Vec<Token>, ReadError>
                 rest = behind;
             }
             Lexeme::Token(kind, n) => {
-                let over = is_over(&kind, operators);
+                let past_limit = is_past_limit(&kind, operators);
                 let bad = is_bad(&kind);
                 operators = counted(&kind, operators);
-                out.push(Token { kind, over, place })?;
+                out.push(Token { kind, past_limit, place })?;
                 if bad {
                     return Ok(out);
                 }
@@ -338,7 +338,7 @@ pub fn tokens(alloc: Global, bytes: &[u8]) -> Result<Vec<Token>, ReadError>
     }
     out.push(Token {
         kind: TokenKind::End,
-        over: false,
+        past_limit: false,
         place,
     })?;
     Ok(out)

@@ -6,10 +6,10 @@ use Rattle.std.specs.Option.{option_to_list}
 use Rattle.std.proofs.lemmas.List.Folds.{list_all-append}
 use Rattle.fs_model.specs.declared.parts.Rel.{Rel}
 use Rattle.fs_model.specs.declared.parts.Rel.TheVariants.{Eq, Ne, Lt, Le, Gt, Ge}
-use Rattle.fs_model.specs.Terms.{Literal, Formula, Test, Not, And, Or, Line}
+use Rattle.fs_model.specs.Terms.{Literal, Guard, Test, Not, And, Or, Transition}
 use Rattle.fs_model.specs.Stores.{Store}
-use Rattle.fs_model.specs.Meaning.{value, relates, literal_holds, holds, guard_holds, line_taken}
-use Rattle.fs_model.specs.Trees.{Tree, Empty, Leaf, Node, Branch, Effect, tree_of_formula, tree_of_guard, tree_of_lines, opposite, negated, leaves, branches_of, effects_open, effect_taken}
+use Rattle.fs_model.specs.Meaning.{value, relates, literal_holds, holds, condition_holds, transition_taken}
+use Rattle.fs_model.specs.Trees.{Tree, Empty, Leaf, Node, Branch, Effect, tree_of_guard, tree_of_condition, tree_of_transitions, opposite, negated, leaves, branches_of, effects_open, effect_taken}
 
 opposite_relates : (r : Rel) (a b : ℤ) → relates (opposite r) a b ≡ not (relates r a b)
 opposite_relates Eq a b = refl
@@ -26,30 +26,30 @@ opposite_holds l s = opposite_relates l.relation (value l.left s) (value l.right
 -- what is done at the leaf that a store comes to
 abbrev pub reached : Tree → Store → Option Effect
 reached Empty s = None
-reached (Leaf actions target) s = Some (actions, target)
+reached (Leaf assignments target) s = Some (assignments, target)
 reached (Node l y n) s = cond (literal_holds l s) (reached y s) (reached n s)
 
-reached-formula : (g : Formula ℕ) (y n : Tree) (s : Store) → reached (tree_of_formula g y n) s ≡ cond (holds g s) (reached y s) (reached n s)
-reached-formula (Test l) y n s = refl
-reached-formula (Not g) y n s = grind (arith, reached-formula g n y s)
-reached-formula (And a b) y n s = grind (arith, reached-formula a (tree_of_formula b y n) n s, reached-formula b y n s)
-reached-formula (Or a b) y n s = grind (arith, reached-formula a y (tree_of_formula b y n) s, reached-formula b y n s)
+reached-guard : (g : Guard ℕ) (y n : Tree) (s : Store) → reached (tree_of_guard g y n) s ≡ cond (holds g s) (reached y s) (reached n s)
+reached-guard (Test l) y n s = refl
+reached-guard (Not g) y n s = grind (arith, reached-guard g n y s)
+reached-guard (And a b) y n s = grind (arith, reached-guard a (tree_of_guard b y n) n s, reached-guard b y n s)
+reached-guard (Or a b) y n s = grind (arith, reached-guard a y (tree_of_guard b y n) s, reached-guard b y n s)
 
-reached-guard : (g : Option (Formula ℕ)) (y n : Tree) (s : Store) → reached (tree_of_guard g y n) s ≡ cond (guard_holds g s) (reached y s) (reached n s)
-reached-guard None y n s = refl
-reached-guard (Some g) y n s = reached-formula g y n s
+reached-condition : (g : Option (Guard ℕ)) (y n : Tree) (s : Store) → reached (tree_of_condition g y n) s ≡ cond (condition_holds g s) (reached y s) (reached n s)
+reached-condition None y n s = refl
+reached-condition (Some g) y n s = reached-guard g y n s
 
-effect_where : (b : Bool) (l : Line ℕ ℕ) (o : Option (Line ℕ ℕ))
-    → cond {A = Option Effect} b (Some (l.actions, l.target)) (option_map (λ (k : Line ℕ ℕ). (k.actions, k.target)) o) ≡ option_map (λ (k : Line ℕ ℕ). (k.actions, k.target)) (cond b (Some l) o)
+effect_where : (b : Bool) (l : Transition ℕ ℕ) (o : Option (Transition ℕ ℕ))
+    → cond {A = Option Effect} b (Some (l.assignments, l.target)) (option_map (λ (k : Transition ℕ ℕ). (k.assignments, k.target)) o) ≡ option_map (λ (k : Transition ℕ ℕ). (k.assignments, k.target)) (cond b (Some l) o)
 effect_where true l o = refl
 effect_where false l o = refl
 
-reached-lines : (ls : List (Line ℕ ℕ)) (s : Store) → reached (tree_of_lines ls) s ≡ effect_taken ls s
+reached-lines : (ls : List (Transition ℕ ℕ)) (s : Store) → reached (tree_of_transitions ls) s ≡ effect_taken ls s
 reached-lines [] s = refl
 reached-lines (l ∷ ls) s =
-    reached-guard l.guard (Leaf l.actions l.target) (tree_of_lines ls) s
-    ∙ ap (λ (o : Option Effect). cond {A = Option Effect} (guard_holds l.guard s) (Some (l.actions, l.target)) o) (reached-lines ls s)
-    ∙ effect_where (guard_holds l.guard s) l (line_taken ls s)
+    reached-condition l.guard (Leaf l.assignments l.target) (tree_of_transitions ls) s
+    ∙ ap (λ (o : Option Effect). cond {A = Option Effect} (condition_holds l.guard s) (Some (l.assignments, l.target)) o) (reached-lines ls s)
+    ∙ effect_where (condition_holds l.guard s) l (transition_taken ls s)
 
 effects_open-append : (a b : List Branch) (s : Store) → effects_open (a ++ b) s ≡ effects_open a s ++ effects_open b s
 effects_open-append [] b s = refl
@@ -66,11 +66,11 @@ all_hold ls s = list_all (λ l. literal_holds l s) ls
 -- where the way so far is open, the leaves below give the one that the store comes to
 below : (t : Tree) (way : List (Literal ℕ)) (s : Store) → effects_open (leaves t way) s ≡ cond (all_hold way s) (option_to_list (reached t s)) []
 below Empty way s = grind arith
-below (Leaf actions target) way s = grind arith
+below (Leaf assignments target) way s = grind arith
 below (Node l y n) way s =
     effects_open-append (leaves y (way ++ l ∷ [])) (leaves n (way ++ negated l ∷ [])) s
     ∙ ap₂ (λ u v. u ++ v) (below y (way ++ l ∷ []) s) (below n (way ++ negated l ∷ []) s)
     ∙ joined (all_hold way s) (literal_holds l s) _ _ (reached y s) (reached n s) (list_all-append (λ k. literal_holds k s) way (l ∷ [])) (list_all-append (λ k. literal_holds k s) way (negated l ∷ []) ∙ ap (λ z. all_hold way s && (z && true)) (opposite_holds l s))
 
-pub one_leaf_open : (ls : List (Line ℕ ℕ)) (s : Store) → effects_open (branches_of ls) s ≡ option_to_list (effect_taken ls s)
-one_leaf_open ls s = below (tree_of_lines ls) [] s ∙ ap option_to_list (reached-lines ls s)
+pub one_leaf_open : (ls : List (Transition ℕ ℕ)) (s : Store) → effects_open (branches_of ls) s ≡ option_to_list (effect_taken ls s)
+one_leaf_open ls s = below (tree_of_transitions ls) [] s ∙ ap option_to_list (reached-lines ls s)

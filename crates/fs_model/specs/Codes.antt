@@ -9,7 +9,7 @@ use Rattle.fs_model.specs.declared.parts.Role.TheVariants.{Input, Output, Local}
 use Rattle.fs_model.specs.declared.parts.Sort.{Sort}
 use Rattle.fs_model.specs.declared.parts.Sort.TheVariants.{Scalar, Array}
 use Rattle.fs_model.specs.declared.parts.VarInfo.{VarInfo}
-use Rattle.fs_model.specs.Terms.{Term, Number, Variable, Read, Sum, Difference, Product, Quotient, Remainder, Negative, Literal, Formula, Test, Not, And, Or, Action, Assign, Write, Line}
+use Rattle.fs_model.specs.Terms.{Term, Number, Variable, Read, Sum, Difference, Product, Quotient, Remainder, Negative, Literal, Guard, Test, Not, And, Or, Assignment, Assign, ArrayWrite, Transition}
 use Rattle.fs_model.specs.Machines.{State, Fsmd}
 
 abbrev pub code_rel : Rel → Gv
@@ -210,52 +210,52 @@ code_literal = coded_literal.code
 inj_literal : (x y : Literal ℕ) → code_literal x ≡ code_literal y → x ≡ y
 inj_literal = coded_literal.inj
 
-abbrev pub code_formula : Formula ℕ → Gv
-code_formula (Test x0) = gcons (gnum 0) (code_literal x0)
-code_formula (Not x0) = gcons (gnum 1) (code_formula x0)
-code_formula (And x0 x1) = gcons (gnum 2) ((gcons (code_formula x0) (code_formula x1)))
-code_formula (Or x0 x1) = gcons (gnum 3) ((gcons (code_formula x0) (code_formula x1)))
+abbrev pub code_guard : Guard ℕ → Gv
+code_guard (Test x0) = gcons (gnum 0) (code_literal x0)
+code_guard (Not x0) = gcons (gnum 1) (code_guard x0)
+code_guard (And x0 x1) = gcons (gnum 2) ((gcons (code_guard x0) (code_guard x1)))
+code_guard (Or x0 x1) = gcons (gnum 3) ((gcons (code_guard x0) (code_guard x1)))
 
-pub inj_formula : (x y : Formula ℕ) → code_formula x ≡ code_formula y → x ≡ y
-inj_formula (Test x0) (Test y0) e = let e0 : x0 ≡ y0 = inj_literal x0 y0 (cc) in cc
-inj_formula (Test x0) (Not y0) e = cc
-inj_formula (Test x0) (And y0 y1) e = cc
-inj_formula (Test x0) (Or y0 y1) e = cc
-inj_formula (Not x0) (Test y0) e = cc
-inj_formula (Not x0) (Not y0) e = let e0 : x0 ≡ y0 = inj_formula x0 y0 (cc) in cc
-inj_formula (Not x0) (And y0 y1) e = cc
-inj_formula (Not x0) (Or y0 y1) e = cc
-inj_formula (And x0 x1) (Test y0) e = cc
-inj_formula (And x0 x1) (Not y0) e = cc
-inj_formula (And x0 x1) (And y0 y1) e = let e0 : x0 ≡ y0 = inj_formula x0 y0 (cc) in let e1 : x1 ≡ y1 = inj_formula x1 y1 (cc) in cc
-inj_formula (And x0 x1) (Or y0 y1) e = cc
-inj_formula (Or x0 x1) (Test y0) e = cc
-inj_formula (Or x0 x1) (Not y0) e = cc
-inj_formula (Or x0 x1) (And y0 y1) e = cc
-inj_formula (Or x0 x1) (Or y0 y1) e = let e0 : x0 ≡ y0 = inj_formula x0 y0 (cc) in let e1 : x1 ≡ y1 = inj_formula x1 y1 (cc) in cc
+pub inj_guard : (x y : Guard ℕ) → code_guard x ≡ code_guard y → x ≡ y
+inj_guard (Test x0) (Test y0) e = let e0 : x0 ≡ y0 = inj_literal x0 y0 (cc) in cc
+inj_guard (Test x0) (Not y0) e = cc
+inj_guard (Test x0) (And y0 y1) e = cc
+inj_guard (Test x0) (Or y0 y1) e = cc
+inj_guard (Not x0) (Test y0) e = cc
+inj_guard (Not x0) (Not y0) e = let e0 : x0 ≡ y0 = inj_guard x0 y0 (cc) in cc
+inj_guard (Not x0) (And y0 y1) e = cc
+inj_guard (Not x0) (Or y0 y1) e = cc
+inj_guard (And x0 x1) (Test y0) e = cc
+inj_guard (And x0 x1) (Not y0) e = cc
+inj_guard (And x0 x1) (And y0 y1) e = let e0 : x0 ≡ y0 = inj_guard x0 y0 (cc) in let e1 : x1 ≡ y1 = inj_guard x1 y1 (cc) in cc
+inj_guard (And x0 x1) (Or y0 y1) e = cc
+inj_guard (Or x0 x1) (Test y0) e = cc
+inj_guard (Or x0 x1) (Not y0) e = cc
+inj_guard (Or x0 x1) (And y0 y1) e = cc
+inj_guard (Or x0 x1) (Or y0 y1) e = let e0 : x0 ≡ y0 = inj_guard x0 y0 (cc) in let e1 : x1 ≡ y1 = inj_guard x1 y1 (cc) in cc
 
-abbrev pub coded_formula : Coded (Formula ℕ)
-coded_formula = record { code = code_formula; inj = inj_formula }
+abbrev pub coded_guard : Coded (Guard ℕ)
+coded_guard = record { code = code_guard; inj = inj_guard }
 
-abbrev pub code_action : Action ℕ → Gv
-code_action (Assign x0 x1) = gcons (gnum 0) ((gcons (gnum x0) (code_term x1)))
-code_action (Write x0 x1 x2) = gcons (gnum 1) ((gcons (gnum x0) ((gcons (code_term x1) (code_term x2)))))
+abbrev pub code_assignment : Assignment ℕ → Gv
+code_assignment (Assign x0 x1) = gcons (gnum 0) ((gcons (gnum x0) (code_term x1)))
+code_assignment (ArrayWrite x0 x1 x2) = gcons (gnum 1) ((gcons (gnum x0) ((gcons (code_term x1) (code_term x2)))))
 
-pub inj_action : (x y : Action ℕ) → code_action x ≡ code_action y → x ≡ y
-inj_action (Assign x0 x1) (Assign y0 y1) e = let e1 : x1 ≡ y1 = inj_term x1 y1 (cc) in cc
-inj_action (Assign x0 x1) (Write y0 y1 y2) e = cc
-inj_action (Write x0 x1 x2) (Assign y0 y1) e = cc
-inj_action (Write x0 x1 x2) (Write y0 y1 y2) e = let e1 : x1 ≡ y1 = inj_term x1 y1 (cc) in let e2 : x2 ≡ y2 = inj_term x2 y2 (cc) in cc
+pub inj_assignment : (x y : Assignment ℕ) → code_assignment x ≡ code_assignment y → x ≡ y
+inj_assignment (Assign x0 x1) (Assign y0 y1) e = let e1 : x1 ≡ y1 = inj_term x1 y1 (cc) in cc
+inj_assignment (Assign x0 x1) (ArrayWrite y0 y1 y2) e = cc
+inj_assignment (ArrayWrite x0 x1 x2) (Assign y0 y1) e = cc
+inj_assignment (ArrayWrite x0 x1 x2) (ArrayWrite y0 y1 y2) e = let e1 : x1 ≡ y1 = inj_term x1 y1 (cc) in let e2 : x2 ≡ y2 = inj_term x2 y2 (cc) in cc
 
-abbrev pub coded_action : Coded (Action ℕ)
-coded_action = record { code = code_action; inj = inj_action }
+abbrev pub coded_assignment : Coded (Assignment ℕ)
+coded_assignment = record { code = code_assignment; inj = inj_assignment }
 
-abbrev pub coded_line : Coded (Line ℕ ℕ)
-coded_line =
-    code_by (Option (Formula ℕ) × (ℕ × List (Action ℕ))) (coded× (coded_option coded_formula) (coded× coded_ℕ (coded_list coded_action))) (λ l. (l.guard, (l.target, l.actions))) (λ p. record { guard = p.0; target = p.1.0; actions = p.1.1 }) (λ _. refl)
+abbrev pub coded_transition : Coded (Transition ℕ ℕ)
+coded_transition =
+    code_by (Option (Guard ℕ) × (ℕ × List (Assignment ℕ))) (coded× (coded_option coded_guard) (coded× coded_ℕ (coded_list coded_assignment))) (λ l. (l.guard, (l.target, l.assignments))) (λ p. record { guard = p.0; target = p.1.0; assignments = p.1.1 }) (λ _. refl)
 
 abbrev pub coded_state : Coded State
-coded_state = code_by (List ℕ × List (Line ℕ ℕ)) (coded× (coded_list coded_ℕ) (coded_list coded_line)) (λ s. (s.name, s.lines)) (λ p. record { name = p.0; lines = p.1 }) (λ _. refl)
+coded_state = code_by (List ℕ × List (Transition ℕ ℕ)) (coded× (coded_list coded_ℕ) (coded_list coded_transition)) (λ s. (s.name, s.lines)) (λ p. record { name = p.0; lines = p.1 }) (λ _. refl)
 
 abbrev pub coded_variable : Coded VarInfo
 coded_variable = code_by (List ℕ × (Role × Sort)) (coded× (coded_list coded_ℕ) (coded× coded_role coded_sort)) (λ v. (v.name, (v.role, v.sort))) (λ p. record { name = p.0; role = p.1.0; sort = p.1.1 }) (λ _. refl)

@@ -4,7 +4,7 @@ use Rattle.std.specs.Ordering.{int_eq}
 use Rattle.integers.specs.Division.{quotient, remainder}
 use Rattle.fs_model.specs.declared.parts.Rel.{Rel}
 use Rattle.fs_model.specs.declared.parts.Rel.TheVariants.{Eq, Ne, Lt, Le, Gt, Ge}
-use Rattle.fs_model.specs.Terms.{Term, Number, Variable, Read, Sum, Difference, Product, Quotient, Remainder, Negative, Literal, Formula, Test, Not, And, Or, Action, Assign, Write, Line}
+use Rattle.fs_model.specs.Terms.{Term, Number, Variable, Read, Sum, Difference, Product, Quotient, Remainder, Negative, Literal, Guard, Test, Not, And, Or, Assignment, Assign, ArrayWrite, Transition}
 use Rattle.fs_model.specs.Stores.{Store, assigned, written}
 
 abbrev pub value : Term ℕ → Store → ℤ
@@ -30,28 +30,28 @@ relates Ge a b = not (int_lt a b)
 abbrev pub literal_holds : Literal ℕ → Store → Bool
 literal_holds l s = relates l.relation (value l.left s) (value l.right s)
 
-abbrev pub holds : Formula ℕ → Store → Bool
+abbrev pub holds : Guard ℕ → Store → Bool
 holds (Test l) s = literal_holds l s
 holds (Not g) s = not (holds g s)
 holds (And a b) s = holds a s && holds b s
 holds (Or a b) s = holds a s || holds b s
 
 -- a transition without guard may always be taken
-abbrev pub guard_holds : Option (Formula ℕ) → Store → Bool
-guard_holds None s = true
-guard_holds (Some g) s = holds g s
+abbrev pub condition_holds : Option (Guard ℕ) → Store → Bool
+condition_holds None s = true
+condition_holds (Some g) s = holds g s
 
 -- the first transition whose guard holds
-abbrev pub line_taken : List (Line ℕ ℕ) → Store → Option (Line ℕ ℕ)
-line_taken [] s = None
-line_taken (l ∷ ls) s = cond (guard_holds l.guard s) (Some l) (line_taken ls s)
+abbrev pub transition_taken : List (Transition ℕ ℕ) → Store → Option (Transition ℕ ℕ)
+transition_taken [] s = None
+transition_taken (l ∷ ls) s = cond (condition_holds l.guard s) (Some l) (transition_taken ls s)
 
--- what an action does to a store, with its right side and its index valued in the store before the step
-abbrev pub act : Action ℕ → Store → Store → Store
+-- what an assignment does to a store, with its right side and its index valued in the store before the step
+abbrev pub act : Assignment ℕ → Store → Store → Store
 act (Assign x e) before s = assigned s x (value e before)
-act (Write x i e) before s = written s x (value i before) (value e before)
+act (ArrayWrite x i e) before s = written s x (value i before) (value e before)
 
--- the actions of a transition, in order, all valued in the store before the step
-abbrev pub act_all : List (Action ℕ) → Store → Store → Store
+-- the assignments of a transition, in order, all valued in the store before the step
+abbrev pub act_all : List (Assignment ℕ) → Store → Store → Store
 act_all [] before s = s
 act_all (a ∷ rest) before s = act_all rest before (act a before s)

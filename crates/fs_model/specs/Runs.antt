@@ -6,17 +6,17 @@ use Rattle.fs_model.specs.declared.parts.Role.TheVariants.{Input, Output, Local}
 use Rattle.fs_model.specs.declared.parts.Sort.{Sort}
 use Rattle.fs_model.specs.declared.parts.Sort.TheVariants.{Scalar, Array}
 use Rattle.fs_model.specs.declared.parts.VarInfo.{VarInfo}
-use Rattle.fs_model.specs.Terms.{Line}
-use Rattle.fs_model.specs.Machines.{Fsmd, lines_of}
+use Rattle.fs_model.specs.Terms.{Transition}
+use Rattle.fs_model.specs.Machines.{Fsmd, transitions_of}
 use Rattle.fs_model.specs.Stores.{Store}
-use Rattle.fs_model.specs.Meaning.{line_taken, act_all}
+use Rattle.fs_model.specs.Meaning.{transition_taken, act_all}
 
 -- from state q and store s, the first transition whose guard holds leads to state r and store t
 pub record Step (m : Fsmd) (q : ℕ) (s : Store) (r : ℕ) (t : Store) : Type 0 where
-  pub line : Line ℕ ℕ
-  pub taken : line_taken (lines_of m q) s ≡ Some line
+  pub line : Transition ℕ ℕ
+  pub taken : transition_taken (transitions_of m q) s ≡ Some line
   pub target : r ≡ line.target
-  pub store : t ≡ act_all line.actions s s
+  pub store : t ≡ act_all line.assignments s s
 
 -- one step, after which After stands
 pub record AfterStep (m : Fsmd) (q : ℕ) (s : Store) (After : ℕ → Store → Type 0) : Type 0 where
@@ -26,14 +26,14 @@ pub record AfterStep (m : Fsmd) (q : ℕ) (s : Store) (After : ℕ → Store →
   pub after : After state store
 
 -- from state q and store s, the reset state is reached for the first time after n steps, with store t
-abbrev pub Returns : Fsmd → ℕ → ℕ → Store → Store → Type 0
-Returns m zero q s t = (q ≡ m.reset) × (s ≡ t)
-Returns m (suc n) q s t = (q ≢ m.reset) × AfterStep m q s (λ r u. Returns m n r u t)
+abbrev pub ReachesReset : Fsmd → ℕ → ℕ → Store → Store → Type 0
+ReachesReset m zero q s t = (q ≡ m.reset) × (s ≡ t)
+ReachesReset m (suc n) q s t = (q ≢ m.reset) × AfterStep m q s (λ r u. ReachesReset m n r u t)
 
 -- the same with at least one step, whatever state it begins in
-abbrev pub Goes : Fsmd → ℕ → ℕ → Store → Store → Type 0
-Goes m zero q s t = ⊥
-Goes m (suc n) q s t = AfterStep m q s (λ r u. Returns m n r u t)
+abbrev pub FirstReturn : Fsmd → ℕ → ℕ → Store → Store → Type 0
+FirstReturn m zero q s t = ⊥
+FirstReturn m (suc n) q s t = AfterStep m q s (λ r u. ReachesReset m n r u t)
 
 -- a number and an array for each name, of which a machine takes what its inputs are
 pub record Inputs : Type 0 where
@@ -86,7 +86,7 @@ output m s name = output_from m.variables 0 s name
 -- from these inputs the machine returns to its reset state for the first time after n steps, with these outputs
 pub record Run (m : Fsmd) (ins : Inputs) (outs : List ℕ → Option Content) (n : ℕ) : Type 0 where
   pub end : Store
-  pub goes : Goes m n m.reset (start m ins) end
+  pub goes : FirstReturn m n m.reset (start m ins) end
   pub gives : (name : List ℕ) → output m end name ≡ outs name
 
 -- each run of one has a run of the other from the same inputs to the same outputs

@@ -2,7 +2,7 @@
 use Rattle.std.specs.Prelude.{ℕ, List}
 use Rattle.fs_model.specs.declared.parts.Role.{Role}
 use Rattle.fs_model.specs.declared.parts.Sort.{Sort}
-use Rattle.fs_model.specs.Terms.{Line}
+use Rattle.fs_model.specs.Terms.{Transition}
 
 pub record Declaration : Type 0 where
   pub line : ℕ
@@ -10,14 +10,14 @@ pub record Declaration : Type 0 where
   pub sort : Sort
   pub names : List (List ℕ)
 
-pub record SourceLine : Type 0 where
+pub record SourceTransition : Type 0 where
   pub line : ℕ
-  pub content : Line (List ℕ) (List ℕ)
+  pub content : Transition (List ℕ) (List ℕ)
 
 pub record SourceState : Type 0 where
   pub line : ℕ
   pub name : List ℕ
-  pub lines : List SourceLine
+  pub lines : List SourceTransition
 
 pub record Source : Type 0 where
   pub declarations : List Declaration

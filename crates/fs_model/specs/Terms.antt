@@ -18,19 +18,19 @@ pub record Literal (X : Type 0) : Type 0 where
   pub left : Term X
   pub right : Term X
 
-pub data Formula (X : Type 0) : Type 0 where
-  Test : Literal X → Formula X
-  Not : Formula X → Formula X
-  And : (a b : Formula X) → Formula X
-  Or : (a b : Formula X) → Formula X
+pub data Guard (X : Type 0) : Type 0 where
+  Test : Literal X → Guard X
+  Not : Guard X → Guard X
+  And : (a b : Guard X) → Guard X
+  Or : (a b : Guard X) → Guard X
 
 -- a scalar is assigned, or an array is written at an index
-pub data Action (X : Type 0) : Type 0 where
-  Assign : X → Term X → Action X
-  Write : X → (index value : Term X) → Action X
+pub data Assignment (X : Type 0) : Type 0 where
+  Assign : X → Term X → Assignment X
+  ArrayWrite : X → (index value : Term X) → Assignment X
 
 -- a transition: it is taken where its guard holds, or always where it has none
-pub record Line (X S : Type 0) : Type 0 where
-  pub guard : Option (Formula X)
+pub record Transition (X S : Type 0) : Type 0 where
+  pub guard : Option (Guard X)
   pub target : S
-  pub actions : List (Action X)
+  pub assignments : List (Assignment X)

@@ -2,10 +2,10 @@
 -- of the transition taken, and of all their parts.
 use Rattle.std.specs.Prelude.{◌≢◌, ℕ, zero, suc, cond, ℤ, FitsSigned, List, [], ◌∷◌, ◌++◌, Option, Some, None}
 use Rattle.std.specs.Int.{w128}
-use Rattle.fs_model.specs.Terms.{Term, Number, Variable, Read, Sum, Difference, Product, Quotient, Remainder, Negative, Formula, Test, Not, And, Or, Action, Assign, Write, Line}
-use Rattle.fs_model.specs.Machines.{Fsmd, lines_of}
+use Rattle.fs_model.specs.Terms.{Term, Number, Variable, Read, Sum, Difference, Product, Quotient, Remainder, Negative, Guard, Test, Not, And, Or, Assignment, Assign, ArrayWrite, Transition}
+use Rattle.fs_model.specs.Machines.{Fsmd, transitions_of}
 use Rattle.fs_model.specs.Stores.{Store}
-use Rattle.fs_model.specs.Meaning.{value, holds, guard_holds}
+use Rattle.fs_model.specs.Meaning.{value, holds, condition_holds}
 use Rattle.fs_model.specs.Runs.{Step}
 
 -- the value of a term and of all its parts
@@ -21,32 +21,32 @@ touched_by_term (Remainder a b) s = value (Remainder a b) s ∷ (touched_by_term
 touched_by_term (Negative a) s = value (Negative a) s ∷ touched_by_term a s
 
 -- of a guard, the literals that are looked at: the second of two only where the first leaves it open
-abbrev pub touched_by_formula : Formula ℕ → Store → List ℤ
-touched_by_formula (Test l) s = touched_by_term l.left s ++ touched_by_term l.right s
-touched_by_formula (Not g) s = touched_by_formula g s
-touched_by_formula (And a b) s = touched_by_formula a s ++ cond (holds a s) (touched_by_formula b s) []
-touched_by_formula (Or a b) s = touched_by_formula a s ++ cond (holds a s) [] (touched_by_formula b s)
+abbrev pub touched_by_guard : Guard ℕ → Store → List ℤ
+touched_by_guard (Test l) s = touched_by_term l.left s ++ touched_by_term l.right s
+touched_by_guard (Not g) s = touched_by_guard g s
+touched_by_guard (And a b) s = touched_by_guard a s ++ cond (holds a s) (touched_by_guard b s) []
+touched_by_guard (Or a b) s = touched_by_guard a s ++ cond (holds a s) [] (touched_by_guard b s)
 
-abbrev pub touched_by_guard : Option (Formula ℕ) → Store → List ℤ
-touched_by_guard None s = []
-touched_by_guard (Some g) s = touched_by_formula g s
+abbrev pub touched_by_condition : Option (Guard ℕ) → Store → List ℤ
+touched_by_condition None s = []
+touched_by_condition (Some g) s = touched_by_guard g s
 
-abbrev pub touched_by_action : Action ℕ → Store → List ℤ
-touched_by_action (Assign x e) s = touched_by_term e s
-touched_by_action (Write x i e) s = touched_by_term i s ++ touched_by_term e s
+abbrev pub touched_by_assignment : Assignment ℕ → Store → List ℤ
+touched_by_assignment (Assign x e) s = touched_by_term e s
+touched_by_assignment (ArrayWrite x i e) s = touched_by_term i s ++ touched_by_term e s
 
-abbrev pub touched_by_actions : List (Action ℕ) → Store → List ℤ
-touched_by_actions [] s = []
-touched_by_actions (a ∷ rest) s = touched_by_action a s ++ touched_by_actions rest s
+abbrev pub touched_by_assignments : List (Assignment ℕ) → Store → List ℤ
+touched_by_assignments [] s = []
+touched_by_assignments (a ∷ rest) s = touched_by_assignment a s ++ touched_by_assignments rest s
 
--- the guards up to the transition taken, and its actions
-abbrev pub touched_by_lines : List (Line ℕ ℕ) → Store → List ℤ
-touched_by_lines [] s = []
-touched_by_lines (l ∷ ls) s = touched_by_guard l.guard s ++ cond (guard_holds l.guard s) (touched_by_actions l.actions s) (touched_by_lines ls s)
+-- the guards up to the transition taken, and its assignments
+abbrev pub touched_by_transitions : List (Transition ℕ ℕ) → Store → List ℤ
+touched_by_transitions [] s = []
+touched_by_transitions (l ∷ ls) s = touched_by_condition l.guard s ++ cond (condition_holds l.guard s) (touched_by_assignments l.assignments s) (touched_by_transitions ls s)
 
 -- the numbers touched by the step from a state and a store
 abbrev pub touched : Fsmd → ℕ → Store → List ℤ
-touched m q s = touched_by_lines (lines_of m q) s
+touched m q s = touched_by_transitions (transitions_of m q) s
 
 -- each number lies within 128 bits
 abbrev pub AllInRange : List ℤ → Type 0

@@ -4,7 +4,7 @@ use Rattle.fs_model.specs.declared.parts.VarId.{VarId}
 use Rattle.fs_model.specs.declared.parts.Expr.{Expr}
 use Rattle.fs_model.specs.declared.parts.Expr.TheVariants.{Num, Var, Read', Add', Sub', Mul', Div', Rem', Neg'}
 use Rattle.fs_model.specs.declared.parts.Lit.{Lit}
-use Rattle.fs_model.specs.declared.parts.Guard.{Guard}
+use Rattle.fs_model.specs.declared.parts.Guard.{Guard as DeclaredGuard}
 use Rattle.fs_model.specs.declared.parts.Guard.TheVariants as guards
 use Rattle.fs_model.specs.declared.parts.Assign.{Assign}
 use Rattle.fs_model.specs.declared.parts.Assign.TheVariants.{Set, Put}
@@ -13,8 +13,8 @@ use Rattle.fs_model.specs.declared.parts.RawLine.{RawLine}
 use Rattle.fs_model.specs.declared.parts.RawState.{RawState}
 use Rattle.fs_model.specs.declared.parts.Parts.{Parts}
 use Rattle.fs_model.specs.declared.parts.Branch.{Branch}
-use Rattle.fs_model.specs.Terms.{Term, Number, Variable, Read, Sum, Difference, Product, Quotient, Remainder, Negative, Literal, Formula, Test, Not, And, Or, Action, Assign as assigned, Write as written}
-use Rattle.fs_model.specs.Source.{Declaration, SourceLine, SourceState, Source}
+use Rattle.fs_model.specs.Terms.{Term, Number, Variable, Read, Sum, Difference, Product, Quotient, Remainder, Negative, Literal, Guard, Test, Not, And, Or, Assignment, Assign as assigned, ArrayWrite as written}
+use Rattle.fs_model.specs.Source.{Declaration, SourceTransition, SourceState, Source}
 use Rattle.fs_model.specs.Trees.{Branch as Leaf}
 
 -- what an expression says, where f tells its variables
@@ -32,25 +32,25 @@ term_by f (Neg' p a) = Negative (term_by f a)
 abbrev pub literal_by : {V X : Type 0} → (V → X) → Lit V → Literal X
 literal_by f l = record { relation = l.rel; left = term_by f l.left; right = term_by f l.right }
 
-abbrev pub formula_by : {V X : Type 0} → (V → X) → Guard V → Formula X
-formula_by f (guards.Lit l) = Test (literal_by f l)
-formula_by f (guards.Not' p g) = Not (formula_by f g)
-formula_by f (guards.And' p a q b) = And (formula_by f a) (formula_by f b)
-formula_by f (guards.Or' p a q b) = Or (formula_by f a) (formula_by f b)
+abbrev pub guard_by : {V X : Type 0} → (V → X) → DeclaredGuard V → Guard X
+guard_by f (guards.Lit l) = Test (literal_by f l)
+guard_by f (guards.Not' p g) = Not (guard_by f g)
+guard_by f (guards.And' p a q b) = And (guard_by f a) (guard_by f b)
+guard_by f (guards.Or' p a q b) = Or (guard_by f a) (guard_by f b)
 
-abbrev pub action_by : {V X : Type 0} → (V → X) → Assign V → Action X
-action_by f (Set x e) = assigned (f x) (term_by f e)
-action_by f (Put x i e) = written (f x) (term_by f i) (term_by f e)
+abbrev pub assignment_by : {V X : Type 0} → (V → X) → Assign V → Assignment X
+assignment_by f (Set x e) = assigned (f x) (term_by f e)
+assignment_by f (Put x i e) = written (f x) (term_by f i) (term_by f e)
 
 -- over names
 abbrev pub named_term : Expr (List ℕ) → Term (List ℕ)
 named_term e = term_by (λ x. x) e
 
-abbrev pub named_formula : Guard (List ℕ) → Formula (List ℕ)
-named_formula g = formula_by (λ x. x) g
+abbrev pub named_guard : DeclaredGuard (List ℕ) → Guard (List ℕ)
+named_guard g = guard_by (λ x. x) g
 
-abbrev pub named_action : Assign (List ℕ) → Action (List ℕ)
-named_action a = action_by (λ x. x) a
+abbrev pub named_assignment : Assign (List ℕ) → Assignment (List ℕ)
+named_assignment a = assignment_by (λ x. x) a
 
 -- over the numbers of variables
 abbrev pub term_of : Expr VarId → Term ℕ
@@ -59,23 +59,23 @@ term_of e = term_by (λ x. x.0) e
 abbrev pub literal_of : Lit VarId → Literal ℕ
 literal_of l = literal_by (λ x. x.0) l
 
-abbrev pub formula_of : Guard VarId → Formula ℕ
-formula_of g = formula_by (λ x. x.0) g
+abbrev pub guard_of : DeclaredGuard VarId → Guard ℕ
+guard_of g = guard_by (λ x. x.0) g
 
-abbrev pub action_of : Assign VarId → Action ℕ
-action_of a = action_by (λ x. x.0) a
+abbrev pub assignment_of : Assign VarId → Assignment ℕ
+assignment_of a = assignment_by (λ x. x.0) a
 
 abbrev pub branch_of : Branch → Leaf
-branch_of b = record { literals = map literal_of b.lits.items; actions = map action_of b.assigns.items; target = b.target.0 }
+branch_of b = record { literals = map literal_of b.lits.items; assignments = map assignment_of b.assigns.items; target = b.target.0 }
 
 abbrev pub declaration_of : Decl → Declaration
 declaration_of d = record { line = d.line; role = d.role; sort = d.sort; names = d.names.items }
 
-abbrev pub source_line_of : RawLine → SourceLine
-source_line_of l = record { line = l.line; content = record { guard = option_map named_formula l.guard; target = l.target; actions = map named_action l.assigns.items } }
+abbrev pub source_transition_of : RawLine → SourceTransition
+source_transition_of l = record { line = l.line; content = record { guard = option_map named_guard l.guard; target = l.target; assignments = map named_assignment l.assigns.items } }
 
 abbrev pub source_state_of : RawState → SourceState
-source_state_of s = record { line = s.line; name = s.name; lines = map source_line_of s.lines.items }
+source_state_of s = record { line = s.line; name = s.name; lines = map source_transition_of s.lines.items }
 
 abbrev pub source_of : Parts → Source
 source_of p = record { declarations = map declaration_of p.decls.items; reset_line = p.reset_line; reset = p.reset; states = map source_state_of p.states.items }

@@ -1,12 +1,12 @@
 -- Parts that a text can spell: no number is negative, no declaration is empty, and no expression is too long.
 use Rattle.std.specs.Prelude.{ℕ, ◌+◌, nat_le, ◌==◌, Bool, true, false, not, ◌&&◌, ◌||◌, cond, pos, int_lt, length, Option, Some, None}
 use Rattle.std.specs.List.{list_all}
-use Rattle.fs_model.specs.Terms.{Term, Number, Variable, Read, Sum, Difference, Product, Quotient, Remainder, Negative, Formula, Test, Not, And, Or, Action, Assign, Write}
-use Rattle.fs_model.specs.Source.{Declaration, SourceLine, SourceState, Source}
+use Rattle.fs_model.specs.Terms.{Term, Number, Variable, Read, Sum, Difference, Product, Quotient, Remainder, Negative, Guard, Test, Not, And, Or, Assignment, Assign, ArrayWrite}
+use Rattle.fs_model.specs.Source.{Declaration, SourceTransition, SourceState, Source}
 
 -- the most operators and opening brackets of a guard or an assignment
-abbrev pub most_signs : ℕ
-most_signs = 128
+abbrev pub most_operators : ℕ
+most_operators = 128
 
 -- made by + or - between two operands
 abbrev pub is_sum : {X : Type 0} → Term X → Bool
@@ -22,12 +22,12 @@ is_product (Remainder a b) = true
 is_product _ = false
 
 -- made by && between two guards
-abbrev pub is_and : {X : Type 0} → Formula X → Bool
+abbrev pub is_and : {X : Type 0} → Guard X → Bool
 is_and (And a b) = true
 is_and _ = false
 
 -- made by || between two guards
-abbrev pub is_or : {X : Type 0} → Formula X → Bool
+abbrev pub is_or : {X : Type 0} → Guard X → Bool
 is_or (Or a b) = true
 is_or _ = false
 
@@ -36,28 +36,28 @@ abbrev pub bracket : Bool → ℕ
 bracket needed = cond needed 1 0
 
 -- the operators and opening brackets of the shortest text of a term
-abbrev pub signs_of_term : {X : Type 0} → Term X → ℕ
-signs_of_term (Number n) = 0
-signs_of_term (Variable x) = 0
-signs_of_term (Read x i) = 1 + signs_of_term i
-signs_of_term (Sum a b) = 1 + (signs_of_term a + (bracket (is_sum b) + signs_of_term b))
-signs_of_term (Difference a b) = 1 + (signs_of_term a + (bracket (is_sum b) + signs_of_term b))
-signs_of_term (Product a b) = 1 + ((bracket (is_sum a) + signs_of_term a) + (bracket (is_sum b || is_product b) + signs_of_term b))
-signs_of_term (Quotient a b) = 1 + ((bracket (is_sum a) + signs_of_term a) + (bracket (is_sum b || is_product b) + signs_of_term b))
-signs_of_term (Remainder a b) = 1 + ((bracket (is_sum a) + signs_of_term a) + (bracket (is_sum b || is_product b) + signs_of_term b))
-signs_of_term (Negative a) = 1 + (bracket (is_sum a || is_product a) + signs_of_term a)
+abbrev pub operators_of_term : {X : Type 0} → Term X → ℕ
+operators_of_term (Number n) = 0
+operators_of_term (Variable x) = 0
+operators_of_term (Read x i) = 1 + operators_of_term i
+operators_of_term (Sum a b) = 1 + (operators_of_term a + (bracket (is_sum b) + operators_of_term b))
+operators_of_term (Difference a b) = 1 + (operators_of_term a + (bracket (is_sum b) + operators_of_term b))
+operators_of_term (Product a b) = 1 + ((bracket (is_sum a) + operators_of_term a) + (bracket (is_sum b || is_product b) + operators_of_term b))
+operators_of_term (Quotient a b) = 1 + ((bracket (is_sum a) + operators_of_term a) + (bracket (is_sum b || is_product b) + operators_of_term b))
+operators_of_term (Remainder a b) = 1 + ((bracket (is_sum a) + operators_of_term a) + (bracket (is_sum b || is_product b) + operators_of_term b))
+operators_of_term (Negative a) = 1 + (bracket (is_sum a || is_product a) + operators_of_term a)
 
 -- the same of a guard, with braces for brackets
-abbrev pub signs_of_formula : {X : Type 0} → Formula X → ℕ
-signs_of_formula (Test l) = 1 + (signs_of_term l.left + signs_of_term l.right)
-signs_of_formula (Not g) = 1 + (bracket (is_and g || is_or g) + signs_of_formula g)
-signs_of_formula (And a b) = 1 + ((bracket (is_or a) + signs_of_formula a) + (bracket (is_and b || is_or b) + signs_of_formula b))
-signs_of_formula (Or a b) = 1 + (signs_of_formula a + (bracket (is_or b) + signs_of_formula b))
+abbrev pub operators_of_guard : {X : Type 0} → Guard X → ℕ
+operators_of_guard (Test l) = 1 + (operators_of_term l.left + operators_of_term l.right)
+operators_of_guard (Not g) = 1 + (bracket (is_and g || is_or g) + operators_of_guard g)
+operators_of_guard (And a b) = 1 + ((bracket (is_or a) + operators_of_guard a) + (bracket (is_and b || is_or b) + operators_of_guard b))
+operators_of_guard (Or a b) = 1 + (operators_of_guard a + (bracket (is_or b) + operators_of_guard b))
 
--- the same of an action
-abbrev pub signs_of_action : {X : Type 0} → Action X → ℕ
-signs_of_action (Assign x e) = signs_of_term e
-signs_of_action (Write x i e) = 1 + (signs_of_term i + signs_of_term e)
+-- the same of an assignment
+abbrev pub operators_of_assignment : {X : Type 0} → Assignment X → ℕ
+operators_of_assignment (Assign x e) = operators_of_term e
+operators_of_assignment (ArrayWrite x i e) = 1 + (operators_of_term i + operators_of_term e)
 
 -- no number of a term is negative
 abbrev pub is_natural_term : {X : Type 0} → Term X → Bool
@@ -72,33 +72,33 @@ is_natural_term (Remainder a b) = is_natural_term a && is_natural_term b
 is_natural_term (Negative a) = is_natural_term a
 
 -- no number of a guard is negative
-abbrev pub is_natural_formula : {X : Type 0} → Formula X → Bool
-is_natural_formula (Test l) = is_natural_term l.left && is_natural_term l.right
-is_natural_formula (Not g) = is_natural_formula g
-is_natural_formula (And a b) = is_natural_formula a && is_natural_formula b
-is_natural_formula (Or a b) = is_natural_formula a && is_natural_formula b
+abbrev pub is_natural_guard : {X : Type 0} → Guard X → Bool
+is_natural_guard (Test l) = is_natural_term l.left && is_natural_term l.right
+is_natural_guard (Not g) = is_natural_guard g
+is_natural_guard (And a b) = is_natural_guard a && is_natural_guard b
+is_natural_guard (Or a b) = is_natural_guard a && is_natural_guard b
 
--- no number of an action is negative
-abbrev pub is_natural_action : {X : Type 0} → Action X → Bool
-is_natural_action (Assign x e) = is_natural_term e
-is_natural_action (Write x i e) = is_natural_term i && is_natural_term e
+-- no number of an assignment is negative
+abbrev pub is_natural_assignment : {X : Type 0} → Assignment X → Bool
+is_natural_assignment (Assign x e) = is_natural_term e
+is_natural_assignment (ArrayWrite x i e) = is_natural_term i && is_natural_term e
 
 -- no number is negative, and there are few enough operators and opening brackets
-abbrev pub is_well_formed_guard : {X : Type 0} → Option (Formula X) → Bool
-is_well_formed_guard None = true
-is_well_formed_guard (Some g) = is_natural_formula g && nat_le (signs_of_formula g) most_signs
+abbrev pub is_well_formed_condition : {X : Type 0} → Option (Guard X) → Bool
+is_well_formed_condition None = true
+is_well_formed_condition (Some g) = is_natural_guard g && nat_le (operators_of_guard g) most_operators
 
--- the same of an action
-abbrev pub is_well_formed_action : {X : Type 0} → Action X → Bool
-is_well_formed_action a = is_natural_action a && nat_le (signs_of_action a) most_signs
+-- the same of an assignment
+abbrev pub is_well_formed_assignment : {X : Type 0} → Assignment X → Bool
+is_well_formed_assignment a = is_natural_assignment a && nat_le (operators_of_assignment a) most_operators
 
--- the guard and each action are well formed
-abbrev pub is_well_formed_line : SourceLine → Bool
-is_well_formed_line l = is_well_formed_guard l.content.guard && list_all is_well_formed_action l.content.actions
+-- the guard and each assignment are well formed
+abbrev pub is_well_formed_transition : SourceTransition → Bool
+is_well_formed_transition l = is_well_formed_condition l.content.guard && list_all is_well_formed_assignment l.content.assignments
 
 -- each transition is well formed
 abbrev pub is_well_formed_state : SourceState → Bool
-is_well_formed_state s = list_all is_well_formed_line s.lines
+is_well_formed_state s = list_all is_well_formed_transition s.lines
 
 -- a declaration names a variable
 abbrev pub has_names : Declaration → Bool

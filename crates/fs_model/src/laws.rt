@@ -2,11 +2,11 @@
 
 ghost use Rattle.std.specs.Prelude.{◌≡◌, ℕ, List};
 ghost use Rattle.std.specs.Option.{option_to_list};
-ghost use Rattle.fs_model.specs.Terms.{Line};
+ghost use Rattle.fs_model.specs.Terms.{Transition};
 ghost use Rattle.fs_model.specs.Machines.{Fsmd};
 ghost use Rattle.fs_model.specs.Stores.{Store};
 ghost use Rattle.fs_model.specs.Trees.{branches_of, effects_open, effect_taken};
-ghost use Rattle.fs_model.specs.Runs.{Step, Goes, Returns, SameBehaviour};
+ghost use Rattle.fs_model.specs.Runs.{Step, FirstReturn, ReachesReset, SameBehaviour};
 
 /// One step is determined: from a state and a store it leads to one state and one store.
 pub fn one_step_is_determined()
@@ -16,8 +16,8 @@ pub fn one_step_is_determined()
 
 /// A run's end is determined: where it ends, and after how many steps.
 pub fn a_run_is_determined()
-    ensures steps { (m : Fsmd) (s t u : Store) (n k : ℕ) → Goes m n m.reset s t → Goes m k m.reset s u → n ≡ k }
-    ensures end { (m : Fsmd) (s t u : Store) (n k : ℕ) → Goes m n m.reset s t → Goes m k m.reset s u → t ≡ u }
+    ensures steps { (m : Fsmd) (s t u : Store) (n k : ℕ) → FirstReturn m n m.reset s t → FirstReturn m k m.reset s u → n ≡ k }
+    ensures end { (m : Fsmd) (s t u : Store) (n k : ℕ) → FirstReturn m n m.reset s t → FirstReturn m k m.reset s u → t ≡ u }
 {}
 
 /// A machine has the behaviour that it has.
@@ -37,5 +37,5 @@ pub fn same_behaviour_is_transitive()
 
 /// In each store the branches whose literals all hold are one, that of the transition taken, or none where none is taken.
 pub fn one_branch_is_open()
-    ensures { (lines : List (Line ℕ ℕ)) (s : Store) → effects_open (branches_of lines) s ≡ option_to_list (effect_taken lines s) }
+    ensures { (lines : List (Transition ℕ ℕ)) (s : Store) → effects_open (branches_of lines) s ≡ option_to_list (effect_taken lines s) }
 {}

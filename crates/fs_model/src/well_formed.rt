@@ -3,14 +3,14 @@
 
 ghost use Rattle.std.specs.Prelude.{◌≡◌, ◌+◌, min, ◌||◌, map, option_map};
 ghost use Rattle.std.specs.List.{list_all};
-ghost use Rattle.fs_model.specs.View.{named_term, named_formula, named_action, declaration_of, source_line_of, source_state_of, source_of};
-ghost use Rattle.fs_model.specs.WellFormed.{is_sum, is_product, is_and, is_or, bracket, signs_of_term, signs_of_formula, signs_of_action, is_natural_term, is_natural_formula, is_natural_action, is_well_formed_guard, is_well_formed_action, is_well_formed_line, is_well_formed_state, has_names, is_well_formed};
+ghost use Rattle.fs_model.specs.View.{named_term, named_guard, named_assignment, declaration_of, source_transition_of, source_state_of, source_of};
+ghost use Rattle.fs_model.specs.WellFormed.{is_sum, is_product, is_and, is_or, bracket, operators_of_term, operators_of_guard, operators_of_assignment, is_natural_term, is_natural_guard, is_natural_assignment, is_well_formed_condition, is_well_formed_assignment, is_well_formed_transition, is_well_formed_state, has_names, is_well_formed};
 
 use crate::name::Name;
 use crate::parts::{Assign, Decl, Expr, Guard, Parts, RawLine, RawState};
 
 /// The most operators and opening brackets of a guard or an assignment.
-pub const SIGN_LIMIT: u32 = 128;
+pub const OPERATOR_LIMIT: u32 = 128;
 
 impl Parts {
     /// Whether a text can spell these parts: no number is negative, each declaration has a name, and each
@@ -34,29 +34,29 @@ fn are_well_formed_states(states: &[RawState]) -> bool
 {
     states
         .iter()
-        .all(|state| are_well_formed_lines(&state.lines))
+        .all(|state| are_well_formed_transitions(&state.lines))
 }
 
-fn are_well_formed_lines(lines: &[RawLine]) -> bool
-    ensures { result ≡ list_all is_well_formed_line (map source_line_of lines.now) }
+fn are_well_formed_transitions(lines: &[RawLine]) -> bool
+    ensures { result ≡ list_all is_well_formed_transition (map source_transition_of lines.now) }
 {
-    lines.iter().all(|line| is_well_formed_guard(&line.guard)
-        && are_well_formed_actions(&line.assigns))
+    lines.iter().all(|line| is_well_formed_condition(&line.guard)
+        && are_well_formed_assignments(&line.assigns))
 }
 
-fn is_well_formed_guard(guard: &Option<Guard>) -> bool
-    ensures { result ≡ is_well_formed_guard (option_map named_formula guard.now) }
+fn is_well_formed_condition(guard: &Option<Guard>) -> bool
+    ensures { result ≡ is_well_formed_condition (option_map named_guard guard.now) }
 {
     match guard {
         None => true,
-        Some(guard) => is_natural_guard(guard) && signs_of_guard(guard) <= SIGN_LIMIT,
+        Some(guard) => is_natural_guard(guard) && operators_of_guard(guard) <= OPERATOR_LIMIT,
     }
 }
 
-fn are_well_formed_actions(assigns: &[Assign<Name>]) -> bool
-    ensures { result ≡ list_all is_well_formed_action (map named_action assigns.now) }
+fn are_well_formed_assignments(assigns: &[Assign<Name>]) -> bool
+    ensures { result ≡ list_all is_well_formed_assignment (map named_assignment assigns.now) }
 {
-    assigns.iter().all(|assign| is_natural_assign(assign) && signs_of_assign(assign) <= SIGN_LIMIT)
+    assigns.iter().all(|assign| is_natural_assign(assign) && operators_of_assign(assign) <= OPERATOR_LIMIT)
 }
 
 fn is_natural(expr: &Expr<Name>) -> bool
@@ -73,7 +73,7 @@ fn is_natural(expr: &Expr<Name>) -> bool
 }
 
 fn is_natural_guard(guard: &Guard) -> bool
-    ensures { result ≡ is_natural_formula (named_formula guard.now) }
+    ensures { result ≡ is_natural_guard (named_guard guard.now) }
 {
     match guard {
         Guard::Lit(lit) => is_natural(&lit.left) && is_natural(&lit.right),
@@ -83,7 +83,7 @@ fn is_natural_guard(guard: &Guard) -> bool
 }
 
 fn is_natural_assign(assign: &Assign<Name>) -> bool
-    ensures { result ≡ is_natural_action (named_action assign.now) }
+    ensures { result ≡ is_natural_assignment (named_assignment assign.now) }
 {
     match assign {
         Assign::Set(_, value) => is_natural(value),
@@ -104,13 +104,13 @@ fn is_product(expr: &Expr<Name>) -> bool
 }
 
 fn is_and(guard: &Guard) -> bool
-    ensures { result ≡ is_and (named_formula guard.now) }
+    ensures { result ≡ is_and (named_guard guard.now) }
 {
     matches!(guard, Guard::And(..))
 }
 
 fn is_or(guard: &Guard) -> bool
-    ensures { result ≡ is_or (named_formula guard.now) }
+    ensures { result ≡ is_or (named_guard guard.now) }
 {
     matches!(guard, Guard::Or(..))
 }
@@ -130,47 +130,47 @@ fn one_more(a: u32, b: u32) -> u32
 }
 
 /// The operators and opening brackets of an expression's shortest text, as far as 32 bits go.
-fn signs(expr: &Expr<Name>) -> u32
-    ensures { result ≡ min (signs_of_term (named_term expr.now)) 4294967295 }
+fn operator_count(expr: &Expr<Name>) -> u32
+    ensures { result ≡ min (operators_of_term (named_term expr.now)) 4294967295 }
 {
     match expr {
         Expr::Num(_) | Expr::Var(_) => 0,
-        Expr::Read(_, index) => one_more(0, signs(index)),
+        Expr::Read(_, index) => one_more(0, operator_count(index)),
         Expr::Add(a, b) | Expr::Sub(a, b) => {
-            one_more(signs(a), bracket(is_sum(b)).saturating_add(signs(b)))
+            one_more(operator_count(a), bracket(is_sum(b)).saturating_add(operator_count(b)))
         }
         Expr::Mul(a, b) | Expr::Div(a, b) | Expr::Rem(a, b) => one_more(
-            bracket(is_sum(a)).saturating_add(signs(a)),
-            bracket(is_sum(b) || is_product(b)).saturating_add(signs(b)),
+            bracket(is_sum(a)).saturating_add(operator_count(a)),
+            bracket(is_sum(b) || is_product(b)).saturating_add(operator_count(b)),
         ),
-        Expr::Neg(a) => one_more(bracket(is_sum(a) || is_product(a)), signs(a)),
+        Expr::Neg(a) => one_more(bracket(is_sum(a) || is_product(a)), operator_count(a)),
     }
 }
 
 /// The same of a guard, with braces for brackets.
-fn signs_of_guard(guard: &Guard) -> u32
-    ensures { result ≡ min (signs_of_formula (named_formula guard.now)) 4294967295 }
+fn operators_of_guard(guard: &Guard) -> u32
+    ensures { result ≡ min (operators_of_guard (named_guard guard.now)) 4294967295 }
 {
     match guard {
-        Guard::Lit(lit) => one_more(signs(&lit.left), signs(&lit.right)),
-        Guard::Not(a) => one_more(bracket(is_and(a) || is_or(a)), signs_of_guard(a)),
+        Guard::Lit(lit) => one_more(operator_count(&lit.left), operator_count(&lit.right)),
+        Guard::Not(a) => one_more(bracket(is_and(a) || is_or(a)), operators_of_guard(a)),
         Guard::And(a, b) => one_more(
-            bracket(is_or(a)).saturating_add(signs_of_guard(a)),
-            bracket(is_and(b) || is_or(b)).saturating_add(signs_of_guard(b)),
+            bracket(is_or(a)).saturating_add(operators_of_guard(a)),
+            bracket(is_and(b) || is_or(b)).saturating_add(operators_of_guard(b)),
         ),
         Guard::Or(a, b) => one_more(
-            signs_of_guard(a),
-            bracket(is_or(b)).saturating_add(signs_of_guard(b)),
+            operators_of_guard(a),
+            bracket(is_or(b)).saturating_add(operators_of_guard(b)),
         ),
     }
 }
 
 /// The same of an assignment.
-fn signs_of_assign(assign: &Assign<Name>) -> u32
-    ensures { result ≡ min (signs_of_action (named_action assign.now)) 4294967295 }
+fn operators_of_assign(assign: &Assign<Name>) -> u32
+    ensures { result ≡ min (operators_of_assignment (named_assignment assign.now)) 4294967295 }
 {
     match assign {
-        Assign::Set(_, value) => signs(value),
-        Assign::Put(_, index, value) => one_more(signs(index), signs(value)),
+        Assign::Set(_, value) => operator_count(value),
+        Assign::Put(_, index, value) => one_more(operator_count(index), operator_count(value)),
     }
 }

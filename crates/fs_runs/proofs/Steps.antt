@@ -7,14 +7,14 @@ use Rattle.std.proofs.lemmas.Option.{slice_get-map}
 use Rattle.fs_model.specs.declared.parts.Sort.{Sort}
 use Rattle.fs_model.specs.declared.parts.Sort.TheVariants.{Scalar, Array}
 use Rattle.fs_model.specs.declared.parts.VarInfo.{VarInfo}
-use Rattle.fs_model.specs.Terms.{Action, Assign, Write, Line}
-use Rattle.fs_model.specs.Machines.{Fsmd, lines_of}
+use Rattle.fs_model.specs.Terms.{Assignment, Assign, ArrayWrite, Transition}
+use Rattle.fs_model.specs.Machines.{Fsmd, transitions_of}
 use Rattle.fs_model.specs.Stores.{Store}
-use Rattle.fs_model.specs.Meaning.{guard_holds, line_taken, act, act_all}
+use Rattle.fs_model.specs.Meaning.{condition_holds, transition_taken, act, act_all}
 use Rattle.fs_model.specs.Runs.{Step}
-use Rattle.fs_model.specs.Touched.{touched, touched_by_action, touched_by_actions, AllInRange}
+use Rattle.fs_model.specs.Touched.{touched, touched_by_assignment, touched_by_assignments, AllInRange}
 use Rattle.fs_model.specs.Trees.{Branch, branches_of}
-use Rattle.fs_ast.specs.Sound.{IsSound, IsSoundLine, has_sort, is_array as is_array_sort, scalar_at, array_at, scalars_in, arrays_in, scalars_in_action, arrays_in_action, scalars_in_actions, arrays_in_actions, scalars_in_guard, arrays_in_guard}
+use Rattle.fs_ast.specs.Sound.{IsSound, IsSoundTransition, has_sort, is_array as is_array_sort, scalar_at, array_at, scalars_in, arrays_in, scalars_in_assignment, arrays_in_assignment, scalars_in_assignments, arrays_in_assignments, scalars_in_condition, arrays_in_condition}
 use Rattle.fs_ast.specs.Open.{TakesOneBranch}
 use Rattle.fs_ast.proofs.Opens.{takes_one}
 use Rattle.fs_runs.specs.declared.values.Value.{Value}
@@ -23,40 +23,40 @@ use Rattle.fs_runs.specs.declared.step.StepStop.{StepStop}
 use Rattle.fs_runs.specs.declared.step.StepStop.TheVariants.{PastWide, NoMemory}
 use Rattle.fs_runs.specs.Values.{sort_of, HasSorts}
 use Rattle.fs_runs.specs.Outcomes.{PastOnly}
-use Rattle.fs_runs.specs.Reads.{touched_by_branches, first_open, Both}
-use Rattle.fs_runs.specs.Changes.{done_by, ActionFits, ActionsFit, changed_all, is_number, is_array, suits, AllSuit}
+use Rattle.fs_runs.specs.Reads.{touched_by_branches, taken_branch, Both}
+use Rattle.fs_runs.specs.Changes.{done_by, ActionFits, AssignmentsFit, changed_all, is_number, is_array, suits, AllSuit}
 use Rattle.fs_runs.proofs.Ways.{both_parts, front_part, back_part, fits_touched, touched_fits, first_taken, touched_taken}
 
--- the changes of actions leave what the actions leave
-pub changed_done : (acts : List (Action ℕ)) (before s : Store) → changed_all s (map (done_by before) acts) ≡ act_all acts before s
+-- the changes of assignments leave what the assignments leave
+pub changed_done : (acts : List (Assignment ℕ)) (before s : Store) → changed_all s (map (done_by before) acts) ≡ act_all acts before s
 changed_done [] before s = refl
 changed_done (Assign x e ∷ rest) before s = changed_done rest before _
-changed_done (Write x i e ∷ rest) before s = changed_done rest before _
+changed_done (ArrayWrite x i e ∷ rest) before s = changed_done rest before _
 
-fits_action : (a : Action ℕ) (s : Store) → ActionFits s a → AllInRange (touched_by_action a s)
-fits_action (Assign x e) s p = fits_touched e s p
-fits_action (Write x i e) s p = both_parts _ _ (fits_touched i s p.0) (fits_touched e s p.1)
+fits_assignment : (a : Assignment ℕ) (s : Store) → ActionFits s a → AllInRange (touched_by_assignment a s)
+fits_assignment (Assign x e) s p = fits_touched e s p
+fits_assignment (ArrayWrite x i e) s p = both_parts _ _ (fits_touched i s p.0) (fits_touched e s p.1)
 
-action_fits : (a : Action ℕ) (s : Store) → AllInRange (touched_by_action a s) → ActionFits s a
-action_fits (Assign x e) s p = touched_fits e s p
-action_fits (Write x i e) s p = (touched_fits i s (front_part _ _ p), touched_fits e s (back_part (touched_by_action (Assign x i) s) _ p))
+assignment_fits : (a : Assignment ℕ) (s : Store) → AllInRange (touched_by_assignment a s) → ActionFits s a
+assignment_fits (Assign x e) s p = touched_fits e s p
+assignment_fits (ArrayWrite x i e) s p = (touched_fits i s (front_part _ _ p), touched_fits e s (back_part (touched_by_assignment (Assign x i) s) _ p))
 
-fit_actions : (acts : List (Action ℕ)) (s : Store) → ActionsFit s acts → AllInRange (touched_by_actions acts s)
-fit_actions [] s p = tt
-fit_actions (a ∷ rest) s p = both_parts _ _ (fits_action a s p.0) (fit_actions rest s p.1)
+fit_assignments : (acts : List (Assignment ℕ)) (s : Store) → AssignmentsFit s acts → AllInRange (touched_by_assignments acts s)
+fit_assignments [] s p = tt
+fit_assignments (a ∷ rest) s p = both_parts _ _ (fits_assignment a s p.0) (fit_assignments rest s p.1)
 
-actions_fit : (acts : List (Action ℕ)) (s : Store) → AllInRange (touched_by_actions acts s) → ActionsFit s acts
-actions_fit [] s p = tt
-actions_fit (a ∷ rest) s p = (action_fits a s (front_part _ _ p), actions_fit rest s (back_part (touched_by_action a s) _ p))
+assignments_fit : (acts : List (Assignment ℕ)) (s : Store) → AllInRange (touched_by_assignments acts s) → AssignmentsFit s acts
+assignments_fit [] s p = tt
+assignments_fit (a ∷ rest) s p = (assignment_fits a s (front_part _ _ p), assignments_fit rest s (back_part (touched_by_assignment a s) _ p))
 
 -- the transition taken is one of the state's
-line_at : (ls : List (Line ℕ ℕ)) (s : Store) (l : Line ℕ ℕ) → line_taken ls s ≡ Some l → (k : ℕ) × (slice_get ls k ≡ Some l)
+line_at : (ls : List (Transition ℕ ℕ)) (s : Store) (l : Transition ℕ ℕ) → transition_taken ls s ≡ Some l → (k : ℕ) × (slice_get ls k ≡ Some l)
 line_at [] s l e = absurd (cc)
-line_at (x ∷ ls) s l e = on_guard (λ h. line_at ls s l h) (guard_holds x.guard s) refl
+line_at (x ∷ ls) s l e = on_guard (λ h. line_at ls s l h) (condition_holds x.guard s) refl
   where
-    on_guard : (line_taken ls s ≡ Some l → (k : ℕ) × (slice_get ls k ≡ Some l)) → (b : Bool) → guard_holds x.guard s ≡ b → (k : ℕ) × (slice_get (x ∷ ls) k ≡ Some l)
-    on_guard ih true h = (0, sym (ap (λ b. cond b (Some x) (line_taken ls s)) h) ∙ e)
-    on_guard ih false h = let r = ih (sym (ap (λ b. cond b (Some x) (line_taken ls s)) h) ∙ e) in (suc r.0, r.1)
+    on_guard : (transition_taken ls s ≡ Some l → (k : ℕ) × (slice_get ls k ≡ Some l)) → (b : Bool) → condition_holds x.guard s ≡ b → (k : ℕ) × (slice_get (x ∷ ls) k ≡ Some l)
+    on_guard ih true h = (0, sym (ap (λ b. cond b (Some x) (transition_taken ls s)) h) ∙ e)
+    on_guard ih false h = let r = ih (sym (ap (λ b. cond b (Some x) (transition_taken ls s)) h) ∙ e) in (suc r.0, r.1)
 
 -- sorts decide
 
@@ -93,59 +93,59 @@ front_all p xs ys e = first_of (list_all p xs) (list_all p ys) (sym (list_all-ap
 back_all : (p : ℕ → Bool) (xs ys : List ℕ) → list_all p (xs ++ ys) ≡ true → list_all p ys ≡ true
 back_all p xs ys e = second_of (list_all p xs) (list_all p ys) (sym (list_all-append p xs ys) ∙ e)
 
-suit_all : (acts : List (Action ℕ)) (s : Store) (vars : List VarInfo) (vs : List Value) → map sort_of vs ≡ map (λ v. v.sort) vars
-    → list_all (scalar_at vars) (scalars_in_actions acts) ≡ true → list_all (array_at vars) (arrays_in_actions acts) ≡ true → list_all (suits vs) (map (done_by s) acts) ≡ true
+suit_all : (acts : List (Assignment ℕ)) (s : Store) (vars : List VarInfo) (vs : List Value) → map sort_of vs ≡ map (λ v. v.sort) vars
+    → list_all (scalar_at vars) (scalars_in_assignments acts) ≡ true → list_all (array_at vars) (arrays_in_assignments acts) ≡ true → list_all (suits vs) (map (done_by s) acts) ≡ true
 suit_all [] s vars vs e p q = refl
 suit_all (Assign x t ∷ rest) s vars vs e p q =
     both_of (is_number (slice_get vs x)) (list_all (suits vs) (map (done_by s) rest))
-    (number_of_sort (slice_get vs x) (slice_get vars x) (same_at vars vs x e) (first_of (scalar_at vars x) (list_all (scalar_at vars) (scalars_in t)) (front_all (scalar_at vars) (x ∷ scalars_in t) (scalars_in_actions rest) p)))
-    (suit_all rest s vars vs e (back_all (scalar_at vars) (x ∷ scalars_in t) (scalars_in_actions rest) p) (back_all (array_at vars) (arrays_in t) (arrays_in_actions rest) q))
-suit_all (Write x i t ∷ rest) s vars vs e p q =
+    (number_of_sort (slice_get vs x) (slice_get vars x) (same_at vars vs x e) (first_of (scalar_at vars x) (list_all (scalar_at vars) (scalars_in t)) (front_all (scalar_at vars) (x ∷ scalars_in t) (scalars_in_assignments rest) p)))
+    (suit_all rest s vars vs e (back_all (scalar_at vars) (x ∷ scalars_in t) (scalars_in_assignments rest) p) (back_all (array_at vars) (arrays_in t) (arrays_in_assignments rest) q))
+suit_all (ArrayWrite x i t ∷ rest) s vars vs e p q =
     both_of (is_array (slice_get vs x)) (list_all (suits vs) (map (done_by s) rest))
-    (array_of_sort (slice_get vs x) (slice_get vars x) (same_at vars vs x e) (first_of (array_at vars x) (list_all (array_at vars) (arrays_in i ++ arrays_in t)) (front_all (array_at vars) (x ∷ (arrays_in i ++ arrays_in t)) (arrays_in_actions rest) q)))
-    (suit_all rest s vars vs e (back_all (scalar_at vars) (scalars_in i ++ scalars_in t) (scalars_in_actions rest) p) (back_all (array_at vars) (x ∷ (arrays_in i ++ arrays_in t)) (arrays_in_actions rest) q))
+    (array_of_sort (slice_get vs x) (slice_get vars x) (same_at vars vs x e) (first_of (array_at vars x) (list_all (array_at vars) (arrays_in i ++ arrays_in t)) (front_all (array_at vars) (x ∷ (arrays_in i ++ arrays_in t)) (arrays_in_assignments rest) q)))
+    (suit_all rest s vars vs e (back_all (scalar_at vars) (scalars_in i ++ scalars_in t) (scalars_in_assignments rest) p) (back_all (array_at vars) (x ∷ (arrays_in i ++ arrays_in t)) (arrays_in_assignments rest) q))
 
 -- what holds of the branch that a store takes
 pub record Takes (m : Fsmd) (q : ℕ) (s : Store) (b : Branch) : Type 0 where
-  pub step : Step m q s b.target (changed_all s (map (done_by s) b.actions))
+  pub step : Step m q s b.target (changed_all s (map (done_by s) b.assignments))
   pub target : b.target < length m.states
-  pub touched_there : AllInRange (touched m q s) → AllInRange (touched_by_branches (branches_of (lines_of m q)) s) × ActionsFit s b.actions
-  pub touched_back : AllInRange (touched_by_branches (branches_of (lines_of m q)) s) → ActionsFit s b.actions → AllInRange (touched m q s)
-  pub suit : (vs : List Value) → HasSorts m vs → AllSuit vs (map (done_by s) b.actions)
+  pub touched_there : AllInRange (touched m q s) → AllInRange (touched_by_branches (branches_of (transitions_of m q)) s) × AssignmentsFit s b.assignments
+  pub touched_back : AllInRange (touched_by_branches (branches_of (transitions_of m q)) s) → AssignmentsFit s b.assignments → AllInRange (touched m q s)
+  pub suit : (vs : List Value) → HasSorts m vs → AllSuit vs (map (done_by s) b.assignments)
 
-pub one_branch : (m : Fsmd) (q : ℕ) (s : Store) → IsSound m → q < length m.states → TakesOneBranch (lines_of m q) s
-one_branch m q s sound h = takes_one (lines_of m q) s (sound.open_last q h)
+pub one_branch : (m : Fsmd) (q : ℕ) (s : Store) → IsSound m → q < length m.states → TakesOneBranch (transitions_of m q) s
+one_branch m q s sound h = takes_one (transitions_of m q) s (sound.open_last q h)
 
-pub one_open : (m : Fsmd) (q : ℕ) (s : Store) (sound : IsSound m) (h : q < length m.states) → first_open (branches_of (lines_of m q)) s ≡ Some (one_branch m q s sound h).branch
-one_open m q s sound h = first_taken (lines_of m q) s (one_branch m q s sound h)
+pub one_open : (m : Fsmd) (q : ℕ) (s : Store) (sound : IsSound m) (h : q < length m.states) → taken_branch (branches_of (transitions_of m q)) s ≡ Some (one_branch m q s sound h).branch
+one_open m q s sound h = first_taken (transitions_of m q) s (one_branch m q s sound h)
 
-takes_branch : (m : Fsmd) (q : ℕ) (s : Store) → IsSound m → q < length m.states → (one : TakesOneBranch (lines_of m q) s) → Takes m q s one.branch
+takes_branch : (m : Fsmd) (q : ℕ) (s : Store) → IsSound m → q < length m.states → (one : TakesOneBranch (transitions_of m q) s) → Takes m q s one.branch
 takes_branch m q s sound h one =
-    let at = line_at (lines_of m q) s one.line one.taken in
-    let sure : IsSoundLine m.variables (length m.states) one.line = sound.lines_sound q one.line at.0 at.1 in
-    let same = touched_taken (lines_of m q) s (sound.open_last q h) one in
-    let scalars : list_all (scalar_at m.variables) (scalars_in_actions one.line.actions) ≡ true = back_all (scalar_at m.variables) (scalars_in_guard one.line.guard) _ sure.scalars in
-    let arrays : list_all (array_at m.variables) (arrays_in_actions one.line.actions) ≡ true = back_all (array_at m.variables) (arrays_in_guard one.line.guard) _ sure.arrays in
+    let at = line_at (transitions_of m q) s one.line one.taken in
+    let sure : IsSoundTransition m.variables (length m.states) one.line = sound.transitions_sound q one.line at.0 at.1 in
+    let same = touched_taken (transitions_of m q) s (sound.open_last q h) one in
+    let scalars : list_all (scalar_at m.variables) (scalars_in_assignments one.line.assignments) ≡ true = back_all (scalar_at m.variables) (scalars_in_condition one.line.guard) _ sure.scalars in
+    let arrays : list_all (array_at m.variables) (arrays_in_assignments one.line.assignments) ≡ true = back_all (array_at m.variables) (arrays_in_condition one.line.guard) _ sure.arrays in
     record {
-      step = record { line = one.line; taken = one.taken; target = one.target; store = changed_done one.branch.actions s s ∙ ap (λ a. act_all a s s) one.actions };
+      step = record { line = one.line; taken = one.taken; target = one.target; store = changed_done one.branch.assignments s s ∙ ap (λ a. act_all a s s) one.assignments };
       target = subst (λ r. r < length m.states) (sym one.target) sure.target_in;
-      touched_there = λ p. ((same.there p).0, actions_fit one.branch.actions s (same.there p).1);
-      touched_back = λ p a. same.back (p, fit_actions one.branch.actions s a);
-      suit = λ vs e. suit_all one.branch.actions s m.variables vs e
-          (ap (λ a. list_all (scalar_at m.variables) (scalars_in_actions a)) one.actions ∙ scalars)
-          (ap (λ a. list_all (array_at m.variables) (arrays_in_actions a)) one.actions ∙ arrays);
+      touched_there = λ p. ((same.there p).0, assignments_fit one.branch.assignments s (same.there p).1);
+      touched_back = λ p a. same.back (p, fit_assignments one.branch.assignments s a);
+      suit = λ vs e. suit_all one.branch.assignments s m.variables vs e
+          (ap (λ a. list_all (scalar_at m.variables) (scalars_in_assignments a)) one.assignments ∙ scalars)
+          (ap (λ a. list_all (array_at m.variables) (arrays_in_assignments a)) one.assignments ∙ arrays);
     }
 
-pub takes : (m : Fsmd) (q : ℕ) (s : Store) (b : Branch) → IsSound m → q < length m.states → first_open (branches_of (lines_of m q)) s ≡ Some b → Takes m q s b
+pub takes : (m : Fsmd) (q : ℕ) (s : Store) (b : Branch) → IsSound m → q < length m.states → taken_branch (branches_of (transitions_of m q)) s ≡ Some b → Takes m q s b
 takes m q s b sound h e =
     let one = one_branch m q s sound h in
     let f = one_open m q s sound h in
     let same : one.branch ≡ b = cc (e, f) in
     subst (λ c. Takes m q s c) same (takes_branch m q s sound h one)
 
-pub is_open : (m : Fsmd) (q : ℕ) (s : Store) → IsSound m → q < length m.states → IsSome (first_open (branches_of (lines_of m q)) s)
+pub is_open : (m : Fsmd) (q : ℕ) (s : Store) → IsSound m → q < length m.states → IsSome (taken_branch (branches_of (transitions_of m q)) s)
 is_open m q s sound h = subst IsSome (sym (one_open m q s sound h)) refl
 
-pub past_taken : (e : StepStop) (m : Fsmd) (q : ℕ) (s : Store) (b : Branch) → Takes m q s b → PastOnly e (¬ ActionsFit s b.actions) → PastOnly e (¬ AllInRange (touched m q s))
+pub past_taken : (e : StepStop) (m : Fsmd) (q : ℕ) (s : Store) (b : Branch) → Takes m q s b → PastOnly e (¬ AssignmentsFit s b.assignments) → PastOnly e (¬ AllInRange (touched m q s))
 past_taken PastWide m q s b t refused = λ p. refused (t.touched_there p).1
 past_taken NoMemory m q s b t refused = tt

@@ -7,7 +7,7 @@ use Rattle.fs_model.specs.Meaning.{literal_holds}
 use Rattle.fs_model.specs.Touched.{AllInRange}
 use Rattle.fs_model.specs.Trees.{Branch}
 use Rattle.fs_ast.specs.Open.{all_hold}
-use Rattle.fs_runs.specs.Reads.{touched_by_literal, touched_by_way, touched_by_branches, first_open}
+use Rattle.fs_runs.specs.Reads.{touched_by_literal, touched_by_way, touched_by_branches, taken_branch}
 use Rattle.fs_runs.proofs.Ways.{both_parts, front_part, back_part}
 
 -- one literal in front
@@ -42,8 +42,8 @@ branch_back b bs s h p = back_part (touched_by_way b.literals s) _ (subst (λ c.
 pub branch_ends : (b : Branch) (bs : List Branch) (s : Store) → all_hold b.literals s ≡ true → AllInRange (touched_by_way b.literals s) → AllInRange (touched_by_branches (b ∷ bs) s)
 branch_ends b bs s h p = subst (λ c. AllInRange (touched_by_way b.literals s ++ cond c [] (touched_by_branches bs s))) (sym h) (both_parts _ [] p tt)
 
-pub open_more : (b : Branch) (bs : List Branch) (s : Store) → all_hold b.literals s ≡ false → first_open (b ∷ bs) s ≡ first_open bs s
-open_more b bs s h = ap (λ c. cond c (Some b) (first_open bs s)) h
+pub open_more : (b : Branch) (bs : List Branch) (s : Store) → all_hold b.literals s ≡ false → taken_branch (b ∷ bs) s ≡ taken_branch bs s
+open_more b bs s h = ap (λ c. cond c (Some b) (taken_branch bs s)) h
 
-pub open_here : (b : Branch) (bs : List Branch) (s : Store) → all_hold b.literals s ≡ true → first_open (b ∷ bs) s ≡ Some b
-open_here b bs s h = ap (λ c. cond c (Some b) (first_open bs s)) h
+pub open_here : (b : Branch) (bs : List Branch) (s : Store) → all_hold b.literals s ≡ true → taken_branch (b ∷ bs) s ≡ Some b
+open_here b bs s h = ap (λ c. cond c (Some b) (taken_branch bs s)) h

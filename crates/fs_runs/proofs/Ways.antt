@@ -4,14 +4,14 @@ use Rattle.std.specs.Prelude.{not, ◌&&◌, ◌||◌, is_none, is_some, ℤ, Op
 use Rattle.std.proofs.lemmas.List.Folds.{list_all-append}
 use Rattle.fs_model.specs.declared.parts.Rel.{Rel}
 use Rattle.fs_model.specs.declared.parts.Rel.TheVariants.{Eq, Ne, Lt, Le, Gt, Ge}
-use Rattle.fs_model.specs.Terms.{Term, Number, Variable, Read, Sum, Difference, Product, Quotient, Remainder, Negative, Literal, Formula, Test, Not, And, Or, Action, Line}
+use Rattle.fs_model.specs.Terms.{Term, Number, Variable, Read, Sum, Difference, Product, Quotient, Remainder, Negative, Literal, Guard, Test, Not, And, Or, Assignment, Transition}
 use Rattle.fs_model.specs.Stores.{Store}
-use Rattle.fs_model.specs.Meaning.{value, relates, literal_holds, holds, guard_holds, line_taken}
-use Rattle.fs_model.specs.Touched.{touched_by_term, touched_by_formula, touched_by_guard, touched_by_actions, touched_by_lines, AllInRange}
-use Rattle.fs_model.specs.Trees.{Tree, Empty, Leaf, Node, tree_of_formula, tree_of_guard, tree_of_lines, opposite, negated, Branch, leaves, branches_of}
+use Rattle.fs_model.specs.Meaning.{value, relates, literal_holds, holds, condition_holds, transition_taken}
+use Rattle.fs_model.specs.Touched.{touched_by_term, touched_by_guard, touched_by_condition, touched_by_assignments, touched_by_transitions, AllInRange}
+use Rattle.fs_model.specs.Trees.{Tree, Empty, Leaf, Node, tree_of_guard, tree_of_condition, tree_of_transitions, opposite, negated, Branch, leaves, branches_of}
 use Rattle.fs_ast.specs.Sound.{ends_open, is_open}
 use Rattle.fs_ast.specs.Open.{all_hold, TakesOneBranch}
-use Rattle.fs_runs.specs.Reads.{EachFits, LiteralFits, touched_by_literal, touched_by_way, touched_by_branches, first_open, Both}
+use Rattle.fs_runs.specs.Reads.{EachFits, LiteralFits, touched_by_literal, touched_by_way, touched_by_branches, taken_branch, Both}
 
 -- lists of numbers in range
 
@@ -78,13 +78,13 @@ opposite_holds l s = opposite_relates l.relation (value l.left s) (value l.right
 -- the numbers that are looked at on the way down a tree
 abbrev pub touched_by_tree : Tree → Store → List ℤ
 touched_by_tree Empty s = []
-touched_by_tree (Leaf actions target) s = []
+touched_by_tree (Leaf assignments target) s = []
 touched_by_tree (Node l y n) s = touched_by_literal l s ++ cond (literal_holds l s) (touched_by_tree y s) (touched_by_tree n s)
 
 -- whether each way down ends at a leaf
 abbrev pub is_full : Tree → Bool
 is_full Empty = false
-is_full (Leaf actions target) = true
+is_full (Leaf assignments target) = true
 is_full (Node l y n) = is_full y && is_full n
 
 both_true : (a b : Bool) → a ≡ true → b ≡ true → (a && b) ≡ true
@@ -98,24 +98,24 @@ second_true : (a b : Bool) → (a && b) ≡ true → b ≡ true
 second_true true b e = e
 second_true false b e = absurd (cc)
 
-full-formula : (g : Formula ℕ) (y n : Tree) → is_full y ≡ true → is_full n ≡ true → is_full (tree_of_formula g y n) ≡ true
-full-formula (Test l) y n p q = both_true _ _ p q
-full-formula (Not c) y n p q = full-formula c n y q p
-full-formula (And c d) y n p q = full-formula c _ n (full-formula d y n p q) q
-full-formula (Or c d) y n p q = full-formula c y _ p (full-formula d y n p q)
+full-guard : (g : Guard ℕ) (y n : Tree) → is_full y ≡ true → is_full n ≡ true → is_full (tree_of_guard g y n) ≡ true
+full-guard (Test l) y n p q = both_true _ _ p q
+full-guard (Not c) y n p q = full-guard c n y q p
+full-guard (And c d) y n p q = full-guard c _ n (full-guard d y n p q) q
+full-guard (Or c d) y n p q = full-guard c y _ p (full-guard d y n p q)
 
-full-guard : (g : Option (Formula ℕ)) (y n : Tree) → is_full y ≡ true → is_full n ≡ true → is_full (tree_of_guard g y n) ≡ true
-full-guard None y n p q = p
-full-guard (Some c) y n p q = full-formula c y n p q
+full-condition : (g : Option (Guard ℕ)) (y n : Tree) → is_full y ≡ true → is_full n ≡ true → is_full (tree_of_condition g y n) ≡ true
+full-condition None y n p q = p
+full-condition (Some c) y n p q = full-guard c y n p q
 
-full-open : (g : Option (Formula ℕ)) (y n : Tree) → is_none g ≡ true → is_full y ≡ true → is_full (tree_of_guard g y n) ≡ true
+full-open : (g : Option (Guard ℕ)) (y n : Tree) → is_none g ≡ true → is_full y ≡ true → is_full (tree_of_condition g y n) ≡ true
 full-open None y n e p = p
 full-open (Some c) y n e p = absurd (cc)
 
-pub full-lines : (ls : List (Line ℕ ℕ)) → ends_open ls ≡ true → is_full (tree_of_lines ls) ≡ true
+pub full-lines : (ls : List (Transition ℕ ℕ)) → ends_open ls ≡ true → is_full (tree_of_transitions ls) ≡ true
 full-lines [] e = absurd (cc)
-full-lines (l ∷ []) e = full-open l.guard (Leaf l.actions l.target) Empty e refl
-full-lines (l ∷ k ∷ ls) e = full-guard l.guard (Leaf l.actions l.target) (tree_of_lines (k ∷ ls)) refl (full-lines (k ∷ ls) (second_true (not (is_open l)) (ends_open (k ∷ ls)) e))
+full-lines (l ∷ []) e = full-open l.guard (Leaf l.assignments l.target) Empty e refl
+full-lines (l ∷ k ∷ ls) e = full-condition l.guard (Leaf l.assignments l.target) (tree_of_transitions (k ∷ ls)) refl (full-lines (k ∷ ls) (second_true (not (is_open l)) (ends_open (k ∷ ls)) e))
 
 and_then : (a b : Bool) (u v w x : List ℤ) → (u ++ cond a v []) ++ cond (a && b) w x ≡ u ++ cond a (v ++ cond b w x) x
 and_then true b u v w x = append_assoc u v (cond b w x)
@@ -129,39 +129,39 @@ turned : (a : Bool) (w x : List ℤ) → cond (not a) w x ≡ cond a x w
 turned true w x = refl
 turned false w x = refl
 
-touched-formula : (g : Formula ℕ) (y n : Tree) (s : Store) → touched_by_tree (tree_of_formula g y n) s ≡ touched_by_formula g s ++ cond (holds g s) (touched_by_tree y s) (touched_by_tree n s)
-touched-formula (Test l) y n s = refl
-touched-formula (Not c) y n s = touched-formula c n y s ∙ ap (λ z. touched_by_formula c s ++ z) (sym (turned (holds c s) (touched_by_tree y s) (touched_by_tree n s)))
-touched-formula (And c d) y n s =
-    touched-formula c (tree_of_formula d y n) n s
-    ∙ ap (λ z. touched_by_formula c s ++ cond (holds c s) z (touched_by_tree n s)) (touched-formula d y n s)
-    ∙ sym (and_then (holds c s) (holds d s) (touched_by_formula c s) (touched_by_formula d s) (touched_by_tree y s) (touched_by_tree n s))
-touched-formula (Or c d) y n s =
-    touched-formula c y (tree_of_formula d y n) s
-    ∙ ap (λ z. touched_by_formula c s ++ cond (holds c s) (touched_by_tree y s) z) (touched-formula d y n s)
-    ∙ sym (or_then (holds c s) (holds d s) (touched_by_formula c s) (touched_by_formula d s) (touched_by_tree y s) (touched_by_tree n s))
+touched-guard : (g : Guard ℕ) (y n : Tree) (s : Store) → touched_by_tree (tree_of_guard g y n) s ≡ touched_by_guard g s ++ cond (holds g s) (touched_by_tree y s) (touched_by_tree n s)
+touched-guard (Test l) y n s = refl
+touched-guard (Not c) y n s = touched-guard c n y s ∙ ap (λ z. touched_by_guard c s ++ z) (sym (turned (holds c s) (touched_by_tree y s) (touched_by_tree n s)))
+touched-guard (And c d) y n s =
+    touched-guard c (tree_of_guard d y n) n s
+    ∙ ap (λ z. touched_by_guard c s ++ cond (holds c s) z (touched_by_tree n s)) (touched-guard d y n s)
+    ∙ sym (and_then (holds c s) (holds d s) (touched_by_guard c s) (touched_by_guard d s) (touched_by_tree y s) (touched_by_tree n s))
+touched-guard (Or c d) y n s =
+    touched-guard c y (tree_of_guard d y n) s
+    ∙ ap (λ z. touched_by_guard c s ++ cond (holds c s) (touched_by_tree y s) z) (touched-guard d y n s)
+    ∙ sym (or_then (holds c s) (holds d s) (touched_by_guard c s) (touched_by_guard d s) (touched_by_tree y s) (touched_by_tree n s))
 
-touched-guard : (g : Option (Formula ℕ)) (y n : Tree) (s : Store) → touched_by_tree (tree_of_guard g y n) s ≡ touched_by_guard g s ++ cond (guard_holds g s) (touched_by_tree y s) (touched_by_tree n s)
-touched-guard None y n s = refl
-touched-guard (Some c) y n s = touched-formula c y n s
+touched-condition : (g : Option (Guard ℕ)) (y n : Tree) (s : Store) → touched_by_tree (tree_of_condition g y n) s ≡ touched_by_condition g s ++ cond (condition_holds g s) (touched_by_tree y s) (touched_by_tree n s)
+touched-condition None y n s = refl
+touched-condition (Some c) y n s = touched-guard c y n s
 
--- the actions of the transition taken
-abbrev pub actions_taken : Option (Line ℕ ℕ) → List (Action ℕ)
-actions_taken None = []
-actions_taken (Some l) = l.actions
+-- the assignments of the transition taken
+abbrev pub assignments_taken : Option (Transition ℕ ℕ) → List (Assignment ℕ)
+assignments_taken None = []
+assignments_taken (Some l) = l.assignments
 
-line_then : (b : Bool) (l : Line ℕ ℕ) (o : Option (Line ℕ ℕ)) (u v : List ℤ) (s : Store)
-    → u ++ cond b (touched_by_actions l.actions s) (v ++ touched_by_actions (actions_taken o) s) ≡ (u ++ cond b [] v) ++ touched_by_actions (actions_taken (cond b (Some l) o)) s
-line_then true l o u v s = ap (λ z. z ++ touched_by_actions l.actions s) (sym (append-nil u))
-line_then false l o u v s = sym (append_assoc u v (touched_by_actions (actions_taken o) s))
+line_then : (b : Bool) (l : Transition ℕ ℕ) (o : Option (Transition ℕ ℕ)) (u v : List ℤ) (s : Store)
+    → u ++ cond b (touched_by_assignments l.assignments s) (v ++ touched_by_assignments (assignments_taken o) s) ≡ (u ++ cond b [] v) ++ touched_by_assignments (assignments_taken (cond b (Some l) o)) s
+line_then true l o u v s = ap (λ z. z ++ touched_by_assignments l.assignments s) (sym (append-nil u))
+line_then false l o u v s = sym (append_assoc u v (touched_by_assignments (assignments_taken o) s))
 
--- what a step touches: the numbers on the way down the tree, and those of the actions
-pub touched-lines : (ls : List (Line ℕ ℕ)) (s : Store) → touched_by_lines ls s ≡ touched_by_tree (tree_of_lines ls) s ++ touched_by_actions (actions_taken (line_taken ls s)) s
+-- what a step touches: the numbers on the way down the tree, and those of the assignments
+pub touched-lines : (ls : List (Transition ℕ ℕ)) (s : Store) → touched_by_transitions ls s ≡ touched_by_tree (tree_of_transitions ls) s ++ touched_by_assignments (assignments_taken (transition_taken ls s)) s
 touched-lines [] s = refl
 touched-lines (l ∷ ls) s =
-    ap (λ z. touched_by_guard l.guard s ++ cond (guard_holds l.guard s) (touched_by_actions l.actions s) z) (touched-lines ls s)
-    ∙ line_then (guard_holds l.guard s) l (line_taken ls s) (touched_by_guard l.guard s) (touched_by_tree (tree_of_lines ls) s) s
-    ∙ ap (λ z. z ++ touched_by_actions (actions_taken (line_taken (l ∷ ls) s)) s) (sym (touched-guard l.guard (Leaf l.actions l.target) (tree_of_lines ls) s))
+    ap (λ z. touched_by_condition l.guard s ++ cond (condition_holds l.guard s) (touched_by_assignments l.assignments s) z) (touched-lines ls s)
+    ∙ line_then (condition_holds l.guard s) l (transition_taken ls s) (touched_by_condition l.guard s) (touched_by_tree (tree_of_transitions ls) s) s
+    ∙ ap (λ z. z ++ touched_by_assignments (assignments_taken (transition_taken (l ∷ ls) s)) s) (sym (touched-condition l.guard (Leaf l.assignments l.target) (tree_of_transitions ls) s))
 
 -- branches in order
 
@@ -204,7 +204,7 @@ way-failed (k ∷ w) v s e = on_first (λ h. way-failed w v s h) (literal_holds 
 failing : (t : Tree) (w : List (Literal ℕ)) (s : Store) (x : List Branch) → is_full t ≡ true → all_hold w s ≡ false
     → Both (AllInRange (touched_by_branches (leaves t w ++ x) s)) (AllInRange (touched_by_way w s) × AllInRange (touched_by_branches x s))
 failing Empty w s x f e = absurd (cc)
-failing (Leaf actions target) w s x f e = record {
+failing (Leaf assignments target) w s x f e = record {
   there = λ p. let q : AllInRange (touched_by_way w s ++ touched_by_branches x s) = subst (λ b. AllInRange (touched_by_way w s ++ cond b [] (touched_by_branches x s))) e p in
       (front_part _ _ q, back_part (touched_by_way w s) _ q);
   back = λ p. subst (λ b. AllInRange (touched_by_way w s ++ cond b [] (touched_by_branches x s))) (sym e) (both_parts _ _ p.0 p.1);
@@ -227,7 +227,7 @@ failing (Node l y n) w s x f e =
 pub through : (t : Tree) (w : List (Literal ℕ)) (s : Store) (x : List Branch) → is_full t ≡ true → all_hold w s ≡ true
     → Both (AllInRange (touched_by_branches (leaves t w ++ x) s)) (AllInRange (touched_by_way w s) × AllInRange (touched_by_tree t s))
 through Empty w s x f e = absurd (cc)
-through (Leaf actions target) w s x f e = record {
+through (Leaf assignments target) w s x f e = record {
   there = λ p. (front_part _ _ p, tt);
   back = λ p. subst (λ b. AllInRange (touched_by_way w s ++ cond b [] (touched_by_branches x s))) (sym e) (both_parts (touched_by_way w s) [] p.0 tt);
 }
@@ -292,25 +292,25 @@ head_cond : (h : Bool) (b : Branch) (bs : List Branch) → head_of (cond h (b �
 head_cond true b bs = refl
 head_cond false b bs = refl
 
-first_filtered : (bs : List Branch) (s : Store) → head_of (filter (λ b. all_hold b.literals s) bs) ≡ first_open bs s
+first_filtered : (bs : List Branch) (s : Store) → head_of (filter (λ b. all_hold b.literals s) bs) ≡ taken_branch bs s
 first_filtered [] s = refl
 first_filtered (b ∷ bs) s = head_cond (all_hold b.literals s) b (filter (λ c. all_hold c.literals s) bs) ∙ ap (λ o. cond (all_hold b.literals s) (Some b) o) (first_filtered bs s)
 
-pub first_taken : (ls : List (Line ℕ ℕ)) (s : Store) (one : TakesOneBranch ls s) → first_open (branches_of ls) s ≡ Some one.branch
+pub first_taken : (ls : List (Transition ℕ ℕ)) (s : Store) (one : TakesOneBranch ls s) → taken_branch (branches_of ls) s ≡ Some one.branch
 first_taken ls s one = sym (first_filtered (branches_of ls) s) ∙ ap head_of one.one
 
 nil_right : (bs : List Branch) → bs ++ [] ≡ bs
 nil_right bs = append-nil bs
 
--- what a step touches are the numbers of the branches that are tried, and of the actions of the one that is open
-pub touched_taken : (ls : List (Line ℕ ℕ)) (s : Store) → ends_open ls ≡ true → (one : TakesOneBranch ls s)
-    → Both (AllInRange (touched_by_lines ls s)) (AllInRange (touched_by_branches (branches_of ls) s) × AllInRange (touched_by_actions one.branch.actions s))
+-- what a step touches are the numbers of the branches that are tried, and of the assignments of the one that is open
+pub touched_taken : (ls : List (Transition ℕ ℕ)) (s : Store) → ends_open ls ≡ true → (one : TakesOneBranch ls s)
+    → Both (AllInRange (touched_by_transitions ls s)) (AllInRange (touched_by_branches (branches_of ls) s) × AllInRange (touched_by_assignments one.branch.assignments s))
 touched_taken ls s e one =
-    let t : Both (AllInRange (touched_by_branches (branches_of ls ++ []) s)) (AllInRange (touched_by_way [] s) × AllInRange (touched_by_tree (tree_of_lines ls) s)) = through (tree_of_lines ls) [] s [] (full-lines ls e) refl in
-    let acts : touched_by_actions (actions_taken (line_taken ls s)) s ≡ touched_by_actions one.branch.actions s = ap (λ o. touched_by_actions (actions_taken o) s) one.taken ∙ ap (λ a. touched_by_actions a s) (sym one.actions) in
-    let whole : touched_by_lines ls s ≡ touched_by_tree (tree_of_lines ls) s ++ touched_by_actions one.branch.actions s = touched-lines ls s ∙ ap (λ z. touched_by_tree (tree_of_lines ls) s ++ z) acts in
+    let t : Both (AllInRange (touched_by_branches (branches_of ls ++ []) s)) (AllInRange (touched_by_way [] s) × AllInRange (touched_by_tree (tree_of_transitions ls) s)) = through (tree_of_transitions ls) [] s [] (full-lines ls e) refl in
+    let acts : touched_by_assignments (assignments_taken (transition_taken ls s)) s ≡ touched_by_assignments one.branch.assignments s = ap (λ o. touched_by_assignments (assignments_taken o) s) one.taken ∙ ap (λ a. touched_by_assignments a s) (sym one.assignments) in
+    let whole : touched_by_transitions ls s ≡ touched_by_tree (tree_of_transitions ls) s ++ touched_by_assignments one.branch.assignments s = touched-lines ls s ∙ ap (λ z. touched_by_tree (tree_of_transitions ls) s ++ z) acts in
     record {
       there = λ p. let q = subst AllInRange whole p in
-          (subst (λ bs. AllInRange (touched_by_branches bs s)) (nil_right (branches_of ls)) (t.back (tt, front_part _ _ q)), back_part (touched_by_tree (tree_of_lines ls) s) _ q);
+          (subst (λ bs. AllInRange (touched_by_branches bs s)) (nil_right (branches_of ls)) (t.back (tt, front_part _ _ q)), back_part (touched_by_tree (tree_of_transitions ls) s) _ q);
       back = λ p. subst AllInRange (sym whole) (both_parts _ _ (t.there (subst (λ bs. AllInRange (touched_by_branches bs s)) (sym (nil_right (branches_of ls))) p.0)).1 p.1);
     }

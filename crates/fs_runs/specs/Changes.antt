@@ -5,7 +5,7 @@ use Rattle.std.specs.Ordering.{int_cmp, int_eq}
 use Rattle.std.specs.BTreeMap.{get}
 use Rattle.fs_model.specs.declared.parts.Sort.{Sort}
 use Rattle.fs_model.specs.declared.parts.Sort.TheVariants.{Scalar, Array}
-use Rattle.fs_model.specs.Terms.{Action, Assign, Write}
+use Rattle.fs_model.specs.Terms.{Assignment, Assign, ArrayWrite}
 use Rattle.fs_model.specs.Stores.{Store, assigned, written}
 use Rattle.fs_model.specs.Meaning.{value}
 use Rattle.fs_runs.specs.declared.values.Value.{Value}
@@ -15,19 +15,19 @@ use Rattle.fs_runs.specs.declared.changes.Change.TheVariants.{Set, Put}
 use Rattle.fs_runs.specs.Values.{sort_of, number_in, entry_in}
 use Rattle.fs_runs.specs.Reads.{EachFits}
 
--- what an action changes, valued in the store before the step
-abbrev pub done_by : Store → Action ℕ → Change
+-- what an assignment changes, valued in the store before the step
+abbrev pub done_by : Store → Assignment ℕ → Change
 done_by s (Assign x e) = Set x (value e s)
-done_by s (Write x i e) = Put x (value i s) (value e s)
+done_by s (ArrayWrite x i e) = Put x (value i s) (value e s)
 
--- each part of an action's index and right side has its value within 128 bits
-abbrev pub ActionFits : Store → Action ℕ → Type 0
+-- each part of an assignment's index and right side has its value within 128 bits
+abbrev pub ActionFits : Store → Assignment ℕ → Type 0
 ActionFits s (Assign x e) = EachFits e s
-ActionFits s (Write x i e) = EachFits i s × EachFits e s
+ActionFits s (ArrayWrite x i e) = EachFits i s × EachFits e s
 
-abbrev pub ActionsFit : Store → List (Action ℕ) → Type 0
-ActionsFit s [] = Unit {0}
-ActionsFit s (a ∷ rest) = ActionFits s a × ActionsFit s rest
+abbrev pub AssignmentsFit : Store → List (Assignment ℕ) → Type 0
+AssignmentsFit s [] = Unit {0}
+AssignmentsFit s (a ∷ rest) = ActionFits s a × AssignmentsFit s rest
 
 -- a store after a change, and after changes in order
 abbrev pub changed : Store → Change → Store

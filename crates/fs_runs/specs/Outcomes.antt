@@ -4,7 +4,7 @@ use Rattle.std.specs.Str.{bytes_eq}
 use Rattle.fs_model.specs.declared.parts.VarInfo.{VarInfo}
 use Rattle.fs_model.specs.Machines.{Fsmd}
 use Rattle.fs_model.specs.Stores.{Store}
-use Rattle.fs_model.specs.Runs.{Inputs, Content, Goes, start, is_output}
+use Rattle.fs_model.specs.Runs.{Inputs, Content, FirstReturn, start, is_output}
 use Rattle.fs_model.specs.Touched.{touched, AllInRange, StaysInRange}
 use Rattle.fs_runs.specs.declared.step.StepStop.{StepStop}
 use Rattle.fs_runs.specs.declared.step.StepStop.TheVariants.{PastWide, NoMemory}
@@ -40,7 +40,7 @@ told_by m outs name = told (output_names m.variables) (map content_of outs) name
 
 -- within so many steps there is no return to the reset state, and each number touched lies within 128 bits
 pub record RunsOn (m : Fsmd) (ins : Inputs) (limit : ℕ) : Type 0 where
-  pub no_return : (n : ℕ) (t : Store) → n ≤ limit → ¬ Goes m n m.reset (start m ins) t
+  pub no_return : (n : ℕ) (t : Store) → n ≤ limit → ¬ FirstReturn m n m.reset (start m ins) t
   pub in_range : StaysInRange m limit m.reset (start m ins)
 
 -- the first number outside 128 bits is touched by the step of this number, counted from 1, and no return comes before

@@ -40,9 +40,9 @@ touched_by_branches [] s = []
 touched_by_branches (b ∷ bs) s = touched_by_way b.literals s ++ cond (all_hold b.literals s) [] (touched_by_branches bs s)
 
 -- the first branch whose literals all hold
-abbrev pub first_open : List Branch → Store → Option Branch
-first_open [] s = None
-first_open (b ∷ bs) s = cond (all_hold b.literals s) (Some b) (first_open bs s)
+abbrev pub taken_branch : List Branch → Store → Option Branch
+taken_branch [] s = None
+taken_branch (b ∷ bs) s = cond (all_hold b.literals s) (Some b) (taken_branch bs s)
 
 -- two facts of which each gives the other
 pub record Both (A B : Type 0) : Type 0 where

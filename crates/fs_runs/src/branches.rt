@@ -7,7 +7,7 @@ ghost use Rattle.fs_model.specs.Touched.{AllInRange};
 ghost use Rattle.fs_model.specs.View.{literal_of, branch_of};
 ghost use Rattle.fs_ast.specs.Open.{all_hold};
 ghost use Rattle.fs_runs.specs.Values.{store_from};
-ghost use Rattle.fs_runs.specs.Reads.{LiteralFits, touched_by_way, touched_by_branches, first_open};
+ghost use Rattle.fs_runs.specs.Reads.{LiteralFits, touched_by_way, touched_by_branches, taken_branch};
 
 use crate::eval::value_of;
 use crate::values::Value;
@@ -50,8 +50,8 @@ fn all_hold(way: &[Lit<VarId>], values: &[Value]) -> Option<bool>
 /// The first branch whose literals all hold, and none exactly where a number that is looked at on
 /// the way to it lies outside 128 bits.
 pub fn open_branch<'a>(branches: &'a [Branch], values: &[Value]) -> Option<&'a Branch>
-    requires { IsSome (first_open (map branch_of branches.now) (store_from values.now)) }
-    ensures { MatchOption result (¬ AllInRange (touched_by_branches (map branch_of branches.now) (store_from values.now))) (λ b. AllInRange (touched_by_branches (map branch_of branches.now) (store_from values.now)) × (first_open (map branch_of branches.now) (store_from values.now) ≡ Some (branch_of b.now))) }
+    requires { IsSome (taken_branch (map branch_of branches.now) (store_from values.now)) }
+    ensures { MatchOption result (¬ AllInRange (touched_by_branches (map branch_of branches.now) (store_from values.now))) (λ b. AllInRange (touched_by_branches (map branch_of branches.now) (store_from values.now)) × (taken_branch (map branch_of branches.now) (store_from values.now) ≡ Some (branch_of b.now))) }
 {
     for branch in branches {
         if all_hold(branch.lits.as_slice(), values)? {

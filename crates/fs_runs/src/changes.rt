@@ -3,9 +3,9 @@
 ghost use Rattle.std.specs.Prelude.{◌≡◌, ◌++◌, ◌∷◌, [], true, ℤ, IsTrue, map, IfOk, IfErr, Some};
 ghost use Rattle.std.specs.Option.{SomeIff};
 ghost use Rattle.std.specs.Result.{OnOk, OnErr};
-ghost use Rattle.fs_model.specs.View.{action_of};
+ghost use Rattle.fs_model.specs.View.{assignment_of};
 ghost use Rattle.fs_runs.specs.Values.{store_from, sort_of};
-ghost use Rattle.fs_runs.specs.Changes.{done_by, ActionFits, ActionsFit, changed, changed_all, suits, is_ready, is_array, room_in, AllSuit, AllReady, Alike, Puts, KeepsRoom};
+ghost use Rattle.fs_runs.specs.Changes.{done_by, ActionFits, AssignmentsFit, changed, changed_all, suits, is_ready, is_array, room_in, AllSuit, AllReady, Alike, Puts, KeepsRoom};
 ghost use Rattle.fs_runs.specs.Outcomes.{PastOnly};
 ghost use Rattle.fs_runs.specs.declared.changes.Change.{Change};
 
@@ -25,7 +25,7 @@ pub enum Change {
 
 /// What an assignment changes, and none exactly where a number of it lies outside 128 bits.
 fn change_of(assign: &Assign<VarId>, values: &[Value]) -> Option<Change>
-    ensures { SomeIff result (ActionFits (store_from values.now) (action_of assign.now)) (done_by (store_from values.now) (action_of assign.now)) }
+    ensures { SomeIff result (ActionFits (store_from values.now) (assignment_of assign.now)) (done_by (store_from values.now) (assignment_of assign.now)) }
 {
     match assign {
         Assign::Set(x, e) => {
@@ -46,9 +46,9 @@ pub fn changes_of(
     assigns: &[Assign<VarId>],
     values: &[Value],
 ) -> Result<Vec<Change>, StepStop>
-    ensures changes { IfOk result (λ out. out.items ≡ map (done_by (store_from values.now)) (map action_of assigns.now)) }
-    ensures fit { OnOk result (ActionsFit (store_from values.now) (map action_of assigns.now)) }
-    ensures past { IfErr result (λ e. PastOnly e (¬ ActionsFit (store_from values.now) (map action_of assigns.now))) }
+    ensures changes { IfOk result (λ out. out.items ≡ map (done_by (store_from values.now)) (map assignment_of assigns.now)) }
+    ensures fit { OnOk result (AssignmentsFit (store_from values.now) (map assignment_of assigns.now)) }
+    ensures past { IfErr result (λ e. PastOnly e (¬ AssignmentsFit (store_from values.now) (map assignment_of assigns.now))) }
 {
     let mut out = Vec::new(alloc);
     for assign in assigns {

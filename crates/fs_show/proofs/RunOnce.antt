@@ -2,7 +2,7 @@
 use Rattle.std.proofs.Common.{◌≡◌, ℕ, zero, suc, ◌-◌, ◌<◌, ◌≤◌, List, sym, ◌∙◌, ap, subst, inl, inr, arith}
 use Rattle.fs_model.specs.Machines.{Fsmd}
 use Rattle.fs_model.specs.Stores.{Store}
-use Rattle.fs_model.specs.Runs.{Inputs, AfterStep, Returns, Goes, start, output}
+use Rattle.fs_model.specs.Runs.{Inputs, AfterStep, ReachesReset, FirstReturn, start, output}
 use Rattle.fs_model.specs.Touched.{StaysInRange}
 use Rattle.fs_model.proofs.Determined.{same_state, same_store, goes_once}
 use Rattle.fs_runs.specs.declared.run.RunStop.{RunStop}
@@ -21,7 +21,7 @@ stays_less m (suc k) zero q s le x = absurd (omega arith)
 stays_less m (suc k) (suc n) q s le x = (x.0, λ r t st ne. stays_less m k n r t (omega arith) (x.1 r t st ne))
 
 -- behind the return nothing is touched
-after_on : (m : Fsmd) (k n q : ℕ) (s t : Store) → AfterStep m q s (λ r u. Returns m n r u t) → StaysInRange m (suc n) q s → StaysInRange m k q s
+after_on : (m : Fsmd) (k n q : ℕ) (s t : Store) → AfterStep m q s (λ r u. ReachesReset m n r u t) → StaysInRange m (suc n) q s → StaysInRange m k q s
 after_on m zero n q s t a x = tt
 after_on m (suc k) zero q s t a x = (x.0, λ r u st ne. absurd (ne (same_state m q s r a.state u a.store st a.step ∙ a.after.0)))
 after_on m (suc k) (suc n) q s t a x = (
@@ -29,10 +29,10 @@ after_on m (suc k) (suc n) q s t a x = (
   λ r u st ne.
       let e : a.state ≡ r = same_state m q s a.state r a.store u a.step st in
       let f : a.store ≡ u = same_store m q s a.state r a.store u a.step st in
-      after_on m k n r u t (subst (λ z. AfterStep m r z (λ w v. Returns m n w v t)) f (subst (λ z. AfterStep m z a.store (λ w v. Returns m n w v t)) e a.after.1)) (x.1 r u st ne),
+      after_on m k n r u t (subst (λ z. AfterStep m r z (λ w v. ReachesReset m n w v t)) f (subst (λ z. AfterStep m z a.store (λ w v. ReachesReset m n w v t)) e a.after.1)) (x.1 r u st ne),
 )
 
-goes_on : (m : Fsmd) (k n q : ℕ) (s t : Store) → Goes m n q s t → StaysInRange m n q s → StaysInRange m k q s
+goes_on : (m : Fsmd) (k n q : ℕ) (s t : Store) → FirstReturn m n q s t → StaysInRange m n q s → StaysInRange m k q s
 goes_on m k zero q s t goes x = absurd goes
 goes_on m k (suc n) q s t goes x = after_on m k n q s t goes x
 

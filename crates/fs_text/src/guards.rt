@@ -1,11 +1,11 @@
 //! Guards, by descent.
 
 ghost use Rattle.std.specs.Prelude.{◌≡◌, ◌<◌, ◌≤◌, ℕ, Some, List, length, IfOk};
-ghost use Rattle.fs_model.specs.Terms.{Term, Formula, And, Or};
-ghost use Rattle.fs_model.specs.View.{named_term, named_formula};
-ghost use Rattle.fs_grammar.specs.Tokens.{Goes, MadeAs, kind_at};
+ghost use Rattle.fs_model.specs.Terms.{Term, Guard, And, Or};
+ghost use Rattle.fs_model.specs.View.{named_term, named_guard};
+ghost use Rattle.fs_grammar.specs.Tokens.{ParsesOn, MadeAs, kind_at};
 ghost use Rattle.fs_grammar.specs.Ends.{EndsSum, EndsConjunction, EndsGuard, IsLiteral};
-ghost use Rattle.fs_grammar.specs.Grammar.{ForUnit, ForConjunction, ForGuard, reading, unit_done, conjunction_done, at_sum, after_sum, left, right, at_unit, first_of_all, after_conjunction, at_guard, after_guard, braces};
+ghost use Rattle.fs_grammar.specs.Grammar.{UnitContext, ConjunctionContext, GuardContext, reading, unit_done, conjunction_done, at_sum, after_sum, left, right, at_unit, first_of_all, after_conjunction, at_guard, after_guard, braces};
 ghost use Rattle.fs_grammar.specs.declared.token.TokenKind.TheVariants.{AndAnd, OrOr};
 
 use crate::sums::sum;
@@ -16,7 +16,7 @@ use std::alloc::Global;
 
 fn relation(tokens: &[Token]) -> Result<(Rel, &[Token]), ReadError>
     requires { EndsSum tokens.now }
-    ensures goes { (a : Term (List ℕ)) (k : ForUnit) → Goes result (reading tokens.now (after_sum a (left k))) (λ x. reading x.1.now (at_sum (right x.0 a k))) }
+    ensures goes { (a : Term (List ℕ)) (k : UnitContext) → ParsesOn result (reading tokens.now (after_sum a (left k))) (λ x. reading x.1.now (at_sum (right x.0 a k))) }
     ensures shorter { IfOk result (λ x. length x.1.now < length tokens.now) }
 {
     match front(tokens) {
@@ -33,7 +33,7 @@ fn relation(tokens: &[Token]) -> Result<(Rel, &[Token]), ReadError>
 #[tactic(auto, using(crate::proofs::Steps::sum_ends, crate::proofs::Steps::unit_literal))]
 fn literal(alloc: Global, tokens: &[Token]) -> Result<(Guard, &[Token]), ReadError>
     requires { IsLiteral tokens.now }
-    ensures goes { (k : ForUnit) → Goes result (reading tokens.now (at_unit k)) (λ x. reading x.1.now (unit_done (named_formula x.0) k)) }
+    ensures goes { (k : UnitContext) → ParsesOn result (reading tokens.now (at_unit k)) (λ x. reading x.1.now (unit_done (named_guard x.0) k)) }
     ensures shorter { IfOk result (λ x. length x.1.now < length tokens.now) }
 {
     let (left, rest) = sum(alloc, tokens)?;
@@ -45,7 +45,7 @@ fn literal(alloc: Global, tokens: &[Token]) -> Result<(Guard, &[Token]), ReadErr
 // The brace that closes a guard.
 fn close_brace(tokens: &[Token]) -> Result<&[Token], ReadError>
     requires { EndsGuard tokens.now }
-    ensures goes { (g : Formula (List ℕ)) (k : ForUnit) → Goes result (reading tokens.now (after_guard g (braces k))) (λ r. reading r.now (unit_done g k)) }
+    ensures goes { (g : Guard (List ℕ)) (k : UnitContext) → ParsesOn result (reading tokens.now (after_guard g (braces k))) (λ r. reading r.now (unit_done g k)) }
     ensures shorter { IfOk result (λ r. length r.now < length tokens.now) }
 {
     match front(tokens) {
@@ -57,7 +57,7 @@ fn close_brace(tokens: &[Token]) -> Result<&[Token], ReadError>
 // A guard in braces, after the opening one.
 #[cycle(guards)]
 fn braced(alloc: Global, tokens: &[Token]) -> Result<(Guard, &[Token]), ReadError>
-    ensures goes { (k : ForUnit) → Goes result (reading tokens.now (at_guard (braces k))) (λ x. reading x.1.now (unit_done (named_formula x.0) k)) }
+    ensures goes { (k : UnitContext) → ParsesOn result (reading tokens.now (at_guard (braces k))) (λ x. reading x.1.now (unit_done (named_guard x.0) k)) }
     ensures shorter { IfOk result (λ x. length x.1.now < length tokens.now) }
 {
     let (inner, rest) = guard(alloc, tokens)?;
@@ -67,7 +67,7 @@ fn braced(alloc: Global, tokens: &[Token]) -> Result<(Guard, &[Token]), ReadErro
 
 #[cycle(guards)]
 fn unit(alloc: Global, tokens: &[Token]) -> Result<(Guard, &[Token]), ReadError>
-    ensures goes { (k : ForUnit) → Goes result (reading tokens.now (at_unit k)) (λ x. reading x.1.now (unit_done (named_formula x.0) k)) }
+    ensures goes { (k : UnitContext) → ParsesOn result (reading tokens.now (at_unit k)) (λ x. reading x.1.now (unit_done (named_guard x.0) k)) }
     ensures shorter { IfOk result (λ x. length x.1.now < length tokens.now) }
 {
     match front(tokens) {
@@ -88,7 +88,7 @@ fn unit(alloc: Global, tokens: &[Token]) -> Result<(Guard, &[Token]), ReadError>
 #[cycle(guards)]
 fn and_unit(alloc: Global, tokens: &[Token]) -> Result<(Guard, &[Token]), ReadError>
     requires { kind_at tokens.now ≡ Some AndAnd }
-    ensures goes { (c : Formula (List ℕ)) (k : ForConjunction) → Goes result (reading tokens.now (after_conjunction c k)) (λ x. reading x.1.now (after_conjunction (And c (named_formula x.0)) k)) }
+    ensures goes { (c : Guard (List ℕ)) (k : ConjunctionContext) → ParsesOn result (reading tokens.now (after_conjunction c k)) (λ x. reading x.1.now (after_conjunction (And c (named_guard x.0)) k)) }
     ensures shorter { IfOk result (λ x. length x.1.now < length tokens.now) }
 {
     let rest = accept(tokens)?;
@@ -97,7 +97,7 @@ fn and_unit(alloc: Global, tokens: &[Token]) -> Result<(Guard, &[Token]), ReadEr
 
 #[cycle(guards)]
 fn conjunction(alloc: Global, tokens: &[Token]) -> Result<(Guard, &[Token]), ReadError>
-    ensures goes { (k : ForConjunction) → Goes result (reading tokens.now (at_unit (first_of_all k))) (λ x. reading x.1.now (after_conjunction (named_formula x.0) k)) }
+    ensures goes { (k : ConjunctionContext) → ParsesOn result (reading tokens.now (at_unit (first_of_all k))) (λ x. reading x.1.now (after_conjunction (named_guard x.0) k)) }
     ensures shorter { IfOk result (λ x. length x.1.now < length tokens.now) }
     ensures ends { IfOk result (λ x. EndsConjunction x.1.now) }
 {
@@ -118,7 +118,7 @@ fn conjunction(alloc: Global, tokens: &[Token]) -> Result<(Guard, &[Token]), Rea
 #[cycle(guards)]
 #[tactic(auto, using(crate::proofs::Steps::conjunction_ends))]
 fn alternative(alloc: Global, tokens: &[Token]) -> Result<(Guard, &[Token]), ReadError>
-    ensures goes { (k : ForConjunction) → Goes result (reading tokens.now (at_unit (first_of_all k))) (λ x. reading x.1.now (conjunction_done (named_formula x.0) k)) }
+    ensures goes { (k : ConjunctionContext) → ParsesOn result (reading tokens.now (at_unit (first_of_all k))) (λ x. reading x.1.now (conjunction_done (named_guard x.0) k)) }
     ensures shorter { IfOk result (λ x. length x.1.now < length tokens.now) }
 {
     let (value, rest) = conjunction(alloc, tokens)?;
@@ -129,7 +129,7 @@ fn alternative(alloc: Global, tokens: &[Token]) -> Result<(Guard, &[Token]), Rea
 #[cycle(guards)]
 fn or_alternative(alloc: Global, tokens: &[Token]) -> Result<(Guard, &[Token]), ReadError>
     requires { kind_at tokens.now ≡ Some OrOr }
-    ensures goes { (g : Formula (List ℕ)) (k : ForGuard) → Goes result (reading tokens.now (after_guard g k)) (λ x. reading x.1.now (after_guard (Or g (named_formula x.0)) k)) }
+    ensures goes { (g : Guard (List ℕ)) (k : GuardContext) → ParsesOn result (reading tokens.now (after_guard g k)) (λ x. reading x.1.now (after_guard (Or g (named_guard x.0)) k)) }
     ensures shorter { IfOk result (λ x. length x.1.now < length tokens.now) }
 {
     let after = accept(tokens)?;
@@ -139,7 +139,7 @@ fn or_alternative(alloc: Global, tokens: &[Token]) -> Result<(Guard, &[Token]), 
 /// A guard, and the tokens after it. An `Err` is the first fault, or want of memory.
 #[cycle(guards)]
 pub fn guard(alloc: Global, tokens: &[Token]) -> Result<(Guard, &[Token]), ReadError>
-    ensures goes { (k : ForGuard) → Goes result (reading tokens.now (at_guard k)) (λ x. reading x.1.now (after_guard (named_formula x.0) k)) }
+    ensures goes { (k : GuardContext) → ParsesOn result (reading tokens.now (at_guard k)) (λ x. reading x.1.now (after_guard (named_guard x.0) k)) }
     ensures shorter { IfOk result (λ x. length x.1.now < length tokens.now) }
     ensures ends { IfOk result (λ x. EndsGuard x.1.now) }
 {
@@ -157,13 +157,13 @@ pub fn guard(alloc: Global, tokens: &[Token]) -> Result<(Guard, &[Token]), ReadE
 }
 
 fn both(alloc: Global, left: Guard, right: Guard) -> Result<Guard, ReadError>
-    ensures { MadeAs result (λ g. named_formula g ≡ And (named_formula left) (named_formula right)) }
+    ensures { MadeAs result (λ g. named_guard g ≡ And (named_guard left) (named_guard right)) }
 {
     Ok(Guard::And(Box::new(alloc, left)?, Box::new(alloc, right)?))
 }
 
 fn either(alloc: Global, left: Guard, right: Guard) -> Result<Guard, ReadError>
-    ensures { MadeAs result (λ g. named_formula g ≡ Or (named_formula left) (named_formula right)) }
+    ensures { MadeAs result (λ g. named_guard g ≡ Or (named_guard left) (named_guard right)) }
 {
     Ok(Guard::Or(Box::new(alloc, left)?, Box::new(alloc, right)?))
 }

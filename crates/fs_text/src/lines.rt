@@ -1,12 +1,12 @@
 //! The lines of a state: guard, target and assignments.
 
 ghost use Rattle.std.specs.Prelude.{◌≡◌, ◌<◌, ◌≤◌, ◌∷◌, false, List, ℕ, [], map, length, cond, IfOk, IsTrue, Option, Some, option_map};
-ghost use Rattle.fs_model.specs.Terms.{Term, Formula};
-ghost use Rattle.fs_model.specs.View.{named_term, named_formula, named_action, source_line_of};
-ghost use Rattle.fs_grammar.specs.Tokens.{Gives, Goes, kind_at, line_at};
+ghost use Rattle.fs_model.specs.Terms.{Term, Guard};
+ghost use Rattle.fs_model.specs.View.{named_term, named_guard, named_assignment, source_transition_of};
+ghost use Rattle.fs_grammar.specs.Tokens.{Gives, ParsesOn, kind_at, line_at};
 ghost use Rattle.fs_grammar.specs.Ends.{EndsSum, EndsGuard, name_in, begins_line};
 ghost use Rattle.fs_grammar.specs.Grammar as grammar;
-ghost use Rattle.fs_grammar.specs.Grammar.{Draft, Opening, with_lines, with_actions, closed, assigned, reading, at_action, after_action_name, at_equals, after_sum, at_sum, place, value, at_line, at_target, after_target, at_guard, after_guard};
+ghost use Rattle.fs_grammar.specs.Grammar.{OpenState, OpenTransition, with_lines, with_assignments, closed, assigned, reading, at_assignment, after_assignment_name, at_equals, after_sum, at_sum, place, value, at_line, at_target, after_target, at_guard, after_guard};
 ghost use Rattle.fs_text.specs.Destinations.{destination_of};
 
 use crate::guards::guard;
@@ -26,7 +26,7 @@ pub enum Destination {
 
 impl Destination {
     fn assign(self, value: Expr<Name>) -> Assign<Name>
-        ensures { named_action result ≡ assigned (destination_of self) (named_term value) }
+        ensures { named_assignment result ≡ assigned (destination_of self) (named_term value) }
     {
         match self {
             Destination::Scalar(name) => Assign::Set(name, value),
@@ -52,7 +52,7 @@ pub fn name(alloc: Global, tokens: &[Token]) -> Result<(Name, &[Token]), ReadErr
 // The bracket that closes the index of a destination.
 fn close_bracket(tokens: &[Token]) -> Result<&[Token], ReadError>
     requires { EndsSum tokens.now }
-    ensures goes { (i : Term (List ℕ)) (o : Opening) (x : List ℕ) → Goes result (reading tokens.now (after_sum i (place o x))) (λ r. reading r.now (at_equals o (grammar.element x i))) }
+    ensures goes { (i : Term (List ℕ)) (o : OpenTransition) (x : List ℕ) → ParsesOn result (reading tokens.now (after_sum i (place o x))) (λ r. reading r.now (at_equals o (grammar.element x i))) }
     ensures shorter { IfOk result (λ r. length r.now < length tokens.now) }
 {
     match front(tokens) {
@@ -67,7 +67,7 @@ fn element(
     name: Name,
     tokens: &[Token],
 ) -> Result<(Destination, &[Token]), ReadError>
-    ensures goes { (o : Opening) → Goes result (reading tokens.now (at_sum (place o name))) (λ x. reading x.1.now (at_equals o (destination_of x.0))) }
+    ensures goes { (o : OpenTransition) → ParsesOn result (reading tokens.now (at_sum (place o name))) (λ x. reading x.1.now (at_equals o (destination_of x.0))) }
     ensures shorter { IfOk result (λ x. length x.1.now < length tokens.now) }
 {
     let (index, rest) = sum(alloc, tokens)?;
@@ -82,7 +82,7 @@ fn indexed(
     name: Name,
     tokens: &[Token],
 ) -> Result<(Destination, &[Token]), ReadError>
-    ensures goes { (o : Opening) → Goes result (reading tokens.now (after_action_name o name)) (λ x. reading x.1.now (at_equals o (destination_of x.0))) }
+    ensures goes { (o : OpenTransition) → ParsesOn result (reading tokens.now (after_assignment_name o name)) (λ x. reading x.1.now (at_equals o (destination_of x.0))) }
     ensures shorter { IfOk result (λ x. length x.1.now ≤ length tokens.now) }
 {
     match front(tokens) {
@@ -94,9 +94,9 @@ fn indexed(
     }
 }
 
-#[tactic(auto, using(crate::proofs::Steps::name_action))]
+#[tactic(auto, using(crate::proofs::Steps::name_assignment))]
 fn assigned_place(alloc: Global, tokens: &[Token]) -> Result<(Destination, &[Token]), ReadError>
-    ensures goes { (o : Opening) → Goes result (reading tokens.now (at_action o)) (λ x. reading x.1.now (at_equals o (destination_of x.0))) }
+    ensures goes { (o : OpenTransition) → ParsesOn result (reading tokens.now (at_assignment o)) (λ x. reading x.1.now (at_equals o (destination_of x.0))) }
     ensures shorter { IfOk result (λ x. length x.1.now < length tokens.now) }
 {
     let (name, rest) = name(alloc, tokens)?;
@@ -105,7 +105,7 @@ fn assigned_place(alloc: Global, tokens: &[Token]) -> Result<(Destination, &[Tok
 
 // The sign between the two sides of an assignment.
 fn equals(tokens: &[Token]) -> Result<&[Token], ReadError>
-    ensures goes { (o : Opening) (d : grammar.Destination) → Goes result (reading tokens.now (at_equals o d)) (λ r. reading r.now (at_sum (value o d))) }
+    ensures goes { (o : OpenTransition) (d : grammar.Destination) → ParsesOn result (reading tokens.now (at_equals o d)) (λ r. reading r.now (at_sum (value o d))) }
     ensures shorter { IfOk result (λ r. length r.now < length tokens.now) }
 {
     match front(tokens) {
@@ -119,7 +119,7 @@ fn assignment(
     alloc: Global,
     tokens: &[Token],
 ) -> Result<(Destination, Expr<Name>, &[Token]), ReadError>
-    ensures goes { (o : Opening) → Goes result (reading tokens.now (at_action o)) (λ x. reading x.2.now (after_sum (named_term x.1) (value o (destination_of x.0)))) }
+    ensures goes { (o : OpenTransition) → ParsesOn result (reading tokens.now (at_assignment o)) (λ x. reading x.2.now (after_sum (named_term x.1) (value o (destination_of x.0)))) }
     ensures shorter { IfOk result (λ x. length x.2.now < length tokens.now) }
     ensures ends { IfOk result (λ x. EndsSum x.2.now) }
 {
@@ -132,7 +132,7 @@ fn assignment(
 // What follows an assignment: whether it is a comma, and not the end of the line.
 fn separator(tokens: &[Token]) -> Result<(bool, &[Token]), ReadError>
     requires { EndsSum tokens.now }
-    ensures goes { (o : Opening) (d : grammar.Destination) (e : Term (List ℕ)) → let next = with_actions o (assigned d e ∷ []) in Goes result (reading tokens.now (after_sum e (value o d))) (λ x. reading x.1.now (cond x.0 (at_action next) (at_line (closed next)))) }
+    ensures goes { (o : OpenTransition) (d : grammar.Destination) (e : Term (List ℕ)) → let next = with_assignments o (assigned d e ∷ []) in ParsesOn result (reading tokens.now (after_sum e (value o d))) (λ x. reading x.1.now (cond x.0 (at_assignment next) (at_line (closed next)))) }
     ensures shorter { IfOk result (λ x. length x.1.now < length tokens.now) }
 {
     match front(tokens) {
@@ -150,7 +150,7 @@ fn separator(tokens: &[Token]) -> Result<(bool, &[Token]), ReadError>
 
 // Assignments up to the end of their line.
 fn assignments(alloc: Global, tokens: &[Token]) -> Result<(Vec<Assign<Name>>, &[Token]), ReadError>
-    ensures goes { (o : Opening) → Goes result (reading tokens.now (at_action o)) (λ x. reading x.1.now (at_line (closed (with_actions o (map named_action x.0.items))))) }
+    ensures goes { (o : OpenTransition) → ParsesOn result (reading tokens.now (at_assignment o)) (λ x. reading x.1.now (at_line (closed (with_assignments o (map named_assignment x.0.items))))) }
     ensures shorter { IfOk result (λ x. length x.1.now < length tokens.now) }
 {
     let mut all = Vec::new(alloc);
@@ -168,7 +168,7 @@ fn assignments(alloc: Global, tokens: &[Token]) -> Result<(Vec<Assign<Name>>, &[
 
 // The assignments of a line, or none, after its target.
 fn effects(alloc: Global, tokens: &[Token]) -> Result<(Vec<Assign<Name>>, &[Token]), ReadError>
-    ensures goes { (o : Opening) → Goes result (reading tokens.now (after_target o)) (λ x. reading x.1.now (at_line (closed (with_actions o (map named_action x.0.items))))) }
+    ensures goes { (o : OpenTransition) → ParsesOn result (reading tokens.now (after_target o)) (λ x. reading x.1.now (at_line (closed (with_assignments o (map named_assignment x.0.items))))) }
     ensures shorter { IfOk result (λ x. length x.1.now < length tokens.now) }
 {
     match front(tokens) {
@@ -187,7 +187,7 @@ fn effects(alloc: Global, tokens: &[Token]) -> Result<(Vec<Assign<Name>>, &[Toke
 // The target and the assignments of a line, after `goto`.
 #[tactic(auto, using(crate::proofs::Steps::name_target))]
 fn target(alloc: Global, tokens: &[Token]) -> Result<(Name, Vec<Assign<Name>>, &[Token]), ReadError>
-    ensures goes { (d : Draft) (n : ℕ) (g : Option (Formula (List ℕ))) → Goes result (reading tokens.now (at_target d n g)) (λ x. reading x.2.now (at_line (closed (record { draft = d; begins = n; guard = g; target = x.0; actions = map named_action x.1.items })))) }
+    ensures goes { (d : OpenState) (n : ℕ) (g : Option (Guard (List ℕ))) → ParsesOn result (reading tokens.now (at_target d n g)) (λ x. reading x.2.now (at_line (closed (record { draft = d; begins = n; guard = g; target = x.0; assignments = map named_assignment x.1.items })))) }
     ensures shorter { IfOk result (λ x. length x.2.now < length tokens.now) }
 {
     let (name, rest) = name(alloc, tokens)?;
@@ -208,7 +208,7 @@ fn begins_line(tokens: &[Token]) -> bool
 // The word `goto` after a guard.
 fn goto(tokens: &[Token]) -> Result<&[Token], ReadError>
     requires { EndsGuard tokens.now }
-    ensures goes { (g : Formula (List ℕ)) (d : Draft) (n : ℕ) → Goes result (reading tokens.now (after_guard g (grammar.line d n))) (λ r. reading r.now (at_target d n (Some g))) }
+    ensures goes { (g : Guard (List ℕ)) (d : OpenState) (n : ℕ) → ParsesOn result (reading tokens.now (after_guard g (grammar.line d n))) (λ r. reading r.now (at_target d n (Some g))) }
     ensures shorter { IfOk result (λ r. length r.now < length tokens.now) }
 {
     match front(tokens) {
@@ -219,7 +219,7 @@ fn goto(tokens: &[Token]) -> Result<&[Token], ReadError>
 
 // The guard of a line and the word `goto`, after `when`.
 fn guarded(alloc: Global, tokens: &[Token]) -> Result<(Guard, &[Token]), ReadError>
-    ensures goes { (d : Draft) (n : ℕ) → Goes result (reading tokens.now (at_guard (grammar.line d n))) (λ x. reading x.1.now (at_target d n (Some (named_formula x.0)))) }
+    ensures goes { (d : OpenState) (n : ℕ) → ParsesOn result (reading tokens.now (at_guard (grammar.line d n))) (λ x. reading x.1.now (at_target d n (Some (named_guard x.0)))) }
     ensures shorter { IfOk result (λ x. length x.1.now < length tokens.now) }
 {
     let (guard, rest) = guard(alloc, tokens)?;
@@ -230,7 +230,7 @@ fn guarded(alloc: Global, tokens: &[Token]) -> Result<(Guard, &[Token]), ReadErr
 // The guard of a line, or none, and the word `goto`.
 fn condition(alloc: Global, tokens: &[Token]) -> Result<(Option<Guard>, &[Token]), ReadError>
     requires { IsTrue (begins_line (kind_at tokens.now)) }
-    ensures goes { (d : Draft) → Goes result (reading tokens.now (at_line d)) (λ x. reading x.1.now (at_target d (line_at tokens.now) (option_map named_formula x.0))) }
+    ensures goes { (d : OpenState) → ParsesOn result (reading tokens.now (at_line d)) (λ x. reading x.1.now (at_target d (line_at tokens.now) (option_map named_guard x.0))) }
     ensures shorter { IfOk result (λ x. length x.1.now < length tokens.now) }
 {
     match front(tokens) {
@@ -249,7 +249,7 @@ fn condition(alloc: Global, tokens: &[Token]) -> Result<(Option<Guard>, &[Token]
 
 fn line(alloc: Global, tokens: &[Token]) -> Result<(RawLine, &[Token]), ReadError>
     requires { IsTrue (begins_line (kind_at tokens.now)) }
-    ensures goes { (d : Draft) → Goes result (reading tokens.now (at_line d)) (λ x. reading x.1.now (at_line (with_lines d (source_line_of x.0 ∷ [])))) }
+    ensures goes { (d : OpenState) → ParsesOn result (reading tokens.now (at_line d)) (λ x. reading x.1.now (at_line (with_lines d (source_transition_of x.0 ∷ [])))) }
     ensures shorter { IfOk result (λ x. length x.1.now < length tokens.now) }
 {
     let line = line_of(tokens);
@@ -266,7 +266,7 @@ fn line(alloc: Global, tokens: &[Token]) -> Result<(RawLine, &[Token]), ReadErro
 
 /// The lines of a state, and the tokens after them. An `Err` is the first fault, or want of memory.
 pub fn lines(alloc: Global, tokens: &[Token]) -> Result<(Vec<RawLine>, &[Token]), ReadError>
-    ensures goes { (d : Draft) → Goes result (reading tokens.now (at_line d)) (λ x. reading x.1.now (at_line (with_lines d (map source_line_of x.0.items)))) }
+    ensures goes { (d : OpenState) → ParsesOn result (reading tokens.now (at_line d)) (λ x. reading x.1.now (at_line (with_lines d (map source_transition_of x.0.items)))) }
     ensures shorter { IfOk result (λ x. length x.1.now ≤ length tokens.now) }
     ensures ends { IfOk result (λ x. begins_line (kind_at x.1.now) ≡ false) }
 {

@@ -4,8 +4,8 @@ ghost use Rattle.std.specs.Prelude.{◌≡◌, ◌<◌, ◌≤◌, ◌++◌, ◌
 ghost use Rattle.fs_model.specs.declared.parts.Role.{Role};
 ghost use Rattle.fs_model.specs.Source.{Declaration, Source};
 ghost use Rattle.fs_model.specs.View.{declaration_of, source_state_of, source_of};
-ghost use Rattle.fs_grammar.specs.Tokens.{Gives, Goes};
-ghost use Rattle.fs_grammar.specs.Grammar.{Draft, with_names, with_states, reading, at_start, at_declaration, at_sort, at_declared, after_declared, at_reset, after_reset, at_state, at_state_name, after_state_name, at_line};
+ghost use Rattle.fs_grammar.specs.Tokens.{Gives, ParsesOn};
+ghost use Rattle.fs_grammar.specs.Grammar.{OpenState, with_names, with_states, reading, at_start, at_declaration, at_sort, at_declared, after_declared, at_reset, after_reset, at_state, at_state_name, after_state_name, at_line};
 
 use crate::lines::{lines, name};
 use fs_grammar::fault::ReadError;
@@ -16,7 +16,7 @@ use std::alloc::Global;
 
 // The first tokens of a text, `fsmd 1;`.
 fn header(tokens: &[Token]) -> Result<&[Token], ReadError>
-    ensures { Goes result (reading tokens.now at_start) (λ r. reading r.now (at_declaration [])) }
+    ensures { ParsesOn result (reading tokens.now at_start) (λ r. reading r.now (at_declaration [])) }
 {
     let Some(TokenKind::Fsmd) = front(tokens) else {
         return Err(refuse(tokens));
@@ -35,7 +35,7 @@ fn header(tokens: &[Token]) -> Result<&[Token], ReadError>
 // The word `array`, or nothing.
 #[tactic(auto, using(crate::proofs::Steps::no_array))]
 fn sort(tokens: &[Token]) -> Result<(Sort, &[Token]), ReadError>
-    ensures goes { (ds : List Declaration) (n : ℕ) (r : Role) → Goes result (reading tokens.now (at_sort ds n r)) (λ x. reading x.1.now (at_declared ds (record { line = n; role = r; sort = x.0; names = [] }))) }
+    ensures goes { (ds : List Declaration) (n : ℕ) (r : Role) → ParsesOn result (reading tokens.now (at_sort ds n r)) (λ x. reading x.1.now (at_declared ds (record { line = n; role = r; sort = x.0; names = [] }))) }
     ensures shorter { IfOk result (λ x. length x.1.now ≤ length tokens.now) }
 {
     match front(tokens) {
@@ -50,7 +50,7 @@ fn sort(tokens: &[Token]) -> Result<(Sort, &[Token]), ReadError>
 // A name that is declared.
 #[tactic(auto, using(crate::proofs::Steps::name_declared))]
 fn declared(alloc: Global, tokens: &[Token]) -> Result<(Name, &[Token]), ReadError>
-    ensures goes { (ds : List Declaration) (d : Declaration) → Goes result (reading tokens.now (at_declared ds d)) (λ x. reading x.1.now (after_declared ds (with_names d (x.0 ∷ [])))) }
+    ensures goes { (ds : List Declaration) (d : Declaration) → ParsesOn result (reading tokens.now (at_declared ds d)) (λ x. reading x.1.now (after_declared ds (with_names d (x.0 ∷ [])))) }
     ensures shorter { IfOk result (λ x. length x.1.now < length tokens.now) }
 {
     let (name, rest) = name(alloc, tokens)?;
@@ -59,7 +59,7 @@ fn declared(alloc: Global, tokens: &[Token]) -> Result<(Name, &[Token]), ReadErr
 
 // What follows a declared name: whether it is a comma, and not the end of the declaration.
 fn separator(tokens: &[Token]) -> Result<(bool, &[Token]), ReadError>
-    ensures goes { (ds : List Declaration) (d : Declaration) → Goes result (reading tokens.now (after_declared ds d)) (λ x. reading x.1.now (cond x.0 (at_declared ds d) (at_declaration (ds ++ d ∷ [])))) }
+    ensures goes { (ds : List Declaration) (d : Declaration) → ParsesOn result (reading tokens.now (after_declared ds d)) (λ x. reading x.1.now (cond x.0 (at_declared ds d) (at_declaration (ds ++ d ∷ [])))) }
     ensures shorter { IfOk result (λ x. length x.1.now < length tokens.now) }
 {
     match front(tokens) {
@@ -77,7 +77,7 @@ fn separator(tokens: &[Token]) -> Result<(bool, &[Token]), ReadError>
 
 // Names up to the end of their declaration.
 fn names(alloc: Global, tokens: &[Token]) -> Result<(Vec<Name>, &[Token]), ReadError>
-    ensures goes { (ds : List Declaration) (d : Declaration) → Goes result (reading tokens.now (at_declared ds d)) (λ x. reading x.1.now (at_declaration (ds ++ with_names d x.0.items ∷ []))) }
+    ensures goes { (ds : List Declaration) (d : Declaration) → ParsesOn result (reading tokens.now (at_declared ds d)) (λ x. reading x.1.now (at_declaration (ds ++ with_names d x.0.items ∷ []))) }
     ensures shorter { IfOk result (λ x. length x.1.now < length tokens.now) }
 {
     let mut all = Vec::new(alloc);
@@ -100,7 +100,7 @@ fn declaration(
     role: Role,
     tokens: &[Token],
 ) -> Result<(Decl, &[Token]), ReadError>
-    ensures goes { (ds : List Declaration) → Goes result (reading tokens.now (at_sort ds line role)) (λ x. reading x.1.now (at_declaration (ds ++ declaration_of x.0 ∷ []))) }
+    ensures goes { (ds : List Declaration) → ParsesOn result (reading tokens.now (at_sort ds line role)) (λ x. reading x.1.now (at_declaration (ds ++ declaration_of x.0 ∷ []))) }
     ensures shorter { IfOk result (λ x. length x.1.now < length tokens.now) }
 {
     let (sort, rest) = sort(tokens)?;
@@ -118,7 +118,7 @@ fn declaration(
 
 // The declarations and the word `reset`, with its line.
 fn declarations(alloc: Global, tokens: &[Token]) -> Result<(Vec<Decl>, u32, &[Token]), ReadError>
-    ensures { Goes result (reading tokens.now (at_declaration [])) (λ x. reading x.2.now (at_reset (map declaration_of x.0.items) x.1)) }
+    ensures { ParsesOn result (reading tokens.now (at_declaration [])) (λ x. reading x.2.now (at_reset (map declaration_of x.0.items) x.1)) }
 {
     let mut all = Vec::new(alloc);
     let mut rest = tokens;
@@ -143,7 +143,7 @@ fn declarations(alloc: Global, tokens: &[Token]) -> Result<(Vec<Decl>, u32, &[To
 
 // The colon after the name of a state.
 fn colon(tokens: &[Token]) -> Result<&[Token], ReadError>
-    ensures goes { (d : Draft) → Goes result (reading tokens.now (after_state_name d)) (λ r. reading r.now (at_line d)) }
+    ensures goes { (d : OpenState) → ParsesOn result (reading tokens.now (after_state_name d)) (λ r. reading r.now (at_line d)) }
     ensures shorter { IfOk result (λ r. length r.now < length tokens.now) }
 {
     match front(tokens) {
@@ -155,7 +155,7 @@ fn colon(tokens: &[Token]) -> Result<&[Token], ReadError>
 // The rest of the header of a state, after the word `state`.
 #[tactic(auto, using(crate::proofs::Steps::name_state))]
 fn state_name(alloc: Global, tokens: &[Token]) -> Result<(Name, &[Token]), ReadError>
-    ensures goes { (s : Source) (n : ℕ) → Goes result (reading tokens.now (at_state_name s n)) (λ x. reading x.1.now (at_line (record { source = s; state = record { line = n; name = x.0; lines = [] } }))) }
+    ensures goes { (s : Source) (n : ℕ) → ParsesOn result (reading tokens.now (at_state_name s n)) (λ x. reading x.1.now (at_line (record { source = s; state = record { line = n; name = x.0; lines = [] } }))) }
     ensures shorter { IfOk result (λ x. length x.1.now < length tokens.now) }
 {
     let (name, rest) = name(alloc, tokens)?;
@@ -166,7 +166,7 @@ fn state_name(alloc: Global, tokens: &[Token]) -> Result<(Name, &[Token]), ReadE
 // The rest of a state, after the word `state`.
 #[tactic(auto, using(crate::proofs::Steps::lines_end))]
 fn state(alloc: Global, line: u32, tokens: &[Token]) -> Result<(RawState, &[Token]), ReadError>
-    ensures goes { (s : Source) → Goes result (reading tokens.now (at_state_name s line)) (λ x. reading x.1.now (at_state (with_states s (source_state_of x.0 ∷ [])))) }
+    ensures goes { (s : Source) → ParsesOn result (reading tokens.now (at_state_name s line)) (λ x. reading x.1.now (at_state (with_states s (source_state_of x.0 ∷ [])))) }
     ensures shorter { IfOk result (λ x. length x.1.now < length tokens.now) }
 {
     let (name, rest) = state_name(alloc, tokens)?;
@@ -197,7 +197,7 @@ fn states(alloc: Global, tokens: &[Token]) -> Result<Vec<RawState>, ReadError>
 
 // The semicolon after the name of the reset state.
 fn semicolon(tokens: &[Token]) -> Result<&[Token], ReadError>
-    ensures { (s : Source) → Goes result (reading tokens.now (after_reset s)) (λ r. reading r.now (at_state s)) }
+    ensures { (s : Source) → ParsesOn result (reading tokens.now (after_reset s)) (λ r. reading r.now (at_state s)) }
 {
     match front(tokens) {
         Some(TokenKind::Semicolon) => accept(tokens),
@@ -208,7 +208,7 @@ fn semicolon(tokens: &[Token]) -> Result<&[Token], ReadError>
 // The name of the reset state, after the word `reset`.
 #[tactic(auto, using(crate::proofs::Steps::name_reset))]
 fn reset(alloc: Global, tokens: &[Token]) -> Result<(Name, &[Token]), ReadError>
-    ensures { (ds : List Declaration) (n : ℕ) → Goes result (reading tokens.now (at_reset ds n)) (λ x. reading x.1.now (at_state (record { declarations = ds; reset_line = n; reset = x.0; states = [] }))) }
+    ensures { (ds : List Declaration) (n : ℕ) → ParsesOn result (reading tokens.now (at_reset ds n)) (λ x. reading x.1.now (at_state (record { declarations = ds; reset_line = n; reset = x.0; states = [] }))) }
 {
     let (name, rest) = name(alloc, tokens)?;
     let rest = semicolon(rest)?;

@@ -3,9 +3,9 @@
 ghost use Rattle.std.specs.Prelude.{◌≡◌, ◌<◌, ◌≤◌, ℕ, List, length, IfOk};
 ghost use Rattle.fs_model.specs.Terms.{Term, Read, Sum, Difference, Product, Quotient, Remainder};
 ghost use Rattle.fs_model.specs.View.{named_term};
-ghost use Rattle.fs_grammar.specs.Tokens.{Goes, MadeAs};
+ghost use Rattle.fs_grammar.specs.Tokens.{ParsesOn, MadeAs};
 ghost use Rattle.fs_grammar.specs.Ends.{EndsSum, EndsProduct};
-ghost use Rattle.fs_grammar.specs.Grammar.{ForFactor, ForProduct, ForSum, reading, factor_done, product_done, at_factor, after_name, after_product, at_sum, after_sum, first_factor, parens, index};
+ghost use Rattle.fs_grammar.specs.Grammar.{FactorContext, ProductContext, SumContext, reading, factor_done, product_done, at_factor, after_name, after_product, at_sum, after_sum, first_factor, parens, index};
 
 use fs_grammar::fault::ReadError;
 use fs_grammar::token::{Token, TokenKind, accept, front, refuse};
@@ -16,7 +16,7 @@ use std::alloc::Global;
 // The parenthesis that closes a sum.
 fn close_paren(tokens: &[Token]) -> Result<&[Token], ReadError>
     requires { EndsSum tokens.now }
-    ensures goes { (s : Term (List ℕ)) (k : ForFactor) → Goes result (reading tokens.now (after_sum s (parens k))) (λ r. reading r.now (factor_done s k)) }
+    ensures goes { (s : Term (List ℕ)) (k : FactorContext) → ParsesOn result (reading tokens.now (after_sum s (parens k))) (λ r. reading r.now (factor_done s k)) }
     ensures shorter { IfOk result (λ r. length r.now < length tokens.now) }
 {
     match front(tokens) {
@@ -28,7 +28,7 @@ fn close_paren(tokens: &[Token]) -> Result<&[Token], ReadError>
 // The bracket that closes an index.
 fn close_bracket(tokens: &[Token]) -> Result<&[Token], ReadError>
     requires { EndsSum tokens.now }
-    ensures goes { (s : Term (List ℕ)) (x : List ℕ) (k : ForFactor) → Goes result (reading tokens.now (after_sum s (index x k))) (λ r. reading r.now (factor_done (Read x s) k)) }
+    ensures goes { (s : Term (List ℕ)) (x : List ℕ) (k : FactorContext) → ParsesOn result (reading tokens.now (after_sum s (index x k))) (λ r. reading r.now (factor_done (Read x s) k)) }
     ensures shorter { IfOk result (λ r. length r.now < length tokens.now) }
 {
     match front(tokens) {
@@ -45,7 +45,7 @@ fn element(alloc: Global, name: Name, index: Expr<Name>) -> Result<Expr<Name>, R
 
 #[cycle(sums)]
 fn factor(alloc: Global, tokens: &[Token]) -> Result<(Expr<Name>, &[Token]), ReadError>
-    ensures goes { (k : ForFactor) → Goes result (reading tokens.now (at_factor k)) (λ x. reading x.1.now (factor_done (named_term x.0) k)) }
+    ensures goes { (k : FactorContext) → ParsesOn result (reading tokens.now (at_factor k)) (λ x. reading x.1.now (factor_done (named_term x.0) k)) }
     ensures shorter { IfOk result (λ x. length x.1.now < length tokens.now) }
 {
     match front(tokens) {
@@ -82,7 +82,7 @@ fn variable(
     name: Name,
     tokens: &[Token],
 ) -> Result<(Expr<Name>, &[Token]), ReadError>
-    ensures goes { (k : ForFactor) → Goes result (reading tokens.now (after_name name k)) (λ x. reading x.1.now (factor_done (named_term x.0) k)) }
+    ensures goes { (k : FactorContext) → ParsesOn result (reading tokens.now (after_name name k)) (λ x. reading x.1.now (factor_done (named_term x.0) k)) }
     ensures shorter { IfOk result (λ x. length x.1.now ≤ length tokens.now) }
 {
     match front(tokens) {
@@ -97,7 +97,7 @@ fn variable(
 // An element of an array, after the bracket that opens its index.
 #[cycle(sums)]
 fn indexed(alloc: Global, name: Name, tokens: &[Token]) -> Result<(Expr<Name>, &[Token]), ReadError>
-    ensures goes { (k : ForFactor) → Goes result (reading tokens.now (at_sum (index name k))) (λ x. reading x.1.now (factor_done (named_term x.0) k)) }
+    ensures goes { (k : FactorContext) → ParsesOn result (reading tokens.now (at_sum (index name k))) (λ x. reading x.1.now (factor_done (named_term x.0) k)) }
     ensures shorter { IfOk result (λ x. length x.1.now < length tokens.now) }
 {
     let (index, rest) = sum(alloc, tokens)?;
@@ -108,7 +108,7 @@ fn indexed(alloc: Global, name: Name, tokens: &[Token]) -> Result<(Expr<Name>, &
 
 #[cycle(sums)]
 fn product(alloc: Global, tokens: &[Token]) -> Result<(Expr<Name>, &[Token]), ReadError>
-    ensures goes { (k : ForProduct) → Goes result (reading tokens.now (at_factor (first_factor k))) (λ x. reading x.1.now (after_product (named_term x.0) k)) }
+    ensures goes { (k : ProductContext) → ParsesOn result (reading tokens.now (at_factor (first_factor k))) (λ x. reading x.1.now (after_product (named_term x.0) k)) }
     ensures shorter { IfOk result (λ x. length x.1.now < length tokens.now) }
     ensures ends { IfOk result (λ x. EndsProduct x.1.now) }
 {
@@ -142,7 +142,7 @@ fn product(alloc: Global, tokens: &[Token]) -> Result<(Expr<Name>, &[Token]), Re
 #[cycle(sums)]
 #[tactic(auto, using(crate::proofs::Steps::product_ends))]
 fn operand(alloc: Global, tokens: &[Token]) -> Result<(Expr<Name>, &[Token]), ReadError>
-    ensures goes { (k : ForProduct) → Goes result (reading tokens.now (at_factor (first_factor k))) (λ x. reading x.1.now (product_done (named_term x.0) k)) }
+    ensures goes { (k : ProductContext) → ParsesOn result (reading tokens.now (at_factor (first_factor k))) (λ x. reading x.1.now (product_done (named_term x.0) k)) }
     ensures shorter { IfOk result (λ x. length x.1.now < length tokens.now) }
 {
     let (value, rest) = product(alloc, tokens)?;
@@ -152,7 +152,7 @@ fn operand(alloc: Global, tokens: &[Token]) -> Result<(Expr<Name>, &[Token]), Re
 /// A sum, and the tokens after it. An `Err` is the first fault, or want of memory.
 #[cycle(sums)]
 pub fn sum(alloc: Global, tokens: &[Token]) -> Result<(Expr<Name>, &[Token]), ReadError>
-    ensures goes { (k : ForSum) → Goes result (reading tokens.now (at_sum k)) (λ x. reading x.1.now (after_sum (named_term x.0) k)) }
+    ensures goes { (k : SumContext) → ParsesOn result (reading tokens.now (at_sum k)) (λ x. reading x.1.now (after_sum (named_term x.0) k)) }
     ensures shorter { IfOk result (λ x. length x.1.now < length tokens.now) }
     ensures ends { IfOk result (λ x. EndsSum x.1.now) }
 {

@@ -1,18 +1,18 @@
 -- Lines are in no text, and no part changes but for them.
 use Rattle.std.proofs.Common.{◌≡◌, ℕ, ◌+◌, true, ◌&&◌, List, [], ◌∷◌, ◌++◌, length, map, Result, Ok, codes, refl, sym, ◌∙◌, ap, ap₂}
 use Rattle.std.specs.List.{flat_map, list_all}
-use Rattle.fs_model.specs.Source.{Declaration, SourceLine, SourceState, Source}
-use Rattle.fs_model.specs.WellFormed.{is_well_formed_line, is_well_formed_state, has_names, is_well_formed}
+use Rattle.fs_model.specs.Source.{Declaration, SourceTransition, SourceState, Source}
+use Rattle.fs_model.specs.WellFormed.{is_well_formed_transition, is_well_formed_state, has_names, is_well_formed}
 use Rattle.fs_model.specs.Words.{is_name}
 use Rattle.fs_grammar.specs.declared.fault.TextFault.{TextFault}
 use Rattle.fs_grammar.specs.Grammar.{at_start, reading}
 use Rattle.fs_lex.specs.Scan.{tokens_of}
 use Rattle.fs_write.specs.Canonical.{line_text, state_text, declaration_text, canonical}
-use Rattle.fs_write.specs.Relined.{declarations_from, lines_from, states_from, relined, declaration_without_line, line_without_line, state_without_lines, without_lines}
-use Rattle.fs_write.specs.Spellable.{is_spellable_line, is_spellable_state, is_spellable_declaration, is_spellable}
+use Rattle.fs_write.specs.CanonicalLines.{declarations_from, lines_from, states_from, with_canonical_lines, declaration_at_line_0, transition_at_line_0, state_at_line_0, without_lines}
+use Rattle.fs_write.specs.Spellable.{is_spellable_transition, is_spellable_state, is_spellable_declaration, is_spellable}
 use Rattle.fs_write.proofs.WholeTexts.{reads_back}
 
-same_lines : (n : ℕ) (ls : List SourceLine) → flat_map line_text (lines_from n ls) ≡ flat_map line_text ls
+same_lines : (n : ℕ) (ls : List SourceTransition) → flat_map line_text (lines_from n ls) ≡ flat_map line_text ls
 same_lines n [] = refl
 same_lines n (l ∷ ls) = ap (λ (rest : List ℕ). line_text l ++ rest) (same_lines (n + 1) ls)
 
@@ -24,14 +24,14 @@ same_declarations : (n : ℕ) (ds : List Declaration) → flat_map declaration_t
 same_declarations n [] = refl
 same_declarations n (d ∷ ds) = ap (λ (rest : List ℕ). declaration_text d ++ rest) (same_declarations (n + 1) ds)
 
-pub same_text : (s : Source) → canonical (relined s) ≡ canonical s
+pub same_text : (s : Source) → canonical (with_canonical_lines s) ≡ canonical s
 same_text s =
     ap₂ (λ (ds ss : List ℕ). codes "fsmd 1;\n" ++ (ds ++ (codes "reset " ++ (s.reset ++ (codes ";\n" ++ ss)))))
     (same_declarations 2 s.declarations) (same_states (2 + length s.declarations + 1) s.states)
 
-lines_form : (n : ℕ) (ls : List SourceLine) → list_all is_well_formed_line (lines_from n ls) ≡ list_all is_well_formed_line ls
+lines_form : (n : ℕ) (ls : List SourceTransition) → list_all is_well_formed_transition (lines_from n ls) ≡ list_all is_well_formed_transition ls
 lines_form n [] = refl
-lines_form n (l ∷ ls) = ap (λ b. is_well_formed_line l && b) (lines_form (n + 1) ls)
+lines_form n (l ∷ ls) = ap (λ b. is_well_formed_transition l && b) (lines_form (n + 1) ls)
 
 states_form : (n : ℕ) (ss : List SourceState) → list_all is_well_formed_state (states_from n ss) ≡ list_all is_well_formed_state ss
 states_form n [] = refl
@@ -41,12 +41,12 @@ declarations_form : (n : ℕ) (ds : List Declaration) → list_all has_names (de
 declarations_form n [] = refl
 declarations_form n (d ∷ ds) = ap (λ b. has_names d && b) (declarations_form (n + 1) ds)
 
-pub same_form : (s : Source) → is_well_formed (relined s) ≡ is_well_formed s
+pub same_form : (s : Source) → is_well_formed (with_canonical_lines s) ≡ is_well_formed s
 same_form s = ap₂ (λ a b. a && b) (declarations_form 2 s.declarations) (states_form (2 + length s.declarations + 1) s.states)
 
-lines_words : (n : ℕ) (ls : List SourceLine) → list_all is_spellable_line (lines_from n ls) ≡ list_all is_spellable_line ls
+lines_words : (n : ℕ) (ls : List SourceTransition) → list_all is_spellable_transition (lines_from n ls) ≡ list_all is_spellable_transition ls
 lines_words n [] = refl
-lines_words n (l ∷ ls) = ap (λ b. is_spellable_line l && b) (lines_words (n + 1) ls)
+lines_words n (l ∷ ls) = ap (λ b. is_spellable_transition l && b) (lines_words (n + 1) ls)
 
 states_words : (n : ℕ) (ss : List SourceState) → list_all is_spellable_state (states_from n ss) ≡ list_all is_spellable_state ss
 states_words n [] = refl
@@ -56,30 +56,30 @@ declarations_words : (n : ℕ) (ds : List Declaration) → list_all is_spellable
 declarations_words n [] = refl
 declarations_words n (d ∷ ds) = ap (λ b. is_spellable_declaration d && b) (declarations_words (n + 1) ds)
 
-pub same_words : (s : Source) → is_spellable (relined s) ≡ is_spellable s
+pub same_words : (s : Source) → is_spellable (with_canonical_lines s) ≡ is_spellable s
 same_words s = ap₂ (λ a b. a && (is_name s.reset && b)) (declarations_words 2 s.declarations) (states_words (2 + length s.declarations + 1) s.states)
 
-lines_kept : (n : ℕ) (ls : List SourceLine) → map line_without_line (lines_from n ls) ≡ map line_without_line ls
+lines_kept : (n : ℕ) (ls : List SourceTransition) → map transition_at_line_0 (lines_from n ls) ≡ map transition_at_line_0 ls
 lines_kept n [] = refl
-lines_kept n (l ∷ ls) = ap (λ (rest : List SourceLine). line_without_line l ∷ rest) (lines_kept (n + 1) ls)
+lines_kept n (l ∷ ls) = ap (λ (rest : List SourceTransition). transition_at_line_0 l ∷ rest) (lines_kept (n + 1) ls)
 
-states_kept : (n : ℕ) (ss : List SourceState) → map state_without_lines (states_from n ss) ≡ map state_without_lines ss
+states_kept : (n : ℕ) (ss : List SourceState) → map state_at_line_0 (states_from n ss) ≡ map state_at_line_0 ss
 states_kept n [] = refl
-states_kept n (s ∷ ss) = ap₂ (λ (ls : List SourceLine) (rest : List SourceState). record { line = 0; name = s.name; lines = ls } ∷ rest) (lines_kept (n + 1) s.lines) (states_kept (n + 1 + length s.lines) ss)
+states_kept n (s ∷ ss) = ap₂ (λ (ls : List SourceTransition) (rest : List SourceState). record { line = 0; name = s.name; lines = ls } ∷ rest) (lines_kept (n + 1) s.lines) (states_kept (n + 1 + length s.lines) ss)
 
-declarations_kept : (n : ℕ) (ds : List Declaration) → map declaration_without_line (declarations_from n ds) ≡ map declaration_without_line ds
+declarations_kept : (n : ℕ) (ds : List Declaration) → map declaration_at_line_0 (declarations_from n ds) ≡ map declaration_at_line_0 ds
 declarations_kept n [] = refl
-declarations_kept n (d ∷ ds) = ap (λ (rest : List Declaration). declaration_without_line d ∷ rest) (declarations_kept (n + 1) ds)
+declarations_kept n (d ∷ ds) = ap (λ (rest : List Declaration). declaration_at_line_0 d ∷ rest) (declarations_kept (n + 1) ds)
 
-pub only_lines : (s : Source) → without_lines (relined s) ≡ without_lines s
+pub only_lines : (s : Source) → without_lines (with_canonical_lines s) ≡ without_lines s
 only_lines s =
     ap₂ (λ (ds : List Declaration) (ss : List SourceState). record { declarations = ds; reset_line = 0; reset = s.reset; states = ss })
     (declarations_kept 2 s.declarations) (states_kept (2 + length s.declarations + 1) s.states)
 
 pub one_meaning : (s t : Source) → is_well_formed s ≡ true → is_spellable s ≡ true → is_well_formed t ≡ true → is_spellable t ≡ true → canonical s ≡ canonical t → without_lines s ≡ without_lines t
 one_meaning s t a b c d e =
-    let left : Result Source TextFault = Ok (relined s) in
-    let right : Result Source TextFault = Ok (relined t) in
+    let left : Result Source TextFault = Ok (with_canonical_lines s) in
+    let right : Result Source TextFault = Ok (with_canonical_lines t) in
     let read : left ≡ right = sym (reads_back s a b) ∙ ap (λ (bytes : List ℕ). reading (tokens_of bytes) at_start) e ∙ reads_back t c d in
-    let same : relined s ≡ relined t = cc in
+    let same : with_canonical_lines s ≡ with_canonical_lines t = cc in
     sym (only_lines s) ∙ ap without_lines same ∙ only_lines t

@@ -1,8 +1,8 @@
 -- A text without a bracket that it needs is the text of another term, or of another guard.
 use Rattle.std.proofs.Common.{◌≡◌, ℕ, ◌<◌, Bool, true, false, ◌||◌, cond, List, [], ◌++◌, length, codes, refl, sym, ap, ◌∙◌, append-nil, append_assoc, length-append, arith}
-use Rattle.fs_model.specs.Terms.{Term, Read, Sum, Difference, Product, Quotient, Remainder, Negative, Formula, Test, Not, And, Or}
+use Rattle.fs_model.specs.Terms.{Term, Read, Sum, Difference, Product, Quotient, Remainder, Negative, Guard, Test, Not, And, Or}
 use Rattle.fs_model.specs.WellFormed.{is_sum, is_product, is_and, is_or}
-use Rattle.fs_write.specs.Canonical.{in_parens, in_braces, term_text, relation_text, formula_text}
+use Rattle.fs_write.specs.Canonical.{in_parens, in_braces, term_text, relation_text, guard_text}
 use Rattle.fs_write.specs.Bare.{BareTerm, sum_right, difference_right, product_left, product_right, quotient_left, quotient_right, remainder_left, remainder_right, under_minus, in_index, in_sum_left, in_sum_right, in_difference_left, in_difference_right, in_product_left, in_product_right, in_quotient_left, in_quotient_right, in_remainder_left, in_remainder_right, in_negative, BareGuard, under_not, and_left, and_right, or_right, in_test_left, in_test_right, in_not, in_and_left, in_and_right, in_or_left, in_or_right, IsTextOfAnother, IsTextOfAnotherGuard}
 
 -- ---- terms
@@ -304,25 +304,25 @@ bare_term t text d =
 
 -- ---- guards
 
-abbrev is_joined : Formula (List ℕ) → Bool
+abbrev is_joined : Guard (List ℕ) → Bool
 is_joined g = is_and g || is_or g
 
 -- the guard whose text is that of `a || g` without braces, where make g is `a || g`
-abbrev joined_to : (Formula (List ℕ) → Formula (List ℕ)) → Formula (List ℕ) → Formula (List ℕ)
+abbrev joined_to : (Guard (List ℕ) → Guard (List ℕ)) → Guard (List ℕ) → Guard (List ℕ)
 joined_to make (Or c d) = Or (joined_to make c) d
 joined_to make g = make g
 
-joined_text : (make : Formula (List ℕ) → Formula (List ℕ)) (before : List ℕ) → ((g : Formula (List ℕ)) → is_or g ≡ false → formula_text (make g) ≡ before ++ formula_text g) → (g : Formula (List ℕ)) → formula_text (joined_to make g) ≡ before ++ formula_text g
-joined_text make before h (Or c d) = ap (λ (w : List ℕ). w ++ (codes " || " ++ in_braces (is_or d) (formula_text d))) (joined_text make before h c) ∙ append_assoc before (formula_text c) _
+joined_text : (make : Guard (List ℕ) → Guard (List ℕ)) (before : List ℕ) → ((g : Guard (List ℕ)) → is_or g ≡ false → guard_text (make g) ≡ before ++ guard_text g) → (g : Guard (List ℕ)) → guard_text (joined_to make g) ≡ before ++ guard_text g
+joined_text make before h (Or c d) = ap (λ (w : List ℕ). w ++ (codes " || " ++ in_braces (is_or d) (guard_text d))) (joined_text make before h c) ∙ append_assoc before (guard_text c) _
 joined_text make before h g = h g refl
 
 -- the guard whose text is that of `a && g` without braces round g, where make g is `a && g`
-abbrev met : (Formula (List ℕ) → Formula (List ℕ)) → Formula (List ℕ) → Formula (List ℕ)
+abbrev met : (Guard (List ℕ) → Guard (List ℕ)) → Guard (List ℕ) → Guard (List ℕ)
 met make (Or c d) = Or (met make c) d
 met make (And c d) = And (cond (is_or c) (make c) (met make c)) d
 met make g = make g
 
-met_no_or : (make : Formula (List ℕ) → Formula (List ℕ)) → ((g : Formula (List ℕ)) → is_or (make g) ≡ false) → (g : Formula (List ℕ)) → is_or g ≡ false → is_or (met make g) ≡ false
+met_no_or : (make : Guard (List ℕ) → Guard (List ℕ)) → ((g : Guard (List ℕ)) → is_or (make g) ≡ false) → (g : Guard (List ℕ)) → is_or g ≡ false → is_or (met make g) ≡ false
 met_no_or make n (Or c d) h = absurd cc
 met_no_or make n (And c d) h = refl
 met_no_or make n g h = n g
@@ -332,28 +332,28 @@ or_right_true true b e = refl
 or_right_true false b e = e
 
 -- the left operand of a conjunction keeps its braces
-kept_guard : (before : List ℕ) (c x y : Formula (List ℕ)) (b : Bool) → is_or c ≡ b → is_or x ≡ false → (is_or c ≡ false → is_or y ≡ false) → formula_text x ≡ before ++ in_braces (is_and c || is_or c) (formula_text c) → formula_text y ≡ before ++ formula_text c
-    → in_braces (is_or (cond b x y)) (formula_text (cond b x y)) ≡ before ++ in_braces b (formula_text c)
-kept_guard before c x y true e n m p q = let needed : (is_and c || is_or c) ≡ true = or_right_true (is_and c) (is_or c) e in rw n (append-nil (formula_text x) ∙ p ∙ rw needed refl)
-kept_guard before c x y false e n m p q = rw (m e) (append-nil (formula_text y) ∙ q ∙ rw (append-nil (formula_text c)) refl)
+kept_guard : (before : List ℕ) (c x y : Guard (List ℕ)) (b : Bool) → is_or c ≡ b → is_or x ≡ false → (is_or c ≡ false → is_or y ≡ false) → guard_text x ≡ before ++ in_braces (is_and c || is_or c) (guard_text c) → guard_text y ≡ before ++ guard_text c
+    → in_braces (is_or (cond b x y)) (guard_text (cond b x y)) ≡ before ++ in_braces b (guard_text c)
+kept_guard before c x y true e n m p q = let needed : (is_and c || is_or c) ≡ true = or_right_true (is_and c) (is_or c) e in rw n (append-nil (guard_text x) ∙ p ∙ rw needed refl)
+kept_guard before c x y false e n m p q = rw (m e) (append-nil (guard_text y) ∙ q ∙ rw (append-nil (guard_text c)) refl)
 
-met_text : (make : Formula (List ℕ) → Formula (List ℕ)) (before : List ℕ) → ((g : Formula (List ℕ)) → is_or (make g) ≡ false) → ((g : Formula (List ℕ)) → formula_text (make g) ≡ before ++ in_braces (is_and g || is_or g) (formula_text g)) → (g : Formula (List ℕ))
-    → formula_text (met make g) ≡ before ++ formula_text g
-met_text make before n h (Or c d) = ap (λ (w : List ℕ). w ++ (codes " || " ++ in_braces (is_or d) (formula_text d))) (met_text make before n h c) ∙ append_assoc before (formula_text c) _
+met_text : (make : Guard (List ℕ) → Guard (List ℕ)) (before : List ℕ) → ((g : Guard (List ℕ)) → is_or (make g) ≡ false) → ((g : Guard (List ℕ)) → guard_text (make g) ≡ before ++ in_braces (is_and g || is_or g) (guard_text g)) → (g : Guard (List ℕ))
+    → guard_text (met make g) ≡ before ++ guard_text g
+met_text make before n h (Or c d) = ap (λ (w : List ℕ). w ++ (codes " || " ++ in_braces (is_or d) (guard_text d))) (met_text make before n h c) ∙ append_assoc before (guard_text c) _
 met_text make before n h (And c d) =
-    ap (λ (w : List ℕ). w ++ (codes " && " ++ in_braces (is_and d || is_or d) (formula_text d))) (kept_guard before c (make c) (met make c) (is_or c) refl (n c) (met_no_or make n c) (h c) (met_text make before n h c))
-    ∙ append_assoc before (in_braces (is_or c) (formula_text c)) _
-met_text make before n h g = h g ∙ ap (λ (w : List ℕ). before ++ w) (append-nil (formula_text g))
+    ap (λ (w : List ℕ). w ++ (codes " && " ++ in_braces (is_and d || is_or d) (guard_text d))) (kept_guard before c (make c) (met make c) (is_or c) refl (n c) (met_no_or make n c) (h c) (met_text make before n h c))
+    ∙ append_assoc before (in_braces (is_or c) (guard_text c)) _
+met_text make before n h g = h g ∙ ap (λ (w : List ℕ). before ++ w) (append-nil (guard_text g))
 
 -- a guard with the text w, which is shorter than that of g; an Or where g is one, and an And or an Or where g is one of these
-record OtherGuard (g : Formula (List ℕ)) (w : List ℕ) : Type 0 where
-  guard : Formula (List ℕ)
-  same : formula_text guard ≡ w
-  shorter : length w < length (formula_text g)
+record OtherGuard (g : Guard (List ℕ)) (w : List ℕ) : Type 0 where
+  guard : Guard (List ℕ)
+  same : guard_text guard ≡ w
+  shorter : length w < length (guard_text g)
   disjunction : is_or g ≡ true → is_or guard ≡ true
   compound : is_joined g ≡ true → is_joined guard ≡ true
 
-or_joined : (g : Formula (List ℕ)) → is_or g ≡ true → is_joined g ≡ true
+or_joined : (g : Guard (List ℕ)) → is_or g ≡ true → is_joined g ≡ true
 or_joined g e = or_right_true (is_and g) (is_or g) e
 
 right_braced : (a op w : List ℕ) (b : Bool) → b ≡ true → length (a ++ (op ++ w)) < length (a ++ (op ++ in_braces b w))
@@ -375,121 +375,121 @@ left_less v w rest false h = simp length-append (omega arith)
 test_shorter : (a op v w : List ℕ) → length v < length w → length (a ++ (op ++ v)) < length (a ++ (op ++ w))
 test_shorter a op v w h = simp length-append (omega arith)
 
-joined_is : (make : Formula (List ℕ) → Formula (List ℕ)) (a op : List ℕ) → ((g : Formula (List ℕ)) → formula_text (make g) ≡ a ++ (op ++ in_braces (is_or g) (formula_text g))) → (g : Formula (List ℕ)) → formula_text (joined_to make g) ≡ a ++ (op ++ formula_text g)
-joined_is make a op h g = joined_text make (a ++ op) (λ v e. h v ∙ rw (e, append-nil (formula_text v)) (sym (append_assoc a op (formula_text v)))) g ∙ append_assoc a op (formula_text g)
+joined_is : (make : Guard (List ℕ) → Guard (List ℕ)) (a op : List ℕ) → ((g : Guard (List ℕ)) → guard_text (make g) ≡ a ++ (op ++ in_braces (is_or g) (guard_text g))) → (g : Guard (List ℕ)) → guard_text (joined_to make g) ≡ a ++ (op ++ guard_text g)
+joined_is make a op h g = joined_text make (a ++ op) (λ v e. h v ∙ rw (e, append-nil (guard_text v)) (sym (append_assoc a op (guard_text v)))) g ∙ append_assoc a op (guard_text g)
 
-joined_or : (make : Formula (List ℕ) → Formula (List ℕ)) → ((g : Formula (List ℕ)) → is_or (make g) ≡ true) → (g : Formula (List ℕ)) → is_or (joined_to make g) ≡ true
+joined_or : (make : Guard (List ℕ) → Guard (List ℕ)) → ((g : Guard (List ℕ)) → is_or (make g) ≡ true) → (g : Guard (List ℕ)) → is_or (joined_to make g) ≡ true
 joined_or make n (Or c d) = refl
 joined_or make n g = n g
 
-met_is : (make : Formula (List ℕ) → Formula (List ℕ)) (a op : List ℕ) → ((g : Formula (List ℕ)) → is_or (make g) ≡ false) → ((g : Formula (List ℕ)) → formula_text (make g) ≡ a ++ (op ++ in_braces (is_joined g) (formula_text g))) → (g : Formula (List ℕ)) → formula_text (met make g) ≡ a ++ (op ++ formula_text g)
-met_is make a op n h g = met_text make (a ++ op) n (λ v. h v ∙ sym (append_assoc a op _)) g ∙ append_assoc a op (formula_text g)
+met_is : (make : Guard (List ℕ) → Guard (List ℕ)) (a op : List ℕ) → ((g : Guard (List ℕ)) → is_or (make g) ≡ false) → ((g : Guard (List ℕ)) → guard_text (make g) ≡ a ++ (op ++ in_braces (is_joined g) (guard_text g))) → (g : Guard (List ℕ)) → guard_text (met make g) ≡ a ++ (op ++ guard_text g)
+met_is make a op n h g = met_text make (a ++ op) n (λ v. h v ∙ sym (append_assoc a op _)) g ∙ append_assoc a op (guard_text g)
 
-met_joined : (make : Formula (List ℕ) → Formula (List ℕ)) → ((g : Formula (List ℕ)) → is_joined (make g) ≡ true) → (g : Formula (List ℕ)) → is_joined (met make g) ≡ true
+met_joined : (make : Guard (List ℕ) → Guard (List ℕ)) → ((g : Guard (List ℕ)) → is_joined (make g) ≡ true) → (g : Guard (List ℕ)) → is_joined (met make g) ≡ true
 met_joined make n (Or c d) = refl
 met_joined make n (And c d) = refl
 met_joined make n g = n g
 
 -- the text of `a && b` without braces round the Or a
-split_or : (a b : Formula (List ℕ)) → is_or a ≡ true → (u : Formula (List ℕ)) × (formula_text u ≡ formula_text a ++ (codes " && " ++ in_braces (is_joined b) (formula_text b))) × (is_joined u ≡ true)
+split_or : (a b : Guard (List ℕ)) → is_or a ≡ true → (u : Guard (List ℕ)) × (guard_text u ≡ guard_text a ++ (codes " && " ++ in_braces (is_joined b) (guard_text b))) × (is_joined u ≡ true)
 split_or (Or c d) b e =
-    (Or c (And d b), ap (λ (w : List ℕ). formula_text c ++ (codes " || " ++ w)) (append-nil (formula_text (And d b))) ∙ sym (append_assoc (formula_text c) (codes " || " ++ in_braces (is_or d) (formula_text d)) (codes " && " ++ in_braces (is_joined b) (formula_text b))), refl)
+    (Or c (And d b), ap (λ (w : List ℕ). guard_text c ++ (codes " || " ++ w)) (append-nil (guard_text (And d b))) ∙ sym (append_assoc (guard_text c) (codes " || " ++ in_braces (is_or d) (guard_text d)) (codes " && " ++ in_braces (is_joined b) (guard_text b))), refl)
 split_or _ b e = absurd cc
 
 -- on the right of an Or
-in_joined : (make : Formula (List ℕ) → Formula (List ℕ)) (a op : List ℕ) → ((g : Formula (List ℕ)) → formula_text (make g) ≡ a ++ (op ++ in_braces (is_or g) (formula_text g))) → ((g : Formula (List ℕ)) → is_or (make g) ≡ true) → (b : Formula (List ℕ)) (w : List ℕ) → OtherGuard b w → (k : Bool) → is_or b ≡ k
-    → (u : Formula (List ℕ)) × (formula_text u ≡ a ++ (op ++ in_braces k w)) × (is_or u ≡ true)
+in_joined : (make : Guard (List ℕ) → Guard (List ℕ)) (a op : List ℕ) → ((g : Guard (List ℕ)) → guard_text (make g) ≡ a ++ (op ++ in_braces (is_or g) (guard_text g))) → ((g : Guard (List ℕ)) → is_or (make g) ≡ true) → (b : Guard (List ℕ)) (w : List ℕ) → OtherGuard b w → (k : Bool) → is_or b ≡ k
+    → (u : Guard (List ℕ)) × (guard_text u ≡ a ++ (op ++ in_braces k w)) × (is_or u ≡ true)
 in_joined make a op h n b w o true e = (make o.guard, h o.guard ∙ rw (o.disjunction e, o.same) refl, n o.guard)
 in_joined make a op h n b w o false e = (joined_to make o.guard, joined_is make a op h o.guard ∙ rw (o.same, append-nil w) refl, joined_or make n o.guard)
 
 -- on the right of an And, or under a Not
-in_met : (make : Formula (List ℕ) → Formula (List ℕ)) (a op : List ℕ) → ((g : Formula (List ℕ)) → is_or (make g) ≡ false) → ((g : Formula (List ℕ)) → formula_text (make g) ≡ a ++ (op ++ in_braces (is_joined g) (formula_text g))) → (b : Formula (List ℕ)) (w : List ℕ) → OtherGuard b w → (k : Bool) → is_joined b ≡ k
-    → (u : Formula (List ℕ)) × (formula_text u ≡ a ++ (op ++ in_braces k w)) × (((g : Formula (List ℕ)) → is_joined (make g) ≡ true) → is_joined u ≡ true)
+in_met : (make : Guard (List ℕ) → Guard (List ℕ)) (a op : List ℕ) → ((g : Guard (List ℕ)) → is_or (make g) ≡ false) → ((g : Guard (List ℕ)) → guard_text (make g) ≡ a ++ (op ++ in_braces (is_joined g) (guard_text g))) → (b : Guard (List ℕ)) (w : List ℕ) → OtherGuard b w → (k : Bool) → is_joined b ≡ k
+    → (u : Guard (List ℕ)) × (guard_text u ≡ a ++ (op ++ in_braces k w)) × (((g : Guard (List ℕ)) → is_joined (make g) ≡ true) → is_joined u ≡ true)
 in_met make a op n h b w o true e = (make o.guard, h o.guard ∙ rw (o.compound e, o.same) refl, λ c. c o.guard)
 in_met make a op n h b w o false e = (met make o.guard, met_is make a op n h o.guard ∙ rw (o.same, append-nil w) refl, λ c. met_joined make c o.guard)
 
 -- on the left of an And, where it has no braces
-in_bare_and : (v b : Formula (List ℕ)) (k : Bool) → is_or v ≡ k → (u : Formula (List ℕ)) × (formula_text u ≡ formula_text v ++ (codes " && " ++ in_braces (is_joined b) (formula_text b))) × (is_joined u ≡ true)
+in_bare_and : (v b : Guard (List ℕ)) (k : Bool) → is_or v ≡ k → (u : Guard (List ℕ)) × (guard_text u ≡ guard_text v ++ (codes " && " ++ in_braces (is_joined b) (guard_text b))) × (is_joined u ≡ true)
 in_bare_and v b true e = split_or v b e
-in_bare_and v b false e = (And v b, rw (e, append-nil (formula_text v)) refl, refl)
+in_bare_and v b false e = (And v b, rw (e, append-nil (guard_text v)) refl, refl)
 
 -- on the left of an And
-in_and : (a b : Formula (List ℕ)) (w : List ℕ) → OtherGuard a w → (k : Bool) → is_or a ≡ k → (u : Formula (List ℕ)) × (formula_text u ≡ in_braces k w ++ (codes " && " ++ in_braces (is_joined b) (formula_text b))) × (is_joined u ≡ true)
+in_and : (a b : Guard (List ℕ)) (w : List ℕ) → OtherGuard a w → (k : Bool) → is_or a ≡ k → (u : Guard (List ℕ)) × (guard_text u ≡ in_braces k w ++ (codes " && " ++ in_braces (is_joined b) (guard_text b))) × (is_joined u ≡ true)
 in_and a b w o true e = (And o.guard b, rw (o.disjunction e, o.same) refl, refl)
 in_and a b w o false e = let s = in_bare_and o.guard b (is_or o.guard) refl in (s.0, s.1 ∙ rw (o.same, append-nil w) refl, s.2)
 
-bare_formula : (g : Formula (List ℕ)) (text : List ℕ) → BareGuard g text → OtherGuard g text
-bare_formula _ _ (under_not a e) = record {
+bare_guard : (g : Guard (List ℕ)) (text : List ℕ) → BareGuard g text → OtherGuard g text
+bare_guard _ _ (under_not a e) = record {
   guard = met (λ v. Not v) a;
   same = met_is (λ v. Not v) [] (codes "!") (λ v. refl) (λ v. refl) a;
-  shorter = right_braced [] (codes "!") (formula_text a) (is_and a || is_or a) e;
+  shorter = right_braced [] (codes "!") (guard_text a) (is_and a || is_or a) e;
   disjunction = λ h. absurd cc;
   compound = λ h. absurd cc;
 }
-bare_formula _ _ (in_not a w d) = let o = bare_formula a w d in let s = in_met (λ v. Not v) [] (codes "!") (λ v. refl) (λ v. refl) a w o (is_joined a) refl in record {
+bare_guard _ _ (in_not a w d) = let o = bare_guard a w d in let s = in_met (λ v. Not v) [] (codes "!") (λ v. refl) (λ v. refl) a w o (is_joined a) refl in record {
   guard = s.0;
   same = s.1;
-  shorter = right_less [] (codes "!") w (formula_text a) (is_joined a) o.shorter;
+  shorter = right_less [] (codes "!") w (guard_text a) (is_joined a) o.shorter;
   disjunction = λ h. absurd cc;
   compound = λ h. absurd cc;
 }
-bare_formula _ _ (and_left a b e) = let s = split_or a b e in record {
+bare_guard _ _ (and_left a b e) = let s = split_or a b e in record {
   guard = s.0;
   same = s.1;
-  shorter = left_braced (formula_text a) _ (is_or a) e;
+  shorter = left_braced (guard_text a) _ (is_or a) e;
   disjunction = λ h. absurd cc;
   compound = λ h. s.2;
 }
-bare_formula _ _ (and_right a b e) = record {
+bare_guard _ _ (and_right a b e) = record {
   guard = met (λ v. And a v) b;
-  same = met_is (λ v. And a v) (in_braces (is_or a) (formula_text a)) (codes " && ") (λ v. refl) (λ v. refl) b;
-  shorter = right_braced (in_braces (is_or a) (formula_text a)) (codes " && ") (formula_text b) (is_and b || is_or b) e;
+  same = met_is (λ v. And a v) (in_braces (is_or a) (guard_text a)) (codes " && ") (λ v. refl) (λ v. refl) b;
+  shorter = right_braced (in_braces (is_or a) (guard_text a)) (codes " && ") (guard_text b) (is_and b || is_or b) e;
   disjunction = λ h. absurd cc;
   compound = λ h. met_joined (λ v. And a v) (λ v. refl) b;
 }
-bare_formula _ _ (in_and_left a b w d) = let o = bare_formula a w d in let s = in_and a b w o (is_or a) refl in record {
+bare_guard _ _ (in_and_left a b w d) = let o = bare_guard a w d in let s = in_and a b w o (is_or a) refl in record {
   guard = s.0;
   same = s.1;
-  shorter = left_less w (formula_text a) _ (is_or a) o.shorter;
+  shorter = left_less w (guard_text a) _ (is_or a) o.shorter;
   disjunction = λ h. absurd cc;
   compound = λ h. s.2;
 }
-bare_formula _ _ (in_and_right a b w d) = let o = bare_formula b w d in let s = in_met (λ v. And a v) (in_braces (is_or a) (formula_text a)) (codes " && ") (λ v. refl) (λ v. refl) b w o (is_joined b) refl in record {
+bare_guard _ _ (in_and_right a b w d) = let o = bare_guard b w d in let s = in_met (λ v. And a v) (in_braces (is_or a) (guard_text a)) (codes " && ") (λ v. refl) (λ v. refl) b w o (is_joined b) refl in record {
   guard = s.0;
   same = s.1;
-  shorter = right_less (in_braces (is_or a) (formula_text a)) (codes " && ") w (formula_text b) (is_joined b) o.shorter;
+  shorter = right_less (in_braces (is_or a) (guard_text a)) (codes " && ") w (guard_text b) (is_joined b) o.shorter;
   disjunction = λ h. absurd cc;
   compound = λ h. s.2 (λ v. refl);
 }
-bare_formula _ _ (or_right a b e) = record {
+bare_guard _ _ (or_right a b e) = record {
   guard = joined_to (λ v. Or a v) b;
-  same = joined_is (λ v. Or a v) (formula_text a) (codes " || ") (λ v. refl) b;
-  shorter = right_braced (formula_text a) (codes " || ") (formula_text b) (is_or b) e;
+  same = joined_is (λ v. Or a v) (guard_text a) (codes " || ") (λ v. refl) b;
+  shorter = right_braced (guard_text a) (codes " || ") (guard_text b) (is_or b) e;
   disjunction = λ h. joined_or (λ v. Or a v) (λ v. refl) b;
   compound = λ h. or_joined _ (joined_or (λ v. Or a v) (λ v. refl) b);
 }
-bare_formula _ _ (in_or_left a b w d) = let o = bare_formula a w d in record {
+bare_guard _ _ (in_or_left a b w d) = let o = bare_guard a w d in record {
   guard = Or o.guard b;
-  same = ap (λ (v : List ℕ). v ++ (codes " || " ++ in_braces (is_or b) (formula_text b))) o.same;
-  shorter = front_shorter w (formula_text a) _ o.shorter;
+  same = ap (λ (v : List ℕ). v ++ (codes " || " ++ in_braces (is_or b) (guard_text b))) o.same;
+  shorter = front_shorter w (guard_text a) _ o.shorter;
   disjunction = λ h. refl;
   compound = λ h. refl;
 }
-bare_formula _ _ (in_or_right a b w d) = let o = bare_formula b w d in let s = in_joined (λ v. Or a v) (formula_text a) (codes " || ") (λ v. refl) (λ v. refl) b w o (is_or b) refl in record {
+bare_guard _ _ (in_or_right a b w d) = let o = bare_guard b w d in let s = in_joined (λ v. Or a v) (guard_text a) (codes " || ") (λ v. refl) (λ v. refl) b w o (is_or b) refl in record {
   guard = s.0;
   same = s.1;
-  shorter = right_less (formula_text a) (codes " || ") w (formula_text b) (is_or b) o.shorter;
+  shorter = right_less (guard_text a) (codes " || ") w (guard_text b) (is_or b) o.shorter;
   disjunction = λ h. s.2;
   compound = λ h. or_joined s.0 s.2;
 }
-bare_formula _ _ (in_test_left r a b w d) = let o = bare a w d in record {
+bare_guard _ _ (in_test_left r a b w d) = let o = bare a w d in record {
   guard = Test (record { relation = r; left = o.term; right = b });
   same = ap (λ (v : List ℕ). v ++ (relation_text r ++ term_text b)) o.same;
   shorter = front_shorter w (term_text a) _ o.shorter;
   disjunction = λ h. absurd cc;
   compound = λ h. absurd cc;
 }
-bare_formula _ _ (in_test_right r a b w d) = let o = bare b w d in record {
+bare_guard _ _ (in_test_right r a b w d) = let o = bare b w d in record {
   guard = Test (record { relation = r; left = a; right = o.term });
   same = ap (λ (v : List ℕ). term_text a ++ (relation_text r ++ v)) o.same;
   shorter = test_shorter (term_text a) (relation_text r) w (term_text b) o.shorter;
@@ -497,7 +497,7 @@ bare_formula _ _ (in_test_right r a b w d) = let o = bare b w d in record {
   compound = λ h. absurd cc;
 }
 
-pub bare_guard : (g : Formula (List ℕ)) (text : List ℕ) → BareGuard g text → IsTextOfAnotherGuard g text
-bare_guard g text d =
-    let o = bare_formula g text d in
-    (o.guard, o.same, λ s. let same : length text ≡ length (formula_text g) = ap length (sym o.same) ∙ ap (λ (v : Formula (List ℕ)). length (formula_text v)) s in omega (arith, o.shorter))
+pub bare_condition : (g : Guard (List ℕ)) (text : List ℕ) → BareGuard g text → IsTextOfAnotherGuard g text
+bare_condition g text d =
+    let o = bare_guard g text d in
+    (o.guard, o.same, λ s. let same : length text ≡ length (guard_text g) = ap length (sym o.same) ∙ ap (λ (v : Guard (List ℕ)). length (guard_text v)) s in omega (arith, o.shorter))

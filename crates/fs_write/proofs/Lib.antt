@@ -1,7 +1,7 @@
 pub mod Steps
 pub mod Ends
 pub mod Words
-pub mod Signs
+pub mod Punctuation
 pub mod TermTexts
 pub mod GuardTexts
 pub mod LineTexts

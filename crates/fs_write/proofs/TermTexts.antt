@@ -5,123 +5,123 @@ use Rattle.std.specs.Fmt.{signed_decimal}
 use Rattle.fs_model.specs.Words.{is_name}
 use Rattle.fs_model.specs.Terms.{Term, Number, Variable, Read, Sum, Difference, Product, Quotient, Remainder, Negative}
 use Rattle.fs_model.specs.Source.{Source}
-use Rattle.fs_model.specs.WellFormed.{is_sum, is_product, bracket, signs_of_term, is_natural_term}
+use Rattle.fs_model.specs.WellFormed.{is_sum, is_product, bracket, operators_of_term, is_natural_term}
 use Rattle.fs_grammar.specs.declared.fault.TextFault.{TextFault}
 use Rattle.fs_grammar.specs.declared.token.TokenKind.{TokenKind}
 use Rattle.fs_grammar.specs.declared.token.TokenKind.TheVariants as tokens
 use Rattle.fs_grammar.specs.Ends.{IsNoProduct, IsNoIndex}
-use Rattle.fs_grammar.specs.Grammar.{ForFactor, first_factor, times, divides, leaves, negative, ForProduct, first_product, plus, minus, ForSum, parens, index, Owed, at_factor, at_sum, after_name, after_product, after_sum, factor_done, product_done}
+use Rattle.fs_grammar.specs.Grammar.{FactorContext, first_factor, times, divides, leaves, negative, ProductContext, first_product, plus, minus, SumContext, parens, index, ParseState, at_factor, at_sum, after_name, after_product, after_sum, factor_done, product_done}
 use Rattle.fs_write.specs.Canonical.{in_parens, term_text}
 use Rattle.fs_write.specs.Spellable.{is_spellable_term}
 use Rattle.fs_write.proofs.Steps.{Reads, Follows, joined, weaker}
 use Rattle.fs_write.proofs.Ends.{BeginsFactor, name_ends, product_ends}
 use Rattle.fs_write.proofs.Words.{both, neither, name_reads, number_reads, opens, opens_append, name_opens, number_opens}
-use Rattle.fs_write.proofs.Signs.{open_paren_lexeme, close_paren_lexeme, open_bracket_lexeme, close_bracket_lexeme, minus_lexeme, sign_reads, mark_reads, sign_follows, spaced_reads}
+use Rattle.fs_write.proofs.Punctuation.{open_paren_lexeme, close_paren_lexeme, open_bracket_lexeme, close_bracket_lexeme, minus_lexeme, punctuation_reads, mark_reads, punctuation_follows, spaced_reads}
 
 -- a text with so many operators reads as a factor, from wherever a factor may begin
-pub record AsFactor (w : List ℕ) (signs : ℕ) (t : Term (List ℕ)) : Type 0 where
-  pub reads : (line remains free : ℕ) (rest : List ℕ) (u : TokenKind) (s : Owed) (k : ForFactor) (r : Result Source TextFault) → signs + remains ≤ free → Follows rest u → IsNoIndex (Some u) → BeginsFactor s k
+pub record AsFactor (w : List ℕ) (operator_count : ℕ) (t : Term (List ℕ)) : Type 0 where
+  pub reads : (line remains free : ℕ) (rest : List ℕ) (u : TokenKind) (s : ParseState) (k : FactorContext) (r : Result Source TextFault) → operator_count + remains ≤ free → Follows rest u → IsNoIndex (Some u) → BeginsFactor s k
       → Reads line remains rest (factor_done t k) r → Reads line free (w ++ rest) s r
 
 -- the same of a product
-pub record AsProduct (w : List ℕ) (signs : ℕ) (t : Term (List ℕ)) : Type 0 where
-  pub reads : (line remains free : ℕ) (rest : List ℕ) (u : TokenKind) (s : Owed) (k : ForProduct) (r : Result Source TextFault) → signs + remains ≤ free → Follows rest u → IsNoIndex (Some u) → BeginsFactor s (first_factor k)
+pub record AsProduct (w : List ℕ) (operator_count : ℕ) (t : Term (List ℕ)) : Type 0 where
+  pub reads : (line remains free : ℕ) (rest : List ℕ) (u : TokenKind) (s : ParseState) (k : ProductContext) (r : Result Source TextFault) → operator_count + remains ≤ free → Follows rest u → IsNoIndex (Some u) → BeginsFactor s (first_factor k)
       → Reads line remains rest (after_product t k) r → Reads line free (w ++ rest) s r
 
 -- the same of a sum
-pub record AsSum (w : List ℕ) (signs : ℕ) (t : Term (List ℕ)) : Type 0 where
-  pub reads : (line remains free : ℕ) (rest : List ℕ) (u : TokenKind) (s : Owed) (k : ForSum) (r : Result Source TextFault) → signs + remains ≤ free → Follows rest u → IsNoIndex (Some u) → IsNoProduct (Some u) → BeginsFactor s (first_factor (first_product k))
+pub record AsSum (w : List ℕ) (operator_count : ℕ) (t : Term (List ℕ)) : Type 0 where
+  pub reads : (line remains free : ℕ) (rest : List ℕ) (u : TokenKind) (s : ParseState) (k : SumContext) (r : Result Source TextFault) → operator_count + remains ≤ free → Follows rest u → IsNoIndex (Some u) → IsNoProduct (Some u) → BeginsFactor s (first_factor (first_product k))
       → Reads line remains rest (after_sum t k) r → Reads line free (w ++ rest) s r
 
 -- the text of a term reads as a sum, and as a product or a factor where it is one
 pub record TermReads (t : Term (List ℕ)) : Type 0 where
-  pub factor : is_sum t ≡ false → is_product t ≡ false → AsFactor (term_text t) (signs_of_term t) t
-  pub product : is_sum t ≡ false → AsProduct (term_text t) (signs_of_term t) t
-  pub sum : AsSum (term_text t) (signs_of_term t) t
+  pub factor : is_sum t ≡ false → is_product t ≡ false → AsFactor (term_text t) (operators_of_term t) t
+  pub product : is_sum t ≡ false → AsProduct (term_text t) (operators_of_term t) t
+  pub sum : AsSum (term_text t) (operators_of_term t) t
 
-of_factor : {w : List ℕ} {signs : ℕ} {t : Term (List ℕ)} → AsFactor w signs t → AsProduct w signs t
+of_factor : {w : List ℕ} {operator_count : ℕ} {t : Term (List ℕ)} → AsFactor w operator_count t → AsProduct w operator_count t
 of_factor a = record { reads = λ line remains free rest u s k r h f i b d. a.reads line remains free rest u s (first_factor k) r h f i b d }
 
-of_product : {w : List ℕ} {signs : ℕ} {t : Term (List ℕ)} → AsProduct w signs t → AsSum w signs t
-of_product {w} {signs} {t} a = record { reads = λ line remains free rest u s k r h f i p b d. a.reads line remains free rest u s (first_product k) r h f i b (product_ends u t (first_product k) f p d) }
+of_product : {w : List ℕ} {operator_count : ℕ} {t : Term (List ℕ)} → AsProduct w operator_count t → AsSum w operator_count t
+of_product {w} {operator_count} {t} a = record { reads = λ line remains free rest u s k r h f i p b d. a.reads line remains free rest u s (first_product k) r h f i b (product_ends u t (first_product k) f p d) }
 
-factor_term : (t : Term (List ℕ)) → AsFactor (term_text t) (signs_of_term t) t → TermReads t
+factor_term : (t : Term (List ℕ)) → AsFactor (term_text t) (operators_of_term t) t → TermReads t
 factor_term t a = record { factor = λ e f. a; product = λ e. of_factor a; sum = of_product (of_factor a) }
 
-product_term : (t : Term (List ℕ)) → is_product t ≡ true → AsProduct (term_text t) (signs_of_term t) t → TermReads t
+product_term : (t : Term (List ℕ)) → is_product t ≡ true → AsProduct (term_text t) (operators_of_term t) t → TermReads t
 product_term t h a = record { factor = λ e f. absurd cc; product = λ e. a; sum = of_product a }
 
-sum_term : (t : Term (List ℕ)) → is_sum t ≡ true → AsSum (term_text t) (signs_of_term t) t → TermReads t
+sum_term : (t : Term (List ℕ)) → is_sum t ≡ true → AsSum (term_text t) (operators_of_term t) t → TermReads t
 sum_term t h a = record { factor = λ e f. absurd cc; product = λ e. absurd cc; sum = a }
 
 -- ---- parentheses
 
 -- a sum in parentheses is a factor
-grouped : (t : Term (List ℕ)) (w : List ℕ) (signs : ℕ) → AsSum w signs t → AsFactor (in_parens true w) (1 + signs) t
-grouped t w signs a = record {
+grouped : (t : Term (List ℕ)) (w : List ℕ) (operator_count : ℕ) → AsSum w operator_count t → AsFactor (in_parens true w) (1 + operator_count) t
+grouped t w operator_count a = record {
   reads = λ line remains free rest u s k r h f i b d.
       let close : Reads line remains (41 ∷ rest) (after_sum t (parens k)) r = mark_reads 41 rest tokens.CloseParen (after_sum t (parens k)) (factor_done t k) (close_paren_lexeme rest) refl refl refl refl refl d in
-      let inside : Reads line (signs + remains) (w ++ (41 ∷ rest)) (at_sum (parens k)) r =
-      a.reads line remains (signs + remains) (41 ∷ rest) tokens.CloseParen (at_sum (parens k)) (parens k) r (omega arith) (sign_follows 41 rest tokens.CloseParen (close_paren_lexeme rest) refl) tt tt (λ n v g. refl) close
+      let inside : Reads line (operator_count + remains) (w ++ (41 ∷ rest)) (at_sum (parens k)) r =
+      a.reads line remains (operator_count + remains) (41 ∷ rest) tokens.CloseParen (at_sum (parens k)) (parens k) r (omega arith) (punctuation_follows 41 rest tokens.CloseParen (close_paren_lexeme rest) refl) tt tt (λ n v g. refl) close
       in
-      sign_reads 40 ((w ++ codes ")") ++ rest) tokens.OpenParen s (at_sum (parens k)) (open_paren_lexeme _) refl refl refl refl (b line tokens.OpenParen tt) (omega arith) (joined w (codes ")") rest inside);
+      punctuation_reads 40 ((w ++ codes ")") ++ rest) tokens.OpenParen s (at_sum (parens k)) (open_paren_lexeme _) refl refl refl refl (b line tokens.OpenParen tt) (omega arith) (joined w (codes ")") rest inside);
 }
 
-as_factor : (t : Term (List ℕ)) (needed : Bool) → TermReads t → (needed ≡ false → (is_sum t ≡ false) × (is_product t ≡ false)) → AsFactor (in_parens needed (term_text t)) (bracket needed + signs_of_term t) t
-as_factor t true a h = grouped t (term_text t) (signs_of_term t) a.sum
-as_factor t false a h = rw (append-nil (term_text t), zero-add (signs_of_term t)) (a.factor (h refl).0 (h refl).1)
+as_factor : (t : Term (List ℕ)) (needed : Bool) → TermReads t → (needed ≡ false → (is_sum t ≡ false) × (is_product t ≡ false)) → AsFactor (in_parens needed (term_text t)) (bracket needed + operators_of_term t) t
+as_factor t true a h = grouped t (term_text t) (operators_of_term t) a.sum
+as_factor t false a h = rw (append-nil (term_text t), zero-add (operators_of_term t)) (a.factor (h refl).0 (h refl).1)
 
-as_product : (t : Term (List ℕ)) (needed : Bool) → TermReads t → (needed ≡ false → is_sum t ≡ false) → AsProduct (in_parens needed (term_text t)) (bracket needed + signs_of_term t) t
-as_product t true a h = of_factor (grouped t (term_text t) (signs_of_term t) a.sum)
-as_product t false a h = rw (append-nil (term_text t), zero-add (signs_of_term t)) (a.product (h refl))
+as_product : (t : Term (List ℕ)) (needed : Bool) → TermReads t → (needed ≡ false → is_sum t ≡ false) → AsProduct (in_parens needed (term_text t)) (bracket needed + operators_of_term t) t
+as_product t true a h = of_factor (grouped t (term_text t) (operators_of_term t) a.sum)
+as_product t false a h = rw (append-nil (term_text t), zero-add (operators_of_term t)) (a.product (h refl))
 
 -- ---- operands
 
 -- an operand of a sum on the right, or of a product on the left
-product_operand : (t : Term (List ℕ)) → TermReads t → AsProduct (in_parens (is_sum t) (term_text t)) (bracket (is_sum t) + signs_of_term t) t
+product_operand : (t : Term (List ℕ)) → TermReads t → AsProduct (in_parens (is_sum t) (term_text t)) (bracket (is_sum t) + operators_of_term t) t
 product_operand t a = as_product t (is_sum t) a (λ e. e)
 
-factor_operand : (t : Term (List ℕ)) → TermReads t → AsFactor (in_parens (is_sum t || is_product t) (term_text t)) (bracket (is_sum t || is_product t) + signs_of_term t) t
+factor_operand : (t : Term (List ℕ)) → TermReads t → AsFactor (in_parens (is_sum t || is_product t) (term_text t)) (bracket (is_sum t || is_product t) + operators_of_term t) t
 factor_operand t a = as_factor t (is_sum t || is_product t) a (neither (is_sum t) (is_product t))
 
 -- from a sum over an operator to the product after it
-abbrev Adds : List ℕ → TokenKind → (ForSum → Term (List ℕ) → ForProduct) → Type 0
-Adds op w through = (line remains free : ℕ) (rest : List ℕ) (a : Term (List ℕ)) (k : ForSum) (r : Result Source TextFault) → remains < free → Reads line remains rest (at_factor (first_factor (through k a))) r → Reads line free (op ++ rest) (after_sum a k) r
+abbrev Adds : List ℕ → TokenKind → (SumContext → Term (List ℕ) → ProductContext) → Type 0
+Adds op w through = (line remains free : ℕ) (rest : List ℕ) (a : Term (List ℕ)) (k : SumContext) (r : Result Source TextFault) → remains < free → Reads line remains rest (at_factor (first_factor (through k a))) r → Reads line free (op ++ rest) (after_sum a k) r
 
-sum_of : (a b t : Term (List ℕ)) (op : List ℕ) (w : TokenKind) (through : ForSum → Term (List ℕ) → ForProduct) → TermReads a → TermReads b → Adds op w through → ((rest : List ℕ) → Follows (op ++ rest) w) → IsNoIndex (Some w) → IsNoProduct (Some w)
-    → ((k : ForSum) → product_done b (through k a) ≡ after_sum t k) → AsSum (term_text a ++ (op ++ in_parens (is_sum b) (term_text b))) (1 + (signs_of_term a + (bracket (is_sum b) + signs_of_term b))) t
+sum_of : (a b t : Term (List ℕ)) (op : List ℕ) (w : TokenKind) (through : SumContext → Term (List ℕ) → ProductContext) → TermReads a → TermReads b → Adds op w through → ((rest : List ℕ) → Follows (op ++ rest) w) → IsNoIndex (Some w) → IsNoProduct (Some w)
+    → ((k : SumContext) → product_done b (through k a) ≡ after_sum t k) → AsSum (term_text a ++ (op ++ in_parens (is_sum b) (term_text b))) (1 + (operators_of_term a + (bracket (is_sum b) + operators_of_term b))) t
 sum_of a b t op w through x y crosses follows no_index no_product done = record {
   reads = λ line remains free rest u s k r h f i p g d.
       let right = in_parens (is_sum b) (term_text b) in
-      let signs = bracket (is_sum b) + signs_of_term b in
+      let operator_count = bracket (is_sum b) + operators_of_term b in
       let last : Reads line remains rest (product_done b (through k a)) r = rw (done k) d in
-      let after : Reads line (signs + remains) (right ++ rest) (at_factor (first_factor (through k a))) r =
-      (product_operand b y).reads line remains (signs + remains) rest u (at_factor (first_factor (through k a))) (through k a) r (omega arith) f i (λ n v e. refl) (product_ends u b (through k a) f p last)
+      let after : Reads line (operator_count + remains) (right ++ rest) (at_factor (first_factor (through k a))) r =
+      (product_operand b y).reads line remains (operator_count + remains) rest u (at_factor (first_factor (through k a))) (through k a) r (omega arith) f i (λ n v e. refl) (product_ends u b (through k a) f p last)
       in
-      let over : Reads line (suc (signs + remains)) (op ++ (right ++ rest)) (after_sum a k) r = crosses line (signs + remains) (suc (signs + remains)) (right ++ rest) a k r (omega arith) after in
+      let past_limit : Reads line (suc (operator_count + remains)) (op ++ (right ++ rest)) (after_sum a k) r = crosses line (operator_count + remains) (suc (operator_count + remains)) (right ++ rest) a k r (omega arith) after in
       joined (term_text a) (op ++ right) rest
-      (rw (append_assoc op right rest) (x.sum.reads line (suc (signs + remains)) free (op ++ (right ++ rest)) w s k r (omega arith) (follows (right ++ rest)) no_index no_product g over));
+      (rw (append_assoc op right rest) (x.sum.reads line (suc (operator_count + remains)) free (op ++ (right ++ rest)) w s k r (omega arith) (follows (right ++ rest)) no_index no_product g over));
 }
 
 -- from a product over an operator to the factor after it
-abbrev Multiplies : List ℕ → TokenKind → (ForProduct → Term (List ℕ) → ForFactor) → Type 0
-Multiplies op w through = (line remains free : ℕ) (rest : List ℕ) (a : Term (List ℕ)) (k : ForProduct) (r : Result Source TextFault) → remains < free → Reads line remains rest (at_factor (through k a)) r → Reads line free (op ++ rest) (after_product a k) r
+abbrev Multiplies : List ℕ → TokenKind → (ProductContext → Term (List ℕ) → FactorContext) → Type 0
+Multiplies op w through = (line remains free : ℕ) (rest : List ℕ) (a : Term (List ℕ)) (k : ProductContext) (r : Result Source TextFault) → remains < free → Reads line remains rest (at_factor (through k a)) r → Reads line free (op ++ rest) (after_product a k) r
 
-product_of : (a b t : Term (List ℕ)) (op : List ℕ) (w : TokenKind) (through : ForProduct → Term (List ℕ) → ForFactor) → TermReads a → TermReads b → Multiplies op w through → ((rest : List ℕ) → Follows (op ++ rest) w) → IsNoIndex (Some w)
-    → ((k : ForProduct) → factor_done b (through k a) ≡ after_product t k)
-    → AsProduct (in_parens (is_sum a) (term_text a) ++ (op ++ in_parens (is_sum b || is_product b) (term_text b))) (1 + ((bracket (is_sum a) + signs_of_term a) + (bracket (is_sum b || is_product b) + signs_of_term b))) t
+product_of : (a b t : Term (List ℕ)) (op : List ℕ) (w : TokenKind) (through : ProductContext → Term (List ℕ) → FactorContext) → TermReads a → TermReads b → Multiplies op w through → ((rest : List ℕ) → Follows (op ++ rest) w) → IsNoIndex (Some w)
+    → ((k : ProductContext) → factor_done b (through k a) ≡ after_product t k)
+    → AsProduct (in_parens (is_sum a) (term_text a) ++ (op ++ in_parens (is_sum b || is_product b) (term_text b))) (1 + ((bracket (is_sum a) + operators_of_term a) + (bracket (is_sum b || is_product b) + operators_of_term b))) t
 product_of a b t op w through x y crosses follows no_index done = record {
   reads = λ line remains free rest u s k r h f i g d.
       let left = in_parens (is_sum a) (term_text a) in
       let right = in_parens (is_sum b || is_product b) (term_text b) in
-      let signs = bracket (is_sum b || is_product b) + signs_of_term b in
+      let operator_count = bracket (is_sum b || is_product b) + operators_of_term b in
       let last : Reads line remains rest (factor_done b (through k a)) r = rw (done k) d in
-      let after : Reads line (signs + remains) (right ++ rest) (at_factor (through k a)) r =
-      (factor_operand b y).reads line remains (signs + remains) rest u (at_factor (through k a)) (through k a) r (omega arith) f i (λ n v e. refl) last
+      let after : Reads line (operator_count + remains) (right ++ rest) (at_factor (through k a)) r =
+      (factor_operand b y).reads line remains (operator_count + remains) rest u (at_factor (through k a)) (through k a) r (omega arith) f i (λ n v e. refl) last
       in
-      let over : Reads line (suc (signs + remains)) (op ++ (right ++ rest)) (after_product a k) r = crosses line (signs + remains) (suc (signs + remains)) (right ++ rest) a k r (omega arith) after in
+      let past_limit : Reads line (suc (operator_count + remains)) (op ++ (right ++ rest)) (after_product a k) r = crosses line (operator_count + remains) (suc (operator_count + remains)) (right ++ rest) a k r (omega arith) after in
       joined left (op ++ right) rest
-      (rw (append_assoc op right rest) ((product_operand a x).reads line (suc (signs + remains)) free (op ++ (right ++ rest)) w s k r (omega arith) (follows (right ++ rest)) no_index g over));
+      (rw (append_assoc op right rest) ((product_operand a x).reads line (suc (operator_count + remains)) free (op ++ (right ++ rest)) w s k r (omega arith) (follows (right ++ rest)) no_index g over));
 }
 
 -- ---- what a term is made of
@@ -142,11 +142,11 @@ read_term : (x : List ℕ) (a : Term (List ℕ)) → is_name x ≡ true → Term
 read_term x a h e = factor_term (Read x a) (record {
   reads = λ line remains free rest u s k r g f i b d.
       let close : Reads line remains (93 ∷ rest) (after_sum a (index x k)) r = mark_reads 93 rest tokens.CloseBracket (after_sum a (index x k)) (factor_done (Read x a) k) (close_bracket_lexeme rest) refl refl refl refl refl d in
-      let inside : Reads line (signs_of_term a + remains) (term_text a ++ (93 ∷ rest)) (at_sum (index x k)) r =
-      e.sum.reads line remains (signs_of_term a + remains) (93 ∷ rest) tokens.CloseBracket (at_sum (index x k)) (index x k) r (omega arith) (sign_follows 93 rest tokens.CloseBracket (close_bracket_lexeme rest) refl) tt tt (λ n v q. refl) close
+      let inside : Reads line (operators_of_term a + remains) (term_text a ++ (93 ∷ rest)) (at_sum (index x k)) r =
+      e.sum.reads line remains (operators_of_term a + remains) (93 ∷ rest) tokens.CloseBracket (at_sum (index x k)) (index x k) r (omega arith) (punctuation_follows 93 rest tokens.CloseBracket (close_bracket_lexeme rest) refl) tt tt (λ n v q. refl) close
       in
       let body = (term_text a ++ codes "]") ++ rest in
-      let opened : Reads line free (91 ∷ body) (after_name x k) r = sign_reads 91 body tokens.OpenBracket (after_name x k) (at_sum (index x k)) (open_bracket_lexeme body) refl refl refl refl refl (omega arith) (joined (term_text a) (codes "]") rest inside) in
+      let opened : Reads line free (91 ∷ body) (after_name x k) r = punctuation_reads 91 body tokens.OpenBracket (after_name x k) (at_sum (index x k)) (open_bracket_lexeme body) refl refl refl refl refl (omega arith) (joined (term_text a) (codes "]") rest inside) in
       joined x (codes "[" ++ (term_text a ++ codes "]")) rest (name_reads x (91 ∷ body) s (after_name x k) h refl (b line (tokens.Name x) tt) opened);
 })
 
@@ -154,9 +154,9 @@ negative_term : (a : Term (List ℕ)) → TermReads a → TermReads (Negative a)
 negative_term a e = factor_term (Negative a) (record {
   reads = λ line remains free rest u s k r g f i b d.
       let w = in_parens (is_sum a || is_product a) (term_text a) in
-      let signs = bracket (is_sum a || is_product a) + signs_of_term a in
-      let after : Reads line (signs + remains) (w ++ rest) (at_factor (negative k)) r = (factor_operand a e).reads line remains (signs + remains) rest u (at_factor (negative k)) (negative k) r (omega arith) f i (λ n v q. refl) d in
-      sign_reads 45 (w ++ rest) tokens.Minus s (at_factor (negative k)) (minus_lexeme (w ++ rest)) refl refl refl refl (b line tokens.Minus tt) (omega arith) after;
+      let operator_count = bracket (is_sum a || is_product a) + operators_of_term a in
+      let after : Reads line (operator_count + remains) (w ++ rest) (at_factor (negative k)) r = (factor_operand a e).reads line remains (operator_count + remains) rest u (at_factor (negative k)) (negative k) r (omega arith) f i (λ n v q. refl) d in
+      punctuation_reads 45 (w ++ rest) tokens.Minus s (at_factor (negative k)) (minus_lexeme (w ++ rest)) refl refl refl refl (b line tokens.Minus tt) (omega arith) after;
 })
 
 sum_reads : (a b : Term (List ℕ)) → TermReads a → TermReads b → TermReads (Sum a b)

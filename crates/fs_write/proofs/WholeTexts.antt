@@ -7,17 +7,17 @@ use Rattle.fs_model.specs.declared.parts.Role.TheVariants.{Input, Output, Local}
 use Rattle.fs_model.specs.declared.parts.Sort.{Sort}
 use Rattle.fs_model.specs.declared.parts.Sort.TheVariants as sorts
 use Rattle.fs_model.specs.Source.{Declaration, SourceState, Source}
-use Rattle.fs_model.specs.WellFormed.{is_well_formed_line, is_well_formed_state, has_names, is_well_formed}
+use Rattle.fs_model.specs.WellFormed.{is_well_formed_transition, is_well_formed_state, has_names, is_well_formed}
 use Rattle.fs_grammar.specs.declared.fault.TextFault.{TextFault}
 use Rattle.fs_grammar.specs.declared.token.TokenKind.TheVariants as tokens
-use Rattle.fs_grammar.specs.Grammar.{with_names, with_states, Draft, with_lines, drafted, Owed, at_start, at_one, at_semicolon, at_declaration, at_sort, at_declared, after_declared, at_reset, after_reset, at_state, at_state_name, after_state_name, at_line, step, finish, reading}
+use Rattle.fs_grammar.specs.Grammar.{with_names, with_states, OpenState, with_lines, drafted, ParseState, at_start, at_one, at_semicolon, at_declaration, at_sort, at_declared, after_declared, at_reset, after_reset, at_state, at_state_name, after_state_name, at_line, step, finish, reading}
 use Rattle.fs_lex.specs.Scan.{tokens_of}
 use Rattle.fs_write.specs.Canonical.{after_comma, listed, line_text, state_text, role_text, sort_text, declaration_text, canonical}
-use Rattle.fs_write.specs.Spellable.{is_spellable_line, is_spellable_state, is_spellable_declaration, is_spellable}
-use Rattle.fs_write.specs.Relined.{declarations_from, lines_from, states_from, relined}
+use Rattle.fs_write.specs.Spellable.{is_spellable_transition, is_spellable_state, is_spellable_declaration, is_spellable}
+use Rattle.fs_write.specs.CanonicalLines.{declarations_from, lines_from, states_from, with_canonical_lines}
 use Rattle.fs_write.proofs.Steps.{Reads, joined, weaker, plain_room, border_room, space_reads, newline_reads}
 use Rattle.fs_write.proofs.Words.{both, one_token, name_reads, one_lexeme}
-use Rattle.fs_write.proofs.Signs.{mark_reads}
+use Rattle.fs_write.proofs.Punctuation.{mark_reads}
 use Rattle.fs_write.proofs.LineTexts.{more, more_stops, lines_read}
 
 -- ---- states
@@ -26,22 +26,22 @@ with_states_two : (s : Source) (xs ys : List SourceState) → with_states (with_
 with_states_two s xs ys = ap (λ (l : List SourceState). record s { states = l }) (append_assoc s.states xs ys)
 
 -- the text ends where it may
-end_reads : {line_number : ℕ} (s : Owed) (p : Source) → step s line_number tokens.End ≡ None → finish s ≡ Some p → Reads line_number 0 [] s (Ok p)
+end_reads : {line_number : ℕ} (s : ParseState) (p : Source) → step s line_number tokens.End ≡ None → finish s ≡ Some p → Reads line_number 0 [] s (Ok p)
 end_reads s p e f = record { so = λ column n g. rw (e, f) refl }
 
 -- the states, each on lines of its own, up to the end of the text
-states_read : (line_number : ℕ) (ss : List SourceState) (s : Owed) (p : Source) → ((n : ℕ) → step s n tokens.State ≡ Some (at_state_name p n)) → ((n : ℕ) → step s n tokens.End ≡ None) → finish s ≡ Some p
+states_read : (line_number : ℕ) (ss : List SourceState) (s : ParseState) (p : Source) → ((n : ℕ) → step s n tokens.State ≡ Some (at_state_name p n)) → ((n : ℕ) → step s n tokens.End ≡ None) → finish s ≡ Some p
     → list_all is_well_formed_state ss ≡ true → list_all is_spellable_state ss ≡ true → Reads line_number 0 (flat_map state_text ss) s (Ok (with_states p (states_from line_number ss)))
 states_read line_number [] s p f g e h w =
     let same : p ≡ with_states p [] = ap (λ (l : List SourceState). record p { states = l }) (sym (append-nil p.states)) in
     subst (λ (q : Source). Reads line_number 0 [] s (Ok q)) same (end_reads s p (g line_number) e)
 states_read line_number (t ∷ ss) s p f g e h w =
-    let n = both (list_all is_well_formed_line t.lines) (list_all is_well_formed_state ss) h in
+    let n = both (list_all is_well_formed_transition t.lines) (list_all is_well_formed_state ss) h in
     let v = both (is_spellable_state t) (list_all is_spellable_state ss) w in
-    let u = both (is_name t.name) (list_all is_spellable_line t.lines) v.0 in
+    let u = both (is_name t.name) (list_all is_spellable_transition t.lines) v.0 in
     let rest = flat_map state_text ss in
-    let d : Draft = record { source = p; state = record { line = line_number; name = t.name; lines = [] } } in
-    let c : Draft = with_lines d (lines_from (line_number + 1) t.lines) in
+    let d : OpenState = record { source = p; state = record { line = line_number; name = t.name; lines = [] } } in
+    let c : OpenState = with_lines d (lines_from (line_number + 1) t.lines) in
     let one : List SourceState = c.state ∷ [] in
     let after : Reads (line_number + 1 + length t.lines) 0 rest (at_line c) (Ok (with_states (drafted c) (states_from (line_number + 1 + length t.lines) ss))) =
     states_read (line_number + 1 + length t.lines) ss (at_line c) (drafted c) (λ m. refl) (λ m. refl) refl n.1 v.1
@@ -122,7 +122,7 @@ declarations_read {r} line_number (d ∷ xs) ds rest h w c =
 -- ---- the whole text
 
 -- what is written is read back
-pub reads_back : (s : Source) → is_well_formed s ≡ true → is_spellable s ≡ true → reading (tokens_of (canonical s)) at_start ≡ Ok (relined s)
+pub reads_back : (s : Source) → is_well_formed s ≡ true → is_spellable s ≡ true → reading (tokens_of (canonical s)) at_start ≡ Ok (with_canonical_lines s)
 reads_back s h w =
     let n = both (list_all has_names s.declarations) (list_all is_well_formed_state s.states) h in
     let v = both (list_all is_spellable_declaration s.declarations) (is_name s.reset && list_all is_spellable_state s.states) w in
@@ -131,7 +131,7 @@ reads_back s h w =
     let ds = declarations_from 2 s.declarations in
     let p : Source = record { declarations = ds; reset_line = line_number; reset = s.reset; states = [] } in
     let states = flat_map state_text s.states in
-    let r : Result Source TextFault = Ok (relined s) in
+    let r : Result Source TextFault = Ok (with_canonical_lines s) in
     let last : Reads (line_number + 1) 0 states (at_state p) r = states_read (line_number + 1) s.states (at_state p) p (λ m. refl) (λ m. refl) refl n.1 u.1 in
     let ended : Reads line_number 0 (59 ∷ 10 ∷ states) (after_reset p) r = mark_reads 59 (10 ∷ states) tokens.Semicolon (after_reset p) (at_state p) refl refl refl refl refl refl (newline_reads states last) in
     let body = s.reset ++ (59 ∷ 10 ∷ states) in

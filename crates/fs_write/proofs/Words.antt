@@ -10,18 +10,18 @@ use Rattle.std.specs.List.{prefix_len, list_all}
 use Rattle.fs_model.specs.Words.{is_letter, is_digit, is_word_byte, is_word, is_reserved, is_name}
 use Rattle.fs_model.specs.declared.parts.Role.TheVariants.{Input, Output, Local}
 use Rattle.fs_model.specs.Source.{Source}
-use Rattle.fs_grammar.specs.declared.fault.Place.{Place}
+use Rattle.fs_grammar.specs.declared.fault.TextPlace.{TextPlace}
 use Rattle.fs_grammar.specs.declared.fault.TextFault.{TextFault}
 use Rattle.fs_grammar.specs.declared.token.TokenKind.{TokenKind}
 use Rattle.fs_grammar.specs.declared.token.TokenKind.TheVariants.{Fsmd, Declare, Array, Reset, State, When, Goto, Start, Done, Emit, Port, Name, Number, Bad}
 use Rattle.fs_grammar.specs.declared.token.Flaw.TheVariants as flaws
 use Rattle.fs_grammar.specs.declared.token.Token.{Token}
-use Rattle.fs_grammar.specs.Grammar.{Owed, step, reading}
+use Rattle.fs_grammar.specs.Grammar.{ParseState, step, reading}
 use Rattle.fs_lex.specs.declared.Lexeme.{Lexeme}
 use Rattle.fs_lex.specs.declared.Lexeme.TheVariants as lexemes
 use Rattle.fs_lex.specs.Lexemes.{is_space, keyword_of, name_or_bad, word_of, shifted, number_of, lexeme_of}
 use Rattle.fs_lex.specs.Lexemes as lexing
-use Rattle.fs_lex.specs.Scan.{moved, scan, is_over, is_bad, counted}
+use Rattle.fs_lex.specs.Scan.{moved, scan, is_past_limit, is_bad, counted}
 use Rattle.fs_lex.proofs.Scans.{token_scans}
 use Rattle.fs_write.proofs.Steps.{Reads, begins_no, took, Room, plain_room}
 
@@ -90,17 +90,17 @@ words_line [] h = refl
 words_line (b ∷ w) h = let e = both (is_word_byte b) (list_all is_word_byte w) h in rw (word_line b e.0) (words_line w e.1)
 
 -- a token that takes the bytes w is read, and the reading goes on after it
-pub one_token : {line free remains : ℕ} {r : Result Source TextFault} (b : ℕ) (w rest : List ℕ) (t : TokenKind) (s n : Owed) → lexeme_of ((b ∷ w) ++ rest) ≡ lexemes.Token t (length (b ∷ w)) → list_all no_newline (b ∷ w) ≡ true
+pub one_token : {line free remains : ℕ} {r : Result Source TextFault} (b : ℕ) (w rest : List ℕ) (t : TokenKind) (s n : ParseState) → lexeme_of ((b ∷ w) ++ rest) ≡ lexemes.Token t (length (b ∷ w)) → list_all no_newline (b ∷ w) ≡ true
     → is_bad t ≡ false → Room t free remains → step s line t ≡ Some n → Reads line remains rest n r → Reads line free ((b ∷ w) ++ rest) s r
 one_token {line} {free} {remains} {r} b w rest t s n e a bad room f d = record {
   so = λ column m g.
-      let p : Place = record { line = line; column = column } in
+      let p : TextPlace = record { line = line; column = column } in
       let len : length (b ∷ w) ≤ length ((b ∷ w) ++ rest) = omega (arith, length-append (b ∷ w) rest) in
       let there : moved p (take (length (b ∷ w)) ((b ∷ w) ++ rest)) ≡ record { line = line; column = column_after column (b ∷ w) } = ap (λ bs. moved p bs) (take-append_seam (b ∷ w) rest) ∙ same_line (b ∷ w) line column a in
       let scanned = token_scans ((b ∷ w) ++ rest) t (length (b ∷ w)) p m e (omega arith) len in
       ap (λ (ts : List Token). reading ts s) scanned
-      ∙ took t (is_over t m) p _ s n r (room.fits m g) f
-      (rw bad (ap₂ (λ (bs : List ℕ) (q : Place). reading (scan bs 0 q (counted t m)) n) (drop-append_seam (b ∷ w) rest) there) ∙ d.so (column_after column (b ∷ w)) (counted t m) (room.leaves m g));
+      ∙ took t (is_past_limit t m) p _ s n r (room.fits m g) f
+      (rw bad (ap₂ (λ (bs : List ℕ) (q : TextPlace). reading (scan bs 0 q (counted t m)) n) (drop-append_seam (b ∷ w) rest) there) ∙ d.so (column_after column (b ∷ w)) (counted t m) (room.leaves m g));
 }
 
 third : (a b c : Bool) (u v w x : Lexeme) → a ≡ false → b ≡ false → c ≡ true → cond a u (cond b v (cond c w x)) ≡ w
@@ -129,7 +129,7 @@ word_lexeme : (b : ℕ) (bs : List ℕ) → is_letter b ≡ true → lexeme_of (
 word_lexeme b bs h = let e = letter_begins b h in third (is_space b) (b == 35) (is_letter b) _ _ _ _ e.0 e.1 h
 
 -- a name is read as one token
-pub name_reads : {line free : ℕ} {r : Result Source TextFault} (x rest : List ℕ) (s n : Owed) → is_name x ≡ true → begins_no is_word_byte rest ≡ true → step s line (Name x) ≡ Some n → Reads line free rest n r → Reads line free (x ++ rest) s r
+pub name_reads : {line free : ℕ} {r : Result Source TextFault} (x rest : List ℕ) (s n : ParseState) → is_name x ≡ true → begins_no is_word_byte rest ≡ true → step s line (Name x) ≡ Some n → Reads line free rest n r → Reads line free (x ++ rest) s r
 name_reads [] rest s n h b f d = absurd cc
 name_reads (b ∷ w) rest s n h stops f d =
     let word = both (is_letter b) (list_all is_word_byte w) (both (is_word (b ∷ w)) (nat_le (length (b ∷ w)) 32) (both (is_word (b ∷ w) && nat_le (length (b ∷ w)) 32) (not (is_reserved (b ∷ w))) h).0).0 in
@@ -174,7 +174,7 @@ unfolding_number ds n e h = ap (λ (k : ℕ). cond (nat_lt k (2 ^ 127)) (Number 
 number_lexeme : (b : ℕ) (bs : List ℕ) → is_digit b ≡ true → lexeme_of (b ∷ bs) ≡ lexemes.Token (number_of (take (prefix_len is_digit (b ∷ bs)) (b ∷ bs))) (prefix_len is_digit (b ∷ bs))
 number_lexeme b bs h = let e = digit_begins b h in fourth (is_space b) (b == 35) (is_letter b) (is_digit b) _ _ _ _ _ e.0 e.1 e.2 h
 
-digits_read : {line free : ℕ} {r : Result Source TextFault} (k : ℕ) (ds rest : List ℕ) (s n : Owed) → k < 2 ^ 127 → Spells k ds → begins_no is_word_byte rest ≡ true → step s line (Number (pos k)) ≡ Some n → Reads line free rest n r → Reads line free (ds ++ rest) s r
+digits_read : {line free : ℕ} {r : Result Source TextFault} (k : ℕ) (ds rest : List ℕ) (s n : ParseState) → k < 2 ^ 127 → Spells k ds → begins_no is_word_byte rest ≡ true → step s line (Number (pos k)) ≡ Some n → Reads line free rest n r → Reads line free (ds ++ rest) s r
 digits_read k [] rest s n h e stops f d = absurd (omega (arith, e.some))
 digits_read k (b ∷ w) rest s n h e stops f d =
     let first = both (is_digit b) (list_all is_digit w) e.digits in
@@ -190,7 +190,7 @@ pub one_lexeme : (rest : List ℕ) → lexeme_of (49 ∷ 59 ∷ rest) ≡ lexeme
 one_lexeme rest = number_lexeme 49 (59 ∷ rest) refl ∙ ap (λ (t : TokenKind). lexemes.Token t 1) (unfolding_number (49 ∷ []) 1 refl (lit< tt))
 
 -- a number is read as one token
-pub number_reads : {line free : ℕ} {r : Result Source TextFault} (k : ℕ) (rest : List ℕ) (s n : Owed) → k < 2 ^ 127 → begins_no is_word_byte rest ≡ true → step s line (Number (pos k)) ≡ Some n → Reads line free rest n r → Reads line free (decimal k ++ rest) s r
+pub number_reads : {line free : ℕ} {r : Result Source TextFault} (k : ℕ) (rest : List ℕ) (s n : ParseState) → k < 2 ^ 127 → begins_no is_word_byte rest ≡ true → step s line (Number (pos k)) ≡ Some n → Reads line free rest n r → Reads line free (decimal k ++ rest) s r
 number_reads k rest s n h stops f d = digits_read k (decimal k) rest s n h (spelled k h) stops f d
 
 -- ---- first bytes

@@ -1,9 +1,9 @@
 -- Texts without one of the brackets that they need.
 use Rattle.std.specs.Prelude.{◌≡◌, ◌≢◌, ℕ, true, ◌||◌, List, ◌++◌, codes}
 use Rattle.fs_model.specs.declared.parts.Rel.{Rel}
-use Rattle.fs_model.specs.Terms.{Term, Sum, Difference, Product, Quotient, Remainder, Negative, Read, Formula, Test, Not, And, Or}
+use Rattle.fs_model.specs.Terms.{Term, Sum, Difference, Product, Quotient, Remainder, Negative, Read, Guard, Test, Not, And, Or}
 use Rattle.fs_model.specs.WellFormed.{is_sum, is_product, is_and, is_or}
-use Rattle.fs_write.specs.Canonical.{in_parens, in_braces, term_text, relation_text, formula_text}
+use Rattle.fs_write.specs.Canonical.{in_parens, in_braces, term_text, relation_text, guard_text}
 
 -- the text of a term without the parentheses round one operand in it, where they are needed
 pub data BareTerm : Term (List ℕ) → List ℕ → Type 0 where
@@ -30,23 +30,23 @@ pub data BareTerm : Term (List ℕ) → List ℕ → Type 0 where
   in_negative : (a : Term (List ℕ)) (w : List ℕ) → BareTerm a w → BareTerm (Negative a) (codes "-" ++ in_parens (is_sum a || is_product a) w)
 
 -- the text of a guard without the parentheses or braces round one operand in it, where they are needed
-pub data BareGuard : Formula (List ℕ) → List ℕ → Type 0 where
-  under_not : (a : Formula (List ℕ)) → (is_and a || is_or a) ≡ true → BareGuard (Not a) (codes "!" ++ formula_text a)
-  and_left : (a b : Formula (List ℕ)) → is_or a ≡ true → BareGuard (And a b) (formula_text a ++ (codes " && " ++ in_braces (is_and b || is_or b) (formula_text b)))
-  and_right : (a b : Formula (List ℕ)) → (is_and b || is_or b) ≡ true → BareGuard (And a b) (in_braces (is_or a) (formula_text a) ++ (codes " && " ++ formula_text b))
-  or_right : (a b : Formula (List ℕ)) → is_or b ≡ true → BareGuard (Or a b) (formula_text a ++ (codes " || " ++ formula_text b))
+pub data BareGuard : Guard (List ℕ) → List ℕ → Type 0 where
+  under_not : (a : Guard (List ℕ)) → (is_and a || is_or a) ≡ true → BareGuard (Not a) (codes "!" ++ guard_text a)
+  and_left : (a b : Guard (List ℕ)) → is_or a ≡ true → BareGuard (And a b) (guard_text a ++ (codes " && " ++ in_braces (is_and b || is_or b) (guard_text b)))
+  and_right : (a b : Guard (List ℕ)) → (is_and b || is_or b) ≡ true → BareGuard (And a b) (in_braces (is_or a) (guard_text a) ++ (codes " && " ++ guard_text b))
+  or_right : (a b : Guard (List ℕ)) → is_or b ≡ true → BareGuard (Or a b) (guard_text a ++ (codes " || " ++ guard_text b))
   in_test_left : (r : Rel) (a b : Term (List ℕ)) (w : List ℕ) → BareTerm a w → BareGuard (Test (record { relation = r; left = a; right = b })) (w ++ (relation_text r ++ term_text b))
   in_test_right : (r : Rel) (a b : Term (List ℕ)) (w : List ℕ) → BareTerm b w → BareGuard (Test (record { relation = r; left = a; right = b })) (term_text a ++ (relation_text r ++ w))
-  in_not : (a : Formula (List ℕ)) (w : List ℕ) → BareGuard a w → BareGuard (Not a) (codes "!" ++ in_braces (is_and a || is_or a) w)
-  in_and_left : (a b : Formula (List ℕ)) (w : List ℕ) → BareGuard a w → BareGuard (And a b) (in_braces (is_or a) w ++ (codes " && " ++ in_braces (is_and b || is_or b) (formula_text b)))
-  in_and_right : (a b : Formula (List ℕ)) (w : List ℕ) → BareGuard b w → BareGuard (And a b) (in_braces (is_or a) (formula_text a) ++ (codes " && " ++ in_braces (is_and b || is_or b) w))
-  in_or_left : (a b : Formula (List ℕ)) (w : List ℕ) → BareGuard a w → BareGuard (Or a b) (w ++ (codes " || " ++ in_braces (is_or b) (formula_text b)))
-  in_or_right : (a b : Formula (List ℕ)) (w : List ℕ) → BareGuard b w → BareGuard (Or a b) (formula_text a ++ (codes " || " ++ in_braces (is_or b) w))
+  in_not : (a : Guard (List ℕ)) (w : List ℕ) → BareGuard a w → BareGuard (Not a) (codes "!" ++ in_braces (is_and a || is_or a) w)
+  in_and_left : (a b : Guard (List ℕ)) (w : List ℕ) → BareGuard a w → BareGuard (And a b) (in_braces (is_or a) w ++ (codes " && " ++ in_braces (is_and b || is_or b) (guard_text b)))
+  in_and_right : (a b : Guard (List ℕ)) (w : List ℕ) → BareGuard b w → BareGuard (And a b) (in_braces (is_or a) (guard_text a) ++ (codes " && " ++ in_braces (is_and b || is_or b) w))
+  in_or_left : (a b : Guard (List ℕ)) (w : List ℕ) → BareGuard a w → BareGuard (Or a b) (w ++ (codes " || " ++ in_braces (is_or b) (guard_text b)))
+  in_or_right : (a b : Guard (List ℕ)) (w : List ℕ) → BareGuard b w → BareGuard (Or a b) (guard_text a ++ (codes " || " ++ in_braces (is_or b) w))
 
 -- the text of another term
 abbrev pub IsTextOfAnother : Term (List ℕ) → List ℕ → Type 0
 IsTextOfAnother t text = (u : Term (List ℕ)) × (term_text u ≡ text) × (u ≢ t)
 
 -- the text of another guard
-abbrev pub IsTextOfAnotherGuard : Formula (List ℕ) → List ℕ → Type 0
-IsTextOfAnotherGuard g text = (h : Formula (List ℕ)) × (formula_text h ≡ text) × (h ≢ g)
+abbrev pub IsTextOfAnotherGuard : Guard (List ℕ) → List ℕ → Type 0
+IsTextOfAnotherGuard g text = (h : Guard (List ℕ)) × (guard_text h ≡ text) × (h ≢ g)

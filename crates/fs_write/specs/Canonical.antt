@@ -8,8 +8,8 @@ use Rattle.fs_model.specs.declared.parts.Role.{Role}
 use Rattle.fs_model.specs.declared.parts.Role.TheVariants.{Input, Output, Local}
 use Rattle.fs_model.specs.declared.parts.Sort.{Sort}
 use Rattle.fs_model.specs.declared.parts.Sort.TheVariants as sorts
-use Rattle.fs_model.specs.Terms.{Term, Number, Variable, Read, Sum, Difference, Product, Quotient, Remainder, Negative, Formula, Test, Not, And, Or, Action, Assign, Write}
-use Rattle.fs_model.specs.Source.{Declaration, SourceLine, SourceState, Source}
+use Rattle.fs_model.specs.Terms.{Term, Number, Variable, Read, Sum, Difference, Product, Quotient, Remainder, Negative, Guard, Test, Not, And, Or, Assignment, Assign, ArrayWrite}
+use Rattle.fs_model.specs.Source.{Declaration, SourceTransition, SourceState, Source}
 use Rattle.fs_model.specs.WellFormed.{is_sum, is_product, is_and, is_or}
 
 -- a bracket that stands only where it is needed
@@ -55,16 +55,16 @@ relation_text Gt = codes " > "
 relation_text Ge = codes " >= "
 
 -- a guard
-abbrev pub formula_text : Formula (List ℕ) → List ℕ
-formula_text (Test l) = term_text l.left ++ (relation_text l.relation ++ term_text l.right)
-formula_text (Not g) = codes "!" ++ in_braces (is_and g || is_or g) (formula_text g)
-formula_text (And a b) = in_braces (is_or a) (formula_text a) ++ (codes " && " ++ in_braces (is_and b || is_or b) (formula_text b))
-formula_text (Or a b) = formula_text a ++ (codes " || " ++ in_braces (is_or b) (formula_text b))
+abbrev pub guard_text : Guard (List ℕ) → List ℕ
+guard_text (Test l) = term_text l.left ++ (relation_text l.relation ++ term_text l.right)
+guard_text (Not g) = codes "!" ++ in_braces (is_and g || is_or g) (guard_text g)
+guard_text (And a b) = in_braces (is_or a) (guard_text a) ++ (codes " && " ++ in_braces (is_and b || is_or b) (guard_text b))
+guard_text (Or a b) = guard_text a ++ (codes " || " ++ in_braces (is_or b) (guard_text b))
 
 -- an assignment to a scalar, or to an array at an index
-abbrev pub action_text : Action (List ℕ) → List ℕ
-action_text (Assign x e) = x ++ (codes " = " ++ term_text e)
-action_text (Write x i e) = x ++ (codes "[" ++ (term_text i ++ (codes "] = " ++ term_text e)))
+abbrev pub assignment_text : Assignment (List ℕ) → List ℕ
+assignment_text (Assign x e) = x ++ (codes " = " ++ term_text e)
+assignment_text (ArrayWrite x i e) = x ++ (codes "[" ++ (term_text i ++ (codes "] = " ++ term_text e)))
 
 -- a text that is not the first of a list
 abbrev pub after_comma : List ℕ → List ℕ
@@ -76,18 +76,18 @@ listed [] = []
 listed (text ∷ texts) = text ++ flat_map after_comma texts
 
 -- the end of a transition, up to its semicolon
-abbrev pub actions_text : List (Action (List ℕ)) → List ℕ
-actions_text [] = []
-actions_text (a ∷ actions) = codes ": " ++ listed (map action_text (a ∷ actions))
+abbrev pub assignments_text : List (Assignment (List ℕ)) → List ℕ
+assignments_text [] = []
+assignments_text (a ∷ assignments) = codes ": " ++ listed (map assignment_text (a ∷ assignments))
 
 -- what stands before goto
-abbrev pub guard_text : Option (Formula (List ℕ)) → List ℕ
-guard_text None = []
-guard_text (Some g) = codes "when " ++ (formula_text g ++ codes " ")
+abbrev pub condition_text : Option (Guard (List ℕ)) → List ℕ
+condition_text None = []
+condition_text (Some g) = codes "when " ++ (guard_text g ++ codes " ")
 
 -- a transition, on a line of its own that begins with two spaces
-abbrev pub line_text : SourceLine → List ℕ
-line_text l = codes "  " ++ (guard_text l.content.guard ++ (codes "goto " ++ (l.content.target ++ (actions_text l.content.actions ++ codes ";\n"))))
+abbrev pub line_text : SourceTransition → List ℕ
+line_text l = codes "  " ++ (condition_text l.content.guard ++ (codes "goto " ++ (l.content.target ++ (assignments_text l.content.assignments ++ codes ";\n"))))
 
 -- a state's name on a line of its own, and its transitions
 abbrev pub state_text : SourceState → List ℕ

@@ -1,4 +1,4 @@
 pub mod Canonical
 pub mod Spellable
-pub mod Relined
+pub mod CanonicalLines
 pub mod Bare

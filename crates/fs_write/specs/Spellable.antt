@@ -2,8 +2,8 @@
 use Rattle.std.specs.Prelude.{ℕ, ◌^◌, Bool, true, ◌&&◌, pos, int_lt, Option, Some, None, List}
 use Rattle.std.specs.List.{list_all}
 use Rattle.fs_model.specs.Words.{is_name}
-use Rattle.fs_model.specs.Terms.{Term, Number, Variable, Read, Sum, Difference, Product, Quotient, Remainder, Negative, Formula, Test, Not, And, Or, Action, Assign, Write}
-use Rattle.fs_model.specs.Source.{Declaration, SourceLine, SourceState, Source}
+use Rattle.fs_model.specs.Terms.{Term, Number, Variable, Read, Sum, Difference, Product, Quotient, Remainder, Negative, Guard, Test, Not, And, Or, Assignment, Assign, ArrayWrite}
+use Rattle.fs_model.specs.Source.{Declaration, SourceTransition, SourceState, Source}
 
 -- each name is a name, and no number is above 2^127 - 1
 abbrev pub is_spellable_term : Term (List ℕ) → Bool
@@ -18,29 +18,29 @@ is_spellable_term (Remainder a b) = is_spellable_term a && is_spellable_term b
 is_spellable_term (Negative a) = is_spellable_term a
 
 -- the same of a guard
-abbrev pub is_spellable_formula : Formula (List ℕ) → Bool
-is_spellable_formula (Test l) = is_spellable_term l.left && is_spellable_term l.right
-is_spellable_formula (Not g) = is_spellable_formula g
-is_spellable_formula (And a b) = is_spellable_formula a && is_spellable_formula b
-is_spellable_formula (Or a b) = is_spellable_formula a && is_spellable_formula b
+abbrev pub is_spellable_guard : Guard (List ℕ) → Bool
+is_spellable_guard (Test l) = is_spellable_term l.left && is_spellable_term l.right
+is_spellable_guard (Not g) = is_spellable_guard g
+is_spellable_guard (And a b) = is_spellable_guard a && is_spellable_guard b
+is_spellable_guard (Or a b) = is_spellable_guard a && is_spellable_guard b
 
 -- the same of an assignment
-abbrev pub is_spellable_action : Action (List ℕ) → Bool
-is_spellable_action (Assign x e) = is_name x && is_spellable_term e
-is_spellable_action (Write x i e) = is_name x && (is_spellable_term i && is_spellable_term e)
+abbrev pub is_spellable_assignment : Assignment (List ℕ) → Bool
+is_spellable_assignment (Assign x e) = is_name x && is_spellable_term e
+is_spellable_assignment (ArrayWrite x i e) = is_name x && (is_spellable_term i && is_spellable_term e)
 
 -- the same of what may be a guard
-abbrev pub is_spellable_guard : Option (Formula (List ℕ)) → Bool
-is_spellable_guard None = true
-is_spellable_guard (Some g) = is_spellable_formula g
+abbrev pub is_spellable_condition : Option (Guard (List ℕ)) → Bool
+is_spellable_condition None = true
+is_spellable_condition (Some g) = is_spellable_guard g
 
 -- the same of a transition
-abbrev pub is_spellable_line : SourceLine → Bool
-is_spellable_line l = is_spellable_guard l.content.guard && (is_name l.content.target && list_all is_spellable_action l.content.actions)
+abbrev pub is_spellable_transition : SourceTransition → Bool
+is_spellable_transition l = is_spellable_condition l.content.guard && (is_name l.content.target && list_all is_spellable_assignment l.content.assignments)
 
 -- the same of a state
 abbrev pub is_spellable_state : SourceState → Bool
-is_spellable_state s = is_name s.name && list_all is_spellable_line s.lines
+is_spellable_state s = is_name s.name && list_all is_spellable_transition s.lines
 
 -- the same of a declaration
 abbrev pub is_spellable_declaration : Declaration → Bool

@@ -1,10 +1,10 @@
 //! The texts of guards.
 
 ghost use Rattle.std.specs.Prelude.{◌≡◌, ◌++◌, ◌||◌, IsTrue, OnOk, option_map};
-ghost use Rattle.fs_model.specs.View.{named_formula};
+ghost use Rattle.fs_model.specs.View.{named_guard};
 ghost use Rattle.fs_model.specs.WellFormed.{is_and, is_or};
-ghost use Rattle.fs_write.specs.Canonical.{relation_text, formula_text, guard_text};
-ghost use Rattle.fs_write.specs.Spellable.{is_spellable_formula, is_spellable_guard};
+ghost use Rattle.fs_write.specs.Canonical.{relation_text, guard_text, condition_text};
+ghost use Rattle.fs_write.specs.Spellable.{is_spellable_guard, is_spellable_condition};
 
 use crate::terms::{write_bracket, write_expr};
 use fs_model::parts::{Guard, Rel};
@@ -24,21 +24,21 @@ fn relation(rel: Rel) -> &'static [u8]
 }
 
 fn is_and(guard: &Guard) -> bool
-    ensures { result ≡ is_and (named_formula guard.now) }
+    ensures { result ≡ is_and (named_guard guard.now) }
 {
     matches!(guard, Guard::And(..))
 }
 
 fn is_or(guard: &Guard) -> bool
-    ensures { result ≡ is_or (named_formula guard.now) }
+    ensures { result ≡ is_or (named_guard guard.now) }
 {
     matches!(guard, Guard::Or(..))
 }
 
 /// Writes a guard.
 fn write_guard(out: &mut Vec<u8>, guard: &Guard) -> Result<(), AllocError>
-    ensures text { OnOk result (out.new.items ≡ out.old.items ++ formula_text (named_formula guard.now)) }
-    ensures words { OnOk result (IsTrue (is_spellable_formula (named_formula guard.now))) }
+    ensures text { OnOk result (out.new.items ≡ out.old.items ++ guard_text (named_guard guard.now)) }
+    ensures words { OnOk result (IsTrue (is_spellable_guard (named_guard guard.now))) }
 {
     match guard {
         Guard::Lit(literal) => {
@@ -75,8 +75,8 @@ fn write_guard(out: &mut Vec<u8>, guard: &Guard) -> Result<(), AllocError>
 
 /// Writes what stands before the target of a transition: its guard, or nothing.
 pub fn write_condition(out: &mut Vec<u8>, guard: &Option<Guard>) -> Result<(), AllocError>
-    ensures text { OnOk result (out.new.items ≡ out.old.items ++ guard_text (option_map named_formula guard.now)) }
-    ensures words { OnOk result (IsTrue (is_spellable_guard (option_map named_formula guard.now))) }
+    ensures text { OnOk result (out.new.items ≡ out.old.items ++ condition_text (option_map named_guard guard.now)) }
+    ensures words { OnOk result (IsTrue (is_spellable_condition (option_map named_guard guard.now))) }
 {
     let Some(guard) = guard else {
         return Ok(());

@@ -11,7 +11,7 @@ ghost use Rattle.fs_model.specs.WellFormed.{is_well_formed};
 ghost use Rattle.fs_grammar.specs.Grammar.{at_start, reading};
 ghost use Rattle.fs_lex.specs.Scan.{tokens_of};
 ghost use Rattle.fs_write.specs.Canonical.{canonical};
-ghost use Rattle.fs_write.specs.Relined.{relined};
+ghost use Rattle.fs_write.specs.CanonicalLines.{with_canonical_lines};
 
 mod guards;
 pub mod laws;
@@ -29,7 +29,7 @@ use std::alloc::Global;
 pub fn write_parts(alloc: Global, parts: &Parts) -> Result<Vec<u8>, NoMemory>
     requires { IsTrue (is_well_formed (source_of parts.now)) }
     ensures text { IfOk result (λ bytes. bytes.items ≡ canonical (source_of parts.now)) }
-    ensures reads_back { IfOk result (λ bytes. reading (tokens_of bytes.items) at_start ≡ Ok (relined (source_of parts.now))) }
+    ensures reads_back { IfOk result (λ bytes. reading (tokens_of bytes.items) at_start ≡ Ok (with_canonical_lines (source_of parts.now))) }
 {
     let mut out = Vec::new(alloc);
     match states::write_source(&mut out, parts) {

@@ -3,9 +3,9 @@
 ghost use Rattle.std.specs.Prelude.{◌≡◌, ◌++◌, IsTrue, OnOk, codes, map};
 ghost use Rattle.std.specs.List.{flat_map, list_all};
 ghost use Rattle.fs_model.specs.Words.{is_name};
-ghost use Rattle.fs_model.specs.View.{named_action, declaration_of, source_line_of, source_state_of, source_of};
-ghost use Rattle.fs_write.specs.Canonical.{listed, after_comma, action_text, actions_text, line_text, state_text, role_text, sort_text, declaration_text, canonical};
-ghost use Rattle.fs_write.specs.Spellable.{is_spellable_action, is_spellable_line, is_spellable_state, is_spellable_declaration, is_spellable};
+ghost use Rattle.fs_model.specs.View.{named_assignment, declaration_of, source_transition_of, source_state_of, source_of};
+ghost use Rattle.fs_write.specs.Canonical.{listed, after_comma, assignment_text, assignments_text, line_text, state_text, role_text, sort_text, declaration_text, canonical};
+ghost use Rattle.fs_write.specs.Spellable.{is_spellable_assignment, is_spellable_transition, is_spellable_state, is_spellable_declaration, is_spellable};
 
 use crate::guards::write_condition;
 use crate::terms::write_expr;
@@ -14,8 +14,8 @@ use fs_model::parts::{Assign, Decl, Parts, RawLine, RawState, Role, Sort};
 use std::alloc::AllocError;
 
 fn write_assign(out: &mut Vec<u8>, assign: &Assign<Name>) -> Result<(), AllocError>
-    ensures text { OnOk result (out.new.items ≡ out.old.items ++ action_text (named_action assign.now)) }
-    ensures words { OnOk result (IsTrue (is_spellable_action (named_action assign.now))) }
+    ensures text { OnOk result (out.new.items ≡ out.old.items ++ assignment_text (named_assignment assign.now)) }
+    ensures words { OnOk result (IsTrue (is_spellable_assignment (named_assignment assign.now))) }
 {
     match assign {
         Assign::Set(name, value) => {
@@ -41,8 +41,8 @@ fn write_comma(out: &mut Vec<u8>) -> Result<(), AllocError>
 
 /// Writes the assignments after the first one.
 fn write_more_assigns(out: &mut Vec<u8>, assigns: &[Assign<Name>]) -> Result<(), AllocError>
-    ensures text { OnOk result (out.new.items ≡ out.old.items ++ flat_map after_comma (map action_text (map named_action assigns.now))) }
-    ensures words { OnOk result (IsTrue (list_all is_spellable_action (map named_action assigns.now))) }
+    ensures text { OnOk result (out.new.items ≡ out.old.items ++ flat_map after_comma (map assignment_text (map named_assignment assigns.now))) }
+    ensures words { OnOk result (IsTrue (list_all is_spellable_assignment (map named_assignment assigns.now))) }
 {
     for assign in assigns {
         write_comma(out)?;
@@ -53,8 +53,8 @@ fn write_more_assigns(out: &mut Vec<u8>, assigns: &[Assign<Name>]) -> Result<(),
 
 /// Writes the assignments of a transition, or nothing where it has none.
 fn write_assigns(out: &mut Vec<u8>, assigns: &[Assign<Name>]) -> Result<(), AllocError>
-    ensures text { OnOk result (out.new.items ≡ out.old.items ++ actions_text (map named_action assigns.now)) }
-    ensures words { OnOk result (IsTrue (list_all is_spellable_action (map named_action assigns.now))) }
+    ensures text { OnOk result (out.new.items ≡ out.old.items ++ assignments_text (map named_assignment assigns.now)) }
+    ensures words { OnOk result (IsTrue (list_all is_spellable_assignment (map named_assignment assigns.now))) }
 {
     match assigns {
         [] => Ok(()),
@@ -67,8 +67,8 @@ fn write_assigns(out: &mut Vec<u8>, assigns: &[Assign<Name>]) -> Result<(), Allo
 }
 
 fn write_line(out: &mut Vec<u8>, line: &RawLine) -> Result<(), AllocError>
-    ensures text { OnOk result (out.new.items ≡ out.old.items ++ line_text (source_line_of line.now)) }
-    ensures words { OnOk result (IsTrue (is_spellable_line (source_line_of line.now))) }
+    ensures text { OnOk result (out.new.items ≡ out.old.items ++ line_text (source_transition_of line.now)) }
+    ensures words { OnOk result (IsTrue (is_spellable_transition (source_transition_of line.now))) }
 {
     out.extend_from_slice(b"  ")?;
     write_condition(out, &line.guard)?;
@@ -79,8 +79,8 @@ fn write_line(out: &mut Vec<u8>, line: &RawLine) -> Result<(), AllocError>
 }
 
 fn write_lines(out: &mut Vec<u8>, lines: &[RawLine]) -> Result<(), AllocError>
-    ensures text { OnOk result (out.new.items ≡ out.old.items ++ flat_map line_text (map source_line_of lines.now)) }
-    ensures words { OnOk result (IsTrue (list_all is_spellable_line (map source_line_of lines.now))) }
+    ensures text { OnOk result (out.new.items ≡ out.old.items ++ flat_map line_text (map source_transition_of lines.now)) }
+    ensures words { OnOk result (IsTrue (list_all is_spellable_transition (map source_transition_of lines.now))) }
 {
     for line in lines {
         write_line(out, line)?;

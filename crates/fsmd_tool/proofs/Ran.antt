@@ -4,7 +4,7 @@ use Rattle.std.specs.Bool.{Decides}
 use Rattle.std.proofs.lemmas.Bool.{false≢true}
 use Rattle.std.specs.Prelude.{Some, None, Result, Ok, Err, IfOk}
 use Rattle.std.specs.Result.{IfErr}
-use Rattle.fs_base.specs.Outside.{Held, Untold, Nothing, Bytes, AreHeld}
+use Rattle.fs_base.specs.Outside.{Held, Unknown, Nothing, Bytes, AreHeld}
 use Rattle.fs_model.specs.Machines.{Fsmd}
 use Rattle.fs_model.specs.Runs.{Inputs}
 use Rattle.fs_pair.specs.Faces.{interface_fault}
@@ -23,65 +23,65 @@ use Rattle.fsmd_tool.specs.Replies.{reply}
 use Rattle.fsmd_tool.specs.Puts.{Put, IsPut}
 use Rattle.fsmd_tool.specs.declared.load.Refused.{Refused as Refusal}
 use Rattle.fsmd_tool.specs.declared.load.Refused.TheVariants as refusals
-use Rattle.fsmd_tool.specs.Texts.{Told, Spells, IsMachine, most_bytes}
+use Rattle.fsmd_tool.specs.Texts.{WhereKnown, Spells, IsMachine, most_bytes}
 use Rattle.fsmd_tool.specs.Inputs.{faces, IsUnread, IsInputsAnswer, Refuses, RefusesInputs, SpellsInputs}
 use Rattle.fsmd_tool.specs.Answers.{Given, held, FailedToRead, SpellPair, PairTold, IsUnended}
-use Rattle.fsmd_tool.specs.Runs.{most_steps, Ends, IsRunAnswer, IsOfRun, SpellRun, SpellRefusal, DueToRun}
+use Rattle.fsmd_tool.specs.Runs.{most_steps, Ends, IsRunAnswer, IsOfRun, SpellRun, SpellRefusal, CorrectForRun}
 use Rattle.fsmd_tool.specs.Runs as runs
-use Rattle.fsmd_tool.specs.Replays.{BothEnd, IsOfReplay, IsReplayAnswer, IsOfInterfaces, AreAlike, RefusesBoth, Replays, DueToReplay}
+use Rattle.fsmd_tool.specs.Replays.{BothEnd, IsOfReplay, IsReplayAnswer, IsOfInterfaces, AreAlike, RefusesBoth, Replays, CorrectForReplay}
 use Rattle.fsmd_tool.specs.Replays as replays
-use Rattle.fsmd_tool.specs.Due.{IsDue, Answered}
+use Rattle.fsmd_tool.specs.Due.{IsCorrectAnswer, Answered}
 use Rattle.fsmd_tool.specs.Refusals.{WhereAnswered, IsOfInputs, Unread, Refused}
 use Rattle.fsmd_tool.proofs.Outcomes.{told_map}
 
 -- what is told of two files
-told_both : (h k : Held) (P Q : List ℕ → Type 0) (R : List ℕ → List ℕ → Type 0) → ((x y : List ℕ) → P x → Q y → R x y) → Told h P → Told k Q → Told h (λ x. Told k (R x))
-told_both h k P Q R f t u = told_map h P (λ x. Told k (R x)) (λ x p. told_map k Q (R x) (λ y q. f x y p q) u) t
+told_both : (h k : Held) (P Q : List ℕ → Type 0) (R : List ℕ → List ℕ → Type 0) → ((x y : List ℕ) → P x → Q y → R x y) → WhereKnown h P → WhereKnown k Q → WhereKnown h (λ x. WhereKnown k (R x))
+told_both h k P Q R f t u = told_map h P (λ x. WhereKnown k (R x)) (λ x p. told_map k Q (R x) (λ y q. f x y p q) u) t
 
-is_machine : (h : Held) (m : Fsmd) → Told h (λ x. Spells x m) → Told h IsMachine
+is_machine : (h : Held) (m : Fsmd) → WhereKnown h (λ x. Spells x m) → WhereKnown h IsMachine
 is_machine h m t = told_map h (λ x. Spells x m) IsMachine (λ x s. (m, s)) t
 
 -- ---- one machine
 
-pub ran : (h k : Held) (P : Fsmd → Inputs → Type 0) (m : Fsmd) (ins : Inputs) → Told h (λ x. Spells x m) → Told k (SpellsInputs m ins) → P m ins → Told h (λ x. Told k (SpellRun P x))
+pub ran : (h k : Held) (P : Fsmd → Inputs → Type 0) (m : Fsmd) (ins : Inputs) → WhereKnown h (λ x. Spells x m) → WhereKnown k (SpellsInputs m ins) → P m ins → WhereKnown h (λ x. WhereKnown k (SpellRun P x))
 ran h k P m ins t u p =
     told_both h k (λ x. Spells x m) (SpellsInputs m ins) (SpellRun P) (λ x y s i. record { machine = m; inputs = ins; spells = s; spells_inputs = i; meet = p }) t u
 
-refusal : (h k : Held) (m : Fsmd) (answer : Answer) → Told h (λ x. Spells x m) → Told k (RefusesInputs m answer) → Told h (λ x. Told k (SpellRefusal answer x))
+refusal : (h k : Held) (m : Fsmd) (answer : Answer) → WhereKnown h (λ x. Spells x m) → WhereKnown k (RefusesInputs m answer) → WhereKnown h (λ x. WhereKnown k (SpellRefusal answer x))
 refusal h k m answer t u = told_both h k (λ x. Spells x m) (RefusesInputs m answer) (SpellRefusal answer) (λ x y s i. record { machine = m; spells = s; refuses = i }) t u
 
-run_refused : (g : Given) (m : Fsmd) (answer : Answer) → Told (held g First) (λ x. Spells x m) → IsOfInputs m Second (held g Second) (FailedToRead g Second) answer → DueToRun g answer
+run_refused : (g : Given) (m : Fsmd) (answer : Answer) → WhereKnown (held g First) (λ x. Spells x m) → IsOfInputs m Second (held g Second) (FailedToRead g Second) answer → CorrectForRun g answer
 run_refused g m answer t (Unread h) = runs.InputsUnread (is_machine (held g First) m t) h
 run_refused g m answer t (Refused is h) = runs.InputsRefused is (refusal (held g First) (held g Second) m answer t h)
 
-pub where_run_refused : (g : Given) (m : Fsmd) (r : Refusal) → Told (held g First) (λ x. Spells x m) → WhereAnswered (IsOfInputs m Second (held g Second) (FailedToRead g Second)) r → WhereAnswered (DueToRun g) r
+pub where_run_refused : (g : Given) (m : Fsmd) (r : Refusal) → WhereKnown (held g First) (λ x. Spells x m) → WhereAnswered (IsOfInputs m Second (held g Second) (FailedToRead g Second)) r → WhereAnswered (CorrectForRun g) r
 where_run_refused g m (refusals.Answered answer) t h = run_refused g m answer t h
 where_run_refused g m refusals.NoMemory t h = tt
 
 -- ---- two machines
 
-pub pair_told : (h k : Held) (P : Fsmd → Fsmd → Type 0) (a b : Fsmd) → Told h (λ x. Spells x a) → Told k (λ y. Spells y b) → P a b → Told h (λ x. Told k (λ y. SpellPair P x y))
+pub pair_told : (h k : Held) (P : Fsmd → Fsmd → Type 0) (a b : Fsmd) → WhereKnown h (λ x. Spells x a) → WhereKnown k (λ y. Spells y b) → P a b → WhereKnown h (λ x. WhereKnown k (λ y. SpellPair P x y))
 pair_told h k P a b t u p = told_both h k (λ x. Spells x a) (λ y. Spells y b) (SpellPair P) (λ x y s r. record { a = a; b = b; left = s; right = r; meet = p }) t u
 
-pub alike_told : (g : Given) (P : Fsmd → Fsmd → List ℕ → Type 0) (a b : Fsmd) → Told (held g First) (λ x. Spells x a) → Told (held g Second) (λ y. Spells y b) → interface_fault a b ≡ None
-    → Told (held g Third) (P a b) → Told (held g Third) (λ z. PairTold g (AreAlike P z))
+pub alike_told : (g : Given) (P : Fsmd → Fsmd → List ℕ → Type 0) (a b : Fsmd) → WhereKnown (held g First) (λ x. Spells x a) → WhereKnown (held g Second) (λ y. Spells y b) → interface_fault a b ≡ None
+    → WhereKnown (held g Third) (P a b) → WhereKnown (held g Third) (λ z. PairTold g (AreAlike P z))
 alike_told g P a b t u alike w =
     told_map (held g Third) (P a b) (λ z. PairTold g (AreAlike P z)) (λ z p. pair_told (held g First) (held g Second) (AreAlike P z) a b t u (record { alike = alike; meet = p })) w
 
-replay_refused : (g : Given) (a b : Fsmd) (answer : Answer) → Told (held g First) (λ x. Spells x a) → Told (held g Second) (λ y. Spells y b) → interface_fault a b ≡ None
-    → IsOfInputs a Third (held g Third) (FailedToRead g Third) answer → DueToReplay g answer
+replay_refused : (g : Given) (a b : Fsmd) (answer : Answer) → WhereKnown (held g First) (λ x. Spells x a) → WhereKnown (held g Second) (λ y. Spells y b) → interface_fault a b ≡ None
+    → IsOfInputs a Third (held g Third) (FailedToRead g Third) answer → CorrectForReplay g answer
 replay_refused g a b answer t u alike (Unread h) = replays.InputsUnread (pair_told (held g First) (held g Second) (λ m n. interface_fault m n ≡ None) a b t u alike) h
 replay_refused g a b answer t u alike (Refused is h) = replays.InputsRefused is (alike_told g (RefusesBoth answer) a b t u alike h)
 
-pub where_replay_refused : (g : Given) (a b : Fsmd) (r : Refusal) → Told (held g First) (λ x. Spells x a) → Told (held g Second) (λ y. Spells y b) → interface_fault a b ≡ None
-    → WhereAnswered (IsOfInputs a Third (held g Third) (FailedToRead g Third)) r → WhereAnswered (DueToReplay g) r
+pub where_replay_refused : (g : Given) (a b : Fsmd) (r : Refusal) → WhereKnown (held g First) (λ x. Spells x a) → WhereKnown (held g Second) (λ y. Spells y b) → interface_fault a b ≡ None
+    → WhereAnswered (IsOfInputs a Third (held g Third) (FailedToRead g Third)) r → WhereAnswered (CorrectForReplay g) r
 where_replay_refused g a b (refusals.Answered answer) t u alike h = replay_refused g a b answer t u alike h
 where_replay_refused g a b refusals.NoMemory t u alike h = tt
 
 -- ---- what a file of inputs is refused for
 
-held_told : (h : Held) (bytes : List ℕ) (P : List ℕ → Type 0) → AreHeld h bytes → P bytes → Told h P
-held_told Untold bytes P h p = tt
+held_told : (h : Held) (bytes : List ℕ) (P : List ℕ → Type 0) → AreHeld h bytes → P bytes → WhereKnown h P
+held_told Unknown bytes P h p = tt
 held_told Nothing bytes P h p = absurd h
 held_told (Bytes held) bytes P h p = subst P h p
 
@@ -113,22 +113,22 @@ right_stopped a b ins outs steps stop r e s t = if_map r (IsUnended (IsStopText 
 
 -- ---- what a replay answers to its files
 
-pub replayed : (g : Given) (a b : Fsmd) (r : Result Answer Refusal) → Told (held g First) (λ x. Spells x a) → Told (held g Second) (λ y. Spells y b) → interface_fault a b ≡ None
-    → IfOk r IsReplayAnswer → IfOk r (λ answer. Told (held g Third) (Replays answer a b)) → IfOk r (DueToReplay g)
+pub replayed : (g : Given) (a b : Fsmd) (r : Result Answer Refusal) → WhereKnown (held g First) (λ x. Spells x a) → WhereKnown (held g Second) (λ y. Spells y b) → interface_fault a b ≡ None
+    → IfOk r IsReplayAnswer → IfOk r (λ answer. WhereKnown (held g Third) (Replays answer a b)) → IfOk r (CorrectForReplay g)
 replayed g a b (Ok answer) t u alike is due = replays.Replayed is (alike_told g (Replays answer) a b t u alike due)
 replayed g a b (Err e) t u alike is due = tt
 
-pub faces_differ : (g : Given) (a b : Fsmd) (name : List ℕ) → Told (held g First) (λ x. Spells x a) → Told (held g Second) (λ y. Spells y b) → interface_fault a b ≡ Some name → DueToReplay g (Interfaces name)
+pub faces_differ : (g : Given) (a b : Fsmd) (name : List ℕ) → WhereKnown (held g First) (λ x. Spells x a) → WhereKnown (held g Second) (λ y. Spells y b) → interface_fault a b ≡ Some name → CorrectForReplay g (Interfaces name)
 faces_differ g a b name t u e = replays.FacesDiffer tt (pair_told (held g First) (held g Second) (λ m n. IsOfInterfaces m n (Interfaces name)) a b t u e)
 
-pub if_err : (g : Given) (a b : Fsmd) (r : Result Answer Refusal) → Told (held g First) (λ x. Spells x a) → Told (held g Second) (λ y. Spells y b) → interface_fault a b ≡ None
-    → IfErr r (WhereAnswered (IsOfInputs a Third (held g Third) (FailedToRead g Third))) → IfErr r (WhereAnswered (DueToReplay g))
+pub if_err : (g : Given) (a b : Fsmd) (r : Result Answer Refusal) → WhereKnown (held g First) (λ x. Spells x a) → WhereKnown (held g Second) (λ y. Spells y b) → interface_fault a b ≡ None
+    → IfErr r (WhereAnswered (IsOfInputs a Third (held g Third) (FailedToRead g Third))) → IfErr r (WhereAnswered (CorrectForReplay g))
 if_err g a b (Ok answer) t u alike h = tt
 if_err g a b (Err e) t u alike h = where_replay_refused g a b e t u alike h
 
 -- ---- what was put of an answer that is due
 
-pub answered : {E : Type 0} (g : Given) (answer : Answer) (r : Result Status E) (p : Status → Put) → IsDue g answer → IfOk r (λ s. IsPut (reply answer g.words) (status_of answer) (p s)) → IfOk r (λ s. Answered g (p s))
+pub answered : {E : Type 0} (g : Given) (answer : Answer) (r : Result Status E) (p : Status → Put) → IsCorrectAnswer g answer → IfOk r (λ s. IsPut (reply answer g.words) (status_of answer) (p s)) → IfOk r (λ s. Answered g (p s))
 answered g answer (Ok s) p due put = record { answer = answer; due = due; put = put }
 answered g answer (Err e) p due put = tt
 
@@ -149,18 +149,18 @@ both_ended a b ins left right m n same text lines answer le re d shown e is =
 
 -- ---- over the files that the words name
 
-pub replay_told : (h : Held) (a b : Fsmd) (ins : Inputs) (answer : Answer) → Told h (SpellsInputs a ins) → IsOfReplay a b ins answer → Told h (Replays answer a b)
+pub replay_told : (h : Held) (a b : Fsmd) (ins : Inputs) (answer : Answer) → WhereKnown h (SpellsInputs a ins) → IsOfReplay a b ins answer → WhereKnown h (Replays answer a b)
 replay_told h a b ins answer t r = told_map h (SpellsInputs a ins) (Replays answer a b) (λ z s. record { inputs = ins; spells = s; runs = r }) t
 
-pub run_done : (g : Given) (m : Fsmd) (ins : Inputs) (answer : Answer) (h k : Held) → h ≡ held g First → k ≡ held g Second → Told h (λ x. Spells x m) → Told k (SpellsInputs m ins)
-    → IsRunAnswer answer → IsOfRun m ins answer → DueToRun g answer
+pub run_done : (g : Given) (m : Fsmd) (ins : Inputs) (answer : Answer) (h k : Held) → h ≡ held g First → k ≡ held g Second → WhereKnown h (λ x. Spells x m) → WhereKnown k (SpellsInputs m ins)
+    → IsRunAnswer answer → IsOfRun m ins answer → CorrectForRun g answer
 run_done g m ins answer h k e f t u is due =
-    runs.Ran is (ran (held g First) (held g Second) (λ n i. IsOfRun n i answer) m ins (subst (λ o. Told o (λ x. Spells x m)) e t) (subst (λ o. Told o (SpellsInputs m ins)) f u) due)
+    runs.Ran is (ran (held g First) (held g Second) (λ n i. IsOfRun n i answer) m ins (subst (λ o. WhereKnown o (λ x. Spells x m)) e t) (subst (λ o. WhereKnown o (SpellsInputs m ins)) f u) due)
 
-pub replay_done : (g : Given) (a b : Fsmd) (r : Result Answer Refusal) (h k l : Held) → h ≡ held g First → k ≡ held g Second → l ≡ held g Third → Told h (λ x. Spells x a) → Told k (λ y. Spells y b) → interface_fault a b ≡ None
-    → IfOk r IsReplayAnswer → IfOk r (λ answer. Told l (Replays answer a b)) → IfOk r (DueToReplay g)
+pub replay_done : (g : Given) (a b : Fsmd) (r : Result Answer Refusal) (h k l : Held) → h ≡ held g First → k ≡ held g Second → l ≡ held g Third → WhereKnown h (λ x. Spells x a) → WhereKnown k (λ y. Spells y b) → interface_fault a b ≡ None
+    → IfOk r IsReplayAnswer → IfOk r (λ answer. WhereKnown l (Replays answer a b)) → IfOk r (CorrectForReplay g)
 replay_done g a b r h k l e f i t u alike is due =
-    replayed g a b r (subst (λ o. Told o (λ x. Spells x a)) e t) (subst (λ o. Told o (λ y. Spells y b)) f u) alike is (subst (λ o. IfOk r (λ answer. Told o (Replays answer a b))) i due)
+    replayed g a b r (subst (λ o. WhereKnown o (λ x. Spells x a)) e t) (subst (λ o. WhereKnown o (λ y. Spells y b)) f u) alike is (subst (λ o. IfOk r (λ answer. WhereKnown o (Replays answer a b))) i due)
 
-pub faces_done : (g : Given) (a b : Fsmd) (name : List ℕ) (h k : Held) → h ≡ held g First → k ≡ held g Second → Told h (λ x. Spells x a) → Told k (λ y. Spells y b) → interface_fault a b ≡ Some name → DueToReplay g (Interfaces name)
-faces_done g a b name h k e f t u differ = faces_differ g a b name (subst (λ o. Told o (λ x. Spells x a)) e t) (subst (λ o. Told o (λ y. Spells y b)) f u) differ
+pub faces_done : (g : Given) (a b : Fsmd) (name : List ℕ) (h k : Held) → h ≡ held g First → k ≡ held g Second → WhereKnown h (λ x. Spells x a) → WhereKnown k (λ y. Spells y b) → interface_fault a b ≡ Some name → CorrectForReplay g (Interfaces name)
+faces_done g a b name h k e f t u differ = faces_differ g a b name (subst (λ o. WhereKnown o (λ x. Spells x a)) e t) (subst (λ o. WhereKnown o (λ y. Spells y b)) f u) differ

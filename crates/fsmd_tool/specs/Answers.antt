@@ -11,9 +11,9 @@ use Rattle.straight_line.specs.Verdicts.{DiffersAt, DiffersNowhere, StopsOn}
 use Rattle.fsmd_tool.specs.declared.answer.Operand.{Operand}
 use Rattle.fsmd_tool.specs.declared.answer.Operand.TheVariants.{First, Second}
 use Rattle.fsmd_tool.specs.declared.answer.Answer.{Answer}
-use Rattle.fsmd_tool.specs.declared.answer.Answer.TheVariants.{Equivalent, Text, Differs, Unended, Stuck, Wide, Large, TextRefused, CheckRefused, Interfaces, TooLong, NotBuilt, CannotRead}
+use Rattle.fsmd_tool.specs.declared.answer.Answer.TheVariants.{Equivalent, Text, Differs, NoReturn, OutputDiffers, Wide, Large, TextRefused, CheckRefused, Interfaces, TooLong, NotBuilt, CannotRead}
 use Rattle.fsmd_tool.specs.Commands.{word_of}
-use Rattle.fsmd_tool.specs.Texts.{Told, Spells, IsMachine, IsTooLong, HasTextFault, HasCheckFault}
+use Rattle.fsmd_tool.specs.Texts.{WhereKnown, Spells, IsMachine, IsTooLong, HasTextFault, HasCheckFault}
 
 -- the words of a call, what each name held at its begin, and how often each had failed to be read before and at its end
 pub record Given : Type 0 where
@@ -35,9 +35,9 @@ FailedToRead g file = Rose (g.faults_before (word_of g.words file)) (g.faults_no
 
 -- an answer that is due to one file, of which this is told; Failed says that it could not be read
 abbrev pub IsOfFile : Operand → Held → (Failed : Type 0) → Answer → Type 0
-IsOfFile file held Failed (TextRefused which fault) = (which ≡ file) × Told held (HasTextFault fault)
-IsOfFile file held Failed (CheckRefused which fault) = (which ≡ file) × Told held (HasCheckFault fault)
-IsOfFile file held Failed (TooLong which) = (which ≡ file) × Told held IsTooLong
+IsOfFile file held Failed (TextRefused which fault) = (which ≡ file) × WhereKnown held (HasTextFault fault)
+IsOfFile file held Failed (CheckRefused which fault) = (which ≡ file) × WhereKnown held (HasCheckFault fault)
+IsOfFile file held Failed (TooLong which) = (which ≡ file) × WhereKnown held IsTooLong
 IsOfFile file held Failed (CannotRead which) = (which ≡ file) × Failed
 IsOfFile file held Failed _ = ⊥
 
@@ -73,7 +73,7 @@ IsOfPair a b (Interfaces name) = interface_fault a b ≡ Some name
 IsOfPair a b (NotBuilt First) = (interface_fault a b ≡ None) × (is_straight a ≡ false)
 IsOfPair a b (NotBuilt Second) = (interface_fault a b ≡ None) × (is_straight a ≡ true) × (is_straight b ≡ false)
 IsOfPair a b (Equivalent nodes) = AreComparable a b × SameBehaviour a b × DiffersNowhere a b
-IsOfPair a b (Stuck output) = AreComparable a b × IsFirstDifference a b output
+IsOfPair a b (OutputDiffers output) = AreComparable a b × IsFirstDifference a b output
 IsOfPair a b Wide = AreComparable a b × IsPastWeight a b
 IsOfPair a b Large = AreComparable a b × IsPastSize a b
 IsOfPair a b _ = ⊥
@@ -83,7 +83,7 @@ abbrev pub IsVerdict : Answer → Type 0
 IsVerdict (Interfaces name) = Unit {0}
 IsVerdict (NotBuilt file) = Unit {0}
 IsVerdict (Equivalent nodes) = nodes ≡ 2
-IsVerdict (Stuck output) = Unit {0}
+IsVerdict (OutputDiffers output) = Unit {0}
 IsVerdict Wide = Unit {0}
 IsVerdict Large = Unit {0}
 IsVerdict _ = ⊥
@@ -98,7 +98,7 @@ pub record SpellPair (P : Fsmd → Fsmd → Type 0) (x y : List ℕ) : Type 0 wh
 
 -- both files of the command spell machines that meet P, where it is told what they hold
 abbrev pub PairTold : Given → (Fsmd → Fsmd → Type 0) → Type 0
-PairTold g P = Told (held g First) (λ x. Told (held g Second) (λ y. SpellPair P x y))
+PairTold g P = WhereKnown (held g First) (λ x. WhereKnown (held g Second) (λ y. SpellPair P x y))
 
 -- an answer of lines of which P holds: the text that was asked for, two runs with other outputs, or a run without an end
 abbrev pub IsText : (List ℕ → Type 0) → Answer → Type 0
@@ -110,18 +110,18 @@ IsDifference P (Differs lines) = P lines
 IsDifference P _ = ⊥
 
 abbrev pub IsUnended : (List ℕ → Type 0) → Answer → Type 0
-IsUnended P (Unended lines) = P lines
+IsUnended P (NoReturn lines) = P lines
 IsUnended P _ = ⊥
 
 -- the answer that is due to a question about two machines: the first file is refused, or the first file spells a machine and the
 -- second one is refused, or both spell machines
-pub data DueToTwo (g : Given) (answer : Answer) : Type 0 where
-  FirstRefused : IsOfFile First (held g First) (FailedToRead g First) answer → DueToTwo g answer
-  SecondRefused : Told (held g First) IsMachine → IsOfFile Second (held g Second) (FailedToRead g Second) answer → DueToTwo g answer
-  Compared : IsVerdict answer → PairTold g (λ a b. IsOfPair a b answer) → DueToTwo g answer
+pub data CorrectForTwo (g : Given) (answer : Answer) : Type 0 where
+  FirstRefused : IsOfFile First (held g First) (FailedToRead g First) answer → CorrectForTwo g answer
+  SecondRefused : WhereKnown (held g First) IsMachine → IsOfFile Second (held g Second) (FailedToRead g Second) answer → CorrectForTwo g answer
+  Compared : IsVerdict answer → PairTold g (λ a b. IsOfPair a b answer) → CorrectForTwo g answer
 
 -- the answer that is due to a question about one machine: the file is refused, or the answer is a text of which P holds with the
 -- bytes of the file
-pub data DueToOne (P : (text bytes : List ℕ) → Type 0) (g : Given) (answer : Answer) : Type 0 where
-  Refused : IsOfFile First (held g First) (FailedToRead g First) answer → DueToOne P g answer
-  Listed : IsText (λ text. Unit {0}) answer → Told (held g First) (λ bytes. IsText (λ text. P text bytes) answer) → DueToOne P g answer
+pub data CorrectForOne (P : (text bytes : List ℕ) → Type 0) (g : Given) (answer : Answer) : Type 0 where
+  Refused : IsOfFile First (held g First) (FailedToRead g First) answer → CorrectForOne P g answer
+  Listed : IsText (λ text. Unit {0}) answer → WhereKnown (held g First) (λ bytes. IsText (λ text. P text bytes) answer) → CorrectForOne P g answer

@@ -14,27 +14,27 @@ use Rattle.fsmd_tool.specs.Puts.{Put, IsPut}
 use Rattle.fsmd_tool.specs.Commands.{command_of, names}
 use Rattle.fsmd_tool.specs.Texts.{HasCanonicalText}
 use Rattle.fsmd_tool.specs.Paths.{HasPaths}
-use Rattle.fsmd_tool.specs.Answers.{Given, FailedToRead, PairTold, DueToTwo, DueToOne}
-use Rattle.fsmd_tool.specs.Runs.{DueToRun}
-use Rattle.fsmd_tool.specs.Replays.{DueToReplay}
+use Rattle.fsmd_tool.specs.Answers.{Given, FailedToRead, PairTold, CorrectForTwo, CorrectForOne}
+use Rattle.fsmd_tool.specs.Runs.{CorrectForRun}
+use Rattle.fsmd_tool.specs.Replays.{CorrectForReplay}
 
 -- the answer that is due to a command, or to words that are none
-abbrev pub IsDueTo : Option Command → Given → Answer → Type 0
-IsDueTo None g answer = answer ≡ Usage
-IsDueTo (Some Check) g answer = DueToTwo g answer
-IsDueTo (Some Fmt) g answer = DueToOne HasCanonicalText g answer
-IsDueTo (Some Cuts) g answer = DueToOne HasPaths g answer
-IsDueTo (Some Run) g answer = DueToRun g answer
-IsDueTo (Some Replay) g answer = DueToReplay g answer
+abbrev pub IsCorrectAnswerTo : Option Command → Given → Answer → Type 0
+IsCorrectAnswerTo None g answer = answer ≡ Usage
+IsCorrectAnswerTo (Some Check) g answer = CorrectForTwo g answer
+IsCorrectAnswerTo (Some Fmt) g answer = CorrectForOne HasCanonicalText g answer
+IsCorrectAnswerTo (Some Cuts) g answer = CorrectForOne HasPaths g answer
+IsCorrectAnswerTo (Some Run) g answer = CorrectForRun g answer
+IsCorrectAnswerTo (Some Replay) g answer = CorrectForReplay g answer
 
 -- the answer that is due
-abbrev pub IsDue : Given → Answer → Type 0
-IsDue g answer = IsDueTo (command_of g.words) g answer
+abbrev pub IsCorrectAnswer : Given → Answer → Type 0
+IsCorrectAnswer g answer = IsCorrectAnswerTo (command_of g.words) g answer
 
 -- an answer that is due was put with its status, whole or cut by a sink that failed
 pub record Answered (g : Given) (p : Put) : Type 0 where
   pub answer : Answer
-  pub due : IsDue g answer
+  pub due : IsCorrectAnswer g answer
   pub put : IsPut (reply answer g.words) (status_of answer) p
 
 -- there was no memory, and nothing was put

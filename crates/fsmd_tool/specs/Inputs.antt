@@ -9,7 +9,7 @@ use Rattle.fs_inputs.specs.Refusals.{IsFaulty, IsRefused, Spells}
 use Rattle.fsmd_tool.specs.declared.answer.Operand.{Operand}
 use Rattle.fsmd_tool.specs.declared.answer.Answer.{Answer}
 use Rattle.fsmd_tool.specs.declared.answer.Answer.TheVariants.{TooLong, CannotRead, NotJson, InputRefused}
-use Rattle.fsmd_tool.specs.Texts.{Told, IsTooLong, most_bytes}
+use Rattle.fsmd_tool.specs.Texts.{WhereKnown, IsTooLong, most_bytes}
 
 -- the names and sorts of a machine's inputs
 abbrev pub faces : Fsmd → List Face
@@ -17,7 +17,7 @@ faces m = input_faces m.variables
 
 -- an answer to a file whose bytes are not read; Failed says that it could not be
 abbrev pub IsUnread : Operand → Held → (Failed : Type 0) → Answer → Type 0
-IsUnread file held Failed (TooLong which) = (which ≡ file) × Told held IsTooLong
+IsUnread file held Failed (TooLong which) = (which ≡ file) × WhereKnown held IsTooLong
 IsUnread file held Failed (CannotRead which) = (which ≡ file) × Failed
 IsUnread file held Failed _ = ⊥
 

@@ -5,7 +5,7 @@ use Rattle.fs_model.specs.Machines.{Fsmd}
 use Rattle.fs_ast.specs.Spelled.{machine_of}
 use Rattle.fs_base.specs.Outside.{Held}
 use Rattle.fsmd_tool.specs.declared.answer.Operand.{Operand}
-use Rattle.fsmd_tool.specs.Texts.{Told, SpellsParts}
+use Rattle.fsmd_tool.specs.Texts.{WhereKnown, SpellsParts}
 use Rattle.fsmd_tool.specs.Inputs.{IsUnread, IsInputsAnswer, RefusesInputs}
 use Rattle.fsmd_tool.specs.declared.answer.Answer.{Answer}
 use Rattle.fsmd_tool.specs.declared.load.Refused.{Refused as Refusal}
@@ -24,4 +24,4 @@ pub record IsLoaded (bytes : List ℕ) (parts : Source) (m : Fsmd) : Type 0 wher
 -- an answer that refuses a file of a machine's inputs: its bytes are not read, or what is in them is refused
 pub data IsOfInputs (m : Fsmd) (file : Operand) (held : Held) (Failed : Type 0) (answer : Answer) : Type 0 where
   Unread : IsUnread file held Failed answer → IsOfInputs m file held Failed answer
-  Refused : IsInputsAnswer file answer → Told held (RefusesInputs m answer) → IsOfInputs m file held Failed answer
+  Refused : IsInputsAnswer file answer → WhereKnown held (RefusesInputs m answer) → IsOfInputs m file held Failed answer

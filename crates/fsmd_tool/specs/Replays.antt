@@ -10,8 +10,8 @@ use Rattle.fs_show.specs.Items.{Outputs, SameOutputs}
 use Rattle.fs_show.specs.Ends.{IsReplayText, IsStopText}
 use Rattle.fsmd_tool.specs.declared.answer.Operand.TheVariants.{First, Second, Third}
 use Rattle.fsmd_tool.specs.declared.answer.Answer.{Answer}
-use Rattle.fsmd_tool.specs.declared.answer.Answer.TheVariants.{Text, Differs, Unended, Interfaces}
-use Rattle.fsmd_tool.specs.Texts.{Told, IsMachine}
+use Rattle.fsmd_tool.specs.declared.answer.Answer.TheVariants.{Text, Differs, NoReturn, Interfaces}
+use Rattle.fsmd_tool.specs.Texts.{WhereKnown, IsMachine}
 use Rattle.fsmd_tool.specs.Inputs.{IsUnread, IsInputsAnswer, RefusesInputs, SpellsInputs}
 use Rattle.fsmd_tool.specs.Answers.{Given, held, FailedToRead, IsOfFile, PairTold, IsText, IsDifference, IsUnended}
 use Rattle.fsmd_tool.specs.Runs.{most_steps, Ends}
@@ -37,7 +37,7 @@ pub data IsOfReplay (a b : Fsmd) (ins : Inputs) (answer : Answer) : Type 0 where
 abbrev pub IsReplayAnswer : Answer → Type 0
 IsReplayAnswer (Text lines) = Unit {0}
 IsReplayAnswer (Differs lines) = Unit {0}
-IsReplayAnswer (Unended lines) = Unit {0}
+IsReplayAnswer (NoReturn lines) = Unit {0}
 IsReplayAnswer _ = ⊥
 
 -- the inputs and outputs of two machines differ first at the name that is answered
@@ -67,10 +67,10 @@ pub record Replays (answer : Answer) (a b : Fsmd) (z : List ℕ) : Type 0 where
 
 -- the answer that is due to a replay: a machine's file is refused, the first one's first; or the machines have other inputs or
 -- outputs; or the file of inputs can't be read, or is no file of their inputs, or spells inputs from which both run
-pub data DueToReplay (g : Given) (answer : Answer) : Type 0 where
-  LeftRefused : IsOfFile First (held g First) (FailedToRead g First) answer → DueToReplay g answer
-  RightRefused : Told (held g First) IsMachine → IsOfFile Second (held g Second) (FailedToRead g Second) answer → DueToReplay g answer
-  FacesDiffer : IsInterfacesAnswer answer → PairTold g (λ a b. IsOfInterfaces a b answer) → DueToReplay g answer
-  InputsUnread : PairTold g (λ a b. interface_fault a b ≡ None) → IsUnread Third (held g Third) (FailedToRead g Third) answer → DueToReplay g answer
-  InputsRefused : IsInputsAnswer Third answer → Told (held g Third) (λ z. PairTold g (AreAlike (RefusesBoth answer) z)) → DueToReplay g answer
-  Replayed : IsReplayAnswer answer → Told (held g Third) (λ z. PairTold g (AreAlike (Replays answer) z)) → DueToReplay g answer
+pub data CorrectForReplay (g : Given) (answer : Answer) : Type 0 where
+  LeftRefused : IsOfFile First (held g First) (FailedToRead g First) answer → CorrectForReplay g answer
+  RightRefused : WhereKnown (held g First) IsMachine → IsOfFile Second (held g Second) (FailedToRead g Second) answer → CorrectForReplay g answer
+  FacesDiffer : IsInterfacesAnswer answer → PairTold g (λ a b. IsOfInterfaces a b answer) → CorrectForReplay g answer
+  InputsUnread : PairTold g (λ a b. interface_fault a b ≡ None) → IsUnread Third (held g Third) (FailedToRead g Third) answer → CorrectForReplay g answer
+  InputsRefused : IsInputsAnswer Third answer → WhereKnown (held g Third) (λ z. PairTold g (AreAlike (RefusesBoth answer) z)) → CorrectForReplay g answer
+  Replayed : IsReplayAnswer answer → WhereKnown (held g Third) (λ z. PairTold g (AreAlike (Replays answer) z)) → CorrectForReplay g answer

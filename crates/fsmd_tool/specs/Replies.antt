@@ -7,7 +7,7 @@ use Rattle.fs_ast.specs.declared.check.CheckRule.TheVariants.{TwiceNamed, Unknow
 use Rattle.fs_inputs.specs.declared.faults.Fault.{Fault}
 use Rattle.fs_inputs.specs.declared.faults.Fault.TheVariants.{Shape, Unknown, TooBig}
 use Rattle.fsmd_tool.specs.declared.answer.Answer.{Answer}
-use Rattle.fsmd_tool.specs.declared.answer.Answer.TheVariants.{Usage, Equivalent, Text, Differs, Unended, Stuck, Wide, Large, TextRefused, CheckRefused, NotJson, InputRefused, Interfaces, TooLong, NotBuilt, CannotRead}
+use Rattle.fsmd_tool.specs.declared.answer.Answer.TheVariants.{Usage, Equivalent, Text, Differs, NoReturn, OutputDiffers, Wide, Large, TextRefused, CheckRefused, NotJson, InputRefused, Interfaces, TooLong, NotBuilt, CannotRead}
 use Rattle.fsmd_tool.specs.Commands.{word_of}
 
 -- the name of what is wrong in a text
@@ -46,8 +46,8 @@ reply Usage words =
 reply (Equivalent nodes) words = codes "equivalent: " ++ (decimal nodes ++ codes " nodes\n")
 reply (Text lines) words = lines
 reply (Differs lines) words = lines
-reply (Unended lines) words = lines
-reply (Stuck output) words = codes "undecided: output " ++ (output ++ codes " at start.0>done | start.0>done\n")
+reply (NoReturn lines) words = lines
+reply (OutputDiffers output) words = codes "undecided: output " ++ (output ++ codes " at start.0>done | start.0>done\n")
 reply Wide words = codes "undecided: coefficient past 128 bits at start.0>done | start.0>done\n"
 reply Large words = codes "undecided: term too large at start.0>done | start.0>done\n"
 reply (TextRefused file fault) words =

@@ -10,8 +10,8 @@ use Rattle.fs_show.specs.Items.{Outputs}
 use Rattle.fs_show.specs.Ends.{IsEndText, IsStopText}
 use Rattle.fsmd_tool.specs.declared.answer.Operand.TheVariants.{First, Second}
 use Rattle.fsmd_tool.specs.declared.answer.Answer.{Answer}
-use Rattle.fsmd_tool.specs.declared.answer.Answer.TheVariants.{Text, Unended}
-use Rattle.fsmd_tool.specs.Texts.{Told, Spells, IsMachine}
+use Rattle.fsmd_tool.specs.declared.answer.Answer.TheVariants.{Text, NoReturn}
+use Rattle.fsmd_tool.specs.Texts.{WhereKnown, Spells, IsMachine}
 use Rattle.fsmd_tool.specs.Inputs.{IsUnread, IsInputsAnswer, RefusesInputs, SpellsInputs}
 use Rattle.fsmd_tool.specs.Answers.{Given, held, FailedToRead, IsOfFile, IsText, IsUnended}
 
@@ -34,7 +34,7 @@ pub data IsOfRun (m : Fsmd) (ins : Inputs) (answer : Answer) : Type 0 where
 -- an answer that a run may get
 abbrev pub IsRunAnswer : Answer → Type 0
 IsRunAnswer (Text lines) = Unit {0}
-IsRunAnswer (Unended lines) = Unit {0}
+IsRunAnswer (NoReturn lines) = Unit {0}
 IsRunAnswer _ = ⊥
 
 -- bytes spell a machine and others its inputs, that meet P
@@ -53,8 +53,8 @@ pub record SpellRefusal (answer : Answer) (x y : List ℕ) : Type 0 where
 
 -- the answer that is due to a run: the file of the machine is refused, or it spells one and the file of inputs can't be read, or
 -- is no file of its inputs, or spells inputs from which the machine runs
-pub data DueToRun (g : Given) (answer : Answer) : Type 0 where
-  MachineRefused : IsOfFile First (held g First) (FailedToRead g First) answer → DueToRun g answer
-  InputsUnread : Told (held g First) IsMachine → IsUnread Second (held g Second) (FailedToRead g Second) answer → DueToRun g answer
-  InputsRefused : IsInputsAnswer Second answer → Told (held g First) (λ x. Told (held g Second) (SpellRefusal answer x)) → DueToRun g answer
-  Ran : IsRunAnswer answer → Told (held g First) (λ x. Told (held g Second) (SpellRun (λ m ins. IsOfRun m ins answer) x)) → DueToRun g answer
+pub data CorrectForRun (g : Given) (answer : Answer) : Type 0 where
+  MachineRefused : IsOfFile First (held g First) (FailedToRead g First) answer → CorrectForRun g answer
+  InputsUnread : WhereKnown (held g First) IsMachine → IsUnread Second (held g Second) (FailedToRead g Second) answer → CorrectForRun g answer
+  InputsRefused : IsInputsAnswer Second answer → WhereKnown (held g First) (λ x. WhereKnown (held g Second) (SpellRefusal answer x)) → CorrectForRun g answer
+  Ran : IsRunAnswer answer → WhereKnown (held g First) (λ x. WhereKnown (held g Second) (SpellRun (λ m ins. IsOfRun m ins answer) x)) → CorrectForRun g answer

@@ -1,6 +1,6 @@
 -- What the bytes of a file spell, where it is told what they are.
 use Rattle.std.specs.Prelude.{◌≡◌, ℕ, ◌<◌, ◌≤◌, List, length, Ok, Err}
-use Rattle.fs_base.specs.Outside.{Held, Untold, Nothing, Bytes}
+use Rattle.fs_base.specs.Outside.{Held, Unknown, Nothing, Bytes}
 use Rattle.fs_model.specs.Source.{Source}
 use Rattle.fs_model.specs.Machines.{Fsmd}
 use Rattle.fs_grammar.specs.declared.fault.TextFault.{TextFault}
@@ -15,10 +15,10 @@ abbrev pub most_bytes : ℕ
 most_bytes = 1048576
 
 -- P of the bytes that a name holds, where it is told what it holds
-abbrev pub Told : Held → (List ℕ → Type 0) → Type 0
-Told Untold P = Unit {0}
-Told Nothing P = ⊥
-Told (Bytes bytes) P = P bytes
+abbrev pub WhereKnown : Held → (List ℕ → Type 0) → Type 0
+WhereKnown Unknown P = Unit {0}
+WhereKnown Nothing P = ⊥
+WhereKnown (Bytes bytes) P = P bytes
 
 -- the bytes spell this machine
 pub record Spells (bytes : List ℕ) (m : Fsmd) : Type 0 where

@@ -101,11 +101,11 @@ pub enum Answer {
         lines: Lines,
     },
     /// A run that has no end within the limits.
-    Unended {
+    NoReturn {
         lines: Lines,
     },
     /// The terms of an output differ.
-    Stuck {
+    OutputDiffers {
         output: Name,
     },
     /// A coefficient may be past 128 bits.
@@ -158,7 +158,7 @@ impl Answer {
         match self {
             Answer::Equivalent { .. } | Answer::Text { .. } => Status::Fine,
             Answer::Differs { .. } => Status::Differ,
-            Answer::Stuck { .. } | Answer::Wide | Answer::Large | Answer::Unended { .. } => {
+            Answer::OutputDiffers { .. } | Answer::Wide | Answer::Large | Answer::NoReturn { .. } => {
                 Status::Undecided
             }
             Answer::Usage => Status::Usage,

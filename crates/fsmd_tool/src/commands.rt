@@ -5,11 +5,11 @@ ghost use Rattle.std.specs.Result.{IfErr};
 ghost use Rattle.fs_base.specs.Outside.{Rose, NoneFell, SameHeld};
 ghost use Rattle.fs_pair.specs.Faces.{interface_fault};
 ghost use Rattle.fsmd_tool.specs.declared.answer.Operand.TheVariants as operands;
-ghost use Rattle.fsmd_tool.specs.Texts.{Told, HasCanonicalText};
+ghost use Rattle.fsmd_tool.specs.Texts.{WhereKnown, HasCanonicalText};
 ghost use Rattle.fsmd_tool.specs.Paths.{HasPaths};
-ghost use Rattle.fsmd_tool.specs.Answers.{DueToTwo, DueToOne, given};
-ghost use Rattle.fsmd_tool.specs.Runs.{DueToRun};
-ghost use Rattle.fsmd_tool.specs.Replays.{IsReplayAnswer, Replays, DueToReplay};
+ghost use Rattle.fsmd_tool.specs.Answers.{CorrectForTwo, CorrectForOne, given};
+ghost use Rattle.fsmd_tool.specs.Runs.{CorrectForRun};
+ghost use Rattle.fsmd_tool.specs.Replays.{IsReplayAnswer, Replays, CorrectForReplay};
 ghost use Rattle.fsmd_tool.specs.Refusals.{WhereAnswered, IsOfInputs};
 
 use crate::answer::{Answer, Lines, Operand};
@@ -27,9 +27,9 @@ use std::alloc::{AllocError, Global};
 
 /// What `check` answers to two files.
 pub fn check<F: Files>(alloc: Global, words: &[String], files: &mut F) -> Result<Answer, Refused>
-    ensures ok { IfOk result (DueToTwo
+    ensures ok { IfOk result (CorrectForTwo
         (given (map string_bytes words.now) (F.holds files.old) (F.faults files.old) (F.faults files.new))) }
-    ensures refused { IfErr result (WhereAnswered (DueToTwo
+    ensures refused { IfErr result (WhereAnswered (CorrectForTwo
         (given (map string_bytes words.now) (F.holds files.old) (F.faults files.old) (F.faults files.new)))) }
     ensures counts { NoneFell (F.faults files.old) (F.faults files.new) }
     ensures unchanged { SameHeld (F.holds files.old) (F.holds files.new) }
@@ -47,9 +47,9 @@ pub fn format_text<F: Files>(
     words: &[String],
     files: &mut F,
 ) -> Result<Answer, Refused>
-    ensures ok { IfOk result (DueToOne HasCanonicalText
+    ensures ok { IfOk result (CorrectForOne HasCanonicalText
         (given (map string_bytes words.now) (F.holds files.old) (F.faults files.old) (F.faults files.new))) }
-    ensures refused { IfErr result (WhereAnswered (DueToOne HasCanonicalText
+    ensures refused { IfErr result (WhereAnswered (CorrectForOne HasCanonicalText
         (given (map string_bytes words.now) (F.holds files.old) (F.faults files.old) (F.faults files.new)))) }
     ensures counts { NoneFell (F.faults files.old) (F.faults files.new) }
     ensures unchanged { SameHeld (F.holds files.old) (F.holds files.new) }
@@ -70,9 +70,9 @@ pub fn cut_paths<F: Files>(
     words: &[String],
     files: &mut F,
 ) -> Result<Answer, Refused>
-    ensures ok { IfOk result (DueToOne HasPaths
+    ensures ok { IfOk result (CorrectForOne HasPaths
         (given (map string_bytes words.now) (F.holds files.old) (F.faults files.old) (F.faults files.new))) }
-    ensures refused { IfErr result (WhereAnswered (DueToOne HasPaths
+    ensures refused { IfErr result (WhereAnswered (CorrectForOne HasPaths
         (given (map string_bytes words.now) (F.holds files.old) (F.faults files.old) (F.faults files.new)))) }
     ensures counts { NoneFell (F.faults files.old) (F.faults files.new) }
     ensures unchanged { SameHeld (F.holds files.old) (F.holds files.new) }
@@ -89,9 +89,9 @@ pub fn run_files<F: Files>(
     words: &[String],
     files: &mut F,
 ) -> Result<Answer, Refused>
-    ensures ok { IfOk result (DueToRun
+    ensures ok { IfOk result (CorrectForRun
         (given (map string_bytes words.now) (F.holds files.old) (F.faults files.old) (F.faults files.new))) }
-    ensures refused { IfErr result (WhereAnswered (DueToRun
+    ensures refused { IfErr result (WhereAnswered (CorrectForRun
         (given (map string_bytes words.now) (F.holds files.old) (F.faults files.old) (F.faults files.new)))) }
     ensures counts { NoneFell (F.faults files.old) (F.faults files.new) }
     ensures unchanged { SameHeld (F.holds files.old) (F.holds files.new) }
@@ -128,7 +128,7 @@ fn replay_from<F: Files>(
 ) -> Result<Answer, Refused>
     requires { interface_fault left.now right.now ≡ None }
     ensures answer { IfOk result IsReplayAnswer }
-    ensures due { IfOk result (λ answer. Told (F.holds files.old word.now) (Replays answer left.now right.now)) }
+    ensures due { IfOk result (λ answer. WhereKnown (F.holds files.old word.now) (Replays answer left.now right.now)) }
     ensures refused { IfErr result (WhereAnswered (IsOfInputs left.now operands.Third (F.holds files.old word.now) (Rose (F.faults files.old word.now) (F.faults files.new word.now)))) }
     ensures counts { NoneFell (F.faults files.old) (F.faults files.new) }
     ensures unchanged { SameHeld (F.holds files.old) (F.holds files.new) }
@@ -143,9 +143,9 @@ pub fn replay_files<F: Files>(
     words: &[String],
     files: &mut F,
 ) -> Result<Answer, Refused>
-    ensures ok { IfOk result (DueToReplay
+    ensures ok { IfOk result (CorrectForReplay
         (given (map string_bytes words.now) (F.holds files.old) (F.faults files.old) (F.faults files.new))) }
-    ensures refused { IfErr result (WhereAnswered (DueToReplay
+    ensures refused { IfErr result (WhereAnswered (CorrectForReplay
         (given (map string_bytes words.now) (F.holds files.old) (F.faults files.old) (F.faults files.new)))) }
     ensures counts { NoneFell (F.faults files.old) (F.faults files.new) }
     ensures unchanged { SameHeld (F.holds files.old) (F.holds files.new) }

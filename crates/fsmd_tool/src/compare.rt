@@ -23,7 +23,7 @@ fn name_of(alloc: Global, machine: &Machine, variable: VarId) -> Result<Name, Al
     }
 }
 
-fn compare_alike(alloc: Global, a: &Machine, b: &Machine) -> Result<Answer, AllocError>
+fn compare_same_interface(alloc: Global, a: &Machine, b: &Machine) -> Result<Answer, AllocError>
     requires { interface_fault a.now b.now ≡ None }
     ensures verdict { IfOk result IsVerdict }
     ensures due { IfOk result (IsOfPair a.now b.now) }
@@ -32,7 +32,7 @@ fn compare_alike(alloc: Global, a: &Machine, b: &Machine) -> Result<Answer, Allo
         Ok(Verdict::Same) => Ok(Answer::Equivalent { nodes: 2 }),
         Ok(Verdict::Differs { output }) => {
             let output = name_of(alloc, a, output)?;
-            Ok(Answer::Stuck { output })
+            Ok(Answer::OutputDiffers { output })
         }
         Ok(Verdict::Wide { .. }) => Ok(Answer::Wide),
         Ok(Verdict::Large { .. }) => Ok(Answer::Large),
@@ -52,7 +52,7 @@ pub fn compare(alloc: Global, a: &Machine, b: &Machine) -> Result<Answer, AllocE
     ensures due { IfOk result (IsOfPair a.now b.now) }
 {
     match same_interface(alloc, a, b) {
-        Ok(_) => compare_alike(alloc, a, b),
+        Ok(_) => compare_same_interface(alloc, a, b),
         Err(FaceError::Interface { name }) => Ok(Answer::Interfaces { name }),
         Err(FaceError::NoMemory) => Err(AllocError),
     }

@@ -5,7 +5,7 @@ ghost use Rattle.std.specs.Result.{IfErr, OnErr};
 ghost use Rattle.fs_base.specs.Outside.{NoneFell, SameHeld};
 ghost use Rattle.fsmd_tool.specs.Commands.{command_of};
 ghost use Rattle.fsmd_tool.specs.Answers.{given};
-ghost use Rattle.fsmd_tool.specs.Due.{IsDueTo, IsDue, Answered, Outcome, SaysSame, HasCause};
+ghost use Rattle.fsmd_tool.specs.Due.{IsCorrectAnswerTo, IsCorrectAnswer, Answered, Outcome, SaysSame, HasCause};
 ghost use Rattle.fsmd_tool.specs.Puts.{put};
 ghost use Rattle.fsmd_tool.specs.Refusals.{WhereAnswered};
 ghost use Rattle.fsmd_tool.specs.declared.command.Command.TheVariants.{Check};
@@ -20,15 +20,15 @@ use fs_base::outside::{Files, Sink};
 use std::alloc::{AllocError, Global};
 
 // What is answered to the words of a command.
-fn obey<F: Files>(
+fn answer_command<F: Files>(
     alloc: Global,
     command: Command,
     words: &[String],
     files: &mut F,
 ) -> Result<Answer, Refused>
-    ensures ok { IfOk result (IsDueTo (Some command)
+    ensures ok { IfOk result (IsCorrectAnswerTo (Some command)
         (given (map string_bytes words.now) (F.holds files.old) (F.faults files.old) (F.faults files.new))) }
-    ensures refused { IfErr result (WhereAnswered (IsDueTo (Some command)
+    ensures refused { IfErr result (WhereAnswered (IsCorrectAnswerTo (Some command)
         (given (map string_bytes words.now) (F.holds files.old) (F.faults files.old) (F.faults files.new)))) }
     ensures counts { NoneFell (F.faults files.old) (F.faults files.new) }
     ensures unchanged { SameHeld (F.holds files.old) (F.holds files.new) }
@@ -44,7 +44,7 @@ fn obey<F: Files>(
 
 // What is answered to the words.
 fn answer<F: Files>(alloc: Global, words: &[String], files: &mut F) -> Result<Answer, AllocError>
-    ensures due { IfOk result (IsDue
+    ensures due { IfOk result (IsCorrectAnswer
         (given (map string_bytes words.now) (F.holds files.old) (F.faults files.old) (F.faults files.new))) }
     ensures counts { NoneFell (F.faults files.old) (F.faults files.new) }
     ensures unchanged { SameHeld (F.holds files.old) (F.holds files.new) }
@@ -52,7 +52,7 @@ fn answer<F: Files>(alloc: Global, words: &[String], files: &mut F) -> Result<An
     let Some(command) = command_of(words) else {
         return Ok(Answer::Usage);
     };
-    match obey(alloc, command, words, files) {
+    match answer_command(alloc, command, words, files) {
         Ok(answer) => Ok(answer),
         Err(Refused::Answered(answer)) => Ok(answer),
         Err(Refused::NoMemory) => Err(AllocError),

@@ -5,7 +5,7 @@ ghost use Rattle.std.specs.Result.{IfErr};
 ghost use Rattle.fs_base.specs.Outside.{Rose, NoneFell, SameHeld, AreHeld};
 ghost use Rattle.fs_model.specs.View.{source_of};
 ghost use Rattle.fs_model.specs.WellFormed.{is_well_formed};
-ghost use Rattle.fsmd_tool.specs.Texts.{Told, Spells, most_bytes};
+ghost use Rattle.fsmd_tool.specs.Texts.{WhereKnown, Spells, most_bytes};
 ghost use Rattle.fsmd_tool.specs.Answers.{IsOfFile};
 ghost use Rattle.fs_runs.specs.Given.{Face, faces_of, inputs_of, Serves};
 ghost use Rattle.fs_inputs.specs.Refusals.{IsRefused};
@@ -81,7 +81,7 @@ pub fn load<F: Files>(
     word: &str,
     files: &mut F,
 ) -> Result<Loaded, Refused>
-    ensures ok { IfOk result (λ l. Told (F.holds files.old word.now) (λ bytes. IsLoaded bytes (source_of l.parts) l.machine)) }
+    ensures ok { IfOk result (λ l. WhereKnown (F.holds files.old word.now) (λ bytes. IsLoaded bytes (source_of l.parts) l.machine)) }
     ensures well_formed { IfOk result (λ l. IsTrue (is_well_formed (source_of l.parts))) }
     ensures refused { IfErr result (WhereAnswered (IsOfFile file (F.holds files.old word.now) (Rose (F.faults files.old word.now) (F.faults files.new word.now)))) }
     ensures counts { NoneFell (F.faults files.old) (F.faults files.new) }
@@ -111,7 +111,7 @@ pub fn load_machine<F: Files>(
     word: &str,
     files: &mut F,
 ) -> Result<Machine, Refused>
-    ensures ok { IfOk result (λ m. Told (F.holds files.old word.now) (λ bytes. Spells bytes m)) }
+    ensures ok { IfOk result (λ m. WhereKnown (F.holds files.old word.now) (λ bytes. Spells bytes m)) }
     ensures refused { IfErr result (WhereAnswered (IsOfFile file (F.holds files.old word.now) (Rose (F.faults files.old word.now) (F.faults files.new word.now)))) }
     ensures counts { NoneFell (F.faults files.old) (F.faults files.new) }
     ensures unchanged { SameHeld (F.holds files.old) (F.holds files.new) }
@@ -150,7 +150,7 @@ pub fn load_inputs<F: Files>(
     machine: &Machine,
     files: &mut F,
 ) -> Result<Inputs, Refused>
-    ensures ok { IfOk result (λ i. Told (F.holds files.old word.now) (SpellsInputs machine.now (inputs_of i))) }
+    ensures ok { IfOk result (λ i. WhereKnown (F.holds files.old word.now) (SpellsInputs machine.now (inputs_of i))) }
     ensures faces { IfOk result (λ i. faces_of i ≡ faces machine.now) }
     ensures serves { IfOk result (λ i. Serves (faces_of i) machine.now) }
     ensures refused { IfErr result (WhereAnswered (IsOfInputs machine.now file (F.holds files.old word.now) (Rose (F.faults files.old word.now) (F.faults files.new word.now)))) }

@@ -138,7 +138,7 @@ pub fn reply(alloc: Global, answer: &Answer, words: &[String]) -> Result<Vec<u8>
     ensures { IfOk result (λ bytes. bytes.items ≡ reply answer.now (map string_bytes words.now)) }
 {
     let text = match answer {
-        Answer::Stuck { output } => {
+        Answer::OutputDiffers { output } => {
             return with_name(
                 alloc,
                 "undecided: output ",
@@ -149,7 +149,7 @@ pub fn reply(alloc: Global, answer: &Answer, words: &[String]) -> Result<Vec<u8>
         Answer::Interfaces { name } => {
             return with_name(alloc, "bad input: interface: ", name, "\n");
         }
-        Answer::Text { lines } | Answer::Differs { lines } | Answer::Unended { lines } => {
+        Answer::Text { lines } | Answer::Differs { lines } | Answer::NoReturn { lines } => {
             return lines.bytes().to_vec(alloc);
         }
         Answer::InputRefused { file, fault, name } => {

@@ -25,7 +25,7 @@ fn unended(alloc: Global, side: Side, stop: RunStop) -> Result<Answer, AllocErro
     ensures { IfOk result (IsUnended (IsStopText side stop)) }
 {
     match stop_text(alloc, side, stop) {
-        Ok(text) => Ok(Answer::Unended {
+        Ok(text) => Ok(Answer::NoReturn {
             lines: Lines::of(text),
         }),
         Err(_) => Err(AllocError),

@@ -6,14 +6,14 @@ use Rattle.fs_model.specs.declared.parts.Role.{Role}
 use Rattle.fs_model.specs.declared.parts.Role.TheVariants.{Local}
 use Rattle.fs_model.specs.declared.parts.Sort.{Sort}
 use Rattle.fs_model.specs.declared.parts.Sort.TheVariants as sorts
-use Rattle.fs_model.specs.Terms.{Term, Formula, Test, Action, Assign}
+use Rattle.fs_model.specs.Terms.{Term, Guard, Test, Assignment, Assign}
 use Rattle.fs_model.specs.Terms as terms
-use Rattle.fs_model.specs.Source.{Declaration, SourceLine, SourceState, Source}
+use Rattle.fs_model.specs.Source.{Declaration, SourceTransition, SourceState, Source}
 use Rattle.fs_grammar.specs.Grammar.{Destination}
 use Rattle.fs_grammar.specs.declared.token.TokenKind.{TokenKind}
 use Rattle.fs_grammar.specs.declared.token.TokenKind.TheVariants.{Fsmd, Declare, Array, Reset, State, When, Goto, Name, Number, Semicolon, Colon, Comma, Equals, OpenParen, CloseParen, OpenBracket, CloseBracket, OpenBrace, CloseBrace, Plus, Minus, Star, Slash, Percent, Bang, AndAnd, OrOr, Relation}
 use Rattle.grammar_laws.specs.Spelling as spelling
-use Rattle.grammar_laws.specs.Spelling.{Word, at, IsFactor, IsProduct, IsSum, IsUnit, IsConjunction, IsGuard, IsDestination, IsAction, AreActions, AreEffects, IsCondition, IsLine, AreLines, IsState, AreStates, AreNames, IsKind, IsDeclaration, AreDeclarations, IsFile}
+use Rattle.grammar_laws.specs.Spelling.{Word, at, IsFactor, IsProduct, IsSum, IsUnit, IsConjunction, IsGuard, IsDestination, IsAssignment, AreAssignments, AreEffects, IsCondition, IsLine, AreLines, IsState, AreStates, AreNames, IsKind, IsDeclaration, AreDeclarations, IsFile}
 use Rattle.grammar_laws.specs.Beginnings as rules
 use Rattle.grammar_laws.specs.Beginnings.{Rule, Part, token, rule, IsAlternative, Spelled, AreSpelled, no_part, token_first, rule_first, Begins, nothing, by_parts, BeginParts, by_nothing, by_next, token_whole, rule_whole}
 
@@ -58,8 +58,8 @@ of_row _ _ _ rules.or (seq _ g (tok n (last c))) = (_, spelling.or n g.1 c.1)
 of_row _ _ _ (rules.scalar_name x) (tok n none) = (_, spelling.scalar_name n x)
 of_row _ _ _ (rules.element_at x) (tok n (tok m (seq _ s (tok k none)))) = (_, spelling.element_at n m k x s.1)
 of_row _ _ _ rules.assigned (seq _ d (tok n (last e))) = (_, spelling.assign n d.1 e.1)
-of_row _ _ _ rules.one_assign (last x) = (_, spelling.one_action x.1)
-of_row _ _ _ rules.more_assigns (seq _ xs (tok n (last x))) = (_, spelling.more_actions n xs.1 x.1)
+of_row _ _ _ rules.one_assign (last x) = (_, spelling.one_assignment x.1)
+of_row _ _ _ rules.more_assigns (seq _ xs (tok n (last x))) = (_, spelling.more_assignments n xs.1 x.1)
 of_row _ _ _ rules.no_effects none = (_, spelling.no_effects)
 of_row _ _ _ rules.some_effects (tok n (last xs)) = (_, spelling.effects n xs.1)
 of_row _ _ _ rules.always (tok n none) = (_, _, spelling.always n)
@@ -122,16 +122,16 @@ mutual
   sum_tree _ _ (spelling.minus n {s} {p} {a} {b} d e) = node rules.sum rules.minus (between rules.sum rules.product n Minus a b (sum_tree s a d) (product_tree p b e))
 
 mutual
-  unit_tree : (u : Formula (List ℕ)) (a : List Word) → IsUnit u a → Tree rules.unit a
+  unit_tree : (u : Guard (List ℕ)) (a : List Word) → IsUnit u a → Tree rules.unit a
   unit_tree _ _ (spelling.not n {u} {a} d) = node rules.unit rules.not (token_tree n Bang (end_tree rules.unit a (unit_tree u a d)))
   unit_tree _ _ (spelling.braces n m {g} {a} d) = node rules.unit rules.braces (token_tree n OpenBrace (rule_tree rules.guard (guard_tree g a d) (token_tree m CloseBrace no_tree)))
   unit_tree _ _ (spelling.literal n r {l} {s} {a} {b} d e) = node rules.unit (rules.literal r) (between rules.sum rules.sum n (Relation r) a b (sum_tree l a d) (sum_tree s b e))
 
-  conjunction_tree : (c : Formula (List ℕ)) (a : List Word) → IsConjunction c a → Tree rules.conjunction a
+  conjunction_tree : (c : Guard (List ℕ)) (a : List Word) → IsConjunction c a → Tree rules.conjunction a
   conjunction_tree _ _ (spelling.unit {u} {a} d) = node rules.conjunction rules.one_unit (end_tree rules.unit a (unit_tree u a d))
   conjunction_tree _ _ (spelling.and n {c} {u} {a} {b} d e) = node rules.conjunction rules.and (between rules.conjunction rules.unit n AndAnd a b (conjunction_tree c a d) (unit_tree u b e))
 
-  guard_tree : (g : Formula (List ℕ)) (a : List Word) → IsGuard g a → Tree rules.guard a
+  guard_tree : (g : Guard (List ℕ)) (a : List Word) → IsGuard g a → Tree rules.guard a
   guard_tree _ _ (spelling.conjunction {c} {a} d) = node rules.guard rules.one_conjunction (end_tree rules.conjunction a (conjunction_tree c a d))
   guard_tree _ _ (spelling.or n {g} {c} {a} {b} d e) = node rules.guard rules.or (between rules.guard rules.conjunction n OrOr a b (guard_tree g a d) (conjunction_tree c b e))
 
@@ -139,25 +139,25 @@ destination_tree : (d : Destination) (a : List Word) → IsDestination d a → T
 destination_tree _ _ (spelling.scalar_name n x) = node rules.destination (rules.scalar_name x) (token_tree n (Name x) no_tree)
 destination_tree _ _ (spelling.element_at n m k x {s} {a} d) = node rules.destination (rules.element_at x) (token_tree n (Name x) (token_tree m OpenBracket (rule_tree rules.sum (sum_tree s a d) (token_tree k CloseBracket no_tree))))
 
-assign_tree : (x : Action (List ℕ)) (a : List Word) → IsAction x a → Tree rules.assign a
+assign_tree : (x : Assignment (List ℕ)) (a : List Word) → IsAssignment x a → Tree rules.assign a
 assign_tree _ _ (spelling.assign n {d} {e} {a} {b} p q) = node rules.assign rules.assigned (between rules.destination rules.sum n Equals a b (destination_tree d a p) (sum_tree e b q))
 
-assigns_tree : (xs : List (Action (List ℕ))) (a : List Word) → AreActions xs a → Tree rules.assigns a
-assigns_tree _ _ (spelling.one_action {x} {a} d) = node rules.assigns rules.one_assign (end_tree rules.assign a (assign_tree x a d))
-assigns_tree _ _ (spelling.more_actions n {xs} {x} {a} {b} d e) = node rules.assigns rules.more_assigns (between rules.assigns rules.assign n Comma a b (assigns_tree xs a d) (assign_tree x b e))
+assigns_tree : (xs : List (Assignment (List ℕ))) (a : List Word) → AreAssignments xs a → Tree rules.assigns a
+assigns_tree _ _ (spelling.one_assignment {x} {a} d) = node rules.assigns rules.one_assign (end_tree rules.assign a (assign_tree x a d))
+assigns_tree _ _ (spelling.more_assignments n {xs} {x} {a} {b} d e) = node rules.assigns rules.more_assigns (between rules.assigns rules.assign n Comma a b (assigns_tree xs a d) (assign_tree x b e))
 
-effects_tree : (xs : List (Action (List ℕ))) (a : List Word) → AreEffects xs a → Tree rules.effects a
+effects_tree : (xs : List (Assignment (List ℕ))) (a : List Word) → AreEffects xs a → Tree rules.effects a
 effects_tree _ _ spelling.no_effects = node rules.effects rules.no_effects no_tree
 effects_tree _ _ (spelling.effects n {xs} {a} d) = node rules.effects rules.some_effects (token_tree n Colon (end_tree rules.assigns a (assigns_tree xs a d)))
 
-condition_tree : (n : ℕ) (g : Option (Formula (List ℕ))) (a : List Word) → IsCondition n g a → Tree rules.condition a
+condition_tree : (n : ℕ) (g : Option (Guard (List ℕ))) (a : List Word) → IsCondition n g a → Tree rules.condition a
 condition_tree _ _ _ (spelling.always n) = node rules.condition rules.always (token_tree n Goto no_tree)
 condition_tree _ _ _ (spelling.when n m {g} {a} d) = node rules.condition rules.when (token_tree n When (rule_tree rules.guard (guard_tree g a d) (token_tree m Goto no_tree)))
 
-line_tree : (l : SourceLine) (a : List Word) → IsLine l a → Tree rules.line a
+line_tree : (l : SourceTransition) (a : List Word) → IsLine l a → Tree rules.line a
 line_tree _ _ (spelling.line n m k g x xs {a} {b} p q) = node rules.line (rules.one_line x) (rule_tree rules.condition (condition_tree n g a p) (token_tree m (Name x) (rule_tree rules.effects (effects_tree xs b q) (token_tree k Semicolon no_tree))))
 
-lines_tree : (ls : List SourceLine) (a : List Word) → AreLines ls a → Tree rules.lines a
+lines_tree : (ls : List SourceTransition) (a : List Word) → AreLines ls a → Tree rules.lines a
 lines_tree _ _ spelling.no_lines = node rules.lines rules.no_lines no_tree
 lines_tree _ _ (spelling.more_lines {ls} {l} {a} {b} p q) = node rules.lines rules.more_lines (rule_tree rules.lines (lines_tree ls a p) (end_tree rules.line b (line_tree l b q)))
 
@@ -285,7 +285,7 @@ zero_sum = spelling.product (spelling.factor (spelling.number 0 (pos 0)))
 zero_unit : IsUnit (Test (record { relation = Eq; left = terms.Number (pos 0); right = terms.Number (pos 0) })) (zero_word ∷ at 0 (Relation Eq) ∷ zero_word ∷ [])
 zero_unit = spelling.literal 0 Eq zero_sum zero_sum
 
-zero_assign : IsAction (Assign [] (terms.Number (pos 0))) (at 0 (Name []) ∷ at 0 Equals ∷ zero_word ∷ [])
+zero_assign : IsAssignment (Assign [] (terms.Number (pos 0))) (at 0 (Name []) ∷ at 0 Equals ∷ zero_word ∷ [])
 zero_assign = spelling.assign 0 (spelling.scalar_name 0 []) zero_sum
 
 -- some spelling of each rule
@@ -298,7 +298,7 @@ some_spelling rules.conjunction = (_, (_, spelling.unit zero_unit))
 some_spelling rules.guard = (_, (_, spelling.conjunction (spelling.unit zero_unit)))
 some_spelling rules.destination = (_, (_, spelling.scalar_name 0 []))
 some_spelling rules.assign = (_, (_, zero_assign))
-some_spelling rules.assigns = (_, (_, spelling.one_action zero_assign))
+some_spelling rules.assigns = (_, (_, spelling.one_assignment zero_assign))
 some_spelling rules.effects = (_, (_, spelling.no_effects))
 some_spelling rules.condition = (_, (_, _, spelling.always 0))
 some_spelling rules.line = (_, (_, spelling.line 0 0 0 None [] [] (spelling.always 0) spelling.no_effects))

@@ -2,19 +2,19 @@
 use Rattle.std.proofs.Common.{◌≡◌, ℕ, pos, List, [], ◌∷◌, ◌++◌, Option, Some, None, refl, sym, ap, subst, ◌∙◌, append_assoc}
 use Rattle.std.proofs.lemmas.List.{append-nil}
 use Rattle.fs_model.specs.declared.parts.Rel.TheVariants.{Eq}
-use Rattle.fs_model.specs.Terms.{Action}
+use Rattle.fs_model.specs.Terms.{Assignment}
 use Rattle.fs_model.specs.Source.{Declaration, SourceState, Source}
 use Rattle.fs_grammar.specs.declared.token.TokenKind.{TokenKind}
 use Rattle.fs_grammar.specs.declared.token.TokenKind.TheVariants.{Fsmd, Declare, Reset, State, When, Name, Number, Semicolon, Colon, Comma, Equals, OpenParen, OpenBracket, OpenBrace, Plus, Minus, Star, Slash, Percent, Bang, AndAnd, OrOr, Relation}
 use Rattle.fs_grammar.specs.Grammar as machine
-use Rattle.fs_grammar.specs.Grammar.{Destination, Draft, Opening, ForFactor, ForProduct, ForSum, ForUnit, ForConjunction, ForGuard, Owed, at_start, at_one, at_semicolon, at_declaration, at_sort, at_declared, after_declared, at_reset, after_reset, at_state, at_state_name, after_state_name, at_line, at_target, after_target, at_action, after_action_name, at_equals, at_unit, after_conjunction, after_guard, at_factor, after_name, after_product, after_sum, finish}
+use Rattle.fs_grammar.specs.Grammar.{Destination, OpenState, OpenTransition, FactorContext, ProductContext, SumContext, UnitContext, ConjunctionContext, GuardContext, ParseState, at_start, at_one, at_semicolon, at_declaration, at_sort, at_declared, after_declared, at_reset, after_reset, at_state, at_state_name, after_state_name, at_line, at_target, after_target, at_assignment, after_assignment_name, at_equals, at_unit, after_conjunction, after_guard, at_factor, after_name, after_product, after_sum, finish}
 use Rattle.grammar_laws.specs.Spelling as spelling
-use Rattle.grammar_laws.specs.Spelling.{Word, at, IsFile, IsState, AreActions, AreNames, IsKind}
+use Rattle.grammar_laws.specs.Spelling.{Word, at, IsFile, IsState, AreAssignments, AreNames, IsKind}
 use Rattle.grammar_laws.specs.Walks.{on, walk, source_at}
 use Rattle.grammar_laws.specs.Beginnings as rules
 use Rattle.grammar_laws.specs.Beginnings.{Rule, Part, token, rule, IsAlternative, Spelled, Begins, nothing, by_parts, BeginParts, by_nothing, by_next, token_whole, rule_whole, BeginsFile}
 use Rattle.grammar_laws.proofs.Reached as before
-use Rattle.grammar_laws.proofs.Reached.{Cut, Is, head, IsHead, BeforeName, Declares, Declared, AfterReset, AfterState, IsDraft, AfterTarget, BeforeAction, IsOpening, BeforeUnit, BeforeConjunction, BeforeGuard, BeforeFactor, BeforeProduct, BeforeSum, Reached}
+use Rattle.grammar_laws.proofs.Reached.{Cut, Is, head, IsHead, BeforeName, Declares, Declared, AfterReset, AfterState, IsDraft, AfterTarget, BeforeAssignment, IsOpening, BeforeUnit, BeforeConjunction, BeforeGuard, BeforeFactor, BeforeProduct, BeforeSum, Reached}
 use Rattle.grammar_laws.proofs.Complete.{complete}
 use Rattle.grammar_laws.proofs.Sound.{reached}
 use Rattle.grammar_laws.proofs.Alternatives.{completed}
@@ -49,7 +49,7 @@ state_in : (s : SourceState) (a : List Word) → IsState s a → (b : List Word)
 state_in _ _ (spelling.state n m k x ls {a} p) b h =
     by_parts rules.state (rules.one_state x) (token_whole n State (token_whole m (Name x) (token_whole k Colon (by_next rules.lines [] (by_parts rules.lines rules.more_lines (rule_whole rules.lines a (ls, p) (by_next rules.line [] h)))))))
 
-line_in : (d : Draft) (a : List Word) → IsDraft d a → (b : List Word) → Begins rules.line b → (ws : List Word) → ws ≡ a ++ b → BeginsFile ws
+line_in : (d : OpenState) (a : List Word) → IsDraft d a → (b : List Word) → Begins rules.line b → (ws : List Word) → ws ≡ a ++ b → BeginsFile ws
 line_in d a h b p ws e = same rules.file (file_in d.source h.a h.front (h.b ++ b) (state_in d.state h.b h.back b p)) (e ∙ rw h.is (append_assoc h.a h.b b))
 
 -- behind the declarations
@@ -73,46 +73,46 @@ declares_in d a b c h p e = same rules.declaration (by_parts rules.declaration r
 
 -- ---- words of a line
 
-effects_in : (xs : List (Action (List ℕ))) (a : List Word) → BeforeAction xs a → (b : List Word) → Begins rules.assign b → Begins rules.effects (a ++ b)
+effects_in : (xs : List (Assignment (List ℕ))) (a : List Word) → BeforeAssignment xs a → (b : List Word) → Begins rules.assign b → Begins rules.effects (a ++ b)
 effects_in _ _ (before.colon n) b p = prefixed rules.effects rules.assigns n Colon [] rules.some_effects b (leading rules.assigns rules.assign [] rules.one_assign b p)
 effects_in _ _ (before.next n m {xs} {a} q) b p =
     same rules.effects (prefixed rules.effects rules.assigns n Colon [] rules.some_effects (a ++ (at m Comma ∷ b)) (chained rules.assigns rules.assigns rules.assign m Comma rules.more_assigns a b (xs, q) p)) (simp append_assoc)
 
-opening_in : (o : Opening) (a : List Word) → IsOpening o a → (b : List Word) → Begins rules.assign b → (ws : List Word) → ws ≡ a ++ b → BeginsFile ws
+opening_in : (o : OpenTransition) (a : List Word) → IsOpening o a → (b : List Word) → Begins rules.assign b → (ws : List Word) → ws ≡ a ++ b → BeginsFile ws
 opening_in o a h b p ws e =
     line_in o.draft h.a h.draft (h.b ++ (at h.m (Name o.target) ∷ (h.c ++ b)))
-    (by_parts rules.line (rules.one_line o.target) (rule_whole rules.condition h.b (o.begins, o.guard, h.condition) (token_whole h.m (Name o.target) (by_next rules.effects _ (effects_in o.actions h.c h.before b p)))))
+    (by_parts rules.line (rules.one_line o.target) (rule_whole rules.condition h.b (o.begins, o.guard, h.condition) (token_whole h.m (Name o.target) (by_next rules.effects _ (effects_in o.assignments h.c h.before b p)))))
     ws (e ∙ rw h.is (simp append_assoc))
 
 mutual
-  unit_in : (k : ForUnit) (a : List Word) → BeforeUnit k a → (b : List Word) → Begins rules.unit b → (ws : List Word) → ws ≡ a ++ b → BeginsFile ws
+  unit_in : (k : UnitContext) (a : List Word) → BeforeUnit k a → (b : List Word) → Begins rules.unit b → (ws : List Word) → ws ≡ a ++ b → BeginsFile ws
   unit_in _ _ (before.negates n k a h) b p ws e = unit_in k a h (at n Bang ∷ b) (prefixed rules.unit rules.unit n Bang [] rules.not b p) ws (e ∙ simp append_assoc)
   unit_in _ _ (before.first_of_all k a h) b p ws e = conjunction_in k a h b (leading rules.conjunction rules.unit [] rules.one_unit b p) ws e
   unit_in _ _ (before.and_after n c k a q h d) b p ws e = conjunction_in k a h (q ++ (at n AndAnd ∷ b)) (chained rules.conjunction rules.conjunction rules.unit n AndAnd rules.and q b (c, d) p) ws (e ∙ simp append_assoc)
 
-  conjunction_in : (k : ForConjunction) (a : List Word) → BeforeConjunction k a → (b : List Word) → Begins rules.conjunction b → (ws : List Word) → ws ≡ a ++ b → BeginsFile ws
+  conjunction_in : (k : ConjunctionContext) (a : List Word) → BeforeConjunction k a → (b : List Word) → Begins rules.conjunction b → (ws : List Word) → ws ≡ a ++ b → BeginsFile ws
   conjunction_in _ _ (before.first_of_any k a h) b p ws e = guard_in k a h b (leading rules.guard rules.conjunction [] rules.one_conjunction b p) ws e
   conjunction_in _ _ (before.or_after n g k a q h d) b p ws e = guard_in k a h (q ++ (at n OrOr ∷ b)) (chained rules.guard rules.guard rules.conjunction n OrOr rules.or q b (g, d) p) ws (e ∙ simp append_assoc)
 
-  guard_in : (k : ForGuard) (a : List Word) → BeforeGuard k a → (b : List Word) → Begins rules.guard b → (ws : List Word) → ws ≡ a ++ b → BeginsFile ws
+  guard_in : (k : GuardContext) (a : List Word) → BeforeGuard k a → (b : List Word) → Begins rules.guard b → (ws : List Word) → ws ≡ a ++ b → BeginsFile ws
   guard_in _ _ (before.braces n k a h) b p ws e = unit_in k a h (at n OpenBrace ∷ b) (prefixed rules.unit rules.guard n OpenBrace _ rules.braces b p) ws (e ∙ simp append_assoc)
   guard_in _ _ (before.line n d a h) b p ws e =
       line_in d a h (at n When ∷ b) (leading rules.line rules.condition _ (rules.one_line []) (at n When ∷ b) (prefixed rules.condition rules.guard n When _ rules.when b p)) ws (e ∙ simp append_assoc)
 
 mutual
-  factor_in : (k : ForFactor) (a : List Word) → BeforeFactor k a → (b : List Word) → Begins rules.factor b → (ws : List Word) → ws ≡ a ++ b → BeginsFile ws
+  factor_in : (k : FactorContext) (a : List Word) → BeforeFactor k a → (b : List Word) → Begins rules.factor b → (ws : List Word) → ws ≡ a ++ b → BeginsFile ws
   factor_in _ _ (before.first_factor k a h) b p ws e = product_in k a h b (leading rules.product rules.factor [] rules.one_factor b p) ws e
   factor_in _ _ (before.times n q k a c h d) b p ws e = product_in k a h (c ++ (at n Star ∷ b)) (chained rules.product rules.product rules.factor n Star rules.times c b (q, d) p) ws (e ∙ simp append_assoc)
   factor_in _ _ (before.divides n q k a c h d) b p ws e = product_in k a h (c ++ (at n Slash ∷ b)) (chained rules.product rules.product rules.factor n Slash rules.divides c b (q, d) p) ws (e ∙ simp append_assoc)
   factor_in _ _ (before.leaves n q k a c h d) b p ws e = product_in k a h (c ++ (at n Percent ∷ b)) (chained rules.product rules.product rules.factor n Percent rules.leaves c b (q, d) p) ws (e ∙ simp append_assoc)
   factor_in _ _ (before.negative n k a h) b p ws e = factor_in k a h (at n Minus ∷ b) (prefixed rules.factor rules.factor n Minus [] rules.negative b p) ws (e ∙ simp append_assoc)
 
-  product_in : (k : ForProduct) (a : List Word) → BeforeProduct k a → (b : List Word) → Begins rules.product b → (ws : List Word) → ws ≡ a ++ b → BeginsFile ws
+  product_in : (k : ProductContext) (a : List Word) → BeforeProduct k a → (b : List Word) → Begins rules.product b → (ws : List Word) → ws ≡ a ++ b → BeginsFile ws
   product_in _ _ (before.first_product k a h) b p ws e = sum_in k a h b (leading rules.sum rules.product [] rules.one_product b p) ws e
   product_in _ _ (before.plus n s k a c h d) b p ws e = sum_in k a h (c ++ (at n Plus ∷ b)) (chained rules.sum rules.sum rules.product n Plus rules.plus c b (s, d) p) ws (e ∙ simp append_assoc)
   product_in _ _ (before.minus n s k a c h d) b p ws e = sum_in k a h (c ++ (at n Minus ∷ b)) (chained rules.sum rules.sum rules.product n Minus rules.minus c b (s, d) p) ws (e ∙ simp append_assoc)
 
-  sum_in : (k : ForSum) (a : List Word) → BeforeSum k a → (b : List Word) → Begins rules.sum b → (ws : List Word) → ws ≡ a ++ b → BeginsFile ws
+  sum_in : (k : SumContext) (a : List Word) → BeforeSum k a → (b : List Word) → Begins rules.sum b → (ws : List Word) → ws ≡ a ++ b → BeginsFile ws
   sum_in _ _ (before.parens n k a h) b p ws e = factor_in k a h (at n OpenParen ∷ b) (prefixed rules.factor rules.sum n OpenParen _ rules.group b p) ws (e ∙ simp append_assoc)
   sum_in _ _ (before.index n m x k a h) b p ws e =
       factor_in k a h (at n (Name x) ∷ at m OpenBracket ∷ b) (by_parts rules.factor (rules.read x) (token_whole n (Name x) (token_whole m OpenBracket (by_next rules.sum _ p)))) ws (e ∙ simp append_assoc)
@@ -135,14 +135,14 @@ with_last v ws h = h.is ∙ ap (λ (l : List Word). h.a ++ l) h.back
 reset_in : (s : Source) (ws : List Word) → AfterReset s ws → BeginsFile ws
 reset_in _ _ (before.reset n m ds x a h) = head_parts x ds a h (at n Reset ∷ at m (Name x) ∷ []) (token_whole n Reset (token_whole m (Name x) (by_nothing _))) (a ++ (at n Reset ∷ at m (Name x) ∷ [])) refl
 
-named_in : (d : Draft) (ws : List Word) → AfterState d ws → BeginsFile ws
+named_in : (d : OpenState) (ws : List Word) → AfterState d ws → BeginsFile ws
 named_in _ _ (before.named n m s x a h) = file_in s a h (at n State ∷ at m (Name x) ∷ []) (by_parts rules.state (rules.one_state x) (token_whole n State (token_whole m (Name x) (by_nothing _))))
 
-target_in : (o : Opening) (ws : List Word) → AfterTarget o ws → BeginsFile ws
+target_in : (o : OpenTransition) (ws : List Word) → AfterTarget o ws → BeginsFile ws
 target_in _ _ (before.target n m d g x a b h p) =
     line_in d a h (b ++ at m (Name x) ∷ []) (by_parts rules.line (rules.one_line x) (rule_whole rules.condition b (n, g, p) (token_whole m (Name x) (by_nothing _)))) (a ++ (b ++ at m (Name x) ∷ [])) refl
 
-pub begins : (s : Owed) (ws : List Word) → Reached s ws → BeginsFile ws
+pub begins : (s : ParseState) (ws : List Word) → Reached s ws → BeginsFile ws
 begins at_start ws e = same rules.file (nothing rules.file) e
 begins at_one ws h = same rules.file (by_parts rules.file (rules.one_file []) (token_whole h.0 Fsmd (by_nothing _))) h.1
 begins at_semicolon ws h = same rules.file (by_parts rules.file (rules.one_file []) (token_whole h.0 Fsmd (token_whole h.1 (Number (pos 1)) (by_nothing _)))) h.2
@@ -160,8 +160,8 @@ begins (after_state_name d) ws h = named_in d ws h
 begins (at_line d) ws h = line_in d ws h [] (nothing rules.line) ws (at_the_end ws)
 begins (at_target d n g) ws h = line_in d h.a h.front h.b (whole_first rules.line rules.condition _ (rules.one_line []) h.b (n, g, h.back)) ws h.is
 begins (after_target o) ws h = target_in o ws h
-begins (at_action o) ws h = opening_in o ws h [] (nothing rules.assign) ws (at_the_end ws)
-begins (after_action_name o x) ws h =
+begins (at_assignment o) ws h = opening_in o ws h [] (nothing rules.assign) ws (at_the_end ws)
+begins (after_assignment_name o x) ws h =
     opening_in o h.1.a h.1.front (at h.0 (Name x) ∷ []) (leading rules.assign rules.destination _ rules.assigned (at h.0 (Name x) ∷ []) (by_parts rules.destination (rules.scalar_name x) (token_whole h.0 (Name x) (by_nothing _)))) ws (with_last (at h.0 (Name x) ∷ []) ws h.1)
 begins (at_equals o d) ws h = opening_in o h.a h.front h.b (whole_first rules.assign rules.destination _ rules.assigned h.b (d, h.back)) ws h.is
 begins (at_unit k) ws h = unit_in k ws h [] (nothing rules.unit) ws (at_the_end ws)
@@ -175,14 +175,14 @@ begins (after_sum s k) ws h = sum_in k h.a h.front h.b (whole_first rules.sum ru
 -- ---- the laws
 
 -- Words that lead somewhere begin a file.
-pub leads : (ws : List Word) (s : Owed) → walk ws at_start ≡ Some s → BeginsFile ws
+pub leads : (ws : List Word) (s : ParseState) → walk ws at_start ≡ Some s → BeginsFile ws
 leads ws s e = begins s ws (reached ws s at_start [] refl e)
 
-on_append : (o : Option Owed) (a b : List Word) → ((m : Owed) → walk (a ++ b) m ≡ on (walk a m) (walk b)) → on o (walk (a ++ b)) ≡ on (on o (walk a)) (walk b)
+on_append : (o : Option ParseState) (a b : List Word) → ((m : ParseState) → walk (a ++ b) m ≡ on (walk a m) (walk b)) → on o (walk (a ++ b)) ≡ on (on o (walk a)) (walk b)
 on_append None a b h = refl
 on_append (Some m) a b h = h m
 
-pub walk_append : (a b : List Word) (s : Owed) → walk (a ++ b) s ≡ on (walk a s) (walk b)
+pub walk_append : (a b : List Word) (s : ParseState) → walk (a ++ b) s ≡ on (walk a s) (walk b)
 walk_append [] b s = refl
 walk_append (at n t ∷ a) b s = on_append (machine.step s n t) a b (λ m. walk_append a b m)
 

@@ -5,116 +5,116 @@ use Rattle.fs_model.specs.declared.parts.Rel.{Rel}
 use Rattle.fs_model.specs.declared.parts.Role.{Role}
 use Rattle.fs_model.specs.declared.parts.Sort.{Sort}
 use Rattle.fs_model.specs.declared.parts.Sort.TheVariants as sorts
-use Rattle.fs_model.specs.Terms.{Term, Variable, Negative, Formula, Test, Not, Action}
-use Rattle.fs_model.specs.Source.{Declaration, SourceLine, SourceState, Source}
+use Rattle.fs_model.specs.Terms.{Term, Variable, Negative, Guard, Test, Not, Assignment}
+use Rattle.fs_model.specs.Source.{Declaration, SourceTransition, SourceState, Source}
 use Rattle.fs_grammar.specs.declared.token.TokenKind.{TokenKind}
 use Rattle.fs_grammar.specs.declared.token.TokenKind.TheVariants.{Reset, State, Goto, Name, Semicolon, Colon, Comma, Equals, OpenBracket, CloseParen, CloseBracket, CloseBrace, Plus, Minus, Star, Slash, Percent, AndAnd, OrOr, Relation}
 use Rattle.fs_grammar.specs.Ends.{IsNoSum, IsNoProduct, IsNoAnd, IsNoIndex}
 use Rattle.fs_grammar.specs.Grammar as machine
-use Rattle.fs_grammar.specs.Grammar.{Destination, scalar, element, assigned, Draft, Opening, with_names, with_states, with_lines, drafted, with_actions, closed, ForFactor, ForProduct, ForSum, ForUnit, ForConjunction, ForGuard, first_factor, first_product, first_of_all, first_of_any, parens, index, left, right, place, value, Owed, at_start, at_declaration, at_sort, at_declared, after_declared, at_state, after_reset, at_state_name, at_line, at_target, after_target, at_action, at_equals, at_unit, after_conjunction, after_guard, at_factor, after_name, after_product, after_sum, at_sum, at_guard, factor_done, product_done, unit_done, conjunction_done, literal_done, step, step_guarded, step_joined, step_summed, step_multiplied, step_conjunction, step_sum, step_product, step_name, finish}
-use Rattle.grammar_laws.specs.Spelling.{Word, at, IsFactor, number, variable, read, negative, group, IsProduct, factor, times, divides, leaves, IsSum, product, plus, minus, IsUnit, not, braces, literal, IsConjunction, unit, and, IsGuard, conjunction, or, scalar_name, element_at, IsAction, assign, AreActions, one_action, more_actions, AreEffects, no_effects, effects, IsCondition, always, when, IsLine, line, AreLines, no_lines, more_lines, state, AreStates, no_states, more_states, AreNames, one_name, more_names, IsKind, scalars, arrays, IsDeclaration, declaration, AreDeclarations, no_declarations, more_declarations, IsFile, file}
+use Rattle.fs_grammar.specs.Grammar.{Destination, scalar, element, assigned, OpenState, OpenTransition, with_names, with_states, with_lines, drafted, with_assignments, closed, FactorContext, ProductContext, SumContext, UnitContext, ConjunctionContext, GuardContext, first_factor, first_product, first_of_all, first_of_any, parens, index, left, right, place, value, ParseState, at_start, at_declaration, at_sort, at_declared, after_declared, at_state, after_reset, at_state_name, at_line, at_target, after_target, at_assignment, at_equals, at_unit, after_conjunction, after_guard, at_factor, after_name, after_product, after_sum, at_sum, at_guard, factor_done, product_done, unit_done, conjunction_done, literal_done, step, step_guarded, step_joined, step_summed, step_multiplied, step_conjunction, step_sum, step_product, step_name, finish}
+use Rattle.grammar_laws.specs.Spelling.{Word, at, IsFactor, number, variable, read, negative, group, IsProduct, factor, times, divides, leaves, IsSum, product, plus, minus, IsUnit, not, braces, literal, IsConjunction, unit, and, IsGuard, conjunction, or, scalar_name, element_at, IsAssignment, assign, AreAssignments, one_assignment, more_assignments, AreEffects, no_effects, effects, IsCondition, always, when, IsLine, line, AreLines, no_lines, more_lines, state, AreStates, no_states, more_states, AreNames, one_name, more_names, IsKind, scalars, arrays, IsDeclaration, declaration, AreDeclarations, no_declarations, more_declarations, IsFile, file}
 use Rattle.grammar_laws.specs.Walks.{on, walk, source_at}
 
-regroup : (a b rest : List Word) (s : Owed) → walk ((a ++ b) ++ rest) s ≡ walk (a ++ (b ++ rest)) s
+regroup : (a b rest : List Word) (s : ParseState) → walk ((a ++ b) ++ rest) s ≡ walk (a ++ (b ++ rest)) s
 regroup a b rest s = ap (λ (l : List Word). walk l s) (append_assoc a b rest)
 
 -- ---- where a part ends without a word of its own
 
-factor_steps : (n : ℕ) (t : TokenKind) (f : Term (List ℕ)) (k : ForFactor) → step (factor_done f k) n t ≡ step_multiplied t (factor_done f k)
+factor_steps : (n : ℕ) (t : TokenKind) (f : Term (List ℕ)) (k : FactorContext) → step (factor_done f k) n t ≡ step_multiplied t (factor_done f k)
 factor_steps n t f (machine.negative k) = factor_steps n t (Negative f) k
 factor_steps n t f (first_factor k) = refl
 factor_steps n t f (machine.times p k) = refl
 factor_steps n t f (machine.divides p k) = refl
 factor_steps n t f (machine.leaves p k) = refl
 
-product_steps : (n : ℕ) (t : TokenKind) (p : Term (List ℕ)) (k : ForProduct) → step (product_done p k) n t ≡ step_summed t (product_done p k)
+product_steps : (n : ℕ) (t : TokenKind) (p : Term (List ℕ)) (k : ProductContext) → step (product_done p k) n t ≡ step_summed t (product_done p k)
 product_steps n t p (first_product k) = refl
 product_steps n t p (machine.plus s k) = refl
 product_steps n t p (machine.minus s k) = refl
 
-unit_steps : (n : ℕ) (t : TokenKind) (u : Formula (List ℕ)) (k : ForUnit) → step (unit_done u k) n t ≡ step_joined t (unit_done u k)
+unit_steps : (n : ℕ) (t : TokenKind) (u : Guard (List ℕ)) (k : UnitContext) → step (unit_done u k) n t ≡ step_joined t (unit_done u k)
 unit_steps n t u (machine.negates k) = unit_steps n t (Not u) k
 unit_steps n t u (first_of_all k) = refl
 unit_steps n t u (machine.and_after c k) = refl
 
-conjunction_steps : (n : ℕ) (t : TokenKind) (c : Formula (List ℕ)) (k : ForConjunction) → step (conjunction_done c k) n t ≡ step_guarded t (conjunction_done c k)
+conjunction_steps : (n : ℕ) (t : TokenKind) (c : Guard (List ℕ)) (k : ConjunctionContext) → step (conjunction_done c k) n t ≡ step_guarded t (conjunction_done c k)
 conjunction_steps n t c (first_of_any k) = refl
 conjunction_steps n t c (machine.or_after g k) = refl
 
-name_step : (t : TokenKind) (x : List ℕ) (k : ForFactor) → IsNoIndex (Some t) → step_name t x k ≡ step_multiplied t (factor_done (Variable x) k)
+name_step : (t : TokenKind) (x : List ℕ) (k : FactorContext) → IsNoIndex (Some t) → step_name t x k ≡ step_multiplied t (factor_done (Variable x) k)
 name_step OpenBracket x k h = absurd h
 name_step _ x k h = refl
 
-product_step : (t : TokenKind) (p : Term (List ℕ)) (k : ForProduct) → IsNoProduct (Some t) → step_product t p k ≡ step_summed t (product_done p k)
+product_step : (t : TokenKind) (p : Term (List ℕ)) (k : ProductContext) → IsNoProduct (Some t) → step_product t p k ≡ step_summed t (product_done p k)
 product_step Star p k h = absurd h
 product_step Slash p k h = absurd h
 product_step Percent p k h = absurd h
 product_step _ p k h = refl
 
-right_step : (t : TokenKind) (r : Rel) (l s : Term (List ℕ)) (k : ForUnit) → IsNoSum (Some t) → step_sum t s (right r l k) ≡ step_joined t (literal_done r l s k)
+right_step : (t : TokenKind) (r : Rel) (l s : Term (List ℕ)) (k : UnitContext) → IsNoSum (Some t) → step_sum t s (right r l k) ≡ step_joined t (literal_done r l s k)
 right_step Plus r l s k h = absurd h
 right_step Minus r l s k h = absurd h
 right_step _ r l s k h = refl
 
-conjunction_step : (t : TokenKind) (c : Formula (List ℕ)) (k : ForConjunction) → IsNoAnd (Some t) → step_conjunction t c k ≡ step_guarded t (conjunction_done c k)
+conjunction_step : (t : TokenKind) (c : Guard (List ℕ)) (k : ConjunctionContext) → IsNoAnd (Some t) → step_conjunction t c k ≡ step_guarded t (conjunction_done c k)
 conjunction_step AndAnd c k h = absurd h
 conjunction_step _ c k h = refl
 
-alike : (n : ℕ) (t : TokenKind) (rest : List Word) (r s : Owed) → step r n t ≡ step s n t → walk (at n t ∷ rest) r ≡ walk (at n t ∷ rest) s
-alike n t rest r s e = ap (λ (o : Option Owed). on o (walk rest)) e
+alike : (n : ℕ) (t : TokenKind) (rest : List Word) (r s : ParseState) → step r n t ≡ step s n t → walk (at n t ∷ rest) r ≡ walk (at n t ∷ rest) s
+alike n t rest r s e = ap (λ (o : Option ParseState). on o (walk rest)) e
 
-name_ends : (n : ℕ) (t : TokenKind) (rest : List Word) (x : List ℕ) (k : ForFactor) → IsNoIndex (Some t) → walk (at n t ∷ rest) (after_name x k) ≡ walk (at n t ∷ rest) (factor_done (Variable x) k)
+name_ends : (n : ℕ) (t : TokenKind) (rest : List Word) (x : List ℕ) (k : FactorContext) → IsNoIndex (Some t) → walk (at n t ∷ rest) (after_name x k) ≡ walk (at n t ∷ rest) (factor_done (Variable x) k)
 name_ends n t rest x k h = alike n t rest (after_name x k) (factor_done (Variable x) k) (name_step t x k h ∙ sym (factor_steps n t (Variable x) k))
 
-product_ends : (n : ℕ) (t : TokenKind) (rest : List Word) (p : Term (List ℕ)) (k : ForProduct) → IsNoProduct (Some t) → walk (at n t ∷ rest) (after_product p k) ≡ walk (at n t ∷ rest) (product_done p k)
+product_ends : (n : ℕ) (t : TokenKind) (rest : List Word) (p : Term (List ℕ)) (k : ProductContext) → IsNoProduct (Some t) → walk (at n t ∷ rest) (after_product p k) ≡ walk (at n t ∷ rest) (product_done p k)
 product_ends n t rest p k h = alike n t rest (after_product p k) (product_done p k) (product_step t p k h ∙ sym (product_steps n t p k))
 
-literal_ends : (n : ℕ) (t : TokenKind) (rest : List Word) (r : Rel) (l s : Term (List ℕ)) (k : ForUnit) → IsNoSum (Some t) → walk (at n t ∷ rest) (after_sum s (right r l k)) ≡ walk (at n t ∷ rest) (literal_done r l s k)
+literal_ends : (n : ℕ) (t : TokenKind) (rest : List Word) (r : Rel) (l s : Term (List ℕ)) (k : UnitContext) → IsNoSum (Some t) → walk (at n t ∷ rest) (after_sum s (right r l k)) ≡ walk (at n t ∷ rest) (literal_done r l s k)
 literal_ends n t rest r l s k h = alike n t rest (after_sum s (right r l k)) (literal_done r l s k) (right_step t r l s k h ∙ sym (unit_steps n t (Test (record { relation = r; left = l; right = s })) k))
 
-conjunction_ends : (n : ℕ) (t : TokenKind) (rest : List Word) (c : Formula (List ℕ)) (k : ForConjunction) → IsNoAnd (Some t) → walk (at n t ∷ rest) (after_conjunction c k) ≡ walk (at n t ∷ rest) (conjunction_done c k)
+conjunction_ends : (n : ℕ) (t : TokenKind) (rest : List Word) (c : Guard (List ℕ)) (k : ConjunctionContext) → IsNoAnd (Some t) → walk (at n t ∷ rest) (after_conjunction c k) ≡ walk (at n t ∷ rest) (conjunction_done c k)
 conjunction_ends n t rest c k h = alike n t rest (after_conjunction c k) (conjunction_done c k) (conjunction_step t c k h ∙ sym (conjunction_steps n t c k))
 
 -- ---- sums
 
 mutual
-  pub factor_walks : (f : Term (List ℕ)) (a : List Word) → IsFactor f a → (n : ℕ) (t : TokenKind) (rest : List Word) (k : ForFactor) → IsNoIndex (Some t) → walk (a ++ (at n t ∷ rest)) (at_factor k) ≡ walk (at n t ∷ rest) (factor_done f k)
+  pub factor_walks : (f : Term (List ℕ)) (a : List Word) → IsFactor f a → (n : ℕ) (t : TokenKind) (rest : List Word) (k : FactorContext) → IsNoIndex (Some t) → walk (a ++ (at n t ∷ rest)) (at_factor k) ≡ walk (at n t ∷ rest) (factor_done f k)
   factor_walks _ _ (number i v) n t rest k h = refl
   factor_walks _ _ (variable i x) n t rest k h = name_ends n t rest x k h
   factor_walks _ _ (read i j m x {s} {a} d) n t rest k h = regroup a (at m CloseBracket ∷ []) (at n t ∷ rest) (at_sum (index x k)) ∙ sum_walks s a d m CloseBracket (at n t ∷ rest) (index x k) tt tt
   factor_walks _ _ (negative i {f} {a} d) n t rest k h = factor_walks f a d n t rest (machine.negative k) h
   factor_walks _ _ (group i m {s} {a} d) n t rest k h = regroup a (at m CloseParen ∷ []) (at n t ∷ rest) (at_sum (parens k)) ∙ sum_walks s a d m CloseParen (at n t ∷ rest) (parens k) tt tt
 
-  pub product_walks : (p : Term (List ℕ)) (a : List Word) → IsProduct p a → (n : ℕ) (t : TokenKind) (rest : List Word) (k : ForProduct) → IsNoIndex (Some t) → walk (a ++ (at n t ∷ rest)) (at_factor (first_factor k)) ≡ walk (at n t ∷ rest) (after_product p k)
+  pub product_walks : (p : Term (List ℕ)) (a : List Word) → IsProduct p a → (n : ℕ) (t : TokenKind) (rest : List Word) (k : ProductContext) → IsNoIndex (Some t) → walk (a ++ (at n t ∷ rest)) (at_factor (first_factor k)) ≡ walk (at n t ∷ rest) (after_product p k)
   product_walks _ _ (factor {f} {a} d) n t rest k h = factor_walks f a d n t rest (first_factor k) h
   product_walks _ _ (times m {p} {f} {a} {b} d e) n t rest k h = regroup a (at m Star ∷ b) (at n t ∷ rest) (at_factor (first_factor k)) ∙ product_walks p a d m Star (b ++ (at n t ∷ rest)) k tt ∙ factor_walks f b e n t rest (machine.times p k) h
   product_walks _ _ (divides m {p} {f} {a} {b} d e) n t rest k h = regroup a (at m Slash ∷ b) (at n t ∷ rest) (at_factor (first_factor k)) ∙ product_walks p a d m Slash (b ++ (at n t ∷ rest)) k tt ∙ factor_walks f b e n t rest (machine.divides p k) h
   product_walks _ _ (leaves m {p} {f} {a} {b} d e) n t rest k h = regroup a (at m Percent ∷ b) (at n t ∷ rest) (at_factor (first_factor k)) ∙ product_walks p a d m Percent (b ++ (at n t ∷ rest)) k tt ∙ factor_walks f b e n t rest (machine.leaves p k) h
 
-  pub sum_walks : (s : Term (List ℕ)) (a : List Word) → IsSum s a → (n : ℕ) (t : TokenKind) (rest : List Word) (k : ForSum) → IsNoIndex (Some t) → IsNoProduct (Some t) → walk (a ++ (at n t ∷ rest)) (at_sum k) ≡ walk (at n t ∷ rest) (after_sum s k)
+  pub sum_walks : (s : Term (List ℕ)) (a : List Word) → IsSum s a → (n : ℕ) (t : TokenKind) (rest : List Word) (k : SumContext) → IsNoIndex (Some t) → IsNoProduct (Some t) → walk (a ++ (at n t ∷ rest)) (at_sum k) ≡ walk (at n t ∷ rest) (after_sum s k)
   sum_walks _ _ (product {p} {a} d) n t rest k h i = product_walks p a d n t rest (first_product k) h ∙ product_ends n t rest p (first_product k) i
   sum_walks _ _ (plus m {s} {p} {a} {b} d e) n t rest k h i = regroup a (at m Plus ∷ b) (at n t ∷ rest) (at_sum k) ∙ sum_walks s a d m Plus (b ++ (at n t ∷ rest)) k tt tt ∙ product_walks p b e n t rest (machine.plus s k) h ∙ product_ends n t rest p (machine.plus s k) i
   sum_walks _ _ (minus m {s} {p} {a} {b} d e) n t rest k h i = regroup a (at m Minus ∷ b) (at n t ∷ rest) (at_sum k) ∙ sum_walks s a d m Minus (b ++ (at n t ∷ rest)) k tt tt ∙ product_walks p b e n t rest (machine.minus s k) h ∙ product_ends n t rest p (machine.minus s k) i
 
 -- ---- a sum begins a unit as it begins a literal
 
-factor_opens : (f : Term (List ℕ)) (a : List Word) → IsFactor f a → (rest : List Word) (k : ForUnit) → walk (a ++ rest) (at_unit k) ≡ walk (a ++ rest) (at_sum (left k))
+factor_opens : (f : Term (List ℕ)) (a : List Word) → IsFactor f a → (rest : List Word) (k : UnitContext) → walk (a ++ rest) (at_unit k) ≡ walk (a ++ rest) (at_sum (left k))
 factor_opens _ _ (number n i) rest k = refl
 factor_opens _ _ (variable n x) rest k = refl
 factor_opens _ _ (read n m l x d) rest k = refl
 factor_opens _ _ (negative n d) rest k = refl
 factor_opens _ _ (group n m d) rest k = refl
 
-opens_longer : (a b rest : List Word) (k : ForUnit) → walk (a ++ (b ++ rest)) (at_unit k) ≡ walk (a ++ (b ++ rest)) (at_sum (left k)) → walk ((a ++ b) ++ rest) (at_unit k) ≡ walk ((a ++ b) ++ rest) (at_sum (left k))
+opens_longer : (a b rest : List Word) (k : UnitContext) → walk (a ++ (b ++ rest)) (at_unit k) ≡ walk (a ++ (b ++ rest)) (at_sum (left k)) → walk ((a ++ b) ++ rest) (at_unit k) ≡ walk ((a ++ b) ++ rest) (at_sum (left k))
 opens_longer a b rest k e = regroup a b rest (at_unit k) ∙ e ∙ sym (regroup a b rest (at_sum (left k)))
 
-product_opens : (p : Term (List ℕ)) (a : List Word) → IsProduct p a → (rest : List Word) (k : ForUnit) → walk (a ++ rest) (at_unit k) ≡ walk (a ++ rest) (at_sum (left k))
+product_opens : (p : Term (List ℕ)) (a : List Word) → IsProduct p a → (rest : List Word) (k : UnitContext) → walk (a ++ rest) (at_unit k) ≡ walk (a ++ rest) (at_sum (left k))
 product_opens _ _ (factor {f} {a} d) rest k = factor_opens f a d rest k
 product_opens _ _ (times m {p} {f} {a} {b} d e) rest k = opens_longer a (at m Star ∷ b) rest k (product_opens p a d (at m Star ∷ (b ++ rest)) k)
 product_opens _ _ (divides m {p} {f} {a} {b} d e) rest k = opens_longer a (at m Slash ∷ b) rest k (product_opens p a d (at m Slash ∷ (b ++ rest)) k)
 product_opens _ _ (leaves m {p} {f} {a} {b} d e) rest k = opens_longer a (at m Percent ∷ b) rest k (product_opens p a d (at m Percent ∷ (b ++ rest)) k)
 
-sum_opens : (s : Term (List ℕ)) (a : List Word) → IsSum s a → (rest : List Word) (k : ForUnit) → walk (a ++ rest) (at_unit k) ≡ walk (a ++ rest) (at_sum (left k))
+sum_opens : (s : Term (List ℕ)) (a : List Word) → IsSum s a → (rest : List Word) (k : UnitContext) → walk (a ++ rest) (at_unit k) ≡ walk (a ++ rest) (at_sum (left k))
 sum_opens _ _ (product {p} {a} d) rest k = product_opens p a d rest k
 sum_opens _ _ (plus m {s} {p} {a} {b} d e) rest k = opens_longer a (at m Plus ∷ b) rest k (sum_opens s a d (at m Plus ∷ (b ++ rest)) k)
 sum_opens _ _ (minus m {s} {p} {a} {b} d e) rest k = opens_longer a (at m Minus ∷ b) rest k (sum_opens s a d (at m Minus ∷ (b ++ rest)) k)
@@ -126,18 +126,18 @@ abbrev EndsTerms : TokenKind → Type 0
 EndsTerms t = IsNoIndex (Some t) × IsNoProduct (Some t) × IsNoSum (Some t)
 
 mutual
-  pub unit_walks : (u : Formula (List ℕ)) (a : List Word) → IsUnit u a → (n : ℕ) (t : TokenKind) (rest : List Word) (k : ForUnit) → EndsTerms t → walk (a ++ (at n t ∷ rest)) (at_unit k) ≡ walk (at n t ∷ rest) (unit_done u k)
+  pub unit_walks : (u : Guard (List ℕ)) (a : List Word) → IsUnit u a → (n : ℕ) (t : TokenKind) (rest : List Word) (k : UnitContext) → EndsTerms t → walk (a ++ (at n t ∷ rest)) (at_unit k) ≡ walk (at n t ∷ rest) (unit_done u k)
   unit_walks _ _ (not i {u} {a} d) n t rest k h = unit_walks u a d n t rest (machine.negates k) h
   unit_walks _ _ (braces i m {g} {a} d) n t rest k h = regroup a (at m CloseBrace ∷ []) (at n t ∷ rest) (at_guard (machine.braces k)) ∙ guard_walks g a d m CloseBrace (at n t ∷ rest) (machine.braces k) (tt, tt, tt) tt
   unit_walks _ _ (literal m r {l} {s} {a} {b} d e) n t rest k h =
       regroup a (at m (Relation r) ∷ b) (at n t ∷ rest) (at_unit k) ∙ sum_opens l a d (at m (Relation r) ∷ (b ++ (at n t ∷ rest))) k ∙ sum_walks l a d m (Relation r) (b ++ (at n t ∷ rest)) (left k) tt tt
       ∙ sum_walks s b e n t rest (right r l k) h.0 h.1 ∙ literal_ends n t rest r l s k h.2
 
-  pub conjunction_walks : (c : Formula (List ℕ)) (a : List Word) → IsConjunction c a → (n : ℕ) (t : TokenKind) (rest : List Word) (k : ForConjunction) → EndsTerms t → walk (a ++ (at n t ∷ rest)) (at_unit (first_of_all k)) ≡ walk (at n t ∷ rest) (after_conjunction c k)
+  pub conjunction_walks : (c : Guard (List ℕ)) (a : List Word) → IsConjunction c a → (n : ℕ) (t : TokenKind) (rest : List Word) (k : ConjunctionContext) → EndsTerms t → walk (a ++ (at n t ∷ rest)) (at_unit (first_of_all k)) ≡ walk (at n t ∷ rest) (after_conjunction c k)
   conjunction_walks _ _ (unit {u} {a} d) n t rest k h = unit_walks u a d n t rest (first_of_all k) h
   conjunction_walks _ _ (and m {c} {u} {a} {b} d e) n t rest k h = regroup a (at m AndAnd ∷ b) (at n t ∷ rest) (at_unit (first_of_all k)) ∙ conjunction_walks c a d m AndAnd (b ++ (at n t ∷ rest)) k (tt, tt, tt) ∙ unit_walks u b e n t rest (machine.and_after c k) h
 
-  pub guard_walks : (g : Formula (List ℕ)) (a : List Word) → IsGuard g a → (n : ℕ) (t : TokenKind) (rest : List Word) (k : ForGuard) → EndsTerms t → IsNoAnd (Some t) → walk (a ++ (at n t ∷ rest)) (at_guard k) ≡ walk (at n t ∷ rest) (after_guard g k)
+  pub guard_walks : (g : Guard (List ℕ)) (a : List Word) → IsGuard g a → (n : ℕ) (t : TokenKind) (rest : List Word) (k : GuardContext) → EndsTerms t → IsNoAnd (Some t) → walk (a ++ (at n t ∷ rest)) (at_guard k) ≡ walk (at n t ∷ rest) (after_guard g k)
   guard_walks _ _ (conjunction {c} {a} d) n t rest k h i = conjunction_walks c a d n t rest (first_of_any k) h ∙ conjunction_ends n t rest c (first_of_any k) i
   guard_walks _ _ (or m {g} {c} {a} {b} d e) n t rest k h i =
       regroup a (at m OrOr ∷ b) (at n t ∷ rest) (at_guard k) ∙ guard_walks g a d m OrOr (b ++ (at n t ∷ rest)) k (tt, tt, tt) tt
@@ -145,54 +145,54 @@ mutual
 
 -- ---- assignments
 
-comma_walks : (x : Action (List ℕ)) (a : List Word) → IsAction x a → (n : ℕ) (rest : List Word) (o : Opening) → walk (a ++ (at n Comma ∷ rest)) (at_action o) ≡ walk rest (at_action (with_actions o (x ∷ [])))
+comma_walks : (x : Assignment (List ℕ)) (a : List Word) → IsAssignment x a → (n : ℕ) (rest : List Word) (o : OpenTransition) → walk (a ++ (at n Comma ∷ rest)) (at_assignment o) ≡ walk rest (at_assignment (with_assignments o (x ∷ [])))
 comma_walks _ _ (assign m {e = e} {b = b} (scalar_name i x) q) n rest o = sum_walks e b q n Comma rest (value o (scalar x)) tt tt
 comma_walks _ _ (assign m {e = e} {b = b} (element_at i j l x {s} {a} p) q) n rest o =
     regroup (a ++ at l CloseBracket ∷ []) (at m Equals ∷ b) (at n Comma ∷ rest) (at_sum (place o x)) ∙ regroup a (at l CloseBracket ∷ []) (at m Equals ∷ (b ++ (at n Comma ∷ rest))) (at_sum (place o x))
     ∙ sum_walks s a p l CloseBracket (at m Equals ∷ (b ++ (at n Comma ∷ rest))) (place o x) tt tt ∙ sum_walks e b q n Comma rest (value o (element x s)) tt tt
 
-semicolon_walks : (x : Action (List ℕ)) (a : List Word) → IsAction x a → (n : ℕ) (rest : List Word) (o : Opening) → walk (a ++ (at n Semicolon ∷ rest)) (at_action o) ≡ walk rest (at_line (closed (with_actions o (x ∷ []))))
+semicolon_walks : (x : Assignment (List ℕ)) (a : List Word) → IsAssignment x a → (n : ℕ) (rest : List Word) (o : OpenTransition) → walk (a ++ (at n Semicolon ∷ rest)) (at_assignment o) ≡ walk rest (at_line (closed (with_assignments o (x ∷ []))))
 semicolon_walks _ _ (assign m {e = e} {b = b} (scalar_name i x) q) n rest o = sum_walks e b q n Semicolon rest (value o (scalar x)) tt tt
 semicolon_walks _ _ (assign m {e = e} {b = b} (element_at i j l x {s} {a} p) q) n rest o =
     regroup (a ++ at l CloseBracket ∷ []) (at m Equals ∷ b) (at n Semicolon ∷ rest) (at_sum (place o x)) ∙ regroup a (at l CloseBracket ∷ []) (at m Equals ∷ (b ++ (at n Semicolon ∷ rest))) (at_sum (place o x))
     ∙ sum_walks s a p l CloseBracket (at m Equals ∷ (b ++ (at n Semicolon ∷ rest))) (place o x) tt tt ∙ sum_walks e b q n Semicolon rest (value o (element x s)) tt tt
 
-abbrev opening : Draft → ℕ → Option (Formula (List ℕ)) → List ℕ → List (Action (List ℕ)) → Opening
-opening d n g x xs = record { draft = d; begins = n; guard = g; target = x; actions = xs }
+abbrev opening : OpenState → ℕ → Option (Guard (List ℕ)) → List ℕ → List (Assignment (List ℕ)) → OpenTransition
+opening d n g x xs = record { draft = d; begins = n; guard = g; target = x; assignments = xs }
 
-actions_go_on : (xs : List (Action (List ℕ))) (a : List Word) → AreActions xs a → (n : ℕ) (rest : List Word) (d : Draft) (i : ℕ) (g : Option (Formula (List ℕ))) (x : List ℕ)
-    → walk (a ++ (at n Comma ∷ rest)) (at_action (opening d i g x [])) ≡ walk rest (at_action (opening d i g x xs))
-actions_go_on _ _ (one_action {x = y} {a} p) n rest d i g x = comma_walks y a p n rest (opening d i g x [])
-actions_go_on _ _ (more_actions m {xs} {x = y} {a} {b} p q) n rest d i g x =
-    regroup a (at m Comma ∷ b) (at n Comma ∷ rest) (at_action (opening d i g x [])) ∙ actions_go_on xs a p m (b ++ (at n Comma ∷ rest)) d i g x ∙ comma_walks y b q n rest (opening d i g x xs)
+assignments_go_on : (xs : List (Assignment (List ℕ))) (a : List Word) → AreAssignments xs a → (n : ℕ) (rest : List Word) (d : OpenState) (i : ℕ) (g : Option (Guard (List ℕ))) (x : List ℕ)
+    → walk (a ++ (at n Comma ∷ rest)) (at_assignment (opening d i g x [])) ≡ walk rest (at_assignment (opening d i g x xs))
+assignments_go_on _ _ (one_assignment {x = y} {a} p) n rest d i g x = comma_walks y a p n rest (opening d i g x [])
+assignments_go_on _ _ (more_assignments m {xs} {x = y} {a} {b} p q) n rest d i g x =
+    regroup a (at m Comma ∷ b) (at n Comma ∷ rest) (at_assignment (opening d i g x [])) ∙ assignments_go_on xs a p m (b ++ (at n Comma ∷ rest)) d i g x ∙ comma_walks y b q n rest (opening d i g x xs)
 
-actions_end : (xs : List (Action (List ℕ))) (a : List Word) → AreActions xs a → (n : ℕ) (rest : List Word) (d : Draft) (i : ℕ) (g : Option (Formula (List ℕ))) (x : List ℕ)
-    → walk (a ++ (at n Semicolon ∷ rest)) (at_action (opening d i g x [])) ≡ walk rest (at_line (closed (opening d i g x xs)))
-actions_end _ _ (one_action {x = y} {a} p) n rest d i g x = semicolon_walks y a p n rest (opening d i g x [])
-actions_end _ _ (more_actions m {xs} {x = y} {a} {b} p q) n rest d i g x =
-    regroup a (at m Comma ∷ b) (at n Semicolon ∷ rest) (at_action (opening d i g x [])) ∙ actions_go_on xs a p m (b ++ (at n Semicolon ∷ rest)) d i g x ∙ semicolon_walks y b q n rest (opening d i g x xs)
+assignments_end : (xs : List (Assignment (List ℕ))) (a : List Word) → AreAssignments xs a → (n : ℕ) (rest : List Word) (d : OpenState) (i : ℕ) (g : Option (Guard (List ℕ))) (x : List ℕ)
+    → walk (a ++ (at n Semicolon ∷ rest)) (at_assignment (opening d i g x [])) ≡ walk rest (at_line (closed (opening d i g x xs)))
+assignments_end _ _ (one_assignment {x = y} {a} p) n rest d i g x = semicolon_walks y a p n rest (opening d i g x [])
+assignments_end _ _ (more_assignments m {xs} {x = y} {a} {b} p q) n rest d i g x =
+    regroup a (at m Comma ∷ b) (at n Semicolon ∷ rest) (at_assignment (opening d i g x [])) ∙ assignments_go_on xs a p m (b ++ (at n Semicolon ∷ rest)) d i g x ∙ semicolon_walks y b q n rest (opening d i g x xs)
 
-effects_end : (xs : List (Action (List ℕ))) (a : List Word) → AreEffects xs a → (n : ℕ) (rest : List Word) (d : Draft) (i : ℕ) (g : Option (Formula (List ℕ))) (x : List ℕ)
+effects_end : (xs : List (Assignment (List ℕ))) (a : List Word) → AreEffects xs a → (n : ℕ) (rest : List Word) (d : OpenState) (i : ℕ) (g : Option (Guard (List ℕ))) (x : List ℕ)
     → walk (a ++ (at n Semicolon ∷ rest)) (after_target (opening d i g x [])) ≡ walk rest (at_line (closed (opening d i g x xs)))
 effects_end _ _ no_effects n rest d i g x = refl
-effects_end _ _ (effects m {xs} {a} p) n rest d i g x = actions_end xs a p n rest d i g x
+effects_end _ _ (effects m {xs} {a} p) n rest d i g x = assignments_end xs a p n rest d i g x
 
 -- ---- lines and states
 
-condition_walks : (n : ℕ) (g : Option (Formula (List ℕ))) (a : List Word) → IsCondition n g a → (rest : List Word) (d : Draft) → walk (a ++ rest) (at_line d) ≡ walk rest (at_target d n g)
+condition_walks : (n : ℕ) (g : Option (Guard (List ℕ))) (a : List Word) → IsCondition n g a → (rest : List Word) (d : OpenState) → walk (a ++ rest) (at_line d) ≡ walk rest (at_target d n g)
 condition_walks _ _ _ (always n) rest d = refl
 condition_walks _ _ _ (when n m {g} {a} p) rest d = regroup a (at m Goto ∷ []) rest (at_guard (machine.line d n)) ∙ guard_walks g a p m Goto rest (machine.line d n) (tt, tt, tt) tt
 
-line_walks : (l : SourceLine) (a : List Word) → IsLine l a → (rest : List Word) (d : Draft) → walk (a ++ rest) (at_line d) ≡ walk rest (at_line (with_lines d (l ∷ [])))
+line_walks : (l : SourceTransition) (a : List Word) → IsLine l a → (rest : List Word) (d : OpenState) → walk (a ++ rest) (at_line d) ≡ walk rest (at_line (with_lines d (l ∷ [])))
 line_walks _ _ (line n m k g x xs {a} {b} p q) rest d =
     regroup a (at m (Name x) ∷ (b ++ at k Semicolon ∷ [])) rest (at_line d) ∙ condition_walks n g a p (at m (Name x) ∷ ((b ++ at k Semicolon ∷ []) ++ rest)) d
     ∙ regroup b (at k Semicolon ∷ []) rest (after_target (opening d n g x [])) ∙ effects_end xs b q k rest d n g x
 
 -- lists that grow at their ends
-abbrev lined : Source → ℕ → List ℕ → List SourceLine → Draft
+abbrev lined : Source → ℕ → List ℕ → List SourceTransition → OpenState
 lined s n x ls = record { source = s; state = record { line = n; name = x; lines = ls } }
 
-lines_walk : (ls : List SourceLine) (a : List Word) → AreLines ls a → (rest : List Word) (s : Source) (n : ℕ) (x : List ℕ) → walk (a ++ rest) (at_line (lined s n x [])) ≡ walk rest (at_line (lined s n x ls))
+lines_walk : (ls : List SourceTransition) (a : List Word) → AreLines ls a → (rest : List Word) (s : Source) (n : ℕ) (x : List ℕ) → walk (a ++ rest) (at_line (lined s n x [])) ≡ walk rest (at_line (lined s n x ls))
 lines_walk _ _ no_lines rest s n x = refl
 lines_walk _ _ (more_lines {ls} {l} {a} {b} p q) rest s n x = regroup a b rest (at_line (lined s n x [])) ∙ lines_walk ls a p (b ++ rest) s n x ∙ line_walks l b q rest (lined s n x ls)
 
@@ -210,7 +210,7 @@ states_go_on _ _ (more_states {ss} {a = a} p (state i j l y ls {a = b} q)) k res
 states_end : (ss : List SourceState) (a : List Word) → AreStates ss a → (ds : List Declaration) (n : ℕ) (x : List ℕ) → on (walk a (at_state (stated ds n x []))) finish ≡ Some (stated ds n x ss)
 states_end _ _ no_states ds n x = refl
 states_end _ _ (more_states {ss} {a = a} p (state i j l y ls {a = b} q)) ds n x =
-    ap (λ (o : Option Owed). on o finish)
+    ap (λ (o : Option ParseState). on o finish)
     (states_go_on ss a p i (at j (Name y) ∷ at l Colon ∷ b) ds n x ∙ ap (λ (w : List Word). walk w (at_line (lined (stated ds n x ss) i y []))) (sym (append-nil b)) ∙ lines_walk ls b q [] (stated ds n x ss) i y)
 
 -- ---- declarations
@@ -246,4 +246,4 @@ declarations_walk _ _ (more_declarations {ds} {d} {a} {b} p q) rest = regroup a 
 -- What spells a source leads to it.
 pub complete : (s : Source) (ws : List Word) → IsFile s ws → source_at ws ≡ Some s
 complete _ _ (file i j k n m l ds x ss {a} {b} p q) =
-    ap (λ (o : Option Owed). on o finish) (declarations_walk ds a p (at n Reset ∷ at m (Name x) ∷ at l Semicolon ∷ b)) ∙ states_end ss b q ds n x
+    ap (λ (o : Option ParseState). on o finish) (declarations_walk ds a p (at n Reset ∷ at m (Name x) ∷ at l Semicolon ∷ b)) ∙ states_end ss b q ds n x

@@ -1,10 +1,10 @@
 -- Words spell one part at most.
 use Rattle.std.proofs.Common.{◌≡◌, ℕ, List, [], Some, sym, ◌∙◌}
-use Rattle.fs_model.specs.Terms.{Term, Formula}
+use Rattle.fs_model.specs.Terms.{Term, Guard}
 use Rattle.fs_model.specs.Source.{Source}
 use Rattle.fs_grammar.specs.declared.token.TokenKind.TheVariants.{CloseParen, CloseBrace}
 use Rattle.fs_grammar.specs.declared.token.Token.{Token}
-use Rattle.fs_grammar.specs.Grammar.{ForConjunction, ForProduct, first_factor, first_product, first_of_all, first_of_any, parens, left, braces, line, after_product, after_conjunction}
+use Rattle.fs_grammar.specs.Grammar.{ConjunctionContext, ProductContext, first_factor, first_product, first_of_all, first_of_any, parens, left, braces, line, after_product, after_conjunction}
 use Rattle.grammar_laws.specs.Spelling.{Word, IsSum, IsGuard, IsFile}
 use Rattle.grammar_laws.specs.Faults.{Spells}
 use Rattle.grammar_laws.proofs.Complete.{complete, sum_walks, guard_walks}
@@ -23,10 +23,10 @@ one_file s r ws h k =
     cc
 
 -- some place to read a part at
-abbrev some_conjunction : ForConjunction
+abbrev some_conjunction : ConjunctionContext
 some_conjunction = first_of_any (line (record { source = record { declarations = []; reset_line = 0; reset = []; states = [] }; state = record { line = 0; name = []; lines = [] } }) 0)
 
-abbrev some_product : ForProduct
+abbrev some_product : ProductContext
 some_product = first_product (left (first_of_all some_conjunction))
 
 pub one_sum : (s r : Term (List ℕ)) (ws : List Word) → IsSum s ws → IsSum r ws → s ≡ r
@@ -35,7 +35,7 @@ one_sum s r ws h k =
     sym (sum_walks s ws h 0 CloseParen [] (parens (first_factor some_product)) tt tt) ∙ sum_walks r ws k 0 CloseParen [] (parens (first_factor some_product)) tt tt in
     cc
 
-pub one_guard : (g h : Formula (List ℕ)) (ws : List Word) → IsGuard g ws → IsGuard h ws → g ≡ h
+pub one_guard : (g h : Guard (List ℕ)) (ws : List Word) → IsGuard g ws → IsGuard h ws → g ≡ h
 one_guard g h ws p q =
     let same : Some (after_conjunction g some_conjunction) ≡ Some (after_conjunction h some_conjunction) =
     sym (guard_walks g ws p 0 CloseBrace [] (braces (first_of_all some_conjunction)) (tt, tt, tt) tt) ∙ guard_walks h ws q 0 CloseBrace [] (braces (first_of_all some_conjunction)) (tt, tt, tt) tt in

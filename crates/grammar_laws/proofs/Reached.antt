@@ -1,12 +1,12 @@
 -- What has been read at each place of the reading.
 use Rattle.std.specs.Prelude.{◌≡◌, ℕ, pos, List, [], ◌∷◌, ◌++◌, Option}
 use Rattle.fs_model.specs.declared.parts.Rel.{Rel}
-use Rattle.fs_model.specs.Terms.{Term, Formula, Action}
+use Rattle.fs_model.specs.Terms.{Term, Guard, Assignment}
 use Rattle.fs_model.specs.Source.{Declaration, Source}
 use Rattle.fs_grammar.specs.declared.token.TokenKind.TheVariants.{Fsmd, Declare, Reset, State, When, Name, Number, Semicolon, Colon, Comma, Equals, OpenParen, OpenBracket, OpenBrace, Plus, Minus, Star, Slash, Percent, Bang, AndAnd, OrOr, Relation}
 use Rattle.fs_grammar.specs.Grammar as machine
-use Rattle.fs_grammar.specs.Grammar.{Destination, Draft, Opening, ForFactor, ForProduct, ForSum, ForUnit, ForConjunction, ForGuard, Owed, at_start, at_one, at_semicolon, at_declaration, at_sort, at_declared, after_declared, at_reset, after_reset, at_state, at_state_name, after_state_name, at_line, at_target, after_target, at_action, after_action_name, at_equals, at_unit, after_conjunction, after_guard, at_factor, after_name, after_product, after_sum}
-use Rattle.grammar_laws.specs.Spelling.{Word, at, IsProduct, IsSum, IsConjunction, IsGuard, IsDestination, AreActions, IsCondition, IsState, AreNames, IsKind, AreDeclarations, IsFile}
+use Rattle.fs_grammar.specs.Grammar.{Destination, OpenState, OpenTransition, FactorContext, ProductContext, SumContext, UnitContext, ConjunctionContext, GuardContext, ParseState, at_start, at_one, at_semicolon, at_declaration, at_sort, at_declared, after_declared, at_reset, after_reset, at_state, at_state_name, after_state_name, at_line, at_target, after_target, at_assignment, after_assignment_name, at_equals, at_unit, after_conjunction, after_guard, at_factor, after_name, after_product, after_sum}
+use Rattle.grammar_laws.specs.Spelling.{Word, at, IsProduct, IsSum, IsConjunction, IsGuard, IsDestination, AreAssignments, IsCondition, IsState, AreNames, IsKind, AreDeclarations, IsFile}
 
 -- words in two parts
 pub record Cut (P Q : List Word → Type 0) (ws : List Word) : Type 0 where
@@ -50,69 +50,69 @@ pub data AfterReset : Source → List Word → Type 0 where
 
 -- ---- states and lines
 
-pub data AfterState : Draft → List Word → Type 0 where
+pub data AfterState : OpenState → List Word → Type 0 where
   named : (n m : ℕ) (s : Source) (x : List ℕ) (a : List Word) → IsFile s a → AfterState (record { source = s; state = record { line = n; name = x; lines = [] } }) (a ++ (at n State ∷ at m (Name x) ∷ []))
 
-abbrev pub IsDraft : Draft → List Word → Type 0
+abbrev pub IsDraft : OpenState → List Word → Type 0
 IsDraft d ws = Cut (IsFile d.source) (IsState d.state) ws
 
-pub data AfterTarget : Opening → List Word → Type 0 where
-  target : (n m : ℕ) (d : Draft) (g : Option (Formula (List ℕ))) (x : List ℕ) (a b : List Word) → IsDraft d a → IsCondition n g b → AfterTarget (record { draft = d; begins = n; guard = g; target = x; actions = [] }) (a ++ (b ++ at m (Name x) ∷ []))
+pub data AfterTarget : OpenTransition → List Word → Type 0 where
+  target : (n m : ℕ) (d : OpenState) (g : Option (Guard (List ℕ))) (x : List ℕ) (a b : List Word) → IsDraft d a → IsCondition n g b → AfterTarget (record { draft = d; begins = n; guard = g; target = x; assignments = [] }) (a ++ (b ++ at m (Name x) ∷ []))
 
 -- assignments up to the next one
-pub data BeforeAction : List (Action (List ℕ)) → List Word → Type 0 where
-  colon : (n : ℕ) → BeforeAction [] (at n Colon ∷ [])
-  next : (n m : ℕ) {xs : List (Action (List ℕ))} {a : List Word} → AreActions xs a → BeforeAction xs (at n Colon ∷ (a ++ at m Comma ∷ []))
+pub data BeforeAssignment : List (Assignment (List ℕ)) → List Word → Type 0 where
+  colon : (n : ℕ) → BeforeAssignment [] (at n Colon ∷ [])
+  next : (n m : ℕ) {xs : List (Assignment (List ℕ))} {a : List Word} → AreAssignments xs a → BeforeAssignment xs (at n Colon ∷ (a ++ at m Comma ∷ []))
 
 -- a line up to its next assignment
-pub record IsOpening (o : Opening) (ws : List Word) : Type 0 where
+pub record IsOpening (o : OpenTransition) (ws : List Word) : Type 0 where
   pub a : List Word
   pub b : List Word
   pub c : List Word
   pub m : ℕ
   pub draft : IsDraft o.draft a
   pub condition : IsCondition o.begins o.guard b
-  pub before : BeforeAction o.actions c
+  pub before : BeforeAssignment o.assignments c
   pub is : ws ≡ a ++ (b ++ (at m (Name o.target) ∷ c))
 
 -- ---- what was read before a part
 
 mutual
-  pub data BeforeUnit : ForUnit → List Word → Type 0 where
-    negates : (n : ℕ) (k : ForUnit) (a : List Word) → BeforeUnit k a → BeforeUnit (machine.negates k) (a ++ at n Bang ∷ [])
-    first_of_all : (k : ForConjunction) (a : List Word) → BeforeConjunction k a → BeforeUnit (machine.first_of_all k) a
-    and_after : (n : ℕ) (c : Formula (List ℕ)) (k : ForConjunction) (a b : List Word) → BeforeConjunction k a → IsConjunction c b → BeforeUnit (machine.and_after c k) (a ++ (b ++ at n AndAnd ∷ []))
+  pub data BeforeUnit : UnitContext → List Word → Type 0 where
+    negates : (n : ℕ) (k : UnitContext) (a : List Word) → BeforeUnit k a → BeforeUnit (machine.negates k) (a ++ at n Bang ∷ [])
+    first_of_all : (k : ConjunctionContext) (a : List Word) → BeforeConjunction k a → BeforeUnit (machine.first_of_all k) a
+    and_after : (n : ℕ) (c : Guard (List ℕ)) (k : ConjunctionContext) (a b : List Word) → BeforeConjunction k a → IsConjunction c b → BeforeUnit (machine.and_after c k) (a ++ (b ++ at n AndAnd ∷ []))
 
-  pub data BeforeConjunction : ForConjunction → List Word → Type 0 where
-    first_of_any : (k : ForGuard) (a : List Word) → BeforeGuard k a → BeforeConjunction (machine.first_of_any k) a
-    or_after : (n : ℕ) (g : Formula (List ℕ)) (k : ForGuard) (a b : List Word) → BeforeGuard k a → IsGuard g b → BeforeConjunction (machine.or_after g k) (a ++ (b ++ at n OrOr ∷ []))
+  pub data BeforeConjunction : ConjunctionContext → List Word → Type 0 where
+    first_of_any : (k : GuardContext) (a : List Word) → BeforeGuard k a → BeforeConjunction (machine.first_of_any k) a
+    or_after : (n : ℕ) (g : Guard (List ℕ)) (k : GuardContext) (a b : List Word) → BeforeGuard k a → IsGuard g b → BeforeConjunction (machine.or_after g k) (a ++ (b ++ at n OrOr ∷ []))
 
-  pub data BeforeGuard : ForGuard → List Word → Type 0 where
-    braces : (n : ℕ) (k : ForUnit) (a : List Word) → BeforeUnit k a → BeforeGuard (machine.braces k) (a ++ at n OpenBrace ∷ [])
-    line : (n : ℕ) (d : Draft) (a : List Word) → IsDraft d a → BeforeGuard (machine.line d n) (a ++ at n When ∷ [])
+  pub data BeforeGuard : GuardContext → List Word → Type 0 where
+    braces : (n : ℕ) (k : UnitContext) (a : List Word) → BeforeUnit k a → BeforeGuard (machine.braces k) (a ++ at n OpenBrace ∷ [])
+    line : (n : ℕ) (d : OpenState) (a : List Word) → IsDraft d a → BeforeGuard (machine.line d n) (a ++ at n When ∷ [])
 
 mutual
-  pub data BeforeFactor : ForFactor → List Word → Type 0 where
-    first_factor : (k : ForProduct) (a : List Word) → BeforeProduct k a → BeforeFactor (machine.first_factor k) a
-    times : (n : ℕ) (p : Term (List ℕ)) (k : ForProduct) (a b : List Word) → BeforeProduct k a → IsProduct p b → BeforeFactor (machine.times p k) (a ++ (b ++ at n Star ∷ []))
-    divides : (n : ℕ) (p : Term (List ℕ)) (k : ForProduct) (a b : List Word) → BeforeProduct k a → IsProduct p b → BeforeFactor (machine.divides p k) (a ++ (b ++ at n Slash ∷ []))
-    leaves : (n : ℕ) (p : Term (List ℕ)) (k : ForProduct) (a b : List Word) → BeforeProduct k a → IsProduct p b → BeforeFactor (machine.leaves p k) (a ++ (b ++ at n Percent ∷ []))
-    negative : (n : ℕ) (k : ForFactor) (a : List Word) → BeforeFactor k a → BeforeFactor (machine.negative k) (a ++ at n Minus ∷ [])
+  pub data BeforeFactor : FactorContext → List Word → Type 0 where
+    first_factor : (k : ProductContext) (a : List Word) → BeforeProduct k a → BeforeFactor (machine.first_factor k) a
+    times : (n : ℕ) (p : Term (List ℕ)) (k : ProductContext) (a b : List Word) → BeforeProduct k a → IsProduct p b → BeforeFactor (machine.times p k) (a ++ (b ++ at n Star ∷ []))
+    divides : (n : ℕ) (p : Term (List ℕ)) (k : ProductContext) (a b : List Word) → BeforeProduct k a → IsProduct p b → BeforeFactor (machine.divides p k) (a ++ (b ++ at n Slash ∷ []))
+    leaves : (n : ℕ) (p : Term (List ℕ)) (k : ProductContext) (a b : List Word) → BeforeProduct k a → IsProduct p b → BeforeFactor (machine.leaves p k) (a ++ (b ++ at n Percent ∷ []))
+    negative : (n : ℕ) (k : FactorContext) (a : List Word) → BeforeFactor k a → BeforeFactor (machine.negative k) (a ++ at n Minus ∷ [])
 
-  pub data BeforeProduct : ForProduct → List Word → Type 0 where
-    first_product : (k : ForSum) (a : List Word) → BeforeSum k a → BeforeProduct (machine.first_product k) a
-    plus : (n : ℕ) (s : Term (List ℕ)) (k : ForSum) (a b : List Word) → BeforeSum k a → IsSum s b → BeforeProduct (machine.plus s k) (a ++ (b ++ at n Plus ∷ []))
-    minus : (n : ℕ) (s : Term (List ℕ)) (k : ForSum) (a b : List Word) → BeforeSum k a → IsSum s b → BeforeProduct (machine.minus s k) (a ++ (b ++ at n Minus ∷ []))
+  pub data BeforeProduct : ProductContext → List Word → Type 0 where
+    first_product : (k : SumContext) (a : List Word) → BeforeSum k a → BeforeProduct (machine.first_product k) a
+    plus : (n : ℕ) (s : Term (List ℕ)) (k : SumContext) (a b : List Word) → BeforeSum k a → IsSum s b → BeforeProduct (machine.plus s k) (a ++ (b ++ at n Plus ∷ []))
+    minus : (n : ℕ) (s : Term (List ℕ)) (k : SumContext) (a b : List Word) → BeforeSum k a → IsSum s b → BeforeProduct (machine.minus s k) (a ++ (b ++ at n Minus ∷ []))
 
-  pub data BeforeSum : ForSum → List Word → Type 0 where
-    parens : (n : ℕ) (k : ForFactor) (a : List Word) → BeforeFactor k a → BeforeSum (machine.parens k) (a ++ at n OpenParen ∷ [])
-    index : (n m : ℕ) (x : List ℕ) (k : ForFactor) (a : List Word) → BeforeFactor k a → BeforeSum (machine.index x k) (a ++ (at n (Name x) ∷ at m OpenBracket ∷ []))
-    left : (k : ForUnit) (a : List Word) → BeforeUnit k a → BeforeSum (machine.left k) a
-    right : (n : ℕ) (r : Rel) (l : Term (List ℕ)) (k : ForUnit) (a b : List Word) → BeforeUnit k a → IsSum l b → BeforeSum (machine.right r l k) (a ++ (b ++ at n (Relation r) ∷ []))
-    place : (n m : ℕ) (o : Opening) (x : List ℕ) (a : List Word) → IsOpening o a → BeforeSum (machine.place o x) (a ++ (at n (Name x) ∷ at m OpenBracket ∷ []))
-    value : (n : ℕ) (o : Opening) (d : Destination) (a b : List Word) → IsOpening o a → IsDestination d b → BeforeSum (machine.value o d) (a ++ (b ++ at n Equals ∷ []))
+  pub data BeforeSum : SumContext → List Word → Type 0 where
+    parens : (n : ℕ) (k : FactorContext) (a : List Word) → BeforeFactor k a → BeforeSum (machine.parens k) (a ++ at n OpenParen ∷ [])
+    index : (n m : ℕ) (x : List ℕ) (k : FactorContext) (a : List Word) → BeforeFactor k a → BeforeSum (machine.index x k) (a ++ (at n (Name x) ∷ at m OpenBracket ∷ []))
+    left : (k : UnitContext) (a : List Word) → BeforeUnit k a → BeforeSum (machine.left k) a
+    right : (n : ℕ) (r : Rel) (l : Term (List ℕ)) (k : UnitContext) (a b : List Word) → BeforeUnit k a → IsSum l b → BeforeSum (machine.right r l k) (a ++ (b ++ at n (Relation r) ∷ []))
+    place : (n m : ℕ) (o : OpenTransition) (x : List ℕ) (a : List Word) → IsOpening o a → BeforeSum (machine.place o x) (a ++ (at n (Name x) ∷ at m OpenBracket ∷ []))
+    value : (n : ℕ) (o : OpenTransition) (d : Destination) (a b : List Word) → IsOpening o a → IsDestination d b → BeforeSum (machine.value o d) (a ++ (b ++ at n Equals ∷ []))
 
-abbrev pub Reached : Owed → List Word → Type 0
+abbrev pub Reached : ParseState → List Word → Type 0
 Reached at_start ws = ws ≡ []
 Reached at_one ws = (i : ℕ) × (ws ≡ at i Fsmd ∷ [])
 Reached at_semicolon ws = (i : ℕ) × (j : ℕ) × (ws ≡ at i Fsmd ∷ at j (Number (pos 1)) ∷ [])
@@ -128,8 +128,8 @@ Reached (after_state_name d) ws = AfterState d ws
 Reached (at_line d) ws = IsDraft d ws
 Reached (at_target d n g) ws = Cut (IsDraft d) (IsCondition n g) ws
 Reached (after_target o) ws = AfterTarget o ws
-Reached (at_action o) ws = IsOpening o ws
-Reached (after_action_name o x) ws = (n : ℕ) × Cut (IsOpening o) (Is (at n (Name x) ∷ [])) ws
+Reached (at_assignment o) ws = IsOpening o ws
+Reached (after_assignment_name o x) ws = (n : ℕ) × Cut (IsOpening o) (Is (at n (Name x) ∷ [])) ws
 Reached (at_equals o d) ws = Cut (IsOpening o) (IsDestination d) ws
 Reached (at_unit k) ws = BeforeUnit k ws
 Reached (after_conjunction c k) ws = Cut (BeforeConjunction k) (IsConjunction c) ws

@@ -3,12 +3,12 @@ use Rattle.std.specs.Prelude.{ℕ, ℤ, pos, List, [], ◌∷◌, ◌++◌, Opti
 use Rattle.fs_model.specs.declared.parts.Rel.{Rel}
 use Rattle.fs_model.specs.declared.parts.Role.{Role}
 use Rattle.fs_model.specs.declared.parts.Sort.{Sort}
-use Rattle.fs_model.specs.Terms.{Term, Formula, Action}
-use Rattle.fs_model.specs.Source.{Declaration, SourceLine, SourceState, Source}
+use Rattle.fs_model.specs.Terms.{Term, Guard, Assignment}
+use Rattle.fs_model.specs.Source.{Declaration, SourceTransition, SourceState, Source}
 use Rattle.fs_grammar.specs.declared.token.TokenKind.{TokenKind}
 use Rattle.fs_grammar.specs.declared.token.TokenKind.TheVariants.{Fsmd, Declare, Array, Reset, State, When, Goto, Name, Number, Semicolon, Colon, Comma, Equals, OpenParen, CloseParen, OpenBracket, CloseBracket, OpenBrace, CloseBrace, Plus, Minus, Star, Slash, Percent, Bang, AndAnd, OrOr, Relation}
 use Rattle.fs_grammar.specs.Grammar.{Destination}
-use Rattle.grammar_laws.specs.Spelling.{Word, at, IsFactor, IsProduct, IsSum, IsUnit, IsConjunction, IsGuard, IsDestination, IsAction, AreActions, AreEffects, IsCondition, IsLine, AreLines, IsState, AreStates, AreNames, IsKind, IsDeclaration, AreDeclarations, IsFile}
+use Rattle.grammar_laws.specs.Spelling.{Word, at, IsFactor, IsProduct, IsSum, IsUnit, IsConjunction, IsGuard, IsDestination, IsAssignment, AreAssignments, AreEffects, IsCondition, IsLine, AreLines, IsState, AreStates, AreNames, IsKind, IsDeclaration, AreDeclarations, IsFile}
 
 pub data Rule : Type 0 where
   factor : Rule
@@ -107,16 +107,16 @@ abbrev pub Spelled : Rule → List Word → Type 0
 Spelled factor ws = (f : Term (List ℕ)) × IsFactor f ws
 Spelled product ws = (p : Term (List ℕ)) × IsProduct p ws
 Spelled sum ws = (s : Term (List ℕ)) × IsSum s ws
-Spelled unit ws = (u : Formula (List ℕ)) × IsUnit u ws
-Spelled conjunction ws = (c : Formula (List ℕ)) × IsConjunction c ws
-Spelled guard ws = (g : Formula (List ℕ)) × IsGuard g ws
+Spelled unit ws = (u : Guard (List ℕ)) × IsUnit u ws
+Spelled conjunction ws = (c : Guard (List ℕ)) × IsConjunction c ws
+Spelled guard ws = (g : Guard (List ℕ)) × IsGuard g ws
 Spelled destination ws = (d : Destination) × IsDestination d ws
-Spelled assign ws = (x : Action (List ℕ)) × IsAction x ws
-Spelled assigns ws = (xs : List (Action (List ℕ))) × AreActions xs ws
-Spelled effects ws = (xs : List (Action (List ℕ))) × AreEffects xs ws
-Spelled condition ws = (n : ℕ) × (g : Option (Formula (List ℕ))) × IsCondition n g ws
-Spelled line ws = (l : SourceLine) × IsLine l ws
-Spelled lines ws = (ls : List SourceLine) × AreLines ls ws
+Spelled assign ws = (x : Assignment (List ℕ)) × IsAssignment x ws
+Spelled assigns ws = (xs : List (Assignment (List ℕ))) × AreAssignments xs ws
+Spelled effects ws = (xs : List (Assignment (List ℕ))) × AreEffects xs ws
+Spelled condition ws = (n : ℕ) × (g : Option (Guard (List ℕ))) × IsCondition n g ws
+Spelled line ws = (l : SourceTransition) × IsLine l ws
+Spelled lines ws = (ls : List SourceTransition) × AreLines ls ws
 Spelled state ws = (s : SourceState) × IsState s ws
 Spelled states ws = (ss : List SourceState) × AreStates ss ws
 Spelled names ws = (xs : List (List ℕ)) × AreNames xs ws

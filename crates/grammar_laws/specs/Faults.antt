@@ -19,7 +19,7 @@ word_of t = at t.place.line t.kind
 
 -- no token is past the limit of its guard or assignment
 abbrev pub AreClear : List Token → Type 0
-AreClear ts = AllByRecursion (λ t. t.over ≡ false) ts
+AreClear ts = AllByRecursion (λ t. t.past_limit ≡ false) ts
 
 -- The tokens up to the end spell the source, and none of them is over.
 pub record Spells (s : Source) (ts : List Token) : Type 0 where
@@ -47,7 +47,7 @@ IsWrong BadByte ws t = t.kind ≡ Bad flaws.Byte
 IsWrong BadWord ws t = t.kind ≡ Bad flaws.Word
 IsWrong NumberTooBig ws t = t.kind ≡ Bad flaws.Number
 IsWrong Unexpected ws t = IsPlain t.kind × (CanFollow ws t → ⊥)
-IsWrong Operators ws t = CanFollow ws t × (t.over ≡ true)
+IsWrong Operators ws t = CanFollow ws t × (t.past_limit ≡ true)
 IsWrong Ended ws t = (t.kind ≡ End) × ((s : Source) → IsFile s ws → ⊥)
 
 -- The tokens before begin a file and none of them is over, and the next one is wrong.

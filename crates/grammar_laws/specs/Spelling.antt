@@ -4,9 +4,9 @@ use Rattle.fs_model.specs.declared.parts.Rel.{Rel}
 use Rattle.fs_model.specs.declared.parts.Role.{Role}
 use Rattle.fs_model.specs.declared.parts.Sort.{Sort}
 use Rattle.fs_model.specs.declared.parts.Sort.TheVariants as sorts
-use Rattle.fs_model.specs.Terms.{Term, Variable, Read, Sum, Difference, Product, Quotient, Remainder, Negative, Formula, Test, Not, And, Or, Action}
+use Rattle.fs_model.specs.Terms.{Term, Variable, Read, Sum, Difference, Product, Quotient, Remainder, Negative, Guard, Test, Not, And, Or, Assignment}
 use Rattle.fs_model.specs.Terms as terms
-use Rattle.fs_model.specs.Source.{Declaration, SourceLine, SourceState, Source}
+use Rattle.fs_model.specs.Source.{Declaration, SourceTransition, SourceState, Source}
 use Rattle.fs_grammar.specs.declared.token.TokenKind.{TokenKind}
 use Rattle.fs_grammar.specs.declared.token.TokenKind.TheVariants.{Fsmd, Declare, Array, Reset, State, When, Goto, Name, Number, Semicolon, Colon, Comma, Equals, OpenParen, CloseParen, OpenBracket, CloseBracket, OpenBrace, CloseBrace, Plus, Minus, Star, Slash, Percent, Bang, AndAnd, OrOr, Relation}
 use Rattle.fs_grammar.specs.Grammar.{Destination, scalar, element, assigned}
@@ -41,18 +41,18 @@ mutual
 -- conjunction = unit { "&&" unit }
 -- guard = conjunction { "||" conjunction }
 mutual
-  pub data IsUnit : Formula (List ℕ) → List Word → Type 0 where
-    not : (n : ℕ) {u : Formula (List ℕ)} {a : List Word} → IsUnit u a → IsUnit (Not u) (at n Bang ∷ a)
-    braces : (n m : ℕ) {g : Formula (List ℕ)} {a : List Word} → IsGuard g a → IsUnit g (at n OpenBrace ∷ (a ++ at m CloseBrace ∷ []))
+  pub data IsUnit : Guard (List ℕ) → List Word → Type 0 where
+    not : (n : ℕ) {u : Guard (List ℕ)} {a : List Word} → IsUnit u a → IsUnit (Not u) (at n Bang ∷ a)
+    braces : (n m : ℕ) {g : Guard (List ℕ)} {a : List Word} → IsGuard g a → IsUnit g (at n OpenBrace ∷ (a ++ at m CloseBrace ∷ []))
     literal : (n : ℕ) (r : Rel) {l s : Term (List ℕ)} {a b : List Word} → IsSum l a → IsSum s b → IsUnit (Test (record { relation = r; left = l; right = s })) (a ++ (at n (Relation r) ∷ b))
 
-  pub data IsConjunction : Formula (List ℕ) → List Word → Type 0 where
-    unit : {u : Formula (List ℕ)} {a : List Word} → IsUnit u a → IsConjunction u a
-    and : (n : ℕ) {c u : Formula (List ℕ)} {a b : List Word} → IsConjunction c a → IsUnit u b → IsConjunction (And c u) (a ++ (at n AndAnd ∷ b))
+  pub data IsConjunction : Guard (List ℕ) → List Word → Type 0 where
+    unit : {u : Guard (List ℕ)} {a : List Word} → IsUnit u a → IsConjunction u a
+    and : (n : ℕ) {c u : Guard (List ℕ)} {a b : List Word} → IsConjunction c a → IsUnit u b → IsConjunction (And c u) (a ++ (at n AndAnd ∷ b))
 
-  pub data IsGuard : Formula (List ℕ) → List Word → Type 0 where
-    conjunction : {c : Formula (List ℕ)} {a : List Word} → IsConjunction c a → IsGuard c a
-    or : (n : ℕ) {g c : Formula (List ℕ)} {a b : List Word} → IsGuard g a → IsConjunction c b → IsGuard (Or g c) (a ++ (at n OrOr ∷ b))
+  pub data IsGuard : Guard (List ℕ) → List Word → Type 0 where
+    conjunction : {c : Guard (List ℕ)} {a : List Word} → IsConjunction c a → IsGuard c a
+    or : (n : ℕ) {g c : Guard (List ℕ)} {a b : List Word} → IsGuard g a → IsConjunction c b → IsGuard (Or g c) (a ++ (at n OrOr ∷ b))
 
 -- destination = name [ "[" sum "]" ]
 pub data IsDestination : Destination → List Word → Type 0 where
@@ -60,37 +60,37 @@ pub data IsDestination : Destination → List Word → Type 0 where
   element_at : (n m k : ℕ) (x : List ℕ) {s : Term (List ℕ)} {a : List Word} → IsSum s a → IsDestination (element x s) (at n (Name x) ∷ at m OpenBracket ∷ (a ++ at k CloseBracket ∷ []))
 
 -- assign = destination "=" sum
-pub data IsAction : Action (List ℕ) → List Word → Type 0 where
-  assign : (n : ℕ) {d : Destination} {e : Term (List ℕ)} {a b : List Word} → IsDestination d a → IsSum e b → IsAction (assigned d e) (a ++ (at n Equals ∷ b))
+pub data IsAssignment : Assignment (List ℕ) → List Word → Type 0 where
+  assign : (n : ℕ) {d : Destination} {e : Term (List ℕ)} {a b : List Word} → IsDestination d a → IsSum e b → IsAssignment (assigned d e) (a ++ (at n Equals ∷ b))
 
 -- assigns = assign { "," assign }
-pub data AreActions : List (Action (List ℕ)) → List Word → Type 0 where
-  one_action : {x : Action (List ℕ)} {a : List Word} → IsAction x a → AreActions (x ∷ []) a
-  more_actions : (n : ℕ) {xs : List (Action (List ℕ))} {x : Action (List ℕ)} {a b : List Word} → AreActions xs a → IsAction x b → AreActions (xs ++ x ∷ []) (a ++ (at n Comma ∷ b))
+pub data AreAssignments : List (Assignment (List ℕ)) → List Word → Type 0 where
+  one_assignment : {x : Assignment (List ℕ)} {a : List Word} → IsAssignment x a → AreAssignments (x ∷ []) a
+  more_assignments : (n : ℕ) {xs : List (Assignment (List ℕ))} {x : Assignment (List ℕ)} {a b : List Word} → AreAssignments xs a → IsAssignment x b → AreAssignments (xs ++ x ∷ []) (a ++ (at n Comma ∷ b))
 
 -- effects = [ ":" assigns ]
-pub data AreEffects : List (Action (List ℕ)) → List Word → Type 0 where
+pub data AreEffects : List (Assignment (List ℕ)) → List Word → Type 0 where
   no_effects : AreEffects [] []
-  effects : (n : ℕ) {xs : List (Action (List ℕ))} {a : List Word} → AreActions xs a → AreEffects xs (at n Colon ∷ a)
+  effects : (n : ℕ) {xs : List (Assignment (List ℕ))} {a : List Word} → AreAssignments xs a → AreEffects xs (at n Colon ∷ a)
 
 -- condition = [ "when" guard ] "goto", with the line of its first word
-pub data IsCondition : ℕ → Option (Formula (List ℕ)) → List Word → Type 0 where
+pub data IsCondition : ℕ → Option (Guard (List ℕ)) → List Word → Type 0 where
   always : (n : ℕ) → IsCondition n None (at n Goto ∷ [])
-  when : (n m : ℕ) {g : Formula (List ℕ)} {a : List Word} → IsGuard g a → IsCondition n (Some g) (at n When ∷ (a ++ at m Goto ∷ []))
+  when : (n m : ℕ) {g : Guard (List ℕ)} {a : List Word} → IsGuard g a → IsCondition n (Some g) (at n When ∷ (a ++ at m Goto ∷ []))
 
 -- line = condition name effects ";"
-pub data IsLine : SourceLine → List Word → Type 0 where
-  line : (n m k : ℕ) (g : Option (Formula (List ℕ))) (x : List ℕ) (xs : List (Action (List ℕ))) {a b : List Word} → IsCondition n g a → AreEffects xs b
-      → IsLine (record { line = n; content = record { guard = g; target = x; actions = xs } }) (a ++ (at m (Name x) ∷ (b ++ at k Semicolon ∷ [])))
+pub data IsLine : SourceTransition → List Word → Type 0 where
+  line : (n m k : ℕ) (g : Option (Guard (List ℕ))) (x : List ℕ) (xs : List (Assignment (List ℕ))) {a b : List Word} → IsCondition n g a → AreEffects xs b
+      → IsLine (record { line = n; content = record { guard = g; target = x; assignments = xs } }) (a ++ (at m (Name x) ∷ (b ++ at k Semicolon ∷ [])))
 
 -- lines = { line }
-pub data AreLines : List SourceLine → List Word → Type 0 where
+pub data AreLines : List SourceTransition → List Word → Type 0 where
   no_lines : AreLines [] []
-  more_lines : {ls : List SourceLine} {l : SourceLine} {a b : List Word} → AreLines ls a → IsLine l b → AreLines (ls ++ l ∷ []) (a ++ b)
+  more_lines : {ls : List SourceTransition} {l : SourceTransition} {a b : List Word} → AreLines ls a → IsLine l b → AreLines (ls ++ l ∷ []) (a ++ b)
 
 -- state = "state" name ":" lines
 pub data IsState : SourceState → List Word → Type 0 where
-  state : (n m k : ℕ) (x : List ℕ) (ls : List SourceLine) {a : List Word} → AreLines ls a → IsState (record { line = n; name = x; lines = ls }) (at n State ∷ at m (Name x) ∷ at k Colon ∷ a)
+  state : (n m k : ℕ) (x : List ℕ) (ls : List SourceTransition) {a : List Word} → AreLines ls a → IsState (record { line = n; name = x; lines = ls }) (at n State ∷ at m (Name x) ∷ at k Colon ∷ a)
 
 -- states = { state }
 pub data AreStates : List SourceState → List Word → Type 0 where

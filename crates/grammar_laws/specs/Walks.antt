@@ -2,7 +2,7 @@
 use Rattle.std.specs.Prelude.{List, [], ◌∷◌, map, Option, Some, None}
 use Rattle.fs_model.specs.Source.{Source}
 use Rattle.fs_grammar.specs.declared.token.Token.{Token}
-use Rattle.fs_grammar.specs.Grammar.{Owed, at_start, step, finish}
+use Rattle.fs_grammar.specs.Grammar.{ParseState, at_start, step, finish}
 use Rattle.grammar_laws.specs.Spelling.{Word, at}
 
 -- the tokens by their lines and kinds
@@ -15,7 +15,7 @@ on None f = None
 on (Some s) f = f s
 
 -- where words lead from a place, or none where one of them cannot follow
-abbrev pub walk : List Word → Owed → Option Owed
+abbrev pub walk : List Word → ParseState → Option ParseState
 walk [] s = Some s
 walk (at n k ∷ ws) s = on (step s n k) (walk ws)
 

@@ -8,13 +8,13 @@
 
 ghost use Rattle.std.specs.Prelude.{◌≡◌, ℕ, List, [], ◌∷◌, ◌++◌, Some, None, Ok, Err};
 ghost use Rattle.fs_model.specs.declared.parts.Rel.{Rel};
-ghost use Rattle.fs_model.specs.Terms.{Term, Variable, Difference, Formula, Test, Not, And};
+ghost use Rattle.fs_model.specs.Terms.{Term, Variable, Difference, Guard, Test, Not, And};
 ghost use Rattle.fs_model.specs.Source.{Source};
 ghost use Rattle.fs_grammar.specs.declared.fault.TextFault.{TextFault};
 ghost use Rattle.fs_grammar.specs.declared.token.TokenKind.{TokenKind};
 ghost use Rattle.fs_grammar.specs.declared.token.TokenKind.TheVariants.{Name, Minus, Bang, AndAnd, Relation};
 ghost use Rattle.fs_grammar.specs.declared.token.Token.{Token};
-ghost use Rattle.fs_grammar.specs.Grammar.{Owed, at_start, step, reading};
+ghost use Rattle.fs_grammar.specs.Grammar.{ParseState, at_start, step, reading};
 ghost use Rattle.grammar_laws.specs.Spelling.{Word, at, IsSum, IsGuard, IsFile};
 ghost use Rattle.grammar_laws.specs.Walks.{walk};
 ghost use Rattle.grammar_laws.specs.Beginnings.{Rule, Part, IsAlternative, Spelled, AreSpelled, Begins, BeginsFile};
@@ -40,10 +40,10 @@ pub fn the_fault_is_at_the_first_wrong_token()
 /// Words lead somewhere exactly where they begin a file, and a token can follow them exactly where
 /// the reading has a step for it.
 pub fn a_token_can_follow_where_there_is_a_step()
-    ensures leads { (ws : List Word) (s : Owed) → walk ws at_start ≡ Some s → BeginsFile ws }
+    ensures leads { (ws : List Word) (s : ParseState) → walk ws at_start ≡ Some s → BeginsFile ws }
     ensures sticks { (ws : List Word) → walk ws at_start ≡ None → BeginsFile ws → ⊥ }
-    ensures follows { (ws : List Word) (s r : Owed) (n : ℕ) (t : TokenKind) → walk ws at_start ≡ Some s → step s n t ≡ Some r → BeginsFile (ws ++ at n t ∷ []) }
-    ensures fails { (ws : List Word) (s : Owed) (n : ℕ) (t : TokenKind) → walk ws at_start ≡ Some s → step s n t ≡ None → BeginsFile (ws ++ at n t ∷ []) → ⊥ }
+    ensures follows { (ws : List Word) (s r : ParseState) (n : ℕ) (t : TokenKind) → walk ws at_start ≡ Some s → step s n t ≡ Some r → BeginsFile (ws ++ at n t ∷ []) }
+    ensures fails { (ws : List Word) (s : ParseState) (n : ℕ) (t : TokenKind) → walk ws at_start ≡ Some s → step s n t ≡ None → BeginsFile (ws ++ at n t ∷ []) → ⊥ }
 {}
 
 /// A text spells one source at most, and words spell one sum and one guard at most.
@@ -51,7 +51,7 @@ pub fn a_text_spells_one_source()
     ensures tokens { (s r : Source) (ts : List Token) → Spells s ts → Spells r ts → s ≡ r }
     ensures words { (s r : Source) (ws : List Word) → IsFile s ws → IsFile r ws → s ≡ r }
     ensures sums { (s r : Term (List ℕ)) (ws : List Word) → IsSum s ws → IsSum r ws → s ≡ r }
-    ensures guards { (g h : Formula (List ℕ)) (ws : List Word) → IsGuard g ws → IsGuard h ws → g ≡ h }
+    ensures guards { (g h : Guard (List ℕ)) (ws : List Word) → IsGuard g ws → IsGuard h ws → g ≡ h }
 {}
 
 /// Two examples of what is spelled: chains group to the left, as in `x - y - z`, and `!` binds more

@@ -8,7 +8,7 @@ use Rattle.fs_model.specs.declared.parts.Role.TheVariants.{Input, Output, Local}
 use Rattle.fs_model.specs.declared.parts.VarInfo.{VarInfo}
 use Rattle.fs_model.specs.Machines.{Fsmd}
 use Rattle.fs_model.specs.Stores.{Store}
-use Rattle.fs_model.specs.Runs.{Inputs, Run, Goes, Content, SameBehaviour, start, first_scalar, is_input, is_scalar as holds_number, output}
+use Rattle.fs_model.specs.Runs.{Inputs, Run, FirstReturn, Content, SameBehaviour, start, first_scalar, is_input, is_scalar as holds_number, output}
 use Rattle.fs_model.proofs.Determined.{goes_once}
 use Rattle.fs_pair.specs.Faces.{is_face, named, is_like, lacks_match, first_unmatched, interface_fault}
 use Rattle.nf_terms.specs.Terms.{Polynomial, Zero, polynomial_of_symbol}
@@ -103,10 +103,10 @@ right_known lefts vs h e = record {
 abbrev pub end_of : List VarInfo → Fsmd → Inputs → List Polynomial → Store
 end_of lefts m ins last = store_in (given lefts ins) (start m ins).array last
 
-run_goes : (lefts : List VarInfo) (m : Fsmd) (last : List Polynomial) (ins : Inputs) → InputsKnown lefts m.variables → LeadsTo m (start_vector lefts m.variables) last → (n : ℕ) × Goes m n m.reset (start m ins) (end_of lefts m ins last)
+run_goes : (lefts : List VarInfo) (m : Fsmd) (last : List Polynomial) (ins : Inputs) → InputsKnown lefts m.variables → LeadsTo m (start_vector lefts m.variables) last → (n : ℕ) × FirstReturn m n m.reset (start m ins) (end_of lefts m ins last)
 run_goes lefts m last ins k l =
     let g = l.goes (given lefts ins) (start m ins).array in
-    (g.0, subst (λ (s : Store). Goes m g.0 m.reset s (end_of lefts m ins last)) (start_stands lefts m ins k) g.1)
+    (g.0, subst (λ (s : Store). FirstReturn m g.0 m.reset s (end_of lefts m ins last)) (start_stands lefts m ins k) g.1)
 
 other_run : (lefts : List VarInfo) (m k : Fsmd) (last other : List Polynomial) (ins : Inputs) (outs : List ℕ → Option Content) (n : ℕ) → InputsKnown lefts m.variables → InputsKnown lefts k.variables
     → LeadsTo m (start_vector lefts m.variables) last → LeadsTo k (start_vector lefts k.variables) other

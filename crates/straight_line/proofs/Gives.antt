@@ -8,7 +8,7 @@ use Rattle.nf_terms.specs.RawSums.{raw_negation}
 use Rattle.nf_terms.specs.declared.stop.NfStop.{NfStop}
 use Rattle.nf_terms.specs.declared.stop.NfStop.TheVariants.{NoMemory}
 use Rattle.straight_line.specs.Execution.{Outcome, OrNoMemory, InTurn, Evaluates, Gives, IsNumber, Adds, Subtracts, Multiplies, Assigns}
-use Rattle.fs_model.specs.Terms.{Action, Assign}
+use Rattle.fs_model.specs.Terms.{Assignment, Assign}
 use Rattle.std.proofs.lemmas.Bool.Decides.{nat_tests}
 use Rattle.straight_line.specs.Vectors.{Means}
 use Rattle.straight_line.specs.Steps.{is_settable, Acts}
@@ -66,16 +66,16 @@ negative_ends vector e a p q f h n = record { gives = subst (λ z. Evaluates vec
 pub ruleset gives = (gives-memory, gives-number, gives-variable)
 
 -- ---- assignments
-pub assign_stops : (before next : List Polynomial) (a : Action ℕ) (x : ℕ) (e : Term ℕ) (stop : NfStop) (outcome : Outcome (List Polynomial)) → a ≡ Assign x e → outcome ≡ Err stop → Gives before e (Err stop) → OrNoMemory (Assigns before next a) outcome
+pub assign_stops : (before next : List Polynomial) (a : Assignment ℕ) (x : ℕ) (e : Term ℕ) (stop : NfStop) (outcome : Outcome (List Polynomial)) → a ≡ Assign x e → outcome ≡ Err stop → Gives before e (Err stop) → OrNoMemory (Assigns before next a) outcome
 assign_stops before next a x e stop outcome f o h =
     subst (λ r. OrNoMemory (Assigns before next a) r) (sym o) (subst (λ z. OrNoMemory (Assigns before next z) (Err stop)) (sym f) (stops_first (Evaluates before e) (λ p r. r ≡ Ok (slice_set next x p)) stop h.gives))
 
-pub assign_ends : (before next : List Polynomial) (a : Action ℕ) (x : ℕ) (e : Term ℕ) (p : Polynomial) → a ≡ Assign x e → Gives before e (Ok p) → Assigns before next a (Ok (slice_set next x p))
+pub assign_ends : (before next : List Polynomial) (a : Assignment ℕ) (x : ℕ) (e : Term ℕ) (p : Polynomial) → a ≡ Assign x e → Gives before e (Ok p) → Assigns before next a (Ok (slice_set next x p))
 assign_ends before next a x e p f h = subst (λ z. Assigns before next z (Ok (slice_set next x p))) (sym f) (goes_on (Evaluates before e) (λ z r. r ≡ Ok (slice_set next x z)) p (Ok (slice_set next x p)) h.gives refl)
 
 in_range : (x n : ℕ) (e : Term ℕ) → is_settable n (Assign x e) ≡ true → x < n
 in_range x n e h = grind (arith, nat_tests, h)
 
-pub assign_acts : (vector old : List Polynomial) (a : Action ℕ) (x : ℕ) (e : Term ℕ) (p : Polynomial) → a ≡ Assign x e → is_settable (length old) a ≡ true → Means e vector p → Acts a vector old (slice_set old x p)
+pub assign_acts : (vector old : List Polynomial) (a : Assignment ℕ) (x : ℕ) (e : Term ℕ) (p : Polynomial) → a ≡ Assign x e → is_settable (length old) a ≡ true → Means e vector p → Acts a vector old (slice_set old x p)
 assign_acts vector old a x e p f h m =
     subst (λ z. Acts z vector old (slice_set old x p)) (sym f) (assigned_acts vector old (slice_set old x p) x e p (in_range x (length old) e (subst (λ z. is_settable (length old) z ≡ true) f h)) refl m)

@@ -2,30 +2,30 @@
 use Rattle.std.proofs.Common.{◌≡◌, ℕ, ◌+◌, ◌≤◌, List, [], ◌∷◌, ◌++◌, length, ap, sym, refl, ◌∙◌, arith, Option, Some, None, Bool, true, false, length-append}
 use Rattle.std.specs.Prelude.{not, ◌&&◌}
 use Rattle.std.specs.Option.{is_none}
-use Rattle.fs_model.specs.Terms.{Literal, Formula, Test, Not, And, Or, Line}
-use Rattle.fs_model.specs.Trees.{Tree, Empty, Leaf, Node, Branch, tree_of_formula, tree_of_guard, tree_of_lines, leaves, branches_of, count_leaves, negated}
+use Rattle.fs_model.specs.Terms.{Literal, Guard, Test, Not, And, Or, Transition}
+use Rattle.fs_model.specs.Trees.{Tree, Empty, Leaf, Node, Branch, tree_of_guard, tree_of_condition, tree_of_transitions, leaves, branches_of, count_leaves, negated}
 use Rattle.fs_ast.specs.Sound.{ends_open}
 
 length-leaves : (t : Tree) (way : List (Literal ℕ)) → length (leaves t way) ≡ count_leaves t
 length-leaves Empty way = refl
-length-leaves (Leaf actions target) way = refl
+length-leaves (Leaf assignments target) way = refl
 length-leaves (Node l y n) way = omega (arith, length-append (leaves y (way ++ l ∷ [])) (leaves n (way ++ negated l ∷ [])), length-leaves y (way ++ l ∷ []), length-leaves n (way ++ negated l ∷ []))
 
-count-formula : (g : Formula ℕ) (y n : Tree) → count_leaves y + count_leaves n ≤ count_leaves (tree_of_formula g y n)
-count-formula (Test l) y n = omega arith
-count-formula (Not c) y n = omega (arith, count-formula c n y)
-count-formula (And c d) y n = omega (arith, count-formula c (tree_of_formula d y n) n, count-formula d y n)
-count-formula (Or c d) y n = omega (arith, count-formula c y (tree_of_formula d y n), count-formula d y n)
+count-guard : (g : Guard ℕ) (y n : Tree) → count_leaves y + count_leaves n ≤ count_leaves (tree_of_guard g y n)
+count-guard (Test l) y n = omega arith
+count-guard (Not c) y n = omega (arith, count-guard c n y)
+count-guard (And c d) y n = omega (arith, count-guard c (tree_of_guard d y n) n, count-guard d y n)
+count-guard (Or c d) y n = omega (arith, count-guard c y (tree_of_guard d y n), count-guard d y n)
 
-count-guard : (o : Option (Formula ℕ)) (y n : Tree) → 1 ≤ count_leaves y → 1 ≤ count_leaves (tree_of_guard o y n)
-count-guard None y n h = h
-count-guard (Some g) y n h = omega (arith, count-formula g y n)
+count-condition : (o : Option (Guard ℕ)) (y n : Tree) → 1 ≤ count_leaves y → 1 ≤ count_leaves (tree_of_condition o y n)
+count-condition None y n h = h
+count-condition (Some g) y n h = omega (arith, count-guard g y n)
 
-count-guarded : (o : Option (Formula ℕ)) (y n : Tree) → is_none o ≡ false → count_leaves y + count_leaves n ≤ count_leaves (tree_of_guard o y n)
+count-guarded : (o : Option (Guard ℕ)) (y n : Tree) → is_none o ≡ false → count_leaves y + count_leaves n ≤ count_leaves (tree_of_condition o y n)
 count-guarded None y n h = absurd (cc)
-count-guarded (Some g) y n h = count-formula g y n
+count-guarded (Some g) y n h = count-guard g y n
 
-open-guard : (o : Option (Formula ℕ)) → is_none o ≡ true → o ≡ None
+open-guard : (o : Option (Guard ℕ)) → is_none o ≡ true → o ≡ None
 open-guard None h = refl
 open-guard (Some g) h = absurd (cc)
 
@@ -37,31 +37,31 @@ and-right : (b c : Bool) → (b && c) ≡ true → c ≡ true
 and-right true c h = h
 and-right false c h = absurd (cc)
 
-count-lines : (ls : List (Line ℕ ℕ)) → ends_open ls ≡ true → 1 ≤ count_leaves (tree_of_lines ls)
+count-lines : (ls : List (Transition ℕ ℕ)) → ends_open ls ≡ true → 1 ≤ count_leaves (tree_of_transitions ls)
 count-lines [] h = absurd (cc)
-count-lines (l ∷ []) h = count-guard l.guard (Leaf l.actions l.target) Empty (omega arith)
-count-lines (l ∷ k ∷ rest) h = count-guard l.guard (Leaf l.actions l.target) (tree_of_lines (k ∷ rest)) (omega arith)
+count-lines (l ∷ []) h = count-condition l.guard (Leaf l.assignments l.target) Empty (omega arith)
+count-lines (l ∷ k ∷ rest) h = count-condition l.guard (Leaf l.assignments l.target) (tree_of_transitions (k ∷ rest)) (omega arith)
 
 -- the one transition of a state with one branch
-pub record OnlyLine (ls : List (Line ℕ ℕ)) (b : Branch) : Type 0 where
-  pub line : Line ℕ ℕ
+pub record OnlyTransition (ls : List (Transition ℕ ℕ)) (b : Branch) : Type 0 where
+  pub line : Transition ℕ ℕ
   pub alone : ls ≡ line ∷ []
   pub unguarded : line.guard ≡ None
-  pub actions : line.actions ≡ b.actions
+  pub assignments : line.assignments ≡ b.assignments
   pub target : line.target ≡ b.target
 
-pub only_line : (ls : List (Line ℕ ℕ)) (b : Branch) → ends_open ls ≡ true → branches_of ls ≡ b ∷ [] → OnlyLine ls b
-only_line [] b h e = absurd (cc)
-only_line (l ∷ []) b h e =
+pub only_transition : (ls : List (Transition ℕ ℕ)) (b : Branch) → ends_open ls ≡ true → branches_of ls ≡ b ∷ [] → OnlyTransition ls b
+only_transition [] b h e = absurd (cc)
+only_transition (l ∷ []) b h e =
     let g : l.guard ≡ None = open-guard l.guard h in
-    let f : branches_of (l ∷ []) ≡ record { literals = []; actions = l.actions; target = l.target } ∷ [] = ap (λ o. leaves (tree_of_guard o (Leaf l.actions l.target) Empty) []) g in
-    let same : record { literals = []; actions = l.actions; target = l.target } ≡ b = cc (sym f ∙ e) in
-    record { line = l; alone = refl; unguarded = g; actions = ap (λ x. x.actions) same; target = ap (λ x. x.target) same }
-only_line (l ∷ k ∷ rest) b h e =
+    let f : branches_of (l ∷ []) ≡ record { literals = []; assignments = l.assignments; target = l.target } ∷ [] = ap (λ o. leaves (tree_of_condition o (Leaf l.assignments l.target) Empty) []) g in
+    let same : record { literals = []; assignments = l.assignments; target = l.target } ≡ b = cc (sym f ∙ e) in
+    record { line = l; alone = refl; unguarded = g; assignments = ap (λ x. x.assignments) same; target = ap (λ x. x.target) same }
+only_transition (l ∷ k ∷ rest) b h e =
     absurd (omega (
       arith,
       ap length e,
-      length-leaves (tree_of_lines (l ∷ k ∷ rest)) [],
-      count-guarded l.guard (Leaf l.actions l.target) (tree_of_lines (k ∷ rest)) (not-true (is_none l.guard) (ends_open (k ∷ rest)) h),
+      length-leaves (tree_of_transitions (l ∷ k ∷ rest)) [],
+      count-guarded l.guard (Leaf l.assignments l.target) (tree_of_transitions (k ∷ rest)) (not-true (is_none l.guard) (ends_open (k ∷ rest)) h),
       count-lines (k ∷ rest) (and-right (not (is_none l.guard)) (ends_open (k ∷ rest)) h),
     ))

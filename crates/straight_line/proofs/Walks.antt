@@ -5,38 +5,38 @@ use Rattle.std.specs.List.{list_all, slice_index_or}
 use Rattle.std.proofs.lemmas.Bool.Decides.{nat_tests}
 use Rattle.std.proofs.lemmas.List.Folds.{list_all-append}
 use Rattle.fs_model.specs.declared.parts.VarInfo.{VarInfo}
-use Rattle.fs_model.specs.Terms.{Term, Formula, Action, Assign, Write, Line}
-use Rattle.fs_model.specs.Machines.{State, Fsmd, lines_of}
+use Rattle.fs_model.specs.Terms.{Term, Guard, Assignment, Assign, ArrayWrite, Transition}
+use Rattle.fs_model.specs.Machines.{State, Fsmd, transitions_of}
 use Rattle.fs_model.specs.Stores.{Store, assigned}
-use Rattle.fs_model.specs.Meaning.{line_taken, guard_holds, act_all}
+use Rattle.fs_model.specs.Meaning.{transition_taken, condition_holds, act_all}
 use Rattle.fs_model.specs.Runs.{Step}
 use Rattle.fs_model.specs.Trees.{Branch, branches_of}
-use Rattle.fs_ast.specs.Sound.{IsSound, IsSoundLine, scalar_at, scalars_in, scalars_in_guard, scalars_in_actions, first_line_target, reaches_cutpoint}
+use Rattle.fs_ast.specs.Sound.{IsSound, IsSoundTransition, scalar_at, scalars_in, scalars_in_condition, scalars_in_assignments, first_transition_target, reaches_cutpoint}
 use Rattle.nf_terms.specs.Terms.{Polynomial, Zero}
 use Rattle.nf_terms.specs.Meaning.{Valuation, value_of}
-use Rattle.straight_line.specs.Straight.{is_plain_action, is_straight_state, has_scalars_only, has_straight_states, is_straight}
+use Rattle.straight_line.specs.Straight.{is_plain_assignment, is_straight_state, has_scalars_only, has_straight_states, is_straight}
 use Rattle.straight_line.specs.Vectors.{store_in, LeadsTo, Means}
 use Rattle.straight_line.specs.Steps.{is_settable, Acts, IsAfter, IsNext}
 use Rattle.straight_line.proofs.Loops.{Remains, comes_home, Continues}
-use Rattle.straight_line.proofs.OneBranch.{OnlyLine, only_line}
+use Rattle.straight_line.proofs.OneBranch.{OnlyTransition, only_transition}
 
 -- ---- one step
-taken : (l : Line ℕ ℕ) (rest : List (Line ℕ ℕ)) (s : Store) → l.guard ≡ None → line_taken (l ∷ rest) s ≡ Some l
-taken l rest s e = ap (λ g. cond (guard_holds g s) (Some l) (line_taken rest s)) e
+taken : (l : Transition ℕ ℕ) (rest : List (Transition ℕ ℕ)) (s : Store) → l.guard ≡ None → transition_taken (l ∷ rest) s ≡ Some l
+taken l rest s e = ap (λ g. cond (condition_holds g s) (Some l) (transition_taken rest s)) e
 
-pub step_of : (m : Fsmd) (q : ℕ) (b : Branch) (s : Store) → OnlyLine (lines_of m q) b → Step m q s b.target (act_all b.actions s s)
+pub step_of : (m : Fsmd) (q : ℕ) (b : Branch) (s : Store) → OnlyTransition (transitions_of m q) b → Step m q s b.target (act_all b.assignments s s)
 step_of m q b s o = record {
   line = o.line;
-  taken = ap (λ ls. line_taken ls s) o.alone ∙ taken o.line [] s o.unguarded;
+  taken = ap (λ ls. transition_taken ls s) o.alone ∙ taken o.line [] s o.unguarded;
   target = sym o.target;
-  store = ap (λ acts. act_all acts s s) (sym o.actions);
+  store = ap (λ acts. act_all acts s s) (sym o.assignments);
 }
 
-pub next_target : (m : Fsmd) (q : ℕ) (b : Branch) → OnlyLine (lines_of m q) b → b.target ≡ first_line_target (lines_of m q)
-next_target m q b o = sym o.target ∙ sym (ap first_line_target o.alone)
+pub next_target : (m : Fsmd) (q : ℕ) (b : Branch) → OnlyTransition (transitions_of m q) b → b.target ≡ first_transition_target (transitions_of m q)
+next_target m q b o = sym o.target ∙ sym (ap first_transition_target o.alone)
 
-pub line_sound : (m : Fsmd) (q : ℕ) (b : Branch) → IsSound m → (o : OnlyLine (lines_of m q) b) → IsSoundLine m.variables (length m.states) o.line
-line_sound m q b sound o = sound.lines_sound q o.line 0 (ap (λ ls. slice_get ls 0) o.alone)
+pub transition_sound : (m : Fsmd) (q : ℕ) (b : Branch) → IsSound m → (o : OnlyTransition (transitions_of m q) b) → IsSoundTransition m.variables (length m.states) o.line
+transition_sound m q b sound o = sound.transitions_sound q o.line 0 (ap (λ ls. slice_get ls 0) o.alone)
 
 -- ---- assignments in range
 scalar_in_range : (vs : List VarInfo) (x : ℕ) → scalar_at vs x ≡ true → x < length vs
@@ -58,23 +58,23 @@ both b c p q = grind arith
 below : (x n : ℕ) → x < n → nat_lt x n ≡ true
 below x n h = grind (arith, nat_tests)
 
-settable : (vs : List VarInfo) (actions : List (Action ℕ)) → list_all is_plain_action actions ≡ true → list_all (scalar_at vs) (scalars_in_actions actions) ≡ true
-    → list_all (is_settable (length vs)) actions ≡ true
+settable : (vs : List VarInfo) (assignments : List (Assignment ℕ)) → list_all is_plain_assignment assignments ≡ true → list_all (scalar_at vs) (scalars_in_assignments assignments) ≡ true
+    → list_all (is_settable (length vs)) assignments ≡ true
 settable vs [] p q = refl
 settable vs (Assign x e ∷ rest) p q =
-    let split : (list_all (scalar_at vs) (x ∷ scalars_in e) && list_all (scalar_at vs) (scalars_in_actions rest)) ≡ true = sym (list_all-append (scalar_at vs) (x ∷ scalars_in e) (scalars_in_actions rest)) ∙ q in
+    let split : (list_all (scalar_at vs) (x ∷ scalars_in e) && list_all (scalar_at vs) (scalars_in_assignments rest)) ≡ true = sym (list_all-append (scalar_at vs) (x ∷ scalars_in e) (scalars_in_assignments rest)) ∙ q in
     let head : scalar_at vs x ≡ true = and-left (scalar_at vs x) (list_all (scalar_at vs) (scalars_in e)) (and-left _ _ split) in
     both _ _ (both _ _ (below x (length vs) (scalar_in_range vs x head)) (and-left _ _ p)) (settable vs rest (and-right _ _ p) (and-right _ _ split))
-settable vs (Write x i e ∷ rest) p q = absurd (cc)
+settable vs (ArrayWrite x i e ∷ rest) p q = absurd (cc)
 
-pub branch_settable : (m : Fsmd) (q : ℕ) (b : Branch) → IsSound m → OnlyLine (lines_of m q) b → list_all is_plain_action b.actions ≡ true → list_all (is_settable (length m.variables)) b.actions ≡ true
+pub branch_settable : (m : Fsmd) (q : ℕ) (b : Branch) → IsSound m → OnlyTransition (transitions_of m q) b → list_all is_plain_assignment b.assignments ≡ true → list_all (is_settable (length m.variables)) b.assignments ≡ true
 branch_settable m q b sound o p =
-    let l = line_sound m q b sound o in
-    let used : list_all (scalar_at m.variables) (scalars_in_actions b.actions) ≡ true =
-    sym (ap (λ (acts : List (Action ℕ)). list_all (scalar_at m.variables) (scalars_in_actions acts)) o.actions)
-    ∙ sym (ap (λ (g : Option (Formula ℕ)). list_all (scalar_at m.variables) (scalars_in_guard g ++ scalars_in_actions o.line.actions)) o.unguarded)
+    let l = transition_sound m q b sound o in
+    let used : list_all (scalar_at m.variables) (scalars_in_assignments b.assignments) ≡ true =
+    sym (ap (λ (acts : List (Assignment ℕ)). list_all (scalar_at m.variables) (scalars_in_assignments acts)) o.assignments)
+    ∙ sym (ap (λ (g : Option (Guard ℕ)). list_all (scalar_at m.variables) (scalars_in_condition g ++ scalars_in_assignments o.line.assignments)) o.unguarded)
     ∙ l.scalars in
-    settable m.variables b.actions p used
+    settable m.variables b.assignments p used
 
 -- ---- what a set polynomial stands for
 pub store_ext : (s t : Store) → ((x : ℕ) → s.scalar x ≡ t.scalar x) → ((x : ℕ) (i : ℤ) → s.array x i ≡ t.array x i) → s ≡ t
@@ -100,24 +100,24 @@ assigned_acts vector old new x e p h s m = record {
   stores = λ w arrays. ap (store_in w arrays) s ∙ set_stands w arrays old x p h ∙ ap (assigned (store_in w arrays old) x) (m.means w arrays);
 }
 
-pub remains_all : (actions : List (Action ℕ)) (vector next : List Polynomial) → next ≡ vector → Remains actions actions vector next
-remains_all actions vector next e = record { stores = λ w arrays. ap (λ v. act_all actions (store_in w arrays vector) (store_in w arrays v)) e }
+pub remains_all : (assignments : List (Assignment ℕ)) (vector next : List Polynomial) → next ≡ vector → Remains assignments assignments vector next
+remains_all assignments vector next e = record { stores = λ w arrays. ap (λ v. act_all assignments (store_in w arrays vector) (store_in w arrays v)) e }
 
-pub remains_less : (a : Action ℕ) (rest left actions : List (Action ℕ)) (vector old new : List Polynomial) → left ≡ a ∷ rest → Remains left actions vector old → Acts a vector old new → Remains rest actions vector new
-remains_less a rest left actions vector old new e r s = record {
+pub remains_less : (a : Assignment ℕ) (rest left assignments : List (Assignment ℕ)) (vector old new : List Polynomial) → left ≡ a ∷ rest → Remains left assignments vector old → Acts a vector old new → Remains rest assignments vector new
+remains_less a rest left assignments vector old new e r s = record {
   stores = λ w arrays. ap (act_all rest (store_in w arrays vector)) (s.stores w arrays) ∙ ap (λ acts. act_all acts (store_in w arrays vector) (store_in w arrays old)) (sym e) ∙ r.stores w arrays;
 }
 
-pub remains_none : (left actions : List (Action ℕ)) (vector next : List Polynomial) → left ≡ [] → Remains left actions vector next → IsAfter actions vector next
-remains_none left actions vector next e r = record {
+pub remains_none : (left assignments : List (Assignment ℕ)) (vector next : List Polynomial) → left ≡ [] → Remains left assignments vector next → IsAfter assignments vector next
+remains_none left assignments vector next e r = record {
   stores = λ w arrays. ap (λ acts. act_all acts (store_in w arrays vector) (store_in w arrays next)) (sym e) ∙ r.stores w arrays;
 }
 
-pub next_by : (m : Fsmd) (q : ℕ) (b : Branch) (vector next : List Polynomial) → IsSound m → OnlyLine (lines_of m q) b → IsAfter b.actions vector next → length next ≡ length vector → IsNext m q vector b.target next
+pub next_by : (m : Fsmd) (q : ℕ) (b : Branch) (vector next : List Polynomial) → IsSound m → OnlyTransition (transitions_of m q) b → IsAfter b.assignments vector next → length next ≡ length vector → IsNext m q vector b.target next
 next_by m q b vector next sound o a f = record {
   steps = λ w arrays. subst (λ (t : Store). Step m q (store_in w arrays vector) b.target t) (sym (a.stores w arrays)) (step_of m q b (store_in w arrays vector) o);
   first = next_target m q b o;
-  in_range = omega (arith, (line_sound m q b sound o).target_in, o.target);
+  in_range = omega (arith, (transition_sound m q b sound o).target_in, o.target);
   full = f;
 }
 
@@ -148,15 +148,15 @@ one_branch (s ∷ ss) (suc q) h = one_branch ss q (and-right _ _ h)
 
 home : (m : Fsmd) (n q : ℕ) → has_straight_states m.states ≡ true → reaches_cutpoint m n q ≡ true → ((q == m.reset) || comes_home m n q) ≡ true
 home m zero q s h = grind (arith, one_branch m.states q s)
-home m (suc n) q s h = grind (arith, one_branch m.states q s, home m n (first_line_target (lines_of m q)) s)
+home m (suc n) q s h = grind (arith, one_branch m.states q s, home m n (first_transition_target (transitions_of m q)) s)
 
-pub home_from_reset : (m : Fsmd) (b : Branch) → IsSound m → has_straight_states m.states ≡ true → OnlyLine (lines_of m m.reset) b → comes_home m (suc (length m.states)) m.reset ≡ true
+pub home_from_reset : (m : Fsmd) (b : Branch) → IsSound m → has_straight_states m.states ≡ true → OnlyTransition (transitions_of m m.reset) b → comes_home m (suc (length m.states)) m.reset ≡ true
 home_from_reset m b sound s o =
-    let e : first_line_target (lines_of m m.reset) ≡ o.line.target = ap first_line_target o.alone in
-    let within : first_line_target (lines_of m m.reset) < length m.states = omega (arith, (line_sound m m.reset b sound o).target_in) in
-    home m (length m.states) (first_line_target (lines_of m m.reset)) s (sound.cut (first_line_target (lines_of m m.reset)) within)
+    let e : first_transition_target (transitions_of m m.reset) ≡ o.line.target = ap first_transition_target o.alone in
+    let within : first_transition_target (transitions_of m m.reset) < length m.states = omega (arith, (transition_sound m m.reset b sound o).target_in) in
+    home m (length m.states) (first_transition_target (transitions_of m m.reset)) s (sound.cut (first_transition_target (transitions_of m m.reset)) within)
 
-pub nearer_home : (m : Fsmd) (n q r : ℕ) → comes_home m n q ≡ true → r ≡ first_line_target (lines_of m q) → r ≢ m.reset → comes_home m (n - 1) r ≡ true
+pub nearer_home : (m : Fsmd) (n q r : ℕ) → comes_home m n q ≡ true → r ≡ first_transition_target (transitions_of m q) → r ≢ m.reset → comes_home m (n - 1) r ≡ true
 nearer_home m zero q r h e d = absurd (cc)
 nearer_home m (suc n) q r h e d = grind (arith, nat_tests, h, e, d)
 
@@ -179,8 +179,8 @@ straight_scalars m h = and-left (has_scalars_only m.variables) (has_straight_sta
 
 pub home_at_start : (m : Fsmd) (n q : ℕ) → IsSound m → is_straight m ≡ true → n ≡ length m.states → q ≡ m.reset → comes_home m (n + 1) q ≡ true
 home_at_start m n q sound s e f =
-    let t = the_branch (branches_of (lines_of m m.reset)) (straight_at m.states m.reset (straight_states m s) sound.reset_in) in
-    let h : comes_home m (suc (length m.states)) m.reset ≡ true = home_from_reset m t.0 sound (straight_states m s) (only_line (lines_of m m.reset) t.0 (sound.open_last m.reset sound.reset_in) t.1) in
+    let t = the_branch (branches_of (transitions_of m m.reset)) (straight_at m.states m.reset (straight_states m s) sound.reset_in) in
+    let h : comes_home m (suc (length m.states)) m.reset ≡ true = home_from_reset m t.0 sound (straight_states m s) (only_transition (transitions_of m m.reset) t.0 (sound.open_last m.reset sound.reset_in) t.1) in
     let k : n + 1 ≡ suc (length m.states) = omega arith in
     subst (λ z. comes_home m z q ≡ true) (sym k) (subst (λ z. comes_home m (suc (length m.states)) z ≡ true) (sym f) h)
 
@@ -193,11 +193,11 @@ goes_on_from m first vector v next q r c e n d = goes_on m first vector next q r
 pub arrives_from : (m : Fsmd) (first vector v next : List Polynomial) (q r : ℕ) → Continues m first q vector → v ≡ vector → IsNext m q v r next → r ≡ m.reset → LeadsTo m first next
 arrives_from m first vector v next q r c e n d = arrives m first vector next q r c (subst (λ z. IsNext m q z r next) e n) d
 
-pub next_at : (m : Fsmd) (q : ℕ) (b : Branch) (vector next : List Polynomial) → IsSound m → q < length m.states → branches_of (lines_of m q) ≡ b ∷ [] → IsAfter b.actions vector next → length next ≡ length vector → IsNext m q vector b.target next
-next_at m q b vector next sound i e a f = next_by m q b vector next sound (only_line (lines_of m q) b (sound.open_last q i) e) a f
+pub next_at : (m : Fsmd) (q : ℕ) (b : Branch) (vector next : List Polynomial) → IsSound m → q < length m.states → branches_of (transitions_of m q) ≡ b ∷ [] → IsAfter b.assignments vector next → length next ≡ length vector → IsNext m q vector b.target next
+next_at m q b vector next sound i e a f = next_by m q b vector next sound (only_transition (transitions_of m q) b (sound.open_last q i) e) a f
 
-pub settable_at : (m : Fsmd) (q : ℕ) (b : Branch) (n : ℕ) → IsSound m → q < length m.states → branches_of (lines_of m q) ≡ b ∷ [] → list_all is_plain_action b.actions ≡ true → n ≡ length m.variables → list_all (is_settable n) b.actions ≡ true
-settable_at m q b n sound i e p f = subst (λ k. list_all (is_settable k) b.actions ≡ true) (sym f) (branch_settable m q b sound (only_line (lines_of m q) b (sound.open_last q i) e) p)
+pub settable_at : (m : Fsmd) (q : ℕ) (b : Branch) (n : ℕ) → IsSound m → q < length m.states → branches_of (transitions_of m q) ≡ b ∷ [] → list_all is_plain_assignment b.assignments ≡ true → n ≡ length m.variables → list_all (is_settable n) b.assignments ≡ true
+settable_at m q b n sound i e p f = subst (λ k. list_all (is_settable k) b.assignments ≡ true) (sym f) (branch_settable m q b sound (only_transition (transitions_of m q) b (sound.open_last q i) e) p)
 
-pub settable_rest : (n : ℕ) (a : Action ℕ) (rest left : List (Action ℕ)) → left ≡ a ∷ rest → list_all (is_settable n) left ≡ true → list_all (is_settable n) rest ≡ true
+pub settable_rest : (n : ℕ) (a : Assignment ℕ) (rest left : List (Assignment ℕ)) → left ≡ a ∷ rest → list_all (is_settable n) left ≡ true → list_all (is_settable n) rest ≡ true
 settable_rest n a rest left e h = and-right (is_settable n a) (list_all (is_settable n) rest) (subst (λ acts. list_all (is_settable n) acts ≡ true) e h)

@@ -2,9 +2,9 @@
 use Rattle.std.specs.Prelude.{◌≡◌, ◌≢◌, ℕ, zero, suc, ◌+◌, ◌*◌, ◌^◌, ◌==◌, Bool, true, false, ℤ, pos, neg_ℤ, List, [], ◌∷◌, length, Result, Ok, Err, MatchResult, IfOk, slice_set}
 use Rattle.std.specs.List.{slice_index_or}
 use Rattle.fs_model.specs.declared.parts.VarInfo.{VarInfo}
-use Rattle.fs_model.specs.Terms.{Term, Number, Variable, Read, Sum, Difference, Product, Quotient, Remainder, Negative, Action, Assign, Write, Line}
-use Rattle.fs_model.specs.Machines.{Fsmd, lines_of}
-use Rattle.fs_ast.specs.Sound.{first_line_target}
+use Rattle.fs_model.specs.Terms.{Term, Number, Variable, Read, Sum, Difference, Product, Quotient, Remainder, Negative, Assignment, Assign, ArrayWrite, Transition}
+use Rattle.fs_model.specs.Machines.{Fsmd, transitions_of}
+use Rattle.fs_ast.specs.Sound.{first_transition_target}
 use Rattle.nf_terms.specs.Terms.{Polynomial, Zero, polynomial_of_number}
 use Rattle.nf_terms.specs.Measures.{size_of, weight_of}
 use Rattle.nf_terms.specs.RawSums.{raw_sum, raw_difference, raw_product, raw_negation, IsNormalFormOf}
@@ -77,19 +77,19 @@ pub record Gives (vector : List Polynomial) (e : Term ℕ) (outcome : Outcome Po
   pub gives : OrNoMemory (Evaluates vector e) outcome
 
 -- the vector next after an assignment, whose right side is evaluated over the vector before the step
-abbrev pub Assigns : (before next : List Polynomial) → Action ℕ → Outcome (List Polynomial) → Type 0
+abbrev pub Assigns : (before next : List Polynomial) → Assignment ℕ → Outcome (List Polynomial) → Type 0
 Assigns before next (Assign x e) outcome = InTurn (Evaluates before e) (λ p r. r ≡ Ok (slice_set next x p)) outcome
-Assigns before next (Write x i e) outcome = ⊥
+Assigns before next (ArrayWrite x i e) outcome = ⊥
 
 -- the same after assignments, in order
-abbrev pub AssignsAll : List Polynomial → List (Action ℕ) → List Polynomial → Outcome (List Polynomial) → Type 0
+abbrev pub AssignsAll : List Polynomial → List (Assignment ℕ) → List Polynomial → Outcome (List Polynomial) → Type 0
 AssignsAll before [] next outcome = outcome ≡ Ok next
 AssignsAll before (a ∷ rest) next outcome = InTurn (Assigns before next a) (AssignsAll before rest) outcome
 
 -- the assignments of the first transition
-abbrev pub first_actions : List (Line ℕ ℕ) → List (Action ℕ)
-first_actions [] = []
-first_actions (l ∷ ls) = l.actions
+abbrev pub first_assignments : List (Transition ℕ ℕ) → List (Assignment ℕ)
+first_assignments [] = []
+first_assignments (l ∷ ls) = l.assignments
 
 -- a return ends the execution, and else it goes on
 abbrev pub ReturnsOr : Bool → (List Polynomial → Outcome (List Polynomial) → Type 0) → List Polynomial → Outcome (List Polynomial) → Type 0
@@ -100,7 +100,7 @@ ReturnsOr false GoesFrom vector outcome = GoesFrom vector outcome
 abbrev pub Executes : Fsmd → ℕ → ℕ → List Polynomial → Outcome (List Polynomial) → Type 0
 Executes m zero q vector outcome = ⊥
 Executes m (suc n) q vector outcome =
-    InTurn (AssignsAll vector (first_actions (lines_of m q)) vector) (ReturnsOr (first_line_target (lines_of m q) == m.reset) (Executes m n (first_line_target (lines_of m q)))) outcome
+    InTurn (AssignsAll vector (first_assignments (transitions_of m q)) vector) (ReturnsOr (first_transition_target (transitions_of m q) == m.reset) (Executes m n (first_transition_target (transitions_of m q)))) outcome
 
 -- the execution of a machine from its start, over the symbols of the left machine's inputs
 abbrev pub Execution : (lefts : List VarInfo) → Fsmd → Outcome (List Polynomial) → Type 0

@@ -2,7 +2,7 @@
 use Rattle.std.specs.Prelude.{ℕ, Bool, true, false, not, ◌&&◌, List, [], ◌∷◌}
 use Rattle.std.specs.List.{list_all}
 use Rattle.fs_model.specs.declared.parts.VarInfo.{VarInfo}
-use Rattle.fs_model.specs.Terms.{Term, Number, Variable, Read, Sum, Difference, Product, Quotient, Remainder, Negative, Action, Assign, Write}
+use Rattle.fs_model.specs.Terms.{Term, Number, Variable, Read, Sum, Difference, Product, Quotient, Remainder, Negative, Assignment, Assign, ArrayWrite}
 use Rattle.fs_model.specs.Machines.{State, Fsmd}
 use Rattle.fs_model.specs.Trees.{Branch, branches_of}
 use Rattle.fs_ast.specs.Sound.{is_array}
@@ -20,14 +20,14 @@ is_plain (Remainder a b) = false
 is_plain (Negative a) = is_plain a
 
 -- whether a scalar is assigned a plain expression
-abbrev pub is_plain_action : Action ℕ → Bool
-is_plain_action (Assign x e) = is_plain e
-is_plain_action (Write x i e) = false
+abbrev pub is_plain_assignment : Assignment ℕ → Bool
+is_plain_assignment (Assign x e) = is_plain e
+is_plain_assignment (ArrayWrite x i e) = false
 
 -- whether there is one branch, and its assignments are plain
 abbrev pub is_straight_state : List Branch → Bool
 is_straight_state [] = false
-is_straight_state (b ∷ []) = list_all is_plain_action b.actions
+is_straight_state (b ∷ []) = list_all is_plain_assignment b.assignments
 is_straight_state (b ∷ c ∷ rest) = false
 
 -- whether no variable is an array

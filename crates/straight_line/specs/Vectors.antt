@@ -8,7 +8,7 @@ use Rattle.fs_model.specs.Terms.{Term}
 use Rattle.fs_model.specs.Machines.{Fsmd}
 use Rattle.fs_model.specs.Stores.{Store}
 use Rattle.fs_model.specs.Meaning.{value}
-use Rattle.fs_model.specs.Runs.{is_input, is_output, Goes}
+use Rattle.fs_model.specs.Runs.{is_input, is_output, FirstReturn}
 use Rattle.nf_terms.specs.Terms.{Polynomial, Zero, polynomial_of_symbol}
 use Rattle.nf_terms.specs.Meaning.{Valuation, value_of}
 use Rattle.nf_terms.specs.Order.{same_polynomial}
@@ -41,7 +41,7 @@ start_vector lefts vs = map (first_polynomial lefts) vs
 
 -- from its reset state the machine goes from one vector to another: so it does from each store to each that they stand for
 pub record LeadsTo (m : Fsmd) (first last : List Polynomial) : Type 0 where
-  pub goes : (w : Valuation) (arrays : ℕ → ℤ → ℤ) → (n : ℕ) × Goes m n m.reset (store_in w arrays first) (store_in w arrays last)
+  pub goes : (w : Valuation) (arrays : ℕ → ℤ → ℤ) → (n : ℕ) × FirstReturn m n m.reset (store_in w arrays first) (store_in w arrays last)
 
 -- the polynomial of the variable of a name
 abbrev pub polynomial_named : List VarInfo → List Polynomial → List ℕ → Option Polynomial

@@ -3,15 +3,15 @@
 ghost use Rattle.std.specs.Prelude.{◌≡◌, ◌+◌, ◌<◌, length, map, IfOk, IsTrue, true, ◌∷◌, ◌++◌, []};
 ghost use Rattle.std.specs.List.{list_all, slice_index_or};
 ghost use Rattle.std.specs.Result.{OnOk, IfErr};
-ghost use Rattle.fs_model.specs.Machines.{lines_of};
+ghost use Rattle.fs_model.specs.Machines.{transitions_of};
 ghost use Rattle.fs_model.specs.Trees.{branches_of};
-ghost use Rattle.fs_model.specs.View.{term_of, action_of, branch_of};
+ghost use Rattle.fs_model.specs.View.{term_of, assignment_of, branch_of};
 ghost use Rattle.fs_ast.specs.Sound.{IsSound};
 ghost use Rattle.nf_terms.specs.Terms.{Zero};
-ghost use Rattle.straight_line.specs.Straight.{is_plain, is_plain_action, is_straight};
+ghost use Rattle.straight_line.specs.Straight.{is_plain, is_plain_assignment, is_straight};
 ghost use Rattle.straight_line.specs.Vectors.{Means, LeadsTo};
 ghost use Rattle.straight_line.specs.Steps.{is_settable, Acts, IsAfter, IsNext};
-ghost use Rattle.straight_line.specs.Execution.{OrNoMemory, outcome_map, IsNumber, Gives, Assigns, AssignsAll, first_actions, Executes};
+ghost use Rattle.straight_line.specs.Execution.{OrNoMemory, outcome_map, IsNumber, Gives, Assigns, AssignsAll, first_assignments, Executes};
 
 use fs_ast::machine::Machine;
 use fs_model::parts::{Assign, Branch, Expr, StateId, VarId};
@@ -108,10 +108,10 @@ fn assign(
     assign: &Assign<VarId>,
     vector: &[Poly],
 ) -> Result<Vec<Poly>, NfStop>
-    requires { IsTrue (is_settable (length next.items) (action_of assign.now)) }
-    ensures acts { IfOk result (λ new. Acts (action_of assign.now) vector.now next.items new.items) }
+    requires { IsTrue (is_settable (length next.items) (assignment_of assign.now)) }
+    ensures acts { IfOk result (λ new. Acts (assignment_of assign.now) vector.now next.items new.items) }
     ensures full { IfOk result (λ new. length new.items ≡ length next.items) }
-    ensures exact { OrNoMemory (Assigns vector.now next.items (action_of assign.now)) (outcome_map (λ new. new.items) result) }
+    ensures exact { OrNoMemory (Assigns vector.now next.items (assignment_of assign.now)) (outcome_map (λ new. new.items) result) }
 {
     match assign {
         Assign::Set(target, right) => {
@@ -125,10 +125,10 @@ fn assign(
 
 /// The vector after assignments, all evaluated over the vector before.
 fn after(alloc: Global, assigns: &[Assign<VarId>], vector: &[Poly]) -> Result<Vec<Poly>, NfStop>
-    requires { IsTrue (list_all (is_settable (length vector.now)) (map action_of assigns.now)) }
-    ensures stores { IfOk result (λ next. IsAfter (map action_of assigns.now) vector.now next.items) }
+    requires { IsTrue (list_all (is_settable (length vector.now)) (map assignment_of assigns.now)) }
+    ensures stores { IfOk result (λ next. IsAfter (map assignment_of assigns.now) vector.now next.items) }
     ensures full { IfOk result (λ next. length next.items ≡ length vector.now) }
-    ensures exact { OrNoMemory (AssignsAll vector.now (map action_of assigns.now) vector.now) (outcome_map (λ next. next.items) result) }
+    ensures exact { OrNoMemory (AssignsAll vector.now (map assignment_of assigns.now) vector.now) (outcome_map (λ next. next.items) result) }
 {
     let mut next = copy(alloc, vector)?;
     for item in assigns {
@@ -141,8 +141,8 @@ fn after(alloc: Global, assigns: &[Assign<VarId>], vector: &[Poly]) -> Result<Ve
 fn only_branch(machine: &Machine, state: StateId) -> &Branch
     requires straight { IsTrue (is_straight machine.now) }
     requires in_range { state.0 < length machine.now.states }
-    ensures only { branches_of (lines_of machine.now state.0) ≡ branch_of result.now ∷ [] }
-    ensures plain { IsTrue (list_all is_plain_action (map action_of result.now.assigns.items)) }
+    ensures only { branches_of (transitions_of machine.now state.0) ≡ branch_of result.now ∷ [] }
+    ensures plain { IsTrue (list_all is_plain_assignment (map assignment_of result.now.assigns.items)) }
     ensures sound { IsSound machine.now }
 {
     match machine.branches(state) {
@@ -169,7 +169,7 @@ fn step(
     requires in_range { state.0 < length machine.now.states }
     requires full { length vector.now ≡ length machine.now.variables }
     ensures next { IfOk result (λ r. IsNext machine.now state.0 vector.now r.state.0 r.vector.items) }
-    ensures exact { OrNoMemory (AssignsAll vector.now (first_actions (lines_of machine.now state.0)) vector.now) (outcome_map (λ r. r.vector.items) result) }
+    ensures exact { OrNoMemory (AssignsAll vector.now (first_assignments (transitions_of machine.now state.0)) vector.now) (outcome_map (λ r. r.vector.items) result) }
 {
     let branch = only_branch(machine, state);
     let next = after(alloc, &branch.assigns, vector)?;

@@ -2,8 +2,8 @@
 
 ghost use Rattle.std.specs.Prelude.{◌≡◌, ◌<◌, length, map};
 ghost use Rattle.std.specs.List.{list_all};
-ghost use Rattle.fs_model.specs.View.{term_of, action_of, branch_of};
-ghost use Rattle.straight_line.specs.Straight.{is_plain, is_plain_action, is_straight_state, has_scalars_only, has_straight_states, is_straight};
+ghost use Rattle.fs_model.specs.View.{term_of, assignment_of, branch_of};
+ghost use Rattle.straight_line.specs.Straight.{is_plain, is_plain_assignment, is_straight_state, has_scalars_only, has_straight_states, is_straight};
 
 use fs_ast::machine::Machine;
 use fs_model::parts::{Assign, Branch, Expr, Sort, StateId, VarId, VarInfo};
@@ -24,7 +24,7 @@ pub fn is_plain(expression: &Expr<VarId>) -> bool
 
 /// Whether a scalar is assigned a plain expression.
 pub fn is_plain_assign(assign: &Assign<VarId>) -> bool
-    ensures { result ≡ is_plain_action (action_of assign.now) }
+    ensures { result ≡ is_plain_assignment (assignment_of assign.now) }
 {
     match assign {
         Assign::Set(_, right) => is_plain(right),
@@ -34,7 +34,7 @@ pub fn is_plain_assign(assign: &Assign<VarId>) -> bool
 
 /// Whether all assignments are plain.
 pub fn are_plain(assigns: &[Assign<VarId>]) -> bool
-    ensures { result ≡ list_all is_plain_action (map action_of assigns.now) }
+    ensures { result ≡ list_all is_plain_assignment (map assignment_of assigns.now) }
 {
     for assign in assigns {
         if !is_plain_assign(assign) {

@@ -3,29 +3,29 @@ use Rattle.std.proofs.Common.{◌≡◌, ℕ, zero, suc, ◌-◌, Bool, true, fa
 use Rattle.std.specs.Prelude.{not, ◌&&◌, IsTrue}
 use Rattle.std.specs.List.{All, AllByRecursion}
 use Rattle.std.proofs.lemmas.List.Elements.{All-from_recursion}
-use Rattle.fs_grammar.specs.declared.fault.Place.{Place}
+use Rattle.fs_grammar.specs.declared.fault.TextPlace.{TextPlace}
 use Rattle.fs_grammar.specs.declared.token.Token.{Token}
 use Rattle.fs_lex.specs.declared.Lexeme.{Lexeme}
 use Rattle.fs_lex.specs.declared.Lexeme.TheVariants as lexemes
 use Rattle.fs_lex.specs.Lexemes.{lexeme_of}
-use Rattle.fs_lex.specs.Scan.{after, scan, emitted, is_over, is_bad, counted, tokens_of}
+use Rattle.fs_lex.specs.Scan.{after, scan, emitted, is_past_limit, is_bad, counted, tokens_of}
 use Rattle.text_laws.specs.Kinds.{IsProper, is_last, end_once}
 use Rattle.text_laws.proofs.Lexed.{IsLexed, lexeme_found}
 
 -- each token is proper, and is over where it is an operator and 128 were counted before it, n of them before the first token
 abbrev pub AreCounted : ℕ → List Token → Type 0
 AreCounted n [] = Unit {0}
-AreCounted n (t ∷ ts) = IsProper t.kind × (t.over ≡ is_over t.kind n) × AreCounted (counted t.kind n) ts
+AreCounted n (t ∷ ts) = IsProper t.kind × (t.past_limit ≡ is_past_limit t.kind n) × AreCounted (counted t.kind n) ts
 
 counted_unless : (b : Bool) (n : ℕ) (ts : List Token) → AreCounted n ts → AreCounted n (cond b [] ts)
 counted_unless true n ts h = tt
 counted_unless false n ts h = h
 
-emitted_counted : (x : Lexeme) (p : Place) (n : ℕ) (go : ℕ → ℕ → List Token) → IsLexed x → ((k m : ℕ) → AreCounted m (go k m)) → AreCounted n (emitted x p n go)
+emitted_counted : (x : Lexeme) (p : TextPlace) (n : ℕ) (go : ℕ → ℕ → List Token) → IsLexed x → ((k m : ℕ) → AreCounted m (go k m)) → AreCounted n (emitted x p n go)
 emitted_counted (lexemes.Blank k) p n go f h = h (k - 1) n
 emitted_counted (lexemes.Token t k) p n go f h = (f.0, refl, counted_unless (is_bad t) (counted t n) (go (k - 1) (counted t n)) (h (k - 1) (counted t n)))
 
-pub scan_counted : (bs : List ℕ) (skip : ℕ) (p : Place) (n : ℕ) → AreCounted n (scan bs skip p n)
+pub scan_counted : (bs : List ℕ) (skip : ℕ) (p : TextPlace) (n : ℕ) → AreCounted n (scan bs skip p n)
 scan_counted [] skip p n = (tt, refl, tt)
 scan_counted (b ∷ bs) (suc skip) p n = scan_counted bs skip (after p b) n
 scan_counted (b ∷ bs) zero p n = emitted_counted (lexeme_of (b ∷ bs)) p n (λ k m. scan bs k (after p b) m) (lexeme_found (b ∷ bs)) (λ k m. scan_counted bs k (after p b) m)
@@ -36,11 +36,11 @@ ends_more true t ts e h = e
 ends_more false t [] e h = absurd cc
 ends_more false t (u ∷ ts) e h = ap (λ (b : Bool). not b && end_once (u ∷ ts)) e ∙ h
 
-emitted_ends : (x : Lexeme) (p : Place) (n : ℕ) (go : ℕ → ℕ → List Token) → IsLexed x → ((k m : ℕ) → IsTrue (end_once (go k m))) → IsTrue (end_once (emitted x p n go))
+emitted_ends : (x : Lexeme) (p : TextPlace) (n : ℕ) (go : ℕ → ℕ → List Token) → IsLexed x → ((k m : ℕ) → IsTrue (end_once (go k m))) → IsTrue (end_once (emitted x p n go))
 emitted_ends (lexemes.Blank k) p n go f h = h (k - 1) n
-emitted_ends (lexemes.Token t k) p n go f h = ends_more (is_bad t) (record { kind = t; over = is_over t n; place = p }) (go (k - 1) (counted t n)) f.1 (h (k - 1) (counted t n))
+emitted_ends (lexemes.Token t k) p n go f h = ends_more (is_bad t) (record { kind = t; past_limit = is_past_limit t n; place = p }) (go (k - 1) (counted t n)) f.1 (h (k - 1) (counted t n))
 
-pub scan_ends : (bs : List ℕ) (skip : ℕ) (p : Place) (n : ℕ) → IsTrue (end_once (scan bs skip p n))
+pub scan_ends : (bs : List ℕ) (skip : ℕ) (p : TextPlace) (n : ℕ) → IsTrue (end_once (scan bs skip p n))
 scan_ends [] skip p n = refl
 scan_ends (b ∷ bs) (suc skip) p n = scan_ends bs skip (after p b) n
 scan_ends (b ∷ bs) zero p n = emitted_ends (lexeme_of (b ∷ bs)) p n (λ k m. scan bs k (after p b) m) (lexeme_found (b ∷ bs)) (λ k m. scan_ends bs k (after p b) m)

@@ -4,64 +4,64 @@ use Rattle.std.specs.Prelude.{ℤ, zero, suc, pos, not, Bool, true, ◌&&◌, �
 use Rattle.std.specs.List.{list_all}
 use Rattle.std.proofs.lemmas.Bool.{le-leb}
 use Rattle.std.proofs.lemmas.List.Folds.{list_all-append}
-use Rattle.fs_model.specs.Terms.{Term, Variable, Read, Sum, Difference, Product, Quotient, Remainder, Negative, Formula, Test, Not, And, Or, Action}
+use Rattle.fs_model.specs.Terms.{Term, Variable, Read, Sum, Difference, Product, Quotient, Remainder, Negative, Guard, Test, Not, And, Or, Assignment}
 use Rattle.fs_model.specs.Terms as terms
-use Rattle.fs_model.specs.WellFormed.{is_natural_term, is_natural_formula, signs_of_term, signs_of_formula, is_well_formed_guard, is_well_formed_action, is_well_formed_line, is_well_formed_state, has_names, is_well_formed}
+use Rattle.fs_model.specs.WellFormed.{is_natural_term, is_natural_guard, operators_of_term, operators_of_guard, is_well_formed_condition, is_well_formed_assignment, is_well_formed_transition, is_well_formed_state, has_names, is_well_formed}
 use Rattle.fs_grammar.specs.declared.token.TokenKind.{TokenKind}
 use Rattle.fs_grammar.specs.declared.token.TokenKind.TheVariants.{Fsmd, Declare, Array, Reset, State, When, Goto, Name, Number, Semicolon, Colon, Comma, Equals, OpenParen, CloseParen, OpenBracket, CloseBracket, OpenBrace, CloseBrace, Plus, Minus, Star, Slash, Percent, Bang, AndAnd, OrOr, Relation}
-use Rattle.fs_grammar.specs.Grammar.{Owed, Draft, Opening, Destination, scalar, element, assigned, with_actions, drafted, line_read, closed, ForUnit, ForConjunction, ForGuard, ForFactor, ForProduct, ForSum, negates, first_of_all, and_after, first_of_any, or_after, braces, line, first_factor, times, divides, leaves, negative, first_product, plus, minus, parens, index, left, right, place, value, at_start, at_one, at_semicolon, at_declaration, at_sort, at_declared, after_declared, at_reset, after_reset, at_state, at_state_name, after_state_name, at_line, at_target, after_target, at_action, after_action_name, at_equals, at_unit, after_conjunction, after_guard, at_factor, after_name, after_product, after_sum, factor_done, product_done, unit_done, conjunction_done, literal_done, step_factor, step_unit, step_guard, step_guarded, step_conjunction, step_joined, step_sum, step_summed, step_product, step_multiplied, step_name, step_line, step_one, step, finish}
+use Rattle.fs_grammar.specs.Grammar.{ParseState, OpenState, OpenTransition, Destination, scalar, element, assigned, with_assignments, drafted, line_read, closed, UnitContext, ConjunctionContext, GuardContext, FactorContext, ProductContext, SumContext, negates, first_of_all, and_after, first_of_any, or_after, braces, line, first_factor, times, divides, leaves, negative, first_product, plus, minus, parens, index, left, right, place, value, at_start, at_one, at_semicolon, at_declaration, at_sort, at_declared, after_declared, at_reset, after_reset, at_state, at_state_name, after_state_name, at_line, at_target, after_target, at_assignment, after_assignment_name, at_equals, at_unit, after_conjunction, after_guard, at_factor, after_name, after_product, after_sum, factor_done, product_done, unit_done, conjunction_done, literal_done, step_factor, step_unit, step_guard, step_guarded, step_conjunction, step_joined, step_sum, step_summed, step_product, step_multiplied, step_name, step_line, step_one, step, finish}
 use Rattle.text_laws.specs.Kinds.{IsProper}
-use Rattle.text_laws.proofs.Signs.{signs_of_conjunction, signs_of_product, signs_of_destination, signs_for_conjunction, signs_for_guard, signs_for_factor, signs_for_product, signs_for_sum, signs_owed, factor_ends, product_ends, conjunction_ends, literal_ends}
+use Rattle.text_laws.proofs.Operators.{operators_of_conjunction, operators_of_product, operators_of_destination, operators_for_conjunction, operators_for_guard, operators_for_factor, operators_for_product, operators_for_sum, operators_owed, factor_ends, product_ends, conjunction_ends, literal_ends}
 
 -- ---- what is so of a part that has been read
 
 abbrev pub IsNatural : Term (List ℕ) → Type 0
 IsNatural e = IsTrue (is_natural_term e)
 
-abbrev pub IsNaturalGuard : Formula (List ℕ) → Type 0
-IsNaturalGuard g = IsTrue (is_natural_formula g)
+abbrev pub IsNaturalGuard : Guard (List ℕ) → Type 0
+IsNaturalGuard g = IsTrue (is_natural_guard g)
 
 abbrev pub IsFitDestination : Destination → Type 0
 IsFitDestination (scalar x) = Unit {0}
 IsFitDestination (element x i) = IsNatural i
 
-pub record IsFitDraft (d : Draft) : Type 0 where
+pub record IsFitDraft (d : OpenState) : Type 0 where
   pub source : IsTrue (is_well_formed d.source)
-  pub lines : IsTrue (list_all is_well_formed_line d.state.lines)
+  pub lines : IsTrue (list_all is_well_formed_transition d.state.lines)
 
-pub record IsFitOpening (o : Opening) : Type 0 where
+pub record IsFitOpening (o : OpenTransition) : Type 0 where
   pub draft : IsFitDraft o.draft
-  pub guard : IsTrue (is_well_formed_guard o.guard)
-  pub actions : IsTrue (list_all is_well_formed_action o.actions)
+  pub guard : IsTrue (is_well_formed_condition o.guard)
+  pub assignments : IsTrue (list_all is_well_formed_assignment o.assignments)
 
 abbrev mutual
-  pub IsFitForUnit : ForUnit → Type 0
+  pub IsFitForUnit : UnitContext → Type 0
   IsFitForUnit (negates k) = IsFitForUnit k
   IsFitForUnit (first_of_all k) = IsFitForConjunction k
   IsFitForUnit (and_after c k) = IsNaturalGuard c × IsFitForConjunction k
 
-  pub IsFitForConjunction : ForConjunction → Type 0
+  pub IsFitForConjunction : ConjunctionContext → Type 0
   IsFitForConjunction (first_of_any k) = IsFitForGuard k
   IsFitForConjunction (or_after g k) = IsNaturalGuard g × IsFitForGuard k
 
-  pub IsFitForGuard : ForGuard → Type 0
+  pub IsFitForGuard : GuardContext → Type 0
   IsFitForGuard (braces k) = IsFitForUnit k
   IsFitForGuard (line d n) = IsFitDraft d
 
 abbrev mutual
-  pub IsFitForFactor : ForFactor → Type 0
+  pub IsFitForFactor : FactorContext → Type 0
   IsFitForFactor (first_factor k) = IsFitForProduct k
   IsFitForFactor (times p k) = IsNatural p × IsFitForProduct k
   IsFitForFactor (divides p k) = IsNatural p × IsFitForProduct k
   IsFitForFactor (leaves p k) = IsNatural p × IsFitForProduct k
   IsFitForFactor (negative k) = IsFitForFactor k
 
-  pub IsFitForProduct : ForProduct → Type 0
+  pub IsFitForProduct : ProductContext → Type 0
   IsFitForProduct (first_product k) = IsFitForSum k
   IsFitForProduct (plus s k) = IsNatural s × IsFitForSum k
   IsFitForProduct (minus s k) = IsNatural s × IsFitForSum k
 
-  pub IsFitForSum : ForSum → Type 0
+  pub IsFitForSum : SumContext → Type 0
   IsFitForSum (parens k) = IsFitForFactor k
   IsFitForSum (index x k) = IsFitForFactor k
   IsFitForSum (left k) = IsFitForUnit k
@@ -69,7 +69,7 @@ abbrev mutual
   IsFitForSum (place o x) = IsFitOpening o
   IsFitForSum (value o d) = IsFitOpening o × IsFitDestination d
 
-abbrev pub IsFit : Owed → Type 0
+abbrev pub IsFit : ParseState → Type 0
 IsFit at_start = Unit {0}
 IsFit at_one = Unit {0}
 IsFit at_semicolon = Unit {0}
@@ -83,10 +83,10 @@ IsFit (at_state s) = IsTrue (is_well_formed s)
 IsFit (at_state_name s m) = IsTrue (is_well_formed s)
 IsFit (after_state_name d) = IsFitDraft d
 IsFit (at_line d) = IsFitDraft d
-IsFit (at_target d m g) = IsFitDraft d × IsTrue (is_well_formed_guard g)
+IsFit (at_target d m g) = IsFitDraft d × IsTrue (is_well_formed_condition g)
 IsFit (after_target o) = IsFitOpening o
-IsFit (at_action o) = IsFitOpening o
-IsFit (after_action_name o x) = IsFitOpening o
+IsFit (at_assignment o) = IsFitOpening o
+IsFit (after_assignment_name o x) = IsFitOpening o
 IsFit (at_equals o d) = IsFitOpening o × IsFitDestination d
 IsFit (at_unit k) = IsFitForUnit k
 IsFit (after_conjunction c k) = IsNaturalGuard c × IsFitForConjunction k
@@ -114,120 +114,120 @@ second_part a b h = grind (arith, h)
 snoc_some : (xs : List (List ℕ)) (x : List ℕ) → IsTrue (not (length (xs ++ x ∷ []) == 0))
 snoc_some xs x = grind (arith, length-append xs (x ∷ []))
 
-draft_ends : (d : Draft) → IsFitDraft d → IsTrue (is_well_formed (drafted d))
+draft_ends : (d : OpenState) → IsFitDraft d → IsTrue (is_well_formed (drafted d))
 draft_ends d h =
     both (list_all has_names d.source.declarations) (list_all is_well_formed_state (d.source.states ++ d.state ∷ []))
     (first_part (list_all has_names d.source.declarations) (list_all is_well_formed_state d.source.states) h.source)
     (one_more is_well_formed_state d.source.states d.state (second_part (list_all has_names d.source.declarations) (list_all is_well_formed_state d.source.states) h.source) h.lines)
 
-line_ends : (o : Opening) → IsFitOpening o → IsFitDraft (closed o)
+line_ends : (o : OpenTransition) → IsFitOpening o → IsFitDraft (closed o)
 line_ends o h =
     record {
       source = h.draft.source;
-      lines = one_more is_well_formed_line o.draft.state.lines (line_read o) h.draft.lines (both (is_well_formed_guard o.guard) (list_all is_well_formed_action o.actions) h.guard h.actions);
+      lines = one_more is_well_formed_transition o.draft.state.lines (line_read o) h.draft.lines (both (is_well_formed_condition o.guard) (list_all is_well_formed_assignment o.assignments) h.guard h.assignments);
     }
 
-action_fits : (d : Destination) (e : Term (List ℕ)) → IsFitDestination d → IsNatural e → signs_of_term e + signs_of_destination d ≤ 128 → IsTrue (is_well_formed_action (assigned d e))
-action_fits (scalar x) e h j b = both (is_natural_term e) (nat_le (signs_of_term e) 128) j (le-leb (signs_of_term e) 128 (omega arith))
-action_fits (element x i) e h j b =
-    both (is_natural_term i && is_natural_term e) (nat_le (1 + (signs_of_term i + signs_of_term e)) 128) (both (is_natural_term i) (is_natural_term e) h j)
-    (le-leb (1 + (signs_of_term i + signs_of_term e)) 128 (omega arith))
+assignment_fits : (d : Destination) (e : Term (List ℕ)) → IsFitDestination d → IsNatural e → operators_of_term e + operators_of_destination d ≤ 128 → IsTrue (is_well_formed_assignment (assigned d e))
+assignment_fits (scalar x) e h j b = both (is_natural_term e) (nat_le (operators_of_term e) 128) j (le-leb (operators_of_term e) 128 (omega arith))
+assignment_fits (element x i) e h j b =
+    both (is_natural_term i && is_natural_term e) (nat_le (1 + (operators_of_term i + operators_of_term e)) 128) (both (is_natural_term i) (is_natural_term e) h j)
+    (le-leb (1 + (operators_of_term i + operators_of_term e)) 128 (omega arith))
 
-action_read : (o : Opening) (d : Destination) (e : Term (List ℕ)) → IsFitOpening o → IsFitDestination d → IsNatural e → signs_of_term e + signs_of_destination d ≤ 128
-    → IsFitOpening (with_actions o (assigned d e ∷ []))
-action_read o d e h j n b = record { draft = h.draft; guard = h.guard; actions = one_more is_well_formed_action o.actions (assigned d e) h.actions (action_fits d e j n b) }
+assignment_read : (o : OpenTransition) (d : Destination) (e : Term (List ℕ)) → IsFitOpening o → IsFitDestination d → IsNatural e → operators_of_term e + operators_of_destination d ≤ 128
+    → IsFitOpening (with_assignments o (assigned d e ∷ []))
+assignment_read o d e h j n b = record { draft = h.draft; guard = h.guard; assignments = one_more is_well_formed_assignment o.assignments (assigned d e) h.assignments (assignment_fits d e j n b) }
 
-guard_fits : (g : Formula (List ℕ)) → IsNaturalGuard g → signs_of_formula g ≤ 128 → IsTrue (is_well_formed_guard (Some g))
-guard_fits g h b = both (is_natural_formula g) (nat_le (signs_of_formula g) 128) h (le-leb (signs_of_formula g) 128 b)
+guard_fits : (g : Guard (List ℕ)) → IsNaturalGuard g → operators_of_guard g ≤ 128 → IsTrue (is_well_formed_condition (Some g))
+guard_fits g h b = both (is_natural_guard g) (nat_le (operators_of_guard g) 128) h (le-leb (operators_of_guard g) 128 b)
 
 -- ---- a part that ends
 
-factor_fits : (k : ForFactor) (f : Term (List ℕ)) → IsFitForFactor k → IsNatural f → IsFit (factor_done f k)
+factor_fits : (k : FactorContext) (f : Term (List ℕ)) → IsFitForFactor k → IsNatural f → IsFit (factor_done f k)
 factor_fits (first_factor k) f h j = (j, h)
 factor_fits (times p k) f h j = (both (is_natural_term p) (is_natural_term f) h.0 j, h.1)
 factor_fits (divides p k) f h j = (both (is_natural_term p) (is_natural_term f) h.0 j, h.1)
 factor_fits (leaves p k) f h j = (both (is_natural_term p) (is_natural_term f) h.0 j, h.1)
 factor_fits (negative k) f h j = factor_fits k (Negative f) h j
 
-product_fits : (k : ForProduct) (p : Term (List ℕ)) → IsFitForProduct k → IsNatural p → IsFit (product_done p k)
+product_fits : (k : ProductContext) (p : Term (List ℕ)) → IsFitForProduct k → IsNatural p → IsFit (product_done p k)
 product_fits (first_product k) p h j = (j, h)
 product_fits (plus s k) p h j = (both (is_natural_term s) (is_natural_term p) h.0 j, h.1)
 product_fits (minus s k) p h j = (both (is_natural_term s) (is_natural_term p) h.0 j, h.1)
 
-unit_fits : (k : ForUnit) (u : Formula (List ℕ)) → IsFitForUnit k → IsNaturalGuard u → IsFit (unit_done u k)
+unit_fits : (k : UnitContext) (u : Guard (List ℕ)) → IsFitForUnit k → IsNaturalGuard u → IsFit (unit_done u k)
 unit_fits (negates k) u h j = unit_fits k (Not u) h j
 unit_fits (first_of_all k) u h j = (j, h)
-unit_fits (and_after c k) u h j = (both (is_natural_formula c) (is_natural_formula u) h.0 j, h.1)
+unit_fits (and_after c k) u h j = (both (is_natural_guard c) (is_natural_guard u) h.0 j, h.1)
 
-conjunction_fits : (k : ForConjunction) (c : Formula (List ℕ)) → IsFitForConjunction k → IsNaturalGuard c → IsFit (conjunction_done c k)
+conjunction_fits : (k : ConjunctionContext) (c : Guard (List ℕ)) → IsFitForConjunction k → IsNaturalGuard c → IsFit (conjunction_done c k)
 conjunction_fits (first_of_any k) c h j = (j, h)
-conjunction_fits (or_after g k) c h j = (both (is_natural_formula g) (is_natural_formula c) h.0 j, h.1)
+conjunction_fits (or_after g k) c h j = (both (is_natural_guard g) (is_natural_guard c) h.0 j, h.1)
 
 -- ---- a token that can follow
 
-factor_keeps : (t : TokenKind) (k : ForFactor) → IsProper t → IsFitForFactor k → IfSome (step_factor t k) IsFit
+factor_keeps : (t : TokenKind) (k : FactorContext) → IsProper t → IsFitForFactor k → IfSome (step_factor t k) IsFit
 factor_keeps (Number n) k p h = factor_fits k (terms.Number n) h (grind (arith, p.0))
 factor_keeps (Name x) k p h = h
 factor_keeps Minus k p h = h
 factor_keeps OpenParen k p h = h
 factor_keeps _ k p h = tt
 
-unit_keeps : (t : TokenKind) (k : ForUnit) → IsProper t → IsFitForUnit k → IfSome (step_unit t k) IsFit
+unit_keeps : (t : TokenKind) (k : UnitContext) → IsProper t → IsFitForUnit k → IfSome (step_unit t k) IsFit
 unit_keeps Bang k p h = h
 unit_keeps OpenBrace k p h = h
 unit_keeps t k p h = factor_keeps t (first_factor (first_product (left k))) p h
 
-guard_keeps : (t : TokenKind) (g : Formula (List ℕ)) (k : ForGuard) → IsNaturalGuard g → IsFitForGuard k → signs_of_formula g + signs_for_guard k ≤ 128 → IfSome (step_guard t g k) IsFit
+guard_keeps : (t : TokenKind) (g : Guard (List ℕ)) (k : GuardContext) → IsNaturalGuard g → IsFitForGuard k → operators_of_guard g + operators_for_guard k ≤ 128 → IfSome (step_guard t g k) IsFit
 guard_keeps OrOr g k j h b = (j, h)
 guard_keeps CloseBrace g (braces k) j h b = unit_fits k g h j
 guard_keeps Goto g (line d n) j h b = (h, guard_fits g j (omega arith))
 guard_keeps _ g k j h b = tt
 
-guarded_keeps : (t : TokenKind) (s : Owed) → IsFit s → signs_owed s ≤ 128 → IfSome (step_guarded t s) IsFit
+guarded_keeps : (t : TokenKind) (s : ParseState) → IsFit s → operators_owed s ≤ 128 → IfSome (step_guarded t s) IsFit
 guarded_keeps t (after_guard g k) h b = guard_keeps t g k h.0 h.1 b
 guarded_keeps t _ h b = tt
 
-conjunction_keeps : (t : TokenKind) (c : Formula (List ℕ)) (k : ForConjunction) → IsNaturalGuard c → IsFitForConjunction k → signs_of_conjunction c + signs_for_conjunction k ≤ 128
+conjunction_keeps : (t : TokenKind) (c : Guard (List ℕ)) (k : ConjunctionContext) → IsNaturalGuard c → IsFitForConjunction k → operators_of_conjunction c + operators_for_conjunction k ≤ 128
     → IfSome (step_conjunction t c k) IsFit
 conjunction_keeps AndAnd c k j h b = (j, h)
 conjunction_keeps t c k j h b = guarded_keeps t (conjunction_done c k) (conjunction_fits k c h j) (omega (arith, conjunction_ends k c))
 
-joined_keeps : (t : TokenKind) (s : Owed) → IsFit s → signs_owed s ≤ 128 → IfSome (step_joined t s) IsFit
+joined_keeps : (t : TokenKind) (s : ParseState) → IsFit s → operators_owed s ≤ 128 → IfSome (step_joined t s) IsFit
 joined_keeps t (after_conjunction c k) h b = conjunction_keeps t c k h.0 h.1 b
 joined_keeps t _ h b = tt
 
-sum_keeps : (t : TokenKind) (e : Term (List ℕ)) (k : ForSum) → IsNatural e → IsFitForSum k → signs_of_term e + signs_for_sum k ≤ 128 → IfSome (step_sum t e k) IsFit
+sum_keeps : (t : TokenKind) (e : Term (List ℕ)) (k : SumContext) → IsNatural e → IsFitForSum k → operators_of_term e + operators_for_sum k ≤ 128 → IfSome (step_sum t e k) IsFit
 sum_keeps Plus e k j h b = (j, h)
 sum_keeps Minus e k j h b = (j, h)
 sum_keeps CloseParen e (parens k) j h b = factor_fits k e h j
 sum_keeps CloseBracket e (index x k) j h b = factor_fits k (Read x e) h j
 sum_keeps CloseBracket e (place o x) j h b = (h, j)
 sum_keeps (Relation r) e (left k) j h b = (j, h)
-sum_keeps Comma e (value o d) j h b = action_read o d e h.0 h.1 j b
-sum_keeps Semicolon e (value o d) j h b = line_ends (with_actions o (assigned d e ∷ [])) (action_read o d e h.0 h.1 j b)
+sum_keeps Comma e (value o d) j h b = assignment_read o d e h.0 h.1 j b
+sum_keeps Semicolon e (value o d) j h b = line_ends (with_assignments o (assigned d e ∷ [])) (assignment_read o d e h.0 h.1 j b)
 sum_keeps t e (right r l k) j h b =
     joined_keeps t (literal_done r l e k) (unit_fits k (Test (record { relation = r; left = l; right = e })) h.1 (both (is_natural_term l) (is_natural_term e) h.0 j)) (omega (arith, literal_ends r l e k))
 sum_keeps _ e k j h b = tt
 
-summed_keeps : (t : TokenKind) (s : Owed) → IsFit s → signs_owed s ≤ 128 → IfSome (step_summed t s) IsFit
+summed_keeps : (t : TokenKind) (s : ParseState) → IsFit s → operators_owed s ≤ 128 → IfSome (step_summed t s) IsFit
 summed_keeps t (after_sum e k) h b = sum_keeps t e k h.0 h.1 b
 summed_keeps t _ h b = tt
 
-product_keeps : (t : TokenKind) (p : Term (List ℕ)) (k : ForProduct) → IsNatural p → IsFitForProduct k → signs_of_product p + signs_for_product k ≤ 128 → IfSome (step_product t p k) IsFit
+product_keeps : (t : TokenKind) (p : Term (List ℕ)) (k : ProductContext) → IsNatural p → IsFitForProduct k → operators_of_product p + operators_for_product k ≤ 128 → IfSome (step_product t p k) IsFit
 product_keeps Star p k j h b = (j, h)
 product_keeps Slash p k j h b = (j, h)
 product_keeps Percent p k j h b = (j, h)
 product_keeps t p k j h b = summed_keeps t (product_done p k) (product_fits k p h j) (omega (arith, product_ends k p))
 
-multiplied_keeps : (t : TokenKind) (s : Owed) → IsFit s → signs_owed s ≤ 128 → IfSome (step_multiplied t s) IsFit
+multiplied_keeps : (t : TokenKind) (s : ParseState) → IsFit s → operators_owed s ≤ 128 → IfSome (step_multiplied t s) IsFit
 multiplied_keeps t (after_product p k) h b = product_keeps t p k h.0 h.1 b
 multiplied_keeps t _ h b = tt
 
-name_keeps : (t : TokenKind) (x : List ℕ) (k : ForFactor) → IsFitForFactor k → signs_for_factor k ≤ 128 → IfSome (step_name t x k) IsFit
+name_keeps : (t : TokenKind) (x : List ℕ) (k : FactorContext) → IsFitForFactor k → operators_for_factor k ≤ 128 → IfSome (step_name t x k) IsFit
 name_keeps OpenBracket x k h b = h
 name_keeps t x k h b = multiplied_keeps t (factor_done (Variable x) k) (factor_fits k (Variable x) h refl) (omega (arith, factor_ends k (Variable x)))
 
-line_keeps : (t : TokenKind) (n : ℕ) (d : Draft) → IsFitDraft d → IfSome (step_line n t d) IsFit
+line_keeps : (t : TokenKind) (n : ℕ) (d : OpenState) → IsFitDraft d → IfSome (step_line n t d) IsFit
 line_keeps When n d h = h
 line_keeps Goto n d h = (h, refl)
 line_keeps State n d h = draft_ends d h
@@ -237,7 +237,7 @@ one_keeps : (i : ℤ) → IfSome (step_one i) IsFit
 one_keeps (pos (suc zero)) = tt
 one_keeps _ = tt
 
-pub step_keeps : (s : Owed) (n : ℕ) (t : TokenKind) → IsProper t → IsFit s → signs_owed s ≤ 128 → IfSome (step s n t) IsFit
+pub step_keeps : (s : ParseState) (n : ℕ) (t : TokenKind) → IsProper t → IsFit s → operators_owed s ≤ 128 → IfSome (step s n t) IsFit
 step_keeps at_start n Fsmd p h b = tt
 step_keeps at_start n _ p h b = tt
 step_keeps at_one n (Number i) p h b = one_keeps i
@@ -266,16 +266,16 @@ step_keeps (at_state_name s m) n _ p h b = tt
 step_keeps (after_state_name d) n Colon p h b = h
 step_keeps (after_state_name d) n _ p h b = tt
 step_keeps (at_line d) n t p h b = line_keeps t n d h
-step_keeps (at_target d m g) n (Name x) p h b = record { draft = h.0; guard = h.1; actions = refl }
+step_keeps (at_target d m g) n (Name x) p h b = record { draft = h.0; guard = h.1; assignments = refl }
 step_keeps (at_target d m g) n _ p h b = tt
 step_keeps (after_target o) n Colon p h b = h
 step_keeps (after_target o) n Semicolon p h b = line_ends o h
 step_keeps (after_target o) n _ p h b = tt
-step_keeps (at_action o) n (Name x) p h b = h
-step_keeps (at_action o) n _ p h b = tt
-step_keeps (after_action_name o x) n Equals p h b = (h, tt)
-step_keeps (after_action_name o x) n OpenBracket p h b = h
-step_keeps (after_action_name o x) n _ p h b = tt
+step_keeps (at_assignment o) n (Name x) p h b = h
+step_keeps (at_assignment o) n _ p h b = tt
+step_keeps (after_assignment_name o x) n Equals p h b = (h, tt)
+step_keeps (after_assignment_name o x) n OpenBracket p h b = h
+step_keeps (after_assignment_name o x) n _ p h b = tt
 step_keeps (at_equals o d) n Equals p h b = h
 step_keeps (at_equals o d) n _ p h b = tt
 step_keeps (at_unit k) n t p h b = unit_keeps t k p h
@@ -287,7 +287,7 @@ step_keeps (after_product e k) n t p h b = product_keeps t e k h.0 h.1 b
 step_keeps (after_sum e k) n t p h b = sum_keeps t e k h.0 h.1 b
 
 -- a text that may end here has well-formed parts
-pub finish_fits : (s : Owed) → IsFit s → IfSome (finish s) (λ f. IsTrue (is_well_formed f))
+pub finish_fits : (s : ParseState) → IsFit s → IfSome (finish s) (λ f. IsTrue (is_well_formed f))
 finish_fits (at_state s) h = h
 finish_fits (at_line d) h = draft_ends d h
 finish_fits _ h = tt

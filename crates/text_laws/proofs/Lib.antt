@@ -1,4 +1,4 @@
-pub mod Signs
+pub mod Operators
 pub mod Fit
 pub mod Lexed
 pub mod Counted

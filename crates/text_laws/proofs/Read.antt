@@ -9,9 +9,9 @@ use Rattle.fs_grammar.specs.declared.token.TokenKind.{TokenKind}
 use Rattle.fs_grammar.specs.declared.token.TokenKind.TheVariants.{End}
 use Rattle.fs_grammar.specs.declared.token.Token.{Token}
 use Rattle.fs_grammar.specs.Tokens.{refusal, fault_at}
-use Rattle.fs_grammar.specs.Grammar.{Owed, at_start, step, finish, stop, next, reading}
-use Rattle.fs_lex.specs.Scan.{is_border, is_operator, counted, tokens_of}
-use Rattle.text_laws.proofs.Signs.{signs_owed, step_costs}
+use Rattle.fs_grammar.specs.Grammar.{ParseState, at_start, step, finish, stop, next, reading}
+use Rattle.fs_lex.specs.Scan.{starts_expression, is_operator, counted, tokens_of}
+use Rattle.text_laws.proofs.Operators.{operators_owed, step_costs}
 use Rattle.text_laws.proofs.Fit.{IsFit, step_keeps, finish_fits}
 use Rattle.text_laws.proofs.Counted.{AreCounted, scan_counted}
 
@@ -34,22 +34,22 @@ taken_fits : (b : Bool) (e : TextFault) (r : Result Source TextFault) (f : Sourc
 taken_fits true e r f h q = absurd cc
 taken_fits false e r f h q = h refl q
 
-next_fits : (t : Token) (o : Option Owed) (go : Owed → Result Source TextFault) (end : Option Source) (f : Source) → (t.over ≡ false → IfSome o (λ s. go s ≡ Ok f → IsSo f)) → IfSome end IsSo
+next_fits : (t : Token) (o : Option ParseState) (go : ParseState → Result Source TextFault) (end : Option Source) (f : Source) → (t.past_limit ≡ false → IfSome o (λ s. go s ≡ Ok f → IsSo f)) → IfSome end IsSo
     → next t o go end ≡ Ok f → IsSo f
-next_fits t (Some s) go end f h j q = taken_fits t.over (fault_at t Operators) (go s) f h q
+next_fits t (Some s) go end f h j q = taken_fits t.past_limit (fault_at t Operators) (go s) f h q
 next_fits t None go end f h j q = stop_fits t.kind (refusal (t ∷ [])) end f j q
 
 -- both of an option
-with_both : (o : Option Owed) (P Q R : Owed → Type 0) → ((s : Owed) → P s → Q s → R s) → IfSome o P → IfSome o Q → IfSome o R
+with_both : (o : Option ParseState) (P Q R : ParseState → Type 0) → ((s : ParseState) → P s → Q s → R s) → IfSome o P → IfSome o Q → IfSome o R
 with_both (Some s) P Q R h p q = h s p q
 with_both None P Q R h p q = tt
 
-pub reads_fit : (ts : List Token) (s : Owed) (n : ℕ) (f : Source) → AreCounted n ts → IsFit s → signs_owed s ≤ n → n ≤ 128 → reading ts s ≡ Ok f → IsSo f
+pub reads_fit : (ts : List Token) (s : ParseState) (n : ℕ) (f : Source) → AreCounted n ts → IsFit s → operators_owed s ≤ n → n ≤ 128 → reading ts s ≡ Ok f → IsSo f
 reads_fit [] s n f c h b m q = absurd cc
 reads_fit (t ∷ ts) s n f c h b m q =
     next_fits t (step s t.place.line t.kind) (reading ts) (finish s) f
-    (λ e. with_both (step s t.place.line t.kind) IsFit (λ u. signs_owed u ≤ counted t.kind n) (λ u. reading ts u ≡ Ok f → IsSo f)
-    (λ u k j. reads_fit ts u (counted t.kind n) f c.2 k j (counts_few (is_border t.kind) (is_operator t.kind) n (sym c.1 ∙ e) m))
+    (λ e. with_both (step s t.place.line t.kind) IsFit (λ u. operators_owed u ≤ counted t.kind n) (λ u. reading ts u ≡ Ok f → IsSo f)
+    (λ u k j. reads_fit ts u (counted t.kind n) f c.2 k j (counts_few (starts_expression t.kind) (is_operator t.kind) n (sym c.1 ∙ e) m))
     (step_keeps s t.place.line t.kind c.0 h (omega arith)) (step_costs s t.place.line t.kind n b))
     (finish_fits s h) q
 

@@ -7,7 +7,7 @@ ghost use Rattle.fs_model.specs.Source.{Source};
 ghost use Rattle.fs_model.specs.WellFormed.{is_well_formed};
 ghost use Rattle.fs_grammar.specs.declared.token.Token.{Token};
 ghost use Rattle.fs_grammar.specs.declared.token.TokenKind.{TokenKind};
-ghost use Rattle.fs_grammar.specs.Grammar.{Owed, at_start, step, reading};
+ghost use Rattle.fs_grammar.specs.Grammar.{ParseState, at_start, step, reading};
 ghost use Rattle.fs_lex.specs.Scan.{is_operator, tokens_of};
 ghost use Rattle.text_laws.specs.Kinds.{IsProper, end_once};
 ghost use Rattle.text_laws.specs.Parts.{Point, front, point_after, is_in_part, CanFollow, operators_of};
@@ -33,13 +33,13 @@ pub fn tokens_are_proper()
 /// bracket, and at least 128 such are before it in the same guard or assignment. The first that is
 /// marked is the 129th.
 pub fn the_mark_counts_the_open_part()
-    ensures marked { (bytes : List ℕ) (before behind : List Token) (t : Token) (p : Point) → tokens_of bytes ≡ before ++ t ∷ behind → point_after before front ≡ Some p → CanFollow p t → t.over ≡ (is_operator t.kind && nat_le 128 (operators_of p.part)) }
-    ensures first { (bytes : List ℕ) (before behind : List Token) (t : Token) (p : Point) → tokens_of bytes ≡ before ++ t ∷ behind → All (λ u. u.over ≡ false) before → point_after before front ≡ Some p → CanFollow p t → IsTrue t.over → operators_of p.part ≡ 128 }
+    ensures marked { (bytes : List ℕ) (before behind : List Token) (t : Token) (p : Point) → tokens_of bytes ≡ before ++ t ∷ behind → point_after before front ≡ Some p → CanFollow p t → t.past_limit ≡ (is_operator t.kind && nat_le 128 (operators_of p.part)) }
+    ensures first { (bytes : List ℕ) (before behind : List Token) (t : Token) (p : Point) → tokens_of bytes ≡ before ++ t ∷ behind → All (λ u. u.past_limit ≡ false) before → point_after before front ≡ Some p → CanFollow p t → IsTrue t.past_limit → operators_of p.part ≡ 128 }
 {}
 
 /// The guard or assignment that is open is the last that was read, and operators and opening
 /// brackets can follow only where one is open.
 pub fn operators_stand_in_open_parts()
     ensures last { (before : List Token) (p : Point) → point_after before front ≡ Some p → (x : List Token) × (before ≡ x ++ p.part) }
-    ensures inside { (s : Owed) (n : ℕ) (t : TokenKind) → IsTrue (is_operator t) → IsSome (step s n t) → IsTrue (is_in_part s) }
+    ensures inside { (s : ParseState) (n : ℕ) (t : TokenKind) → IsTrue (is_operator t) → IsSome (step s n t) → IsTrue (is_in_part s) }
 {}

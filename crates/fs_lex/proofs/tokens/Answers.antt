@@ -19,4 +19,4 @@ each-preserved c =
     let back : c.split_at-in-Token.result.1.now ≡ drop n rest = c.split_at-in-Token.ensures.back in
     let len : length c.split_at-in-Token.result.1.now + n ≡ length rest = c.split_at-in-Token.ensures.back_len in
     let front_len : length c.split_at-in-Token.result.0.now ≡ n = c.split_at-in-Token.ensures.front_len in
-    (rw (c.in_ok-push-in-Token.ensures.items, c.is_over-over.ensures, c.counted-operators.ensures.is, c.moved-place-in-Token.ensures.is, front, back) g, omega arith, omega arith, omega arith, omega arith)
+    (rw (c.in_ok-push-in-Token.ensures.items, c.is_past_limit-past_limit.ensures, c.counted-operators.ensures.is, c.moved-place-in-Token.ensures.is, front, back) g, omega arith, omega arith, omega arith, omega arith)

@@ -1,6 +1,6 @@
 use Rattle.std.proofs.Common.{◌≡◌, ◌∙◌, ◌+◌, ◌-◌, ◌<◌, ◌∷◌, sym, ap, drop, length, arith}
 use Rattle.std.specs.Prelude.{map, ℕ}
-use Rattle.fs_model.specs.Trees.{tree_of_lines, count_leaves}
+use Rattle.fs_model.specs.Trees.{tree_of_transitions, count_leaves}
 use Rattle.fs_ast.specs.Resolved.{line_of}
 use Rattle.fs_ast.specs.Forks.{capped}
 use Rattle.fs_ast.proofs.Turns.{left_map}
@@ -19,5 +19,5 @@ loop-k-preserved c =
     let after : n - k ≡ i + 1 = omega arith in
     let before : i ≡ n - (k + 1) = omega arith in
     count_more (line_of x) (map line_of (drop (n - k) xs)) c.loop-k.count c.count_line-count.result c.loop-k.invariant c.count_line-count.ensures
-    ∙ ap (λ ls. capped (count_leaves (tree_of_lines ls)))
+    ∙ ap (λ ls. capped (count_leaves (tree_of_transitions ls)))
     (ap (λ j. line_of x ∷ map line_of (drop j xs)) after ∙ sym (left_map line_of xs i x within c.index-lines-lines.is) ∙ ap (λ j. map line_of (drop j xs)) before)

@@ -4,7 +4,7 @@ use Rattle.fs_model.specs.Touched.{AllInRange}
 use Rattle.fs_model.specs.View.{branch_of}
 use Rattle.fs_ast.specs.Open.{all_hold}
 use Rattle.fs_runs.specs.Values.{store_from}
-use Rattle.fs_runs.specs.Reads.{touched_by_branches, first_open}
+use Rattle.fs_runs.specs.Reads.{touched_by_branches, taken_branch}
 use Rattle.fs_runs.proofs.Slots.{left_item}
 use Rattle.fs_runs.proofs.Tries.{branch_in_front, branch_there, branch_back, open_more}
 use Rattle.fs_runs.proofs.branches.open_branch.Goals as goal
@@ -35,5 +35,5 @@ loop-branch-preserved c =
     record {
       there = λ p. inv.there (subst (λ ls. AllInRange (touched_by_branches ls s)) (sym parts) (branch_there b rest s h held.0 p));
       back = λ p. branch_back b rest s h (subst (λ ls. AllInRange (touched_by_branches ls s)) parts (inv.back p));
-      first = sym (open_more b rest s h) ∙ sym (ap (λ ls. first_open ls s) parts) ∙ inv.first;
+      first = sym (open_more b rest s h) ∙ sym (ap (λ ls. taken_branch ls s) parts) ∙ inv.first;
     }

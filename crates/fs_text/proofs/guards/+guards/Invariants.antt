@@ -1,6 +1,6 @@
 use Rattle.std.proofs.Common.{◌≡◌, ◌<◌, length, ◌+◌, ◌*◌}
-use Rattle.fs_model.specs.View.{named_formula}
-use Rattle.fs_grammar.specs.Grammar.{ForConjunction, ForGuard, reading, at_unit, first_of_all, after_conjunction, at_guard, after_guard}
+use Rattle.fs_model.specs.View.{named_guard}
+use Rattle.fs_grammar.specs.Grammar.{ConjunctionContext, GuardContext, reading, at_unit, first_of_all, after_conjunction, at_guard, after_guard}
 use Rattle.fs_text.proofs.guards.+guards.Given as goal
 
 abbrev pub decreases-unit : goal.decreases-unit
@@ -26,13 +26,13 @@ decreases-guard l = 6 * length l.tokens.now + 3
 
 abbrev pub invariant-conjunction-loop-left : goal.invariant-conjunction-loop-left
 invariant-conjunction-loop-left l =
-    ((k : ForConjunction) → reading l.tokens (at_unit (first_of_all k)) ≡ reading l.rest (after_conjunction (named_formula l.left) k)) × (length l.rest < length l.tokens)
+    ((k : ConjunctionContext) → reading l.tokens (at_unit (first_of_all k)) ≡ reading l.rest (after_conjunction (named_guard l.left) k)) × (length l.rest < length l.tokens)
 
 abbrev pub decreases-conjunction-loop-left : goal.decreases-conjunction-loop-left
 decreases-conjunction-loop-left l = length l.rest
 
 abbrev pub invariant-guard-loop-left : goal.invariant-guard-loop-left
-invariant-guard-loop-left l = ((k : ForGuard) → reading l.tokens (at_guard k) ≡ reading l.rest (after_guard (named_formula l.left) k)) × (length l.rest < length l.tokens)
+invariant-guard-loop-left l = ((k : GuardContext) → reading l.tokens (at_guard k) ≡ reading l.rest (after_guard (named_guard l.left) k)) × (length l.rest < length l.tokens)
 
 abbrev pub decreases-guard-loop-left : goal.decreases-guard-loop-left
 decreases-guard-loop-left l = length l.rest

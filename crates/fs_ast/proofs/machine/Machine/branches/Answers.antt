@@ -1,6 +1,6 @@
 use Rattle.std.proofs.Common.{◌∙◌, ◌<◌, sym, ap, subst, length}
 use Rattle.std.specs.Prelude.{map}
-use Rattle.fs_model.specs.Machines.{State, lines_of}
+use Rattle.fs_model.specs.Machines.{State, transitions_of}
 use Rattle.fs_model.specs.Trees.{branches_of}
 use Rattle.fs_model.specs.View.{branch_of}
 use Rattle.fs_ast.specs.Resolved.{state_of}
@@ -16,4 +16,4 @@ returns-clause-branches c =
     let low : q < length states = subst (λ x. q < length x.states) (sym c.self.view_is) c.requires in
     ap (map branch_of) c.as_slice.ensures.value
     ∙ same_at (λ b. map branch_of b.items) (λ (s : State). branches_of s.lines) m.branches.items states c.self.invariant.branched q c.index.result.now no_state low c.index.ensures
-    ∙ ap (λ x. branches_of (lines_of x q)) c.self.view_is
+    ∙ ap (λ x. branches_of (transitions_of x q)) c.self.view_is

@@ -1,7 +1,7 @@
 use Rattle.std.proofs.Common.{◌∙◌, sym, ap, ap₂, [], ◌∷◌, ◌++◌}
-use Rattle.fs_model.specs.View.{named_action, named_term}
-use Rattle.fs_ast.specs.Spelled.{place, names_of, action_over, term_over}
-use Rattle.fs_ast.specs.Sound.{scalars_in, arrays_in, scalars_in_action, arrays_in_action}
+use Rattle.fs_model.specs.View.{named_assignment, named_term}
+use Rattle.fs_ast.specs.Spelled.{place, names_of, assignment_over, term_over}
+use Rattle.fs_ast.specs.Sound.{scalars_in, arrays_in, scalars_in_assignment, arrays_in_assignment}
 use Rattle.fs_ast.specs.Uses.{uses_of, either_of}
 use Rattle.fs_ast.proofs.Uses.{either_uses}
 use Rattle.fs_ast.proofs.scope.Scope.assign_uses.Goals as goal
@@ -15,4 +15,4 @@ returns-in-Put c =
     c.either-in-Put.ensures
     ∙ ap₂ either_of c.array_use.ensures (c.either-terms.ensures ∙ ap₂ either_of c.expr_uses-in-Put.ensures c.expr_uses-in-Put-2.ensures ∙ either_uses vs (scalars_in i) (arrays_in i) (scalars_in e) (arrays_in e))
     ∙ either_uses vs [] (f c.in-Put.name ∷ []) (scalars_in i ++ scalars_in e) (arrays_in i ++ arrays_in e)
-    ∙ sym (ap (λ a. uses_of vs (scalars_in_action (action_over f (named_action a))) (arrays_in_action (action_over f (named_action a)))) c.in-Put.is)
+    ∙ sym (ap (λ a. uses_of vs (scalars_in_assignment (assignment_over f (named_assignment a))) (arrays_in_assignment (assignment_over f (named_assignment a)))) c.in-Put.is)

@@ -1,8 +1,8 @@
 use Rattle.std.proofs.Common.{◌∙◌, ap, length}
 use Rattle.std.specs.Prelude.{map, not}
 use Rattle.std.specs.List.{list_any}
-use Rattle.fs_model.specs.View.{named_action, source_line_of}
-use Rattle.fs_ast.specs.Spelled.{place, names_of, action_over, line_spelled}
+use Rattle.fs_model.specs.View.{named_assignment, source_transition_of}
+use Rattle.fs_ast.specs.Spelled.{place, names_of, assignment_over, line_spelled}
 use Rattle.fs_ast.specs.Sound.{input_at, changed_by, assigned_in, all_differ}
 use Rattle.fs_ast.specs.Places.{names_in}
 use Rattle.fs_ast.proofs.Noted.{line_noted}
@@ -12,11 +12,11 @@ pub returns : goal.returns
 returns c =
     let vs = c.args.self.now.vars.items in
     let ss = names_in c.args.self.now.states in
-    let over = action_over (place (names_of vs)) in
+    let over = assignment_over (place (names_of vs)) in
     let same = c.as_slice-assigns.ensures.value in
-    line_noted vs (length ss) c.args.line.now.line (line_spelled (names_of vs) ss (source_line_of c.args.line.now)) c.args.faults.now.first _ _ _ _ _ _ _ _ _ _
+    line_noted vs (length ss) c.args.line.now.line (line_spelled (names_of vs) ss (source_transition_of c.args.line.now)) c.args.faults.now.first _ _ _ _ _ _ _ _ _ _
     (ap (λ u. u.unknown) c.line_uses-uses.ensures) (ap (λ u. u.wrong_sort) c.line_uses-uses.ensures)
-    (c.some_changes_input-changes_input.ensures ∙ ap (λ xs. list_any (λ a. input_at vs (changed_by a)) (map over (map named_action xs))) same)
-    (c.in_ok-twice.ensures ∙ ap (λ xs. not (all_differ (assigned_in (map over (map named_action xs))))) same)
+    (c.some_changes_input-changes_input.ensures ∙ ap (λ xs. list_any (λ a. input_at vs (changed_by a)) (map over (map named_assignment xs))) same)
+    (c.in_ok-twice.ensures ∙ ap (λ xs. not (all_differ (assigned_in (map over (map named_assignment xs))))) same)
     (ap not c.knows_state-no_target.ensures)
     c.note_where.ensures c.note_where-2.ensures c.note_where-3.ensures c.note_where-4.ensures c.note_where-5.ensures

@@ -1,6 +1,6 @@
 use Rattle.std.proofs.Common.{◌≡◌, drop}
 use Rattle.std.specs.Prelude.{map}
-use Rattle.fs_model.specs.View.{source_line_of}
+use Rattle.fs_model.specs.View.{source_transition_of}
 use Rattle.fs_ast.specs.Rules.{lines_faults}
 use Rattle.fs_ast.specs.Earliest.{earliest}
 use Rattle.fs_ast.specs.Places.{names_in}
@@ -8,5 +8,5 @@ use Rattle.fs_ast.proofs.scope.Scope.check_lines.Given as goal
 
 abbrev pub invariant-loop-line : goal.invariant-loop-line
 invariant-loop-line l =
-    earliest l.faults.first (lines_faults l.self.vars.items (names_in l.self.states) (map source_line_of (drop l.line-index l.lines)))
-    ≡ earliest l.initial.faults.first (lines_faults l.self.vars.items (names_in l.self.states) (map source_line_of l.lines))
+    earliest l.faults.first (lines_faults l.self.vars.items (names_in l.self.states) (map source_transition_of (drop l.line-index l.lines)))
+    ≡ earliest l.initial.faults.first (lines_faults l.self.vars.items (names_in l.self.states) (map source_transition_of l.lines))

@@ -1,5 +1,5 @@
 use Rattle.fsmd_tool.proofs.Positions.{position_in}
-use Rattle.fsmd_tool.proofs.compare.compare_alike.Goals as goal
+use Rattle.fsmd_tool.proofs.compare.compare_same_interface.Goals as goal
 
 pub name_of-requires : goal.name_of-requires
 name_of-requires c =
