@@ -1,5 +1,7 @@
 pub mod Words
+pub mod Limits
 pub mod Terms
+pub mod Renamed
 pub mod Source
 pub mod Machines
 pub mod View
