@@ -10,5 +10,6 @@ pub mod Meaning
 pub mod Runs
 pub mod Touched
 pub mod Trees
+pub mod Parts
 pub mod Codes
 pub mod WellFormed

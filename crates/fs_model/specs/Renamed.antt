@@ -1,6 +1,6 @@
 -- Terms, guards, assignments and transitions over other variables and states.
 use Rattle.std.specs.Prelude.{map, option_map}
-use Rattle.fs_model.specs.Terms.{Term, Number, Variable, Read, Sum, Difference, Product, Quotient, Remainder, Negative, Literal, Guard, Test, Not, And, Or, Assignment, Assign, ArrayWrite, Transition}
+use Rattle.fs_model.specs.Terms.{Term, Number, Variable, Read, Sum, Difference, Product, Quotient, Remainder, Negative, Literal, Guard, Test, Not, And, Or, Assignment, Assign, ArrayWrite, Emit, Transition}
 
 -- the same term, where f tells the variables
 abbrev pub term_over : {X Y : Type 0} → (X → Y) → Term X → Term Y
@@ -26,6 +26,7 @@ guard_over f (Or a b) = Or (guard_over f a) (guard_over f b)
 abbrev pub assignment_over : {X Y : Type 0} → (X → Y) → Assignment X → Assignment Y
 assignment_over f (Assign x e) = Assign (f x) (term_over f e)
 assignment_over f (ArrayWrite x i e) = ArrayWrite (f x) (term_over f i) (term_over f e)
+assignment_over f (Emit x e) = Emit (f x) (term_over f e)
 
 -- the same transition, where f tells the variables and g the states
 abbrev pub line_over : {X Y S T : Type 0} → (X → Y) → (S → T) → Transition X S → Transition Y T
