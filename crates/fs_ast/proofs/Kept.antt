@@ -10,14 +10,16 @@ use Rattle.fs_model.specs.Terms.{Transition}
 use Rattle.fs_model.specs.Source.{Declaration, SourceTransition, SourceState, Source}
 use Rattle.fs_model.specs.Machines.{State, Fsmd, transitions_of}
 use Rattle.fs_model.specs.Trees.{tree_of_transitions, branches_of, count_leaves}
-use Rattle.fs_ast.specs.declared.check.CheckRule.{CheckRule}
-use Rattle.fs_ast.specs.declared.check.CheckRule.TheVariants.{TwiceNamed, UnknownName, WrongSort, AssignInput, AssignedTwice, NoElse, AfterElse, TooManyBranches, UnknownState, TooMany}
+use Rattle.fs_rules.specs.declared.check.CheckRule.{CheckRule}
+use Rattle.fs_rules.specs.declared.check.CheckRule.TheVariants.{TwiceNamed, UnknownName, WrongSort, AssignInput, AssignedTwice, NoElse, AfterElse, TooManyBranches, UnknownState, TooMany}
 use Rattle.std.proofs.lemmas.Option.{slice_get_within}
-use Rattle.fs_ast.specs.Spelled.{declared_by, variables_of, names_of, state_names, place, line_spelled, state_spelled, guard_over, machine_of}
-use Rattle.fs_ast.specs.Sound.{scalar_at, array_at, input_at, is_array, names_differ, all_differ, scalars_in_condition, arrays_in_condition, scalars_in_assignments, arrays_in_assignments, changed_by, assigned_in, IsSoundTransition, IsSound, is_open, ends_open, branch_count, first_transition_target, is_cutpoint, reaches_cutpoint, most_variables, most_states}
-use Rattle.fs_ast.specs.Rules.{at_lines, broken_where, declared_names, declared_states, repeated, past, is_known, uses_unknown, uses_wrong_sort, changes_input, line_faults, lines_faults, lacks_else, after_else, state_faults, plain_faults, branches_too_often, branch_faults, after_steps, IsLawful}
-use Rattle.fs_ast.specs.Places.{names_in}
-use Rattle.fs_ast.proofs.Turns.{map_map, length_mapped, map_joined}
+use Rattle.fs_model.specs.Renamed.{guard_over}
+use Rattle.fs_rules.specs.Spelled.{declared_by, variables_of, names_of, state_names, place, line_spelled, state_spelled, machine_of}
+use Rattle.fs_rules.specs.Sound.{scalar_at, array_at, input_at, is_array, names_differ, all_differ, scalars_in_condition, arrays_in_condition, scalars_in_assignments, arrays_in_assignments, changed_by, assigned_in, IsSoundTransition, IsSound, is_open, ends_open, branch_count, first_transition_target, is_cutpoint, reaches_cutpoint, most_variables, most_states}
+use Rattle.fs_rules.specs.Rules.{at_lines, broken_where, declared_names, declared_states, repeated, past, is_known, uses_unknown, uses_wrong_sort, changes_input, line_faults, lines_faults, lacks_else, after_else, state_faults, plain_faults, branches_too_often, branch_faults, after_steps, IsLawful}
+use Rattle.fs_rules.specs.Places.{names_in}
+use Rattle.fs_rules.proofs.Turns.{map_map, length_mapped}
+use Rattle.fs_rules.proofs.Naming.{names_declared, names_stated}
 use Rattle.fs_ast.proofs.Leaves.{length_leaves}
 
 -- ---- lists with nothing in them
@@ -89,19 +91,6 @@ unrepeated before (n ∷ ns) e =
 
 pub differ : (ns : List (ℕ × List ℕ)) → repeated [] ns ≡ [] → names_differ (names_in ns) ≡ true
 differ ns e = (unrepeated [] ns e).differ
-
-names_by : (d : Declaration) → names_in (map (λ n. (d.line, n)) d.names) ≡ names_of (declared_by d)
-names_by d = map_map (λ e. e.1) (λ n. (d.line, n)) d.names ∙ sym (map_map (λ v. v.name) (λ n. record { name = n; role = d.role; sort = d.sort }) d.names)
-
-pub names_declared : (ds : List Declaration) → names_in (declared_names ds) ≡ names_of (variables_of ds)
-names_declared [] = refl
-names_declared (d ∷ ds) =
-    map_joined (λ e. e.1) (map (λ n. (d.line, n)) d.names) (declared_names ds)
-    ∙ ap₂ (λ (a b : List (List ℕ)). a ++ b) (names_by d) (names_declared ds)
-    ∙ sym (map_joined (λ v. v.name) (declared_by d) (variables_of ds))
-
-pub names_stated : (ss : List SourceState) → names_in (declared_states ss) ≡ state_names ss
-names_stated ss = map_map (λ e. e.1) (λ s. (s.line, s.name)) ss
 
 -- ---- one transition
 

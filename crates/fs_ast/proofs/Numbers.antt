@@ -3,8 +3,8 @@ use Rattle.std.proofs.Common.{◌≡◌, ℕ, ◌+◌, ◌<◌, List, [], ◌∷
 use Rattle.std.specs.Prelude.{ℤ, map}
 use Rattle.fs_model.specs.Terms.{Assignment, Transition}
 use Rattle.fs_model.specs.Machines.{State}
-use Rattle.fs_ast.specs.Sound.{numbers_in_condition, numbers_in_assignment, numbers_in_assignments, numbers_in_transitions, numbers_in_states}
-use Rattle.fs_ast.proofs.Turns.{taken_map}
+use Rattle.fs_rules.specs.Sound.{numbers_in_condition, numbers_in_assignment, numbers_in_assignments, numbers_in_transitions, numbers_in_states}
+use Rattle.fs_rules.proofs.Turns.{taken_map}
 
 pub assignments_push : (bs : List (Assignment ℕ)) (a : Assignment ℕ) → numbers_in_assignments (bs ++ a ∷ []) ≡ numbers_in_assignments bs ++ numbers_in_assignment a
 assignments_push [] a = append-nil (numbers_in_assignment a)

@@ -9,7 +9,7 @@ use Rattle.fs_model.specs.Terms.{Literal, Guard, Test, Not, And, Or, Assignment,
 use Rattle.fs_model.specs.Stores.{Store}
 use Rattle.fs_model.specs.Meaning.{value, relates, literal_holds, holds, condition_holds, transition_taken}
 use Rattle.fs_model.specs.Trees.{Tree, Empty, Leaf, Node, tree_of_guard, tree_of_condition, tree_of_transitions, opposite, negated, Branch, leaves, branches_of}
-use Rattle.fs_ast.specs.Sound.{ends_open, is_open}
+use Rattle.fs_rules.specs.Sound.{ends_open, is_open}
 use Rattle.fs_ast.specs.Open.{all_hold, TakesOneBranch}
 
 not_not : (b : Bool) → b ≡ not (not b)

@@ -3,7 +3,7 @@ use Rattle.std.specs.Prelude.{◌≡◌, ℕ, ℤ, List, [], map}
 use Rattle.std.specs.List.{slice_index_or}
 use Rattle.fs_model.specs.Machines.{Fsmd}
 use Rattle.fs_model.specs.Trees.{Branch, branches_of}
-use Rattle.fs_ast.specs.Sound.{IsSound, numbers_in_states}
+use Rattle.fs_rules.specs.Sound.{IsSound, numbers_in_states}
 
 -- the name of a state
 abbrev pub name_of : Fsmd → ℕ → List ℕ

@@ -3,10 +3,10 @@
 ghost use Rattle.std.specs.Prelude.{◌≡◌, [], None, IfOk};
 ghost use Rattle.std.specs.Result.{OnOk, IfErr};
 ghost use Rattle.fs_model.specs.View.{source_of};
-ghost use Rattle.fs_ast.specs.Spelled.{variables_of, state_names, machine_of};
-ghost use Rattle.fs_ast.specs.Rules.{plain_faults, Broken, IsFirstBroken, IsLawful};
-ghost use Rattle.fs_ast.specs.Earliest.{earliest};
-ghost use Rattle.fs_ast.specs.Places.{names_in};
+ghost use Rattle.fs_rules.specs.Spelled.{variables_of, state_names, machine_of};
+ghost use Rattle.fs_rules.specs.Rules.{plain_faults, Broken, IsFirstBroken, IsLawful};
+ghost use Rattle.fs_rules.specs.Earliest.{earliest};
+ghost use Rattle.fs_rules.specs.Places.{names_in};
 ghost use Rattle.fs_ast.specs.Built.{IsScopeOf, IfCheck, name_faults};
 
 use crate::check::{CheckFault, CheckRule};

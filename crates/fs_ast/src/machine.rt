@@ -4,7 +4,7 @@ ghost use Rattle.std.specs.Prelude.{◌≡◌, ◌<◌, length, map, IfOk};
 ghost use Rattle.fs_model.specs.Machines.{transitions_of};
 ghost use Rattle.fs_model.specs.Trees.{branches_of};
 ghost use Rattle.fs_model.specs.View.{branch_of};
-ghost use Rattle.fs_ast.specs.Sound.{IsSound, numbers_in_states};
+ghost use Rattle.fs_rules.specs.Sound.{IsSound, numbers_in_states};
 ghost use Rattle.fs_ast.specs.Resolved.{state_of};
 ghost use Rattle.fs_ast.specs.Stored.{name_of};
 

@@ -2,9 +2,9 @@
 
 ghost use Rattle.std.specs.Prelude.{◌≡◌, ◌≤◌, length, map, option_map, IfOk};
 ghost use Rattle.fs_model.specs.View.{named_term, named_guard, named_assignment, term_of, literal_of, guard_of, assignment_of, source_transition_of, source_state_of};
-ghost use Rattle.fs_ast.specs.Spelled.{place, names_of, term_over, guard_over, assignment_over, line_spelled};
-ghost use Rattle.fs_ast.specs.Places.{names_in};
-ghost use Rattle.fs_ast.specs.Sound.{most_variables, most_states};
+ghost use Rattle.fs_rules.specs.Spelled.{place, names_of, term_over, guard_over, assignment_over, line_spelled};
+ghost use Rattle.fs_rules.specs.Places.{names_in};
+ghost use Rattle.fs_rules.specs.Sound.{most_variables, most_states};
 ghost use Rattle.fs_ast.specs.Resolved.{line_of, placed_of, placed_spelled};
 
 use crate::scope::{Scope, push};

@@ -1,9 +1,9 @@
 use Rattle.std.proofs.Common.{◌≡◌, ◌∙◌, sym, ap, subst}
 use Rattle.std.specs.Prelude.{map}
 use Rattle.fs_model.specs.View.{source_of, source_state_of}
-use Rattle.fs_ast.specs.Spelled.{names_of, state_names, place}
-use Rattle.fs_ast.specs.Sound.{IsSound}
-use Rattle.fs_ast.specs.Places.{names_in}
+use Rattle.fs_rules.specs.Spelled.{names_of, state_names, place}
+use Rattle.fs_rules.specs.Sound.{IsSound}
+use Rattle.fs_rules.specs.Places.{names_in}
 use Rattle.fs_ast.specs.Resolved.{placed_of, placed_spelled}
 use Rattle.fs_ast.specs.Late.{LeadOn}
 use Rattle.fs_ast.proofs.Kept.{all_kept, sound, lawful}
