@@ -1,6 +1,8 @@
 pub mod Leaves
-pub mod Kept
 pub mod Numbers
+pub mod Kept
+pub mod Naturals
+pub mod Numbered
 pub mod Whole
 pub mod Lasts
 pub mod Soonest

@@ -1,5 +1,5 @@
 -- From the parts of a text to a machine that keeps all rules.
-use Rattle.std.proofs.Common.{◌≡◌, ℕ, zero, suc, ◌<◌, ◌≤◌, Bool, true, List, [], ◌∷◌, ◌++◌, length, refl, sym, ◌∙◌, ap, ap₂, append_assoc, arith}
+use Rattle.std.proofs.Common.{◌≡◌, ℕ, zero, suc, ◌<◌, ◌≤◌, Bool, true, List, [], ◌∷◌, ◌++◌, length, refl, sym, ◌∙◌, ap, ap₂, arith}
 use Rattle.std.specs.Prelude.{◌||◌, ◌==◌, nat_lt, Option, Some, None, map, slice_get}
 use Rattle.std.specs.List.{list_all, flat_map, slice_index_or}
 use Rattle.std.specs.Option.{option_to_list}
@@ -20,7 +20,6 @@ use Rattle.fs_ast.specs.Late.{skeleton, forked_faults, endless_faults, LeadOn, I
 use Rattle.fs_rules.specs.Scoped.{IsScopeOf}
 use Rattle.fs_rules.proofs.Naming.{names_of_states}
 use Rattle.fs_rules.proofs.Turns.{map_map, length_mapped, flat_map_map}
-use Rattle.fs_rules.proofs.Firsts.{earliest-append, earliest_three}
 use Rattle.fs_ast.proofs.Kept.{AreKept, count_variables, count_states, lead_on, both_true, below, get_there, no_state}
 
 -- ---- what was noted

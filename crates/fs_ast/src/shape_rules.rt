@@ -9,13 +9,13 @@ ghost use Rattle.fs_rules.specs.Walks.{is_cut};
 ghost use Rattle.fs_model.specs.Trees.{tree_of_transitions, count_leaves};
 ghost use Rattle.fs_ast.specs.Late.{forked_faults, endless_faults, skeleton, LeadOn, IsLate};
 
-use crate::check::{CheckFault, CheckRule};
-use crate::endless::find_endless;
-use crate::faults::Faults;
-use crate::resolve::{Transition, State};
-use crate::scope::push;
-use crate::trees::{BRANCH_LIMIT, count_leaves};
+use crate::resolve::{State, Transition};
+use crate::trees::count_leaves;
+use fs_model::limits::BRANCH_LIMIT;
 use fs_model::name::NoMemory;
+use fs_rules::check::{CheckFault, CheckRule};
+use fs_rules::faults::Faults;
+use fs_rules::uncut_cycles::find_endless;
 use std::alloc::Global;
 
 /// The first broken rule on branches or endless lines.
@@ -72,7 +72,7 @@ fn first_targets(alloc: Global, states: &[State]) -> Result<Vec<usize>, NoMemory
 {
     let mut next = Vec::new(alloc);
     for state in states {
-        push(&mut next, first_transition_target(state.lines.as_slice()))?;
+        next.push(first_transition_target(state.lines.as_slice()))?;
     }
     Ok(next)
 }
@@ -101,7 +101,7 @@ fn cutpoints(alloc: Global, states: &[State], reset: usize) -> Result<Vec<bool>,
 {
     let mut cut = Vec::new(alloc);
     for (place, state) in states.iter().enumerate() {
-        push(&mut cut, cuts(state, place, reset))?;
+        cut.push(cuts(state, place, reset))?;
     }
     Ok(cut)
 }

@@ -80,9 +80,9 @@ abbrev pub condition_passes : (Literal ℕ → Bool) → Option (Guard ℕ) → 
 condition_passes T None = true
 condition_passes T (Some g) = guard_passes T g
 
--- each literal passes T, each assignment A, and the target S
-abbrev pub transition_passes : (Literal ℕ → Bool) → (Assignment ℕ → Bool) → (ℕ → Bool) → Transition ℕ ℕ → Bool
-transition_passes T A S l = condition_passes T l.guard && (list_all A l.assignments && S l.target)
+-- each literal passes T, the assignments C, and the target S
+abbrev pub transition_passes : (Literal ℕ → Bool) → (List (Assignment ℕ) → Bool) → (ℕ → Bool) → Transition ℕ ℕ → Bool
+transition_passes T C S l = condition_passes T l.guard && (C l.assignments && S l.target)
 
-abbrev pub branch_passes : (Literal ℕ → Bool) → (Assignment ℕ → Bool) → (ℕ → Bool) → Branch → Bool
-branch_passes T A S b = list_all T b.literals && (list_all A b.assignments && S b.target)
+abbrev pub branch_passes : (Literal ℕ → Bool) → (List (Assignment ℕ) → Bool) → (ℕ → Bool) → Branch → Bool
+branch_passes T C S b = list_all T b.literals && (C b.assignments && S b.target)

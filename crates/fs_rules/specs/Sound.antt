@@ -193,4 +193,3 @@ pub record IsSound (m : Fsmd) : Type 0 where
   pub open_last : (q : ℕ) → q < length m.states → IsTrue (ends_open (transitions_of m q))
   pub few_branches : (q : ℕ) → branch_count m q ≤ most_branches
   pub cut : (q : ℕ) → q < length m.states → IsTrue (reaches_cutpoint m (length m.states) q)
-

@@ -6,5 +6,5 @@ use Rattle.fs_rules.specs.Places.{names_in}
 use Rattle.fs_ast.specs.Resolved.{placed_of, placed_spelled}
 use Rattle.fs_ast.proofs.resolve.resolve.Given as goal
 
-abbrev pub invariant-loop-state : goal.invariant-loop-state
-invariant-loop-state l = map placed_of l.out.items ≡ map (placed_spelled (names_of l.self.vars.items) (names_in l.self.states)) (map source_state_of (take l.state-index l.states))
+abbrev pub invariant-loop-raw : goal.invariant-loop-raw
+invariant-loop-raw l = map placed_of l.out.items ≡ map (placed_spelled (names_of l.scope.vars.items) (names_in l.scope.states)) (map source_state_of (take l.raw-index l.states))
