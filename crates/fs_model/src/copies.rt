@@ -3,7 +3,7 @@
 ghost use Rattle.std.specs.Prelude.{◌≡◌, map, option_map, IfOk};
 ghost use Rattle.fs_model.specs.View.{term_by, literal_by, guard_by, assignment_by, term_of, literal_of, guard_of, assignment_of, named_term, named_guard, named_assignment, declaration_of};
 ghost use Rattle.fs_model.specs.Trees.{negated};
-ghost use Rattle.fs_model.specs.Renamed.{term_over, literal_over, guard_over, assignment_over};
+ghost use Rattle.fs_model.specs.Renamed.{term_over, literal_over, guard_over, assignment_over, between, joining};
 
 use crate::memory::{both_boxed, boxed};
 use crate::name::{Name, NoMemory};
@@ -51,6 +51,44 @@ impl Rename<Name> for Unrenamed {
     }
 }
 
+// The expression of the same operator between other operands.
+fn same_operator<V, W>(expr: &Expr<V>, left: Box<Expr<W>>, right: Box<Expr<W>>) -> Expr<W>
+    ensures { term_by (λ x. x) result ≡ between (term_by (λ x. x) expr.now) (term_by (λ x. x) left.value) (term_by (λ x. x) right.value) }
+{
+    match expr {
+        Expr::Sub(..) => Expr::Sub(left, right),
+        Expr::Mul(..) => Expr::Mul(left, right),
+        Expr::Div(..) => Expr::Div(left, right),
+        Expr::Rem(..) => Expr::Rem(left, right),
+        _ => Expr::Add(left, right),
+    }
+}
+
+// The guard of the same connective between other guards.
+fn same_connective<V, W>(guard: &Guard<V>, left: Box<Guard<W>>, right: Box<Guard<W>>) -> Guard<W>
+    ensures { guard_by (λ x. x) result ≡ joining (guard_by (λ x. x) guard.now) (guard_by (λ x. x) left.value) (guard_by (λ x. x) right.value) }
+{
+    match guard {
+        Guard::Or(..) => Guard::Or(left, right),
+        _ => Guard::And(left, right),
+    }
+}
+
+// A variable and an expression, renamed.
+fn named<V, R: Rename<V>>(
+    alloc: Global,
+    variable: &V,
+    value: &Expr<V>,
+    by: &R,
+) -> Result<(R::To, Expr<R::To>), NoMemory>
+    requires { R.can_rename by.now }
+    ensures variable { IfOk result (λ p. p.0 ≡ R.renamed by.now variable.now) }
+    ensures value { IfOk result (λ p. term_by (λ x. x) p.1 ≡ term_over (R.renamed by.now) (term_by (λ x. x) value.now)) }
+{
+    let value = value.renamed(alloc, by)?;
+    Ok((by.rename(alloc, variable)?, value))
+}
+
 impl<V> Expr<V> {
     /// A copy with its variables renamed.
     pub fn renamed<R: Rename<V>>(&self, alloc: Global, by: &R) -> Result<Expr<R::To>, NoMemory>
@@ -64,25 +102,13 @@ impl<V> Expr<V> {
                 let index = boxed(alloc, index.renamed(alloc, by)?)?;
                 Ok(Expr::Read(by.rename(alloc, x)?, index))
             }
-            Expr::Add(a, b) => {
+            Expr::Add(a, b)
+            | Expr::Sub(a, b)
+            | Expr::Mul(a, b)
+            | Expr::Div(a, b)
+            | Expr::Rem(a, b) => {
                 let (a, b) = both_boxed(alloc, a.renamed(alloc, by)?, b.renamed(alloc, by)?)?;
-                Ok(Expr::Add(a, b))
-            }
-            Expr::Sub(a, b) => {
-                let (a, b) = both_boxed(alloc, a.renamed(alloc, by)?, b.renamed(alloc, by)?)?;
-                Ok(Expr::Sub(a, b))
-            }
-            Expr::Mul(a, b) => {
-                let (a, b) = both_boxed(alloc, a.renamed(alloc, by)?, b.renamed(alloc, by)?)?;
-                Ok(Expr::Mul(a, b))
-            }
-            Expr::Div(a, b) => {
-                let (a, b) = both_boxed(alloc, a.renamed(alloc, by)?, b.renamed(alloc, by)?)?;
-                Ok(Expr::Div(a, b))
-            }
-            Expr::Rem(a, b) => {
-                let (a, b) = both_boxed(alloc, a.renamed(alloc, by)?, b.renamed(alloc, by)?)?;
-                Ok(Expr::Rem(a, b))
+                Ok(same_operator(self, a, b))
             }
             Expr::Neg(a) => Ok(Expr::Neg(boxed(alloc, a.renamed(alloc, by)?)?)),
         }
@@ -112,13 +138,9 @@ impl<V> Guard<V> {
         match self {
             Guard::Lit(lit) => Ok(Guard::Lit(lit.renamed(alloc, by)?)),
             Guard::Not(a) => Ok(Guard::Not(boxed(alloc, a.renamed(alloc, by)?)?)),
-            Guard::And(a, b) => {
+            Guard::And(a, b) | Guard::Or(a, b) => {
                 let (a, b) = both_boxed(alloc, a.renamed(alloc, by)?, b.renamed(alloc, by)?)?;
-                Ok(Guard::And(a, b))
-            }
-            Guard::Or(a, b) => {
-                let (a, b) = both_boxed(alloc, a.renamed(alloc, by)?, b.renamed(alloc, by)?)?;
-                Ok(Guard::Or(a, b))
+                Ok(same_connective(self, a, b))
             }
         }
     }
@@ -132,17 +154,17 @@ impl<V> Assign<V> {
     {
         match self {
             Assign::Set(x, value) => {
-                let value = value.renamed(alloc, by)?;
-                Ok(Assign::Set(by.rename(alloc, x)?, value))
+                let (x, value) = named(alloc, x, value, by)?;
+                Ok(Assign::Set(x, value))
             }
             Assign::Put(x, index, value) => {
                 let index = index.renamed(alloc, by)?;
-                let value = value.renamed(alloc, by)?;
-                Ok(Assign::Put(by.rename(alloc, x)?, index, value))
+                let (x, value) = named(alloc, x, value, by)?;
+                Ok(Assign::Put(x, index, value))
             }
             Assign::Emit(x, value) => {
-                let value = value.renamed(alloc, by)?;
-                Ok(Assign::Emit(by.rename(alloc, x)?, value))
+                let (x, value) = named(alloc, x, value, by)?;
+                Ok(Assign::Emit(x, value))
             }
         }
     }
