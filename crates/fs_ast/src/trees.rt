@@ -3,7 +3,7 @@
 ghost use Rattle.std.specs.Prelude.{◌≡◌, ◌++◌, map, IfOk};
 ghost use Rattle.std.specs.Result.{OnOk};
 ghost use Rattle.fs_model.specs.View.{literal_of, guard_of, assignment_of, branch_of};
-ghost use Rattle.fs_model.specs.Trees.{tree_of_guard, tree_of_transitions, leaves, branches_of, count_leaves};
+ghost use Rattle.fs_model.specs.Trees.{Node, tree_of_guard, tree_of_transitions, leaves, branches_of, count_leaves};
 ghost use Rattle.fs_ast.specs.Resolved.{line_of};
 ghost use Rattle.fs_ast.specs.Forks.{tree_of, leaves_by, leaves_by_condition, capped};
 
@@ -93,11 +93,7 @@ fn tree_of_guard<'a>(
     ensures { IfOk result (λ tree. tree_of tree ≡ tree_of_guard (guard_of guard.now) (tree_of on_yes.now) (tree_of on_no.now)) }
 {
     match guard {
-        Guard::Lit(lit) => {
-            let on_yes = copy_tree(alloc, on_yes)?;
-            let (on_yes, on_no) = both_boxed(alloc, on_yes, copy_tree(alloc, on_no)?)?;
-            Ok(DecisionTree::Test(lit, on_yes, on_no))
-        }
+        Guard::Lit(lit) => tree_of_literal(alloc, lit, on_yes, on_no),
         Guard::Not(a) => tree_of_guard(alloc, a, on_no, on_yes),
         Guard::And(a, b) => {
             let inner = tree_of_guard(alloc, b, on_yes, on_no)?;
@@ -108,6 +104,20 @@ fn tree_of_guard<'a>(
             tree_of_guard(alloc, a, on_yes, &inner)
         }
     }
+}
+
+/// The tree of a literal over two subtrees.
+fn tree_of_literal<'a>(
+    alloc: Global,
+    lit: &'a Lit<VarId>,
+    on_yes: &DecisionTree<'a>,
+    on_no: &DecisionTree<'a>,
+) -> Result<DecisionTree<'a>, NoMemory>
+    ensures { IfOk result (λ tree. tree_of tree ≡ Node (literal_of lit.now) (tree_of on_yes.now) (tree_of on_no.now)) }
+{
+    let on_yes = copy_tree(alloc, on_yes)?;
+    let (on_yes, on_no) = both_boxed(alloc, on_yes, copy_tree(alloc, on_no)?)?;
+    Ok(DecisionTree::Test(lit, on_yes, on_no))
 }
 
 fn copy_tree<'a>(alloc: Global, tree: &DecisionTree<'a>) -> Result<DecisionTree<'a>, NoMemory>
