@@ -4,7 +4,7 @@ pub mod Kept
 pub mod Naturals
 pub mod Numbered
 pub mod Whole
-pub mod Lasts
-pub mod Soonest
+pub mod Shapes
+pub mod FirstBroken
 pub mod Opens
 pub mod Lifted

@@ -13,10 +13,10 @@ use Rattle.fs_ast.specs.declared.resolve.State.{State as NumberedState}
 use Rattle.fs_rules.specs.Spelled.{variables_of, names_of, state_names, place, machine_of}
 use Rattle.fs_rules.specs.Sound.{first_transition_target, is_cutpoint, reaches_cutpoint}
 use Rattle.fs_rules.specs.Rules.{at_lines, declared_states, branch_faults}
-use Rattle.fs_rules.specs.Earliest.{sooner, earliest}
+use Rattle.fs_rules.specs.FirstFault.{sooner, earliest}
 use Rattle.fs_rules.specs.Places.{names_in}
 use Rattle.fs_ast.specs.Resolved.{state_of, placed_of, placed_spelled}
-use Rattle.fs_ast.specs.Late.{skeleton, forked_faults, endless_faults, LeadOn, IsLate}
+use Rattle.fs_ast.specs.Shapes.{skeleton, forked_faults, endless_faults, LeadOn, IsFirstOfShapes}
 use Rattle.fs_rules.specs.Scoped.{IsScopeOf}
 use Rattle.fs_rules.proofs.Naming.{names_of_states}
 use Rattle.fs_rules.proofs.Turns.{map_map, length_mapped, flat_map_map}
@@ -96,9 +96,9 @@ reach_same m n e f (suc k) q =
     ap₂ (λ (a b : Bool). a || b) (cut_same m n e f q)
     (reach_same m n e f k (first_transition_target (transitions_of m q)) ∙ ap (λ st. reaches_cutpoint n k (first_transition_target (slice_index_or st q no_state).lines)) e)
 
-pub late_kept : (p : Source) (ss : List (ℕ × State)) (reset : ℕ) (first : Option CheckFault) → ss ≡ placed p → reset ≡ place (state_names p.states) p.reset → first ≡ None → IsLate ss reset first
+pub shapes_kept : (p : Source) (ss : List (ℕ × State)) (reset : ℕ) (first : Option CheckFault) → ss ≡ placed p → reset ≡ place (state_names p.states) p.reset → first ≡ None → IsFirstOfShapes ss reset first
     → (branch_faults p ≡ []) × ((q : ℕ) → q < length p.states → reaches_cutpoint (machine_of p) (length p.states) q ≡ true)
-late_kept p ss reset first e f none late =
+shapes_kept p ss reset first e f none late =
     let n = nothing_noted (earliest None (forked_faults ss)) (endless_faults ss late.endless) (sym late.is_first ∙ none) in
     let b = nothing_noted None (forked_faults ss) n.0 in
     let count : length ss ≡ length p.states = ap length e ∙ length_mapped (placed_spelled (names_of (variables_of p.declarations)) (state_names p.states)) p.states in

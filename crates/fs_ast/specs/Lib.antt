@@ -3,7 +3,7 @@ pub mod Sound
 pub mod Rules
 pub mod Resolved
 pub mod Forks
-pub mod Late
+pub mod Shapes
 pub mod Stored
 pub mod Built
 pub mod Open

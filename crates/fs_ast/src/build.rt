@@ -11,7 +11,7 @@ ghost use Rattle.fs_ast.specs.Built.{IfCheck};
 
 use crate::machine::Machine;
 use crate::resolve::resolve;
-use crate::shape_rules::check_late;
+use crate::shape_rules::check_shapes;
 use fs_model::parts::Parts;
 use fs_rules::check::CheckFault;
 use fs_rules::checked::{Checked, check_parts};
@@ -59,7 +59,7 @@ fn build_checked(alloc: Global, scope: Scope, parts: &Parts) -> Result<Machine, 
         return Err(BuildError::NoMemory);
     };
     let reset = scope.state_id(&parts.reset);
-    match check_late(alloc, states.as_slice(), reset.0 as usize) {
+    match check_shapes(alloc, states.as_slice(), reset.0 as usize) {
         Err(_) => Err(BuildError::NoMemory),
         Ok(Some(fault)) => Err(BuildError::Check(fault)),
         Ok(None) => {

@@ -3,11 +3,11 @@
 ghost use Rattle.std.specs.Prelude.{◌≡◌, ◌<◌, ◌||◌, ◌==◌, ℕ, [], ◌∷◌, length, map, nat_lt, false, IfOk};
 ghost use Rattle.std.specs.List.{slice_index_or};
 ghost use Rattle.fs_rules.specs.Sound.{first_transition_target, is_cutpoint};
-ghost use Rattle.fs_rules.specs.Earliest.{earliest};
+ghost use Rattle.fs_rules.specs.FirstFault.{earliest};
 ghost use Rattle.fs_ast.specs.Resolved.{line_of, state_of, placed_of};
 ghost use Rattle.fs_rules.specs.Walks.{is_cut};
 ghost use Rattle.fs_model.specs.Trees.{tree_of_transitions, count_leaves};
-ghost use Rattle.fs_ast.specs.Late.{forked_faults, endless_faults, skeleton, LeadOn, IsLate};
+ghost use Rattle.fs_ast.specs.Shapes.{forked_faults, endless_faults, skeleton, LeadOn, IsFirstOfShapes};
 
 use crate::resolve::{State, Transition};
 use crate::trees::count_leaves;
@@ -19,14 +19,14 @@ use fs_rules::uncut_cycles::find_endless;
 use std::alloc::Global;
 
 /// The first broken rule on branches or endless lines.
-pub fn check_late(
+pub fn check_shapes(
     alloc: Global,
     states: &[State],
     reset: usize,
 ) -> Result<Option<CheckFault>, NoMemory>
     requires leads { LeadOn (map placed_of states.now) }
     requires reset { reset < length states.now }
-    ensures { IfOk result (λ first. IsLate (map placed_of states.now) reset first) }
+    ensures { IfOk result (λ first. IsFirstOfShapes (map placed_of states.now) reset first) }
 {
     let mut faults = Faults::new();
     note_forked(states, &mut faults);

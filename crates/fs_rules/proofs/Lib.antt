@@ -1,6 +1,6 @@
 pub mod Turns
 pub mod Results
-pub mod Firsts
+pub mod FirstFaults
 pub mod Naming
 pub mod Lines
 pub mod Uses

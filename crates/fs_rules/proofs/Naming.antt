@@ -6,11 +6,11 @@ use Rattle.fs_model.specs.Source.{Declaration, SourceState, Source}
 use Rattle.fs_rules.specs.declared.check.CheckFault.{CheckFault}
 use Rattle.fs_rules.specs.Spelled.{declared_by, variables_of, names_of, state_names, place}
 use Rattle.fs_rules.specs.Rules.{declared_names, declared_states}
-use Rattle.fs_rules.specs.Earliest.{earliest}
+use Rattle.fs_rules.specs.FirstFault.{earliest}
 use Rattle.fs_rules.specs.Places.{names_in}
 use Rattle.fs_rules.specs.Scoped.{IsScopeOf}
 use Rattle.fs_rules.proofs.Turns.{map_map, length_mapped, map_joined}
-use Rattle.fs_rules.proofs.Firsts.{earliest-append, earliest_three}
+use Rattle.fs_rules.proofs.FirstFaults.{earliest-append, earliest_three}
 
 names_by : (d : Declaration) → names_in (map (λ n. (d.line, n)) d.names) ≡ names_of (declared_by d)
 names_by d = map_map (λ e. e.1) (λ n. (d.line, n)) d.names ∙ sym (map_map (λ v. v.name) (λ n. record { name = n; role = d.role; sort = d.sort }) d.names)

@@ -9,8 +9,8 @@ use Rattle.fs_rules.specs.declared.check.CheckFault.{CheckFault}
 use Rattle.fs_model.specs.Limits.{most_emits}
 use Rattle.fs_rules.specs.Sound.{assigned_in, all_differ, emit_count}
 use Rattle.fs_rules.specs.Rules.{uses_unknown, uses_wrong_sort, changes_input, line_faults, lines_faults, state_faults, at_lines, after_else, lacks_else, broken_where}
-use Rattle.fs_rules.specs.Earliest.{earliest}
-use Rattle.fs_rules.proofs.Firsts.{earliest-append, earliest_three}
+use Rattle.fs_rules.specs.FirstFault.{earliest}
+use Rattle.fs_rules.proofs.FirstFaults.{earliest-append, earliest_three}
 
 pub state_noted : (vs : List VarInfo) (ss : List (List ℕ)) (s : SourceState) (ls : List SourceTransition) → ls ≡ s.lines → (known one two three : Option CheckFault) (b : Bool)
     → b ≡ lacks_else ls → one ≡ earliest known (broken_where b NoElse s.line) → two ≡ earliest one (at_lines AfterElse (after_else false ls)) → three ≡ earliest two (lines_faults vs ss ls)

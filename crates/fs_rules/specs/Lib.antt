@@ -1,7 +1,7 @@
 pub mod Spelled
 pub mod Sound
 pub mod Rules
-pub mod Earliest
+pub mod FirstFault
 pub mod Places
 pub mod Uses
 pub mod Walks

@@ -116,12 +116,12 @@ pub record EndlessAt (p : Source) (n : ℕ) : Type 0 where
   pub endless : IsEndless (machine_of p) place
 
 -- the rules on branches and on endless lines, which are looked at where all others are kept
-abbrev pub BrokenLate : Source → CheckFault → Type 0
-BrokenLate p f = Contains (branch_faults p) f ⊎ ((f.rule ≡ EndlessLine) × EndlessAt p f.line)
+abbrev pub BrokenShape : Source → CheckFault → Type 0
+BrokenShape p f = Contains (branch_faults p) f ⊎ ((f.rule ≡ EndlessLine) × EndlessAt p f.line)
 
 -- a rule that is broken at a line
 abbrev pub Broken : Source → CheckFault → Type 0
-Broken p f = Contains (plain_faults p) f ⊎ ((plain_faults p ≡ []) × BrokenLate p f)
+Broken p f = Contains (plain_faults p) f ⊎ ((plain_faults p ≡ []) × BrokenShape p f)
 
 -- the place of a rule in the order of rules
 abbrev pub rank : CheckRule → ℕ

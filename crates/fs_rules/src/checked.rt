@@ -4,7 +4,7 @@ ghost use Rattle.std.specs.Prelude.{◌≡◌, [], None, IfOk};
 ghost use Rattle.std.specs.Result.{OnOk};
 ghost use Rattle.fs_model.specs.View.{source_of};
 ghost use Rattle.fs_rules.specs.Rules.{plain_faults};
-ghost use Rattle.fs_rules.specs.Earliest.{earliest};
+ghost use Rattle.fs_rules.specs.FirstFault.{earliest};
 ghost use Rattle.fs_rules.specs.Scoped.{IsScopeOf, name_faults};
 
 use crate::check::{CheckFault, CheckRule};

@@ -2,7 +2,7 @@
 
 ghost use Rattle.std.specs.Prelude.{◌≡◌, ◌||◌, ◌&&◌, ◌==◌, nat_lt, Some, None};
 ghost use Rattle.fs_rules.specs.Rules.{rank, is_sooner, broken_where};
-ghost use Rattle.fs_rules.specs.Earliest.{sooner, earliest};
+ghost use Rattle.fs_rules.specs.FirstFault.{sooner, earliest};
 
 use crate::check::{CheckFault, CheckRule};
 

@@ -10,7 +10,7 @@ ghost use Rattle.std.specs.BTreeMap.{get, is_at};
 ghost use Rattle.fs_rules.specs.declared.check.CheckRule.TheVariants.{TwiceNamed, TooMany};
 ghost use Rattle.fs_rules.specs.Spelled.{place};
 ghost use Rattle.fs_rules.specs.Rules.{at_lines, broken_where, repeated, past};
-ghost use Rattle.fs_rules.specs.Earliest.{earliest};
+ghost use Rattle.fs_rules.specs.FirstFault.{earliest};
 ghost use Rattle.fs_rules.specs.Places.{declared_of, names_in, found, FindsFirst};
 
 use crate::check::CheckRule;

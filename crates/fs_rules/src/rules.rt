@@ -12,7 +12,7 @@ ghost use Rattle.fs_rules.specs.Spelled.{place, names_of, line_spelled};
 ghost use Rattle.fs_rules.specs.Sound.{scalars_in, arrays_in, scalars_in_guard, arrays_in_guard, scalars_in_condition, arrays_in_condition, scalars_in_assignment, arrays_in_assignment, scalars_in_assignments, arrays_in_assignments, port_in, ports_in_assignments, emits_of, emit_count, input_at, changed_by, assigned_in, all_differ, occurs};
 ghost use Rattle.fs_rules.specs.Rules.{at_lines, line_faults, lines_faults, lacks_else, after_else, state_faults, changes_input};
 ghost use Rattle.std.specs.List.{flat_map};
-ghost use Rattle.fs_rules.specs.Earliest.{earliest};
+ghost use Rattle.fs_rules.specs.FirstFault.{earliest};
 ghost use Rattle.fs_rules.specs.Places.{names_in};
 ghost use Rattle.fs_rules.specs.Uses.{uses_of, either_of};
 

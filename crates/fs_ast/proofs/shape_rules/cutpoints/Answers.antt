@@ -1,5 +1,5 @@
 use Rattle.std.proofs.Common.{◌∙◌, length, ap, length-append, arith}
-use Rattle.fs_ast.proofs.Lasts.{cut_more}
+use Rattle.fs_ast.proofs.Shapes.{cut_more}
 use Rattle.fs_ast.proofs.shape_rules.cutpoints.Goals as goal
 
 pub loop-place-preserved : goal.loop-place-preserved

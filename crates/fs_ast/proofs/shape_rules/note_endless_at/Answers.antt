@@ -1,8 +1,8 @@
 use Rattle.std.proofs.Common.{◌<◌, ◌≤◌, ◌∙◌, length, sym, ap, rules, tests}
 use Rattle.std.specs.Prelude.{map, Some, None}
-use Rattle.fs_rules.specs.Earliest.{earliest}
+use Rattle.fs_rules.specs.FirstFault.{earliest}
 use Rattle.fs_ast.specs.Resolved.{placed_of}
-use Rattle.fs_ast.proofs.Lasts.{line_there, line_past, endless_one}
+use Rattle.fs_ast.proofs.Shapes.{line_there, line_past, endless_one}
 use Rattle.fs_ast.proofs.shape_rules.note_endless_at.Goals as goal
 
 pub returns-in-Some : goal.returns-in-Some

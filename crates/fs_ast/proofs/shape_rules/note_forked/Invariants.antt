@@ -1,8 +1,8 @@
 use Rattle.std.proofs.Common.{◌≡◌, drop}
 use Rattle.std.specs.Prelude.{map}
-use Rattle.fs_rules.specs.Earliest.{earliest}
+use Rattle.fs_rules.specs.FirstFault.{earliest}
 use Rattle.fs_ast.specs.Resolved.{placed_of}
-use Rattle.fs_ast.specs.Late.{forked_faults}
+use Rattle.fs_ast.specs.Shapes.{forked_faults}
 use Rattle.fs_ast.proofs.shape_rules.note_forked.Given as goal
 
 abbrev pub invariant-loop-state : goal.invariant-loop-state

@@ -7,7 +7,7 @@ use Rattle.fs_rules.specs.declared.check.CheckRule.TheVariants.{TwiceNamed, TooM
 use Rattle.fs_rules.specs.Spelled.{variables_of, state_names, place}
 use Rattle.fs_model.specs.Limits.{most_variables, most_states}
 use Rattle.fs_rules.specs.Rules.{at_lines, broken_where, declared_names, declared_states, repeated, past, state_faults}
-use Rattle.fs_rules.specs.Earliest.{earliest}
+use Rattle.fs_rules.specs.FirstFault.{earliest}
 use Rattle.fs_rules.specs.Places.{names_in}
 use Rattle.fs_rules.specs.Scoped.{name_faults}
 use Rattle.fs_rules.proofs.Naming.{plain_noted, reset_known, names_of_states}

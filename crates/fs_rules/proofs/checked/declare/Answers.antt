@@ -5,7 +5,7 @@ use Rattle.fs_rules.specs.declared.check.CheckRule.TheVariants.{TwiceNamed, TooM
 use Rattle.fs_rules.specs.Spelled.{names_of}
 use Rattle.fs_model.specs.Limits.{most_variables, most_states}
 use Rattle.fs_rules.specs.Rules.{at_lines, declared_names, declared_states, repeated, past}
-use Rattle.fs_rules.specs.Earliest.{earliest}
+use Rattle.fs_rules.specs.FirstFault.{earliest}
 use Rattle.fs_rules.specs.Places.{names_in}
 use Rattle.fs_rules.proofs.Naming.{names_declared, names_noted}
 use Rattle.fs_rules.proofs.checked.declare.Goals as goal

@@ -7,9 +7,9 @@ use Rattle.std.specs.Map.{lookup}
 use Rattle.std.proofs.lemmas.List.{take_all, drop_all}
 use Rattle.fs_rules.specs.declared.check.CheckRule.TheVariants.{TwiceNamed}
 use Rattle.fs_rules.specs.Rules.{at_lines}
-use Rattle.fs_rules.specs.Earliest.{earliest}
+use Rattle.fs_rules.specs.FirstFault.{earliest}
 use Rattle.fs_rules.specs.Places.{declared_of, names_in, FindsFirst}
-use Rattle.fs_rules.proofs.Firsts.{repeats_is, repeats, index_finds, index_noted}
+use Rattle.fs_rules.proofs.FirstFaults.{repeats_is, repeats, index_finds, index_noted}
 use Rattle.fs_rules.proofs.names.first_places.Goals as goal
 
 pub loop-place-init : goal.loop-place-init

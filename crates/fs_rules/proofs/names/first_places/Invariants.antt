@@ -2,9 +2,9 @@ use Rattle.std.proofs.Common.{◌≡◌, take, drop, []}
 use Rattle.std.specs.Prelude.{map}
 use Rattle.fs_rules.specs.declared.check.CheckRule.TheVariants.{TwiceNamed}
 use Rattle.fs_rules.specs.Rules.{at_lines}
-use Rattle.fs_rules.specs.Earliest.{earliest}
+use Rattle.fs_rules.specs.FirstFault.{earliest}
 use Rattle.fs_rules.specs.Places.{declared_of, names_in, FindsFirst}
-use Rattle.fs_rules.proofs.Firsts.{repeats}
+use Rattle.fs_rules.proofs.FirstFaults.{repeats}
 use Rattle.fs_rules.proofs.names.first_places.Given as goal
 
 abbrev pub invariant-loop-place : goal.invariant-loop-place

@@ -1,5 +1,5 @@
 use Rattle.std.proofs.Common.{rules, tests}
-use Rattle.fs_rules.proofs.Firsts.{put_named}
+use Rattle.fs_rules.proofs.FirstFaults.{put_named}
 use Rattle.fs_rules.proofs.Results.{on_ok}
 use Rattle.fs_rules.proofs.names.put_first.Goals as goal
 

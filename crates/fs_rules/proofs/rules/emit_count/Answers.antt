@@ -1,6 +1,5 @@
-use Rattle.std.proofs.Common.{◌∙◌, ap, ap₂, ◌+◌, sym, arith}
+use Rattle.std.proofs.Common.{◌∙◌, ap₂, ◌+◌, sym, arith}
 use Rattle.fs_model.specs.View.{named_assignment}
-use Rattle.fs_rules.specs.Sound.{emit_count}
 use Rattle.fs_rules.proofs.Uses.{emits_more}
 use Rattle.fs_rules.proofs.rules.emit_count.Goals as goal
 

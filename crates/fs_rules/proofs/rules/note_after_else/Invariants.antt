@@ -3,7 +3,7 @@ use Rattle.std.specs.Prelude.{map}
 use Rattle.fs_model.specs.View.{source_transition_of}
 use Rattle.fs_rules.specs.declared.check.CheckRule.TheVariants.{AfterElse}
 use Rattle.fs_rules.specs.Rules.{at_lines, after_else}
-use Rattle.fs_rules.specs.Earliest.{earliest}
+use Rattle.fs_rules.specs.FirstFault.{earliest}
 use Rattle.fs_rules.proofs.rules.note_after_else.Given as goal
 
 abbrev pub invariant-loop-line : goal.invariant-loop-line

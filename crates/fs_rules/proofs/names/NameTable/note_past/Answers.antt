@@ -1,8 +1,8 @@
 use Rattle.std.proofs.Common.{◌<◌, length, ap, ◌∙◌, sym, rules, tests}
 use Rattle.fs_rules.specs.declared.check.CheckRule.TheVariants.{TooMany}
 use Rattle.fs_rules.specs.Rules.{at_lines, past}
-use Rattle.fs_rules.specs.Earliest.{earliest}
-use Rattle.fs_rules.proofs.Firsts.{first_past}
+use Rattle.fs_rules.specs.FirstFault.{earliest}
+use Rattle.fs_rules.proofs.FirstFaults.{first_past}
 use Rattle.fs_rules.proofs.names.NameTable.note_past.Goals as goal
 
 pub returns-in-Some : goal.returns-in-Some

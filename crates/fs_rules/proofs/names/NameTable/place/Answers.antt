@@ -2,7 +2,7 @@ use Rattle.std.proofs.Common.{◌≡◌, arith}
 use Rattle.std.proofs.lemmas.Grind.{common_steps}
 use Rattle.fs_rules.specs.Spelled.{place}
 use Rattle.fs_rules.specs.Places.{names_in}
-use Rattle.fs_rules.proofs.Firsts.{place_found, place_count}
+use Rattle.fs_rules.proofs.FirstFaults.{place_found, place_count}
 use Rattle.fs_rules.proofs.names.NameTable.place.Goals as goal
 
 pub returns-in-Some-clause-place : goal.returns-in-Some-clause-place

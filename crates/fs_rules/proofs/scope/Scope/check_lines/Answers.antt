@@ -2,9 +2,9 @@ use Rattle.std.proofs.Common.{length}
 use Rattle.fs_model.specs.View.{source_transition_of}
 use Rattle.fs_rules.specs.Spelled.{names_of, line_spelled}
 use Rattle.fs_rules.specs.Rules.{line_faults}
-use Rattle.fs_rules.specs.Earliest.{earliest}
+use Rattle.fs_rules.specs.FirstFault.{earliest}
 use Rattle.fs_rules.specs.Places.{names_in}
-use Rattle.fs_rules.proofs.Firsts.{earliest-append}
+use Rattle.fs_rules.proofs.FirstFaults.{earliest-append}
 use Rattle.fs_rules.proofs.Turns.{left_flat}
 use Rattle.fs_rules.proofs.scope.Scope.check_lines.Goals as goal
 

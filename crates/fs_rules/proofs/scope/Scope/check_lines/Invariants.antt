@@ -2,7 +2,7 @@ use Rattle.std.proofs.Common.{◌≡◌, drop}
 use Rattle.std.specs.Prelude.{map}
 use Rattle.fs_model.specs.View.{source_transition_of}
 use Rattle.fs_rules.specs.Rules.{lines_faults}
-use Rattle.fs_rules.specs.Earliest.{earliest}
+use Rattle.fs_rules.specs.FirstFault.{earliest}
 use Rattle.fs_rules.specs.Places.{names_in}
 use Rattle.fs_rules.proofs.scope.Scope.check_lines.Given as goal
 

@@ -1,8 +1,8 @@
 use Rattle.fs_model.specs.View.{source_state_of}
 use Rattle.fs_rules.specs.Rules.{state_faults}
-use Rattle.fs_rules.specs.Earliest.{earliest}
+use Rattle.fs_rules.specs.FirstFault.{earliest}
 use Rattle.fs_rules.specs.Places.{names_in}
-use Rattle.fs_rules.proofs.Firsts.{earliest-append}
+use Rattle.fs_rules.proofs.FirstFaults.{earliest-append}
 use Rattle.fs_rules.proofs.Turns.{left_flat}
 use Rattle.fs_rules.proofs.scope.Scope.check_states.Goals as goal
 

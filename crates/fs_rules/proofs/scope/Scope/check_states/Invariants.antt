@@ -3,7 +3,7 @@ use Rattle.std.specs.Prelude.{map}
 use Rattle.std.specs.List.{flat_map}
 use Rattle.fs_model.specs.View.{source_state_of}
 use Rattle.fs_rules.specs.Rules.{state_faults}
-use Rattle.fs_rules.specs.Earliest.{earliest}
+use Rattle.fs_rules.specs.FirstFault.{earliest}
 use Rattle.fs_rules.specs.Places.{names_in}
 use Rattle.fs_rules.proofs.scope.Scope.check_states.Given as goal
 

@@ -15,7 +15,7 @@ use Rattle.fs_rules.specs.declared.check.CheckFault.{CheckFault}
 use Rattle.fs_rules.specs.declared.names.Declared.{Declared}
 use Rattle.fs_rules.specs.Spelled.{place}
 use Rattle.fs_rules.specs.Rules.{at_lines, broken_where, repeated, past}
-use Rattle.fs_rules.specs.Earliest.{sooner, earliest}
+use Rattle.fs_rules.specs.FirstFault.{sooner, earliest}
 use Rattle.fs_rules.specs.Places.{declared_of, names_in, found, FindsFirst}
 
 pub earliest-append : (known : Option CheckFault) (a b : List CheckFault) → earliest known (a ++ b) ≡ earliest (earliest known a) b

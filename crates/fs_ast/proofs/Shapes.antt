@@ -13,8 +13,8 @@ use Rattle.fs_rules.specs.Sound.{first_transition_target, branch_count, is_cutpo
 use Rattle.fs_rules.specs.Rules.{at_lines, after_steps, IsEndless}
 use Rattle.fs_ast.specs.Resolved.{state_of, placed_of}
 use Rattle.fs_rules.specs.Walks.{walked, is_cut, reaches, IsRound, IsGraph}
-use Rattle.fs_ast.specs.Late.{skeleton, forked_faults, endless_faults, LeadOn, IsLate}
-use Rattle.fs_rules.specs.Earliest.{earliest}
+use Rattle.fs_ast.specs.Shapes.{skeleton, forked_faults, endless_faults, LeadOn, IsFirstOfShapes}
+use Rattle.fs_rules.specs.FirstFault.{earliest}
 use Rattle.fs_rules.proofs.Turns.{length_mapped}
 use Rattle.fs_ast.proofs.Kept.{both_true, below}
 use Rattle.fs_ast.proofs.Leaves.{length_leaves}
@@ -122,11 +122,11 @@ round_of m next cut count leads cuts within q low r = record {
   uncut = λ k. cuts (walked next k q) (stays next count within k q low) ∙ sym (ap (is_cutpoint m) (steps_same m next leads k q)) ∙ r.uncut k;
 }
 
-pub late_of : (states : List NumberedState) (reset : ℕ) (next : List ℕ) (cut : List Bool) (endless : List ℕ) (first : Option CheckFault)
+pub shapes_of : (states : List NumberedState) (reset : ℕ) (next : List ℕ) (cut : List Bool) (endless : List ℕ) (first : Option CheckFault)
     → next ≡ map (λ s. first_transition_target (state_of s).lines) states → length cut ≡ length states → ((q : ℕ) → q < length states → is_cut cut q ≡ is_cutpoint (skeleton (map placed_of states) reset) q) → LeadOn (map placed_of states)
     → list_all (λ q. nat_lt q (length next)) endless ≡ true → ((k q : ℕ) → slice_get endless k ≡ Some q → IsRound next cut q) → ((q : ℕ) → q < length next → IsRound next cut q → (k : ℕ) × (slice_get endless k ≡ Some q)) → (length endless ≡ 0 → (q : ℕ) → q < length next → reaches next cut (length next) q ≡ true)
-    → first ≡ earliest (earliest None (forked_faults (map placed_of states))) (endless_faults (map placed_of states) endless) → IsLate (map placed_of states) reset first
-late_of states reset next cut endless first e count cuts lead inside rounds all reach is =
+    → first ≡ earliest (earliest None (forked_faults (map placed_of states))) (endless_faults (map placed_of states) endless) → IsFirstOfShapes (map placed_of states) reset first
+shapes_of states reset next cut endless first e count cuts lead inside rounds all reach is =
     let ss = map placed_of states in
     let m = skeleton ss reset in
     let g = graph_of states next cut e count lead in

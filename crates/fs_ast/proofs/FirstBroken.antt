@@ -12,11 +12,11 @@ use Rattle.fs_rules.specs.declared.check.CheckFault.{CheckFault}
 use Rattle.fs_rules.specs.Spelled.{names_of, variables_of, state_names, place, machine_of}
 use Rattle.fs_rules.specs.Sound.{first_transition_target, is_cutpoint}
 use Rattle.fs_rules.specs.Rules.{rank, is_sooner, plain_faults, branch_faults, after_steps, IsEndless, IsFirstBroken}
-use Rattle.fs_rules.specs.Earliest.{earliest}
+use Rattle.fs_rules.specs.FirstFault.{earliest}
 use Rattle.fs_ast.specs.Resolved.{placed_spelled}
-use Rattle.fs_ast.specs.Late.{skeleton, forked_faults, endless_faults, IsLate}
+use Rattle.fs_ast.specs.Shapes.{skeleton, forked_faults, endless_faults, IsFirstOfShapes}
 use Rattle.fs_rules.proofs.Turns.{map_map, length_mapped}
-use Rattle.fs_rules.proofs.Firsts.{earliest-append}
+use Rattle.fs_rules.proofs.FirstFaults.{earliest-append}
 use Rattle.fs_rules.proofs.Rounds.{get_front, get_back, get_either}
 use Rattle.fs_ast.proofs.Kept.{get_mapped, no_state}
 use Rattle.fs_ast.proofs.Whole.{placed, placed_states, forked_is, cut_same}
@@ -166,9 +166,9 @@ plain_first p f e =
 lines_are : (p : Source) → map (λ s. s.0) (placed p) ≡ map (λ s. s.line) p.states
 lines_are p = map_map (λ s. s.0) (placed_spelled (names_of (variables_of p.declarations)) (state_names p.states)) p.states
 
-pub late_first : (p : Source) (ss : List (ℕ × State)) (reset : ℕ) (first : Option CheckFault) (f : CheckFault) → plain_faults p ≡ [] → ss ≡ placed p → reset ≡ place (state_names p.states) p.reset → first ≡ Some f → IsLate ss reset first
+pub shapes_first : (p : Source) (ss : List (ℕ × State)) (reset : ℕ) (first : Option CheckFault) (f : CheckFault) → plain_faults p ≡ [] → ss ≡ placed p → reset ≡ place (state_names p.states) p.reset → first ≡ Some f → IsFirstOfShapes ss reset first
     → IsFirstBroken p f
-late_first p ss reset first f plain same at_reset some late =
+shapes_first p ss reset first f plain same at_reset some late =
     let a = forked_faults ss in
     let lines = map (λ (s : ℕ × State). s.0) ss in
     let places = flat_map (λ q. option_to_list (slice_get lines q)) late.endless in

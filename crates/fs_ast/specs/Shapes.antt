@@ -9,7 +9,7 @@ use Rattle.fs_rules.specs.declared.check.CheckRule.TheVariants.{TooManyBranches,
 use Rattle.fs_rules.specs.declared.check.CheckFault.{CheckFault}
 use Rattle.fs_rules.specs.Sound.{first_transition_target, reaches_cutpoint}
 use Rattle.fs_rules.specs.Rules.{at_lines, broken_where, IsEndless}
-use Rattle.fs_rules.specs.Earliest.{earliest}
+use Rattle.fs_rules.specs.FirstFault.{earliest}
 
 -- the states of these, each with its line, that have too many branches
 abbrev pub forked_faults : List (ℕ × State) → List CheckFault
@@ -28,7 +28,7 @@ abbrev pub LeadOn : List (ℕ × State) → Type 0
 LeadOn ss = (q : ℕ) → q < length ss → first_transition_target (transitions_of (skeleton ss 0) q) < length ss
 
 -- the first of the broken rules on branches and on endless lines
-pub record IsLate (ss : List (ℕ × State)) (reset : ℕ) (first : Option CheckFault) : Type 0 where
+pub record IsFirstOfShapes (ss : List (ℕ × State)) (reset : ℕ) (first : Option CheckFault) : Type 0 where
   pub endless : List ℕ
   pub inside : list_all (λ q. nat_lt q (length ss)) endless ≡ true
   pub ends : length endless ≡ 0 → (q : ℕ) → q < length ss → reaches_cutpoint (skeleton ss reset) (length ss) q ≡ true

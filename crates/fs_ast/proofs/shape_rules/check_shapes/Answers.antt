@@ -1,11 +1,11 @@
 use Rattle.std.proofs.Common.{◌∙◌, ap, ap₂, length}
 use Rattle.std.specs.Prelude.{map}
-use Rattle.fs_rules.specs.Earliest.{earliest}
+use Rattle.fs_rules.specs.FirstFault.{earliest}
 use Rattle.fs_ast.specs.Resolved.{placed_of}
 use Rattle.fs_rules.specs.Walks.{is_cut}
-use Rattle.fs_ast.specs.Late.{forked_faults, endless_faults}
-use Rattle.fs_ast.proofs.Lasts.{graph_of, late_of}
-use Rattle.fs_ast.proofs.shape_rules.check_late.Goals as goal
+use Rattle.fs_ast.specs.Shapes.{forked_faults, endless_faults}
+use Rattle.fs_ast.proofs.Shapes.{graph_of, shapes_of}
+use Rattle.fs_ast.proofs.shape_rules.check_shapes.Goals as goal
 
 pub find_endless-requires : goal.find_endless-requires
 find_endless-requires c =
@@ -15,7 +15,7 @@ pub returns : goal.returns
 returns c =
     let states = c.args.states.now in
     let cut = c.as_slice-2.result.now in
-    late_of states c.args.reset c.as_slice.result.now cut c.in_ok-endless.endless.items c.note_endless.new.faults.first
+    shapes_of states c.args.reset c.as_slice.result.now cut c.in_ok-endless.endless.items c.note_endless.new.faults.first
     (c.as_slice.ensures.value ∙ c.in_ok-next.ensures) (ap length c.as_slice-2.ensures.value ∙ c.in_ok-cut.ensures.count)
     (λ q h. ap (λ l. is_cut l q) c.as_slice-2.ensures.value ∙ c.in_ok-cut.ensures.cuts q h)
     c.requires.leads c.in_ok-endless.ensures.inside c.in_ok-endless.ensures.rounds c.in_ok-endless.ensures.all c.in_ok-endless.ensures.reach
