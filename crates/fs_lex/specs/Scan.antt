@@ -4,8 +4,8 @@ use Rattle.fs_grammar.specs.declared.fault.TextPlace.{TextPlace}
 use Rattle.fs_grammar.specs.declared.token.TokenKind.{TokenKind}
 use Rattle.fs_grammar.specs.declared.token.TokenKind.TheVariants.{When, Colon, Comma, OpenParen, OpenBracket, OpenBrace, Plus, Minus, Star, Slash, Percent, Bang, AndAnd, OrOr, Relation, Bad, End}
 use Rattle.fs_grammar.specs.declared.token.Token.{Token}
-use Rattle.fs_lex.specs.declared.Lexeme.{Lexeme}
-use Rattle.fs_lex.specs.declared.Lexeme.TheVariants as lexemes
+use Rattle.fs_lex.specs.declared.lexemes.Lexeme.{Lexeme}
+use Rattle.fs_lex.specs.declared.lexemes.Lexeme.TheVariants as lexemes
 use Rattle.fs_lex.specs.Lexemes.{lexeme_of}
 
 -- the place after a byte
