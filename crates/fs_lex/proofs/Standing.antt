@@ -152,11 +152,11 @@ word_stands b ws rest e p s =
     record {
       is = first (is_word own) (is_number own) (punctuation_kind own) w;
       no_longer = λ c more later q.
-      let no_word : is_word (b ∷ (ws ++ c ∷ more)) ≡ false =
-      ap (λ (x : Bool). is_letter b && x) (fails is_word_byte ws c more (stopped is_word_byte rest (more ++ later) c s q)) ∙ and_false (is_letter b) in
-      let no_number : is_number (b ∷ (ws ++ c ∷ more)) ≡ false = ap (λ (x : Bool). x && list_all is_digit (ws ++ c ∷ more)) (letter_no_digit b e) in
-      three (is_word (b ∷ (ws ++ c ∷ more))) (is_number (b ∷ (ws ++ c ∷ more))) (punctuation_kind (b ∷ (ws ++ c ∷ more))) no_word no_number
-      (no_punctuation b (ws ++ c ∷ more) (letter_is_word_byte b e));
+          let no_word : is_word (b ∷ (ws ++ c ∷ more)) ≡ false =
+          ap (λ (x : Bool). is_letter b && x) (fails is_word_byte ws c more (stopped is_word_byte rest (more ++ later) c s q)) ∙ and_false (is_letter b) in
+          let no_number : is_number (b ∷ (ws ++ c ∷ more)) ≡ false = ap (λ (x : Bool). x && list_all is_digit (ws ++ c ∷ more)) (letter_no_digit b e) in
+          three (is_word (b ∷ (ws ++ c ∷ more))) (is_number (b ∷ (ws ++ c ∷ more))) (punctuation_kind (b ∷ (ws ++ c ∷ more))) no_word no_number
+          (no_punctuation b (ws ++ c ∷ more) (letter_is_word_byte b e));
     } in
     word_kind_stands own rest (keyword_of own) refl w longest_word
 
@@ -188,10 +188,10 @@ number_stands d ds rest k e p s =
     record {
       is = second (is_word own) (is_number own) (punctuation_kind own) (no_word ds) n;
       no_longer = λ c more later q.
-      let no_number : is_number (d ∷ (ds ++ c ∷ more)) ≡ false =
-      ap (λ (x : Bool). is_digit d && x) (fails is_digit ds c more (stopped is_digit rest (more ++ later) c s q)) ∙ and_false (is_digit d) in
-      three (is_word (d ∷ (ds ++ c ∷ more))) (is_number (d ∷ (ds ++ c ∷ more))) (punctuation_kind (d ∷ (ds ++ c ∷ more))) (no_word (ds ++ c ∷ more)) no_number
-      (no_punctuation d (ds ++ c ∷ more) (digit_is_word_byte d e));
+          let no_number : is_number (d ∷ (ds ++ c ∷ more)) ≡ false =
+          ap (λ (x : Bool). is_digit d && x) (fails is_digit ds c more (stopped is_digit rest (more ++ later) c s q)) ∙ and_false (is_digit d) in
+          three (is_word (d ∷ (ds ++ c ∷ more))) (is_number (d ∷ (ds ++ c ∷ more))) (punctuation_kind (d ∷ (ds ++ c ∷ more))) (no_word (ds ++ c ∷ more)) no_number
+          (no_punctuation d (ds ++ c ∷ more) (digit_is_word_byte d e));
     } in
     number_kind_stands own rest (decimal own) (nat_lt (decimal own) (2 ^ 127)) refl (decimal_value own) n longest_number
 

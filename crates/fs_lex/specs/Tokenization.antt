@@ -72,3 +72,12 @@ abbrev pub AreTokens : List ℕ → List ℕ → List Token → Type 0
 AreTokens front bytes [] = ⊥
 AreTokens front bytes (t ∷ []) = IsNext front bytes t × IsTrue (ends_text t.kind)
 AreTokens front bytes (t ∷ u ∷ ts) = (n : IsNext front bytes t) × (ends_text t.kind ≡ false) × AreTokens (front ++ (n.gap ++ n.own)) n.rest (u ∷ ts)
+
+-- a token of the bytes: they are a front, its own bytes and a rest, and its place is behind the front
+pub record StandsIn (bytes : List ℕ) (t : Token) : Type 0 where
+  pub front : List ℕ
+  pub own : List ℕ
+  pub rest : List ℕ
+  pub bytes_are : bytes ≡ front ++ (own ++ rest)
+  pub stands : StandsBefore t.kind own rest
+  pub place : t.place ≡ place_behind front

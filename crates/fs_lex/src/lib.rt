@@ -5,6 +5,7 @@
 //! tokens are.
 #![tactic(auto)]
 
+pub mod laws;
 pub mod lexemes;
 pub mod scan;
 

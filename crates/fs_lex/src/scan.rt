@@ -2,7 +2,8 @@
 
 ghost use Rattle.std.specs.Prelude.{◌≡◌, ◌<◌, ◌≤◌, ◌+◌, ◌^◌, length};
 ghost use Rattle.fs_grammar.specs.Tokens.{MadeAs};
-ghost use Rattle.fs_lex.specs.Scan.{moved, is_operator, starts_expression, counted, is_past_limit, is_bad, tokens_of};
+ghost use Rattle.fs_grammar.specs.Operators.{is_operator, starts_expression};
+ghost use Rattle.fs_lex.specs.Scan.{moved, counted, is_past_limit, is_bad, tokens_of};
 
 use crate::lexemes::{Lexeme, next_lexeme};
 use fs_grammar::fault::{ReadError, TextPlace};
