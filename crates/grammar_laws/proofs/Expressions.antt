@@ -1,5 +1,5 @@
 -- Operators stand in guards and assignments, which are what is read since a word after which one begins.
-use Rattle.std.proofs.Common.{◌≡◌, ℕ, Bool, true, false, List, [], ◌∷◌, ◌++◌, Option, Some, None, refl, sym, subst, ◌∙◌, append_assoc}
+use Rattle.std.proofs.Common.{◌≡◌, ℕ, Bool, true, false, List, [], ◌∷◌, ◌++◌, Option, Some, None, refl, sym, ap, subst, ◌∙◌, append_assoc}
 use Rattle.std.specs.Prelude.{IsTrue, IfSome, not, ◌||◌}
 use Rattle.std.specs.List.{AllByRecursion}
 use Rattle.fs_model.specs.Terms.{Term, Guard, Assignment}
@@ -7,14 +7,16 @@ use Rattle.fs_grammar.specs.declared.format.Format.{Format}
 use Rattle.fs_grammar.specs.declared.format.Format.TheVariants.{One, Two}
 use Rattle.fs_grammar.specs.declared.token.TokenKind.{TokenKind}
 use Rattle.fs_grammar.specs.declared.token.TokenKind.TheVariants.{Fsmd, Declare, Array, Reset, State, When, Goto, Port, Name, Number, Semicolon, Colon, Comma, Equals, CloseParen, CloseBracket, CloseBrace, Plus, Minus, Star, Slash, Percent, AndAnd, OrOr, Relation}
-use Rattle.fs_grammar.specs.Operators.{is_operator}
+use Rattle.fs_grammar.specs.declared.token.Token.{Token}
+use Rattle.fs_grammar.specs.Operators.{is_operator, starts_expression}
 use Rattle.fs_grammar.specs.Formats.{format_of}
 use Rattle.fs_grammar.specs.Grammar.{Destination, OpenState, ParseState, at_start, at_format, at_semicolon, at_declaration, at_sort, at_declared, after_declared, at_reset, after_reset, at_state, at_state_name, after_state_name, at_transition, at_target, after_target, at_assignment, at_port, after_assignment_name, at_equals, at_unit, after_conjunction, after_guard, at_factor, after_name, after_product, after_sum, in_format_two, step_format, step_transition, step}
 use Rattle.grammar_laws.specs.Spelling.{Word, at, IsFactor, number, variable, read, negative, group, IsProduct, factor, times, divides, remainder_of, IsSum, product, plus, minus, IsUnit, not as negated, braces, literal, IsConjunction, unit, and, IsGuard, conjunction, or, IsDestination, scalar_name, element_at, IsAssignment, assign, emit}
-use Rattle.grammar_laws.specs.Walks.{walk}
+use Rattle.grammar_laws.specs.Walks.{words, walk}
 use Rattle.grammar_laws.specs.Beginnings as rules
 use Rattle.grammar_laws.specs.Beginnings.{Begins, BeginsFile}
-use Rattle.grammar_laws.specs.Expressions.{IsInExpression, in_guard, in_first, in_next, starts, IsSince}
+use Rattle.grammar_laws.specs.Expressions.{IsInExpression, in_guard, in_first, in_next, starts, IsSince, EndInExpression}
+use Rattle.grammar_laws.specs.Faults.{word_of, CanFollow}
 use Rattle.grammar_laws.proofs.Alternatives.{completed}
 use Rattle.grammar_laws.proofs.Sound.{reached}
 use Rattle.grammar_laws.proofs.Beginning.{is_in_expression, within, stuck, walk_append}
@@ -195,3 +197,47 @@ one_part ws p q h j =
     let a = since ws p h in
     let b = since ws q j in
     one_cut a.before b.before a.word b.word p q a.begins b.begins a.inside b.inside (sym a.is ∙ b.is)
+
+-- ---- tokens
+
+-- tokens whose words are cut at a word
+record IsCutAt (ts : List Token) (word : Word) (behind : List Word) : Type 0 where
+  before : List Token
+  token : Token
+  part : List Token
+  is : ts ≡ before ++ token ∷ part
+  same : word_of token ≡ word
+  words : words part ≡ behind
+
+cut_at : (ts : List Token) (b : List Word) (w : Word) (p : List Word) → words ts ≡ b ++ w ∷ p → IsCutAt ts w p
+cut_at [] [] w p e = absurd cc
+cut_at [] (v ∷ b) w p e = absurd cc
+cut_at (t ∷ ts) [] w p e =
+    let heads : word_of t ≡ w = cc in
+    let tails : words ts ≡ p = cc in
+    record { before = []; token = t; part = ts; is = refl; same = heads; words = tails }
+cut_at (t ∷ ts) (v ∷ b) w p e =
+    let tails : words ts ≡ b ++ w ∷ p = cc in
+    let c = cut_at ts b w p tails in
+    record { before = t ∷ c.before; token = c.token; part = c.part; is = ap (λ (l : List Token). t ∷ l) c.is; same = c.same; words = c.words }
+
+tokens_inside : (ts : List Token) → AreInside (words ts) → AllByRecursion (λ t. starts_expression t.kind ≡ false) ts
+tokens_inside [] h = tt
+tokens_inside (t ∷ ts) h = (h.0, tokens_inside ts h.1)
+
+-- Tokens behind which an operator can follow end in a part of a guard or of an assignment.
+pub tokens_end : (ts : List Token) (t : Token) → IsTrue (is_operator t.kind) → CanFollow (words ts) t → (part : List Token) × EndInExpression ts part
+tokens_end ts t i b =
+    let e = operator_stands (words ts) t.place.line t.kind i b in
+    let s = since (words ts) e.0 e.1 in
+    let c = cut_at ts s.before s.word e.0 s.is in (
+      c.part,
+      record {
+        before = c.before;
+        token = c.token;
+        is = c.is;
+        begins = ap starts c.same ∙ s.begins;
+        inside = tokens_inside c.part (subst (λ (l : List Word). AreInside l) (sym c.words) s.inside);
+        expression = subst (λ (l : List Word). IsInExpression (words ts) l) (sym c.words) e.1;
+      },
+    )

@@ -4,8 +4,10 @@ use Rattle.std.specs.List.{AllByRecursion}
 use Rattle.fs_model.specs.Terms.{Assignment}
 use Rattle.fs_grammar.specs.declared.format.Format.{Format}
 use Rattle.fs_grammar.specs.declared.token.TokenKind.TheVariants.{When, Goto, Name, Colon, Comma}
+use Rattle.fs_grammar.specs.declared.token.Token.{Token}
 use Rattle.fs_grammar.specs.Operators.{starts_expression}
 use Rattle.grammar_laws.specs.Spelling.{Word, at, AreAssignments}
+use Rattle.grammar_laws.specs.Walks.{words}
 use Rattle.grammar_laws.specs.Beginnings.{guard, assignment, Begins}
 
 -- The words end in a part of one guard or one assignment: in what begins a guard, behind "when"; or in what begins an assignment, behind
@@ -27,3 +29,12 @@ pub record IsSince (ws part : List Word) : Type 0 where
   pub is : ws ≡ before ++ word ∷ part
   pub begins : starts word ≡ true
   pub inside : AllByRecursion (λ w. starts w ≡ false) part
+
+-- The tokens end in a part of one guard or one assignment, which is what stands behind the last of those after which one begins.
+pub record EndInExpression (ts part : List Token) : Type 0 where
+  pub before : List Token
+  pub token : Token
+  pub is : ts ≡ before ++ token ∷ part
+  pub begins : starts_expression token.kind ≡ true
+  pub inside : AllByRecursion (λ t. starts_expression t.kind ≡ false) part
+  pub expression : IsInExpression (words ts) (words part)

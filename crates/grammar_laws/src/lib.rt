@@ -18,10 +18,10 @@ ghost use Rattle.fs_grammar.specs.declared.token.Token.{Token};
 ghost use Rattle.fs_grammar.specs.Operators.{is_operator};
 ghost use Rattle.fs_grammar.specs.Grammar.{ParseState, at_start, step, reading};
 ghost use Rattle.grammar_laws.specs.Spelling.{Word, at, IsSum, IsGuard, IsFile};
-ghost use Rattle.grammar_laws.specs.Walks.{walk};
+ghost use Rattle.grammar_laws.specs.Walks.{walk, words};
 ghost use Rattle.grammar_laws.specs.Beginnings.{Rule, Part, IsAlternative, Spelled, AreSpelled, Begins, BeginsFile};
-ghost use Rattle.grammar_laws.specs.Expressions.{IsInExpression, IsSince};
-ghost use Rattle.grammar_laws.specs.Faults.{Spells, StopsAt, IsEnded};
+ghost use Rattle.grammar_laws.specs.Expressions.{IsInExpression, IsSince, EndInExpression};
+ghost use Rattle.grammar_laws.specs.Faults.{Spells, CanFollow, StopsAt, IsEnded};
 
 /// A source that is read is spelled: the tokens up to the end spell it, and none of them is past the
 /// limit.
@@ -84,5 +84,6 @@ pub fn what_begins_a_rule_can_go_on()
 pub fn an_operator_stands_in_one_expression()
     ensures found { (ws : List Word) (n : ℕ) (t : TokenKind) → IsTrue (is_operator t) → BeginsFile (ws ++ at n t ∷ []) → (part : List Word) × IsInExpression ws part }
     ensures one { (ws p q : List Word) → IsInExpression ws p → IsInExpression ws q → p ≡ q }
+    ensures tokens { (ts : List Token) (t : Token) → IsTrue (is_operator t.kind) → CanFollow (words ts) t → (part : List Token) × EndInExpression ts part }
     ensures since { (ws part : List Word) → IsInExpression ws part → IsSince ws part }
 {}
