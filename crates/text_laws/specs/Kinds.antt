@@ -1,5 +1,5 @@
 -- What the tokens of a text are.
-use Rattle.std.specs.Prelude.{◌^◌, pos, ◌≤ℤ◌, ◌<ℤ◌, Bool, true, false, not, ◌&&◌, IsTrue, List, [], ◌∷◌}
+use Rattle.std.specs.Prelude.{◌^◌, pos, ◌≤ℤ◌, ◌<ℤ◌, Bool, false, not, ◌&&◌, IsTrue, List, [], ◌∷◌}
 use Rattle.fs_model.specs.Words.{is_name}
 use Rattle.fs_grammar.specs.declared.token.TokenKind.{TokenKind}
 use Rattle.fs_grammar.specs.declared.token.TokenKind.TheVariants.{Name, Number}
