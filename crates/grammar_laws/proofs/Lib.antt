@@ -6,3 +6,4 @@ pub mod Beginning
 pub mod Exact
 pub mod Once
 pub mod Examples
+pub mod Expressions

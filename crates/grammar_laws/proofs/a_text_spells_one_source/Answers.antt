@@ -5,7 +5,7 @@ pub returns-clause-tokens : goal.returns-clause-tokens
 returns-clause-tokens c = λ s r ts h k. one_source s r ts h k
 
 pub returns-clause-words : goal.returns-clause-words
-returns-clause-words c = λ s r ws h k. one_file s r ws h k
+returns-clause-words c = λ f g s r ws h k. one_file f g s r ws h k
 
 pub returns-clause-sums : goal.returns-clause-sums
 returns-clause-sums c = λ s r ws h k. one_sum s r ws h k
