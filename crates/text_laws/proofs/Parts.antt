@@ -1,18 +1,24 @@
 -- The count of operators along the tokens is that of the guard or assignment that is open.
 use Rattle.std.proofs.Common.{◌≡◌, ℕ, ◌+◌, ◌≤◌, List, [], ◌∷◌, ◌++◌, refl, sym, ap, subst, ◌∙◌, append_assoc, append-nil, arith}
-use Rattle.std.specs.Prelude.{ℤ, zero, suc, pos, not, Bool, true, false, ◌&&◌, ◌||◌, nat_le, cond, Option, Some, None, IfSome, IsSome, IsTrue}
+use Rattle.std.specs.Prelude.{ℤ, not, Bool, true, false, ◌&&◌, ◌||◌, nat_le, cond, Option, Some, None, IfSome, IsSome, IsTrue}
 use Rattle.std.specs.List.{All, AllByRecursion}
 use Rattle.std.specs.Option.{option_and_then}
 use Rattle.std.proofs.lemmas.Bool.{leb-true}
 use Rattle.std.proofs.lemmas.List.Elements.{recursion_from_All}
 use Rattle.std.proofs.lemmas.List.Sums.{sum_by_push}
+use Rattle.fs_model.specs.declared.parts.Role.TheVariants.{Output}
+use Rattle.fs_model.specs.declared.parts.Sort.TheVariants as sorts
+use Rattle.fs_grammar.specs.declared.format.Format.{Format}
+use Rattle.fs_grammar.specs.declared.format.Format.TheVariants.{One, Two}
+use Rattle.fs_grammar.specs.Formats.{format_of}
 use Rattle.fs_model.specs.Terms.{Term, Variable, Read, Guard, Test, Not, And, Or, Negative}
 use Rattle.fs_model.specs.Terms as terms
 use Rattle.fs_grammar.specs.declared.token.TokenKind.{TokenKind}
-use Rattle.fs_grammar.specs.declared.token.TokenKind.TheVariants.{Fsmd, Declare, Array, Reset, State, When, Goto, Name, Number, Semicolon, Colon, Comma, Equals, OpenParen, CloseParen, OpenBracket, CloseBracket, OpenBrace, CloseBrace, Plus, Minus, Star, Slash, Percent, Bang, AndAnd, OrOr, Relation}
+use Rattle.fs_grammar.specs.declared.token.TokenKind.TheVariants.{Fsmd, Declare, Array, Reset, State, When, Goto, Emit, Port, Name, Number, Semicolon, Colon, Comma, Equals, OpenParen, CloseParen, OpenBracket, CloseBracket, OpenBrace, CloseBrace, Plus, Minus, Star, Slash, Percent, Bang, AndAnd, OrOr, Relation}
 use Rattle.fs_grammar.specs.declared.token.Token.{Token}
-use Rattle.fs_grammar.specs.Grammar.{ParseState, OpenState, UnitContext, ConjunctionContext, GuardContext, FactorContext, ProductContext, SumContext, negates, first_of_all, and_after, braces, line, first_factor, times, divides, leaves, negative, first_product, parens, index, left, right, place, value, at_start, at_one, at_semicolon, at_declaration, at_sort, at_declared, after_declared, at_reset, after_reset, at_state, at_state_name, after_state_name, at_line, at_target, after_target, at_assignment, after_assignment_name, at_equals, at_unit, after_conjunction, after_guard, at_factor, after_name, after_product, after_sum, factor_done, product_done, unit_done, conjunction_done, literal_done, step_factor, step_unit, step_guard, step_guarded, step_conjunction, step_joined, step_sum, step_summed, step_product, step_multiplied, step_name, step_line, step_one, step}
-use Rattle.fs_lex.specs.Scan.{starts_expression, is_operator, counted, is_past_limit, tokens_of}
+use Rattle.fs_grammar.specs.Grammar.{ParseState, OpenState, UnitContext, ConjunctionContext, GuardContext, FactorContext, ProductContext, SumContext, negates, first_of_all, and_after, braces, transition_guard, first_factor, times, divides, remainder_of, negative, first_product, parens, index, left, right, write_index, value, at_start, at_format, at_semicolon, at_declaration, at_sort, at_declared, after_declared, at_reset, after_reset, at_state, at_state_name, after_state_name, at_transition, at_target, after_target, at_assignment, at_port, after_assignment_name, at_equals, at_unit, after_conjunction, after_guard, at_factor, after_name, after_product, after_sum, factor_done, product_done, unit_done, conjunction_done, literal_done, step_factor, step_unit, step_guard, step_guarded, step_conjunction, step_joined, step_sum, step_summed, step_product, step_multiplied, step_name, step_transition, step_format, in_format_two, step}
+use Rattle.fs_grammar.specs.Operators.{is_operator, starts_expression}
+use Rattle.fs_lex.specs.Scan.{counted, is_past_limit, tokens_of}
 use Rattle.text_laws.specs.Parts.{begins_part, is_in_part, Point, front, moved_to, point_after, CanFollow, operators_of}
 use Rattle.text_laws.proofs.Counted.{AreCounted, scan_counted}
 use Rattle.text_laws.proofs.Read.{counts_few}
@@ -32,7 +38,7 @@ factor_done_goes : (k : FactorContext) (t : TokenKind) (f : Term (List ℕ)) →
 factor_done_goes (first_factor k) t f e = ap not e
 factor_done_goes (times p k) t f e = ap not e
 factor_done_goes (divides p k) t f e = ap not e
-factor_done_goes (leaves p k) t f e = ap not e
+factor_done_goes (remainder_of p k) t f e = ap not e
 factor_done_goes (negative k) t f e = factor_done_goes k t (Negative f) e
 
 unit_done_goes : (k : UnitContext) (t : TokenKind) (u : Guard (List ℕ)) → starts_expression t ≡ false → IsTrue (goes_on t (unit_done u k))
@@ -55,7 +61,7 @@ unit_goes t k = factor_goes t (first_factor (first_product (left k)))
 guard_goes : (t : TokenKind) (g : Guard (List ℕ)) (k : GuardContext) → GoesOn t (step_guard t g k)
 guard_goes OrOr g k = refl
 guard_goes CloseBrace g (braces k) = unit_done_goes k CloseBrace g refl
-guard_goes Goto g (line d n) = refl
+guard_goes Goto g (transition_guard d n) = refl
 guard_goes _ g k = tt
 
 guarded_goes : (t : TokenKind) (s : ParseState) → GoesOn t (step_guarded t s)
@@ -75,7 +81,7 @@ sum_goes Plus e k = refl
 sum_goes Minus e k = refl
 sum_goes CloseParen e (parens k) = factor_done_goes k CloseParen e refl
 sum_goes CloseBracket e (index x k) = factor_done_goes k CloseBracket (Read x e) refl
-sum_goes CloseBracket e (place o x) = refl
+sum_goes CloseBracket e (write_index o x) = refl
 sum_goes (Relation r) e (left k) = refl
 sum_goes Comma e (value o d) = refl
 sum_goes Semicolon e (value o d) = refl
@@ -100,52 +106,60 @@ name_goes : (t : TokenKind) (x : List ℕ) (k : FactorContext) → GoesOn t (ste
 name_goes OpenBracket x k = refl
 name_goes t x k = multiplied_goes t (factor_done (Variable x) k)
 
-line_goes : (t : TokenKind) (n : ℕ) (d : OpenState) → IfSome (step_line n t d) (λ u. IsTrue (enters (at_line d) t u))
+line_goes : (t : TokenKind) (n : ℕ) (d : OpenState) → IfSome (step_transition n t d) (λ u. IsTrue (enters (at_transition d) t u))
 line_goes When n d = refl
 line_goes Goto n d = refl
 line_goes State n d = refl
 line_goes _ n d = tt
 
-one_goes : (i : ℤ) → IfSome (step_one i) (λ u. IsTrue (enters at_one (Number i) u))
-one_goes (pos (suc zero)) = refl
-one_goes _ = tt
+format_goes : (o : Option Format) (i : ℤ) → IfSome (step_format o) (λ u. IsTrue (enters at_format (Number i) u))
+format_goes None i = tt
+format_goes (Some f) i = refl
+
+two_goes : (f : Format) (s u : ParseState) (t : TokenKind) → IsTrue (enters s t u) → IfSome (in_format_two f u) (λ v. IsTrue (enters s t v))
+two_goes One s u t h = tt
+two_goes Two s u t h = h
 
 step_enters : (s : ParseState) (n : ℕ) (t : TokenKind) → IfSome (step s n t) (λ u. IsTrue (enters s t u))
 step_enters at_start n Fsmd = refl
 step_enters at_start n _ = tt
-step_enters at_one n (Number i) = one_goes i
-step_enters at_one n _ = tt
-step_enters at_semicolon n Semicolon = refl
-step_enters at_semicolon n _ = tt
-step_enters (at_declaration ds) n (Declare r) = refl
-step_enters (at_declaration ds) n Reset = refl
-step_enters (at_declaration ds) n _ = tt
-step_enters (at_sort ds m r) n Array = refl
-step_enters (at_sort ds m r) n (Name x) = refl
-step_enters (at_sort ds m r) n _ = tt
-step_enters (at_declared ds d) n (Name x) = refl
-step_enters (at_declared ds d) n _ = tt
-step_enters (after_declared ds d) n Comma = refl
-step_enters (after_declared ds d) n Semicolon = refl
-step_enters (after_declared ds d) n _ = tt
-step_enters (at_reset ds m) n (Name x) = refl
-step_enters (at_reset ds m) n _ = tt
-step_enters (after_reset s) n Semicolon = refl
-step_enters (after_reset s) n _ = tt
-step_enters (at_state s) n State = refl
-step_enters (at_state s) n _ = tt
-step_enters (at_state_name s m) n (Name x) = refl
-step_enters (at_state_name s m) n _ = tt
+step_enters at_format n (Number i) = format_goes (format_of i) i
+step_enters at_format n _ = tt
+step_enters (at_semicolon f) n Semicolon = refl
+step_enters (at_semicolon f) n _ = tt
+step_enters (at_declaration f ds) n (Declare r) = refl
+step_enters (at_declaration f ds) n Port = two_goes f (at_declaration f ds) (at_declared f ds (record { line = n; role = Output; sort = sorts.Port; names = [] })) Port refl
+step_enters (at_declaration f ds) n Reset = refl
+step_enters (at_declaration f ds) n _ = tt
+step_enters (at_sort f ds m r) n Array = refl
+step_enters (at_sort f ds m r) n (Name x) = refl
+step_enters (at_sort f ds m r) n _ = tt
+step_enters (at_declared f ds d) n (Name x) = refl
+step_enters (at_declared f ds d) n _ = tt
+step_enters (after_declared f ds d) n Comma = refl
+step_enters (after_declared f ds d) n Semicolon = refl
+step_enters (after_declared f ds d) n _ = tt
+step_enters (at_reset f ds m) n (Name x) = refl
+step_enters (at_reset f ds m) n _ = tt
+step_enters (after_reset f s) n Semicolon = refl
+step_enters (after_reset f s) n _ = tt
+step_enters (at_state f s) n State = refl
+step_enters (at_state f s) n _ = tt
+step_enters (at_state_name f s m) n (Name x) = refl
+step_enters (at_state_name f s m) n _ = tt
 step_enters (after_state_name d) n Colon = refl
 step_enters (after_state_name d) n _ = tt
-step_enters (at_line d) n t = line_goes t n d
+step_enters (at_transition d) n t = line_goes t n d
 step_enters (at_target d m g) n (Name x) = refl
 step_enters (at_target d m g) n _ = tt
 step_enters (after_target o) n Colon = refl
 step_enters (after_target o) n Semicolon = refl
 step_enters (after_target o) n _ = tt
 step_enters (at_assignment o) n (Name x) = refl
+step_enters (at_assignment o) n Emit = two_goes o.state.format (at_assignment o) (at_port o) Emit refl
 step_enters (at_assignment o) n _ = tt
+step_enters (at_port o) n (Name x) = refl
+step_enters (at_port o) n _ = tt
 step_enters (after_assignment_name o x) n Equals = refl
 step_enters (after_assignment_name o x) n OpenBracket = refl
 step_enters (after_assignment_name o x) n _ = tt
@@ -165,7 +179,7 @@ always : (o : Option ParseState) → IfSome o (λ u. IsTrue true)
 always None = tt
 always (Some u) = refl
 
-line_outside : (t : TokenKind) (n : ℕ) (d : OpenState) → IfSome (step_line n t d) (λ u. IsTrue (not (is_operator t)))
+line_outside : (t : TokenKind) (n : ℕ) (d : OpenState) → IfSome (step_transition n t d) (λ u. IsTrue (not (is_operator t)))
 line_outside When n d = refl
 line_outside Goto n d = refl
 line_outside State n d = refl
@@ -174,38 +188,40 @@ line_outside _ n d = tt
 operators_stand : (s : ParseState) (n : ℕ) (t : TokenKind) → IfSome (step s n t) (λ u. IsTrue (is_in_part s || not (is_operator t)))
 operators_stand at_start n Fsmd = refl
 operators_stand at_start n _ = tt
-operators_stand at_one n (Number i) = always (step_one i)
-operators_stand at_one n _ = tt
-operators_stand at_semicolon n Semicolon = refl
-operators_stand at_semicolon n _ = tt
-operators_stand (at_declaration ds) n (Declare r) = refl
-operators_stand (at_declaration ds) n Reset = refl
-operators_stand (at_declaration ds) n _ = tt
-operators_stand (at_sort ds m r) n Array = refl
-operators_stand (at_sort ds m r) n (Name x) = refl
-operators_stand (at_sort ds m r) n _ = tt
-operators_stand (at_declared ds d) n (Name x) = refl
-operators_stand (at_declared ds d) n _ = tt
-operators_stand (after_declared ds d) n Comma = refl
-operators_stand (after_declared ds d) n Semicolon = refl
-operators_stand (after_declared ds d) n _ = tt
-operators_stand (at_reset ds m) n (Name x) = refl
-operators_stand (at_reset ds m) n _ = tt
-operators_stand (after_reset s) n Semicolon = refl
-operators_stand (after_reset s) n _ = tt
-operators_stand (at_state s) n State = refl
-operators_stand (at_state s) n _ = tt
-operators_stand (at_state_name s m) n (Name x) = refl
-operators_stand (at_state_name s m) n _ = tt
+operators_stand at_format n (Number i) = always (step_format (format_of i))
+operators_stand at_format n _ = tt
+operators_stand (at_semicolon f) n Semicolon = refl
+operators_stand (at_semicolon f) n _ = tt
+operators_stand (at_declaration f ds) n (Declare r) = refl
+operators_stand (at_declaration f ds) n Port = always (step (at_declaration f ds) n Port)
+operators_stand (at_declaration f ds) n Reset = refl
+operators_stand (at_declaration f ds) n _ = tt
+operators_stand (at_sort f ds m r) n Array = refl
+operators_stand (at_sort f ds m r) n (Name x) = refl
+operators_stand (at_sort f ds m r) n _ = tt
+operators_stand (at_declared f ds d) n (Name x) = refl
+operators_stand (at_declared f ds d) n _ = tt
+operators_stand (after_declared f ds d) n Comma = refl
+operators_stand (after_declared f ds d) n Semicolon = refl
+operators_stand (after_declared f ds d) n _ = tt
+operators_stand (at_reset f ds m) n (Name x) = refl
+operators_stand (at_reset f ds m) n _ = tt
+operators_stand (after_reset f s) n Semicolon = refl
+operators_stand (after_reset f s) n _ = tt
+operators_stand (at_state f s) n State = refl
+operators_stand (at_state f s) n _ = tt
+operators_stand (at_state_name f s m) n (Name x) = refl
+operators_stand (at_state_name f s m) n _ = tt
 operators_stand (after_state_name d) n Colon = refl
 operators_stand (after_state_name d) n _ = tt
-operators_stand (at_line d) n t = line_outside t n d
+operators_stand (at_transition d) n t = line_outside t n d
 operators_stand (at_target d m g) n (Name x) = refl
 operators_stand (at_target d m g) n _ = tt
 operators_stand (after_target o) n Colon = refl
 operators_stand (after_target o) n Semicolon = refl
 operators_stand (after_target o) n _ = tt
 operators_stand (at_assignment o) n t = always (step (at_assignment o) n t)
+operators_stand (at_port o) n t = always (step (at_port o) n t)
 operators_stand (after_assignment_name o x) n t = always (step (after_assignment_name o x) n t)
 operators_stand (at_equals o d) n t = always (step (at_equals o d) n t)
 operators_stand (at_unit k) n t = always (step (at_unit k) n t)

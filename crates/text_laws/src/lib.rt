@@ -8,12 +8,14 @@ ghost use Rattle.fs_model.specs.WellFormed.{is_well_formed};
 ghost use Rattle.fs_grammar.specs.declared.token.Token.{Token};
 ghost use Rattle.fs_grammar.specs.declared.token.TokenKind.{TokenKind};
 ghost use Rattle.fs_grammar.specs.Grammar.{ParseState, at_start, step, reading};
-ghost use Rattle.fs_lex.specs.Scan.{is_operator, tokens_of};
+ghost use Rattle.fs_grammar.specs.Operators.{is_operator};
+ghost use Rattle.fs_lex.specs.Scan.{tokens_of};
 ghost use Rattle.text_laws.specs.Kinds.{IsProper, end_once};
 ghost use Rattle.text_laws.specs.Parts.{Point, front, point_after, is_in_part, CanFollow, operators_of};
 
-/// What bytes read as is well formed: no number is negative, each declaration has a name, and each
-/// guard and each assignment has at most 128 operators and brackets that are needed.
+/// What bytes read as is well formed: no number is negative, each declaration has a name, each port
+/// is an output, and each guard, assignment and emit has at most 128 operators and brackets that are
+/// needed.
 pub fn what_is_read_is_well_formed()
     ensures { (bytes : List ℕ) (s : Source) → reading (tokens_of bytes) at_start ≡ Ok s → IsTrue (is_well_formed s) }
 {}
