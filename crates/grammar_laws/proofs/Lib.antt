@@ -7,3 +7,4 @@ pub mod Exact
 pub mod Once
 pub mod Examples
 pub mod Expressions
+pub mod Formats
