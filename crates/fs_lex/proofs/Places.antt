@@ -1,5 +1,5 @@
 -- The place that the scan reaches is the place behind the bytes that it has taken.
-use Rattle.std.proofs.Common.{◌≡◌, ℕ, ◌+◌, List, [], ◌∷◌, ◌++◌, refl, sym, ap, ap₂, ◌∙◌, cond, append_assoc, append-nil, arith, reverse}
+use Rattle.std.proofs.Common.{◌≡◌, ℕ, ◌+◌, List, [], ◌∷◌, ◌++◌, sym, ap, ap₂, ◌∙◌, cond, append_assoc, append-nil, arith, reverse}
 use Rattle.std.specs.Prelude.{Bool, true, false, not, ◌==◌}
 use Rattle.std.specs.List.{count_by, prefix_len}
 use Rattle.std.proofs.lemmas.List.{reverse-append}

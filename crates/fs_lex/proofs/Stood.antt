@@ -1,5 +1,5 @@
 -- Where each token of a text stands.
-use Rattle.std.proofs.Common.{◌≡◌, ℕ, List, [], ◌∷◌, ◌++◌, refl, sym, ap, subst, ◌∙◌, append_assoc}
+use Rattle.std.proofs.Common.{◌≡◌, ℕ, List, [], ◌∷◌, ◌++◌, sym, ap, subst, ◌∙◌, append_assoc}
 use Rattle.fs_grammar.specs.declared.token.Token.{Token}
 use Rattle.fs_lex.specs.Scan.{tokens_of}
 use Rattle.fs_lex.specs.Tokenization.{IsNext, AreTokens, StandsIn}

@@ -81,3 +81,7 @@ pub record StandsIn (bytes : List ℕ) (t : Token) : Type 0 where
   pub bytes_are : bytes ≡ front ++ (own ++ rest)
   pub stands : StandsBefore t.kind own rest
   pub place : t.place ≡ place_behind front
+
+-- a token without its mark
+abbrev pub kind_and_place : Token → TokenKind × TextPlace
+kind_and_place t = (t.kind, t.place)
