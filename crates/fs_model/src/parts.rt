@@ -10,11 +10,12 @@ pub struct VarId(pub u32);
 #[derive(Clone, Copy, Debug, PartialEq, Eq, PartialOrd, Ord)]
 pub struct StateId(pub u32);
 
-/// Whether a variable holds a number, or a number at each index.
+/// Whether a variable holds a number, a number at each index, or a list of emitted numbers.
 #[derive(Clone, Copy, Debug, PartialEq, Eq)]
 pub enum Sort {
     Scalar,
     Array,
+    Port,
 }
 
 /// What a variable is for.
@@ -70,11 +71,12 @@ pub enum Guard<V = Name> {
     Or(Box<Guard<V>>, Box<Guard<V>>),
 }
 
-/// An assignment to a scalar, or a write to an array at an index.
+/// An assignment to a scalar, a write to an array at an index, or a number emitted to a port.
 #[derive(Drop)]
 pub enum Assign<V> {
     Set(V, Expr<V>),
     Put(V, Expr<V>, Expr<V>),
+    Emit(V, Expr<V>),
 }
 
 /// A declaration of variables. `line` is the line of its first word, from 1.
