@@ -11,8 +11,8 @@ use Rattle.fs_grammar.specs.declared.token.TokenKind.TheVariants.{OpenParen, Clo
 use Rattle.fs_grammar.specs.declared.token.Token.{Token}
 use Rattle.fs_grammar.specs.Tokens.{kind_at}
 use Rattle.fs_grammar.specs.Grammar.{ParseState, step}
-use Rattle.fs_lex.specs.declared.Lexeme.{Lexeme}
-use Rattle.fs_lex.specs.declared.Lexeme.TheVariants as lexemes
+use Rattle.fs_lex.specs.declared.lexemes.Lexeme.{Lexeme}
+use Rattle.fs_lex.specs.declared.lexemes.Lexeme.TheVariants as lexemes
 use Rattle.fs_lex.specs.Lexemes.{lexeme_of}
 use Rattle.fs_lex.specs.Scan.{scan, emitted, after, is_bad, is_operator, starts_expression}
 use Rattle.fs_write.specs.Canonical.{relation_text}

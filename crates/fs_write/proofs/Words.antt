@@ -17,8 +17,8 @@ use Rattle.fs_grammar.specs.declared.token.TokenKind.TheVariants.{Fsmd, Declare,
 use Rattle.fs_grammar.specs.declared.token.Flaw.TheVariants as flaws
 use Rattle.fs_grammar.specs.declared.token.Token.{Token}
 use Rattle.fs_grammar.specs.Grammar.{ParseState, step, reading}
-use Rattle.fs_lex.specs.declared.Lexeme.{Lexeme}
-use Rattle.fs_lex.specs.declared.Lexeme.TheVariants as lexemes
+use Rattle.fs_lex.specs.declared.lexemes.Lexeme.{Lexeme}
+use Rattle.fs_lex.specs.declared.lexemes.Lexeme.TheVariants as lexemes
 use Rattle.fs_lex.specs.Lexemes.{is_space, keyword_of, name_or_bad, word_of, shifted, number_of, lexeme_of}
 use Rattle.fs_lex.specs.Lexemes as lexing
 use Rattle.fs_lex.specs.Scan.{moved, scan, is_past_limit, is_bad, counted}

@@ -5,8 +5,8 @@ use Rattle.std.specs.List.{All, AllByRecursion}
 use Rattle.std.proofs.lemmas.List.Elements.{All-from_recursion}
 use Rattle.fs_grammar.specs.declared.fault.TextPlace.{TextPlace}
 use Rattle.fs_grammar.specs.declared.token.Token.{Token}
-use Rattle.fs_lex.specs.declared.Lexeme.{Lexeme}
-use Rattle.fs_lex.specs.declared.Lexeme.TheVariants as lexemes
+use Rattle.fs_lex.specs.declared.lexemes.Lexeme.{Lexeme}
+use Rattle.fs_lex.specs.declared.lexemes.Lexeme.TheVariants as lexemes
 use Rattle.fs_lex.specs.Lexemes.{lexeme_of}
 use Rattle.fs_lex.specs.Scan.{after, scan, emitted, is_past_limit, is_bad, counted, tokens_of}
 use Rattle.text_laws.specs.Kinds.{IsProper, is_last, end_once}

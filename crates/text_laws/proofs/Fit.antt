@@ -9,7 +9,7 @@ use Rattle.fs_model.specs.Terms as terms
 use Rattle.fs_model.specs.WellFormed.{is_natural_term, is_natural_guard, operators_of_term, operators_of_guard, is_well_formed_condition, is_well_formed_assignment, is_well_formed_transition, is_well_formed_state, has_names, is_well_formed}
 use Rattle.fs_grammar.specs.declared.token.TokenKind.{TokenKind}
 use Rattle.fs_grammar.specs.declared.token.TokenKind.TheVariants.{Fsmd, Declare, Array, Reset, State, When, Goto, Name, Number, Semicolon, Colon, Comma, Equals, OpenParen, CloseParen, OpenBracket, CloseBracket, OpenBrace, CloseBrace, Plus, Minus, Star, Slash, Percent, Bang, AndAnd, OrOr, Relation}
-use Rattle.fs_grammar.specs.Grammar.{ParseState, OpenState, OpenTransition, Destination, scalar, element, assigned, with_assignments, drafted, line_read, closed, UnitContext, ConjunctionContext, GuardContext, FactorContext, ProductContext, SumContext, negates, first_of_all, and_after, first_of_any, or_after, braces, line, first_factor, times, divides, leaves, negative, first_product, plus, minus, parens, index, left, right, place, value, at_start, at_one, at_semicolon, at_declaration, at_sort, at_declared, after_declared, at_reset, after_reset, at_state, at_state_name, after_state_name, at_line, at_target, after_target, at_assignment, after_assignment_name, at_equals, at_unit, after_conjunction, after_guard, at_factor, after_name, after_product, after_sum, factor_done, product_done, unit_done, conjunction_done, literal_done, step_factor, step_unit, step_guard, step_guarded, step_conjunction, step_joined, step_sum, step_summed, step_product, step_multiplied, step_name, step_line, step_one, step, finish}
+use Rattle.fs_grammar.specs.Grammar.{ParseState, OpenState, OpenTransition, Destination, scalar, element, assigned, with_assignments, with_open_state, transition_read, closed, UnitContext, ConjunctionContext, GuardContext, FactorContext, ProductContext, SumContext, negates, first_of_all, and_after, first_of_any, or_after, braces, line, first_factor, times, divides, remainder_of, negative, first_product, plus, minus, parens, index, left, right, write_index, value, at_start, at_one, at_semicolon, at_declaration, at_sort, at_declared, after_declared, at_reset, after_reset, at_state, at_state_name, after_state_name, at_transition, at_target, after_target, at_assignment, after_assignment_name, at_equals, at_unit, after_conjunction, after_guard, at_factor, after_name, after_product, after_sum, factor_done, product_done, unit_done, conjunction_done, literal_done, step_factor, step_unit, step_guard, step_guarded, step_conjunction, step_joined, step_sum, step_summed, step_product, step_multiplied, step_name, step_transition, step_one, step, finish}
 use Rattle.text_laws.specs.Kinds.{IsProper}
 use Rattle.text_laws.proofs.Operators.{operators_of_conjunction, operators_of_product, operators_of_destination, operators_for_conjunction, operators_for_guard, operators_for_factor, operators_for_product, operators_for_sum, operators_owed, factor_ends, product_ends, conjunction_ends, literal_ends}
 
@@ -30,7 +30,7 @@ pub record IsFitDraft (d : OpenState) : Type 0 where
   pub lines : IsTrue (list_all is_well_formed_transition d.state.lines)
 
 pub record IsFitOpening (o : OpenTransition) : Type 0 where
-  pub draft : IsFitDraft o.draft
+  pub draft : IsFitDraft o.state
   pub guard : IsTrue (is_well_formed_condition o.guard)
   pub assignments : IsTrue (list_all is_well_formed_assignment o.assignments)
 
@@ -46,14 +46,14 @@ abbrev mutual
 
   pub IsFitForGuard : GuardContext → Type 0
   IsFitForGuard (braces k) = IsFitForUnit k
-  IsFitForGuard (line d n) = IsFitDraft d
+  IsFitForGuard (transition_guard d n) = IsFitDraft d
 
 abbrev mutual
   pub IsFitForFactor : FactorContext → Type 0
   IsFitForFactor (first_factor k) = IsFitForProduct k
   IsFitForFactor (times p k) = IsNatural p × IsFitForProduct k
   IsFitForFactor (divides p k) = IsNatural p × IsFitForProduct k
-  IsFitForFactor (leaves p k) = IsNatural p × IsFitForProduct k
+  IsFitForFactor (remainder_of p k) = IsNatural p × IsFitForProduct k
   IsFitForFactor (negative k) = IsFitForFactor k
 
   pub IsFitForProduct : ProductContext → Type 0
@@ -66,7 +66,7 @@ abbrev mutual
   IsFitForSum (index x k) = IsFitForFactor k
   IsFitForSum (left k) = IsFitForUnit k
   IsFitForSum (right r l k) = IsNatural l × IsFitForUnit k
-  IsFitForSum (place o x) = IsFitOpening o
+  IsFitForSum (write_index o x) = IsFitOpening o
   IsFitForSum (value o d) = IsFitOpening o × IsFitDestination d
 
 abbrev pub IsFit : ParseState → Type 0
@@ -82,7 +82,7 @@ IsFit (after_reset s) = IsTrue (is_well_formed s)
 IsFit (at_state s) = IsTrue (is_well_formed s)
 IsFit (at_state_name s m) = IsTrue (is_well_formed s)
 IsFit (after_state_name d) = IsFitDraft d
-IsFit (at_line d) = IsFitDraft d
+IsFit (at_transition d) = IsFitDraft d
 IsFit (at_target d m g) = IsFitDraft d × IsTrue (is_well_formed_condition g)
 IsFit (after_target o) = IsFitOpening o
 IsFit (at_assignment o) = IsFitOpening o
@@ -114,7 +114,7 @@ second_part a b h = grind (arith, h)
 snoc_some : (xs : List (List ℕ)) (x : List ℕ) → IsTrue (not (length (xs ++ x ∷ []) == 0))
 snoc_some xs x = grind (arith, length-append xs (x ∷ []))
 
-draft_ends : (d : OpenState) → IsFitDraft d → IsTrue (is_well_formed (drafted d))
+draft_ends : (d : OpenState) → IsFitDraft d → IsTrue (is_well_formed (with_open_state d))
 draft_ends d h =
     both (list_all has_names d.source.declarations) (list_all is_well_formed_state (d.source.states ++ d.state ∷ []))
     (first_part (list_all has_names d.source.declarations) (list_all is_well_formed_state d.source.states) h.source)
@@ -123,8 +123,8 @@ draft_ends d h =
 line_ends : (o : OpenTransition) → IsFitOpening o → IsFitDraft (closed o)
 line_ends o h =
     record {
-      source = h.draft.source;
-      lines = one_more is_well_formed_transition o.draft.state.lines (line_read o) h.draft.lines (both (is_well_formed_condition o.guard) (list_all is_well_formed_assignment o.assignments) h.guard h.assignments);
+      source = h.state.source;
+      lines = one_more is_well_formed_transition o.state.state.lines (transition_read o) h.state.lines (both (is_well_formed_condition o.guard) (list_all is_well_formed_assignment o.assignments) h.guard h.assignments);
     }
 
 assignment_fits : (d : Destination) (e : Term (List ℕ)) → IsFitDestination d → IsNatural e → operators_of_term e + operators_of_destination d ≤ 128 → IsTrue (is_well_formed_assignment (assigned d e))
@@ -135,7 +135,7 @@ assignment_fits (element x i) e h j b =
 
 assignment_read : (o : OpenTransition) (d : Destination) (e : Term (List ℕ)) → IsFitOpening o → IsFitDestination d → IsNatural e → operators_of_term e + operators_of_destination d ≤ 128
     → IsFitOpening (with_assignments o (assigned d e ∷ []))
-assignment_read o d e h j n b = record { draft = h.draft; guard = h.guard; assignments = one_more is_well_formed_assignment o.assignments (assigned d e) h.assignments (assignment_fits d e j n b) }
+assignment_read o d e h j n b = record { state = h.state; guard = h.guard; assignments = one_more is_well_formed_assignment o.assignments (assigned d e) h.assignments (assignment_fits d e j n b) }
 
 guard_fits : (g : Guard (List ℕ)) → IsNaturalGuard g → operators_of_guard g ≤ 128 → IsTrue (is_well_formed_condition (Some g))
 guard_fits g h b = both (is_natural_guard g) (nat_le (operators_of_guard g) 128) h (le-leb (operators_of_guard g) 128 b)
@@ -146,7 +146,7 @@ factor_fits : (k : FactorContext) (f : Term (List ℕ)) → IsFitForFactor k →
 factor_fits (first_factor k) f h j = (j, h)
 factor_fits (times p k) f h j = (both (is_natural_term p) (is_natural_term f) h.0 j, h.1)
 factor_fits (divides p k) f h j = (both (is_natural_term p) (is_natural_term f) h.0 j, h.1)
-factor_fits (leaves p k) f h j = (both (is_natural_term p) (is_natural_term f) h.0 j, h.1)
+factor_fits (remainder_of p k) f h j = (both (is_natural_term p) (is_natural_term f) h.0 j, h.1)
 factor_fits (negative k) f h j = factor_fits k (Negative f) h j
 
 product_fits : (k : ProductContext) (p : Term (List ℕ)) → IsFitForProduct k → IsNatural p → IsFit (product_done p k)
@@ -180,7 +180,7 @@ unit_keeps t k p h = factor_keeps t (first_factor (first_product (left k))) p h
 guard_keeps : (t : TokenKind) (g : Guard (List ℕ)) (k : GuardContext) → IsNaturalGuard g → IsFitForGuard k → operators_of_guard g + operators_for_guard k ≤ 128 → IfSome (step_guard t g k) IsFit
 guard_keeps OrOr g k j h b = (j, h)
 guard_keeps CloseBrace g (braces k) j h b = unit_fits k g h j
-guard_keeps Goto g (line d n) j h b = (h, guard_fits g j (omega arith))
+guard_keeps Goto g (transition_guard d n) j h b = (h, guard_fits g j (omega arith))
 guard_keeps _ g k j h b = tt
 
 guarded_keeps : (t : TokenKind) (s : ParseState) → IsFit s → operators_owed s ≤ 128 → IfSome (step_guarded t s) IsFit
@@ -201,7 +201,7 @@ sum_keeps Plus e k j h b = (j, h)
 sum_keeps Minus e k j h b = (j, h)
 sum_keeps CloseParen e (parens k) j h b = factor_fits k e h j
 sum_keeps CloseBracket e (index x k) j h b = factor_fits k (Read x e) h j
-sum_keeps CloseBracket e (place o x) j h b = (h, j)
+sum_keeps CloseBracket e (write_index o x) j h b = (h, j)
 sum_keeps (Relation r) e (left k) j h b = (j, h)
 sum_keeps Comma e (value o d) j h b = assignment_read o d e h.0 h.1 j b
 sum_keeps Semicolon e (value o d) j h b = line_ends (with_assignments o (assigned d e ∷ [])) (assignment_read o d e h.0 h.1 j b)
@@ -227,7 +227,7 @@ name_keeps : (t : TokenKind) (x : List ℕ) (k : FactorContext) → IsFitForFact
 name_keeps OpenBracket x k h b = h
 name_keeps t x k h b = multiplied_keeps t (factor_done (Variable x) k) (factor_fits k (Variable x) h refl) (omega (arith, factor_ends k (Variable x)))
 
-line_keeps : (t : TokenKind) (n : ℕ) (d : OpenState) → IsFitDraft d → IfSome (step_line n t d) IsFit
+line_keeps : (t : TokenKind) (n : ℕ) (d : OpenState) → IsFitDraft d → IfSome (step_transition n t d) IsFit
 line_keeps When n d h = h
 line_keeps Goto n d h = (h, refl)
 line_keeps State n d h = draft_ends d h
@@ -265,8 +265,8 @@ step_keeps (at_state_name s m) n (Name x) p h b = record { source = h; lines = r
 step_keeps (at_state_name s m) n _ p h b = tt
 step_keeps (after_state_name d) n Colon p h b = h
 step_keeps (after_state_name d) n _ p h b = tt
-step_keeps (at_line d) n t p h b = line_keeps t n d h
-step_keeps (at_target d m g) n (Name x) p h b = record { draft = h.0; guard = h.1; assignments = refl }
+step_keeps (at_transition d) n t p h b = line_keeps t n d h
+step_keeps (at_target d m g) n (Name x) p h b = record { state = h.0; guard = h.1; assignments = refl }
 step_keeps (at_target d m g) n _ p h b = tt
 step_keeps (after_target o) n Colon p h b = h
 step_keeps (after_target o) n Semicolon p h b = line_ends o h
@@ -289,5 +289,5 @@ step_keeps (after_sum e k) n t p h b = sum_keeps t e k h.0 h.1 b
 -- a text that may end here has well-formed parts
 pub finish_fits : (s : ParseState) → IsFit s → IfSome (finish s) (λ f. IsTrue (is_well_formed f))
 finish_fits (at_state s) h = h
-finish_fits (at_line d) h = draft_ends d h
+finish_fits (at_transition d) h = draft_ends d h
 finish_fits _ h = tt

@@ -9,8 +9,8 @@ use Rattle.fs_model.specs.Words.{is_letter, is_digit, is_word_byte, is_name}
 use Rattle.fs_grammar.specs.declared.token.TokenKind.{TokenKind}
 use Rattle.fs_grammar.specs.declared.token.TokenKind.TheVariants.{Fsmd, Declare, Array, Reset, State, When, Goto, Start, Done, Emit, Port, Name, Number, Semicolon, Colon, Comma, Equals, OpenParen, CloseParen, OpenBracket, CloseBracket, OpenBrace, CloseBrace, Plus, Minus, Star, Slash, Percent, Bang, AndAnd, OrOr, Relation, Bad}
 use Rattle.fs_grammar.specs.declared.token.Flaw.TheVariants as flaws
-use Rattle.fs_lex.specs.declared.Lexeme.{Lexeme}
-use Rattle.fs_lex.specs.declared.Lexeme.TheVariants as lexemes
+use Rattle.fs_lex.specs.declared.lexemes.Lexeme.{Lexeme}
+use Rattle.fs_lex.specs.declared.lexemes.Lexeme.TheVariants as lexemes
 use Rattle.fs_lex.specs.Lexemes.{is_space, is_in_comment, keyword_of, name_or_bad, word_of, decimal, number_of, double_sign, mark, operator, or_operator, longest, sign_of, lexeme_of}
 use Rattle.fs_lex.specs.Scan.{is_bad}
 use Rattle.text_laws.specs.Kinds.{IsProper, is_last}

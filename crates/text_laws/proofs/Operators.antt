@@ -7,7 +7,7 @@ use Rattle.fs_model.specs.Terms as terms
 use Rattle.fs_model.specs.WellFormed.{is_sum, is_product, is_and, is_or, bracket, operators_of_term, operators_of_guard}
 use Rattle.fs_grammar.specs.declared.token.TokenKind.{TokenKind}
 use Rattle.fs_grammar.specs.declared.token.TokenKind.TheVariants.{Fsmd, Declare, Array, Reset, State, When, Goto, Name, Number, Semicolon, Colon, Comma, Equals, OpenParen, CloseParen, OpenBracket, CloseBracket, OpenBrace, CloseBrace, Plus, Minus, Star, Slash, Percent, Bang, AndAnd, OrOr, Relation}
-use Rattle.fs_grammar.specs.Grammar.{ParseState, OpenState, Destination, scalar, element, UnitContext, ConjunctionContext, GuardContext, FactorContext, ProductContext, SumContext, negates, first_of_all, and_after, first_of_any, or_after, braces, line, first_factor, times, divides, leaves, negative, first_product, plus, minus, parens, index, left, right, place, value, at_start, at_one, at_semicolon, at_declaration, at_sort, at_declared, after_declared, at_reset, after_reset, at_state, at_state_name, after_state_name, at_line, at_target, after_target, at_assignment, after_assignment_name, at_equals, at_unit, after_conjunction, after_guard, at_factor, after_name, after_product, after_sum, factor_done, product_done, unit_done, conjunction_done, literal_done, step_factor, step_unit, step_guard, step_guarded, step_conjunction, step_joined, step_sum, step_summed, step_product, step_multiplied, step_name, step_line, step_one, step}
+use Rattle.fs_grammar.specs.Grammar.{ParseState, OpenState, Destination, scalar, element, UnitContext, ConjunctionContext, GuardContext, FactorContext, ProductContext, SumContext, negates, first_of_all, and_after, first_of_any, or_after, braces, line, first_factor, times, divides, remainder_of, negative, first_product, plus, minus, parens, index, left, right, write_index, value, at_start, at_one, at_semicolon, at_declaration, at_sort, at_declared, after_declared, at_reset, after_reset, at_state, at_state_name, after_state_name, at_transition, at_target, after_target, at_assignment, after_assignment_name, at_equals, at_unit, after_conjunction, after_guard, at_factor, after_name, after_product, after_sum, factor_done, product_done, unit_done, conjunction_done, literal_done, step_factor, step_unit, step_guard, step_guarded, step_conjunction, step_joined, step_sum, step_summed, step_product, step_multiplied, step_name, step_transition, step_one, step}
 use Rattle.fs_lex.specs.Scan.{counted}
 
 -- ---- the operator_count of a value that has been read, with a bracket where one is needed
@@ -42,14 +42,14 @@ abbrev mutual
 
   pub operators_for_guard : GuardContext → ℕ
   operators_for_guard (braces k) = 1 + operators_for_unit k
-  operators_for_guard (line d n) = 0
+  operators_for_guard (transition_guard d n) = 0
 
 abbrev mutual
   pub operators_for_factor : FactorContext → ℕ
   operators_for_factor (first_factor k) = operators_for_product k
   operators_for_factor (times p k) = 1 + (operators_of_product p + operators_for_product k)
   operators_for_factor (divides p k) = 1 + (operators_of_product p + operators_for_product k)
-  operators_for_factor (leaves p k) = 1 + (operators_of_product p + operators_for_product k)
+  operators_for_factor (remainder_of p k) = 1 + (operators_of_product p + operators_for_product k)
   operators_for_factor (negative k) = 1 + operators_for_factor k
 
   pub operators_for_product : ProductContext → ℕ
@@ -62,7 +62,7 @@ abbrev mutual
   operators_for_sum (index x k) = 1 + operators_for_factor k
   operators_for_sum (left k) = operators_for_unit k
   operators_for_sum (right r l k) = 1 + (operators_of_term l + operators_for_unit k)
-  operators_for_sum (place o x) = 1
+  operators_for_sum (write_index o x) = 1
   operators_for_sum (value o d) = operators_of_destination d
 
 -- the operator_count of the guard or assignment that is being read, as far as it has been read
@@ -95,7 +95,7 @@ pub factor_ends : (k : FactorContext) (f : Term (List ℕ)) → operators_owed (
 factor_ends (first_factor k) f = omega (arith, bracket_less-left (is_sum f) (is_product f))
 factor_ends (times p k) f = omega arith
 factor_ends (divides p k) f = omega arith
-factor_ends (leaves p k) f = omega arith
+factor_ends (remainder_of p k) f = omega arith
 factor_ends (negative k) f = omega (arith, factor_ends k (Negative f))
 
 pub product_ends : (k : ProductContext) (p : Term (List ℕ)) → operators_owed (product_done p k) ≤ operators_of_product p + operators_for_product k
@@ -132,7 +132,7 @@ braced g = omega (arith, at_most_one (is_and g || is_or g))
 guard_costs : (t : TokenKind) (g : Guard (List ℕ)) (k : GuardContext) (c : ℕ) → operators_of_guard g + operators_for_guard k ≤ c → IfSome (step_guard t g k) (λ s. operators_owed s ≤ counted t c)
 guard_costs OrOr g k c h = omega arith
 guard_costs CloseBrace g (braces k) c h = omega (arith, unit_ends k g, braced g)
-guard_costs Goto g (line d n) c h = omega arith
+guard_costs Goto g (transition_guard d n) c h = omega arith
 guard_costs _ g k c h = tt
 
 guarded_costs : (t : TokenKind) (s : ParseState) (c : ℕ) → operators_owed s ≤ c → IfSome (step_guarded t s) (λ s. operators_owed s ≤ counted t c)
@@ -159,7 +159,7 @@ sum_costs Plus e k c h = omega arith
 sum_costs Minus e k c h = omega arith
 sum_costs CloseParen e (parens k) c h = omega (arith, factor_ends k e, bracketed e)
 sum_costs CloseBracket e (index x k) c h = omega (arith, factor_ends k (Read x e))
-sum_costs CloseBracket e (place o x) c h = omega arith
+sum_costs CloseBracket e (write_index o x) c h = omega arith
 sum_costs (Relation r) e (left k) c h = omega arith
 sum_costs Comma e (value o d) c h = omega arith
 sum_costs Semicolon e (value o d) c h = omega arith
@@ -184,7 +184,7 @@ name_costs : (t : TokenKind) (x : List ℕ) (k : FactorContext) (c : ℕ) → op
 name_costs OpenBracket x k c h = omega arith
 name_costs t x k c h = multiplied_costs t (factor_done (Variable x) k) c (omega (arith, factor_ends k (Variable x)))
 
-line_costs : (t : TokenKind) (n : ℕ) (d : OpenState) (c : ℕ) → IfSome (step_line n t d) (λ s. operators_owed s ≤ counted t c)
+line_costs : (t : TokenKind) (n : ℕ) (d : OpenState) (c : ℕ) → IfSome (step_transition n t d) (λ s. operators_owed s ≤ counted t c)
 line_costs When n d c = omega arith
 line_costs Goto n d c = omega arith
 line_costs State n d c = omega arith
@@ -222,7 +222,7 @@ step_costs (at_state_name s m) n (Name x) c h = omega arith
 step_costs (at_state_name s m) n _ c h = tt
 step_costs (after_state_name d) n Colon c h = omega arith
 step_costs (after_state_name d) n _ c h = tt
-step_costs (at_line d) n t c h = line_costs t n d c
+step_costs (at_transition d) n t c h = line_costs t n d c
 step_costs (at_target d m g) n (Name x) c h = omega arith
 step_costs (at_target d m g) n _ c h = tt
 step_costs (after_target o) n Colon c h = omega arith

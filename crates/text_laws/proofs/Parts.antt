@@ -11,7 +11,7 @@ use Rattle.fs_model.specs.Terms as terms
 use Rattle.fs_grammar.specs.declared.token.TokenKind.{TokenKind}
 use Rattle.fs_grammar.specs.declared.token.TokenKind.TheVariants.{Fsmd, Declare, Array, Reset, State, When, Goto, Name, Number, Semicolon, Colon, Comma, Equals, OpenParen, CloseParen, OpenBracket, CloseBracket, OpenBrace, CloseBrace, Plus, Minus, Star, Slash, Percent, Bang, AndAnd, OrOr, Relation}
 use Rattle.fs_grammar.specs.declared.token.Token.{Token}
-use Rattle.fs_grammar.specs.Grammar.{ParseState, OpenState, UnitContext, ConjunctionContext, GuardContext, FactorContext, ProductContext, SumContext, negates, first_of_all, and_after, braces, line, first_factor, times, divides, leaves, negative, first_product, parens, index, left, right, place, value, at_start, at_one, at_semicolon, at_declaration, at_sort, at_declared, after_declared, at_reset, after_reset, at_state, at_state_name, after_state_name, at_line, at_target, after_target, at_assignment, after_assignment_name, at_equals, at_unit, after_conjunction, after_guard, at_factor, after_name, after_product, after_sum, factor_done, product_done, unit_done, conjunction_done, literal_done, step_factor, step_unit, step_guard, step_guarded, step_conjunction, step_joined, step_sum, step_summed, step_product, step_multiplied, step_name, step_line, step_one, step}
+use Rattle.fs_grammar.specs.Grammar.{ParseState, OpenState, UnitContext, ConjunctionContext, GuardContext, FactorContext, ProductContext, SumContext, negates, first_of_all, and_after, braces, line, first_factor, times, divides, remainder_of, negative, first_product, parens, index, left, right, write_index, value, at_start, at_one, at_semicolon, at_declaration, at_sort, at_declared, after_declared, at_reset, after_reset, at_state, at_state_name, after_state_name, at_transition, at_target, after_target, at_assignment, after_assignment_name, at_equals, at_unit, after_conjunction, after_guard, at_factor, after_name, after_product, after_sum, factor_done, product_done, unit_done, conjunction_done, literal_done, step_factor, step_unit, step_guard, step_guarded, step_conjunction, step_joined, step_sum, step_summed, step_product, step_multiplied, step_name, step_transition, step_one, step}
 use Rattle.fs_lex.specs.Scan.{starts_expression, is_operator, counted, is_past_limit, tokens_of}
 use Rattle.text_laws.specs.Parts.{begins_part, is_in_part, Point, front, moved_to, point_after, CanFollow, operators_of}
 use Rattle.text_laws.proofs.Counted.{AreCounted, scan_counted}
@@ -32,7 +32,7 @@ factor_done_goes : (k : FactorContext) (t : TokenKind) (f : Term (List ℕ)) →
 factor_done_goes (first_factor k) t f e = ap not e
 factor_done_goes (times p k) t f e = ap not e
 factor_done_goes (divides p k) t f e = ap not e
-factor_done_goes (leaves p k) t f e = ap not e
+factor_done_goes (remainder_of p k) t f e = ap not e
 factor_done_goes (negative k) t f e = factor_done_goes k t (Negative f) e
 
 unit_done_goes : (k : UnitContext) (t : TokenKind) (u : Guard (List ℕ)) → starts_expression t ≡ false → IsTrue (goes_on t (unit_done u k))
@@ -55,7 +55,7 @@ unit_goes t k = factor_goes t (first_factor (first_product (left k)))
 guard_goes : (t : TokenKind) (g : Guard (List ℕ)) (k : GuardContext) → GoesOn t (step_guard t g k)
 guard_goes OrOr g k = refl
 guard_goes CloseBrace g (braces k) = unit_done_goes k CloseBrace g refl
-guard_goes Goto g (line d n) = refl
+guard_goes Goto g (transition_guard d n) = refl
 guard_goes _ g k = tt
 
 guarded_goes : (t : TokenKind) (s : ParseState) → GoesOn t (step_guarded t s)
@@ -75,7 +75,7 @@ sum_goes Plus e k = refl
 sum_goes Minus e k = refl
 sum_goes CloseParen e (parens k) = factor_done_goes k CloseParen e refl
 sum_goes CloseBracket e (index x k) = factor_done_goes k CloseBracket (Read x e) refl
-sum_goes CloseBracket e (place o x) = refl
+sum_goes CloseBracket e (write_index o x) = refl
 sum_goes (Relation r) e (left k) = refl
 sum_goes Comma e (value o d) = refl
 sum_goes Semicolon e (value o d) = refl
@@ -100,7 +100,7 @@ name_goes : (t : TokenKind) (x : List ℕ) (k : FactorContext) → GoesOn t (ste
 name_goes OpenBracket x k = refl
 name_goes t x k = multiplied_goes t (factor_done (Variable x) k)
 
-line_goes : (t : TokenKind) (n : ℕ) (d : OpenState) → IfSome (step_line n t d) (λ u. IsTrue (enters (at_line d) t u))
+line_goes : (t : TokenKind) (n : ℕ) (d : OpenState) → IfSome (step_transition n t d) (λ u. IsTrue (enters (at_transition d) t u))
 line_goes When n d = refl
 line_goes Goto n d = refl
 line_goes State n d = refl
@@ -138,7 +138,7 @@ step_enters (at_state_name s m) n (Name x) = refl
 step_enters (at_state_name s m) n _ = tt
 step_enters (after_state_name d) n Colon = refl
 step_enters (after_state_name d) n _ = tt
-step_enters (at_line d) n t = line_goes t n d
+step_enters (at_transition d) n t = line_goes t n d
 step_enters (at_target d m g) n (Name x) = refl
 step_enters (at_target d m g) n _ = tt
 step_enters (after_target o) n Colon = refl
@@ -165,7 +165,7 @@ always : (o : Option ParseState) → IfSome o (λ u. IsTrue true)
 always None = tt
 always (Some u) = refl
 
-line_outside : (t : TokenKind) (n : ℕ) (d : OpenState) → IfSome (step_line n t d) (λ u. IsTrue (not (is_operator t)))
+line_outside : (t : TokenKind) (n : ℕ) (d : OpenState) → IfSome (step_transition n t d) (λ u. IsTrue (not (is_operator t)))
 line_outside When n d = refl
 line_outside Goto n d = refl
 line_outside State n d = refl
@@ -199,7 +199,7 @@ operators_stand (at_state_name s m) n (Name x) = refl
 operators_stand (at_state_name s m) n _ = tt
 operators_stand (after_state_name d) n Colon = refl
 operators_stand (after_state_name d) n _ = tt
-operators_stand (at_line d) n t = line_outside t n d
+operators_stand (at_transition d) n t = line_outside t n d
 operators_stand (at_target d m g) n (Name x) = refl
 operators_stand (at_target d m g) n _ = tt
 operators_stand (after_target o) n Colon = refl

@@ -8,7 +8,7 @@ use Rattle.fs_lex.specs.Scan.{is_operator}
 
 -- a guard of a line or an assignment begins here
 abbrev pub begins_part : ParseState → Bool
-begins_part (at_unit (first_of_all (first_of_any (line d n)))) = true
+begins_part (at_unit (first_of_all (first_of_any (transition_guard d n)))) = true
 begins_part (at_assignment o) = true
 begins_part _ = false
 

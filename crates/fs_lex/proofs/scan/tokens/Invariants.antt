@@ -1,6 +1,6 @@
 use Rattle.std.proofs.Common.{◌≡◌, ◌<◌, ◌≤◌, ◌+◌, ◌++◌, length}
 use Rattle.fs_lex.specs.Scan.{scan, tokens_of}
-use Rattle.fs_lex.proofs.tokens.Given as goal
+use Rattle.fs_lex.proofs.scan.tokens.Given as goal
 
 abbrev pub invariant-each : goal.invariant-each
 invariant-each l =

@@ -1,6 +1,6 @@
 use Rattle.std.proofs.Common.{arith}
 use Rattle.fs_lex.proofs.Decimal.{bigger}
-use Rattle.fs_lex.proofs.value.Goals as goal
+use Rattle.fs_lex.proofs.lexemes.value.Goals as goal
 
 pub returns-then-n : goal.returns-then-n
 returns-then-n c = λ h. omega (arith, bigger c.loop-b.n c.loop-b.b-index c.args.bytes.now c.loop-b-test.true, c.loop-b.invariant.1)

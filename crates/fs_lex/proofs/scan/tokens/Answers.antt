@@ -1,9 +1,9 @@
 use Rattle.std.proofs.Common.{◌≡◌, ◌<◌, ◌≤◌, ◌+◌, length, take, drop, false, sym, ◌∙◌, arith}
-use Rattle.fs_lex.specs.declared.Lexeme.TheVariants as lexemes
+use Rattle.fs_lex.specs.declared.lexemes.Lexeme.TheVariants as lexemes
 use Rattle.fs_lex.specs.Lexemes.{lexeme_of}
 use Rattle.fs_lex.specs.Scan.{is_bad, tokens_of}
 use Rattle.fs_lex.proofs.Scans.{goes_on}
-use Rattle.fs_lex.proofs.tokens.Goals as goal
+use Rattle.fs_lex.proofs.scan.tokens.Goals as goal
 
 pub each-preserved : goal.each-preserved
 each-preserved c =
