@@ -158,22 +158,22 @@ pub name_assignment : (ts : List Token) (o : OpenTransition) → IsNoEmit (kind_
 name_assignment ts o e = named_reading ts (at_assignment o) (after_assignment_name o) (λ m x. refl) (λ m t i. no_emit_steps m t o (rw i at e)) refl
 
 pub name_port : (ts : List Token) (o : OpenTransition) → reading ts (at_port o) ≡ (name_in ts >>= λ x. reading x.1 (at_sum (value o (port x.0))))
-name_port ts o = named_reading ts (at_port o) (λ x. at_sum (value o (port x))) (λ m x. refl) (λ m t i. elim t [ Name x ↦ λ h. absurd h | _ ↦ λ h. refl ]) refl
+name_port ts o = named_reading ts (at_port o) (λ x. at_sum (value o (port x))) (λ m x. refl) (λ m. elim [ Name x ↦ λ i h. absurd h | _ ↦ λ i h. refl ]) refl
 
 pub name_target : (ts : List Token) (d : OpenState) (m : ℕ) (g : Option (Guard (List ℕ)))
     → reading ts (at_target d m g) ≡ (name_in ts >>= λ x. reading x.1 (after_target (record { state = d; line = m; guard = g; target = x.0; assignments = [] })))
 name_target ts d m g =
-    named_reading ts (at_target d m g) (λ x. after_target (record { state = d; line = m; guard = g; target = x; assignments = [] })) (λ n x. refl) (λ n t i. elim t [ Name x ↦ λ h. absurd h | _ ↦ λ h. refl ]) refl
+    named_reading ts (at_target d m g) (λ x. after_target (record { state = d; line = m; guard = g; target = x; assignments = [] })) (λ n x. refl) (λ n. elim [ Name x ↦ λ i h. absurd h | _ ↦ λ i h. refl ]) refl
 
 pub name_state : (ts : List Token) (f : Format) (s : Source) (m : ℕ)
     → reading ts (at_state_name f s m) ≡ (name_in ts >>= λ x. reading x.1 (after_state_name (record { format = f; source = s; state = record { line = m; name = x.0; lines = [] } })))
 name_state ts f s m =
-    named_reading ts (at_state_name f s m) (λ x. after_state_name (record { format = f; source = s; state = record { line = m; name = x; lines = [] } })) (λ n x. refl) (λ n t i. elim t [ Name x ↦ λ h. absurd h | _ ↦ λ h. refl ]) refl
+    named_reading ts (at_state_name f s m) (λ x. after_state_name (record { format = f; source = s; state = record { line = m; name = x; lines = [] } })) (λ n x. refl) (λ n. elim [ Name x ↦ λ i h. absurd h | _ ↦ λ i h. refl ]) refl
 
 pub name_reset : (ts : List Token) (f : Format) (ds : List Declaration) (m : ℕ)
     → reading ts (at_reset f ds m) ≡ (name_in ts >>= λ x. reading x.1 (after_reset f (record { declarations = ds; reset_line = m; reset = x.0; states = [] })))
 name_reset ts f ds m =
-    named_reading ts (at_reset f ds m) (λ x. after_reset f (record { declarations = ds; reset_line = m; reset = x; states = [] })) (λ n x. refl) (λ n t i. elim t [ Name x ↦ λ h. absurd h | _ ↦ λ h. refl ]) refl
+    named_reading ts (at_reset f ds m) (λ x. after_reset f (record { declarations = ds; reset_line = m; reset = x; states = [] })) (λ n x. refl) (λ n. elim [ Name x ↦ λ i h. absurd h | _ ↦ λ i h. refl ]) refl
 
 pub name_declared : (ts : List Token) (f : Format) (ds : List Declaration) (d : Declaration) → reading ts (at_declared f ds d) ≡ (name_in ts >>= λ x. reading x.1 (after_declared f ds (with_names d (x.0 ∷ []))))
-name_declared ts f ds d = named_reading ts (at_declared f ds d) (λ x. after_declared f ds (with_names d (x ∷ []))) (λ n x. refl) (λ n t i. elim t [ Name x ↦ λ h. absurd h | _ ↦ λ h. refl ]) refl
+name_declared ts f ds d = named_reading ts (at_declared f ds d) (λ x. after_declared f ds (with_names d (x ∷ []))) (λ n x. refl) (λ n. elim [ Name x ↦ λ i h. absurd h | _ ↦ λ i h. refl ]) refl

@@ -59,7 +59,7 @@ fn element(
     name: Name,
     tokens: &[Token],
 ) -> Result<(Destination, &[Token]), ReadError>
-    ensures goes { (o : OpenTransition) → ParsesOn result (reading tokens.now (at_sum (place o name))) (λ x. reading x.1.now (at_equals o (destination_of x.0))) }
+    ensures goes { (o : OpenTransition) → ParsesOn result (reading tokens.now (at_sum (write_index o name))) (λ x. reading x.1.now (at_equals o (destination_of x.0))) }
     ensures shorter { IfOk result (λ x. length x.1.now < length tokens.now) }
 {
     let (index, rest) = sum(alloc, tokens)?;
@@ -132,7 +132,7 @@ fn port(alloc: Global, tokens: &[Token]) -> Result<(Destination, &[Token]), Read
 }
 
 // What stands before the value of an assignment or an emit.
-fn destination(
+fn value_destination(
     alloc: Global,
     format: Format,
     tokens: &[Token],
@@ -163,7 +163,7 @@ fn assignment(
     ensures shorter { IfOk result (λ x. length x.2.now < length tokens.now) }
     ensures ends { IfOk result (λ x. EndsSum x.2.now) }
 {
-    let (destination, rest) = destination(alloc, format, tokens)?;
+    let (destination, rest) = value_destination(alloc, format, tokens)?;
     let (value, rest) = sum(alloc, rest)?;
     Ok((destination, value, rest))
 }

@@ -5,6 +5,7 @@ ghost use Rattle.fs_model.specs.Source.{Source};
 ghost use Rattle.fs_grammar.specs.declared.format.Format as formats;
 ghost use Rattle.fs_grammar.specs.Tokens.{Gives, ParsesOn};
 ghost use Rattle.fs_grammar.specs.Ends.{name_in};
+ghost use Rattle.fs_parse.specs.Beginnings.{format_at};
 ghost use Rattle.fs_grammar.specs.Grammar.{OpenState, reading, at_start, at_format, at_semicolon, at_declaration, after_reset, at_state, after_state_name, at_transition};
 
 use fs_grammar::fault::ReadError;
