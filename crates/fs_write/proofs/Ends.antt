@@ -10,7 +10,7 @@ use Rattle.fs_grammar.specs.declared.token.TokenKind.TheVariants.{OpenBracket, O
 use Rattle.fs_grammar.specs.declared.token.Token.{Token}
 use Rattle.fs_grammar.specs.Tokens.{kind_at}
 use Rattle.fs_grammar.specs.Ends.{IsNoSum, IsNoProduct, IsNoAnd, IsNoIndex, IsNoBrace}
-use Rattle.fs_grammar.specs.Grammar.{UnitContext, negates, first_of_all, and_after, ConjunctionContext, first_of_any, or_after, FactorContext, first_factor, times, divides, leaves, negative, ProductContext, first_product, plus, minus, left, right, ParseState, at_unit, after_conjunction, after_name, after_product, after_sum, factor_done, product_done, unit_done, conjunction_done, literal_done, step_factor, step_guarded, step_conjunction, step_joined, step_sum, step_summed, step_product, step_multiplied, step_name, step, finish, reading}
+use Rattle.fs_grammar.specs.Grammar.{UnitContext, negates, first_of_all, and_after, ConjunctionContext, first_of_any, or_after, FactorContext, first_factor, times, divides, remainder_of, negative, ProductContext, first_product, plus, minus, left, right, ParseState, at_unit, after_conjunction, after_name, after_product, after_sum, factor_done, product_done, unit_done, conjunction_done, literal_done, step_factor, step_guarded, step_conjunction, step_joined, step_sum, step_summed, step_product, step_multiplied, step_name, step, finish, reading}
 use Rattle.fs_write.proofs.Steps.{Reads, Follows}
 
 -- two states read alike where each token leads both to the same, and both end alike
@@ -90,14 +90,14 @@ multiplied_steps : (n : ℕ) (t : TokenKind) (f : Term (List ℕ)) (k : FactorCo
 multiplied_steps n t f (first_factor k) = refl
 multiplied_steps n t f (times p k) = refl
 multiplied_steps n t f (divides p k) = refl
-multiplied_steps n t f (leaves p k) = refl
+multiplied_steps n t f (remainder_of p k) = refl
 multiplied_steps n t f (negative k) = multiplied_steps n t (Negative f) k
 
 multiplied_stops : (f : Term (List ℕ)) (k : FactorContext) → finish (factor_done f k) ≡ None
 multiplied_stops f (first_factor k) = refl
 multiplied_stops f (times p k) = refl
 multiplied_stops f (divides p k) = refl
-multiplied_stops f (leaves p k) = refl
+multiplied_stops f (remainder_of p k) = refl
 multiplied_stops f (negative k) = multiplied_stops (Negative f) k
 
 -- a name without an index is a variable

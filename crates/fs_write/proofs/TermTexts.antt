@@ -10,7 +10,7 @@ use Rattle.fs_grammar.specs.declared.fault.TextFault.{TextFault}
 use Rattle.fs_grammar.specs.declared.token.TokenKind.{TokenKind}
 use Rattle.fs_grammar.specs.declared.token.TokenKind.TheVariants as tokens
 use Rattle.fs_grammar.specs.Ends.{IsNoProduct, IsNoIndex}
-use Rattle.fs_grammar.specs.Grammar.{FactorContext, first_factor, times, divides, leaves, negative, ProductContext, first_product, plus, minus, SumContext, parens, index, ParseState, at_factor, at_sum, after_name, after_product, after_sum, factor_done, product_done}
+use Rattle.fs_grammar.specs.Grammar.{FactorContext, first_factor, times, divides, remainder_of, negative, ProductContext, first_product, plus, minus, SumContext, parens, index, ParseState, at_factor, at_sum, after_name, after_product, after_sum, factor_done, product_done}
 use Rattle.fs_write.specs.Canonical.{in_parens, term_text}
 use Rattle.fs_write.specs.Spellable.{is_spellable_term}
 use Rattle.fs_write.proofs.Steps.{Reads, Follows, joined, weaker}
@@ -181,7 +181,7 @@ quotient_reads a b x y =
 
 remainder_reads : (a b : Term (List ℕ)) → TermReads a → TermReads b → TermReads (Remainder a b)
 remainder_reads a b x y =
-    product_term (Remainder a b) refl (product_of a b (Remainder a b) (codes " % ") tokens.Percent (λ k s. leaves s k) x y (λ line remains free rest s k r h d. spaced_reads 37 rest tokens.Percent (after_product s k) (at_factor (leaves s k)) refl refl refl refl refl refl h d)
+    product_term (Remainder a b) refl (product_of a b (Remainder a b) (codes " % ") tokens.Percent (λ k s. remainder_of s k) x y (λ line remains free rest s k r h d. spaced_reads 37 rest tokens.Percent (after_product s k) (at_factor (remainder_of s k)) refl refl refl refl refl refl h d)
     (λ rest. record { first = λ p n. refl; stops = refl }) tt (λ k. refl))
 
 -- each term's text reads as the term

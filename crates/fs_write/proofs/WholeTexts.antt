@@ -10,7 +10,7 @@ use Rattle.fs_model.specs.Source.{Declaration, SourceState, Source}
 use Rattle.fs_model.specs.WellFormed.{is_well_formed_transition, is_well_formed_state, has_names, is_well_formed}
 use Rattle.fs_grammar.specs.declared.fault.TextFault.{TextFault}
 use Rattle.fs_grammar.specs.declared.token.TokenKind.TheVariants as tokens
-use Rattle.fs_grammar.specs.Grammar.{with_names, with_states, OpenState, with_lines, drafted, ParseState, at_start, at_one, at_semicolon, at_declaration, at_sort, at_declared, after_declared, at_reset, after_reset, at_state, at_state_name, after_state_name, at_line, step, finish, reading}
+use Rattle.fs_grammar.specs.Grammar.{with_names, with_states, OpenState, with_transitions, with_open_state, ParseState, at_start, at_one, at_semicolon, at_declaration, at_sort, at_declared, after_declared, at_reset, after_reset, at_state, at_state_name, after_state_name, at_transition, step, finish, reading}
 use Rattle.fs_lex.specs.Scan.{tokens_of}
 use Rattle.fs_write.specs.Canonical.{after_comma, listed, line_text, state_text, role_text, sort_text, declaration_text, canonical}
 use Rattle.fs_write.specs.Spellable.{is_spellable_transition, is_spellable_state, is_spellable_declaration, is_spellable}
@@ -41,18 +41,18 @@ states_read line_number (t ∷ ss) s p f g e h w =
     let u = both (is_name t.name) (list_all is_spellable_transition t.lines) v.0 in
     let rest = flat_map state_text ss in
     let d : OpenState = record { source = p; state = record { line = line_number; name = t.name; lines = [] } } in
-    let c : OpenState = with_lines d (lines_from (line_number + 1) t.lines) in
+    let c : OpenState = with_transitions d (lines_from (line_number + 1) t.lines) in
     let one : List SourceState = c.state ∷ [] in
-    let after : Reads (line_number + 1 + length t.lines) 0 rest (at_line c) (Ok (with_states (drafted c) (states_from (line_number + 1 + length t.lines) ss))) =
-    states_read (line_number + 1 + length t.lines) ss (at_line c) (drafted c) (λ m. refl) (λ m. refl) refl n.1 v.1
+    let after : Reads (line_number + 1 + length t.lines) 0 rest (at_transition c) (Ok (with_states (with_open_state c) (states_from (line_number + 1 + length t.lines) ss))) =
+    states_read (line_number + 1 + length t.lines) ss (at_transition c) (with_open_state c) (λ m. refl) (λ m. refl) refl n.1 v.1
     in
-    let whole : Reads (line_number + 1 + length t.lines) 0 rest (at_line c) (Ok (with_states p (states_from line_number (t ∷ ss)))) =
-    subst (λ (q : Source). Reads (line_number + 1 + length t.lines) 0 rest (at_line c) (Ok q)) (with_states_two p one (states_from (line_number + 1 + length t.lines) ss)) after
+    let whole : Reads (line_number + 1 + length t.lines) 0 rest (at_transition c) (Ok (with_states p (states_from line_number (t ∷ ss)))) =
+    subst (λ (q : Source). Reads (line_number + 1 + length t.lines) 0 rest (at_transition c) (Ok q)) (with_states_two p one (states_from (line_number + 1 + length t.lines) ss)) after
     in
-    let lines : Reads (line_number + 1) 0 (flat_map line_text t.lines ++ rest) (at_line d) (Ok (with_states p (states_from line_number (t ∷ ss)))) = lines_read (line_number + 1) t.lines d rest n.0 u.1 whole in
+    let lines : Reads (line_number + 1) 0 (flat_map line_text t.lines ++ rest) (at_transition d) (Ok (with_states p (states_from line_number (t ∷ ss)))) = lines_read (line_number + 1) t.lines d rest n.0 u.1 whole in
     let body = flat_map line_text t.lines ++ rest in
     let colon : Reads line_number 0 (58 ∷ 10 ∷ body) (after_state_name d) (Ok (with_states p (states_from line_number (t ∷ ss)))) =
-    one_token 58 [] (10 ∷ body) tokens.Colon (after_state_name d) (at_line d) refl refl refl (border_room tokens.Colon 0 refl refl) refl (newline_reads body (weaker body 0 128 (omega arith) lines))
+    one_token 58 [] (10 ∷ body) tokens.Colon (after_state_name d) (at_transition d) refl refl refl (border_room tokens.Colon 0 refl refl) refl (newline_reads body (weaker body 0 128 (omega arith) lines))
     in
     let name : Reads line_number 0 (t.name ++ (58 ∷ 10 ∷ body)) (at_state_name p line_number) (Ok (with_states p (states_from line_number (t ∷ ss)))) = name_reads t.name (58 ∷ 10 ∷ body) (at_state_name p line_number) (after_state_name d) u.0 refl refl colon in
     let same : state_text t ++ rest ≡ codes "state " ++ (t.name ++ (58 ∷ 10 ∷ body)) = simp append_assoc in

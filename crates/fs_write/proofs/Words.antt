@@ -100,7 +100,7 @@ one_token {line} {free} {remains} {r} b w rest t s n e a bad room f d = record {
       let scanned = token_scans ((b ∷ w) ++ rest) t (length (b ∷ w)) p m e (omega arith) len in
       ap (λ (ts : List Token). reading ts s) scanned
       ∙ took t (is_past_limit t m) p _ s n r (room.fits m g) f
-      (rw bad (ap₂ (λ (bs : List ℕ) (q : TextPlace). reading (scan bs 0 q (counted t m)) n) (drop-append_seam (b ∷ w) rest) there) ∙ d.so (column_after column (b ∷ w)) (counted t m) (room.leaves m g));
+      (rw bad (ap₂ (λ (bs : List ℕ) (q : TextPlace). reading (scan bs 0 q (counted t m)) n) (drop-append_seam (b ∷ w) rest) there) ∙ d.so (column_after column (b ∷ w)) (counted t m) (room.remainder_of m g));
 }
 
 third : (a b c : Bool) (u v w x : Lexeme) → a ≡ false → b ≡ false → c ≡ true → cond a u (cond b v (cond c w x)) ≡ w
@@ -188,6 +188,9 @@ digits_read k (b ∷ w) rest s n h e stops f d =
 -- the number in the head of a text
 pub one_lexeme : (rest : List ℕ) → lexeme_of (49 ∷ 59 ∷ rest) ≡ lexemes.Token (Number (pos 1)) 1
 one_lexeme rest = number_lexeme 49 (59 ∷ rest) refl ∙ ap (λ (t : TokenKind). lexemes.Token t 1) (unfolding_number (49 ∷ []) 1 refl (lit< tt))
+
+pub two_lexeme : (rest : List ℕ) → lexeme_of (50 ∷ 59 ∷ rest) ≡ lexemes.Token (Number (pos 2)) 1
+two_lexeme rest = number_lexeme 50 (59 ∷ rest) refl ∙ ap (λ (t : TokenKind). lexemes.Token t 1) (unfolding_number (50 ∷ []) 2 refl (lit< tt))
 
 -- a number is read as one token
 pub number_reads : {line free : ℕ} {r : Result Source TextFault} (k : ℕ) (rest : List ℕ) (s n : ParseState) → k < 2 ^ 127 → begins_no is_word_byte rest ≡ true → step s line (Number (pos k)) ≡ Some n → Reads line free rest n r → Reads line free (decimal k ++ rest) s r
