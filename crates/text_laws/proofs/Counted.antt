@@ -10,7 +10,7 @@ use Rattle.fs_lex.specs.declared.lexemes.Lexeme.TheVariants as lexemes
 use Rattle.fs_lex.specs.Lexemes.{lexeme_of}
 use Rattle.fs_lex.specs.Scan.{after, scan, emitted, is_past_limit, is_bad, counted, tokens_of}
 use Rattle.text_laws.specs.Kinds.{IsProper, end_once}
-use Rattle.fs_lex.specs.Tokenization.{ends_text}
+use Rattle.lex_laws.specs.Tokenization.{ends_text}
 use Rattle.text_laws.proofs.Lexed.{IsLexed, lexeme_found}
 
 -- each token is proper, and is over where it is an operator and 128 were counted before it, n of them before the first token

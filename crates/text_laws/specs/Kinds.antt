@@ -4,7 +4,7 @@ use Rattle.fs_model.specs.Words.{is_name}
 use Rattle.fs_grammar.specs.declared.token.TokenKind.{TokenKind}
 use Rattle.fs_grammar.specs.declared.token.TokenKind.TheVariants.{Name, Number}
 use Rattle.fs_grammar.specs.declared.token.Token.{Token}
-use Rattle.fs_lex.specs.Tokenization.{ends_text}
+use Rattle.lex_laws.specs.Tokenization.{ends_text}
 
 -- a name is a name indeed, and a number is below 2 ^ 127 and not negative
 abbrev pub IsProper : TokenKind → Type 0

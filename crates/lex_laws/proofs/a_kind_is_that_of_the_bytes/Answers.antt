@@ -1,5 +1,5 @@
-use Rattle.fs_lex.proofs.Exact.{reserved, keywords, names, words, numbers, large, punctuation}
-use Rattle.fs_lex.proofs.laws.a_kind_is_that_of_the_bytes.Goals as goal
+use Rattle.lex_laws.proofs.Exact.{reserved, keywords, names, words, numbers, large, punctuation}
+use Rattle.lex_laws.proofs.a_kind_is_that_of_the_bytes.Goals as goal
 
 pub returns-clause-reserved : goal.returns-clause-reserved
 returns-clause-reserved c = reserved

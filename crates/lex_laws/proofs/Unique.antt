@@ -11,9 +11,9 @@ use Rattle.fs_grammar.specs.declared.token.TokenKind.TheVariants.{Name, Number, 
 use Rattle.fs_grammar.specs.declared.token.Flaw.TheVariants as flaws
 use Rattle.fs_grammar.specs.declared.token.Token.{Token}
 use Rattle.fs_lex.specs.Lexemes.{is_space, is_in_comment}
-use Rattle.fs_lex.specs.Vocabulary.{is_lexeme}
-use Rattle.fs_lex.specs.Tokenization.{place_behind, IsLongest, BeginsNothing, StandsBefore, IsGap, nothing, blank, comment, IsLastGap, gap, open_comment, IsGapBefore, IsNext, ends_text, AreTokens, kind_and_place}
-use Rattle.fs_lex.proofs.KindOf.{both_true, kind_spelled}
+use Rattle.lex_laws.specs.Vocabulary.{is_lexeme}
+use Rattle.lex_laws.specs.Tokenization.{place_behind, IsLongest, BeginsNothing, StandsBefore, IsGap, nothing, blank, comment, IsLastGap, gap, open_comment, IsGapBefore, IsNext, ends_text, AreTokens, kind_and_place}
+use Rattle.lex_laws.proofs.KindOf.{both_true, kind_spelled}
 
 -- ---- a token's own bytes
 

@@ -1,5 +1,9 @@
-//! What the tokens of a text are, said of its bytes. Each function is a law, stated by its
-//! contract; it does nothing.
+//! What the tokens of a text are, said of its bytes alone.
+//!
+//! `fs_lex` makes tokens lexeme by lexeme. Here is said, with no order of making, what a token is
+//! (`specs/Vocabulary`), where it stands, and what stands between tokens (`specs/Tokenization`).
+//! Each function is a law, stated by its contract; it does nothing.
+#![tactic(auto)]
 
 ghost use Rattle.std.specs.Prelude.{◌≡◌, ℕ, pos, ◌^◌, ◌<◌, ◌≤◌, ◌↔◌, List, [], ◌∷◌, ◌++◌, map, length, Some, is_some, IsTrue};
 ghost use Rattle.fs_model.specs.Words.{is_word, is_reserved, is_name};
@@ -8,8 +12,8 @@ ghost use Rattle.fs_grammar.specs.declared.token.TokenKind.{TokenKind};
 ghost use Rattle.fs_grammar.specs.declared.token.TokenKind.TheVariants.{Name, Number, Bad};
 ghost use Rattle.fs_grammar.specs.declared.token.Token.{Token};
 ghost use Rattle.fs_lex.specs.Scan.{tokens_of};
-ghost use Rattle.fs_lex.specs.Tokenization.{BeginsNothing, StandsBefore, AreTokens, StandsIn, kind_and_place};
-ghost use Rattle.fs_lex.specs.Vocabulary.{reserved_kind, punctuation_kind, is_number, number_value};
+ghost use Rattle.lex_laws.specs.Tokenization.{BeginsNothing, StandsBefore, AreTokens, StandsIn, kind_and_place};
+ghost use Rattle.lex_laws.specs.Vocabulary.{reserved_kind, punctuation_kind, is_number, number_value};
 
 /// The tokens of a text are the longest words, numbers and pieces of punctuation, one behind the
 /// other, with blanks and comments alone between them. The last is the end of the bytes, or the

@@ -8,7 +8,7 @@ use Rattle.fs_grammar.specs.declared.token.TokenKind.{TokenKind}
 use Rattle.fs_grammar.specs.declared.token.TokenKind.TheVariants.{Name, Number, Bad, End}
 use Rattle.fs_grammar.specs.declared.token.Token.{Token}
 use Rattle.fs_lex.specs.Lexemes.{is_space, is_in_comment}
-use Rattle.fs_lex.specs.Vocabulary.{reserved_kind, punctuation_kind, is_number, number_value, is_lexeme}
+use Rattle.lex_laws.specs.Vocabulary.{reserved_kind, punctuation_kind, is_number, number_value, is_lexeme}
 
 -- the place behind these bytes: its line is 1 plus the LFs among them, its column 1 plus the bytes after the last LF
 abbrev pub place_behind : List ℕ → TextPlace

@@ -6,12 +6,12 @@ use Rattle.fs_model.specs.Words.{is_word, is_name, is_reserved}
 use Rattle.fs_grammar.specs.declared.token.TokenKind.{TokenKind}
 use Rattle.fs_grammar.specs.declared.token.TokenKind.TheVariants.{Name, Number, Bad}
 use Rattle.fs_grammar.specs.declared.token.Flaw.TheVariants as flaws
-use Rattle.fs_lex.specs.Vocabulary.{reserved_tokens, double_tokens, single_tokens, reserved_kind, punctuation_kind, is_number, number_value}
-use Rattle.fs_lex.specs.Tokenization.{BeginsNothing, StandsBefore}
-use Rattle.fs_lex.proofs.Tables.{so_of_key}
-use Rattle.fs_lex.proofs.Standing.{reserved_tells}
-use Rattle.fs_lex.proofs.KindOf.{both_true, kind_spelled, name_spelled, long_spelled, reserved_spelled, number_spelled, large_spelled, punctuation_spelled}
-use Rattle.fs_lex.proofs.Unique.{one_token}
+use Rattle.lex_laws.specs.Vocabulary.{reserved_tokens, double_tokens, single_tokens, reserved_kind, punctuation_kind, is_number, number_value}
+use Rattle.lex_laws.specs.Tokenization.{BeginsNothing, StandsBefore}
+use Rattle.lex_laws.proofs.Tables.{so_of_key}
+use Rattle.lex_laws.proofs.Standing.{reserved_tells}
+use Rattle.lex_laws.proofs.KindOf.{both_true, kind_spelled, name_spelled, long_spelled, reserved_spelled, number_spelled, large_spelled, punctuation_spelled}
+use Rattle.lex_laws.proofs.Unique.{one_token}
 
 word_has_bytes : (own : List ℕ) → IsTrue (is_word own) → 0 < length own
 word_has_bytes [] h = absurd cc

@@ -6,7 +6,7 @@ use Rattle.std.proofs.lemmas.List.{reverse-append}
 use Rattle.std.proofs.lemmas.List.Sums.{sum_by_push}
 use Rattle.fs_grammar.specs.declared.fault.TextPlace.{TextPlace}
 use Rattle.fs_lex.specs.Scan.{after, moved}
-use Rattle.fs_lex.specs.Tokenization.{place_behind}
+use Rattle.lex_laws.specs.Tokenization.{place_behind}
 
 abbrev place_at : ℕ → ℕ → TextPlace
 place_at n m = record { line = n; column = m }

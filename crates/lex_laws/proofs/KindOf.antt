@@ -7,10 +7,10 @@ use Rattle.fs_grammar.specs.declared.token.TokenKind.{TokenKind}
 use Rattle.fs_grammar.specs.declared.token.TokenKind.TheVariants.{Name, Number, Bad, End}
 use Rattle.fs_grammar.specs.declared.token.Flaw.TheVariants as flaws
 use Rattle.fs_lex.specs.Lexemes.{name_or_bad}
-use Rattle.fs_lex.specs.Vocabulary.{reserved_tokens, double_tokens, single_tokens, reserved_kind, punctuation_kind, is_number, number_value, is_lexeme}
-use Rattle.fs_lex.specs.Tokenization.{BeginsNothing, StandsBefore}
-use Rattle.fs_lex.proofs.Tables.{false_unless, none_unless, so_of_key}
-use Rattle.fs_lex.proofs.Standing.{letter_no_digit, reserved_tells}
+use Rattle.lex_laws.specs.Vocabulary.{reserved_tokens, double_tokens, single_tokens, reserved_kind, punctuation_kind, is_number, number_value, is_lexeme}
+use Rattle.lex_laws.specs.Tokenization.{BeginsNothing, StandsBefore}
+use Rattle.lex_laws.proofs.Tables.{false_unless, none_unless, so_of_key}
+use Rattle.lex_laws.proofs.Standing.{letter_no_digit, reserved_tells}
 
 abbrev punctuation_or_bad : Option TokenKind → TokenKind
 punctuation_or_bad (Some t) = t

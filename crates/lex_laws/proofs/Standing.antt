@@ -13,9 +13,9 @@ use Rattle.fs_grammar.specs.declared.token.TokenKind.{TokenKind}
 use Rattle.fs_grammar.specs.declared.token.TokenKind.TheVariants.{Name, Number, Semicolon, Colon, Comma, Equals, OpenParen, CloseParen, OpenBracket, CloseBracket, OpenBrace, CloseBrace, Plus, Minus, Star, Slash, Percent, Bang, Relation, Bad, End}
 use Rattle.fs_grammar.specs.declared.token.Flaw.TheVariants as flaws
 use Rattle.fs_lex.specs.Lexemes.{is_space, keyword_of, name_or_bad, word_of, shifted, decimal, number_of, double_punctuation, mark, operator, or_operator, single_punctuation}
-use Rattle.fs_lex.specs.Vocabulary.{reserved_tokens, double_tokens, single_tokens, reserved_kind, punctuation_kind, is_number, number_value, is_lexeme}
-use Rattle.fs_lex.specs.Tokenization.{IsLongest, StandsBefore}
-use Rattle.fs_lex.proofs.Tables.{none_unless, lookup_left, lookup_right, other_length, so_of_key, so_of_token}
+use Rattle.lex_laws.specs.Vocabulary.{reserved_tokens, double_tokens, single_tokens, reserved_kind, punctuation_kind, is_number, number_value, is_lexeme}
+use Rattle.lex_laws.specs.Tokenization.{IsLongest, StandsBefore}
+use Rattle.lex_laws.proofs.Tables.{none_unless, lookup_left, lookup_right, other_length, so_of_key, so_of_token}
 
 -- ---- runs of bytes
 

@@ -1,5 +1,5 @@
-use Rattle.fs_lex.proofs.Exact.{bad, only_bad}
-use Rattle.fs_lex.proofs.laws.a_byte_is_bad_where_nothing_begins.Goals as goal
+use Rattle.lex_laws.proofs.Exact.{bad, only_bad}
+use Rattle.lex_laws.proofs.a_byte_is_bad_where_nothing_begins.Goals as goal
 
 pub returns-clause-bad : goal.returns-clause-bad
 returns-clause-bad c = bad
