@@ -1,5 +1,6 @@
 -- What a step and a run answer.
-use Rattle.std.specs.Prelude.{◌≡◌, ℕ, ◌-◌, ◌≤◌, cond, List, [], ◌∷◌, map, filter, Option, Some, None}
+use Rattle.std.specs.Prelude.{◌≡◌, ℕ, ◌-◌, ◌≤◌, cond, List, [], ◌∷◌, map, filter, Option, Some, None, IsSome}
+use Rattle.std.specs.List.{AllByRecursion}
 use Rattle.std.specs.Str.{bytes_eq}
 use Rattle.fs_model.specs.declared.parts.VarInfo.{VarInfo}
 use Rattle.fs_model.specs.Machines.{Fsmd}
@@ -13,7 +14,7 @@ use Rattle.fs_runs.specs.declared.run.RunStop.TheVariants as stops
 use Rattle.fs_runs.specs.declared.values.Value.{Value}
 use Rattle.fs_runs.specs.Values.{content_of}
 
--- a stop at a number outside 128 bits comes only where P; want of memory may come at any time
+-- a stop at a number outside 128 bits comes only where P; out of memory may come at any time
 abbrev pub PastOnly : StepStop → Type 0 → Type 0
 PastOnly PastWide P = P
 PastOnly NoMemory P = Unit {0}
@@ -37,6 +38,10 @@ told (n ∷ ns) (c ∷ cs) name = cond (bytes_eq n name) (Some c) (told ns cs na
 -- what the values of a machine's outputs say
 abbrev pub told_by : Fsmd → List Value → List ℕ → Option Content
 told_by m outs name = told (output_names m.variables) (map content_of outs) name
+
+-- each of the names holds something
+abbrev pub HoldsEach : (List ℕ → Option Content) → List (List ℕ) → Type 0
+HoldsEach outs names = AllByRecursion (λ name. IsSome (outs name)) names
 
 -- within so many steps there is no return to the reset state, and each number touched lies within 128 bits
 pub record RunsOn (m : Fsmd) (ins : Inputs) (limit : ℕ) : Type 0 where

@@ -1,4 +1,4 @@
-//! What variables hold: numbers, and arrays with finitely many entries that are not 0.
+//! What variables hold: numbers, arrays with finitely many entries that are not 0, and lists of numbers.
 
 ghost use Rattle.std.specs.Prelude.{◌≡◌, true, is_some, ℤ, pos, cond, IfOk};
 ghost use Rattle.std.specs.Ordering.{int_eq, int_cmp};
@@ -8,6 +8,7 @@ ghost use Rattle.fs_runs.specs.Values.{entry, content_of, sort_of, zero_content}
 
 mod listing;
 
+use crate::numbers::Numbers;
 use fs_model::name::NoMemory;
 use fs_model::parts::Sort;
 use std::alloc::Global;
@@ -20,11 +21,12 @@ pub struct Entries {
     map: BTreeMap<i128, i128>,
 }
 
-/// What a variable holds: a number of 128 bits, or the entries of an array.
+/// What a variable holds: a number of 128 bits, the entries of an array, or the numbers emitted to a port.
 #[derive(Drop)]
 pub enum Value {
     Num(i128),
     Arr(Entries),
+    List(Numbers),
 }
 
 impl Entries {
@@ -106,17 +108,18 @@ impl Entries {
 }
 
 impl Value {
-    /// Whether the value is a number or the entries of an array. Takes no memory.
+    /// Whether the value is a number, the entries of an array or a list. Takes no memory.
     pub fn sort(&self) -> Sort
         ensures { result ≡ sort_of self.now }
     {
         match self {
             Value::Num(_) => Sort::Scalar,
             Value::Arr(_) => Sort::Array,
+            Value::List(_) => Sort::Port,
         }
     }
 
-    /// The value with which a variable that is no input begins: 0, or 0 at each index. Takes no memory.
+    /// What a variable that is no input holds at the start: 0, 0 at each index, or the empty list. Takes no memory.
     pub fn zero(alloc: Global, sort: Sort) -> Value
         ensures content { content_of result ≡ zero_content sort }
         ensures sort { sort_of result ≡ sort }
@@ -124,6 +127,7 @@ impl Value {
         match sort {
             Sort::Scalar => Value::Num(0),
             Sort::Array => Value::Arr(Entries::new(alloc)),
+            Sort::Port => Value::List(Numbers::new(alloc)),
         }
     }
 
@@ -135,6 +139,7 @@ impl Value {
         match self {
             Value::Num(n) => Ok(Value::Num(*n)),
             Value::Arr(entries) => Ok(Value::Arr(entries.try_clone()?)),
+            Value::List(numbers) => Ok(Value::List(numbers.try_clone()?)),
         }
     }
 }
