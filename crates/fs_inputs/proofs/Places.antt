@@ -11,7 +11,7 @@ use Rattle.fs_runs.specs.declared.values.Value.{Value}
 use Rattle.fs_runs.specs.declared.inputs.Input.{Input}
 use Rattle.fs_runs.specs.declared.inputs.Inputs.{Inputs as Held}
 use Rattle.fs_runs.specs.Values.{number_in, entry_in}
-use Rattle.fs_runs.specs.InputValues.{Signature, signature, given, input_values, signatures_of, sort_named, inputs_of}
+use Rattle.fs_runs.specs.InputValues.{Signature, signature, value_named, input_values, signatures_of, sort_named, inputs_of}
 use Rattle.fs_inputs.specs.Files.{number_at, element_at}
 use Rattle.fs_inputs.specs.Steps.{place_of, IsGivenAt, Gives}
 
@@ -24,7 +24,7 @@ given_by [] vs q = None
 given_by (f ∷ fs) [] q = None
 given_by (f ∷ fs) (v ∷ vs) q = cond (bytes_eq f.0 q) (Some v) (given_by fs vs q)
 
-given_is : (items : List Input) (q : List ℕ) → given items q ≡ given_by (map signature items) (map value items) q
+given_is : (items : List Input) (q : List ℕ) → value_named items q ≡ given_by (map signature items) (map value items) q
 given_is [] q = refl
 given_is (i ∷ rest) q = ap (cond (bytes_eq i.name q) (Some i.value)) (given_is rest q)
 
@@ -84,7 +84,7 @@ sort_there [] name k s p e = cc
 sort_there (f ∷ fs) name k s p e = sort_at (bytes_eq f.0 name) (place_of fs name) f fs name k s (λ j. sort_there fs name j s) refl p e
 
 given_after : (old new : Held) (k : ℕ) (v : Value) (name q : List ℕ) → signatures_of new ≡ signatures_of old → input_values new ≡ slice_set (input_values old) k v → place_of (signatures_of old) name ≡ Some k
-    → given new.items.items q ≡ cond (bytes_eq name q) (Some v) (given old.items.items q)
+    → value_named new.items.items q ≡ cond (bytes_eq name q) (Some v) (value_named old.items.items q)
 given_after old new k v name q signatures values p =
     given_is new.items.items q
     ∙ ap (λ fs. given_by fs (input_values new) q) signatures
@@ -104,6 +104,6 @@ entry_by false v o i z e = refl
 pub gives : (old new : Held) (k : ℕ) (name : List ℕ) (d : Data) → signatures_of new ≡ signatures_of old → place_of (signatures_of old) name ≡ Some k
     → IsGivenAt (input_values old) (input_values new) k d → Gives name d (inputs_of old) (inputs_of new)
 gives old new k name d signatures p h = record {
-  scalar = λ q. ap number_in (given_after old new k h.held name q signatures h.values p) ∙ number_by (bytes_eq name q) h.held (given old.items.items q) (number_at (Some d)) h.holds.number;
-  array = λ q i. ap (λ o. entry_in o i) (given_after old new k h.held name q signatures h.values p) ∙ entry_by (bytes_eq name q) h.held (given old.items.items q) i (element_at (Some d) i) (h.holds.entries i);
+  scalar = λ q. ap number_in (given_after old new k h.held name q signatures h.values p) ∙ number_by (bytes_eq name q) h.held (value_named old.items.items q) (number_at (Some d)) h.holds.number;
+  array = λ q i. ap (λ o. entry_in o i) (given_after old new k h.held name q signatures h.values p) ∙ entry_by (bytes_eq name q) h.held (value_named old.items.items q) i (element_at (Some d) i) (h.holds.entries i);
 }

@@ -6,7 +6,7 @@ use Rattle.std.specs.Str.{bytes_eq}
 use Rattle.serde_json.specs.Data.{Num, Data, Members, no_members, member}
 use Rattle.serde_json.specs.Find.{as_integer, as_number, as_str, as_object}
 use Rattle.fs_model.specs.declared.parts.Sort.{Sort}
-use Rattle.fs_model.specs.declared.parts.Sort.TheVariants.{Scalar, Array}
+use Rattle.fs_model.specs.declared.parts.Sort.TheVariants.{Scalar, Array, Port}
 use Rattle.fs_model.specs.Runs.{Inputs}
 use Rattle.fs_runs.specs.InputValues.{Signature, sort_named}
 use Rattle.fs_inputs.specs.declared.faults.Fault.{Fault}
@@ -46,10 +46,11 @@ abbrev pub array_fault : Option Members → Option Fault
 array_fault None = Some Shape
 array_fault (Some ms) = cond (are_numbers ms) (cond (all_fit ms) None (Some TooBig)) (Some Shape)
 
--- what is wrong with the value of an input of a sort
+-- what is wrong with the value of an input of a sort; a port is no input
 abbrev pub value_fault : Sort → Data → Option Fault
 value_fault Scalar d = number_fault (number_of d)
 value_fault Array d = array_fault (as_object d)
+value_fault Port d = Some Unknown
 
 -- what is wrong with the value of a name of this sort, or of a name that no input has
 abbrev pub fault_at : Option Sort → Data → Option Fault

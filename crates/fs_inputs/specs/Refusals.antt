@@ -35,7 +35,7 @@ pub record IsFaulty (signatures : List Signature) (bytes name : List ℕ) (f : F
   pub json : IsJson bytes value
   pub first : file_fault signatures (as_object value) ≡ Some (name, f)
 
--- why bytes are refused; want of memory may come at any time
+-- why bytes are refused; out of memory may come at any time
 abbrev pub IsRefused : List Signature → List ℕ → InputError → Type 0
 IsRefused signatures bytes NotJson = (d : Data) → ¬ IsJson bytes d
 IsRefused signatures bytes (Shape name) = IsFaulty signatures bytes (string_bytes name) faults.Shape
@@ -43,7 +43,7 @@ IsRefused signatures bytes (UnknownName name) = IsFaulty signatures bytes (strin
 IsRefused signatures bytes (NumberTooBig name) = IsFaulty signatures bytes (string_bytes name) faults.TooBig
 IsRefused signatures bytes NoMemory = Unit {0}
 
--- the refusal of bytes that are no JSON
+-- the refusal of bytes that are not JSON
 abbrev pub IsOfBytes : List ℕ → InputError → Type 0
 IsOfBytes bytes NotJson = (d : Data) → ¬ IsJson bytes d
 IsOfBytes bytes (Shape name) = ⊥

@@ -19,14 +19,14 @@ use fs_runs::inputs::Inputs;
 use serde_json::{Map, Value};
 use std::alloc::Global;
 
-/// Whether a variable has the name.
+// Whether a variable has the name.
 fn is_named(var: &VarInfo, name: &[u8]) -> bool
     ensures { result ≡ bytes_eq var.now.name name.now }
 {
     var.name.bytes() == name
 }
 
-/// The place of the input of a name, counted in order of declaration from 0, and its sort.
+// The place of the input of a name, counted in order of declaration from 0, and its sort.
 fn input_at(m: &Machine, name: &[u8]) -> Option<(u32, Sort)>
     ensures place { option_map (λ p. p.0) result ≡ place_of (input_signatures m.now.variables) name.now }
     ensures sort { option_map (λ p. p.1) result ≡ sort_named (input_signatures m.now.variables) name.now }
@@ -43,7 +43,7 @@ fn input_at(m: &Machine, name: &[u8]) -> Option<(u32, Sort)>
     None
 }
 
-/// What is wrong with the value of a name, or with the name.
+// What is wrong with the value of a name, or with the name.
 fn fault_at(m: &Machine, name: &String, value: &Value) -> Option<Fault>
     ensures { result ≡ fault_at (sort_named (input_signatures m.now.variables) (string_bytes name.now)) (view value.now) }
 {
@@ -53,7 +53,7 @@ fn fault_at(m: &Machine, name: &String, value: &Value) -> Option<Fault>
     }
 }
 
-/// The first name with a fault, in the order of the members.
+// The first name with a fault, in the order of the members.
 fn first_fault<'a>(m: &Machine, members: &'a Map<String, Value>) -> Option<(&'a String, Fault)>
     ensures { option_map (λ p. (string_bytes p.0.now, p.1)) result ≡ first_fault (input_signatures m.now.variables) (members_view members.now.entries) }
 {
@@ -65,7 +65,7 @@ fn first_fault<'a>(m: &Machine, members: &'a Map<String, Value>) -> Option<(&'a 
     None
 }
 
-/// The refusal for a fault at a name.
+// The refusal for a fault at a name.
 fn refusal(name: String, fault: Fault) -> InputError
     ensures { IsOfFault (Some (string_bytes name, fault)) result }
 {
@@ -76,7 +76,7 @@ fn refusal(name: String, fault: Fault) -> InputError
     }
 }
 
-/// Gives the input at a place a value.
+// Gives the input at a place a value.
 fn give_at(
     alloc: Global,
     inputs: &mut Inputs,
@@ -93,7 +93,7 @@ fn give_at(
     inputs.set(alloc, place, held)
 }
 
-/// Gives the input of a name what a value spells.
+// Gives the input of a name what a value spells.
 fn give(
     alloc: Global,
     m: &Machine,
@@ -112,7 +112,7 @@ fn give(
     }
 }
 
-/// Gives each input that an object names what its value spells.
+// Gives each input that an object names what its value spells.
 fn give_all(
     alloc: Global,
     m: &Machine,
@@ -130,7 +130,7 @@ fn give_all(
     Ok(())
 }
 
-/// The inputs that an object without fault spells.
+// The inputs that an object without fault spells.
 fn spelled_inputs(
     alloc: Global,
     m: &Machine,
@@ -146,7 +146,7 @@ fn spelled_inputs(
     Ok(inputs)
 }
 
-/// The inputs that a JSON value spells.
+// The inputs that a JSON value spells.
 fn read_object(alloc: Global, m: &Machine, value: &Value) -> Result<Inputs, InputError>
     ensures spelled { IfOk result (λ ins. SpelledBy (input_signatures m.now.variables) (view value.now) (inputs_of ins)) }
     ensures signatures { IfOk result (λ ins. signatures_of ins ≡ input_signatures m.now.variables) }
@@ -164,7 +164,7 @@ fn read_object(alloc: Global, m: &Machine, value: &Value) -> Result<Inputs, Inpu
     Ok(spelled_inputs(alloc, m, members)?)
 }
 
-/// The value that bytes are as JSON.
+// The value that bytes are as JSON.
 fn parse(alloc: Global, bytes: &[u8]) -> Result<Value, InputError>
     ensures json { IfOk result (λ v. IsJson bytes.now (view v)) }
     ensures refused { IfErr result (λ e. IsOfBytes bytes.now e) }
@@ -181,11 +181,11 @@ fn parse(alloc: Global, bytes: &[u8]) -> Result<Value, InputError>
 
 /// Reads a file of inputs for a machine, in time linear in the file.
 ///
-/// `NotJson` comes exactly where the bytes are no UTF-8 text, or are not JSON as `serde_json` reads
+/// `NotJson` comes exactly when the bytes are not UTF-8 text, or are not JSON as `serde_json` reads
 /// it: at most 127 levels deep, no number past the floats, no lone surrogate. Else `Shape` with the
 /// empty name comes where the file is no object. Else the names are looked at in the order of their
 /// bytes, and the first that has a fault is refused: with `UnknownName` where no input has it, with
-/// `Shape` where its value has not the form that the input's sort asks for (for an array all names
+/// `Shape` where its value does not have the form that the input's sort asks for (for an array all names
 /// and values are looked at), with `NumberTooBig` where a number of it lies outside 128 bits. Of equal
 /// names the last counts. `NoMemory` may come at any time.
 pub fn read_inputs(alloc: Global, bytes: &[u8], m: &Machine) -> Result<Inputs, InputError>

@@ -6,3 +6,4 @@ pub mod Turns
 pub mod InputValues
 pub mod Outs
 pub mod Listings
+pub mod RunOnce

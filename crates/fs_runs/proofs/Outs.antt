@@ -13,7 +13,7 @@ use Rattle.fs_runs.specs.declared.values.Value.{Value}
 use Rattle.fs_runs.specs.declared.values.Value.TheVariants.{Num, Arr}
 use Rattle.fs_runs.specs.declared.values.Value.TheVariants as values
 use Rattle.fs_runs.specs.Values.{number_in, entry_in, list_in, sort_of, content_of, store_from}
-use Rattle.fs_runs.specs.Outcomes.{output_names, outs_of, told, HoldsEach}
+use Rattle.fs_runs.specs.Outcomes.{Outputs, output_names, outs_of, told, HoldsEach}
 use Rattle.fs_runs.proofs.Slots.{left_cons}
 
 held : (vs : List Value) (j : ℕ) (w : Value) → slice_get vs j ≡ Some w → content (sort_of w) j (store_from vs) ≡ content_of w
@@ -110,10 +110,10 @@ each_held (v ∷ vs) x s =
     ]
 
 -- what says what the outputs hold in a store says something of each
-pub holds_each : (m : Fsmd) (s : Store) (outs : List ℕ → Option Content) → ((name : List ℕ) → output m s name ≡ outs name) → HoldsEach outs (output_names m.variables)
+pub holds_each : (m : Fsmd) (s : Store) (outs : Outputs) → ((name : List ℕ) → output m s name ≡ outs name) → HoldsEach outs (output_names m.variables)
 holds_each m s outs same =
     all_through (λ name. IsSome (output_from m.variables 0 s name)) (λ name. IsSome (outs name)) (λ name there. subst IsSome (same name) there) (output_names m.variables) (each_held m.variables 0 s)
 
 -- the same of the outputs of a run
-pub run_holds_each : (m : Fsmd) (ins : Inputs) (outs : List ℕ → Option Content) (n : ℕ) → Run m ins outs n → HoldsEach outs (output_names m.variables)
+pub run_holds_each : (m : Fsmd) (ins : Inputs) (outs : Outputs) (n : ℕ) → Run m ins outs n → HoldsEach outs (output_names m.variables)
 run_holds_each m ins outs n r = holds_each m r.end outs r.gives

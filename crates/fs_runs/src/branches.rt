@@ -26,7 +26,7 @@ fn relates(rel: Rel, left: i128, right: i128) -> bool
     }
 }
 
-/// Whether a literal holds, and none exactly where a number of it lies outside 128 bits.
+// Whether a literal holds, and `None` exactly when a number of it lies outside 128 bits.
 fn literal_holds(lit: &Lit<VarId>, values: &[Value]) -> Option<bool>
     ensures { SomeIff result (LiteralFits (literal_of lit.now) (store_from values.now)) (literal_holds (literal_of lit.now) (store_from values.now)) }
 {
@@ -35,7 +35,7 @@ fn literal_holds(lit: &Lit<VarId>, values: &[Value]) -> Option<bool>
     Some(relates(lit.rel, left, right))
 }
 
-/// Whether all literals of a way hold. What comes after one that fails is not looked at.
+// Whether all literals of a way hold. What comes after one that fails is not looked at.
 fn literals_hold(way: &[Lit<VarId>], values: &[Value]) -> Option<bool>
     ensures { SomeIff result (AllInRange (touched_by_way (map literal_of way.now) (store_from values.now))) (list_all (λ l. literal_holds l (store_from values.now)) (map literal_of way.now)) }
 {
@@ -47,7 +47,7 @@ fn literals_hold(way: &[Lit<VarId>], values: &[Value]) -> Option<bool>
     Some(true)
 }
 
-/// The first branch whose literals all hold, and none exactly where a number that is looked at on
+/// The first branch whose literals all hold, and `None` exactly when a number that is looked at on
 /// the way to it lies outside 128 bits.
 pub fn taken_branch<'a>(branches: &'a [Branch], values: &[Value]) -> Option<&'a Branch>
     requires { IsSome (taken_branch (map branch_of branches.now) (store_from values.now)) }

@@ -24,7 +24,7 @@ pub enum Change {
     Append(u32, i128),
 }
 
-/// What an assignment changes, and none exactly where a number of it lies outside 128 bits.
+// What an assignment changes, and `None` exactly when a number of it lies outside 128 bits.
 fn change_of(assign: &Assign<VarId>, values: &[Value]) -> Option<Change>
     ensures { SomeIff result (AssignmentFits (store_from values.now) (assignment_of assign.now)) (done_by (store_from values.now) (assignment_of assign.now)) }
 {
@@ -90,8 +90,8 @@ pub fn change_all(values: &mut [Value], changes: &[Change]) -> Result<(), NoMemo
     room
 }
 
-/// Makes room for changes: an entry, which may be 0, at each index that is written, and in each list
-/// that is appended to as much as if all changes were appended to it.
+// Makes room for changes: an entry, which may be 0, at each index that is written, and in each list
+// that is appended to as much as if all changes were appended to it.
 fn make_room(values: &mut [Value], changes: &[Change]) -> Result<(), NoMemory>
     requires { AllSuit values.old changes.now }
     ensures room { OnOk result (AllReady values.new changes.now) }
@@ -104,7 +104,7 @@ fn make_room(values: &mut [Value], changes: &[Change]) -> Result<(), NoMemory>
     Ok(())
 }
 
-/// Makes room for one change of so many. What was ready stays so.
+// Makes room for one change of so many. What was ready stays so.
 fn make_room_for(values: &mut [Value], change: &Change, count: usize) -> Result<(), NoMemory>
     requires { IsTrue (suits values.old change.now) }
     ensures room { OnOk result (IsTrue (is_ready count values.new change.now)) }
@@ -155,7 +155,7 @@ fn make_list_room(value: &mut Value, count: usize) -> Result<(), NoMemory>
     }
 }
 
-/// Makes changes in order.
+// Makes changes in order.
 fn write_all(values: &mut [Value], changes: &[Change])
     requires { AllReady values.old changes.now }
     ensures changed { store_from values.new ≡ changed_all (store_from values.old) changes.now }
@@ -166,7 +166,7 @@ fn write_all(values: &mut [Value], changes: &[Change])
     }
 }
 
-/// Makes one change. What was ready as the last of more changes stays so.
+// Makes one change. What was ready as the last of more changes stays so.
 fn write(values: &mut [Value], change: &Change)
     requires { IsTrue (is_ready 1 values.old change.now) }
     ensures changed { store_from values.new ≡ changed (store_from values.old) change.now }
@@ -202,7 +202,7 @@ fn append_in(value: &mut Value, v: i128)
     }
 }
 
-/// Takes out the entries that are 0 at the indices of changes.
+// Takes out the entries that are 0 at the indices of changes.
 fn sweep_all(values: &mut [Value], changes: &[Change])
     ensures same { store_from values.new ≡ store_from values.old }
     ensures sorts { map sort_of values.new ≡ map sort_of values.old }

@@ -70,7 +70,7 @@ impl Inputs {
         &self.items[k as usize].value
     }
 
-    /// The value of a name.
+    // The value of a name.
     fn value_named(&self, name: &Name) -> Option<&Value>
         ensures { option_copied result ≡ value_named self.now.items.items name.now }
     {
@@ -92,7 +92,7 @@ fn is_input(var: &VarInfo) -> bool
     }
 }
 
-/// Whether a variable starts with what the inputs give.
+// Whether a variable starts with what the inputs give.
 fn is_given(var: &VarInfo) -> bool
     ensures { result ≡ is_given var.now }
 {
@@ -102,7 +102,7 @@ fn is_given(var: &VarInfo) -> bool
     }
 }
 
-/// Adds a value of 0 for a variable that is an input.
+// Adds a value of 0 for a variable that is an input.
 fn add_input(alloc: Global, items: &mut Vec<Input>, var: &VarInfo) -> Result<(), NoMemory>
     requires { AllZero items.old.items }
     ensures signatures { OnOk result (map signature items.new.items ≡ map signature items.old.items ++ input_signatures (var.now ∷ [])) }
@@ -142,7 +142,7 @@ pub fn start(alloc: Global, m: &Machine, inputs: &Inputs) -> Result<Store, NoMem
     Ok(Store { values })
 }
 
-/// What a variable holds as a run starts.
+// What a variable holds as a run starts.
 fn first_value(alloc: Global, var: &VarInfo, inputs: &Inputs) -> Result<Value, NoMemory>
     requires { is_input var.now.role ≡ true → sort_named (signatures_of inputs.now) var.now.name ≡ Some var.now.sort }
     ensures content { IfOk result (λ v. content_of v ≡ first_content (inputs_of inputs.now) var.now) }

@@ -30,7 +30,7 @@ impl Numbers {
         self.items.as_slice()
     }
 
-    /// Makes room for so many more numbers. Room that was there stays.
+    // Makes room for so many more numbers. Room that was there stays.
     pub(crate) fn make_room(&mut self, count: usize) -> Result<(), NoMemory>
         ensures room { OnOk result (IsTrue (has_room self.new count)) }
         ensures keeps { (n : ℕ) → has_room self.old n ≡ true → has_room self.new n ≡ true }
@@ -42,7 +42,7 @@ impl Numbers {
         }
     }
 
-    /// Appends a number for which there is room.
+    // Appends a number for which there is room.
     pub(crate) fn append(&mut self, number: i128)
         requires { IsTrue (has_room self.old 1) }
         ensures appended { numbers_of self.new ≡ numbers_of self.old ++ number ∷ [] }

@@ -37,7 +37,7 @@ pub enum RunStop {
 /// Runs a machine on inputs up to the first return to the reset state, at most so many steps. The
 /// outputs are as many as the machine has, and each holds something.
 ///
-/// `PastWide` comes exactly where a number outside 128 bits is touched within the limit, and by no
+/// `PastWide` comes exactly when a number outside 128 bits is touched within the limit, and by no
 /// step after the return; `StepsOver` where within the limit there is neither such a number nor a return.
 pub fn run(alloc: Global, m: &Machine, inputs: &Inputs, limit: u64) -> Result<Ended, RunStop>
     requires limit { 1 ≤ limit }
@@ -73,7 +73,7 @@ fn is_reset(m: &Machine, s: StateId) -> bool
     s.0 == m.reset().0
 }
 
-/// The end of a run after so many steps.
+// The end of a run after so many steps.
 fn end_after(alloc: Global, m: &Machine, store: &Store, steps: u64) -> Result<Ended, RunStop>
     requires { IsStoreOf m.now store.now }
     ensures outputs { IfOk result (λ e. (name : List ℕ) → output m.now (store_of store.now) name ≡ told_by m.now e.outputs.items name) }
@@ -88,7 +88,7 @@ fn end_after(alloc: Global, m: &Machine, store: &Store, steps: u64) -> Result<En
     }
 }
 
-/// What the outputs hold, in order of declaration.
+// What the outputs hold, in order of declaration.
 fn outputs(alloc: Global, m: &Machine, store: &Store) -> Result<Vec<Value>, NoMemory>
     requires { IsStoreOf m.now store.now }
     ensures told { IfOk result (λ out. (name : List ℕ) → output m.now (store_of store.now) name ≡ told_by m.now out.items name) }
@@ -104,7 +104,7 @@ fn outputs(alloc: Global, m: &Machine, store: &Store) -> Result<Vec<Value>, NoMe
     Ok(out)
 }
 
-/// Adds a copy of what a variable holds that is an output.
+// Adds a copy of what a variable holds that is an output.
 fn add_output(out: &mut Vec<Value>, var: &VarInfo, value: &Value) -> Result<(), NoMemory>
     ensures { OnOk result (map content_of out.new.items ≡ map content_of out.old.items ++ outs_of (var.now ∷ []) (value.now ∷ [])) }
 {

@@ -25,7 +25,7 @@ pub enum StepStop {
 /// Takes the step from a state, and answers the state to which it leads.
 ///
 /// The right sides, indices and emitted expressions are valued in the store before, and the assignments
-/// are then done in order. `PastWide` comes exactly where a literal on the way taken, a right side, an
+/// are then done in order. `PastWide` comes exactly when a literal on the way taken, a right side, an
 /// index, an emitted expression or a part of these has its value outside 128 bits. After an error the
 /// store is as before.
 pub fn step(alloc: Global, m: &Machine, store: &mut Store, s: StateId) -> Result<StateId, StepStop>

@@ -60,7 +60,7 @@ impl Entries {
             Err(_) => Err(NoMemory),
         }
     }
-    /// Makes room at an index: an entry stands there, if only 0.
+    // Makes room at an index: an entry stands there, if only 0.
     pub(crate) fn make_room(&mut self, i: i128) -> Result<(), NoMemory>
         ensures room { OnOk result (is_some (get int_cmp self.new.map i) ≡ true) }
         ensures keeps { (j : ℤ) → is_some (get int_cmp self.old.map j) ≡ true → is_some (get int_cmp self.new.map j) ≡ true }
@@ -75,7 +75,7 @@ impl Entries {
         }
     }
 
-    /// Puts a number at an index at which there is room.
+    // Puts a number at an index at which there is room.
     pub(crate) fn put(&mut self, i: i128, v: i128)
         requires { is_some (get int_cmp self.old.map i) ≡ true }
         ensures put { (j : ℤ) → entry self.new j ≡ cond (int_eq i j) v (entry self.old j) }
@@ -87,7 +87,7 @@ impl Entries {
         }
     }
 
-    /// Takes out the entry at an index if it is 0.
+    // Takes out the entry at an index if it is 0.
     pub(crate) fn sweep(&mut self, i: i128)
         ensures { (j : ℤ) → entry self.new j ≡ entry self.old j }
     {
