@@ -11,13 +11,14 @@ use Rattle.fs_grammar.specs.declared.token.TokenKind.TheVariants.{Fsmd, Declare,
 use Rattle.fs_grammar.specs.declared.token.Flaw.TheVariants as flaws
 use Rattle.fs_lex.specs.declared.lexemes.Lexeme.{Lexeme}
 use Rattle.fs_lex.specs.declared.lexemes.Lexeme.TheVariants as lexemes
-use Rattle.fs_lex.specs.Lexemes.{is_space, is_in_comment, keyword_of, name_or_bad, word_of, decimal, number_of, double_sign, mark, operator, or_operator, longest, sign_of, lexeme_of}
+use Rattle.fs_lex.specs.Lexemes.{is_space, is_in_comment, keyword_of, name_or_bad, word_of, decimal, number_of, double_punctuation, mark, operator, or_operator, longest, punctuation_of, lexeme_of}
 use Rattle.fs_lex.specs.Scan.{is_bad}
-use Rattle.text_laws.specs.Kinds.{IsProper, is_last}
+use Rattle.text_laws.specs.Kinds.{IsProper}
+use Rattle.lex_laws.specs.Tokenization.{ends_text}
 
 -- proper, and last only where it is bad
 abbrev pub IsFound : TokenKind → Type 0
-IsFound t = IsProper t × (is_last t ≡ is_bad t)
+IsFound t = IsProper t × (ends_text t ≡ is_bad t)
 
 abbrev pub IsLexed : Lexeme → Type 0
 IsLexed (lexemes.Blank n) = Unit {0}
@@ -64,7 +65,7 @@ keyword_found bs =
     (or_else (bytes_eq bs (codes "emit")) Emit (tt, refl)
     (or_else (bytes_eq bs (codes "port")) Port (tt, refl) no_token))))))))))))
 
-double_found : (b c : ℕ) → IsMaybe (double_sign b c)
+double_found : (b c : ℕ) → IsMaybe (double_punctuation b c)
 double_found b c =
     or_else (bytes_eq (b ∷ c ∷ []) (codes "==")) (Relation Eq) (tt, refl)
     (or_else (bytes_eq (b ∷ c ∷ []) (codes "!=")) (Relation Ne) (tt, refl)
@@ -121,10 +122,10 @@ longest_found : (o : Option TokenKind) (b : ℕ) → IsMaybe o → IsLexed (long
 longest_found (Some t) b h = h.is
 longest_found None b h = single_found b (mark b) (mark_found b)
 
-sign_found : (bs : List ℕ) → IsLexed (sign_of bs)
-sign_found [] = tt
-sign_found (b ∷ []) = single_found b (mark b) (mark_found b)
-sign_found (b ∷ c ∷ bs) = longest_found (double_sign b c) b (double_found b c)
+punctuation_found : (bs : List ℕ) → IsLexed (punctuation_of bs)
+punctuation_found [] = tt
+punctuation_found (b ∷ []) = single_found b (mark b) (mark_found b)
+punctuation_found (b ∷ c ∷ bs) = longest_found (double_punctuation b c) b (double_found b c)
 
 pub lexeme_found : (bs : List ℕ) → IsLexed (lexeme_of bs)
 lexeme_found [] = tt
@@ -135,5 +136,5 @@ lexeme_found (b ∷ bs) =
     or_next (is_space b) (lexemes.Blank 1) tt
     (or_next (b == 35) (lexemes.Blank (prefix_len is_in_comment (b ∷ bs))) tt
     (or_next (is_letter b) (lexemes.Token (word_of letters) (prefix_len is_word_byte (b ∷ bs))) (word_found letters (keyword_of letters) (keyword_found letters))
-    (or_next (is_digit b) (lexemes.Token (number_of digits) (prefix_len is_digit (b ∷ bs))) (number_found digits) (record { is = sign_found (b ∷ bs) })))) in
+    (or_next (is_digit b) (lexemes.Token (number_of digits) (prefix_len is_digit (b ∷ bs))) (number_found digits) (record { is = punctuation_found (b ∷ bs) })))) in
     one.is

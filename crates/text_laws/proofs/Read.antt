@@ -10,7 +10,8 @@ use Rattle.fs_grammar.specs.declared.token.TokenKind.TheVariants.{End}
 use Rattle.fs_grammar.specs.declared.token.Token.{Token}
 use Rattle.fs_grammar.specs.Tokens.{refusal, fault_at}
 use Rattle.fs_grammar.specs.Grammar.{ParseState, at_start, step, finish, stop, next, reading}
-use Rattle.fs_lex.specs.Scan.{starts_expression, is_operator, counted, tokens_of}
+use Rattle.fs_grammar.specs.Operators.{is_operator, starts_expression}
+use Rattle.fs_lex.specs.Scan.{counted, tokens_of}
 use Rattle.text_laws.proofs.Operators.{operators_owed, step_costs}
 use Rattle.text_laws.proofs.Fit.{IsFit, step_keeps, finish_fits}
 use Rattle.text_laws.proofs.Counted.{AreCounted, scan_counted}

@@ -1,6 +1,6 @@
 -- What the scan makes of bytes are their tokens.
-use Rattle.std.proofs.Common.{◌≡◌, ℕ, zero, suc, ◌+◌, ◌-◌, ◌<◌, ◌≤◌, List, [], ◌∷◌, ◌++◌, length, take, drop, refl, sym, ap, subst, ◌∙◌, cond, inl, inr, append_assoc, append-nil, arith, length-drop}
-use Rattle.std.specs.Prelude.{Bool, true, false, not, ◌&&◌, ◌||◌, ◌⊎◌, ◌==◌, nat_le, IsTrue, Option, Some, None}
+use Rattle.std.proofs.Common.{◌≡◌, ℕ, zero, suc, ◌<◌, ◌≤◌, List, [], ◌∷◌, ◌++◌, length, take, drop, refl, sym, ap, subst, ◌∙◌, cond, inl, inr, append_assoc, append-nil, arith, length-drop}
+use Rattle.std.specs.Prelude.{Bool, true, false, not, ◌||◌, ◌⊎◌, ◌==◌, IsTrue, Option, Some, None}
 use Rattle.std.specs.List.{list_all, prefix_len}
 use Rattle.std.proofs.lemmas.Bool.{eqb-true}
 use Rattle.std.proofs.lemmas.List.{take-append-drop, length-take-le}
@@ -11,12 +11,12 @@ use Rattle.fs_grammar.specs.declared.token.TokenKind.TheVariants.{Bad, End}
 use Rattle.fs_grammar.specs.declared.token.Token.{Token}
 use Rattle.fs_lex.specs.declared.lexemes.Lexeme.{Lexeme}
 use Rattle.fs_lex.specs.declared.lexemes.Lexeme.TheVariants as lexemes
-use Rattle.fs_lex.specs.Lexemes.{is_space, is_in_comment, word_of, number_of, double_punctuation, single_punctuation, longest, punctuation_of, lexeme_of}
-use Rattle.fs_lex.specs.Scan.{after, moved, scan, is_past_limit, is_bad, counted, tokens_of}
-use Rattle.fs_lex.specs.Tokenization.{place_behind, StandsBefore, IsGap, nothing, blank, comment, IsLastGap, gap, open_comment, IsGapBefore, IsNext, ends_text, AreTokens}
+use Rattle.fs_lex.specs.Lexemes.{is_space, is_in_comment, word_of, number_of, double_punctuation, longest, punctuation_of, lexeme_of}
+use Rattle.fs_lex.specs.Scan.{moved, scan, is_past_limit, is_bad, counted, tokens_of}
+use Rattle.lex_laws.specs.Tokenization.{place_behind, StandsBefore, IsGap, nothing, blank, comment, IsLastGap, gap, open_comment, IsGapBefore, IsNext, ends_text, AreTokens}
 use Rattle.fs_lex.proofs.Scans.{blank_scans, token_scans}
-use Rattle.fs_lex.proofs.Places.{moved_behind}
-use Rattle.fs_lex.proofs.Standing.{StopsAt, IsRun, run, run_begins, word_stands, number_stands, IsOther, one_stands, first_stands, both_stand}
+use Rattle.lex_laws.proofs.Places.{moved_behind}
+use Rattle.lex_laws.proofs.Standing.{StopsAt, IsRun, run, run_begins, word_stands, number_stands, IsOther, one_stands, first_stands, both_stand}
 
 -- ---- one lexeme
 

@@ -8,7 +8,7 @@ use Rattle.fs_grammar.specs.declared.token.TokenKind.{TokenKind}
 use Rattle.fs_grammar.specs.declared.token.TokenKind.TheVariants.{Name, Number, Bad, End}
 use Rattle.fs_grammar.specs.declared.token.Token.{Token}
 use Rattle.fs_lex.specs.Lexemes.{is_space, is_in_comment}
-use Rattle.fs_lex.specs.Vocabulary.{reserved_kind, punctuation_kind, is_number, number_value, is_lexeme}
+use Rattle.lex_laws.specs.Vocabulary.{reserved_kind, punctuation_kind, is_number, number_value, is_lexeme}
 
 -- the place behind these bytes: its line is 1 plus the LFs among them, its column 1 plus the bytes after the last LF
 abbrev pub place_behind : List ℕ → TextPlace
@@ -81,3 +81,7 @@ pub record StandsIn (bytes : List ℕ) (t : Token) : Type 0 where
   pub bytes_are : bytes ≡ front ++ (own ++ rest)
   pub stands : StandsBefore t.kind own rest
   pub place : t.place ≡ place_behind front
+
+-- a token without its mark
+abbrev pub kind_and_place : Token → TokenKind × TextPlace
+kind_and_place t = (t.kind, t.place)

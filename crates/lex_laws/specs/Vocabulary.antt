@@ -1,9 +1,9 @@
 -- The words, numbers and punctuation of a text, said of their bytes alone.
-use Rattle.std.specs.Prelude.{◌≡◌, ℕ, ◌+◌, ◌*◌, ◌-◌, ◌^◌, ◌<◌, ◌≤◌, pos, Bool, true, false, ◌&&◌, ◌||◌, IsTrue, Option, Some, List, [], ◌∷◌, ◌++◌, length, codes, is_some}
+use Rattle.std.specs.Prelude.{ℕ, ◌+◌, ◌*◌, ◌-◌, ◌^◌, Bool, false, ◌&&◌, ◌||◌, Option, List, [], ◌∷◌, ◌++◌, length, codes, is_some}
 use Rattle.std.specs.List.{list_all}
 use Rattle.std.specs.Map.{lookup}
 use Rattle.std.specs.Str.{bytes_eq}
-use Rattle.fs_model.specs.Words.{is_digit, is_word, is_name}
+use Rattle.fs_model.specs.Words.{is_digit, is_word}
 use Rattle.fs_model.specs.declared.parts.Rel.TheVariants.{Eq, Ne, Lt, Le, Gt, Ge}
 use Rattle.fs_model.specs.declared.parts.Role.TheVariants.{Input, Output, Local}
 use Rattle.fs_grammar.specs.declared.token.TokenKind.{TokenKind}

@@ -1,12 +1,12 @@
 -- The place that the scan reaches is the place behind the bytes that it has taken.
-use Rattle.std.proofs.Common.{◌≡◌, ℕ, ◌+◌, List, [], ◌∷◌, ◌++◌, refl, sym, ap, ap₂, ◌∙◌, cond, append_assoc, append-nil, arith, reverse}
+use Rattle.std.proofs.Common.{◌≡◌, ℕ, ◌+◌, List, [], ◌∷◌, ◌++◌, sym, ap, ap₂, ◌∙◌, cond, append_assoc, append-nil, arith, reverse}
 use Rattle.std.specs.Prelude.{Bool, true, false, not, ◌==◌}
 use Rattle.std.specs.List.{count_by, prefix_len}
 use Rattle.std.proofs.lemmas.List.{reverse-append}
 use Rattle.std.proofs.lemmas.List.Sums.{sum_by_push}
 use Rattle.fs_grammar.specs.declared.fault.TextPlace.{TextPlace}
 use Rattle.fs_lex.specs.Scan.{after, moved}
-use Rattle.fs_lex.specs.Tokenization.{place_behind}
+use Rattle.lex_laws.specs.Tokenization.{place_behind}
 
 abbrev place_at : ℕ → ℕ → TextPlace
 place_at n m = record { line = n; column = m }

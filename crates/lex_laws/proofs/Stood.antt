@@ -1,9 +1,9 @@
 -- Where each token of a text stands.
-use Rattle.std.proofs.Common.{◌≡◌, ℕ, List, [], ◌∷◌, ◌++◌, refl, sym, ap, subst, ◌∙◌, append_assoc}
+use Rattle.std.proofs.Common.{◌≡◌, ℕ, List, [], ◌∷◌, ◌++◌, sym, ap, subst, ◌∙◌, append_assoc}
 use Rattle.fs_grammar.specs.declared.token.Token.{Token}
 use Rattle.fs_lex.specs.Scan.{tokens_of}
-use Rattle.fs_lex.specs.Tokenization.{IsNext, AreTokens, StandsIn}
-use Rattle.fs_lex.proofs.Tokenized.{tokenized}
+use Rattle.lex_laws.specs.Tokenization.{IsNext, AreTokens, StandsIn}
+use Rattle.lex_laws.proofs.Tokenized.{tokenized}
 
 next_stands : (front bytes : List ℕ) (t : Token) → IsNext front bytes t → StandsIn (front ++ bytes) t
 next_stands front bytes t n =

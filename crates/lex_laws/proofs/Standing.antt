@@ -3,19 +3,19 @@ use Rattle.std.proofs.Common.{◌≡◌, ℕ, suc, ◌+◌, ◌*◌, ◌-◌, �
 use native.Mathlib.Numerals.{unary_clauses}
 use Rattle.std.proofs.Math.Nat.{mul_comm}
 use Rattle.std.specs.Prelude.{pos, Bool, true, false, not, ◌&&◌, ◌||◌, ◌⊎◌, ◌==◌, nat_le, nat_lt, IsTrue, Option, Some, None, is_some, codes}
-use Rattle.std.specs.List.{list_all, list_any, prefix_len, fold}
+use Rattle.std.specs.List.{list_all, prefix_len, fold}
 use Rattle.std.specs.Map.{lookup}
 use Rattle.std.specs.Str.{bytes_eq}
 use Rattle.std.proofs.lemmas.Map.Made.{is_some-lookup}
-use Rattle.fs_model.specs.declared.parts.Rel.TheVariants.{Eq, Ne, Lt, Le, Gt, Ge}
+use Rattle.fs_model.specs.declared.parts.Rel.TheVariants.{Lt, Gt}
 use Rattle.fs_model.specs.Words.{is_letter, is_digit, is_word_byte, is_word, is_name, is_reserved}
 use Rattle.fs_grammar.specs.declared.token.TokenKind.{TokenKind}
-use Rattle.fs_grammar.specs.declared.token.TokenKind.TheVariants.{Name, Number, Semicolon, Colon, Comma, Equals, OpenParen, CloseParen, OpenBracket, CloseBracket, OpenBrace, CloseBrace, Plus, Minus, Star, Slash, Percent, Bang, AndAnd, OrOr, Relation, Bad, End}
+use Rattle.fs_grammar.specs.declared.token.TokenKind.TheVariants.{Name, Number, Semicolon, Colon, Comma, Equals, OpenParen, CloseParen, OpenBracket, CloseBracket, OpenBrace, CloseBrace, Plus, Minus, Star, Slash, Percent, Bang, Relation, Bad, End}
 use Rattle.fs_grammar.specs.declared.token.Flaw.TheVariants as flaws
-use Rattle.fs_lex.specs.Lexemes.{is_space, is_in_comment, keyword_of, name_or_bad, word_of, shifted, decimal, number_of, double_punctuation, mark, operator, or_operator, single_punctuation, longest, punctuation_of}
-use Rattle.fs_lex.specs.Vocabulary.{reserved_tokens, double_tokens, single_tokens, reserved_kind, punctuation_kind, is_number, number_value, is_lexeme}
-use Rattle.fs_lex.specs.Tokenization.{IsLongest, BeginsNothing, StandsBefore}
-use Rattle.fs_lex.proofs.Tables.{Table, false_unless, none_unless, lookup_left, lookup_right, other_length, so_of_key, so_of_token}
+use Rattle.fs_lex.specs.Lexemes.{is_space, keyword_of, name_or_bad, word_of, shifted, decimal, number_of, double_punctuation, mark, operator, or_operator, single_punctuation}
+use Rattle.lex_laws.specs.Vocabulary.{reserved_tokens, double_tokens, single_tokens, reserved_kind, punctuation_kind, is_number, number_value, is_lexeme}
+use Rattle.lex_laws.specs.Tokenization.{IsLongest, StandsBefore}
+use Rattle.lex_laws.proofs.Tables.{none_unless, lookup_left, lookup_right, other_length, so_of_key, so_of_token}
 
 -- ---- runs of bytes
 
@@ -47,7 +47,7 @@ run_begins p b bs e =
     let one : 1 + prefix_len p bs ≡ suc (prefix_len p bs) = omega arith in
     ap (λ (t : Bool). cond t (1 + prefix_len p bs) 0) e ∙ one
 
-and_false : (x : Bool) → (x && false) ≡ false
+pub and_false : (x : Bool) → (x && false) ≡ false
 and_false true = refl
 and_false false = refl
 
@@ -96,7 +96,7 @@ letter_is_word_byte b e = ap (λ (x : Bool). x || is_digit b) e
 digit_is_word_byte : (b : ℕ) → is_digit b ≡ true → is_word_byte b ≡ true
 digit_is_word_byte b e = ap (λ (x : Bool). is_letter b || x) e ∙ or_true (is_letter b)
 
-letter_no_digit : (b : ℕ) → is_letter b ≡ true → is_digit b ≡ false
+pub letter_no_digit : (b : ℕ) → is_letter b ≡ true → is_digit b ≡ false
 letter_no_digit b e = grind (arith, e)
 
 -- ---- words
@@ -137,7 +137,7 @@ name_stands : (own rest : List ℕ) (t : Bool) → is_name own ≡ t → IsTrue 
 name_stands own rest true e w r l = (refl, e, l)
 name_stands own rest false e w r l = (w, above (length own) (too_long (is_word own) (nat_le (length own) 32) (is_reserved own) w r e), l)
 
-reserved_tells : (own : List ℕ) → is_reserved own ≡ is_some (reserved_kind own)
+pub reserved_tells : (own : List ℕ) → is_reserved own ≡ is_some (reserved_kind own)
 reserved_tells own = sym (is_some-lookup (bytes_eq own) reserved_tokens)
 
 word_kind_stands : (own rest : List ℕ) (o : Option TokenKind) → reserved_kind own ≡ o → IsTrue (is_word own) → IsLongest own rest → StandsBefore (name_or_bad own o) own rest
