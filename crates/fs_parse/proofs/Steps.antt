@@ -1,6 +1,5 @@
 -- Readings that agree, and a token that is taken or refused.
 use Rattle.std.proofs.Common.{◌≡◌, ℕ, Bool, true, false, cond, List, [], ◌∷◌, Option, Some, None, Result, Ok, Err, refl, sym, ◌∙◌}
-use Rattle.fs_model.specs.declared.parts.Role.{Role}
 use Rattle.fs_model.specs.declared.parts.Role.TheVariants.{Output}
 use Rattle.fs_model.specs.declared.parts.Sort.TheVariants as sorts
 use Rattle.fs_model.specs.Terms.{Guard}
@@ -10,12 +9,13 @@ use Rattle.fs_grammar.specs.declared.fault.TextFault.{TextFault}
 use Rattle.fs_grammar.specs.declared.format.Format.{Format}
 use Rattle.fs_grammar.specs.declared.format.Format.TheVariants.{One, Two}
 use Rattle.fs_grammar.specs.declared.token.TokenKind.{TokenKind}
-use Rattle.fs_grammar.specs.declared.token.TokenKind.TheVariants.{Array, State, When, Goto, Emit, Port, Name, Number, OpenBracket, End}
+use Rattle.fs_grammar.specs.declared.token.TokenKind.TheVariants.{State, When, Goto, Emit, Port, Name, Number, End}
 use Rattle.fs_grammar.specs.declared.token.Token.{Token}
 use Rattle.fs_grammar.specs.Formats.{format_of}
 use Rattle.fs_grammar.specs.Tokens.{kind_at, line_at, refusal, accepted, ◌>>=◌}
-use Rattle.fs_grammar.specs.Ends.{IsNoIndex, EndsName, begins_transition, name_in}
-use Rattle.fs_grammar.specs.Grammar.{OpenState, OpenTransition, with_open_state, scalar, port, value, ParseState, at_format, at_semicolon, at_declaration, at_sort, at_declared, after_declared, at_reset, after_reset, at_state, at_state_name, after_state_name, at_transition, at_target, after_target, at_assignment, at_port, after_assignment_name, at_equals, at_sum, step_transition, step_format, in_format_two, step, finish, reading, with_names}
+use Rattle.fs_grammar.specs.Ends.{EndsName, begins_transition, name_in}
+use Rattle.fs_grammar.specs.Grammar.{OpenState, OpenTransition, with_open_state, scalar, port, value, ParseState, at_format, at_semicolon, at_declaration, at_declared, at_reset, after_reset, at_state, at_state_name, after_state_name, at_transition, at_target, after_target, at_assignment, at_port, after_assignment_name, at_equals, at_sum, step_transition, step_format, in_format_two, step, finish, reading}
+use Rattle.fs_grammar.proofs.PartEnds.{scalar_steps}
 use Rattle.fs_parse.specs.Beginnings.{IsNoEmit, format_in, format_at}
 
 -- two states read alike where each token leads both to the same, and both end alike
@@ -25,28 +25,9 @@ same_reading (t ∷ ts) a b h e = rw (h t.place.line t.kind refl, e) refl
 
 -- ---- what may be left out
 
-scalar_steps : (n : ℕ) (t : TokenKind) (o : OpenTransition) (x : List ℕ) → IsNoIndex (Some t) → step (after_assignment_name o x) n t ≡ step (at_equals o (scalar x)) n t
-scalar_steps n OpenBracket o x h = absurd h
-scalar_steps n _ o x h = refl
-
 -- a name without an index is a scalar that is assigned
 pub scalar_ends : (ts : List Token) (o : OpenTransition) (x : List ℕ) → EndsName ts → reading ts (after_assignment_name o x) ≡ reading ts (at_equals o (scalar x))
 scalar_ends ts o x h = same_reading ts (after_assignment_name o x) (at_equals o (scalar x)) (λ n t e. scalar_steps n t o x (rw e at h)) refl
-
-abbrev IsNoArray : Option TokenKind → Type 0
-IsNoArray (Some Array) = ⊥
-IsNoArray _ = Unit {0}
-
-scalar_declared : (n : ℕ) (t : TokenKind) (f : Format) (ds : List Declaration) (m : ℕ) (r : Role) → IsNoArray (Some t)
-    → step (at_sort f ds m r) n t ≡ step (at_declared f ds (record { line = m; role = r; sort = sorts.Scalar; names = [] })) n t
-scalar_declared n Array f ds m r h = absurd h
-scalar_declared n _ f ds m r h = refl
-
--- without the word `array` a declaration is of scalars
-pub no_array : (ts : List Token) (f : Format) (ds : List Declaration) (m : ℕ) (r : Role) → IsNoArray (kind_at ts)
-    → reading ts (at_sort f ds m r) ≡ reading ts (at_declared f ds (record { line = m; role = r; sort = sorts.Scalar; names = [] }))
-no_array ts f ds m r h =
-    same_reading ts (at_sort f ds m r) (at_declared f ds (record { line = m; role = r; sort = sorts.Scalar; names = [] })) (λ n t e. scalar_declared n t f ds m r (rw e at h)) refl
 
 -- where no transition begins, a state is done
 ended_steps : (n : ℕ) (t : TokenKind) (d : OpenState) → begins_transition (Some t) ≡ false → step_transition n t d ≡ step (at_state d.format (with_open_state d)) n t
@@ -174,6 +155,3 @@ pub name_reset : (ts : List Token) (f : Format) (ds : List Declaration) (m : ℕ
     → reading ts (at_reset f ds m) ≡ (name_in ts >>= λ x. reading x.1 (after_reset f (record { declarations = ds; reset_line = m; reset = x.0; states = [] })))
 name_reset ts f ds m =
     named_reading ts (at_reset f ds m) (λ x. after_reset f (record { declarations = ds; reset_line = m; reset = x; states = [] })) (λ n x. refl) (λ n. elim [ Name x ↦ λ i h. absurd h | _ ↦ λ i h. refl ]) refl
-
-pub name_declared : (ts : List Token) (f : Format) (ds : List Declaration) (d : Declaration) → reading ts (at_declared f ds d) ≡ (name_in ts >>= λ x. reading x.1 (after_declared f ds (with_names d (x.0 ∷ []))))
-name_declared ts f ds d = named_reading ts (at_declared f ds d) (λ x. after_declared f ds (with_names d (x ∷ []))) (λ n x. refl) (λ n. elim [ Name x ↦ λ i h. absurd h | _ ↦ λ i h. refl ]) refl

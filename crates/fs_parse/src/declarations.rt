@@ -1,6 +1,6 @@
 //! The declarations and the reset state of a text.
 
-ghost use Rattle.std.specs.Prelude.{◌≡◌, ◌<◌, ◌≤◌, ◌++◌, ◌∷◌, false, IsTrue, List, ℕ, Some, [], map, length, cond, IfOk};
+ghost use Rattle.std.specs.Prelude.{◌≡◌, ◌<◌, ◌≤◌, ◌++◌, ◌∷◌, false, IsTrue, List, ℕ, Some, [], map, length, IfOk};
 ghost use Rattle.fs_model.specs.declared.parts.Role.{Role};
 ghost use Rattle.fs_model.specs.declared.parts.Role.TheVariants.{Output};
 ghost use Rattle.fs_model.specs.declared.parts.Sort.TheVariants as sorts;
@@ -9,10 +9,11 @@ ghost use Rattle.fs_model.specs.View.{declaration_of};
 ghost use Rattle.fs_grammar.specs.declared.format.Format as formats;
 ghost use Rattle.fs_grammar.specs.declared.token.TokenKind.TheVariants as kinds;
 ghost use Rattle.fs_grammar.specs.Tokens.{ParsesOn, kind_at, line_at};
-ghost use Rattle.fs_grammar.specs.Grammar.{with_names, reading, at_declaration, at_sort, at_declared, after_declared, at_reset, at_state};
+ghost use Rattle.fs_grammar.specs.Grammar.{with_names, reading, at_declaration, at_sort, at_declared, at_reset, at_state};
 ghost use Rattle.fs_parse.specs.Beginnings.{begins_declaration};
 
-use crate::words::{name, semicolon};
+use crate::words::semicolon;
+use declaration_text::name;
 use fs_grammar::fault::ReadError;
 use fs_grammar::format::Format;
 use fs_grammar::token::{Token, TokenKind, accept, front, line_of, refuse};
@@ -20,47 +21,12 @@ use fs_model::name::Name;
 use fs_model::parts::{Decl, Role, Sort};
 use std::alloc::Global;
 
-// The word `array`, or nothing.
-#[tactic(auto, using(crate::proofs::Steps::no_array))]
+// The sort that a declaration says.
 fn sort(tokens: &[Token]) -> Result<(Sort, &[Token]), ReadError>
     ensures goes { (f : formats.Format) (ds : List Declaration) (n : ℕ) (r : Role) → ParsesOn result (reading tokens.now (at_sort f ds n r)) (λ x. reading x.1.now (at_declared f ds (record { line = n; role = r; sort = x.0; names = [] }))) }
     ensures shorter { IfOk result (λ x. length x.1.now ≤ length tokens.now) }
 {
-    match front(tokens) {
-        Some(TokenKind::Array) => {
-            let rest = accept(tokens)?;
-            Ok((Sort::Array, rest))
-        }
-        _ => Ok((Sort::Scalar, tokens)),
-    }
-}
-
-// A name that is declared.
-#[tactic(auto, using(crate::proofs::Steps::name_declared))]
-fn declared(alloc: Global, tokens: &[Token]) -> Result<(Name, &[Token]), ReadError>
-    ensures goes { (f : formats.Format) (ds : List Declaration) (d : Declaration) → ParsesOn result (reading tokens.now (at_declared f ds d)) (λ x. reading x.1.now (after_declared f ds (with_names d (x.0 ∷ [])))) }
-    ensures shorter { IfOk result (λ x. length x.1.now < length tokens.now) }
-{
-    let (name, rest) = name(alloc, tokens)?;
-    Ok((name, rest))
-}
-
-// What follows a declared name: whether it is a comma, and not the end of the declaration.
-fn separator(tokens: &[Token]) -> Result<(bool, &[Token]), ReadError>
-    ensures goes { (f : formats.Format) (ds : List Declaration) (d : Declaration) → ParsesOn result (reading tokens.now (after_declared f ds d)) (λ x. reading x.1.now (cond x.0 (at_declared f ds d) (at_declaration f (ds ++ d ∷ [])))) }
-    ensures shorter { IfOk result (λ x. length x.1.now < length tokens.now) }
-{
-    match front(tokens) {
-        Some(TokenKind::Comma) => {
-            let rest = accept(tokens)?;
-            Ok((true, rest))
-        }
-        Some(TokenKind::Semicolon) => {
-            let rest = accept(tokens)?;
-            Ok((false, rest))
-        }
-        _ => Err(refuse(tokens)),
-    }
+    declaration_text::sort(tokens)
 }
 
 // Names up to the end of their declaration.
@@ -68,17 +34,7 @@ fn names(alloc: Global, tokens: &[Token]) -> Result<(Vec<Name>, &[Token]), ReadE
     ensures goes { (f : formats.Format) (ds : List Declaration) (d : Declaration) → ParsesOn result (reading tokens.now (at_declared f ds d)) (λ x. reading x.1.now (at_declaration f (ds ++ with_names d x.0.items ∷ []))) }
     ensures shorter { IfOk result (λ x. length x.1.now < length tokens.now) }
 {
-    let mut all = Vec::new(alloc);
-    let mut rest = tokens;
-    loop {
-        let (one, after) = declared(alloc, rest)?;
-        all.push(one)?;
-        let (more, after) = separator(after)?;
-        if !more {
-            return Ok((all, after));
-        }
-        rest = after;
-    }
+    declaration_text::names(alloc, tokens)
 }
 
 fn begins_declaration(tokens: &[Token]) -> bool

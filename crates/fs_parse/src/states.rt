@@ -8,7 +8,8 @@ ghost use Rattle.fs_grammar.specs.Tokens.{Gives, ParsesOn};
 ghost use Rattle.fs_grammar.specs.Grammar.{with_states, reading, at_state, at_state_name, at_transition};
 
 use crate::transitions::transitions;
-use crate::words::{colon, name};
+use crate::words::colon;
+use declaration_text::name;
 use fs_grammar::fault::ReadError;
 use fs_grammar::format::Format;
 use fs_grammar::token::{Token, TokenKind, accept, front, line_of, refuse};

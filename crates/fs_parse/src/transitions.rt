@@ -13,7 +13,7 @@ ghost use Rattle.fs_parse.specs.Beginnings.{IsNoEmit};
 ghost use Rattle.fs_parse.specs.Destinations.{destination_of};
 
 use crate::expressions::{guard, sum};
-use crate::words::name;
+use declaration_text::name;
 use fs_grammar::fault::ReadError;
 use fs_grammar::format::Format;
 use fs_grammar::token::{Token, TokenKind, accept, front, line_of, refuse};

@@ -1,18 +1,15 @@
-//! The first tokens of a text, names, and single tokens.
+//! The first tokens of a text, and single tokens.
 
 ghost use Rattle.std.specs.Prelude.{◌≡◌, ◌<◌, [], length, IfOk};
 ghost use Rattle.fs_model.specs.Source.{Source};
 ghost use Rattle.fs_grammar.specs.declared.format.Format as formats;
-ghost use Rattle.fs_grammar.specs.Tokens.{Gives, ParsesOn};
-ghost use Rattle.fs_grammar.specs.Ends.{name_in};
+ghost use Rattle.fs_grammar.specs.Tokens.{ParsesOn};
 ghost use Rattle.fs_parse.specs.Beginnings.{format_at};
 ghost use Rattle.fs_grammar.specs.Grammar.{OpenState, reading, at_start, at_format, at_semicolon, at_declaration, after_reset, at_state, after_state_name, at_transition};
 
 use fs_grammar::fault::ReadError;
 use fs_grammar::format::Format;
 use fs_grammar::token::{Token, TokenKind, accept, front, refuse};
-use fs_model::name::Name;
-use std::alloc::Global;
 
 // The word `fsmd`.
 fn first_word(tokens: &[Token]) -> Result<&[Token], ReadError>
@@ -64,20 +61,6 @@ pub fn header(tokens: &[Token]) -> Result<(Format, &[Token]), ReadError>
     let (format, rest) = format(rest)?;
     let rest = head_end(rest)?;
     Ok((format, rest))
-}
-
-/// A name, and the tokens after it. An `Err` is a fault at the first token, or out of memory.
-pub fn name(alloc: Global, tokens: &[Token]) -> Result<(Name, &[Token]), ReadError>
-    ensures { Gives (λ x. (x.0, x.1.now)) result (name_in tokens.now) }
-{
-    match front(tokens) {
-        Some(TokenKind::Name(name)) => {
-            let name = name.try_clone(alloc)?;
-            let rest = accept(tokens)?;
-            Ok((name, rest))
-        }
-        _ => Err(refuse(tokens)),
-    }
 }
 
 /// The semicolon after the name of the reset state.

@@ -36,10 +36,10 @@ took w past_limit p ts s n r e f h = rw (f, e) h
 pub joined : {line free : ℕ} {s : ParseState} {r : Result Source TextFault} (a b rest : List ℕ) → Reads line free (a ++ (b ++ rest)) s r → Reads line free ((a ++ b) ++ rest) s r
 joined {line} {free} {s} {r} a b rest h = subst (λ (l : List ℕ). Reads line free l s r) (sym (append_assoc a b rest)) h
 
--- the token can be taken where so many operators are free, and remainder_of so many
+-- the token can be taken where so many operators are free, and leaves so many
 pub record Room (t : TokenKind) (free remains : ℕ) : Type 0 where
   pub fits : (m : ℕ) → m + free ≤ 128 → is_past_limit t m ≡ false
-  pub remainder_of : (m : ℕ) → m + free ≤ 128 → counted t m + remains ≤ 128
+  pub leaves : (m : ℕ) → m + free ≤ 128 → counted t m + remains ≤ 128
 
 plain_fits : (t : TokenKind) (m : ℕ) → is_operator t ≡ false → is_past_limit t m ≡ false
 plain_fits t m o = rw o refl
@@ -57,13 +57,13 @@ sign_counts : (t : TokenKind) (m : ℕ) → is_operator t ≡ true → starts_ex
 sign_counts t m o b = rw (b, o) refl
 
 pub plain_room : (t : TokenKind) (free : ℕ) → is_operator t ≡ false → starts_expression t ≡ false → Room t free free
-plain_room t free o b = record { fits = λ m g. plain_fits t m o; remainder_of = λ m g. rw (plain_counts t m o b) g }
+plain_room t free o b = record { fits = λ m g. plain_fits t m o; leaves = λ m g. rw (plain_counts t m o b) g }
 
 pub border_room : (t : TokenKind) (free : ℕ) → is_operator t ≡ false → starts_expression t ≡ true → Room t free 128
-border_room t free o b = record { fits = λ m g. plain_fits t m o; remainder_of = λ m g. rw (border_counts t m b) (omega arith) }
+border_room t free o b = record { fits = λ m g. plain_fits t m o; leaves = λ m g. rw (border_counts t m b) (omega arith) }
 
 pub punctuation_room : (t : TokenKind) (free remains : ℕ) → is_operator t ≡ true → starts_expression t ≡ false → remains < free → Room t free remains
-punctuation_room t free remains o b h = record { fits = λ m g. sign_fits t m free o (omega arith) g; remainder_of = λ m g. rw (sign_counts t m o b) (omega arith) }
+punctuation_room t free remains o b h = record { fits = λ m g. sign_fits t m free o (omega arith) g; leaves = λ m g. rw (sign_counts t m o b) (omega arith) }
 
 -- a space is passed
 pub space_reads : {line free : ℕ} {s : ParseState} {r : Result Source TextFault} (rest : List ℕ) → Reads line free rest s r → Reads line free (32 ∷ rest) s r

@@ -98,9 +98,9 @@ sum_of a b t op w through x y crosses follows no_index no_product done = record 
       let after : Reads line (operator_count + remains) (right ++ rest) (at_factor (first_factor (through k a))) r =
       (product_operand b y).reads line remains (operator_count + remains) rest u (at_factor (first_factor (through k a))) (through k a) r (omega arith) f i (λ n v e. refl) (product_ends u b (through k a) f p last)
       in
-      let past_limit : Reads line (suc (operator_count + remains)) (op ++ (right ++ rest)) (after_sum a k) r = crosses line (operator_count + remains) (suc (operator_count + remains)) (right ++ rest) a k r (omega arith) after in
+      let crossed : Reads line (suc (operator_count + remains)) (op ++ (right ++ rest)) (after_sum a k) r = crosses line (operator_count + remains) (suc (operator_count + remains)) (right ++ rest) a k r (omega arith) after in
       joined (term_text a) (op ++ right) rest
-      (rw (append_assoc op right rest) (x.sum.reads line (suc (operator_count + remains)) free (op ++ (right ++ rest)) w s k r (omega arith) (follows (right ++ rest)) no_index no_product g over));
+      (rw (append_assoc op right rest) (x.sum.reads line (suc (operator_count + remains)) free (op ++ (right ++ rest)) w s k r (omega arith) (follows (right ++ rest)) no_index no_product g crossed));
 }
 
 -- from a product over an operator to the factor after it
@@ -119,9 +119,9 @@ product_of a b t op w through x y crosses follows no_index done = record {
       let after : Reads line (operator_count + remains) (right ++ rest) (at_factor (through k a)) r =
       (factor_operand b y).reads line remains (operator_count + remains) rest u (at_factor (through k a)) (through k a) r (omega arith) f i (λ n v e. refl) last
       in
-      let past_limit : Reads line (suc (operator_count + remains)) (op ++ (right ++ rest)) (after_product a k) r = crosses line (operator_count + remains) (suc (operator_count + remains)) (right ++ rest) a k r (omega arith) after in
+      let crossed : Reads line (suc (operator_count + remains)) (op ++ (right ++ rest)) (after_product a k) r = crosses line (operator_count + remains) (suc (operator_count + remains)) (right ++ rest) a k r (omega arith) after in
       joined left (op ++ right) rest
-      (rw (append_assoc op right rest) ((product_operand a x).reads line (suc (operator_count + remains)) free (op ++ (right ++ rest)) w s k r (omega arith) (follows (right ++ rest)) no_index g over));
+      (rw (append_assoc op right rest) ((product_operand a x).reads line (suc (operator_count + remains)) free (op ++ (right ++ rest)) w s k r (omega arith) (follows (right ++ rest)) no_index g crossed));
 }
 
 -- ---- what a term is made of

@@ -100,7 +100,7 @@ one_token {line} {free} {remains} {r} b w rest t s n e a bad room f d = record {
       let scanned = token_scans ((b ∷ w) ++ rest) t (length (b ∷ w)) p m e (omega arith) len in
       ap (λ (ts : List Token). reading ts s) scanned
       ∙ took t (is_past_limit t m) p _ s n r (room.fits m g) f
-      (rw bad (ap₂ (λ (bs : List ℕ) (q : TextPlace). reading (scan bs 0 q (counted t m)) n) (drop-append_seam (b ∷ w) rest) there) ∙ d.so (column_after column (b ∷ w)) (counted t m) (room.remainder_of m g));
+      (rw bad (ap₂ (λ (bs : List ℕ) (q : TextPlace). reading (scan bs 0 q (counted t m)) n) (drop-append_seam (b ∷ w) rest) there) ∙ d.so (column_after column (b ∷ w)) (counted t m) (room.leaves m g));
 }
 
 third : (a b c : Bool) (u v w x : Lexeme) → a ≡ false → b ≡ false → c ≡ true → cond a u (cond b v (cond c w x)) ≡ w
