@@ -67,6 +67,11 @@ small_deep units depth t h k =
     ap (λ b. cond b (cond (nat_le depth depth_limit) (Done t) (Large units depth)) (Large units 0)) (le-leb units size_limit h)
     ∙ ap (λ b. cond b (Done t) (Large units depth)) (not_le depth depth_limit (λ e. omega arith))
 
+pub small_gives : {T : Type 0} (units depth : ℕ) (t : T) (P : T → Type 0) → (units ≤ size_limit → depth ≤ depth_limit → P t) → IfDone (if_small units depth t) P
+small_gives units depth t P f =
+    by_test (λ o. IfDone o P) (cond (nat_le depth depth_limit) (Done t) (Large units depth)) (Large units 0) (nat_le units size_limit)
+    (λ e. by_test (λ o. IfDone o P) (Done t) (Large units depth) (nat_le depth depth_limit) (λ g. f (leb-true units size_limit e) (leb-true depth depth_limit g)) (λ g. tt)) (λ e. tt)
+
 module _ (p q raw : Polynomial) (weight units : ℕ) where
   within : weight ≤ weight_limit → operation p q weight units raw ≡ if_small units (depth_of (normal_form raw)) (normal_form raw)
   within h = ap (λ b. cond b (if_small units (depth_of (normal_form raw)) (normal_form raw)) (Wide (weight_of p) (weight_of q))) (le-leb weight weight_limit h)
