@@ -16,3 +16,5 @@ pub mod RawProducts
 pub mod Exact
 pub mod Values
 pub mod Constants
+pub mod Tidying
+pub mod Settling

@@ -2,3 +2,4 @@ pub mod Forms
 pub mod Operations
 pub mod OrderedSums
 pub mod Events
+pub mod Sameness

@@ -1,18 +1,22 @@
 //! Laws of sums. The functions do nothing.
 
 ghost use Rattle.std.specs.Prelude.{◌≡◌, ℤ, ◌+ℤ◌, ◌-ℤ◌, ◌*ℤ◌, neg_ℤ};
-ghost use Rattle.nf_terms.specs.Terms.{Polynomial};
+ghost use Rattle.nf_terms.specs.Terms.{Polynomial, ArrayTerm};
 ghost use Rattle.nf_terms.specs.Computed.{IfDone};
 ghost use Rattle.nf_terms.specs.Meaning.{value_of};
 ghost use Rattle.nf_terms.specs.Means.{IsNumberOf};
-ghost use Rattle.nf_terms.specs.Normal.{IsNormal};
-ghost use Rattle.nf_terms.specs.RawSums.{raw_sum, raw_difference, raw_product, raw_negation, SameSum, IsNormalFormOf};
+ghost use Rattle.nf_terms.specs.Lists.{ListTerm, IsNormalList};
+ghost use Rattle.nf_terms.specs.Normal.{IsNormal, IsNormalArray};
+ghost use Rattle.nf_terms.specs.RawSums.{raw_sum, raw_difference, raw_product, raw_negation, IsNormalFormOf};
+ghost use Rattle.nf_sums.specs.Sameness.{SameSum, SameArray, SameList};
 ghost use Rattle.nf_sums.specs.Operations.{added, subtracted, multiplied, negated, number};
 
-/// Normal sums that are the same raw sum are equal.
-#[tactic(auto, using(crate::proofs::Unique::unique_forms))]
+/// Normal forms that are the same are equal.
+#[tactic(auto, using(crate::proofs::Settling::equal_forms))]
 pub fn normal_forms_are_unique()
-    ensures { (p q : Polynomial) → IsNormal p → IsNormal q → SameSum p q → p ≡ q }
+    ensures sums { (p q : Polynomial) → IsNormal p → IsNormal q → SameSum p q → p ≡ q }
+    ensures arrays { (a b : ArrayTerm) → IsNormalArray a → IsNormalArray b → SameArray a b → a ≡ b }
+    ensures lists { (l m : ListTerm) → IsNormalList l → IsNormalList m → SameList l m → l ≡ m }
 {}
 
 /// What the operations give is the normal form of the raw sum.
