@@ -18,3 +18,4 @@ pub mod Values
 pub mod Constants
 pub mod Tidying
 pub mod Settling
+pub mod Given

@@ -62,7 +62,7 @@ atoms_of_monomials Zero h = refl
 atoms_of_monomials (Plus m c p) h =
     and_both (atoms_ordered m) (atoms_in_order p) (atoms_of_ordered m (and_left (ordered_monomial m) (monomials_ordered p) h)) (atoms_of_monomials p (and_right (ordered_monomial m) (monomials_ordered p) h))
 
-atoms_of_sum : (p q : Polynomial) → atoms_in_order p ≡ true → atoms_in_order q ≡ true → atoms_in_order (raw_sum p q) ≡ true
+pub atoms_of_sum : (p q : Polynomial) → atoms_in_order p ≡ true → atoms_in_order q ≡ true → atoms_in_order (raw_sum p q) ≡ true
 atoms_of_sum Zero q h k = k
 atoms_of_sum (Plus m c p) q h k =
     and_both (atoms_ordered m) (atoms_in_order (raw_sum p q)) (and_left (atoms_ordered m) (atoms_in_order p) h) (atoms_of_sum p q (and_right (atoms_ordered m) (atoms_in_order p) h) k)

@@ -2,6 +2,7 @@
 use Rattle.std.specs.Prelude.{◌≡◌, List, [], ◌∷◌}
 use Rattle.nf_terms.specs.Terms.{Atom, Monomial, Polynomial, ArrayTerm, Writes, Symbol, Read, Quotient, Remainder, One, Times, Zero, Plus, Over, NoWrites, Write}
 use Rattle.nf_terms.specs.Lists.{ListTerm}
+use Rattle.nf_terms.specs.Normal.{IsNormal}
 use Rattle.nf_terms.specs.RawSums.{total}
 use Rattle.nf_terms.specs.Tidied.{tidied}
 use Rattle.nf_sums.specs.Forms.{normal_form}
@@ -36,6 +37,11 @@ abbrev mutual
 -- raw sums: every bag of atoms has the same total coefficient in both, where atoms that are the same count as one
 pub record SameSum (p q : Polynomial) : Type 0 where
   pub totals : (bag : Monomial) → total bag (settled p) ≡ total bag (settled q)
+
+-- a normal sum that is the same as a raw sum
+pub record IsFormOf (p raw : Polynomial) : Type 0 where
+  pub normal : IsNormal p
+  pub same : SameSum p raw
 
 -- arrays: the tidied forms have one base and agree write by write
 pub record SameArray (a b : ArrayTerm) : Type 0 where

@@ -7,8 +7,8 @@ ghost use Rattle.nf_terms.specs.Meaning.{value_of};
 ghost use Rattle.nf_terms.specs.Means.{IsNumberOf};
 ghost use Rattle.nf_terms.specs.Lists.{ListTerm, IsNormalList};
 ghost use Rattle.nf_terms.specs.Normal.{IsNormal, IsNormalArray};
-ghost use Rattle.nf_terms.specs.RawSums.{raw_sum, raw_difference, raw_product, raw_negation, IsNormalFormOf};
-ghost use Rattle.nf_sums.specs.Sameness.{SameSum, SameArray, SameList};
+ghost use Rattle.nf_terms.specs.RawSums.{raw_sum, raw_difference, raw_product, raw_negation};
+ghost use Rattle.nf_sums.specs.Sameness.{IsFormOf, SameSum, SameArray, SameList};
 ghost use Rattle.nf_sums.specs.Operations.{added, subtracted, multiplied, negated, number};
 
 /// Normal forms that are the same are equal.
@@ -19,13 +19,13 @@ pub fn normal_forms_are_unique()
     ensures lists { (l m : ListTerm) → IsNormalList l → IsNormalList m → SameList l m → l ≡ m }
 {}
 
-/// What the operations give is the normal form of the raw sum.
-#[tactic(auto, using(crate::proofs::Exact::forms))]
+/// What the operations give is normal, and the same as the raw sum.
+#[tactic(auto, using(crate::proofs::Given::given))]
 pub fn operations_give_normal_forms()
-    ensures sum { (p q : Polynomial) → IsNormal p → IsNormal q → IfDone (added p q) (λ s. IsNormalFormOf s (raw_sum p q)) }
-    ensures difference { (p q : Polynomial) → IsNormal p → IsNormal q → IfDone (subtracted p q) (λ s. IsNormalFormOf s (raw_difference p q)) }
-    ensures product { (p q : Polynomial) → IsNormal p → IsNormal q → IfDone (multiplied p q) (λ s. IsNormalFormOf s (raw_product p q)) }
-    ensures negation { (p : Polynomial) → IsNormal p → IsNormalFormOf (negated p) (raw_negation p) }
+    ensures sum { (p q : Polynomial) → IsNormal p → IsNormal q → IfDone (added p q) (λ s. IsFormOf s (raw_sum p q)) }
+    ensures difference { (p q : Polynomial) → IsNormal p → IsNormal q → IfDone (subtracted p q) (λ s. IsFormOf s (raw_difference p q)) }
+    ensures product { (p q : Polynomial) → IsNormal p → IsNormal q → IfDone (multiplied p q) (λ s. IsFormOf s (raw_product p q)) }
+    ensures negation { (p : Polynomial) → IsNormal p → IsFormOf (negated p) (raw_negation p) }
 {}
 
 /// What the operations give means what was asked, in every pair of stores.
