@@ -1,4 +1,6 @@
 //! What stands at the front of a text: a blank, a comment or a token.
+//!
+//! A word, a number and punctuation are as long as they can be.
 
 ghost use Rattle.std.specs.Prelude.{◌≡◌, ◌<◌, ◌≤◌, ◌^◌, length, IfOk, SomeIff};
 ghost use Rattle.std.specs.List.{prefix_len};
@@ -15,19 +17,22 @@ use std::alloc::Global;
 // The greatest number of a text, 2^127 - 1.
 const GREATEST: u128 = 0x7fff_ffff_ffff_ffff_ffff_ffff_ffff_ffff;
 
-/// What stands at the front of a text, and how many bytes it takes.
+/// What stands at the front of a text, and how many bytes it takes: a blank or a comment, or a
+/// token.
 #[derive(Drop)]
 pub enum Lexeme {
     Blank(usize),
     Token(TokenKind, usize),
 }
 
+// Whether the byte separates tokens.
 fn is_space(b: u8) -> bool
     ensures { result ≡ is_space b }
 {
     b == b' ' || b == b'\t' || b == b'\r' || b == b'\n'
 }
 
+// The bytes up to the end of the line.
 fn comment_len(bytes: &[u8]) -> usize
     ensures is { result ≡ prefix_len is_in_comment bytes.now }
     ensures fits { result ≤ length bytes.now }
@@ -35,6 +40,7 @@ fn comment_len(bytes: &[u8]) -> usize
     bytes.iter().take_while(|b| **b != b'\n').count()
 }
 
+// The bytes with which a word goes on.
 fn word_len(bytes: &[u8]) -> usize
     ensures is { result ≡ prefix_len is_word_byte bytes.now }
     ensures fits { result ≤ length bytes.now }
@@ -42,6 +48,7 @@ fn word_len(bytes: &[u8]) -> usize
     bytes.iter().take_while(|b| is_word_byte(**b)).count()
 }
 
+// The digits at the front.
 fn digits_len(bytes: &[u8]) -> usize
     ensures is { result ≡ prefix_len is_digit bytes.now }
     ensures fits { result ≤ length bytes.now }
@@ -49,6 +56,7 @@ fn digits_len(bytes: &[u8]) -> usize
     bytes.iter().take_while(|b| is_digit(**b)).count()
 }
 
+// The token of a reserved word. `None` exactly when the word is not reserved.
 fn keyword(bytes: &[u8]) -> Option<TokenKind>
     ensures { result ≡ keyword_of bytes.now }
 {
@@ -84,6 +92,7 @@ fn keyword(bytes: &[u8]) -> Option<TokenKind>
     Some(kind)
 }
 
+// The token of a word: reserved, a name, or bad where it is too long.
 fn word(alloc: Global, bytes: &[u8]) -> Result<TokenKind, ReadError>
     ensures { MadeAs result (λ t. t ≡ word_of bytes.now) }
 {
@@ -113,6 +122,7 @@ fn value(bytes: &[u8]) -> Option<u128>
     Some(n)
 }
 
+// The token of a run of digits: a number, or bad where it is too large.
 #[tactic(auto, unfolding(crate::specs::Lexemes::number_of))]
 fn number(bytes: &[u8]) -> TokenKind
     ensures { result ≡ number_of bytes.now }
@@ -123,6 +133,7 @@ fn number(bytes: &[u8]) -> TokenKind
     }
 }
 
+// The token of two bytes of punctuation.
 fn double_punctuation(first: u8, second: u8) -> Option<TokenKind>
     ensures { result ≡ double_punctuation first second }
 {
@@ -137,6 +148,7 @@ fn double_punctuation(first: u8, second: u8) -> Option<TokenKind>
     }
 }
 
+// The token of a byte that groups or separates.
 fn mark(b: u8) -> Option<TokenKind>
     ensures { result ≡ mark b }
 {
@@ -155,6 +167,7 @@ fn mark(b: u8) -> Option<TokenKind>
     }
 }
 
+// The token of a byte that computes or compares, or that no token begins with.
 fn operator(b: u8) -> TokenKind
     ensures { result ≡ operator b }
 {
@@ -171,6 +184,7 @@ fn operator(b: u8) -> TokenKind
     }
 }
 
+// The token of one byte that is no letter, digit or blank.
 fn single_punctuation(b: u8) -> TokenKind
     ensures { result ≡ single_punctuation b }
 {
@@ -180,6 +194,7 @@ fn single_punctuation(b: u8) -> TokenKind
     }
 }
 
+// The longest punctuation at the front.
 fn punctuation(bytes: &[u8]) -> Lexeme
     requires { 0 < length bytes.now }
     ensures is { result ≡ punctuation_of bytes.now }
@@ -194,6 +209,7 @@ fn punctuation(bytes: &[u8]) -> Lexeme
     Lexeme::Token(single_punctuation(bytes[0]), 1)
 }
 
+// What stands at the front of some bytes. An `Err` is out of memory.
 pub(crate) fn next_lexeme(alloc: Global, bytes: &[u8]) -> Result<Lexeme, ReadError>
     requires { 0 < length bytes.now }
     ensures is { MadeAs result (λ l. l ≡ lexeme_of bytes.now) }

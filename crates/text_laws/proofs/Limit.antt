@@ -1,27 +1,31 @@
--- The fault Operators is at the first operator too many of one guard or one assignment.
-use Rattle.std.proofs.Common.{◌≡◌, ℕ, ◌+◌, ◌≤◌, List, [], ◌∷◌, ◌++◌, refl, sym, ap, subst, ◌∙◌, cond, inl, inr, append_assoc, arith}
-use Rattle.std.specs.Prelude.{Bool, true, false, ◌&&◌, ◌⊎◌, nat_le, Option, Some, None, Err, IsTrue}
+-- What is marked is an operator too many by the grammar, so what is read is spelled within the limit, and faults are where it says.
+use Rattle.std.proofs.Common.{◌≡◌, ℕ, ◌+◌, ◌≤◌, List, [], ◌∷◌, ◌++◌, refl, sym, ap, subst, ◌∙◌, cond, inl, inr, append_assoc, append-nil, arith}
+use Rattle.std.specs.Prelude.{Bool, true, false, ◌&&◌, ◌⊎◌, nat_le, Option, Some, None, Ok, Err, IsTrue}
 use Rattle.std.specs.List.{AllByRecursion}
 use Rattle.std.proofs.lemmas.Bool.{leb-true}
 use Rattle.std.proofs.lemmas.List.Sums.{sum_by-cons}
+use Rattle.fs_model.specs.Source.{Source}
+use Rattle.fs_grammar.specs.declared.format.Format.{Format}
 use Rattle.fs_grammar.specs.declared.fault.TextFault.{TextFault}
 use Rattle.fs_grammar.specs.declared.fault.TextKind.{TextKind}
 use Rattle.fs_grammar.specs.declared.fault.TextKind.TheVariants.{Operators}
 use Rattle.fs_grammar.specs.declared.token.Token.{Token}
 use Rattle.fs_grammar.specs.Grammar.{ParseState, at_start, reading}
 use Rattle.fs_grammar.specs.Operators.{is_operator, starts_expression}
-use Rattle.fs_grammar.specs.Tokens.{fault_at}
-use Rattle.grammar_laws.specs.Spelling.{Word}
-use Rattle.grammar_laws.specs.Beginnings.{BeginsFile}
+use Rattle.grammar_laws.specs.Spelling.{Word, IsFile}
+use Rattle.grammar_laws.specs.Beginnings.{file, BeginsFile}
 use Rattle.grammar_laws.specs.Expressions.{EndInExpression}
-use Rattle.grammar_laws.specs.Faults.{word_of, AreClear, CanFollow, StopsAt, IsWrong}
+use Rattle.grammar_laws.specs.Faults.{word_of, AreClear, CanFollow, Spells, StopsAt, IsWrong}
 use Rattle.grammar_laws.specs.Walks.{words, walk, on}
 use Rattle.grammar_laws.proofs.Beginning.{leads, walk_append, stuck}
-use Rattle.grammar_laws.proofs.Exact.{fault_is_first, first_is_fault}
+use Rattle.grammar_laws.proofs.Alternatives.{front_begins}
+use Rattle.grammar_laws.proofs.Exact.{read_is_spelled, spelled_is_read, fault_is_first, first_is_fault}
 use Rattle.grammar_laws.proofs.Expressions.{tokens_end}
 use Rattle.fs_lex.specs.Scan.{counted, is_past_limit, tokens_of}
-use Rattle.text_laws.specs.Limit.{operator_count, IsOneTooMany, ExceedsLimit}
-use Rattle.text_laws.proofs.Counted.{AreCounted, scan_counted}
+use Rattle.lex_laws.specs.Tokenization.{StandsIn}
+use Rattle.lex_laws.proofs.Stood.{stands_in_text}
+use Rattle.text_laws.specs.Limit.{operator_count, IsOneTooMany, KeepLimit, SpellWithin, IsWrongWithin, StopWithin}
+use Rattle.text_laws.proofs.Counted.{AreCounted, tokens_counted}
 use Rattle.text_laws.proofs.Ended.{tokens_ended}
 
 abbrev AreInside : List Token → Type 0
@@ -129,37 +133,7 @@ none_before before rest a b t n c o e x =
     let two : true ≡ false = sym yes ∙ no in
     cc
 
--- ---- from the fault to the token
-
-pub tokens_counted : (bytes : List ℕ) → AreCounted 0 (tokens_of bytes)
-tokens_counted bytes = scan_counted bytes 0 (record { line = 1; column = 1 }) 0
-
-abbrev fault_of_kind : ℕ → ℕ → TextKind → TextFault
-fault_of_kind l c k = record { line = l; column = c; kind = k }
-
-same_fault : (t : Token) (f : TextFault) → f.line ≡ t.place.line → f.column ≡ t.place.column → f.kind ≡ Operators → f ≡ fault_at t Operators
-same_fault t f l c k =
-    ap (λ (n : ℕ). fault_of_kind n f.column f.kind) l ∙ ap (λ (n : ℕ). fault_of_kind t.place.line n f.kind) c ∙ ap (λ (kind : TextKind). fault_of_kind t.place.line t.place.column kind) k
-
-stopped : (ts : List Token) (f : TextFault) → AreCounted 0 ts → f.kind ≡ Operators → StopsAt ts f → ExceedsLimit ts f
-stopped ts f c k s =
-    let wrong : IsWrong Operators (words s.before) s.token = subst (λ x. IsWrong x (words s.before) s.token) k s.wrong in
-    let here : AreCounted 0 (s.before ++ s.token ∷ s.behind) = subst (AreCounted 0) s.parts c in
-    record {
-      before = s.before;
-      token = s.token;
-      behind = s.behind;
-      parts = s.parts;
-      follows = wrong.0;
-      excess = first_marked s.before s.token s.behind 0 here s.clear wrong.0 wrong.1;
-      first = λ a b t e x. none_before s.before (s.token ∷ s.behind) a b t 0 here s.clear e x;
-      fault = same_fault s.token f s.line s.column k;
-    }
-
-pub found : (bytes : List ℕ) (f : TextFault) → reading (tokens_of bytes) at_start ≡ Err f → f.kind ≡ Operators → ExceedsLimit (tokens_of bytes) f
-found bytes f r k = stopped (tokens_of bytes) f (tokens_counted bytes) k (fault_is_first (tokens_of bytes) f (tokens_ended bytes) r)
-
--- ---- from the token to the fault
+-- ---- tokens that begin a file, none of them one too many, are not marked
 
 words_append : (a b : List Token) → words (a ++ b) ≡ words a ++ words b
 words_append [] b = refl
@@ -169,8 +143,8 @@ front_walks : (o : Option ParseState) (a b : List Word) → walk a at_start ≡ 
 front_walks None a b e h = absurd (stuck (a ++ b) (walk_append a b at_start ∙ ap (λ (o : Option ParseState). on o (walk b)) e) h)
 front_walks (Some s) a b e h = leads a s e
 
-front_begins : (a b : List Word) → BeginsFile (a ++ b) → BeginsFile a
-front_begins a b h = front_walks (walk a at_start) a b refl h
+front_of_file : (a b : List Word) → BeginsFile (a ++ b) → BeginsFile a
+front_of_file a b h = front_walks (walk a at_start) a b refl h
 
 -- the first token that is marked
 record IsFirstMark (ts : List Token) : Type 0 where
@@ -193,36 +167,111 @@ clear_or_marked : (ts : List Token) → AreClear ts ⊎ IsFirstMark ts
 clear_or_marked [] = inl tt
 clear_or_marked (t ∷ ts) = marks_or t.past_limit t ts refl (clear_or_marked ts)
 
-clear_before : (before rest : List Token) → AreCounted 0 (before ++ rest) → BeginsFile (words before) → ((a b : List Token) (t : Token) → before ≡ a ++ t ∷ b → IsOneTooMany a t → ⊥) → AreClear before ⊎ IsFirstMark before → AreClear before
+clear_before : (before rest : List Token) → AreCounted 0 (before ++ rest) → BeginsFile (words before) → KeepLimit before → AreClear before ⊎ IsFirstMark before → AreClear before
 clear_before before rest c h first (inl o) = o
 clear_before before rest c h first (inr m) =
     let counts : before ++ rest ≡ m.before ++ m.token ∷ (m.behind ++ rest) = ap (λ (l : List Token). l ++ rest) m.is ∙ append_assoc m.before (m.token ∷ m.behind) rest in
     let spelled : words before ≡ (words m.before ++ word_of m.token ∷ []) ++ words m.behind =
     ap words m.is ∙ words_append m.before (m.token ∷ m.behind) ∙ sym (append_assoc (words m.before) (word_of m.token ∷ []) (words m.behind)) in
-    let follows : CanFollow (words m.before) m.token = front_begins (words m.before ++ word_of m.token ∷ []) (words m.behind) (subst BeginsFile spelled h) in
+    let follows : CanFollow (words m.before) m.token = front_of_file (words m.before ++ word_of m.token ∷ []) (words m.behind) (subst BeginsFile spelled h) in
     absurd (first m.before m.behind m.token m.is (first_marked m.before m.token (m.behind ++ rest) 0 (subst (AreCounted 0) counts c) m.clear follows m.mark))
 
-exceeded : (ts : List Token) (f : TextFault) → AreCounted 0 ts → ExceedsLimit ts f → StopsAt ts f
-exceeded ts f c x =
-    let here : AreCounted 0 (x.before ++ x.token ∷ x.behind) = subst (AreCounted 0) x.parts c in
-    let starts : BeginsFile (words x.before) = front_begins (words x.before) (word_of x.token ∷ []) x.follows in
-    let mark : x.token.past_limit ≡ true = excess_marked x.before x.token x.behind 0 here x.excess in
-    let stop : StopsAt ts (fault_at x.token Operators) =
-    record {
-      before = x.before;
-      token = x.token;
-      behind = x.behind;
-      parts = x.parts;
-      begins = starts;
-      clear = clear_before x.before (x.token ∷ x.behind) here starts x.first (clear_or_marked x.before);
-      wrong = (x.follows, mark);
-      line = refl;
-      column = refl;
-    } in
-    subst (λ (g : TextFault). StopsAt ts g) (sym x.fault) stop
+keep_limit : (before rest : List Token) → AreCounted 0 (before ++ rest) → AreClear before → KeepLimit before
+keep_limit before rest c o a b t e x = none_before before rest a b t 0 c o e x
 
-pub only : (bytes : List ℕ) (f : TextFault) → ExceedsLimit (tokens_of bytes) f → reading (tokens_of bytes) at_start ≡ Err f
-only bytes f x = first_is_fault (tokens_of bytes) f (exceeded (tokens_of bytes) f (tokens_counted bytes) x)
+clear : (before rest : List Token) → AreCounted 0 (before ++ rest) → BeginsFile (words before) → KeepLimit before → AreClear before
+clear before rest c h k = clear_before before rest c h k (clear_or_marked before)
+
+-- ---- what is read
+
+spelled_within : (ts : List Token) (s : Source) → AreCounted 0 ts → Spells s ts → SpellWithin ts s
+spelled_within ts s c p =
+    record {
+      before = p.before;
+      token = p.token;
+      behind = p.behind;
+      parts = p.parts;
+      ends = p.ends;
+      format = p.format;
+      file = p.file;
+      limit = keep_limit p.before (p.token ∷ p.behind) (subst (AreCounted 0) p.parts c) p.clear;
+    }
+
+-- the words of a file begin a file
+whole_begins : (f : Format) (s : Source) (ws : List Word) → IsFile f s ws → BeginsFile ws
+whole_begins f s ws h = front_begins file ws [] (f, s, subst (λ (l : List Word). IsFile f s l) (sym (append-nil ws)) h)
+
+within_spelled : (ts : List Token) (s : Source) → AreCounted 0 ts → SpellWithin ts s → Spells s ts
+within_spelled ts s c p =
+    record {
+      before = p.before;
+      token = p.token;
+      behind = p.behind;
+      parts = p.parts;
+      ends = p.ends;
+      format = p.format;
+      file = p.file;
+      clear = clear p.before (p.token ∷ p.behind) (subst (AreCounted 0) p.parts c) (whole_begins p.format s (words p.before) p.file) p.limit;
+    }
+
+pub spelled_found : (bytes : List ℕ) (s : Source) → reading (tokens_of bytes) at_start ≡ Ok s → SpellWithin (tokens_of bytes) s
+spelled_found bytes s e = spelled_within (tokens_of bytes) s (tokens_counted bytes) (read_is_spelled s (tokens_of bytes) e)
+
+pub spelled_only : (bytes : List ℕ) (s : Source) → SpellWithin (tokens_of bytes) s → reading (tokens_of bytes) at_start ≡ Ok s
+spelled_only bytes s p = spelled_is_read s (tokens_of bytes) (within_spelled (tokens_of bytes) s (tokens_counted bytes) p)
+
+-- ---- what is refused
+
+wrong_within : (k : TextKind) (before : List Token) (token : Token) (behind : List Token) → AreCounted 0 (before ++ token ∷ behind) → AreClear before → IsWrong k (words before) token → IsWrongWithin k before token
+wrong_within Operators before token behind c o w = (w.0, first_marked before token behind 0 c o w.0 w.1)
+wrong_within _ before token behind c o w = w
+
+within_wrong : (k : TextKind) (before : List Token) (token : Token) (behind : List Token) → AreCounted 0 (before ++ token ∷ behind) → IsWrongWithin k before token → IsWrong k (words before) token
+within_wrong Operators before token behind c w = (w.0, excess_marked before token behind 0 c w.1)
+within_wrong _ before token behind c w = w
+
+stopped_within : (ts : List Token) (f : TextFault) → AreCounted 0 ts → StopsAt ts f → StopWithin ts f
+stopped_within ts f c s =
+    let here : AreCounted 0 (s.before ++ s.token ∷ s.behind) = subst (AreCounted 0) s.parts c in
+    record {
+      before = s.before;
+      token = s.token;
+      behind = s.behind;
+      parts = s.parts;
+      begins = s.begins;
+      limit = keep_limit s.before (s.token ∷ s.behind) here s.clear;
+      wrong = wrong_within f.kind s.before s.token s.behind here s.clear s.wrong;
+      line = s.line;
+      column = s.column;
+    }
+
+within_stopped : (ts : List Token) (f : TextFault) → AreCounted 0 ts → StopWithin ts f → StopsAt ts f
+within_stopped ts f c s =
+    let here : AreCounted 0 (s.before ++ s.token ∷ s.behind) = subst (AreCounted 0) s.parts c in
+    record {
+      before = s.before;
+      token = s.token;
+      behind = s.behind;
+      parts = s.parts;
+      begins = s.begins;
+      clear = clear s.before (s.token ∷ s.behind) here s.begins s.limit;
+      wrong = within_wrong f.kind s.before s.token s.behind here s.wrong;
+      line = s.line;
+      column = s.column;
+    }
+
+pub fault_found : (bytes : List ℕ) (f : TextFault) → reading (tokens_of bytes) at_start ≡ Err f → StopWithin (tokens_of bytes) f
+fault_found bytes f e = stopped_within (tokens_of bytes) f (tokens_counted bytes) (fault_is_first (tokens_of bytes) f (tokens_ended bytes) e)
+
+pub fault_only : (bytes : List ℕ) (f : TextFault) → StopWithin (tokens_of bytes) f → reading (tokens_of bytes) at_start ≡ Err f
+fault_only bytes f s = first_is_fault (tokens_of bytes) f (within_stopped (tokens_of bytes) f (tokens_counted bytes) s)
+
+pub fault_stands : (bytes : List ℕ) (f : TextFault) → reading (tokens_of bytes) at_start ≡ Err f → (s : StopWithin (tokens_of bytes) f) × StandsIn bytes s.token
+fault_stands bytes f e =
+    let s = fault_found bytes f e in
+    (s, stands_in_text bytes s.before s.behind s.token s.parts)
+
+-- ---- the mark
 
 pub mark_counts : (bytes : List ℕ) (before behind part : List Token) (t : Token) → tokens_of bytes ≡ before ++ t ∷ behind → EndInExpression before part → t.past_limit ≡ (is_operator t.kind && nat_le 128 (operator_count part))
 mark_counts bytes before behind part t e x = marked before part t behind 0 x (subst (AreCounted 0) e (tokens_counted bytes))

@@ -6,14 +6,14 @@ ghost use Rattle.std.specs.List.{All};
 ghost use Rattle.fs_model.specs.Source.{Source};
 ghost use Rattle.fs_model.specs.WellFormed.{is_well_formed};
 ghost use Rattle.fs_grammar.specs.declared.fault.TextFault.{TextFault};
-ghost use Rattle.fs_grammar.specs.declared.fault.TextKind.TheVariants.{Operators};
 ghost use Rattle.fs_grammar.specs.declared.token.Token.{Token};
 ghost use Rattle.fs_grammar.specs.Grammar.{at_start, reading};
 ghost use Rattle.fs_grammar.specs.Operators.{is_operator};
 ghost use Rattle.grammar_laws.specs.Expressions.{EndInExpression};
 ghost use Rattle.fs_lex.specs.Scan.{tokens_of};
+ghost use Rattle.lex_laws.specs.Tokenization.{StandsIn};
 ghost use Rattle.text_laws.specs.Kinds.{IsProper, end_once};
-ghost use Rattle.text_laws.specs.Limit.{operator_count, ExceedsLimit};
+ghost use Rattle.text_laws.specs.Limit.{operator_count, SpellWithin, StopWithin};
 
 /// What bytes read as is well formed: no number is negative, each declaration has a name, each port
 /// is an output, and each guard, assignment and emit has at most 128 operators and brackets that are
@@ -40,9 +40,22 @@ pub fn the_mark_counts_the_expression()
     ensures alone { (bytes : List ℕ) (before behind : List Token) (t : Token) → tokens_of bytes ≡ before ++ t ∷ behind → IsTrue t.past_limit → IsTrue (is_operator t.kind) }
 {}
 
-/// The fault Operators comes exactly at the first operator or opening bracket that can follow by the
-/// grammar and has 128 of them before it in the one guard or assignment that it stands in.
-pub fn the_operators_fault_is_at_the_first_too_many()
-    ensures found { (bytes : List ℕ) (f : TextFault) → reading (tokens_of bytes) at_start ≡ Err f → f.kind ≡ Operators → ExceedsLimit (tokens_of bytes) f }
-    ensures only { (bytes : List ℕ) (f : TextFault) → ExceedsLimit (tokens_of bytes) f → reading (tokens_of bytes) at_start ≡ Err f }
+/// A text reads as a source exactly where its tokens up to the end spell it and each guard and
+/// assignment of the text has at most 128 operators and opening brackets.
+pub fn what_is_read_is_spelled_within_the_limit()
+    ensures found { (bytes : List ℕ) (s : Source) → reading (tokens_of bytes) at_start ≡ Ok s → SpellWithin (tokens_of bytes) s }
+    ensures only { (bytes : List ℕ) (s : Source) → SpellWithin (tokens_of bytes) s → reading (tokens_of bytes) at_start ≡ Ok s }
+{}
+
+/// A text is refused exactly at its first token that is faulty by itself, cannot follow, or can and
+/// is the 129th operator or opening bracket of one guard or one assignment.
+pub fn the_fault_is_at_the_first_wrong_token_of_a_text()
+    ensures found { (bytes : List ℕ) (f : TextFault) → reading (tokens_of bytes) at_start ≡ Err f → StopWithin (tokens_of bytes) f }
+    ensures only { (bytes : List ℕ) (f : TextFault) → StopWithin (tokens_of bytes) f → reading (tokens_of bytes) at_start ≡ Err f }
+{}
+
+/// The place of a fault is that of the first byte of a token in the text, and of Ended the end of the
+/// bytes: its line is 1 plus the LFs before it, its column 1 plus the bytes after the last of these.
+pub fn a_fault_has_its_place_in_the_text()
+    ensures { (bytes : List ℕ) (f : TextFault) → reading (tokens_of bytes) at_start ≡ Err f → (s : StopWithin (tokens_of bytes) f) × StandsIn bytes s.token }
 {}

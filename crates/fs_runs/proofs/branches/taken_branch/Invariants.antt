@@ -4,7 +4,7 @@ use Rattle.fs_model.specs.Touched.{AllInRange}
 use Rattle.fs_model.specs.View.{branch_of}
 use Rattle.fs_runs.specs.Values.{store_from}
 use Rattle.fs_runs.specs.Reads.{touched_by_branches, taken_branch}
-use Rattle.fs_runs.proofs.branches.open_branch.Given as goal
+use Rattle.fs_runs.proofs.branches.taken_branch.Given as goal
 
 abbrev pub invariant-loop-branch : goal.invariant-loop-branch
 invariant-loop-branch l = record {
