@@ -10,12 +10,13 @@ ghost use Rattle.fs_lex.specs.Lexemes.{is_space, is_in_comment, keyword_of, word
 
 use fs_grammar::fault::ReadError;
 use fs_grammar::token::{Flaw, TokenKind};
+use fs_model::limits::NUMBER_LIMIT;
 use fs_model::name::{Name, is_digit, is_letter, is_word_byte};
 use fs_model::parts::{Rel, Role};
 use std::alloc::Global;
 
-// The greatest number of a text, 2^127 - 1.
-const GREATEST: u128 = 0x7fff_ffff_ffff_ffff_ffff_ffff_ffff_ffff;
+// The largest number of a text, without a sign.
+const GREATEST: u128 = NUMBER_LIMIT as u128;
 
 /// What stands at the front of a text, and how many bytes it takes: a blank or a comment, or a
 /// token.

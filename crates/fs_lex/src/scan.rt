@@ -1,6 +1,7 @@
 //! The tokens of a text, with their places.
 
 ghost use Rattle.std.specs.Prelude.{◌≡◌, ◌<◌, ◌≤◌, ◌+◌, ◌^◌, length};
+ghost use Rattle.fs_model.specs.Limits.{most_text_bytes};
 ghost use Rattle.fs_grammar.specs.Tokens.{MadeAs};
 ghost use Rattle.fs_grammar.specs.Operators.{is_operator, starts_expression};
 ghost use Rattle.fs_lex.specs.Scan.{moved, counted, is_past_limit, is_bad, tokens_of};
@@ -8,10 +9,8 @@ ghost use Rattle.fs_lex.specs.Scan.{moved, counted, is_past_limit, is_bad, token
 use crate::lexemes::{Lexeme, next_lexeme};
 use fs_grammar::fault::{ReadError, TextPlace};
 use fs_grammar::token::{Token, TokenKind};
+use fs_model::limits::OPERATOR_LIMIT;
 use std::alloc::Global;
-
-/// The most operators and opening brackets of one guard or one assignment.
-pub const OPERATOR_LIMIT: usize = 128;
 
 // Whether the limit counts the token: operators and opening brackets.
 fn is_operator(kind: &TokenKind) -> bool
@@ -67,7 +66,7 @@ fn counted(kind: &TokenKind, operators: usize) -> usize
 fn is_past_limit(kind: &TokenKind, operators: usize) -> bool
     ensures { result ≡ is_past_limit kind.now operators }
 {
-    is_operator(kind) && operators >= OPERATOR_LIMIT
+    is_operator(kind) && operators >= OPERATOR_LIMIT as usize
 }
 
 // The place behind some bytes.
@@ -102,7 +101,7 @@ fn moved(from: TextPlace, bytes: &[u8]) -> TextPlace
 /// assignment. An `Err` is out of memory.
 #[tactic(auto, using(crate::proofs::Scans::blank_scans, crate::proofs::Scans::token_scans))]
 pub fn tokens(alloc: Global, bytes: &[u8]) -> Result<Vec<Token>, ReadError>
-    requires { length bytes.now ≤ 1048576 }
+    requires { length bytes.now ≤ most_text_bytes }
     ensures { MadeAs result (λ v. v.items ≡ tokens_of bytes.now) }
 {
     let mut out = Vec::new(alloc);

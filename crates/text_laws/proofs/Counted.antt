@@ -1,8 +1,9 @@
 -- The tokens of a text are proper, the last one alone ends them, and operators are counted along them.
-use Rattle.std.proofs.Common.{◌≡◌, ℕ, zero, suc, ◌-◌, ◌^◌, ◌<◌, Bool, true, false, cond, List, [], ◌∷◌, ◌++◌, refl, sym, ap, subst, ◌∙◌, arith}
-use Rattle.std.specs.Prelude.{ℤ, pos, ◌≤ℤ◌, ◌<ℤ◌, not, ◌&&◌, IsTrue}
+use Rattle.std.proofs.Common.{◌≡◌, ℕ, zero, suc, ◌-◌, ◌≤◌, Bool, true, false, cond, List, [], ◌∷◌, ◌++◌, refl, sym, ap, subst, ◌∙◌, arith}
+use Rattle.std.specs.Prelude.{ℤ, pos, ◌≤ℤ◌, not, ◌&&◌, IsTrue}
 use Rattle.std.specs.List.{All, AllByRecursion}
 use Rattle.std.proofs.lemmas.List.Elements.{All-from_recursion}
+use Rattle.fs_model.specs.Limits.{most_number}
 use Rattle.fs_model.specs.Words.{is_name}
 use Rattle.fs_grammar.specs.declared.fault.TextPlace.{TextPlace}
 use Rattle.fs_grammar.specs.declared.token.TokenKind.{TokenKind}
@@ -39,11 +40,11 @@ scan_marked (b ∷ bs) zero p n = emitted_marked (lexeme_of (b ∷ bs)) p n (λ 
 
 -- ---- each token is proper, and the last one alone ends the text
 
-in_range : (v : ℕ) → v < 2 ^ 127 → (pos 0 ≤ℤ pos v) × (pos v <ℤ pos (2 ^ 127))
+in_range : (v : ℕ) → v ≤ most_number → (pos 0 ≤ℤ pos v) × (pos v ≤ℤ pos most_number)
 in_range v h = grind (arith, h)
 
-number_proper : (n : ℤ) (v : ℕ) → n ≡ pos v → v < 2 ^ 127 → (pos 0 ≤ℤ n) × (n <ℤ pos (2 ^ 127))
-number_proper n v e h = subst (λ (i : ℤ). (pos 0 ≤ℤ i) × (i <ℤ pos (2 ^ 127))) (sym e) (in_range v h)
+number_proper : (n : ℤ) (v : ℕ) → n ≡ pos v → v ≤ most_number → (pos 0 ≤ℤ n) × (n ≤ℤ pos most_number)
+number_proper n v e h = subst (λ (i : ℤ). (pos 0 ≤ℤ i) × (i ≤ℤ pos most_number)) (sym e) (in_range v h)
 
 stands_proper : (t : TokenKind) (own rest : List ℕ) → StandsBefore t own rest → IsProper t
 stands_proper (Name x) own rest h = subst (λ (bytes : List ℕ). IsTrue (is_name bytes)) (sym h.0) h.1

@@ -28,7 +28,7 @@ pub fn tokens_end_once()
     ensures { (bytes : List ℕ) → IsTrue (end_once (tokens_of bytes)) }
 {}
 
-/// Each name among the tokens is a name, and each number is below 2^127 and not negative.
+/// Each name among the tokens is a name, and each number is from 0 to 2^127 - 1.
 pub fn tokens_are_proper()
     ensures { (bytes : List ℕ) → All (λ t. IsProper t.kind) (tokens_of bytes) }
 {}
