@@ -3,6 +3,7 @@
 
 ghost use Rattle.std.specs.Prelude.{◌≤◌, length, IsTrue, IfOk};
 ghost use Rattle.std.specs.Result.{IfErr};
+ghost use Rattle.fs_model.specs.Limits.{most_text_bytes};
 ghost use Rattle.fs_model.specs.View.{source_of};
 ghost use Rattle.fs_model.specs.WellFormed.{is_well_formed};
 ghost use Rattle.fs_grammar.specs.Tokens.{Gives};
@@ -23,7 +24,7 @@ use std::alloc::Global;
 /// and column and what is wrong with it; `Operators` is at the first operator or opening bracket that has
 /// 128 of them before it in the one guard or assignment that it stands in. `NoMemory`: out of memory.
 pub fn read_parts(alloc: Global, bytes: &[u8]) -> Result<Parts, ReadError>
-    requires { length bytes.now ≤ 1048576 }
+    requires { length bytes.now ≤ most_text_bytes }
     ensures read { Gives source_of result (spelled bytes.now) }
     ensures spells { IfOk result (λ p. Spells (source_of p) (tokens_of bytes.now)) }
     ensures well_formed { IfOk result (λ p. IsTrue (is_well_formed (source_of p))) }
