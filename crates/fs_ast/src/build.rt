@@ -26,7 +26,7 @@ pub enum BuildError {
 }
 
 impl Machine {
-    /// The machine that parts spell, with guards made into decision trees. `Check` is the first broken
+    /// The machine that well-formed parts spell, with guards made into decision trees. `Check` is the first broken
     /// rule: the one of the least line, and of one line the first in the order of rules; the rules on
     /// branches and on endless lines are looked at only where all others are kept.
     pub fn build(alloc: Global, parts: &Parts) -> Result<Machine, BuildError>
@@ -46,7 +46,7 @@ impl Machine {
     }
 }
 
-/// The machine of parts that keep the rules that are looked at first.
+// The machine of parts that keep the rules that are looked at first.
 fn build_checked(alloc: Global, scope: Scope, parts: &Parts) -> Result<Machine, BuildError>
     requires scope { IsScopeOf (source_of parts.now) scope.vars.items scope.states }
     requires plain { plain_faults (source_of parts.now) ≡ [] }

@@ -1,4 +1,6 @@
-//! Machines from their parts: checks, numbers for names, and branches of decision trees.
+//! Machines from their parts: numbers for names, decision trees and their branches.
+//!
+//! The rules that parts keep stand in `fs_rules`; its definitions are passed on by `specs/`.
 #![tactic(auto)]
 
 pub mod build;

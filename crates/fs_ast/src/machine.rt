@@ -121,7 +121,7 @@ impl Machine {
     }
 }
 
-/// The branches of states.
+// The branches of states.
 fn all_branches(alloc: Global, states: &[State]) -> Result<Vec<Vec<Branch>>, NoMemory>
     ensures { IfOk result (λ out. map (λ b. map branch_of b.items) out.items ≡ map (λ s. branches_of s.lines) (map state_of states.now)) }
 {

@@ -30,7 +30,7 @@ pub struct State {
     pub lines: Vec<Transition>,
 }
 
-/// The guard of a transition, over the numbers of variables.
+// The guard of a transition, over the numbers of variables.
 #[tactic(auto, using(crate::proofs::Numbered::guard_numbered))]
 fn condition(
     alloc: Global,
@@ -46,7 +46,7 @@ fn condition(
     }
 }
 
-/// Assignments over the numbers of variables.
+// Assignments over the numbers of variables.
 fn assignments(
     alloc: Global,
     scope: &Scope,
@@ -58,7 +58,7 @@ fn assignments(
     Ok(renamed_assignments(alloc, assigns, scope)?)
 }
 
-/// A transition over numbers.
+// A transition over numbers.
 fn numbered_line(alloc: Global, scope: &Scope, line: &RawLine) -> Result<Transition, NoMemory>
     requires variables { length scope.now.vars.items ≤ most_variables }
     requires states { length scope.now.states ≤ most_states }
@@ -73,7 +73,7 @@ fn numbered_line(alloc: Global, scope: &Scope, line: &RawLine) -> Result<Transit
     })
 }
 
-/// Transitions over numbers.
+// Transitions over numbers.
 fn numbered_lines(
     alloc: Global,
     scope: &Scope,
@@ -90,7 +90,7 @@ fn numbered_lines(
     Ok(out)
 }
 
-/// A state over numbers.
+// A state over numbers.
 fn numbered_state(alloc: Global, scope: &Scope, state: &RawState) -> Result<State, NoMemory>
     requires variables { length scope.now.vars.items ≤ most_variables }
     requires states { length scope.now.states ≤ most_states }

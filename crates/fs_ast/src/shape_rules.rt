@@ -37,7 +37,7 @@ pub fn check_shapes(
     Ok(faults.first)
 }
 
-/// Notes each state that has too many branches.
+// Notes each state that has too many branches.
 fn note_forked(states: &[State], faults: &mut Faults)
     ensures { faults.new.first ≡ earliest faults.old.first (forked_faults (map placed_of states.now)) }
 {
@@ -47,7 +47,7 @@ fn note_forked(states: &[State], faults: &mut Faults)
     }
 }
 
-/// Notes states on endless lines.
+// Notes states on endless lines.
 fn note_endless(states: &[State], endless: &[usize], faults: &mut Faults)
     ensures { faults.new.first ≡ earliest faults.old.first (endless_faults (map placed_of states.now) endless.now) }
 {
@@ -56,7 +56,7 @@ fn note_endless(states: &[State], endless: &[usize], faults: &mut Faults)
     }
 }
 
-/// Notes a state on an endless line.
+// Notes a state on an endless line.
 fn note_endless_at(states: &[State], place: usize, faults: &mut Faults)
     ensures { faults.new.first ≡ earliest faults.old.first (endless_faults (map placed_of states.now) (place ∷ [])) }
 {
@@ -66,7 +66,7 @@ fn note_endless_at(states: &[State], place: usize, faults: &mut Faults)
     }
 }
 
-/// Where the first transition of each state leads.
+// Where the first transition of each state leads.
 fn first_targets(alloc: Global, states: &[State]) -> Result<Vec<usize>, NoMemory>
     ensures { IfOk result (λ next. next.items ≡ map (λ s. first_transition_target (state_of s).lines) states.now) }
 {
@@ -77,7 +77,7 @@ fn first_targets(alloc: Global, states: &[State]) -> Result<Vec<usize>, NoMemory
     Ok(next)
 }
 
-/// Where the first of some transitions leads.
+// Where the first of some transitions leads.
 fn first_transition_target(lines: &[Transition]) -> usize
     ensures { result ≡ first_transition_target (map line_of lines.now) }
 {
@@ -87,14 +87,14 @@ fn first_transition_target(lines: &[Transition]) -> usize
     }
 }
 
-/// Whether a state at a place cuts paths.
+// Whether a state at a place cuts paths.
 fn cuts(state: &State, place: usize, reset: usize) -> bool
     ensures { result ≡ (place == reset || nat_lt 1 (count_leaves (tree_of_transitions (state_of state.now).lines))) }
 {
     place == reset || count_leaves(state.lines.as_slice()) > 1
 }
 
-/// Whether each state cuts paths: the reset state does, and each that has more than one branch.
+// Whether each state cuts paths: the reset state does, and each that has more than one branch.
 fn cutpoints(alloc: Global, states: &[State], reset: usize) -> Result<Vec<bool>, NoMemory>
     ensures count { IfOk result (λ cut. length cut.items ≡ length states.now) }
     ensures cuts { IfOk result (λ cut. (q : ℕ) → q < length states.now → is_cut cut.items q ≡ is_cutpoint (skeleton (map placed_of states.now) reset) q) }

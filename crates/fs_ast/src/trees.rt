@@ -14,7 +14,7 @@ use fs_model::name::NoMemory;
 use fs_model::parts::{Assign, Branch, Guard, Lit, VarId};
 use std::alloc::Global;
 
-/// A decision tree over transitions.
+// A decision tree over transitions.
 #[derive(Drop)]
 enum DecisionTree<'a> {
     Fail,
@@ -33,7 +33,7 @@ pub fn count_leaves(lines: &[Transition]) -> u32
     count
 }
 
-/// How many leaves there are from one transition on.
+// How many leaves there are from one transition on.
 fn count_line(line: &Transition, rest: u32) -> u32
     ensures { result ≡ capped (leaves_by_condition (line_of line.now).guard 1 rest) }
 {
@@ -43,7 +43,7 @@ fn count_line(line: &Transition, rest: u32) -> u32
     }
 }
 
-/// How many leaves the tree of a guard has, from those of its two subtrees.
+// How many leaves the tree of a guard has, from those of its two subtrees.
 #[tactic(auto, using(crate::proofs::Leaves::capped_yes, crate::proofs::Leaves::capped_no))]
 fn count_guard(guard: &Guard<VarId>, on_yes: u32, on_no: u32) -> u32
     ensures { result ≡ capped (leaves_by (guard_of guard.now) on_yes on_no) }
@@ -67,7 +67,7 @@ pub fn branches(alloc: Global, lines: &[Transition]) -> Result<Vec<Branch>, NoMe
     Ok(out)
 }
 
-/// The tree of transitions.
+// The tree of transitions.
 fn tree_of_lines<'a>(alloc: Global, lines: &'a [Transition]) -> Result<DecisionTree<'a>, NoMemory>
     ensures { IfOk result (λ tree. tree_of tree ≡ tree_of_transitions (map line_of lines.now)) }
 {
@@ -83,7 +83,7 @@ fn tree_of_lines<'a>(alloc: Global, lines: &'a [Transition]) -> Result<DecisionT
     }
 }
 
-/// The tree of a guard over two subtrees.
+// The tree of a guard over two subtrees.
 fn tree_of_guard<'a>(
     alloc: Global,
     guard: &'a Guard<VarId>,
@@ -106,7 +106,7 @@ fn tree_of_guard<'a>(
     }
 }
 
-/// The tree of a literal over two subtrees.
+// The tree of a literal over two subtrees.
 fn tree_of_literal<'a>(
     alloc: Global,
     lit: &'a Lit<VarId>,
@@ -134,7 +134,7 @@ fn copy_tree<'a>(alloc: Global, tree: &DecisionTree<'a>) -> Result<DecisionTree<
     }
 }
 
-/// Adds the branches below a way. The way is as before.
+// Adds the branches below a way. The way is as before.
 fn walk(
     alloc: Global,
     tree: &DecisionTree,
@@ -162,7 +162,7 @@ fn walk(
     }
 }
 
-/// The branch that takes a transition at the end of a way.
+// The branch that takes a transition at the end of a way.
 fn branch(alloc: Global, way: &[Lit<VarId>], line: &Transition) -> Result<Branch, NoMemory>
     ensures { IfOk result (λ b. branch_of b ≡ record { literals = map literal_of way.now; assignments = (line_of line.now).assignments; target = (line_of line.now).target }) }
 {

@@ -19,7 +19,7 @@ abbrev pub is_word : List ℕ → Bool
 is_word [] = false
 is_word (b ∷ bytes) = is_letter b && list_all is_word_byte bytes
 
--- the words that are no names
+-- the words that are not names
 abbrev pub reserved_words : List (List ℕ)
 reserved_words =
     codes "fsmd" ∷ codes "input" ∷ codes "output" ∷ codes "local" ∷ codes "array" ∷ codes "reset" ∷ codes "state" ∷ codes "when" ∷ codes "goto"

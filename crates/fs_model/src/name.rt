@@ -37,7 +37,7 @@ pub fn is_word_byte(b: u8) -> bool
     is_letter(b) || is_digit(b)
 }
 
-/// Whether all bytes are such as a word goes on with.
+// Whether all bytes are such as a word goes on with.
 fn are_word_bytes(bytes: &[u8]) -> bool
     ensures { result ≡ list_all is_word_byte bytes.now }
 {
@@ -54,7 +54,7 @@ pub fn is_word(bytes: &[u8]) -> bool
     }
 }
 
-/// Whether the bytes are a word of the language, which is no name.
+/// Whether the bytes are a word of the language, which is not a name.
 pub fn is_reserved(bytes: &[u8]) -> bool
     ensures { result ≡ is_reserved bytes.now }
 {
@@ -102,7 +102,7 @@ impl Model for Name {
 pub struct NoMemory;
 
 impl Name {
-    /// The name of these bytes. None exactly where they are no name.
+    /// The name of these bytes. `None` exactly when they are not a name.
     pub fn of(alloc: Global, bytes: &[u8]) -> Result<Option<Name>, NoMemory>
         ensures { IfOk result (λ o. MatchOption o (is_name bytes.now ≡ false) (λ n. (n ≡ bytes.now) × IsTrue (is_name bytes.now))) }
     {

@@ -121,21 +121,21 @@ fn is_or(guard: &Guard) -> bool
     matches!(guard, Guard::Or(..))
 }
 
-/// One opening bracket where it is needed.
+// One opening bracket where it is needed.
 fn bracket(needed: bool) -> u32
     ensures { result ≡ bracket needed }
 {
     if needed { 1 } else { 0 }
 }
 
-/// One more than the sum, as far as 32 bits go.
+// One more than the sum, as far as 32 bits go.
 fn one_more(a: u32, b: u32) -> u32
     ensures { result ≡ min (1 + (a + b)) 4294967295 }
 {
     a.saturating_add(b).saturating_add(1)
 }
 
-/// The operators and opening brackets of an expression's shortest text, as far as 32 bits go.
+// The operators and opening brackets of an expression's shortest text, as far as 32 bits go.
 fn operator_count(expr: &Expr<Name>) -> u32
     ensures { result ≡ min (operators_of_term (named_term expr.now)) 4294967295 }
 {
@@ -156,7 +156,7 @@ fn operator_count(expr: &Expr<Name>) -> u32
     }
 }
 
-/// The same of a guard, with braces for brackets.
+// The same of a guard, with braces for brackets.
 fn operators_of_guard(guard: &Guard) -> u32
     ensures { result ≡ min (operators_of_guard (named_guard guard.now)) 4294967295 }
 {
@@ -174,7 +174,7 @@ fn operators_of_guard(guard: &Guard) -> u32
     }
 }
 
-/// The same of an assignment.
+// The same of an assignment.
 fn operators_of_assign(assign: &Assign<Name>) -> u32
     ensures { result ≡ min (operators_of_assignment (named_assignment assign.now)) 4294967295 }
 {

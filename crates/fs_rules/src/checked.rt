@@ -39,7 +39,7 @@ pub fn check_parts(alloc: Global, parts: &Parts) -> Result<Checked, NoMemory>
     })
 }
 
-/// What parts declare. Names that are declared again or past a limit are noted.
+// What parts declare. Names that are declared again or past a limit are noted.
 fn declare(alloc: Global, parts: &Parts, faults: &mut Faults) -> Result<Scope, NoMemory>
     ensures scope { IfOk result (λ s. IsScopeOf (source_of parts.now) s.vars.items s.states) }
     ensures noted { OnOk result (faults.new.first ≡ earliest faults.old.first (name_faults (source_of parts.now))) }

@@ -12,7 +12,7 @@ pub struct Faults {
     pub first: Option<CheckFault>,
 }
 
-/// The place of a rule in the order of rules.
+// The place of a rule in the order of rules.
 fn rank(rule: CheckRule) -> u8
     ensures { result ≡ rank rule }
 {
@@ -32,7 +32,7 @@ fn rank(rule: CheckRule) -> u8
     }
 }
 
-/// Whether one broken rule comes before another.
+// Whether one broken rule comes before another.
 fn is_sooner(f: &CheckFault, g: &CheckFault) -> bool
     ensures { result ≡ is_sooner f.now g.now }
 {

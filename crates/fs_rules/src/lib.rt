@@ -1,4 +1,4 @@
-//! The rules that the parts of a machine keep, and what the parts declare.
+//! The rules that the parts of a machine keep, what the parts declare, and the first broken rule.
 #![tactic(auto)]
 
 pub mod check;

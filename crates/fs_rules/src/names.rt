@@ -87,7 +87,7 @@ impl NameTable {
     }
 }
 
-/// Where each name stands first. Each that stands a second time is noted.
+// Where each name stands first. Each that stands a second time is noted.
 fn first_places(
     alloc: Global,
     declared: &[Declared],
@@ -103,7 +103,7 @@ fn first_places(
     Ok(places)
 }
 
-/// Puts the place of a name where it stands first, and notes it where it doesn't.
+// Puts the place of a name where it stands first, and notes it where it doesn't.
 fn put_first(
     alloc: Global,
     places: &mut BTreeMap<Name, usize>,
@@ -122,7 +122,7 @@ fn put_first(
     put(places, name, place)
 }
 
-/// Puts the place of a name.
+// Puts the place of a name.
 fn put(places: &mut BTreeMap<Name, usize>, name: Name, place: usize) -> Result<(), NoMemory>
     ensures { OnOk result ((n : List ℕ) → get (slice_cmp nat_cmp) places.new n ≡ cond (is_at (slice_cmp nat_cmp name) n) (Some place) (get (slice_cmp nat_cmp) places.old n)) }
 {

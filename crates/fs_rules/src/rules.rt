@@ -32,7 +32,7 @@ pub struct Uses {
     pub wrong_sort: bool,
 }
 
-/// What is wrong with either.
+// What is wrong with either.
 fn either(a: Uses, b: Uses) -> Uses
     ensures { result ≡ either_of a b }
 {
@@ -43,7 +43,7 @@ fn either(a: Uses, b: Uses) -> Uses
 }
 
 impl Scope {
-    /// What is wrong with a use as a scalar.
+    // What is wrong with a use as a scalar.
     fn scalar_use(&self, name: &Name) -> Uses
         ensures { result ≡ uses_of self.now.vars.items (place (names_of self.now.vars.items) name.now ∷ []) [] [] }
     {
@@ -59,7 +59,7 @@ impl Scope {
         }
     }
 
-    /// What is wrong with a use as an array.
+    // What is wrong with a use as an array.
     fn array_use(&self, name: &Name) -> Uses
         ensures { result ≡ uses_of self.now.vars.items [] (place (names_of self.now.vars.items) name.now ∷ []) [] }
     {
@@ -75,7 +75,7 @@ impl Scope {
         }
     }
 
-    /// What is wrong with a use as a port.
+    // What is wrong with a use as a port.
     fn port_use(&self, name: &Name) -> Uses
         ensures { result ≡ uses_of self.now.vars.items [] [] (place (names_of self.now.vars.items) name.now ∷ []) }
     {
@@ -91,7 +91,7 @@ impl Scope {
         }
     }
 
-    /// What is wrong with the uses of an expression.
+    // What is wrong with the uses of an expression.
     #[tactic(auto, using(crate::proofs::Uses::either_terms))]
     fn expr_uses(&self, expr: &Expr<Name>) -> Uses
         ensures { let t = term_over (place (names_of self.now.vars.items)) (named_term expr.now) in result ≡ uses_of self.now.vars.items (scalars_in t) (arrays_in t) [] }
@@ -112,7 +112,7 @@ impl Scope {
         }
     }
 
-    /// What is wrong with the uses of a guard.
+    // What is wrong with the uses of a guard.
     #[tactic(auto, using(crate::proofs::Uses::either_terms))]
     fn guard_uses(&self, guard: &Guard) -> Uses
         ensures { let g = guard_over (place (names_of self.now.vars.items)) (named_guard guard.now) in result ≡ uses_of self.now.vars.items (scalars_in_guard g) (arrays_in_guard g) [] }
@@ -124,7 +124,7 @@ impl Scope {
         }
     }
 
-    /// What is wrong with the uses of an assignment.
+    // What is wrong with the uses of an assignment.
     #[tactic(auto, using(crate::proofs::Uses::either_terms, crate::proofs::Uses::either_port))]
     fn assign_uses(&self, assign: &Assign<Name>) -> Uses
         ensures { let a = assignment_over (place (names_of self.now.vars.items)) (named_assignment assign.now) in result ≡ uses_of self.now.vars.items (scalars_in_assignment a) (arrays_in_assignment a) (port_in a) }
@@ -139,7 +139,7 @@ impl Scope {
         }
     }
 
-    /// What is wrong with the uses of assignments.
+    // What is wrong with the uses of assignments.
     fn assigns_uses(&self, assigns: &[Assign<Name>]) -> Uses
         ensures { let l = map (assignment_over (place (names_of self.now.vars.items))) (map named_assignment assigns.now) in result ≡ uses_of self.now.vars.items (scalars_in_assignments l) (arrays_in_assignments l) (ports_in_assignments l) }
     {
@@ -153,7 +153,7 @@ impl Scope {
         uses
     }
 
-    /// What is wrong with the uses of a transition.
+    // What is wrong with the uses of a transition.
     #[tactic(auto, using(crate::proofs::Uses::either_line))]
     fn line_uses(&self, line: &RawLine) -> Uses
         ensures { let vs = self.now.vars.items in let l = line_spelled (names_of vs) (names_in self.now.states) (source_transition_of line.now) in
@@ -168,7 +168,7 @@ impl Scope {
 }
 
 impl Scope {
-    /// Whether an assignment changes an input.
+    // Whether an assignment changes an input.
     fn changes_input(&self, assign: &Assign<Name>) -> bool
         ensures { let a = assignment_over (place (names_of self.now.vars.items)) (named_assignment assign.now) in result ≡ input_at self.now.vars.items (changed_by a) }
     {
@@ -179,14 +179,14 @@ impl Scope {
         }
     }
 
-    /// Whether one of some assignments changes an input.
+    // Whether one of some assignments changes an input.
     fn some_changes_input(&self, assigns: &[Assign<Name>]) -> bool
         ensures { result ≡ list_any (λ a. input_at self.now.vars.items (changed_by a)) (map (assignment_over (place (names_of self.now.vars.items))) (map named_assignment assigns.now)) }
     {
         assigns.iter().any(|assign| self.changes_input(assign))
     }
 
-    /// Whether a scalar is assigned twice.
+    // Whether a scalar is assigned twice.
     fn assigns_twice(&self, alloc: Global, assigns: &[Assign<Name>]) -> Result<bool, NoMemory>
         ensures { IfOk result (λ twice. twice ≡ not (all_differ (assigned_in (map (assignment_over (place (names_of self.now.vars.items))) (map named_assignment assigns.now))))) }
     {
@@ -199,7 +199,7 @@ impl Scope {
         Ok(false)
     }
 
-    /// Whether a scalar is assigned that was seen before. Then it is seen.
+    // Whether a scalar is assigned that was seen before. Then it is seen.
     fn assigns_again(
         &self,
         assign: &Assign<Name>,
@@ -214,7 +214,7 @@ impl Scope {
         }
     }
 
-    /// Notes each rule that a transition breaks.
+    // Notes each rule that a transition breaks.
     fn check_line(&self, alloc: Global, line: &RawLine, faults: &mut Faults) -> Result<(), NoMemory>
         ensures { OnOk result (faults.new.first ≡ earliest faults.old.first
             (line_faults self.now.vars.items (length (names_in self.now.states)) line.now.line (line_spelled (names_of self.now.vars.items) (names_in self.now.states) (source_transition_of line.now)))) }
@@ -234,7 +234,7 @@ impl Scope {
         Ok(())
     }
 
-    /// Notes each rule that transitions break, each on its own.
+    // Notes each rule that transitions break, each on its own.
     fn check_lines(
         &self,
         alloc: Global,
@@ -249,7 +249,7 @@ impl Scope {
         Ok(())
     }
 
-    /// Notes each rule that a state breaks.
+    // Notes each rule that a state breaks.
     fn check_state(
         &self,
         alloc: Global,
@@ -280,7 +280,7 @@ impl Scope {
     }
 }
 
-/// Adds a number to a set, and tells whether it was there.
+// Adds a number to a set, and tells whether it was there.
 fn add(seen: &mut BTreeSet<usize>, place: usize) -> Result<bool, NoMemory>
     ensures was { IfOk result (λ was. was ≡ contains nat_cmp seen.old place) }
     ensures added { OnOk result ((q : ℕ) → contains nat_cmp seen.new q ≡ (contains nat_cmp seen.old q || place == q)) }
@@ -289,7 +289,7 @@ fn add(seen: &mut BTreeSet<usize>, place: usize) -> Result<bool, NoMemory>
     Ok(!is_new)
 }
 
-/// How many assignments are emits.
+// How many assignments are emits.
 fn emit_count(assigns: &[Assign<Name>]) -> usize
     ensures { result ≡ emit_count (map named_assignment assigns.now) }
 {
@@ -300,7 +300,7 @@ fn emit_count(assigns: &[Assign<Name>]) -> usize
     count
 }
 
-/// 1 of an emit, and 0 of another assignment.
+// 1 of an emit, and 0 of another assignment.
 fn emits_of(assign: &Assign<Name>) -> usize
     ensures emits { result ≡ emits_of (named_assignment assign.now) }
     ensures one { result ≤ 1 }
@@ -311,7 +311,7 @@ fn emits_of(assign: &Assign<Name>) -> usize
     }
 }
 
-/// Whether the last transition has a guard, or there is none.
+// Whether the last transition has a guard, or there is none.
 fn lacks_else(lines: &[RawLine]) -> bool
     ensures { result ≡ lacks_else (map source_transition_of lines.now) }
 {
@@ -321,7 +321,7 @@ fn lacks_else(lines: &[RawLine]) -> bool
     }
 }
 
-/// Notes each transition after one without guard.
+// Notes each transition after one without guard.
 fn note_after_else(lines: &[RawLine], faults: &mut Faults)
     ensures { faults.new.first ≡ earliest faults.old.first (at_lines AfterElse (after_else false (map source_transition_of lines.now))) }
 {

@@ -106,7 +106,7 @@ pub fn declare_variables(alloc: Global, decls: &[Decl]) -> Result<Variables, NoM
     Ok(out)
 }
 
-/// Adds the variables of one declaration.
+// Adds the variables of one declaration.
 fn declare(alloc: Global, decl: &Decl, out: &mut Variables) -> Result<(), NoMemory>
     ensures vars { OnOk result (out.new.vars.items ≡ out.old.vars.items ++ declared_by (declaration_of decl.now)) }
     ensures declared { OnOk result (map declared_of out.new.declared.items ≡ map declared_of out.old.declared.items ++ map (λ n. (decl.now.line, n)) decl.now.names.items) }
@@ -117,7 +117,7 @@ fn declare(alloc: Global, decl: &Decl, out: &mut Variables) -> Result<(), NoMemo
     Ok(())
 }
 
-/// Adds one variable of a declaration.
+// Adds one variable of a declaration.
 fn declare_one(alloc: Global, decl: &Decl, name: &Name, out: &mut Variables) -> Result<(), NoMemory>
     ensures vars { OnOk result (out.new.vars.items ≡ out.old.vars.items ++ record { name = name.now; role = decl.now.role; sort = decl.now.sort } ∷ []) }
     ensures declared { OnOk result (map declared_of out.new.declared.items ≡ map declared_of out.old.declared.items ++ (decl.now.line, name.now) ∷ []) }

@@ -11,21 +11,21 @@ ghost use Rattle.fs_rules.specs.declared.uncut_cycles.Verdict.TheVariants.{Ends}
 use fs_model::name::NoMemory;
 use std::alloc::Global;
 
-/// When a state was passed: in which walk, and after how many steps.
+// When a state was passed: in which walk, and after how many steps.
 #[derive(Clone, Copy)]
 struct Pass {
     walk: usize,
     step: usize,
 }
 
-/// Where a walk ended: at a cut, that many steps after its begin, or never.
+// Where a walk ended: at a cut, that many steps after its start, or never.
 #[derive(Clone, Copy)]
 enum Verdict {
     Ends(usize),
     Endless,
 }
 
-/// The walks so far, and the states that were found to lead back to themselves.
+// The walks so far, and the states that were found to lead back to themselves.
 #[derive(Drop)]
 struct Walks {
     passes: Vec<Option<Pass>>,
@@ -33,7 +33,7 @@ struct Walks {
     found: Vec<usize>,
 }
 
-/// Where a walk stopped, and after how many steps.
+// Where a walk stopped, and after how many steps.
 #[derive(Clone, Copy)]
 struct Stop {
     end: usize,
@@ -59,7 +59,7 @@ pub fn find_endless(alloc: Global, next: &[usize], cut: &[bool]) -> Result<Vec<u
     Ok(walks.found)
 }
 
-/// No state is passed.
+// No state is passed.
 fn none_passed(alloc: Global, count: usize) -> Result<Vec<Option<Pass>>, NoMemory>
     ensures none { IfOk result (λ out. (q : ℕ) → pass_at out.items q ≡ None) }
     ensures count { IfOk result (λ out. length out.items ≡ count) }
@@ -71,7 +71,7 @@ fn none_passed(alloc: Global, count: usize) -> Result<Vec<Option<Pass>>, NoMemor
     Ok(out)
 }
 
-/// Walks from a state, and settles where that leads.
+// Walks from a state, and settles where that leads.
 fn visit(next: &[usize], cut: &[bool], start: usize, walks: &mut Walks) -> Result<(), NoMemory>
     requires graph { IsGraph next.now cut.now }
     requires start { start < length next.now }
@@ -88,7 +88,7 @@ fn visit(next: &[usize], cut: &[bool], start: usize, walks: &mut Walks) -> Resul
     push(&mut walks.verdicts, verdict)
 }
 
-/// Passes states from one on, up to a cut or to a state that was passed.
+// Passes states from one on, up to a cut or to a state that was passed.
 fn take_walk(
     next: &[usize],
     cut: &[bool],
@@ -112,7 +112,7 @@ fn take_walk(
     Stop { end, steps }
 }
 
-/// Whether a walk goes on from a state.
+// Whether a walk goes on from a state.
 fn may_pass(cut: &[bool], passes: &Vec<Option<Pass>>, state: usize) -> bool
     requires cut { state < length cut.now }
     requires passes { state < length passes.now.items }
@@ -121,7 +121,7 @@ fn may_pass(cut: &[bool], passes: &Vec<Option<Pass>>, state: usize) -> bool
     !cut[state] && passes[state].is_none()
 }
 
-/// What a walk comes to.
+// What a walk comes to.
 fn judge(at_cut: bool, pass: Option<Pass>, steps: usize, verdicts: &[Verdict]) -> Verdict
     requires { (p : Pass) (total : ℕ) → pass ≡ Some p → slice_get verdicts.now p.walk ≡ Some (Ends total) → (p.step ≤ total) × (total + steps < 2 ^ 63) }
     ensures { result ≡ judged at_cut pass steps verdicts.now }
@@ -138,7 +138,7 @@ fn judge(at_cut: bool, pass: Option<Pass>, steps: usize, verdicts: &[Verdict]) -
     }
 }
 
-/// Adds the states of a round, where a walk closed one.
+// Adds the states of a round, where a walk closed one.
 fn add_round(
     next: &[usize],
     stop: Stop,
@@ -158,7 +158,7 @@ fn add_round(
     }
 }
 
-/// Adds the states of some steps.
+// Adds the states of some steps.
 fn add_trail(
     next: &[usize],
     start: usize,
