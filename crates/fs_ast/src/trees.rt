@@ -3,7 +3,7 @@
 ghost use Rattle.std.specs.Prelude.{◌≡◌, ◌++◌, map, IfOk};
 ghost use Rattle.std.specs.Result.{OnOk};
 ghost use Rattle.fs_model.specs.View.{literal_of, guard_of, assignment_of, branch_of};
-ghost use Rattle.fs_model.specs.Trees.{Node, tree_of_guard, tree_of_transitions, leaves, branches_of, count_leaves};
+ghost use Rattle.fs_model.specs.Trees.{Leaf, Node, tree_of_guard, tree_of_transitions, leaves, branches_of, count_leaves};
 ghost use Rattle.fs_ast.specs.Resolved.{line_of};
 ghost use Rattle.fs_ast.specs.Forks.{tree_of, leaves_by, leaves_by_condition, capped};
 
@@ -147,7 +147,7 @@ fn walk(
     match tree {
         DecisionTree::Fail => Ok(()),
         DecisionTree::Leaf(line) => {
-            out.push(branch(alloc, way.as_slice(), line)?)?;
+            add_branch(alloc, way.as_slice(), line, out)?;
             Ok(())
         }
         DecisionTree::Test(lit, on_yes, on_no) => {
@@ -160,6 +160,19 @@ fn walk(
             Ok(())
         }
     }
+}
+
+// Adds the branch that takes a transition at the end of a way.
+fn add_branch(
+    alloc: Global,
+    way: &[Lit<VarId>],
+    line: &Transition,
+    out: &mut Vec<Branch>,
+) -> Result<(), NoMemory>
+    ensures { OnOk result (map branch_of out.new.items ≡ map branch_of out.old.items ++ leaves (Leaf (line_of line.now).assignments (line_of line.now).target) (map literal_of way.now)) }
+{
+    out.push(branch(alloc, way, line)?)?;
+    Ok(())
 }
 
 // The branch that takes a transition at the end of a way.
