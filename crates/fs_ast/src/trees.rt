@@ -1,9 +1,11 @@
 //! Decision trees of transitions, and their branches.
 
-ghost use Rattle.std.specs.Prelude.{◌≡◌, ◌++◌, map, IfOk};
+ghost use Rattle.std.specs.Prelude.{◌≡◌, ◌++◌, ◌∷◌, [], List, map, IfOk};
+ghost use Rattle.fs_model.specs.declared.parts.VarId.{VarId};
+ghost use Rattle.fs_model.specs.declared.parts.Lit.{Lit as LitOf};
 ghost use Rattle.std.specs.Result.{OnOk};
 ghost use Rattle.fs_model.specs.View.{literal_of, guard_of, assignment_of, branch_of};
-ghost use Rattle.fs_model.specs.Trees.{Leaf, Node, tree_of_guard, tree_of_transitions, leaves, branches_of, count_leaves};
+ghost use Rattle.fs_model.specs.Trees.{Leaf, Node, tree_of_guard, tree_of_transitions, opposite, leaves, branches_of, count_leaves};
 ghost use Rattle.fs_ast.specs.Resolved.{line_of};
 ghost use Rattle.fs_ast.specs.Forks.{tree_of, leaves_by, leaves_by_condition, capped};
 
@@ -153,12 +155,21 @@ fn walk(
         DecisionTree::Test(lit, on_yes, on_no) => {
             way.push(lit.try_clone(alloc)?)?;
             walk(alloc, on_yes, way, out)?;
-            let _ = way.pop();
-            way.push(lit.negation(alloc)?)?;
+            negate_last(way);
             walk(alloc, on_no, way, out)?;
             let _ = way.pop();
             Ok(())
         }
+    }
+}
+
+// Turns the last literal of a way into its negation.
+fn negate_last(way: &mut Vec<Lit<VarId>>)
+    ensures { (front : List (LitOf VarId)) (last : LitOf VarId) → way.old.items ≡ front ++ last ∷ [] → way.new.items ≡ front ++ record { rel = opposite last.rel; left = last.left; right = last.right } ∷ [] }
+{
+    if let Some(mut last) = way.pop() {
+        last.rel = last.rel.negated();
+        way.push_reserved(last);
     }
 }
 
