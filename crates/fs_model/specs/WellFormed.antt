@@ -2,12 +2,9 @@
 use Rattle.std.specs.Prelude.{ℕ, ◌+◌, nat_le, ◌==◌, Bool, true, false, not, ◌&&◌, ◌||◌, cond, pos, int_lt, length, Option, Some, None}
 use Rattle.std.specs.List.{list_all}
 use Rattle.fs_model.specs.Runs.{is_output, is_port}
+use Rattle.fs_model.specs.Limits.{most_operators}
 use Rattle.fs_model.specs.Terms.{Term, Number, Variable, Read, Sum, Difference, Product, Quotient, Remainder, Negative, Guard, Test, Not, And, Or, Assignment, Assign, ArrayWrite, Emit}
 use Rattle.fs_model.specs.Source.{Declaration, SourceTransition, SourceState, Source}
-
--- the most operators and opening brackets of a guard or an assignment
-abbrev pub most_operators : ℕ
-most_operators = 128
 
 -- made by + or - between two operands
 abbrev pub is_sum : {X : Type 0} → Term X → Bool

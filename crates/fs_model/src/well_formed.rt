@@ -3,15 +3,12 @@
 
 ghost use Rattle.std.specs.Prelude.{◌≡◌, ◌+◌, min, ◌||◌, map, option_map};
 ghost use Rattle.std.specs.List.{list_all};
-ghost use Rattle.fs_model.specs.Runs.{is_output, is_port};
 ghost use Rattle.fs_model.specs.View.{named_term, named_guard, named_assignment, declaration_of, source_transition_of, source_state_of, source_of};
 ghost use Rattle.fs_model.specs.WellFormed.{is_sum, is_product, is_and, is_or, bracket, operators_of_term, operators_of_guard, operators_of_assignment, is_natural_term, is_natural_guard, is_natural_assignment, is_well_formed_condition, is_well_formed_assignment, is_well_formed_transition, is_well_formed_state, is_well_formed_declaration, is_well_formed};
 
+use crate::limits::OPERATOR_LIMIT;
 use crate::name::Name;
-use crate::parts::{Assign, Decl, Expr, Guard, Parts, RawLine, RawState, Role, Sort};
-
-/// The most operators and opening brackets of a guard or an assignment.
-pub const OPERATOR_LIMIT: u32 = 128;
+use crate::parts::{Assign, Decl, Expr, Guard, Parts, RawLine, RawState};
 
 impl Parts {
     /// Whether a text can spell these parts: no number is negative, each declaration has a name, and each
@@ -33,19 +30,7 @@ fn are_well_formed_declarations(decls: &[Decl]) -> bool
 fn is_well_formed_declaration(decl: &Decl) -> bool
     ensures { result ≡ is_well_formed_declaration (declaration_of decl.now) }
 {
-    !decl.names.is_empty() && (!is_port(decl.sort) || is_output(decl.role))
-}
-
-fn is_port(sort: Sort) -> bool
-    ensures { result ≡ is_port sort }
-{
-    matches!(sort, Sort::Port)
-}
-
-fn is_output(role: Role) -> bool
-    ensures { result ≡ is_output role }
-{
-    matches!(role, Role::Output)
+    !decl.names.is_empty() && (!decl.sort.is_port() || decl.role.is_output())
 }
 
 fn are_well_formed_states(states: &[RawState]) -> bool
