@@ -3,7 +3,7 @@
 ghost use Rattle.std.specs.Prelude.{◌≡◌, ◌++◌, ◌∷◌, [], Option, None, List, ℕ, map, option_map, IfOk, codes};
 ghost use Rattle.std.specs.Bool.{Decides};
 ghost use Rattle.std.specs.Result.{OnOk};
-ghost use Rattle.fs_pair.specs.Faces.{interface_fault};
+ghost use Rattle.fs_pair.specs.Interfaces.{interface_fault};
 ghost use Rattle.fs_runs.specs.Values.{content_of, entry, numbers_of};
 ghost use Rattle.fs_runs.specs.Outcomes.{output_names, told_by, HoldsEach};
 ghost use Rattle.fs_show.specs.Items.{AgreeOn, SameOutputs};
@@ -35,7 +35,7 @@ pub fn replay_text(
     right: &Machine,
     right_end: &Ended,
 ) -> Result<Replay, NoMemory>
-    requires faces { interface_fault left.now right.now ≡ None }
+    requires interfaces { interface_fault left.now right.now ≡ None }
     requires left_outputs { HoldsEach (told_by left.now left_end.now.outputs.items) (output_names left.now.variables) }
     requires right_outputs { HoldsEach (told_by right.now right_end.now.outputs.items) (output_names right.now.variables) }
     ensures same { IfOk result (λ r. Decides r.same (SameOutputs (told_by left.now left_end.now.outputs.items) (told_by right.now right_end.now.outputs.items))) }
