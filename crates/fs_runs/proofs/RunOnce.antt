@@ -1,14 +1,13 @@
 -- A run of a machine on inputs has one outcome.
-use Rattle.std.proofs.Common.{◌≡◌, ℕ, zero, suc, ◌-◌, ◌<◌, ◌≤◌, List, sym, ◌∙◌, ap, subst, arith}
+use Rattle.std.proofs.Common.{◌≡◌, ℕ, zero, suc, ◌-◌, ◌<◌, List, sym, ◌∙◌, ap, arith}
 use Rattle.fs_model.specs.Machines.{Fsmd}
 use Rattle.fs_model.specs.Stores.{Store}
 use Rattle.fs_model.specs.Runs.{Inputs, FirstReturn, start, output}
 use Rattle.fs_model.specs.Touched.{StaysInRange}
 use Rattle.fs_model.proofs.Determined.{goes_once}
 use Rattle.fs_model.proofs.Ranges.{stays_less, after_on}
-use Rattle.fs_runs.specs.declared.run.RunStop.{RunStop}
 use Rattle.fs_runs.specs.declared.run.RunStop.TheVariants.{StepsOver, PastWide, NoMemory}
-use Rattle.fs_runs.specs.Outcomes.{EndsWith, RunsOn, LeavesRange, IsStopped, IsOfRun}
+use Rattle.fs_runs.specs.Outcomes.{RunsOn, LeavesRange}
 use Rattle.fs_runs.specs.Laws.{OneEnd, OneStop, EndOrStop}
 
 -- a run that returns stays in range behind the return

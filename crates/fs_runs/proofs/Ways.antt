@@ -1,14 +1,12 @@
 -- The numbers that are touched where branches are tried in order are those of the way that is taken.
-use Rattle.std.proofs.Common.{◌≡◌, ℕ, Bool, true, false, cond, List, [], ◌∷◌, ◌++◌, refl, sym, ◌∙◌, ap, ap₂, subst, append-nil, append_assoc, arith}
-use Rattle.std.specs.Prelude.{not, ◌&&◌, ◌||◌, is_none, is_some, ℤ, Option, Some, None, option_map, map, filter, FitsSigned}
+use Rattle.std.proofs.Common.{◌≡◌, ℕ, Bool, true, false, cond, List, [], ◌∷◌, ◌++◌, refl, sym, ◌∙◌, ap, ap₂, subst, append-nil, append_assoc}
+use Rattle.std.specs.Prelude.{not, ◌&&◌, ◌||◌, is_none, ℤ, Option, Some, None, filter}
 use Rattle.std.proofs.lemmas.List.Folds.{list_all-append}
-use Rattle.fs_model.specs.declared.parts.Rel.{Rel}
-use Rattle.fs_model.specs.declared.parts.Rel.TheVariants.{Eq, Ne, Lt, Le, Gt, Ge}
 use Rattle.fs_model.specs.Terms.{Term, Number, Variable, Read, Sum, Difference, Product, Quotient, Remainder, Negative, Literal, Guard, Test, Not, And, Or, Assignment, Transition}
 use Rattle.fs_model.specs.Stores.{Store}
-use Rattle.fs_model.specs.Meaning.{value, relates, literal_holds, holds, condition_holds, transition_taken}
+use Rattle.fs_model.specs.Meaning.{literal_holds, holds, condition_holds, transition_taken}
 use Rattle.fs_model.specs.Touched.{touched_by_term, touched_by_guard, touched_by_condition, touched_by_assignments, touched_by_transitions, AllInRange}
-use Rattle.fs_model.specs.Trees.{Tree, Empty, Leaf, Node, tree_of_guard, tree_of_condition, tree_of_transitions, opposite, negated, Branch, leaves, branches_of, literals_hold}
+use Rattle.fs_model.specs.Trees.{Tree, Empty, Leaf, Node, tree_of_guard, tree_of_condition, tree_of_transitions, negated, Branch, leaves, branches_of, literals_hold}
 use Rattle.fs_model.proofs.Leaves.{opposite_holds}
 use Rattle.fs_ast.specs.Sound.{ends_open, is_open}
 use Rattle.fs_ast.specs.Open.{TakesOneBranch}

@@ -1,4 +1,4 @@
-use Rattle.std.proofs.Common.{◌≡◌, ℕ, ◌+◌, true, false, ◌∷◌, drop, subst, sym, ◌∙◌, ap}
+use Rattle.std.proofs.Common.{◌≡◌, ◌+◌, true, false, ◌∷◌, drop, subst, sym, ◌∙◌, ap}
 use Rattle.std.specs.Prelude.{map}
 use Rattle.fs_model.specs.Meaning.{literal_holds}
 use Rattle.fs_model.specs.Touched.{AllInRange}
