@@ -1,6 +1,6 @@
 -- What is left where one value of a store is replaced.
-use Rattle.std.proofs.Common.{◌≡◌, get_or, ℕ, zero, suc, List, [], ◌∷◌, ◌++◌, ◌<◌, ◌≤◌, ◌==◌, ◌+◌, ◌∙◌, ap, sym, refl, subst, length, take, drop, add-one, drop-cons, arith, cond, Bool, true, false, Option, Some, None}
-use Rattle.std.specs.Prelude.{ℤ, pos, ◌&&◌, slice_get, slice_set, map, option_map}
+use Rattle.std.proofs.Common.{◌≡◌, get_or, ℕ, zero, suc, List, [], ◌∷◌, ◌++◌, ◌<◌, ◌≤◌, ◌==◌, ◌+◌, ◌∙◌, ap, sym, refl, length, take, drop, add-one, drop-cons, arith, cond, Bool, true, false, Option, Some, None}
+use Rattle.std.specs.Prelude.{ℤ, ◌&&◌, slice_get, slice_set, map, option_map}
 use Rattle.std.specs.List.{list_all}
 use Rattle.std.specs.Ordering.{int_eq}
 use Rattle.std.proofs.lemmas.Bool.{cases_lt}
@@ -18,7 +18,7 @@ use Rattle.fs_runs.specs.declared.changes.Change.{Change}
 use Rattle.fs_runs.specs.declared.changes.Change.TheVariants.{Set, Put, Append}
 use Rattle.fs_runs.specs.declared.numbers.Numbers.{Numbers}
 use Rattle.fs_runs.specs.Values.{store_from, number_in, entry_in, list_in, sort_of, has_room}
-use Rattle.fs_runs.specs.Changes.{Alike, Puts, Appends, KeepsRoom, is_number, is_array, is_list, room_in, room_for, suits, is_ready, changed, changed_all}
+use Rattle.fs_runs.specs.Changes.{Alike, Puts, Appends, KeepsRoom, is_number, is_array, is_list, room_in, room_for, suits, is_ready}
 
 pub store_ext : (s t : Store) → ((x : ℕ) → s.scalar x ≡ t.scalar x) → ((x : ℕ) (i : ℤ) → s.array x i ≡ t.array x i) → ((x : ℕ) → s.port x ≡ t.port x) → s ≡ t
 store_ext s t p q r = λ k. record { scalar = λ x. p x k; array = λ x i. q x i k; port = λ x. r x k }

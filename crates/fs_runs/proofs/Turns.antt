@@ -1,9 +1,9 @@
 -- Runs, as a loop of steps goes along them.
-use Rattle.std.proofs.Common.{◌≡◌, ◌≢◌, ℕ, zero, suc, ◌+◌, ◌-◌, ◌≤◌, ◌<◌, refl, sym, ◌∙◌, ap, subst, ◌⊎◌, inl, inr, arith}
+use Rattle.std.proofs.Common.{◌≡◌, ◌≢◌, ℕ, zero, suc, ◌+◌, ◌-◌, ◌≤◌, ◌<◌, refl, sym, subst, ◌⊎◌, inl, inr, arith}
 use Rattle.std.proofs.lemmas.Bool.{cases_lt}
 use Rattle.fs_model.specs.Machines.{Fsmd}
 use Rattle.fs_model.specs.Stores.{Store}
-use Rattle.fs_model.specs.Runs.{Inputs, Step, AfterStep, ReachesReset, FirstReturn, Run, start, output}
+use Rattle.fs_model.specs.Runs.{Inputs, Step, ReachesReset, FirstReturn, Run, start, output}
 use Rattle.fs_model.specs.Touched.{touched, AllInRange, StaysInRange}
 use Rattle.std.specs.Prelude.{◌==◌, true, false, List, IfOk, Result, Ok, Err}
 use Rattle.std.proofs.lemmas.Bool.Decides.{nat_tests}

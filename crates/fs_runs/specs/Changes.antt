@@ -1,10 +1,8 @@
 -- What a step changes.
-use Rattle.std.specs.Prelude.{◌≡◌, ℕ, Bool, true, false, ◌&&◌, is_some, cond, ℤ, IsTrue, List, [], ◌∷◌, ◌++◌, length, map, Option, Some, None, slice_get}
+use Rattle.std.specs.Prelude.{◌≡◌, ℕ, Bool, true, false, is_some, cond, ℤ, IsTrue, List, [], ◌∷◌, ◌++◌, length, Option, Some, None, slice_get}
 use Rattle.std.specs.List.{list_all}
 use Rattle.std.specs.Ordering.{int_cmp, int_eq}
 use Rattle.std.specs.BTreeMap.{get}
-use Rattle.fs_model.specs.declared.parts.Sort.{Sort}
-use Rattle.fs_model.specs.declared.parts.Sort.TheVariants.{Scalar, Array}
 use Rattle.fs_model.specs.Terms.{Assignment, Assign, ArrayWrite, Emit}
 use Rattle.fs_model.specs.Stores.{Store, assigned, written, emitted}
 use Rattle.fs_model.specs.Meaning.{value}

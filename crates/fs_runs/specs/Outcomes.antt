@@ -6,7 +6,7 @@ use Rattle.fs_model.specs.declared.parts.VarInfo.{VarInfo}
 use Rattle.fs_model.specs.Machines.{Fsmd}
 use Rattle.fs_model.specs.Stores.{Store}
 use Rattle.fs_model.specs.Runs.{Inputs, Content, FirstReturn, Run, start, is_output}
-use Rattle.fs_model.specs.Touched.{touched, AllInRange, StaysInRange}
+use Rattle.fs_model.specs.Touched.{StaysInRange}
 use Rattle.fs_runs.specs.declared.step.StepStop.{StepStop}
 use Rattle.fs_runs.specs.declared.step.StepStop.TheVariants.{PastWide, NoMemory}
 use Rattle.fs_runs.specs.declared.run.RunStop.{RunStop}

@@ -1,5 +1,5 @@
 -- What the values of the code say.
-use Rattle.std.specs.Prelude.{◌≡◌, ℕ, ◌+◌, nat_le, Bool, false, ℤ, pos, List, [], Option, Some, None, map, slice_get, vec_len, vec_capacity}
+use Rattle.std.specs.Prelude.{◌≡◌, ℕ, ◌+◌, nat_le, Bool, ℤ, pos, List, [], Option, Some, None, map, slice_get, vec_len, vec_capacity}
 use Rattle.std.specs.Ordering.{int_cmp}
 use Rattle.std.specs.Option.{unwrap_or}
 use Rattle.std.specs.BTreeMap.{get}

@@ -1,6 +1,6 @@
 pub mod Listed
 pub mod Once
-pub mod Faces
+pub mod Interfaces
 pub mod Arrays
 pub mod Adds
 pub mod RunOnce

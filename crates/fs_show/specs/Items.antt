@@ -1,5 +1,5 @@
 -- What the outputs of a machine print as.
-use Rattle.std.specs.Prelude.{◌≡◌, ℕ, List, ◌++◌, Option, Some, IsSome, codes}
+use Rattle.std.specs.Prelude.{◌≡◌, ℕ, List, ◌++◌, Some, codes}
 use Rattle.std.specs.List.{AllByRecursion, AllZip}
 use Rattle.fs_model.specs.Runs.{Content}
 use Rattle.fs_runs.specs.Outcomes.{Outputs}

@@ -3,13 +3,13 @@
 ghost use Rattle.std.specs.Prelude.{◌≡◌, ◌++◌, ◌∷◌, [], Option, None, List, ℕ, map, option_map, IfOk, codes};
 ghost use Rattle.std.specs.Bool.{Decides};
 ghost use Rattle.std.specs.Result.{OnOk};
-ghost use Rattle.fs_pair.specs.Faces.{interface_fault};
+ghost use Rattle.fs_pair.specs.Interfaces.{interface_fault};
 ghost use Rattle.fs_runs.specs.Values.{content_of, entry, numbers_of};
 ghost use Rattle.fs_runs.specs.Outcomes.{output_names, told_by, HoldsEach};
 ghost use Rattle.fs_show.specs.Items.{AgreeOn, SameOutputs};
 ghost use Rattle.fs_show.specs.Ends.{IsReplayText, replay_text, side_line, after_space, verdict_line};
 
-use crate::items::{held, is_output, items};
+use crate::items::{held, items};
 use crate::shown::{append, joined};
 use fs_ast::machine::Machine;
 use fs_model::name::NoMemory;
@@ -35,7 +35,7 @@ pub fn replay_text(
     right: &Machine,
     right_end: &Ended,
 ) -> Result<Replay, NoMemory>
-    requires faces { interface_fault left.now right.now ≡ None }
+    requires interfaces { interface_fault left.now right.now ≡ None }
     requires left_outputs { HoldsEach (told_by left.now left_end.now.outputs.items) (output_names left.now.variables) }
     requires right_outputs { HoldsEach (told_by right.now right_end.now.outputs.items) (output_names right.now.variables) }
     ensures same { IfOk result (λ r. Decides r.same (SameOutputs (told_by left.now left_end.now.outputs.items) (told_by right.now right_end.now.outputs.items))) }
@@ -83,7 +83,7 @@ fn same_output(
 ) -> Result<bool, NoMemory>
     ensures { IfOk result (λ r. Decides r (AgreeOn (told_by left.now lefts.now) (told_by right.now rights.now) (output_names (variable.now ∷ [])))) }
 {
-    if !is_output(variable) {
+    if !variable.role.is_output() {
         return Ok(true);
     }
     let left_value = held(left, lefts, &variable.name);

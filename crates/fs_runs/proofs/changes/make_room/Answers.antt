@@ -1,4 +1,4 @@
-use Rattle.std.proofs.Common.{◌∙◌, take, get_or, length, ℕ}
+use Rattle.std.proofs.Common.{◌∙◌, take, length}
 use Rattle.std.specs.Prelude.{pos}
 use Rattle.fs_runs.specs.declared.changes.Change.TheVariants.{Set}
 use Rattle.fs_runs.specs.Changes.{suits, is_ready}

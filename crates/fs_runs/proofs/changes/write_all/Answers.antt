@@ -1,4 +1,4 @@
-use Rattle.std.proofs.Common.{◌≡◌, ◌∙◌, ap, sym, subst, drop, get_or, length, true, ◌+◌, ℕ, List}
+use Rattle.std.proofs.Common.{◌≡◌, ◌∙◌, ap, sym, subst, drop, get_or, length, true, ◌+◌, List}
 use Rattle.std.specs.Prelude.{pos}
 use Rattle.std.specs.List.{list_all}
 use Rattle.fs_runs.specs.declared.changes.Change.{Change}

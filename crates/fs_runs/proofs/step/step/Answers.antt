@@ -1,4 +1,4 @@
-use Rattle.std.proofs.Common.{◌≡◌, ◌<◌, length, sym, ◌∙◌, ap, subst}
+use Rattle.std.proofs.Common.{◌≡◌, length, sym, subst}
 use Rattle.std.proofs.Common.{rules}
 use Rattle.std.proofs.lemmas.Result.{err_from_is_err_and}
 use Rattle.std.proofs.lemmas.List.{with_items_is}

@@ -1,5 +1,5 @@
 -- The outputs of machines with the same interface.
-use Rattle.std.proofs.Common.{◌≡◌, ◌≢◌, ℕ, ◌+◌, Bool, true, false, cond, List, [], ◌∷◌, Option, refl, sym, ◌∙◌, ap, subst, inl, inr}
+use Rattle.std.proofs.Common.{◌≡◌, ◌≢◌, ℕ, Bool, true, false, cond, List, [], ◌∷◌, Option, refl, sym, ◌∙◌, ap, subst, inl, inr}
 use Rattle.std.specs.Prelude.{Some, None, is_some, IsSome, map, ◌&&◌, not, ◌⊎◌}
 use Rattle.std.specs.List.{filter, AllByRecursion}
 use Rattle.std.specs.Option.{option_or}
@@ -10,12 +10,11 @@ use Rattle.fs_model.specs.declared.parts.Role.{Role}
 use Rattle.fs_model.specs.declared.parts.Role.TheVariants.{Input, Output, Local}
 use Rattle.fs_model.specs.declared.parts.VarInfo.{VarInfo}
 use Rattle.fs_model.specs.Machines.{Fsmd}
-use Rattle.fs_model.specs.Stores.{Store}
-use Rattle.fs_model.specs.Runs.{Inputs, Content, Run, content, is_output, output_from}
+use Rattle.fs_model.specs.Runs.{Content, is_output}
 use Rattle.fs_runs.specs.declared.values.Value.{Value}
 use Rattle.fs_runs.specs.Values.{content_of}
 use Rattle.fs_runs.specs.Outcomes.{Outputs, output_names, told, told_by, HoldsEach}
-use Rattle.fs_pair.specs.Faces.{is_face, same_role, same_sort, named, is_like, lacks_match, first_unmatched, interface_fault}
+use Rattle.fs_pair.specs.Interfaces.{is_interface, same_role, same_sort, named, is_like, lacks_match, first_unmatched, interface_fault}
 use Rattle.fs_show.specs.Items.{SameOutputs}
 
 some_differs : {X : Type 0} (x : X) → Some x ≢ None
@@ -39,10 +38,10 @@ found P (v ∷ vs) name u is out all =
       | false ↦ λ _ q. found P vs name u q out (all_behind P v vs all)
     ] refl is
 
-face_of : (r : Role) → is_output r ≡ true → is_face r ≡ true
-face_of Input out = refl
-face_of Output out = refl
-face_of Local out = out
+interface_of : (r : Role) → is_output r ≡ true → is_interface r ≡ true
+interface_of Input out = refl
+interface_of Output out = refl
+interface_of Local out = out
 
 output_like : (r q : Role) → is_output r ≡ true → same_role r q ≡ true → is_output q ≡ true
 output_like Input q out same = absurd (false≢true out)
@@ -66,10 +65,10 @@ first_of true b h = refl
 first_of false b h = h
 
 -- what has a match, and is an output, has an output as its match
-partner : (v : VarInfo) (o : Option VarInfo) → is_output v.role ≡ true → (is_face v.role && not (is_like v o)) ≡ false → Partner o
-partner v None out match = absurd (false≢true (sym (subst (λ b. (b && true) ≡ false) (face_of v.role out) match)))
+partner : (v : VarInfo) (o : Option VarInfo) → is_output v.role ≡ true → (is_interface v.role && not (is_like v o)) ≡ false → Partner o
+partner v None out match = absurd (false≢true (sym (subst (λ b. (b && true) ≡ false) (interface_of v.role out) match)))
 partner v (Some u) out match =
-    let like : not (same_role v.role u.role && same_sort v.sort u.sort) ≡ false = subst (λ b. (b && not (same_role v.role u.role && same_sort v.sort u.sort)) ≡ false) (face_of v.role out) match in
+    let like : not (same_role v.role u.role && same_sort v.sort u.sort) ≡ false = subst (λ b. (b && not (same_role v.role u.role && same_sort v.sort u.sort)) ≡ false) (interface_of v.role out) match in
     record { variable = u; is = refl; out = output_like v.role u.role out (first_of (same_role v.role u.role) (same_sort v.sort u.sort) (turned (same_role v.role u.role && same_sort v.sort u.sort) like)) }
 
 -- what holds of the others' output names holds of those that have a match there
