@@ -8,14 +8,14 @@ ghost use Rattle.fs_cut.specs.Covers.{paths_of, points_of, cover_of};
 ghost use Rattle.fs_cut.specs.View.{point_of, path_of};
 
 use crate::cover::{Cover, Path, Point};
-use crate::walk::{is_fork, paths, push};
+use crate::memory::NoMemory;
+use crate::walk::{is_fork, paths};
 use fs_ast::machine::Machine;
-use fs_model::name::NoMemory;
 use fs_model::parts::StateId;
 use std::alloc::Global;
 
 /// The cover of a machine. Its size is that of all paths: each lists its states, and a state stands on
-/// as many paths as lead through it. `NoMemory` comes where memory is refused.
+/// as many paths as lead through it. The one refusal is out of memory.
 pub fn cover(alloc: Global, m: &Machine) -> Result<Cover, NoMemory>
     ensures { IfOk result (λ c. c ≡ cover_of m.now) }
 {
@@ -25,31 +25,31 @@ pub fn cover(alloc: Global, m: &Machine) -> Result<Cover, NoMemory>
     Ok(Cover::of(points, start, forks))
 }
 
-/// The points of a machine.
+// The points of a machine.
 fn points(alloc: Global, m: &Machine) -> Result<Vec<Point>, NoMemory>
     ensures { IfOk result (λ out. map point_of out.items ≡ points_of m.now) }
 {
     let mut out = Vec::new(alloc);
-    push(&mut out, Point::Start)?;
+    out.push(Point::Start)?;
     for state in 0..m.state_count() {
         push_fork(m, StateId(state), &mut out)?;
     }
-    push(&mut out, Point::Done)?;
+    out.push(Point::Done)?;
     Ok(out)
 }
 
-/// Adds the point of a state, if it has more than one branch and isn't the reset state.
+// Adds the point of a state, if it has more than one branch and isn't the reset state.
 fn push_fork(m: &Machine, state: StateId, out: &mut Vec<Point>) -> Result<(), NoMemory>
     requires { state.0 < length m.now.states }
     ensures { OnOk result (map point_of out.new.items ≡ map point_of out.old.items ++ cond (is_fork m.now state.0) (At state.0 ∷ []) []) }
 {
     if is_fork(m, state) {
-        push(out, Point::At(state))?;
+        out.push(Point::At(state))?;
     }
     Ok(())
 }
 
-/// The paths of a state that is a point, and none of another state.
+// The paths of a state that is a point, and none of another state.
 fn fork_paths(alloc: Global, m: &Machine, state: StateId) -> Result<Vec<Path>, NoMemory>
     requires { state.0 < length m.now.states }
     ensures { IfOk result (λ out. map path_of out.items ≡ cond (is_fork m.now state.0) (paths_of m.now (At state.0)) []) }
@@ -61,13 +61,13 @@ fn fork_paths(alloc: Global, m: &Machine, state: StateId) -> Result<Vec<Path>, N
     }
 }
 
-/// The paths of each state that is a point, by its number.
+// The paths of each state that is a point, by its number.
 fn all_forks(alloc: Global, m: &Machine) -> Result<Vec<Vec<Path>>, NoMemory>
     ensures { IfOk result (λ out. map (λ ps. map path_of ps.items) out.items ≡ map (λ q. cond (is_fork m.now q) (paths_of m.now (At q)) []) (range_with_len 0 (length m.now.states))) }
 {
     let mut out = Vec::new(alloc);
     for state in 0..m.state_count() {
-        push(&mut out, fork_paths(alloc, m, StateId(state))?)?;
+        out.push(fork_paths(alloc, m, StateId(state))?)?;
     }
     Ok(out)
 }

@@ -1,7 +1,7 @@
 use Rattle.std.proofs.Common.{◌<◌, ◌∙◌, arith, length, map}
 use Rattle.fs_cut.specs.View.{point_of}
 use Rattle.fs_cut.proofs.Loops.{points_more}
-use Rattle.fs_cut.proofs.build.points.Goals as goal
+use Rattle.fs_cut.proofs.make_cover.points.Goals as goal
 
 pub loop-state-preserved : goal.loop-state-preserved
 loop-state-preserved c =

@@ -2,7 +2,7 @@ use Rattle.std.proofs.Common.{◌≡◌, ◌++◌, length, map}
 use Rattle.fs_cut.specs.Covers.{points_of}
 use Rattle.fs_cut.specs.View.{point_of}
 use Rattle.fs_cut.proofs.Loops.{points_left}
-use Rattle.fs_cut.proofs.build.points.Given as goal
+use Rattle.fs_cut.proofs.make_cover.points.Given as goal
 
 abbrev pub invariant-loop-state : goal.invariant-loop-state
 invariant-loop-state l = record {

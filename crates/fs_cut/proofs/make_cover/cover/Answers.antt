@@ -3,7 +3,7 @@ use Rattle.fs_cut.specs.Paths.{Start}
 use Rattle.fs_cut.specs.Covers.{paths_by}
 use Rattle.fs_cut.specs.View.{point_of, path_of}
 use Rattle.fs_cut.proofs.Listed.{cover_is, lists_points}
-use Rattle.fs_cut.proofs.build.cover.Goals as goal
+use Rattle.fs_cut.proofs.make_cover.cover.Goals as goal
 
 pub of-requires : goal.of-requires
 of-requires c =

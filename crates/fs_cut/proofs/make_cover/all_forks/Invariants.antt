@@ -2,7 +2,7 @@ use Rattle.std.proofs.Common.{◌≡◌, ◌-◌, ◌++◌, length, map}
 use Rattle.std.specs.List.{range_with_len}
 use Rattle.fs_cut.specs.View.{path_of}
 use Rattle.fs_cut.proofs.Listed.{paths_at}
-use Rattle.fs_cut.proofs.build.all_forks.Given as goal
+use Rattle.fs_cut.proofs.make_cover.all_forks.Given as goal
 
 abbrev pub invariant-loop-state : goal.invariant-loop-state
 invariant-loop-state l = record {
