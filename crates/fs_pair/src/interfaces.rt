@@ -2,14 +2,14 @@
 
 ghost use Rattle.std.specs.Prelude.{◌≡◌, option_map};
 ghost use Rattle.std.specs.Option.{option_or};
-ghost use Rattle.fs_pair.specs.Faces.{is_face, same_role, same_sort, named, lacks_match, first_unmatched};
+ghost use Rattle.fs_pair.specs.Interfaces.{is_interface, same_role, same_sort, named, lacks_match, first_unmatched};
 
 use fs_model::name::Name;
 use fs_model::parts::{Role, Sort, VarInfo};
 
 /// Whether a variable of the role is an input or an output.
-pub fn is_face(role: Role) -> bool
-    ensures { result ≡ is_face role }
+pub fn is_interface(role: Role) -> bool
+    ensures { result ≡ is_interface role }
 {
     match role {
         Role::Input | Role::Output => true,
@@ -36,7 +36,7 @@ pub fn named<'a>(vars: &'a [VarInfo], name: &Name) -> Option<&'a VarInfo>
     ensures { option_map (λ v. v.now) result ≡ named vars.now name.now }
 {
     for variable in vars {
-        if variable.name.is(name) {
+        if variable.name == *name {
             return Some(variable);
         }
     }
@@ -47,7 +47,7 @@ pub fn named<'a>(vars: &'a [VarInfo], name: &Name) -> Option<&'a VarInfo>
 pub fn lacks_match(others: &[VarInfo], variable: &VarInfo) -> bool
     ensures { result ≡ lacks_match others.now variable.now }
 {
-    if !is_face(variable.role) {
+    if !is_interface(variable.role) {
         return false;
     }
     match named(others, &variable.name) {

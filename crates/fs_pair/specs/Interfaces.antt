@@ -5,15 +5,15 @@ use Rattle.std.specs.Str.{bytes_eq}
 use Rattle.fs_model.specs.declared.parts.Role.{Role}
 use Rattle.fs_model.specs.declared.parts.Role.TheVariants.{Input, Output, Local}
 use Rattle.fs_model.specs.declared.parts.Sort.{Sort}
-use Rattle.fs_model.specs.declared.parts.Sort.TheVariants.{Scalar, Array}
+use Rattle.fs_model.specs.declared.parts.Sort.TheVariants.{Scalar, Array, Port}
 use Rattle.fs_model.specs.declared.parts.VarInfo.{VarInfo}
 use Rattle.fs_model.specs.Machines.{Fsmd}
 
 -- whether a variable is an input or an output
-abbrev pub is_face : Role → Bool
-is_face Input = true
-is_face Output = true
-is_face Local = false
+abbrev pub is_interface : Role → Bool
+is_interface Input = true
+is_interface Output = true
+is_interface Local = false
 
 -- whether two roles are one
 abbrev pub same_role : Role → Role → Bool
@@ -31,8 +31,13 @@ same_role Local Local = true
 abbrev pub same_sort : Sort → Sort → Bool
 same_sort Scalar Scalar = true
 same_sort Scalar Array = false
+same_sort Scalar Port = false
 same_sort Array Scalar = false
 same_sort Array Array = true
+same_sort Array Port = false
+same_sort Port Scalar = false
+same_sort Port Array = false
+same_sort Port Port = true
 
 -- the first variable of a name
 abbrev pub named : List VarInfo → List ℕ → Option VarInfo
@@ -46,7 +51,7 @@ is_like v (Some u) = same_role v.role u.role && same_sort v.sort u.sort
 
 -- whether an input or output is absent from the others, or has another role or sort there
 abbrev pub lacks_match : List VarInfo → VarInfo → Bool
-lacks_match others v = is_face v.role && not (is_like v (named others v.name))
+lacks_match others v = is_interface v.role && not (is_like v (named others v.name))
 
 -- the name of the first input or output that has no match among the others
 abbrev pub first_unmatched : List VarInfo → List VarInfo → Option (List ℕ)
