@@ -1,18 +1,21 @@
 -- What reading gives, by the grammar.
-use Rattle.std.proofs.Common.{ℕ, List}
+use Rattle.std.proofs.Common.{◌≡◌, ℕ, List}
 use Rattle.std.specs.Prelude.{Result, Ok, Err, IfOk, IsTrue}
 use Rattle.std.specs.Result.{IfErr}
 use Rattle.fs_model.specs.Source.{Source}
 use Rattle.fs_model.specs.WellFormed.{is_well_formed}
 use Rattle.fs_grammar.specs.declared.fault.ReadError.{ReadError}
 use Rattle.fs_grammar.specs.declared.fault.ReadError.TheVariants.{Text, NoMemory}
+use Rattle.fs_grammar.specs.declared.fault.TextKind.TheVariants.{Operators}
 use Rattle.fs_grammar.specs.Tokens.{Gives}
 use Rattle.fs_lex.specs.Scan.{tokens_of}
 use Rattle.grammar_laws.specs.Faults.{Spells, StopsAt}
 use Rattle.grammar_laws.proofs.Exact.{read_is_spelled, fault_is_first}
+use Rattle.text_laws.specs.Limit.{ExceedsLimit}
+use Rattle.text_laws.proofs.Ended.{tokens_ended}
+use Rattle.text_laws.proofs.Limit.{found}
 use Rattle.text_laws.proofs.Read.{read_is_well_formed}
 use Rattle.fs_text.specs.Spelled.{spelled, IfText}
-use Rattle.fs_text.proofs.Ended.{tokens_end}
 
 module _ {P : Type 0} (view : P → Source) (bytes : List ℕ) where
   pub spells : (r : Result P ReadError) → Gives view r (spelled bytes) → IfOk r (λ p. Spells (view p) (tokens_of bytes))
@@ -25,5 +28,10 @@ module _ {P : Type 0} (view : P → Source) (bytes : List ℕ) where
 
   pub fault : (r : Result P ReadError) → Gives view r (spelled bytes) → IfErr r (λ e. IfText e (StopsAt (tokens_of bytes)))
   fault (Ok p) e = tt
-  fault (Err (Text f)) e = fault_is_first (tokens_of bytes) f (tokens_end bytes) e
+  fault (Err (Text f)) e = fault_is_first (tokens_of bytes) f (tokens_ended bytes) e
   fault (Err NoMemory) e = tt
+
+  pub operators : (r : Result P ReadError) → Gives view r (spelled bytes) → IfErr r (λ e. IfText e (λ f. f.kind ≡ Operators → ExceedsLimit (tokens_of bytes) f))
+  operators (Ok p) e = tt
+  operators (Err (Text f)) e = found bytes f e
+  operators (Err NoMemory) e = tt

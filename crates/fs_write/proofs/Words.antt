@@ -189,6 +189,9 @@ digits_read k (b ∷ w) rest s n h e stops f d =
 pub one_lexeme : (rest : List ℕ) → lexeme_of (49 ∷ 59 ∷ rest) ≡ lexemes.Token (Number (pos 1)) 1
 one_lexeme rest = number_lexeme 49 (59 ∷ rest) refl ∙ ap (λ (t : TokenKind). lexemes.Token t 1) (unfolding_number (49 ∷ []) 1 refl (lit< tt))
 
+pub two_lexeme : (rest : List ℕ) → lexeme_of (50 ∷ 59 ∷ rest) ≡ lexemes.Token (Number (pos 2)) 1
+two_lexeme rest = number_lexeme 50 (59 ∷ rest) refl ∙ ap (λ (t : TokenKind). lexemes.Token t 1) (unfolding_number (50 ∷ []) 2 refl (lit< tt))
+
 -- a number is read as one token
 pub number_reads : {line free : ℕ} {r : Result Source TextFault} (k : ℕ) (rest : List ℕ) (s n : ParseState) → k < 2 ^ 127 → begins_no is_word_byte rest ≡ true → step s line (Number (pos k)) ≡ Some n → Reads line free rest n r → Reads line free (decimal k ++ rest) s r
 number_reads k rest s n h stops f d = digits_read k (decimal k) rest s n h (spelled k h) stops f d

@@ -6,16 +6,17 @@ use Rattle.fs_model.specs.declared.parts.Role.{Role}
 use Rattle.fs_model.specs.declared.parts.Role.TheVariants.{Output}
 use Rattle.fs_model.specs.declared.parts.Sort.{Sort}
 use Rattle.fs_model.specs.declared.parts.Sort.TheVariants as sorts
-use Rattle.fs_model.specs.Terms.{Term, Variable, Negative, Guard, Test, Not, Assignment}
+use Rattle.fs_model.specs.Terms.{Term, Variable, Guard, Assignment}
 use Rattle.fs_model.specs.Source.{Declaration, SourceTransition, SourceState, Source}
 use Rattle.fs_grammar.specs.declared.format.Format.{Format}
 use Rattle.fs_grammar.specs.declared.format.Format.TheVariants.{One, Two}
 use Rattle.fs_grammar.specs.declared.token.TokenKind.{TokenKind}
-use Rattle.fs_grammar.specs.declared.token.TokenKind.TheVariants.{Fsmd, Number, Reset, State, Goto, Name, Semicolon, Colon, Comma, Equals, OpenBracket, CloseParen, CloseBracket, CloseBrace, Plus, Minus, Star, Slash, Percent, AndAnd, OrOr, Relation}
+use Rattle.fs_grammar.specs.declared.token.TokenKind.TheVariants.{Fsmd, Number, Reset, State, Goto, Name, Semicolon, Colon, Comma, Equals, CloseParen, CloseBracket, CloseBrace, Plus, Minus, Star, Slash, Percent, AndAnd, OrOr, Relation}
 use Rattle.fs_grammar.specs.Ends.{IsNoSum, IsNoProduct, IsNoAnd, IsNoIndex}
 use Rattle.fs_grammar.specs.Formats.{number_of}
 use Rattle.fs_grammar.specs.Grammar as machine
 use Rattle.fs_grammar.specs.Grammar.{Destination, scalar, element, port, assigned, OpenState, OpenTransition, with_names, with_states, with_transitions, with_open_state, with_assignments, closed, FactorContext, ProductContext, SumContext, UnitContext, ConjunctionContext, GuardContext, first_factor, first_product, first_of_all, first_of_any, parens, index, left, right, write_index, value, ParseState, at_start, at_declaration, at_sort, at_declared, after_declared, at_state, after_reset, at_state_name, at_transition, at_target, after_target, at_assignment, at_port, at_equals, at_unit, after_conjunction, after_guard, at_factor, after_name, after_product, after_sum, at_sum, at_guard, factor_done, product_done, unit_done, conjunction_done, literal_done, step, in_format_two, step_guarded, step_joined, step_summed, step_multiplied, step_conjunction, step_sum, step_product, step_name, finish}
+use Rattle.fs_grammar.proofs.PartEnds.{name_steps, product_steps, literal_steps, conjunction_steps}
 use Rattle.grammar_laws.specs.Spelling.{Word, at, IsFactor, number, variable, read, negative, group, IsProduct, factor, times, divides, remainder_of, IsSum, product, plus, minus, IsUnit, not, braces, literal, IsConjunction, unit, and, IsGuard, conjunction, or, scalar_name, element_at, IsAssignment, assign, emit, AreAssignments, one_assignment, more_assignments, AreEffects, no_effects, effects, IsCondition, always, when, IsTransition, transition, AreTransitions, no_transitions, more_transitions, state, AreStates, no_states, more_states, AreNames, one_name, more_names, IsKind, scalars, arrays, ports, IsDeclaration, declaration, AreDeclarations, no_declarations, more_declarations, IsFile, file}
 use Rattle.grammar_laws.specs.Walks.{on, walk, source_at}
 
@@ -24,60 +25,20 @@ regroup a b rest s = ap (λ (l : List Word). walk l s) (append_assoc a b rest)
 
 -- ---- where a part ends without a word of its own
 
-factor_steps : (n : ℕ) (t : TokenKind) (f : Term (List ℕ)) (k : FactorContext) → step (factor_done f k) n t ≡ step_multiplied t (factor_done f k)
-factor_steps n t f (machine.negative k) = factor_steps n t (Negative f) k
-factor_steps n t f (first_factor k) = refl
-factor_steps n t f (machine.times p k) = refl
-factor_steps n t f (machine.divides p k) = refl
-factor_steps n t f (machine.remainder_of p k) = refl
-
-product_steps : (n : ℕ) (t : TokenKind) (p : Term (List ℕ)) (k : ProductContext) → step (product_done p k) n t ≡ step_summed t (product_done p k)
-product_steps n t p (first_product k) = refl
-product_steps n t p (machine.plus s k) = refl
-product_steps n t p (machine.minus s k) = refl
-
-unit_steps : (n : ℕ) (t : TokenKind) (u : Guard (List ℕ)) (k : UnitContext) → step (unit_done u k) n t ≡ step_joined t (unit_done u k)
-unit_steps n t u (machine.negates k) = unit_steps n t (Not u) k
-unit_steps n t u (first_of_all k) = refl
-unit_steps n t u (machine.and_after c k) = refl
-
-conjunction_steps : (n : ℕ) (t : TokenKind) (c : Guard (List ℕ)) (k : ConjunctionContext) → step (conjunction_done c k) n t ≡ step_guarded t (conjunction_done c k)
-conjunction_steps n t c (first_of_any k) = refl
-conjunction_steps n t c (machine.or_after g k) = refl
-
-name_step : (t : TokenKind) (x : List ℕ) (k : FactorContext) → IsNoIndex (Some t) → step_name t x k ≡ step_multiplied t (factor_done (Variable x) k)
-name_step OpenBracket x k h = absurd h
-name_step _ x k h = refl
-
-product_step : (t : TokenKind) (p : Term (List ℕ)) (k : ProductContext) → IsNoProduct (Some t) → step_product t p k ≡ step_summed t (product_done p k)
-product_step Star p k h = absurd h
-product_step Slash p k h = absurd h
-product_step Percent p k h = absurd h
-product_step _ p k h = refl
-
-right_step : (t : TokenKind) (r : Rel) (l s : Term (List ℕ)) (k : UnitContext) → IsNoSum (Some t) → step_sum t s (right r l k) ≡ step_joined t (literal_done r l s k)
-right_step Plus r l s k h = absurd h
-right_step Minus r l s k h = absurd h
-right_step _ r l s k h = refl
-
-conjunction_step : (t : TokenKind) (c : Guard (List ℕ)) (k : ConjunctionContext) → IsNoAnd (Some t) → step_conjunction t c k ≡ step_guarded t (conjunction_done c k)
-conjunction_step AndAnd c k h = absurd h
-conjunction_step _ c k h = refl
-
 alike : (n : ℕ) (t : TokenKind) (rest : List Word) (r s : ParseState) → step r n t ≡ step s n t → walk (at n t ∷ rest) r ≡ walk (at n t ∷ rest) s
 alike n t rest r s e = ap (λ (o : Option ParseState). on o (walk rest)) e
 
 name_ends : (n : ℕ) (t : TokenKind) (rest : List Word) (x : List ℕ) (k : FactorContext) → IsNoIndex (Some t) → walk (at n t ∷ rest) (after_name x k) ≡ walk (at n t ∷ rest) (factor_done (Variable x) k)
-name_ends n t rest x k h = alike n t rest (after_name x k) (factor_done (Variable x) k) (name_step t x k h ∙ sym (factor_steps n t (Variable x) k))
+name_ends n t rest x k h = alike n t rest (after_name x k) (factor_done (Variable x) k) (name_steps n t x k h)
 
 product_ends : (n : ℕ) (t : TokenKind) (rest : List Word) (p : Term (List ℕ)) (k : ProductContext) → IsNoProduct (Some t) → walk (at n t ∷ rest) (after_product p k) ≡ walk (at n t ∷ rest) (product_done p k)
-product_ends n t rest p k h = alike n t rest (after_product p k) (product_done p k) (product_step t p k h ∙ sym (product_steps n t p k))
+product_ends n t rest p k h = alike n t rest (after_product p k) (product_done p k) (product_steps n t p k h)
 
 literal_ends : (n : ℕ) (t : TokenKind) (rest : List Word) (r : Rel) (l s : Term (List ℕ)) (k : UnitContext) → IsNoSum (Some t) → walk (at n t ∷ rest) (after_sum s (right r l k)) ≡ walk (at n t ∷ rest) (literal_done r l s k)
-literal_ends n t rest r l s k h = alike n t rest (after_sum s (right r l k)) (literal_done r l s k) (right_step t r l s k h ∙ sym (unit_steps n t (Test (record { relation = r; left = l; right = s })) k))
+literal_ends n t rest r l s k h = alike n t rest (after_sum s (right r l k)) (literal_done r l s k) (literal_steps n t r l s k h)
 
 conjunction_ends : (n : ℕ) (t : TokenKind) (rest : List Word) (c : Guard (List ℕ)) (k : ConjunctionContext) → IsNoAnd (Some t) → walk (at n t ∷ rest) (after_conjunction c k) ≡ walk (at n t ∷ rest) (conjunction_done c k)
-conjunction_ends n t rest c k h = alike n t rest (after_conjunction c k) (conjunction_done c k) (conjunction_step t c k h ∙ sym (conjunction_steps n t c k))
+conjunction_ends n t rest c k h = alike n t rest (after_conjunction c k) (conjunction_done c k) (conjunction_steps n t c k h)
 
 -- ---- sums
 

@@ -2,22 +2,23 @@
 use Rattle.std.proofs.Common.{◌≡◌, ℕ, Bool, true, false, List, [], ◌∷◌, ◌++◌, Option, Some, None, refl, sym, ap, subst, ◌∙◌, append_assoc}
 use Rattle.std.specs.Prelude.{IsTrue, IfSome, not, ◌||◌}
 use Rattle.std.specs.List.{AllByRecursion}
-use Rattle.fs_model.specs.Terms.{Term, Guard, Assignment}
+use Rattle.fs_model.specs.Terms.{Assignment}
 use Rattle.fs_grammar.specs.declared.format.Format.{Format}
 use Rattle.fs_grammar.specs.declared.format.Format.TheVariants.{One, Two}
 use Rattle.fs_grammar.specs.declared.token.TokenKind.{TokenKind}
-use Rattle.fs_grammar.specs.declared.token.TokenKind.TheVariants.{Fsmd, Declare, Array, Reset, State, When, Goto, Port, Name, Number, Semicolon, Colon, Comma, Equals, CloseParen, CloseBracket, CloseBrace, Plus, Minus, Star, Slash, Percent, AndAnd, OrOr, Relation}
+use Rattle.fs_grammar.specs.declared.token.TokenKind.TheVariants.{Fsmd, Declare, Array, Reset, State, When, Goto, Port, Name, Number, Semicolon, Colon, Comma, Equals}
 use Rattle.fs_grammar.specs.declared.token.Token.{Token}
 use Rattle.fs_grammar.specs.Operators.{is_operator, starts_expression}
 use Rattle.fs_grammar.specs.Formats.{format_of}
-use Rattle.fs_grammar.specs.Grammar.{Destination, OpenState, ParseState, at_start, at_format, at_semicolon, at_declaration, at_sort, at_declared, after_declared, at_reset, after_reset, at_state, at_state_name, after_state_name, at_transition, at_target, after_target, at_assignment, at_port, after_assignment_name, at_equals, at_unit, after_conjunction, after_guard, at_factor, after_name, after_product, after_sum, in_format_two, step_format, step_transition, step}
-use Rattle.grammar_laws.specs.Spelling.{Word, at, IsFactor, number, variable, read, negative, group, IsProduct, factor, times, divides, remainder_of, IsSum, product, plus, minus, IsUnit, not as negated, braces, literal, IsConjunction, unit, and, IsGuard, conjunction, or, IsDestination, scalar_name, element_at, IsAssignment, assign, emit}
+use Rattle.fs_grammar.specs.Grammar.{OpenState, ParseState, at_start, at_format, at_semicolon, at_declaration, at_sort, at_declared, after_declared, at_reset, after_reset, at_state, at_state_name, after_state_name, at_transition, at_target, after_target, at_assignment, at_port, after_assignment_name, at_equals, at_unit, after_conjunction, after_guard, at_factor, after_name, after_product, after_sum, in_format_two, step_format, step_transition, step}
+use Rattle.grammar_laws.specs.Spelling.{Word, at, IsAssignment, assign, emit}
 use Rattle.grammar_laws.specs.Walks.{words, walk}
 use Rattle.grammar_laws.specs.Beginnings as rules
 use Rattle.grammar_laws.specs.Beginnings.{Begins, BeginsFile}
 use Rattle.grammar_laws.specs.Expressions.{IsInExpression, in_guard, in_first, in_next, starts, IsSince, EndInExpression}
 use Rattle.grammar_laws.specs.Faults.{word_of, CanFollow}
 use Rattle.grammar_laws.proofs.Alternatives.{completed}
+use Rattle.grammar_laws.proofs.Inside.{is_inside, IsInside, AreInside, joined, front, each, sum_inside, guard_inside, destination_inside}
 use Rattle.grammar_laws.proofs.Sound.{reached}
 use Rattle.grammar_laws.proofs.Beginning.{is_in_expression, within, stuck, walk_append}
 
@@ -111,63 +112,30 @@ operator_stands ws n t i b = operator_walks (walk ws at_start) ws n t refl i b
 
 -- ---- no guard and no assignment has a word after which one begins
 
-abbrev AreInside : List Word → Type 0
-AreInside ws = AllByRecursion (λ w. starts w ≡ false) ws
+abbrev StartsNone : Word → Type 0
+StartsNone w = starts w ≡ false
 
-joined : (a b : List Word) → AreInside a → AreInside b → AreInside (a ++ b)
-joined [] b h j = j
-joined (w ∷ a) b h j = (h.0, joined a b h.1 j)
+starts_none : (n : ℕ) (t : TokenKind) → is_inside t ≡ true → starts_expression t ≡ false
+starts_none n When h = absurd cc
+starts_none n Colon h = absurd cc
+starts_none n Comma h = absurd cc
+starts_none n _ h = refl
 
-front : (a b : List Word) → AreInside (a ++ b) → AreInside a
-front [] b h = tt
-front (w ∷ a) b h = (h.0, front a b h.1)
+word_starts_none : (w : Word) → IsInside w → StartsNone w
+word_starts_none (at n t) h = starts_none n t h
 
-mutual
-  factor_inside : (f : Term (List ℕ)) (a : List Word) → IsFactor f a → AreInside a
-  factor_inside _ _ (number n i) = (refl, tt)
-  factor_inside _ _ (variable n x) = (refl, tt)
-  factor_inside _ _ (read n m k x {s} {a} d) = (refl, (refl, joined a (at k CloseBracket ∷ []) (sum_inside s a d) (refl, tt)))
-  factor_inside _ _ (negative n {f} {a} d) = (refl, factor_inside f a d)
-  factor_inside _ _ (group n m {s} {a} d) = (refl, joined a (at m CloseParen ∷ []) (sum_inside s a d) (refl, tt))
+none_starts : (ws : List Word) → AreInside ws → AllByRecursion StartsNone ws
+none_starts ws h = each IsInside StartsNone word_starts_none ws h
 
-  product_inside : (p : Term (List ℕ)) (a : List Word) → IsProduct p a → AreInside a
-  product_inside _ _ (factor {f} {a} d) = factor_inside f a d
-  product_inside _ _ (times n {p} {f} {a} {b} d e) = joined a (at n Star ∷ b) (product_inside p a d) (refl, factor_inside f b e)
-  product_inside _ _ (divides n {p} {f} {a} {b} d e) = joined a (at n Slash ∷ b) (product_inside p a d) (refl, factor_inside f b e)
-  product_inside _ _ (remainder_of n {p} {f} {a} {b} d e) = joined a (at n Percent ∷ b) (product_inside p a d) (refl, factor_inside f b e)
+assignment_starts : (f : Format) (x : Assignment (List ℕ)) (a : List Word) → IsAssignment f x a → AllByRecursion StartsNone a
+assignment_starts _ _ _ (assign f n {d} {e} {a} {b} p q) = joined StartsNone a (at n Equals ∷ b) (none_starts a (destination_inside d a p)) (refl, none_starts b (sum_inside e b q))
+assignment_starts _ _ _ (emit n m x {e} {a} p) = (refl, (refl, none_starts a (sum_inside e a p)))
 
-  sum_inside : (s : Term (List ℕ)) (a : List Word) → IsSum s a → AreInside a
-  sum_inside _ _ (product {p} {a} d) = product_inside p a d
-  sum_inside _ _ (plus n {s} {p} {a} {b} d e) = joined a (at n Plus ∷ b) (sum_inside s a d) (refl, product_inside p b e)
-  sum_inside _ _ (minus n {s} {p} {a} {b} d e) = joined a (at n Minus ∷ b) (sum_inside s a d) (refl, product_inside p b e)
+guard_begun : (a : List Word) → Begins rules.guard a → AllByRecursion StartsNone a
+guard_begun a b = let w = completed rules.guard a b in front StartsNone a w.0 (none_starts (a ++ w.0) (guard_inside w.1.0 (a ++ w.0) w.1.1))
 
-mutual
-  unit_inside : (u : Guard (List ℕ)) (a : List Word) → IsUnit u a → AreInside a
-  unit_inside _ _ (negated n {u} {a} d) = (refl, unit_inside u a d)
-  unit_inside _ _ (braces n m {g} {a} d) = (refl, joined a (at m CloseBrace ∷ []) (guard_inside g a d) (refl, tt))
-  unit_inside _ _ (literal n r {l} {s} {a} {b} d e) = joined a (at n (Relation r) ∷ b) (sum_inside l a d) (refl, sum_inside s b e)
-
-  conjunction_inside : (c : Guard (List ℕ)) (a : List Word) → IsConjunction c a → AreInside a
-  conjunction_inside _ _ (unit {u} {a} d) = unit_inside u a d
-  conjunction_inside _ _ (and n {c} {u} {a} {b} d e) = joined a (at n AndAnd ∷ b) (conjunction_inside c a d) (refl, unit_inside u b e)
-
-  guard_inside : (g : Guard (List ℕ)) (a : List Word) → IsGuard g a → AreInside a
-  guard_inside _ _ (conjunction {c} {a} d) = conjunction_inside c a d
-  guard_inside _ _ (or n {g} {c} {a} {b} d e) = joined a (at n OrOr ∷ b) (guard_inside g a d) (refl, conjunction_inside c b e)
-
-destination_inside : (d : Destination) (a : List Word) → IsDestination d a → AreInside a
-destination_inside _ _ (scalar_name n x) = (refl, tt)
-destination_inside _ _ (element_at n m k x {s} {a} d) = (refl, (refl, joined a (at k CloseBracket ∷ []) (sum_inside s a d) (refl, tt)))
-
-assignment_inside : (f : Format) (x : Assignment (List ℕ)) (a : List Word) → IsAssignment f x a → AreInside a
-assignment_inside _ _ _ (assign f n {d} {e} {a} {b} p q) = joined a (at n Equals ∷ b) (destination_inside d a p) (refl, sum_inside e b q)
-assignment_inside _ _ _ (emit n m x {e} {a} p) = (refl, (refl, sum_inside e a p))
-
-guard_begun : (a : List Word) → Begins rules.guard a → AreInside a
-guard_begun a b = let w = completed rules.guard a b in front a w.0 (guard_inside w.1.0 (a ++ w.0) w.1.1)
-
-assignment_begun : (f : Format) (a : List Word) → Begins (rules.assignment f) a → AreInside a
-assignment_begun f a b = let w = completed (rules.assignment f) a b in front a w.0 (assignment_inside f w.1.0 (a ++ w.0) w.1.1)
+assignment_begun : (f : Format) (a : List Word) → Begins (rules.assignment f) a → AllByRecursion StartsNone a
+assignment_begun f a b = let w = completed (rules.assignment f) a b in front StartsNone a w.0 (assignment_starts f w.1.0 (a ++ w.0) w.1.1)
 
 -- The part is what stands behind the last word after which a guard or an assignment begins.
 pub since : (ws part : List Word) → IsInExpression ws part → IsSince ws part
@@ -175,18 +143,18 @@ since _ _ (in_guard before n {part} b) = record { before = before; word = at n W
 since _ _ (in_first f before n m k x {part} b) = record { before = before ++ (at n Goto ∷ at m (Name x) ∷ []); word = at k Colon; is = simp append_assoc; begins = refl; inside = assignment_begun f part b }
 since _ _ (in_next f before n m k l x {a} {part} h b) = record { before = before ++ (at n Goto ∷ at m (Name x) ∷ at k Colon ∷ a); word = at l Comma; is = simp append_assoc; begins = refl; inside = assignment_begun f part b }
 
-not_inside : (y : List Word) (v : Word) (q : List Word) → starts v ≡ true → AreInside (y ++ v ∷ q) → ⊥
+not_inside : (y : List Word) (v : Word) (q : List Word) → starts v ≡ true → AllByRecursion StartsNone (y ++ v ∷ q) → ⊥
 not_inside [] v q h j = let n = j.0 in absurd cc
 not_inside (w ∷ y) v q h j = not_inside y v q h j.1
 
-one_cut : (x y : List Word) (u v : Word) (p q : List Word) → starts u ≡ true → starts v ≡ true → AreInside p → AreInside q → x ++ u ∷ p ≡ y ++ v ∷ q → p ≡ q
+one_cut : (x y : List Word) (u v : Word) (p q : List Word) → starts u ≡ true → starts v ≡ true → AllByRecursion StartsNone p → AllByRecursion StartsNone q → x ++ u ∷ p ≡ y ++ v ∷ q → p ≡ q
 one_cut [] [] u v p q h j a b e = cc
 one_cut [] (w ∷ y) u v p q h j a b e =
     let tails : p ≡ y ++ v ∷ q = cc in
-    absurd (not_inside y v q j (subst (λ (l : List Word). AreInside l) tails a))
+    absurd (not_inside y v q j (subst (λ (l : List Word). AllByRecursion StartsNone l) tails a))
 one_cut (w ∷ x) [] u v p q h j a b e =
     let tails : q ≡ x ++ u ∷ p = cc in
-    absurd (not_inside x u p h (subst (λ (l : List Word). AreInside l) tails b))
+    absurd (not_inside x u p h (subst (λ (l : List Word). AllByRecursion StartsNone l) tails b))
 one_cut (w ∷ x) (z ∷ y) u v p q h j a b e =
     let tails : x ++ u ∷ p ≡ y ++ v ∷ q = cc in
     one_cut x y u v p q h j a b tails
@@ -209,6 +177,9 @@ record IsCutAt (ts : List Token) (word : Word) (behind : List Word) : Type 0 whe
   same : word_of token ≡ word
   words : words part ≡ behind
 
+cut_more : (t : Token) (ts : List Token) (w : Word) (p : List Word) → IsCutAt ts w p → IsCutAt (t ∷ ts) w p
+cut_more t ts w p c = record { before = t ∷ c.before; token = c.token; part = c.part; is = ap (λ (l : List Token). t ∷ l) c.is; same = c.same; words = c.words }
+
 cut_at : (ts : List Token) (b : List Word) (w : Word) (p : List Word) → words ts ≡ b ++ w ∷ p → IsCutAt ts w p
 cut_at [] [] w p e = absurd cc
 cut_at [] (v ∷ b) w p e = absurd cc
@@ -218,10 +189,9 @@ cut_at (t ∷ ts) [] w p e =
     record { before = []; token = t; part = ts; is = refl; same = heads; words = tails }
 cut_at (t ∷ ts) (v ∷ b) w p e =
     let tails : words ts ≡ b ++ w ∷ p = cc in
-    let c = cut_at ts b w p tails in
-    record { before = t ∷ c.before; token = c.token; part = c.part; is = ap (λ (l : List Token). t ∷ l) c.is; same = c.same; words = c.words }
+    cut_more t ts w p (cut_at ts b w p tails)
 
-tokens_inside : (ts : List Token) → AreInside (words ts) → AllByRecursion (λ t. starts_expression t.kind ≡ false) ts
+tokens_inside : (ts : List Token) → AllByRecursion StartsNone (words ts) → AllByRecursion (λ t. starts_expression t.kind ≡ false) ts
 tokens_inside [] h = tt
 tokens_inside (t ∷ ts) h = (h.0, tokens_inside ts h.1)
 
@@ -237,7 +207,7 @@ tokens_end ts t i b =
         token = c.token;
         is = c.is;
         begins = ap starts c.same ∙ s.begins;
-        inside = tokens_inside c.part (subst (λ (l : List Word). AreInside l) (sym c.words) s.inside);
+        inside = tokens_inside c.part (subst (λ (l : List Word). AllByRecursion StartsNone l) (sym c.words) s.inside);
         expression = subst (λ (l : List Word). IsInExpression (words ts) l) (sym c.words) e.1;
       },
     )

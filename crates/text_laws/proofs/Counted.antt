@@ -9,7 +9,8 @@ use Rattle.fs_lex.specs.declared.lexemes.Lexeme.{Lexeme}
 use Rattle.fs_lex.specs.declared.lexemes.Lexeme.TheVariants as lexemes
 use Rattle.fs_lex.specs.Lexemes.{lexeme_of}
 use Rattle.fs_lex.specs.Scan.{after, scan, emitted, is_past_limit, is_bad, counted, tokens_of}
-use Rattle.text_laws.specs.Kinds.{IsProper, is_last, end_once}
+use Rattle.text_laws.specs.Kinds.{IsProper, end_once}
+use Rattle.lex_laws.specs.Tokenization.{ends_text}
 use Rattle.text_laws.proofs.Lexed.{IsLexed, lexeme_found}
 
 -- each token is proper, and is over where it is an operator and 128 were counted before it, n of them before the first token
@@ -31,7 +32,7 @@ scan_counted (b ∷ bs) (suc skip) p n = scan_counted bs skip (after p b) n
 scan_counted (b ∷ bs) zero p n = emitted_counted (lexeme_of (b ∷ bs)) p n (λ k m. scan bs k (after p b) m) (lexeme_found (b ∷ bs)) (λ k m. scan_counted bs k (after p b) m)
 
 -- a token that is bad ends a list, and any other is before its end
-ends_more : (b : Bool) (t : Token) (ts : List Token) → is_last t.kind ≡ b → IsTrue (end_once ts) → IsTrue (end_once (t ∷ cond b [] ts))
+ends_more : (b : Bool) (t : Token) (ts : List Token) → ends_text t.kind ≡ b → IsTrue (end_once ts) → IsTrue (end_once (t ∷ cond b [] ts))
 ends_more true t ts e h = e
 ends_more false t [] e h = absurd cc
 ends_more false t (u ∷ ts) e h = ap (λ (b : Bool). not b && end_once (u ∷ ts)) e ∙ h
@@ -63,8 +64,8 @@ pub record IsCut (ts : List Token) : Type 0 where
   pub before : List Token
   pub token : Token
   pub is : ts ≡ before ++ token ∷ []
-  pub last : IsTrue (is_last token.kind)
-  pub others : AllByRecursion (λ t. is_last t.kind ≡ false) before
+  pub last : IsTrue (ends_text token.kind)
+  pub others : AllByRecursion (λ t. ends_text t.kind ≡ false) before
 
 split_and : (a b : Bool) → IsTrue (not a && b) → (a ≡ false) × IsTrue b
 split_and true b h = absurd cc
@@ -74,6 +75,6 @@ pub cut : (ts : List Token) → IsTrue (end_once ts) → IsCut ts
 cut [] h = absurd cc
 cut (t ∷ []) h = record { before = []; token = t; is = refl; last = h; others = tt }
 cut (t ∷ u ∷ ts) h =
-    let two = split_and (is_last t.kind) (end_once (u ∷ ts)) h in
+    let two = split_and (ends_text t.kind) (end_once (u ∷ ts)) h in
     let c : IsCut (u ∷ ts) = cut (u ∷ ts) two.1 in
     record { before = t ∷ c.before; token = c.token; is = ap (λ (l : List Token). t ∷ l) c.is; last = c.last; others = (two.0, c.others) }

@@ -13,11 +13,12 @@ use Rattle.fs_lex.specs.declared.lexemes.Lexeme.{Lexeme}
 use Rattle.fs_lex.specs.declared.lexemes.Lexeme.TheVariants as lexemes
 use Rattle.fs_lex.specs.Lexemes.{is_space, is_in_comment, keyword_of, name_or_bad, word_of, decimal, number_of, double_punctuation, mark, operator, or_operator, longest, punctuation_of, lexeme_of}
 use Rattle.fs_lex.specs.Scan.{is_bad}
-use Rattle.text_laws.specs.Kinds.{IsProper, is_last}
+use Rattle.text_laws.specs.Kinds.{IsProper}
+use Rattle.lex_laws.specs.Tokenization.{ends_text}
 
 -- proper, and last only where it is bad
 abbrev pub IsFound : TokenKind → Type 0
-IsFound t = IsProper t × (is_last t ≡ is_bad t)
+IsFound t = IsProper t × (ends_text t ≡ is_bad t)
 
 abbrev pub IsLexed : Lexeme → Type 0
 IsLexed (lexemes.Blank n) = Unit {0}

@@ -3,4 +3,5 @@ pub mod Fit
 pub mod Lexed
 pub mod Counted
 pub mod Read
-pub mod Parts
+pub mod Ended
+pub mod Limit

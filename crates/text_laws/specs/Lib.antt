@@ -1,2 +1,2 @@
 pub mod Kinds
-pub mod Parts
+pub mod Limit

@@ -1,13 +1,16 @@
 use Rattle.std.proofs.Common.{rules}
 use Rattle.fs_model.specs.View.{source_of}
-use Rattle.fs_text.proofs.Read.{spells, well_formed, fault}
+use Rattle.fs_text.proofs.Read.{spells, well_formed, fault, operators}
 use Rattle.fs_text.proofs.read_parts.Goals as goal
 
 pub returns-clause-spells : goal.returns-clause-spells
-returns-clause-spells c = spells source_of c.args.bytes.now c.parts.result (search rules)
+returns-clause-spells c = spells source_of c.args.bytes.now c.parse.result (search rules)
 
 pub returns-clause-well_formed : goal.returns-clause-well_formed
-returns-clause-well_formed c = well_formed source_of c.args.bytes.now c.parts.result (search rules)
+returns-clause-well_formed c = well_formed source_of c.args.bytes.now c.parse.result (search rules)
 
 pub returns-clause-fault : goal.returns-clause-fault
-returns-clause-fault c = fault source_of c.args.bytes.now c.parts.result (search rules)
+returns-clause-fault c = fault source_of c.args.bytes.now c.parse.result (search rules)
+
+pub returns-clause-operators : goal.returns-clause-operators
+returns-clause-operators c = operators source_of c.args.bytes.now c.parse.result (search rules)

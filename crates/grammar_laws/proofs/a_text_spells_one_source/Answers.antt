@@ -1,3 +1,4 @@
+use Rattle.grammar_laws.proofs.Formats.{one_format}
 use Rattle.grammar_laws.proofs.Once.{one_source, one_file, one_sum, one_guard}
 use Rattle.grammar_laws.proofs.a_text_spells_one_source.Goals as goal
 
@@ -12,3 +13,6 @@ returns-clause-sums c = λ s r ws h k. one_sum s r ws h k
 
 pub returns-clause-guards : goal.returns-clause-guards
 returns-clause-guards c = λ g h ws p q. one_guard g h ws p q
+
+pub returns-clause-formats : goal.returns-clause-formats
+returns-clause-formats c = λ f g s r ws h k. one_format f g s r ws h k
