@@ -2,7 +2,7 @@
 use Rattle.std.specs.Prelude.{◌≡◌, ℕ, IsTrue, List, ◌∷◌, ◌++◌}
 use Rattle.std.specs.List.{count_by}
 use Rattle.fs_model.specs.Source.{Source}
-use Rattle.fs_model.specs.WellFormed.{most_operators}
+use Rattle.fs_model.specs.Limits.{most_operators}
 use Rattle.fs_grammar.specs.declared.fault.TextFault.{TextFault}
 use Rattle.fs_grammar.specs.declared.fault.TextKind.{TextKind}
 use Rattle.fs_grammar.specs.declared.fault.TextKind.TheVariants.{Operators}
