@@ -1,4 +1,4 @@
--- How many sided_variables there are.
+-- How many variables two machines have.
 use Rattle.std.proofs.Common.{◌≡◌, ℕ, ◌+◌, ◌*◌, ◌≤◌, List, [], ◌∷◌, length, map, ap, arith, Bool, refl, length-append}
 use Rattle.std.proofs.lemmas.List.{length-map}
 use Rattle.std.specs.Prelude.{Option, Some, None}
@@ -7,7 +7,7 @@ use Rattle.std.specs.Option.{option_to_list}
 use Rattle.fs_model.specs.declared.parts.VarInfo.{VarInfo}
 use Rattle.nf_terms.specs.declared.tree.Side.{Side}
 use Rattle.nf_terms.specs.declared.tree.Side.TheVariants.{Left, Right}
-use Rattle.fs_pair.specs.declared.sided_variables.SidedVariable.{SidedVariable}
+use Rattle.fs_pair.specs.declared.sided_variables.Member.{Member}
 use Rattle.fs_pair.specs.SidedVariables.{SidedVariable, sided_variables, partner_among, with_partners, is_alone, all_sided_variables}
 use Rattle.fs_pair.specs.View.{sided_variable_of}
 
@@ -27,8 +27,8 @@ length-filter : {X : Type 0} (test : X → Bool) (xs : List X) → length (filte
 length-filter test [] = omega arith
 length-filter test (x ∷ xs) = grind (arith, length-filter test xs)
 
-pub length_all : (sided_variables : List SidedVariable) (left right : List VarInfo) → map sided_variable_of sided_variables ≡ all_sided_variables left right → length sided_variables ≤ 2 * length left + length right
-length_all sided_variables left right e =
+pub length_all : (members : List Member) (left right : List VarInfo) → map sided_variable_of members ≡ all_sided_variables left right → length members ≤ 2 * length left + length right
+length_all members left right e =
     let ls = sided_variables Left 0 left in
     let rs = sided_variables Right 0 right in
-    omega (arith, length-map sided_variables sided_variable_of, ap length e, length-append (with_partners ls rs) (filter (is_alone ls) rs), length-with_partners ls rs, length-filter (is_alone ls) rs, length-sided_variables Left 0 left, length-sided_variables Right 0 right)
+    omega (arith, length-map members sided_variable_of, ap length e, length-append (with_partners ls rs) (filter (is_alone ls) rs), length-with_partners ls rs, length-filter (is_alone ls) rs, length-sided_variables Left 0 left, length-sided_variables Right 0 right)

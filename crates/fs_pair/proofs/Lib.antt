@@ -1,1 +1,6 @@
 pub mod Lengths
+pub mod Tests
+pub mod SameOutputs
+pub mod Variables
+pub mod Once
+pub mod Mutual

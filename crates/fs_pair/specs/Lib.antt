@@ -3,3 +3,5 @@ pub mod SidedVariables
 pub mod View
 pub mod Positions
 pub mod Answers
+pub mod Outputs
+pub mod Partners

@@ -2,6 +2,7 @@
 #![tactic(auto)]
 
 pub mod interfaces;
+pub mod laws;
 pub mod memory;
 pub mod positions;
 mod sided_variables;

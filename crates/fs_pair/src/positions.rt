@@ -10,6 +10,7 @@ ghost use Rattle.fs_pair.specs.Positions.{position_of, positions};
 ghost use Rattle.fs_pair.specs.Answers.{TellsFault};
 
 use crate::interfaces::first_unmatched;
+use crate::memory::NoMemory;
 use crate::sided_variables::{Member, all_members, same_name_and_sort};
 use fs_ast::machine::Machine;
 use fs_model::name::Name;
@@ -61,6 +62,16 @@ pub enum FaceError {
     NoMemory,
 }
 
+impl From<NoMemory> for FaceError {
+    ghost use Rattle.fs_pair.specs.declared.positions.FaceError.TheVariants as refusal;
+
+    ghost from_gives = { λ _ e. e ≡ refusal.NoMemory };
+
+    fn from(_refused: NoMemory) -> FaceError {
+        FaceError::NoMemory
+    }
+}
+
 // Whether two sides are one.
 fn same_side(left: Side, right: Side) -> bool
     ensures { result ≡ same_side left right }
@@ -72,7 +83,8 @@ fn same_side(left: Side, right: Side) -> bool
 fn is_partner(member: &Member<'_>, other: &Member<'_>) -> bool
     ensures { result ≡ is_partner (sided_variable_of member.now) (sided_variable_of other.now) }
 {
-    !same_side(member.pos.side, other.pos.side) && same_name_and_sort(member.variable, other.variable)
+    !same_side(member.pos.side, other.pos.side)
+        && same_name_and_sort(member.variable, other.variable)
 }
 
 // Where the partner of a member stands among the members.
@@ -102,17 +114,13 @@ fn placed(members: &[Member<'_>], member: &Member<'_>) -> Position
 }
 
 // The positions of members, in order.
-fn all_positions(alloc: Global, members: &[Member<'_>]) -> Result<Vec<Position>, FaceError>
+fn all_positions(alloc: Global, members: &[Member<'_>]) -> Result<Vec<Position>, NoMemory>
     requires { length members.now < 2 ^ 32 }
-    ensures known { IfOk result (λ out. out.items ≡ map (position_of (map sided_variable_of members.now)) (map sided_variable_of members.now)) }
-    ensures memory { IfErr result (λ e. e ≡ FaceError.NoMemory) }
+    ensures { IfOk result (λ out. out.items ≡ map (position_of (map sided_variable_of members.now)) (map sided_variable_of members.now)) }
 {
     let mut out = Vec::new(alloc);
     for member in members {
-        match out.push(placed(members, member)) {
-            Ok(()) => {}
-            Err(_) => return Err(FaceError::NoMemory),
-        }
+        out.push(placed(members, member))?;
     }
     Ok(out)
 }
@@ -135,9 +143,7 @@ pub fn same_interface(alloc: Global, a: &Machine, b: &Machine) -> Result<Pairing
     if let Some(name) = unmatched {
         return Err(refusal(alloc, name));
     }
-    let Ok(members) = all_members(alloc, left, right) else {
-        return Err(FaceError::NoMemory);
-    };
+    let members = all_members(alloc, left, right)?;
     let positions = all_positions(alloc, members.as_slice())?;
     Ok(Pairing { positions })
 }

@@ -21,7 +21,11 @@ pub struct Member<'a> {
 }
 
 // The variables of a side with their positions.
-fn members_of<'a>(alloc: Global, side: Side, vars: &'a [VarInfo]) -> Result<Vec<Member<'a>>, NoMemory>
+fn members_of<'a>(
+    alloc: Global,
+    side: Side,
+    vars: &'a [VarInfo],
+) -> Result<Vec<Member<'a>>, NoMemory>
     requires { length vars.now < 2 ^ 32 }
     ensures { IfOk result (λ out. map sided_variable_of out.items ≡ sided_variables side 0 vars.now) }
 {
