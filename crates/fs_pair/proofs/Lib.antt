@@ -4,3 +4,4 @@ pub mod SameOutputs
 pub mod Variables
 pub mod Once
 pub mod Mutual
+pub mod Order

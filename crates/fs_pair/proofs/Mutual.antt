@@ -64,7 +64,7 @@ side_back Right Left h = refl
 side_back Right Right h = h
 
 module _ (a b : Fsmd) (sound : IsSound a) (other : IsSound b) where
-  abbrev all : List SidedVariable
+  abbrev pub all : List SidedVariable
   all = all_sided_variables a.variables b.variables
 
   differ_on : (d : Side) → names_differ (map (λ v. v.name) (variables_on d a b)) ≡ true
@@ -77,7 +77,7 @@ module _ (a b : Fsmd) (sound : IsSound a) (other : IsSound b) where
   in_range (u ∷ vs) (suc x) v e = omega (arith, in_range vs x v e)
 
   -- of two variables of one side and one name both are one
-  one_variable : (i k : ℕ) (u s : SidedVariable) → slice_get all i ≡ Some u → slice_get all k ≡ Some s → s.pos.side ≡ u.pos.side → s.variable.name ≡ u.variable.name → i ≡ k
+  pub one_variable : (i k : ℕ) (u s : SidedVariable) → slice_get all i ≡ Some u → slice_get all k ≡ Some s → s.pos.side ≡ u.pos.side → s.variable.name ≡ u.variable.name → i ≡ k
   one_variable i k u s e f d n =
       let su : slice_get (variables_on u.pos.side a b) u.pos.var ≡ Some u.variable = stands_at a b i u e in
       let ss : slice_get (variables_on u.pos.side a b) s.pos.var ≡ Some s.variable = subst (λ (z : Side). slice_get (variables_on z a b) s.pos.var ≡ Some s.variable) d (stands_at a b k s f) in

@@ -14,11 +14,11 @@ use Rattle.fs_pair.specs.Partners.{variables_on, IsVariable, StandsForVariable, 
 use Rattle.fs_pair.proofs.Tests.{and_left, and_right, not_true, same_name, same_sorts}
 
 -- ---- what holds of each
-all_append : (P : SidedVariable → Type 0) (xs ys : List SidedVariable) → AllByRecursion P xs → AllByRecursion P ys → AllByRecursion P (xs ++ ys)
+pub all_append : (P : SidedVariable → Type 0) (xs ys : List SidedVariable) → AllByRecursion P xs → AllByRecursion P ys → AllByRecursion P (xs ++ ys)
 all_append P [] ys h g = g
 all_append P (x ∷ xs) ys h g = (h.0, all_append P xs ys h.1 g)
 
-all_found : (P : SidedVariable → Type 0) (test : SidedVariable → Bool) (xs : List SidedVariable) → AllByRecursion P xs → AllByRecursion P (option_to_list (find test xs))
+pub all_found : (P : SidedVariable → Type 0) (test : SidedVariable → Bool) (xs : List SidedVariable) → AllByRecursion P xs → AllByRecursion P (option_to_list (find test xs))
 all_found P test [] h = tt
 all_found P test (x ∷ xs) h = by_test (test x) (all_found P test xs h.1)
   where
@@ -26,7 +26,7 @@ all_found P test (x ∷ xs) h = by_test (test x) (all_found P test xs h.1)
     by_test true r = (h.0, tt)
     by_test false r = r
 
-all_filtered : (P : SidedVariable → Type 0) (test : SidedVariable → Bool) (xs : List SidedVariable) → AllByRecursion P xs → AllByRecursion P (filter test xs)
+pub all_filtered : (P : SidedVariable → Type 0) (test : SidedVariable → Bool) (xs : List SidedVariable) → AllByRecursion P xs → AllByRecursion P (filter test xs)
 all_filtered P test [] h = tt
 all_filtered P test (x ∷ xs) h = by_test (test x) (all_filtered P test xs h.1)
   where
@@ -34,7 +34,7 @@ all_filtered P test (x ∷ xs) h = by_test (test x) (all_filtered P test xs h.1)
     by_test true r = (h.0, r)
     by_test false r = r
 
-all_paired : (P : SidedVariable → Type 0) (ss others : List SidedVariable) → AllByRecursion P ss → AllByRecursion P others → AllByRecursion P (with_partners ss others)
+pub all_paired : (P : SidedVariable → Type 0) (ss others : List SidedVariable) → AllByRecursion P ss → AllByRecursion P others → AllByRecursion P (with_partners ss others)
 all_paired P [] others h g = tt
 all_paired P (s ∷ ss) others h g =
     (h.0, all_append P (option_to_list (partner_among others s.variable)) (with_partners ss others) (all_found P (λ t. same_name_and_sort s.variable t.variable) others g) (all_paired P ss others h.1 g))

@@ -1,5 +1,6 @@
 -- What positions and their partners are.
-use Rattle.std.specs.Prelude.{◌≡◌, ℕ, ◌==◌, Bool, false, ◌&&◌, List, Some, slice_get}
+use Rattle.std.specs.Prelude.{◌≡◌, ℕ, ◌==◌, Bool, false, ◌&&◌, List, map, Some, slice_get}
+use Rattle.std.specs.List.{range_with_len}
 use Rattle.fs_model.specs.declared.parts.VarInfo.{VarInfo}
 use Rattle.fs_model.specs.Machines.{Fsmd}
 use Rattle.nf_terms.specs.declared.tree.Side.{Side}
@@ -17,6 +18,10 @@ variables_on Right a b = b.variables
 -- whether it is variable x of a side
 abbrev pub is_at : Side → ℕ → Pos → Bool
 is_at side x p = same_side p.side side && (p.var == x)
+
+-- the first n variables of a side, in order
+abbrev pub numbered : Side → ℕ → List Pos
+numbered side n = map (λ x. record { side = side; var = x }) (range_with_len 0 n)
 
 -- a position is a variable of its side, with its role and its sort
 pub record IsVariable (a b : Fsmd) (p : Position) (v : VarInfo) : Type 0 where
