@@ -5,3 +5,4 @@ pub mod Variables
 pub mod Once
 pub mod Mutual
 pub mod Order
+pub mod Last

@@ -31,7 +31,7 @@ lefts_append (x ∷ xs) ys = by_test (same_side x.pos.side Left) (lefts_append x
     by_test true e = ap (λ l. x.pos ∷ l) e
     by_test false e = e
 
-abbrev IsRight : SidedVariable → Type 0
+abbrev pub IsRight : SidedVariable → Type 0
 IsRight s = s.pos.side ≡ Right
 
 no_lefts : (xs : List SidedVariable) → AllByRecursion IsRight xs → lefts_of xs ≡ []
@@ -68,7 +68,7 @@ lefts_positions all (s ∷ ss) = by_test (same_side s.pos.side Left) (lefts_posi
     by_test true e = ap (λ l. s.pos ∷ l) e
     by_test false e = e
 
-rights_are_right : (us : List VarInfo) → AllByRecursion IsRight (sided_variables Right 0 us)
+pub rights_are_right : (us : List VarInfo) → AllByRecursion IsRight (sided_variables Right 0 us)
 rights_are_right us = all_numbered IsRight Right 0 us (λ j v e. refl)
 
 pub lefts_in_order : (a b : Fsmd) → map (λ p. p.pos) (filter (λ p. same_side p.pos.side Left) (positions a b)) ≡ numbered Left (length a.variables)
@@ -84,7 +84,7 @@ lefts_in_order a b =
     ∙ lefts_numbered 0 a.variables
 
 -- ---- what follows a left one
-left_is_right : (s : SidedVariable) → s.pos.side ≡ Left → IsRight s → ⊥
+pub left_is_right : (s : SidedVariable) → s.pos.side ≡ Left → IsRight s → ⊥
 left_is_right s h g = let c : Left ≡ Right = sym h ∙ g in cc c
 
 follows : (ss others rest : List SidedVariable) (k : ℕ) (s r : SidedVariable) → AllByRecursion IsRight others → AllByRecursion IsRight rest → s.pos.side ≡ Left → partner_among others s.variable ≡ Some r
@@ -111,11 +111,11 @@ none_passes test (x ∷ xs) e = by_test (test x) refl e (none_passes test xs)
     by_test true t f next = absurd (cc f)
     by_test false t f next = (t, next f)
 
-weaker : (P Q : SidedVariable → Type 0) (xs : List SidedVariable) → ((s : SidedVariable) → P s → Q s) → AllByRecursion P xs → AllByRecursion Q xs
+pub weaker : (P Q : SidedVariable → Type 0) (xs : List SidedVariable) → ((s : SidedVariable) → P s → Q s) → AllByRecursion P xs → AllByRecursion Q xs
 weaker P Q [] f h = tt
 weaker P Q (x ∷ xs) f h = (f x h.0, weaker P Q xs f h.1)
 
-found_by : (test : SidedVariable → Bool) (xs : List SidedVariable) (r : SidedVariable) → find test xs ≡ Some r → test r ≡ true
+pub found_by : (test : SidedVariable → Bool) (xs : List SidedVariable) (r : SidedVariable) → find test xs ≡ Some r → test r ≡ true
 found_by test [] r e = absurd (cc e)
 found_by test (x ∷ xs) r e = by_test (test x) refl e (found_by test xs r)
   where

@@ -1,5 +1,5 @@
 -- What positions and their partners are.
-use Rattle.std.specs.Prelude.{◌≡◌, ℕ, ◌==◌, Bool, false, ◌&&◌, List, map, Some, slice_get}
+use Rattle.std.specs.Prelude.{◌≡◌, ℕ, ◌<◌, ◌==◌, Bool, false, ◌&&◌, List, map, Some, None, slice_get}
 use Rattle.std.specs.List.{range_with_len}
 use Rattle.fs_model.specs.declared.parts.VarInfo.{VarInfo}
 use Rattle.fs_model.specs.Machines.{Fsmd}
@@ -44,3 +44,9 @@ pub record HasPartner (a b : Fsmd) (p : Position) (j : ℕ) : Type 0 where
   pub sides : same_side p.pos.side partner.pos.side ≡ false
   pub name : other.name ≡ variable.name
   pub sort : partner.sort ≡ p.sort
+
+-- a right variable without partner, of a larger number
+pub record ComesLater (p q : Position) : Type 0 where
+  pub right : q.pos.side ≡ Right
+  pub alone : q.partner ≡ None
+  pub later : p.pos.var < q.pos.var
