@@ -32,13 +32,13 @@ no_array (t ∷ ts) n role h = rw (scalar_steps t.kind n role h) refl
 abbrev with_name : List ℕ → List Token → Result (List ℕ × List Token) TextFault
 with_name x ts = Ok (x, ts)
 
-taken_name : {Y : Type 0} (past_limit : Bool) (f : TextFault) (x : List ℕ) (ts : List Token) (go : List Token → Result Y TextFault) → cond past_limit (Err f) (go ts) ≡ ((cond past_limit (Err f) (Ok ts) >>= with_name x) >>= λ y. go y.1)
+taken_name : {Y : Type 0} (past_limit : Bool) (f : TextFault) (x : List ℕ) (ts : List Token) (go : List ℕ → List Token → Result Y TextFault) → cond past_limit (Err f) (go x ts) ≡ ((cond past_limit (Err f) (Ok ts) >>= with_name x) >>= λ y. go y.0 y.1)
 taken_name true f x ts go = refl
 taken_name false f x ts go = refl
 
 name_taken : (w : TokenKind) (past_limit : Bool) (place : TextPlace) (ts : List Token) (d : Declaration)
     → parsed (record { kind = w; past_limit = past_limit; place = place } ∷ ts) (at_name d) ≡ (name_in (record { kind = w; past_limit = past_limit; place = place } ∷ ts) >>= λ x. parsed x.1 (after_name (with_names d (x.0 ∷ []))))
-name_taken (Name x) past_limit place ts d = taken_name past_limit _ x ts (λ rest. parsed rest (after_name (with_names d (x ∷ []))))
+name_taken (Name x) past_limit place ts d = taken_name past_limit _ x ts (λ y rest. parsed rest (after_name (with_names d (y ∷ []))))
 name_taken w past_limit place ts d = refl
 
 pub name_declared : (ts : List Token) (d : Declaration) → parsed ts (at_name d) ≡ (name_in ts >>= λ x. parsed x.1 (after_name (with_names d (x.0 ∷ []))))

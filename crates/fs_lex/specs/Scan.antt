@@ -1,5 +1,6 @@
 -- The tokens of a text, with their places.
 use Rattle.std.specs.Prelude.{ℕ, zero, suc, ◌+◌, ◌-◌, Bool, true, false, cond, ◌&&◌, ◌==◌, nat_le, List, [], ◌∷◌}
+use Rattle.fs_model.specs.Limits.{most_operators}
 use Rattle.fs_grammar.specs.declared.fault.TextPlace.{TextPlace}
 use Rattle.fs_grammar.specs.declared.token.TokenKind.{TokenKind}
 use Rattle.fs_grammar.specs.declared.token.TokenKind.TheVariants.{Bad, End}
@@ -22,9 +23,9 @@ moved p (b ∷ bs) = moved (after p b) bs
 abbrev pub counted : TokenKind → ℕ → ℕ
 counted t n = cond (starts_expression t) 0 (cond (is_operator t) (n + 1) n)
 
--- an operator after 128 others
+-- an operator after as many as there may be
 abbrev pub is_past_limit : TokenKind → ℕ → Bool
-is_past_limit t n = is_operator t && nat_le 128 n
+is_past_limit t n = is_operator t && nat_le most_operators n
 
 abbrev pub is_bad : TokenKind → Bool
 is_bad (Bad flaw) = true

@@ -1,4 +1,6 @@
 //! What stands at the front of a text: a blank, a comment or a token.
+//!
+//! A word, a number and punctuation are as long as they can be.
 
 ghost use Rattle.std.specs.Prelude.{◌≡◌, ◌<◌, ◌≤◌, ◌^◌, length, IfOk, SomeIff};
 ghost use Rattle.std.specs.List.{prefix_len};
@@ -8,26 +10,30 @@ ghost use Rattle.fs_lex.specs.Lexemes.{is_space, is_in_comment, keyword_of, word
 
 use fs_grammar::fault::ReadError;
 use fs_grammar::token::{Flaw, TokenKind};
+use fs_model::limits::NUMBER_LIMIT;
 use fs_model::name::{Name, is_digit, is_letter, is_word_byte};
 use fs_model::parts::{Rel, Role};
 use std::alloc::Global;
 
-// The greatest number of a text, 2^127 - 1.
-const GREATEST: u128 = 0x7fff_ffff_ffff_ffff_ffff_ffff_ffff_ffff;
+// The largest number of a text, without a sign.
+const GREATEST: u128 = NUMBER_LIMIT as u128;
 
-/// What stands at the front of a text, and how many bytes it takes.
+/// What stands at the front of a text, and how many bytes it takes: a blank or a comment, or a
+/// token.
 #[derive(Drop)]
 pub enum Lexeme {
     Blank(usize),
     Token(TokenKind, usize),
 }
 
+// Whether the byte separates tokens.
 fn is_space(b: u8) -> bool
     ensures { result ≡ is_space b }
 {
     b == b' ' || b == b'\t' || b == b'\r' || b == b'\n'
 }
 
+// The bytes up to the end of the line.
 fn comment_len(bytes: &[u8]) -> usize
     ensures is { result ≡ prefix_len is_in_comment bytes.now }
     ensures fits { result ≤ length bytes.now }
@@ -35,6 +41,7 @@ fn comment_len(bytes: &[u8]) -> usize
     bytes.iter().take_while(|b| **b != b'\n').count()
 }
 
+// The bytes with which a word goes on.
 fn word_len(bytes: &[u8]) -> usize
     ensures is { result ≡ prefix_len is_word_byte bytes.now }
     ensures fits { result ≤ length bytes.now }
@@ -42,6 +49,7 @@ fn word_len(bytes: &[u8]) -> usize
     bytes.iter().take_while(|b| is_word_byte(**b)).count()
 }
 
+// The digits at the front.
 fn digits_len(bytes: &[u8]) -> usize
     ensures is { result ≡ prefix_len is_digit bytes.now }
     ensures fits { result ≤ length bytes.now }
@@ -49,6 +57,7 @@ fn digits_len(bytes: &[u8]) -> usize
     bytes.iter().take_while(|b| is_digit(**b)).count()
 }
 
+// The token of a reserved word. `None` exactly when the word is not reserved.
 fn keyword(bytes: &[u8]) -> Option<TokenKind>
     ensures { result ≡ keyword_of bytes.now }
 {
@@ -84,6 +93,7 @@ fn keyword(bytes: &[u8]) -> Option<TokenKind>
     Some(kind)
 }
 
+// The token of a word: reserved, a name, or bad where it is too long.
 fn word(alloc: Global, bytes: &[u8]) -> Result<TokenKind, ReadError>
     ensures { MadeAs result (λ t. t ≡ word_of bytes.now) }
 {
@@ -113,6 +123,7 @@ fn value(bytes: &[u8]) -> Option<u128>
     Some(n)
 }
 
+// The token of a run of digits: a number, or bad where it is too large.
 #[tactic(auto, unfolding(crate::specs::Lexemes::number_of))]
 fn number(bytes: &[u8]) -> TokenKind
     ensures { result ≡ number_of bytes.now }
@@ -123,6 +134,7 @@ fn number(bytes: &[u8]) -> TokenKind
     }
 }
 
+// The token of two bytes of punctuation.
 fn double_punctuation(first: u8, second: u8) -> Option<TokenKind>
     ensures { result ≡ double_punctuation first second }
 {
@@ -137,6 +149,7 @@ fn double_punctuation(first: u8, second: u8) -> Option<TokenKind>
     }
 }
 
+// The token of a byte that groups or separates.
 fn mark(b: u8) -> Option<TokenKind>
     ensures { result ≡ mark b }
 {
@@ -155,6 +168,7 @@ fn mark(b: u8) -> Option<TokenKind>
     }
 }
 
+// The token of a byte that computes or compares, or that no token begins with.
 fn operator(b: u8) -> TokenKind
     ensures { result ≡ operator b }
 {
@@ -171,6 +185,7 @@ fn operator(b: u8) -> TokenKind
     }
 }
 
+// The token of one byte that is no letter, digit or blank.
 fn single_punctuation(b: u8) -> TokenKind
     ensures { result ≡ single_punctuation b }
 {
@@ -180,6 +195,7 @@ fn single_punctuation(b: u8) -> TokenKind
     }
 }
 
+// The longest punctuation at the front.
 fn punctuation(bytes: &[u8]) -> Lexeme
     requires { 0 < length bytes.now }
     ensures is { result ≡ punctuation_of bytes.now }
@@ -194,6 +210,7 @@ fn punctuation(bytes: &[u8]) -> Lexeme
     Lexeme::Token(single_punctuation(bytes[0]), 1)
 }
 
+// What stands at the front of some bytes. An `Err` is out of memory.
 pub(crate) fn next_lexeme(alloc: Global, bytes: &[u8]) -> Result<Lexeme, ReadError>
     requires { 0 < length bytes.now }
     ensures is { MadeAs result (λ l. l ≡ lexeme_of bytes.now) }

@@ -8,4 +8,4 @@
 pub mod lexemes;
 pub mod scan;
 
-pub use scan::{OPERATOR_LIMIT, tokens};
+pub use scan::tokens;

@@ -1,6 +1,7 @@
 //! The tokens of a text, with their places.
 
 ghost use Rattle.std.specs.Prelude.{◌≡◌, ◌<◌, ◌≤◌, ◌+◌, ◌^◌, length};
+ghost use Rattle.fs_model.specs.Limits.{most_text_bytes};
 ghost use Rattle.fs_grammar.specs.Tokens.{MadeAs};
 ghost use Rattle.fs_grammar.specs.Operators.{is_operator, starts_expression};
 ghost use Rattle.fs_lex.specs.Scan.{moved, counted, is_past_limit, is_bad, tokens_of};
@@ -8,11 +9,10 @@ ghost use Rattle.fs_lex.specs.Scan.{moved, counted, is_past_limit, is_bad, token
 use crate::lexemes::{Lexeme, next_lexeme};
 use fs_grammar::fault::{ReadError, TextPlace};
 use fs_grammar::token::{Token, TokenKind};
+use fs_model::limits::OPERATOR_LIMIT;
 use std::alloc::Global;
 
-/// The most operators and opening brackets of one guard or one assignment.
-pub const OPERATOR_LIMIT: usize = 128;
-
+// Whether the limit counts the token: operators and opening brackets.
 fn is_operator(kind: &TokenKind) -> bool
     ensures { result ≡ is_operator kind.now }
 {
@@ -33,18 +33,21 @@ fn is_operator(kind: &TokenKind) -> bool
     )
 }
 
+// Whether a guard or an assignment may begin behind the token.
 fn starts_expression(kind: &TokenKind) -> bool
     ensures { result ≡ starts_expression kind.now }
 {
     matches!(kind, TokenKind::When | TokenKind::Colon | TokenKind::Comma)
 }
 
+// Whether the token is faulty by itself.
 fn is_bad(kind: &TokenKind) -> bool
     ensures { result ≡ is_bad kind.now }
 {
     matches!(kind, TokenKind::Bad(_))
 }
 
+// The operators of the guard or assignment up to the token, where so many stand before it.
 fn counted(kind: &TokenKind, operators: usize) -> usize
     requires { operators + 1 < 2 ^ 64 }
     ensures is { result ≡ counted kind.now operators }
@@ -59,12 +62,14 @@ fn counted(kind: &TokenKind, operators: usize) -> usize
     }
 }
 
+// Whether the token is an operator behind as many as a guard or an assignment may have.
 fn is_past_limit(kind: &TokenKind, operators: usize) -> bool
     ensures { result ≡ is_past_limit kind.now operators }
 {
-    is_operator(kind) && operators >= OPERATOR_LIMIT
+    is_operator(kind) && operators >= OPERATOR_LIMIT as usize
 }
 
+// The place behind some bytes.
 fn moved(from: TextPlace, bytes: &[u8]) -> TextPlace
     requires line { from.line + length bytes.now < 2 ^ 32 }
     requires column { from.column + length bytes.now < 2 ^ 32 }
@@ -92,10 +97,11 @@ fn moved(from: TextPlace, bytes: &[u8]) -> TextPlace
 }
 
 /// The tokens of a text of at most 1,048,576 bytes. The last is the end of the bytes, or the first
-/// that is no token of the language. An `Err` is want of memory.
+/// that is no token of the language. Each is marked where it is past the limit of its guard or
+/// assignment. An `Err` is out of memory.
 #[tactic(auto, using(crate::proofs::Scans::blank_scans, crate::proofs::Scans::token_scans))]
 pub fn tokens(alloc: Global, bytes: &[u8]) -> Result<Vec<Token>, ReadError>
-    requires { length bytes.now ≤ 1048576 }
+    requires { length bytes.now ≤ most_text_bytes }
     ensures { MadeAs result (λ v. v.items ≡ tokens_of bytes.now) }
 {
     let mut out = Vec::new(alloc);

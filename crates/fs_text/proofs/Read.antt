@@ -1,19 +1,19 @@
 -- What reading gives, by the grammar.
-use Rattle.std.proofs.Common.{◌≡◌, ℕ, List}
+use Rattle.std.proofs.Common.{ℕ, List}
 use Rattle.std.specs.Prelude.{Result, Ok, Err, IfOk, IsTrue}
 use Rattle.std.specs.Result.{IfErr}
 use Rattle.fs_model.specs.Source.{Source}
 use Rattle.fs_model.specs.WellFormed.{is_well_formed}
 use Rattle.fs_grammar.specs.declared.fault.ReadError.{ReadError}
 use Rattle.fs_grammar.specs.declared.fault.ReadError.TheVariants.{Text, NoMemory}
-use Rattle.fs_grammar.specs.declared.fault.TextKind.TheVariants.{Operators}
 use Rattle.fs_grammar.specs.Tokens.{Gives}
 use Rattle.fs_lex.specs.Scan.{tokens_of}
 use Rattle.grammar_laws.specs.Faults.{Spells, StopsAt}
 use Rattle.grammar_laws.proofs.Exact.{read_is_spelled, fault_is_first}
-use Rattle.text_laws.specs.Limit.{ExceedsLimit}
+use Rattle.lex_laws.specs.Tokenization.{StandsIn}
+use Rattle.text_laws.specs.Limit.{SpellWithin, StopWithin}
 use Rattle.text_laws.proofs.Ended.{tokens_ended}
-use Rattle.text_laws.proofs.Limit.{found}
+use Rattle.text_laws.proofs.Limit.{spelled_found, fault_stands}
 use Rattle.text_laws.proofs.Read.{read_is_well_formed}
 use Rattle.fs_text.specs.Spelled.{spelled, IfText}
 
@@ -31,7 +31,11 @@ module _ {P : Type 0} (view : P → Source) (bytes : List ℕ) where
   fault (Err (Text f)) e = fault_is_first (tokens_of bytes) f (tokens_ended bytes) e
   fault (Err NoMemory) e = tt
 
-  pub operators : (r : Result P ReadError) → Gives view r (spelled bytes) → IfErr r (λ e. IfText e (λ f. f.kind ≡ Operators → ExceedsLimit (tokens_of bytes) f))
-  operators (Ok p) e = tt
-  operators (Err (Text f)) e = found bytes f e
-  operators (Err NoMemory) e = tt
+  pub within : (r : Result P ReadError) → Gives view r (spelled bytes) → IfOk r (λ p. SpellWithin (tokens_of bytes) (view p))
+  within (Ok p) e = spelled_found bytes (view p) e
+  within (Err e) h = tt
+
+  pub stops : (r : Result P ReadError) → Gives view r (spelled bytes) → IfErr r (λ e. IfText e (λ f. (s : StopWithin (tokens_of bytes) f) × StandsIn bytes s.token))
+  stops (Ok p) e = tt
+  stops (Err (Text f)) e = fault_stands bytes f e
+  stops (Err NoMemory) e = tt

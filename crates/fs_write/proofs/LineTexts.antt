@@ -5,7 +5,8 @@ use Rattle.std.specs.List.{flat_map, list_all, list_any}
 use Rattle.fs_model.specs.Words.{is_word_byte, is_name}
 use Rattle.fs_model.specs.Terms.{Term, Guard, Assignment, Assign, ArrayWrite, Emit}
 use Rattle.fs_model.specs.Source.{SourceTransition, Source}
-use Rattle.fs_model.specs.WellFormed.{most_operators, operators_of_term, operators_of_guard, is_natural_term, is_natural_guard, is_well_formed_condition, is_well_formed_assignment, is_well_formed_transition}
+use Rattle.fs_model.specs.Limits.{most_operators}
+use Rattle.fs_model.specs.WellFormed.{operators_of_term, operators_of_guard, is_natural_term, is_natural_guard, is_well_formed_condition, is_well_formed_assignment, is_well_formed_transition}
 use Rattle.fs_grammar.specs.declared.fault.TextFault.{TextFault}
 use Rattle.fs_grammar.specs.declared.format.Format.TheVariants.{Two}
 use Rattle.fs_grammar.specs.declared.token.TokenKind.{TokenKind}

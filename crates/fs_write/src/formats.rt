@@ -3,18 +3,11 @@
 ghost use Rattle.std.specs.Prelude.{◌≡◌, map};
 ghost use Rattle.std.specs.List.{list_any};
 ghost use Rattle.fs_model.specs.View.{named_assignment, declaration_of, source_transition_of, source_state_of, source_of};
-ghost use Rattle.fs_model.specs.Runs.{is_port};
 ghost use Rattle.fs_write.specs.Formats.{declares_ports, is_emit, emits_in_transition, emits_in_state, format_for};
 
 use fs_grammar::format::Format;
 use fs_model::name::Name;
-use fs_model::parts::{Assign, Decl, Parts, RawLine, RawState, Sort};
-
-fn declares_ports(sort: Sort) -> bool
-    ensures { result ≡ is_port sort }
-{
-    matches!(sort, Sort::Port)
-}
+use fs_model::parts::{Assign, Decl, Parts, RawLine, RawState};
 
 fn is_emit(assign: &Assign<Name>) -> bool
     ensures { result ≡ is_emit (named_assignment assign.now) }
@@ -25,7 +18,7 @@ fn is_emit(assign: &Assign<Name>) -> bool
 fn declare_ports(decls: &[Decl]) -> bool
     ensures { result ≡ list_any declares_ports (map declaration_of decls.now) }
 {
-    decls.iter().any(|decl| declares_ports(decl.sort))
+    decls.iter().any(|decl| decl.sort.is_port())
 }
 
 fn have_emits(assigns: &[Assign<Name>]) -> bool

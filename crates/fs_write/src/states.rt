@@ -47,7 +47,7 @@ fn write_comma(out: &mut Vec<u8>) -> Result<(), AllocError>
     out.extend_from_slice(b", ")
 }
 
-/// Writes the assignments after the first one.
+// Writes the assignments after the first one.
 fn write_more_assigns(out: &mut Vec<u8>, assigns: &[Assign<Name>]) -> Result<(), AllocError>
     ensures text { OnOk result (out.new.items ≡ out.old.items ++ flat_map after_comma (map assignment_text (map named_assignment assigns.now))) }
     ensures words { OnOk result (IsTrue (list_all is_spellable_assignment (map named_assignment assigns.now))) }
@@ -59,7 +59,7 @@ fn write_more_assigns(out: &mut Vec<u8>, assigns: &[Assign<Name>]) -> Result<(),
     Ok(())
 }
 
-/// Writes the assignments of a transition, or nothing where it has none.
+// Writes the assignments of a transition, or nothing where it has none.
 fn write_assigns(out: &mut Vec<u8>, assigns: &[Assign<Name>]) -> Result<(), AllocError>
     ensures text { OnOk result (out.new.items ≡ out.old.items ++ assignments_text (map named_assignment assigns.now)) }
     ensures words { OnOk result (IsTrue (list_all is_spellable_assignment (map named_assignment assigns.now))) }
@@ -116,7 +116,7 @@ fn write_states(out: &mut Vec<u8>, states: &[RawState]) -> Result<(), AllocError
     Ok(())
 }
 
-/// Writes the names after the first one.
+// Writes the names after the first one.
 fn write_more_names(out: &mut Vec<u8>, names: &[Name]) -> Result<(), AllocError>
     ensures text { OnOk result (out.new.items ≡ out.old.items ++ flat_map after_comma names.now) }
     ensures words { OnOk result (IsTrue (list_all is_name names.now)) }

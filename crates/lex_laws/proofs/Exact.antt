@@ -1,7 +1,8 @@
 -- Each kind of token stands exactly where its bytes say so.
-use Rattle.std.proofs.Common.{◌≡◌, ℕ, ◌^◌, ◌<◌, ◌≤◌, ◌↔◌, List, [], ◌∷◌, ◌++◌, length, refl, sym, subst, ◌∙◌, arith}
+use Rattle.std.proofs.Common.{◌≡◌, ℕ, ◌<◌, ◌≤◌, ◌↔◌, List, [], ◌∷◌, ◌++◌, length, refl, sym, subst, ◌∙◌, arith}
 use Rattle.std.specs.Prelude.{pos, nat_lt, IsTrue, Some, is_some}
 use Rattle.std.proofs.lemmas.Bool.{ltb-true}
+use Rattle.fs_model.specs.Limits.{most_name_bytes, most_number}
 use Rattle.fs_model.specs.Words.{is_word, is_name, is_reserved}
 use Rattle.fs_grammar.specs.declared.token.TokenKind.{TokenKind}
 use Rattle.fs_grammar.specs.declared.token.TokenKind.TheVariants.{Name, Number, Bad}
@@ -35,14 +36,14 @@ keywords own = sym (reserved_tells own)
 pub names : (t : TokenKind) (own rest : List ℕ) → StandsBefore t own rest → IsTrue (is_name own) → t ≡ Name own
 names t own rest h n = sym (kind_spelled t own rest h (word_has_bytes own (name_is_word own n))) ∙ name_spelled own n
 
-pub words : (t : TokenKind) (own rest : List ℕ) → StandsBefore t own rest → IsTrue (is_word own) → (t ≡ Bad flaws.Word) ↔ (32 < length own)
+pub words : (t : TokenKind) (own rest : List ℕ) → StandsBefore t own rest → IsTrue (is_word own) → (t ≡ Bad flaws.Word) ↔ (most_name_bytes < length own)
 words t own rest h w =
     (λ e. (subst (λ (u : TokenKind). StandsBefore u own rest) e h).1, λ l. sym (kind_spelled t own rest h (word_has_bytes own w)) ∙ long_spelled own w l)
 
-pub numbers : (t : TokenKind) (own rest : List ℕ) → StandsBefore t own rest → IsTrue (is_number own) → number_value own < 2 ^ 127 → t ≡ Number (pos (number_value own))
+pub numbers : (t : TokenKind) (own rest : List ℕ) → StandsBefore t own rest → IsTrue (is_number own) → number_value own ≤ most_number → t ≡ Number (pos (number_value own))
 numbers t own rest h n l = sym (kind_spelled t own rest h (number_has_bytes own n)) ∙ number_spelled own n l
 
-pub large : (t : TokenKind) (own rest : List ℕ) → StandsBefore t own rest → IsTrue (is_number own) → (t ≡ Bad flaws.Number) ↔ (2 ^ 127 ≤ number_value own)
+pub large : (t : TokenKind) (own rest : List ℕ) → StandsBefore t own rest → IsTrue (is_number own) → (t ≡ Bad flaws.Number) ↔ (most_number < number_value own)
 large t own rest h n =
     (λ e. (subst (λ (u : TokenKind). StandsBefore u own rest) e h).1, λ l. sym (kind_spelled t own rest h (number_has_bytes own n)) ∙ large_spelled own n l)
 

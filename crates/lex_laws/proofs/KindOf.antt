@@ -2,6 +2,7 @@
 use Rattle.std.proofs.Common.{◌≡◌, ℕ, ◌^◌, ◌<◌, ◌≤◌, List, [], ◌∷◌, ◌++◌, length, refl, sym, ap, ◌∙◌, cond, inl, inr, arith}
 use Rattle.std.specs.Prelude.{pos, Bool, true, false, not, ◌&&◌, ◌||◌, ◌⊎◌, nat_le, nat_lt, IsTrue, Option, Some, None, is_some}
 use Rattle.std.proofs.lemmas.Bool.{not-true}
+use Rattle.fs_model.specs.Limits.{most_number}
 use Rattle.fs_model.specs.Words.{is_letter, is_digit, is_word, is_name, is_reserved}
 use Rattle.fs_grammar.specs.declared.token.TokenKind.{TokenKind}
 use Rattle.fs_grammar.specs.declared.token.TokenKind.TheVariants.{Name, Number, Bad, End}
@@ -84,17 +85,17 @@ kind_of_number own b n e =
     other_spelled own (number_no_word own n) ∙ ap (λ (b : Bool). cond b (number_or_bad (number_value own)) (punctuation_or_bad (punctuation_kind own))) n
     ∙ ap (λ (b : Bool). cond b (Number (pos (number_value own))) (Bad flaws.Number)) e
 
-is_less : (n m : ℕ) → n < m → nat_lt n m ≡ true
-is_less n m h = grind (arith, h)
+is_less : (n : ℕ) → n ≤ most_number → nat_lt n (2 ^ 127) ≡ true
+is_less n h = grind (arith, h)
 
-is_not_less : (n m : ℕ) → m ≤ n → nat_lt n m ≡ false
-is_not_less n m h = grind (arith, h)
+is_not_less : (n : ℕ) → most_number < n → nat_lt n (2 ^ 127) ≡ false
+is_not_less n h = grind (arith, h)
 
-pub number_spelled : (own : List ℕ) → IsTrue (is_number own) → number_value own < 2 ^ 127 → spelled own ≡ Number (pos (number_value own))
-number_spelled own n h = kind_of_number own true n (is_less (number_value own) (2 ^ 127) h)
+pub number_spelled : (own : List ℕ) → IsTrue (is_number own) → number_value own ≤ most_number → spelled own ≡ Number (pos (number_value own))
+number_spelled own n h = kind_of_number own true n (is_less (number_value own) h)
 
-pub large_spelled : (own : List ℕ) → IsTrue (is_number own) → 2 ^ 127 ≤ number_value own → spelled own ≡ Bad flaws.Number
-large_spelled own n h = kind_of_number own false n (is_not_less (number_value own) (2 ^ 127) h)
+pub large_spelled : (own : List ℕ) → IsTrue (is_number own) → most_number < number_value own → spelled own ≡ Bad flaws.Number
+large_spelled own n h = kind_of_number own false n (is_not_less (number_value own) h)
 
 -- ---- punctuation
 

@@ -8,6 +8,7 @@ use Rattle.std.specs.Map.{lookup}
 use Rattle.std.specs.Str.{bytes_eq}
 use Rattle.std.proofs.lemmas.Map.Made.{is_some-lookup}
 use Rattle.fs_model.specs.declared.parts.Rel.TheVariants.{Lt, Gt}
+use Rattle.fs_model.specs.Limits.{most_number}
 use Rattle.fs_model.specs.Words.{is_letter, is_digit, is_word_byte, is_word, is_name, is_reserved}
 use Rattle.fs_grammar.specs.declared.token.TokenKind.{TokenKind}
 use Rattle.fs_grammar.specs.declared.token.TokenKind.TheVariants.{Name, Number, Semicolon, Colon, Comma, Equals, OpenParen, CloseParen, OpenBracket, CloseBracket, OpenBrace, CloseBrace, Plus, Minus, Star, Slash, Percent, Bang, Relation, Bad, End}
@@ -175,8 +176,8 @@ decimal_value : (ds : List ℕ) → decimal ds ≡ number_value ds
 decimal_value ds = digits_value 0 ds ∙ omega arith
 
 number_kind_stands : (own rest : List ℕ) (v : ℕ) (t : Bool) → nat_lt v (2 ^ 127) ≡ t → v ≡ number_value own → IsTrue (is_number own) → IsLongest own rest → StandsBefore (cond t (Number (pos v)) (Bad flaws.Number)) own rest
-number_kind_stands own rest v true e f n l = (n, ap pos f, subst (λ (x : ℕ). x < 2 ^ 127) f (grind (arith, e)), l)
-number_kind_stands own rest v false e f n l = (n, subst (λ (x : ℕ). 2 ^ 127 ≤ x) f (grind (arith, e)), l)
+number_kind_stands own rest v true e f n l = (n, ap pos f, subst (λ (x : ℕ). x ≤ most_number) f (grind (arith, e)), l)
+number_kind_stands own rest v false e f n l = (n, subst (λ (x : ℕ). most_number < x) f (grind (arith, e)), l)
 
 pub number_stands : (d : ℕ) (ds rest : List ℕ) → is_letter d ≡ false → is_digit d ≡ true → IsTrue (list_all is_digit ds) → StopsAt is_digit rest → StandsBefore (number_of (d ∷ ds)) (d ∷ ds) rest
 unfolding number_of

@@ -1,6 +1,7 @@
 -- The tokens of a text, said of its bytes: where each stands, and what stands between them.
-use Rattle.std.specs.Prelude.{◌≡◌, ℕ, ◌+◌, ◌^◌, ◌<◌, ◌≤◌, ◌==◌, pos, ◌⊎◌, Bool, true, false, not, IsTrue, Some, List, [], ◌∷◌, ◌++◌, length, reverse}
+use Rattle.std.specs.Prelude.{◌≡◌, ℕ, ◌+◌, ◌<◌, ◌≤◌, ◌==◌, pos, ◌⊎◌, Bool, true, false, not, IsTrue, Some, List, [], ◌∷◌, ◌++◌, length, reverse}
 use Rattle.std.specs.List.{list_all, count_by, prefix_len}
+use Rattle.fs_model.specs.Limits.{most_name_bytes, most_number}
 use Rattle.fs_model.specs.Words.{is_word, is_name}
 use Rattle.fs_grammar.specs.declared.fault.TextPlace.{TextPlace}
 use Rattle.fs_grammar.specs.declared.token.Flaw.TheVariants as flaws
@@ -28,9 +29,9 @@ pub record BeginsNothing (b : ℕ) (rest : List ℕ) : Type 0 where
 -- a token of this kind stands before the rest, and these are its bytes
 abbrev pub StandsBefore : TokenKind → List ℕ → List ℕ → Type 0
 StandsBefore (Name x) own rest = (x ≡ own) × IsTrue (is_name own) × IsLongest own rest
-StandsBefore (Number n) own rest = IsTrue (is_number own) × (n ≡ pos (number_value own)) × (number_value own < 2 ^ 127) × IsLongest own rest
-StandsBefore (Bad flaws.Word) own rest = IsTrue (is_word own) × (32 < length own) × IsLongest own rest
-StandsBefore (Bad flaws.Number) own rest = IsTrue (is_number own) × (2 ^ 127 ≤ number_value own) × IsLongest own rest
+StandsBefore (Number n) own rest = IsTrue (is_number own) × (n ≡ pos (number_value own)) × (number_value own ≤ most_number) × IsLongest own rest
+StandsBefore (Bad flaws.Word) own rest = IsTrue (is_word own) × (most_name_bytes < length own) × IsLongest own rest
+StandsBefore (Bad flaws.Number) own rest = IsTrue (is_number own) × (most_number < number_value own) × IsLongest own rest
 StandsBefore (Bad flaws.Byte) own rest = (b : ℕ) × (own ≡ b ∷ []) × BeginsNothing b rest
 StandsBefore End own rest = (own ≡ []) × (rest ≡ [])
 StandsBefore t own rest = ((reserved_kind own ≡ Some t) ⊎ (punctuation_kind own ≡ Some t)) × IsLongest own rest

@@ -5,7 +5,8 @@
 //! Each function is a law, stated by its contract; it does nothing.
 #![tactic(auto)]
 
-ghost use Rattle.std.specs.Prelude.{◌≡◌, ℕ, pos, ◌^◌, ◌<◌, ◌≤◌, ◌↔◌, List, [], ◌∷◌, ◌++◌, map, length, Some, is_some, IsTrue};
+ghost use Rattle.std.specs.Prelude.{◌≡◌, ℕ, pos, ◌<◌, ◌≤◌, ◌↔◌, List, [], ◌∷◌, ◌++◌, map, length, Some, is_some, IsTrue};
+ghost use Rattle.fs_model.specs.Limits.{most_name_bytes, most_number};
 ghost use Rattle.fs_model.specs.Words.{is_word, is_reserved, is_name};
 ghost use Rattle.fs_grammar.specs.declared.token.Flaw.TheVariants as flaws;
 ghost use Rattle.fs_grammar.specs.declared.token.TokenKind.{TokenKind};
@@ -40,9 +41,9 @@ pub fn a_kind_is_that_of_the_bytes()
     ensures reserved { (t u : TokenKind) (own rest : List ℕ) → StandsBefore t own rest → reserved_kind own ≡ Some u → t ≡ u }
     ensures keywords { (own : List ℕ) → is_some (reserved_kind own) ≡ is_reserved own }
     ensures names { (t : TokenKind) (own rest : List ℕ) → StandsBefore t own rest → IsTrue (is_name own) → t ≡ Name own }
-    ensures words { (t : TokenKind) (own rest : List ℕ) → StandsBefore t own rest → IsTrue (is_word own) → (t ≡ Bad flaws.Word) ↔ (32 < length own) }
-    ensures numbers { (t : TokenKind) (own rest : List ℕ) → StandsBefore t own rest → IsTrue (is_number own) → number_value own < 2 ^ 127 → t ≡ Number (pos (number_value own)) }
-    ensures large { (t : TokenKind) (own rest : List ℕ) → StandsBefore t own rest → IsTrue (is_number own) → (t ≡ Bad flaws.Number) ↔ (2 ^ 127 ≤ number_value own) }
+    ensures words { (t : TokenKind) (own rest : List ℕ) → StandsBefore t own rest → IsTrue (is_word own) → (t ≡ Bad flaws.Word) ↔ (most_name_bytes < length own) }
+    ensures numbers { (t : TokenKind) (own rest : List ℕ) → StandsBefore t own rest → IsTrue (is_number own) → number_value own ≤ most_number → t ≡ Number (pos (number_value own)) }
+    ensures large { (t : TokenKind) (own rest : List ℕ) → StandsBefore t own rest → IsTrue (is_number own) → (t ≡ Bad flaws.Number) ↔ (most_number < number_value own) }
     ensures punctuation { (t u : TokenKind) (own rest : List ℕ) → StandsBefore t own rest → punctuation_kind own ≡ Some u → t ≡ u }
 {}
 

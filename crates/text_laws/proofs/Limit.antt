@@ -25,7 +25,7 @@ use Rattle.fs_lex.specs.Scan.{counted, is_past_limit, tokens_of}
 use Rattle.lex_laws.specs.Tokenization.{StandsIn}
 use Rattle.lex_laws.proofs.Stood.{stands_in_text}
 use Rattle.text_laws.specs.Limit.{operator_count, IsOneTooMany, KeepLimit, SpellWithin, IsWrongWithin, StopWithin}
-use Rattle.text_laws.proofs.Counted.{AreCounted, scan_counted}
+use Rattle.text_laws.proofs.Counted.{AreCounted, tokens_counted}
 use Rattle.text_laws.proofs.Ended.{tokens_ended}
 
 abbrev AreInside : List Token → Type 0
@@ -132,9 +132,6 @@ none_before before rest a b t n c o e x =
     let no : t.past_limit ≡ false = clear_at a b t (subst AreClear e o) in
     let two : true ≡ false = sym yes ∙ no in
     cc
-
-pub tokens_counted : (bytes : List ℕ) → AreCounted 0 (tokens_of bytes)
-tokens_counted bytes = scan_counted bytes 0 (record { line = 1; column = 1 }) 0
 
 -- ---- tokens that begin a file, none of them one too many, are not marked
 
