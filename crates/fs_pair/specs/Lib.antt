@@ -1,5 +1,7 @@
-pub mod Faces
-pub mod Sites
+pub mod Interfaces
+pub mod SidedVariables
 pub mod View
 pub mod Positions
 pub mod Answers
+pub mod Outputs
+pub mod Partners

@@ -1,6 +1,8 @@
 //! The interfaces of two machines, and their variables in one order.
 #![tactic(auto)]
 
-pub mod faces;
+pub mod interfaces;
+pub mod laws;
+pub mod memory;
 pub mod positions;
-mod sites;
+mod sided_variables;

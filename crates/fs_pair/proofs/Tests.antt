@@ -1,0 +1,103 @@
+-- What tests of names, sorts and sides say.
+use Rattle.std.proofs.Common.{◌≡◌, sym, refl, ◌∙◌, ap, Bool, true, false}
+use Rattle.std.specs.Prelude.{not, ◌&&◌, ◌||◌}
+use Rattle.std.specs.Str.{bytes_eq}
+use Rattle.std.proofs.lemmas.Slice.Eq.{bytes_eq-Decides}
+use Rattle.fs_model.specs.declared.parts.Sort.{Sort}
+use Rattle.fs_model.specs.declared.parts.Sort.TheVariants.{Scalar, Array, Port}
+use Rattle.fs_model.specs.declared.parts.VarInfo.{VarInfo}
+use Rattle.nf_terms.specs.declared.tree.Side.{Side}
+use Rattle.nf_terms.specs.declared.tree.Side.TheVariants.{Left, Right}
+use Rattle.fs_pair.specs.Interfaces.{same_sort}
+use Rattle.fs_pair.specs.SidedVariables.{same_name_and_sort, same_side}
+
+pub and_left : (a b : Bool) → (a && b) ≡ true → a ≡ true
+and_left true b h = refl
+and_left false b h = absurd (cc)
+
+pub and_right : (a b : Bool) → (a && b) ≡ true → b ≡ true
+and_right true b h = h
+and_right false b h = absurd (cc)
+
+pub both : (a b : Bool) → a ≡ true → b ≡ true → (a && b) ≡ true
+both true b p q = q
+both false b p q = absurd (cc p)
+
+pub or_right : (a b : Bool) → b ≡ true → (a || b) ≡ true
+or_right true b h = refl
+or_right false b h = h
+
+pub neither_left : (a b : Bool) → (a || b) ≡ false → a ≡ false
+neither_left true b h = absurd (cc h)
+neither_left false b h = refl
+
+pub neither_right : (a b : Bool) → (a || b) ≡ false → b ≡ false
+neither_right true b h = absurd (cc h)
+neither_right false b h = h
+
+pub not_false : (b : Bool) → not b ≡ false → b ≡ true
+not_false true e = refl
+not_false false e = absurd (cc e)
+
+pub not_true : (b : Bool) → not b ≡ true → b ≡ false
+not_true true e = absurd (cc e)
+not_true false e = refl
+
+-- a test that is true only where another is, and the other way round
+pub as_often : (a b : Bool) → (a ≡ true → b ≡ true) → (b ≡ true → a ≡ true) → a ≡ b
+as_often true b f g = sym (f refl)
+as_often false true f g = g refl
+as_often false false f g = refl
+
+pub same_sort_is : (s t : Sort) → same_sort s t ≡ true → s ≡ t
+same_sort_is Scalar Scalar e = refl
+same_sort_is Scalar Array e = absurd (cc e)
+same_sort_is Scalar Port e = absurd (cc e)
+same_sort_is Array Scalar e = absurd (cc e)
+same_sort_is Array Array e = refl
+same_sort_is Array Port e = absurd (cc e)
+same_sort_is Port Scalar e = absurd (cc e)
+same_sort_is Port Array e = absurd (cc e)
+same_sort_is Port Port e = refl
+
+same_sort_self : (s : Sort) → same_sort s s ≡ true
+same_sort_self Scalar = refl
+same_sort_self Array = refl
+same_sort_self Port = refl
+
+pub same_side_self : (d : Side) → same_side d d ≡ true
+same_side_self Left = refl
+same_side_self Right = refl
+
+pub same_side_is : (d e : Side) → same_side d e ≡ true → d ≡ e
+same_side_is Left Left h = refl
+same_side_is Left Right h = absurd (cc h)
+same_side_is Right Left h = absurd (cc h)
+same_side_is Right Right h = refl
+
+-- of two sides, both others of a third are one
+pub third_side : (d e f : Side) → same_side d e ≡ false → same_side e f ≡ false → d ≡ f
+third_side Left Left f h g = absurd (cc h)
+third_side Left Right Left h g = refl
+third_side Left Right Right h g = absurd (cc g)
+third_side Right Left Left h g = absurd (cc g)
+third_side Right Left Right h g = refl
+third_side Right Right f h g = absurd (cc h)
+
+pub same_name : (v u : VarInfo) → same_name_and_sort v u ≡ true → u.name ≡ v.name
+same_name v u h = (bytes_eq-Decides u.name v.name).0 (and_left (bytes_eq u.name v.name) (same_sort u.sort v.sort) h)
+
+pub same_sorts : (v u : VarInfo) → same_name_and_sort v u ≡ true → u.sort ≡ v.sort
+same_sorts v u h = same_sort_is u.sort v.sort (and_right (bytes_eq u.name v.name) (same_sort u.sort v.sort) h)
+
+pub are_same : (v u : VarInfo) → u.name ≡ v.name → u.sort ≡ v.sort → same_name_and_sort v u ≡ true
+are_same v u n s = both (bytes_eq u.name v.name) (same_sort u.sort v.sort) ((bytes_eq-Decides u.name v.name).1 n) (ap (λ (t : Sort). same_sort t v.sort) s ∙ same_sort_self v.sort)
+
+pub same_back : (v u : VarInfo) → same_name_and_sort v u ≡ true → same_name_and_sort u v ≡ true
+same_back v u h = are_same u v (sym (same_name v u h)) (sym (same_sorts v u h))
+
+pub same_both_ways : (v u : VarInfo) → same_name_and_sort v u ≡ same_name_and_sort u v
+same_both_ways v u = as_often (same_name_and_sort v u) (same_name_and_sort u v) (same_back v u) (same_back u v)
+
+pub same_chain : (v u w : VarInfo) → same_name_and_sort v u ≡ true → same_name_and_sort u w ≡ true → same_name_and_sort v w ≡ true
+same_chain v u w h g = are_same v w (same_name u w g ∙ same_name v u h) (same_sorts u w g ∙ same_sorts v u h)
