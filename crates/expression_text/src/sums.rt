@@ -8,7 +8,9 @@ ghost use Rattle.fs_grammar.specs.Ends.{EndsSum};
 ghost use Rattle.expression_text.specs.Operators.{product_operator_at, sum_operator_at, multiplied, added};
 ghost use Rattle.expression_text.specs.Inside.{FactorContext, ProductContext, SumContext, parsed, factor_done, product_done, at_factor, after_name, after_product, at_sum, after_sum, first_factor, parens, index};
 
-use crate::operators::{ProductOperator, SumOperator, added, multiplied, product_operator, sum_operator};
+use crate::operators::{
+    ProductOperator, SumOperator, added, multiplied, product_operator, sum_operator,
+};
 use fs_grammar::fault::ReadError;
 use fs_grammar::token::{Token, TokenKind, accept, front, refuse};
 use fs_model::name::Name;
