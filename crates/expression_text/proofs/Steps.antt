@@ -11,8 +11,8 @@ use Rattle.fs_grammar.specs.Tokens.{kind_at, accepted}
 use Rattle.fs_grammar.specs.Ends.{IsNoSum, EndsSum, IsNoAnd, EndsConjunction, IsNoOr, EndsGuard, IsNoIndex, EndsName, IsNoBrace, IsLiteral}
 use Rattle.expression_text.specs.declared.operators.ProductOperator.{ProductOperator}
 use Rattle.expression_text.specs.declared.operators.SumOperator.{SumOperator}
-use Rattle.expression_text.specs.Operators.{product_operator, sum_operator, product_operator_in, sum_operator_in, product_operator_at, sum_operator_at, joins_units, joins_alternatives}
-use Rattle.expression_text.specs.Inside.{UnitContext, negates, first_of_all, and_after, ConjunctionContext, first_of_any, or_after, GuardContext, FactorContext, first_factor, next_factor, negative, ProductContext, first_product, next_product, SumContext, left, right, Inside, at_unit, at_factor, after_conjunction, after_guard, after_name, after_product, after_sum, at_sum, factor_done, product_done, unit_done, conjunction_done, literal_done, step_factor, step_unit, step_guard, step_guarded, step_conjunction, step_joined, step_closed, step_sum_on, step_sum, step_summed, step_product_on, step_product, step_multiplied, step_name, step, whole, ends_joined, ends_guarded, ends_summed, ends_multiplied, parsed}
+use Rattle.expression_text.specs.Operators.{product_operator, sum_operator, sum_operator_in, product_operator_at, sum_operator_at, joins_units, joins_alternatives}
+use Rattle.expression_text.specs.Inside.{UnitContext, negates, first_of_all, and_after, ConjunctionContext, first_of_any, or_after, GuardContext, FactorContext, first_factor, next_factor, negative, ProductContext, first_product, next_product, SumContext, left, right, Inside, at_unit, at_factor, after_conjunction, after_guard, after_name, after_product, after_sum, at_sum, factor_done, product_done, unit_done, conjunction_done, literal_done, step_factor, step_unit, step_guard, step_guarded, step_conjunction, step_joined, step_sum_on, step_sum, step_summed, step_product_on, step_multiplied, step_name, step, whole, ends_joined, ends_guarded, ends_summed, ends_multiplied, parsed}
 
 -- two states read alike where each token leads both to the same, and both end alike
 same_parsed : (ts : List Token) (a b : Inside) → ((t : TokenKind) → kind_at ts ≡ Some t → step a t ≡ step b t) → whole a ≡ whole b → parsed ts a ≡ parsed ts b
