@@ -19,10 +19,10 @@ pub and_both : (a b : Bool) → a ≡ true → b ≡ true → (a && b) ≡ true
 and_both true b e f = f
 and_both false b e f = absurd (cc)
 
-module _ (T : Literal ℕ → Bool) (same : (l : Literal ℕ) → T (negated l) ≡ T l) (A : Assignment ℕ → Bool) (S : ℕ → Bool) where
+module _ (T : Literal ℕ → Bool) (same : (l : Literal ℕ) → T (negated l) ≡ T l) (C : List (Assignment ℕ) → Bool) (S : ℕ → Bool) where
   abbrev tree_passes : Tree → Bool
   tree_passes Empty = true
-  tree_passes (Leaf assignments target) = list_all A assignments && S target
+  tree_passes (Leaf assignments target) = C assignments && S target
   tree_passes (Node l on_yes on_no) = T l && (tree_passes on_yes && tree_passes on_no)
 
   guard_tree : (g : Guard ℕ) (y n : Tree) → guard_passes T g ≡ true → tree_passes y ≡ true → tree_passes n ≡ true → tree_passes (tree_of_guard g y n) ≡ true
@@ -35,28 +35,28 @@ module _ (T : Literal ℕ → Bool) (same : (l : Literal ℕ) → T (negated l) 
   condition_tree None y n h p q = p
   condition_tree (Some g) y n h p q = guard_tree g y n h p q
 
-  transitions_tree : (ls : List (Transition ℕ ℕ)) → list_all (transition_passes T A S) ls ≡ true → tree_passes (tree_of_transitions ls) ≡ true
+  transitions_tree : (ls : List (Transition ℕ ℕ)) → list_all (transition_passes T C S) ls ≡ true → tree_passes (tree_of_transitions ls) ≡ true
   transitions_tree [] h = refl
   transitions_tree (l ∷ ls) h =
-      let here = and_left (transition_passes T A S l) (list_all (transition_passes T A S) ls) h in
-      condition_tree l.guard (Leaf l.assignments l.target) (tree_of_transitions ls) (and_left (condition_passes T l.guard) (list_all A l.assignments && S l.target) here)
-      (and_right (condition_passes T l.guard) (list_all A l.assignments && S l.target) here) (transitions_tree ls (and_right (transition_passes T A S l) (list_all (transition_passes T A S) ls) h))
+      let here = and_left (transition_passes T C S l) (list_all (transition_passes T C S) ls) h in
+      condition_tree l.guard (Leaf l.assignments l.target) (tree_of_transitions ls) (and_left (condition_passes T l.guard) (C l.assignments && S l.target) here)
+      (and_right (condition_passes T l.guard) (C l.assignments && S l.target) here) (transitions_tree ls (and_right (transition_passes T C S l) (list_all (transition_passes T C S) ls) h))
 
   one_more : (way : List (Literal ℕ)) (l : Literal ℕ) → list_all T way ≡ true → T l ≡ true → list_all T (way ++ l ∷ []) ≡ true
   one_more way l h p = list_all-append T way (l ∷ []) ∙ and_both (list_all T way) (T l && true) h (and_both (T l) true p refl)
 
-  leaves_pass : (t : Tree) (way : List (Literal ℕ)) → tree_passes t ≡ true → list_all T way ≡ true → list_all (branch_passes T A S) (leaves t way) ≡ true
+  leaves_pass : (t : Tree) (way : List (Literal ℕ)) → tree_passes t ≡ true → list_all T way ≡ true → list_all (branch_passes T C S) (leaves t way) ≡ true
   leaves_pass Empty way h p = refl
-  leaves_pass (Leaf assignments target) way h p = and_both (list_all T way && (list_all A assignments && S target)) true (and_both (list_all T way) (list_all A assignments && S target) p h) refl
+  leaves_pass (Leaf assignments target) way h p = and_both (list_all T way && (C assignments && S target)) true (and_both (list_all T way) (C assignments && S target) p h) refl
   leaves_pass (Node l y n) way h p =
       let here = and_left (T l) (tree_passes y && tree_passes n) h in
       let below = and_right (T l) (tree_passes y && tree_passes n) h in
-      list_all-append (branch_passes T A S) (leaves y (way ++ l ∷ [])) (leaves n (way ++ negated l ∷ []))
-      ∙ and_both (list_all (branch_passes T A S) (leaves y (way ++ l ∷ []))) (list_all (branch_passes T A S) (leaves n (way ++ negated l ∷ [])))
+      list_all-append (branch_passes T C S) (leaves y (way ++ l ∷ [])) (leaves n (way ++ negated l ∷ []))
+      ∙ and_both (list_all (branch_passes T C S) (leaves y (way ++ l ∷ []))) (list_all (branch_passes T C S) (leaves n (way ++ negated l ∷ [])))
       (leaves_pass y (way ++ l ∷ []) (and_left (tree_passes y) (tree_passes n) below) (one_more way l p here))
       (leaves_pass n (way ++ negated l ∷ []) (and_right (tree_passes y) (tree_passes n) below) (one_more way (negated l) p (same l ∙ here)))
 
-  pub branches_pass : (ls : List (Transition ℕ ℕ)) → list_all (transition_passes T A S) ls ≡ true → list_all (branch_passes T A S) (branches_of ls) ≡ true
+  pub branches_pass : (ls : List (Transition ℕ ℕ)) → list_all (transition_passes T C S) ls ≡ true → list_all (branch_passes T C S) (branches_of ls) ≡ true
   branches_pass ls h = leaves_pass (tree_of_transitions ls) [] (transitions_tree ls h) refl
 
 -- ---- tests of uses

@@ -7,12 +7,11 @@ use Rattle.fs_model.specs.Trees.{Branch}
 
 -- ---- uses
 
--- what is listed of a number, of a scalar by its value, of an array by an element, and of a port by an emit
+-- what is listed of a number, of a scalar by its value, and of an array by an element
 pub record Listing (A : Type 0) : Type 0 where
   pub of_number : ℤ → List A
   pub of_scalar : ℕ → List A
   pub of_array : ℕ → List A
-  pub of_port : ℕ → List A
 
 -- the uses of a part, in order of its text
 abbrev pub uses_in : {A : Type 0} → Listing A → Term ℕ → List A
@@ -42,7 +41,7 @@ uses_in_condition u (Some g) = uses_in_guard u g
 abbrev pub uses_in_assignment : {A : Type 0} → Listing A → Assignment ℕ → List A
 uses_in_assignment u (Assign x e) = u.of_scalar x ++ uses_in u e
 uses_in_assignment u (ArrayWrite x i e) = u.of_array x ++ (uses_in u i ++ uses_in u e)
-uses_in_assignment u (Emit x e) = u.of_port x ++ uses_in u e
+uses_in_assignment u (Emit x e) = uses_in u e
 
 abbrev pub uses_in_assignments : {A : Type 0} → Listing A → List (Assignment ℕ) → List A
 uses_in_assignments u [] = []
@@ -58,19 +57,15 @@ uses_in_states u (s ∷ ss) = uses_in_transitions u s.lines ++ uses_in_states u 
 
 -- the scalars alone, by their values and by assignments to them
 abbrev pub scalars : Listing ℕ
-scalars = record { of_number = λ n. []; of_scalar = λ x. x ∷ []; of_array = λ x. []; of_port = λ x. [] }
+scalars = record { of_number = λ n. []; of_scalar = λ x. x ∷ []; of_array = λ x. [] }
 
 -- the arrays alone, by their elements and by writes to them
 abbrev pub arrays : Listing ℕ
-arrays = record { of_number = λ n. []; of_scalar = λ x. []; of_array = λ x. x ∷ []; of_port = λ x. [] }
-
--- the ports alone, by emits to them
-abbrev pub ports : Listing ℕ
-ports = record { of_number = λ n. []; of_scalar = λ x. []; of_array = λ x. []; of_port = λ x. x ∷ [] }
+arrays = record { of_number = λ n. []; of_scalar = λ x. []; of_array = λ x. x ∷ [] }
 
 -- the numbers alone
 abbrev pub numbers : Listing ℤ
-numbers = record { of_number = λ n. n ∷ []; of_scalar = λ x. []; of_array = λ x. []; of_port = λ x. [] }
+numbers = record { of_number = λ n. n ∷ []; of_scalar = λ x. []; of_array = λ x. [] }
 
 -- ---- tests
 
@@ -85,9 +80,9 @@ abbrev pub condition_passes : (Literal ℕ → Bool) → Option (Guard ℕ) → 
 condition_passes T None = true
 condition_passes T (Some g) = guard_passes T g
 
--- each literal passes T, each assignment A, and the target S
-abbrev pub transition_passes : (Literal ℕ → Bool) → (Assignment ℕ → Bool) → (ℕ → Bool) → Transition ℕ ℕ → Bool
-transition_passes T A S l = condition_passes T l.guard && (list_all A l.assignments && S l.target)
+-- each literal passes T, the assignments C, and the target S
+abbrev pub transition_passes : (Literal ℕ → Bool) → (List (Assignment ℕ) → Bool) → (ℕ → Bool) → Transition ℕ ℕ → Bool
+transition_passes T C S l = condition_passes T l.guard && (C l.assignments && S l.target)
 
-abbrev pub branch_passes : (Literal ℕ → Bool) → (Assignment ℕ → Bool) → (ℕ → Bool) → Branch → Bool
-branch_passes T A S b = list_all T b.literals && (list_all A b.assignments && S b.target)
+abbrev pub branch_passes : (Literal ℕ → Bool) → (List (Assignment ℕ) → Bool) → (ℕ → Bool) → Branch → Bool
+branch_passes T C S b = list_all T b.literals && (C b.assignments && S b.target)

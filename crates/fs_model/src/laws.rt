@@ -42,9 +42,9 @@ pub fn one_branch_is_open()
     ensures { (lines : List (Transition ℕ ℕ)) (s : Store) → effects_open (branches_of lines) s ≡ option_to_list (effect_taken lines s) }
 {}
 
-/// Tests that the literals, the assignments and the targets of all transitions pass are passed by those of
-/// all branches, where a test of literals doesn't tell a literal from its negation.
+/// Tests that the literals, the assignments and the target of each transition pass are passed by those of
+/// each branch, where the test of literals doesn't tell a literal from its negation.
 pub fn branches_pass_as_transitions_do()
-    ensures { (T : Literal ℕ → Bool) (A : Assignment ℕ → Bool) (S : ℕ → Bool) (lines : List (Transition ℕ ℕ)) → ((l : Literal ℕ) → T (negated l) ≡ T l)
-        → list_all (transition_passes T A S) lines ≡ true → list_all (branch_passes T A S) (branches_of lines) ≡ true }
+    ensures { (T : Literal ℕ → Bool) (C : List (Assignment ℕ) → Bool) (S : ℕ → Bool) (lines : List (Transition ℕ ℕ)) → ((l : Literal ℕ) → T (negated l) ≡ T l)
+        → list_all (transition_passes T C S) lines ≡ true → list_all (branch_passes T C S) (branches_of lines) ≡ true }
 {}

@@ -128,13 +128,6 @@ impl Name {
         let bytes = self.bytes.as_slice().to_vec(alloc)?;
         Ok(Name { bytes })
     }
-
-    /// Whether two names are the same, as `==` tells.
-    pub fn is(&self, other: &Name) -> bool
-        ensures { result ≡ bytes_eq self.now other.now }
-    {
-        self.bytes.as_slice() == other.bytes.as_slice()
-    }
 }
 
 impl PartialEq for Name {

@@ -75,7 +75,7 @@ impl Inputs {
         ensures { option_copied result ≡ value_named self.now.items.items name.now }
     {
         for item in &self.items {
-            if item.name.is(name) {
+            if item.name == *name {
                 return Some(&item.value);
             }
         }

@@ -34,7 +34,7 @@ pub(crate) fn held<'a>(m: &Machine, outputs: &'a [Value], name: &Name) -> Option
             let [value, others @ ..] = rest else {
                 return None;
             };
-            if variable.name.is(name) {
+            if variable.name == *name {
                 return Some(value);
             }
             rest = others;

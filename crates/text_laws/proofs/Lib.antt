@@ -4,3 +4,5 @@ pub mod Counted
 pub mod Read
 pub mod Ended
 pub mod Limit
+pub mod Alike
+pub mod Texts

@@ -1,7 +1,7 @@
 //! Laws of machine texts: what bytes can read as. The functions do nothing.
 #![tactic(auto)]
 
-ghost use Rattle.std.specs.Prelude.{◌≡◌, ℕ, ◌&&◌, nat_le, List, ◌∷◌, ◌++◌, Ok, Err, IsTrue};
+ghost use Rattle.std.specs.Prelude.{◌≡◌, ℕ, ◌&&◌, ◌⊎◌, ◌↔◌, nat_le, List, ◌∷◌, ◌++◌, Ok, Err, IsTrue};
 ghost use Rattle.std.specs.List.{All};
 ghost use Rattle.fs_model.specs.Source.{Source};
 ghost use Rattle.fs_model.specs.WellFormed.{is_well_formed};
@@ -14,6 +14,7 @@ ghost use Rattle.fs_lex.specs.Scan.{tokens_of};
 ghost use Rattle.lex_laws.specs.Tokenization.{StandsIn};
 ghost use Rattle.text_laws.specs.Kinds.{IsProper, end_once};
 ghost use Rattle.text_laws.specs.Limit.{operator_count, SpellWithin, StopWithin};
+ghost use Rattle.text_laws.specs.Texts.{TextSpells, TextStops};
 
 /// What bytes read as is well formed: no number is negative, each declaration has a name, each port
 /// is an output, and each guard, assignment and emit has at most 128 operators and brackets that are
@@ -58,4 +59,18 @@ pub fn the_fault_is_at_the_first_wrong_token_of_a_text()
 /// bytes: its line is 1 plus the LFs before it, its column 1 plus the bytes after the last of these.
 pub fn a_fault_has_its_place_in_the_text()
     ensures { (bytes : List ℕ) (f : TextFault) → reading (tokens_of bytes) at_start ≡ Err f → (s : StopWithin (tokens_of bytes) f) × StandsIn bytes s.token }
+{}
+
+/// A text is read exactly as what its bytes spell, and refused exactly where they are faulty.
+pub fn a_text_is_read_as_its_bytes_spell()
+    ensures spells { (bytes : List ℕ) (s : Source) → (reading (tokens_of bytes) at_start ≡ Ok s) ↔ TextSpells bytes s }
+    ensures stops { (bytes : List ℕ) (f : TextFault) → (reading (tokens_of bytes) at_start ≡ Err f) ↔ TextStops bytes f }
+{}
+
+/// Bytes spell one source or have one fault, and not both.
+pub fn a_text_spells_one_source_or_has_one_fault()
+    ensures either { (bytes : List ℕ) → ((s : Source) × TextSpells bytes s) ⊎ ((f : TextFault) × TextStops bytes f) }
+    ensures sources { (bytes : List ℕ) (s r : Source) → TextSpells bytes s → TextSpells bytes r → s ≡ r }
+    ensures faults { (bytes : List ℕ) (f g : TextFault) → TextStops bytes f → TextStops bytes g → f ≡ g }
+    ensures apart { (bytes : List ℕ) (s : Source) (f : TextFault) → TextSpells bytes s → TextStops bytes f → ⊥ }
 {}
