@@ -5,14 +5,14 @@ use Rattle.fs_model.specs.Terms.{Term, Guard, Variable, Negative, Test}
 use Rattle.fs_model.specs.Terms as terms
 use Rattle.fs_grammar.specs.declared.fault.TextFault.{TextFault}
 use Rattle.fs_grammar.specs.declared.token.TokenKind.{TokenKind}
-use Rattle.fs_grammar.specs.declared.token.TokenKind.TheVariants.{OpenBracket, OpenBrace, Plus, Minus, Bang, AndAnd}
+use Rattle.fs_grammar.specs.declared.token.TokenKind.TheVariants.{OpenBracket, OpenBrace, Plus, Minus, Bang, AndAnd, OrOr}
 use Rattle.fs_grammar.specs.declared.token.Token.{Token}
 use Rattle.fs_grammar.specs.Tokens.{kind_at, accepted}
-use Rattle.fs_grammar.specs.Ends.{IsNoSum, EndsSum, IsNoAnd, EndsConjunction, IsNoIndex, EndsName, IsNoBrace, IsLiteral}
+use Rattle.fs_grammar.specs.Ends.{IsNoSum, EndsSum, IsNoAnd, EndsConjunction, IsNoOr, EndsGuard, IsNoIndex, EndsName, IsNoBrace, IsLiteral}
 use Rattle.expression_text.specs.declared.operators.ProductOperator.{ProductOperator}
 use Rattle.expression_text.specs.declared.operators.SumOperator.{SumOperator}
-use Rattle.expression_text.specs.Operators.{product_operator, sum_operator, product_operator_in, sum_operator_in, product_operator_at, sum_operator_at}
-use Rattle.expression_text.specs.Inside.{UnitContext, negates, first_of_all, and_after, ConjunctionContext, first_of_any, or_after, FactorContext, first_factor, next_factor, negative, ProductContext, first_product, next_product, SumContext, left, right, Inside, at_unit, at_factor, after_conjunction, after_name, after_product, after_sum, at_sum, factor_done, product_done, unit_done, conjunction_done, literal_done, step_factor, step_unit, step_guarded, step_conjunction, step_joined, step_closed, step_sum_on, step_sum, step_summed, step_product_on, step_product, step_multiplied, step_name, step, whole, ends_joined, ends_guarded, ends_summed, ends_multiplied, parsed}
+use Rattle.expression_text.specs.Operators.{product_operator, sum_operator, sum_operator_in, product_operator_at, sum_operator_at, joins_units, joins_alternatives}
+use Rattle.expression_text.specs.Inside.{UnitContext, negates, first_of_all, and_after, ConjunctionContext, first_of_any, or_after, GuardContext, FactorContext, first_factor, next_factor, negative, ProductContext, first_product, next_product, SumContext, left, right, Inside, at_unit, at_factor, after_conjunction, after_guard, after_name, after_product, after_sum, at_sum, factor_done, product_done, unit_done, conjunction_done, literal_done, step_factor, step_unit, step_guard, step_guarded, step_conjunction, step_joined, step_sum_on, step_sum, step_summed, step_product_on, step_multiplied, step_name, step, whole, ends_joined, ends_guarded, ends_summed, ends_multiplied, parsed}
 
 -- two states read alike where each token leads both to the same, and both end alike
 same_parsed : (ts : List Token) (a b : Inside) → ((t : TokenKind) → kind_at ts ≡ Some t → step a t ≡ step b t) → whole a ≡ whole b → parsed ts a ≡ parsed ts b
@@ -138,3 +138,41 @@ takes_operand [] rest operator s k h e = absurd cc
 takes_operand (t ∷ ts) rest operator s k h e =
     let i = taken t.past_limit _ ts rest e in
     rw (sum_goes_on (sum_operator t.kind) operator t.kind s k h, i.0, i.1) refl
+
+-- ---- units and alternatives that are joined
+
+no_and : (t : Option TokenKind) → joins_units t ≡ false → IsNoAnd t
+no_and (Some AndAnd) h = absurd cc
+no_and _ h = tt
+
+pub ends_conjunction : (ts : List Token) → joins_units (kind_at ts) ≡ false → EndsConjunction ts
+ends_conjunction ts h = no_and (kind_at ts) h
+
+no_or : (t : Option TokenKind) → joins_alternatives t ≡ false → IsNoOr t
+no_or (Some OrOr) h = absurd cc
+no_or _ h = tt
+
+pub ends_guard : (ts : List Token) → joins_alternatives (kind_at ts) ≡ false → EndsGuard ts
+ends_guard ts h = no_or (kind_at ts) h
+
+and_goes_on : (t : TokenKind) (c : Guard (List ℕ)) (k : ConjunctionContext) → joins_units (Some t) ≡ true → step_conjunction t c k ≡ Some (at_unit (and_after c k))
+and_goes_on AndAnd c k h = refl
+and_goes_on _ c k h = absurd cc
+
+or_goes_on : (t : TokenKind) (g : Guard (List ℕ)) (k : GuardContext) → joins_alternatives (Some t) ≡ true → step_guard t g k ≡ Some (at_unit (first_of_all (or_after g k)))
+or_goes_on OrOr g k h = refl
+or_goes_on _ g k h = absurd cc
+
+-- `&&` goes on with a conjunction
+pub takes_unit : (ts rest : List Token) (c : Guard (List ℕ)) (k : ConjunctionContext) → joins_units (kind_at ts) ≡ true → accepted ts ≡ Ok rest → parsed ts (after_conjunction c k) ≡ parsed rest (at_unit (and_after c k))
+takes_unit [] rest c k h e = absurd cc
+takes_unit (t ∷ ts) rest c k h e =
+    let i = taken t.past_limit _ ts rest e in
+    rw (and_goes_on t.kind c k h, i.0, i.1) refl
+
+-- `||` goes on with a guard
+pub takes_alternative : (ts rest : List Token) (g : Guard (List ℕ)) (k : GuardContext) → joins_alternatives (kind_at ts) ≡ true → accepted ts ≡ Ok rest → parsed ts (after_guard g k) ≡ parsed rest (at_unit (first_of_all (or_after g k)))
+takes_alternative [] rest g k h e = absurd cc
+takes_alternative (t ∷ ts) rest g k h e =
+    let i = taken t.past_limit _ ts rest e in
+    rw (or_goes_on t.kind g k h, i.0, i.1) refl

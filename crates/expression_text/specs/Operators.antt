@@ -1,8 +1,8 @@
 -- Operators between two factors or two products.
-use Rattle.std.specs.Prelude.{ℕ, Option, Some, None, List}
+use Rattle.std.specs.Prelude.{ℕ, Bool, true, false, Option, Some, None, List}
 use Rattle.fs_model.specs.Terms.{Term, Sum, Difference, Product, Quotient, Remainder}
 use Rattle.fs_grammar.specs.declared.token.TokenKind.{TokenKind}
-use Rattle.fs_grammar.specs.declared.token.TokenKind.TheVariants.{Plus, Minus, Star, Slash, Percent}
+use Rattle.fs_grammar.specs.declared.token.TokenKind.TheVariants.{Plus, Minus, Star, Slash, Percent, AndAnd, OrOr}
 use Rattle.fs_grammar.specs.declared.token.Token.{Token}
 use Rattle.fs_grammar.specs.Tokens.{kind_at}
 use Rattle.expression_text.specs.declared.operators.ProductOperator.{ProductOperator}
@@ -38,6 +38,16 @@ product_operator_at ts = product_operator_in (kind_at ts)
 -- the operator with which a sum goes on before these tokens
 abbrev pub sum_operator_at : List Token → Option SumOperator
 sum_operator_at ts = sum_operator_in (kind_at ts)
+
+-- a token with which a conjunction goes on
+abbrev pub joins_units : Option TokenKind → Bool
+joins_units (Some AndAnd) = true
+joins_units _ = false
+
+-- a token with which a guard goes on
+abbrev pub joins_alternatives : Option TokenKind → Bool
+joins_alternatives (Some OrOr) = true
+joins_alternatives _ = false
 
 -- a product of two terms by an operator
 abbrev pub multiplied : ProductOperator → Term (List ℕ) → Term (List ℕ) → Term (List ℕ)

@@ -1,13 +1,14 @@
 //! Guards, by descent.
 
-ghost use Rattle.std.specs.Prelude.{◌≡◌, ◌<◌, ◌≤◌, ℕ, Some, List, length, IfOk};
+ghost use Rattle.std.specs.Prelude.{◌≡◌, ◌<◌, ◌≤◌, ℕ, Some, List, length, IfOk, IsTrue};
 ghost use Rattle.fs_model.specs.Terms as terms;
-ghost use Rattle.fs_model.specs.Terms.{Term, And, Or};
+ghost use Rattle.fs_model.specs.Terms.{Term, Not, And, Or};
 ghost use Rattle.fs_model.specs.View.{named_term, named_guard};
 ghost use Rattle.fs_grammar.specs.Tokens.{ParsesOn, MadeAs, kind_at};
 ghost use Rattle.fs_grammar.specs.Ends.{EndsSum, EndsConjunction, EndsGuard, IsLiteral};
 ghost use Rattle.expression_text.specs.Inside.{UnitContext, ConjunctionContext, GuardContext, parsed, unit_done, conjunction_done, at_sum, after_sum, left, right, at_unit, first_of_all, after_conjunction, at_guard, after_guard, braces};
-ghost use Rattle.fs_grammar.specs.declared.token.TokenKind.TheVariants.{AndAnd, OrOr};
+ghost use Rattle.fs_grammar.specs.declared.token.TokenKind.TheVariants.{Bang};
+ghost use Rattle.expression_text.specs.Operators.{joins_units, joins_alternatives};
 
 use crate::sums::sum;
 use fs_grammar::fault::ReadError;
@@ -72,11 +73,7 @@ fn unit(alloc: Global, tokens: &[Token]) -> Result<(Guard, &[Token]), ReadError>
     ensures shorter { IfOk result (λ x. length x.1.now < length tokens.now) }
 {
     match front(tokens) {
-        Some(TokenKind::Bang) => {
-            let rest = accept(tokens)?;
-            let (inner, rest) = unit(alloc, rest)?;
-            Ok((Guard::Not(Box::new(alloc, inner)?), rest))
-        }
+        Some(TokenKind::Bang) => negated(alloc, tokens),
         Some(TokenKind::OpenBrace) => {
             let rest = accept(tokens)?;
             braced(alloc, rest)
@@ -85,10 +82,38 @@ fn unit(alloc: Global, tokens: &[Token]) -> Result<(Guard, &[Token]), ReadError>
     }
 }
 
+// A unit behind `!`.
+#[cycle(guards)]
+fn negated(alloc: Global, tokens: &[Token]) -> Result<(Guard, &[Token]), ReadError>
+    requires { kind_at tokens.now ≡ Some Bang }
+    ensures goes { (k : UnitContext) → ParsesOn result (parsed tokens.now (at_unit k)) (λ x. parsed x.1.now (unit_done (named_guard x.0) k)) }
+    ensures shorter { IfOk result (λ x. length x.1.now < length tokens.now) }
+{
+    let rest = accept(tokens)?;
+    let (inner, rest) = unit(alloc, rest)?;
+    let negation = negation(alloc, inner)?;
+    Ok((negation, rest))
+}
+
+// Whether a conjunction goes on.
+fn joins_units(tokens: &[Token]) -> bool
+    ensures { result ≡ joins_units (kind_at tokens.now) }
+{
+    matches!(front(tokens), Some(TokenKind::AndAnd))
+}
+
+// Whether a guard goes on.
+fn joins_alternatives(tokens: &[Token]) -> bool
+    ensures { result ≡ joins_alternatives (kind_at tokens.now) }
+{
+    matches!(front(tokens), Some(TokenKind::OrOr))
+}
+
 // A further unit of a conjunction.
 #[cycle(guards)]
+#[tactic(auto, using(crate::proofs::Steps::takes_unit))]
 fn and_unit(alloc: Global, tokens: &[Token]) -> Result<(Guard, &[Token]), ReadError>
-    requires { kind_at tokens.now ≡ Some AndAnd }
+    requires { IsTrue (joins_units (kind_at tokens.now)) }
     ensures goes { (c : terms.Guard (List ℕ)) (k : ConjunctionContext) → ParsesOn result (parsed tokens.now (after_conjunction c k)) (λ x. parsed x.1.now (after_conjunction (And c (named_guard x.0)) k)) }
     ensures shorter { IfOk result (λ x. length x.1.now < length tokens.now) }
 {
@@ -97,22 +122,19 @@ fn and_unit(alloc: Global, tokens: &[Token]) -> Result<(Guard, &[Token]), ReadEr
 }
 
 #[cycle(guards)]
+#[tactic(auto, using(crate::proofs::Steps::ends_conjunction))]
 fn conjunction(alloc: Global, tokens: &[Token]) -> Result<(Guard, &[Token]), ReadError>
     ensures goes { (k : ConjunctionContext) → ParsesOn result (parsed tokens.now (at_unit (first_of_all k))) (λ x. parsed x.1.now (after_conjunction (named_guard x.0) k)) }
     ensures shorter { IfOk result (λ x. length x.1.now < length tokens.now) }
     ensures ends { IfOk result (λ x. EndsConjunction x.1.now) }
 {
     let (mut left, mut rest) = unit(alloc, tokens)?;
-    loop {
-        match front(rest) {
-            Some(TokenKind::AndAnd) => {
-                let (right, after) = and_unit(alloc, rest)?;
-                left = both(alloc, left, right)?;
-                rest = after;
-            }
-            _ => return Ok((left, rest)),
-        }
+    'each: while joins_units(rest) {
+        let (right, after) = and_unit(alloc, rest)?;
+        left = both(alloc, left, right)?;
+        rest = after;
     }
+    Ok((left, rest))
 }
 
 // A conjunction as an alternative of a guard.
@@ -128,8 +150,9 @@ fn alternative(alloc: Global, tokens: &[Token]) -> Result<(Guard, &[Token]), Rea
 
 // A further alternative of a guard.
 #[cycle(guards)]
+#[tactic(auto, using(crate::proofs::Steps::takes_alternative))]
 fn or_alternative(alloc: Global, tokens: &[Token]) -> Result<(Guard, &[Token]), ReadError>
-    requires { kind_at tokens.now ≡ Some OrOr }
+    requires { IsTrue (joins_alternatives (kind_at tokens.now)) }
     ensures goes { (g : terms.Guard (List ℕ)) (k : GuardContext) → ParsesOn result (parsed tokens.now (after_guard g k)) (λ x. parsed x.1.now (after_guard (Or g (named_guard x.0)) k)) }
     ensures shorter { IfOk result (λ x. length x.1.now < length tokens.now) }
 {
@@ -139,22 +162,25 @@ fn or_alternative(alloc: Global, tokens: &[Token]) -> Result<(Guard, &[Token]), 
 
 /// A guard, and the tokens after it. An `Err` is the first fault, or out of memory.
 #[cycle(guards)]
+#[tactic(auto, using(crate::proofs::Steps::ends_guard))]
 pub fn guard(alloc: Global, tokens: &[Token]) -> Result<(Guard, &[Token]), ReadError>
     ensures goes { (k : GuardContext) → ParsesOn result (parsed tokens.now (at_guard k)) (λ x. parsed x.1.now (after_guard (named_guard x.0) k)) }
     ensures shorter { IfOk result (λ x. length x.1.now < length tokens.now) }
     ensures ends { IfOk result (λ x. EndsGuard x.1.now) }
 {
     let (mut left, mut rest) = alternative(alloc, tokens)?;
-    loop {
-        match front(rest) {
-            Some(TokenKind::OrOr) => {
-                let (right, after) = or_alternative(alloc, rest)?;
-                left = either(alloc, left, right)?;
-                rest = after;
-            }
-            _ => return Ok((left, rest)),
-        }
+    'each: while joins_alternatives(rest) {
+        let (right, after) = or_alternative(alloc, rest)?;
+        left = either(alloc, left, right)?;
+        rest = after;
     }
+    Ok((left, rest))
+}
+
+fn negation(alloc: Global, inner: Guard) -> Result<Guard, ReadError>
+    ensures { MadeAs result (λ g. named_guard g ≡ Not (named_guard inner)) }
+{
+    Ok(Guard::Not(Box::new(alloc, inner)?))
 }
 
 fn both(alloc: Global, left: Guard, right: Guard) -> Result<Guard, ReadError>

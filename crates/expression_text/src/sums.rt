@@ -1,14 +1,17 @@
 //! Sums, products and factors, by descent.
 
 ghost use Rattle.std.specs.Prelude.{◌≡◌, ◌<◌, ◌≤◌, ℕ, List, Some, None, length, IfOk};
-ghost use Rattle.fs_model.specs.Terms.{Term, Read};
+ghost use Rattle.fs_model.specs.Terms.{Term, Read, Negative};
 ghost use Rattle.fs_model.specs.View.{named_term};
-ghost use Rattle.fs_grammar.specs.Tokens.{ParsesOn, MadeAs};
+ghost use Rattle.fs_grammar.specs.Tokens.{ParsesOn, MadeAs, kind_at};
+ghost use Rattle.fs_grammar.specs.declared.token.TokenKind.TheVariants.{Minus, OpenParen};
 ghost use Rattle.fs_grammar.specs.Ends.{EndsSum};
 ghost use Rattle.expression_text.specs.Operators.{product_operator_at, sum_operator_at, multiplied, added};
 ghost use Rattle.expression_text.specs.Inside.{FactorContext, ProductContext, SumContext, parsed, factor_done, product_done, at_factor, after_name, after_product, at_sum, after_sum, first_factor, parens, index};
 
-use crate::operators::{ProductOperator, SumOperator, added, multiplied, product_operator, sum_operator};
+use crate::operators::{
+    ProductOperator, SumOperator, added, multiplied, product_operator, sum_operator,
+};
 use fs_grammar::fault::ReadError;
 use fs_grammar::token::{Token, TokenKind, accept, front, refuse};
 use fs_model::name::Name;
@@ -45,6 +48,12 @@ fn element(alloc: Global, name: Name, index: Expr<Name>) -> Result<Expr<Name>, R
     Ok(Expr::Read(name, Box::new(alloc, index)?))
 }
 
+fn negative(alloc: Global, value: Expr<Name>) -> Result<Expr<Name>, ReadError>
+    ensures { MadeAs result (λ e. named_term e ≡ Negative (named_term value)) }
+{
+    Ok(Expr::Neg(Box::new(alloc, value)?))
+}
+
 #[cycle(sums)]
 fn factor(alloc: Global, tokens: &[Token]) -> Result<(Expr<Name>, &[Token]), ReadError>
     ensures goes { (k : FactorContext) → ParsesOn result (parsed tokens.now (at_factor k)) (λ x. parsed x.1.now (factor_done (named_term x.0) k)) }
@@ -61,19 +70,36 @@ fn factor(alloc: Global, tokens: &[Token]) -> Result<(Expr<Name>, &[Token]), Rea
             let name = name.try_clone(alloc)?;
             variable(alloc, name, rest)
         }
-        Some(TokenKind::Minus) => {
-            let rest = accept(tokens)?;
-            let (inner, rest) = factor(alloc, rest)?;
-            Ok((Expr::Neg(Box::new(alloc, inner)?), rest))
-        }
-        Some(TokenKind::OpenParen) => {
-            let rest = accept(tokens)?;
-            let (inner, rest) = sum(alloc, rest)?;
-            let rest = close_paren(rest)?;
-            Ok((inner, rest))
-        }
+        Some(TokenKind::Minus) => negated(alloc, tokens),
+        Some(TokenKind::OpenParen) => grouped(alloc, tokens),
         _ => Err(refuse(tokens)),
     }
+}
+
+// A factor behind a sign.
+#[cycle(sums)]
+fn negated(alloc: Global, tokens: &[Token]) -> Result<(Expr<Name>, &[Token]), ReadError>
+    requires { kind_at tokens.now ≡ Some Minus }
+    ensures goes { (k : FactorContext) → ParsesOn result (parsed tokens.now (at_factor k)) (λ x. parsed x.1.now (factor_done (named_term x.0) k)) }
+    ensures shorter { IfOk result (λ x. length x.1.now < length tokens.now) }
+{
+    let rest = accept(tokens)?;
+    let (inner, rest) = factor(alloc, rest)?;
+    let value = negative(alloc, inner)?;
+    Ok((value, rest))
+}
+
+// A sum in parentheses.
+#[cycle(sums)]
+fn grouped(alloc: Global, tokens: &[Token]) -> Result<(Expr<Name>, &[Token]), ReadError>
+    requires { kind_at tokens.now ≡ Some OpenParen }
+    ensures goes { (k : FactorContext) → ParsesOn result (parsed tokens.now (at_factor k)) (λ x. parsed x.1.now (factor_done (named_term x.0) k)) }
+    ensures shorter { IfOk result (λ x. length x.1.now < length tokens.now) }
+{
+    let rest = accept(tokens)?;
+    let (inner, rest) = sum(alloc, rest)?;
+    let rest = close_paren(rest)?;
+    Ok((inner, rest))
 }
 
 // A variable or an element of an array, after its name.

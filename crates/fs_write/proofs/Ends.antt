@@ -5,7 +5,6 @@ use Rattle.fs_model.specs.Terms.{Term, Guard, Variable, Test}
 use Rattle.fs_model.specs.Source.{Source}
 use Rattle.fs_grammar.specs.declared.fault.TextFault.{TextFault}
 use Rattle.fs_grammar.specs.declared.token.TokenKind.{TokenKind}
-
 use Rattle.fs_grammar.specs.declared.token.Token.{Token}
 use Rattle.fs_grammar.specs.Tokens.{kind_at}
 use Rattle.fs_grammar.specs.Ends.{IsNoSum, IsNoProduct, IsNoAnd, IsNoIndex, IsNoBrace}

@@ -97,7 +97,6 @@ assignment_reads (ArrayWrite x j e) rest u o k h l f i p d =
     let w = both (is_name x) (is_spellable_term j && is_spellable_term e) l in
     let v = both (is_spellable_term j) (is_spellable_term e) w.1 in
     write_reads x j e rest u o w.0 (term_reads j m.0 v.0) (term_reads e m.1 v.1) (at_most (1 + (operators_of_term j + operators_of_term e)) 128 n.1) f i p d
-
 assignment_reads (Emit x e) rest u o k h l f i p d =
     let n = both (is_natural_term e) (nat_le (operators_of_term e) most_operators) h in
     let w = both (is_name x) (is_spellable_term e) l in

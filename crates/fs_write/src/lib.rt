@@ -18,6 +18,7 @@ mod guards;
 pub mod laws;
 mod states;
 mod terms;
+
 use fs_model::name::NoMemory;
 use fs_model::parts::Parts;
 use std::alloc::Global;

@@ -4,35 +4,38 @@ use Rattle.expression_text.specs.Inside.{ConjunctionContext, GuardContext, parse
 use Rattle.expression_text.proofs.guards.+guards.Given as goal
 
 abbrev pub decreases-unit : goal.decreases-unit
-decreases-unit l = 6 * length l.tokens.now
+decreases-unit l = 7 * length l.tokens.now + 1
 
 abbrev pub decreases-braced : goal.decreases-braced
-decreases-braced l = 6 * length l.tokens.now + 4
+decreases-braced l = 7 * length l.tokens.now + 5
 
 abbrev pub decreases-and_unit : goal.decreases-and_unit
-decreases-and_unit l = 6 * length l.tokens.now
+decreases-and_unit l = 7 * length l.tokens.now
 
 abbrev pub decreases-or_alternative : goal.decreases-or_alternative
-decreases-or_alternative l = 6 * length l.tokens.now
+decreases-or_alternative l = 7 * length l.tokens.now
 
 abbrev pub decreases-conjunction : goal.decreases-conjunction
-decreases-conjunction l = 6 * length l.tokens.now + 1
+decreases-conjunction l = 7 * length l.tokens.now + 2
 
 abbrev pub decreases-alternative : goal.decreases-alternative
-decreases-alternative l = 6 * length l.tokens.now + 2
+decreases-alternative l = 7 * length l.tokens.now + 3
 
 abbrev pub decreases-guard : goal.decreases-guard
-decreases-guard l = 6 * length l.tokens.now + 3
+decreases-guard l = 7 * length l.tokens.now + 4
 
-abbrev pub invariant-conjunction-loop-left : goal.invariant-conjunction-loop-left
-invariant-conjunction-loop-left l =
+abbrev pub invariant-conjunction-each : goal.invariant-conjunction-each
+invariant-conjunction-each l =
     ((k : ConjunctionContext) → parsed l.tokens (at_unit (first_of_all k)) ≡ parsed l.rest (after_conjunction (named_guard l.left) k)) × (length l.rest < length l.tokens)
 
-abbrev pub decreases-conjunction-loop-left : goal.decreases-conjunction-loop-left
-decreases-conjunction-loop-left l = length l.rest
+abbrev pub decreases-conjunction-each : goal.decreases-conjunction-each
+decreases-conjunction-each l = length l.rest
 
-abbrev pub invariant-guard-loop-left : goal.invariant-guard-loop-left
-invariant-guard-loop-left l = ((k : GuardContext) → parsed l.tokens (at_guard k) ≡ parsed l.rest (after_guard (named_guard l.left) k)) × (length l.rest < length l.tokens)
+abbrev pub invariant-guard-each : goal.invariant-guard-each
+invariant-guard-each l = ((k : GuardContext) → parsed l.tokens (at_guard k) ≡ parsed l.rest (after_guard (named_guard l.left) k)) × (length l.rest < length l.tokens)
 
-abbrev pub decreases-guard-loop-left : goal.decreases-guard-loop-left
-decreases-guard-loop-left l = length l.rest
+abbrev pub decreases-guard-each : goal.decreases-guard-each
+decreases-guard-each l = length l.rest
+
+abbrev pub decreases-negated : goal.decreases-negated
+decreases-negated l = 7 * length l.tokens.now

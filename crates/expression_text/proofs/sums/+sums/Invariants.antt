@@ -4,22 +4,22 @@ use Rattle.expression_text.specs.Inside.{SumContext, ProductContext, parsed, at_
 use Rattle.expression_text.proofs.sums.+sums.Given as goal
 
 abbrev pub decreases-factor : goal.decreases-factor
-decreases-factor l = 5 * length l.tokens.now
+decreases-factor l = 6 * length l.tokens.now + 1
 
 abbrev pub decreases-variable : goal.decreases-variable
-decreases-variable l = 5 * length l.tokens.now
+decreases-variable l = 6 * length l.tokens.now
 
 abbrev pub decreases-indexed : goal.decreases-indexed
-decreases-indexed l = 5 * length l.tokens.now + 4
+decreases-indexed l = 6 * length l.tokens.now + 5
 
 abbrev pub decreases-product : goal.decreases-product
-decreases-product l = 5 * length l.tokens.now + 1
+decreases-product l = 6 * length l.tokens.now + 2
 
 abbrev pub decreases-operand : goal.decreases-operand
-decreases-operand l = 5 * length l.tokens.now + 2
+decreases-operand l = 6 * length l.tokens.now + 3
 
 abbrev pub decreases-sum : goal.decreases-sum
-decreases-sum l = 5 * length l.tokens.now + 3
+decreases-sum l = 6 * length l.tokens.now + 4
 
 abbrev pub invariant-sum-each : goal.invariant-sum-each
 invariant-sum-each l = ((k : SumContext) → parsed l.tokens (at_sum k) ≡ parsed l.rest (after_sum (named_term l.left) k)) × (length l.rest < length l.tokens)
@@ -34,7 +34,13 @@ abbrev pub decreases-product-each : goal.decreases-product-each
 decreases-product-each l = length l.rest
 
 abbrev pub decreases-further_factor : goal.decreases-further_factor
-decreases-further_factor l = 5 * length l.tokens.now
+decreases-further_factor l = 6 * length l.tokens.now
 
 abbrev pub decreases-further_operand : goal.decreases-further_operand
-decreases-further_operand l = 5 * length l.tokens.now
+decreases-further_operand l = 6 * length l.tokens.now
+
+abbrev pub decreases-negated : goal.decreases-negated
+decreases-negated l = 6 * length l.tokens.now
+
+abbrev pub decreases-grouped : goal.decreases-grouped
+decreases-grouped l = 6 * length l.tokens.now
