@@ -19,7 +19,7 @@ use Rattle.nf_sums.specs.Forms.{sorted_monomial, plus, by_order, with_term, norm
 use Rattle.nf_sums.proofs.Sorting.{sorting_ignored, sorted_stays, sorted_ordered, atoms_ordered}
 
 -- one of three by an order, and a fact of each
-by_cases : {T : Type 0} (P : T → Type 0) (x y z : T) (r : Ordering) → (r ≡ Less → P x) → (r ≡ Equal → P y) → (r ≡ Greater → P z) → P (by_order r x y z)
+pub by_cases : {T : Type 0} (P : T → Type 0) (x y z : T) (r : Ordering) → (r ≡ Less → P x) → (r ≡ Equal → P y) → (r ≡ Greater → P z) → P (by_order r x y z)
 by_cases P x y z Less f g h = f refl
 by_cases P x y z Equal f g h = g refl
 by_cases P x y z Greater f g h = h refl

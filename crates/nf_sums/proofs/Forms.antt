@@ -9,7 +9,7 @@ use Rattle.nf_terms.specs.Measures.{size_of, weight_of, depth_of}
 use Rattle.nf_terms.specs.Meaning.{Valuation, value_of, value_of_monomial}
 use Rattle.nf_terms.specs.Limits.{size_limit, weight_limit}
 use Rattle.nf_terms.specs.Normal.{IsNormal, ordered, monomial_rises, is_light, narrow_inside, narrow_monomial}
-use Rattle.nf_terms.specs.RawSums.{raw_sum, raw_negation, raw_product, IsNormalFormOf}
+use Rattle.nf_terms.specs.RawSums.{raw_sum, raw_negation, raw_difference, raw_product, IsNormalFormOf}
 use Rattle.nf_sums.specs.OrderedSums.{worth_of, fits, IsOrderedSum, IsOrderedProduct}
 use Rattle.nf_terms.proofs.Tests.{and_both}
 use Rattle.nf_sums.proofs.Worth.{worth-sum, worth-negation, value_worth, total_worth, one_for, value-product}
@@ -69,7 +69,7 @@ negation_inside (Plus m c p) = ap (λ b. narrow_monomial m && b) (negation_insid
 negated_zero : (c : ℤ) → neg_ℤ c ≡ pos 0 → c ≡ pos 0
 negated_zero c e = omega (arith, ints)
 
-negation_ordered : (p : Polynomial) → ordered (raw_negation p) ≡ ordered p
+pub negation_ordered : (p : Polynomial) → ordered (raw_negation p) ≡ ordered p
 negation_ordered Zero = refl
 negation_ordered (Plus m c p) = cc (zero_again c, rises_again p, negation_ordered p)
   where
@@ -107,3 +107,8 @@ same_sum x y s p q t e f g h = subst (λ a. IsOrderedSum a q t) e (subst (λ b. 
 
 pub same_product : (x y s p q t : Polynomial) → x ≡ p → y ≡ q → t ≡ s → IsOrderedProduct x y s → IsOrderedProduct p q t
 same_product x y s p q t e f g h = subst (λ a. IsOrderedProduct a q t) e (subst (λ b. IsOrderedProduct x b t) f (subst (λ c. IsOrderedProduct x y c) (sym g) h))
+
+-- the merge of p and the negation of q is the form of their difference
+pub difference_form : (x y s p q : Polynomial) {t : Polynomial} → IsNormal p → IsNormal q → x ≡ p → y ≡ q → t ≡ s → IsOrderedSum x (raw_negation y) s → weight_of p + weight_of q ≤ weight_limit → size_of p + size_of q ≤ size_limit → IsNormalFormOf t (raw_difference p q)
+difference_form x y s p q {t} m n e f g h w k =
+    sum_form p (raw_negation q) t m (negation_normal q n) (same_sum x (raw_negation y) s p (raw_negation q) t e (ap raw_negation f) g h) (omega (arith, w, negation_weight q)) (omega (arith, k, negation_size q))

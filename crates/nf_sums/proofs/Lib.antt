@@ -19,3 +19,4 @@ pub mod Constants
 pub mod Tidying
 pub mod Settling
 pub mod Given
+pub mod Rising

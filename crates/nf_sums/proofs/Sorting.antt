@@ -32,8 +32,8 @@ module _ (f : Monomial → ℤ) (h : IgnoresOrder f) where
   pub sorting_ignored : (m : Monomial) → f (sorted_monomial m) ≡ f m
   sorting_ignored m = sorted_same One m
 
-less_of : (a b : Atom) → is_le (cmp_atom a b) ≡ false → cmp_atom b a ≡ Less
-less_of a b e = atoms_total.antisymm b a ∙ ap ordering_reverse (greater_of (cmp_atom a b) e)
+pub atom_before : (a b : Atom) → is_le (cmp_atom a b) ≡ false → cmp_atom b a ≡ Less
+atom_before a b e = atoms_total.antisymm b a ∙ ap ordering_reverse (greater_of (cmp_atom a b) e)
   where
     greater_of : (r : Ordering) → is_le r ≡ false → r ≡ Greater
     greater_of Less e = cc
@@ -53,15 +53,15 @@ module _ (a : Atom) (m : Monomial) (o : ordered_monomial (Times a m) ≡ true) w
 ordered_times : (a : Atom) (m : Monomial) → ordered_atom a ≡ true → atom_rises a m ≡ true → ordered_monomial m ≡ true → ordered_monomial (Times a m) ≡ true
 ordered_times a m p q r = and_both (ordered_atom a && atom_rises a m) (ordered_monomial m) (and_both (ordered_atom a) (atom_rises a m) p q) r
 
-rises_with : (b a : Atom) (m : Monomial) → cmp_atom b a ≡ Less → atom_rises b m ≡ true → atom_rises b (with_atom a m) ≡ true
-rises_with b a One e r = ap is_le e
-rises_with b a (Times c m) e r = by_test (λ n. atom_rises b n ≡ true) (Times a (Times c m)) (Times c (with_atom a m)) (is_le (cmp_atom a c)) (λ t. ap is_le e) (λ t. r)
+pub rises_with_atom : (b a : Atom) (m : Monomial) → cmp_atom b a ≡ Less → atom_rises b m ≡ true → atom_rises b (with_atom a m) ≡ true
+rises_with_atom b a One e r = ap is_le e
+rises_with_atom b a (Times c m) e r = by_test (λ n. atom_rises b n ≡ true) (Times a (Times c m)) (Times c (with_atom a m)) (is_le (cmp_atom a c)) (λ t. ap is_le e) (λ t. r)
 
 with_atom_ordered : (a : Atom) (m : Monomial) → ordered_atom a ≡ true → ordered_monomial m ≡ true → ordered_monomial (with_atom a m) ≡ true
 with_atom_ordered a One p o = ordered_times a One p refl refl
 with_atom_ordered a (Times b m) p o =
     by_test (λ n. ordered_monomial n ≡ true) (Times a (Times b m)) (Times b (with_atom a m)) (is_le (cmp_atom a b)) (λ t. ordered_times a (Times b m) p t o)
-    (λ t. ordered_times b (with_atom a m) (first_ordered b m o) (rises_with b a m (less_of a b t) (first_rises b m o)) (with_atom_ordered a m p (rest_ordered b m o)))
+    (λ t. ordered_times b (with_atom a m) (first_ordered b m o) (rises_with_atom b a m (atom_before a b t) (first_rises b m o)) (with_atom_ordered a m p (rest_ordered b m o)))
 
 -- whether each atom is in order in itself
 abbrev pub atoms_ordered : Monomial → Bool

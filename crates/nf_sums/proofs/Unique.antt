@@ -12,7 +12,20 @@ use Rattle.nf_terms.specs.TermKeys.{atom_ties, atom_same, monomial_ties, monomia
 use Rattle.nf_terms.specs.Comparison.{atoms_total, monomials_total}
 use Rattle.nf_terms.specs.Normal.{IsNormal, ordered, ordered_atom, ordered_monomial, atom_rises, monomial_rises}
 use Rattle.nf_terms.specs.RawSums.{occurrences, as_often, same_bag, total, SameTotals}
-use Rattle.nf_terms.proofs.Tests.{and_left, and_right}
+use Rattle.nf_terms.proofs.Tests.{and_left, and_right, and_both}
+use Rattle.nf_terms.proofs.Partings.{ordered_term}
+
+-- ---- sums that rise: in order, but for what is inside their atoms
+
+-- whether no atom stands after the next one
+abbrev pub risen_monomial : Monomial → Bool
+risen_monomial One = true
+risen_monomial (Times a m) = atom_rises a m && risen_monomial m
+
+-- whether the monomials rise, and no coefficient is 0
+abbrev pub risen : Polynomial → Bool
+risen Zero = true
+risen (Plus m c p) = not (int_eq c (pos 0)) && risen_monomial m && monomial_rises m p && risen p
 
 -- ---- monomials with the same atoms
 
@@ -46,11 +59,11 @@ same_atoms m n e = record { counts = λ x. by_count x (occurrences x m) refl (oc
     by_count x zero f (suc j) g = often_at n m n x (and_right (as_often m m n) (as_often n m n) e) (omega arith)
     by_count x (suc i) f j g = often_at m m n x (and_left (as_often m m n) (as_often n m n) e) (omega arith)
 
-rest_ordered : (a : Atom) (m : Monomial) → ordered_monomial (Times a m) ≡ true → ordered_monomial m ≡ true
-rest_ordered a m o = and_right (ordered_atom a && atom_rises a m) (ordered_monomial m) o
+rest_ordered : (a : Atom) (m : Monomial) → risen_monomial (Times a m) ≡ true → risen_monomial m ≡ true
+rest_ordered a m o = and_right (atom_rises a m) (risen_monomial m) o
 
-rises : (a : Atom) (m : Monomial) → ordered_monomial (Times a m) ≡ true → atom_rises a m ≡ true
-rises a m o = and_right (ordered_atom a) (atom_rises a m) (and_left (ordered_atom a && atom_rises a m) (ordered_monomial m) o)
+rises : (a : Atom) (m : Monomial) → risen_monomial (Times a m) ≡ true → atom_rises a m ≡ true
+rises a m o = and_left (atom_rises a m) (risen_monomial m) o
 
 less_through : (a b c : Atom) → cmp_atom a b ≡ Less → is_le (cmp_atom b c) ≡ true → cmp_atom a c ≡ Less
 less_through a b c e f = by_order (cmp_atom b c) refl
@@ -61,7 +74,7 @@ less_through a b c e f = by_order (cmp_atom b c) refl
     by_order Greater g = absurd (let h : is_le Greater ≡ true = sym (ap is_le g) ∙ f in cc)
 
 -- an atom before the first one doesn't stand in an ordered monomial
-absent : (a b : Atom) (n : Monomial) → cmp_atom a b ≡ Less → ordered_monomial (Times b n) ≡ true → occurrences a (Times b n) ≡ 0
+absent : (a b : Atom) (n : Monomial) → cmp_atom a b ≡ Less → risen_monomial (Times b n) ≡ true → occurrences a (Times b n) ≡ 0
 absent a b One e o = ap (λ r. cond (is_eq r) 1 0 + 0) e
 absent a b (Times c n) e o =
     let h : occurrences a (Times c n) ≡ 0 = absent a c n (less_through a b c e (rises b (Times c n) o)) (rest_ordered b (Times c n) o) in
@@ -74,7 +87,7 @@ present a m = let g : occurrences a (Times a m) ≡ 1 + occurrences a m = ap (λ
 greater_less : (a b : Atom) → cmp_atom a b ≡ Greater → cmp_atom b a ≡ Less
 greater_less a b e = atoms_total.antisymm b a ∙ ap ordering_reverse e
 
-same_monomials : (m n : Monomial) → ordered_monomial m ≡ true → ordered_monomial n ≡ true → SameAtoms m n → m ≡ n
+same_monomials : (m n : Monomial) → risen_monomial m ≡ true → risen_monomial n ≡ true → SameAtoms m n → m ≡ n
 same_monomials One One o p s = refl
 same_monomials One (Times b n) o p s = absurd (omega (arith, s.counts b, present b n))
 same_monomials (Times a m) One o p s = absurd (omega (arith, s.counts a, present a m))
@@ -93,7 +106,7 @@ same_monomials (Times a m) (Times b n) o p s = by_order (λ t. same_monomials m 
         cancel x h = omega arith
 
 -- ordered monomials that are the same bag are equal
-bags_equal : (m n : Monomial) → ordered_monomial m ≡ true → ordered_monomial n ≡ true → same_bag m n ≡ true → m ≡ n
+bags_equal : (m n : Monomial) → risen_monomial m ≡ true → risen_monomial n ≡ true → same_bag m n ≡ true → m ≡ n
 bags_equal m n o p e = same_monomials m n o p (same_atoms m n e)
 
 often_self : (k m : Monomial) → as_often k m m ≡ true
@@ -108,21 +121,21 @@ bag_self m = let e : as_often m m m ≡ true = often_self m m in cc
 
 -- ---- polynomials with the same totals
 
-module _ (m : Monomial) (c : ℤ) (p : Polynomial) (o : ordered (Plus m c p) ≡ true) where
-  good : not (int_eq c (pos 0)) && ordered_monomial m ≡ true
-  good = and_left (not (int_eq c (pos 0)) && ordered_monomial m) (monomial_rises m p) (and_left (not (int_eq c (pos 0)) && ordered_monomial m && monomial_rises m p) (ordered p) o)
+module _ (m : Monomial) (c : ℤ) (p : Polynomial) (o : risen (Plus m c p) ≡ true) where
+  good : not (int_eq c (pos 0)) && risen_monomial m ≡ true
+  good = and_left (not (int_eq c (pos 0)) && risen_monomial m) (monomial_rises m p) (and_left (not (int_eq c (pos 0)) && risen_monomial m && monomial_rises m p) (risen p) o)
 
   no_zero : not (int_eq c (pos 0)) ≡ true
-  no_zero = and_left (not (int_eq c (pos 0))) (ordered_monomial m) good
+  no_zero = and_left (not (int_eq c (pos 0))) (risen_monomial m) good
 
-  first_ordered : ordered_monomial m ≡ true
-  first_ordered = and_right (not (int_eq c (pos 0))) (ordered_monomial m) good
+  first_ordered : risen_monomial m ≡ true
+  first_ordered = and_right (not (int_eq c (pos 0))) (risen_monomial m) good
 
   first_rises : monomial_rises m p ≡ true
-  first_rises = and_right (not (int_eq c (pos 0)) && ordered_monomial m) (monomial_rises m p) (and_left (not (int_eq c (pos 0)) && ordered_monomial m && monomial_rises m p) (ordered p) o)
+  first_rises = and_right (not (int_eq c (pos 0)) && risen_monomial m) (monomial_rises m p) (and_left (not (int_eq c (pos 0)) && risen_monomial m && monomial_rises m p) (risen p) o)
 
-  tail_ordered : ordered p ≡ true
-  tail_ordered = and_right (not (int_eq c (pos 0)) && ordered_monomial m && monomial_rises m p) (ordered p) o
+  tail_ordered : risen p ≡ true
+  tail_ordered = and_right (not (int_eq c (pos 0)) && risen_monomial m && monomial_rises m p) (risen p) o
 
   zero_not : c ≡ pos 0 → ⊥
   zero_not e = let t : int_eq c (pos 0) ≡ true = (signed_Decides c (pos 0)).1 e in let n : not (int_eq c (pos 0)) ≡ true = no_zero in let f : not true ≡ true = sym (ap not t) ∙ n in cc
@@ -132,7 +145,7 @@ less_of Less e = refl
 less_of Equal e = cc
 less_of Greater e = cc
 
-not_same : (m n : Monomial) → ordered_monomial m ≡ true → ordered_monomial n ≡ true → cmp_monomial m n ≡ Less → same_bag m n ≡ false
+not_same : (m n : Monomial) → risen_monomial m ≡ true → risen_monomial n ≡ true → cmp_monomial m n ≡ Less → same_bag m n ≡ false
 not_same m n o p e = by_test (same_bag m n) refl
   where
     by_test : (b : Bool) → same_bag m n ≡ b → b ≡ false
@@ -140,7 +153,7 @@ not_same m n o p e = by_test (same_bag m n) refl
     by_test false f = refl
 
 -- a monomial before the first one has the total 0
-beyond : (m : Monomial) (p : Polynomial) → ordered_monomial m ≡ true → monomial_rises m p ≡ true → ordered p ≡ true → total m p ≡ pos 0
+beyond : (m : Monomial) (p : Polynomial) → risen_monomial m ≡ true → monomial_rises m p ≡ true → risen p ≡ true → total m p ≡ pos 0
 beyond m Zero o r q = refl
 beyond m (Plus n d p) o r q =
     let e : cmp_monomial m n ≡ Less = less_of (cmp_monomial m n) r in
@@ -153,13 +166,14 @@ beyond m (Plus n d p) o r q =
     onward (Plus k e p) s = ap is_lt (monomials_total.trans m n k (less_of (cmp_monomial m n) r) (less_of (cmp_monomial n k) s))
 
 -- the first monomial has its coefficient as its total
-first_total : (m : Monomial) (c : ℤ) (p : Polynomial) → ordered (Plus m c p) ≡ true → total m (Plus m c p) ≡ c
+first_total : (m : Monomial) (c : ℤ) (p : Polynomial) → risen (Plus m c p) ≡ true → total m (Plus m c p) ≡ c
 first_total m c p o =
     let h : total m p ≡ pos 0 = beyond m p (first_ordered m c p o) (first_rises m c p o) (tail_ordered m c p o) in
     let g : total m (Plus m c p) ≡ c +ℤ total m p = ap (λ b. cond b c (pos 0) +ℤ total m p) (bag_self m) in
     omega (arith, ints)
 
-unique : (p q : Polynomial) → ordered p ≡ true → ordered q ≡ true → SameTotals p q → p ≡ q
+-- sums that rise and have the same totals are equal
+pub unique : (p q : Polynomial) → risen p ≡ true → risen q ≡ true → SameTotals p q → p ≡ q
 unique Zero Zero o r s = refl
 unique Zero (Plus n d q) o r s = absurd (zero_not n d q r (sym (first_total n d q r) ∙ sym (s.totals n)))
 unique (Plus m c p) Zero o r s = absurd (zero_not m c p o (sym (first_total m c p o) ∙ s.totals m))
@@ -180,7 +194,21 @@ unique (Plus m c p) (Plus n d q) o r s = by_order (λ t. unique p q (tail_ordere
         cancel : (bag : Monomial) → total bag (Plus m c p) ≡ total bag (Plus m c q) → total bag p ≡ total bag q
         cancel bag h = omega (arith, ints)
 
+risen_atoms : (m : Monomial) → ordered_monomial m ≡ true → risen_monomial m ≡ true
+risen_atoms One o = refl
+risen_atoms (Times a m) o =
+    and_both (atom_rises a m) (risen_monomial m) (and_right (ordered_atom a) (atom_rises a m) (and_left (ordered_atom a && atom_rises a m) (ordered_monomial m) o))
+    (risen_atoms m (and_right (ordered_atom a && atom_rises a m) (ordered_monomial m) o))
+
+-- sums in order rise
+risen_of : (p : Polynomial) → ordered p ≡ true → risen p ≡ true
+risen_of Zero o = refl
+risen_of (Plus m c p) o =
+    let t = ordered_term m c p o in
+    and_both (not (int_eq c (pos 0)) && risen_monomial m && monomial_rises m p) (risen p)
+    (and_both (not (int_eq c (pos 0)) && risen_monomial m) (monomial_rises m p) (and_both (not (int_eq c (pos 0))) (risen_monomial m) (ap not t.nonzero) (risen_atoms m t.first)) t.rises) (risen_of p t.rest)
+
 pub normal_forms_equal : (p q : Polynomial) → IsNormal p → IsNormal q → SameTotals p q → p ≡ q
-normal_forms_equal p q m n s = unique p q m.ordered n.ordered s
+normal_forms_equal p q m n s = unique p q (risen_of p m.ordered) (risen_of q n.ordered) s
 
 pub ruleset unique_forms = (normal_forms_equal)

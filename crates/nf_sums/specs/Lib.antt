@@ -3,3 +3,4 @@ pub mod Operations
 pub mod OrderedSums
 pub mod Events
 pub mod Sameness
+pub mod Signs

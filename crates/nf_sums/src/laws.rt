@@ -1,14 +1,15 @@
 //! Laws of sums. The functions do nothing.
 
 ghost use Rattle.std.specs.Prelude.{◌≡◌, ℤ, ◌+ℤ◌, ◌-ℤ◌, ◌*ℤ◌, neg_ℤ};
-ghost use Rattle.nf_terms.specs.Terms.{Polynomial, ArrayTerm};
+ghost use Rattle.nf_terms.specs.Terms.{Atom as AtomTerm, Polynomial, ArrayTerm};
 ghost use Rattle.nf_terms.specs.Computed.{IfDone};
 ghost use Rattle.nf_terms.specs.Meaning.{value_of};
 ghost use Rattle.nf_terms.specs.Means.{IsNumberOf};
 ghost use Rattle.nf_terms.specs.Lists.{ListTerm, IsNormalList};
 ghost use Rattle.nf_terms.specs.Normal.{IsNormal, IsNormalArray};
 ghost use Rattle.nf_terms.specs.RawSums.{raw_sum, raw_difference, raw_product, raw_negation};
-ghost use Rattle.nf_sums.specs.Sameness.{IsFormOf, SameSum, SameArray, SameList};
+ghost use Rattle.nf_sums.specs.Forms.{normal_form};
+ghost use Rattle.nf_sums.specs.Sameness.{settled, settled_atom, IsFormOf, SameSum, SameArray, SameAtom, SameList};
 ghost use Rattle.nf_sums.specs.Operations.{added, subtracted, multiplied, negated, number};
 
 /// Normal forms that are the same are equal.
@@ -17,6 +18,16 @@ pub fn normal_forms_are_unique()
     ensures sums { (p q : Polynomial) → IsNormal p → IsNormal q → SameSum p q → p ≡ q }
     ensures arrays { (a b : ArrayTerm) → IsNormalArray a → IsNormalArray b → SameArray a b → a ≡ b }
     ensures lists { (l m : ListTerm) → IsNormalList l → IsNormalList m → SameList l m → l ≡ m }
+{}
+
+/// Atoms are the same exactly where they settle alike, and sums exactly where their settled forms have one normal form:
+/// so bags of atoms that settle alike are bags of atoms that are the same.
+#[tactic(auto, using(crate::proofs::Rising::settling))]
+pub fn same_terms_settle_alike()
+    ensures atoms { (a b : AtomTerm) → SameAtom a b → settled_atom a ≡ settled_atom b }
+    ensures same_atoms { (a b : AtomTerm) → settled_atom a ≡ settled_atom b → SameAtom a b }
+    ensures sums { (p q : Polynomial) → SameSum p q → normal_form (settled p) ≡ normal_form (settled q) }
+    ensures same_sums { (p q : Polynomial) → normal_form (settled p) ≡ normal_form (settled q) → SameSum p q }
 {}
 
 /// What the operations give is normal, and the same as the raw sum.

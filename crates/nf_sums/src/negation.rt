@@ -12,8 +12,8 @@ use nf_terms::stop::NoMemory;
 use nf_terms::tree::MonoTree;
 use std::alloc::Global;
 
-/// Adds a copy of a monomial with the negation of a coefficient.
-fn push_negated(
+//// Adds a copy of a monomial with the negation of a coefficient.
+pub fn push_negated(
     alloc: Global,
     out: &mut Vec<(MonoTree, i128)>,
     mono: &MonoTree,

@@ -6,12 +6,12 @@ ghost use Rattle.nf_terms.specs.View.{term_in};
 ghost use Rattle.nf_terms.specs.Measures.{size_of, weight_of};
 ghost use Rattle.nf_terms.specs.Computed.{Answers};
 ghost use Rattle.nf_terms.specs.Normal.{IsNormal, constant_part as constant_of_polynomial, is_constant as constant};
-ghost use Rattle.nf_terms.specs.RawSums.{raw_sum, raw_product, IsNormalFormOf};
+ghost use Rattle.nf_terms.specs.RawSums.{raw_sum, raw_difference, raw_product, IsNormalFormOf};
 ghost use Rattle.nf_sums.specs.Events.{IsNarrow, IsSmall};
 ghost use Rattle.nf_sums.specs.Operations.{added, subtracted, multiplied as product_of, negated as negated_of, number as number_of};
 
 use crate::limits::check_limits;
-use crate::merge::merged;
+use crate::merge::{Sign, merged};
 use crate::negation::negated;
 use crate::product::multiplied;
 use nf_terms::constants::{constant_part, is_constant};
@@ -47,7 +47,17 @@ fn narrow_sum(alloc: Global, l: &Poly, r: &Poly) -> Result<Poly, NoMemory>
     requires small { IsSmall (size_of l.now + size_of r.now) }
     ensures { IfOk result (λ p. IsNormalFormOf p (raw_sum l.now r.now)) }
 {
-    let terms = merged(alloc, l.monos(), r.monos())?;
+    let terms = merged(alloc, l.monos(), r.monos(), Sign::Plus)?;
+    Ok(from_terms(terms))
+}
+
+// A difference that is narrow and small.
+fn narrow_difference(alloc: Global, l: &Poly, r: &Poly) -> Result<Poly, NoMemory>
+    requires narrow { IsNarrow (weight_of l.now + weight_of r.now) }
+    requires small { IsSmall (size_of l.now + size_of r.now) }
+    ensures { IfOk result (λ p. IsNormalFormOf p (raw_difference l.now r.now)) }
+{
+    let terms = merged(alloc, l.monos(), r.monos(), Sign::Minus)?;
     Ok(from_terms(terms))
 }
 
@@ -80,8 +90,7 @@ pub fn sub(alloc: Global, l: &Poly, r: &Poly) -> Result<Poly, NfStop>
     ensures { Answers result (subtracted l.now r.now) }
 {
     check_limits(l, r, l.weight() + r.weight(), l.size() + r.size())?;
-    let negation = neg(alloc, r)?;
-    Ok(narrow_sum(alloc, l, &negation)?)
+    Ok(narrow_difference(alloc, l, r)?)
 }
 
 /// The product: the normal form of all pairwise products.

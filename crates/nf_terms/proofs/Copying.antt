@@ -1,7 +1,7 @@
 -- Lists of terms that are copied with a change.
 use Rattle.std.proofs.Common.{◌≡◌, ℕ, ◌≤◌, ℤ, cond, Bool, true, false, List, [], ◌∷◌, ◌++◌, map, length, drop, refl, ap, sym, subst, ◌∙◌}
 use Rattle.std.proofs.lemmas.List.{drop_all, append-nil}
-use Rattle.nf_terms.specs.Terms.{Monomial, Polynomial, One, Times, polynomial_of, Plus}
+use Rattle.nf_terms.specs.Terms.{Monomial, polynomial_of, Plus}
 use Rattle.nf_terms.specs.View.{term_in, monomial_in}
 use Rattle.nf_terms.specs.Normal.{has_atoms, part_with_atoms}
 use Rattle.nf_terms.specs.Reduced.{with_coefficients}

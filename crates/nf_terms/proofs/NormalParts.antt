@@ -1,9 +1,9 @@
 -- The parts of a normal term are normal.
-use Rattle.std.proofs.Common.{◌≡◌, ◌+◌, ◌≤◌, max, true, ◌&&◌, not, arith, refl}
-use Rattle.nf_terms.specs.Terms.{Atom, Monomial, Polynomial, ArrayTerm, Writes, Symbol, Read, Quotient, Remainder, One, Times, Zero, Plus, Over, NoWrites, Write}
+use Rattle.std.proofs.Common.{◌≡◌, ◌+◌, ◌≤◌, max, true, ◌&&◌, not, arith}
+use Rattle.nf_terms.specs.Terms.{Atom, Monomial, Polynomial, Writes, Symbol, Read, Quotient, Remainder, One, Times, Zero, Plus, Over, NoWrites, Write}
 use Rattle.nf_terms.specs.Measures.{size_of_atom, size_of_monomial, size_of, size_of_writes, depth_of_atom, depth_of_monomial, depth_of, depth_of_writes}
 use Rattle.nf_terms.specs.Limits.{size_limit, depth_limit}
-use Rattle.nf_terms.specs.Normal.{IsNormal, IsNormalArray, ordered, ordered_atom, ordered_monomial, ordered_array, ordered_writes, atom_rises, monomial_rises, is_constant, is_written, write_rises, stays_read, is_light, narrow_atom, narrow_monomial, narrow_inside, narrow_array, narrow_writes}
+use Rattle.nf_terms.specs.Normal.{IsNormal, IsNormalArray, ordered, ordered_atom, ordered_monomial, ordered_array, ordered_writes, atom_rises, is_constant, is_written, write_rises, stays_read, is_light, narrow_atom, narrow_monomial, narrow_inside, narrow_array, narrow_writes}
 use Rattle.nf_terms.specs.Parts.{HasNormalParts, AtomsHaveNormalParts, MonomialsHaveNormalParts, WritesAreNormal}
 use Rattle.nf_terms.specs.declared.tree.Base.{Base}
 use Rattle.nf_terms.proofs.Tests.{and_left, and_right, and_both}

@@ -1,5 +1,5 @@
 -- What is reduced stays normal.
-use Rattle.std.proofs.Common.{◌≡◌, ◌+◌, ◌≤◌, ℤ, pos, unsigned_abs, Bool, true, false, ◌&&◌, nat_le, refl, ap, sym, ◌∙◌, arith}
+use Rattle.std.proofs.Common.{◌≡◌, ◌≤◌, ℤ, pos, Bool, true, false, refl, sym, ◌∙◌, arith}
 use Rattle.std.specs.Prelude.{◌≢◌}
 use Rattle.std.proofs.lemmas.Bool.{le-leb}
 use Rattle.std.specs.Cmp.{signed_Decides}
@@ -8,11 +8,11 @@ use Rattle.nf_terms.specs.Terms.{Monomial, Polynomial, One, Times, Zero, Plus}
 use Rattle.nf_terms.specs.Order.{cmp_monomial}
 use Rattle.nf_terms.specs.Measures.{size_of, depth_of, weight_of}
 use Rattle.nf_terms.specs.Limits.{weight_limit}
-use Rattle.nf_terms.specs.Normal.{IsNormal, ordered, ordered_monomial, monomial_rises, is_light, narrow_inside, narrow_monomial, part_with_atoms}
+use Rattle.nf_terms.specs.Normal.{IsNormal, ordered, monomial_rises, is_light, narrow_inside, narrow_monomial, part_with_atoms}
 use Rattle.nf_terms.specs.Reduced.{Reduces, Ended, Dropped, Kept, with_coefficients, AllowsChange}
 use Rattle.nf_terms.proofs.Simple.{light}
 use Rattle.nf_terms.proofs.Tests.{and_left, and_right, and_both}
-use Rattle.nf_terms.proofs.Partings.{IsOrderedTerm, ordered_term, term_ordered, less_of, rises_through, last_one}
+use Rattle.nf_terms.proofs.Partings.{ordered_term, term_ordered, less_of, rises_through}
 
 not_zero : (d : ℤ) → d ≢ pos 0 → int_eq d (pos 0) ≡ false
 not_zero d n = by_value (int_eq d (pos 0)) refl

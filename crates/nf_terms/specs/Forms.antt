@@ -1,5 +1,5 @@
 -- Normal forms: numbers, arrays and lists.
-use Rattle.std.specs.Prelude.{ℕ, Bool, false, ◌&&◌, List}
+use Rattle.std.specs.Prelude.{ℕ, Bool, false}
 use Rattle.std.specs.Ordering.{is_eq}
 use Rattle.nf_terms.specs.Order.{cmp_polynomial, cmp_array}
 use Rattle.nf_terms.specs.Measures.{size_of, size_of_array, depth_of, depth_of_array}

@@ -1,5 +1,5 @@
 -- Sums with fewer monomials, or with other coefficients that are no larger.
-use Rattle.std.specs.Prelude.{◌≡◌, ◌≢◌, ◌≤◌, ℤ, pos, unsigned_abs}
+use Rattle.std.specs.Prelude.{◌≢◌, ◌≤◌, ℤ, pos, unsigned_abs}
 use Rattle.nf_terms.specs.Terms.{Monomial, Polynomial, Zero, Plus}
 
 -- the second has some of the first one's monomials in their order, with coefficients that are not 0 and no larger in absolute value

@@ -32,7 +32,7 @@ value_given ins (Some v) = ins.scalar v.name
 
 -- each symbol stands for what is given to the left machine's variable
 abbrev pub given : List VarInfo → Inputs → Valuation
-given lefts ins = record { scalar = λ p. value_given ins (slice_get lefts p.var); array = λ p i. pos 0 }
+given lefts ins = record { scalar = λ p. value_given ins (slice_get lefts p.var); array = λ p i. pos 0; list = λ p. [] }
 
 -- the inputs among the variables are named on the left, and all are scalars
 pub record InputsKnown (lefts vs : List VarInfo) : Type 0 where

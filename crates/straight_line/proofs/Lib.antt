@@ -6,3 +6,4 @@ pub mod Alike
 pub mod Turns
 pub mod Gives
 pub mod Assigns
+pub mod Told

@@ -13,9 +13,9 @@ ghost use Rattle.straight_line.specs.Vectors.{Means, LeadsTo};
 ghost use Rattle.straight_line.specs.Steps.{is_settable, Acts, IsAfter, IsNext};
 ghost use Rattle.straight_line.specs.Execution.{OrNoMemory, outcome_map, IsNumber, Gives, Assigns, AssignsAll, first_assignments, Executes};
 
+use crate::operations::{add, mul, neg, sub};
 use fs_ast::machine::Machine;
 use fs_model::parts::{Assign, Branch, Expr, StateId, VarId};
-use nf_sums::sums::{add, mul, neg, sub};
 use nf_terms::poly::Poly;
 use nf_terms::stop::NfStop;
 use std::alloc::Global;

@@ -3,6 +3,7 @@
 
 pub mod compare;
 mod execute;
+mod operations;
 mod outputs;
 mod start;
 pub mod straight;

@@ -1,6 +1,6 @@
 use Rattle.std.proofs.Common.{◌≡◌, ◌++◌, map, drop}
 use Rattle.nf_terms.specs.Terms.{monomial_of, polynomial_of, writes_of}
-use Rattle.nf_terms.specs.View.{atom_in, polynomial_in, monomial_in, array_in, term_in, write_in}
+use Rattle.nf_terms.specs.View.{atom_in, term_in, write_in}
 use Rattle.nf_terms.specs.Symbols.{symbols_of_monomial, symbols_of, symbols_of_writes}
 use Rattle.nf_terms.proofs.symbols.+symbols.Given as goal
 

@@ -1,0 +1,7 @@
+//! Interned atoms.
+#![tactic(auto)]
+
+pub mod bank;
+mod digest;
+mod key;
+pub mod laws;
