@@ -1,5 +1,5 @@
 -- Readings that agree, and names that are taken.
-use Rattle.std.proofs.Common.{◌≡◌, ℕ, Bool, true, false, cond, List, [], ◌∷◌, Option, Some, None, Result, Ok, Err, refl}
+use Rattle.std.proofs.Common.{◌≡◌, ℕ, Bool, true, false, cond, List, [], ◌∷◌, Option, Some, Result, Ok, Err, refl}
 use Rattle.fs_model.specs.declared.parts.Role.{Role}
 use Rattle.fs_model.specs.declared.parts.Sort.TheVariants as sorts
 use Rattle.fs_model.specs.Source.{Declaration}
@@ -11,7 +11,7 @@ use Rattle.fs_grammar.specs.declared.token.Token.{Token}
 use Rattle.fs_grammar.specs.Tokens.{kind_at, ◌>>=◌}
 use Rattle.fs_grammar.specs.Ends.{name_in}
 use Rattle.fs_grammar.specs.Grammar.{with_names}
-use Rattle.declaration_text.specs.Declaring.{Declaring, at_sort, at_name, after_name, step, parsed}
+use Rattle.declaration_text.specs.Declaring.{at_sort, at_name, after_name, step, parsed}
 
 abbrev IsNoArray : Option TokenKind → Type 0
 IsNoArray (Some Array) = ⊥

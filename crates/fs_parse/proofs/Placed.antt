@@ -1,14 +1,13 @@
 -- The sums and guards of a machine text read as they do by themselves.
-use Rattle.std.proofs.Common.{◌≡◌, ℕ, List, [], ◌∷◌, Option, Some, None, Err, refl, ap, ◌∙◌}
+use Rattle.std.proofs.Common.{◌≡◌, ℕ, List, [], ◌∷◌, Option, Some, None, Err, refl, ap}
 use Rattle.fs_model.specs.Terms.{Term, Variable, Read, Negative, Guard, Test, Not, And, Or, Sum, Difference, Product, Quotient, Remainder}
-use Rattle.fs_model.specs.Source.{Source}
 use Rattle.fs_grammar.specs.declared.fault.TextFault.{TextFault}
 use Rattle.fs_grammar.specs.declared.format.Format.TheVariants.{One}
 use Rattle.fs_grammar.specs.declared.token.TokenKind.{TokenKind}
 use Rattle.fs_grammar.specs.declared.token.TokenKind.TheVariants.{Name, Number, OpenParen, CloseParen, OpenBracket, CloseBracket, OpenBrace, CloseBrace, Plus, Minus, Star, Slash, Percent, Bang, AndAnd, OrOr, Relation, End}
 use Rattle.fs_grammar.specs.declared.token.Token.{Token}
 use Rattle.fs_grammar.specs.Tokens.{refusal}
-use Rattle.fs_grammar.specs.Grammar.{UnitContext, negates, first_of_all, and_after, ConjunctionContext, first_of_any, or_after, GuardContext, braces, transition_guard, FactorContext, first_factor, times, divides, remainder_of, negative, ProductContext, first_product, plus, minus, SumContext, parens, index, left, right, ParseState, at_unit, after_conjunction, after_guard, at_factor, after_name, after_product, after_sum, factor_done, product_done, unit_done, conjunction_done, step_factor, step_unit, step_guard, step_conjunction, step_joined, step_sum, step_summed, step_product, step_multiplied, step_name, step, finish, stop, next, reading}
+use Rattle.fs_grammar.specs.Grammar.{UnitContext, negates, first_of_all, and_after, ConjunctionContext, first_of_any, or_after, GuardContext, braces, transition_guard, FactorContext, first_factor, times, divides, remainder_of, negative, ProductContext, first_product, plus, minus, SumContext, parens, index, left, right, ParseState, at_unit, after_conjunction, after_guard, at_factor, after_name, after_product, after_sum, factor_done, product_done, unit_done, step_factor, step_unit, step_guard, step_conjunction, step_joined, step_sum, step_summed, step_product, step_multiplied, step_name, step, finish, stop, next, reading}
 use Rattle.expression_text.specs.declared.operators.ProductOperator.{ProductOperator}
 use Rattle.expression_text.specs.declared.operators.ProductOperator.TheVariants as products
 use Rattle.expression_text.specs.declared.operators.SumOperator.{SumOperator}

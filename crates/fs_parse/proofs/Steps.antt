@@ -1,5 +1,5 @@
 -- Readings that agree, and a token that is taken or refused.
-use Rattle.std.proofs.Common.{◌≡◌, ℕ, Bool, true, false, cond, List, [], ◌∷◌, Option, Some, None, Result, Ok, Err, refl, sym, ◌∙◌}
+use Rattle.std.proofs.Common.{◌≡◌, ℕ, Bool, true, false, cond, List, [], ◌∷◌, Option, Some, None, Result, Ok, Err, refl, ◌∙◌}
 use Rattle.fs_model.specs.declared.parts.Role.TheVariants.{Output}
 use Rattle.fs_model.specs.declared.parts.Sort.TheVariants as sorts
 use Rattle.fs_model.specs.Terms.{Guard}
@@ -11,10 +11,9 @@ use Rattle.fs_grammar.specs.declared.format.Format.TheVariants.{One, Two}
 use Rattle.fs_grammar.specs.declared.token.TokenKind.{TokenKind}
 use Rattle.fs_grammar.specs.declared.token.TokenKind.TheVariants.{State, When, Goto, Emit, Port, Name, Number, End}
 use Rattle.fs_grammar.specs.declared.token.Token.{Token}
-use Rattle.fs_grammar.specs.Formats.{format_of}
 use Rattle.fs_grammar.specs.Tokens.{kind_at, line_at, refusal, accepted, ◌>>=◌}
 use Rattle.fs_grammar.specs.Ends.{EndsName, begins_transition, name_in}
-use Rattle.fs_grammar.specs.Grammar.{OpenState, OpenTransition, with_open_state, scalar, port, value, ParseState, at_format, at_semicolon, at_declaration, at_declared, at_reset, after_reset, at_state, at_state_name, after_state_name, at_transition, at_target, after_target, at_assignment, at_port, after_assignment_name, at_equals, at_sum, step_transition, step_format, in_format_two, step, finish, reading}
+use Rattle.fs_grammar.specs.Grammar.{OpenState, OpenTransition, with_open_state, scalar, port, value, ParseState, at_format, at_semicolon, at_declaration, at_declared, at_reset, after_reset, at_state, at_state_name, after_state_name, at_transition, at_target, after_target, at_assignment, at_port, after_assignment_name, at_equals, at_sum, step_transition, step_format, step, finish, reading}
 use Rattle.fs_grammar.proofs.PartEnds.{scalar_steps}
 use Rattle.fs_parse.specs.Beginnings.{IsNoEmit, format_in, format_at}
 

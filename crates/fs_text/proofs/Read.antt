@@ -15,6 +15,8 @@ use Rattle.text_laws.specs.Limit.{SpellWithin, StopWithin}
 use Rattle.text_laws.proofs.Ended.{tokens_ended}
 use Rattle.text_laws.proofs.Limit.{spelled_found, fault_stands}
 use Rattle.text_laws.proofs.Read.{read_is_well_formed}
+use Rattle.text_laws.specs.Texts.{TextSpells, TextStops}
+use Rattle.text_laws.proofs.Texts as texts
 use Rattle.fs_text.specs.Spelled.{spelled, IfText}
 
 module _ {P : Type 0} (view : P → Source) (bytes : List ℕ) where
@@ -39,3 +41,12 @@ module _ {P : Type 0} (view : P → Source) (bytes : List ℕ) where
   stops (Ok p) e = tt
   stops (Err (Text f)) e = fault_stands bytes f e
   stops (Err NoMemory) e = tt
+
+  pub text : (r : Result P ReadError) → Gives view r (spelled bytes) → IfOk r (λ p. TextSpells bytes (view p))
+  text (Ok p) e = texts.spells bytes (view p) e
+  text (Err e) h = tt
+
+  pub faulty : (r : Result P ReadError) → Gives view r (spelled bytes) → IfErr r (λ e. IfText e (TextStops bytes))
+  faulty (Ok p) e = tt
+  faulty (Err (Text f)) e = texts.stops bytes f e
+  faulty (Err NoMemory) e = tt

@@ -11,6 +11,7 @@ ghost use Rattle.grammar_laws.specs.Faults.{Spells, StopsAt};
 ghost use Rattle.fs_lex.specs.Scan.{tokens_of};
 ghost use Rattle.lex_laws.specs.Tokenization.{StandsIn};
 ghost use Rattle.text_laws.specs.Limit.{SpellWithin, StopWithin};
+ghost use Rattle.text_laws.specs.Texts.{TextSpells, TextStops};
 ghost use Rattle.fs_text.specs.Spelled.{spelled, IfText};
 
 use fs_grammar::fault::ReadError;
@@ -29,6 +30,8 @@ pub fn read_parts(alloc: Global, bytes: &[u8]) -> Result<Parts, ReadError>
     ensures spells { IfOk result (λ p. Spells (source_of p) (tokens_of bytes.now)) }
     ensures well_formed { IfOk result (λ p. IsTrue (is_well_formed (source_of p))) }
     ensures fault { IfErr result (λ e. IfText e (StopsAt (tokens_of bytes.now))) }
+    ensures text { IfOk result (λ p. TextSpells bytes.now (source_of p)) }
+    ensures faulty { IfErr result (λ e. IfText e (TextStops bytes.now)) }
     ensures within { IfOk result (λ p. SpellWithin (tokens_of bytes.now) (source_of p)) }
     ensures stops { IfErr result (λ e. IfText e (λ f. (s : StopWithin (tokens_of bytes.now) f) × StandsIn bytes.now s.token)) }
 {

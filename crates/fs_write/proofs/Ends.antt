@@ -1,5 +1,5 @@
 -- Where a part ends without a token of its own, what follows reads alike.
-use Rattle.std.proofs.Common.{◌≡◌, ℕ, List, [], ◌∷◌, Some, None, Result, refl, sym, ◌∙◌}
+use Rattle.std.proofs.Common.{◌≡◌, ℕ, List, [], ◌∷◌, Some, Result, refl, sym, ◌∙◌}
 use Rattle.fs_model.specs.declared.parts.Rel.{Rel}
 use Rattle.fs_model.specs.Terms.{Term, Guard, Variable, Test}
 use Rattle.fs_model.specs.Source.{Source}

@@ -15,10 +15,10 @@ use Rattle.fs_grammar.specs.declared.format.Format.TheVariants.{One, Two}
 use Rattle.fs_grammar.specs.declared.token.TokenKind.TheVariants as tokens
 use Rattle.fs_grammar.specs.Grammar.{with_names, with_states, OpenState, with_transitions, with_open_state, ParseState, at_start, at_format, at_semicolon, at_declaration, at_sort, at_declared, after_declared, at_reset, after_reset, at_state, at_state_name, after_state_name, at_transition, step, finish, reading}
 use Rattle.fs_lex.specs.Scan.{tokens_of}
-use Rattle.fs_write.specs.Formats.{declares_ports, emits_in_transition, emits_in_state, has_ports, format_for}
+use Rattle.fs_write.specs.Formats.{declares_ports, emits_in_state, has_ports, format_for}
 use Rattle.fs_write.specs.Canonical.{after_comma, listed, line_text, state_text, role_text, kind_text, declaration_text, head_text, canonical}
 use Rattle.fs_write.specs.Spellable.{is_spellable_transition, is_spellable_state, is_spellable_declaration, is_spellable}
-use Rattle.fs_write.specs.Formats.{declares_ports, emits_in_transition, emits_in_state, has_ports, format_for}
+use Rattle.fs_write.specs.Formats.{declares_ports, emits_in_state, has_ports, format_for}
 use Rattle.fs_write.specs.CanonicalLines.{declarations_from, lines_from, states_from, with_canonical_lines}
 use Rattle.fs_write.proofs.Allowed.{Allows, allows_left, allows_right, allowed}
 use Rattle.fs_write.proofs.Steps.{Reads, joined, weaker, plain_room, border_room, space_reads, newline_reads}

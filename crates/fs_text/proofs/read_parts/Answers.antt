@@ -1,6 +1,6 @@
 use Rattle.std.proofs.Common.{rules}
 use Rattle.fs_model.specs.View.{source_of}
-use Rattle.fs_text.proofs.Read.{spells, well_formed, fault, within, stops}
+use Rattle.fs_text.proofs.Read.{spells, well_formed, fault, within, stops, text, faulty}
 use Rattle.fs_text.proofs.read_parts.Goals as goal
 
 pub returns-clause-spells : goal.returns-clause-spells
@@ -17,3 +17,9 @@ returns-clause-within c = within source_of c.args.bytes.now c.parse.result (sear
 
 pub returns-clause-stops : goal.returns-clause-stops
 returns-clause-stops c = stops source_of c.args.bytes.now c.parse.result (search rules)
+
+pub returns-clause-text : goal.returns-clause-text
+returns-clause-text c = text source_of c.args.bytes.now c.parse.result (search rules)
+
+pub returns-clause-faulty : goal.returns-clause-faulty
+returns-clause-faulty c = faulty source_of c.args.bytes.now c.parse.result (search rules)
