@@ -6,3 +6,4 @@ pub mod Once
 pub mod Mutual
 pub mod Order
 pub mod Last
+pub mod Roles

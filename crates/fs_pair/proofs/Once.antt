@@ -113,13 +113,13 @@ one_of_side d x y (v ∷ vs) h i = by_test (y == x) refl (λ k. one_of_side d x 
         ap (λ b. cond b 1 0 + many (stands_at d x) (sided_variables d (y + 1) vs)) (at_other d x y e) ∙ zero-add (many (stands_at d x) (sided_variables d (y + 1) vs)) ∙ next s
 
 -- ---- names
-abbrev names_of : List VarInfo → List (List ℕ)
+abbrev pub names_of : List VarInfo → List (List ℕ)
 names_of vs = map (λ v. v.name) vs
 
 apart : (u : VarInfo) (us : List VarInfo) → names_differ (names_of (u ∷ us)) ≡ true → list_any (λ m. bytes_eq m u.name) (names_of us) ≡ false
 apart u us h = not_true (list_any (λ m. bytes_eq m u.name) (names_of us)) (and_left (not (list_any (λ m. bytes_eq m u.name) (names_of us))) (names_differ (names_of us)) h)
 
-others_differ : (u : VarInfo) (us : List VarInfo) → names_differ (names_of (u ∷ us)) ≡ true → names_differ (names_of us) ≡ true
+pub others_differ : (u : VarInfo) (us : List VarInfo) → names_differ (names_of (u ∷ us)) ≡ true → names_differ (names_of us) ≡ true
 others_differ u us h = and_right (not (list_any (λ m. bytes_eq m u.name) (names_of us))) (names_differ (names_of us)) h
 
 any_named : (us : List VarInfo) (j : ℕ) (v : VarInfo) (name : List ℕ) → slice_get us j ≡ Some v → v.name ≡ name → list_any (λ m. bytes_eq m name) (names_of us) ≡ true
@@ -131,7 +131,7 @@ any_named (u ∷ us) zero v name e n =
 any_named (u ∷ us) (suc j) v name e n = or_right (bytes_eq u.name name) (list_any (λ m. bytes_eq m name) (names_of us)) (any_named us j v name e n)
 
 -- a name of the rest is another one
-another_name : (u : VarInfo) (us : List VarInfo) (j : ℕ) (v : VarInfo) → names_differ (names_of (u ∷ us)) ≡ true → slice_get us j ≡ Some v → v.name ≡ u.name → ⊥
+pub another_name : (u : VarInfo) (us : List VarInfo) (j : ℕ) (v : VarInfo) → names_differ (names_of (u ∷ us)) ≡ true → slice_get us j ≡ Some v → v.name ≡ u.name → ⊥
 another_name u us j v h e n =
     let c : true ≡ false = sym (any_named us j v u.name e n) ∙ apart u us h in
     cc c

@@ -28,9 +28,10 @@ pub fn positions_are_in_order()
     ensures last { (a b : Fsmd) (k i : ℕ) (p q : Position) → slice_get (positions a b) k ≡ Some p → p.pos.side ≡ Right → p.partner ≡ None → slice_get (positions a b) i ≡ Some q → k < i → ComesLater p q }
 {}
 
-/// A partner is the other side's variable of the same name and sort, and the partner of a partner is the position itself.
+/// A partner is the other side's variable of the same name and sort, and of the same role where the interfaces are equal. The partner of a partner is the position itself.
 pub fn partners_are_mutual()
     ensures alike { (a b : Fsmd) (k j : ℕ) (p : Position) → slice_get (positions a b) k ≡ Some p → p.partner ≡ Some j → HasPartner a b p j }
+    ensures role { (a b : Fsmd) (j : ℕ) (p : Position) → IsSound a → IsSound b → interface_fault a b ≡ None → (h : HasPartner a b p j) → h.partner.role ≡ p.role }
     ensures mutual { (a b : Fsmd) (k j : ℕ) (p q : Position) → IsSound a → IsSound b → slice_get (positions a b) k ≡ Some p → p.partner ≡ Some j → slice_get (positions a b) j ≡ Some q → q.partner ≡ Some k }
 {}
 
