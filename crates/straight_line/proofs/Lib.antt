@@ -6,4 +6,3 @@ pub mod Alike
 pub mod Turns
 pub mod Gives
 pub mod Assigns
-pub mod Told

@@ -3,7 +3,6 @@
 
 pub mod compare;
 mod execute;
-mod operations;
 mod outputs;
 mod start;
 pub mod straight;
