@@ -8,7 +8,7 @@ use Rattle.fs_inputs.specs.declared.faults.Fault.{Fault}
 use Rattle.fs_inputs.specs.declared.faults.Fault.TheVariants.{Shape, Unknown, TooBig}
 use Rattle.fsmd_tool.specs.declared.answer.Answer.{Answer}
 use Rattle.fsmd_tool.specs.declared.answer.Answer.TheVariants.{Usage, Equivalent, Text, Differs, NoReturn, OutputDiffers, Wide, Large, TextRefused, CheckRefused, NotJson, InputRefused, Interfaces, TooLong, NotBuilt, CannotRead}
-use Rattle.fsmd_tool.specs.Commands.{word_of}
+use Rattle.fsmd_tool.specs.Words.{word_of}
 
 -- the name of what is wrong in a text
 abbrev pub kind_name : TextKind → List ℕ
