@@ -1,10 +1,11 @@
 //! Cases: what is asked of the program over files in memory, and what it is to answer.
 //!
-//! A case is a text of parts with `⊢` between two: the words, the bytes of `a.fsmd`, those of `b.fsmd`, the reply, and
-//! the bytes of `i.json`, if any. A table is a form and its rows, one a line: its cases are the form with the cells of a row, which `¦` parts,
-//! for `①`, `②`, `③` and so on. `¶` stands for a line break, `◇` for a machine, `«3·x»` and `⟪3·x⟫` for xxx, and
-//! `«2..4·x№†»` for x23x34: each number and the next. Where `▸` stands in `a.fsmd` is the place that `▸` in the reply
-//! means; it is no byte of the file.
+//! A table is a form and its rows, one a line, whose cells `¦` parts. Its cases are the form with the cells of a row for
+//! `{1}`, `{2}` and so on; two tables together are the form with the cells of a line of the first for `{A}`, `{B}`, `{C}`,
+//! and then of a row of the second. In a cell or a form `\n`, `\t` and `\r` are those bytes, `{machine}` is a machine without
+//! fault, `<<3 times:x>>` is xxx, and `<<2 to 4:x# x#+1, >>` is x2 x3, x3 x4, for each number and the next; round several of
+//! these stand `(*3 times:` and `*)`. Where `▸` stands in `a.fsmd` is the place that `▸` in the reply means; it is no byte of
+//! the file.
 
 use fs_base::memory::CleanFiles;
 use fs_base::sinks::CleanSink;
@@ -13,54 +14,89 @@ use fsmd_tool::drive::drive;
 use std::alloc::{AllocError, Global};
 use std::process::Abort;
 
-// A machine without fault, for which `◇` stands.
+// A machine without fault, for which `{machine}` stands.
 const FINE: &str = "fsmd 1; output y; reset s0; state s0: goto s0;";
 
-/// Asserts each case of a table.
-pub fn each_row(rt: &impl Abort, alloc: Global, form: &str, rows: &str) -> Result<(), AllocError> {
-    for row in rows.lines() {
-        let case = case_of(alloc, form, row)?;
-        assert!(rt; holds(alloc, case.as_str())?, "{form} with {row}");
-    }
-    Ok(())
+/// What is asked, and the reply: the words, the texts of `a.fsmd`, `b.fsmd` and `i.json`, and the bytes that are put.
+#[derive(Clone, Copy)]
+pub struct Case<'a> {
+    pub words: &'a str,
+    pub left: &'a str,
+    pub right: &'a str,
+    pub inputs: &'a str,
+    pub reply: &'a str,
 }
 
-/// Asserts each case of the tables whose forms are `form` with one of these lines for `⓪`.
+/// Asserts each case of a table.
+pub fn each_row(rt: &impl Abort, alloc: Global, form: &Case, rows: &str) -> Result<(), AllocError> {
+    each_pair(rt, alloc, form, "", rows)
+}
+
+/// Asserts each case of two tables: each line of the first with each row of the second.
 pub fn each_pair(
     rt: &impl Abort,
     alloc: Global,
-    form: &str,
+    form: &Case,
     lines: &str,
     rows: &str,
 ) -> Result<(), AllocError> {
+    if lines.is_empty() {
+        return each_row_with(rt, alloc, form, "", rows);
+    }
     for line in lines.lines() {
-        let one = form.replace(alloc, '⓪', line)?;
-        each_row(rt, alloc, one.as_str(), rows)?;
+        each_row_with(rt, alloc, form, line, rows)?;
     }
     Ok(())
 }
 
-// The form with the cells of the row in their places.
-fn case_of(alloc: Global, form: &str, row: &str) -> Result<String, AllocError> {
-    let mut case = String::from_str(alloc, form)?;
-    let mut marks = "①②③④⑤⑥".chars();
-    for cell in row.split('¦') {
+fn each_row_with(
+    rt: &impl Abort,
+    alloc: Global,
+    form: &Case,
+    line: &str,
+    rows: &str,
+) -> Result<(), AllocError> {
+    for row in rows.lines() {
+        assert!(rt;
+            holds(alloc, form, line, row)?,
+            "{} {} with {line} and {row}",
+            form.words,
+            form.left
+        );
+    }
+    Ok(())
+}
+
+// A part of a form with the cells of the line and of the row in their places.
+fn filled(alloc: Global, part: &str, line: &str, row: &str) -> Result<String, AllocError> {
+    let part = with_cells(alloc, part, line, "ABC")?;
+    let part = with_cells(alloc, part.as_str(), row, "1234")?;
+    spelled(alloc, part.as_str())
+}
+
+fn with_cells(alloc: Global, part: &str, cells: &str, marks: &str) -> Result<String, AllocError> {
+    let mut all = String::from_str(alloc, part)?;
+    let mut marks = marks.chars();
+    for cell in cells.split('¦') {
         if let Some(mark) = marks.next() {
-            case = case.as_str().replace(alloc, mark, cell)?;
+            let place = format!(in alloc; "{{{mark}}}")?;
+            all = all.as_str().replace(alloc, place.as_str(), cell)?;
         }
     }
-    spelled(alloc, case.as_str())
+    Ok(all)
 }
 
 fn spelled(alloc: Global, text: &str) -> Result<String, AllocError> {
-    let lines = text.replace(alloc, '¶', "\n")?;
-    let lines = lines.as_str().replace(alloc, '◇', FINE)?;
-    let inner = with_runs(alloc, lines.as_str(), '«', '»')?;
-    with_runs(alloc, inner.as_str(), '⟪', '⟫')
+    let lines = text.replace(alloc, "\\n", "\n")?;
+    let tabs = lines.as_str().replace(alloc, "\\t", "\t")?;
+    let bytes = tabs.as_str().replace(alloc, "\\r", "\r")?;
+    let whole = bytes.as_str().replace(alloc, "{machine}", FINE)?;
+    let inner = with_runs(alloc, whole.as_str(), "<<", ">>")?;
+    with_runs(alloc, inner.as_str(), "(*", "*)")
 }
 
 // The text with each run between these marks written out.
-fn with_runs(alloc: Global, text: &str, open: char, close: char) -> Result<String, AllocError> {
+fn with_runs(alloc: Global, text: &str, open: &str, close: &str) -> Result<String, AllocError> {
     let mut all = String::new(alloc);
     for piece in text.split(open) {
         let (run, rest) = piece.split_once(close).unwrap_or(("", piece));
@@ -71,14 +107,13 @@ fn with_runs(alloc: Global, text: &str, open: char, close: char) -> Result<Strin
 }
 
 fn push_run(alloc: Global, all: &mut String, run: &str) -> Result<(), AllocError> {
-    let (span, item) = run.split_once('·').unwrap_or(("", run));
-    let (first, end) = span.split_once("..").unwrap_or(("0", span));
-    let (first, end) = (number(first), number(end));
-    if !item.contains('№') {
-        let times = usize::try_from(end).unwrap_or(0);
+    let (span, item) = run.split_once(':').unwrap_or(("", ""));
+    if let Some(times) = span.strip_suffix(" times") {
+        let times = usize::try_from(number(times)).unwrap_or(0);
         return all.push_str(item.repeat(alloc, times)?.as_str());
     }
-    push_numbered(alloc, all, item, first, end)
+    let (first, end) = span.split_once(" to ").unwrap_or(("0", "0"));
+    push_numbered(alloc, all, item, number(first), number(end))
 }
 
 fn push_numbered(
@@ -91,8 +126,8 @@ fn push_numbered(
     for this in first..end {
         let next = format!(in alloc; "{}", this.saturating_add(1))?;
         let this = format!(in alloc; "{this}")?;
-        let item = item.replace(alloc, '№', this.as_str())?;
-        all.push_str(item.as_str().replace(alloc, '†', next.as_str())?.as_str())?;
+        let item = item.replace(alloc, "#+1", next.as_str())?;
+        all.push_str(item.as_str().replace(alloc, "#", this.as_str())?.as_str())?;
     }
     Ok(())
 }
@@ -102,20 +137,19 @@ fn number(digits: &str) -> u32 {
 }
 
 // Whether the program answers so.
-fn holds(alloc: Global, case: &str) -> Result<bool, AllocError> {
-    let mut parts = case.split('⊢');
-    let words = parts.next().unwrap_or("");
-    let left = parts.next().unwrap_or("");
-    let right = parts.next().unwrap_or("");
-    let reply = parts.next().unwrap_or("");
-    let inputs = parts.next().unwrap_or("");
-    let (front, rest) = left.split_once('▸').unwrap_or((left, ""));
+fn holds(alloc: Global, form: &Case, line: &str, row: &str) -> Result<bool, AllocError> {
+    let left = filled(alloc, form.left, line, row)?;
+    let right = filled(alloc, form.right, line, row)?;
+    let inputs = filled(alloc, form.inputs, line, row)?;
+    let words = filled(alloc, form.words, line, row)?;
+    let reply = filled(alloc, form.reply, line, row)?;
+    let (front, rest) = left.as_str().split_once('▸').unwrap_or((left.as_str(), ""));
     let (line, column) = place_behind(front);
     let left = format!(in alloc; "{front}{rest}")?;
     let place = format!(in alloc; "{line}:{column}")?;
-    let reply = reply.replace(alloc, '▸', place.as_str())?;
+    let reply = reply.as_str().replace(alloc, '▸', place.as_str())?;
     let held = [left.as_bytes(), right.as_bytes(), inputs.as_bytes()];
-    answers(alloc, words, held, reply.as_str())
+    answers(alloc, words.as_str(), held, reply.as_str())
 }
 
 // The line and the column of the byte behind this text.

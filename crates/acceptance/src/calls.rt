@@ -30,7 +30,7 @@ fn number_given(inputs: &Inputs, k: u32) -> Option<i128> {
         None => None,
         Some(_) => match inputs.get(k) {
             Value::Num(n) => Some(*n),
-            Value::Arr(_) => None,
+            Value::Arr(_) | Value::List(_) => None,
         },
     }
 }
@@ -53,7 +53,7 @@ fn first_number(store: &Store) -> Option<i128>
 {
     match store.get(VarId(0)) {
         Value::Num(n) => Some(*n),
-        Value::Arr(_) => None,
+        Value::Arr(_) | Value::List(_) => None,
     }
 }
 

@@ -1,41 +1,52 @@
 //! The canonical text that `fmt` puts: its lines, its blanks, and exactly the brackets without which it would be read
 //! otherwise.
 
-use crate::asked::{each_pair, each_row};
+use crate::asked::{Case, each_pair, each_row};
 use std::test::Fail;
 
-const TEXT: &str = "fmt a.fsmd⊢⓪⊢⊢②";
+const TEXT: Case = Case {
+    words: "fmt a.fsmd",
+    left: "{A}",
+    right: "",
+    inputs: "",
+    reply: "{2}",
+};
 
 // The canonical text of a text, and that of the canonical text, which is itself.
-const IT_AND_ITS_REPLY: &str = "①
-②
+const IT_AND_ITS_REPLY: &str = "{1}
+{2}
 ";
 
 const TEXTS: &str =
-    "fsmd 1;input a,b;output y;reset s;state s:when !{a>0||b>0}goto s:y=(a-b)*-(2);goto s;¦fsmd 1;¶input a, b;¶output y;¶reset s;¶state s:¶  when !{a > 0 || b > 0} goto s: y = (a - b) * -2;¶  goto s;¶
-fsmd 1; input a, b; reset s; state s: when a>0&&{b>0||a<0} goto s; goto s;¦fsmd 1;¶input a, b;¶reset s;¶state s:¶  when a > 0 && {b > 0 || a < 0} goto s;¶  goto s;¶
-fsmd 01 ; reset s ; state s : goto s ;¦fsmd 1;¶reset s;¶state s:¶  goto s;¶
-# a comment\r¶fsmd 1;\r¶\toutput y; # more\r¶reset s;¶¶¶state s: goto s: y=000;#¦fsmd 1;¶output y;¶reset s;¶state s:¶  goto s: y = 0;¶
-fsmd 1; input a; input b,c; local array l; output array n,k; output y; reset t;¶            state s: goto t: n[0]=a,y=l[b],k[a+1]=-c; state t: when a==0 goto t; when a!=1 goto s: y=y+001; goto s;¦fsmd 1;¶input a;¶input b, c;¶local array l;¶output array n, k;¶output y;¶reset t;¶state s:¶  goto t: n[0] = a, y = l[b], k[a + 1] = -c;¶state t:¶  when a == 0 goto t;¶  when a != 1 goto s: y = y + 1;¶  goto s;¶
-fsmd 1;local z,y;input x;reset s;state s:goto u;state u:when x<=y goto s:z=x,y=z;when x>=z goto u;goto s;¦fsmd 1;¶local z, y;¶input x;¶reset s;¶state s:¶  goto u;¶state u:¶  when x <= y goto s: z = x, y = z;¶  when x >= z goto u;¶  goto s;¶
+    r"fsmd 1;input a,b;output y;reset s;state s:when !{a>0||b>0}goto s:y=(a-b)*-(2);goto s;¦fsmd 1;\ninput a, b;\noutput y;\nreset s;\nstate s:\n  when !{a > 0 || b > 0} goto s: y = (a - b) * -2;\n  goto s;\n
+fsmd 1; input a, b; reset s; state s: when a>0&&{b>0||a<0} goto s; goto s;¦fsmd 1;\ninput a, b;\nreset s;\nstate s:\n  when a > 0 && {b > 0 || a < 0} goto s;\n  goto s;\n
+fsmd 01 ; reset s ; state s : goto s ;¦fsmd 1;\nreset s;\nstate s:\n  goto s;\n
+# a comment\r\nfsmd 1;\r\n\toutput y; # more\r\nreset s;\n\n\nstate s: goto s: y=000;#¦fsmd 1;\noutput y;\nreset s;\nstate s:\n  goto s: y = 0;\n
+fsmd 1; input a; input b,c; local array l; output array n,k; output y; reset t;\n            state s: goto t: n[0]=a,y=l[b],k[a+1]=-c; state t: when a==0 goto t; when a!=1 goto s: y=y+001; goto s;¦fsmd 1;\ninput a;\ninput b, c;\nlocal array l;\noutput array n, k;\noutput y;\nreset t;\nstate s:\n  goto t: n[0] = a, y = l[b], k[a + 1] = -c;\nstate t:\n  when a == 0 goto t;\n  when a != 1 goto s: y = y + 1;\n  goto s;\n
+fsmd 1;local z,y;input x;reset s;state s:goto u;state u:when x<=y goto s:z=x,y=z;when x>=z goto u;goto s;¦fsmd 1;\nlocal z, y;\ninput x;\nreset s;\nstate s:\n  goto u;\nstate u:\n  when x <= y goto s: z = x, y = z;\n  when x >= z goto u;\n  goto s;\n
 ";
 
 #[test]
 fn whole_texts(rt: HostRuntime) -> Result<(), Fail> {
-    each_pair(&rt, rt.alloc(), TEXT, IT_AND_ITS_REPLY, TEXTS)?;
+    each_pair(&rt, rt.alloc(), &TEXT, IT_AND_ITS_REPLY, TEXTS)?;
     Ok(())
 }
 
-const IN_STATE: &str =
-    "fmt a.fsmd⊢fsmd 1;¶input a, b, c;¶input array m;¶output y;¶output array n;¶reset s;¶state s:¶⓪";
+// A state of one machine: what is written, and what stands in the canonical text.
+const IN_STATE: Case = Case {
+    words: "fmt a.fsmd",
+    left: r"fsmd 1;\ninput a, b, c;\ninput array m;\noutput y;\noutput array n;\nreset s;\nstate s:\n{A}",
+    right: "",
+    inputs: "",
+    reply: r"fsmd 1;\ninput a, b, c;\ninput array m;\noutput y;\noutput array n;\nreset s;\nstate s:\n{B}",
+};
 
-const SUM_LINES: &str =
-    "goto s: y=①;⊢⊢fsmd 1;¶input a, b, c;¶input array m;¶output y;¶output array n;¶reset s;¶state s:¶  goto s: y = ②;¶
-  goto s: y = ②;¶⊢⊢fsmd 1;¶input a, b, c;¶input array m;¶output y;¶output array n;¶reset s;¶state s:¶  goto s: y = ②;¶
-goto s: n[①]=0;⊢⊢fsmd 1;¶input a, b, c;¶input array m;¶output y;¶output array n;¶reset s;¶state s:¶  goto s: n[②] = 0;¶
-  goto s: n[②] = 0;¶⊢⊢fsmd 1;¶input a, b, c;¶input array m;¶output y;¶output array n;¶reset s;¶state s:¶  goto s: n[②] = 0;¶
-when(①)<=① goto s;goto s;⊢⊢fsmd 1;¶input a, b, c;¶input array m;¶output y;¶output array n;¶reset s;¶state s:¶  when ② <= ② goto s;¶  goto s;¶
-  when ② <= ② goto s;¶  goto s;¶⊢⊢fsmd 1;¶input a, b, c;¶input array m;¶output y;¶output array n;¶reset s;¶state s:¶  when ② <= ② goto s;¶  goto s;¶
+const SUM_LINES: &str = r"goto s: y={1};¦  goto s: y = {2};\n
+  goto s: y = {2};\n¦  goto s: y = {2};\n
+goto s: n[{1}]=0;¦  goto s: n[{2}] = 0;\n
+  goto s: n[{2}] = 0;\n¦  goto s: n[{2}] = 0;\n
+when({1})<={1} goto s;goto s;¦  when {2} <= {2} goto s;\n  goto s;\n
+  when {2} <= {2} goto s;\n  goto s;\n¦  when {2} <= {2} goto s;\n  goto s;\n
 ";
 
 const SUMS: &str = "(a+b)*c¦(a + b) * c
@@ -86,13 +97,12 @@ m[a-(b-c)]¦m[a - (b - c)]
 // Sums: what is written, and what stands in the canonical text.
 #[test]
 fn brackets_of_sums(rt: HostRuntime) -> Result<(), Fail> {
-    each_pair(&rt, rt.alloc(), IN_STATE, SUM_LINES, SUMS)?;
+    each_pair(&rt, rt.alloc(), &IN_STATE, SUM_LINES, SUMS)?;
     Ok(())
 }
 
-const GUARD_LINES: &str =
-    "when ① goto s;goto s;⊢⊢fsmd 1;¶input a, b, c;¶input array m;¶output y;¶output array n;¶reset s;¶state s:¶  when ② goto s;¶  goto s;¶
-  when ② goto s;¶  goto s;¶⊢⊢fsmd 1;¶input a, b, c;¶input array m;¶output y;¶output array n;¶reset s;¶state s:¶  when ② goto s;¶  goto s;¶
+const GUARD_LINES: &str = r"when {1} goto s;goto s;¦  when {2} goto s;\n  goto s;\n
+  when {2} goto s;\n  goto s;\n¦  when {2} goto s;\n  goto s;\n
 ";
 
 const GUARDS: &str = "{a>0||b>0}&&c>0¦{a > 0 || b > 0} && c > 0
@@ -127,20 +137,31 @@ a>=-b¦a >= -b
 // Guards: what is written, and what stands in the canonical text.
 #[test]
 fn brackets_of_guards(rt: HostRuntime) -> Result<(), Fail> {
-    each_pair(&rt, rt.alloc(), IN_STATE, GUARD_LINES, GUARDS)?;
+    each_pair(&rt, rt.alloc(), &IN_STATE, GUARD_LINES, GUARDS)?;
     Ok(())
 }
 
-const REFUSED: &str = "¦bad input: a.fsmd:1:1: Ended¶
-fsmd 1;¶reset s;¶state s: goto s: y = ;¶¦bad input: a.fsmd:3:22: Unexpected¶
-fsmd 1; reset s; state s: when a>0&&{b>0||a<0} goto s; goto s;¦bad input: a.fsmd:1: UnknownName¶
-fsmd 1;¶reset s;¶state s:¦bad input: a.fsmd:3: NoElse¶
-fsmd 1;¶reset s;¦bad input: a.fsmd:2: UnknownState¶
+const REFUSED: &str = r"¦bad input: a.fsmd:1:1: Ended\n
+fsmd 1;\nreset s;\nstate s: goto s: y = ;\n¦bad input: a.fsmd:3:22: Unexpected\n
+fsmd 1; reset s; state s: when a>0&&{b>0||a<0} goto s; goto s;¦bad input: a.fsmd:1: UnknownName\n
+fsmd 1;\nreset s;\nstate s:¦bad input: a.fsmd:3: NoElse\n
+fsmd 1;\nreset s;¦bad input: a.fsmd:2: UnknownState\n
 ";
 
 #[test]
 fn texts_that_are_refused(rt: HostRuntime) -> Result<(), Fail> {
-    each_row(&rt, rt.alloc(), "fmt a.fsmd⊢①⊢⊢②", REFUSED)?;
+    each_row(
+        &rt,
+        rt.alloc(),
+        &Case {
+            words: "fmt a.fsmd",
+            left: "{1}",
+            right: "",
+            inputs: "",
+            reply: "{2}",
+        },
+        REFUSED,
+    )?;
     Ok(())
 }
 
@@ -152,11 +173,16 @@ Fmt a.fsmd
 cut a.fsmd
 ";
 
-const USAGE: &str =
-    "①⊢◇⊢◇⊢usage: fsmd check A B [--cert F] [--steps N] | verify A B C | run A I [--steps N] | replay A B I [--steps N] | fmt A | cuts A | generate N¶";
+const USAGE: Case = Case {
+    words: "{1}",
+    left: "{machine}",
+    right: "{machine}",
+    inputs: "",
+    reply: r"usage: fsmd check A B [--cert F] [--steps N] | verify A B C | run A I [--steps N] | replay A B I [--steps N] | fmt A | cuts A | generate N\n",
+};
 
 #[test]
 fn words_that_are_no_command(rt: HostRuntime) -> Result<(), Fail> {
-    each_row(&rt, rt.alloc(), USAGE, WORDS)?;
+    each_row(&rt, rt.alloc(), &USAGE, WORDS)?;
     Ok(())
 }

@@ -1,16 +1,33 @@
 //! Faults of texts: each kind, with its line and its column.
 
-use crate::asked::{answers, each_pair, each_row};
+use crate::asked::{Case, answers, each_pair, each_row};
 use std::test::Fail;
 
 // A text of two cells, whose fault is at the first byte of the second.
-const BEHIND: &str = "check a.fsmd b.fsmd⊢①▸②⊢◇⊢bad input: a.fsmd:▸: ⓪¶";
+const BEHIND: Case = Case {
+    words: "check a.fsmd b.fsmd",
+    left: "{1}▸{2}",
+    right: "{machine}",
+    inputs: "",
+    reply: r"bad input: a.fsmd:▸: {A}\n",
+};
 
 // The same behind the front of a state.
-const IN_STATE: &str =
-    "check a.fsmd b.fsmd⊢fsmd 1; input a, b; input array m; output y, z; output array n; reset s;¶state s: ①▸②⊢◇⊢bad input: a.fsmd:▸: ⓪¶";
+const IN_STATE: Case = Case {
+    words: "check a.fsmd b.fsmd",
+    left: r"fsmd 1; input a, b; input array m; output y, z; output array n; reset s;\nstate s: {1}▸{2}",
+    right: "{machine}",
+    inputs: "",
+    reply: r"bad input: a.fsmd:▸: {A}\n",
+};
 
-const WHOLE: &str = "check a.fsmd b.fsmd⊢①⊢◇⊢bad input: a.fsmd:②¶";
+const WHOLE: Case = Case {
+    words: "check a.fsmd b.fsmd",
+    left: "{1}",
+    right: "{machine}",
+    inputs: "",
+    reply: r"bad input: a.fsmd:{2}\n",
+};
 
 const BAD_BYTES: &str = "goto s: y = a ¦& b;
 goto s: y = a ¦| b;
@@ -43,7 +60,7 @@ goto s;¦\u{a0}
 
 #[test]
 fn a_byte_that_begins_no_token(rt: HostRuntime) -> Result<(), Fail> {
-    each_pair(&rt, rt.alloc(), IN_STATE, "BadByte", BAD_BYTES)?;
+    each_pair(&rt, rt.alloc(), &IN_STATE, "BadByte", BAD_BYTES)?;
     Ok(())
 }
 
@@ -92,74 +109,74 @@ fsmd 1; reset s; state s: goto s: m[¦170141183460469231731687303715884105728¦N
 
 #[test]
 fn a_word_or_a_number_past_its_limit(rt: HostRuntime) -> Result<(), Fail> {
-    each_pair(&rt, rt.alloc(), BEHIND, "③", PAST_LIMITS)?;
+    each_pair(&rt, rt.alloc(), &BEHIND, "{3}", PAST_LIMITS)?;
     Ok(())
 }
 
 const KINDS: &str = "goto ¦& s;¦BadByte
 goto ¦é s;¦BadByte
-when «127·-»a > b ¦&¦BadByte
+when <<127 times:->>a > b ¦&¦BadByte
 goto s ¦abcdefghijklmnopqrstuvwxyz0123456¦BadWord
-when «127·-»a > b ¦abcdefghijklmnopqrstuvwxyz0123456¦BadWord
+when <<127 times:->>a > b ¦abcdefghijklmnopqrstuvwxyz0123456¦BadWord
 goto ¦170141183460469231731687303715884105728¦NumberTooBig
 goto s: y = a ¦170141183460469231731687303715884105728¦NumberTooBig
-when «127·-»a > b ¦170141183460469231731687303715884105728¦NumberTooBig
-when «127·-»a > b ¦> 0 goto s;¦Unexpected
-when «127·-»a > b ¦! a > 0 goto s;¦Unexpected
-when «127·-»a > b ¦{¦Unexpected
-when «127·-»a > b ¦(¦Unexpected
-goto s: y = -«127·-»a ¦(¦Unexpected
-goto s: y = -«127·-»a ¦&&¦Unexpected
-goto s: y = -«127·-»a ¦!¦Unexpected
-when «127·-»a > b ¦&& a¦Operators
-when «127·-»a > b ¦||¦Operators
-goto s: y = -«127·-»a ¦+¦Operators
-goto s: y = -«127·-»a ¦[¦Operators
-when «127·-»a > b ¦¦Ended
-goto s: y = -«127·-»a ¦¦Ended
+when <<127 times:->>a > b ¦170141183460469231731687303715884105728¦NumberTooBig
+when <<127 times:->>a > b ¦> 0 goto s;¦Unexpected
+when <<127 times:->>a > b ¦! a > 0 goto s;¦Unexpected
+when <<127 times:->>a > b ¦{¦Unexpected
+when <<127 times:->>a > b ¦(¦Unexpected
+goto s: y = -<<127 times:->>a ¦(¦Unexpected
+goto s: y = -<<127 times:->>a ¦&&¦Unexpected
+goto s: y = -<<127 times:->>a ¦!¦Unexpected
+when <<127 times:->>a > b ¦&& a¦Operators
+when <<127 times:->>a > b ¦||¦Operators
+goto s: y = -<<127 times:->>a ¦+¦Operators
+goto s: y = -<<127 times:->>a ¦[¦Operators
+when <<127 times:->>a > b ¦¦Ended
+goto s: y = -<<127 times:->>a ¦¦Ended
 goto s: y = ¦> & b¦Unexpected
 goto s: y = ¦goto 170141183460469231731687303715884105728¦Unexpected
-when «127·-»a > b ¦+ a &¦Operators
+when <<127 times:->>a > b ¦+ a &¦Operators
 ";
 
 // At one place the first of these is answered: BadByte, BadWord, NumberTooBig, Unexpected, Operators, Ended. A fault at
 // an earlier place is answered before any at a later one.
 #[test]
 fn the_kind_that_is_answered(rt: HostRuntime) -> Result<(), Fail> {
-    each_pair(&rt, rt.alloc(), IN_STATE, "③", KINDS)?;
+    each_pair(&rt, rt.alloc(), &IN_STATE, "{3}", KINDS)?;
     Ok(())
 }
 
-const PLACES: &str = "¦1:1: Ended
+const PLACES: &str = r"¦1:1: Ended
  ¦1:2: Ended
-¶¦2:1: Ended
-\r¶¦2:1: Ended
-¶\r¦2:2: Ended
+\n¦2:1: Ended
+\r\n¦2:1: Ended
+\n\r¦2:2: Ended
 \r¦1:2: Ended
 \t\t¦1:3: Ended
 #¦1:2: Ended
 # fsmd 1;¦1:10: Ended
-# fsmd 1;¶¦2:1: Ended
-#\r¶#\r¶¦3:1: Ended
-# é¶fsmd¦2:5: Ended
+# fsmd 1;\n¦2:1: Ended
+#\r\n#\r\n¦3:1: Ended
+# é\nfsmd¦2:5: Ended
 #é x¦1:6: Ended
-fsmd 1;¶¶¶¦4:1: Ended
+fsmd 1;\n\n\n¦4:1: Ended
 \tfsmd\t1\t2¦1:9: Unexpected
  \t fsmd 1;\t&¦1:12: BadByte
-fsmd 1;\r¶input &;¦2:7: BadByte
+fsmd 1;\r\ninput &;¦2:7: BadByte
 fsmd 1;\r\r\r?¦1:11: BadByte
-fsmd 1;¶\tinput ?¦2:8: BadByte
-fsmd 1; # one¶# two¶  input # three¶ ; ¦4:2: Unexpected
-fsmd#¶1#¶;#¶=¦4:1: Unexpected
+fsmd 1;\n\tinput ?¦2:8: BadByte
+fsmd 1; # one\n# two\n  input # three\n ; ¦4:2: Unexpected
+fsmd#\n1#\n;#\n=¦4:1: Unexpected
 fsmd 1 # ; &¦1:13: Ended
-fsmd 1;# a\r¶ b¦2:2: Unexpected
-fsmd 1;# a\r b¶ c¦2:2: Unexpected
-fsmd 1 ##¶¶  input¦3:3: Unexpected
+fsmd 1;# a\r\n b¦2:2: Unexpected
+fsmd 1;# a\r b\n c¦2:2: Unexpected
+fsmd 1 ##\n\n  input¦3:3: Unexpected
 ";
 
 #[test]
 fn lines_and_columns(rt: HostRuntime) -> Result<(), Fail> {
-    each_row(&rt, rt.alloc(), WHOLE, PLACES)?;
+    each_row(&rt, rt.alloc(), &WHOLE, PLACES)?;
     Ok(())
 }
 
@@ -200,14 +217,22 @@ fsmd 1; reset s; state s: goto s: y = a,
 fsmd 1; reset s; state s: goto s; goto
 ";
 
-const ENDS: &str = "▸⊢◇⊢bad input: a.fsmd:▸: Ended
- # no more¶\t▸⊢◇⊢bad input: a.fsmd:▸: Ended
- # no more¶\t▸fsmd⊢◇⊢bad input: a.fsmd:▸: Unexpected
+const CUT: Case = Case {
+    words: "check a.fsmd b.fsmd",
+    left: "{1}{A}",
+    right: "{machine}",
+    inputs: "",
+    reply: r"bad input: a.fsmd:▸: {B}\n",
+};
+
+const ENDS: &str = r"▸¦Ended
+ # no more\n\t▸¦Ended
+ # no more\n\t▸fsmd¦Unexpected
 ";
 
 #[test]
 fn ended_too_early(rt: HostRuntime) -> Result<(), Fail> {
-    each_pair(&rt, rt.alloc(), "check a.fsmd b.fsmd⊢①⓪¶", ENDS, FRONTS)?;
+    each_pair(&rt, rt.alloc(), &CUT, ENDS, FRONTS)?;
     Ok(())
 }
 
@@ -257,7 +282,7 @@ fsmd 1; reset s; state ¦1: goto s;
 
 #[test]
 fn unexpected_outside_states(rt: HostRuntime) -> Result<(), Fail> {
-    each_pair(&rt, rt.alloc(), BEHIND, "Unexpected", OUTSIDE_STATES)?;
+    each_pair(&rt, rt.alloc(), &BEHIND, "Unexpected", OUTSIDE_STATES)?;
     Ok(())
 }
 
@@ -288,7 +313,13 @@ fsmd 1; reset s; state s: when
 fsmd 1; reset s; state s: when a > 
 ";
 
-const RESERVED_NAME: &str = "check a.fsmd b.fsmd⊢①▸⓪;⊢◇⊢bad input: a.fsmd:▸: Unexpected¶";
+const RESERVED_NAME: Case = Case {
+    words: "check a.fsmd b.fsmd",
+    left: "{1}▸{A};",
+    right: "{machine}",
+    inputs: "",
+    reply: r"bad input: a.fsmd:▸: Unexpected\n",
+};
 
 const ARRAY_NAMES: &str = "fsmd 1; input a, ¦array;
 fsmd 1; reset ¦array;
@@ -297,8 +328,8 @@ fsmd 1; reset ¦array;
 // A word that is reserved is no name, wherever a name stands.
 #[test]
 fn a_reserved_word_for_a_name(rt: HostRuntime) -> Result<(), Fail> {
-    each_pair(&rt, rt.alloc(), RESERVED_NAME, RESERVED, BEFORE_NAMES)?;
-    each_pair(&rt, rt.alloc(), BEHIND, "Unexpected", ARRAY_NAMES)?;
+    each_pair(&rt, rt.alloc(), &RESERVED_NAME, RESERVED, BEFORE_NAMES)?;
+    each_pair(&rt, rt.alloc(), &BEHIND, "Unexpected", ARRAY_NAMES)?;
     Ok(())
 }
 
@@ -351,7 +382,7 @@ goto s; ¦}
 
 #[test]
 fn unexpected_in_a_line(rt: HostRuntime) -> Result<(), Fail> {
-    each_pair(&rt, rt.alloc(), IN_STATE, "Unexpected", IN_LINES)?;
+    each_pair(&rt, rt.alloc(), &IN_STATE, "Unexpected", IN_LINES)?;
     Ok(())
 }
 
@@ -405,7 +436,7 @@ goto s: y = a¦: z = b;
 
 #[test]
 fn unexpected_in_a_sum(rt: HostRuntime) -> Result<(), Fail> {
-    each_pair(&rt, rt.alloc(), IN_STATE, "Unexpected", IN_SUMS)?;
+    each_pair(&rt, rt.alloc(), &IN_STATE, "Unexpected", IN_SUMS)?;
     Ok(())
 }
 
@@ -464,6 +495,6 @@ when a > 0 ¦state t: goto t;
 
 #[test]
 fn unexpected_in_a_guard(rt: HostRuntime) -> Result<(), Fail> {
-    each_pair(&rt, rt.alloc(), IN_STATE, "Unexpected", IN_GUARDS)?;
+    each_pair(&rt, rt.alloc(), &IN_STATE, "Unexpected", IN_GUARDS)?;
     Ok(())
 }

@@ -1,28 +1,44 @@
 //! What is answered of two machines without fault: their interfaces, and forms that are not compared yet.
 
-use crate::asked::{each_pair, each_row};
+use crate::asked::{Case, each_pair, each_row};
 use std::test::Fail;
 
-const LEFT_AND_RIGHT: &str = "¦¦bad input: a.fsmd:1:1: Ended¶
-fsmd 1; reset s;¦¦bad input: a.fsmd:1: UnknownState¶
-fsmd 1; reset s;¦&¦bad input: a.fsmd:1: UnknownState¶
-fsmd 1; output y; reset s; state s: goto s;¦¦bad input: b.fsmd:1:1: Ended¶
-fsmd 1; output y; reset s; state s: goto s;¦¶fsmd 2;¦bad input: b.fsmd:2:6: Unexpected¶
-fsmd 1; output y; reset s; state s: goto s;¦fsmd 1;¶reset s;¦bad input: b.fsmd:2: UnknownState¶
-fsmd 1; input a; reset s; state s: goto s;¦¶?¦bad input: b.fsmd:2:1: BadByte¶
-fsmd 1; local array m; reset s; state s: goto s;¦fsmd 1¦bad input: b.fsmd:1:7: Ended¶
-fsmd 1; local array m; reset s; state s: goto s;¦fsmd 1; output y; reset s; state s: goto s;¦bad input: interface: y¶
+const LEFT_AND_RIGHT: &str = r"¦¦bad input: a.fsmd:1:1: Ended\n
+fsmd 1; reset s;¦¦bad input: a.fsmd:1: UnknownState\n
+fsmd 1; reset s;¦&¦bad input: a.fsmd:1: UnknownState\n
+fsmd 1; output y; reset s; state s: goto s;¦¦bad input: b.fsmd:1:1: Ended\n
+fsmd 1; output y; reset s; state s: goto s;¦\nfsmd 2;¦bad input: b.fsmd:2:6: Unexpected\n
+fsmd 1; output y; reset s; state s: goto s;¦fsmd 1;\nreset s;¦bad input: b.fsmd:2: UnknownState\n
+fsmd 1; input a; reset s; state s: goto s;¦\n?¦bad input: b.fsmd:2:1: BadByte\n
+fsmd 1; local array m; reset s; state s: goto s;¦fsmd 1¦bad input: b.fsmd:1:7: Ended\n
+fsmd 1; local array m; reset s; state s: goto s;¦fsmd 1; output y; reset s; state s: goto s;¦bad input: interface: y\n
 ";
 
 // The left file is read and checked whole before the right one, and both before the interfaces.
 #[test]
 fn the_left_file_first(rt: HostRuntime) -> Result<(), Fail> {
-    each_row(&rt, rt.alloc(), "check a.fsmd b.fsmd⊢①⊢②⊢③", LEFT_AND_RIGHT)?;
+    each_row(
+        &rt,
+        rt.alloc(),
+        &Case {
+            words: "check a.fsmd b.fsmd",
+            left: "{1}",
+            right: "{2}",
+            inputs: "",
+            reply: "{3}",
+        },
+        LEFT_AND_RIGHT,
+    )?;
     Ok(())
 }
 
-const INTERFACE: &str =
-    "check a.fsmd b.fsmd⊢fsmd 1; ① reset s; state s: goto s;⊢fsmd 1; ② reset s; state s: goto s;⊢bad input: interface: ③¶";
+const INTERFACE: Case = Case {
+    words: "check a.fsmd b.fsmd",
+    left: "fsmd 1; {1} reset s; state s: goto s;",
+    right: "fsmd 1; {2} reset s; state s: goto s;",
+    inputs: "",
+    reply: r"bad input: interface: {3}\n",
+};
 
 const INTERFACES: &str = "input a;¦input b;¦a
 input a, b;¦input b;¦a
@@ -49,7 +65,7 @@ input s;¦input t;¦s
 // first one of the right machine.
 #[test]
 fn interfaces(rt: HostRuntime) -> Result<(), Fail> {
-    each_row(&rt, rt.alloc(), INTERFACE, INTERFACES)?;
+    each_row(&rt, rt.alloc(), &INTERFACE, INTERFACES)?;
     Ok(())
 }
 
@@ -72,11 +88,11 @@ fsmd 1; input a, b; output y; local t; reset s; state s: goto s: y = a; state u:
 ";
 
 const NOT_BUILT_WITH: &str =
-    "①⊢fsmd 1; input a, b; output y; reset s; state s: goto s: y = a;⊢bad input: a.fsmd: NotBuilt
-①⊢①⊢bad input: a.fsmd: NotBuilt
-fsmd 1; input a, b; output y; reset s; state s: goto s: y = a;⊢①⊢bad input: b.fsmd: NotBuilt
-①⊢fsmd 1; input a, c; output y; reset s; state s: goto s;⊢bad input: interface: b
-fsmd 1; input a, c; output y; reset s; state s: goto s;⊢①⊢bad input: interface: c
+    r"{1}¦fsmd 1; input a, b; output y; reset s; state s: goto s: y = a;¦a.fsmd: NotBuilt
+{1}¦{1}¦a.fsmd: NotBuilt
+fsmd 1; input a, b; output y; reset s; state s: goto s: y = a;¦{1}¦b.fsmd: NotBuilt
+{1}¦fsmd 1; input a, c; output y; reset s; state s: goto s;¦interface: b
+fsmd 1; input a, c; output y; reset s; state s: goto s;¦{1}¦interface: c
 ";
 
 // A machine with a state of more than one branch, an array, `/` or `%` is not compared yet. This is looked at after the
@@ -86,7 +102,13 @@ fn not_built(rt: HostRuntime) -> Result<(), Fail> {
     each_pair(
         &rt,
         rt.alloc(),
-        "check a.fsmd b.fsmd⊢⓪¶",
+        &Case {
+            words: "check a.fsmd b.fsmd",
+            left: "{A}",
+            right: "{B}",
+            inputs: "",
+            reply: r"bad input: {C}\n",
+        },
         NOT_BUILT_WITH,
         NOT_BUILT,
     )?;

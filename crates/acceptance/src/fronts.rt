@@ -1,34 +1,41 @@
 //! Each front of a text: cut inside a token, behind it, or where a file may end.
 
-use crate::asked::each_row;
+use crate::asked::{Case, each_row};
 use std::alloc::{AllocError, Global};
 use std::process::Abort;
 use std::test::Fail;
 
 // A front and what stands behind the name of its file in the reply. The other file is the whole text's schedule.
-const FRONT: &str = "check a.fsmd b.fsmd⊢①⊢fsmd 1; input a, b; output g; local x, y; reset q0;
+const FRONT: Case = Case {
+    words: "check a.fsmd b.fsmd",
+    left: "{1}",
+    right: "fsmd 1; input a, b; output g; local x, y; reset q0;
 state q0: goto q1: x = a, y = b;
 state q1: when x == y goto q0: g = x; goto q2;
 state q2: when x > y goto q1: x = x - y; goto q1: y = y - x;
-⊢bad input: a.fsmd②
-";
+",
+    inputs: "",
+    reply: "bad input: a.fsmd{2}
+",
+};
 
 // Greatest common divisors by subtraction, token by token, each with the blank before it. A part begins where a file may
 // end, but the first. Before it stands the answer to the file that ends there, or in the blanks that follow.
-const PARTS: &str = ":▸: Ended¦fsmd· 1·;· input· a·,· b·;· output· g·;· local· x·,· y·;· reset· s0·;
-:1: UnknownState¦¶state· s0·:
+const PARTS: &str =
+    r":▸: Ended¦fsmd· 1·;· input· a·,· b·;· output· g·;· local· x·,· y·;· reset· s0·;
+:1: UnknownState¦\nstate· s0·:
 :2: NoElse¦ goto· s1·:· x· =· a·,· y· =· b·;
-:2: UnknownState¦¶state· s1·:
+:2: UnknownState¦\nstate· s1·:
 :3: NoElse¦ when· x· ==· y· goto· s0·:· g· =· x·;
 :3: NoElse¦ goto· s2·;
-:3: UnknownState¦¶state· s2·:
+:3: UnknownState¦\nstate· s2·:
 :4: NoElse¦ when· x· >· y· goto· s3·;
 :4: NoElse¦ goto· s4·;
-:4: UnknownState¦¶state· s3·:
+:4: UnknownState¦\nstate· s3·:
 :4: UnknownState¦ goto· s1·:· x· =· x· -· y·;
-:4: UnknownState¦¶state· s4·:
+:4: UnknownState¦\nstate· s4·:
 :6: NoElse¦ goto· s1·:· y· =· y· -· x·;
-: NotBuilt¦¶
+: NotBuilt¦\n
 : NotBuilt¦
 ";
 
@@ -46,7 +53,7 @@ fn cut_inside(rt: &impl Abort, alloc: Global, text: &str, word: &str) -> Result<
             } else {
                 format!(in alloc; "{text}{begun}▸¦:▸: Ended")?
             };
-            each_row(rt, alloc, FRONT, row.as_str())?;
+            each_row(rt, alloc, &FRONT, row.as_str())?;
         }
         begun.push(letter)?;
     }
@@ -56,12 +63,12 @@ fn cut_inside(rt: &impl Abort, alloc: Global, text: &str, word: &str) -> Result<
 // Asserts the answer to this front, which ends where a token ends or in the blanks behind it.
 fn cut_behind(rt: &impl Abort, alloc: Global, text: &str, why: &str) -> Result<(), AllocError> {
     let row = format!(in alloc; "{text}▸¦{why}")?;
-    each_row(rt, alloc, FRONT, row.as_str())
+    each_row(rt, alloc, &FRONT, row.as_str())
 }
 
 fn split_blank(token: &str) -> (&str, &str) {
-    match token.strip_prefix('¶') {
-        Some(word) => ("¶", word),
+    match token.strip_prefix(r"\n") {
+        Some(word) => (r"\n", word),
         None => match token.strip_prefix(' ') {
             Some(word) => (" ", word),
             None => ("", token),

@@ -19,7 +19,13 @@ mod fronts;
 #[cfg(test)]
 mod limits;
 #[cfg(test)]
+mod loads;
+#[cfg(test)]
+mod machines;
+#[cfg(test)]
 mod paths;
+#[cfg(test)]
+mod ports;
 #[cfg(test)]
 mod rules;
 #[cfg(test)]

@@ -1,6 +1,6 @@
 //! The limits of texts and machines: the last text within each, and the first past it.
 
-use crate::asked::{each_pair, each_row};
+use crate::asked::{Case, each_pair, each_row};
 use std::test::Fail;
 
 const LONGEST_NAMES: &str = "abcdefghijklmnopqrstuvwxyzabcdef
@@ -17,15 +17,27 @@ fsmd 1; local a; local ¦; reset s; state s: goto s;
 fsmd 1; reset s; state s: goto s; state ¦: goto s;
 ";
 
-const NAMED: &str = "check a.fsmd b.fsmd⊢①⓪②⊢①⓪②⊢equivalent: 2 nodes¶";
+const NAMED: Case = Case {
+    words: "check a.fsmd b.fsmd",
+    left: "{1}{A}{2}",
+    right: "{1}{A}{2}",
+    inputs: "",
+    reply: r"equivalent: 2 nodes\n",
+};
 
-const NAMED_LONGER: &str = "check a.fsmd b.fsmd⊢①▸⓪7②⊢◇⊢bad input: a.fsmd:▸: BadWord¶";
+const NAMED_LONGER: Case = Case {
+    words: "check a.fsmd b.fsmd",
+    left: "{1}▸{A}7{2}",
+    right: "{machine}",
+    inputs: "",
+    reply: r"bad input: a.fsmd:▸: BadWord\n",
+};
 
 // 32 bytes of a name are read and 33 are not.
 #[test]
 fn bytes_of_a_name(rt: HostRuntime) -> Result<(), Fail> {
-    each_pair(&rt, rt.alloc(), NAMED, LONGEST_NAMES, PLACES)?;
-    each_pair(&rt, rt.alloc(), NAMED_LONGER, LONGEST_NAMES, PLACES)?;
+    each_pair(&rt, rt.alloc(), &NAMED, LONGEST_NAMES, PLACES)?;
+    each_pair(&rt, rt.alloc(), &NAMED_LONGER, LONGEST_NAMES, PLACES)?;
     Ok(())
 }
 
@@ -50,40 +62,63 @@ const LARGE_NUMBERS: &str = "170141183460469231731687303715884105728;
 9999999999999999999999999999999999999999999999999999999999999999999999999999999;
 ";
 
-const NUMBER: &str =
-    "check a.fsmd b.fsmd⊢fsmd 1; input a, b; output y; reset s; state s: goto s: y = ⓪;⊢fsmd 1; input a, b; output y; reset s; state s: goto s: y = ⓪;⊢equivalent: 2 nodes¶";
+const NUMBER: Case = Case {
+    words: "check a.fsmd b.fsmd",
+    left: "fsmd 1; input a, b; output y; reset s; state s: goto s: y = {A};",
+    right: "fsmd 1; input a, b; output y; reset s; state s: goto s: y = {A};",
+    inputs: "",
+    reply: r"equivalent: 2 nodes\n",
+};
 
-const NUMBER_FORMS: &str = "①
--«200·0»①
+const NUMBER_FORMS: &str = "{1}
+-<<200 times:0>>{1}
 ";
 
-const LARGE_NUMBER: &str = "check a.fsmd b.fsmd⊢⓪⊢◇⊢bad input: a.fsmd:▸: NumberTooBig¶";
+const LARGE_NUMBER: Case = Case {
+    words: "check a.fsmd b.fsmd",
+    left: "{A}",
+    right: "{machine}",
+    inputs: "",
+    reply: r"bad input: a.fsmd:▸: NumberTooBig\n",
+};
 
-const LARGE_NUMBER_FORMS: &str = "fsmd 1; input a, b; output y; reset s; state s: goto s: y = ▸①
-fsmd 1; input a, b; output y; reset s; state s: goto s: y = ▸«200·0»①
-fsmd ▸①
+const LARGE_NUMBER_FORMS: &str = "fsmd 1; input a, b; output y; reset s; state s: goto s: y = ▸{1}
+fsmd 1; input a, b; output y; reset s; state s: goto s: y = ▸<<200 times:0>>{1}
+fsmd ▸{1}
 ";
 
-const ACCEPTED: &str = "check a.fsmd b.fsmd⊢①⊢①⊢equivalent: 2 nodes¶";
+const ACCEPTED: Case = Case {
+    words: "check a.fsmd b.fsmd",
+    left: "{1}",
+    right: "{1}",
+    inputs: "",
+    reply: r"equivalent: 2 nodes\n",
+};
 
-const READ: &str = "check a.fsmd b.fsmd⊢①⊢①⊢bad input: a.fsmd: NotBuilt¶";
+const READ: Case = Case {
+    words: "check a.fsmd b.fsmd",
+    left: "{1}",
+    right: "{1}",
+    inputs: "",
+    reply: r"bad input: a.fsmd: NotBuilt\n",
+};
 
 // 2 to the 127 less 1 is read and 2 to the 127 is not, with any zeros before.
 #[test]
 fn numbers(rt: HostRuntime) -> Result<(), Fail> {
-    each_pair(&rt, rt.alloc(), NUMBER, NUMBER_FORMS, NUMBERS)?;
+    each_pair(&rt, rt.alloc(), &NUMBER, NUMBER_FORMS, NUMBERS)?;
     each_pair(
         &rt,
         rt.alloc(),
-        LARGE_NUMBER,
+        &LARGE_NUMBER,
         LARGE_NUMBER_FORMS,
         LARGE_NUMBERS,
     )?;
     each_row(
         &rt,
         rt.alloc(),
-        ACCEPTED,
-        "fsmd «200·0»1; reset s; state s: goto s;",
+        &ACCEPTED,
+        "fsmd <<200 times:0>>1; reset s; state s: goto s;",
     )?;
     Ok(())
 }
@@ -95,129 +130,169 @@ const MORE: &str = "+ 1;
 % 1;
 ";
 
-const SUMS: &str = "«128·a + »b
-«128·a - »b
-«128·a * »b
-«128·-»a
-«128·(»a«128·)»
-«64·-(»a«64·)»
-«64·(a + »b«64·)»
-«32·(b - (a + »b«32·))»
-«42·2 * -a + »(b - a)
-«21·(a)+(b)+(a)*»-(b)
+const SUMS: &str = "<<128 times:a + >>b
+<<128 times:a - >>b
+<<128 times:a * >>b
+<<128 times:->>a
+<<128 times:(>>a<<128 times:)>>
+<<64 times:-(>>a<<64 times:)>>
+<<64 times:(a + >>b<<64 times:)>>
+<<32 times:(b - (a + >>b<<32 times:))>>
+<<42 times:2 * -a + >>(b - a)
+<<21 times:(a)+(b)+(a)*>>-(b)
 ";
 
-const SUM: &str =
-    "check a.fsmd b.fsmd⊢fsmd 1; input a, b; output y; reset s; state s: goto s: y = ①;⊢fsmd 1; input a, b; output y; reset s; state s: goto s: y = ①;⊢equivalent: 2 nodes¶";
+const SUM: Case = Case {
+    words: "check a.fsmd b.fsmd",
+    left: "fsmd 1; input a, b; output y; reset s; state s: goto s: y = {1};",
+    right: "fsmd 1; input a, b; output y; reset s; state s: goto s: y = {1};",
+    inputs: "",
+    reply: r"equivalent: 2 nodes\n",
+};
 
-const SUM_AND_MORE: &str =
-    "check a.fsmd b.fsmd⊢fsmd 1; input a, b; output y; reset s; state s: goto s: y = ①▸⓪⊢◇⊢bad input: a.fsmd:▸: Operators¶";
+const SUM_AND_MORE: Case = Case {
+    words: "check a.fsmd b.fsmd",
+    left: "fsmd 1; input a, b; output y; reset s; state s: goto s: y = {1}▸{A}",
+    right: "{machine}",
+    inputs: "",
+    reply: r"bad input: a.fsmd:▸: Operators\n",
+};
 
 // 128 operators and opening brackets, and one more.
 #[test]
 fn operators_of_an_assignment(rt: HostRuntime) -> Result<(), Fail> {
-    each_row(&rt, rt.alloc(), SUM, SUMS)?;
-    each_pair(&rt, rt.alloc(), SUM_AND_MORE, MORE, SUMS)?;
+    each_row(&rt, rt.alloc(), &SUM, SUMS)?;
+    each_pair(&rt, rt.alloc(), &SUM_AND_MORE, MORE, SUMS)?;
     Ok(())
 }
 
-const ASSIGNMENTS: &str = "n[«127·-»a] = 0
-n[«127·a + »a] = 0
-n[0] = «127·-»a
-n[0] = «127·(»a«127·)»
-n[0] = «127·m[»a«127·]»
-n[m[0]] = «126·m[»a«126·]»
-n[a / 2] = «126·a % »3
-n[0] = «127·a / »3
-n[-a] = -a, n[-a] = «126·-»a
-n[0] = 0, n[1] = 1, n[2] = «63·m[-»(a)«63·]»
+const ASSIGNMENTS: &str = "n[<<127 times:->>a] = 0
+n[<<127 times:a + >>a] = 0
+n[0] = <<127 times:->>a
+n[0] = <<127 times:(>>a<<127 times:)>>
+n[0] = <<127 times:m[>>a<<127 times:]>>
+n[m[0]] = <<126 times:m[>>a<<126 times:]>>
+n[a / 2] = <<126 times:a % >>3
+n[0] = <<127 times:a / >>3
+n[-a] = -a, n[-a] = <<126 times:->>a
+n[0] = 0, n[1] = 1, n[2] = <<63 times:m[->>(a)<<63 times:]>>
 ";
 
-const ASSIGNMENT: &str =
-    "check a.fsmd b.fsmd⊢fsmd 1; input a; input array m; output array n; reset s; state s: goto s: ①, n[0] = 0;⊢fsmd 1; input a; input array m; output array n; reset s; state s: goto s: ①, n[0] = 0;⊢bad input: a.fsmd: NotBuilt¶";
+const ASSIGNMENT: Case = Case {
+    words: "check a.fsmd b.fsmd",
+    left: "fsmd 1; input a; input array m; output array n; reset s; state s: goto s: {1}, n[0] = 0;",
+    right: "fsmd 1; input a; input array m; output array n; reset s; state s: goto s: {1}, n[0] = 0;",
+    inputs: "",
+    reply: r"bad input: a.fsmd: NotBuilt\n",
+};
 
-const ASSIGNMENT_AND_MORE: &str =
-    "check a.fsmd b.fsmd⊢fsmd 1; input a; input array m; output array n; reset s; state s: goto s: ①▸⓪⊢◇⊢bad input: a.fsmd:▸: Operators¶";
+const ASSIGNMENT_AND_MORE: Case = Case {
+    words: "check a.fsmd b.fsmd",
+    left: "fsmd 1; input a; input array m; output array n; reset s; state s: goto s: {1}▸{A}",
+    right: "{machine}",
+    inputs: "",
+    reply: r"bad input: a.fsmd:▸: Operators\n",
+};
 
 // The index that is assigned counts with what is assigned, and each assignment counts anew.
 #[test]
 fn operators_with_arrays(rt: HostRuntime) -> Result<(), Fail> {
-    each_row(&rt, rt.alloc(), ASSIGNMENT, ASSIGNMENTS)?;
-    each_pair(&rt, rt.alloc(), ASSIGNMENT_AND_MORE, MORE, ASSIGNMENTS)?;
+    each_row(&rt, rt.alloc(), &ASSIGNMENT, ASSIGNMENTS)?;
+    each_pair(&rt, rt.alloc(), &ASSIGNMENT_AND_MORE, MORE, ASSIGNMENTS)?;
     Ok(())
 }
 
-const GUARDS: &str = "«127·!»a > 0
-«127·{»a > 0«127·}»
-«63·!{»!a > 0«63·}»
-«127·-»a > b
-0 < «127·(»a«127·)»
-0 != «127·m[»a«127·]»
-«127·a + »a == b
-«127·a % »a != b
-«31·-a > -b && »-(a) > -1
-«42·-a <= b || »-a >= b
-«31·{a < b} || !»{-a >= -b}
+const GUARDS: &str = "<<127 times:!>>a > 0
+<<127 times:{>>a > 0<<127 times:}>>
+<<63 times:!{>>!a > 0<<63 times:}>>
+<<127 times:->>a > b
+0 < <<127 times:(>>a<<127 times:)>>
+0 != <<127 times:m[>>a<<127 times:]>>
+<<127 times:a + >>a == b
+<<127 times:a % >>a != b
+<<31 times:-a > -b && >>-(a) > -1
+<<42 times:-a <= b || >>-a >= b
+<<31 times:{a < b} || !>>{-a >= -b}
 ";
 
-const GUARD: &str =
-    "check a.fsmd b.fsmd⊢fsmd 1; input a, b; input array m; output y; reset s; state s: when ① goto s; goto s;⊢fsmd 1; input a, b; input array m; output y; reset s; state s: when ① goto s; goto s;⊢bad input: a.fsmd: NotBuilt¶";
+const GUARD: Case = Case {
+    words: "check a.fsmd b.fsmd",
+    left: "fsmd 1; input a, b; input array m; output y; reset s; state s: when {1} goto s; goto s;",
+    right: "fsmd 1; input a, b; input array m; output y; reset s; state s: when {1} goto s; goto s;",
+    inputs: "",
+    reply: r"bad input: a.fsmd: NotBuilt\n",
+};
 
-const GUARD_AND_MORE: &str =
-    "check a.fsmd b.fsmd⊢fsmd 1; input a, b; input array m; output y; reset s; state s: when ① ▸⓪⊢◇⊢bad input: a.fsmd:▸: Operators¶";
+const GUARD_AND_MORE: Case = Case {
+    words: "check a.fsmd b.fsmd",
+    left: "fsmd 1; input a, b; input array m; output y; reset s; state s: when {1} ▸{A}",
+    right: "{machine}",
+    inputs: "",
+    reply: r"bad input: a.fsmd:▸: Operators\n",
+};
 
 #[test]
 fn operators_of_a_guard(rt: HostRuntime) -> Result<(), Fail> {
-    each_row(&rt, rt.alloc(), GUARD, GUARDS)?;
+    each_row(&rt, rt.alloc(), &GUARD, GUARDS)?;
     each_pair(
         &rt,
         rt.alloc(),
-        GUARD_AND_MORE,
+        &GUARD_AND_MORE,
         "&& a > 0 goto s;\n|| a > 0 goto s;",
         GUARDS,
     )?;
     Ok(())
 }
 
-const GUARD_BEHIND: &str =
-    "check a.fsmd b.fsmd⊢fsmd 1; input a, b; input array m; output y; reset s; state s: when ①▸②⊢◇⊢bad input: a.fsmd:▸: Operators¶";
+const GUARD_BEHIND: Case = Case {
+    words: "check a.fsmd b.fsmd",
+    left: "fsmd 1; input a, b; input array m; output y; reset s; state s: when {1}▸{2}",
+    right: "{machine}",
+    inputs: "",
+    reply: r"bad input: a.fsmd:▸: Operators\n",
+};
 
-const SUM_BEHIND: &str =
-    "check a.fsmd b.fsmd⊢fsmd 1; input a, b; output y; reset s; state s: goto s: y = ①▸②⊢◇⊢bad input: a.fsmd:▸: Operators¶";
+const SUM_BEHIND: Case = Case {
+    words: "check a.fsmd b.fsmd",
+    left: "fsmd 1; input a, b; output y; reset s; state s: goto s: y = {1}▸{2}",
+    right: "{machine}",
+    inputs: "",
+    reply: r"bad input: a.fsmd:▸: Operators\n",
+};
 
-const SIGNS_OF_GUARDS: &str = "«128·-»a ¦== b
-«128·-»a ¦!= b
-«128·-»a ¦< b
-«128·-»a ¦<= b
-«128·-»a ¦> b
-«128·-»a ¦>= b
-«128·-»a ¦+ b
-«128·-»a ¦- b
-«128·-»a ¦* b
-«128·-»a ¦/ b
-«128·-»a ¦% b
-«128·-»a ¦[0]
-«128·!»¦!a > 0
-«128·!»¦{a > 0}
-«128·!»¦(a) > 0
-«128·!»¦-a > 0
+const SIGNS_OF_GUARDS: &str = "<<128 times:->>a ¦== b
+<<128 times:->>a ¦!= b
+<<128 times:->>a ¦< b
+<<128 times:->>a ¦<= b
+<<128 times:->>a ¦> b
+<<128 times:->>a ¦>= b
+<<128 times:->>a ¦+ b
+<<128 times:->>a ¦- b
+<<128 times:->>a ¦* b
+<<128 times:->>a ¦/ b
+<<128 times:->>a ¦% b
+<<128 times:->>a ¦[0]
+<<128 times:!>>¦!a > 0
+<<128 times:!>>¦{a > 0}
+<<128 times:!>>¦(a) > 0
+<<128 times:!>>¦-a > 0
 ";
 
-const SIGNS_OF_SUMS: &str = "«128·-»¦-a;
-«128·-»¦(a);
-«128·-»a¦[0];
+const SIGNS_OF_SUMS: &str = "<<128 times:->>¦-a;
+<<128 times:->>¦(a);
+<<128 times:->>a¦[0];
 ";
 
 // Each sign that counts, as the 129th.
 #[test]
 fn each_sign_counts(rt: HostRuntime) -> Result<(), Fail> {
-    each_row(&rt, rt.alloc(), GUARD_BEHIND, SIGNS_OF_GUARDS)?;
-    each_row(&rt, rt.alloc(), SUM_BEHIND, SIGNS_OF_SUMS)?;
+    each_row(&rt, rt.alloc(), &GUARD_BEHIND, SIGNS_OF_GUARDS)?;
+    each_row(&rt, rt.alloc(), &SUM_BEHIND, SIGNS_OF_SUMS)?;
     Ok(())
 }
 
 const FULL_LINES: &str =
-    "fsmd 1; input a; output y, z; reset s; state s: when «127·!»a > 0 goto s: y = «128·-»a, z = «128·-»a; when «127·!»a > 0 goto s: y = «128·-»a, z = «128·-»a; goto s: z = «128·-»a, y = «128·-»a";
+    "fsmd 1; input a; output y, z; reset s; state s: when <<127 times:!>>a > 0 goto s: y = <<128 times:->>a, z = <<128 times:->>a; when <<127 times:!>>a > 0 goto s: y = <<128 times:->>a, z = <<128 times:->>a; goto s: z = <<128 times:->>a, y = <<128 times:->>a";
 
 // Each guard and each assignment may have 128, and operator_count between them do not count.
 #[test]
@@ -225,32 +300,59 @@ fn operators_count_anew(rt: HostRuntime) -> Result<(), Fail> {
     each_row(
         &rt,
         rt.alloc(),
-        "check a.fsmd b.fsmd⊢①;⊢①;⊢bad input: a.fsmd: NotBuilt¶",
+        &Case {
+            words: "check a.fsmd b.fsmd",
+            left: "{1};",
+            right: "{1};",
+            inputs: "",
+            reply: r"bad input: a.fsmd: NotBuilt\n",
+        },
         FULL_LINES,
     )?;
     each_row(
         &rt,
         rt.alloc(),
-        "check a.fsmd b.fsmd⊢①▸+ a;⊢◇⊢bad input: a.fsmd:▸: Operators¶",
+        &Case {
+            words: "check a.fsmd b.fsmd",
+            left: "{1}▸+ a;",
+            right: "{machine}",
+            inputs: "",
+            reply: r"bad input: a.fsmd:▸: Operators\n",
+        },
         FULL_LINES,
     )?;
     each_row(
         &rt,
         rt.alloc(),
-        READ,
-        "fsmd 1; input a; input array m; output array n; reset s; state s: goto s: «300·n[a] = -a, »n[0] = a;",
+        &READ,
+        "fsmd 1; input a; input array m; output array n; reset s; state s: goto s: <<300 times:n[a] = -a, >>n[0] = a;",
     )?;
     Ok(())
 }
 
-const SCALARS: &str =
-    "check a.fsmd b.fsmd⊢①«127·n№, »n127②¶reset s;¶state s: goto s;⊢①«127·n№, »n127②¶reset s;¶state s: goto s;⊢equivalent: 2 nodes¶";
+const SCALARS: Case = Case {
+    words: "check a.fsmd b.fsmd",
+    left: r"{1}<<0 to 127:n#, >>n127{2}\nreset s;\nstate s: goto s;",
+    right: r"{1}<<0 to 127:n#, >>n127{2}\nreset s;\nstate s: goto s;",
+    inputs: "",
+    reply: r"equivalent: 2 nodes\n",
+};
 
-const NAMES_AND_ARRAYS: &str =
-    "check a.fsmd b.fsmd⊢①«126·n№, »n126②¶reset s;¶state s: goto s;⊢①«126·n№, »n126②¶reset s;¶state s: goto s;⊢bad input: a.fsmd: NotBuilt¶";
+const NAMES_AND_ARRAYS: Case = Case {
+    words: "check a.fsmd b.fsmd",
+    left: r"{1}<<0 to 126:n#, >>n126{2}\nreset s;\nstate s: goto s;",
+    right: r"{1}<<0 to 126:n#, >>n126{2}\nreset s;\nstate s: goto s;",
+    inputs: "",
+    reply: r"bad input: a.fsmd: NotBuilt\n",
+};
 
-const NAMES: &str =
-    "check a.fsmd b.fsmd⊢①«127·n№, »n127②¶reset s;¶state s: goto s;⊢◇⊢bad input: a.fsmd:③¶";
+const NAMES: Case = Case {
+    words: "check a.fsmd b.fsmd",
+    left: r"{1}<<0 to 127:n#, >>n127{2}\nreset s;\nstate s: goto s;",
+    right: "{machine}",
+    inputs: "",
+    reply: r"bad input: a.fsmd:{3}\n",
+};
 
 const DECLARED: &str = "fsmd 1; input ¦;
 fsmd 1; output ¦;
@@ -262,39 +364,55 @@ fsmd 1; output array ¦; local a;
 fsmd 1; local array ¦, a;
 ";
 
-const TOO_MANY: &str = "fsmd 1;¶input ¦, a;¦2: TooMany
-fsmd 1;¶input ¦, a, b, c;¦2: TooMany
-fsmd 1;¶input ¦;¶output a;¦3: TooMany
-fsmd 1;¶local ¦;¶output¶a¶,¶b;¦3: TooMany
-fsmd 1;¶input array a;¶local ¦;¦3: TooMany
-fsmd 1;¶input ¦;¶local array a;¶local b;¦3: TooMany
-fsmd 1;¶input ¦;¶output n0;¦3: TwiceNamed
-fsmd 1;¶input n7, ¦;¦2: TwiceNamed
+const TOO_MANY: &str = r"fsmd 1;\ninput ¦, a;¦2: TooMany
+fsmd 1;\ninput ¦, a, b, c;¦2: TooMany
+fsmd 1;\ninput ¦;\noutput a;¦3: TooMany
+fsmd 1;\nlocal ¦;\noutput\na\n,\nb;¦3: TooMany
+fsmd 1;\ninput array a;\nlocal ¦;¦3: TooMany
+fsmd 1;\ninput ¦;\nlocal array a;\nlocal b;¦3: TooMany
+fsmd 1;\ninput ¦;\noutput n0;¦3: TwiceNamed
+fsmd 1;\ninput n7, ¦;¦2: TwiceNamed
 ";
 
 // 128 names are declared in one machine, and a 129th is one too many.
 #[test]
 fn names_of_a_machine(rt: HostRuntime) -> Result<(), Fail> {
-    each_row(&rt, rt.alloc(), SCALARS, DECLARED)?;
-    each_row(&rt, rt.alloc(), NAMES_AND_ARRAYS, DECLARED_ARRAYS)?;
-    each_row(&rt, rt.alloc(), NAMES, TOO_MANY)?;
+    each_row(&rt, rt.alloc(), &SCALARS, DECLARED)?;
+    each_row(&rt, rt.alloc(), &NAMES_AND_ARRAYS, DECLARED_ARRAYS)?;
+    each_row(&rt, rt.alloc(), &NAMES, TOO_MANY)?;
     each_row(
         &rt,
         rt.alloc(),
-        "check a.fsmd b.fsmd⊢fsmd 1; input «127·n№, »n127, ①; reset t;⊢◇⊢bad input: a.fsmd:1: UnknownState¶",
+        &Case {
+            words: "check a.fsmd b.fsmd",
+            left: "fsmd 1; input <<0 to 127:n#, >>n127, {1}; reset t;",
+            right: "{machine}",
+            inputs: "",
+            reply: r"bad input: a.fsmd:1: UnknownState\n",
+        },
         "a",
     )?;
     Ok(())
 }
 
-const CHAIN: &str =
-    "check a.fsmd b.fsmd⊢fsmd 1; reset p0;¶«4095·state p№: goto p†;¶»①⊢◇⊢bad input: interface: y¶";
+const CHAIN: Case = Case {
+    words: "check a.fsmd b.fsmd",
+    left: r"fsmd 1; reset p0;\n<<0 to 4095:state p#: goto p#+1;\n>>{1}",
+    right: "{machine}",
+    inputs: "",
+    reply: r"bad input: interface: y\n",
+};
 
-const LONGER_CHAIN: &str =
-    "check a.fsmd b.fsmd⊢fsmd 1; reset p0;¶«4096·state p№: goto p†;¶»①⊢◇⊢bad input: a.fsmd:②¶";
+const LONGER_CHAIN: Case = Case {
+    words: "check a.fsmd b.fsmd",
+    left: r"fsmd 1; reset p0;\n<<0 to 4096:state p#: goto p#+1;\n>>{1}",
+    right: "{machine}",
+    inputs: "",
+    reply: r"bad input: a.fsmd:{2}\n",
+};
 
-const LAST_STATES: &str = "state p4096: goto p0;¦4098: TooMany
-¶¶state¶p4096¶: goto p0;¶state p4097: goto q;¦4100: TooMany
+const LAST_STATES: &str = r"state p4096: goto p0;¦4098: TooMany
+\n\nstate\np4096\n: goto p0;\nstate p4097: goto q;¦4100: TooMany
 state p4096:¦4098: NoElse
 state p4096: goto q;¦4098: UnknownState
 state p4096: goto p0; state p4096: goto p0;¦4098: TwiceNamed
@@ -304,46 +422,56 @@ state p4097: goto p0;¦4097: UnknownState
 // 4,096 states are declared in one machine, and a 4,097th is one too many.
 #[test]
 fn states_of_a_machine(rt: HostRuntime) -> Result<(), Fail> {
-    each_row(&rt, rt.alloc(), CHAIN, "state p4095: goto p0;")?;
-    each_row(&rt, rt.alloc(), LONGER_CHAIN, LAST_STATES)?;
+    each_row(&rt, rt.alloc(), &CHAIN, "state p4095: goto p0;")?;
+    each_row(&rt, rt.alloc(), &LONGER_CHAIN, LAST_STATES)?;
     Ok(())
 }
 
-const BRANCHES: &str =
-    "check a.fsmd b.fsmd⊢fsmd 1;¶output y;¶reset s;¶state s:¶①goto s;⊢fsmd 1;¶output y;¶reset s;¶state s:¶①goto s;⊢bad input: a.fsmd: NotBuilt¶";
+const BRANCHES: Case = Case {
+    words: "check a.fsmd b.fsmd",
+    left: r"fsmd 1;\noutput y;\nreset s;\nstate s:\n{1}goto s;",
+    right: r"fsmd 1;\noutput y;\nreset s;\nstate s:\n{1}goto s;",
+    inputs: "",
+    reply: r"bad input: a.fsmd: NotBuilt\n",
+};
 
-const TOO_MANY_BRANCHES: &str =
-    "check a.fsmd b.fsmd⊢fsmd 1;¶output y;¶reset s;¶state s:¶①goto s;⊢◇⊢bad input: a.fsmd:4: TooManyBranches¶";
+const TOO_MANY_BRANCHES: Case = Case {
+    words: "check a.fsmd b.fsmd",
+    left: r"fsmd 1;\noutput y;\nreset s;\nstate s:\n{1}goto s;",
+    right: "{machine}",
+    inputs: "",
+    reply: r"bad input: a.fsmd:4: TooManyBranches\n",
+};
 
-const UP_TO_64: &str = "when y > 0 goto s;¶when y > 0«61· || y > 0» goto s;¶
-when y > 0«61· || y > 0» goto s;¶when y > 0 goto s;¶
-when y > 0«30· && y > 0» goto s;¶when y > 0 goto s;¶
-when y > 0 goto s;¶when y > 0«61· && y > 0» goto s;¶
-when y > 0«8· && y > 0» goto s;¶when y > 0«5· || y > 0» goto s;¶
-when y > 0«8· && y > 0» goto s;¶when y > 0«5· && y > 0» goto s;¶
-when y > 0«59· || y > 0» goto s;¶when y > 0«2· && y > 0» goto s;¶
-«63·when y > 0 goto s; »
+const UP_TO_64: &str = r"when y > 0 goto s;\nwhen y > 0<<61 times: || y > 0>> goto s;\n
+when y > 0<<61 times: || y > 0>> goto s;\nwhen y > 0 goto s;\n
+when y > 0<<30 times: && y > 0>> goto s;\nwhen y > 0 goto s;\n
+when y > 0 goto s;\nwhen y > 0<<61 times: && y > 0>> goto s;\n
+when y > 0<<8 times: && y > 0>> goto s;\nwhen y > 0<<5 times: || y > 0>> goto s;\n
+when y > 0<<8 times: && y > 0>> goto s;\nwhen y > 0<<5 times: && y > 0>> goto s;\n
+when y > 0<<59 times: || y > 0>> goto s;\nwhen y > 0<<2 times: && y > 0>> goto s;\n
+<<63 times:when y > 0 goto s; >>
 ";
 
-const FROM_65: &str = "when y > 0 goto s;¶when y > 0«62· || y > 0» goto s;¶
-when y > 0«62· || y > 0» goto s;¶when y > 0 goto s;¶
-when y > 0«31· && y > 0» goto s;¶when y > 0 goto s;¶
-when y > 0 goto s;¶when y > 0«62· && y > 0» goto s;¶
-when y > 0«7· && y > 0» goto s;¶when y > 0«6· || y > 0» goto s;¶
-when y > 0«7· && y > 0» goto s;¶when y > 0«6· && y > 0» goto s;¶
-when y > 0«60· || y > 0» goto s;¶when y > 0«2· && y > 0» goto s;¶
-when y > 0«63· && y > 0» goto s;¶when y > 0«63· && y > 0» goto s;¶
-«64·when y > 0 goto s; »
-«65·when y > 0 goto s; »
-«4000·when y > 0 goto s; »
+const FROM_65: &str = r"when y > 0 goto s;\nwhen y > 0<<62 times: || y > 0>> goto s;\n
+when y > 0<<62 times: || y > 0>> goto s;\nwhen y > 0 goto s;\n
+when y > 0<<31 times: && y > 0>> goto s;\nwhen y > 0 goto s;\n
+when y > 0 goto s;\nwhen y > 0<<62 times: && y > 0>> goto s;\n
+when y > 0<<7 times: && y > 0>> goto s;\nwhen y > 0<<6 times: || y > 0>> goto s;\n
+when y > 0<<7 times: && y > 0>> goto s;\nwhen y > 0<<6 times: && y > 0>> goto s;\n
+when y > 0<<60 times: || y > 0>> goto s;\nwhen y > 0<<2 times: && y > 0>> goto s;\n
+when y > 0<<63 times: && y > 0>> goto s;\nwhen y > 0<<63 times: && y > 0>> goto s;\n
+<<64 times:when y > 0 goto s; >>
+<<65 times:when y > 0 goto s; >>
+<<4000 times:when y > 0 goto s; >>
 ";
 
 // A state has 64 branches, and not 65. A line without guard has one leaf. Where the lines behind a guard have n leaves,
 // k tests joined by `||` make n + k, and k tests joined by `&&` make n * k + 1.
 #[test]
 fn branches_of_a_state(rt: HostRuntime) -> Result<(), Fail> {
-    each_row(&rt, rt.alloc(), BRANCHES, UP_TO_64)?;
-    each_row(&rt, rt.alloc(), TOO_MANY_BRANCHES, FROM_65)?;
+    each_row(&rt, rt.alloc(), &BRANCHES, UP_TO_64)?;
+    each_row(&rt, rt.alloc(), &TOO_MANY_BRANCHES, FROM_65)?;
     Ok(())
 }
 
@@ -362,15 +490,15 @@ when !{!{y > 0 || y < 0} || !{y > 1 || y < 1} || !{y > 2 || y < 2} || !{y > 3 ||
 // With n leaves behind it, each `{y > 0 || y < 0}` of a conjunction takes m leaves on its yes way to 2 * m + n.
 #[test]
 fn branches_of_brackets(rt: HostRuntime) -> Result<(), Fail> {
-    each_row(&rt, rt.alloc(), BRANCHES, BRACKETS_UP_TO_64)?;
-    each_row(&rt, rt.alloc(), TOO_MANY_BRANCHES, BRACKETS_FROM_65)?;
+    each_row(&rt, rt.alloc(), &BRANCHES, BRACKETS_UP_TO_64)?;
+    each_row(&rt, rt.alloc(), &TOO_MANY_BRANCHES, BRACKETS_FROM_65)?;
     Ok(())
 }
 
 const MORE_THAN_A_WORD: &str =
-    "when y > 0«3· || y > 0» goto s;¶when y > 0«1· && y > 0» goto s;¶⟪5·when y > 0«61· || y > 0» goto s;¶when y > 0«63· && y > 0» goto s;¶⟫
-when y > 0«9· || y > 0» goto s;¶when y > 0«7· && y > 0» goto s;¶⟪10·when y > 0«61· || y > 0» goto s;¶when y > 0«63· && y > 0» goto s;¶⟫
-⟪1000·when y > 0«63· && y > 0» goto s;¶⟫
+    r"when y > 0<<3 times: || y > 0>> goto s;\nwhen y > 0<<1 times: && y > 0>> goto s;\n(*5 times:when y > 0<<61 times: || y > 0>> goto s;\nwhen y > 0<<63 times: && y > 0>> goto s;\n*)
+when y > 0<<9 times: || y > 0>> goto s;\nwhen y > 0<<7 times: && y > 0>> goto s;\n(*10 times:when y > 0<<61 times: || y > 0>> goto s;\nwhen y > 0<<63 times: && y > 0>> goto s;\n*)
+(*1000 times:when y > 0<<63 times: && y > 0>> goto s;\n*)
 ";
 
 // Behind a last line, so many times a line of 64 tests joined by `&&` before one of 62 joined by `||` take n leaves,
@@ -378,25 +506,36 @@ when y > 0«9· || y > 0» goto s;¶when y > 0«7· && y > 0» goto s;¶⟪10·w
 // of them make that 3 more than 2 to the 32, and 3 more than 2 to the 64.
 #[test]
 fn more_branches_than_a_word_counts(rt: HostRuntime) -> Result<(), Fail> {
-    each_row(&rt, rt.alloc(), TOO_MANY_BRANCHES, MORE_THAN_A_WORD)?;
+    each_row(&rt, rt.alloc(), &TOO_MANY_BRANCHES, MORE_THAN_A_WORD)?;
     Ok(())
 }
 
-const FILES: &str = "◇«1048530· »¦◇¦equivalent: 2 nodes
-# the whole file¶#«1048558·#»¦◇¦bad input: a.fsmd:2:1048560: Ended
-«1048576·¶»¦◇¦bad input: a.fsmd:1048577:1: Ended
-fsmd «1048571·0»¦◇¦bad input: a.fsmd:1:6: Unexpected
-fsmd «1048571·1»¦◇¦bad input: a.fsmd:1:6: NumberTooBig
-fsmd «1048571·a»¦◇¦bad input: a.fsmd:1:6: BadWord
-◇«1048531· »¦◇¦bad input: a.fsmd: longer than 1048576 bytes
-◇«1048531· »¦¦bad input: a.fsmd: longer than 1048576 bytes
-◇¦◇«1048531· »¦bad input: b.fsmd: longer than 1048576 bytes
-¦◇«1048531· »¦bad input: a.fsmd:1:1: Ended
+const FILES: &str = r"{machine}<<1048530 times: >>¦{machine}¦equivalent: 2 nodes
+# the whole file\n#<<1048558 times:#>>¦{machine}¦bad input: a.fsmd:2:1048560: Ended
+<<1048576 times:\n>>¦{machine}¦bad input: a.fsmd:1048577:1: Ended
+fsmd <<1048571 times:0>>¦{machine}¦bad input: a.fsmd:1:6: Unexpected
+fsmd <<1048571 times:1>>¦{machine}¦bad input: a.fsmd:1:6: NumberTooBig
+fsmd <<1048571 times:a>>¦{machine}¦bad input: a.fsmd:1:6: BadWord
+{machine}<<1048531 times: >>¦{machine}¦bad input: a.fsmd: longer than 1048576 bytes
+{machine}<<1048531 times: >>¦¦bad input: a.fsmd: longer than 1048576 bytes
+{machine}¦{machine}<<1048531 times: >>¦bad input: b.fsmd: longer than 1048576 bytes
+¦{machine}<<1048531 times: >>¦bad input: a.fsmd:1:1: Ended
 ";
 
 // A file of 1,048,576 bytes is read, and one of a byte more is not.
 #[test]
 fn bytes_of_a_file(rt: HostRuntime) -> Result<(), Fail> {
-    each_row(&rt, rt.alloc(), "check a.fsmd b.fsmd⊢①⊢②⊢③¶", FILES)?;
+    each_row(
+        &rt,
+        rt.alloc(),
+        &Case {
+            words: "check a.fsmd b.fsmd",
+            left: "{1}",
+            right: "{2}",
+            inputs: "",
+            reply: r"{3}\n",
+        },
+        FILES,
+    )?;
     Ok(())
 }

@@ -1,44 +1,55 @@
 //! Rules on machines: each rule with its line, and which of several broken rules is answered.
 
-use crate::asked::each_row;
+use crate::asked::{Case, each_row};
 use std::test::Fail;
 
-const WHOLE: &str = "check a.fsmd b.fsmd⊢①⊢◇⊢bad input: a.fsmd:②¶";
+const WHOLE: Case = Case {
+    words: "check a.fsmd b.fsmd",
+    left: "{1}",
+    right: "{machine}",
+    inputs: "",
+    reply: r"bad input: a.fsmd:{2}\n",
+};
 
 // A text whose states follow line 3. Scalars: inputs a and b, outputs y and z. Arrays: input m, output n.
-const STATES: &str =
-    "check a.fsmd b.fsmd⊢fsmd 1; input a, b; input array m;¶output y, z; output array n;¶reset s;¶①⊢◇⊢bad input: a.fsmd:②¶";
+const STATES: Case = Case {
+    words: "check a.fsmd b.fsmd",
+    left: r"fsmd 1; input a, b; input array m;\noutput y, z; output array n;\nreset s;\n{1}",
+    right: "{machine}",
+    inputs: "",
+    reply: r"bad input: a.fsmd:{2}\n",
+};
 
-const DECLARATIONS: &str = "fsmd 1;¶input a, a;¶reset s;¶state s: goto s;¦2: TwiceNamed
-fsmd 1;¶input a;¶output a;¶reset s;¶state s: goto s;¦3: TwiceNamed
-fsmd 1;¶input a;¶local b;¶output c, a;¶reset s;¶state s: goto s;¦4: TwiceNamed
-fsmd 1;¶input a;¶¶local array¶b,¶a;¶reset s;¶state s: goto s;¦4: TwiceNamed
-fsmd 1;¶input a;¶input b;¶input b;¶input a;¶reset s;¶state s: goto s;¦4: TwiceNamed
-fsmd 1;¶reset s;¶state s: goto s;¶state s: goto s;¦4: TwiceNamed
-fsmd 1;¶reset s;¶state s: goto t;¶state t: goto s;¶state¶t: goto s;¦5: TwiceNamed
-fsmd 1;¶reset s;¦2: UnknownState
-fsmd 1;¶¶reset¶s;¶¦3: UnknownState
-fsmd 1;¶reset s;¶state t: goto t;¦2: UnknownState
-fsmd 1;¶reset s;¶state S: goto S;¦2: UnknownState
-fsmd 1;¶input s;¶reset s;¶state t: goto t;¦3: UnknownState
-fsmd 1;¶input a, A, _a, a_, a1;¶reset s;¦3: UnknownState
+const DECLARATIONS: &str = r"fsmd 1;\ninput a, a;\nreset s;\nstate s: goto s;¦2: TwiceNamed
+fsmd 1;\ninput a;\noutput a;\nreset s;\nstate s: goto s;¦3: TwiceNamed
+fsmd 1;\ninput a;\nlocal b;\noutput c, a;\nreset s;\nstate s: goto s;¦4: TwiceNamed
+fsmd 1;\ninput a;\n\nlocal array\nb,\na;\nreset s;\nstate s: goto s;¦4: TwiceNamed
+fsmd 1;\ninput a;\ninput b;\ninput b;\ninput a;\nreset s;\nstate s: goto s;¦4: TwiceNamed
+fsmd 1;\nreset s;\nstate s: goto s;\nstate s: goto s;¦4: TwiceNamed
+fsmd 1;\nreset s;\nstate s: goto t;\nstate t: goto s;\nstate\nt: goto s;¦5: TwiceNamed
+fsmd 1;\nreset s;¦2: UnknownState
+fsmd 1;\n\nreset\ns;\n¦3: UnknownState
+fsmd 1;\nreset s;\nstate t: goto t;¦2: UnknownState
+fsmd 1;\nreset s;\nstate S: goto S;¦2: UnknownState
+fsmd 1;\ninput s;\nreset s;\nstate t: goto t;¦3: UnknownState
+fsmd 1;\ninput a, A, _a, a_, a1;\nreset s;¦3: UnknownState
 ";
 
 #[test]
 fn declarations(rt: HostRuntime) -> Result<(), Fail> {
-    each_row(&rt, rt.alloc(), WHOLE, DECLARATIONS)?;
+    each_row(&rt, rt.alloc(), &WHOLE, DECLARATIONS)?;
     Ok(())
 }
 
-const NAMES: &str = "state s: goto s: y = c;¦4: UnknownName
+const NAMES: &str = r"state s: goto s: y = c;¦4: UnknownName
 state s: goto s: y = s;¦4: UnknownName
 state s: goto s: y = Y;¦4: UnknownName
 state s: goto s: c = y;¦4: UnknownName
-state s:¶ goto s: z = a, y = 2 * (a - -c);¦5: UnknownName
-state s:¶ goto¶ s¶ :¶ y¶ =¶ c;¦5: UnknownName
-state s:¶ when c > 0 goto s;¶ goto s;¦5: UnknownName
-state s:¶ when a > 0 goto s;¶ when b > 0 && !{a > 0 || a < c} goto s;¶ goto s;¦6: UnknownName
-state s:¶ when¶ a¶ > 0¶ goto s: y = c;¶ goto s;¦5: UnknownName
+state s:\n goto s: z = a, y = 2 * (a - -c);¦5: UnknownName
+state s:\n goto\n s\n :\n y\n =\n c;¦5: UnknownName
+state s:\n when c > 0 goto s;\n goto s;¦5: UnknownName
+state s:\n when a > 0 goto s;\n when b > 0 && !{a > 0 || a < c} goto s;\n goto s;¦6: UnknownName
+state s:\n when\n a\n > 0\n goto s: y = c;\n goto s;¦5: UnknownName
 state s: goto s: y = m[c];¦4: UnknownName
 state s: goto s: y = c[a];¦4: UnknownName
 state s: goto s: n[c] = a;¦4: UnknownName
@@ -52,83 +63,84 @@ state s: goto s: n = a;¦4: WrongSort
 state s: goto s: n = m;¦4: WrongSort
 state s: goto s: y[0] = a;¦4: WrongSort
 state s: goto s: n[m] = a;¦4: WrongSort
-state s:¶ when m > 0 goto s;¶ goto s;¦5: WrongSort
-state s:¶ when 0 < 1 - b[a] goto s;¶ goto s;¦5: WrongSort
-state s:¶ goto s: a = 1;¦5: AssignInput
-state s:¶ goto s: y = a, b = y;¦5: AssignInput
-state s:¶ goto s: m[0] = 1;¦5: AssignInput
-state s:¶ when y > 0 goto s: a = a;¶ goto s;¦5: AssignInput
-state s:¶ goto s: y = 1, y = 1;¦5: AssignedTwice
-state s:¶ goto s: y = 1, n[0] = 2, z = 3, n[0] = 4, z = 5;¦5: AssignedTwice
-state s:¶ when a > 0 goto s: y = 1;¶ goto s:¶ y = 2,¶ y = 3;¦6: AssignedTwice
+state s:\n when m > 0 goto s;\n goto s;¦5: WrongSort
+state s:\n when 0 < 1 - b[a] goto s;\n goto s;¦5: WrongSort
+state s:\n goto s: a = 1;¦5: AssignInput
+state s:\n goto s: y = a, b = y;¦5: AssignInput
+state s:\n goto s: m[0] = 1;¦5: AssignInput
+state s:\n when y > 0 goto s: a = a;\n goto s;¦5: AssignInput
+state s:\n goto s: y = 1, y = 1;¦5: AssignedTwice
+state s:\n goto s: y = 1, n[0] = 2, z = 3, n[0] = 4, z = 5;¦5: AssignedTwice
+state s:\n when a > 0 goto s: y = 1;\n goto s:\n y = 2,\n y = 3;¦6: AssignedTwice
 ";
 
 // Names: whether they are declared, of the right sort, and may be assigned.
 #[test]
 fn names_in_transitions(rt: HostRuntime) -> Result<(), Fail> {
-    each_row(&rt, rt.alloc(), STATES, NAMES)?;
+    each_row(&rt, rt.alloc(), &STATES, NAMES)?;
     Ok(())
 }
 
-const LINES: &str = "state s:¦4: NoElse
-state¶s:¶¦4: NoElse
-state s:¶state t: goto s;¦4: NoElse
-state s: goto t;¶state t:¦5: NoElse
-state s: goto t;¶¶state t:¶ when a > 0 goto s;¦6: NoElse
-state s:¶ when a > 0 goto s;¶ when a <= 0 goto s;¦4: NoElse
-state s:¶ when 0 == 0 goto s;¦4: NoElse
-state s:¶ goto s;¶ goto s;¦6: AfterElse
-state s:¶ goto s;¶ goto s;¶ goto s;¦6: AfterElse
-state s:¶ when a > 0 goto s;¶ goto s;¶ when b > 0 goto s;¶ goto s;¦7: AfterElse
-state s: goto s;¶goto s;¦5: AfterElse
-state s:¶ goto s;¶ when a > 0 goto s;¦4: NoElse
-state s:¶ goto t;¦5: UnknownState
-state s:¶ when a > 0 goto t;¶ goto s;¦5: UnknownState
-state s:¶ when a > 0 goto s;¶ goto¶ a;¦6: UnknownState
-state s: goto s;¶state t: goto T;¦5: UnknownState
+const LINES: &str = r"state s:¦4: NoElse
+state\ns:\n¦4: NoElse
+state s:\nstate t: goto s;¦4: NoElse
+state s: goto t;\nstate t:¦5: NoElse
+state s: goto t;\n\nstate t:\n when a > 0 goto s;¦6: NoElse
+state s:\n when a > 0 goto s;\n when a <= 0 goto s;¦4: NoElse
+state s:\n when 0 == 0 goto s;¦4: NoElse
+state s:\n goto s;\n goto s;¦6: AfterElse
+state s:\n goto s;\n goto s;\n goto s;¦6: AfterElse
+state s:\n when a > 0 goto s;\n goto s;\n when b > 0 goto s;\n goto s;¦7: AfterElse
+state s: goto s;\ngoto s;¦5: AfterElse
+state s:\n goto s;\n when a > 0 goto s;¦4: NoElse
+state s:\n goto t;¦5: UnknownState
+state s:\n when a > 0 goto t;\n goto s;¦5: UnknownState
+state s:\n when a > 0 goto s;\n goto\n a;¦6: UnknownState
+state s: goto s;\nstate t: goto T;¦5: UnknownState
 ";
 
 #[test]
 fn lines_of_a_state(rt: HostRuntime) -> Result<(), Fail> {
-    each_row(&rt, rt.alloc(), STATES, LINES)?;
+    each_row(&rt, rt.alloc(), &STATES, LINES)?;
     Ok(())
 }
 
-const ENDLESS: &str = "state s: goto t;¶state t: goto t;¦5: EndlessLine
-state s: goto s;¶state t:¶ goto t;¦5: EndlessLine
-state s: goto t;¶state t: goto u;¶state u: goto t;¦5: EndlessLine
-state u: goto t;¶state t: goto u;¶state s: goto s;¦4: EndlessLine
-state s: goto t;¶state t: goto u;¶state u: goto v;¶state v: goto u;¦6: EndlessLine
-state s: goto v;¶state v: goto w;¶state u: goto w;¶state w: goto u;¦6: EndlessLine
-state s: goto s;¶state t: goto t;¶state u: goto u;¦5: EndlessLine
-state t: goto u;¶state s: when a > 0 goto t; goto s;¶state u: goto u;¦6: EndlessLine
-state s: when a > 0 goto t; goto s;¶state t: goto u: y = a;¶state u: goto t: y = b;¦5: EndlessLine
+const ENDLESS: &str = r"state s: goto t;\nstate t: goto t;¦5: EndlessLine
+state s: goto s;\nstate t:\n goto t;¦5: EndlessLine
+state s: goto t;\nstate t: goto u;\nstate u: goto t;¦5: EndlessLine
+state u: goto t;\nstate t: goto u;\nstate s: goto s;¦4: EndlessLine
+state s: goto t;\nstate t: goto u;\nstate u: goto v;\nstate v: goto u;¦6: EndlessLine
+state s: goto v;\nstate v: goto w;\nstate u: goto w;\nstate w: goto u;¦6: EndlessLine
+state s: goto s;\nstate t: goto t;\nstate u: goto u;¦5: EndlessLine
+state t: goto u;\nstate s: when a > 0 goto t; goto s;\nstate u: goto u;¦6: EndlessLine
+state s: when a > 0 goto t; goto s;\nstate t: goto u: y = a;\nstate u: goto t: y = b;¦5: EndlessLine
 ";
 
 // A state on a cycle of states that have one branch each, the reset state not among them.
 #[test]
 fn endless_lines(rt: HostRuntime) -> Result<(), Fail> {
-    each_row(&rt, rt.alloc(), STATES, ENDLESS)?;
+    each_row(&rt, rt.alloc(), &STATES, ENDLESS)?;
     Ok(())
 }
 
-const LEAST: &str = "fsmd 1;¶input a;¶reset t;¶state s: goto s;¶state s: goto s;¦3: UnknownState
-fsmd 1;¶output y;¶reset s;¶state s: goto t;¶state s: goto s;¦4: UnknownState
-fsmd 1;¶output y, y;¶reset t;¶state s: goto t;¶state s: goto s;¦2: TwiceNamed
-fsmd 1;¶output y;¶reset s;¶state s:¶ when c > 0 goto s;¦4: NoElse
-fsmd 1;¶output y;¶reset s;¶state s:¶ goto s;¶ goto s: y = c;¦6: UnknownName
-fsmd 1;¶output y;¶reset s;¶state s:¶ goto s: y = 1, y = 2;¶ goto s: y = c;¦5: AssignedTwice
-fsmd 1;¶input a;¶reset s;¶state s:¶ when a > 0 goto s: a = 1;¶ when c > 0 goto s;¶ goto s;¦5: AssignInput
-fsmd 1;¶input a;¶reset s;¶state s:¶ when a > 0 goto t;¶ when a[0] > 0 goto s;¶ goto s;¦5: UnknownState
-fsmd 1;¶input a;¶reset s;¶state s:¶ when a[0] > 0 goto t;¶ when c > 0 goto s;¶ goto s;¦5: WrongSort
-fsmd 1;¶reset s;¶state s: goto t;¶state t:¶state u: goto v;¦4: NoElse
-fsmd 1;¶reset s;¶state s: goto u;¶state t: goto v;¶state u:¦4: UnknownState
+const LEAST: &str =
+    r"fsmd 1;\ninput a;\nreset t;\nstate s: goto s;\nstate s: goto s;¦3: UnknownState
+fsmd 1;\noutput y;\nreset s;\nstate s: goto t;\nstate s: goto s;¦4: UnknownState
+fsmd 1;\noutput y, y;\nreset t;\nstate s: goto t;\nstate s: goto s;¦2: TwiceNamed
+fsmd 1;\noutput y;\nreset s;\nstate s:\n when c > 0 goto s;¦4: NoElse
+fsmd 1;\noutput y;\nreset s;\nstate s:\n goto s;\n goto s: y = c;¦6: UnknownName
+fsmd 1;\noutput y;\nreset s;\nstate s:\n goto s: y = 1, y = 2;\n goto s: y = c;¦5: AssignedTwice
+fsmd 1;\ninput a;\nreset s;\nstate s:\n when a > 0 goto s: a = 1;\n when c > 0 goto s;\n goto s;¦5: AssignInput
+fsmd 1;\ninput a;\nreset s;\nstate s:\n when a > 0 goto t;\n when a[0] > 0 goto s;\n goto s;¦5: UnknownState
+fsmd 1;\ninput a;\nreset s;\nstate s:\n when a[0] > 0 goto t;\n when c > 0 goto s;\n goto s;¦5: WrongSort
+fsmd 1;\nreset s;\nstate s: goto t;\nstate t:\nstate u: goto v;¦4: NoElse
+fsmd 1;\nreset s;\nstate s: goto u;\nstate t: goto v;\nstate u:¦4: UnknownState
 ";
 
 // Of the broken rules that with the least line is answered, also where another rule stands first.
 #[test]
 fn the_least_line(rt: HostRuntime) -> Result<(), Fail> {
-    each_row(&rt, rt.alloc(), WHOLE, LEAST)?;
+    each_row(&rt, rt.alloc(), &WHOLE, LEAST)?;
     Ok(())
 }
 
@@ -160,39 +172,44 @@ state s: goto t; goto s;¦4: AfterElse
 // AssignedTwice, NoElse, AfterElse, UnknownState, TooMany.
 #[test]
 fn the_first_rule_of_a_line(rt: HostRuntime) -> Result<(), Fail> {
-    each_row(&rt, rt.alloc(), STATES, FIRST)?;
+    each_row(&rt, rt.alloc(), &STATES, FIRST)?;
     Ok(())
 }
 
 // A state with 63 tests more between the two cells.
-const MANY_TESTS: &str =
-    "check a.fsmd b.fsmd⊢fsmd 1; input a, b; input array m;¶output y, z; output array n;¶reset s;¶①«63·y > 0 || »②⊢◇⊢bad input: a.fsmd:③¶";
+const MANY_TESTS: Case = Case {
+    words: "check a.fsmd b.fsmd",
+    left: r"fsmd 1; input a, b; input array m;\noutput y, z; output array n;\nreset s;\n{1}<<63 times:y > 0 || >>{2}",
+    right: "{machine}",
+    inputs: "",
+    reply: r"bad input: a.fsmd:{3}\n",
+};
 
-const MANY: &str = "state s: when ¦a > 0 goto s; goto s;¦4: TooManyBranches
-state s: goto t;¶state t: when ¦a > 0 goto t; goto t;¦5: TooManyBranches
-state s: when ¦a > 0 goto s; goto s;¶state s: goto s;¦5: TwiceNamed
+const MANY: &str = r"state s: when ¦a > 0 goto s; goto s;¦4: TooManyBranches
+state s: goto t;\nstate t: when ¦a > 0 goto t; goto t;¦5: TooManyBranches
+state s: when ¦a > 0 goto s; goto s;\nstate s: goto s;¦5: TwiceNamed
 state s: when ¦a > 0 goto s; goto s: y = c;¦4: UnknownName
-state s: when ¦a > 0 goto s; goto s;¶state t: goto u;¦5: UnknownState
+state s: when ¦a > 0 goto s; goto s;\nstate t: goto u;¦5: UnknownState
 state s: when ¦a > 0 goto s;¦4: NoElse
 state s: when ¦a > 0 goto s; goto s; goto s;¦4: AfterElse
-state s: goto s;¶state t: goto t;¶state u: when ¦a > 0 goto s; goto s;¦5: EndlessLine
-state s: when ¦a > 0 goto s; goto s;¶state t: goto t;¦4: TooManyBranches
+state s: goto s;\nstate t: goto t;\nstate u: when ¦a > 0 goto s; goto s;¦5: EndlessLine
+state s: when ¦a > 0 goto s; goto s;\nstate t: goto t;¦4: TooManyBranches
 state s: goto s; state t: goto t; state u: when ¦a > 0 goto s; goto s;¦4: TooManyBranches
-state s: goto t;¶state t: goto t;¶state u: goto u: y = m; state v: when ¦a > 0 goto s; goto s;¦6: WrongSort
+state s: goto t;\nstate t: goto t;\nstate u: goto u: y = m; state v: when ¦a > 0 goto s; goto s;¦6: WrongSort
 ";
 
-const ENDLESS_TOO: &str = "state s: goto t;¶state t: goto t;¶state u: goto v;¦6: UnknownState
-state s: goto t;¶state t: goto t;¶state u:¦6: NoElse
-state s: goto t;¶state t: goto t;¶state t: goto s;¦6: TwiceNamed
-state s: goto t;¶state t: goto t; goto s;¦5: AfterElse
-state s: goto t;¶state t: goto t: y = c;¦5: UnknownName
+const ENDLESS_TOO: &str = r"state s: goto t;\nstate t: goto t;\nstate u: goto v;¦6: UnknownState
+state s: goto t;\nstate t: goto t;\nstate u:¦6: NoElse
+state s: goto t;\nstate t: goto t;\nstate t: goto s;¦6: TwiceNamed
+state s: goto t;\nstate t: goto t; goto s;¦5: AfterElse
+state s: goto t;\nstate t: goto t: y = c;¦5: UnknownName
 ";
 
 // TooManyBranches and EndlessLine are looked at only where no other rule is broken, and then in the same order.
 #[test]
 fn the_rules_looked_at_last(rt: HostRuntime) -> Result<(), Fail> {
-    each_row(&rt, rt.alloc(), MANY_TESTS, MANY)?;
-    each_row(&rt, rt.alloc(), STATES, ENDLESS_TOO)?;
+    each_row(&rt, rt.alloc(), &MANY_TESTS, MANY)?;
+    each_row(&rt, rt.alloc(), &STATES, ENDLESS_TOO)?;
     Ok(())
 }
 
@@ -207,12 +224,17 @@ state t: goto u; state u: goto s; state s: goto t;
 state s: goto s; state t: goto u; state u: goto s;
 ";
 
-const MACHINE: &str =
-    "check a.fsmd b.fsmd⊢fsmd 1; input a, b; input array m;¶output y, z; output array n;¶reset s;¶①⊢◇⊢bad input: interface: a¶";
+const MACHINE: Case = Case {
+    words: "check a.fsmd b.fsmd",
+    left: r"fsmd 1; input a, b; input array m;\noutput y, z; output array n;\nreset s;\n{1}",
+    right: "{machine}",
+    inputs: "",
+    reply: r"bad input: interface: a\n",
+};
 
 // The rules end here: what follows is a machine, which is refused for its interface alone.
 #[test]
 fn no_rule_is_broken(rt: HostRuntime) -> Result<(), Fail> {
-    each_row(&rt, rt.alloc(), MACHINE, UNBROKEN)?;
+    each_row(&rt, rt.alloc(), &MACHINE, UNBROKEN)?;
     Ok(())
 }

@@ -1,16 +1,27 @@
 //! Machines of one branch a state, compared over numbers, scalars, `+`, `-` and `*`.
 
-use crate::asked::{each_pair, each_row};
+use crate::asked::{Case, each_pair, each_row};
 use std::test::Fail;
 
-const SAME: &str =
-    "check a.fsmd b.fsmd⊢fsmd 1; input a, b, c; output y; reset s0; state s0: goto s0: y = ⓪;⊢equivalent: 2 nodes¶";
+const SAME: Case = Case {
+    words: "check a.fsmd b.fsmd",
+    left: "fsmd 1; input a, b, c; output y; reset s0; state s0: goto s0: y = {A};",
+    right: "fsmd 1; input a, b, c; output y; reset s0; state s0: goto s0: y = {B};",
+    inputs: "",
+    reply: r"equivalent: 2 nodes\n",
+};
 
-const OTHER: &str =
-    "check a.fsmd b.fsmd⊢fsmd 1; input a, b, c; output y; reset s0; state s0: goto s0: y = ⓪;⊢undecided: output y at start.0>done | start.0>done¶";
+const OTHER: Case = Case {
+    words: "check a.fsmd b.fsmd",
+    left: "fsmd 1; input a, b, c; output y; reset s0; state s0: goto s0: y = {A};",
+    right: "fsmd 1; input a, b, c; output y; reset s0; state s0: goto s0: y = {B};",
+    inputs: "",
+    reply: r"undecided: output y at start.0>done | start.0>done\n",
+};
 
-const BOTH_WAYS: &str = "①;⊢fsmd 1; input a, b, c; output y; reset s0; state s0: goto s0: y = ②
-②;⊢fsmd 1; input a, b, c; output y; reset s0; state s0: goto s0: y = ①
+// Which sum is the left machine's, and which the right one's.
+const BOTH_WAYS: &str = "{1}¦{2}
+{2}¦{1}
 ";
 
 const SAME_SUMS: &str = "(a - b) * (a + b)¦a * a - b * b
@@ -49,7 +60,7 @@ a - y¦a + 5 * y
 
 #[test]
 fn sums_that_are_the_same(rt: HostRuntime) -> Result<(), Fail> {
-    each_pair(&rt, rt.alloc(), SAME, BOTH_WAYS, SAME_SUMS)?;
+    each_pair(&rt, rt.alloc(), &SAME, BOTH_WAYS, SAME_SUMS)?;
     Ok(())
 }
 
@@ -80,7 +91,7 @@ y¦a
 
 #[test]
 fn sums_that_differ(rt: HostRuntime) -> Result<(), Fail> {
-    each_pair(&rt, rt.alloc(), OTHER, BOTH_WAYS, OTHER_SUMS)?;
+    each_pair(&rt, rt.alloc(), &OTHER, BOTH_WAYS, OTHER_SUMS)?;
     Ok(())
 }
 
@@ -120,29 +131,41 @@ fn coefficients(rt: HostRuntime) -> Result<(), Fail> {
     each_row(
         &rt,
         rt.alloc(),
-        "check a.fsmd b.fsmd⊢fsmd 1; input a, b, c; output y; reset s0; state s0: goto s0: y = ①;⊢fsmd 1; input a, b, c; output y; reset s0; state s0: goto s0: y = ①;⊢equivalent: 2 nodes¶",
+        &Case {
+            words: "check a.fsmd b.fsmd",
+            left: "fsmd 1; input a, b, c; output y; reset s0; state s0: goto s0: y = {1};",
+            right: "fsmd 1; input a, b, c; output y; reset s0; state s0: goto s0: y = {1};",
+            inputs: "",
+            reply: r"equivalent: 2 nodes\n",
+        },
         WITHIN,
     )?;
     each_row(
         &rt,
         rt.alloc(),
-        "check a.fsmd b.fsmd⊢fsmd 1; input a, b, c; output y; reset s0; state s0: goto s0: y = ①;⊢fsmd 1; input a, b, c; output y; reset s0; state s0: goto s0: y = ②;⊢undecided: coefficient past 128 bits at start.0>done | start.0>done¶",
+        &Case {
+            words: "check a.fsmd b.fsmd",
+            left: "fsmd 1; input a, b, c; output y; reset s0; state s0: goto s0: y = {1};",
+            right: "fsmd 1; input a, b, c; output y; reset s0; state s0: goto s0: y = {2};",
+            inputs: "",
+            reply: r"undecided: coefficient past 128 bits at start.0>done | start.0>done\n",
+        },
         TOO_WIDE,
     )?;
     Ok(())
 }
 
 const SEVERAL_STATES: &str =
-    "fsmd 1; input a, b; output x, y; reset s; state s: goto t: x = a, y = b; state t: goto s: x = y, y = x;¦equivalent: 2 nodes¶
-fsmd 1; input b, a; output y, x; reset q; state r: goto q: x = y, y = x; state q: goto r: y = b, x = a;¦equivalent: 2 nodes¶
-fsmd 1; output y; local t, s; output x; input a, b; reset s; state s: goto t: t = a; state t: goto u: y = t, x = b; state u: goto s;¦equivalent: 2 nodes¶
-fsmd 1; input a, b; output x, y; reset s; state s: goto s: x = b, y = a; state z: goto s: x = 0;¦equivalent: 2 nodes¶
-fsmd 1; input a, b; output x, y; reset s; state s: goto t: x = a, y = b; state t: goto u: x = y; state u: goto s: y = x;¦undecided: output y at start.0>done | start.0>done¶
-fsmd 1; input a, b; output x, y; reset s; state s: goto s: y = a;¦undecided: output x at start.0>done | start.0>done¶
-fsmd 1; input a, b; output x, y; reset s; state s: goto s: x = a, y = b;¦undecided: output x at start.0>done | start.0>done¶
-fsmd 1; input a, b; output y, x; reset s; state s: goto s: x = a, y = b;¦undecided: output y at start.0>done | start.0>done¶
-fsmd 1; input a, b; output x, y; reset s; state s: goto s: x = b;¦undecided: output y at start.0>done | start.0>done¶
-fsmd 1; input a, b; output x, y; reset t; state s: goto t: x = b, y = a; state t: goto t;¦undecided: output x at start.0>done | start.0>done¶
+    r"fsmd 1; input a, b; output x, y; reset s; state s: goto t: x = a, y = b; state t: goto s: x = y, y = x;¦equivalent: 2 nodes\n
+fsmd 1; input b, a; output y, x; reset q; state r: goto q: x = y, y = x; state q: goto r: y = b, x = a;¦equivalent: 2 nodes\n
+fsmd 1; output y; local t, s; output x; input a, b; reset s; state s: goto t: t = a; state t: goto u: y = t, x = b; state u: goto s;¦equivalent: 2 nodes\n
+fsmd 1; input a, b; output x, y; reset s; state s: goto s: x = b, y = a; state z: goto s: x = 0;¦equivalent: 2 nodes\n
+fsmd 1; input a, b; output x, y; reset s; state s: goto t: x = a, y = b; state t: goto u: x = y; state u: goto s: y = x;¦undecided: output y at start.0>done | start.0>done\n
+fsmd 1; input a, b; output x, y; reset s; state s: goto s: y = a;¦undecided: output x at start.0>done | start.0>done\n
+fsmd 1; input a, b; output x, y; reset s; state s: goto s: x = a, y = b;¦undecided: output x at start.0>done | start.0>done\n
+fsmd 1; input a, b; output y, x; reset s; state s: goto s: x = a, y = b;¦undecided: output y at start.0>done | start.0>done\n
+fsmd 1; input a, b; output x, y; reset s; state s: goto s: x = b;¦undecided: output y at start.0>done | start.0>done\n
+fsmd 1; input a, b; output x, y; reset t; state s: goto t: x = b, y = a; state t: goto t;¦undecided: output x at start.0>done | start.0>done\n
 ";
 
 #[test]
@@ -150,7 +173,13 @@ fn machines_of_several_states(rt: HostRuntime) -> Result<(), Fail> {
     each_row(
         &rt,
         rt.alloc(),
-        "check a.fsmd b.fsmd⊢①⊢fsmd 1; input a, b; output x, y; reset s; state s: goto s: x = b, y = a;⊢②",
+        &Case {
+            words: "check a.fsmd b.fsmd",
+            left: "{1}",
+            right: "fsmd 1; input a, b; output x, y; reset s; state s: goto s: x = b, y = a;",
+            inputs: "",
+            reply: "{2}",
+        },
         SEVERAL_STATES,
     )?;
     Ok(())
@@ -158,24 +187,29 @@ fn machines_of_several_states(rt: HostRuntime) -> Result<(), Fail> {
 
 // A machine that gives y a value in its second state. There t is a product of two sums of 32 scalars each, and u and w
 // are products of sums of 11 and of 31 scalars, and 1 or a more.
-const SIZED: &str =
-    "check a.fsmd b.fsmd⊢fsmd 1; input a, «64·v№, »v64; output y; local t, u, w; reset s; state s: goto r: t = («31·v№ + »v31) * («32..63·v№ + »v63), u = («10·v№ + »v10) * («32..62·v№ + »v62) + 1, w = («10·v№ + »v10) * («32..62·v№ + »v62) + a; state r: goto s: y = ①;⊢fsmd 1; input a, «64·v№, »v64; output y; local t, u, w; reset s; state s: goto r: t = («31·v№ + »v31) * («32..63·v№ + »v63), u = («10·v№ + »v10) * («32..62·v№ + »v62) + 1, w = («10·v№ + »v10) * («32..62·v№ + »v62) + a; state r: goto s: y = ②;⊢③";
+const SIZED: Case = Case {
+    words: "check a.fsmd b.fsmd",
+    left: "fsmd 1; input a, <<0 to 64:v#, >>v64; output y; local t, u, w; reset s; state s: goto r: t = (<<0 to 31:v# + >>v31) * (<<32 to 63:v# + >>v63), u = (<<0 to 10:v# + >>v10) * (<<32 to 62:v# + >>v62) + 1, w = (<<0 to 10:v# + >>v10) * (<<32 to 62:v# + >>v62) + a; state r: goto s: y = {1};",
+    right: "fsmd 1; input a, <<0 to 64:v#, >>v64; output y; local t, u, w; reset s; state s: goto r: t = (<<0 to 31:v# + >>v31) * (<<32 to 63:v# + >>v63), u = (<<0 to 10:v# + >>v10) * (<<32 to 62:v# + >>v62) + 1, w = (<<0 to 10:v# + >>v10) * (<<32 to 62:v# + >>v62) + a; state r: goto s: y = {2};",
+    inputs: "",
+    reply: "{3}",
+};
 
-const SIZES: &str = "t¦t¦equivalent: 2 nodes¶
--t¦-t¦equivalent: 2 nodes¶
-2 * t - 0¦2 * t - 0¦equivalent: 2 nodes¶
-0 * t¦0 * t¦equivalent: 2 nodes¶
-t + u¦t + u¦equivalent: 2 nodes¶
-u - t¦u - t¦equivalent: 2 nodes¶
-t + (u - 1 + 1)¦t + (u - 1 + 1)¦equivalent: 2 nodes¶
-t + w¦t + w¦undecided: term too large at start.0>done | start.0>done¶
-w - t¦w - t¦undecided: term too large at start.0>done | start.0>done¶
-t - t¦t - t¦undecided: term too large at start.0>done | start.0>done¶
-a * t¦a * t¦undecided: term too large at start.0>done | start.0>done¶
-(v0 + v1) * w¦(v0 + v1) * w¦undecided: term too large at start.0>done | start.0>done¶
-(v0 + v1) * u¦(v0 + v1) * u¦equivalent: 2 nodes¶
-t * t¦170141183460469231731687303715884105727 + a¦undecided: term too large at start.0>done | start.0>done¶
-170141183460469231731687303715884105727 + a¦t * t¦undecided: coefficient past 128 bits at start.0>done | start.0>done¶
+const SIZES: &str = r"t¦t¦equivalent: 2 nodes\n
+-t¦-t¦equivalent: 2 nodes\n
+2 * t - 0¦2 * t - 0¦equivalent: 2 nodes\n
+0 * t¦0 * t¦equivalent: 2 nodes\n
+t + u¦t + u¦equivalent: 2 nodes\n
+u - t¦u - t¦equivalent: 2 nodes\n
+t + (u - 1 + 1)¦t + (u - 1 + 1)¦equivalent: 2 nodes\n
+t + w¦t + w¦undecided: term too large at start.0>done | start.0>done\n
+w - t¦w - t¦undecided: term too large at start.0>done | start.0>done\n
+t - t¦t - t¦undecided: term too large at start.0>done | start.0>done\n
+a * t¦a * t¦undecided: term too large at start.0>done | start.0>done\n
+(v0 + v1) * w¦(v0 + v1) * w¦undecided: term too large at start.0>done | start.0>done\n
+(v0 + v1) * u¦(v0 + v1) * u¦equivalent: 2 nodes\n
+t * t¦170141183460469231731687303715884105727 + a¦undecided: term too large at start.0>done | start.0>done\n
+170141183460469231731687303715884105727 + a¦t * t¦undecided: coefficient past 128 bits at start.0>done | start.0>done\n
 ";
 
 // A scalar has size 2 in a sum, a product of two of them 3, and a number other than 0 has size 1. So t, u and w have the
@@ -183,22 +217,27 @@ t * t¦170141183460469231731687303715884105727 + a¦undecided: term too large at
 // sizes of two operands of `*` is at most that.
 #[test]
 fn sizes(rt: HostRuntime) -> Result<(), Fail> {
-    each_row(&rt, rt.alloc(), SIZED, SIZES)?;
+    each_row(&rt, rt.alloc(), &SIZED, SIZES)?;
     Ok(())
 }
 
-const PRODUCT: &str =
-    "check a.fsmd b.fsmd⊢fsmd 1; input «64·v№, »v64; output y; reset s; state s: goto s: y = («31·v№ + »v31) * (①);⊢fsmd 1; input «64·v№, »v64; output y; reset s; state s: goto s: y = («31·v№ + »v31) * (①);⊢②";
+const PRODUCT: Case = Case {
+    words: "check a.fsmd b.fsmd",
+    left: "fsmd 1; input <<0 to 64:v#, >>v64; output y; reset s; state s: goto s: y = (<<0 to 31:v# + >>v31) * ({1});",
+    right: "fsmd 1; input <<0 to 64:v#, >>v64; output y; reset s; state s: goto s: y = (<<0 to 31:v# + >>v31) * ({1});",
+    inputs: "",
+    reply: "{2}",
+};
 
-const PRODUCTS: &str = "«32..63·v№ + »v63¦equivalent: 2 nodes¶
-«32..62·v№ + »v62 + 2¦equivalent: 2 nodes¶
-«32..63·v№ + »v63 + 2¦undecided: term too large at start.0>done | start.0>done¶
-«32..64·v№ + »v64¦undecided: term too large at start.0>done | start.0>done¶
+const PRODUCTS: &str = r"<<32 to 63:v# + >>v63¦equivalent: 2 nodes\n
+<<32 to 62:v# + >>v62 + 2¦equivalent: 2 nodes\n
+<<32 to 63:v# + >>v63 + 2¦undecided: term too large at start.0>done | start.0>done\n
+<<32 to 64:v# + >>v64¦undecided: term too large at start.0>done | start.0>done\n
 ";
 
 // A product of two operands of the sizes 64 and 64 is within the limit, and one of 64 and 66 is not.
 #[test]
 fn sizes_of_a_product(rt: HostRuntime) -> Result<(), Fail> {
-    each_row(&rt, rt.alloc(), PRODUCT, PRODUCTS)?;
+    each_row(&rt, rt.alloc(), &PRODUCT, PRODUCTS)?;
     Ok(())
 }

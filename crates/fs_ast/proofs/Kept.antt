@@ -1,5 +1,5 @@
 -- Where no rule is broken, the machine that parts spell is sound.
-use Rattle.std.proofs.Common.{◌≡◌, ℕ, zero, suc, ◌<◌, ◌≤◌, Bool, true, false, cond, List, [], ◌∷◌, ◌++◌, length, refl, sym, ◌∙◌, ap, ap₂, subst, inl, inr, ⊎_elim, arith}
+use Rattle.std.proofs.Common.{◌≡◌, ℕ, zero, suc, ◌<◌, ◌≤◌, Bool, true, false, cond, List, [], ◌∷◌, ◌++◌, length, refl, sym, ◌∙◌, ap, subst, inl, inr, ⊎_elim, arith}
 use Rattle.std.specs.Prelude.{◌&&◌, ◌||◌, ◌⊎◌, not, nat_lt, Option, Some, None, option_map, is_some, is_none, map, slice_get}
 use Rattle.std.specs.List.{list_all, list_any, flat_map, slice_index_or}
 use Rattle.std.specs.Str.{bytes_eq}
@@ -7,18 +7,25 @@ use Rattle.std.proofs.lemmas.Slice.Eq.{bytes_eq-Decides}
 use Rattle.std.proofs.lemmas.Bool.Decides.{nat_tests}
 use Rattle.fs_model.specs.declared.parts.VarInfo.{VarInfo}
 use Rattle.fs_model.specs.Terms.{Transition}
-use Rattle.fs_model.specs.Source.{Declaration, SourceTransition, SourceState, Source}
+use Rattle.fs_model.specs.Source.{SourceTransition, SourceState, Source}
 use Rattle.fs_model.specs.Machines.{State, Fsmd, transitions_of}
 use Rattle.fs_model.specs.Trees.{tree_of_transitions, branches_of, count_leaves}
-use Rattle.fs_ast.specs.declared.check.CheckRule.{CheckRule}
-use Rattle.fs_ast.specs.declared.check.CheckRule.TheVariants.{TwiceNamed, UnknownName, WrongSort, AssignInput, AssignedTwice, NoElse, AfterElse, TooManyBranches, UnknownState, TooMany}
+use Rattle.fs_rules.specs.declared.check.CheckRule.{CheckRule}
+use Rattle.fs_rules.specs.declared.check.CheckRule.TheVariants.{TwiceNamed, UnknownName, WrongSort, AssignInput, AssignedTwice, NoElse, AfterElse, TooManyBranches, UnknownState, TooMany, TooManyEmits}
 use Rattle.std.proofs.lemmas.Option.{slice_get_within}
-use Rattle.fs_ast.specs.Spelled.{declared_by, variables_of, names_of, state_names, place, line_spelled, state_spelled, guard_over, machine_of}
-use Rattle.fs_ast.specs.Sound.{scalar_at, array_at, input_at, is_array, names_differ, all_differ, scalars_in_condition, arrays_in_condition, scalars_in_assignments, arrays_in_assignments, changed_by, assigned_in, IsSoundTransition, IsSound, is_open, ends_open, branch_count, first_transition_target, is_cutpoint, reaches_cutpoint, most_variables, most_states}
-use Rattle.fs_ast.specs.Rules.{at_lines, broken_where, declared_names, declared_states, repeated, past, is_known, uses_unknown, uses_wrong_sort, changes_input, line_faults, lines_faults, lacks_else, after_else, state_faults, plain_faults, branches_too_often, branch_faults, after_steps, IsLawful}
-use Rattle.fs_ast.specs.Places.{names_in}
-use Rattle.fs_ast.proofs.Turns.{map_map, length_mapped, map_joined}
+use Rattle.fs_model.specs.Renamed.{guard_over}
+use Rattle.fs_rules.specs.Spelled.{variables_of, names_of, state_names, place, line_spelled, state_spelled, machine_of}
+use Rattle.fs_model.specs.Words.{is_name}
+use Rattle.fs_model.specs.Limits.{most_variables, most_states, most_emits}
+use Rattle.fs_model.specs.declared.parts.Sort.{Sort}
+use Rattle.fs_model.specs.Runs.{is_scalar, is_array, is_port}
+use Rattle.fs_rules.specs.Sound.{has_sort, other_sort_at, input_at, names_differ, all_differ, scalars_in_condition, arrays_in_condition, scalars_in_assignments, arrays_in_assignments, ports_in_assignments, emit_count, numbers_in_condition, numbers_in_assignments, numbers_in_states, is_text_number, changed_by, assigned_in, IsSoundTransition, IsSound, is_open, ends_open, branch_count, first_transition_target, is_cutpoint, reaches_cutpoint}
+use Rattle.fs_rules.specs.Rules.{at_lines, broken_where, declared_names, declared_states, repeated, past, is_known, uses_unknown, uses_wrong_sort, changes_input, line_faults, lines_faults, lacks_else, after_else, state_faults, plain_faults, branches_too_often, branch_faults, after_steps, IsLawful}
+use Rattle.fs_rules.specs.Places.{names_in}
+use Rattle.fs_rules.proofs.Turns.{map_map, length_mapped}
+use Rattle.fs_rules.proofs.Naming.{names_declared, names_stated}
 use Rattle.fs_ast.proofs.Leaves.{length_leaves}
+use Rattle.fs_ast.proofs.Numbers.{numbers_in_transition, state_numbers, transition_numbers}
 
 -- ---- lists with nothing in them
 
@@ -90,19 +97,6 @@ unrepeated before (n ∷ ns) e =
 pub differ : (ns : List (ℕ × List ℕ)) → repeated [] ns ≡ [] → names_differ (names_in ns) ≡ true
 differ ns e = (unrepeated [] ns e).differ
 
-names_by : (d : Declaration) → names_in (map (λ n. (d.line, n)) d.names) ≡ names_of (declared_by d)
-names_by d = map_map (λ e. e.1) (λ n. (d.line, n)) d.names ∙ sym (map_map (λ v. v.name) (λ n. record { name = n; role = d.role; sort = d.sort }) d.names)
-
-pub names_declared : (ds : List Declaration) → names_in (declared_names ds) ≡ names_of (variables_of ds)
-names_declared [] = refl
-names_declared (d ∷ ds) =
-    map_joined (λ e. e.1) (map (λ n. (d.line, n)) d.names) (declared_names ds)
-    ∙ ap₂ (λ (a b : List (List ℕ)). a ++ b) (names_by d) (names_declared ds)
-    ∙ sym (map_joined (λ v. v.name) (declared_by d) (variables_of ds))
-
-pub names_stated : (ss : List SourceState) → names_in (declared_states ss) ≡ state_names ss
-names_stated ss = map_map (λ e. e.1) (λ s. (s.line, s.name)) ss
-
 -- ---- one transition
 
 not_false : (b : Bool) → not b ≡ false → b ≡ true
@@ -120,55 +114,67 @@ both_false false b e = (refl, e)
 pub below : (x n : ℕ) → nat_lt x n ≡ true → x < n
 below x n e = grind (arith, nat_tests)
 
-scalar_known : (vs : List VarInfo) (x : ℕ) → x < length vs → array_at vs x ≡ false → scalar_at vs x ≡ true
-scalar_known [] x h e = absurd (omega arith)
-scalar_known (v ∷ vs) zero h e = ap not e
-scalar_known (v ∷ vs) (suc x) h e = scalar_known vs x (omega arith) e
+sort_known : (test : Sort → Bool) (vs : List VarInfo) (x : ℕ) → x < length vs → other_sort_at test vs x ≡ false → has_sort test (slice_get vs x) ≡ true
+sort_known test [] x h e = absurd (omega arith)
+sort_known test (v ∷ vs) zero h e = not_false (test v.sort) e
+sort_known test (v ∷ vs) (suc x) h e = sort_known test vs x (omega arith) e
 
-array_known : (vs : List VarInfo) (x : ℕ) → x < length vs → scalar_at vs x ≡ false → array_at vs x ≡ true
-array_known [] x h e = absurd (omega arith)
-array_known (v ∷ vs) zero h e = not_false (is_array v.sort) e
-array_known (v ∷ vs) (suc x) h e = array_known vs x (omega arith) e
-
-all_scalars : (vs : List VarInfo) (xs : List ℕ) → list_all (is_known vs) xs ≡ true → list_any (array_at vs) xs ≡ false → list_all (scalar_at vs) xs ≡ true
-all_scalars vs [] e f = refl
-all_scalars vs (x ∷ xs) e f =
+all_sorts : (test : Sort → Bool) (vs : List VarInfo) (xs : List ℕ) → list_all (is_known vs) xs ≡ true → list_any (other_sort_at test vs) xs ≡ false → list_all (λ x. has_sort test (slice_get vs x)) xs ≡ true
+all_sorts test vs [] e f = refl
+all_sorts test vs (x ∷ xs) e f =
     let a = both_true (is_known vs x) (list_all (is_known vs) xs) e in
-    let b = both_false (array_at vs x) (list_any (array_at vs) xs) f in
-    and_true (scalar_at vs x) (list_all (scalar_at vs) xs) (scalar_known vs x (below x (length vs) a.0) b.0) (all_scalars vs xs a.1 b.1)
-
-all_arrays : (vs : List VarInfo) (xs : List ℕ) → list_all (is_known vs) xs ≡ true → list_any (scalar_at vs) xs ≡ false → list_all (array_at vs) xs ≡ true
-all_arrays vs [] e f = refl
-all_arrays vs (x ∷ xs) e f =
-    let a = both_true (is_known vs x) (list_all (is_known vs) xs) e in
-    let b = both_false (scalar_at vs x) (list_any (scalar_at vs) xs) f in
-    and_true (array_at vs x) (list_all (array_at vs) xs) (array_known vs x (below x (length vs) a.0) b.0) (all_arrays vs xs a.1 b.1)
+    let b = both_false (other_sort_at test vs x) (list_any (other_sort_at test vs) xs) f in
+    and_true (has_sort test (slice_get vs x)) (list_all (λ y. has_sort test (slice_get vs y)) xs) (sort_known test vs x (below x (length vs) a.0) b.0) (all_sorts test vs xs a.1 b.1)
 
 all_not : {A : Type 0} (p : A → Bool) (xs : List A) → list_any p xs ≡ false → list_all (λ x. not (p x)) xs ≡ true
 all_not p [] e = refl
 all_not p (x ∷ xs) e = let b = both_false (p x) (list_any p xs) e in and_true (not (p x)) (list_all (λ y. not (p y)) xs) (ap not b.0) (all_not p xs b.1)
 
-pub transition_sound : (vs : List VarInfo) (count n : ℕ) (l : Transition ℕ ℕ) → line_faults vs count n l ≡ [] → IsSoundTransition vs count l
-transition_sound vs count n l e =
+few : (most n : ℕ) → nat_lt most n ≡ false → n ≤ most
+few most n e = grind (arith, nat_tests)
+
+pub transition_sound : (vs : List VarInfo) (count n : ℕ) (l : Transition ℕ ℕ) → list_all is_text_number (numbers_in_condition l.guard ++ numbers_in_assignments l.assignments) ≡ true → line_faults vs count n l ≡ [] → IsSoundTransition vs count l
+transition_sound vs count n l right e =
     let scalars = scalars_in_condition l.guard ++ scalars_in_assignments l.assignments in
     let arrays = arrays_in_condition l.guard ++ arrays_in_assignments l.assignments in
+    let ports = ports_in_assignments l.assignments in
     let u = broken_where (uses_unknown vs l) UnknownName n in
     let w = broken_where (uses_wrong_sort vs l) WrongSort n in
     let p = broken_where (changes_input vs l) AssignInput n in
     let t = broken_where (not (all_differ (assigned_in l.assignments))) AssignedTwice n in
     let s = broken_where (not (nat_lt l.target count)) UnknownState n in
-    let after_u = nil_right u (w ++ (p ++ (t ++ s))) e in
-    let after_w = nil_right w (p ++ (t ++ s)) after_u in
-    let after_p = nil_right p (t ++ s) after_w in
-    let known = both_true (list_all (is_known vs) scalars) (list_all (is_known vs) arrays) (not_false (list_all (is_known vs) scalars && list_all (is_known vs) arrays) (kept (uses_unknown vs l) UnknownName n (nil_left u (w ++ (p ++ (t ++ s))) e))) in
-    let sorts = both_false (list_any (array_at vs) scalars) (list_any (scalar_at vs) arrays) (kept (uses_wrong_sort vs l) WrongSort n (nil_left w (p ++ (t ++ s)) after_u)) in
+    let x = broken_where (nat_lt most_emits (emit_count l.assignments)) TooManyEmits n in
+    let after_u = nil_right u (w ++ (p ++ (t ++ (s ++ x)))) e in
+    let after_w = nil_right w (p ++ (t ++ (s ++ x))) after_u in
+    let after_p = nil_right p (t ++ (s ++ x)) after_w in
+    let after_t = nil_right t (s ++ x) after_p in
+    let known = both_true (list_all (is_known vs) scalars) (list_all (is_known vs) arrays && list_all (is_known vs) ports)
+    (not_false (list_all (is_known vs) scalars && (list_all (is_known vs) arrays && list_all (is_known vs) ports)) (kept (uses_unknown vs l) UnknownName n (nil_left u (w ++ (p ++ (t ++ (s ++ x)))) e)))
+    in
+    let known_others = both_true (list_all (is_known vs) arrays) (list_all (is_known vs) ports) known.1 in
+    let sorts = both_false (list_any (other_sort_at is_scalar vs) scalars) (list_any (other_sort_at is_array vs) arrays || list_any (other_sort_at is_port vs) ports) (kept (uses_wrong_sort vs l) WrongSort n (nil_left w (p ++ (t ++ (s ++ x))) after_u)) in
+    let sorts_others = both_false (list_any (other_sort_at is_array vs) arrays) (list_any (other_sort_at is_port vs) ports) sorts.1 in
     record {
-      scalars = all_scalars vs scalars known.0 sorts.0;
-      arrays = all_arrays vs arrays known.1 sorts.1;
-      inputs_stay = all_not (λ a. input_at vs (changed_by a)) l.assignments (kept (changes_input vs l) AssignInput n (nil_left p (t ++ s) after_w));
-      assigned_once = not_false (all_differ (assigned_in l.assignments)) (kept (not (all_differ (assigned_in l.assignments))) AssignedTwice n (nil_left t s after_p));
-      target_in = below l.target count (not_false (nat_lt l.target count) (kept (not (nat_lt l.target count)) UnknownState n (nil_right t s after_p)));
+      scalars = all_sorts is_scalar vs scalars known.0 sorts.0;
+      arrays = all_sorts is_array vs arrays known_others.0 sorts_others.0;
+      ports = all_sorts is_port vs ports known_others.1 sorts_others.1;
+      numbers = right;
+      inputs_stay = all_not (λ a. input_at vs (changed_by a)) l.assignments (kept (changes_input vs l) AssignInput n (nil_left p (t ++ (s ++ x)) after_w));
+      assigned_once = not_false (all_differ (assigned_in l.assignments)) (kept (not (all_differ (assigned_in l.assignments))) AssignedTwice n (nil_left t (s ++ x) after_p));
+      few_emits = few most_emits (emit_count l.assignments) (kept (nat_lt most_emits (emit_count l.assignments)) TooManyEmits n (nil_right s x after_t));
+      target_in = below l.target count (not_false (nat_lt l.target count) (kept (not (nat_lt l.target count)) UnknownState n (nil_left s x after_t)));
     }
+
+target_low : (vs : List VarInfo) (count n : ℕ) (l : Transition ℕ ℕ) → line_faults vs count n l ≡ [] → l.target < count
+target_low vs count n l e =
+    let u = broken_where (uses_unknown vs l) UnknownName n in
+    let w = broken_where (uses_wrong_sort vs l) WrongSort n in
+    let p = broken_where (changes_input vs l) AssignInput n in
+    let t = broken_where (not (all_differ (assigned_in l.assignments))) AssignedTwice n in
+    let s = broken_where (not (nat_lt l.target count)) UnknownState n in
+    let x = broken_where (nat_lt most_emits (emit_count l.assignments)) TooManyEmits n in
+    let after_t = nil_right t (s ++ x) (nil_right p (t ++ (s ++ x)) (nil_right w (p ++ (t ++ (s ++ x))) (nil_right u (w ++ (p ++ (t ++ (s ++ x)))) e))) in
+    below l.target count (not_false (nat_lt l.target count) (kept (not (nat_lt l.target count)) UnknownState n (nil_left s x after_t)))
 
 -- ---- the transitions of a state
 
@@ -282,9 +288,9 @@ state_ends p k q s at =
     let l = lines_faults vs ss s.lines in
     (kept (lacks_else s.lines) NoElse s.line (nil_left n (a ++ l) e), lines_nil AfterElse (after_else false s.lines) (nil_left a l (nil_right n (a ++ l) e)))
 
-pub state_lines : (p : Source) → AreKept p → (q : ℕ) (s : SourceState) → slice_get p.states q ≡ Some s → (j : ℕ) (l : SourceTransition) → slice_get s.lines j ≡ Some l
-    → IsSoundTransition (variables_of p.declarations) (length p.states) (line_spelled (names_of (variables_of p.declarations)) (state_names p.states) l)
-state_lines p k q s at j l there =
+pub lines_kept : (p : Source) → AreKept p → (q : ℕ) (s : SourceState) → slice_get p.states q ≡ Some s → (j : ℕ) (l : SourceTransition) → slice_get s.lines j ≡ Some l
+    → line_faults (variables_of p.declarations) (length p.states) l.line (line_spelled (names_of (variables_of p.declarations)) (state_names p.states) l) ≡ []
+lines_kept p k q s at j l there =
     let vs = variables_of p.declarations in
     let ss = state_names p.states in
     let e = state_kept p k q s at in
@@ -292,13 +298,25 @@ state_lines p k q s at j l there =
     let a = at_lines AfterElse (after_else false s.lines) in
     let f = nil_right a (lines_faults vs ss s.lines) (nil_right n (a ++ lines_faults vs ss s.lines) e) in
     let one = flat_nil (λ x. line_faults vs (length ss) x.line (line_spelled (names_of vs) ss x)) s.lines f j l there in
-    subst (λ c. IsSoundTransition vs c (line_spelled (names_of vs) ss l)) (length_mapped (λ (x : SourceState). x.name) p.states) (transition_sound vs (length ss) l.line (line_spelled (names_of vs) ss l) one)
+    subst (λ c. line_faults vs c l.line (line_spelled (names_of vs) ss l) ≡ []) (length_mapped (λ (x : SourceState). x.name) p.states) one
+
+pub state_lines : (p : Source) → AreKept p → (q : ℕ) (s : SourceState) → slice_get p.states q ≡ Some s → (j : ℕ) (l : SourceTransition) → slice_get s.lines j ≡ Some l
+    → list_all is_text_number (numbers_in_transition (line_spelled (names_of (variables_of p.declarations)) (state_names p.states) l)) ≡ true
+    → IsSoundTransition (variables_of p.declarations) (length p.states) (line_spelled (names_of (variables_of p.declarations)) (state_names p.states) l)
+state_lines p k q s at j l there right =
+    transition_sound (variables_of p.declarations) (length p.states) l.line (line_spelled (names_of (variables_of p.declarations)) (state_names p.states) l) right (lines_kept p k q s at j l there)
+
+-- names and numbers of the machine that parts spell
+pub record AreRight (p : Source) : Type 0 where
+  pub variables : list_all (λ v. is_name v.name) (machine_of p).variables ≡ true
+  pub states : list_all (λ s. is_name s.name) (machine_of p).states ≡ true
+  pub numbers : list_all is_text_number (numbers_in_states (machine_of p).states) ≡ true
 
 at_most : (n : ℕ) → nat_lt 64 n ≡ false → n ≤ 64
 at_most n e = grind (arith, nat_tests)
 
-pub sound : (p : Source) → AreKept p → branch_faults p ≡ [] → ((q : ℕ) → q < length p.states → reaches_cutpoint (machine_of p) (length p.states) q ≡ true) → IsSound (machine_of p)
-sound p k forked ends =
+pub sound : (p : Source) → AreKept p → branch_faults p ≡ [] → ((q : ℕ) → q < length p.states → reaches_cutpoint (machine_of p) (length p.states) q ≡ true) → AreRight p → IsSound (machine_of p)
+sound p k forked ends right =
     let vs = variables_of p.declarations in
     let ns = names_of vs in
     let ss = state_names p.states in
@@ -307,6 +325,8 @@ sound p k forked ends =
       few_variables = count_variables p k;
       few_states = let h = count_states p k in omega arith;
       variables_differ = ap names_differ (sym (names_declared p.declarations)) ∙ differ (declared_names p.declarations) k.variables_once;
+      variables_named = right.variables;
+      states_named = right.states;
       states_differ = ap names_differ (map_map (λ s. s.name) (state_spelled ns ss) p.states ∙ sym (names_stated p.states)) ∙ differ (declared_states p.states) k.states_once;
       reset_in = let h = k.reset in omega arith;
       transitions_sound = λ q l j at.
@@ -315,7 +335,8 @@ sound p k forked ends =
           (λ some.
           let is : transitions_of (machine_of p) q ≡ map (line_spelled ns ss) some.0.lines = lines_some ns ss p.states q some.0 some.1 in
           let m = get_mapped (line_spelled ns ss) some.0.lines j l (ap (λ ls. slice_get ls j) (sym is) ∙ at) in
-          let one = state_lines p k q some.0 some.1 j m.0 m.1.0 in
+          let numbers = transition_numbers is_text_number (transitions_of (machine_of p) q) j l (state_numbers is_text_number (machine_of p).states q right.numbers) at in
+          let one = state_lines p k q some.0 some.1 j m.0 m.1.0 (subst (λ x. list_all is_text_number (numbers_in_transition x) ≡ true) m.1.1 numbers) in
           subst (λ c. IsSoundTransition vs c l) (sym count) (subst (λ x. IsSoundTransition vs (length p.states) x) (sym m.1.1) one))
           (option_cases (slice_get p.states q));
       open_last = λ q h.
@@ -374,6 +395,6 @@ lead_on p k q h =
     let s = get_there p.states q h in
     let e = state_ends p k q s.0 s.1 in
     let l = get_there s.0.lines 0 (has_first s.0.lines e.0) in
-    let one = state_lines p k q s.0 s.1 0 l.0 l.1 in
+    let low = target_low vs (length p.states) l.0.line (line_spelled ns ss l.0) (lines_kept p k q s.0 s.1 0 l.0 l.1) in
     subst (λ ls. first_transition_target ls < length p.states) (sym (lines_some ns ss p.states q s.0 s.1))
-    (first_low (length p.states) (map (line_spelled ns ss) s.0.lines) (line_spelled ns ss l.0) (get_map (line_spelled ns ss) s.0.lines 0 l.0 l.1) one.target_in)
+    (first_low (length p.states) (map (line_spelled ns ss) s.0.lines) (line_spelled ns ss l.0) (get_map (line_spelled ns ss) s.0.lines 0 l.0 l.1) low)

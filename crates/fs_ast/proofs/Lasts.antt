@@ -6,16 +6,16 @@ use Rattle.std.specs.Option.{option_to_list}
 use Rattle.std.proofs.lemmas.Bool.{cases_eq}
 use Rattle.fs_model.specs.Machines.{State, Fsmd, transitions_of}
 use Rattle.fs_model.specs.Trees.{tree_of_transitions, branches_of, count_leaves}
-use Rattle.fs_ast.specs.declared.check.CheckRule.TheVariants.{EndlessLine}
-use Rattle.fs_ast.specs.declared.check.CheckFault.{CheckFault}
+use Rattle.fs_rules.specs.declared.check.CheckRule.TheVariants.{EndlessLine}
+use Rattle.fs_rules.specs.declared.check.CheckFault.{CheckFault}
 use Rattle.fs_ast.specs.declared.resolve.State.{State as NumberedState}
-use Rattle.fs_ast.specs.Sound.{first_transition_target, branch_count, is_cutpoint, reaches_cutpoint}
-use Rattle.fs_ast.specs.Rules.{at_lines, after_steps, IsEndless}
+use Rattle.fs_rules.specs.Sound.{first_transition_target, branch_count, is_cutpoint, reaches_cutpoint}
+use Rattle.fs_rules.specs.Rules.{at_lines, after_steps, IsEndless}
 use Rattle.fs_ast.specs.Resolved.{state_of, placed_of}
-use Rattle.fs_ast.specs.Walks.{walked, is_cut, reaches, IsRound, IsGraph}
+use Rattle.fs_rules.specs.Walks.{walked, is_cut, reaches, IsRound, IsGraph}
 use Rattle.fs_ast.specs.Late.{skeleton, forked_faults, endless_faults, LeadOn, IsLate}
-use Rattle.fs_ast.specs.Earliest.{earliest}
-use Rattle.fs_ast.proofs.Turns.{length_mapped}
+use Rattle.fs_rules.specs.Earliest.{earliest}
+use Rattle.fs_rules.proofs.Turns.{length_mapped}
 use Rattle.fs_ast.proofs.Kept.{both_true, below}
 use Rattle.fs_ast.proofs.Leaves.{length_leaves}
 

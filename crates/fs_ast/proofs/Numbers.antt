@@ -1,10 +1,13 @@
 -- Numbers in order of the text.
-use Rattle.std.proofs.Common.{◌≡◌, ℕ, ◌+◌, ◌<◌, List, [], ◌∷◌, ◌++◌, length, get_or, take, sym, ◌∙◌, ap, append_assoc, append-nil, zero, suc, arith}
-use Rattle.std.specs.Prelude.{ℤ, map}
+use Rattle.std.proofs.Common.{◌≡◌, ℕ, ◌+◌, ◌<◌, List, [], ◌∷◌, ◌++◌, length, get_or, take, sym, ◌∙◌, ap, append_assoc, append-nil, zero, suc, refl, arith}
+use Rattle.std.specs.Prelude.{ℤ, Bool, true, ◌&&◌, Some, map, slice_get}
+use Rattle.std.specs.List.{list_all, slice_index_or}
+use Rattle.std.proofs.lemmas.List.Folds.{list_all-append}
+use Rattle.fs_model.proofs.Passing.{and_left, and_right, and_both}
 use Rattle.fs_model.specs.Terms.{Assignment, Transition}
 use Rattle.fs_model.specs.Machines.{State}
-use Rattle.fs_ast.specs.Sound.{numbers_in_condition, numbers_in_assignment, numbers_in_assignments, numbers_in_transitions, numbers_in_states}
-use Rattle.fs_ast.proofs.Turns.{taken_map}
+use Rattle.fs_rules.specs.Sound.{numbers_in_condition, numbers_in_assignment, numbers_in_assignments, numbers_in_transitions, numbers_in_states}
+use Rattle.fs_rules.proofs.Turns.{taken_map}
 
 pub assignments_push : (bs : List (Assignment ℕ)) (a : Assignment ℕ) → numbers_in_assignments (bs ++ a ∷ []) ≡ numbers_in_assignments bs ++ numbers_in_assignment a
 assignments_push [] a = append-nil (numbers_in_assignment a)
@@ -36,3 +39,35 @@ same_at f g xs [] e i x d h at = absurd (omega arith)
 same_at f g [] (y ∷ ys) e i x d h at = absurd (cc)
 same_at f g (z ∷ xs) (y ∷ ys) e zero x d h at = let first : f z ≡ g y = cc in ap f at ∙ first
 same_at f g (z ∷ xs) (y ∷ ys) e (suc i) x d h at = let rest : map f xs ≡ map g ys = cc in same_at f g xs ys rest i x d (omega arith) at
+
+-- ---- tests of numbers
+
+pub all_both : (T U : ℤ → Bool) (xs : List ℤ) → list_all T xs ≡ true → list_all U xs ≡ true → list_all (λ n. T n && U n) xs ≡ true
+all_both T U [] h i = refl
+all_both T U (x ∷ xs) h i =
+    and_both (T x && U x) (list_all (λ n. T n && U n) xs) (and_both (T x) (U x) (and_left (T x) (list_all T xs) h) (and_left (U x) (list_all U xs) i)) (all_both T U xs (and_right (T x) (list_all T xs) h) (and_right (U x) (list_all U xs) i))
+
+pub all_joined : (T : ℤ → Bool) (a b : List ℤ) → list_all T a ≡ true → list_all T b ≡ true → list_all T (a ++ b) ≡ true
+all_joined T a b h i = list_all-append T a b ∙ and_both (list_all T a) (list_all T b) h i
+
+all_front : (T : ℤ → Bool) (a b : List ℤ) → list_all T (a ++ b) ≡ true → list_all T a ≡ true
+all_front T a b h = and_left (list_all T a) (list_all T b) (sym (list_all-append T a b) ∙ h)
+
+all_back : (T : ℤ → Bool) (a b : List ℤ) → list_all T (a ++ b) ≡ true → list_all T b ≡ true
+all_back T a b h = and_right (list_all T a) (list_all T b) (sym (list_all-append T a b) ∙ h)
+
+pub state_numbers : (T : ℤ → Bool) (ss : List State) (q : ℕ) → list_all T (numbers_in_states ss) ≡ true → list_all T (numbers_in_transitions (slice_index_or ss q (record { name = []; lines = [] })).lines) ≡ true
+state_numbers T [] q h = refl
+state_numbers T (s ∷ ss) zero h = all_front T (numbers_in_transitions s.lines) (numbers_in_states ss) h
+state_numbers T (s ∷ ss) (suc q) h = state_numbers T ss q (all_back T (numbers_in_transitions s.lines) (numbers_in_states ss) h)
+
+pub transition_numbers : (T : ℤ → Bool) (ls : List (Transition ℕ ℕ)) (k : ℕ) (l : Transition ℕ ℕ) → list_all T (numbers_in_transitions ls) ≡ true → slice_get ls k ≡ Some l → list_all T (numbers_in_transition l) ≡ true
+transition_numbers T [] k l h e = absurd (cc)
+transition_numbers T (x ∷ ls) zero l h e =
+    let same : x ≡ l = cc in
+    let rest = all_back T (numbers_in_condition x.guard) (numbers_in_assignments x.assignments ++ numbers_in_transitions ls) h in
+    ap (λ y. list_all T (numbers_in_transition y)) (sym same)
+    ∙ all_joined T (numbers_in_condition x.guard) (numbers_in_assignments x.assignments) (all_front T (numbers_in_condition x.guard) (numbers_in_assignments x.assignments ++ numbers_in_transitions ls) h)
+    (all_front T (numbers_in_assignments x.assignments) (numbers_in_transitions ls) rest)
+transition_numbers T (x ∷ ls) (suc k) l h e =
+    transition_numbers T ls k l (all_back T (numbers_in_assignments x.assignments) (numbers_in_transitions ls) (all_back T (numbers_in_condition x.guard) (numbers_in_assignments x.assignments ++ numbers_in_transitions ls) h)) e

@@ -7,17 +7,17 @@ use Rattle.std.proofs.lemmas.Bool.Decides.{nat_tests}
 use Rattle.std.proofs.lemmas.Option.{slice_get_within, slice_get-get_or}
 use Rattle.fs_model.specs.Source.{SourceState, Source}
 use Rattle.fs_model.specs.Machines.{State, Fsmd, transitions_of}
-use Rattle.fs_ast.specs.declared.check.CheckRule.TheVariants.{EndlessLine}
-use Rattle.fs_ast.specs.declared.check.CheckFault.{CheckFault}
-use Rattle.fs_ast.specs.Spelled.{names_of, variables_of, state_names, place, machine_of}
-use Rattle.fs_ast.specs.Sound.{first_transition_target, is_cutpoint}
-use Rattle.fs_ast.specs.Rules.{rank, is_sooner, plain_faults, branch_faults, after_steps, IsEndless, IsFirstBroken}
-use Rattle.fs_ast.specs.Earliest.{earliest}
+use Rattle.fs_rules.specs.declared.check.CheckRule.TheVariants.{EndlessLine}
+use Rattle.fs_rules.specs.declared.check.CheckFault.{CheckFault}
+use Rattle.fs_rules.specs.Spelled.{names_of, variables_of, state_names, place, machine_of}
+use Rattle.fs_rules.specs.Sound.{first_transition_target, is_cutpoint}
+use Rattle.fs_rules.specs.Rules.{rank, is_sooner, plain_faults, branch_faults, after_steps, IsEndless, IsFirstBroken}
+use Rattle.fs_rules.specs.Earliest.{earliest}
 use Rattle.fs_ast.specs.Resolved.{placed_spelled}
 use Rattle.fs_ast.specs.Late.{skeleton, forked_faults, endless_faults, IsLate}
-use Rattle.fs_ast.proofs.Turns.{map_map, length_mapped}
-use Rattle.fs_ast.proofs.Firsts.{earliest-append}
-use Rattle.fs_ast.proofs.Rounds.{get_front, get_back, get_either}
+use Rattle.fs_rules.proofs.Turns.{map_map, length_mapped}
+use Rattle.fs_rules.proofs.Firsts.{earliest-append}
+use Rattle.fs_rules.proofs.Rounds.{get_front, get_back, get_either}
 use Rattle.fs_ast.proofs.Kept.{get_mapped, no_state}
 use Rattle.fs_ast.proofs.Whole.{placed, placed_states, forked_is, cut_same}
 

@@ -1,5 +1,5 @@
 -- From the parts of a text to a machine that keeps all rules.
-use Rattle.std.proofs.Common.{◌≡◌, ℕ, zero, suc, ◌<◌, ◌≤◌, Bool, true, List, [], ◌∷◌, ◌++◌, length, refl, sym, ◌∙◌, ap, ap₂, append_assoc, arith}
+use Rattle.std.proofs.Common.{◌≡◌, ℕ, zero, suc, ◌<◌, ◌≤◌, Bool, true, List, [], ◌∷◌, ◌++◌, length, refl, sym, ◌∙◌, ap, ap₂, arith}
 use Rattle.std.specs.Prelude.{◌||◌, ◌==◌, nat_lt, Option, Some, None, map, slice_get}
 use Rattle.std.specs.List.{list_all, flat_map, slice_index_or}
 use Rattle.std.specs.Option.{option_to_list}
@@ -7,20 +7,20 @@ use Rattle.fs_model.specs.declared.parts.VarInfo.{VarInfo}
 use Rattle.fs_model.specs.Source.{Source}
 use Rattle.fs_model.specs.Machines.{State, Fsmd, transitions_of}
 use Rattle.fs_model.specs.Trees.{branches_of}
-use Rattle.fs_ast.specs.declared.check.CheckRule.TheVariants.{EndlessLine}
-use Rattle.fs_ast.specs.declared.check.CheckFault.{CheckFault}
+use Rattle.fs_rules.specs.declared.check.CheckRule.TheVariants.{EndlessLine}
+use Rattle.fs_rules.specs.declared.check.CheckFault.{CheckFault}
 use Rattle.fs_ast.specs.declared.resolve.State.{State as NumberedState}
-use Rattle.fs_ast.specs.Spelled.{variables_of, names_of, state_names, place, machine_of}
-use Rattle.fs_ast.specs.Sound.{first_transition_target, is_cutpoint, reaches_cutpoint}
-use Rattle.fs_ast.specs.Rules.{at_lines, declared_states, branch_faults}
-use Rattle.fs_ast.specs.Earliest.{sooner, earliest}
-use Rattle.fs_ast.specs.Places.{names_in}
+use Rattle.fs_rules.specs.Spelled.{variables_of, names_of, state_names, place, machine_of}
+use Rattle.fs_rules.specs.Sound.{first_transition_target, is_cutpoint, reaches_cutpoint}
+use Rattle.fs_rules.specs.Rules.{at_lines, declared_states, branch_faults}
+use Rattle.fs_rules.specs.Earliest.{sooner, earliest}
+use Rattle.fs_rules.specs.Places.{names_in}
 use Rattle.fs_ast.specs.Resolved.{state_of, placed_of, placed_spelled}
 use Rattle.fs_ast.specs.Late.{skeleton, forked_faults, endless_faults, LeadOn, IsLate}
-use Rattle.fs_ast.specs.Built.{IsScopeOf}
-use Rattle.fs_ast.proofs.Turns.{map_map, length_mapped, flat_map_map}
-use Rattle.fs_ast.proofs.Firsts.{earliest-append, earliest_three}
-use Rattle.fs_ast.proofs.Kept.{AreKept, count_variables, count_states, names_stated, lead_on, both_true, below, get_there, no_state}
+use Rattle.fs_rules.specs.Scoped.{IsScopeOf}
+use Rattle.fs_rules.proofs.Naming.{names_of_states}
+use Rattle.fs_rules.proofs.Turns.{map_map, length_mapped, flat_map_map}
+use Rattle.fs_ast.proofs.Kept.{AreKept, count_variables, count_states, lead_on, both_true, below, get_there, no_state}
 
 -- ---- what was noted
 
@@ -32,27 +32,7 @@ pub nothing_noted : (known : Option CheckFault) (fs : List CheckFault) → earli
 nothing_noted known [] e = (e, refl)
 nothing_noted known (f ∷ fs) e = absurd (some_first (sooner known f) fs e)
 
-pub names_noted : (known one two three four : Option CheckFault) (a b c d : List CheckFault) → one ≡ earliest known a → two ≡ earliest one b → three ≡ earliest two c → four ≡ earliest three d → four ≡ earliest known (a ++ (b ++ (c ++ d)))
-names_noted known one two three four a b c d e f g h =
-    h ∙ ap (λ k. earliest k d) (g ∙ ap (λ k. earliest k c) (f ∙ ap (λ k. earliest k b) e))
-    ∙ earliest_three (earliest known a) b c d ∙ sym (earliest-append known a (b ++ (c ++ d)))
-
-all_joined : (a b c d r s : List CheckFault) → (a ++ (b ++ (c ++ d))) ++ (r ++ s) ≡ a ++ (b ++ (c ++ (d ++ (r ++ s))))
-all_joined a b c d r s = simp append_assoc
-
-pub plain_noted : (known one two three : Option CheckFault) (a b c d r s : List CheckFault) → one ≡ earliest known (a ++ (b ++ (c ++ d))) → two ≡ earliest one r → three ≡ earliest two s
-    → three ≡ earliest known (a ++ (b ++ (c ++ (d ++ (r ++ s)))))
-plain_noted known one two three a b c d r s e f g =
-    g ∙ ap (λ k. earliest k s) (f ∙ ap (λ k. earliest k r) e) ∙ earliest_three known (a ++ (b ++ (c ++ d))) r s ∙ ap (earliest known) (all_joined a b c d r s)
-
 -- ---- names
-
-pub names_of_states : (p : Source) (vars : List VarInfo) (states : List (ℕ × List ℕ)) → IsScopeOf p vars states → names_in states ≡ state_names p.states
-names_of_states p vars states s = ap names_in s.stated ∙ names_stated p.states
-
-pub reset_known : (p : Source) (vars : List VarInfo) (states : List (ℕ × List ℕ)) → IsScopeOf p vars states → nat_lt (place (names_in states) p.reset) (length (names_in states)) ≡ nat_lt (place (state_names p.states) p.reset) (length p.states)
-reset_known p vars states s =
-    ap (λ ns. nat_lt (place ns p.reset) (length ns)) (names_of_states p vars states s) ∙ ap (nat_lt (place (state_names p.states) p.reset)) (length_mapped (λ x. x.name) p.states)
 
 pub few_vars : (p : Source) (vars : List VarInfo) (states : List (ℕ × List ℕ)) → IsScopeOf p vars states → AreKept p → length vars ≤ 128
 few_vars p vars states s k = let h = count_variables p k in let e : length vars ≡ length (variables_of p.declarations) = ap length s.vars in omega arith

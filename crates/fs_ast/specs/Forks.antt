@@ -3,15 +3,15 @@ use Rattle.std.specs.Prelude.{ℕ, ◌+◌, min, Option, Some, None}
 use Rattle.fs_model.specs.View.{literal_of}
 use Rattle.fs_model.specs.Terms.{Guard, Test, Not, And, Or}
 use Rattle.fs_model.specs.Trees.{Tree, Empty, Leaf, Node}
-use Rattle.fs_ast.specs.declared.trees.Fork.{Fork}
-use Rattle.fs_ast.specs.declared.trees.Fork.TheVariants.{Nowhere, Take, Ask'}
+use Rattle.fs_ast.specs.declared.trees.DecisionTree.{DecisionTree}
+use Rattle.fs_ast.specs.declared.trees.DecisionTree.TheVariants as trees
 use Rattle.fs_ast.specs.Resolved.{line_of}
 
 -- the tree that a value of the code stands for
-abbrev pub tree_of : Fork → Tree
-tree_of Nowhere = Empty
-tree_of (Take l) = Leaf (line_of l.now).assignments (line_of l.now).target
-tree_of (Ask' l p on_yes q on_no) = Node (literal_of l.now) (tree_of on_yes) (tree_of on_no)
+abbrev pub tree_of : DecisionTree → Tree
+tree_of trees.Fail = Empty
+tree_of (trees.Leaf l) = Leaf (line_of l.now).assignments (line_of l.now).target
+tree_of (trees.Test' l p on_yes q on_no) = Node (literal_of l.now) (tree_of on_yes) (tree_of on_no)
 
 -- the leaves of the tree of a guard, from those of its two subtrees
 abbrev pub leaves_by : Guard ℕ → (on_yes on_no : ℕ) → ℕ

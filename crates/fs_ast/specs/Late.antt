@@ -2,13 +2,14 @@
 use Rattle.std.specs.Prelude.{◌≡◌, ℕ, ◌<◌, nat_lt, true, List, [], length, map, Option, Some, None, slice_get}
 use Rattle.std.specs.List.{list_all, flat_map}
 use Rattle.std.specs.Option.{option_to_list}
+use Rattle.fs_model.specs.Limits.{most_branches}
 use Rattle.fs_model.specs.Machines.{State, Fsmd, transitions_of}
 use Rattle.fs_model.specs.Trees.{tree_of_transitions, count_leaves}
-use Rattle.fs_ast.specs.declared.check.CheckRule.TheVariants.{TooManyBranches, EndlessLine}
-use Rattle.fs_ast.specs.declared.check.CheckFault.{CheckFault}
-use Rattle.fs_ast.specs.Sound.{most_branches, first_transition_target, reaches_cutpoint}
-use Rattle.fs_ast.specs.Rules.{at_lines, broken_where, IsEndless}
-use Rattle.fs_ast.specs.Earliest.{earliest}
+use Rattle.fs_rules.specs.declared.check.CheckRule.TheVariants.{TooManyBranches, EndlessLine}
+use Rattle.fs_rules.specs.declared.check.CheckFault.{CheckFault}
+use Rattle.fs_rules.specs.Sound.{first_transition_target, reaches_cutpoint}
+use Rattle.fs_rules.specs.Rules.{at_lines, broken_where, IsEndless}
+use Rattle.fs_rules.specs.Earliest.{earliest}
 
 -- the states of these, each with its line, that have too many branches
 abbrev pub forked_faults : List (ℕ × State) → List CheckFault

@@ -1,13 +1,10 @@
 pub mod Spelled
 pub mod Sound
 pub mod Rules
-pub mod Earliest
-pub mod Places
-pub mod Uses
 pub mod Resolved
 pub mod Forks
-pub mod Walks
 pub mod Late
 pub mod Stored
 pub mod Built
 pub mod Open
+pub mod Branches

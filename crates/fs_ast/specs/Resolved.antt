@@ -4,7 +4,7 @@ use Rattle.fs_model.specs.Terms.{Transition}
 use Rattle.fs_model.specs.Machines.{State}
 use Rattle.fs_model.specs.View.{guard_of, assignment_of}
 use Rattle.fs_model.specs.Source.{SourceState}
-use Rattle.fs_ast.specs.Spelled.{state_spelled}
+use Rattle.fs_rules.specs.Spelled.{state_spelled}
 use Rattle.fs_ast.specs.declared.resolve.Transition.{Transition as NumberedLine}
 use Rattle.fs_ast.specs.declared.resolve.State.{State as NumberedState}
 

@@ -3,11 +3,10 @@
 ghost use Rattle.std.specs.Prelude.{◌≡◌, ◌++◌, map, option_map, IfOk};
 ghost use Rattle.std.specs.Result.{OnOk};
 ghost use Rattle.fs_model.specs.View.{term_of, guard_of, assignment_of};
-ghost use Rattle.fs_ast.specs.Sound.{numbers_in, numbers_in_guard, numbers_in_condition, numbers_in_assignment, numbers_in_assignments, numbers_in_transitions, numbers_in_states};
+ghost use Rattle.fs_rules.specs.Sound.{numbers_in, numbers_in_guard, numbers_in_condition, numbers_in_assignment, numbers_in_assignments, numbers_in_transitions, numbers_in_states};
 ghost use Rattle.fs_ast.specs.Resolved.{line_of, state_of};
 
-use crate::resolve::{Transition, State};
-use crate::scope::push;
+use crate::resolve::{State, Transition};
 use fs_model::name::NoMemory;
 use fs_model::parts::{Assign, Expr, Guard, VarId};
 use std::alloc::Global;
@@ -75,6 +74,7 @@ fn add_assign(out: &mut Vec<i128>, assign: &Assign<VarId>) -> Result<(), NoMemor
             add_expr(out, index)?;
             add_expr(out, value)
         }
+        Assign::Emit(_, value) => add_expr(out, value),
     }
 }
 
@@ -82,7 +82,10 @@ fn add_expr(out: &mut Vec<i128>, expr: &Expr<VarId>) -> Result<(), NoMemory>
     ensures { OnOk result (out.new.items ≡ out.old.items ++ numbers_in (term_of expr.now)) }
 {
     match expr {
-        Expr::Num(n) => push(out, *n),
+        Expr::Num(n) => {
+            out.push(*n)?;
+            Ok(())
+        }
         Expr::Var(_) => Ok(()),
         Expr::Read(_, index) => add_expr(out, index),
         Expr::Add(a, b) | Expr::Sub(a, b) | Expr::Mul(a, b) | Expr::Div(a, b) | Expr::Rem(a, b) => {

@@ -2,19 +2,12 @@
 #![tactic(auto)]
 
 pub mod build;
-pub mod check;
 mod constants;
-mod endless;
-mod faults;
-mod late;
 pub mod laws;
 pub mod machine;
-mod names;
 mod resolve;
-mod rules;
-mod scope;
-#[cfg(test)]
-mod tests;
+mod shape_rules;
 mod trees;
 
 pub use fs_model::{name, parts};
+pub use fs_rules::check;

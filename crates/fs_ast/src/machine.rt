@@ -1,16 +1,17 @@
 //! Machines that were checked.
 
-ghost use Rattle.std.specs.Prelude.{◌≡◌, ◌<◌, length, map, IfOk};
+ghost use Rattle.std.specs.Prelude.{◌≡◌, ◌^◌, ◌<◌, true, pos, int_lt, length, map, IfOk};
+ghost use Rattle.std.specs.List.{list_all};
 ghost use Rattle.fs_model.specs.Machines.{transitions_of};
 ghost use Rattle.fs_model.specs.Trees.{branches_of};
 ghost use Rattle.fs_model.specs.View.{branch_of};
-ghost use Rattle.fs_ast.specs.Sound.{IsSound, numbers_in_states};
+ghost use Rattle.fs_rules.specs.Sound.{IsSound, numbers_in_states};
 ghost use Rattle.fs_ast.specs.Resolved.{state_of};
-ghost use Rattle.fs_ast.specs.Stored.{name_of};
+ghost use Rattle.fs_ast.specs.Stored.{name_of, KeepsTypes};
+ghost use Rattle.fs_model.specs.Words.{is_name};
 
 use crate::constants::constants_of;
 use crate::resolve::State;
-use crate::scope::push;
 use crate::trees::branches;
 use fs_model::name::{Name, NoMemory};
 use fs_model::parts::{Branch, StateId, VarInfo};
@@ -102,11 +103,14 @@ impl Machine {
         reset: StateId,
         states: Vec<State>,
     ) -> Result<Machine, NoMemory>
-        requires { IsSound (record { variables = vars.items; reset = reset.0; states = map state_of states.items }) }
+        requires { KeepsTypes vars.items (map state_of states.items) → IsSound (record { variables = vars.items; reset = reset.0; states = map state_of states.items }) }
         ensures { IfOk result (λ m. m ≡ record { variables = vars.items; reset = reset.0; states = map state_of states.items }) }
     {
         let branches = all_branches(alloc, states.as_slice())?;
         let constants = constants_of(alloc, states.as_slice())?;
+        see_variable_names(vars.as_slice());
+        see_state_names(states.as_slice());
+        see_numbers(constants.as_slice());
         Ok(Machine {
             vars,
             reset,
@@ -123,7 +127,34 @@ fn all_branches(alloc: Global, states: &[State]) -> Result<Vec<Vec<Branch>>, NoM
 {
     let mut out = Vec::new(alloc);
     for state in states {
-        push(&mut out, branches(alloc, state.lines.as_slice())?)?;
+        out.push(branches(alloc, state.lines.as_slice())?)?;
     }
     Ok(out)
+}
+
+// Reads each name, which is one by its type.
+fn see_variable_names(vars: &[VarInfo])
+    ensures { list_all (λ v. is_name v.name) vars.now ≡ true }
+{
+    for var in vars {
+        let _bytes = var.name.bytes();
+    }
+}
+
+// Reads each name, which is one by its type.
+fn see_state_names(states: &[State])
+    ensures { list_all (λ s. is_name s.name) (map state_of states.now) ≡ true }
+{
+    for state in states {
+        let _bytes = state.name.bytes();
+    }
+}
+
+// Reads each number, which lies below 2^127 by its type.
+fn see_numbers(numbers: &[i128])
+    ensures { list_all (λ n. int_lt n (pos (2 ^ 127))) numbers.now ≡ true }
+{
+    for number in numbers {
+        let _number = *number;
+    }
 }

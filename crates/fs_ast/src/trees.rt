@@ -1,27 +1,25 @@
 //! Decision trees of transitions, and their branches.
 
-ghost use Rattle.std.specs.Prelude.{◌≡◌, ◌++◌, [], ◌∷◌, map, option_map, IfOk};
+ghost use Rattle.std.specs.Prelude.{◌≡◌, ◌++◌, map, IfOk};
 ghost use Rattle.std.specs.Result.{OnOk};
-ghost use Rattle.fs_model.specs.View.{term_of, literal_of, guard_of, assignment_of, branch_of};
-ghost use Rattle.fs_model.specs.Trees.{tree_of_guard, tree_of_transitions, opposite, negated, leaves, branches_of, count_leaves};
+ghost use Rattle.fs_model.specs.View.{literal_of, guard_of, assignment_of, branch_of};
+ghost use Rattle.fs_model.specs.Trees.{tree_of_guard, tree_of_transitions, leaves, branches_of, count_leaves};
 ghost use Rattle.fs_ast.specs.Resolved.{line_of};
 ghost use Rattle.fs_ast.specs.Forks.{tree_of, leaves_by, leaves_by_condition, capped};
 
-use crate::resolve::{Transition, boxed};
-use crate::scope::push;
+use crate::resolve::Transition;
+use fs_model::limits::BRANCH_LIMIT;
+use fs_model::memory::both_boxed;
 use fs_model::name::NoMemory;
-use fs_model::parts::{Assign, Branch, Expr, Guard, Lit, Rel, VarId};
+use fs_model::parts::{Assign, Branch, Guard, Lit, VarId};
 use std::alloc::Global;
-
-/// The most branches of a state.
-pub const BRANCH_LIMIT: u32 = 64;
 
 /// A decision tree over transitions.
 #[derive(Drop)]
-enum Fork<'a> {
-    Nowhere,
-    Take(&'a Transition),
-    Ask(&'a Lit<VarId>, Box<Fork<'a>>, Box<Fork<'a>>),
+enum DecisionTree<'a> {
+    Fail,
+    Leaf(&'a Transition),
+    Test(&'a Lit<VarId>, Box<DecisionTree<'a>>, Box<DecisionTree<'a>>),
 }
 
 /// How many leaves the tree of transitions has, or 65 where there are more.
@@ -62,7 +60,7 @@ fn count_guard(guard: &Guard<VarId>, on_yes: u32, on_no: u32) -> u32
 pub fn branches(alloc: Global, lines: &[Transition]) -> Result<Vec<Branch>, NoMemory>
     ensures { IfOk result (λ out. map branch_of out.items ≡ branches_of (map line_of lines.now)) }
 {
-    let tree = fork_lines(alloc, lines)?;
+    let tree = tree_of_lines(alloc, lines)?;
     let mut way = Vec::new(alloc);
     let mut out = Vec::new(alloc);
     walk(alloc, &tree, &mut way, &mut out)?;
@@ -70,66 +68,66 @@ pub fn branches(alloc: Global, lines: &[Transition]) -> Result<Vec<Branch>, NoMe
 }
 
 /// The tree of transitions.
-fn fork_lines<'a>(alloc: Global, lines: &'a [Transition]) -> Result<Fork<'a>, NoMemory>
+fn tree_of_lines<'a>(alloc: Global, lines: &'a [Transition]) -> Result<DecisionTree<'a>, NoMemory>
     ensures { IfOk result (λ tree. tree_of tree ≡ tree_of_transitions (map line_of lines.now)) }
 {
     match lines {
-        [] => Ok(Fork::Nowhere),
+        [] => Ok(DecisionTree::Fail),
         [first, rest @ ..] => {
-            let on_no = fork_lines(alloc, rest)?;
+            let on_no = tree_of_lines(alloc, rest)?;
             match &first.guard {
-                None => Ok(Fork::Take(first)),
-                Some(guard) => fork_guard(alloc, guard, &Fork::Take(first), &on_no),
+                None => Ok(DecisionTree::Leaf(first)),
+                Some(guard) => tree_of_guard(alloc, guard, &DecisionTree::Leaf(first), &on_no),
             }
         }
     }
 }
 
 /// The tree of a guard over two subtrees.
-fn fork_guard<'a>(
+fn tree_of_guard<'a>(
     alloc: Global,
     guard: &'a Guard<VarId>,
-    on_yes: &Fork<'a>,
-    on_no: &Fork<'a>,
-) -> Result<Fork<'a>, NoMemory>
+    on_yes: &DecisionTree<'a>,
+    on_no: &DecisionTree<'a>,
+) -> Result<DecisionTree<'a>, NoMemory>
     ensures { IfOk result (λ tree. tree_of tree ≡ tree_of_guard (guard_of guard.now) (tree_of on_yes.now) (tree_of on_no.now)) }
 {
     match guard {
-        Guard::Lit(lit) => Ok(Fork::Ask(
-            lit,
-            boxed(alloc, copy_fork(alloc, on_yes)?)?,
-            boxed(alloc, copy_fork(alloc, on_no)?)?,
-        )),
-        Guard::Not(a) => fork_guard(alloc, a, on_no, on_yes),
+        Guard::Lit(lit) => {
+            let on_yes = copy_tree(alloc, on_yes)?;
+            let (on_yes, on_no) = both_boxed(alloc, on_yes, copy_tree(alloc, on_no)?)?;
+            Ok(DecisionTree::Test(lit, on_yes, on_no))
+        }
+        Guard::Not(a) => tree_of_guard(alloc, a, on_no, on_yes),
         Guard::And(a, b) => {
-            let inner = fork_guard(alloc, b, on_yes, on_no)?;
-            fork_guard(alloc, a, &inner, on_no)
+            let inner = tree_of_guard(alloc, b, on_yes, on_no)?;
+            tree_of_guard(alloc, a, &inner, on_no)
         }
         Guard::Or(a, b) => {
-            let inner = fork_guard(alloc, b, on_yes, on_no)?;
-            fork_guard(alloc, a, on_yes, &inner)
+            let inner = tree_of_guard(alloc, b, on_yes, on_no)?;
+            tree_of_guard(alloc, a, on_yes, &inner)
         }
     }
 }
 
-fn copy_fork<'a>(alloc: Global, tree: &Fork<'a>) -> Result<Fork<'a>, NoMemory>
+fn copy_tree<'a>(alloc: Global, tree: &DecisionTree<'a>) -> Result<DecisionTree<'a>, NoMemory>
     ensures { IfOk result (λ copy. tree_of copy ≡ tree_of tree.now) }
 {
     match tree {
-        Fork::Nowhere => Ok(Fork::Nowhere),
-        Fork::Take(line) => Ok(Fork::Take(*line)),
-        Fork::Ask(lit, on_yes, on_no) => Ok(Fork::Ask(
-            *lit,
-            boxed(alloc, copy_fork(alloc, on_yes)?)?,
-            boxed(alloc, copy_fork(alloc, on_no)?)?,
-        )),
+        DecisionTree::Fail => Ok(DecisionTree::Fail),
+        DecisionTree::Leaf(line) => Ok(DecisionTree::Leaf(*line)),
+        DecisionTree::Test(lit, on_yes, on_no) => {
+            let on_yes = copy_tree(alloc, on_yes)?;
+            let (on_yes, on_no) = both_boxed(alloc, on_yes, copy_tree(alloc, on_no)?)?;
+            Ok(DecisionTree::Test(*lit, on_yes, on_no))
+        }
     }
 }
 
 /// Adds the branches below a way. The way is as before.
 fn walk(
     alloc: Global,
-    tree: &Fork,
+    tree: &DecisionTree,
     way: &mut Vec<Lit<VarId>>,
     out: &mut Vec<Branch>,
 ) -> Result<(), NoMemory>
@@ -137,13 +135,16 @@ fn walk(
     ensures way { OnOk result (way.new.items ≡ way.old.items) }
 {
     match tree {
-        Fork::Nowhere => Ok(()),
-        Fork::Take(line) => push(out, branch(alloc, way.as_slice(), line)?),
-        Fork::Ask(lit, on_yes, on_no) => {
-            push(way, copy_lit(alloc, lit)?)?;
+        DecisionTree::Fail => Ok(()),
+        DecisionTree::Leaf(line) => {
+            out.push(branch(alloc, way.as_slice(), line)?)?;
+            Ok(())
+        }
+        DecisionTree::Test(lit, on_yes, on_no) => {
+            way.push(lit.try_clone(alloc)?)?;
             walk(alloc, on_yes, way, out)?;
             let _ = way.pop();
-            push(way, negation(alloc, lit)?)?;
+            way.push(lit.negation(alloc)?)?;
             walk(alloc, on_no, way, out)?;
             let _ = way.pop();
             Ok(())
@@ -167,7 +168,7 @@ fn copy_way(alloc: Global, way: &[Lit<VarId>]) -> Result<Vec<Lit<VarId>>, NoMemo
 {
     let mut out = Vec::new(alloc);
     for lit in way {
-        push(&mut out, copy_lit(alloc, lit)?)?;
+        out.push(lit.try_clone(alloc)?)?;
     }
     Ok(out)
 }
@@ -177,86 +178,7 @@ fn copy_assigns(alloc: Global, assigns: &[Assign<VarId>]) -> Result<Vec<Assign<V
 {
     let mut out = Vec::new(alloc);
     for assign in assigns {
-        push(&mut out, copy_assign(alloc, assign)?)?;
+        out.push(assign.try_clone(alloc)?)?;
     }
     Ok(out)
-}
-
-fn copy_assign(alloc: Global, assign: &Assign<VarId>) -> Result<Assign<VarId>, NoMemory>
-    ensures { IfOk result (λ copy. assignment_of copy ≡ assignment_of assign.now) }
-{
-    match assign {
-        Assign::Set(x, value) => Ok(Assign::Set(*x, copy_expr(alloc, value)?)),
-        Assign::Put(x, index, value) => Ok(Assign::Put(
-            *x,
-            copy_expr(alloc, index)?,
-            copy_expr(alloc, value)?,
-        )),
-    }
-}
-
-fn copy_lit(alloc: Global, lit: &Lit<VarId>) -> Result<Lit<VarId>, NoMemory>
-    ensures { IfOk result (λ copy. literal_of copy ≡ literal_of lit.now) }
-{
-    Ok(Lit {
-        rel: lit.rel,
-        left: copy_expr(alloc, &lit.left)?,
-        right: copy_expr(alloc, &lit.right)?,
-    })
-}
-
-/// The literal that holds where another doesn't.
-fn negation(alloc: Global, lit: &Lit<VarId>) -> Result<Lit<VarId>, NoMemory>
-    ensures { IfOk result (λ copy. literal_of copy ≡ negated (literal_of lit.now)) }
-{
-    Ok(Lit {
-        rel: opposite(lit.rel),
-        left: copy_expr(alloc, &lit.left)?,
-        right: copy_expr(alloc, &lit.right)?,
-    })
-}
-
-/// The relation that holds where another doesn't.
-fn opposite(rel: Rel) -> Rel
-    ensures { result ≡ opposite rel }
-{
-    match rel {
-        Rel::Eq => Rel::Ne,
-        Rel::Ne => Rel::Eq,
-        Rel::Lt => Rel::Ge,
-        Rel::Ge => Rel::Lt,
-        Rel::Le => Rel::Gt,
-        Rel::Gt => Rel::Le,
-    }
-}
-
-fn copy_expr(alloc: Global, expr: &Expr<VarId>) -> Result<Expr<VarId>, NoMemory>
-    ensures { IfOk result (λ copy. term_of copy ≡ term_of expr.now) }
-{
-    match expr {
-        Expr::Num(n) => Ok(Expr::Num(*n)),
-        Expr::Var(x) => Ok(Expr::Var(*x)),
-        Expr::Read(x, index) => Ok(Expr::Read(*x, boxed(alloc, copy_expr(alloc, index)?)?)),
-        Expr::Add(a, b) => Ok(Expr::Add(
-            boxed(alloc, copy_expr(alloc, a)?)?,
-            boxed(alloc, copy_expr(alloc, b)?)?,
-        )),
-        Expr::Sub(a, b) => Ok(Expr::Sub(
-            boxed(alloc, copy_expr(alloc, a)?)?,
-            boxed(alloc, copy_expr(alloc, b)?)?,
-        )),
-        Expr::Mul(a, b) => Ok(Expr::Mul(
-            boxed(alloc, copy_expr(alloc, a)?)?,
-            boxed(alloc, copy_expr(alloc, b)?)?,
-        )),
-        Expr::Div(a, b) => Ok(Expr::Div(
-            boxed(alloc, copy_expr(alloc, a)?)?,
-            boxed(alloc, copy_expr(alloc, b)?)?,
-        )),
-        Expr::Rem(a, b) => Ok(Expr::Rem(
-            boxed(alloc, copy_expr(alloc, a)?)?,
-            boxed(alloc, copy_expr(alloc, b)?)?,
-        )),
-        Expr::Neg(a) => Ok(Expr::Neg(boxed(alloc, copy_expr(alloc, a)?)?)),
-    }
 }

@@ -1,17 +1,22 @@
 //! Files and standard output of the system.
 ghost use Rattle.std.specs.Prelude.{◌≡◌, ◌+◌, ◌<◌, ◌≤◌, length, IfOk, IfSome};
 ghost use Rattle.std.specs.Result.{IfErr};
+ghost use Rattle.std.specs.Io.{ReadsAtMost};
+ghost use Rattle.std.specs.Io.KnownBytes.{ReadConsumes};
 ghost use Rattle.fs_base.specs.Outside.{LosesAtMost, WhereTooLong};
 
 use crate::outside::{Files, LoadError, Sink, SinkFailed, StoreError};
 use std::alloc::Global;
 use std::fs::File;
-use std::io::{Read, Write};
+use std::io::{ErrorKind, Read, Write};
 use std::marker::Model;
 use std::{fs, io, rt};
 
 // A file is read by parts of at most so many bytes.
 const PART: usize = 8192;
+
+// A read or a write that is interrupted is tried again, at most so many times in a row.
+const TRIES: u32 = 1_000;
 
 /// The files of the system, seen as the count of their failures. What they hold is untold.
 ///
@@ -53,9 +58,7 @@ fn read_within<S: Read>(alloc: Global, reader: &mut S, limit: u64) -> Result<Vec
     let mut part = [0; PART];
     while bytes.len() as u64 <= limit {
         let most = part_of(limit - bytes.len() as u64);
-        let Ok(count) = reader.read(&mut part[..most]) else {
-            return Err(LoadError::Failed);
-        };
+        let count = read_part(reader, &mut part[..most])?;
         if count == 0 {
             return Ok(bytes);
         }
@@ -64,6 +67,25 @@ fn read_within<S: Read>(alloc: Global, reader: &mut S, limit: u64) -> Result<Vec
         }
     }
     Err(LoadError::TooLong)
+}
+
+// Reads once, and again where the read was interrupted. A failure that stems from memory is no failure of the file.
+fn read_part<S: Read>(reader: &mut S, part: &mut [u8]) -> Result<usize, LoadError>
+    ensures bound { ReadsAtMost result part.new }
+    ensures bytes { ReadConsumes (S.remaining reader.old) (S.remaining reader.new) result part.new }
+    ensures not_too_long { IfErr result (WhereTooLong ⊥) }
+{
+    for _ in 0..TRIES {
+        match reader.read(part) {
+            Ok(count) => return Ok(count),
+            Err(error) => match error.kind() {
+                ErrorKind::Interrupted => {}
+                ErrorKind::OutOfMemory => return Err(LoadError::NoMemory),
+                _ => return Err(LoadError::Failed),
+            },
+        }
+    }
+    Err(LoadError::Failed)
 }
 
 // How many bytes to read where one more than `left` may be read.
@@ -91,6 +113,7 @@ impl<R: rt::Files> Files for DiskFiles<'_, R> {
     fn load(&mut self, alloc: Global, name: &str, limit: u64) -> Result<Vec<u8>, LoadError> {
         let loaded = match File::open(self.runtime, name) {
             Ok(mut file) => read_within(alloc, &mut file, limit),
+            Err(error) if error.kind() == ErrorKind::OutOfMemory => Err(LoadError::NoMemory),
             Err(_) => Err(LoadError::Failed),
         };
         if matches!(loaded, Err(LoadError::Failed)) {
@@ -108,6 +131,22 @@ impl<R: rt::Files> Files for DiskFiles<'_, R> {
             }
         }
     }
+}
+
+// Writes once, and again where the write was interrupted: how many bytes were taken, if any were.
+fn write_part<W: Write>(writer: &mut W, piece: &[u8]) -> Option<usize>
+    ensures within { IfSome result (λ taken. taken ≤ length piece.now) }
+    ensures some { IfSome result (λ taken. 0 < taken) }
+{
+    for _ in 0..TRIES {
+        match writer.write(piece) {
+            Ok(0) => return None,
+            Ok(taken) => return Some(taken),
+            Err(error) if error.kind() == ErrorKind::Interrupted => {}
+            Err(_) => return None,
+        }
+    }
+    None
 }
 
 /// Standard output, seen as the count of its failures. What it got, and the room that it has, are untold.
@@ -156,9 +195,9 @@ impl<R: Print> Sink for StdSink<'_, R> {
         if piece.is_empty() {
             return Ok(0);
         }
-        match io::writer(self.runtime).write(piece) {
-            Ok(taken) if 0 < taken => Ok(taken as u64),
-            _ => {
+        match write_part(&mut io::writer(self.runtime), piece) {
+            Some(taken) => Ok(taken as u64),
+            None => {
                 self.failures = self.failures.saturating_add(1);
                 Err(SinkFailed)
             }

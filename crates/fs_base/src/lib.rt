@@ -6,5 +6,3 @@ pub mod memory;
 pub mod outside;
 pub mod put_all;
 pub mod sinks;
-#[cfg(test)]
-mod tests;

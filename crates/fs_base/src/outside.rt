@@ -94,7 +94,8 @@ pub trait Sink {
 
     /// Takes some bytes from the front of a piece, and answers how many: at least one, if the piece is not empty.
     ///
-    /// `SinkFailed` where it takes none, and then the count of faults rose. It takes no memory.
+    /// `SinkFailed` where it takes nothing of a piece that is not empty, and then the count of faults rose. A piece that is
+    /// empty is answered `Ok(0)`. It takes no memory.
     fn put(&mut self, piece: &[u8]) -> Result<u64, SinkFailed>
         requires { HasRoom (spare self.old) (length piece.now) }
         ensures within { IfOk result (λ taken. taken ≤ length piece.now) }
@@ -102,6 +103,7 @@ pub trait Sink {
         ensures got { IfOk result (λ taken. got self.new ≡ appended (got self.old) (take taken piece.now)) }
         ensures spare { IfOk result (λ taken. spare self.new ≡ lowered (spare self.old) taken) }
         ensures failed { OnErr result (Rose (faults self.old) (faults self.new)) }
+        ensures empty { OnErr result (0 < length piece.now) }
         ensures got_nothing { OnErr result (got self.new ≡ got self.old) }
         ensures spare_stays { OnErr result (spare self.new ≡ spare self.old) }
         ensures counts { faults self.old ≤ faults self.new };

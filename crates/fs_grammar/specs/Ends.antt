@@ -64,11 +64,11 @@ IsNoBrace _ = Unit {0}
 abbrev pub IsLiteral : List Token → Type 0
 IsLiteral ts = IsNoBrace (kind_at ts)
 
--- a token with which a line begins
-abbrev pub begins_line : Option TokenKind → Bool
-begins_line (Some When) = true
-begins_line (Some Goto) = true
-begins_line _ = false
+-- a token with which a transition begins
+abbrev pub begins_transition : Option TokenKind → Bool
+begins_transition (Some When) = true
+begins_transition (Some Goto) = true
+begins_transition _ = false
 
 -- a name, and the tokens after it
 abbrev pub named : List Token → Option TokenKind → Result (List ℕ × List Token) TextFault

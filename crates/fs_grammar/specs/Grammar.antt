@@ -1,16 +1,20 @@
--- Reading a machine text token by token. A state is what has been read and what is still owed.
-use Rattle.std.specs.Prelude.{ℕ, zero, suc, ℤ, pos, List, [], ◌∷◌, ◌++◌, cond, Option, Some, None, Result, Ok, Err}
+-- Reading a machine text token by token. A parse state is what has been read and what is still expected.
+use Rattle.std.specs.Prelude.{ℕ, List, [], ◌∷◌, ◌++◌, cond, Option, Some, None, Result, Ok, Err}
 use Rattle.fs_model.specs.declared.parts.Rel.{Rel}
 use Rattle.fs_model.specs.declared.parts.Role.{Role}
+use Rattle.fs_model.specs.declared.parts.Role.TheVariants.{Output}
 use Rattle.fs_model.specs.declared.parts.Sort.TheVariants as sorts
 use Rattle.fs_model.specs.Terms.{Term, Variable, Read, Sum, Difference, Product, Quotient, Remainder, Negative, Guard, Test, Not, And, Or, Assignment, Assign, ArrayWrite}
 use Rattle.fs_model.specs.Terms as terms
 use Rattle.fs_model.specs.Source.{Declaration, SourceTransition, SourceState, Source}
 use Rattle.fs_grammar.specs.declared.fault.TextKind.TheVariants.{Operators}
 use Rattle.fs_grammar.specs.declared.fault.TextFault.{TextFault}
+use Rattle.fs_grammar.specs.declared.format.Format.{Format}
+use Rattle.fs_grammar.specs.declared.format.Format.TheVariants.{One, Two}
 use Rattle.fs_grammar.specs.declared.token.TokenKind.{TokenKind}
-use Rattle.fs_grammar.specs.declared.token.TokenKind.TheVariants.{Fsmd, Declare, Array, Reset, State, When, Goto, Name, Number, Semicolon, Colon, Comma, Equals, OpenParen, CloseParen, OpenBracket, CloseBracket, OpenBrace, CloseBrace, Plus, Minus, Star, Slash, Percent, Bang, AndAnd, OrOr, Relation, End}
+use Rattle.fs_grammar.specs.declared.token.TokenKind.TheVariants.{Fsmd, Declare, Array, Reset, State, When, Goto, Emit, Port, Name, Number, Semicolon, Colon, Comma, Equals, OpenParen, CloseParen, OpenBracket, CloseBracket, OpenBrace, CloseBrace, Plus, Minus, Star, Slash, Percent, Bang, AndAnd, OrOr, Relation, End}
 use Rattle.fs_grammar.specs.declared.token.Token.{Token}
+use Rattle.fs_grammar.specs.Formats.{format_of}
 use Rattle.fs_grammar.specs.Tokens.{refusal, fault_at}
 
 -- ---- what has been read
@@ -23,50 +27,53 @@ with_names d xs = record d { names = d.names ++ xs }
 abbrev pub with_states : Source → List SourceState → Source
 with_states s xs = record s { states = s.states ++ xs }
 
--- the states that were read, and the one that is being read
+-- the format, the states that were read, and the one that is being read
 pub record OpenState : Type 0 where
+  pub format : Format
   pub source : Source
   pub state : SourceState
 
--- more lines of the state that is being read
-abbrev pub with_lines : OpenState → List SourceTransition → OpenState
-with_lines d ls = record d { state = record d.state { lines = d.state.lines ++ ls } }
+-- more transitions of the state that is being read
+abbrev pub with_transitions : OpenState → List SourceTransition → OpenState
+with_transitions d ls = record d { state = record d.state { lines = d.state.lines ++ ls } }
 
 -- the source with the state that is being read
-abbrev pub drafted : OpenState → Source
-drafted d = with_states d.source (d.state ∷ [])
+abbrev pub with_open_state : OpenState → Source
+with_open_state d = with_states d.source (d.state ∷ [])
 
--- a line up to its target or its last assignment
+-- a transition up to its target or its last assignment
 pub record OpenTransition : Type 0 where
-  pub draft : OpenState
-  pub begins : ℕ
+  pub state : OpenState
+  pub line : ℕ
   pub guard : Option (Guard (List ℕ))
   pub target : List ℕ
   pub assignments : List (Assignment (List ℕ))
 
--- more assignments of the line that is being read
+-- more assignments of the transition that is being read
 abbrev pub with_assignments : OpenTransition → List (Assignment (List ℕ)) → OpenTransition
 with_assignments o xs = record o { assignments = o.assignments ++ xs }
 
--- the line that is being read, where it ends
-abbrev pub line_read : OpenTransition → SourceTransition
-line_read o = record { line = o.begins; content = record { guard = o.guard; target = o.target; assignments = o.assignments } }
+-- the transition that is being read, where it ends
+abbrev pub transition_read : OpenTransition → SourceTransition
+transition_read o = record { line = o.line; content = record { guard = o.guard; target = o.target; assignments = o.assignments } }
 
--- its state with the line that ends
+-- its state with the transition that ends
 abbrev pub closed : OpenTransition → OpenState
-closed o = with_lines o.draft (line_read o ∷ [])
+closed o = with_transitions o.state (transition_read o ∷ [])
 
--- what is assigned: a scalar, or an array at an index
+-- where a value goes: to a scalar, to an array at an index, or to a port
 pub data Destination : Type 0 where
   scalar : List ℕ → Destination
   element : List ℕ → (at : Term (List ℕ)) → Destination
+  port : List ℕ → Destination
 
--- a value is assigned
+-- a value is assigned or emitted
 abbrev pub assigned : Destination → Term (List ℕ) → Assignment (List ℕ)
 assigned (scalar x) e = Assign x e
 assigned (element x i) e = ArrayWrite x i e
+assigned (port x) e = terms.Emit x e
 
--- ---- what is still owed
+-- ---- what is still expected
 
 -- what a unit, a conjunction and a guard are read for
 mutual
@@ -81,7 +88,7 @@ mutual
 
   pub data GuardContext : Type 0 where
     braces : UnitContext → GuardContext
-    line : OpenState → ℕ → GuardContext
+    transition_guard : OpenState → ℕ → GuardContext
 
 -- what a factor, a product and a sum are read for
 mutual
@@ -89,7 +96,7 @@ mutual
     first_factor : ProductContext → FactorContext
     times : Term (List ℕ) → ProductContext → FactorContext
     divides : Term (List ℕ) → ProductContext → FactorContext
-    leaves : Term (List ℕ) → ProductContext → FactorContext
+    remainder_of : Term (List ℕ) → ProductContext → FactorContext
     negative : FactorContext → FactorContext
 
   pub data ProductContext : Type 0 where
@@ -102,27 +109,28 @@ mutual
     index : List ℕ → FactorContext → SumContext
     left : UnitContext → SumContext
     right : Rel → Term (List ℕ) → UnitContext → SumContext
-    place : OpenTransition → List ℕ → SumContext
+    write_index : OpenTransition → List ℕ → SumContext
     value : OpenTransition → Destination → SumContext
 
 -- a place between two tokens
 pub data ParseState : Type 0 where
   at_start : ParseState
-  at_one : ParseState
-  at_semicolon : ParseState
-  at_declaration : List Declaration → ParseState
-  at_sort : List Declaration → ℕ → Role → ParseState
-  at_declared : List Declaration → Declaration → ParseState
-  after_declared : List Declaration → Declaration → ParseState
-  at_reset : List Declaration → ℕ → ParseState
-  after_reset : Source → ParseState
-  at_state : Source → ParseState
-  at_state_name : Source → ℕ → ParseState
+  at_format : ParseState
+  at_semicolon : Format → ParseState
+  at_declaration : Format → List Declaration → ParseState
+  at_sort : Format → List Declaration → ℕ → Role → ParseState
+  at_declared : Format → List Declaration → Declaration → ParseState
+  after_declared : Format → List Declaration → Declaration → ParseState
+  at_reset : Format → List Declaration → ℕ → ParseState
+  after_reset : Format → Source → ParseState
+  at_state : Format → Source → ParseState
+  at_state_name : Format → Source → ℕ → ParseState
   after_state_name : OpenState → ParseState
-  at_line : OpenState → ParseState
+  at_transition : OpenState → ParseState
   at_target : OpenState → ℕ → Option (Guard (List ℕ)) → ParseState
   after_target : OpenTransition → ParseState
   at_assignment : OpenTransition → ParseState
+  at_port : OpenTransition → ParseState
   after_assignment_name : OpenTransition → List ℕ → ParseState
   at_equals : OpenTransition → Destination → ParseState
   at_unit : UnitContext → ParseState
@@ -146,7 +154,7 @@ abbrev pub factor_done : Term (List ℕ) → FactorContext → ParseState
 factor_done f (first_factor k) = after_product f k
 factor_done f (times p k) = after_product (Product p f) k
 factor_done f (divides p k) = after_product (Quotient p f) k
-factor_done f (leaves p k) = after_product (Remainder p f) k
+factor_done f (remainder_of p k) = after_product (Remainder p f) k
 factor_done f (negative k) = factor_done (Negative f) k
 
 -- a product has been read, and does not go on
@@ -187,7 +195,7 @@ step_unit t k = step_factor t (first_factor (first_product (left k)))
 abbrev pub step_guard : TokenKind → Guard (List ℕ) → GuardContext → Option ParseState
 step_guard OrOr g k = Some (at_unit (first_of_all (or_after g k)))
 step_guard CloseBrace g (braces k) = Some (unit_done g k)
-step_guard Goto g (line d n) = Some (at_target d n (Some g))
+step_guard Goto g (transition_guard d n) = Some (at_target d n (Some g))
 step_guard _ g k = None
 
 -- after a guard that may go on
@@ -209,10 +217,10 @@ step_sum Plus s k = Some (at_factor (first_factor (plus s k)))
 step_sum Minus s k = Some (at_factor (first_factor (minus s k)))
 step_sum CloseParen s (parens k) = Some (factor_done s k)
 step_sum CloseBracket s (index x k) = Some (factor_done (Read x s) k)
-step_sum CloseBracket s (place o x) = Some (at_equals o (element x s))
+step_sum CloseBracket s (write_index o x) = Some (at_equals o (element x s))
 step_sum (Relation r) s (left k) = Some (at_sum (right r s k))
 step_sum Comma s (value o d) = Some (at_assignment (with_assignments o (assigned d s ∷ [])))
-step_sum Semicolon s (value o d) = Some (at_line (closed (with_assignments o (assigned d s ∷ []))))
+step_sum Semicolon s (value o d) = Some (at_transition (closed (with_assignments o (assigned d s ∷ []))))
 step_sum t s (right r l k) = step_joined t (literal_done r l s k)
 step_sum _ s k = None
 
@@ -224,7 +232,7 @@ step_summed t _ = None
 abbrev pub step_product : TokenKind → Term (List ℕ) → ProductContext → Option ParseState
 step_product Star p k = Some (at_factor (times p k))
 step_product Slash p k = Some (at_factor (divides p k))
-step_product Percent p k = Some (at_factor (leaves p k))
+step_product Percent p k = Some (at_factor (remainder_of p k))
 step_product t p k = step_summed t (product_done p k)
 
 -- after a product that may go on
@@ -237,56 +245,65 @@ step_name OpenBracket x k = Some (at_sum (index x k))
 step_name t x k = step_multiplied t (factor_done (Variable x) k)
 
 -- n is the line of the token
-abbrev pub step_line : ℕ → TokenKind → OpenState → Option ParseState
-step_line n When d = Some (at_guard (line d n))
-step_line n Goto d = Some (at_target d n None)
-step_line n State d = Some (at_state_name (drafted d) n)
-step_line n _ d = None
+abbrev pub step_transition : ℕ → TokenKind → OpenState → Option ParseState
+step_transition n When d = Some (at_guard (transition_guard d n))
+step_transition n Goto d = Some (at_target d n None)
+step_transition n State d = Some (at_state_name d.format (with_open_state d) n)
+step_transition n _ d = None
 
--- the number after the first word is 1
-abbrev pub step_one : ℤ → Option ParseState
-step_one (pos (suc zero)) = Some at_semicolon
-step_one _ = None
+-- the number after the first word is one of a format
+abbrev pub step_format : Option Format → Option ParseState
+step_format None = None
+step_format (Some f) = Some (at_semicolon f)
+
+-- a token that can follow only in texts of format 2
+abbrev pub in_format_two : Format → ParseState → Option ParseState
+in_format_two One s = None
+in_format_two Two s = Some s
 
 -- what a token on line n leads to, or none where it cannot follow
 abbrev pub step : ParseState → ℕ → TokenKind → Option ParseState
-step at_start n Fsmd = Some at_one
+step at_start n Fsmd = Some at_format
 step at_start n _ = None
-step at_one n (Number k) = step_one k
-step at_one n _ = None
-step at_semicolon n Semicolon = Some (at_declaration [])
-step at_semicolon n _ = None
-step (at_declaration ds) n (Declare r) = Some (at_sort ds n r)
-step (at_declaration ds) n Reset = Some (at_reset ds n)
-step (at_declaration ds) n _ = None
-step (at_sort ds m r) n Array = Some (at_declared ds (record { line = m; role = r; sort = sorts.Array; names = [] }))
-step (at_sort ds m r) n (Name x) = Some (after_declared ds (record { line = m; role = r; sort = sorts.Scalar; names = x ∷ [] }))
-step (at_sort ds m r) n _ = None
-step (at_declared ds d) n (Name x) = Some (after_declared ds (with_names d (x ∷ [])))
-step (at_declared ds d) n _ = None
-step (after_declared ds d) n Comma = Some (at_declared ds d)
-step (after_declared ds d) n Semicolon = Some (at_declaration (ds ++ d ∷ []))
-step (after_declared ds d) n _ = None
-step (at_reset ds m) n (Name x) = Some (after_reset (record { declarations = ds; reset_line = m; reset = x; states = [] }))
-step (at_reset ds m) n _ = None
-step (after_reset s) n Semicolon = Some (at_state s)
-step (after_reset s) n _ = None
-step (at_state s) n State = Some (at_state_name s n)
-step (at_state s) n _ = None
-step (at_state_name s m) n (Name x) = Some (after_state_name (record { source = s; state = record { line = m; name = x; lines = [] } }))
-step (at_state_name s m) n _ = None
-step (after_state_name d) n Colon = Some (at_line d)
+step at_format n (Number k) = step_format (format_of k)
+step at_format n _ = None
+step (at_semicolon f) n Semicolon = Some (at_declaration f [])
+step (at_semicolon f) n _ = None
+step (at_declaration f ds) n (Declare r) = Some (at_sort f ds n r)
+step (at_declaration f ds) n Port = in_format_two f (at_declared f ds (record { line = n; role = Output; sort = sorts.Port; names = [] }))
+step (at_declaration f ds) n Reset = Some (at_reset f ds n)
+step (at_declaration f ds) n _ = None
+step (at_sort f ds m r) n Array = Some (at_declared f ds (record { line = m; role = r; sort = sorts.Array; names = [] }))
+step (at_sort f ds m r) n (Name x) = Some (after_declared f ds (record { line = m; role = r; sort = sorts.Scalar; names = x ∷ [] }))
+step (at_sort f ds m r) n _ = None
+step (at_declared f ds d) n (Name x) = Some (after_declared f ds (with_names d (x ∷ [])))
+step (at_declared f ds d) n _ = None
+step (after_declared f ds d) n Comma = Some (at_declared f ds d)
+step (after_declared f ds d) n Semicolon = Some (at_declaration f (ds ++ d ∷ []))
+step (after_declared f ds d) n _ = None
+step (at_reset f ds m) n (Name x) = Some (after_reset f (record { declarations = ds; reset_line = m; reset = x; states = [] }))
+step (at_reset f ds m) n _ = None
+step (after_reset f s) n Semicolon = Some (at_state f s)
+step (after_reset f s) n _ = None
+step (at_state f s) n State = Some (at_state_name f s n)
+step (at_state f s) n _ = None
+step (at_state_name f s m) n (Name x) = Some (after_state_name (record { format = f; source = s; state = record { line = m; name = x; lines = [] } }))
+step (at_state_name f s m) n _ = None
+step (after_state_name d) n Colon = Some (at_transition d)
 step (after_state_name d) n _ = None
-step (at_line d) n t = step_line n t d
-step (at_target d m g) n (Name x) = Some (after_target (record { draft = d; begins = m; guard = g; target = x; assignments = [] }))
+step (at_transition d) n t = step_transition n t d
+step (at_target d m g) n (Name x) = Some (after_target (record { state = d; line = m; guard = g; target = x; assignments = [] }))
 step (at_target d m g) n _ = None
 step (after_target o) n Colon = Some (at_assignment o)
-step (after_target o) n Semicolon = Some (at_line (closed o))
+step (after_target o) n Semicolon = Some (at_transition (closed o))
 step (after_target o) n _ = None
 step (at_assignment o) n (Name x) = Some (after_assignment_name o x)
+step (at_assignment o) n Emit = in_format_two o.state.format (at_port o)
 step (at_assignment o) n _ = None
+step (at_port o) n (Name x) = Some (at_sum (value o (port x)))
+step (at_port o) n _ = None
 step (after_assignment_name o x) n Equals = Some (at_sum (value o (scalar x)))
-step (after_assignment_name o x) n OpenBracket = Some (at_sum (place o x))
+step (after_assignment_name o x) n OpenBracket = Some (at_sum (write_index o x))
 step (after_assignment_name o x) n _ = None
 step (at_equals o d) n Equals = Some (at_sum (value o d))
 step (at_equals o d) n _ = None
@@ -300,8 +317,8 @@ step (after_sum s k) n t = step_sum t s k
 
 -- the source, where a text may end here
 abbrev pub finish : ParseState → Option Source
-finish (at_state s) = Some s
-finish (at_line d) = Some (drafted d)
+finish (at_state f s) = Some s
+finish (at_transition d) = Some (with_open_state d)
 finish _ = None
 
 -- the source at the end, or the fault at a token that cannot follow
@@ -309,7 +326,7 @@ abbrev pub stop : TokenKind → TextFault → Option Source → Result Source Te
 stop End f (Some s) = Ok s
 stop _ f _ = Err f
 
--- a token that can follow is taken where it is not over
+-- a token that can follow is taken where it is not past the limit
 abbrev pub next : Token → Option ParseState → (ParseState → Result Source TextFault) → Option Source → Result Source TextFault
 next t (Some s) go end = cond t.past_limit (Err (fault_at t Operators)) (go s)
 next t None go end = stop t.kind (refusal (t ∷ [])) end

@@ -1,3 +1,5 @@
 pub mod Tokens
+pub mod Operators
+pub mod Formats
 pub mod Grammar
 pub mod Ends

@@ -27,6 +27,8 @@ pub enum TextKind {
     Unexpected,
     /// The 129th operator or opening bracket of one guard or one assignment.
     Operators,
+    /// A block within 64 others; of the language of programs alone.
+    Nested,
     /// The bytes end where a text cannot.
     Ended,
 }
@@ -45,8 +47,8 @@ pub enum ReadError {
     /// The bytes spell no machine.
     #[error("the text is faulty at line {}, column {}", .0.line, .0.column)]
     Text(TextFault),
-    /// There is no memory.
-    #[error("there is no memory")]
+    /// Out of memory.
+    #[error("out of memory")]
     NoMemory,
 }
 

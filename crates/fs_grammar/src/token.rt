@@ -4,7 +4,7 @@ ghost use Rattle.std.specs.Prelude.{◌≡◌, ◌<◌, length, IfOk, option_cop
 ghost use Rattle.fs_grammar.specs.declared.fault.ReadError.TheVariants.{Text};
 ghost use Rattle.fs_grammar.specs.Tokens.{Gives, kind_at, line_at, fault_of, accepted, refusal};
 
-use crate::fault::{TextPlace, ReadError, TextFault, TextKind};
+use crate::fault::{ReadError, TextFault, TextKind, TextPlace};
 use fs_model::name::Name;
 use fs_model::parts::{Rel, Role};
 
@@ -44,6 +44,14 @@ pub enum TokenKind {
     Emit,
     /// `port`
     Port,
+    /// `prog`, of the language of programs alone
+    Prog,
+    /// `if`, of the language of programs alone
+    If,
+    /// `else`, of the language of programs alone
+    Else,
+    /// `while`, of the language of programs alone
+    While,
     Name(Name),
     Number(i128),
     /// `;`
@@ -90,8 +98,8 @@ pub enum TokenKind {
     End,
 }
 
-/// A token and the place of its first byte. It is over where it counts as an operator, and the
-/// guard or assignment that it stands in has 128 of them before it.
+/// A token and the place of its first byte. It is past the limit where it counts as an operator,
+/// and the guard or assignment that it stands in has 128 of them before it.
 #[derive(Drop)]
 pub struct Token {
     pub kind: TokenKind,
@@ -119,7 +127,8 @@ pub fn line_of(tokens: &[Token]) -> u32
     }
 }
 
-/// The tokens after the first, which can follow. The fault Operators where the first is over.
+/// The tokens after the first, which can follow. The fault Operators where the first is
+/// past the limit.
 pub fn accept(tokens: &[Token]) -> Result<&[Token], ReadError>
     ensures gives { Gives (λ r. r.now) result (accepted tokens.now) }
     ensures shorter { IfOk result (λ r. length r.now < length tokens.now) }

@@ -7,7 +7,7 @@ use Rattle.serde_json.specs.Data.{Data, Members, no_members, member}
 use Rattle.fs_runs.specs.declared.values.Entries.{Entries}
 use Rattle.fs_runs.specs.Values.{entry}
 use Rattle.fs_model.specs.Runs.{Inputs}
-use Rattle.fs_runs.specs.Given.{Face, face_sort, all_zero}
+use Rattle.fs_runs.specs.InputValues.{Signature, sort_named, all_zero}
 use Rattle.fs_inputs.specs.declared.numbers.Reading.TheVariants.{Number}
 use Rattle.fs_inputs.specs.Numbers.{number_in, reading}
 use Rattle.fs_inputs.specs.Files.{number_of, number_at, element_at, last, spells, are_numbers, all_fit, fits_if_any, fault_at, first_fault, inputs_in}
@@ -68,9 +68,9 @@ none_of : {A B : Type 0} (f : A → B) (o : Option A) (r : Option B) → option_
 none_of f None r e = (refl, e)
 none_of f (Some a) r e = cc
 
-pub first_fine : (faces : List Face) (name : List ℕ) (d : Data) (ms : Members) → first_fault faces (member name d ms) ≡ None
-    → (fault_at (face_sort faces name) d ≡ None) × (first_fault faces ms ≡ None)
-first_fine faces name d ms e = none_of (λ f. (name, f)) (fault_at (face_sort faces name) d) (first_fault faces ms) e
+pub first_fine : (signatures : List Signature) (name : List ℕ) (d : Data) (ms : Members) → first_fault signatures (member name d ms) ≡ None
+    → (fault_at (sort_named signatures name) d ≡ None) × (first_fault signatures ms ≡ None)
+first_fine signatures name d ms e = none_of (λ f. (name, f)) (fault_at (sort_named signatures name) d) (first_fault signatures ms) e
 
 pub over_none : (ins : Inputs) → ins ≡ inputs_over ins no_members
 over_none ins = inputs_ext _ _ (λ q. refl) (λ q i. refl)

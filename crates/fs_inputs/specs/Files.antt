@@ -6,9 +6,9 @@ use Rattle.std.specs.Str.{bytes_eq}
 use Rattle.serde_json.specs.Data.{Num, Data, Members, no_members, member}
 use Rattle.serde_json.specs.Find.{as_integer, as_number, as_str, as_object}
 use Rattle.fs_model.specs.declared.parts.Sort.{Sort}
-use Rattle.fs_model.specs.declared.parts.Sort.TheVariants.{Scalar, Array}
+use Rattle.fs_model.specs.declared.parts.Sort.TheVariants.{Scalar, Array, Port}
 use Rattle.fs_model.specs.Runs.{Inputs}
-use Rattle.fs_runs.specs.Given.{Face, face_sort}
+use Rattle.fs_runs.specs.InputValues.{Signature, sort_named}
 use Rattle.fs_inputs.specs.declared.faults.Fault.{Fault}
 use Rattle.fs_inputs.specs.declared.faults.Fault.TheVariants.{Shape, Unknown, TooBig}
 use Rattle.fs_inputs.specs.Numbers.{number_in, fits}
@@ -46,10 +46,11 @@ abbrev pub array_fault : Option Members → Option Fault
 array_fault None = Some Shape
 array_fault (Some ms) = cond (are_numbers ms) (cond (all_fit ms) None (Some TooBig)) (Some Shape)
 
--- what is wrong with the value of an input of a sort
+-- what is wrong with the value of an input of a sort; a port is no input
 abbrev pub value_fault : Sort → Data → Option Fault
 value_fault Scalar d = number_fault (number_of d)
 value_fault Array d = array_fault (as_object d)
+value_fault Port d = Some Unknown
 
 -- what is wrong with the value of a name of this sort, or of a name that no input has
 abbrev pub fault_at : Option Sort → Data → Option Fault
@@ -57,14 +58,14 @@ fault_at None d = Some Unknown
 fault_at (Some sort) d = value_fault sort d
 
 -- the first name with a fault, in the order of the members
-abbrev pub first_fault : List Face → Members → Option (List ℕ × Fault)
-first_fault faces no_members = None
-first_fault faces (member name d ms) = option_or (option_map (λ f. (name, f)) (fault_at (face_sort faces name) d)) (first_fault faces ms)
+abbrev pub first_fault : List Signature → Members → Option (List ℕ × Fault)
+first_fault signatures no_members = None
+first_fault signatures (member name d ms) = option_or (option_map (λ f. (name, f)) (fault_at (sort_named signatures name) d)) (first_fault signatures ms)
 
 -- what is wrong with a file: of no name where it is no object
-abbrev pub file_fault : List Face → Option Members → Option (List ℕ × Fault)
-file_fault faces None = Some ([], Shape)
-file_fault faces (Some ms) = first_fault faces ms
+abbrev pub file_fault : List Signature → Option Members → Option (List ℕ × Fault)
+file_fault signatures None = Some ([], Shape)
+file_fault signatures (Some ms) = first_fault signatures ms
 
 -- the value of the last member whose name passes a test
 abbrev pub last : (List ℕ → Bool) → Members → Option Data

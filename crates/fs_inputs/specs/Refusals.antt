@@ -4,7 +4,7 @@ use Rattle.serde_json.specs.Data.{Data, Members}
 use Rattle.serde_json.specs.Read.{read}
 use Rattle.serde_json.specs.Find.{as_object}
 use Rattle.fs_model.specs.Runs.{Inputs}
-use Rattle.fs_runs.specs.Given.{Face}
+use Rattle.fs_runs.specs.InputValues.{Signature}
 use Rattle.fs_inputs.specs.declared.faults.Fault.{Fault}
 use Rattle.fs_inputs.specs.declared.faults.Fault.TheVariants as faults
 use Rattle.fs_inputs.specs.declared.faults.InputError.{InputError}
@@ -17,33 +17,33 @@ pub record IsJson (bytes : List ℕ) (d : Data) : Type 0 where
   pub value : read bytes ≡ Some d
 
 -- a value is an object without fault, which spells these inputs
-pub record SpelledBy (faces : List Face) (d : Data) (ins : Inputs) : Type 0 where
+pub record SpelledBy (signatures : List Signature) (d : Data) (ins : Inputs) : Type 0 where
   pub members : Members
   pub object : as_object d ≡ Some members
-  pub faultless : first_fault faces members ≡ None
+  pub faultless : first_fault signatures members ≡ None
   pub inputs : ins ≡ inputs_in members
 
 -- the bytes are JSON of an object without fault, which spells these inputs
-pub record Spells (faces : List Face) (bytes : List ℕ) (ins : Inputs) : Type 0 where
+pub record Spells (signatures : List Signature) (bytes : List ℕ) (ins : Inputs) : Type 0 where
   pub value : Data
   pub json : IsJson bytes value
-  pub spelled : SpelledBy faces value ins
+  pub spelled : SpelledBy signatures value ins
 
 -- the bytes are JSON of a value whose first fault is this, at this name
-pub record IsFaulty (faces : List Face) (bytes name : List ℕ) (f : Fault) : Type 0 where
+pub record IsFaulty (signatures : List Signature) (bytes name : List ℕ) (f : Fault) : Type 0 where
   pub value : Data
   pub json : IsJson bytes value
-  pub first : file_fault faces (as_object value) ≡ Some (name, f)
+  pub first : file_fault signatures (as_object value) ≡ Some (name, f)
 
--- why bytes are refused; want of memory may come at any time
-abbrev pub IsRefused : List Face → List ℕ → InputError → Type 0
-IsRefused faces bytes NotJson = (d : Data) → ¬ IsJson bytes d
-IsRefused faces bytes (Shape name) = IsFaulty faces bytes (string_bytes name) faults.Shape
-IsRefused faces bytes (UnknownName name) = IsFaulty faces bytes (string_bytes name) faults.Unknown
-IsRefused faces bytes (NumberTooBig name) = IsFaulty faces bytes (string_bytes name) faults.TooBig
-IsRefused faces bytes NoMemory = Unit {0}
+-- why bytes are refused; out of memory may come at any time
+abbrev pub IsRefused : List Signature → List ℕ → InputError → Type 0
+IsRefused signatures bytes NotJson = (d : Data) → ¬ IsJson bytes d
+IsRefused signatures bytes (Shape name) = IsFaulty signatures bytes (string_bytes name) faults.Shape
+IsRefused signatures bytes (UnknownName name) = IsFaulty signatures bytes (string_bytes name) faults.Unknown
+IsRefused signatures bytes (NumberTooBig name) = IsFaulty signatures bytes (string_bytes name) faults.TooBig
+IsRefused signatures bytes NoMemory = Unit {0}
 
--- the refusal of bytes that are no JSON
+-- the refusal of bytes that are not JSON
 abbrev pub IsOfBytes : List ℕ → InputError → Type 0
 IsOfBytes bytes NotJson = (d : Data) → ¬ IsJson bytes d
 IsOfBytes bytes (Shape name) = ⊥

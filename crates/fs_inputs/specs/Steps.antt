@@ -6,7 +6,7 @@ use Rattle.fs_model.specs.Runs.{Inputs}
 use Rattle.fs_runs.specs.declared.values.Value.{Value}
 use Rattle.fs_runs.specs.declared.values.Entries.{Entries}
 use Rattle.fs_runs.specs.Values.{number_in as number_held, entry_in, entry}
-use Rattle.fs_runs.specs.Given.{Face}
+use Rattle.fs_runs.specs.InputValues.{Signature}
 use Rattle.fs_inputs.specs.declared.numbers.Reading.{Reading}
 use Rattle.fs_inputs.specs.declared.numbers.Reading.TheVariants.{NoNumber, TooBig, Number}
 use Rattle.fs_inputs.specs.Files.{number_at, element_at, last, spells}
@@ -28,7 +28,7 @@ is_within TooBig = false
 is_within (Number n) = true
 
 -- the place of a name, the first of several
-abbrev pub place_of : List Face → List ℕ → Option ℕ
+abbrev pub place_of : List Signature → List ℕ → Option ℕ
 place_of [] name = None
 place_of (f ∷ rest) name = cond (bytes_eq f.0 name) (Some 0) (option_map suc (place_of rest name))
 

@@ -10,7 +10,7 @@ use thiserror::Error;
 /// What is wrong at a name of a file.
 #[derive(Clone, Copy, Debug, PartialEq, Eq)]
 pub enum Fault {
-    /// The value has not the form of a value of the input's sort.
+    /// The value does not have the form of a value of the input's sort.
     Shape,
     /// No input has the name.
     Unknown,
@@ -21,10 +21,10 @@ pub enum Fault {
 /// Why a file of inputs is refused.
 #[derive(Debug, Drop, Error)]
 pub enum InputError {
-    /// The bytes are no text, or no JSON.
-    #[error("the inputs are no JSON")]
+    /// The bytes are not text, or not JSON.
+    #[error("the inputs are not JSON")]
     NotJson,
-    /// The value of a name has not the form that the input's sort asks for. No input has the empty
+    /// The value of a name does not have the form that the input's sort asks for. No input has the empty
     /// name: it stands here where the file is no object.
     #[error("the value of `{name}` has a wrong form")]
     Shape { name: String },

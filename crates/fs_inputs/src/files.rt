@@ -5,7 +5,7 @@ ghost use Rattle.std.specs.Option.{option_map};
 ghost use Rattle.std.specs.Str.{bytes_eq};
 ghost use Rattle.serde_json.specs.View.{view, members_view};
 ghost use Rattle.serde_json.specs.Find.{as_object};
-ghost use Rattle.fs_runs.specs.Given.{inputs_of, given_values, faces_of, input_faces, face_sort, Serves};
+ghost use Rattle.fs_runs.specs.InputValues.{inputs_of, input_values, signatures_of, input_signatures, sort_named, Serves};
 ghost use Rattle.fs_inputs.specs.Files.{first_fault, file_fault, fault_at, value_fault, inputs_in};
 ghost use Rattle.fs_inputs.specs.Steps.{place_of, IsGivenAt, Gives, inputs_over};
 ghost use Rattle.fs_inputs.specs.Refusals.{IsJson, SpelledBy, Spells, IsRefused, IsOfBytes, IsOfFault};
@@ -19,17 +19,17 @@ use fs_runs::inputs::Inputs;
 use serde_json::{Map, Value};
 use std::alloc::Global;
 
-/// Whether a variable has the name.
+// Whether a variable has the name.
 fn is_named(var: &VarInfo, name: &[u8]) -> bool
     ensures { result ≡ bytes_eq var.now.name name.now }
 {
     var.name.bytes() == name
 }
 
-/// The place of the input of a name, counted in order of declaration from 0, and its sort.
+// The place of the input of a name, counted in order of declaration from 0, and its sort.
 fn input_at(m: &Machine, name: &[u8]) -> Option<(u32, Sort)>
-    ensures place { option_map (λ p. p.0) result ≡ place_of (input_faces m.now.variables) name.now }
-    ensures sort { option_map (λ p. p.1) result ≡ face_sort (input_faces m.now.variables) name.now }
+    ensures place { option_map (λ p. p.0) result ≡ place_of (input_signatures m.now.variables) name.now }
+    ensures sort { option_map (λ p. p.1) result ≡ sort_named (input_signatures m.now.variables) name.now }
 {
     let mut place = 0u32;
     for var in m.vars() {
@@ -43,9 +43,9 @@ fn input_at(m: &Machine, name: &[u8]) -> Option<(u32, Sort)>
     None
 }
 
-/// What is wrong with the value of a name, or with the name.
+// What is wrong with the value of a name, or with the name.
 fn fault_at(m: &Machine, name: &String, value: &Value) -> Option<Fault>
-    ensures { result ≡ fault_at (face_sort (input_faces m.now.variables) (string_bytes name.now)) (view value.now) }
+    ensures { result ≡ fault_at (sort_named (input_signatures m.now.variables) (string_bytes name.now)) (view value.now) }
 {
     match input_at(m, name.as_bytes()) {
         Some((_, sort)) => value_fault(sort, value),
@@ -53,9 +53,9 @@ fn fault_at(m: &Machine, name: &String, value: &Value) -> Option<Fault>
     }
 }
 
-/// The first name with a fault, in the order of the members.
+// The first name with a fault, in the order of the members.
 fn first_fault<'a>(m: &Machine, members: &'a Map<String, Value>) -> Option<(&'a String, Fault)>
-    ensures { option_map (λ p. (string_bytes p.0.now, p.1)) result ≡ first_fault (input_faces m.now.variables) (members_view members.now.entries) }
+    ensures { option_map (λ p. (string_bytes p.0.now, p.1)) result ≡ first_fault (input_signatures m.now.variables) (members_view members.now.entries) }
 {
     for (name, value) in members.iter() {
         if let Some(fault) = fault_at(m, name, value) {
@@ -65,7 +65,7 @@ fn first_fault<'a>(m: &Machine, members: &'a Map<String, Value>) -> Option<(&'a 
     None
 }
 
-/// The refusal for a fault at a name.
+// The refusal for a fault at a name.
 fn refusal(name: String, fault: Fault) -> InputError
     ensures { IsOfFault (Some (string_bytes name, fault)) result }
 {
@@ -76,7 +76,7 @@ fn refusal(name: String, fault: Fault) -> InputError
     }
 }
 
-/// Gives the input at a place a value.
+// Gives the input at a place a value.
 fn give_at(
     alloc: Global,
     inputs: &mut Inputs,
@@ -85,15 +85,15 @@ fn give_at(
     value: &Value,
 ) -> Result<(), NoMemory>
     requires fine { value_fault sort (view value.now) ≡ None }
-    requires sort { option_map (λ f. f.1) (slice_get (faces_of inputs.old) place) ≡ Some sort }
-    ensures given { OnOk result (IsGivenAt (given_values inputs.old) (given_values inputs.new) place (view value.now)) }
-    ensures faces { faces_of inputs.new ≡ faces_of inputs.old }
+    requires sort { option_map (λ f. f.1) (slice_get (signatures_of inputs.old) place) ≡ Some sort }
+    ensures given { OnOk result (IsGivenAt (input_values inputs.old) (input_values inputs.new) place (view value.now)) }
+    ensures signatures { signatures_of inputs.new ≡ signatures_of inputs.old }
 {
     let held = value_for(alloc, sort, value)?;
     inputs.set(alloc, place, held)
 }
 
-/// Gives the input of a name what a value spells.
+// Gives the input of a name what a value spells.
 fn give(
     alloc: Global,
     m: &Machine,
@@ -101,10 +101,10 @@ fn give(
     name: &String,
     value: &Value,
 ) -> Result<(), NoMemory>
-    requires faces { faces_of inputs.old ≡ input_faces m.now.variables }
-    requires fine { fault_at (face_sort (input_faces m.now.variables) (string_bytes name.now)) (view value.now) ≡ None }
+    requires signatures { signatures_of inputs.old ≡ input_signatures m.now.variables }
+    requires fine { fault_at (sort_named (input_signatures m.now.variables) (string_bytes name.now)) (view value.now) ≡ None }
     ensures given { OnOk result (Gives (string_bytes name.now) (view value.now) (inputs_of inputs.old) (inputs_of inputs.new)) }
-    ensures faces { faces_of inputs.new ≡ faces_of inputs.old }
+    ensures signatures { signatures_of inputs.new ≡ signatures_of inputs.old }
 {
     match input_at(m, name.as_bytes()) {
         Some((place, sort)) => give_at(alloc, inputs, place, sort, value),
@@ -112,17 +112,17 @@ fn give(
     }
 }
 
-/// Gives each input that an object names what its value spells.
+// Gives each input that an object names what its value spells.
 fn give_all(
     alloc: Global,
     m: &Machine,
     inputs: &mut Inputs,
     members: &Map<String, Value>,
 ) -> Result<(), NoMemory>
-    requires faces { faces_of inputs.old ≡ input_faces m.now.variables }
-    requires fine { first_fault (input_faces m.now.variables) (members_view members.now.entries) ≡ None }
+    requires signatures { signatures_of inputs.old ≡ input_signatures m.now.variables }
+    requires fine { first_fault (input_signatures m.now.variables) (members_view members.now.entries) ≡ None }
     ensures given { OnOk result (inputs_of inputs.new ≡ inputs_over (inputs_of inputs.old) (members_view members.now.entries)) }
-    ensures faces { faces_of inputs.new ≡ faces_of inputs.old }
+    ensures signatures { signatures_of inputs.new ≡ signatures_of inputs.old }
 {
     for (name, value) in members.iter() {
         give(alloc, m, inputs, name, value)?;
@@ -130,28 +130,28 @@ fn give_all(
     Ok(())
 }
 
-/// The inputs that an object without fault spells.
+// The inputs that an object without fault spells.
 fn spelled_inputs(
     alloc: Global,
     m: &Machine,
     members: &Map<String, Value>,
 ) -> Result<Inputs, NoMemory>
-    requires { first_fault (input_faces m.now.variables) (members_view members.now.entries) ≡ None }
+    requires { first_fault (input_signatures m.now.variables) (members_view members.now.entries) ≡ None }
     ensures inputs { IfOk result (λ ins. inputs_of ins ≡ inputs_in (members_view members.now.entries)) }
-    ensures faces { IfOk result (λ ins. faces_of ins ≡ input_faces m.now.variables) }
-    ensures serves { IfOk result (λ ins. Serves (faces_of ins) m.now) }
+    ensures signatures { IfOk result (λ ins. signatures_of ins ≡ input_signatures m.now.variables) }
+    ensures serves { IfOk result (λ ins. Serves (signatures_of ins) m.now) }
 {
     let mut inputs = Inputs::zero(alloc, m)?;
     give_all(alloc, m, &mut inputs, members)?;
     Ok(inputs)
 }
 
-/// The inputs that a JSON value spells.
+// The inputs that a JSON value spells.
 fn read_object(alloc: Global, m: &Machine, value: &Value) -> Result<Inputs, InputError>
-    ensures spelled { IfOk result (λ ins. SpelledBy (input_faces m.now.variables) (view value.now) (inputs_of ins)) }
-    ensures faces { IfOk result (λ ins. faces_of ins ≡ input_faces m.now.variables) }
-    ensures serves { IfOk result (λ ins. Serves (faces_of ins) m.now) }
-    ensures refused { IfErr result (λ e. IsOfFault (file_fault (input_faces m.now.variables) (as_object (view value.now))) e) }
+    ensures spelled { IfOk result (λ ins. SpelledBy (input_signatures m.now.variables) (view value.now) (inputs_of ins)) }
+    ensures signatures { IfOk result (λ ins. signatures_of ins ≡ input_signatures m.now.variables) }
+    ensures serves { IfOk result (λ ins. Serves (signatures_of ins) m.now) }
+    ensures refused { IfErr result (λ e. IsOfFault (file_fault (input_signatures m.now.variables) (as_object (view value.now))) e) }
 {
     let Some(members) = value.as_object() else {
         return Err(InputError::Shape {
@@ -164,7 +164,7 @@ fn read_object(alloc: Global, m: &Machine, value: &Value) -> Result<Inputs, Inpu
     Ok(spelled_inputs(alloc, m, members)?)
 }
 
-/// The value that bytes are as JSON.
+// The value that bytes are as JSON.
 fn parse(alloc: Global, bytes: &[u8]) -> Result<Value, InputError>
     ensures json { IfOk result (λ v. IsJson bytes.now (view v)) }
     ensures refused { IfErr result (λ e. IsOfBytes bytes.now e) }
@@ -181,18 +181,18 @@ fn parse(alloc: Global, bytes: &[u8]) -> Result<Value, InputError>
 
 /// Reads a file of inputs for a machine, in time linear in the file.
 ///
-/// `NotJson` comes exactly where the bytes are no UTF-8 text, or are not JSON as `serde_json` reads
+/// `NotJson` comes exactly when the bytes are not UTF-8 text, or are not JSON as `serde_json` reads
 /// it: at most 127 levels deep, no number past the floats, no lone surrogate. Else `Shape` with the
 /// empty name comes where the file is no object. Else the names are looked at in the order of their
 /// bytes, and the first that has a fault is refused: with `UnknownName` where no input has it, with
-/// `Shape` where its value has not the form that the input's sort asks for (for an array all names
+/// `Shape` where its value does not have the form that the input's sort asks for (for an array all names
 /// and values are looked at), with `NumberTooBig` where a number of it lies outside 128 bits. Of equal
 /// names the last counts. `NoMemory` may come at any time.
 pub fn read_inputs(alloc: Global, bytes: &[u8], m: &Machine) -> Result<Inputs, InputError>
-    ensures spelled { IfOk result (λ ins. Spells (input_faces m.now.variables) bytes.now (inputs_of ins)) }
-    ensures refused { IfErr result (λ e. IsRefused (input_faces m.now.variables) bytes.now e) }
-    ensures faces { IfOk result (λ ins. faces_of ins ≡ input_faces m.now.variables) }
-    ensures serves { IfOk result (λ ins. Serves (faces_of ins) m.now) }
+    ensures spelled { IfOk result (λ ins. Spells (input_signatures m.now.variables) bytes.now (inputs_of ins)) }
+    ensures refused { IfErr result (λ e. IsRefused (input_signatures m.now.variables) bytes.now e) }
+    ensures signatures { IfOk result (λ ins. signatures_of ins ≡ input_signatures m.now.variables) }
+    ensures serves { IfOk result (λ ins. Serves (signatures_of ins) m.now) }
 {
     let value = parse(alloc, bytes)?;
     read_object(alloc, m, &value)

@@ -9,8 +9,6 @@ mod faults;
 mod files;
 mod laws;
 mod numbers;
-#[cfg(test)]
-mod tests;
 mod values;
 
 pub use faults::{Fault, InputError};

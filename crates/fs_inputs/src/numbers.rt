@@ -19,7 +19,7 @@ pub enum Reading {
     Number(i128),
 }
 
-/// The number of digits, and none exactly where it is above 2^127.
+// The number of digits, and `None` exactly when it is above 2^127.
 fn magnitude(bytes: &[u8]) -> Option<u128>
     ensures { SomeIff result (decimal bytes.now ≤ 2 ^ 127) (decimal bytes.now) }
 {
@@ -68,7 +68,7 @@ fn are_digits(bytes: &[u8]) -> bool
     bytes.iter().all(|b| is_digit(*b))
 }
 
-/// Whether bytes are decimal digits of which the first is not 0.
+// Whether bytes are decimal digits of which the first is not 0.
 fn is_positive(bytes: &[u8]) -> bool
     ensures { result ≡ is_positive bytes.now }
 {
@@ -78,7 +78,7 @@ fn is_positive(bytes: &[u8]) -> bool
     }
 }
 
-/// Whether bytes are decimal digits without a needless zero.
+// Whether bytes are decimal digits without a needless zero.
 fn is_natural(bytes: &[u8]) -> bool
     ensures { result ≡ is_natural bytes.now }
 {

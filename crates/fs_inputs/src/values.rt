@@ -26,7 +26,7 @@ fn read_whole(number: &Number) -> Reading
     }
 }
 
-/// The number that a value spells.
+// The number that a value spells.
 fn read_value(value: &Value) -> Reading
     ensures { result ≡ reading (number_of (view value.now)) }
 {
@@ -39,7 +39,7 @@ fn read_value(value: &Value) -> Reading
     }
 }
 
-/// What is wrong with a scalar's value.
+// What is wrong with a scalar's value.
 fn scalar_fault(value: &Value) -> Option<Fault>
     ensures { result ≡ number_fault (number_of (view value.now)) }
 {
@@ -50,7 +50,7 @@ fn scalar_fault(value: &Value) -> Option<Fault>
     }
 }
 
-/// Whether a name and its value spell numbers.
+// Whether a name and its value spell numbers.
 #[tactic(auto, using(crate::proofs::Readings::reads_any))]
 fn is_entry(name: &String, value: &Value) -> bool
     ensures { result ≡ (is_some (number_in (string_bytes name.now)) && is_some (number_of (view value.now))) }
@@ -58,7 +58,7 @@ fn is_entry(name: &String, value: &Value) -> bool
     read_number(name.as_bytes()).is_any() && read_value(value).is_any()
 }
 
-/// Whether each name and each value spells a number.
+// Whether each name and each value spells a number.
 fn are_numbers(members: &Map<String, Value>) -> bool
     ensures { result ≡ are_numbers (members_view members.now.entries) }
 {
@@ -70,7 +70,7 @@ fn are_numbers(members: &Map<String, Value>) -> bool
     true
 }
 
-/// Whether neither a name nor its value spells a number outside 128 bits.
+// Whether neither a name nor its value spells a number outside 128 bits.
 #[tactic(auto, using(crate::proofs::Readings::reads_within))]
 fn fits(name: &String, value: &Value) -> bool
     ensures { result ≡ (fits_if_any (number_in (string_bytes name.now)) && fits_if_any (number_of (view value.now))) }
@@ -78,7 +78,7 @@ fn fits(name: &String, value: &Value) -> bool
     read_number(name.as_bytes()).is_within() && read_value(value).is_within()
 }
 
-/// Whether no name and no value spells a number outside 128 bits.
+// Whether no name and no value spells a number outside 128 bits.
 fn all_fit(members: &Map<String, Value>) -> bool
     ensures { result ≡ all_fit (members_view members.now.entries) }
 {
@@ -90,7 +90,7 @@ fn all_fit(members: &Map<String, Value>) -> bool
     true
 }
 
-/// What is wrong with an array's value.
+// What is wrong with an array's value.
 fn array_fault(value: &Value) -> Option<Fault>
     ensures { result ≡ array_fault (as_object (view value.now)) }
 {
@@ -106,17 +106,18 @@ fn array_fault(value: &Value) -> Option<Fault>
     }
 }
 
-/// What is wrong with the value of an input of a sort.
+/// What is wrong with the value of an input of a sort. A port is no input.
 pub fn value_fault(sort: Sort, value: &Value) -> Option<Fault>
     ensures { result ≡ value_fault sort (view value.now) }
 {
     match sort {
         Sort::Scalar => scalar_fault(value),
         Sort::Array => array_fault(value),
+        Sort::Port => Some(Fault::Unknown),
     }
 }
 
-/// Puts the number that a value spells at the index that its name spells.
+// Puts the number that a value spells at the index that its name spells.
 fn put(entries: &mut Entries, name: &String, value: &Value) -> Result<(), NoMemory>
     requires index { is_number (reading (number_in (string_bytes name.now))) ≡ true }
     requires number { is_number (reading (number_of (view value.now))) ≡ true }
@@ -127,7 +128,7 @@ fn put(entries: &mut Entries, name: &String, value: &Value) -> Result<(), NoMemo
     entries.set(i, v)
 }
 
-/// The entries that an object spells.
+// The entries that an object spells.
 fn entries_of(alloc: Global, members: &Map<String, Value>) -> Result<Entries, NoMemory>
     requires numbers { are_numbers (members_view members.now.entries) ≡ true }
     requires size { all_fit (members_view members.now.entries) ≡ true }
@@ -160,5 +161,6 @@ pub fn value_for(alloc: Global, sort: Sort, value: &Value) -> Result<Held, NoMem
     match sort {
         Sort::Scalar => Ok(Held::Num(read_value(value).number())),
         Sort::Array => array_value(alloc, value),
+        Sort::Port => unreachable!(),
     }
 }

@@ -3,8 +3,8 @@ use Rattle.std.proofs.Common.{◌≡◌, ℕ, zero, suc, false, ◌-◌, ◌<◌
 use Rattle.fs_grammar.specs.declared.fault.TextPlace.{TextPlace}
 use Rattle.fs_grammar.specs.declared.token.TokenKind.{TokenKind}
 use Rattle.fs_grammar.specs.declared.token.Token.{Token}
-use Rattle.fs_lex.specs.declared.Lexeme.{Lexeme}
-use Rattle.fs_lex.specs.declared.Lexeme.TheVariants as lexemes
+use Rattle.fs_lex.specs.declared.lexemes.Lexeme.{Lexeme}
+use Rattle.fs_lex.specs.declared.lexemes.Lexeme.TheVariants as lexemes
 use Rattle.fs_lex.specs.Lexemes.{lexeme_of}
 use Rattle.fs_lex.specs.Scan.{after, moved, scan, emitted, is_past_limit, is_bad, counted}
 

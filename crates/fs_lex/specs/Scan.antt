@@ -1,11 +1,13 @@
 -- The tokens of a text, with their places.
 use Rattle.std.specs.Prelude.{ℕ, zero, suc, ◌+◌, ◌-◌, Bool, true, false, cond, ◌&&◌, ◌==◌, nat_le, List, [], ◌∷◌}
+use Rattle.fs_model.specs.Limits.{most_operators}
 use Rattle.fs_grammar.specs.declared.fault.TextPlace.{TextPlace}
 use Rattle.fs_grammar.specs.declared.token.TokenKind.{TokenKind}
-use Rattle.fs_grammar.specs.declared.token.TokenKind.TheVariants.{When, Colon, Comma, OpenParen, OpenBracket, OpenBrace, Plus, Minus, Star, Slash, Percent, Bang, AndAnd, OrOr, Relation, Bad, End}
+use Rattle.fs_grammar.specs.declared.token.TokenKind.TheVariants.{Bad, End}
 use Rattle.fs_grammar.specs.declared.token.Token.{Token}
-use Rattle.fs_lex.specs.declared.Lexeme.{Lexeme}
-use Rattle.fs_lex.specs.declared.Lexeme.TheVariants as lexemes
+use Rattle.fs_grammar.specs.Operators.{is_operator, starts_expression}
+use Rattle.fs_lex.specs.declared.lexemes.Lexeme.{Lexeme}
+use Rattle.fs_lex.specs.declared.lexemes.Lexeme.TheVariants as lexemes
 use Rattle.fs_lex.specs.Lexemes.{lexeme_of}
 
 -- the place after a byte
@@ -17,36 +19,13 @@ abbrev pub moved : TextPlace → List ℕ → TextPlace
 moved p [] = p
 moved p (b ∷ bs) = moved (after p b) bs
 
--- the operators and opening brackets, of which a guard or an assignment has at most 128
-abbrev pub is_operator : TokenKind → Bool
-is_operator Plus = true
-is_operator Minus = true
-is_operator Star = true
-is_operator Slash = true
-is_operator Percent = true
-is_operator OpenParen = true
-is_operator OpenBracket = true
-is_operator OpenBrace = true
-is_operator Bang = true
-is_operator AndAnd = true
-is_operator OrOr = true
-is_operator (Relation r) = true
-is_operator _ = false
-
--- a guard or an assignment begins after it
-abbrev pub starts_expression : TokenKind → Bool
-starts_expression When = true
-starts_expression Colon = true
-starts_expression Comma = true
-starts_expression _ = false
-
 -- how many operators the guard or assignment has up to the token, where n stand before the token
 abbrev pub counted : TokenKind → ℕ → ℕ
 counted t n = cond (starts_expression t) 0 (cond (is_operator t) (n + 1) n)
 
--- an operator after 128 others
+-- an operator after as many as there may be
 abbrev pub is_past_limit : TokenKind → ℕ → Bool
-is_past_limit t n = is_operator t && nat_le 128 n
+is_past_limit t n = is_operator t && nat_le most_operators n
 
 abbrev pub is_bad : TokenKind → Bool
 is_bad (Bad flaw) = true

@@ -1,7 +1,6 @@
 -- In each store exactly one leaf of a tree is open.
 use Rattle.std.proofs.Common.{◌≡◌, ℕ, List, [], ◌∷◌, ◌++◌, refl, ◌∙◌, ap, ap₂, append-nil, arith}
 use Rattle.std.specs.Prelude.{Bool, true, false, not, ◌&&◌, cond, Option, Some, None, option_map, ℤ}
-use Rattle.std.specs.List.{list_all}
 use Rattle.std.specs.Option.{option_to_list}
 use Rattle.std.proofs.lemmas.List.Folds.{list_all-append}
 use Rattle.fs_model.specs.declared.parts.Rel.{Rel}
@@ -9,9 +8,9 @@ use Rattle.fs_model.specs.declared.parts.Rel.TheVariants.{Eq, Ne, Lt, Le, Gt, Ge
 use Rattle.fs_model.specs.Terms.{Literal, Guard, Test, Not, And, Or, Transition}
 use Rattle.fs_model.specs.Stores.{Store}
 use Rattle.fs_model.specs.Meaning.{value, relates, literal_holds, holds, condition_holds, transition_taken}
-use Rattle.fs_model.specs.Trees.{Tree, Empty, Leaf, Node, Branch, Effect, tree_of_guard, tree_of_condition, tree_of_transitions, opposite, negated, leaves, branches_of, effects_open, effect_taken}
+use Rattle.fs_model.specs.Trees.{Tree, Empty, Leaf, Node, Branch, literals_hold, Effect, tree_of_guard, tree_of_condition, tree_of_transitions, opposite, negated, leaves, branches_of, effects_open, effect_taken}
 
-opposite_relates : (r : Rel) (a b : ℤ) → relates (opposite r) a b ≡ not (relates r a b)
+pub opposite_relates : (r : Rel) (a b : ℤ) → relates (opposite r) a b ≡ not (relates r a b)
 opposite_relates Eq a b = refl
 opposite_relates Ne a b = grind arith
 opposite_relates Lt a b = refl
@@ -20,7 +19,7 @@ opposite_relates Gt a b = refl
 opposite_relates Ge a b = grind arith
 
 -- a literal or its opposite holds, and not both
-opposite_holds : (l : Literal ℕ) (s : Store) → literal_holds (negated l) s ≡ not (literal_holds l s)
+pub opposite_holds : (l : Literal ℕ) (s : Store) → literal_holds (negated l) s ≡ not (literal_holds l s)
 opposite_holds l s = opposite_relates l.relation (value l.left s) (value l.right s)
 
 -- what is done at the leaf that a store comes to
@@ -59,18 +58,14 @@ joined : (p h l r : Bool) (a b : Option Effect) → l ≡ (p && (h && true)) →
     → cond l (option_to_list a) [] ++ cond r (option_to_list b) [] ≡ cond p (option_to_list (cond h a b)) []
 joined p h l r a b e f = grind (arith, e, f, append-nil {A = Effect})
 
--- whether all literals of a way hold
-abbrev pub all_hold : List (Literal ℕ) → Store → Bool
-all_hold ls s = list_all (λ l. literal_holds l s) ls
-
 -- where the way so far is open, the leaves below give the one that the store comes to
-below : (t : Tree) (way : List (Literal ℕ)) (s : Store) → effects_open (leaves t way) s ≡ cond (all_hold way s) (option_to_list (reached t s)) []
+below : (t : Tree) (way : List (Literal ℕ)) (s : Store) → effects_open (leaves t way) s ≡ cond (literals_hold way s) (option_to_list (reached t s)) []
 below Empty way s = grind arith
 below (Leaf assignments target) way s = grind arith
 below (Node l y n) way s =
     effects_open-append (leaves y (way ++ l ∷ [])) (leaves n (way ++ negated l ∷ [])) s
     ∙ ap₂ (λ u v. u ++ v) (below y (way ++ l ∷ []) s) (below n (way ++ negated l ∷ []) s)
-    ∙ joined (all_hold way s) (literal_holds l s) _ _ (reached y s) (reached n s) (list_all-append (λ k. literal_holds k s) way (l ∷ [])) (list_all-append (λ k. literal_holds k s) way (negated l ∷ []) ∙ ap (λ z. all_hold way s && (z && true)) (opposite_holds l s))
+    ∙ joined (literals_hold way s) (literal_holds l s) _ _ (reached y s) (reached n s) (list_all-append (λ k. literal_holds k s) way (l ∷ [])) (list_all-append (λ k. literal_holds k s) way (negated l ∷ []) ∙ ap (λ z. literals_hold way s && (z && true)) (opposite_holds l s))
 
 pub one_leaf_open : (ls : List (Transition ℕ ℕ)) (s : Store) → effects_open (branches_of ls) s ≡ option_to_list (effect_taken ls s)
 one_leaf_open ls s = below (tree_of_transitions ls) [] s ∙ ap option_to_list (reached-lines ls s)

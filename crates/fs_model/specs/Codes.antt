@@ -7,9 +7,9 @@ use Rattle.fs_model.specs.declared.parts.Rel.TheVariants.{Eq, Ne, Lt, Le, Gt, Ge
 use Rattle.fs_model.specs.declared.parts.Role.{Role}
 use Rattle.fs_model.specs.declared.parts.Role.TheVariants.{Input, Output, Local}
 use Rattle.fs_model.specs.declared.parts.Sort.{Sort}
-use Rattle.fs_model.specs.declared.parts.Sort.TheVariants.{Scalar, Array}
+use Rattle.fs_model.specs.declared.parts.Sort.TheVariants.{Scalar, Array, Port}
 use Rattle.fs_model.specs.declared.parts.VarInfo.{VarInfo}
-use Rattle.fs_model.specs.Terms.{Term, Number, Variable, Read, Sum, Difference, Product, Quotient, Remainder, Negative, Literal, Guard, Test, Not, And, Or, Assignment, Assign, ArrayWrite, Transition}
+use Rattle.fs_model.specs.Terms.{Term, Number, Variable, Read, Sum, Difference, Product, Quotient, Remainder, Negative, Literal, Guard, Test, Not, And, Or, Assignment, Assign, ArrayWrite, Emit, Transition}
 use Rattle.fs_model.specs.Machines.{State, Fsmd}
 
 abbrev pub code_rel : Rel → Gv
@@ -83,12 +83,18 @@ coded_role = record { code = code_role; inj = inj_role }
 abbrev pub code_sort : Sort → Gv
 code_sort Scalar = gnum 0
 code_sort Array = gnum 1
+code_sort Port = gnum 2
 
 pub inj_sort : (x y : Sort) → code_sort x ≡ code_sort y → x ≡ y
 inj_sort Scalar Scalar e = refl
 inj_sort Scalar Array e = cc
+inj_sort Scalar Port e = cc
 inj_sort Array Scalar e = cc
 inj_sort Array Array e = refl
+inj_sort Array Port e = cc
+inj_sort Port Scalar e = cc
+inj_sort Port Array e = cc
+inj_sort Port Port e = refl
 
 abbrev pub coded_sort : Coded Sort
 coded_sort = record { code = code_sort; inj = inj_sort }
@@ -240,12 +246,18 @@ coded_guard = record { code = code_guard; inj = inj_guard }
 abbrev pub code_assignment : Assignment ℕ → Gv
 code_assignment (Assign x0 x1) = gcons (gnum 0) ((gcons (gnum x0) (code_term x1)))
 code_assignment (ArrayWrite x0 x1 x2) = gcons (gnum 1) ((gcons (gnum x0) ((gcons (code_term x1) (code_term x2)))))
+code_assignment (Emit x0 x1) = gcons (gnum 2) ((gcons (gnum x0) (code_term x1)))
 
 pub inj_assignment : (x y : Assignment ℕ) → code_assignment x ≡ code_assignment y → x ≡ y
 inj_assignment (Assign x0 x1) (Assign y0 y1) e = let e1 : x1 ≡ y1 = inj_term x1 y1 (cc) in cc
 inj_assignment (Assign x0 x1) (ArrayWrite y0 y1 y2) e = cc
+inj_assignment (Assign x0 x1) (Emit y0 y1) e = cc
 inj_assignment (ArrayWrite x0 x1 x2) (Assign y0 y1) e = cc
 inj_assignment (ArrayWrite x0 x1 x2) (ArrayWrite y0 y1 y2) e = let e1 : x1 ≡ y1 = inj_term x1 y1 (cc) in let e2 : x2 ≡ y2 = inj_term x2 y2 (cc) in cc
+inj_assignment (ArrayWrite x0 x1 x2) (Emit y0 y1) e = cc
+inj_assignment (Emit x0 x1) (Assign y0 y1) e = cc
+inj_assignment (Emit x0 x1) (ArrayWrite y0 y1 y2) e = cc
+inj_assignment (Emit x0 x1) (Emit y0 y1) e = let e1 : x1 ≡ y1 = inj_term x1 y1 (cc) in cc
 
 abbrev pub coded_assignment : Coded (Assignment ℕ)
 coded_assignment = record { code = code_assignment; inj = inj_assignment }

@@ -1,5 +1,7 @@
 pub mod Words
+pub mod Limits
 pub mod Terms
+pub mod Renamed
 pub mod Source
 pub mod Machines
 pub mod View
@@ -8,5 +10,6 @@ pub mod Meaning
 pub mod Runs
 pub mod Touched
 pub mod Trees
+pub mod Parts
 pub mod Codes
 pub mod WellFormed

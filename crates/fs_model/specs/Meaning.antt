@@ -4,8 +4,8 @@ use Rattle.std.specs.Ordering.{int_eq}
 use Rattle.integers.specs.Division.{quotient, remainder}
 use Rattle.fs_model.specs.declared.parts.Rel.{Rel}
 use Rattle.fs_model.specs.declared.parts.Rel.TheVariants.{Eq, Ne, Lt, Le, Gt, Ge}
-use Rattle.fs_model.specs.Terms.{Term, Number, Variable, Read, Sum, Difference, Product, Quotient, Remainder, Negative, Literal, Guard, Test, Not, And, Or, Assignment, Assign, ArrayWrite, Transition}
-use Rattle.fs_model.specs.Stores.{Store, assigned, written}
+use Rattle.fs_model.specs.Terms.{Term, Number, Variable, Read, Sum, Difference, Product, Quotient, Remainder, Negative, Literal, Guard, Test, Not, And, Or, Assignment, Assign, ArrayWrite, Emit, Transition}
+use Rattle.fs_model.specs.Stores.{Store, assigned, written, emitted}
 
 abbrev pub value : Term ℕ → Store → ℤ
 value (Number n) s = n
@@ -46,10 +46,11 @@ abbrev pub transition_taken : List (Transition ℕ ℕ) → Store → Option (Tr
 transition_taken [] s = None
 transition_taken (l ∷ ls) s = cond (condition_holds l.guard s) (Some l) (transition_taken ls s)
 
--- what an assignment does to a store, with its right side and its index valued in the store before the step
+-- what an assignment does to a store, with its index and its right side, or what it emits, valued in the store before the step
 abbrev pub act : Assignment ℕ → Store → Store → Store
 act (Assign x e) before s = assigned s x (value e before)
 act (ArrayWrite x i e) before s = written s x (value i before) (value e before)
+act (Emit x e) before s = emitted s x (value e before)
 
 -- the assignments of a transition, in order, all valued in the store before the step
 abbrev pub act_all : List (Assignment ℕ) → Store → Store → Store

@@ -1,10 +1,10 @@
 -- Steps and runs of a machine, and when two machines have the same behaviour.
-use Rattle.std.specs.Prelude.{◌≡◌, ◌≢◌, ℕ, zero, suc, ◌+◌, Bool, true, false, not, ◌&&◌, cond, ℤ, pos, List, [], ◌∷◌, Option, Some, None, slice_get}
+use Rattle.std.specs.Prelude.{◌≡◌, ◌≢◌, ℕ, zero, suc, ◌+◌, Bool, true, false, ◌&&◌, cond, ℤ, pos, List, [], ◌∷◌, Option, Some, None, slice_get}
 use Rattle.std.specs.Str.{bytes_eq}
 use Rattle.fs_model.specs.declared.parts.Role.{Role}
 use Rattle.fs_model.specs.declared.parts.Role.TheVariants.{Input, Output, Local}
 use Rattle.fs_model.specs.declared.parts.Sort.{Sort}
-use Rattle.fs_model.specs.declared.parts.Sort.TheVariants.{Scalar, Array}
+use Rattle.fs_model.specs.declared.parts.Sort.TheVariants.{Scalar, Array, Port}
 use Rattle.fs_model.specs.declared.parts.VarInfo.{VarInfo}
 use Rattle.fs_model.specs.Terms.{Transition}
 use Rattle.fs_model.specs.Machines.{Fsmd, transitions_of}
@@ -40,10 +40,11 @@ pub record Inputs : Type 0 where
   pub scalar : List ℕ → ℤ
   pub array : List ℕ → ℤ → ℤ
 
--- what an output holds at the end
+-- what an output holds at the end; of a port the numbers emitted to it, in order
 pub data Content : Type 0 where
   Number : ℤ → Content
   Entries : (ℤ → ℤ) → Content
+  Emitted : List ℤ → Content
 
 abbrev pub is_input : Role → Bool
 is_input Input = true
@@ -58,6 +59,17 @@ is_output Local = false
 abbrev pub is_scalar : Sort → Bool
 is_scalar Scalar = true
 is_scalar Array = false
+is_scalar Port = false
+
+abbrev pub is_array : Sort → Bool
+is_array Scalar = false
+is_array Array = true
+is_array Port = false
+
+abbrev pub is_port : Sort → Bool
+is_port Scalar = false
+is_port Array = false
+is_port Port = true
 
 abbrev pub first_scalar : Inputs → Option VarInfo → ℤ
 first_scalar ins None = pos 0
@@ -65,15 +77,19 @@ first_scalar ins (Some v) = cond (is_input v.role && is_scalar v.sort) (ins.scal
 
 abbrev pub first_array : Inputs → Option VarInfo → ℤ → ℤ
 first_array ins None i = pos 0
-first_array ins (Some v) i = cond (is_input v.role && not (is_scalar v.sort)) (ins.array v.name i) (pos 0)
+first_array ins (Some v) i = cond (is_input v.role && is_array v.sort) (ins.array v.name i) (pos 0)
 
--- the store in which a run begins: the inputs as given, all else 0
+-- the store of these variables in which a run starts: the inputs as given, each port empty, all else 0
+abbrev pub start_store : List VarInfo → Inputs → Store
+start_store vs ins = record { scalar = λ x. first_scalar ins (slice_get vs x); array = λ x i. first_array ins (slice_get vs x) i; port = λ x. [] }
+
 abbrev pub start : Fsmd → Inputs → Store
-start m ins = record { scalar = λ x. first_scalar ins (slice_get m.variables x); array = λ x i. first_array ins (slice_get m.variables x) i }
+start m ins = start_store m.variables ins
 
 abbrev pub content : Sort → ℕ → Store → Content
 content Scalar x s = Number (s.scalar x)
 content Array x s = Entries (s.array x)
+content Port x s = Emitted (s.port x)
 
 abbrev pub output_from : List VarInfo → ℕ → Store → List ℕ → Option Content
 output_from [] x s name = None

@@ -24,10 +24,11 @@ pub data Guard (X : Type 0) : Type 0 where
   And : (a b : Guard X) → Guard X
   Or : (a b : Guard X) → Guard X
 
--- a scalar is assigned, or an array is written at an index
+-- a scalar is assigned, an array is written at an index, or a number is emitted to a port
 pub data Assignment (X : Type 0) : Type 0 where
   Assign : X → Term X → Assignment X
   ArrayWrite : X → (index value : Term X) → Assignment X
+  Emit : X → (value : Term X) → Assignment X
 
 -- a transition: it is taken where its guard holds, or always where it has none
 pub record Transition (X S : Type 0) : Type 0 where

@@ -1,8 +1,8 @@
--- The numbers that a step touches: the values of the literals on the way taken, of the right sides and indices
--- of the transition taken, and of all their parts.
+-- The numbers that a step touches: the values of the literals on the way taken, of the right sides, indices
+-- and emitted expressions of the transition taken, and of all their parts.
 use Rattle.std.specs.Prelude.{◌≢◌, ℕ, zero, suc, cond, ℤ, FitsSigned, List, [], ◌∷◌, ◌++◌, Option, Some, None}
 use Rattle.std.specs.Int.{w128}
-use Rattle.fs_model.specs.Terms.{Term, Number, Variable, Read, Sum, Difference, Product, Quotient, Remainder, Negative, Guard, Test, Not, And, Or, Assignment, Assign, ArrayWrite, Transition}
+use Rattle.fs_model.specs.Terms.{Term, Number, Variable, Read, Sum, Difference, Product, Quotient, Remainder, Negative, Guard, Test, Not, And, Or, Assignment, Assign, ArrayWrite, Emit, Transition}
 use Rattle.fs_model.specs.Machines.{Fsmd, transitions_of}
 use Rattle.fs_model.specs.Stores.{Store}
 use Rattle.fs_model.specs.Meaning.{value, holds, condition_holds}
@@ -34,6 +34,7 @@ touched_by_condition (Some g) s = touched_by_guard g s
 abbrev pub touched_by_assignment : Assignment ℕ → Store → List ℤ
 touched_by_assignment (Assign x e) s = touched_by_term e s
 touched_by_assignment (ArrayWrite x i e) s = touched_by_term i s ++ touched_by_term e s
+touched_by_assignment (Emit x e) s = touched_by_term e s
 
 abbrev pub touched_by_assignments : List (Assignment ℕ) → Store → List ℤ
 touched_by_assignments [] s = []

@@ -60,9 +60,12 @@ count_leaves Empty = 0
 count_leaves (Leaf assignments target) = 1
 count_leaves (Node l on_yes on_no) = count_leaves on_yes + count_leaves on_no
 
--- whether all literals of a branch hold
+-- whether all literals of a way hold
+abbrev pub literals_hold : List (Literal ℕ) → Store → Bool
+literals_hold ls s = list_all (λ l. literal_holds l s) ls
+
 abbrev pub branch_holds : Store → Branch → Bool
-branch_holds s b = list_all (λ l. literal_holds l s) b.literals
+branch_holds s b = literals_hold b.literals s
 
 -- what is done on a branch or a transition: its assignments and its target
 abbrev pub Effect : Type 0

@@ -7,13 +7,13 @@ use Rattle.fs_model.specs.declared.parts.Lit.{Lit}
 use Rattle.fs_model.specs.declared.parts.Guard.{Guard as DeclaredGuard}
 use Rattle.fs_model.specs.declared.parts.Guard.TheVariants as guards
 use Rattle.fs_model.specs.declared.parts.Assign.{Assign}
-use Rattle.fs_model.specs.declared.parts.Assign.TheVariants.{Set, Put}
+use Rattle.fs_model.specs.declared.parts.Assign.TheVariants.{Set, Put, Emit}
 use Rattle.fs_model.specs.declared.parts.Decl.{Decl}
 use Rattle.fs_model.specs.declared.parts.RawLine.{RawLine}
 use Rattle.fs_model.specs.declared.parts.RawState.{RawState}
 use Rattle.fs_model.specs.declared.parts.Parts.{Parts}
 use Rattle.fs_model.specs.declared.parts.Branch.{Branch}
-use Rattle.fs_model.specs.Terms.{Term, Number, Variable, Read, Sum, Difference, Product, Quotient, Remainder, Negative, Literal, Guard, Test, Not, And, Or, Assignment, Assign as assigned, ArrayWrite as written}
+use Rattle.fs_model.specs.Terms.{Term, Number, Variable, Read, Sum, Difference, Product, Quotient, Remainder, Negative, Literal, Guard, Test, Not, And, Or, Assignment, Assign as assigned, ArrayWrite as written, Emit as emitted}
 use Rattle.fs_model.specs.Source.{Declaration, SourceTransition, SourceState, Source}
 use Rattle.fs_model.specs.Trees.{Branch as Leaf}
 
@@ -41,6 +41,7 @@ guard_by f (guards.Or' p a q b) = Or (guard_by f a) (guard_by f b)
 abbrev pub assignment_by : {V X : Type 0} → (V → X) → Assign V → Assignment X
 assignment_by f (Set x e) = assigned (f x) (term_by f e)
 assignment_by f (Put x i e) = written (f x) (term_by f i) (term_by f e)
+assignment_by f (Emit x e) = emitted (f x) (term_by f e)
 
 -- over names
 abbrev pub named_term : Expr (List ℕ) → Term (List ℕ)

@@ -1,12 +1,10 @@
--- Parts that a text can spell: no number is negative, no declaration is empty, and no expression is too long.
+-- Parts that a text can spell: no number is negative, no declaration is empty, each port is an output, and no expression is too long.
 use Rattle.std.specs.Prelude.{ℕ, ◌+◌, nat_le, ◌==◌, Bool, true, false, not, ◌&&◌, ◌||◌, cond, pos, int_lt, length, Option, Some, None}
 use Rattle.std.specs.List.{list_all}
-use Rattle.fs_model.specs.Terms.{Term, Number, Variable, Read, Sum, Difference, Product, Quotient, Remainder, Negative, Guard, Test, Not, And, Or, Assignment, Assign, ArrayWrite}
+use Rattle.fs_model.specs.Runs.{is_output, is_port}
+use Rattle.fs_model.specs.Limits.{most_operators}
+use Rattle.fs_model.specs.Terms.{Term, Number, Variable, Read, Sum, Difference, Product, Quotient, Remainder, Negative, Guard, Test, Not, And, Or, Assignment, Assign, ArrayWrite, Emit}
 use Rattle.fs_model.specs.Source.{Declaration, SourceTransition, SourceState, Source}
-
--- the most operators and opening brackets of a guard or an assignment
-abbrev pub most_operators : ℕ
-most_operators = 128
 
 -- made by + or - between two operands
 abbrev pub is_sum : {X : Type 0} → Term X → Bool
@@ -58,6 +56,7 @@ operators_of_guard (Or a b) = 1 + (operators_of_guard a + (bracket (is_or b) + o
 abbrev pub operators_of_assignment : {X : Type 0} → Assignment X → ℕ
 operators_of_assignment (Assign x e) = operators_of_term e
 operators_of_assignment (ArrayWrite x i e) = 1 + (operators_of_term i + operators_of_term e)
+operators_of_assignment (Emit x e) = operators_of_term e
 
 -- no number of a term is negative
 abbrev pub is_natural_term : {X : Type 0} → Term X → Bool
@@ -82,6 +81,7 @@ is_natural_guard (Or a b) = is_natural_guard a && is_natural_guard b
 abbrev pub is_natural_assignment : {X : Type 0} → Assignment X → Bool
 is_natural_assignment (Assign x e) = is_natural_term e
 is_natural_assignment (ArrayWrite x i e) = is_natural_term i && is_natural_term e
+is_natural_assignment (Emit x e) = is_natural_term e
 
 -- no number is negative, and there are few enough operators and opening brackets
 abbrev pub is_well_formed_condition : {X : Type 0} → Option (Guard X) → Bool
@@ -100,10 +100,10 @@ is_well_formed_transition l = is_well_formed_condition l.content.guard && list_a
 abbrev pub is_well_formed_state : SourceState → Bool
 is_well_formed_state s = list_all is_well_formed_transition s.lines
 
--- a declaration names a variable
-abbrev pub has_names : Declaration → Bool
-has_names d = not (length d.names == 0)
+-- a declaration names a variable, and ports are outputs
+abbrev pub is_well_formed_declaration : Declaration → Bool
+is_well_formed_declaration d = not (length d.names == 0) && (not (is_port d.sort) || is_output d.role)
 
--- each declaration has a name, and each state is well formed
+-- each declaration and each state is well formed
 abbrev pub is_well_formed : Source → Bool
-is_well_formed p = list_all has_names p.declarations && list_all is_well_formed_state p.states
+is_well_formed p = list_all is_well_formed_declaration p.declarations && list_all is_well_formed_state p.states

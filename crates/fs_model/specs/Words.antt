@@ -2,6 +2,7 @@
 use Rattle.std.specs.Prelude.{ℕ, Bool, false, not, ◌&&◌, ◌||◌, nat_le, ◌==◌, List, [], ◌∷◌, length, codes}
 use Rattle.std.specs.List.{list_all, list_any}
 use Rattle.std.specs.Str.{bytes_eq}
+use Rattle.fs_model.specs.Limits.{most_name_bytes}
 
 -- a letter or the low line, with which a word begins
 abbrev pub is_letter : ℕ → Bool
@@ -29,4 +30,4 @@ is_reserved bytes = list_any (bytes_eq bytes) reserved_words
 
 -- a word of at most 32 bytes that is not reserved
 abbrev pub is_name : List ℕ → Bool
-is_name bytes = is_word bytes && nat_le (length bytes) 32 && not (is_reserved bytes)
+is_name bytes = is_word bytes && nat_le (length bytes) most_name_bytes && not (is_reserved bytes)

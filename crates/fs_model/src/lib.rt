@@ -4,7 +4,10 @@
 //! steps, runs, decision trees, and when two machines have the same behaviour.
 #![tactic(auto)]
 
+pub mod copies;
 pub mod laws;
+pub mod limits;
+pub mod memory;
 pub mod name;
 pub mod parts;
 pub mod well_formed;

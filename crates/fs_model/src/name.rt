@@ -11,12 +11,10 @@ ghost use Rattle.std.specs.Ordering.{nat_cmp, as_partial_cmp};
 ghost use Rattle.std.specs.Cmp.Lexicographic.{slice_cmp};
 ghost use Rattle.fs_model.specs.Words.{is_letter, is_digit, is_word_byte, is_word, is_reserved, is_name};
 
+use crate::limits::NAME_LIMIT;
 use std::alloc::Global;
 use std::cmp::Ordering;
 use std::marker::Model;
-
-/// The most bytes of a name.
-pub const NAME_LIMIT: usize = 32;
 
 /// Whether a word may begin with the byte: a letter or `_`.
 pub fn is_letter(b: u8) -> bool
@@ -99,7 +97,7 @@ impl Model for Name {
     ghost invariant = { λ n. IsTrue (is_name n.bytes.items) };
 }
 
-/// There is no memory.
+/// Memory was refused.
 #[derive(Clone, Copy, Debug, PartialEq, Eq)]
 pub struct NoMemory;
 
@@ -111,10 +109,8 @@ impl Name {
         if !is_name(bytes) {
             return Ok(None);
         }
-        let Ok(own) = bytes.to_vec(alloc) else {
-            return Err(NoMemory);
-        };
-        Ok(Some(Name { bytes: own }))
+        let bytes = bytes.to_vec(alloc)?;
+        Ok(Some(Name { bytes }))
     }
 
     /// The bytes, which are a name. Takes no memory.
@@ -129,17 +125,8 @@ impl Name {
     pub fn try_clone(&self, alloc: Global) -> Result<Name, NoMemory>
         ensures { IfOk result (λ n. n ≡ self.now) }
     {
-        match self.bytes.as_slice().to_vec(alloc) {
-            Ok(bytes) => Ok(Name { bytes }),
-            Err(_) => Err(NoMemory),
-        }
-    }
-
-    /// Whether two names are the same.
-    pub fn is(&self, other: &Name) -> bool
-        ensures { result ≡ bytes_eq self.now other.now }
-    {
-        self.bytes.as_slice() == other.bytes.as_slice()
+        let bytes = self.bytes.as_slice().to_vec(alloc)?;
+        Ok(Name { bytes })
     }
 }
 

@@ -1,5 +1,10 @@
 //! The parts of a machine, as its text declares them, and the parts of a machine that was checked.
 
+ghost use Rattle.std.specs.Prelude.{◌≡◌};
+ghost use Rattle.fs_model.specs.Meaning.{relates};
+ghost use Rattle.fs_model.specs.Trees.{opposite};
+ghost use Rattle.fs_model.specs.Runs.{is_input, is_output, is_scalar, is_array, is_port};
+
 use crate::name::Name;
 
 /// The number of a variable: its place among the variables of its machine, from 0.
@@ -10,11 +15,35 @@ pub struct VarId(pub u32);
 #[derive(Clone, Copy, Debug, PartialEq, Eq, PartialOrd, Ord)]
 pub struct StateId(pub u32);
 
-/// Whether a variable holds a number, or a number at each index.
+/// Whether a variable holds a number, a number at each index, or a list of emitted numbers.
 #[derive(Clone, Copy, Debug, PartialEq, Eq)]
 pub enum Sort {
     Scalar,
     Array,
+    Port,
+}
+
+impl Sort {
+    /// Whether a variable of the sort holds one number.
+    pub fn is_scalar(self) -> bool
+        ensures { result ≡ is_scalar self }
+    {
+        matches!(self, Sort::Scalar)
+    }
+
+    /// Whether a variable of the sort holds a number at each index.
+    pub fn is_array(self) -> bool
+        ensures { result ≡ is_array self }
+    {
+        matches!(self, Sort::Array)
+    }
+
+    /// Whether a variable of the sort holds a list of emitted numbers.
+    pub fn is_port(self) -> bool
+        ensures { result ≡ is_port self }
+    {
+        matches!(self, Sort::Port)
+    }
 }
 
 /// What a variable is for.
@@ -23,6 +52,22 @@ pub enum Role {
     Input,
     Output,
     Local,
+}
+
+impl Role {
+    /// Whether a variable is given at the start of a run.
+    pub fn is_input(self) -> bool
+        ensures { result ≡ is_input self }
+    {
+        matches!(self, Role::Input)
+    }
+
+    /// Whether a variable's final value is a result of a run.
+    pub fn is_output(self) -> bool
+        ensures { result ≡ is_output self }
+    {
+        matches!(self, Role::Output)
+    }
 }
 
 /// A relation between two numbers.
@@ -34,6 +79,36 @@ pub enum Rel {
     Le,
     Gt,
     Ge,
+}
+
+impl Rel {
+    /// Whether the relation holds between two numbers.
+    pub fn holds(self, left: i128, right: i128) -> bool
+        ensures { result ≡ relates self left right }
+    {
+        match self {
+            Rel::Eq => left == right,
+            Rel::Ne => left != right,
+            Rel::Lt => left < right,
+            Rel::Le => left <= right,
+            Rel::Gt => left > right,
+            Rel::Ge => left >= right,
+        }
+    }
+
+    /// The relation that holds exactly when this one does not.
+    pub fn negated(self) -> Rel
+        ensures { result ≡ opposite self }
+    {
+        match self {
+            Rel::Eq => Rel::Ne,
+            Rel::Ne => Rel::Eq,
+            Rel::Lt => Rel::Ge,
+            Rel::Ge => Rel::Lt,
+            Rel::Le => Rel::Gt,
+            Rel::Gt => Rel::Le,
+        }
+    }
 }
 
 /// An expression over variables of the type `V`.
@@ -70,11 +145,12 @@ pub enum Guard<V = Name> {
     Or(Box<Guard<V>>, Box<Guard<V>>),
 }
 
-/// An assignment to a scalar, or a write to an array at an index.
+/// An assignment to a scalar, a write to an array at an index, or a number emitted to a port.
 #[derive(Drop)]
 pub enum Assign<V> {
     Set(V, Expr<V>),
     Put(V, Expr<V>, Expr<V>),
+    Emit(V, Expr<V>),
 }
 
 /// A declaration of variables. `line` is the line of its first word, from 1.

@@ -1,16 +1,14 @@
-//! Parts that a text can spell: no number is negative, each declaration has a name, and each guard and
+//! Parts that a text can spell: no number is negative, each declaration has a name, each port is an output, and each guard and
 //! each assignment has at most 128 operators and needed brackets.
 
 ghost use Rattle.std.specs.Prelude.{◌≡◌, ◌+◌, min, ◌||◌, map, option_map};
 ghost use Rattle.std.specs.List.{list_all};
 ghost use Rattle.fs_model.specs.View.{named_term, named_guard, named_assignment, declaration_of, source_transition_of, source_state_of, source_of};
-ghost use Rattle.fs_model.specs.WellFormed.{is_sum, is_product, is_and, is_or, bracket, operators_of_term, operators_of_guard, operators_of_assignment, is_natural_term, is_natural_guard, is_natural_assignment, is_well_formed_condition, is_well_formed_assignment, is_well_formed_transition, is_well_formed_state, has_names, is_well_formed};
+ghost use Rattle.fs_model.specs.WellFormed.{is_sum, is_product, is_and, is_or, bracket, operators_of_term, operators_of_guard, operators_of_assignment, is_natural_term, is_natural_guard, is_natural_assignment, is_well_formed_condition, is_well_formed_assignment, is_well_formed_transition, is_well_formed_state, is_well_formed_declaration, is_well_formed};
 
+use crate::limits::OPERATOR_LIMIT;
 use crate::name::Name;
 use crate::parts::{Assign, Decl, Expr, Guard, Parts, RawLine, RawState};
-
-/// The most operators and opening brackets of a guard or an assignment.
-pub const OPERATOR_LIMIT: u32 = 128;
 
 impl Parts {
     /// Whether a text can spell these parts: no number is negative, each declaration has a name, and each
@@ -19,14 +17,20 @@ impl Parts {
     pub fn is_well_formed(&self) -> bool
         ensures { result ≡ is_well_formed (source_of self.now) }
     {
-        have_names(&self.decls) && are_well_formed_states(&self.states)
+        are_well_formed_declarations(&self.decls) && are_well_formed_states(&self.states)
     }
 }
 
-fn have_names(decls: &[Decl]) -> bool
-    ensures { result ≡ list_all has_names (map declaration_of decls.now) }
+fn are_well_formed_declarations(decls: &[Decl]) -> bool
+    ensures { result ≡ list_all is_well_formed_declaration (map declaration_of decls.now) }
 {
-    decls.iter().all(|decl| !decl.names.is_empty())
+    decls.iter().all(|decl| is_well_formed_declaration(decl))
+}
+
+fn is_well_formed_declaration(decl: &Decl) -> bool
+    ensures { result ≡ is_well_formed_declaration (declaration_of decl.now) }
+{
+    !decl.names.is_empty() && (!decl.sort.is_port() || decl.role.is_output())
 }
 
 fn are_well_formed_states(states: &[RawState]) -> bool
@@ -56,7 +60,8 @@ fn is_well_formed_condition(guard: &Option<Guard>) -> bool
 fn are_well_formed_assignments(assigns: &[Assign<Name>]) -> bool
     ensures { result ≡ list_all is_well_formed_assignment (map named_assignment assigns.now) }
 {
-    assigns.iter().all(|assign| is_natural_assign(assign) && operators_of_assign(assign) <= OPERATOR_LIMIT)
+    assigns.iter().all(|assign| is_natural_assign(assign)
+        && operators_of_assign(assign) <= OPERATOR_LIMIT)
 }
 
 fn is_natural(expr: &Expr<Name>) -> bool
@@ -88,6 +93,7 @@ fn is_natural_assign(assign: &Assign<Name>) -> bool
     match assign {
         Assign::Set(_, value) => is_natural(value),
         Assign::Put(_, index, value) => is_natural(index) && is_natural(value),
+        Assign::Emit(_, value) => is_natural(value),
     }
 }
 
@@ -137,7 +143,10 @@ fn operator_count(expr: &Expr<Name>) -> u32
         Expr::Num(_) | Expr::Var(_) => 0,
         Expr::Read(_, index) => one_more(0, operator_count(index)),
         Expr::Add(a, b) | Expr::Sub(a, b) => {
-            one_more(operator_count(a), bracket(is_sum(b)).saturating_add(operator_count(b)))
+            one_more(
+                operator_count(a),
+                bracket(is_sum(b)).saturating_add(operator_count(b)),
+            )
         }
         Expr::Mul(a, b) | Expr::Div(a, b) | Expr::Rem(a, b) => one_more(
             bracket(is_sum(a)).saturating_add(operator_count(a)),
@@ -172,5 +181,6 @@ fn operators_of_assign(assign: &Assign<Name>) -> u32
     match assign {
         Assign::Set(_, value) => operator_count(value),
         Assign::Put(_, index, value) => one_more(operator_count(index), operator_count(value)),
+        Assign::Emit(_, value) => operator_count(value),
     }
 }

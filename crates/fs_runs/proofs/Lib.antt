@@ -3,6 +3,7 @@ pub mod Slots
 pub mod Tries
 pub mod Steps
 pub mod Turns
-pub mod Givens
+pub mod InputValues
 pub mod Outs
 pub mod Listings
+pub mod RunOnce

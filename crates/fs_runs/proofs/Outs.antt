@@ -1,21 +1,25 @@
 -- What the outputs of a machine hold.
 use Rattle.std.proofs.Common.{◌≡◌, get_or, ℕ, zero, suc, ◌+◌, ◌<◌, ◌≤◌, length, drop, Bool, true, false, cond, List, [], ◌∷◌, ◌++◌, refl, sym, ◌∙◌, ap, ap₂, subst, append_assoc, append-nil, arith}
-use Rattle.std.specs.Prelude.{◌&&◌, Option, Some, None, map, filter, slice_get}
+use Rattle.std.specs.Prelude.{◌&&◌, Option, Some, None, IsSome, map, filter, slice_get}
+use Rattle.std.specs.List.{AllByRecursion}
+use Rattle.std.proofs.lemmas.Slice.Eq.{bytes_eq-Decides}
 use Rattle.std.specs.Str.{bytes_eq}
 use Rattle.fs_model.specs.declared.parts.Sort.{Sort}
 use Rattle.fs_model.specs.declared.parts.VarInfo.{VarInfo}
 use Rattle.fs_model.specs.Machines.{Fsmd}
 use Rattle.fs_model.specs.Stores.{Store}
-use Rattle.fs_model.specs.Runs.{Content, Number, Entries, is_output, content, output_from, output}
+use Rattle.fs_model.specs.Runs.{Inputs, Run, Content, Number, Entries, Emitted, is_output, content, output_from, output}
 use Rattle.fs_runs.specs.declared.values.Value.{Value}
 use Rattle.fs_runs.specs.declared.values.Value.TheVariants.{Num, Arr}
-use Rattle.fs_runs.specs.Values.{number_in, entry_in, sort_of, content_of, store_from}
-use Rattle.fs_runs.specs.Outcomes.{output_names, outs_of, told}
+use Rattle.fs_runs.specs.declared.values.Value.TheVariants as values
+use Rattle.fs_runs.specs.Values.{number_in, entry_in, list_in, sort_of, content_of, store_from}
+use Rattle.fs_runs.specs.Outcomes.{Outputs, output_names, outs_of, told, HoldsEach}
 use Rattle.fs_runs.proofs.Slots.{left_cons}
 
 held : (vs : List Value) (j : ℕ) (w : Value) → slice_get vs j ≡ Some w → content (sort_of w) j (store_from vs) ≡ content_of w
 held vs j (Num n) e = ap (λ o. Number (number_in o)) e
 held vs j (Arr m) e = ap (λ o. Entries (entry_in o)) e
+held vs j (values.List l) e = ap (λ o. Emitted (list_in o)) e
 
 one_out : (b : Bool) (c d : Content) (name : List ℕ) (v : VarInfo) (vars : List VarInfo) (outs : List Content) (o : Option Content) → c ≡ d → o ≡ told (map (λ v. v.name) vars) outs name
     → cond (b && bytes_eq v.name name) (Some c) o ≡ told (map (λ v. v.name) (cond b (v ∷ vars) vars)) (cond b (d ∷ outs) outs) name
@@ -70,3 +74,46 @@ drop_past (suc k) (x ∷ xs) h = drop_past k xs (omega arith)
 -- all variables
 pub outs_done : (vars : List VarInfo) (vs : List Value) (k : ℕ) (done : List Content) → length vars ≤ k → done ++ outs_of (drop k vars) (drop k vs) ≡ outs_of vars vs → done ≡ outs_of vars vs
 outs_done vars vs k done h e = sym (append-nil done) ∙ sym (ap (λ l. done ++ outs_of l (drop k vs)) (drop_past k vars h)) ∙ e
+
+count_one : (b : Bool) (v : VarInfo) (vars : List VarInfo) (c : Content) (cs : List Content) → length cs ≡ length (map (λ (u : VarInfo). u.name) vars) → length (cond b (c ∷ cs) cs) ≡ length (map (λ (u : VarInfo). u.name) (cond b (v ∷ vars) vars))
+count_one true v vars c cs e = ap suc e
+count_one false v vars c cs e = e
+
+-- as many values as outputs
+pub outs_count : (vars : List VarInfo) (vs : List Value) → map sort_of vs ≡ map (λ v. v.sort) vars → length (outs_of vars vs) ≡ length (output_names vars)
+outs_count [] vs e = refl
+outs_count (v ∷ vars) [] e = absurd (cc)
+outs_count (v ∷ vars) (w ∷ vs) e =
+    let rest : map sort_of vs ≡ map (λ v. v.sort) vars = cc in
+    count_one (is_output v.role) v (filter (λ u. is_output u.role) vars) (content_of w) (outs_of vars vs) (outs_count vars vs rest)
+
+all_through : {X : Type 0} (P Q : X → Type 0) → ((x : X) → P x → Q x) → (xs : List X) → AllByRecursion P xs → AllByRecursion Q xs
+all_through P Q f [] all = tt
+all_through P Q f (x ∷ xs) all = (f x all.0, all_through P Q f xs all.1)
+
+same_bytes : (name : List ℕ) → bytes_eq name name ≡ true
+same_bytes name = (bytes_eq-Decides name name).1 refl
+
+either : (b : Bool) (c : Content) (rest : Option Content) → IsSome rest → IsSome (cond b (Some c) rest)
+either true c rest there = refl
+either false c rest there = there
+
+-- each output name of variables holds something in a store
+each_held : (vs : List VarInfo) (x : ℕ) (s : Store) → AllByRecursion (λ n. IsSome (output_from vs x s n)) (output_names vs)
+each_held [] x s = tt
+each_held (v ∷ vs) x s =
+    let c = content v.sort x s in
+    let rest = each_held vs (x + 1) s in
+    elim (is_output v.role) as (λ b. AllByRecursion (λ n. IsSome (cond (b && bytes_eq v.name n) (Some c) (output_from vs (x + 1) s n))) (map (λ (w : VarInfo). w.name) (cond b (v ∷ filter (λ w. is_output w.role) vs) (filter (λ w. is_output w.role) vs)))) [
+      | true ↦ (rw (same_bytes v.name) refl, all_through (λ n. IsSome (output_from vs (x + 1) s n)) (λ n. IsSome (cond (bytes_eq v.name n) (Some c) (output_from vs (x + 1) s n))) (λ n there. either (bytes_eq v.name n) c (output_from vs (x + 1) s n) there) (output_names vs) rest)
+      | false ↦ rest
+    ]
+
+-- what says what the outputs hold in a store says something of each
+pub holds_each : (m : Fsmd) (s : Store) (outs : Outputs) → ((name : List ℕ) → output m s name ≡ outs name) → HoldsEach outs (output_names m.variables)
+holds_each m s outs same =
+    all_through (λ name. IsSome (output_from m.variables 0 s name)) (λ name. IsSome (outs name)) (λ name there. subst IsSome (same name) there) (output_names m.variables) (each_held m.variables 0 s)
+
+-- the same of the outputs of a run
+pub run_holds_each : (m : Fsmd) (ins : Inputs) (outs : Outputs) (n : ℕ) → Run m ins outs n → HoldsEach outs (output_names m.variables)
+run_holds_each m ins outs n r = holds_each m r.end outs r.gives

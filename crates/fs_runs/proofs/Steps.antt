@@ -5,26 +5,28 @@ use Rattle.std.specs.List.{list_all}
 use Rattle.std.proofs.lemmas.List.Folds.{list_all-append}
 use Rattle.std.proofs.lemmas.Option.{slice_get-map}
 use Rattle.fs_model.specs.declared.parts.Sort.{Sort}
-use Rattle.fs_model.specs.declared.parts.Sort.TheVariants.{Scalar, Array}
+use Rattle.fs_model.specs.declared.parts.Sort.TheVariants.{Scalar, Array, Port}
 use Rattle.fs_model.specs.declared.parts.VarInfo.{VarInfo}
-use Rattle.fs_model.specs.Terms.{Assignment, Assign, ArrayWrite, Transition}
+use Rattle.fs_model.specs.Terms.{Assignment, Assign, ArrayWrite, Emit, Transition}
 use Rattle.fs_model.specs.Machines.{Fsmd, transitions_of}
 use Rattle.fs_model.specs.Stores.{Store}
 use Rattle.fs_model.specs.Meaning.{condition_holds, transition_taken, act, act_all}
-use Rattle.fs_model.specs.Runs.{Step}
+use Rattle.fs_model.specs.Runs.{Step, is_scalar, is_array as is_array_sort, is_port}
 use Rattle.fs_model.specs.Touched.{touched, touched_by_assignment, touched_by_assignments, AllInRange}
 use Rattle.fs_model.specs.Trees.{Branch, branches_of}
-use Rattle.fs_ast.specs.Sound.{IsSound, IsSoundTransition, has_sort, is_array as is_array_sort, scalar_at, array_at, scalars_in, arrays_in, scalars_in_assignment, arrays_in_assignment, scalars_in_assignments, arrays_in_assignments, scalars_in_condition, arrays_in_condition}
+use Rattle.fs_ast.specs.Sound.{IsSound, IsSoundTransition, has_sort, scalar_at, array_at, port_at, scalars_in, arrays_in, scalars_in_assignments, arrays_in_assignments, ports_in_assignments, scalars_in_condition, arrays_in_condition}
 use Rattle.fs_ast.specs.Open.{TakesOneBranch}
 use Rattle.fs_ast.proofs.Opens.{takes_one}
 use Rattle.fs_runs.specs.declared.values.Value.{Value}
 use Rattle.fs_runs.specs.declared.values.Value.TheVariants.{Num, Arr}
+use Rattle.fs_runs.specs.declared.values.Value.TheVariants as values
 use Rattle.fs_runs.specs.declared.step.StepStop.{StepStop}
 use Rattle.fs_runs.specs.declared.step.StepStop.TheVariants.{PastWide, NoMemory}
 use Rattle.fs_runs.specs.Values.{sort_of, HasSorts}
 use Rattle.fs_runs.specs.Outcomes.{PastOnly}
 use Rattle.fs_runs.specs.Reads.{touched_by_branches, taken_branch, Both}
-use Rattle.fs_runs.specs.Changes.{done_by, ActionFits, AssignmentsFit, changed_all, is_number, is_array, suits, AllSuit}
+use Rattle.fs_runs.specs.Laws.{BranchInRange, TouchedByBranches}
+use Rattle.fs_runs.specs.Changes.{done_by, AssignmentFits, AssignmentsFit, changed_all, is_number, is_array, is_list, suits, AllSuit}
 use Rattle.fs_runs.proofs.Ways.{both_parts, front_part, back_part, fits_touched, touched_fits, first_taken, touched_taken}
 
 -- the changes of assignments leave what the assignments leave
@@ -32,14 +34,17 @@ pub changed_done : (acts : List (Assignment ℕ)) (before s : Store) → changed
 changed_done [] before s = refl
 changed_done (Assign x e ∷ rest) before s = changed_done rest before _
 changed_done (ArrayWrite x i e ∷ rest) before s = changed_done rest before _
+changed_done (Emit x e ∷ rest) before s = changed_done rest before _
 
-fits_assignment : (a : Assignment ℕ) (s : Store) → ActionFits s a → AllInRange (touched_by_assignment a s)
+fits_assignment : (a : Assignment ℕ) (s : Store) → AssignmentFits s a → AllInRange (touched_by_assignment a s)
 fits_assignment (Assign x e) s p = fits_touched e s p
 fits_assignment (ArrayWrite x i e) s p = both_parts _ _ (fits_touched i s p.0) (fits_touched e s p.1)
+fits_assignment (Emit x e) s p = fits_touched e s p
 
-assignment_fits : (a : Assignment ℕ) (s : Store) → AllInRange (touched_by_assignment a s) → ActionFits s a
+assignment_fits : (a : Assignment ℕ) (s : Store) → AllInRange (touched_by_assignment a s) → AssignmentFits s a
 assignment_fits (Assign x e) s p = touched_fits e s p
 assignment_fits (ArrayWrite x i e) s p = (touched_fits i s (front_part _ _ p), touched_fits e s (back_part (touched_by_assignment (Assign x i) s) _ p))
+assignment_fits (Emit x e) s p = touched_fits e s p
 
 fit_assignments : (acts : List (Assignment ℕ)) (s : Store) → AssignmentsFit s acts → AllInRange (touched_by_assignments acts s)
 fit_assignments [] s p = tt
@@ -60,17 +65,26 @@ line_at (x ∷ ls) s l e = on_guard (λ h. line_at ls s l h) (condition_holds x.
 
 -- sorts decide
 
-number_of_sort : (o : Option Value) (p : Option VarInfo) → option_map sort_of o ≡ option_map (λ v. v.sort) p → has_sort false p ≡ true → is_number o ≡ true
+number_of_sort : (o : Option Value) (p : Option VarInfo) → option_map sort_of o ≡ option_map (λ v. v.sort) p → has_sort is_scalar p ≡ true → is_number o ≡ true
 number_of_sort o None e h = absurd (cc)
 number_of_sort None (Some v) e h = absurd (cc)
 number_of_sort (Some (Num n)) (Some v) e h = refl
-number_of_sort (Some (Arr m)) (Some v) e h = let q : v.sort ≡ Array = cc in let r : not (is_array_sort v.sort) ≡ false = ap (λ s. not (is_array_sort s)) q in absurd (cc)
+number_of_sort (Some (Arr m)) (Some v) e h = let q : v.sort ≡ Array = cc in let r : is_scalar v.sort ≡ false = ap is_scalar q in absurd (cc)
+number_of_sort (Some (values.List l)) (Some v) e h = let q : v.sort ≡ Port = cc in let r : is_scalar v.sort ≡ false = ap is_scalar q in absurd (cc)
 
-array_of_sort : (o : Option Value) (p : Option VarInfo) → option_map sort_of o ≡ option_map (λ v. v.sort) p → has_sort true p ≡ true → is_array o ≡ true
+array_of_sort : (o : Option Value) (p : Option VarInfo) → option_map sort_of o ≡ option_map (λ v. v.sort) p → has_sort is_array_sort p ≡ true → is_array o ≡ true
 array_of_sort o None e h = absurd (cc)
 array_of_sort None (Some v) e h = absurd (cc)
 array_of_sort (Some (Arr m)) (Some v) e h = refl
 array_of_sort (Some (Num n)) (Some v) e h = let q : v.sort ≡ Scalar = cc in let r : is_array_sort v.sort ≡ false = ap is_array_sort q in absurd (cc)
+array_of_sort (Some (values.List l)) (Some v) e h = let q : v.sort ≡ Port = cc in let r : is_array_sort v.sort ≡ false = ap is_array_sort q in absurd (cc)
+
+list_of_sort : (o : Option Value) (p : Option VarInfo) → option_map sort_of o ≡ option_map (λ v. v.sort) p → has_sort is_port p ≡ true → is_list o ≡ true
+list_of_sort o None e h = absurd (cc)
+list_of_sort None (Some v) e h = absurd (cc)
+list_of_sort (Some (values.List l)) (Some v) e h = refl
+list_of_sort (Some (Num n)) (Some v) e h = let q : v.sort ≡ Scalar = cc in let r : is_port v.sort ≡ false = ap is_port q in absurd (cc)
+list_of_sort (Some (Arr m)) (Some v) e h = let q : v.sort ≡ Array = cc in let r : is_port v.sort ≡ false = ap is_port q in absurd (cc)
 
 same_at : (vars : List VarInfo) (vs : List Value) (x : ℕ) → map sort_of vs ≡ map (λ v. v.sort) vars → option_map sort_of (slice_get vs x) ≡ option_map (λ v. v.sort) (slice_get vars x)
 same_at vars vs x e = sym (slice_get-map sort_of vs x) ∙ ap (λ l. slice_get l x) e ∙ slice_get-map (λ v. v.sort) vars x
@@ -94,16 +108,20 @@ back_all : (p : ℕ → Bool) (xs ys : List ℕ) → list_all p (xs ++ ys) ≡ t
 back_all p xs ys e = second_of (list_all p xs) (list_all p ys) (sym (list_all-append p xs ys) ∙ e)
 
 suit_all : (acts : List (Assignment ℕ)) (s : Store) (vars : List VarInfo) (vs : List Value) → map sort_of vs ≡ map (λ v. v.sort) vars
-    → list_all (scalar_at vars) (scalars_in_assignments acts) ≡ true → list_all (array_at vars) (arrays_in_assignments acts) ≡ true → list_all (suits vs) (map (done_by s) acts) ≡ true
-suit_all [] s vars vs e p q = refl
-suit_all (Assign x t ∷ rest) s vars vs e p q =
+    → list_all (scalar_at vars) (scalars_in_assignments acts) ≡ true → list_all (array_at vars) (arrays_in_assignments acts) ≡ true → list_all (port_at vars) (ports_in_assignments acts) ≡ true → list_all (suits vs) (map (done_by s) acts) ≡ true
+suit_all [] s vars vs e p q r = refl
+suit_all (Assign x t ∷ rest) s vars vs e p q r =
     both_of (is_number (slice_get vs x)) (list_all (suits vs) (map (done_by s) rest))
     (number_of_sort (slice_get vs x) (slice_get vars x) (same_at vars vs x e) (first_of (scalar_at vars x) (list_all (scalar_at vars) (scalars_in t)) (front_all (scalar_at vars) (x ∷ scalars_in t) (scalars_in_assignments rest) p)))
-    (suit_all rest s vars vs e (back_all (scalar_at vars) (x ∷ scalars_in t) (scalars_in_assignments rest) p) (back_all (array_at vars) (arrays_in t) (arrays_in_assignments rest) q))
-suit_all (ArrayWrite x i t ∷ rest) s vars vs e p q =
+    (suit_all rest s vars vs e (back_all (scalar_at vars) (x ∷ scalars_in t) (scalars_in_assignments rest) p) (back_all (array_at vars) (arrays_in t) (arrays_in_assignments rest) q) r)
+suit_all (ArrayWrite x i t ∷ rest) s vars vs e p q r =
     both_of (is_array (slice_get vs x)) (list_all (suits vs) (map (done_by s) rest))
     (array_of_sort (slice_get vs x) (slice_get vars x) (same_at vars vs x e) (first_of (array_at vars x) (list_all (array_at vars) (arrays_in i ++ arrays_in t)) (front_all (array_at vars) (x ∷ (arrays_in i ++ arrays_in t)) (arrays_in_assignments rest) q)))
-    (suit_all rest s vars vs e (back_all (scalar_at vars) (scalars_in i ++ scalars_in t) (scalars_in_assignments rest) p) (back_all (array_at vars) (x ∷ (arrays_in i ++ arrays_in t)) (arrays_in_assignments rest) q))
+    (suit_all rest s vars vs e (back_all (scalar_at vars) (scalars_in i ++ scalars_in t) (scalars_in_assignments rest) p) (back_all (array_at vars) (x ∷ (arrays_in i ++ arrays_in t)) (arrays_in_assignments rest) q) r)
+suit_all (Emit x t ∷ rest) s vars vs e p q r =
+    both_of (is_list (slice_get vs x)) (list_all (suits vs) (map (done_by s) rest))
+    (list_of_sort (slice_get vs x) (slice_get vars x) (same_at vars vs x e) (first_of (port_at vars x) (list_all (port_at vars) (ports_in_assignments rest)) r))
+    (suit_all rest s vars vs e (back_all (scalar_at vars) (scalars_in t) (scalars_in_assignments rest) p) (back_all (array_at vars) (arrays_in t) (arrays_in_assignments rest) q) (second_of (port_at vars x) (list_all (port_at vars) (ports_in_assignments rest)) r))
 
 -- what holds of the branch that a store takes
 pub record Takes (m : Fsmd) (q : ℕ) (s : Store) (b : Branch) : Type 0 where
@@ -119,6 +137,13 @@ one_branch m q s sound h = takes_one (transitions_of m q) s (sound.open_last q h
 pub one_open : (m : Fsmd) (q : ℕ) (s : Store) (sound : IsSound m) (h : q < length m.states) → taken_branch (branches_of (transitions_of m q)) s ≡ Some (one_branch m q s sound h).branch
 one_open m q s sound h = first_taken (transitions_of m q) s (one_branch m q s sound h)
 
+-- what a step touches are the numbers of the branches that are tried, and of the assignments of the one taken
+pub touched_by_taken : TouchedByBranches
+touched_by_taken m q s b sound h e =
+    let one = one_branch m q s sound h in
+    let same : one.branch ≡ b = cc (e, one_open m q s sound h) in
+    subst (λ c. Both (AllInRange (touched m q s)) (BranchInRange m q s c)) same (touched_taken (transitions_of m q) s (sound.open_last q h) one)
+
 takes_branch : (m : Fsmd) (q : ℕ) (s : Store) → IsSound m → q < length m.states → (one : TakesOneBranch (transitions_of m q) s) → Takes m q s one.branch
 takes_branch m q s sound h one =
     let at = line_at (transitions_of m q) s one.line one.taken in
@@ -133,7 +158,8 @@ takes_branch m q s sound h one =
       touched_back = λ p a. same.back (p, fit_assignments one.branch.assignments s a);
       suit = λ vs e. suit_all one.branch.assignments s m.variables vs e
           (ap (λ a. list_all (scalar_at m.variables) (scalars_in_assignments a)) one.assignments ∙ scalars)
-          (ap (λ a. list_all (array_at m.variables) (arrays_in_assignments a)) one.assignments ∙ arrays);
+          (ap (λ a. list_all (array_at m.variables) (arrays_in_assignments a)) one.assignments ∙ arrays)
+          (ap (λ a. list_all (port_at m.variables) (ports_in_assignments a)) one.assignments ∙ sure.ports);
     }
 
 pub takes : (m : Fsmd) (q : ℕ) (s : Store) (b : Branch) → IsSound m → q < length m.states → taken_branch (branches_of (transitions_of m q)) s ≡ Some b → Takes m q s b

@@ -1,6 +1,7 @@
 pub mod Values
 pub mod Reads
 pub mod Changes
-pub mod Given
+pub mod InputValues
 pub mod Outcomes
 pub mod Listing
+pub mod Laws

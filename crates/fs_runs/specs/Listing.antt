@@ -17,7 +17,7 @@ number_at es i = unwrap_or (lookup (int_eq i) es) (pos 0)
 abbrev pub is_not_zero : Entry → Bool
 is_not_zero e = not (int_eq e.1 (pos 0))
 
--- the entries of an array that are not 0, by rising index
+-- the entries of an array that are not 0, in increasing order of index
 pub record IsListing (f : ℤ → ℤ) (es : List Entry) : Type 0 where
   pub rising : IsStrictlySortedBy int_cmp (keys_of es)
   pub not_zero : AllByRecursion (λ e. e.1 ≢ pos 0) es

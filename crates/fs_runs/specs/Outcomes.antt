@@ -1,10 +1,11 @@
 -- What a step and a run answer.
-use Rattle.std.specs.Prelude.{◌≡◌, ℕ, ◌-◌, ◌≤◌, cond, List, [], ◌∷◌, map, filter, Option, Some, None}
+use Rattle.std.specs.Prelude.{◌≡◌, ℕ, ◌-◌, ◌≤◌, cond, List, [], ◌∷◌, map, filter, Option, Some, None, IsSome}
+use Rattle.std.specs.List.{AllByRecursion}
 use Rattle.std.specs.Str.{bytes_eq}
 use Rattle.fs_model.specs.declared.parts.VarInfo.{VarInfo}
 use Rattle.fs_model.specs.Machines.{Fsmd}
 use Rattle.fs_model.specs.Stores.{Store}
-use Rattle.fs_model.specs.Runs.{Inputs, Content, FirstReturn, start, is_output}
+use Rattle.fs_model.specs.Runs.{Inputs, Content, FirstReturn, Run, start, is_output}
 use Rattle.fs_model.specs.Touched.{touched, AllInRange, StaysInRange}
 use Rattle.fs_runs.specs.declared.step.StepStop.{StepStop}
 use Rattle.fs_runs.specs.declared.step.StepStop.TheVariants.{PastWide, NoMemory}
@@ -13,10 +14,14 @@ use Rattle.fs_runs.specs.declared.run.RunStop.TheVariants as stops
 use Rattle.fs_runs.specs.declared.values.Value.{Value}
 use Rattle.fs_runs.specs.Values.{content_of}
 
--- a stop at a number outside 128 bits comes only where P; want of memory may come at any time
+-- a stop at a number outside 128 bits comes only where P; out of memory may come at any time
 abbrev pub PastOnly : StepStop → Type 0 → Type 0
 PastOnly PastWide P = P
 PastOnly NoMemory P = Unit {0}
+
+-- what each output name holds
+abbrev pub Outputs : Type 0
+Outputs = List ℕ → Option Content
 
 -- the names of the outputs, in order of declaration
 abbrev pub output_names : List VarInfo → List (List ℕ)
@@ -29,14 +34,24 @@ outs_of (v ∷ vars) [] = []
 outs_of (v ∷ vars) (w ∷ vs) = cond (is_output v.role) (content_of w ∷ outs_of vars vs) (outs_of vars vs)
 
 -- what contents in order say of names in order
-abbrev pub told : List (List ℕ) → List Content → List ℕ → Option Content
+abbrev pub told : List (List ℕ) → List Content → Outputs
 told [] cs name = None
 told (n ∷ ns) [] name = None
 told (n ∷ ns) (c ∷ cs) name = cond (bytes_eq n name) (Some c) (told ns cs name)
 
 -- what the values of a machine's outputs say
-abbrev pub told_by : Fsmd → List Value → List ℕ → Option Content
+abbrev pub told_by : Fsmd → List Value → Outputs
 told_by m outs name = told (output_names m.variables) (map content_of outs) name
+
+-- each of the names holds something
+abbrev pub HoldsEach : Outputs → List (List ℕ) → Type 0
+HoldsEach outs names = AllByRecursion (λ name. IsSome (outs name)) names
+
+-- a run ends within a limit of steps, and each number that it touches lies within 128 bits
+pub record EndsWith (m : Fsmd) (ins : Inputs) (limit : ℕ) (outs : Outputs) (steps : ℕ) : Type 0 where
+  pub within : steps ≤ limit
+  pub in_range : StaysInRange m steps m.reset (start m ins)
+  pub run : Run m ins outs steps
 
 -- within so many steps there is no return to the reset state, and each number touched lies within 128 bits
 pub record RunsOn (m : Fsmd) (ins : Inputs) (limit : ℕ) : Type 0 where
@@ -55,3 +70,9 @@ abbrev pub IsStopped : Fsmd → Inputs → ℕ → RunStop → Type 0
 IsStopped m ins limit (stops.StepsOver n) = (n ≡ limit) × RunsOn m ins limit
 IsStopped m ins limit (stops.PastWide step) = LeavesRange m ins limit step
 IsStopped m ins limit stops.NoMemory = Unit {0}
+
+-- the run itself is why it stopped: memory did not run out
+abbrev pub IsOfRun : RunStop → Type 0
+IsOfRun (stops.StepsOver n) = Unit {0}
+IsOfRun (stops.PastWide step) = Unit {0}
+IsOfRun stops.NoMemory = ⊥

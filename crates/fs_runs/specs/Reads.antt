@@ -6,8 +6,7 @@ use Rattle.fs_model.specs.Terms.{Term, Number, Variable, Read, Sum, Difference, 
 use Rattle.fs_model.specs.Stores.{Store}
 use Rattle.fs_model.specs.Meaning.{value, literal_holds}
 use Rattle.fs_model.specs.Touched.{touched_by_term, AllInRange}
-use Rattle.fs_model.specs.Trees.{Branch}
-use Rattle.fs_ast.specs.Open.{all_hold}
+use Rattle.fs_model.specs.Trees.{Branch, branch_holds}
 
 -- each part of a term has its value within 128 bits
 abbrev pub EachFits : Term ℕ → Store → Type 0
@@ -37,12 +36,12 @@ touched_by_way (l ∷ ls) s = touched_by_literal l s ++ cond (literal_holds l s)
 -- the numbers of branches that are tried in order, up to the first whose literals all hold
 abbrev pub touched_by_branches : List Branch → Store → List ℤ
 touched_by_branches [] s = []
-touched_by_branches (b ∷ bs) s = touched_by_way b.literals s ++ cond (all_hold b.literals s) [] (touched_by_branches bs s)
+touched_by_branches (b ∷ bs) s = touched_by_way b.literals s ++ cond (branch_holds s b) [] (touched_by_branches bs s)
 
 -- the first branch whose literals all hold
 abbrev pub taken_branch : List Branch → Store → Option Branch
 taken_branch [] s = None
-taken_branch (b ∷ bs) s = cond (all_hold b.literals s) (Some b) (taken_branch bs s)
+taken_branch (b ∷ bs) s = cond (branch_holds s b) (Some b) (taken_branch bs s)
 
 -- two facts of which each gives the other
 pub record Both (A B : Type 0) : Type 0 where

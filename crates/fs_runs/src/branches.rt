@@ -1,11 +1,11 @@
 //! The branch that a store takes.
 
 ghost use Rattle.std.specs.Prelude.{◌≡◌, IsSome, MatchOption, map};
+ghost use Rattle.std.specs.List.{list_all};
 ghost use Rattle.std.specs.Option.{SomeIff};
 ghost use Rattle.fs_model.specs.Meaning.{relates, literal_holds};
 ghost use Rattle.fs_model.specs.Touched.{AllInRange};
 ghost use Rattle.fs_model.specs.View.{literal_of, branch_of};
-ghost use Rattle.fs_ast.specs.Open.{all_hold};
 ghost use Rattle.fs_runs.specs.Values.{store_from};
 ghost use Rattle.fs_runs.specs.Reads.{LiteralFits, touched_by_way, touched_by_branches, taken_branch};
 
@@ -26,7 +26,7 @@ fn relates(rel: Rel, left: i128, right: i128) -> bool
     }
 }
 
-/// Whether a literal holds, and none exactly where a number of it lies outside 128 bits.
+// Whether a literal holds, and `None` exactly when a number of it lies outside 128 bits.
 fn literal_holds(lit: &Lit<VarId>, values: &[Value]) -> Option<bool>
     ensures { SomeIff result (LiteralFits (literal_of lit.now) (store_from values.now)) (literal_holds (literal_of lit.now) (store_from values.now)) }
 {
@@ -35,9 +35,9 @@ fn literal_holds(lit: &Lit<VarId>, values: &[Value]) -> Option<bool>
     Some(relates(lit.rel, left, right))
 }
 
-/// Whether all literals of a way hold. What comes after one that fails is not looked at.
-fn all_hold(way: &[Lit<VarId>], values: &[Value]) -> Option<bool>
-    ensures { SomeIff result (AllInRange (touched_by_way (map literal_of way.now) (store_from values.now))) (all_hold (map literal_of way.now) (store_from values.now)) }
+// Whether all literals of a way hold. What comes after one that fails is not looked at.
+fn literals_hold(way: &[Lit<VarId>], values: &[Value]) -> Option<bool>
+    ensures { SomeIff result (AllInRange (touched_by_way (map literal_of way.now) (store_from values.now))) (list_all (λ l. literal_holds l (store_from values.now)) (map literal_of way.now)) }
 {
     for lit in way {
         if !literal_holds(lit, values)? {
@@ -47,14 +47,14 @@ fn all_hold(way: &[Lit<VarId>], values: &[Value]) -> Option<bool>
     Some(true)
 }
 
-/// The first branch whose literals all hold, and none exactly where a number that is looked at on
+/// The first branch whose literals all hold, and `None` exactly when a number that is looked at on
 /// the way to it lies outside 128 bits.
-pub fn open_branch<'a>(branches: &'a [Branch], values: &[Value]) -> Option<&'a Branch>
+pub fn taken_branch<'a>(branches: &'a [Branch], values: &[Value]) -> Option<&'a Branch>
     requires { IsSome (taken_branch (map branch_of branches.now) (store_from values.now)) }
     ensures { MatchOption result (¬ AllInRange (touched_by_branches (map branch_of branches.now) (store_from values.now))) (λ b. AllInRange (touched_by_branches (map branch_of branches.now) (store_from values.now)) × (taken_branch (map branch_of branches.now) (store_from values.now) ≡ Some (branch_of b.now))) }
 {
     for branch in branches {
-        if all_hold(branch.lits.as_slice(), values)? {
+        if literals_hold(branch.lits.as_slice(), values)? {
             return Some(branch);
         }
     }

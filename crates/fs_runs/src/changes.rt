@@ -1,11 +1,11 @@
-//! The changes of a step: valued in the store before it, then made all at once.
+//! The changes of a step: valued in the store before it, then made in order, or none of them.
 
-ghost use Rattle.std.specs.Prelude.{◌≡◌, ◌++◌, ◌∷◌, [], true, ℤ, IsTrue, map, IfOk, IfErr, Some};
+ghost use Rattle.std.specs.Prelude.{◌≡◌, ◌++◌, ◌∷◌, [], true, ℕ, suc, ℤ, IsTrue, length, map, IfOk, IfErr, Some};
 ghost use Rattle.std.specs.Option.{SomeIff};
 ghost use Rattle.std.specs.Result.{OnOk, OnErr};
 ghost use Rattle.fs_model.specs.View.{assignment_of};
 ghost use Rattle.fs_runs.specs.Values.{store_from, sort_of};
-ghost use Rattle.fs_runs.specs.Changes.{done_by, ActionFits, AssignmentsFit, changed, changed_all, suits, is_ready, is_array, room_in, AllSuit, AllReady, Alike, Puts, KeepsRoom};
+ghost use Rattle.fs_runs.specs.Changes.{done_by, AssignmentFits, AssignmentsFit, changed, changed_all, suits, is_ready, is_array, is_list, room_in, room_for, AllSuit, AllReady, Alike, Puts, Appends, KeepsRoom};
 ghost use Rattle.fs_runs.specs.Outcomes.{PastOnly};
 ghost use Rattle.fs_runs.specs.declared.changes.Change.{Change};
 
@@ -16,16 +16,17 @@ use fs_model::name::NoMemory;
 use fs_model::parts::{Assign, VarId};
 use std::alloc::Global;
 
-/// A number put into a scalar, or into an array at an index.
+/// A number put into a scalar, put into an array at an index, or appended to the list of a port.
 #[derive(Drop)]
 pub enum Change {
     Set(u32, i128),
     Put(u32, i128, i128),
+    Append(u32, i128),
 }
 
-/// What an assignment changes, and none exactly where a number of it lies outside 128 bits.
+// What an assignment changes, and `None` exactly when a number of it lies outside 128 bits.
 fn change_of(assign: &Assign<VarId>, values: &[Value]) -> Option<Change>
-    ensures { SomeIff result (ActionFits (store_from values.now) (assignment_of assign.now)) (done_by (store_from values.now) (assignment_of assign.now)) }
+    ensures { SomeIff result (AssignmentFits (store_from values.now) (assignment_of assign.now)) (done_by (store_from values.now) (assignment_of assign.now)) }
 {
     match assign {
         Assign::Set(x, e) => {
@@ -36,6 +37,10 @@ fn change_of(assign: &Assign<VarId>, values: &[Value]) -> Option<Change>
             let at = value_of(i, values)?;
             let v = value_of(e, values)?;
             Some(Change::Put(x.0, at, v))
+        }
+        Assign::Emit(x, e) => {
+            let v = value_of(e, values)?;
+            Some(Change::Append(x.0, v))
         }
     }
 }
@@ -70,7 +75,7 @@ fn push(out: &mut Vec<Change>, change: Change) -> Result<(), StepStop>
     }
 }
 
-/// Makes changes in order, or none of them where there is no memory. Entries that become 0 go.
+/// Makes changes in order, or none of them where memory runs out. Entries that become 0 go.
 pub fn change_all(values: &mut [Value], changes: &[Change]) -> Result<(), NoMemory>
     requires { AllSuit values.old changes.now }
     ensures changed { OnOk result (store_from values.new ≡ changed_all (store_from values.old) changes.now) }
@@ -85,7 +90,8 @@ pub fn change_all(values: &mut [Value], changes: &[Change]) -> Result<(), NoMemo
     room
 }
 
-/// Makes room for changes: an entry, which may be 0, at each index that is written.
+// Makes room for changes: an entry, which may be 0, at each index that is written, and in each list
+// that is appended to as much as if all changes were appended to it.
 fn make_room(values: &mut [Value], changes: &[Change]) -> Result<(), NoMemory>
     requires { AllSuit values.old changes.now }
     ensures room { OnOk result (AllReady values.new changes.now) }
@@ -93,16 +99,16 @@ fn make_room(values: &mut [Value], changes: &[Change]) -> Result<(), NoMemory>
     ensures sorts { map sort_of values.new ≡ map sort_of values.old }
 {
     for change in changes {
-        make_room_for(values, change)?;
+        make_room_for(values, change, changes.len())?;
     }
     Ok(())
 }
 
-/// Makes room for one change. What was ready stays so.
-fn make_room_for(values: &mut [Value], change: &Change) -> Result<(), NoMemory>
+// Makes room for one change of so many. What was ready stays so.
+fn make_room_for(values: &mut [Value], change: &Change, count: usize) -> Result<(), NoMemory>
     requires { IsTrue (suits values.old change.now) }
-    ensures room { OnOk result (IsTrue (is_ready values.new change.now)) }
-    ensures keeps { (c : Change) → IsTrue (is_ready values.old c) → IsTrue (is_ready values.new c) }
+    ensures room { OnOk result (IsTrue (is_ready count values.new change.now)) }
+    ensures keeps { (n : ℕ) (c : Change) → IsTrue (is_ready n values.old c) → IsTrue (is_ready n values.new c) }
     ensures same { store_from values.new ≡ store_from values.old }
     ensures sorts { map sort_of values.new ≡ map sort_of values.old }
 {
@@ -112,13 +118,17 @@ fn make_room_for(values: &mut [Value], change: &Change) -> Result<(), NoMemory>
             Ok(()) => Ok(()),
             Err(e) => Err(e),
         },
+        Change::Append(x, _) => match make_list_room(&mut values[*x as usize], count) {
+            Ok(()) => Ok(()),
+            Err(e) => Err(e),
+        },
     }
 }
 
 fn make_room_in(value: &mut Value, i: i128) -> Result<(), NoMemory>
     requires { is_array (Some value.old) ≡ true }
     ensures room { OnOk result (room_in (Some value.new) i ≡ true) }
-    ensures keeps { KeepsRoom value.old value.new }
+    ensures keeps { (n : ℕ) → KeepsRoom n n value.old value.new }
     ensures same { Alike value.old value.new }
 {
     match value {
@@ -126,11 +136,26 @@ fn make_room_in(value: &mut Value, i: i128) -> Result<(), NoMemory>
             Ok(()) => Ok(()),
             Err(e) => Err(e),
         },
-        Value::Num(_) => unreachable!(),
+        Value::Num(_) | Value::List(_) => unreachable!(),
     }
 }
 
-/// Makes changes in order.
+fn make_list_room(value: &mut Value, count: usize) -> Result<(), NoMemory>
+    requires { is_list (Some value.old) ≡ true }
+    ensures room { OnOk result (room_for (Some value.new) count ≡ true) }
+    ensures keeps { (n : ℕ) → KeepsRoom n n value.old value.new }
+    ensures same { Alike value.old value.new }
+{
+    match value {
+        Value::List(numbers) => match numbers.make_room(count) {
+            Ok(()) => Ok(()),
+            Err(e) => Err(e),
+        },
+        Value::Num(_) | Value::Arr(_) => unreachable!(),
+    }
+}
+
+// Makes changes in order.
 fn write_all(values: &mut [Value], changes: &[Change])
     requires { AllReady values.old changes.now }
     ensures changed { store_from values.new ≡ changed_all (store_from values.old) changes.now }
@@ -141,31 +166,43 @@ fn write_all(values: &mut [Value], changes: &[Change])
     }
 }
 
-/// Makes one change. What was ready stays so.
+// Makes one change. What was ready as the last of more changes stays so.
 fn write(values: &mut [Value], change: &Change)
-    requires { IsTrue (is_ready values.old change.now) }
+    requires { IsTrue (is_ready 1 values.old change.now) }
     ensures changed { store_from values.new ≡ changed (store_from values.old) change.now }
-    ensures keeps { (c : Change) → IsTrue (is_ready values.old c) → IsTrue (is_ready values.new c) }
+    ensures keeps { (n : ℕ) (c : Change) → IsTrue (is_ready (suc n) values.old c) → IsTrue (is_ready n values.new c) }
     ensures sorts { map sort_of values.new ≡ map sort_of values.old }
 {
     match change {
         Change::Set(x, v) => values[*x as usize] = Value::Num(*v),
         Change::Put(x, i, v) => write_in(&mut values[*x as usize], *i, *v),
+        Change::Append(x, v) => append_in(&mut values[*x as usize], *v),
     }
 }
 
 fn write_in(value: &mut Value, i: i128, v: i128)
     requires { room_in (Some value.old) i ≡ true }
     ensures put { Puts i v value.old value.new }
-    ensures keeps { KeepsRoom value.old value.new }
+    ensures keeps { (n : ℕ) → KeepsRoom (suc n) n value.old value.new }
 {
     match value {
         Value::Arr(entries) => entries.put(i, v),
-        Value::Num(_) => unreachable!(),
+        Value::Num(_) | Value::List(_) => unreachable!(),
     }
 }
 
-/// Takes out the entries that are 0 at the indices of changes.
+fn append_in(value: &mut Value, v: i128)
+    requires { room_for (Some value.old) 1 ≡ true }
+    ensures appended { Appends v value.old value.new }
+    ensures keeps { (n : ℕ) → KeepsRoom (suc n) n value.old value.new }
+{
+    match value {
+        Value::List(numbers) => numbers.append(v),
+        Value::Num(_) | Value::Arr(_) => unreachable!(),
+    }
+}
+
+// Takes out the entries that are 0 at the indices of changes.
 fn sweep_all(values: &mut [Value], changes: &[Change])
     ensures same { store_from values.new ≡ store_from values.old }
     ensures sorts { map sort_of values.new ≡ map sort_of values.old }
@@ -192,6 +229,6 @@ fn sweep_in(value: &mut Value, i: i128)
 {
     match value {
         Value::Arr(entries) => entries.sweep(i),
-        Value::Num(_) => {}
+        Value::Num(_) | Value::List(_) => {}
     }
 }

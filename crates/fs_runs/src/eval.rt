@@ -11,7 +11,7 @@ use crate::values::Value;
 use fs_model::parts::{Expr, VarId};
 use integers::{quotient, remainder};
 
-/// What a scalar holds.
+// What a scalar holds.
 fn number(values: &[Value], x: VarId) -> i128
     ensures { result ≡ number_in (slice_get values.now x.0) }
 {
@@ -21,7 +21,7 @@ fn number(values: &[Value], x: VarId) -> i128
     }
 }
 
-/// What an array holds at an index.
+// What an array holds at an index.
 fn element(values: &[Value], x: VarId, i: i128) -> i128
     ensures { result ≡ entry_in (slice_get values.now x.0) i }
 {
@@ -31,7 +31,7 @@ fn element(values: &[Value], x: VarId, i: i128) -> i128
     }
 }
 
-/// The value of an expression, and none exactly where a part of it has its value outside 128 bits.
+/// The value of an expression, and `None` exactly when a part of it has its value outside 128 bits.
 pub fn value_of(e: &Expr<VarId>, values: &[Value]) -> Option<i128>
     ensures { SomeIff result (EachFits (term_of e.now) (store_from values.now)) (value (term_of e.now) (store_from values.now)) }
 {

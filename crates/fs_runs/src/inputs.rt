@@ -5,7 +5,7 @@ ghost use Rattle.std.specs.Option.{option_map, option_copied};
 ghost use Rattle.std.specs.Result.{OnOk, OnErr};
 ghost use Rattle.fs_model.specs.Runs.{is_input, start};
 ghost use Rattle.fs_runs.specs.Values.{sort_of, content_of, store_of, IsStoreOf};
-ghost use Rattle.fs_runs.specs.Given.{given, given_values, inputs_of, faces_of, input_faces, face_sort, Serves, all_zero, first_content, face, AllZero};
+ghost use Rattle.fs_runs.specs.InputValues.{value_named, input_values, inputs_of, signatures_of, input_signatures, sort_named, Serves, all_zero, first_content, is_given, signature, AllZero};
 
 use crate::store::Store;
 use crate::values::Value;
@@ -30,8 +30,8 @@ pub struct Inputs {
 impl Inputs {
     /// A value for each input of a machine: 0, or 0 at each index.
     pub fn zero(alloc: Global, m: &Machine) -> Result<Inputs, NoMemory>
-        ensures faces { IfOk result (λ ins. faces_of ins ≡ input_faces m.now.variables) }
-        ensures serves { IfOk result (λ ins. Serves (faces_of ins) m.now) }
+        ensures signatures { IfOk result (λ ins. signatures_of ins ≡ input_signatures m.now.variables) }
+        ensures serves { IfOk result (λ ins. Serves (signatures_of ins) m.now) }
         ensures zero { IfOk result (λ ins. inputs_of ins ≡ all_zero) }
     {
         let mut items = Vec::new(alloc);
@@ -43,10 +43,10 @@ impl Inputs {
 
     /// Gives the input of a number, counted in order of declaration from 0, a value of its sort.
     pub fn set(&mut self, _alloc: Global, k: u32, value: Value) -> Result<(), NoMemory>
-        requires { option_map (λ f. f.1) (slice_get (faces_of self.old) k) ≡ Some (sort_of value) }
-        ensures values { OnOk result (given_values self.new ≡ slice_set (given_values self.old) k value) }
-        ensures faces { faces_of self.new ≡ faces_of self.old }
-        ensures unchanged { OnErr result (given_values self.new ≡ given_values self.old) }
+        requires { option_map (λ f. f.1) (slice_get (signatures_of self.old) k) ≡ Some (sort_of value) }
+        ensures values { OnOk result (input_values self.new ≡ slice_set (input_values self.old) k value) }
+        ensures signatures { signatures_of self.new ≡ signatures_of self.old }
+        ensures unchanged { OnErr result (input_values self.new ≡ input_values self.old) }
     {
         self.items[k as usize].value = value;
         Ok(())
@@ -54,7 +54,7 @@ impl Inputs {
 
     /// The sort of the input of a number, and none where there are not so many. Takes no memory.
     pub fn sort(&self, k: u32) -> Option<Sort>
-        ensures { result ≡ option_map (λ f. f.1) (slice_get (faces_of self.now) k) }
+        ensures { result ≡ option_map (λ f. f.1) (slice_get (signatures_of self.now) k) }
     {
         match self.items.get(k as usize) {
             Some(item) => Some(item.value.sort()),
@@ -64,18 +64,18 @@ impl Inputs {
 
     /// The value of the input of a number. Takes no memory.
     pub fn get(&self, k: u32) -> &Value
-        requires { k < length (faces_of self.now) }
-        ensures { slice_get (given_values self.now) k ≡ Some result.now }
+        requires { k < length (signatures_of self.now) }
+        ensures { slice_get (input_values self.now) k ≡ Some result.now }
     {
         &self.items[k as usize].value
     }
 
-    /// The value of a name.
-    fn given(&self, name: &Name) -> Option<&Value>
-        ensures { option_copied result ≡ given self.now.items.items name.now }
+    // The value of a name.
+    fn value_named(&self, name: &Name) -> Option<&Value>
+        ensures { option_copied result ≡ value_named self.now.items.items name.now }
     {
         for item in &self.items {
-            if item.name.is(name) {
+            if item.name == *name {
                 return Some(&item.value);
             }
         }
@@ -92,10 +92,20 @@ fn is_input(var: &VarInfo) -> bool
     }
 }
 
-/// Adds a value of 0 for a variable that is an input.
+// Whether a variable starts with what the inputs give.
+fn is_given(var: &VarInfo) -> bool
+    ensures { result ≡ is_given var.now }
+{
+    match var.sort {
+        Sort::Scalar | Sort::Array => is_input(var),
+        Sort::Port => false,
+    }
+}
+
+// Adds a value of 0 for a variable that is an input.
 fn add_input(alloc: Global, items: &mut Vec<Input>, var: &VarInfo) -> Result<(), NoMemory>
     requires { AllZero items.old.items }
-    ensures faces { OnOk result (map face items.new.items ≡ map face items.old.items ++ input_faces (var.now ∷ [])) }
+    ensures signatures { OnOk result (map signature items.new.items ≡ map signature items.old.items ++ input_signatures (var.now ∷ [])) }
     ensures zero { OnOk result (AllZero items.new.items) }
 {
     if !is_input(var) {
@@ -118,10 +128,10 @@ pub(crate) fn push<T: Drop>(out: &mut Vec<T>, item: T) -> Result<(), NoMemory>
     }
 }
 
-/// The store in which a run begins: the inputs as given, every other scalar 0, and every other array
-/// 0 at each index.
+/// The store in which a run starts: the inputs as given, every other scalar 0, every other array 0 at
+/// each index, and every port the empty list.
 pub fn start(alloc: Global, m: &Machine, inputs: &Inputs) -> Result<Store, NoMemory>
-    requires { Serves (faces_of inputs.now) m.now }
+    requires { Serves (signatures_of inputs.now) m.now }
     ensures start { IfOk result (λ s. store_of s ≡ start m.now (inputs_of inputs.now)) }
     ensures sorts { IfOk result (λ s. IsStoreOf m.now s) }
 {
@@ -132,16 +142,16 @@ pub fn start(alloc: Global, m: &Machine, inputs: &Inputs) -> Result<Store, NoMem
     Ok(Store { values })
 }
 
-/// What a variable holds as a run begins.
+// What a variable holds as a run starts.
 fn first_value(alloc: Global, var: &VarInfo, inputs: &Inputs) -> Result<Value, NoMemory>
-    requires { is_input var.now.role ≡ true → face_sort (faces_of inputs.now) var.now.name ≡ Some var.now.sort }
+    requires { is_input var.now.role ≡ true → sort_named (signatures_of inputs.now) var.now.name ≡ Some var.now.sort }
     ensures content { IfOk result (λ v. content_of v ≡ first_content (inputs_of inputs.now) var.now) }
     ensures sort { IfOk result (λ v. sort_of v ≡ var.now.sort) }
 {
-    if !is_input(var) {
+    if !is_given(var) {
         return Ok(Value::zero(alloc, var.sort));
     }
-    match inputs.given(&var.name) {
+    match inputs.value_named(&var.name) {
         Some(value) => Ok(value.try_clone()?),
         None => unreachable!(),
     }

@@ -5,9 +5,9 @@ mod branches;
 mod changes;
 mod eval;
 pub mod inputs;
+pub mod laws;
+pub mod numbers;
 pub mod run;
 pub mod step;
 pub mod store;
-#[cfg(test)]
-mod tests;
 pub mod values;

@@ -1,11 +1,11 @@
 //! Runs: steps from the reset state up to the first return to it.
 
-ghost use Rattle.std.specs.Prelude.{◌≡◌, ◌≤◌, ◌==◌, ◌++◌, ◌∷◌, [], ℕ, List, map, IfOk, IfErr};
+ghost use Rattle.std.specs.Prelude.{◌≡◌, ◌≤◌, ◌==◌, ◌++◌, ◌∷◌, [], ℕ, List, length, map, IfOk, IfErr};
 ghost use Rattle.fs_model.specs.Runs.{Run, start, output, is_output};
 ghost use Rattle.fs_model.specs.Touched.{StaysInRange};
 ghost use Rattle.fs_runs.specs.Values.{content_of, store_of, IsStoreOf};
-ghost use Rattle.fs_runs.specs.Given.{inputs_of, faces_of, Serves};
-ghost use Rattle.fs_runs.specs.Outcomes.{outs_of, told_by, IsStopped};
+ghost use Rattle.fs_runs.specs.InputValues.{inputs_of, signatures_of, Serves};
+ghost use Rattle.fs_runs.specs.Outcomes.{output_names, outs_of, told_by, HoldsEach, IsStopped};
 ghost use Rattle.std.specs.Result.{OnOk};
 
 use crate::inputs::{Inputs, push, start};
@@ -34,14 +34,17 @@ pub enum RunStop {
     NoMemory,
 }
 
-/// Runs a machine on inputs up to the first return to the reset state, at most so many steps.
+/// Runs a machine on inputs up to the first return to the reset state, at most so many steps. The
+/// outputs are as many as the machine has, and each holds something.
 ///
-/// `PastWide` comes exactly where a number outside 128 bits is touched within the limit, and by no
+/// `PastWide` comes exactly when a number outside 128 bits is touched within the limit, and by no
 /// step after the return; `StepsOver` where within the limit there is neither such a number nor a return.
 pub fn run(alloc: Global, m: &Machine, inputs: &Inputs, limit: u64) -> Result<Ended, RunStop>
     requires limit { 1 ≤ limit }
-    requires inputs { Serves (faces_of inputs.now) m.now }
+    requires inputs { Serves (signatures_of inputs.now) m.now }
     ensures ended { IfOk result (λ e. Run m.now (inputs_of inputs.now) (told_by m.now e.outputs.items) e.steps) }
+    ensures count { IfOk result (λ e. length e.outputs.items ≡ length (output_names m.now.variables)) }
+    ensures holds { IfOk result (λ e. HoldsEach (told_by m.now e.outputs.items) (output_names m.now.variables)) }
     ensures within { IfOk result (λ e. e.steps ≤ limit) }
     ensures in_range { IfOk result (λ e. StaysInRange m.now e.steps m.now.reset (start m.now (inputs_of inputs.now))) }
     ensures stopped { IfErr result (λ e. IsStopped m.now (inputs_of inputs.now) limit e) }
@@ -70,10 +73,12 @@ fn is_reset(m: &Machine, s: StateId) -> bool
     s.0 == m.reset().0
 }
 
-/// The end of a run after so many steps.
+// The end of a run after so many steps.
 fn end_after(alloc: Global, m: &Machine, store: &Store, steps: u64) -> Result<Ended, RunStop>
     requires { IsStoreOf m.now store.now }
     ensures outputs { IfOk result (λ e. (name : List ℕ) → output m.now (store_of store.now) name ≡ told_by m.now e.outputs.items name) }
+    ensures count { IfOk result (λ e. length e.outputs.items ≡ length (output_names m.now.variables)) }
+    ensures holds { IfOk result (λ e. HoldsEach (told_by m.now e.outputs.items) (output_names m.now.variables)) }
     ensures steps { IfOk result (λ e. e.steps ≡ steps) }
     ensures full { IfErr result (λ e. e ≡ RunStop.NoMemory) }
 {
@@ -83,10 +88,12 @@ fn end_after(alloc: Global, m: &Machine, store: &Store, steps: u64) -> Result<En
     }
 }
 
-/// What the outputs hold, in order of declaration.
+// What the outputs hold, in order of declaration.
 fn outputs(alloc: Global, m: &Machine, store: &Store) -> Result<Vec<Value>, NoMemory>
     requires { IsStoreOf m.now store.now }
-    ensures { IfOk result (λ out. (name : List ℕ) → output m.now (store_of store.now) name ≡ told_by m.now out.items name) }
+    ensures told { IfOk result (λ out. (name : List ℕ) → output m.now (store_of store.now) name ≡ told_by m.now out.items name) }
+    ensures count { IfOk result (λ out. length out.items ≡ length (output_names m.now.variables)) }
+    ensures holds { IfOk result (λ out. HoldsEach (told_by m.now out.items) (output_names m.now.variables)) }
 {
     let vars = m.vars();
     let values = store.values.as_slice();
@@ -97,7 +104,7 @@ fn outputs(alloc: Global, m: &Machine, store: &Store) -> Result<Vec<Value>, NoMe
     Ok(out)
 }
 
-/// Adds a copy of what a variable holds that is an output.
+// Adds a copy of what a variable holds that is an output.
 fn add_output(out: &mut Vec<Value>, var: &VarInfo, value: &Value) -> Result<(), NoMemory>
     ensures { OnOk result (map content_of out.new.items ≡ map content_of out.old.items ++ outs_of (var.now ∷ []) (value.now ∷ [])) }
 {

@@ -7,7 +7,7 @@ ghost use Rattle.fs_model.specs.Touched.{touched, AllInRange};
 ghost use Rattle.fs_runs.specs.Values.{store_of, IsStoreOf};
 ghost use Rattle.fs_runs.specs.Outcomes.{PastOnly};
 
-use crate::branches::open_branch;
+use crate::branches::taken_branch;
 use crate::changes::{change_all, changes_of};
 use crate::store::Store;
 use fs_ast::machine::Machine;
@@ -24,9 +24,10 @@ pub enum StepStop {
 
 /// Takes the step from a state, and answers the state to which it leads.
 ///
-/// The right sides and indices are valued in the store before, and the assignments are then done in
-/// order. `PastWide` comes exactly where a literal on the way taken, a right side, an index or a part
-/// of these has its value outside 128 bits. After an error the store is as before.
+/// The right sides, indices and emitted expressions are valued in the store before, and the assignments
+/// are then done in order. `PastWide` comes exactly when a literal on the way taken, a right side, an
+/// index, an emitted expression or a part of these has its value outside 128 bits. After an error the
+/// store is as before.
 pub fn step(alloc: Global, m: &Machine, store: &mut Store, s: StateId) -> Result<StateId, StepStop>
     requires state { s.0 < length m.now.states }
     requires store { IsStoreOf m.now store.old }
@@ -37,7 +38,7 @@ pub fn step(alloc: Global, m: &Machine, store: &mut Store, s: StateId) -> Result
     ensures unchanged { OnErr result (store_of store.new ≡ store_of store.old) }
     ensures kept { IsStoreOf m.now store.new }
 {
-    let Some(branch) = open_branch(m.branches(s), store.values.as_slice()) else {
+    let Some(branch) = taken_branch(m.branches(s), store.values.as_slice()) else {
         return Err(StepStop::PastWide);
     };
     let changes = changes_of(alloc, branch.assigns.as_slice(), store.values.as_slice())?;

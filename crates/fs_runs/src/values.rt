@@ -1,4 +1,4 @@
-//! What variables hold: numbers, and arrays with finitely many entries that are not 0.
+//! What variables hold: numbers, arrays with finitely many entries that are not 0, and lists of numbers.
 
 ghost use Rattle.std.specs.Prelude.{◌≡◌, true, is_some, ℤ, pos, cond, IfOk};
 ghost use Rattle.std.specs.Ordering.{int_eq, int_cmp};
@@ -8,6 +8,7 @@ ghost use Rattle.fs_runs.specs.Values.{entry, content_of, sort_of, zero_content}
 
 mod listing;
 
+use crate::numbers::Numbers;
 use fs_model::name::NoMemory;
 use fs_model::parts::Sort;
 use std::alloc::Global;
@@ -20,11 +21,12 @@ pub struct Entries {
     map: BTreeMap<i128, i128>,
 }
 
-/// What a variable holds: a number of 128 bits, or the entries of an array.
+/// What a variable holds: a number of 128 bits, the entries of an array, or the numbers emitted to a port.
 #[derive(Drop)]
 pub enum Value {
     Num(i128),
     Arr(Entries),
+    List(Numbers),
 }
 
 impl Entries {
@@ -58,7 +60,7 @@ impl Entries {
             Err(_) => Err(NoMemory),
         }
     }
-    /// Makes room at an index: an entry stands there, if only 0.
+    // Makes room at an index: an entry stands there, if only 0.
     pub(crate) fn make_room(&mut self, i: i128) -> Result<(), NoMemory>
         ensures room { OnOk result (is_some (get int_cmp self.new.map i) ≡ true) }
         ensures keeps { (j : ℤ) → is_some (get int_cmp self.old.map j) ≡ true → is_some (get int_cmp self.new.map j) ≡ true }
@@ -73,7 +75,7 @@ impl Entries {
         }
     }
 
-    /// Puts a number at an index at which there is room.
+    // Puts a number at an index at which there is room.
     pub(crate) fn put(&mut self, i: i128, v: i128)
         requires { is_some (get int_cmp self.old.map i) ≡ true }
         ensures put { (j : ℤ) → entry self.new j ≡ cond (int_eq i j) v (entry self.old j) }
@@ -85,7 +87,7 @@ impl Entries {
         }
     }
 
-    /// Takes out the entry at an index if it is 0.
+    // Takes out the entry at an index if it is 0.
     pub(crate) fn sweep(&mut self, i: i128)
         ensures { (j : ℤ) → entry self.new j ≡ entry self.old j }
     {
@@ -106,17 +108,18 @@ impl Entries {
 }
 
 impl Value {
-    /// Whether the value is a number or the entries of an array. Takes no memory.
+    /// Whether the value is a number, the entries of an array or a list. Takes no memory.
     pub fn sort(&self) -> Sort
         ensures { result ≡ sort_of self.now }
     {
         match self {
             Value::Num(_) => Sort::Scalar,
             Value::Arr(_) => Sort::Array,
+            Value::List(_) => Sort::Port,
         }
     }
 
-    /// The value with which a variable that is no input begins: 0, or 0 at each index. Takes no memory.
+    /// What a variable that is no input holds at the start: 0, 0 at each index, or the empty list. Takes no memory.
     pub fn zero(alloc: Global, sort: Sort) -> Value
         ensures content { content_of result ≡ zero_content sort }
         ensures sort { sort_of result ≡ sort }
@@ -124,6 +127,7 @@ impl Value {
         match sort {
             Sort::Scalar => Value::Num(0),
             Sort::Array => Value::Arr(Entries::new(alloc)),
+            Sort::Port => Value::List(Numbers::new(alloc)),
         }
     }
 
@@ -135,6 +139,7 @@ impl Value {
         match self {
             Value::Num(n) => Ok(Value::Num(*n)),
             Value::Arr(entries) => Ok(Value::Arr(entries.try_clone()?)),
+            Value::List(numbers) => Ok(Value::List(numbers.try_clone()?)),
         }
     }
 }

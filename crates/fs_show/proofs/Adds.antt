@@ -5,8 +5,8 @@ use Rattle.std.specs.List.{filter}
 use Rattle.std.proofs.lemmas.List.{take_more}
 use Rattle.fs_model.specs.declared.parts.VarInfo.{VarInfo}
 use Rattle.fs_model.specs.Runs.{is_output}
-use Rattle.fs_runs.specs.Outcomes.{output_names}
-use Rattle.fs_show.specs.Items.{Outputs, AreItems, AddsItems}
+use Rattle.fs_runs.specs.Outcomes.{Outputs, output_names}
+use Rattle.fs_show.specs.Items.{AreItems, AddsItems}
 
 names_more : (vs ws : List VarInfo) → output_names (vs ++ ws) ≡ output_names vs ++ output_names ws
 names_more [] ws = refl

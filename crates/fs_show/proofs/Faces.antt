@@ -14,36 +14,9 @@ use Rattle.fs_model.specs.Stores.{Store}
 use Rattle.fs_model.specs.Runs.{Inputs, Content, Run, content, is_output, output_from}
 use Rattle.fs_runs.specs.declared.values.Value.{Value}
 use Rattle.fs_runs.specs.Values.{content_of}
-use Rattle.fs_runs.specs.Outcomes.{output_names, told, told_by}
+use Rattle.fs_runs.specs.Outcomes.{Outputs, output_names, told, told_by, HoldsEach}
 use Rattle.fs_pair.specs.Faces.{is_face, same_role, same_sort, named, is_like, lacks_match, first_unmatched, interface_fault}
-use Rattle.fs_show.specs.Items.{Outputs, HoldsEach, SameOutputs}
-
-all_through : {X : Type 0} (P Q : X → Type 0) → ((x : X) → P x → Q x) → (xs : List X) → AllByRecursion P xs → AllByRecursion Q xs
-all_through P Q f [] all = tt
-all_through P Q f (x ∷ xs) all = (f x all.0, all_through P Q f xs all.1)
-
-same_bytes : (name : List ℕ) → bytes_eq name name ≡ true
-same_bytes name = (bytes_eq-Decides name name).1 refl
-
-either : (b : Bool) (c : Content) (rest : Option Content) → IsSome rest → IsSome (cond b (Some c) rest)
-either true c rest there = refl
-either false c rest there = there
-
--- each output name of variables holds something in a store
-each_held : (vs : List VarInfo) (x : ℕ) (s : Store) → AllByRecursion (λ n. IsSome (output_from vs x s n)) (output_names vs)
-each_held [] x s = tt
-each_held (v ∷ vs) x s =
-    let c = content v.sort x s in
-    let rest = each_held vs (x + 1) s in
-    elim (is_output v.role) as (λ b. AllByRecursion (λ n. IsSome (cond (b && bytes_eq v.name n) (Some c) (output_from vs (x + 1) s n))) (map (λ (w : VarInfo). w.name) (cond b (v ∷ filter (λ w. is_output w.role) vs) (filter (λ w. is_output w.role) vs)))) [
-      | true ↦ (rw (same_bytes v.name) refl, all_through (λ n. IsSome (output_from vs (x + 1) s n)) (λ n. IsSome (cond (bytes_eq v.name n) (Some c) (output_from vs (x + 1) s n))) (λ n there. either (bytes_eq v.name n) c (output_from vs (x + 1) s n) there) (output_names vs) rest)
-      | false ↦ rest
-    ]
-
--- what a run answers says something of each output of its machine
-pub run_holds_each : (m : Fsmd) (ins : Inputs) (outs : Outputs) (n : ℕ) → Run m ins outs n → HoldsEach outs (output_names m.variables)
-run_holds_each m ins outs n r =
-    all_through (λ name. IsSome (output_from m.variables 0 r.end name)) (λ name. IsSome (outs name)) (λ name there. subst IsSome (r.gives name) there) (output_names m.variables) (each_held m.variables 0 r.end)
+use Rattle.fs_show.specs.Items.{SameOutputs}
 
 some_differs : {X : Type 0} (x : X) → Some x ≢ None
 some_differs x e = false≢true (sym (ap is_some e))

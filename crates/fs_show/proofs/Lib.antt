@@ -4,3 +4,4 @@ pub mod Faces
 pub mod Arrays
 pub mod Adds
 pub mod RunOnce
+pub mod Serving

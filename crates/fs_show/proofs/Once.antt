@@ -1,16 +1,18 @@
 -- Each thing that prints has one text.
 use Rattle.std.proofs.Common.{◌≡◌, ℕ, Bool, true, false, List, [], ◌∷◌, refl, sym, ◌∙◌, ap, subst}
 use Rattle.std.specs.Bool.{Decides}
-use Rattle.fs_model.specs.Runs.{Number, Entries}
+use Rattle.fs_model.specs.Runs.{Number, Entries, Emitted}
 use Rattle.fs_runs.specs.declared.run.RunStop.TheVariants.{StepsOver, PastWide, NoMemory}
 use Rattle.fs_show.specs.Shown.{array_text, Shows}
-use Rattle.fs_show.specs.Items.{Outputs, item_of, IsItem, AreItems, SameOutputs}
+use Rattle.fs_runs.specs.Outcomes.{Outputs}
+use Rattle.fs_show.specs.Items.{item_of, IsItem, AreItems, SameOutputs}
 use Rattle.fs_show.specs.Ends.{end_text, replay_text}
 use Rattle.fs_show.specs.Laws.{OneContentText, OneEndText, OneStopText, OneReplayText}
 use Rattle.fs_show.proofs.Listed.{listing_once}
 
 pub content_once : OneContentText
 content_once (Number n) t u a b = a ∙ sym b
+content_once (Emitted zs) t u a b = a ∙ sym b
 content_once (Entries f) t u a b = a.spelled ∙ ap array_text (listing_once f a.entries b.entries a.listing b.listing) ∙ sym b.spelled
 
 item_once : (outs : Outputs) (name t u : List ℕ) → IsItem outs name t → IsItem outs name u → t ≡ u

@@ -1,78 +1,39 @@
 -- A run of a machine on inputs has one text.
-use Rattle.std.proofs.Common.{◌≡◌, ℕ, zero, suc, ◌-◌, ◌<◌, ◌≤◌, List, sym, ◌∙◌, ap, subst, inl, inr, arith}
+use Rattle.std.proofs.Common.{◌≡◌, ℕ, List, sym, subst, inl, inr}
 use Rattle.fs_model.specs.Machines.{Fsmd}
-use Rattle.fs_model.specs.Stores.{Store}
-use Rattle.fs_model.specs.Runs.{Inputs, AfterStep, ReachesReset, FirstReturn, start, output}
-use Rattle.fs_model.specs.Touched.{StaysInRange}
-use Rattle.fs_model.proofs.Determined.{same_state, same_store, goes_once}
+use Rattle.fs_model.specs.Runs.{Inputs}
 use Rattle.fs_runs.specs.declared.run.RunStop.{RunStop}
 use Rattle.fs_runs.specs.declared.run.RunStop.TheVariants.{StepsOver, PastWide, NoMemory}
-use Rattle.fs_runs.specs.Outcomes.{output_names, RunsOn, LeavesRange, IsStopped}
+use Rattle.fs_runs.specs.Outcomes.{output_names, IsOfRun}
+use Rattle.fs_runs.proofs.RunOnce.{one_end, one_stop, end_or_stop}
+use Rattle.fs_show.specs.declared.ends.Side.{Side}
 use Rattle.fs_show.specs.declared.ends.Side.TheVariants.{Only}
 use Rattle.fs_show.specs.Ends.{IsEndText, IsStopText}
-use Rattle.fs_show.specs.Runs.{EndsAs}
+use Rattle.fs_show.specs.Runs.{EndsAs, StopsAs}
 use Rattle.fs_show.specs.Laws.{OneRunText}
 use Rattle.fs_show.proofs.Once.{end_once, stop_once}
 
--- fewer steps stay in range too
-stays_less : (m : Fsmd) (k n q : ℕ) (s : Store) → k ≤ n → StaysInRange m n q s → StaysInRange m k q s
-stays_less m zero n q s le x = tt
-stays_less m (suc k) zero q s le x = absurd (omega arith)
-stays_less m (suc k) (suc n) q s le x = (x.0, λ r t st ne. stays_less m k n r t (omega arith) (x.1 r t st ne))
+-- a stop that has a text is of the run
+pub told_of_run : (side : Side) (stop : RunStop) (t : List ℕ) → IsStopText side stop t → IsOfRun stop
+told_of_run side (StepsOver n) t told = tt
+told_of_run side (PastWide k) t told = tt
+told_of_run side NoMemory t told = told
 
--- behind the return nothing is touched
-after_on : (m : Fsmd) (k n q : ℕ) (s t : Store) → AfterStep m q s (λ r u. ReachesReset m n r u t) → StaysInRange m (suc n) q s → StaysInRange m k q s
-after_on m zero n q s t a x = tt
-after_on m (suc k) zero q s t a x = (x.0, λ r u st ne. absurd (ne (same_state m q s r a.state u a.store st a.step ∙ a.after.0)))
-after_on m (suc k) (suc n) q s t a x = (
-  x.0,
-  λ r u st ne.
-      let e : a.state ≡ r = same_state m q s a.state r a.store u a.step st in
-      let f : a.store ≡ u = same_store m q s a.state r a.store u a.step st in
-      after_on m k n r u t (subst (λ z. AfterStep m r z (λ w v. ReachesReset m n w v t)) f (subst (λ z. AfterStep m z a.store (λ w v. ReachesReset m n w v t)) e a.after.1)) (x.1 r u st ne),
-)
+one_end_text : (m : Fsmd) (ins : Inputs) (limit : ℕ) (t u : List ℕ) → EndsAs m ins limit t → EndsAs m ins limit u → t ≡ u
+one_end_text m ins limit t u a b =
+    let same = one_end m ins limit a.outs b.outs a.steps b.steps a.ends b.ends in
+    end_once (output_names m.variables) b.outs b.steps t u (subst (λ n. IsEndText (output_names m.variables) b.outs n t) same.1 (subst (λ o. IsEndText (output_names m.variables) o a.steps t) same.0 a.told)) b.told
 
-goes_on : (m : Fsmd) (k n q : ℕ) (s t : Store) → FirstReturn m n q s t → StaysInRange m n q s → StaysInRange m k q s
-goes_on m k zero q s t goes x = absurd goes
-goes_on m k (suc n) q s t goes x = after_on m k n q s t goes x
+one_stop_text : (m : Fsmd) (ins : Inputs) (limit : ℕ) (t u : List ℕ) → StopsAs m ins limit t → StopsAs m ins limit u → t ≡ u
+one_stop_text m ins limit t u a b =
+    let same : a.stop ≡ b.stop = one_stop m ins limit a.stop b.stop a.stopped b.stopped (told_of_run Only a.stop t a.told) (told_of_run Only b.stop u b.told) in
+    stop_once Only b.stop t u (subst (λ x. IsStopText Only x t) same a.told) b.told
 
--- a run that ends is not stopped
-no_stop : (m : Fsmd) (ins : Inputs) (limit : ℕ) (t u : List ℕ) (stop : RunStop) → EndsAs m ins limit t → IsStopped m ins limit stop → IsStopText Only stop u → ⊥
-no_stop m ins limit t u (StepsOver n) a b told = b.1.no_return a.steps a.run.end a.within a.run.goes
-no_stop m ins limit t u (PastWide k) a b told = b.here (goes_on m k a.steps m.reset (start m ins) a.run.end a.run.goes a.in_range)
-no_stop m ins limit t u NoMemory a b told = absurd told
-
--- the first step that leaves the range is one
-not_before : (m : Fsmd) (ins : Inputs) (limit j k : ℕ) → LeavesRange m ins limit j → LeavesRange m ins limit k → j < k → ⊥
-not_before m ins limit j k a b less = a.here (stays_less m j (k - 1) m.reset (start m ins) (omega arith) b.before)
-
-one_step : (m : Fsmd) (ins : Inputs) (limit j k : ℕ) → LeavesRange m ins limit j → LeavesRange m ins limit k → j ≡ k
-one_step m ins limit j k a b =
-    let here : j < k → ⊥ = not_before m ins limit j k a b in
-    let there : k < j → ⊥ = not_before m ins limit k j b a in
-    omega arith
-
-runs_on_stays : (m : Fsmd) (ins : Inputs) (limit k : ℕ) → RunsOn m ins limit → LeavesRange m ins limit k → ⊥
-runs_on_stays m ins limit k a b = b.here (stays_less m k limit m.reset (start m ins) b.within a.in_range)
-
-one_stop : (m : Fsmd) (ins : Inputs) (limit : ℕ) (t u : List ℕ) (x y : RunStop) → IsStopped m ins limit x → IsStopped m ins limit y → IsStopText Only x t → IsStopText Only y u → t ≡ u
-one_stop m ins limit t u (StepsOver n) (StepsOver k) a b p q = stop_once Only (StepsOver k) t u (subst (λ z. IsStopText Only (StepsOver z) t) (a.0 ∙ sym b.0) p) q
-one_stop m ins limit t u (StepsOver n) (PastWide k) a b p q = absurd (runs_on_stays m ins limit k a.1 b)
-one_stop m ins limit t u (StepsOver n) NoMemory a b p q = absurd q
-one_stop m ins limit t u (PastWide n) (StepsOver k) a b p q = absurd (runs_on_stays m ins limit n b.1 a)
-one_stop m ins limit t u (PastWide n) (PastWide k) a b p q = stop_once Only (PastWide k) t u (subst (λ z. IsStopText Only (PastWide z) t) (one_step m ins limit n k a b) p) q
-one_stop m ins limit t u (PastWide n) NoMemory a b p q = absurd q
-one_stop m ins limit t u NoMemory y a b p q = absurd p
-
-one_end : (m : Fsmd) (ins : Inputs) (limit : ℕ) (t u : List ℕ) → EndsAs m ins limit t → EndsAs m ins limit u → t ≡ u
-one_end m ins limit t u a b =
-    let same = goes_once m m.reset (start m ins) a.run.end b.run.end a.steps b.steps a.run.goes b.run.goes in
-    let each : (name : List ℕ) → a.outs name ≡ b.outs name = λ name. sym (a.run.gives name) ∙ ap (λ s. output m s name) same.1 ∙ b.run.gives name in
-    let outs : a.outs ≡ b.outs = (λ j name. each name j) in
-    end_once (output_names m.variables) b.outs b.steps t u (subst (λ n. IsEndText (output_names m.variables) b.outs n t) same.0 (subst (λ o. IsEndText (output_names m.variables) o a.steps t) outs a.told)) b.told
+not_both : (m : Fsmd) (ins : Inputs) (limit : ℕ) (t u : List ℕ) → EndsAs m ins limit t → StopsAs m ins limit u → ⊥
+not_both m ins limit t u a b = end_or_stop m ins limit a.outs a.steps b.stop a.ends b.stopped (told_of_run Only b.stop u b.told)
 
 pub run_once : OneRunText
-run_once m ins limit t u (inl a) (inl b) = one_end m ins limit t u a b
-run_once m ins limit t u (inl a) (inr b) = absurd (no_stop m ins limit t u b.stop a b.stopped b.told)
-run_once m ins limit t u (inr a) (inl b) = absurd (no_stop m ins limit u t a.stop b a.stopped a.told)
-run_once m ins limit t u (inr a) (inr b) = one_stop m ins limit t u a.stop b.stop a.stopped b.stopped a.told b.told
+run_once m ins limit t u (inl a) (inl b) = one_end_text m ins limit t u a b
+run_once m ins limit t u (inl a) (inr b) = absurd (not_both m ins limit t u a b)
+run_once m ins limit t u (inr a) (inl b) = absurd (not_both m ins limit u t b a)
+run_once m ins limit t u (inr a) (inr b) = one_stop_text m ins limit t u a b

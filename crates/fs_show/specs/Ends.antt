@@ -7,7 +7,8 @@ use Rattle.fs_runs.specs.declared.run.RunStop.TheVariants.{StepsOver, PastWide, 
 use Rattle.fs_show.specs.declared.ends.Side.{Side}
 use Rattle.fs_show.specs.declared.ends.Side.TheVariants.{Only, Left, Right}
 use Rattle.fs_show.specs.Shown.{joined}
-use Rattle.fs_show.specs.Items.{Outputs, AreItems, SameOutputs}
+use Rattle.fs_runs.specs.Outcomes.{Outputs}
+use Rattle.fs_show.specs.Items.{AreItems, SameOutputs}
 
 abbrev pub line_of : List ℕ → List ℕ
 line_of item = item ++ codes "\n"
@@ -27,7 +28,7 @@ side_word Only = []
 side_word Left = codes "left "
 side_word Right = codes "right "
 
--- the text of a run without an end; want of memory has none
+-- the text of a run without an end; out of memory has none
 abbrev pub IsStopText : Side → RunStop → List ℕ → Type 0
 IsStopText side (StepsOver limit) text = text ≡ codes "undecided: " ++ (side_word side ++ (codes "no return within " ++ (decimal limit ++ codes " steps\n")))
 IsStopText side (PastWide step) text = text ≡ codes "undecided: " ++ (side_word side ++ (codes "number past 128 bits at step " ++ (decimal step ++ codes "\n")))
@@ -41,9 +42,12 @@ after_space (first ∷ rest) = codes " " ++ joined (first ∷ rest)
 abbrev pub verdict_line : Bool → List ℕ
 verdict_line same = cond same (codes "same\n") (codes "differ\n")
 
+-- the line of one side
+abbrev pub side_line : (word : List ℕ) (items : List (List ℕ)) → List ℕ
+side_line word items = word ++ (after_space items ++ codes "\n")
+
 abbrev pub replay_text : (same : Bool) (lefts rights : List (List ℕ)) → List ℕ
-replay_text same lefts rights =
-    verdict_line same ++ (codes "left:" ++ (after_space lefts ++ (codes "\nright:" ++ (after_space rights ++ codes "\n"))))
+replay_text same lefts rights = verdict_line same ++ (side_line (codes "left:") lefts ++ side_line (codes "right:") rights)
 
 -- the text of two runs that ended: whether the outputs are the same, and both sides' in the order of the names
 pub record IsReplayText (names : List (List ℕ)) (left right : Outputs) (text : List ℕ) : Type 0 where

@@ -2,11 +2,8 @@
 use Rattle.std.specs.Prelude.{◌≡◌, ℕ, List, ◌++◌, Option, Some, IsSome, codes}
 use Rattle.std.specs.List.{AllByRecursion, AllZip}
 use Rattle.fs_model.specs.Runs.{Content}
+use Rattle.fs_runs.specs.Outcomes.{Outputs}
 use Rattle.fs_show.specs.Shown.{Shows}
-
--- what each output name holds
-abbrev pub Outputs : Type 0
-Outputs = List ℕ → Option Content
 
 abbrev pub item_of : (name text : List ℕ) → List ℕ
 item_of name text = name ++ (codes " = " ++ text)
@@ -23,15 +20,11 @@ pub record IsItem (outs : Outputs) (name item : List ℕ) : Type 0 where
 abbrev pub AreItems : Outputs → (names items : List (List ℕ)) → Type 0
 AreItems outs names items = AllZip (IsItem outs) names items
 
--- items for the names are put behind others
+-- items for the names are appended
 pub record AddsItems (outs : Outputs) (names old new : List (List ℕ)) : Type 0 where
   pub added : List (List ℕ)
   pub are_items : AreItems outs names added
   pub all : new ≡ old ++ added
-
--- each of the names holds something
-abbrev pub HoldsEach : Outputs → List (List ℕ) → Type 0
-HoldsEach outs names = AllByRecursion (λ name. IsSome (outs name)) names
 
 -- each name holds the same in both
 abbrev pub SameOutputs : Outputs → Outputs → Type 0

@@ -1,11 +1,13 @@
--- Each thing that prints has one text.
-use Rattle.std.specs.Prelude.{◌≡◌, ℕ, List}
+-- Each thing that prints has one text, and inputs serve machines with one interface.
+use Rattle.std.specs.Prelude.{◌≡◌, ℕ, List, None}
 use Rattle.fs_model.specs.Machines.{Fsmd}
 use Rattle.fs_model.specs.Runs.{Inputs, Content}
 use Rattle.fs_runs.specs.declared.run.RunStop.{RunStop}
+use Rattle.fs_runs.specs.InputValues.{Signature, input_signatures, Serves}
+use Rattle.fs_pair.specs.Faces.{interface_fault}
 use Rattle.fs_show.specs.declared.ends.Side.{Side}
 use Rattle.fs_show.specs.Shown.{Shows}
-use Rattle.fs_show.specs.Items.{Outputs}
+use Rattle.fs_runs.specs.Outcomes.{Outputs}
 use Rattle.fs_show.specs.Runs.{IsRunText}
 use Rattle.fs_show.specs.Ends.{IsEndText, IsStopText, IsReplayText}
 
@@ -28,3 +30,7 @@ OneRunText = (m : Fsmd) (ins : Inputs) (limit : ℕ) → IsOne (IsRunText m ins 
 
 abbrev pub OneReplayText : Type 0
 OneReplayText = (names : List (List ℕ)) (left right : Outputs) → IsOne (IsReplayText names left right)
+
+-- of two machines with the same inputs and outputs, values for the inputs of one serve the other
+abbrev pub InputsServeBoth : Type 0
+InputsServeBoth = (a b : Fsmd) (signatures : List Signature) → interface_fault a b ≡ None → signatures ≡ input_signatures a.variables → Serves signatures b

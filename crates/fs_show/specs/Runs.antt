@@ -1,21 +1,17 @@
 -- The text of what a run of a machine answers.
-use Rattle.std.specs.Prelude.{ℕ, ◌≤◌, ◌⊎◌, List}
+use Rattle.std.specs.Prelude.{ℕ, ◌⊎◌, List}
 use Rattle.fs_model.specs.Machines.{Fsmd}
-use Rattle.fs_model.specs.Runs.{Inputs, Run, start}
-use Rattle.fs_model.specs.Touched.{StaysInRange}
+use Rattle.fs_model.specs.Runs.{Inputs}
 use Rattle.fs_runs.specs.declared.run.RunStop.{RunStop}
-use Rattle.fs_runs.specs.Outcomes.{output_names, IsStopped}
+use Rattle.fs_runs.specs.Outcomes.{Outputs, output_names, EndsWith, IsStopped}
 use Rattle.fs_show.specs.declared.ends.Side.TheVariants.{Only}
-use Rattle.fs_show.specs.Items.{Outputs}
 use Rattle.fs_show.specs.Ends.{IsEndText, IsStopText}
 
--- the run ends within the limit, each number that it touches lies within 128 bits, and this is the text of its end
+-- the run ends, and this is the text of its end
 pub record EndsAs (m : Fsmd) (ins : Inputs) (limit : ℕ) (text : List ℕ) : Type 0 where
   pub outs : Outputs
   pub steps : ℕ
-  pub within : steps ≤ limit
-  pub in_range : StaysInRange m steps m.reset (start m ins)
-  pub run : Run m ins outs steps
+  pub ends : EndsWith m ins limit outs steps
   pub told : IsEndText (output_names m.variables) outs steps text
 
 -- the run is stopped, and this is the text of the stop

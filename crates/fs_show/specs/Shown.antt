@@ -2,7 +2,7 @@
 use Rattle.std.specs.Prelude.{◌≡◌, ℕ, ℤ, List, [], ◌∷◌, ◌++◌, map, codes}
 use Rattle.std.specs.List.{flat_map}
 use Rattle.std.specs.Fmt.{signed_decimal}
-use Rattle.fs_model.specs.Runs.{Content, Number, Entries}
+use Rattle.fs_model.specs.Runs.{Content, Number, Entries, Emitted}
 use Rattle.fs_runs.specs.Listing.{Entry, IsListing}
 
 -- texts, joined by a comma and a space
@@ -16,7 +16,11 @@ entry_text e = signed_decimal e.0 ++ (codes ": " ++ signed_decimal e.1)
 abbrev pub array_text : List Entry → List ℕ
 array_text es = codes "{" ++ (joined (map entry_text es) ++ codes "}")
 
--- an array prints as its entries that are not 0, by rising index
+-- numbers between brackets
+abbrev pub list_text : List ℤ → List ℕ
+list_text zs = codes "[" ++ (joined (map signed_decimal zs) ++ codes "]")
+
+-- an array prints as its entries that are not 0, in increasing order of index
 pub record ShowsArray (f : ℤ → ℤ) (text : List ℕ) : Type 0 where
   pub entries : List Entry
   pub listing : IsListing f entries
@@ -26,3 +30,4 @@ pub record ShowsArray (f : ℤ → ℤ) (text : List ℕ) : Type 0 where
 abbrev pub Shows : Content → List ℕ → Type 0
 Shows (Number n) text = text ≡ signed_decimal n
 Shows (Entries f) text = ShowsArray f text
+Shows (Emitted zs) text = text ≡ list_text zs

@@ -3,8 +3,7 @@
 ghost use Rattle.std.specs.Prelude.{◌≡◌, ◌++◌, map, IfOk, string_bytes, codes, decimal};
 ghost use Rattle.std.specs.Result.{OnOk};
 ghost use Rattle.std.specs.List.{flat_map};
-ghost use Rattle.fs_runs.specs.Outcomes.{output_names, told_by};
-ghost use Rattle.fs_show.specs.Items.{HoldsEach};
+ghost use Rattle.fs_runs.specs.Outcomes.{output_names, told_by, HoldsEach};
 ghost use Rattle.fs_show.specs.Ends.{IsEndText, IsStopText, side_word, line_of};
 
 use crate::items::items;
@@ -25,7 +24,8 @@ pub enum Side {
 /// The text of a run that ended: `ended: N steps`, and a line `NAME = VALUE` for each output, in order
 /// of declaration.
 ///
-/// A number is in decimal, and an array as `{0: 1, 5: -9}`: its entries that are not 0, by rising index.
+/// A number is in decimal, an array as `{0: 1, 5: -9}`: its entries that are not 0, in increasing order
+/// of index, and a list as `[1, 2, -3]`.
 pub fn end_text(alloc: Global, m: &Machine, ended: &Ended) -> Result<Vec<u8>, NoMemory>
     requires outputs { HoldsEach (told_by m.now ended.now.outputs.items) (output_names m.now.variables) }
     ensures text { IfOk result (λ text. IsEndText (output_names m.now.variables) (told_by m.now ended.now.outputs.items) ended.now.steps text.items) }
@@ -51,7 +51,7 @@ fn steps_line(alloc: Global, steps: u64) -> Result<String, AllocError>
     format!(in alloc; "ended: {steps} steps\n")
 }
 
-/// Puts lines behind others.
+// Appends lines.
 fn append_lines(out: &mut Vec<u8>, items: &[Vec<u8>]) -> Result<(), NoMemory>
     ensures { OnOk result (out.new.items ≡ out.old.items ++ flat_map line_of (map (λ i. i.items) items.now)) }
 {
@@ -62,8 +62,8 @@ fn append_lines(out: &mut Vec<u8>, items: &[Vec<u8>]) -> Result<(), NoMemory>
     Ok(())
 }
 
-/// The text of a run that has no end, after `left ` or `right ` where it is one of two. Want of memory
-/// has no text, and stays want of memory.
+/// The text of a run that has no end, after `left ` or `right ` where it is one of two. Out of memory
+/// has no text, and stays out of memory.
 pub fn stop_text(alloc: Global, side: Side, stop: RunStop) -> Result<Vec<u8>, NoMemory>
     ensures text { IfOk result (λ text. IsStopText side stop text.items) }
 {

@@ -4,9 +4,9 @@ ghost use Rattle.std.specs.Prelude.{◌≡◌, ℕ, List, [], ◌∷◌, map, op
 ghost use Rattle.std.specs.Result.{OnOk};
 ghost use Rattle.fs_model.specs.Runs.{is_output};
 ghost use Rattle.fs_runs.specs.Values.{content_of};
-ghost use Rattle.fs_runs.specs.Outcomes.{output_names, told_by};
+ghost use Rattle.fs_runs.specs.Outcomes.{output_names, told_by, HoldsEach};
 ghost use Rattle.fs_show.specs.Shown.{Shows};
-ghost use Rattle.fs_show.specs.Items.{AreItems, AddsItems, HoldsEach, item_of};
+ghost use Rattle.fs_show.specs.Items.{AreItems, AddsItems, item_of};
 
 use crate::shown::{append, push, value_text};
 use fs_ast::machine::Machine;
@@ -24,7 +24,7 @@ pub(crate) fn is_output(variable: &VarInfo) -> bool
     }
 }
 
-/// What the output of a name holds, of values in order of the machine's outputs. Takes no memory.
+// What the output of a name holds, of values in order of the machine's outputs. Takes no memory.
 pub(crate) fn held<'a>(m: &Machine, outputs: &'a [Value], name: &Name) -> Option<&'a Value>
     ensures { option_map (λ v. content_of v.now) result ≡ told_by m.now outputs.now name.now }
 {
@@ -34,7 +34,7 @@ pub(crate) fn held<'a>(m: &Machine, outputs: &'a [Value], name: &Name) -> Option
             let [value, others @ ..] = rest else {
                 return None;
             };
-            if variable.name.is(name) {
+            if variable.name == *name {
                 return Some(value);
             }
             rest = others;
@@ -43,7 +43,7 @@ pub(crate) fn held<'a>(m: &Machine, outputs: &'a [Value], name: &Name) -> Option
     None
 }
 
-/// The name of an output and what it holds.
+// The name of an output and what it holds.
 fn item(alloc: Global, name: &Name, value: &Value) -> Result<Vec<u8>, NoMemory>
     ensures { IfOk result (λ item. (text : List ℕ) × Shows (content_of value.now) text × (item.items ≡ item_of name.now text)) }
 {
@@ -62,7 +62,7 @@ fn copied(alloc: Global, bytes: &[u8]) -> Result<Vec<u8>, NoMemory>
     }
 }
 
-/// The outputs of a machine, named in the order of another's outputs.
+// The outputs of a machine, named in the order of another's outputs.
 pub(crate) fn items(
     alloc: Global,
     order: &Machine,
@@ -79,7 +79,7 @@ pub(crate) fn items(
     Ok(items)
 }
 
-/// Adds what the output of a variable's name holds, where the variable is an output.
+// Adds what the output of a variable's name holds, where the variable is an output.
 fn add_item(
     alloc: Global,
     items: &mut Vec<Vec<u8>>,

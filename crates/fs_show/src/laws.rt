@@ -1,6 +1,7 @@
-//! Laws: each thing that prints has one text. The functions do nothing.
+//! Laws: each thing that prints has one text, and inputs serve machines with one interface. The
+//! functions do nothing.
 
-ghost use Rattle.fs_show.specs.Laws.{OneContentText, OneEndText, OneStopText, OneRunText, OneReplayText};
+ghost use Rattle.fs_show.specs.Laws.{OneContentText, OneEndText, OneStopText, OneRunText, OneReplayText, InputsServeBoth};
 
 /// A content prints as one text.
 pub fn a_content_has_one_text()
@@ -17,4 +18,9 @@ pub fn a_run_has_one_text()
 /// Two runs that ended have one text.
 pub fn a_replay_has_one_text()
     ensures { OneReplayText }
+{}
+
+/// Values for the inputs of a machine serve each machine with the same inputs and outputs.
+pub fn inputs_serve_both()
+    ensures { InputsServeBoth }
 {}

@@ -6,5 +6,3 @@ mod items;
 pub mod laws;
 pub mod replay;
 mod shown;
-#[cfg(test)]
-mod tests;

@@ -2,17 +2,19 @@
 
 ghost use Rattle.std.specs.Prelude.{◌≡◌, ◌++◌, ◌∷◌, [], Option, None, List, ℕ, map, option_map, IfOk, codes};
 ghost use Rattle.std.specs.Bool.{Decides};
+ghost use Rattle.std.specs.Result.{OnOk};
 ghost use Rattle.fs_pair.specs.Faces.{interface_fault};
-ghost use Rattle.fs_runs.specs.Values.{content_of, entry};
-ghost use Rattle.fs_runs.specs.Outcomes.{output_names, told_by};
-ghost use Rattle.fs_show.specs.Items.{HoldsEach, AgreeOn, SameOutputs};
-ghost use Rattle.fs_show.specs.Ends.{IsReplayText, replay_text, after_space, verdict_line};
+ghost use Rattle.fs_runs.specs.Values.{content_of, entry, numbers_of};
+ghost use Rattle.fs_runs.specs.Outcomes.{output_names, told_by, HoldsEach};
+ghost use Rattle.fs_show.specs.Items.{AgreeOn, SameOutputs};
+ghost use Rattle.fs_show.specs.Ends.{IsReplayText, replay_text, side_line, after_space, verdict_line};
 
 use crate::items::{held, is_output, items};
 use crate::shown::{append, joined};
 use fs_ast::machine::Machine;
 use fs_model::name::NoMemory;
 use fs_model::parts::VarInfo;
+use fs_runs::numbers::Numbers;
 use fs_runs::run::Ended;
 use fs_runs::values::{Entries, Value};
 use std::alloc::Global;
@@ -52,7 +54,7 @@ pub fn replay_text(
     Ok(Replay { same, text })
 }
 
-/// Whether the left machine's outputs hold the same on both sides.
+// Whether the left machine's outputs hold the same on both sides.
 fn same_outputs(
     alloc: Global,
     left: &Machine,
@@ -70,7 +72,7 @@ fn same_outputs(
     Ok(true)
 }
 
-/// Whether a variable is no output, or its name holds the same on both sides.
+// Whether a variable is no output, or its name holds the same on both sides.
 fn same_output(
     alloc: Global,
     variable: &VarInfo,
@@ -89,7 +91,7 @@ fn same_output(
     same_content(alloc, left_value, right_value)
 }
 
-/// Whether two values hold the same, or neither is there.
+// Whether two values hold the same, or neither is there.
 fn same_content(
     alloc: Global,
     left: Option<&Value>,
@@ -110,17 +112,24 @@ fn same_value(alloc: Global, left: &Value, right: &Value) -> Result<bool, NoMemo
     match (left, right) {
         (Value::Num(left), Value::Num(right)) => Ok(*left == *right),
         (Value::Arr(left), Value::Arr(right)) => same_entries(alloc, left, right),
+        (Value::List(left), Value::List(right)) => Ok(same_numbers(left, right)),
         _ => Ok(false),
     }
 }
 
-/// Whether two arrays hold the same number at each index.
+// Whether two arrays hold the same number at each index.
 fn same_entries(alloc: Global, left: &Entries, right: &Entries) -> Result<bool, NoMemory>
     ensures { IfOk result (λ r. Decides r (entry left.now ≡ entry right.now)) }
 {
     let lefts = left.list(alloc)?;
     let rights = right.list(alloc)?;
     Ok(lefts.as_slice() == rights.as_slice())
+}
+
+fn same_numbers(left: &Numbers, right: &Numbers) -> bool
+    ensures { Decides result (numbers_of left.now ≡ numbers_of right.now) }
+{
+    left.get() == right.get()
 }
 
 fn side_by_side(
@@ -133,12 +142,24 @@ fn side_by_side(
 {
     let mut text = Vec::new(alloc);
     append(&mut text, verdict_line(same))?;
-    append(&mut text, b"left:".as_slice())?;
-    append(&mut text, after_space(alloc, lefts)?.as_slice())?;
-    append(&mut text, b"\nright:".as_slice())?;
-    append(&mut text, after_space(alloc, rights)?.as_slice())?;
-    append(&mut text, b"\n".as_slice())?;
+    append_side(alloc, &mut text, b"left:".as_slice(), lefts)?;
+    append_side(alloc, &mut text, b"right:".as_slice(), rights)?;
     Ok(text)
+}
+
+// Appends the line of one side.
+fn append_side(
+    alloc: Global,
+    out: &mut Vec<u8>,
+    word: &[u8],
+    items: &[Vec<u8>],
+) -> Result<(), NoMemory>
+    ensures { OnOk result (out.new.items ≡ out.old.items ++ side_line word.now (map (λ i. i.items) items.now)) }
+{
+    append(out, word)?;
+    append(out, after_space(alloc, items)?.as_slice())?;
+    append(out, b"\n".as_slice())?;
+    Ok(())
 }
 
 fn verdict_line(same: bool) -> &'static [u8]
@@ -151,7 +172,7 @@ fn verdict_line(same: bool) -> &'static [u8]
     }
 }
 
-/// Items joined, after one space where there are any.
+// Items joined, after one space where there are any.
 fn after_space(alloc: Global, items: &[Vec<u8>]) -> Result<Vec<u8>, NoMemory>
     ensures { IfOk result (λ text. text.items ≡ after_space (map (λ i. i.items) items.now)) }
 {

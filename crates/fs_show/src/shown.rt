@@ -1,17 +1,17 @@
-//! Numbers and arrays as text.
+//! Numbers, arrays and lists as text.
 
 ghost use Rattle.std.specs.Prelude.{◌≡◌, ◌++◌, ℕ, List, [], ◌∷◌, map, IfOk, string_bytes, codes};
 ghost use Rattle.std.specs.Result.{OnOk};
 ghost use Rattle.std.specs.List.{flat_map};
 ghost use Rattle.std.specs.Fmt.{signed_decimal};
 ghost use Rattle.fs_runs.specs.Values.{content_of};
-ghost use Rattle.fs_show.specs.Shown.{joined, entry_text, array_text, Shows};
+ghost use Rattle.fs_show.specs.Shown.{joined, entry_text, array_text, list_text, Shows};
 
 use fs_model::name::NoMemory;
 use fs_runs::values::Value;
 use std::alloc::{AllocError, Global};
 
-/// A number in decimal.
+// A number in decimal.
 fn number_text(alloc: Global, number: &i128) -> Result<Vec<u8>, NoMemory>
     ensures { IfOk result (λ text. text.items ≡ signed_decimal number.now) }
 {
@@ -27,7 +27,7 @@ fn decimal_text(alloc: Global, number: &i128) -> Result<String, AllocError>
     format!(in alloc; "{number}")
 }
 
-/// Puts bytes behind others.
+// Appends bytes.
 pub(crate) fn append(out: &mut Vec<u8>, bytes: &[u8]) -> Result<(), NoMemory>
     ensures { OnOk result (out.new.items ≡ out.old.items ++ bytes.now) }
 {
@@ -46,7 +46,7 @@ pub(crate) fn push<T: Drop>(out: &mut Vec<T>, item: T) -> Result<(), NoMemory>
     }
 }
 
-/// An index and the number there.
+// An index and the number there.
 fn entry_text(alloc: Global, entry: &(i128, i128)) -> Result<Vec<u8>, NoMemory>
     ensures { IfOk result (λ text. text.items ≡ entry_text entry.now) }
 {
@@ -66,7 +66,7 @@ fn entry_texts(alloc: Global, entries: &[(i128, i128)]) -> Result<Vec<Vec<u8>>, 
     Ok(texts)
 }
 
-/// Texts, joined by a comma and a space.
+// Texts, joined by a comma and a space.
 pub(crate) fn joined(alloc: Global, items: &[Vec<u8>]) -> Result<Vec<u8>, NoMemory>
     ensures { IfOk result (λ text. text.items ≡ joined (map (λ i. i.items) items.now)) }
 {
@@ -85,7 +85,7 @@ fn joined_behind(alloc: Global, first: &Vec<u8>, rest: &[Vec<u8>]) -> Result<Vec
     Ok(text)
 }
 
-/// Puts texts behind others, each after a comma and a space.
+// Appends texts, each after a comma and a space.
 fn append_rest(out: &mut Vec<u8>, items: &[Vec<u8>]) -> Result<(), NoMemory>
     ensures { OnOk result (out.new.items ≡ out.old.items ++ flat_map (λ item. codes ", " ++ item) (map (λ i. i.items) items.now)) }
 {
@@ -96,20 +96,47 @@ fn append_rest(out: &mut Vec<u8>, items: &[Vec<u8>]) -> Result<(), NoMemory>
     Ok(())
 }
 
-/// An array's entries between braces.
+// An array's entries between braces.
 fn array_text(alloc: Global, entries: &[(i128, i128)]) -> Result<Vec<u8>, NoMemory>
     ensures { IfOk result (λ text. text.items ≡ array_text entries.now) }
 {
     let texts = entry_texts(alloc, entries)?;
     let text = joined(alloc, texts.as_slice())?;
+    between(alloc, b"{".as_slice(), text.as_slice(), b"}".as_slice())
+}
+
+// A text between two others.
+fn between(alloc: Global, open: &[u8], text: &[u8], close: &[u8]) -> Result<Vec<u8>, NoMemory>
+    ensures { IfOk result (λ whole. whole.items ≡ open.now ++ (text.now ++ close.now)) }
+{
     let mut whole = Vec::new(alloc);
-    append(&mut whole, b"{".as_slice())?;
-    append(&mut whole, text.as_slice())?;
-    append(&mut whole, b"}".as_slice())?;
+    append(&mut whole, open)?;
+    append(&mut whole, text)?;
+    append(&mut whole, close)?;
     Ok(whole)
 }
 
-/// A value as text: a number in decimal, or the entries of an array that are not 0, by rising index.
+fn number_texts(alloc: Global, numbers: &[i128]) -> Result<Vec<Vec<u8>>, NoMemory>
+    ensures { IfOk result (λ texts. map (λ t. t.items) texts.items ≡ map signed_decimal numbers.now) }
+{
+    let mut texts = Vec::new(alloc);
+    for number in numbers {
+        push(&mut texts, number_text(alloc, number)?)?;
+    }
+    Ok(texts)
+}
+
+// Numbers between brackets.
+fn list_text(alloc: Global, numbers: &[i128]) -> Result<Vec<u8>, NoMemory>
+    ensures { IfOk result (λ text. text.items ≡ list_text numbers.now) }
+{
+    let texts = number_texts(alloc, numbers)?;
+    let text = joined(alloc, texts.as_slice())?;
+    between(alloc, b"[".as_slice(), text.as_slice(), b"]".as_slice())
+}
+
+// A value as text: a number in decimal, the entries of an array that are not 0, in increasing order of
+// index, or the numbers of a list in order.
 pub(crate) fn value_text(alloc: Global, value: &Value) -> Result<Vec<u8>, NoMemory>
     ensures { IfOk result (λ text. Shows (content_of value.now) text.items) }
 {
@@ -119,5 +146,6 @@ pub(crate) fn value_text(alloc: Global, value: &Value) -> Result<Vec<u8>, NoMemo
             let list = entries.list(alloc)?;
             array_text(alloc, list.as_slice())
         }
+        Value::List(numbers) => list_text(alloc, numbers.get()),
     }
 }

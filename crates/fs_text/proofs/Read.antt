@@ -10,9 +10,12 @@ use Rattle.fs_grammar.specs.Tokens.{Gives}
 use Rattle.fs_lex.specs.Scan.{tokens_of}
 use Rattle.grammar_laws.specs.Faults.{Spells, StopsAt}
 use Rattle.grammar_laws.proofs.Exact.{read_is_spelled, fault_is_first}
+use Rattle.lex_laws.specs.Tokenization.{StandsIn}
+use Rattle.text_laws.specs.Limit.{SpellWithin, StopWithin}
+use Rattle.text_laws.proofs.Ended.{tokens_ended}
+use Rattle.text_laws.proofs.Limit.{spelled_found, fault_stands}
 use Rattle.text_laws.proofs.Read.{read_is_well_formed}
 use Rattle.fs_text.specs.Spelled.{spelled, IfText}
-use Rattle.fs_text.proofs.Ended.{tokens_end}
 
 module _ {P : Type 0} (view : P → Source) (bytes : List ℕ) where
   pub spells : (r : Result P ReadError) → Gives view r (spelled bytes) → IfOk r (λ p. Spells (view p) (tokens_of bytes))
@@ -25,5 +28,14 @@ module _ {P : Type 0} (view : P → Source) (bytes : List ℕ) where
 
   pub fault : (r : Result P ReadError) → Gives view r (spelled bytes) → IfErr r (λ e. IfText e (StopsAt (tokens_of bytes)))
   fault (Ok p) e = tt
-  fault (Err (Text f)) e = fault_is_first (tokens_of bytes) f (tokens_end bytes) e
+  fault (Err (Text f)) e = fault_is_first (tokens_of bytes) f (tokens_ended bytes) e
   fault (Err NoMemory) e = tt
+
+  pub within : (r : Result P ReadError) → Gives view r (spelled bytes) → IfOk r (λ p. SpellWithin (tokens_of bytes) (view p))
+  within (Ok p) e = spelled_found bytes (view p) e
+  within (Err e) h = tt
+
+  pub stops : (r : Result P ReadError) → Gives view r (spelled bytes) → IfErr r (λ e. IfText e (λ f. (s : StopWithin (tokens_of bytes) f) × StandsIn bytes s.token))
+  stops (Ok p) e = tt
+  stops (Err (Text f)) e = fault_stands bytes f e
+  stops (Err NoMemory) e = tt

@@ -1,38 +1,37 @@
 //! Machine texts, from their bytes to their parts.
 #![tactic(auto)]
 
-ghost use Rattle.std.specs.Prelude.{◌≡◌, ◌≤◌, length, IsTrue, IfOk};
+ghost use Rattle.std.specs.Prelude.{◌≤◌, length, IsTrue, IfOk};
 ghost use Rattle.std.specs.Result.{IfErr};
+ghost use Rattle.fs_model.specs.Limits.{most_text_bytes};
 ghost use Rattle.fs_model.specs.View.{source_of};
 ghost use Rattle.fs_model.specs.WellFormed.{is_well_formed};
 ghost use Rattle.fs_grammar.specs.Tokens.{Gives};
 ghost use Rattle.grammar_laws.specs.Faults.{Spells, StopsAt};
 ghost use Rattle.fs_lex.specs.Scan.{tokens_of};
+ghost use Rattle.lex_laws.specs.Tokenization.{StandsIn};
+ghost use Rattle.text_laws.specs.Limit.{SpellWithin, StopWithin};
 ghost use Rattle.fs_text.specs.Spelled.{spelled, IfText};
-
-mod guards;
-mod lines;
-mod states;
-mod sums;
 
 use fs_grammar::fault::ReadError;
 use fs_lex::tokens;
 use fs_model::parts::Parts;
+use fs_parse::parse;
 use std::alloc::Global;
 
 /// The parts that the bytes spell, which are well formed; at most 1,048,576 bytes are read. `Text` comes
 /// exactly where they spell none: at the first token that is faulty or can follow in no file, with its line
-/// and column and what is wrong with it. `NoMemory` comes where there is none.
+/// and column and what is wrong with it; `Operators` is at the first operator or opening bracket that has
+/// 128 of them before it in the one guard or assignment that it stands in. `NoMemory`: out of memory.
 pub fn read_parts(alloc: Global, bytes: &[u8]) -> Result<Parts, ReadError>
-    requires { length bytes.now ≤ 1048576 }
+    requires { length bytes.now ≤ most_text_bytes }
     ensures read { Gives source_of result (spelled bytes.now) }
     ensures spells { IfOk result (λ p. Spells (source_of p) (tokens_of bytes.now)) }
     ensures well_formed { IfOk result (λ p. IsTrue (is_well_formed (source_of p))) }
     ensures fault { IfErr result (λ e. IfText e (StopsAt (tokens_of bytes.now))) }
+    ensures within { IfOk result (λ p. SpellWithin (tokens_of bytes.now) (source_of p)) }
+    ensures stops { IfErr result (λ e. IfText e (λ f. (s : StopWithin (tokens_of bytes.now) f) × StandsIn bytes.now s.token)) }
 {
     let tokens = tokens(alloc, bytes)?;
-    states::parts(alloc, &tokens)
+    parse(alloc, &tokens)
 }
-
-#[cfg(test)]
-mod tests;

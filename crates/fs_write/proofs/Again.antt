@@ -1,13 +1,15 @@
 -- Lines are in no text, and no part changes but for them.
-use Rattle.std.proofs.Common.{◌≡◌, ℕ, ◌+◌, true, ◌&&◌, List, [], ◌∷◌, ◌++◌, length, map, Result, Ok, codes, refl, sym, ◌∙◌, ap, ap₂}
-use Rattle.std.specs.List.{flat_map, list_all}
+use Rattle.std.proofs.Common.{◌≡◌, ℕ, ◌+◌, true, ◌&&◌, List, [], ◌∷◌, ◌++◌, length, map, Result, Ok, codes, refl, sym, ◌∙◌, ap, ap₂, ◌||◌, cond}
+use Rattle.std.specs.List.{flat_map, list_all, list_any}
 use Rattle.fs_model.specs.Source.{Declaration, SourceTransition, SourceState, Source}
-use Rattle.fs_model.specs.WellFormed.{is_well_formed_transition, is_well_formed_state, has_names, is_well_formed}
+use Rattle.fs_model.specs.WellFormed.{is_well_formed_transition, is_well_formed_state, is_well_formed_declaration, is_well_formed}
 use Rattle.fs_model.specs.Words.{is_name}
 use Rattle.fs_grammar.specs.declared.fault.TextFault.{TextFault}
 use Rattle.fs_grammar.specs.Grammar.{at_start, reading}
+use Rattle.fs_grammar.specs.declared.format.Format.TheVariants.{One, Two}
 use Rattle.fs_lex.specs.Scan.{tokens_of}
-use Rattle.fs_write.specs.Canonical.{line_text, state_text, declaration_text, canonical}
+use Rattle.fs_write.specs.Canonical.{line_text, state_text, declaration_text, head_text, canonical}
+use Rattle.fs_write.specs.Formats.{declares_ports, emits_in_transition, emits_in_state, has_ports, format_for}
 use Rattle.fs_write.specs.CanonicalLines.{declarations_from, lines_from, states_from, with_canonical_lines, declaration_at_line_0, transition_at_line_0, state_at_line_0, without_lines}
 use Rattle.fs_write.specs.Spellable.{is_spellable_transition, is_spellable_state, is_spellable_declaration, is_spellable}
 use Rattle.fs_write.proofs.WholeTexts.{reads_back}
@@ -24,9 +26,25 @@ same_declarations : (n : ℕ) (ds : List Declaration) → flat_map declaration_t
 same_declarations n [] = refl
 same_declarations n (d ∷ ds) = ap (λ (rest : List ℕ). declaration_text d ++ rest) (same_declarations (n + 1) ds)
 
+lines_emit : (n : ℕ) (ls : List SourceTransition) → list_any emits_in_transition (lines_from n ls) ≡ list_any emits_in_transition ls
+lines_emit n [] = refl
+lines_emit n (l ∷ ls) = ap (λ b. emits_in_transition l || b) (lines_emit (n + 1) ls)
+
+states_emit : (n : ℕ) (ss : List SourceState) → list_any emits_in_state (states_from n ss) ≡ list_any emits_in_state ss
+states_emit n [] = refl
+states_emit n (s ∷ ss) = ap₂ (λ a b. a || b) (lines_emit (n + 1) s.lines) (states_emit (n + 1 + length s.lines) ss)
+
+ports_declared : (n : ℕ) (ds : List Declaration) → list_any declares_ports (declarations_from n ds) ≡ list_any declares_ports ds
+ports_declared n [] = refl
+ports_declared n (d ∷ ds) = ap (λ b. declares_ports d || b) (ports_declared (n + 1) ds)
+
+same_ports : (s : Source) → has_ports (with_canonical_lines s) ≡ has_ports s
+same_ports s = ap₂ (λ a b. a || b) (ports_declared 2 s.declarations) (states_emit (2 + length s.declarations + 1) s.states)
+
 pub same_text : (s : Source) → canonical (with_canonical_lines s) ≡ canonical s
 same_text s =
-    ap₂ (λ (ds ss : List ℕ). codes "fsmd 1;\n" ++ (ds ++ (codes "reset " ++ (s.reset ++ (codes ";\n" ++ ss)))))
+    ap (λ b. head_text (cond b Two One) ++ (flat_map declaration_text (declarations_from 2 s.declarations) ++ (codes "reset " ++ (s.reset ++ (codes ";\n" ++ flat_map state_text (states_from (2 + length s.declarations + 1) s.states)))))) (same_ports s)
+    ∙ ap₂ (λ (ds ss : List ℕ). head_text (format_for s) ++ (ds ++ (codes "reset " ++ (s.reset ++ (codes ";\n" ++ ss)))))
     (same_declarations 2 s.declarations) (same_states (2 + length s.declarations + 1) s.states)
 
 lines_form : (n : ℕ) (ls : List SourceTransition) → list_all is_well_formed_transition (lines_from n ls) ≡ list_all is_well_formed_transition ls
@@ -37,9 +55,9 @@ states_form : (n : ℕ) (ss : List SourceState) → list_all is_well_formed_stat
 states_form n [] = refl
 states_form n (s ∷ ss) = ap₂ (λ a b. a && b) (lines_form (n + 1) s.lines) (states_form (n + 1 + length s.lines) ss)
 
-declarations_form : (n : ℕ) (ds : List Declaration) → list_all has_names (declarations_from n ds) ≡ list_all has_names ds
+declarations_form : (n : ℕ) (ds : List Declaration) → list_all is_well_formed_declaration (declarations_from n ds) ≡ list_all is_well_formed_declaration ds
 declarations_form n [] = refl
-declarations_form n (d ∷ ds) = ap (λ b. has_names d && b) (declarations_form (n + 1) ds)
+declarations_form n (d ∷ ds) = ap (λ b. is_well_formed_declaration d && b) (declarations_form (n + 1) ds)
 
 pub same_form : (s : Source) → is_well_formed (with_canonical_lines s) ≡ is_well_formed s
 same_form s = ap₂ (λ a b. a && b) (declarations_form 2 s.declarations) (states_form (2 + length s.declarations + 1) s.states)

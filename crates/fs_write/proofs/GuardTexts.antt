@@ -94,12 +94,12 @@ test_reads l x y = unit_guard (Test l) (record {
       let after : Reads line (b + remains) (term_text l.right ++ rest) (at_sum (right l.relation l.left k)) r =
       y.sum.reads line remains (b + remains) rest u (at_sum (right l.relation l.left k)) (right l.relation l.left k) r (omega arith) f e.index e.product (λ n v q. refl) last
       in
-      let past_limit : Reads line (suc (b + remains)) (relation_text l.relation ++ (term_text l.right ++ rest)) (after_sum l.left (left k)) r =
+      let crossed : Reads line (suc (b + remains)) (relation_text l.relation ++ (term_text l.right ++ rest)) (after_sum l.left (left k)) r =
       relation_reads l.relation (term_text l.right ++ rest) (after_sum l.left (left k)) (at_sum (right l.relation l.left k)) refl (omega arith) after
       in
       joined (term_text l.left) (relation_text l.relation ++ term_text l.right) rest
       (rw (append_assoc (relation_text l.relation) (term_text l.right) rest)
-      (x.sum.reads line (suc (b + remains)) free (relation_text l.relation ++ (term_text l.right ++ rest)) (tokens.Relation l.relation) (at_unit k) (left k) r (omega arith) (relation_follows l.relation (term_text l.right ++ rest)) tt tt (unit_begins k) over));
+      (x.sum.reads line (suc (b + remains)) free (relation_text l.relation ++ (term_text l.right ++ rest)) (tokens.Relation l.relation) (at_unit k) (left k) r (omega arith) (relation_follows l.relation (term_text l.right ++ rest)) tt tt (unit_begins k) crossed));
 })
 
 not_reads : (g : Guard (List ℕ)) → GuardReads g → opens (in_braces (is_and g || is_or g) (guard_text g)) ≡ true → GuardReads (Not g)
@@ -118,11 +118,11 @@ and_reads a b x y = and_guard (And a b) refl (record {
       let w = in_braces (is_and b || is_or b) (guard_text b) in
       let operator_count = bracket (is_and b || is_or b) + operators_of_guard b in
       let after : Reads line (operator_count + remains) (w ++ rest) (at_unit (and_after a k)) r = (unit_operand b y).reads line remains (operator_count + remains) rest u (and_after a k) r (omega arith) f e d in
-      let past_limit : Reads line (suc (operator_count + remains)) (codes " && " ++ (w ++ rest)) (after_conjunction a k) r =
+      let crossed : Reads line (suc (operator_count + remains)) (codes " && " ++ (w ++ rest)) (after_conjunction a k) r =
       double_reads 38 38 (w ++ rest) tokens.AndAnd (after_conjunction a k) (at_unit (and_after a k)) refl refl refl refl refl refl refl (omega arith) after
       in
       joined v (codes " && " ++ w) rest
-      ((conjunction_operand a x).reads line (suc (operator_count + remains)) free (codes " && " ++ (w ++ rest)) tokens.AndAnd k r (omega arith) (record { first = λ p n. refl; stops = refl }) (record { index = tt; product = tt; sum = tt }) over);
+      ((conjunction_operand a x).reads line (suc (operator_count + remains)) free (codes " && " ++ (w ++ rest)) tokens.AndAnd k r (omega arith) (record { first = λ p n. refl; stops = refl }) (record { index = tt; product = tt; sum = tt }) crossed);
 })
 
 or_reads : (a b : Guard (List ℕ)) → GuardReads a → GuardReads b → GuardReads (Or a b)
@@ -132,11 +132,11 @@ or_reads a b x y = or_guard (Or a b) refl (record {
       let operator_count = bracket (is_or b) + operators_of_guard b in
       let last : Reads line remains rest (after_conjunction b (or_after a k)) r = conjunction_ends u b (or_after a k) f p d in
       let after : Reads line (operator_count + remains) (w ++ rest) (at_unit (first_of_all (or_after a k))) r = (conjunction_operand b y).reads line remains (operator_count + remains) rest u (or_after a k) r (omega arith) f e last in
-      let past_limit : Reads line (suc (operator_count + remains)) (codes " || " ++ (w ++ rest)) (after_guard a k) r =
+      let crossed : Reads line (suc (operator_count + remains)) (codes " || " ++ (w ++ rest)) (after_guard a k) r =
       double_reads 124 124 (w ++ rest) tokens.OrOr (after_guard a k) (at_unit (first_of_all (or_after a k))) refl refl refl refl refl refl refl (omega arith) after
       in
       joined (guard_text a) (codes " || " ++ w) rest
-      (x.guard.reads line (suc (operator_count + remains)) free (codes " || " ++ (w ++ rest)) tokens.OrOr k r (omega arith) (record { first = λ p n. refl; stops = refl }) (record { index = tt; product = tt; sum = tt }) tt over);
+      (x.guard.reads line (suc (operator_count + remains)) free (codes " || " ++ (w ++ rest)) tokens.OrOr k r (omega arith) (record { first = λ p n. refl; stops = refl }) (record { index = tt; product = tt; sum = tt }) tt crossed);
 })
 
 -- ---- first bytes

@@ -1,3 +1,4 @@
+pub mod Allowed
 pub mod Steps
 pub mod Ends
 pub mod Words

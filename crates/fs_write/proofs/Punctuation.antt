@@ -1,4 +1,4 @@
--- The operator_count of the canonical text are read as one token each.
+-- The punctuation of the canonical text is read as one token each.
 use Rattle.std.proofs.Common.{◌≡◌, ℕ, ◌<◌, ◌==◌, true, false, not, List, [], ◌∷◌, ◌++◌, Some, Result, refl}
 use Rattle.fs_model.specs.declared.parts.Rel.{Rel}
 use Rattle.fs_model.specs.declared.parts.Rel.TheVariants.{Eq, Ne, Lt, Le, Gt, Ge}
@@ -11,10 +11,11 @@ use Rattle.fs_grammar.specs.declared.token.TokenKind.TheVariants.{OpenParen, Clo
 use Rattle.fs_grammar.specs.declared.token.Token.{Token}
 use Rattle.fs_grammar.specs.Tokens.{kind_at}
 use Rattle.fs_grammar.specs.Grammar.{ParseState, step}
-use Rattle.fs_lex.specs.declared.Lexeme.{Lexeme}
-use Rattle.fs_lex.specs.declared.Lexeme.TheVariants as lexemes
+use Rattle.fs_lex.specs.declared.lexemes.Lexeme.{Lexeme}
+use Rattle.fs_lex.specs.declared.lexemes.Lexeme.TheVariants as lexemes
 use Rattle.fs_lex.specs.Lexemes.{lexeme_of}
-use Rattle.fs_lex.specs.Scan.{scan, emitted, after, is_bad, is_operator, starts_expression}
+use Rattle.fs_grammar.specs.Operators.{is_operator, starts_expression}
+use Rattle.fs_lex.specs.Scan.{scan, emitted, after, is_bad}
 use Rattle.fs_write.specs.Canonical.{relation_text}
 use Rattle.fs_write.proofs.Steps.{Reads, Follows, punctuation_room, plain_room, space_reads}
 use Rattle.fs_write.proofs.Words.{one_token, no_newline, refused, opens}
@@ -53,7 +54,7 @@ pub bang_lexeme : (rest : List ℕ) → opens rest ≡ true → lexeme_of (33 �
 bang_lexeme [] h = absurd cc
 bang_lexeme (b ∷ rest) h = rw (refused (b == 61) h) refl
 
--- ---- a sign that counts, and one that does not
+-- ---- punctuation that counts, and such that does not
 
 pub punctuation_reads : {line free remains : ℕ} {r : Result Source TextFault} (b : ℕ) (rest : List ℕ) (t : TokenKind) (s n : ParseState) → lexeme_of (b ∷ rest) ≡ lexemes.Token t 1 → no_newline b ≡ true → is_bad t ≡ false → is_operator t ≡ true → starts_expression t ≡ false
     → step s line t ≡ Some n → remains < free → Reads line remains rest n r → Reads line free (b ∷ rest) s r

@@ -9,7 +9,8 @@ use Rattle.fs_grammar.specs.declared.token.TokenKind.{TokenKind}
 use Rattle.fs_grammar.specs.declared.token.Token.{Token}
 use Rattle.fs_grammar.specs.Tokens.{kind_at}
 use Rattle.fs_grammar.specs.Grammar.{ParseState, step, reading}
-use Rattle.fs_lex.specs.Scan.{scan, is_operator, starts_expression, is_past_limit, counted}
+use Rattle.fs_grammar.specs.Operators.{is_operator, starts_expression}
+use Rattle.fs_lex.specs.Scan.{scan, is_past_limit, counted}
 
 -- on this line, at any column, and with at least so many operators still free, the bytes read as r from s on
 pub record Reads (line free : ℕ) (bytes : List ℕ) (s : ParseState) (r : Result Source TextFault) : Type 0 where
@@ -28,9 +29,9 @@ pub record Follows (bytes : List ℕ) (t : TokenKind) : Type 0 where
 pub under : (n free : ℕ) → n + free ≤ 128 → 0 < free → nat_le 128 n ≡ false
 under n free h g = grind (arith, nat_tests)
 
--- a token that can follow and is not over is taken
-pub took : (w : TokenKind) (past_limit : Bool) (p : TextPlace) (ts : List Token) (s n : ParseState) (r : Result Source TextFault) → over ≡ false → step s p.line w ≡ Some n → reading ts n ≡ r → reading (record { kind = w; past_limit = past_limit; place = p } ∷ ts) s ≡ r
-took w over p ts s n r e f h = rw (f, e) h
+-- a token that can follow and is not past the limit is taken
+pub took : (w : TokenKind) (past_limit : Bool) (p : TextPlace) (ts : List Token) (s n : ParseState) (r : Result Source TextFault) → past_limit ≡ false → step s p.line w ≡ Some n → reading ts n ≡ r → reading (record { kind = w; past_limit = past_limit; place = p } ∷ ts) s ≡ r
+took w past_limit p ts s n r e f h = rw (f, e) h
 
 pub joined : {line free : ℕ} {s : ParseState} {r : Result Source TextFault} (a b rest : List ℕ) → Reads line free (a ++ (b ++ rest)) s r → Reads line free ((a ++ b) ++ rest) s r
 joined {line} {free} {s} {r} a b rest h = subst (λ (l : List ℕ). Reads line free l s r) (sym (append_assoc a b rest)) h

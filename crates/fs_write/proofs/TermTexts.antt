@@ -10,7 +10,7 @@ use Rattle.fs_grammar.specs.declared.fault.TextFault.{TextFault}
 use Rattle.fs_grammar.specs.declared.token.TokenKind.{TokenKind}
 use Rattle.fs_grammar.specs.declared.token.TokenKind.TheVariants as tokens
 use Rattle.fs_grammar.specs.Ends.{IsNoProduct, IsNoIndex}
-use Rattle.fs_grammar.specs.Grammar.{FactorContext, first_factor, times, divides, leaves, negative, ProductContext, first_product, plus, minus, SumContext, parens, index, ParseState, at_factor, at_sum, after_name, after_product, after_sum, factor_done, product_done}
+use Rattle.fs_grammar.specs.Grammar.{FactorContext, first_factor, times, divides, remainder_of, negative, ProductContext, first_product, plus, minus, SumContext, parens, index, ParseState, at_factor, at_sum, after_name, after_product, after_sum, factor_done, product_done}
 use Rattle.fs_write.specs.Canonical.{in_parens, term_text}
 use Rattle.fs_write.specs.Spellable.{is_spellable_term}
 use Rattle.fs_write.proofs.Steps.{Reads, Follows, joined, weaker}
@@ -98,9 +98,9 @@ sum_of a b t op w through x y crosses follows no_index no_product done = record 
       let after : Reads line (operator_count + remains) (right ++ rest) (at_factor (first_factor (through k a))) r =
       (product_operand b y).reads line remains (operator_count + remains) rest u (at_factor (first_factor (through k a))) (through k a) r (omega arith) f i (λ n v e. refl) (product_ends u b (through k a) f p last)
       in
-      let past_limit : Reads line (suc (operator_count + remains)) (op ++ (right ++ rest)) (after_sum a k) r = crosses line (operator_count + remains) (suc (operator_count + remains)) (right ++ rest) a k r (omega arith) after in
+      let crossed : Reads line (suc (operator_count + remains)) (op ++ (right ++ rest)) (after_sum a k) r = crosses line (operator_count + remains) (suc (operator_count + remains)) (right ++ rest) a k r (omega arith) after in
       joined (term_text a) (op ++ right) rest
-      (rw (append_assoc op right rest) (x.sum.reads line (suc (operator_count + remains)) free (op ++ (right ++ rest)) w s k r (omega arith) (follows (right ++ rest)) no_index no_product g over));
+      (rw (append_assoc op right rest) (x.sum.reads line (suc (operator_count + remains)) free (op ++ (right ++ rest)) w s k r (omega arith) (follows (right ++ rest)) no_index no_product g crossed));
 }
 
 -- from a product over an operator to the factor after it
@@ -119,9 +119,9 @@ product_of a b t op w through x y crosses follows no_index done = record {
       let after : Reads line (operator_count + remains) (right ++ rest) (at_factor (through k a)) r =
       (factor_operand b y).reads line remains (operator_count + remains) rest u (at_factor (through k a)) (through k a) r (omega arith) f i (λ n v e. refl) last
       in
-      let past_limit : Reads line (suc (operator_count + remains)) (op ++ (right ++ rest)) (after_product a k) r = crosses line (operator_count + remains) (suc (operator_count + remains)) (right ++ rest) a k r (omega arith) after in
+      let crossed : Reads line (suc (operator_count + remains)) (op ++ (right ++ rest)) (after_product a k) r = crosses line (operator_count + remains) (suc (operator_count + remains)) (right ++ rest) a k r (omega arith) after in
       joined left (op ++ right) rest
-      (rw (append_assoc op right rest) ((product_operand a x).reads line (suc (operator_count + remains)) free (op ++ (right ++ rest)) w s k r (omega arith) (follows (right ++ rest)) no_index g over));
+      (rw (append_assoc op right rest) ((product_operand a x).reads line (suc (operator_count + remains)) free (op ++ (right ++ rest)) w s k r (omega arith) (follows (right ++ rest)) no_index g crossed));
 }
 
 -- ---- what a term is made of
@@ -181,7 +181,7 @@ quotient_reads a b x y =
 
 remainder_reads : (a b : Term (List ℕ)) → TermReads a → TermReads b → TermReads (Remainder a b)
 remainder_reads a b x y =
-    product_term (Remainder a b) refl (product_of a b (Remainder a b) (codes " % ") tokens.Percent (λ k s. leaves s k) x y (λ line remains free rest s k r h d. spaced_reads 37 rest tokens.Percent (after_product s k) (at_factor (leaves s k)) refl refl refl refl refl refl h d)
+    product_term (Remainder a b) refl (product_of a b (Remainder a b) (codes " % ") tokens.Percent (λ k s. remainder_of s k) x y (λ line remains free rest s k r h d. spaced_reads 37 rest tokens.Percent (after_product s k) (at_factor (remainder_of s k)) refl refl refl refl refl refl h d)
     (λ rest. record { first = λ p n. refl; stops = refl }) tt (λ k. refl))
 
 -- each term's text reads as the term

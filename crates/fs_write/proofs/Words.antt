@@ -17,8 +17,8 @@ use Rattle.fs_grammar.specs.declared.token.TokenKind.TheVariants.{Fsmd, Declare,
 use Rattle.fs_grammar.specs.declared.token.Flaw.TheVariants as flaws
 use Rattle.fs_grammar.specs.declared.token.Token.{Token}
 use Rattle.fs_grammar.specs.Grammar.{ParseState, step, reading}
-use Rattle.fs_lex.specs.declared.Lexeme.{Lexeme}
-use Rattle.fs_lex.specs.declared.Lexeme.TheVariants as lexemes
+use Rattle.fs_lex.specs.declared.lexemes.Lexeme.{Lexeme}
+use Rattle.fs_lex.specs.declared.lexemes.Lexeme.TheVariants as lexemes
 use Rattle.fs_lex.specs.Lexemes.{is_space, keyword_of, name_or_bad, word_of, shifted, number_of, lexeme_of}
 use Rattle.fs_lex.specs.Lexemes as lexing
 use Rattle.fs_lex.specs.Scan.{moved, scan, is_past_limit, is_bad, counted}
@@ -188,6 +188,9 @@ digits_read k (b ∷ w) rest s n h e stops f d =
 -- the number in the head of a text
 pub one_lexeme : (rest : List ℕ) → lexeme_of (49 ∷ 59 ∷ rest) ≡ lexemes.Token (Number (pos 1)) 1
 one_lexeme rest = number_lexeme 49 (59 ∷ rest) refl ∙ ap (λ (t : TokenKind). lexemes.Token t 1) (unfolding_number (49 ∷ []) 1 refl (lit< tt))
+
+pub two_lexeme : (rest : List ℕ) → lexeme_of (50 ∷ 59 ∷ rest) ≡ lexemes.Token (Number (pos 2)) 1
+two_lexeme rest = number_lexeme 50 (59 ∷ rest) refl ∙ ap (λ (t : TokenKind). lexemes.Token t 1) (unfolding_number (50 ∷ []) 2 refl (lit< tt))
 
 -- a number is read as one token
 pub number_reads : {line free : ℕ} {r : Result Source TextFault} (k : ℕ) (rest : List ℕ) (s n : ParseState) → k < 2 ^ 127 → begins_no is_word_byte rest ≡ true → step s line (Number (pos k)) ≡ Some n → Reads line free rest n r → Reads line free (decimal k ++ rest) s r

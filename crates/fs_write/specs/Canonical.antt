@@ -8,9 +8,12 @@ use Rattle.fs_model.specs.declared.parts.Role.{Role}
 use Rattle.fs_model.specs.declared.parts.Role.TheVariants.{Input, Output, Local}
 use Rattle.fs_model.specs.declared.parts.Sort.{Sort}
 use Rattle.fs_model.specs.declared.parts.Sort.TheVariants as sorts
-use Rattle.fs_model.specs.Terms.{Term, Number, Variable, Read, Sum, Difference, Product, Quotient, Remainder, Negative, Guard, Test, Not, And, Or, Assignment, Assign, ArrayWrite}
+use Rattle.fs_model.specs.Terms.{Term, Number, Variable, Read, Sum, Difference, Product, Quotient, Remainder, Negative, Guard, Test, Not, And, Or, Assignment, Assign, ArrayWrite, Emit}
 use Rattle.fs_model.specs.Source.{Declaration, SourceTransition, SourceState, Source}
 use Rattle.fs_model.specs.WellFormed.{is_sum, is_product, is_and, is_or}
+use Rattle.fs_grammar.specs.declared.format.Format.{Format}
+use Rattle.fs_grammar.specs.declared.format.Format.TheVariants.{One, Two}
+use Rattle.fs_write.specs.Formats.{format_for}
 
 -- a bracket that stands only where it is needed
 abbrev pub bracket_text : Bool → List ℕ → List ℕ
@@ -61,10 +64,11 @@ guard_text (Not g) = codes "!" ++ in_braces (is_and g || is_or g) (guard_text g)
 guard_text (And a b) = in_braces (is_or a) (guard_text a) ++ (codes " && " ++ in_braces (is_and b || is_or b) (guard_text b))
 guard_text (Or a b) = guard_text a ++ (codes " || " ++ in_braces (is_or b) (guard_text b))
 
--- an assignment to a scalar, or to an array at an index
+-- an assignment to a scalar, or to an array at an index, or an emit to a port
 abbrev pub assignment_text : Assignment (List ℕ) → List ℕ
 assignment_text (Assign x e) = x ++ (codes " = " ++ term_text e)
 assignment_text (ArrayWrite x i e) = x ++ (codes "[" ++ (term_text i ++ (codes "] = " ++ term_text e)))
+assignment_text (Emit x e) = codes "emit " ++ (x ++ (codes " " ++ term_text e))
 
 -- a text that is not the first of a list
 abbrev pub after_comma : List ℕ → List ℕ
@@ -93,21 +97,27 @@ line_text l = codes "  " ++ (condition_text l.content.guard ++ (codes "goto " ++
 abbrev pub state_text : SourceState → List ℕ
 state_text s = codes "state " ++ (s.name ++ (codes ":\n" ++ flat_map line_text s.lines))
 
--- the word that begins a declaration
+-- the word of a role
 abbrev pub role_text : Role → List ℕ
 role_text Input = codes "input "
 role_text Output = codes "output "
 role_text Local = codes "local "
 
--- the word of a sort; that of scalars is none
-abbrev pub sort_text : Sort → List ℕ
-sort_text sorts.Scalar = []
-sort_text sorts.Array = codes "array "
+-- the words before the names of a declaration
+abbrev pub kind_text : Role → Sort → List ℕ
+kind_text role sorts.Scalar = role_text role
+kind_text role sorts.Array = role_text role ++ codes "array "
+kind_text role sorts.Port = codes "port "
 
 -- a declaration, on a line of its own
 abbrev pub declaration_text : Declaration → List ℕ
-declaration_text d = role_text d.role ++ (sort_text d.sort ++ (listed d.names ++ codes ";\n"))
+declaration_text d = kind_text d.role d.sort ++ (listed d.names ++ codes ";\n")
 
--- the text of a machine's parts
+-- the head of a text
+abbrev pub head_text : Format → List ℕ
+head_text One = codes "fsmd 1;\n"
+head_text Two = codes "fsmd 2;\n"
+
+-- the text of a machine's parts, in format 2 exactly where they have ports
 abbrev pub canonical : Source → List ℕ
-canonical s = codes "fsmd 1;\n" ++ (flat_map declaration_text s.declarations ++ (codes "reset " ++ (s.reset ++ (codes ";\n" ++ flat_map state_text s.states))))
+canonical s = head_text (format_for s) ++ (flat_map declaration_text s.declarations ++ (codes "reset " ++ (s.reset ++ (codes ";\n" ++ flat_map state_text s.states))))

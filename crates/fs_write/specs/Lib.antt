@@ -1,3 +1,4 @@
+pub mod Formats
 pub mod Canonical
 pub mod Spellable
 pub mod CanonicalLines

@@ -2,7 +2,7 @@
 use Rattle.std.specs.Prelude.{ℕ, ◌^◌, Bool, true, ◌&&◌, pos, int_lt, Option, Some, None, List}
 use Rattle.std.specs.List.{list_all}
 use Rattle.fs_model.specs.Words.{is_name}
-use Rattle.fs_model.specs.Terms.{Term, Number, Variable, Read, Sum, Difference, Product, Quotient, Remainder, Negative, Guard, Test, Not, And, Or, Assignment, Assign, ArrayWrite}
+use Rattle.fs_model.specs.Terms.{Term, Number, Variable, Read, Sum, Difference, Product, Quotient, Remainder, Negative, Guard, Test, Not, And, Or, Assignment, Assign, ArrayWrite, Emit}
 use Rattle.fs_model.specs.Source.{Declaration, SourceTransition, SourceState, Source}
 
 -- each name is a name, and no number is above 2^127 - 1
@@ -28,6 +28,7 @@ is_spellable_guard (Or a b) = is_spellable_guard a && is_spellable_guard b
 abbrev pub is_spellable_assignment : Assignment (List ℕ) → Bool
 is_spellable_assignment (Assign x e) = is_name x && is_spellable_term e
 is_spellable_assignment (ArrayWrite x i e) = is_name x && (is_spellable_term i && is_spellable_term e)
+is_spellable_assignment (Emit x e) = is_name x && is_spellable_term e
 
 -- the same of what may be a guard
 abbrev pub is_spellable_condition : Option (Guard (List ℕ)) → Bool

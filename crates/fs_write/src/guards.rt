@@ -35,7 +35,7 @@ fn is_or(guard: &Guard) -> bool
     matches!(guard, Guard::Or(..))
 }
 
-/// Writes a guard.
+// Writes a guard.
 fn write_guard(out: &mut Vec<u8>, guard: &Guard) -> Result<(), AllocError>
     ensures text { OnOk result (out.new.items ≡ out.old.items ++ guard_text (named_guard guard.now)) }
     ensures words { OnOk result (IsTrue (is_spellable_guard (named_guard guard.now))) }

@@ -1,6 +1,6 @@
 //! The canonical text of the parts of a machine.
 //!
-//! The text has a line for the head, each declaration, the reset state, each state and each
+//! The text has a line for the head with the format, each declaration, the reset state, each state and each
 //! transition, and parentheses and braces only where leaving them out would change the parts. The
 //! definitions stand in `specs/`.
 #![tactic(auto)]
@@ -13,19 +13,17 @@ ghost use Rattle.fs_lex.specs.Scan.{tokens_of};
 ghost use Rattle.fs_write.specs.Canonical.{canonical};
 ghost use Rattle.fs_write.specs.CanonicalLines.{with_canonical_lines};
 
+mod formats;
 mod guards;
 pub mod laws;
 mod states;
 mod terms;
-#[cfg(test)]
-mod tests;
-
 use fs_model::name::NoMemory;
 use fs_model::parts::Parts;
 use std::alloc::Global;
 
-/// The canonical text of parts that a text can spell. Reading it gives the parts back, each with its
-/// line in this text. Takes time and memory in proportion to the text.
+/// The canonical text of parts that a text can spell, in format 2 exactly where they declare ports or
+/// emit. Reading it gives the parts back, each with its line in this text. Takes time and memory in proportion to the text.
 pub fn write_parts(alloc: Global, parts: &Parts) -> Result<Vec<u8>, NoMemory>
     requires { IsTrue (is_well_formed (source_of parts.now)) }
     ensures text { IfOk result (λ bytes. bytes.items ≡ canonical (source_of parts.now)) }

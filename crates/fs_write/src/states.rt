@@ -4,11 +4,13 @@ ghost use Rattle.std.specs.Prelude.{◌≡◌, ◌++◌, IsTrue, OnOk, codes, ma
 ghost use Rattle.std.specs.List.{flat_map, list_all};
 ghost use Rattle.fs_model.specs.Words.{is_name};
 ghost use Rattle.fs_model.specs.View.{named_assignment, declaration_of, source_transition_of, source_state_of, source_of};
-ghost use Rattle.fs_write.specs.Canonical.{listed, after_comma, assignment_text, assignments_text, line_text, state_text, role_text, sort_text, declaration_text, canonical};
+ghost use Rattle.fs_write.specs.Canonical.{listed, after_comma, assignment_text, assignments_text, line_text, state_text, role_text, kind_text, declaration_text, head_text, canonical};
 ghost use Rattle.fs_write.specs.Spellable.{is_spellable_assignment, is_spellable_transition, is_spellable_state, is_spellable_declaration, is_spellable};
 
+use crate::formats::format_for;
 use crate::guards::write_condition;
 use crate::terms::write_expr;
+use fs_grammar::format::Format;
 use fs_model::name::Name;
 use fs_model::parts::{Assign, Decl, Parts, RawLine, RawState, Role, Sort};
 use std::alloc::AllocError;
@@ -30,6 +32,12 @@ fn write_assign(out: &mut Vec<u8>, assign: &Assign<Name>) -> Result<(), AllocErr
             out.extend_from_slice(b"] = ")?;
             write_expr(out, value)
         }
+        Assign::Emit(name, value) => {
+            out.extend_from_slice(b"emit ")?;
+            out.extend_from_slice(name.bytes())?;
+            out.extend_from_slice(b" ")?;
+            write_expr(out, value)
+        }
     }
 }
 
@@ -39,7 +47,7 @@ fn write_comma(out: &mut Vec<u8>) -> Result<(), AllocError>
     out.extend_from_slice(b", ")
 }
 
-/// Writes the assignments after the first one.
+// Writes the assignments after the first one.
 fn write_more_assigns(out: &mut Vec<u8>, assigns: &[Assign<Name>]) -> Result<(), AllocError>
     ensures text { OnOk result (out.new.items ≡ out.old.items ++ flat_map after_comma (map assignment_text (map named_assignment assigns.now))) }
     ensures words { OnOk result (IsTrue (list_all is_spellable_assignment (map named_assignment assigns.now))) }
@@ -51,7 +59,7 @@ fn write_more_assigns(out: &mut Vec<u8>, assigns: &[Assign<Name>]) -> Result<(),
     Ok(())
 }
 
-/// Writes the assignments of a transition, or nothing where it has none.
+// Writes the assignments of a transition, or nothing where it has none.
 fn write_assigns(out: &mut Vec<u8>, assigns: &[Assign<Name>]) -> Result<(), AllocError>
     ensures text { OnOk result (out.new.items ≡ out.old.items ++ assignments_text (map named_assignment assigns.now)) }
     ensures words { OnOk result (IsTrue (list_all is_spellable_assignment (map named_assignment assigns.now))) }
@@ -108,7 +116,7 @@ fn write_states(out: &mut Vec<u8>, states: &[RawState]) -> Result<(), AllocError
     Ok(())
 }
 
-/// Writes the names after the first one.
+// Writes the names after the first one.
 fn write_more_names(out: &mut Vec<u8>, names: &[Name]) -> Result<(), AllocError>
     ensures text { OnOk result (out.new.items ≡ out.old.items ++ flat_map after_comma names.now) }
     ensures words { OnOk result (IsTrue (list_all is_name names.now)) }
@@ -133,7 +141,7 @@ fn write_names(out: &mut Vec<u8>, names: &[Name]) -> Result<(), AllocError>
     }
 }
 
-fn role(role: Role) -> &'static [u8]
+fn role_word(role: Role) -> &'static [u8]
     ensures { result.now ≡ role_text role }
 {
     match role {
@@ -143,12 +151,17 @@ fn role(role: Role) -> &'static [u8]
     }
 }
 
-fn sort(sort: Sort) -> &'static [u8]
-    ensures { result.now ≡ sort_text sort }
+// Writes the words before the names of a declaration.
+fn write_kind(out: &mut Vec<u8>, role: Role, sort: Sort) -> Result<(), AllocError>
+    ensures { OnOk result (out.new.items ≡ out.old.items ++ kind_text role sort) }
 {
     match sort {
-        Sort::Scalar => b"",
-        Sort::Array => b"array ",
+        Sort::Scalar => out.extend_from_slice(role_word(role)),
+        Sort::Array => {
+            out.extend_from_slice(role_word(role))?;
+            out.extend_from_slice(b"array ")
+        }
+        Sort::Port => out.extend_from_slice(b"port "),
     }
 }
 
@@ -156,8 +169,7 @@ fn write_declaration(out: &mut Vec<u8>, decl: &Decl) -> Result<(), AllocError>
     ensures text { OnOk result (out.new.items ≡ out.old.items ++ declaration_text (declaration_of decl.now)) }
     ensures words { OnOk result (IsTrue (is_spellable_declaration (declaration_of decl.now))) }
 {
-    out.extend_from_slice(role(decl.role))?;
-    out.extend_from_slice(sort(decl.sort))?;
+    write_kind(out, decl.role, decl.sort)?;
     write_names(out, &decl.names)?;
     out.extend_from_slice(b";\n")
 }
@@ -172,12 +184,21 @@ fn write_declarations(out: &mut Vec<u8>, decls: &[Decl]) -> Result<(), AllocErro
     Ok(())
 }
 
+fn head(format: Format) -> &'static [u8]
+    ensures { result.now ≡ head_text format }
+{
+    match format {
+        Format::One => b"fsmd 1;\n",
+        Format::Two => b"fsmd 2;\n",
+    }
+}
+
 /// Writes the whole text.
 pub fn write_source(out: &mut Vec<u8>, parts: &Parts) -> Result<(), AllocError>
     ensures text { OnOk result (out.new.items ≡ out.old.items ++ canonical (source_of parts.now)) }
     ensures words { OnOk result (IsTrue (is_spellable (source_of parts.now))) }
 {
-    out.extend_from_slice(b"fsmd 1;\n")?;
+    out.extend_from_slice(head(format_for(parts)))?;
     write_declarations(out, &parts.decls)?;
     out.extend_from_slice(b"reset ")?;
     out.extend_from_slice(parts.reset.bytes())?;

@@ -42,7 +42,7 @@ fn is_product(expr: &Expr<Name>) -> bool
     matches!(expr, Expr::Mul(..) | Expr::Div(..) | Expr::Rem(..))
 }
 
-/// The operator between two operands, and no bytes where there is none.
+// The operator between two operands, and no bytes where there is none.
 fn operator(expr: &Expr<Name>) -> &'static [u8]
     ensures { result.now ≡ operator_text (named_term expr.now) }
 {

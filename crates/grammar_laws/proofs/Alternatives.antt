@@ -9,11 +9,14 @@ use Rattle.fs_model.specs.declared.parts.Sort.TheVariants as sorts
 use Rattle.fs_model.specs.Terms.{Term, Guard, Test, Assignment, Assign}
 use Rattle.fs_model.specs.Terms as terms
 use Rattle.fs_model.specs.Source.{Declaration, SourceTransition, SourceState, Source}
+use Rattle.fs_grammar.specs.Formats.{number_of}
 use Rattle.fs_grammar.specs.Grammar.{Destination}
+use Rattle.fs_grammar.specs.declared.format.Format.{Format}
+use Rattle.fs_grammar.specs.declared.format.Format.TheVariants.{One, Two}
 use Rattle.fs_grammar.specs.declared.token.TokenKind.{TokenKind}
-use Rattle.fs_grammar.specs.declared.token.TokenKind.TheVariants.{Fsmd, Declare, Array, Reset, State, When, Goto, Name, Number, Semicolon, Colon, Comma, Equals, OpenParen, CloseParen, OpenBracket, CloseBracket, OpenBrace, CloseBrace, Plus, Minus, Star, Slash, Percent, Bang, AndAnd, OrOr, Relation}
+use Rattle.fs_grammar.specs.declared.token.TokenKind.TheVariants.{Fsmd, Declare, Array, Reset, State, When, Goto, Emit, Port, Name, Number, Semicolon, Colon, Comma, Equals, OpenParen, CloseParen, OpenBracket, CloseBracket, OpenBrace, CloseBrace, Plus, Minus, Star, Slash, Percent, Bang, AndAnd, OrOr, Relation}
 use Rattle.grammar_laws.specs.Spelling as spelling
-use Rattle.grammar_laws.specs.Spelling.{Word, at, IsFactor, IsProduct, IsSum, IsUnit, IsConjunction, IsGuard, IsDestination, IsAssignment, AreAssignments, AreEffects, IsCondition, IsLine, AreLines, IsState, AreStates, AreNames, IsKind, IsDeclaration, AreDeclarations, IsFile}
+use Rattle.grammar_laws.specs.Spelling.{Word, at, IsFactor, IsProduct, IsSum, IsUnit, IsConjunction, IsGuard, IsDestination, IsAssignment, AreAssignments, AreEffects, IsCondition, IsTransition, AreTransitions, IsState, AreStates, AreNames, IsKind, IsDeclaration, AreDeclarations, IsFile}
 use Rattle.grammar_laws.specs.Beginnings as rules
 use Rattle.grammar_laws.specs.Beginnings.{Rule, Part, token, rule, IsAlternative, Spelled, AreSpelled, no_part, token_first, rule_first, Begins, nothing, by_parts, BeginParts, by_nothing, by_next, token_whole, rule_whole}
 
@@ -44,7 +47,7 @@ of_row _ _ _ rules.group (tok n (seq _ s (tok m none))) = (_, spelling.group n m
 of_row _ _ _ rules.one_factor (last f) = (_, spelling.factor f.1)
 of_row _ _ _ rules.times (seq _ p (tok n (last f))) = (_, spelling.times n p.1 f.1)
 of_row _ _ _ rules.divides (seq _ p (tok n (last f))) = (_, spelling.divides n p.1 f.1)
-of_row _ _ _ rules.leaves (seq _ p (tok n (last f))) = (_, spelling.leaves n p.1 f.1)
+of_row _ _ _ rules.remainder_of (seq _ p (tok n (last f))) = (_, spelling.remainder_of n p.1 f.1)
 of_row _ _ _ rules.one_product (last p) = (_, spelling.product p.1)
 of_row _ _ _ rules.plus (seq _ s (tok n (last p))) = (_, spelling.plus n s.1 p.1)
 of_row _ _ _ rules.minus (seq _ s (tok n (last p))) = (_, spelling.minus n s.1 p.1)
@@ -57,27 +60,29 @@ of_row _ _ _ rules.one_conjunction (last c) = (_, spelling.conjunction c.1)
 of_row _ _ _ rules.or (seq _ g (tok n (last c))) = (_, spelling.or n g.1 c.1)
 of_row _ _ _ (rules.scalar_name x) (tok n none) = (_, spelling.scalar_name n x)
 of_row _ _ _ (rules.element_at x) (tok n (tok m (seq _ s (tok k none)))) = (_, spelling.element_at n m k x s.1)
-of_row _ _ _ rules.assigned (seq _ d (tok n (last e))) = (_, spelling.assign n d.1 e.1)
-of_row _ _ _ rules.one_assign (last x) = (_, spelling.one_assignment x.1)
-of_row _ _ _ rules.more_assigns (seq _ xs (tok n (last x))) = (_, spelling.more_assignments n xs.1 x.1)
-of_row _ _ _ rules.no_effects none = (_, spelling.no_effects)
-of_row _ _ _ rules.some_effects (tok n (last xs)) = (_, spelling.effects n xs.1)
+of_row _ _ _ (rules.assigned f) (seq _ d (tok n (last e))) = (_, spelling.assign f n d.1 e.1)
+of_row _ _ _ (rules.emitted x) (tok n (tok m (last e))) = (_, spelling.emit n m x e.1)
+of_row _ _ _ (rules.one_assignment f) (last x) = (_, spelling.one_assignment f x.1)
+of_row _ _ _ (rules.more_assignments f) (seq _ xs (tok n (last x))) = (_, spelling.more_assignments f n xs.1 x.1)
+of_row _ _ _ (rules.no_effects f) none = (_, spelling.no_effects f)
+of_row _ _ _ (rules.some_effects f) (tok n (last xs)) = (_, spelling.effects f n xs.1)
 of_row _ _ _ rules.always (tok n none) = (_, _, spelling.always n)
 of_row _ _ _ rules.when (tok n (seq _ g (tok m none))) = (_, _, spelling.when n m g.1)
-of_row _ _ _ (rules.one_line x) (seq _ c (tok m (seq _ e (tok k none)))) = (_, spelling.line c.0 m k c.1 x e.0 c.2 e.1)
-of_row _ _ _ rules.no_lines none = (_, spelling.no_lines)
-of_row _ _ _ rules.more_lines (seq _ ls (last l)) = (_, spelling.more_lines ls.1 l.1)
-of_row _ _ _ (rules.one_state x) (tok n (tok m (tok k (last ls)))) = (_, spelling.state n m k x ls.0 ls.1)
-of_row _ _ _ rules.no_states none = (_, spelling.no_states)
-of_row _ _ _ rules.more_states (seq _ ss (last s)) = (_, spelling.more_states ss.1 s.1)
+of_row _ _ _ (rules.one_transition f x) (seq _ c (tok m (seq _ e (tok k none)))) = (_, spelling.transition f c.0 m k c.1 x e.0 c.2 e.1)
+of_row _ _ _ (rules.no_transitions f) none = (_, spelling.no_transitions f)
+of_row _ _ _ (rules.more_transitions f) (seq _ ls (last l)) = (_, spelling.more_transitions f ls.1 l.1)
+of_row _ _ _ (rules.one_state f x) (tok n (tok m (tok k (last ls)))) = (_, spelling.state f n m k x ls.0 ls.1)
+of_row _ _ _ (rules.no_states f) none = (_, spelling.no_states f)
+of_row _ _ _ (rules.more_states f) (seq _ ss (last s)) = (_, spelling.more_states f ss.1 s.1)
 of_row _ _ _ (rules.one_name x) (tok n none) = (_, spelling.one_name n x)
 of_row _ _ _ (rules.more_names x) (seq _ xs (tok n (tok m none))) = (_, spelling.more_names n m x xs.1)
-of_row _ _ _ (rules.scalars r) (tok n none) = (_, _, _, spelling.scalars n r)
-of_row _ _ _ (rules.arrays r) (tok n (tok m none)) = (_, _, _, spelling.arrays n m r)
-of_row _ _ _ rules.one_declaration (seq _ k (seq _ xs (tok m none))) = (_, spelling.declaration k.0 m k.1 k.2 xs.0 k.3 xs.1)
-of_row _ _ _ rules.no_declarations none = (_, spelling.no_declarations)
-of_row _ _ _ rules.more_declarations (seq _ ds (last d)) = (_, spelling.more_declarations ds.1 d.1)
-of_row _ _ _ (rules.one_file x) (tok i (tok j (tok k (seq _ ds (tok n (tok m (tok l (last ss)))))))) = (_, spelling.file i j k n m l ds.0 x ss.0 ds.1 ss.1)
+of_row _ _ _ (rules.scalars f r) (tok n none) = (_, _, _, spelling.scalars f n r)
+of_row _ _ _ (rules.arrays f r) (tok n (tok m none)) = (_, _, _, spelling.arrays f n m r)
+of_row _ _ _ rules.ports (tok n none) = (_, _, _, spelling.ports n)
+of_row _ _ _ (rules.one_declaration f) (seq _ k (seq _ xs (tok m none))) = (_, spelling.declaration f k.0 m k.1 k.2 xs.0 k.3 xs.1)
+of_row _ _ _ (rules.no_declarations f) none = (_, spelling.no_declarations f)
+of_row _ _ _ (rules.more_declarations f) (seq _ ds (last d)) = (_, spelling.more_declarations f ds.1 d.1)
+of_row _ _ _ (rules.one_file f x) (tok i (tok j (tok k (seq _ ds (tok n (tok m (tok l (last ss)))))))) = (_, _, spelling.file f i j k n m l ds.0 x ss.0 ds.1 ss.1)
 
 -- Whole spellings of an alternative's parts are one of its rule.
 pub composed : (r : Rule) (ps : List Part) (ws : List Word) → IsAlternative r ps → AreSpelled ps ws → Spelled r ws
@@ -114,7 +119,7 @@ mutual
   product_tree _ _ (spelling.factor {f} {a} d) = node rules.product rules.one_factor (end_tree rules.factor a (factor_tree f a d))
   product_tree _ _ (spelling.times n {p} {f} {a} {b} d e) = node rules.product rules.times (between rules.product rules.factor n Star a b (product_tree p a d) (factor_tree f b e))
   product_tree _ _ (spelling.divides n {p} {f} {a} {b} d e) = node rules.product rules.divides (between rules.product rules.factor n Slash a b (product_tree p a d) (factor_tree f b e))
-  product_tree _ _ (spelling.leaves n {p} {f} {a} {b} d e) = node rules.product rules.leaves (between rules.product rules.factor n Percent a b (product_tree p a d) (factor_tree f b e))
+  product_tree _ _ (spelling.remainder_of n {p} {f} {a} {b} d e) = node rules.product rules.remainder_of (between rules.product rules.factor n Percent a b (product_tree p a d) (factor_tree f b e))
 
   sum_tree : (s : Term (List ℕ)) (a : List Word) → IsSum s a → Tree rules.sum a
   sum_tree _ _ (spelling.product {p} {a} d) = node rules.sum rules.one_product (end_tree rules.product a (product_tree p a d))
@@ -139,53 +144,55 @@ destination_tree : (d : Destination) (a : List Word) → IsDestination d a → T
 destination_tree _ _ (spelling.scalar_name n x) = node rules.destination (rules.scalar_name x) (token_tree n (Name x) no_tree)
 destination_tree _ _ (spelling.element_at n m k x {s} {a} d) = node rules.destination (rules.element_at x) (token_tree n (Name x) (token_tree m OpenBracket (rule_tree rules.sum (sum_tree s a d) (token_tree k CloseBracket no_tree))))
 
-assign_tree : (x : Assignment (List ℕ)) (a : List Word) → IsAssignment x a → Tree rules.assign a
-assign_tree _ _ (spelling.assign n {d} {e} {a} {b} p q) = node rules.assign rules.assigned (between rules.destination rules.sum n Equals a b (destination_tree d a p) (sum_tree e b q))
+assignment_tree : (f : Format) (x : Assignment (List ℕ)) (a : List Word) → IsAssignment f x a → Tree (rules.assignment f) a
+assignment_tree _ _ _ (spelling.assign f n {d} {e} {a} {b} p q) = node (rules.assignment f) (rules.assigned f) (between rules.destination rules.sum n Equals a b (destination_tree d a p) (sum_tree e b q))
+assignment_tree _ _ _ (spelling.emit n m x {e} {a} p) = node (rules.assignment Two) (rules.emitted x) (token_tree n Emit (token_tree m (Name x) (end_tree rules.sum a (sum_tree e a p))))
 
-assigns_tree : (xs : List (Assignment (List ℕ))) (a : List Word) → AreAssignments xs a → Tree rules.assigns a
-assigns_tree _ _ (spelling.one_assignment {x} {a} d) = node rules.assigns rules.one_assign (end_tree rules.assign a (assign_tree x a d))
-assigns_tree _ _ (spelling.more_assignments n {xs} {x} {a} {b} d e) = node rules.assigns rules.more_assigns (between rules.assigns rules.assign n Comma a b (assigns_tree xs a d) (assign_tree x b e))
+assignments_tree : (f : Format) (xs : List (Assignment (List ℕ))) (a : List Word) → AreAssignments f xs a → Tree (rules.assignments f) a
+assignments_tree _ _ _ (spelling.one_assignment f {x} {a} d) = node (rules.assignments f) (rules.one_assignment f) (end_tree (rules.assignment f) a (assignment_tree f x a d))
+assignments_tree _ _ _ (spelling.more_assignments f n {xs} {x} {a} {b} d e) = node (rules.assignments f) (rules.more_assignments f) (between (rules.assignments f) (rules.assignment f) n Comma a b (assignments_tree f xs a d) (assignment_tree f x b e))
 
-effects_tree : (xs : List (Assignment (List ℕ))) (a : List Word) → AreEffects xs a → Tree rules.effects a
-effects_tree _ _ spelling.no_effects = node rules.effects rules.no_effects no_tree
-effects_tree _ _ (spelling.effects n {xs} {a} d) = node rules.effects rules.some_effects (token_tree n Colon (end_tree rules.assigns a (assigns_tree xs a d)))
+effects_tree : (f : Format) (xs : List (Assignment (List ℕ))) (a : List Word) → AreEffects f xs a → Tree (rules.effects f) a
+effects_tree _ _ _ (spelling.no_effects f) = node (rules.effects f) (rules.no_effects f) no_tree
+effects_tree _ _ _ (spelling.effects f n {xs} {a} d) = node (rules.effects f) (rules.some_effects f) (token_tree n Colon (end_tree (rules.assignments f) a (assignments_tree f xs a d)))
 
 condition_tree : (n : ℕ) (g : Option (Guard (List ℕ))) (a : List Word) → IsCondition n g a → Tree rules.condition a
 condition_tree _ _ _ (spelling.always n) = node rules.condition rules.always (token_tree n Goto no_tree)
 condition_tree _ _ _ (spelling.when n m {g} {a} d) = node rules.condition rules.when (token_tree n When (rule_tree rules.guard (guard_tree g a d) (token_tree m Goto no_tree)))
 
-line_tree : (l : SourceTransition) (a : List Word) → IsLine l a → Tree rules.line a
-line_tree _ _ (spelling.line n m k g x xs {a} {b} p q) = node rules.line (rules.one_line x) (rule_tree rules.condition (condition_tree n g a p) (token_tree m (Name x) (rule_tree rules.effects (effects_tree xs b q) (token_tree k Semicolon no_tree))))
+transition_tree : (f : Format) (l : SourceTransition) (a : List Word) → IsTransition f l a → Tree (rules.transition f) a
+transition_tree _ _ _ (spelling.transition f n m k g x xs {a} {b} p q) = node (rules.transition f) (rules.one_transition f x) (rule_tree rules.condition (condition_tree n g a p) (token_tree m (Name x) (rule_tree (rules.effects f) (effects_tree f xs b q) (token_tree k Semicolon no_tree))))
 
-lines_tree : (ls : List SourceTransition) (a : List Word) → AreLines ls a → Tree rules.lines a
-lines_tree _ _ spelling.no_lines = node rules.lines rules.no_lines no_tree
-lines_tree _ _ (spelling.more_lines {ls} {l} {a} {b} p q) = node rules.lines rules.more_lines (rule_tree rules.lines (lines_tree ls a p) (end_tree rules.line b (line_tree l b q)))
+transitions_tree : (f : Format) (ls : List SourceTransition) (a : List Word) → AreTransitions f ls a → Tree (rules.transitions f) a
+transitions_tree _ _ _ (spelling.no_transitions f) = node (rules.transitions f) (rules.no_transitions f) no_tree
+transitions_tree _ _ _ (spelling.more_transitions f {ls} {l} {a} {b} p q) = node (rules.transitions f) (rules.more_transitions f) (rule_tree (rules.transitions f) (transitions_tree f ls a p) (end_tree (rules.transition f) b (transition_tree f l b q)))
 
-state_tree : (s : SourceState) (a : List Word) → IsState s a → Tree rules.state a
-state_tree _ _ (spelling.state n m k x ls {a} p) = node rules.state (rules.one_state x) (token_tree n State (token_tree m (Name x) (token_tree k Colon (end_tree rules.lines a (lines_tree ls a p)))))
+state_tree : (f : Format) (s : SourceState) (a : List Word) → IsState f s a → Tree (rules.state f) a
+state_tree _ _ _ (spelling.state f n m k x ls {a} p) = node (rules.state f) (rules.one_state f x) (token_tree n State (token_tree m (Name x) (token_tree k Colon (end_tree (rules.transitions f) a (transitions_tree f ls a p)))))
 
-states_tree : (ss : List SourceState) (a : List Word) → AreStates ss a → Tree rules.states a
-states_tree _ _ spelling.no_states = node rules.states rules.no_states no_tree
-states_tree _ _ (spelling.more_states {ss} {s} {a} {b} p q) = node rules.states rules.more_states (rule_tree rules.states (states_tree ss a p) (end_tree rules.state b (state_tree s b q)))
+states_tree : (f : Format) (ss : List SourceState) (a : List Word) → AreStates f ss a → Tree (rules.states f) a
+states_tree _ _ _ (spelling.no_states f) = node (rules.states f) (rules.no_states f) no_tree
+states_tree _ _ _ (spelling.more_states f {ss} {s} {a} {b} p q) = node (rules.states f) (rules.more_states f) (rule_tree (rules.states f) (states_tree f ss a p) (end_tree (rules.state f) b (state_tree f s b q)))
 
 names_tree : (xs : List (List ℕ)) (a : List Word) → AreNames xs a → Tree rules.names a
 names_tree _ _ (spelling.one_name n x) = node rules.names (rules.one_name x) (token_tree n (Name x) no_tree)
 names_tree _ _ (spelling.more_names n m x {xs} {a} p) = node rules.names (rules.more_names x) (rule_tree rules.names (names_tree xs a p) (token_tree n Comma (token_tree m (Name x) no_tree)))
 
-kind_tree : (n : ℕ) (r : Role) (s : Sort) (a : List Word) → IsKind n r s a → Tree rules.kind a
-kind_tree _ _ _ _ (spelling.scalars n r) = node rules.kind (rules.scalars r) (token_tree n (Declare r) no_tree)
-kind_tree _ _ _ _ (spelling.arrays n m r) = node rules.kind (rules.arrays r) (token_tree n (Declare r) (token_tree m Array no_tree))
+kind_tree : (f : Format) (n : ℕ) (r : Role) (s : Sort) (a : List Word) → IsKind f n r s a → Tree (rules.kind f) a
+kind_tree _ _ _ _ _ (spelling.scalars f n r) = node (rules.kind f) (rules.scalars f r) (token_tree n (Declare r) no_tree)
+kind_tree _ _ _ _ _ (spelling.arrays f n m r) = node (rules.kind f) (rules.arrays f r) (token_tree n (Declare r) (token_tree m Array no_tree))
+kind_tree _ _ _ _ _ (spelling.ports n) = node (rules.kind Two) rules.ports (token_tree n Port no_tree)
 
-declaration_tree : (d : Declaration) (a : List Word) → IsDeclaration d a → Tree rules.declaration a
-declaration_tree _ _ (spelling.declaration n m r s xs {a} {b} p q) = node rules.declaration rules.one_declaration (rule_tree rules.kind (kind_tree n r s a p) (rule_tree rules.names (names_tree xs b q) (token_tree m Semicolon no_tree)))
+declaration_tree : (f : Format) (d : Declaration) (a : List Word) → IsDeclaration f d a → Tree (rules.declaration f) a
+declaration_tree _ _ _ (spelling.declaration f n m r s xs {a} {b} p q) = node (rules.declaration f) (rules.one_declaration f) (rule_tree (rules.kind f) (kind_tree f n r s a p) (rule_tree rules.names (names_tree xs b q) (token_tree m Semicolon no_tree)))
 
-declarations_tree : (ds : List Declaration) (a : List Word) → AreDeclarations ds a → Tree rules.declarations a
-declarations_tree _ _ spelling.no_declarations = node rules.declarations rules.no_declarations no_tree
-declarations_tree _ _ (spelling.more_declarations {ds} {d} {a} {b} p q) = node rules.declarations rules.more_declarations (rule_tree rules.declarations (declarations_tree ds a p) (end_tree rules.declaration b (declaration_tree d b q)))
+declarations_tree : (f : Format) (ds : List Declaration) (a : List Word) → AreDeclarations f ds a → Tree (rules.declarations f) a
+declarations_tree _ _ _ (spelling.no_declarations f) = node (rules.declarations f) (rules.no_declarations f) no_tree
+declarations_tree _ _ _ (spelling.more_declarations f {ds} {d} {a} {b} p q) = node (rules.declarations f) (rules.more_declarations f) (rule_tree (rules.declarations f) (declarations_tree f ds a p) (end_tree (rules.declaration f) b (declaration_tree f d b q)))
 
-file_tree : (s : Source) (a : List Word) → IsFile s a → Tree rules.file a
-file_tree _ _ (spelling.file i j k n m l ds x ss {a} {b} p q) =
-    node rules.file (rules.one_file x) (token_tree i Fsmd (token_tree j (Number (pos 1)) (token_tree k Semicolon (rule_tree rules.declarations (declarations_tree ds a p) (token_tree n Reset (token_tree m (Name x) (token_tree l Semicolon (end_tree rules.states b (states_tree ss b q)))))))))
+file_tree : (f : Format) (s : Source) (a : List Word) → IsFile f s a → Tree rules.file a
+file_tree _ _ _ (spelling.file f i j k n m l ds x ss {a} {b} p q) =
+    node rules.file (rules.one_file f x) (token_tree i Fsmd (token_tree j (Number (number_of f)) (token_tree k Semicolon (rule_tree (rules.declarations f) (declarations_tree f ds a p) (token_tree n Reset (token_tree m (Name x) (token_tree l Semicolon (end_tree (rules.states f) b (states_tree f ss b q)))))))))
 
 tree : (r : Rule) (ws : List Word) → Spelled r ws → Tree r ws
 tree rules.factor ws h = factor_tree h.0 ws h.1
@@ -195,19 +202,19 @@ tree rules.unit ws h = unit_tree h.0 ws h.1
 tree rules.conjunction ws h = conjunction_tree h.0 ws h.1
 tree rules.guard ws h = guard_tree h.0 ws h.1
 tree rules.destination ws h = destination_tree h.0 ws h.1
-tree rules.assign ws h = assign_tree h.0 ws h.1
-tree rules.assigns ws h = assigns_tree h.0 ws h.1
-tree rules.effects ws h = effects_tree h.0 ws h.1
+tree (rules.assignment f) ws h = assignment_tree f h.0 ws h.1
+tree (rules.assignments f) ws h = assignments_tree f h.0 ws h.1
+tree (rules.effects f) ws h = effects_tree f h.0 ws h.1
 tree rules.condition ws h = condition_tree h.0 h.1 ws h.2
-tree rules.line ws h = line_tree h.0 ws h.1
-tree rules.lines ws h = lines_tree h.0 ws h.1
-tree rules.state ws h = state_tree h.0 ws h.1
-tree rules.states ws h = states_tree h.0 ws h.1
+tree (rules.transition f) ws h = transition_tree f h.0 ws h.1
+tree (rules.transitions f) ws h = transitions_tree f h.0 ws h.1
+tree (rules.state f) ws h = state_tree f h.0 ws h.1
+tree (rules.states f) ws h = states_tree f h.0 ws h.1
 tree rules.names ws h = names_tree h.0 ws h.1
-tree rules.kind ws h = kind_tree h.0 h.1 h.2 ws h.3
-tree rules.declaration ws h = declaration_tree h.0 ws h.1
-tree rules.declarations ws h = declarations_tree h.0 ws h.1
-tree rules.file ws h = file_tree h.0 ws h.1
+tree (rules.kind f) ws h = kind_tree f h.0 h.1 h.2 ws h.3
+tree (rules.declaration f) ws h = declaration_tree f h.0 ws h.1
+tree (rules.declarations f) ws h = declarations_tree f h.0 ws h.1
+tree rules.file ws h = file_tree h.0 h.1 ws h.2
 
 mutual
   spelled_by : (r : Rule) (ws : List Word) → Tree r ws → Spelled r ws
@@ -285,8 +292,8 @@ zero_sum = spelling.product (spelling.factor (spelling.number 0 (pos 0)))
 zero_unit : IsUnit (Test (record { relation = Eq; left = terms.Number (pos 0); right = terms.Number (pos 0) })) (zero_word ∷ at 0 (Relation Eq) ∷ zero_word ∷ [])
 zero_unit = spelling.literal 0 Eq zero_sum zero_sum
 
-zero_assign : IsAssignment (Assign [] (terms.Number (pos 0))) (at 0 (Name []) ∷ at 0 Equals ∷ zero_word ∷ [])
-zero_assign = spelling.assign 0 (spelling.scalar_name 0 []) zero_sum
+zero_assignment : (f : Format) → IsAssignment f (Assign [] (terms.Number (pos 0))) (at 0 (Name []) ∷ at 0 Equals ∷ zero_word ∷ [])
+zero_assignment f = spelling.assign f 0 (spelling.scalar_name 0 []) zero_sum
 
 -- some spelling of each rule
 some_spelling : (r : Rule) → (ws : List Word) × Spelled r ws
@@ -297,19 +304,19 @@ some_spelling rules.unit = (_, (_, zero_unit))
 some_spelling rules.conjunction = (_, (_, spelling.unit zero_unit))
 some_spelling rules.guard = (_, (_, spelling.conjunction (spelling.unit zero_unit)))
 some_spelling rules.destination = (_, (_, spelling.scalar_name 0 []))
-some_spelling rules.assign = (_, (_, zero_assign))
-some_spelling rules.assigns = (_, (_, spelling.one_assignment zero_assign))
-some_spelling rules.effects = (_, (_, spelling.no_effects))
+some_spelling (rules.assignment f) = (_, (_, zero_assignment f))
+some_spelling (rules.assignments f) = (_, (_, spelling.one_assignment f (zero_assignment f)))
+some_spelling (rules.effects f) = (_, (_, spelling.no_effects f))
 some_spelling rules.condition = (_, (_, _, spelling.always 0))
-some_spelling rules.line = (_, (_, spelling.line 0 0 0 None [] [] (spelling.always 0) spelling.no_effects))
-some_spelling rules.lines = (_, (_, spelling.no_lines))
-some_spelling rules.state = (_, (_, spelling.state 0 0 0 [] [] spelling.no_lines))
-some_spelling rules.states = (_, (_, spelling.no_states))
+some_spelling (rules.transition f) = (_, (_, spelling.transition f 0 0 0 None [] [] (spelling.always 0) (spelling.no_effects f)))
+some_spelling (rules.transitions f) = (_, (_, spelling.no_transitions f))
+some_spelling (rules.state f) = (_, (_, spelling.state f 0 0 0 [] [] (spelling.no_transitions f)))
+some_spelling (rules.states f) = (_, (_, spelling.no_states f))
 some_spelling rules.names = (_, (_, spelling.one_name 0 []))
-some_spelling rules.kind = (_, (_, _, _, spelling.scalars 0 Local))
-some_spelling rules.declaration = (_, (_, spelling.declaration 0 0 Local sorts.Scalar ([] ∷ []) (spelling.scalars 0 Local) (spelling.one_name 0 [])))
-some_spelling rules.declarations = (_, (_, spelling.no_declarations))
-some_spelling rules.file = (_, (_, spelling.file 0 0 0 0 0 0 [] [] [] spelling.no_declarations spelling.no_states))
+some_spelling (rules.kind f) = (_, (_, _, _, spelling.scalars f 0 Local))
+some_spelling (rules.declaration f) = (_, (_, spelling.declaration f 0 0 Local sorts.Scalar ([] ∷ []) (spelling.scalars f 0 Local) (spelling.one_name 0 [])))
+some_spelling (rules.declarations f) = (_, (_, spelling.no_declarations f))
+some_spelling rules.file = (_, (_, _, spelling.file One 0 0 0 0 0 0 [] [] [] (spelling.no_declarations One) (spelling.no_states One)))
 
 some_parts : (ps : List Part) → (ws : List Word) × AreSpelled ps ws
 some_parts [] = ([], no_part)

@@ -6,8 +6,9 @@ use Rattle.fs_model.specs.Terms.{Term, Variable, Sum, Difference, Product, Quoti
 use Rattle.fs_model.specs.Source.{Source}
 use Rattle.fs_grammar.specs.declared.fault.TextPlace.{TextPlace}
 use Rattle.fs_grammar.specs.declared.fault.TextKind.{TextKind}
-use Rattle.fs_grammar.specs.declared.fault.TextKind.TheVariants.{BadByte, BadWord, NumberTooBig, Unexpected, Operators, Ended}
+use Rattle.fs_grammar.specs.declared.fault.TextKind.TheVariants.{BadByte, BadWord, NumberTooBig, Unexpected, Operators, Nested, Ended}
 use Rattle.fs_grammar.specs.declared.fault.TextFault.{TextFault}
+use Rattle.fs_grammar.specs.declared.format.Format.{Format}
 use Rattle.fs_grammar.specs.declared.token.Flaw.{Flaw}
 use Rattle.fs_grammar.specs.declared.token.Flaw.TheVariants as flaws
 use Rattle.fs_grammar.specs.declared.token.TokenKind.{TokenKind}
@@ -44,7 +45,7 @@ multiplied_none : (w : TokenKind) → ((p : Term (List ℕ)) (k : ProductContext
 multiplied_none w h f (machine.first_factor k) = h f k
 multiplied_none w h f (machine.times p k) = h (Product p f) k
 multiplied_none w h f (machine.divides p k) = h (Quotient p f) k
-multiplied_none w h f (machine.leaves p k) = h (Remainder p f) k
+multiplied_none w h f (machine.remainder_of p k) = h (Remainder p f) k
 multiplied_none w h f (machine.negative k) = multiplied_none w h (Negative f) k
 
 conjunction_bad : (j : Flaw) (c : Guard (List ℕ)) (k : ConjunctionContext) → step_conjunction (Bad j) c k ≡ None
@@ -114,18 +115,18 @@ done_more before s r t h e o = record {
   clear = clear_more before t h.clear o;
 }
 
-file_at : (ws : List Word) (s : ParseState) (f : Source) → walk ws at_start ≡ Some s → finish s ≡ Some f → IsFile f ws
-file_at ws s f e g = sound f ws (rw e g)
+file_at : (ws : List Word) (s : ParseState) (r : Source) → walk ws at_start ≡ Some s → finish s ≡ Some r → (f : Format) × IsFile f r ws
+file_at ws s r e g = sound r ws (rw e g)
 
-no_file_at : (ws : List Word) (s : ParseState) → walk ws at_start ≡ Some s → finish s ≡ None → (f : Source) → IsFile f ws → ⊥
-no_file_at ws s e g f p =
-    let c = complete f ws p in
+no_file_at : (ws : List Word) (s : ParseState) → walk ws at_start ≡ Some s → finish s ≡ None → (f : Format) (r : Source) → IsFile f r ws → ⊥
+no_file_at ws s e g f r p =
+    let c = complete f r ws p in
     let n : source_at ws ≡ None = rw e g in
     cc
 
 -- ---- what is read is spelled, and a fault is at the first token that is wrong
 
--- The tokens begin a file, none is over, and there is no end.
+-- The tokens begin a file, none is past the limit, and there is no end.
 record Runs (ts : List Token) : Type 0 where
   begins : BeginsFile (words ts)
   clear : AreClear ts
@@ -140,9 +141,10 @@ stops k t before s ts h w = inl (record { before = before; token = t; behind = t
 -- the end
 at_end : (before : List Token) (s : ParseState) (past_limit : Bool) (place : TextPlace) (ts : List Token) → Done before s → (o : Option Source) → finish s ≡ o
     → Answers (before ++ record { kind = End; past_limit = past_limit; place = place } ∷ ts) (stop End (fault_at (record { kind = End; past_limit = past_limit; place = place }) Ended) o)
-at_end before s over place ts h (Some f) e =
-    record { before = before; token = record { kind = End; past_limit = past_limit; place = place }; behind = ts; parts = refl; ends = refl; file = file_at (words before) s f h.leads_to e; clear = h.clear }
-at_end before s over place ts h None e = stops Ended (record { kind = End; past_limit = past_limit; place = place }) before s ts h (refl, no_file_at (words before) s h.leads_to e)
+at_end before s past_limit place ts h (Some f) e =
+    let file = file_at (words before) s f h.leads_to e in
+    record { before = before; token = record { kind = End; past_limit = past_limit; place = place }; behind = ts; parts = refl; ends = refl; format = file.0; file = file.1; clear = h.clear }
+at_end before s past_limit place ts h None e = stops Ended (record { kind = End; past_limit = past_limit; place = place }) before s ts h (refl, no_file_at (words before) s h.leads_to e)
 
 -- a token that cannot follow
 cannot_follow : (before : List Token) (s : ParseState) (n : ℕ) (w : TokenKind) → Done before s → step s n w ≡ None → BeginsFile (words before ++ at n w ∷ []) → ⊥
@@ -150,14 +152,14 @@ cannot_follow before s n w h e = stuck (words before ++ at n w ∷ []) (walk_mor
 
 refused : (w : TokenKind) (past_limit : Bool) (place : TextPlace) (before : List Token) (s : ParseState) (ts : List Token) → Done before s → step s place.line w ≡ None
     → Answers (before ++ record { kind = w; past_limit = past_limit; place = place } ∷ ts) (stop w (fault_at (record { kind = w; past_limit = past_limit; place = place }) (fault_of w)) (finish s))
-refused (Bad flaws.Byte) over place before s ts h e = stops BadByte (record { kind = Bad flaws.Byte; past_limit = past_limit; place = place }) before s ts h refl
-refused (Bad flaws.Word) over place before s ts h e = stops BadWord (record { kind = Bad flaws.Word; past_limit = past_limit; place = place }) before s ts h refl
-refused (Bad flaws.Number) over place before s ts h e = stops NumberTooBig (record { kind = Bad flaws.Number; past_limit = past_limit; place = place }) before s ts h refl
-refused End over place before s ts h e = at_end before s over place ts h (finish s) refl
-refused w over place before s ts h e = stops Unexpected (record { kind = w; past_limit = past_limit; place = place }) before s ts h (tt, cannot_follow before s place.line w h e)
+refused (Bad flaws.Byte) past_limit place before s ts h e = stops BadByte (record { kind = Bad flaws.Byte; past_limit = past_limit; place = place }) before s ts h refl
+refused (Bad flaws.Word) past_limit place before s ts h e = stops BadWord (record { kind = Bad flaws.Word; past_limit = past_limit; place = place }) before s ts h refl
+refused (Bad flaws.Number) past_limit place before s ts h e = stops NumberTooBig (record { kind = Bad flaws.Number; past_limit = past_limit; place = place }) before s ts h refl
+refused End past_limit place before s ts h e = at_end before s past_limit place ts h (finish s) refl
+refused w past_limit place before s ts h e = stops Unexpected (record { kind = w; past_limit = past_limit; place = place }) before s ts h (tt, cannot_follow before s place.line w h e)
 
 let_in : (past_limit : Bool) (w : TokenKind) (place : TextPlace) (ts before : List Token) (s r : ParseState) → Done before s → ((b : List Token) (m : ParseState) → Done b m → Answers (b ++ ts) (reading ts m)) → step s place.line w ≡ Some r
-    → Answers (before ++ record { kind = w; past_limit = past_limit; place = place } ∷ ts) (cond over (Err (fault_at (record { kind = w; past_limit = past_limit; place = place }) Operators)) (reading ts r))
+    → Answers (before ++ record { kind = w; past_limit = past_limit; place = place } ∷ ts) (cond past_limit (Err (fault_at (record { kind = w; past_limit = past_limit; place = place }) Operators)) (reading ts r))
 let_in true w place ts before s r h go e =
     stops Operators (record { kind = w; past_limit = true; place = place }) before s ts h (leads (words before ++ at place.line w ∷ []) r (walk_more (words before) s place.line w h.leads_to ∙ e), refl)
 let_in false w place ts before s r h go e =
@@ -214,8 +216,8 @@ reads_on [] rest s r h e = let same : s ≡ r = cc in rw same refl
 reads_on (t ∷ before) rest s r h e = reads_next t before rest r (step s t.place.line t.kind) (finish s) h.0 (λ m. reads_on before rest m r h.1) e
 
 ends_at : (w : TokenKind) (past_limit : Bool) (place : TextPlace) (behind : List Token) (r : ParseState) (f : Source) → w ≡ End → finish r ≡ Some f → reading (record { kind = w; past_limit = past_limit; place = place } ∷ behind) r ≡ Ok f
-ends_at End over place behind r f e g = rw (end_steps r place.line, g) refl
-ends_at _ over place behind r f e g = absurd cc
+ends_at End past_limit place behind r f e g = rw (end_steps r place.line, g) refl
+ends_at _ past_limit place behind r f e g = absurd cc
 
 spelled_at : (o : Option ParseState) (f : Source) (before : List Token) (token : Token) (behind : List Token) → token.kind ≡ End → AreClear before → walk (words before) at_start ≡ o → on o finish ≡ Some f → reading (before ++ token ∷ behind) at_start ≡ Ok f
 spelled_at None f before token behind w h e g = absurd cc
@@ -223,31 +225,31 @@ spelled_at (Some r) f before token behind w h e g = reads_on before (token ∷ b
 
 -- What is spelled is read.
 pub spelled_is_read : (s : Source) (ts : List Token) → Spells s ts → reading ts at_start ≡ Ok s
-spelled_is_read s ts h = ap (λ (l : List Token). reading l at_start) h.parts ∙ spelled_at (walk (words h.before) at_start) s h.before h.token h.behind h.ends h.clear refl (complete s (words h.before) h.file)
+spelled_is_read s ts h = ap (λ (l : List Token). reading l at_start) h.parts ∙ spelled_at (walk (words h.before) at_start) s h.before h.token h.behind h.ends h.clear refl (complete h.format s (words h.before) h.file)
 
 -- ---- a token that is wrong is the fault
 
 -- how the reading goes on at a token
 at_bad : (j : Flaw) (w : TokenKind) (past_limit : Bool) (place : TextPlace) (behind : List Token) (r : ParseState) → w ≡ Bad j → reading (record { kind = w; past_limit = past_limit; place = place } ∷ behind) r ≡ Err (fault_at (record { kind = w; past_limit = past_limit; place = place }) (fault_of (Bad j)))
-at_bad j (Bad i) over place behind r e = let same : Bad i ≡ Bad j = e in rw (bad_steps i r place.line) (ap (λ (v : TokenKind). Err (fault_at (record { kind = Bad i; past_limit = past_limit; place = place }) (fault_of v))) same)
-at_bad j _ over place behind r e = absurd cc
+at_bad j (Bad i) past_limit place behind r e = let same : Bad i ≡ Bad j = e in rw (bad_steps i r place.line) (ap (λ (v : TokenKind). Err (fault_at (record { kind = Bad i; past_limit = past_limit; place = place }) (fault_of v))) same)
+at_bad j _ past_limit place behind r e = absurd cc
 
 at_early_end : (w : TokenKind) (past_limit : Bool) (place : TextPlace) (behind : List Token) (r : ParseState) → w ≡ End → finish r ≡ None → reading (record { kind = w; past_limit = past_limit; place = place } ∷ behind) r ≡ Err (fault_at (record { kind = w; past_limit = past_limit; place = place }) Ended)
-at_early_end End over place behind r e g = rw (end_steps r place.line, g) refl
-at_early_end _ over place behind r e g = absurd cc
+at_early_end End past_limit place behind r e g = rw (end_steps r place.line, g) refl
+at_early_end _ past_limit place behind r e g = absurd cc
 
 at_stranger : (w : TokenKind) (past_limit : Bool) (place : TextPlace) (behind : List Token) (r : ParseState) → IsPlain w → step r place.line w ≡ None → reading (record { kind = w; past_limit = past_limit; place = place } ∷ behind) r ≡ Err (fault_at (record { kind = w; past_limit = past_limit; place = place }) Unexpected)
-at_stranger (Bad j) over place behind r p e = absurd p
-at_stranger End over place behind r p e = absurd p
-at_stranger _ over place behind r p e = rw e refl
+at_stranger (Bad j) past_limit place behind r p e = absurd p
+at_stranger End past_limit place behind r p e = absurd p
+at_stranger _ past_limit place behind r p e = rw e refl
 
-at_over : (t : Token) (behind : List Token) (r : ParseState) (o : Option ParseState) → step r t.place.line t.kind ≡ o → (o ≡ None → ⊥) → t.past_limit ≡ true → reading (t ∷ behind) r ≡ Err (fault_at t Operators)
-at_over t behind r None e h v = absurd (h refl)
-at_over t behind r (Some m) e h v = rw (e, v) refl
+at_past_limit : (t : Token) (behind : List Token) (r : ParseState) (o : Option ParseState) → step r t.place.line t.kind ≡ o → (o ≡ None → ⊥) → t.past_limit ≡ true → reading (t ∷ behind) r ≡ Err (fault_at t Operators)
+at_past_limit t behind r None e h v = absurd (h refl)
+at_past_limit t behind r (Some m) e h v = rw (e, v) refl
 
-none_finishes : (ws : List Word) (r : ParseState) (o : Option Source) → walk ws at_start ≡ Some r → finish r ≡ o → ((s : Source) → IsFile s ws → ⊥) → finish r ≡ None
+none_finishes : (ws : List Word) (r : ParseState) (o : Option Source) → walk ws at_start ≡ Some r → finish r ≡ o → ((f : Format) (s : Source) → IsFile f s ws → ⊥) → finish r ≡ None
 none_finishes ws r None w e h = e
-none_finishes ws r (Some s) w e h = absurd (h s (file_at ws r s w e))
+none_finishes ws r (Some s) w e h = let file = file_at ws r s w e in absurd (h file.0 s file.1)
 
 none_steps : (ws : List Word) (r : ParseState) (n : ℕ) (t : TokenKind) (o : Option ParseState) → walk ws at_start ≡ Some r → step r n t ≡ o → (BeginsFile (ws ++ at n t ∷ []) → ⊥) → step r n t ≡ None
 none_steps ws r n t None w e h = e
@@ -261,7 +263,8 @@ wrong_at BadByte ws t behind r w h = at_bad flaws.Byte t.kind t.past_limit t.pla
 wrong_at BadWord ws t behind r w h = at_bad flaws.Word t.kind t.past_limit t.place behind r h
 wrong_at NumberTooBig ws t behind r w h = at_bad flaws.Number t.kind t.past_limit t.place behind r h
 wrong_at Unexpected ws t behind r w h = at_stranger t.kind t.past_limit t.place behind r h.0 (none_steps ws r t.place.line t.kind (step r t.place.line t.kind) w refl h.1)
-wrong_at Operators ws t behind r w h = at_over t behind r (step r t.place.line t.kind) refl (some_step ws r t.place.line t.kind w h.0) h.1
+wrong_at Operators ws t behind r w h = at_past_limit t behind r (step r t.place.line t.kind) refl (some_step ws r t.place.line t.kind w h.0) h.1
+wrong_at Nested ws t behind r w h = absurd h
 wrong_at Ended ws t behind r w h = at_early_end t.kind t.past_limit t.place behind r h.0 (none_finishes ws r (finish r) w refl h.1)
 
 stopped_at : (o : Option ParseState) (k : TextKind) (before : List Token) (t : Token) (behind : List Token) → walk (words before) at_start ≡ o → BeginsFile (words before) → AreClear before → IsWrong k (words before) t

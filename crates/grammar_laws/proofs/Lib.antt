@@ -6,3 +6,6 @@ pub mod Beginning
 pub mod Exact
 pub mod Once
 pub mod Examples
+pub mod Inside
+pub mod Expressions
+pub mod Formats

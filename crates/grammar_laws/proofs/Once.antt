@@ -2,9 +2,11 @@
 use Rattle.std.proofs.Common.{◌≡◌, ℕ, List, [], Some, sym, ◌∙◌}
 use Rattle.fs_model.specs.Terms.{Term, Guard}
 use Rattle.fs_model.specs.Source.{Source}
+use Rattle.fs_grammar.specs.declared.format.Format.{Format}
+use Rattle.fs_grammar.specs.declared.format.Format.TheVariants.{One}
 use Rattle.fs_grammar.specs.declared.token.TokenKind.TheVariants.{CloseParen, CloseBrace}
 use Rattle.fs_grammar.specs.declared.token.Token.{Token}
-use Rattle.fs_grammar.specs.Grammar.{ConjunctionContext, ProductContext, first_factor, first_product, first_of_all, first_of_any, parens, left, braces, line, after_product, after_conjunction}
+use Rattle.fs_grammar.specs.Grammar.{ConjunctionContext, ProductContext, first_factor, first_product, first_of_all, first_of_any, parens, left, braces, transition_guard, after_product, after_conjunction}
 use Rattle.grammar_laws.specs.Spelling.{Word, IsSum, IsGuard, IsFile}
 use Rattle.grammar_laws.specs.Faults.{Spells}
 use Rattle.grammar_laws.proofs.Complete.{complete, sum_walks, guard_walks}
@@ -16,15 +18,15 @@ one_source s r ts h k =
     let b = spelled_is_read r ts k in
     cc
 
-pub one_file : (s r : Source) (ws : List Word) → IsFile s ws → IsFile r ws → s ≡ r
-one_file s r ws h k =
-    let a = complete s ws h in
-    let b = complete r ws k in
+pub one_file : (f g : Format) (s r : Source) (ws : List Word) → IsFile f s ws → IsFile g r ws → s ≡ r
+one_file f g s r ws h k =
+    let a = complete f s ws h in
+    let b = complete g r ws k in
     cc
 
 -- some place to read a part at
 abbrev some_conjunction : ConjunctionContext
-some_conjunction = first_of_any (line (record { source = record { declarations = []; reset_line = 0; reset = []; states = [] }; state = record { line = 0; name = []; lines = [] } }) 0)
+some_conjunction = first_of_any (transition_guard (record { format = One; source = record { declarations = []; reset_line = 0; reset = []; states = [] }; state = record { line = 0; name = []; lines = [] } }) 0)
 
 abbrev some_product : ProductContext
 some_product = first_product (left (first_of_all some_conjunction))

@@ -1,11 +1,14 @@
 -- What has been read at each place of the reading.
-use Rattle.std.specs.Prelude.{◌≡◌, ℕ, pos, List, [], ◌∷◌, ◌++◌, Option}
+use Rattle.std.specs.Prelude.{◌≡◌, ℕ, List, [], ◌∷◌, ◌++◌, Option}
 use Rattle.fs_model.specs.declared.parts.Rel.{Rel}
 use Rattle.fs_model.specs.Terms.{Term, Guard, Assignment}
 use Rattle.fs_model.specs.Source.{Declaration, Source}
-use Rattle.fs_grammar.specs.declared.token.TokenKind.TheVariants.{Fsmd, Declare, Reset, State, When, Name, Number, Semicolon, Colon, Comma, Equals, OpenParen, OpenBracket, OpenBrace, Plus, Minus, Star, Slash, Percent, Bang, AndAnd, OrOr, Relation}
+use Rattle.fs_grammar.specs.declared.format.Format.{Format}
+use Rattle.fs_grammar.specs.declared.format.Format.TheVariants.{Two}
+use Rattle.fs_grammar.specs.declared.token.TokenKind.TheVariants.{Fsmd, Declare, Reset, State, When, Emit, Name, Number, Semicolon, Colon, Comma, Equals, OpenParen, OpenBracket, OpenBrace, Plus, Minus, Star, Slash, Percent, Bang, AndAnd, OrOr, Relation}
+use Rattle.fs_grammar.specs.Formats.{number_of}
 use Rattle.fs_grammar.specs.Grammar as machine
-use Rattle.fs_grammar.specs.Grammar.{Destination, OpenState, OpenTransition, FactorContext, ProductContext, SumContext, UnitContext, ConjunctionContext, GuardContext, ParseState, at_start, at_one, at_semicolon, at_declaration, at_sort, at_declared, after_declared, at_reset, after_reset, at_state, at_state_name, after_state_name, at_line, at_target, after_target, at_assignment, after_assignment_name, at_equals, at_unit, after_conjunction, after_guard, at_factor, after_name, after_product, after_sum}
+use Rattle.fs_grammar.specs.Grammar.{Destination, OpenState, OpenTransition, FactorContext, ProductContext, SumContext, UnitContext, ConjunctionContext, GuardContext, ParseState, at_start, at_format, at_semicolon, at_declaration, at_sort, at_declared, after_declared, at_reset, after_reset, at_state, at_state_name, after_state_name, at_transition, at_target, after_target, at_assignment, at_port, after_assignment_name, at_equals, at_unit, after_conjunction, after_guard, at_factor, after_name, after_product, after_sum}
 use Rattle.grammar_laws.specs.Spelling.{Word, at, IsProduct, IsSum, IsConjunction, IsGuard, IsDestination, AreAssignments, IsCondition, IsState, AreNames, IsKind, AreDeclarations, IsFile}
 
 -- words in two parts
@@ -21,16 +24,16 @@ Is ws vs = vs ≡ ws
 
 -- ---- the head
 
-abbrev pub head : ℕ → ℕ → ℕ → List Word
-head i j k = at i Fsmd ∷ at j (Number (pos 1)) ∷ at k Semicolon ∷ []
+abbrev pub head : Format → ℕ → ℕ → ℕ → List Word
+head f i j k = at i Fsmd ∷ at j (Number (number_of f)) ∷ at k Semicolon ∷ []
 
-pub record IsHead (ds : List Declaration) (ws : List Word) : Type 0 where
+pub record IsHead (f : Format) (ds : List Declaration) (ws : List Word) : Type 0 where
   pub i : ℕ
   pub j : ℕ
   pub k : ℕ
   pub a : List Word
-  pub declarations : AreDeclarations ds a
-  pub is : ws ≡ head i j k ++ a
+  pub declarations : AreDeclarations f ds a
+  pub is : ws ≡ head f i j k ++ a
 
 -- names up to the next one
 pub data BeforeName : List (List ℕ) → List Word → Type 0 where
@@ -38,41 +41,41 @@ pub data BeforeName : List (List ℕ) → List Word → Type 0 where
   comma : (n : ℕ) {xs : List (List ℕ)} {a : List Word} → AreNames xs a → BeforeName xs (a ++ at n Comma ∷ [])
 
 -- a declaration up to its next name
-abbrev pub Declares : Declaration → List Word → Type 0
-Declares d ws = Cut (IsKind d.line d.role d.sort) (BeforeName d.names) ws
+abbrev pub Declares : Format → Declaration → List Word → Type 0
+Declares f d ws = Cut (IsKind f d.line d.role d.sort) (BeforeName d.names) ws
 
 -- a declaration up to its last name
-abbrev pub Declared : Declaration → List Word → Type 0
-Declared d ws = Cut (IsKind d.line d.role d.sort) (AreNames d.names) ws
+abbrev pub Declared : Format → Declaration → List Word → Type 0
+Declared f d ws = Cut (IsKind f d.line d.role d.sort) (AreNames d.names) ws
 
-pub data AfterReset : Source → List Word → Type 0 where
-  reset : (n m : ℕ) (ds : List Declaration) (x : List ℕ) (a : List Word) → IsHead ds a → AfterReset (record { declarations = ds; reset_line = n; reset = x; states = [] }) (a ++ (at n Reset ∷ at m (Name x) ∷ []))
+pub data AfterReset : Format → Source → List Word → Type 0 where
+  reset : (f : Format) (n m : ℕ) (ds : List Declaration) (x : List ℕ) (a : List Word) → IsHead f ds a → AfterReset f (record { declarations = ds; reset_line = n; reset = x; states = [] }) (a ++ (at n Reset ∷ at m (Name x) ∷ []))
 
--- ---- states and lines
+-- ---- states and transitions
 
 pub data AfterState : OpenState → List Word → Type 0 where
-  named : (n m : ℕ) (s : Source) (x : List ℕ) (a : List Word) → IsFile s a → AfterState (record { source = s; state = record { line = n; name = x; lines = [] } }) (a ++ (at n State ∷ at m (Name x) ∷ []))
+  named : (f : Format) (n m : ℕ) (s : Source) (x : List ℕ) (a : List Word) → IsFile f s a → AfterState (record { format = f; source = s; state = record { line = n; name = x; lines = [] } }) (a ++ (at n State ∷ at m (Name x) ∷ []))
 
-abbrev pub IsDraft : OpenState → List Word → Type 0
-IsDraft d ws = Cut (IsFile d.source) (IsState d.state) ws
+abbrev pub IsOpenState : OpenState → List Word → Type 0
+IsOpenState d ws = Cut (IsFile d.format d.source) (IsState d.format d.state) ws
 
 pub data AfterTarget : OpenTransition → List Word → Type 0 where
-  target : (n m : ℕ) (d : OpenState) (g : Option (Guard (List ℕ))) (x : List ℕ) (a b : List Word) → IsDraft d a → IsCondition n g b → AfterTarget (record { draft = d; begins = n; guard = g; target = x; assignments = [] }) (a ++ (b ++ at m (Name x) ∷ []))
+  target : (n m : ℕ) (d : OpenState) (g : Option (Guard (List ℕ))) (x : List ℕ) (a b : List Word) → IsOpenState d a → IsCondition n g b → AfterTarget (record { state = d; line = n; guard = g; target = x; assignments = [] }) (a ++ (b ++ at m (Name x) ∷ []))
 
 -- assignments up to the next one
-pub data BeforeAssignment : List (Assignment (List ℕ)) → List Word → Type 0 where
-  colon : (n : ℕ) → BeforeAssignment [] (at n Colon ∷ [])
-  next : (n m : ℕ) {xs : List (Assignment (List ℕ))} {a : List Word} → AreAssignments xs a → BeforeAssignment xs (at n Colon ∷ (a ++ at m Comma ∷ []))
+pub data BeforeAssignment : Format → List (Assignment (List ℕ)) → List Word → Type 0 where
+  colon : (f : Format) (n : ℕ) → BeforeAssignment f [] (at n Colon ∷ [])
+  next : (f : Format) (n m : ℕ) {xs : List (Assignment (List ℕ))} {a : List Word} → AreAssignments f xs a → BeforeAssignment f xs (at n Colon ∷ (a ++ at m Comma ∷ []))
 
--- a line up to its next assignment
-pub record IsOpening (o : OpenTransition) (ws : List Word) : Type 0 where
+-- a transition up to its next assignment
+pub record IsOpenTransition (o : OpenTransition) (ws : List Word) : Type 0 where
   pub a : List Word
   pub b : List Word
   pub c : List Word
   pub m : ℕ
-  pub draft : IsDraft o.draft a
-  pub condition : IsCondition o.begins o.guard b
-  pub before : BeforeAssignment o.assignments c
+  pub state : IsOpenState o.state a
+  pub condition : IsCondition o.line o.guard b
+  pub before : BeforeAssignment o.state.format o.assignments c
   pub is : ws ≡ a ++ (b ++ (at m (Name o.target) ∷ c))
 
 -- ---- what was read before a part
@@ -89,14 +92,14 @@ mutual
 
   pub data BeforeGuard : GuardContext → List Word → Type 0 where
     braces : (n : ℕ) (k : UnitContext) (a : List Word) → BeforeUnit k a → BeforeGuard (machine.braces k) (a ++ at n OpenBrace ∷ [])
-    line : (n : ℕ) (d : OpenState) (a : List Word) → IsDraft d a → BeforeGuard (machine.line d n) (a ++ at n When ∷ [])
+    transition_guard : (n : ℕ) (d : OpenState) (a : List Word) → IsOpenState d a → BeforeGuard (machine.transition_guard d n) (a ++ at n When ∷ [])
 
 mutual
   pub data BeforeFactor : FactorContext → List Word → Type 0 where
     first_factor : (k : ProductContext) (a : List Word) → BeforeProduct k a → BeforeFactor (machine.first_factor k) a
     times : (n : ℕ) (p : Term (List ℕ)) (k : ProductContext) (a b : List Word) → BeforeProduct k a → IsProduct p b → BeforeFactor (machine.times p k) (a ++ (b ++ at n Star ∷ []))
     divides : (n : ℕ) (p : Term (List ℕ)) (k : ProductContext) (a b : List Word) → BeforeProduct k a → IsProduct p b → BeforeFactor (machine.divides p k) (a ++ (b ++ at n Slash ∷ []))
-    leaves : (n : ℕ) (p : Term (List ℕ)) (k : ProductContext) (a b : List Word) → BeforeProduct k a → IsProduct p b → BeforeFactor (machine.leaves p k) (a ++ (b ++ at n Percent ∷ []))
+    remainder_of : (n : ℕ) (p : Term (List ℕ)) (k : ProductContext) (a b : List Word) → BeforeProduct k a → IsProduct p b → BeforeFactor (machine.remainder_of p k) (a ++ (b ++ at n Percent ∷ []))
     negative : (n : ℕ) (k : FactorContext) (a : List Word) → BeforeFactor k a → BeforeFactor (machine.negative k) (a ++ at n Minus ∷ [])
 
   pub data BeforeProduct : ProductContext → List Word → Type 0 where
@@ -109,28 +112,30 @@ mutual
     index : (n m : ℕ) (x : List ℕ) (k : FactorContext) (a : List Word) → BeforeFactor k a → BeforeSum (machine.index x k) (a ++ (at n (Name x) ∷ at m OpenBracket ∷ []))
     left : (k : UnitContext) (a : List Word) → BeforeUnit k a → BeforeSum (machine.left k) a
     right : (n : ℕ) (r : Rel) (l : Term (List ℕ)) (k : UnitContext) (a b : List Word) → BeforeUnit k a → IsSum l b → BeforeSum (machine.right r l k) (a ++ (b ++ at n (Relation r) ∷ []))
-    place : (n m : ℕ) (o : OpenTransition) (x : List ℕ) (a : List Word) → IsOpening o a → BeforeSum (machine.place o x) (a ++ (at n (Name x) ∷ at m OpenBracket ∷ []))
-    value : (n : ℕ) (o : OpenTransition) (d : Destination) (a b : List Word) → IsOpening o a → IsDestination d b → BeforeSum (machine.value o d) (a ++ (b ++ at n Equals ∷ []))
+    write_index : (n m : ℕ) (o : OpenTransition) (x : List ℕ) (a : List Word) → IsOpenTransition o a → BeforeSum (machine.write_index o x) (a ++ (at n (Name x) ∷ at m OpenBracket ∷ []))
+    value : (n : ℕ) (o : OpenTransition) (d : Destination) (a b : List Word) → IsOpenTransition o a → IsDestination d b → BeforeSum (machine.value o d) (a ++ (b ++ at n Equals ∷ []))
+    emitted : (n m : ℕ) (o : OpenTransition) (x : List ℕ) (a : List Word) → o.state.format ≡ Two → IsOpenTransition o a → BeforeSum (machine.value o (machine.port x)) (a ++ (at n Emit ∷ at m (Name x) ∷ []))
 
 abbrev pub Reached : ParseState → List Word → Type 0
 Reached at_start ws = ws ≡ []
-Reached at_one ws = (i : ℕ) × (ws ≡ at i Fsmd ∷ [])
-Reached at_semicolon ws = (i : ℕ) × (j : ℕ) × (ws ≡ at i Fsmd ∷ at j (Number (pos 1)) ∷ [])
-Reached (at_declaration ds) ws = IsHead ds ws
-Reached (at_sort ds n r) ws = Cut (IsHead ds) (Is (at n (Declare r) ∷ [])) ws
-Reached (at_declared ds d) ws = Cut (IsHead ds) (Declares d) ws
-Reached (after_declared ds d) ws = Cut (IsHead ds) (Declared d) ws
-Reached (at_reset ds n) ws = Cut (IsHead ds) (Is (at n Reset ∷ [])) ws
-Reached (after_reset s) ws = AfterReset s ws
-Reached (at_state s) ws = IsFile s ws
-Reached (at_state_name s n) ws = Cut (IsFile s) (Is (at n State ∷ [])) ws
+Reached at_format ws = (i : ℕ) × (ws ≡ at i Fsmd ∷ [])
+Reached (at_semicolon f) ws = (i : ℕ) × (j : ℕ) × (ws ≡ at i Fsmd ∷ at j (Number (number_of f)) ∷ [])
+Reached (at_declaration f ds) ws = IsHead f ds ws
+Reached (at_sort f ds n r) ws = Cut (IsHead f ds) (Is (at n (Declare r) ∷ [])) ws
+Reached (at_declared f ds d) ws = Cut (IsHead f ds) (Declares f d) ws
+Reached (after_declared f ds d) ws = Cut (IsHead f ds) (Declared f d) ws
+Reached (at_reset f ds n) ws = Cut (IsHead f ds) (Is (at n Reset ∷ [])) ws
+Reached (after_reset f s) ws = AfterReset f s ws
+Reached (at_state f s) ws = IsFile f s ws
+Reached (at_state_name f s n) ws = Cut (IsFile f s) (Is (at n State ∷ [])) ws
 Reached (after_state_name d) ws = AfterState d ws
-Reached (at_line d) ws = IsDraft d ws
-Reached (at_target d n g) ws = Cut (IsDraft d) (IsCondition n g) ws
+Reached (at_transition d) ws = IsOpenState d ws
+Reached (at_target d n g) ws = Cut (IsOpenState d) (IsCondition n g) ws
 Reached (after_target o) ws = AfterTarget o ws
-Reached (at_assignment o) ws = IsOpening o ws
-Reached (after_assignment_name o x) ws = (n : ℕ) × Cut (IsOpening o) (Is (at n (Name x) ∷ [])) ws
-Reached (at_equals o d) ws = Cut (IsOpening o) (IsDestination d) ws
+Reached (at_assignment o) ws = IsOpenTransition o ws
+Reached (at_port o) ws = (n : ℕ) × (o.state.format ≡ Two) × Cut (IsOpenTransition o) (Is (at n Emit ∷ [])) ws
+Reached (after_assignment_name o x) ws = (n : ℕ) × Cut (IsOpenTransition o) (Is (at n (Name x) ∷ [])) ws
+Reached (at_equals o d) ws = Cut (IsOpenTransition o) (IsDestination d) ws
 Reached (at_unit k) ws = BeforeUnit k ws
 Reached (after_conjunction c k) ws = Cut (BeforeConjunction k) (IsConjunction c) ws
 Reached (after_guard g k) ws = Cut (BeforeGuard k) (IsGuard g) ws

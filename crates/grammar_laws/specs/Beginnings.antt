@@ -1,15 +1,19 @@
 -- Which words begin which rule of the grammar.
-use Rattle.std.specs.Prelude.{ℕ, ℤ, pos, List, [], ◌∷◌, ◌++◌, Option}
+use Rattle.std.specs.Prelude.{ℕ, ℤ, List, [], ◌∷◌, ◌++◌, Option}
 use Rattle.fs_model.specs.declared.parts.Rel.{Rel}
 use Rattle.fs_model.specs.declared.parts.Role.{Role}
 use Rattle.fs_model.specs.declared.parts.Sort.{Sort}
 use Rattle.fs_model.specs.Terms.{Term, Guard, Assignment}
 use Rattle.fs_model.specs.Source.{Declaration, SourceTransition, SourceState, Source}
+use Rattle.fs_grammar.specs.declared.format.Format.{Format}
+use Rattle.fs_grammar.specs.declared.format.Format.TheVariants.{Two}
 use Rattle.fs_grammar.specs.declared.token.TokenKind.{TokenKind}
-use Rattle.fs_grammar.specs.declared.token.TokenKind.TheVariants.{Fsmd, Declare, Array, Reset, State, When, Goto, Name, Number, Semicolon, Colon, Comma, Equals, OpenParen, CloseParen, OpenBracket, CloseBracket, OpenBrace, CloseBrace, Plus, Minus, Star, Slash, Percent, Bang, AndAnd, OrOr, Relation}
+use Rattle.fs_grammar.specs.declared.token.TokenKind.TheVariants.{Fsmd, Declare, Array, Reset, State, When, Goto, Emit, Port, Name, Number, Semicolon, Colon, Comma, Equals, OpenParen, CloseParen, OpenBracket, CloseBracket, OpenBrace, CloseBrace, Plus, Minus, Star, Slash, Percent, Bang, AndAnd, OrOr, Relation}
+use Rattle.fs_grammar.specs.Formats.{number_of}
 use Rattle.fs_grammar.specs.Grammar.{Destination}
-use Rattle.grammar_laws.specs.Spelling.{Word, at, IsFactor, IsProduct, IsSum, IsUnit, IsConjunction, IsGuard, IsDestination, IsAssignment, AreAssignments, AreEffects, IsCondition, IsLine, AreLines, IsState, AreStates, AreNames, IsKind, IsDeclaration, AreDeclarations, IsFile}
+use Rattle.grammar_laws.specs.Spelling.{Word, at, IsFactor, IsProduct, IsSum, IsUnit, IsConjunction, IsGuard, IsDestination, IsAssignment, AreAssignments, AreEffects, IsCondition, IsTransition, AreTransitions, IsState, AreStates, AreNames, IsKind, IsDeclaration, AreDeclarations, IsFile}
 
+-- the rules of the grammar; some are other ones in texts of format 2
 pub data Rule : Type 0 where
   factor : Rule
   product : Rule
@@ -18,18 +22,18 @@ pub data Rule : Type 0 where
   conjunction : Rule
   guard : Rule
   destination : Rule
-  assign : Rule
-  assigns : Rule
-  effects : Rule
+  assignment : Format → Rule
+  assignments : Format → Rule
+  effects : Format → Rule
   condition : Rule
-  line : Rule
-  lines : Rule
-  state : Rule
-  states : Rule
+  transition : Format → Rule
+  transitions : Format → Rule
+  state : Format → Rule
+  states : Format → Rule
   names : Rule
-  kind : Rule
-  declaration : Rule
-  declarations : Rule
+  kind : Format → Rule
+  declaration : Format → Rule
+  declarations : Format → Rule
   file : Rule
 
 -- a part of an alternative: a token, or what a rule spells
@@ -49,7 +53,7 @@ pub data IsAlternative : Rule → List Part → Type 0 where
   one_factor : IsAlternative product (rule factor ∷ [])
   times : IsAlternative product (rule product ∷ token Star ∷ rule factor ∷ [])
   divides : IsAlternative product (rule product ∷ token Slash ∷ rule factor ∷ [])
-  leaves : IsAlternative product (rule product ∷ token Percent ∷ rule factor ∷ [])
+  remainder_of : IsAlternative product (rule product ∷ token Percent ∷ rule factor ∷ [])
   -- sum = product { ( "+" | "-" ) product }
   one_product : IsAlternative sum (rule product ∷ [])
   plus : IsAlternative sum (rule sum ∷ token Plus ∷ rule product ∷ [])
@@ -67,40 +71,42 @@ pub data IsAlternative : Rule → List Part → Type 0 where
   -- destination = name [ "[" sum "]" ]
   scalar_name : (x : List ℕ) → IsAlternative destination (token (Name x) ∷ [])
   element_at : (x : List ℕ) → IsAlternative destination (token (Name x) ∷ token OpenBracket ∷ rule sum ∷ token CloseBracket ∷ [])
-  -- assign = destination "=" sum
-  assigned : IsAlternative assign (rule destination ∷ token Equals ∷ rule sum ∷ [])
-  -- assigns = assign { "," assign }
-  one_assign : IsAlternative assigns (rule assign ∷ [])
-  more_assigns : IsAlternative assigns (rule assigns ∷ token Comma ∷ rule assign ∷ [])
-  -- effects = [ ":" assigns ]
-  no_effects : IsAlternative effects []
-  some_effects : IsAlternative effects (token Colon ∷ rule assigns ∷ [])
+  -- assignment = destination "=" sum, in format 2 also "emit" name sum
+  assigned : (f : Format) → IsAlternative (assignment f) (rule destination ∷ token Equals ∷ rule sum ∷ [])
+  emitted : (x : List ℕ) → IsAlternative (assignment Two) (token Emit ∷ token (Name x) ∷ rule sum ∷ [])
+  -- assignments = assignment { "," assignment }
+  one_assignment : (f : Format) → IsAlternative (assignments f) (rule (assignment f) ∷ [])
+  more_assignments : (f : Format) → IsAlternative (assignments f) (rule (assignments f) ∷ token Comma ∷ rule (assignment f) ∷ [])
+  -- effects = [ ":" assignments ]
+  no_effects : (f : Format) → IsAlternative (effects f) []
+  some_effects : (f : Format) → IsAlternative (effects f) (token Colon ∷ rule (assignments f) ∷ [])
   -- condition = [ "when" guard ] "goto"
   always : IsAlternative condition (token Goto ∷ [])
   when : IsAlternative condition (token When ∷ rule guard ∷ token Goto ∷ [])
-  -- line = condition name effects ";"
-  one_line : (x : List ℕ) → IsAlternative line (rule condition ∷ token (Name x) ∷ rule effects ∷ token Semicolon ∷ [])
-  -- lines = { line }
-  no_lines : IsAlternative lines []
-  more_lines : IsAlternative lines (rule lines ∷ rule line ∷ [])
-  -- state = "state" name ":" lines
-  one_state : (x : List ℕ) → IsAlternative state (token State ∷ token (Name x) ∷ token Colon ∷ rule lines ∷ [])
+  -- transition = condition name effects ";"
+  one_transition : (f : Format) (x : List ℕ) → IsAlternative (transition f) (rule condition ∷ token (Name x) ∷ rule (effects f) ∷ token Semicolon ∷ [])
+  -- transitions = { transition }
+  no_transitions : (f : Format) → IsAlternative (transitions f) []
+  more_transitions : (f : Format) → IsAlternative (transitions f) (rule (transitions f) ∷ rule (transition f) ∷ [])
+  -- state = "state" name ":" transitions
+  one_state : (f : Format) (x : List ℕ) → IsAlternative (state f) (token State ∷ token (Name x) ∷ token Colon ∷ rule (transitions f) ∷ [])
   -- states = { state }
-  no_states : IsAlternative states []
-  more_states : IsAlternative states (rule states ∷ rule state ∷ [])
+  no_states : (f : Format) → IsAlternative (states f) []
+  more_states : (f : Format) → IsAlternative (states f) (rule (states f) ∷ rule (state f) ∷ [])
   -- names = name { "," name }
   one_name : (x : List ℕ) → IsAlternative names (token (Name x) ∷ [])
   more_names : (x : List ℕ) → IsAlternative names (rule names ∷ token Comma ∷ token (Name x) ∷ [])
-  -- kind = ( "input" | "output" | "local" ) [ "array" ]
-  scalars : (r : Role) → IsAlternative kind (token (Declare r) ∷ [])
-  arrays : (r : Role) → IsAlternative kind (token (Declare r) ∷ token Array ∷ [])
+  -- kind = ( "input" | "output" | "local" ) [ "array" ], in format 2 also "port"
+  scalars : (f : Format) (r : Role) → IsAlternative (kind f) (token (Declare r) ∷ [])
+  arrays : (f : Format) (r : Role) → IsAlternative (kind f) (token (Declare r) ∷ token Array ∷ [])
+  ports : IsAlternative (kind Two) (token Port ∷ [])
   -- declaration = kind names ";"
-  one_declaration : IsAlternative declaration (rule kind ∷ rule names ∷ token Semicolon ∷ [])
+  one_declaration : (f : Format) → IsAlternative (declaration f) (rule (kind f) ∷ rule names ∷ token Semicolon ∷ [])
   -- declarations = { declaration }
-  no_declarations : IsAlternative declarations []
-  more_declarations : IsAlternative declarations (rule declarations ∷ rule declaration ∷ [])
-  -- file = "fsmd" "1" ";" declarations "reset" name ";" states
-  one_file : (x : List ℕ) → IsAlternative file (token Fsmd ∷ token (Number (pos 1)) ∷ token Semicolon ∷ rule declarations ∷ token Reset ∷ token (Name x) ∷ token Semicolon ∷ rule states ∷ [])
+  no_declarations : (f : Format) → IsAlternative (declarations f) []
+  more_declarations : (f : Format) → IsAlternative (declarations f) (rule (declarations f) ∷ rule (declaration f) ∷ [])
+  -- file = "fsmd" format ";" declarations "reset" name ";" states, where the format is the number 1 or 2
+  one_file : (f : Format) (x : List ℕ) → IsAlternative file (token Fsmd ∷ token (Number (number_of f)) ∷ token Semicolon ∷ rule (declarations f) ∷ token Reset ∷ token (Name x) ∷ token Semicolon ∷ rule (states f) ∷ [])
 
 -- words that a rule spells whole
 abbrev pub Spelled : Rule → List Word → Type 0
@@ -111,19 +117,19 @@ Spelled unit ws = (u : Guard (List ℕ)) × IsUnit u ws
 Spelled conjunction ws = (c : Guard (List ℕ)) × IsConjunction c ws
 Spelled guard ws = (g : Guard (List ℕ)) × IsGuard g ws
 Spelled destination ws = (d : Destination) × IsDestination d ws
-Spelled assign ws = (x : Assignment (List ℕ)) × IsAssignment x ws
-Spelled assigns ws = (xs : List (Assignment (List ℕ))) × AreAssignments xs ws
-Spelled effects ws = (xs : List (Assignment (List ℕ))) × AreEffects xs ws
+Spelled (assignment f) ws = (x : Assignment (List ℕ)) × IsAssignment f x ws
+Spelled (assignments f) ws = (xs : List (Assignment (List ℕ))) × AreAssignments f xs ws
+Spelled (effects f) ws = (xs : List (Assignment (List ℕ))) × AreEffects f xs ws
 Spelled condition ws = (n : ℕ) × (g : Option (Guard (List ℕ))) × IsCondition n g ws
-Spelled line ws = (l : SourceTransition) × IsLine l ws
-Spelled lines ws = (ls : List SourceTransition) × AreLines ls ws
-Spelled state ws = (s : SourceState) × IsState s ws
-Spelled states ws = (ss : List SourceState) × AreStates ss ws
+Spelled (transition f) ws = (l : SourceTransition) × IsTransition f l ws
+Spelled (transitions f) ws = (ls : List SourceTransition) × AreTransitions f ls ws
+Spelled (state f) ws = (s : SourceState) × IsState f s ws
+Spelled (states f) ws = (ss : List SourceState) × AreStates f ss ws
 Spelled names ws = (xs : List (List ℕ)) × AreNames xs ws
-Spelled kind ws = (n : ℕ) × (r : Role) × (s : Sort) × IsKind n r s ws
-Spelled declaration ws = (d : Declaration) × IsDeclaration d ws
-Spelled declarations ws = (ds : List Declaration) × AreDeclarations ds ws
-Spelled file ws = (s : Source) × IsFile s ws
+Spelled (kind f) ws = (n : ℕ) × (r : Role) × (s : Sort) × IsKind f n r s ws
+Spelled (declaration f) ws = (d : Declaration) × IsDeclaration f d ws
+Spelled (declarations f) ws = (ds : List Declaration) × AreDeclarations f ds ws
+Spelled file ws = (f : Format) × (s : Source) × IsFile f s ws
 
 -- whole spellings of all these parts in order
 pub data AreSpelled : List Part → List Word → Type 0 where

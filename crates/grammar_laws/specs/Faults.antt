@@ -3,8 +3,9 @@ use Rattle.std.specs.Prelude.{◌≡◌, true, false, List, [], ◌∷◌, ◌++
 use Rattle.std.specs.List.{AllByRecursion}
 use Rattle.fs_model.specs.Source.{Source}
 use Rattle.fs_grammar.specs.declared.fault.TextKind.{TextKind}
-use Rattle.fs_grammar.specs.declared.fault.TextKind.TheVariants.{BadByte, BadWord, NumberTooBig, Unexpected, Operators, Ended}
+use Rattle.fs_grammar.specs.declared.fault.TextKind.TheVariants.{BadByte, BadWord, NumberTooBig, Unexpected, Operators, Nested, Ended}
 use Rattle.fs_grammar.specs.declared.fault.TextFault.{TextFault}
+use Rattle.fs_grammar.specs.declared.format.Format.{Format}
 use Rattle.fs_grammar.specs.declared.token.Flaw.TheVariants as flaws
 use Rattle.fs_grammar.specs.declared.token.TokenKind.{TokenKind}
 use Rattle.fs_grammar.specs.declared.token.TokenKind.TheVariants.{Bad, End}
@@ -21,14 +22,15 @@ word_of t = at t.place.line t.kind
 abbrev pub AreClear : List Token → Type 0
 AreClear ts = AllByRecursion (λ t. t.past_limit ≡ false) ts
 
--- The tokens up to the end spell the source, and none of them is over.
+-- The tokens up to the end spell the source in a format, and none of them is past the limit.
 pub record Spells (s : Source) (ts : List Token) : Type 0 where
   pub before : List Token
   pub token : Token
   pub behind : List Token
   pub parts : ts ≡ before ++ token ∷ behind
   pub ends : token.kind ≡ End
-  pub file : IsFile s (words before)
+  pub format : Format
+  pub file : IsFile format s (words before)
   pub clear : AreClear before
 
 -- neither faulty by itself nor the end
@@ -41,16 +43,17 @@ IsPlain _ = Unit {0}
 abbrev pub CanFollow : List Word → Token → Type 0
 CanFollow ws t = BeginsFile (ws ++ word_of t ∷ [])
 
--- what is wrong with a token behind these words
+-- what is wrong with a token behind these words; machine texts have no blocks
 abbrev pub IsWrong : TextKind → List Word → Token → Type 0
 IsWrong BadByte ws t = t.kind ≡ Bad flaws.Byte
 IsWrong BadWord ws t = t.kind ≡ Bad flaws.Word
 IsWrong NumberTooBig ws t = t.kind ≡ Bad flaws.Number
 IsWrong Unexpected ws t = IsPlain t.kind × (CanFollow ws t → ⊥)
 IsWrong Operators ws t = CanFollow ws t × (t.past_limit ≡ true)
-IsWrong Ended ws t = (t.kind ≡ End) × ((s : Source) → IsFile s ws → ⊥)
+IsWrong Nested ws t = ⊥
+IsWrong Ended ws t = (t.kind ≡ End) × ((f : Format) (s : Source) → IsFile f s ws → ⊥)
 
--- The tokens before begin a file and none of them is over, and the next one is wrong.
+-- The tokens before begin a file and none of them is past the limit, and the next one is wrong.
 pub record StopsAt (ts : List Token) (f : TextFault) : Type 0 where
   pub before : List Token
   pub token : Token

@@ -1,14 +1,18 @@
--- The grammar of machine texts: which words spell which parts. Chains group to the left.
-use Rattle.std.specs.Prelude.{ℕ, ℤ, pos, List, [], ◌∷◌, ◌++◌, Option, Some, None}
+-- The grammar of machine texts: which words spell which parts, in texts of a format. Chains group to the left.
+use Rattle.std.specs.Prelude.{ℕ, ℤ, List, [], ◌∷◌, ◌++◌, Option, Some, None}
 use Rattle.fs_model.specs.declared.parts.Rel.{Rel}
 use Rattle.fs_model.specs.declared.parts.Role.{Role}
+use Rattle.fs_model.specs.declared.parts.Role.TheVariants.{Output}
 use Rattle.fs_model.specs.declared.parts.Sort.{Sort}
 use Rattle.fs_model.specs.declared.parts.Sort.TheVariants as sorts
 use Rattle.fs_model.specs.Terms.{Term, Variable, Read, Sum, Difference, Product, Quotient, Remainder, Negative, Guard, Test, Not, And, Or, Assignment}
 use Rattle.fs_model.specs.Terms as terms
 use Rattle.fs_model.specs.Source.{Declaration, SourceTransition, SourceState, Source}
+use Rattle.fs_grammar.specs.declared.format.Format.{Format}
+use Rattle.fs_grammar.specs.declared.format.Format.TheVariants.{Two}
 use Rattle.fs_grammar.specs.declared.token.TokenKind.{TokenKind}
-use Rattle.fs_grammar.specs.declared.token.TokenKind.TheVariants.{Fsmd, Declare, Array, Reset, State, When, Goto, Name, Number, Semicolon, Colon, Comma, Equals, OpenParen, CloseParen, OpenBracket, CloseBracket, OpenBrace, CloseBrace, Plus, Minus, Star, Slash, Percent, Bang, AndAnd, OrOr, Relation}
+use Rattle.fs_grammar.specs.declared.token.TokenKind.TheVariants.{Fsmd, Declare, Array, Reset, State, When, Goto, Emit, Port, Name, Number, Semicolon, Colon, Comma, Equals, OpenParen, CloseParen, OpenBracket, CloseBracket, OpenBrace, CloseBrace, Plus, Minus, Star, Slash, Percent, Bang, AndAnd, OrOr, Relation}
+use Rattle.fs_grammar.specs.Formats.{number_of}
 use Rattle.fs_grammar.specs.Grammar.{Destination, scalar, element, assigned}
 
 -- a token without its column: the number of its line, and what it is
@@ -30,7 +34,7 @@ mutual
     factor : {f : Term (List ℕ)} {a : List Word} → IsFactor f a → IsProduct f a
     times : (n : ℕ) {p f : Term (List ℕ)} {a b : List Word} → IsProduct p a → IsFactor f b → IsProduct (Product p f) (a ++ (at n Star ∷ b))
     divides : (n : ℕ) {p f : Term (List ℕ)} {a b : List Word} → IsProduct p a → IsFactor f b → IsProduct (Quotient p f) (a ++ (at n Slash ∷ b))
-    leaves : (n : ℕ) {p f : Term (List ℕ)} {a b : List Word} → IsProduct p a → IsFactor f b → IsProduct (Remainder p f) (a ++ (at n Percent ∷ b))
+    remainder_of : (n : ℕ) {p f : Term (List ℕ)} {a b : List Word} → IsProduct p a → IsFactor f b → IsProduct (Remainder p f) (a ++ (at n Percent ∷ b))
 
   pub data IsSum : Term (List ℕ) → List Word → Type 0 where
     product : {p : Term (List ℕ)} {a : List Word} → IsProduct p a → IsSum p a
@@ -59,65 +63,67 @@ pub data IsDestination : Destination → List Word → Type 0 where
   scalar_name : (n : ℕ) (x : List ℕ) → IsDestination (scalar x) (at n (Name x) ∷ [])
   element_at : (n m k : ℕ) (x : List ℕ) {s : Term (List ℕ)} {a : List Word} → IsSum s a → IsDestination (element x s) (at n (Name x) ∷ at m OpenBracket ∷ (a ++ at k CloseBracket ∷ []))
 
--- assign = destination "=" sum
-pub data IsAssignment : Assignment (List ℕ) → List Word → Type 0 where
-  assign : (n : ℕ) {d : Destination} {e : Term (List ℕ)} {a b : List Word} → IsDestination d a → IsSum e b → IsAssignment (assigned d e) (a ++ (at n Equals ∷ b))
+-- assignment = destination "=" sum, in format 2 also "emit" name sum
+pub data IsAssignment : Format → Assignment (List ℕ) → List Word → Type 0 where
+  assign : (f : Format) (n : ℕ) {d : Destination} {e : Term (List ℕ)} {a b : List Word} → IsDestination d a → IsSum e b → IsAssignment f (assigned d e) (a ++ (at n Equals ∷ b))
+  emit : (n m : ℕ) (x : List ℕ) {e : Term (List ℕ)} {a : List Word} → IsSum e a → IsAssignment Two (terms.Emit x e) (at n Emit ∷ at m (Name x) ∷ a)
 
--- assigns = assign { "," assign }
-pub data AreAssignments : List (Assignment (List ℕ)) → List Word → Type 0 where
-  one_assignment : {x : Assignment (List ℕ)} {a : List Word} → IsAssignment x a → AreAssignments (x ∷ []) a
-  more_assignments : (n : ℕ) {xs : List (Assignment (List ℕ))} {x : Assignment (List ℕ)} {a b : List Word} → AreAssignments xs a → IsAssignment x b → AreAssignments (xs ++ x ∷ []) (a ++ (at n Comma ∷ b))
+-- assignments = assignment { "," assignment }
+pub data AreAssignments : Format → List (Assignment (List ℕ)) → List Word → Type 0 where
+  one_assignment : (f : Format) {x : Assignment (List ℕ)} {a : List Word} → IsAssignment f x a → AreAssignments f (x ∷ []) a
+  more_assignments : (f : Format) (n : ℕ) {xs : List (Assignment (List ℕ))} {x : Assignment (List ℕ)} {a b : List Word} → AreAssignments f xs a → IsAssignment f x b → AreAssignments f (xs ++ x ∷ []) (a ++ (at n Comma ∷ b))
 
--- effects = [ ":" assigns ]
-pub data AreEffects : List (Assignment (List ℕ)) → List Word → Type 0 where
-  no_effects : AreEffects [] []
-  effects : (n : ℕ) {xs : List (Assignment (List ℕ))} {a : List Word} → AreAssignments xs a → AreEffects xs (at n Colon ∷ a)
+-- effects = [ ":" assignments ]
+pub data AreEffects : Format → List (Assignment (List ℕ)) → List Word → Type 0 where
+  no_effects : (f : Format) → AreEffects f [] []
+  effects : (f : Format) (n : ℕ) {xs : List (Assignment (List ℕ))} {a : List Word} → AreAssignments f xs a → AreEffects f xs (at n Colon ∷ a)
 
 -- condition = [ "when" guard ] "goto", with the line of its first word
 pub data IsCondition : ℕ → Option (Guard (List ℕ)) → List Word → Type 0 where
   always : (n : ℕ) → IsCondition n None (at n Goto ∷ [])
   when : (n m : ℕ) {g : Guard (List ℕ)} {a : List Word} → IsGuard g a → IsCondition n (Some g) (at n When ∷ (a ++ at m Goto ∷ []))
 
--- line = condition name effects ";"
-pub data IsLine : SourceTransition → List Word → Type 0 where
-  line : (n m k : ℕ) (g : Option (Guard (List ℕ))) (x : List ℕ) (xs : List (Assignment (List ℕ))) {a b : List Word} → IsCondition n g a → AreEffects xs b
-      → IsLine (record { line = n; content = record { guard = g; target = x; assignments = xs } }) (a ++ (at m (Name x) ∷ (b ++ at k Semicolon ∷ [])))
+-- transition = condition name effects ";"
+pub data IsTransition : Format → SourceTransition → List Word → Type 0 where
+  transition : (f : Format) (n m k : ℕ) (g : Option (Guard (List ℕ))) (x : List ℕ) (xs : List (Assignment (List ℕ))) {a b : List Word} → IsCondition n g a → AreEffects f xs b
+      → IsTransition f (record { line = n; content = record { guard = g; target = x; assignments = xs } }) (a ++ (at m (Name x) ∷ (b ++ at k Semicolon ∷ [])))
 
--- lines = { line }
-pub data AreLines : List SourceTransition → List Word → Type 0 where
-  no_lines : AreLines [] []
-  more_lines : {ls : List SourceTransition} {l : SourceTransition} {a b : List Word} → AreLines ls a → IsLine l b → AreLines (ls ++ l ∷ []) (a ++ b)
+-- transitions = { transition }
+pub data AreTransitions : Format → List SourceTransition → List Word → Type 0 where
+  no_transitions : (f : Format) → AreTransitions f [] []
+  more_transitions : (f : Format) {ls : List SourceTransition} {l : SourceTransition} {a b : List Word} → AreTransitions f ls a → IsTransition f l b → AreTransitions f (ls ++ l ∷ []) (a ++ b)
 
--- state = "state" name ":" lines
-pub data IsState : SourceState → List Word → Type 0 where
-  state : (n m k : ℕ) (x : List ℕ) (ls : List SourceTransition) {a : List Word} → AreLines ls a → IsState (record { line = n; name = x; lines = ls }) (at n State ∷ at m (Name x) ∷ at k Colon ∷ a)
+-- state = "state" name ":" transitions
+pub data IsState : Format → SourceState → List Word → Type 0 where
+  state : (f : Format) (n m k : ℕ) (x : List ℕ) (ls : List SourceTransition) {a : List Word} → AreTransitions f ls a → IsState f (record { line = n; name = x; lines = ls }) (at n State ∷ at m (Name x) ∷ at k Colon ∷ a)
 
 -- states = { state }
-pub data AreStates : List SourceState → List Word → Type 0 where
-  no_states : AreStates [] []
-  more_states : {ss : List SourceState} {s : SourceState} {a b : List Word} → AreStates ss a → IsState s b → AreStates (ss ++ s ∷ []) (a ++ b)
+pub data AreStates : Format → List SourceState → List Word → Type 0 where
+  no_states : (f : Format) → AreStates f [] []
+  more_states : (f : Format) {ss : List SourceState} {s : SourceState} {a b : List Word} → AreStates f ss a → IsState f s b → AreStates f (ss ++ s ∷ []) (a ++ b)
 
 -- names = name { "," name }
 pub data AreNames : List (List ℕ) → List Word → Type 0 where
   one_name : (n : ℕ) (x : List ℕ) → AreNames (x ∷ []) (at n (Name x) ∷ [])
   more_names : (n m : ℕ) (x : List ℕ) {xs : List (List ℕ)} {a : List Word} → AreNames xs a → AreNames (xs ++ x ∷ []) (a ++ (at n Comma ∷ at m (Name x) ∷ []))
 
--- kind = ( "input" | "output" | "local" ) [ "array" ], with the line of its first word
-pub data IsKind : ℕ → Role → Sort → List Word → Type 0 where
-  scalars : (n : ℕ) (r : Role) → IsKind n r sorts.Scalar (at n (Declare r) ∷ [])
-  arrays : (n m : ℕ) (r : Role) → IsKind n r sorts.Array (at n (Declare r) ∷ at m Array ∷ [])
+-- kind = ( "input" | "output" | "local" ) [ "array" ], in format 2 also "port", with the line of its first word
+pub data IsKind : Format → ℕ → Role → Sort → List Word → Type 0 where
+  scalars : (f : Format) (n : ℕ) (r : Role) → IsKind f n r sorts.Scalar (at n (Declare r) ∷ [])
+  arrays : (f : Format) (n m : ℕ) (r : Role) → IsKind f n r sorts.Array (at n (Declare r) ∷ at m Array ∷ [])
+  ports : (n : ℕ) → IsKind Two n Output sorts.Port (at n Port ∷ [])
 
 -- declaration = kind names ";"
-pub data IsDeclaration : Declaration → List Word → Type 0 where
-  declaration : (n m : ℕ) (r : Role) (s : Sort) (xs : List (List ℕ)) {a b : List Word} → IsKind n r s a → AreNames xs b
-      → IsDeclaration (record { line = n; role = r; sort = s; names = xs }) (a ++ (b ++ at m Semicolon ∷ []))
+pub data IsDeclaration : Format → Declaration → List Word → Type 0 where
+  declaration : (f : Format) (n m : ℕ) (r : Role) (s : Sort) (xs : List (List ℕ)) {a b : List Word} → IsKind f n r s a → AreNames xs b
+      → IsDeclaration f (record { line = n; role = r; sort = s; names = xs }) (a ++ (b ++ at m Semicolon ∷ []))
 
 -- declarations = { declaration }
-pub data AreDeclarations : List Declaration → List Word → Type 0 where
-  no_declarations : AreDeclarations [] []
-  more_declarations : {ds : List Declaration} {d : Declaration} {a b : List Word} → AreDeclarations ds a → IsDeclaration d b → AreDeclarations (ds ++ d ∷ []) (a ++ b)
+pub data AreDeclarations : Format → List Declaration → List Word → Type 0 where
+  no_declarations : (f : Format) → AreDeclarations f [] []
+  more_declarations : (f : Format) {ds : List Declaration} {d : Declaration} {a b : List Word} → AreDeclarations f ds a → IsDeclaration f d b → AreDeclarations f (ds ++ d ∷ []) (a ++ b)
 
--- file = "fsmd" "1" ";" declarations "reset" name ";" states
-pub data IsFile : Source → List Word → Type 0 where
-  file : (i j k n m l : ℕ) (ds : List Declaration) (x : List ℕ) (ss : List SourceState) {a b : List Word} → AreDeclarations ds a → AreStates ss b
-      → IsFile (record { declarations = ds; reset_line = n; reset = x; states = ss }) (at i Fsmd ∷ at j (Number (pos 1)) ∷ at k Semicolon ∷ (a ++ (at n Reset ∷ at m (Name x) ∷ at l Semicolon ∷ b)))
+-- file = "fsmd" format ";" declarations "reset" name ";" states, where the format is the number 1 or 2
+pub data IsFile : Format → Source → List Word → Type 0 where
+  file : (f : Format) (i j k n m l : ℕ) (ds : List Declaration) (x : List ℕ) (ss : List SourceState) {a b : List Word} → AreDeclarations f ds a → AreStates f ss b
+      → IsFile f (record { declarations = ds; reset_line = n; reset = x; states = ss }) (at i Fsmd ∷ at j (Number (number_of f)) ∷ at k Semicolon ∷ (a ++ (at n Reset ∷ at m (Name x) ∷ at l Semicolon ∷ b)))

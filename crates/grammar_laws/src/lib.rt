@@ -6,21 +6,27 @@
 //! it does nothing.
 #![tactic(auto)]
 
-ghost use Rattle.std.specs.Prelude.{◌≡◌, ℕ, List, [], ◌∷◌, ◌++◌, Some, None, Ok, Err};
+ghost use Rattle.std.specs.Prelude.{◌≡◌, ℕ, IsTrue, List, [], ◌∷◌, ◌++◌, Some, None, Ok, Err};
 ghost use Rattle.fs_model.specs.declared.parts.Rel.{Rel};
 ghost use Rattle.fs_model.specs.Terms.{Term, Variable, Difference, Guard, Test, Not, And};
 ghost use Rattle.fs_model.specs.Source.{Source};
 ghost use Rattle.fs_grammar.specs.declared.fault.TextFault.{TextFault};
+ghost use Rattle.fs_grammar.specs.declared.format.Format.{Format};
+ghost use Rattle.fs_grammar.specs.declared.format.Format.TheVariants.{One};
 ghost use Rattle.fs_grammar.specs.declared.token.TokenKind.{TokenKind};
-ghost use Rattle.fs_grammar.specs.declared.token.TokenKind.TheVariants.{Name, Minus, Bang, AndAnd, Relation};
+ghost use Rattle.fs_grammar.specs.declared.token.TokenKind.TheVariants.{Fsmd, Name, Number, Semicolon, Minus, Bang, AndAnd, Relation};
 ghost use Rattle.fs_grammar.specs.declared.token.Token.{Token};
+ghost use Rattle.fs_grammar.specs.Formats.{number_of, is_of_format_two};
+ghost use Rattle.fs_grammar.specs.Operators.{is_operator};
 ghost use Rattle.fs_grammar.specs.Grammar.{ParseState, at_start, step, reading};
 ghost use Rattle.grammar_laws.specs.Spelling.{Word, at, IsSum, IsGuard, IsFile};
-ghost use Rattle.grammar_laws.specs.Walks.{walk};
+ghost use Rattle.grammar_laws.specs.Walks.{walk, words};
 ghost use Rattle.grammar_laws.specs.Beginnings.{Rule, Part, IsAlternative, Spelled, AreSpelled, Begins, BeginsFile};
-ghost use Rattle.grammar_laws.specs.Faults.{Spells, StopsAt, IsEnded};
+ghost use Rattle.grammar_laws.specs.Expressions.{IsInExpression, IsSince, EndInExpression};
+ghost use Rattle.grammar_laws.specs.Faults.{Spells, CanFollow, StopsAt, IsEnded};
 
-/// A source that is read is spelled: the tokens up to the end spell it, and none of them is over.
+/// A source that is read is spelled: the tokens up to the end spell it, and none of them is past the
+/// limit.
 pub fn what_is_read_is_spelled()
     ensures { (s : Source) (ts : List Token) → reading ts at_start ≡ Ok s → Spells s ts }
 {}
@@ -46,10 +52,11 @@ pub fn a_token_can_follow_where_there_is_a_step()
     ensures fails { (ws : List Word) (s : ParseState) (n : ℕ) (t : TokenKind) → walk ws at_start ≡ Some s → step s n t ≡ None → BeginsFile (ws ++ at n t ∷ []) → ⊥ }
 {}
 
-/// A text spells one source at most, and words spell one sum and one guard at most.
+/// A text spells one source at most, in one format, and words spell one sum and one guard at most.
 pub fn a_text_spells_one_source()
     ensures tokens { (s r : Source) (ts : List Token) → Spells s ts → Spells r ts → s ≡ r }
-    ensures words { (s r : Source) (ws : List Word) → IsFile s ws → IsFile r ws → s ≡ r }
+    ensures words { (f g : Format) (s r : Source) (ws : List Word) → IsFile f s ws → IsFile g r ws → s ≡ r }
+    ensures formats { (f g : Format) (s r : Source) (ws : List Word) → IsFile f s ws → IsFile g r ws → f ≡ g }
     ensures sums { (s r : Term (List ℕ)) (ws : List Word) → IsSum s ws → IsSum r ws → s ≡ r }
     ensures guards { (g h : Guard (List ℕ)) (ws : List Word) → IsGuard g ws → IsGuard h ws → g ≡ h }
 {}
@@ -72,4 +79,19 @@ pub fn a_rule_is_spelled_by_its_alternatives()
 pub fn what_begins_a_rule_can_go_on()
     ensures more { (r : Rule) (ws : List Word) → Begins r ws → (m : List Word) × Spelled r (ws ++ m) }
     ensures front { (r : Rule) (a b : List Word) → Spelled r (a ++ b) → Begins r a }
+{}
+
+/// An operator or an opening bracket stands in one guard or one assignment: where it can follow
+/// words, these end in a part of one. That part is what stands behind the last word after which a
+/// guard or an assignment begins.
+pub fn an_operator_stands_in_one_expression()
+    ensures found { (ws : List Word) (n : ℕ) (t : TokenKind) → IsTrue (is_operator t) → BeginsFile (ws ++ at n t ∷ []) → (part : List Word) × IsInExpression ws part }
+    ensures one { (ws p q : List Word) → IsInExpression ws p → IsInExpression ws q → p ≡ q }
+    ensures tokens { (ts : List Token) (t : Token) → IsTrue (is_operator t.kind) → CanFollow (words ts) t → (part : List Token) × EndInExpression ts part }
+    ensures since { (ws part : List Word) → IsInExpression ws part → IsSince ws part }
+{}
+
+/// Ports and emits need format 2: neither of their words can follow in a file of format 1.
+pub fn ports_need_format_two()
+    ensures { (i j k n : ℕ) (t : TokenKind) (ws : List Word) → IsTrue (is_of_format_two t) → BeginsFile (at i Fsmd ∷ at j (Number (number_of One)) ∷ at k Semicolon ∷ (ws ++ at n t ∷ [])) → ⊥ }
 {}

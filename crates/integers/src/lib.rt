@@ -1,6 +1,8 @@
 //! Division of integers that truncates toward zero and is total.
 #![tactic(auto)]
 
+pub mod laws;
+
 ghost use Rattle.std.specs.Prelude.{◌≡◌, SomeIff, FitsSigned};
 ghost use Rattle.std.specs.Int.{w128};
 ghost use Rattle.integers.specs.Division.{quotient as quotient_of, remainder as remainder_of};

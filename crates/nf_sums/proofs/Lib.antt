@@ -10,3 +10,12 @@ pub mod Within
 pub mod Forms
 pub mod Negations
 pub mod Unique
+pub mod Sorting
+pub mod Collecting
+pub mod RawProducts
+pub mod Exact
+pub mod Values
+pub mod Constants
+pub mod Tidying
+pub mod Settling
+pub mod Given

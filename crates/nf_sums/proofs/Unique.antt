@@ -11,8 +11,8 @@ use Rattle.nf_terms.specs.Order.{cmp_atom, cmp_monomial, same_atom}
 use Rattle.nf_terms.specs.TermKeys.{atom_ties, atom_same, monomial_ties, monomial_same}
 use Rattle.nf_terms.specs.Comparison.{atoms_total, monomials_total}
 use Rattle.nf_terms.specs.Normal.{IsNormal, ordered, ordered_atom, ordered_monomial, atom_rises, monomial_rises}
-use Rattle.nf_terms.specs.RawSums.{occurrences, as_often, same_bag, total, SameSum}
-use Rattle.nf_sums.proofs.Sorted.{and_left, and_right}
+use Rattle.nf_terms.specs.RawSums.{occurrences, as_often, same_bag, total, SameTotals}
+use Rattle.nf_terms.proofs.Tests.{and_left, and_right}
 
 -- ---- monomials with the same atoms
 
@@ -159,13 +159,13 @@ first_total m c p o =
     let g : total m (Plus m c p) ≡ c +ℤ total m p = ap (λ b. cond b c (pos 0) +ℤ total m p) (bag_self m) in
     omega (arith, ints)
 
-unique : (p q : Polynomial) → ordered p ≡ true → ordered q ≡ true → SameSum p q → p ≡ q
+unique : (p q : Polynomial) → ordered p ≡ true → ordered q ≡ true → SameTotals p q → p ≡ q
 unique Zero Zero o r s = refl
 unique Zero (Plus n d q) o r s = absurd (zero_not n d q r (sym (first_total n d q r) ∙ sym (s.totals n)))
 unique (Plus m c p) Zero o r s = absurd (zero_not m c p o (sym (first_total m c p o) ∙ s.totals m))
 unique (Plus m c p) (Plus n d q) o r s = by_order (λ t. unique p q (tail_ordered m c p o) (tail_ordered n d q r) t) (cmp_monomial m n) refl
   where
-    by_order : (SameSum p q → p ≡ q) → (t : Ordering) → cmp_monomial m n ≡ t → Plus m c p ≡ Plus n d q
+    by_order : (SameTotals p q → p ≡ q) → (t : Ordering) → cmp_monomial m n ≡ t → Plus m c p ≡ Plus n d q
     by_order again Less e = absurd (zero_not m c p o (sym (first_total m c p o) ∙ s.totals m ∙ beyond m (Plus n d q) (first_ordered m c p o) (ap is_lt e) r))
     by_order again Greater e =
         let f : cmp_monomial n m ≡ Less = monomials_total.antisymm n m ∙ ap ordering_reverse e in
@@ -173,14 +173,14 @@ unique (Plus m c p) (Plus n d q) o r s = by_order (λ t. unique p q (tail_ordere
     by_order again Equal e =
         let f : m ≡ n = monomial_ties m n e in
         let g : c ≡ d = sym (first_total m c p o) ∙ s.totals m ∙ ap (λ k. total k (Plus n d q)) f ∙ first_total n d q r in
-        let t : SameSum p q = record { totals = λ bag. cancel bag (s.totals bag ∙ ap (λ k. total bag (Plus k d q)) (sym f) ∙ ap (λ z. total bag (Plus m z q)) (sym g)) } in
+        let t : SameTotals p q = record { totals = λ bag. cancel bag (s.totals bag ∙ ap (λ k. total bag (Plus k d q)) (sym f) ∙ ap (λ z. total bag (Plus m z q)) (sym g)) } in
         let h : p ≡ q = again t in
         cc
       where
         cancel : (bag : Monomial) → total bag (Plus m c p) ≡ total bag (Plus m c q) → total bag p ≡ total bag q
         cancel bag h = omega (arith, ints)
 
-pub normal_forms_equal : (p q : Polynomial) → IsNormal p → IsNormal q → SameSum p q → p ≡ q
+pub normal_forms_equal : (p q : Polynomial) → IsNormal p → IsNormal q → SameTotals p q → p ≡ q
 normal_forms_equal p q m n s = unique p q m.ordered n.ordered s
 
 pub ruleset unique_forms = (normal_forms_equal)

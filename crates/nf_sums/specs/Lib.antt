@@ -1,2 +1,5 @@
+pub mod Forms
+pub mod Operations
 pub mod OrderedSums
 pub mod Events
+pub mod Sameness

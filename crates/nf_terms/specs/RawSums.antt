@@ -52,11 +52,11 @@ abbrev pub total : Monomial → Polynomial → ℤ
 total bag Zero = pos 0
 total bag (Plus m c p) = cond (same_bag bag m) c (pos 0) +ℤ total bag p
 
--- every bag of atoms has the same total coefficient in both
-pub record SameSum (p q : Polynomial) : Type 0 where
+-- every bag of atoms has the same total coefficient in both, where equal atoms count as one
+pub record SameTotals (p q : Polynomial) : Type 0 where
   pub totals : (bag : Monomial) → total bag p ≡ total bag q
 
--- a normal polynomial that is the same as a raw sum
+-- a normal polynomial with the totals of a raw sum
 pub record IsNormalFormOf (p raw : Polynomial) : Type 0 where
   pub normal : IsNormal p
-  pub same : SameSum p raw
+  pub same : SameTotals p raw

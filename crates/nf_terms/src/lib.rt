@@ -3,7 +3,12 @@
 
 pub mod arr;
 pub mod clones;
+pub mod coefficients;
 pub mod constants;
+pub mod copies;
+pub mod form;
+pub mod laws;
+pub mod limits;
 pub mod measures;
 pub mod mentions;
 pub mod narrow;
@@ -11,7 +16,7 @@ pub mod normal;
 pub mod order;
 pub mod ordered;
 pub mod poly;
+pub mod seq;
 pub mod stop;
-#[cfg(test)]
-mod tests;
+pub mod symbols;
 pub mod tree;

@@ -19,7 +19,7 @@ pub fn place_of(vars: &[VarInfo], name: &Name) -> Option<usize>
     ensures within { IfSome result (λ place. place < length vars.now) }
 {
     for (place, variable) in vars.iter().enumerate() {
-        if variable.name.is(name) {
+        if variable.name == *name {
             return Some(place);
         }
     }

@@ -1,6 +1,8 @@
 pub mod Operators
 pub mod Fit
-pub mod Lexed
 pub mod Counted
 pub mod Read
-pub mod Parts
+pub mod Ended
+pub mod Limit
+pub mod Alike
+pub mod Texts

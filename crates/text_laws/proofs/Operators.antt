@@ -1,16 +1,21 @@
--- Each operator that a guard or an assignment needs was written, so the operator_count of what has been read are no more than were counted.
+-- Each operator that a guard or an assignment needs was written, so the operators of what has been read are no more than were counted.
 use Rattle.std.proofs.Common.{ℕ, ◌+◌, ◌≤◌, List, arith}
-use Rattle.std.specs.Prelude.{ℤ, zero, suc, pos, Bool, true, false, ◌||◌, IfSome}
+use Rattle.std.specs.Prelude.{[], Bool, true, false, ◌||◌, Option, Some, None, IfSome}
 use Rattle.fs_model.specs.declared.parts.Rel.{Rel}
+use Rattle.fs_model.specs.declared.parts.Role.TheVariants.{Output}
+use Rattle.fs_model.specs.declared.parts.Sort.TheVariants as sorts
+use Rattle.fs_grammar.specs.declared.format.Format.{Format}
+use Rattle.fs_grammar.specs.declared.format.Format.TheVariants.{One, Two}
+use Rattle.fs_grammar.specs.Formats.{format_of}
 use Rattle.fs_model.specs.Terms.{Term, Variable, Read, Sum, Difference, Product, Quotient, Remainder, Negative, Guard, Test, Not, And, Or}
 use Rattle.fs_model.specs.Terms as terms
 use Rattle.fs_model.specs.WellFormed.{is_sum, is_product, is_and, is_or, bracket, operators_of_term, operators_of_guard}
 use Rattle.fs_grammar.specs.declared.token.TokenKind.{TokenKind}
-use Rattle.fs_grammar.specs.declared.token.TokenKind.TheVariants.{Fsmd, Declare, Array, Reset, State, When, Goto, Name, Number, Semicolon, Colon, Comma, Equals, OpenParen, CloseParen, OpenBracket, CloseBracket, OpenBrace, CloseBrace, Plus, Minus, Star, Slash, Percent, Bang, AndAnd, OrOr, Relation}
-use Rattle.fs_grammar.specs.Grammar.{ParseState, OpenState, Destination, scalar, element, UnitContext, ConjunctionContext, GuardContext, FactorContext, ProductContext, SumContext, negates, first_of_all, and_after, first_of_any, or_after, braces, line, first_factor, times, divides, leaves, negative, first_product, plus, minus, parens, index, left, right, place, value, at_start, at_one, at_semicolon, at_declaration, at_sort, at_declared, after_declared, at_reset, after_reset, at_state, at_state_name, after_state_name, at_line, at_target, after_target, at_assignment, after_assignment_name, at_equals, at_unit, after_conjunction, after_guard, at_factor, after_name, after_product, after_sum, factor_done, product_done, unit_done, conjunction_done, literal_done, step_factor, step_unit, step_guard, step_guarded, step_conjunction, step_joined, step_sum, step_summed, step_product, step_multiplied, step_name, step_line, step_one, step}
+use Rattle.fs_grammar.specs.declared.token.TokenKind.TheVariants.{Fsmd, Declare, Array, Reset, State, When, Goto, Emit, Port, Name, Number, Semicolon, Colon, Comma, Equals, OpenParen, CloseParen, OpenBracket, CloseBracket, OpenBrace, CloseBrace, Plus, Minus, Star, Slash, Percent, Bang, AndAnd, OrOr, Relation}
+use Rattle.fs_grammar.specs.Grammar.{ParseState, OpenState, Destination, scalar, element, port, UnitContext, ConjunctionContext, GuardContext, FactorContext, ProductContext, SumContext, negates, first_of_all, and_after, first_of_any, or_after, braces, transition_guard, first_factor, times, divides, remainder_of, negative, first_product, plus, minus, parens, index, left, right, write_index, value, at_start, at_format, at_semicolon, at_declaration, at_sort, at_declared, after_declared, at_reset, after_reset, at_state, at_state_name, after_state_name, at_transition, at_target, after_target, at_assignment, at_port, after_assignment_name, at_equals, at_unit, after_conjunction, after_guard, at_factor, after_name, after_product, after_sum, factor_done, product_done, unit_done, conjunction_done, literal_done, step_factor, step_unit, step_guard, step_guarded, step_conjunction, step_joined, step_sum, step_summed, step_product, step_multiplied, step_name, step_transition, step_format, in_format_two, step}
 use Rattle.fs_lex.specs.Scan.{counted}
 
--- ---- the operator_count of a value that has been read, with a bracket where one is needed
+-- ---- the operators of a value that has been read, with a bracket where one is needed
 
 abbrev pub operators_of_unit : Guard (List ℕ) → ℕ
 operators_of_unit u = bracket (is_and u || is_or u) + operators_of_guard u
@@ -27,8 +32,9 @@ operators_of_product p = bracket (is_sum p) + operators_of_term p
 abbrev pub operators_of_destination : Destination → ℕ
 operators_of_destination (scalar x) = 0
 operators_of_destination (element x i) = 1 + operators_of_term i
+operators_of_destination (port x) = 0
 
--- ---- the operator_count of what a part is read for
+-- ---- the operators of what a part is read for
 
 abbrev mutual
   pub operators_for_unit : UnitContext → ℕ
@@ -42,14 +48,14 @@ abbrev mutual
 
   pub operators_for_guard : GuardContext → ℕ
   operators_for_guard (braces k) = 1 + operators_for_unit k
-  operators_for_guard (line d n) = 0
+  operators_for_guard (transition_guard d n) = 0
 
 abbrev mutual
   pub operators_for_factor : FactorContext → ℕ
   operators_for_factor (first_factor k) = operators_for_product k
   operators_for_factor (times p k) = 1 + (operators_of_product p + operators_for_product k)
   operators_for_factor (divides p k) = 1 + (operators_of_product p + operators_for_product k)
-  operators_for_factor (leaves p k) = 1 + (operators_of_product p + operators_for_product k)
+  operators_for_factor (remainder_of p k) = 1 + (operators_of_product p + operators_for_product k)
   operators_for_factor (negative k) = 1 + operators_for_factor k
 
   pub operators_for_product : ProductContext → ℕ
@@ -62,10 +68,10 @@ abbrev mutual
   operators_for_sum (index x k) = 1 + operators_for_factor k
   operators_for_sum (left k) = operators_for_unit k
   operators_for_sum (right r l k) = 1 + (operators_of_term l + operators_for_unit k)
-  operators_for_sum (place o x) = 1
+  operators_for_sum (write_index o x) = 1
   operators_for_sum (value o d) = operators_of_destination d
 
--- the operator_count of the guard or assignment that is being read, as far as it has been read
+-- the operators of the guard or assignment that is being read, as far as it has been read
 abbrev pub operators_owed : ParseState → ℕ
 operators_owed (at_equals o d) = operators_of_destination d
 operators_owed (at_unit k) = operators_for_unit k
@@ -77,7 +83,7 @@ operators_owed (after_product p k) = operators_of_product p + operators_for_prod
 operators_owed (after_sum s k) = operators_of_term s + operators_for_sum k
 operators_owed _ = 0
 
--- ---- a part that ends gives its operator_count on
+-- ---- a part that ends gives its operators on
 
 at_most_one : (b : Bool) → bracket b ≤ 1
 at_most_one true = omega arith
@@ -95,7 +101,7 @@ pub factor_ends : (k : FactorContext) (f : Term (List ℕ)) → operators_owed (
 factor_ends (first_factor k) f = omega (arith, bracket_less-left (is_sum f) (is_product f))
 factor_ends (times p k) f = omega arith
 factor_ends (divides p k) f = omega arith
-factor_ends (leaves p k) f = omega arith
+factor_ends (remainder_of p k) f = omega arith
 factor_ends (negative k) f = omega (arith, factor_ends k (Negative f))
 
 pub product_ends : (k : ProductContext) (p : Term (List ℕ)) → operators_owed (product_done p k) ≤ operators_of_product p + operators_for_product k
@@ -112,7 +118,7 @@ pub conjunction_ends : (k : ConjunctionContext) (c : Guard (List ℕ)) → opera
 conjunction_ends (first_of_any k) c = omega arith
 conjunction_ends (or_after g k) c = omega arith
 
--- ---- a token that can follow adds no more operator_count than it counts
+-- ---- a token that can follow adds no more operators than it counts
 
 factor_costs : (t : TokenKind) (k : FactorContext) (c : ℕ) → operators_for_factor k ≤ c → IfSome (step_factor t k) (λ s. operators_owed s ≤ counted t c)
 factor_costs (Number n) k c h = omega (arith, factor_ends k (terms.Number n))
@@ -132,7 +138,7 @@ braced g = omega (arith, at_most_one (is_and g || is_or g))
 guard_costs : (t : TokenKind) (g : Guard (List ℕ)) (k : GuardContext) (c : ℕ) → operators_of_guard g + operators_for_guard k ≤ c → IfSome (step_guard t g k) (λ s. operators_owed s ≤ counted t c)
 guard_costs OrOr g k c h = omega arith
 guard_costs CloseBrace g (braces k) c h = omega (arith, unit_ends k g, braced g)
-guard_costs Goto g (line d n) c h = omega arith
+guard_costs Goto g (transition_guard d n) c h = omega arith
 guard_costs _ g k c h = tt
 
 guarded_costs : (t : TokenKind) (s : ParseState) (c : ℕ) → operators_owed s ≤ c → IfSome (step_guarded t s) (λ s. operators_owed s ≤ counted t c)
@@ -159,7 +165,7 @@ sum_costs Plus e k c h = omega arith
 sum_costs Minus e k c h = omega arith
 sum_costs CloseParen e (parens k) c h = omega (arith, factor_ends k e, bracketed e)
 sum_costs CloseBracket e (index x k) c h = omega (arith, factor_ends k (Read x e))
-sum_costs CloseBracket e (place o x) c h = omega arith
+sum_costs CloseBracket e (write_index o x) c h = omega arith
 sum_costs (Relation r) e (left k) c h = omega arith
 sum_costs Comma e (value o d) c h = omega arith
 sum_costs Semicolon e (value o d) c h = omega arith
@@ -184,52 +190,60 @@ name_costs : (t : TokenKind) (x : List ℕ) (k : FactorContext) (c : ℕ) → op
 name_costs OpenBracket x k c h = omega arith
 name_costs t x k c h = multiplied_costs t (factor_done (Variable x) k) c (omega (arith, factor_ends k (Variable x)))
 
-line_costs : (t : TokenKind) (n : ℕ) (d : OpenState) (c : ℕ) → IfSome (step_line n t d) (λ s. operators_owed s ≤ counted t c)
+line_costs : (t : TokenKind) (n : ℕ) (d : OpenState) (c : ℕ) → IfSome (step_transition n t d) (λ s. operators_owed s ≤ counted t c)
 line_costs When n d c = omega arith
 line_costs Goto n d c = omega arith
 line_costs State n d c = omega arith
 line_costs _ n d c = tt
 
-one_costs : (i : ℤ) (c : ℕ) → IfSome (step_one i) (λ s. operators_owed s ≤ c)
-one_costs (pos (suc zero)) c = omega arith
-one_costs _ c = tt
+format_costs : (o : Option Format) (c : ℕ) → IfSome (step_format o) (λ s. operators_owed s ≤ c)
+format_costs None c = tt
+format_costs (Some f) c = omega arith
+
+two_costs : (f : Format) (s : ParseState) (c : ℕ) → operators_owed s ≤ c → IfSome (in_format_two f s) (λ s. operators_owed s ≤ c)
+two_costs One s c h = tt
+two_costs Two s c h = h
 
 pub step_costs : (s : ParseState) (n : ℕ) (t : TokenKind) (c : ℕ) → operators_owed s ≤ c → IfSome (step s n t) (λ s. operators_owed s ≤ counted t c)
 step_costs at_start n Fsmd c h = omega arith
 step_costs at_start n _ c h = tt
-step_costs at_one n (Number i) c h = one_costs i c
-step_costs at_one n _ c h = tt
-step_costs at_semicolon n Semicolon c h = omega arith
-step_costs at_semicolon n _ c h = tt
-step_costs (at_declaration ds) n (Declare r) c h = omega arith
-step_costs (at_declaration ds) n Reset c h = omega arith
-step_costs (at_declaration ds) n _ c h = tt
-step_costs (at_sort ds m r) n Array c h = omega arith
-step_costs (at_sort ds m r) n (Name x) c h = omega arith
-step_costs (at_sort ds m r) n _ c h = tt
-step_costs (at_declared ds d) n (Name x) c h = omega arith
-step_costs (at_declared ds d) n _ c h = tt
-step_costs (after_declared ds d) n Comma c h = omega arith
-step_costs (after_declared ds d) n Semicolon c h = omega arith
-step_costs (after_declared ds d) n _ c h = tt
-step_costs (at_reset ds m) n (Name x) c h = omega arith
-step_costs (at_reset ds m) n _ c h = tt
-step_costs (after_reset s) n Semicolon c h = omega arith
-step_costs (after_reset s) n _ c h = tt
-step_costs (at_state s) n State c h = omega arith
-step_costs (at_state s) n _ c h = tt
-step_costs (at_state_name s m) n (Name x) c h = omega arith
-step_costs (at_state_name s m) n _ c h = tt
+step_costs at_format n (Number i) c h = format_costs (format_of i) c
+step_costs at_format n _ c h = tt
+step_costs (at_semicolon f) n Semicolon c h = omega arith
+step_costs (at_semicolon f) n _ c h = tt
+step_costs (at_declaration f ds) n (Declare r) c h = omega arith
+step_costs (at_declaration f ds) n Port c h = two_costs f (at_declared f ds (record { line = n; role = Output; sort = sorts.Port; names = [] })) c (omega arith)
+step_costs (at_declaration f ds) n Reset c h = omega arith
+step_costs (at_declaration f ds) n _ c h = tt
+step_costs (at_sort f ds m r) n Array c h = omega arith
+step_costs (at_sort f ds m r) n (Name x) c h = omega arith
+step_costs (at_sort f ds m r) n _ c h = tt
+step_costs (at_declared f ds d) n (Name x) c h = omega arith
+step_costs (at_declared f ds d) n _ c h = tt
+step_costs (after_declared f ds d) n Comma c h = omega arith
+step_costs (after_declared f ds d) n Semicolon c h = omega arith
+step_costs (after_declared f ds d) n _ c h = tt
+step_costs (at_reset f ds m) n (Name x) c h = omega arith
+step_costs (at_reset f ds m) n _ c h = tt
+step_costs (after_reset f s) n Semicolon c h = omega arith
+step_costs (after_reset f s) n _ c h = tt
+step_costs (at_state f s) n State c h = omega arith
+step_costs (at_state f s) n _ c h = tt
+step_costs (at_state_name f s m) n (Name x) c h = omega arith
+step_costs (at_state_name f s m) n _ c h = tt
 step_costs (after_state_name d) n Colon c h = omega arith
 step_costs (after_state_name d) n _ c h = tt
-step_costs (at_line d) n t c h = line_costs t n d c
+step_costs (at_transition d) n t c h = line_costs t n d c
 step_costs (at_target d m g) n (Name x) c h = omega arith
 step_costs (at_target d m g) n _ c h = tt
 step_costs (after_target o) n Colon c h = omega arith
 step_costs (after_target o) n Semicolon c h = omega arith
 step_costs (after_target o) n _ c h = tt
 step_costs (at_assignment o) n (Name x) c h = omega arith
+step_costs (at_assignment o) n Emit c h = two_costs o.state.format (at_port o) c (omega arith)
 step_costs (at_assignment o) n _ c h = tt
+step_costs (at_port o) n (Name x) c h = omega arith
+step_costs (at_port o) n _ c h = tt
 step_costs (after_assignment_name o x) n Equals c h = omega arith
 step_costs (after_assignment_name o x) n OpenBracket c h = omega arith
 step_costs (after_assignment_name o x) n _ c h = tt

@@ -10,10 +10,11 @@ use Rattle.fs_grammar.specs.declared.token.TokenKind.TheVariants.{End}
 use Rattle.fs_grammar.specs.declared.token.Token.{Token}
 use Rattle.fs_grammar.specs.Tokens.{refusal, fault_at}
 use Rattle.fs_grammar.specs.Grammar.{ParseState, at_start, step, finish, stop, next, reading}
-use Rattle.fs_lex.specs.Scan.{starts_expression, is_operator, counted, tokens_of}
+use Rattle.fs_grammar.specs.Operators.{is_operator, starts_expression}
+use Rattle.fs_lex.specs.Scan.{counted, tokens_of}
 use Rattle.text_laws.proofs.Operators.{operators_owed, step_costs}
 use Rattle.text_laws.proofs.Fit.{IsFit, step_keeps, finish_fits}
-use Rattle.text_laws.proofs.Counted.{AreCounted, scan_counted}
+use Rattle.text_laws.proofs.Counted.{AreCounted, tokens_counted}
 
 abbrev IsSo : Source → Type 0
 IsSo f = IsTrue (is_well_formed f)
@@ -54,4 +55,4 @@ reads_fit (t ∷ ts) s n f c h b m q =
     (finish_fits s h) q
 
 pub read_is_well_formed : (bytes : List ℕ) (s : Source) → reading (tokens_of bytes) at_start ≡ Ok s → IsTrue (is_well_formed s)
-read_is_well_formed bytes s q = reads_fit (tokens_of bytes) at_start 0 s (scan_counted bytes 0 (record { line = 1; column = 1 }) 0) tt (omega arith) (omega arith) q
+read_is_well_formed bytes s q = reads_fit (tokens_of bytes) at_start 0 s (tokens_counted bytes) tt (omega arith) (omega arith) q

@@ -12,7 +12,7 @@ use fs_model::name::NoMemory;
 use std::alloc::Global;
 
 impl Entries {
-    /// The entries that are not 0, each with its index, by rising index.
+    /// The entries that are not 0, each with its index, in increasing order of index.
     pub fn list(&self, alloc: Global) -> Result<Vec<(i128, i128)>, NoMemory>
         ensures listing { IfOk result (λ es. IsListing (entry self.now) es.items) }
     {
@@ -26,7 +26,7 @@ impl Entries {
     }
 }
 
-/// Whether a number is listed: it is where it is not 0.
+// Whether a number is listed: it is where it is not 0.
 fn is_listed(number: &i128) -> bool
     ensures { result ≡ not (int_eq number.now (pos 0)) }
 {

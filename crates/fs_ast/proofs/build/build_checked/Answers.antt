@@ -1,14 +1,18 @@
 use Rattle.std.proofs.Common.{◌≡◌, ◌∙◌, sym, ap, subst}
 use Rattle.std.specs.Prelude.{map}
 use Rattle.fs_model.specs.View.{source_of, source_state_of}
-use Rattle.fs_ast.specs.Spelled.{names_of, state_names, place}
-use Rattle.fs_ast.specs.Sound.{IsSound}
-use Rattle.fs_ast.specs.Places.{names_in}
+use Rattle.fs_rules.specs.Spelled.{names_of, state_names, place}
+use Rattle.fs_rules.specs.Sound.{IsSound}
+use Rattle.fs_rules.specs.Places.{names_in}
 use Rattle.fs_ast.specs.Resolved.{placed_of, placed_spelled}
 use Rattle.fs_ast.specs.Late.{LeadOn}
+use Rattle.fs_model.specs.Machines.{Fsmd}
+use Rattle.fs_ast.specs.Stored.{KeepsTypes}
 use Rattle.fs_ast.proofs.Kept.{all_kept, sound, lawful}
+use Rattle.fs_ast.proofs.Naturals.{right}
 use Rattle.fs_ast.proofs.Soonest.{late_first}
-use Rattle.fs_ast.proofs.Whole.{few_vars, few_stated, placed, placed_is, leads_placed, reset_low, machine_is, names_of_states, late_kept}
+use Rattle.fs_ast.proofs.Whole.{few_vars, few_stated, placed, placed_is, leads_placed, reset_low, machine_is, late_kept}
+use Rattle.fs_rules.proofs.Naming.{names_of_states}
 use Rattle.fs_ast.proofs.build.build_checked.Goals as goal
 
 pub resolve-requires-clause-variables : goal.resolve-requires-clause-variables
@@ -77,7 +81,8 @@ of-requires c =
     let lent : map placed_of c.as_slice.result.now ≡ placed p = ap (map placed_of) c.as_slice.ensures.value ∙ made in
     let reset : c.state_id-reset.result.0 ≡ place (state_names p.states) p.reset = c.state_id-reset.ensures ∙ ap (λ ns. place ns p.reset) (names_of_states p vs ss s) in
     let late = late_kept p (map placed_of c.as_slice.result.now) c.state_id-reset.result.0 c.in-Ok-None.field-0 lent reset c.in-Ok-None.field-0-is c.in-Ok-None.ensures in
-    subst IsSound (sym (machine_is p vs ss c.in-Ok.states.items c.state_id-reset.result.0 s made c.state_id-reset.ensures)) (sound p k late.0 late.1)
+    let is = machine_is p vs ss c.in-Ok.states.items c.state_id-reset.result.0 s made c.state_id-reset.ensures in
+    λ kept. subst IsSound (sym is) (sound p k late.0 late.1 (right p c.requires.formed (subst (λ (m : Fsmd). KeepsTypes m.variables m.states) is kept)))
 
 pub returns-in-Ok-of-clause-spelled : goal.returns-in-Ok-of-clause-spelled
 returns-in-Ok-of-clause-spelled c =

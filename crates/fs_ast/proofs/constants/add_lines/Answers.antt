@@ -1,4 +1,4 @@
-use Rattle.fs_ast.specs.Sound.{numbers_in_transitions}
+use Rattle.fs_rules.specs.Sound.{numbers_in_transitions}
 use Rattle.fs_ast.specs.Resolved.{line_of}
 use Rattle.fs_ast.proofs.Numbers.{numbers_in_transition, lines_push, put_numbers}
 use Rattle.fs_ast.proofs.constants.add_lines.Goals as goal

@@ -1,6 +1,6 @@
 use Rattle.std.proofs.Common.{[], ◌∙◌, ap, ◌++◌}
 use Rattle.std.specs.Prelude.{map}
-use Rattle.fs_ast.specs.Sound.{numbers_in_transitions, numbers_in_states}
+use Rattle.fs_rules.specs.Sound.{numbers_in_transitions, numbers_in_states}
 use Rattle.fs_ast.specs.Resolved.{state_of, line_of}
 use Rattle.fs_ast.proofs.Numbers.{states_push, put_numbers}
 use Rattle.fs_ast.proofs.constants.constants_of.Goals as goal

@@ -1,6 +1,6 @@
 use Rattle.std.proofs.Common.{◌≡◌, take}
 use Rattle.std.specs.Prelude.{map}
-use Rattle.fs_ast.specs.Sound.{numbers_in_states}
+use Rattle.fs_rules.specs.Sound.{numbers_in_states}
 use Rattle.fs_ast.specs.Resolved.{state_of}
 use Rattle.fs_ast.proofs.constants.constants_of.Given as goal
 

@@ -3,7 +3,7 @@ use Rattle.std.specs.Prelude.{map, ℕ}
 use Rattle.fs_model.specs.Trees.{tree_of_transitions, count_leaves}
 use Rattle.fs_ast.specs.Resolved.{line_of}
 use Rattle.fs_ast.specs.Forks.{capped}
-use Rattle.fs_ast.proofs.Turns.{left_map}
+use Rattle.fs_rules.proofs.Turns.{left_map}
 use Rattle.fs_ast.proofs.Leaves.{count_more}
 use Rattle.fs_ast.proofs.trees.count_leaves.Goals as goal
 

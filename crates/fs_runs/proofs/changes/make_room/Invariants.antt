@@ -1,4 +1,4 @@
-use Rattle.std.proofs.Common.{◌≡◌, take, true}
+use Rattle.std.proofs.Common.{◌≡◌, take, length, true}
 use Rattle.std.specs.Prelude.{map}
 use Rattle.std.specs.List.{list_all}
 use Rattle.fs_runs.specs.Values.{store_from, sort_of}
@@ -9,5 +9,5 @@ abbrev pub invariant-loop-change : goal.invariant-loop-change
 invariant-loop-change l = record {
   same : store_from l.values ≡ store_from l.initial.values;
   sorts : map sort_of l.values ≡ map sort_of l.initial.values;
-  ready : list_all (is_ready l.values) (take l.change-index l.changes) ≡ true;
+  ready : list_all (is_ready (length l.changes) l.values) (take l.change-index l.changes) ≡ true;
 }

@@ -1,6 +1,6 @@
 use Rattle.std.proofs.Common.{sym, ◌∙◌, ap}
 use Rattle.fs_runs.specs.Values.{zero_content}
-use Rattle.fs_runs.proofs.Givens.{zero_more}
+use Rattle.fs_runs.proofs.InputValues.{zero_more}
 use Rattle.fs_runs.proofs.inputs.add_input.Goals as goal
 
 pub returns-clause-zero : goal.returns-clause-zero

@@ -1,8 +1,8 @@
 use Rattle.std.proofs.Common.{◌∙◌, ap, take, length}
 use Rattle.std.specs.Prelude.{map}
 use Rattle.std.proofs.lemmas.List.{take_all}
-use Rattle.fs_runs.specs.Given.{inputs_of, first_content}
-use Rattle.fs_runs.proofs.Givens.{starts}
+use Rattle.fs_runs.specs.InputValues.{inputs_of, first_content}
+use Rattle.fs_runs.proofs.InputValues.{starts}
 use Rattle.fs_runs.proofs.inputs.start.Goals as goal
 
 pub returns-clause-start : goal.returns-clause-start

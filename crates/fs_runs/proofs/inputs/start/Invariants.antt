@@ -1,7 +1,7 @@
 use Rattle.std.proofs.Common.{◌≡◌, take}
 use Rattle.std.specs.Prelude.{map}
 use Rattle.fs_runs.specs.Values.{content_of, sort_of}
-use Rattle.fs_runs.specs.Given.{inputs_of, first_content}
+use Rattle.fs_runs.specs.InputValues.{inputs_of, first_content}
 use Rattle.fs_runs.proofs.inputs.start.Given as goal
 
 abbrev pub invariant-loop-var : goal.invariant-loop-var

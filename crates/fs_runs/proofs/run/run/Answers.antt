@@ -2,7 +2,7 @@ use Rattle.std.proofs.Common.{◌≡◌, ◌∙◌, ◌+◌, ap, sym, refl, arit
 use Rattle.fs_model.specs.Runs.{start}
 use Rattle.fs_model.specs.Touched.{touched, AllInRange}
 use Rattle.fs_runs.specs.Values.{store_of}
-use Rattle.fs_runs.specs.Given.{inputs_of}
+use Rattle.fs_runs.specs.InputValues.{inputs_of}
 use Rattle.fs_runs.proofs.Turns.{At, at_first, at_next, ended_goes, ended_range, leaves_range, runs_on, is_reset, is_other, run_ended, range_ended}
 use Rattle.fs_runs.proofs.run.run.Goals as goal
 

@@ -1,7 +1,7 @@
 use Rattle.std.proofs.Common.{◌<◌, length}
 use Rattle.fs_model.specs.Runs.{start}
 use Rattle.fs_runs.specs.Values.{store_of, IsStoreOf}
-use Rattle.fs_runs.specs.Given.{inputs_of}
+use Rattle.fs_runs.specs.InputValues.{inputs_of}
 use Rattle.fs_runs.proofs.Turns.{At}
 use Rattle.fs_runs.proofs.run.run.Given as goal
 

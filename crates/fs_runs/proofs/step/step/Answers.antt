@@ -8,8 +8,8 @@ use Rattle.fs_runs.specs.Values.{store_from, values_of}
 use Rattle.fs_runs.proofs.Steps.{takes, one_open, is_open, past_taken}
 use Rattle.fs_runs.proofs.step.step.Goals as goal
 
-pub open_branch-requires : goal.open_branch-requires
-open_branch-requires c = rw (c.branches.ensures.branches, c.as_slice.ensures.value) (is_open c.args.m.now c.args.s.0 (store_from (values_of c.args.store.now)) c.branches.ensures.sound c.requires.state)
+pub taken_branch-requires : goal.taken_branch-requires
+taken_branch-requires c = rw (c.branches.ensures.branches, c.as_slice.ensures.value) (is_open c.args.m.now c.args.s.0 (store_from (values_of c.args.store.now)) c.branches.ensures.sound c.requires.state)
 
 pub returns-in_default-clause-past : goal.returns-in_default-clause-past
 returns-in_default-clause-past c =

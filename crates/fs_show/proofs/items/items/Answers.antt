@@ -1,8 +1,7 @@
 use Rattle.std.proofs.Common.{◌≡◌, ◌+◌, ◌∷◌, drop, subst}
 use Rattle.std.specs.Prelude.{map, IsSome}
-use Rattle.fs_runs.specs.Outcomes.{output_names, told_by}
+use Rattle.fs_runs.specs.Outcomes.{output_names, told_by, HoldsEach}
 use Rattle.fs_runs.proofs.Slots.{left_item}
-use Rattle.fs_show.specs.Items.{HoldsEach}
 use Rattle.fs_show.proofs.Faces.{all_behind}
 use Rattle.fs_show.proofs.Adds.{items_more}
 use Rattle.fs_show.proofs.items.items.Goals as goal

@@ -2,8 +2,8 @@ use Rattle.std.proofs.Common.{◌∙◌, ap, sym, subst}
 use Rattle.std.specs.Prelude.{map}
 use Rattle.std.specs.Bool.{Decides}
 use Rattle.std.proofs.lemmas.Bool.Decides.{Decides-like}
-use Rattle.fs_runs.specs.Outcomes.{output_names, told_by}
-use Rattle.fs_show.specs.Items.{HoldsEach, AreItems, AgreeOn}
+use Rattle.fs_runs.specs.Outcomes.{output_names, told_by, HoldsEach}
+use Rattle.fs_show.specs.Items.{AreItems, AgreeOn}
 use Rattle.fs_show.specs.Ends.{replay_text}
 use Rattle.fs_show.proofs.Faces.{holds_there, same_everywhere, each_same}
 use Rattle.fs_show.proofs.replay.replay_text.Goals as goal

@@ -1,8 +1,8 @@
 use Rattle.std.proofs.Common.{◌≡◌}
 use Rattle.std.specs.Prelude.{Some, None}
 use Rattle.fs_model.specs.View.{source_of}
-use Rattle.fs_ast.specs.Rules.{plain_faults}
-use Rattle.fs_ast.specs.Earliest.{earliest}
+use Rattle.fs_rules.specs.Rules.{plain_faults}
+use Rattle.fs_rules.specs.Earliest.{earliest}
 use Rattle.fs_ast.proofs.Soonest.{plain_first}
 use Rattle.fs_ast.proofs.Whole.{nothing_noted}
 use Rattle.fs_ast.proofs.machine.Machine.build.Goals as goal

@@ -4,7 +4,7 @@ use Rattle.std.specs.Ordering.{int_cmp}
 use Rattle.std.specs.Option.{unwrap_or}
 use Rattle.std.specs.Map.{lookup}
 use Rattle.std.specs.BTreeMap.{is_at}
-use Rattle.fs_runs.proofs.Givens.{entries_copied}
+use Rattle.fs_runs.proofs.InputValues.{entries_copied}
 use Rattle.fs_runs.proofs.values.Entries.try_clone.Goals as goal
 
 pub returns-in-Ok : goal.returns-in-Ok

@@ -1,0 +1,160 @@
+//! Machines that several tests ask about, as an engineer writes them.
+
+/// The square of a sum, in two steps.
+pub const SQUARE_OF_A_SUM: &str = "fsmd 1;
+input a, b;
+output y;
+local t;
+reset s0;
+state s0: goto s1: t = a + b;
+state s1: goto s0: y = t * t;
+";
+
+/// A sum of squares.
+pub const SUM_OF_SQUARES: &str = "fsmd 1;
+input a, b;
+output y;
+reset q0;
+state q0: goto q0: y = a * a + b * b;
+";
+
+/// Greatest common divisors by subtraction.
+pub const COMMON_DIVISOR: &str = "fsmd 1;
+input a, b;
+output g;
+local x, y;
+reset s0;
+state s0: goto s1: x = a, y = b;
+state s1: when x == y goto s0: g = x; goto s2;
+state s2: when x > y goto s3; goto s4;
+state s3: goto s1: x = x - y;
+state s4: goto s1: y = y - x;
+";
+
+/// The same, with the second test merged with the subtraction.
+pub const COMMON_DIVISOR_SCHEDULE: &str = "fsmd 1;
+input a, b;
+output g;
+local x, y;
+reset q0;
+state q0: goto q1: x = a, y = b;
+state q1: when x == y goto q0: g = x; goto q2;
+state q2: when x > y goto q1: x = x - y; goto q1: y = y - x;
+";
+
+/// The differential equation solver that is usual in high-level synthesis, one operation a transition.
+pub const SOLVER: &str = "fsmd 1;
+input a, dx, xi, ui, yi;
+output x, u, y;
+local t1, t2, t3, t4, t5, t6;
+reset s0;
+state s0: goto s1: x = xi, u = ui, y = yi;
+state s1: when x < a goto s2; goto s0;
+state s2: goto s3: t1 = u * dx;
+state s3: goto s4: t2 = 3 * x;
+state s4: goto s5: t3 = 3 * y;
+state s5: goto s6: t4 = t1 * t2;
+state s6: goto s7: t5 = dx * t3;
+state s7: goto s8: t6 = u - t4;
+state s8: goto s9: u = t6 - t5;
+state s9: goto s10: y = y + t1;
+state s10: goto s1: x = x + dx;
+";
+
+/// A schedule of it.
+pub const SOLVER_SCHEDULE: &str = "fsmd 1;
+input a, dx, xi, ui, yi;
+output x, u, y;
+local t1, t2, t3, t4, t5, t6;
+reset q0;
+state q0: goto q1: x = xi, u = ui, y = yi;
+state q1: when x < a goto q2: t1 = u * dx, t2 = 3 * x; goto q0;
+state q2: goto q3: t3 = 3 * y, t4 = t1 * t2;
+state q3: goto q4: t5 = dx * t3, t6 = u - t4, y = y + t1;
+state q4: goto q1: u = t6 - t5, x = x + dx;
+";
+
+/// It returns only where x is not above 0.
+pub const MAY_NEVER_END: &str = "fsmd 1;
+input x;
+output y;
+reset s0;
+state s0: goto s1;
+state s1: when x > 0 goto s1; goto s0: y = 1;
+";
+
+/// It returns after one step.
+pub const ENDS_AT_ONCE: &str = "fsmd 1;
+input x;
+output y;
+reset q0;
+state q0: goto q0: y = 1;
+";
+
+/// For x other than 0 a number past 128 bits is touched: in step 2 for 1 and -1, and else in step 1.
+pub const LARGE_PRODUCT: &str = "fsmd 1;
+input x;
+output y;
+local t;
+reset s0;
+state s0: goto s1: t = 170141183460469231731687303715884105727 * x;
+state s1: goto s0: y = t + t;
+";
+
+/// An operation that another machine has before the test stands behind it in both branches.
+pub const SUM_BEHIND_A_TEST: &str = "fsmd 1;
+input a, b, c;
+output y;
+local x;
+reset q0;
+state q0: when c > 0 goto q1: x = a + b; goto q2: x = a + b;
+state q1: goto q0: y = x + 1;
+state q2: goto q0: y = x - 1;
+";
+
+/// A guarded loop that is tested at the bottom.
+pub const LOOP_TESTED_AT_THE_BOTTOM: &str = "fsmd 1;
+input a, n;
+output y;
+local i, s;
+reset q0;
+state q0: when n > 0 goto q1: i = 1; goto q0;
+state q1: goto q2: s = s + a, i = i + 1;
+state q2: when i <= n goto q1; goto q0: y = s;
+";
+
+/// It emits one number a step to the same port.
+pub const EMITS_IN_TURN: &str = "fsmd 2;
+input a, b;
+port p;
+reset s0;
+state s0: goto s1: emit p a;
+state s1: goto s0: emit p b;
+";
+
+/// It emits both numbers in one step.
+pub const EMITS_AT_ONCE: &str = "fsmd 2;
+input a, b;
+port p;
+reset q0;
+state q0: goto q0: emit p a, emit p b;
+";
+
+/// It emits both numbers in one step, the other one first.
+pub const EMITS_EXCHANGED: &str = "fsmd 2;
+input a, b;
+port p;
+reset q0;
+state q0: goto q0: emit p b, emit p a;
+";
+
+/// It counts down from n, and emits v + i in each turn.
+pub const TRACE_OF_A_LOOP: &str = "fsmd 2;
+input n, v;
+port p;
+local i;
+reset s0;
+state s0: goto s1: i = n;
+state s1: when i > 0 goto s2: emit p v + i; goto s0;
+state s2: goto s1: i = i - 1;
+";

@@ -1,0 +1,312 @@
+//! Ports: what is read, checked, written, run and compared of machines that emit numbers.
+
+use crate::asked::{Case, each_pair, each_row};
+use crate::machines::{EMITS_AT_ONCE, EMITS_EXCHANGED, EMITS_IN_TURN, TRACE_OF_A_LOOP};
+use std::test::Fail;
+
+const BEHIND: Case = Case {
+    words: "check a.fsmd b.fsmd",
+    left: "{1}▸{2}",
+    right: "{machine}",
+    inputs: "",
+    reply: r"bad input: a.fsmd:▸: {A}\n",
+};
+
+const UNEXPECTED: &str = "fsmd 1; ¦port p;
+fsmd 1; input a; ¦port p;
+fsmd 1; reset s; state s: goto s: ¦emit p 1;
+fsmd 1; output y; reset s; state s: goto s: y = 1, ¦emit y 1;
+fsmd 1; output y; reset s; state s: when y > 0 goto s: ¦emit y 1;
+fsmd ¦3;
+fsmd ¦12;
+fsmd 2; port¦;
+fsmd 2; port ¦array p;
+fsmd 2; port p ¦q;
+fsmd 2; port p,¦;
+fsmd 2; output ¦port p;
+fsmd 2; port ¦emit;
+fsmd 2; port p; reset s; ¦port q;
+fsmd 2; port p; reset s; state s: ¦emit p 1;
+fsmd 2; port p; reset s; state s: goto s: emit¦;
+fsmd 2; port p; reset s; state s: goto s: emit p¦;
+fsmd 2; port p; reset s; state s: goto s: emit ¦1;
+fsmd 2; port p; reset s; state s: goto s: emit ¦(p) 1;
+fsmd 2; port p; reset s; state s: goto s: emit p¦[0] = 1;
+fsmd 2; port p; reset s; state s: goto s: emit p ¦= 1;
+fsmd 2; port p; reset s; state s: goto s: emit p 1 ¦2;
+fsmd 2; port p; reset s; state s: goto s: emit p 1,¦;
+fsmd 2; port p; reset s; state s: goto s: p¦;
+fsmd 2; port p; reset s; state s: when ¦emit > 0 goto s; goto s;
+";
+
+const ENDED: &str = "fsmd 2¦
+fsmd 2;¦
+fsmd 2; port¦
+fsmd 2; port p¦
+fsmd 2; port p;¦
+fsmd 2; port p; reset s; state s: goto s: emit¦
+fsmd 2; port p; reset s; state s: goto s: emit p¦
+fsmd 2; port p; reset s; state s: goto s: emit p 1¦
+fsmd 2; port p; reset s; state s: goto s: emit p 1,¦
+";
+
+// An `emit` and a `port` stand in a file of format 2 alone, and only where the grammar has them.
+#[test]
+fn words_of_format_2(rt: HostRuntime) -> Result<(), Fail> {
+    each_pair(&rt, rt.alloc(), &BEHIND, "Unexpected", UNEXPECTED)?;
+    each_pair(&rt, rt.alloc(), &BEHIND, "Ended", ENDED)?;
+    Ok(())
+}
+
+const OPERATORS: &str = "<<128 times:->>a ¦+ a
+<<128 times:->>a¦[0]
+<<128 times:->>¦(a)
+n[<<127 times:->>a] + n[0¦- a]
+";
+
+const EMITTED: Case = Case {
+    words: "fmt a.fsmd",
+    left: "fsmd 2; input a; input array n; port p; reset s; state s: goto s: emit p {1}▸{2}",
+    right: "",
+    inputs: "",
+    reply: r"bad input: a.fsmd:▸: Operators\n",
+};
+
+const ADD_UP: Case = Case {
+    words: "fmt a.fsmd",
+    left: "fsmd 2; input a; port p, q; reset s; state s: goto s: emit p <<128 times:->>a, emit q <<128 times:->>a;",
+    right: "",
+    inputs: "",
+    reply: r"fsmd 2;\ninput a;\nport p, q;\nreset s;\nstate s:\n  goto s: emit p <<128 times:->>a, emit q <<128 times:->>a;\n",
+};
+
+// The operators of an emitted expression count as those of a right side do, and each emit counts anew.
+#[test]
+fn operators_of_an_emit(rt: HostRuntime) -> Result<(), Fail> {
+    each_row(&rt, rt.alloc(), &EMITTED, OPERATORS)?;
+    each_row(&rt, rt.alloc(), &ADD_UP, "row")?;
+    Ok(())
+}
+
+const IN_STATE: Case = Case {
+    words: "check a.fsmd b.fsmd",
+    left: r"fsmd 2; input a; input array m; output y; output array n;\nport p, q;\nreset s;\n{1}",
+    right: "{machine}",
+    inputs: "",
+    reply: r"bad input: a.fsmd:{2}\n",
+};
+
+const RULES: &str = r"state s: goto s: emit p p;¦4: WrongSort
+state s: goto s: emit p q;¦4: WrongSort
+state s: goto s: emit p p[0];¦4: WrongSort
+state s: goto s: emit p m;¦4: WrongSort
+state s: goto s: emit p y[0];¦4: WrongSort
+state s: goto s: emit m 1;¦4: WrongSort
+state s: goto s: emit n 1;¦4: WrongSort
+state s: goto s: emit a 1;¦4: WrongSort
+state s: goto s: emit y 1;¦4: WrongSort
+state s: goto s: p = 1;¦4: WrongSort
+state s: goto s: p[0] = 1;¦4: WrongSort
+state s: goto s: y = p;¦4: WrongSort
+state s: goto s: y = p[0];¦4: WrongSort
+state s: goto s: n[p] = 1;¦4: WrongSort
+state s:\n when p > 0 goto s;\n goto s;¦5: WrongSort
+state s: goto s: emit z 1;¦4: UnknownName
+state s: goto s: emit p z;¦4: UnknownName
+state s: goto s: emit z z, emit a 1;¦4: UnknownName
+state s: goto s: emit p 1, y = 1, emit p 2, y = 2;¦4: AssignedTwice
+state s:\n goto s: <<16 times:emit p a, >>emit p a;¦5: TooManyEmits
+state s:\n goto s: <<8 times:emit p a, emit q a, >>y = 1, emit q a;¦5: TooManyEmits
+state s:\n goto s: <<16 times:emit p a, >>emit p a;\n goto s;¦5: TooManyEmits
+state s: goto t: <<16 times:emit p a, >>emit p a;¦4: UnknownState
+state s: goto s: <<16 times:emit p a, >>emit p z;¦4: UnknownName
+state s: goto s: <<16 times:emit p a, >>emit p a; goto s;¦4: AfterElse
+";
+
+// A port is emitted to and nothing else, and only a port is. A transition has at most 16 emits.
+#[test]
+fn rules_on_ports(rt: HostRuntime) -> Result<(), Fail> {
+    each_row(&rt, rt.alloc(), &IN_STATE, RULES)?;
+    Ok(())
+}
+
+const DECLARED: Case = Case {
+    words: "fmt a.fsmd",
+    left: "{1}",
+    right: "",
+    inputs: "",
+    reply: r"bad input: a.fsmd:1: {2}\n",
+};
+
+const NAMES: &str = "fsmd 2; port p, p; reset s; state s: goto s;¦TwiceNamed
+fsmd 2; input p; port p; reset s; state s: goto s;¦TwiceNamed
+fsmd 2; port <<0 to 128:p#, >>q; reset s; state s: goto s;¦TooMany
+fsmd 2; input a; port p; reset s0; state s0: goto s1: emit p a; state s1: goto s0: emit p p;¦WrongSort
+";
+
+#[test]
+fn declarations_of_ports(rt: HostRuntime) -> Result<(), Fail> {
+    each_row(&rt, rt.alloc(), &DECLARED, NAMES)?;
+    Ok(())
+}
+
+const WRITTEN: Case = Case {
+    words: "fmt a.fsmd",
+    left: "{1}",
+    right: "",
+    inputs: "",
+    reply: "{2}",
+};
+
+const TEXTS: &str =
+    r"fsmd 2;input a;port p,q;reset s;state s:goto s:emit p(a+1),emit q-a;¦fsmd 2;\ninput a;\nport p, q;\nreset s;\nstate s:\n  goto s: emit p a + 1, emit q -a;\n
+fsmd 02;output y;reset s;state s:goto s;¦fsmd 1;\noutput y;\nreset s;\nstate s:\n  goto s;\n
+fsmd 2;port p;reset s;state s:goto s;¦fsmd 2;\nport p;\nreset s;\nstate s:\n  goto s;\n
+fsmd 2;input a;port p;output y;reset s;state s:when a>0 goto s:emit p a,y=a,emit p(y);goto s;¦fsmd 2;\ninput a;\nport p;\noutput y;\nreset s;\nstate s:\n  when a > 0 goto s: emit p a, y = a, emit p y;\n  goto s;\n
+";
+
+// The head is that of format 2 exactly when the machine declares a port or emits.
+#[test]
+fn canonical_texts(rt: HostRuntime) -> Result<(), Fail> {
+    each_row(&rt, rt.alloc(), &WRITTEN, TEXTS)?;
+    Ok(())
+}
+
+fn run(machine: &str) -> Case<'_> {
+    Case {
+        words: "run a.fsmd i.json",
+        left: machine,
+        right: "",
+        inputs: "{1}",
+        reply: "{2}",
+    }
+}
+
+const TWO_PORTS: &str = "fsmd 2;
+input a, b;
+port p, q;
+output y;
+reset s;
+state s: goto t: emit q a, emit p b, emit q y, y = 7;
+state t: goto s: emit q y;
+";
+
+const PAST: &str = "fsmd 2;
+input a;
+port p;
+reset s;
+state s: goto t: emit p a;
+state t: goto s: emit p 170141183460469231731687303715884105727 * a;
+";
+
+// Each emitted expression is valued in the store before the step, and the lists stand in the order of the emits.
+#[test]
+fn runs_that_emit(rt: HostRuntime) -> Result<(), Fail> {
+    let alloc = rt.alloc();
+    each_row(
+        &rt,
+        alloc,
+        &run(EMITS_IN_TURN),
+        r#"{"a": 1, "b": 2}¦ended: 2 steps\np = [1, 2]\n"#,
+    )?;
+    each_row(
+        &rt,
+        alloc,
+        &run(TRACE_OF_A_LOOP),
+        r#"{"n": 2, "v": 10}¦ended: 6 steps\np = [12, 11]\n"#,
+    )?;
+    each_row(
+        &rt,
+        alloc,
+        &run(TRACE_OF_A_LOOP),
+        r"{}¦ended: 2 steps\np = []\n",
+    )?;
+    each_row(
+        &rt,
+        alloc,
+        &run(TWO_PORTS),
+        r#"{"a": -3, "b": 4}¦ended: 2 steps\np = [4]\nq = [-3, 0, 7]\ny = 7\n"#,
+    )?;
+    Ok(())
+}
+
+#[test]
+fn emitted_numbers_past_128_bits(rt: HostRuntime) -> Result<(), Fail> {
+    let alloc = rt.alloc();
+    each_row(
+        &rt,
+        alloc,
+        &run(PAST),
+        r#"{"a": 2}¦undecided: number past 128 bits at step 2\n"#,
+    )?;
+    each_row(
+        &rt,
+        alloc,
+        &run(PAST),
+        r#"{"a": 1}¦ended: 2 steps\np = [1, 170141183460469231731687303715884105727]\n"#,
+    )?;
+    Ok(())
+}
+
+// A port is no input.
+#[test]
+fn a_port_among_the_inputs(rt: HostRuntime) -> Result<(), Fail> {
+    each_row(
+        &rt,
+        rt.alloc(),
+        &run(EMITS_IN_TURN),
+        r#"{"p": 1}¦bad input: i.json: UnknownName p\n"#,
+    )?;
+    Ok(())
+}
+
+const PAIR: Case = Case {
+    words: "replay a.fsmd b.fsmd i.json",
+    left: "{A}",
+    right: "{B}",
+    inputs: "{1}",
+    reply: "{2}",
+};
+
+fn replay<'a>(left: &'a str, right: &'a str) -> Case<'a> {
+    Case {
+        left,
+        right,
+        ..PAIR
+    }
+}
+
+#[test]
+fn replays_that_emit(rt: HostRuntime) -> Result<(), Fail> {
+    let alloc = rt.alloc();
+    let same = r#"{"a": 1, "b": 2}¦same\nleft: p = [1, 2]\nright: p = [1, 2]\n"#;
+    each_row(&rt, alloc, &replay(EMITS_IN_TURN, EMITS_AT_ONCE), same)?;
+    let differ = r#"{"b": 1}¦differ\nleft: p = [0, 1]\nright: p = [1, 0]\n"#;
+    each_row(&rt, alloc, &replay(EMITS_AT_ONCE, EMITS_EXCHANGED), differ)?;
+    Ok(())
+}
+
+const INTERFACE: Case = Case {
+    words: "check a.fsmd b.fsmd",
+    left: "fsmd 2; {1} reset s; state s: goto s;",
+    right: "fsmd 2; {2} reset s; state s: goto s;",
+    inputs: "",
+    reply: r"bad input: {3}\n",
+};
+
+const INTERFACES: &str = "port p;¦output p;¦interface: p
+output p;¦port p;¦interface: p
+output array p;¦port p;¦interface: p
+port p;¦¦interface: p
+¦port p;¦interface: p
+port p;¦port q;¦interface: p
+port p;¦port p;¦a.fsmd: NotBuilt
+port q, p;¦port p; port q;¦a.fsmd: NotBuilt
+";
+
+// A port is an output of its own sort. Machines with ports are not compared yet, which is looked at after the interfaces.
+#[test]
+fn interfaces_with_ports(rt: HostRuntime) -> Result<(), Fail> {
+    each_row(&rt, rt.alloc(), &INTERFACE, INTERFACES)?;
+    Ok(())
+}

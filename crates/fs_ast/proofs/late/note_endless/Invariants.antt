@@ -1,9 +1,0 @@
-use Rattle.std.proofs.Common.{◌≡◌, drop}
-use Rattle.std.specs.Prelude.{map}
-use Rattle.fs_ast.specs.Earliest.{earliest}
-use Rattle.fs_ast.specs.Resolved.{placed_of}
-use Rattle.fs_ast.specs.Late.{endless_faults}
-use Rattle.fs_ast.proofs.late.note_endless.Given as goal
-
-abbrev pub invariant-loop-place : goal.invariant-loop-place
-invariant-loop-place l = earliest l.faults.first (endless_faults (map placed_of l.states) (drop l.place-index l.endless)) ≡ earliest l.initial.faults.first (endless_faults (map placed_of l.states) l.endless)

@@ -1,0 +1,9 @@
+use Rattle.std.proofs.Common.{arith}
+use Rattle.fs_lex.proofs.Decimal.{bigger}
+use Rattle.fs_lex.proofs.lexemes.value.Goals as goal
+
+pub returns-then-n : goal.returns-then-n
+returns-then-n c = λ h. omega (arith, bigger c.loop-b.n c.loop-b.b-index c.args.bytes.now c.loop-b-test.true, c.loop-b.invariant.1)
+
+pub returns-then-n-gt-GREATEST : goal.returns-then-n-gt-GREATEST
+returns-then-n-gt-GREATEST c = λ h. omega (arith, bigger c.loop-b.n c.loop-b.b-index c.args.bytes.now c.loop-b-test.true, c.loop-b.invariant.1)

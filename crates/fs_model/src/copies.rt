@@ -1,0 +1,241 @@
+//! Copies of expressions, guards and assignments, with their variables renamed or not.
+
+ghost use Rattle.std.specs.Prelude.{◌≡◌, map, option_map, IfOk};
+ghost use Rattle.fs_model.specs.View.{term_by, literal_by, guard_by, assignment_by, term_of, literal_of, guard_of, assignment_of, named_term, named_guard, named_assignment, declaration_of};
+ghost use Rattle.fs_model.specs.Trees.{negated};
+ghost use Rattle.fs_model.specs.Renamed.{term_over, literal_over, guard_over, assignment_over};
+
+use crate::memory::{both_boxed, boxed};
+use crate::name::{Name, NoMemory};
+use crate::parts::{Assign, Decl, Expr, Guard, Lit, VarId};
+use std::alloc::Global;
+
+/// What each variable is renamed to.
+pub trait Rename<V> {
+    type To: Drop;
+
+    ghost can_rename: { Self → Type 0 };
+
+    ghost renamed: { Self → V → Self.To };
+
+    /// The variable that takes the place of one.
+    fn rename(&self, alloc: Global, variable: &V) -> Result<Self::To, NoMemory>
+        requires { can_rename self.now }
+        ensures { IfOk result (λ y. y ≡ renamed self.now variable.now) };
+}
+
+/// Each variable keeps its name or its number.
+pub struct Unrenamed;
+
+impl Rename<VarId> for Unrenamed {
+    type To = VarId;
+
+    ghost can_rename = { λ _. Unit {0} };
+
+    ghost renamed = { λ _ x. x };
+
+    fn rename(&self, _alloc: Global, variable: &VarId) -> Result<VarId, NoMemory> {
+        Ok(*variable)
+    }
+}
+
+impl Rename<Name> for Unrenamed {
+    type To = Name;
+
+    ghost can_rename = { λ _. Unit {0} };
+
+    ghost renamed = { λ _ x. x };
+
+    fn rename(&self, alloc: Global, variable: &Name) -> Result<Name, NoMemory> {
+        variable.try_clone(alloc)
+    }
+}
+
+impl<V> Expr<V> {
+    /// A copy with its variables renamed.
+    pub fn renamed<R: Rename<V>>(&self, alloc: Global, by: &R) -> Result<Expr<R::To>, NoMemory>
+        requires { R.can_rename by.now }
+        ensures { IfOk result (λ e. term_by (λ x. x) e ≡ term_over (R.renamed by.now) (term_by (λ x. x) self.now)) }
+    {
+        match self {
+            Expr::Num(n) => Ok(Expr::Num(*n)),
+            Expr::Var(x) => Ok(Expr::Var(by.rename(alloc, x)?)),
+            Expr::Read(x, index) => {
+                let index = boxed(alloc, index.renamed(alloc, by)?)?;
+                Ok(Expr::Read(by.rename(alloc, x)?, index))
+            }
+            Expr::Add(a, b) => {
+                let (a, b) = both_boxed(alloc, a.renamed(alloc, by)?, b.renamed(alloc, by)?)?;
+                Ok(Expr::Add(a, b))
+            }
+            Expr::Sub(a, b) => {
+                let (a, b) = both_boxed(alloc, a.renamed(alloc, by)?, b.renamed(alloc, by)?)?;
+                Ok(Expr::Sub(a, b))
+            }
+            Expr::Mul(a, b) => {
+                let (a, b) = both_boxed(alloc, a.renamed(alloc, by)?, b.renamed(alloc, by)?)?;
+                Ok(Expr::Mul(a, b))
+            }
+            Expr::Div(a, b) => {
+                let (a, b) = both_boxed(alloc, a.renamed(alloc, by)?, b.renamed(alloc, by)?)?;
+                Ok(Expr::Div(a, b))
+            }
+            Expr::Rem(a, b) => {
+                let (a, b) = both_boxed(alloc, a.renamed(alloc, by)?, b.renamed(alloc, by)?)?;
+                Ok(Expr::Rem(a, b))
+            }
+            Expr::Neg(a) => Ok(Expr::Neg(boxed(alloc, a.renamed(alloc, by)?)?)),
+        }
+    }
+}
+
+impl<V> Lit<V> {
+    /// A copy with its variables renamed.
+    pub fn renamed<R: Rename<V>>(&self, alloc: Global, by: &R) -> Result<Lit<R::To>, NoMemory>
+        requires { R.can_rename by.now }
+        ensures { IfOk result (λ l. literal_by (λ x. x) l ≡ literal_over (R.renamed by.now) (literal_by (λ x. x) self.now)) }
+    {
+        Ok(Lit {
+            rel: self.rel,
+            left: self.left.renamed(alloc, by)?,
+            right: self.right.renamed(alloc, by)?,
+        })
+    }
+}
+
+impl<V> Guard<V> {
+    /// A copy with its variables renamed.
+    pub fn renamed<R: Rename<V>>(&self, alloc: Global, by: &R) -> Result<Guard<R::To>, NoMemory>
+        requires { R.can_rename by.now }
+        ensures { IfOk result (λ g. guard_by (λ x. x) g ≡ guard_over (R.renamed by.now) (guard_by (λ x. x) self.now)) }
+    {
+        match self {
+            Guard::Lit(lit) => Ok(Guard::Lit(lit.renamed(alloc, by)?)),
+            Guard::Not(a) => Ok(Guard::Not(boxed(alloc, a.renamed(alloc, by)?)?)),
+            Guard::And(a, b) => {
+                let (a, b) = both_boxed(alloc, a.renamed(alloc, by)?, b.renamed(alloc, by)?)?;
+                Ok(Guard::And(a, b))
+            }
+            Guard::Or(a, b) => {
+                let (a, b) = both_boxed(alloc, a.renamed(alloc, by)?, b.renamed(alloc, by)?)?;
+                Ok(Guard::Or(a, b))
+            }
+        }
+    }
+}
+
+impl<V> Assign<V> {
+    /// A copy with its variables renamed.
+    pub fn renamed<R: Rename<V>>(&self, alloc: Global, by: &R) -> Result<Assign<R::To>, NoMemory>
+        requires { R.can_rename by.now }
+        ensures { IfOk result (λ a. assignment_by (λ x. x) a ≡ assignment_over (R.renamed by.now) (assignment_by (λ x. x) self.now)) }
+    {
+        match self {
+            Assign::Set(x, value) => {
+                let value = value.renamed(alloc, by)?;
+                Ok(Assign::Set(by.rename(alloc, x)?, value))
+            }
+            Assign::Put(x, index, value) => {
+                let index = index.renamed(alloc, by)?;
+                let value = value.renamed(alloc, by)?;
+                Ok(Assign::Put(by.rename(alloc, x)?, index, value))
+            }
+            Assign::Emit(x, value) => {
+                let value = value.renamed(alloc, by)?;
+                Ok(Assign::Emit(by.rename(alloc, x)?, value))
+            }
+        }
+    }
+}
+
+/// Copies of assignments with their variables renamed.
+pub fn renamed_assignments<V, R: Rename<V>>(
+    alloc: Global,
+    assigns: &[Assign<V>],
+    by: &R,
+) -> Result<Vec<Assign<R::To>>, NoMemory>
+    requires { R.can_rename by.now }
+    ensures { IfOk result (λ out. map (assignment_by (λ x. x)) out.items ≡ map (assignment_over (R.renamed by.now)) (map (assignment_by (λ x. x)) assigns.now)) }
+{
+    let mut out = Vec::new(alloc);
+    for assign in assigns {
+        out.push(assign.renamed(alloc, by)?)?;
+    }
+    Ok(out)
+}
+
+impl Expr<VarId> {
+    /// A copy.
+    #[tactic(auto, using(crate::proofs::Renamed::term_copied))]
+    pub fn try_clone(&self, alloc: Global) -> Result<Expr<VarId>, NoMemory>
+        ensures { IfOk result (λ e. term_of e ≡ term_of self.now) }
+    {
+        self.renamed(alloc, &Unrenamed)
+    }
+}
+
+impl Lit<VarId> {
+    /// A copy.
+    #[tactic(auto, using(crate::proofs::Renamed::literal_copied))]
+    pub fn try_clone(&self, alloc: Global) -> Result<Lit<VarId>, NoMemory>
+        ensures { IfOk result (λ l. literal_of l ≡ literal_of self.now) }
+    {
+        self.renamed(alloc, &Unrenamed)
+    }
+
+    /// A literal that holds exactly when this one does not.
+    pub fn negation(&self, alloc: Global) -> Result<Lit<VarId>, NoMemory>
+        ensures { IfOk result (λ l. literal_of l ≡ negated (literal_of self.now)) }
+    {
+        Ok(Lit {
+            rel: self.rel.negated(),
+            left: self.left.try_clone(alloc)?,
+            right: self.right.try_clone(alloc)?,
+        })
+    }
+}
+
+impl Guard<VarId> {
+    /// A copy.
+    #[tactic(auto, using(crate::proofs::Renamed::guard_copied))]
+    pub fn try_clone(&self, alloc: Global) -> Result<Guard<VarId>, NoMemory>
+        ensures { IfOk result (λ g. guard_of g ≡ guard_of self.now) }
+    {
+        self.renamed(alloc, &Unrenamed)
+    }
+}
+
+impl Assign<VarId> {
+    /// A copy.
+    #[tactic(auto, using(crate::proofs::Renamed::assignment_copied))]
+    pub fn try_clone(&self, alloc: Global) -> Result<Assign<VarId>, NoMemory>
+        ensures { IfOk result (λ a. assignment_of a ≡ assignment_of self.now) }
+    {
+        self.renamed(alloc, &Unrenamed)
+    }
+}
+
+/// Copies of names.
+pub fn copied_names(alloc: Global, names: &[Name]) -> Result<Vec<Name>, NoMemory>
+    ensures { IfOk result (λ out. out.items ≡ names.now) }
+{
+    let mut out = Vec::new(alloc);
+    for name in names {
+        out.push(name.try_clone(alloc)?)?;
+    }
+    Ok(out)
+}
+
+impl Decl {
+    /// A copy.
+    pub fn try_clone(&self, alloc: Global) -> Result<Decl, NoMemory>
+        ensures { IfOk result (λ d. declaration_of d ≡ declaration_of self.now) }
+    {
+        Ok(Decl {
+            line: self.line,
+            role: self.role,
+            sort: self.sort,
+            names: copied_names(alloc, &self.names)?,
+        })
+    }
+}

@@ -1,0 +1,33 @@
+//! Memory, which may be refused.
+
+ghost use Rattle.std.specs.Prelude.{◌≡◌, IfOk};
+
+use crate::name::NoMemory;
+use std::alloc::{AllocError, AllocFailed, Global};
+
+impl From<AllocError> for NoMemory {
+    fn from(_refused: AllocError) -> NoMemory {
+        NoMemory
+    }
+}
+
+impl<T: Drop> From<AllocFailed<T>> for NoMemory {
+    fn from(_refused: AllocFailed<T>) -> NoMemory {
+        NoMemory
+    }
+}
+
+/// The value in a box.
+pub fn boxed<T: Drop>(alloc: Global, value: T) -> Result<Box<T>, NoMemory>
+    ensures { IfOk result (λ b. b.value ≡ value) }
+{
+    Ok(Box::new(alloc, value)?)
+}
+
+/// Two values, each in a box of its own.
+pub fn both_boxed<T: Drop>(alloc: Global, a: T, b: T) -> Result<(Box<T>, Box<T>), NoMemory>
+    ensures left { IfOk result (λ p. p.0.value ≡ a) }
+    ensures right { IfOk result (λ p. p.1.value ≡ b) }
+{
+    Ok((boxed(alloc, a)?, boxed(alloc, b)?))
+}

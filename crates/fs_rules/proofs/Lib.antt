@@ -1,0 +1,9 @@
+pub mod Turns
+pub mod Results
+pub mod Firsts
+pub mod Naming
+pub mod Lines
+pub mod Uses
+pub mod Noted
+pub mod Walks
+pub mod Rounds

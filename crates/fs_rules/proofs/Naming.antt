@@ -1,0 +1,46 @@
+-- Names that parts declare, and what is noted of them.
+use Rattle.std.proofs.Common.{◌≡◌, ℕ, List, [], ◌∷◌, ◌++◌, length, refl, sym, ◌∙◌, ap, ap₂, append_assoc}
+use Rattle.std.specs.Prelude.{Option, map, nat_lt}
+use Rattle.fs_model.specs.declared.parts.VarInfo.{VarInfo}
+use Rattle.fs_model.specs.Source.{Declaration, SourceState, Source}
+use Rattle.fs_rules.specs.declared.check.CheckFault.{CheckFault}
+use Rattle.fs_rules.specs.Spelled.{declared_by, variables_of, names_of, state_names, place}
+use Rattle.fs_rules.specs.Rules.{declared_names, declared_states}
+use Rattle.fs_rules.specs.Earliest.{earliest}
+use Rattle.fs_rules.specs.Places.{names_in}
+use Rattle.fs_rules.specs.Scoped.{IsScopeOf}
+use Rattle.fs_rules.proofs.Turns.{map_map, length_mapped, map_joined}
+use Rattle.fs_rules.proofs.Firsts.{earliest-append, earliest_three}
+
+names_by : (d : Declaration) → names_in (map (λ n. (d.line, n)) d.names) ≡ names_of (declared_by d)
+names_by d = map_map (λ e. e.1) (λ n. (d.line, n)) d.names ∙ sym (map_map (λ v. v.name) (λ n. record { name = n; role = d.role; sort = d.sort }) d.names)
+
+pub names_declared : (ds : List Declaration) → names_in (declared_names ds) ≡ names_of (variables_of ds)
+names_declared [] = refl
+names_declared (d ∷ ds) =
+    map_joined (λ e. e.1) (map (λ n. (d.line, n)) d.names) (declared_names ds)
+    ∙ ap₂ (λ (a b : List (List ℕ)). a ++ b) (names_by d) (names_declared ds)
+    ∙ sym (map_joined (λ v. v.name) (declared_by d) (variables_of ds))
+
+pub names_stated : (ss : List SourceState) → names_in (declared_states ss) ≡ state_names ss
+names_stated ss = map_map (λ e. e.1) (λ s. (s.line, s.name)) ss
+
+pub names_noted : (known one two three four : Option CheckFault) (a b c d : List CheckFault) → one ≡ earliest known a → two ≡ earliest one b → three ≡ earliest two c → four ≡ earliest three d → four ≡ earliest known (a ++ (b ++ (c ++ d)))
+names_noted known one two three four a b c d e f g h =
+    h ∙ ap (λ k. earliest k d) (g ∙ ap (λ k. earliest k c) (f ∙ ap (λ k. earliest k b) e))
+    ∙ earliest_three (earliest known a) b c d ∙ sym (earliest-append known a (b ++ (c ++ d)))
+
+all_joined : (a b c d r s : List CheckFault) → (a ++ (b ++ (c ++ d))) ++ (r ++ s) ≡ a ++ (b ++ (c ++ (d ++ (r ++ s))))
+all_joined a b c d r s = simp append_assoc
+
+pub plain_noted : (known one two three : Option CheckFault) (a b c d r s : List CheckFault) → one ≡ earliest known (a ++ (b ++ (c ++ d))) → two ≡ earliest one r → three ≡ earliest two s
+    → three ≡ earliest known (a ++ (b ++ (c ++ (d ++ (r ++ s)))))
+plain_noted known one two three a b c d r s e f g =
+    g ∙ ap (λ k. earliest k s) (f ∙ ap (λ k. earliest k r) e) ∙ earliest_three known (a ++ (b ++ (c ++ d))) r s ∙ ap (earliest known) (all_joined a b c d r s)
+
+pub names_of_states : (p : Source) (vars : List VarInfo) (states : List (ℕ × List ℕ)) → IsScopeOf p vars states → names_in states ≡ state_names p.states
+names_of_states p vars states s = ap names_in s.stated ∙ names_stated p.states
+
+pub reset_known : (p : Source) (vars : List VarInfo) (states : List (ℕ × List ℕ)) → IsScopeOf p vars states → nat_lt (place (names_in states) p.reset) (length (names_in states)) ≡ nat_lt (place (state_names p.states) p.reset) (length p.states)
+reset_known p vars states s =
+    ap (λ ns. nat_lt (place ns p.reset) (length ns)) (names_of_states p vars states s) ∙ ap (nat_lt (place (state_names p.states) p.reset)) (length_mapped (λ x. x.name) p.states)

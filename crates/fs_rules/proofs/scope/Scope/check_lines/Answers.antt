@@ -1,0 +1,15 @@
+use Rattle.std.proofs.Common.{length}
+use Rattle.fs_model.specs.View.{source_transition_of}
+use Rattle.fs_rules.specs.Spelled.{names_of, line_spelled}
+use Rattle.fs_rules.specs.Rules.{line_faults}
+use Rattle.fs_rules.specs.Earliest.{earliest}
+use Rattle.fs_rules.specs.Places.{names_in}
+use Rattle.fs_rules.proofs.Firsts.{earliest-append}
+use Rattle.fs_rules.proofs.Turns.{left_flat}
+use Rattle.fs_rules.proofs.scope.Scope.check_lines.Goals as goal
+
+pub loop-line-preserved : goal.loop-line-preserved
+loop-line-preserved c =
+    let vs = c.args.self.now.vars.items in
+    let ss = names_in c.args.self.now.states in
+    left_flat earliest earliest-append source_transition_of (λ l. line_faults vs (length ss) l.line (line_spelled (names_of vs) ss l)) c.args.lines.now c.loop-line.line-index c.line-item.result c.loop-line-test.true c.line-item.is _ _ _ c.in_ok-check_line.ensures c.loop-line.invariant

@@ -1,0 +1,12 @@
+use Rattle.std.proofs.Common.{◌≡◌, drop}
+use Rattle.std.specs.Prelude.{map}
+use Rattle.fs_model.specs.View.{source_transition_of}
+use Rattle.fs_rules.specs.Rules.{lines_faults}
+use Rattle.fs_rules.specs.Earliest.{earliest}
+use Rattle.fs_rules.specs.Places.{names_in}
+use Rattle.fs_rules.proofs.scope.Scope.check_lines.Given as goal
+
+abbrev pub invariant-loop-line : goal.invariant-loop-line
+invariant-loop-line l =
+    earliest l.faults.first (lines_faults l.self.vars.items (names_in l.self.states) (map source_transition_of (drop l.line-index l.lines)))
+    ≡ earliest l.initial.faults.first (lines_faults l.self.vars.items (names_in l.self.states) (map source_transition_of l.lines))

@@ -1,0 +1,154 @@
+-- The rules that the parts of a machine keep, and the line at which each is broken.
+use Rattle.std.specs.Prelude.{◌≡◌, ℕ, zero, suc, ◌<◌, ◌==◌, nat_lt, Bool, true, false, not, ◌&&◌, ◌||◌, cond, ◌⊎◌, Contains, List, [], ◌∷◌, ◌++◌, length, take, drop, map, Some, is_some, slice_get}
+use Rattle.std.specs.List.{list_all, list_any, flat_map}
+use Rattle.std.specs.Str.{bytes_eq}
+use Rattle.fs_model.specs.declared.parts.VarInfo.{VarInfo}
+use Rattle.fs_model.specs.Terms.{Transition}
+use Rattle.fs_model.specs.Source.{Declaration, SourceTransition, SourceState, Source}
+use Rattle.fs_model.specs.Machines.{Fsmd, transitions_of}
+use Rattle.fs_model.specs.Trees.{tree_of_transitions, count_leaves}
+use Rattle.fs_rules.specs.declared.check.CheckRule.{CheckRule}
+use Rattle.fs_rules.specs.declared.check.CheckRule.TheVariants.{TwiceNamed, UnknownName, WrongSort, AssignInput, AssignedTwice, NoElse, AfterElse, TooManyBranches, EndlessLine, UnknownState, TooMany, TooManyEmits}
+use Rattle.fs_rules.specs.declared.check.CheckFault.{CheckFault}
+use Rattle.fs_rules.specs.Spelled.{variables_of, names_of, state_names, place, line_spelled, machine_of}
+use Rattle.fs_model.specs.Limits.{most_variables, most_states, most_branches, most_emits}
+use Rattle.fs_model.specs.Runs.{is_scalar, is_array, is_port}
+use Rattle.fs_rules.specs.Sound.{other_sort_at, input_at, all_differ, assigned_in, changed_by, scalars_in_condition, arrays_in_condition, scalars_in_assignments, arrays_in_assignments, ports_in_assignments, emit_count, is_cutpoint, first_transition_target}
+
+-- a rule at each of these lines
+abbrev pub at_lines : CheckRule → List ℕ → List CheckFault
+at_lines rule lines = map (λ n. record { rule = rule; line = n }) lines
+
+-- a rule at a line, where it is broken
+abbrev pub broken_where : Bool → CheckRule → ℕ → List CheckFault
+broken_where broken rule n = cond broken (record { rule = rule; line = n } ∷ []) []
+
+-- the names declared, each with the line of its declaration
+abbrev pub declared_names : List Declaration → List (ℕ × List ℕ)
+declared_names ds = flat_map (λ d. map (λ n. (d.line, n)) d.names) ds
+
+abbrev pub declared_states : List SourceState → List (ℕ × List ℕ)
+declared_states ss = map (λ s. (s.line, s.name)) ss
+
+-- the lines at which a name stands that stood before
+abbrev pub repeated : List (List ℕ) → List (ℕ × List ℕ) → List ℕ
+repeated before [] = []
+repeated before (n ∷ ns) = cond (list_any (λ m. bytes_eq m n.1) before) (n.0 ∷ repeated (n.1 ∷ before) ns) (repeated (n.1 ∷ before) ns)
+
+-- the line of the first that is past a limit
+abbrev pub past : ℕ → List (ℕ × List ℕ) → List ℕ
+past most ns = map (λ n. n.0) (take 1 (drop most ns))
+
+-- uses of variables, each either declared or not, and each of the sort wanted or not
+abbrev pub is_known : List VarInfo → ℕ → Bool
+is_known vs x = nat_lt x (length vs)
+
+abbrev pub uses_unknown : List VarInfo → Transition ℕ ℕ → Bool
+uses_unknown vs l =
+    not (list_all (is_known vs) (scalars_in_condition l.guard ++ scalars_in_assignments l.assignments)
+    && (list_all (is_known vs) (arrays_in_condition l.guard ++ arrays_in_assignments l.assignments) && list_all (is_known vs) (ports_in_assignments l.assignments)))
+
+abbrev pub uses_wrong_sort : List VarInfo → Transition ℕ ℕ → Bool
+uses_wrong_sort vs l =
+    list_any (other_sort_at is_scalar vs) (scalars_in_condition l.guard ++ scalars_in_assignments l.assignments)
+    || (list_any (other_sort_at is_array vs) (arrays_in_condition l.guard ++ arrays_in_assignments l.assignments) || list_any (other_sort_at is_port vs) (ports_in_assignments l.assignments))
+
+abbrev pub changes_input : List VarInfo → Transition ℕ ℕ → Bool
+changes_input vs l = list_any (λ a. input_at vs (changed_by a)) l.assignments
+
+-- the rules of one transition, of which n is the line
+abbrev pub line_faults : List VarInfo → ℕ → ℕ → Transition ℕ ℕ → List CheckFault
+line_faults vs count n l =
+    broken_where (uses_unknown vs l) UnknownName n ++ (broken_where (uses_wrong_sort vs l) WrongSort n ++ (broken_where (changes_input vs l) AssignInput n
+    ++ (broken_where (not (all_differ (assigned_in l.assignments))) AssignedTwice n ++ (broken_where (not (nat_lt l.target count)) UnknownState n
+    ++ broken_where (nat_lt most_emits (emit_count l.assignments)) TooManyEmits n))))
+
+-- no transition is there, or the last has a guard
+abbrev pub lacks_else : List SourceTransition → Bool
+lacks_else [] = true
+lacks_else (l ∷ []) = is_some l.content.guard
+lacks_else (l ∷ k ∷ rest) = lacks_else (k ∷ rest)
+
+-- the lines of the transitions after one without guard
+abbrev pub after_else : Bool → List SourceTransition → List ℕ
+after_else seen [] = []
+after_else seen (l ∷ ls) = cond seen (l.line ∷ after_else true ls) (after_else (not (is_some l.content.guard)) ls)
+
+abbrev pub lines_faults : List VarInfo → List (List ℕ) → List SourceTransition → List CheckFault
+lines_faults vs ss ls = flat_map (λ l. line_faults vs (length ss) l.line (line_spelled (names_of vs) ss l)) ls
+
+abbrev pub state_faults : List VarInfo → List (List ℕ) → SourceState → List CheckFault
+state_faults vs ss s = broken_where (lacks_else s.lines) NoElse s.line ++ (at_lines AfterElse (after_else false s.lines) ++ lines_faults vs ss s.lines)
+
+-- the broken rules, those on branches and on endless lines left out
+abbrev pub plain_faults : Source → List CheckFault
+plain_faults p =
+    at_lines TwiceNamed (repeated [] (declared_names p.declarations)) ++ (at_lines TooMany (past most_variables (declared_names p.declarations))
+    ++ (at_lines TwiceNamed (repeated [] (declared_states p.states)) ++ (at_lines TooMany (past most_states (declared_states p.states))
+    ++ (broken_where (not (nat_lt (place (state_names p.states) p.reset) (length p.states))) UnknownState p.reset_line
+    ++ flat_map (state_faults (variables_of p.declarations) (state_names p.states)) p.states))))
+
+-- whether the tree of a state's transitions has too many leaves
+abbrev pub branches_too_often : List (List ℕ) → List (List ℕ) → SourceState → Bool
+branches_too_often vs ss s = nat_lt most_branches (count_leaves (tree_of_transitions (map (line_spelled vs ss) s.lines)))
+
+abbrev pub branch_faults : Source → List CheckFault
+branch_faults p = flat_map (λ s. broken_where (branches_too_often (names_of (variables_of p.declarations)) (state_names p.states) s) TooManyBranches s.line) p.states
+
+-- the state that n steps by first transitions lead to
+abbrev pub after_steps : Fsmd → ℕ → ℕ → ℕ
+after_steps m zero q = q
+after_steps m (suc n) q = after_steps m n (first_transition_target (transitions_of m q))
+
+-- going on from a state comes back to it and passes no cutpoint
+pub record IsEndless (m : Fsmd) (q : ℕ) : Type 0 where
+  pub steps : ℕ
+  pub some : 0 < steps
+  pub back : after_steps m steps q ≡ q
+  pub uncut : (k : ℕ) → is_cutpoint m (after_steps m k q) ≡ false
+
+-- a state of the text on an endless line, and its line
+pub record EndlessAt (p : Source) (n : ℕ) : Type 0 where
+  pub place : ℕ
+  pub state : SourceState
+  pub is_there : slice_get p.states place ≡ Some state
+  pub line : n ≡ state.line
+  pub endless : IsEndless (machine_of p) place
+
+-- the rules on branches and on endless lines, which are looked at where all others are kept
+abbrev pub BrokenLate : Source → CheckFault → Type 0
+BrokenLate p f = Contains (branch_faults p) f ⊎ ((f.rule ≡ EndlessLine) × EndlessAt p f.line)
+
+-- a rule that is broken at a line
+abbrev pub Broken : Source → CheckFault → Type 0
+Broken p f = Contains (plain_faults p) f ⊎ ((plain_faults p ≡ []) × BrokenLate p f)
+
+-- the place of a rule in the order of rules
+abbrev pub rank : CheckRule → ℕ
+rank TwiceNamed = 1
+rank UnknownName = 2
+rank WrongSort = 3
+rank AssignInput = 4
+rank AssignedTwice = 5
+rank NoElse = 6
+rank AfterElse = 7
+rank TooManyBranches = 8
+rank EndlessLine = 9
+rank UnknownState = 10
+rank TooMany = 11
+rank TooManyEmits = 12
+
+-- the lesser line comes first, and of one line the lesser rule
+abbrev pub is_sooner : CheckFault → CheckFault → Bool
+is_sooner f g = nat_lt f.line g.line || (f.line == g.line && nat_lt (rank f.rule) (rank g.rule))
+
+-- the broken rule that is answered
+pub record IsFirstBroken (p : Source) (f : CheckFault) : Type 0 where
+  pub broken : Broken p f
+  pub first : (g : CheckFault) → Broken p g → is_sooner g f ≡ false
+
+-- no rule is broken
+pub record IsLawful (p : Source) : Type 0 where
+  pub plain : plain_faults p ≡ []
+  pub branches : branch_faults p ≡ []
+  pub ends : (n : ℕ) → EndlessAt p n → ⊥

@@ -1,0 +1,67 @@
+-- A run of a machine on inputs has one outcome.
+use Rattle.std.proofs.Common.{◌≡◌, ℕ, zero, suc, ◌-◌, ◌<◌, ◌≤◌, List, sym, ◌∙◌, ap, subst, arith}
+use Rattle.fs_model.specs.Machines.{Fsmd}
+use Rattle.fs_model.specs.Stores.{Store}
+use Rattle.fs_model.specs.Runs.{Inputs, AfterStep, ReachesReset, FirstReturn, start, output}
+use Rattle.fs_model.specs.Touched.{StaysInRange}
+use Rattle.fs_model.proofs.Determined.{same_state, same_store, goes_once}
+use Rattle.fs_runs.specs.declared.run.RunStop.{RunStop}
+use Rattle.fs_runs.specs.declared.run.RunStop.TheVariants.{StepsOver, PastWide, NoMemory}
+use Rattle.fs_runs.specs.Outcomes.{EndsWith, RunsOn, LeavesRange, IsStopped, IsOfRun}
+use Rattle.fs_runs.specs.Laws.{OneEnd, OneStop, EndOrStop}
+
+-- fewer steps stay in range too
+pub stays_less : (m : Fsmd) (k n q : ℕ) (s : Store) → k ≤ n → StaysInRange m n q s → StaysInRange m k q s
+stays_less m zero n q s le x = tt
+stays_less m (suc k) zero q s le x = absurd (omega arith)
+stays_less m (suc k) (suc n) q s le x = (x.0, λ r t st ne. stays_less m k n r t (omega arith) (x.1 r t st ne))
+
+-- behind the return nothing is touched
+pub after_on : (m : Fsmd) (k n q : ℕ) (s t : Store) → AfterStep m q s (λ r u. ReachesReset m n r u t) → StaysInRange m (suc n) q s → StaysInRange m k q s
+after_on m zero n q s t a x = tt
+after_on m (suc k) zero q s t a x = (x.0, λ r u st ne. absurd (ne (same_state m q s r a.state u a.store st a.step ∙ a.after.0)))
+after_on m (suc k) (suc n) q s t a x = (
+  x.0,
+  λ r u st ne.
+      let e : a.state ≡ r = same_state m q s a.state r a.store u a.step st in
+      let f : a.store ≡ u = same_store m q s a.state r a.store u a.step st in
+      after_on m k n r u t (subst (λ z. AfterStep m r z (λ w v. ReachesReset m n w v t)) f (subst (λ z. AfterStep m z a.store (λ w v. ReachesReset m n w v t)) e a.after.1)) (x.1 r u st ne),
+)
+
+pub goes_on : (m : Fsmd) (k n q : ℕ) (s t : Store) → FirstReturn m n q s t → StaysInRange m n q s → StaysInRange m k q s
+goes_on m k zero q s t goes x = absurd goes
+goes_on m k (suc n) q s t goes x = after_on m k n q s t goes x
+
+-- a run that ends is not stopped
+pub end_or_stop : EndOrStop
+end_or_stop m ins limit o n (StepsOver k) a b told = b.1.no_return n a.run.end a.within a.run.goes
+end_or_stop m ins limit o n (PastWide k) a b told = b.here (goes_on m k n m.reset (start m ins) a.run.end a.run.goes a.in_range)
+end_or_stop m ins limit o n NoMemory a b told = told
+
+-- the first step that leaves the range is one
+not_before : (m : Fsmd) (ins : Inputs) (limit j k : ℕ) → LeavesRange m ins limit j → LeavesRange m ins limit k → j < k → ⊥
+not_before m ins limit j k a b less = a.here (stays_less m j (k - 1) m.reset (start m ins) (omega arith) b.before)
+
+one_step : (m : Fsmd) (ins : Inputs) (limit j k : ℕ) → LeavesRange m ins limit j → LeavesRange m ins limit k → j ≡ k
+one_step m ins limit j k a b =
+    let here : j < k → ⊥ = not_before m ins limit j k a b in
+    let there : k < j → ⊥ = not_before m ins limit k j b a in
+    omega arith
+
+runs_on_stays : (m : Fsmd) (ins : Inputs) (limit k : ℕ) → RunsOn m ins limit → LeavesRange m ins limit k → ⊥
+runs_on_stays m ins limit k a b = b.here (stays_less m k limit m.reset (start m ins) b.within a.in_range)
+
+pub one_stop : OneStop
+one_stop m ins limit (StepsOver n) (StepsOver k) a b p q = ap StepsOver (a.0 ∙ sym b.0)
+one_stop m ins limit (StepsOver n) (PastWide k) a b p q = absurd (runs_on_stays m ins limit k a.1 b)
+one_stop m ins limit (StepsOver n) NoMemory a b p q = absurd q
+one_stop m ins limit (PastWide n) (StepsOver k) a b p q = absurd (runs_on_stays m ins limit n b.1 a)
+one_stop m ins limit (PastWide n) (PastWide k) a b p q = ap PastWide (one_step m ins limit n k a b)
+one_stop m ins limit (PastWide n) NoMemory a b p q = absurd q
+one_stop m ins limit NoMemory y a b p q = absurd p
+
+pub one_end : OneEnd
+one_end m ins limit o p n k a b =
+    let same = goes_once m m.reset (start m ins) a.run.end b.run.end n k a.run.goes b.run.goes in
+    let each : (name : List ℕ) → o name ≡ p name = λ name. sym (a.run.gives name) ∙ ap (λ s. output m s name) same.1 ∙ b.run.gives name in
+    ((λ j name. each name j), same.0)

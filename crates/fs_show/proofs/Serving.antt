@@ -1,0 +1,120 @@
+-- Inputs made for a machine serve another with the same inputs and outputs.
+use Rattle.std.proofs.Common.{◌≡◌, ◌≢◌, ℕ, zero, suc, Bool, true, false, cond, List, [], ◌∷◌, Option, refl, sym, ◌∙◌, ap, subst}
+use Rattle.std.specs.Prelude.{Some, None, is_some, map, ◌&&◌, not, slice_get}
+use Rattle.std.specs.List.{filter}
+use Rattle.std.specs.Option.{option_or}
+use Rattle.std.specs.Str.{bytes_eq}
+use Rattle.std.proofs.lemmas.Bool.{false≢true}
+use Rattle.fs_model.specs.declared.parts.Role.{Role}
+use Rattle.fs_model.specs.declared.parts.Role.TheVariants.{Input, Output, Local}
+use Rattle.fs_model.specs.declared.parts.Sort.{Sort}
+use Rattle.fs_model.specs.declared.parts.Sort.TheVariants.{Scalar, Array, Port}
+use Rattle.fs_model.specs.declared.parts.VarInfo.{VarInfo}
+use Rattle.fs_model.specs.Machines.{Fsmd}
+use Rattle.fs_model.specs.Runs.{is_input}
+use Rattle.fs_pair.specs.Faces.{is_face, same_role, same_sort, named, is_like, lacks_match, first_unmatched, interface_fault}
+use Rattle.fs_runs.specs.InputValues.{input_signatures, sort_named}
+use Rattle.fs_show.specs.Laws.{InputsServeBoth}
+
+some_differs : {X : Type 0} (x : X) → Some x ≢ None
+some_differs x e = false≢true (sym (ap is_some e))
+
+second_none : (x y : Option (List ℕ)) → option_or x y ≡ None → y ≡ None
+second_none None y h = h
+second_none (Some z) y h = absurd (some_differs z h)
+
+-- each variable has its match
+
+matched_step : (us others : List VarInfo) (u v : VarInfo) (b : Bool) → lacks_match others u ≡ b → cond b (Some u.name) (first_unmatched us others) ≡ None → u ≡ v → lacks_match others v ≡ false
+matched_step us others u v true e none same = absurd (some_differs u.name none)
+matched_step us others u v false e none same = subst (λ w. lacks_match others w ≡ false) same e
+
+rest_none : (us others : List VarInfo) (u : VarInfo) (b : Bool) → cond b (Some u.name) (first_unmatched us others) ≡ None → first_unmatched us others ≡ None
+rest_none us others u true none = absurd (some_differs u.name none)
+rest_none us others u false none = none
+
+matched : (vs others : List VarInfo) → first_unmatched vs others ≡ None → (k : ℕ) (v : VarInfo) → slice_get vs k ≡ Some v → lacks_match others v ≡ false
+matched [] others none k v e = absurd (some_differs v (sym e))
+matched (u ∷ us) others none zero v e = matched_step us others u v (lacks_match others u) refl none (cc e)
+matched (u ∷ us) others none (suc k) v e = matched us others (rest_none us others u (lacks_match others u) none) k v e
+
+-- the match of an input is an input of the same sort
+
+sorts_same : (s t : Sort) → same_sort s t ≡ true → s ≡ t
+sorts_same Scalar Scalar h = refl
+sorts_same Scalar Array h = absurd (false≢true h)
+sorts_same Array Scalar h = absurd (false≢true h)
+sorts_same Array Array h = refl
+sorts_same Scalar Port h = absurd (false≢true h)
+sorts_same Array Port h = absurd (false≢true h)
+sorts_same Port Scalar h = absurd (false≢true h)
+sorts_same Port Array h = absurd (false≢true h)
+sorts_same Port Port h = refl
+
+input_face : (r : Role) → is_input r ≡ true → is_face r ≡ true
+input_face Input h = refl
+input_face Output h = absurd (false≢true h)
+input_face Local h = absurd (false≢true h)
+
+input_like : (r q : Role) → is_input r ≡ true → same_role r q ≡ true → is_input q ≡ true
+input_like Input Input h s = refl
+input_like Input Output h s = absurd (false≢true s)
+input_like Input Local h s = absurd (false≢true s)
+input_like Output q h s = absurd (false≢true h)
+input_like Local q h s = absurd (false≢true h)
+
+turned : (b : Bool) → not b ≡ false → b ≡ true
+turned true h = refl
+turned false h = sym h
+
+first_of : (a b : Bool) → (a && b) ≡ true → a ≡ true
+first_of true b h = refl
+first_of false b h = h
+
+second_of : (a b : Bool) → (a && b) ≡ true → b ≡ true
+second_of true b h = h
+second_of false b h = absurd (false≢true h)
+
+record Partner (v : VarInfo) (o : Option VarInfo) : Type 0 where
+  variable : VarInfo
+  found : o ≡ Some variable
+  input : is_input variable.role ≡ true
+  sort : variable.sort ≡ v.sort
+
+partner : (v : VarInfo) (o : Option VarInfo) → is_input v.role ≡ true → (is_face v.role && not (is_like v o)) ≡ false → Partner v o
+partner v None inp match = absurd (false≢true (sym (subst (λ b. (b && true) ≡ false) (input_face v.role inp) match)))
+partner v (Some u) inp match =
+    let like : (same_role v.role u.role && same_sort v.sort u.sort) ≡ true =
+    turned (same_role v.role u.role && same_sort v.sort u.sort) (subst (λ b. (b && not (same_role v.role u.role && same_sort v.sort u.sort)) ≡ false) (input_face v.role inp) match) in
+    record {
+      variable = u;
+      found = refl;
+      input = input_like v.role u.role inp (first_of (same_role v.role u.role) (same_sort v.sort u.sort) like);
+      sort = sym (sorts_same v.sort u.sort (second_of (same_role v.role u.role) (same_sort v.sort u.sort) like));
+    }
+
+-- and stands among the signatures of the inputs
+
+signature_found : (vs : List VarInfo) (name : List ℕ) (u : VarInfo) → named vs name ≡ Some u → is_input u.role ≡ true → sort_named (input_signatures vs) name ≡ Some u.sort
+signature_found [] name u is inp = absurd (some_differs u (sym is))
+signature_found (w ∷ ws) name u is inp =
+    elim (bytes_eq w.name name) as (λ b. bytes_eq w.name name ≡ b → cond b (Some w) (named ws name) ≡ Some u → sort_named (input_signatures (w ∷ ws)) name ≡ Some u.sort) [
+      | true ↦ λ here q.
+          let same : w ≡ u = cc q in
+          let first : is_input w.role ≡ true = ap (λ (v : VarInfo). is_input v.role) same ∙ inp in
+          let signatures : input_signatures (w ∷ ws) ≡ (w.name, w.sort) ∷ input_signatures ws = rw first refl in
+          let head : sort_named ((w.name, w.sort) ∷ input_signatures ws) name ≡ Some w.sort = rw here refl in
+          ap (λ fs. sort_named fs name) signatures ∙ head ∙ ap (λ (v : VarInfo). Some v.sort) same
+      | false ↦ λ away q.
+          let rest : sort_named (input_signatures ws) name ≡ Some u.sort = signature_found ws name u q inp in
+          elim (is_input w.role) as (λ r. sort_named (map (λ (v : VarInfo). (v.name, v.sort)) (cond r (w ∷ filter (λ v. is_input v.role) ws) (filter (λ v. is_input v.role) ws))) name ≡ Some u.sort) [
+            | true ↦ rw away rest
+            | false ↦ rest
+          ]
+    ] refl is
+
+pub serves_both : InputsServeBoth
+serves_both a b signatures alike e k v is inp =
+    let none = second_none (first_unmatched a.variables b.variables) (first_unmatched b.variables a.variables) alike in
+    let p = partner v (named a.variables v.name) inp (matched b.variables a.variables none k v is) in
+    subst (λ l. sort_named l v.name ≡ Some v.sort) (sym e) (signature_found a.variables v.name p.variable p.found p.input ∙ ap Some p.sort)

@@ -1,0 +1,47 @@
+//! Lists that grow by copies.
+
+ghost use Rattle.std.specs.Prelude.{◌≡◌, ◌++◌, ◌∷◌, [], map, OnOk};
+ghost use Rattle.nf_terms.specs.View.{atom_in, monomial_in, term_in};
+
+use crate::stop::NoMemory;
+use crate::tree::{Atom, MonoTree};
+use std::alloc::Global;
+
+/// Adds an atom. The one refusal is out of memory.
+pub fn push_atom(out: &mut Vec<Atom>, atom: Atom) -> Result<(), NoMemory>
+    ensures { OnOk result (map atom_in out.new.items ≡ map atom_in out.old.items ++ atom_in atom ∷ []) }
+{
+    out.push(atom)?;
+    Ok(())
+}
+
+/// Adds a copy of an atom. The one refusal is out of memory.
+pub fn push_atom_copy(alloc: Global, out: &mut Vec<Atom>, atom: &Atom) -> Result<(), NoMemory>
+    ensures { OnOk result (map atom_in out.new.items ≡ map atom_in out.old.items ++ atom_in atom.now ∷ []) }
+{
+    push_atom(out, atom.try_clone(alloc)?)
+}
+
+/// Adds a monomial with its coefficient. The one refusal is out of memory.
+pub fn push_term(
+    out: &mut Vec<(MonoTree, i128)>,
+    mono: MonoTree,
+    coefficient: &i128,
+) -> Result<(), NoMemory>
+    ensures { OnOk result (map term_in out.new.items ≡ map term_in out.old.items ++ (monomial_in mono, coefficient.now) ∷ []) }
+{
+    out.push((mono, *coefficient))?;
+    Ok(())
+}
+
+/// Adds a copy of a monomial with its coefficient. The one refusal is out of memory.
+pub fn push_term_copy(
+    alloc: Global,
+    out: &mut Vec<(MonoTree, i128)>,
+    mono: &MonoTree,
+    coefficient: &i128,
+) -> Result<(), NoMemory>
+    ensures { OnOk result (map term_in out.new.items ≡ map term_in out.old.items ++ (monomial_in mono.now, coefficient.now) ∷ []) }
+{
+    push_term(out, mono.try_clone(alloc)?, coefficient)
+}
