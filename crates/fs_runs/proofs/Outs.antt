@@ -2,6 +2,7 @@
 use Rattle.std.proofs.Common.{◌≡◌, get_or, ℕ, zero, suc, ◌+◌, ◌<◌, ◌≤◌, length, drop, Bool, true, false, cond, List, [], ◌∷◌, ◌++◌, refl, sym, ◌∙◌, ap, ap₂, subst, append_assoc, append-nil, arith}
 use Rattle.std.specs.Prelude.{◌&&◌, Option, Some, None, IsSome, map, filter, slice_get}
 use Rattle.std.specs.List.{AllByRecursion}
+use Rattle.std.proofs.lemmas.List.{length-map}
 use Rattle.std.proofs.lemmas.Slice.Eq.{bytes_eq-Decides}
 use Rattle.std.specs.Str.{bytes_eq}
 use Rattle.fs_model.specs.declared.parts.Sort.{Sort}
@@ -78,6 +79,10 @@ outs_done vars vs k done h e = sym (append-nil done) ∙ sym (ap (λ l. done ++ 
 count_one : (b : Bool) (v : VarInfo) (vars : List VarInfo) (c : Content) (cs : List Content) → length cs ≡ length (map (λ (u : VarInfo). u.name) vars) → length (cond b (c ∷ cs) cs) ≡ length (map (λ (u : VarInfo). u.name) (cond b (v ∷ vars) vars))
 count_one true v vars c cs e = ap suc e
 count_one false v vars c cs e = e
+
+-- as many values as variables
+pub as_long : (vars : List VarInfo) (vs : List Value) → map sort_of vs ≡ map (λ v. v.sort) vars → length vs ≡ length vars
+as_long vars vs e = sym (length-map vs sort_of) ∙ ap length e ∙ length-map vars (λ v. v.sort)
 
 -- as many values as outputs
 pub outs_count : (vars : List VarInfo) (vs : List Value) → map sort_of vs ≡ map (λ v. v.sort) vars → length (outs_of vars vs) ≡ length (output_names vars)

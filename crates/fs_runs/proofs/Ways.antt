@@ -1,7 +1,6 @@
 -- The numbers that are touched where branches are tried in order are those of the way that is taken.
 use Rattle.std.proofs.Common.{◌≡◌, ℕ, Bool, true, false, cond, List, [], ◌∷◌, ◌++◌, refl, sym, ◌∙◌, ap, ap₂, subst, append-nil, append_assoc, arith}
 use Rattle.std.specs.Prelude.{not, ◌&&◌, ◌||◌, is_none, is_some, ℤ, Option, Some, None, option_map, map, filter, FitsSigned}
-use Rattle.std.specs.List.{list_all}
 use Rattle.std.proofs.lemmas.List.Folds.{list_all-append}
 use Rattle.fs_model.specs.declared.parts.Rel.{Rel}
 use Rattle.fs_model.specs.declared.parts.Rel.TheVariants.{Eq, Ne, Lt, Le, Gt, Ge}
@@ -9,14 +8,11 @@ use Rattle.fs_model.specs.Terms.{Term, Number, Variable, Read, Sum, Difference, 
 use Rattle.fs_model.specs.Stores.{Store}
 use Rattle.fs_model.specs.Meaning.{value, relates, literal_holds, holds, condition_holds, transition_taken}
 use Rattle.fs_model.specs.Touched.{touched_by_term, touched_by_guard, touched_by_condition, touched_by_assignments, touched_by_transitions, AllInRange}
-use Rattle.fs_model.specs.Trees.{Tree, Empty, Leaf, Node, tree_of_guard, tree_of_condition, tree_of_transitions, opposite, negated, Branch, leaves, branches_of}
+use Rattle.fs_model.specs.Trees.{Tree, Empty, Leaf, Node, tree_of_guard, tree_of_condition, tree_of_transitions, opposite, negated, Branch, leaves, branches_of, literals_hold}
+use Rattle.fs_model.proofs.Leaves.{opposite_holds}
 use Rattle.fs_ast.specs.Sound.{ends_open, is_open}
 use Rattle.fs_ast.specs.Open.{TakesOneBranch}
 use Rattle.fs_runs.specs.Reads.{EachFits, LiteralFits, touched_by_literal, touched_by_way, touched_by_branches, taken_branch, Both}
-
--- whether all literals of a way hold
-abbrev pub way_holds : List (Literal ℕ) → Store → Bool
-way_holds way s = list_all (λ l. literal_holds l s) way
 
 -- lists of numbers in range
 
@@ -63,22 +59,6 @@ pub fits_literal : (l : Literal ℕ) (s : Store) → LiteralFits l s → AllInRa
 fits_literal l s p = both_parts _ _ (fits_touched l.left s p.0) (fits_touched l.right s p.1)
 
 -- a tree
-
-not_not : (b : Bool) → b ≡ not (not b)
-not_not true = refl
-not_not false = refl
-
-opposite_relates : (r : Rel) (a b : ℤ) → relates (opposite r) a b ≡ not (relates r a b)
-opposite_relates Eq a b = refl
-opposite_relates Ne a b = not_not _
-opposite_relates Lt a b = refl
-opposite_relates Le a b = not_not _
-opposite_relates Gt a b = refl
-opposite_relates Ge a b = not_not _
-
--- a literal or its negation holds, and not both
-opposite_holds : (l : Literal ℕ) (s : Store) → literal_holds (negated l) s ≡ not (literal_holds l s)
-opposite_holds l s = opposite_relates l.relation (value l.left s) (value l.right s)
 
 -- the numbers that are looked at on the way down a tree
 abbrev pub touched_by_tree : Tree → Store → List ℤ
@@ -170,7 +150,7 @@ touched-lines (l ∷ ls) s =
 
 -- branches in order
 
-all-more : (w : List (Literal ℕ)) (l : Literal ℕ) (s : Store) → way_holds (w ++ l ∷ []) s ≡ (way_holds w s && (literal_holds l s && true))
+all-more : (w : List (Literal ℕ)) (l : Literal ℕ) (s : Store) → literals_hold (w ++ l ∷ []) s ≡ (literals_hold w s && (literal_holds l s && true))
 all-more w l s = list_all-append (λ k. literal_holds k s) w (l ∷ [])
 
 and_true : (a : Bool) → (a && true) ≡ a
@@ -182,31 +162,31 @@ way_cond true u v w = sym (append_assoc u v w)
 way_cond false u v w = sym (append-nil (u ++ []))
 
 -- a way that holds so far, and one more literal
-way-more : (w : List (Literal ℕ)) (l : Literal ℕ) (s : Store) → way_holds w s ≡ true → touched_by_way (w ++ l ∷ []) s ≡ touched_by_way w s ++ touched_by_literal l s
+way-more : (w : List (Literal ℕ)) (l : Literal ℕ) (s : Store) → literals_hold w s ≡ true → touched_by_way (w ++ l ∷ []) s ≡ touched_by_way w s ++ touched_by_literal l s
 way-more [] l s e = ap (λ z. touched_by_literal l s ++ z) (cond_nil (literal_holds l s)) ∙ append-nil (touched_by_literal l s)
   where
     cond_nil : (b : Bool) → cond {A = List ℤ} b [] [] ≡ []
     cond_nil true = refl
     cond_nil false = refl
 way-more (k ∷ w) l s e =
-    let h : literal_holds k s ≡ true = first_true (literal_holds k s) (way_holds w s) e in
-    let ih : touched_by_way (w ++ l ∷ []) s ≡ touched_by_way w s ++ touched_by_literal l s = way-more w l s (second_true (literal_holds k s) (way_holds w s) e) in
+    let h : literal_holds k s ≡ true = first_true (literal_holds k s) (literals_hold w s) e in
+    let ih : touched_by_way (w ++ l ∷ []) s ≡ touched_by_way w s ++ touched_by_literal l s = way-more w l s (second_true (literal_holds k s) (literals_hold w s) e) in
     ap (λ b. touched_by_literal k s ++ cond b (touched_by_way (w ++ l ∷ []) s) []) h
     ∙ ap (λ z. touched_by_literal k s ++ z) ih
     ∙ sym (append_assoc (touched_by_literal k s) (touched_by_way w s) (touched_by_literal l s))
     ∙ ap (λ b. (touched_by_literal k s ++ cond b (touched_by_way w s) []) ++ touched_by_literal l s) (sym h)
 
 -- a way on which a literal fails, and more
-way-failed : (w v : List (Literal ℕ)) (s : Store) → way_holds w s ≡ false → touched_by_way (w ++ v) s ≡ touched_by_way w s
+way-failed : (w v : List (Literal ℕ)) (s : Store) → literals_hold w s ≡ false → touched_by_way (w ++ v) s ≡ touched_by_way w s
 way-failed [] v s e = absurd (cc)
 way-failed (k ∷ w) v s e = on_first (λ h. way-failed w v s h) (literal_holds k s) refl
   where
-    on_first : (way_holds w s ≡ false → touched_by_way (w ++ v) s ≡ touched_by_way w s) → (b : Bool) → literal_holds k s ≡ b → touched_by_way ((k ∷ w) ++ v) s ≡ touched_by_way (k ∷ w) s
-    on_first ih true h = ap (λ z. touched_by_literal k s ++ cond (literal_holds k s) z []) (ih (sym (ap (λ b. b && way_holds w s) h) ∙ e))
+    on_first : (literals_hold w s ≡ false → touched_by_way (w ++ v) s ≡ touched_by_way w s) → (b : Bool) → literal_holds k s ≡ b → touched_by_way ((k ∷ w) ++ v) s ≡ touched_by_way (k ∷ w) s
+    on_first ih true h = ap (λ z. touched_by_literal k s ++ cond (literal_holds k s) z []) (ih (sym (ap (λ b. b && literals_hold w s) h) ∙ e))
     on_first ih false h = ap (λ b. touched_by_literal k s ++ cond b (touched_by_way (w ++ v) s) []) h ∙ ap (λ b. touched_by_literal k s ++ cond b (touched_by_way w s) []) (sym h)
 
 -- the branches below a way on which a literal fails are passed
-failing : (t : Tree) (w : List (Literal ℕ)) (s : Store) (x : List Branch) → is_full t ≡ true → way_holds w s ≡ false
+failing : (t : Tree) (w : List (Literal ℕ)) (s : Store) (x : List Branch) → is_full t ≡ true → literals_hold w s ≡ false
     → Both (AllInRange (touched_by_branches (leaves t w ++ x) s)) (AllInRange (touched_by_way w s) × AllInRange (touched_by_branches x s))
 failing Empty w s x f e = absurd (cc)
 failing (Leaf assignments target) w s x f e = record {
@@ -215,8 +195,8 @@ failing (Leaf assignments target) w s x f e = record {
   back = λ p. subst (λ b. AllInRange (touched_by_way w s ++ cond b [] (touched_by_branches x s))) (sym e) (both_parts _ _ p.0 p.1);
 }
 failing (Node l y n) w s x f e =
-    let no : way_holds (w ++ l ∷ []) s ≡ false = all-more w l s ∙ ap (λ b. b && (literal_holds l s && true)) e in
-    let no2 : way_holds (w ++ negated l ∷ []) s ≡ false = all-more w (negated l) s ∙ ap (λ b. b && (literal_holds (negated l) s && true)) e in
+    let no : literals_hold (w ++ l ∷ []) s ≡ false = all-more w l s ∙ ap (λ b. b && (literal_holds l s && true)) e in
+    let no2 : literals_hold (w ++ negated l ∷ []) s ≡ false = all-more w (negated l) s ∙ ap (λ b. b && (literal_holds (negated l) s && true)) e in
     let rest : List Branch = leaves n (w ++ negated l ∷ []) ++ x in
     let on_y = failing y (w ++ l ∷ []) s rest (first_true (is_full y) (is_full n) f) no in
     let on_n = failing n (w ++ negated l ∷ []) s x (second_true (is_full y) (is_full n) f) no2 in
@@ -229,7 +209,7 @@ failing (Node l y n) w s x f e =
     }
 
 -- below a way that holds, the numbers looked at are those on the way down the tree
-pub through : (t : Tree) (w : List (Literal ℕ)) (s : Store) (x : List Branch) → is_full t ≡ true → way_holds w s ≡ true
+pub through : (t : Tree) (w : List (Literal ℕ)) (s : Store) (x : List Branch) → is_full t ≡ true → literals_hold w s ≡ true
     → Both (AllInRange (touched_by_branches (leaves t w ++ x) s)) (AllInRange (touched_by_way w s) × AllInRange (touched_by_tree t s))
 through Empty w s x f e = absurd (cc)
 through (Leaf assignments target) w s x f e = record {
@@ -255,14 +235,14 @@ through (Node l y n) w s x f e =
     Below b = AllInRange (touched_by_literal l s ++ cond b (touched_by_tree y s) (touched_by_tree n s))
 
     OnYes : Type 0
-    OnYes = way_holds (w ++ l ∷ []) s ≡ true → Both (AllInRange (touched_by_branches (leaves y (w ++ l ∷ []) ++ rest) s)) (AllInRange (touched_by_way (w ++ l ∷ []) s) × AllInRange (touched_by_tree y s))
+    OnYes = literals_hold (w ++ l ∷ []) s ≡ true → Both (AllInRange (touched_by_branches (leaves y (w ++ l ∷ []) ++ rest) s)) (AllInRange (touched_by_way (w ++ l ∷ []) s) × AllInRange (touched_by_tree y s))
 
     OnNo : Type 0
-    OnNo = way_holds (w ++ negated l ∷ []) s ≡ true → Both (AllInRange (touched_by_branches rest s)) (AllInRange (touched_by_way (w ++ negated l ∷ []) s) × AllInRange (touched_by_tree n s))
+    OnNo = literals_hold (w ++ negated l ∷ []) s ≡ true → Both (AllInRange (touched_by_branches rest s)) (AllInRange (touched_by_way (w ++ negated l ∷ []) s) × AllInRange (touched_by_tree n s))
 
     on_first : OnYes → OnNo → (b : Bool) → literal_holds l s ≡ b → Both (AllInRange (touched_by_branches (leaves (Node l y n) w ++ x) s)) (AllInRange (touched_by_way w s) × AllInRange (touched_by_tree (Node l y n) s))
     on_first yes_below no_below true h =
-        let all : way_holds (w ++ l ∷ []) s ≡ true = all-more w l s ∙ ap₂ (λ (a b : Bool). a && (b && true)) e h in
+        let all : literals_hold (w ++ l ∷ []) s ≡ true = all-more w l s ∙ ap₂ (λ (a b : Bool). a && (b && true)) e h in
         let on_y = yes_below all in
         record {
           there = λ p. let a = on_y.there (subst (λ bs. AllInRange (touched_by_branches bs s)) joined p) in
@@ -272,8 +252,8 @@ through (Node l y n) w s x f e =
               subst (λ bs. AllInRange (touched_by_branches bs s)) (sym joined) (on_y.back (subst AllInRange (sym more) (both_parts _ _ p.0 (front_part _ _ r)), back_part (touched_by_literal l s) _ r));
         }
     on_first yes_below no_below false h =
-        let no : way_holds (w ++ l ∷ []) s ≡ false = all-more w l s ∙ ap₂ (λ (a b : Bool). a && (b && true)) e h in
-        let all : way_holds (w ++ negated l ∷ []) s ≡ true = all-more w (negated l) s ∙ ap₂ (λ (a b : Bool). a && (b && true)) e (opposite_holds l s ∙ ap not h) in
+        let no : literals_hold (w ++ l ∷ []) s ≡ false = all-more w l s ∙ ap₂ (λ (a b : Bool). a && (b && true)) e h in
+        let all : literals_hold (w ++ negated l ∷ []) s ≡ true = all-more w (negated l) s ∙ ap₂ (λ (a b : Bool). a && (b && true)) e (opposite_holds l s ∙ ap not h) in
         let on_y = failing y (w ++ l ∷ []) s rest (first_true (is_full y) (is_full n) f) no in
         let on_n = no_below all in
         record {
@@ -297,9 +277,9 @@ head_cond : (h : Bool) (b : Branch) (bs : List Branch) → head_of (cond h (b �
 head_cond true b bs = refl
 head_cond false b bs = refl
 
-first_filtered : (bs : List Branch) (s : Store) → head_of (filter (λ b. way_holds b.literals s) bs) ≡ taken_branch bs s
+first_filtered : (bs : List Branch) (s : Store) → head_of (filter (λ b. literals_hold b.literals s) bs) ≡ taken_branch bs s
 first_filtered [] s = refl
-first_filtered (b ∷ bs) s = head_cond (way_holds b.literals s) b (filter (λ c. way_holds c.literals s) bs) ∙ ap (λ o. cond (way_holds b.literals s) (Some b) o) (first_filtered bs s)
+first_filtered (b ∷ bs) s = head_cond (literals_hold b.literals s) b (filter (λ c. literals_hold c.literals s) bs) ∙ ap (λ o. cond (literals_hold b.literals s) (Some b) o) (first_filtered bs s)
 
 pub first_taken : (ls : List (Transition ℕ ℕ)) (s : Store) (one : TakesOneBranch ls s) → taken_branch (branches_of ls) s ≡ Some one.branch
 first_taken ls s one = sym (first_filtered (branches_of ls) s) ∙ ap head_of one.one

@@ -1,9 +1,9 @@
 //! The branch that a store takes.
 
 ghost use Rattle.std.specs.Prelude.{◌≡◌, IsSome, MatchOption, map};
-ghost use Rattle.std.specs.List.{list_all};
 ghost use Rattle.std.specs.Option.{SomeIff};
-ghost use Rattle.fs_model.specs.Meaning.{relates, literal_holds};
+ghost use Rattle.fs_model.specs.Meaning.{literal_holds};
+ghost use Rattle.fs_model.specs.Trees.{literals_hold};
 ghost use Rattle.fs_model.specs.Touched.{AllInRange};
 ghost use Rattle.fs_model.specs.View.{literal_of, branch_of};
 ghost use Rattle.fs_runs.specs.Values.{store_from};
@@ -11,20 +11,7 @@ ghost use Rattle.fs_runs.specs.Reads.{LiteralFits, touched_by_way, touched_by_br
 
 use crate::eval::value_of;
 use crate::values::Value;
-use fs_model::parts::{Branch, Lit, Rel, VarId};
-
-fn relates(rel: Rel, left: i128, right: i128) -> bool
-    ensures { result ≡ relates rel left right }
-{
-    match rel {
-        Rel::Eq => left == right,
-        Rel::Ne => left != right,
-        Rel::Lt => left < right,
-        Rel::Le => left <= right,
-        Rel::Gt => left > right,
-        Rel::Ge => left >= right,
-    }
-}
+use fs_model::parts::{Branch, Lit, VarId};
 
 // Whether a literal holds, and `None` exactly when a number of it lies outside 128 bits.
 fn literal_holds(lit: &Lit<VarId>, values: &[Value]) -> Option<bool>
@@ -32,12 +19,12 @@ fn literal_holds(lit: &Lit<VarId>, values: &[Value]) -> Option<bool>
 {
     let left = value_of(&lit.left, values)?;
     let right = value_of(&lit.right, values)?;
-    Some(relates(lit.rel, left, right))
+    Some(lit.rel.holds(left, right))
 }
 
 // Whether all literals of a way hold. What comes after one that fails is not looked at.
 fn literals_hold(way: &[Lit<VarId>], values: &[Value]) -> Option<bool>
-    ensures { SomeIff result (AllInRange (touched_by_way (map literal_of way.now) (store_from values.now))) (list_all (λ l. literal_holds l (store_from values.now)) (map literal_of way.now)) }
+    ensures { SomeIff result (AllInRange (touched_by_way (map literal_of way.now) (store_from values.now))) (literals_hold (map literal_of way.now) (store_from values.now)) }
 {
     for lit in way {
         if !literal_holds(lit, values)? {

@@ -11,7 +11,7 @@ use crate::store::Store;
 use crate::values::Value;
 use fs_ast::machine::Machine;
 use fs_model::name::{Name, NoMemory};
-use fs_model::parts::{Role, Sort, VarInfo};
+use fs_model::parts::{Sort, VarInfo};
 use std::alloc::Global;
 
 /// The value of an input.
@@ -83,23 +83,11 @@ impl Inputs {
     }
 }
 
-fn is_input(var: &VarInfo) -> bool
-    ensures { result ≡ is_input var.now.role }
-{
-    match var.role {
-        Role::Input => true,
-        Role::Output | Role::Local => false,
-    }
-}
-
 // Whether a variable starts with what the inputs give.
 fn is_given(var: &VarInfo) -> bool
     ensures { result ≡ is_given var.now }
 {
-    match var.sort {
-        Sort::Scalar | Sort::Array => is_input(var),
-        Sort::Port => false,
-    }
+    var.role.is_input() && !var.sort.is_port()
 }
 
 // Adds a value of 0 for a variable that is an input.
@@ -108,24 +96,15 @@ fn add_input(alloc: Global, items: &mut Vec<Input>, var: &VarInfo) -> Result<(),
     ensures signatures { OnOk result (map signature items.new.items ≡ map signature items.old.items ++ input_signatures (var.now ∷ [])) }
     ensures zero { OnOk result (AllZero items.new.items) }
 {
-    if !is_input(var) {
+    if !var.role.is_input() {
         return Ok(());
     }
     let input = Input {
         name: var.name.try_clone(alloc)?,
         value: Value::zero(alloc, var.sort),
     };
-    push(items, input)?;
+    items.push(input)?;
     Ok(())
-}
-
-pub(crate) fn push<T: Drop>(out: &mut Vec<T>, item: T) -> Result<(), NoMemory>
-    ensures { OnOk result (out.new.items ≡ out.old.items ++ item ∷ []) }
-{
-    match out.push(item) {
-        Ok(()) => Ok(()),
-        Err(_) => Err(NoMemory),
-    }
 }
 
 /// The store in which a run starts: the inputs as given, every other scalar 0, every other array 0 at
@@ -137,7 +116,7 @@ pub fn start(alloc: Global, m: &Machine, inputs: &Inputs) -> Result<Store, NoMem
 {
     let mut values = Vec::new(alloc);
     for var in m.vars() {
-        push(&mut values, first_value(alloc, var, inputs)?)?;
+        values.push(first_value(alloc, var, inputs)?)?;
     }
     Ok(Store { values })
 }

@@ -1,20 +1,20 @@
 //! Runs: steps from the reset state up to the first return to it.
 
 ghost use Rattle.std.specs.Prelude.{◌≡◌, ◌≤◌, ◌==◌, ◌++◌, ◌∷◌, [], ℕ, List, length, map, IfOk, IfErr};
-ghost use Rattle.fs_model.specs.Runs.{Run, start, output, is_output};
+ghost use Rattle.fs_model.specs.Runs.{Run, start, output};
 ghost use Rattle.fs_model.specs.Touched.{StaysInRange};
 ghost use Rattle.fs_runs.specs.Values.{content_of, store_of, IsStoreOf};
 ghost use Rattle.fs_runs.specs.InputValues.{inputs_of, signatures_of, Serves};
 ghost use Rattle.fs_runs.specs.Outcomes.{output_names, outs_of, told_by, HoldsEach, IsStopped};
 ghost use Rattle.std.specs.Result.{OnOk};
 
-use crate::inputs::{Inputs, push, start};
+use crate::inputs::{Inputs, start};
 use crate::step::{StepStop, step};
 use crate::store::Store;
 use crate::values::Value;
 use fs_ast::machine::Machine;
 use fs_model::name::NoMemory;
-use fs_model::parts::{Role, StateId, VarInfo};
+use fs_model::parts::{StateId, VarInfo};
 use std::alloc::Global;
 
 /// How a run ended: what the outputs hold, in order of declaration, and after how many steps.
@@ -108,17 +108,8 @@ fn outputs(alloc: Global, m: &Machine, store: &Store) -> Result<Vec<Value>, NoMe
 fn add_output(out: &mut Vec<Value>, var: &VarInfo, value: &Value) -> Result<(), NoMemory>
     ensures { OnOk result (map content_of out.new.items ≡ map content_of out.old.items ++ outs_of (var.now ∷ []) (value.now ∷ [])) }
 {
-    if is_output(var) {
-        push(out, value.try_clone()?)?;
+    if var.role.is_output() {
+        out.push(value.try_clone()?)?;
     }
     Ok(())
-}
-
-fn is_output(var: &VarInfo) -> bool
-    ensures { result ≡ is_output var.now.role }
-{
-    match var.role {
-        Role::Output => true,
-        Role::Input | Role::Local => false,
-    }
 }

@@ -2,7 +2,6 @@
 
 ghost use Rattle.std.specs.Prelude.{◌≡◌, ℕ, List, [], ◌∷◌, map, option_map, IfOk};
 ghost use Rattle.std.specs.Result.{OnOk};
-ghost use Rattle.fs_model.specs.Runs.{is_output};
 ghost use Rattle.fs_runs.specs.Values.{content_of};
 ghost use Rattle.fs_runs.specs.Outcomes.{output_names, told_by, HoldsEach};
 ghost use Rattle.fs_show.specs.Shown.{Shows};
@@ -11,18 +10,9 @@ ghost use Rattle.fs_show.specs.Items.{AreItems, AddsItems, item_of};
 use crate::shown::{append, push, value_text};
 use fs_ast::machine::Machine;
 use fs_model::name::{Name, NoMemory};
-use fs_model::parts::{Role, VarInfo};
+use fs_model::parts::VarInfo;
 use fs_runs::values::Value;
 use std::alloc::Global;
-
-pub(crate) fn is_output(variable: &VarInfo) -> bool
-    ensures { result ≡ is_output variable.now.role }
-{
-    match variable.role {
-        Role::Output => true,
-        Role::Input | Role::Local => false,
-    }
-}
 
 // What the output of a name holds, of values in order of the machine's outputs. Takes no memory.
 pub(crate) fn held<'a>(m: &Machine, outputs: &'a [Value], name: &Name) -> Option<&'a Value>
@@ -30,7 +20,7 @@ pub(crate) fn held<'a>(m: &Machine, outputs: &'a [Value], name: &Name) -> Option
 {
     let mut rest = outputs;
     for variable in m.vars() {
-        if is_output(variable) {
+        if variable.role.is_output() {
             let [value, others @ ..] = rest else {
                 return None;
             };
@@ -90,7 +80,7 @@ fn add_item(
     requires { HoldsEach (told_by m.now outputs.now) (output_names (variable.now ∷ [])) }
     ensures { OnOk result (AddsItems (told_by m.now outputs.now) (output_names (variable.now ∷ [])) (map (λ i. i.items) items.old.items) (map (λ i. i.items) items.new.items)) }
 {
-    if !is_output(variable) {
+    if !variable.role.is_output() {
         return Ok(());
     }
     match held(m, outputs, &variable.name) {

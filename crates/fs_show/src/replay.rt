@@ -9,7 +9,7 @@ ghost use Rattle.fs_runs.specs.Outcomes.{output_names, told_by, HoldsEach};
 ghost use Rattle.fs_show.specs.Items.{AgreeOn, SameOutputs};
 ghost use Rattle.fs_show.specs.Ends.{IsReplayText, replay_text, side_line, after_space, verdict_line};
 
-use crate::items::{held, is_output, items};
+use crate::items::{held, items};
 use crate::shown::{append, joined};
 use fs_ast::machine::Machine;
 use fs_model::name::NoMemory;
@@ -83,7 +83,7 @@ fn same_output(
 ) -> Result<bool, NoMemory>
     ensures { IfOk result (λ r. Decides r (AgreeOn (told_by left.now lefts.now) (told_by right.now rights.now) (output_names (variable.now ∷ [])))) }
 {
-    if !is_output(variable) {
+    if !variable.role.is_output() {
         return Ok(true);
     }
     let left_value = held(left, lefts, &variable.name);

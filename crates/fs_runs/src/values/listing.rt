@@ -6,7 +6,6 @@ ghost use Rattle.std.specs.Result.{OnOk};
 ghost use Rattle.fs_runs.specs.Values.{entry};
 ghost use Rattle.fs_runs.specs.Listing.{IsListing};
 
-use crate::inputs::push;
 use crate::values::Entries;
 use fs_model::name::NoMemory;
 use std::alloc::Global;
@@ -36,5 +35,6 @@ fn is_listed(number: &i128) -> bool
 fn push_entry(list: &mut Vec<(i128, i128)>, index: &i128, number: &i128) -> Result<(), NoMemory>
     ensures { OnOk result (list.new.items ≡ list.old.items ++ (index.now, number.now) ∷ []) }
 {
-    push(list, (*index, *number))
+    list.push((*index, *number))?;
+    Ok(())
 }

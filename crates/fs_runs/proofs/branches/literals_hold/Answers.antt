@@ -3,10 +3,11 @@ use Rattle.std.specs.Prelude.{map}
 use Rattle.fs_model.specs.Meaning.{literal_holds}
 use Rattle.fs_model.specs.Touched.{AllInRange}
 use Rattle.fs_model.specs.View.{literal_of}
+use Rattle.fs_model.specs.Trees.{literals_hold}
 use Rattle.fs_runs.specs.Values.{store_from}
 use Rattle.fs_runs.specs.Reads.{touched_by_way}
 use Rattle.fs_runs.proofs.Slots.{left_item}
-use Rattle.fs_runs.proofs.Ways.{way_holds, literal_fits, fits_literal}
+use Rattle.fs_runs.proofs.Ways.{literal_fits, fits_literal}
 use Rattle.fs_runs.proofs.Tries.{way_in_front, way_there, way_back, way_ends, hold_more, hold_not}
 use Rattle.fs_runs.proofs.branches.literals_hold.Goals as goal
 
@@ -32,7 +33,7 @@ returns-then-not-branch c =
     let inv = c.loop-lit.invariant in
     let h : literal_holds l s ≡ false = sym c.in_ok-literal_holds.ensures.1 ∙ c.if-not-branch.true in (
       inv.there (subst (λ ls. AllInRange (touched_by_way ls s)) (sym parts) (way_ends l rest s h (fits_literal l s c.in_ok-literal_holds.ensures.0))),
-      sym (sym inv.hold ∙ ap (λ ls. way_holds ls s) parts ∙ hold_not l rest s h),
+      sym (sym inv.hold ∙ ap (λ ls. literals_hold ls s) parts ∙ hold_not l rest s h),
     )
 
 pub loop-lit-preserved : goal.loop-lit-preserved
@@ -48,5 +49,5 @@ loop-lit-preserved c =
     record {
       there = λ p. inv.there (subst (λ ls. AllInRange (touched_by_way ls s)) (sym parts) (way_there l rest s h (fits_literal l s c.in_ok-literal_holds.ensures.0) p));
       back = λ p. way_back l rest s h (subst (λ ls. AllInRange (touched_by_way ls s)) parts (inv.back p));
-      hold = sym (hold_more l rest s h) ∙ sym (ap (λ ls. way_holds ls s) parts) ∙ inv.hold;
+      hold = sym (hold_more l rest s h) ∙ sym (ap (λ ls. literals_hold ls s) parts) ∙ inv.hold;
     }

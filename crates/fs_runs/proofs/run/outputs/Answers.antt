@@ -1,11 +1,26 @@
-use Rattle.std.proofs.Common.{◌≡◌, ◌∙◌, ap, sym, length}
+use Rattle.std.proofs.Common.{◌≡◌, ◌<◌, ◌∙◌, ◌++◌, ◌∷◌, [], ap, ap₂, sym, length, arith}
 use Rattle.std.specs.Prelude.{map, List}
 use Rattle.std.proofs.lemmas.List.{length-map}
+use Rattle.fs_model.specs.declared.parts.VarInfo.{VarInfo}
 use Rattle.fs_model.specs.Runs.{Content}
-use Rattle.fs_runs.specs.Values.{content_of, store_of, values_of}
+use Rattle.fs_runs.specs.declared.values.Value.{Value}
+use Rattle.fs_runs.specs.Values.{content_of, sort_of, store_of, values_of}
 use Rattle.fs_runs.specs.Outcomes.{output_names, outs_of, told, told_by}
-use Rattle.fs_runs.proofs.Outs.{told_all, outs_count, outs_done, holds_each}
+use Rattle.fs_runs.proofs.Outs.{told_all, as_long, outs_count, outs_next, outs_done, holds_each}
 use Rattle.fs_runs.proofs.run.outputs.Goals as goal
+
+pub loop-k-preserved : goal.loop-k-preserved
+loop-k-preserved c =
+    let vars = c.vars-vars.result.now in
+    let vs = c.as_slice-values.result.now in
+    let v = c.index-vars-k.result in
+    let w = c.index-values-k.result in
+    let done = map content_of c.loop-k.out.items in
+    let sorts : map sort_of vs ≡ map (λ u. u.sort) vars = rw (c.vars-vars.ensures.vars, c.as_slice-values.ensures.value) c.requires in
+    let long : length vs ≡ length vars = as_long vars vs sorts in
+    let here : c.loop-k.k < length vs = omega (arith, long, c.loop-k-test.true) in
+    let more = c.in_ok-add_output.ensures ∙ ap₂ (λ (a : VarInfo) (b : Value). done ++ outs_of (a ∷ []) (b ∷ [])) c.index-vars-k.is c.index-values-k.is in
+    outs_next vars vs c.loop-k.k v w done (map content_of c.add_output.new.out.items) (outs_of vars vs) c.loop-k-test.true here more c.loop-k.invariant
 
 pub returns-clause-told : goal.returns-clause-told
 returns-clause-told c = λ name.
