@@ -2,7 +2,7 @@
 use Rattle.std.proofs.Common.{◌≡◌, ℕ, List, sym, ◌∙◌, ap}
 use Rattle.fs_base.specs.Outside.{Held, Unknown, Nothing, Bytes}
 use Rattle.fs_grammar.specs.declared.fault.TextFault.{TextFault}
-use Rattle.fs_ast.specs.declared.check.CheckFault.{CheckFault}
+use Rattle.fs_rules.specs.declared.check.CheckFault.{CheckFault}
 use Rattle.fsmd_tool.specs.declared.answer.Operand.{Operand}
 use Rattle.fsmd_tool.specs.declared.answer.Answer.{Answer}
 use Rattle.fsmd_tool.specs.declared.answer.Answer.TheVariants.{Usage, Equivalent, Text, Differs, NoReturn, OutputDiffers, Wide, Large, TextRefused, CheckRefused, NotJson, InputRefused, Interfaces, TooLong, NotBuilt, CannotRead}

@@ -3,7 +3,7 @@ use Rattle.std.proofs.Common.{◌≡◌, ℕ, ◌≤◌, List, length, Option, S
 use Rattle.fs_base.specs.Outside.{Held, Unknown, Nothing, Bytes}
 use Rattle.fs_model.specs.Machines.{Fsmd}
 use Rattle.fs_model.specs.Runs.{Inputs}
-use Rattle.fs_runs.specs.Given.{Face}
+use Rattle.fs_runs.specs.InputValues.{Signature}
 use Rattle.fs_inputs.specs.declared.faults.Fault.{Fault}
 use Rattle.fs_inputs.specs.Files.{file_fault, inputs_in}
 use Rattle.fs_inputs.specs.Refusals.{IsJson, SpelledBy, Spells}
@@ -22,15 +22,15 @@ use Rattle.answer_laws.proofs.Shapes.{InputsRefusal, ByJson, ByFault, inputs_ref
 json_once : (bytes : List ℕ) (d e : Data) → IsJson bytes d → IsJson bytes e → d ≡ e
 json_once bytes d e p q = some_same d e (sym p.value ∙ q.value)
 
-spelled_once : (fs : List Face) (d : Data) (x y : Inputs) → SpelledBy fs d x → SpelledBy fs d y → x ≡ y
+spelled_once : (fs : List Signature) (d : Data) (x y : Inputs) → SpelledBy fs d x → SpelledBy fs d y → x ≡ y
 spelled_once fs d x y p q = p.inputs ∙ ap inputs_in (some_same p.members q.members (sym p.object ∙ q.object)) ∙ sym q.inputs
 
-inputs_once : (fs : List Face) (bytes : List ℕ) (x y : Inputs) → Spells fs bytes x → Spells fs bytes y → x ≡ y
+inputs_once : (fs : List Signature) (bytes : List ℕ) (x y : Inputs) → Spells fs bytes x → Spells fs bytes y → x ≡ y
 inputs_once fs bytes x y p q = spelled_once fs q.value x y (subst (λ d. SpelledBy fs d x) (json_once bytes p.value q.value p.json q.json) p.spelled) q.spelled
 
 -- ---- refusals
 
-refusal_once : (file : Operand) (fs : List Face) (bytes : List ℕ) (x y : Answer) → InputsRefusal file fs bytes x → InputsRefusal file fs bytes y → x ≡ y
+refusal_once : (file : Operand) (fs : List Signature) (bytes : List ℕ) (x y : Answer) → InputsRefusal file fs bytes x → InputsRefusal file fs bytes y → x ≡ y
 refusal_once file fs bytes x y (ByJson n e) (ByJson k h) = e ∙ sym h
 refusal_once file fs bytes x y (ByJson n e) (ByFault f name q h) = absurd (n q.value q.json)
 refusal_once file fs bytes x y (ByFault f name p e) (ByJson n h) = absurd (n p.value p.json)
@@ -39,10 +39,10 @@ refusal_once file fs bytes x y (ByFault f name p e) (ByFault g other q h) =
     let first : Path (Option (List ℕ × Fault)) (Some (name, f)) (Some (other, g)) = sym p.first ∙ ap (λ d. file_fault fs (as_object d)) value ∙ q.first in
     e ∙ ap (λ r. InputRefused file r.1 r.0) (some_same (name, f) (other, g) first) ∙ sym h
 
-faultless : (fs : List Face) (d : Data) (ins : Inputs) (name : List ℕ) (f : Fault) → SpelledBy fs d ins → file_fault fs (as_object d) ≡ Some (name, f) → ⊥
+faultless : (fs : List Signature) (d : Data) (ins : Inputs) (name : List ℕ) (f : Fault) → SpelledBy fs d ins → file_fault fs (as_object d) ≡ Some (name, f) → ⊥
 faultless fs d ins name f p e = some_none (name, f) (file_fault fs (as_object d)) e (ap (file_fault fs) p.object ∙ p.faultless)
 
-spelled_or_refused : (file : Operand) (fs : List Face) (bytes : List ℕ) (ins : Inputs) (x : Answer) → Spells fs bytes ins → InputsRefusal file fs bytes x → ⊥
+spelled_or_refused : (file : Operand) (fs : List Signature) (bytes : List ℕ) (ins : Inputs) (x : Answer) → Spells fs bytes ins → InputsRefusal file fs bytes x → ⊥
 spelled_or_refused file fs bytes ins x p (ByJson n e) = n p.value p.json
 spelled_or_refused file fs bytes ins x p (ByFault f name q e) =
     faultless fs q.value ins name f (subst (λ d. SpelledBy fs d ins) (json_once bytes p.value q.value p.json q.json) p.spelled) q.first

@@ -2,8 +2,8 @@
 use Rattle.std.proofs.Common.{◌≡◌, ℕ, List, Some, refl, ap}
 use Rattle.fs_base.specs.Outside.{Nothing, Bytes}
 use Rattle.fs_model.specs.Machines.{Fsmd}
-use Rattle.fs_pair.specs.Faces.{interface_fault}
-use Rattle.fs_runs.specs.Given.{Face}
+use Rattle.fs_pair.specs.Interfaces.{interface_fault}
+use Rattle.fs_runs.specs.InputValues.{Signature}
 use Rattle.fs_inputs.specs.declared.faults.Fault.{Fault}
 use Rattle.fs_inputs.specs.Refusals.{IsFaulty, IsJson}
 use Rattle.serde_json.specs.Data.{Data}
@@ -130,11 +130,11 @@ no_file_unread file Failed (NotBuilt which) h = absurd h
 no_file_unread file Failed (CannotRead which) h = ap CannotRead h.0
 
 -- why inputs of these bytes are refused
-pub data InputsRefusal (file : Operand) (fs : List Face) (bytes : List ℕ) (answer : Answer) : Type 0 where
+pub data InputsRefusal (file : Operand) (fs : List Signature) (bytes : List ℕ) (answer : Answer) : Type 0 where
   ByJson : ((d : Data) → ¬ IsJson bytes d) → answer ≡ NotJson file → InputsRefusal file fs bytes answer
   ByFault : (fault : Fault) (name : List ℕ) → IsFaulty fs bytes name fault → answer ≡ InputRefused file fault name → InputsRefusal file fs bytes answer
 
-pub inputs_refusal : (file : Operand) (fs : List Face) (bytes : List ℕ) (x : Answer) → IsInputsAnswer file x → Refuses fs bytes x → InputsRefusal file fs bytes x
+pub inputs_refusal : (file : Operand) (fs : List Signature) (bytes : List ℕ) (x : Answer) → IsInputsAnswer file x → Refuses fs bytes x → InputsRefusal file fs bytes x
 inputs_refusal file fs bytes Usage h r = absurd h
 inputs_refusal file fs bytes (Equivalent nodes) h r = absurd h
 inputs_refusal file fs bytes (Text lines) h r = absurd h

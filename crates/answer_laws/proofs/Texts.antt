@@ -6,9 +6,9 @@ use Rattle.std.proofs.lemmas.Bool.Decides.{nat_tests}
 use Rattle.fs_model.specs.Source.{Source}
 use Rattle.fs_model.specs.Machines.{Fsmd}
 use Rattle.fs_grammar.specs.declared.fault.TextFault.{TextFault}
-use Rattle.fs_ast.specs.declared.check.CheckRule.{CheckRule}
-use Rattle.fs_ast.specs.declared.check.CheckRule.TheVariants.{TwiceNamed, UnknownName, WrongSort, AssignInput, AssignedTwice, NoElse, AfterElse, TooManyBranches, EndlessLine, UnknownState, TooMany}
-use Rattle.fs_ast.specs.declared.check.CheckFault.{CheckFault}
+use Rattle.fs_rules.specs.declared.check.CheckRule.{CheckRule}
+use Rattle.fs_rules.specs.declared.check.CheckRule.TheVariants.{TwiceNamed, UnknownName, WrongSort, AssignInput, AssignedTwice, NoElse, AfterElse, TooManyBranches, EndlessLine, UnknownState, TooMany}
+use Rattle.fs_rules.specs.declared.check.CheckFault.{CheckFault}
 use Rattle.fs_ast.specs.Spelled.{machine_of}
 use Rattle.fs_ast.specs.Rules.{rank, is_sooner, plain_faults, branch_faults, IsFirstBroken, IsLawful}
 use Rattle.fs_write.specs.Canonical.{canonical}

@@ -4,7 +4,7 @@ ghost use Rattle.std.specs.Prelude.{◌≡◌, ℕ, List};
 ghost use Rattle.fs_model.specs.declared.parts.VarInfo.{VarInfo};
 ghost use Rattle.fs_model.specs.Machines.{Fsmd};
 ghost use Rattle.fs_grammar.specs.declared.fault.TextFault.{TextFault};
-ghost use Rattle.fs_ast.specs.declared.check.CheckFault.{CheckFault};
+ghost use Rattle.fs_rules.specs.declared.check.CheckFault.{CheckFault};
 ghost use Rattle.nf_terms.specs.Terms.{Polynomial};
 ghost use Rattle.straight_line.specs.Execution.{Outcome, Execution};
 ghost use Rattle.fsmd_tool.specs.declared.answer.Operand.{Operand};

@@ -8,7 +8,8 @@ use Rattle.fs_model.specs.Runs.{Inputs}
 use Rattle.fs_runs.specs.declared.run.RunStop.{RunStop}
 use Rattle.fs_runs.specs.Outcomes.{output_names, IsStopped}
 use Rattle.fs_show.specs.declared.ends.Side.TheVariants.{Only, Left, Right}
-use Rattle.fs_show.specs.Items.{Outputs, SameOutputs}
+use Rattle.fs_show.specs.Items.{SameOutputs}
+use Rattle.fs_runs.specs.Outcomes.{Outputs}
 use Rattle.fs_show.specs.Ends.{IsEndText, IsReplayText}
 use Rattle.fsmd_tool.specs.declared.answer.Answer.{Answer}
 use Rattle.fsmd_tool.specs.declared.answer.Answer.TheVariants.{Text, Differs}

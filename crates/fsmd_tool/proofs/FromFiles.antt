@@ -7,12 +7,13 @@ use Rattle.fs_base.specs.Outside.{Held, Unknown, Nothing, Bytes, Rose, AreHeld, 
 use Rattle.fs_model.specs.Source.{Source}
 use Rattle.fs_model.specs.Machines.{Fsmd}
 use Rattle.fs_model.specs.Runs.{Inputs}
-use Rattle.fs_pair.specs.Faces.{interface_fault}
+use Rattle.fs_pair.specs.Interfaces.{interface_fault}
 use Rattle.fs_write.specs.Canonical.{canonical}
-use Rattle.fs_runs.specs.Given.{Face}
+use Rattle.fs_runs.specs.InputValues.{Signature}
 use Rattle.fs_inputs.specs.declared.faults.Fault.{Fault}
 use Rattle.fs_inputs.specs.declared.faults.InputError.{InputError}
 use Rattle.fs_inputs.specs.Refusals.{IsFaulty}
+use Rattle.fs_model.specs.Limits.{most_text_bytes}
 use Rattle.fsmd_tool.specs.declared.answer.Operand.{Operand}
 use Rattle.fsmd_tool.specs.declared.answer.Operand.TheVariants.{First, Second, Third}
 use Rattle.fsmd_tool.specs.declared.answer.Answer.{Answer}
@@ -20,10 +21,10 @@ use Rattle.fsmd_tool.specs.declared.answer.Answer.TheVariants.{Text, Interfaces,
 use Rattle.fsmd_tool.specs.declared.load.Refused.{Refused as Refusal}
 use Rattle.fsmd_tool.specs.declared.load.Refused.TheVariants.{Answered, NoMemory}
 use Rattle.fsmd_tool.specs.Words.{word_of}
-use Rattle.fsmd_tool.specs.Texts.{most_bytes, SpellsMachine, HasCanonicalText}
+use Rattle.fsmd_tool.specs.Texts.{SpellsMachine, HasCanonicalText}
 use Rattle.fsmd_tool.specs.Paths.{paths_text, HasPaths}
 use Rattle.fsmd_tool.specs.Readings.{Call, held, FailedToRead, Content, Unopened, Readable, Unreadable, OfBytes, MayBeRead, MayHold, Reading, IsCorrectBy}
-use Rattle.fsmd_tool.specs.Refusals.{IsUnread, Long, faces, UnreadInputs, ByJson, ByInput, RefusesMachine, RefusesPair, FirstRefused, SecondRefused, RefusesInputs, SpellsInputs}
+use Rattle.fsmd_tool.specs.Refusals.{IsUnread, Long, signatures, UnreadInputs, ByJson, ByInput, RefusesMachine, RefusesPair, FirstRefused, SecondRefused, RefusesInputs, SpellsInputs}
 use Rattle.fsmd_tool.specs.Pairs.{ArePair, IsOfPair}
 use Rattle.fsmd_tool.specs.Runs.{IsOfRun}
 use Rattle.fsmd_tool.specs.Replays.{IsOfReplay}
@@ -65,10 +66,10 @@ record Longer (n : ℕ) : Type 0 where
 longer : (n : ℕ) → Longer n
 longer n = let xs : List ℕ = replicate (n + 1) 0 in let e : length xs ≡ n + 1 = length-replicate (n + 1) 0 in record { bytes = xs; more = omega (arith, e) }
 
-pub too_long : (k h : Held) (F : Type 0) (file : Operand) → h ≡ k → MoreAreHeld h most_bytes → MayGive k F (λ c. IsUnread file c (TooLong file))
-too_long Unknown h F file e m = record { content = Readable (longer most_bytes).bytes; may = tt; meets = Long (longer most_bytes).more refl }
-too_long Nothing h F file e m = absurd (subst (λ o. MoreAreHeld o most_bytes) e m)
-too_long (Bytes b) h F file e m = record { content = Readable b; may = refl; meets = Long (subst (λ o. MoreAreHeld o most_bytes) e m) refl }
+pub too_long : (k h : Held) (F : Type 0) (file : Operand) → h ≡ k → MoreAreHeld h most_text_bytes → MayGive k F (λ c. IsUnread file c (TooLong file))
+too_long Unknown h F file e m = record { content = Readable (longer most_text_bytes).bytes; may = tt; meets = Long (longer most_text_bytes).more refl }
+too_long Nothing h F file e m = absurd (subst (λ o. MoreAreHeld o most_text_bytes) e m)
+too_long (Bytes b) h F file e m = record { content = Readable b; may = refl; meets = Long (subst (λ o. MoreAreHeld o most_text_bytes) e m) refl }
 
 -- what is known, and that it failed to be read, may be said of a file at another time
 may_kept : (h k : Held) (F G : Type 0) → h ≡ k → (F → G) → (c : Content) → MayBeRead h F c → MayBeRead k G c
@@ -150,17 +151,17 @@ interfaces_differ g a b name l r e = record {
 
 -- ---- files of inputs
 
-pub faulty : (fs : List Face) (file : Operand) (bytes name : List ℕ) (fault : Fault) (r : Refusal) → IsFaulty fs bytes name fault → r ≡ Answered (InputRefused file fault name) → WhereAnswered (RefusesBytes fs file bytes) r
+pub faulty : (fs : List Signature) (file : Operand) (bytes name : List ℕ) (fault : Fault) (r : Refusal) → IsFaulty fs bytes name fault → r ≡ Answered (InputRefused file fault name) → WhereAnswered (RefusesBytes fs file bytes) r
 faulty fs file bytes name fault r h e = subst (WhereAnswered (RefusesBytes fs file bytes)) (sym e) (BytesByInput fault name h refl)
 
-by_bytes : (m : Fsmd) (file : Operand) (bytes : List ℕ) (x : Answer) → length bytes ≤ most_bytes → RefusesBytes (faces m) file bytes x → RefusesInputs m file (Readable bytes) x
+by_bytes : (m : Fsmd) (file : Operand) (bytes : List ℕ) (x : Answer) → length bytes ≤ most_text_bytes → RefusesBytes (signatures m) file bytes x → RefusesInputs m file (Readable bytes) x
 by_bytes m file bytes x few (BytesByJson r e) = ByJson (record { few = few; refused = r }) e
 by_bytes m file bytes x few (BytesByInput fault name r e) = ByInput fault name (record { few = few; faulty = r }) e
 
-pub refused_bytes : (m : Fsmd) (file : Operand) (k : Held) (F : Type 0) (bytes : List ℕ) (r : Refusal) → AreHeld k bytes → length bytes ≤ most_bytes → WhereAnswered (RefusesBytes (faces m) file bytes) r
+pub refused_bytes : (m : Fsmd) (file : Operand) (k : Held) (F : Type 0) (bytes : List ℕ) (r : Refusal) → AreHeld k bytes → length bytes ≤ most_text_bytes → WhereAnswered (RefusesBytes (signatures m) file bytes) r
     → WhereAnswered (λ x. MayGive k F (λ c. RefusesInputs m file c x)) r
 refused_bytes m file k F bytes r may few h =
-    answer_map (RefusesBytes (faces m) file bytes) (λ x. MayGive k F (λ c. RefusesInputs m file c x)) (λ x b. record { content = Readable bytes; may = may; meets = by_bytes m file bytes x few b }) r h
+    answer_map (RefusesBytes (signatures m) file bytes) (λ x. MayGive k F (λ c. RefusesInputs m file c x)) (λ x b. record { content = Readable bytes; may = may; meets = by_bytes m file bytes x few b }) r h
 
 pub inputs_refused : (P : Inputs → Answer → Type 0) (m : Fsmd) (file : Operand) (k : Held) (F : Type 0) (e : Refusal)
     → WhereAnswered (λ x. MayGive k F (λ c. RefusesInputs m file c x)) e → WhereAnswered (λ x. MayGive k F (λ c. FollowsFromInputs P m file c x)) e

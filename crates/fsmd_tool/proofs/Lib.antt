@@ -4,4 +4,3 @@ pub mod Pairs
 pub mod Outcomes
 pub mod Positions
 pub mod Listing
-pub mod Serving

@@ -3,7 +3,7 @@ use Rattle.std.proofs.Common.{◌≡◌, ℕ, Bool, true, false, List, refl}
 use Rattle.std.specs.Prelude.{◌&&◌, IsTrue, Some, None, option_map, slice_get}
 use Rattle.std.proofs.lemmas.Bool.{false≢true}
 use Rattle.fs_model.specs.Machines.{Fsmd}
-use Rattle.fs_pair.specs.Faces.{interface_fault}
+use Rattle.fs_pair.specs.Interfaces.{interface_fault}
 use Rattle.straight_line.specs.Straight.{is_straight}
 use Rattle.straight_line.specs.Verdicts.{DiffersAt}
 use Rattle.fsmd_tool.specs.declared.answer.Answer.TheVariants.{OutputDiffers}

@@ -4,7 +4,7 @@ use Rattle.fs_model.specs.Source.{Source}
 use Rattle.fs_model.specs.Machines.{Fsmd}
 use Rattle.fs_ast.specs.Spelled.{machine_of}
 use Rattle.fs_base.specs.Outside.{Held}
-use Rattle.fs_runs.specs.Given.{Face}
+use Rattle.fs_runs.specs.InputValues.{Signature}
 use Rattle.fs_inputs.specs.declared.faults.Fault.{Fault}
 use Rattle.fs_inputs.specs.declared.faults.InputError.TheVariants as errors
 use Rattle.fs_inputs.specs.Refusals.{IsFaulty, IsRefused}
@@ -33,6 +33,6 @@ pub record MayGive (known : Held) (Failed : Type 0) (P : Content → Type 0) : T
   pub meets : P content
 
 -- bytes are refused as inputs of these names and sorts
-pub data RefusesBytes (fs : List Face) (file : Operand) (bytes : List ℕ) (answer : Answer) : Type 0 where
+pub data RefusesBytes (fs : List Signature) (file : Operand) (bytes : List ℕ) (answer : Answer) : Type 0 where
   BytesByJson : IsRefused fs bytes errors.NotJson → answer ≡ NotJson file → RefusesBytes fs file bytes answer
   BytesByInput : (fault : Fault) (name : List ℕ) → IsFaulty fs bytes name fault → answer ≡ InputRefused file fault name → RefusesBytes fs file bytes answer

@@ -2,17 +2,18 @@
 use Rattle.std.specs.Prelude.{◌≡◌, ℕ, ◌≤◌, List, length}
 use Rattle.fs_model.specs.Machines.{Fsmd}
 use Rattle.fs_model.specs.Runs.{Inputs}
-use Rattle.fs_runs.specs.Given.{Face, input_faces}
+use Rattle.fs_runs.specs.InputValues.{Signature, input_signatures}
 use Rattle.fs_grammar.specs.declared.fault.TextFault.{TextFault}
-use Rattle.fs_ast.specs.declared.check.CheckFault.{CheckFault}
+use Rattle.fs_rules.specs.declared.check.CheckFault.{CheckFault}
 use Rattle.fs_inputs.specs.declared.faults.Fault.{Fault}
 use Rattle.fs_inputs.specs.declared.faults.InputError.TheVariants as errors
 use Rattle.fs_inputs.specs.Refusals.{IsFaulty, IsRefused, Spells}
+use Rattle.fs_model.specs.Limits.{most_text_bytes}
 use Rattle.fsmd_tool.specs.declared.answer.Operand.{Operand}
 use Rattle.fsmd_tool.specs.declared.answer.Operand.TheVariants.{First, Second}
 use Rattle.fsmd_tool.specs.declared.answer.Answer.{Answer}
 use Rattle.fsmd_tool.specs.declared.answer.Answer.TheVariants.{CannotRead, TooLong, TextRefused, CheckRefused, NotJson, InputRefused}
-use Rattle.fsmd_tool.specs.Texts.{most_bytes, IsTooLong, IsMachine, HasTextFault, HasCheckFault}
+use Rattle.fsmd_tool.specs.Texts.{IsTooLong, IsMachine, HasTextFault, HasCheckFault}
 use Rattle.fsmd_tool.specs.Readings.{Content, Unreadable, OfBytes, Reading}
 
 -- the bytes of a file were not read
@@ -32,23 +33,23 @@ pub data RefusesPair (r : Reading) (answer : Answer) : Type 0 where
   SecondRefused : OfBytes r.first IsMachine → RefusesMachine Second r.second answer → RefusesPair r answer
 
 -- the names and sorts of a machine's inputs
-abbrev pub faces : Fsmd → List Face
-faces m = input_faces m.variables
+abbrev pub signatures : Fsmd → List Signature
+signatures m = input_signatures m.variables
 
 -- bytes that are read are not JSON
 pub record IsNotJson (m : Fsmd) (bytes : List ℕ) : Type 0 where
-  pub few : length bytes ≤ most_bytes
-  pub refused : IsRefused (faces m) bytes errors.NotJson
+  pub few : length bytes ≤ most_text_bytes
+  pub refused : IsRefused (signatures m) bytes errors.NotJson
 
 -- bytes that are read are JSON, whose first fault as inputs of a machine is this, at this name
 pub record HasInputFault (m : Fsmd) (fault : Fault) (name : List ℕ) (bytes : List ℕ) : Type 0 where
-  pub few : length bytes ≤ most_bytes
-  pub faulty : IsFaulty (faces m) bytes name fault
+  pub few : length bytes ≤ most_text_bytes
+  pub faulty : IsFaulty (signatures m) bytes name fault
 
 -- bytes that are read spell inputs of a machine
 pub record SpellsInputs (m : Fsmd) (ins : Inputs) (bytes : List ℕ) : Type 0 where
-  pub few : length bytes ≤ most_bytes
-  pub spells : Spells (faces m) bytes ins
+  pub few : length bytes ≤ most_text_bytes
+  pub spells : Spells (signatures m) bytes ins
 
 -- why a file of a machine's inputs is refused
 pub data RefusesInputs (m : Fsmd) (file : Operand) (content : Content) (answer : Answer) : Type 0 where

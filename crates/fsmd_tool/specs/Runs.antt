@@ -1,13 +1,11 @@
 -- Which answer a run gets.
-use Rattle.std.specs.Prelude.{◌≡◌, ℕ, ◌≤◌, List}
+use Rattle.std.specs.Prelude.{◌≡◌, ℕ, List}
 use Rattle.fs_model.specs.Machines.{Fsmd}
-use Rattle.fs_model.specs.Runs.{Inputs, Run, start}
-use Rattle.fs_model.specs.Touched.{StaysInRange}
+use Rattle.fs_model.specs.Runs.{Inputs}
 use Rattle.fs_runs.specs.declared.run.RunStop.{RunStop}
-use Rattle.fs_runs.specs.Outcomes.{output_names, IsStopped}
+use Rattle.fs_runs.specs.Outcomes.{Outputs, output_names, EndsWith, IsStopped}
 use Rattle.fs_show.specs.declared.ends.Side.{Side}
 use Rattle.fs_show.specs.declared.ends.Side.TheVariants.{Only}
-use Rattle.fs_show.specs.Items.{Outputs}
 use Rattle.fs_show.specs.Ends.{IsEndText, IsStopText}
 use Rattle.fsmd_tool.specs.declared.answer.Answer.{Answer}
 use Rattle.fsmd_tool.specs.declared.answer.Answer.TheVariants.{Text, NoReturn}
@@ -16,12 +14,9 @@ use Rattle.fsmd_tool.specs.declared.answer.Answer.TheVariants.{Text, NoReturn}
 abbrev pub most_steps : ℕ
 most_steps = 10000
 
--- from these inputs the machine returns to its reset state within the limit, with these outputs, and each number that it
--- touches lies within 128 bits
-pub record Ends (m : Fsmd) (ins : Inputs) (outs : Outputs) (steps : ℕ) : Type 0 where
-  pub run : Run m ins outs steps
-  pub within : steps ≤ most_steps
-  pub in_range : StaysInRange m steps m.reset (start m ins)
+-- from these inputs the machine returns to its reset state within the limit, with these outputs
+abbrev pub Ends : Fsmd → Inputs → Outputs → (steps : ℕ) → Type 0
+Ends m ins outs steps = EndsWith m ins most_steps outs steps
 
 -- the answer is lines of which P holds, of one of the kinds of answers that are lines
 pub record HasLines (P : List ℕ → Type 0) (kind : List ℕ → Answer) (answer : Answer) : Type 0 where

@@ -2,26 +2,23 @@
 use Rattle.std.specs.Prelude.{◌≡◌, ℕ, ◌<◌, ◌≤◌, List, length}
 use Rattle.fs_model.specs.Source.{Source}
 use Rattle.fs_model.specs.Machines.{Fsmd}
+use Rattle.fs_model.specs.Limits.{most_text_bytes}
 use Rattle.fs_grammar.specs.declared.fault.TextFault.{TextFault}
-use Rattle.grammar_laws.specs.Faults.{Spells, StopsAt}
+use Rattle.text_laws.specs.Limit.{SpellWithin, StopWithin}
 use Rattle.fs_lex.specs.Scan.{tokens_of}
 use Rattle.fs_write.specs.Canonical.{canonical}
-use Rattle.fs_ast.specs.declared.check.CheckFault.{CheckFault}
+use Rattle.fs_rules.specs.declared.check.CheckFault.{CheckFault}
 use Rattle.fs_ast.specs.Spelled.{machine_of}
 use Rattle.fs_ast.specs.Rules.{IsLawful, IsFirstBroken}
 
--- the most bytes of a file that are read
-abbrev pub most_bytes : ℕ
-most_bytes = 1048576
-
 -- there are more bytes than are read
 abbrev pub IsTooLong : List ℕ → Type 0
-IsTooLong bytes = most_bytes < length bytes
+IsTooLong bytes = most_text_bytes < length bytes
 
 -- the bytes spell these parts, which break no rule
 pub record SpellsParts (parts : Source) (bytes : List ℕ) : Type 0 where
-  pub few : length bytes ≤ most_bytes
-  pub spells : Spells parts (tokens_of bytes)
+  pub few : length bytes ≤ most_text_bytes
+  pub spells : SpellWithin (tokens_of bytes) parts
   pub lawful : IsLawful parts
 
 -- the bytes spell this machine
@@ -42,12 +39,12 @@ pub record HasCanonicalText (text : List ℕ) (bytes : List ℕ) : Type 0 where
 
 -- the bytes spell no parts: the reading of their tokens stops with this fault
 pub record HasTextFault (fault : TextFault) (bytes : List ℕ) : Type 0 where
-  pub few : length bytes ≤ most_bytes
-  pub stops : StopsAt (tokens_of bytes) fault
+  pub few : length bytes ≤ most_text_bytes
+  pub stops : StopWithin (tokens_of bytes) fault
 
 -- the bytes spell parts, and this is the rule that they break first
 pub record HasCheckFault (fault : CheckFault) (bytes : List ℕ) : Type 0 where
   pub parts : Source
-  pub few : length bytes ≤ most_bytes
-  pub spells : Spells parts (tokens_of bytes)
+  pub few : length bytes ≤ most_text_bytes
+  pub spells : SpellWithin (tokens_of bytes) parts
   pub broken : IsFirstBroken parts fault

@@ -5,12 +5,13 @@ ghost use Rattle.std.specs.Result.{IfErr};
 ghost use Rattle.fs_base.specs.Outside.{Rose, NoneFell, SameHeld, AreHeld};
 ghost use Rattle.fs_model.specs.View.{source_of};
 ghost use Rattle.fs_model.specs.WellFormed.{is_well_formed};
-ghost use Rattle.fs_runs.specs.Given.{Face, faces_of, inputs_of, Serves};
+ghost use Rattle.fs_runs.specs.InputValues.{Signature, signatures_of, inputs_of, Serves};
 ghost use Rattle.fs_inputs.specs.Refusals.{IsRefused};
+ghost use Rattle.fs_model.specs.Limits.{most_text_bytes};
 ghost use Rattle.fsmd_tool.specs.Words.{word_of};
-ghost use Rattle.fsmd_tool.specs.Texts.{SpellsMachine, most_bytes};
+ghost use Rattle.fsmd_tool.specs.Texts.{SpellsMachine};
 ghost use Rattle.fsmd_tool.specs.Readings.{Readable, MayHold};
-ghost use Rattle.fsmd_tool.specs.Refusals.{faces, IsUnread, RefusesMachine, RefusesInputs, SpellsInputs};
+ghost use Rattle.fsmd_tool.specs.Refusals.{signatures, IsUnread, RefusesMachine, RefusesInputs, SpellsInputs};
 ghost use Rattle.fsmd_tool.specs.Loading.{WhereAnswered, IsLoaded, MayGive, RefusesBytes};
 ghost use Rattle.fsmd_tool.specs.declared.answer.Answer.TheVariants.{InputRefused};
 ghost use Rattle.fsmd_tool.specs.declared.load.Refused.TheVariants.{Answered, NoMemory};
@@ -22,13 +23,11 @@ use fs_ast::machine::Machine;
 use fs_base::outside::{Files, LoadError};
 use fs_grammar::fault::ReadError;
 use fs_inputs::{Fault as InputFault, InputError, read_inputs};
+use fs_model::limits::TEXT_LIMIT;
 use fs_model::parts::Parts;
 use fs_runs::inputs::Inputs;
 use fs_text::read_parts;
 use std::alloc::{AllocError, Global};
-
-/// The most bytes of a file that are read.
-const MOST_BYTES: u64 = 1_048_576;
 
 /// Why there is no machine, or no verdict.
 #[derive(Drop)]
@@ -62,12 +61,12 @@ fn load_bytes<F: Files>(
     files: &mut F,
 ) -> Result<Vec<u8>, Refused>
     ensures held { IfOk result (λ bytes. AreHeld (F.holds files.old (word_of (map string_bytes words.now) file)) bytes.items) }
-    ensures within { IfOk result (λ bytes. length bytes.items ≤ most_bytes) }
+    ensures within { IfOk result (λ bytes. length bytes.items ≤ most_text_bytes) }
     ensures unread { IfErr result (WhereAnswered (λ answer. MayGive (F.holds files.old (word_of (map string_bytes words.now) file)) (Rose (F.faults files.old (word_of (map string_bytes words.now) file)) (F.faults files.new (word_of (map string_bytes words.now) file))) (λ content. IsUnread file content answer))) }
     ensures counts { NoneFell (F.faults files.old) (F.faults files.new) }
     ensures unchanged { SameHeld (F.holds files.old) (F.holds files.new) }
 {
-    match files.load(alloc, word_of(words, file), MOST_BYTES) {
+    match files.load(alloc, word_of(words, file), TEXT_LIMIT as u64) {
         Ok(bytes) => Ok(bytes),
         Err(LoadError::Failed) => Err(Refused::Answered(Answer::CannotRead { file })),
         Err(LoadError::TooLong) => Err(Refused::Answered(Answer::TooLong { file })),
@@ -77,7 +76,7 @@ fn load_bytes<F: Files>(
 
 // What the bytes of a file spell, or the answer that refuses them.
 fn read_machine(alloc: Global, file: Operand, bytes: &[u8]) -> Result<Loaded, Refused>
-    requires { length bytes.now ≤ most_bytes }
+    requires { length bytes.now ≤ most_text_bytes }
     ensures loaded { IfOk result (λ l. IsLoaded (source_of l.parts) l.machine bytes.now) }
     ensures well_formed { IfOk result (λ l. IsTrue (is_well_formed (source_of l.parts))) }
     ensures refused { IfErr result (WhereAnswered (λ answer. RefusesMachine file (Readable bytes.now) answer)) }
@@ -141,7 +140,7 @@ fn refused_at(file: Operand, fault: InputFault, name: String) -> Refused
 
 // The refusal of a file of inputs.
 fn refused_inputs(file: Operand, error: InputError) -> Refused
-    ensures { (fs : List Face) (bytes : List ℕ) → IsRefused fs bytes error → WhereAnswered (RefusesBytes fs file bytes) result }
+    ensures { (fs : List Signature) (bytes : List ℕ) → IsRefused fs bytes error → WhereAnswered (RefusesBytes fs file bytes) result }
 {
     match error {
         InputError::NotJson => Refused::Answered(Answer::NotJson { file }),
@@ -161,8 +160,8 @@ pub fn load_inputs<F: Files>(
     files: &mut F,
 ) -> Result<Inputs, Refused>
     ensures spells { IfOk result (λ i. MayHold (F.holds files.old (word_of (map string_bytes words.now) file)) (SpellsInputs machine.now (inputs_of i))) }
-    ensures faces { IfOk result (λ i. faces_of i ≡ faces machine.now) }
-    ensures serves { IfOk result (λ i. Serves (faces_of i) machine.now) }
+    ensures signatures { IfOk result (λ i. signatures_of i ≡ signatures machine.now) }
+    ensures serves { IfOk result (λ i. Serves (signatures_of i) machine.now) }
     ensures refused { IfErr result (WhereAnswered (λ answer. MayGive (F.holds files.old (word_of (map string_bytes words.now) file)) (Rose (F.faults files.old (word_of (map string_bytes words.now) file)) (F.faults files.new (word_of (map string_bytes words.now) file))) (λ content. RefusesInputs machine.now file content answer))) }
     ensures counts { NoneFell (F.faults files.old) (F.faults files.new) }
     ensures unchanged { SameHeld (F.holds files.old) (F.holds files.new) }

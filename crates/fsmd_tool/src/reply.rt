@@ -23,6 +23,7 @@ fn kind_name(kind: TextKind) -> &'static str
         TextKind::NumberTooBig => "NumberTooBig",
         TextKind::Unexpected => "Unexpected",
         TextKind::Operators => "Operators",
+        TextKind::Nested => "Nested",
         TextKind::Ended => "Ended",
     }
 }
@@ -42,6 +43,7 @@ fn rule_name(rule: CheckRule) -> &'static str
         CheckRule::EndlessLine => "EndlessLine",
         CheckRule::UnknownState => "UnknownState",
         CheckRule::TooMany => "TooMany",
+        CheckRule::TooManyEmits => "TooManyEmits",
     }
 }
 

@@ -1,8 +1,8 @@
 //! Runs machines on inputs, and says what they answer.
 
 ghost use Rattle.std.specs.Prelude.{◌≡◌, cond, None, IfOk};
-ghost use Rattle.fs_pair.specs.Faces.{interface_fault};
-ghost use Rattle.fs_runs.specs.Given.{inputs_of, faces_of, Serves};
+ghost use Rattle.fs_pair.specs.Interfaces.{interface_fault};
+ghost use Rattle.fs_runs.specs.InputValues.{inputs_of, signatures_of, Serves};
 ghost use Rattle.fsmd_tool.specs.Runs.{IsOfStop, IsOfRun};
 ghost use Rattle.fsmd_tool.specs.Replays.{IsOfReplay};
 ghost use Rattle.fsmd_tool.specs.declared.answer.Answer.TheVariants.{Text, Differs};
@@ -32,7 +32,7 @@ fn unended(alloc: Global, side: Side, stop: RunStop) -> Result<Answer, AllocErro
 
 /// What a run of a machine from inputs answers.
 pub fn run_machine(alloc: Global, machine: &Machine, inputs: &Inputs) -> Result<Answer, AllocError>
-    requires { Serves (faces_of inputs.now) machine.now }
+    requires { Serves (signatures_of inputs.now) machine.now }
     ensures { IfOk result (IsOfRun machine.now (inputs_of inputs.now)) }
 {
     let ended = match run(alloc, machine, inputs, MOST_STEPS) {
@@ -66,8 +66,8 @@ pub fn replay_machines(
     inputs: &Inputs,
 ) -> Result<Answer, AllocError>
     requires alike { interface_fault left.now right.now ≡ None }
-    requires left_inputs { Serves (faces_of inputs.now) left.now }
-    requires right_inputs { Serves (faces_of inputs.now) right.now }
+    requires left_inputs { Serves (signatures_of inputs.now) left.now }
+    requires right_inputs { Serves (signatures_of inputs.now) right.now }
     ensures { IfOk result (IsOfReplay left.now right.now (inputs_of inputs.now)) }
 {
     let left_end = match run(alloc, left, inputs, MOST_STEPS) {

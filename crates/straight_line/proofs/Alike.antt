@@ -10,7 +10,7 @@ use Rattle.fs_model.specs.Machines.{Fsmd}
 use Rattle.fs_model.specs.Stores.{Store}
 use Rattle.fs_model.specs.Runs.{Inputs, Run, FirstReturn, Content, SameBehaviour, start, first_scalar, is_input, is_scalar as holds_number, output}
 use Rattle.fs_model.proofs.Determined.{goes_once}
-use Rattle.fs_pair.specs.Faces.{is_face, named, is_like, lacks_match, first_unmatched, interface_fault}
+use Rattle.fs_pair.specs.Interfaces.{is_interface, named, is_like, lacks_match, first_unmatched, interface_fault}
 use Rattle.nf_terms.specs.Terms.{Polynomial, Zero, polynomial_of_symbol}
 use Rattle.nf_terms.specs.Meaning.{Valuation, value_of}
 use Rattle.nf_terms.specs.declared.tree.Pos.{Pos}
@@ -87,7 +87,7 @@ matched_at [] lefts x v e g = absurd (cc)
 matched_at (u ∷ vs) lefts zero v e g = let same : u ≡ v = cc in subst (λ z. lacks_match lefts z ≡ false) same (unmatched_step (lacks_match lefts u) u.name (first_unmatched vs lefts) e).0
 matched_at (u ∷ vs) lefts (suc x) v e g = matched_at vs lefts x v (unmatched_step (lacks_match lefts u) u.name (first_unmatched vs lefts) e).1 g
 
-input_matched : (r : Role) → is_input r ≡ true → (is_face r && not false) ≡ false → ⊥
+input_matched : (r : Role) → is_input r ≡ true → (is_interface r && not false) ≡ false → ⊥
 input_matched Input r e = absurd (cc)
 input_matched Output r e = absurd (cc)
 input_matched Local r e = absurd (cc)
@@ -95,7 +95,7 @@ input_matched Local r e = absurd (cc)
 right_known : (lefts vs : List VarInfo) → has_scalars_only vs ≡ true → first_unmatched vs lefts ≡ None → InputsKnown lefts vs
 right_known lefts vs h e = record {
   scalars = λ x v g. ap holds_number (is_scalar vs x v h g);
-  known = λ x v g r n. input_matched v.role r (subst (λ (o : Option VarInfo). (is_face v.role && not (is_like v o)) ≡ false) n (matched_at vs lefts x v e g));
+  known = λ x v g r n. input_matched v.role r (subst (λ (o : Option VarInfo). (is_interface v.role && not (is_like v o)) ≡ false) n (matched_at vs lefts x v e g));
 }
 
 -- ---- the runs

@@ -14,7 +14,7 @@ use Rattle.fs_model.specs.Machines.{Fsmd}
 use Rattle.fs_model.specs.Stores.{Store}
 use Rattle.fs_model.specs.Runs.{Content, Number, is_output, content, output_from, output}
 use Rattle.fs_ast.specs.Sound.{is_array, names_differ}
-use Rattle.fs_pair.specs.Faces.{is_face, same_role, same_sort, named, is_like, lacks_match, first_unmatched, interface_fault}
+use Rattle.fs_pair.specs.Interfaces.{is_interface, same_role, same_sort, named, is_like, lacks_match, first_unmatched, interface_fault}
 use Rattle.nf_terms.specs.Terms.{Polynomial, Zero}
 use Rattle.nf_terms.specs.Meaning.{Valuation, value_of}
 use Rattle.nf_terms.specs.Order.{same_polynomial}
@@ -137,12 +137,12 @@ pub right_none : (o p : Option (List ℕ)) → option_or o p ≡ None → p ≡ 
 right_none None p e = e
 right_none (Some x) p e = absurd (cc)
 
-alone_no_output : (r : Role) → (is_face r && not false) ≡ false → is_output r ≡ false
+alone_no_output : (r : Role) → (is_interface r && not false) ≡ false → is_output r ≡ false
 alone_no_output Input e = absurd (cc)
 alone_no_output Output e = absurd (cc)
 alone_no_output Local e = refl
 
-alike_outputs : (r q : Role) (c d : Bool) → (is_face r && not (same_role r q && c)) ≡ false → (is_face q && not (same_role q r && d)) ≡ false → is_output r ≡ is_output q
+alike_outputs : (r q : Role) (c d : Bool) → (is_interface r && not (same_role r q && c)) ≡ false → (is_interface q && not (same_role q r && d)) ≡ false → is_output r ≡ is_output q
 alike_outputs Input Input c d e f = refl
 alike_outputs Input Output c d e f = absurd (cc)
 alike_outputs Input Local c d e f = refl
@@ -198,14 +198,14 @@ same_output_at a b left right w s t name c (Absent p n) (Present j u q m g e) =
     let q' : place_of b.variables name ≡ Some j = q ∙ ap Some (zero-add j) in
     let l : lacks_match a.variables u ≡ false = matched b.variables a.variables name u (right_none (first_unmatched a.variables b.variables) (first_unmatched b.variables a.variables) c.faces) m in
     let absent : named a.variables u.name ≡ None = subst (λ z. named a.variables z ≡ None) (sym e) n in
-    let r : is_output u.role ≡ false = alone_no_output u.role (subst (λ (o : Option VarInfo). (is_face u.role && not (is_like u o)) ≡ false) absent l) in
+    let r : is_output u.role ≡ false = alone_no_output u.role (subst (λ (o : Option VarInfo). (is_interface u.role && not (is_like u o)) ≡ false) absent l) in
     no_output a.variables 0 (store_in w s left) name n
     ∙ sym (output_named b.variables 0 (store_in w t right) name u j c.right_names m q' ∙ ap (λ x. cond x (Some (content u.sort j (store_in w t right))) None) r)
 same_output_at a b left right w s t name c (Present i v p n f d) (Absent q m) =
     let p' : place_of a.variables name ≡ Some i = p ∙ ap Some (zero-add i) in
     let l : lacks_match b.variables v ≡ false = matched a.variables b.variables name v (left_none (first_unmatched a.variables b.variables) (first_unmatched b.variables a.variables) c.faces) n in
     let absent : named b.variables v.name ≡ None = subst (λ z. named b.variables z ≡ None) (sym d) m in
-    let r : is_output v.role ≡ false = alone_no_output v.role (subst (λ (o : Option VarInfo). (is_face v.role && not (is_like v o)) ≡ false) absent l) in
+    let r : is_output v.role ≡ false = alone_no_output v.role (subst (λ (o : Option VarInfo). (is_interface v.role && not (is_like v o)) ≡ false) absent l) in
     output_named a.variables 0 (store_in w s left) name v i c.left_names n p' ∙ ap (λ x. cond x (Some (content v.sort i (store_in w s left))) None) r
     ∙ sym (no_output b.variables 0 (store_in w t right) name m)
 same_output_at a b left right w s t name c (Present i v p n f d) (Present j u q m g e) =
@@ -215,8 +215,8 @@ same_output_at a b left right w s t name c (Present i v p n f d) (Present j u q 
     let k : lacks_match a.variables u ≡ false = matched b.variables a.variables name u (right_none (first_unmatched a.variables b.variables) (first_unmatched b.variables a.variables) c.faces) m in
     let found : named b.variables v.name ≡ Some u = subst (λ z. named b.variables z ≡ Some u) (sym d) m in
     let back : named a.variables u.name ≡ Some v = subst (λ z. named a.variables z ≡ Some v) (sym e) n in
-    let l' : (is_face v.role && not (same_role v.role u.role && same_sort v.sort u.sort)) ≡ false = subst (λ (o : Option VarInfo). (is_face v.role && not (is_like v o)) ≡ false) found l in
-    let k' : (is_face u.role && not (same_role u.role v.role && same_sort u.sort v.sort)) ≡ false = subst (λ (o : Option VarInfo). (is_face u.role && not (is_like u o)) ≡ false) back k in
+    let l' : (is_interface v.role && not (same_role v.role u.role && same_sort v.sort u.sort)) ≡ false = subst (λ (o : Option VarInfo). (is_interface v.role && not (is_like v o)) ≡ false) found l in
+    let k' : (is_interface u.role && not (same_role u.role v.role && same_sort u.sort v.sort)) ≡ false = subst (λ (o : Option VarInfo). (is_interface u.role && not (is_like u o)) ≡ false) back k in
     let alike : is_output v.role ≡ is_output u.role = alike_outputs v.role u.role _ _ l' k' in
     let agreeing : is_output v.role ≡ true → slice_index_or left i Zero ≡ slice_index_or right j Zero = λ o. agreed left right i j (placed a b left right name v i j p' q' d (differ_step (is_output v.role) _ o (passed (output_differs a.variables left b.variables right) 0 a.variables name v c.same n))) in
     output_named a.variables 0 (store_in w s left) name v i c.left_names n p'

@@ -1,11 +1,11 @@
 use Rattle.std.proofs.Common.{rules, map}
 use Rattle.std.specs.Prelude.{string_bytes}
 use Rattle.fs_base.specs.Outside.{Rose}
-use Rattle.fs_runs.specs.Given.{inputs_of}
+use Rattle.fs_runs.specs.InputValues.{inputs_of}
 use Rattle.fsmd_tool.specs.declared.answer.Operand.TheVariants.{Third}
 use Rattle.fsmd_tool.specs.Words.{word_of}
 use Rattle.fsmd_tool.specs.Replays.{IsOfReplay}
-use Rattle.fsmd_tool.proofs.Serving.{serves_right}
+use Rattle.fs_show.proofs.Serving.{serves_both}
 use Rattle.fsmd_tool.specs.Correct.{FollowsFromInputs}
 use Rattle.fsmd_tool.specs.Loading.{WhereAnswered, MayGive}
 use Rattle.fsmd_tool.proofs.FromFiles.{inputs_refused, inputs_spelled}
@@ -22,4 +22,4 @@ pub returns-clause-ok : goal.returns-clause-ok
 returns-clause-ok g c = inputs_spelled (IsOfReplay c.args.left.now c.args.right.now) c.args.left.now Third _ _ (inputs_of c.in_ok-inputs.inputs) c.in_ok-replay_machines.field-0 c.in_ok-inputs.ensures.spells c.in_ok-replay_machines.ensures
 
 pub replay_machines-requires-clause-right_inputs : goal.replay_machines-requires-clause-right_inputs
-replay_machines-requires-clause-right_inputs g c = serves_right c.args.left.now c.args.right.now _ c.in_ok-inputs.ensures.faces c.requires
+replay_machines-requires-clause-right_inputs g c = serves_both c.args.left.now c.args.right.now _ c.requires c.in_ok-inputs.ensures.signatures

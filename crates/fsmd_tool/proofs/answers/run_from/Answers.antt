@@ -1,7 +1,7 @@
 use Rattle.std.proofs.Common.{rules, map}
 use Rattle.std.specs.Prelude.{string_bytes}
 use Rattle.fs_base.specs.Outside.{Rose}
-use Rattle.fs_runs.specs.Given.{inputs_of}
+use Rattle.fs_runs.specs.InputValues.{inputs_of}
 use Rattle.fsmd_tool.specs.declared.answer.Operand.TheVariants.{Second}
 use Rattle.fsmd_tool.specs.Words.{word_of}
 use Rattle.fsmd_tool.specs.Runs.{IsOfRun}

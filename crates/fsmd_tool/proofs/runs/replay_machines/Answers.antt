@@ -1,5 +1,4 @@
-use Rattle.fs_runs.specs.Given.{inputs_of}
-use Rattle.fs_show.proofs.Faces.{run_holds_each}
+use Rattle.fs_runs.specs.InputValues.{inputs_of}
 use Rattle.fsmd_tool.proofs.Ends.{left_stopped, right_stopped, both_ended}
 use Rattle.fsmd_tool.proofs.runs.replay_machines.Goals as goal
 
@@ -11,11 +10,7 @@ returns-in-Err-run c =
     right_stopped c.args.left.now c.args.right.now (inputs_of c.args.inputs.now) _ c.in-Ok.ended.steps c.in-Err-run.stop c.unended-in-Err-run.result
     (record { run = c.in-Ok.ensures.ended; within = c.in-Ok.ensures.within; in_range = c.in-Ok.ensures.in_range }) c.in-Err-run.ensures.stopped c.unended-in-Err-run.ensures
 
-pub replay_text-requires-clause-left_outputs : goal.replay_text-requires-clause-left_outputs
-replay_text-requires-clause-left_outputs c = run_holds_each c.args.left.now (inputs_of c.args.inputs.now) _ c.in-Ok.ended.steps c.in-Ok.ensures.ended
 
-pub replay_text-requires-clause-right_outputs : goal.replay_text-requires-clause-right_outputs
-replay_text-requires-clause-right_outputs c = run_holds_each c.args.right.now (inputs_of c.args.inputs.now) _ c.in-Ok-run.ended.steps c.in-Ok-run.ensures.ended
 
 pub returns-in-Ok-replay_text : goal.returns-in-Ok-replay_text
 returns-in-Ok-replay_text c =
