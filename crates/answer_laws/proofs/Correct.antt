@@ -89,7 +89,7 @@ text_once P once spells r s x y e (TextRefused p) (Listed l) = absurd (some_not_
 text_once P once spells r s x y e (Listed l) (TextRefused q) = absurd (some_not_refused First r.first s.first y e (text_machine P spells r.first l.lines l.holds) q)
 text_once P once spells r s x y e (Listed l) (Listed k) =
     let same : l.lines ≡ k.lines = of_both s.first (P l.lines) (P k.lines) (l.lines ≡ k.lines) (λ b t u. once b l.lines k.lines t u)
-      (subst (λ c. OfBytes c (P l.lines)) (e (bytes_opened r.first (P l.lines) l.holds) (bytes_opened s.first (P k.lines) k.holds)) l.holds) k.holds
+    (subst (λ c. OfBytes c (P l.lines)) (e (bytes_opened r.first (P l.lines) l.holds) (bytes_opened s.first (P k.lines) k.holds)) l.holds) k.holds
     in
     l.is ∙ ap Text same ∙ sym k.is
 

@@ -122,12 +122,12 @@ pub second_refused : (g : Call) (h : Held) (before : ℕ) (a : Fsmd) (e : Refusa
 second_refused g h before a e same le left r =
     answer_map (λ x. MayGive h (Rose before (g.faults_now (word_of g.words Second))) (λ c. RefusesMachine Second c x)) (IsCorrectBy RefusesPair g)
     (λ x m.
-        let k = later g Second h before (λ c. RefusesMachine Second c x) same le m in
-        record {
-          reading = record { first = Readable left.bytes; second = k.content; third = Unopened };
-          may_be_read = record { first = left.may; second = k.may; third = tt };
-          follows = SecondRefused (a, left.meet) k.meets;
-        }) e r
+    let k = later g Second h before (λ c. RefusesMachine Second c x) same le m in
+    record {
+      reading = record { first = Readable left.bytes; second = k.content; third = Unopened };
+      may_be_read = record { first = left.may; second = k.may; third = tt };
+      follows = SecondRefused (a, left.meet) k.meets;
+    }) e r
 
 pub pair_refused : (P : Reading → Answer → Type 0) (g : Call) (e : Refusal) → ((r : Reading) (x : Answer) → RefusesPair r x → P r x) → WhereAnswered (IsCorrectBy RefusesPair g) e → WhereAnswered (IsCorrectBy P g) e
 pair_refused P g e f h = answer_map (IsCorrectBy RefusesPair g) (IsCorrectBy P g) (λ x p. record { reading = p.reading; may_be_read = p.may_be_read; follows = f p.reading x p.follows }) e h

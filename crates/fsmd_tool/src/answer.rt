@@ -158,9 +158,8 @@ impl Answer {
         match self {
             Answer::Equivalent { .. } | Answer::Text { .. } => Status::Fine,
             Answer::Differs { .. } => Status::Differ,
-            Answer::OutputDiffers { .. } | Answer::Wide | Answer::Large | Answer::NoReturn { .. } => {
-                Status::Undecided
-            }
+            Answer::OutputDiffers { .. } | Answer::Wide | Answer::Large | Answer::NoReturn { .. } =>
+                { Status::Undecided }
             Answer::Usage => Status::Usage,
             Answer::TextRefused { .. }
             | Answer::CheckRefused { .. }

@@ -28,11 +28,7 @@ use fs_write::write_parts;
 use std::alloc::{AllocError, Global};
 
 /// What `check` answers: what two machines get.
-pub fn check<F: Files>(
-    alloc: Global,
-    words: &[String],
-    files: &mut F,
-) -> Result<Answer, Refused>
+pub fn check<F: Files>(alloc: Global, words: &[String], files: &mut F) -> Result<Answer, Refused>
     ensures ok { IfOk result (IsCorrectBy FollowsForCheck (call (map string_bytes words.now) (F.holds files.old) (F.faults files.old) (F.faults files.new))) }
     ensures refused { IfErr result (WhereAnswered (IsCorrectBy FollowsForCheck (call (map string_bytes words.now) (F.holds files.old) (F.faults files.old) (F.faults files.new)))) }
     ensures counts { NoneFell (F.faults files.old) (F.faults files.new) }

@@ -8,6 +8,7 @@ pub mod drive;
 mod load;
 mod pair;
 mod paths;
+pub mod program;
 mod put;
 mod reply;
 mod runs;

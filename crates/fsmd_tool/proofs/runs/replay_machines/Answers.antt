@@ -10,8 +10,6 @@ returns-in-Err-run c =
     right_stopped c.args.left.now c.args.right.now (inputs_of c.args.inputs.now) _ c.in-Ok.ended.steps c.in-Err-run.stop c.unended-in-Err-run.result
     (record { run = c.in-Ok.ensures.ended; within = c.in-Ok.ensures.within; in_range = c.in-Ok.ensures.in_range }) c.in-Err-run.ensures.stopped c.unended-in-Err-run.ensures
 
-
-
 pub returns-in-Ok-replay_text : goal.returns-in-Ok-replay_text
 returns-in-Ok-replay_text c =
     both_ended c.args.left.now c.args.right.now (inputs_of c.args.inputs.now) _ _ c.in-Ok.ended.steps c.in-Ok-run.ended.steps c.in-Ok-replay_text.field-0.same c.in-Ok-replay_text.field-0.text.items c.of.result c.compared.result
