@@ -1,4 +1,4 @@
--- Each part of an execution has one outcome, want of memory aside.
+-- Each part of an execution has one outcome, out of memory aside.
 use Rattle.std.proofs.Common.{◌≡◌, ℕ, zero, suc, ◌+◌, ◌*◌, List, [], ◌∷◌, length, Bool, true, false, refl, sym, ◌∙◌, ap, subst}
 use Rattle.std.specs.Prelude.{◌==◌, ℤ, Ok, Err, slice_set}
 use Rattle.fs_model.specs.declared.parts.VarInfo.{VarInfo}
@@ -15,7 +15,7 @@ use Rattle.straight_line.specs.Vectors.{start_vector}
 use Rattle.straight_line.specs.Execution.{Outcome, InTurn, Stops, GoesOn, Operates, Adds, Subtracts, Multiplies, IsNumber, Evaluates, Assigns, AssignsAll, first_assignments, ReturnsOr, Executes, Execution}
 use Rattle.answer_laws.specs.Outcomes.{HadMemory}
 
--- two outcomes that are no want of memory are the same
+-- two outcomes that are not out of memory are the same
 pub record OneOutcome {T : Type 0} (P : Outcome T → Type 0) : Type 0 where
   pub once : (x y : Outcome T) → P x → P y → HadMemory x → HadMemory y → x ≡ y
 

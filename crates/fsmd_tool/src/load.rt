@@ -34,7 +34,7 @@ use std::alloc::{AllocError, Global};
 pub enum Refused {
     /// This is answered instead.
     Answered(Answer),
-    /// There is no memory.
+    /// Out of memory.
     NoMemory,
 }
 
