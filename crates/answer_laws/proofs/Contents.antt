@@ -1,7 +1,13 @@
 -- What was read of a file is one thing.
-use Rattle.std.proofs.Common.{◌≡◌, ℕ, List, sym, ◌∙◌, subst}
+use Rattle.std.proofs.Common.{◌≡◌, ℕ, List, Option, Some, None, sym, ◌∙◌, subst}
 use Rattle.fsmd_tool.specs.Readings.{Content, Unopened, Readable, Unreadable, OfBytes}
 use Rattle.answer_laws.specs.Settled.{IsOpened}
+
+pub some_same : {A : Type 0} (x y : A) → Path (Option A) (Some x) (Some y) → x ≡ y
+some_same x y e = cc
+
+pub some_none : {A : Type 0} (x : A) (o : Option A) → o ≡ Some x → o ≡ None → ⊥
+some_none x o e n = let f : Some x ≡ None = sym e ∙ n in cc
 
 pub of_both : (c : Content) (P Q : List ℕ → Type 0) (R : Type 0) → ((b : List ℕ) → P b → Q b → R) → OfBytes c P → OfBytes c Q → R
 of_both Unopened P Q R f p q = absurd p

@@ -15,17 +15,17 @@ use Rattle.fsmd_tool.specs.Words.{command_of, names}
 use Rattle.fsmd_tool.specs.Texts.{SpellsMachine, IsMachine, HasCanonicalText}
 use Rattle.fsmd_tool.specs.Paths.{HasPaths}
 use Rattle.fsmd_tool.specs.Readings.{Call, held, FailedToRead, Content, Unopened, Readable, Unreadable, OfBytes, MayBeRead, Reading, content_of, MayRead}
-use Rattle.fsmd_tool.specs.Refusals.{RefusesMachine, RefusesPair, FirstRefused, SecondRefused}
-use Rattle.fsmd_tool.specs.Pairs.{ArePair, IsOfPair}
+use Rattle.fsmd_tool.specs.Refusals.{ArePair, RefusesMachine, RefusesPair, FirstRefused, SecondRefused}
+use Rattle.fsmd_tool.specs.Pairs.{IsOfPair}
 use Rattle.fsmd_tool.specs.Runs.{HasLines, IsOfRun}
 use Rattle.fsmd_tool.specs.Replays.{IsOfReplay}
 use Rattle.fsmd_tool.specs.Correct.{FollowsForCheck, CheckRefused, Compared, FollowsForText, TextRefused, Listed, FollowsFromInputs, FollowsForRun, MachineRefused, Ran, FollowsForReplay, ReplayRefused, InterfacesDiffer, Replayed, Follows, IsCorrectAnswer}
 use Rattle.answer_laws.specs.Settled.{IsOpened, Agree, Settles, IsSettled, AreSettled}
-use Rattle.answer_laws.proofs.Contents.{of_both, bytes_opened}
+use Rattle.answer_laws.proofs.Contents.{some_same, some_none, of_both, bytes_opened}
 use Rattle.answer_laws.proofs.Texts.{spells_once, canonical_once, canonical_machine, paths_once}
 use Rattle.answer_laws.proofs.Files.{refused_opened, machine_once, machine_or_refused, some_or_refused}
 use Rattle.answer_laws.proofs.Inputs.{follows_opened, follows_once}
-use Rattle.answer_laws.proofs.Pairs.{pair_once, some_same, some_none}
+use Rattle.answer_laws.proofs.Pairs.{pair_once}
 use Rattle.answer_laws.proofs.Runs.{run_answer_once}
 use Rattle.answer_laws.proofs.Replays.{replay_answer_once}
 

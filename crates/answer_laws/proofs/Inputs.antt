@@ -17,8 +17,7 @@ use Rattle.fsmd_tool.specs.Readings.{Content, OfBytes}
 use Rattle.fsmd_tool.specs.Refusals.{signatures, IsUnread, IsNotJson, HasInputFault, SpellsInputs, RefusesInputs, UnreadInputs, ByJson, ByInput}
 use Rattle.fsmd_tool.specs.Correct.{FollowsFromInputs, InputsRefused, Spelled}
 use Rattle.answer_laws.specs.Settled.{IsOpened}
-use Rattle.answer_laws.proofs.Contents.{of_both, bytes_opened}
-use Rattle.answer_laws.proofs.Pairs.{some_same, some_none}
+use Rattle.answer_laws.proofs.Contents.{some_same, some_none, of_both, bytes_opened}
 use Rattle.answer_laws.proofs.Texts.{few_not_many}
 use Rattle.answer_laws.proofs.Files.{unread_opened, unread_once, unread_or}
 

@@ -16,14 +16,9 @@ use Rattle.fsmd_tool.specs.declared.answer.Operand.TheVariants.{First, Second}
 use Rattle.fsmd_tool.specs.declared.answer.Answer.{Answer}
 use Rattle.fsmd_tool.specs.declared.answer.Answer.TheVariants.{Usage, Equivalent, OutputDiffers, Wide, Large, Interfaces, NotBuilt}
 use Rattle.fsmd_tool.specs.Pairs.{AreComparable, IsOfPair, OtherInterface, LeftForm, RightForm, Same, Differ, PastWeight, PastSize}
+use Rattle.answer_laws.proofs.Contents.{some_same, some_none}
 use Rattle.answer_laws.specs.Outcomes.{HadMemory}
 use Rattle.answer_laws.proofs.Outcomes.{execution_once, err_ok, stop_same, end_same, had_end}
-
-pub some_same : {A : Type 0} (x y : A) → Path (Option A) (Some x) (Some y) → x ≡ y
-some_same x y e = cc
-
-pub some_none : {A : Type 0} (x : A) (o : Option A) → o ≡ Some x → o ≡ None → ⊥
-some_none x o e n = let f : Some x ≡ None = sym e ∙ n in cc
 
 not_both : (b : Bool) → b ≡ true → b ≡ false → ⊥
 not_both b e f = let g : true ≡ false = sym e ∙ f in cc

@@ -24,8 +24,8 @@ use Rattle.fsmd_tool.specs.Words.{word_of}
 use Rattle.fsmd_tool.specs.Texts.{SpellsMachine, HasCanonicalText}
 use Rattle.fsmd_tool.specs.Paths.{paths_text, HasPaths}
 use Rattle.fsmd_tool.specs.Readings.{Call, held, FailedToRead, Content, Unopened, Readable, Unreadable, OfBytes, MayBeRead, MayHold, Reading, IsCorrectBy}
-use Rattle.fsmd_tool.specs.Refusals.{IsUnread, Long, signatures, UnreadInputs, ByJson, ByInput, RefusesMachine, RefusesPair, FirstRefused, SecondRefused, RefusesInputs, SpellsInputs}
-use Rattle.fsmd_tool.specs.Pairs.{ArePair, IsOfPair}
+use Rattle.fsmd_tool.specs.Refusals.{ArePair, IsUnread, Long, signatures, UnreadInputs, ByJson, ByInput, RefusesMachine, RefusesPair, FirstRefused, SecondRefused, RefusesInputs, SpellsInputs}
+use Rattle.fsmd_tool.specs.Pairs.{IsOfPair}
 use Rattle.fsmd_tool.specs.Runs.{IsOfRun}
 use Rattle.fsmd_tool.specs.Replays.{IsOfReplay}
 use Rattle.fsmd_tool.specs.Correct.{FollowsForCheck, Compared, FollowsForText, Listed, FollowsFromInputs, InputsRefused, Spelled, FollowsForRun, Ran, FollowsForReplay, InterfacesDiffer, Replayed}

@@ -21,8 +21,8 @@ use Rattle.fsmd_tool.specs.Words.{command_of, names}
 use Rattle.fsmd_tool.specs.Texts.{SpellsMachine, HasCanonicalText}
 use Rattle.fsmd_tool.specs.Paths.{HasPaths}
 use Rattle.fsmd_tool.specs.Readings.{Call, held, FailedToRead, Content, Unopened, Readable, Unreadable, OfBytes, MayBeRead, MayHold, Reading, MayRead, IsCorrectBy}
-use Rattle.fsmd_tool.specs.Refusals.{IsUnread, Failed, Long, RefusesMachine, Unread, ByText, ByRule, RefusesPair, FirstRefused, SecondRefused, RefusesInputs, UnreadInputs, ByJson, ByInput}
-use Rattle.fsmd_tool.specs.Pairs.{ArePair, IsOfPair, OtherInterface, LeftForm, RightForm, Same, Differ, PastWeight, PastSize}
+use Rattle.fsmd_tool.specs.Refusals.{ArePair, IsUnread, Failed, Long, RefusesMachine, Unread, ByText, ByRule, RefusesPair, FirstRefused, SecondRefused, RefusesInputs, UnreadInputs, ByJson, ByInput}
+use Rattle.fsmd_tool.specs.Pairs.{IsOfPair, OtherInterface, LeftForm, RightForm, Same, Differ, PastWeight, PastSize}
 use Rattle.fsmd_tool.specs.Runs.{IsOfRun, Ended, Stopped}
 use Rattle.fsmd_tool.specs.Replays.{IsOfReplay, LeftStopped, RightStopped, Agreed, Differed}
 use Rattle.fsmd_tool.specs.declared.load.Refused.{Refused as Refusal}

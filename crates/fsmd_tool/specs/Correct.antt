@@ -18,8 +18,8 @@ use Rattle.fsmd_tool.specs.Words.{command_of, names}
 use Rattle.fsmd_tool.specs.Texts.{SpellsMachine, HasCanonicalText}
 use Rattle.fsmd_tool.specs.Paths.{HasPaths}
 use Rattle.fsmd_tool.specs.Readings.{Call, held, FailedToRead, Content, OfBytes, MayHold, Reading, IsCorrectBy}
-use Rattle.fsmd_tool.specs.Refusals.{RefusesMachine, RefusesPair, RefusesInputs, SpellsInputs}
-use Rattle.fsmd_tool.specs.Pairs.{ArePair, IsOfPair}
+use Rattle.fsmd_tool.specs.Refusals.{ArePair, RefusesMachine, RefusesPair, RefusesInputs, SpellsInputs}
+use Rattle.fsmd_tool.specs.Pairs.{IsOfPair}
 use Rattle.fsmd_tool.specs.Runs.{HasLines, IsOfRun}
 use Rattle.fsmd_tool.specs.Replays.{IsOfReplay}
 

@@ -10,13 +10,6 @@ use Rattle.straight_line.specs.Verdicts.{DiffersAt, DiffersNowhere, StopsOn}
 use Rattle.fsmd_tool.specs.declared.answer.Operand.TheVariants.{First, Second}
 use Rattle.fsmd_tool.specs.declared.answer.Answer.{Answer}
 use Rattle.fsmd_tool.specs.declared.answer.Answer.TheVariants.{Equivalent, OutputDiffers, Wide, Large, Interfaces, NotBuilt}
-use Rattle.fsmd_tool.specs.Texts.{SpellsMachine}
-use Rattle.fsmd_tool.specs.Readings.{OfBytes, Reading}
-
--- the first two files spell these machines
-pub record ArePair (r : Reading) (a b : Fsmd) : Type 0 where
-  pub left : OfBytes r.first (SpellsMachine a)
-  pub right : OfBytes r.second (SpellsMachine b)
 
 -- two machines with the same inputs and outputs that can be compared
 pub record AreComparable (a b : Fsmd) : Type 0 where

@@ -13,7 +13,7 @@ use Rattle.fsmd_tool.specs.declared.answer.Operand.{Operand}
 use Rattle.fsmd_tool.specs.declared.answer.Operand.TheVariants.{First, Second}
 use Rattle.fsmd_tool.specs.declared.answer.Answer.{Answer}
 use Rattle.fsmd_tool.specs.declared.answer.Answer.TheVariants.{CannotRead, TooLong, TextRefused, CheckRefused, NotJson, InputRefused}
-use Rattle.fsmd_tool.specs.Texts.{IsTooLong, IsMachine, HasTextFault, HasCheckFault}
+use Rattle.fsmd_tool.specs.Texts.{IsTooLong, SpellsMachine, IsMachine, HasTextFault, HasCheckFault}
 use Rattle.fsmd_tool.specs.Readings.{Content, Unreadable, OfBytes, Reading}
 
 -- the bytes of a file were not read
@@ -26,6 +26,11 @@ pub data RefusesMachine (file : Operand) (content : Content) (answer : Answer) :
   Unread : IsUnread file content answer → RefusesMachine file content answer
   ByText : (fault : TextFault) → OfBytes content (HasTextFault fault) → answer ≡ TextRefused file fault → RefusesMachine file content answer
   ByRule : (fault : CheckFault) → OfBytes content (HasCheckFault fault) → answer ≡ CheckRefused file fault → RefusesMachine file content answer
+
+-- the first two files spell these machines
+pub record ArePair (r : Reading) (a b : Fsmd) : Type 0 where
+  pub left : OfBytes r.first (SpellsMachine a)
+  pub right : OfBytes r.second (SpellsMachine b)
 
 -- why one of two files of machines is refused, the first one's refusal first
 pub data RefusesPair (r : Reading) (answer : Answer) : Type 0 where
