@@ -4,6 +4,7 @@ use Rattle.std.specs.Prelude.{◌≢◌, ◌&&◌, ◌||◌, cond, nat_lt, filte
 use Rattle.std.specs.List.{list_all, list_any, slice_index_or, range_with_len}
 use Rattle.std.proofs.lemmas.Bool.Decides.{nat_tests}
 use Rattle.std.proofs.lemmas.List.FromFn.{get_or-map-range_with_len, length-map-range_with_len, length-range_with_len}
+use Rattle.fs_model.specs.Limits.{most_branches}
 use Rattle.fs_model.specs.Machines.{State, Fsmd, transitions_of}
 use Rattle.fs_model.specs.Trees.{branches_of}
 use Rattle.fs_ast.specs.Sound.{IsSound, branch_count, is_cutpoint, first_transition_target, reaches_cutpoint}
@@ -97,6 +98,11 @@ paths_are m Done d = absurd (d refl)
 pub paths_count : (m : Fsmd) (P : Point) → P ≢ Done → length (paths_of m P) ≡ branch_count m (state_of m P)
 paths_count m P d = ap length (paths_are m P d) ∙ length-map-range_with_len (path_by m P (state_of m P)) 0 (branch_count m (state_of m P))
 
+pub few_paths : (m : Fsmd) (P : Point) → IsSound m → length (paths_of m P) ≤ most_branches
+few_paths m Start sound = omega (arith, paths_count m Start (λ e. cc e), sound.few_branches m.reset)
+few_paths m (At q) sound = omega (arith, paths_count m (At q) (λ e. cc e), sound.few_branches q)
+few_paths m Done sound = omega arith
+
 pub paths_in_order : (m : Fsmd) (P : Point) (k : ℕ) (p : Path) → P ≢ Done → k < branch_count m (state_of m P) → slice_index_or (paths_of m P) k p ≡ path_by m P (state_of m P) k
 paths_in_order m P k p d h =
     ap (λ (l : List Path). slice_index_or l k p) (paths_are m P d) ∙ get_or-map-range_with_len (path_by m P (state_of m P)) 0 (branch_count m (state_of m P)) k k p h (omega arith)
@@ -185,7 +191,7 @@ pub points_listed : (m : Fsmd) (P : Point) → has_point (cover_of m) P ≡ is_p
 points_listed m P = points_listed_by m (paths_of m) P
 
 -- ---- what is found for a point
-same_is : (P Q : Point) → same_point P Q ≡ true → P ≡ Q
+pub same_is : (P Q : Point) → same_point P Q ≡ true → P ≡ Q
 same_is Start Start h = refl
 same_is Start (At r) h = absurd (cc h)
 same_is Start Done h = absurd (cc h)

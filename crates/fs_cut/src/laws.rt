@@ -1,7 +1,8 @@
 //! Laws of paths and of the cover, over the definitions alone. The functions do nothing.
 
-ghost use Rattle.std.specs.Prelude.{◌≡◌, ◌≢◌, ℕ, ◌+◌, ◌<◌, true, false, List, [], length, map, Contains, IsTrue};
+ghost use Rattle.std.specs.Prelude.{◌≡◌, ◌≢◌, ℕ, ◌+◌, ◌<◌, ◌≤◌, true, false, List, [], length, map, Contains, IsTrue};
 ghost use Rattle.std.specs.List.{list_all, slice_index_or};
+ghost use Rattle.fs_model.specs.Limits.{most_branches};
 ghost use Rattle.fs_model.specs.Machines.{Fsmd};
 ghost use Rattle.fs_model.specs.Stores.{Store};
 ghost use Rattle.fs_model.specs.Runs.{Step as StepOf};
@@ -34,6 +35,7 @@ pub fn the_cover_has_the_paths()
     ensures lists { (m : Fsmd) (P : Point) → is_point m P ≡ true → paths_from (cover_of m) P ≡ paths_of m P }
     ensures lists_no_other { (m : Fsmd) (P : Point) → is_point m P ≡ false → paths_from (cover_of m) P ≡ [] }
     ensures count { (m : Fsmd) (P : Point) → P ≢ Done → length (paths_of m P) ≡ branch_count m (state_of m P) }
+    ensures few { (m : Fsmd) (P : Point) → IsSound m → length (paths_of m P) ≤ most_branches }
     ensures in_order { (m : Fsmd) (P : Point) (k : ℕ) (p : Path) → P ≢ Done → k < branch_count m (state_of m P) → slice_index_or (paths_of m P) k p ≡ path_by m P (state_of m P) k }
     ensures paths { (m : Fsmd) (P : Point) (p : Path) → IsSound m → is_point m P ≡ true → Contains (paths_of m P) p → IsPath m p }
     ensures from { (m : Fsmd) (P : Point) (p : Path) → Contains (paths_of m P) p → p.from ≡ P }

@@ -1,9 +1,8 @@
 //! Where runs of a machine are cut, and the paths between these points.
 #![tactic(auto)]
 
-pub mod build;
 pub mod cover;
 pub mod laws;
-#[cfg(test)]
-mod tests;
+pub mod make_cover;
+pub mod memory;
 mod walk;

@@ -8,20 +8,10 @@ ghost use Rattle.fs_cut.specs.Covers.{passed, reached, path_by, paths_by};
 ghost use Rattle.fs_cut.specs.View.{point_of, path_of};
 
 use crate::cover::{Path, Point};
+use crate::memory::NoMemory;
 use fs_ast::machine::Machine;
-use fs_model::name::NoMemory;
 use fs_model::parts::StateId;
 use std::alloc::Global;
-
-/// Adds to a vector.
-pub fn push<T: Drop>(out: &mut Vec<T>, item: T) -> Result<(), NoMemory>
-    ensures { OnOk result (out.new.items ≡ out.old.items ++ item ∷ []) }
-{
-    match out.push(item) {
-        Ok(()) => Ok(()),
-        Err(_) => Err(NoMemory),
-    }
-}
 
 /// Whether a state has more than one branch and isn't the reset state.
 pub fn is_fork(m: &Machine, state: StateId) -> bool
@@ -31,7 +21,7 @@ pub fn is_fork(m: &Machine, state: StateId) -> bool
     state.0 != m.reset().0 && m.branches(state).len() > 1
 }
 
-/// Whether paths are cut at a state.
+// Whether paths are cut at a state.
 fn is_cutpoint(m: &Machine, state: StateId) -> bool
     requires { state.0 < length m.now.states }
     ensures { result ≡ is_cutpoint m.now state.0 }
@@ -39,7 +29,7 @@ fn is_cutpoint(m: &Machine, state: StateId) -> bool
     state.0 == m.reset().0 || m.branches(state).len() > 1
 }
 
-/// The point at which a path ends that comes to a state.
+// The point at which a path ends that comes to a state.
 fn end_at(m: &Machine, state: StateId) -> Point
     ensures { point_of result ≡ end_at m.now state.0 }
 {
@@ -50,7 +40,7 @@ fn end_at(m: &Machine, state: StateId) -> Point
     }
 }
 
-/// Where a branch of a state leads.
+// Where a branch of a state leads.
 fn target(m: &Machine, state: StateId, branch: u32) -> StateId
     requires in_range { state.0 < length m.now.states }
     requires branch { branch < branch_count m.now state.0 }
@@ -60,7 +50,7 @@ fn target(m: &Machine, state: StateId, branch: u32) -> StateId
     m.branches(state)[branch as usize].target
 }
 
-/// Where the first branch of a state leads.
+// Where the first branch of a state leads.
 fn first_target(m: &Machine, state: StateId) -> StateId
     requires { state.0 < length m.now.states }
     ensures target { result.0 ≡ target_of m.now state.0 0 }
@@ -69,8 +59,8 @@ fn first_target(m: &Machine, state: StateId) -> StateId
     m.branches(state)[0].target
 }
 
-/// FirstReturn from a state through states with one branch, and adds them to those left before. Gives the
-/// state with a cut to which they lead.
+// Goes from a state through states with one branch, and adds them to those left before. Gives the
+// state with a cut to which they lead.
 fn pass(m: &Machine, first: StateId, left: &mut Vec<StateId>) -> Result<StateId, NoMemory>
     requires { first.0 < length m.now.states }
     ensures passed { OnOk result (map (λ s. s.0) left.new.items ≡ map (λ s. s.0) left.old.items ++ passed m.now (length m.now.states) first.0) }
@@ -82,13 +72,13 @@ fn pass(m: &Machine, first: StateId, left: &mut Vec<StateId>) -> Result<StateId,
         if is_cutpoint(m, at) {
             return Ok(at);
         }
-        push(left, at)?;
+        left.push(at)?;
         at = first_target(m, at);
     }
     Ok(at)
 }
 
-/// The path from a point by a branch of its state.
+// The path from a point by a branch of its state.
 fn path(
     alloc: Global,
     m: &Machine,
@@ -101,7 +91,7 @@ fn path(
     ensures { IfOk result (λ p. path_of p ≡ path_by m.now (point_of from) state.0 branch) }
 {
     let mut states = Vec::new(alloc);
-    push(&mut states, state)?;
+    states.push(state)?;
     let end = pass(m, target(m, state, branch), &mut states)?;
     Ok(Path {
         from,
@@ -119,7 +109,7 @@ pub fn paths(alloc: Global, m: &Machine, from: Point, state: StateId) -> Result<
     let mut out = Vec::new(alloc);
     let count = m.branches(state).len() as u32;
     for branch in 0..count {
-        push(&mut out, path(alloc, m, from, state, branch)?)?;
+        out.push(path(alloc, m, from, state, branch)?)?;
     }
     Ok(out)
 }

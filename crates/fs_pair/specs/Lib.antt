@@ -1,5 +1,5 @@
-pub mod Faces
-pub mod Sites
+pub mod Interfaces
+pub mod SidedVariables
 pub mod View
 pub mod Positions
 pub mod Answers

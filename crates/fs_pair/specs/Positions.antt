@@ -1,14 +1,14 @@
--- The positions of two machines, with the place of each one's partner.
+-- The positions of two machines, with the sided of each one's partner.
 use Rattle.std.specs.Prelude.{List, map}
 use Rattle.std.specs.List.{position_from}
 use Rattle.fs_model.specs.Machines.{Fsmd}
 use Rattle.fs_pair.specs.declared.positions.Position.{Position}
-use Rattle.fs_pair.specs.Sites.{Site, all_sites, is_partner}
+use Rattle.fs_pair.specs.SidedVariables.{SidedVariable, all_sided_variables, is_partner}
 
--- the position of a site of the list, with the place of its partner in the list
-abbrev pub position_of : List Site → Site → Position
+-- the position of a site of the list, with the sided of its partner in the list
+abbrev pub position_of : List SidedVariable → SidedVariable → Position
 position_of ss s = record { pos = s.pos; role = s.variable.role; sort = s.variable.sort; partner = position_from (is_partner s) 0 ss }
 
 -- the variables of two machines as positions, in order
 abbrev pub positions : Fsmd → Fsmd → List Position
-positions a b = let ss = all_sites a.variables b.variables in map (position_of ss) ss
+positions a b = let ss = all_sided_variables a.variables b.variables in map (position_of ss) ss

@@ -1,6 +1,7 @@
 //! The interfaces of two machines, and their variables in one order.
 #![tactic(auto)]
 
-pub mod faces;
+pub mod interfaces;
+pub mod memory;
 pub mod positions;
-mod sites;
+mod sided_variables;

@@ -3,14 +3,14 @@
 ghost use Rattle.std.specs.Prelude.{◌≡◌, ◌<◌, ◌^◌, length, map, IfOk, Some, None};
 ghost use Rattle.std.specs.List.{position_from};
 ghost use Rattle.std.specs.Result.{OnOk, IfErr};
-ghost use Rattle.fs_pair.specs.Faces.{interface_fault};
-ghost use Rattle.fs_pair.specs.Sites.{same_side, is_partner};
-ghost use Rattle.fs_pair.specs.View.{site_of};
+ghost use Rattle.fs_pair.specs.Interfaces.{interface_fault};
+ghost use Rattle.fs_pair.specs.SidedVariables.{same_side, is_partner};
+ghost use Rattle.fs_pair.specs.View.{sided_variable_of};
 ghost use Rattle.fs_pair.specs.Positions.{position_of, positions};
 ghost use Rattle.fs_pair.specs.Answers.{TellsFault};
 
-use crate::faces::first_unmatched;
-use crate::sites::{Place, all_places, is_twin};
+use crate::interfaces::first_unmatched;
+use crate::sided_variables::{Member, all_members, same_name_and_sort};
 use fs_ast::machine::Machine;
 use fs_model::name::Name;
 use fs_model::parts::{Role, Sort};
@@ -18,7 +18,7 @@ use nf_terms::tree::{Pos, Side};
 use std::alloc::Global;
 use std::marker::Model;
 
-/// A variable of one of two machines. `partner` is the place, in their list, of the other machine's variable of its name and sort.
+/// A variable of one of two machines. `partner` is the member, in their list, of the other machine's variable of its name and sort.
 #[derive(Clone, Copy, Debug, PartialEq, Eq)]
 pub struct Position {
     pub pos: Pos,
@@ -57,59 +57,59 @@ impl Pairing {
 pub enum FaceError {
     /// An input or output of one machine that is absent from the other or has another role or sort there.
     Interface { name: Name },
-    /// Memory was refused.
+    /// Out of memory.
     NoMemory,
 }
 
-/// Whether two sides are one.
+// Whether two sides are one.
 fn same_side(left: Side, right: Side) -> bool
     ensures { result ≡ same_side left right }
 {
     left == right
 }
 
-/// Whether the other place is the other side's variable of the name and the sort of a place.
-fn is_partner(place: &Place<'_>, other: &Place<'_>) -> bool
-    ensures { result ≡ is_partner (site_of place.now) (site_of other.now) }
+// Whether the other member is the other side's variable of the name and the sort of a member.
+fn is_partner(member: &Member<'_>, other: &Member<'_>) -> bool
+    ensures { result ≡ is_partner (sided_variable_of member.now) (sided_variable_of other.now) }
 {
-    !same_side(place.pos.side, other.pos.side) && is_twin(place.variable, other.variable)
+    !same_side(member.pos.side, other.pos.side) && same_name_and_sort(member.variable, other.variable)
 }
 
-/// Where the partner of a place stands among the places.
-fn partner(places: &[Place<'_>], place: &Place<'_>) -> Option<u32>
-    requires { length places.now < 2 ^ 32 }
-    ensures { result ≡ position_from (is_partner (site_of place.now)) 0 (map site_of places.now) }
+// Where the partner of a member stands among the members.
+fn partner(members: &[Member<'_>], member: &Member<'_>) -> Option<u32>
+    requires { length members.now < 2 ^ 32 }
+    ensures { result ≡ position_from (is_partner (sided_variable_of member.now)) 0 (map sided_variable_of members.now) }
 {
-    for (number, other) in places.iter().enumerate() {
-        if is_partner(place, other) {
+    for (number, other) in members.iter().enumerate() {
+        if is_partner(member, other) {
             return Some(number as u32);
         }
     }
     None
 }
 
-/// The position of a place, with its partner among the places.
-fn placed(places: &[Place<'_>], place: &Place<'_>) -> Position
-    requires { length places.now < 2 ^ 32 }
-    ensures { result ≡ position_of (map site_of places.now) (site_of place.now) }
+// The position of a member, with its partner among the members.
+fn placed(members: &[Member<'_>], member: &Member<'_>) -> Position
+    requires { length members.now < 2 ^ 32 }
+    ensures { result ≡ position_of (map sided_variable_of members.now) (sided_variable_of member.now) }
 {
     Position {
-        pos: place.pos,
-        role: place.variable.role,
-        sort: place.variable.sort,
-        partner: partner(places, place),
+        pos: member.pos,
+        role: member.variable.role,
+        sort: member.variable.sort,
+        partner: partner(members, member),
     }
 }
 
-/// The positions of places, in order.
-fn all_positions(alloc: Global, places: &[Place<'_>]) -> Result<Vec<Position>, FaceError>
-    requires { length places.now < 2 ^ 32 }
-    ensures known { IfOk result (λ out. out.items ≡ map (position_of (map site_of places.now)) (map site_of places.now)) }
+// The positions of members, in order.
+fn all_positions(alloc: Global, members: &[Member<'_>]) -> Result<Vec<Position>, FaceError>
+    requires { length members.now < 2 ^ 32 }
+    ensures known { IfOk result (λ out. out.items ≡ map (position_of (map sided_variable_of members.now)) (map sided_variable_of members.now)) }
     ensures memory { IfErr result (λ e. e ≡ FaceError.NoMemory) }
 {
     let mut out = Vec::new(alloc);
-    for place in places {
-        match out.push(placed(places, place)) {
+    for member in members {
+        match out.push(placed(members, member)) {
             Ok(()) => {}
             Err(_) => return Err(FaceError::NoMemory),
         }
@@ -121,7 +121,7 @@ fn all_positions(alloc: Global, places: &[Place<'_>]) -> Result<Vec<Position>, F
 ///
 /// `Interface` comes exactly where an input or output of one machine is absent from the other or has
 /// another role or sort there, and names the first such of the left machine in order of declaration,
-/// else the first of the right one. `NoMemory` comes where memory is refused.
+/// else the first of the right one. `NoMemory`: out of memory.
 pub fn same_interface(alloc: Global, a: &Machine, b: &Machine) -> Result<Pairing, FaceError>
     ensures same { OnOk result (interface_fault a.now b.now ≡ None) }
     ensures paired { IfOk result (λ p. p ≡ positions a.now b.now) }
@@ -135,14 +135,14 @@ pub fn same_interface(alloc: Global, a: &Machine, b: &Machine) -> Result<Pairing
     if let Some(name) = unmatched {
         return Err(refusal(alloc, name));
     }
-    let Ok(places) = all_places(alloc, left, right) else {
+    let Ok(members) = all_members(alloc, left, right) else {
         return Err(FaceError::NoMemory);
     };
-    let positions = all_positions(alloc, places.as_slice())?;
+    let positions = all_positions(alloc, members.as_slice())?;
     Ok(Pairing { positions })
 }
 
-/// The refusal that names an input or output.
+// The refusal that names an input or output.
 fn refusal(alloc: Global, name: &Name) -> FaceError
     ensures { TellsFault (Some name.now) result }
 {

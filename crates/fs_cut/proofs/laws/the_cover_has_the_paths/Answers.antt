@@ -1,4 +1,4 @@
-use Rattle.fs_cut.proofs.Listed.{paths_count, paths_in_order, paths_listed, others_missing, listed_is_path, listed_from, path_is_listed}
+use Rattle.fs_cut.proofs.Listed.{paths_count, few_paths, paths_in_order, paths_listed, others_missing, listed_is_path, listed_from, path_is_listed}
 use Rattle.fs_cut.proofs.laws.the_cover_has_the_paths.Goals as goal
 
 pub returns-clause-lists : goal.returns-clause-lists
@@ -9,6 +9,9 @@ returns-clause-lists_no_other c = others_missing
 
 pub returns-clause-count : goal.returns-clause-count
 returns-clause-count c = paths_count
+
+pub returns-clause-few : goal.returns-clause-few
+returns-clause-few c = few_paths
 
 pub returns-clause-in_order : goal.returns-clause-in_order
 returns-clause-in_order c = paths_in_order

@@ -30,6 +30,6 @@ states-preserved c =
     record {
       all = c.states.invariant.all;
       within = c.first_target-at.ensures.in_range;
-      left = more (λ (s : StateId). s.0) c.states.left.items c.push.new.out.items c.states.at q _ _ c.in_ok-push.ensures refl (passed_more m n k q t low cut c.first_target-at.ensures.target) ∙ c.states.invariant.left;
+      left = more (λ (s : StateId). s.0) c.states.left.items c.push.new.self.items c.states.at q _ _ c.in_ok-push.ensures.items refl (passed_more m n k q t low cut c.first_target-at.ensures.target) ∙ c.states.invariant.left;
       to = sym (reached_more m n k q t low cut c.first_target-at.ensures.target) ∙ c.states.invariant.to;
     }
