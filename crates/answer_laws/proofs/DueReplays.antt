@@ -2,7 +2,7 @@
 use Rattle.std.proofs.Common.{◌≡◌, ℕ, List, Some, None, sym, ◌∙◌, ap, subst}
 use Rattle.fs_base.specs.Outside.{Held, Unknown, Nothing, Bytes}
 use Rattle.fs_model.specs.Machines.{Fsmd}
-use Rattle.fs_pair.specs.Faces.{interface_fault}
+use Rattle.fs_pair.specs.Interfaces.{interface_fault}
 use Rattle.fsmd_tool.specs.declared.answer.Operand.TheVariants.{First, Second, Third}
 use Rattle.fsmd_tool.specs.declared.answer.Answer.{Answer}
 use Rattle.fsmd_tool.specs.declared.answer.Answer.TheVariants.{Interfaces}

@@ -2,7 +2,7 @@
 use Rattle.std.proofs.Common.{◌≡◌, ℕ, List, Some, refl, ap}
 use Rattle.fs_base.specs.Outside.{Nothing, Bytes}
 use Rattle.fs_model.specs.Machines.{Fsmd}
-use Rattle.fs_pair.specs.Faces.{interface_fault}
+use Rattle.fs_pair.specs.Interfaces.{interface_fault}
 use Rattle.fs_runs.specs.Given.{Face}
 use Rattle.fs_inputs.specs.declared.faults.Fault.{Fault}
 use Rattle.fs_inputs.specs.Refusals.{IsFaulty, IsJson}

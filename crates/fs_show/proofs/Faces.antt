@@ -15,7 +15,7 @@ use Rattle.fs_model.specs.Runs.{Inputs, Content, Run, content, is_output, output
 use Rattle.fs_runs.specs.declared.values.Value.{Value}
 use Rattle.fs_runs.specs.Values.{content_of}
 use Rattle.fs_runs.specs.Outcomes.{Outputs, output_names, told, told_by, HoldsEach}
-use Rattle.fs_pair.specs.Faces.{is_face, same_role, same_sort, named, is_like, lacks_match, first_unmatched, interface_fault}
+use Rattle.fs_pair.specs.Interfaces.{is_interface, same_role, same_sort, named, is_like, lacks_match, first_unmatched, interface_fault}
 use Rattle.fs_show.specs.Items.{SameOutputs}
 
 some_differs : {X : Type 0} (x : X) → Some x ≢ None
@@ -39,7 +39,7 @@ found P (v ∷ vs) name u is out all =
       | false ↦ λ _ q. found P vs name u q out (all_behind P v vs all)
     ] refl is
 
-face_of : (r : Role) → is_output r ≡ true → is_face r ≡ true
+face_of : (r : Role) → is_output r ≡ true → is_interface r ≡ true
 face_of Input out = refl
 face_of Output out = refl
 face_of Local out = out
@@ -66,7 +66,7 @@ first_of true b h = refl
 first_of false b h = h
 
 -- what has a match, and is an output, has an output as its match
-partner : (v : VarInfo) (o : Option VarInfo) → is_output v.role ≡ true → (is_face v.role && not (is_like v o)) ≡ false → Partner o
+partner : (v : VarInfo) (o : Option VarInfo) → is_output v.role ≡ true → (is_interface v.role && not (is_like v o)) ≡ false → Partner o
 partner v None out match = absurd (false≢true (sym (subst (λ b. (b && true) ≡ false) (face_of v.role out) match)))
 partner v (Some u) out match =
     let like : not (same_role v.role u.role && same_sort v.sort u.sort) ≡ false = subst (λ b. (b && not (same_role v.role u.role && same_sort v.sort u.sort)) ≡ false) (face_of v.role out) match in

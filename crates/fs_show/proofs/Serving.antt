@@ -12,7 +12,7 @@ use Rattle.fs_model.specs.declared.parts.Sort.TheVariants.{Scalar, Array, Port}
 use Rattle.fs_model.specs.declared.parts.VarInfo.{VarInfo}
 use Rattle.fs_model.specs.Machines.{Fsmd}
 use Rattle.fs_model.specs.Runs.{is_input}
-use Rattle.fs_pair.specs.Faces.{is_face, same_role, same_sort, named, is_like, lacks_match, first_unmatched, interface_fault}
+use Rattle.fs_pair.specs.Interfaces.{is_interface, same_role, same_sort, named, is_like, lacks_match, first_unmatched, interface_fault}
 use Rattle.fs_runs.specs.InputValues.{input_signatures, sort_named}
 use Rattle.fs_show.specs.Laws.{InputsServeBoth}
 
@@ -51,7 +51,7 @@ sorts_same Port Scalar h = absurd (false≢true h)
 sorts_same Port Array h = absurd (false≢true h)
 sorts_same Port Port h = refl
 
-input_face : (r : Role) → is_input r ≡ true → is_face r ≡ true
+input_face : (r : Role) → is_input r ≡ true → is_interface r ≡ true
 input_face Input h = refl
 input_face Output h = absurd (false≢true h)
 input_face Local h = absurd (false≢true h)
@@ -81,7 +81,7 @@ record Partner (v : VarInfo) (o : Option VarInfo) : Type 0 where
   input : is_input variable.role ≡ true
   sort : variable.sort ≡ v.sort
 
-partner : (v : VarInfo) (o : Option VarInfo) → is_input v.role ≡ true → (is_face v.role && not (is_like v o)) ≡ false → Partner v o
+partner : (v : VarInfo) (o : Option VarInfo) → is_input v.role ≡ true → (is_interface v.role && not (is_like v o)) ≡ false → Partner v o
 partner v None inp match = absurd (false≢true (sym (subst (λ b. (b && true) ≡ false) (input_face v.role inp) match)))
 partner v (Some u) inp match =
     let like : (same_role v.role u.role && same_sort v.sort u.sort) ≡ true =

@@ -4,7 +4,7 @@ use Rattle.fs_model.specs.Machines.{Fsmd}
 use Rattle.fs_model.specs.Runs.{Inputs, Content}
 use Rattle.fs_runs.specs.declared.run.RunStop.{RunStop}
 use Rattle.fs_runs.specs.InputValues.{Signature, input_signatures, Serves}
-use Rattle.fs_pair.specs.Faces.{interface_fault}
+use Rattle.fs_pair.specs.Interfaces.{interface_fault}
 use Rattle.fs_show.specs.declared.ends.Side.{Side}
 use Rattle.fs_show.specs.Shown.{Shows}
 use Rattle.fs_runs.specs.Outcomes.{Outputs}

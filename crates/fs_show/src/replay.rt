@@ -3,7 +3,7 @@
 ghost use Rattle.std.specs.Prelude.{◌≡◌, ◌++◌, ◌∷◌, [], Option, None, List, ℕ, map, option_map, IfOk, codes};
 ghost use Rattle.std.specs.Bool.{Decides};
 ghost use Rattle.std.specs.Result.{OnOk};
-ghost use Rattle.fs_pair.specs.Faces.{interface_fault};
+ghost use Rattle.fs_pair.specs.Interfaces.{interface_fault};
 ghost use Rattle.fs_runs.specs.Values.{content_of, entry, numbers_of};
 ghost use Rattle.fs_runs.specs.Outcomes.{output_names, told_by, HoldsEach};
 ghost use Rattle.fs_show.specs.Items.{AgreeOn, SameOutputs};

@@ -7,7 +7,7 @@ use Rattle.std.specs.Result.{IfErr}
 use Rattle.fs_base.specs.Outside.{Held, Unknown, Nothing, Bytes, AreHeld}
 use Rattle.fs_model.specs.Machines.{Fsmd}
 use Rattle.fs_model.specs.Runs.{Inputs}
-use Rattle.fs_pair.specs.Faces.{interface_fault}
+use Rattle.fs_pair.specs.Interfaces.{interface_fault}
 use Rattle.fsmd_tool.specs.declared.answer.Operand.{Operand}
 use Rattle.fsmd_tool.specs.declared.answer.Operand.TheVariants.{First, Second, Third}
 use Rattle.fs_runs.specs.declared.run.RunStop.{RunStop}

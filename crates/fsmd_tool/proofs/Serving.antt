@@ -12,7 +12,7 @@ use Rattle.fs_model.specs.declared.parts.Sort.TheVariants.{Scalar, Array}
 use Rattle.fs_model.specs.declared.parts.VarInfo.{VarInfo}
 use Rattle.fs_model.specs.Machines.{Fsmd}
 use Rattle.fs_model.specs.Runs.{is_input}
-use Rattle.fs_pair.specs.Faces.{is_face, same_role, same_sort, named, is_like, lacks_match, first_unmatched, interface_fault}
+use Rattle.fs_pair.specs.Interfaces.{is_interface, same_role, same_sort, named, is_like, lacks_match, first_unmatched, interface_fault}
 use Rattle.fs_runs.specs.Given.{Face, input_faces, face_sort, Serves}
 
 some_differs : {X : Type 0} (x : X) → Some x ≢ None
@@ -45,7 +45,7 @@ sorts_same Scalar Array h = absurd (false≢true h)
 sorts_same Array Scalar h = absurd (false≢true h)
 sorts_same Array Array h = refl
 
-input_face : (r : Role) → is_input r ≡ true → is_face r ≡ true
+input_face : (r : Role) → is_input r ≡ true → is_interface r ≡ true
 input_face Input h = refl
 input_face Output h = absurd (false≢true h)
 input_face Local h = absurd (false≢true h)
@@ -75,7 +75,7 @@ record Partner (v : VarInfo) (o : Option VarInfo) : Type 0 where
   input : is_input variable.role ≡ true
   sort : variable.sort ≡ v.sort
 
-partner : (v : VarInfo) (o : Option VarInfo) → is_input v.role ≡ true → (is_face v.role && not (is_like v o)) ≡ false → Partner v o
+partner : (v : VarInfo) (o : Option VarInfo) → is_input v.role ≡ true → (is_interface v.role && not (is_like v o)) ≡ false → Partner v o
 partner v None inp match = absurd (false≢true (sym (subst (λ b. (b && true) ≡ false) (input_face v.role inp) match)))
 partner v (Some u) inp match =
     let like : (same_role v.role u.role && same_sort v.sort u.sort) ≡ true =

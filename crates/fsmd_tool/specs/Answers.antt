@@ -3,7 +3,7 @@ use Rattle.std.specs.Prelude.{◌≡◌, ℕ, true, false, List, Some, None, opt
 use Rattle.fs_base.specs.Outside.{Held, Rose}
 use Rattle.fs_model.specs.Machines.{Fsmd}
 use Rattle.fs_model.specs.Runs.{SameBehaviour}
-use Rattle.fs_pair.specs.Faces.{interface_fault}
+use Rattle.fs_pair.specs.Interfaces.{interface_fault}
 use Rattle.nf_terms.specs.declared.tree.Side.{Side}
 use Rattle.nf_terms.specs.declared.stop.NfStop.TheVariants as stops
 use Rattle.straight_line.specs.Straight.{is_straight}

@@ -3,7 +3,7 @@
 ghost use Rattle.std.specs.Prelude.{◌≡◌, None, IfOk, map, string_bytes};
 ghost use Rattle.std.specs.Result.{IfErr};
 ghost use Rattle.fs_base.specs.Outside.{Rose, NoneFell, SameHeld};
-ghost use Rattle.fs_pair.specs.Faces.{interface_fault};
+ghost use Rattle.fs_pair.specs.Interfaces.{interface_fault};
 ghost use Rattle.fsmd_tool.specs.declared.answer.Operand.TheVariants as operands;
 ghost use Rattle.fsmd_tool.specs.Texts.{WhereKnown, HasCanonicalText};
 ghost use Rattle.fsmd_tool.specs.Paths.{HasPaths};

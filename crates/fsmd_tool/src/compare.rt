@@ -1,7 +1,7 @@
 //! Compares two machines.
 
 ghost use Rattle.std.specs.Prelude.{◌≡◌, ◌<◌, length, IfOk, Some, None, option_map, slice_get};
-ghost use Rattle.fs_pair.specs.Faces.{interface_fault};
+ghost use Rattle.fs_pair.specs.Interfaces.{interface_fault};
 ghost use Rattle.fsmd_tool.specs.Answers.{IsVerdict, IsOfPair};
 
 use crate::answer::{Answer, Operand};

@@ -1,7 +1,7 @@
 //! Runs machines on inputs, and says what they answer.
 
 ghost use Rattle.std.specs.Prelude.{◌≡◌, cond, None, IfOk};
-ghost use Rattle.fs_pair.specs.Faces.{interface_fault};
+ghost use Rattle.fs_pair.specs.Interfaces.{interface_fault};
 ghost use Rattle.fs_runs.specs.Given.{inputs_of, faces_of, Serves};
 ghost use Rattle.fs_show.specs.Ends.{IsStopText};
 ghost use Rattle.fsmd_tool.specs.Answers.{IsUnended};

@@ -10,7 +10,7 @@ use Rattle.fs_model.specs.Machines.{Fsmd}
 use Rattle.fs_model.specs.Stores.{Store}
 use Rattle.fs_model.specs.Runs.{Inputs, Run, FirstReturn, Content, SameBehaviour, start, first_scalar, is_input, is_scalar as holds_number, output}
 use Rattle.fs_model.proofs.Determined.{goes_once}
-use Rattle.fs_pair.specs.Faces.{is_face, named, is_like, lacks_match, first_unmatched, interface_fault}
+use Rattle.fs_pair.specs.Interfaces.{is_interface, named, is_like, lacks_match, first_unmatched, interface_fault}
 use Rattle.nf_terms.specs.Terms.{Polynomial, Zero, polynomial_of_symbol}
 use Rattle.nf_terms.specs.Meaning.{Valuation, value_of}
 use Rattle.nf_terms.specs.declared.tree.Pos.{Pos}
@@ -58,8 +58,8 @@ start_value lefts [] ins x k = refl
 start_value lefts (v ∷ vs) ins zero k = first_value lefts ins v (is_input v.role) (holds_number v.sort) (k.scalars 0 v refl) (k.known 0 v refl)
 start_value lefts (v ∷ vs) ins (suc x) k = start_value lefts vs ins x (record { scalars = λ y u g. k.scalars (suc y) u g; known = λ y u g. k.known (suc y) u g })
 
-start_stands : (lefts : List VarInfo) (m : Fsmd) (ins : Inputs) → InputsKnown lefts m.variables → store_in (given lefts ins) (start m ins).array (start_vector lefts m.variables) ≡ start m ins
-start_stands lefts m ins k = store_ext _ _ (λ x. start_value lefts m.variables ins x k) (λ x i. refl)
+start_stands : (lefts : List VarInfo) (m : Fsmd) (ins : Inputs) → InputsKnown lefts m.variables → store_in (given lefts ins) (start m ins).array (start m ins).port (start_vector lefts m.variables) ≡ start m ins
+start_stands lefts m ins k = store_ext _ _ (λ x. start_value lefts m.variables ins x k) (λ x i. refl) (λ x. refl)
 
 -- ---- the inputs are known
 present_step : (b : Bool) (u : VarInfo) (o : Option VarInfo) → b ≡ true → cond b (Some u) o ≡ None → ⊥
@@ -87,7 +87,7 @@ matched_at [] lefts x v e g = absurd (cc)
 matched_at (u ∷ vs) lefts zero v e g = let same : u ≡ v = cc in subst (λ z. lacks_match lefts z ≡ false) same (unmatched_step (lacks_match lefts u) u.name (first_unmatched vs lefts) e).0
 matched_at (u ∷ vs) lefts (suc x) v e g = matched_at vs lefts x v (unmatched_step (lacks_match lefts u) u.name (first_unmatched vs lefts) e).1 g
 
-input_matched : (r : Role) → is_input r ≡ true → (is_face r && not false) ≡ false → ⊥
+input_matched : (r : Role) → is_input r ≡ true → (is_interface r && not false) ≡ false → ⊥
 input_matched Input r e = absurd (cc)
 input_matched Output r e = absurd (cc)
 input_matched Local r e = absurd (cc)
@@ -95,17 +95,17 @@ input_matched Local r e = absurd (cc)
 right_known : (lefts vs : List VarInfo) → has_scalars_only vs ≡ true → first_unmatched vs lefts ≡ None → InputsKnown lefts vs
 right_known lefts vs h e = record {
   scalars = λ x v g. ap holds_number (is_scalar vs x v h g);
-  known = λ x v g r n. input_matched v.role r (subst (λ (o : Option VarInfo). (is_face v.role && not (is_like v o)) ≡ false) n (matched_at vs lefts x v e g));
+  known = λ x v g r n. input_matched v.role r (subst (λ (o : Option VarInfo). (is_interface v.role && not (is_like v o)) ≡ false) n (matched_at vs lefts x v e g));
 }
 
 -- ---- the runs
 -- from any inputs a machine ends where its last vector says
 abbrev pub end_of : List VarInfo → Fsmd → Inputs → List Polynomial → Store
-end_of lefts m ins last = store_in (given lefts ins) (start m ins).array last
+end_of lefts m ins last = store_in (given lefts ins) (start m ins).array (start m ins).port last
 
 run_goes : (lefts : List VarInfo) (m : Fsmd) (last : List Polynomial) (ins : Inputs) → InputsKnown lefts m.variables → LeadsTo m (start_vector lefts m.variables) last → (n : ℕ) × FirstReturn m n m.reset (start m ins) (end_of lefts m ins last)
 run_goes lefts m last ins k l =
-    let g = l.goes (given lefts ins) (start m ins).array in
+    let g = l.goes (given lefts ins) (start m ins).array (start m ins).port in
     (g.0, subst (λ (s : Store). FirstReturn m g.0 m.reset s (end_of lefts m ins last)) (start_stands lefts m ins k) g.1)
 
 other_run : (lefts : List VarInfo) (m k : Fsmd) (last other : List Polynomial) (ins : Inputs) (outs : List ℕ → Option Content) (n : ℕ) → InputsKnown lefts m.variables → InputsKnown lefts k.variables
@@ -122,8 +122,8 @@ same_behaviour a b left right c x =
     let ka = left_known a.variables c.left_scalars in
     let kb = right_known a.variables b.variables c.right_scalars (right_none (first_unmatched a.variables b.variables) (first_unmatched b.variables a.variables) c.faces) in
     record {
-      forth = λ ins outs n r. other_run a.variables a b left right ins outs n ka kb x.left_run x.right_run (λ name. sym (same_output a b left right (given a.variables ins) (start a ins).array (start b ins).array name c)) r;
-      back = λ ins outs n r. other_run a.variables b a right left ins outs n kb ka x.right_run x.left_run (λ name. same_output a b left right (given a.variables ins) (start a ins).array (start b ins).array name c) r;
+      forth = λ ins outs n r. other_run a.variables a b left right ins outs n ka kb x.left_run x.right_run (λ name. sym (same_output a b left right (given a.variables ins) (start a ins).array (start b ins).array (start a ins).port (start b ins).port name c)) r;
+      back = λ ins outs n r. other_run a.variables b a right left ins outs n kb ka x.right_run x.left_run (λ name. same_output a b left right (given a.variables ins) (start a ins).array (start b ins).array (start a ins).port (start b ins).port name c) r;
     }
 
 -- ---- the same, from what a comparison finds

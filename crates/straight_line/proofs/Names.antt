@@ -8,13 +8,13 @@ use Rattle.std.proofs.lemmas.Slice.Eq.{bytes_eq-Decides}
 use Rattle.fs_model.specs.declared.parts.Role.{Role}
 use Rattle.fs_model.specs.declared.parts.Role.TheVariants.{Input, Output, Local}
 use Rattle.fs_model.specs.declared.parts.Sort.{Sort}
-use Rattle.fs_model.specs.declared.parts.Sort.TheVariants.{Scalar, Array}
+use Rattle.fs_model.specs.declared.parts.Sort.TheVariants.{Scalar, Array, Port}
 use Rattle.fs_model.specs.declared.parts.VarInfo.{VarInfo}
 use Rattle.fs_model.specs.Machines.{Fsmd}
 use Rattle.fs_model.specs.Stores.{Store}
-use Rattle.fs_model.specs.Runs.{Content, Number, is_output, content, output_from, output}
-use Rattle.fs_ast.specs.Sound.{is_array, names_differ}
-use Rattle.fs_pair.specs.Faces.{is_face, same_role, same_sort, named, is_like, lacks_match, first_unmatched, interface_fault}
+use Rattle.fs_model.specs.Runs.{Content, Number, is_scalar as holds_number, is_output, content, output_from, output}
+use Rattle.fs_ast.specs.Sound.{names_differ}
+use Rattle.fs_pair.specs.Interfaces.{is_interface, same_role, same_sort, named, is_like, lacks_match, first_unmatched, interface_fault}
 use Rattle.nf_terms.specs.Terms.{Polynomial, Zero}
 use Rattle.nf_terms.specs.Meaning.{Valuation, value_of}
 use Rattle.nf_terms.specs.Order.{same_polynomial}
@@ -113,12 +113,13 @@ all_pass test [] k v h g = absurd (cc)
 all_pass test (u ∷ vs) zero v h g = let same : u ≡ v = cc in subst (λ z. test z ≡ true) same (and-left (test u) (list_all test vs) h)
 all_pass test (u ∷ vs) (suc k) v h g = all_pass test vs k v (and-right (test u) (list_all test vs) h) g
 
-scalar_sort : (s : Sort) → not (is_array s) ≡ true → s ≡ Scalar
+scalar_sort : (s : Sort) → holds_number s ≡ true → s ≡ Scalar
 scalar_sort Scalar h = refl
 scalar_sort Array h = absurd (cc)
+scalar_sort Port h = absurd (cc)
 
 pub is_scalar : (vs : List VarInfo) (k : ℕ) (v : VarInfo) → has_scalars_only vs ≡ true → slice_get vs k ≡ Some v → v.sort ≡ Scalar
-is_scalar vs k v h g = scalar_sort v.sort (all_pass (λ u. not (is_array u.sort)) vs k v h g)
+is_scalar vs k v h g = scalar_sort v.sort (all_pass (λ u. holds_number u.sort) vs k v h g)
 
 -- ---- the outputs of two machines
 pub record Compared (a b : Fsmd) (left right : List Polynomial) : Type 0 where
@@ -137,12 +138,12 @@ pub right_none : (o p : Option (List ℕ)) → option_or o p ≡ None → p ≡ 
 right_none None p e = e
 right_none (Some x) p e = absurd (cc)
 
-alone_no_output : (r : Role) → (is_face r && not false) ≡ false → is_output r ≡ false
+alone_no_output : (r : Role) → (is_interface r && not false) ≡ false → is_output r ≡ false
 alone_no_output Input e = absurd (cc)
 alone_no_output Output e = absurd (cc)
 alone_no_output Local e = refl
 
-alike_outputs : (r q : Role) (c d : Bool) → (is_face r && not (same_role r q && c)) ≡ false → (is_face q && not (same_role q r && d)) ≡ false → is_output r ≡ is_output q
+alike_outputs : (r q : Role) (c d : Bool) → (is_interface r && not (same_role r q && c)) ≡ false → (is_interface q && not (same_role q r && d)) ≡ false → is_output r ≡ is_output q
 alike_outputs Input Input c d e f = refl
 alike_outputs Input Output c d e f = absurd (cc)
 alike_outputs Input Local c d e f = refl
@@ -191,39 +192,39 @@ placed a b left right name v i j p q d h =
     let y : polynomial_named b.variables right name ≡ slice_get right j = ap (option_and_then (slice_get right)) q in
     subst (λ (o : Option Polynomial). agree (slice_get left i) o ≡ true) y (subst (λ (o : Option Polynomial). agree o (polynomial_named b.variables right name) ≡ true) x h')
 
-same_output_at : (a b : Fsmd) (left right : List Polynomial) (w : Valuation) (s t : ℕ → ℤ → ℤ) (name : List ℕ) → Compared a b left right
-    → Lookup a.variables name 0 → Lookup b.variables name 0 → output a (store_in w s left) name ≡ output b (store_in w t right) name
-same_output_at a b left right w s t name c (Absent p n) (Absent q m) = no_output a.variables 0 (store_in w s left) name n ∙ sym (no_output b.variables 0 (store_in w t right) name m)
-same_output_at a b left right w s t name c (Absent p n) (Present j u q m g e) =
+same_output_at : (a b : Fsmd) (left right : List Polynomial) (w : Valuation) (s t : ℕ → ℤ → ℤ) (ps pt : ℕ → List ℤ) (name : List ℕ) → Compared a b left right
+    → Lookup a.variables name 0 → Lookup b.variables name 0 → output a (store_in w s ps left) name ≡ output b (store_in w t pt right) name
+same_output_at a b left right w s t ps pt name c (Absent p n) (Absent q m) = no_output a.variables 0 (store_in w s ps left) name n ∙ sym (no_output b.variables 0 (store_in w t pt right) name m)
+same_output_at a b left right w s t ps pt name c (Absent p n) (Present j u q m g e) =
     let q' : place_of b.variables name ≡ Some j = q ∙ ap Some (zero-add j) in
     let l : lacks_match a.variables u ≡ false = matched b.variables a.variables name u (right_none (first_unmatched a.variables b.variables) (first_unmatched b.variables a.variables) c.faces) m in
     let absent : named a.variables u.name ≡ None = subst (λ z. named a.variables z ≡ None) (sym e) n in
-    let r : is_output u.role ≡ false = alone_no_output u.role (subst (λ (o : Option VarInfo). (is_face u.role && not (is_like u o)) ≡ false) absent l) in
-    no_output a.variables 0 (store_in w s left) name n
-    ∙ sym (output_named b.variables 0 (store_in w t right) name u j c.right_names m q' ∙ ap (λ x. cond x (Some (content u.sort j (store_in w t right))) None) r)
-same_output_at a b left right w s t name c (Present i v p n f d) (Absent q m) =
+    let r : is_output u.role ≡ false = alone_no_output u.role (subst (λ (o : Option VarInfo). (is_interface u.role && not (is_like u o)) ≡ false) absent l) in
+    no_output a.variables 0 (store_in w s ps left) name n
+    ∙ sym (output_named b.variables 0 (store_in w t pt right) name u j c.right_names m q' ∙ ap (λ x. cond x (Some (content u.sort j (store_in w t pt right))) None) r)
+same_output_at a b left right w s t ps pt name c (Present i v p n f d) (Absent q m) =
     let p' : place_of a.variables name ≡ Some i = p ∙ ap Some (zero-add i) in
     let l : lacks_match b.variables v ≡ false = matched a.variables b.variables name v (left_none (first_unmatched a.variables b.variables) (first_unmatched b.variables a.variables) c.faces) n in
     let absent : named b.variables v.name ≡ None = subst (λ z. named b.variables z ≡ None) (sym d) m in
-    let r : is_output v.role ≡ false = alone_no_output v.role (subst (λ (o : Option VarInfo). (is_face v.role && not (is_like v o)) ≡ false) absent l) in
-    output_named a.variables 0 (store_in w s left) name v i c.left_names n p' ∙ ap (λ x. cond x (Some (content v.sort i (store_in w s left))) None) r
-    ∙ sym (no_output b.variables 0 (store_in w t right) name m)
-same_output_at a b left right w s t name c (Present i v p n f d) (Present j u q m g e) =
+    let r : is_output v.role ≡ false = alone_no_output v.role (subst (λ (o : Option VarInfo). (is_interface v.role && not (is_like v o)) ≡ false) absent l) in
+    output_named a.variables 0 (store_in w s ps left) name v i c.left_names n p' ∙ ap (λ x. cond x (Some (content v.sort i (store_in w s ps left))) None) r
+    ∙ sym (no_output b.variables 0 (store_in w t pt right) name m)
+same_output_at a b left right w s t ps pt name c (Present i v p n f d) (Present j u q m g e) =
     let p' : place_of a.variables name ≡ Some i = p ∙ ap Some (zero-add i) in
     let q' : place_of b.variables name ≡ Some j = q ∙ ap Some (zero-add j) in
     let l : lacks_match b.variables v ≡ false = matched a.variables b.variables name v (left_none (first_unmatched a.variables b.variables) (first_unmatched b.variables a.variables) c.faces) n in
     let k : lacks_match a.variables u ≡ false = matched b.variables a.variables name u (right_none (first_unmatched a.variables b.variables) (first_unmatched b.variables a.variables) c.faces) m in
     let found : named b.variables v.name ≡ Some u = subst (λ z. named b.variables z ≡ Some u) (sym d) m in
     let back : named a.variables u.name ≡ Some v = subst (λ z. named a.variables z ≡ Some v) (sym e) n in
-    let l' : (is_face v.role && not (same_role v.role u.role && same_sort v.sort u.sort)) ≡ false = subst (λ (o : Option VarInfo). (is_face v.role && not (is_like v o)) ≡ false) found l in
-    let k' : (is_face u.role && not (same_role u.role v.role && same_sort u.sort v.sort)) ≡ false = subst (λ (o : Option VarInfo). (is_face u.role && not (is_like u o)) ≡ false) back k in
+    let l' : (is_interface v.role && not (same_role v.role u.role && same_sort v.sort u.sort)) ≡ false = subst (λ (o : Option VarInfo). (is_interface v.role && not (is_like v o)) ≡ false) found l in
+    let k' : (is_interface u.role && not (same_role u.role v.role && same_sort u.sort v.sort)) ≡ false = subst (λ (o : Option VarInfo). (is_interface u.role && not (is_like u o)) ≡ false) back k in
     let alike : is_output v.role ≡ is_output u.role = alike_outputs v.role u.role _ _ l' k' in
     let agreeing : is_output v.role ≡ true → slice_index_or left i Zero ≡ slice_index_or right j Zero = λ o. agreed left right i j (placed a b left right name v i j p' q' d (differ_step (is_output v.role) _ o (passed (output_differs a.variables left b.variables right) 0 a.variables name v c.same n))) in
-    output_named a.variables 0 (store_in w s left) name v i c.left_names n p'
-    ∙ ap (λ z. cond (is_output v.role) (Some (content z i (store_in w s left))) None) (is_scalar a.variables i v c.left_scalars f)
+    output_named a.variables 0 (store_in w s ps left) name v i c.left_names n p'
+    ∙ ap (λ z. cond (is_output v.role) (Some (content z i (store_in w s ps left))) None) (is_scalar a.variables i v c.left_scalars f)
     ∙ same_choice (is_output v.role) (value_of w (slice_index_or left i Zero)) (value_of w (slice_index_or right j Zero)) (λ o. ap (value_of w) (agreeing o))
     ∙ ap (λ x. cond x (Some (Number (value_of w (slice_index_or right j Zero)))) None) alike
-    ∙ sym (output_named b.variables 0 (store_in w t right) name u j c.right_names m q' ∙ ap (λ z. cond (is_output u.role) (Some (content z j (store_in w t right))) None) (is_scalar b.variables j u c.right_scalars g))
+    ∙ sym (output_named b.variables 0 (store_in w t pt right) name u j c.right_names m q' ∙ ap (λ z. cond (is_output u.role) (Some (content z j (store_in w t pt right))) None) (is_scalar b.variables j u c.right_scalars g))
 
-pub same_output : (a b : Fsmd) (left right : List Polynomial) (w : Valuation) (s t : ℕ → ℤ → ℤ) (name : List ℕ) → Compared a b left right → output a (store_in w s left) name ≡ output b (store_in w t right) name
-same_output a b left right w s t name c = same_output_at a b left right w s t name c (lookup a.variables name 0) (lookup b.variables name 0)
+pub same_output : (a b : Fsmd) (left right : List Polynomial) (w : Valuation) (s t : ℕ → ℤ → ℤ) (ps pt : ℕ → List ℤ) (name : List ℕ) → Compared a b left right → output a (store_in w s ps left) name ≡ output b (store_in w t pt right) name
+same_output a b left right w s t ps pt name c = same_output_at a b left right w s t ps pt name c (lookup a.variables name 0) (lookup b.variables name 0)

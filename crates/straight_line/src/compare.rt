@@ -3,7 +3,7 @@
 ghost use Rattle.std.specs.Prelude.{◌≡◌, None, IfOk, IsTrue, ◌&&◌, ◌<◌, ◌^◌, length};
 ghost use Rattle.std.specs.Result.{IfErr, OnOk};
 ghost use Rattle.fs_model.specs.Runs.{SameBehaviour};
-ghost use Rattle.fs_pair.specs.Faces.{interface_fault};
+ghost use Rattle.fs_pair.specs.Interfaces.{interface_fault};
 ghost use Rattle.straight_line.specs.Straight.{is_straight};
 ghost use Rattle.straight_line.specs.Vectors.{LeadsTo, start_vector};
 ghost use Rattle.straight_line.specs.Execution.{OrNoMemory, outcome_map, Execution};
