@@ -58,8 +58,8 @@ start_value lefts [] ins x k = refl
 start_value lefts (v ∷ vs) ins zero k = first_value lefts ins v (is_input v.role) (holds_number v.sort) (k.scalars 0 v refl) (k.known 0 v refl)
 start_value lefts (v ∷ vs) ins (suc x) k = start_value lefts vs ins x (record { scalars = λ y u g. k.scalars (suc y) u g; known = λ y u g. k.known (suc y) u g })
 
-start_stands : (lefts : List VarInfo) (m : Fsmd) (ins : Inputs) → InputsKnown lefts m.variables → store_in (given lefts ins) (start m ins).array (start_vector lefts m.variables) ≡ start m ins
-start_stands lefts m ins k = store_ext _ _ (λ x. start_value lefts m.variables ins x k) (λ x i. refl)
+start_stands : (lefts : List VarInfo) (m : Fsmd) (ins : Inputs) → InputsKnown lefts m.variables → store_in (given lefts ins) (start m ins).array (start m ins).port (start_vector lefts m.variables) ≡ start m ins
+start_stands lefts m ins k = store_ext _ _ (λ x. start_value lefts m.variables ins x k) (λ x i. refl) (λ x. refl)
 
 -- ---- the inputs are known
 present_step : (b : Bool) (u : VarInfo) (o : Option VarInfo) → b ≡ true → cond b (Some u) o ≡ None → ⊥
@@ -101,11 +101,11 @@ right_known lefts vs h e = record {
 -- ---- the runs
 -- from any inputs a machine ends where its last vector says
 abbrev pub end_of : List VarInfo → Fsmd → Inputs → List Polynomial → Store
-end_of lefts m ins last = store_in (given lefts ins) (start m ins).array last
+end_of lefts m ins last = store_in (given lefts ins) (start m ins).array (start m ins).port last
 
 run_goes : (lefts : List VarInfo) (m : Fsmd) (last : List Polynomial) (ins : Inputs) → InputsKnown lefts m.variables → LeadsTo m (start_vector lefts m.variables) last → (n : ℕ) × FirstReturn m n m.reset (start m ins) (end_of lefts m ins last)
 run_goes lefts m last ins k l =
-    let g = l.goes (given lefts ins) (start m ins).array in
+    let g = l.goes (given lefts ins) (start m ins).array (start m ins).port in
     (g.0, subst (λ (s : Store). FirstReturn m g.0 m.reset s (end_of lefts m ins last)) (start_stands lefts m ins k) g.1)
 
 other_run : (lefts : List VarInfo) (m k : Fsmd) (last other : List Polynomial) (ins : Inputs) (outs : List ℕ → Option Content) (n : ℕ) → InputsKnown lefts m.variables → InputsKnown lefts k.variables
@@ -122,8 +122,8 @@ same_behaviour a b left right c x =
     let ka = left_known a.variables c.left_scalars in
     let kb = right_known a.variables b.variables c.right_scalars (right_none (first_unmatched a.variables b.variables) (first_unmatched b.variables a.variables) c.faces) in
     record {
-      forth = λ ins outs n r. other_run a.variables a b left right ins outs n ka kb x.left_run x.right_run (λ name. sym (same_output a b left right (given a.variables ins) (start a ins).array (start b ins).array name c)) r;
-      back = λ ins outs n r. other_run a.variables b a right left ins outs n kb ka x.right_run x.left_run (λ name. same_output a b left right (given a.variables ins) (start a ins).array (start b ins).array name c) r;
+      forth = λ ins outs n r. other_run a.variables a b left right ins outs n ka kb x.left_run x.right_run (λ name. sym (same_output a b left right (given a.variables ins) (start a ins).array (start b ins).array (start a ins).port (start b ins).port name c)) r;
+      back = λ ins outs n r. other_run a.variables b a right left ins outs n kb ka x.right_run x.left_run (λ name. same_output a b left right (given a.variables ins) (start a ins).array (start b ins).array (start a ins).port (start b ins).port name c) r;
     }
 
 -- ---- the same, from what a comparison finds

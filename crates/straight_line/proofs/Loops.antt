@@ -12,7 +12,7 @@ use Rattle.straight_line.specs.Vectors.{store_in}
 
 -- what the rest of the assignments leaves of a vector's stores is what all assignments leave of the stores before the step
 pub record Remains (rest assignments : List (Assignment ℕ)) (vector next : List Polynomial) : Type 0 where
-  pub stores : (w : Valuation) (arrays : ℕ → ℤ → ℤ) → act_all rest (store_in w arrays vector) (store_in w arrays next) ≡ act_all assignments (store_in w arrays vector) (store_in w arrays vector)
+  pub stores : (w : Valuation) (arrays : ℕ → ℤ → ℤ) (ports : ℕ → List ℤ) → act_all rest (store_in w arrays ports vector) (store_in w arrays ports next) ≡ act_all assignments (store_in w arrays ports vector) (store_in w arrays ports vector)
 
 -- whether the reset state is reached from a state in at most n steps, and at least one
 abbrev pub comes_home : Fsmd → ℕ → ℕ → Bool
@@ -21,4 +21,4 @@ comes_home m (suc n) q = (first_transition_target (transitions_of m q) == m.rese
 
 -- what a machine reaches from a state and a vector, it reaches from its reset state and the first vector
 pub record Continues (m : Fsmd) (first : List Polynomial) (q : ℕ) (vector : List Polynomial) : Type 0 where
-  pub goes : (w : Valuation) (arrays : ℕ → ℤ → ℤ) (t : Store) (k : ℕ) → FirstReturn m (suc k) q (store_in w arrays vector) t → (n : ℕ) × FirstReturn m n m.reset (store_in w arrays first) t
+  pub goes : (w : Valuation) (arrays : ℕ → ℤ → ℤ) (ports : ℕ → List ℤ) (t : Store) (k : ℕ) → FirstReturn m (suc k) q (store_in w arrays ports vector) t → (n : ℕ) × FirstReturn m n m.reset (store_in w arrays ports first) t

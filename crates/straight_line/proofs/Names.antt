@@ -8,7 +8,7 @@ use Rattle.std.proofs.lemmas.Slice.Eq.{bytes_eq-Decides}
 use Rattle.fs_model.specs.declared.parts.Role.{Role}
 use Rattle.fs_model.specs.declared.parts.Role.TheVariants.{Input, Output, Local}
 use Rattle.fs_model.specs.declared.parts.Sort.{Sort}
-use Rattle.fs_model.specs.declared.parts.Sort.TheVariants.{Scalar, Array}
+use Rattle.fs_model.specs.declared.parts.Sort.TheVariants.{Scalar, Array, Port}
 use Rattle.fs_model.specs.declared.parts.VarInfo.{VarInfo}
 use Rattle.fs_model.specs.Machines.{Fsmd}
 use Rattle.fs_model.specs.Stores.{Store}
@@ -113,12 +113,13 @@ all_pass test [] k v h g = absurd (cc)
 all_pass test (u ∷ vs) zero v h g = let same : u ≡ v = cc in subst (λ z. test z ≡ true) same (and-left (test u) (list_all test vs) h)
 all_pass test (u ∷ vs) (suc k) v h g = all_pass test vs k v (and-right (test u) (list_all test vs) h) g
 
-scalar_sort : (s : Sort) → not (is_array s) ≡ true → s ≡ Scalar
+scalar_sort : (s : Sort) → holds_number s ≡ true → s ≡ Scalar
 scalar_sort Scalar h = refl
 scalar_sort Array h = absurd (cc)
+scalar_sort Port h = absurd (cc)
 
 pub is_scalar : (vs : List VarInfo) (k : ℕ) (v : VarInfo) → has_scalars_only vs ≡ true → slice_get vs k ≡ Some v → v.sort ≡ Scalar
-is_scalar vs k v h g = scalar_sort v.sort (all_pass (λ u. not (is_array u.sort)) vs k v h g)
+is_scalar vs k v h g = scalar_sort v.sort (all_pass (λ u. holds_number u.sort) vs k v h g)
 
 -- ---- the outputs of two machines
 pub record Compared (a b : Fsmd) (left right : List Polynomial) : Type 0 where
@@ -191,10 +192,10 @@ placed a b left right name v i j p q d h =
     let y : polynomial_named b.variables right name ≡ slice_get right j = ap (option_and_then (slice_get right)) q in
     subst (λ (o : Option Polynomial). agree (slice_get left i) o ≡ true) y (subst (λ (o : Option Polynomial). agree o (polynomial_named b.variables right name) ≡ true) x h')
 
-same_output_at : (a b : Fsmd) (left right : List Polynomial) (w : Valuation) (s t : ℕ → ℤ → ℤ) (name : List ℕ) → Compared a b left right
-    → Lookup a.variables name 0 → Lookup b.variables name 0 → output a (store_in w s left) name ≡ output b (store_in w t right) name
-same_output_at a b left right w s t name c (Absent p n) (Absent q m) = no_output a.variables 0 (store_in w s left) name n ∙ sym (no_output b.variables 0 (store_in w t right) name m)
-same_output_at a b left right w s t name c (Absent p n) (Present j u q m g e) =
+same_output_at : (a b : Fsmd) (left right : List Polynomial) (w : Valuation) (s t : ℕ → ℤ → ℤ) (ps pt : ℕ → List ℤ) (name : List ℕ) → Compared a b left right
+    → Lookup a.variables name 0 → Lookup b.variables name 0 → output a (store_in w s ps left) name ≡ output b (store_in w t pt right) name
+same_output_at a b left right w s t ps pt name c (Absent p n) (Absent q m) = no_output a.variables 0 (store_in w s ps left) name n ∙ sym (no_output b.variables 0 (store_in w t pt right) name m)
+same_output_at a b left right w s t ps pt name c (Absent p n) (Present j u q m g e) =
     let q' : place_of b.variables name ≡ Some j = q ∙ ap Some (zero-add j) in
     let l : lacks_match a.variables u ≡ false = matched b.variables a.variables name u (right_none (first_unmatched a.variables b.variables) (first_unmatched b.variables a.variables) c.faces) m in
     let absent : named a.variables u.name ≡ None = subst (λ z. named a.variables z ≡ None) (sym e) n in
@@ -219,11 +220,11 @@ same_output_at a b left right w s t name c (Present i v p n f d) (Present j u q 
     let k' : (is_interface u.role && not (same_role u.role v.role && same_sort u.sort v.sort)) ≡ false = subst (λ (o : Option VarInfo). (is_interface u.role && not (is_like u o)) ≡ false) back k in
     let alike : is_output v.role ≡ is_output u.role = alike_outputs v.role u.role _ _ l' k' in
     let agreeing : is_output v.role ≡ true → slice_index_or left i Zero ≡ slice_index_or right j Zero = λ o. agreed left right i j (placed a b left right name v i j p' q' d (differ_step (is_output v.role) _ o (passed (output_differs a.variables left b.variables right) 0 a.variables name v c.same n))) in
-    output_named a.variables 0 (store_in w s left) name v i c.left_names n p'
-    ∙ ap (λ z. cond (is_output v.role) (Some (content z i (store_in w s left))) None) (is_scalar a.variables i v c.left_scalars f)
+    output_named a.variables 0 (store_in w s ps left) name v i c.left_names n p'
+    ∙ ap (λ z. cond (is_output v.role) (Some (content z i (store_in w s ps left))) None) (is_scalar a.variables i v c.left_scalars f)
     ∙ same_choice (is_output v.role) (value_of w (slice_index_or left i Zero)) (value_of w (slice_index_or right j Zero)) (λ o. ap (value_of w) (agreeing o))
     ∙ ap (λ x. cond x (Some (Number (value_of w (slice_index_or right j Zero)))) None) alike
-    ∙ sym (output_named b.variables 0 (store_in w t right) name u j c.right_names m q' ∙ ap (λ z. cond (is_output u.role) (Some (content z j (store_in w t right))) None) (is_scalar b.variables j u c.right_scalars g))
+    ∙ sym (output_named b.variables 0 (store_in w t pt right) name u j c.right_names m q' ∙ ap (λ z. cond (is_output u.role) (Some (content z j (store_in w t pt right))) None) (is_scalar b.variables j u c.right_scalars g))
 
-pub same_output : (a b : Fsmd) (left right : List Polynomial) (w : Valuation) (s t : ℕ → ℤ → ℤ) (name : List ℕ) → Compared a b left right → output a (store_in w s left) name ≡ output b (store_in w t right) name
-same_output a b left right w s t name c = same_output_at a b left right w s t name c (lookup a.variables name 0) (lookup b.variables name 0)
+pub same_output : (a b : Fsmd) (left right : List Polynomial) (w : Valuation) (s t : ℕ → ℤ → ℤ) (ps pt : ℕ → List ℤ) (name : List ℕ) → Compared a b left right → output a (store_in w s ps left) name ≡ output b (store_in w t pt right) name
+same_output a b left right w s t ps pt name c = same_output_at a b left right w s t ps pt name c (lookup a.variables name 0) (lookup b.variables name 0)

@@ -77,8 +77,8 @@ branch_settable m q b sound o p =
     settable m.variables b.assignments p used
 
 -- ---- what a set polynomial stands for
-pub store_ext : (s t : Store) → ((x : ℕ) → s.scalar x ≡ t.scalar x) → ((x : ℕ) (i : ℤ) → s.array x i ≡ t.array x i) → s ≡ t
-store_ext s t p q = λ k. record { scalar = λ x. p x k; array = λ x i. q x i k }
+pub store_ext : (s t : Store) → ((x : ℕ) → s.scalar x ≡ t.scalar x) → ((x : ℕ) (i : ℤ) → s.array x i ≡ t.array x i) → ((x : ℕ) → s.port x ≡ t.port x) → s ≡ t
+store_ext s t p q r = λ k. record { scalar = λ x. p x k; array = λ x i. q x i k; port = λ x. r x k }
 
 same_suc : (y x : ℕ) → (y == x) ≡ (suc y == suc x)
 same_suc y x = grind (arith, nat_tests)
@@ -91,31 +91,31 @@ value_set w (q ∷ rest) zero p (suc y) h = grind (arith, nat_tests)
 value_set w (q ∷ rest) (suc x) p zero h = grind (arith, nat_tests)
 value_set w (q ∷ rest) (suc x) p (suc y) h = value_set w rest x p y (omega arith) ∙ ap (λ b. cond b (value_of w p) (value_of w (slice_index_or rest y Zero))) (same_suc y x)
 
-pub set_stands : (w : Valuation) (arrays : ℕ → ℤ → ℤ) (vector : List Polynomial) (x : ℕ) (p : Polynomial) → x < length vector
-    → store_in w arrays (slice_set vector x p) ≡ assigned (store_in w arrays vector) x (value_of w p)
-set_stands w arrays vector x p h = store_ext _ _ (λ y. value_set w vector x p y h) (λ y i. refl)
+pub set_stands : (w : Valuation) (arrays : ℕ → ℤ → ℤ) (ports : ℕ → List ℤ) (vector : List Polynomial) (x : ℕ) (p : Polynomial) → x < length vector
+    → store_in w arrays ports (slice_set vector x p) ≡ assigned (store_in w arrays ports vector) x (value_of w p)
+set_stands w arrays ports vector x p h = store_ext _ _ (λ y. value_set w vector x p y h) (λ y i. refl) (λ y. refl)
 
 pub assigned_acts : (vector old new : List Polynomial) (x : ℕ) (e : Term ℕ) (p : Polynomial) → x < length old → new ≡ slice_set old x p → Means e vector p → Acts (Assign x e) vector old new
 assigned_acts vector old new x e p h s m = record {
-  stores = λ w arrays. ap (store_in w arrays) s ∙ set_stands w arrays old x p h ∙ ap (assigned (store_in w arrays old) x) (m.means w arrays);
+  stores = λ w arrays ports. ap (store_in w arrays ports) s ∙ set_stands w arrays ports old x p h ∙ ap (assigned (store_in w arrays ports old) x) (m.means w arrays ports);
 }
 
 pub remains_all : (assignments : List (Assignment ℕ)) (vector next : List Polynomial) → next ≡ vector → Remains assignments assignments vector next
-remains_all assignments vector next e = record { stores = λ w arrays. ap (λ v. act_all assignments (store_in w arrays vector) (store_in w arrays v)) e }
+remains_all assignments vector next e = record { stores = λ w arrays ports. ap (λ v. act_all assignments (store_in w arrays ports vector) (store_in w arrays ports v)) e }
 
 pub remains_less : (a : Assignment ℕ) (rest left assignments : List (Assignment ℕ)) (vector old new : List Polynomial) → left ≡ a ∷ rest → Remains left assignments vector old → Acts a vector old new → Remains rest assignments vector new
 remains_less a rest left assignments vector old new e r s = record {
-  stores = λ w arrays. ap (act_all rest (store_in w arrays vector)) (s.stores w arrays) ∙ ap (λ acts. act_all acts (store_in w arrays vector) (store_in w arrays old)) (sym e) ∙ r.stores w arrays;
+  stores = λ w arrays ports. ap (act_all rest (store_in w arrays ports vector)) (s.stores w arrays ports) ∙ ap (λ acts. act_all acts (store_in w arrays ports vector) (store_in w arrays ports old)) (sym e) ∙ r.stores w arrays ports;
 }
 
 pub remains_none : (left assignments : List (Assignment ℕ)) (vector next : List Polynomial) → left ≡ [] → Remains left assignments vector next → IsAfter assignments vector next
 remains_none left assignments vector next e r = record {
-  stores = λ w arrays. ap (λ acts. act_all acts (store_in w arrays vector) (store_in w arrays next)) (sym e) ∙ r.stores w arrays;
+  stores = λ w arrays ports. ap (λ acts. act_all acts (store_in w arrays ports vector) (store_in w arrays ports next)) (sym e) ∙ r.stores w arrays ports;
 }
 
 pub next_by : (m : Fsmd) (q : ℕ) (b : Branch) (vector next : List Polynomial) → IsSound m → OnlyTransition (transitions_of m q) b → IsAfter b.assignments vector next → length next ≡ length vector → IsNext m q vector b.target next
 next_by m q b vector next sound o a f = record {
-  steps = λ w arrays. subst (λ (t : Store). Step m q (store_in w arrays vector) b.target t) (sym (a.stores w arrays)) (step_of m q b (store_in w arrays vector) o);
+  steps = λ w arrays ports. subst (λ (t : Store). Step m q (store_in w arrays ports vector) b.target t) (sym (a.stores w arrays ports)) (step_of m q b (store_in w arrays ports vector) o);
   first = next_target m q b o;
   in_range = omega (arith, (transition_sound m q b sound o).target_in, o.target);
   full = f;
@@ -123,16 +123,16 @@ next_by m q b vector next sound o a f = record {
 
 -- ---- runs
 pub begins : (m : Fsmd) (first : List Polynomial) → Continues m first m.reset first
-begins m first = record { goes = λ w arrays t k g. (suc k, g) }
+begins m first = record { goes = λ w arrays ports t k g. (suc k, g) }
 
 pub goes_on : (m : Fsmd) (first vector next : List Polynomial) (q r : ℕ) → Continues m first q vector → IsNext m q vector r next → r ≢ m.reset → Continues m first r next
 goes_on m first vector next q r c n e = record {
-  goes = λ w arrays t k g. c.goes w arrays t (suc k) (record { state = r; store = store_in w arrays next; step = n.steps w arrays; after = (e, g) });
+  goes = λ w arrays t k g. c.goes w arrays ports t (suc k) (record { state = r; store = store_in w arrays ports next; step = n.steps w arrays ports; after = (e, g) });
 }
 
 pub arrives : (m : Fsmd) (first vector next : List Polynomial) (q r : ℕ) → Continues m first q vector → IsNext m q vector r next → r ≡ m.reset → LeadsTo m first next
 arrives m first vector next q r c n e = record {
-  goes = λ w arrays. c.goes w arrays (store_in w arrays next) 0 (record { state = r; store = store_in w arrays next; step = n.steps w arrays; after = (e, refl) });
+  goes = λ w arrays ports. c.goes w arrays ports (store_in w arrays ports next) 0 (record { state = r; store = store_in w arrays ports next; step = n.steps w arrays ports; after = (e, refl) });
 }
 
 -- ---- the way home

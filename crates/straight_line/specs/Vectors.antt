@@ -15,12 +15,12 @@ use Rattle.nf_terms.specs.Order.{same_polynomial}
 use Rattle.nf_terms.specs.declared.tree.Side.TheVariants.{Left}
 
 -- the store whose scalars are the values of a vector's polynomials
-abbrev pub store_in : Valuation → (ℕ → ℤ → ℤ) → List Polynomial → Store
-store_in w arrays vector = record { scalar = λ x. value_of w (slice_index_or vector x Zero); array = arrays }
+abbrev pub store_in : Valuation → (ℕ → ℤ → ℤ) → (ℕ → List ℤ) → List Polynomial → Store
+store_in w arrays ports vector = record { scalar = λ x. value_of w (slice_index_or vector x Zero); array = arrays; port = ports }
 
 -- a polynomial has the value of an expression, in each store that the vector stands for
 pub record Means (e : Term ℕ) (vector : List Polynomial) (p : Polynomial) : Type 0 where
-  pub means : (w : Valuation) (arrays : ℕ → ℤ → ℤ) → value_of w p ≡ value e (store_in w arrays vector)
+  pub means : (w : Valuation) (arrays : ℕ → ℤ → ℤ) (ports : ℕ → List ℤ) → value_of w p ≡ value e (store_in w arrays ports vector)
 
 -- the place of the variable of a name
 abbrev pub place_of : List VarInfo → List ℕ → Option ℕ
@@ -41,7 +41,7 @@ start_vector lefts vs = map (first_polynomial lefts) vs
 
 -- from its reset state the machine goes from one vector to another: so it does from each store to each that they stand for
 pub record LeadsTo (m : Fsmd) (first last : List Polynomial) : Type 0 where
-  pub goes : (w : Valuation) (arrays : ℕ → ℤ → ℤ) → (n : ℕ) × FirstReturn m n m.reset (store_in w arrays first) (store_in w arrays last)
+  pub goes : (w : Valuation) (arrays : ℕ → ℤ → ℤ) (ports : ℕ → List ℤ) → (n : ℕ) × FirstReturn m n m.reset (store_in w arrays ports first) (store_in w arrays ports last)
 
 -- the polynomial of the variable of a name
 abbrev pub polynomial_named : List VarInfo → List Polynomial → List ℕ → Option Polynomial

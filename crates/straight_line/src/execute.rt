@@ -9,29 +9,17 @@ ghost use Rattle.fs_model.specs.View.{term_of, assignment_of, branch_of};
 ghost use Rattle.fs_ast.specs.Sound.{IsSound};
 ghost use Rattle.nf_terms.specs.Terms.{Zero};
 ghost use Rattle.straight_line.specs.Straight.{is_plain, is_plain_assignment, is_straight};
-ghost use Rattle.straight_line.specs.Vectors.{Means, LeadsTo};
+ghost use Rattle.nf_terms.specs.Computed.{Answers};
+ghost use Rattle.straight_line.specs.Vectors.{LeadsTo};
 ghost use Rattle.straight_line.specs.Steps.{is_settable, Acts, IsAfter, IsNext};
-ghost use Rattle.straight_line.specs.Execution.{OrNoMemory, outcome_map, IsNumber, Gives, Assigns, AssignsAll, first_assignments, Executes};
+ghost use Rattle.straight_line.specs.Execution.{OrNoMemory, outcome_map, evaluated, Assigns, AssignsAll, first_assignments, Executes};
 
 use fs_ast::machine::Machine;
 use fs_model::parts::{Assign, Branch, Expr, StateId, VarId};
-use nf_sums::sums::{add, mul, neg, sub};
+use nf_sums::sums::{add, mul, neg, number, sub};
 use nf_terms::poly::Poly;
 use nf_terms::stop::NfStop;
 use std::alloc::Global;
-
-/// The polynomial of a number; the least `i128` is too wide.
-pub fn number(alloc: Global, number: i128) -> Result<Poly, NfStop>
-    ensures { IsNumber number result }
-{
-    if number == i128::MIN {
-        return Err(NfStop::Wide {
-            left: number.unsigned_abs(),
-            right: 0,
-        });
-    }
-    Ok(Poly::number(alloc, number)?)
-}
 
 /// A copy of a variable's polynomial, and 0 for a variable past the end.
 fn variable(alloc: Global, vector: &[Poly], variable: VarId) -> Result<Poly, NfStop>
@@ -40,20 +28,18 @@ fn variable(alloc: Global, vector: &[Poly], variable: VarId) -> Result<Poly, NfS
 {
     match vector.get(variable.0 as usize) {
         Some(polynomial) => Ok(polynomial.try_clone(alloc)?),
-        None => number(alloc, 0),
+        None => Ok(Poly::number(alloc, 0)?),
     }
 }
 
 /// The polynomial that an expression has over a vector: the left operand's, the right operand's, and
 /// then the operation. `Wide` and `Large` come at the first operation that is past a limit.
-#[tactic(auto, using(crate::proofs::Gives::gives))]
 pub fn evaluate(alloc: Global, expression: &Expr<VarId>, vector: &[Poly]) -> Result<Poly, NfStop>
     requires { IsTrue (is_plain (term_of expression.now)) }
-    ensures means { IfOk result (Means (term_of expression.now) vector.now) }
-    ensures exact { Gives vector.now (term_of expression.now) result }
+    ensures { Answers result (evaluated vector.now (term_of expression.now)) }
 {
     match expression {
-        Expr::Num(n) => number(alloc, *n),
+        Expr::Num(n) => number(alloc, n),
         Expr::Var(x) => variable(alloc, vector, *x),
         Expr::Add(left, right) => {
             let left = evaluate(alloc, left, vector)?;
@@ -119,7 +105,7 @@ fn assign(
             next[target.0 as usize] = polynomial;
             Ok(next)
         }
-        Assign::Put(_, _, _) => unreachable!(),
+        Assign::Put(..) | Assign::Emit(..) => unreachable!(),
     }
 }
 

@@ -5,7 +5,7 @@ ghost use Rattle.std.specs.Result.{IfErr};
 ghost use Rattle.fs_model.specs.Runs.{is_input};
 ghost use Rattle.straight_line.specs.Vectors.{place_of, first_polynomial, start_vector};
 
-use crate::execute::{number, push};
+use crate::execute::push;
 use fs_model::name::Name;
 use fs_model::parts::{Role, VarInfo};
 use nf_terms::poly::Poly;
@@ -43,7 +43,7 @@ fn first_polynomial(alloc: Global, lefts: &[VarInfo], variable: &VarInfo) -> Res
     ensures memory { IfErr result (λ stop. stop ≡ NfStop.NoMemory) }
 {
     if !is_input(variable.role) {
-        return number(alloc, 0);
+        return Ok(Poly::number(alloc, 0)?);
     }
     match place_of(lefts, &variable.name) {
         Some(place) => {
@@ -53,7 +53,7 @@ fn first_polynomial(alloc: Global, lefts: &[VarInfo], variable: &VarInfo) -> Res
             };
             Ok(Poly::symbol(alloc, pos)?)
         }
-        None => number(alloc, 0),
+        None => Ok(Poly::number(alloc, 0)?),
     }
 }
 

@@ -6,7 +6,7 @@ ghost use Rattle.fs_model.specs.View.{term_of, assignment_of, branch_of};
 ghost use Rattle.straight_line.specs.Straight.{is_plain, is_plain_assignment, is_straight_state, has_scalars_only, has_straight_states, is_straight};
 
 use fs_ast::machine::Machine;
-use fs_model::parts::{Assign, Branch, Expr, Sort, StateId, VarId, VarInfo};
+use fs_model::parts::{Assign, Branch, Expr, StateId, VarId, VarInfo};
 
 /// Whether no element is read in an expression, and nothing is divided.
 pub fn is_plain(expression: &Expr<VarId>) -> bool
@@ -28,7 +28,7 @@ pub fn is_plain_assign(assign: &Assign<VarId>) -> bool
 {
     match assign {
         Assign::Set(_, right) => is_plain(right),
-        Assign::Put(_, _, _) => false,
+        Assign::Put(..) | Assign::Emit(..) => false,
     }
 }
 
@@ -54,14 +54,13 @@ pub fn is_straight_state(branches: &[Branch]) -> bool
     }
 }
 
-/// Whether no variable is an array.
+/// Whether each variable is a scalar.
 pub fn has_scalars_only(vars: &[VarInfo]) -> bool
     ensures { result ≡ has_scalars_only vars.now }
 {
     for variable in vars {
-        match variable.sort {
-            Sort::Scalar => {}
-            Sort::Array => return false,
+        if !variable.sort.is_scalar() {
+            return false;
         }
     }
     true
@@ -79,7 +78,7 @@ pub fn has_straight_states(machine: &Machine) -> bool
     true
 }
 
-/// Whether a machine has no array, and each state has one branch whose assignments read no element
+/// Whether a machine has no array and no port, and each state has one branch whose assignments read no element
 /// and divide nothing.
 pub fn is_straight(machine: &Machine) -> bool
     ensures { result ≡ is_straight machine.now }
