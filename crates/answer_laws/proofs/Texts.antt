@@ -41,7 +41,7 @@ lex_ranks a r b s e f = grind (arith, nat_tests)
 
 -- the rule of a rank
 abbrev rule_at : ℕ → CheckRule
-rule_at n = slice_index_or (TooMany ∷ TwiceNamed ∷ UnknownName ∷ WrongSort ∷ AssignInput ∷ AssignedTwice ∷ NoElse ∷ AfterElse ∷ TooManyBranches ∷ EndlessLine ∷ UnknownState ∷ TooManyEmits ∷ []) n TooMany
+rule_at n = slice_index_or (TooMany ∷ TwiceNamed ∷ UnknownName ∷ WrongSort ∷ AssignInput ∷ AssignedTwice ∷ NoElse ∷ AfterElse ∷ TooManyBranches ∷ EndlessLine ∷ UnknownState ∷ TooMany ∷ TooManyEmits ∷ []) n TooMany
 
 rule_back : (r : CheckRule) → rule_at (rank r) ≡ r
 rule_back TwiceNamed = refl
@@ -123,5 +123,3 @@ paths_once bytes t u p q = p.lists ∙ ap paths_text (spells_once bytes p.machin
 -- a file with a canonical text spells a machine
 pub canonical_machine : (bytes t : List ℕ) → HasCanonicalText t bytes → IsMachine bytes
 canonical_machine bytes t p = (machine_of p.parts, record { parts = p.parts; spells = p.spells; machine = refl })
-
-pub ruleset texts = (spells_once, text_fault_once, check_fault_once, text_or_check, spells_no_text_fault, spells_no_check_fault, long_spells_none, long_no_text_fault, long_no_check_fault, canonical_once, paths_once)

@@ -30,7 +30,6 @@ pub fn two_machines_get_one_answer()
 
 /// A file spells at most one machine, with one canonical text and one list of paths, and is then no file with a
 /// fault or too long.
-#[tactic(auto, using(crate::proofs::Texts::texts))]
 pub fn a_file_spells_one_machine()
     ensures one { (bytes : List ℕ) (m n : Fsmd) → SpellsMachine m bytes → SpellsMachine n bytes → m ≡ n }
     ensures no_text_fault { (bytes : List ℕ) (m : Fsmd) (f : TextFault) → SpellsMachine m bytes → HasTextFault f bytes → ⊥ }
@@ -41,7 +40,6 @@ pub fn a_file_spells_one_machine()
 {}
 
 /// A file has at most one fault: its first one as a text, or the first rule that its parts break, or its length.
-#[tactic(auto, using(crate::proofs::Texts::texts))]
 pub fn a_file_has_one_fault()
     ensures text { (bytes : List ℕ) (f g : TextFault) → HasTextFault f bytes → HasTextFault g bytes → f ≡ g }
     ensures rule { (bytes : List ℕ) (f g : CheckFault) → HasCheckFault f bytes → HasCheckFault g bytes → f ≡ g }
