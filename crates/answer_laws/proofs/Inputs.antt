@@ -1,103 +1,91 @@
--- A file of inputs of a machine gets one answer.
-use Rattle.std.proofs.Common.{◌≡◌, ℕ, ◌≤◌, List, length, Option, Some, sym, ◌∙◌, ap, subst}
-use Rattle.fs_base.specs.Outside.{Held, Unknown, Nothing, Bytes}
+-- What follows from a file of inputs is one answer.
+use Rattle.std.proofs.Common.{◌≡◌, ℕ, List, Option, Some, sym, ◌∙◌, ap, subst}
 use Rattle.fs_model.specs.Machines.{Fsmd}
 use Rattle.fs_model.specs.Runs.{Inputs}
-use Rattle.fs_runs.specs.Given.{Face}
+use Rattle.fs_model.specs.Limits.{most_text_bytes}
+use Rattle.fs_runs.specs.InputValues.{Signature}
 use Rattle.fs_inputs.specs.declared.faults.Fault.{Fault}
 use Rattle.fs_inputs.specs.Files.{file_fault, inputs_in}
-use Rattle.fs_inputs.specs.Refusals.{IsJson, SpelledBy, Spells}
+use Rattle.fs_inputs.specs.Refusals.{IsJson, IsFaulty, SpelledBy, Spells}
 use Rattle.serde_json.specs.Data.{Data}
 use Rattle.serde_json.specs.Find.{as_object}
 use Rattle.fsmd_tool.specs.declared.answer.Operand.{Operand}
 use Rattle.fsmd_tool.specs.declared.answer.Answer.{Answer}
-use Rattle.fsmd_tool.specs.declared.answer.Answer.TheVariants.{InputRefused, TooLong}
-use Rattle.fsmd_tool.specs.Texts.{WhereKnown, IsTooLong, most_bytes}
-use Rattle.fsmd_tool.specs.Inputs.{faces, IsUnread, IsInputsAnswer, RefusesInputs, SpellsInputs}
-use Rattle.answer_laws.specs.Settled.{Settles}
-use Rattle.answer_laws.proofs.Pairs.{some_same, some_none}
+use Rattle.fsmd_tool.specs.declared.answer.Answer.TheVariants.{InputRefused}
+use Rattle.fsmd_tool.specs.Texts.{IsTooLong}
+use Rattle.fsmd_tool.specs.Readings.{Content, OfBytes}
+use Rattle.fsmd_tool.specs.Refusals.{signatures, IsUnread, IsNotJson, HasInputFault, SpellsInputs, RefusesInputs, UnreadInputs, ByJson, ByInput}
+use Rattle.fsmd_tool.specs.Correct.{FollowsFromInputs, InputsRefused, Spelled}
+use Rattle.answer_laws.specs.Settled.{IsOpened}
+use Rattle.answer_laws.proofs.Contents.{some_same, some_none, of_both, bytes_opened}
 use Rattle.answer_laws.proofs.Texts.{few_not_many}
-use Rattle.answer_laws.proofs.Shapes.{InputsRefusal, ByJson, ByFault, inputs_refusal, long_unread, no_file_unread}
+use Rattle.answer_laws.proofs.Files.{unread_opened, unread_once, unread_or}
 
 json_once : (bytes : List ℕ) (d e : Data) → IsJson bytes d → IsJson bytes e → d ≡ e
 json_once bytes d e p q = some_same d e (sym p.value ∙ q.value)
 
-spelled_once : (fs : List Face) (d : Data) (x y : Inputs) → SpelledBy fs d x → SpelledBy fs d y → x ≡ y
+spelled_once : (fs : List Signature) (d : Data) (x y : Inputs) → SpelledBy fs d x → SpelledBy fs d y → x ≡ y
 spelled_once fs d x y p q = p.inputs ∙ ap inputs_in (some_same p.members q.members (sym p.object ∙ q.object)) ∙ sym q.inputs
 
-inputs_once : (fs : List Face) (bytes : List ℕ) (x y : Inputs) → Spells fs bytes x → Spells fs bytes y → x ≡ y
+inputs_once : (fs : List Signature) (bytes : List ℕ) (x y : Inputs) → Spells fs bytes x → Spells fs bytes y → x ≡ y
 inputs_once fs bytes x y p q = spelled_once fs q.value x y (subst (λ d. SpelledBy fs d x) (json_once bytes p.value q.value p.json q.json) p.spelled) q.spelled
+
+faulty_once : (fs : List Signature) (bytes n k : List ℕ) (f g : Fault) → IsFaulty fs bytes n f → IsFaulty fs bytes k g → Path (List ℕ × Fault) (n, f) (k, g)
+faulty_once fs bytes n k f g p q =
+    let value : p.value ≡ q.value = json_once bytes p.value q.value p.json q.json in
+    let first : Path (Option (List ℕ × Fault)) (Some (n, f)) (Some (k, g)) = sym p.first ∙ ap (λ d. file_fault fs (as_object d)) value ∙ q.first in
+    some_same (n, f) (k, g) first
+
+faultless : (fs : List Signature) (d : Data) (ins : Inputs) (name : List ℕ) (f : Fault) → SpelledBy fs d ins → file_fault fs (as_object d) ≡ Some (name, f) → ⊥
+faultless fs d ins name f p e = some_none (name, f) (file_fault fs (as_object d)) e (ap (file_fault fs) p.object ∙ p.faultless)
+
+spelled_or_faulty : (fs : List Signature) (bytes : List ℕ) (ins : Inputs) (name : List ℕ) (f : Fault) → Spells fs bytes ins → IsFaulty fs bytes name f → ⊥
+spelled_or_faulty fs bytes ins name f p q = faultless fs q.value ins name f (subst (λ d. SpelledBy fs d ins) (json_once bytes p.value q.value p.json q.json) p.spelled) q.first
 
 -- ---- refusals
 
-refusal_once : (file : Operand) (fs : List Face) (bytes : List ℕ) (x y : Answer) → InputsRefusal file fs bytes x → InputsRefusal file fs bytes y → x ≡ y
-refusal_once file fs bytes x y (ByJson n e) (ByJson k h) = e ∙ sym h
-refusal_once file fs bytes x y (ByJson n e) (ByFault f name q h) = absurd (n q.value q.json)
-refusal_once file fs bytes x y (ByFault f name p e) (ByJson n h) = absurd (n p.value p.json)
-refusal_once file fs bytes x y (ByFault f name p e) (ByFault g other q h) =
-    let value : p.value ≡ q.value = json_once bytes p.value q.value p.json q.json in
-    let first : Path (Option (List ℕ × Fault)) (Some (name, f)) (Some (other, g)) = sym p.first ∙ ap (λ d. file_fault fs (as_object d)) value ∙ q.first in
-    e ∙ ap (λ r. InputRefused file r.1 r.0) (some_same (name, f) (other, g) first) ∙ sym h
+inputs_opened : (m : Fsmd) (file : Operand) (c : Content) (x : Answer) → RefusesInputs m file c x → IsOpened c
+inputs_opened m file c x (UnreadInputs u) = unread_opened file c x u
+inputs_opened m file c x (ByJson t e) = bytes_opened c (IsNotJson m) t
+inputs_opened m file c x (ByInput f n t e) = bytes_opened c (HasInputFault m f n) t
 
-faultless : (fs : List Face) (d : Data) (ins : Inputs) (name : List ℕ) (f : Fault) → SpelledBy fs d ins → file_fault fs (as_object d) ≡ Some (name, f) → ⊥
-faultless fs d ins name f p e = some_none (name, f) (file_fault fs (as_object d)) e (ap (file_fault fs) p.object ∙ p.faultless)
+not_json_read : (m : Fsmd) (file : Operand) (c : Content) (x : Answer) → OfBytes c (IsNotJson m) → IsUnread file c x → ⊥
+not_json_read m file c x t u = unread_or file c (IsNotJson m) x (λ b p l. few_not_many _ most_text_bytes p.few l) t u
 
-spelled_or_refused : (file : Operand) (fs : List Face) (bytes : List ℕ) (ins : Inputs) (x : Answer) → Spells fs bytes ins → InputsRefusal file fs bytes x → ⊥
-spelled_or_refused file fs bytes ins x p (ByJson n e) = n p.value p.json
-spelled_or_refused file fs bytes ins x p (ByFault f name q e) =
-    faultless fs q.value ins name f (subst (λ d. SpelledBy fs d ins) (json_once bytes p.value q.value p.json q.json) p.spelled) q.first
+faulty_read : (m : Fsmd) (file : Operand) (c : Content) (f : Fault) (n : List ℕ) (x : Answer) → OfBytes c (HasInputFault m f n) → IsUnread file c x → ⊥
+faulty_read m file c f n x t u = unread_or file c (HasInputFault m f n) x (λ b p l. few_not_many _ most_text_bytes p.few l) t u
 
--- ---- the answer to a file of inputs
+not_json_or_faulty : (m : Fsmd) (c : Content) (f : Fault) (n : List ℕ) → OfBytes c (IsNotJson m) → OfBytes c (HasInputFault m f n) → ⊥
+not_json_or_faulty m c f n t s = of_both c (IsNotJson m) (HasInputFault m f n) ⊥ (λ b p q. p.refused q.faulty.value q.faulty.json) t s
 
--- inputs that bytes spell, with the answer that follows
-pub record Follows (P : Inputs → Answer → Type 0) (m : Fsmd) (answer : Answer) (bytes : List ℕ) : Type 0 where
-  pub inputs : Inputs
-  pub spells : SpellsInputs m inputs bytes
-  pub follows : P inputs answer
+refused_once : (m : Fsmd) (file : Operand) (c : Content) (x y : Answer) → RefusesInputs m file c x → RefusesInputs m file c y → x ≡ y
+refused_once m file c x y (UnreadInputs u) (UnreadInputs v) = unread_once file c x y u v
+refused_once m file c x y (UnreadInputs u) (ByJson t e) = absurd (not_json_read m file c x t u)
+refused_once m file c x y (UnreadInputs u) (ByInput f n t e) = absurd (faulty_read m file c f n x t u)
+refused_once m file c x y (ByJson t e) (UnreadInputs u) = absurd (not_json_read m file c y t u)
+refused_once m file c x y (ByJson t e) (ByJson s h) = e ∙ sym h
+refused_once m file c x y (ByJson t e) (ByInput f n s h) = absurd (not_json_or_faulty m c f n t s)
+refused_once m file c x y (ByInput f n t e) (UnreadInputs u) = absurd (faulty_read m file c f n y t u)
+refused_once m file c x y (ByInput f n t e) (ByJson s h) = absurd (not_json_or_faulty m c f n s t)
+refused_once m file c x y (ByInput f n t e) (ByInput g k s h) =
+    let same : Path (List ℕ × Fault) (n, f) (k, g) = of_both c (HasInputFault m f n) (HasInputFault m g k) (Path (List ℕ × Fault) (n, f) (k, g)) (λ b p q. faulty_once (signatures m) b n k f g p.faulty q.faulty) t s in
+    e ∙ ap (λ r. InputRefused file r.1 r.0) same ∙ sym h
 
--- a file of inputs can't be read, or is refused, or spells inputs from which the answer follows
-pub data InputsCase (P : Inputs → Answer → Type 0) (m : Fsmd) (file : Operand) (told : Held) (Failed : Type 0) (answer : Answer) : Type 0 where
-  Unread : IsUnread file told Failed answer → InputsCase P m file told Failed answer
-  Refused : IsInputsAnswer file answer → WhereKnown told (RefusesInputs m answer) → InputsCase P m file told Failed answer
-  Spelled : WhereKnown told (Follows P m answer) → InputsCase P m file told Failed answer
+spelled_or_refused : (m : Fsmd) (file : Operand) (c : Content) (ins : Inputs) (x : Answer) → OfBytes c (SpellsInputs m ins) → RefusesInputs m file c x → ⊥
+spelled_or_refused m file c ins x i (UnreadInputs u) = unread_or file c (SpellsInputs m ins) x (λ b p l. few_not_many _ most_text_bytes p.few l) i u
+spelled_or_refused m file c ins x i (ByJson t e) = of_both c (SpellsInputs m ins) (IsNotJson m) ⊥ (λ b p q. q.refused p.spells.value p.spells.json) i t
+spelled_or_refused m file c ins x i (ByInput f n t e) = of_both c (SpellsInputs m ins) (HasInputFault m f n) ⊥ (λ b p q. spelled_or_faulty (signatures m) b ins n f p.spells q.faulty) i t
 
--- the same of bytes
-data BytesCase (P : Inputs → Answer → Type 0) (m : Fsmd) (file : Operand) (bytes : List ℕ) (answer : Answer) : Type 0 where
-  Long : IsTooLong bytes → answer ≡ TooLong file → BytesCase P m file bytes answer
-  Wrong : length bytes ≤ most_bytes → InputsRefusal file (faces m) bytes answer → BytesCase P m file bytes answer
-  Right : Follows P m answer bytes → BytesCase P m file bytes answer
+-- ---- what follows
 
-bytes_case : (P : Inputs → Answer → Type 0) (m : Fsmd) (file : Operand) (bytes : List ℕ) (F : Type 0) (x : Answer) → (F → ⊥) → InputsCase P m file (Bytes bytes) F x → BytesCase P m file bytes x
-bytes_case P m file bytes F x n (Unread h) = let l = long_unread file bytes F x n h in Long l.0 l.1
-bytes_case P m file bytes F x n (Refused i r) = Wrong r.few (inputs_refusal file (faces m) bytes x i r.refuses)
-bytes_case P m file bytes F x n (Spelled h) = Right h
+pub follows_opened : (P : Inputs → Answer → Type 0) (m : Fsmd) (file : Operand) (c : Content) (x : Answer) → FollowsFromInputs P m file c x → IsOpened c
+follows_opened P m file c x (InputsRefused p) = inputs_opened m file c x p
+follows_opened P m file c x (Spelled ins i p) = bytes_opened c (SpellsInputs m ins) i
 
-follows_once : (P : Inputs → Answer → Type 0) → ((ins : Inputs) (x y : Answer) → P ins x → P ins y → x ≡ y)
-    → (m : Fsmd) (bytes : List ℕ) (x y : Answer) → Follows P m x bytes → Follows P m y bytes → x ≡ y
-follows_once P once m bytes x y p q =
-    once q.inputs x y (subst (λ i. P i x) (inputs_once (faces m) bytes p.inputs q.inputs p.spells.spells q.spells.spells) p.follows) q.follows
-
-bytes_once : (P : Inputs → Answer → Type 0) → ((ins : Inputs) (x y : Answer) → P ins x → P ins y → x ≡ y)
-    → (m : Fsmd) (file : Operand) (bytes : List ℕ) (x y : Answer) → BytesCase P m file bytes x → BytesCase P m file bytes y → x ≡ y
-bytes_once P once m file bytes x y (Long l e) (Long k h) = e ∙ sym h
-bytes_once P once m file bytes x y (Long l e) (Wrong f r) = absurd (few_not_many (length bytes) most_bytes f l)
-bytes_once P once m file bytes x y (Long l e) (Right q) = absurd (few_not_many (length bytes) most_bytes q.spells.few l)
-bytes_once P once m file bytes x y (Wrong f r) (Long l e) = absurd (few_not_many (length bytes) most_bytes f l)
-bytes_once P once m file bytes x y (Wrong f r) (Wrong g t) = refusal_once file (faces m) bytes x y r t
-bytes_once P once m file bytes x y (Wrong f r) (Right q) = absurd (spelled_or_refused file (faces m) bytes q.inputs x q.spells.spells r)
-bytes_once P once m file bytes x y (Right p) (Long l e) = absurd (few_not_many (length bytes) most_bytes p.spells.few l)
-bytes_once P once m file bytes x y (Right p) (Wrong f r) = absurd (spelled_or_refused file (faces m) bytes p.inputs y p.spells.spells r)
-bytes_once P once m file bytes x y (Right p) (Right q) = follows_once P once m bytes x y p q
-
-nothing_case : (P : Inputs → Answer → Type 0) (m : Fsmd) (file : Operand) (F : Type 0) (x y : Answer) → InputsCase P m file Nothing F x → InputsCase P m file Nothing F y → x ≡ y
-nothing_case P m file F x y (Unread p) (Unread q) = no_file_unread file F x p ∙ sym (no_file_unread file F y q)
-nothing_case P m file F x y (Unread p) (Refused i q) = absurd q
-nothing_case P m file F x y (Unread p) (Spelled q) = absurd q
-nothing_case P m file F x y (Refused i p) q = absurd p
-nothing_case P m file F x y (Spelled p) q = absurd p
-
-pub inputs_case_once : (P : Inputs → Answer → Type 0) → ((ins : Inputs) (x y : Answer) → P ins x → P ins y → x ≡ y)
-    → (m : Fsmd) (file : Operand) (h : Held) (F : Type 0) (x y : Answer) → Settles h F → InputsCase P m file h F x → InputsCase P m file h F y → x ≡ y
-inputs_case_once P once m file Unknown F x y s p q = absurd s
-inputs_case_once P once m file Nothing F x y s p q = nothing_case P m file F x y p q
-inputs_case_once P once m file (Bytes bytes) F x y s p q = bytes_once P once m file bytes x y (bytes_case P m file bytes F x s p) (bytes_case P m file bytes F y s q)
+pub follows_once : (P : Inputs → Answer → Type 0) → ((ins : Inputs) (x y : Answer) → P ins x → P ins y → x ≡ y) → (m : Fsmd) (file : Operand) (c : Content) (x y : Answer) → FollowsFromInputs P m file c x → FollowsFromInputs P m file c y → x ≡ y
+follows_once P once m file c x y (InputsRefused p) (InputsRefused q) = refused_once m file c x y p q
+follows_once P once m file c x y (InputsRefused p) (Spelled j i q) = absurd (spelled_or_refused m file c j x i p)
+follows_once P once m file c x y (Spelled j i p) (InputsRefused q) = absurd (spelled_or_refused m file c j y i q)
+follows_once P once m file c x y (Spelled j i p) (Spelled k h q) =
+    let same : j ≡ k = of_both c (SpellsInputs m j) (SpellsInputs m k) (j ≡ k) (λ b s t. inputs_once (signatures m) b j k s.spells t.spells) i h in
+    once k x y (subst (λ o. P o x) same p) q

@@ -1,12 +1,9 @@
 pub mod Outcomes
 pub mod Pairs
 pub mod Texts
+pub mod Contents
 pub mod Files
-pub mod Shapes
 pub mod Inputs
 pub mod Runs
-pub mod DueRuns
-pub mod Machines
 pub mod Replays
-pub mod DueReplays
-pub mod Due
+pub mod Correct

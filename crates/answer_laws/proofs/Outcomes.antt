@@ -1,21 +1,20 @@
--- Each part of an execution has one outcome, want of memory aside.
-use Rattle.std.proofs.Common.{◌≡◌, ℕ, zero, suc, ◌+◌, ◌*◌, List, [], ◌∷◌, length, Bool, true, false, refl, sym, ◌∙◌, ap, subst}
-use Rattle.std.specs.Prelude.{◌==◌, ℤ, Ok, Err, slice_set}
+-- Each part of an execution has one outcome, out of memory aside.
+use Rattle.std.proofs.Common.{◌≡◌, ℕ, zero, suc, ◌+◌, List, [], ◌∷◌, length, Bool, true, false, refl, sym, ◌∙◌, ap, subst}
+use Rattle.std.specs.Prelude.{◌==◌, Ok, Err, slice_set}
 use Rattle.fs_model.specs.declared.parts.VarInfo.{VarInfo}
-use Rattle.fs_model.specs.Terms.{Term, Number, Variable, Read, Sum, Difference, Product, Quotient, Remainder, Negative, Assignment, Assign, ArrayWrite}
+use Rattle.fs_model.specs.Terms.{Term, Assignment, Assign, ArrayWrite, Emit}
 use Rattle.fs_model.specs.Machines.{Fsmd, transitions_of}
 use Rattle.fs_ast.specs.Sound.{first_transition_target}
 use Rattle.nf_terms.specs.Terms.{Polynomial}
-use Rattle.nf_terms.specs.Measures.{size_of, weight_of}
-use Rattle.nf_terms.specs.RawSums.{raw_sum, raw_difference, raw_product, raw_negation}
+use Rattle.nf_terms.specs.Computed.{Computed, Done, Answers}
+use Rattle.nf_terms.specs.Computed as computed
 use Rattle.nf_terms.specs.declared.stop.NfStop.{NfStop}
 use Rattle.nf_terms.specs.declared.stop.NfStop.TheVariants.{Wide, Large, NoMemory}
-use Rattle.nf_sums.proofs.Unique.{normal_forms_equal}
 use Rattle.straight_line.specs.Vectors.{start_vector}
-use Rattle.straight_line.specs.Execution.{Outcome, InTurn, Stops, GoesOn, Operates, Adds, Subtracts, Multiplies, IsNumber, Evaluates, Assigns, AssignsAll, first_assignments, ReturnsOr, Executes, Execution}
+use Rattle.straight_line.specs.Execution.{Outcome, InTurn, Stops, GoesOn, evaluated, Evaluates, Assigns, AssignsAll, first_assignments, ReturnsOr, Executes, Execution}
 use Rattle.answer_laws.specs.Outcomes.{HadMemory}
 
--- two outcomes that are no want of memory are the same
+-- two outcomes that are not out of memory are the same
 pub record OneOutcome {T : Type 0} (P : Outcome T → Type 0) : Type 0 where
   pub once : (x y : Outcome T) → P x → P y → HadMemory x → HadMemory y → x ≡ y
 
@@ -51,66 +50,50 @@ in_turn First Next f n = record { once = turn First Next f n }
 is_one : {T : Type 0} (o : Outcome T) → OneOutcome (λ r. r ≡ o)
 is_one o = record { once = λ x y e f hx hy. e ∙ sym f }
 
--- ---- operations
-
-operation : (p q raw : Polynomial) (weight size : ℕ) (x y : Outcome Polynomial) → Operates p q raw weight size x → Operates p q raw weight size y → HadMemory x → HadMemory y → x ≡ y
-operation p q raw weight size (Ok m) (Ok n) a b hx hy = ap Ok (normal_forms_equal m n a.0.normal b.0.normal (record { totals = λ bag. a.0.same.totals bag ∙ sym (b.0.same.totals bag) }))
-operation p q raw weight size (Ok m) (Err (Wide l r)) a b hx hy = absurd (b.1.0 a.1.0)
-operation p q raw weight size (Ok m) (Err (Large u d)) a b hx hy = absurd (b.1.1 a.1.1)
-operation p q raw weight size (Ok m) (Err NoMemory) a b hx hy = absurd (hy refl)
-operation p q raw weight size (Err (Wide l r)) (Ok n) a b hx hy = absurd (a.1.0 b.1.0)
-operation p q raw weight size (Err (Wide l r)) (Err (Wide k t)) a b hx hy = λ i. Err (Wide ((a.1.1 ∙ sym b.1.1) i) ((a.1.2 ∙ sym b.1.2) i))
-operation p q raw weight size (Err (Wide l r)) (Err (Large u d)) a b hx hy = absurd (a.1.0 b.1.0)
-operation p q raw weight size (Err (Wide l r)) (Err NoMemory) a b hx hy = absurd (hy refl)
-operation p q raw weight size (Err (Large u d)) (Ok n) a b hx hy = absurd (a.1.1 b.1.1)
-operation p q raw weight size (Err (Large u d)) (Err (Wide l r)) a b hx hy = absurd (b.1.0 a.1.0)
-operation p q raw weight size (Err (Large u d)) (Err (Large v e)) a b hx hy = λ i. Err (Large ((a.1.2 ∙ sym b.1.2) i) ((a.1.3 ∙ sym b.1.3) i))
-operation p q raw weight size (Err (Large u d)) (Err NoMemory) a b hx hy = absurd (hy refl)
-operation p q raw weight size (Err NoMemory) y a b hx hy = absurd (hx refl)
-
-adds : (p q : Polynomial) → OneOutcome (Adds p q)
-adds p q = record { once = operation p q (raw_sum p q) (weight_of p + weight_of q) (size_of p + size_of q) }
-
-subtracts : (p q : Polynomial) → OneOutcome (Subtracts p q)
-subtracts p q = record { once = operation p q (raw_difference p q) (weight_of p + weight_of q) (size_of p + size_of q) }
-
-multiplies : (p q : Polynomial) → OneOutcome (Multiplies p q)
-multiplies p q = record { once = operation p q (raw_product p q) (weight_of p * weight_of q) (size_of p * size_of q) }
-
 -- ---- expressions
 
-number : (n : ℤ) (x y : Outcome Polynomial) → IsNumber n x → IsNumber n y → HadMemory x → HadMemory y → x ≡ y
-number n (Ok p) (Ok q) a b hx hy = ap Ok (a.1 ∙ sym b.1)
-number n (Ok p) (Err (Wide l r)) a b hx hy = absurd (a.0 b.0)
-number n (Ok p) (Err (Large u d)) a b hx hy = absurd b
-number n (Ok p) (Err NoMemory) a b hx hy = absurd (hy refl)
-number n (Err (Wide l r)) (Ok q) a b hx hy = absurd (b.0 a.0)
-number n (Err (Wide l r)) (Err (Wide k t)) a b hx hy = λ i. Err (Wide ((a.1 ∙ sym b.1) i) ((a.2 ∙ sym b.2) i))
-number n (Err (Wide l r)) (Err (Large u d)) a b hx hy = absurd b
-number n (Err (Wide l r)) (Err NoMemory) a b hx hy = absurd (hy refl)
-number n (Err (Large u d)) y a b hx hy = absurd a
-number n (Err NoMemory) y a b hx hy = absurd (hx refl)
+done_same : {T : Type 0} (u v : T) → Path (Computed T) (Done u) (Done v) → u ≡ v
+done_same u v e = cc
 
-binary : (vector : List Polynomial) (a b : Term ℕ) (Op : (p q : Polynomial) → Outcome Polynomial → Type 0) → ((p q : Polynomial) → OneOutcome (Op p q)) → OneOutcome (Evaluates vector a) → OneOutcome (Evaluates vector b)
-    → OneOutcome (InTurn (Evaluates vector a) (λ p. InTurn (Evaluates vector b) (Op p)))
-binary vector a b Op op f g = in_turn (Evaluates vector a) (λ p. InTurn (Evaluates vector b) (Op p)) f (λ p. in_turn (Evaluates vector b) (Op p) g (op p))
+done_wide : {T : Type 0} (u : T) (l r : ℕ) → Path (Computed T) (Done u) (computed.Wide l r) → ⊥
+done_wide u l r e = cc
+
+done_large : {T : Type 0} (u : T) (n d : ℕ) → Path (Computed T) (Done u) (computed.Large n d) → ⊥
+done_large u n d e = cc
+
+wide_large : {T : Type 0} (l r n d : ℕ) → Path (Computed T) (computed.Wide l r) (computed.Large n d) → ⊥
+wide_large l r n d e = cc
+
+wide_same : {T : Type 0} (l r k t : ℕ) → Path (Computed T) (computed.Wide l r) (computed.Wide k t) → (l ≡ k) × (r ≡ t)
+wide_same l r k t e = (cc, cc)
+
+large_same : {T : Type 0} (n d m k : ℕ) → Path (Computed T) (computed.Large n d) (computed.Large m k) → (n ≡ m) × (d ≡ k)
+large_same n d m k e = (cc, cc)
+
+answers_once : {T : Type 0} (c : Computed T) (x y : Outcome T) → Answers x c → Answers y c → HadMemory x → HadMemory y → x ≡ y
+answers_once c (Ok u) (Ok v) a b hx hy = ap Ok (done_same u v (sym a ∙ b))
+answers_once c (Ok u) (Err (Wide l r)) a b hx hy = absurd (done_wide u l r (sym a ∙ b))
+answers_once c (Ok u) (Err (Large n d)) a b hx hy = absurd (done_large u n d (sym a ∙ b))
+answers_once c (Ok u) (Err NoMemory) a b hx hy = absurd (hy refl)
+answers_once c (Err (Wide l r)) (Ok v) a b hx hy = absurd (done_wide v l r (sym b ∙ a))
+answers_once {T = T} c (Err (Wide l r)) (Err (Wide k t)) a b hx hy = let same = wide_same {T = T} l r k t (sym a ∙ b) in λ i. Err (Wide (same.0 i) (same.1 i))
+answers_once c (Err (Wide l r)) (Err (Large n d)) a b hx hy = absurd (wide_large l r n d (sym a ∙ b))
+answers_once c (Err (Wide l r)) (Err NoMemory) a b hx hy = absurd (hy refl)
+answers_once c (Err (Large n d)) (Ok v) a b hx hy = absurd (done_large v n d (sym b ∙ a))
+answers_once c (Err (Large n d)) (Err (Wide l r)) a b hx hy = absurd (wide_large l r n d (sym b ∙ a))
+answers_once {T = T} c (Err (Large n d)) (Err (Large m k)) a b hx hy = let same = large_same {T = T} n d m k (sym a ∙ b) in λ i. Err (Large (same.0 i) (same.1 i))
+answers_once c (Err (Large n d)) (Err NoMemory) a b hx hy = absurd (hy refl)
+answers_once c (Err NoMemory) y a b hx hy = absurd (hx refl)
 
 evaluates : (vector : List Polynomial) (e : Term ℕ) → OneOutcome (Evaluates vector e)
-evaluates vector (Number n) = record { once = number n }
-evaluates vector (Variable v) = record { once = λ x y e f hx hy. e ∙ sym f }
-evaluates vector (Read v i) = record { once = λ x y e f hx hy. absurd e }
-evaluates vector (Sum a b) = record { once = (binary vector a b Adds adds (evaluates vector a) (evaluates vector b)).once }
-evaluates vector (Difference a b) = record { once = (binary vector a b Subtracts subtracts (evaluates vector a) (evaluates vector b)).once }
-evaluates vector (Product a b) = record { once = (binary vector a b Multiplies multiplies (evaluates vector a) (evaluates vector b)).once }
-evaluates vector (Quotient a b) = record { once = λ x y e f hx hy. absurd e }
-evaluates vector (Remainder a b) = record { once = λ x y e f hx hy. absurd e }
-evaluates vector (Negative a) = record { once = turn (Evaluates vector a) (λ p r. r ≡ Ok (raw_negation p)) (evaluates vector a) (λ p. is_one (Ok (raw_negation p))) }
+evaluates vector e = record { once = answers_once (evaluated vector e) }
 
 -- ---- assignments and states
 
 assigns : (before next : List Polynomial) (a : Assignment ℕ) → OneOutcome (Assigns before next a)
 assigns before next (Assign v e) = record { once = turn (Evaluates before e) (λ p r. r ≡ Ok (slice_set next v p)) (evaluates before e) (λ p. is_one (Ok (slice_set next v p))) }
 assigns before next (ArrayWrite v i e) = record { once = λ x y h k hx hy. absurd h }
+assigns before next (Emit v e) = record { once = λ x y h k hx hy. absurd h }
 
 assigns_all : (before : List Polynomial) (assignments : List (Assignment ℕ)) (next : List Polynomial) → OneOutcome (AssignsAll before assignments next)
 assigns_all before [] next = record { once = λ x y e f hx hy. e ∙ sym f }

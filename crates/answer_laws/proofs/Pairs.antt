@@ -2,7 +2,7 @@
 use Rattle.std.proofs.Common.{◌≡◌, ℕ, List, Option, Some, None, Bool, true, false, refl, sym, ◌∙◌, ap, subst}
 use Rattle.std.specs.Prelude.{Ok, Err, option_map, slice_get}
 use Rattle.fs_model.specs.Machines.{Fsmd}
-use Rattle.fs_pair.specs.Faces.{interface_fault}
+use Rattle.fs_pair.specs.Interfaces.{interface_fault}
 use Rattle.nf_terms.specs.Terms.{Polynomial}
 use Rattle.nf_terms.specs.declared.stop.NfStop.{NfStop}
 use Rattle.nf_terms.specs.declared.stop.NfStop.TheVariants as stops
@@ -12,18 +12,13 @@ use Rattle.straight_line.specs.Straight.{is_straight}
 use Rattle.straight_line.specs.Vectors.{first_difference}
 use Rattle.straight_line.specs.Execution.{Execution}
 use Rattle.straight_line.specs.Verdicts.{StopsOn}
-use Rattle.fsmd_tool.specs.declared.answer.Operand.TheVariants.{First, Second, Third}
+use Rattle.fsmd_tool.specs.declared.answer.Operand.TheVariants.{First, Second}
 use Rattle.fsmd_tool.specs.declared.answer.Answer.{Answer}
-use Rattle.fsmd_tool.specs.declared.answer.Answer.TheVariants.{Usage, Equivalent, Text, Differs, NoReturn, OutputDiffers, Wide, Large, TextRefused, CheckRefused, NotJson, InputRefused, Interfaces, TooLong, NotBuilt, CannotRead}
-use Rattle.fsmd_tool.specs.Answers.{AreComparable, IsOfPair, IsVerdict}
+use Rattle.fsmd_tool.specs.declared.answer.Answer.TheVariants.{Usage, Equivalent, OutputDiffers, Wide, Large, Interfaces, NotBuilt}
+use Rattle.fsmd_tool.specs.Pairs.{AreComparable, IsOfPair, OtherInterface, LeftForm, RightForm, Same, Differ, PastWeight, PastSize}
+use Rattle.answer_laws.proofs.Contents.{some_same, some_none}
 use Rattle.answer_laws.specs.Outcomes.{HadMemory}
 use Rattle.answer_laws.proofs.Outcomes.{execution_once, err_ok, stop_same, end_same, had_end}
-
-pub some_same : {A : Type 0} (x y : A) → Path (Option A) (Some x) (Some y) → x ≡ y
-some_same x y e = cc
-
-pub some_none : {A : Type 0} (x : A) (o : Option A) → o ≡ Some x → o ≡ None → ⊥
-some_none x o e n = let f : Some x ≡ None = sym e ∙ n in cc
 
 not_both : (b : Bool) → b ≡ true → b ≡ false → ⊥
 not_both b e f = let g : true ≡ false = sym e ∙ f in cc
@@ -87,49 +82,51 @@ stops_on sides.Right a b stop answer h e s = RightStops s.0.0 stop h s.0.1 s.1 e
 
 -- ---- by the order of work
 
-data Grade (a b : Fsmd) (answer : Answer) : Type 0 where
-  FacesDiffer : (name : List ℕ) → interface_fault a b ≡ Some name → answer ≡ Interfaces name → Grade a b answer
-  LeftForm : interface_fault a b ≡ None → is_straight a ≡ false → answer ≡ NotBuilt First → Grade a b answer
-  RightForm : interface_fault a b ≡ None → is_straight a ≡ true → is_straight b ≡ false → answer ≡ NotBuilt Second → Grade a b answer
-  ByEnds : AreComparable a b → Ends a b answer → Grade a b answer
+by_ends : (a b : Fsmd) (x : Answer) → IsOfPair a b x → interface_fault a b ≡ None → is_straight a ≡ true → is_straight b ≡ true → Ends a b x
+by_ends a b x (OtherInterface n f e) i l r = absurd (some_none n (interface_fault a b) f i)
+by_ends a b x (LeftForm f g e) i l r = absurd (not_both (is_straight a) l g)
+by_ends a b x (RightForm f g k e) i l r = absurd (not_both (is_straight b) r k)
+by_ends a b x (Same c same d e) i l r = BothEnd d.left d.right d.left_ends d.right_ends (subst (λ o. IsByOutputs a o x) (sym d.none) e)
+by_ends a b x (Differ c o d e) i l r =
+    BothEnd d.differs.left d.differs.right d.differs.left_ends d.differs.right_ends (subst (λ f. IsByOutputs a f x) (sym d.differs.first) (o, (d.named, e)))
+by_ends a b x (PastWeight c d e) i l r = stops_on d.side a b (stops.Wide d.left d.right) x (wide_had d.left d.right) e d.stops
+by_ends a b x (PastSize c d e) i l r = stops_on d.side a b (stops.Large d.units d.depth) x (large_had d.units d.depth) e d.stops
 
-grade : (a b : Fsmd) (answer : Answer) → IsVerdict answer → IsOfPair a b answer → Grade a b answer
-grade a b Usage v h = absurd v
-grade a b (Equivalent nodes) v h = let d = h.2 in ByEnds h.0 (BothEnd d.left d.right d.left_ends d.right_ends (subst (λ i. IsByOutputs a i (Equivalent nodes)) (sym d.none) (ap Equivalent v)))
-grade a b (Text lines) v h = absurd v
-grade a b (Differs lines) v h = absurd v
-grade a b (NoReturn lines) v h = absurd v
-grade a b (OutputDiffers output) v h = let d = h.1.differs in ByEnds h.0 (BothEnd d.left d.right d.left_ends d.right_ends (subst (λ i. IsByOutputs a i (OutputDiffers output)) (sym d.first) (output, (h.1.named, refl))))
-grade a b Wide v h = ByEnds h.0 (stops_on h.1.side a b (stops.Wide h.1.left h.1.right) Wide (wide_had h.1.left h.1.right) refl h.1.stops)
-grade a b Large v h = ByEnds h.0 (stops_on h.1.side a b (stops.Large h.1.units h.1.depth) Large (large_had h.1.units h.1.depth) refl h.1.stops)
-grade a b (TextRefused file fault) v h = absurd v
-grade a b (CheckRefused file fault) v h = absurd v
-grade a b (NotJson file) v h = absurd v
-grade a b (InputRefused file fault name) v h = absurd v
-grade a b (Interfaces name) v h = FacesDiffer name h refl
-grade a b (TooLong file) v h = absurd v
-grade a b (NotBuilt First) v h = LeftForm h.0 h.1 refl
-grade a b (NotBuilt Second) v h = RightForm h.0 h.1 h.2 refl
-grade a b (NotBuilt Third) v h = absurd h
-grade a b (CannotRead file) v h = absurd v
+other_interface : (a b : Fsmd) (n : List ℕ) (x y : Answer) → interface_fault a b ≡ Some n → x ≡ Interfaces n → IsOfPair a b y → x ≡ y
+other_interface a b n x y f e (OtherInterface m g h) = e ∙ ap Interfaces (some_same n m (sym f ∙ g)) ∙ sym h
+other_interface a b n x y f e (LeftForm g p h) = absurd (some_none n (interface_fault a b) f g)
+other_interface a b n x y f e (RightForm g p q h) = absurd (some_none n (interface_fault a b) f g)
+other_interface a b n x y f e (Same c same d h) = absurd (some_none n (interface_fault a b) f c.alike)
+other_interface a b n x y f e (Differ c o d h) = absurd (some_none n (interface_fault a b) f c.alike)
+other_interface a b n x y f e (PastWeight c d h) = absurd (some_none n (interface_fault a b) f c.alike)
+other_interface a b n x y f e (PastSize c d h) = absurd (some_none n (interface_fault a b) f c.alike)
 
-grade_once : (a b : Fsmd) (x y : Answer) → Grade a b x → Grade a b y → x ≡ y
-grade_once a b x y (FacesDiffer n f e) (FacesDiffer m g h) = e ∙ ap Interfaces (some_same n m (sym f ∙ g)) ∙ sym h
-grade_once a b x y (FacesDiffer n f e) (LeftForm g p h) = absurd (some_none n (interface_fault a b) f g)
-grade_once a b x y (FacesDiffer n f e) (RightForm g p q h) = absurd (some_none n (interface_fault a b) f g)
-grade_once a b x y (FacesDiffer n f e) (ByEnds c h) = absurd (some_none n (interface_fault a b) f c.alike)
-grade_once a b x y (LeftForm f p e) (FacesDiffer m g h) = absurd (some_none m (interface_fault a b) g f)
-grade_once a b x y (LeftForm f p e) (LeftForm g q h) = e ∙ sym h
-grade_once a b x y (LeftForm f p e) (RightForm g q r h) = absurd (not_both (is_straight a) q p)
-grade_once a b x y (LeftForm f p e) (ByEnds c h) = absurd (not_both (is_straight a) c.left p)
-grade_once a b x y (RightForm f p q e) (FacesDiffer m g h) = absurd (some_none m (interface_fault a b) g f)
-grade_once a b x y (RightForm f p q e) (LeftForm g r h) = absurd (not_both (is_straight a) p r)
-grade_once a b x y (RightForm f p q e) (RightForm g r s h) = e ∙ sym h
-grade_once a b x y (RightForm f p q e) (ByEnds c h) = absurd (not_both (is_straight b) c.right q)
-grade_once a b x y (ByEnds c e) (FacesDiffer m g h) = absurd (some_none m (interface_fault a b) g c.alike)
-grade_once a b x y (ByEnds c e) (LeftForm g r h) = absurd (not_both (is_straight a) c.left r)
-grade_once a b x y (ByEnds c e) (RightForm g r s h) = absurd (not_both (is_straight b) c.right s)
-grade_once a b x y (ByEnds c e) (ByEnds d h) = ends_once a b x y e h
+left_form : (a b : Fsmd) (x y : Answer) → interface_fault a b ≡ None → is_straight a ≡ false → x ≡ NotBuilt First → IsOfPair a b y → x ≡ y
+left_form a b x y f p e (OtherInterface m g h) = absurd (some_none m (interface_fault a b) g f)
+left_form a b x y f p e (LeftForm g q h) = e ∙ sym h
+left_form a b x y f p e (RightForm g q r h) = absurd (not_both (is_straight a) q p)
+left_form a b x y f p e (Same c same d h) = absurd (not_both (is_straight a) c.left p)
+left_form a b x y f p e (Differ c o d h) = absurd (not_both (is_straight a) c.left p)
+left_form a b x y f p e (PastWeight c d h) = absurd (not_both (is_straight a) c.left p)
+left_form a b x y f p e (PastSize c d h) = absurd (not_both (is_straight a) c.left p)
 
-pub pair_once : (a b : Fsmd) (x y : Answer) → IsVerdict x → IsVerdict y → IsOfPair a b x → IsOfPair a b y → x ≡ y
-pair_once a b x y v w s t = grade_once a b x y (grade a b x v s) (grade a b y w t)
+right_form : (a b : Fsmd) (x y : Answer) → interface_fault a b ≡ None → is_straight a ≡ true → is_straight b ≡ false → x ≡ NotBuilt Second → IsOfPair a b y → x ≡ y
+right_form a b x y f p q e (OtherInterface m g h) = absurd (some_none m (interface_fault a b) g f)
+right_form a b x y f p q e (LeftForm g r h) = absurd (not_both (is_straight a) p r)
+right_form a b x y f p q e (RightForm g r s h) = e ∙ sym h
+right_form a b x y f p q e (Same c same d h) = absurd (not_both (is_straight b) c.right q)
+right_form a b x y f p q e (Differ c o d h) = absurd (not_both (is_straight b) c.right q)
+right_form a b x y f p q e (PastWeight c d h) = absurd (not_both (is_straight b) c.right q)
+right_form a b x y f p q e (PastSize c d h) = absurd (not_both (is_straight b) c.right q)
+
+comparable_once : (a b : Fsmd) (x y : Answer) → AreComparable a b → IsOfPair a b x → IsOfPair a b y → x ≡ y
+comparable_once a b x y c p q = ends_once a b x y (by_ends a b x p c.alike c.left c.right) (by_ends a b y q c.alike c.left c.right)
+
+pub pair_once : (a b : Fsmd) (x y : Answer) → IsOfPair a b x → IsOfPair a b y → x ≡ y
+pair_once a b x y (OtherInterface n f e) q = other_interface a b n x y f e q
+pair_once a b x y (LeftForm f g e) q = left_form a b x y f g e q
+pair_once a b x y (RightForm f g h e) q = right_form a b x y f g h e q
+pair_once a b x y (Same c same d e) q = comparable_once a b x y c (Same c same d e) q
+pair_once a b x y (Differ c o d e) q = comparable_once a b x y c (Differ c o d e) q
+pair_once a b x y (PastWeight c d e) q = comparable_once a b x y c (PastWeight c d e) q
+pair_once a b x y (PastSize c d e) q = comparable_once a b x y c (PastSize c d e) q

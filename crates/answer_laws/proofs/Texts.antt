@@ -6,13 +6,17 @@ use Rattle.std.proofs.lemmas.Bool.Decides.{nat_tests}
 use Rattle.fs_model.specs.Source.{Source}
 use Rattle.fs_model.specs.Machines.{Fsmd}
 use Rattle.fs_grammar.specs.declared.fault.TextFault.{TextFault}
-use Rattle.fs_ast.specs.declared.check.CheckRule.{CheckRule}
-use Rattle.fs_ast.specs.declared.check.CheckRule.TheVariants.{TwiceNamed, UnknownName, WrongSort, AssignInput, AssignedTwice, NoElse, AfterElse, TooManyBranches, EndlessLine, UnknownState, TooMany}
-use Rattle.fs_ast.specs.declared.check.CheckFault.{CheckFault}
+use Rattle.fs_rules.specs.declared.check.CheckRule.{CheckRule}
+use Rattle.fs_rules.specs.declared.check.CheckRule.TheVariants.{TwiceNamed, UnknownName, WrongSort, AssignInput, AssignedTwice, NoElse, AfterElse, TooManyBranches, EndlessLine, UnknownState, TooMany, TooManyEmits}
+use Rattle.fs_rules.specs.declared.check.CheckFault.{CheckFault}
 use Rattle.fs_ast.specs.Spelled.{machine_of}
 use Rattle.fs_ast.specs.Rules.{rank, is_sooner, plain_faults, branch_faults, IsFirstBroken, IsLawful}
 use Rattle.fs_write.specs.Canonical.{canonical}
-use Rattle.fsmd_tool.specs.Texts.{most_bytes, Spells, IsMachine, HasCanonicalText, IsTooLong, HasTextFault, HasCheckFault}
+use Rattle.fs_model.specs.Limits.{most_text_bytes}
+use Rattle.fs_lex.specs.Scan.{tokens_of}
+use Rattle.text_laws.specs.Limit.{SpellWithin, StopWithin}
+use Rattle.text_laws.proofs.Limit.{spelled_only, fault_only}
+use Rattle.fsmd_tool.specs.Texts.{SpellsMachine, IsMachine, HasCanonicalText, IsTooLong, HasTextFault, HasCheckFault}
 use Rattle.fsmd_tool.specs.Paths.{paths_text, HasPaths}
 
 ok_same : {A E : Type 0} (x y : A) → Path (Result A E) (Ok x) (Ok y) → x ≡ y
@@ -37,7 +41,7 @@ lex_ranks a r b s e f = grind (arith, nat_tests)
 
 -- the rule of a rank
 abbrev rule_at : ℕ → CheckRule
-rule_at n = slice_index_or (TooMany ∷ TwiceNamed ∷ UnknownName ∷ WrongSort ∷ AssignInput ∷ AssignedTwice ∷ NoElse ∷ AfterElse ∷ TooManyBranches ∷ EndlessLine ∷ UnknownState ∷ []) n TooMany
+rule_at n = slice_index_or (TooMany ∷ TwiceNamed ∷ UnknownName ∷ WrongSort ∷ AssignInput ∷ AssignedTwice ∷ NoElse ∷ AfterElse ∷ TooManyBranches ∷ EndlessLine ∷ UnknownState ∷ TooMany ∷ TooManyEmits ∷ []) n TooMany
 
 rule_back : (r : CheckRule) → rule_at (rank r) ≡ r
 rule_back TwiceNamed = refl
@@ -51,6 +55,7 @@ rule_back TooManyBranches = refl
 rule_back EndlessLine = refl
 rule_back UnknownState = refl
 rule_back TooMany = refl
+rule_back TooManyEmits = refl
 
 rank_same : (r s : CheckRule) → rank r ≡ rank s → r ≡ s
 rank_same r s e = sym (rule_back r) ∙ ap rule_at e ∙ rule_back s
@@ -76,41 +81,45 @@ lawful_unbroken p f l b =
 pub few_not_many : (n m : ℕ) → n ≤ m → m < n → ⊥
 few_not_many n m h k = omega arith
 
-pub spells_once : (bytes : List ℕ) (m n : Fsmd) → Spells bytes m → Spells bytes n → m ≡ n
-spells_once bytes m n s t = s.machine ∙ ap machine_of (ok_same s.parts t.parts (sym s.read ∙ t.read)) ∙ sym t.machine
+read_once : (bytes : List ℕ) (p q : Source) → SpellWithin (tokens_of bytes) p → SpellWithin (tokens_of bytes) q → p ≡ q
+read_once bytes p q s t = ok_same p q (sym (spelled_only bytes p s) ∙ spelled_only bytes q t)
+
+read_or_fault : (bytes : List ℕ) (p : Source) (f : TextFault) → SpellWithin (tokens_of bytes) p → StopWithin (tokens_of bytes) f → ⊥
+read_or_fault bytes p f s t = ok_err p f (sym (spelled_only bytes p s) ∙ fault_only bytes f t)
+
+pub spells_once : (bytes : List ℕ) (m n : Fsmd) → SpellsMachine m bytes → SpellsMachine n bytes → m ≡ n
+spells_once bytes m n s t = s.machine ∙ ap machine_of (read_once bytes s.parts t.parts s.spells.spells t.spells.spells) ∙ sym t.machine
 
 pub text_fault_once : (bytes : List ℕ) (f g : TextFault) → HasTextFault f bytes → HasTextFault g bytes → f ≡ g
-text_fault_once bytes f g s t = err_same f g (sym s.1 ∙ t.1)
+text_fault_once bytes f g s t = err_same f g (sym (fault_only bytes f s.stops) ∙ fault_only bytes g t.stops)
 
 pub check_fault_once : (bytes : List ℕ) (f g : CheckFault) → HasCheckFault f bytes → HasCheckFault g bytes → f ≡ g
-check_fault_once bytes f g s t = first_broken_once t.parts f g (subst (λ p. IsFirstBroken p f) (ok_same s.parts t.parts (sym s.read ∙ t.read)) s.broken) t.broken
+check_fault_once bytes f g s t = first_broken_once t.parts f g (subst (λ p. IsFirstBroken p f) (read_once bytes s.parts t.parts s.spells t.spells) s.broken) t.broken
 
 pub text_or_check : (bytes : List ℕ) (f : TextFault) (g : CheckFault) → HasTextFault f bytes → HasCheckFault g bytes → ⊥
-text_or_check bytes f g s t = ok_err t.parts f (sym t.read ∙ s.1)
+text_or_check bytes f g s t = read_or_fault bytes t.parts f t.spells s.stops
 
-pub spells_no_text_fault : (bytes : List ℕ) (m : Fsmd) (f : TextFault) → Spells bytes m → HasTextFault f bytes → ⊥
-spells_no_text_fault bytes m f s t = ok_err s.parts f (sym s.read ∙ t.1)
+pub spells_no_text_fault : (bytes : List ℕ) (m : Fsmd) (f : TextFault) → SpellsMachine m bytes → HasTextFault f bytes → ⊥
+spells_no_text_fault bytes m f s t = read_or_fault bytes s.parts f s.spells.spells t.stops
 
-pub spells_no_check_fault : (bytes : List ℕ) (m : Fsmd) (f : CheckFault) → Spells bytes m → HasCheckFault f bytes → ⊥
-spells_no_check_fault bytes m f s t = lawful_unbroken t.parts f (subst IsLawful (ok_same s.parts t.parts (sym s.read ∙ t.read)) s.lawful) t.broken
+pub spells_no_check_fault : (bytes : List ℕ) (m : Fsmd) (f : CheckFault) → SpellsMachine m bytes → HasCheckFault f bytes → ⊥
+spells_no_check_fault bytes m f s t = lawful_unbroken t.parts f (subst IsLawful (read_once bytes s.parts t.parts s.spells.spells t.spells) s.spells.lawful) t.broken
 
-pub long_spells_none : (bytes : List ℕ) (m : Fsmd) → Spells bytes m → IsTooLong bytes → ⊥
-long_spells_none bytes m s long = few_not_many (length bytes) most_bytes s.few long
+pub long_spells_none : (bytes : List ℕ) (m : Fsmd) → SpellsMachine m bytes → IsTooLong bytes → ⊥
+long_spells_none bytes m s long = few_not_many (length bytes) most_text_bytes s.spells.few long
 
 pub long_no_text_fault : (bytes : List ℕ) (f : TextFault) → HasTextFault f bytes → IsTooLong bytes → ⊥
-long_no_text_fault bytes f s long = few_not_many (length bytes) most_bytes s.0 long
+long_no_text_fault bytes f s long = few_not_many (length bytes) most_text_bytes s.few long
 
 pub long_no_check_fault : (bytes : List ℕ) (f : CheckFault) → HasCheckFault f bytes → IsTooLong bytes → ⊥
-long_no_check_fault bytes f s long = few_not_many (length bytes) most_bytes s.few long
+long_no_check_fault bytes f s long = few_not_many (length bytes) most_text_bytes s.few long
 
 pub canonical_once : (bytes t u : List ℕ) → HasCanonicalText t bytes → HasCanonicalText u bytes → t ≡ u
-canonical_once bytes t u p q = p.is_canonical ∙ ap canonical (ok_same p.parts q.parts (sym p.spells.read ∙ q.spells.read)) ∙ sym q.is_canonical
+canonical_once bytes t u p q = p.is_canonical ∙ ap canonical (read_once bytes p.parts q.parts p.spells.spells q.spells.spells) ∙ sym q.is_canonical
 
 pub paths_once : (bytes t u : List ℕ) → HasPaths t bytes → HasPaths u bytes → t ≡ u
 paths_once bytes t u p q = p.lists ∙ ap paths_text (spells_once bytes p.machine q.machine p.spells q.spells) ∙ sym q.lists
 
 -- a file with a canonical text spells a machine
 pub canonical_machine : (bytes t : List ℕ) → HasCanonicalText t bytes → IsMachine bytes
-canonical_machine bytes t p = (machine_of p.parts, record { parts = p.parts; few = p.spells.few; read = p.spells.read; lawful = p.spells.lawful; machine = refl })
-
-pub ruleset texts = (spells_once, text_fault_once, check_fault_once, text_or_check, spells_no_text_fault, spells_no_check_fault, long_spells_none, long_no_text_fault, long_no_check_fault, canonical_once, paths_once)
+canonical_machine bytes t p = (machine_of p.parts, record { parts = p.parts; spells = p.spells; machine = refl })

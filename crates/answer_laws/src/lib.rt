@@ -1,4 +1,4 @@
-//! Laws of answers: at most one is due.
+//! Laws of answers: at most one is correct.
 #![tactic(auto)]
 
 pub mod laws;

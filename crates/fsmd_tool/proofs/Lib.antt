@@ -1,5 +1,6 @@
+pub mod FromFiles
+pub mod Ends
+pub mod Pairs
 pub mod Outcomes
 pub mod Positions
 pub mod Listing
-pub mod Ran
-pub mod Serving

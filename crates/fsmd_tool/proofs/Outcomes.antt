@@ -1,143 +1,212 @@
--- What a status tells of the answer.
+-- What a status tells of the answer and of the files.
 use Rattle.std.proofs.Common.{◌≡◌, ◌⊎◌, inl, inr, ℕ, List, Option, Some, None, refl, sym, ◌∙◌, ap, subst, ◌++◌, codes, lit<}
+use Rattle.std.specs.Prelude.{IsTrue, Result, Ok, Err, IfOk}
+use Rattle.std.specs.Result.{IfErr}
 use Rattle.std.proofs.lemmas.Fmt.{decimal_digit}
-use Rattle.fs_base.specs.Outside.{appended}
-use Rattle.fsmd_tool.specs.Replies.{reply}
-use Rattle.fs_base.specs.Outside.{Held, Unknown, Nothing, Bytes}
-use Rattle.fs_model.specs.Runs.{SameBehaviour}
-use Rattle.straight_line.specs.Verdicts.{DiffersNowhere}
+use Rattle.fs_base.specs.Outside.{Held, appended}
+use Rattle.fs_model.specs.Machines.{Fsmd}
+use Rattle.fs_model.specs.Runs.{Inputs, SameBehaviour}
 use Rattle.fsmd_tool.specs.declared.answer.Operand.{Operand}
 use Rattle.fsmd_tool.specs.declared.answer.Operand.TheVariants.{First, Second, Third}
-use Rattle.fsmd_tool.specs.declared.answer.Status.TheVariants.{Fine, Fault}
+use Rattle.fsmd_tool.specs.declared.answer.Status.{Status}
+use Rattle.fsmd_tool.specs.declared.answer.Status.TheVariants as statuses
 use Rattle.fsmd_tool.specs.declared.answer.Answer.{Answer}
-use Rattle.fsmd_tool.specs.declared.answer.Answer.TheVariants.{Usage, Equivalent, Text, Differs, NoReturn, NotJson, InputRefused, OutputDiffers, Wide, Large, TextRefused, CheckRefused, Interfaces, TooLong, NotBuilt, CannotRead}
+use Rattle.fsmd_tool.specs.declared.answer.Answer.TheVariants.{Usage, Equivalent}
+use Rattle.fsmd_tool.specs.declared.words.Command.{Command}
+use Rattle.fsmd_tool.specs.declared.words.Command.TheVariants.{Check, Fmt, Cuts, Run, Replay}
 use Rattle.fsmd_tool.specs.Statuses.{status_of}
-use Rattle.fsmd_tool.specs.Puts.{Put, Whole, Cut}
-use Rattle.fsmd_tool.specs.declared.command.Command.{Command}
-use Rattle.fsmd_tool.specs.declared.command.Command.TheVariants.{Check, Fmt, Cuts, Run, Replay}
-use Rattle.fsmd_tool.specs.Commands.{command_of}
-use Rattle.fsmd_tool.specs.Texts.{WhereKnown, HasCanonicalText}
+use Rattle.fsmd_tool.specs.Replies.{reply}
+use Rattle.fsmd_tool.specs.Puts.{Put, IsPut, Whole, Cut}
+use Rattle.fsmd_tool.specs.Words.{command_of, names}
+use Rattle.fsmd_tool.specs.Texts.{SpellsMachine, HasCanonicalText}
 use Rattle.fsmd_tool.specs.Paths.{HasPaths}
-use Rattle.fsmd_tool.specs.Answers.{Given, held, FailedToRead, AreComparable, SpellPair, PairTold, CorrectForTwo, FirstRefused, SecondRefused, Compared, CorrectForOne, Refused, Listed}
-use Rattle.fsmd_tool.specs.Runs.{CorrectForRun}
-use Rattle.fsmd_tool.specs.Runs as runs
-use Rattle.fsmd_tool.specs.Replays.{CorrectForReplay}
-use Rattle.fsmd_tool.specs.Replays as replays
-use Rattle.fsmd_tool.specs.Due.{IsCorrectAnswerTo, IsCorrectAnswer, Answered, SaysSame, HasCause, FileFailed, SinkFailed}
+use Rattle.fsmd_tool.specs.Readings.{Call, held, FailedToRead, Content, Unopened, Readable, Unreadable, OfBytes, MayBeRead, MayHold, Reading, MayRead, IsCorrectBy}
+use Rattle.fsmd_tool.specs.Refusals.{ArePair, IsUnread, Failed, Long, RefusesMachine, Unread, ByText, ByRule, RefusesPair, FirstRefused, SecondRefused, RefusesInputs, UnreadInputs, ByJson, ByInput}
+use Rattle.fsmd_tool.specs.Pairs.{IsOfPair, OtherInterface, LeftForm, RightForm, Same, Differ, PastWeight, PastSize}
+use Rattle.fsmd_tool.specs.Runs.{IsOfRun, Ended, Stopped}
+use Rattle.fsmd_tool.specs.Replays.{IsOfReplay, LeftStopped, RightStopped, Agreed, Differed}
+use Rattle.fsmd_tool.specs.declared.load.Refused.{Refused as Refusal}
+use Rattle.fsmd_tool.specs.Loading.{WhereAnswered}
+use Rattle.fsmd_tool.specs.Correct.{FollowsForCheck, CheckRefused, Compared, FollowsForText, TextRefused, Listed, FollowsFromInputs, InputsRefused, Spelled, FollowsForRun, MachineRefused, Ran, FollowsForReplay, ReplayRefused, InterfacesDiffer, Replayed, Follows, IsCorrectAnswer, Answered, SaysSame, HasCause, FileFailed, SinkFailed}
 
-pub told_map : (h : Held) (P Q : List ℕ → Type 0) → ((x : List ℕ) → P x → Q x) → WhereKnown h P → WhereKnown h Q
-told_map Unknown P Q f t = tt
-told_map Nothing P Q f t = t
-told_map (Bytes x) P Q f t = f x t
+-- ---- statuses that an answer does not have
 
-same_pair : (x y : List ℕ) → SpellPair (λ a b. AreComparable a b × SameBehaviour a b × DiffersNowhere a b) x y → SpellPair SameBehaviour x y
-same_pair x y p = record { a = p.a; b = p.b; left = p.left; right = p.right; meet = p.meet.1 }
+abbrev Ends : Status → Answer → Type 0
+Ends s x = status_of x ≡ s
 
--- what is due where the answer is `equivalent`
-record DueSame (g : Given) (nodes : ℕ) : Type 0 where
-  two : nodes ≡ 2
-  same : PairTold g SameBehaviour
+moved : (s t : Status) (x y : Answer) → x ≡ y → status_of y ≡ t → Ends s x → t ≡ s
+moved s t x y e is h = sym is ∙ ap status_of (sym e) ∙ h
 
-due_same : (g : Given) (nodes : ℕ) → CorrectForTwo g (Equivalent nodes) → DueSame g nodes
-due_same g nodes (FirstRefused h) = absurd h
-due_same g nodes (SecondRefused first h) = absurd h
-due_same g nodes (Compared two told) = record {
-  two = two;
-  same = told_map (held g First) _ _ (λ x. told_map (held g Second) _ _ (same_pair x)) told;
-}
+-- ---- equivalent
 
--- a question about two machines is answered by no text
-due_text : (g : Given) (answer : Answer) (lines : _) → answer ≡ Text lines → CorrectForTwo g answer → ⊥
-due_text g answer lines t (FirstRefused h) = rw t at h
-due_text g answer lines t (SecondRefused first h) = rw t at h
-due_text g answer lines t (Compared verdict told) = rw t at verdict
+unread_not_fine : (file : Operand) (c : Content) (x : Answer) → IsUnread file c x → Ends statuses.Fine x → ⊥
+unread_not_fine file c x (Failed u e) s = let h : statuses.Fault ≡ statuses.Fine = moved statuses.Fine statuses.Fault x _ e refl s in cc
+unread_not_fine file c x (Long u e) s = let h : statuses.BadInput ≡ statuses.Fine = moved statuses.Fine statuses.BadInput x _ e refl s in cc
 
-fine_answer : (answer : Answer) → status_of answer ≡ Fine → ((nodes : ℕ) × (answer ≡ Equivalent nodes)) ⊎ ((lines : _) × (answer ≡ Text lines))
-fine_answer Usage e = cc
-fine_answer (Equivalent nodes) e = inl (nodes, refl)
-fine_answer (Text lines) e = inr (lines, refl)
-fine_answer (Differs lines) e = cc
-fine_answer (NoReturn lines) e = cc
-fine_answer (NotJson file) e = cc
-fine_answer (InputRefused file fault name) e = cc
-fine_answer (OutputDiffers output) e = cc
-fine_answer Wide e = cc
-fine_answer Large e = cc
-fine_answer (TextRefused file fault) e = cc
-fine_answer (CheckRefused file fault) e = cc
-fine_answer (Interfaces name) e = cc
-fine_answer (TooLong file) e = cc
-fine_answer (NotBuilt file) e = cc
-fine_answer (CannotRead file) e = cc
+refused_not_fine : (file : Operand) (c : Content) (x : Answer) → RefusesMachine file c x → Ends statuses.Fine x → ⊥
+refused_not_fine file c x (Unread u) s = unread_not_fine file c x u s
+refused_not_fine file c x (ByText f t e) s = let h : statuses.BadInput ≡ statuses.Fine = moved statuses.Fine statuses.BadInput x _ e refl s in cc
+refused_not_fine file c x (ByRule f t e) s = let h : statuses.BadInput ≡ statuses.Fine = moved statuses.Fine statuses.BadInput x _ e refl s in cc
 
-fault_answer : (answer : Answer) → status_of answer ≡ Fault → (file : Operand) × (answer ≡ CannotRead file)
-fault_answer Usage e = cc
-fault_answer (Equivalent nodes) e = cc
-fault_answer (Text lines) e = cc
-fault_answer (Differs lines) e = cc
-fault_answer (NoReturn lines) e = cc
-fault_answer (NotJson file) e = cc
-fault_answer (InputRefused file fault name) e = cc
-fault_answer (OutputDiffers output) e = cc
-fault_answer Wide e = cc
-fault_answer Large e = cc
-fault_answer (TextRefused file fault) e = cc
-fault_answer (CheckRefused file fault) e = cc
-fault_answer (Interfaces name) e = cc
-fault_answer (TooLong file) e = cc
-fault_answer (NotBuilt file) e = cc
-fault_answer (CannotRead file) e = (file, refl)
+pair_not_fine : (r : Reading) (x : Answer) → RefusesPair r x → Ends statuses.Fine x → ⊥
+pair_not_fine r x (FirstRefused p) s = refused_not_fine First r.first x p s
+pair_not_fine r x (SecondRefused m p) s = refused_not_fine Second r.second x p s
 
-of_one : (P : (text bytes : List ℕ) → Type 0) (g : Given) (file : Operand) → CorrectForOne P g (CannotRead file) → (file ≡ First) × FailedToRead g First
-of_one P g file (Refused h) = h
-of_one P g file (Listed never told) = absurd never
+record SamePair (r : Reading) (x : Answer) : Type 0 where
+  left : Fsmd
+  right : Fsmd
+  pair : ArePair r left right
+  same : SameBehaviour left right
+  is : x ≡ Equivalent 2
 
-of_two : (g : Given) (p : Put) (file : Operand) → command_of g.words ≡ Some Check → CorrectForTwo g (CannotRead file) → HasCause g p
-of_two g p file is (FirstRefused h) = FileFailed Check First is refl h.1
-of_two g p file is (SecondRefused first h) = FileFailed Check Second is refl h.1
-of_two g p file is (Compared never told) = absurd never
+fine_pair : (r : Reading) (a b : Fsmd) (x : Answer) → ArePair r a b → IsOfPair a b x → Ends statuses.Fine x → SamePair r x
+fine_pair r a b x p (OtherInterface n f e) s = absurd (let h : statuses.BadInput ≡ statuses.Fine = moved statuses.Fine statuses.BadInput x _ e refl s in cc)
+fine_pair r a b x p (LeftForm f g e) s = absurd (let h : statuses.BadInput ≡ statuses.Fine = moved statuses.Fine statuses.BadInput x _ e refl s in cc)
+fine_pair r a b x p (RightForm f g k e) s = absurd (let h : statuses.BadInput ≡ statuses.Fine = moved statuses.Fine statuses.BadInput x _ e refl s in cc)
+fine_pair r a b x p (Same c same n e) s = record { left = a; right = b; pair = p; same = same; is = e }
+fine_pair r a b x p (Differ c o d e) s = absurd (let h : statuses.Undecided ≡ statuses.Fine = moved statuses.Fine statuses.Undecided x _ e refl s in cc)
+fine_pair r a b x p (PastWeight c d e) s = absurd (let h : statuses.Undecided ≡ statuses.Fine = moved statuses.Fine statuses.Undecided x _ e refl s in cc)
+fine_pair r a b x p (PastSize c d e) s = absurd (let h : statuses.Undecided ≡ statuses.Fine = moved statuses.Fine statuses.Undecided x _ e refl s in cc)
 
-of_run : (g : Given) (p : Put) (file : Operand) → command_of g.words ≡ Some Run → CorrectForRun g (CannotRead file) → HasCause g p
-of_run g p file is (runs.MachineRefused h) = FileFailed Run First is refl h.1
-of_run g p file is (runs.InputsUnread told h) = FileFailed Run Second is refl h.1
-of_run g p file is (runs.InputsRefused never told) = absurd never
-of_run g p file is (runs.Ran never told) = absurd never
+fine_check : (r : Reading) (x : Answer) → FollowsForCheck r x → Ends statuses.Fine x → SamePair r x
+fine_check r x (CheckRefused p) s = absurd (pair_not_fine r x p s)
+fine_check r x (Compared a b p q) s = fine_pair r a b x p q s
 
-of_replay : (g : Given) (p : Put) (file : Operand) → command_of g.words ≡ Some Replay → CorrectForReplay g (CannotRead file) → HasCause g p
-of_replay g p file is (replays.LeftRefused h) = FileFailed Replay First is refl h.1
-of_replay g p file is (replays.RightRefused told h) = FileFailed Replay Second is refl h.1
-of_replay g p file is (replays.FacesDiffer never told) = absurd never
-of_replay g p file is (replays.InputsUnread told h) = FileFailed Replay Third is refl h.1
-of_replay g p file is (replays.InputsRefused never told) = absurd never
-of_replay g p file is (replays.Replayed never told) = absurd never
+may_hold : (k : Held) (F : Type 0) (c : Content) (P : List ℕ → Type 0) → MayBeRead k F c → OfBytes c P → MayHold k P
+may_hold k F Unopened P m h = absurd h
+may_hold k F (Readable bytes) P m h = record { bytes = bytes; may = m; meet = h }
+may_hold k F Unreadable P m h = absurd h
 
-due_fault : (o : Option Command) (g : Given) (p : Put) (file : Operand) → command_of g.words ≡ o → IsCorrectAnswerTo o g (CannotRead file) → HasCause g p
-due_fault None g p file is e = cc
-due_fault (Some Check) g p file is d = of_two g p file is d
-due_fault (Some Fmt) g p file is d = FileFailed Fmt First is refl (of_one HasCanonicalText g file d).1
-due_fault (Some Cuts) g p file is d = FileFailed Cuts First is refl (of_one HasPaths g file d).1
-due_fault (Some Run) g p file is d = of_run g p file is d
-due_fault (Some Replay) g p file is d = of_replay g p file is d
+same_line : (x : Answer) (words : List (List ℕ)) → x ≡ Equivalent 2 → reply x words ≡ codes "equivalent: 2 nodes\n"
+same_line x words e = ap (λ a. reply a words) e ∙ ap (λ d. codes "equivalent: " ++ (d ++ codes " nodes\n")) (decimal_digit 2 (lit< tt))
 
-same_line : (answer : Answer) (nodes : ℕ) (words : List (List ℕ)) → answer ≡ Equivalent nodes → nodes ≡ 2 → reply answer words ≡ codes "equivalent: 2 nodes\n"
-same_line answer nodes words e two =
-    ap (λ a. reply a words) (e ∙ ap Equivalent two) ∙ ap (λ d. codes "equivalent: " ++ (d ++ codes " nodes\n")) (decimal_digit 2 (lit< tt))
-
-pub says_same : (g : Given) (p : Put) → Answered g p → p.status ≡ Fine → command_of g.words ≡ Some Check → SaysSame g p
+pub says_same : (g : Call) (p : Put) → Answered g p → p.status ≡ statuses.Fine → command_of g.words ≡ Some Check → SaysSame g p
 says_same g p a e check = elim a.put [
-  | Whole w ↦ elim (fine_answer a.answer (sym w.status ∙ e)) [
-    | inl fine ↦
-        let due = due_same g fine.0 (subst (λ o. IsCorrectAnswerTo o g (Equivalent fine.0)) check (subst (IsCorrectAnswer g) fine.1 a.due)) in
-        record { same = due.same; put = w.got ∙ ap (appended p.got_before) (same_line a.answer fine.0 g.words fine.1 due.two) }
-    | inr text ↦ absurd (due_text g a.answer text.0 text.1 (subst (λ o. IsCorrectAnswerTo o g a.answer) check a.due))
-  ]
-  | Cut w ↦ absurd (let x : Fault ≡ Fine = sym w.status ∙ e in cc)
+  | Whole w ↦
+      let c = a.correct in
+      let s = fine_check c.reading a.answer (subst (λ o. Follows o c.reading a.answer) check c.follows) (sym w.status ∙ e) in
+      record {
+        left = s.left;
+        right = s.right;
+        first = may_hold (held g First) (FailedToRead g First) c.reading.first (SpellsMachine s.left) c.may_be_read.first s.pair.left;
+        second = may_hold (held g Second) (FailedToRead g Second) c.reading.second (SpellsMachine s.right) c.may_be_read.second s.pair.right;
+        same = s.same;
+        put = w.got ∙ ap (appended p.got_before) (same_line a.answer g.words s.is);
+      }
+  | Cut w ↦ absurd (let x : statuses.Fault ≡ statuses.Fine = sym w.status ∙ e in cc)
 ]
 
-pub has_cause : (g : Given) (p : Put) → Answered g p → p.status ≡ Fault → HasCause g p
+-- ---- a file that cannot be read
+
+unread_fault : (file : Operand) (c : Content) (x : Answer) → IsUnread file c x → Ends statuses.Fault x → c ≡ Unreadable
+unread_fault file c x (Failed u e) s = u
+unread_fault file c x (Long u e) s = absurd (let h : statuses.BadInput ≡ statuses.Fault = moved statuses.Fault statuses.BadInput x _ e refl s in cc)
+
+refused_fault : (file : Operand) (c : Content) (x : Answer) → RefusesMachine file c x → Ends statuses.Fault x → c ≡ Unreadable
+refused_fault file c x (Unread u) s = unread_fault file c x u s
+refused_fault file c x (ByText f t e) s = absurd (let h : statuses.BadInput ≡ statuses.Fault = moved statuses.Fault statuses.BadInput x _ e refl s in cc)
+refused_fault file c x (ByRule f t e) s = absurd (let h : statuses.BadInput ≡ statuses.Fault = moved statuses.Fault statuses.BadInput x _ e refl s in cc)
+
+inputs_fault : (m : Fsmd) (file : Operand) (c : Content) (x : Answer) → RefusesInputs m file c x → Ends statuses.Fault x → c ≡ Unreadable
+inputs_fault m file c x (UnreadInputs u) s = unread_fault file c x u s
+inputs_fault m file c x (ByJson t e) s = absurd (let h : statuses.BadInput ≡ statuses.Fault = moved statuses.Fault statuses.BadInput x _ e refl s in cc)
+inputs_fault m file c x (ByInput f n t e) s = absurd (let h : statuses.BadInput ≡ statuses.Fault = moved statuses.Fault statuses.BadInput x _ e refl s in cc)
+
+pair_fault : (r : Reading) (x : Answer) → RefusesPair r x → Ends statuses.Fault x → (r.first ≡ Unreadable) ⊎ (r.second ≡ Unreadable)
+pair_fault r x (FirstRefused p) s = inl (refused_fault First r.first x p s)
+pair_fault r x (SecondRefused m p) s = inr (refused_fault Second r.second x p s)
+
+compared_fault : (a b : Fsmd) (x : Answer) → IsOfPair a b x → Ends statuses.Fault x → ⊥
+compared_fault a b x (OtherInterface n f e) s = let h : statuses.BadInput ≡ statuses.Fault = moved statuses.Fault statuses.BadInput x _ e refl s in cc
+compared_fault a b x (LeftForm f g e) s = let h : statuses.BadInput ≡ statuses.Fault = moved statuses.Fault statuses.BadInput x _ e refl s in cc
+compared_fault a b x (RightForm f g k e) s = let h : statuses.BadInput ≡ statuses.Fault = moved statuses.Fault statuses.BadInput x _ e refl s in cc
+compared_fault a b x (Same c same n e) s = let h : statuses.Fine ≡ statuses.Fault = moved statuses.Fault statuses.Fine x _ e refl s in cc
+compared_fault a b x (Differ c o d e) s = let h : statuses.Undecided ≡ statuses.Fault = moved statuses.Fault statuses.Undecided x _ e refl s in cc
+compared_fault a b x (PastWeight c d e) s = let h : statuses.Undecided ≡ statuses.Fault = moved statuses.Fault statuses.Undecided x _ e refl s in cc
+compared_fault a b x (PastSize c d e) s = let h : statuses.Undecided ≡ statuses.Fault = moved statuses.Fault statuses.Undecided x _ e refl s in cc
+
+run_fault : (m : Fsmd) (ins : Inputs) (x : Answer) → IsOfRun m ins x → Ends statuses.Fault x → ⊥
+run_fault m ins x (Ended o n e l) s = let h : statuses.Fine ≡ statuses.Fault = moved statuses.Fault statuses.Fine x _ l.is refl s in cc
+run_fault m ins x (Stopped t e l) s = let h : statuses.Undecided ≡ statuses.Fault = moved statuses.Fault statuses.Undecided x _ l.is refl s in cc
+
+replay_fault : (a b : Fsmd) (ins : Inputs) (x : Answer) → IsOfReplay a b ins x → Ends statuses.Fault x → ⊥
+replay_fault a b ins x (LeftStopped t e l) s = let h : statuses.Undecided ≡ statuses.Fault = moved statuses.Fault statuses.Undecided x _ l.is refl s in cc
+replay_fault a b ins x (RightStopped o n f t e l) s = let h : statuses.Undecided ≡ statuses.Fault = moved statuses.Fault statuses.Undecided x _ l.is refl s in cc
+replay_fault a b ins x (Agreed p q e t l) s = let h : statuses.Fine ≡ statuses.Fault = moved statuses.Fault statuses.Fine x _ l.is refl s in cc
+replay_fault a b ins x (Differed p q e t l) s = let h : statuses.Differ ≡ statuses.Fault = moved statuses.Fault statuses.Differ x _ l.is refl s in cc
+
+from_inputs_fault : (P : Inputs → Answer → Type 0) → ((ins : Inputs) (x : Answer) → P ins x → Ends statuses.Fault x → ⊥) → (m : Fsmd) (file : Operand) (c : Content) (x : Answer) → FollowsFromInputs P m file c x → Ends statuses.Fault x → c ≡ Unreadable
+from_inputs_fault P never m file c x (InputsRefused p) s = inputs_fault m file c x p s
+from_inputs_fault P never m file c x (Spelled ins i p) s = absurd (never ins x p s)
+
+failed : (k : Held) (F : Type 0) (c : Content) → MayBeRead k F c → c ≡ Unreadable → F
+failed k F c m e = subst (λ d. MayBeRead k F d) e m
+
+-- where the status is of a fault, a file that the command names failed to be read
+first_cause : (g : Call) (p : Put) (r : Reading) (c : Command) → MayRead g r → command_of g.words ≡ Some c → IsTrue (names c First) → r.first ≡ Unreadable → HasCause g p
+first_cause g p r c may is named e = FileFailed c First is named (failed (held g First) (FailedToRead g First) r.first may.first e)
+
+second_cause : (g : Call) (p : Put) (r : Reading) (c : Command) → MayRead g r → command_of g.words ≡ Some c → IsTrue (names c Second) → r.second ≡ Unreadable → HasCause g p
+second_cause g p r c may is named e = FileFailed c Second is named (failed (held g Second) (FailedToRead g Second) r.second may.second e)
+
+third_cause : (g : Call) (p : Put) (r : Reading) (c : Command) → MayRead g r → command_of g.words ≡ Some c → IsTrue (names c Third) → r.third ≡ Unreadable → HasCause g p
+third_cause g p r c may is named e = FileFailed c Third is named (failed (held g Third) (FailedToRead g Third) r.third may.third e)
+
+either_cause : (g : Call) (p : Put) (r : Reading) (c : Command) → MayRead g r → command_of g.words ≡ Some c → IsTrue (names c First) → IsTrue (names c Second) → (r.first ≡ Unreadable) ⊎ (r.second ≡ Unreadable) → HasCause g p
+either_cause g p r c may is n m (inl e) = first_cause g p r c may is n e
+either_cause g p r c may is n m (inr e) = second_cause g p r c may is m e
+
+check_cause : (g : Call) (p : Put) (r : Reading) (x : Answer) → MayRead g r → command_of g.words ≡ Some Check → FollowsForCheck r x → Ends statuses.Fault x → HasCause g p
+check_cause g p r x may is (CheckRefused q) s = either_cause g p r Check may is refl refl (pair_fault r x q s)
+check_cause g p r x may is (Compared a b q o) s = absurd (compared_fault a b x o s)
+
+text_cause : (P : (text bytes : List ℕ) → Type 0) (g : Call) (p : Put) (r : Reading) (c : Command) (x : Answer) → MayRead g r → command_of g.words ≡ Some c → IsTrue (names c First) → FollowsForText P r x → Ends statuses.Fault x → HasCause g p
+text_cause P g p r c x may is n (TextRefused q) s = first_cause g p r c may is n (refused_fault First r.first x q s)
+text_cause P g p r c x may is n (Listed l) s = absurd (let h : statuses.Fine ≡ statuses.Fault = moved statuses.Fault statuses.Fine x _ l.is refl s in cc)
+
+run_cause : (g : Call) (p : Put) (r : Reading) (x : Answer) → MayRead g r → command_of g.words ≡ Some Run → FollowsForRun r x → Ends statuses.Fault x → HasCause g p
+run_cause g p r x may is (MachineRefused q) s = first_cause g p r Run may is refl (refused_fault First r.first x q s)
+run_cause g p r x may is (Ran m h q) s = second_cause g p r Run may is refl (from_inputs_fault (IsOfRun m) (run_fault m) m Second r.second x q s)
+
+replay_cause : (g : Call) (p : Put) (r : Reading) (x : Answer) → MayRead g r → command_of g.words ≡ Some Replay → FollowsForReplay r x → Ends statuses.Fault x → HasCause g p
+replay_cause g p r x may is (ReplayRefused q) s = either_cause g p r Replay may is refl refl (pair_fault r x q s)
+replay_cause g p r x may is (InterfacesDiffer a b q l) s = absurd (let h : statuses.BadInput ≡ statuses.Fault = moved statuses.Fault statuses.BadInput x _ l.is refl s in cc)
+replay_cause g p r x may is (Replayed a b q e f) s = third_cause g p r Replay may is refl (from_inputs_fault (IsOfReplay a b) (replay_fault a b) a Third r.third x f s)
+
+cause : (o : Option Command) (g : Call) (p : Put) (r : Reading) (x : Answer) → MayRead g r → command_of g.words ≡ o → Follows o r x → Ends statuses.Fault x → HasCause g p
+cause None g p r x may is e s = absurd (let h : statuses.Usage ≡ statuses.Fault = moved statuses.Fault statuses.Usage x Usage e refl s in cc)
+cause (Some Check) g p r x may is q s = check_cause g p r x may is q s
+cause (Some Fmt) g p r x may is q s = text_cause HasCanonicalText g p r Fmt x may is refl q s
+cause (Some Cuts) g p r x may is q s = text_cause HasPaths g p r Cuts x may is refl q s
+cause (Some Run) g p r x may is q s = run_cause g p r x may is q s
+cause (Some Replay) g p r x may is q s = replay_cause g p r x may is q s
+
+pub has_cause : (g : Call) (p : Put) → Answered g p → p.status ≡ statuses.Fault → HasCause g p
 has_cause g p a e = elim a.put [
   | Whole w ↦
-      let fault = fault_answer a.answer (sym w.status ∙ e) in
-      due_fault (command_of g.words) g p fault.0 refl (subst (IsCorrectAnswer g) fault.1 a.due)
+      let c = a.correct in
+      cause (command_of g.words) g p c.reading a.answer c.may_be_read refl c.follows (sym w.status ∙ e)
   | Cut w ↦ SinkFailed w.failed
 ]
+
+-- ---- what is answered, and what is put of it
+
+pub usage : (g : Call) → command_of g.words ≡ None → IsCorrectAnswer g Usage
+usage g e = record {
+  reading = record { first = Unopened; second = Unopened; third = Unopened };
+  may_be_read = record { first = tt; second = tt; third = tt };
+  follows = subst (λ o. Follows o (record { first = Unopened; second = Unopened; third = Unopened }) Usage) (sym e) refl;
+}
+
+pub of_command : (g : Call) (c : Command) (x : Answer) → command_of g.words ≡ Some c → IsCorrectBy (Follows (Some c)) g x → IsCorrectAnswer g x
+of_command g c x e h = subst (λ o. IsCorrectBy (Follows o) g x) (sym e) h
+
+pub as_ok : {E : Type 0} (c d : Command) (g : Call) (r : Result Answer E) → c ≡ d → IfOk r (IsCorrectBy (Follows (Some d)) g) → IfOk r (IsCorrectBy (Follows (Some c)) g)
+as_ok c d g r e h = subst (λ k. IfOk r (IsCorrectBy (Follows (Some k)) g)) (sym e) h
+
+pub as_refused : {T : Type 0} (c d : Command) (g : Call) (r : Result T Refusal) → c ≡ d → IfErr r (WhereAnswered (IsCorrectBy (Follows (Some d)) g)) → IfErr r (WhereAnswered (IsCorrectBy (Follows (Some c)) g))
+as_refused c d g r e h = subst (λ k. IfErr r (WhereAnswered (IsCorrectBy (Follows (Some k)) g))) (sym e) h
+
+pub answered : {E : Type 0} (g : Call) (answer : Answer) (r : Result Status E) (p : Status → Put) → IsCorrectAnswer g answer → IfOk r (λ s. IsPut (reply answer g.words) (status_of answer) (p s)) → IfOk r (λ s. Answered g (p s))
+answered g answer (Ok s) p correct put = record { answer = answer; correct = correct; put = put }
+answered g answer (Err e) p correct put = tt

@@ -1,12 +1,13 @@
 pub mod Statuses
 pub mod Replies
 pub mod Puts
+pub mod Words
 pub mod Texts
 pub mod Paths
-pub mod Commands
-pub mod Answers
+pub mod Readings
 pub mod Refusals
-pub mod Inputs
+pub mod Pairs
 pub mod Runs
 pub mod Replays
-pub mod Due
+pub mod Correct
+pub mod Loading

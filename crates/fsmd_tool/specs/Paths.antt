@@ -5,7 +5,7 @@ use Rattle.fs_model.specs.Machines.{Fsmd}
 use Rattle.fs_ast.specs.Stored.{name_of}
 use Rattle.fs_cut.specs.Paths.{Point, Start, At, Done, Path}
 use Rattle.fs_cut.specs.Covers.{paths_from, points_of, cover_of}
-use Rattle.fsmd_tool.specs.Texts.{Spells}
+use Rattle.fsmd_tool.specs.Texts.{SpellsMachine}
 
 -- a point: the state's name between the start and the return
 abbrev pub point_text : Fsmd → Point → List ℕ
@@ -24,5 +24,5 @@ paths_text m = flat_map (λ P. flat_map (path_text m) (paths_from (cover_of m) P
 -- the bytes spell a machine, whose paths this text lists
 pub record HasPaths (text : List ℕ) (bytes : List ℕ) : Type 0 where
   pub machine : Fsmd
-  pub spells : Spells bytes machine
+  pub spells : SpellsMachine machine bytes
   pub lists : text ≡ paths_text machine

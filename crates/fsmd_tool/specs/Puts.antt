@@ -26,7 +26,7 @@ pub record IsWhole (reply : List ℕ) (meant : Status) (p : Put) : Type 0 where
   pub status : p.status ≡ meant
   pub got : p.got_now ≡ appended p.got_before reply
 
--- the sink failed, and got the front of the reply alone
+-- the sink failed, and got a prefix of the reply
 pub record IsCut (reply : List ℕ) (p : Put) : Type 0 where
   pub sent : ℕ
   pub status : p.status ≡ Fault

@@ -1,14 +1,14 @@
 -- The bytes that each answer puts.
 use Rattle.std.specs.Prelude.{ℕ, List, ◌++◌, codes, decimal}
 use Rattle.fs_grammar.specs.declared.fault.TextKind.{TextKind}
-use Rattle.fs_grammar.specs.declared.fault.TextKind.TheVariants.{BadByte, BadWord, NumberTooBig, Unexpected, Operators, Ended}
-use Rattle.fs_ast.specs.declared.check.CheckRule.{CheckRule}
-use Rattle.fs_ast.specs.declared.check.CheckRule.TheVariants.{TwiceNamed, UnknownName, WrongSort, AssignInput, AssignedTwice, NoElse, AfterElse, TooManyBranches, EndlessLine, UnknownState, TooMany}
+use Rattle.fs_grammar.specs.declared.fault.TextKind.TheVariants.{BadByte, BadWord, NumberTooBig, Unexpected, Operators, Nested, Ended}
+use Rattle.fs_rules.specs.declared.check.CheckRule.{CheckRule}
+use Rattle.fs_rules.specs.declared.check.CheckRule.TheVariants.{TwiceNamed, UnknownName, WrongSort, AssignInput, AssignedTwice, NoElse, AfterElse, TooManyBranches, EndlessLine, UnknownState, TooMany, TooManyEmits}
 use Rattle.fs_inputs.specs.declared.faults.Fault.{Fault}
 use Rattle.fs_inputs.specs.declared.faults.Fault.TheVariants.{Shape, Unknown, TooBig}
 use Rattle.fsmd_tool.specs.declared.answer.Answer.{Answer}
 use Rattle.fsmd_tool.specs.declared.answer.Answer.TheVariants.{Usage, Equivalent, Text, Differs, NoReturn, OutputDiffers, Wide, Large, TextRefused, CheckRefused, NotJson, InputRefused, Interfaces, TooLong, NotBuilt, CannotRead}
-use Rattle.fsmd_tool.specs.Commands.{word_of}
+use Rattle.fsmd_tool.specs.Words.{word_of}
 
 -- the name of what is wrong in a text
 abbrev pub kind_name : TextKind → List ℕ
@@ -17,6 +17,7 @@ kind_name BadWord = codes "BadWord"
 kind_name NumberTooBig = codes "NumberTooBig"
 kind_name Unexpected = codes "Unexpected"
 kind_name Operators = codes "Operators"
+kind_name Nested = codes "Nested"
 kind_name Ended = codes "Ended"
 
 -- the name of a broken rule
@@ -32,6 +33,7 @@ rule_name TooManyBranches = codes "TooManyBranches"
 rule_name EndlessLine = codes "EndlessLine"
 rule_name UnknownState = codes "UnknownState"
 rule_name TooMany = codes "TooMany"
+rule_name TooManyEmits = codes "TooManyEmits"
 
 -- the name of what is wrong in a file of inputs
 abbrev pub input_fault_name : Fault → List ℕ

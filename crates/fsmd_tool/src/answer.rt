@@ -22,9 +22,9 @@ pub enum Status {
     Usage,
     /// A file that was named is refused.
     BadInput,
-    /// There was no memory.
+    /// Out of memory.
     NoMemory,
-    /// A file could not be read, or the reply not be put.
+    /// A file could not be read, or the reply could not be written.
     Fault,
 }
 
@@ -122,7 +122,7 @@ pub enum Answer {
         file: Operand,
         fault: CheckFault,
     },
-    /// A file of inputs is no JSON.
+    /// A file of inputs is not JSON.
     NotJson {
         file: Operand,
     },
@@ -158,9 +158,8 @@ impl Answer {
         match self {
             Answer::Equivalent { .. } | Answer::Text { .. } => Status::Fine,
             Answer::Differs { .. } => Status::Differ,
-            Answer::OutputDiffers { .. } | Answer::Wide | Answer::Large | Answer::NoReturn { .. } => {
-                Status::Undecided
-            }
+            Answer::OutputDiffers { .. } | Answer::Wide | Answer::Large | Answer::NoReturn { .. } =>
+                { Status::Undecided }
             Answer::Usage => Status::Usage,
             Answer::TextRefused { .. }
             | Answer::CheckRefused { .. }

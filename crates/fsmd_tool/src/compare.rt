@@ -1,8 +1,8 @@
 //! Compares two machines.
 
 ghost use Rattle.std.specs.Prelude.{◌≡◌, ◌<◌, length, IfOk, Some, None, option_map, slice_get};
-ghost use Rattle.fs_pair.specs.Faces.{interface_fault};
-ghost use Rattle.fsmd_tool.specs.Answers.{IsVerdict, IsOfPair};
+ghost use Rattle.fs_pair.specs.Interfaces.{interface_fault};
+ghost use Rattle.fsmd_tool.specs.Pairs.{IsOfPair};
 
 use crate::answer::{Answer, Operand};
 use fs_ast::machine::Machine;
@@ -25,8 +25,7 @@ fn name_of(alloc: Global, machine: &Machine, variable: VarId) -> Result<Name, Al
 
 fn compare_same_interface(alloc: Global, a: &Machine, b: &Machine) -> Result<Answer, AllocError>
     requires { interface_fault a.now b.now ≡ None }
-    ensures verdict { IfOk result IsVerdict }
-    ensures due { IfOk result (IsOfPair a.now b.now) }
+    ensures { IfOk result (IsOfPair a.now b.now) }
 {
     match compare_straight(alloc, a, b) {
         Ok(Verdict::Same) => Ok(Answer::Equivalent { nodes: 2 }),
@@ -48,8 +47,7 @@ fn compare_same_interface(alloc: Global, a: &Machine, b: &Machine) -> Result<Ans
 
 /// What is answered of two machines: first by their interfaces, then by their forms, then by their outputs.
 pub fn compare(alloc: Global, a: &Machine, b: &Machine) -> Result<Answer, AllocError>
-    ensures verdict { IfOk result IsVerdict }
-    ensures due { IfOk result (IsOfPair a.now b.now) }
+    ensures { IfOk result (IsOfPair a.now b.now) }
 {
     match same_interface(alloc, a, b) {
         Ok(_) => compare_same_interface(alloc, a, b),

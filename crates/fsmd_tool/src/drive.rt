@@ -3,33 +3,33 @@
 ghost use Rattle.std.specs.Prelude.{◌≡◌, ◌≤◌, Some, IfOk, map, string_bytes};
 ghost use Rattle.std.specs.Result.{IfErr, OnErr};
 ghost use Rattle.fs_base.specs.Outside.{NoneFell, SameHeld};
-ghost use Rattle.fsmd_tool.specs.Commands.{command_of};
-ghost use Rattle.fsmd_tool.specs.Answers.{given};
-ghost use Rattle.fsmd_tool.specs.Due.{IsCorrectAnswerTo, IsCorrectAnswer, Answered, Outcome, SaysSame, HasCause};
+ghost use Rattle.fsmd_tool.specs.Words.{command_of};
+ghost use Rattle.fsmd_tool.specs.Readings.{call, IsCorrectBy};
+ghost use Rattle.fsmd_tool.specs.Correct.{Follows, IsCorrectAnswer, Answered, Outcome, SaysSame, HasCause};
 ghost use Rattle.fsmd_tool.specs.Puts.{put};
-ghost use Rattle.fsmd_tool.specs.Refusals.{WhereAnswered};
-ghost use Rattle.fsmd_tool.specs.declared.command.Command.TheVariants.{Check};
+ghost use Rattle.fsmd_tool.specs.Loading.{WhereAnswered};
+ghost use Rattle.fsmd_tool.specs.declared.words.Command.TheVariants.{Check};
 ghost use Rattle.fsmd_tool.specs.declared.answer.Status.TheVariants.{Fine, Fault};
 
 use crate::answer::{Answer, Status};
-use crate::command::{Command, command_of};
-use crate::commands::{check, cut_paths, format_text, replay_files, run_files};
+use crate::answers::{check, cut_paths, format_text, replay_files, run_files};
 use crate::load::Refused;
 use crate::put::put_answer;
+use crate::words::{Command, command_of};
 use fs_base::outside::{Files, Sink};
 use std::alloc::{AllocError, Global};
 
-// What is answered to the words of a command.
+// What a command answers.
 fn answer_command<F: Files>(
     alloc: Global,
     command: Command,
     words: &[String],
     files: &mut F,
 ) -> Result<Answer, Refused>
-    ensures ok { IfOk result (IsCorrectAnswerTo (Some command)
-        (given (map string_bytes words.now) (F.holds files.old) (F.faults files.old) (F.faults files.new))) }
-    ensures refused { IfErr result (WhereAnswered (IsCorrectAnswerTo (Some command)
-        (given (map string_bytes words.now) (F.holds files.old) (F.faults files.old) (F.faults files.new)))) }
+    ensures ok { IfOk result (IsCorrectBy (Follows (Some command))
+        (call (map string_bytes words.now) (F.holds files.old) (F.faults files.old) (F.faults files.new))) }
+    ensures refused { IfErr result (WhereAnswered (IsCorrectBy (Follows (Some command))
+        (call (map string_bytes words.now) (F.holds files.old) (F.faults files.old) (F.faults files.new)))) }
     ensures counts { NoneFell (F.faults files.old) (F.faults files.new) }
     ensures unchanged { SameHeld (F.holds files.old) (F.holds files.new) }
 {
@@ -42,10 +42,10 @@ fn answer_command<F: Files>(
     }
 }
 
-// What is answered to the words.
+// What the words of a call answer.
 fn answer<F: Files>(alloc: Global, words: &[String], files: &mut F) -> Result<Answer, AllocError>
-    ensures due { IfOk result (IsCorrectAnswer
-        (given (map string_bytes words.now) (F.holds files.old) (F.faults files.old) (F.faults files.new))) }
+    ensures correct { IfOk result (IsCorrectAnswer
+        (call (map string_bytes words.now) (F.holds files.old) (F.faults files.old) (F.faults files.new))) }
     ensures counts { NoneFell (F.faults files.old) (F.faults files.new) }
     ensures unchanged { SameHeld (F.holds files.old) (F.holds files.new) }
 {
@@ -66,7 +66,7 @@ fn put_reply<F: Files, S: Sink>(
     out: &mut S,
 ) -> Result<Status, AllocError>
     ensures answered { IfOk result (λ status. Answered
-        (given (map string_bytes words.now) (F.holds files.old) (F.faults files.old) (F.faults files.new))
+        (call (map string_bytes words.now) (F.holds files.old) (F.faults files.old) (F.faults files.new))
         (put status (S.got out.old) (S.got out.new) (S.faults out.old) (S.faults out.new))) }
     ensures err { OnErr result (S.got out.new ≡ S.got out.old) }
     ensures counts { NoneFell (F.faults files.old) (F.faults files.new) }
@@ -80,9 +80,9 @@ fn put_reply<F: Files, S: Sink>(
 /// Does what the words ask, puts the reply, and tells how it ended.
 ///
 /// The words are those after the program's name: a command and the names of its files. No file is changed.
-/// `NoMemory` comes for want of memory, also where the sink has no room for the reply; then nothing was put.
-/// `Fault` comes where a file could not be read, which the reply says, or where the sink failed, which then got the
-/// front of the reply alone.
+/// `NoMemory` comes where memory is refused, also where the sink has no room for the reply; then nothing was put.
+/// `Fault` comes where a file could not be read, which the reply says, or where the sink failed, which then got a
+/// prefix of the reply.
 pub fn drive<F: Files, S: Sink>(
     alloc: Global,
     words: &[String],
@@ -90,13 +90,13 @@ pub fn drive<F: Files, S: Sink>(
     out: &mut S,
 ) -> Status
     ensures outcome { Outcome
-        (given (map string_bytes words.now) (F.holds files.old) (F.faults files.old) (F.faults files.new))
+        (call (map string_bytes words.now) (F.holds files.old) (F.faults files.old) (F.faults files.new))
         (put result (S.got out.old) (S.got out.new) (S.faults out.old) (S.faults out.new)) }
     ensures equivalent { result ≡ Fine → command_of (map string_bytes words.now) ≡ Some Check → SaysSame
-        (given (map string_bytes words.now) (F.holds files.old) (F.faults files.old) (F.faults files.new))
+        (call (map string_bytes words.now) (F.holds files.old) (F.faults files.old) (F.faults files.new))
         (put result (S.got out.old) (S.got out.new) (S.faults out.old) (S.faults out.new)) }
     ensures fault { result ≡ Fault → HasCause
-        (given (map string_bytes words.now) (F.holds files.old) (F.faults files.old) (F.faults files.new))
+        (call (map string_bytes words.now) (F.holds files.old) (F.faults files.old) (F.faults files.new))
         (put result (S.got out.old) (S.got out.new) (S.faults out.old) (S.faults out.new)) }
     ensures counts { NoneFell (F.faults files.old) (F.faults files.new) }
     ensures sink_counts { S.faults out.old ≤ S.faults out.new }

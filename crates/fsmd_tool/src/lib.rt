@@ -2,14 +2,14 @@
 #![tactic(auto)]
 
 pub mod answer;
-pub mod command;
-mod commands;
+mod answers;
 mod compare;
 pub mod drive;
 mod load;
+mod pair;
 mod paths;
+pub mod program;
 mod put;
 mod reply;
 mod runs;
-#[cfg(test)]
-mod tests;
+pub mod words;

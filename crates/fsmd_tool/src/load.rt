@@ -1,39 +1,40 @@
 //! Loads a file, reads it and builds its machine.
 
-ghost use Rattle.std.specs.Prelude.{◌≡◌, ◌≤◌, ℕ, List, length, IsTrue, IfOk, string_bytes};
+ghost use Rattle.std.specs.Prelude.{◌≡◌, ◌≤◌, List, ℕ, length, IsTrue, IfOk, map, string_bytes};
 ghost use Rattle.std.specs.Result.{IfErr};
 ghost use Rattle.fs_base.specs.Outside.{Rose, NoneFell, SameHeld, AreHeld};
 ghost use Rattle.fs_model.specs.View.{source_of};
 ghost use Rattle.fs_model.specs.WellFormed.{is_well_formed};
-ghost use Rattle.fsmd_tool.specs.Texts.{WhereKnown, Spells, most_bytes};
-ghost use Rattle.fsmd_tool.specs.Answers.{IsOfFile};
-ghost use Rattle.fs_runs.specs.Given.{Face, faces_of, inputs_of, Serves};
+ghost use Rattle.fs_runs.specs.InputValues.{Signature, signatures_of, inputs_of, Serves};
 ghost use Rattle.fs_inputs.specs.Refusals.{IsRefused};
-ghost use Rattle.fsmd_tool.specs.Inputs.{faces, IsUnread, IsInputsAnswer, Refuses, SpellsInputs};
-ghost use Rattle.fsmd_tool.specs.Refusals.{WhereAnswered, IsLoaded, IsOfInputs};
+ghost use Rattle.fs_model.specs.Limits.{most_text_bytes};
+ghost use Rattle.fsmd_tool.specs.Words.{word_of};
+ghost use Rattle.fsmd_tool.specs.Texts.{SpellsMachine};
+ghost use Rattle.fsmd_tool.specs.Readings.{Readable, MayHold};
+ghost use Rattle.fsmd_tool.specs.Refusals.{signatures, IsUnread, RefusesMachine, RefusesInputs, SpellsInputs};
+ghost use Rattle.fsmd_tool.specs.Loading.{WhereAnswered, IsLoaded, MayGive, RefusesBytes};
 ghost use Rattle.fsmd_tool.specs.declared.answer.Answer.TheVariants.{InputRefused};
 ghost use Rattle.fsmd_tool.specs.declared.load.Refused.TheVariants.{Answered, NoMemory};
 
 use crate::answer::{Answer, Lines, Operand};
+use crate::words::word_of;
 use fs_ast::build::BuildError;
 use fs_ast::machine::Machine;
 use fs_base::outside::{Files, LoadError};
 use fs_grammar::fault::ReadError;
 use fs_inputs::{Fault as InputFault, InputError, read_inputs};
+use fs_model::limits::TEXT_LIMIT;
 use fs_model::parts::Parts;
 use fs_runs::inputs::Inputs;
 use fs_text::read_parts;
 use std::alloc::{AllocError, Global};
-
-/// The most bytes of a file that are read.
-const MOST_BYTES: u64 = 1_048_576;
 
 /// Why there is no machine, or no verdict.
 #[derive(Drop)]
 pub enum Refused {
     /// This is answered instead.
     Answered(Answer),
-    /// There is no memory.
+    /// Out of memory.
     NoMemory,
 }
 
@@ -52,21 +53,20 @@ pub struct Loaded {
     pub machine: Machine,
 }
 
-// The bytes of the file under a word, or the answer that they are not read.
+// The bytes of a file, or the answer that they are not read.
 fn load_bytes<F: Files>(
     alloc: Global,
     file: Operand,
-    word: &str,
+    words: &[String],
     files: &mut F,
 ) -> Result<Vec<u8>, Refused>
-    ensures held { IfOk result (λ bytes. AreHeld (F.holds files.old word.now) bytes.items) }
-    ensures within { IfOk result (λ bytes. length bytes.items ≤ most_bytes) }
-    ensures file { IfErr result (WhereAnswered (IsOfFile file (F.holds files.old word.now) (Rose (F.faults files.old word.now) (F.faults files.new word.now)))) }
-    ensures unread { IfErr result (WhereAnswered (IsUnread file (F.holds files.old word.now) (Rose (F.faults files.old word.now) (F.faults files.new word.now)))) }
+    ensures held { IfOk result (λ bytes. AreHeld (F.holds files.old (word_of (map string_bytes words.now) file)) bytes.items) }
+    ensures within { IfOk result (λ bytes. length bytes.items ≤ most_text_bytes) }
+    ensures unread { IfErr result (WhereAnswered (λ answer. MayGive (F.holds files.old (word_of (map string_bytes words.now) file)) (Rose (F.faults files.old (word_of (map string_bytes words.now) file)) (F.faults files.new (word_of (map string_bytes words.now) file))) (λ content. IsUnread file content answer))) }
     ensures counts { NoneFell (F.faults files.old) (F.faults files.new) }
     ensures unchanged { SameHeld (F.holds files.old) (F.holds files.new) }
 {
-    match files.load(alloc, word, MOST_BYTES) {
+    match files.load(alloc, word_of(words, file), TEXT_LIMIT as u64) {
         Ok(bytes) => Ok(bytes),
         Err(LoadError::Failed) => Err(Refused::Answered(Answer::CannotRead { file })),
         Err(LoadError::TooLong) => Err(Refused::Answered(Answer::TooLong { file })),
@@ -74,21 +74,14 @@ fn load_bytes<F: Files>(
     }
 }
 
-/// What the file under a word spells, or the answer that refuses the file.
-pub fn load<F: Files>(
-    alloc: Global,
-    file: Operand,
-    word: &str,
-    files: &mut F,
-) -> Result<Loaded, Refused>
-    ensures ok { IfOk result (λ l. WhereKnown (F.holds files.old word.now) (λ bytes. IsLoaded bytes (source_of l.parts) l.machine)) }
+// What the bytes of a file spell, or the answer that refuses them.
+fn read_machine(alloc: Global, file: Operand, bytes: &[u8]) -> Result<Loaded, Refused>
+    requires { length bytes.now ≤ most_text_bytes }
+    ensures loaded { IfOk result (λ l. IsLoaded (source_of l.parts) l.machine bytes.now) }
     ensures well_formed { IfOk result (λ l. IsTrue (is_well_formed (source_of l.parts))) }
-    ensures refused { IfErr result (WhereAnswered (IsOfFile file (F.holds files.old word.now) (Rose (F.faults files.old word.now) (F.faults files.new word.now)))) }
-    ensures counts { NoneFell (F.faults files.old) (F.faults files.new) }
-    ensures unchanged { SameHeld (F.holds files.old) (F.holds files.new) }
+    ensures refused { IfErr result (WhereAnswered (λ answer. RefusesMachine file (Readable bytes.now) answer)) }
 {
-    let bytes = load_bytes(alloc, file, word, files)?;
-    let parts = match read_parts(alloc, bytes.as_slice()) {
+    let parts = match read_parts(alloc, bytes) {
         Ok(parts) => parts,
         Err(ReadError::Text(fault)) => {
             return Err(Refused::Answered(Answer::TextRefused { file, fault }));
@@ -104,19 +97,36 @@ pub fn load<F: Files>(
     }
 }
 
-/// The machine that the file under a word spells, or the answer that refuses the file.
-pub fn load_machine<F: Files>(
+/// What a file spells, or the answer that refuses the file.
+pub fn load<F: Files>(
     alloc: Global,
     file: Operand,
-    word: &str,
+    words: &[String],
     files: &mut F,
-) -> Result<Machine, Refused>
-    ensures ok { IfOk result (λ m. WhereKnown (F.holds files.old word.now) (λ bytes. Spells bytes m)) }
-    ensures refused { IfErr result (WhereAnswered (IsOfFile file (F.holds files.old word.now) (Rose (F.faults files.old word.now) (F.faults files.new word.now)))) }
+) -> Result<Loaded, Refused>
+    ensures loaded { IfOk result (λ l. MayHold (F.holds files.old (word_of (map string_bytes words.now) file)) (IsLoaded (source_of l.parts) l.machine)) }
+    ensures well_formed { IfOk result (λ l. IsTrue (is_well_formed (source_of l.parts))) }
+    ensures refused { IfErr result (WhereAnswered (λ answer. MayGive (F.holds files.old (word_of (map string_bytes words.now) file)) (Rose (F.faults files.old (word_of (map string_bytes words.now) file)) (F.faults files.new (word_of (map string_bytes words.now) file))) (λ content. RefusesMachine file content answer))) }
     ensures counts { NoneFell (F.faults files.old) (F.faults files.new) }
     ensures unchanged { SameHeld (F.holds files.old) (F.holds files.new) }
 {
-    let Loaded { machine, .. } = load(alloc, file, word, files)?;
+    let bytes = load_bytes(alloc, file, words, files)?;
+    read_machine(alloc, file, bytes.as_slice())
+}
+
+/// The machine that a file spells, or the answer that refuses the file.
+pub fn load_machine<F: Files>(
+    alloc: Global,
+    file: Operand,
+    words: &[String],
+    files: &mut F,
+) -> Result<Machine, Refused>
+    ensures spells { IfOk result (λ m. MayHold (F.holds files.old (word_of (map string_bytes words.now) file)) (SpellsMachine m)) }
+    ensures refused { IfErr result (WhereAnswered (λ answer. MayGive (F.holds files.old (word_of (map string_bytes words.now) file)) (Rose (F.faults files.old (word_of (map string_bytes words.now) file)) (F.faults files.new (word_of (map string_bytes words.now) file))) (λ content. RefusesMachine file content answer))) }
+    ensures counts { NoneFell (F.faults files.old) (F.faults files.new) }
+    ensures unchanged { SameHeld (F.holds files.old) (F.holds files.new) }
+{
+    let Loaded { machine, .. } = load(alloc, file, words, files)?;
     Ok(machine)
 }
 
@@ -130,8 +140,7 @@ fn refused_at(file: Operand, fault: InputFault, name: String) -> Refused
 
 // The refusal of a file of inputs.
 fn refused_inputs(file: Operand, error: InputError) -> Refused
-    ensures file { WhereAnswered (IsInputsAnswer file) result }
-    ensures refuses { (fs : List Face) (bytes : List ℕ) → IsRefused fs bytes error → WhereAnswered (Refuses fs bytes) result }
+    ensures { (fs : List Signature) (bytes : List ℕ) → IsRefused fs bytes error → WhereAnswered (RefusesBytes fs file bytes) result }
 {
     match error {
         InputError::NotJson => Refused::Answered(Answer::NotJson { file }),
@@ -142,22 +151,22 @@ fn refused_inputs(file: Operand, error: InputError) -> Refused
     }
 }
 
-/// The inputs of a machine that the file under a word spells, or the answer that refuses the file.
+/// The inputs of a machine that a file spells, or the answer that refuses the file.
 pub fn load_inputs<F: Files>(
     alloc: Global,
     file: Operand,
-    word: &str,
+    words: &[String],
     machine: &Machine,
     files: &mut F,
 ) -> Result<Inputs, Refused>
-    ensures ok { IfOk result (λ i. WhereKnown (F.holds files.old word.now) (SpellsInputs machine.now (inputs_of i))) }
-    ensures faces { IfOk result (λ i. faces_of i ≡ faces machine.now) }
-    ensures serves { IfOk result (λ i. Serves (faces_of i) machine.now) }
-    ensures refused { IfErr result (WhereAnswered (IsOfInputs machine.now file (F.holds files.old word.now) (Rose (F.faults files.old word.now) (F.faults files.new word.now)))) }
+    ensures spells { IfOk result (λ i. MayHold (F.holds files.old (word_of (map string_bytes words.now) file)) (SpellsInputs machine.now (inputs_of i))) }
+    ensures signatures { IfOk result (λ i. signatures_of i ≡ signatures machine.now) }
+    ensures serves { IfOk result (λ i. Serves (signatures_of i) machine.now) }
+    ensures refused { IfErr result (WhereAnswered (λ answer. MayGive (F.holds files.old (word_of (map string_bytes words.now) file)) (Rose (F.faults files.old (word_of (map string_bytes words.now) file)) (F.faults files.new (word_of (map string_bytes words.now) file))) (λ content. RefusesInputs machine.now file content answer))) }
     ensures counts { NoneFell (F.faults files.old) (F.faults files.new) }
     ensures unchanged { SameHeld (F.holds files.old) (F.holds files.new) }
 {
-    let bytes = load_bytes(alloc, file, word, files)?;
+    let bytes = load_bytes(alloc, file, words, files)?;
     match read_inputs(alloc, bytes.as_slice(), machine) {
         Ok(inputs) => Ok(inputs),
         Err(error) => Err(refused_inputs(file, error)),

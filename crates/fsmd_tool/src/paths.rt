@@ -8,8 +8,8 @@ ghost use Rattle.fs_cut.specs.View.{point_of, path_of};
 ghost use Rattle.fsmd_tool.specs.Paths.{point_text, path_text, paths_text};
 
 use fs_ast::machine::Machine;
-use fs_cut::build::cover;
 use fs_cut::cover::{Cover, Path, Point};
+use fs_cut::make_cover::cover;
 use std::alloc::{AllocError, Global};
 
 // The name of a point.

@@ -25,7 +25,7 @@ fn fits(room: Option<u64>, count: usize) -> bool
 
 /// Puts the reply of an answer, and gives the answer's status, or `Fault` where the sink failed.
 ///
-/// The error is for want of memory, also where the reply is longer than the sink has room; then nothing was put.
+/// The error is out of memory, also where the reply is longer than the sink has room; then nothing was put.
 pub fn put_answer<S: Sink>(
     alloc: Global,
     answer: &Answer,

@@ -4,7 +4,7 @@ ghost use Rattle.std.specs.Prelude.{◌≡◌, ◌++◌, IfOk, codes, decimal, m
 ghost use Rattle.fsmd_tool.specs.Replies.{kind_name, rule_name, input_fault_name, reply};
 
 use crate::answer::Answer;
-use crate::command::word_of;
+use crate::words::word_of;
 use fs_ast::check::{CheckFault, CheckRule};
 use fs_grammar::fault::{TextFault, TextKind};
 use fs_inputs::Fault as InputFault;
@@ -23,6 +23,7 @@ fn kind_name(kind: TextKind) -> &'static str
         TextKind::NumberTooBig => "NumberTooBig",
         TextKind::Unexpected => "Unexpected",
         TextKind::Operators => "Operators",
+        TextKind::Nested => "Nested",
         TextKind::Ended => "Ended",
     }
 }
@@ -42,6 +43,7 @@ fn rule_name(rule: CheckRule) -> &'static str
         CheckRule::EndlessLine => "EndlessLine",
         CheckRule::UnknownState => "UnknownState",
         CheckRule::TooMany => "TooMany",
+        CheckRule::TooManyEmits => "TooManyEmits",
     }
 }
 
@@ -133,7 +135,7 @@ fn equivalent(alloc: Global, nodes: u32) -> Result<String, AllocError>
     format!(in alloc; "equivalent: {nodes} nodes\n")
 }
 
-/// The lines that an answer puts, where these are the words of the command.
+/// The lines that an answer prints, where these are the words of the command.
 pub fn reply(alloc: Global, answer: &Answer, words: &[String]) -> Result<Vec<u8>, AllocError>
     ensures { IfOk result (λ bytes. bytes.items ≡ reply answer.now (map string_bytes words.now)) }
 {

@@ -1,12 +1,10 @@
 //! Runs machines on inputs, and says what they answer.
 
 ghost use Rattle.std.specs.Prelude.{◌≡◌, cond, None, IfOk};
-ghost use Rattle.fs_pair.specs.Faces.{interface_fault};
-ghost use Rattle.fs_runs.specs.Given.{inputs_of, faces_of, Serves};
-ghost use Rattle.fs_show.specs.Ends.{IsStopText};
-ghost use Rattle.fsmd_tool.specs.Answers.{IsUnended};
-ghost use Rattle.fsmd_tool.specs.Runs.{IsRunAnswer, IsOfRun};
-ghost use Rattle.fsmd_tool.specs.Replays.{IsReplayAnswer, IsOfReplay};
+ghost use Rattle.fs_pair.specs.Interfaces.{interface_fault};
+ghost use Rattle.fs_runs.specs.InputValues.{inputs_of, signatures_of, Serves};
+ghost use Rattle.fsmd_tool.specs.Runs.{IsOfStop, IsOfRun};
+ghost use Rattle.fsmd_tool.specs.Replays.{IsOfReplay};
 ghost use Rattle.fsmd_tool.specs.declared.answer.Answer.TheVariants.{Text, Differs};
 
 use crate::answer::{Answer, Lines};
@@ -22,7 +20,7 @@ const MOST_STEPS: u64 = 10_000;
 
 // What a run without an end answers.
 fn unended(alloc: Global, side: Side, stop: RunStop) -> Result<Answer, AllocError>
-    ensures { IfOk result (IsUnended (IsStopText side stop)) }
+    ensures { IfOk result (IsOfStop side stop) }
 {
     match stop_text(alloc, side, stop) {
         Ok(text) => Ok(Answer::NoReturn {
@@ -34,9 +32,8 @@ fn unended(alloc: Global, side: Side, stop: RunStop) -> Result<Answer, AllocErro
 
 /// What a run of a machine from inputs answers.
 pub fn run_machine(alloc: Global, machine: &Machine, inputs: &Inputs) -> Result<Answer, AllocError>
-    requires { Serves (faces_of inputs.now) machine.now }
-    ensures answer { IfOk result IsRunAnswer }
-    ensures due { IfOk result (IsOfRun machine.now (inputs_of inputs.now)) }
+    requires { Serves (signatures_of inputs.now) machine.now }
+    ensures { IfOk result (IsOfRun machine.now (inputs_of inputs.now)) }
 {
     let ended = match run(alloc, machine, inputs, MOST_STEPS) {
         Ok(ended) => ended,
@@ -69,10 +66,9 @@ pub fn replay_machines(
     inputs: &Inputs,
 ) -> Result<Answer, AllocError>
     requires alike { interface_fault left.now right.now ≡ None }
-    requires left_inputs { Serves (faces_of inputs.now) left.now }
-    requires right_inputs { Serves (faces_of inputs.now) right.now }
-    ensures answer { IfOk result IsReplayAnswer }
-    ensures due { IfOk result (IsOfReplay left.now right.now (inputs_of inputs.now)) }
+    requires left_inputs { Serves (signatures_of inputs.now) left.now }
+    requires right_inputs { Serves (signatures_of inputs.now) right.now }
+    ensures { IfOk result (IsOfReplay left.now right.now (inputs_of inputs.now)) }
 {
     let left_end = match run(alloc, left, inputs, MOST_STEPS) {
         Ok(ended) => ended,

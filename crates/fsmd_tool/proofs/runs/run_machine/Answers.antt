@@ -1,15 +1,11 @@
-use Rattle.fs_runs.specs.Given.{inputs_of}
-use Rattle.fs_show.proofs.Faces.{run_holds_each}
-use Rattle.fsmd_tool.proofs.Ran.{run_stopped, run_ended}
+use Rattle.fs_runs.specs.InputValues.{inputs_of}
+use Rattle.fsmd_tool.proofs.Ends.{run_stopped, run_ended}
 use Rattle.fsmd_tool.proofs.runs.run_machine.Goals as goal
 
-pub returns-in-Err-clause-due : goal.returns-in-Err-clause-due
-returns-in-Err-clause-due c = run_stopped c.args.machine.now (inputs_of c.args.inputs.now) c.in-Err.stop c.unended.result c.in-Err.ensures.stopped c.unended.ensures
+pub returns-in-Err : goal.returns-in-Err
+returns-in-Err c = run_stopped c.args.machine.now (inputs_of c.args.inputs.now) c.in-Err.stop c.unended.result c.in-Err.ensures.stopped c.unended.ensures
 
-pub end_text-requires : goal.end_text-requires
-end_text-requires c = record { outputs = run_holds_each c.args.machine.now (inputs_of c.args.inputs.now) _ c.in-Ok.ended.steps c.in-Ok.ensures.ended }
-
-pub returns-in-Ok-end_text-clause-due : goal.returns-in-Ok-end_text-clause-due
-returns-in-Ok-end_text-clause-due c =
+pub returns-in-Ok-end_text : goal.returns-in-Ok-end_text
+returns-in-Ok-end_text c =
     run_ended c.args.machine.now (inputs_of c.args.inputs.now) _ c.in-Ok.ended.steps c.in-Ok-end_text.text.items c.of.result
     (record { run = c.in-Ok.ensures.ended; within = c.in-Ok.ensures.within; in_range = c.in-Ok.ensures.in_range }) c.in-Ok-end_text.ensures.text c.of.ensures

@@ -1,0 +1,16 @@
+use Rattle.std.proofs.Common.{rules, map}
+use Rattle.std.specs.Prelude.{string_bytes}
+use Rattle.fsmd_tool.specs.Readings.{call, IsCorrectBy}
+use Rattle.fsmd_tool.specs.Loading.{WhereAnswered}
+use Rattle.fsmd_tool.specs.Paths.{HasPaths}
+use Rattle.fsmd_tool.specs.Correct.{FollowsForText, TextRefused}
+use Rattle.fsmd_tool.proofs.FromFiles.{machine_refused, paths_listed}
+use Rattle.fsmd_tool.proofs.answers.cut_paths.Goals as goal
+
+pub returns-in_err-machine-clause-refused : goal.returns-in_err-machine-clause-refused
+returns-in_err-machine-clause-refused g c =
+    let h : WhereAnswered (IsCorrectBy (FollowsForText HasPaths) (call (map string_bytes c.args.words.now) (g.F.Files.holds c.args.files.now) (g.F.Files.faults c.args.files.now) (g.F.Files.faults c.load_machine.new.files))) c.in_err-machine.field-0.0 = machine_refused (FollowsForText HasPaths) _ _ (λ r x p. TextRefused p) c.in_err-machine.ensures.refused in
+    search rules
+
+pub returns-clause-ok : goal.returns-clause-ok
+returns-clause-ok g c = paths_listed _ c.in_ok-machine.machine _ c.of-lines.result c.in_ok-machine.ensures.spells c.in_ok-list_paths.ensures c.of-lines.ensures

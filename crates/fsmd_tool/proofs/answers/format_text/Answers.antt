@@ -1,0 +1,16 @@
+use Rattle.std.proofs.Common.{rules, map}
+use Rattle.std.specs.Prelude.{string_bytes}
+use Rattle.fsmd_tool.specs.Readings.{call, IsCorrectBy}
+use Rattle.fsmd_tool.specs.Loading.{WhereAnswered}
+use Rattle.fsmd_tool.specs.Texts.{HasCanonicalText}
+use Rattle.fsmd_tool.specs.Correct.{FollowsForText, TextRefused}
+use Rattle.fsmd_tool.proofs.FromFiles.{machine_refused, canonical_listed}
+use Rattle.fsmd_tool.proofs.answers.format_text.Goals as goal
+
+pub returns-in_err-parts-clause-refused : goal.returns-in_err-parts-clause-refused
+returns-in_err-parts-clause-refused g c =
+    let h : WhereAnswered (IsCorrectBy (FollowsForText HasCanonicalText) (call (map string_bytes c.args.words.now) (g.F.Files.holds c.args.files.now) (g.F.Files.faults c.args.files.now) (g.F.Files.faults c.load.new.files))) c.in_err-parts.field-0.0 = machine_refused (FollowsForText HasCanonicalText) _ _ (λ r x p. TextRefused p) c.in_err-parts.ensures.refused in
+    search rules
+
+pub returns-in-Ok-clause-ok : goal.returns-in-Ok-clause-ok
+returns-in-Ok-clause-ok g c = canonical_listed _ _ _ c.in-Ok.text.items c.of.result c.in_ok-parts.ensures.loaded c.in-Ok.ensures.text c.of.ensures

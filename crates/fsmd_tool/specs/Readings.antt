@@ -1,0 +1,72 @@
+-- What is known of the files of a call, and what was read of them.
+use Rattle.std.specs.Prelude.{ℕ, List}
+use Rattle.fs_base.specs.Outside.{Held, Rose, AreHeld}
+use Rattle.fsmd_tool.specs.declared.answer.Operand.{Operand}
+use Rattle.fsmd_tool.specs.declared.answer.Operand.TheVariants.{First, Second, Third}
+use Rattle.fsmd_tool.specs.declared.answer.Answer.{Answer}
+use Rattle.fsmd_tool.specs.Words.{word_of}
+
+-- the words of a call, what each name held at its start, and how often each had failed to be read before and at its end
+pub record Call : Type 0 where
+  pub words : List (List ℕ)
+  pub holds : List ℕ → Held
+  pub faults_before : List ℕ → ℕ
+  pub faults_now : List ℕ → ℕ
+
+abbrev pub call : List (List ℕ) → (List ℕ → Held) → (before now : List ℕ → ℕ) → Call
+call words holds before now = record { words = words; holds = holds; faults_before = before; faults_now = now }
+
+-- what is known of a file of the call
+abbrev pub held : Call → Operand → Held
+held g file = g.holds (word_of g.words file)
+
+-- a file of the call failed to be read
+abbrev pub FailedToRead : Call → Operand → Type 0
+FailedToRead g file = Rose (g.faults_before (word_of g.words file)) (g.faults_now (word_of g.words file))
+
+-- what was read of a file: it was not opened, its bytes, or it could not be read
+pub data Content : Type 0 where
+  Unopened : Content
+  Readable : List ℕ → Content
+  Unreadable : Content
+
+-- the bytes that were read meet P
+abbrev pub OfBytes : Content → (List ℕ → Type 0) → Type 0
+OfBytes Unopened P = ⊥
+OfBytes (Readable bytes) P = P bytes
+OfBytes Unreadable P = ⊥
+
+-- what may be read of a file, of which this is known; Failed says that it failed to be read
+abbrev pub MayBeRead : Held → (Failed : Type 0) → Content → Type 0
+MayBeRead known Failed Unopened = Unit {0}
+MayBeRead known Failed (Readable bytes) = AreHeld known bytes
+MayBeRead known Failed Unreadable = Failed
+
+-- bytes that a file may hold, by what is known of it, meet P
+pub record MayHold (known : Held) (P : List ℕ → Type 0) : Type 0 where
+  pub bytes : List ℕ
+  pub may : AreHeld known bytes
+  pub meet : P bytes
+
+-- what was read of the files of a call
+pub record Reading : Type 0 where
+  pub first : Content
+  pub second : Content
+  pub third : Content
+
+abbrev pub content_of : Reading → Operand → Content
+content_of r First = r.first
+content_of r Second = r.second
+content_of r Third = r.third
+
+-- each file may be read so, by what is known of it alone
+pub record MayRead (g : Call) (r : Reading) : Type 0 where
+  pub first : MayBeRead (held g First) (FailedToRead g First) r.first
+  pub second : MayBeRead (held g Second) (FailedToRead g Second) r.second
+  pub third : MayBeRead (held g Third) (FailedToRead g Third) r.third
+
+-- the answer follows, by P, from what may have been read of the files
+pub record IsCorrectBy (P : Reading → Answer → Type 0) (g : Call) (answer : Answer) : Type 0 where
+  pub reading : Reading
+  pub may_be_read : MayRead g reading
+  pub follows : P reading answer
