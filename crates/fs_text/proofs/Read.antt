@@ -8,15 +8,15 @@ use Rattle.fs_grammar.specs.declared.fault.ReadError.{ReadError}
 use Rattle.fs_grammar.specs.declared.fault.ReadError.TheVariants.{Text, NoMemory}
 use Rattle.fs_grammar.specs.Tokens.{Gives}
 use Rattle.fs_lex.specs.Scan.{tokens_of}
-use Rattle.grammar_laws.specs.Faults.{Spells, StopsAt}
-use Rattle.grammar_laws.proofs.Exact.{read_is_spelled, fault_is_first}
-use Rattle.lex_laws.specs.Tokenization.{StandsIn}
-use Rattle.text_laws.specs.Limit.{SpellWithin, StopWithin}
-use Rattle.text_laws.proofs.Ended.{tokens_ended}
-use Rattle.text_laws.proofs.Limit.{spelled_found, fault_stands}
-use Rattle.text_laws.proofs.Read.{read_is_well_formed}
-use Rattle.text_laws.specs.Texts.{TextSpells, TextStops}
-use Rattle.text_laws.proofs.Texts as texts
+use Rattle.fs_grammar_laws.specs.Faults.{Spells, StopsAt}
+use Rattle.fs_grammar_laws.proofs.Exact.{read_is_spelled, fault_is_first}
+use Rattle.fs_lex_laws.specs.Tokenization.{StandsIn}
+use Rattle.fs_text_laws.specs.Limit.{SpellWithin, StopWithin}
+use Rattle.fs_text_laws.proofs.Ended.{tokens_ended}
+use Rattle.fs_text_laws.proofs.Limit.{spelled_found, fault_stands}
+use Rattle.fs_text_laws.proofs.Read.{read_is_well_formed}
+use Rattle.fs_text_laws.specs.Texts.{TextSpells, TextStops}
+use Rattle.fs_text_laws.proofs.Texts as texts
 use Rattle.fs_text.specs.Spelled.{spelled, IfText}
 
 module _ {P : Type 0} (view : P → Source) (bytes : List ℕ) where

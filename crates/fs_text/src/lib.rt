@@ -7,11 +7,11 @@ ghost use Rattle.fs_model.specs.Limits.{most_text_bytes};
 ghost use Rattle.fs_model.specs.View.{source_of};
 ghost use Rattle.fs_model.specs.WellFormed.{is_well_formed};
 ghost use Rattle.fs_grammar.specs.Tokens.{Gives};
-ghost use Rattle.grammar_laws.specs.Faults.{Spells, StopsAt};
+ghost use Rattle.fs_grammar_laws.specs.Faults.{Spells, StopsAt};
 ghost use Rattle.fs_lex.specs.Scan.{tokens_of};
-ghost use Rattle.lex_laws.specs.Tokenization.{StandsIn};
-ghost use Rattle.text_laws.specs.Limit.{SpellWithin, StopWithin};
-ghost use Rattle.text_laws.specs.Texts.{TextSpells, TextStops};
+ghost use Rattle.fs_lex_laws.specs.Tokenization.{StandsIn};
+ghost use Rattle.fs_text_laws.specs.Limit.{SpellWithin, StopWithin};
+ghost use Rattle.fs_text_laws.specs.Texts.{TextSpells, TextStops};
 ghost use Rattle.fs_text.specs.Spelled.{spelled, IfText};
 
 use fs_grammar::fault::ReadError;

@@ -1,5 +1,0 @@
-use Rattle.answer_laws.proofs.Correct.{follows_from_one}
-use Rattle.answer_laws.proofs.laws.one_answer_follows.Goals as goal
-
-pub returns : goal.returns
-returns c = follows_from_one

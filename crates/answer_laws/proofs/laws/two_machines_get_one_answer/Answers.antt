@@ -1,5 +1,0 @@
-use Rattle.answer_laws.proofs.Pairs.{pair_once}
-use Rattle.answer_laws.proofs.laws.two_machines_get_one_answer.Goals as goal
-
-pub returns : goal.returns
-returns c = pair_once

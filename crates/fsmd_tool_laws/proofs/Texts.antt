@@ -1,0 +1,125 @@
+-- A file is one thing: it spells one machine, or has one fault, or is too long.
+use Rattle.std.proofs.Common.{◌≡◌, ℕ, ◌<◌, ◌≤◌, Bool, false, List, [], ◌∷◌, length, sym, ◌∙◌, ap, subst, ⊎_elim, arith, refl}
+use Rattle.std.specs.Prelude.{◌&&◌, ◌||◌, ◌==◌, nat_lt, Result, Ok, Err, Contains}
+use Rattle.std.specs.List.{slice_index_or}
+use Rattle.std.proofs.lemmas.Bool.Decides.{nat_tests}
+use Rattle.fs_model.specs.Source.{Source}
+use Rattle.fs_model.specs.Machines.{Fsmd}
+use Rattle.fs_grammar.specs.declared.fault.TextFault.{TextFault}
+use Rattle.fs_rules.specs.declared.check.CheckRule.{CheckRule}
+use Rattle.fs_rules.specs.declared.check.CheckRule.TheVariants.{TwiceNamed, UnknownName, WrongSort, AssignInput, AssignedTwice, NoElse, AfterElse, TooManyBranches, EndlessLine, UnknownState, TooMany, TooManyEmits}
+use Rattle.fs_rules.specs.declared.check.CheckFault.{CheckFault}
+use Rattle.fs_ast.specs.Spelled.{machine_of}
+use Rattle.fs_ast.specs.Rules.{rank, is_sooner, plain_faults, branch_faults, IsFirstBroken, IsLawful}
+use Rattle.fs_write.specs.Canonical.{canonical}
+use Rattle.fs_model.specs.Limits.{most_text_bytes}
+use Rattle.fs_lex.specs.Scan.{tokens_of}
+use Rattle.fs_text_laws.specs.Limit.{SpellWithin, StopWithin}
+use Rattle.fs_text_laws.proofs.Limit.{spelled_only, fault_only}
+use Rattle.fsmd_tool.specs.Texts.{SpellsMachine, IsMachine, HasCanonicalText, IsTooLong, HasTextFault, HasCheckFault}
+use Rattle.fsmd_tool.specs.Paths.{paths_text, HasPaths}
+
+ok_same : {A E : Type 0} (x y : A) → Path (Result A E) (Ok x) (Ok y) → x ≡ y
+ok_same x y e = cc
+
+err_same : {A E : Type 0} (x y : E) → Path (Result A E) (Err x) (Err y) → x ≡ y
+err_same x y e = cc
+
+ok_err : {A E : Type 0} (x : A) (y : E) → Path (Result A E) (Ok x) (Err y) → ⊥
+ok_err x y e = cc
+
+-- ---- the broken rule that is answered is one
+
+abbrev lex : (a r b s : ℕ) → Bool
+lex a r b s = nat_lt a b || (a == b && nat_lt r s)
+
+lex_lines : (a r b s : ℕ) → lex a r b s ≡ false → lex b s a r ≡ false → a ≡ b
+lex_lines a r b s e f = grind (arith, nat_tests)
+
+lex_ranks : (a r b s : ℕ) → lex a r b s ≡ false → lex b s a r ≡ false → r ≡ s
+lex_ranks a r b s e f = grind (arith, nat_tests)
+
+-- the rule of a rank
+abbrev rule_at : ℕ → CheckRule
+rule_at n = slice_index_or (TooMany ∷ TwiceNamed ∷ UnknownName ∷ WrongSort ∷ AssignInput ∷ AssignedTwice ∷ NoElse ∷ AfterElse ∷ TooManyBranches ∷ EndlessLine ∷ UnknownState ∷ TooMany ∷ TooManyEmits ∷ []) n TooMany
+
+rule_back : (r : CheckRule) → rule_at (rank r) ≡ r
+rule_back TwiceNamed = refl
+rule_back UnknownName = refl
+rule_back WrongSort = refl
+rule_back AssignInput = refl
+rule_back AssignedTwice = refl
+rule_back NoElse = refl
+rule_back AfterElse = refl
+rule_back TooManyBranches = refl
+rule_back EndlessLine = refl
+rule_back UnknownState = refl
+rule_back TooMany = refl
+rule_back TooManyEmits = refl
+
+rank_same : (r s : CheckRule) → rank r ≡ rank s → r ≡ s
+rank_same r s e = sym (rule_back r) ∙ ap rule_at e ∙ rule_back s
+
+fault_same : (f g : CheckFault) → f.rule ≡ g.rule → f.line ≡ g.line → f ≡ g
+fault_same f g e h = λ i. record { rule = e i; line = h i }
+
+first_broken_once : (p : Source) (f g : CheckFault) → IsFirstBroken p f → IsFirstBroken p g → f ≡ g
+first_broken_once p f g s t =
+    let e : is_sooner g f ≡ false = s.first g t.broken in
+    let h : is_sooner f g ≡ false = t.first f s.broken in
+    fault_same f g (rank_same f.rule g.rule (lex_ranks f.line (rank f.rule) g.line (rank g.rule) h e)) (lex_lines f.line (rank f.rule) g.line (rank g.rule) h e)
+
+nothing_there : {A : Type 0} (xs : List A) (x : A) → xs ≡ [] → Contains xs x → ⊥
+nothing_there xs x e c = let h : c.0 < length xs = c.1 in let n : length xs ≡ 0 = ap length e in omega arith
+
+lawful_unbroken : (p : Source) (f : CheckFault) → IsLawful p → IsFirstBroken p f → ⊥
+lawful_unbroken p f l b =
+    ⊎_elim (λ c. nothing_there (plain_faults p) f l.plain c) (λ late. ⊎_elim (λ c. nothing_there (branch_faults p) f l.branches c) (λ e. l.ends f.line e.1) late.1) b.broken
+
+-- ---- one machine, one fault, and not both
+
+pub few_not_many : (n m : ℕ) → n ≤ m → m < n → ⊥
+few_not_many n m h k = omega arith
+
+read_once : (bytes : List ℕ) (p q : Source) → SpellWithin (tokens_of bytes) p → SpellWithin (tokens_of bytes) q → p ≡ q
+read_once bytes p q s t = ok_same p q (sym (spelled_only bytes p s) ∙ spelled_only bytes q t)
+
+read_or_fault : (bytes : List ℕ) (p : Source) (f : TextFault) → SpellWithin (tokens_of bytes) p → StopWithin (tokens_of bytes) f → ⊥
+read_or_fault bytes p f s t = ok_err p f (sym (spelled_only bytes p s) ∙ fault_only bytes f t)
+
+pub spells_once : (bytes : List ℕ) (m n : Fsmd) → SpellsMachine m bytes → SpellsMachine n bytes → m ≡ n
+spells_once bytes m n s t = s.machine ∙ ap machine_of (read_once bytes s.parts t.parts s.spells.spells t.spells.spells) ∙ sym t.machine
+
+pub text_fault_once : (bytes : List ℕ) (f g : TextFault) → HasTextFault f bytes → HasTextFault g bytes → f ≡ g
+text_fault_once bytes f g s t = err_same f g (sym (fault_only bytes f s.stops) ∙ fault_only bytes g t.stops)
+
+pub check_fault_once : (bytes : List ℕ) (f g : CheckFault) → HasCheckFault f bytes → HasCheckFault g bytes → f ≡ g
+check_fault_once bytes f g s t = first_broken_once t.parts f g (subst (λ p. IsFirstBroken p f) (read_once bytes s.parts t.parts s.spells t.spells) s.broken) t.broken
+
+pub text_or_check : (bytes : List ℕ) (f : TextFault) (g : CheckFault) → HasTextFault f bytes → HasCheckFault g bytes → ⊥
+text_or_check bytes f g s t = read_or_fault bytes t.parts f t.spells s.stops
+
+pub spells_no_text_fault : (bytes : List ℕ) (m : Fsmd) (f : TextFault) → SpellsMachine m bytes → HasTextFault f bytes → ⊥
+spells_no_text_fault bytes m f s t = read_or_fault bytes s.parts f s.spells.spells t.stops
+
+pub spells_no_check_fault : (bytes : List ℕ) (m : Fsmd) (f : CheckFault) → SpellsMachine m bytes → HasCheckFault f bytes → ⊥
+spells_no_check_fault bytes m f s t = lawful_unbroken t.parts f (subst IsLawful (read_once bytes s.parts t.parts s.spells.spells t.spells) s.spells.lawful) t.broken
+
+pub long_spells_none : (bytes : List ℕ) (m : Fsmd) → SpellsMachine m bytes → IsTooLong bytes → ⊥
+long_spells_none bytes m s long = few_not_many (length bytes) most_text_bytes s.spells.few long
+
+pub long_no_text_fault : (bytes : List ℕ) (f : TextFault) → HasTextFault f bytes → IsTooLong bytes → ⊥
+long_no_text_fault bytes f s long = few_not_many (length bytes) most_text_bytes s.few long
+
+pub long_no_check_fault : (bytes : List ℕ) (f : CheckFault) → HasCheckFault f bytes → IsTooLong bytes → ⊥
+long_no_check_fault bytes f s long = few_not_many (length bytes) most_text_bytes s.few long
+
+pub canonical_once : (bytes t u : List ℕ) → HasCanonicalText t bytes → HasCanonicalText u bytes → t ≡ u
+canonical_once bytes t u p q = p.is_canonical ∙ ap canonical (read_once bytes p.parts q.parts p.spells.spells q.spells.spells) ∙ sym q.is_canonical
+
+pub paths_once : (bytes t u : List ℕ) → HasPaths t bytes → HasPaths u bytes → t ≡ u
+paths_once bytes t u p q = p.lists ∙ ap paths_text (spells_once bytes p.machine q.machine p.spells q.spells) ∙ sym q.lists
+
+-- a file with a canonical text spells a machine
+pub canonical_machine : (bytes t : List ℕ) → HasCanonicalText t bytes → IsMachine bytes
+canonical_machine bytes t p = (machine_of p.parts, record { parts = p.parts; spells = p.spells; machine = refl })
