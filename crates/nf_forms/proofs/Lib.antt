@@ -1,0 +1,5 @@
+pub mod Sorting
+pub mod Collecting
+pub mod Products
+pub mod Exact
+pub mod Values

@@ -1,0 +1,4 @@
+//! Operations, exactly.
+#![tactic(auto)]
+
+pub mod sums;
