@@ -3,3 +3,4 @@ pub mod Collecting
 pub mod Products
 pub mod Exact
 pub mod Values
+pub mod Constants

@@ -1,6 +1,7 @@
 -- What is computed has the value that it should have.
-use Rattle.std.proofs.Common.{◌≡◌, ℕ, ◌+◌, ◌*◌, ℤ, pos, ◌+ℤ◌, ◌-ℤ◌, ◌*ℤ◌, Bool, true, false, cond, nat_le, arith, refl, ap, sym, ◌∙◌}
+use Rattle.std.proofs.Common.{◌≡◌, ℕ, ◌+◌, ◌*◌, ◌≤◌, ℤ, pos, ◌+ℤ◌, ◌-ℤ◌, ◌*ℤ◌, Bool, true, false, cond, nat_le, arith, refl, ap, sym, ◌∙◌}
 use Rattle.std.proofs.lemmas.Int.{ints}
+use Rattle.std.proofs.lemmas.Bool.{leb-true}
 use Rattle.std.specs.Ordering.{int_eq}
 use Rattle.std.specs.Cmp.{signed_Decides}
 use Rattle.nf_terms.specs.Terms.{Polynomial, One, Times, Zero, Plus, polynomial_of_number}
@@ -11,7 +12,7 @@ use Rattle.nf_terms.specs.RawSums.{raw_sum, raw_negation, raw_difference, raw_pr
 use Rattle.nf_sums.proofs.Bags.{value_ignores}
 use Rattle.nf_sums.proofs.Worth.{worth-sum, value_worth, value-product}
 use Rattle.nf_sums.proofs.Forms.{negation_value}
-use Rattle.nf_forms.specs.Computed.{Computed, Done, Wide, Large, after, if_small}
+use Rattle.nf_forms.specs.Computed.{Computed, Done, Wide, Large, after, IfDone, if_small}
 use Rattle.nf_forms.specs.Forms.{normal_form}
 use Rattle.nf_forms.specs.Operations.{operation, added, subtracted, multiplied, number, constant_sum}
 use Rattle.nf_forms.proofs.Collecting.{worth-form}
@@ -76,3 +77,11 @@ pub value_parts : (w : Valuation) (p : Polynomial) → value_of w p ≡ value_of
 value_parts w Zero = refl
 value_parts w (Plus One c p) = omega (arith, ints, value_parts w p)
 value_parts w (Plus (Times a m) c p) = omega (arith, ints, value_parts w p)
+
+pub if_small_holds : {T : Type 0} (units depth : ℕ) (x : T) (P : T → Type 0) → ((units ≤ size_limit) → (depth ≤ depth_limit) → P x) → IfDone (if_small units depth x) P
+if_small_holds {T} units depth x P f = by_tests (nat_le units size_limit) (nat_le depth depth_limit) refl refl
+  where
+    by_tests : (a b : Bool) → nat_le units size_limit ≡ a → nat_le depth depth_limit ≡ b → IfDone (cond {A = Computed T} a (cond {A = Computed T} b (Done x) (Large units depth)) (Large units 0)) P
+    by_tests true true g h = f (leb-true units size_limit g) (leb-true depth depth_limit h)
+    by_tests true false g h = tt
+    by_tests false b g h = tt

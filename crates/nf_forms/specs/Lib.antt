@@ -1,3 +1,4 @@
 pub mod Computed
 pub mod Forms
 pub mod Operations
+pub mod Tidied

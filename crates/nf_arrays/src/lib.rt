@@ -1,0 +1,8 @@
+//! Reads, writes, quotients and remainders of normal forms.
+#![tactic(auto)]
+
+mod atoms;
+pub mod division;
+pub mod laws;
+pub mod reads;
+pub mod writes;
