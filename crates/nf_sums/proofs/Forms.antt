@@ -7,7 +7,8 @@ use Rattle.std.specs.Cmp.{signed_Decides}
 use Rattle.nf_terms.specs.Terms.{Polynomial, Zero, Plus}
 use Rattle.nf_terms.specs.Measures.{size_of, weight_of, depth_of}
 use Rattle.nf_terms.specs.Meaning.{Valuation, value_of, value_of_monomial}
-use Rattle.nf_terms.specs.Normal.{IsNormal, ordered, monomial_rises, is_light, narrow_inside, narrow_monomial, size_limit, weight_limit}
+use Rattle.nf_terms.specs.Limits.{size_limit, weight_limit}
+use Rattle.nf_terms.specs.Normal.{IsNormal, ordered, monomial_rises, is_light, narrow_inside, narrow_monomial}
 use Rattle.nf_terms.specs.RawSums.{raw_sum, raw_negation, raw_product, IsNormalFormOf}
 use Rattle.nf_sums.specs.OrderedSums.{worth_of, fits, IsOrderedSum, IsOrderedProduct}
 use Rattle.nf_sums.proofs.Sorted.{and_both}

@@ -8,7 +8,8 @@ use Rattle.std.specs.Cmp.{signed_Decides}
 use Rattle.nf_terms.specs.Terms.{Monomial, Polynomial, Zero, Plus, polynomial_of}
 use Rattle.nf_terms.specs.View.{term_in, monomial_in}
 use Rattle.nf_terms.specs.Measures.{size_of, size_of_monomial, weight_of}
-use Rattle.nf_terms.specs.Normal.{ordered, ordered_monomial, weight_limit}
+use Rattle.nf_terms.specs.Limits.{weight_limit}
+use Rattle.nf_terms.specs.Normal.{ordered, ordered_monomial}
 use Rattle.nf_terms.specs.RawSums.{raw_sum, raw_product, joined}
 use Rattle.nf_terms.specs.declared.tree.MonoTree.{MonoTree}
 use Rattle.nf_terms.specs.declared.stop.NoMemory.{NoMemory}

@@ -3,7 +3,8 @@ use Rattle.std.proofs.Common.{◌≡◌, ◌≤◌, true, nat_le, arith, refl}
 use Rattle.std.proofs.lemmas.Bool.{leb-true, le-leb}
 use Rattle.nf_terms.specs.Terms.{Monomial, Polynomial, One, Times, Zero, Plus}
 use Rattle.nf_terms.specs.Measures.{depth_of, depth_of_atom, depth_of_monomial}
-use Rattle.nf_terms.specs.Normal.{IsNormal, narrow_atom, narrow_monomial, narrow_inside, is_light, depth_limit}
+use Rattle.nf_terms.specs.Limits.{depth_limit}
+use Rattle.nf_terms.specs.Normal.{IsNormal, narrow_atom, narrow_monomial, narrow_inside, is_light}
 use Rattle.nf_sums.specs.OrderedSums.{fits, fits_atom, fits_monomial}
 use Rattle.nf_sums.proofs.Sorted.{and_left, and_right, and_both}
 

@@ -2,7 +2,7 @@
 use Rattle.std.specs.Prelude.{◌≡◌, ℕ, ◌≤◌, Result, MatchResult}
 use Rattle.nf_terms.specs.Terms.{Polynomial}
 use Rattle.nf_terms.specs.Measures.{weight_of}
-use Rattle.nf_terms.specs.Normal.{weight_limit, size_limit}
+use Rattle.nf_terms.specs.Limits.{weight_limit, size_limit}
 use Rattle.nf_terms.specs.declared.stop.NfStop.{NfStop}
 use Rattle.nf_terms.specs.declared.stop.NfStop.TheVariants.{Wide, Large, NoMemory}
 

@@ -1,2 +1,4 @@
+pub mod Forms
+pub mod Operations
 pub mod OrderedSums
 pub mod Events

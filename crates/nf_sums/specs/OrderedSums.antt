@@ -3,7 +3,8 @@ use Rattle.std.specs.Prelude.{◌≡◌, ◌+◌, ◌*◌, ◌≤◌, ℤ, pos, 
 use Rattle.std.specs.Ordering.{int_eq}
 use Rattle.nf_terms.specs.Terms.{Atom, Monomial, Polynomial, One, Times, Zero, Plus}
 use Rattle.nf_terms.specs.Measures.{size_of, weight_of, depth_of_atom}
-use Rattle.nf_terms.specs.Normal.{ordered, ordered_monomial, narrow_atom, depth_limit}
+use Rattle.nf_terms.specs.Limits.{depth_limit}
+use Rattle.nf_terms.specs.Normal.{ordered, ordered_monomial, narrow_atom}
 use Rattle.nf_terms.specs.RawSums.{joined, raw_product}
 
 -- what a polynomial is worth where f says what each monomial is worth

@@ -2,8 +2,7 @@
 
 ghost use Rattle.nf_sums.specs.Events.{StopsAtEvent};
 
-use nf_terms::narrow::WEIGHT_LIMIT;
-use nf_terms::normal::SIZE_LIMIT;
+use nf_terms::limits::{SIZE_LIMIT, WEIGHT_LIMIT};
 use nf_terms::poly::Poly;
 use nf_terms::stop::NfStop;
 

@@ -4,7 +4,7 @@ ghost use Rattle.std.specs.Prelude.{◌≡◌, ◌++◌, ◌∷◌, [], ◌≤�
 ghost use Rattle.nf_terms.specs.Terms.{polynomial_of};
 ghost use Rattle.nf_terms.specs.View.{monomial_in, term_in};
 ghost use Rattle.nf_terms.specs.Measures.{weight_of};
-ghost use Rattle.nf_terms.specs.Normal.{weight_limit};
+ghost use Rattle.nf_terms.specs.Limits.{weight_limit};
 ghost use Rattle.nf_terms.specs.RawSums.{raw_negation};
 
 use crate::copies::push_copy;

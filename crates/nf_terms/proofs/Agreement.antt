@@ -36,7 +36,7 @@ own_pos p = both_true (same_side p.side p.side) (p.var == p.var) (own_side p.sid
 
 module _ (v w : Valuation) where
   fewer : (f g : Pos → Bool) → ((q : Pos) → g q ≡ true → f q ≡ true) → AgreeOn f v w → AgreeOn g v w
-  fewer f g sub agree = record { scalars = λ q e. agree.scalars q (sub q e); arrays = λ q e. agree.arrays q (sub q e) }
+  fewer f g sub agree = record { scalars = λ q e. agree.scalars q (sub q e); arrays = λ q e. agree.arrays q (sub q e); lists = λ q e. agree.lists q (sub q e) }
 
   base_agrees : (b : Base) → AgreeOn (λ q. mentions_base q b) v w → contents_of_base v b ≡ contents_of_base w b
   base_agrees starts.Zero agree = refl

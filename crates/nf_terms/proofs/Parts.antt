@@ -7,7 +7,8 @@ use Rattle.std.specs.Int.{w128}
 use Rattle.std.specs.Ordering.{int_eq}
 use Rattle.nf_terms.specs.Terms.{Monomial, Polynomial, Plus}
 use Rattle.nf_terms.specs.Measures.{weight_of}
-use Rattle.nf_terms.specs.Normal.{IsNormal, ordered, ordered_monomial, monomial_rises, is_light, narrow_inside, narrow_monomial, weight_limit}
+use Rattle.nf_terms.specs.Normal.{IsNormal, ordered, ordered_monomial, monomial_rises, is_light, narrow_inside, narrow_monomial}
+use Rattle.nf_terms.specs.Limits.{weight_limit}
 use Rattle.nf_terms.proofs.Simple.{light}
 
 and_right : (a b : Bool) → IsTrue (a && b) → IsTrue b

@@ -3,7 +3,8 @@ use Rattle.std.proofs.Common.{◌≤◌, Bool, ◌&&◌, IsTrue, refl, arith}
 use Rattle.std.proofs.lemmas.Bool.Decides.{nat_tests}
 use Rattle.nf_terms.specs.Terms.{Polynomial, Zero, polynomial_of_symbol, bare_array}
 use Rattle.nf_terms.specs.Measures.{weight_of}
-use Rattle.nf_terms.specs.Normal.{IsNormal, IsNormalArray, is_light, narrow_inside, weight_limit}
+use Rattle.nf_terms.specs.Normal.{IsNormal, IsNormalArray, is_light, narrow_inside}
+use Rattle.nf_terms.specs.Limits.{weight_limit}
 use Rattle.nf_terms.specs.declared.tree.Pos.{Pos}
 use Rattle.nf_terms.specs.declared.tree.Base.{Base}
 

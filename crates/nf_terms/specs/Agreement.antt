@@ -7,3 +7,4 @@ use Rattle.nf_terms.specs.declared.tree.Pos.{Pos}
 pub record AgreeOn (test : Pos → Bool) (v w : Valuation) : Type 0 where
   pub scalars : (q : Pos) → test q ≡ true → v.scalar q ≡ w.scalar q
   pub arrays : (q : Pos) → test q ≡ true → v.array q ≡ w.array q
+  pub lists : (q : Pos) → test q ≡ true → v.list q ≡ w.list q

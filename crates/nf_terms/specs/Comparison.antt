@@ -9,7 +9,7 @@ use Rattle.nf_terms.specs.Keys.{Key, cmp_key, key_reverse, key_trans}
 use Rattle.nf_terms.specs.TermKeys.{key_atom, key_monomial, key_polynomial, key_array, atom_by_key, monomial_by_key, polynomial_by_key, array_by_key, atom_ties, monomial_ties, polynomial_ties, array_ties}
 
 -- an order by keys is total, where what ties is the same
-keyed : {T : Type 0} (cmp : T → T → Ordering) (key : T → Key) → ((x y : T) → cmp x y ≡ cmp_key (key x) (key y)) → ((x y : T) → cmp x y ≡ Equal → x ≡ y) → IsTotalOrder cmp
+pub keyed : {T : Type 0} (cmp : T → T → Ordering) (key : T → Key) → ((x y : T) → cmp x y ≡ cmp_key (key x) (key y)) → ((x y : T) → cmp x y ≡ Equal → x ≡ y) → IsTotalOrder cmp
 keyed cmp key same ties = record {
   antisymm = λ x y. same x y ∙ key_reverse (key x) (key y) ∙ ap ordering_reverse (sym (same y x));
   trans = λ x y z p q. same x z ∙ key_trans (key x) (key y) (key z) (sym (same x y) ∙ p) (sym (same y z) ∙ q);

@@ -1,16 +1,20 @@
 -- What terms mean.
-use Rattle.std.specs.Prelude.{ℤ, pos, ◌+ℤ◌, ◌*ℤ◌, cond}
+use Rattle.std.specs.Prelude.{ℤ, pos, ◌+ℤ◌, ◌*ℤ◌, cond, List, [], ◌++◌, map}
 use Rattle.std.specs.Ordering.{int_eq}
 use Rattle.integers.specs.Division.{quotient, remainder}
 use Rattle.nf_terms.specs.Terms.{Atom, Monomial, Polynomial, ArrayTerm, Writes, Symbol, Read, Quotient, Remainder, One, Times, Zero, Plus, Over, NoWrites, Write}
+use Rattle.nf_terms.specs.Lists.{ListTerm}
 use Rattle.nf_terms.specs.declared.tree.Pos.{Pos}
 use Rattle.nf_terms.specs.declared.tree.Base.{Base}
 use Rattle.nf_terms.specs.declared.tree.Base.TheVariants as base
+use Rattle.nf_terms.specs.declared.tree.SeqBase.{SeqBase}
+use Rattle.nf_terms.specs.declared.tree.SeqBase.TheVariants as list
 
--- a pair of stores: a value for each position, a number or an array
+-- a pair of stores: a value for each position, a number, an array or a list
 pub record Valuation : Type 0 where
   pub scalar : Pos → ℤ
   pub array : Pos → ℤ → ℤ
+  pub list : Pos → List ℤ
 
 -- what an array holds after v is written at i
 abbrev pub written : (ℤ → ℤ) → ℤ → ℤ → ℤ → ℤ
@@ -47,3 +51,12 @@ abbrev mutual
   -- what an array holds
   pub contents : Valuation → ArrayTerm → ℤ → ℤ
   contents s (Over b ws) = contents_after s ws (contents_of_base s b)
+
+-- what a list's base holds: nothing, or what its symbol holds
+abbrev pub items_of_base : Valuation → SeqBase → List ℤ
+items_of_base s list.Empty = []
+items_of_base s (list.Sym p) = s.list p
+
+-- what a list holds: what its base holds, and then the values of its items
+abbrev pub items_in : Valuation → ListTerm → List ℤ
+items_in s l = items_of_base s l.base ++ map (value_of s) l.items

@@ -1,7 +1,8 @@
 -- Which terms are normal.
-use Rattle.std.specs.Prelude.{ℕ, ◌-◌, ◌^◌, ◌≤◌, ℤ, pos, nat_le, int_lt, Bool, true, false, ◌&&◌, ◌||◌, not, IsTrue}
+use Rattle.std.specs.Prelude.{◌≤◌, ℤ, pos, nat_le, int_lt, Bool, true, false, ◌&&◌, ◌||◌, not, IsTrue}
 use Rattle.std.specs.Ordering.{is_lt, is_le, int_eq}
 use Rattle.nf_terms.specs.Terms.{Atom, Monomial, Polynomial, ArrayTerm, Writes, Symbol, Read, Quotient, Remainder, One, Times, Zero, Plus, Over, NoWrites, Write}
+use Rattle.nf_terms.specs.Limits.{weight_limit, size_limit, depth_limit}
 use Rattle.nf_terms.specs.Order.{cmp_atom, cmp_monomial, same_polynomial}
 use Rattle.nf_terms.specs.Measures.{size_of, size_of_array, depth_of, depth_of_array, weight_of}
 use Rattle.nf_terms.specs.declared.tree.Base.TheVariants as base
@@ -95,18 +96,6 @@ abbrev mutual
   -- the writes are tidy
   pub ordered_array : ArrayTerm → Bool
   ordered_array (Over b ws) = ordered_writes ws
-
--- the most that a polynomial may weigh
-abbrev pub weight_limit : ℕ
-weight_limit = 2 ^ 127 - 1
-
--- the most that the size of a term may be
-abbrev pub size_limit : ℕ
-size_limit = 4096
-
--- the most that the depth of a term may be
-abbrev pub depth_limit : ℕ
-depth_limit = 64
 
 -- whether a polynomial itself is within the limit of weight
 abbrev pub is_light : Polynomial → Bool

@@ -14,16 +14,16 @@ use Rattle.nf_terms.specs.declared.tree.Base.{Base}
 use Rattle.nf_terms.specs.declared.tree.Base.TheVariants as starts
 
 -- left before right
-abbrev key_side : Side → Key
+abbrev pub key_side : Side → Key
 key_side Left = Leaf (pos 0)
 key_side Right = Leaf (pos 1)
 
 -- the side, then the number
-abbrev key_pos : Pos → Key
+abbrev pub key_pos : Pos → Key
 key_pos p = Node (key_side p.side) (Leaf (pos p.var))
 
 -- zero before a symbol
-abbrev key_base : Base → Key
+abbrev pub key_base : Base → Key
 key_base starts.Zero = Leaf (pos 0)
 key_base (starts.Sym p) = Node (Leaf (pos 0)) (key_pos p)
 
@@ -65,7 +65,7 @@ inj_side Left Right e = cc
 inj_side Right Left e = cc
 inj_side Right Right e = refl
 
-inj_pos : (x y : Pos) → key_pos x ≡ key_pos y → x ≡ y
+pub inj_pos : (x y : Pos) → key_pos x ≡ key_pos y → x ≡ y
 inj_pos x y e = let es : x.side ≡ y.side = inj_side x.side y.side (cc) in let ev : x.var ≡ y.var = cc in (λ i. record { side = es i; var = ev i })
 
 inj_base : (x y : Base) → key_base x ≡ key_base y → x ≡ y
@@ -115,7 +115,7 @@ mutual
   inj_array (Over x0 x1) (Over y0 y1) e = let e0 : x0 ≡ y0 = inj_base x0 y0 (cc) in let e1 : x1 ≡ y1 = inj_writes x1 y1 (cc) in cc
 
 -- ---- the order is that of the keys
-both : {r s t u : Ordering} → r ≡ s → t ≡ u → ordering_then r t ≡ ordering_then s u
+pub both : {r s t u : Ordering} → r ≡ s → t ≡ u → ordering_then r t ≡ ordering_then s u
 both p q i = ordering_then (p i) (q i)
 
 side_by_key : (x y : Side) → cmp_side x y ≡ cmp_key (key_side x) (key_side y)
@@ -127,7 +127,7 @@ side_by_key Right Right = refl
 numbers_by_key : (m n : ℕ) → nat_cmp m n ≡ int_cmp (pos m) (pos n)
 numbers_by_key m n = grind (arith, nat_tests)
 
-pos_by_key : (x y : Pos) → cmp_pos x y ≡ cmp_key (key_pos x) (key_pos y)
+pub pos_by_key : (x y : Pos) → cmp_pos x y ≡ cmp_key (key_pos x) (key_pos y)
 pos_by_key x y = both (side_by_key x.side y.side) (numbers_by_key x.var y.var)
 
 base_by_key : (x y : Base) → cmp_base x y ≡ cmp_key (key_base x) (key_base y)

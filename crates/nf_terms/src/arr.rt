@@ -5,14 +5,15 @@ ghost use Rattle.nf_terms.specs.Terms.{Over, writes_of, writes_over, base_of, ba
 ghost use Rattle.nf_terms.specs.View.{array_in, write_in};
 ghost use Rattle.nf_terms.specs.Measures.{size_of_array, depth_of_array};
 ghost use Rattle.nf_terms.specs.Mentions.{mentions_array};
+ghost use Rattle.nf_terms.specs.Symbols.{symbols_of_array};
 ghost use Rattle.nf_terms.specs.Normal.{IsNormalArray};
 
 use crate::measures::{depth_of_arr, size_of_arr};
 use crate::mentions::arr_mentions;
 use crate::normal::is_normal_arr;
 use crate::order::compare_arrs;
-use crate::poly::Poly;
 use crate::stop::NoMemory;
+use crate::symbols::{Sort, push_arr};
 use crate::tree::{ArrTree, Base, PolyTree, Pos};
 use std::alloc::Global;
 use std::cmp::Ordering;
@@ -22,13 +23,6 @@ use std::marker::Model;
 #[derive(Drop)]
 pub struct Arr {
     tree: ArrTree,
-}
-
-/// A normal form: a number or an array.
-#[derive(Drop)]
-pub enum Nf {
-    Num(Poly),
-    Arr(Arr),
 }
 
 impl Model for Arr {
@@ -111,7 +105,7 @@ impl Arr {
         &self.tree.writes
     }
 
-    /// A copy. The one refusal is want of memory.
+    /// A copy. The one refusal is out of memory.
     pub fn try_clone(&self, alloc: Global) -> Result<Arr, NoMemory>
         ensures { IfOk result (λ copy. copy ≡ self.now) }
     {
@@ -134,6 +128,15 @@ impl Arr {
         ensures normal { IsNormalArray self.now }
     {
         depth_of_arr(&self.tree)
+    }
+
+    /// The symbols, each with its sort, in the order in which they stand. The one refusal is out of memory.
+    pub fn symbols(&self, alloc: Global) -> Result<Vec<(Pos, Sort)>, NoMemory>
+        ensures { IfOk result (λ v. v.items ≡ symbols_of_array self.now) }
+    {
+        let mut out = Vec::new(alloc);
+        push_arr(&mut out, &self.tree)?;
+        Ok(out)
     }
 
     /// Whether the symbol `p` is the array's base or stands in its writes.

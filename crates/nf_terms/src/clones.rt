@@ -8,7 +8,7 @@ use crate::tree::{ArrTree, Atom, MonoTree, PolyTree};
 use std::alloc::Global;
 
 impl Atom {
-    /// A copy: the same atom. The one refusal is want of memory.
+    /// A copy: the same atom. The one refusal is out of memory.
     #[cycle(clones)]
     pub fn try_clone(&self, alloc: Global) -> Result<Atom, NoMemory>
         ensures { IfOk result (λ copy. atom_in copy ≡ atom_in self.now) }
@@ -35,7 +35,7 @@ impl Atom {
 }
 
 impl MonoTree {
-    /// A copy: the same monomial. The one refusal is want of memory.
+    /// A copy: the same monomial. The one refusal is out of memory.
     #[cycle(clones)]
     pub fn try_clone(&self, alloc: Global) -> Result<MonoTree, NoMemory>
         ensures { IfOk result (λ copy. monomial_in copy ≡ monomial_in self.now) }
@@ -49,7 +49,7 @@ impl MonoTree {
 }
 
 impl PolyTree {
-    /// A copy: the same polynomial. The one refusal is want of memory.
+    /// A copy: the same polynomial. The one refusal is out of memory.
     #[cycle(clones)]
     pub fn try_clone(&self, alloc: Global) -> Result<PolyTree, NoMemory>
         ensures { IfOk result (λ copy. polynomial_in copy ≡ polynomial_in self.now) }
@@ -63,7 +63,7 @@ impl PolyTree {
 }
 
 impl ArrTree {
-    /// A copy: the same array. The one refusal is want of memory.
+    /// A copy: the same array. The one refusal is out of memory.
     #[cycle(clones)]
     pub fn try_clone(&self, alloc: Global) -> Result<ArrTree, NoMemory>
         ensures { IfOk result (λ copy. array_in copy ≡ array_in self.now) }

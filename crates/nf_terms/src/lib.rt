@@ -4,6 +4,8 @@
 pub mod arr;
 pub mod clones;
 pub mod constants;
+pub mod form;
+pub mod limits;
 pub mod measures;
 pub mod mentions;
 pub mod narrow;
@@ -11,7 +13,7 @@ pub mod normal;
 pub mod order;
 pub mod ordered;
 pub mod poly;
+pub mod seq;
 pub mod stop;
-#[cfg(test)]
-mod tests;
+pub mod symbols;
 pub mod tree;

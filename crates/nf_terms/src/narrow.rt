@@ -4,11 +4,9 @@ ghost use Rattle.std.specs.Prelude.{◌≡◌};
 ghost use Rattle.nf_terms.specs.View.{atom_in, monomial_in, polynomial_in, array_in};
 ghost use Rattle.nf_terms.specs.Normal.{is_light as light, narrow_atom, narrow_monomial, narrow_inside, narrow_array};
 
+use crate::limits::WEIGHT_LIMIT;
 use crate::measures::weight_of_poly;
 use crate::tree::{ArrTree, Atom, MonoTree, PolyTree};
-
-/// The most that a polynomial of a normal form weighs.
-pub const WEIGHT_LIMIT: u128 = (1 << 127) - 1;
 
 /// Whether a polynomial itself is within the limit of weight.
 pub fn is_light(poly: &PolyTree) -> bool

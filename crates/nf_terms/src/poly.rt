@@ -5,6 +5,7 @@ ghost use Rattle.nf_terms.specs.Terms.{polynomial_of, polynomial_of_symbol, poly
 ghost use Rattle.nf_terms.specs.View.{polynomial_in, term_in};
 ghost use Rattle.nf_terms.specs.Measures.{size_of, depth_of, weight_of};
 ghost use Rattle.nf_terms.specs.Mentions.{mentions as mentions_of};
+ghost use Rattle.nf_terms.specs.Symbols.{symbols_of};
 ghost use Rattle.nf_terms.specs.Normal.{IsNormal};
 
 use crate::measures::{depth_of_poly, size_of_poly, weight_of_poly};
@@ -12,6 +13,7 @@ use crate::mentions::poly_mentions;
 use crate::normal::is_normal_poly;
 use crate::order::compare_polys;
 use crate::stop::NoMemory;
+use crate::symbols::{Sort, push_poly};
 use crate::tree::{Atom, MonoTree, PolyTree, Pos};
 use std::alloc::Global;
 use std::cmp::Ordering;
@@ -60,7 +62,7 @@ impl Poly {
         Poly { tree }
     }
 
-    /// The polynomial of a symbol alone. The one refusal is want of memory.
+    /// The polynomial of a symbol alone. The one refusal is out of memory.
     #[tactic(auto, using(crate::proofs::Simple::simple))]
     pub fn symbol(alloc: Global, p: Pos) -> Result<Poly, NoMemory>
         ensures { IfOk result (λ s. s ≡ polynomial_of_symbol p) }
@@ -70,7 +72,7 @@ impl Poly {
         })
     }
 
-    /// The polynomial of a number alone, which is not the least `i128`. The one refusal is want of memory.
+    /// The polynomial of a number alone, which is not the least `i128`. The one refusal is out of memory.
     #[tactic(auto, using(crate::proofs::Simple::simple))]
     pub fn number(alloc: Global, c: i128) -> Result<Poly, NoMemory>
         requires { c ≢ neg_ℤ (pos (2 ^ 127)) }
@@ -105,7 +107,7 @@ impl Poly {
         &self.tree.monos
     }
 
-    /// A copy. The one refusal is want of memory.
+    /// A copy. The one refusal is out of memory.
     pub fn try_clone(&self, alloc: Global) -> Result<Poly, NoMemory>
         ensures { IfOk result (λ copy. copy ≡ self.now) }
     {
@@ -137,6 +139,15 @@ impl Poly {
         ensures normal { IsNormal self.now }
     {
         weight_of_poly(&self.tree)
+    }
+
+    /// The symbols, each with its sort, in the order in which they stand. The one refusal is out of memory.
+    pub fn symbols(&self, alloc: Global) -> Result<Vec<(Pos, Sort)>, NoMemory>
+        ensures { IfOk result (λ v. v.items ≡ symbols_of self.now) }
+    {
+        let mut out = Vec::new(alloc);
+        push_poly(&mut out, &self.tree)?;
+        Ok(out)
     }
 
     /// Whether the symbol `p` stands in the polynomial.

@@ -1,0 +1,28 @@
+-- What the operations on normal polynomials give.
+use Rattle.std.specs.Prelude.{ℕ, ◌+◌, ◌*◌, ℤ, unsigned_abs}
+use Rattle.nf_terms.specs.Terms.{Polynomial, polynomial_of_number}
+use Rattle.nf_terms.specs.Measures.{size_of, depth_of, weight_of}
+use Rattle.nf_terms.specs.Computed.{Computed, Done, if_small, if_narrow}
+use Rattle.nf_terms.specs.RawSums.{raw_sum, raw_difference, raw_negation, raw_product}
+use Rattle.nf_sums.specs.Forms.{normal_form}
+
+-- the normal form of a raw sum, where an operation on p and q of this weight and raw size is narrow and small
+abbrev pub operation : (p q : Polynomial) → (weight units : ℕ) → Polynomial → Computed Polynomial
+operation p q weight units raw = if_narrow (weight_of p) (weight_of q) weight (if_small units (depth_of (normal_form raw)) (normal_form raw))
+
+abbrev pub added : Polynomial → Polynomial → Computed Polynomial
+added p q = operation p q (weight_of p + weight_of q) (size_of p + size_of q) (raw_sum p q)
+
+abbrev pub subtracted : Polynomial → Polynomial → Computed Polynomial
+subtracted p q = operation p q (weight_of p + weight_of q) (size_of p + size_of q) (raw_difference p q)
+
+abbrev pub multiplied : Polynomial → Polynomial → Computed Polynomial
+multiplied p q = operation p q (weight_of p * weight_of q) (size_of p * size_of q) (raw_product p q)
+
+-- each coefficient negated: neither too wide nor too large
+abbrev pub negated : Polynomial → Polynomial
+negated p = raw_negation p
+
+-- a number alone, where it weighs no more than a polynomial may
+abbrev pub number : ℤ → Computed Polynomial
+number c = if_narrow (unsigned_abs c) 0 (unsigned_abs c) (Done (polynomial_of_number c))

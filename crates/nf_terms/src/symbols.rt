@@ -1,0 +1,95 @@
+//! The symbols of trees.
+
+ghost use Rattle.std.specs.Prelude.{◌≡◌, ◌++◌, ◌∷◌, [], OnOk};
+ghost use Rattle.nf_terms.specs.View.{atom_in, monomial_in, polynomial_in, array_in};
+ghost use Rattle.nf_terms.specs.Symbols.{symbols_of_base, symbols_of_atom, symbols_of_monomial, symbols_of, symbols_of_array};
+
+use crate::stop::NoMemory;
+use crate::tree::{ArrTree, Atom, Base, MonoTree, PolyTree, Pos};
+
+/// In which sort a symbol is used.
+#[derive(Clone, Copy, Debug, PartialEq, Eq)]
+pub enum Sort {
+    Scalar,
+    Array,
+    List,
+}
+
+/// Adds a symbol. The one refusal is out of memory.
+pub(crate) fn push_symbol(
+    out: &mut Vec<(Pos, Sort)>,
+    p: &Pos,
+    sort: Sort,
+) -> Result<(), NoMemory>
+    ensures { OnOk result (out.new.items ≡ out.old.items ++ (p.now, sort) ∷ []) }
+{
+    out.push((*p, sort))?;
+    Ok(())
+}
+
+/// Adds the symbol of a base, if it has one. The one refusal is out of memory.
+pub(crate) fn push_base(out: &mut Vec<(Pos, Sort)>, base: &Base) -> Result<(), NoMemory>
+    ensures { OnOk result (out.new.items ≡ out.old.items ++ symbols_of_base base.now) }
+{
+    match base {
+        Base::Zero => Ok(()),
+        Base::Sym(p) => push_symbol(out, p, Sort::Array),
+    }
+}
+
+/// Adds the symbols of an atom, in order. The one refusal is out of memory.
+#[cycle(symbols)]
+pub(crate) fn push_atom(out: &mut Vec<(Pos, Sort)>, atom: &Atom) -> Result<(), NoMemory>
+    ensures { OnOk result (out.new.items ≡ out.old.items ++ symbols_of_atom (atom_in atom.now)) }
+{
+    match atom {
+        Atom::Sym(p) => push_symbol(out, p, Sort::Scalar),
+        Atom::Read(array, index) => {
+            push_arr(out, array)?;
+            push_poly(out, index)
+        }
+        Atom::Div(left, right) => {
+            push_poly(out, left)?;
+            push_poly(out, right)
+        }
+        Atom::Rem(left, right) => {
+            push_poly(out, left)?;
+            push_poly(out, right)
+        }
+    }
+}
+
+/// Adds the symbols of a monomial, in order. The one refusal is out of memory.
+#[cycle(symbols)]
+pub(crate) fn push_mono(out: &mut Vec<(Pos, Sort)>, mono: &MonoTree) -> Result<(), NoMemory>
+    ensures { OnOk result (out.new.items ≡ out.old.items ++ symbols_of_monomial (monomial_in mono.now)) }
+{
+    for atom in &mono.atoms {
+        push_atom(out, atom)?;
+    }
+    Ok(())
+}
+
+/// Adds the symbols of a polynomial, in order. The one refusal is out of memory.
+#[cycle(symbols)]
+pub(crate) fn push_poly(out: &mut Vec<(Pos, Sort)>, poly: &PolyTree) -> Result<(), NoMemory>
+    ensures { OnOk result (out.new.items ≡ out.old.items ++ symbols_of (polynomial_in poly.now)) }
+{
+    for (mono, _coefficient) in &poly.monos {
+        push_mono(out, mono)?;
+    }
+    Ok(())
+}
+
+/// Adds the symbols of an array, in order. The one refusal is out of memory.
+#[cycle(symbols)]
+pub(crate) fn push_arr(out: &mut Vec<(Pos, Sort)>, arr: &ArrTree) -> Result<(), NoMemory>
+    ensures { OnOk result (out.new.items ≡ out.old.items ++ symbols_of_array (array_in arr.now)) }
+{
+    push_base(out, &arr.base)?;
+    for (index, value) in &arr.writes {
+        push_poly(out, index)?;
+        push_poly(out, value)?;
+    }
+    Ok(())
+}
