@@ -1,5 +1,5 @@
 -- Which terms are normal.
-use Rattle.std.specs.Prelude.{◌≤◌, ℤ, pos, nat_le, int_lt, Bool, true, false, ◌&&◌, ◌||◌, not, IsTrue}
+use Rattle.std.specs.Prelude.{◌≤◌, ℤ, pos, ◌+ℤ◌, nat_le, int_lt, Bool, true, false, ◌&&◌, ◌||◌, not, IsTrue}
 use Rattle.std.specs.Ordering.{is_lt, is_le, int_eq}
 use Rattle.nf_terms.specs.Terms.{Atom, Monomial, Polynomial, ArrayTerm, Writes, Symbol, Read, Quotient, Remainder, One, Times, Zero, Plus, Over, NoWrites, Write}
 use Rattle.nf_terms.specs.Limits.{weight_limit, size_limit, depth_limit}
@@ -28,6 +28,12 @@ abbrev pub constant_part : Polynomial → ℤ
 constant_part Zero = pos 0
 constant_part (Plus One c p) = c
 constant_part (Plus (Times a m) c p) = constant_part p
+
+-- the coefficients of all monomials without atoms together: of a polynomial in order its constant part
+abbrev pub constant_sum : Polynomial → ℤ
+constant_sum Zero = pos 0
+constant_sum (Plus One c p) = c +ℤ constant_sum p
+constant_sum (Plus (Times a m) c p) = constant_sum p
 
 -- whether no monomial has an atom
 abbrev pub is_constant : Polynomial → Bool

@@ -1,7 +1,7 @@
 -- The tidied form of an array.
 use Rattle.std.specs.Prelude.{Bool, ◌&&◌, cond, int_lt}
 use Rattle.nf_terms.specs.Terms.{Polynomial, ArrayTerm, Writes, Over, NoWrites, Write}
-use Rattle.nf_terms.specs.Normal.{differ_by_constant, constant_part, is_written}
+use Rattle.nf_terms.specs.Normal.{differ_by_constant, constant_sum, is_written}
 
 -- the writes whose index no later write has
 abbrev pub last_writes : Writes → Writes
@@ -10,7 +10,7 @@ last_writes (Write i v ws) = cond (is_written i ws) (last_writes ws) (Write i v 
 
 -- whether i and j differ by a constant, and j is the lower one
 abbrev pub goes_after : Polynomial → Polynomial → Bool
-goes_after i j = differ_by_constant i j && int_lt (constant_part j) (constant_part i)
+goes_after i j = differ_by_constant i j && int_lt (constant_sum j) (constant_sum i)
 
 -- a write in its place in the stretch at the beginning
 abbrev pub with_write : Polynomial → Polynomial → Writes → Writes
