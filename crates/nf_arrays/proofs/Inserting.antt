@@ -8,7 +8,7 @@ use Rattle.nf_terms.specs.Normal.{ordered, ordered_writes, is_written}
 use Rattle.nf_sums.proofs.Sorted.{and_left, and_right, and_both}
 use Rattle.nf_terms.specs.declared.tree.Base.{Base}
 use Rattle.nf_terms.specs.declared.tree.PolyTree.{PolyTree}
-use Rattle.nf_forms.specs.Tidied.{goes_after, with_write, rising_stretches, last_writes, tidied}
+use Rattle.nf_terms.specs.Tidied.{goes_after, with_write, rising_stretches, last_writes, tidied}
 use Rattle.nf_arrays.specs.Writes.{written_last, with_last_write, indices_ordered}
 use Rattle.nf_arrays.proofs.Tidy.{tidy_write}
 use Rattle.nf_arrays.proofs.Stopping.{writes_in, index_at}

@@ -3,9 +3,10 @@ use Rattle.std.proofs.Common.{◌≡◌, ◌<◌, ◌^◌, ◌≤◌, ℤ, Bool,
 use Rattle.std.proofs.lemmas.Bool.{leb-true}
 use Rattle.nf_terms.specs.Terms.{Polynomial, Quotient, Remainder, One, Times, Zero, Plus}
 use Rattle.nf_terms.specs.Measures.{weight_of}
-use Rattle.nf_terms.specs.Normal.{IsNormal, ordered, is_constant, constant_part, is_light, narrow_inside, weight_limit}
+use Rattle.nf_terms.specs.Normal.{IsNormal, ordered, is_constant, constant_part, is_light, narrow_inside}
+use Rattle.nf_terms.specs.Limits.{weight_limit}
 use Rattle.nf_sums.proofs.Sorted.{and_left, and_both}
-use Rattle.nf_forms.specs.Operations.{constant_sum}
+use Rattle.nf_terms.specs.Normal.{constant_sum}
 use Rattle.nf_forms.proofs.Constants.{constant_is}
 use Rattle.nf_arrays.specs.Atoms.{IsNewAtom}
 

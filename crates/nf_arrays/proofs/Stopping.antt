@@ -9,12 +9,12 @@ use Rattle.nf_terms.specs.Normal.{IsNormal, IsNormalArray, ordered, ordered_writ
 use Rattle.std.specs.Prelude.{int_lt}
 use Rattle.std.specs.Ordering.{int_eq}
 use Rattle.std.specs.Cmp.{signed_Decides}
-use Rattle.nf_forms.specs.Operations.{constant_sum}
+use Rattle.nf_terms.specs.Normal.{constant_sum}
 use Rattle.nf_forms.proofs.Constants.{same_of_equal, equal_of_same, equal_by_sums, constant_is}
-use Rattle.nf_forms.specs.Tidied.{goes_after}
+use Rattle.nf_terms.specs.Tidied.{goes_after}
 use Rattle.nf_terms.specs.declared.tree.Base.{Base}
 use Rattle.nf_terms.specs.declared.tree.Base.TheVariants as starts
-use Rattle.nf_forms.specs.Computed.{Done}
+use Rattle.nf_terms.specs.Computed.{Done}
 use Rattle.nf_arrays.specs.Atoms.{new_atom}
 use Rattle.nf_arrays.proofs.Tidy.{tidy_write, last_normal, prefix_normal}
 use Rattle.nf_terms.specs.View.{polynomial_in, write_in}

@@ -3,9 +3,10 @@ use Rattle.std.specs.Prelude.{◌+◌, ◌*◌, ◌≤◌, ◌&&◌, IsTrue, con
 use Rattle.integers.specs.Division.{quotient, remainder}
 use Rattle.nf_terms.specs.Terms.{Atom, Polynomial, Quotient, Remainder, One, Times, Zero, Plus, polynomial_of_number}
 use Rattle.nf_terms.specs.Measures.{size_of, depth_of, size_of_atom, depth_of_atom}
-use Rattle.nf_terms.specs.Normal.{ordered_atom, narrow_atom, size_limit, depth_limit, is_constant}
-use Rattle.nf_forms.specs.Computed.{Computed, Done, if_small}
-use Rattle.nf_forms.specs.Operations.{constant_sum}
+use Rattle.nf_terms.specs.Normal.{ordered_atom, narrow_atom, is_constant}
+use Rattle.nf_terms.specs.Limits.{size_limit, depth_limit}
+use Rattle.nf_terms.specs.Computed.{Computed, Done, if_small}
+use Rattle.nf_terms.specs.Normal.{constant_sum}
 
 -- an atom alone
 abbrev pub polynomial_of_atom : Atom → Polynomial

@@ -6,9 +6,9 @@ use Rattle.nf_terms.specs.Order.{same_polynomial}
 use Rattle.nf_terms.specs.Measures.{size_of, size_of_array, depth_of_array}
 use Rattle.nf_terms.specs.Normal.{differ_by_constant, ordered, last_index}
 use Rattle.nf_terms.specs.declared.tree.Base.TheVariants as base
-use Rattle.nf_forms.specs.Computed.{Computed, Done, if_small}
-use Rattle.nf_forms.specs.Operations.{constant_sum}
-use Rattle.nf_forms.specs.Tidied.{tidied}
+use Rattle.nf_terms.specs.Computed.{Computed, Done, if_small}
+use Rattle.nf_terms.specs.Normal.{constant_sum}
+use Rattle.nf_terms.specs.Tidied.{tidied}
 use Rattle.nf_arrays.specs.Atoms.{new_atom}
 
 -- one more write behind the others

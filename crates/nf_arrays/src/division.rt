@@ -4,8 +4,8 @@ ghost use Rattle.std.specs.Prelude.{◌≡◌, ◌^◌, ◌<◌, true, false, un
 ghost use Rattle.integers.specs.Division.{quotient as quotient_in, remainder as remainder_in};
 ghost use Rattle.nf_terms.specs.Terms.{polynomial_of_number};
 ghost use Rattle.nf_terms.specs.Normal.{is_constant};
-ghost use Rattle.nf_forms.specs.Computed.{Answers, Done};
-ghost use Rattle.nf_forms.specs.Operations.{constant_sum};
+ghost use Rattle.nf_terms.specs.Computed.{Answers, Done};
+ghost use Rattle.nf_terms.specs.Normal.{constant_sum};
 ghost use Rattle.nf_arrays.specs.Atoms.{divided, remainder_of};
 
 use crate::atoms::new_atom;

@@ -5,8 +5,8 @@ ghost use Rattle.integers.specs.Division.{quotient, remainder};
 ghost use Rattle.nf_terms.specs.Terms.{Polynomial, ArrayTerm};
 ghost use Rattle.nf_terms.specs.Meaning.{Valuation, value_of, contents, written as stored};
 ghost use Rattle.nf_terms.specs.Normal.{IsNormal, IsNormalArray};
-ghost use Rattle.nf_forms.specs.Computed.{Done};
-ghost use Rattle.nf_forms.specs.Tidied.{tidied};
+ghost use Rattle.nf_terms.specs.Computed.{Done};
+ghost use Rattle.nf_terms.specs.Tidied.{tidied};
 ghost use Rattle.nf_arrays.specs.Atoms.{divided, remainder_of};
 ghost use Rattle.nf_arrays.specs.Writes.{read_at, written};
 

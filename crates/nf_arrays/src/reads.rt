@@ -5,7 +5,7 @@ ghost use Rattle.nf_terms.specs.Terms.{writes_of, Over, Read};
 ghost use Rattle.nf_terms.specs.View.{polynomial_in, write_in};
 ghost use Rattle.nf_terms.specs.Order.{same_polynomial};
 ghost use Rattle.nf_terms.specs.Normal.{IsNormalArray, ordered, ordered_writes, stays_read};
-ghost use Rattle.nf_forms.specs.Computed.{Answers};
+ghost use Rattle.nf_terms.specs.Computed.{Answers};
 ghost use Rattle.nf_arrays.specs.Atoms.{new_atom as new_atom_of};
 ghost use Rattle.nf_arrays.specs.Writes.{are_apart, prefix_for, read_here, read_at};
 

@@ -4,15 +4,15 @@ ghost use Rattle.std.specs.Prelude.{◌≡◌, ◌≤◌, ◌++◌, ◌∷◌, m
 ghost use Rattle.nf_terms.specs.Terms.{Polynomial, Over, writes_of};
 ghost use Rattle.nf_terms.specs.View.{polynomial_in, array_in, write_in};
 ghost use Rattle.nf_terms.specs.Normal.{ordered, ordered_writes};
-ghost use Rattle.nf_forms.specs.Computed.{Answers};
-ghost use Rattle.nf_forms.specs.Tidied.{goes_after, with_write, rising_stretches, last_writes, tidied};
+ghost use Rattle.nf_terms.specs.Computed.{Answers};
+ghost use Rattle.nf_terms.specs.Tidied.{goes_after, with_write, rising_stretches, last_writes, tidied};
 ghost use Rattle.nf_arrays.specs.Writes.{written_last, with_last_write, indices_ordered, written};
 
 use crate::reads::is_same;
 use nf_terms::arr::Arr;
 use nf_terms::constants::{constant_part, differs_by_constant};
 use nf_terms::measures::depth_of_arr;
-use nf_terms::normal::{DEPTH_LIMIT, SIZE_LIMIT};
+use nf_terms::limits::{DEPTH_LIMIT, SIZE_LIMIT};
 use nf_terms::poly::Poly;
 use nf_terms::stop::{NfStop, NoMemory};
 use nf_terms::tree::{ArrTree, Base, PolyTree};

@@ -15,7 +15,7 @@ use Rattle.integers.proofs.Ring.{add-mul_z}
 use Rattle.nf_sums.specs.OrderedSums.{worth_of, IgnoresOrder, fits, fits_monomial}
 use Rattle.nf_sums.proofs.Sorted.{and_left, and_right, and_both}
 use Rattle.nf_sums.proofs.Bags.{size_worth, size_ignores, fits_ignores, fits_again}
-use Rattle.nf_forms.specs.Forms.{sorted_monomial, plus, by_order, with_term, normal_form}
+use Rattle.nf_sums.specs.Forms.{sorted_monomial, plus, by_order, with_term, normal_form}
 use Rattle.nf_forms.proofs.Sorting.{sorting_ignored, sorted_stays, sorted_ordered, atoms_ordered}
 
 -- one of two by a test, and a fact of each

@@ -11,7 +11,7 @@ use Rattle.nf_terms.specs.Order.{degree, cmp_atoms, cmp_polynomial, same_polynom
 use Rattle.nf_terms.specs.TermKeys.{polynomial_ties, polynomial_same}
 use Rattle.nf_terms.specs.Normal.{ordered, part_with_atoms, constant_part, differ_by_constant}
 use Rattle.nf_terms.specs.RawSums.{raw_sum}
-use Rattle.nf_forms.specs.Operations.{constant_sum}
+use Rattle.nf_terms.specs.Normal.{constant_sum}
 use Rattle.nf_forms.proofs.Collecting.{first_rises, not_zero, rest_ordered}
 
 tie : (r : Ordering) → is_eq r ≡ true → r ≡ Equal

@@ -5,7 +5,8 @@ use Rattle.std.proofs.lemmas.Bool.{leb-true, le-leb}
 use Rattle.nf_terms.specs.Terms.{Polynomial}
 use Rattle.nf_terms.specs.Measures.{size_of, weight_of, depth_of}
 use Rattle.nf_terms.specs.Meaning.{value_of}
-use Rattle.nf_terms.specs.Normal.{IsNormal, weight_limit, size_limit, depth_limit}
+use Rattle.nf_terms.specs.Normal.{IsNormal}
+use Rattle.nf_terms.specs.Limits.{weight_limit, size_limit, depth_limit}
 use Rattle.nf_terms.specs.RawSums.{raw_sum, raw_negation, raw_difference, raw_product, IsNormalFormOf}
 use Rattle.nf_terms.specs.declared.stop.NfStop.{NfStop}
 use Rattle.nf_terms.specs.declared.stop.NfStop.TheVariants as stop
@@ -16,9 +17,9 @@ use Rattle.nf_sums.proofs.Terms.{size-sum, weight-sum, fits-sum}
 use Rattle.nf_sums.proofs.Worth.{worth-sum}
 use Rattle.nf_sums.proofs.Forms.{negation_normal, negation_weight, negation_size, sum_form, product_form}
 use Rattle.nf_sums.proofs.Unique.{normal_forms_equal}
-use Rattle.nf_forms.specs.Computed.{Done, Wide, Large, IfDone, Answers, if_small}
-use Rattle.nf_forms.specs.Forms.{normal_form}
-use Rattle.nf_forms.specs.Operations.{operation, added, subtracted, multiplied}
+use Rattle.nf_terms.specs.Computed.{Done, Wide, Large, IfDone, Answers, if_small}
+use Rattle.nf_sums.specs.Forms.{normal_form}
+use Rattle.nf_sums.specs.Operations.{operation, added, subtracted, multiplied}
 use Rattle.nf_forms.proofs.Collecting.{worth-form, worth-form_ordered, form_ordered, size-form, weight-form, fits-form}
 use Rattle.nf_forms.proofs.Products.{size-product, weight-product, fits-product, monomials_of_ordered, monomials_of_sum, atoms_of_monomials, atoms_of_product}
 

@@ -10,7 +10,7 @@ use Rattle.nf_terms.specs.RawSums.{joined}
 use Rattle.nf_terms.specs.Comparison.{atoms_total}
 use Rattle.nf_sums.specs.OrderedSums.{IgnoresOrder}
 use Rattle.nf_sums.proofs.Sorted.{and_left, and_right, and_both}
-use Rattle.nf_forms.specs.Forms.{with_atom, sorted_monomial}
+use Rattle.nf_sums.specs.Forms.{with_atom, sorted_monomial}
 
 -- one of two by a test, and a fact of each
 by_test : {T : Type 0} (P : T → Type 0) (x y : T) (b : Bool) → (b ≡ true → P x) → (b ≡ false → P y) → P (cond b x y)

@@ -1,4 +1,0 @@
-pub mod Computed
-pub mod Forms
-pub mod Operations
-pub mod Tidied

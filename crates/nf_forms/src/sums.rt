@@ -1,7 +1,7 @@
 //! Sums, differences, products and numbers, exactly.
 
-ghost use Rattle.nf_forms.specs.Computed.{Answers};
-ghost use Rattle.nf_forms.specs.Operations.{added, subtracted, multiplied, number as number_of};
+ghost use Rattle.nf_terms.specs.Computed.{Answers};
+ghost use Rattle.nf_sums.specs.Operations.{added, subtracted, multiplied, number as number_of};
 
 use nf_sums::sums;
 use nf_terms::poly::Poly;

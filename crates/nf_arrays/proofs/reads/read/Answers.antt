@@ -1,5 +1,5 @@
 use Rattle.std.proofs.Common.{ap, subst, ◌∙◌}
-use Rattle.nf_forms.specs.Computed.{Answers}
+use Rattle.nf_terms.specs.Computed.{Answers}
 use Rattle.nf_arrays.specs.Writes.{prefix_for}
 use Rattle.nf_arrays.proofs.Stopping.{writes_in, stopped_normal, stopped_again, read_whole}
 use Rattle.nf_arrays.proofs.reads.read.Goals as goal

@@ -2,7 +2,7 @@ use Rattle.std.proofs.Common.{ap, sym, subst, ◌∙◌}
 use Rattle.nf_terms.specs.View.{polynomial_in}
 use Rattle.nf_terms.specs.Order.{same_polynomial}
 use Rattle.nf_terms.specs.Normal.{IsNormal}
-use Rattle.nf_forms.specs.Computed.{Answers, Done}
+use Rattle.nf_terms.specs.Computed.{Answers, Done}
 use Rattle.nf_arrays.proofs.Stopping.{value_normal, read_same, read_other, stays_other}
 use Rattle.nf_arrays.proofs.reads.read_stopped.Goals as goal
 

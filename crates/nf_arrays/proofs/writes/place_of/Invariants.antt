@@ -1,7 +1,7 @@
 use Rattle.std.proofs.Common.{◌≡◌, map, take, drop}
 use Rattle.nf_terms.specs.Terms.{Polynomial}
 use Rattle.nf_terms.specs.View.{polynomial_in, write_in}
-use Rattle.nf_forms.specs.Tidied.{with_write}
+use Rattle.nf_terms.specs.Tidied.{with_write}
 use Rattle.nf_arrays.proofs.Inserting.{followed}
 use Rattle.nf_arrays.proofs.Stopping.{writes_in}
 use Rattle.nf_arrays.proofs.writes.place_of.Given as goal

@@ -1,5 +1,5 @@
 use Rattle.std.proofs.Common.{◌∙◌}
-use Rattle.nf_forms.specs.Tidied.{rising_stretches, last_writes}
+use Rattle.nf_terms.specs.Tidied.{rising_stretches, last_writes}
 use Rattle.nf_arrays.specs.Writes.{written_last}
 use Rattle.nf_arrays.proofs.Inserting.{write_whole}
 use Rattle.nf_arrays.proofs.Stopping.{writes_in}
