@@ -11,7 +11,7 @@ use Rattle.nf_terms.specs.Limits.{size_limit, weight_limit}
 use Rattle.nf_terms.specs.Normal.{IsNormal, ordered, monomial_rises, is_light, narrow_inside, narrow_monomial}
 use Rattle.nf_terms.specs.RawSums.{raw_sum, raw_negation, raw_product, IsNormalFormOf}
 use Rattle.nf_sums.specs.OrderedSums.{worth_of, fits, IsOrderedSum, IsOrderedProduct}
-use Rattle.nf_sums.proofs.Sorted.{and_both}
+use Rattle.nf_terms.proofs.Tests.{and_both}
 use Rattle.nf_sums.proofs.Worth.{worth-sum, worth-negation, value_worth, total_worth, one_for, value-product}
 use Rattle.nf_sums.proofs.Bags.{bag_ignores, value_ignores}
 use Rattle.nf_sums.proofs.Within.{narrow_of, shallow_of, normal_fits}

@@ -10,3 +10,7 @@ pub mod Within
 pub mod Forms
 pub mod Negations
 pub mod Unique
+pub mod Sorting
+pub mod Collecting
+pub mod RawProducts
+pub mod Exact

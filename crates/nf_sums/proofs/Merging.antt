@@ -8,7 +8,8 @@ use Rattle.nf_terms.specs.Terms.{Monomial}
 use Rattle.nf_terms.specs.Comparison.{monomials_total}
 use Rattle.nf_terms.specs.Normal.{ordered_monomial}
 use Rattle.nf_sums.specs.OrderedSums.{fits_monomial}
-use Rattle.nf_sums.proofs.Sorted.{and_right, and_both, follows, good_of, sorted_move, sorted_insert, sorted_drop, sorted_change, back_of}
+use Rattle.nf_terms.proofs.Tests.{and_right, and_both}
+use Rattle.nf_sums.proofs.Sorted.{follows, good_of, sorted_move, sorted_insert, sorted_drop, sorted_change, back_of}
 use Rattle.nf_sums.proofs.Terms.{Rises, good_term, before_term, term_worth, term_size, term_weight, terms_fit, term_worth-append, term_size-append, term_weight-append, terms_fit-append}
 use Rattle.integers.proofs.Ring.{add-mul_z}
 

@@ -14,7 +14,8 @@ use Rattle.nf_terms.specs.RawSums.{raw_sum, raw_product, joined}
 use Rattle.nf_terms.specs.declared.tree.MonoTree.{MonoTree}
 use Rattle.nf_terms.specs.declared.stop.NoMemory.{NoMemory}
 use Rattle.nf_sums.specs.OrderedSums.{worth_of, fits, fits_monomial, IsOrderedJoin, IsOrderedSum, IsOrderedProduct}
-use Rattle.nf_sums.proofs.Sorted.{and_left, and_right, and_both, front_of, back_of}
+use Rattle.nf_terms.proofs.Tests.{and_left, and_right, and_both}
+use Rattle.nf_sums.proofs.Sorted.{front_of, back_of}
 use Rattle.nf_sums.proofs.Worth.{worth-product_left, worth-product_right}
 use Rattle.nf_sums.proofs.Bags.{size_worth, size_ignores, size-joined, fits_worth, fits_ignores, fits_again, fits-joined}
 use Rattle.nf_sums.proofs.Terms.{Rises, rises_of, ordered_of, good_term, before_term, polynomial_of-append, size-sum, weight-sum, fits-sum}

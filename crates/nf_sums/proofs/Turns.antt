@@ -14,7 +14,7 @@ use Rattle.nf_terms.specs.TermKeys.{monomial_ties}
 use Rattle.nf_terms.specs.Comparison.{monomials_total}
 use Rattle.nf_terms.specs.declared.tree.MonoTree.{MonoTree}
 use Rattle.nf_sums.specs.OrderedSums.{IsOrderedSum, term_unless_zero}
-use Rattle.nf_sums.proofs.Sorted.{and_left}
+use Rattle.nf_terms.proofs.Tests.{and_left}
 use Rattle.nf_sums.proofs.Terms.{rises_of, ordered_of, terms_fit}
 use Rattle.nf_sums.proofs.Merging.{Merging, merge_left, merge_right, merge_none, merge_both}
 

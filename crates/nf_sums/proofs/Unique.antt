@@ -12,7 +12,7 @@ use Rattle.nf_terms.specs.TermKeys.{atom_ties, atom_same, monomial_ties, monomia
 use Rattle.nf_terms.specs.Comparison.{atoms_total, monomials_total}
 use Rattle.nf_terms.specs.Normal.{IsNormal, ordered, ordered_atom, ordered_monomial, atom_rises, monomial_rises}
 use Rattle.nf_terms.specs.RawSums.{occurrences, as_often, same_bag, total, SameSum}
-use Rattle.nf_sums.proofs.Sorted.{and_left, and_right}
+use Rattle.nf_terms.proofs.Tests.{and_left, and_right}
 
 -- ---- monomials with the same atoms
 

@@ -6,7 +6,7 @@ use Rattle.nf_terms.specs.Measures.{depth_of, depth_of_atom, depth_of_monomial}
 use Rattle.nf_terms.specs.Limits.{depth_limit}
 use Rattle.nf_terms.specs.Normal.{IsNormal, narrow_atom, narrow_monomial, narrow_inside, is_light}
 use Rattle.nf_sums.specs.OrderedSums.{fits, fits_atom, fits_monomial}
-use Rattle.nf_sums.proofs.Sorted.{and_left, and_right, and_both}
+use Rattle.nf_terms.proofs.Tests.{and_left, and_right, and_both}
 
 fits_in : (m : Monomial) → narrow_monomial m ≡ true → depth_of_monomial m ≤ depth_limit → fits_monomial m ≡ true
 fits_in One n d = refl

@@ -6,7 +6,7 @@ ghost use Rattle.nf_terms.specs.View.{atom_in, monomial_in};
 ghost use Rattle.nf_terms.specs.Normal.{ordered_monomial};
 ghost use Rattle.nf_sums.specs.OrderedSums.{IsOrderedJoin};
 
-use crate::copies::push_atom;
+use nf_terms::copies::push_atom_copy;
 use nf_terms::order::compare_atoms;
 use nf_terms::stop::NoMemory;
 use nf_terms::tree::{Atom, MonoTree};
@@ -26,21 +26,21 @@ fn merged_atoms(alloc: Global, l: &[Atom], r: &[Atom]) -> Result<Vec<Atom>, NoMe
             None => match r.get(j) {
                 None => break 'merge,
                 Some(atom) => {
-                    push_atom(alloc, &mut out, atom)?;
+                    push_atom_copy(alloc, &mut out, atom)?;
                     j += 1;
                 }
             },
             Some(atom) => match r.get(j) {
                 None => {
-                    push_atom(alloc, &mut out, atom)?;
+                    push_atom_copy(alloc, &mut out, atom)?;
                     i += 1;
                 }
                 Some(other) => {
                     if compare_atoms(atom, other).is_le() {
-                        push_atom(alloc, &mut out, atom)?;
+                        push_atom_copy(alloc, &mut out, atom)?;
                         i += 1;
                     } else {
-                        push_atom(alloc, &mut out, other)?;
+                        push_atom_copy(alloc, &mut out, other)?;
                         j += 1;
                     }
                 }

@@ -1,7 +1,6 @@
 //! Sums and products of normal forms.
 #![tactic(auto)]
 
-mod copies;
 mod join;
 pub mod laws;
 mod limits;
@@ -9,5 +8,3 @@ mod merge;
 mod negation;
 mod product;
 pub mod sums;
-#[cfg(test)]
-mod tests;

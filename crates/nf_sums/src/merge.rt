@@ -8,7 +8,7 @@ ghost use Rattle.nf_terms.specs.Limits.{weight_limit};
 ghost use Rattle.nf_terms.specs.Normal.{ordered};
 ghost use Rattle.nf_sums.specs.OrderedSums.{IsOrderedSum, term_unless_zero};
 
-use crate::copies::push_copy;
+use nf_terms::copies::push_term_copy;
 use nf_terms::order::compare_monos;
 use nf_terms::stop::NoMemory;
 use nf_terms::tree::MonoTree;
@@ -30,7 +30,7 @@ fn push_sum(
     if sum == 0 {
         return Ok(());
     }
-    push_copy(alloc, out, mono, &sum)
+    push_term_copy(alloc, out, mono, &sum)
 }
 
 /// The sum of two ordered lists of terms, whose weights together are within the limit.
@@ -53,22 +53,22 @@ pub fn merged(
             None => match r.get(j) {
                 None => break 'merge,
                 Some((mono, coefficient)) => {
-                    push_copy(alloc, &mut out, mono, coefficient)?;
+                    push_term_copy(alloc, &mut out, mono, coefficient)?;
                     j += 1;
                 }
             },
             Some((mono, coefficient)) => match r.get(j) {
                 None => {
-                    push_copy(alloc, &mut out, mono, coefficient)?;
+                    push_term_copy(alloc, &mut out, mono, coefficient)?;
                     i += 1;
                 }
                 Some((other, more)) => match compare_monos(mono, other) {
                     Ordering::Less => {
-                        push_copy(alloc, &mut out, mono, coefficient)?;
+                        push_term_copy(alloc, &mut out, mono, coefficient)?;
                         i += 1;
                     }
                     Ordering::Greater => {
-                        push_copy(alloc, &mut out, other, more)?;
+                        push_term_copy(alloc, &mut out, other, more)?;
                         j += 1;
                     }
                     Ordering::Equal => {

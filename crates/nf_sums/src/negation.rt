@@ -7,7 +7,7 @@ ghost use Rattle.nf_terms.specs.Measures.{weight_of};
 ghost use Rattle.nf_terms.specs.Limits.{weight_limit};
 ghost use Rattle.nf_terms.specs.RawSums.{raw_negation};
 
-use crate::copies::push_copy;
+use nf_terms::copies::push_term_copy;
 use nf_terms::stop::NoMemory;
 use nf_terms::tree::MonoTree;
 use std::alloc::Global;
@@ -23,7 +23,7 @@ fn push_negated(
     ensures { OnOk result (map term_in out.new.items ≡ map term_in out.old.items ++ (monomial_in mono.now, neg_ℤ coefficient.now) ∷ []) }
 {
     let negated = -*coefficient;
-    push_copy(alloc, out, mono, &negated)
+    push_term_copy(alloc, out, mono, &negated)
 }
 
 /// The negation of a list of terms.

@@ -8,9 +8,9 @@ ghost use Rattle.nf_terms.specs.Limits.{weight_limit};
 ghost use Rattle.nf_terms.specs.Normal.{ordered};
 ghost use Rattle.nf_sums.specs.OrderedSums.{IsOrderedProduct};
 
-use crate::copies::push_term;
 use crate::join::joined;
 use crate::merge::merged;
+use nf_terms::copies::push_term;
 use nf_terms::stop::NoMemory;
 use nf_terms::tree::MonoTree;
 use std::alloc::Global;

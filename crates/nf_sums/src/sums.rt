@@ -1,13 +1,14 @@
 //! Sums and products of normal polynomials.
 
-ghost use Rattle.std.specs.Prelude.{◌≡◌, ◌+◌, ◌*◌, ◌≤◌, ◌+ℤ◌, ◌-ℤ◌, ◌*ℤ◌, neg_ℤ, true, false, map, IfOk, MatchOption};
+ghost use Rattle.std.specs.Prelude.{◌≡◌, ◌+◌, ◌*◌, true, false, map, IfOk, MatchOption};
 ghost use Rattle.nf_terms.specs.Terms.{polynomial_of};
 ghost use Rattle.nf_terms.specs.View.{term_in};
 ghost use Rattle.nf_terms.specs.Measures.{size_of, weight_of};
-ghost use Rattle.nf_terms.specs.Meaning.{Valuation, value_of};
+ghost use Rattle.nf_terms.specs.Computed.{Answers};
 ghost use Rattle.nf_terms.specs.Normal.{IsNormal, constant_part as constant_of_polynomial, is_constant as constant};
-ghost use Rattle.nf_terms.specs.RawSums.{raw_sum, raw_difference, raw_product, raw_negation, IsNormalFormOf};
-ghost use Rattle.nf_sums.specs.Events.{IsNarrow, IsSmall, StopsAtEvent};
+ghost use Rattle.nf_terms.specs.RawSums.{raw_sum, raw_product, IsNormalFormOf};
+ghost use Rattle.nf_sums.specs.Events.{IsNarrow, IsSmall};
+ghost use Rattle.nf_sums.specs.Operations.{added, subtracted, multiplied as product_of, negated as negated_of, number as number_of};
 
 use crate::limits::check_limits;
 use crate::merge::merged;
@@ -32,7 +33,7 @@ pub fn constant_of(p: &Poly) -> Option<i128>
     }
 }
 
-/// The polynomial of a normal list of terms.
+// The polynomial of a normal list of terms.
 fn from_terms(monos: Vec<(MonoTree, i128)>) -> Poly
     requires { IsNormal (polynomial_of (map term_in monos.items)) }
     ensures { result ≡ polynomial_of (map term_in monos.items) }
@@ -40,23 +41,21 @@ fn from_terms(monos: Vec<(MonoTree, i128)>) -> Poly
     Poly::from_normal(PolyTree { monos })
 }
 
-/// A sum that is narrow and small.
+// A sum that is narrow and small.
 fn narrow_sum(alloc: Global, l: &Poly, r: &Poly) -> Result<Poly, NoMemory>
     requires narrow { IsNarrow (weight_of l.now + weight_of r.now) }
     requires small { IsSmall (size_of l.now + size_of r.now) }
-    ensures form { IfOk result (λ p. IsNormalFormOf p (raw_sum l.now r.now)) }
-    ensures value { IfOk result (λ p. (w : Valuation) → value_of w p ≡ value_of w l.now +ℤ value_of w r.now) }
+    ensures { IfOk result (λ p. IsNormalFormOf p (raw_sum l.now r.now)) }
 {
     let terms = merged(alloc, l.monos(), r.monos())?;
     Ok(from_terms(terms))
 }
 
-/// A product that is narrow and small.
+// A product that is narrow and small.
 fn narrow_product(alloc: Global, l: &Poly, r: &Poly) -> Result<Poly, NoMemory>
     requires narrow { IsNarrow (weight_of l.now * weight_of r.now) }
     requires small { IsSmall (size_of l.now * size_of r.now) }
-    ensures form { IfOk result (λ p. IsNormalFormOf p (raw_product l.now r.now)) }
-    ensures value { IfOk result (λ p. (w : Valuation) → value_of w p ≡ value_of w l.now *ℤ value_of w r.now) }
+    ensures { IfOk result (λ p. IsNormalFormOf p (raw_product l.now r.now)) }
 {
     let terms = multiplied(alloc, l.monos(), r.monos())?;
     Ok(from_terms(terms))
@@ -66,11 +65,9 @@ fn narrow_product(alloc: Global, l: &Poly, r: &Poly) -> Result<Poly, NoMemory>
 ///
 /// `Wide` comes exactly where the sum of the weights is past 2^127 - 1, and carries the two weights.
 /// `Large` comes exactly where it is not and the sum of the sizes is past 4,096, and carries that sum, with depth 0.
-/// `NoMemory` comes for want of memory.
+/// `NoMemory` comes where memory is refused.
 pub fn add(alloc: Global, l: &Poly, r: &Poly) -> Result<Poly, NfStop>
-    ensures form { IfOk result (λ p. IsNormalFormOf p (raw_sum l.now r.now)) }
-    ensures value { IfOk result (λ p. (w : Valuation) → value_of w p ≡ value_of w l.now +ℤ value_of w r.now) }
-    ensures events { StopsAtEvent l.now r.now (weight_of l.now + weight_of r.now) (size_of l.now + size_of r.now) result }
+    ensures { Answers result (added l.now r.now) }
 {
     check_limits(l, r, l.weight() + r.weight(), l.size() + r.size())?;
     Ok(narrow_sum(alloc, l, r)?)
@@ -78,11 +75,9 @@ pub fn add(alloc: Global, l: &Poly, r: &Poly) -> Result<Poly, NfStop>
 
 /// The difference: the normal form of the first raw sum and the negation of the second.
 ///
-/// `Wide` and `Large` come exactly where they come for the sum, and `NoMemory` for want of memory.
+/// `Wide` and `Large` come exactly where they come for the sum, and `NoMemory` where memory is refused.
 pub fn sub(alloc: Global, l: &Poly, r: &Poly) -> Result<Poly, NfStop>
-    ensures form { IfOk result (λ p. IsNormalFormOf p (raw_difference l.now r.now)) }
-    ensures value { IfOk result (λ p. (w : Valuation) → value_of w p ≡ value_of w l.now -ℤ value_of w r.now) }
-    ensures events { StopsAtEvent l.now r.now (weight_of l.now + weight_of r.now) (size_of l.now + size_of r.now) result }
+    ensures { Answers result (subtracted l.now r.now) }
 {
     check_limits(l, r, l.weight() + r.weight(), l.size() + r.size())?;
     let negation = neg(alloc, r)?;
@@ -93,23 +88,35 @@ pub fn sub(alloc: Global, l: &Poly, r: &Poly) -> Result<Poly, NfStop>
 ///
 /// `Wide` comes exactly where the product of the weights is past 2^127 - 1, and carries the two weights.
 /// `Large` comes exactly where it is not and the product of the sizes is past 4,096, and carries that product, with depth 0.
-/// `NoMemory` comes for want of memory.
+/// `NoMemory` comes where memory is refused.
 pub fn mul(alloc: Global, l: &Poly, r: &Poly) -> Result<Poly, NfStop>
-    ensures form { IfOk result (λ p. IsNormalFormOf p (raw_product l.now r.now)) }
-    ensures value { IfOk result (λ p. (w : Valuation) → value_of w p ≡ value_of w l.now *ℤ value_of w r.now) }
-    ensures events { StopsAtEvent l.now r.now (weight_of l.now * weight_of r.now) (size_of l.now * size_of r.now) result }
+    ensures { Answers result (product_of l.now r.now) }
 {
     let weight = l.weight().saturating_mul(r.weight());
     check_limits(l, r, weight, l.size() * r.size())?;
     Ok(narrow_product(alloc, l, r)?)
 }
 
-/// The negation: each coefficient negated. The one refusal is want of memory.
+/// The negation: each coefficient negated. The one refusal is out of memory.
 pub fn neg(alloc: Global, p: &Poly) -> Result<Poly, NoMemory>
-    ensures exact { IfOk result (λ n. n ≡ raw_negation p.now) }
-    ensures form { IfOk result (λ n. IsNormalFormOf n (raw_negation p.now)) }
-    ensures value { IfOk result (λ n. (w : Valuation) → value_of w n ≡ neg_ℤ (value_of w p.now)) }
+    ensures { IfOk result (λ n. n ≡ negated_of p.now) }
 {
     let terms = negated(alloc, p.monos())?;
     Ok(from_terms(terms))
+}
+
+/// A number alone.
+///
+/// `Wide` comes exactly at the least `i128`, with the weights 2^127 and 0, and `NoMemory` where memory is refused.
+pub fn number(alloc: Global, c: &i128) -> Result<Poly, NfStop>
+    ensures { Answers result (number_of c.now) }
+{
+    let c = *c;
+    if c == i128::MIN {
+        return Err(NfStop::Wide {
+            left: 1 << 127,
+            right: 0,
+        });
+    }
+    Ok(Poly::number(alloc, c)?)
 }

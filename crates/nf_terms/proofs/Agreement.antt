@@ -1,9 +1,10 @@
 -- A term's value depends on the symbols that it mentions, and on no others.
-use Rattle.std.proofs.Common.{◌≡◌, ◌+ℤ◌, ◌*ℤ◌, Bool, true, false, ◌||◌, ◌&&◌, ◌==◌, ℕ, refl, arith}
+use Rattle.std.proofs.Common.{◌≡◌, ◌+ℤ◌, ◌*ℤ◌, Bool, true, false, ◌||◌, ◌&&◌, ◌==◌, ℕ, List, [], ◌∷◌, ◌++◌, map, refl, arith}
 use Rattle.std.proofs.lemmas.Bool.Decides.{nat_tests}
 use Rattle.integers.specs.Division.{quotient, remainder}
 use Rattle.nf_terms.specs.Terms.{Atom, Monomial, Polynomial, ArrayTerm, Writes, Symbol, Read, Quotient, Remainder, One, Times, Zero, Plus, Over, NoWrites, Write}
-use Rattle.nf_terms.specs.Meaning.{Valuation, written, contents_of_base, value_of_atom, value_of_monomial, value_of, contents_after, contents}
+use Rattle.nf_terms.specs.Meaning.{Valuation, written, contents_of_base, value_of_atom, value_of_monomial, value_of, contents_after, contents, items_of_base, items_in}
+use Rattle.nf_terms.specs.Lists.{ListTerm, mentions_items, mentions_list_base, mentions_list}
 use Rattle.nf_terms.specs.Mentions.{same_side, same_pos, mentions_base, mentions_atom, mentions_monomial, mentions, mentions_writes, mentions_array}
 use Rattle.nf_terms.specs.Agreement.{AgreeOn}
 use Rattle.nf_terms.specs.declared.tree.Side.{Side}
@@ -11,6 +12,8 @@ use Rattle.nf_terms.specs.declared.tree.Side.TheVariants.{Left, Right}
 use Rattle.nf_terms.specs.declared.tree.Pos.{Pos}
 use Rattle.nf_terms.specs.declared.tree.Base.{Base}
 use Rattle.nf_terms.specs.declared.tree.Base.TheVariants as starts
+use Rattle.nf_terms.specs.declared.tree.SeqBase.{SeqBase}
+use Rattle.nf_terms.specs.declared.tree.SeqBase.TheVariants as list
 
 left_or : (a b : Bool) → a ≡ true → a || b ≡ true
 left_or true b e = refl
@@ -65,3 +68,16 @@ module _ (v w : Valuation) where
 
     pub array_agrees : (a : ArrayTerm) → AgreeOn (λ q. mentions_array q a) v w → contents v a ≡ contents w a
     array_agrees (Over b ws) agree = λ k. writes_agree ws (fewer _ _ (λ q. right_or (mentions_base q b) (mentions_writes q ws)) agree) k (base_agrees b (fewer _ _ (λ q. left_or (mentions_base q b) (mentions_writes q ws)) agree) k)
+
+  list_base_agrees : (b : SeqBase) → AgreeOn (λ q. mentions_list_base q b) v w → items_of_base v b ≡ items_of_base w b
+  list_base_agrees list.Empty agree = refl
+  list_base_agrees (list.Sym p) agree = agree.lists p (own_pos p)
+
+  items_agree : (ps : List Polynomial) → AgreeOn (λ q. mentions_items q ps) v w → map (value_of v) ps ≡ map (value_of w) ps
+  items_agree [] agree = refl
+  items_agree (p ∷ ps) agree = λ k. polynomial_agrees p (fewer _ _ (λ q. left_or (mentions q p) (mentions_items q ps)) agree) k ∷ items_agree ps (fewer _ _ (λ q. right_or (mentions q p) (mentions_items q ps)) agree) k
+
+  pub list_agrees : (l : ListTerm) → AgreeOn (λ q. mentions_list q l) v w → items_in v l ≡ items_in w l
+  list_agrees l agree = λ k. list_base_agrees l.base (fewer _ _ (λ q. left_or (mentions_list_base q l.base) (mentions_items q l.items)) agree) k ++ items_agree l.items (fewer _ _ (λ q. right_or (mentions_list_base q l.base) (mentions_items q l.items)) agree) k
+
+pub ruleset agreements = (polynomial_agrees, array_agrees, list_agrees)

@@ -1,4 +1,10 @@
+pub mod Tests
+pub mod Orders
+pub mod Partings
+pub mod Reducing
+pub mod NormalParts
 pub mod Agreement
+pub mod Copying
 pub mod Degrees
 pub mod LastWrite
 pub mod Parts

@@ -1,7 +1,9 @@
 -- The simplest terms are normal.
-use Rattle.std.proofs.Common.{◌≤◌, Bool, ◌&&◌, IsTrue, refl, arith}
+use Rattle.std.proofs.Common.{◌≡◌, ◌+◌, ◌≤◌, ℤ, pos, unsigned_abs, Bool, true, false, ◌&&◌, not, cond, IsTrue, refl, ap, arith}
+use Rattle.std.proofs.lemmas.Bool.{le-leb}
+use Rattle.std.specs.Ordering.{int_eq}
 use Rattle.std.proofs.lemmas.Bool.Decides.{nat_tests}
-use Rattle.nf_terms.specs.Terms.{Polynomial, Zero, polynomial_of_symbol, bare_array}
+use Rattle.nf_terms.specs.Terms.{Polynomial, One, Zero, Plus, polynomial_of_symbol, polynomial_of_number, bare_array}
 use Rattle.nf_terms.specs.Measures.{weight_of}
 use Rattle.nf_terms.specs.Normal.{IsNormal, IsNormalArray, is_light, narrow_inside}
 use Rattle.nf_terms.specs.Limits.{weight_limit}
@@ -20,6 +22,13 @@ symbol_normal p = record { ordered = refl; small = omega arith; shallow = omega 
 
 pub zero_normal : IsNormal Zero
 zero_normal = record { ordered = refl; small = omega arith; shallow = omega arith; narrow = refl }
+
+pub number_normal : (c : ℤ) → unsigned_abs c ≤ weight_limit → IsNormal (polynomial_of_number c)
+number_normal c h = by_value (int_eq c (pos 0)) refl
+  where
+    by_value : (t : Bool) → int_eq c (pos 0) ≡ t → IsNormal (cond t Zero (Plus One c Zero))
+    by_value true e = zero_normal
+    by_value false e = record { ordered = ap (λ b. not b && true && true && true) e; small = omega arith; shallow = omega arith; narrow = ap (λ b. b && true) (le-leb (unsigned_abs c + 0) weight_limit (omega arith)) }
 
 pub bare_normal : (b : Base) → IsNormalArray (bare_array b)
 bare_normal b = record { ordered = refl; small = omega arith; shallow = omega arith; narrow = refl }

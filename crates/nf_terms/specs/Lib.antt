@@ -13,6 +13,8 @@ pub mod Symbols
 pub mod Meaning
 pub mod Means
 pub mod RawSums
+pub mod Reduced
+pub mod Parts
 pub mod Keys
 pub mod TermKeys
 pub mod Codes

@@ -3,8 +3,11 @@
 
 pub mod arr;
 pub mod clones;
+pub mod coefficients;
 pub mod constants;
+pub mod copies;
 pub mod form;
+pub mod laws;
 pub mod limits;
 pub mod measures;
 pub mod mentions;

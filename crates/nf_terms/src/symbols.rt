@@ -16,11 +16,7 @@ pub enum Sort {
 }
 
 /// Adds a symbol. The one refusal is out of memory.
-pub(crate) fn push_symbol(
-    out: &mut Vec<(Pos, Sort)>,
-    p: &Pos,
-    sort: Sort,
-) -> Result<(), NoMemory>
+pub(crate) fn push_symbol(out: &mut Vec<(Pos, Sort)>, p: &Pos, sort: Sort) -> Result<(), NoMemory>
     ensures { OnOk result (out.new.items ≡ out.old.items ++ (p.now, sort) ∷ []) }
 {
     out.push((*p, sort))?;

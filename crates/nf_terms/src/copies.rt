@@ -3,19 +3,26 @@
 ghost use Rattle.std.specs.Prelude.{◌≡◌, ◌++◌, ◌∷◌, [], map, OnOk};
 ghost use Rattle.nf_terms.specs.View.{atom_in, monomial_in, term_in};
 
-use nf_terms::stop::NoMemory;
-use nf_terms::tree::{Atom, MonoTree};
+use crate::stop::NoMemory;
+use crate::tree::{Atom, MonoTree};
 use std::alloc::Global;
 
-/// Adds a copy of an atom.
-pub fn push_atom(alloc: Global, out: &mut Vec<Atom>, atom: &Atom) -> Result<(), NoMemory>
-    ensures { OnOk result (map atom_in out.new.items ≡ map atom_in out.old.items ++ atom_in atom.now ∷ []) }
+/// Adds an atom. The one refusal is out of memory.
+pub fn push_atom(out: &mut Vec<Atom>, atom: Atom) -> Result<(), NoMemory>
+    ensures { OnOk result (map atom_in out.new.items ≡ map atom_in out.old.items ++ atom_in atom ∷ []) }
 {
-    out.push(atom.try_clone(alloc)?)?;
+    out.push(atom)?;
     Ok(())
 }
 
-/// Adds a monomial with its coefficient.
+/// Adds a copy of an atom. The one refusal is out of memory.
+pub fn push_atom_copy(alloc: Global, out: &mut Vec<Atom>, atom: &Atom) -> Result<(), NoMemory>
+    ensures { OnOk result (map atom_in out.new.items ≡ map atom_in out.old.items ++ atom_in atom.now ∷ []) }
+{
+    push_atom(out, atom.try_clone(alloc)?)
+}
+
+/// Adds a monomial with its coefficient. The one refusal is out of memory.
 pub fn push_term(
     out: &mut Vec<(MonoTree, i128)>,
     mono: MonoTree,
@@ -27,8 +34,8 @@ pub fn push_term(
     Ok(())
 }
 
-/// Adds a copy of a monomial with its coefficient.
-pub fn push_copy(
+/// Adds a copy of a monomial with its coefficient. The one refusal is out of memory.
+pub fn push_term_copy(
     alloc: Global,
     out: &mut Vec<(MonoTree, i128)>,
     mono: &MonoTree,

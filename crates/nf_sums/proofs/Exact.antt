@@ -1,0 +1,206 @@
+-- What the operations give: the normal form of the raw sum, with its meaning, where they are narrow and small.
+use Rattle.std.proofs.Common.{◌≡◌, ℕ, ℤ, unsigned_abs, neg_ℤ, ◌+◌, ◌*◌, ◌<◌, ◌≤◌, nat_le, ◌+ℤ◌, ◌-ℤ◌, ◌*ℤ◌, Bool, true, false, cond, Result, Ok, Err, IfOk, inl, inr, arith, refl, ap, sym, subst, ◌∙◌}
+use Rattle.std.specs.Prelude.{◌⊎◌}
+use Rattle.std.proofs.lemmas.Int.{ints}
+use Rattle.std.proofs.lemmas.Bool.{leb-true, le-leb}
+use Rattle.nf_terms.specs.Terms.{Polynomial, polynomial_of_number}
+use Rattle.nf_terms.specs.Measures.{size_of, weight_of, depth_of}
+use Rattle.nf_terms.specs.Meaning.{Valuation, value_of}
+use Rattle.nf_terms.specs.Limits.{weight_limit, size_limit, depth_limit}
+use Rattle.nf_terms.specs.Normal.{IsNormal}
+use Rattle.nf_terms.specs.RawSums.{raw_sum, raw_negation, raw_difference, raw_product, IsNormalFormOf}
+use Rattle.nf_terms.specs.declared.stop.NfStop.{NfStop}
+use Rattle.nf_terms.specs.declared.stop.NfStop.TheVariants as stop
+use Rattle.nf_sums.specs.OrderedSums.{fits, IsOrderedSum, IsOrderedProduct}
+use Rattle.nf_sums.specs.Events.{StopsAtEvent}
+use Rattle.nf_terms.proofs.Simple.{number_normal}
+use Rattle.nf_terms.proofs.Partings.{value_of_number}
+use Rattle.nf_terms.proofs.Tests.{and_both, by_test}
+use Rattle.nf_sums.proofs.Terms.{size-sum, weight-sum, fits-sum}
+use Rattle.nf_sums.proofs.Worth.{worth-sum}
+use Rattle.nf_sums.proofs.Forms.{negation_normal, negation_weight, negation_size, negation_value, negation_form, sum_form, sum_value, product_form, product_value}
+use Rattle.nf_sums.proofs.Unique.{normal_forms_equal}
+use Rattle.nf_terms.specs.Computed.{Computed, Done, Wide, Large, IfDone, Answers, if_small, if_narrow}
+use Rattle.nf_sums.specs.Forms.{normal_form}
+use Rattle.nf_terms.specs.Means.{IsNumberOf}
+use Rattle.nf_sums.specs.Operations.{operation, added, subtracted, multiplied, negated, number}
+use Rattle.nf_sums.proofs.Collecting.{worth-form, worth-form_ordered, form_ordered, size-form, weight-form, fits-form}
+use Rattle.nf_sums.proofs.RawProducts.{size-product, weight-product, fits-product, monomials_of_ordered, monomials_of_sum, atoms_of_monomials, atoms_of_product}
+
+pub form_of_sum : (p q : Polynomial) → IsNormal p → IsNormal q → IsOrderedSum p q (normal_form (raw_sum p q))
+form_of_sum p q m n =
+    let o = monomials_of_sum p q (monomials_of_ordered p m.ordered) (monomials_of_ordered q n.ordered) in
+    record {
+      in_order = form_ordered (raw_sum p q) (atoms_of_monomials (raw_sum p q) o);
+      worth = λ f. worth-form_ordered f (raw_sum p q) o ∙ worth-sum f p q;
+      size = omega (arith, size-form (raw_sum p q), size-sum p q);
+      weight = omega (arith, weight-form (raw_sum p q), weight-sum p q);
+      inside = λ g h. fits-form (raw_sum p q) (fits-sum p q ∙ and_both (fits p) (fits q) g h);
+    }
+
+pub form_of_product : (p q : Polynomial) → IsNormal p → IsNormal q → IsOrderedProduct p q (normal_form (raw_product p q))
+form_of_product p q m n = record {
+  in_order = form_ordered (raw_product p q) (atoms_of_product p q (atoms_of_monomials p (monomials_of_ordered p m.ordered)) (atoms_of_monomials q (monomials_of_ordered q n.ordered)));
+  worth = λ f i. worth-form f i (raw_product p q);
+  size = omega (arith, size-form (raw_product p q), size-product p q);
+  weight = omega (arith, weight-form (raw_product p q), weight-product p q);
+  inside = λ g h. fits-form (raw_product p q) (fits-product p q g h);
+}
+
+-- a number is at most another, or not
+not_le : (a b : ℕ) → ¬ (a ≤ b) → nat_le a b ≡ false
+not_le a b n = by_value (nat_le a b) refl
+  where
+    by_value : (t : Bool) → nat_le a b ≡ t → t ≡ false
+    by_value true e = absurd (n (leb-true a b e))
+    by_value false e = refl
+
+pub small_done : {T : Type 0} (units depth : ℕ) (t : T) → units ≤ size_limit → depth ≤ depth_limit → if_small units depth t ≡ Done t
+small_done units depth t h k =
+    ap (λ b. cond b (cond (nat_le depth depth_limit) (Done t) (Large units depth)) (Large units 0)) (le-leb units size_limit h) ∙ ap (λ b. cond b (Done t) (Large units depth)) (le-leb depth depth_limit k)
+
+pub small_large : {T : Type 0} (units depth : ℕ) (t : T) → ¬ (units ≤ size_limit) → if_small units depth t ≡ Large units 0
+small_large units depth t h = ap (λ b. cond b (cond (nat_le depth depth_limit) (Done t) (Large units depth)) (Large units 0)) (not_le units size_limit h)
+
+pub small_deep : {T : Type 0} (units depth : ℕ) (t : T) → units ≤ size_limit → depth_limit < depth → if_small units depth t ≡ Large units depth
+small_deep units depth t h k =
+    ap (λ b. cond b (cond (nat_le depth depth_limit) (Done t) (Large units depth)) (Large units 0)) (le-leb units size_limit h)
+    ∙ ap (λ b. cond b (Done t) (Large units depth)) (not_le depth depth_limit (λ e. omega arith))
+
+module _ (p q raw : Polynomial) (weight units : ℕ) where
+  within : weight ≤ weight_limit → operation p q weight units raw ≡ if_small units (depth_of (normal_form raw)) (normal_form raw)
+  within h = ap (λ b. cond b (if_small units (depth_of (normal_form raw)) (normal_form raw)) (Wide (weight_of p) (weight_of q))) (le-leb weight weight_limit h)
+
+  past : ¬ (weight ≤ weight_limit) → operation p q weight units raw ≡ Wide (weight_of p) (weight_of q)
+  past h = ap (λ b. cond b (if_small units (depth_of (normal_form raw)) (normal_form raw)) (Wide (weight_of p) (weight_of q))) (not_le weight weight_limit h)
+
+  module _ (form : weight ≤ weight_limit → units ≤ size_limit → IsNormalFormOf (normal_form raw) raw) where
+    -- an answer by its event, or by the form of its sum, is what is computed
+    pub operation_answers : (o : Result Polynomial NfStop) → IfOk o (λ s. IsNormalFormOf s raw) → StopsAtEvent p q weight units o → Answers o (operation p q weight units raw)
+    operation_answers (Ok s) h e =
+        let f = form e.0 e.1 in
+        within e.0 ∙ small_done units (depth_of (normal_form raw)) (normal_form raw) e.1 f.normal.shallow
+        ∙ ap Done (normal_forms_equal (normal_form raw) s f.normal h.normal (record { totals = λ bag. f.same.totals bag ∙ sym (h.same.totals bag) }))
+    operation_answers (Err (stop.Wide l r)) h e = past e.0 ∙ ap (λ x. Wide x (weight_of q)) (sym e.1) ∙ ap (Wide l) (sym e.2)
+    operation_answers (Err (stop.Large u d)) h e =
+        within e.0 ∙ small_large units (depth_of (normal_form raw)) (normal_form raw) e.1 ∙ ap (λ x. Large x 0) (sym e.2) ∙ ap (Large u) (sym e.3)
+    operation_answers (Err stop.NoMemory) h e = tt
+
+    is_le : (a b : ℕ) → (a ≤ b) ⊎ ¬ (a ≤ b)
+    is_le a b = by_value (nat_le a b) refl
+      where
+        by_value : (t : Bool) → nat_le a b ≡ t → (a ≤ b) ⊎ ¬ (a ≤ b)
+        by_value true e = inl (leb-true a b e)
+        by_value false e = inr (λ h. let f : true ≡ false = sym (le-leb a b h) ∙ e in cc)
+
+    -- what is computed, with how it came
+    pub data IsComputed : Computed Polynomial → Type 0 where
+      IsDone : weight ≤ weight_limit → units ≤ size_limit → IsComputed (Done (normal_form raw))
+      IsWide : ¬ (weight ≤ weight_limit) → IsComputed (Wide (weight_of p) (weight_of q))
+      IsLarge : weight ≤ weight_limit → ¬ (units ≤ size_limit) → IsComputed (Large units 0)
+
+    pub operation_is : IsComputed (operation p q weight units raw)
+    operation_is = by_weight (is_le weight weight_limit) (is_le units size_limit)
+      where
+        by_weight : (weight ≤ weight_limit) ⊎ ¬ (weight ≤ weight_limit) → (units ≤ size_limit) ⊎ ¬ (units ≤ size_limit) → IsComputed (operation p q weight units raw)
+        by_weight (inr n) u = subst IsComputed (sym (past n)) (IsWide n)
+        by_weight (inl h) (inr n) = subst IsComputed (sym (within h ∙ small_large units (depth_of (normal_form raw)) (normal_form raw) n)) (IsLarge h n)
+        by_weight (inl h) (inl k) = subst IsComputed (sym (within h ∙ small_done units (depth_of (normal_form raw)) (normal_form raw) k (form h k).normal.shallow)) (IsDone h k)
+
+    -- what is computed is the form of the raw sum
+    pub operation_form : IfDone (operation p q weight units raw) (λ s. IsNormalFormOf s raw)
+    operation_form = by_cases (operation p q weight units raw) operation_is
+      where
+        by_cases : (c : Computed Polynomial) → IsComputed c → IfDone c (λ s. IsNormalFormOf s raw)
+        by_cases c (IsDone h k) = form h k
+        by_cases c (IsWide n) = tt
+        by_cases c (IsLarge h n) = tt
+
+    -- an answer that is what is computed tells its event, or the form of its sum
+    pub operation_tells : (o : Result Polynomial NfStop) → Answers o (operation p q weight units raw) → IfOk o (λ s. IsNormalFormOf s raw) × StopsAtEvent p q weight units o
+    operation_tells o a = by_cases o (operation p q weight units raw) operation_is a
+      where
+        by_cases : (o : Result Polynomial NfStop) (c : Computed Polynomial) → IsComputed c → Answers o c → IfOk o (λ s. IsNormalFormOf s raw) × StopsAtEvent p q weight units o
+        by_cases (Ok s) c (IsDone h k) a = let e : normal_form raw ≡ s = cc in (subst (λ x. IsNormalFormOf x raw) e (form h k), (h, k))
+        by_cases (Ok s) c (IsWide n) a = cc
+        by_cases (Ok s) c (IsLarge h n) a = cc
+        by_cases (Err (stop.Wide l r)) c (IsDone h k) a = cc
+        by_cases (Err (stop.Wide l r)) c (IsWide n) a = (tt, (n, cc, cc))
+        by_cases (Err (stop.Wide l r)) c (IsLarge h n) a = cc
+        by_cases (Err (stop.Large u d)) c (IsDone h k) a = cc
+        by_cases (Err (stop.Large u d)) c (IsWide n) a = cc
+        by_cases (Err (stop.Large u d)) c (IsLarge h n) a = (tt, (h, n, cc, cc))
+        by_cases (Err stop.NoMemory) c i a = (tt, tt)
+
+module _ (p q : Polynomial) (m : IsNormal p) (n : IsNormal q) where
+  form_added : weight_of p + weight_of q ≤ weight_limit → size_of p + size_of q ≤ size_limit → IsNormalFormOf (normal_form (raw_sum p q)) (raw_sum p q)
+  form_added = sum_form p q (normal_form (raw_sum p q)) m n (form_of_sum p q m n)
+
+  form_multiplied : weight_of p * weight_of q ≤ weight_limit → size_of p * size_of q ≤ size_limit → IsNormalFormOf (normal_form (raw_product p q)) (raw_product p q)
+  form_multiplied = product_form p q (normal_form (raw_product p q)) m n (form_of_product p q m n)
+
+  form_subtracted : weight_of p + weight_of q ≤ weight_limit → size_of p + size_of q ≤ size_limit → IsNormalFormOf (normal_form (raw_difference p q)) (raw_difference p q)
+  form_subtracted w s =
+      let k = negation_normal q n in
+      sum_form p (raw_negation q) (normal_form (raw_difference p q)) m k (form_of_sum p (raw_negation q) m k) (omega (arith, w, negation_weight q)) (omega (arith, s, negation_size q))
+
+  pub sum_answers : (o : Result Polynomial NfStop) → IfOk o (λ s. IsNormalFormOf s (raw_sum p q)) → StopsAtEvent p q (weight_of p + weight_of q) (size_of p + size_of q) o → Answers o (added p q)
+  sum_answers = operation_answers p q (raw_sum p q) (weight_of p + weight_of q) (size_of p + size_of q) form_added
+
+  pub product_answers : (o : Result Polynomial NfStop) → IfOk o (λ s. IsNormalFormOf s (raw_product p q)) → StopsAtEvent p q (weight_of p * weight_of q) (size_of p * size_of q) o → Answers o (multiplied p q)
+  product_answers = operation_answers p q (raw_product p q) (weight_of p * weight_of q) (size_of p * size_of q) form_multiplied
+
+  pub difference_answers : (o : Result Polynomial NfStop) → IfOk o (λ s. IsNormalFormOf s (raw_difference p q)) → StopsAtEvent p q (weight_of p + weight_of q) (size_of p + size_of q) o → Answers o (subtracted p q)
+  difference_answers = operation_answers p q (raw_difference p q) (weight_of p + weight_of q) (size_of p + size_of q) form_subtracted
+
+  -- ---- the same the other way round
+  pub sum_tells : (o : Result Polynomial NfStop) → Answers o (added p q) → IfOk o (λ s. IsNormalFormOf s (raw_sum p q)) × StopsAtEvent p q (weight_of p + weight_of q) (size_of p + size_of q) o
+  sum_tells = operation_tells p q (raw_sum p q) (weight_of p + weight_of q) (size_of p + size_of q) form_added
+
+  pub product_tells : (o : Result Polynomial NfStop) → Answers o (multiplied p q) → IfOk o (λ s. IsNormalFormOf s (raw_product p q)) × StopsAtEvent p q (weight_of p * weight_of q) (size_of p * size_of q) o
+  product_tells = operation_tells p q (raw_product p q) (weight_of p * weight_of q) (size_of p * size_of q) form_multiplied
+
+  pub difference_tells : (o : Result Polynomial NfStop) → Answers o (subtracted p q) → IfOk o (λ s. IsNormalFormOf s (raw_difference p q)) × StopsAtEvent p q (weight_of p + weight_of q) (size_of p + size_of q) o
+  difference_tells = operation_tells p q (raw_difference p q) (weight_of p + weight_of q) (size_of p + size_of q) form_subtracted
+
+  -- ---- forms and meaning
+  pub added_form : IfDone (added p q) (λ s. IsNormalFormOf s (raw_sum p q))
+  added_form = operation_form p q (raw_sum p q) (weight_of p + weight_of q) (size_of p + size_of q) form_added
+
+  pub subtracted_form : IfDone (subtracted p q) (λ s. IsNormalFormOf s (raw_difference p q))
+  subtracted_form = operation_form p q (raw_difference p q) (weight_of p + weight_of q) (size_of p + size_of q) form_subtracted
+
+  pub multiplied_form : IfDone (multiplied p q) (λ s. IsNormalFormOf s (raw_product p q))
+  multiplied_form = operation_form p q (raw_product p q) (weight_of p * weight_of q) (size_of p * size_of q) form_multiplied
+
+  means : (raw : Polynomial) (weight units : ℕ) (value : Valuation → ℤ) → (weight ≤ weight_limit → units ≤ size_limit → IsNormalFormOf (normal_form raw) raw) → ((w : Valuation) → value_of w (normal_form raw) ≡ value w) → IfDone (operation p q weight units raw) (IsNumberOf value)
+  means raw weight units value form v = by_cases (operation p q weight units raw) (operation_is p q raw weight units form)
+    where
+      by_cases : (c : Computed Polynomial) → IsComputed p q raw weight units form c → IfDone c (IsNumberOf value)
+      by_cases c (IsDone h k) = record { normal = (form h k).normal; means = v }
+      by_cases c (IsWide n) = tt
+      by_cases c (IsLarge h n) = tt
+
+  pub added_means : IfDone (added p q) (IsNumberOf (λ w. value_of w p +ℤ value_of w q))
+  added_means = means (raw_sum p q) (weight_of p + weight_of q) (size_of p + size_of q) _ form_added (sum_value p q (normal_form (raw_sum p q)) (form_of_sum p q m n))
+
+  pub subtracted_means : IfDone (subtracted p q) (IsNumberOf (λ w. value_of w p -ℤ value_of w q))
+  subtracted_means =
+      means (raw_difference p q) (weight_of p + weight_of q) (size_of p + size_of q) (λ w. value_of w p -ℤ value_of w q) form_subtracted
+      (λ w. omega (arith, ints, sum_value p (raw_negation q) (normal_form (raw_difference p q)) (form_of_sum p (raw_negation q) m (negation_normal q n)) w, negation_value w q))
+
+  pub multiplied_means : IfDone (multiplied p q) (IsNumberOf (λ w. value_of w p *ℤ value_of w q))
+  multiplied_means = means (raw_product p q) (weight_of p * weight_of q) (size_of p * size_of q) _ form_multiplied (product_value p q (normal_form (raw_product p q)) (form_of_product p q m n))
+
+pub negated_means : (p : Polynomial) → IsNormal p → IsNumberOf (λ w. neg_ℤ (value_of w p)) (negated p)
+negated_means p n = record { normal = negation_normal p n; means = λ w. negation_value w p }
+
+pub negated_form : (p : Polynomial) → IsNormal p → IsNormalFormOf (negated p) (raw_negation p)
+negated_form p n = negation_form p n
+
+pub number_means : (c : ℤ) → IfDone (number c) (IsNumberOf (λ w. c))
+number_means c = by_test (λ o. IfDone o (IsNumberOf (λ w. c))) (Done (polynomial_of_number c)) (Wide (unsigned_abs c) 0) (nat_le (unsigned_abs c) weight_limit) (λ e. record { normal = number_normal c (leb-true (unsigned_abs c) weight_limit e); means = λ w. value_of_number w c }) (λ e. tt)
+
+pub ruleset forms = (added_form, subtracted_form, multiplied_form, negated_form)
+
+pub ruleset meanings = (added_means, subtracted_means, multiplied_means, negated_means, number_means)
