@@ -5,7 +5,7 @@ use Rattle.nf_terms.specs.Terms.{Polynomial, ArrayTerm, Over, base_of, writes_ov
 use Rattle.nf_terms.specs.View.{polynomial_in, write_in}
 use Rattle.nf_terms.specs.Order.{same_polynomial}
 use Rattle.nf_terms.specs.Normal.{ordered, ordered_writes, is_written}
-use Rattle.nf_sums.proofs.Sorted.{and_left, and_right, and_both}
+use Rattle.nf_terms.proofs.Tests.{and_left, and_right, and_both}
 use Rattle.nf_terms.specs.declared.tree.Base.{Base}
 use Rattle.nf_terms.specs.declared.tree.PolyTree.{PolyTree}
 use Rattle.nf_terms.specs.Tidied.{goes_after, with_write, rising_stretches, last_writes, tidied}

@@ -5,9 +5,9 @@ use Rattle.nf_terms.specs.Terms.{Polynomial, Quotient, Remainder, One, Times, Ze
 use Rattle.nf_terms.specs.Measures.{weight_of}
 use Rattle.nf_terms.specs.Normal.{IsNormal, ordered, is_constant, constant_part, is_light, narrow_inside}
 use Rattle.nf_terms.specs.Limits.{weight_limit}
-use Rattle.nf_sums.proofs.Sorted.{and_left, and_both}
+use Rattle.nf_terms.proofs.Tests.{and_left, and_both}
 use Rattle.nf_terms.specs.Normal.{constant_sum}
-use Rattle.nf_forms.proofs.Constants.{constant_is}
+use Rattle.nf_sums.proofs.Constants.{constant_is}
 use Rattle.nf_arrays.specs.Atoms.{IsNewAtom}
 
 pub constant_light : (p : Polynomial) → unsigned_abs (constant_part p) ≤ weight_of p

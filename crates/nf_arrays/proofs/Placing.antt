@@ -6,14 +6,14 @@ use Rattle.nf_terms.specs.Order.{same_polynomial}
 use Rattle.nf_terms.specs.Measures.{size_of, depth_of, size_of_writes, depth_of_writes, size_of_array, depth_of_array}
 use Rattle.nf_terms.specs.Normal.{IsNormal, IsNormalArray, ordered, ordered_writes, is_written, write_rises, narrow_writes, ordered_array, narrow_array, is_light, narrow_inside, differ_by_constant, constant_part}
 use Rattle.nf_terms.specs.Limits.{depth_limit, size_limit}
-use Rattle.nf_sums.proofs.Sorted.{and_left, and_right, and_both}
+use Rattle.nf_terms.proofs.Tests.{and_left, and_right, and_both}
 use Rattle.nf_terms.specs.Tidied.{last_writes, goes_after, with_write, rising_stretches, tidied}
 use Rattle.nf_arrays.specs.Writes.{written_last, with_last_write, written}
 use Rattle.nf_terms.specs.Computed.{Large, if_small}
 use Rattle.nf_terms.specs.Normal.{constant_sum}
-use Rattle.nf_forms.proofs.Exact.{small_deep}
+use Rattle.nf_sums.proofs.Exact.{small_deep}
 use Rattle.nf_arrays.proofs.Tidy.{tidy_write, tidy_again, narrow_write, narrow_again}
-use Rattle.nf_forms.proofs.Constants.{same_of_equal, other_turned, equal_by_parts, constant_is}
+use Rattle.nf_sums.proofs.Constants.{same_of_equal, other_turned, equal_by_parts, constant_is}
 
 -- one of two by a test, and a fact of each
 by_test : {T : Type 0} (P : T → Type 0) (x y : T) (b : Bool) → (b ≡ true → P x) → (b ≡ false → P y) → P (cond b x y)

@@ -10,7 +10,7 @@ use Rattle.std.specs.Prelude.{int_lt}
 use Rattle.std.specs.Ordering.{int_eq}
 use Rattle.std.specs.Cmp.{signed_Decides}
 use Rattle.nf_terms.specs.Normal.{constant_sum}
-use Rattle.nf_forms.proofs.Constants.{same_of_equal, equal_of_same, equal_by_sums, constant_is}
+use Rattle.nf_sums.proofs.Constants.{same_of_equal, equal_of_same, equal_by_sums, constant_is}
 use Rattle.nf_terms.specs.Tidied.{goes_after}
 use Rattle.nf_terms.specs.declared.tree.Base.{Base}
 use Rattle.nf_terms.specs.declared.tree.Base.TheVariants as starts

@@ -5,7 +5,7 @@ use Rattle.nf_terms.specs.Order.{same_polynomial}
 use Rattle.nf_terms.specs.Measures.{size_of_writes, depth_of_writes}
 use Rattle.nf_terms.specs.Normal.{IsNormal, IsNormalArray, ordered, ordered_writes, ordered_array, is_written, write_rises, is_light, narrow_inside, narrow_writes, narrow_array, stays_read}
 use Rattle.nf_terms.specs.declared.tree.Base.{Base}
-use Rattle.nf_sums.proofs.Sorted.{and_left, and_right, and_both}
+use Rattle.nf_terms.proofs.Tests.{and_left, and_right, and_both}
 use Rattle.nf_arrays.specs.Atoms.{IsNewAtom}
 use Rattle.nf_arrays.specs.Writes.{written_last, are_apart, stop_at, prefix_for}
 

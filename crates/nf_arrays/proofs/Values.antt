@@ -11,12 +11,12 @@ use Rattle.nf_terms.specs.Meaning.{Valuation, written as stored, contents_of_bas
 use Rattle.nf_terms.specs.Normal.{is_written, is_constant, differ_by_constant, last_index}
 use Rattle.nf_terms.specs.declared.tree.Base.{Base}
 use Rattle.nf_terms.specs.declared.tree.Base.TheVariants as starts
-use Rattle.nf_sums.proofs.Sorted.{and_left, and_right}
+use Rattle.nf_terms.proofs.Tests.{and_left, and_right}
 use Rattle.nf_terms.specs.Computed.{Computed, Done}
 use Rattle.nf_terms.specs.Normal.{constant_sum}
 use Rattle.nf_terms.specs.Tidied.{last_writes, goes_after, with_write, rising_stretches, tidied}
-use Rattle.nf_forms.proofs.Constants.{equal_of_same, parts_equal}
-use Rattle.nf_forms.proofs.Values.{value_parts, small_is, number_value}
+use Rattle.nf_sums.proofs.Constants.{equal_of_same, parts_equal}
+use Rattle.nf_sums.proofs.Values.{value_parts, small_is, number_value}
 use Rattle.nf_arrays.specs.Atoms.{polynomial_of_atom, new_atom, divided, remainder_of}
 use Rattle.nf_arrays.specs.Writes.{written_last, with_last_write, written, are_apart, stop_at, prefix_for, last_value, read_here, read_at}
 

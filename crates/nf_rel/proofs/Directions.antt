@@ -14,7 +14,7 @@ use Rattle.nf_terms.specs.Terms.{Monomial, Polynomial, One, Times, Zero, Plus}
 use Rattle.nf_terms.specs.Order.{cmp_monomial, cmp_atoms, degree}
 use Rattle.nf_terms.specs.Measures.{size_of, depth_of, weight_of}
 use Rattle.nf_terms.specs.Normal.{IsNormal, ordered, ordered_monomial, monomial_rises, part_with_atoms, constant_part, is_light, narrow_inside, narrow_monomial}
-use Rattle.nf_sums.proofs.Sorted.{and_left, and_right, and_both}
+use Rattle.nf_terms.proofs.Tests.{and_left, and_right, and_both}
 use Rattle.nf_terms.specs.Normal.{constant_sum}
 use Rattle.nf_terms.specs.Limits.{weight_limit}
 use Rattle.nf_rel.specs.Gcd.{gcd}

@@ -10,7 +10,7 @@ use Rattle.nf_terms.specs.Terms.{Polynomial}
 use Rattle.nf_terms.specs.Order.{cmp_polynomial, same_polynomial}
 use Rattle.nf_terms.specs.TermKeys.{polynomial_ties}
 use Rattle.nf_terms.specs.Meaning.{Valuation, value_of}
-use Rattle.nf_sums.proofs.Sorted.{and_left, and_right}
+use Rattle.nf_terms.proofs.Tests.{and_left, and_right}
 use Rattle.nf_rel.specs.declared.kind.Kind.{Kind}
 use Rattle.nf_rel.specs.declared.kind.Kind.TheVariants.{Ge, Le, Eq, Ne}
 use Rattle.nf_rel.specs.Literals.{NormalLiteral, True, False, Is, meets, is_true_in, all_true_in, negate, bounds_clash, clash, clashes_with, is_refuted, is_implied}

@@ -14,7 +14,7 @@ use crate::divisors::{divided, divisor};
 use crate::kind::Kind;
 use crate::literals::{Bound, NLit};
 use fs_model::parts::Rel;
-use nf_forms::sums::sub;
+use nf_sums::sums::sub;
 use nf_sums::sums::neg;
 use nf_terms::constants::{constant_part, has_atoms};
 use nf_terms::poly::Poly;

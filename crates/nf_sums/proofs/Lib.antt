@@ -14,3 +14,5 @@ pub mod Sorting
 pub mod Collecting
 pub mod RawProducts
 pub mod Exact
+pub mod Values
+pub mod Constants

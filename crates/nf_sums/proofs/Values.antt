@@ -17,7 +17,7 @@ use Rattle.nf_terms.specs.Computed.{Computed, Done, Wide, Large, after, IfDone, 
 use Rattle.nf_sums.specs.Forms.{normal_form}
 use Rattle.nf_sums.specs.Operations.{operation, added, subtracted, multiplied, number}
 use Rattle.nf_terms.specs.Normal.{constant_sum}
-use Rattle.nf_forms.proofs.Collecting.{worth-form}
+use Rattle.nf_sums.proofs.Collecting.{worth-form}
 
 -- a normal form has the value of the raw sum
 pub value_form : (w : Valuation) (p : Polynomial) → value_of w (normal_form p) ≡ value_of w p

@@ -1,4 +1,0 @@
-//! Operations, exactly.
-#![tactic(auto)]
-
-pub mod sums;
