@@ -4,3 +4,4 @@ pub mod Placing
 pub mod Stopping
 pub mod Inserting
 pub mod Values
+pub mod Pushing

@@ -1,13 +1,15 @@
 //! Laws of arrays and of division. The functions do nothing.
 
-ghost use Rattle.std.specs.Prelude.{◌≡◌, ℤ};
+ghost use Rattle.std.specs.Prelude.{◌≡◌, ◌++◌, ◌∷◌, [], ℤ};
 ghost use Rattle.integers.specs.Division.{quotient, remainder};
 ghost use Rattle.nf_terms.specs.Terms.{Polynomial, ArrayTerm};
-ghost use Rattle.nf_terms.specs.Meaning.{Valuation, value_of, contents, written as stored};
+ghost use Rattle.nf_terms.specs.Meaning.{Valuation, value_of, contents, items_in, written as stored};
+ghost use Rattle.nf_terms.specs.Lists.{ListTerm};
 ghost use Rattle.nf_terms.specs.Normal.{IsNormal, IsNormalArray};
 ghost use Rattle.nf_terms.specs.Computed.{Done};
 ghost use Rattle.nf_terms.specs.Tidied.{tidied};
 ghost use Rattle.nf_arrays.specs.Atoms.{divided, remainder_of};
+ghost use Rattle.nf_arrays.specs.Pushes.{pushed};
 ghost use Rattle.nf_arrays.specs.Writes.{read_at, written};
 
 /// A law, with nothing to run: McCarthy's two equations hold of what an array holds after a write.
@@ -36,4 +38,9 @@ pub fn divisions_keep_the_meaning()
 /// A law, with nothing to run: a tidy array is its own tidied form, so that normal arrays with the same tidied form are equal.
 pub fn normal_arrays_are_unique()
     ensures { (a b : ArrayTerm) → IsNormalArray a → IsNormalArray b → tidied a ≡ tidied b → a ≡ b }
+{}
+
+/// A law, with nothing to run: a push is the list with the value behind.
+pub fn pushes_keep_the_meaning()
+    ensures { (w : Valuation) (l m : ListTerm) (p : Polynomial) → pushed l p ≡ Done m → items_in w m ≡ items_in w l ++ value_of w p ∷ [] }
 {}

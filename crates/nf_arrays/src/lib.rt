@@ -4,5 +4,6 @@
 mod atoms;
 pub mod division;
 pub mod laws;
+pub mod pushes;
 pub mod reads;
 pub mod writes;

@@ -1,0 +1,8 @@
+//! Vectors of normal forms, and their substitution in normal forms.
+#![tactic(auto)]
+
+mod digests;
+mod keys;
+pub mod laws;
+pub mod subst;
+pub mod vector;
