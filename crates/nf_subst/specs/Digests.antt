@@ -25,9 +25,9 @@ digest_of_base (base.Sym p) = mixed 4 (digest_of_pos p)
 abbrev mutual
   pub digest_of_atom : Atom → ℕ
   digest_of_atom (Symbol p) = mixed 5 (digest_of_pos p)
-  digest_of_atom (Read a i) = mixed (mixed 6 (digest_of_array a)) (digest_of i)
-  digest_of_atom (Quotient p q) = mixed (mixed 7 (digest_of p)) (digest_of q)
-  digest_of_atom (Remainder p q) = mixed (mixed 8 (digest_of p)) (digest_of q)
+  digest_of_atom (Read a i) = mixed (mixed 6 (digest_of_array a)) (digest_with_terms i 10)
+  digest_of_atom (Quotient p q) = mixed (mixed 7 (digest_with_terms p 10)) (digest_with_terms q 10)
+  digest_of_atom (Remainder p q) = mixed (mixed 8 (digest_with_terms p 10)) (digest_with_terms q 10)
 
   -- a digest and the atoms in order
   pub digest_with_atoms : Monomial → ℕ → ℕ
@@ -39,13 +39,13 @@ abbrev mutual
   digest_with_terms Zero h = h
   digest_with_terms (Plus m c p) h = digest_with_terms p (mixed (mixed h (digest_with_atoms m 9)) (unsigned_abs c % 2 ^ 64))
 
-  pub digest_of : Polynomial → ℕ
-  digest_of p = digest_with_terms p 10
-
   -- a digest and the writes in order
   pub digest_with_writes : Writes → ℕ → ℕ
   digest_with_writes NoWrites h = h
-  digest_with_writes (Write i v ws) h = digest_with_writes ws (mixed (mixed h (digest_of i)) (digest_of v))
+  digest_with_writes (Write i v ws) h = digest_with_writes ws (mixed (mixed h (digest_with_terms i 10)) (digest_with_terms v 10))
 
   pub digest_of_array : ArrayTerm → ℕ
   digest_of_array (Over b ws) = digest_with_writes ws (digest_of_base b)
+
+abbrev pub digest_of : Polynomial → ℕ
+digest_of p = digest_with_terms p 10

@@ -27,16 +27,12 @@ abbrev pub with_one : Atom → List Atom → List Atom
 with_one a kept = cond (holds a kept) kept (kept ++ a ∷ [])
 
 abbrev mutual
-  -- those inside an atom
-  pub with_inner : Atom → List Atom → List Atom
-  with_inner (Symbol p) kept = kept
-  with_inner (Read a i) kept = with_terms i (with_array a kept)
-  with_inner (Quotient p q) kept = with_terms q (with_terms p kept)
-  with_inner (Remainder p q) kept = with_terms q (with_terms p kept)
-
   -- an atom: nothing more where it is kept, else those inside and itself
   pub with_atom : Atom → List Atom → List Atom
-  with_atom a kept = cond (holds a kept) kept (with_one a (with_inner a kept))
+  with_atom (Symbol p) kept = cond (holds (Symbol p) kept) kept (with_one (Symbol p) kept)
+  with_atom (Read a i) kept = cond (holds (Read a i) kept) kept (with_one (Read a i) (with_terms i (with_array a kept)))
+  with_atom (Quotient p q) kept = cond (holds (Quotient p q) kept) kept (with_one (Quotient p q) (with_terms q (with_terms p kept)))
+  with_atom (Remainder p q) kept = cond (holds (Remainder p q) kept) kept (with_one (Remainder p q) (with_terms q (with_terms p kept)))
 
   pub with_atoms : Monomial → List Atom → List Atom
   with_atoms One kept = kept
@@ -52,6 +48,13 @@ abbrev mutual
 
   pub with_array : ArrayTerm → List Atom → List Atom
   with_array (Over b ws) kept = with_writes ws kept
+
+-- those inside an atom
+abbrev pub with_inner : Atom → List Atom → List Atom
+with_inner (Symbol p) kept = kept
+with_inner (Read a i) kept = with_terms i (with_array a kept)
+with_inner (Quotient p q) kept = with_terms q (with_terms p kept)
+with_inner (Remainder p q) kept = with_terms q (with_terms p kept)
 
 -- those of the items of a list
 abbrev pub with_items : List Polynomial → List Atom → List Atom

@@ -4,3 +4,4 @@ pub mod Substitution
 pub mod Keeping
 pub mod Digests
 pub mod SameAtoms
+pub mod SamePlaces

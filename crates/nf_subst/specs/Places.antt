@@ -6,7 +6,7 @@ use Rattle.nf_terms.specs.FormCodes.{coded_form}
 use Rattle.nf_terms.specs.Forms.{IsNormalForm, sort_of_form}
 use Rattle.nf_terms.specs.declared.tree.Pos.{Pos}
 use Rattle.nf_terms.specs.declared.form.Nf.{Nf}
-use Rattle.nf_subst.specs.declared.vector.Place.{Place}
+use Rattle.nf_subst.specs.declared.place.Place.{Place}
 
 -- an entry with its position alone
 abbrev pub entry_of : Place × Nf → Pos × Nf

@@ -7,7 +7,7 @@ ghost use Rattle.nf_subst.specs.Digests.{mixed, digest_of_side, digest_of_pos, d
 use nf_terms::tree::{ArrTree, Atom, Base, MonoTree, PolyTree, Pos, Side};
 
 // A digest and one more number, as FNV-1a mixes them with a sum in place of its exclusive or.
-fn mix(digest: u64, number: u64) -> u64
+pub(crate) fn mix(digest: u64, number: u64) -> u64
     ensures { result ≡ mixed digest number }
 {
     digest.wrapping_mul(1_099_511_628_211).wrapping_add(number)
@@ -22,7 +22,7 @@ fn of_side(side: Side) -> u64
     }
 }
 
-fn of_pos(p: &Pos) -> u64
+pub(crate) fn of_pos(p: &Pos) -> u64
     ensures { result ≡ digest_of_pos p.now }
 {
     mix(of_side(p.side), p.var as u64)

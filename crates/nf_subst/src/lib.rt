@@ -4,5 +4,6 @@
 mod digests;
 mod keys;
 pub mod laws;
+mod place;
 pub mod subst;
 pub mod vector;

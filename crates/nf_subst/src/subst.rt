@@ -1,6 +1,6 @@
 //! Substitution of a vector in normal forms: each different atom is substituted once.
 
-ghost use Rattle.std.specs.Prelude.{◌≡◌, [], false, true, length, take, IfOk, OnOk, OnErr, MatchOption};
+ghost use Rattle.std.specs.Prelude.{◌≡◌, [], false, true, length, take, option_map, IfOk, OnOk, OnErr, MatchOption};
 ghost use Rattle.nf_terms.specs.Meaning.{Valuation, value_of, contents, items_in};
 ghost use Rattle.nf_terms.specs.View.{atom_in, monomial_in, polynomial_in, array_in};
 ghost use Rattle.nf_terms.specs.Computed.{Answers, Done, after};
@@ -55,11 +55,17 @@ impl<'v> Subst<'v> {
     }
 
     // The kept answer of an atom.
-    #[tactic(auto, using(crate::proofs::Finding::answer_found))]
+    fn kept_answer(&self, key: &AtomKey) -> Option<&Poly>
+        ensures { MatchOption (option_map (λ p. p.now) result) (holds key.now self.now.atoms ≡ false) (λ p. (holds key.now self.now.atoms ≡ true) × (atom_substituted self.now.vector key.now ≡ Done p)) }
+    {
+        self.kept.get(key)
+    }
+
+    // A copy of the kept answer of an atom.
     fn find(&self, alloc: Global, key: &AtomKey) -> Result<Option<Poly>, NoMemory>
         ensures { IfOk result (λ o. MatchOption o (holds key.now self.now.atoms ≡ false) (λ p. (holds key.now self.now.atoms ≡ true) × (atom_substituted self.now.vector key.now ≡ Done p))) }
     {
-        match self.kept.get(key) {
+        match self.kept_answer(key) {
             Some(answer) => Ok(Some(answer.try_clone(alloc)?)),
             None => Ok(None),
         }
@@ -87,6 +93,7 @@ impl<'v> Subst<'v> {
     }
 
     // Keeps the answer of an atom.
+    #[tactic(auto, using(crate::proofs::Finding::kept_keys, crate::proofs::Finding::kept_answers))]
     fn keep(&mut self, alloc: Global, key: AtomKey, answer: Poly) -> Result<Poly, NoMemory>
         requires { atom_substituted self.old.vector key ≡ Done answer }
         ensures same { IfOk result (λ p. p ≡ answer) }
@@ -100,6 +107,7 @@ impl<'v> Subst<'v> {
     }
 
     // How many atoms are kept.
+    #[tactic(auto, using(crate::proofs::Finding::keys_counted))]
     fn count(&self) -> usize
         ensures { result ≡ length self.now.atoms }
     {
@@ -107,6 +115,7 @@ impl<'v> Subst<'v> {
     }
 
     // Forgets the atoms behind the first ones.
+    #[tactic(auto, using(crate::proofs::Finding::keys_taken, crate::proofs::Finding::answers_taken))]
     fn forget(&mut self, count: usize)
         ensures { self.new ≡ record { vector = self.old.vector; atoms = take count self.old.atoms } }
     {
@@ -145,7 +154,7 @@ fn operate(alloc: Global, s: &mut Subst, atom: &Atom) -> Result<Poly, NfStop>
 
 // An atom with the vector's forms in place of its symbols.
 #[cycle(keeps)]
-#[tactic(auto, using(crate::proofs::Finding::fronts))]
+#[tactic(auto, using(crate::proofs::Finding::one_kept))]
 fn keep_atom(alloc: Global, s: &mut Subst, atom: &Atom) -> Result<Poly, NfStop>
     ensures answers { Answers result (atom_substituted s.old.vector (atom_in atom.now)) }
     ensures vector { s.new.vector ≡ s.old.vector }

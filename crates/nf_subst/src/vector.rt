@@ -3,6 +3,7 @@
 ghost use Rattle.std.specs.Prelude.{◌≡◌, [], Some, option_map, IsTrue, IfOk, OnOk, OnErr};
 ghost use Rattle.nf_subst.specs.Vectors.{form_at, form_of, has_form, number_at, array_at, list_at, array_of_base, list_of_base, with_form, AreNormalForms};
 
+use crate::place::Place;
 use indexmap::IndexMap;
 use nf_terms::arr::Arr;
 use nf_terms::form::Nf;
@@ -13,13 +14,6 @@ use nf_terms::symbols::Sort;
 use nf_terms::tree::{Base, Pos, SeqBase};
 use std::alloc::Global;
 use std::marker::Model;
-
-/// A position and the sort of its form.
-#[derive(Clone, Copy, Debug, PartialEq, Eq, Hash, Drop)]
-pub struct Place {
-    pub pos: Pos,
-    pub sort: Sort,
-}
 
 /// Normal forms for positions, at most one of each sort for a position. A form is found in constant time.
 #[derive(Drop)]
@@ -63,6 +57,7 @@ impl Vector {
     /// Gives a position this form, in the place of its form of the same sort, and leaves the other positions.
     ///
     /// The one refusal is out of memory, and leaves the vector unchanged.
+    #[tactic(auto, using(crate::proofs::Entries::put_placed, crate::proofs::Entries::put_seen))]
     pub fn put(&mut self, p: Pos, value: Nf) -> Result<(), NoMemory>
         ensures put { OnOk result (self.new ≡ with_form p value self.old) }
         ensures refused { OnErr result (self.new ≡ self.old) }
@@ -77,7 +72,6 @@ impl Vector {
     }
 
     /// The form of this sort for a position.
-    #[tactic(auto, using(crate::proofs::Entries::form_found))]
     pub fn form(&self, sort: Sort, p: Pos) -> Option<&Nf>
         ensures { option_map (λ f. f.now) result ≡ form_at sort p self.now }
     {
