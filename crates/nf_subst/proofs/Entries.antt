@@ -23,7 +23,7 @@ found s p [] h = refl
 found s p (e ∷ es) h = λ k. cond (same_pos p e.0.pos && same_sort s (h.0 k)) (Some e.1) (found s p es h.2 k)
 
 module _ (p : Pos) (f : Nf) (s : Sort) (q : s ≡ sort_of_form f) where
-  key : Place
+  abbrev key : Place
   key = record { pos = p; sort = s }
 
   seen : (es : List (Place × Nf)) → ArePlaced es → map entry_of (insert_entry same_place es key f) ≡ with_form p f (map entry_of es)
