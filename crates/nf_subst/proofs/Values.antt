@@ -9,7 +9,9 @@ use Rattle.nf_terms.specs.Limits.{weight_limit}
 use Rattle.nf_terms.specs.Terms.{Atom, Monomial, Polynomial, ArrayTerm, Writes, Symbol, Read, Quotient, Remainder, One, Times, Zero, Plus, Over, NoWrites, Write, polynomial_of_number}
 use Rattle.nf_terms.specs.Lists.{ListTerm}
 use Rattle.nf_terms.specs.Meaning.{Valuation, value_of, value_of_atom, value_of_monomial, contents, contents_after, contents_of_base, items_of_base, items_in, written as stored}
-use Rattle.nf_terms.specs.Computed.{Computed, Done, Wide, Large, after}
+use Rattle.std.specs.Prelude.{Result, Ok, Err, IfOk}
+use Rattle.nf_terms.specs.declared.stop.NfStop.{NfStop}
+use Rattle.nf_terms.specs.Computed.{Computed, Done, Wide, Large, after, Answers}
 use Rattle.nf_terms.specs.declared.tree.Pos.{Pos}
 use Rattle.nf_terms.specs.declared.tree.Base.{Base}
 use Rattle.nf_terms.specs.declared.tree.Base.TheVariants as base
@@ -114,3 +116,18 @@ module _ (w : Valuation) (v : List (Pos × Nf)) where
 
   pub list_value : (l m : ListTerm) → list_substituted v l ≡ Done m → items_in w m ≡ items_in (meaning v w) l
   list_value l m e = items_keep l.items (list_of_base v l.base) m e ∙ ap (λ xs. xs ++ map (value_of (meaning v w)) l.items) (list_base_value l.base)
+
+-- what the calls answer
+pub poly_answer : (v : List (Pos × Nf)) (p : Polynomial) (r : Result Polynomial NfStop) → Answers r (substituted v p) → IfOk r (λ q. (w : Valuation) → value_of w q ≡ value_of (meaning v w) p)
+poly_answer v p (Ok q) e = λ w. substituted_value w v p q e
+poly_answer v p (Err stop) e = tt
+
+pub arr_answer : (v : List (Pos × Nf)) (a : ArrayTerm) (r : Result ArrayTerm NfStop) → Answers r (array_substituted v a) → IfOk r (λ b. (w : Valuation) → contents w b ≡ contents (meaning v w) a)
+arr_answer v a (Ok b) e = λ w. array_value w v a b e
+arr_answer v a (Err stop) e = tt
+
+pub seq_answer : (v : List (Pos × Nf)) (l : ListTerm) (r : Result ListTerm NfStop) → Answers r (list_substituted v l) → IfOk r (λ m. (w : Valuation) → items_in w m ≡ items_in (meaning v w) l)
+seq_answer v l (Ok m) e = λ w. list_value w v l m e
+seq_answer v l (Err stop) e = tt
+
+pub ruleset answers = (poly_answer, arr_answer, seq_answer)

@@ -313,6 +313,7 @@ impl<'v> Subst<'v> {
 }
 
 /// A polynomial with the vector's forms in place of its symbols, as by a new `Subst`.
+#[tactic(auto, using(crate::proofs::Values::answers))]
 pub fn subst_poly(alloc: Global, p: &Poly, v: &Vector) -> Result<Poly, NfStop>
     ensures answers { Answers result (substituted v.now p.now) }
     ensures value { IfOk result (λ r. (w : Valuation) → value_of w r ≡ value_of (meaning v.now w) p.now) }
@@ -321,6 +322,7 @@ pub fn subst_poly(alloc: Global, p: &Poly, v: &Vector) -> Result<Poly, NfStop>
 }
 
 /// An array with the vector's forms in place of its symbols, as by a new `Subst`.
+#[tactic(auto, using(crate::proofs::Values::answers))]
 pub fn subst_arr(alloc: Global, a: &Arr, v: &Vector) -> Result<Arr, NfStop>
     ensures answers { Answers result (array_substituted v.now a.now) }
     ensures value { IfOk result (λ b. (w : Valuation) → contents w b ≡ contents (meaning v.now w) a.now) }
@@ -329,6 +331,7 @@ pub fn subst_arr(alloc: Global, a: &Arr, v: &Vector) -> Result<Arr, NfStop>
 }
 
 /// A list with the vector's forms in place of its symbols, as by a new `Subst`.
+#[tactic(auto, using(crate::proofs::Values::answers))]
 pub fn subst_seq(alloc: Global, l: &Seq, v: &Vector) -> Result<Seq, NfStop>
     ensures answers { Answers result (list_substituted v.now l.now) }
     ensures value { IfOk result (λ m. (w : Valuation) → items_in w m ≡ items_in (meaning v.now w) l.now) }
