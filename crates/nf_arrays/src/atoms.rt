@@ -5,8 +5,8 @@ ghost use Rattle.nf_terms.specs.View.{atom_in, polynomial_in};
 ghost use Rattle.nf_terms.specs.Computed.{Answers};
 ghost use Rattle.nf_arrays.specs.Atoms.{new_atom as new_atom_of, polynomial_of_atom, IsNewAtom};
 
-use nf_terms::measures::{depth_of_atom, size_of_atom};
 use nf_terms::limits::{DEPTH_LIMIT, SIZE_LIMIT};
+use nf_terms::measures::{depth_of_atom, size_of_atom};
 use nf_terms::poly::Poly;
 use nf_terms::stop::{NfStop, NoMemory};
 use nf_terms::tree::{Atom, MonoTree, PolyTree};

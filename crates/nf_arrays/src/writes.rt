@@ -11,8 +11,8 @@ ghost use Rattle.nf_arrays.specs.Writes.{written_last, with_last_write, indices_
 use crate::reads::is_same;
 use nf_terms::arr::Arr;
 use nf_terms::constants::{constant_part, differs_by_constant};
-use nf_terms::measures::depth_of_arr;
 use nf_terms::limits::{DEPTH_LIMIT, SIZE_LIMIT};
+use nf_terms::measures::depth_of_arr;
 use nf_terms::poly::Poly;
 use nf_terms::stop::{NfStop, NoMemory};
 use nf_terms::tree::{ArrTree, Base, PolyTree};

@@ -19,7 +19,7 @@ use Rattle.nf_terms.specs.Normal.{constant_sum}
 use Rattle.nf_terms.specs.Limits.{weight_limit}
 use Rattle.nf_rel.specs.Gcd.{gcd}
 use Rattle.nf_rel.specs.Literals.{common_divisor, divided, signed, begins_positive, Form, form_holds, truth, bounded, bounded_by, literal_form}
-use Rattle.nf_rel.proofs.Divisors.{gcd_is, AllMultiples, all_multiples, exact}
+use Rattle.nf_rel.proofs.CommonDivisors.{gcd_is, AllMultiples, all_multiples, exact}
 
 -- ---- parts of ordered polynomials
 record Parts (m : Monomial) (c : ℤ) (p : Polynomial) : Type 0 where

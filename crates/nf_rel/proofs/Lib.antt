@@ -1,5 +1,5 @@
 pub mod Floors
-pub mod Divisors
+pub mod CommonDivisors
 pub mod Truth
 pub mod Values
 pub mod Divided

@@ -20,7 +20,7 @@ use Rattle.nf_sums.proofs.Values.{subtracted_value, value_parts, goes_done, numb
 use Rattle.nf_rel.specs.declared.kind.Kind.TheVariants.{Eq, Ne}
 use Rattle.nf_rel.specs.Literals.{NormalLiteral, True, False, Is, is_true_in, truth, common_divisor, divided, begins_positive, signed, Form, AtLeastZero, IsZero, IsNotZero, form_holds, bounded, bounded_by, literal_form, one, against_zero, literal}
 use Rattle.nf_rel.proofs.Floors.{lt_true, lt_false, is_lt, not_lt, Floor, floor_of, at_least, equal_where, never_equal}
-use Rattle.nf_rel.proofs.Divisors.{AllMultiples, all_multiples, no_divisor, value_divided}
+use Rattle.nf_rel.proofs.CommonDivisors.{AllMultiples, all_multiples, no_divisor, value_divided}
 
 -- tests that are equal as their sides are
 same_lt : (a b c d : ℤ) → a -ℤ b ≡ c -ℤ d → int_lt a b ≡ int_lt c d

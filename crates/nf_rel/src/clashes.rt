@@ -7,8 +7,8 @@ ghost use Rattle.std.specs.Prelude.{IsTrue};
 ghost use Rattle.nf_rel.specs.Bounds.{clashing_from, in_range, negated_clash};
 ghost use Rattle.nf_rel.specs.View.{literal_in};
 
-use crate::literals::{Bound, NLit};
 use crate::kind::Kind;
+use crate::literals::{Bound, NLit};
 
 // The negation of a bound.
 fn negate_bound(b: Bound) -> Bound

@@ -73,7 +73,10 @@ fn digest_of_poly(poly: &PolyTree) -> u64
 {
     let mut digest = 10;
     for (mono, coefficient) in &poly.monos {
-        digest = mix(mix(digest, digest_of_mono(mono)), of_coefficient(coefficient));
+        digest = mix(
+            mix(digest, digest_of_mono(mono)),
+            of_coefficient(coefficient),
+        );
     }
     digest
 }
