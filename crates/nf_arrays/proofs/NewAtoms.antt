@@ -1,0 +1,53 @@
+-- New atoms.
+use Rattle.std.proofs.Common.{◌≡◌, ◌<◌, ◌^◌, ◌≤◌, ℤ, Bool, true, false, ◌&&◌, not, unsigned_abs, arith, ap, ◌∙◌, Option, None, Some, MatchOption}
+use Rattle.std.proofs.lemmas.Bool.{leb-true}
+use Rattle.nf_terms.specs.Terms.{Polynomial, Quotient, Remainder, One, Times, Zero, Plus}
+use Rattle.nf_terms.specs.Measures.{weight_of}
+use Rattle.nf_terms.specs.Normal.{IsNormal, ordered, is_constant, constant_part, is_light, narrow_inside}
+use Rattle.nf_terms.specs.Limits.{weight_limit}
+use Rattle.nf_terms.proofs.Tests.{and_left, and_both}
+use Rattle.nf_terms.specs.Normal.{constant_sum}
+use Rattle.nf_sums.proofs.Constants.{constant_is}
+use Rattle.nf_arrays.specs.Atoms.{IsNewAtom}
+
+pub constant_light : (p : Polynomial) → unsigned_abs (constant_part p) ≤ weight_of p
+constant_light Zero = omega arith
+constant_light (Plus One c p) = omega arith
+constant_light (Plus (Times a m) c p) = omega (arith, constant_light p)
+
+-- the number that a normal polynomial is
+pub constant_number : (p : Polynomial) (c : ℤ) → IsNormal p → c ≡ constant_part p → unsigned_abs c < 2 ^ 127
+constant_number p c n e = omega (arith, constant_light p, ap unsigned_abs e, leb-true (weight_of p) weight_limit (and_left (is_light p) (narrow_inside p) n.narrow))
+
+-- the number that a normal polynomial is: the sum of its constants
+pub number_sum : (p : Polynomial) (o : Option ℤ) → IsNormal p → MatchOption o (is_constant p ≡ false) (λ c. (is_constant p ≡ true) × (c ≡ constant_part p)) → MatchOption o (is_constant p ≡ false) (λ c. c ≡ constant_sum p)
+number_sum p None n h = h
+number_sum p (Some c) n h = h.1 ∙ constant_is p n.ordered
+
+pub number_small : (p : Polynomial) (o : Option ℤ) → IsNormal p → MatchOption o (is_constant p ≡ false) (λ c. (is_constant p ≡ true) × (c ≡ constant_part p)) → MatchOption o (is_constant p ≡ false) (λ c. unsigned_abs c < 2 ^ 127)
+number_small p None n h = h
+number_small p (Some c) n h = constant_number p c n h.1
+
+and_deep : (a b c d : Bool) → (a && b) ≡ true → (c && d) ≡ true → (a && b && c && d) ≡ true
+and_deep true true c d p q = q
+and_deep true false c d p q = cc
+and_deep false b c d p q = cc
+
+module _ (p q : Polynomial) (m : IsNormal p) (n : IsNormal q) (h : is_constant p && is_constant q ≡ false) where
+  pub new_quotient : IsNewAtom (Quotient p q)
+  new_quotient = record {
+    in_order = and_both (ordered p && ordered q) (not (is_constant p && is_constant q)) (and_both (ordered p) (ordered q) m.ordered n.ordered) (ap not h);
+    narrow = and_deep (is_light p) (narrow_inside p) (is_light q) (narrow_inside q) m.narrow n.narrow;
+    size = omega (arith, m.small, n.small);
+    depth = omega (arith, m.shallow, n.shallow);
+  }
+
+  pub new_remainder : IsNewAtom (Remainder p q)
+  new_remainder = record {
+    in_order = and_both (ordered p && ordered q) (not (is_constant p && is_constant q)) (and_both (ordered p) (ordered q) m.ordered n.ordered) (ap not h);
+    narrow = and_deep (is_light p) (narrow_inside p) (is_light q) (narrow_inside q) m.narrow n.narrow;
+    size = omega (arith, m.small, n.small);
+    depth = omega (arith, m.shallow, n.shallow);
+  }
+
+pub ruleset new_atoms = (constant_light, new_quotient, new_remainder)

@@ -1,0 +1,6 @@
+pub mod Floors
+pub mod CommonDivisors
+pub mod Truth
+pub mod Values
+pub mod Divided
+pub mod Directions

@@ -1,0 +1,4 @@
+pub mod Gcd
+pub mod Literals
+pub mod Bounds
+pub mod View

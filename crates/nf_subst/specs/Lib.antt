@@ -1,0 +1,7 @@
+pub mod Vectors
+pub mod Places
+pub mod Substitution
+pub mod Keeping
+pub mod Digests
+pub mod SameAtoms
+pub mod SamePlaces

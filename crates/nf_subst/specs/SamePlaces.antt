@@ -1,0 +1,83 @@
+-- Places that are the same are equal, and hashed alike.
+use Rattle.std.specs.Prelude.{◌≡◌, ℕ, Bool, true, false, ◌&&◌, ◌==◌}
+use Rattle.std.proofs.Common.{refl, ap, sym, ◌∙◌}
+use Rattle.std.proofs.lemmas.Bool.{eqb-true, eq-eqb}
+use Rattle.std.specs.Cmp.{IsPartialEquivalence, IsEquivalence}
+use Rattle.nf_terms.specs.Mentions.{same_side, same_pos}
+use Rattle.nf_terms.specs.declared.tree.Side.{Side}
+use Rattle.nf_terms.specs.declared.tree.Side.TheVariants.{Left, Right}
+use Rattle.nf_terms.specs.declared.tree.Pos.{Pos}
+use Rattle.nf_terms.specs.declared.symbols.Sort.{Sort}
+use Rattle.nf_terms.specs.declared.symbols.Sort.TheVariants as sort
+use Rattle.nf_terms.proofs.Tests.{and_left, and_right, and_both}
+use Rattle.nf_subst.specs.Vectors.{same_sort}
+use Rattle.nf_subst.specs.Digests.{mixed, digest_of_pos}
+use Rattle.nf_subst.specs.declared.place.Place.{Place}
+
+-- whether two places are the same
+abbrev pub same_place : Place → Place → Bool
+same_place a b = same_pos a.pos b.pos && same_sort a.sort b.sort
+
+sides_equal : (a b : Side) → same_side a b ≡ true → a ≡ b
+sides_equal Left Left e = refl
+sides_equal Left Right e = cc
+sides_equal Right Left e = cc
+sides_equal Right Right e = refl
+
+own_side : (s : Side) → same_side s s ≡ true
+own_side Left = refl
+own_side Right = refl
+
+pub pos_equal : (a b : Pos) → same_pos a b ≡ true → a ≡ b
+pos_equal a b e = λ k. record { side = sides_equal a.side b.side (and_left (same_side a.side b.side) (a.var == b.var) e) k; var = eqb-true a.var b.var (and_right (same_side a.side b.side) (a.var == b.var) e) k }
+
+pub own_pos : (p : Pos) → same_pos p p ≡ true
+own_pos p = and_both (same_side p.side p.side) (p.var == p.var) (own_side p.side) (eq-eqb p.var p.var refl)
+
+pub sorts_equal : (a b : Sort) → same_sort a b ≡ true → a ≡ b
+sorts_equal sort.Scalar sort.Scalar e = refl
+sorts_equal sort.Scalar sort.Array e = cc
+sorts_equal sort.Scalar sort.List e = cc
+sorts_equal sort.Array sort.Scalar e = cc
+sorts_equal sort.Array sort.Array e = refl
+sorts_equal sort.Array sort.List e = cc
+sorts_equal sort.List sort.Scalar e = cc
+sorts_equal sort.List sort.Array e = cc
+sorts_equal sort.List sort.List e = refl
+
+pub own_sort : (s : Sort) → same_sort s s ≡ true
+own_sort sort.Scalar = refl
+own_sort sort.Array = refl
+own_sort sort.List = refl
+
+pub places_equal : (a b : Place) → same_place a b ≡ true → a ≡ b
+places_equal a b e = λ k. record { pos = pos_equal a.pos b.pos (and_left (same_pos a.pos b.pos) (same_sort a.sort b.sort) e) k; sort = sorts_equal a.sort b.sort (and_right (same_pos a.pos b.pos) (same_sort a.sort b.sort) e) k }
+
+own_place : (a : Place) → same_place a a ≡ true
+own_place a = and_both (same_pos a.pos a.pos) (same_sort a.sort a.sort) (own_pos a.pos) (own_sort a.sort)
+
+same_turned : (a b : Place) → same_place a b ≡ same_place b a
+same_turned a b = by_values (same_place a b) (same_place b a) refl refl
+  where
+    by_values : (t u : Bool) → same_place a b ≡ t → same_place b a ≡ u → t ≡ u
+    by_values true true e f = refl
+    by_values true false e f = sym (ap (λ n. same_place b n) (places_equal a b e) ∙ own_place b) ∙ f
+    by_values false true e f = sym e ∙ (ap (same_place a) (places_equal b a f) ∙ own_place a)
+    by_values false false e f = refl
+
+pub places_partly : IsPartialEquivalence same_place
+places_partly = record { symm = same_turned; trans = λ a b d e f. ap (λ n. same_place n d) (places_equal a b e) ∙ f }
+
+pub places_same : IsEquivalence same_place
+places_same = record { refl = own_place; symm = same_turned; congr = λ a b d e. ap (λ n. same_place n d) (places_equal a b e) }
+
+abbrev pub number_of_sort : Sort → ℕ
+number_of_sort sort.Scalar = 1
+number_of_sort sort.Array = 2
+number_of_sort sort.List = 3
+
+abbrev pub digest_of_place : Place → ℕ
+digest_of_place a = mixed (digest_of_pos a.pos) (number_of_sort a.sort)
+
+pub places_alike : (a b : Place) → same_place a b ≡ true → digest_of_place a ≡ digest_of_place b
+places_alike a b e = ap digest_of_place (places_equal a b e)
