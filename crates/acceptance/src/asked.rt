@@ -91,8 +91,8 @@ fn spelled(alloc: Global, text: &str) -> Result<String, AllocError> {
     let tabs = lines.as_str().replace(alloc, "\\t", "\t")?;
     let bytes = tabs.as_str().replace(alloc, "\\r", "\r")?;
     let whole = bytes.as_str().replace(alloc, "{machine}", FINE)?;
-    let inner = with_runs(alloc, whole.as_str(), "<<", ">>")?;
-    with_runs(alloc, inner.as_str(), "(*", "*)")
+    let outer = with_runs(alloc, whole.as_str(), "(*", "*)")?;
+    with_runs(alloc, outer.as_str(), "<<", ">>")
 }
 
 // The text with each run between these marks written out.

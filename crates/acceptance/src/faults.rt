@@ -241,7 +241,7 @@ const OUTSIDE_STATES: &str = "¦FSMD 1;
 ¦1;
 ¦; fsmd 1;
 ¦reset s;
-fsmd ¦2;
+fsmd ¦3;
 fsmd ¦10;
 fsmd ¦one;
 fsmd ¦-1;

@@ -7,7 +7,7 @@ const LEFT_AND_RIGHT: &str = r"¦¦bad input: a.fsmd:1:1: Ended\n
 fsmd 1; reset s;¦¦bad input: a.fsmd:1: UnknownState\n
 fsmd 1; reset s;¦&¦bad input: a.fsmd:1: UnknownState\n
 fsmd 1; output y; reset s; state s: goto s;¦¦bad input: b.fsmd:1:1: Ended\n
-fsmd 1; output y; reset s; state s: goto s;¦\nfsmd 2;¦bad input: b.fsmd:2:6: Unexpected\n
+fsmd 1; output y; reset s; state s: goto s;¦\nfsmd 3;¦bad input: b.fsmd:2:6: Unexpected\n
 fsmd 1; output y; reset s; state s: goto s;¦fsmd 1;\nreset s;¦bad input: b.fsmd:2: UnknownState\n
 fsmd 1; input a; reset s; state s: goto s;¦\n?¦bad input: b.fsmd:2:1: BadByte\n
 fsmd 1; local array m; reset s; state s: goto s;¦fsmd 1¦bad input: b.fsmd:1:7: Ended\n

@@ -61,7 +61,7 @@ fn words_of_format_2(rt: HostRuntime) -> Result<(), Fail> {
 const OPERATORS: &str = "<<128 times:->>a ¦+ a
 <<128 times:->>a¦[0]
 <<128 times:->>¦(a)
-n[<<127 times:->>a] + n[0¦- a]
+n[<<125 times:->>a] + n[0¦- a]
 ";
 
 const EMITTED: Case = Case {
