@@ -4,8 +4,7 @@ use Rattle.fs_model.specs.Source.{Source}
 use Rattle.fs_model.specs.Machines.{Fsmd}
 use Rattle.fs_model.specs.Limits.{most_text_bytes}
 use Rattle.fs_grammar.specs.declared.fault.TextFault.{TextFault}
-use Rattle.fs_text_laws.specs.Limit.{SpellWithin, StopWithin}
-use Rattle.fs_lex.specs.Scan.{tokens_of}
+use Rattle.fs_text_laws.specs.Texts.{TextSpells, TextStops}
 use Rattle.fs_write.specs.Canonical.{canonical}
 use Rattle.fs_rules.specs.declared.check.CheckFault.{CheckFault}
 use Rattle.fs_ast.specs.Spelled.{machine_of}
@@ -18,7 +17,7 @@ IsTooLong bytes = most_text_bytes < length bytes
 -- the bytes spell these parts, which break no rule
 pub record SpellsParts (parts : Source) (bytes : List ℕ) : Type 0 where
   pub few : length bytes ≤ most_text_bytes
-  pub spells : SpellWithin (tokens_of bytes) parts
+  pub spells : TextSpells bytes parts
   pub lawful : IsLawful parts
 
 -- the bytes spell this machine
@@ -37,14 +36,14 @@ pub record HasCanonicalText (text : List ℕ) (bytes : List ℕ) : Type 0 where
   pub spells : SpellsParts parts bytes
   pub is_canonical : text ≡ canonical parts
 
--- the bytes spell no parts: the reading of their tokens stops with this fault
+-- the bytes spell no parts: they are faulty here
 pub record HasTextFault (fault : TextFault) (bytes : List ℕ) : Type 0 where
   pub few : length bytes ≤ most_text_bytes
-  pub stops : StopWithin (tokens_of bytes) fault
+  pub stops : TextStops bytes fault
 
 -- the bytes spell parts, and this is the rule that they break first
 pub record HasCheckFault (fault : CheckFault) (bytes : List ℕ) : Type 0 where
   pub parts : Source
   pub few : length bytes ≤ most_text_bytes
-  pub spells : SpellWithin (tokens_of bytes) parts
+  pub spells : TextSpells bytes parts
   pub broken : IsFirstBroken parts fault

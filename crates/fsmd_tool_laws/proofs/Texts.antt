@@ -1,6 +1,6 @@
 -- A file is one thing: it spells one machine, or has one fault, or is too long.
 use Rattle.std.proofs.Common.{◌≡◌, ℕ, ◌<◌, ◌≤◌, Bool, false, List, [], ◌∷◌, length, sym, ◌∙◌, ap, subst, ⊎_elim, arith, refl}
-use Rattle.std.specs.Prelude.{◌&&◌, ◌||◌, ◌==◌, nat_lt, Result, Ok, Err, Contains}
+use Rattle.std.specs.Prelude.{◌&&◌, ◌||◌, ◌==◌, nat_lt, Contains}
 use Rattle.std.specs.List.{slice_index_or}
 use Rattle.std.proofs.lemmas.Bool.Decides.{nat_tests}
 use Rattle.fs_model.specs.Source.{Source}
@@ -13,20 +13,9 @@ use Rattle.fs_ast.specs.Spelled.{machine_of}
 use Rattle.fs_ast.specs.Rules.{rank, is_sooner, plain_faults, branch_faults, IsFirstBroken, IsLawful}
 use Rattle.fs_write.specs.Canonical.{canonical}
 use Rattle.fs_model.specs.Limits.{most_text_bytes}
-use Rattle.fs_lex.specs.Scan.{tokens_of}
-use Rattle.fs_text_laws.specs.Limit.{SpellWithin, StopWithin}
-use Rattle.fs_text_laws.proofs.Limit.{spelled_only, fault_only}
+use Rattle.fs_text_laws.proofs.Texts.{one_source, one_fault, not_both}
 use Rattle.fsmd_tool.specs.Texts.{SpellsMachine, IsMachine, HasCanonicalText, IsTooLong, HasTextFault, HasCheckFault}
 use Rattle.fsmd_tool.specs.Paths.{paths_text, HasPaths}
-
-ok_same : {A E : Type 0} (x y : A) → Path (Result A E) (Ok x) (Ok y) → x ≡ y
-ok_same x y e = cc
-
-err_same : {A E : Type 0} (x y : E) → Path (Result A E) (Err x) (Err y) → x ≡ y
-err_same x y e = cc
-
-ok_err : {A E : Type 0} (x : A) (y : E) → Path (Result A E) (Ok x) (Err y) → ⊥
-ok_err x y e = cc
 
 -- ---- the broken rule that is answered is one
 
@@ -81,29 +70,23 @@ lawful_unbroken p f l b =
 pub few_not_many : (n m : ℕ) → n ≤ m → m < n → ⊥
 few_not_many n m h k = omega arith
 
-read_once : (bytes : List ℕ) (p q : Source) → SpellWithin (tokens_of bytes) p → SpellWithin (tokens_of bytes) q → p ≡ q
-read_once bytes p q s t = ok_same p q (sym (spelled_only bytes p s) ∙ spelled_only bytes q t)
-
-read_or_fault : (bytes : List ℕ) (p : Source) (f : TextFault) → SpellWithin (tokens_of bytes) p → StopWithin (tokens_of bytes) f → ⊥
-read_or_fault bytes p f s t = ok_err p f (sym (spelled_only bytes p s) ∙ fault_only bytes f t)
-
 pub spells_once : (bytes : List ℕ) (m n : Fsmd) → SpellsMachine m bytes → SpellsMachine n bytes → m ≡ n
-spells_once bytes m n s t = s.machine ∙ ap machine_of (read_once bytes s.parts t.parts s.spells.spells t.spells.spells) ∙ sym t.machine
+spells_once bytes m n s t = s.machine ∙ ap machine_of (one_source bytes s.parts t.parts s.spells.spells t.spells.spells) ∙ sym t.machine
 
 pub text_fault_once : (bytes : List ℕ) (f g : TextFault) → HasTextFault f bytes → HasTextFault g bytes → f ≡ g
-text_fault_once bytes f g s t = err_same f g (sym (fault_only bytes f s.stops) ∙ fault_only bytes g t.stops)
+text_fault_once bytes f g s t = one_fault bytes f g s.stops t.stops
 
 pub check_fault_once : (bytes : List ℕ) (f g : CheckFault) → HasCheckFault f bytes → HasCheckFault g bytes → f ≡ g
-check_fault_once bytes f g s t = first_broken_once t.parts f g (subst (λ p. IsFirstBroken p f) (read_once bytes s.parts t.parts s.spells t.spells) s.broken) t.broken
+check_fault_once bytes f g s t = first_broken_once t.parts f g (subst (λ p. IsFirstBroken p f) (one_source bytes s.parts t.parts s.spells t.spells) s.broken) t.broken
 
 pub text_or_check : (bytes : List ℕ) (f : TextFault) (g : CheckFault) → HasTextFault f bytes → HasCheckFault g bytes → ⊥
-text_or_check bytes f g s t = read_or_fault bytes t.parts f t.spells s.stops
+text_or_check bytes f g s t = not_both bytes t.parts f t.spells s.stops
 
 pub spells_no_text_fault : (bytes : List ℕ) (m : Fsmd) (f : TextFault) → SpellsMachine m bytes → HasTextFault f bytes → ⊥
-spells_no_text_fault bytes m f s t = read_or_fault bytes s.parts f s.spells.spells t.stops
+spells_no_text_fault bytes m f s t = not_both bytes s.parts f s.spells.spells t.stops
 
 pub spells_no_check_fault : (bytes : List ℕ) (m : Fsmd) (f : CheckFault) → SpellsMachine m bytes → HasCheckFault f bytes → ⊥
-spells_no_check_fault bytes m f s t = lawful_unbroken t.parts f (subst IsLawful (read_once bytes s.parts t.parts s.spells.spells t.spells) s.spells.lawful) t.broken
+spells_no_check_fault bytes m f s t = lawful_unbroken t.parts f (subst IsLawful (one_source bytes s.parts t.parts s.spells.spells t.spells) s.spells.lawful) t.broken
 
 pub long_spells_none : (bytes : List ℕ) (m : Fsmd) → SpellsMachine m bytes → IsTooLong bytes → ⊥
 long_spells_none bytes m s long = few_not_many (length bytes) most_text_bytes s.spells.few long
@@ -115,7 +98,7 @@ pub long_no_check_fault : (bytes : List ℕ) (f : CheckFault) → HasCheckFault 
 long_no_check_fault bytes f s long = few_not_many (length bytes) most_text_bytes s.few long
 
 pub canonical_once : (bytes t u : List ℕ) → HasCanonicalText t bytes → HasCanonicalText u bytes → t ≡ u
-canonical_once bytes t u p q = p.is_canonical ∙ ap canonical (read_once bytes p.parts q.parts p.spells.spells q.spells.spells) ∙ sym q.is_canonical
+canonical_once bytes t u p q = p.is_canonical ∙ ap canonical (one_source bytes p.parts q.parts p.spells.spells q.spells.spells) ∙ sym q.is_canonical
 
 pub paths_once : (bytes t u : List ℕ) → HasPaths t bytes → HasPaths u bytes → t ≡ u
 paths_once bytes t u p q = p.lists ∙ ap paths_text (spells_once bytes p.machine q.machine p.spells q.spells) ∙ sym q.lists
