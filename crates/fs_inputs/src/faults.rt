@@ -3,7 +3,7 @@
 ghost use Rattle.std.specs.Prelude.{◌≡◌};
 ghost use Rattle.fs_inputs.specs.declared.faults.InputError.TheVariants as errors;
 
-use fs_model::name::NoMemory;
+use fs_runs::memory::NoMemory;
 use std::alloc::AllocError;
 use thiserror::Error;
 

@@ -13,9 +13,9 @@ ghost use Rattle.fs_inputs.specs.Refusals.{IsJson, SpelledBy, Spells, IsRefused,
 use crate::faults::{Fault, InputError};
 use crate::values::{value_fault, value_for};
 use fs_ast::machine::Machine;
-use fs_model::name::NoMemory;
 use fs_model::parts::{Role, Sort, VarInfo};
 use fs_runs::inputs::Inputs;
+use fs_runs::memory::NoMemory;
 use serde_json::{Map, Value};
 use std::alloc::Global;
 

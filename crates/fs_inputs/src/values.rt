@@ -11,8 +11,8 @@ ghost use Rattle.fs_inputs.specs.Steps.{Holds, Puts, is_number};
 
 use crate::faults::Fault;
 use crate::numbers::{Reading, read_number};
-use fs_model::name::NoMemory;
 use fs_model::parts::Sort;
+use fs_runs::memory::NoMemory;
 use fs_runs::values::{Entries, Value as Held};
 use serde_json::{Map, Number, Value};
 use std::alloc::Global;

@@ -10,9 +10,9 @@ ghost use Rattle.fs_runs.specs.Outcomes.{PastOnly};
 ghost use Rattle.fs_runs.specs.declared.changes.Change.{Change};
 
 use crate::eval::value_of;
+use crate::memory::NoMemory;
 use crate::step::StepStop;
 use crate::values::Value;
-use fs_model::name::NoMemory;
 use fs_model::parts::{Assign, VarId};
 use std::alloc::Global;
 

@@ -7,10 +7,11 @@ ghost use Rattle.fs_model.specs.Runs.{is_input, start};
 ghost use Rattle.fs_runs.specs.Values.{sort_of, content_of, store_of, IsStoreOf};
 ghost use Rattle.fs_runs.specs.InputValues.{value_named, input_values, inputs_of, signatures_of, input_signatures, sort_named, Serves, all_zero, first_content, is_given, signature, AllZero};
 
+use crate::memory::NoMemory;
 use crate::store::Store;
 use crate::values::Value;
 use fs_ast::machine::Machine;
-use fs_model::name::{Name, NoMemory};
+use fs_model::name::Name;
 use fs_model::parts::{Sort, VarInfo};
 use std::alloc::Global;
 

@@ -6,6 +6,7 @@ mod changes;
 mod eval;
 pub mod inputs;
 pub mod laws;
+pub mod memory;
 pub mod numbers;
 pub mod run;
 pub mod step;

@@ -4,7 +4,7 @@ ghost use Rattle.std.specs.Prelude.{◌≡◌, ◌++◌, ◌∷◌, [], ℕ, suc
 ghost use Rattle.std.specs.Result.{OnOk};
 ghost use Rattle.fs_runs.specs.Values.{numbers_of, has_room};
 
-use fs_model::name::NoMemory;
+use crate::memory::NoMemory;
 use std::alloc::Global;
 
 /// A list of numbers of 128 bits. Contracts see it as a list.

@@ -9,11 +9,11 @@ ghost use Rattle.fs_runs.specs.Outcomes.{output_names, outs_of, told_by, HoldsEa
 ghost use Rattle.std.specs.Result.{OnOk};
 
 use crate::inputs::{Inputs, start};
+use crate::memory::NoMemory;
 use crate::step::{StepStop, step};
 use crate::store::Store;
 use crate::values::Value;
 use fs_ast::machine::Machine;
-use fs_model::name::NoMemory;
 use fs_model::parts::{StateId, VarInfo};
 use std::alloc::Global;
 

@@ -8,8 +8,8 @@ ghost use Rattle.fs_runs.specs.Values.{entry, content_of, sort_of, zero_content}
 
 mod listing;
 
+use crate::memory::NoMemory;
 use crate::numbers::Numbers;
-use fs_model::name::NoMemory;
 use fs_model::parts::Sort;
 use std::alloc::Global;
 use std::collections::BTreeMap;

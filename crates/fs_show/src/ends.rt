@@ -7,9 +7,9 @@ ghost use Rattle.fs_runs.specs.Outcomes.{output_names, told_by, HoldsEach};
 ghost use Rattle.fs_show.specs.Ends.{IsEndText, IsStopText, side_word, line_of};
 
 use crate::items::items;
+use crate::memory::NoMemory;
 use crate::shown::append;
 use fs_ast::machine::Machine;
-use fs_model::name::NoMemory;
 use fs_runs::run::{Ended, RunStop};
 use std::alloc::{AllocError, Global};
 

@@ -7,9 +7,10 @@ ghost use Rattle.fs_runs.specs.Outcomes.{output_names, told_by, HoldsEach};
 ghost use Rattle.fs_show.specs.Shown.{Shows};
 ghost use Rattle.fs_show.specs.Items.{AreItems, AddsItems, item_of};
 
+use crate::memory::NoMemory;
 use crate::shown::{append, push, value_text};
 use fs_ast::machine::Machine;
-use fs_model::name::{Name, NoMemory};
+use fs_model::name::Name;
 use fs_model::parts::VarInfo;
 use fs_runs::values::Value;
 use std::alloc::Global;

@@ -4,5 +4,6 @@
 pub mod ends;
 mod items;
 pub mod laws;
+pub mod memory;
 pub mod replay;
 mod shown;

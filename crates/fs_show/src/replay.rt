@@ -10,9 +10,9 @@ ghost use Rattle.fs_show.specs.Items.{AgreeOn, SameOutputs};
 ghost use Rattle.fs_show.specs.Ends.{IsReplayText, replay_text, side_line, after_space, verdict_line};
 
 use crate::items::{held, items};
+use crate::memory::NoMemory;
 use crate::shown::{append, joined};
 use fs_ast::machine::Machine;
-use fs_model::name::NoMemory;
 use fs_model::parts::VarInfo;
 use fs_runs::numbers::Numbers;
 use fs_runs::run::Ended;

@@ -7,7 +7,7 @@ ghost use Rattle.std.specs.Fmt.{signed_decimal};
 ghost use Rattle.fs_runs.specs.Values.{content_of};
 ghost use Rattle.fs_show.specs.Shown.{joined, entry_text, array_text, list_text, Shows};
 
-use fs_model::name::NoMemory;
+use crate::memory::NoMemory;
 use fs_runs::values::Value;
 use std::alloc::{AllocError, Global};
 
@@ -106,13 +106,13 @@ fn array_text(alloc: Global, entries: &[(i128, i128)]) -> Result<Vec<u8>, NoMemo
 }
 
 // A text between two others.
-fn between(alloc: Global, open: &[u8], text: &[u8], close: &[u8]) -> Result<Vec<u8>, NoMemory>
-    ensures { IfOk result (λ whole. whole.items ≡ open.now ++ (text.now ++ close.now)) }
+fn between(alloc: Global, front: &[u8], text: &[u8], back: &[u8]) -> Result<Vec<u8>, NoMemory>
+    ensures { IfOk result (λ whole. whole.items ≡ front.now ++ (text.now ++ back.now)) }
 {
     let mut whole = Vec::new(alloc);
-    append(&mut whole, open)?;
+    append(&mut whole, front)?;
     append(&mut whole, text)?;
-    append(&mut whole, close)?;
+    append(&mut whole, back)?;
     Ok(whole)
 }
 

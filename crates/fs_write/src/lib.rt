@@ -19,9 +19,12 @@ pub mod laws;
 mod states;
 mod terms;
 
-use fs_model::name::NoMemory;
 use fs_model::parts::Parts;
 use std::alloc::Global;
+
+/// Out of memory.
+#[derive(Clone, Copy, Debug, PartialEq, Eq)]
+pub struct NoMemory;
 
 /// The canonical text of parts that a text can spell, in format 2 exactly where they declare ports or
 /// emit. Reading it gives the parts back, each with its line in this text. Takes time and memory in proportion to the text.

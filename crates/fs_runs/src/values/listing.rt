@@ -6,8 +6,8 @@ ghost use Rattle.std.specs.Result.{OnOk};
 ghost use Rattle.fs_runs.specs.Values.{entry};
 ghost use Rattle.fs_runs.specs.Listing.{IsListing};
 
+use crate::memory::NoMemory;
 use crate::values::Entries;
-use fs_model::name::NoMemory;
 use std::alloc::Global;
 
 impl Entries {

@@ -1,0 +1,11 @@
+//! Memory, which may be refused.
+
+/// Out of memory.
+#[derive(Clone, Copy, Debug, PartialEq, Eq)]
+pub struct NoMemory;
+
+impl From<fs_runs::memory::NoMemory> for NoMemory {
+    fn from(_refused: fs_runs::memory::NoMemory) -> NoMemory {
+        NoMemory
+    }
+}
