@@ -13,13 +13,13 @@ use Rattle.fs_rules.specs.Spelled.{names_of, variables_of, state_names, place, m
 use Rattle.fs_rules.specs.Sound.{first_transition_target, is_cutpoint}
 use Rattle.fs_rules.specs.Rules.{rank, is_sooner, plain_faults, branch_faults, after_steps, IsEndless, IsFirstBroken}
 use Rattle.fs_rules.specs.FirstFault.{earliest}
-use Rattle.fs_ast.specs.Resolved.{placed_spelled}
+use Rattle.fs_ast.specs.Resolved.{placed_spelled, placed}
 use Rattle.fs_ast.specs.Shapes.{skeleton, forked_faults, endless_faults, IsFirstOfShapes}
 use Rattle.fs_rules.proofs.Turns.{map_map, length_mapped}
 use Rattle.fs_rules.proofs.FirstFaults.{earliest-append}
 use Rattle.fs_rules.proofs.Rounds.{get_front, get_back, get_either}
 use Rattle.fs_ast.proofs.Kept.{get_mapped, no_state}
-use Rattle.fs_ast.proofs.Whole.{placed, placed_states, forked_is, cut_same}
+use Rattle.fs_ast.proofs.Whole.{placed_states, forked_is, cut_same}
 
 -- ---- the order of broken rules
 

@@ -11,8 +11,10 @@ use Rattle.fs_model.specs.Source.{SourceTransition, SourceState, Source}
 use Rattle.fs_model.specs.Machines.{State, Fsmd, transitions_of}
 use Rattle.fs_model.specs.Trees.{tree_of_transitions, branches_of, count_leaves}
 use Rattle.fs_rules.specs.declared.check.CheckRule.{CheckRule}
+use Rattle.fs_rules.specs.declared.check.CheckFault.{CheckFault}
 use Rattle.fs_rules.specs.declared.check.CheckRule.TheVariants.{TwiceNamed, UnknownName, WrongSort, AssignInput, AssignedTwice, NoElse, AfterElse, TooManyBranches, UnknownState, TooMany, TooManyEmits}
 use Rattle.std.proofs.lemmas.Option.{slice_get_within}
+use Rattle.fs_model.proofs.Truth.{and_both, not_false}
 use Rattle.fs_model.specs.Renamed.{guard_over}
 use Rattle.fs_rules.specs.Spelled.{variables_of, names_of, state_names, place, line_spelled, state_spelled, machine_of}
 use Rattle.fs_model.specs.Words.{is_name}
@@ -23,7 +25,7 @@ use Rattle.fs_rules.specs.Sound.{has_sort, other_sort_at, input_at, names_differ
 use Rattle.fs_rules.specs.Rules.{at_lines, broken_where, declared_names, declared_states, repeated, past, is_known, uses_unknown, uses_wrong_sort, changes_input, line_faults, lines_faults, lacks_else, after_else, state_faults, plain_faults, branches_too_often, branch_faults, after_steps, IsLawful}
 use Rattle.fs_rules.specs.Places.{names_in}
 use Rattle.fs_rules.proofs.Turns.{map_map, length_mapped}
-use Rattle.fs_rules.proofs.Naming.{names_declared, names_stated}
+use Rattle.fs_rules.proofs.Naming.{names_declared, names_of_declared}
 use Rattle.fs_ast.proofs.Leaves.{length_leaves}
 use Rattle.fs_ast.proofs.Numbers.{numbers_in_transition, state_numbers, transition_numbers}
 
@@ -73,10 +75,6 @@ or_false : (a b : Bool) → (a ≡ true → ⊥) → b ≡ false → (a || b) �
 or_false true b h e = absurd (h refl)
 or_false false b h e = e
 
-and_true : (a b : Bool) → a ≡ true → b ≡ true → (a && b) ≡ true
-and_true true b e f = f
-and_true false b e f = absurd (cc)
-
 record Apart (before : List (List ℕ)) (ns : List (List ℕ)) : Type 0 where
   differ : names_differ ns ≡ true
   apart : (x : List ℕ) → list_any (λ m. bytes_eq m x) before ≡ true → list_any (λ m. bytes_eq m x) ns ≡ false
@@ -87,7 +85,7 @@ unrepeated before (n ∷ ns) e =
     let h = unrepeated_head (list_any (λ m. bytes_eq m n.1) before) n.0 (repeated (n.1 ∷ before) ns) e in
     let rest = unrepeated (n.1 ∷ before) ns h.1 in
     record {
-      differ = and_true (not (list_any (λ m. bytes_eq m n.1) (names_in ns))) (names_differ (names_in ns)) (ap not (rest.apart n.1 (ap (λ b. b || list_any (λ m. bytes_eq m n.1) before) (same_name n.1)))) rest.differ;
+      differ = and_both (not (list_any (λ m. bytes_eq m n.1) (names_in ns))) (names_differ (names_in ns)) (ap not (rest.apart n.1 (ap (λ b. b || list_any (λ m. bytes_eq m n.1) before) (same_name n.1)))) rest.differ;
       apart = λ x seen.
           or_false (bytes_eq n.1 x) (list_any (λ m. bytes_eq m x) (names_in ns))
           (λ t. let same : n.1 ≡ x = (bytes_eq-Decides n.1 x).0 t in let s : list_any (λ m. bytes_eq m n.1) before ≡ true = ap (λ k. list_any (λ m. bytes_eq m k) before) same ∙ seen in let f = h.0 in cc)
@@ -98,10 +96,6 @@ pub differ : (ns : List (ℕ × List ℕ)) → repeated [] ns ≡ [] → names_d
 differ ns e = (unrepeated [] ns e).differ
 
 -- ---- one transition
-
-not_false : (b : Bool) → not b ≡ false → b ≡ true
-not_false true e = refl
-not_false false e = absurd (cc)
 
 pub both_true : (a b : Bool) → (a && b) ≡ true → (a ≡ true) × (b ≡ true)
 both_true true b e = (refl, e)
@@ -124,57 +118,65 @@ all_sorts test vs [] e f = refl
 all_sorts test vs (x ∷ xs) e f =
     let a = both_true (is_known vs x) (list_all (is_known vs) xs) e in
     let b = both_false (other_sort_at test vs x) (list_any (other_sort_at test vs) xs) f in
-    and_true (has_sort test (slice_get vs x)) (list_all (λ y. has_sort test (slice_get vs y)) xs) (sort_known test vs x (below x (length vs) a.0) b.0) (all_sorts test vs xs a.1 b.1)
+    and_both (has_sort test (slice_get vs x)) (list_all (λ y. has_sort test (slice_get vs y)) xs) (sort_known test vs x (below x (length vs) a.0) b.0) (all_sorts test vs xs a.1 b.1)
 
 all_not : {A : Type 0} (p : A → Bool) (xs : List A) → list_any p xs ≡ false → list_all (λ x. not (p x)) xs ≡ true
 all_not p [] e = refl
-all_not p (x ∷ xs) e = let b = both_false (p x) (list_any p xs) e in and_true (not (p x)) (list_all (λ y. not (p y)) xs) (ap not b.0) (all_not p xs b.1)
+all_not p (x ∷ xs) e = let b = both_false (p x) (list_any p xs) e in and_both (not (p x)) (list_all (λ y. not (p y)) xs) (ap not b.0) (all_not p xs b.1)
 
 few : (most n : ℕ) → nat_lt most n ≡ false → n ≤ most
 few most n e = grind (arith, nat_tests)
+
+-- a rule that is not broken, and what comes after it
+kept_then : (b : Bool) (r : CheckRule) (n : ℕ) (rest : List CheckFault) → broken_where b r n ++ rest ≡ [] → (b ≡ false) × (rest ≡ [])
+kept_then false r n rest e = (refl, e)
+kept_then true r n rest e = absurd (cc)
+
+-- a transition breaks no rule
+record KeepsEach (vs : List VarInfo) (count : ℕ) (l : Transition ℕ ℕ) : Type 0 where
+  known : uses_unknown vs l ≡ false
+  sorted : uses_wrong_sort vs l ≡ false
+  inputs : changes_input vs l ≡ false
+  once : all_differ (assigned_in l.assignments) ≡ true
+  target : l.target < count
+  emits : nat_lt most_emits (emit_count l.assignments) ≡ false
+
+keeps_each : (vs : List VarInfo) (count n : ℕ) (l : Transition ℕ ℕ) → line_faults vs count n l ≡ [] → KeepsEach vs count l
+keeps_each vs count n l e =
+    let a = kept_then (uses_unknown vs l) UnknownName n _ e in
+    let b = kept_then (uses_wrong_sort vs l) WrongSort n _ a.1 in
+    let c = kept_then (changes_input vs l) AssignInput n _ b.1 in
+    let d = kept_then (not (all_differ (assigned_in l.assignments))) AssignedTwice n _ c.1 in
+    let f = kept_then (not (nat_lt l.target count)) UnknownState n _ d.1 in
+    record {
+      known = a.0;
+      sorted = b.0;
+      inputs = c.0;
+      once = not_false (all_differ (assigned_in l.assignments)) d.0;
+      target = below l.target count (not_false (nat_lt l.target count) f.0);
+      emits = kept (nat_lt most_emits (emit_count l.assignments)) TooManyEmits n f.1;
+    }
 
 pub transition_sound : (vs : List VarInfo) (count n : ℕ) (l : Transition ℕ ℕ) → list_all is_text_number (numbers_in_condition l.guard ++ numbers_in_assignments l.assignments) ≡ true → line_faults vs count n l ≡ [] → IsSoundTransition vs count l
 transition_sound vs count n l right e =
     let scalars = scalars_in_condition l.guard ++ scalars_in_assignments l.assignments in
     let arrays = arrays_in_condition l.guard ++ arrays_in_assignments l.assignments in
     let ports = ports_in_assignments l.assignments in
-    let u = broken_where (uses_unknown vs l) UnknownName n in
-    let w = broken_where (uses_wrong_sort vs l) WrongSort n in
-    let p = broken_where (changes_input vs l) AssignInput n in
-    let t = broken_where (not (all_differ (assigned_in l.assignments))) AssignedTwice n in
-    let s = broken_where (not (nat_lt l.target count)) UnknownState n in
-    let x = broken_where (nat_lt most_emits (emit_count l.assignments)) TooManyEmits n in
-    let after_u = nil_right u (w ++ (p ++ (t ++ (s ++ x)))) e in
-    let after_w = nil_right w (p ++ (t ++ (s ++ x))) after_u in
-    let after_p = nil_right p (t ++ (s ++ x)) after_w in
-    let after_t = nil_right t (s ++ x) after_p in
-    let known = both_true (list_all (is_known vs) scalars) (list_all (is_known vs) arrays && list_all (is_known vs) ports)
-    (not_false (list_all (is_known vs) scalars && (list_all (is_known vs) arrays && list_all (is_known vs) ports)) (kept (uses_unknown vs l) UnknownName n (nil_left u (w ++ (p ++ (t ++ (s ++ x)))) e)))
-    in
+    let k = keeps_each vs count n l e in
+    let known = both_true (list_all (is_known vs) scalars) (list_all (is_known vs) arrays && list_all (is_known vs) ports) (not_false (list_all (is_known vs) scalars && (list_all (is_known vs) arrays && list_all (is_known vs) ports)) k.known) in
     let known_others = both_true (list_all (is_known vs) arrays) (list_all (is_known vs) ports) known.1 in
-    let sorts = both_false (list_any (other_sort_at is_scalar vs) scalars) (list_any (other_sort_at is_array vs) arrays || list_any (other_sort_at is_port vs) ports) (kept (uses_wrong_sort vs l) WrongSort n (nil_left w (p ++ (t ++ (s ++ x))) after_u)) in
+    let sorts = both_false (list_any (other_sort_at is_scalar vs) scalars) (list_any (other_sort_at is_array vs) arrays || list_any (other_sort_at is_port vs) ports) k.sorted in
     let sorts_others = both_false (list_any (other_sort_at is_array vs) arrays) (list_any (other_sort_at is_port vs) ports) sorts.1 in
     record {
       scalars = all_sorts is_scalar vs scalars known.0 sorts.0;
       arrays = all_sorts is_array vs arrays known_others.0 sorts_others.0;
       ports = all_sorts is_port vs ports known_others.1 sorts_others.1;
       numbers = right;
-      inputs_stay = all_not (λ a. input_at vs (changed_by a)) l.assignments (kept (changes_input vs l) AssignInput n (nil_left p (t ++ (s ++ x)) after_w));
-      assigned_once = not_false (all_differ (assigned_in l.assignments)) (kept (not (all_differ (assigned_in l.assignments))) AssignedTwice n (nil_left t (s ++ x) after_p));
-      few_emits = few most_emits (emit_count l.assignments) (kept (nat_lt most_emits (emit_count l.assignments)) TooManyEmits n (nil_right s x after_t));
-      target_in = below l.target count (not_false (nat_lt l.target count) (kept (not (nat_lt l.target count)) UnknownState n (nil_left s x after_t)));
+      inputs_stay = all_not (λ a. input_at vs (changed_by a)) l.assignments k.inputs;
+      assigned_once = k.once;
+      few_emits = few most_emits (emit_count l.assignments) k.emits;
+      target_in = k.target;
     }
-
-target_low : (vs : List VarInfo) (count n : ℕ) (l : Transition ℕ ℕ) → line_faults vs count n l ≡ [] → l.target < count
-target_low vs count n l e =
-    let u = broken_where (uses_unknown vs l) UnknownName n in
-    let w = broken_where (uses_wrong_sort vs l) WrongSort n in
-    let p = broken_where (changes_input vs l) AssignInput n in
-    let t = broken_where (not (all_differ (assigned_in l.assignments))) AssignedTwice n in
-    let s = broken_where (not (nat_lt l.target count)) UnknownState n in
-    let x = broken_where (nat_lt most_emits (emit_count l.assignments)) TooManyEmits n in
-    let after_t = nil_right t (s ++ x) (nil_right p (t ++ (s ++ x)) (nil_right w (p ++ (t ++ (s ++ x))) (nil_right u (w ++ (p ++ (t ++ (s ++ x)))) e))) in
-    below l.target count (not_false (nat_lt l.target count) (kept (not (nat_lt l.target count)) UnknownState n (nil_left s x after_t)))
 
 -- ---- the transitions of a state
 
@@ -195,7 +197,7 @@ open_end ns ss [] e f = absurd (cc)
 open_end ns ss (l ∷ []) e f = open_guard (guard_over (place ns)) l.content.guard e
 open_end ns ss (l ∷ k ∷ ls) e f =
     let h = else_head (not (is_some l.content.guard)) k.line (after_else true ls) (after_else (not (is_some k.content.guard)) ls) f in
-    and_true (not (is_open (line_spelled ns ss l))) (ends_open (map (line_spelled ns ss) (k ∷ ls)))
+    and_both (not (is_open (line_spelled ns ss l))) (ends_open (map (line_spelled ns ss) (k ∷ ls)))
     (shut_guard (guard_over (place ns)) l.content.guard (not_false (is_some l.content.guard) h.0)) (open_end ns ss (k ∷ ls) e h.1)
 
 -- ---- states by their places
@@ -327,7 +329,7 @@ sound p k forked ends right =
       variables_differ = ap names_differ (sym (names_declared p.declarations)) ∙ differ (declared_names p.declarations) k.variables_once;
       variables_named = right.variables;
       states_named = right.states;
-      states_differ = ap names_differ (map_map (λ s. s.name) (state_spelled ns ss) p.states ∙ sym (names_stated p.states)) ∙ differ (declared_states p.states) k.states_once;
+      states_differ = ap names_differ (map_map (λ s. s.name) (state_spelled ns ss) p.states ∙ sym (names_of_declared p.states)) ∙ differ (declared_states p.states) k.states_once;
       reset_in = let h = k.reset in omega arith;
       transitions_sound = λ q l j at.
           ⊎_elim
@@ -395,6 +397,6 @@ lead_on p k q h =
     let s = get_there p.states q h in
     let e = state_ends p k q s.0 s.1 in
     let l = get_there s.0.lines 0 (has_first s.0.lines e.0) in
-    let low = target_low vs (length p.states) l.0.line (line_spelled ns ss l.0) (lines_kept p k q s.0 s.1 0 l.0 l.1) in
+    let low = (keeps_each vs (length p.states) l.0.line (line_spelled ns ss l.0) (lines_kept p k q s.0 s.1 0 l.0 l.1)).target in
     subst (λ ls. first_transition_target ls < length p.states) (sym (lines_some ns ss p.states q s.0 s.1))
     (first_low (length p.states) (map (line_spelled ns ss) s.0.lines) (line_spelled ns ss l.0) (get_map (line_spelled ns ss) s.0.lines 0 l.0 l.1) low)

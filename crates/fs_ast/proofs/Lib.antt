@@ -8,3 +8,4 @@ pub mod Shapes
 pub mod FirstBroken
 pub mod Opens
 pub mod Lifted
+pub mod OneBranch

@@ -10,7 +10,8 @@ use Rattle.fs_model.specs.Terms.{Literal, Guard, Test, Not, And, Or, Assignment,
 use Rattle.fs_model.specs.Machines.{Fsmd, transitions_of}
 use Rattle.fs_model.specs.Trees.{Branch, branches_of}
 use Rattle.fs_model.specs.Parts.{scalars, arrays, numbers, uses_in_literal, uses_in_condition, uses_in_assignments, guard_passes, condition_passes, transition_passes, branch_passes}
-use Rattle.fs_model.proofs.Passing.{and_left, and_right, and_both, condition_uses, assignments_uses, branches_pass}
+use Rattle.fs_model.proofs.Truth.{and_left, and_right, and_both}
+use Rattle.fs_model.proofs.Passing.{condition_uses, assignments_uses, branches_pass}
 use Rattle.fs_rules.specs.Sound.{scalar_at, array_at, port_at, input_at, is_text_number, scalars_in_assignment, arrays_in_assignment, port_in, ports_in_assignments, numbers_in_assignment, changed_by, assigned_in, all_differ, emit_count, IsSoundTransition, IsSound}
 use Rattle.fs_ast.specs.Branches.{is_sound_literal, is_sound_assignment, IsSoundBranch}
 use Rattle.fs_ast.proofs.Kept.{below}

@@ -7,7 +7,7 @@ use Rattle.fs_model.specs.Terms.{Term, Number, Variable, Read, Sum, Difference, 
 use Rattle.fs_model.specs.Renamed.{term_over, guard_over, assignment_over}
 use Rattle.fs_model.specs.Source.{SourceTransition, SourceState, Source}
 use Rattle.fs_model.specs.WellFormed.{is_natural_term, is_natural_guard, is_natural_assignment, operators_of_guard, operators_of_assignment, is_well_formed_condition, is_well_formed_assignment, is_well_formed_transition, is_well_formed_state, is_well_formed_declaration, is_well_formed}
-use Rattle.fs_model.proofs.Passing.{and_left, and_right, and_both}
+use Rattle.fs_model.proofs.Truth.{and_left, and_right, and_both}
 use Rattle.fs_rules.specs.Spelled.{variables_of, names_of, state_names, place, line_spelled, state_spelled, machine_of}
 use Rattle.fs_rules.specs.Sound.{numbers_in, numbers_in_guard, numbers_in_condition, numbers_in_assignment, numbers_in_assignments, numbers_in_transitions, numbers_in_states}
 use Rattle.fs_ast.specs.Stored.{KeepsTypes}

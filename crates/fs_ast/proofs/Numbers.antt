@@ -3,7 +3,7 @@ use Rattle.std.proofs.Common.{◌≡◌, ℕ, ◌+◌, ◌<◌, List, [], ◌∷
 use Rattle.std.specs.Prelude.{ℤ, Bool, true, ◌&&◌, Some, map, slice_get}
 use Rattle.std.specs.List.{list_all, slice_index_or}
 use Rattle.std.proofs.lemmas.List.Folds.{list_all-append}
-use Rattle.fs_model.proofs.Passing.{and_left, and_right, and_both}
+use Rattle.fs_model.proofs.Truth.{and_left, and_right, and_both}
 use Rattle.fs_model.specs.Terms.{Assignment, Transition}
 use Rattle.fs_model.specs.Machines.{State}
 use Rattle.fs_rules.specs.Sound.{numbers_in_condition, numbers_in_assignment, numbers_in_assignments, numbers_in_transitions, numbers_in_states}

@@ -1,7 +1,8 @@
 -- In each store one branch is taken.
 use Rattle.std.proofs.Common.{◌≡◌, ℕ, Bool, true, false, cond, List, [], ◌∷◌, refl, ◌∙◌, ap}
-use Rattle.std.specs.Prelude.{not, ◌&&◌, is_some, Option, Some, None, option_map, map, filter}
+use Rattle.std.specs.Prelude.{not, is_some, Option, Some, None, option_map, map, filter}
 use Rattle.std.specs.Option.{option_to_list}
+use Rattle.fs_model.proofs.Truth.{and_right}
 use Rattle.fs_model.specs.Terms.{Guard, Transition}
 use Rattle.fs_model.specs.Stores.{Store}
 use Rattle.fs_model.specs.Meaning.{condition_holds, transition_taken}
@@ -25,14 +26,10 @@ some_cond : {A : Type 0} (b : Bool) (x : A) (o : Option A) → (y : A) × (o ≡
 some_cond true x o h = (x, refl)
 some_cond false x o h = h
 
-second : (a b : Bool) → (a && b) ≡ true → b ≡ true
-second true b e = e
-second false b e = absurd (cc)
-
 one_taken : (ls : List (Transition ℕ ℕ)) (s : Store) → ends_open ls ≡ true → (l : Transition ℕ ℕ) × (transition_taken ls s ≡ Some l)
 one_taken [] s e = absurd (cc)
 one_taken (l ∷ []) s e = (l, ap (λ b. cond b (Some l) None) (always_taken l.guard s e))
-one_taken (l ∷ k ∷ ls) s e = some_cond (condition_holds l.guard s) l (transition_taken (k ∷ ls) s) (one_taken (k ∷ ls) s (second (not (is_open l)) (ends_open (k ∷ ls)) e))
+one_taken (l ∷ k ∷ ls) s e = some_cond (condition_holds l.guard s) l (transition_taken (k ∷ ls) s) (one_taken (k ∷ ls) s (and_right (not (is_open l)) (ends_open (k ∷ ls)) e))
 
 only_one : (bs : List Branch) (o : Effect) → map effect_at bs ≡ o ∷ [] → (b : Branch) × ((bs ≡ b ∷ []) × (effect_at b ≡ o))
 only_one [] o e = absurd (cc)

@@ -1,10 +1,12 @@
 -- From the parts of a text to a machine that keeps all rules.
 use Rattle.std.proofs.Common.{◌≡◌, ℕ, zero, suc, ◌<◌, ◌≤◌, Bool, true, List, [], ◌∷◌, ◌++◌, length, refl, sym, ◌∙◌, ap, ap₂, arith}
-use Rattle.std.specs.Prelude.{◌||◌, ◌==◌, nat_lt, Option, Some, None, map, slice_get}
+use Rattle.std.specs.Prelude.{◌||◌, ◌==◌, nat_lt, Option, Some, None, Result, Ok, Err, IfOk, map, slice_get}
 use Rattle.std.specs.List.{list_all, flat_map, slice_index_or}
 use Rattle.std.specs.Option.{option_to_list}
 use Rattle.fs_model.specs.declared.parts.VarInfo.{VarInfo}
-use Rattle.fs_model.specs.Source.{Source}
+use Rattle.fs_model.specs.declared.parts.RawState.{RawState}
+use Rattle.fs_model.specs.Source.{SourceState, Source}
+use Rattle.fs_model.specs.View.{source_state_of}
 use Rattle.fs_model.specs.Machines.{State, Fsmd, transitions_of}
 use Rattle.fs_model.specs.Trees.{branches_of}
 use Rattle.fs_rules.specs.declared.check.CheckRule.TheVariants.{EndlessLine}
@@ -12,13 +14,11 @@ use Rattle.fs_rules.specs.declared.check.CheckFault.{CheckFault}
 use Rattle.fs_ast.specs.declared.resolve.State.{State as NumberedState}
 use Rattle.fs_rules.specs.Spelled.{variables_of, names_of, state_names, place, machine_of}
 use Rattle.fs_rules.specs.Sound.{first_transition_target, is_cutpoint, reaches_cutpoint}
-use Rattle.fs_rules.specs.Rules.{at_lines, declared_states, branch_faults}
+use Rattle.fs_rules.specs.Rules.{at_lines, branch_faults}
 use Rattle.fs_rules.specs.FirstFault.{sooner, earliest}
-use Rattle.fs_rules.specs.Places.{names_in}
-use Rattle.fs_ast.specs.Resolved.{state_of, placed_of, placed_spelled}
+use Rattle.fs_ast.specs.Resolved.{state_of, placed_of, placed_spelled, placed}
 use Rattle.fs_ast.specs.Shapes.{skeleton, forked_faults, endless_faults, LeadOn, IsFirstOfShapes}
 use Rattle.fs_rules.specs.Scoped.{IsScopeOf}
-use Rattle.fs_rules.proofs.Naming.{names_of_states}
 use Rattle.fs_rules.proofs.Turns.{map_map, length_mapped, flat_map_map}
 use Rattle.fs_ast.proofs.Kept.{AreKept, count_variables, count_states, lead_on, both_true, below, get_there, no_state}
 
@@ -34,24 +34,25 @@ nothing_noted known (f ∷ fs) e = absurd (some_first (sooner known f) fs e)
 
 -- ---- names
 
-pub few_vars : (p : Source) (vars : List VarInfo) (states : List (ℕ × List ℕ)) → IsScopeOf p vars states → AreKept p → length vars ≤ 128
+pub few_vars : (p : Source) (vars : List VarInfo) (states : List SourceState) → IsScopeOf p vars states → AreKept p → length vars ≤ 128
 few_vars p vars states s k = let h = count_variables p k in let e : length vars ≡ length (variables_of p.declarations) = ap length s.vars in omega arith
 
-pub few_stated : (p : Source) (vars : List VarInfo) (states : List (ℕ × List ℕ)) → IsScopeOf p vars states → AreKept p → length states ≤ 4096
+pub few_stated : (p : Source) (vars : List VarInfo) (states : List RawState) → IsScopeOf p vars (map source_state_of states) → AreKept p → length states ≤ 4096
 few_stated p vars states s k =
     let h = count_states p k in
-    let e : length states ≡ length (declared_states p.states) = ap length s.stated in
-    let f : length (declared_states p.states) ≡ length p.states = length_mapped (λ x. (x.line, x.name)) p.states in
+    let e : length (map source_state_of states) ≡ length p.states = ap length s.stated in
+    let f : length (map source_state_of states) ≡ length states = length_mapped source_state_of states in
     omega arith
 
 -- ---- states
 
-abbrev pub placed : Source → List (ℕ × State)
-placed p = map (placed_spelled (names_of (variables_of p.declarations)) (state_names p.states)) p.states
+pub if_ok : {T E : Type 0} (r : Result T E) {P Q : T → Type 0} → ((x : T) → P x → Q x) → IfOk r P → IfOk r Q
+if_ok (Ok x) f h = f x h
+if_ok (Err e) f h = tt
 
-pub placed_is : (p : Source) (vars : List VarInfo) (states : List (ℕ × List ℕ)) (resolved : List NumberedState) → IsScopeOf p vars states
-    → map placed_of resolved ≡ map (placed_spelled (names_of vars) (names_in states)) p.states → map placed_of resolved ≡ placed p
-placed_is p vars states resolved s e = e ∙ ap₂ (λ (v : List VarInfo) (n : List (List ℕ)). map (placed_spelled (names_of v) n) p.states) s.vars (names_of_states p vars states s)
+pub placed_is : (p : Source) (vars : List VarInfo) (states : List SourceState) (resolved : List NumberedState) → IsScopeOf p vars states
+    → map placed_of resolved ≡ map (placed_spelled (names_of vars) (state_names states)) p.states → map placed_of resolved ≡ placed p
+placed_is p vars states resolved s e = e ∙ ap₂ (λ (v : List VarInfo) (n : List SourceState). map (placed_spelled (names_of v) (state_names n)) p.states) s.vars s.stated
 
 pub placed_states : (p : Source) → map (λ s. s.1) (placed p) ≡ (machine_of p).states
 placed_states p = map_map (λ s. s.1) (placed_spelled (names_of (variables_of p.declarations)) (state_names p.states)) p.states
@@ -59,12 +60,9 @@ placed_states p = map_map (λ s. s.1) (placed_spelled (names_of (variables_of p.
 pub states_are : (p : Source) (resolved : List NumberedState) → map placed_of resolved ≡ placed p → map state_of resolved ≡ (machine_of p).states
 states_are p resolved e = sym (map_map (λ s. s.1) placed_of resolved) ∙ ap (λ l. map (λ s. s.1) l) e ∙ placed_states p
 
-pub machine_is : (p : Source) (vars : List VarInfo) (states : List (ℕ × List ℕ)) (resolved : List NumberedState) (reset : ℕ) → IsScopeOf p vars states
-    → map placed_of resolved ≡ placed p → reset ≡ place (names_in states) p.reset → Path Fsmd (record { variables = vars; reset = reset; states = map state_of resolved }) (machine_of p)
-machine_is p vars states resolved reset s e f =
-    let r : reset ≡ place (state_names p.states) p.reset = f ∙ ap (λ ns. place ns p.reset) (names_of_states p vars states s) in
-    let t = states_are p resolved e in
-    λ i. record { variables = s.vars i; reset = r i; states = t i }
+pub machine_is : (p : Source) (vars : List VarInfo) (states : List SourceState) (resolved : List NumberedState) (reset : ℕ) → IsScopeOf p vars states
+    → map placed_of resolved ≡ placed p → reset ≡ place (state_names p.states) p.reset → Path Fsmd (record { variables = vars; reset = reset; states = map state_of resolved }) (machine_of p)
+machine_is p vars states resolved reset s e f = let t = states_are p resolved e in λ i. record { variables = s.vars i; reset = f i; states = t i }
 
 pub leads_placed : (p : Source) → AreKept p → LeadOn (placed p)
 leads_placed p k q h =
@@ -108,11 +106,8 @@ shapes_kept p ss reset first e f none late =
           ap (λ k. reaches_cutpoint (machine_of p) k q) (sym count) ∙ sym (reach_same (skeleton ss reset) (machine_of p) st f (length ss) q) ∙ late.ends (none_endless ss late.endless late.inside n.1) q low,
     )
 
-pub reset_low : (p : Source) (vars : List VarInfo) (states : List (ℕ × List ℕ)) (reset : ℕ) (resolved : List NumberedState) → IsScopeOf p vars states → AreKept p → reset ≡ place (names_in states) p.reset
-    → map placed_of resolved ≡ placed p → reset < length resolved
-reset_low p vars states reset resolved s k e f =
-    let h = k.reset in
-    let r : reset ≡ place (state_names p.states) p.reset = e ∙ ap (λ ns. place ns p.reset) (names_of_states p vars states s) in
+pub reset_low : (p : Source) (reset : ℕ) (resolved : List NumberedState) → reset < length p.states → map placed_of resolved ≡ placed p → reset < length resolved
+reset_low p reset resolved h f =
     let a : length (map placed_of resolved) ≡ length resolved = length_mapped placed_of resolved in
     let b : length (placed p) ≡ length p.states = length_mapped (placed_spelled (names_of (variables_of p.declarations)) (state_names p.states)) p.states in
     let c : length (map placed_of resolved) ≡ length (placed p) = ap length f in

@@ -3,8 +3,8 @@ use Rattle.std.specs.Prelude.{ℕ, List, map, option_map}
 use Rattle.fs_model.specs.Terms.{Transition}
 use Rattle.fs_model.specs.Machines.{State}
 use Rattle.fs_model.specs.View.{guard_of, assignment_of}
-use Rattle.fs_model.specs.Source.{SourceState}
-use Rattle.fs_rules.specs.Spelled.{state_spelled}
+use Rattle.fs_model.specs.Source.{SourceState, Source}
+use Rattle.fs_rules.specs.Spelled.{variables_of, names_of, state_names, state_spelled}
 use Rattle.fs_ast.specs.declared.resolve.Transition.{Transition as NumberedLine}
 use Rattle.fs_ast.specs.declared.resolve.State.{State as NumberedState}
 
@@ -23,3 +23,7 @@ placed_of s = (s.line, state_of s)
 -- the same of a state of the text, over the places of names
 abbrev pub placed_spelled : List (List ℕ) → List (List ℕ) → SourceState → ℕ × State
 placed_spelled vs ss s = (s.line, state_spelled vs ss s)
+
+-- the states of parts, each with its line, over the places of the names that the parts declare
+abbrev pub placed : Source → List (ℕ × State)
+placed p = map (placed_spelled (names_of (variables_of p.declarations)) (state_names p.states)) p.states

@@ -1,18 +1,20 @@
 //! Machines from the parts of a text.
 
-ghost use Rattle.std.specs.Prelude.{◌≡◌, [], IsTrue, IfOk};
+ghost use Rattle.std.specs.Prelude.{◌≡◌, ◌<◌, [], IsTrue, IfOk, length, map};
 ghost use Rattle.std.specs.Result.{OnOk, IfErr};
-ghost use Rattle.fs_model.specs.View.{source_of};
+ghost use Rattle.fs_model.specs.View.{source_of, source_state_of};
 ghost use Rattle.fs_model.specs.WellFormed.{is_well_formed};
-ghost use Rattle.fs_rules.specs.Spelled.{machine_of};
+ghost use Rattle.fs_rules.specs.Spelled.{state_names, place, machine_of};
 ghost use Rattle.fs_rules.specs.Rules.{plain_faults, Broken, IsFirstBroken, IsLawful};
 ghost use Rattle.fs_rules.specs.Scoped.{IsScopeOf};
 ghost use Rattle.fs_ast.specs.Built.{IfCheck};
+ghost use Rattle.fs_ast.specs.Resolved.{placed_of, placed};
 
 use crate::machine::Machine;
-use crate::resolve::resolve;
+use crate::resolve::{State, resolve};
 use crate::shape_rules::check_shapes;
-use fs_model::parts::Parts;
+use fs_model::name::NoMemory;
+use fs_model::parts::{Parts, StateId};
 use fs_rules::check::CheckFault;
 use fs_rules::checked::{Checked, check_parts};
 use fs_rules::scope::Scope;
@@ -48,17 +50,17 @@ impl Machine {
 
 // The machine of parts that keep the rules that are looked at first.
 fn build_checked(alloc: Global, scope: Scope, parts: &Parts) -> Result<Machine, BuildError>
-    requires scope { IsScopeOf (source_of parts.now) scope.vars.items scope.states }
+    requires scope { IsScopeOf (source_of parts.now) scope.vars.items (map source_state_of scope.states.now) }
     requires plain { plain_faults (source_of parts.now) ≡ [] }
     requires formed { IsTrue (is_well_formed (source_of parts.now)) }
     ensures spelled { IfOk result (λ m. m ≡ machine_of (source_of parts.now)) }
     ensures lawful { OnOk result (IsLawful (source_of parts.now)) }
     ensures first { IfErr result (λ e. IfCheck e (λ f. IsFirstBroken (source_of parts.now) f)) }
 {
-    let Ok(states) = resolve(alloc, &scope, &parts.states) else {
+    let Ok(states) = numbered_states(alloc, &scope, parts) else {
         return Err(BuildError::NoMemory);
     };
-    let reset = scope.state_id(&parts.reset);
+    let reset = reset_state(&scope, parts);
     match check_shapes(alloc, states.as_slice(), reset.0 as usize) {
         Err(_) => Err(BuildError::NoMemory),
         Ok(Some(fault)) => Err(BuildError::Check(fault)),
@@ -70,4 +72,23 @@ fn build_checked(alloc: Global, scope: Scope, parts: &Parts) -> Result<Machine, 
             }
         }
     }
+}
+
+// The states of parts, over the numbers of variables and states.
+fn numbered_states(alloc: Global, scope: &Scope, parts: &Parts) -> Result<Vec<State>, NoMemory>
+    requires scope { IsScopeOf (source_of parts.now) scope.now.vars.items (map source_state_of scope.now.states.now) }
+    requires plain { plain_faults (source_of parts.now) ≡ [] }
+    ensures { IfOk result (λ states. map placed_of states.items ≡ placed (source_of parts.now)) }
+{
+    resolve(alloc, scope, &parts.states)
+}
+
+// The number of the reset state.
+fn reset_state(scope: &Scope, parts: &Parts) -> StateId
+    requires scope { IsScopeOf (source_of parts.now) scope.now.vars.items (map source_state_of scope.now.states.now) }
+    requires plain { plain_faults (source_of parts.now) ≡ [] }
+    ensures number { result.0 ≡ place (state_names (source_of parts.now).states) (source_of parts.now).reset }
+    ensures within { result.0 < length (source_of parts.now).states }
+{
+    scope.state_id(&parts.reset)
 }

@@ -1,6 +1,6 @@
 //! The numbers of guards and assignments, in order of the text.
 
-ghost use Rattle.std.specs.Prelude.{◌≡◌, ◌++◌, map, option_map, IfOk};
+ghost use Rattle.std.specs.Prelude.{◌≡◌, ◌++◌, map, IfOk};
 ghost use Rattle.std.specs.Result.{OnOk};
 ghost use Rattle.fs_model.specs.View.{term_of, guard_of, assignment_of};
 ghost use Rattle.fs_rules.specs.Sound.{numbers_in, numbers_in_guard, numbers_in_condition, numbers_in_assignment, numbers_in_assignments, numbers_in_transitions, numbers_in_states};

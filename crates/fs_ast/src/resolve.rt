@@ -5,7 +5,7 @@ ghost use Rattle.fs_model.specs.Limits.{most_variables, most_states};
 ghost use Rattle.fs_model.specs.Renamed.{guard_over, assignment_over};
 ghost use Rattle.fs_model.specs.View.{named_guard, named_assignment, guard_of, assignment_of, source_transition_of, source_state_of};
 ghost use Rattle.fs_rules.specs.Spelled.{place, names_of, line_spelled};
-ghost use Rattle.fs_rules.specs.Places.{names_in};
+ghost use Rattle.fs_rules.specs.Places.{names_stated};
 ghost use Rattle.fs_ast.specs.Resolved.{line_of, placed_of, placed_spelled};
 
 use fs_model::copies::renamed_assignments;
@@ -61,8 +61,8 @@ fn assignments(
 // A transition over numbers.
 fn numbered_line(alloc: Global, scope: &Scope, line: &RawLine) -> Result<Transition, NoMemory>
     requires variables { length scope.now.vars.items ≤ most_variables }
-    requires states { length scope.now.states ≤ most_states }
-    ensures { IfOk result (λ l. line_of l ≡ line_spelled (names_of scope.now.vars.items) (names_in scope.now.states) (source_transition_of line.now)) }
+    requires states { length scope.now.states.now ≤ most_states }
+    ensures { IfOk result (λ l. line_of l ≡ line_spelled (names_of scope.now.vars.items) (names_stated scope.now.states.now) (source_transition_of line.now)) }
 {
     let guard = condition(alloc, scope, &line.guard)?;
     let assigns = assignments(alloc, scope, &line.assigns)?;
@@ -80,8 +80,8 @@ fn numbered_lines(
     lines: &[RawLine],
 ) -> Result<Vec<Transition>, NoMemory>
     requires variables { length scope.now.vars.items ≤ most_variables }
-    requires states { length scope.now.states ≤ most_states }
-    ensures { IfOk result (λ out. map line_of out.items ≡ map (line_spelled (names_of scope.now.vars.items) (names_in scope.now.states)) (map source_transition_of lines.now)) }
+    requires states { length scope.now.states.now ≤ most_states }
+    ensures { IfOk result (λ out. map line_of out.items ≡ map (line_spelled (names_of scope.now.vars.items) (names_stated scope.now.states.now)) (map source_transition_of lines.now)) }
 {
     let mut out = Vec::new(alloc);
     for raw in lines {
@@ -93,8 +93,8 @@ fn numbered_lines(
 // A state over numbers.
 fn numbered_state(alloc: Global, scope: &Scope, state: &RawState) -> Result<State, NoMemory>
     requires variables { length scope.now.vars.items ≤ most_variables }
-    requires states { length scope.now.states ≤ most_states }
-    ensures { IfOk result (λ s. placed_of s ≡ placed_spelled (names_of scope.now.vars.items) (names_in scope.now.states) (source_state_of state.now)) }
+    requires states { length scope.now.states.now ≤ most_states }
+    ensures { IfOk result (λ s. placed_of s ≡ placed_spelled (names_of scope.now.vars.items) (names_stated scope.now.states.now) (source_state_of state.now)) }
 {
     let name = state.name.try_clone(alloc)?;
     let lines = numbered_lines(alloc, scope, &state.lines)?;
@@ -108,8 +108,8 @@ fn numbered_state(alloc: Global, scope: &Scope, state: &RawState) -> Result<Stat
 /// States over numbers.
 pub fn resolve(alloc: Global, scope: &Scope, states: &[RawState]) -> Result<Vec<State>, NoMemory>
     requires variables { length scope.now.vars.items ≤ most_variables }
-    requires states { length scope.now.states ≤ most_states }
-    ensures { IfOk result (λ out. map placed_of out.items ≡ map (placed_spelled (names_of scope.now.vars.items) (names_in scope.now.states)) (map source_state_of states.now)) }
+    requires states { length scope.now.states.now ≤ most_states }
+    ensures { IfOk result (λ out. map placed_of out.items ≡ map (placed_spelled (names_of scope.now.vars.items) (names_stated scope.now.states.now)) (map source_state_of states.now)) }
 {
     let mut out = Vec::new(alloc);
     for raw in states {

@@ -1,7 +1,6 @@
 //! The rules on branches and on endless lines, which are looked at where no other rule is broken.
 
-ghost use Rattle.std.specs.Prelude.{◌≡◌, ◌<◌, ◌||◌, ◌==◌, ℕ, [], ◌∷◌, length, map, nat_lt, false, IfOk};
-ghost use Rattle.std.specs.List.{slice_index_or};
+ghost use Rattle.std.specs.Prelude.{◌≡◌, ◌<◌, ◌||◌, ◌==◌, ℕ, [], ◌∷◌, length, map, nat_lt, IfOk};
 ghost use Rattle.fs_rules.specs.Sound.{first_transition_target, is_cutpoint};
 ghost use Rattle.fs_rules.specs.FirstFault.{earliest};
 ghost use Rattle.fs_ast.specs.Resolved.{line_of, state_of, placed_of};

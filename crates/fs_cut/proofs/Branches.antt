@@ -4,6 +4,7 @@ use Rattle.std.specs.Prelude.{◌&&◌, cond, nat_lt, slice_get, filter}
 use Rattle.std.specs.List.{list_all, slice_index_or}
 use Rattle.std.proofs.lemmas.Bool.Decides.{nat_tests}
 use Rattle.std.proofs.lemmas.List.Folds.{list_all-append}
+use Rattle.fs_model.proofs.Truth.{and_left, and_right, and_both}
 use Rattle.fs_model.specs.Terms.{Literal, Guard, Test, Not, And, Or, Assignment, Transition}
 use Rattle.fs_model.specs.Machines.{Fsmd, transitions_of}
 use Rattle.fs_model.specs.Stores.{Store}
@@ -14,18 +15,7 @@ use Rattle.fs_ast.specs.Sound.{IsSound, branch_count, is_cutpoint, first_transit
 use Rattle.fs_ast.proofs.Opens.{takes_one}
 use Rattle.fs_cut.specs.Paths.{Step, branch_at, target_of, after}
 use Rattle.fs_cut.specs.Cuts.{taken_index, branch_taken}
-use Rattle.fs_cut.proofs.OneBranch.{length-leaves, count-lines, only_transition}
-
-pub and-left : (b c : Bool) → (b && c) ≡ true → b ≡ true
-and-left true c h = refl
-and-left false c h = absurd (cc)
-
-pub and-right : (b c : Bool) → (b && c) ≡ true → c ≡ true
-and-right true c h = h
-and-right false c h = absurd (cc)
-
-pub both : (b c : Bool) → b ≡ true → c ≡ true → (b && c) ≡ true
-both b c p q = grind arith
+use Rattle.fs_ast.proofs.OneBranch.{length-leaves, count-lines, only_transition}
 
 below : (x n : ℕ) → x < n → nat_lt x n ≡ true
 below x n h = grind (arith, nat_tests)
@@ -45,13 +35,13 @@ within n b = nat_lt b.target n
 
 leaves_lead : (n : ℕ) (t : Tree) (way : List (Literal ℕ)) → lead_in n t ≡ true → list_all (within n) (leaves t way) ≡ true
 leaves_lead n Empty way h = refl
-leaves_lead n (Leaf assignments target) way h = both (nat_lt target n) true h refl
+leaves_lead n (Leaf assignments target) way h = and_both (nat_lt target n) true h refl
 leaves_lead n (Node l y f) way h =
     list_all-append (within n) (leaves y (way ++ l ∷ [])) (leaves f (way ++ negated l ∷ []))
-    ∙ both _ _ (leaves_lead n y (way ++ l ∷ []) (and-left (lead_in n y) (lead_in n f) h)) (leaves_lead n f (way ++ negated l ∷ []) (and-right (lead_in n y) (lead_in n f) h))
+    ∙ and_both _ _ (leaves_lead n y (way ++ l ∷ []) (and_left (lead_in n y) (lead_in n f) h)) (leaves_lead n f (way ++ negated l ∷ []) (and_right (lead_in n y) (lead_in n f) h))
 
 guard_leads : (n : ℕ) (g : Guard ℕ) (y f : Tree) → lead_in n y ≡ true → lead_in n f ≡ true → lead_in n (tree_of_guard g y f) ≡ true
-guard_leads n (Test l) y f p q = both (lead_in n y) (lead_in n f) p q
+guard_leads n (Test l) y f p q = and_both (lead_in n y) (lead_in n f) p q
 guard_leads n (Not c) y f p q = guard_leads n c f y q p
 guard_leads n (And c d) y f p q = guard_leads n c (tree_of_guard d y f) f (guard_leads n d y f p q) q
 guard_leads n (Or c d) y f p q = guard_leads n c y (tree_of_guard d y f) p (guard_leads n d y f p q)
@@ -66,8 +56,8 @@ lines_lead n (l ∷ ls) h = condition_leads n l.guard (Leaf l.assignments l.targ
 
 pub test_at : {X : Type 0} (test : X → Bool) (xs : List X) (k : ℕ) (d : X) → list_all test xs ≡ true → k < length xs → test (slice_index_or xs k d) ≡ true
 test_at test [] k d h i = absurd (omega arith)
-test_at test (x ∷ xs) zero d h i = and-left (test x) (list_all test xs) h
-test_at test (x ∷ xs) (suc k) d h i = test_at test xs k d (and-right (test x) (list_all test xs) h) (omega arith)
+test_at test (x ∷ xs) zero d h i = and_left (test x) (list_all test xs) h
+test_at test (x ∷ xs) (suc k) d h i = test_at test xs k d (and_right (test x) (list_all test xs) h) (omega arith)
 
 -- ---- one branch at most
 alone : (bs : List Branch) → 0 < length bs → length bs ≤ 1 → (b : Branch) × (bs ≡ b ∷ [])

@@ -1,4 +1,3 @@
-pub mod OneBranch
 pub mod Branches
 pub mod Listed
 pub mod Loops

@@ -11,7 +11,8 @@ use Rattle.fs_ast.specs.Sound.{IsSound, branch_count, is_cutpoint, first_transit
 use Rattle.fs_cut.specs.Paths.{Point, Start, At, Done, Path, IsPath, is_fork, is_point, state_of, end_at, target_of, Passes}
 use Rattle.fs_cut.specs.Covers.{passed, reached, path_by, paths_by, paths_of, points_of, Entry, entries, cover_of, same_point, has_point, paths_from}
 use Rattle.fs_cut.specs.View.{listed, ListsPoints}
-use Rattle.fs_cut.proofs.Branches.{and-left, and-right, both, target_in, some_branch, first_target}
+use Rattle.fs_model.proofs.Truth.{and_left, and_right, and_both}
+use Rattle.fs_cut.proofs.Branches.{target_in, some_branch, first_target}
 
 -- ---- points
 fork_in : (ss : List State) (q : ℕ) → 0 < length (branches_of (slice_index_or ss q (record { name = []; lines = [] })).lines) → q < length ss
@@ -179,7 +180,7 @@ range_has a zero q h i = absurd (omega arith)
 range_has a (suc n) q h i = range_by a q (list_any (λ x. x == q) (range_with_len (a + 1) n)) (a == q) refl (λ d. range_has (a + 1) n q (omega (arith, d)) (omega arith))
 
 fork_ranges : (m : Fsmd) (q : ℕ) (b : Bool) → is_fork m q ≡ b → (is_fork m q && list_any (λ x. x == q) (range_with_len 0 (length m.states))) ≡ is_fork m q
-fork_ranges m q true e = both _ _ e (range_has 0 (length m.states) q (omega arith) (omega (arith, fork_state m q e))) ∙ sym e
+fork_ranges m q true e = and_both _ _ e (range_has 0 (length m.states) q (omega arith) (omega (arith, fork_state m q e))) ∙ sym e
 fork_ranges m q false e = ap (λ (b : Bool). b && list_any (λ x. x == q) (range_with_len 0 (length m.states))) e ∙ sym e
 
 pub points_listed_by : (m : Fsmd) (f : Point → List Path) (P : Point) → has_point (entries f (points_of m)) P ≡ is_point m P
@@ -234,10 +235,10 @@ points_are f (p ∷ ps) = ap (λ (l : List Point). p ∷ l) (points_are f ps)
 entries_same : (f g : Point → List Path) (test : Point → Bool) (ps : List Point) → list_all test ps ≡ true → ((P : Point) → test P ≡ true → f P ≡ g P) → entries f ps ≡ entries g ps
 entries_same f g test [] h s = refl
 entries_same f g test (p ∷ ps) h s =
-    ap₂ (λ (l : List Path) (es : List Entry). record { point = p; paths = l } ∷ es) (s p (and-left (test p) (list_all test ps) h)) (entries_same f g test ps (and-right (test p) (list_all test ps) h) s)
+    ap₂ (λ (l : List Path) (es : List Entry). record { point = p; paths = l } ∷ es) (s p (and_left (test p) (list_all test ps) h)) (entries_same f g test ps (and_right (test p) (list_all test ps) h) s)
 
 all_by : (m : Fsmd) (x : ℕ) (b : Bool) (xs : List ℕ) → is_fork m x ≡ b → list_all (is_point m) (map At xs ++ Done ∷ []) ≡ true → list_all (is_point m) (map At (cond b (x ∷ xs) xs) ++ Done ∷ []) ≡ true
-all_by m x true xs e h = both (is_fork m x) _ e h
+all_by m x true xs e h = and_both (is_fork m x) _ e h
 all_by m x false xs e h = h
 
 pub all_points : (m : Fsmd) (xs : List ℕ) → list_all (is_point m) (map At (filter (is_fork m) xs) ++ Done ∷ []) ≡ true

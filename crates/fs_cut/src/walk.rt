@@ -1,6 +1,6 @@
 //! The branches of a machine, followed.
 
-ghost use Rattle.std.specs.Prelude.{◌≡◌, ◌<◌, ◌++◌, [], ◌∷◌, length, map, IfOk};
+ghost use Rattle.std.specs.Prelude.{◌≡◌, ◌<◌, ◌++◌, length, map, IfOk};
 ghost use Rattle.std.specs.Result.{OnOk};
 ghost use Rattle.fs_ast.specs.Sound.{branch_count, is_cutpoint};
 ghost use Rattle.fs_cut.specs.Paths.{is_fork, end_at, target_of};

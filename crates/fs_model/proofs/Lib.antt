@@ -1,3 +1,4 @@
+pub mod Truth
 pub mod Determined
 pub mod Behaviour
 pub mod Leaves

@@ -1,23 +1,12 @@
 -- What the transitions of a state pass its branches pass.
 use Rattle.std.proofs.Common.{◌≡◌, ℕ, List, [], ◌∷◌, ◌++◌, refl, ◌∙◌, ap, ap₂}
-use Rattle.std.specs.Prelude.{Bool, true, false, ◌&&◌, Option, Some, None}
+use Rattle.std.specs.Prelude.{Bool, true, ◌&&◌, Option, Some, None}
 use Rattle.std.specs.List.{list_all}
 use Rattle.std.proofs.lemmas.List.Folds.{list_all-append}
+use Rattle.fs_model.proofs.Truth.{and_left, and_right, and_both}
 use Rattle.fs_model.specs.Terms.{Literal, Guard, Test, Not, And, Or, Assignment, Transition}
 use Rattle.fs_model.specs.Trees.{Tree, Empty, Leaf, Node, tree_of_guard, tree_of_condition, tree_of_transitions, leaves, branches_of, negated}
 use Rattle.fs_model.specs.Parts.{Listing, uses_in_literal, uses_in_guard, uses_in_condition, uses_in_assignment, uses_in_assignments, guard_passes, condition_passes, transition_passes, branch_passes}
-
-pub and_left : (a b : Bool) → (a && b) ≡ true → a ≡ true
-and_left true b e = refl
-and_left false b e = absurd (cc)
-
-pub and_right : (a b : Bool) → (a && b) ≡ true → b ≡ true
-and_right true b e = e
-and_right false b e = absurd (cc)
-
-pub and_both : (a b : Bool) → a ≡ true → b ≡ true → (a && b) ≡ true
-and_both true b e f = f
-and_both false b e f = absurd (cc)
 
 module _ (T : Literal ℕ → Bool) (same : (l : Literal ℕ) → T (negated l) ≡ T l) (C : List (Assignment ℕ) → Bool) (S : ℕ → Bool) where
   abbrev tree_passes : Tree → Bool

@@ -1,7 +1,8 @@
 -- A machine as a tree of numbers, which gives it back.
-use Rattle.std.specs.Prelude.{◌≡◌, ℕ, ℤ, pos, negsuc, List, Option, refl}
-use Rattle.std.specs.Coded.{Coded, code_by, coded×, coded_ℕ, coded_list, coded_option}
-use base.Stored.{Gv, gnil, gnum, gcons}
+use Rattle.std.specs.Prelude.{◌≡◌, ◌==◌, Bool, ℕ, ℤ, pos, negsuc, cond, List, Option, refl}
+use Rattle.std.proofs.Common.{sym, ap, ◌∙◌}
+use Rattle.std.specs.Coded.{Coded, code_by, coded×, coded_ℕ, coded_bool, coded_list, coded_option}
+use base.Stored.{Gv, gnil, gnum, gcons, num}
 use Rattle.fs_model.specs.declared.parts.Rel.{Rel}
 use Rattle.fs_model.specs.declared.parts.Rel.TheVariants.{Eq, Ne, Lt, Le, Gt, Ge}
 use Rattle.fs_model.specs.declared.parts.Role.{Role}
@@ -11,256 +12,128 @@ use Rattle.fs_model.specs.declared.parts.Sort.TheVariants.{Scalar, Array, Port}
 use Rattle.fs_model.specs.declared.parts.VarInfo.{VarInfo}
 use Rattle.fs_model.specs.Terms.{Term, Number, Variable, Read, Sum, Difference, Product, Quotient, Remainder, Negative, Literal, Guard, Test, Not, And, Or, Assignment, Assign, ArrayWrite, Emit, Transition}
 use Rattle.fs_model.specs.Machines.{State, Fsmd}
+use Rattle.fs_model.specs.Runs.{is_input, is_output, is_scalar, is_array}
 
-abbrev pub code_rel : Rel → Gv
-code_rel Eq = gnum 0
-code_rel Ne = gnum 1
-code_rel Lt = gnum 2
-code_rel Le = gnum 3
-code_rel Gt = gnum 4
-code_rel Ge = gnum 5
+-- a relation as a number, and back
+abbrev pub rel_number : Rel → ℕ
+rel_number r = elim r as (λ _. ℕ) [ Eq ↦ 0 | Ne ↦ 1 | Lt ↦ 2 | Le ↦ 3 | Gt ↦ 4 | Ge ↦ 5 ]
 
-pub inj_rel : (x y : Rel) → code_rel x ≡ code_rel y → x ≡ y
-inj_rel Eq Eq e = refl
-inj_rel Eq Ne e = cc
-inj_rel Eq Lt e = cc
-inj_rel Eq Le e = cc
-inj_rel Eq Gt e = cc
-inj_rel Eq Ge e = cc
-inj_rel Ne Eq e = cc
-inj_rel Ne Ne e = refl
-inj_rel Ne Lt e = cc
-inj_rel Ne Le e = cc
-inj_rel Ne Gt e = cc
-inj_rel Ne Ge e = cc
-inj_rel Lt Eq e = cc
-inj_rel Lt Ne e = cc
-inj_rel Lt Lt e = refl
-inj_rel Lt Le e = cc
-inj_rel Lt Gt e = cc
-inj_rel Lt Ge e = cc
-inj_rel Le Eq e = cc
-inj_rel Le Ne e = cc
-inj_rel Le Lt e = cc
-inj_rel Le Le e = refl
-inj_rel Le Gt e = cc
-inj_rel Le Ge e = cc
-inj_rel Gt Eq e = cc
-inj_rel Gt Ne e = cc
-inj_rel Gt Lt e = cc
-inj_rel Gt Le e = cc
-inj_rel Gt Gt e = refl
-inj_rel Gt Ge e = cc
-inj_rel Ge Eq e = cc
-inj_rel Ge Ne e = cc
-inj_rel Ge Lt e = cc
-inj_rel Ge Le e = cc
-inj_rel Ge Gt e = cc
-inj_rel Ge Ge e = refl
+abbrev pub rel_at : ℕ → Rel
+rel_at n = cond (n == 0) Eq (cond (n == 1) Ne (cond (n == 2) Lt (cond (n == 3) Le (cond (n == 4) Gt Ge))))
 
-abbrev pub coded_rel : Coded Rel
-coded_rel = record { code = code_rel; inj = inj_rel }
+pub rel_back : (r : Rel) → rel_at (rel_number r) ≡ r
+rel_back r = elim r as (λ r. rel_at (rel_number r) ≡ r) [ Eq ↦ refl | Ne ↦ refl | Lt ↦ refl | Le ↦ refl | Gt ↦ refl | Ge ↦ refl ]
 
-abbrev pub code_role : Role → Gv
-code_role Input = gnum 0
-code_role Output = gnum 1
-code_role Local = gnum 2
-
-pub inj_role : (x y : Role) → code_role x ≡ code_role y → x ≡ y
-inj_role Input Input e = refl
-inj_role Input Output e = cc
-inj_role Input Local e = cc
-inj_role Output Input e = cc
-inj_role Output Output e = refl
-inj_role Output Local e = cc
-inj_role Local Input e = cc
-inj_role Local Output e = cc
-inj_role Local Local e = refl
+-- a role and a sort by what they are and are not
+pub role_back : (r : Role) → cond (is_input r) Input (cond (is_output r) Output Local) ≡ r
+role_back r = elim r as (λ r. cond (is_input r) Input (cond (is_output r) Output Local) ≡ r) [ Input ↦ refl | Output ↦ refl | Local ↦ refl ]
 
 abbrev pub coded_role : Coded Role
-coded_role = record { code = code_role; inj = inj_role }
+coded_role = code_by (Bool × Bool) (coded× coded_bool coded_bool) (λ r. (is_input r, is_output r)) (λ p. cond p.0 Input (cond p.1 Output Local)) role_back
 
-abbrev pub code_sort : Sort → Gv
-code_sort Scalar = gnum 0
-code_sort Array = gnum 1
-code_sort Port = gnum 2
-
-pub inj_sort : (x y : Sort) → code_sort x ≡ code_sort y → x ≡ y
-inj_sort Scalar Scalar e = refl
-inj_sort Scalar Array e = cc
-inj_sort Scalar Port e = cc
-inj_sort Array Scalar e = cc
-inj_sort Array Array e = refl
-inj_sort Array Port e = cc
-inj_sort Port Scalar e = cc
-inj_sort Port Array e = cc
-inj_sort Port Port e = refl
+pub sort_back : (s : Sort) → cond (is_scalar s) Scalar (cond (is_array s) Array Port) ≡ s
+sort_back s = elim s as (λ s. cond (is_scalar s) Scalar (cond (is_array s) Array Port) ≡ s) [ Scalar ↦ refl | Array ↦ refl | Port ↦ refl ]
 
 abbrev pub coded_sort : Coded Sort
-coded_sort = record { code = code_sort; inj = inj_sort }
+coded_sort = code_by (Bool × Bool) (coded× coded_bool coded_bool) (λ s. (is_scalar s, is_array s)) (λ p. cond p.0 Scalar (cond p.1 Array Port)) sort_back
+
+-- a tree of a kind, of which the number is the kind's, and two parts
+abbrev pub node : ℕ → Gv → Gv → Gv
+node k a b = gcons (gnum k) (gcons a b)
 
 abbrev pub code_int : ℤ → Gv
 code_int (pos n) = gcons gnil (gnum n)
 code_int (negsuc n) = gcons (gnum 0) (gnum n)
 
-inj_int : (x y : ℤ) → code_int x ≡ code_int y → x ≡ y
-inj_int (pos m) (pos n) e = cc
-inj_int (pos m) (negsuc n) e = cc
-inj_int (negsuc m) (pos n) e = cc
-inj_int (negsuc m) (negsuc n) e = cc
+abbrev pub int_at : Gv → ℤ
+int_at (gcons gnil n) = pos (num n)
+int_at (gcons sign n) = negsuc (num n)
+int_at none = pos 0
+
+pub int_back : (x : ℤ) → int_at (code_int x) ≡ x
+int_back (pos n) = refl
+int_back (negsuc n) = refl
 
 abbrev pub code_term : Term ℕ → Gv
-code_term (Number x0) = gcons (gnum 0) (code_int x0)
-code_term (Variable x0) = gcons (gnum 1) (gnum x0)
-code_term (Read x0 x1) = gcons (gnum 2) ((gcons (gnum x0) (code_term x1)))
-code_term (Sum x0 x1) = gcons (gnum 3) ((gcons (code_term x0) (code_term x1)))
-code_term (Difference x0 x1) = gcons (gnum 4) ((gcons (code_term x0) (code_term x1)))
-code_term (Product x0 x1) = gcons (gnum 5) ((gcons (code_term x0) (code_term x1)))
-code_term (Quotient x0 x1) = gcons (gnum 6) ((gcons (code_term x0) (code_term x1)))
-code_term (Remainder x0 x1) = gcons (gnum 7) ((gcons (code_term x0) (code_term x1)))
-code_term (Negative x0) = gcons (gnum 8) (code_term x0)
+code_term (Number n) = node 0 (code_int n) gnil
+code_term (Variable x) = node 1 (gnum x) gnil
+code_term (Read x i) = node 2 (gnum x) (code_term i)
+code_term (Sum a b) = node 3 (code_term a) (code_term b)
+code_term (Difference a b) = node 4 (code_term a) (code_term b)
+code_term (Product a b) = node 5 (code_term a) (code_term b)
+code_term (Quotient a b) = node 6 (code_term a) (code_term b)
+code_term (Remainder a b) = node 7 (code_term a) (code_term b)
+code_term (Negative a) = node 8 (code_term a) gnil
 
-pub inj_term : (x y : Term ℕ) → code_term x ≡ code_term y → x ≡ y
-inj_term (Number x0) (Number y0) e = let e0 : x0 ≡ y0 = inj_int x0 y0 (cc) in cc
-inj_term (Number x0) (Variable y0) e = cc
-inj_term (Number x0) (Read y0 y1) e = cc
-inj_term (Number x0) (Sum y0 y1) e = cc
-inj_term (Number x0) (Difference y0 y1) e = cc
-inj_term (Number x0) (Product y0 y1) e = cc
-inj_term (Number x0) (Quotient y0 y1) e = cc
-inj_term (Number x0) (Remainder y0 y1) e = cc
-inj_term (Number x0) (Negative y0) e = cc
-inj_term (Variable x0) (Number y0) e = cc
-inj_term (Variable x0) (Variable y0) e = cc
-inj_term (Variable x0) (Read y0 y1) e = cc
-inj_term (Variable x0) (Sum y0 y1) e = cc
-inj_term (Variable x0) (Difference y0 y1) e = cc
-inj_term (Variable x0) (Product y0 y1) e = cc
-inj_term (Variable x0) (Quotient y0 y1) e = cc
-inj_term (Variable x0) (Remainder y0 y1) e = cc
-inj_term (Variable x0) (Negative y0) e = cc
-inj_term (Read x0 x1) (Number y0) e = cc
-inj_term (Read x0 x1) (Variable y0) e = cc
-inj_term (Read x0 x1) (Read y0 y1) e = let e1 : x1 ≡ y1 = inj_term x1 y1 (cc) in cc
-inj_term (Read x0 x1) (Sum y0 y1) e = cc
-inj_term (Read x0 x1) (Difference y0 y1) e = cc
-inj_term (Read x0 x1) (Product y0 y1) e = cc
-inj_term (Read x0 x1) (Quotient y0 y1) e = cc
-inj_term (Read x0 x1) (Remainder y0 y1) e = cc
-inj_term (Read x0 x1) (Negative y0) e = cc
-inj_term (Sum x0 x1) (Number y0) e = cc
-inj_term (Sum x0 x1) (Variable y0) e = cc
-inj_term (Sum x0 x1) (Read y0 y1) e = cc
-inj_term (Sum x0 x1) (Sum y0 y1) e = let e0 : x0 ≡ y0 = inj_term x0 y0 (cc) in let e1 : x1 ≡ y1 = inj_term x1 y1 (cc) in cc
-inj_term (Sum x0 x1) (Difference y0 y1) e = cc
-inj_term (Sum x0 x1) (Product y0 y1) e = cc
-inj_term (Sum x0 x1) (Quotient y0 y1) e = cc
-inj_term (Sum x0 x1) (Remainder y0 y1) e = cc
-inj_term (Sum x0 x1) (Negative y0) e = cc
-inj_term (Difference x0 x1) (Number y0) e = cc
-inj_term (Difference x0 x1) (Variable y0) e = cc
-inj_term (Difference x0 x1) (Read y0 y1) e = cc
-inj_term (Difference x0 x1) (Sum y0 y1) e = cc
-inj_term (Difference x0 x1) (Difference y0 y1) e = let e0 : x0 ≡ y0 = inj_term x0 y0 (cc) in let e1 : x1 ≡ y1 = inj_term x1 y1 (cc) in cc
-inj_term (Difference x0 x1) (Product y0 y1) e = cc
-inj_term (Difference x0 x1) (Quotient y0 y1) e = cc
-inj_term (Difference x0 x1) (Remainder y0 y1) e = cc
-inj_term (Difference x0 x1) (Negative y0) e = cc
-inj_term (Product x0 x1) (Number y0) e = cc
-inj_term (Product x0 x1) (Variable y0) e = cc
-inj_term (Product x0 x1) (Read y0 y1) e = cc
-inj_term (Product x0 x1) (Sum y0 y1) e = cc
-inj_term (Product x0 x1) (Difference y0 y1) e = cc
-inj_term (Product x0 x1) (Product y0 y1) e = let e0 : x0 ≡ y0 = inj_term x0 y0 (cc) in let e1 : x1 ≡ y1 = inj_term x1 y1 (cc) in cc
-inj_term (Product x0 x1) (Quotient y0 y1) e = cc
-inj_term (Product x0 x1) (Remainder y0 y1) e = cc
-inj_term (Product x0 x1) (Negative y0) e = cc
-inj_term (Quotient x0 x1) (Number y0) e = cc
-inj_term (Quotient x0 x1) (Variable y0) e = cc
-inj_term (Quotient x0 x1) (Read y0 y1) e = cc
-inj_term (Quotient x0 x1) (Sum y0 y1) e = cc
-inj_term (Quotient x0 x1) (Difference y0 y1) e = cc
-inj_term (Quotient x0 x1) (Product y0 y1) e = cc
-inj_term (Quotient x0 x1) (Quotient y0 y1) e = let e0 : x0 ≡ y0 = inj_term x0 y0 (cc) in let e1 : x1 ≡ y1 = inj_term x1 y1 (cc) in cc
-inj_term (Quotient x0 x1) (Remainder y0 y1) e = cc
-inj_term (Quotient x0 x1) (Negative y0) e = cc
-inj_term (Remainder x0 x1) (Number y0) e = cc
-inj_term (Remainder x0 x1) (Variable y0) e = cc
-inj_term (Remainder x0 x1) (Read y0 y1) e = cc
-inj_term (Remainder x0 x1) (Sum y0 y1) e = cc
-inj_term (Remainder x0 x1) (Difference y0 y1) e = cc
-inj_term (Remainder x0 x1) (Product y0 y1) e = cc
-inj_term (Remainder x0 x1) (Quotient y0 y1) e = cc
-inj_term (Remainder x0 x1) (Remainder y0 y1) e = let e0 : x0 ≡ y0 = inj_term x0 y0 (cc) in let e1 : x1 ≡ y1 = inj_term x1 y1 (cc) in cc
-inj_term (Remainder x0 x1) (Negative y0) e = cc
-inj_term (Negative x0) (Number y0) e = cc
-inj_term (Negative x0) (Variable y0) e = cc
-inj_term (Negative x0) (Read y0 y1) e = cc
-inj_term (Negative x0) (Sum y0 y1) e = cc
-inj_term (Negative x0) (Difference y0 y1) e = cc
-inj_term (Negative x0) (Product y0 y1) e = cc
-inj_term (Negative x0) (Quotient y0 y1) e = cc
-inj_term (Negative x0) (Remainder y0 y1) e = cc
-inj_term (Negative x0) (Negative y0) e = let e0 : x0 ≡ y0 = inj_term x0 y0 (cc) in cc
+-- the term of a kind, by what its parts are as trees and as terms
+abbrev pub term_of_kind : ℕ → Gv → Term ℕ → Term ℕ → Term ℕ
+term_of_kind k a left right =
+    cond (k == 0) (Number (int_at a)) (cond (k == 1) (Variable (num a)) (cond (k == 2) (Read (num a) right) (cond (k == 3) (Sum left right)
+    (cond (k == 4) (Difference left right) (cond (k == 5) (Product left right) (cond (k == 6) (Quotient left right) (cond (k == 7) (Remainder left right) (Negative left))))))))
 
-abbrev pub coded_term : Coded (Term ℕ)
-coded_term = record { code = code_term; inj = inj_term }
+abbrev pub term_at : Gv → Term ℕ
+term_at (gcons k (gcons a b)) = term_of_kind (num k) a (term_at a) (term_at b)
+term_at none = Variable 0
 
-abbrev pub coded_literal : Coded (Literal ℕ)
-coded_literal =
-    code_by (Rel × (Term ℕ × Term ℕ)) (coded× coded_rel (coded× coded_term coded_term)) (λ l. (l.relation, (l.left, l.right))) (λ p. record { relation = p.0; left = p.1.0; right = p.1.1 }) (λ _. refl)
+pub term_back : (t : Term ℕ) → term_at (code_term t) ≡ t
+term_back (Number n) = ap Number (int_back n)
+term_back (Variable x) = refl
+term_back (Read x i) = ap (Read x) (term_back i)
+term_back (Sum a b) = λ j. Sum (term_back a j) (term_back b j)
+term_back (Difference a b) = λ j. Difference (term_back a j) (term_back b j)
+term_back (Product a b) = λ j. Product (term_back a j) (term_back b j)
+term_back (Quotient a b) = λ j. Quotient (term_back a j) (term_back b j)
+term_back (Remainder a b) = λ j. Remainder (term_back a j) (term_back b j)
+term_back (Negative a) = ap Negative (term_back a)
 
 abbrev pub code_literal : Literal ℕ → Gv
-code_literal = coded_literal.code
+code_literal l = node (rel_number l.relation) (code_term l.left) (code_term l.right)
 
-inj_literal : (x y : Literal ℕ) → code_literal x ≡ code_literal y → x ≡ y
-inj_literal = coded_literal.inj
+abbrev pub literal_at : Gv → Literal ℕ
+literal_at (gcons k (gcons a b)) = record { relation = rel_at (num k); left = term_at a; right = term_at b }
+literal_at none = record { relation = Eq; left = Variable 0; right = Variable 0 }
+
+pub literal_back : (l : Literal ℕ) → literal_at (code_literal l) ≡ l
+literal_back l = λ j. record { relation = rel_back l.relation j; left = term_back l.left j; right = term_back l.right j }
 
 abbrev pub code_guard : Guard ℕ → Gv
-code_guard (Test x0) = gcons (gnum 0) (code_literal x0)
-code_guard (Not x0) = gcons (gnum 1) (code_guard x0)
-code_guard (And x0 x1) = gcons (gnum 2) ((gcons (code_guard x0) (code_guard x1)))
-code_guard (Or x0 x1) = gcons (gnum 3) ((gcons (code_guard x0) (code_guard x1)))
+code_guard (Test l) = node 0 (code_literal l) gnil
+code_guard (Not g) = node 1 (code_guard g) gnil
+code_guard (And g h) = node 2 (code_guard g) (code_guard h)
+code_guard (Or g h) = node 3 (code_guard g) (code_guard h)
 
-pub inj_guard : (x y : Guard ℕ) → code_guard x ≡ code_guard y → x ≡ y
-inj_guard (Test x0) (Test y0) e = let e0 : x0 ≡ y0 = inj_literal x0 y0 (cc) in cc
-inj_guard (Test x0) (Not y0) e = cc
-inj_guard (Test x0) (And y0 y1) e = cc
-inj_guard (Test x0) (Or y0 y1) e = cc
-inj_guard (Not x0) (Test y0) e = cc
-inj_guard (Not x0) (Not y0) e = let e0 : x0 ≡ y0 = inj_guard x0 y0 (cc) in cc
-inj_guard (Not x0) (And y0 y1) e = cc
-inj_guard (Not x0) (Or y0 y1) e = cc
-inj_guard (And x0 x1) (Test y0) e = cc
-inj_guard (And x0 x1) (Not y0) e = cc
-inj_guard (And x0 x1) (And y0 y1) e = let e0 : x0 ≡ y0 = inj_guard x0 y0 (cc) in let e1 : x1 ≡ y1 = inj_guard x1 y1 (cc) in cc
-inj_guard (And x0 x1) (Or y0 y1) e = cc
-inj_guard (Or x0 x1) (Test y0) e = cc
-inj_guard (Or x0 x1) (Not y0) e = cc
-inj_guard (Or x0 x1) (And y0 y1) e = cc
-inj_guard (Or x0 x1) (Or y0 y1) e = let e0 : x0 ≡ y0 = inj_guard x0 y0 (cc) in let e1 : x1 ≡ y1 = inj_guard x1 y1 (cc) in cc
+abbrev pub guard_of_kind : ℕ → Gv → Guard ℕ → Guard ℕ → Guard ℕ
+guard_of_kind k a left right = cond (k == 0) (Test (literal_at a)) (cond (k == 1) (Not left) (cond (k == 2) (And left right) (Or left right)))
+
+abbrev pub guard_at : Gv → Guard ℕ
+guard_at (gcons k (gcons a b)) = guard_of_kind (num k) a (guard_at a) (guard_at b)
+guard_at none = Test (literal_at gnil)
+
+pub guard_back : (g : Guard ℕ) → guard_at (code_guard g) ≡ g
+guard_back (Test l) = ap Test (literal_back l)
+guard_back (Not g) = ap Not (guard_back g)
+guard_back (And g h) = λ j. And (guard_back g j) (guard_back h j)
+guard_back (Or g h) = λ j. Or (guard_back g j) (guard_back h j)
 
 abbrev pub coded_guard : Coded (Guard ℕ)
-coded_guard = record { code = code_guard; inj = inj_guard }
+coded_guard = record { code = code_guard; inj = λ x y e. sym (guard_back x) ∙ ap guard_at e ∙ guard_back y }
 
 abbrev pub code_assignment : Assignment ℕ → Gv
-code_assignment (Assign x0 x1) = gcons (gnum 0) ((gcons (gnum x0) (code_term x1)))
-code_assignment (ArrayWrite x0 x1 x2) = gcons (gnum 1) ((gcons (gnum x0) ((gcons (code_term x1) (code_term x2)))))
-code_assignment (Emit x0 x1) = gcons (gnum 2) ((gcons (gnum x0) (code_term x1)))
+code_assignment (Assign x e) = gcons (gnum 0) (node x (code_term e) gnil)
+code_assignment (ArrayWrite x i e) = gcons (gnum 1) (node x (code_term i) (code_term e))
+code_assignment (Emit x e) = gcons (gnum 2) (node x (code_term e) gnil)
 
-pub inj_assignment : (x y : Assignment ℕ) → code_assignment x ≡ code_assignment y → x ≡ y
-inj_assignment (Assign x0 x1) (Assign y0 y1) e = let e1 : x1 ≡ y1 = inj_term x1 y1 (cc) in cc
-inj_assignment (Assign x0 x1) (ArrayWrite y0 y1 y2) e = cc
-inj_assignment (Assign x0 x1) (Emit y0 y1) e = cc
-inj_assignment (ArrayWrite x0 x1 x2) (Assign y0 y1) e = cc
-inj_assignment (ArrayWrite x0 x1 x2) (ArrayWrite y0 y1 y2) e = let e1 : x1 ≡ y1 = inj_term x1 y1 (cc) in let e2 : x2 ≡ y2 = inj_term x2 y2 (cc) in cc
-inj_assignment (ArrayWrite x0 x1 x2) (Emit y0 y1) e = cc
-inj_assignment (Emit x0 x1) (Assign y0 y1) e = cc
-inj_assignment (Emit x0 x1) (ArrayWrite y0 y1 y2) e = cc
-inj_assignment (Emit x0 x1) (Emit y0 y1) e = let e1 : x1 ≡ y1 = inj_term x1 y1 (cc) in cc
+abbrev pub assignment_at : Gv → Assignment ℕ
+assignment_at (gcons k (gcons x (gcons a b))) = cond (num k == 0) (Assign (num x) (term_at a)) (cond (num k == 1) (ArrayWrite (num x) (term_at a) (term_at b)) (Emit (num x) (term_at a)))
+assignment_at none = Emit 0 (Variable 0)
+
+pub assignment_back : (a : Assignment ℕ) → assignment_at (code_assignment a) ≡ a
+assignment_back (Assign x e) = ap (Assign x) (term_back e)
+assignment_back (ArrayWrite x i e) = λ j. ArrayWrite x (term_back i j) (term_back e j)
+assignment_back (Emit x e) = ap (Emit x) (term_back e)
 
 abbrev pub coded_assignment : Coded (Assignment ℕ)
-coded_assignment = record { code = code_assignment; inj = inj_assignment }
+coded_assignment = record { code = code_assignment; inj = λ x y e. sym (assignment_back x) ∙ ap assignment_at e ∙ assignment_back y }
 
 abbrev pub coded_transition : Coded (Transition ℕ ℕ)
 coded_transition =

@@ -2,7 +2,7 @@
 use Rattle.std.specs.Prelude.{◌≡◌, ◌≢◌, ℕ, zero, suc, ◌+◌, Bool, true, false, ◌&&◌, cond, ℤ, pos, List, [], ◌∷◌, Option, Some, None, slice_get}
 use Rattle.std.specs.Str.{bytes_eq}
 use Rattle.fs_model.specs.declared.parts.Role.{Role}
-use Rattle.fs_model.specs.declared.parts.Role.TheVariants.{Input, Output, Local}
+use Rattle.fs_model.specs.declared.parts.Role.TheVariants.{Input, Output}
 use Rattle.fs_model.specs.declared.parts.Sort.{Sort}
 use Rattle.fs_model.specs.declared.parts.Sort.TheVariants.{Scalar, Array, Port}
 use Rattle.fs_model.specs.declared.parts.VarInfo.{VarInfo}
@@ -48,32 +48,19 @@ pub data Content : Type 0 where
 
 abbrev pub is_input : Role → Bool
 is_input Input = true
-is_input Output = false
-is_input Local = false
-
-abbrev pub is_output : Role → Bool
-is_output Input = false
-is_output Output = true
-is_output Local = false
+is_input _ = false
 
 abbrev pub is_scalar : Sort → Bool
 is_scalar Scalar = true
-is_scalar Array = false
-is_scalar Port = false
-
-abbrev pub is_array : Sort → Bool
-is_array Scalar = false
-is_array Array = true
-is_array Port = false
-
-abbrev pub is_port : Sort → Bool
-is_port Scalar = false
-is_port Array = false
-is_port Port = true
+is_scalar _ = false
 
 abbrev pub first_scalar : Inputs → Option VarInfo → ℤ
 first_scalar ins None = pos 0
 first_scalar ins (Some v) = cond (is_input v.role && is_scalar v.sort) (ins.scalar v.name) (pos 0)
+
+abbrev pub is_array : Sort → Bool
+is_array Array = true
+is_array _ = false
 
 abbrev pub first_array : Inputs → Option VarInfo → ℤ → ℤ
 first_array ins None i = pos 0
@@ -86,10 +73,18 @@ start_store vs ins = record { scalar = λ x. first_scalar ins (slice_get vs x); 
 abbrev pub start : Fsmd → Inputs → Store
 start m ins = start_store m.variables ins
 
+abbrev pub is_port : Sort → Bool
+is_port Port = true
+is_port _ = false
+
 abbrev pub content : Sort → ℕ → Store → Content
 content Scalar x s = Number (s.scalar x)
 content Array x s = Entries (s.array x)
 content Port x s = Emitted (s.port x)
+
+abbrev pub is_output : Role → Bool
+is_output Output = true
+is_output _ = false
 
 abbrev pub output_from : List VarInfo → ℕ → Store → List ℕ → Option Content
 output_from [] x s name = None

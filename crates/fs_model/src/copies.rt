@@ -1,7 +1,7 @@
 //! Copies of expressions, guards and assignments, with their variables renamed or not.
 
-ghost use Rattle.std.specs.Prelude.{◌≡◌, map, option_map, IfOk};
-ghost use Rattle.fs_model.specs.View.{term_by, literal_by, guard_by, assignment_by, term_of, literal_of, guard_of, assignment_of, named_term, named_guard, named_assignment, declaration_of};
+ghost use Rattle.std.specs.Prelude.{◌≡◌, map, IfOk};
+ghost use Rattle.fs_model.specs.View.{term_by, literal_by, guard_by, assignment_by, term_of, literal_of, guard_of, assignment_of, declaration_of};
 ghost use Rattle.fs_model.specs.Trees.{negated};
 ghost use Rattle.fs_model.specs.Renamed.{term_over, literal_over, guard_over, assignment_over, between, joining};
 

@@ -8,7 +8,7 @@ ghost use Rattle.fs_model.specs.Machines.{Fsmd};
 ghost use Rattle.fs_model.specs.Stores.{Store};
 ghost use Rattle.fs_model.specs.Trees.{branches_of, negated, effects_open, effect_taken};
 ghost use Rattle.fs_model.specs.Parts.{transition_passes, branch_passes};
-ghost use Rattle.fs_model.specs.Runs.{Step, FirstReturn, ReachesReset, SameBehaviour};
+ghost use Rattle.fs_model.specs.Runs.{Step, FirstReturn, SameBehaviour};
 
 /// One step is determined: from a state and a store it leads to one state and one store.
 pub fn one_step_is_determined()

@@ -97,25 +97,29 @@ fn is_natural_assign(assign: &Assign<Name>) -> bool
     }
 }
 
-fn is_sum(expr: &Expr<Name>) -> bool
+/// Whether an expression is a sum or a difference.
+pub fn is_sum(expr: &Expr<Name>) -> bool
     ensures { result ≡ is_sum (named_term expr.now) }
 {
     matches!(expr, Expr::Add(..) | Expr::Sub(..))
 }
 
-fn is_product(expr: &Expr<Name>) -> bool
+/// Whether an expression is a product, a quotient or a remainder.
+pub fn is_product(expr: &Expr<Name>) -> bool
     ensures { result ≡ is_product (named_term expr.now) }
 {
     matches!(expr, Expr::Mul(..) | Expr::Div(..) | Expr::Rem(..))
 }
 
-fn is_and(guard: &Guard) -> bool
+/// Whether a guard is a conjunction.
+pub fn is_and(guard: &Guard) -> bool
     ensures { result ≡ is_and (named_guard guard.now) }
 {
     matches!(guard, Guard::And(..))
 }
 
-fn is_or(guard: &Guard) -> bool
+/// Whether a guard is a disjunction.
+pub fn is_or(guard: &Guard) -> bool
     ensures { result ≡ is_or (named_guard guard.now) }
 {
     matches!(guard, Guard::Or(..))

@@ -4,11 +4,7 @@ use Rattle.std.specs.Prelude.{Option, Some, None, option_map, map, ◌||◌}
 use Rattle.std.specs.Option.{is_some, unwrap_or}
 use Rattle.std.specs.List.{list_any}
 use Rattle.std.specs.Str.{bytes_eq}
-use Rattle.std.specs.Ordering.{nat_cmp}
-use Rattle.std.specs.Cmp.Lexicographic.{slice_cmp}
-use Rattle.std.specs.BTreeMap.{BTreeMap, get, is_at}
 use Rattle.std.proofs.lemmas.Slice.Eq.{bytes_eq-Decides}
-use Rattle.std.proofs.lemmas.Map.Text.{is_eq-slice_cmp}
 use Rattle.fs_rules.specs.declared.check.CheckRule.{CheckRule}
 use Rattle.fs_rules.specs.declared.check.CheckRule.TheVariants.{TwiceNamed}
 use Rattle.fs_rules.specs.declared.check.CheckFault.{CheckFault}
@@ -16,7 +12,7 @@ use Rattle.fs_rules.specs.declared.names.Declared.{Declared}
 use Rattle.fs_rules.specs.Spelled.{place}
 use Rattle.fs_rules.specs.Rules.{at_lines, broken_where, repeated, past}
 use Rattle.fs_rules.specs.FirstFault.{sooner, earliest}
-use Rattle.fs_rules.specs.Places.{declared_of, names_in, found, FindsFirst}
+use Rattle.fs_rules.specs.Places.{declared_of, names_in, found, place_in, FindsFirst, IsTableOf}
 
 pub earliest-append : (known : Option CheckFault) (a b : List CheckFault) → earliest known (a ++ b) ≡ earliest (earliest known a) b
 earliest-append known [] b = refl
@@ -124,20 +120,15 @@ put_at false at_key None g v same e absent = e
 put_at false at_key (Some x) g v same e absent = e
 
 -- a name put where it was not
-pub put_new : (k n : List ℕ) (o : List ℕ → Option ℕ) (g : Option ℕ) (v : ℕ) → g ≡ cond (is_at (slice_cmp nat_cmp k) n) (Some v) (o n) → is_some (o k) ≡ false
-    → g ≡ cond (is_some (o n)) (o n) (cond (bytes_eq k n) (Some v) None)
-put_new k n o g v e absent = put_at (bytes_eq k n) (o k) (o n) g v (λ t. ap o (sym ((bytes_eq-Decides k n).0 t))) (e ∙ ap (λ b. cond b (Some v) (o n)) (is_eq-slice_cmp k n)) absent
-
-pub put_named : (k m : List ℕ) → k ≡ m → (old new : BTreeMap (List ℕ) ℕ) (v : ℕ) → is_some (get (slice_cmp nat_cmp) old m) ≡ false
-    → ((n : List ℕ) → get (slice_cmp nat_cmp) new n ≡ cond (is_at (slice_cmp nat_cmp k) n) (Some v) (get (slice_cmp nat_cmp) old n))
-    → (n : List ℕ) → get (slice_cmp nat_cmp) new n ≡ cond (is_some (get (slice_cmp nat_cmp) old n)) (get (slice_cmp nat_cmp) old n) (cond (bytes_eq m n) (Some v) None)
-put_named k m same old new v absent put n =
-    put_new m n (get (slice_cmp nat_cmp) old) (get (slice_cmp nat_cmp) new n) v (put n ∙ ap (λ z. cond (is_at (slice_cmp nat_cmp z) n) (Some v) (get (slice_cmp nat_cmp) old n)) same) absent
+pub put_new : (k m : List ℕ) → k ≡ m → (old new : List ℕ → Option ℕ) (v : ℕ) → is_some (old m) ≡ false → ((n : List ℕ) → new n ≡ cond (bytes_eq k n) (Some v) (old n))
+    → (n : List ℕ) → new n ≡ cond (is_some (old n)) (old n) (cond (bytes_eq m n) (Some v) None)
+put_new k m same old new v absent put n =
+    put_at (bytes_eq m n) (old m) (old n) (new n) v (λ t. ap old (sym ((bytes_eq-Decides m n).0 t))) (put n ∙ ap (λ z. cond (bytes_eq z n) (Some v) (old n)) same) absent
 
 -- one turn over the declared names
-pub index_finds : (ds : List Declared) (i : ℕ) (x : Declared) → i < length ds → x ≡ get_or ds i x → (old new : BTreeMap (List ℕ) ℕ)
+pub index_finds : (ds : List Declared) (i : ℕ) (x : Declared) → i < length ds → x ≡ get_or ds i x → (old new : List (List ℕ × ℕ))
     → FindsFirst old (names_in (map declared_of (take i ds)))
-    → ((n : List ℕ) → get (slice_cmp nat_cmp) new n ≡ cond (is_some (get (slice_cmp nat_cmp) old n)) (get (slice_cmp nat_cmp) old n) (cond (bytes_eq x.name n) (Some i) None))
+    → ((n : List ℕ) → place_in new n ≡ cond (is_some (place_in old n)) (place_in old n) (cond (bytes_eq x.name n) (Some i) None))
     → FindsFirst new (names_in (map declared_of (take (suc i) ds)))
 index_finds ds i x h e old new f put = record {
   finds = λ n.
@@ -148,9 +139,9 @@ index_finds ds i x h e old new f put = record {
       ∙ ap (λ k. cond (is_some (found (names_in (map declared_of (take i ds))) n)) (found (names_in (map declared_of (take i ds))) n) (cond (bytes_eq x.name n) (Some k) None)) (length_taken ds i (omega arith)));
 }
 
-pub index_noted : (ds : List Declared) (i : ℕ) (x : Declared) → i < length ds → x ≡ get_or ds i x → (old : BTreeMap (List ℕ) ℕ) (known next all : Option CheckFault)
+pub index_noted : (ds : List Declared) (i : ℕ) (x : Declared) → i < length ds → x ≡ get_or ds i x → (old : List (List ℕ × ℕ)) (known next all : Option CheckFault)
     → FindsFirst old (names_in (map declared_of (take i ds)))
-    → next ≡ earliest known (broken_where (is_some (get (slice_cmp nat_cmp) old x.name)) TwiceNamed x.line)
+    → next ≡ earliest known (broken_where (is_some (place_in old x.name)) TwiceNamed x.line)
     → earliest known (at_lines TwiceNamed (repeats (names_in (map declared_of (take i ds))) (map declared_of (drop i ds)))) ≡ all
     → earliest next (at_lines TwiceNamed (repeats (names_in (map declared_of (take (suc i) ds))) (map declared_of (drop (suc i) ds)))) ≡ all
 index_noted ds i x h e old known next all f n before =
@@ -165,10 +156,14 @@ index_noted ds i x h e old known next all f n before =
 pub earliest_three : (known : Option CheckFault) (a b c : List CheckFault) → earliest (earliest (earliest known a) b) c ≡ earliest known (a ++ (b ++ c))
 earliest_three known a b c = sym (earliest-append known a (b ++ c) ∙ earliest-append (earliest known a) b c)
 
+-- the place of a name by a table of the names
+pub place_by : (t : List (List ℕ × ℕ) × ℕ) (ns : List (List ℕ)) (n : List ℕ) → IsTableOf t ns → place ns n ≡ unwrap_or (place_in t.0 n) t.1
+place_by t ns n h = place_found ns n ∙ ap₂ unwrap_or (sym (h.first.finds n)) (sym h.count)
+
 within_cases : (b : Bool) (p n : ℕ) → p ≤ n → cond b 0 (suc p) ≤ suc n
 within_cases true p n h = omega arith
 within_cases false p n h = omega arith
 
-pub place_count : (ds : List (ℕ × List ℕ)) (n : List ℕ) → place (names_in ds) n ≤ length ds
-place_count [] n = omega arith
-place_count (d ∷ ds) n = within_cases (bytes_eq d.1 n) (place (names_in ds) n) (length ds) (place_count ds n)
+pub place_within : (ns : List (List ℕ)) (n : List ℕ) → place ns n ≤ length ns
+place_within [] n = omega arith
+place_within (m ∷ ns) n = within_cases (bytes_eq m n) (place ns n) (length ns) (place_within ns n)

@@ -22,13 +22,12 @@ names_declared (d ∷ ds) =
     ∙ ap₂ (λ (a b : List (List ℕ)). a ++ b) (names_by d) (names_declared ds)
     ∙ sym (map_joined (λ v. v.name) (declared_by d) (variables_of ds))
 
-pub names_stated : (ss : List SourceState) → names_in (declared_states ss) ≡ state_names ss
-names_stated ss = map_map (λ e. e.1) (λ s. (s.line, s.name)) ss
+pub names_of_declared : (ss : List SourceState) → names_in (declared_states ss) ≡ state_names ss
+names_of_declared ss = map_map (λ e. e.1) (λ s. (s.line, s.name)) ss
 
-pub names_noted : (known one two three four : Option CheckFault) (a b c d : List CheckFault) → one ≡ earliest known a → two ≡ earliest one b → three ≡ earliest two c → four ≡ earliest three d → four ≡ earliest known (a ++ (b ++ (c ++ d)))
-names_noted known one two three four a b c d e f g h =
-    h ∙ ap (λ k. earliest k d) (g ∙ ap (λ k. earliest k c) (f ∙ ap (λ k. earliest k b) e))
-    ∙ earliest_three (earliest known a) b c d ∙ sym (earliest-append known a (b ++ (c ++ d)))
+pub names_noted : (known one two : Option CheckFault) (a b c d : List CheckFault) → one ≡ earliest known (a ++ b) → two ≡ earliest one (c ++ d) → two ≡ earliest known (a ++ (b ++ (c ++ d)))
+names_noted known one two a b c d e f =
+    f ∙ ap (λ k. earliest k (c ++ d)) e ∙ sym (earliest-append known (a ++ b) (c ++ d)) ∙ ap (earliest known) (append_assoc a b (c ++ d))
 
 all_joined : (a b c d r s : List CheckFault) → (a ++ (b ++ (c ++ d))) ++ (r ++ s) ≡ a ++ (b ++ (c ++ (d ++ (r ++ s))))
 all_joined a b c d r s = simp append_assoc
@@ -38,9 +37,6 @@ pub plain_noted : (known one two three : Option CheckFault) (a b c d r s : List 
 plain_noted known one two three a b c d r s e f g =
     g ∙ ap (λ k. earliest k s) (f ∙ ap (λ k. earliest k r) e) ∙ earliest_three known (a ++ (b ++ (c ++ d))) r s ∙ ap (earliest known) (all_joined a b c d r s)
 
-pub names_of_states : (p : Source) (vars : List VarInfo) (states : List (ℕ × List ℕ)) → IsScopeOf p vars states → names_in states ≡ state_names p.states
-names_of_states p vars states s = ap names_in s.stated ∙ names_stated p.states
-
-pub reset_known : (p : Source) (vars : List VarInfo) (states : List (ℕ × List ℕ)) → IsScopeOf p vars states → nat_lt (place (names_in states) p.reset) (length (names_in states)) ≡ nat_lt (place (state_names p.states) p.reset) (length p.states)
+pub reset_known : (p : Source) (vars : List VarInfo) (states : List SourceState) → IsScopeOf p vars states → nat_lt (place (state_names states) p.reset) (length (state_names states)) ≡ nat_lt (place (state_names p.states) p.reset) (length p.states)
 reset_known p vars states s =
-    ap (λ ns. nat_lt (place ns p.reset) (length ns)) (names_of_states p vars states s) ∙ ap (nat_lt (place (state_names p.states) p.reset)) (length_mapped (λ x. x.name) p.states)
+    ap (λ ss. nat_lt (place (state_names ss) p.reset) (length (state_names ss))) s.stated ∙ ap (nat_lt (place (state_names p.states) p.reset)) (length_mapped (λ x. x.name) p.states)

@@ -1,15 +1,16 @@
 //! What parts declare, and the first of the broken rules that are looked at first.
 
-ghost use Rattle.std.specs.Prelude.{◌≡◌, [], None, IfOk};
+ghost use Rattle.std.specs.Prelude.{◌≡◌, None, IfOk, map};
 ghost use Rattle.std.specs.Result.{OnOk};
-ghost use Rattle.fs_model.specs.View.{source_of};
+ghost use Rattle.fs_model.specs.View.{source_of, source_state_of};
 ghost use Rattle.fs_rules.specs.Rules.{plain_faults};
 ghost use Rattle.fs_rules.specs.FirstFault.{earliest};
-ghost use Rattle.fs_rules.specs.Scoped.{IsScopeOf, name_faults};
+ghost use Rattle.fs_rules.specs.Places.{declared_of, names_in, IsTableOf};
+ghost use Rattle.fs_rules.specs.Scoped.{IsScopeOf, name_faults, table_faults};
 
 use crate::check::{CheckFault, CheckRule};
 use crate::faults::Faults;
-use crate::names::NameTable;
+use crate::names::{Declared, NameTable, note_past};
 use crate::scope::{Scope, declare_states, declare_variables};
 use fs_model::limits::{STATE_LIMIT, VARIABLE_LIMIT};
 use fs_model::name::NoMemory;
@@ -18,14 +19,14 @@ use std::alloc::Global;
 
 /// What parts declare, and the first of the broken rules that are looked at first.
 #[derive(Drop)]
-pub struct Checked {
-    pub scope: Scope,
+pub struct Checked<'p> {
+    pub scope: Scope<'p>,
     pub first: Option<CheckFault>,
 }
 
 /// What parts declare, and the first broken rule but for those on branches and on endless lines.
-pub fn check_parts(alloc: Global, parts: &Parts) -> Result<Checked, NoMemory>
-    ensures scope { IfOk result (λ c. IsScopeOf (source_of parts.now) c.scope.vars.items c.scope.states) }
+pub fn check_parts(alloc: Global, parts: &Parts) -> Result<Checked<'_>, NoMemory>
+    ensures scope { IfOk result (λ c. IsScopeOf (source_of parts.now) c.scope.vars.items (map source_state_of c.scope.states.now)) }
     ensures first { IfOk result (λ c. c.first ≡ earliest None (plain_faults (source_of parts.now))) }
 {
     let mut faults = Faults::new();
@@ -40,19 +41,34 @@ pub fn check_parts(alloc: Global, parts: &Parts) -> Result<Checked, NoMemory>
 }
 
 // What parts declare. Names that are declared again or past a limit are noted.
-fn declare(alloc: Global, parts: &Parts, faults: &mut Faults) -> Result<Scope, NoMemory>
-    ensures scope { IfOk result (λ s. IsScopeOf (source_of parts.now) s.vars.items s.states) }
+fn declare<'p>(alloc: Global, parts: &'p Parts, faults: &mut Faults) -> Result<Scope<'p>, NoMemory>
+    ensures scope { IfOk result (λ s. IsScopeOf (source_of parts.now) s.vars.items (map source_state_of s.states.now)) }
     ensures noted { OnOk result (faults.new.first ≡ earliest faults.old.first (name_faults (source_of parts.now))) }
 {
     let variables = declare_variables(alloc, parts.decls.as_slice())?;
-    let names = NameTable::of(alloc, variables.declared, faults)?;
-    names.note_past(VARIABLE_LIMIT, faults);
-    let declared = declare_states(alloc, parts.states.as_slice())?;
-    let states = NameTable::of(alloc, declared, faults)?;
-    states.note_past(STATE_LIMIT, faults);
+    let variable_places = noted_table(alloc, &variables.declared, VARIABLE_LIMIT, faults)?;
+    let states = parts.states.as_slice();
+    let declared = declare_states(alloc, states)?;
+    let state_places = noted_table(alloc, &declared, STATE_LIMIT, faults)?;
     Ok(Scope {
         vars: variables.vars,
-        names,
+        variable_places,
         states,
+        state_places,
     })
+}
+
+// The first places of declared names. Names that are declared again or past a limit are noted.
+fn noted_table(
+    alloc: Global,
+    declared: &[Declared],
+    most: usize,
+    faults: &mut Faults,
+) -> Result<NameTable, NoMemory>
+    ensures table { IfOk result (λ t. IsTableOf t (names_in (map declared_of declared.now))) }
+    ensures noted { OnOk result (faults.new.first ≡ earliest faults.old.first (table_faults most (map declared_of declared.now))) }
+{
+    let table = NameTable::of(alloc, declared, faults)?;
+    note_past(declared, most, faults);
+    Ok(table)
 }

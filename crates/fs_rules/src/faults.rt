@@ -1,6 +1,6 @@
 //! The broken rule that is answered, while rules are looked at.
 
-ghost use Rattle.std.specs.Prelude.{◌≡◌, ◌||◌, ◌&&◌, ◌==◌, nat_lt, Some, None};
+ghost use Rattle.std.specs.Prelude.{◌≡◌, ◌||◌, ◌&&◌, ◌==◌, Some, None};
 ghost use Rattle.fs_rules.specs.Rules.{rank, is_sooner, broken_where};
 ghost use Rattle.fs_rules.specs.FirstFault.{sooner, earliest};
 

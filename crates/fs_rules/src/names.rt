@@ -4,20 +4,17 @@ ghost use Rattle.std.specs.Prelude.{◌≡◌, ◌≤◌, ℕ, List, [], length,
 ghost use Rattle.std.specs.Option.{is_some};
 ghost use Rattle.std.specs.Result.{OnOk};
 ghost use Rattle.std.specs.Str.{bytes_eq};
-ghost use Rattle.std.specs.Ordering.{nat_cmp};
-ghost use Rattle.std.specs.Cmp.Lexicographic.{slice_cmp};
-ghost use Rattle.std.specs.BTreeMap.{get, is_at};
-ghost use Rattle.fs_rules.specs.declared.check.CheckRule.TheVariants.{TwiceNamed, TooMany};
 ghost use Rattle.fs_rules.specs.Spelled.{place};
+ghost use Rattle.fs_rules.specs.declared.check.CheckRule.TheVariants.{TwiceNamed, TooMany};
 ghost use Rattle.fs_rules.specs.Rules.{at_lines, broken_where, repeated, past};
 ghost use Rattle.fs_rules.specs.FirstFault.{earliest};
-ghost use Rattle.fs_rules.specs.Places.{declared_of, names_in, found, FindsFirst};
+ghost use Rattle.fs_rules.specs.Places.{declared_of, names_in, place_in, FindsFirst, IsTableOf};
 
 use crate::check::CheckRule;
 use crate::faults::Faults;
 use fs_model::name::{Name, NoMemory};
+use indexmap::IndexMap;
 use std::alloc::Global;
-use std::collections::BTreeMap;
 use std::marker::Model;
 
 /// A declared name, and the line of its declaration.
@@ -27,62 +24,47 @@ pub struct Declared {
     pub name: Name,
 }
 
-/// Names in order of declaration. Contracts see each with its line.
+/// Names in the order in which they are first declared, each with the place of its first declaration, and how many names are
+/// declared, repeats among them. Contracts see the names with their places, and that number.
 #[derive(Drop)]
 pub struct NameTable {
-    declared: Vec<Declared>,
-    places: BTreeMap<Name, usize>,
+    places: IndexMap<Name, usize>,
+    count: usize,
 }
 
 impl Model for NameTable {
-    ghost use Rattle.std.specs.Prelude.{ℕ, List, map};
-    ghost use Rattle.fs_rules.specs.Places.{declared_of, names_in, FindsFirst};
+    ghost use Rattle.std.specs.Prelude.{ℕ, List};
 
-    ghost Value = { List (ℕ × List ℕ) };
+    ghost Value = { List (List ℕ × ℕ) × ℕ };
 
-    ghost view = { λ t. map declared_of t.declared.items };
-
-    ghost invariant = { λ t. FindsFirst t.places (names_in (map declared_of t.declared.items)) };
+    ghost view = { λ t. (t.places.entries, t.count) };
 }
 
 impl NameTable {
     /// The table of declared names. Each that stands a second time is noted.
     pub fn of(
         alloc: Global,
-        declared: Vec<Declared>,
+        declared: &[Declared],
         faults: &mut Faults,
     ) -> Result<NameTable, NoMemory>
-        ensures table { IfOk result (λ t. t ≡ map declared_of declared.items) }
-        ensures noted { OnOk result (faults.new.first ≡ earliest faults.old.first (at_lines TwiceNamed (repeated [] (map declared_of declared.items)))) }
+        ensures table { IfOk result (λ t. IsTableOf t (names_in (map declared_of declared.now))) }
+        ensures noted { OnOk result (faults.new.first ≡ earliest faults.old.first (at_lines TwiceNamed (repeated [] (map declared_of declared.now)))) }
     {
-        let places = first_places(alloc, &declared, faults)?;
-        Ok(NameTable { declared, places })
+        let places = first_places(alloc, declared, faults)?;
+        Ok(NameTable {
+            places,
+            count: declared.len(),
+        })
     }
 
-    /// How many names there are.
-    pub fn len(&self) -> usize
-        ensures { result ≡ length self.now }
-    {
-        self.declared.len()
-    }
-
-    /// The first place of a name, and the number of names where it has none.
+    /// The first place of a name among those of the table, and their number where it is none of them.
     pub fn place(&self, name: &Name) -> usize
-        ensures place { result ≡ place (names_in self.now) name.now }
-        ensures within { result ≤ length self.now }
+        ensures place { (names : List (List ℕ)) → IsTableOf self.now names → result ≡ place names name.now }
+        ensures within { (names : List (List ℕ)) → IsTableOf self.now names → result ≤ length names }
     {
         match self.places.get(name) {
             Some(place) => *place,
-            None => self.declared.len(),
-        }
-    }
-
-    /// Notes the first name that is past a limit.
-    pub fn note_past(&self, most: usize, faults: &mut Faults)
-        ensures { faults.new.first ≡ earliest faults.old.first (at_lines TooMany (past most self.now)) }
-    {
-        if let Some(extra) = self.declared.get(most) {
-            faults.note(CheckRule::TooMany, extra.line);
+            None => self.count,
         }
     }
 }
@@ -92,11 +74,11 @@ fn first_places(
     alloc: Global,
     declared: &[Declared],
     faults: &mut Faults,
-) -> Result<BTreeMap<Name, usize>, NoMemory>
-    ensures finds { IfOk result (λ places. FindsFirst places (names_in (map declared_of declared.now))) }
+) -> Result<IndexMap<Name, usize>, NoMemory>
+    ensures finds { IfOk result (λ places. FindsFirst places.entries (names_in (map declared_of declared.now))) }
     ensures noted { OnOk result (faults.new.first ≡ earliest faults.old.first (at_lines TwiceNamed (repeated [] (map declared_of declared.now)))) }
 {
-    let mut places = BTreeMap::new(alloc);
+    let mut places = IndexMap::new(alloc);
     for (place, entry) in declared.iter().enumerate() {
         put_first(alloc, &mut places, place, entry, faults)?;
     }
@@ -106,13 +88,13 @@ fn first_places(
 // Puts the place of a name where it stands first, and notes it where it doesn't.
 fn put_first(
     alloc: Global,
-    places: &mut BTreeMap<Name, usize>,
+    places: &mut IndexMap<Name, usize>,
     place: usize,
     entry: &Declared,
     faults: &mut Faults,
 ) -> Result<(), NoMemory>
-    ensures put { OnOk result ((n : List ℕ) → get (slice_cmp nat_cmp) places.new n ≡ cond (is_some (get (slice_cmp nat_cmp) places.old n)) (get (slice_cmp nat_cmp) places.old n) (cond (bytes_eq entry.now.name n) (Some place) None)) }
-    ensures noted { OnOk result (faults.new.first ≡ earliest faults.old.first (broken_where (is_some (get (slice_cmp nat_cmp) places.old entry.now.name)) TwiceNamed entry.now.line)) }
+    ensures put { OnOk result ((n : List ℕ) → place_in places.new.entries n ≡ cond (is_some (place_in places.old.entries n)) (place_in places.old.entries n) (cond (bytes_eq entry.now.name n) (Some place) None)) }
+    ensures noted { OnOk result (faults.new.first ≡ earliest faults.old.first (broken_where (is_some (place_in places.old.entries entry.now.name)) TwiceNamed entry.now.line)) }
 {
     if places.contains_key(&entry.name) {
         faults.note(CheckRule::TwiceNamed, entry.line);
@@ -123,9 +105,18 @@ fn put_first(
 }
 
 // Puts the place of a name.
-fn put(places: &mut BTreeMap<Name, usize>, name: Name, place: usize) -> Result<(), NoMemory>
-    ensures { OnOk result ((n : List ℕ) → get (slice_cmp nat_cmp) places.new n ≡ cond (is_at (slice_cmp nat_cmp name) n) (Some place) (get (slice_cmp nat_cmp) places.old n)) }
+fn put(places: &mut IndexMap<Name, usize>, name: Name, place: usize) -> Result<(), NoMemory>
+    ensures { OnOk result ((n : List ℕ) → place_in places.new.entries n ≡ cond (bytes_eq name n) (Some place) (place_in places.old.entries n)) }
 {
     let _ = places.insert(name, place)?;
     Ok(())
+}
+
+/// Notes the first declared name that is past a limit.
+pub fn note_past(declared: &[Declared], most: usize, faults: &mut Faults)
+    ensures { faults.new.first ≡ earliest faults.old.first (at_lines TooMany (past most (map declared_of declared.now))) }
+{
+    if let Some(extra) = declared.get(most) {
+        faults.note(CheckRule::TooMany, extra.line);
+    }
 }

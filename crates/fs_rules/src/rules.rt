@@ -1,6 +1,6 @@
 //! The rules that each state and each transition keep.
 
-ghost use Rattle.std.specs.Prelude.{◌≡◌, ◌≤◌, ℕ, [], ◌∷◌, ◌++◌, length, false, not, ◌||◌, ◌==◌, map, option_map, IfOk};
+ghost use Rattle.std.specs.Prelude.{◌≡◌, ◌≤◌, ℕ, [], ◌∷◌, ◌++◌, length, false, not, ◌||◌, ◌==◌, map, IfOk};
 ghost use Rattle.std.specs.List.{list_any};
 ghost use Rattle.std.specs.Result.{OnOk};
 ghost use Rattle.std.specs.Ordering.{nat_cmp};
@@ -13,7 +13,7 @@ ghost use Rattle.fs_rules.specs.Sound.{scalars_in, arrays_in, scalars_in_guard, 
 ghost use Rattle.fs_rules.specs.Rules.{at_lines, line_faults, lines_faults, lacks_else, after_else, state_faults, changes_input};
 ghost use Rattle.std.specs.List.{flat_map};
 ghost use Rattle.fs_rules.specs.FirstFault.{earliest};
-ghost use Rattle.fs_rules.specs.Places.{names_in};
+ghost use Rattle.fs_rules.specs.Places.{names_stated};
 ghost use Rattle.fs_rules.specs.Uses.{uses_of, either_of};
 
 use crate::check::CheckRule;
@@ -42,7 +42,7 @@ fn either(a: Uses, b: Uses) -> Uses
     }
 }
 
-impl Scope {
+impl Scope<'_> {
     // What is wrong with a use as a scalar.
     fn scalar_use(&self, name: &Name) -> Uses
         ensures { result ≡ uses_of self.now.vars.items (place (names_of self.now.vars.items) name.now ∷ []) [] [] }
@@ -156,7 +156,7 @@ impl Scope {
     // What is wrong with the uses of a transition.
     #[tactic(auto, using(crate::proofs::Uses::either_line))]
     fn line_uses(&self, line: &RawLine) -> Uses
-        ensures { let vs = self.now.vars.items in let l = line_spelled (names_of vs) (names_in self.now.states) (source_transition_of line.now) in
+        ensures { let vs = self.now.vars.items in let l = line_spelled (names_of vs) (names_stated self.now.states.now) (source_transition_of line.now) in
             result ≡ uses_of vs (scalars_in_condition l.guard ++ scalars_in_assignments l.assignments) (arrays_in_condition l.guard ++ arrays_in_assignments l.assignments) (ports_in_assignments l.assignments) }
     {
         let assigns = self.assigns_uses(&line.assigns);
@@ -167,7 +167,7 @@ impl Scope {
     }
 }
 
-impl Scope {
+impl Scope<'_> {
     // Whether an assignment changes an input.
     fn changes_input(&self, assign: &Assign<Name>) -> bool
         ensures { let a = assignment_over (place (names_of self.now.vars.items)) (named_assignment assign.now) in result ≡ input_at self.now.vars.items (changed_by a) }
@@ -217,7 +217,7 @@ impl Scope {
     // Notes each rule that a transition breaks.
     fn check_line(&self, alloc: Global, line: &RawLine, faults: &mut Faults) -> Result<(), NoMemory>
         ensures { OnOk result (faults.new.first ≡ earliest faults.old.first
-            (line_faults self.now.vars.items (length (names_in self.now.states)) line.now.line (line_spelled (names_of self.now.vars.items) (names_in self.now.states) (source_transition_of line.now)))) }
+            (line_faults self.now.vars.items (length (names_stated self.now.states.now)) line.now.line (line_spelled (names_of self.now.vars.items) (names_stated self.now.states.now) (source_transition_of line.now)))) }
     {
         let uses = self.line_uses(line);
         let assigns = line.assigns.as_slice();
@@ -241,7 +241,7 @@ impl Scope {
         lines: &[RawLine],
         faults: &mut Faults,
     ) -> Result<(), NoMemory>
-        ensures { OnOk result (faults.new.first ≡ earliest faults.old.first (lines_faults self.now.vars.items (names_in self.now.states) (map source_transition_of lines.now))) }
+        ensures { OnOk result (faults.new.first ≡ earliest faults.old.first (lines_faults self.now.vars.items (names_stated self.now.states.now) (map source_transition_of lines.now))) }
     {
         for line in lines {
             self.check_line(alloc, line, faults)?;
@@ -256,7 +256,7 @@ impl Scope {
         state: &RawState,
         faults: &mut Faults,
     ) -> Result<(), NoMemory>
-        ensures { OnOk result (faults.new.first ≡ earliest faults.old.first (state_faults self.now.vars.items (names_in self.now.states) (source_state_of state.now))) }
+        ensures { OnOk result (faults.new.first ≡ earliest faults.old.first (state_faults self.now.vars.items (names_stated self.now.states.now) (source_state_of state.now))) }
     {
         let lines = state.lines.as_slice();
         faults.note_where(lacks_else(lines), CheckRule::NoElse, state.line);
@@ -271,7 +271,7 @@ impl Scope {
         states: &[RawState],
         faults: &mut Faults,
     ) -> Result<(), NoMemory>
-        ensures { OnOk result (faults.new.first ≡ earliest faults.old.first (flat_map (state_faults self.now.vars.items (names_in self.now.states)) (map source_state_of states.now))) }
+        ensures { OnOk result (faults.new.first ≡ earliest faults.old.first (flat_map (state_faults self.now.vars.items (names_stated self.now.states.now)) (map source_state_of states.now))) }
     {
         for state in states {
             self.check_state(alloc, state, faults)?;

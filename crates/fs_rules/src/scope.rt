@@ -5,9 +5,9 @@ ghost use Rattle.std.specs.Option.{option_copied};
 ghost use Rattle.std.specs.Result.{OnOk};
 ghost use Rattle.fs_model.specs.Limits.{most_variables, most_states};
 ghost use Rattle.fs_model.specs.View.{declaration_of, source_state_of};
-ghost use Rattle.fs_rules.specs.Spelled.{place, declared_by, variables_of, names_of, state_names};
+ghost use Rattle.fs_rules.specs.Spelled.{place, declared_by, variables_of, names_of};
 ghost use Rattle.fs_rules.specs.Rules.{declared_names, declared_states};
-ghost use Rattle.fs_rules.specs.Places.{declared_of, names_in};
+ghost use Rattle.fs_rules.specs.Places.{declared_of, names_stated, IsTableOf};
 
 use crate::names::{Declared, NameTable};
 use fs_model::copies::Rename;
@@ -15,22 +15,24 @@ use fs_model::name::{Name, NoMemory};
 use fs_model::parts::{Decl, RawState, StateId, VarId, VarInfo};
 use std::alloc::Global;
 
-/// The variables and the states that parts declare.
+/// The variables and the states that parts declare, and the first places of their names.
 #[derive(Drop)]
-pub struct Scope {
+pub struct Scope<'p> {
     pub vars: Vec<VarInfo>,
-    pub names: NameTable,
-    pub states: NameTable,
-    ghost named: { names_in names ≡ names_of vars.items },
+    pub variable_places: NameTable,
+    pub states: &'p [RawState],
+    pub state_places: NameTable,
+    ghost named: { IsTableOf variable_places (names_of vars.items) },
+    ghost stated: { IsTableOf state_places (names_stated states.now) },
 }
 
-impl Scope {
+impl Scope<'_> {
     /// The place of a variable, and the number of variables where there is none of the name.
     pub fn variable_place(&self, name: &Name) -> usize
         ensures place { result ≡ place (names_of self.now.vars.items) name.now }
         ensures within { result ≤ length self.now.vars.items }
     {
-        self.names.place(name)
+        self.variable_places.place(name)
     }
 
     /// The variable of a name.
@@ -42,15 +44,15 @@ impl Scope {
 
     /// The place of a state, and the number of states where there is none of the name.
     pub fn state_place(&self, name: &Name) -> usize
-        ensures place { result ≡ place (names_in self.now.states) name.now }
-        ensures within { result ≤ length self.now.states }
+        ensures place { result ≡ place (names_stated self.now.states.now) name.now }
+        ensures within { result ≤ length self.now.states.now }
     {
-        self.states.place(name)
+        self.state_places.place(name)
     }
 
     /// Whether a state has the name.
     pub fn knows_state(&self, name: &Name) -> bool
-        ensures { result ≡ nat_lt (place (names_in self.now.states) name.now) (length (names_in self.now.states)) }
+        ensures { result ≡ nat_lt (place (names_stated self.now.states.now) name.now) (length (names_stated self.now.states.now)) }
     {
         self.state_place(name) < self.states.len()
     }
@@ -65,14 +67,14 @@ impl Scope {
 
     /// The number of a state.
     pub fn state_id(&self, name: &Name) -> StateId
-        requires { length self.now.states ≤ most_states }
-        ensures { result.0 ≡ place (names_in self.now.states) name.now }
+        requires { length self.now.states.now ≤ most_states }
+        ensures { result.0 ≡ place (names_stated self.now.states.now) name.now }
     {
         StateId(self.state_place(name) as u32)
     }
 }
 
-impl Rename<Name> for Scope {
+impl Rename<Name> for Scope<'_> {
     type To = VarId;
 
     ghost can_rename = { λ s. length s.vars.items ≤ most_variables };

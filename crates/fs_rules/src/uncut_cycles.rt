@@ -1,10 +1,10 @@
 //! States that lead back to themselves with no cut between.
 
-ghost use Rattle.std.specs.Prelude.{◌≡◌, ℕ, ◌<◌, ◌≤◌, ◌+◌, ◌-◌, ◌^◌, ◌⊎◌, ◌++◌, List, [], ◌∷◌, length, Some, None, true, false, IfOk, IsSome, slice_index, nat_lt};
-ghost use Rattle.std.specs.List.{slice_index_or, slice_get, list_all};
+ghost use Rattle.std.specs.Prelude.{◌≡◌, ℕ, ◌<◌, ◌≤◌, ◌+◌, ◌-◌, ◌^◌, ◌⊎◌, ◌++◌, [], ◌∷◌, length, Some, None, true, false, IfOk, slice_index, nat_lt};
+ghost use Rattle.std.specs.List.{slice_get, list_all};
 ghost use Rattle.std.specs.Option.{is_some};
 ghost use Rattle.std.specs.Result.{OnOk};
-ghost use Rattle.fs_rules.specs.Walks.{walked, is_cut, reaches, IsRound, IsGraph, pass_at, passed, may_pass, judged, trail, closed, IsWalk, AreSettled};
+ghost use Rattle.fs_rules.specs.Walks.{is_cut, reaches, IsRound, IsGraph, pass_at, may_pass, judged, trail, closed, IsWalk, AreSettled};
 ghost use Rattle.fs_rules.specs.declared.uncut_cycles.Pass.{Pass};
 ghost use Rattle.fs_rules.specs.declared.uncut_cycles.Verdict.TheVariants.{Ends};
 

@@ -1,6 +1,6 @@
 -- What inputs give, and the store in which a run begins.
 use Rattle.std.proofs.Common.{◌≡◌, get_or, ℕ, zero, suc, ◌+◌, ◌<◌, length, take, Bool, true, false, cond, List, [], ◌∷◌, ◌++◌, refl, sym, ◌∙◌, ap, ap₂, subst}
-use Rattle.std.specs.Prelude.{not, ◌&&◌, ◌||◌, ℤ, pos, Option, Some, None, option_map, map, filter, slice_get, slice_set}
+use Rattle.std.specs.Prelude.{not, ◌&&◌, ℤ, pos, Option, Some, None, option_map, map, filter, slice_get, slice_set}
 use Rattle.std.specs.Str.{bytes_eq}
 use Rattle.std.specs.List.{list_any, AllZip}
 use Rattle.std.proofs.lemmas.List.{take_more, map-append}
@@ -8,6 +8,7 @@ use Rattle.std.proofs.lemmas.List.Elements.{filter-append}
 use Rattle.std.proofs.lemmas.Slice.Eq.{bytes_eq-Decides}
 use Rattle.fs_ast.specs.Sound.{names_differ}
 use Rattle.std.proofs.lemmas.Option.{slice_get-map}
+use Rattle.fs_model.proofs.Truth.{not_true, neither_left, neither_right, and_left, and_right}
 use Rattle.fs_model.specs.declared.parts.Sort.{Sort}
 use Rattle.fs_model.specs.declared.parts.Sort.TheVariants.{Scalar, Array, Port}
 use Rattle.fs_model.specs.declared.parts.VarInfo.{VarInfo}
@@ -210,28 +211,8 @@ signature_not v h = ap (λ b. map (λ (w : VarInfo). (w.name, w.sort)) (cond b (
 
 name_is : (v : VarInfo) (rest : List VarInfo) (k : ℕ) (w : VarInfo) → list_any (λ m. bytes_eq m v.name) (map (λ u. u.name) rest) ≡ false → slice_get rest k ≡ Some w → bytes_eq w.name v.name ≡ false
 name_is v [] k w n e = absurd (cc)
-name_is v (x ∷ rest) zero w n e = let q : x ≡ w = cc in sym (ap (λ u. bytes_eq u.name v.name) q) ∙ first_no (bytes_eq x.name v.name) (list_any (λ m. bytes_eq m v.name) (map (λ u. u.name) rest)) n
-  where
-    first_no : (a b : Bool) → (a || b) ≡ false → a ≡ false
-    first_no true b h = absurd (cc)
-    first_no false b h = refl
-name_is v (x ∷ rest) (suc k) w n e = name_is v rest k w (second_no (bytes_eq x.name v.name) (list_any (λ m. bytes_eq m v.name) (map (λ u. u.name) rest)) n) e
-  where
-    second_no : (a b : Bool) → (a || b) ≡ false → b ≡ false
-    second_no true b h = absurd (cc)
-    second_no false b h = h
-
-not_true : (b : Bool) → not b ≡ true → b ≡ false
-not_true true h = absurd (cc)
-not_true false h = refl
-
-one_of : (a b : Bool) → (a && b) ≡ true → a ≡ true
-one_of true b e = refl
-one_of false b e = absurd (cc)
-
-other_of : (a b : Bool) → (a && b) ≡ true → b ≡ true
-other_of true b e = e
-other_of false b e = absurd (cc)
+name_is v (x ∷ rest) zero w n e = let q : x ≡ w = cc in sym (ap (λ u. bytes_eq u.name v.name) q) ∙ neither_left (bytes_eq x.name v.name) (list_any (λ m. bytes_eq m v.name) (map (λ u. u.name) rest)) n
+name_is v (x ∷ rest) (suc k) w n e = name_is v rest k w (neither_right (bytes_eq x.name v.name) (list_any (λ m. bytes_eq m v.name) (map (λ u. u.name) rest)) n) e
 
 flip_no : (a b : List ℕ) → bytes_eq a b ≡ false → bytes_eq b a ≡ false
 flip_no a b h = decided (bytes_eq b a) refl
@@ -256,9 +237,9 @@ pub serves_own : (vs : List VarInfo) (k : ℕ) (w : VarInfo) → names_differ (m
 serves_own [] k w d e h = absurd (cc)
 serves_own (v ∷ rest) zero w d e h = let q : v ≡ w = cc in subst (λ u. sort_named (signatures_in (v ∷ rest)) u.name ≡ Some u.sort) q (sort_first v rest (ap (λ u. is_input u.role) q ∙ h))
 serves_own (v ∷ rest) (suc k) w d e h =
-    let alone : list_any (λ m. bytes_eq m v.name) (map (λ u. u.name) rest) ≡ false = not_true _ (one_of (not (list_any (λ m. bytes_eq m v.name) (map (λ u. u.name) rest))) (names_differ (map (λ u. u.name) rest)) d) in
+    let alone : list_any (λ m. bytes_eq m v.name) (map (λ u. u.name) rest) ≡ false = not_true _ (and_left (not (list_any (λ m. bytes_eq m v.name) (map (λ u. u.name) rest))) (names_differ (map (λ u. u.name) rest)) d) in
     sort_later (is_input v.role) v rest w refl (name_is v rest k w alone e)
-    (serves_own rest k w (other_of (not (list_any (λ m. bytes_eq m v.name) (map (λ u. u.name) rest))) (names_differ (map (λ u. u.name) rest)) d) e h)
+    (serves_own rest k w (and_right (not (list_any (λ m. bytes_eq m v.name) (map (λ u. u.name) rest))) (names_differ (map (λ u. u.name) rest)) d) e h)
 
 -- a copy of numbers
 pub numbers_copied : (xs ys : List ℤ) → AllZip (λ p q. q ≡ p) xs ys → ys ≡ xs

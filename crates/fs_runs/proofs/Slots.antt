@@ -1,6 +1,6 @@
 -- What is left where one value of a store is replaced.
 use Rattle.std.proofs.Common.{◌≡◌, get_or, ℕ, zero, suc, List, [], ◌∷◌, ◌++◌, ◌<◌, ◌≤◌, ◌==◌, ◌+◌, ◌∙◌, ap, sym, refl, length, take, drop, add-one, drop-cons, arith, cond, Bool, true, false, Option, Some, None}
-use Rattle.std.specs.Prelude.{ℤ, ◌&&◌, slice_get, slice_set, map, option_map}
+use Rattle.std.specs.Prelude.{ℤ, slice_get, slice_set, map, option_map}
 use Rattle.std.specs.List.{list_all}
 use Rattle.std.specs.Ordering.{int_eq}
 use Rattle.std.proofs.lemmas.Bool.{cases_lt}
@@ -8,6 +8,7 @@ use Rattle.std.proofs.lemmas.Option.{slice_get-get_or, slice_get_past, slice_get
 use Rattle.std.proofs.lemmas.List.Folds.{list_all_more}
 use Rattle.std.proofs.lemmas.Bool.Decides.{nat_tests}
 use Rattle.std.proofs.Math.Seq.{map-set_same}
+use Rattle.fs_model.proofs.Truth.{and_left, and_right, and_both}
 use Rattle.fs_model.specs.declared.parts.Sort.{Sort}
 use Rattle.fs_model.specs.declared.parts.Sort.TheVariants.{Scalar, Array, Port}
 use Rattle.fs_model.specs.Stores.{Store, assigned, written, emitted}
@@ -18,7 +19,7 @@ use Rattle.fs_runs.specs.declared.changes.Change.{Change}
 use Rattle.fs_runs.specs.declared.changes.Change.TheVariants.{Set, Put, Append}
 use Rattle.fs_runs.specs.declared.numbers.Numbers.{Numbers}
 use Rattle.fs_runs.specs.Values.{store_from, number_in, entry_in, list_in, sort_of, has_room}
-use Rattle.fs_runs.specs.Changes.{Alike, Puts, Appends, KeepsRoom, is_number, is_array, is_list, room_in, room_for, suits, is_ready}
+use Rattle.fs_runs.specs.Changes.{Alike, Puts, Appends, KeepsRoom, is_number, is_array, is_list, room_in, room_for, suits, is_ready, StaysReady}
 
 pub store_ext : (s t : Store) → ((x : ℕ) → s.scalar x ≡ t.scalar x) → ((x : ℕ) (i : ℤ) → s.array x i ≡ t.array x i) → ((x : ℕ) → s.port x ≡ t.port x) → s ≡ t
 store_ext s t p q r = λ k. record { scalar = λ x. p x k; array = λ x i. q x i k; port = λ x. r x k }
@@ -185,6 +186,22 @@ keeps_ready m n less vs x o w e k h (Put y i v) r =
 keeps_ready m n less vs x o w e k h (Append y v) r =
     ap (λ p. room_for p n) (get-set_value vs x o w y e) ∙ room_cond (y == x) (λ p. room_for p m) (λ p. room_for p n) o w (slice_get vs y) k.numbers (room_for_fewer (slice_get vs y) m n less) (same_place y x vs o e) r
 
+-- the place itself, once it is replaced
+pub replaced : (vs : List Value) (x : ℕ) (w : Value) → x < length vs → slice_get (slice_set vs x w) x ≡ Some w
+replaced [] x w h = absurd (omega arith)
+replaced (v ∷ vs) zero w h = refl
+replaced (v ∷ vs) (suc x) w h = replaced vs x w (omega arith)
+
+-- room was made in one value
+pub stays_ready : (vs : List Value) (x : ℕ) (d w : Value) → x < length vs → ((n : ℕ) → KeepsRoom n n (get_or vs x d) w) → Alike (get_or vs x d) w → StaysReady vs (slice_set vs x w)
+stays_ready vs x d w h keeps same =
+    let there = is_there vs x d h in
+    record {
+      keeps = λ n. keeps_ready n n (omega arith) vs x (get_or vs x d) w there (keeps n) same.sort;
+      same = same_stands vs x (get_or vs x d) w there same;
+      sorts = sorts_stand vs x d w same.sort;
+    }
+
 -- what is ready as one of more changes is ready as one of fewer
 pub ready_fewer : (m n : ℕ) → n ≤ m → (vs : List Value) (c : Change) → is_ready m vs c ≡ true → is_ready n vs c ≡ true
 ready_fewer m n less vs (Set y v) r = r
@@ -237,29 +254,17 @@ suits_same vs ws c e =
 
 -- tests over lists
 
-first_of : (a b : Bool) → (a && b) ≡ true → a ≡ true
-first_of true b e = refl
-first_of false b e = absurd (cc)
-
-second_of : (a b : Bool) → (a && b) ≡ true → b ≡ true
-second_of true b e = e
-second_of false b e = absurd (cc)
-
-and_of : (a b : Bool) → a ≡ true → b ≡ true → (a && b) ≡ true
-and_of true b p q = q
-and_of false b p q = absurd (cc)
-
 pub all_at : {X : Type 0} (p : X → Bool) (xs : List X) (i : ℕ) (d : X) → i < length xs → list_all p xs ≡ true → p (get_or xs i d) ≡ true
 all_at p [] i d h e = absurd (omega arith)
-all_at p (x ∷ xs) zero d h e = first_of (p x) (list_all p xs) e
-all_at p (x ∷ xs) (suc i) d h e = all_at p xs i d (omega arith) (second_of (p x) (list_all p xs) e)
+all_at p (x ∷ xs) zero d h e = and_left (p x) (list_all p xs) e
+all_at p (x ∷ xs) (suc i) d h e = all_at p xs i d (omega arith) (and_right (p x) (list_all p xs) e)
 
 pub all_mono : {X : Type 0} (p q : X → Bool) (xs : List X) → ((x : X) → p x ≡ true → q x ≡ true) → list_all p xs ≡ true → list_all q xs ≡ true
 all_mono p q [] h e = refl
-all_mono p q (x ∷ xs) h e = and_of (q x) (list_all q xs) (h x (first_of (p x) (list_all p xs) e)) (all_mono p q xs h (second_of (p x) (list_all p xs) e))
+all_mono p q (x ∷ xs) h e = and_both (q x) (list_all q xs) (h x (and_left (p x) (list_all p xs) e)) (all_mono p q xs h (and_right (p x) (list_all p xs) e))
 
 pub all_more : {X : Type 0} (p : X → Bool) (xs : List X) (i : ℕ) (d : X) → i < length xs → list_all p (take i xs) ≡ true → p (get_or xs i d) ≡ true → list_all p (take (i + 1) xs) ≡ true
-all_more p xs i d h a b = list_all_more p xs i d h ∙ and_of (list_all p (take i xs)) (p (get_or xs i d)) a b
+all_more p xs i d h a b = list_all_more p xs i d h ∙ and_both (list_all p (take i xs)) (p (get_or xs i d)) a b
 
 pub left_cons : {X : Type 0} (xs : List X) (i : ℕ) (d : X) → i < length xs → drop i xs ≡ get_or xs i d ∷ drop (i + 1) xs
 left_cons xs i d h = drop-cons xs i d h ∙ ap (λ k. get_or xs i d ∷ drop k xs) (sym (add-one i))
@@ -268,16 +273,13 @@ pub left_item : {X : Type 0} (xs : List X) (i : ℕ) (x : X) → i < length xs �
 left_item xs i x h e = left_cons xs i x h ∙ ap (λ y. y ∷ drop (i + 1) xs) (sym e)
 
 pub all_first : {X : Type 0} (p : X → Bool) (x : X) (xs : List X) → list_all p (x ∷ xs) ≡ true → p x ≡ true
-all_first p x xs e = first_of (p x) (list_all p xs) e
+all_first p x xs e = and_left (p x) (list_all p xs) e
 
 pub all_rest : {X : Type 0} (p : X → Bool) (x : X) (xs : List X) → list_all p (x ∷ xs) ≡ true → list_all p xs ≡ true
-all_rest p x xs e = second_of (p x) (list_all p xs) e
+all_rest p x xs e = and_right (p x) (list_all p xs) e
 
 pub number_there : (vs : List Value) (x : ℕ) (o : Value) → slice_get vs x ≡ Some o → is_number (slice_get vs x) ≡ true → is_number (Some o) ≡ true
 number_there vs x o e h = sym (ap is_number e) ∙ h
-
-pub as_many : (n : ℕ) → n ≤ n
-as_many n = omega arith
 
 pub one_fewer : (n : ℕ) → n ≤ suc n
 one_fewer n = omega arith

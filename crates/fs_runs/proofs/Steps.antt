@@ -1,10 +1,11 @@
 -- The branch that a store takes is the step of the machine.
 use Rattle.std.proofs.Common.{◌≡◌, ℕ, suc, ◌<◌, length, Bool, true, false, cond, List, [], ◌∷◌, ◌++◌, refl, sym, ◌∙◌, ap, subst}
-use Rattle.std.specs.Prelude.{◌&&◌, Option, Some, None, IsSome, option_map, map, slice_get}
+use Rattle.std.specs.Prelude.{Option, Some, None, IsSome, option_map, map, slice_get}
 use Rattle.std.specs.List.{list_all}
 use Rattle.std.proofs.lemmas.List.Folds.{list_all-append}
 use Rattle.std.proofs.lemmas.Option.{slice_get-map}
-use Rattle.fs_model.specs.declared.parts.Sort.TheVariants.{Scalar, Array, Port}
+use Rattle.fs_model.proofs.Truth.{and_left, and_right, and_both}
+use Rattle.fs_model.specs.declared.parts.Sort.{Sort}
 use Rattle.fs_model.specs.declared.parts.VarInfo.{VarInfo}
 use Rattle.fs_model.specs.Terms.{Assignment, Assign, ArrayWrite, Emit, Transition}
 use Rattle.fs_model.specs.Machines.{Fsmd, transitions_of}
@@ -64,63 +65,51 @@ line_at (x ∷ ls) s l e = on_guard (λ h. line_at ls s l h) (condition_holds x.
 
 -- sorts decide
 
-number_of_sort : (o : Option Value) (p : Option VarInfo) → option_map sort_of o ≡ option_map (λ v. v.sort) p → has_sort is_scalar p ≡ true → is_number o ≡ true
-number_of_sort o None e h = absurd (cc)
-number_of_sort None (Some v) e h = absurd (cc)
-number_of_sort (Some (Num n)) (Some v) e h = refl
-number_of_sort (Some (Arr m)) (Some v) e h = let q : v.sort ≡ Array = cc in let r : is_scalar v.sort ≡ false = ap is_scalar q in absurd (cc)
-number_of_sort (Some (values.List l)) (Some v) e h = let q : v.sort ≡ Port = cc in let r : is_scalar v.sort ≡ false = ap is_scalar q in absurd (cc)
+-- what a test of values says of the sort it says of the variable's
+of_sort : (f : Option Value → Bool) (test : Sort → Bool) → ((w : Value) → f (Some w) ≡ test (sort_of w)) → (o : Option Value) (p : Option VarInfo) → option_map sort_of o ≡ option_map (λ v. v.sort) p → has_sort test p ≡ true → f o ≡ true
+of_sort f test same o None e h = absurd (cc)
+of_sort f test same None (Some v) e h = absurd (cc)
+of_sort f test same (Some w) (Some v) e h = let q : sort_of w ≡ v.sort = cc in same w ∙ ap test q ∙ h
 
-array_of_sort : (o : Option Value) (p : Option VarInfo) → option_map sort_of o ≡ option_map (λ v. v.sort) p → has_sort is_array_sort p ≡ true → is_array o ≡ true
-array_of_sort o None e h = absurd (cc)
-array_of_sort None (Some v) e h = absurd (cc)
-array_of_sort (Some (Arr m)) (Some v) e h = refl
-array_of_sort (Some (Num n)) (Some v) e h = let q : v.sort ≡ Scalar = cc in let r : is_array_sort v.sort ≡ false = ap is_array_sort q in absurd (cc)
-array_of_sort (Some (values.List l)) (Some v) e h = let q : v.sort ≡ Port = cc in let r : is_array_sort v.sort ≡ false = ap is_array_sort q in absurd (cc)
+number_sorted : (w : Value) → is_number (Some w) ≡ is_scalar (sort_of w)
+number_sorted (Num n) = refl
+number_sorted (Arr m) = refl
+number_sorted (values.List l) = refl
 
-list_of_sort : (o : Option Value) (p : Option VarInfo) → option_map sort_of o ≡ option_map (λ v. v.sort) p → has_sort is_port p ≡ true → is_list o ≡ true
-list_of_sort o None e h = absurd (cc)
-list_of_sort None (Some v) e h = absurd (cc)
-list_of_sort (Some (values.List l)) (Some v) e h = refl
-list_of_sort (Some (Num n)) (Some v) e h = let q : v.sort ≡ Scalar = cc in let r : is_port v.sort ≡ false = ap is_port q in absurd (cc)
-list_of_sort (Some (Arr m)) (Some v) e h = let q : v.sort ≡ Array = cc in let r : is_port v.sort ≡ false = ap is_port q in absurd (cc)
+array_sorted : (w : Value) → is_array (Some w) ≡ is_array_sort (sort_of w)
+array_sorted (Num n) = refl
+array_sorted (Arr m) = refl
+array_sorted (values.List l) = refl
+
+list_sorted : (w : Value) → is_list (Some w) ≡ is_port (sort_of w)
+list_sorted (Num n) = refl
+list_sorted (Arr m) = refl
+list_sorted (values.List l) = refl
 
 same_at : (vars : List VarInfo) (vs : List Value) (x : ℕ) → map sort_of vs ≡ map (λ v. v.sort) vars → option_map sort_of (slice_get vs x) ≡ option_map (λ v. v.sort) (slice_get vars x)
 same_at vars vs x e = sym (slice_get-map sort_of vs x) ∙ ap (λ l. slice_get l x) e ∙ slice_get-map (λ v. v.sort) vars x
 
-first_of : (a b : Bool) → (a && b) ≡ true → a ≡ true
-first_of true b e = refl
-first_of false b e = absurd (cc)
-
-second_of : (a b : Bool) → (a && b) ≡ true → b ≡ true
-second_of true b e = e
-second_of false b e = absurd (cc)
-
-both_of : (a b : Bool) → a ≡ true → b ≡ true → (a && b) ≡ true
-both_of true b p q = q
-both_of false b p q = absurd (cc)
-
 front_all : (p : ℕ → Bool) (xs ys : List ℕ) → list_all p (xs ++ ys) ≡ true → list_all p xs ≡ true
-front_all p xs ys e = first_of (list_all p xs) (list_all p ys) (sym (list_all-append p xs ys) ∙ e)
+front_all p xs ys e = and_left (list_all p xs) (list_all p ys) (sym (list_all-append p xs ys) ∙ e)
 
 back_all : (p : ℕ → Bool) (xs ys : List ℕ) → list_all p (xs ++ ys) ≡ true → list_all p ys ≡ true
-back_all p xs ys e = second_of (list_all p xs) (list_all p ys) (sym (list_all-append p xs ys) ∙ e)
+back_all p xs ys e = and_right (list_all p xs) (list_all p ys) (sym (list_all-append p xs ys) ∙ e)
 
 suit_all : (acts : List (Assignment ℕ)) (s : Store) (vars : List VarInfo) (vs : List Value) → map sort_of vs ≡ map (λ v. v.sort) vars
     → list_all (scalar_at vars) (scalars_in_assignments acts) ≡ true → list_all (array_at vars) (arrays_in_assignments acts) ≡ true → list_all (port_at vars) (ports_in_assignments acts) ≡ true → list_all (suits vs) (map (done_by s) acts) ≡ true
 suit_all [] s vars vs e p q r = refl
 suit_all (Assign x t ∷ rest) s vars vs e p q r =
-    both_of (is_number (slice_get vs x)) (list_all (suits vs) (map (done_by s) rest))
-    (number_of_sort (slice_get vs x) (slice_get vars x) (same_at vars vs x e) (first_of (scalar_at vars x) (list_all (scalar_at vars) (scalars_in t)) (front_all (scalar_at vars) (x ∷ scalars_in t) (scalars_in_assignments rest) p)))
+    and_both (is_number (slice_get vs x)) (list_all (suits vs) (map (done_by s) rest))
+    (of_sort is_number is_scalar number_sorted (slice_get vs x) (slice_get vars x) (same_at vars vs x e) (and_left (scalar_at vars x) (list_all (scalar_at vars) (scalars_in t)) (front_all (scalar_at vars) (x ∷ scalars_in t) (scalars_in_assignments rest) p)))
     (suit_all rest s vars vs e (back_all (scalar_at vars) (x ∷ scalars_in t) (scalars_in_assignments rest) p) (back_all (array_at vars) (arrays_in t) (arrays_in_assignments rest) q) r)
 suit_all (ArrayWrite x i t ∷ rest) s vars vs e p q r =
-    both_of (is_array (slice_get vs x)) (list_all (suits vs) (map (done_by s) rest))
-    (array_of_sort (slice_get vs x) (slice_get vars x) (same_at vars vs x e) (first_of (array_at vars x) (list_all (array_at vars) (arrays_in i ++ arrays_in t)) (front_all (array_at vars) (x ∷ (arrays_in i ++ arrays_in t)) (arrays_in_assignments rest) q)))
+    and_both (is_array (slice_get vs x)) (list_all (suits vs) (map (done_by s) rest))
+    (of_sort is_array is_array_sort array_sorted (slice_get vs x) (slice_get vars x) (same_at vars vs x e) (and_left (array_at vars x) (list_all (array_at vars) (arrays_in i ++ arrays_in t)) (front_all (array_at vars) (x ∷ (arrays_in i ++ arrays_in t)) (arrays_in_assignments rest) q)))
     (suit_all rest s vars vs e (back_all (scalar_at vars) (scalars_in i ++ scalars_in t) (scalars_in_assignments rest) p) (back_all (array_at vars) (x ∷ (arrays_in i ++ arrays_in t)) (arrays_in_assignments rest) q) r)
 suit_all (Emit x t ∷ rest) s vars vs e p q r =
-    both_of (is_list (slice_get vs x)) (list_all (suits vs) (map (done_by s) rest))
-    (list_of_sort (slice_get vs x) (slice_get vars x) (same_at vars vs x e) (first_of (port_at vars x) (list_all (port_at vars) (ports_in_assignments rest)) r))
-    (suit_all rest s vars vs e (back_all (scalar_at vars) (scalars_in t) (scalars_in_assignments rest) p) (back_all (array_at vars) (arrays_in t) (arrays_in_assignments rest) q) (second_of (port_at vars x) (list_all (port_at vars) (ports_in_assignments rest)) r))
+    and_both (is_list (slice_get vs x)) (list_all (suits vs) (map (done_by s) rest))
+    (of_sort is_list is_port list_sorted (slice_get vs x) (slice_get vars x) (same_at vars vs x e) (and_left (port_at vars x) (list_all (port_at vars) (ports_in_assignments rest)) r))
+    (suit_all rest s vars vs e (back_all (scalar_at vars) (scalars_in t) (scalars_in_assignments rest) p) (back_all (array_at vars) (arrays_in t) (arrays_in_assignments rest) q) (and_right (port_at vars x) (list_all (port_at vars) (ports_in_assignments rest)) r))
 
 -- what holds of the branch that a store takes
 pub record Takes (m : Fsmd) (q : ℕ) (s : Store) (b : Branch) : Type 0 where

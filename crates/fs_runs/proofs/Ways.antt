@@ -2,6 +2,7 @@
 use Rattle.std.proofs.Common.{◌≡◌, ℕ, Bool, true, false, cond, List, [], ◌∷◌, ◌++◌, refl, sym, ◌∙◌, ap, ap₂, subst, append-nil, append_assoc}
 use Rattle.std.specs.Prelude.{not, ◌&&◌, ◌||◌, is_none, ℤ, Option, Some, None, filter}
 use Rattle.std.proofs.lemmas.List.Folds.{list_all-append}
+use Rattle.fs_model.proofs.Truth.{and_both, and_left, and_right}
 use Rattle.fs_model.specs.Terms.{Term, Number, Variable, Read, Sum, Difference, Product, Quotient, Remainder, Negative, Literal, Guard, Test, Not, And, Or, Assignment, Transition}
 use Rattle.fs_model.specs.Stores.{Store}
 use Rattle.fs_model.specs.Meaning.{literal_holds, holds, condition_holds, transition_taken}
@@ -70,19 +71,8 @@ is_full Empty = false
 is_full (Leaf assignments target) = true
 is_full (Node l y n) = is_full y && is_full n
 
-both_true : (a b : Bool) → a ≡ true → b ≡ true → (a && b) ≡ true
-both_true a b p q = ap₂ (λ (x y : Bool). x && y) p q
-
-first_true : (a b : Bool) → (a && b) ≡ true → a ≡ true
-first_true true b e = refl
-first_true false b e = absurd (cc)
-
-second_true : (a b : Bool) → (a && b) ≡ true → b ≡ true
-second_true true b e = e
-second_true false b e = absurd (cc)
-
 full-guard : (g : Guard ℕ) (y n : Tree) → is_full y ≡ true → is_full n ≡ true → is_full (tree_of_guard g y n) ≡ true
-full-guard (Test l) y n p q = both_true _ _ p q
+full-guard (Test l) y n p q = and_both _ _ p q
 full-guard (Not c) y n p q = full-guard c n y q p
 full-guard (And c d) y n p q = full-guard c _ n (full-guard d y n p q) q
 full-guard (Or c d) y n p q = full-guard c y _ p (full-guard d y n p q)
@@ -98,7 +88,7 @@ full-open (Some c) y n e p = absurd (cc)
 pub full-lines : (ls : List (Transition ℕ ℕ)) → ends_open ls ≡ true → is_full (tree_of_transitions ls) ≡ true
 full-lines [] e = absurd (cc)
 full-lines (l ∷ []) e = full-open l.guard (Leaf l.assignments l.target) Empty e refl
-full-lines (l ∷ k ∷ ls) e = full-condition l.guard (Leaf l.assignments l.target) (tree_of_transitions (k ∷ ls)) refl (full-lines (k ∷ ls) (second_true (not (is_open l)) (ends_open (k ∷ ls)) e))
+full-lines (l ∷ k ∷ ls) e = full-condition l.guard (Leaf l.assignments l.target) (tree_of_transitions (k ∷ ls)) refl (full-lines (k ∷ ls) (and_right (not (is_open l)) (ends_open (k ∷ ls)) e))
 
 and_then : (a b : Bool) (u v w x : List ℤ) → (u ++ cond a v []) ++ cond (a && b) w x ≡ u ++ cond a (v ++ cond b w x) x
 and_then true b u v w x = append_assoc u v (cond b w x)
@@ -167,8 +157,8 @@ way-more [] l s e = ap (λ z. touched_by_literal l s ++ z) (cond_nil (literal_ho
     cond_nil true = refl
     cond_nil false = refl
 way-more (k ∷ w) l s e =
-    let h : literal_holds k s ≡ true = first_true (literal_holds k s) (literals_hold w s) e in
-    let ih : touched_by_way (w ++ l ∷ []) s ≡ touched_by_way w s ++ touched_by_literal l s = way-more w l s (second_true (literal_holds k s) (literals_hold w s) e) in
+    let h : literal_holds k s ≡ true = and_left (literal_holds k s) (literals_hold w s) e in
+    let ih : touched_by_way (w ++ l ∷ []) s ≡ touched_by_way w s ++ touched_by_literal l s = way-more w l s (and_right (literal_holds k s) (literals_hold w s) e) in
     ap (λ b. touched_by_literal k s ++ cond b (touched_by_way (w ++ l ∷ []) s) []) h
     ∙ ap (λ z. touched_by_literal k s ++ z) ih
     ∙ sym (append_assoc (touched_by_literal k s) (touched_by_way w s) (touched_by_literal l s))
@@ -196,8 +186,8 @@ failing (Node l y n) w s x f e =
     let no : literals_hold (w ++ l ∷ []) s ≡ false = all-more w l s ∙ ap (λ b. b && (literal_holds l s && true)) e in
     let no2 : literals_hold (w ++ negated l ∷ []) s ≡ false = all-more w (negated l) s ∙ ap (λ b. b && (literal_holds (negated l) s && true)) e in
     let rest : List Branch = leaves n (w ++ negated l ∷ []) ++ x in
-    let on_y = failing y (w ++ l ∷ []) s rest (first_true (is_full y) (is_full n) f) no in
-    let on_n = failing n (w ++ negated l ∷ []) s x (second_true (is_full y) (is_full n) f) no2 in
+    let on_y = failing y (w ++ l ∷ []) s rest (and_left (is_full y) (is_full n) f) no in
+    let on_n = failing n (w ++ negated l ∷ []) s x (and_right (is_full y) (is_full n) f) no2 in
     let same : touched_by_way (w ++ l ∷ []) s ≡ touched_by_way w s = way-failed w (l ∷ []) s e in
     let same2 : touched_by_way (w ++ negated l ∷ []) s ≡ touched_by_way w s = way-failed w (negated l ∷ []) s e in
     let joined : (leaves y (w ++ l ∷ []) ++ leaves n (w ++ negated l ∷ [])) ++ x ≡ leaves y (w ++ l ∷ []) ++ rest = append_assoc (leaves y (w ++ l ∷ [])) (leaves n (w ++ negated l ∷ [])) x in
@@ -215,7 +205,7 @@ through (Leaf assignments target) w s x f e = record {
   back = λ p. subst (λ b. AllInRange (touched_by_way w s ++ cond b [] (touched_by_branches x s))) (sym e) (both_parts (touched_by_way w s) [] p.0 tt);
 }
 through (Node l y n) w s x f e =
-    on_first (λ h. through y (w ++ l ∷ []) s rest (first_true (is_full y) (is_full n) f) h) (λ h. through n (w ++ negated l ∷ []) s x (second_true (is_full y) (is_full n) f) h) (literal_holds l s) refl
+    on_first (λ h. through y (w ++ l ∷ []) s rest (and_left (is_full y) (is_full n) f) h) (λ h. through n (w ++ negated l ∷ []) s x (and_right (is_full y) (is_full n) f) h) (literal_holds l s) refl
   where
     rest : List Branch
     rest = leaves n (w ++ negated l ∷ []) ++ x
@@ -252,7 +242,7 @@ through (Node l y n) w s x f e =
     on_first yes_below no_below false h =
         let no : literals_hold (w ++ l ∷ []) s ≡ false = all-more w l s ∙ ap₂ (λ (a b : Bool). a && (b && true)) e h in
         let all : literals_hold (w ++ negated l ∷ []) s ≡ true = all-more w (negated l) s ∙ ap₂ (λ (a b : Bool). a && (b && true)) e (opposite_holds l s ∙ ap not h) in
-        let on_y = failing y (w ++ l ∷ []) s rest (first_true (is_full y) (is_full n) f) no in
+        let on_y = failing y (w ++ l ∷ []) s rest (and_left (is_full y) (is_full n) f) no in
         let on_n = no_below all in
         record {
           there = λ p. let a = on_y.there (subst (λ bs. AllInRange (touched_by_branches bs s)) joined p) in

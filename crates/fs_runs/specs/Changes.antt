@@ -1,5 +1,5 @@
 -- What a step changes.
-use Rattle.std.specs.Prelude.{◌≡◌, ℕ, Bool, true, false, is_some, cond, ℤ, IsTrue, List, [], ◌∷◌, ◌++◌, length, Option, Some, None, slice_get}
+use Rattle.std.specs.Prelude.{◌≡◌, ℕ, Bool, true, false, is_some, cond, ℤ, IsTrue, List, [], ◌∷◌, ◌++◌, length, map, Option, Some, None, slice_get}
 use Rattle.std.specs.List.{list_all}
 use Rattle.std.specs.Ordering.{int_cmp, int_eq}
 use Rattle.std.specs.BTreeMap.{get}
@@ -11,7 +11,7 @@ use Rattle.fs_runs.specs.declared.values.Value.TheVariants.{Num, Arr}
 use Rattle.fs_runs.specs.declared.values.Value.TheVariants as values
 use Rattle.fs_runs.specs.declared.changes.Change.{Change}
 use Rattle.fs_runs.specs.declared.changes.Change.TheVariants.{Set, Put, Append}
-use Rattle.fs_runs.specs.Values.{sort_of, number_in, entry_in, list_in, has_room}
+use Rattle.fs_runs.specs.Values.{sort_of, number_in, entry_in, list_in, has_room, store_from}
 use Rattle.fs_runs.specs.Reads.{EachFits}
 
 -- what an assignment changes, valued in the store before the step
@@ -86,6 +86,12 @@ is_ready n vs (Append x v) = room_for (slice_get vs x) n
 
 abbrev pub AllSuit : List Value → List Change → Type 0
 AllSuit vs cs = IsTrue (list_all (suits vs) cs)
+
+-- what was ready stays so, and the store and the sorts stay
+pub record StaysReady (old new : List Value) : Type 0 where
+  pub keeps : (n : ℕ) (c : Change) → is_ready n old c ≡ true → is_ready n new c ≡ true
+  pub same : store_from new ≡ store_from old
+  pub sorts : map sort_of new ≡ map sort_of old
 
 abbrev pub AllReady : List Value → List Change → Type 0
 AllReady vs cs = IsTrue (list_all (is_ready (length cs) vs) cs)

@@ -1,11 +1,11 @@
 //! The changes of a step: valued in the store before it, then made in order, or none of them.
 
-ghost use Rattle.std.specs.Prelude.{◌≡◌, ◌++◌, ◌∷◌, [], true, ℕ, suc, ℤ, IsTrue, length, map, IfOk, IfErr, Some};
+ghost use Rattle.std.specs.Prelude.{◌≡◌, ◌++◌, ◌∷◌, [], true, ℕ, suc, IsTrue, map, IfOk, IfErr, Some};
 ghost use Rattle.std.specs.Option.{SomeIff};
 ghost use Rattle.std.specs.Result.{OnOk, OnErr};
 ghost use Rattle.fs_model.specs.View.{assignment_of};
 ghost use Rattle.fs_runs.specs.Values.{store_from, sort_of};
-ghost use Rattle.fs_runs.specs.Changes.{done_by, AssignmentFits, AssignmentsFit, changed, changed_all, suits, is_ready, is_array, is_list, room_in, room_for, AllSuit, AllReady, Alike, Puts, Appends, KeepsRoom};
+ghost use Rattle.fs_runs.specs.Changes.{done_by, AssignmentFits, AssignmentsFit, changed, changed_all, suits, is_ready, is_array, is_list, room_in, room_for, AllSuit, AllReady, Alike, Puts, Appends, KeepsRoom, StaysReady};
 ghost use Rattle.fs_runs.specs.Outcomes.{PastOnly};
 ghost use Rattle.fs_runs.specs.declared.changes.Change.{Change};
 
@@ -108,20 +108,12 @@ fn make_room(values: &mut [Value], changes: &[Change]) -> Result<(), NoMemory>
 fn make_room_for(values: &mut [Value], change: &Change, count: usize) -> Result<(), NoMemory>
     requires { IsTrue (suits values.old change.now) }
     ensures room { OnOk result (IsTrue (is_ready count values.new change.now)) }
-    ensures keeps { (n : ℕ) (c : Change) → IsTrue (is_ready n values.old c) → IsTrue (is_ready n values.new c) }
-    ensures same { store_from values.new ≡ store_from values.old }
-    ensures sorts { map sort_of values.new ≡ map sort_of values.old }
+    ensures stays { StaysReady values.old values.new }
 {
     match change {
         Change::Set(_, _) => Ok(()),
-        Change::Put(x, i, _) => match make_room_in(&mut values[*x as usize], *i) {
-            Ok(()) => Ok(()),
-            Err(e) => Err(e),
-        },
-        Change::Append(x, _) => match make_list_room(&mut values[*x as usize], count) {
-            Ok(()) => Ok(()),
-            Err(e) => Err(e),
-        },
+        Change::Put(x, i, _) => make_room_in(&mut values[*x as usize], *i),
+        Change::Append(x, _) => make_list_room(&mut values[*x as usize], count),
     }
 }
 

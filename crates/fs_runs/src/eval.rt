@@ -1,6 +1,6 @@
 //! Values of expressions within 128 bits.
 
-ghost use Rattle.std.specs.Prelude.{◌≡◌, slice_get, FitsSigned};
+ghost use Rattle.std.specs.Prelude.{◌≡◌, slice_get};
 ghost use Rattle.std.specs.Option.{SomeIff};
 ghost use Rattle.fs_model.specs.Meaning.{value};
 ghost use Rattle.fs_model.specs.View.{term_of};

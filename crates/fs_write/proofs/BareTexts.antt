@@ -1,5 +1,5 @@
 -- A text without a bracket that it needs is the text of another term, or of another guard.
-use Rattle.std.proofs.Common.{◌≡◌, ℕ, ◌<◌, Bool, true, false, ◌||◌, cond, List, [], ◌++◌, length, codes, refl, sym, ap, ◌∙◌, append-nil, append_assoc, length-append, arith}
+use Rattle.std.proofs.Common.{◌≡◌, ℕ, ◌<◌, Bool, true, false, ◌||◌, cond, List, [], ◌++◌, length, codes, refl, sym, ap, subst, ◌∙◌, append-nil, append_assoc, length-append, arith}
 use Rattle.fs_model.specs.Terms.{Term, Read, Sum, Difference, Product, Quotient, Remainder, Negative, Guard, Test, Not, And, Or}
 use Rattle.fs_model.specs.WellFormed.{is_sum, is_product, is_and, is_or}
 use Rattle.fs_write.specs.Canonical.{in_parens, in_braces, term_text, relation_text, guard_text}
@@ -148,133 +148,132 @@ in_left : (make : Term (List ℕ) → Term (List ℕ)) (after : List ℕ) → ((
 in_left make after n c h a w o true e = (make o.term, h o.term ∙ rw (o.sum e, o.same) refl, c o.term)
 in_left make after n c h a w o false e = let s = in_bare_left make after n c h o.term (is_sum o.term) refl in (s.0, s.1 ∙ rw (o.same, append-nil w) refl, s.2)
 
+-- ---- operations
+
+-- a sum of two operands by this operator
+record Adds (make : Term (List ℕ) → Term (List ℕ) → Term (List ℕ)) (op : List ℕ) : Type 0 where
+  text : (a b : Term (List ℕ)) → term_text (make a b) ≡ term_text a ++ (op ++ in_parens (is_sum b) (term_text b))
+  is : (a b : Term (List ℕ)) → is_sum (make a b) ≡ true
+
+sum_adds : Adds Sum (codes " + ")
+sum_adds = record { text = λ a b. refl; is = λ a b. refl }
+
+difference_adds : Adds Difference (codes " - ")
+difference_adds = record { text = λ a b. refl; is = λ a b. refl }
+
+adds_right : (make : Term (List ℕ) → Term (List ℕ) → Term (List ℕ)) (op : List ℕ) → Adds make op → (a b : Term (List ℕ)) → is_sum b ≡ true → Other (make a b) (term_text a ++ (op ++ term_text b))
+adds_right make op f a b e = record {
+  term = added (make a) b;
+  same = added_is (make a) (term_text a) op (f.text a) b;
+  shorter = subst (λ v. length (term_text a ++ (op ++ term_text b)) < length v) (sym (f.text a b)) (right_longer (term_text a) op (term_text b) (is_sum b) e);
+  sum = λ h. added_sum (make a) (f.is a) b;
+  compound = λ h. sum_compound _ (added_sum (make a) (f.is a) b);
+}
+
+in_adds_left : (make : Term (List ℕ) → Term (List ℕ) → Term (List ℕ)) (op : List ℕ) → Adds make op → (a b : Term (List ℕ)) (w : List ℕ) → Other a w → Other (make a b) (w ++ (op ++ in_parens (is_sum b) (term_text b)))
+in_adds_left make op f a b w o = record {
+  term = make o.term b;
+  same = f.text o.term b ∙ ap (λ (v : List ℕ). v ++ (op ++ in_parens (is_sum b) (term_text b))) o.same;
+  shorter = subst (λ v. length (w ++ (op ++ in_parens (is_sum b) (term_text b))) < length v) (sym (f.text a b)) (front_shorter w (term_text a) _ o.shorter);
+  sum = λ h. f.is o.term b;
+  compound = λ h. sum_compound _ (f.is o.term b);
+}
+
+in_adds_right : (make : Term (List ℕ) → Term (List ℕ) → Term (List ℕ)) (op : List ℕ) → Adds make op → (a b : Term (List ℕ)) (w : List ℕ) → Other b w → Other (make a b) (term_text a ++ (op ++ in_parens (is_sum b) w))
+in_adds_right make op f a b w o =
+    let s = in_added (make a) (term_text a) op (f.text a) (f.is a) b w o (is_sum b) refl in
+    record {
+      term = s.0;
+      same = s.1;
+      shorter = subst (λ v. length (term_text a ++ (op ++ in_parens (is_sum b) w)) < length v) (sym (f.text a b)) (right_shorter (term_text a) op w (term_text b) (is_sum b) o.shorter);
+      sum = λ h. s.2;
+      compound = λ h. sum_compound s.0 s.2;
+    }
+
+-- a product, a quotient or a remainder of two operands by this operator
+record Multiplies (make : Term (List ℕ) → Term (List ℕ) → Term (List ℕ)) (op : List ℕ) : Type 0 where
+  text : (a b : Term (List ℕ)) → term_text (make a b) ≡ in_parens (is_sum a) (term_text a) ++ (op ++ in_parens (is_compound b) (term_text b))
+  no_sum : (a b : Term (List ℕ)) → is_sum (make a b) ≡ false
+  is : (a b : Term (List ℕ)) → is_compound (make a b) ≡ true
+
+product_multiplies : Multiplies Product (codes " * ")
+product_multiplies = record { text = λ a b. refl; no_sum = λ a b. refl; is = λ a b. refl }
+
+quotient_multiplies : Multiplies Quotient (codes " / ")
+quotient_multiplies = record { text = λ a b. refl; no_sum = λ a b. refl; is = λ a b. refl }
+
+remainder_multiplies : Multiplies Remainder (codes " % ")
+remainder_multiplies = record { text = λ a b. refl; no_sum = λ a b. refl; is = λ a b. refl }
+
+never : (t u : Term (List ℕ)) → is_sum t ≡ false → is_sum t ≡ true → is_sum u ≡ true
+never t u e h = absurd cc
+
+multiplies_left : (make : Term (List ℕ) → Term (List ℕ) → Term (List ℕ)) (op : List ℕ) → Multiplies make op → (a b : Term (List ℕ)) → is_sum a ≡ true → Other (make a b) (term_text a ++ (op ++ in_parens (is_compound b) (term_text b)))
+multiplies_left make op f a b e =
+    let after = op ++ in_parens (is_compound b) (term_text b) in
+    let s = split_left (λ v. make v b) after (λ v. f.no_sum v b) (λ v. f.text v b) a e in
+    record {
+      term = s.0;
+      same = s.1;
+      shorter = subst (λ v. length (term_text a ++ after) < length v) (sym (f.text a b)) (left_longer (term_text a) after (is_sum a) e);
+      sum = never (make a b) s.0 (f.no_sum a b);
+      compound = λ h. s.2;
+    }
+
+multiplies_right : (make : Term (List ℕ) → Term (List ℕ) → Term (List ℕ)) (op : List ℕ) → Multiplies make op → (a b : Term (List ℕ)) → is_compound b ≡ true → Other (make a b) (in_parens (is_sum a) (term_text a) ++ (op ++ term_text b))
+multiplies_right make op f a b e =
+    let before = in_parens (is_sum a) (term_text a) in
+    record {
+      term = hung (make a) b;
+      same = hung_is (make a) before op (f.no_sum a) (f.text a) b;
+      shorter = subst (λ v. length (before ++ (op ++ term_text b)) < length v) (sym (f.text a b)) (right_longer before op (term_text b) (is_compound b) e);
+      sum = never (make a b) (hung (make a) b) (f.no_sum a b);
+      compound = λ h. hung_compound (make a) (f.is a) b;
+    }
+
+in_multiplies_left : (make : Term (List ℕ) → Term (List ℕ) → Term (List ℕ)) (op : List ℕ) → Multiplies make op → (a b : Term (List ℕ)) (w : List ℕ) → Other a w → Other (make a b) (in_parens (is_sum a) w ++ (op ++ in_parens (is_compound b) (term_text b)))
+in_multiplies_left make op f a b w o =
+    let after = op ++ in_parens (is_compound b) (term_text b) in
+    let s = in_left (λ v. make v b) after (λ v. f.no_sum v b) (λ v. f.is v b) (λ v. f.text v b) a w o (is_sum a) refl in
+    record {
+      term = s.0;
+      same = s.1;
+      shorter = subst (λ v. length (in_parens (is_sum a) w ++ after) < length v) (sym (f.text a b)) (left_shorter w (term_text a) after (is_sum a) o.shorter);
+      sum = never (make a b) s.0 (f.no_sum a b);
+      compound = λ h. s.2;
+    }
+
+in_multiplies_right : (make : Term (List ℕ) → Term (List ℕ) → Term (List ℕ)) (op : List ℕ) → Multiplies make op → (a b : Term (List ℕ)) (w : List ℕ) → Other b w → Other (make a b) (in_parens (is_sum a) (term_text a) ++ (op ++ in_parens (is_compound b) w))
+in_multiplies_right make op f a b w o =
+    let before = in_parens (is_sum a) (term_text a) in
+    let s = in_hung (make a) before op (f.no_sum a) (f.text a) b w o (is_compound b) refl in
+    record {
+      term = s.0;
+      same = s.1;
+      shorter = subst (λ v. length (before ++ (op ++ in_parens (is_compound b) w)) < length v) (sym (f.text a b)) (right_shorter before op w (term_text b) (is_compound b) o.shorter);
+      sum = never (make a b) s.0 (f.no_sum a b);
+      compound = λ h. s.2 (f.is a);
+    }
+
 bare : (t : Term (List ℕ)) (text : List ℕ) → BareTerm t text → Other t text
-bare _ _ (sum_right a b e) = record {
-  term = added (λ v. Sum a v) b;
-  same = added_is (λ v. Sum a v) (term_text a) (codes " + ") (λ v. refl) b;
-  shorter = right_longer (term_text a) (codes " + ") (term_text b) (is_sum b) e;
-  sum = λ h. added_sum (λ v. Sum a v) (λ v. refl) b;
-  compound = λ h. sum_compound _ (added_sum (λ v. Sum a v) (λ v. refl) b);
-}
-bare _ _ (in_sum_left a b w d) = let o = bare a w d in record {
-  term = Sum o.term b;
-  same = ap (λ (v : List ℕ). v ++ (codes " + " ++ in_parens (is_sum b) (term_text b))) o.same;
-  shorter = front_shorter w (term_text a) _ o.shorter;
-  sum = λ h. refl;
-  compound = λ h. refl;
-}
-bare _ _ (in_sum_right a b w d) = let o = bare b w d in let s = in_added (λ v. Sum a v) (term_text a) (codes " + ") (λ v. refl) (λ v. refl) b w o (is_sum b) refl in record {
-  term = s.0;
-  same = s.1;
-  shorter = right_shorter (term_text a) (codes " + ") w (term_text b) (is_sum b) o.shorter;
-  sum = λ h. s.2;
-  compound = λ h. sum_compound s.0 s.2;
-}
-bare _ _ (difference_right a b e) = record {
-  term = added (λ v. Difference a v) b;
-  same = added_is (λ v. Difference a v) (term_text a) (codes " - ") (λ v. refl) b;
-  shorter = right_longer (term_text a) (codes " - ") (term_text b) (is_sum b) e;
-  sum = λ h. added_sum (λ v. Difference a v) (λ v. refl) b;
-  compound = λ h. sum_compound _ (added_sum (λ v. Difference a v) (λ v. refl) b);
-}
-bare _ _ (in_difference_left a b w d) = let o = bare a w d in record {
-  term = Difference o.term b;
-  same = ap (λ (v : List ℕ). v ++ (codes " - " ++ in_parens (is_sum b) (term_text b))) o.same;
-  shorter = front_shorter w (term_text a) _ o.shorter;
-  sum = λ h. refl;
-  compound = λ h. refl;
-}
-bare _ _ (in_difference_right a b w d) = let o = bare b w d in let s = in_added (λ v. Difference a v) (term_text a) (codes " - ") (λ v. refl) (λ v. refl) b w o (is_sum b) refl in record {
-  term = s.0;
-  same = s.1;
-  shorter = right_shorter (term_text a) (codes " - ") w (term_text b) (is_sum b) o.shorter;
-  sum = λ h. s.2;
-  compound = λ h. sum_compound s.0 s.2;
-}
-bare _ _ (product_left a b e) = let s = split_left (λ v. Product v b) (codes " * " ++ in_parens (is_sum b || is_product b) (term_text b)) (λ v. refl) (λ v. refl) a e in record {
-  term = s.0;
-  same = s.1;
-  shorter = left_longer (term_text a) _ (is_sum a) e;
-  sum = λ h. absurd cc;
-  compound = λ h. s.2;
-}
-bare _ _ (product_right a b e) = record {
-  term = hung (λ v. Product a v) b;
-  same = hung_is (λ v. Product a v) (in_parens (is_sum a) (term_text a)) (codes " * ") (λ v. refl) (λ v. refl) b;
-  shorter = right_longer (in_parens (is_sum a) (term_text a)) (codes " * ") (term_text b) (is_sum b || is_product b) e;
-  sum = λ h. absurd cc;
-  compound = λ h. hung_compound (λ v. Product a v) (λ v. refl) b;
-}
-bare _ _ (in_product_left a b w d) = let o = bare a w d in let s = in_left (λ v. Product v b) (codes " * " ++ in_parens (is_sum b || is_product b) (term_text b)) (λ v. refl) (λ v. refl) (λ v. refl) a w o (is_sum a) refl in record {
-  term = s.0;
-  same = s.1;
-  shorter = left_shorter w (term_text a) _ (is_sum a) o.shorter;
-  sum = λ h. absurd cc;
-  compound = λ h. s.2;
-}
-bare _ _ (in_product_right a b w d) = let o = bare b w d in let s = in_hung (λ v. Product a v) (in_parens (is_sum a) (term_text a)) (codes " * ") (λ v. refl) (λ v. refl) b w o (is_compound b) refl in record {
-  term = s.0;
-  same = s.1;
-  shorter = right_shorter (in_parens (is_sum a) (term_text a)) (codes " * ") w (term_text b) (is_compound b) o.shorter;
-  sum = λ h. absurd cc;
-  compound = λ h. s.2 (λ v. refl);
-}
-bare _ _ (quotient_left a b e) = let s = split_left (λ v. Quotient v b) (codes " / " ++ in_parens (is_sum b || is_product b) (term_text b)) (λ v. refl) (λ v. refl) a e in record {
-  term = s.0;
-  same = s.1;
-  shorter = left_longer (term_text a) _ (is_sum a) e;
-  sum = λ h. absurd cc;
-  compound = λ h. s.2;
-}
-bare _ _ (quotient_right a b e) = record {
-  term = hung (λ v. Quotient a v) b;
-  same = hung_is (λ v. Quotient a v) (in_parens (is_sum a) (term_text a)) (codes " / ") (λ v. refl) (λ v. refl) b;
-  shorter = right_longer (in_parens (is_sum a) (term_text a)) (codes " / ") (term_text b) (is_sum b || is_product b) e;
-  sum = λ h. absurd cc;
-  compound = λ h. hung_compound (λ v. Quotient a v) (λ v. refl) b;
-}
-bare _ _ (in_quotient_left a b w d) = let o = bare a w d in let s = in_left (λ v. Quotient v b) (codes " / " ++ in_parens (is_sum b || is_product b) (term_text b)) (λ v. refl) (λ v. refl) (λ v. refl) a w o (is_sum a) refl in record {
-  term = s.0;
-  same = s.1;
-  shorter = left_shorter w (term_text a) _ (is_sum a) o.shorter;
-  sum = λ h. absurd cc;
-  compound = λ h. s.2;
-}
-bare _ _ (in_quotient_right a b w d) = let o = bare b w d in let s = in_hung (λ v. Quotient a v) (in_parens (is_sum a) (term_text a)) (codes " / ") (λ v. refl) (λ v. refl) b w o (is_compound b) refl in record {
-  term = s.0;
-  same = s.1;
-  shorter = right_shorter (in_parens (is_sum a) (term_text a)) (codes " / ") w (term_text b) (is_compound b) o.shorter;
-  sum = λ h. absurd cc;
-  compound = λ h. s.2 (λ v. refl);
-}
-bare _ _ (remainder_left a b e) = let s = split_left (λ v. Remainder v b) (codes " % " ++ in_parens (is_sum b || is_product b) (term_text b)) (λ v. refl) (λ v. refl) a e in record {
-  term = s.0;
-  same = s.1;
-  shorter = left_longer (term_text a) _ (is_sum a) e;
-  sum = λ h. absurd cc;
-  compound = λ h. s.2;
-}
-bare _ _ (remainder_right a b e) = record {
-  term = hung (λ v. Remainder a v) b;
-  same = hung_is (λ v. Remainder a v) (in_parens (is_sum a) (term_text a)) (codes " % ") (λ v. refl) (λ v. refl) b;
-  shorter = right_longer (in_parens (is_sum a) (term_text a)) (codes " % ") (term_text b) (is_sum b || is_product b) e;
-  sum = λ h. absurd cc;
-  compound = λ h. hung_compound (λ v. Remainder a v) (λ v. refl) b;
-}
-bare _ _ (in_remainder_left a b w d) = let o = bare a w d in let s = in_left (λ v. Remainder v b) (codes " % " ++ in_parens (is_sum b || is_product b) (term_text b)) (λ v. refl) (λ v. refl) (λ v. refl) a w o (is_sum a) refl in record {
-  term = s.0;
-  same = s.1;
-  shorter = left_shorter w (term_text a) _ (is_sum a) o.shorter;
-  sum = λ h. absurd cc;
-  compound = λ h. s.2;
-}
-bare _ _ (in_remainder_right a b w d) = let o = bare b w d in let s = in_hung (λ v. Remainder a v) (in_parens (is_sum a) (term_text a)) (codes " % ") (λ v. refl) (λ v. refl) b w o (is_compound b) refl in record {
-  term = s.0;
-  same = s.1;
-  shorter = right_shorter (in_parens (is_sum a) (term_text a)) (codes " % ") w (term_text b) (is_compound b) o.shorter;
-  sum = λ h. absurd cc;
-  compound = λ h. s.2 (λ v. refl);
-}
+bare _ _ (sum_right a b e) = adds_right Sum _ sum_adds a b e
+bare _ _ (in_sum_left a b w d) = in_adds_left Sum _ sum_adds a b w (bare a w d)
+bare _ _ (in_sum_right a b w d) = in_adds_right Sum _ sum_adds a b w (bare b w d)
+bare _ _ (difference_right a b e) = adds_right Difference _ difference_adds a b e
+bare _ _ (in_difference_left a b w d) = in_adds_left Difference _ difference_adds a b w (bare a w d)
+bare _ _ (in_difference_right a b w d) = in_adds_right Difference _ difference_adds a b w (bare b w d)
+bare _ _ (product_left a b e) = multiplies_left Product _ product_multiplies a b e
+bare _ _ (product_right a b e) = multiplies_right Product _ product_multiplies a b e
+bare _ _ (in_product_left a b w d) = in_multiplies_left Product _ product_multiplies a b w (bare a w d)
+bare _ _ (in_product_right a b w d) = in_multiplies_right Product _ product_multiplies a b w (bare b w d)
+bare _ _ (quotient_left a b e) = multiplies_left Quotient _ quotient_multiplies a b e
+bare _ _ (quotient_right a b e) = multiplies_right Quotient _ quotient_multiplies a b e
+bare _ _ (in_quotient_left a b w d) = in_multiplies_left Quotient _ quotient_multiplies a b w (bare a w d)
+bare _ _ (in_quotient_right a b w d) = in_multiplies_right Quotient _ quotient_multiplies a b w (bare b w d)
+bare _ _ (remainder_left a b e) = multiplies_left Remainder _ remainder_multiplies a b e
+bare _ _ (remainder_right a b e) = multiplies_right Remainder _ remainder_multiplies a b e
+bare _ _ (in_remainder_left a b w d) = in_multiplies_left Remainder _ remainder_multiplies a b w (bare a w d)
+bare _ _ (in_remainder_right a b w d) = in_multiplies_right Remainder _ remainder_multiplies a b w (bare b w d)
 bare _ _ (under_minus a e) = record {
   term = hung (λ v. Negative v) a;
   same = hung_is (λ v. Negative v) [] (codes "-") (λ v. refl) (λ v. refl) a;

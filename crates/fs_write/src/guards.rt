@@ -2,12 +2,12 @@
 
 ghost use Rattle.std.specs.Prelude.{◌≡◌, ◌++◌, ◌||◌, IsTrue, OnOk, option_map};
 ghost use Rattle.fs_model.specs.View.{named_guard};
-ghost use Rattle.fs_model.specs.WellFormed.{is_and, is_or};
 ghost use Rattle.fs_write.specs.Canonical.{relation_text, guard_text, condition_text};
 ghost use Rattle.fs_write.specs.Spellable.{is_spellable_guard, is_spellable_condition};
 
 use crate::terms::{write_bracket, write_expr};
 use fs_model::parts::{Guard, Rel};
+use fs_model::well_formed::{is_and, is_or};
 use std::alloc::AllocError;
 
 fn relation(rel: Rel) -> &'static [u8]
@@ -21,18 +21,6 @@ fn relation(rel: Rel) -> &'static [u8]
         Rel::Gt => b" > ",
         Rel::Ge => b" >= ",
     }
-}
-
-fn is_and(guard: &Guard) -> bool
-    ensures { result ≡ is_and (named_guard guard.now) }
-{
-    matches!(guard, Guard::And(..))
-}
-
-fn is_or(guard: &Guard) -> bool
-    ensures { result ≡ is_or (named_guard guard.now) }
-{
-    matches!(guard, Guard::Or(..))
 }
 
 // Writes a guard.

@@ -3,12 +3,12 @@
 ghost use Rattle.std.specs.Prelude.{◌≡◌, ◌++◌, ◌^◌, ◌<ℤ◌, pos, IsTrue, OnOk};
 ghost use Rattle.std.specs.Fmt.{signed_decimal};
 ghost use Rattle.fs_model.specs.View.{named_term};
-ghost use Rattle.fs_model.specs.WellFormed.{is_sum, is_product};
 ghost use Rattle.fs_write.specs.Canonical.{bracket_text, operator_text, term_text};
 ghost use Rattle.fs_write.specs.Spellable.{is_spellable_term};
 
 use fs_model::name::Name;
 use fs_model::parts::Expr;
+use fs_model::well_formed::{is_product, is_sum};
 use itoa::Buffer;
 use std::alloc::AllocError;
 
@@ -28,18 +28,6 @@ fn write_number(out: &mut Vec<u8>, number: &i128) -> Result<(), AllocError>
 {
     let mut buffer = Buffer::new();
     out.extend_from_slice(buffer.format(*number).as_bytes())
-}
-
-fn is_sum(expr: &Expr<Name>) -> bool
-    ensures { result ≡ is_sum (named_term expr.now) }
-{
-    matches!(expr, Expr::Add(..) | Expr::Sub(..))
-}
-
-fn is_product(expr: &Expr<Name>) -> bool
-    ensures { result ≡ is_product (named_term expr.now) }
-{
-    matches!(expr, Expr::Mul(..) | Expr::Div(..) | Expr::Rem(..))
 }
 
 // The operator between two operands, and no bytes where there is none.

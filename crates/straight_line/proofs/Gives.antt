@@ -1,16 +1,16 @@
 -- What plain expressions give has their value, and what assignments do.
-use Rattle.std.proofs.Common.{◌≡◌, ℕ, ◌<◌, List, length, refl, sym, subst, ap, ap₂, ◌∙◌, arith, true, Bool}
-use Rattle.std.specs.Prelude.{Ok, Err, ℤ, ◌+ℤ◌, ◌-ℤ◌, ◌*ℤ◌, neg_ℤ, ◌&&◌, nat_lt, slice_set}
+use Rattle.std.proofs.Common.{◌≡◌, ℕ, ◌<◌, List, length, refl, sym, subst, ap, ap₂, ◌∙◌, arith, true}
+use Rattle.std.specs.Prelude.{Ok, Err, ℤ, ◌+ℤ◌, ◌-ℤ◌, ◌*ℤ◌, neg_ℤ, nat_lt, slice_set}
 use Rattle.std.specs.List.{slice_index_or}
 use Rattle.fs_model.specs.Terms.{Term, Number, Variable, Read, Sum, Difference, Product, Quotient, Remainder, Negative, Assignment, Assign}
 use Rattle.fs_model.specs.Meaning.{value}
 use Rattle.nf_terms.specs.Terms.{Polynomial, Zero}
 use Rattle.nf_terms.specs.Meaning.{Valuation, value_of}
-use Rattle.nf_terms.specs.Computed.{Computed, Done, after, IfDone}
+use Rattle.nf_terms.specs.Computed.{Done, after, IfDone}
 use Rattle.nf_terms.specs.Means.{IsNumberOf}
 use Rattle.nf_terms.specs.declared.stop.NfStop.{NfStop}
 use Rattle.nf_terms.proofs.Tests.{and_left, and_right}
-use Rattle.nf_sums.specs.Operations.{added, subtracted, multiplied, negated, number}
+use Rattle.nf_sums.specs.Operations.{added, subtracted, multiplied, negated}
 use Rattle.nf_sums.proofs.Values.{goes_done, added_value, subtracted_value, multiplied_value}
 use Rattle.nf_sums.proofs.Forms.{negation_value}
 use Rattle.nf_sums.proofs.Exact.{number_means}

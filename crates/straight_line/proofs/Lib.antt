@@ -1,4 +1,3 @@
-pub mod OneBranch
 pub mod Loops
 pub mod Walks
 pub mod Names

@@ -5,6 +5,7 @@ use Rattle.std.specs.List.{list_any, list_all, slice_index_or, position_from}
 use Rattle.std.specs.Option.{option_and_then, option_or}
 use Rattle.std.specs.Str.{bytes_eq}
 use Rattle.std.proofs.lemmas.Slice.Eq.{bytes_eq-Decides}
+use Rattle.fs_model.proofs.Truth.{not_true, and_left, and_right}
 use Rattle.fs_model.specs.declared.parts.Role.{Role}
 use Rattle.fs_model.specs.declared.parts.Role.TheVariants.{Input, Output, Local}
 use Rattle.fs_model.specs.declared.parts.Sort.{Sort}
@@ -63,25 +64,13 @@ output_step true false v u x k s o p rest r n q h g = grind (arith, r, n, q, h r
 output_step false true v u x k s o p rest r n q h g = g n q
 output_step false false v u x k s o p rest r n q h g = g n q
 
-not-false : (b : Bool) → not b ≡ true → b ≡ false
-not-false true h = absurd (cc)
-not-false false h = refl
-
-and-left : (b c : Bool) → (b && c) ≡ true → b ≡ true
-and-left true c h = refl
-and-left false c h = absurd (cc)
-
-and-right : (b c : Bool) → (b && c) ≡ true → c ≡ true
-and-right true c h = h
-and-right false c h = absurd (cc)
-
 output_named : (vs : List VarInfo) (x : ℕ) (s : Store) (name : List ℕ) (v : VarInfo) (k : ℕ) → names_differ (names vs) ≡ true → named vs name ≡ Some v → position_from (λ u. bytes_eq u.name name) x vs ≡ Some k
     → output_from vs x s name ≡ cond (is_output v.role) (Some (content v.sort k s)) None
 output_named [] x s name v k d n p = absurd (cc)
 output_named (u ∷ vs) x s name v k d n p =
     output_step (bytes_eq u.name name) (is_output u.role) v u x k s (named vs name) (position_from (λ z. bytes_eq z.name name) (x + 1) vs) (output_from vs (x + 1) s name) refl n p
-    (λ e. no_output vs (x + 1) s name (subst (λ z. named vs z ≡ None) ((bytes_eq-Decides u.name name).0 e) (unnamed vs u.name (not-false _ (and-left _ (names_differ (names vs)) d)))))
-    (λ n' p'. output_named vs (x + 1) s name v k (and-right _ _ d) n' p')
+    (λ e. no_output vs (x + 1) s name (subst (λ z. named vs z ≡ None) ((bytes_eq-Decides u.name name).0 e) (unnamed vs u.name (not_true _ (and_left _ (names_differ (names vs)) d)))))
+    (λ n' p'. output_named vs (x + 1) s name v k (and_right _ _ d) n' p')
 
 -- ---- what holds of all variables holds of the one of a name
 first_step : (b c : Bool) (v u : VarInfo) (o : Option VarInfo) (rest : Option (List ℕ)) (name : List ℕ) → cond c (Some name) rest ≡ None → (c ≡ false) × (rest ≡ None)
@@ -110,8 +99,8 @@ passed test i (u ∷ vs) name v e n = passed_step (bytes_eq u.name name) (test u
 
 all_pass : (test : VarInfo → Bool) (vs : List VarInfo) (k : ℕ) (v : VarInfo) → list_all test vs ≡ true → slice_get vs k ≡ Some v → test v ≡ true
 all_pass test [] k v h g = absurd (cc)
-all_pass test (u ∷ vs) zero v h g = let same : u ≡ v = cc in subst (λ z. test z ≡ true) same (and-left (test u) (list_all test vs) h)
-all_pass test (u ∷ vs) (suc k) v h g = all_pass test vs k v (and-right (test u) (list_all test vs) h) g
+all_pass test (u ∷ vs) zero v h g = let same : u ≡ v = cc in subst (λ z. test z ≡ true) same (and_left (test u) (list_all test vs) h)
+all_pass test (u ∷ vs) (suc k) v h g = all_pass test vs k v (and_right (test u) (list_all test vs) h) g
 
 scalar_sort : (s : Sort) → holds_number s ≡ true → s ≡ Scalar
 scalar_sort Scalar h = refl

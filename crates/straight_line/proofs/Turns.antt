@@ -6,7 +6,7 @@ use Rattle.fs_model.specs.Terms.{Assignment}
 use Rattle.fs_model.specs.Machines.{Fsmd, transitions_of}
 use Rattle.fs_model.specs.Trees.{Branch, branches_of}
 use Rattle.fs_ast.specs.Sound.{IsSound, first_transition_target}
-use Rattle.straight_line.proofs.OneBranch.{only_transition}
+use Rattle.fs_ast.proofs.OneBranch.{only_transition}
 use Rattle.nf_terms.specs.Terms.{Polynomial}
 use Rattle.nf_terms.specs.declared.stop.NfStop.{NfStop}
 use Rattle.nf_terms.specs.declared.stop.NfStop.TheVariants.{Wide, Large, NoMemory}

@@ -1,9 +1,10 @@
 -- Runs through states with one branch.
-use Rattle.std.proofs.Common.{◌≡◌, ◌≢◌, ℕ, zero, suc, ◌+◌, ◌-◌, ◌<◌, ◌==◌, List, [], ◌∷◌, ◌++◌, length, ap, sym, refl, ◌∙◌, arith, Option, Some, None, Bool, true, false, subst}
+use Rattle.std.proofs.Common.{◌≡◌, ◌≢◌, ℕ, zero, suc, ◌+◌, ◌-◌, ◌<◌, ◌==◌, List, [], ◌∷◌, ◌++◌, length, ap, sym, refl, ◌∙◌, arith, Option, Some, None, true, false, subst}
 use Rattle.std.specs.Prelude.{◌&&◌, ◌||◌, cond, nat_lt, slice_get, slice_set, ℤ}
 use Rattle.std.specs.List.{list_all, slice_index_or}
 use Rattle.std.proofs.lemmas.Bool.Decides.{nat_tests}
 use Rattle.std.proofs.lemmas.List.Folds.{list_all-append}
+use Rattle.fs_model.proofs.Truth.{and_left, and_right, and_both}
 use Rattle.fs_model.specs.declared.parts.VarInfo.{VarInfo}
 use Rattle.fs_model.specs.Terms.{Term, Guard, Assignment, Assign, ArrayWrite, Emit, Transition}
 use Rattle.fs_model.specs.Machines.{State, Fsmd, transitions_of}
@@ -18,7 +19,7 @@ use Rattle.straight_line.specs.Straight.{is_plain_assignment, is_straight_state,
 use Rattle.straight_line.specs.Vectors.{store_in, LeadsTo, Means}
 use Rattle.straight_line.specs.Steps.{is_settable, Acts, IsAfter, IsNext}
 use Rattle.straight_line.proofs.Loops.{Remains, comes_home, Continues}
-use Rattle.straight_line.proofs.OneBranch.{OnlyTransition, only_transition}
+use Rattle.fs_ast.proofs.OneBranch.{OnlyTransition, only_transition}
 
 -- ---- one step
 taken : (l : Transition ℕ ℕ) (rest : List (Transition ℕ ℕ)) (s : Store) → l.guard ≡ None → transition_taken (l ∷ rest) s ≡ Some l
@@ -44,17 +45,6 @@ scalar_in_range [] x h = absurd (cc)
 scalar_in_range (v ∷ vs) zero h = omega arith
 scalar_in_range (v ∷ vs) (suc x) h = omega (arith, scalar_in_range vs x h)
 
-and-left : (b c : Bool) → (b && c) ≡ true → b ≡ true
-and-left true c h = refl
-and-left false c h = absurd (cc)
-
-and-right : (b c : Bool) → (b && c) ≡ true → c ≡ true
-and-right true c h = h
-and-right false c h = absurd (cc)
-
-both : (b c : Bool) → b ≡ true → c ≡ true → (b && c) ≡ true
-both b c p q = grind arith
-
 below : (x n : ℕ) → x < n → nat_lt x n ≡ true
 below x n h = grind (arith, nat_tests)
 
@@ -63,8 +53,8 @@ settable : (vs : List VarInfo) (assignments : List (Assignment ℕ)) → list_al
 settable vs [] p q = refl
 settable vs (Assign x e ∷ rest) p q =
     let split : (list_all (scalar_at vs) (x ∷ scalars_in e) && list_all (scalar_at vs) (scalars_in_assignments rest)) ≡ true = sym (list_all-append (scalar_at vs) (x ∷ scalars_in e) (scalars_in_assignments rest)) ∙ q in
-    let head : scalar_at vs x ≡ true = and-left (scalar_at vs x) (list_all (scalar_at vs) (scalars_in e)) (and-left _ _ split) in
-    both _ _ (both _ _ (below x (length vs) (scalar_in_range vs x head)) (and-left _ _ p)) (settable vs rest (and-right _ _ p) (and-right _ _ split))
+    let head : scalar_at vs x ≡ true = and_left (scalar_at vs x) (list_all (scalar_at vs) (scalars_in e)) (and_left _ _ split) in
+    and_both _ _ (and_both _ _ (below x (length vs) (scalar_in_range vs x head)) (and_left _ _ p)) (settable vs rest (and_right _ _ p) (and_right _ _ split))
 settable vs (ArrayWrite x i e ∷ rest) p q = absurd (cc)
 settable vs (Emit x e ∷ rest) p q = absurd (cc)
 
@@ -144,8 +134,8 @@ single (b ∷ c ∷ rest) h = absurd (cc)
 
 pub one_branch : (ss : List State) (q : ℕ) → has_straight_states ss ≡ true → nat_lt 1 (length (branches_of (slice_index_or ss q (record { name = []; lines = [] })).lines)) ≡ false
 one_branch [] q h = refl
-one_branch (s ∷ ss) zero h = single (branches_of s.lines) (and-left _ _ h)
-one_branch (s ∷ ss) (suc q) h = one_branch ss q (and-right _ _ h)
+one_branch (s ∷ ss) zero h = single (branches_of s.lines) (and_left _ _ h)
+one_branch (s ∷ ss) (suc q) h = one_branch ss q (and_right _ _ h)
 
 home : (m : Fsmd) (n q : ℕ) → has_straight_states m.states ≡ true → reaches_cutpoint m n q ≡ true → ((q == m.reset) || comes_home m n q) ≡ true
 home m zero q s h = grind (arith, one_branch m.states q s)
@@ -164,8 +154,8 @@ nearer_home m (suc n) q r h e d = grind (arith, nat_tests, h, e, d)
 -- ---- the loop of a run
 straight_at : (ss : List State) (q : ℕ) → has_straight_states ss ≡ true → q < length ss → is_straight_state (branches_of (slice_index_or ss q (record { name = []; lines = [] })).lines) ≡ true
 straight_at [] q h i = absurd (omega arith)
-straight_at (s ∷ ss) zero h i = and-left _ _ h
-straight_at (s ∷ ss) (suc q) h i = straight_at ss q (and-right _ _ h) (omega arith)
+straight_at (s ∷ ss) zero h i = and_left _ _ h
+straight_at (s ∷ ss) (suc q) h i = straight_at ss q (and_right _ _ h) (omega arith)
 
 the_branch : (bs : List Branch) → is_straight_state bs ≡ true → (b : Branch) × (bs ≡ b ∷ [])
 the_branch [] h = absurd (cc)
@@ -173,10 +163,10 @@ the_branch (b ∷ []) h = (b, refl)
 the_branch (b ∷ c ∷ rest) h = absurd (cc)
 
 pub straight_states : (m : Fsmd) → is_straight m ≡ true → has_straight_states m.states ≡ true
-straight_states m h = and-right (has_scalars_only m.variables) (has_straight_states m.states) h
+straight_states m h = and_right (has_scalars_only m.variables) (has_straight_states m.states) h
 
 pub straight_scalars : (m : Fsmd) → is_straight m ≡ true → has_scalars_only m.variables ≡ true
-straight_scalars m h = and-left (has_scalars_only m.variables) (has_straight_states m.states) h
+straight_scalars m h = and_left (has_scalars_only m.variables) (has_straight_states m.states) h
 
 pub home_at_start : (m : Fsmd) (n q : ℕ) → IsSound m → is_straight m ≡ true → n ≡ length m.states → q ≡ m.reset → comes_home m (n + 1) q ≡ true
 home_at_start m n q sound s e f =
@@ -201,4 +191,4 @@ pub settable_at : (m : Fsmd) (q : ℕ) (b : Branch) (n : ℕ) → IsSound m → 
 settable_at m q b n sound i e p f = subst (λ k. list_all (is_settable k) b.assignments ≡ true) (sym f) (branch_settable m q b sound (only_transition (transitions_of m q) b (sound.open_last q i) e) p)
 
 pub settable_rest : (n : ℕ) (a : Assignment ℕ) (rest left : List (Assignment ℕ)) → left ≡ a ∷ rest → list_all (is_settable n) left ≡ true → list_all (is_settable n) rest ≡ true
-settable_rest n a rest left e h = and-right (is_settable n a) (list_all (is_settable n) rest) (subst (λ acts. list_all (is_settable n) acts ≡ true) e h)
+settable_rest n a rest left e h = and_right (is_settable n a) (list_all (is_settable n) rest) (subst (λ acts. list_all (is_settable n) acts ≡ true) e h)

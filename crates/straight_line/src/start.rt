@@ -1,6 +1,6 @@
 //! The vectors in which machines begin.
 
-ghost use Rattle.std.specs.Prelude.{◌≡◌, ◌<◌, ◌^◌, length, map, IfOk, IfSome};
+ghost use Rattle.std.specs.Prelude.{◌≡◌, ◌<◌, ◌^◌, length, IfOk, IfSome};
 ghost use Rattle.std.specs.Result.{IfErr};
 ghost use Rattle.fs_model.specs.Runs.{is_input};
 ghost use Rattle.straight_line.specs.Vectors.{place_of, first_polynomial, start_vector};

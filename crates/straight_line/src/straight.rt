@@ -1,6 +1,6 @@
 //! Whether a machine is straight.
 
-ghost use Rattle.std.specs.Prelude.{◌≡◌, ◌<◌, length, map};
+ghost use Rattle.std.specs.Prelude.{◌≡◌, ◌<◌, map};
 ghost use Rattle.std.specs.List.{list_all};
 ghost use Rattle.fs_model.specs.View.{term_of, assignment_of, branch_of};
 ghost use Rattle.straight_line.specs.Straight.{is_plain, is_plain_assignment, is_straight_state, has_scalars_only, has_straight_states, is_straight};

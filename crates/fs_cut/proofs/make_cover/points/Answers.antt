@@ -5,11 +5,8 @@ use Rattle.fs_cut.proofs.make_cover.points.Goals as goal
 
 pub loop-state-preserved : goal.loop-state-preserved
 loop-state-preserved c =
-    let m = c.args.m.now in
-    let k = c.loop-state.state in
-    let n = length m.states in
-    let low : k < n = omega (arith, c.loop-state-test.true, c.loop-state.invariant.all) in
+    let low : c.loop-state.state < length c.args.m.now.states = omega (arith, c.loop-state-test.true, c.loop-state.invariant.all) in
     record {
       all = c.loop-state.invariant.all;
-      done = points_more m (map point_of c.loop-state.out.items) (map point_of c.push_fork.new.out.items) k n low c.in_ok-push_fork.ensures ∙ c.loop-state.invariant.done;
+      done = points_more c.args.m.now (map point_of c.loop-state.out.items) (map point_of c.push_fork.new.out.items) _ _ low c.in_ok-push_fork.ensures ∙ c.loop-state.invariant.done;
     }

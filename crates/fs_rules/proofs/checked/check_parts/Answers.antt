@@ -1,16 +1,16 @@
-use Rattle.std.proofs.Common.{◌∙◌, ap, ap₂, [], length, List, ℕ}
+use Rattle.std.proofs.Common.{◌∙◌, ap, ap₂, [], length, List}
 use Rattle.std.specs.Prelude.{map, not, nat_lt, None}
 use Rattle.std.specs.List.{flat_map}
 use Rattle.fs_model.specs.declared.parts.VarInfo.{VarInfo}
 use Rattle.fs_model.specs.View.{source_of, source_state_of}
+use Rattle.fs_model.specs.Source.{SourceState}
 use Rattle.fs_rules.specs.declared.check.CheckRule.TheVariants.{TwiceNamed, TooMany, UnknownState}
 use Rattle.fs_rules.specs.Spelled.{variables_of, state_names, place}
 use Rattle.fs_model.specs.Limits.{most_variables, most_states}
 use Rattle.fs_rules.specs.Rules.{at_lines, broken_where, declared_names, declared_states, repeated, past, state_faults}
 use Rattle.fs_rules.specs.FirstFault.{earliest}
-use Rattle.fs_rules.specs.Places.{names_in}
 use Rattle.fs_rules.specs.Scoped.{name_faults}
-use Rattle.fs_rules.proofs.Naming.{plain_noted, reset_known, names_of_states}
+use Rattle.fs_rules.proofs.Naming.{plain_noted, reset_known}
 use Rattle.fs_rules.proofs.checked.check_parts.Goals as goal
 
 pub returns-clause-first : goal.returns-clause-first
@@ -19,7 +19,7 @@ returns-clause-first c =
     let ds = declared_names p.declarations in
     let ss = declared_states p.states in
     let vars = c.in_ok-scope.scope.vars.items in
-    let states = c.in_ok-scope.scope.states in
+    let states = map source_state_of c.in_ok-scope.scope.states.now in
     let s = c.in_ok-scope.ensures.scope in
     let there = nat_lt (place (state_names p.states) p.reset) (length p.states) in
     let one = c.declare.new.faults.first in
@@ -30,5 +30,5 @@ returns-clause-first c =
     (c.in_ok-scope.ensures.noted ∙ ap (λ k. earliest k (name_faults p)) c.new-faults.ensures)
     (c.note_where.ensures ∙ ap (λ b. earliest one (broken_where (not b) UnknownState p.reset_line)) (c.knows_state-no_reset.ensures ∙ reset_known p vars states s))
     (c.in_ok-check_states.ensures
-    ∙ ap (λ l. earliest two (flat_map (state_faults vars (names_in states)) (map source_state_of l))) c.as_slice.ensures.value
-    ∙ ap₂ (λ (v : List VarInfo) (n : List (List ℕ)). earliest two (flat_map (state_faults v n) p.states)) s.vars (names_of_states p vars states s))
+    ∙ ap (λ l. earliest two (flat_map (state_faults vars (state_names states)) (map source_state_of l))) c.as_slice.ensures.value
+    ∙ ap₂ (λ (v : List VarInfo) (n : List SourceState). earliest two (flat_map (state_faults v (state_names n)) p.states)) s.vars s.stated)

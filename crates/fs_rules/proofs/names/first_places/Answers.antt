@@ -1,19 +1,15 @@
 use Rattle.std.proofs.Common.{◌≡◌, ◌∙◌, ap, sym, refl, subst, take, drop, [], add-one}
 use Rattle.std.specs.Prelude.{map}
-use Rattle.std.specs.Ordering.{nat_cmp}
-use Rattle.std.specs.Cmp.Lexicographic.{slice_cmp}
-use Rattle.std.specs.BTreeMap.{is_at}
-use Rattle.std.specs.Map.{lookup}
 use Rattle.std.proofs.lemmas.List.{take_all, drop_all}
 use Rattle.fs_rules.specs.declared.check.CheckRule.TheVariants.{TwiceNamed}
 use Rattle.fs_rules.specs.Rules.{at_lines}
 use Rattle.fs_rules.specs.FirstFault.{earliest}
-use Rattle.fs_rules.specs.Places.{declared_of, names_in, FindsFirst}
+use Rattle.fs_rules.specs.Places.{declared_of, names_in, place_in, FindsFirst}
 use Rattle.fs_rules.proofs.FirstFaults.{repeats_is, repeats, index_finds, index_noted}
 use Rattle.fs_rules.proofs.names.first_places.Goals as goal
 
 pub loop-place-init : goal.loop-place-init
-loop-place-init c = record { finds = record { finds = λ n. ap (λ es. lookup (is_at (slice_cmp nat_cmp n)) es) c.new-places.ensures.empty }; noted = refl }
+loop-place-init c = record { finds = record { finds = λ n. ap (λ es. place_in es n) c.new-places.ensures.empty }; noted = refl }
 
 pub loop-place-preserved : goal.loop-place-preserved
 loop-place-preserved c =
@@ -36,4 +32,4 @@ returns-clause-noted c =
 
 pub returns-clause-finds : goal.returns-clause-finds
 returns-clause-finds c =
-    subst (λ ns. FindsFirst c.loop-place.places (names_in (map declared_of ns))) (take_all c.loop-place.place c.args.declared.now c.loop-place-test.false) c.loop-place.invariant.finds
+    subst (λ ns. FindsFirst c.loop-place.places.entries (names_in (map declared_of ns))) (take_all c.loop-place.place c.args.declared.now c.loop-place-test.false) c.loop-place.invariant.finds

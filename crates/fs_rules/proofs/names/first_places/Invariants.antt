@@ -9,6 +9,6 @@ use Rattle.fs_rules.proofs.names.first_places.Given as goal
 
 abbrev pub invariant-loop-place : goal.invariant-loop-place
 invariant-loop-place l = record {
-  finds : FindsFirst l.places (names_in (map declared_of (take l.place l.declared)));
+  finds : FindsFirst l.places.entries (names_in (map declared_of (take l.place l.declared)));
   noted : earliest l.faults.first (at_lines TwiceNamed (repeats (names_in (map declared_of (take l.place l.declared))) (map declared_of (drop l.place l.declared)))) ≡ earliest l.initial.faults.first (at_lines TwiceNamed (repeats [] (map declared_of l.declared)));
 }

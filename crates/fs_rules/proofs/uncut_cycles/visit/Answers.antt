@@ -26,16 +26,10 @@ judge-verdict-requires c =
 
 pub returns-clause-settled : goal.returns-clause-settled
 returns-clause-settled c =
-    let next = c.args.next.now in
-    let cut = c.args.cut.now in
     let w = c.args.walks.now in
-    let after = c.take_walk-stop.new.passes in
     let stop = c.take_walk-stop.result in
-    let walk = c.take_walk-stop.ensures.walk in
-    let vs = w.verdicts.items in
-    let number : c.len-walk.result ≡ length vs = omega (arith, c.len-walk.ensures, w.verdicts.ok) in
-    let inside : stop.end < length after.items = omega (arith, walk.within, walk.same, c.requires.settled.same) in
-    let at : c.index-pass.result.now ≡ pass_at after.items stop.end = get_or_read after.items _ _ inside c.index-pass.ensures None in
+    let number : c.len-walk.result ≡ length w.verdicts.items = omega (arith, c.len-walk.ensures, w.verdicts.ok) in
+    let inside : stop.end < length c.take_walk-stop.new.passes.items = omega (arith, c.take_walk-stop.ensures.walk.within, c.take_walk-stop.ensures.walk.same, c.requires.settled.same) in
     on_ok c.push.result
-    (λ e. settle_all next cut c.args.start stop.end stop.steps c.len-walk.result w.passes.items after.items c.index-pass.result.now vs _ w.found.items _ c.judge-verdict.result number at c.requires.graph c.requires.settled walk c.take_walk-stop.ensures.stops (c.judge-verdict.ensures ∙ ap (judged (is_cut cut stop.end) c.index-pass.result.now stop.steps) c.as_slice.ensures.value) e c.in_ok-add_round.ensures)
+    (λ e. settle_all c.args.next.now c.args.cut.now c.args.start stop.end stop.steps c.len-walk.result w.passes.items c.take_walk-stop.new.passes.items c.index-pass.result.now w.verdicts.items _ w.found.items _ c.judge-verdict.result number (get_or_read c.take_walk-stop.new.passes.items _ _ inside c.index-pass.ensures None) c.requires.graph c.requires.settled c.take_walk-stop.ensures.walk c.take_walk-stop.ensures.stops (c.judge-verdict.ensures ∙ ap (judged (is_cut c.args.cut.now stop.end) c.index-pass.result.now stop.steps) c.as_slice.ensures.value) e c.in_ok-add_round.ensures)
     c.push.ensures

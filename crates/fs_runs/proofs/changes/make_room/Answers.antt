@@ -12,9 +12,9 @@ make_room_for-requires c =
 
 pub loop-change-preserved : goal.loop-change-preserved
 loop-change-preserved c = record {
-  same = c.make_room_for.ensures.same ∙ c.loop-change.invariant.same;
-  sorts = c.make_room_for.ensures.sorts ∙ c.loop-change.invariant.sorts;
+  same = c.make_room_for.ensures.stays.same ∙ c.loop-change.invariant.same;
+  sorts = c.make_room_for.ensures.stays.sorts ∙ c.loop-change.invariant.sorts;
   ready = all_more (is_ready (length c.args.changes.now) c.make_room_for.new.values) c.args.changes.now c.loop-change.change-index (Set 0 (pos 0)) c.loop-change-test.true
-      (all_mono (is_ready (length c.args.changes.now) c.loop-change.values) (is_ready (length c.args.changes.now) c.make_room_for.new.values) (take c.loop-change.change-index c.args.changes.now) (c.make_room_for.ensures.keeps (length c.args.changes.now)) c.loop-change.invariant.ready)
+      (all_mono (is_ready (length c.args.changes.now) c.loop-change.values) (is_ready (length c.args.changes.now) c.make_room_for.new.values) (take c.loop-change.change-index c.args.changes.now) (c.make_room_for.ensures.stays.keeps (length c.args.changes.now)) c.loop-change.invariant.ready)
       c.in_ok-make_room_for.ensures.room;
 }

@@ -53,8 +53,6 @@ returns-in-Ok-clause-target c =
 
 pub returns-in-Ok-clause-in_range : goal.returns-in-Ok-clause-in_range
 returns-in-Ok-clause-in_range c =
-    let s = store_from (values_of c.args.store.now) in
     let o = rw (c.branches.ensures.branches, c.as_slice.ensures.value) at c.in-Some.ensures in
-    let t = takes c.args.m.now c.args.s.0 s (branch_of c.in-Some.branch.now) c.branches.ensures.sound c.requires.state o.1 in
     let fit = rw (c.as_slice-2.ensures.value, c.as_slice-3.ensures.value) at c.in_ok-changes.ensures.fit in
-    t.touched_back o.0 fit
+    (takes c.args.m.now c.args.s.0 _ (branch_of c.in-Some.branch.now) c.branches.ensures.sound c.requires.state o.1).touched_back o.0 fit

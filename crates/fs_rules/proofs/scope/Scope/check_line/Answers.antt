@@ -5,7 +5,7 @@ use Rattle.fs_model.specs.View.{named_assignment, source_transition_of}
 use Rattle.fs_model.specs.Renamed.{assignment_over}
 use Rattle.fs_rules.specs.Spelled.{place, names_of, line_spelled}
 use Rattle.fs_rules.specs.Sound.{input_at, changed_by, assigned_in, all_differ, emit_count}
-use Rattle.fs_rules.specs.Places.{names_in}
+use Rattle.fs_rules.specs.Places.{names_stated}
 use Rattle.fs_model.specs.Limits.{most_emits}
 use Rattle.fs_rules.proofs.Uses.{emits_over}
 use Rattle.fs_rules.proofs.Noted.{line_noted}
@@ -14,7 +14,7 @@ use Rattle.fs_rules.proofs.scope.Scope.check_line.Goals as goal
 pub returns : goal.returns
 returns c =
     let vs = c.args.self.now.vars.items in
-    let ss = names_in c.args.self.now.states in
+    let ss = names_stated c.args.self.now.states.now in
     let over = assignment_over (place (names_of vs)) in
     let same = c.as_slice-assigns.ensures.value in
     line_noted vs (length ss) c.args.line.now.line (line_spelled (names_of vs) ss (source_transition_of c.args.line.now)) c.args.faults.now.first _ _ _ _ _ _ _ _ _ _ _ _

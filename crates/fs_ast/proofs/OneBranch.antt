@@ -2,11 +2,12 @@
 use Rattle.std.proofs.Common.{◌≡◌, ℕ, ◌+◌, ◌≤◌, List, [], ◌∷◌, ◌++◌, length, ap, sym, refl, ◌∙◌, arith, Option, Some, None, Bool, true, false, length-append}
 use Rattle.std.specs.Prelude.{not, ◌&&◌}
 use Rattle.std.specs.Option.{is_none}
+use Rattle.fs_model.proofs.Truth.{and_right}
 use Rattle.fs_model.specs.Terms.{Literal, Guard, Test, Not, And, Or, Transition}
 use Rattle.fs_model.specs.Trees.{Tree, Empty, Leaf, Node, Branch, tree_of_guard, tree_of_condition, tree_of_transitions, leaves, branches_of, count_leaves, negated}
 use Rattle.fs_ast.specs.Sound.{ends_open}
 
-length-leaves : (t : Tree) (way : List (Literal ℕ)) → length (leaves t way) ≡ count_leaves t
+pub length-leaves : (t : Tree) (way : List (Literal ℕ)) → length (leaves t way) ≡ count_leaves t
 length-leaves Empty way = refl
 length-leaves (Leaf assignments target) way = refl
 length-leaves (Node l y n) way = omega (arith, length-append (leaves y (way ++ l ∷ [])) (leaves n (way ++ negated l ∷ [])), length-leaves y (way ++ l ∷ []), length-leaves n (way ++ negated l ∷ []))
@@ -33,11 +34,7 @@ not-true : (b c : Bool) → (not b && c) ≡ true → b ≡ false
 not-true true c h = absurd (cc)
 not-true false c h = refl
 
-and-right : (b c : Bool) → (b && c) ≡ true → c ≡ true
-and-right true c h = h
-and-right false c h = absurd (cc)
-
-count-lines : (ls : List (Transition ℕ ℕ)) → ends_open ls ≡ true → 1 ≤ count_leaves (tree_of_transitions ls)
+pub count-lines : (ls : List (Transition ℕ ℕ)) → ends_open ls ≡ true → 1 ≤ count_leaves (tree_of_transitions ls)
 count-lines [] h = absurd (cc)
 count-lines (l ∷ []) h = count-condition l.guard (Leaf l.assignments l.target) Empty (omega arith)
 count-lines (l ∷ k ∷ rest) h = count-condition l.guard (Leaf l.assignments l.target) (tree_of_transitions (k ∷ rest)) (omega arith)
@@ -63,5 +60,5 @@ only_transition (l ∷ k ∷ rest) b h e =
       ap length e,
       length-leaves (tree_of_transitions (l ∷ k ∷ rest)) [],
       count-guarded l.guard (Leaf l.assignments l.target) (tree_of_transitions (k ∷ rest)) (not-true (is_none l.guard) (ends_open (k ∷ rest)) h),
-      count-lines (k ∷ rest) (and-right (not (is_none l.guard)) (ends_open (k ∷ rest)) h),
+      count-lines (k ∷ rest) (and_right (not (is_none l.guard)) (ends_open (k ∷ rest)) h),
     ))
