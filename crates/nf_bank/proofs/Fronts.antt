@@ -3,7 +3,7 @@ use Rattle.std.proofs.Common.{◌≡◌, Bool, true, false, cond, List, [], ◌�
 use Rattle.std.proofs.lemmas.List.{append-nil}
 use Rattle.std.proofs.Math.Seq.{take-append_seam}
 use Rattle.nf_terms.specs.Terms.{Atom}
-use Rattle.nf_bank.specs.Atoms.{holds, with_one, IsFront, IsBank}
+use Rattle.nf_bank.specs.Atoms.{holds, with_one, IsFront}
 
 pub front_same : (a b : List Atom) → b ≡ a → IsFront a b
 front_same a b e = record { rest = []; split = e ∙ sym (append-nil a) }

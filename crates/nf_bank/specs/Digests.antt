@@ -9,7 +9,7 @@ use Rattle.nf_terms.specs.declared.tree.Base.TheVariants as base
 
 -- one more number in a digest
 abbrev pub mixed : ℕ → ℕ → ℕ
-mixed so_far number = ((so_far * 31) % 2 ^ 64 + number) % 2 ^ 64
+mixed so_far number = ((so_far * 1099511628211) % 2 ^ 64 + number) % 2 ^ 64
 
 abbrev pub mixed_side : ℕ → Side → ℕ
 mixed_side so_far Left = mixed so_far 1
@@ -35,7 +35,7 @@ abbrev mutual
 
   pub mixed_terms : ℕ → Polynomial → ℕ
   mixed_terms so_far Zero = so_far
-  mixed_terms so_far (Plus m c p) = mixed_terms (mixed (mixed_monomial so_far m) (unsigned_abs c % 2 ^ 32)) p
+  mixed_terms so_far (Plus m c p) = mixed_terms (mixed (mixed_monomial so_far m) (unsigned_abs c % 2 ^ 64)) p
 
   pub mixed_writes : ℕ → Writes → ℕ
   mixed_writes so_far NoWrites = so_far

@@ -4,7 +4,7 @@ ghost use Rattle.std.specs.Prelude.{◌≡◌, ◌<◌, ◌≤◌, [], length, s
 ghost use Rattle.nf_terms.specs.View.{atom_in, monomial_in, polynomial_in, array_in};
 ghost use Rattle.nf_bank.specs.Atoms.{holds as holds_atom, place_of, with_one, with_atom, with_monomial, with_terms, with_array, IsBank, IsFront};
 
-use crate::key::Key;
+use crate::key::AtomKey;
 use indexmap::IndexSet;
 use nf_terms::stop::NoMemory;
 use nf_terms::tree::{ArrTree, Atom, MonoTree, PolyTree};
@@ -18,7 +18,7 @@ pub struct AtomId(pub u64);
 /// Atoms, each once, those in an atom before it.
 #[derive(Drop)]
 pub struct Bank {
-    atoms: IndexSet<Key>,
+    atoms: IndexSet<AtomKey>,
 }
 
 impl Model for Bank {
@@ -58,7 +58,7 @@ impl Bank {
         ensures place { IfOk result (λ found. MatchOption found (place_of (atom_in a.now) self.now ≡ None) (λ id. place_of (atom_in a.now) self.now ≡ Some id.0)) }
         ensures there { IfOk result (λ found. is_some found ≡ holds_atom (atom_in a.now) self.now) }
     {
-        let key = Key::new(a.try_clone(alloc)?);
+        let key = AtomKey::copied(alloc, a)?;
         match self.atoms.get_index_of(&key) {
             Some(place) => Ok(Some(AtomId(place as u64))),
             None => Ok(None),
@@ -102,7 +102,7 @@ impl Bank {
         ensures place { IfOk result (λ id. place_of (atom_in a.now) self.new ≡ Some id.0) }
         ensures front { IsFront self.old self.new }
     {
-        let key = Key::new(a.try_clone(alloc)?);
+        let key = AtomKey::copied(alloc, a)?;
         let (place, _added) = self.atoms.insert_full(key)?;
         Ok(AtomId(place as u64))
     }

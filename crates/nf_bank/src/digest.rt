@@ -1,4 +1,4 @@
-//! A number for each atom, by which it is hashed.
+//! A number for each atom, by which it is hashed. It is mixed as FNV-1a does, with a sum in place of the exclusive or.
 
 ghost use Rattle.std.specs.Prelude.{◌≡◌};
 ghost use Rattle.nf_terms.specs.View.{atom_in, monomial_in, polynomial_in, array_in};
@@ -6,11 +6,11 @@ ghost use Rattle.nf_bank.specs.Digests.{mixed as mixed_number, mixed_side, mixed
 
 use nf_terms::tree::{ArrTree, Atom, Base, MonoTree, PolyTree, Pos, Side};
 
-// One more number in a digest.
-fn mix(so_far: u64, number: u64) -> u64
+/// One more number in a digest.
+pub fn mix(so_far: u64, number: u64) -> u64
     ensures { result ≡ mixed_number so_far number }
 {
-    so_far.wrapping_mul(31).wrapping_add(number)
+    so_far.wrapping_mul(1_099_511_628_211).wrapping_add(number)
 }
 
 // One more side.
@@ -23,8 +23,8 @@ fn mix_side(so_far: u64, side: Side) -> u64
     }
 }
 
-// One more position.
-fn mix_pos(so_far: u64, p: &Pos) -> u64
+/// One more position in a digest.
+pub fn mix_pos(so_far: u64, p: &Pos) -> u64
     ensures { result ≡ mixed_pos so_far p.now }
 {
     mix(mix_side(so_far, p.side), u64::from(p.var))
@@ -72,7 +72,7 @@ fn mix_poly(so_far: u64, poly: &PolyTree) -> u64
 {
     let mut mixed = so_far;
     for (mono, coefficient) in &poly.monos {
-        let number = coefficient.unsigned_abs() % (1 << 32);
+        let number = coefficient.unsigned_abs() % (1 << 64);
         mixed = mix(mix_mono(mixed, mono), number as u64);
     }
     mixed

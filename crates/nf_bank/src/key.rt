@@ -1,21 +1,23 @@
-//! Atoms as keys of a set.
+//! Atoms as keys of sets and maps.
 
-ghost use Rattle.std.specs.Prelude.{◌≡◌};
+ghost use Rattle.std.specs.Prelude.{◌≡◌, IfOk};
 ghost use Rattle.nf_terms.specs.View.{atom_in};
 
 use crate::digest::mix_atom;
 use nf_terms::order::is_same_atom;
+use nf_terms::stop::NoMemory;
 use nf_terms::tree::Atom;
+use std::alloc::Global;
 use std::hash::{Hash, Hasher};
 use std::marker::Model;
 
 /// An atom, compared and hashed by its tree.
 #[derive(Drop)]
-pub struct Key {
+pub struct AtomKey {
     atom: Atom,
 }
 
-impl Model for Key {
+impl Model for AtomKey {
     ghost use Rattle.nf_terms.specs.Terms.{Atom};
     ghost use Rattle.nf_terms.specs.View.{atom_in};
     ghost use Rattle.nf_terms.specs.Codes.{coded_atom};
@@ -27,12 +29,21 @@ impl Model for Key {
     ghost view = { λ k. atom_in k.atom };
 }
 
-impl Key {
+impl AtomKey {
     /// The key of an atom.
-    pub fn new(atom: Atom) -> Key
+    pub fn new(atom: Atom) -> AtomKey
         ensures { result ≡ atom_in atom }
     {
-        Key { atom }
+        AtomKey { atom }
+    }
+
+    /// The key of a copy of an atom. The one refusal is out of memory.
+    pub fn copied(alloc: Global, atom: &Atom) -> Result<AtomKey, NoMemory>
+        ensures { IfOk result (λ k. k ≡ atom_in atom.now) }
+    {
+        Ok(AtomKey {
+            atom: atom.try_clone(alloc)?,
+        })
     }
 
     /// The atom.
@@ -43,7 +54,7 @@ impl Key {
     }
 }
 
-impl PartialEq for Key {
+impl PartialEq for AtomKey {
     ghost use Rattle.nf_terms.specs.Order.{same_atom};
     ghost use Rattle.nf_bank.specs.Equal.{atoms_equal_partly};
 
@@ -51,18 +62,18 @@ impl PartialEq for Key {
 
     ghost laws = { atoms_equal_partly };
 
-    fn eq(&self, other: &Key) -> bool {
+    fn eq(&self, other: &AtomKey) -> bool {
         is_same_atom(&self.atom, &other.atom)
     }
 }
 
-impl Eq for Key {
+impl Eq for AtomKey {
     ghost use Rattle.nf_bank.specs.Equal.{atoms_equal};
 
     ghost laws = { atoms_equal };
 }
 
-impl Hash for Key {
+impl Hash for AtomKey {
     ghost use Rattle.std.proofs.Common.{ap};
     ghost use Rattle.std.specs.Hash as fed;
     ghost use Rattle.nf_bank.specs.Digests.{digest};

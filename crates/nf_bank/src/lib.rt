@@ -2,6 +2,6 @@
 #![tactic(auto)]
 
 pub mod bank;
-mod digest;
-mod key;
+pub mod digest;
+pub mod key;
 pub mod laws;

@@ -4,3 +4,5 @@ pub mod Truth
 pub mod Values
 pub mod Divided
 pub mod Directions
+pub mod NormalForms
+pub mod NormalLaws

@@ -16,7 +16,7 @@ use Rattle.integers.proofs.Ring.{neg-mul_z, mul-neg_z}
 use Rattle.nf_sums.proofs.Forms.{negation_value}
 use Rattle.nf_terms.specs.Computed.{Done, after}
 use Rattle.nf_sums.specs.Operations.{subtracted}
-use Rattle.nf_sums.proofs.Values.{subtracted_value, value_parts, goes_done, number_value}
+use Rattle.nf_sums.proofs.Values.{subtracted_value, value_parts, goes_done}
 use Rattle.nf_rel.specs.declared.kind.Kind.TheVariants.{Eq, Ne}
 use Rattle.nf_rel.specs.Literals.{NormalLiteral, True, False, Is, is_true_in, truth, common_divisor, divided, begins_positive, signed, Form, AtLeastZero, IsZero, IsNotZero, form_holds, bounded, bounded_by, literal_form, one, against_zero, literal}
 use Rattle.nf_rel.proofs.Floors.{lt_true, lt_false, is_lt, not_lt, Floor, floor_of, at_least, equal_where, never_equal}

@@ -1,4 +1,5 @@
 pub mod Gcd
 pub mod Literals
 pub mod Bounds
+pub mod NormalLiterals
 pub mod View

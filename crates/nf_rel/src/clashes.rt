@@ -95,7 +95,7 @@ pub fn clash(l: &NLit, m: &NLit) -> bool
         NLit::Is(b) => match m {
             NLit::True => false,
             NLit::False => true,
-            NLit::Is(c) => b.dir == c.dir && bounds_clash(b.kind, &b.bound, c.kind, &c.bound),
+            NLit::Is(c) => bounds_clash(b.kind, &b.bound, c.kind, &c.bound) && b.dir == c.dir,
         },
     }
 }
@@ -169,7 +169,7 @@ fn contradicts(l: &NLit, m: &NLit) -> bool
         NLit::Is(b) => match m {
             NLit::True => false,
             NLit::False => true,
-            NLit::Is(c) => b.dir == c.dir && negation_clashes(b.kind, &b.bound, c.kind, &c.bound),
+            NLit::Is(c) => negation_clashes(b.kind, &b.bound, c.kind, &c.bound) && b.dir == c.dir,
         },
     }
 }

@@ -1,12 +1,17 @@
 //! Laws of literals. The functions do nothing.
 
-ghost use Rattle.std.specs.Prelude.{◌≡◌, not, true, false, List};
+ghost use Rattle.std.specs.Prelude.{◌≡◌, ℤ, not, true, false, List};
+ghost use Rattle.std.specs.Option.{is_some};
 ghost use Rattle.fs_model.specs.declared.parts.Rel.{Rel};
 ghost use Rattle.fs_model.specs.Meaning.{relates};
 ghost use Rattle.nf_terms.specs.Terms.{Polynomial};
 ghost use Rattle.nf_terms.specs.Meaning.{Valuation, value_of};
 ghost use Rattle.nf_terms.specs.Computed.{Done};
-ghost use Rattle.nf_rel.specs.Literals.{NormalLiteral, is_true_in, all_true_in, literal, negate, clash, is_refuted, is_implied};
+ghost use Rattle.nf_terms.specs.Normal.{IsNormal};
+ghost use Rattle.nf_rel.specs.declared.kind.Kind.{Kind};
+ghost use Rattle.nf_rel.specs.Bounds.{clashing_from};
+ghost use Rattle.nf_rel.specs.NormalLiterals.{IsNormalLiteral, direction_of, same_literal};
+ghost use Rattle.nf_rel.specs.Literals.{NormalLiteral, Is, is_true_in, all_true_in, literal, negate, clash, is_refuted, is_implied};
 
 /// A literal is true exactly where its relation holds.
 pub fn a_literal_means_its_relation()
@@ -19,4 +24,27 @@ pub fn literals_keep_truth()
     ensures clash { (w : Valuation) (l m : NormalLiteral) → clash l m ≡ true → is_true_in w l ≡ true → is_true_in w m ≡ false }
     ensures refuted { (w : Valuation) (ls : List NormalLiteral) → is_refuted ls ≡ true → all_true_in w ls ≡ false }
     ensures implied { (w : Valuation) (ls : List NormalLiteral) (l : NormalLiteral) → is_implied ls l ≡ true → all_true_in w ls ≡ true → is_true_in w l ≡ true }
+{}
+
+/// The literal of normal polynomials is in normal form.
+pub fn literals_are_in_normal_form()
+    ensures literal { (relation : Rel) (l r : Polynomial) (n : NormalLiteral) → IsNormal l → IsNormal r → literal relation l r ≡ Done n → IsNormalLiteral n }
+    ensures direction { (d : Polynomial) (k : Kind) (b : ℤ) → IsNormalLiteral (Is d k b) → IsNormal d }
+{}
+
+/// Negation keeps the direction, and done twice it changes nothing.
+pub fn negation_keeps_the_direction()
+    ensures direction { (l : NormalLiteral) → direction_of (negate l) ≡ direction_of l }
+    ensures again { (l : NormalLiteral) → negate (negate l) ≡ l }
+{}
+
+/// Literals are the same exactly where they are equal.
+pub fn literals_that_are_the_same_are_equal()
+    ensures equal { (l m : NormalLiteral) → same_literal l m ≡ true → l ≡ m }
+    ensures same { (l : NormalLiteral) → same_literal l l ≡ true }
+{}
+
+/// A list has two places that clash exactly where it is refuted.
+pub fn what_clashes_is_refuted()
+    ensures { (ls : List NormalLiteral) → is_some (clashing_from 0 ls) ≡ is_refuted ls }
 {}

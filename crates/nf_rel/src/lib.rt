@@ -2,8 +2,11 @@
 #![tactic(auto)]
 
 pub mod clashes;
+pub mod copies;
 mod divisors;
 pub mod kind;
 pub mod laws;
 pub mod literals;
+pub mod normal;
 pub mod normalize;
+pub mod primitive;

@@ -7,15 +7,17 @@ ghost use Rattle.nf_terms.specs.Normal.{IsNormal, part_with_atoms, constant_sum}
 ghost use Rattle.nf_terms.specs.Limits.{weight_limit};
 ghost use Rattle.nf_terms.specs.Computed.{Answers, Done, after};
 ghost use Rattle.nf_sums.specs.Operations.{subtracted};
-ghost use Rattle.nf_rel.specs.Literals.{AtLeastZero, truth, form_holds, begins_positive, signed, bounded, divided as divided_form, common_divisor, literal_form, literal as literal_by, against_zero, one as one_form};
+ghost use Rattle.nf_rel.specs.Literals.{AtLeastZero, truth, form_holds, signed, bounded, divided as divided_form, common_divisor, literal_form, literal as literal_by, against_zero, one as one_form};
+ghost use Rattle.nf_rel.specs.NormalLiterals.{IsNormalLiteral};
 ghost use Rattle.nf_rel.specs.View.{literal_in, literal_of, form_in};
 
 use crate::divisors::{divided, divisor};
 use crate::kind::Kind;
 use crate::literals::{Bound, NLit};
+use crate::primitive::begins_positive;
 use fs_model::parts::Rel;
 use nf_sums::sums::{neg, sub};
-use nf_terms::constants::{constant_part, has_atoms};
+use nf_terms::constants::constant_part;
 use nf_terms::poly::Poly;
 use nf_terms::stop::{NfStop, NoMemory};
 use nf_terms::tree::{MonoTree, PolyTree};
@@ -39,18 +41,6 @@ fn truth(form: Form, number: &i128) -> NLit
         Form::IsNotZero => *number != 0,
     };
     if holds { NLit::True } else { NLit::False }
-}
-
-// Whether the first coefficient of a monomial with atoms is positive.
-fn begins_positive(terms: &[(MonoTree, i128)]) -> bool
-    ensures { result ≡ begins_positive (part_with_atoms (polynomial_of (map term_in terms.now))) }
-{
-    for (mono, coefficient) in terms {
-        if has_atoms(mono) {
-            return *coefficient > 0;
-        }
-    }
-    true
 }
 
 // A number as it is, or negated.
@@ -154,7 +144,7 @@ fn direction(alloc: Global, p: &Poly, positive: bool, divisor: &i128) -> Result<
 
 // The literal of a polynomial that is compared with 0.
 #[tactic(auto, using(crate::proofs::Directions::none_by, crate::proofs::Directions::some_by))]
-fn literal_form(alloc: Global, form: Form, p: &Poly) -> Result<NLit, NoMemory>
+fn by_divisor(alloc: Global, form: Form, p: &Poly) -> Result<NLit, NoMemory>
     ensures { IfOk result (λ l. literal_in l ≡ literal_form (form_in form) p.now) }
 {
     let divisor = divisor_of(p);
@@ -167,9 +157,20 @@ fn literal_form(alloc: Global, form: Form, p: &Poly) -> Result<NLit, NoMemory>
     Ok(bounded(form, positive, dir, &divisor, &constant))
 }
 
+// The same, which is in normal form.
+#[tactic(auto, using(crate::proofs::NormalForms::form_normal))]
+fn literal_form(alloc: Global, form: Form, p: &Poly) -> Result<NLit, NoMemory>
+    ensures literal { IfOk result (λ l. literal_in l ≡ literal_form (form_in form) p.now) }
+    ensures normal { IfOk result (λ l. IsNormalLiteral (literal_in l)) }
+{
+    let _ = p.size();
+    by_divisor(alloc, form, p)
+}
+
 // The literal of a polynomial less 1, at least 0.
 fn above_zero(alloc: Global, p: &Poly) -> Result<NLit, NfStop>
-    ensures { Answers (literal_of result) (after (subtracted p.now one_form) (λ q. Done (literal_form AtLeastZero q))) }
+    ensures literal { Answers (literal_of result) (after (subtracted p.now one_form) (λ q. Done (literal_form AtLeastZero q))) }
+    ensures normal { IfOk result (λ l. IsNormalLiteral (literal_in l)) }
 {
     let one = Poly::number(alloc, 1)?;
     let less = sub(alloc, p, &one)?;
@@ -178,7 +179,8 @@ fn above_zero(alloc: Global, p: &Poly) -> Result<NLit, NfStop>
 
 // The literal of a relation between a difference and 0.
 fn against_zero(alloc: Global, relation: Rel, p: &Poly) -> Result<NLit, NfStop>
-    ensures { Answers (literal_of result) (against_zero relation p.now) }
+    ensures literal { Answers (literal_of result) (against_zero relation p.now) }
+    ensures normal { IfOk result (λ l. IsNormalLiteral (literal_in l)) }
 {
     match relation {
         Rel::Eq => Ok(literal_form(alloc, Form::IsZero, p)?),
@@ -196,9 +198,13 @@ fn against_zero(alloc: Global, relation: Rel, p: &Poly) -> Result<NLit, NfStop>
     }
 }
 
-/// The literal of a relation between two polynomials.
+/// The literal of a relation between two polynomials, in normal form.
+///
+/// `Wide` and `Large` come exactly where they come first for the difference, or for what is left of it less 1, and
+/// `NoMemory` where memory is refused.
 pub fn literal(alloc: Global, relation: Rel, l: &Poly, r: &Poly) -> Result<NLit, NfStop>
-    ensures { Answers (literal_of result) (literal_by relation l.now r.now) }
+    ensures literal { Answers (literal_of result) (literal_by relation l.now r.now) }
+    ensures normal { IfOk result (λ l. IsNormalLiteral (literal_in l)) }
 {
     let difference = sub(alloc, l, r)?;
     against_zero(alloc, relation, &difference)

@@ -1,6 +1,5 @@
 -- Kept answers, found and kept.
-use Rattle.std.proofs.Common.{◌≡◌, ℕ, zero, suc, take, Bool, true, false, ◌||◌, cond, Option, Some, None, MatchOption, List, [], ◌∷◌, ◌++◌, length, append_assoc, refl, ap, sym, subst, ◌∙◌}
-use Rattle.std.proofs.lemmas.List.{append-nil}
+use Rattle.std.proofs.Common.{◌≡◌, ℕ, zero, suc, take, Bool, true, false, ◌||◌, cond, Option, Some, None, MatchOption, List, [], ◌∷◌, ◌++◌, length, refl, ap, sym, subst, ◌∙◌}
 use Rattle.std.specs.Map.{lookup, keys_of}
 use Rattle.indexmap.specs.IndexMap.{insert_entry}
 use Rattle.nf_terms.specs.Terms.{Atom, Polynomial, Symbol, Read, Quotient, Remainder}
@@ -10,7 +9,8 @@ use Rattle.nf_terms.specs.declared.tree.Pos.{Pos}
 use Rattle.nf_terms.specs.declared.form.Nf.{Nf}
 use Rattle.nf_subst.specs.Substitution.{atom_substituted}
 use Rattle.nf_subst.specs.Keeping.{Kept, holds, with_one, with_inner, with_atom, IsFront, AreAnswered}
-use Rattle.nf_subst.specs.SameAtoms.{equal_atoms}
+use Rattle.nf_bank.specs.Equal.{equal_atoms}
+use Rattle.nf_bank.proofs.Fronts.{front_same, front_trans, front_one as front_last, cut_back}
 
 -- a kept atom is found with its answer
 pub found_some : (v : List (Pos × Nf)) (es : List (Atom × Polynomial)) (a : Atom) (p : Polynomial) → AreAnswered v es → lookup (same_atom a) es ≡ Some p → (holds a (keys_of es) ≡ true) × (atom_substituted v a ≡ Done p)
@@ -77,7 +77,11 @@ keys_counted [] = refl
 keys_counted (x ∷ es) = ap suc (keys_counted es)
 
 one_atom : (a : Atom) (before : List Atom) → with_atom a before ≡ cond (holds a before) before (with_one a (with_inner a before))
-one_atom (Symbol p) before = refl
+one_atom (Symbol p) before = by_test (holds (Symbol p) before)
+  where
+    by_test : (t : Bool) → cond t before (before ++ Symbol p ∷ []) ≡ cond t before (cond t before (before ++ Symbol p ∷ []))
+    by_test true = refl
+    by_test false = refl
 one_atom (Read b i) before = refl
 one_atom (Quotient p q) before = refl
 one_atom (Remainder p q) before = refl
@@ -92,26 +96,12 @@ kept_new a before now h e = e ∙ sym (ap (λ t. cond t before (with_one a (with
 
 -- ---- fronts
 
-pub front_same : (a b : List Atom) → b ≡ a → IsFront a b
-front_same a b e = record { rest = []; split = e ∙ sym (append-nil a) }
-
-pub front_trans : (a b c : List Atom) → IsFront a b → IsFront b c → IsFront a c
-front_trans a b c f g = record { rest = f.rest ++ g.rest; split = g.split ∙ ap (λ t. t ++ g.rest) f.split ∙ append_assoc a f.rest g.rest }
-
 pub front_one : (a b c : List Atom) (x : Atom) → IsFront a b → c ≡ with_one x b → IsFront a c
-front_one a b c x f e = by_test (holds x b) e
-  where
-    by_test : (t : Bool) → c ≡ cond t b (b ++ x ∷ []) → IsFront a c
-    by_test true g = front_trans a b c f (front_same b c g)
-    by_test false g = front_trans a b c f (record { rest = x ∷ []; split = g })
+front_one a b c x f e = front_trans a b c f (front_last b x c e)
 
 pub ruleset fronts = (front_same, front_trans, front_one)
 
 pub ruleset one_kept = (front_same, front_trans, front_one, kept_old, kept_new)
 
 pub front_taken : (a b : List Atom) → IsFront a b → take (length a) b ≡ a
-front_taken a b f = ap (take (length a)) f.split ∙ taken a f.rest
-  where
-    taken : (a r : List Atom) → take (length a) (a ++ r) ≡ a
-    taken [] r = refl
-    taken (x ∷ a) r = ap (λ t. x ∷ t) (taken a r)
+front_taken a b f = cut_back a b f

@@ -1,3 +1,4 @@
+pub mod Copying
 pub mod Entries
 pub mod Finding
 pub mod Values

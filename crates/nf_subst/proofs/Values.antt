@@ -1,5 +1,5 @@
 -- Substitution keeps the meaning, of all terms and vectors.
-use Rattle.std.proofs.Common.{◌≡◌, ℤ, pos, ◌+ℤ◌, ◌*ℤ◌, List, [], ◌∷◌, ◌++◌, map, append_assoc, arith, refl, ap, ap₂, sym, ◌∙◌}
+use Rattle.std.proofs.Common.{◌≡◌, ℤ, ◌+ℤ◌, ◌*ℤ◌, List, [], ◌∷◌, ◌++◌, map, append_assoc, arith, refl, ap, ap₂, sym, ◌∙◌}
 use Rattle.std.proofs.lemmas.List.{append-nil}
 use Rattle.std.proofs.lemmas.Int.{ints}
 use Rattle.integers.specs.Division.{quotient, remainder}
@@ -11,7 +11,7 @@ use Rattle.nf_terms.specs.Lists.{ListTerm}
 use Rattle.nf_terms.specs.Meaning.{Valuation, value_of, value_of_atom, value_of_monomial, contents, contents_after, contents_of_base, items_of_base, items_in, written as stored}
 use Rattle.std.specs.Prelude.{Result, Ok, Err, IfOk}
 use Rattle.nf_terms.specs.declared.stop.NfStop.{NfStop}
-use Rattle.nf_terms.specs.Computed.{Computed, Done, Wide, Large, after, Answers}
+use Rattle.nf_terms.specs.Computed.{Computed, Done, Wide, after, Answers}
 use Rattle.nf_terms.specs.declared.tree.Pos.{Pos}
 use Rattle.nf_terms.specs.declared.tree.Base.{Base}
 use Rattle.nf_terms.specs.declared.tree.Base.TheVariants as base
@@ -25,7 +25,7 @@ use Rattle.nf_arrays.specs.Writes.{written, read_at}
 use Rattle.nf_arrays.specs.Pushes.{pushed}
 use Rattle.nf_arrays.proofs.Values.{read_value, write_value, quotient_value, remainder_value}
 use Rattle.nf_arrays.proofs.Pushing.{push_value}
-use Rattle.nf_subst.specs.Vectors.{number_at, array_at, list_at, array_of_base, list_of_base, meaning}
+use Rattle.nf_subst.specs.Vectors.{number_at, array_of_base, list_of_base, meaning}
 use Rattle.nf_subst.specs.Substitution.{atom_substituted, atoms_substituted, terms_substituted, writes_substituted, array_substituted, substituted, items_substituted, list_substituted}
 
 number_is : (w : Valuation) (c : ℤ) (r : Polynomial) → number c ≡ Done r → value_of w r ≡ c

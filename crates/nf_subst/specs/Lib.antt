@@ -2,6 +2,4 @@ pub mod Vectors
 pub mod Places
 pub mod Substitution
 pub mod Keeping
-pub mod Digests
-pub mod SameAtoms
 pub mod SamePlaces

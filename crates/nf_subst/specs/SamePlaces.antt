@@ -11,7 +11,7 @@ use Rattle.nf_terms.specs.declared.symbols.Sort.{Sort}
 use Rattle.nf_terms.specs.declared.symbols.Sort.TheVariants as sort
 use Rattle.nf_terms.proofs.Tests.{and_left, and_right, and_both}
 use Rattle.nf_subst.specs.Vectors.{same_sort}
-use Rattle.nf_subst.specs.Digests.{mixed, digest_of_pos}
+use Rattle.nf_bank.specs.Digests.{mixed, mixed_pos}
 use Rattle.nf_subst.specs.declared.place.Place.{Place}
 
 -- whether two places are the same
@@ -77,7 +77,7 @@ number_of_sort sort.Array = 2
 number_of_sort sort.List = 3
 
 abbrev pub digest_of_place : Place → ℕ
-digest_of_place a = mixed (digest_of_pos a.pos) (number_of_sort a.sort)
+digest_of_place a = mixed (mixed_pos 0 a.pos) (number_of_sort a.sort)
 
 pub places_alike : (a b : Place) → same_place a b ≡ true → digest_of_place a ≡ digest_of_place b
 places_alike a b e = ap digest_of_place (places_equal a b e)

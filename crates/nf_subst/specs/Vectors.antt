@@ -1,5 +1,5 @@
 -- Vectors: normal forms for positions.
-use Rattle.std.specs.Prelude.{Bool, true, false, ◌&&◌, IsTrue, is_some, cond, Option, Some, None, List, [], ◌∷◌}
+use Rattle.std.specs.Prelude.{Bool, true, false, ◌&&◌, is_some, cond, Option, Some, None, List, [], ◌∷◌}
 use Rattle.std.specs.Option.{option_or}
 use Rattle.nf_terms.specs.Terms.{Polynomial, ArrayTerm, polynomial_of_symbol, bare_array}
 use Rattle.nf_terms.specs.Lists.{ListTerm, bare_list}

@@ -1,8 +1,7 @@
 //! Vectors of normal forms, and their substitution in normal forms.
 #![tactic(auto)]
 
-mod digests;
-mod keys;
+mod copies;
 pub mod laws;
 mod place;
 pub mod subst;

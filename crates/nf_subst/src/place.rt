@@ -4,7 +4,7 @@ ghost use Rattle.std.specs.Prelude.{◌≡◌};
 ghost use Rattle.nf_subst.specs.Vectors.{same_sort as same};
 ghost use Rattle.nf_subst.specs.SamePlaces.{digest_of_place, number_of_sort as number_of};
 
-use crate::digests::{mix, of_pos};
+use nf_bank::digest::{mix, mix_pos};
 use nf_terms::symbols::Sort;
 use nf_terms::tree::Pos;
 use std::hash::{Hash, Hasher};
@@ -42,7 +42,7 @@ fn number_of_sort(sort: Sort) -> u64
 fn digest(place: &Place) -> u64
     ensures { result ≡ digest_of_place place.now }
 {
-    mix(of_pos(&place.pos), number_of_sort(place.sort))
+    mix(mix_pos(0, &place.pos), number_of_sort(place.sort))
 }
 
 impl PartialEq for Place {

@@ -9,14 +9,15 @@ ghost use Rattle.nf_subst.specs.Vectors.{number_at, array_of_base, list_of_base,
 ghost use Rattle.nf_subst.specs.Substitution.{atom_substituted, atoms_substituted, substituted, array_substituted, items_substituted, list_substituted};
 ghost use Rattle.nf_subst.specs.Keeping.{holds, with_one, with_inner, with_atom, with_atoms, with_terms, with_array, with_items, IsFront};
 
-use crate::keys::AtomKey;
 use crate::vector::Vector;
 use indexmap::IndexMap;
 use nf_arrays::division::{div, rem};
 use nf_arrays::pushes::push;
 use nf_arrays::reads::read;
 use nf_arrays::writes::write;
-use nf_sums::sums::{add, mul, number};
+use nf_bank::key::AtomKey;
+use nf_sums::accumulator::Accumulator;
+use nf_sums::sums::{mul, number};
 use nf_terms::arr::Arr;
 use nf_terms::poly::Poly;
 use nf_terms::seq::Seq;
@@ -161,7 +162,7 @@ fn keep_atom(alloc: Global, s: &mut Subst, atom: &Atom) -> Result<Poly, NfStop>
     ensures kept { OnOk result (s.new.atoms ≡ with_atom (atom_in atom.now) s.old.atoms) }
     ensures front { IsFront s.old.atoms s.new.atoms }
 {
-    let key = AtomKey::new(alloc, atom)?;
+    let key = AtomKey::copied(alloc, atom)?;
     if let Some(answer) = s.find(alloc, &key)? {
         return Ok(answer);
     }
@@ -200,12 +201,12 @@ fn keep_poly(alloc: Global, s: &mut Subst, tree: &PolyTree) -> Result<Poly, NfSt
     ensures kept { OnOk result (s.new.atoms ≡ with_terms (polynomial_in tree.now) s.old.atoms) }
     ensures front { IsFront s.old.atoms s.new.atoms }
 {
-    let mut so_far = Poly::number(alloc, 0)?;
+    let mut so_far = Accumulator::new(alloc);
     for (mono, coefficient) in &tree.monos {
         let term = keep_mono(alloc, s, coefficient, mono)?;
-        so_far = add(alloc, &so_far, &term)?;
+        so_far = so_far.add(alloc, &term)?;
     }
-    Ok(so_far)
+    Ok(so_far.into_poly())
 }
 
 // An array with the vector's forms in place of its symbols.

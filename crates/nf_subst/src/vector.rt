@@ -3,6 +3,7 @@
 ghost use Rattle.std.specs.Prelude.{◌≡◌, [], Some, option_map, IsTrue, IfOk, OnOk, OnErr};
 ghost use Rattle.nf_subst.specs.Vectors.{form_at, form_of, has_form, number_at, array_at, list_at, array_of_base, list_of_base, with_form, AreNormalForms};
 
+use crate::copies::copied;
 use crate::place::Place;
 use indexmap::IndexMap;
 use nf_terms::arr::Arr;
@@ -44,6 +45,14 @@ impl Vector {
         Vector {
             forms: IndexMap::new(alloc),
         }
+    }
+
+    /// A copy. The one refusal is out of memory.
+    pub fn try_clone(&self, alloc: Global) -> Result<Vector, NoMemory>
+        ensures { IfOk result (λ copy. copy ≡ self.now) }
+    {
+        let forms = copied(alloc, &self.forms)?;
+        Ok(Vector { forms })
     }
 
     /// What holds of each vector; nothing runs.

@@ -1,5 +1,5 @@
 -- The normal form of a raw sum is in order, is the same, and is no larger.
-use Rattle.std.proofs.Common.{◌≡◌, ℕ, ◌+◌, ◌≤◌, ℤ, pos, ◌+ℤ◌, ◌*ℤ◌, Bool, true, false, ◌&&◌, not, cond, unsigned_abs, arith, refl, ap, ◌∙◌}
+use Rattle.std.proofs.Common.{◌≡◌, ℕ, ◌+◌, ◌≤◌, ℤ, pos, ◌+ℤ◌, ◌*ℤ◌, Bool, true, ◌&&◌, unsigned_abs, arith, refl, ap, ◌∙◌}
 use Rattle.std.proofs.lemmas.Int.{ints}
 use Rattle.std.specs.declared.cmp.Ordering.{Ordering}
 use Rattle.std.specs.declared.cmp.Ordering.TheVariants.{Less, Equal, Greater}
@@ -13,6 +13,7 @@ use Rattle.nf_terms.specs.Measures.{size_of, weight_of, size_of_monomial}
 use Rattle.nf_terms.specs.Normal.{ordered, ordered_monomial, monomial_rises}
 use Rattle.integers.proofs.Ring.{add-mul_z}
 use Rattle.nf_sums.specs.OrderedSums.{worth_of, IgnoresOrder, fits, fits_monomial}
+use Rattle.nf_terms.proofs.Partings.{less_of, rises_through, ordered_term, term_ordered}
 use Rattle.nf_terms.proofs.Tests.{and_left, and_right, and_both, by_test}
 use Rattle.nf_sums.proofs.Bags.{size_worth, size_ignores, fits_ignores, fits_again}
 use Rattle.nf_sums.specs.Forms.{sorted_monomial, plus, by_order, with_term, normal_form}
@@ -32,7 +33,7 @@ zero_of c e = (signed_Decides c (pos 0)).0 e
 worth-plus : (f : Monomial → ℤ) (m : Monomial) (c : ℤ) (p : Polynomial) → worth_of f (plus m c p) ≡ c *ℤ f m +ℤ worth_of f p
 worth-plus f m c p = by_test (λ t. worth_of f t ≡ c *ℤ f m +ℤ worth_of f p) p (Plus m c p) (int_eq c (pos 0)) (λ e. omega (arith, ints, ap (λ z. z *ℤ f m) (zero_of c e))) (λ e. refl)
 
-worth-with_term : (f : Monomial → ℤ) (m : Monomial) (c : ℤ) (p : Polynomial) → worth_of f (with_term m c p) ≡ c *ℤ f m +ℤ worth_of f p
+pub worth-with_term : (f : Monomial → ℤ) (m : Monomial) (c : ℤ) (p : Polynomial) → worth_of f (with_term m c p) ≡ c *ℤ f m +ℤ worth_of f p
 worth-with_term f m c Zero = worth-plus f m c Zero
 worth-with_term f m c (Plus n d p) =
     by_cases (λ t. worth_of f t ≡ c *ℤ f m +ℤ worth_of f (Plus n d p)) (plus m c (Plus n d p)) (plus n (c +ℤ d) p) (Plus n d (with_term m c p)) (cmp_monomial m n) (λ e. worth-plus f m c (Plus n d p))
@@ -55,56 +56,36 @@ worth-form_ordered f (Plus m c p) o =
 
 -- ---- order
 
-less_of : (r : Ordering) → is_lt r ≡ true → r ≡ Less
-less_of Less e = refl
-less_of Equal e = cc
-less_of Greater e = cc
-
-turned : (m n : Monomial) → cmp_monomial m n ≡ Greater → cmp_monomial n m ≡ Less
+pub turned : (m n : Monomial) → cmp_monomial m n ≡ Greater → cmp_monomial n m ≡ Less
 turned m n e = monomials_total.antisymm n m ∙ ap ordering_reverse e
 
-module _ (m : Monomial) (c : ℤ) (p : Polynomial) (o : ordered (Plus m c p) ≡ true) where
-  front : not (int_eq c (pos 0)) && ordered_monomial m && monomial_rises m p ≡ true
-  front = and_left (not (int_eq c (pos 0)) && ordered_monomial m && monomial_rises m p) (ordered p) o
-
-  pub first_rises : monomial_rises m p ≡ true
-  first_rises = and_right (not (int_eq c (pos 0)) && ordered_monomial m) (monomial_rises m p) front
-
-  pub first_ordered : ordered_monomial m ≡ true
-  first_ordered = and_right (not (int_eq c (pos 0))) (ordered_monomial m) (and_left (not (int_eq c (pos 0)) && ordered_monomial m) (monomial_rises m p) front)
-
-  pub not_zero : not (int_eq c (pos 0)) ≡ true
-  not_zero = and_left (not (int_eq c (pos 0))) (ordered_monomial m) (and_left (not (int_eq c (pos 0)) && ordered_monomial m) (monomial_rises m p) front)
-
-  pub rest_ordered : ordered p ≡ true
-  rest_ordered = and_right (not (int_eq c (pos 0)) && ordered_monomial m && monomial_rises m p) (ordered p) o
-
-ordered_plus : (m : Monomial) (c : ℤ) (p : Polynomial) → not (int_eq c (pos 0)) ≡ true → ordered_monomial m ≡ true → monomial_rises m p ≡ true → ordered p ≡ true → ordered (Plus m c p) ≡ true
-ordered_plus m c p z o r q =
-    and_both (not (int_eq c (pos 0)) && ordered_monomial m && monomial_rises m p) (ordered p) (and_both (not (int_eq c (pos 0)) && ordered_monomial m) (monomial_rises m p) (and_both (not (int_eq c (pos 0))) (ordered_monomial m) z o) r) q
-
 plus_ordered : (m : Monomial) (c : ℤ) (p : Polynomial) → ordered_monomial m ≡ true → monomial_rises m p ≡ true → ordered p ≡ true → ordered (plus m c p) ≡ true
-plus_ordered m c p o r q = by_test (λ t. ordered t ≡ true) p (Plus m c p) (int_eq c (pos 0)) (λ e. q) (λ e. ordered_plus m c p (ap not e) o r q)
+plus_ordered m c p o r q = by_test (λ t. ordered t ≡ true) p (Plus m c p) (int_eq c (pos 0)) (λ e. q) (λ e. term_ordered m c p (record { nonzero = e; first = o; rises = r; rest = q }))
 
 rises_plus : (n m : Monomial) (c : ℤ) (p : Polynomial) → monomial_rises n p ≡ true → cmp_monomial n m ≡ Less → monomial_rises n (plus m c p) ≡ true
 rises_plus n m c p r l = by_test (λ t. monomial_rises n t ≡ true) p (Plus m c p) (int_eq c (pos 0)) (λ e. r) (λ e. ap is_lt l)
 
-rises_through : (n k : Monomial) (p : Polynomial) → cmp_monomial n k ≡ Less → monomial_rises k p ≡ true → monomial_rises n p ≡ true
-rises_through n k Zero l r = refl
-rises_through n k (Plus m c p) l r = ap is_lt (monomials_total.trans n k m l (less_of (cmp_monomial k m) r))
+-- the first monomial, if there is one, stands before the next one
+abbrev pub FirstRises : Polynomial → Type 0
+FirstRises Zero = Unit {0}
+FirstRises (Plus m c p) = monomial_rises m p ≡ true
 
-rises_with : (n m : Monomial) (c : ℤ) (p : Polynomial) → cmp_monomial n m ≡ Less → ordered p ≡ true → monomial_rises n p ≡ true → monomial_rises n (with_term m c p) ≡ true
-rises_with n m c Zero l o r = rises_plus n m c Zero r l
-rises_with n m c (Plus k d p) l o r =
+pub rises_with : (n m : Monomial) (c : ℤ) (p : Polynomial) → cmp_monomial n m ≡ Less → FirstRises p → monomial_rises n p ≡ true → monomial_rises n (with_term m c p) ≡ true
+rises_with n m c Zero l f r = rises_plus n m c Zero r l
+rises_with n m c (Plus k d p) l f r =
     by_cases (λ t. monomial_rises n t ≡ true) (plus m c (Plus k d p)) (plus k (c +ℤ d) p) (Plus k d (with_term m c p)) (cmp_monomial m k) (λ e. rises_plus n m c (Plus k d p) r l)
-    (λ e. rises_plus n k (c +ℤ d) p (rises_through n k p (less_of (cmp_monomial n k) r) (first_rises k d p o)) (less_of (cmp_monomial n k) r)) (λ e. r)
+    (λ e. rises_plus n k (c +ℤ d) p (rises_through n k p (less_of (cmp_monomial n k) r) f) (less_of (cmp_monomial n k) r)) (λ e. r)
 
-with_term_ordered : (m : Monomial) (c : ℤ) (p : Polynomial) → ordered_monomial m ≡ true → ordered p ≡ true → ordered (with_term m c p) ≡ true
+first_of : (p : Polynomial) → ordered p ≡ true → FirstRises p
+first_of Zero o = tt
+first_of (Plus m c p) o = (ordered_term m c p o).rises
+
+pub with_term_ordered : (m : Monomial) (c : ℤ) (p : Polynomial) → ordered_monomial m ≡ true → ordered p ≡ true → ordered (with_term m c p) ≡ true
 with_term_ordered m c Zero o q = plus_ordered m c Zero o refl refl
 with_term_ordered m c (Plus n d p) o q =
-    by_cases (λ t. ordered t ≡ true) (plus m c (Plus n d p)) (plus n (c +ℤ d) p) (Plus n d (with_term m c p)) (cmp_monomial m n) (λ e. plus_ordered m c (Plus n d p) o (ap is_lt e) q)
-    (λ e. plus_ordered n (c +ℤ d) p (first_ordered n d p q) (first_rises n d p q) (rest_ordered n d p q))
-    (λ e. ordered_plus n d (with_term m c p) (not_zero n d p q) (first_ordered n d p q) (rises_with n m c p (turned m n e) (rest_ordered n d p q) (first_rises n d p q)) (with_term_ordered m c p o (rest_ordered n d p q)))
+    let t = ordered_term n d p q in
+    by_cases (λ t. ordered t ≡ true) (plus m c (Plus n d p)) (plus n (c +ℤ d) p) (Plus n d (with_term m c p)) (cmp_monomial m n) (λ e. plus_ordered m c (Plus n d p) o (ap is_lt e) q) (λ e. plus_ordered n (c +ℤ d) p t.first t.rises t.rest)
+    (λ e. term_ordered n d (with_term m c p) (record { nonzero = t.nonzero; first = t.first; rises = rises_with n m c p (turned m n e) (first_of p t.rest) t.rises; rest = with_term_ordered m c p o t.rest }))
 
 -- whether each atom is in order in itself
 abbrev pub atoms_in_order : Polynomial → Bool
@@ -130,7 +111,7 @@ sorted_fits m h = fits_again (sorted_monomial m) m (sorting_ignored _ fits_ignor
 size-plus : (m : Monomial) (c : ℤ) (p : Polynomial) → size_of (plus m c p) ≤ 1 + size_of_monomial m + size_of p
 size-plus m c p = by_test (λ t. size_of t ≤ 1 + size_of_monomial m + size_of p) p (Plus m c p) (int_eq c (pos 0)) (λ e. omega arith) (λ e. omega arith)
 
-size-with_term : (m : Monomial) (c : ℤ) (p : Polynomial) → size_of (with_term m c p) ≤ 1 + size_of_monomial m + size_of p
+pub size-with_term : (m : Monomial) (c : ℤ) (p : Polynomial) → size_of (with_term m c p) ≤ 1 + size_of_monomial m + size_of p
 size-with_term m c Zero = size-plus m c Zero
 size-with_term m c (Plus n d p) =
     by_cases (λ t. size_of t ≤ 1 + size_of_monomial m + size_of (Plus n d p)) (plus m c (Plus n d p)) (plus n (c +ℤ d) p) (Plus n d (with_term m c p)) (cmp_monomial m n) (λ e. size-plus m c (Plus n d p))
@@ -146,7 +127,7 @@ abs-sum c d = omega (arith, ints)
 weight-plus : (m : Monomial) (c : ℤ) (p : Polynomial) → weight_of (plus m c p) ≤ unsigned_abs c + weight_of p
 weight-plus m c p = by_test (λ t. weight_of t ≤ unsigned_abs c + weight_of p) p (Plus m c p) (int_eq c (pos 0)) (λ e. omega arith) (λ e. omega arith)
 
-weight-with_term : (m : Monomial) (c : ℤ) (p : Polynomial) → weight_of (with_term m c p) ≤ unsigned_abs c + weight_of p
+pub weight-with_term : (m : Monomial) (c : ℤ) (p : Polynomial) → weight_of (with_term m c p) ≤ unsigned_abs c + weight_of p
 weight-with_term m c Zero = weight-plus m c Zero
 weight-with_term m c (Plus n d p) =
     by_cases (λ t. weight_of t ≤ unsigned_abs c + weight_of (Plus n d p)) (plus m c (Plus n d p)) (plus n (c +ℤ d) p) (Plus n d (with_term m c p)) (cmp_monomial m n) (λ e. weight-plus m c (Plus n d p))
@@ -159,7 +140,7 @@ weight-form (Plus m c p) = omega (arith, weight-with_term (sorted_monomial m) c 
 fits-plus : (m : Monomial) (c : ℤ) (p : Polynomial) → fits_monomial m ≡ true → fits p ≡ true → fits (plus m c p) ≡ true
 fits-plus m c p h k = by_test (λ t. fits t ≡ true) p (Plus m c p) (int_eq c (pos 0)) (λ e. k) (λ e. and_both (fits_monomial m) (fits p) h k)
 
-fits-with_term : (m : Monomial) (c : ℤ) (p : Polynomial) → fits_monomial m ≡ true → fits p ≡ true → fits (with_term m c p) ≡ true
+pub fits-with_term : (m : Monomial) (c : ℤ) (p : Polynomial) → fits_monomial m ≡ true → fits p ≡ true → fits (with_term m c p) ≡ true
 fits-with_term m c Zero h k = fits-plus m c Zero h k
 fits-with_term m c (Plus n d p) h k =
     let i : fits_monomial n ≡ true = and_left (fits_monomial n) (fits p) k in

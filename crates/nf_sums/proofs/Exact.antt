@@ -20,7 +20,7 @@ use Rattle.nf_sums.proofs.Terms.{size-sum, weight-sum, fits-sum}
 use Rattle.nf_sums.proofs.Worth.{worth-sum}
 use Rattle.nf_sums.proofs.Forms.{negation_normal, negation_weight, negation_size, negation_value, negation_form, sum_form, sum_value, product_form, product_value}
 use Rattle.nf_sums.proofs.Unique.{normal_forms_equal}
-use Rattle.nf_terms.specs.Computed.{Computed, Done, Wide, Large, IfDone, Answers, if_small, if_narrow}
+use Rattle.nf_terms.specs.Computed.{Computed, Done, Wide, Large, IfDone, Answers, if_small}
 use Rattle.nf_sums.specs.Forms.{normal_form}
 use Rattle.nf_terms.specs.Means.{IsNumberOf}
 use Rattle.nf_sums.specs.Operations.{operation, added, subtracted, multiplied, negated, number}

@@ -20,3 +20,4 @@ pub mod Tidying
 pub mod Settling
 pub mod Given
 pub mod Rising
+pub mod Placed

@@ -11,7 +11,8 @@ use Rattle.nf_terms.proofs.Tests.{and_left, and_right, and_both}
 use Rattle.nf_sums.proofs.Bags.{size-joined, fits-joined}
 use Rattle.nf_sums.proofs.Terms.{size-sum, weight-sum, fits-sum}
 use Rattle.nf_sums.proofs.Sorting.{atoms_ordered, atoms_of_ordered, atoms_of_joined}
-use Rattle.nf_sums.proofs.Collecting.{atoms_in_order, monomials_ordered, first_ordered, rest_ordered}
+use Rattle.nf_terms.proofs.Partings.{ordered_term}
+use Rattle.nf_sums.proofs.Collecting.{atoms_in_order, monomials_ordered}
 
 size-multiple : (m : Monomial) (c : ℤ) (q : Polynomial) → size_of (raw_multiple m c q) ≤ (1 + size_of_monomial m) * size_of q
 size-multiple m c Zero = omega arith
@@ -50,7 +51,7 @@ fits-product (Plus m c p) q h k =
 
 pub monomials_of_ordered : (p : Polynomial) → ordered p ≡ true → monomials_ordered p ≡ true
 monomials_of_ordered Zero o = refl
-monomials_of_ordered (Plus m c p) o = and_both (ordered_monomial m) (monomials_ordered p) (first_ordered m c p o) (monomials_of_ordered p (rest_ordered m c p o))
+monomials_of_ordered (Plus m c p) o = and_both (ordered_monomial m) (monomials_ordered p) (ordered_term m c p o).first (monomials_of_ordered p (ordered_term m c p o).rest)
 
 pub monomials_of_sum : (p q : Polynomial) → monomials_ordered p ≡ true → monomials_ordered q ≡ true → monomials_ordered (raw_sum p q) ≡ true
 monomials_of_sum Zero q h k = k

@@ -1,18 +1,15 @@
 -- Normal forms rise, whatever their atoms are, and atoms are the same exactly where they settle alike.
-use Rattle.std.proofs.Common.{◌≡◌, ℤ, pos, ◌+ℤ◌, Bool, true, false, ◌&&◌, not, refl, ap, sym, ◌∙◌}
-use Rattle.std.specs.declared.cmp.Ordering.TheVariants.{Less, Greater}
-use Rattle.std.specs.Ordering.{int_eq, is_le, is_lt, ordering_reverse}
+use Rattle.std.proofs.Common.{◌≡◌, ℤ, pos, ◌+ℤ◌, true, ◌&&◌, not, refl, ap, sym, ◌∙◌}
+use Rattle.std.specs.Ordering.{int_eq, is_le, is_lt}
 use Rattle.nf_terms.specs.Terms.{Atom, Monomial, Polynomial, Symbol, Read, Quotient, Remainder, One, Times, Zero, Plus}
 use Rattle.nf_terms.specs.Order.{cmp_atom, cmp_monomial}
 use Rattle.nf_terms.specs.Normal.{atom_rises, monomial_rises}
 use Rattle.nf_terms.specs.RawSums.{total}
-use Rattle.nf_terms.specs.Comparison.{monomials_total}
 use Rattle.nf_terms.proofs.Tests.{and_left, and_right, and_both, by_test}
-use Rattle.nf_terms.proofs.Partings.{less_of, rises_through}
 use Rattle.nf_sums.specs.Forms.{with_atom, sorted_monomial, plus, with_term, normal_form}
-use Rattle.nf_sums.specs.Sameness.{settled_atom, settled, settled_array, SameSum, SameArray, SameAtom}
+use Rattle.nf_sums.specs.Sameness.{settled_atom, settled, settled_array, SameSum, SameAtom}
 use Rattle.nf_sums.proofs.Sorting.{atom_before, rises_with_atom}
-use Rattle.nf_sums.proofs.Collecting.{by_cases, worth-form}
+use Rattle.nf_sums.proofs.Collecting.{by_cases, worth-form, turned, FirstRises, rises_with}
 use Rattle.nf_sums.proofs.Bags.{bag_ignores}
 use Rattle.nf_sums.proofs.Worth.{one_for, total_worth}
 use Rattle.nf_sums.proofs.Unique.{risen_monomial, risen, unique}
@@ -50,21 +47,16 @@ term_risen m c p z o r q =
 plus_risen : (m : Monomial) (c : ℤ) (p : Polynomial) → risen_monomial m ≡ true → monomial_rises m p ≡ true → risen p ≡ true → risen (plus m c p) ≡ true
 plus_risen m c p o r q = by_test (λ t. risen t ≡ true) p (Plus m c p) (int_eq c (pos 0)) (λ e. q) (λ e. term_risen m c p (ap not e) o r q)
 
-rises_plus : (n m : Monomial) (c : ℤ) (p : Polynomial) → monomial_rises n p ≡ true → cmp_monomial n m ≡ Less → monomial_rises n (plus m c p) ≡ true
-rises_plus n m c p r l = by_test (λ t. monomial_rises n t ≡ true) p (Plus m c p) (int_eq c (pos 0)) (λ e. r) (λ e. ap is_lt l)
-
-rises_with : (n m : Monomial) (c : ℤ) (p : Polynomial) → cmp_monomial n m ≡ Less → risen p ≡ true → monomial_rises n p ≡ true → monomial_rises n (with_term m c p) ≡ true
-rises_with n m c Zero l o r = rises_plus n m c Zero r l
-rises_with n m c (Plus k d p) l o r =
-    by_cases (λ t. monomial_rises n t ≡ true) (plus m c (Plus k d p)) (plus k (c +ℤ d) p) (Plus k d (with_term m c p)) (cmp_monomial m k) (λ e. rises_plus n m c (Plus k d p) r l)
-    (λ e. rises_plus n k (c +ℤ d) p (rises_through n k p (less_of (cmp_monomial n k) r) (risen_term k d p o).rises) (less_of (cmp_monomial n k) r)) (λ e. r)
+first_of : (p : Polynomial) → risen p ≡ true → FirstRises p
+first_of Zero o = tt
+first_of (Plus m c p) o = (risen_term m c p o).rises
 
 with_term_risen : (m : Monomial) (c : ℤ) (p : Polynomial) → risen_monomial m ≡ true → risen p ≡ true → risen (with_term m c p) ≡ true
 with_term_risen m c Zero o q = plus_risen m c Zero o refl refl
 with_term_risen m c (Plus n d p) o q =
     let t = risen_term n d p q in
     by_cases (λ t. risen t ≡ true) (plus m c (Plus n d p)) (plus n (c +ℤ d) p) (Plus n d (with_term m c p)) (cmp_monomial m n) (λ e. plus_risen m c (Plus n d p) o (ap is_lt e) q) (λ e. plus_risen n (c +ℤ d) p t.first t.rises t.rest)
-    (λ e. term_risen n d (with_term m c p) t.nonzero t.first (rises_with n m c p (monomials_total.antisymm n m ∙ ap ordering_reverse e) t.rest t.rises) (with_term_risen m c p o t.rest))
+    (λ e. term_risen n d (with_term m c p) t.nonzero t.first (rises_with n m c p (turned m n e) (first_of p t.rest) t.rises) (with_term_risen m c p o t.rest))
 
 form_risen : (p : Polynomial) → risen (normal_form p) ≡ true
 form_risen Zero = refl

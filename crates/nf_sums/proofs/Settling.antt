@@ -1,5 +1,5 @@
 -- Ordered terms are settled, and what is the same and in order is equal.
-use Rattle.std.proofs.Common.{◌≡◌, ℤ, pos, ◌+ℤ◌, Bool, true, false, ◌&&◌, not, cond, List, [], ◌∷◌, refl, ap, sym, ◌∙◌}
+use Rattle.std.proofs.Common.{◌≡◌, ℤ, pos, ◌+ℤ◌, true, false, ◌&&◌, not, cond, List, [], ◌∷◌, refl, ap, sym, ◌∙◌}
 use Rattle.std.specs.Ordering.{int_eq}
 use Rattle.nf_terms.specs.Terms.{Atom, Monomial, Polynomial, ArrayTerm, Writes, Symbol, Read, Quotient, Remainder, One, Times, Zero, Plus, Over, NoWrites, Write}
 use Rattle.nf_terms.specs.Order.{cmp_monomial}
@@ -9,7 +9,7 @@ use Rattle.nf_terms.specs.Normal.{IsNormal, IsNormalArray, ordered, ordered_atom
 use Rattle.nf_terms.specs.RawSums.{total, SameTotals}
 use Rattle.nf_terms.proofs.Tests.{and_left, and_right}
 use Rattle.nf_terms.proofs.Partings.{ordered_term, less_of}
-use Rattle.nf_sums.specs.Forms.{sorted_monomial, plus, by_order, with_term, normal_form}
+use Rattle.nf_sums.specs.Forms.{plus, by_order, with_term, normal_form}
 use Rattle.nf_sums.specs.Sameness.{settled_atom, settled_monomial, settled, settled_writes, settled_array, SameSum, SameArray, SameItems, SameList}
 use Rattle.nf_sums.proofs.Sorting.{sorted_stays, atoms_ordered}
 use Rattle.nf_sums.proofs.Collecting.{atoms_in_order}

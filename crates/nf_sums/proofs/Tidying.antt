@@ -3,7 +3,7 @@ use Rattle.std.proofs.Common.{◌≡◌, ℤ, Bool, true, false, ◌&&◌, ◌||
 use Rattle.std.proofs.lemmas.Int.{ints}
 use Rattle.nf_terms.specs.Terms.{Polynomial, ArrayTerm, Writes, Over, NoWrites, Write}
 use Rattle.nf_terms.specs.Normal.{ordered, ordered_writes, ordered_array, is_written, write_rises, differ_by_constant, constant_part, constant_sum}
-use Rattle.nf_terms.specs.Tidied.{last_writes, goes_after, with_write, rising_stretches, tidied}
+use Rattle.nf_terms.specs.Tidied.{last_writes, with_write, rising_stretches, tidied}
 use Rattle.nf_terms.proofs.Tests.{and_left, and_right, not_true}
 use Rattle.nf_sums.proofs.Constants.{constant_is}
 

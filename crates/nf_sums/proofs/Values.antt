@@ -7,15 +7,15 @@ use Rattle.std.specs.Cmp.{signed_Decides}
 use Rattle.nf_terms.specs.Terms.{Polynomial, One, Times, Zero, Plus, polynomial_of_number}
 use Rattle.nf_terms.specs.Measures.{size_of, weight_of, depth_of}
 use Rattle.nf_terms.specs.Meaning.{Valuation, value_of, value_of_monomial}
-use Rattle.nf_terms.specs.Normal.{ordered, part_with_atoms, constant_part}
+use Rattle.nf_terms.specs.Normal.{part_with_atoms}
 use Rattle.nf_terms.specs.Limits.{size_limit, depth_limit, weight_limit}
 use Rattle.nf_terms.specs.RawSums.{raw_sum, raw_negation, raw_difference, raw_product}
 use Rattle.nf_sums.proofs.Bags.{value_ignores}
-use Rattle.nf_sums.proofs.Worth.{worth-sum, value_worth, value-product}
+use Rattle.nf_sums.proofs.Worth.{value_worth, value-product}
 use Rattle.nf_sums.proofs.Forms.{negation_value}
 use Rattle.nf_terms.specs.Computed.{Computed, Done, Wide, Large, after, IfDone, if_small}
 use Rattle.nf_sums.specs.Forms.{normal_form}
-use Rattle.nf_sums.specs.Operations.{operation, added, subtracted, multiplied, number}
+use Rattle.nf_sums.specs.Operations.{operation, added, subtracted, multiplied}
 use Rattle.nf_terms.specs.Normal.{constant_sum}
 use Rattle.nf_sums.proofs.Collecting.{worth-form}
 

@@ -1,5 +1,6 @@
 pub mod Forms
 pub mod Operations
+pub mod Accumulators
 pub mod OrderedSums
 pub mod Events
 pub mod Sameness

@@ -1,6 +1,7 @@
 //! Sums and products of normal forms.
 #![tactic(auto)]
 
+pub mod accumulator;
 mod join;
 pub mod laws;
 mod limits;

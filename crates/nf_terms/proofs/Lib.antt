@@ -9,4 +9,5 @@ pub mod Degrees
 pub mod LastWrite
 pub mod Parts
 pub mod Simple
+pub mod Items
 pub mod Steps

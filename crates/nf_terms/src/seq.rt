@@ -1,10 +1,11 @@
 //! Normal lists.
 
-ghost use Rattle.std.specs.Prelude.{◌≡◌, ◌+◌, ◌-◌, ◌^◌, ◌≤◌, min, IfOk, OnOk, ◌++◌};
+ghost use Rattle.std.specs.Prelude.{◌≡◌, ◌+◌, ◌-◌, ◌^◌, ◌≤◌, min, IfOk, OnOk, MatchOption, ◌++◌};
 ghost use Rattle.nf_terms.specs.Limits.{size_limit, depth_limit};
 ghost use Rattle.nf_terms.specs.Lists.{bare_list, size_of_items, size_of_list, depth_of_items, depth_of_list, mentions_items, mentions_list_base, mentions_list, cmp_list_base, cmp_items, AreNormal, IsNormalList};
 ghost use Rattle.nf_terms.specs.Symbols.{symbols_of_list_base, symbols_of_items, symbols_of_list};
 
+use crate::limits::{DEPTH_LIMIT, SIZE_LIMIT};
 use crate::order::compare_pos;
 use crate::poly::Poly;
 use crate::stop::NoMemory;
@@ -54,6 +55,16 @@ fn depth_of(items: &[Poly]) -> u32
         deepest = deepest.max(item.depth().saturating_add(1));
     }
     deepest
+}
+
+// Items are normal.
+#[tactic(auto, using(crate::proofs::Items::one_more))]
+fn see_normal(items: &[Poly])
+    ensures { AreNormal items.now }
+{
+    for item in items {
+        let _ = item.size();
+    }
 }
 
 // Copies of items.
@@ -147,6 +158,20 @@ impl Seq {
     {
         let items = Vec::new(alloc);
         Seq { base, items }
+    }
+
+    /// The list of a base and items.
+    ///
+    /// `None` comes exactly where the list is past a limit of size or depth.
+    pub fn of(base: SeqBase, items: Vec<Poly>) -> Option<Seq>
+        ensures { MatchOption result (¬ IsNormalList (record { base = base; items = items.items })) (λ s. s ≡ record { base = base; items = items.items }) }
+    {
+        see_normal(&items);
+        if size_of(&items) <= SIZE_LIMIT && depth_of(&items) <= DEPTH_LIMIT {
+            Some(Seq { base, items })
+        } else {
+            None
+        }
     }
 
     /// The list of a base and items that is known to be normal.

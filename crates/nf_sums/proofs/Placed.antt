@@ -1,0 +1,178 @@
+-- Monomials put in their places.
+use Rattle.std.proofs.Common.{◌≡◌, ℕ, zero, suc, ◌+◌, ◌<◌, ◌≤◌, ℤ, pos, ◌+ℤ◌, true, false, not, cond, unsigned_abs, List, [], ◌∷◌, ◌++◌, map, take, drop, length, get_or, set, add-one, arith, refl, ap, sym, subst, ◌∙◌}
+use Rattle.std.proofs.lemmas.Int.{ints}
+use Rattle.std.specs.declared.cmp.Ordering.{Ordering}
+use Rattle.std.specs.declared.cmp.Ordering.TheVariants.{Less, Equal, Greater}
+use Rattle.std.specs.Ordering.{is_lt, is_eq, int_eq, ordering_reverse}
+use Rattle.nf_terms.specs.Terms.{Monomial, Polynomial, Zero, Plus, polynomial_of}
+use Rattle.nf_terms.specs.View.{monomial_in, term_in}
+use Rattle.nf_terms.specs.Order.{cmp_monomial}
+use Rattle.nf_terms.specs.Comparison.{monomials_total}
+use Rattle.nf_terms.specs.Measures.{size_of, size_of_monomial, weight_of}
+use Rattle.nf_terms.specs.Limits.{weight_limit, size_limit}
+use Rattle.nf_terms.specs.Normal.{IsNormal, ordered}
+use Rattle.nf_terms.specs.RawSums.{raw_sum, IsNormalFormOf}
+use Rattle.nf_terms.specs.declared.tree.MonoTree.{MonoTree}
+use Rattle.nf_terms.proofs.Partings.{less_of, ordered_term}
+use Rattle.nf_terms.proofs.Tests.{and_left, and_right, and_both}
+use Rattle.nf_sums.specs.Forms.{with_term, plus, by_order}
+use Rattle.nf_sums.specs.OrderedSums.{fits_monomial, IsOrderedSum}
+use Rattle.nf_sums.specs.Accumulators.{stand_before, begins_behind, begins_with, coefficient_of, with_first, with_more, IsMeasured}
+use Rattle.nf_sums.proofs.Terms.{size-sum, weight-sum}
+use Rattle.nf_sums.proofs.Forms.{sum_form}
+use Rattle.nf_sums.proofs.Collecting.{with_term_ordered, worth-with_term, size-with_term, weight-with_term, fits-with_term}
+
+-- ---- where a monomial has its place
+-- the polynomial of a tree's terms
+abbrev pub terms_in : List (MonoTree × ℤ) → Polynomial
+terms_in l = polynomial_of (map term_in l)
+
+pub terms_joined : (a b : List (MonoTree × ℤ)) → terms_in (a ++ b) ≡ raw_sum (terms_in a) (terms_in b)
+terms_joined [] b = refl
+terms_joined (x ∷ a) b = ap (Plus (monomial_in x.0) x.1) (terms_joined a b)
+
+pub before_step : (m : Monomial) (l : List (MonoTree × ℤ)) (k : ℕ) (x : MonoTree × ℤ) → ordered (terms_in l) ≡ true → k < length l → x ≡ get_or l k x → is_lt (cmp_monomial (monomial_in x.0) m) ≡ true → stand_before m (terms_in (take (suc k) l)) ≡ true
+before_step m [] k x o h e g = absurd (omega arith)
+before_step m (y ∷ l) zero x o h e g = and_both (is_lt (cmp_monomial (monomial_in y.0) m)) true (ap (λ z. is_lt (cmp_monomial (monomial_in z.0) m)) (sym e) ∙ g) refl
+before_step m (y ∷ []) (suc k) x o h e g = absurd (omega arith)
+before_step m (y ∷ z ∷ l) (suc k) x o h e g =
+    let again : stand_before m (terms_in (take (suc k) (z ∷ l))) ≡ true = before_step m (z ∷ l) k x (ordered_term (monomial_in y.0) y.1 (terms_in (z ∷ l)) o).rest (omega arith) e g in
+    let first : is_lt (cmp_monomial (monomial_in z.0) m) ≡ true = and_left (is_lt (cmp_monomial (monomial_in z.0) m)) (stand_before m (terms_in (take k l))) again in
+    and_both (is_lt (cmp_monomial (monomial_in y.0) m)) (stand_before m (terms_in (take (suc k) (z ∷ l))))
+    (ap is_lt (monomials_total.trans (monomial_in y.0) (monomial_in z.0) m (less_of (cmp_monomial (monomial_in y.0) (monomial_in z.0)) (ordered_term (monomial_in y.0) y.1 (terms_in (z ∷ l)) o).rises) (less_of (cmp_monomial (monomial_in z.0) m) first))) again
+
+pub before_more : (m : Monomial) (l : List (MonoTree × ℤ)) (k : ℕ) (x : MonoTree × ℤ) → ordered (terms_in l) ≡ true → k < length l → x ≡ get_or l k x → is_lt (cmp_monomial (monomial_in x.0) m) ≡ true → stand_before m (terms_in (take (k + 1) l)) ≡ true
+before_more m l k x o h e g = subst (λ n. stand_before m (terms_in (take n l)) ≡ true) (sym (add-one k)) (before_step m l k x o h e g)
+
+pub behind_here : (m : Monomial) (l : List (MonoTree × ℤ)) (k : ℕ) (x : MonoTree × ℤ) → k < length l → x ≡ get_or l k x → is_lt (cmp_monomial (monomial_in x.0) m) ≡ false → begins_behind m (terms_in (drop k l)) ≡ true
+behind_here m [] k x h e g = absurd (omega arith)
+behind_here m (y ∷ l) zero x h e g = ap not (ap (λ z. is_lt (cmp_monomial (monomial_in z.0) m)) (sym e) ∙ g)
+behind_here m (y ∷ l) (suc k) x h e g = behind_here m l k x (omega arith) e g
+
+-- ---- a monomial put there
+greater_of : (m n : Monomial) → is_lt (cmp_monomial n m) ≡ true → cmp_monomial m n ≡ Greater
+greater_of m n e = monomials_total.antisymm m n ∙ ap ordering_reverse (less_of (cmp_monomial n m) e)
+
+passed : (m : Monomial) (c : ℤ) (front back : Polynomial) → stand_before m front ≡ true → with_term m c (raw_sum front back) ≡ raw_sum front (with_term m c back)
+passed m c Zero back s = refl
+passed m c (Plus n d p) back s =
+    ap (λ r. by_order r (plus m c (Plus n d (raw_sum p back))) (plus n (c +ℤ d) (raw_sum p back)) (Plus n d (with_term m c (raw_sum p back)))) (greater_of m n (and_left (is_lt (cmp_monomial n m)) (stand_before m p) s))
+    ∙ ap (Plus n d) (passed m c p back (and_right (is_lt (cmp_monomial n m)) (stand_before m p) s))
+
+plus_is : (m : Monomial) (c : ℤ) (p : Polynomial) → int_eq c (pos 0) ≡ false → plus m c p ≡ Plus m c p
+plus_is m c p z = ap (λ b. cond b p (Plus m c p)) z
+
+new_term : (m : Monomial) (c : ℤ) (back : Polynomial) → int_eq c (pos 0) ≡ false → begins_behind m back ≡ true → begins_with m back ≡ false → with_term m c back ≡ Plus m c back
+new_term m c Zero z b w = plus_is m c Zero z
+new_term m c (Plus n d p) z b w = by_value (cmp_monomial m n) refl
+  where
+    by_value : (r : Ordering) → cmp_monomial m n ≡ r → with_term m c (Plus n d p) ≡ Plus m c (Plus n d p)
+    by_value Less e = ap (λ r. by_order r (plus m c (Plus n d p)) (plus n (c +ℤ d) p) (Plus n d (with_term m c p))) e ∙ plus_is m c (Plus n d p) z
+    by_value Equal e = absurd (let k : true ≡ false = sym (ap is_eq e) ∙ w in cc k)
+    by_value Greater e = absurd (let k : false ≡ true = sym (ap (λ r. not (is_lt r)) (monomials_total.antisymm n m ∙ ap ordering_reverse e)) ∙ b in cc k)
+
+equal_of : (r : Ordering) → is_eq r ≡ true → r ≡ Equal
+equal_of Less e = cc
+equal_of Equal e = refl
+equal_of Greater e = cc
+
+old_term : (m : Monomial) (c : ℤ) (back : Polynomial) → begins_with m back ≡ true → with_term m c back ≡ with_more c back
+old_term m c Zero w = absurd (cc w)
+old_term m c (Plus n d p) w = ap (λ r. by_order r (plus m c (Plus n d p)) (plus n (c +ℤ d) p) (Plus n d (with_term m c p))) (equal_of (cmp_monomial m n) w)
+
+pub split_at : (k : ℕ) (l : List (MonoTree × ℤ)) → raw_sum (terms_in (take k l)) (terms_in (drop k l)) ≡ terms_in l
+split_at zero l = refl
+split_at (suc k) [] = refl
+split_at (suc k) (x ∷ l) = ap (Plus (monomial_in x.0) x.1) (split_at k l)
+
+-- the sum where a new monomial was put, and where one that stands there got a coefficient more
+pub put_new : (m : Monomial) (c : ℤ) (k : ℕ) (l : List (MonoTree × ℤ)) → int_eq c (pos 0) ≡ false → stand_before m (terms_in (take k l)) ≡ true → begins_behind m (terms_in (drop k l)) ≡ true → begins_with m (terms_in (drop k l)) ≡ false
+    → raw_sum (terms_in (take k l)) (Plus m c (terms_in (drop k l))) ≡ with_term m c (terms_in l)
+put_new m c k l z s b w =
+    ap (raw_sum (terms_in (take k l))) (sym (new_term m c (terms_in (drop k l)) z b w)) ∙ sym (passed m c (terms_in (take k l)) (terms_in (drop k l)) s) ∙ ap (with_term m c) (split_at k l)
+
+pub put_old : (m : Monomial) (c : ℤ) (k : ℕ) (l : List (MonoTree × ℤ)) → stand_before m (terms_in (take k l)) ≡ true → begins_with m (terms_in (drop k l)) ≡ true
+    → raw_sum (terms_in (take k l)) (with_more c (terms_in (drop k l))) ≡ with_term m c (terms_in l)
+put_old m c k l s w =
+    ap (raw_sum (terms_in (take k l))) (sym (old_term m c (terms_in (drop k l)) w)) ∙ sym (passed m c (terms_in (take k l)) (terms_in (drop k l)) s) ∙ ap (with_term m c) (split_at k l)
+
+-- ---- a coefficient more
+at_drop : (k : ℕ) (l : List (MonoTree × ℤ)) → k < length l → unsigned_abs (coefficient_of (terms_in (drop k l))) ≤ weight_of (terms_in l)
+at_drop k [] h = absurd (omega arith)
+at_drop zero (x ∷ l) h = omega arith
+at_drop (suc k) (x ∷ l) h = omega (arith, at_drop k l (omega arith))
+
+pub coefficient_at : (l : List (MonoTree × ℤ)) (k : ℕ) (x : MonoTree × ℤ) → k < length l → x ≡ get_or l k x → coefficient_of (terms_in (drop k l)) ≡ x.1
+coefficient_at [] k x h e = absurd (omega arith)
+coefficient_at (y ∷ l) zero x h e = ap (λ z. z.1) (sym e)
+coefficient_at (y ∷ l) (suc k) x h e = coefficient_at l k x (omega arith) e
+
+pub fits_more : (l : List (MonoTree × ℤ)) (k : ℕ) (x : MonoTree × ℤ) (c : ℤ) → k < length l → x ≡ get_or l k x → weight_of (terms_in l) + unsigned_abs c ≤ weight_limit → unsigned_abs c + unsigned_abs x.1 ≤ weight_limit
+fits_more l k x c h e w = let a = at_drop k l h in let b = ap unsigned_abs (coefficient_at l k x h e) in omega (arith, w)
+
+pub removed_at : (k : ℕ) (l : List (MonoTree × ℤ)) (t : ℤ) → k < length l → int_eq t (pos 0) ≡ true → terms_in (take k l ++ drop (suc k) l) ≡ raw_sum (terms_in (take k l)) (with_first t (terms_in (drop k l)))
+removed_at k [] t h z = absurd (omega arith)
+removed_at zero (y ∷ l) t h z = sym (ap (λ b. cond b (terms_in l) (Plus (monomial_in y.0) t (terms_in l))) z)
+removed_at (suc k) (y ∷ l) t h z = ap (Plus (monomial_in y.0) y.1) (removed_at k l t (omega arith) z)
+
+pub changed_at : (k : ℕ) (l : List (MonoTree × ℤ)) (x : MonoTree × ℤ) (t : ℤ) → k < length l → x ≡ get_or l k x → int_eq t (pos 0) ≡ false → terms_in (set l k (x.0, t)) ≡ raw_sum (terms_in (take k l)) (with_first t (terms_in (drop k l)))
+changed_at k [] x t h e z = absurd (omega arith)
+changed_at zero (y ∷ l) x t h e z = ap (λ w. Plus (monomial_in w.0) t (terms_in l)) e ∙ sym (plus_is (monomial_in y.0) t (terms_in l) z)
+changed_at (suc k) (y ∷ l) x t h e z = ap (Plus (monomial_in y.0) y.1) (changed_at k l x t (omega arith) e z)
+
+-- ---- it is the sum
+module _ (p : Polynomial) (m : Monomial) (c : ℤ) (n : IsNormal p) (k : IsNormal (Plus m c Zero)) where
+  sum_one : IsOrderedSum p (Plus m c Zero) (with_term m c p)
+  sum_one = record {
+    in_order = with_term_ordered m c p (ordered_term m c Zero k.ordered).first n.ordered;
+    worth = λ f. omega (arith, ints, worth-with_term f m c p);
+    size = omega (arith, size-with_term m c p);
+    weight = omega (arith, weight-with_term m c p);
+    inside = λ g h. fits-with_term m c p (and_left (fits_monomial m) true h) g;
+  }
+
+  pub one_more : weight_of p + unsigned_abs c ≤ weight_limit → size_of p + (1 + size_of_monomial m) ≤ size_limit → IsNormalFormOf (with_term m c p) (raw_sum p (Plus m c Zero))
+  one_more w s = sum_form p (Plus m c Zero) (with_term m c p) n k sum_one (omega (arith, w)) (omega (arith, s))
+
+  pub one_nonzero : int_eq c (pos 0) ≡ false
+  one_nonzero = (ordered_term m c Zero k.ordered).nonzero
+
+-- ---- a sum that grows by one monomial
+pub stands_within : (m : Monomial) (k : ℕ) (l : List (MonoTree × ℤ)) → begins_with m (terms_in (drop k l)) ≡ true → k < length l
+stands_within m zero [] w = absurd (cc w)
+stands_within m (suc k) [] w = absurd (cc w)
+stands_within m zero (x ∷ l) w = omega arith
+stands_within m (suc k) (x ∷ l) w = omega (arith, stands_within m k l w)
+
+module _ (l : List (MonoTree × ℤ)) (size weight k : ℕ) (m : Monomial) (c : ℤ) (have : IsMeasured (terms_in l) size weight) (one : IsNormal (Plus m c Zero)) (small : size + (1 + size_of_monomial m) ≤ size_limit) (narrow : weight + unsigned_abs c ≤ weight_limit)
+    (before : stand_before m (terms_in (take k l)) ≡ true) where
+  grown_form : IsNormalFormOf (with_term m c (terms_in l)) (raw_sum (terms_in l) (Plus m c Zero))
+  grown_form = one_more (terms_in l) m c have.normal one (omega (arith, have.has_weight, narrow)) (omega (arith, have.has_size, small))
+
+  module _ (q : Polynomial) (behind : begins_behind m (terms_in (drop k l)) ≡ true) (new : begins_with m (terms_in (drop k l)) ≡ false) (is : q ≡ raw_sum (terms_in (take k l)) (Plus m c (terms_in (drop k l)))) where
+    pub new_is : q ≡ with_term m c (terms_in l)
+    new_is = is ∙ put_new m c k l (one_nonzero (terms_in l) m c have.normal one) before behind new
+
+    pub new_measured : (s w : ℕ) → s ≡ size + (1 + size_of_monomial m) → w ≡ weight + unsigned_abs c → IsMeasured q s w
+    new_measured s w e f = record {
+      normal = subst IsNormal (sym new_is) grown_form.normal;
+      has_size =
+          let a = size-sum (terms_in (take k l)) (Plus m c (terms_in (drop k l))) in
+          let b = size-sum (terms_in (take k l)) (terms_in (drop k l)) in
+          let d : size_of (raw_sum (terms_in (take k l)) (terms_in (drop k l))) ≡ size_of (terms_in l) = ap size_of (split_at k l) in
+          let g : size_of q ≡ size_of (raw_sum (terms_in (take k l)) (Plus m c (terms_in (drop k l)))) = ap size_of is in
+          omega (arith, have.has_size, e, a, b, d, g);
+      has_weight =
+          let a = weight-sum (terms_in (take k l)) (Plus m c (terms_in (drop k l))) in
+          let b = weight-sum (terms_in (take k l)) (terms_in (drop k l)) in
+          let d : weight_of (raw_sum (terms_in (take k l)) (terms_in (drop k l))) ≡ weight_of (terms_in l) = ap weight_of (split_at k l) in
+          let g : weight_of q ≡ weight_of (raw_sum (terms_in (take k l)) (Plus m c (terms_in (drop k l)))) = ap weight_of is in
+          omega (arith, have.has_weight, f, a, b, d, g);
+    }
+
+  module _ (q : Polynomial) (old : begins_with m (terms_in (drop k l)) ≡ true) (is : q ≡ raw_sum (terms_in (take k l)) (with_more c (terms_in (drop k l)))) where
+    pub old_is : q ≡ with_term m c (terms_in l)
+    old_is = is ∙ put_old m c k l before old
+
+    pub old_normal : IsNormal q
+    old_normal = subst IsNormal (sym old_is) grown_form.normal

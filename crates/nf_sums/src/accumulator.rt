@@ -1,0 +1,296 @@
+//! Sums that grow.
+
+ghost use Rattle.std.specs.Prelude.{◌≡◌, ◌+◌, ◌≤◌, ◌<◌, ◌+ℤ◌, pos, true, map, take, drop, length, unsigned_abs, IfOk, IsTrue};
+ghost use Rattle.std.specs.Ordering.{int_eq};
+ghost use Rattle.nf_terms.specs.Terms.{Zero, Plus, polynomial_of};
+ghost use Rattle.nf_terms.specs.View.{monomial_in, term_in};
+ghost use Rattle.nf_terms.specs.Measures.{size_of, size_of_monomial, weight_of};
+ghost use Rattle.nf_terms.specs.Limits.{weight_limit, size_limit};
+ghost use Rattle.nf_terms.specs.Normal.{IsNormal, ordered};
+ghost use Rattle.nf_terms.specs.RawSums.{raw_sum, IsNormalFormOf};
+ghost use Rattle.nf_terms.specs.Computed.{Answers};
+ghost use Rattle.nf_sums.specs.Events.{IsNarrow, IsSmall, StopsAtEvent};
+ghost use Rattle.nf_sums.specs.Operations.{added};
+ghost use Rattle.nf_sums.specs.Forms.{with_term};
+ghost use Rattle.nf_sums.specs.Accumulators.{stand_before, begins_behind, begins_with, coefficient_of, with_first, with_more, IsMeasured};
+
+use crate::merge::{Sign, merged};
+use nf_terms::limits::{SIZE_LIMIT, WEIGHT_LIMIT};
+use nf_terms::measures::{size_of_mono, size_of_poly, weight_of_poly};
+use nf_terms::order::compare_monos;
+use nf_terms::poly::Poly;
+use nf_terms::stop::{NfStop, NoMemory};
+use nf_terms::tree::{MonoTree, PolyTree};
+use std::alloc::Global;
+use std::marker::Model;
+
+// How many of the terms stand before a monomial: they are halved until the place is found.
+fn place_of(terms: &[(MonoTree, i128)], mono: &MonoTree) -> usize
+    requires { IsTrue (ordered (polynomial_of (map term_in terms.now))) }
+    ensures within { result ≤ length terms.now }
+    ensures before { stand_before (monomial_in mono.now) (polynomial_of (map term_in (take result terms.now))) ≡ true }
+    ensures behind { begins_behind (monomial_in mono.now) (polynomial_of (map term_in (drop result terms.now))) ≡ true }
+{
+    let mut low = 0;
+    let mut high = terms.len();
+    while low < high {
+        let middle = low + (high - low) / 2;
+        let (other, _coefficient) = &terms[middle];
+        if compare_monos(other, mono).is_lt() {
+            low = middle + 1;
+        } else {
+            high = middle;
+        }
+    }
+    low
+}
+
+// Whether a monomial stands at a place.
+fn stands_at(terms: &[(MonoTree, i128)], place: usize, mono: &MonoTree) -> bool
+    ensures { result ≡ begins_with (monomial_in mono.now) (polynomial_of (map term_in (drop place terms.now))) }
+{
+    match terms.get(place) {
+        Some((other, _coefficient)) => compare_monos(mono, other).is_eq(),
+        None => false,
+    }
+}
+
+// Terms with their size and their weight.
+#[derive(Drop)]
+struct Measured {
+    terms: Vec<(MonoTree, i128)>,
+    size: u64,
+    weight: u128,
+}
+
+// A term put at a place.
+#[tactic(auto, using(crate::proofs::Placed::terms_joined))]
+fn put_at(
+    alloc: Global,
+    sum: Measured,
+    place: usize,
+    mono: &MonoTree,
+    coefficient: &i128,
+) -> Result<Measured, NoMemory>
+    requires within { place ≤ length sum.terms.items }
+    requires small { sum.size + (1 + size_of_monomial (monomial_in mono.now)) ≤ size_limit }
+    requires narrow { sum.weight + unsigned_abs coefficient.now ≤ weight_limit }
+    ensures sum { IfOk result (λ s. polynomial_of (map term_in s.terms.items) ≡ raw_sum (polynomial_of (map term_in (take place sum.terms.items))) (Plus (monomial_in mono.now) coefficient.now (polynomial_of (map term_in (drop place sum.terms.items))))) }
+    ensures size { IfOk result (λ s. s.size ≡ sum.size + (1 + size_of_monomial (monomial_in mono.now))) }
+    ensures weight { IfOk result (λ s. s.weight ≡ sum.weight + unsigned_abs coefficient.now) }
+{
+    let mut terms = sum.terms;
+    let size = sum.size + (1 + size_of_mono(mono));
+    let weight = sum.weight + coefficient.unsigned_abs();
+    terms.insert(place, (mono.try_clone(alloc)?, *coefficient))?;
+    Ok(Measured {
+        terms,
+        size,
+        weight,
+    })
+}
+
+// Terms with their measures, which are taken anew.
+fn with_measures(terms: Vec<(MonoTree, i128)>) -> Measured
+    requires { IsNormal (polynomial_of (map term_in terms.items)) }
+    ensures same { result.terms ≡ terms }
+    ensures measured { IsMeasured (polynomial_of (map term_in result.terms.items)) result.size result.weight }
+{
+    let tree = PolyTree { monos: terms };
+    let size = size_of_poly(&tree);
+    let weight = weight_of_poly(&tree);
+    Measured {
+        terms: tree.monos,
+        size,
+        weight,
+    }
+}
+
+// Two coefficients together.
+fn together(first: &i128, second: &i128) -> i128
+    requires { unsigned_abs first.now + unsigned_abs second.now ≤ weight_limit }
+    ensures { result ≡ first.now +ℤ second.now }
+{
+    *first + *second
+}
+
+// The coefficient at a place and another together.
+fn total_at(terms: &[(MonoTree, i128)], place: usize, more: &i128) -> i128
+    requires within { place < length terms.now }
+    requires narrow { weight_of (polynomial_of (map term_in terms.now)) + unsigned_abs more.now ≤ weight_limit }
+    ensures { result ≡ more.now +ℤ coefficient_of (polynomial_of (map term_in (drop place terms.now))) }
+{
+    let (_mono, coefficient) = &terms[place];
+    together(more, coefficient)
+}
+
+// Whether a number is 0.
+fn is_zero(number: &i128) -> bool
+    ensures { result ≡ int_eq number.now (pos 0) }
+{
+    *number == 0
+}
+
+// A coefficient in place of the one at a place; the monomial goes where it is 0.
+fn replace_at(terms: &mut Vec<(MonoTree, i128)>, place: usize, total: &i128)
+    requires { place < length terms.old.items }
+    ensures { polynomial_of (map term_in terms.new.items) ≡ raw_sum (polynomial_of (map term_in (take place terms.old.items))) (with_first total.now (polynomial_of (map term_in (drop place terms.old.items)))) }
+{
+    if is_zero(total) {
+        terms.remove(place);
+    } else {
+        terms[place].1 = *total;
+    }
+}
+
+// A coefficient more for the term at a place.
+fn add_at(terms: &mut Vec<(MonoTree, i128)>, place: usize, more: &i128)
+    requires within { place < length terms.old.items }
+    requires narrow { weight_of (polynomial_of (map term_in terms.old.items)) + unsigned_abs more.now ≤ weight_limit }
+    ensures { polynomial_of (map term_in terms.new.items) ≡ raw_sum (polynomial_of (map term_in (take place terms.old.items))) (with_more more.now (polynomial_of (map term_in (drop place terms.old.items)))) }
+{
+    let total = total_at(terms, place, more);
+    replace_at(terms, place, &total);
+}
+
+// A normal sum and one monomial more.
+fn with_one(
+    alloc: Global,
+    sum: Measured,
+    mono: &MonoTree,
+    coefficient: &i128,
+) -> Result<Measured, NoMemory>
+    requires measured { IsMeasured (polynomial_of (map term_in sum.terms.items)) sum.size sum.weight }
+    requires term { IsNormal (Plus (monomial_in mono.now) coefficient.now Zero) }
+    requires small { sum.size + (1 + size_of_monomial (monomial_in mono.now)) ≤ size_limit }
+    requires narrow { sum.weight + unsigned_abs coefficient.now ≤ weight_limit }
+    ensures sum { IfOk result (λ s. polynomial_of (map term_in s.terms.items) ≡ with_term (monomial_in mono.now) coefficient.now (polynomial_of (map term_in sum.terms.items))) }
+    ensures measured { IfOk result (λ s. IsMeasured (polynomial_of (map term_in s.terms.items)) s.size s.weight) }
+{
+    let place = place_of(&sum.terms, mono);
+    if !stands_at(&sum.terms, place, mono) {
+        return Ok(put_at(alloc, sum, place, mono, coefficient)?);
+    }
+    let mut terms = sum.terms;
+    add_at(&mut terms, place, coefficient);
+    Ok(with_measures(terms))
+}
+
+/// A normal polynomial that grows: one monomial more is put in its place, and the others are left alone.
+#[derive(Drop)]
+pub struct Accumulator {
+    sum: Measured,
+}
+
+impl Model for Accumulator {
+    ghost use Rattle.std.specs.Prelude.{map};
+    ghost use Rattle.nf_terms.specs.Terms.{Polynomial, polynomial_of};
+    ghost use Rattle.nf_terms.specs.Codes.{coded_polynomial};
+    ghost use Rattle.nf_terms.specs.View.{term_in};
+    ghost use Rattle.nf_sums.specs.Accumulators.{IsMeasured};
+
+    ghost Value = { Polynomial };
+
+    ghost coded = { coded_polynomial };
+
+    ghost view = { λ a. polynomial_of (map term_in a.sum.terms.items) };
+
+    ghost invariant = { λ a. IsMeasured (polynomial_of (map term_in a.sum.terms.items)) a.sum.size a.sum.weight };
+}
+
+impl Accumulator {
+    /// The sum of nothing, which is 0. It takes no memory.
+    #[tactic(auto, using(nf_terms::proofs::Simple::simple))]
+    pub fn new(alloc: Global) -> Accumulator
+        ensures { result ≡ Zero }
+    {
+        Accumulator {
+            sum: Measured {
+                terms: Vec::new(alloc),
+                size: 0,
+                weight: 0,
+            },
+        }
+    }
+
+    /// The polynomial.
+    pub fn into_poly(self) -> Poly
+        ensures { result ≡ self }
+    {
+        Poly::from_normal(PolyTree {
+            monos: self.sum.terms,
+        })
+    }
+
+    // Looks whether the sum with a polynomial is narrow and small.
+    fn check(&self, p: &Poly) -> Result<(), NfStop>
+        ensures events { StopsAtEvent self.now p.now (weight_of self.now + weight_of p.now) (size_of self.now + size_of p.now) result }
+        ensures left { IsNormal self.now }
+        ensures right { IsNormal p.now }
+    {
+        if self.sum.weight + p.weight() > WEIGHT_LIMIT {
+            return Err(NfStop::Wide {
+                left: self.sum.weight,
+                right: p.weight(),
+            });
+        }
+        let units = self.sum.size + p.size();
+        if units > SIZE_LIMIT {
+            return Err(NfStop::Large { units, depth: 0 });
+        }
+        Ok(())
+    }
+
+    // The sum with a polynomial of one monomial.
+    fn with_term(
+        self,
+        alloc: Global,
+        mono: &MonoTree,
+        coefficient: &i128,
+    ) -> Result<Accumulator, NoMemory>
+        requires term { IsNormal (Plus (monomial_in mono.now) coefficient.now Zero) }
+        requires small { size_of self + (1 + size_of_monomial (monomial_in mono.now)) ≤ size_limit }
+        requires narrow { weight_of self + unsigned_abs coefficient.now ≤ weight_limit }
+        ensures { IfOk result (λ s. IsNormalFormOf s (raw_sum self (Plus (monomial_in mono.now) coefficient.now Zero))) }
+    {
+        Ok(Accumulator {
+            sum: with_one(alloc, self.sum, mono, coefficient)?,
+        })
+    }
+
+    // The sum with any polynomial: both are merged.
+    fn merged_with(self, alloc: Global, p: &Poly) -> Result<Accumulator, NoMemory>
+        requires narrow { IsNarrow (weight_of self + weight_of p.now) }
+        requires small { IsSmall (size_of self + size_of p.now) }
+        ensures { IfOk result (λ s. IsNormalFormOf s (raw_sum self p.now)) }
+    {
+        let terms = merged(alloc, &self.sum.terms, p.monos(), Sign::Plus)?;
+        Ok(Accumulator {
+            sum: with_measures(terms),
+        })
+    }
+
+    // The sum with a polynomial, where it is narrow and small.
+    fn joined(self, alloc: Global, p: &Poly) -> Result<Accumulator, NoMemory>
+        requires narrow { IsNarrow (weight_of self + weight_of p.now) }
+        requires small { IsSmall (size_of self + size_of p.now) }
+        ensures { IfOk result (λ s. IsNormalFormOf s (raw_sum self p.now)) }
+    {
+        match p.monos() {
+            [(mono, coefficient)] => self.with_term(alloc, mono, coefficient),
+            _ => self.merged_with(alloc, p),
+        }
+    }
+
+    /// The sum with one polynomial more: the normal form of the one raw sum after the other.
+    ///
+    /// `Wide` comes exactly where the sum of the weights is past 2^127 - 1, and carries the two weights.
+    /// `Large` comes exactly where it is not and the sum of the sizes is past 4,096, and carries that sum, with depth 0.
+    /// `NoMemory` comes where memory is refused.
+    pub fn add(self, alloc: Global, p: &Poly) -> Result<Accumulator, NfStop>
+        ensures { Answers result (added self p.now) }
+    {
+        self.check(p)?;
+        Ok(self.joined(alloc, p)?)
+    }
+}

@@ -1,0 +1,6 @@
+pub mod Passing
+pub mod Agreement
+pub mod Results
+pub mod Writing
+pub mod Substituted
+pub mod Mentioned

@@ -1,0 +1,67 @@
+//! Sizes, depths and weights.
+
+use crate::forms::written_form;
+use crate::trouble::Trouble;
+use nf_terms::form::Nf;
+use std::alloc::Global;
+
+// The weight of a sum, and 0 of other forms.
+fn weight(form: &Nf) -> u128 {
+    match form {
+        Nf::Num(sum) => sum.weight(),
+        Nf::Arr(_) | Nf::Seq(_) => 0,
+    }
+}
+
+fn number(cell: &str) -> u128 {
+    cell.trim().parse::<u128>().unwrap_or(u128::MAX)
+}
+
+// Whether the form of a row has its size, its depth and its weight.
+fn has_measures(alloc: Global, row: &str) -> Result<bool, Trouble> {
+    let (text, cells) = row.split_once(':').unwrap_or((row, ""));
+    let form = written_form(alloc, text)?;
+    let mut cells = cells.split(',');
+    let size = number(cells.next().unwrap_or(""));
+    let depth = number(cells.next().unwrap_or(""));
+    Ok(
+        size == form.size() as u128
+            && depth == form.depth() as u128
+            && number(cells.next().unwrap_or("")) == weight(&form),
+    )
+}
+
+// A text: its size, its depth, its weight.
+const MEASURES: &str = "0: 0, 0, 0
+7: 1, 0, 7
+a: 2, 0, 1
+a b *: 3, 0, 1
+a b +: 4, 0, 2
+-3 a * 5 +: 3, 0, 8
+a b /: 6, 1, 1
+2 a / b /: 9, 2, 1
+@m 0 []: 3, 1, 1
+@m a b / []: 9, 2, 1
+@m 0 [] b /: 7, 2, 1
+@m @m 0 [] []: 6, 2, 1
+@m: 1, 0, 0
+@m 0 0 {}: 2, 1, 0
+@m @m 0 [] 0 {}: 5, 2, 0
+@m a 1 {} b []: 9, 1, 1
+@m 0 a {} b []: 8, 1, 1
+@m a b / 1 {} b []: 13, 2, 1
+m~64: 192, 64, 1
+a^4095: 4096, 0, 1
+#0: 1, 0, 0
+#s: 1, 0, 0
+#s 1 << a b + <<: 8, 1, 0
+#s a b / <<: 8, 2, 0
+";
+
+#[test]
+fn sizes_depths_and_weights(rt: HostRuntime) {
+    let alloc = rt.alloc();
+    for row in MEASURES.lines() {
+        assert!(rt; has_measures(alloc, row).unwrap_or(false), "{row}");
+    }
+}

@@ -1,0 +1,89 @@
+//! Which trees are normal forms.
+
+use crate::forms::normal;
+use crate::trees::tree_of;
+use std::alloc::Global;
+
+// Whether a text is a tree, and the tree a normal form.
+fn is_normal(alloc: Global, text: &str) -> Option<bool> {
+    match tree_of(alloc, text) {
+        Ok(tree) => Some(normal(tree).is_some()),
+        Err(_) => None,
+    }
+}
+
+const NORMAL: &str = "0
+-5
+a b *
+a a *
+a b +
+a 1 +
+a b * a + b + -1 +
+2 a /
+a 0 /
+a 2 %
+@m 0 []
+@m a []
+@m 0 2 {} a []
+@m a 2 {} b []
+@m
+@0
+@m 0 2 {} 1 2 {}
+@m a 1 {} b 2 {} a 1 + 3 {}
+@m a 1 {} a 1 + 3 {} b 2 {}
+@m @m 0 [] 0 {}
+170141183460469231731687303715884105727 a *
+170141183460469231731687303715884105726 a * 1 +
+@m 170141183460469231731687303715884105727 []
+a^4095
+m~64
+";
+
+const NOT_NORMAL: &str = "b a *
+A a *
+b a +
+1 a +
+a a +
+none
+a none +
+1 2 /
+0 0 %
+@0 a []
+@0 0 []
+@m a 5 {} a []
+@m a 5 {} a 1 + []
+@m a 1 + 5 {} a 6 {}
+@m 1 2 {} 0 2 {}
+@m a 1 {} a 2 {}
+@m a 1 {} b 2 {} a 3 {}
+@m b a + []
+@m b a * 1 {}
+@m 0 b a + {}
+b a + c /
+a 1 2 / %
+170141183460469231731687303715884105727 a * 1 +
+-170141183460469231731687303715884105728 a *
+@m 170141183460469231731687303715884105727 a * 1 + []
+@m 0 170141183460469231731687303715884105727 a * 1 + {}
+170141183460469231731687303715884105727 a * 1 + b /
+a^4096
+m~65
+@m a^4095 0 {}
+@m m~64 0 {}
+";
+
+#[test]
+fn trees_that_are_normal_forms(rt: HostRuntime) {
+    let alloc = rt.alloc();
+    for row in NORMAL.lines() {
+        assert!(rt; is_normal(alloc, row) == Some(true), "{row}");
+    }
+}
+
+#[test]
+fn trees_that_are_none(rt: HostRuntime) {
+    let alloc = rt.alloc();
+    for row in NOT_NORMAL.lines() {
+        assert!(rt; is_normal(alloc, row) == Some(false), "{row}");
+    }
+}
