@@ -4,8 +4,11 @@ use Rattle.std.specs.Prelude.{Some, None, is_some, IsSome, map, ◌&&◌, not, �
 use Rattle.std.specs.List.{filter, AllByRecursion}
 use Rattle.std.specs.Option.{option_or}
 use Rattle.std.specs.Str.{bytes_eq}
+use Rattle.std.specs.Bool.{Decides}
+use Rattle.std.proofs.lemmas.Bool.Decides.{Decides-like}
 use Rattle.std.proofs.lemmas.Bool.{false≢true}
 use Rattle.std.proofs.lemmas.Slice.Eq.{bytes_eq-Decides}
+use Rattle.fs_model.proofs.Truth.{not_false, and_left}
 use Rattle.fs_model.specs.declared.parts.Role.{Role}
 use Rattle.fs_model.specs.declared.parts.Role.TheVariants.{Input, Output, Local}
 use Rattle.fs_model.specs.declared.parts.VarInfo.{VarInfo}
@@ -15,7 +18,7 @@ use Rattle.fs_runs.specs.declared.values.Value.{Value}
 use Rattle.fs_runs.specs.Values.{content_of}
 use Rattle.fs_runs.specs.Outcomes.{Outputs, output_names, told, told_by, HoldsEach}
 use Rattle.fs_pair.specs.Interfaces.{is_interface, same_role, same_sort, named, is_like, lacks_match, first_unmatched, interface_fault}
-use Rattle.fs_show.specs.Items.{SameOutputs}
+use Rattle.fs_show.specs.Items.{SameOutputs, AgreeOn}
 
 some_differs : {X : Type 0} (x : X) → Some x ≢ None
 some_differs x e = false≢true (sym (ap is_some e))
@@ -56,20 +59,12 @@ record Partner (o : Option VarInfo) : Type 0 where
   pub is : o ≡ Some variable
   pub out : is_output variable.role ≡ true
 
-turned : (b : Bool) → not b ≡ false → b ≡ true
-turned true h = refl
-turned false h = sym h
-
-first_of : (a b : Bool) → (a && b) ≡ true → a ≡ true
-first_of true b h = refl
-first_of false b h = h
-
 -- what has a match, and is an output, has an output as its match
 partner : (v : VarInfo) (o : Option VarInfo) → is_output v.role ≡ true → (is_interface v.role && not (is_like v o)) ≡ false → Partner o
 partner v None out match = absurd (false≢true (sym (subst (λ b. (b && true) ≡ false) (interface_of v.role out) match)))
 partner v (Some u) out match =
     let like : not (same_role v.role u.role && same_sort v.sort u.sort) ≡ false = subst (λ b. (b && not (same_role v.role u.role && same_sort v.sort u.sort)) ≡ false) (interface_of v.role out) match in
-    record { variable = u; is = refl; out = output_like v.role u.role out (first_of (same_role v.role u.role) (same_sort v.sort u.sort) (turned (same_role v.role u.role && same_sort v.sort u.sort) like)) }
+    record { variable = u; is = refl; out = output_like v.role u.role out (and_left (same_role v.role u.role) (same_sort v.sort u.sort) (not_false (same_role v.role u.role && same_sort v.sort u.sort) like)) }
 
 -- what holds of the others' output names holds of those that have a match there
 pub carried : (P : List ℕ → Type 0) (vs others : List VarInfo) → first_unmatched vs others ≡ None → AllByRecursion P (output_names others) → AllByRecursion P (output_names vs)
@@ -128,3 +123,10 @@ same_everywhere a b us vs none all name =
 pub each_same : (left right : Outputs) (ns : List (List ℕ)) → SameOutputs left right → AllByRecursion (λ n. left n ≡ right n) ns
 each_same left right [] same = tt
 each_same left right (n ∷ ns) same = (same n, each_same left right ns same)
+
+-- that the outputs of the left machine agree decides that all do
+pub told_same : (a b : Fsmd) (us vs lefts rights : List Value) (same : Bool) → interface_fault a b ≡ None → lefts ≡ us → rights ≡ vs → Decides same (AgreeOn (told_by a lefts) (told_by b rights) (output_names a.variables))
+    → Decides same (SameOutputs (told_by a us) (told_by b vs))
+told_same a b us vs lefts rights same none left right told =
+    Decides-like same (same_everywhere a b us vs none) (each_same (told_by a us) (told_by b vs) (output_names a.variables))
+    (subst (λ ws. Decides same (AgreeOn (told_by a us) (told_by b ws) (output_names a.variables))) right (subst (λ ws. Decides same (AgreeOn (told_by a ws) (told_by b rights) (output_names a.variables))) left told))

@@ -5,6 +5,7 @@ use Rattle.std.specs.List.{filter}
 use Rattle.std.specs.Option.{option_or}
 use Rattle.std.specs.Str.{bytes_eq}
 use Rattle.std.proofs.lemmas.Bool.{false≢true}
+use Rattle.fs_model.proofs.Truth.{not_false, and_left, and_right}
 use Rattle.fs_model.specs.declared.parts.Role.{Role}
 use Rattle.fs_model.specs.declared.parts.Role.TheVariants.{Input, Output, Local}
 use Rattle.fs_model.specs.declared.parts.Sort.{Sort}
@@ -62,18 +63,6 @@ input_like Input Local h s = absurd (false≢true s)
 input_like Output q h s = absurd (false≢true h)
 input_like Local q h s = absurd (false≢true h)
 
-turned : (b : Bool) → not b ≡ false → b ≡ true
-turned true h = refl
-turned false h = sym h
-
-first_of : (a b : Bool) → (a && b) ≡ true → a ≡ true
-first_of true b h = refl
-first_of false b h = h
-
-second_of : (a b : Bool) → (a && b) ≡ true → b ≡ true
-second_of true b h = h
-second_of false b h = absurd (false≢true h)
-
 record Partner (v : VarInfo) (o : Option VarInfo) : Type 0 where
   variable : VarInfo
   found : o ≡ Some variable
@@ -84,12 +73,12 @@ partner : (v : VarInfo) (o : Option VarInfo) → is_input v.role ≡ true → (i
 partner v None inp match = absurd (false≢true (sym (subst (λ b. (b && true) ≡ false) (input_interface v.role inp) match)))
 partner v (Some u) inp match =
     let like : (same_role v.role u.role && same_sort v.sort u.sort) ≡ true =
-    turned (same_role v.role u.role && same_sort v.sort u.sort) (subst (λ b. (b && not (same_role v.role u.role && same_sort v.sort u.sort)) ≡ false) (input_interface v.role inp) match) in
+    not_false (same_role v.role u.role && same_sort v.sort u.sort) (subst (λ b. (b && not (same_role v.role u.role && same_sort v.sort u.sort)) ≡ false) (input_interface v.role inp) match) in
     record {
       variable = u;
       found = refl;
-      input = input_like v.role u.role inp (first_of (same_role v.role u.role) (same_sort v.sort u.sort) like);
-      sort = sym (sorts_same v.sort u.sort (second_of (same_role v.role u.role) (same_sort v.sort u.sort) like));
+      input = input_like v.role u.role inp (and_left (same_role v.role u.role) (same_sort v.sort u.sort) like);
+      sort = sym (sorts_same v.sort u.sort (and_right (same_role v.role u.role) (same_sort v.sort u.sort) like));
     }
 
 -- and stands among the signatures of the inputs

@@ -1,6 +1,6 @@
 //! The text of a replay: what two runs answered, side by side.
 
-ghost use Rattle.std.specs.Prelude.{◌≡◌, ◌++◌, ◌∷◌, [], Option, None, List, ℕ, map, option_map, IfOk, codes};
+ghost use Rattle.std.specs.Prelude.{◌≡◌, ◌++◌, ◌∷◌, [], Option, None, List, map, option_map, IfOk};
 ghost use Rattle.std.specs.Bool.{Decides};
 ghost use Rattle.std.specs.Result.{OnOk};
 ghost use Rattle.fs_pair.specs.Interfaces.{interface_fault};
@@ -41,21 +41,32 @@ pub fn replay_text(
     ensures same { IfOk result (λ r. Decides r.same (SameOutputs (told_by left.now left_end.now.outputs.items) (told_by right.now right_end.now.outputs.items))) }
     ensures text { IfOk result (λ r. IsReplayText (output_names left.now.variables) (told_by left.now left_end.now.outputs.items) (told_by right.now right_end.now.outputs.items) r.text.items) }
 {
-    let same = same_outputs(
-        alloc,
-        left,
-        left_end.outputs.as_slice(),
-        right,
-        right_end.outputs.as_slice(),
-    )?;
+    let same = same_outputs(alloc, left, left_end, right, right_end)?;
     let lefts = items(alloc, left, left, left_end.outputs.as_slice())?;
     let rights = items(alloc, left, right, right_end.outputs.as_slice())?;
     let text = side_by_side(alloc, same, lefts.as_slice(), rights.as_slice())?;
     Ok(Replay { same, text })
 }
 
+/// Whether two runs that ended, of machines with the same inputs and outputs, have the same outputs.
+/// Each is looked up by its name, up to the first that differs.
+pub fn same_outputs(
+    alloc: Global,
+    left: &Machine,
+    left_end: &Ended,
+    right: &Machine,
+    right_end: &Ended,
+) -> Result<bool, NoMemory>
+    requires { interface_fault left.now right.now ≡ None }
+    ensures { IfOk result (λ r. Decides r (SameOutputs (told_by left.now left_end.now.outputs.items) (told_by right.now right_end.now.outputs.items))) }
+{
+    let lefts = left_end.outputs.as_slice();
+    let rights = right_end.outputs.as_slice();
+    outputs_agree(alloc, left, lefts, right, rights)
+}
+
 // Whether the left machine's outputs hold the same on both sides.
-fn same_outputs(
+fn outputs_agree(
     alloc: Global,
     left: &Machine,
     lefts: &[Value],

@@ -1,0 +1,4 @@
+pub mod Lists
+pub mod Ranks
+pub mod Rounds
+pub mod Lawful

@@ -1,0 +1,44 @@
+-- Runs that end and runs that don't.
+use Rattle.std.proofs.Common.{◌≡◌, ℕ, ℤ, ◌+◌, ◌<◌, ◌≤◌, List, sym, ◌∙◌, ap, subst, inl, inr, arith}
+use Rattle.std.proofs.lemmas.Bool.{cases_lt}
+use Rattle.fs_model.specs.Machines.{Fsmd}
+use Rattle.fs_model.specs.Runs.{Inputs}
+use Rattle.fs_runs.specs.declared.run.Ended.{Ended}
+use Rattle.fs_runs.specs.declared.run.RunStop.{RunStop}
+use Rattle.fs_runs.specs.Outcomes.{IsStopped, IsOfRun, told_by}
+use Rattle.fs_runs.proofs.RunOnce.{one_end, end_or_stop}
+use Rattle.fs_show.specs.Items.{SameOutputs}
+use Rattle.fs_trials.specs.Pool.{pool_of}
+use Rattle.fs_trials.specs.Candidates.{candidate}
+use Rattle.fs_trials.specs.Differences.{ShowsDifference, DiffersAt, IsEnd, HasNoEnd}
+
+-- a run that was stopped has no end
+pub no_end : (m : Fsmd) (ins : Inputs) (limit : ℕ) (stop : RunStop) → IsStopped m ins limit stop → IsOfRun stop → HasNoEnd m ins limit
+no_end m ins limit stop stopped of_run = λ outs steps ends. end_or_stop m ins limit outs steps stop ends stopped of_run
+
+pub left_has_none : (a b : Fsmd) (ins : Inputs) (limit : ℕ) → HasNoEnd a ins limit → ¬ ShowsDifference a b ins limit
+left_has_none a b ins limit none d = none d.left d.left_steps d.left_ends
+
+pub right_has_none : (a b : Fsmd) (ins : Inputs) (limit : ℕ) → HasNoEnd b ins limit → ¬ ShowsDifference a b ins limit
+right_has_none a b ins limit none d = none d.right d.right_steps d.right_ends
+
+-- runs that end with the same outputs show no difference
+pub same_shows_none : (a b : Fsmd) (ins : Inputs) (limit : ℕ) (left right : Ended) → IsEnd a ins limit left → IsEnd b ins limit right → SameOutputs (told_by a left.outputs.items) (told_by b right.outputs.items) → ¬ ShowsDifference a b ins limit
+same_shows_none a b ins limit left right l r same d =
+    let lefts = (one_end a ins limit d.left (told_by a left.outputs.items) d.left_steps left.steps d.left_ends l.ends).0 in
+    let rights = (one_end b ins limit d.right (told_by b right.outputs.items) d.right_steps right.steps d.right_ends r.ends).0 in
+    d.differ (λ name. ap (λ o. o name) lefts ∙ same name ∙ sym (ap (λ o. o name) rights))
+
+-- what inputs do not show, their candidate does not
+pub at_candidate : (a b : Fsmd) (limit j : ℕ) (pool : List ℤ) (ins : Inputs) → ins ≡ candidate pool j a → pool ≡ pool_of a b → ¬ ShowsDifference a b ins limit → ¬ DiffersAt a b limit j
+at_candidate a b limit j pool ins e f none = subst (λ x. ¬ ShowsDifference a b x limit) (e ∙ ap (λ p. candidate p j a) f) none
+
+pub one_more : (P : ℕ → Type 0) (j : ℕ) → ((i : ℕ) → i < j → P i) → P j → (i : ℕ) → i < j + 1 → P i
+one_more P j before here i h =
+    elim (cases_lt i j) as (λ _. P i) [
+      | inl less ↦ before i less
+      | inr more ↦ let same : j ≡ i = omega arith in subst P same here
+    ]
+
+pub all_below : (P : ℕ → Type 0) (j count total : ℕ) → ((i : ℕ) → i < j → P i) → count ≤ j → count ≡ total → (i : ℕ) → i < total → P i
+all_below P j count total before done same i h = before i (omega arith)

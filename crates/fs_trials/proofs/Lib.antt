@@ -1,0 +1,3 @@
+pub mod Pools
+pub mod Given
+pub mod Apart

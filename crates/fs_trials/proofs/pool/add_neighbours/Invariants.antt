@@ -1,0 +1,8 @@
+use Rattle.std.proofs.Common.{◌≡◌, drop}
+use Rattle.std.specs.List.{fold, flat_map}
+use Rattle.fs_trials.specs.Pool.{neighbours, grown}
+use Rattle.fs_trials.proofs.pool.add_neighbours.Given as goal
+
+-- what the constants that are left add makes all of it
+abbrev pub invariant-loop-c : goal.invariant-loop-c
+invariant-loop-c l = fold grown l.pool.items (flat_map neighbours (drop l.c-index l.constants)) ≡ fold grown l.initial.pool.items (flat_map neighbours l.constants)

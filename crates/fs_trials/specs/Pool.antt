@@ -1,0 +1,44 @@
+-- The numbers of which candidate inputs are made.
+use Rattle.std.specs.Prelude.{ℕ, ◌^◌, nat_lt, nat_le, Bool, not, ◌||◌, cond, ℤ, pos, negsuc, ◌+ℤ◌, ◌-ℤ◌, List, [], ◌∷◌, ◌++◌, length, take}
+use Rattle.std.specs.List.{filter, flat_map, list_any}
+use Rattle.std.specs.Ordering.{int_eq}
+use Rattle.fs_model.specs.Machines.{Fsmd}
+use Rattle.fs_ast.specs.Sound.{numbers_in_states}
+
+-- the most numbers of a pool
+abbrev pub most_values : ℕ
+most_values = 24
+
+-- a number of 128 bits
+abbrev pub fits : ℤ → Bool
+fits (pos n) = nat_lt n (2 ^ 127)
+fits (negsuc n) = nat_lt n (2 ^ 127)
+
+-- the numbers with which each pool begins
+abbrev pub first_values : List ℤ
+first_values = pos 0 ∷ pos 1 ∷ negsuc 0 ∷ pos 2 ∷ []
+
+-- a number with the one before it and the one after it, as far as they have 128 bits
+abbrev pub neighbours : ℤ → List ℤ
+neighbours c = filter fits ((c -ℤ pos 1) ∷ c ∷ (c +ℤ pos 1) ∷ [])
+
+-- each number once, at its first place
+abbrev pub distinct : List ℤ → List ℤ
+distinct [] = []
+distinct (v ∷ vs) = v ∷ filter (λ w. not (int_eq v w)) (distinct vs)
+
+-- the pool that constants give, in their order
+abbrev pub pool_from : List ℤ → List ℤ
+pool_from constants = take most_values (distinct (first_values ++ flat_map neighbours constants))
+
+-- the pool of two machines: the constants of the left one come first
+abbrev pub pool_of : Fsmd → Fsmd → List ℤ
+pool_of a b = pool_from (numbers_in_states a.states ++ numbers_in_states b.states)
+
+-- a number stands in a list
+abbrev pub is_in : ℤ → List ℤ → Bool
+is_in v vs = list_any (λ w. int_eq w v) vs
+
+-- a list with one more number, where it has room and the number is new
+abbrev pub grown : List ℤ → ℤ → List ℤ
+grown vs v = cond (nat_le most_values (length vs) || is_in v vs) vs (vs ++ v ∷ [])

@@ -1,0 +1,11 @@
+//! Worked examples of candidate inputs, of first differences and of generated machines. The crate gives nothing.
+#![tactic(auto)]
+
+#[cfg(test)]
+mod differences;
+#[cfg(test)]
+mod generated;
+#[cfg(test)]
+mod machines;
+#[cfg(test)]
+mod pools;
