@@ -11,7 +11,8 @@ use Rattle.fs_pair.specs.declared.positions.Position.{Position}
 use Rattle.fs_pair.specs.SidedVariables.{SidedVariable, sided_variables, same_name_and_sort, partner_among, with_partners, is_alone, all_sided_variables, same_side, is_partner}
 use Rattle.fs_pair.specs.Positions.{position_of, positions}
 use Rattle.fs_pair.specs.Partners.{ComesLater}
-use Rattle.fs_pair.proofs.Tests.{neither_left, neither_right, not_true, same_back}
+use Rattle.fs_model.proofs.Truth.{neither_left, neither_right, not_true}
+use Rattle.fs_pair.proofs.Tests.{same_back}
 use Rattle.fs_pair.proofs.Variables.{all_at, all_append, all_filtered, all_paired, all_numbered, comes_from}
 use Rattle.fs_pair.proofs.Order.{IsRight, rights_are_right, left_is_right, found_by, weaker}
 

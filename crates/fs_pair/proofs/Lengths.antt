@@ -27,8 +27,11 @@ length-filter : {X : Type 0} (test : X → Bool) (xs : List X) → length (filte
 length-filter test [] = omega arith
 length-filter test (x ∷ xs) = grind (arith, length-filter test xs)
 
-pub length_all : (members : List Member) (left right : List VarInfo) → map sided_variable_of members ≡ all_sided_variables left right → length members ≤ 2 * length left + length right
-length_all members left right e =
+pub length_sided : (left right : List VarInfo) → length (all_sided_variables left right) ≤ 2 * length left + length right
+length_sided left right =
     let ls = sided_variables Left 0 left in
     let rs = sided_variables Right 0 right in
-    omega (arith, length-map members sided_variable_of, ap length e, length-append (with_partners ls rs) (filter (is_alone ls) rs), length-with_partners ls rs, length-filter (is_alone ls) rs, length-sided_variables Left 0 left, length-sided_variables Right 0 right)
+    omega (arith, length-append (with_partners ls rs) (filter (is_alone ls) rs), length-with_partners ls rs, length-filter (is_alone ls) rs, length-sided_variables Left 0 left, length-sided_variables Right 0 right)
+
+pub length_all : (members : List Member) (left right : List VarInfo) → map sided_variable_of members ≡ all_sided_variables left right → length members ≤ 2 * length left + length right
+length_all members left right e = omega (arith, length-map members sided_variable_of, ap length e, length_sided left right)

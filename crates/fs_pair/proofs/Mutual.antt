@@ -12,7 +12,8 @@ use Rattle.fs_pair.specs.declared.positions.Position.{Position}
 use Rattle.fs_pair.specs.SidedVariables.{SidedVariable, same_name_and_sort, all_sided_variables, same_side, is_partner}
 use Rattle.fs_pair.specs.Positions.{positions}
 use Rattle.fs_pair.specs.Partners.{variables_on}
-use Rattle.fs_pair.proofs.Tests.{and_left, and_right, both, not_true, same_side_self, third_side, same_name, same_back}
+use Rattle.fs_model.proofs.Truth.{and_left, and_right, and_both, not_true}
+use Rattle.fs_pair.proofs.Tests.{same_side_self, third_side, same_name, same_back}
 use Rattle.fs_pair.proofs.Variables.{comes_from, position_found, stands_at}
 use Rattle.fs_pair.proofs.Once.{many, own_number, once}
 use Rattle.fs_pair.proofs.Once as places
@@ -86,15 +87,15 @@ module _ (a b : Fsmd) (sound : IsSound a) (other : IsSound b) where
       let self : (s.pos.var == s.pos.var) ≡ true = grind (arith, nat_tests) in
       one_place (places.stands_at s.pos.side s.pos.var) all i k u s
       (omega (arith, once a b sound other s.pos.side s.pos.var (in_range (variables_on s.pos.side a b) s.pos.var s.variable (stands_at a b k s f))))
-      e (both (same_side u.pos.side s.pos.side) (u.pos.var == s.pos.var) (ap (λ (z : Side). same_side z s.pos.side) (sym d) ∙ same_side_self s.pos.side) same)
-      f (both (same_side s.pos.side s.pos.side) (s.pos.var == s.pos.var) (same_side_self s.pos.side) self)
+      e (and_both (same_side u.pos.side s.pos.side) (u.pos.var == s.pos.var) (ap (λ (z : Side). same_side z s.pos.side) (sym d) ∙ same_side_self s.pos.side) same)
+      f (and_both (same_side s.pos.side s.pos.side) (s.pos.var == s.pos.var) (same_side_self s.pos.side) self)
 
   -- from a variable to the partner of its partner
   returns_to : (k j : ℕ) (s t : SidedVariable) → slice_get all k ≡ Some s → slice_get all j ≡ Some t → is_partner s t ≡ true → position_from (is_partner t) 0 all ≡ Some k
   returns_to k j s t e f p =
       let apart : same_side s.pos.side t.pos.side ≡ false = not_true (same_side s.pos.side t.pos.side) (and_left (not (same_side s.pos.side t.pos.side)) (same_name_and_sort s.variable t.variable) p) in
       let alike : same_name_and_sort s.variable t.variable ≡ true = and_right (not (same_side s.pos.side t.pos.side)) (same_name_and_sort s.variable t.variable) p in
-      let back : is_partner t s ≡ true = both (not (same_side t.pos.side s.pos.side)) (same_name_and_sort t.variable s.variable) (ap not (side_back s.pos.side t.pos.side apart)) (same_back s.variable t.variable alike) in
+      let back : is_partner t s ≡ true = and_both (not (same_side t.pos.side s.pos.side)) (same_name_and_sort t.variable s.variable) (ap not (side_back s.pos.side t.pos.side apart)) (same_back s.variable t.variable alike) in
       let n : 0 + k ≡ k = omega arith in
       first_place (is_partner t) all 0 k s e back
       (λ i u g q.

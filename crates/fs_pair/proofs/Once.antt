@@ -15,7 +15,8 @@ use Rattle.nf_terms.specs.declared.tree.Side.TheVariants.{Left, Right}
 use Rattle.fs_pair.specs.SidedVariables.{SidedVariable, sided_variables, same_name_and_sort, partner_among, with_partners, is_alone, all_sided_variables, same_side}
 use Rattle.fs_pair.specs.Positions.{position_of, positions}
 use Rattle.fs_pair.specs.Partners.{variables_on, is_at}
-use Rattle.fs_pair.proofs.Tests.{and_left, and_right, both, or_right, neither_left, neither_right, not_true, as_often, same_side_self, same_name, same_back, same_both_ways}
+use Rattle.fs_model.proofs.Truth.{and_left, and_right, and_both, or_right, neither_left, neither_right, not_true}
+use Rattle.fs_pair.proofs.Tests.{as_often, same_side_self, same_name, same_back, same_both_ways}
 use Rattle.fs_pair.proofs.Variables.{all_numbered}
 
 -- whether it is variable x of a side
@@ -84,7 +85,7 @@ filter_count t g r (s ∷ xs) h =
 
 -- ---- numbered variables of one side
 at_self : (d : Side) (x y : ℕ) → (y == x) ≡ true → (same_side d d && (y == x)) ≡ true
-at_self d x y h = both (same_side d d) (y == x) (same_side_self d) h
+at_self d x y h = and_both (same_side d d) (y == x) (same_side_self d) h
 
 at_other : (d : Side) (x y : ℕ) → (y == x) ≡ false → (same_side d d && (y == x)) ≡ false
 at_other d x y h = ap (λ b. b && (y == x)) (same_side_self d) ∙ h

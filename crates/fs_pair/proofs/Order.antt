@@ -13,8 +13,9 @@ use Rattle.fs_pair.specs.declared.positions.Position.{Position}
 use Rattle.fs_pair.specs.SidedVariables.{SidedVariable, sided_variables, same_name_and_sort, partner_among, with_partners, is_alone, all_sided_variables, same_side, is_partner}
 use Rattle.fs_pair.specs.Positions.{position_of, positions}
 use Rattle.fs_pair.specs.Partners.{numbered}
-use Rattle.fs_pair.proofs.Tests.{and_left, and_right, not_true, same_name}
-use Rattle.fs_pair.proofs.Variables.{all_at, all_append, all_found, all_filtered, all_paired, all_numbered, comes_from, position_found}
+use Rattle.fs_model.proofs.Truth.{and_left, and_right, not_true}
+use Rattle.fs_pair.proofs.Tests.{same_name}
+use Rattle.fs_pair.proofs.Variables.{all_at, all_append, all_found, all_filtered, all_paired, all_numbered, comes_from, first_found}
 use Rattle.fs_pair.proofs.Mutual.{one_variable}
 
 -- ---- the left ones
@@ -166,10 +167,8 @@ module _ (a b : Fsmd) (sound : IsSound a) (other : IsSound b) where
   partner_follows k j p e d h =
       let r = comes_from all all k p e in
       let s = r.from in
-      let f = position_found (is_partner s) all 0 j (sym (ap (λ (q : Position). q.partner) r.is) ∙ h) in
+      let f = first_found (is_partner s) all j (sym (ap (λ (q : Position). q.partner) r.is) ∙ h) in
       let t = f.found in
-      let n : f.place ≡ j = omega (arith, f.number) in
-      let at_j : slice_get all j ≡ Some t = subst (λ i. slice_get all i ≡ Some t) n f.at in
       let left : s.pos.side ≡ Left = sym (ap (λ (q : Position). q.pos.side) r.is) ∙ d in
       let apart : same_side s.pos.side t.pos.side ≡ false = not_true (same_side s.pos.side t.pos.side) (and_left (not (same_side s.pos.side t.pos.side)) (same_name_and_sort s.variable t.variable) f.passes) in
-      follow_by k j s t r.at at_j left (other_is_right s.pos.side t.pos.side left apart) (and_right (not (same_side s.pos.side t.pos.side)) (same_name_and_sort s.variable t.variable) f.passes) (partner_among rs s.variable) refl
+      follow_by k j s t r.at f.at left (other_is_right s.pos.side t.pos.side left apart) (and_right (not (same_side s.pos.side t.pos.side)) (same_name_and_sort s.variable t.variable) f.passes) (partner_among rs s.variable) refl

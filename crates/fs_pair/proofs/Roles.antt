@@ -1,7 +1,6 @@
 -- A partner has the same role, where no input or output lacks a match.
 use Rattle.std.proofs.Common.{◌≡◌, ℕ, zero, suc, List, [], ◌∷◌, map, ap, sym, refl, ◌∙◌, Option, Some, None, Bool, true, false, cond}
 use Rattle.std.specs.Prelude.{not, ◌&&◌, slice_get}
-use Rattle.std.specs.Option.{option_or}
 use Rattle.std.specs.Str.{bytes_eq}
 use Rattle.std.proofs.lemmas.Slice.Eq.{bytes_eq-Decides}
 use Rattle.fs_model.specs.declared.parts.Role.{Role}
@@ -16,6 +15,7 @@ use Rattle.fs_pair.specs.Interfaces.{is_interface, same_role, same_sort, named, 
 use Rattle.fs_pair.specs.SidedVariables.{same_side}
 use Rattle.fs_pair.specs.Partners.{variables_on, HasPartner}
 use Rattle.fs_pair.proofs.Once.{another_name, others_differ}
+use Rattle.fs_pair.proofs.Tests.{left_none, right_none}
 
 -- where names differ, the variable of a name is the one that has it
 own_name : (vs : List VarInfo) (j : ℕ) (v : VarInfo) → names_differ (map (λ u. u.name) vs) ≡ true → slice_get vs j ≡ Some v → named vs v.name ≡ Some v
@@ -38,14 +38,6 @@ has_match : (vs others : List VarInfo) (j : ℕ) (v : VarInfo) → first_unmatch
 has_match [] others j v u e = absurd (cc e)
 has_match (x ∷ vs) others zero v u e = let s : x ≡ v = cc e in ap (lacks_match others) (sym s) ∙ (step (lacks_match others x) x.name (first_unmatched vs others) u).0
 has_match (x ∷ vs) others (suc j) v u e = has_match vs others j v (step (lacks_match others x) x.name (first_unmatched vs others) u).1 e
-
-left_none : (o p : Option (List ℕ)) → option_or o p ≡ None → o ≡ None
-left_none None p e = refl
-left_none (Some x) p e = absurd (cc e)
-
-right_none : (o p : Option (List ℕ)) → option_or o p ≡ None → p ≡ None
-right_none None p e = e
-right_none (Some x) p e = absurd (cc e)
 
 -- two roles of which each matches the other, if it is one of the interface
 one_role : (r q : Role) (c d : Bool) → is_interface r && not (same_role r q && c) ≡ false → is_interface q && not (same_role q r && d) ≡ false → r ≡ q

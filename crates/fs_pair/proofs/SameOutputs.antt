@@ -2,7 +2,6 @@
 use Rattle.std.proofs.Common.{◌≡◌, ℕ, ◌+◌, List, [], ◌∷◌, ap, sym, refl, ◌∙◌, subst, Option, Some, None, Bool, true, false, cond}
 use Rattle.std.specs.Prelude.{not, ◌&&◌, option_map}
 use Rattle.std.specs.List.{position_from, AllByRecursion}
-use Rattle.std.specs.Option.{option_or}
 use Rattle.std.specs.Str.{bytes_eq}
 use Rattle.std.proofs.lemmas.Slice.Eq.{bytes_eq-Decides}
 use Rattle.fs_model.specs.declared.parts.Role.{Role}
@@ -12,7 +11,8 @@ use Rattle.fs_model.specs.declared.parts.VarInfo.{VarInfo}
 use Rattle.fs_model.specs.Machines.{Fsmd}
 use Rattle.fs_model.specs.Stores.{Store}
 use Rattle.fs_model.specs.Runs.{Content, is_output, content, output_from, output}
-use Rattle.fs_pair.proofs.Tests.{and_left, and_right, not_false, same_sort_is}
+use Rattle.fs_model.proofs.Truth.{and_left, and_right, not_false}
+use Rattle.fs_pair.proofs.Tests.{same_sort_is, left_none, right_none}
 use Rattle.fs_pair.specs.Interfaces.{is_interface, same_role, same_sort, named, is_like, lacks_match, first_unmatched, interface_fault}
 use Rattle.fs_pair.specs.Outputs.{OutputPair, output_pairs, Agree}
 
@@ -176,14 +176,6 @@ both_places P lefts rights name k σ u h e =
 trivial : (os : List OutputPair) → AllByRecursion (λ o. Unit {0}) os
 trivial [] = tt
 trivial (o ∷ os) = (tt, trivial os)
-
-left_none : (o p : Option (List ℕ)) → option_or o p ≡ None → o ≡ None
-left_none None p e = refl
-left_none (Some x) p e = absurd (cc e)
-
-right_none : (o p : Option (List ℕ)) → option_or o p ≡ None → p ≡ None
-right_none None p e = e
-right_none (Some x) p e = absurd (cc e)
 
 module _ (a b : Fsmd) (s u : Store) (matched : interface_fault a b ≡ None) (all : AllByRecursion (Agree s u) (output_pairs 0 a.variables b.variables)) (name : List ℕ) where
   by_places : (o : Option NumberedOutput) → output_place a.variables 0 name ≡ o → (r : Option NumberedOutput) → output_place b.variables 0 name ≡ r → held_at s o ≡ held_at u r

@@ -1,8 +1,9 @@
 -- What tests of names, sorts and sides say.
-use Rattle.std.proofs.Common.{◌≡◌, sym, refl, ◌∙◌, ap, Bool, true, false}
-use Rattle.std.specs.Prelude.{not, ◌&&◌, ◌||◌}
+use Rattle.std.proofs.Common.{◌≡◌, sym, refl, ◌∙◌, ap, Bool, true, false, ℕ, List, Option, Some, None}
+use Rattle.std.specs.Option.{option_or}
 use Rattle.std.specs.Str.{bytes_eq}
 use Rattle.std.proofs.lemmas.Slice.Eq.{bytes_eq-Decides}
+use Rattle.fs_model.proofs.Truth.{and_left, and_right, and_both}
 use Rattle.fs_model.specs.declared.parts.Sort.{Sort}
 use Rattle.fs_model.specs.declared.parts.Sort.TheVariants.{Scalar, Array, Port}
 use Rattle.fs_model.specs.declared.parts.VarInfo.{VarInfo}
@@ -11,37 +12,13 @@ use Rattle.nf_terms.specs.declared.tree.Side.TheVariants.{Left, Right}
 use Rattle.fs_pair.specs.Interfaces.{same_sort}
 use Rattle.fs_pair.specs.SidedVariables.{same_name_and_sort, same_side}
 
-pub and_left : (a b : Bool) → (a && b) ≡ true → a ≡ true
-and_left true b h = refl
-and_left false b h = absurd (cc)
+pub left_none : (o p : Option (List ℕ)) → option_or o p ≡ None → o ≡ None
+left_none None p e = refl
+left_none (Some x) p e = absurd (cc e)
 
-pub and_right : (a b : Bool) → (a && b) ≡ true → b ≡ true
-and_right true b h = h
-and_right false b h = absurd (cc)
-
-pub both : (a b : Bool) → a ≡ true → b ≡ true → (a && b) ≡ true
-both true b p q = q
-both false b p q = absurd (cc p)
-
-pub or_right : (a b : Bool) → b ≡ true → (a || b) ≡ true
-or_right true b h = refl
-or_right false b h = h
-
-pub neither_left : (a b : Bool) → (a || b) ≡ false → a ≡ false
-neither_left true b h = absurd (cc h)
-neither_left false b h = refl
-
-pub neither_right : (a b : Bool) → (a || b) ≡ false → b ≡ false
-neither_right true b h = absurd (cc h)
-neither_right false b h = h
-
-pub not_false : (b : Bool) → not b ≡ false → b ≡ true
-not_false true e = refl
-not_false false e = absurd (cc e)
-
-pub not_true : (b : Bool) → not b ≡ true → b ≡ false
-not_true true e = absurd (cc e)
-not_true false e = refl
+pub right_none : (o p : Option (List ℕ)) → option_or o p ≡ None → p ≡ None
+right_none None p e = e
+right_none (Some x) p e = absurd (cc e)
 
 -- a test that is true only where another is, and the other way round
 pub as_often : (a b : Bool) → (a ≡ true → b ≡ true) → (b ≡ true → a ≡ true) → a ≡ b
@@ -91,7 +68,7 @@ pub same_sorts : (v u : VarInfo) → same_name_and_sort v u ≡ true → u.sort 
 same_sorts v u h = same_sort_is u.sort v.sort (and_right (bytes_eq u.name v.name) (same_sort u.sort v.sort) h)
 
 pub are_same : (v u : VarInfo) → u.name ≡ v.name → u.sort ≡ v.sort → same_name_and_sort v u ≡ true
-are_same v u n s = both (bytes_eq u.name v.name) (same_sort u.sort v.sort) ((bytes_eq-Decides u.name v.name).1 n) (ap (λ (t : Sort). same_sort t v.sort) s ∙ same_sort_self v.sort)
+are_same v u n s = and_both (bytes_eq u.name v.name) (same_sort u.sort v.sort) ((bytes_eq-Decides u.name v.name).1 n) (ap (λ (t : Sort). same_sort t v.sort) s ∙ same_sort_self v.sort)
 
 pub same_back : (v u : VarInfo) → same_name_and_sort v u ≡ true → same_name_and_sort u v ≡ true
 same_back v u h = are_same u v (sym (same_name v u h)) (sym (same_sorts v u h))

@@ -11,7 +11,8 @@ use Rattle.fs_pair.specs.declared.positions.Position.{Position}
 use Rattle.fs_pair.specs.SidedVariables.{SidedVariable, sided_variables, same_name_and_sort, partner_among, with_partners, is_alone, all_sided_variables, same_side, is_partner}
 use Rattle.fs_pair.specs.Positions.{position_of, positions}
 use Rattle.fs_pair.specs.Partners.{variables_on, IsVariable, StandsForVariable, HasPartner}
-use Rattle.fs_pair.proofs.Tests.{and_left, and_right, not_true, same_name, same_sorts}
+use Rattle.fs_model.proofs.Truth.{and_left, and_right, not_true}
+use Rattle.fs_pair.proofs.Tests.{same_name, same_sorts}
 
 -- ---- what holds of each
 pub all_append : (P : SidedVariable → Type 0) (xs ys : List SidedVariable) → AllByRecursion P xs → AllByRecursion P ys → AllByRecursion P (xs ++ ys)
@@ -67,6 +68,18 @@ position_found test (x ∷ xs) i k e = by_test (test x) refl e (λ g. position_f
     by_test true t g again = let s : i ≡ k = cc g in record { place = 0; number = omega arith; found = x; at = refl; passes = t }
     by_test false t g again = let r = again g in record { place = suc r.place; number = omega (arith, r.number); found = r.found; at = r.at; passes = r.passes }
 
+-- the same from the front on
+pub record FoundFirst (test : SidedVariable → Bool) (xs : List SidedVariable) (k : ℕ) : Type 0 where
+  pub found : SidedVariable
+  pub at : slice_get xs k ≡ Some found
+  pub passes : test found ≡ true
+
+pub first_found : (test : SidedVariable → Bool) (xs : List SidedVariable) (k : ℕ) → position_from test 0 xs ≡ Some k → FoundFirst test xs k
+first_found test xs k e =
+    let f = position_found test xs 0 k e in
+    let n : f.place ≡ k = omega (arith, f.number) in
+    record { found = f.found; at = subst (λ i. slice_get xs i ≡ Some f.found) n f.at; passes = f.passes }
+
 -- ---- a position and its variable
 pub record Comes (ss all : List SidedVariable) (k : ℕ) (p : Position) : Type 0 where
   pub from : SidedVariable
@@ -117,18 +130,16 @@ module _ (a b : Fsmd) where
   has_partner k j p e h =
       let r = comes_from all_of all_of k p e in
       let s = r.from in
-      let f = position_found (is_partner s) all_of 0 j (sym (ap (λ (q : Position). q.partner) r.is) ∙ h) in
+      let f = first_found (is_partner s) all_of j (sym (ap (λ (q : Position). q.partner) r.is) ∙ h) in
       let t = f.found in
-      let n : f.place ≡ j = omega (arith, f.number) in
-      let at_j : slice_get all_of j ≡ Some t = subst (λ i. slice_get all_of i ≡ Some t) n f.at in
       let alike = and_right (not (same_side s.pos.side t.pos.side)) (same_name_and_sort s.variable t.variable) f.passes in
       record {
         variable = s.variable;
         is = is_variable s p (stands_at k s r.at) r.is;
         partner = position_of all_of t;
-        at = goes_to all_of all_of j t at_j;
+        at = goes_to all_of all_of j t f.at;
         other = t.variable;
-        partner_is = is_variable t (position_of all_of t) (stands_at j t at_j) refl;
+        partner_is = is_variable t (position_of all_of t) (stands_at j t f.at) refl;
         sides = ap (λ (q : Position). same_side q.pos.side t.pos.side) r.is ∙ not_true (same_side s.pos.side t.pos.side) (and_left (not (same_side s.pos.side t.pos.side)) (same_name_and_sort s.variable t.variable) f.passes);
         name = same_name s.variable t.variable alike;
         sort = same_sorts s.variable t.variable alike ∙ sym (ap (λ (q : Position). q.sort) r.is);

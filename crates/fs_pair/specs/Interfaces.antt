@@ -18,31 +18,21 @@ is_interface Local = false
 -- whether two roles are one
 abbrev pub same_role : Role → Role → Bool
 same_role Input Input = true
-same_role Input Output = false
-same_role Input Local = false
-same_role Output Input = false
 same_role Output Output = true
-same_role Output Local = false
-same_role Local Input = false
-same_role Local Output = false
 same_role Local Local = true
-
--- whether two sorts are one
-abbrev pub same_sort : Sort → Sort → Bool
-same_sort Scalar Scalar = true
-same_sort Scalar Array = false
-same_sort Scalar Port = false
-same_sort Array Scalar = false
-same_sort Array Array = true
-same_sort Array Port = false
-same_sort Port Scalar = false
-same_sort Port Array = false
-same_sort Port Port = true
+same_role r q = false
 
 -- the first variable of a name
 abbrev pub named : List VarInfo → List ℕ → Option VarInfo
 named [] name = None
 named (v ∷ vs) name = cond (bytes_eq v.name name) (Some v) (named vs name)
+
+-- whether two sorts are one
+abbrev pub same_sort : Sort → Sort → Bool
+same_sort Scalar Scalar = true
+same_sort Array Array = true
+same_sort Port Port = true
+same_sort s t = false
 
 -- whether a variable was found and has the role and the sort of another
 abbrev pub is_like : VarInfo → Option VarInfo → Bool

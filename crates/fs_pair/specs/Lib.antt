@@ -5,3 +5,4 @@ pub mod Positions
 pub mod Answers
 pub mod Outputs
 pub mod Partners
+pub mod Paired

@@ -1,7 +1,6 @@
 //! Whether two machines have the same inputs and outputs.
 
 ghost use Rattle.std.specs.Prelude.{◌≡◌, option_map};
-ghost use Rattle.std.specs.Option.{option_or};
 ghost use Rattle.fs_pair.specs.Interfaces.{is_interface, same_role, same_sort, named, lacks_match, first_unmatched};
 
 use fs_model::name::Name;

@@ -1,16 +1,10 @@
 //! Memory, which may be refused.
 
-use std::alloc::{AllocError, AllocFailed};
+use std::alloc::AllocFailed;
 
 /// Out of memory.
 #[derive(Clone, Copy, Debug, PartialEq, Eq)]
 pub struct NoMemory;
-
-impl From<AllocError> for NoMemory {
-    fn from(_refused: AllocError) -> NoMemory {
-        NoMemory
-    }
-}
 
 impl<T: Drop> From<AllocFailed<T>> for NoMemory {
     fn from(_refused: AllocFailed<T>) -> NoMemory {

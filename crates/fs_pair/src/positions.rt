@@ -7,6 +7,7 @@ ghost use Rattle.fs_pair.specs.Interfaces.{interface_fault};
 ghost use Rattle.fs_pair.specs.SidedVariables.{same_side, is_partner};
 ghost use Rattle.fs_pair.specs.View.{sided_variable_of};
 ghost use Rattle.fs_pair.specs.Positions.{position_of, positions};
+ghost use Rattle.fs_pair.specs.Paired.{IsPairing};
 ghost use Rattle.fs_pair.specs.Answers.{TellsFault};
 
 use crate::interfaces::first_unmatched;
@@ -37,13 +38,23 @@ pub struct Pairing {
 impl Model for Pairing {
     ghost use Rattle.std.specs.Prelude.{List};
     ghost use Rattle.fs_pair.specs.declared.positions.Position.{Position};
+    ghost use Rattle.fs_pair.specs.Paired.{IsPairing};
 
     ghost Value = { List Position };
 
     ghost view = { λ p. p.positions.items };
+
+    ghost invariant = { λ p. IsPairing p.positions.items };
 }
 
 impl Pairing {
+    /// What holds of each pairing; nothing runs.
+    pub fn holds(&self)
+        ensures { IsPairing self.now }
+    {
+        let _positions = &self.positions;
+    }
+
     /// The variables of the left machine in order of declaration, each followed by the right
     /// machine's of its name and sort, then the right machine's others in order. Takes no memory.
     pub fn positions(&self) -> &[Position]
