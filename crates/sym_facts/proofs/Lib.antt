@@ -1,0 +1,12 @@
+pub mod Sizes
+pub mod FactVectors
+pub mod StartHolds
+pub mod StartSolved
+pub mod Entailing
+pub mod DirectionSymbols
+pub mod PairingForms
+pub mod PairingPositions
+pub mod PairingPaths
+pub mod Vectors
+pub mod Walks
+pub mod Kept

@@ -1,0 +1,5 @@
+pub mod Stores
+pub mod Sequences
+pub mod Evaluation
+pub mod Execution
+pub mod View

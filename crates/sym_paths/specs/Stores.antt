@@ -1,0 +1,28 @@
+-- The two stores of a valuation.
+use Rattle.std.specs.Prelude.{ℕ}
+use Rattle.fs_model.specs.Stores.{Store}
+use Rattle.nf_terms.specs.Meaning.{Valuation}
+use Rattle.nf_terms.specs.declared.tree.Side.{Side}
+use Rattle.nf_terms.specs.declared.tree.Side.TheVariants.{Left, Right}
+use Rattle.nf_terms.specs.declared.tree.Pos.{Pos}
+
+-- the position of a variable of a side
+abbrev pub at : Side → ℕ → Pos
+at side x = record { side = side; var = x }
+
+-- the store of a side
+abbrev pub store_on : Side → Valuation → Store
+store_on side w = record { scalar = λ x. w.scalar (at side x); array = λ x. w.array (at side x); port = λ x. w.list (at side x) }
+
+-- one of two, by the side
+abbrev pub on : {T : Type 0} → Side → (left right : T) → T
+on Left s u = s
+on Right s u = u
+
+-- a store of each machine
+abbrev pub pair : (left right : Store) → Valuation
+pair s u = record { scalar = λ p. (on p.side s u).scalar p.var; array = λ p. (on p.side s u).array p.var; list = λ p. (on p.side s u).port p.var }
+
+abbrev pub other : Side → Side
+other Left = Right
+other Right = Left

@@ -1,0 +1,103 @@
+//! Expressions over a vector.
+
+ghost use Rattle.std.specs.Prelude.{◌≡◌, map};
+ghost use Rattle.fs_model.specs.View.{term_of, literal_of, assignment_of};
+ghost use Rattle.nf_terms.specs.Computed.{Answers};
+ghost use Rattle.nf_rel.specs.View.{literal_in};
+ghost use Rattle.sym_paths.specs.Stores.{at as position_of};
+ghost use Rattle.sym_paths.specs.Sequences.{each};
+ghost use Rattle.sym_paths.specs.Evaluation.{evaluate as evaluated, evaluate_literal as evaluated_literal};
+ghost use Rattle.sym_paths.specs.View.{told};
+
+use fs_model::parts::{Expr, Lit, VarId};
+use nf_arrays::division::{div, rem};
+use nf_arrays::reads::read;
+use nf_rel::literals::NLit;
+use nf_rel::normalize::literal;
+use nf_subst::vector::Vector;
+use nf_sums::sums::{add, mul, neg, number, sub};
+use nf_terms::poly::Poly;
+use nf_terms::stop::NfStop;
+use nf_terms::tree::{Pos, Side};
+use std::alloc::Global;
+
+// The position of a variable of a side.
+pub(crate) fn at(side: Side, x: VarId) -> Pos
+    ensures { result ≡ position_of side x.0 }
+{
+    Pos { side, var: x.0 }
+}
+
+/// The normal form of an expression of a side's machine, with the vector's forms in place of its variables.
+///
+/// `Wide` and `Large` come exactly at the first operation that is not narrow, or narrow and not small, in this order: the left
+/// operand, the right operand, the operation; of a read the index and then the read. `NoMemory`: out of memory.
+pub fn evaluate(alloc: Global, side: Side, v: &Vector, e: &Expr<VarId>) -> Result<Poly, NfStop>
+    ensures { Answers result (evaluated side v.now (term_of e.now)) }
+{
+    match e {
+        Expr::Num(n) => number(alloc, n),
+        Expr::Var(x) => Ok(v.number(alloc, &at(side, *x))?),
+        Expr::Read(x, i) => {
+            let index = evaluate(alloc, side, v, i)?;
+            let array = v.array(alloc, &at(side, *x))?;
+            read(alloc, &array, &index)
+        }
+        Expr::Add(a, b) => {
+            let left = evaluate(alloc, side, v, a)?;
+            let right = evaluate(alloc, side, v, b)?;
+            add(alloc, &left, &right)
+        }
+        Expr::Sub(a, b) => {
+            let left = evaluate(alloc, side, v, a)?;
+            let right = evaluate(alloc, side, v, b)?;
+            sub(alloc, &left, &right)
+        }
+        Expr::Mul(a, b) => {
+            let left = evaluate(alloc, side, v, a)?;
+            let right = evaluate(alloc, side, v, b)?;
+            mul(alloc, &left, &right)
+        }
+        Expr::Div(a, b) => {
+            let left = evaluate(alloc, side, v, a)?;
+            let right = evaluate(alloc, side, v, b)?;
+            div(alloc, &left, &right)
+        }
+        Expr::Rem(a, b) => {
+            let left = evaluate(alloc, side, v, a)?;
+            let right = evaluate(alloc, side, v, b)?;
+            rem(alloc, &left, &right)
+        }
+        Expr::Neg(a) => {
+            let value = evaluate(alloc, side, v, a)?;
+            Ok(neg(alloc, &value)?)
+        }
+    }
+}
+
+// The normal form of a literal over a vector.
+fn evaluate_literal(alloc: Global, side: Side, v: &Vector, l: &Lit<VarId>) -> Result<NLit, NfStop>
+    ensures { Answers (told literal_in result) (evaluated_literal side v.now (literal_of l.now)) }
+{
+    let left = evaluate(alloc, side, v, &l.left)?;
+    let right = evaluate(alloc, side, v, &l.right)?;
+    literal(alloc, l.rel, &left, &right)
+}
+
+/// The normal forms of literals over a vector, in order.
+///
+/// `Wide` and `Large` come exactly at the first operation that is not narrow, or narrow and not small. `NoMemory`: out of memory.
+pub(crate) fn evaluate_literals(
+    alloc: Global,
+    side: Side,
+    v: &Vector,
+    literals: &[Lit<VarId>],
+) -> Result<Vec<NLit>, NfStop>
+    ensures { Answers (told (λ ls. map literal_in ls.items) result) (each (λ l. evaluated_literal side v.now l) (map literal_of literals.now)) }
+{
+    let mut out = Vec::new(alloc);
+    for literal in literals {
+        out.push(evaluate_literal(alloc, side, v, literal)?)?;
+    }
+    Ok(out)
+}
