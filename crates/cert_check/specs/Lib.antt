@@ -1,0 +1,4 @@
+pub mod Progress
+pub mod Keys
+pub mod Outputs
+pub mod View

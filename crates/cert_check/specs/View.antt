@@ -1,0 +1,63 @@
+-- The types of src/ as plain data.
+use Rattle.std.specs.Prelude.{ℕ, ◌+◌, ◌*◌, ◌≤◌, List, [], map, Option}
+use Rattle.fs_cut.specs.Paths.{Point, Path}
+use Rattle.fs_model.specs.Limits.{most_branches}
+use Rattle.bisimulation.specs.declared.mode.Mode.{Mode}
+use Rattle.bisimulation.specs.Tables.{Node}
+use Rattle.sym_paths.specs.Execution.{Post}
+use Rattle.sym_facts.specs.Facts.{Fact, vector_of}
+use Rattle.certificates.specs.Obligations as obligations
+use Rattle.certificates.specs.View.{node_of}
+use Rattle.cert_check.specs.Progress as progress
+use Rattle.cert_check.specs.declared.verdict.Verdict.{Verdict}
+use Rattle.cert_check.specs.declared.verdict.Verdict.TheVariants as code
+use Rattle.cert_check.specs.declared.progress.Progress.{Progress}
+use Rattle.cert_check.specs.declared.progress.Progress.TheVariants as going
+use Rattle.cert_check.specs.declared.node_index.NodeIndex.{NodeIndex}
+use Rattle.cert_check.specs.declared.table.Table.{Table}
+
+abbrev pub verdict_in : Verdict → obligations.Verdict
+verdict_in code.Yes = obligations.Yes
+verdict_in (code.No k r) = obligations.No k r
+verdict_in (code.Wide k) = obligations.IsWide k
+verdict_in (code.Large k) = obligations.IsLarge k
+
+abbrev pub progress_in : Progress → progress.Progress
+progress_in (going.Held k) = progress.Held k
+progress_in (going.Stopped v) = progress.Stopped (verdict_in v)
+
+-- where all hold, the next number is at most this
+abbrev pub NumberUpTo : ℕ → Progress → Type 0
+NumberUpTo n (going.Held k) = k ≤ n
+NumberUpTo n (going.Stopped v) = Unit {0}
+
+-- the nodes of an index, in order
+abbrev pub nodes_in : NodeIndex → List (Node Fact)
+nodes_in i = map (λ e. node_of e.1.now) i.nodes.entries
+
+-- what arrives at two points over a table, from a node
+abbrev pub reached_in : Table → Node Fact → Post → (left right : Point) → obligations.Judged
+reached_in t n post P Q = obligations.reaches (obligations.node_at (nodes_in t.nodes) P Q) (obligations.rank_falls n) post
+
+-- a move over a table
+abbrev pub move_in : Table → Node Fact → (left right : Option Path) → obligations.Judged
+move_in t n left right = obligations.judge_move t.a.now t.b.now (nodes_in t.nodes) n left right
+
+-- what a node owes over a table
+abbrev pub owed_in : Table → Node Fact → List obligations.Judged
+owed_in t n = obligations.owed_by t.a.now t.b.now (nodes_in t.nodes) n
+
+-- the moves of a node in a mode over a table, or its outputs
+abbrev pub moves_of : Mode → Table → Node Fact → List obligations.Judged
+moves_of m t n = obligations.moves_by m t.a.now t.b.now (nodes_in t.nodes) n
+
+-- the start fact's vector, without conditions
+abbrev pub start_post : Fact → Post
+start_post f = record { conditions = []; vector = vector_of f.positions }
+
+-- how many moves or outputs a node has at most, and what it owes
+abbrev pub most_moves : ℕ
+most_moves = most_branches * most_branches
+
+abbrev pub most_owed : ℕ
+most_owed = 1 + most_moves

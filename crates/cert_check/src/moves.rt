@@ -1,0 +1,228 @@
+//! The moves of a node.
+
+ghost use Rattle.std.specs.Prelude.{◌≡◌, ◌+◌, ◌*◌, ◌<◌, ◌≤◌, ◌^◌, ◌∷◌, [], length, map, drop, option_map, IfOk, Some, None};
+ghost use Rattle.std.specs.List.{flat_map};
+ghost use Rattle.fs_model.specs.Limits.{most_branches};
+ghost use Rattle.fs_cut.specs.View.{point_of, path_of};
+ghost use Rattle.nf_terms.specs.Computed.{Answers, Done, after};
+ghost use Rattle.nf_rel.specs.Literals.{clashes_with, is_refuted};
+ghost use Rattle.nf_rel.specs.View.{literal_in};
+ghost use Rattle.sym_paths.specs.Execution.{end_of};
+ghost use Rattle.sym_paths.specs.View.{post_in};
+ghost use Rattle.sym_facts.specs.Entailment.{entails as entailed};
+ghost use Rattle.certificates.specs.Obligations.{first_missing, same_alone, rank_falls};
+ghost use Rattle.certificates.specs.View.{node_of};
+ghost use Rattle.cert_check.specs.Progress.{progress_from};
+ghost use Rattle.cert_check.specs.View.{progress_in, reached_in, move_in, NumberUpTo};
+
+use crate::lookup::node_at;
+use crate::progress::{Progress, advance};
+use crate::table::Table;
+use bisimulation::mode::Mode;
+use certificates::cert::Node;
+use certificates::reason::Reason;
+use fs_cut::cover::{Path, Point};
+use nf_rel::clashes::clash;
+use nf_rel::literals::NLit;
+use nf_terms::stop::{NfStop, NoMemory};
+use std::alloc::Global;
+use sym_facts::arrival::arrive;
+use sym_facts::entailment::entails;
+use sym_paths::execution::Post;
+
+// Whether a literal clashes with a member.
+fn clashes_with(list: &[NLit], l: &NLit) -> bool
+    ensures { result ≡ clashes_with (map literal_in list.now) (literal_in l.now) }
+{
+    for m in list {
+        if clash(l, m) {
+            return true;
+        }
+    }
+    false
+}
+
+// Whether two members clash, or one with itself.
+fn is_refuted(list: &[NLit]) -> bool
+    ensures { result ≡ is_refuted (map literal_in list.now) }
+{
+    let mut place = 0;
+    while place < list.len() {
+        if clashes_with(&list[place..], &list[place]) {
+            return true;
+        }
+        place += 1;
+    }
+    false
+}
+
+// The first that is missing, and then whether the rank falls.
+fn first_missing(equations: &[u32], literals: &[u32], falls: bool) -> Option<Reason>
+    ensures { result ≡ first_missing equations.now literals.now falls }
+{
+    if let Some(place) = equations.first() {
+        return Some(Reason::Equation { place: *place });
+    }
+    if let Some(index) = literals.first() {
+        return Some(Reason::Condition { index: *index });
+    }
+    if falls { None } else { Some(Reason::Rank) }
+}
+
+/// Why a post does not reach a node that is there: an equation or a literal that is not entailed, or a rank that does not fall.
+pub fn judge_target(
+    alloc: Global,
+    post: &Post,
+    target: &Node,
+    falls: bool,
+) -> Result<Option<Reason>, NfStop>
+    ensures { Answers result (after (entailed (post_in post.now) target.now.fact) (λ e. Done (first_missing e.equations e.literals falls))) }
+{
+    let missing = entails(alloc, post, &target.fact)?;
+    Ok(first_missing(
+        missing.equations.as_slice(),
+        missing.conds.as_slice(),
+        falls,
+    ))
+}
+
+// Whether one machine moves alone in both modes, and it is the same.
+fn same_alone(mode: Mode, next: Mode) -> bool
+    ensures { result ≡ same_alone mode next }
+{
+    match mode {
+        Mode::Left => matches!(next, Mode::Left),
+        Mode::Right => matches!(next, Mode::Right),
+        Mode::Both | Mode::End => false,
+    }
+}
+
+// Whether the rank falls from a node to a target, where it has to.
+fn rank_falls(node: &Node, target: &Node) -> bool
+    ensures { result ≡ rank_falls (node_of node.now) (node_of target.now) }
+{
+    !same_alone(node.mode, target.mode) || target.rank < node.rank
+}
+
+// Where a side comes to, which keeps its point where it stays.
+fn end_of(point: Point, path: Option<&Path>) -> Point
+    ensures { point_of result ≡ end_of (point_of point) (option_map (λ p. path_of p.now) path.entry) }
+{
+    match path {
+        Some(path) => path.to,
+        None => point,
+    }
+}
+
+// Why what arrives at two points fails: no node stands there, or it is not reached.
+fn judge_arrival(
+    alloc: Global,
+    table: &Table<'_>,
+    node: &Node,
+    post: &Post,
+    left: Point,
+    right: Point,
+) -> Result<Option<Reason>, NfStop>
+    ensures { Answers result (reached_in table.now (node_of node.now) (post_in post.now) (point_of left) (point_of right)) }
+{
+    match node_at(&table.nodes, left, right) {
+        Some(target) => judge_target(alloc, post, target, rank_falls(node, target)),
+        None => Ok(Some(Reason::NoTarget)),
+    }
+}
+
+// Why a move fails. A refuted one does not.
+fn judge_move(
+    alloc: Global,
+    table: &Table<'_>,
+    node: &Node,
+    left: Option<&Path>,
+    right: Option<&Path>,
+) -> Result<Option<Reason>, NfStop>
+    ensures { Answers result (move_in table.now (node_of node.now) (option_map (λ p. path_of p.now) left.entry) (option_map (λ p. path_of p.now) right.entry)) }
+{
+    let post = arrive(alloc, table.a, table.b, &node.fact, left, right)?;
+    if is_refuted(post.conds.as_slice()) {
+        return Ok(None);
+    }
+    let (left, right) = (end_of(node.left, left), end_of(node.right, right));
+    judge_arrival(alloc, table, node, &post, left, right)
+}
+
+/// The moves of the left paths, where the right machine stays.
+///
+/// Answers where they lead, from the number of the first. The one refusal is out of memory.
+pub fn left_moves(
+    alloc: Global,
+    table: &Table<'_>,
+    node: &Node,
+    lefts: &[Path],
+    first: u32,
+) -> Result<Progress, NoMemory>
+    requires few { length lefts.now ≤ most_branches }
+    requires low { first < 2 ^ 31 }
+    ensures moves { IfOk result (λ p. progress_in p ≡ progress_from first (map (λ l. move_in table.now (node_of node.now) (Some l) None) (map path_of lefts.now))) }
+    ensures bound { IfOk result (NumberUpTo (first + most_branches)) }
+{
+    let mut number = first;
+    for left in lefts {
+        match advance(number, judge_move(alloc, table, node, Some(left), None))? {
+            Progress::Held(next) => number = next,
+            Progress::Stopped(verdict) => return Ok(Progress::Stopped(verdict)),
+        }
+    }
+    Ok(Progress::Held(number))
+}
+
+/// The moves of the right paths, each with the given left path, or where the left machine stays.
+///
+/// Answers where they lead, from the number of the first. The one refusal is out of memory.
+pub fn right_moves(
+    alloc: Global,
+    table: &Table<'_>,
+    node: &Node,
+    left: Option<&Path>,
+    rights: &[Path],
+    first: u32,
+) -> Result<Progress, NoMemory>
+    requires few { length rights.now ≤ most_branches }
+    requires low { first < 2 ^ 31 }
+    ensures moves { IfOk result (λ p. progress_in p ≡ progress_from first (map (λ r. move_in table.now (node_of node.now) (option_map (λ l. path_of l.now) left.entry) (Some r)) (map path_of rights.now))) }
+    ensures bound { IfOk result (NumberUpTo (first + most_branches)) }
+{
+    let mut number = first;
+    for right in rights {
+        match advance(number, judge_move(alloc, table, node, left, Some(right)))? {
+            Progress::Held(next) => number = next,
+            Progress::Stopped(verdict) => return Ok(Progress::Stopped(verdict)),
+        }
+    }
+    Ok(Progress::Held(number))
+}
+
+/// The moves of each left path with each right one.
+///
+/// Answers where they lead, from the number of the first. The one refusal is out of memory.
+pub fn both_moves(
+    alloc: Global,
+    table: &Table<'_>,
+    node: &Node,
+    lefts: &[Path],
+    rights: &[Path],
+    first: u32,
+) -> Result<Progress, NoMemory>
+    requires few_left { length lefts.now ≤ most_branches }
+    requires few_right { length rights.now ≤ most_branches }
+    requires low { first < 2 ^ 30 }
+    ensures moves { IfOk result (λ p. progress_in p ≡ progress_from first (flat_map (λ l. map (λ r. move_in table.now (node_of node.now) (Some l) (Some r)) (map path_of rights.now)) (map path_of lefts.now))) }
+    ensures bound { IfOk result (NumberUpTo (first + most_branches * most_branches)) }
+{
+    let mut number = first;
+    for left in lefts {
+        match right_moves(alloc, table, node, Some(left), rights, number)? {
+            Progress::Held(next) => number = next,
+            Progress::Stopped(verdict) => return Ok(Progress::Stopped(verdict)),
+        }
+    }
+    Ok(Progress::Held(number))
+}
