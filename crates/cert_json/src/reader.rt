@@ -1,0 +1,44 @@
+//! Reading the JSON of a certificate.
+
+ghost use Rattle.std.specs.Prelude.{IfOk, IfErr};
+ghost use Rattle.serde_json.specs.View.{view};
+ghost use Rattle.cert_json.specs.Refusals.{IsJson, IsFileOf, IsRefused, IsOfBytes};
+
+use crate::faults::FileError;
+use crate::shape::{has_too_many, is_file};
+use serde_json::Value;
+use std::alloc::Global;
+
+// The value that bytes are as JSON.
+fn parse(alloc: Global, bytes: &[u8]) -> Result<Value, FileError>
+    ensures json { IfOk result (λ v. IsJson bytes.now (view v)) }
+    ensures refused { IfErr result (λ e. IsOfBytes bytes.now e) }
+{
+    match Value::from_slice(alloc, bytes) {
+        Ok(value) => Ok(value),
+        Err(e) => if e.is_memory() {
+            Err(FileError::NoMemory)
+        } else {
+            Err(FileError::NotJson)
+        },
+    }
+}
+
+/// The JSON value of a certificate's bytes, in time linear in them.
+///
+/// `NotJson` comes exactly where the bytes are not UTF-8 text, or are not JSON as `serde_json` reads it; else `Shape`
+/// exactly where the value does not have the form of a certificate; else `TooMany` exactly where there are more than
+/// 4,096 nodes, or more than 64 conditions in a node. Of equal keys the last counts. `NoMemory` may come at any time.
+pub fn read_file(alloc: Global, bytes: &[u8]) -> Result<Value, FileError>
+    ensures read { IfOk result (λ v. IsFileOf bytes.now (view v)) }
+    ensures refused { IfErr result (λ e. IsRefused bytes.now e) }
+{
+    let value = parse(alloc, bytes)?;
+    if !is_file(&value) {
+        return Err(FileError::Shape);
+    }
+    if has_too_many(&value) {
+        return Err(FileError::TooMany);
+    }
+    Ok(value)
+}

@@ -1,0 +1,4 @@
+mod Plain
+mod Complete
+mod Sound
+mod Whole

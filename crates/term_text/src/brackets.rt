@@ -1,0 +1,53 @@
+//! How many brackets are open at once.
+
+ghost use Rattle.std.specs.Prelude.{◌≡◌, ◌<◌, ◌^◌, nat_le};
+ghost use Rattle.nf_terms.specs.Limits.{depth_limit};
+ghost use Rattle.term_text.specs.Brackets.{opens, closes, after, most_open};
+
+use nf_terms::limits::DEPTH_LIMIT;
+
+fn opens(b: u8) -> bool
+    ensures { result ≡ opens b }
+{
+    b == b'(' || b == b'[' || b == b'{'
+}
+
+fn closes(b: u8) -> bool
+    ensures { result ≡ closes b }
+{
+    b == b')' || b == b']' || b == b'}'
+}
+
+// How many are open after a byte.
+fn after(now: usize, b: u8) -> usize
+    requires { now < 2 ^ 63 }
+    ensures { result ≡ after now b }
+{
+    if opens(b) {
+        now + 1
+    } else if closes(b) {
+        now.saturating_sub(1)
+    } else {
+        now
+    }
+}
+
+#[tactic(auto, using(crate::proofs::Depths::counted, crate::proofs::Depths::one_at_most))]
+fn most_open(bytes: &[u8]) -> usize
+    ensures { result ≡ most_open 0 bytes.now }
+{
+    let mut now = 0usize;
+    let mut most = 0usize;
+    for b in bytes {
+        now = after(now, *b);
+        most = most.max(now);
+    }
+    most
+}
+
+/// Whether at most 64 brackets are open at once.
+pub fn is_shallow(bytes: &[u8]) -> bool
+    ensures { result ≡ nat_le (most_open 0 bytes.now) depth_limit }
+{
+    most_open(bytes) <= DEPTH_LIMIT as usize
+}

@@ -1,0 +1,112 @@
+//! Making the parts of written terms.
+
+ghost use Rattle.std.specs.Prelude.{◌≡◌, ◌<◌, map, length};
+ghost use Rattle.term_text.specs.Machine.{MadeAs};
+ghost use Rattle.term_text.specs.Texts.{Monomial, ArrayTerm, ListTerm, One, Times, Read, Quotient, Remainder, Written, Pushed};
+ghost use Rattle.term_text.specs.View.{atom_in, head_in, monomial_in, polynomial_in, array_in, term_in, write_in, times_all, written_all, pushed_all, sum_of, first_sum, more_sum};
+
+use crate::fault::ReadError;
+use crate::tree::{WrittenArray, WrittenAtom, WrittenHead, WrittenMonomial, WrittenPolynomial};
+use std::alloc::Global;
+
+/// The head of an atom.
+pub fn one<'a>(first: WrittenAtom<'a>) -> WrittenHead<'a>
+    ensures { head_in result ≡ One (atom_in first.entry) }
+{
+    WrittenHead::One(first)
+}
+
+/// An array read at an index. The one refusal is out of memory.
+pub fn make_read<'a>(
+    alloc: Global,
+    array: WrittenArray<'a>,
+    index: WrittenPolynomial<'a>,
+) -> Result<WrittenAtom<'a>, ReadError>
+    ensures { MadeAs result (λ a. atom_in a ≡ Read (array_in array.entry) (polynomial_in index.entry)) }
+{
+    Ok(WrittenAtom::Read(Box::new(alloc, array)?, Box::new(alloc, index)?))
+}
+
+/// A quotient. The one refusal is out of memory.
+pub fn make_quotient<'a>(
+    alloc: Global,
+    left: WrittenPolynomial<'a>,
+    right: WrittenPolynomial<'a>,
+) -> Result<WrittenAtom<'a>, ReadError>
+    ensures { MadeAs result (λ a. atom_in a ≡ Quotient (polynomial_in left.entry) (polynomial_in right.entry)) }
+{
+    Ok(WrittenAtom::Quotient(Box::new(alloc, left)?, Box::new(alloc, right)?))
+}
+
+/// A remainder. The one refusal is out of memory.
+pub fn make_remainder<'a>(
+    alloc: Global,
+    left: WrittenPolynomial<'a>,
+    right: WrittenPolynomial<'a>,
+) -> Result<WrittenAtom<'a>, ReadError>
+    ensures { MadeAs result (λ a. atom_in a ≡ Remainder (polynomial_in left.entry) (polynomial_in right.entry)) }
+{
+    Ok(WrittenAtom::Remainder(Box::new(alloc, left)?, Box::new(alloc, right)?))
+}
+
+/// Adds an atom to a monomial. The one refusal is out of memory.
+#[tactic(auto, using(crate::proofs::Steps::atom_more))]
+pub fn push_atom<'a>(
+    atoms: &mut Vec<WrittenAtom<'a>>,
+    next: WrittenAtom<'a>,
+) -> Result<(), ReadError>
+    ensures { MadeAs result (λ _. (m : Monomial) → times_all m (map atom_in atoms.new.items) ≡ Times (times_all m (map atom_in atoms.old.items)) (atom_in next.entry)) }
+{
+    Ok(atoms.push(next)?)
+}
+
+/// Adds a monomial to a sum. The one refusal is out of memory.
+#[tactic(auto, using(crate::proofs::Steps::monomial_more))]
+pub fn push_monomial<'a>(
+    monomials: &mut Vec<(bool, WrittenMonomial<'a>)>,
+    minus: bool,
+    next: WrittenMonomial<'a>,
+) -> Result<(), ReadError>
+    requires { 0 < length monomials.old.items }
+    ensures sum { MadeAs result (λ _. sum_of (map term_in monomials.new.items) ≡ more_sum (sum_of (map term_in monomials.old.items)) (minus, monomial_in next.entry)) }
+    ensures some { MadeAs result (λ _. 0 < length monomials.new.items) }
+{
+    Ok(monomials.push((minus, next))?)
+}
+
+/// Adds a write to an array. The one refusal is out of memory.
+#[tactic(auto, using(crate::proofs::Steps::write_more))]
+pub fn push_write<'a>(
+    writes: &mut Vec<(WrittenPolynomial<'a>, WrittenPolynomial<'a>)>,
+    index: WrittenPolynomial<'a>,
+    value: WrittenPolynomial<'a>,
+) -> Result<(), ReadError>
+    ensures { MadeAs result (λ _. (a : ArrayTerm) → written_all a (map write_in writes.new.items) ≡ Written (written_all a (map write_in writes.old.items)) (polynomial_in index.entry) (polynomial_in value.entry)) }
+{
+    Ok(writes.push((index, value))?)
+}
+
+/// The sum of one monomial. The one refusal is out of memory.
+pub fn first_of<'a>(
+    alloc: Global,
+    minus: bool,
+    first: WrittenMonomial<'a>,
+) -> Result<Vec<(bool, WrittenMonomial<'a>)>, ReadError>
+    ensures sum { MadeAs result (λ monomials. sum_of (map term_in monomials.items) ≡ first_sum (minus, monomial_in first.entry)) }
+    ensures some { MadeAs result (λ monomials. 0 < length monomials.items) }
+{
+    let mut monomials = Vec::new(alloc);
+    monomials.push((minus, first))?;
+    Ok(monomials)
+}
+
+/// Adds an item to a list. The one refusal is out of memory.
+#[tactic(auto, using(crate::proofs::Steps::item_more))]
+pub fn push_item<'a>(
+    items: &mut Vec<WrittenPolynomial<'a>>,
+    next: WrittenPolynomial<'a>,
+) -> Result<(), ReadError>
+    ensures { MadeAs result (λ _. (l : ListTerm) → pushed_all l (map polynomial_in items.new.items) ≡ Pushed (pushed_all l (map polynomial_in items.old.items)) (polynomial_in next.entry)) }
+{
+    Ok(items.push(next)?)
+}

@@ -1,0 +1,170 @@
+//! Reading a whole text.
+
+ghost use Rattle.std.specs.Prelude.{◌≡◌, true, IfOk};
+ghost use Rattle.term_text.specs.Machine.{MadeAs, IsRead, Goes, reading, in_array, in_list, whole_polynomial, whole_array, at_polynomial, at_array, at_list, at_symbol, after_array, after_list};
+ghost use Rattle.term_text.specs.Texts.{Polynomial, ArrayTerm, ListTerm, polynomial, array, list};
+ghost use Rattle.term_text.specs.Spelled.{Spells};
+ghost use Rattle.term_text.specs.View.{polynomial_in, array_in, list_in, base_in, list_base_in};
+
+use crate::brackets::is_shallow;
+use crate::fault::ReadError;
+use crate::parts::push_item;
+use crate::scan::{expect, word};
+use crate::signs::close_brace;
+use crate::terms::{polynomial, writes};
+use crate::tree::{WrittenArray, WrittenBase, WrittenList, WrittenListBase, WrittenPolynomial};
+use nf_terms::tree::Side;
+use std::alloc::Global;
+
+// The polynomial that all bytes are read as.
+fn whole_polynomial<'a>(alloc: Global, bytes: &'a [u8]) -> Result<WrittenPolynomial<'a>, ReadError>
+    ensures { IsRead (at_polynomial whole_polynomial) (λ t. polynomial (polynomial_in t)) result bytes.now }
+{
+    let (made, rest) = polynomial(alloc, bytes)?;
+    match rest {
+        [] => Ok(made),
+        [_, ..] => Err(ReadError::BadTerm),
+    }
+}
+
+// The symbol that an array begins with.
+#[tactic(auto, using(crate::proofs::Steps::array_base))]
+fn symbol_base<'a>(side: Side, bytes: &'a [u8]) -> Result<(WrittenBase<'a>, &'a [u8]), ReadError>
+    ensures { Goes result (reading bytes.now (at_symbol side in_array)) (λ x. reading x.1.now (after_array (base_in x.0) whole_array)) }
+{
+    let (name, rest) = word(bytes)?;
+    Ok((WrittenBase::Symbol(side, name), rest))
+}
+
+// What an array begins with, and what follows it.
+fn array_base<'a>(bytes: &'a [u8]) -> Result<(WrittenBase<'a>, &'a [u8]), ReadError>
+    ensures { Goes result (reading bytes.now at_array) (λ x. reading x.1.now (after_array (base_in x.0) whole_array)) }
+{
+    match bytes {
+        [b'L', rest @ ..] => symbol_base(Side::Left, expect(rest, b'.')?),
+        [b'R', rest @ ..] => symbol_base(Side::Right, expect(rest, b'.')?),
+        [b'z', rest @ ..] => {
+            let rest = expect(rest, b'e')?;
+            let rest = expect(rest, b'r')?;
+            let rest = expect(rest, b'o')?;
+            Ok((WrittenBase::Zero, rest))
+        }
+        _ => Err(ReadError::BadTerm),
+    }
+}
+
+// The array that all bytes are read as.
+#[tactic(auto, using(crate::proofs::Steps::array_not_ended))]
+fn whole_array<'a>(alloc: Global, bytes: &'a [u8]) -> Result<WrittenArray<'a>, ReadError>
+    ensures { IsRead at_array (λ t. array (array_in t)) result bytes.now }
+{
+    let (base, rest) = array_base(bytes)?;
+    let (made, rest) = writes(alloc, base, rest)?;
+    match rest {
+        [] => Ok(made),
+        [_, ..] => Err(ReadError::BadTerm),
+    }
+}
+
+// The symbol that a list begins with.
+#[tactic(auto, using(crate::proofs::Steps::list_base))]
+fn symbol_list_base<'a>(
+    side: Side,
+    bytes: &'a [u8],
+) -> Result<(WrittenListBase<'a>, &'a [u8]), ReadError>
+    ensures { Goes result (reading bytes.now (at_symbol side in_list)) (λ x. reading x.1.now (after_list (list_base_in x.0))) }
+{
+    let (name, rest) = word(bytes)?;
+    Ok((WrittenListBase::Symbol(side, name), rest))
+}
+
+// What a list begins with, and what follows it.
+fn list_base<'a>(bytes: &'a [u8]) -> Result<(WrittenListBase<'a>, &'a [u8]), ReadError>
+    ensures { Goes result (reading bytes.now at_list) (λ x. reading x.1.now (after_list (list_base_in x.0))) }
+{
+    match bytes {
+        [b'L', rest @ ..] => symbol_list_base(Side::Left, expect(rest, b'.')?),
+        [b'R', rest @ ..] => symbol_list_base(Side::Right, expect(rest, b'.')?),
+        [b'n', rest @ ..] => {
+            let rest = expect(rest, b'o')?;
+            let rest = expect(rest, b'n')?;
+            let rest = expect(rest, b'e')?;
+            Ok((WrittenListBase::Empty, rest))
+        }
+        _ => Err(ReadError::BadTerm),
+    }
+}
+
+// The list of a base and of items up to the end.
+fn items<'a>(
+    alloc: Global,
+    base: WrittenListBase<'a>,
+    bytes: &'a [u8],
+) -> Result<WrittenList<'a>, ReadError>
+    ensures { IsRead (after_list (list_base_in base.entry)) (λ t. list (list_in t)) result bytes.now }
+{
+    let mut items = Vec::new(alloc);
+    let mut rest = bytes;
+    loop {
+        match rest {
+            [] => return Ok(WrittenList { base, items }),
+            [b'{', after @ ..] => {
+                let (item, after) = polynomial(alloc, after)?;
+                let after = close_brace(after)?;
+                push_item(&mut items, item)?;
+                rest = after;
+            }
+            _ => return Err(ReadError::BadTerm),
+        }
+    }
+}
+
+// The list that all bytes are read as.
+fn whole_list<'a>(alloc: Global, bytes: &'a [u8]) -> Result<WrittenList<'a>, ReadError>
+    ensures { IsRead at_list (λ t. list (list_in t)) result bytes.now }
+{
+    let (base, rest) = list_base(bytes)?;
+    items(alloc, base, rest)
+}
+
+/// The polynomial that bytes spell, in time linear in the bytes.
+///
+/// `BadTerm` comes exactly where they spell none, or more than 64 brackets are open at once. `NoMemory` may come at any time.
+pub fn read_polynomial<'a>(
+    alloc: Global,
+    bytes: &'a [u8],
+) -> Result<WrittenPolynomial<'a>, ReadError>
+    ensures found { IfOk result (λ t. Spells bytes.now (polynomial (polynomial_in t))) }
+    ensures only { (p : Polynomial) → Spells bytes.now (polynomial p) → MadeAs result (λ t. polynomial_in t ≡ p) }
+{
+    if !is_shallow(bytes) {
+        return Err(ReadError::BadTerm);
+    }
+    whole_polynomial(alloc, bytes)
+}
+
+/// The array that bytes spell, in time linear in the bytes.
+///
+/// `BadTerm` comes exactly where they spell none, or more than 64 brackets are open at once. `NoMemory` may come at any time.
+pub fn read_array<'a>(alloc: Global, bytes: &'a [u8]) -> Result<WrittenArray<'a>, ReadError>
+    ensures found { IfOk result (λ t. Spells bytes.now (array (array_in t))) }
+    ensures only { (a : ArrayTerm) → Spells bytes.now (array a) → MadeAs result (λ t. array_in t ≡ a) }
+{
+    if !is_shallow(bytes) {
+        return Err(ReadError::BadTerm);
+    }
+    whole_array(alloc, bytes)
+}
+
+/// The list that bytes spell, in time linear in the bytes.
+///
+/// `BadTerm` comes exactly where they spell none, or more than 64 brackets are open at once. `NoMemory` may come at any time.
+pub fn read_list<'a>(alloc: Global, bytes: &'a [u8]) -> Result<WrittenList<'a>, ReadError>
+    ensures found { IfOk result (λ t. Spells bytes.now (list (list_in t))) }
+    ensures only { (l : ListTerm) → Spells bytes.now (list l) → MadeAs result (λ t. list_in t ≡ l) }
+{
+    if !is_shallow(bytes) {
+        return Err(ReadError::BadTerm);
+    }
+    whole_list(alloc, bytes)
+}

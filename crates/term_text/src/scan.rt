@@ -1,0 +1,84 @@
+//! Single bytes, words and numbers.
+
+ghost use Rattle.std.specs.Prelude.{◌≡◌, ◌++◌, ◌<◌, ◌≤◌, ℕ, true, List, length, take, drop, IfOk, IsTrue};
+ghost use Rattle.std.specs.List.{prefix_len};
+ghost use Rattle.fs_model.specs.Words.{is_digit, is_letter, is_word_byte, is_reserved};
+ghost use Rattle.nf_terms.specs.declared.tree.Side.{Side};
+ghost use Rattle.term_text.specs.Machine.{Owed, ForMonomial, ForSymbol, reading, begins, Goes, expect, at_monomial, after_monomial, at_symbol, after_symbol};
+ghost use Rattle.term_text.specs.Texts.{Number};
+
+use crate::fault::ReadError;
+use fs_model::name::{is_digit, is_letter, is_reserved, is_word_byte};
+
+/// Takes one byte, which must come.
+pub fn expect(bytes: &[u8], b: u8) -> Result<&[u8], ReadError>
+    ensures goes { (s : Owed) → Goes result (reading bytes.now (expect b s)) (λ r. reading r.now s) }
+    ensures shorter { IfOk result (λ r. length r.now < length bytes.now) }
+{
+    match bytes {
+        [] => Err(ReadError::BadTerm),
+        [first, rest @ ..] => if *first == b {
+            Ok(rest)
+        } else {
+            Err(ReadError::BadTerm)
+        },
+    }
+}
+
+fn digits_len(bytes: &[u8]) -> usize
+    ensures is { result ≡ prefix_len is_digit bytes.now }
+    ensures fits { result ≤ length bytes.now }
+{
+    bytes.iter().take_while(|b| is_digit(**b)).count()
+}
+
+fn word_len(bytes: &[u8]) -> usize
+    ensures is { result ≡ prefix_len is_word_byte bytes.now }
+    ensures fits { result ≤ length bytes.now }
+{
+    bytes.iter().take_while(|b| is_word_byte(**b)).count()
+}
+
+/// The digits of a number, and what follows it.
+#[tactic(auto, using(crate::proofs::Steps::number_starts))]
+pub fn number(bytes: &[u8]) -> Result<(&[u8], &[u8]), ReadError>
+    requires { begins is_digit bytes.now ≡ true }
+    ensures goes { (k : ForMonomial) → Goes result (reading bytes.now (at_monomial k)) (λ x. reading x.1.now (after_monomial (Number x.0.now) k)) }
+    ensures shorter { IfOk result (λ x. length x.1.now < length bytes.now) }
+{
+    match bytes {
+        [] => Err(ReadError::BadTerm),
+        [first, ..] => {
+            if *first == b'0' {
+                return Err(ReadError::BadTerm);
+            }
+            let (digits, rest) = bytes.split_at(digits_len(bytes));
+            Ok((digits, rest))
+        }
+    }
+}
+
+fn begins_with_letter(bytes: &[u8]) -> bool
+    ensures { result ≡ begins is_letter bytes.now }
+{
+    match bytes {
+        [] => false,
+        [first, ..] => is_letter(*first),
+    }
+}
+
+/// A name and what follows it.
+#[tactic(auto, using(crate::proofs::Steps::symbol_taken, crate::proofs::Steps::symbol_reserved, crate::proofs::Steps::no_symbol))]
+pub fn word(bytes: &[u8]) -> Result<(&[u8], &[u8]), ReadError>
+    ensures symbol { (s : Side) (f : ForSymbol) → Goes result (reading bytes.now (at_symbol s f)) (λ x. reading x.1.now (after_symbol s x.0.now f)) }
+    ensures shorter { IfOk result (λ x. length x.1.now < length bytes.now) }
+{
+    if !begins_with_letter(bytes) {
+        return Err(ReadError::BadTerm);
+    }
+    let (word, rest) = bytes.split_at(word_len(bytes));
+    if is_reserved(word) {
+        return Err(ReadError::BadTerm);
+    }
+    Ok((word, rest))
+}

@@ -1,0 +1,279 @@
+//! Terms, by descent.
+
+ghost use Rattle.std.specs.Prelude.{◌≡◌, ◌<◌, ◌≤◌, map, length, IfOk};
+ghost use Rattle.term_text.specs.Machine.{ForPolynomial, ForArray, ForMonomial, ForAtom, in_atom, reading, Goes, EndsWrites, EndsMonomial, EndsSum, at_polynomial, at_monomial, at_atom, at_symbol, at_sign, after_array, after_monomial, after_sum, after_polynomial, atom_done, monomial_done, signed, joined, read_of, dividend, modulend};
+ghost use Rattle.term_text.specs.Texts.{Sum};
+ghost use Rattle.term_text.specs.View.{atom_in, head_in, monomial_in, polynomial_in, array_in, base_in, term_in, sum_of, more_sum};
+
+use crate::fault::ReadError;
+use crate::parts::{
+    first_of, make_quotient, make_read, make_remainder, one, push_atom, push_monomial, push_write,
+};
+use crate::scan::{expect, number, word};
+use crate::signs::{
+    begins_with_digit, begins_with_zero_or_minus, close_brace, close_bracket, close_paren, colon,
+    comma, goes_on_as_array, open_bracket, sign,
+};
+use crate::tree::{
+    WrittenArray, WrittenAtom, WrittenBase, WrittenHead, WrittenMonomial, WrittenPolynomial,
+};
+use nf_terms::tree::Side;
+use std::alloc::Global;
+
+#[cycle(terms)]
+fn atom<'a>(alloc: Global, bytes: &'a [u8]) -> Result<(WrittenAtom<'a>, &'a [u8]), ReadError>
+    ensures goes { (k : ForAtom) → Goes result (reading bytes.now (at_atom k)) (λ x. reading x.1.now (atom_done (atom_in x.0) k)) }
+    ensures shorter { IfOk result (λ x. length x.1.now < length bytes.now) }
+{
+    match bytes {
+        [b'L', rest @ ..] => {
+            let rest = expect(rest, b'.')?;
+            symbol(alloc, Side::Left, rest)
+        }
+        [b'R', rest @ ..] => {
+            let rest = expect(rest, b'.')?;
+            symbol(alloc, Side::Right, rest)
+        }
+        [b'd', rest @ ..] => {
+            let rest = expect(rest, b'i')?;
+            let rest = expect(rest, b'v')?;
+            let rest = expect(rest, b'(')?;
+            quotient(alloc, rest)
+        }
+        [b'r', rest @ ..] => {
+            let rest = expect(rest, b'e')?;
+            let rest = expect(rest, b'm')?;
+            let rest = expect(rest, b'(')?;
+            remainder(alloc, rest)
+        }
+        [b'z', rest @ ..] => {
+            let rest = expect(rest, b'e')?;
+            let rest = expect(rest, b'r')?;
+            let rest = expect(rest, b'o')?;
+            read(alloc, WrittenBase::Zero, rest)
+        }
+        _ => Err(ReadError::BadTerm),
+    }
+}
+
+// A symbol, or the array that it is the base of.
+#[cycle(terms)]
+#[tactic(auto, using(crate::proofs::Steps::atom_ends, crate::proofs::Steps::array_goes))]
+fn symbol<'a>(
+    alloc: Global,
+    side: Side,
+    bytes: &'a [u8],
+) -> Result<(WrittenAtom<'a>, &'a [u8]), ReadError>
+    ensures goes { (k : ForAtom) → Goes result (reading bytes.now (at_symbol side (in_atom k))) (λ x. reading x.1.now (atom_done (atom_in x.0) k)) }
+    ensures shorter { IfOk result (λ x. length x.1.now < length bytes.now) }
+{
+    let (name, rest) = word(bytes)?;
+    if goes_on_as_array(rest) {
+        read(alloc, WrittenBase::Symbol(side, name), rest)
+    } else {
+        Ok((WrittenAtom::Symbol(side, name), rest))
+    }
+}
+
+// What is read of an array, after its base.
+#[cycle(terms)]
+fn read<'a>(
+    alloc: Global,
+    base: WrittenBase<'a>,
+    bytes: &'a [u8],
+) -> Result<(WrittenAtom<'a>, &'a [u8]), ReadError>
+    ensures goes { (k : ForAtom) → Goes result (reading bytes.now (after_array (base_in base.entry) (read_of k))) (λ x. reading x.1.now (atom_done (atom_in x.0) k)) }
+    ensures shorter { IfOk result (λ x. length x.1.now < length bytes.now) }
+{
+    let (array, rest) = writes(alloc, base, bytes)?;
+    let rest = open_bracket(rest)?;
+    let (index, rest) = polynomial(alloc, rest)?;
+    let rest = close_bracket(rest)?;
+    let made = make_read(alloc, array, index)?;
+    Ok((made, rest))
+}
+
+/// An array after its base, and what follows it.
+#[cycle(terms)]
+pub fn writes<'a>(
+    alloc: Global,
+    base: WrittenBase<'a>,
+    bytes: &'a [u8],
+) -> Result<(WrittenArray<'a>, &'a [u8]), ReadError>
+    ensures goes { (k : ForArray) → Goes result (reading bytes.now (after_array (base_in base.entry) k)) (λ x. reading x.1.now (after_array (array_in x.0) k)) }
+    ensures shorter { IfOk result (λ x. length x.1.now ≤ length bytes.now) }
+    ensures ends { IfOk result (λ x. EndsWrites x.1.now) }
+{
+    let mut writes = Vec::new(alloc);
+    let mut rest = bytes;
+    loop {
+        match rest {
+            [b'{', after @ ..] => {
+                let (index, after) = polynomial(alloc, after)?;
+                let after = colon(after)?;
+                let (value, after) = polynomial(alloc, after)?;
+                let after = close_brace(after)?;
+                push_write(&mut writes, index, value)?;
+                rest = after;
+            }
+            _ => return Ok((WrittenArray { base, writes }, rest)),
+        }
+    }
+}
+
+#[cycle(terms)]
+fn quotient<'a>(alloc: Global, bytes: &'a [u8]) -> Result<(WrittenAtom<'a>, &'a [u8]), ReadError>
+    ensures goes { (k : ForAtom) → Goes result (reading bytes.now (at_polynomial (dividend k))) (λ x. reading x.1.now (atom_done (atom_in x.0) k)) }
+    ensures shorter { IfOk result (λ x. length x.1.now < length bytes.now) }
+{
+    let (left, rest) = polynomial(alloc, bytes)?;
+    let rest = comma(rest)?;
+    let (right, rest) = polynomial(alloc, rest)?;
+    let rest = close_paren(rest)?;
+    let made = make_quotient(alloc, left, right)?;
+    Ok((made, rest))
+}
+
+#[cycle(terms)]
+fn remainder<'a>(alloc: Global, bytes: &'a [u8]) -> Result<(WrittenAtom<'a>, &'a [u8]), ReadError>
+    ensures goes { (k : ForAtom) → Goes result (reading bytes.now (at_polynomial (modulend k))) (λ x. reading x.1.now (atom_done (atom_in x.0) k)) }
+    ensures shorter { IfOk result (λ x. length x.1.now < length bytes.now) }
+{
+    let (left, rest) = polynomial(alloc, bytes)?;
+    let rest = comma(rest)?;
+    let (right, rest) = polynomial(alloc, rest)?;
+    let rest = close_paren(rest)?;
+    let made = make_remainder(alloc, left, right)?;
+    Ok((made, rest))
+}
+
+// A number, or the first atom of a monomial.
+#[cycle(terms)]
+#[tactic(auto, using(crate::proofs::Steps::monomial_starts))]
+fn head<'a>(alloc: Global, bytes: &'a [u8]) -> Result<(WrittenHead<'a>, &'a [u8]), ReadError>
+    ensures goes { (k : ForMonomial) → Goes result (reading bytes.now (at_monomial k)) (λ x. reading x.1.now (after_monomial (head_in x.0) k)) }
+    ensures shorter { IfOk result (λ x. length x.1.now < length bytes.now) }
+{
+    if begins_with_digit(bytes) {
+        let (digits, rest) = number(bytes)?;
+        Ok((WrittenHead::Number(digits), rest))
+    } else {
+        let (first, rest) = atom(alloc, bytes)?;
+        Ok((one(first), rest))
+    }
+}
+
+// The atoms of a monomial.
+#[cycle(terms)]
+fn factors<'a>(alloc: Global, bytes: &'a [u8]) -> Result<(WrittenMonomial<'a>, &'a [u8]), ReadError>
+    ensures goes { (k : ForMonomial) → Goes result (reading bytes.now (at_monomial k)) (λ x. reading x.1.now (after_monomial (monomial_in x.0) k)) }
+    ensures shorter { IfOk result (λ x. length x.1.now < length bytes.now) }
+    ensures ends { IfOk result (λ x. EndsMonomial x.1.now) }
+{
+    let (head, mut rest) = head(alloc, bytes)?;
+    let mut atoms = Vec::new(alloc);
+    loop {
+        match rest {
+            [b'*', after @ ..] => {
+                let (next, after) = atom(alloc, after)?;
+                push_atom(&mut atoms, next)?;
+                rest = after;
+            }
+            _ => return Ok((WrittenMonomial { head, atoms }, rest)),
+        }
+    }
+}
+
+#[cycle(terms)]
+#[tactic(auto, using(crate::proofs::Steps::monomial_ends))]
+fn monomial<'a>(
+    alloc: Global,
+    bytes: &'a [u8],
+) -> Result<(WrittenMonomial<'a>, &'a [u8]), ReadError>
+    ensures goes { (k : ForMonomial) → Goes result (reading bytes.now (at_monomial k)) (λ x. reading x.1.now (monomial_done (monomial_in x.0) k)) }
+    ensures shorter { IfOk result (λ x. length x.1.now < length bytes.now) }
+{
+    let (made, rest) = factors(alloc, bytes)?;
+    Ok((made, rest))
+}
+
+// A monomial that is not the first of a sum, from its sign on.
+#[cycle(terms)]
+#[tactic(auto, using(crate::proofs::Steps::next_monomial))]
+fn further<'a>(
+    alloc: Global,
+    bytes: &'a [u8],
+) -> Result<(bool, WrittenMonomial<'a>, &'a [u8]), ReadError>
+    ensures goes { (s : Sum) (k : ForPolynomial) → Goes result (reading bytes.now (at_sign s k)) (λ x. reading x.2.now (after_sum (more_sum s (x.0, monomial_in x.1)) k)) }
+    ensures shorter { IfOk result (λ x. length x.2.now < length bytes.now) }
+{
+    let (minus, rest) = sign(bytes)?;
+    let (next, rest) = monomial(alloc, rest)?;
+    Ok((minus, next, rest))
+}
+
+// A sum, after the sign of its first monomial.
+#[cycle(terms)]
+#[tactic(auto, using(crate::proofs::Steps::first_monomial))]
+fn monomials<'a>(
+    alloc: Global,
+    minus: bool,
+    bytes: &'a [u8],
+) -> Result<(Vec<(bool, WrittenMonomial<'a>)>, &'a [u8]), ReadError>
+    ensures goes { (k : ForPolynomial) → Goes result (reading bytes.now (at_monomial (signed minus k))) (λ x. reading x.1.now (after_sum (sum_of (map term_in x.0.items)) k)) }
+    ensures some { IfOk result (λ x. 0 < length x.0.items) }
+    ensures shorter { IfOk result (λ x. length x.1.now < length bytes.now) }
+    ensures ends { IfOk result (λ x. EndsSum x.1.now) }
+{
+    let (first, mut rest) = monomial(alloc, bytes)?;
+    let mut monomials = first_of(alloc, minus, first)?;
+    loop {
+        match rest {
+            [b' ', after @ ..] => {
+                let (minus, next, after) = further(alloc, after)?;
+                push_monomial(&mut monomials, minus, next)?;
+                rest = after;
+            }
+            _ => return Ok((monomials, rest)),
+        }
+    }
+}
+
+#[cycle(terms)]
+#[tactic(auto, using(crate::proofs::Steps::sum_ends, crate::proofs::Steps::sum_whole))]
+fn sum<'a>(
+    alloc: Global,
+    minus: bool,
+    bytes: &'a [u8],
+) -> Result<(WrittenPolynomial<'a>, &'a [u8]), ReadError>
+    ensures goes { (k : ForPolynomial) → Goes result (reading bytes.now (at_monomial (signed minus k))) (λ x. reading x.1.now (after_polynomial (polynomial_in x.0) k)) }
+    ensures shorter { IfOk result (λ x. length x.1.now < length bytes.now) }
+{
+    let (monomials, rest) = monomials(alloc, minus, bytes)?;
+    Ok((WrittenPolynomial { monomials }, rest))
+}
+
+/// A polynomial at the beginning of bytes, and what follows it.
+#[cycle(terms)]
+#[tactic(auto, using(crate::proofs::Steps::polynomial_starts))]
+pub fn polynomial<'a>(
+    alloc: Global,
+    bytes: &'a [u8],
+) -> Result<(WrittenPolynomial<'a>, &'a [u8]), ReadError>
+    ensures goes { (k : ForPolynomial) → Goes result (reading bytes.now (at_polynomial k)) (λ x. reading x.1.now (after_polynomial (polynomial_in x.0) k)) }
+    ensures shorter { IfOk result (λ x. length x.1.now < length bytes.now) }
+{
+    if !begins_with_zero_or_minus(bytes) {
+        return sum(alloc, false, bytes);
+    }
+    match bytes {
+        [b'0', rest @ ..] => Ok((
+            WrittenPolynomial {
+                monomials: Vec::new(alloc),
+            },
+            rest,
+        )),
+        [b'-', rest @ ..] => sum(alloc, true, rest),
+        _ => Err(ReadError::BadTerm),
+    }
+}

@@ -1,0 +1,7 @@
+mod Lists
+mod Saturated
+mod Normal
+mod Exact
+mod ListForms
+mod Refusals
+mod LiteralForms

@@ -1,0 +1,169 @@
+//! A test of each number and each name of a written term.
+
+ghost use Rattle.std.specs.Prelude.{◌≡◌, map};
+ghost use Rattle.term_values.specs.Parts.{follows, stands};
+ghost use Rattle.term_text.specs.View.{atom_in, head_in, monomial_in, polynomial_in, array_in, list_in, base_in, list_base_in};
+ghost use Rattle.term_values.specs.Checks.{atom_passes, monomial_passes, polynomial_passes, array_passes, list_passes, factor_passes};
+
+use nf_terms::symbols::Sort;
+use nf_terms::tree::Side;
+use term_text::tree::{
+    WrittenArray, WrittenAtom, WrittenBase, WrittenHead, WrittenList, WrittenListBase,
+    WrittenMonomial, WrittenPolynomial,
+};
+
+/// A test of numbers, of numbers before an atom, and of names where a sort is needed.
+pub trait Check {
+    ghost use Rattle.std.specs.Prelude.{◌≡◌};
+    ghost use Rattle.term_values.specs.Checks.{Test};
+
+    /// What it tests.
+    ghost test: { Self → Test };
+
+    fn number(&self, digits: &[u8]) -> bool
+        ensures { result ≡ (test self.now).number digits.now };
+
+    fn factor(&self, digits: &[u8]) -> bool
+        ensures { result ≡ (test self.now).factor digits.now };
+
+    fn name(&self, wanted: Sort, side: Side, name: &[u8]) -> bool
+        ensures { result ≡ (test self.now).name wanted side name.now };
+}
+
+#[cycle(checks)]
+fn atom_passes<C: Check>(check: &C, atom: &WrittenAtom<'_>) -> bool
+    ensures { result ≡ atom_passes (C.test check.now) (atom_in atom.now) }
+{
+    match atom {
+        WrittenAtom::Symbol(side, name) => check.name(Sort::Scalar, *side, name),
+        WrittenAtom::Read(array, index) => {
+            array_passes(check, array) && polynomial_passes(check, index)
+        }
+        WrittenAtom::Quotient(left, right) => {
+            polynomial_passes(check, left) && polynomial_passes(check, right)
+        }
+        WrittenAtom::Remainder(left, right) => {
+            polynomial_passes(check, left) && polynomial_passes(check, right)
+        }
+    }
+}
+
+// A number stands before an atom where atoms follow it.
+fn factor_passes<C: Check>(check: &C, head: &WrittenHead<'_>) -> bool
+    ensures { result ≡ factor_passes (C.test check.now) (head_in head.now) }
+{
+    match head {
+        WrittenHead::Number(digits) => check.factor(digits),
+        WrittenHead::One(_) => true,
+    }
+}
+
+// What a monomial begins with stands where atoms follow it.
+fn stands<C: Check>(check: &C, head: &WrittenHead<'_>, followed: bool) -> bool
+    ensures { result ≡ stands (C.test check.now) (head_in head.now) followed }
+{
+    !followed || factor_passes(check, head)
+}
+
+fn has_more(atoms: &[WrittenAtom<'_>]) -> bool
+    ensures { result ≡ follows (map atom_in atoms.now) }
+{
+    match atoms {
+        [] => false,
+        [_, ..] => true,
+    }
+}
+
+#[cycle(checks)]
+fn head_passes<C: Check>(check: &C, head: &WrittenHead<'_>) -> bool
+    ensures { result ≡ monomial_passes (C.test check.now) (head_in head.now) }
+{
+    match head {
+        WrittenHead::Number(digits) => check.number(digits),
+        WrittenHead::One(atom) => atom_passes(check, atom),
+    }
+}
+
+#[cycle(checks)]
+#[tactic(auto, using(crate::proofs::Lists::monomial_tree))]
+fn monomial_passes<C: Check>(check: &C, monomial: &WrittenMonomial<'_>) -> bool
+    ensures { result ≡ monomial_passes (C.test check.now) (monomial_in monomial.now) }
+{
+    if !head_passes(check, &monomial.head) {
+        return false;
+    }
+    if !stands(check, &monomial.head, has_more(&monomial.atoms)) {
+        return false;
+    }
+    for atom in &monomial.atoms {
+        if !atom_passes(check, atom) {
+            return false;
+        }
+    }
+    true
+}
+
+/// Whether each number and each name of a polynomial passes.
+#[cycle(checks)]
+#[tactic(auto, using(crate::proofs::Lists::polynomial_tree))]
+pub fn polynomial_passes<C: Check>(check: &C, polynomial: &WrittenPolynomial<'_>) -> bool
+    ensures { result ≡ polynomial_passes (C.test check.now) (polynomial_in polynomial.now) }
+{
+    for (_minus, monomial) in &polynomial.monomials {
+        if !monomial_passes(check, monomial) {
+            return false;
+        }
+    }
+    true
+}
+
+fn base_passes<C: Check>(check: &C, base: &WrittenBase<'_>) -> bool
+    ensures { result ≡ array_passes (C.test check.now) (base_in base.now) }
+{
+    match base {
+        WrittenBase::Zero => true,
+        WrittenBase::Symbol(side, name) => check.name(Sort::Array, *side, name),
+    }
+}
+
+/// Whether each number and each name of an array passes.
+#[cycle(checks)]
+#[tactic(auto, using(crate::proofs::Lists::array_tree))]
+pub fn array_passes<C: Check>(check: &C, array: &WrittenArray<'_>) -> bool
+    ensures { result ≡ array_passes (C.test check.now) (array_in array.now) }
+{
+    if !base_passes(check, &array.base) {
+        return false;
+    }
+    for (index, value) in &array.writes {
+        if !polynomial_passes(check, index) || !polynomial_passes(check, value) {
+            return false;
+        }
+    }
+    true
+}
+
+fn list_base_passes<C: Check>(check: &C, base: &WrittenListBase<'_>) -> bool
+    ensures { result ≡ list_passes (C.test check.now) (list_base_in base.now) }
+{
+    match base {
+        WrittenListBase::Empty => true,
+        WrittenListBase::Symbol(side, name) => check.name(Sort::List, *side, name),
+    }
+}
+
+/// Whether each number and each name of a list passes.
+#[tactic(auto, using(crate::proofs::Lists::items_all))]
+pub fn list_passes<C: Check>(check: &C, list: &WrittenList<'_>) -> bool
+    ensures { result ≡ list_passes (C.test check.now) (list_in list.now) }
+{
+    if !list_base_passes(check, &list.base) {
+        return false;
+    }
+    for item in &list.items {
+        if !polynomial_passes(check, item) {
+            return false;
+        }
+    }
+    true
+}

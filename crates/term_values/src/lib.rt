@@ -1,0 +1,11 @@
+//! What the text of a term stands for: the first thing that is wrong with it, and its normal form.
+#![tactic(auto)]
+
+mod checks;
+pub mod faults;
+pub mod literals;
+pub mod names;
+mod numbers;
+pub mod reader;
+mod tests;
+mod trees;

@@ -1,0 +1,43 @@
+//! The numbers that digits spell.
+
+ghost use Rattle.std.specs.Prelude.{◌≡◌, ◌-◌, ◌^◌, min, nat_le, pos, unsigned_abs};
+ghost use Rattle.nf_terms.specs.Limits.{weight_limit};
+ghost use Rattle.term_values.specs.Numbers.{shifted, number_of, clipped};
+
+use nf_terms::limits::WEIGHT_LIMIT;
+
+// A number with one digit more, or the greatest u128 where it is greater.
+fn shifted(number: u128, digit: u8) -> u128
+    ensures { result ≡ min (shifted number digit) (2 ^ 128 - 1) }
+{
+    number
+        .saturating_mul(10)
+        .saturating_add(u128::from(digit.saturating_sub(b'0')))
+}
+
+// The number of digits, or the greatest u128 where it is greater.
+#[tactic(auto, using(crate::proofs::Saturated::digit_more, crate::proofs::Saturated::whole))]
+fn saturated(digits: &[u8]) -> u128
+    ensures { result ≡ min (number_of digits.now) (2 ^ 128 - 1) }
+{
+    let mut number = 0u128;
+    for digit in digits {
+        number = shifted(number, *digit);
+    }
+    number
+}
+
+/// Whether the number of digits is at most 2^127 - 1.
+pub fn fits(digits: &[u8]) -> bool
+    ensures { result ≡ nat_le (number_of digits.now) weight_limit }
+{
+    saturated(digits) <= WEIGHT_LIMIT
+}
+
+/// The number of digits, or 2^127 - 1 where it is greater.
+pub fn clipped(digits: &[u8]) -> i128
+    ensures number { result ≡ pos (clipped digits.now) }
+    ensures natural { result ≡ pos (unsigned_abs result) }
+{
+    saturated(digits).min(WEIGHT_LIMIT) as i128
+}

@@ -1,0 +1,157 @@
+//! From written terms to trees of terms.
+
+ghost use Rattle.std.specs.Prelude.{◌≡◌, ◌++◌, map, pos, List, IfOk, unsigned_abs};
+ghost use Rattle.nf_terms.specs.Terms as terms;
+ghost use Rattle.nf_terms.specs.View as view;
+ghost use Rattle.term_text.specs.View as text;
+ghost use Rattle.term_values.specs.Numbers.{clipped};
+ghost use Rattle.term_values.specs.Values.{within_limit, coefficient, atom_value, atoms_of, polynomial_value, array_value, list_base};
+ghost use Rattle.term_values.specs.Parts.{under_sign, base_value};
+
+use crate::names::{Names, position};
+use crate::numbers::clipped;
+use nf_terms::copies::{push_atom, push_term};
+use nf_terms::stop::NoMemory;
+use nf_terms::tree::{ArrTree, Atom, Base, MonoTree, PolyTree, SeqBase};
+use std::alloc::Global;
+use term_text::tree::{
+    WrittenArray, WrittenAtom, WrittenBase, WrittenHead, WrittenListBase, WrittenMonomial,
+    WrittenPolynomial,
+};
+
+// The coefficient that a monomial begins with: 1 where it begins with an atom.
+fn head_number(head: &WrittenHead<'_>) -> i128
+    ensures number { result ≡ pos (coefficient clipped (text.head_in head.now)) }
+    ensures natural { result ≡ pos (unsigned_abs result) }
+{
+    match head {
+        WrittenHead::Number(digits) => clipped(digits),
+        WrittenHead::One(_) => 1,
+    }
+}
+
+// The coefficient of a monomial under its sign.
+#[tactic(auto, using(crate::proofs::Lists::coefficient_tree))]
+fn signed_number(minus: bool, monomial: &WrittenMonomial<'_>) -> i128
+    ensures { result ≡ under_sign minus (coefficient clipped (text.monomial_in monomial.now)) }
+{
+    let number = head_number(&monomial.head);
+    if minus { -number } else { number }
+}
+
+#[cycle(trees)]
+fn atom_tree<N: Names>(alloc: Global, names: &N, atom: &WrittenAtom<'_>) -> Result<Atom, NoMemory>
+    ensures { IfOk result (λ a. view.atom_in a ≡ atom_value (within_limit (N.find names.now)) (text.atom_in atom.now)) }
+{
+    match atom {
+        WrittenAtom::Symbol(side, name) => Ok(Atom::Sym(position(names, *side, name))),
+        WrittenAtom::Read(array, index) => {
+            let array = Box::new(alloc, array_tree(alloc, names, array)?)?;
+            let index = Box::new(alloc, polynomial_tree(alloc, names, index)?)?;
+            Ok(Atom::Read(array, index))
+        }
+        WrittenAtom::Quotient(left, right) => {
+            let left = Box::new(alloc, polynomial_tree(alloc, names, left)?)?;
+            let right = Box::new(alloc, polynomial_tree(alloc, names, right)?)?;
+            Ok(Atom::Div(left, right))
+        }
+        WrittenAtom::Remainder(left, right) => {
+            let left = Box::new(alloc, polynomial_tree(alloc, names, left)?)?;
+            let right = Box::new(alloc, polynomial_tree(alloc, names, right)?)?;
+            Ok(Atom::Rem(left, right))
+        }
+    }
+}
+
+// The atom that a monomial begins with, if it does.
+#[cycle(trees)]
+fn head_atoms<N: Names>(
+    alloc: Global,
+    names: &N,
+    head: &WrittenHead<'_>,
+) -> Result<Vec<Atom>, NoMemory>
+    ensures { IfOk result (λ v. (rest : List terms.Atom) → terms.monomial_of (map view.atom_in v.items ++ rest) ≡ atoms_of (within_limit (N.find names.now)) (text.head_in head.now) (terms.monomial_of rest)) }
+{
+    let mut atoms = Vec::new(alloc);
+    match head {
+        WrittenHead::Number(_) => {}
+        WrittenHead::One(atom) => push_atom(&mut atoms, atom_tree(alloc, names, atom)?)?,
+    }
+    Ok(atoms)
+}
+
+#[cycle(trees)]
+#[tactic(auto, using(crate::proofs::Lists::monomial_is))]
+fn monomial_tree<N: Names>(
+    alloc: Global,
+    names: &N,
+    monomial: &WrittenMonomial<'_>,
+) -> Result<MonoTree, NoMemory>
+    ensures { IfOk result (λ m. view.monomial_in m ≡ atoms_of (within_limit (N.find names.now)) (text.monomial_in monomial.now) terms.One) }
+{
+    let mut atoms = head_atoms(alloc, names, &monomial.head)?;
+    for atom in &monomial.atoms {
+        push_atom(&mut atoms, atom_tree(alloc, names, atom)?)?;
+    }
+    Ok(MonoTree { atoms })
+}
+
+/// The tree of a polynomial. The one refusal is out of memory.
+#[cycle(trees)]
+#[tactic(auto, using(crate::proofs::Lists::polynomial_is))]
+pub fn polynomial_tree<N: Names>(
+    alloc: Global,
+    names: &N,
+    polynomial: &WrittenPolynomial<'_>,
+) -> Result<PolyTree, NoMemory>
+    ensures { IfOk result (λ p. view.polynomial_in p ≡ polynomial_value (within_limit (N.find names.now)) (text.polynomial_in polynomial.now)) }
+{
+    let mut monos = Vec::new(alloc);
+    for (minus, monomial) in &polynomial.monomials {
+        let number = signed_number(*minus, monomial);
+        push_term(&mut monos, monomial_tree(alloc, names, monomial)?, &number)?;
+    }
+    Ok(PolyTree { monos })
+}
+
+fn base_tree<N: Names>(names: &N, base: &WrittenBase<'_>) -> Base
+    ensures { result ≡ base_value (within_limit (N.find names.now)) (text.base_in base.now) }
+{
+    match base {
+        WrittenBase::Zero => Base::Zero,
+        WrittenBase::Symbol(side, name) => Base::Sym(position(names, *side, name)),
+    }
+}
+
+/// The tree of an array. The one refusal is out of memory.
+#[cycle(trees)]
+#[tactic(auto, using(crate::proofs::Lists::array_is))]
+pub fn array_tree<N: Names>(
+    alloc: Global,
+    names: &N,
+    array: &WrittenArray<'_>,
+) -> Result<ArrTree, NoMemory>
+    ensures { IfOk result (λ a. view.array_in a ≡ array_value (within_limit (N.find names.now)) (text.array_in array.now) terms.NoWrites) }
+{
+    let mut writes = Vec::new(alloc);
+    for (index, value) in &array.writes {
+        writes.push((
+            polynomial_tree(alloc, names, index)?,
+            polynomial_tree(alloc, names, value)?,
+        ))?;
+    }
+    Ok(ArrTree {
+        base: base_tree(names, &array.base),
+        writes,
+    })
+}
+
+/// What a list begins with.
+pub fn list_base_tree<N: Names>(names: &N, base: &WrittenListBase<'_>) -> SeqBase
+    ensures { result ≡ list_base (within_limit (N.find names.now)) (text.list_base_in base.now) }
+{
+    match base {
+        WrittenListBase::Empty => SeqBase::Empty,
+        WrittenListBase::Symbol(side, name) => SeqBase::Sym(position(names, *side, name)),
+    }
+}

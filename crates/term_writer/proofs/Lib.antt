@@ -1,0 +1,7 @@
+mod Directly
+mod Integers
+mod Bound
+mod Back
+mod Deep
+mod Spelling
+mod ListTexts

@@ -1,0 +1,35 @@
+//! Laws of written terms. The functions do nothing.
+
+ghost use Rattle.std.specs.Prelude.{◌≡◌, ◌≤◌, ◌+◌, ◌*◌, ℕ, List, length};
+ghost use Rattle.nf_terms.specs.declared.tree.Pos.{Pos};
+ghost use Rattle.nf_terms.specs.Terms.{Polynomial, ArrayTerm, NoWrites};
+ghost use Rattle.nf_terms.specs.Measures.{size_of, size_of_array};
+ghost use Rattle.nf_terms.specs.Normal.{IsNormal, IsNormalArray};
+ghost use Rattle.nf_terms.specs.Lists.{ListTerm, IsNormalList, size_of_list};
+ghost use Rattle.term_text.specs.Texts.{polynomial, array, list, polynomial_text, array_text, list_text};
+ghost use Rattle.term_text.specs.Spelled.{Spells};
+ghost use Rattle.term_values.specs.Names.{Find};
+ghost use Rattle.term_values.specs.Values.{exact, polynomial_value, array_value, list_value};
+ghost use Rattle.term_writer.specs.Written.{polynomial_written, array_written, list_written};
+ghost use Rattle.term_writer.specs.Named.{IsNamed, OfPolynomial, OfArray, OfList};
+
+/// The text that is written for a normal term is one of the grammar, where its symbols have names.
+pub fn written_terms_are_spelled()
+    ensures polynomial { (name : Pos → List ℕ) (find : Find) (p : Polynomial) → OfPolynomial (IsNamed name find) p → IsNormal p → Spells (polynomial_text (polynomial_written name p)) (polynomial (polynomial_written name p)) }
+    ensures array { (name : Pos → List ℕ) (find : Find) (a : ArrayTerm) → OfArray (IsNamed name find) a → IsNormalArray a → Spells (array_text (array_written name a)) (array (array_written name a)) }
+    ensures list { (name : Pos → List ℕ) (find : Find) (l : ListTerm) → OfList (IsNamed name find) l → IsNormalList l → Spells (list_text (list_written name l)) (list (list_written name l)) }
+{}
+
+/// What is written for a normal term stands for it again.
+pub fn written_terms_mean_themselves()
+    ensures polynomial { (name : Pos → List ℕ) (find : Find) (p : Polynomial) → OfPolynomial (IsNamed name find) p → IsNormal p → polynomial_value (exact find) (polynomial_written name p) ≡ p }
+    ensures array { (name : Pos → List ℕ) (find : Find) (a : ArrayTerm) → OfArray (IsNamed name find) a → IsNormalArray a → array_value (exact find) (array_written name a) NoWrites ≡ a }
+    ensures list { (name : Pos → List ℕ) (find : Find) (l : ListTerm) → OfList (IsNamed name find) l → IsNormalList l → list_value (exact find) (list_written name l) ≡ l }
+{}
+
+/// The text of a normal polynomial has at most 1 byte and 47 bytes for each unit of its size, that of an array or a list 47 for each unit.
+pub fn written_terms_are_short()
+    ensures polynomial { (name : Pos → List ℕ) (find : Find) (p : Polynomial) → OfPolynomial (IsNamed name find) p → IsNormal p → length (polynomial_text (polynomial_written name p)) ≤ 1 + 47 * size_of p }
+    ensures array { (name : Pos → List ℕ) (find : Find) (a : ArrayTerm) → OfArray (IsNamed name find) a → IsNormalArray a → length (array_text (array_written name a)) ≤ 47 * size_of_array a }
+    ensures list { (name : Pos → List ℕ) (find : Find) (l : ListTerm) → OfList (IsNamed name find) l → IsNormalList l → length (list_text (list_written name l)) ≤ 47 * size_of_list l }
+{}

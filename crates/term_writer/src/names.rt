@@ -1,0 +1,16 @@
+//! The names of positions.
+
+use nf_terms::tree::Pos;
+
+/// The names of positions on their sides.
+pub trait PositionNames {
+    ghost use Rattle.std.specs.Prelude.{◌≡◌, ℕ, List};
+    ghost use Rattle.nf_terms.specs.declared.tree.Pos.{Pos};
+
+    /// The name of each position.
+    ghost name: { Self → Pos → List ℕ };
+
+    /// The name of a position, without its side.
+    fn name(&self, p: Pos) -> &[u8]
+        ensures { result.now ≡ name self.now p };
+}
