@@ -1,0 +1,11 @@
+pub mod Arriving
+pub mod Passes
+pub mod Joined
+pub mod Rebased
+pub mod LiteralSymbols
+pub mod JoinSymbols
+pub mod RebaseSymbols
+pub mod Solved
+pub mod Paired
+pub mod Strength
+pub mod Behind

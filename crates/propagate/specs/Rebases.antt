@@ -1,0 +1,235 @@
+-- The rebase of a post: the fact whose symbols are the values where the post leads.
+use Rattle.std.specs.Prelude.{Bool, true, false, ◌||◌, cond, is_some, ℤ, pos, neg_ℤ, take, filter, List, [], ◌∷◌, ◌++◌, Option, Some, None}
+use Rattle.std.specs.Option.{option_map}
+use Rattle.std.specs.List.{list_all, list_any}
+use Rattle.std.specs.Ordering.{int_eq}
+use Rattle.fs_model.specs.declared.parts.Sort.{Sort}
+use Rattle.fs_model.specs.declared.parts.Sort.TheVariants as sort
+use Rattle.fs_pair.specs.declared.positions.Position.{Position}
+use Rattle.nf_terms.specs.Terms.{Atom, Monomial, Polynomial, ArrayTerm, Symbol, Read, Quotient, Remainder, One, Times, Zero, Plus, Over, NoWrites, Write, polynomial_of_symbol}
+use Rattle.nf_terms.specs.Forms.{same_form}
+use Rattle.nf_terms.specs.Symbols.{symbols_of}
+use Rattle.nf_terms.specs.Computed.{Computed, Done, after}
+use Rattle.nf_terms.specs.declared.tree.Pos.{Pos}
+use Rattle.nf_terms.specs.declared.tree.Base.{Base}
+use Rattle.nf_terms.specs.declared.tree.Base.TheVariants as base
+use Rattle.nf_terms.specs.declared.tree.SeqBase.{SeqBase}
+use Rattle.nf_terms.specs.declared.tree.SeqBase.TheVariants as list
+use Rattle.nf_terms.specs.declared.symbols.Sort.{Sort as TermSort}
+use Rattle.nf_terms.specs.declared.symbols.Sort.TheVariants as term
+use Rattle.nf_terms.specs.declared.form.Nf.{Nf}
+use Rattle.nf_terms.specs.declared.form.Nf.TheVariants.{Num, Arr, Seq}
+use Rattle.nf_sums.specs.Operations.{added, subtracted}
+use Rattle.nf_subst.specs.Vectors.{form_at, number_at, array_at, list_at, with_form}
+use Rattle.nf_subst.specs.Substitution.{substituted}
+use Rattle.nf_rel.specs.Literals.{NormalLiteral, True}
+use Rattle.nf_rel.specs.NormalLiterals.{same_literal}
+use Rattle.sym_paths.specs.Execution.{Post}
+use Rattle.sym_paths.specs.Sequences.{each}
+use Rattle.sym_facts.specs.Facts.{FactPosition, Fact, sort_of_terms, own_symbol, most_literals}
+use Rattle.sym_facts.specs.Entailment.{form_substituted, literal_substituted}
+use Rattle.sym_facts.specs.Pairings.{form_within, literal_within}
+
+-- what a vector has at a position of a sort
+abbrev pub value_at : List (Pos × Nf) → Sort → Pos → Nf
+value_at v sort.Scalar p = Num (number_at v p)
+value_at v sort.Array p = Arr (array_at v p)
+value_at v sort.Port p = Seq (list_at v p)
+
+-- whether a symbol is held: a new meaning stands for it
+abbrev pub is_held : List (Pos × Nf) → Pos × TermSort → Bool
+is_held ms x = is_some (form_at x.1 x.0 ms)
+
+-- whether all symbols of a polynomial, of a form, of a literal are held
+abbrev pub number_held : List (Pos × Nf) → Polynomial → Bool
+number_held ms p = list_all (is_held ms) (symbols_of p)
+
+abbrev pub form_held : List (Pos × Nf) → Nf → Bool
+form_held ms f = form_within (is_held ms) f
+
+abbrev pub literal_held : List (Pos × Nf) → NormalLiteral → Bool
+literal_held ms l = literal_within (is_held ms) l
+
+-- ---- symbols alone
+abbrev pub lone_atom : Atom → Option Pos
+lone_atom (Symbol p) = Some p
+lone_atom (Read b i) = None
+lone_atom (Quotient p q) = None
+lone_atom (Remainder p q) = None
+
+abbrev pub lone_symbol : Monomial → Option Pos
+lone_symbol One = None
+lone_symbol (Times a One) = lone_atom a
+lone_symbol (Times a (Times b m)) = None
+
+abbrev pub bare_number : Polynomial → Option Pos
+bare_number Zero = None
+bare_number (Plus m c Zero) = cond (int_eq c (pos 1)) (lone_symbol m) None
+bare_number (Plus m c (Plus n d p)) = None
+
+abbrev pub bare_base : Base → Option Pos
+bare_base base.Zero = None
+bare_base (base.Sym p) = Some p
+
+abbrev pub symbol_of_array : ArrayTerm → Option Pos
+symbol_of_array (Over b NoWrites) = bare_base b
+symbol_of_array (Over b (Write i x ws)) = None
+
+abbrev pub bare_list_base : SeqBase → Option Pos
+bare_list_base list.Empty = None
+bare_list_base (list.Sym p) = Some p
+
+abbrev pub symbol_of_list : SeqBase → List Polynomial → Option Pos
+symbol_of_list b [] = bare_list_base b
+symbol_of_list b (p ∷ ps) = None
+
+-- the symbol that a form is
+abbrev pub bare_symbol : Nf → Option Pos
+bare_symbol (Num p) = bare_number p
+bare_symbol (Arr a) = symbol_of_array a
+bare_symbol (Seq l) = symbol_of_list l.base l.items
+
+-- ---- the first pass: a position whose value is a symbol that is not held holds it
+-- which positions are free so far, and the new meanings
+pub record Held : Type 0 where
+  pub free : List Bool
+  pub meanings : List (Pos × Nf)
+
+abbrev pub marked : Bool → Held → Held
+marked b h = record { free = b ∷ h.free; meanings = h.meanings }
+
+-- the symbol that is not held and that the value of a position is
+abbrev pub unheld : List (Pos × Nf) → TermSort → Option Pos → Option Pos
+unheld ms s None = None
+unheld ms s (Some x) = cond (is_held ms (x, s)) None (Some x)
+
+abbrev pub symbol_found : (v ms : List (Pos × Nf)) → Sort → Pos → Option Pos
+symbol_found v ms s p = unheld ms (sort_of_terms s) (bare_symbol (value_at v s p))
+
+-- a position that has found a symbol is free, and its own symbol is the new meaning
+abbrev pub first_by : Option Pos → Sort → Pos → List (Pos × Nf) → (later : List (Pos × Nf) → Held) → Held
+first_by None s p ms later = marked false (later ms)
+first_by (Some x) s p ms later = marked true (later (with_form x (own_symbol s p) ms))
+
+abbrev pub first_pass : List (Pos × Nf) → List Position → List (Pos × Nf) → Held
+first_pass v [] ms = record { free = []; meanings = ms }
+first_pass v (p ∷ ps) ms = first_by (symbol_found v ms p.sort p.pos) p.sort p.pos ms (λ ns. first_pass v ps ns)
+
+-- ---- the second pass: a number that is a symbol that is not held, as it is or negated, and held symbols
+pub record Split : Type 0 where
+  pub symbol : Pos
+  pub positive : Bool
+  pub rest : Polynomial
+
+abbrev pub with_more : Monomial → ℤ → Split → Split
+with_more m c x = record { symbol = x.symbol; positive = x.positive; rest = Plus m c x.rest }
+
+abbrev pub split_by : (held is_one is_minus : Bool) → Pos → Polynomial → (later : Option Split) → Option Split
+split_by true one minus s p later = later
+split_by false true minus s p later = Some (record { symbol = s; positive = true; rest = p })
+split_by false false true s p later = Some (record { symbol = s; positive = false; rest = p })
+split_by false false false s p later = later
+
+abbrev pub split_at : List (Pos × Nf) → ℤ → Option Pos → Polynomial → (later : Option Split) → Option Split
+split_at ms c None p later = later
+split_at ms c (Some s) p later = split_by (is_held ms (s, term.Scalar)) (int_eq c (pos 1)) (int_eq c (neg_ℤ (pos 1))) s p later
+
+-- the first symbol alone that is not held, with the coefficient 1 or -1, and the rest
+abbrev pub split : List (Pos × Nf) → Polynomial → Option Split
+split ms Zero = None
+split ms (Plus m c p) = split_at ms c (lone_symbol m) p (option_map (with_more m c) (split ms p))
+
+-- the position's symbol less the rest, or the rest less it
+abbrev pub less_rest : (positive : Bool) → Pos → Polynomial → Computed Polynomial
+less_rest true p r = subtracted (polynomial_of_symbol p) r
+less_rest false p r = subtracted r (polynomial_of_symbol p)
+
+-- a symbol with its new meaning
+pub record Solution : Type 0 where
+  pub symbol : Pos
+  pub meaning : Polynomial
+
+-- the symbol that is split off with its new meaning, where all symbols of the rest are held
+abbrev pub solution : List (Pos × Nf) → Pos → Option Split → Computed (Option Solution)
+solution ms p None = Done None
+solution ms p (Some x) =
+    cond (number_held ms x.rest) (after (substituted ms x.rest) (λ r. after (less_rest x.positive p r) (λ t. Done (Some (record { symbol = x.symbol; meaning = t }))))) (Done None)
+
+abbrev pub solved : (free : Bool) → (v ms : List (Pos × Nf)) → Sort → Pos → Computed (Option Solution)
+solved true v ms s p = Done None
+solved false v ms sort.Scalar p = solution ms p (split ms (number_at v p))
+solved false v ms sort.Array p = Done None
+solved false v ms sort.Port p = Done None
+
+abbrev pub second_by : (free : Bool) → Option Solution → List (Pos × Nf) → (later : List (Pos × Nf) → Computed Held) → Computed Held
+second_by free None ms later = after (later ms) (λ h. Done (marked free h))
+second_by free (Some x) ms later = after (later (with_form x.symbol (Num x.meaning) ms)) (λ h. Done (marked true h))
+
+abbrev pub second_pass : List (Pos × Nf) → List Position → List Bool → List (Pos × Nf) → Computed Held
+second_pass v [] bs ms = Done (record { free = []; meanings = ms })
+second_pass v (p ∷ ps) [] ms = Done (record { free = []; meanings = ms })
+second_pass v (p ∷ ps) (b ∷ bs) ms = after (solved b v ms p.sort p.pos) (λ o. second_by b o ms (λ ns. second_pass v ps bs ns))
+
+-- ---- the third pass: each other position gets its value over held symbols, is tied, or is freed
+-- a number is tied to the first number freed in this pass from which it differs by held symbols alone
+abbrev pub number_tied_to : (v ms : List (Pos × Nf)) → Polynomial → Sort → Pos → (later : Computed (Option Nf)) → Computed (Option Nf)
+number_tied_to v ms t sort.Scalar q later =
+    after (subtracted t (number_at v q)) (λ d. cond (number_held ms d) (after (substituted ms d) (λ e. after (added (polynomial_of_symbol q) e) (λ r. Done (Some (Num r))))) later)
+number_tied_to v ms t sort.Array q later = later
+number_tied_to v ms t sort.Port q later = later
+
+abbrev pub number_tied : (v ms : List (Pos × Nf)) → Polynomial → List Position → Computed (Option Nf)
+number_tied v ms t [] = Done None
+number_tied v ms t (q ∷ qs) = number_tied_to v ms t q.sort q.pos (number_tied v ms t qs)
+
+-- an array or a list is tied to the first position freed in this pass that has the same
+abbrev pub form_tied : List (Pos × Nf) → Nf → List Position → Option Nf
+form_tied v t [] = None
+form_tied v t (q ∷ qs) = cond (same_form t (value_at v q.sort q.pos)) (Some (own_symbol q.sort q.pos)) (form_tied v t qs)
+
+abbrev pub tied : (v ms : List (Pos × Nf)) → Nf → List Position → Computed (Option Nf)
+tied v ms (Num t) qs = number_tied v ms t qs
+tied v ms (Arr a) qs = Done (form_tied v (Arr a) qs)
+tied v ms (Seq l) qs = Done (form_tied v (Seq l) qs)
+
+-- the equation of a position with this value, where it gets one
+abbrev pub equation_found : (v ms : List (Pos × Nf)) → Nf → List Position → Computed (Option Nf)
+equation_found v ms t qs = cond (form_held ms t) (after (form_substituted ms t) (λ r. Done (Some r))) (tied v ms t qs)
+
+-- the positions that are freed in this pass, with one more where it gets no equation
+abbrev pub freed_with : Position → (equation : Option Nf) → List Position → List Position
+freed_with p None qs = qs ++ p ∷ []
+freed_with p (Some r) qs = qs
+
+abbrev pub with_equation : Position → Option Nf → FactPosition
+with_equation p o = record { pos = p.pos; sort = p.sort; equation = o }
+
+abbrev pub third_by : (free : Bool) → (v ms : List (Pos × Nf)) → Position → List Position → (later : List Position → Computed (List FactPosition)) → Computed (List FactPosition)
+third_by true v ms p qs later = after (later qs) (λ rest. Done (with_equation p None ∷ rest))
+third_by false v ms p qs later =
+    after (equation_found v ms (value_at v p.sort p.pos) qs) (λ o. after (later (freed_with p o qs)) (λ rest. Done (with_equation p o ∷ rest)))
+
+abbrev pub third_pass : (v ms : List (Pos × Nf)) → List Position → List Bool → (freed : List Position) → Computed (List FactPosition)
+third_pass v ms [] bs qs = Done []
+third_pass v ms (p ∷ ps) [] qs = Done []
+third_pass v ms (p ∷ ps) (b ∷ bs) qs = third_by b v ms p qs (λ gs. third_pass v ms ps bs gs)
+
+-- ---- conditions
+-- whether a literal says nothing, or nothing new
+abbrev pub is_needless : List NormalLiteral → NormalLiteral → Bool
+is_needless before l = same_literal l True || list_any (same_literal l) before
+
+-- the literals so far, and those of the others that are needed
+abbrev pub with_needed : List NormalLiteral → List NormalLiteral → List NormalLiteral
+with_needed before [] = before
+with_needed before (l ∷ ls) = with_needed (cond (is_needless before l) before (before ++ l ∷ [])) ls
+
+-- the conditions whose symbols are all held, over the new meanings
+abbrev pub conditions_over : List (Pos × Nf) → List NormalLiteral → Computed (List NormalLiteral)
+conditions_over ms ls = each (literal_substituted ms) (filter (literal_held ms) ls)
+
+abbrev pub rebase : Post → List Position → Computed Fact
+rebase post ps =
+    let first = first_pass post.vector ps [] in
+    after (second_pass post.vector ps first.free first.meanings) (λ h. after (third_pass post.vector h.meanings ps h.free []) (λ qs. after (conditions_over h.meanings post.conditions) (λ ls.
+    Done (record { positions = qs; literals = take most_literals (with_needed [] ls) }))))

@@ -1,0 +1,158 @@
+//! Which machines move at a node.
+
+ghost use Rattle.std.specs.Prelude.{◌≡◌, IsTrue, IfOk, map};
+ghost use Rattle.nf_rel.specs.View.{literal_in};
+ghost use Rattle.fs_cut.specs.Paths.{is_point};
+ghost use Rattle.fs_cut.specs.Paths as paths;
+ghost use Rattle.fs_cut.specs.Covers.{cover_of, same_point};
+ghost use Rattle.fs_cut.specs.View.{point_of, path_of};
+ghost use Rattle.nf_terms.specs.Computed.{Answers};
+ghost use Rattle.sym_facts.specs.Facts.{vector_of};
+ghost use Rattle.propagate.specs.Modes.{is_open as is_open_under, count_from, mode_of_counts as mode_of_numbers, mode_of};
+ghost use Rattle.propagate.specs.View.{Traces};
+
+use crate::refutation::is_refuted;
+use bisimulation::mode::Mode;
+use fs_ast::machine::Machine;
+use fs_cut::cover::{Cover, Path, Point};
+use nf_rel::literals::NLit;
+use nf_subst::vector::Vector;
+use nf_terms::stop::{NfStop, NoMemory};
+use nf_terms::tree::Side;
+use std::alloc::Global;
+use sym_facts::fact::Fact;
+use sym_paths::execution::conditions;
+
+/// Why a mode is not found: the stop of the conditions of the path by this branch of this side's point. Where memory
+/// was refused the side and the branch say nothing.
+#[derive(Clone, Copy, Debug, PartialEq, Eq)]
+pub struct ModeStop {
+    pub stop: NfStop,
+    pub side: Side,
+    pub branch: u32,
+}
+
+impl From<NoMemory> for ModeStop {
+    ghost use Rattle.nf_terms.specs.declared.stop.NfStop.TheVariants.{NoMemory as OutOfMemory};
+
+    ghost from_gives = { λ _ s. s.stop ≡ OutOfMemory };
+
+    fn from(_refused: NoMemory) -> ModeStop {
+        ModeStop {
+            stop: NfStop::NoMemory,
+            side: Side::Left,
+            branch: 0,
+        }
+    }
+}
+
+// Copies of literals. The one refusal is out of memory.
+fn copied_literals(alloc: Global, literals: &[NLit]) -> Result<Vec<NLit>, NoMemory>
+    ensures { IfOk result (λ out. map literal_in out.items ≡ map literal_in literals.now) }
+{
+    let mut out = Vec::new(alloc);
+    for literal in literals {
+        out.push(literal.try_clone(alloc)?)?;
+    }
+    Ok(out)
+}
+
+// Whether a path is not refuted under a fact with this vector.
+#[tactic(auto, using(crate::proofs::Behind::literals_behind))]
+fn is_open(
+    alloc: Global,
+    m: &Machine,
+    side: Side,
+    fact: &Fact,
+    v: &Vector,
+    path: &Path,
+) -> Result<bool, NfStop>
+    requires { v.now ≡ vector_of fact.now.positions }
+    ensures { Answers result (is_open_under m.now side fact.now (path_of path.now)) }
+{
+    let mut literals = copied_literals(alloc, fact.conds())?;
+    literals.append(&mut conditions(alloc, m, path, side, v)?)?;
+    Ok(!is_refuted(&literals))
+}
+
+// How many paths are not refuted under a fact with this vector.
+fn count_open(
+    alloc: Global,
+    m: &Machine,
+    side: Side,
+    fact: &Fact,
+    v: &Vector,
+    paths: &[Path],
+) -> Result<usize, ModeStop>
+    requires { v.now ≡ vector_of fact.now.positions }
+    ensures { Traces result (count_from m.now side fact.now (map path_of paths.now) 0) }
+{
+    let mut count = 0;
+    for path in paths {
+        match is_open(alloc, m, side, fact, v, path) {
+            Ok(true) => count += 1,
+            Ok(false) => {}
+            Err(stop) => {
+                return Err(ModeStop {
+                    stop,
+                    side,
+                    branch: path.branch,
+                });
+            }
+        }
+    }
+    Ok(count)
+}
+
+// A machine that has one way on at most moves alone where the other has more.
+fn mode_of_counts(left: usize, right: usize) -> Mode
+    ensures { result ≡ mode_of_numbers left right }
+{
+    if left <= 1 {
+        if right <= 1 { Mode::Both } else { Mode::Left }
+    } else {
+        if right <= 1 { Mode::Right } else { Mode::Both }
+    }
+}
+
+// Whether a point is the return to the reset state.
+fn is_done(p: Point) -> bool
+    ensures { result ≡ same_point (point_of p) paths.Done }
+{
+    matches!(p, Point::Done)
+}
+
+/// The mode of two points under a fact: a machine that is done does not move, and where one of the two has at most one path that is
+/// not refuted under the fact and the other has more, the one moves alone. Else both move.
+///
+/// A stop comes exactly at the first operation that is not narrow, or narrow and not small, in the conditions of the left paths in order
+/// of branches, and then of the right ones; it names the path. `NoMemory`: out of memory.
+#[tactic(auto, using(fs_cut::proofs::Listed::paths_listed))]
+pub fn mode(
+    alloc: Global,
+    a: &Machine,
+    b: &Machine,
+    ca: &Cover,
+    cb: &Cover,
+    fact: &Fact,
+    left: Point,
+    right: Point,
+) -> Result<Mode, ModeStop>
+    requires left_cover { ca.now ≡ cover_of a.now }
+    requires right_cover { cb.now ≡ cover_of b.now }
+    requires left_point { IsTrue (is_point a.now (point_of left)) }
+    requires right_point { IsTrue (is_point b.now (point_of right)) }
+    ensures { Traces result (mode_of a.now b.now fact.now (point_of left) (point_of right)) }
+{
+    match (is_done(left), is_done(right)) {
+        (true, true) => Ok(Mode::End),
+        (true, false) => Ok(Mode::Right),
+        (false, true) => Ok(Mode::Left),
+        (false, false) => {
+            let v = fact.vector(alloc)?;
+            let left_count = count_open(alloc, a, Side::Left, fact, &v, ca.from(left))?;
+            let right_count = count_open(alloc, b, Side::Right, fact, &v, cb.from(right))?;
+            Ok(mode_of_counts(left_count, right_count))
+        }
+    }
+}
