@@ -1,0 +1,6 @@
+pub mod Lists
+pub mod Marking
+pub mod Stacks
+pub mod Steps
+pub mod Roots
+pub mod Falls

@@ -1,0 +1,14 @@
+pub mod Lists
+pub mod Targets
+pub mod Prefixes
+pub mod Closing
+pub mod StartEntailed
+pub mod Changing
+pub mod Starting
+pub mod Fitting
+pub mod Judging
+pub mod Certified
+pub mod Forming
+pub mod Lawful
+pub mod Ending
+pub mod Bounded

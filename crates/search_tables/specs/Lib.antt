@@ -1,0 +1,7 @@
+pub mod Tables
+pub mod Next
+pub mod Legal
+pub mod LoneMoves
+pub mod WellFormed
+pub mod Certifying
+pub mod Obstacles

@@ -1,0 +1,50 @@
+//! How a search ends.
+
+use crate::moves::Move;
+use certificates::cert::Cert;
+use nf_terms::tree::Side;
+
+/// What a table is held to.
+#[derive(Clone, Copy, Debug, PartialEq, Eq)]
+pub enum Budget {
+    /// 4,096 nodes.
+    Nodes,
+    /// 4,000,000 units: 1 for each node, and the sizes of its equations and literals.
+    Units,
+}
+
+/// How a search ends. `moves` are those that made the table, in order, each of which made a node, freed a position or dropped a
+/// condition.
+#[derive(Drop)]
+pub enum Outcome {
+    /// All obligations of the certificate hold.
+    Closed(Cert),
+    /// At this node both machines are done, and the two terms of this left output differ.
+    Stuck {
+        moves: Vec<Move>,
+        node: u32,
+        var: u32,
+    },
+    /// These nodes follow one another by moves of this side alone, the last leading back to the first.
+    Spin {
+        moves: Vec<Move>,
+        side: Side,
+        cycle: Vec<u32>,
+    },
+    /// An operation of this move is not narrow; where a mode was being found, of this one path.
+    Wide {
+        moves: Vec<Move>,
+        at: Move,
+    },
+    /// An operation of this move is narrow and not small; where a mode was being found, of this one path.
+    Large {
+        moves: Vec<Move>,
+        at: Move,
+    },
+    /// This move would pass a budget.
+    Exhausted {
+        moves: Vec<Move>,
+        at: Move,
+        what: Budget,
+    },
+}
