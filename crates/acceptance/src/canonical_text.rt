@@ -1,16 +1,10 @@
 //! The canonical text that `fmt` puts: its lines, its blanks, and exactly the brackets without which it would be read
 //! otherwise.
 
-use crate::asked::{Case, each_pair, each_row};
-use std::test::Fail;
+use crate::asked::{each_pair, each_row};
+use std::alloc::AllocError;
 
-const TEXT: Case = Case {
-    words: "fmt a.fsmd",
-    left: "{A}",
-    right: "",
-    inputs: "",
-    reply: "{2}",
-};
+const TEXT: &str = "fmt a.fsmd¦{A}¦¦¦{2}";
 
 // The canonical text of a text, and that of the canonical text, which is itself.
 const IT_AND_ITS_REPLY: &str = "{1}
@@ -27,19 +21,13 @@ fsmd 1;local z,y;input x;reset s;state s:goto u;state u:when x<=y goto s:z=x,y=z
 ";
 
 #[test]
-fn whole_texts(rt: HostRuntime) -> Result<(), Fail> {
-    each_pair(&rt, rt.alloc(), &TEXT, IT_AND_ITS_REPLY, TEXTS)?;
-    Ok(())
+fn whole_texts(rt: HostRuntime) -> Result<(), AllocError> {
+    each_pair(&rt, rt.alloc(), TEXT, IT_AND_ITS_REPLY, TEXTS)
 }
 
 // A state of one machine: what is written, and what stands in the canonical text.
-const IN_STATE: Case = Case {
-    words: "fmt a.fsmd",
-    left: r"fsmd 1;\ninput a, b, c;\ninput array m;\noutput y;\noutput array n;\nreset s;\nstate s:\n{A}",
-    right: "",
-    inputs: "",
-    reply: r"fsmd 1;\ninput a, b, c;\ninput array m;\noutput y;\noutput array n;\nreset s;\nstate s:\n{B}",
-};
+const IN_STATE: &str =
+    r"fmt a.fsmd¦fsmd 1;\ninput a, b, c;\ninput array m;\noutput y;\noutput array n;\nreset s;\nstate s:\n{A}¦¦¦fsmd 1;\ninput a, b, c;\ninput array m;\noutput y;\noutput array n;\nreset s;\nstate s:\n{B}";
 
 const SUM_LINES: &str = r"goto s: y={1};¦  goto s: y = {2};\n
   goto s: y = {2};\n¦  goto s: y = {2};\n
@@ -96,9 +84,8 @@ m[a-(b-c)]¦m[a - (b - c)]
 
 // Sums: what is written, and what stands in the canonical text.
 #[test]
-fn brackets_of_sums(rt: HostRuntime) -> Result<(), Fail> {
-    each_pair(&rt, rt.alloc(), &IN_STATE, SUM_LINES, SUMS)?;
-    Ok(())
+fn brackets_of_sums(rt: HostRuntime) -> Result<(), AllocError> {
+    each_pair(&rt, rt.alloc(), IN_STATE, SUM_LINES, SUMS)
 }
 
 const GUARD_LINES: &str = r"when {1} goto s;goto s;¦  when {2} goto s;\n  goto s;\n
@@ -136,9 +123,8 @@ a>=-b¦a >= -b
 
 // Guards: what is written, and what stands in the canonical text.
 #[test]
-fn brackets_of_guards(rt: HostRuntime) -> Result<(), Fail> {
-    each_pair(&rt, rt.alloc(), &IN_STATE, GUARD_LINES, GUARDS)?;
-    Ok(())
+fn brackets_of_guards(rt: HostRuntime) -> Result<(), AllocError> {
+    each_pair(&rt, rt.alloc(), IN_STATE, GUARD_LINES, GUARDS)
 }
 
 const REFUSED: &str = r"¦bad input: a.fsmd:1:1: Ended\n
@@ -149,20 +135,8 @@ fsmd 1;\nreset s;¦bad input: a.fsmd:2: UnknownState\n
 ";
 
 #[test]
-fn texts_that_are_refused(rt: HostRuntime) -> Result<(), Fail> {
-    each_row(
-        &rt,
-        rt.alloc(),
-        &Case {
-            words: "fmt a.fsmd",
-            left: "{1}",
-            right: "",
-            inputs: "",
-            reply: "{2}",
-        },
-        REFUSED,
-    )?;
-    Ok(())
+fn texts_that_are_refused(rt: HostRuntime) -> Result<(), AllocError> {
+    each_row(&rt, rt.alloc(), "fmt a.fsmd¦{1}¦¦¦{2}", REFUSED)
 }
 
 const WORDS: &str = "fmt
@@ -171,18 +145,22 @@ cuts
 cuts a.fsmd b.fsmd
 Fmt a.fsmd
 cut a.fsmd
+check a.fsmd
+check a.fsmd b.fsmd --steps 0
+check a.fsmd b.fsmd --steps 100001
+check a.fsmd b.fsmd --steps 5 --steps 5
+check a.fsmd b.fsmd --depth 5
+run a.fsmd i.json --cert c.json
+fmt a.fsmd --steps 5
+verify a.fsmd b.fsmd c.json
+generate 0
+--help
 ";
 
-const USAGE: Case = Case {
-    words: "{1}",
-    left: "{machine}",
-    right: "{machine}",
-    inputs: "",
-    reply: r"usage: fsmd check A B [--cert F] [--steps N] | verify A B C | run A I [--steps N] | replay A B I [--steps N] | fmt A | cuts A | generate N\n",
-};
+const USAGE: &str =
+    r"{1}¦{machine}¦{machine}¦¦usage: fsmd check A B [--cert F] [--steps N] | verify A B C | run A I [--steps N] | replay A B I [--steps N] | fmt A | cuts A | generate N\n";
 
 #[test]
-fn words_that_are_no_command(rt: HostRuntime) -> Result<(), Fail> {
-    each_row(&rt, rt.alloc(), &USAGE, WORDS)?;
-    Ok(())
+fn words_that_are_no_command(rt: HostRuntime) -> Result<(), AllocError> {
+    each_row(&rt, rt.alloc(), USAGE, WORDS)
 }

@@ -1,33 +1,17 @@
 //! Faults of texts: each kind, with its line and its column.
 
-use crate::asked::{Case, answers, each_pair, each_row};
+use crate::asked::{answers, each_pair, each_row};
+use std::alloc::AllocError;
 use std::test::Fail;
 
 // A text of two cells, whose fault is at the first byte of the second.
-const BEHIND: Case = Case {
-    words: "check a.fsmd b.fsmd",
-    left: "{1}▸{2}",
-    right: "{machine}",
-    inputs: "",
-    reply: r"bad input: a.fsmd:▸: {A}\n",
-};
+const BEHIND: &str = r"check a.fsmd b.fsmd¦{1}▸{2}¦{machine}¦¦bad input: a.fsmd:▸: {A}\n";
 
 // The same behind the front of a state.
-const IN_STATE: Case = Case {
-    words: "check a.fsmd b.fsmd",
-    left: r"fsmd 1; input a, b; input array m; output y, z; output array n; reset s;\nstate s: {1}▸{2}",
-    right: "{machine}",
-    inputs: "",
-    reply: r"bad input: a.fsmd:▸: {A}\n",
-};
+const IN_STATE: &str =
+    r"check a.fsmd b.fsmd¦fsmd 1; input a, b; input array m; output y, z; output array n; reset s;\nstate s: {1}▸{2}¦{machine}¦¦bad input: a.fsmd:▸: {A}\n";
 
-const WHOLE: Case = Case {
-    words: "check a.fsmd b.fsmd",
-    left: "{1}",
-    right: "{machine}",
-    inputs: "",
-    reply: r"bad input: a.fsmd:{2}\n",
-};
+const WHOLE: &str = r"check a.fsmd b.fsmd¦{1}¦{machine}¦¦bad input: a.fsmd:{2}\n";
 
 const BAD_BYTES: &str = "goto s: y = a ¦& b;
 goto s: y = a ¦| b;
@@ -59,9 +43,8 @@ goto s;¦\u{a0}
 ";
 
 #[test]
-fn a_byte_that_begins_no_token(rt: HostRuntime) -> Result<(), Fail> {
-    each_pair(&rt, rt.alloc(), &IN_STATE, "BadByte", BAD_BYTES)?;
-    Ok(())
+fn a_byte_that_begins_no_token(rt: HostRuntime) -> Result<(), AllocError> {
+    each_pair(&rt, rt.alloc(), IN_STATE, "BadByte", BAD_BYTES)
 }
 
 #[test]
@@ -108,9 +91,8 @@ fsmd 1; reset s; state s: goto s: m[¦170141183460469231731687303715884105728¦N
 ";
 
 #[test]
-fn a_word_or_a_number_past_its_limit(rt: HostRuntime) -> Result<(), Fail> {
-    each_pair(&rt, rt.alloc(), &BEHIND, "{3}", PAST_LIMITS)?;
-    Ok(())
+fn a_word_or_a_number_past_its_limit(rt: HostRuntime) -> Result<(), AllocError> {
+    each_pair(&rt, rt.alloc(), BEHIND, "{3}", PAST_LIMITS)
 }
 
 const KINDS: &str = "goto ¦& s;¦BadByte
@@ -142,9 +124,8 @@ when <<127 times:->>a > b ¦+ a &¦Operators
 // At one place the first of these is answered: BadByte, BadWord, NumberTooBig, Unexpected, Operators, Ended. A fault at
 // an earlier place is answered before any at a later one.
 #[test]
-fn the_kind_that_is_answered(rt: HostRuntime) -> Result<(), Fail> {
-    each_pair(&rt, rt.alloc(), &IN_STATE, "{3}", KINDS)?;
-    Ok(())
+fn the_kind_that_is_answered(rt: HostRuntime) -> Result<(), AllocError> {
+    each_pair(&rt, rt.alloc(), IN_STATE, "{3}", KINDS)
 }
 
 const PLACES: &str = r"¦1:1: Ended
@@ -175,9 +156,8 @@ fsmd 1 ##\n\n  input¦3:3: Unexpected
 ";
 
 #[test]
-fn lines_and_columns(rt: HostRuntime) -> Result<(), Fail> {
-    each_row(&rt, rt.alloc(), &WHOLE, PLACES)?;
-    Ok(())
+fn lines_and_columns(rt: HostRuntime) -> Result<(), AllocError> {
+    each_row(&rt, rt.alloc(), WHOLE, PLACES)
 }
 
 const FRONTS: &str = "fsmd
@@ -217,13 +197,7 @@ fsmd 1; reset s; state s: goto s: y = a,
 fsmd 1; reset s; state s: goto s; goto
 ";
 
-const CUT: Case = Case {
-    words: "check a.fsmd b.fsmd",
-    left: "{1}{A}",
-    right: "{machine}",
-    inputs: "",
-    reply: r"bad input: a.fsmd:▸: {B}\n",
-};
+const CUT: &str = r"check a.fsmd b.fsmd¦{1}{A}¦{machine}¦¦bad input: a.fsmd:▸: {B}\n";
 
 const ENDS: &str = r"▸¦Ended
  # no more\n\t▸¦Ended
@@ -231,9 +205,8 @@ const ENDS: &str = r"▸¦Ended
 ";
 
 #[test]
-fn ended_too_early(rt: HostRuntime) -> Result<(), Fail> {
-    each_pair(&rt, rt.alloc(), &CUT, ENDS, FRONTS)?;
-    Ok(())
+fn ended_too_early(rt: HostRuntime) -> Result<(), AllocError> {
+    each_pair(&rt, rt.alloc(), CUT, ENDS, FRONTS)
 }
 
 const OUTSIDE_STATES: &str = "¦FSMD 1;
@@ -281,9 +254,8 @@ fsmd 1; reset s; state ¦1: goto s;
 ";
 
 #[test]
-fn unexpected_outside_states(rt: HostRuntime) -> Result<(), Fail> {
-    each_pair(&rt, rt.alloc(), &BEHIND, "Unexpected", OUTSIDE_STATES)?;
-    Ok(())
+fn unexpected_outside_states(rt: HostRuntime) -> Result<(), AllocError> {
+    each_pair(&rt, rt.alloc(), BEHIND, "Unexpected", OUTSIDE_STATES)
 }
 
 const RESERVED: &str = "fsmd
@@ -313,13 +285,8 @@ fsmd 1; reset s; state s: when
 fsmd 1; reset s; state s: when a > 
 ";
 
-const RESERVED_NAME: Case = Case {
-    words: "check a.fsmd b.fsmd",
-    left: "{1}▸{A};",
-    right: "{machine}",
-    inputs: "",
-    reply: r"bad input: a.fsmd:▸: Unexpected\n",
-};
+const RESERVED_NAME: &str =
+    r"check a.fsmd b.fsmd¦{1}▸{A};¦{machine}¦¦bad input: a.fsmd:▸: Unexpected\n";
 
 const ARRAY_NAMES: &str = "fsmd 1; input a, ¦array;
 fsmd 1; reset ¦array;
@@ -327,10 +294,9 @@ fsmd 1; reset ¦array;
 
 // A word that is reserved is no name, wherever a name stands.
 #[test]
-fn a_reserved_word_for_a_name(rt: HostRuntime) -> Result<(), Fail> {
-    each_pair(&rt, rt.alloc(), &RESERVED_NAME, RESERVED, BEFORE_NAMES)?;
-    each_pair(&rt, rt.alloc(), &BEHIND, "Unexpected", ARRAY_NAMES)?;
-    Ok(())
+fn a_reserved_word_for_a_name(rt: HostRuntime) -> Result<(), AllocError> {
+    each_pair(&rt, rt.alloc(), RESERVED_NAME, RESERVED, BEFORE_NAMES)?;
+    each_pair(&rt, rt.alloc(), BEHIND, "Unexpected", ARRAY_NAMES)
 }
 
 const IN_LINES: &str = "¦;
@@ -381,9 +347,8 @@ goto s; ¦}
 ";
 
 #[test]
-fn unexpected_in_a_line(rt: HostRuntime) -> Result<(), Fail> {
-    each_pair(&rt, rt.alloc(), &IN_STATE, "Unexpected", IN_LINES)?;
-    Ok(())
+fn unexpected_in_a_line(rt: HostRuntime) -> Result<(), AllocError> {
+    each_pair(&rt, rt.alloc(), IN_STATE, "Unexpected", IN_LINES)
 }
 
 const IN_SUMS: &str = "goto s: y = ¦;
@@ -435,9 +400,8 @@ goto s: y = a¦: z = b;
 ";
 
 #[test]
-fn unexpected_in_a_sum(rt: HostRuntime) -> Result<(), Fail> {
-    each_pair(&rt, rt.alloc(), &IN_STATE, "Unexpected", IN_SUMS)?;
-    Ok(())
+fn unexpected_in_a_sum(rt: HostRuntime) -> Result<(), AllocError> {
+    each_pair(&rt, rt.alloc(), IN_STATE, "Unexpected", IN_SUMS)
 }
 
 const IN_GUARDS: &str = "when ¦goto s;
@@ -494,7 +458,6 @@ when a > 0 ¦state t: goto t;
 ";
 
 #[test]
-fn unexpected_in_a_guard(rt: HostRuntime) -> Result<(), Fail> {
-    each_pair(&rt, rt.alloc(), &IN_STATE, "Unexpected", IN_GUARDS)?;
-    Ok(())
+fn unexpected_in_a_guard(rt: HostRuntime) -> Result<(), AllocError> {
+    each_pair(&rt, rt.alloc(), IN_STATE, "Unexpected", IN_GUARDS)
 }

@@ -1,7 +1,7 @@
 //! What is answered of two machines without fault: their interfaces, and forms that are not compared yet.
 
-use crate::asked::{Case, each_pair, each_row};
-use std::test::Fail;
+use crate::asked::{each_pair, each_row};
+use std::alloc::AllocError;
 
 const LEFT_AND_RIGHT: &str = r"¦¦bad input: a.fsmd:1:1: Ended\n
 fsmd 1; reset s;¦¦bad input: a.fsmd:1: UnknownState\n
@@ -16,29 +16,17 @@ fsmd 1; local array m; reset s; state s: goto s;¦fsmd 1; output y; reset s; sta
 
 // The left file is read and checked whole before the right one, and both before the interfaces.
 #[test]
-fn the_left_file_first(rt: HostRuntime) -> Result<(), Fail> {
+fn the_left_file_first(rt: HostRuntime) -> Result<(), AllocError> {
     each_row(
         &rt,
         rt.alloc(),
-        &Case {
-            words: "check a.fsmd b.fsmd",
-            left: "{1}",
-            right: "{2}",
-            inputs: "",
-            reply: "{3}",
-        },
+        "check a.fsmd b.fsmd¦{1}¦{2}¦¦{3}",
         LEFT_AND_RIGHT,
-    )?;
-    Ok(())
+    )
 }
 
-const INTERFACE: Case = Case {
-    words: "check a.fsmd b.fsmd",
-    left: "fsmd 1; {1} reset s; state s: goto s;",
-    right: "fsmd 1; {2} reset s; state s: goto s;",
-    inputs: "",
-    reply: r"bad input: interface: {3}\n",
-};
+const INTERFACE: &str =
+    r"check a.fsmd b.fsmd¦fsmd 1; {1} reset s; state s: goto s;¦fsmd 1; {2} reset s; state s: goto s;¦¦bad input: interface: {3}\n";
 
 const INTERFACES: &str = "input a;¦input b;¦a
 input a, b;¦input b;¦a
@@ -64,9 +52,8 @@ input s;¦input t;¦s
 // The first input or output of the left machine that the right one has not, or has with another role or sort; else the
 // first one of the right machine.
 #[test]
-fn interfaces(rt: HostRuntime) -> Result<(), Fail> {
-    each_row(&rt, rt.alloc(), &INTERFACE, INTERFACES)?;
-    Ok(())
+fn interfaces(rt: HostRuntime) -> Result<(), AllocError> {
+    each_row(&rt, rt.alloc(), INTERFACE, INTERFACES)
 }
 
 const NOT_BUILT: &str =
@@ -98,19 +85,12 @@ fsmd 1; input a, c; output y; reset s; state s: goto s;¦{1}¦interface: c
 // A machine with a state of more than one branch, an array, `/` or `%` is not compared yet. This is looked at after the
 // interfaces, the left machine first.
 #[test]
-fn not_built(rt: HostRuntime) -> Result<(), Fail> {
+fn not_built(rt: HostRuntime) -> Result<(), AllocError> {
     each_pair(
         &rt,
         rt.alloc(),
-        &Case {
-            words: "check a.fsmd b.fsmd",
-            left: "{A}",
-            right: "{B}",
-            inputs: "",
-            reply: r"bad input: {C}\n",
-        },
+        r"check a.fsmd b.fsmd¦{A}¦{B}¦¦bad input: {C}\n",
         NOT_BUILT_WITH,
         NOT_BUILT,
-    )?;
-    Ok(())
+    )
 }

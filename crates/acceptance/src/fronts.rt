@@ -1,23 +1,17 @@
 //! Each front of a text: cut inside a token, behind it, or where a file may end.
 
-use crate::asked::{Case, each_row};
+use crate::asked::each_row;
 use std::alloc::{AllocError, Global};
 use std::process::Abort;
 use std::test::Fail;
 
 // A front and what stands behind the name of its file in the reply. The other file is the whole text's schedule.
-const FRONT: Case = Case {
-    words: "check a.fsmd b.fsmd",
-    left: "{1}",
-    right: "fsmd 1; input a, b; output g; local x, y; reset q0;
+const FRONT: &str = "check a.fsmd b.fsmd¦{1}¦fsmd 1; input a, b; output g; local x, y; reset q0;
 state q0: goto q1: x = a, y = b;
 state q1: when x == y goto q0: g = x; goto q2;
 state q2: when x > y goto q1: x = x - y; goto q1: y = y - x;
-",
-    inputs: "",
-    reply: "bad input: a.fsmd{2}
-",
-};
+¦¦bad input: a.fsmd{2}
+";
 
 // Greatest common divisors by subtraction, token by token, each with the blank before it. A part begins where a file may
 // end, but the first. Before it stands the answer to the file that ends there, or in the blanks that follow.
@@ -53,7 +47,7 @@ fn cut_inside(rt: &impl Abort, alloc: Global, text: &str, word: &str) -> Result<
             } else {
                 format!(in alloc; "{text}{begun}▸¦:▸: Ended")?
             };
-            each_row(rt, alloc, &FRONT, row.as_str())?;
+            each_row(rt, alloc, FRONT, row.as_str())?;
         }
         begun.push(letter)?;
     }
@@ -63,7 +57,7 @@ fn cut_inside(rt: &impl Abort, alloc: Global, text: &str, word: &str) -> Result<
 // Asserts the answer to this front, which ends where a token ends or in the blanks behind it.
 fn cut_behind(rt: &impl Abort, alloc: Global, text: &str, why: &str) -> Result<(), AllocError> {
     let row = format!(in alloc; "{text}▸¦{why}")?;
-    each_row(rt, alloc, &FRONT, row.as_str())
+    each_row(rt, alloc, FRONT, row.as_str())
 }
 
 fn split_blank(token: &str) -> (&str, &str) {

@@ -1,7 +1,7 @@
 //! The limits of texts and machines: the last text within each, and the first past it.
 
-use crate::asked::{Case, each_pair, each_row};
-use std::test::Fail;
+use crate::asked::{each_pair, each_row};
+use std::alloc::AllocError;
 
 const LONGEST_NAMES: &str = "abcdefghijklmnopqrstuvwxyzabcdef
 ABCDEFGHIJKLMNOPQRSTUVWXYZ012345
@@ -17,28 +17,16 @@ fsmd 1; local a; local ¦; reset s; state s: goto s;
 fsmd 1; reset s; state s: goto s; state ¦: goto s;
 ";
 
-const NAMED: Case = Case {
-    words: "check a.fsmd b.fsmd",
-    left: "{1}{A}{2}",
-    right: "{1}{A}{2}",
-    inputs: "",
-    reply: r"equivalent: 2 nodes\n",
-};
+const NAMED: &str = r"check a.fsmd b.fsmd¦{1}{A}{2}¦{1}{A}{2}¦¦equivalent: 2 nodes\n";
 
-const NAMED_LONGER: Case = Case {
-    words: "check a.fsmd b.fsmd",
-    left: "{1}▸{A}7{2}",
-    right: "{machine}",
-    inputs: "",
-    reply: r"bad input: a.fsmd:▸: BadWord\n",
-};
+const NAMED_LONGER: &str =
+    r"check a.fsmd b.fsmd¦{1}▸{A}7{2}¦{machine}¦¦bad input: a.fsmd:▸: BadWord\n";
 
 // 32 bytes of a name are read and 33 are not.
 #[test]
-fn bytes_of_a_name(rt: HostRuntime) -> Result<(), Fail> {
-    each_pair(&rt, rt.alloc(), &NAMED, LONGEST_NAMES, PLACES)?;
-    each_pair(&rt, rt.alloc(), &NAMED_LONGER, LONGEST_NAMES, PLACES)?;
-    Ok(())
+fn bytes_of_a_name(rt: HostRuntime) -> Result<(), AllocError> {
+    each_pair(&rt, rt.alloc(), NAMED, LONGEST_NAMES, PLACES)?;
+    each_pair(&rt, rt.alloc(), NAMED_LONGER, LONGEST_NAMES, PLACES)
 }
 
 const NUMBERS: &str = "0
@@ -62,65 +50,42 @@ const LARGE_NUMBERS: &str = "170141183460469231731687303715884105728;
 9999999999999999999999999999999999999999999999999999999999999999999999999999999;
 ";
 
-const NUMBER: Case = Case {
-    words: "check a.fsmd b.fsmd",
-    left: "fsmd 1; input a, b; output y; reset s; state s: goto s: y = {A};",
-    right: "fsmd 1; input a, b; output y; reset s; state s: goto s: y = {A};",
-    inputs: "",
-    reply: r"equivalent: 2 nodes\n",
-};
+const NUMBER: &str =
+    r"check a.fsmd b.fsmd¦fsmd 1; input a, b; output y; reset s; state s: goto s: y = {A};¦fsmd 1; input a, b; output y; reset s; state s: goto s: y = {A};¦¦equivalent: 2 nodes\n";
 
 const NUMBER_FORMS: &str = "{1}
 -<<200 times:0>>{1}
 ";
 
-const LARGE_NUMBER: Case = Case {
-    words: "check a.fsmd b.fsmd",
-    left: "{A}",
-    right: "{machine}",
-    inputs: "",
-    reply: r"bad input: a.fsmd:▸: NumberTooBig\n",
-};
+const LARGE_NUMBER: &str =
+    r"check a.fsmd b.fsmd¦{A}¦{machine}¦¦bad input: a.fsmd:▸: NumberTooBig\n";
 
 const LARGE_NUMBER_FORMS: &str = "fsmd 1; input a, b; output y; reset s; state s: goto s: y = ▸{1}
 fsmd 1; input a, b; output y; reset s; state s: goto s: y = ▸<<200 times:0>>{1}
 fsmd ▸{1}
 ";
 
-const ACCEPTED: Case = Case {
-    words: "check a.fsmd b.fsmd",
-    left: "{1}",
-    right: "{1}",
-    inputs: "",
-    reply: r"equivalent: 2 nodes\n",
-};
+const ACCEPTED: &str = r"check a.fsmd b.fsmd¦{1}¦{1}¦¦equivalent: 2 nodes\n";
 
-const READ: Case = Case {
-    words: "check a.fsmd b.fsmd",
-    left: "{1}",
-    right: "{1}",
-    inputs: "",
-    reply: r"bad input: a.fsmd: NotBuilt\n",
-};
+const READ: &str = r"check a.fsmd b.fsmd¦{1}¦{1}¦¦bad input: a.fsmd: NotBuilt\n";
 
 // 2 to the 127 less 1 is read and 2 to the 127 is not, with any zeros before.
 #[test]
-fn numbers(rt: HostRuntime) -> Result<(), Fail> {
-    each_pair(&rt, rt.alloc(), &NUMBER, NUMBER_FORMS, NUMBERS)?;
+fn numbers(rt: HostRuntime) -> Result<(), AllocError> {
+    each_pair(&rt, rt.alloc(), NUMBER, NUMBER_FORMS, NUMBERS)?;
     each_pair(
         &rt,
         rt.alloc(),
-        &LARGE_NUMBER,
+        LARGE_NUMBER,
         LARGE_NUMBER_FORMS,
         LARGE_NUMBERS,
     )?;
     each_row(
         &rt,
         rt.alloc(),
-        &ACCEPTED,
+        ACCEPTED,
         "fsmd <<200 times:0>>1; reset s; state s: goto s;",
-    )?;
-    Ok(())
+    )
 }
 
 const MORE: &str = "+ 1;
@@ -142,28 +107,17 @@ const SUMS: &str = "<<128 times:a + >>b
 <<21 times:(a)+(b)+(a)*>>-(b)
 ";
 
-const SUM: Case = Case {
-    words: "check a.fsmd b.fsmd",
-    left: "fsmd 1; input a, b; output y; reset s; state s: goto s: y = {1};",
-    right: "fsmd 1; input a, b; output y; reset s; state s: goto s: y = {1};",
-    inputs: "",
-    reply: r"equivalent: 2 nodes\n",
-};
+const SUM: &str =
+    r"check a.fsmd b.fsmd¦fsmd 1; input a, b; output y; reset s; state s: goto s: y = {1};¦fsmd 1; input a, b; output y; reset s; state s: goto s: y = {1};¦¦equivalent: 2 nodes\n";
 
-const SUM_AND_MORE: Case = Case {
-    words: "check a.fsmd b.fsmd",
-    left: "fsmd 1; input a, b; output y; reset s; state s: goto s: y = {1}▸{A}",
-    right: "{machine}",
-    inputs: "",
-    reply: r"bad input: a.fsmd:▸: Operators\n",
-};
+const SUM_AND_MORE: &str =
+    r"check a.fsmd b.fsmd¦fsmd 1; input a, b; output y; reset s; state s: goto s: y = {1}▸{A}¦{machine}¦¦bad input: a.fsmd:▸: Operators\n";
 
 // 128 operators and opening brackets, and one more.
 #[test]
-fn operators_of_an_assignment(rt: HostRuntime) -> Result<(), Fail> {
-    each_row(&rt, rt.alloc(), &SUM, SUMS)?;
-    each_pair(&rt, rt.alloc(), &SUM_AND_MORE, MORE, SUMS)?;
-    Ok(())
+fn operators_of_an_assignment(rt: HostRuntime) -> Result<(), AllocError> {
+    each_row(&rt, rt.alloc(), SUM, SUMS)?;
+    each_pair(&rt, rt.alloc(), SUM_AND_MORE, MORE, SUMS)
 }
 
 const ASSIGNMENTS: &str = "n[<<127 times:->>a] = 0
@@ -178,28 +132,17 @@ n[-a] = -a, n[-a] = <<126 times:->>a
 n[0] = 0, n[1] = 1, n[2] = <<63 times:m[->>(a)<<63 times:]>>
 ";
 
-const ASSIGNMENT: Case = Case {
-    words: "check a.fsmd b.fsmd",
-    left: "fsmd 1; input a; input array m; output array n; reset s; state s: goto s: {1}, n[0] = 0;",
-    right: "fsmd 1; input a; input array m; output array n; reset s; state s: goto s: {1}, n[0] = 0;",
-    inputs: "",
-    reply: r"bad input: a.fsmd: NotBuilt\n",
-};
+const ASSIGNMENT: &str =
+    r"check a.fsmd b.fsmd¦fsmd 1; input a; input array m; output array n; reset s; state s: goto s: {1}, n[0] = 0;¦fsmd 1; input a; input array m; output array n; reset s; state s: goto s: {1}, n[0] = 0;¦¦bad input: a.fsmd: NotBuilt\n";
 
-const ASSIGNMENT_AND_MORE: Case = Case {
-    words: "check a.fsmd b.fsmd",
-    left: "fsmd 1; input a; input array m; output array n; reset s; state s: goto s: {1}▸{A}",
-    right: "{machine}",
-    inputs: "",
-    reply: r"bad input: a.fsmd:▸: Operators\n",
-};
+const ASSIGNMENT_AND_MORE: &str =
+    r"check a.fsmd b.fsmd¦fsmd 1; input a; input array m; output array n; reset s; state s: goto s: {1}▸{A}¦{machine}¦¦bad input: a.fsmd:▸: Operators\n";
 
 // The index that is assigned counts with what is assigned, and each assignment counts anew.
 #[test]
-fn operators_with_arrays(rt: HostRuntime) -> Result<(), Fail> {
-    each_row(&rt, rt.alloc(), &ASSIGNMENT, ASSIGNMENTS)?;
-    each_pair(&rt, rt.alloc(), &ASSIGNMENT_AND_MORE, MORE, ASSIGNMENTS)?;
-    Ok(())
+fn operators_with_arrays(rt: HostRuntime) -> Result<(), AllocError> {
+    each_row(&rt, rt.alloc(), ASSIGNMENT, ASSIGNMENTS)?;
+    each_pair(&rt, rt.alloc(), ASSIGNMENT_AND_MORE, MORE, ASSIGNMENTS)
 }
 
 const GUARDS: &str = "<<127 times:!>>a > 0
@@ -215,50 +158,29 @@ const GUARDS: &str = "<<127 times:!>>a > 0
 <<31 times:{a < b} || !>>{-a >= -b}
 ";
 
-const GUARD: Case = Case {
-    words: "check a.fsmd b.fsmd",
-    left: "fsmd 1; input a, b; input array m; output y; reset s; state s: when {1} goto s; goto s;",
-    right: "fsmd 1; input a, b; input array m; output y; reset s; state s: when {1} goto s; goto s;",
-    inputs: "",
-    reply: r"bad input: a.fsmd: NotBuilt\n",
-};
+const GUARD: &str =
+    r"check a.fsmd b.fsmd¦fsmd 1; input a, b; input array m; output y; reset s; state s: when {1} goto s; goto s;¦fsmd 1; input a, b; input array m; output y; reset s; state s: when {1} goto s; goto s;¦¦bad input: a.fsmd: NotBuilt\n";
 
-const GUARD_AND_MORE: Case = Case {
-    words: "check a.fsmd b.fsmd",
-    left: "fsmd 1; input a, b; input array m; output y; reset s; state s: when {1} ▸{A}",
-    right: "{machine}",
-    inputs: "",
-    reply: r"bad input: a.fsmd:▸: Operators\n",
-};
+const GUARD_AND_MORE: &str =
+    r"check a.fsmd b.fsmd¦fsmd 1; input a, b; input array m; output y; reset s; state s: when {1} ▸{A}¦{machine}¦¦bad input: a.fsmd:▸: Operators\n";
 
 #[test]
-fn operators_of_a_guard(rt: HostRuntime) -> Result<(), Fail> {
-    each_row(&rt, rt.alloc(), &GUARD, GUARDS)?;
+fn operators_of_a_guard(rt: HostRuntime) -> Result<(), AllocError> {
+    each_row(&rt, rt.alloc(), GUARD, GUARDS)?;
     each_pair(
         &rt,
         rt.alloc(),
-        &GUARD_AND_MORE,
+        GUARD_AND_MORE,
         "&& a > 0 goto s;\n|| a > 0 goto s;",
         GUARDS,
-    )?;
-    Ok(())
+    )
 }
 
-const GUARD_BEHIND: Case = Case {
-    words: "check a.fsmd b.fsmd",
-    left: "fsmd 1; input a, b; input array m; output y; reset s; state s: when {1}▸{2}",
-    right: "{machine}",
-    inputs: "",
-    reply: r"bad input: a.fsmd:▸: Operators\n",
-};
+const GUARD_BEHIND: &str =
+    r"check a.fsmd b.fsmd¦fsmd 1; input a, b; input array m; output y; reset s; state s: when {1}▸{2}¦{machine}¦¦bad input: a.fsmd:▸: Operators\n";
 
-const SUM_BEHIND: Case = Case {
-    words: "check a.fsmd b.fsmd",
-    left: "fsmd 1; input a, b; output y; reset s; state s: goto s: y = {1}▸{2}",
-    right: "{machine}",
-    inputs: "",
-    reply: r"bad input: a.fsmd:▸: Operators\n",
-};
+const SUM_BEHIND: &str =
+    r"check a.fsmd b.fsmd¦fsmd 1; input a, b; output y; reset s; state s: goto s: y = {1}▸{2}¦{machine}¦¦bad input: a.fsmd:▸: Operators\n";
 
 const SIGNS_OF_GUARDS: &str = "<<128 times:->>a ¦== b
 <<128 times:->>a ¦!= b
@@ -285,10 +207,9 @@ const SIGNS_OF_SUMS: &str = "<<128 times:->>¦-a;
 
 // Each sign that counts, as the 129th.
 #[test]
-fn each_sign_counts(rt: HostRuntime) -> Result<(), Fail> {
-    each_row(&rt, rt.alloc(), &GUARD_BEHIND, SIGNS_OF_GUARDS)?;
-    each_row(&rt, rt.alloc(), &SUM_BEHIND, SIGNS_OF_SUMS)?;
-    Ok(())
+fn each_sign_counts(rt: HostRuntime) -> Result<(), AllocError> {
+    each_row(&rt, rt.alloc(), GUARD_BEHIND, SIGNS_OF_GUARDS)?;
+    each_row(&rt, rt.alloc(), SUM_BEHIND, SIGNS_OF_SUMS)
 }
 
 const FULL_LINES: &str =
@@ -296,63 +217,35 @@ const FULL_LINES: &str =
 
 // Each guard and each assignment may have 128, and operator_count between them do not count.
 #[test]
-fn operators_count_anew(rt: HostRuntime) -> Result<(), Fail> {
+fn operators_count_anew(rt: HostRuntime) -> Result<(), AllocError> {
     each_row(
         &rt,
         rt.alloc(),
-        &Case {
-            words: "check a.fsmd b.fsmd",
-            left: "{1};",
-            right: "{1};",
-            inputs: "",
-            reply: r"bad input: a.fsmd: NotBuilt\n",
-        },
+        r"check a.fsmd b.fsmd¦{1};¦{1};¦¦bad input: a.fsmd: NotBuilt\n",
         FULL_LINES,
     )?;
     each_row(
         &rt,
         rt.alloc(),
-        &Case {
-            words: "check a.fsmd b.fsmd",
-            left: "{1}▸+ a;",
-            right: "{machine}",
-            inputs: "",
-            reply: r"bad input: a.fsmd:▸: Operators\n",
-        },
+        r"check a.fsmd b.fsmd¦{1}▸+ a;¦{machine}¦¦bad input: a.fsmd:▸: Operators\n",
         FULL_LINES,
     )?;
     each_row(
         &rt,
         rt.alloc(),
-        &READ,
+        READ,
         "fsmd 1; input a; input array m; output array n; reset s; state s: goto s: <<300 times:n[a] = -a, >>n[0] = a;",
-    )?;
-    Ok(())
+    )
 }
 
-const SCALARS: Case = Case {
-    words: "check a.fsmd b.fsmd",
-    left: r"{1}<<0 to 127:n#, >>n127{2}\nreset s;\nstate s: goto s;",
-    right: r"{1}<<0 to 127:n#, >>n127{2}\nreset s;\nstate s: goto s;",
-    inputs: "",
-    reply: r"equivalent: 2 nodes\n",
-};
+const SCALARS: &str =
+    r"check a.fsmd b.fsmd¦{1}<<0 to 127:n#, >>n127{2}\nreset s;\nstate s: goto s;¦{1}<<0 to 127:n#, >>n127{2}\nreset s;\nstate s: goto s;¦¦equivalent: 2 nodes\n";
 
-const NAMES_AND_ARRAYS: Case = Case {
-    words: "check a.fsmd b.fsmd",
-    left: r"{1}<<0 to 126:n#, >>n126{2}\nreset s;\nstate s: goto s;",
-    right: r"{1}<<0 to 126:n#, >>n126{2}\nreset s;\nstate s: goto s;",
-    inputs: "",
-    reply: r"bad input: a.fsmd: NotBuilt\n",
-};
+const NAMES_AND_ARRAYS: &str =
+    r"check a.fsmd b.fsmd¦{1}<<0 to 126:n#, >>n126{2}\nreset s;\nstate s: goto s;¦{1}<<0 to 126:n#, >>n126{2}\nreset s;\nstate s: goto s;¦¦bad input: a.fsmd: NotBuilt\n";
 
-const NAMES: Case = Case {
-    words: "check a.fsmd b.fsmd",
-    left: r"{1}<<0 to 127:n#, >>n127{2}\nreset s;\nstate s: goto s;",
-    right: "{machine}",
-    inputs: "",
-    reply: r"bad input: a.fsmd:{3}\n",
-};
+const NAMES: &str =
+    r"check a.fsmd b.fsmd¦{1}<<0 to 127:n#, >>n127{2}\nreset s;\nstate s: goto s;¦{machine}¦¦bad input: a.fsmd:{3}\n";
 
 const DECLARED: &str = "fsmd 1; input ¦;
 fsmd 1; output ¦;
@@ -376,40 +269,23 @@ fsmd 1;\ninput n7, ¦;¦2: TwiceNamed
 
 // 128 names are declared in one machine, and a 129th is one too many.
 #[test]
-fn names_of_a_machine(rt: HostRuntime) -> Result<(), Fail> {
-    each_row(&rt, rt.alloc(), &SCALARS, DECLARED)?;
-    each_row(&rt, rt.alloc(), &NAMES_AND_ARRAYS, DECLARED_ARRAYS)?;
-    each_row(&rt, rt.alloc(), &NAMES, TOO_MANY)?;
+fn names_of_a_machine(rt: HostRuntime) -> Result<(), AllocError> {
+    each_row(&rt, rt.alloc(), SCALARS, DECLARED)?;
+    each_row(&rt, rt.alloc(), NAMES_AND_ARRAYS, DECLARED_ARRAYS)?;
+    each_row(&rt, rt.alloc(), NAMES, TOO_MANY)?;
     each_row(
         &rt,
         rt.alloc(),
-        &Case {
-            words: "check a.fsmd b.fsmd",
-            left: "fsmd 1; input <<0 to 127:n#, >>n127, {1}; reset t;",
-            right: "{machine}",
-            inputs: "",
-            reply: r"bad input: a.fsmd:1: UnknownState\n",
-        },
+        r"check a.fsmd b.fsmd¦fsmd 1; input <<0 to 127:n#, >>n127, {1}; reset t;¦{machine}¦¦bad input: a.fsmd:1: UnknownState\n",
         "a",
-    )?;
-    Ok(())
+    )
 }
 
-const CHAIN: Case = Case {
-    words: "check a.fsmd b.fsmd",
-    left: r"fsmd 1; reset p0;\n<<0 to 4095:state p#: goto p#+1;\n>>{1}",
-    right: "{machine}",
-    inputs: "",
-    reply: r"bad input: interface: y\n",
-};
+const CHAIN: &str =
+    r"check a.fsmd b.fsmd¦fsmd 1; reset p0;\n<<0 to 4095:state p#: goto p#+1;\n>>{1}¦{machine}¦¦bad input: interface: y\n";
 
-const LONGER_CHAIN: Case = Case {
-    words: "check a.fsmd b.fsmd",
-    left: r"fsmd 1; reset p0;\n<<0 to 4096:state p#: goto p#+1;\n>>{1}",
-    right: "{machine}",
-    inputs: "",
-    reply: r"bad input: a.fsmd:{2}\n",
-};
+const LONGER_CHAIN: &str =
+    r"check a.fsmd b.fsmd¦fsmd 1; reset p0;\n<<0 to 4096:state p#: goto p#+1;\n>>{1}¦{machine}¦¦bad input: a.fsmd:{2}\n";
 
 const LAST_STATES: &str = r"state p4096: goto p0;¦4098: TooMany
 \n\nstate\np4096\n: goto p0;\nstate p4097: goto q;¦4100: TooMany
@@ -421,27 +297,16 @@ state p4097: goto p0;¦4097: UnknownState
 
 // 4,096 states are declared in one machine, and a 4,097th is one too many.
 #[test]
-fn states_of_a_machine(rt: HostRuntime) -> Result<(), Fail> {
-    each_row(&rt, rt.alloc(), &CHAIN, "state p4095: goto p0;")?;
-    each_row(&rt, rt.alloc(), &LONGER_CHAIN, LAST_STATES)?;
-    Ok(())
+fn states_of_a_machine(rt: HostRuntime) -> Result<(), AllocError> {
+    each_row(&rt, rt.alloc(), CHAIN, "state p4095: goto p0;")?;
+    each_row(&rt, rt.alloc(), LONGER_CHAIN, LAST_STATES)
 }
 
-const BRANCHES: Case = Case {
-    words: "check a.fsmd b.fsmd",
-    left: r"fsmd 1;\noutput y;\nreset s;\nstate s:\n{1}goto s;",
-    right: r"fsmd 1;\noutput y;\nreset s;\nstate s:\n{1}goto s;",
-    inputs: "",
-    reply: r"bad input: a.fsmd: NotBuilt\n",
-};
+const BRANCHES: &str =
+    r"check a.fsmd b.fsmd¦fsmd 1;\noutput y;\nreset s;\nstate s:\n{1}goto s;¦fsmd 1;\noutput y;\nreset s;\nstate s:\n{1}goto s;¦¦bad input: a.fsmd: NotBuilt\n";
 
-const TOO_MANY_BRANCHES: Case = Case {
-    words: "check a.fsmd b.fsmd",
-    left: r"fsmd 1;\noutput y;\nreset s;\nstate s:\n{1}goto s;",
-    right: "{machine}",
-    inputs: "",
-    reply: r"bad input: a.fsmd:4: TooManyBranches\n",
-};
+const TOO_MANY_BRANCHES: &str =
+    r"check a.fsmd b.fsmd¦fsmd 1;\noutput y;\nreset s;\nstate s:\n{1}goto s;¦{machine}¦¦bad input: a.fsmd:4: TooManyBranches\n";
 
 const UP_TO_64: &str = r"when y > 0 goto s;\nwhen y > 0<<61 times: || y > 0>> goto s;\n
 when y > 0<<61 times: || y > 0>> goto s;\nwhen y > 0 goto s;\n
@@ -469,10 +334,9 @@ when y > 0<<63 times: && y > 0>> goto s;\nwhen y > 0<<63 times: && y > 0>> goto 
 // A state has 64 branches, and not 65. A line without guard has one leaf. Where the lines behind a guard have n leaves,
 // k tests joined by `||` make n + k, and k tests joined by `&&` make n * k + 1.
 #[test]
-fn branches_of_a_state(rt: HostRuntime) -> Result<(), Fail> {
-    each_row(&rt, rt.alloc(), &BRANCHES, UP_TO_64)?;
-    each_row(&rt, rt.alloc(), &TOO_MANY_BRANCHES, FROM_65)?;
-    Ok(())
+fn branches_of_a_state(rt: HostRuntime) -> Result<(), AllocError> {
+    each_row(&rt, rt.alloc(), BRANCHES, UP_TO_64)?;
+    each_row(&rt, rt.alloc(), TOO_MANY_BRANCHES, FROM_65)
 }
 
 const BRACKETS_UP_TO_64: &str =
@@ -489,10 +353,9 @@ when !{!{y > 0 || y < 0} || !{y > 1 || y < 1} || !{y > 2 || y < 2} || !{y > 3 ||
 
 // With n leaves behind it, each `{y > 0 || y < 0}` of a conjunction takes m leaves on its yes way to 2 * m + n.
 #[test]
-fn branches_of_brackets(rt: HostRuntime) -> Result<(), Fail> {
-    each_row(&rt, rt.alloc(), &BRANCHES, BRACKETS_UP_TO_64)?;
-    each_row(&rt, rt.alloc(), &TOO_MANY_BRANCHES, BRACKETS_FROM_65)?;
-    Ok(())
+fn branches_of_brackets(rt: HostRuntime) -> Result<(), AllocError> {
+    each_row(&rt, rt.alloc(), BRANCHES, BRACKETS_UP_TO_64)?;
+    each_row(&rt, rt.alloc(), TOO_MANY_BRANCHES, BRACKETS_FROM_65)
 }
 
 const MORE_THAN_A_WORD: &str =
@@ -505,9 +368,8 @@ when y > 0<<9 times: || y > 0>> goto s;\nwhen y > 0<<7 times: && y > 0>> goto s;
 // one less than a power of 2, to 64 * n + 64 - 1 each: one less than 2 to the 6 times as many and 1. The lines in front
 // of them make that 3 more than 2 to the 32, and 3 more than 2 to the 64.
 #[test]
-fn more_branches_than_a_word_counts(rt: HostRuntime) -> Result<(), Fail> {
-    each_row(&rt, rt.alloc(), &TOO_MANY_BRANCHES, MORE_THAN_A_WORD)?;
-    Ok(())
+fn more_branches_than_a_word_counts(rt: HostRuntime) -> Result<(), AllocError> {
+    each_row(&rt, rt.alloc(), TOO_MANY_BRANCHES, MORE_THAN_A_WORD)
 }
 
 const FILES: &str = r"{machine}<<1048530 times: >>¦{machine}¦equivalent: 2 nodes
@@ -524,18 +386,11 @@ fsmd <<1048571 times:a>>¦{machine}¦bad input: a.fsmd:1:6: BadWord
 
 // A file of 1,048,576 bytes is read, and one of a byte more is not.
 #[test]
-fn bytes_of_a_file(rt: HostRuntime) -> Result<(), Fail> {
+fn bytes_of_a_file(rt: HostRuntime) -> Result<(), AllocError> {
     each_row(
         &rt,
         rt.alloc(),
-        &Case {
-            words: "check a.fsmd b.fsmd",
-            left: "{1}",
-            right: "{2}",
-            inputs: "",
-            reply: r"{3}\n",
-        },
+        r"check a.fsmd b.fsmd¦{1}¦{2}¦¦{3}\n",
         FILES,
-    )?;
-    Ok(())
+    )
 }

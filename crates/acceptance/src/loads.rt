@@ -1,5 +1,6 @@
 //! Faults of loading: each call of a command that fails in turn, with the line that is put and the number of calls made.
 
+use crate::asked::words_of;
 use fs_base::memory::MemFiles;
 use fs_base::outside::Files;
 use fs_base::sinks::MemSink;
@@ -7,7 +8,6 @@ use fsmd_tool::answer::Status;
 use fsmd_tool::drive::drive;
 use std::alloc::{AllocError, Global};
 use std::process::Abort;
-use std::test::Fail;
 
 const MACHINE: &[u8] = b"fsmd 1; output y; reset s0; state s0: goto s0;";
 
@@ -18,14 +18,6 @@ fn files(alloc: Global, failing: u64, calls: u64) -> Result<Option<MemFiles>, Al
         && files.add("b.fsmd", MACHINE).is_ok()
         && files.add("i.json", b"{}").is_ok();
     Ok(held.then_some(files))
-}
-
-fn words(alloc: Global, text: &str) -> Result<Vec<String>, AllocError> {
-    let mut words = Vec::new(alloc);
-    for word in text.split(' ') {
-        words.push(String::from_str(alloc, word)?)?;
-    }
-    Ok(words)
 }
 
 // Whether the command ends with this status and line where its call of this number fails, after so many calls.
@@ -43,44 +35,46 @@ fn ends(
     if out.reserve(1_000).is_err() {
         return Ok(false);
     }
-    let words = words(alloc, text)?;
+    let words = words_of(alloc, text)?;
     let status = drive(alloc, words.as_slice(), &mut files, &mut out);
     let last = files.load(alloc, "a.fsmd", 1_000);
     Ok(status == Status::Fault && out.bytes() == line.as_bytes() && last.is_err())
 }
 
-#[test]
-fn check_with_a_file_that_fails(rt: HostRuntime) -> Result<(), Fail> {
-    let alloc = rt.alloc();
-    let words = "check a.fsmd b.fsmd";
-    assert!(rt; ends(alloc, words, 0, 1, "fault: cannot read a.fsmd\n")?);
-    assert!(rt; ends(alloc, words, 1, 2, "fault: cannot read b.fsmd\n")?);
+// Asserts of a command how it ends where its first call fails, its second, and so on: each line of these is what it puts.
+fn each_call(rt: &impl Abort, alloc: Global, words: &str, lines: &str) -> Result<(), AllocError> {
+    let mut failing: u64 = 0;
+    for line in lines.lines() {
+        let line = format!(in alloc; "{line}\n")?;
+        let calls = failing.saturating_add(1);
+        assert!(rt;
+            ends(alloc, words, failing, calls, line.as_str())?,
+            "{words}: {line}"
+        );
+        failing = calls;
+    }
     Ok(())
 }
 
-#[test]
-fn run_with_a_file_that_fails(rt: HostRuntime) -> Result<(), Fail> {
-    let alloc = rt.alloc();
-    let words = "run a.fsmd i.json";
-    assert!(rt; ends(alloc, words, 0, 1, "fault: cannot read a.fsmd\n")?);
-    assert!(rt; ends(alloc, words, 1, 2, "fault: cannot read i.json\n")?);
-    Ok(())
-}
+const LEFT: &str = "fault: cannot read a.fsmd";
 
-#[test]
-fn replay_with_a_file_that_fails(rt: HostRuntime) -> Result<(), Fail> {
-    let alloc = rt.alloc();
-    let words = "replay a.fsmd b.fsmd i.json";
-    assert!(rt; ends(alloc, words, 0, 1, "fault: cannot read a.fsmd\n")?);
-    assert!(rt; ends(alloc, words, 1, 2, "fault: cannot read b.fsmd\n")?);
-    assert!(rt; ends(alloc, words, 2, 3, "fault: cannot read i.json\n")?);
-    Ok(())
-}
+const PAIR: &str = "fault: cannot read a.fsmd
+fault: cannot read b.fsmd";
 
+const MACHINE_AND_INPUTS: &str = "fault: cannot read a.fsmd
+fault: cannot read i.json";
+
+const PAIR_AND_INPUTS: &str = "fault: cannot read a.fsmd
+fault: cannot read b.fsmd
+fault: cannot read i.json";
+
+// The files are loaded in the order of the words, and none after one that fails.
 #[test]
-fn fmt_and_cuts_with_a_file_that_fails(rt: HostRuntime) -> Result<(), Fail> {
+fn commands_with_a_file_that_fails(rt: HostRuntime) -> Result<(), AllocError> {
     let alloc = rt.alloc();
-    assert!(rt; ends(alloc, "fmt a.fsmd", 0, 1, "fault: cannot read a.fsmd\n")?);
-    assert!(rt; ends(alloc, "cuts a.fsmd", 0, 1, "fault: cannot read a.fsmd\n")?);
-    Ok(())
+    each_call(&rt, alloc, "check a.fsmd b.fsmd", PAIR)?;
+    each_call(&rt, alloc, "run a.fsmd i.json", MACHINE_AND_INPUTS)?;
+    each_call(&rt, alloc, "replay a.fsmd b.fsmd i.json", PAIR_AND_INPUTS)?;
+    each_call(&rt, alloc, "fmt a.fsmd", LEFT)?;
+    each_call(&rt, alloc, "cuts a.fsmd", LEFT)
 }

@@ -18,6 +18,9 @@ reset q0;
 state q0: goto q0: y = a * a + b * b;
 ";
 
+/// A machine without variables.
+pub const NOTHING_TO_DO: &str = "fsmd 1; reset s; state s: goto s;";
+
 /// Greatest common divisors by subtraction.
 pub const COMMON_DIVISOR: &str = "fsmd 1;
 input a, b;

@@ -1,116 +1,82 @@
 //! The paths that `cuts` puts. A point is the start, a state of more than one branch that is not the reset state, or the
 //! return to the reset state. A path goes by one branch of a point's state, and on to the next point.
 
-use crate::asked::{Case, each_row};
+use crate::asked::{cuts, each_row};
 use crate::machines::{
     COMMON_DIVISOR, COMMON_DIVISOR_SCHEDULE, EMITS_IN_TURN, LOOP_TESTED_AT_THE_BOTTOM,
-    MAY_NEVER_END, SOLVER, SOLVER_SCHEDULE, SQUARE_OF_A_SUM, SUM_BEHIND_A_TEST,
+    MAY_NEVER_END, NOTHING_TO_DO, SOLVER, SOLVER_SCHEDULE, SQUARE_OF_A_SUM, SUM_BEHIND_A_TEST,
 };
-use std::alloc::{AllocError, Global};
-use std::process::Abort;
-use std::test::Fail;
+use std::alloc::AllocError;
 
-const PATHS: Case = Case {
-    words: "cuts a.fsmd",
-    left: "{1}",
-    right: "",
-    inputs: "",
-    reply: "{2}",
-};
+const PATHS: &str = "cuts a.fsmd¦{1}¦¦¦{2}";
+
+const NOTHING_TO_DO_PATHS: &str = r"start.0>done: 1 steps\n";
 
 // Among them: a left machine that may never end, a square of a sum, greatest common divisors by subtraction and their
 // schedule, a sum moved past a test, a guarded loop tested at the bottom, a solver of a differential equation and its
 // schedule.
-// Asserts the paths that `cuts` puts of a machine.
-fn cuts(rt: &impl Abort, alloc: Global, machine: &str, paths: &str) -> Result<(), AllocError> {
-    let form = Case {
-        words: "cuts a.fsmd",
-        left: machine,
-        right: "",
-        inputs: "",
-        reply: "{1}",
-    };
-    each_row(rt, alloc, &form, paths)
-}
-
 #[test]
-fn paths_of_straight_machines(rt: HostRuntime) -> Result<(), Fail> {
+fn paths_of_straight_machines(rt: HostRuntime) -> Result<(), AllocError> {
     let alloc = rt.alloc();
-    cuts(
-        &rt,
-        alloc,
-        "fsmd 1; reset s; state s: goto s;",
-        r"start.0>done: 1 steps\n",
-    )?;
+    cuts(&rt, alloc, NOTHING_TO_DO, NOTHING_TO_DO_PATHS)?;
     cuts(&rt, alloc, SQUARE_OF_A_SUM, r"start.0>done: 2 steps\n")?;
-    cuts(&rt, alloc, EMITS_IN_TURN, r"start.0>done: 2 steps\n")?;
-    Ok(())
+    cuts(&rt, alloc, EMITS_IN_TURN, r"start.0>done: 2 steps\n")
 }
 
-#[test]
-fn paths_of_branches(rt: HostRuntime) -> Result<(), Fail> {
-    let alloc = rt.alloc();
-    cuts(
-        &rt,
-        alloc,
-        "fsmd 1;input a,b;output y;reset s;state s:when !{a>0||b>0}goto s:y=(a-b)*-(2);goto s;",
-        r"start.0>done: 1 steps\nstart.1>done: 1 steps\nstart.2>done: 1 steps\n",
-    )?;
-    cuts(
-        &rt,
-        alloc,
-        SUM_BEHIND_A_TEST,
-        r"start.0>done: 2 steps\nstart.1>done: 2 steps\n",
-    )?;
-    Ok(())
-}
+const NEGATED_GUARD: &str =
+    "fsmd 1;input a,b;output y;reset s;state s:when !{a>0||b>0}goto s:y=(a-b)*-(2);goto s;";
+
+const NEGATED_GUARD_PATHS: &str =
+    r"start.0>done: 1 steps\nstart.1>done: 1 steps\nstart.2>done: 1 steps\n";
+
+const SUM_BEHIND_A_TEST_PATHS: &str = r"start.0>done: 2 steps\nstart.1>done: 2 steps\n";
 
 #[test]
-fn paths_of_loops(rt: HostRuntime) -> Result<(), Fail> {
+fn paths_of_branches(rt: HostRuntime) -> Result<(), AllocError> {
     let alloc = rt.alloc();
-    cuts(
-        &rt,
-        alloc,
-        MAY_NEVER_END,
-        r"start.0>s1: 1 steps\ns1.0>s1: 1 steps\ns1.1>done: 1 steps\n",
-    )?;
-    cuts(
-        &rt,
-        alloc,
-        COMMON_DIVISOR,
-        r"start.0>s1: 1 steps\ns1.0>done: 1 steps\ns1.1>s2: 1 steps\ns2.0>s1: 2 steps\ns2.1>s1: 2 steps\n",
-    )?;
+    cuts(&rt, alloc, NEGATED_GUARD, NEGATED_GUARD_PATHS)?;
+    cuts(&rt, alloc, SUM_BEHIND_A_TEST, SUM_BEHIND_A_TEST_PATHS)
+}
+
+const MAY_NEVER_END_PATHS: &str = r"start.0>s1: 1 steps\ns1.0>s1: 1 steps\ns1.1>done: 1 steps\n";
+
+const COMMON_DIVISOR_PATHS: &str =
+    r"start.0>s1: 1 steps\ns1.0>done: 1 steps\ns1.1>s2: 1 steps\ns2.0>s1: 2 steps\ns2.1>s1: 2 steps\n";
+
+const COMMON_DIVISOR_SCHEDULE_PATHS: &str =
+    r"start.0>q1: 1 steps\nq1.0>done: 1 steps\nq1.1>q2: 1 steps\nq2.0>q1: 1 steps\nq2.1>q1: 1 steps\n";
+
+#[test]
+fn paths_of_loops(rt: HostRuntime) -> Result<(), AllocError> {
+    let alloc = rt.alloc();
+    cuts(&rt, alloc, MAY_NEVER_END, MAY_NEVER_END_PATHS)?;
+    cuts(&rt, alloc, COMMON_DIVISOR, COMMON_DIVISOR_PATHS)?;
     cuts(
         &rt,
         alloc,
         COMMON_DIVISOR_SCHEDULE,
-        r"start.0>q1: 1 steps\nq1.0>done: 1 steps\nq1.1>q2: 1 steps\nq2.0>q1: 1 steps\nq2.1>q1: 1 steps\n",
-    )?;
-    Ok(())
+        COMMON_DIVISOR_SCHEDULE_PATHS,
+    )
 }
 
+const LOOP_TESTED_AT_THE_BOTTOM_PATHS: &str =
+    r"start.0>q2: 2 steps\nstart.1>done: 1 steps\nq2.0>q2: 2 steps\nq2.1>done: 1 steps\n";
+
+const SOLVER_PATHS: &str = r"start.0>s1: 1 steps\ns1.0>s1: 10 steps\ns1.1>done: 1 steps\n";
+
+const SOLVER_SCHEDULE_PATHS: &str = r"start.0>q1: 1 steps\nq1.0>q1: 4 steps\nq1.1>done: 1 steps\n";
+
 #[test]
-fn paths_of_longer_loops(rt: HostRuntime) -> Result<(), Fail> {
+fn paths_of_longer_loops(rt: HostRuntime) -> Result<(), AllocError> {
     let alloc = rt.alloc();
     cuts(
         &rt,
         alloc,
         LOOP_TESTED_AT_THE_BOTTOM,
-        r"start.0>q2: 2 steps\nstart.1>done: 1 steps\nq2.0>q2: 2 steps\nq2.1>done: 1 steps\n",
+        LOOP_TESTED_AT_THE_BOTTOM_PATHS,
     )?;
-    cuts(
-        &rt,
-        alloc,
-        SOLVER,
-        r"start.0>s1: 1 steps\ns1.0>s1: 10 steps\ns1.1>done: 1 steps\n",
-    )?;
-    cuts(
-        &rt,
-        alloc,
-        SOLVER_SCHEDULE,
-        r"start.0>q1: 1 steps\nq1.0>q1: 4 steps\nq1.1>done: 1 steps\n",
-    )?;
-    Ok(())
+    cuts(&rt, alloc, SOLVER, SOLVER_PATHS)?;
+    cuts(&rt, alloc, SOLVER_SCHEDULE, SOLVER_SCHEDULE_PATHS)
 }
 
 const ORDERED: &str =
@@ -123,9 +89,8 @@ fsmd 1; input a; reset s; state s: when {a > 0 || a < -5} && a != 7 goto t; goto
 // Points stand in the order of states, wherever the reset state stands, and whether they are reached or not. The paths of
 // a point stand in the order of its branches.
 #[test]
-fn order_of_paths(rt: HostRuntime) -> Result<(), Fail> {
-    each_row(&rt, rt.alloc(), &PATHS, ORDERED)?;
-    Ok(())
+fn order_of_paths(rt: HostRuntime) -> Result<(), AllocError> {
+    each_row(&rt, rt.alloc(), PATHS, ORDERED)
 }
 
 const REFUSED: &str = r"fsmd 1; reset s; state s: goto¦bad input: a.fsmd:1:31: Ended\n
@@ -133,7 +98,6 @@ fsmd 1; reset s;\nstate s: goto t;\nstate t: goto t;¦bad input: a.fsmd:3: Endle
 ";
 
 #[test]
-fn machines_that_are_refused(rt: HostRuntime) -> Result<(), Fail> {
-    each_row(&rt, rt.alloc(), &PATHS, REFUSED)?;
-    Ok(())
+fn machines_that_are_refused(rt: HostRuntime) -> Result<(), AllocError> {
+    each_row(&rt, rt.alloc(), PATHS, REFUSED)
 }

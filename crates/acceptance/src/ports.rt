@@ -1,16 +1,10 @@
 //! Ports: what is read, checked, written, run and compared of machines that emit numbers.
 
-use crate::asked::{Case, each_pair, each_row};
+use crate::asked::{each_pair, each_row, replays, runs};
 use crate::machines::{EMITS_AT_ONCE, EMITS_EXCHANGED, EMITS_IN_TURN, TRACE_OF_A_LOOP};
-use std::test::Fail;
+use std::alloc::AllocError;
 
-const BEHIND: Case = Case {
-    words: "check a.fsmd b.fsmd",
-    left: "{1}▸{2}",
-    right: "{machine}",
-    inputs: "",
-    reply: r"bad input: a.fsmd:▸: {A}\n",
-};
+const BEHIND: &str = r"check a.fsmd b.fsmd¦{1}▸{2}¦{machine}¦¦bad input: a.fsmd:▸: {A}\n";
 
 const UNEXPECTED: &str = "fsmd 1; ¦port p;
 fsmd 1; input a; ¦port p;
@@ -52,10 +46,9 @@ fsmd 2; port p; reset s; state s: goto s: emit p 1,¦
 
 // An `emit` and a `port` stand in a file of format 2 alone, and only where the grammar has them.
 #[test]
-fn words_of_format_2(rt: HostRuntime) -> Result<(), Fail> {
-    each_pair(&rt, rt.alloc(), &BEHIND, "Unexpected", UNEXPECTED)?;
-    each_pair(&rt, rt.alloc(), &BEHIND, "Ended", ENDED)?;
-    Ok(())
+fn words_of_format_2(rt: HostRuntime) -> Result<(), AllocError> {
+    each_pair(&rt, rt.alloc(), BEHIND, "Unexpected", UNEXPECTED)?;
+    each_pair(&rt, rt.alloc(), BEHIND, "Ended", ENDED)
 }
 
 const OPERATORS: &str = "<<128 times:->>a ¦+ a
@@ -64,37 +57,21 @@ const OPERATORS: &str = "<<128 times:->>a ¦+ a
 n[<<125 times:->>a] + n[0¦- a]
 ";
 
-const EMITTED: Case = Case {
-    words: "fmt a.fsmd",
-    left: "fsmd 2; input a; input array n; port p; reset s; state s: goto s: emit p {1}▸{2}",
-    right: "",
-    inputs: "",
-    reply: r"bad input: a.fsmd:▸: Operators\n",
-};
+const EMITTED: &str =
+    r"fmt a.fsmd¦fsmd 2; input a; input array n; port p; reset s; state s: goto s: emit p {1}▸{2}¦¦¦bad input: a.fsmd:▸: Operators\n";
 
-const ADD_UP: Case = Case {
-    words: "fmt a.fsmd",
-    left: "fsmd 2; input a; port p, q; reset s; state s: goto s: emit p <<128 times:->>a, emit q <<128 times:->>a;",
-    right: "",
-    inputs: "",
-    reply: r"fsmd 2;\ninput a;\nport p, q;\nreset s;\nstate s:\n  goto s: emit p <<128 times:->>a, emit q <<128 times:->>a;\n",
-};
+const ADD_UP: &str =
+    r"fmt a.fsmd¦fsmd 2; input a; port p, q; reset s; state s: goto s: emit p <<128 times:->>a, emit q <<128 times:->>a;¦¦¦fsmd 2;\ninput a;\nport p, q;\nreset s;\nstate s:\n  goto s: emit p <<128 times:->>a, emit q <<128 times:->>a;\n";
 
 // The operators of an emitted expression count as those of a right side do, and each emit counts anew.
 #[test]
-fn operators_of_an_emit(rt: HostRuntime) -> Result<(), Fail> {
-    each_row(&rt, rt.alloc(), &EMITTED, OPERATORS)?;
-    each_row(&rt, rt.alloc(), &ADD_UP, "row")?;
-    Ok(())
+fn operators_of_an_emit(rt: HostRuntime) -> Result<(), AllocError> {
+    each_row(&rt, rt.alloc(), EMITTED, OPERATORS)?;
+    each_row(&rt, rt.alloc(), ADD_UP, "row")
 }
 
-const IN_STATE: Case = Case {
-    words: "check a.fsmd b.fsmd",
-    left: r"fsmd 2; input a; input array m; output y; output array n;\nport p, q;\nreset s;\n{1}",
-    right: "{machine}",
-    inputs: "",
-    reply: r"bad input: a.fsmd:{2}\n",
-};
+const IN_STATE: &str =
+    r"check a.fsmd b.fsmd¦fsmd 2; input a; input array m; output y; output array n;\nport p, q;\nreset s;\n{1}¦{machine}¦¦bad input: a.fsmd:{2}\n";
 
 const RULES: &str = r"state s: goto s: emit p p;¦4: WrongSort
 state s: goto s: emit p q;¦4: WrongSort
@@ -125,18 +102,11 @@ state s: goto s: <<16 times:emit p a, >>emit p a; goto s;¦4: AfterElse
 
 // A port is emitted to and nothing else, and only a port is. A transition has at most 16 emits.
 #[test]
-fn rules_on_ports(rt: HostRuntime) -> Result<(), Fail> {
-    each_row(&rt, rt.alloc(), &IN_STATE, RULES)?;
-    Ok(())
+fn rules_on_ports(rt: HostRuntime) -> Result<(), AllocError> {
+    each_row(&rt, rt.alloc(), IN_STATE, RULES)
 }
 
-const DECLARED: Case = Case {
-    words: "fmt a.fsmd",
-    left: "{1}",
-    right: "",
-    inputs: "",
-    reply: r"bad input: a.fsmd:1: {2}\n",
-};
+const DECLARED: &str = r"fmt a.fsmd¦{1}¦¦¦bad input: a.fsmd:1: {2}\n";
 
 const NAMES: &str = "fsmd 2; port p, p; reset s; state s: goto s;¦TwiceNamed
 fsmd 2; input p; port p; reset s; state s: goto s;¦TwiceNamed
@@ -145,18 +115,11 @@ fsmd 2; input a; port p; reset s0; state s0: goto s1: emit p a; state s1: goto s
 ";
 
 #[test]
-fn declarations_of_ports(rt: HostRuntime) -> Result<(), Fail> {
-    each_row(&rt, rt.alloc(), &DECLARED, NAMES)?;
-    Ok(())
+fn declarations_of_ports(rt: HostRuntime) -> Result<(), AllocError> {
+    each_row(&rt, rt.alloc(), DECLARED, NAMES)
 }
 
-const WRITTEN: Case = Case {
-    words: "fmt a.fsmd",
-    left: "{1}",
-    right: "",
-    inputs: "",
-    reply: "{2}",
-};
+const WRITTEN: &str = "fmt a.fsmd¦{1}¦¦¦{2}";
 
 const TEXTS: &str =
     r"fsmd 2;input a;port p,q;reset s;state s:goto s:emit p(a+1),emit q-a;¦fsmd 2;\ninput a;\nport p, q;\nreset s;\nstate s:\n  goto s: emit p a + 1, emit q -a;\n
@@ -167,19 +130,8 @@ fsmd 2;input a;port p;output y;reset s;state s:when a>0 goto s:emit p a,y=a,emit
 
 // The head is that of format 2 exactly when the machine declares a port or emits.
 #[test]
-fn canonical_texts(rt: HostRuntime) -> Result<(), Fail> {
-    each_row(&rt, rt.alloc(), &WRITTEN, TEXTS)?;
-    Ok(())
-}
-
-fn run(machine: &str) -> Case<'_> {
-    Case {
-        words: "run a.fsmd i.json",
-        left: machine,
-        right: "",
-        inputs: "{1}",
-        reply: "{2}",
-    }
+fn canonical_texts(rt: HostRuntime) -> Result<(), AllocError> {
+    each_row(&rt, rt.alloc(), WRITTEN, TEXTS)
 }
 
 const TWO_PORTS: &str = "fsmd 2;
@@ -199,100 +151,52 @@ state s: goto t: emit p a;
 state t: goto s: emit p 170141183460469231731687303715884105727 * a;
 ";
 
+const EMITS_IN_TURN_RUN: &str = r#"{"a": 1, "b": 2}¦ended: 2 steps\np = [1, 2]\n"#;
+
+const TRACE_OF_A_LOOP_RUN: &str = r#"{"n": 2, "v": 10}¦ended: 6 steps\np = [12, 11]\n
+{}¦ended: 2 steps\np = []\n
+"#;
+
+const TWO_PORTS_RUN: &str = r#"{"a": -3, "b": 4}¦ended: 2 steps\np = [4]\nq = [-3, 0, 7]\ny = 7\n"#;
+
 // Each emitted expression is valued in the store before the step, and the lists stand in the order of the emits.
 #[test]
-fn runs_that_emit(rt: HostRuntime) -> Result<(), Fail> {
+fn runs_that_emit(rt: HostRuntime) -> Result<(), AllocError> {
     let alloc = rt.alloc();
-    each_row(
-        &rt,
-        alloc,
-        &run(EMITS_IN_TURN),
-        r#"{"a": 1, "b": 2}¦ended: 2 steps\np = [1, 2]\n"#,
-    )?;
-    each_row(
-        &rt,
-        alloc,
-        &run(TRACE_OF_A_LOOP),
-        r#"{"n": 2, "v": 10}¦ended: 6 steps\np = [12, 11]\n"#,
-    )?;
-    each_row(
-        &rt,
-        alloc,
-        &run(TRACE_OF_A_LOOP),
-        r"{}¦ended: 2 steps\np = []\n",
-    )?;
-    each_row(
-        &rt,
-        alloc,
-        &run(TWO_PORTS),
-        r#"{"a": -3, "b": 4}¦ended: 2 steps\np = [4]\nq = [-3, 0, 7]\ny = 7\n"#,
-    )?;
-    Ok(())
+    runs(&rt, alloc, EMITS_IN_TURN, EMITS_IN_TURN_RUN)?;
+    runs(&rt, alloc, TRACE_OF_A_LOOP, TRACE_OF_A_LOOP_RUN)?;
+    runs(&rt, alloc, TWO_PORTS, TWO_PORTS_RUN)
 }
 
+const PAST_RUN: &str = r#"{"a": 2}¦undecided: number past 128 bits at step 2\n
+{"a": 1}¦ended: 2 steps\np = [1, 170141183460469231731687303715884105727]\n
+"#;
+
 #[test]
-fn emitted_numbers_past_128_bits(rt: HostRuntime) -> Result<(), Fail> {
+fn emitted_numbers_past_128_bits(rt: HostRuntime) -> Result<(), AllocError> {
     let alloc = rt.alloc();
-    each_row(
-        &rt,
-        alloc,
-        &run(PAST),
-        r#"{"a": 2}¦undecided: number past 128 bits at step 2\n"#,
-    )?;
-    each_row(
-        &rt,
-        alloc,
-        &run(PAST),
-        r#"{"a": 1}¦ended: 2 steps\np = [1, 170141183460469231731687303715884105727]\n"#,
-    )?;
-    Ok(())
+    runs(&rt, alloc, PAST, PAST_RUN)
 }
+
+const PORT_AS_INPUT: &str = r#"{"p": 1}¦bad input: i.json: UnknownName p\n"#;
 
 // A port is no input.
 #[test]
-fn a_port_among_the_inputs(rt: HostRuntime) -> Result<(), Fail> {
-    each_row(
-        &rt,
-        rt.alloc(),
-        &run(EMITS_IN_TURN),
-        r#"{"p": 1}¦bad input: i.json: UnknownName p\n"#,
-    )?;
-    Ok(())
-}
-
-const PAIR: Case = Case {
-    words: "replay a.fsmd b.fsmd i.json",
-    left: "{A}",
-    right: "{B}",
-    inputs: "{1}",
-    reply: "{2}",
-};
-
-fn replay<'a>(left: &'a str, right: &'a str) -> Case<'a> {
-    Case {
-        left,
-        right,
-        ..PAIR
-    }
+fn a_port_among_the_inputs(rt: HostRuntime) -> Result<(), AllocError> {
+    runs(&rt, rt.alloc(), EMITS_IN_TURN, PORT_AS_INPUT)
 }
 
 #[test]
-fn replays_that_emit(rt: HostRuntime) -> Result<(), Fail> {
+fn replays_that_emit(rt: HostRuntime) -> Result<(), AllocError> {
     let alloc = rt.alloc();
     let same = r#"{"a": 1, "b": 2}¦same\nleft: p = [1, 2]\nright: p = [1, 2]\n"#;
-    each_row(&rt, alloc, &replay(EMITS_IN_TURN, EMITS_AT_ONCE), same)?;
+    replays(&rt, alloc, EMITS_IN_TURN, EMITS_AT_ONCE, same)?;
     let differ = r#"{"b": 1}¦differ\nleft: p = [0, 1]\nright: p = [1, 0]\n"#;
-    each_row(&rt, alloc, &replay(EMITS_AT_ONCE, EMITS_EXCHANGED), differ)?;
-    Ok(())
+    replays(&rt, alloc, EMITS_AT_ONCE, EMITS_EXCHANGED, differ)
 }
 
-const INTERFACE: Case = Case {
-    words: "check a.fsmd b.fsmd",
-    left: "fsmd 2; {1} reset s; state s: goto s;",
-    right: "fsmd 2; {2} reset s; state s: goto s;",
-    inputs: "",
-    reply: r"bad input: {3}\n",
-};
+const INTERFACE: &str =
+    r"check a.fsmd b.fsmd¦fsmd 2; {1} reset s; state s: goto s;¦fsmd 2; {2} reset s; state s: goto s;¦¦bad input: {3}\n";
 
 const INTERFACES: &str = "port p;¦output p;¦interface: p
 output p;¦port p;¦interface: p
@@ -306,7 +210,6 @@ port q, p;¦port p; port q;¦a.fsmd: NotBuilt
 
 // A port is an output of its own sort. Machines with ports are not compared yet, which is looked at after the interfaces.
 #[test]
-fn interfaces_with_ports(rt: HostRuntime) -> Result<(), Fail> {
-    each_row(&rt, rt.alloc(), &INTERFACE, INTERFACES)?;
-    Ok(())
+fn interfaces_with_ports(rt: HostRuntime) -> Result<(), AllocError> {
+    each_row(&rt, rt.alloc(), INTERFACE, INTERFACES)
 }

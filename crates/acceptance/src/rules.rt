@@ -1,24 +1,13 @@
 //! Rules on machines: each rule with its line, and which of several broken rules is answered.
 
-use crate::asked::{Case, each_row};
-use std::test::Fail;
+use crate::asked::each_row;
+use std::alloc::AllocError;
 
-const WHOLE: Case = Case {
-    words: "check a.fsmd b.fsmd",
-    left: "{1}",
-    right: "{machine}",
-    inputs: "",
-    reply: r"bad input: a.fsmd:{2}\n",
-};
+const WHOLE: &str = r"check a.fsmd b.fsmd¦{1}¦{machine}¦¦bad input: a.fsmd:{2}\n";
 
 // A text whose states follow line 3. Scalars: inputs a and b, outputs y and z. Arrays: input m, output n.
-const STATES: Case = Case {
-    words: "check a.fsmd b.fsmd",
-    left: r"fsmd 1; input a, b; input array m;\noutput y, z; output array n;\nreset s;\n{1}",
-    right: "{machine}",
-    inputs: "",
-    reply: r"bad input: a.fsmd:{2}\n",
-};
+const STATES: &str =
+    r"check a.fsmd b.fsmd¦fsmd 1; input a, b; input array m;\noutput y, z; output array n;\nreset s;\n{1}¦{machine}¦¦bad input: a.fsmd:{2}\n";
 
 const DECLARATIONS: &str = r"fsmd 1;\ninput a, a;\nreset s;\nstate s: goto s;¦2: TwiceNamed
 fsmd 1;\ninput a;\noutput a;\nreset s;\nstate s: goto s;¦3: TwiceNamed
@@ -36,9 +25,8 @@ fsmd 1;\ninput a, A, _a, a_, a1;\nreset s;¦3: UnknownState
 ";
 
 #[test]
-fn declarations(rt: HostRuntime) -> Result<(), Fail> {
-    each_row(&rt, rt.alloc(), &WHOLE, DECLARATIONS)?;
-    Ok(())
+fn declarations(rt: HostRuntime) -> Result<(), AllocError> {
+    each_row(&rt, rt.alloc(), WHOLE, DECLARATIONS)
 }
 
 const NAMES: &str = r"state s: goto s: y = c;¦4: UnknownName
@@ -76,9 +64,8 @@ state s:\n when a > 0 goto s: y = 1;\n goto s:\n y = 2,\n y = 3;¦6: AssignedTwi
 
 // Names: whether they are declared, of the right sort, and may be assigned.
 #[test]
-fn names_in_transitions(rt: HostRuntime) -> Result<(), Fail> {
-    each_row(&rt, rt.alloc(), &STATES, NAMES)?;
-    Ok(())
+fn names_in_transitions(rt: HostRuntime) -> Result<(), AllocError> {
+    each_row(&rt, rt.alloc(), STATES, NAMES)
 }
 
 const LINES: &str = r"state s:¦4: NoElse
@@ -100,9 +87,8 @@ state s: goto s;\nstate t: goto T;¦5: UnknownState
 ";
 
 #[test]
-fn lines_of_a_state(rt: HostRuntime) -> Result<(), Fail> {
-    each_row(&rt, rt.alloc(), &STATES, LINES)?;
-    Ok(())
+fn lines_of_a_state(rt: HostRuntime) -> Result<(), AllocError> {
+    each_row(&rt, rt.alloc(), STATES, LINES)
 }
 
 const ENDLESS: &str = r"state s: goto t;\nstate t: goto t;¦5: EndlessLine
@@ -118,9 +104,8 @@ state s: when a > 0 goto t; goto s;\nstate t: goto u: y = a;\nstate u: goto t: y
 
 // A state on a cycle of states that have one branch each, the reset state not among them.
 #[test]
-fn endless_lines(rt: HostRuntime) -> Result<(), Fail> {
-    each_row(&rt, rt.alloc(), &STATES, ENDLESS)?;
-    Ok(())
+fn endless_lines(rt: HostRuntime) -> Result<(), AllocError> {
+    each_row(&rt, rt.alloc(), STATES, ENDLESS)
 }
 
 const LEAST: &str =
@@ -139,9 +124,8 @@ fsmd 1;\nreset s;\nstate s: goto u;\nstate t: goto v;\nstate u:¦4: UnknownState
 
 // Of the broken rules that with the least line is answered, also where another rule stands first.
 #[test]
-fn the_least_line(rt: HostRuntime) -> Result<(), Fail> {
-    each_row(&rt, rt.alloc(), &WHOLE, LEAST)?;
-    Ok(())
+fn the_least_line(rt: HostRuntime) -> Result<(), AllocError> {
+    each_row(&rt, rt.alloc(), WHOLE, LEAST)
 }
 
 const FIRST: &str = "state s: goto s: y = c; state s: goto t;¦4: TwiceNamed
@@ -171,19 +155,13 @@ state s: goto t; goto s;¦4: AfterElse
 // Of one line the rule is answered that stands first among: TwiceNamed, UnknownName, WrongSort, AssignInput,
 // AssignedTwice, NoElse, AfterElse, UnknownState, TooMany.
 #[test]
-fn the_first_rule_of_a_line(rt: HostRuntime) -> Result<(), Fail> {
-    each_row(&rt, rt.alloc(), &STATES, FIRST)?;
-    Ok(())
+fn the_first_rule_of_a_line(rt: HostRuntime) -> Result<(), AllocError> {
+    each_row(&rt, rt.alloc(), STATES, FIRST)
 }
 
 // A state with 63 tests more between the two cells.
-const MANY_TESTS: Case = Case {
-    words: "check a.fsmd b.fsmd",
-    left: r"fsmd 1; input a, b; input array m;\noutput y, z; output array n;\nreset s;\n{1}<<63 times:y > 0 || >>{2}",
-    right: "{machine}",
-    inputs: "",
-    reply: r"bad input: a.fsmd:{3}\n",
-};
+const MANY_TESTS: &str =
+    r"check a.fsmd b.fsmd¦fsmd 1; input a, b; input array m;\noutput y, z; output array n;\nreset s;\n{1}<<63 times:y > 0 || >>{2}¦{machine}¦¦bad input: a.fsmd:{3}\n";
 
 const MANY: &str = r"state s: when ¦a > 0 goto s; goto s;¦4: TooManyBranches
 state s: goto t;\nstate t: when ¦a > 0 goto t; goto t;¦5: TooManyBranches
@@ -207,10 +185,9 @@ state s: goto t;\nstate t: goto t: y = c;¦5: UnknownName
 
 // TooManyBranches and EndlessLine are looked at only where no other rule is broken, and then in the same order.
 #[test]
-fn the_rules_looked_at_last(rt: HostRuntime) -> Result<(), Fail> {
-    each_row(&rt, rt.alloc(), &MANY_TESTS, MANY)?;
-    each_row(&rt, rt.alloc(), &STATES, ENDLESS_TOO)?;
-    Ok(())
+fn the_rules_looked_at_last(rt: HostRuntime) -> Result<(), AllocError> {
+    each_row(&rt, rt.alloc(), MANY_TESTS, MANY)?;
+    each_row(&rt, rt.alloc(), STATES, ENDLESS_TOO)
 }
 
 const UNBROKEN: &str = "state s: goto s;
@@ -224,17 +201,11 @@ state t: goto u; state u: goto s; state s: goto t;
 state s: goto s; state t: goto u; state u: goto s;
 ";
 
-const MACHINE: Case = Case {
-    words: "check a.fsmd b.fsmd",
-    left: r"fsmd 1; input a, b; input array m;\noutput y, z; output array n;\nreset s;\n{1}",
-    right: "{machine}",
-    inputs: "",
-    reply: r"bad input: interface: a\n",
-};
+const MACHINE: &str =
+    r"check a.fsmd b.fsmd¦fsmd 1; input a, b; input array m;\noutput y, z; output array n;\nreset s;\n{1}¦{machine}¦¦bad input: interface: a\n";
 
 // The rules end here: what follows is a machine, which is refused for its interface alone.
 #[test]
-fn no_rule_is_broken(rt: HostRuntime) -> Result<(), Fail> {
-    each_row(&rt, rt.alloc(), &MACHINE, UNBROKEN)?;
-    Ok(())
+fn no_rule_is_broken(rt: HostRuntime) -> Result<(), AllocError> {
+    each_row(&rt, rt.alloc(), MACHINE, UNBROKEN)
 }

@@ -1,23 +1,13 @@
 //! Machines of one branch a state, compared over numbers, scalars, `+`, `-` and `*`.
 
-use crate::asked::{Case, each_pair, each_row};
-use std::test::Fail;
+use crate::asked::{each_pair, each_row};
+use std::alloc::AllocError;
 
-const SAME: Case = Case {
-    words: "check a.fsmd b.fsmd",
-    left: "fsmd 1; input a, b, c; output y; reset s0; state s0: goto s0: y = {A};",
-    right: "fsmd 1; input a, b, c; output y; reset s0; state s0: goto s0: y = {B};",
-    inputs: "",
-    reply: r"equivalent: 2 nodes\n",
-};
+const SAME: &str =
+    r"check a.fsmd b.fsmd¦fsmd 1; input a, b, c; output y; reset s0; state s0: goto s0: y = {A};¦fsmd 1; input a, b, c; output y; reset s0; state s0: goto s0: y = {B};¦¦equivalent: 2 nodes\n";
 
-const OTHER: Case = Case {
-    words: "check a.fsmd b.fsmd",
-    left: "fsmd 1; input a, b, c; output y; reset s0; state s0: goto s0: y = {A};",
-    right: "fsmd 1; input a, b, c; output y; reset s0; state s0: goto s0: y = {B};",
-    inputs: "",
-    reply: r"undecided: output y at start.0>done | start.0>done\n",
-};
+const OTHER: &str =
+    r"check a.fsmd b.fsmd¦fsmd 1; input a, b, c; output y; reset s0; state s0: goto s0: y = {A};¦fsmd 1; input a, b, c; output y; reset s0; state s0: goto s0: y = {B};¦¦undecided: output y at start.0>done | start.0>done\n";
 
 // Which sum is the left machine's, and which the right one's.
 const BOTH_WAYS: &str = "{1}¦{2}
@@ -59,9 +49,8 @@ a - y¦a + 5 * y
 ";
 
 #[test]
-fn sums_that_are_the_same(rt: HostRuntime) -> Result<(), Fail> {
-    each_pair(&rt, rt.alloc(), &SAME, BOTH_WAYS, SAME_SUMS)?;
-    Ok(())
+fn sums_that_are_the_same(rt: HostRuntime) -> Result<(), AllocError> {
+    each_pair(&rt, rt.alloc(), SAME, BOTH_WAYS, SAME_SUMS)
 }
 
 const OTHER_SUMS: &str = "(a - b) * (a + b)¦a * a + b * b
@@ -90,9 +79,8 @@ y¦a
 ";
 
 #[test]
-fn sums_that_differ(rt: HostRuntime) -> Result<(), Fail> {
-    each_pair(&rt, rt.alloc(), &OTHER, BOTH_WAYS, OTHER_SUMS)?;
-    Ok(())
+fn sums_that_differ(rt: HostRuntime) -> Result<(), AllocError> {
+    each_pair(&rt, rt.alloc(), OTHER, BOTH_WAYS, OTHER_SUMS)
 }
 
 const WITHIN: &str = "170141183460469231731687303715884105727
@@ -127,32 +115,19 @@ b¦170141183460469231731687303715884105727 + a
 // The weights of two operands of `+` or `-` have a sum of at most 2 to the 127 less 1, and those of `*` a product of at
 // most that. The first operation past a limit is answered before any output that differs, the left machine's first.
 #[test]
-fn coefficients(rt: HostRuntime) -> Result<(), Fail> {
+fn coefficients(rt: HostRuntime) -> Result<(), AllocError> {
     each_row(
         &rt,
         rt.alloc(),
-        &Case {
-            words: "check a.fsmd b.fsmd",
-            left: "fsmd 1; input a, b, c; output y; reset s0; state s0: goto s0: y = {1};",
-            right: "fsmd 1; input a, b, c; output y; reset s0; state s0: goto s0: y = {1};",
-            inputs: "",
-            reply: r"equivalent: 2 nodes\n",
-        },
+        r"check a.fsmd b.fsmd¦fsmd 1; input a, b, c; output y; reset s0; state s0: goto s0: y = {1};¦fsmd 1; input a, b, c; output y; reset s0; state s0: goto s0: y = {1};¦¦equivalent: 2 nodes\n",
         WITHIN,
     )?;
     each_row(
         &rt,
         rt.alloc(),
-        &Case {
-            words: "check a.fsmd b.fsmd",
-            left: "fsmd 1; input a, b, c; output y; reset s0; state s0: goto s0: y = {1};",
-            right: "fsmd 1; input a, b, c; output y; reset s0; state s0: goto s0: y = {2};",
-            inputs: "",
-            reply: r"undecided: coefficient past 128 bits at start.0>done | start.0>done\n",
-        },
+        r"check a.fsmd b.fsmd¦fsmd 1; input a, b, c; output y; reset s0; state s0: goto s0: y = {1};¦fsmd 1; input a, b, c; output y; reset s0; state s0: goto s0: y = {2};¦¦undecided: coefficient past 128 bits at start.0>done | start.0>done\n",
         TOO_WIDE,
-    )?;
-    Ok(())
+    )
 }
 
 const SEVERAL_STATES: &str =
@@ -169,31 +144,19 @@ fsmd 1; input a, b; output x, y; reset t; state s: goto t: x = b, y = a; state t
 ";
 
 #[test]
-fn machines_of_several_states(rt: HostRuntime) -> Result<(), Fail> {
+fn machines_of_several_states(rt: HostRuntime) -> Result<(), AllocError> {
     each_row(
         &rt,
         rt.alloc(),
-        &Case {
-            words: "check a.fsmd b.fsmd",
-            left: "{1}",
-            right: "fsmd 1; input a, b; output x, y; reset s; state s: goto s: x = b, y = a;",
-            inputs: "",
-            reply: "{2}",
-        },
+        "check a.fsmd b.fsmd¦{1}¦fsmd 1; input a, b; output x, y; reset s; state s: goto s: x = b, y = a;¦¦{2}",
         SEVERAL_STATES,
-    )?;
-    Ok(())
+    )
 }
 
 // A machine that gives y a value in its second state. There t is a product of two sums of 32 scalars each, and u and w
 // are products of sums of 11 and of 31 scalars, and 1 or a more.
-const SIZED: Case = Case {
-    words: "check a.fsmd b.fsmd",
-    left: "fsmd 1; input a, <<0 to 64:v#, >>v64; output y; local t, u, w; reset s; state s: goto r: t = (<<0 to 31:v# + >>v31) * (<<32 to 63:v# + >>v63), u = (<<0 to 10:v# + >>v10) * (<<32 to 62:v# + >>v62) + 1, w = (<<0 to 10:v# + >>v10) * (<<32 to 62:v# + >>v62) + a; state r: goto s: y = {1};",
-    right: "fsmd 1; input a, <<0 to 64:v#, >>v64; output y; local t, u, w; reset s; state s: goto r: t = (<<0 to 31:v# + >>v31) * (<<32 to 63:v# + >>v63), u = (<<0 to 10:v# + >>v10) * (<<32 to 62:v# + >>v62) + 1, w = (<<0 to 10:v# + >>v10) * (<<32 to 62:v# + >>v62) + a; state r: goto s: y = {2};",
-    inputs: "",
-    reply: "{3}",
-};
+const SIZED: &str =
+    "check a.fsmd b.fsmd¦fsmd 1; input a, <<0 to 64:v#, >>v64; output y; local t, u, w; reset s; state s: goto r: t = (<<0 to 31:v# + >>v31) * (<<32 to 63:v# + >>v63), u = (<<0 to 10:v# + >>v10) * (<<32 to 62:v# + >>v62) + 1, w = (<<0 to 10:v# + >>v10) * (<<32 to 62:v# + >>v62) + a; state r: goto s: y = {1};¦fsmd 1; input a, <<0 to 64:v#, >>v64; output y; local t, u, w; reset s; state s: goto r: t = (<<0 to 31:v# + >>v31) * (<<32 to 63:v# + >>v63), u = (<<0 to 10:v# + >>v10) * (<<32 to 62:v# + >>v62) + 1, w = (<<0 to 10:v# + >>v10) * (<<32 to 62:v# + >>v62) + a; state r: goto s: y = {2};¦¦{3}";
 
 const SIZES: &str = r"t¦t¦equivalent: 2 nodes\n
 -t¦-t¦equivalent: 2 nodes\n
@@ -216,18 +179,12 @@ t * t¦170141183460469231731687303715884105727 + a¦undecided: term too large at
 // sizes 3,072, 1,024 and 1,025. Two operands of `+` or `-` have together a size of at most 4,096, and the product of the
 // sizes of two operands of `*` is at most that.
 #[test]
-fn sizes(rt: HostRuntime) -> Result<(), Fail> {
-    each_row(&rt, rt.alloc(), &SIZED, SIZES)?;
-    Ok(())
+fn sizes(rt: HostRuntime) -> Result<(), AllocError> {
+    each_row(&rt, rt.alloc(), SIZED, SIZES)
 }
 
-const PRODUCT: Case = Case {
-    words: "check a.fsmd b.fsmd",
-    left: "fsmd 1; input <<0 to 64:v#, >>v64; output y; reset s; state s: goto s: y = (<<0 to 31:v# + >>v31) * ({1});",
-    right: "fsmd 1; input <<0 to 64:v#, >>v64; output y; reset s; state s: goto s: y = (<<0 to 31:v# + >>v31) * ({1});",
-    inputs: "",
-    reply: "{2}",
-};
+const PRODUCT: &str =
+    "check a.fsmd b.fsmd¦fsmd 1; input <<0 to 64:v#, >>v64; output y; reset s; state s: goto s: y = (<<0 to 31:v# + >>v31) * ({1});¦fsmd 1; input <<0 to 64:v#, >>v64; output y; reset s; state s: goto s: y = (<<0 to 31:v# + >>v31) * ({1});¦¦{2}";
 
 const PRODUCTS: &str = r"<<32 to 63:v# + >>v63¦equivalent: 2 nodes\n
 <<32 to 62:v# + >>v62 + 2¦equivalent: 2 nodes\n
@@ -237,7 +194,6 @@ const PRODUCTS: &str = r"<<32 to 63:v# + >>v63¦equivalent: 2 nodes\n
 
 // A product of two operands of the sizes 64 and 64 is within the limit, and one of 64 and 66 is not.
 #[test]
-fn sizes_of_a_product(rt: HostRuntime) -> Result<(), Fail> {
-    each_row(&rt, rt.alloc(), &PRODUCT, PRODUCTS)?;
-    Ok(())
+fn sizes_of_a_product(rt: HostRuntime) -> Result<(), AllocError> {
+    each_row(&rt, rt.alloc(), PRODUCT, PRODUCTS)
 }

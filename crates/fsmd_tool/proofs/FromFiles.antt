@@ -1,6 +1,6 @@
 -- What is correct, from what was loaded.
 use Rattle.std.proofs.Common.{◌≡◌, ◌≤◌, ◌<◌, ◌+◌, ℕ, List, length, refl, sym, ◌∙◌, subst, inl, inr, arith}
-use Rattle.std.specs.Prelude.{Result, Ok, Err, IfOk, Some, None, replicate, string_bytes}
+use Rattle.std.specs.Prelude.{Result, Ok, Err, IfOk, Some, None, replicate}
 use Rattle.std.proofs.lemmas.List.{length-replicate}
 use Rattle.std.specs.Result.{IfErr}
 use Rattle.fs_base.specs.Outside.{Held, Unknown, Nothing, Bytes, Rose, AreHeld, MoreAreHeld}
@@ -11,7 +11,6 @@ use Rattle.fs_pair.specs.Interfaces.{interface_fault}
 use Rattle.fs_write.specs.Canonical.{canonical}
 use Rattle.fs_runs.specs.InputValues.{Signature}
 use Rattle.fs_inputs.specs.declared.faults.Fault.{Fault}
-use Rattle.fs_inputs.specs.declared.faults.InputError.{InputError}
 use Rattle.fs_inputs.specs.Refusals.{IsFaulty}
 use Rattle.fs_model.specs.Limits.{most_text_bytes}
 use Rattle.fsmd_tool.specs.declared.answer.Operand.{Operand}
@@ -23,8 +22,8 @@ use Rattle.fsmd_tool.specs.declared.load.Refused.TheVariants.{Answered, NoMemory
 use Rattle.fsmd_tool.specs.Words.{word_of}
 use Rattle.fsmd_tool.specs.Texts.{SpellsMachine, HasCanonicalText}
 use Rattle.fsmd_tool.specs.Paths.{paths_text, HasPaths}
-use Rattle.fsmd_tool.specs.Readings.{Call, held, FailedToRead, Content, Unopened, Readable, Unreadable, OfBytes, MayBeRead, MayHold, Reading, IsCorrectBy}
-use Rattle.fsmd_tool.specs.Refusals.{ArePair, IsUnread, Long, signatures, UnreadInputs, ByJson, ByInput, RefusesMachine, RefusesPair, FirstRefused, SecondRefused, RefusesInputs, SpellsInputs}
+use Rattle.fsmd_tool.specs.Readings.{Call, held, FailedToRead, Content, Unopened, Readable, Unreadable, MayBeRead, MayHold, Reading, IsCorrectBy}
+use Rattle.fsmd_tool.specs.Refusals.{IsUnread, Long, signatures, ByJson, ByInput, RefusesMachine, RefusesPair, SecondRefused, RefusesInputs, SpellsInputs}
 use Rattle.fsmd_tool.specs.Pairs.{IsOfPair}
 use Rattle.fsmd_tool.specs.Runs.{IsOfRun}
 use Rattle.fsmd_tool.specs.Replays.{IsOfReplay}
@@ -85,10 +84,10 @@ rose_since a b c le (inl less) = inl (omega arith)
 rose_since a b c le (inr last) = inr last
 
 -- the same of a file of a call that was loaded later in it
-later : (g : Call) (file : Operand) (h : Held) (before : ℕ) (P : Content → Type 0) → h ≡ held g file → g.faults_before (word_of g.words file) ≤ before
-    → MayGive h (Rose before (g.faults_now (word_of g.words file))) P → MayGive (held g file) (FailedToRead g file) P
+later : (g : Call) (file : Operand) (h : Held) (before : ℕ) (P : Content → Type 0) → h ≡ held g file → g.faults_before (word_of g.asked file) ≤ before
+    → MayGive h (Rose before (g.faults_now (word_of g.asked file))) P → MayGive (held g file) (FailedToRead g file) P
 later g file h before P e le m =
-    gives_kept h (held g file) (Rose before (g.faults_now (word_of g.words file))) (FailedToRead g file) P e (λ rose. rose_since (g.faults_before (word_of g.words file)) before (g.faults_now (word_of g.words file)) le rose) m
+    gives_kept h (held g file) (Rose before (g.faults_now (word_of g.asked file))) (FailedToRead g file) P e (λ rose. rose_since (g.faults_before (word_of g.asked file)) before (g.faults_now (word_of g.asked file)) le rose) m
 
 -- ---- one file
 
@@ -117,10 +116,10 @@ paths_listed g m text lines h e is = record {
 
 -- ---- two files of machines
 
-pub second_refused : (g : Call) (h : Held) (before : ℕ) (a : Fsmd) (e : Refusal) → h ≡ held g Second → g.faults_before (word_of g.words Second) ≤ before → MayHold (held g First) (SpellsMachine a)
-    → WhereAnswered (λ x. MayGive h (Rose before (g.faults_now (word_of g.words Second))) (λ c. RefusesMachine Second c x)) e → WhereAnswered (IsCorrectBy RefusesPair g) e
+pub second_refused : (g : Call) (h : Held) (before : ℕ) (a : Fsmd) (e : Refusal) → h ≡ held g Second → g.faults_before (word_of g.asked Second) ≤ before → MayHold (held g First) (SpellsMachine a)
+    → WhereAnswered (λ x. MayGive h (Rose before (g.faults_now (word_of g.asked Second))) (λ c. RefusesMachine Second c x)) e → WhereAnswered (IsCorrectBy RefusesPair g) e
 second_refused g h before a e same le left r =
-    answer_map (λ x. MayGive h (Rose before (g.faults_now (word_of g.words Second))) (λ c. RefusesMachine Second c x)) (IsCorrectBy RefusesPair g)
+    answer_map (λ x. MayGive h (Rose before (g.faults_now (word_of g.asked Second))) (λ c. RefusesMachine Second c x)) (IsCorrectBy RefusesPair g)
     (λ x m.
     let k = later g Second h before (λ c. RefusesMachine Second c x) same le m in
     record {
@@ -142,8 +141,8 @@ compared g a b answer l r p = record {
   follows = Compared a b (record { left = l.meet; right = r.meet }) p;
 }
 
-pub interfaces_differ : (g : Call) (a b : Fsmd) (name : List ℕ) → MayHold (held g First) (SpellsMachine a) → MayHold (held g Second) (SpellsMachine b) → interface_fault a b ≡ Some name → IsCorrectBy FollowsForReplay g (Interfaces name)
-interfaces_differ g a b name l r e = record {
+pub interfaces_differ : (limit : ℕ) (g : Call) (a b : Fsmd) (name : List ℕ) → MayHold (held g First) (SpellsMachine a) → MayHold (held g Second) (SpellsMachine b) → interface_fault a b ≡ Some name → IsCorrectBy (FollowsForReplay limit) g (Interfaces name)
+interfaces_differ limit g a b name l r e = record {
   reading = both l.bytes r.bytes;
   may_be_read = record { first = l.may; second = r.may; third = tt };
   follows = InterfacesDiffer a b (record { left = l.meet; right = r.meet }) (record { lines = name; holds = e; is = refl });
@@ -170,20 +169,20 @@ inputs_refused P m file k F e h = refusal_map k F (λ c x. RefusesInputs m file 
 pub inputs_spelled : (P : Inputs → Answer → Type 0) (m : Fsmd) (file : Operand) (k : Held) (F : Type 0) (ins : Inputs) (x : Answer) → MayHold k (SpellsInputs m ins) → P ins x → MayGive k F (λ c. FollowsFromInputs P m file c x)
 inputs_spelled P m file k F ins x h p = record { content = Readable h.bytes; may = h.may; meets = Spelled ins h.meet p }
 
-pub ran : (g : Call) (h : Held) (before : ℕ) (m : Fsmd) → h ≡ held g Second → g.faults_before (word_of g.words Second) ≤ before → MayHold (held g First) (SpellsMachine m)
-    → (x : Answer) → MayGive h (Rose before (g.faults_now (word_of g.words Second))) (λ c. FollowsFromInputs (IsOfRun m) m Second c x) → IsCorrectBy FollowsForRun g x
-ran g h before m same le first x v =
-    let k = later g Second h before (λ c. FollowsFromInputs (IsOfRun m) m Second c x) same le v in
+pub ran : (limit : ℕ) (g : Call) (h : Held) (before : ℕ) (m : Fsmd) → h ≡ held g Second → g.faults_before (word_of g.asked Second) ≤ before → MayHold (held g First) (SpellsMachine m)
+    → (x : Answer) → MayGive h (Rose before (g.faults_now (word_of g.asked Second))) (λ c. FollowsFromInputs (IsOfRun limit m) m Second c x) → IsCorrectBy (FollowsForRun limit) g x
+ran limit g h before m same le first x v =
+    let k = later g Second h before (λ c. FollowsFromInputs (IsOfRun limit m) m Second c x) same le v in
     record {
       reading = record { first = Readable first.bytes; second = k.content; third = Unopened };
       may_be_read = record { first = first.may; second = k.may; third = tt };
       follows = Ran m first.meet k.meets;
     }
 
-pub replayed : (g : Call) (h : Held) (before : ℕ) (a b : Fsmd) → h ≡ held g Third → g.faults_before (word_of g.words Third) ≤ before → MayHold (held g First) (SpellsMachine a) → MayHold (held g Second) (SpellsMachine b) → interface_fault a b ≡ None
-    → (x : Answer) → MayGive h (Rose before (g.faults_now (word_of g.words Third))) (λ c. FollowsFromInputs (IsOfReplay a b) a Third c x) → IsCorrectBy FollowsForReplay g x
-replayed g h before a b same le left right alike x v =
-    let k = later g Third h before (λ c. FollowsFromInputs (IsOfReplay a b) a Third c x) same le v in
+pub replayed : (limit : ℕ) (g : Call) (h : Held) (before : ℕ) (a b : Fsmd) → h ≡ held g Third → g.faults_before (word_of g.asked Third) ≤ before → MayHold (held g First) (SpellsMachine a) → MayHold (held g Second) (SpellsMachine b) → interface_fault a b ≡ None
+    → (x : Answer) → MayGive h (Rose before (g.faults_now (word_of g.asked Third))) (λ c. FollowsFromInputs (IsOfReplay limit a b) a Third c x) → IsCorrectBy (FollowsForReplay limit) g x
+replayed limit g h before a b same le left right alike x v =
+    let k = later g Third h before (λ c. FollowsFromInputs (IsOfReplay limit a b) a Third c x) same le v in
     record {
       reading = record { first = Readable left.bytes; second = Readable right.bytes; third = k.content };
       may_be_read = record { first = left.may; second = right.may; third = k.may };

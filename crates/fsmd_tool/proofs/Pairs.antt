@@ -7,7 +7,7 @@ use Rattle.fs_pair.specs.Interfaces.{interface_fault}
 use Rattle.straight_line.specs.Straight.{is_straight}
 use Rattle.straight_line.specs.Verdicts.{DiffersAt}
 use Rattle.fsmd_tool.specs.declared.answer.Answer.TheVariants.{OutputDiffers}
-use Rattle.fsmd_tool.specs.Pairs.{AreComparable, IsOfPair, Differ}
+use Rattle.fsmd_tool.specs.Pairs.{IsOfPair, Differ}
 
 left_true : (x y : Bool) → IsTrue (x && y) → x ≡ true
 left_true true y h = refl

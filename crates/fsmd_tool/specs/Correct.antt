@@ -1,5 +1,6 @@
 -- Which answer is correct, and how a call ends.
 use Rattle.std.specs.Prelude.{◌≡◌, ℕ, IsTrue, List, Option, Some, None, codes}
+use Rattle.command_words.specs.Words.{Asked, Check, Fmt, Cuts, Run, Replay}
 use Rattle.fs_base.specs.Outside.{Rose, appended}
 use Rattle.fs_model.specs.Machines.{Fsmd}
 use Rattle.fs_model.specs.Runs.{Inputs, SameBehaviour}
@@ -7,14 +8,12 @@ use Rattle.fs_pair.specs.Interfaces.{interface_fault}
 use Rattle.fsmd_tool.specs.declared.answer.Operand.{Operand}
 use Rattle.fsmd_tool.specs.declared.answer.Operand.TheVariants.{First, Second, Third}
 use Rattle.fsmd_tool.specs.declared.answer.Status.TheVariants.{NoMemory}
-use Rattle.fsmd_tool.specs.declared.words.Command.{Command}
-use Rattle.fsmd_tool.specs.declared.words.Command.TheVariants.{Check, Fmt, Cuts, Run, Replay}
 use Rattle.fsmd_tool.specs.declared.answer.Answer.{Answer}
 use Rattle.fsmd_tool.specs.declared.answer.Answer.TheVariants.{Usage, Text, Interfaces}
 use Rattle.fsmd_tool.specs.Statuses.{status_of}
 use Rattle.fsmd_tool.specs.Replies.{reply}
 use Rattle.fsmd_tool.specs.Puts.{Put, IsPut}
-use Rattle.fsmd_tool.specs.Words.{command_of, names}
+use Rattle.fsmd_tool.specs.Words.{names}
 use Rattle.fsmd_tool.specs.Texts.{SpellsMachine, HasCanonicalText}
 use Rattle.fsmd_tool.specs.Paths.{HasPaths}
 use Rattle.fsmd_tool.specs.Readings.{Call, held, FailedToRead, Content, OfBytes, MayHold, Reading, IsCorrectBy}
@@ -38,36 +37,36 @@ pub data FollowsFromInputs (P : Inputs → Answer → Type 0) (m : Fsmd) (file :
   InputsRefused : RefusesInputs m file content answer → FollowsFromInputs P m file content answer
   Spelled : (ins : Inputs) → OfBytes content (SpellsInputs m ins) → P ins answer → FollowsFromInputs P m file content answer
 
--- what follows for a run: the file of the machine is refused, or the machine runs from its inputs
-pub data FollowsForRun (r : Reading) (answer : Answer) : Type 0 where
-  MachineRefused : RefusesMachine First r.first answer → FollowsForRun r answer
-  Ran : (m : Fsmd) → OfBytes r.first (SpellsMachine m) → FollowsFromInputs (IsOfRun m) m Second r.second answer → FollowsForRun r answer
+-- what follows for a run of at most so many steps: the file of the machine is refused, or the machine runs from its inputs
+pub data FollowsForRun (limit : ℕ) (r : Reading) (answer : Answer) : Type 0 where
+  MachineRefused : RefusesMachine First r.first answer → FollowsForRun limit r answer
+  Ran : (m : Fsmd) → OfBytes r.first (SpellsMachine m) → FollowsFromInputs (IsOfRun limit m) m Second r.second answer → FollowsForRun limit r answer
 
--- what follows for a replay: the file of a machine is refused, or the machines have other inputs or outputs, or both run from
+-- what follows for a replay of at most so many steps: the file of a machine is refused, or the machines have other inputs or outputs, or both run from
 -- the inputs of the left one
-pub data FollowsForReplay (r : Reading) (answer : Answer) : Type 0 where
-  ReplayRefused : RefusesPair r answer → FollowsForReplay r answer
-  InterfacesDiffer : (a b : Fsmd) → ArePair r a b → HasLines (λ name. interface_fault a b ≡ Some name) Interfaces answer → FollowsForReplay r answer
-  Replayed : (a b : Fsmd) → ArePair r a b → interface_fault a b ≡ None → FollowsFromInputs (IsOfReplay a b) a Third r.third answer → FollowsForReplay r answer
+pub data FollowsForReplay (limit : ℕ) (r : Reading) (answer : Answer) : Type 0 where
+  ReplayRefused : RefusesPair r answer → FollowsForReplay limit r answer
+  InterfacesDiffer : (a b : Fsmd) → ArePair r a b → HasLines (λ name. interface_fault a b ≡ Some name) Interfaces answer → FollowsForReplay limit r answer
+  Replayed : (a b : Fsmd) → ArePair r a b → interface_fault a b ≡ None → FollowsFromInputs (IsOfReplay limit a b) a Third r.third answer → FollowsForReplay limit r answer
 
--- what follows for a command, or for words that are none, from what was read
-abbrev pub Follows : Option Command → Reading → Answer → Type 0
+-- what follows for what is asked, or for words that ask nothing, from what was read
+abbrev pub Follows : Option Asked → Reading → Answer → Type 0
 Follows None r answer = answer ≡ Usage
-Follows (Some Check) r answer = FollowsForCheck r answer
-Follows (Some Fmt) r answer = FollowsForText HasCanonicalText r answer
-Follows (Some Cuts) r answer = FollowsForText HasPaths r answer
-Follows (Some Run) r answer = FollowsForRun r answer
-Follows (Some Replay) r answer = FollowsForReplay r answer
+Follows (Some (Check left right cert steps)) r answer = FollowsForCheck r answer
+Follows (Some (Run machine inputs steps)) r answer = FollowsForRun steps r answer
+Follows (Some (Replay left right inputs steps)) r answer = FollowsForReplay steps r answer
+Follows (Some (Fmt machine)) r answer = FollowsForText HasCanonicalText r answer
+Follows (Some (Cuts machine)) r answer = FollowsForText HasPaths r answer
 
 -- the answer follows from what may have been read of the files
 abbrev pub IsCorrectAnswer : Call → Answer → Type 0
-IsCorrectAnswer g answer = IsCorrectBy (Follows (command_of g.words)) g answer
+IsCorrectAnswer g answer = IsCorrectBy (Follows g.asked) g answer
 
 -- a correct answer was put with its status, whole or cut by a sink that failed
 pub record Answered (g : Call) (p : Put) : Type 0 where
   pub answer : Answer
   pub correct : IsCorrectAnswer g answer
-  pub put : IsPut (reply answer g.words) (status_of answer) p
+  pub put : IsPut (reply answer g.asked) (status_of answer) p
 
 -- there was no memory, and nothing was put
 pub record IsStarved (p : Put) : Type 0 where
@@ -88,7 +87,7 @@ pub record SaysSame (g : Call) (p : Put) : Type 0 where
   pub same : SameBehaviour left right
   pub put : p.got_now ≡ appended p.got_before (codes "equivalent: 2 nodes\n")
 
--- a file that the command names failed to be read, or the sink failed
+-- a file that is named failed to be read, or the sink failed
 pub data HasCause (g : Call) (p : Put) : Type 0 where
-  FileFailed : (c : Command) (file : Operand) → command_of g.words ≡ Some c → IsTrue (names c file) → FailedToRead g file → HasCause g p
+  FileFailed : (file : Operand) → IsTrue (names g.asked file) → FailedToRead g file → HasCause g p
   SinkFailed : Rose p.faults_before p.faults_now → HasCause g p

@@ -1,28 +1,29 @@
 -- What is known of the files of a call, and what was read of them.
-use Rattle.std.specs.Prelude.{ℕ, List}
+use Rattle.std.specs.Prelude.{ℕ, List, Option}
+use Rattle.command_words.specs.Words.{Asked}
 use Rattle.fs_base.specs.Outside.{Held, Rose, AreHeld}
 use Rattle.fsmd_tool.specs.declared.answer.Operand.{Operand}
 use Rattle.fsmd_tool.specs.declared.answer.Operand.TheVariants.{First, Second, Third}
 use Rattle.fsmd_tool.specs.declared.answer.Answer.{Answer}
 use Rattle.fsmd_tool.specs.Words.{word_of}
 
--- the words of a call, what each name held at its start, and how often each had failed to be read before and at its end
+-- what the words of a call ask, what each name held at its start, and how often each had failed to be read before and at its end
 pub record Call : Type 0 where
-  pub words : List (List ℕ)
+  pub asked : Option Asked
   pub holds : List ℕ → Held
   pub faults_before : List ℕ → ℕ
   pub faults_now : List ℕ → ℕ
 
-abbrev pub call : List (List ℕ) → (List ℕ → Held) → (before now : List ℕ → ℕ) → Call
-call words holds before now = record { words = words; holds = holds; faults_before = before; faults_now = now }
+abbrev pub call : Option Asked → (List ℕ → Held) → (before now : List ℕ → ℕ) → Call
+call asked holds before now = record { asked = asked; holds = holds; faults_before = before; faults_now = now }
 
 -- what is known of a file of the call
 abbrev pub held : Call → Operand → Held
-held g file = g.holds (word_of g.words file)
+held g file = g.holds (word_of g.asked file)
 
 -- a file of the call failed to be read
 abbrev pub FailedToRead : Call → Operand → Type 0
-FailedToRead g file = Rose (g.faults_before (word_of g.words file)) (g.faults_now (word_of g.words file))
+FailedToRead g file = Rose (g.faults_before (word_of g.asked file)) (g.faults_now (word_of g.asked file))
 
 -- what was read of a file: it was not opened, its bytes, or it could not be read
 pub data Content : Type 0 where

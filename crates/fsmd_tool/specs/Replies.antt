@@ -1,5 +1,6 @@
 -- The bytes that each answer puts.
-use Rattle.std.specs.Prelude.{ℕ, List, ◌++◌, codes, decimal}
+use Rattle.std.specs.Prelude.{ℕ, List, Option, ◌++◌, codes, decimal}
+use Rattle.command_words.specs.Words.{Asked}
 use Rattle.fs_grammar.specs.declared.fault.TextKind.{TextKind}
 use Rattle.fs_grammar.specs.declared.fault.TextKind.TheVariants.{BadByte, BadWord, NumberTooBig, Unexpected, Operators, Nested, Ended}
 use Rattle.fs_rules.specs.declared.check.CheckRule.{CheckRule}
@@ -41,25 +42,25 @@ input_fault_name Shape = codes "Shape"
 input_fault_name Unknown = codes "UnknownName"
 input_fault_name TooBig = codes "NumberTooBig"
 
--- the lines that each answer puts, where these are the words of the command
-abbrev pub reply : Answer → (words : List (List ℕ)) → List ℕ
-reply Usage words =
+-- the lines that each answer to what is asked puts
+abbrev pub reply : Answer → Option Asked → List ℕ
+reply Usage asked =
     codes "usage: fsmd check A B [--cert F] [--steps N] | verify A B C | run A I [--steps N] | replay A B I [--steps N] | fmt A | cuts A | generate N\n"
-reply (Equivalent nodes) words = codes "equivalent: " ++ (decimal nodes ++ codes " nodes\n")
-reply (Text lines) words = lines
-reply (Differs lines) words = lines
-reply (NoReturn lines) words = lines
-reply (OutputDiffers output) words = codes "undecided: output " ++ (output ++ codes " at start.0>done | start.0>done\n")
-reply Wide words = codes "undecided: coefficient past 128 bits at start.0>done | start.0>done\n"
-reply Large words = codes "undecided: term too large at start.0>done | start.0>done\n"
-reply (TextRefused file fault) words =
-    codes "bad input: " ++ (word_of words file ++ (codes ":" ++ (decimal fault.line ++ (codes ":" ++ (decimal fault.column ++ (codes ": " ++ (kind_name fault.kind ++ codes "\n")))))))
-reply (CheckRefused file fault) words =
-    codes "bad input: " ++ (word_of words file ++ (codes ":" ++ (decimal fault.line ++ (codes ": " ++ (rule_name fault.rule ++ codes "\n")))))
-reply (NotJson file) words = codes "bad input: " ++ (word_of words file ++ codes ": NotJson\n")
-reply (InputRefused file fault name) words =
-    codes "bad input: " ++ (word_of words file ++ (codes ": " ++ (input_fault_name fault ++ (codes " " ++ (name ++ codes "\n")))))
-reply (Interfaces name) words = codes "bad input: interface: " ++ (name ++ codes "\n")
-reply (TooLong file) words = codes "bad input: " ++ (word_of words file ++ codes ": longer than 1048576 bytes\n")
-reply (NotBuilt file) words = codes "bad input: " ++ (word_of words file ++ codes ": NotBuilt\n")
-reply (CannotRead file) words = codes "fault: cannot read " ++ (word_of words file ++ codes "\n")
+reply (Equivalent nodes) asked = codes "equivalent: " ++ (decimal nodes ++ codes " nodes\n")
+reply (Text lines) asked = lines
+reply (Differs lines) asked = lines
+reply (NoReturn lines) asked = lines
+reply (OutputDiffers output) asked = codes "undecided: output " ++ (output ++ codes " at start.0>done | start.0>done\n")
+reply Wide asked = codes "undecided: coefficient past 128 bits at start.0>done | start.0>done\n"
+reply Large asked = codes "undecided: term too large at start.0>done | start.0>done\n"
+reply (TextRefused file fault) asked =
+    codes "bad input: " ++ (word_of asked file ++ (codes ":" ++ (decimal fault.line ++ (codes ":" ++ (decimal fault.column ++ (codes ": " ++ (kind_name fault.kind ++ codes "\n")))))))
+reply (CheckRefused file fault) asked =
+    codes "bad input: " ++ (word_of asked file ++ (codes ":" ++ (decimal fault.line ++ (codes ": " ++ (rule_name fault.rule ++ codes "\n")))))
+reply (NotJson file) asked = codes "bad input: " ++ (word_of asked file ++ codes ": NotJson\n")
+reply (InputRefused file fault name) asked =
+    codes "bad input: " ++ (word_of asked file ++ (codes ": " ++ (input_fault_name fault ++ (codes " " ++ (name ++ codes "\n")))))
+reply (Interfaces name) asked = codes "bad input: interface: " ++ (name ++ codes "\n")
+reply (TooLong file) asked = codes "bad input: " ++ (word_of asked file ++ codes ": longer than 1048576 bytes\n")
+reply (NotBuilt file) asked = codes "bad input: " ++ (word_of asked file ++ codes ": NotBuilt\n")
+reply (CannotRead file) asked = codes "fault: cannot read " ++ (word_of asked file ++ codes "\n")

@@ -10,14 +10,6 @@ use Rattle.fs_show.specs.Ends.{IsEndText, IsStopText}
 use Rattle.fsmd_tool.specs.declared.answer.Answer.{Answer}
 use Rattle.fsmd_tool.specs.declared.answer.Answer.TheVariants.{Text, NoReturn}
 
--- the most steps of a run
-abbrev pub most_steps : ℕ
-most_steps = 10000
-
--- from these inputs the machine returns to its reset state within the limit, with these outputs
-abbrev pub Ends : Fsmd → Inputs → Outputs → (steps : ℕ) → Type 0
-Ends m ins outs steps = EndsWith m ins most_steps outs steps
-
 -- the answer is lines of which P holds, of one of the kinds of answers that are lines
 pub record HasLines (P : List ℕ → Type 0) (kind : List ℕ → Answer) (answer : Answer) : Type 0 where
   pub lines : List ℕ
@@ -28,7 +20,7 @@ pub record HasLines (P : List ℕ → Type 0) (kind : List ℕ → Answer) (answ
 abbrev pub IsOfStop : Side → RunStop → Answer → Type 0
 IsOfStop side stop answer = HasLines (IsStopText side stop) NoReturn answer
 
--- the answer to a run from these inputs
-pub data IsOfRun (m : Fsmd) (ins : Inputs) (answer : Answer) : Type 0 where
-  Ended : (outs : Outputs) (steps : ℕ) → Ends m ins outs steps → HasLines (IsEndText (output_names m.variables) outs steps) Text answer → IsOfRun m ins answer
-  Stopped : (stop : RunStop) → IsStopped m ins most_steps stop → IsOfStop Only stop answer → IsOfRun m ins answer
+-- the answer to a run of at most so many steps from these inputs
+pub data IsOfRun (limit : ℕ) (m : Fsmd) (ins : Inputs) (answer : Answer) : Type 0 where
+  Ended : (outs : Outputs) (steps : ℕ) → EndsWith m ins limit outs steps → HasLines (IsEndText (output_names m.variables) outs steps) Text answer → IsOfRun limit m ins answer
+  Stopped : (stop : RunStop) → IsStopped m ins limit stop → IsOfStop Only stop answer → IsOfRun limit m ins answer

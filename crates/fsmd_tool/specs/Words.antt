@@ -1,49 +1,50 @@
--- The words of a command.
-use Rattle.std.specs.Prelude.{ℕ, Bool, true, false, cond, Option, Some, None, List, [], ◌∷◌, codes}
-use Rattle.std.specs.List.{slice_index_or}
-use Rattle.std.specs.Str.{bytes_eq}
+-- The files of what words ask.
+use Rattle.std.specs.Prelude.{ℕ, Bool, true, false, Option, Some, None, List, []}
+use Rattle.command_words.specs.Words.{Asked, Check, Run, Replay, Fmt, Cuts}
 use Rattle.fsmd_tool.specs.declared.answer.Operand.{Operand}
 use Rattle.fsmd_tool.specs.declared.answer.Operand.TheVariants.{First, Second, Third}
-use Rattle.fsmd_tool.specs.declared.words.Command.{Command}
-use Rattle.fsmd_tool.specs.declared.words.Command.TheVariants.{Check, Fmt, Cuts, Run, Replay}
 
--- the word that names a file: the first, the second or the third after the command
-abbrev pub word_of : List (List ℕ) → Operand → List ℕ
-word_of words First = slice_index_or words 1 []
-word_of words Second = slice_index_or words 2 []
-word_of words Third = slice_index_or words 3 []
+-- the word that names a file: the first, the second or the third
+abbrev pub word_of : Option Asked → Operand → List ℕ
+word_of None file = []
+word_of (Some (Check left right cert steps)) First = left
+word_of (Some (Check left right cert steps)) Second = right
+word_of (Some (Check left right cert steps)) Third = []
+word_of (Some (Run machine inputs steps)) First = machine
+word_of (Some (Run machine inputs steps)) Second = inputs
+word_of (Some (Run machine inputs steps)) Third = []
+word_of (Some (Replay left right inputs steps)) First = left
+word_of (Some (Replay left right inputs steps)) Second = right
+word_of (Some (Replay left right inputs steps)) Third = inputs
+word_of (Some (Fmt machine)) First = machine
+word_of (Some (Fmt machine)) Second = []
+word_of (Some (Fmt machine)) Third = []
+word_of (Some (Cuts machine)) First = machine
+word_of (Some (Cuts machine)) Second = []
+word_of (Some (Cuts machine)) Third = []
 
--- the command of a name with one file
-abbrev pub one_file_command : List ℕ → Option Command
-one_file_command name = cond (bytes_eq name (codes "fmt")) (Some Fmt) (cond (bytes_eq name (codes "cuts")) (Some Cuts) None)
+-- whether a file is named that is to be read
+abbrev pub names : Option Asked → Operand → Bool
+names None file = false
+names (Some (Check left right cert steps)) First = true
+names (Some (Check left right cert steps)) Second = true
+names (Some (Check left right cert steps)) Third = false
+names (Some (Run machine inputs steps)) First = true
+names (Some (Run machine inputs steps)) Second = true
+names (Some (Run machine inputs steps)) Third = false
+names (Some (Replay left right inputs steps)) file = true
+names (Some (Fmt machine)) First = true
+names (Some (Fmt machine)) Second = false
+names (Some (Fmt machine)) Third = false
+names (Some (Cuts machine)) First = true
+names (Some (Cuts machine)) Second = false
+names (Some (Cuts machine)) Third = false
 
--- the command of a name with two files
-abbrev pub two_file_command : List ℕ → Option Command
-two_file_command name = cond (bytes_eq name (codes "check")) (Some Check) (cond (bytes_eq name (codes "run")) (Some Run) None)
-
--- the command of a name with three files
-abbrev pub three_file_command : List ℕ → Option Command
-three_file_command name = cond (bytes_eq name (codes "replay")) (Some Replay) None
-
--- the command that words are: its name, and exactly its files
-abbrev pub command_of : List (List ℕ) → Option Command
-command_of (name ∷ a ∷ []) = one_file_command name
-command_of (name ∷ a ∷ b ∷ []) = two_file_command name
-command_of (name ∷ a ∷ b ∷ c ∷ []) = three_file_command name
-command_of _ = None
-
--- whether a command names a file
-abbrev pub names : Command → Operand → Bool
-names Check First = true
-names Check Second = true
-names Check Third = false
-names Fmt First = true
-names Fmt Second = false
-names Fmt Third = false
-names Cuts First = true
-names Cuts Second = false
-names Cuts Third = false
-names Run First = true
-names Run Second = true
-names Run Third = false
-names Replay file = true
+-- two machines are to be compared
+abbrev pub is_check : Option Asked → Bool
+is_check None = false
+is_check (Some (Check left right cert steps)) = true
+is_check (Some (Run machine inputs steps)) = false
+is_check (Some (Replay left right inputs steps)) = false
+is_check (Some (Fmt machine)) = false
+is_check (Some (Cuts machine)) = false

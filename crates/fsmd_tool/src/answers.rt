@@ -1,7 +1,8 @@
 //! What each command answers.
 
-ghost use Rattle.std.specs.Prelude.{◌≡◌, None, IfOk, map, string_bytes};
+ghost use Rattle.std.specs.Prelude.{◌≡◌, None, ◌≤◌, IfOk, Some};
 ghost use Rattle.std.specs.Result.{IfErr};
+ghost use Rattle.command_words.specs.Words.{asked};
 ghost use Rattle.fs_base.specs.Outside.{Rose, NoneFell, SameHeld};
 ghost use Rattle.fs_pair.specs.Interfaces.{interface_fault};
 ghost use Rattle.fsmd_tool.specs.declared.answer.Operand.TheVariants as operands;
@@ -20,6 +21,7 @@ use crate::load::{Loaded, Refused, load, load_inputs, load_machine};
 use crate::pair::{Pair, load_pair};
 use crate::paths::list_paths;
 use crate::runs::{replay_machines, run_machine};
+use command_words::asking::Ask;
 use fs_ast::machine::Machine;
 use fs_base::outside::Files;
 use fs_model::name::Name;
@@ -28,28 +30,24 @@ use fs_write::write_parts;
 use std::alloc::{AllocError, Global};
 
 /// What `check` answers: what two machines get.
-pub fn check<F: Files>(alloc: Global, words: &[String], files: &mut F) -> Result<Answer, Refused>
-    ensures ok { IfOk result (IsCorrectBy FollowsForCheck (call (map string_bytes words.now) (F.holds files.old) (F.faults files.old) (F.faults files.new))) }
-    ensures refused { IfErr result (WhereAnswered (IsCorrectBy FollowsForCheck (call (map string_bytes words.now) (F.holds files.old) (F.faults files.old) (F.faults files.new)))) }
+pub fn check<F: Files>(alloc: Global, ask: &Ask, files: &mut F) -> Result<Answer, Refused>
+    ensures ok { IfOk result (IsCorrectBy FollowsForCheck (call (Some (asked ask.now)) (F.holds files.old) (F.faults files.old) (F.faults files.new))) }
+    ensures refused { IfErr result (WhereAnswered (IsCorrectBy FollowsForCheck (call (Some (asked ask.now)) (F.holds files.old) (F.faults files.old) (F.faults files.new)))) }
     ensures counts { NoneFell (F.faults files.old) (F.faults files.new) }
     ensures unchanged { SameHeld (F.holds files.old) (F.holds files.new) }
 {
-    let Pair { left, right } = load_pair(alloc, words, files)?;
+    let Pair { left, right } = load_pair(alloc, ask, files)?;
     Ok(compare(alloc, &left, &right)?)
 }
 
 /// What `fmt` answers: the canonical text of a machine.
-pub fn format_text<F: Files>(
-    alloc: Global,
-    words: &[String],
-    files: &mut F,
-) -> Result<Answer, Refused>
-    ensures ok { IfOk result (IsCorrectBy (FollowsForText HasCanonicalText) (call (map string_bytes words.now) (F.holds files.old) (F.faults files.old) (F.faults files.new))) }
-    ensures refused { IfErr result (WhereAnswered (IsCorrectBy (FollowsForText HasCanonicalText) (call (map string_bytes words.now) (F.holds files.old) (F.faults files.old) (F.faults files.new)))) }
+pub fn format_text<F: Files>(alloc: Global, ask: &Ask, files: &mut F) -> Result<Answer, Refused>
+    ensures ok { IfOk result (IsCorrectBy (FollowsForText HasCanonicalText) (call (Some (asked ask.now)) (F.holds files.old) (F.faults files.old) (F.faults files.new))) }
+    ensures refused { IfErr result (WhereAnswered (IsCorrectBy (FollowsForText HasCanonicalText) (call (Some (asked ask.now)) (F.holds files.old) (F.faults files.old) (F.faults files.new)))) }
     ensures counts { NoneFell (F.faults files.old) (F.faults files.new) }
     ensures unchanged { SameHeld (F.holds files.old) (F.holds files.new) }
 {
-    let Loaded { parts, .. } = load(alloc, Operand::First, words, files)?;
+    let Loaded { parts, .. } = load(alloc, Operand::First, ask, files)?;
     match write_parts(alloc, &parts) {
         Ok(text) => Ok(Answer::Text {
             lines: Lines::of(text),
@@ -59,17 +57,13 @@ pub fn format_text<F: Files>(
 }
 
 /// What `cuts` answers: the paths of a machine.
-pub fn cut_paths<F: Files>(
-    alloc: Global,
-    words: &[String],
-    files: &mut F,
-) -> Result<Answer, Refused>
-    ensures ok { IfOk result (IsCorrectBy (FollowsForText HasPaths) (call (map string_bytes words.now) (F.holds files.old) (F.faults files.old) (F.faults files.new))) }
-    ensures refused { IfErr result (WhereAnswered (IsCorrectBy (FollowsForText HasPaths) (call (map string_bytes words.now) (F.holds files.old) (F.faults files.old) (F.faults files.new)))) }
+pub fn cut_paths<F: Files>(alloc: Global, ask: &Ask, files: &mut F) -> Result<Answer, Refused>
+    ensures ok { IfOk result (IsCorrectBy (FollowsForText HasPaths) (call (Some (asked ask.now)) (F.holds files.old) (F.faults files.old) (F.faults files.new))) }
+    ensures refused { IfErr result (WhereAnswered (IsCorrectBy (FollowsForText HasPaths) (call (Some (asked ask.now)) (F.holds files.old) (F.faults files.old) (F.faults files.new)))) }
     ensures counts { NoneFell (F.faults files.old) (F.faults files.new) }
     ensures unchanged { SameHeld (F.holds files.old) (F.holds files.new) }
 {
-    let machine = load_machine(alloc, Operand::First, words, files)?;
+    let machine = load_machine(alloc, Operand::First, ask, files)?;
     let lines = Lines::of(list_paths(alloc, &machine)?);
     Ok(Answer::Text { lines })
 }
@@ -77,32 +71,36 @@ pub fn cut_paths<F: Files>(
 // What a run of a machine answers to the file of its inputs.
 fn run_from<F: Files>(
     alloc: Global,
-    words: &[String],
+    ask: &Ask,
     machine: &Machine,
+    steps: u64,
     files: &mut F,
 ) -> Result<Answer, Refused>
-    ensures ok { IfOk result (λ answer. MayGive (F.holds files.old (word_of (map string_bytes words.now) operands.Second)) (Rose (F.faults files.old (word_of (map string_bytes words.now) operands.Second)) (F.faults files.new (word_of (map string_bytes words.now) operands.Second))) (λ content. FollowsFromInputs (IsOfRun machine.now) machine.now operands.Second content answer)) }
-    ensures refused { IfErr result (WhereAnswered (λ answer. MayGive (F.holds files.old (word_of (map string_bytes words.now) operands.Second)) (Rose (F.faults files.old (word_of (map string_bytes words.now) operands.Second)) (F.faults files.new (word_of (map string_bytes words.now) operands.Second))) (λ content. FollowsFromInputs (IsOfRun machine.now) machine.now operands.Second content answer))) }
+    requires { 1 ≤ steps }
+    ensures ok { IfOk result (λ answer. MayGive (F.holds files.old (word_of (Some (asked ask.now)) operands.Second)) (Rose (F.faults files.old (word_of (Some (asked ask.now)) operands.Second)) (F.faults files.new (word_of (Some (asked ask.now)) operands.Second))) (λ content. FollowsFromInputs (IsOfRun steps machine.now) machine.now operands.Second content answer)) }
+    ensures refused { IfErr result (WhereAnswered (λ answer. MayGive (F.holds files.old (word_of (Some (asked ask.now)) operands.Second)) (Rose (F.faults files.old (word_of (Some (asked ask.now)) operands.Second)) (F.faults files.new (word_of (Some (asked ask.now)) operands.Second))) (λ content. FollowsFromInputs (IsOfRun steps machine.now) machine.now operands.Second content answer))) }
     ensures counts { NoneFell (F.faults files.old) (F.faults files.new) }
     ensures unchanged { SameHeld (F.holds files.old) (F.holds files.new) }
 {
-    let inputs = load_inputs(alloc, Operand::Second, words, machine, files)?;
-    Ok(run_machine(alloc, machine, &inputs)?)
+    let inputs = load_inputs(alloc, Operand::Second, ask, machine, files)?;
+    Ok(run_machine(alloc, machine, &inputs, steps)?)
 }
 
-/// What `run` answers: the end of a machine's run, or why it has none.
+/// What `run` answers: the end of a machine's run of at most so many steps, or why it has none.
 pub fn run_files<F: Files>(
     alloc: Global,
-    words: &[String],
+    ask: &Ask,
+    steps: u64,
     files: &mut F,
 ) -> Result<Answer, Refused>
-    ensures ok { IfOk result (IsCorrectBy FollowsForRun (call (map string_bytes words.now) (F.holds files.old) (F.faults files.old) (F.faults files.new))) }
-    ensures refused { IfErr result (WhereAnswered (IsCorrectBy FollowsForRun (call (map string_bytes words.now) (F.holds files.old) (F.faults files.old) (F.faults files.new)))) }
+    requires { 1 ≤ steps }
+    ensures ok { IfOk result (IsCorrectBy (FollowsForRun steps) (call (Some (asked ask.now)) (F.holds files.old) (F.faults files.old) (F.faults files.new))) }
+    ensures refused { IfErr result (WhereAnswered (IsCorrectBy (FollowsForRun steps) (call (Some (asked ask.now)) (F.holds files.old) (F.faults files.old) (F.faults files.new)))) }
     ensures counts { NoneFell (F.faults files.old) (F.faults files.new) }
     ensures unchanged { SameHeld (F.holds files.old) (F.holds files.new) }
 {
-    let machine = load_machine(alloc, Operand::First, words, files)?;
-    run_from(alloc, words, &machine, files)
+    let machine = load_machine(alloc, Operand::First, ask, files)?;
+    run_from(alloc, ask, &machine, steps, files)
 }
 
 // The first name of which two machines have other inputs or outputs, if there is one.
@@ -123,35 +121,39 @@ fn first_difference(
 // What runs of two machines with the same interface answer to the file of their inputs.
 fn replay_from<F: Files>(
     alloc: Global,
-    words: &[String],
+    ask: &Ask,
     left: &Machine,
     right: &Machine,
+    steps: u64,
     files: &mut F,
 ) -> Result<Answer, Refused>
-    requires { interface_fault left.now right.now ≡ None }
-    ensures ok { IfOk result (λ answer. MayGive (F.holds files.old (word_of (map string_bytes words.now) operands.Third)) (Rose (F.faults files.old (word_of (map string_bytes words.now) operands.Third)) (F.faults files.new (word_of (map string_bytes words.now) operands.Third))) (λ content. FollowsFromInputs (IsOfReplay left.now right.now) left.now operands.Third content answer)) }
-    ensures refused { IfErr result (WhereAnswered (λ answer. MayGive (F.holds files.old (word_of (map string_bytes words.now) operands.Third)) (Rose (F.faults files.old (word_of (map string_bytes words.now) operands.Third)) (F.faults files.new (word_of (map string_bytes words.now) operands.Third))) (λ content. FollowsFromInputs (IsOfReplay left.now right.now) left.now operands.Third content answer))) }
+    requires alike { interface_fault left.now right.now ≡ None }
+    requires steps { 1 ≤ steps }
+    ensures ok { IfOk result (λ answer. MayGive (F.holds files.old (word_of (Some (asked ask.now)) operands.Third)) (Rose (F.faults files.old (word_of (Some (asked ask.now)) operands.Third)) (F.faults files.new (word_of (Some (asked ask.now)) operands.Third))) (λ content. FollowsFromInputs (IsOfReplay steps left.now right.now) left.now operands.Third content answer)) }
+    ensures refused { IfErr result (WhereAnswered (λ answer. MayGive (F.holds files.old (word_of (Some (asked ask.now)) operands.Third)) (Rose (F.faults files.old (word_of (Some (asked ask.now)) operands.Third)) (F.faults files.new (word_of (Some (asked ask.now)) operands.Third))) (λ content. FollowsFromInputs (IsOfReplay steps left.now right.now) left.now operands.Third content answer))) }
     ensures counts { NoneFell (F.faults files.old) (F.faults files.new) }
     ensures unchanged { SameHeld (F.holds files.old) (F.holds files.new) }
 {
-    let inputs = load_inputs(alloc, Operand::Third, words, left, files)?;
-    Ok(replay_machines(alloc, left, right, &inputs)?)
+    let inputs = load_inputs(alloc, Operand::Third, ask, left, files)?;
+    Ok(replay_machines(alloc, left, right, &inputs, steps)?)
 }
 
-/// What `replay` answers: the ends of two machines' runs from the same inputs.
+/// What `replay` answers: the ends of two machines' runs of at most so many steps from the same inputs.
 pub fn replay_files<F: Files>(
     alloc: Global,
-    words: &[String],
+    ask: &Ask,
+    steps: u64,
     files: &mut F,
 ) -> Result<Answer, Refused>
-    ensures ok { IfOk result (IsCorrectBy FollowsForReplay (call (map string_bytes words.now) (F.holds files.old) (F.faults files.old) (F.faults files.new))) }
-    ensures refused { IfErr result (WhereAnswered (IsCorrectBy FollowsForReplay (call (map string_bytes words.now) (F.holds files.old) (F.faults files.old) (F.faults files.new)))) }
+    requires { 1 ≤ steps }
+    ensures ok { IfOk result (IsCorrectBy (FollowsForReplay steps) (call (Some (asked ask.now)) (F.holds files.old) (F.faults files.old) (F.faults files.new))) }
+    ensures refused { IfErr result (WhereAnswered (IsCorrectBy (FollowsForReplay steps) (call (Some (asked ask.now)) (F.holds files.old) (F.faults files.old) (F.faults files.new)))) }
     ensures counts { NoneFell (F.faults files.old) (F.faults files.new) }
     ensures unchanged { SameHeld (F.holds files.old) (F.holds files.new) }
 {
-    let Pair { left, right } = load_pair(alloc, words, files)?;
+    let Pair { left, right } = load_pair(alloc, ask, files)?;
     match first_difference(alloc, &left, &right)? {
-        None => replay_from(alloc, words, &left, &right, files),
+        None => replay_from(alloc, ask, &left, &right, steps, files),
         Some(name) => Ok(Answer::Interfaces { name }),
     }
 }

@@ -12,4 +12,4 @@ pub mod program;
 mod put;
 mod reply;
 mod runs;
-pub mod words;
+mod words;

@@ -1,7 +1,8 @@
 //! Loads a file, reads it and builds its machine.
 
-ghost use Rattle.std.specs.Prelude.{◌≡◌, ◌≤◌, List, ℕ, length, IsTrue, IfOk, map, string_bytes};
+ghost use Rattle.std.specs.Prelude.{◌≡◌, ◌≤◌, List, ℕ, length, IsTrue, IfOk, Some, string_bytes};
 ghost use Rattle.std.specs.Result.{IfErr};
+ghost use Rattle.command_words.specs.Words.{asked};
 ghost use Rattle.fs_base.specs.Outside.{Rose, NoneFell, SameHeld, AreHeld};
 ghost use Rattle.fs_model.specs.View.{source_of};
 ghost use Rattle.fs_model.specs.WellFormed.{is_well_formed};
@@ -18,6 +19,7 @@ ghost use Rattle.fsmd_tool.specs.declared.load.Refused.TheVariants.{Answered, No
 
 use crate::answer::{Answer, Lines, Operand};
 use crate::words::word_of;
+use command_words::asking::Ask;
 use fs_ast::build::BuildError;
 use fs_ast::machine::Machine;
 use fs_base::outside::{Files, LoadError};
@@ -57,16 +59,16 @@ pub struct Loaded {
 fn load_bytes<F: Files>(
     alloc: Global,
     file: Operand,
-    words: &[String],
+    ask: &Ask,
     files: &mut F,
 ) -> Result<Vec<u8>, Refused>
-    ensures held { IfOk result (λ bytes. AreHeld (F.holds files.old (word_of (map string_bytes words.now) file)) bytes.items) }
+    ensures held { IfOk result (λ bytes. AreHeld (F.holds files.old (word_of (Some (asked ask.now)) file)) bytes.items) }
     ensures within { IfOk result (λ bytes. length bytes.items ≤ most_text_bytes) }
-    ensures unread { IfErr result (WhereAnswered (λ answer. MayGive (F.holds files.old (word_of (map string_bytes words.now) file)) (Rose (F.faults files.old (word_of (map string_bytes words.now) file)) (F.faults files.new (word_of (map string_bytes words.now) file))) (λ content. IsUnread file content answer))) }
+    ensures unread { IfErr result (WhereAnswered (λ answer. MayGive (F.holds files.old (word_of (Some (asked ask.now)) file)) (Rose (F.faults files.old (word_of (Some (asked ask.now)) file)) (F.faults files.new (word_of (Some (asked ask.now)) file))) (λ content. IsUnread file content answer))) }
     ensures counts { NoneFell (F.faults files.old) (F.faults files.new) }
     ensures unchanged { SameHeld (F.holds files.old) (F.holds files.new) }
 {
-    match files.load(alloc, word_of(words, file), TEXT_LIMIT as u64) {
+    match files.load(alloc, word_of(ask, file), TEXT_LIMIT as u64) {
         Ok(bytes) => Ok(bytes),
         Err(LoadError::Failed) => Err(Refused::Answered(Answer::CannotRead { file })),
         Err(LoadError::TooLong) => Err(Refused::Answered(Answer::TooLong { file })),
@@ -101,16 +103,16 @@ fn read_machine(alloc: Global, file: Operand, bytes: &[u8]) -> Result<Loaded, Re
 pub fn load<F: Files>(
     alloc: Global,
     file: Operand,
-    words: &[String],
+    ask: &Ask,
     files: &mut F,
 ) -> Result<Loaded, Refused>
-    ensures loaded { IfOk result (λ l. MayHold (F.holds files.old (word_of (map string_bytes words.now) file)) (IsLoaded (source_of l.parts) l.machine)) }
+    ensures loaded { IfOk result (λ l. MayHold (F.holds files.old (word_of (Some (asked ask.now)) file)) (IsLoaded (source_of l.parts) l.machine)) }
     ensures well_formed { IfOk result (λ l. IsTrue (is_well_formed (source_of l.parts))) }
-    ensures refused { IfErr result (WhereAnswered (λ answer. MayGive (F.holds files.old (word_of (map string_bytes words.now) file)) (Rose (F.faults files.old (word_of (map string_bytes words.now) file)) (F.faults files.new (word_of (map string_bytes words.now) file))) (λ content. RefusesMachine file content answer))) }
+    ensures refused { IfErr result (WhereAnswered (λ answer. MayGive (F.holds files.old (word_of (Some (asked ask.now)) file)) (Rose (F.faults files.old (word_of (Some (asked ask.now)) file)) (F.faults files.new (word_of (Some (asked ask.now)) file))) (λ content. RefusesMachine file content answer))) }
     ensures counts { NoneFell (F.faults files.old) (F.faults files.new) }
     ensures unchanged { SameHeld (F.holds files.old) (F.holds files.new) }
 {
-    let bytes = load_bytes(alloc, file, words, files)?;
+    let bytes = load_bytes(alloc, file, ask, files)?;
     read_machine(alloc, file, bytes.as_slice())
 }
 
@@ -118,15 +120,15 @@ pub fn load<F: Files>(
 pub fn load_machine<F: Files>(
     alloc: Global,
     file: Operand,
-    words: &[String],
+    ask: &Ask,
     files: &mut F,
 ) -> Result<Machine, Refused>
-    ensures spells { IfOk result (λ m. MayHold (F.holds files.old (word_of (map string_bytes words.now) file)) (SpellsMachine m)) }
-    ensures refused { IfErr result (WhereAnswered (λ answer. MayGive (F.holds files.old (word_of (map string_bytes words.now) file)) (Rose (F.faults files.old (word_of (map string_bytes words.now) file)) (F.faults files.new (word_of (map string_bytes words.now) file))) (λ content. RefusesMachine file content answer))) }
+    ensures spells { IfOk result (λ m. MayHold (F.holds files.old (word_of (Some (asked ask.now)) file)) (SpellsMachine m)) }
+    ensures refused { IfErr result (WhereAnswered (λ answer. MayGive (F.holds files.old (word_of (Some (asked ask.now)) file)) (Rose (F.faults files.old (word_of (Some (asked ask.now)) file)) (F.faults files.new (word_of (Some (asked ask.now)) file))) (λ content. RefusesMachine file content answer))) }
     ensures counts { NoneFell (F.faults files.old) (F.faults files.new) }
     ensures unchanged { SameHeld (F.holds files.old) (F.holds files.new) }
 {
-    let Loaded { machine, .. } = load(alloc, file, words, files)?;
+    let Loaded { machine, .. } = load(alloc, file, ask, files)?;
     Ok(machine)
 }
 
@@ -155,18 +157,18 @@ fn refused_inputs(file: Operand, error: InputError) -> Refused
 pub fn load_inputs<F: Files>(
     alloc: Global,
     file: Operand,
-    words: &[String],
+    ask: &Ask,
     machine: &Machine,
     files: &mut F,
 ) -> Result<Inputs, Refused>
-    ensures spells { IfOk result (λ i. MayHold (F.holds files.old (word_of (map string_bytes words.now) file)) (SpellsInputs machine.now (inputs_of i))) }
+    ensures spells { IfOk result (λ i. MayHold (F.holds files.old (word_of (Some (asked ask.now)) file)) (SpellsInputs machine.now (inputs_of i))) }
     ensures signatures { IfOk result (λ i. signatures_of i ≡ signatures machine.now) }
     ensures serves { IfOk result (λ i. Serves (signatures_of i) machine.now) }
-    ensures refused { IfErr result (WhereAnswered (λ answer. MayGive (F.holds files.old (word_of (map string_bytes words.now) file)) (Rose (F.faults files.old (word_of (map string_bytes words.now) file)) (F.faults files.new (word_of (map string_bytes words.now) file))) (λ content. RefusesInputs machine.now file content answer))) }
+    ensures refused { IfErr result (WhereAnswered (λ answer. MayGive (F.holds files.old (word_of (Some (asked ask.now)) file)) (Rose (F.faults files.old (word_of (Some (asked ask.now)) file)) (F.faults files.new (word_of (Some (asked ask.now)) file))) (λ content. RefusesInputs machine.now file content answer))) }
     ensures counts { NoneFell (F.faults files.old) (F.faults files.new) }
     ensures unchanged { SameHeld (F.holds files.old) (F.holds files.new) }
 {
-    let bytes = load_bytes(alloc, file, words, files)?;
+    let bytes = load_bytes(alloc, file, ask, files)?;
     match read_inputs(alloc, bytes.as_slice(), machine) {
         Ok(inputs) => Ok(inputs),
         Err(error) => Err(refused_inputs(file, error)),

@@ -1,9 +1,9 @@
 //! Lists the paths of a machine.
 
-ghost use Rattle.std.specs.Prelude.{◌≡◌, ◌++◌, IfOk, length, map, codes, decimal};
+ghost use Rattle.std.specs.Prelude.{◌≡◌, ◌++◌, IfOk, map, decimal};
 ghost use Rattle.std.specs.List.{flat_map};
 ghost use Rattle.std.specs.Result.{OnOk};
-ghost use Rattle.fs_cut.specs.Covers.{paths_from, points_of, cover_of};
+ghost use Rattle.fs_cut.specs.Covers.{paths_from};
 ghost use Rattle.fs_cut.specs.View.{point_of, path_of};
 ghost use Rattle.fsmd_tool.specs.Paths.{point_text, path_text, paths_text};
 

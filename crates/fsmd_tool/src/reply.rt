@@ -1,17 +1,20 @@
 //! The bytes of each answer.
 
-ghost use Rattle.std.specs.Prelude.{◌≡◌, ◌++◌, IfOk, codes, decimal, map, string_bytes};
+ghost use Rattle.std.specs.Prelude.{◌≡◌, ◌++◌, IfOk, codes, decimal, Some, string_bytes};
+ghost use Rattle.command_words.specs.Words.{asked};
 ghost use Rattle.fsmd_tool.specs.Replies.{kind_name, rule_name, input_fault_name, reply};
 
 use crate::answer::Answer;
 use crate::words::word_of;
+use command_words::asking::Ask;
 use fs_ast::check::{CheckFault, CheckRule};
 use fs_grammar::fault::{TextFault, TextKind};
 use fs_inputs::Fault as InputFault;
 use fs_model::name::Name;
 use std::alloc::{AllocError, Global};
 
-const USAGE: &str =
+/// The line that words print that ask nothing.
+pub const USAGE: &str =
     "usage: fsmd check A B [--cert F] [--steps N] | verify A B C | run A I [--steps N] | replay A B I [--steps N] | fmt A | cuts A | generate N\n";
 
 fn kind_name(kind: TextKind) -> &'static str
@@ -135,9 +138,9 @@ fn equivalent(alloc: Global, nodes: u32) -> Result<String, AllocError>
     format!(in alloc; "equivalent: {nodes} nodes\n")
 }
 
-/// The lines that an answer prints, where these are the words of the command.
-pub fn reply(alloc: Global, answer: &Answer, words: &[String]) -> Result<Vec<u8>, AllocError>
-    ensures { IfOk result (λ bytes. bytes.items ≡ reply answer.now (map string_bytes words.now)) }
+/// The lines that an answer to what is asked prints.
+pub fn reply(alloc: Global, answer: &Answer, ask: &Ask) -> Result<Vec<u8>, AllocError>
+    ensures { IfOk result (λ bytes. bytes.items ≡ reply answer.now (Some (asked ask.now))) }
 {
     let text = match answer {
         Answer::OutputDiffers { output } => {
@@ -155,9 +158,9 @@ pub fn reply(alloc: Global, answer: &Answer, words: &[String]) -> Result<Vec<u8>
             return lines.bytes().to_vec(alloc);
         }
         Answer::InputRefused { file, fault, name } => {
-            return input_refused(alloc, word_of(words, *file), *fault, name.bytes());
+            return input_refused(alloc, word_of(ask, *file), *fault, name.bytes());
         }
-        Answer::NotJson { file } => not_json(alloc, word_of(words, *file))?,
+        Answer::NotJson { file } => not_json(alloc, word_of(ask, *file))?,
         Answer::Usage => String::from_str(alloc, USAGE)?,
         Answer::Equivalent { nodes } => equivalent(alloc, *nodes)?,
         Answer::Wide => String::from_str(
@@ -168,15 +171,13 @@ pub fn reply(alloc: Global, answer: &Answer, words: &[String]) -> Result<Vec<u8>
             alloc,
             "undecided: term too large at start.0>done | start.0>done\n",
         )?,
-        Answer::TextRefused { file, fault } => {
-            text_refused(alloc, word_of(words, *file), fault)?
-        }
+        Answer::TextRefused { file, fault } => { text_refused(alloc, word_of(ask, *file), fault)? }
         Answer::CheckRefused { file, fault } => {
-            check_refused(alloc, word_of(words, *file), fault)?
+            check_refused(alloc, word_of(ask, *file), fault)?
         }
-        Answer::TooLong { file } => too_long(alloc, word_of(words, *file))?,
-        Answer::NotBuilt { file } => not_built(alloc, word_of(words, *file))?,
-        Answer::CannotRead { file } => cannot_read(alloc, word_of(words, *file))?,
+        Answer::TooLong { file } => too_long(alloc, word_of(ask, *file))?,
+        Answer::NotBuilt { file } => not_built(alloc, word_of(ask, *file))?,
+        Answer::CannotRead { file } => cannot_read(alloc, word_of(ask, *file))?,
     };
     Ok(text.into_bytes())
 }

@@ -1,6 +1,6 @@
 //! Runs machines on inputs, and says what they answer.
 
-ghost use Rattle.std.specs.Prelude.{◌≡◌, cond, None, IfOk};
+ghost use Rattle.std.specs.Prelude.{◌≡◌, ◌≤◌, cond, None, IfOk};
 ghost use Rattle.fs_pair.specs.Interfaces.{interface_fault};
 ghost use Rattle.fs_runs.specs.InputValues.{inputs_of, signatures_of, Serves};
 ghost use Rattle.fsmd_tool.specs.Runs.{IsOfStop, IsOfRun};
@@ -15,9 +15,6 @@ use fs_show::ends::{Side, end_text, stop_text};
 use fs_show::replay::{Replay, replay_text};
 use std::alloc::{AllocError, Global};
 
-/// The most steps of a run.
-const MOST_STEPS: u64 = 10_000;
-
 // What a run without an end answers.
 fn unended(alloc: Global, side: Side, stop: RunStop) -> Result<Answer, AllocError>
     ensures { IfOk result (IsOfStop side stop) }
@@ -30,12 +27,18 @@ fn unended(alloc: Global, side: Side, stop: RunStop) -> Result<Answer, AllocErro
     }
 }
 
-/// What a run of a machine from inputs answers.
-pub fn run_machine(alloc: Global, machine: &Machine, inputs: &Inputs) -> Result<Answer, AllocError>
-    requires { Serves (signatures_of inputs.now) machine.now }
-    ensures { IfOk result (IsOfRun machine.now (inputs_of inputs.now)) }
+/// What a run of a machine of at most so many steps from inputs answers.
+pub fn run_machine(
+    alloc: Global,
+    machine: &Machine,
+    inputs: &Inputs,
+    steps: u64,
+) -> Result<Answer, AllocError>
+    requires steps { 1 ≤ steps }
+    requires inputs { Serves (signatures_of inputs.now) machine.now }
+    ensures { IfOk result (IsOfRun steps machine.now (inputs_of inputs.now)) }
 {
-    let ended = match run(alloc, machine, inputs, MOST_STEPS) {
+    let ended = match run(alloc, machine, inputs, steps) {
         Ok(ended) => ended,
         Err(stop) => return unended(alloc, Side::Only, stop),
     };
@@ -58,23 +61,25 @@ fn compared(same: bool, lines: Lines) -> Answer
     }
 }
 
-/// What runs of two machines with the same inputs and outputs answer, from the same inputs.
+/// What runs of at most so many steps of two machines with the same inputs and outputs answer, from the same inputs.
 pub fn replay_machines(
     alloc: Global,
     left: &Machine,
     right: &Machine,
     inputs: &Inputs,
+    steps: u64,
 ) -> Result<Answer, AllocError>
+    requires steps { 1 ≤ steps }
     requires alike { interface_fault left.now right.now ≡ None }
     requires left_inputs { Serves (signatures_of inputs.now) left.now }
     requires right_inputs { Serves (signatures_of inputs.now) right.now }
-    ensures { IfOk result (IsOfReplay left.now right.now (inputs_of inputs.now)) }
+    ensures { IfOk result (IsOfReplay steps left.now right.now (inputs_of inputs.now)) }
 {
-    let left_end = match run(alloc, left, inputs, MOST_STEPS) {
+    let left_end = match run(alloc, left, inputs, steps) {
         Ok(ended) => ended,
         Err(stop) => return unended(alloc, Side::Left, stop),
     };
-    let right_end = match run(alloc, right, inputs, MOST_STEPS) {
+    let right_end = match run(alloc, right, inputs, steps) {
         Ok(ended) => ended,
         Err(stop) => return unended(alloc, Side::Right, stop),
     };

@@ -1,17 +1,14 @@
 -- At most one answer follows from what was read, and at most one is correct.
 use Rattle.std.proofs.Common.{◌≡◌, ℕ, List, Option, Some, None, refl, sym, ◌∙◌, ap, subst}
-use Rattle.std.specs.Prelude.{IsTrue}
+use Rattle.command_words.specs.Words.{Asked, Check, Fmt, Cuts, Run, Replay}
 use Rattle.fs_base.specs.Outside.{Held, Unknown, Nothing, Bytes}
 use Rattle.fs_model.specs.Machines.{Fsmd}
 use Rattle.fs_model.specs.Runs.{Inputs}
 use Rattle.fs_pair.specs.Interfaces.{interface_fault}
 use Rattle.fsmd_tool.specs.declared.answer.Operand.{Operand}
 use Rattle.fsmd_tool.specs.declared.answer.Operand.TheVariants.{First, Second, Third}
-use Rattle.fsmd_tool.specs.declared.words.Command.{Command}
-use Rattle.fsmd_tool.specs.declared.words.Command.TheVariants.{Check, Fmt, Cuts, Run, Replay}
 use Rattle.fsmd_tool.specs.declared.answer.Answer.{Answer}
 use Rattle.fsmd_tool.specs.declared.answer.Answer.TheVariants.{Text, Interfaces}
-use Rattle.fsmd_tool.specs.Words.{command_of, names}
 use Rattle.fsmd_tool.specs.Texts.{SpellsMachine, IsMachine, HasCanonicalText}
 use Rattle.fsmd_tool.specs.Paths.{HasPaths}
 use Rattle.fsmd_tool.specs.Readings.{Call, held, FailedToRead, Content, Unopened, Readable, Unreadable, OfBytes, MayBeRead, Reading, content_of, MayRead}
@@ -98,37 +95,37 @@ inputs_once : (P : Inputs → Answer → Type 0) → ((ins : Inputs) (x y : Answ
 inputs_once P once m file c d x y e p q =
     follows_once P once m file d x y (subst (λ k. FollowsFromInputs P m file k x) (e (follows_opened P m file c x p) (follows_opened P m file d y q)) p) q
 
-run_once : (r s : Reading) (x y : Answer) → Same r.first s.first → Same r.second s.second → FollowsForRun r x → FollowsForRun s y → x ≡ y
-run_once r s x y e f (MachineRefused p) (MachineRefused q) = refused_same First r.first s.first x y e p q
-run_once r s x y e f (MachineRefused p) (Ran m h q) = absurd (machine_not_refused First s.first r.first m x (same_back r.first s.first e) h p)
-run_once r s x y e f (Ran m h p) (MachineRefused q) = absurd (machine_not_refused First r.first s.first m y e h q)
-run_once r s x y e f (Ran m h p) (Ran n k q) =
+run_once : (limit : ℕ) (r s : Reading) (x y : Answer) → Same r.first s.first → Same r.second s.second → FollowsForRun limit r x → FollowsForRun limit s y → x ≡ y
+run_once limit r s x y e f (MachineRefused p) (MachineRefused q) = refused_same First r.first s.first x y e p q
+run_once limit r s x y e f (MachineRefused p) (Ran m h q) = absurd (machine_not_refused First s.first r.first m x (same_back r.first s.first e) h p)
+run_once limit r s x y e f (Ran m h p) (MachineRefused q) = absurd (machine_not_refused First r.first s.first m y e h q)
+run_once limit r s x y e f (Ran m h p) (Ran n k q) =
     let same : m ≡ n = machine_same r.first s.first m n e h k in
-    inputs_once (IsOfRun n) (run_answer_once n) n Second r.second s.second x y f (subst (λ o. FollowsFromInputs (IsOfRun o) o Second r.second x) same p) q
+    inputs_once (IsOfRun limit n) (run_answer_once limit n) n Second r.second s.second x y f (subst (λ o. FollowsFromInputs (IsOfRun limit o) o Second r.second x) same p) q
 
-replay_once : (r s : Reading) (x y : Answer) → Same r.first s.first → Same r.second s.second → Same r.third s.third → FollowsForReplay r x → FollowsForReplay s y → x ≡ y
-replay_once r s x y e f g (ReplayRefused p) (ReplayRefused q) = pair_refused_once r s x y e f p q
-replay_once r s x y e f g (ReplayRefused p) (InterfacesDiffer a b q l) = absurd (pair_not_refused s r a b x (same_back r.first s.first e) (same_back r.second s.second f) q p)
-replay_once r s x y e f g (ReplayRefused p) (Replayed a b q i o) = absurd (pair_not_refused s r a b x (same_back r.first s.first e) (same_back r.second s.second f) q p)
-replay_once r s x y e f g (InterfacesDiffer a b p l) (ReplayRefused q) = absurd (pair_not_refused r s a b y e f p q)
-replay_once r s x y e f g (InterfacesDiffer a b p l) (InterfacesDiffer m n q k) =
+replay_once : (limit : ℕ) (r s : Reading) (x y : Answer) → Same r.first s.first → Same r.second s.second → Same r.third s.third → FollowsForReplay limit r x → FollowsForReplay limit s y → x ≡ y
+replay_once limit r s x y e f g (ReplayRefused p) (ReplayRefused q) = pair_refused_once r s x y e f p q
+replay_once limit r s x y e f g (ReplayRefused p) (InterfacesDiffer a b q l) = absurd (pair_not_refused s r a b x (same_back r.first s.first e) (same_back r.second s.second f) q p)
+replay_once limit r s x y e f g (ReplayRefused p) (Replayed a b q i o) = absurd (pair_not_refused s r a b x (same_back r.first s.first e) (same_back r.second s.second f) q p)
+replay_once limit r s x y e f g (InterfacesDiffer a b p l) (ReplayRefused q) = absurd (pair_not_refused r s a b y e f p q)
+replay_once limit r s x y e f g (InterfacesDiffer a b p l) (InterfacesDiffer m n q k) =
     let here : interface_fault m n ≡ Some l.lines = with_pair r s a b m n (λ u v. interface_fault u v ≡ Some l.lines) e f p q l.holds in
     l.is ∙ ap Interfaces (some_same l.lines k.lines (sym here ∙ k.holds)) ∙ sym k.is
-replay_once r s x y e f g (InterfacesDiffer a b p l) (Replayed m n q i o) =
+replay_once limit r s x y e f g (InterfacesDiffer a b p l) (Replayed m n q i o) =
     absurd (some_none l.lines (interface_fault m n) (with_pair r s a b m n (λ u v. interface_fault u v ≡ Some l.lines) e f p q l.holds) i)
-replay_once r s x y e f g (Replayed a b p i o) (ReplayRefused q) = absurd (pair_not_refused r s a b y e f p q)
-replay_once r s x y e f g (Replayed a b p i o) (InterfacesDiffer m n q l) =
+replay_once limit r s x y e f g (Replayed a b p i o) (ReplayRefused q) = absurd (pair_not_refused r s a b y e f p q)
+replay_once limit r s x y e f g (Replayed a b p i o) (InterfacesDiffer m n q l) =
     absurd (some_none l.lines (interface_fault m n) l.holds (with_pair r s a b m n (λ u v. interface_fault u v ≡ None) e f p q i))
-replay_once r s x y e f g (Replayed a b p i o) (Replayed m n q j u) =
-    inputs_once (IsOfReplay m n) (replay_answer_once m n) m Third r.third s.third x y g (with_pair r s a b m n (λ k l. FollowsFromInputs (IsOfReplay k l) k Third r.third x) e f p q o) u
+replay_once limit r s x y e f g (Replayed a b p i o) (Replayed m n q j u) =
+    inputs_once (IsOfReplay limit m n) (replay_answer_once limit m n) m Third r.third s.third x y g (with_pair r s a b m n (λ k l. FollowsFromInputs (IsOfReplay limit k l) k Third r.third x) e f p q o) u
 
-pub follows_from_one : (o : Option Command) (r s : Reading) (x y : Answer) → Agree o r s → Follows o r x → Follows o s y → x ≡ y
+pub follows_from_one : (o : Option Asked) (r s : Reading) (x y : Answer) → Agree o r s → Follows o r x → Follows o s y → x ≡ y
 follows_from_one None r s x y a p q = p ∙ sym q
-follows_from_one (Some Check) r s x y a p q = check_once r s x y (a.agree Check First refl refl) (a.agree Check Second refl refl) p q
-follows_from_one (Some Fmt) r s x y a p q = text_once HasCanonicalText canonical_once canonical_machine r s x y (a.agree Fmt First refl refl) p q
-follows_from_one (Some Cuts) r s x y a p q = text_once HasPaths paths_once (λ bytes t h. (h.machine, h.spells)) r s x y (a.agree Cuts First refl refl) p q
-follows_from_one (Some Run) r s x y a p q = run_once r s x y (a.agree Run First refl refl) (a.agree Run Second refl refl) p q
-follows_from_one (Some Replay) r s x y a p q = replay_once r s x y (a.agree Replay First refl refl) (a.agree Replay Second refl refl) (a.agree Replay Third refl refl) p q
+follows_from_one (Some (Check left right cert steps)) r s x y a p q = check_once r s x y (a.agree First refl) (a.agree Second refl) p q
+follows_from_one (Some (Run machine inputs steps)) r s x y a p q = run_once steps r s x y (a.agree First refl) (a.agree Second refl) p q
+follows_from_one (Some (Replay left right inputs steps)) r s x y a p q = replay_once steps r s x y (a.agree First refl) (a.agree Second refl) (a.agree Third refl) p q
+follows_from_one (Some (Fmt machine)) r s x y a p q = text_once HasCanonicalText canonical_once canonical_machine r s x y (a.agree First refl) p q
+follows_from_one (Some (Cuts machine)) r s x y a p q = text_once HasPaths paths_once (λ bytes t h. (h.machine, h.spells)) r s x y (a.agree First refl) p q
 
 -- ---- what is known settles what was read
 
@@ -150,9 +147,9 @@ may_be_read g r Third m = m.third
 
 pub correct_once : (g : Call) (x y : Answer) (p : IsCorrectAnswer g x) (q : IsCorrectAnswer g y) → AreSettled g p.reading q.reading → x ≡ y
 correct_once g x y p q s =
-    follows_from_one (command_of g.words) p.reading q.reading x y
+    follows_from_one g.asked p.reading q.reading x y
     (record {
-      agree = λ c file is named o u.
-          settled_same (held g file) (FailedToRead g file) (content_of p.reading file) (content_of q.reading file) (s.settled c file is named o u)
+      agree = λ file named o u.
+          settled_same (held g file) (FailedToRead g file) (content_of p.reading file) (content_of q.reading file) (s.settled file named o u)
           (may_be_read g p.reading file p.may_be_read) (may_be_read g q.reading file q.may_be_read) o u;
     }) p.follows q.follows

@@ -1,13 +1,13 @@
 //! Laws of executions, files and answers, over the definitions alone. The functions do nothing.
 
 ghost use Rattle.std.specs.Prelude.{◌≡◌, ℕ, List, Option};
+ghost use Rattle.command_words.specs.Words.{Asked};
 ghost use Rattle.fs_model.specs.declared.parts.VarInfo.{VarInfo};
 ghost use Rattle.fs_model.specs.Machines.{Fsmd};
 ghost use Rattle.fs_grammar.specs.declared.fault.TextFault.{TextFault};
 ghost use Rattle.fs_rules.specs.declared.check.CheckFault.{CheckFault};
 ghost use Rattle.nf_terms.specs.Terms.{Polynomial};
 ghost use Rattle.straight_line.specs.Execution.{Outcome, Execution};
-ghost use Rattle.fsmd_tool.specs.declared.words.Command.{Command};
 ghost use Rattle.fsmd_tool.specs.declared.answer.Answer.{Answer};
 ghost use Rattle.fsmd_tool.specs.Paths.{HasPaths};
 ghost use Rattle.fsmd_tool.specs.Texts.{SpellsMachine, HasCanonicalText, IsTooLong, HasTextFault, HasCheckFault};
@@ -51,10 +51,10 @@ pub fn a_file_has_one_fault()
 /// At most one answer follows from what was read of the files, where two readings agree on each file that both
 /// opened. So it is for a file that fails to be read, too.
 pub fn one_answer_follows()
-    ensures { (o : Option Command) (r s : Reading) (x y : Answer) → Agree o r s → Follows o r x → Follows o s y → x ≡ y }
+    ensures { (o : Option Asked) (r s : Reading) (x y : Answer) → Agree o r s → Follows o r x → Follows o s y → x ≡ y }
 {}
 
-/// At most one answer is correct where the files of the command are settled up to the first that is refused.
+/// At most one answer is correct where the files that are named are settled up to the first that is refused.
 pub fn at_most_one_answer_is_correct()
     ensures { (g : Call) (x y : Answer) (p : IsCorrectAnswer g x) (q : IsCorrectAnswer g y) → AreSettled g p.reading q.reading → x ≡ y }
 {}

@@ -1,5 +1,5 @@
-use Rattle.std.proofs.Common.{rules, map}
-use Rattle.std.specs.Prelude.{string_bytes}
+use Rattle.std.proofs.Common.{rules, Some}
+use Rattle.command_words.specs.Words.{asked}
 use Rattle.fsmd_tool.specs.Readings.{call, IsCorrectBy}
 use Rattle.fsmd_tool.specs.Loading.{WhereAnswered}
 use Rattle.fsmd_tool.specs.Correct.{FollowsForCheck, CheckRefused}
@@ -8,7 +8,7 @@ use Rattle.fsmd_tool.proofs.answers.check.Goals as goal
 
 pub returns-in_err-left-clause-refused : goal.returns-in_err-left-clause-refused
 returns-in_err-left-clause-refused g c =
-    let h : WhereAnswered (IsCorrectBy FollowsForCheck (call (map string_bytes c.args.words.now) (g.F.Files.holds c.args.files.now) (g.F.Files.faults c.args.files.now) (g.F.Files.faults c.load_pair.new.files))) c.in_err-left.field-0.0 = pair_refused FollowsForCheck _ _ (λ r x p. CheckRefused p) c.in_err-left.ensures.refused in
+    let h : WhereAnswered (IsCorrectBy FollowsForCheck (call (Some (asked c.args.ask.now)) (g.F.Files.holds c.args.files.now) (g.F.Files.faults c.args.files.now) (g.F.Files.faults c.load_pair.new.files))) c.in_err-left.field-0.0 = pair_refused FollowsForCheck _ _ (λ r x p. CheckRefused p) c.in_err-left.ensures.refused in
     search rules
 
 pub returns-clause-ok : goal.returns-clause-ok

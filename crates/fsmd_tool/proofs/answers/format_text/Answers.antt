@@ -1,5 +1,5 @@
-use Rattle.std.proofs.Common.{rules, map}
-use Rattle.std.specs.Prelude.{string_bytes}
+use Rattle.std.proofs.Common.{rules, Some}
+use Rattle.command_words.specs.Words.{asked}
 use Rattle.fsmd_tool.specs.Readings.{call, IsCorrectBy}
 use Rattle.fsmd_tool.specs.Loading.{WhereAnswered}
 use Rattle.fsmd_tool.specs.Texts.{HasCanonicalText}
@@ -9,7 +9,7 @@ use Rattle.fsmd_tool.proofs.answers.format_text.Goals as goal
 
 pub returns-in_err-parts-clause-refused : goal.returns-in_err-parts-clause-refused
 returns-in_err-parts-clause-refused g c =
-    let h : WhereAnswered (IsCorrectBy (FollowsForText HasCanonicalText) (call (map string_bytes c.args.words.now) (g.F.Files.holds c.args.files.now) (g.F.Files.faults c.args.files.now) (g.F.Files.faults c.load.new.files))) c.in_err-parts.field-0.0 = machine_refused (FollowsForText HasCanonicalText) _ _ (λ r x p. TextRefused p) c.in_err-parts.ensures.refused in
+    let h : WhereAnswered (IsCorrectBy (FollowsForText HasCanonicalText) (call (Some (asked c.args.ask.now)) (g.F.Files.holds c.args.files.now) (g.F.Files.faults c.args.files.now) (g.F.Files.faults c.load.new.files))) c.in_err-parts.field-0.0 = machine_refused (FollowsForText HasCanonicalText) _ _ (λ r x p. TextRefused p) c.in_err-parts.ensures.refused in
     search rules
 
 pub returns-in-Ok-clause-ok : goal.returns-in-Ok-clause-ok

@@ -1,5 +1,5 @@
-use Rattle.std.proofs.Common.{rules, map}
-use Rattle.std.specs.Prelude.{string_bytes}
+use Rattle.std.proofs.Common.{rules, Some}
+use Rattle.command_words.specs.Words.{asked}
 use Rattle.fs_base.specs.Outside.{Rose}
 use Rattle.fs_runs.specs.InputValues.{inputs_of}
 use Rattle.fsmd_tool.specs.declared.answer.Operand.TheVariants.{Second}
@@ -12,10 +12,10 @@ use Rattle.fsmd_tool.proofs.answers.run_from.Goals as goal
 
 pub returns-in_err-inputs-clause-refused : goal.returns-in_err-inputs-clause-refused
 returns-in_err-inputs-clause-refused g c =
-    let h : WhereAnswered (λ x. MayGive (g.F.Files.holds c.args.files.now (word_of (map string_bytes c.args.words.now) Second)) (Rose (g.F.Files.faults c.args.files.now (word_of (map string_bytes c.args.words.now) Second)) (g.F.Files.faults c.load_inputs.new.files (word_of (map string_bytes c.args.words.now) Second))) (λ content. FollowsFromInputs (IsOfRun c.args.machine.now) c.args.machine.now Second content x)) c.in_err-inputs.field-0.0 =
-    inputs_refused (IsOfRun c.args.machine.now) c.args.machine.now Second _ _ _ c.in_err-inputs.ensures.refused
+    let h : WhereAnswered (λ x. MayGive (g.F.Files.holds c.args.files.now (word_of (Some (asked c.args.ask.now)) Second)) (Rose (g.F.Files.faults c.args.files.now (word_of (Some (asked c.args.ask.now)) Second)) (g.F.Files.faults c.load_inputs.new.files (word_of (Some (asked c.args.ask.now)) Second))) (λ content. FollowsFromInputs (IsOfRun c.args.steps c.args.machine.now) c.args.machine.now Second content x)) c.in_err-inputs.field-0.0 =
+    inputs_refused (IsOfRun c.args.steps c.args.machine.now) c.args.machine.now Second _ _ _ c.in_err-inputs.ensures.refused
     in
     search rules
 
 pub returns-clause-ok : goal.returns-clause-ok
-returns-clause-ok g c = inputs_spelled (IsOfRun c.args.machine.now) c.args.machine.now Second _ _ (inputs_of c.in_ok-inputs.inputs) c.in_ok-run_machine.field-0 c.in_ok-inputs.ensures.spells c.in_ok-run_machine.ensures
+returns-clause-ok g c = inputs_spelled (IsOfRun c.args.steps c.args.machine.now) c.args.machine.now Second _ _ (inputs_of c.in_ok-inputs.inputs) c.in_ok-run_machine.field-0 c.in_ok-inputs.ensures.spells c.in_ok-run_machine.ensures

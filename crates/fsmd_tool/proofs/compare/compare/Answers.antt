@@ -1,4 +1,4 @@
-use Rattle.std.proofs.Common.{ap, refl}
+use Rattle.std.proofs.Common.{ap}
 use Rattle.fsmd_tool.specs.declared.answer.Answer.TheVariants.{Interfaces}
 use Rattle.fsmd_tool.specs.Pairs.{OtherInterface}
 use Rattle.fsmd_tool.proofs.compare.compare.Goals as goal

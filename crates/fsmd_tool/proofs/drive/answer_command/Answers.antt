@@ -1,33 +1,41 @@
-use Rattle.fsmd_tool.specs.declared.words.Command.TheVariants.{Check, Fmt, Cuts, Run, Replay}
+use Rattle.std.proofs.Common.{ap, Some}
+use Rattle.command_words.specs.declared.asking.Ask.{Ask}
+use Rattle.command_words.specs.Words.{asked}
 use Rattle.fsmd_tool.proofs.Outcomes.{as_ok, as_refused}
 use Rattle.fsmd_tool.proofs.drive.answer_command.Goals as goal
 
 pub returns-in-Check-clause-ok : goal.returns-in-Check-clause-ok
-returns-in-Check-clause-ok g c = as_ok c.args.command Check _ c.check.result c.in-Check.is c.check.ensures.ok
+returns-in-Check-clause-ok g c = as_ok _ _ c.check.result (ap (λ (k : Ask). Some (asked k)) c.in-Check.is) c.check.ensures.ok
 
 pub returns-in-Check-clause-refused : goal.returns-in-Check-clause-refused
-returns-in-Check-clause-refused g c = as_refused c.args.command Check _ c.check.result c.in-Check.is c.check.ensures.refused
-
-pub returns-in-Fmt-clause-ok : goal.returns-in-Fmt-clause-ok
-returns-in-Fmt-clause-ok g c = as_ok c.args.command Fmt _ c.format_text.result c.in-Fmt.is c.format_text.ensures.ok
-
-pub returns-in-Fmt-clause-refused : goal.returns-in-Fmt-clause-refused
-returns-in-Fmt-clause-refused g c = as_refused c.args.command Fmt _ c.format_text.result c.in-Fmt.is c.format_text.ensures.refused
-
-pub returns-in-Cuts-clause-ok : goal.returns-in-Cuts-clause-ok
-returns-in-Cuts-clause-ok g c = as_ok c.args.command Cuts _ c.cut_paths.result c.in-Cuts.is c.cut_paths.ensures.ok
-
-pub returns-in-Cuts-clause-refused : goal.returns-in-Cuts-clause-refused
-returns-in-Cuts-clause-refused g c = as_refused c.args.command Cuts _ c.cut_paths.result c.in-Cuts.is c.cut_paths.ensures.refused
+returns-in-Check-clause-refused g c = as_refused _ _ c.check.result (ap (λ (k : Ask). Some (asked k)) c.in-Check.is) c.check.ensures.refused
 
 pub returns-in-Run-clause-ok : goal.returns-in-Run-clause-ok
-returns-in-Run-clause-ok g c = as_ok c.args.command Run _ c.run_files.result c.in-Run.is c.run_files.ensures.ok
+returns-in-Run-clause-ok g c = as_ok _ _ c.run_files.result (ap (λ (k : Ask). Some (asked k)) c.in-Run.is) c.run_files.ensures.ok
 
 pub returns-in-Run-clause-refused : goal.returns-in-Run-clause-refused
-returns-in-Run-clause-refused g c = as_refused c.args.command Run _ c.run_files.result c.in-Run.is c.run_files.ensures.refused
+returns-in-Run-clause-refused g c = as_refused _ _ c.run_files.result (ap (λ (k : Ask). Some (asked k)) c.in-Run.is) c.run_files.ensures.refused
 
 pub returns-in-Replay-clause-ok : goal.returns-in-Replay-clause-ok
-returns-in-Replay-clause-ok g c = as_ok c.args.command Replay _ c.replay_files.result c.in-Replay.is c.replay_files.ensures.ok
+returns-in-Replay-clause-ok g c = as_ok _ _ c.replay_files.result (ap (λ (k : Ask). Some (asked k)) c.in-Replay.is) c.replay_files.ensures.ok
 
 pub returns-in-Replay-clause-refused : goal.returns-in-Replay-clause-refused
-returns-in-Replay-clause-refused g c = as_refused c.args.command Replay _ c.replay_files.result c.in-Replay.is c.replay_files.ensures.refused
+returns-in-Replay-clause-refused g c = as_refused _ _ c.replay_files.result (ap (λ (k : Ask). Some (asked k)) c.in-Replay.is) c.replay_files.ensures.refused
+
+pub returns-in-Fmt-clause-ok : goal.returns-in-Fmt-clause-ok
+returns-in-Fmt-clause-ok g c = as_ok _ _ c.format_text.result (ap (λ (k : Ask). Some (asked k)) c.in-Fmt.is) c.format_text.ensures.ok
+
+pub returns-in-Fmt-clause-refused : goal.returns-in-Fmt-clause-refused
+returns-in-Fmt-clause-refused g c = as_refused _ _ c.format_text.result (ap (λ (k : Ask). Some (asked k)) c.in-Fmt.is) c.format_text.ensures.refused
+
+pub returns-in-Cuts-clause-ok : goal.returns-in-Cuts-clause-ok
+returns-in-Cuts-clause-ok g c = as_ok _ _ c.cut_paths.result (ap (λ (k : Ask). Some (asked k)) c.in-Cuts.is) c.cut_paths.ensures.ok
+
+pub returns-in-Cuts-clause-refused : goal.returns-in-Cuts-clause-refused
+returns-in-Cuts-clause-refused g c = as_refused _ _ c.cut_paths.result (ap (λ (k : Ask). Some (asked k)) c.in-Cuts.is) c.cut_paths.ensures.refused
+
+pub run_files-requires : goal.run_files-requires
+run_files-requires g c = let limits = rw c.in-Run.is at c.requires in limits.0
+
+pub replay_files-requires : goal.replay_files-requires
+replay_files-requires g c = let limits = rw c.in-Replay.is at c.requires in limits.0

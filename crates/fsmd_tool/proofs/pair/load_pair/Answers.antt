@@ -1,17 +1,17 @@
-use Rattle.std.proofs.Common.{rules, map}
-use Rattle.std.specs.Prelude.{string_bytes}
+use Rattle.std.proofs.Common.{rules, Some}
+use Rattle.command_words.specs.Words.{asked}
 use Rattle.fsmd_tool.specs.Readings.{call, IsCorrectBy}
-use Rattle.fsmd_tool.specs.Loading.{WhereAnswered, MayGive}
+use Rattle.fsmd_tool.specs.Loading.{WhereAnswered}
 use Rattle.fsmd_tool.specs.Refusals.{RefusesPair, FirstRefused}
 use Rattle.fsmd_tool.proofs.FromFiles.{machine_refused, second_refused}
 use Rattle.fsmd_tool.proofs.pair.load_pair.Goals as goal
 
 pub returns-in_err-left-clause-refused : goal.returns-in_err-left-clause-refused
 returns-in_err-left-clause-refused g c =
-    let h : WhereAnswered (IsCorrectBy RefusesPair (call (map string_bytes c.args.words.now) (g.F.Files.holds c.args.files.now) (g.F.Files.faults c.args.files.now) (g.F.Files.faults c.load_machine.new.files))) c.in_err-left.field-0.0 = machine_refused RefusesPair _ _ (λ r x p. FirstRefused p) c.in_err-left.ensures.refused in
+    let h : WhereAnswered (IsCorrectBy RefusesPair (call (Some (asked c.args.ask.now)) (g.F.Files.holds c.args.files.now) (g.F.Files.faults c.args.files.now) (g.F.Files.faults c.load_machine.new.files))) c.in_err-left.field-0.0 = machine_refused RefusesPair _ _ (λ r x p. FirstRefused p) c.in_err-left.ensures.refused in
     search rules
 
 pub returns-in_err-right-clause-refused : goal.returns-in_err-right-clause-refused
 returns-in_err-right-clause-refused g c =
-    let h : WhereAnswered (IsCorrectBy RefusesPair (call (map string_bytes c.args.words.now) (g.F.Files.holds c.args.files.now) (g.F.Files.faults c.args.files.now) (g.F.Files.faults c.load_machine-2.new.files))) c.in_err-right.field-0.0 = second_refused _ _ _ c.in_ok-left.left _ (c.load_machine.ensures.unchanged _) (c.load_machine.ensures.counts _) c.in_ok-left.ensures.spells c.in_err-right.ensures.refused in
+    let h : WhereAnswered (IsCorrectBy RefusesPair (call (Some (asked c.args.ask.now)) (g.F.Files.holds c.args.files.now) (g.F.Files.faults c.args.files.now) (g.F.Files.faults c.load_machine-2.new.files))) c.in_err-right.field-0.0 = second_refused _ _ _ c.in_ok-left.left _ (c.load_machine.ensures.unchanged _) (c.load_machine.ensures.counts _) c.in_ok-left.ensures.spells c.in_err-right.ensures.refused in
     search rules

@@ -1,0 +1,6 @@
+mod Added
+mod Limits
+mod Matches
+mod Named
+mod Numbers
+mod Plain

@@ -1,0 +1,63 @@
+-- Words that are taken, with what they ask, and words that are refused.
+use Rattle.std.specs.Prelude.{◌≡◌, List, [], ◌∷◌, Some, None, codes}
+use Rattle.clap.specs.Lexer.{strip_byte}
+use Rattle.clap.specs.Words.{Text, fault_of}
+use Rattle.clap.specs.declared.error.kind.ErrorKind.{ErrorKind}
+use Rattle.clap.specs.declared.error.kind.ErrorKind.TheVariants as kinds
+use Rattle.command_words.specs.CommandLine.{command_line}
+use Rattle.command_words.specs.Words.{AreTaken, Asked, asked_of, Check, Run, Replay, Fmt, Cuts}
+
+abbrev pub Asks : List Text → Asked → Type 0
+Asks words what = AreTaken words × (asked_of words ≡ Some what)
+
+abbrev pub FailBy : List Text → ErrorKind → Type 0
+FailBy words kind = fault_of command_line words ≡ kind ∷ []
+
+pub record TakenExamples : Type 0 where
+  pub options_between : Asks
+      (codes "check" ∷ codes "--steps=5" ∷ codes "A" ∷ codes "--cert" ∷ codes "F" ∷ codes "B" ∷ [])
+      (Check (codes "A") (codes "B") (Some (codes "F")) 5)
+  pub most_steps : Asks (codes "run" ∷ codes "A" ∷ codes "I" ∷ codes "--steps" ∷ codes "100000" ∷ [])
+      (Run (codes "A") (codes "I") 100000)
+  pub named_as_command : Asks (codes "fmt" ∷ codes "check" ∷ []) (Fmt (codes "check"))
+  pub after_hyphens : Asks (codes "cuts" ∷ codes "--" ∷ codes "--steps" ∷ [])
+      (Cuts (codes "--steps"))
+  pub hyphen_value : Asks (codes "check" ∷ codes "A" ∷ codes "B" ∷ codes "--cert=-x" ∷ [])
+      (Check (codes "A") (codes "B") (Some (codes "-x")) 10000)
+
+pub record RefusedExamples : Type 0 where
+  pub nothing : FailBy [] kinds.MissingSubcommand
+  pub unknown : fault_of command_line (codes "trace" ∷ codes "A" ∷ [])
+      ≡ kinds.UnknownArgument ∷ kinds.InvalidSubcommand ∷ []
+  pub one_file : FailBy (codes "check" ∷ codes "A" ∷ []) kinds.MissingRequiredArgument
+  pub three_files : FailBy (codes "check" ∷ codes "A" ∷ codes "B" ∷ codes "C" ∷ [])
+      kinds.UnknownArgument
+  pub no_steps : FailBy (codes "check" ∷ codes "A" ∷ codes "B" ∷ codes "--steps=0" ∷ [])
+      kinds.ValueValidation
+  pub too_many_steps : FailBy
+      (codes "check" ∷ codes "A" ∷ codes "B" ∷ codes "--steps" ∷ codes "100001" ∷ [])
+      kinds.ValueValidation
+  pub no_value : FailBy (codes "check" ∷ codes "A" ∷ codes "B" ∷ codes "--cert" ∷ [])
+      kinds.InvalidValue
+  pub flag_for_value : FailBy
+      (codes "check" ∷ codes "A" ∷ codes "B" ∷ codes "--cert" ∷ codes "-x" ∷ [])
+      kinds.UnknownArgument
+  pub twice : FailBy
+      (codes "check" ∷ codes "A" ∷ codes "B" ∷ codes "--steps=1" ∷ codes "--steps=1" ∷ [])
+      kinds.ArgumentConflict
+  pub help : FailBy (codes "check" ∷ codes "--help" ∷ []) kinds.DisplayHelp
+  pub top_help : FailBy (codes "-h" ∷ []) kinds.DisplayHelp
+
+-- the word begins with no hyphen, whose byte is 45
+abbrev pub IsPlain : Text → Type 0
+IsPlain word = strip_byte 45 word ≡ None
+
+pub record PlainWordsAreFiles : Type 0 where
+  pub check : (left right : Text) → IsPlain left → IsPlain right
+      → Asks (codes "check" ∷ left ∷ right ∷ []) (Check left right None 10000)
+  pub run : (machine inputs : Text) → IsPlain machine → IsPlain inputs
+      → Asks (codes "run" ∷ machine ∷ inputs ∷ []) (Run machine inputs 10000)
+  pub replay : (left right inputs : Text) → IsPlain left → IsPlain right → IsPlain inputs
+      → Asks (codes "replay" ∷ left ∷ right ∷ inputs ∷ []) (Replay left right inputs 10000)
+  pub fmt : (machine : Text) → IsPlain machine → Asks (codes "fmt" ∷ machine ∷ []) (Fmt machine)
+  pub cuts : (machine : Text) → IsPlain machine → Asks (codes "cuts" ∷ machine ∷ []) (Cuts machine)

@@ -1,0 +1,104 @@
+-- What words ask, by the matches that clap defines for them.
+use Rattle.std.specs.Prelude.{◌≡◌, ◌≤◌, ◌&&◌, ℕ, List, [], ◌∷◌, Option, Some, None, ⊤}
+use Rattle.std.specs.Prelude.{codes, unwrap_or, option_and_then, option_map, if◌then◌else◌, nat_le, string_bytes}
+use Rattle.std.specs.Str.{bytes_eq}
+use Rattle.std.specs.Str.Parse.{digits_value, without_leading_plus}
+use Rattle.clap.specs.Words.{Kinds, Row, Text, first_of, one_of, subcommand_of, fault_of}
+use Rattle.clap.specs.ValueTests.{is_unsigned_in}
+use Rattle.command_words.specs.CommandLine.{command_line}
+use Rattle.command_words.specs.declared.asking.Ask.{Ask}
+use Rattle.command_words.specs.declared.asking.Ask.TheVariants as asks
+
+-- what is asked, as plain data: files as their words, then numbers
+pub data Asked : Type 0 where
+  Check : (left right : Text) → (cert : Option Text) → (steps : ℕ) → Asked
+  Run : (machine inputs : Text) → (steps : ℕ) → Asked
+  Replay : (left right inputs : Text) → (steps : ℕ) → Asked
+  Fmt : (machine : Text) → Asked
+  Cuts : (machine : Text) → Asked
+
+abbrev pub asked : Ask → Asked
+asked (asks.Check left right cert steps) =
+    Check (string_bytes left) (string_bytes right) (option_map string_bytes cert) steps
+asked (asks.Run machine inputs steps) = Run (string_bytes machine) (string_bytes inputs) steps
+asked (asks.Replay left right inputs steps) =
+    Replay (string_bytes left) (string_bytes right) (string_bytes inputs) steps
+asked (asks.Fmt machine) = Fmt (string_bytes machine)
+asked (asks.Cuts machine) = Cuts (string_bytes machine)
+
+-- ---- fields, by the matches of a command
+
+-- the word that was matched, or no text
+abbrev pub word_of : Text → List Row → Text
+word_of id rows = unwrap_or (first_of id rows) []
+
+abbrev pub in_range : ℕ → ℕ → ℕ → Option ℕ → ℕ
+in_range low high other None = other
+in_range low high other (Some n) = if nat_le low n && nat_le n high then n else other
+
+-- the number that a text spells, where it lies in the range
+abbrev pub number_in : ℕ → ℕ → ℕ → Option Text → ℕ
+number_in low high other None = other
+number_in low high other (Some text) =
+    if is_unsigned_in low high text then digits_value 10 (without_leading_plus text) else other
+
+abbrev pub steps_of : List Row → ℕ
+steps_of rows = number_in 1 100000 10000 (one_of (codes "steps") rows)
+
+-- ---- commands, by their matches
+
+abbrev pub check_of : List Row → Asked
+check_of rows = Check (word_of (codes "left") rows) (word_of (codes "right") rows)
+    (first_of (codes "cert") rows) (steps_of rows)
+
+abbrev pub run_of : List Row → Asked
+run_of rows = Run (word_of (codes "machine") rows) (word_of (codes "inputs") rows) (steps_of rows)
+
+abbrev pub replay_of : List Row → Asked
+replay_of rows = Replay (word_of (codes "left") rows) (word_of (codes "right") rows)
+    (word_of (codes "inputs") rows) (steps_of rows)
+
+abbrev pub fmt_of : List Row → Asked
+fmt_of rows = Fmt (word_of (codes "machine") rows)
+
+abbrev pub cuts_of : List Row → Asked
+cuts_of rows = Cuts (word_of (codes "machine") rows)
+
+abbrev pub asked_by : Text → List Row → Option Asked
+asked_by name rows =
+    if bytes_eq name (codes "check") then Some (check_of rows)
+    else (if bytes_eq name (codes "run") then Some (run_of rows)
+    else (if bytes_eq name (codes "replay") then Some (replay_of rows)
+    else (if bytes_eq name (codes "fmt") then Some (fmt_of rows)
+    else (if bytes_eq name (codes "cuts") then Some (cuts_of rows)
+    else None))))
+
+-- what a command and its matches ask
+abbrev pub asked_in : Option (Text × List Row) → Option Asked
+asked_in = option_and_then (λ p. asked_by p.0 p.1)
+
+-- ---- words
+
+-- clap takes the words: no step of a parse fails
+abbrev pub AreTaken : List Text → Type 0
+AreTaken words = fault_of command_line words ≡ []
+
+-- what the command that the words name asks by its matches, also where clap refuses them
+abbrev pub matched_of : List Text → Option Asked
+matched_of words = asked_in (subcommand_of command_line words)
+
+-- only where no step of a parse fails
+abbrev pub where_taken : Kinds → Option Asked → Option Asked
+where_taken [] what = what
+where_taken (kind ∷ kinds) what = None
+
+-- what words ask, and nothing where clap refuses them
+unfoldable pub asked_of : List Text → Option Asked
+asked_of words = where_taken (fault_of command_line words) (matched_of words)
+
+-- steps are from 1 to 100,000
+abbrev pub IsWithinLimits : Asked → Type 0
+IsWithinLimits (Check left right cert steps) = (1 ≤ steps) × (steps ≤ 100000)
+IsWithinLimits (Run machine inputs steps) = (1 ≤ steps) × (steps ≤ 100000)
+IsWithinLimits (Replay left right inputs steps) = (1 ≤ steps) × (steps ≤ 100000)
+IsWithinLimits _ = ⊤

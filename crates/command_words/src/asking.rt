@@ -1,0 +1,58 @@
+//! What words ask.
+
+ghost use Rattle.std.specs.Prelude.{◌≡◌};
+ghost use Rattle.command_words.specs.declared.asking.AskError.TheVariants as errors;
+
+use std::alloc::AllocError;
+
+/// What is asked: a command, its files as they were named, and its numbers.
+///
+/// `steps` is the greatest number of steps of a run, from 1 to 100,000.
+#[derive(Drop, Debug)]
+pub enum Ask {
+    /// `check A B [--cert F] [--steps N]`: whether two machines have the same behaviour.
+    Check {
+        left: String,
+        right: String,
+        cert: Option<String>,
+        steps: u64,
+    },
+    /// `run A I [--steps N]`: a run of a machine on inputs.
+    Run {
+        machine: String,
+        inputs: String,
+        steps: u64,
+    },
+    /// `replay A B I [--steps N]`: runs of two machines on the same inputs.
+    Replay {
+        left: String,
+        right: String,
+        inputs: String,
+        steps: u64,
+    },
+    /// `fmt A`: the canonical text of a machine.
+    Fmt {
+        machine: String,
+    },
+    /// `cuts A`: the paths of a machine between its cutpoints.
+    Cuts {
+        machine: String,
+    },
+}
+
+/// Why nothing is asked.
+#[derive(Clone, Copy, Debug, PartialEq, Eq)]
+pub enum AskError {
+    /// The words are no command, or ask for help.
+    Usage,
+    /// Out of memory.
+    NoMemory,
+}
+
+impl From<AllocError> for AskError {
+    ghost from_gives = { λ _ error. error ≡ errors.NoMemory };
+
+    fn from(_error: AllocError) -> AskError {
+        AskError::NoMemory
+    }
+}

@@ -1,0 +1,70 @@
+//! The commands, built for `clap`.
+
+ghost use Rattle.std.specs.Prelude.{◌≡◌, ◌∷◌, [], false, IfOk};
+ghost use Rattle.clap.specs.Words.{app_of, shape_of};
+ghost use Rattle.clap.specs.declared.builder.command.Command.TheViews.{out-Command};
+ghost use Rattle.command_words.specs.CommandLine.{alone, check_command, command_with, cuts_command, file_word, fmt_command, replay_command, run_command};
+
+use crate::arguments::{cert, file, steps};
+use clap::Command;
+use std::alloc::{AllocError, Global};
+
+// A command with two files.
+fn two_files<'a>(
+    alloc: Global,
+    name: &'a str,
+    first: &'a str,
+    second: &'a str,
+) -> Result<Command<'a>, AllocError>
+    ensures app { IfOk result (λ command. app_of command
+        ≡ alone (command_with name.entry.now (file_word first.entry.now ∷ file_word second.entry.now ∷ []))) }
+    ensures local { IfOk result (λ command. (out-Command command).has_globals ≡ false) }
+{
+    Command::new(alloc, name)
+        .arg(file(alloc, first))?
+        .arg(file(alloc, second))
+}
+
+/// `check A B [--cert F] [--steps N]`.
+pub fn check<'a>(alloc: Global) -> Result<Command<'a>, AllocError>
+    ensures shape { IfOk result (λ command. shape_of command ≡ check_command) }
+    ensures local { IfOk result (λ command. (out-Command command).has_globals ≡ false) }
+{
+    two_files(alloc, "check", "left", "right")?
+        .arg(cert(alloc))?
+        .arg(steps(alloc))
+}
+
+/// `run A I [--steps N]`.
+pub fn run<'a>(alloc: Global) -> Result<Command<'a>, AllocError>
+    ensures shape { IfOk result (λ command. shape_of command ≡ run_command) }
+    ensures local { IfOk result (λ command. (out-Command command).has_globals ≡ false) }
+{
+    two_files(alloc, "run", "machine", "inputs")?.arg(steps(alloc))
+}
+
+/// `replay A B I [--steps N]`.
+pub fn replay<'a>(alloc: Global) -> Result<Command<'a>, AllocError>
+    ensures shape { IfOk result (λ command. shape_of command ≡ replay_command) }
+    ensures local { IfOk result (λ command. (out-Command command).has_globals ≡ false) }
+{
+    two_files(alloc, "replay", "left", "right")?
+        .arg(file(alloc, "inputs"))?
+        .arg(steps(alloc))
+}
+
+/// `fmt A`.
+pub fn fmt<'a>(alloc: Global) -> Result<Command<'a>, AllocError>
+    ensures shape { IfOk result (λ command. shape_of command ≡ fmt_command) }
+    ensures local { IfOk result (λ command. (out-Command command).has_globals ≡ false) }
+{
+    Command::new(alloc, "fmt").arg(file(alloc, "machine"))
+}
+
+/// `cuts A`.
+pub fn cuts<'a>(alloc: Global) -> Result<Command<'a>, AllocError>
+    ensures shape { IfOk result (λ command. shape_of command ≡ cuts_command) }
+    ensures local { IfOk result (λ command. (out-Command command).has_globals ≡ false) }
+{
+    Command::new(alloc, "cuts").arg(file(alloc, "machine"))
+}

@@ -1,0 +1,49 @@
+//! What was matched for one argument.
+
+ghost use Rattle.std.specs.Prelude.{◌≡◌, IfOk, option_map, string_bytes};
+ghost use Rattle.clap.specs.Words.{first_of, found_of, rows_of};
+ghost use Rattle.command_words.specs.Words.{in_range, steps_of, word_of};
+
+use clap::ArgMatches;
+use std::alloc::{AllocError, Global};
+
+/// The word that was matched, or no text where there is none.
+pub fn word(alloc: Global, found: &ArgMatches, id: &str) -> Result<String, AllocError>
+    ensures { IfOk result (λ word. string_bytes word ≡ word_of id.now (rows_of (found_of found.now))) }
+{
+    match found.get_str(id) {
+        Some(text) => String::from_str(alloc, text),
+        None => Ok(String::new(alloc)),
+    }
+}
+
+/// The word that was matched, if there is one.
+pub fn optional_word(
+    alloc: Global,
+    found: &ArgMatches,
+    id: &str,
+) -> Result<Option<String>, AllocError>
+    ensures { IfOk result (λ word. option_map string_bytes word ≡ first_of id.now (rows_of (found_of found.now))) }
+{
+    match found.get_str(id) {
+        Some(text) => Ok(Some(String::from_str(alloc, text)?)),
+        None => Ok(None),
+    }
+}
+
+// The number, where it lies in the range: `clap` takes no other, but no clause of its matches says so.
+fn steps_in_range(number: Option<u64>) -> u64
+    ensures { result ≡ in_range 1 100000 10000 number }
+{
+    match number {
+        Some(n) if 1 <= n && n <= 100_000 => n,
+        _ => 10_000,
+    }
+}
+
+/// The greatest number of steps.
+pub fn steps(found: &ArgMatches) -> u64
+    ensures { result ≡ steps_of (rows_of (found_of found.now)) }
+{
+    steps_in_range(found.get_one::<u64>("steps"))
+}

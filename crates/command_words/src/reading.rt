@@ -1,0 +1,62 @@
+//! What each command asks, by its matches.
+
+ghost use Rattle.std.specs.Prelude.{◌≡◌, IfOk, IfErr, IfNone, Some, None};
+ghost use Rattle.clap.specs.Words.{found_of, rows_of};
+ghost use Rattle.command_words.specs.Words.{asked, asked_by, check_of, replay_of, run_of};
+ghost use Rattle.command_words.specs.declared.asking.AskError.TheVariants.{Usage};
+
+use crate::asking::{Ask, AskError};
+use crate::matched::{optional_word, steps, word};
+use clap::ArgMatches;
+use std::alloc::{AllocError, Global};
+
+fn check(alloc: Global, found: &ArgMatches) -> Result<Ask, AllocError>
+    ensures { IfOk result (λ ask. asked ask ≡ check_of (rows_of (found_of found.now))) }
+{
+    Ok(Ask::Check {
+        left: word(alloc, found, "left")?,
+        right: word(alloc, found, "right")?,
+        cert: optional_word(alloc, found, "cert")?,
+        steps: steps(found),
+    })
+}
+
+fn run(alloc: Global, found: &ArgMatches) -> Result<Ask, AllocError>
+    ensures { IfOk result (λ ask. asked ask ≡ run_of (rows_of (found_of found.now))) }
+{
+    Ok(Ask::Run {
+        machine: word(alloc, found, "machine")?,
+        inputs: word(alloc, found, "inputs")?,
+        steps: steps(found),
+    })
+}
+
+fn replay(alloc: Global, found: &ArgMatches) -> Result<Ask, AllocError>
+    ensures { IfOk result (λ ask. asked ask ≡ replay_of (rows_of (found_of found.now))) }
+{
+    Ok(Ask::Replay {
+        left: word(alloc, found, "left")?,
+        right: word(alloc, found, "right")?,
+        inputs: word(alloc, found, "inputs")?,
+        steps: steps(found),
+    })
+}
+
+/// What the command of this name asks, by its matches. `Usage` comes only for a name that is no command's.
+pub fn read(alloc: Global, name: &str, found: &ArgMatches) -> Result<Ask, AskError>
+    ensures ok { IfOk result (λ ask. asked_by name.now (rows_of (found_of found.now)) ≡ Some (asked ask)) }
+    ensures usage { IfErr result (λ error. error ≡ Usage → asked_by name.now (rows_of (found_of found.now)) ≡ None) }
+{
+    match name {
+        "check" => Ok(check(alloc, found)?),
+        "run" => Ok(run(alloc, found)?),
+        "replay" => Ok(replay(alloc, found)?),
+        "fmt" => Ok(Ask::Fmt {
+            machine: word(alloc, found, "machine")?,
+        }),
+        "cuts" => Ok(Ask::Cuts {
+            machine: word(alloc, found, "machine")?,
+        }),
+        _ => Err(AskError::Usage),
+    }
+}

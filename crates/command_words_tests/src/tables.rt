@@ -1,0 +1,103 @@
+//! Words of the command line with what they ask, and words that are refused.
+
+use command_words::words::ask;
+use std::alloc::{AllocError, Global};
+use std::test::Fail;
+
+// Words, and what they ask.
+const TAKEN: &str =
+    r#"check a.fsmd b.fsmd¦Check { left: "a.fsmd", right: "b.fsmd", cert: None, steps: 10000 }
+check a.fsmd b.fsmd --steps 5¦Check { left: "a.fsmd", right: "b.fsmd", cert: None, steps: 5 }
+check --steps=5 a.fsmd b.fsmd¦Check { left: "a.fsmd", right: "b.fsmd", cert: None, steps: 5 }
+check a.fsmd --cert c.json --steps 100000 b.fsmd¦Check { left: "a.fsmd", right: "b.fsmd", cert: Some("c.json"), steps: 100000 }
+check --cert=c.json a.fsmd --steps=1 b.fsmd¦Check { left: "a.fsmd", right: "b.fsmd", cert: Some("c.json"), steps: 1 }
+check -- -a.fsmd --steps¦Check { left: "-a.fsmd", right: "--steps", cert: None, steps: 10000 }
+check fmt check¦Check { left: "fmt", right: "check", cert: None, steps: 10000 }
+run a.fsmd i.json¦Run { machine: "a.fsmd", inputs: "i.json", steps: 10000 }
+run a.fsmd --steps 5 i.json¦Run { machine: "a.fsmd", inputs: "i.json", steps: 5 }
+replay a.fsmd b.fsmd i.json¦Replay { left: "a.fsmd", right: "b.fsmd", inputs: "i.json", steps: 10000 }
+replay --steps=007 a.fsmd b.fsmd i.json¦Replay { left: "a.fsmd", right: "b.fsmd", inputs: "i.json", steps: 7 }
+fmt a.fsmd¦Fmt { machine: "a.fsmd" }
+fmt -¦Fmt { machine: "-" }
+cuts a.fsmd¦Cuts { machine: "a.fsmd" }
+"#;
+
+// Words that are refused. The first line has none.
+const REFUSED: &str = "
+trace a.fsmd
+help
+--help
+-h
+--version
+check --help
+check a.fsmd b.fsmd -h
+check
+check a.fsmd
+check a.fsmd b.fsmd c.fsmd
+check a.fsmd b.fsmd --cert
+check a.fsmd b.fsmd --cert -x
+check a.fsmd b.fsmd --steps
+check a.fsmd b.fsmd --steps 0
+check a.fsmd b.fsmd --steps=0
+check a.fsmd b.fsmd --steps 100001
+check a.fsmd b.fsmd --steps five
+check a.fsmd b.fsmd --steps -5
+check a.fsmd b.fsmd --steps=
+check a.fsmd b.fsmd --steps 99999999999999999999
+check a.fsmd b.fsmd --steps 5 --steps 5
+check a.fsmd b.fsmd --cert c.json --cert=d.json
+check a.fsmd b.fsmd --depth 5
+check --steps 5
+--steps 5 check a.fsmd b.fsmd
+verify a.fsmd b.fsmd c.json
+run a.fsmd
+run a.fsmd i.json --cert c.json
+replay a.fsmd b.fsmd
+replay a.fsmd b.fsmd i.json j.json
+fmt
+fmt a.fsmd b.fsmd
+fmt a.fsmd --steps 5
+cuts
+cuts --steps
+generate 1
+";
+
+fn split(alloc: Global, text: &str) -> Result<Vec<String>, AllocError> {
+    let mut words = Vec::new(alloc);
+    for word in text.split_whitespace() {
+        words.push(String::from_str(alloc, word)?)?;
+    }
+    Ok(words)
+}
+
+// What words that blanks part ask, or why they ask nothing.
+fn answer(alloc: Global, text: &str) -> Result<String, Fail> {
+    let words = split(alloc, text)?;
+    match ask(alloc, words.as_slice()) {
+        Ok(ask) => Ok(format!(in alloc; "{ask:?}")?),
+        Err(error) => Ok(format!(in alloc; "{error:?}")?),
+    }
+}
+
+#[test]
+fn words_that_are_taken(rt: HostRuntime) -> Result<(), Fail> {
+    let alloc = rt.alloc();
+    for row in TAKEN.lines() {
+        let Some((words, wanted)) = row.split_once('¦') else {
+            return Err("a row without its answer".into());
+        };
+        let given = answer(alloc, words)?;
+        assert!(rt; given.as_str() == wanted, "{words}: {given}");
+    }
+    Ok(())
+}
+
+#[test]
+fn words_that_are_refused(rt: HostRuntime) -> Result<(), Fail> {
+    let alloc = rt.alloc();
+    for words in REFUSED.lines() {
+        let given = answer(alloc, words)?;
+        assert!(rt; given.as_str() == "Usage", "{words}: {given}");
+    }
+    Ok(())
+}
