@@ -1,5 +1,5 @@
 -- Joined and rebased facts are solved.
-use Rattle.std.proofs.Common.{◌≡◌, ℕ, ◌+◌, Bool, true, false, refl, sym, subst, ap, ap₂, ◌∙◌, List, [], ◌∷◌, Option, Some, None}
+use Rattle.std.proofs.Common.{◌≡◌, ℕ, ◌+◌, Bool, true, false, refl, sym, subst, ap, ap₂, ◌∙◌, List, [], ◌∷◌, map, Option, Some, None}
 use Rattle.std.specs.Prelude.{◌&&◌, ◌||◌, not, is_none}
 use Rattle.std.specs.List.{list_all, list_any}
 use Rattle.fs_pair.specs.declared.positions.Position.{Position}
@@ -24,6 +24,10 @@ use Rattle.propagate.proofs.Passes.{FreePass, AllEquations}
 use Rattle.propagate.proofs.Joined.{joining}
 use Rattle.propagate.proofs.JoinSymbols.{OwnPasses, join_within}
 use Rattle.propagate.proofs.RebaseSymbols.{rebase_within}
+
+-- where the equations stand
+abbrev places : List FactPosition → List Pos
+places qs = map (λ q. q.pos) qs
 
 -- whether a position has an equation
 abbrev has_equation : Pos → List FactPosition → Bool
@@ -100,14 +104,14 @@ solved_unmentioned f p (q ∷ qs) h g =
     by_test false b e s i next = next i
 
 -- the free positions differ from one that has an equation
-other_than : (p q : Pos) (qs : List FactPosition) → has_equation p qs ≡ true → list_any (λ r. same_pos q r.pos) qs ≡ false → same_pos p q ≡ false
+other_than : (p q : Pos) (qs : List FactPosition) → has_equation p qs ≡ true → list_any (same_pos q) (places qs) ≡ false → same_pos p q ≡ false
 other_than p q qs h g = by_test (same_pos p q) refl
   where
-    has_place : (qs : List FactPosition) → has_equation p qs ≡ true → list_any (λ r. same_pos p r.pos) qs ≡ true
+    has_place : (qs : List FactPosition) → has_equation p qs ≡ true → list_any (same_pos p) (places qs) ≡ true
     has_place [] h = absurd (cc h)
     has_place (r ∷ rs) h = by_tests (not (is_none r.equation)) (same_pos p r.pos) h (λ i. has_place rs i)
       where
-        by_tests : (a b : Bool) → (a && b) || has_equation p rs ≡ true → (has_equation p rs ≡ true → list_any (λ r. same_pos p r.pos) rs ≡ true) → b || list_any (λ r. same_pos p r.pos) rs ≡ true
+        by_tests : (a b : Bool) → (a && b) || has_equation p rs ≡ true → (has_equation p rs ≡ true → list_any (same_pos p) (places rs) ≡ true) → b || list_any (same_pos p) (places rs) ≡ true
         by_tests a true i next = refl
         by_tests true false i next = next i
         by_tests false false i next = next i
@@ -115,29 +119,29 @@ other_than p q qs h g = by_test (same_pos p q) refl
     by_test : (b : Bool) → same_pos p q ≡ b → b ≡ false
     by_test true e =
         let k : p ≡ q = pos_equal p q e in
-        let i : true ≡ false = sym (has_place qs h) ∙ ap (λ z. list_any (λ r. same_pos z r.pos) qs) k ∙ g in
+        let i : true ≡ false = sym (has_place qs h) ∙ ap (λ z. list_any (same_pos z) (places qs)) k ∙ g in
         absurd (cc i)
     by_test false e = refl
 
 abbrev Other : Pos → Pos → Type 0
 Other p q = not (same_pos p q) ≡ true
 
-others : (p : Pos) (qs : List FactPosition) → list_any (λ r. same_pos p r.pos) qs ≡ false → FreePass (λ s q. Other p q) qs
+others : (p : Pos) (qs : List FactPosition) → list_any (same_pos p) (places qs) ≡ false → FreePass (λ s q. Other p q) qs
 others p [] h = tt
-others p (q ∷ qs) h = ((λ e. ap not (or_left_false (same_pos p q.pos) (list_any (λ r. same_pos p r.pos) qs) h)), others p qs (or_right_false (same_pos p q.pos) (list_any (λ r. same_pos p r.pos) qs) h))
+others p (q ∷ qs) h = ((λ e. ap not (or_left_false (same_pos p q.pos) (list_any (same_pos p) (places qs)) h)), others p qs (or_right_false (same_pos p q.pos) (list_any (same_pos p) (places qs)) h))
 
-free_others : (p : Pos) (qs : List FactPosition) → all_differ qs ≡ true → has_equation p qs ≡ true → FreePass (λ s q. Other p q) qs
+free_others : (p : Pos) (qs : List FactPosition) → all_differ (places qs) ≡ true → has_equation p qs ≡ true → FreePass (λ s q. Other p q) qs
 free_others p [] d h = tt
 free_others p (q ∷ qs) d h =
-    let fresh = not_true (list_any (λ r. same_pos q.pos r.pos) qs) (and_left (not (list_any (λ r. same_pos q.pos r.pos) qs)) (all_differ qs) d) in
-    by_test q.equation (same_pos p q.pos) refl h fresh (λ i. free_others p qs (and_right (not (list_any (λ r. same_pos q.pos r.pos) qs)) (all_differ qs) d) i)
+    let fresh = not_true (list_any (same_pos q.pos) (places qs)) (and_left (not (list_any (same_pos q.pos) (places qs))) (all_differ (places qs)) d) in
+    by_test q.equation (same_pos p q.pos) refl h fresh (λ i. free_others p qs (and_right (not (list_any (same_pos q.pos) (places qs))) (all_differ (places qs)) d) i)
   where
-    by_test : (o : Option Nf) (b : Bool) → same_pos p q.pos ≡ b → (not (is_none o) && b) || has_equation p qs ≡ true → list_any (λ r. same_pos q.pos r.pos) qs ≡ false → (has_equation p qs ≡ true → FreePass (λ s q. Other p q) qs)
+    by_test : (o : Option Nf) (b : Bool) → same_pos p q.pos ≡ b → (not (is_none o) && b) || has_equation p qs ≡ true → list_any (same_pos q.pos) (places qs) ≡ false → (has_equation p qs ≡ true → FreePass (λ s q. Other p q) qs)
         → (o ≡ None → Other p q.pos) × FreePass (λ s q. Other p q) qs
     by_test None b e i fresh next = ((λ n. ap not (other_than p q.pos qs i fresh)), next i)
     by_test (Some f) true e i fresh next =
         let k : p ≡ q.pos = pos_equal p q.pos e in
-        ((λ n. absurd (cc n)), others p qs (ap (λ z. list_any (λ r. same_pos z r.pos) qs) k ∙ fresh))
+        ((λ n. absurd (cc n)), others p qs (ap (λ z. list_any (same_pos z) (places qs)) k ∙ fresh))
     by_test (Some f) false e i fresh next = ((λ n. absurd (cc n)), next i)
 
 -- a fact is solved where its symbols are its free positions
@@ -152,10 +156,10 @@ all_solved f h (q ∷ qs) g =
         let i : has_equation q.pos (q ∷ qs) ≡ true = ap₂ (λ x y. (not x && y) || has_equation q.pos qs) e (own_pos q.pos) in
         ap not (h q.pos (g q.pos i))
 
-solved_by : (f : Fact) → all_differ f.positions ≡ true → ((p : Pos) → has_equation p f.positions ≡ true → FreePass (λ s q. Other p q) f.positions → Without p f) → is_solved f ≡ true
+solved_by : (f : Fact) → all_differ (places f.positions) ≡ true → ((p : Pos) → has_equation p f.positions ≡ true → FreePass (λ s q. Other p q) f.positions → Without p f) → is_solved f ≡ true
 solved_by f d h = all_solved f (λ p i. unmentioned p f (h p i (free_others p f.positions d i))) f.positions (λ p i. i)
 
-pub rebase_solved : (post : Post) (ps : List Position) (f : Fact) → rebase post ps ≡ Done f → all_differ f.positions ≡ true → is_solved f ≡ true
+pub rebase_solved : (post : Post) (ps : List Position) (f : Fact) → rebase post ps ≡ Done f → all_differ (places f.positions) ≡ true → is_solved f ≡ true
 rebase_solved post ps f e d = solved_by f d (λ p i m. let r = rebase_within (is_other p) post ps f e m in record { equations = r.0; literals = r.1 })
 
 -- ---- the positions of a join are the old ones, and each that has an equation had one
@@ -190,18 +194,18 @@ join_shape old new post missing e =
     let j = joining old new post missing e in
     subst (λ (z : Fact). Shape old.positions z.positions) j.whole (shape_of post.vector 0 missing.equations [] old.positions j.positions j.joined)
 
-same_places : (p : Pos) (ps qs : List FactPosition) → Shape ps qs → list_any (λ r. same_pos p r.pos) qs ≡ list_any (λ r. same_pos p r.pos) ps
+same_places : (p : Pos) (ps qs : List FactPosition) → Shape ps qs → list_any (same_pos p) (places qs) ≡ list_any (same_pos p) (places ps)
 same_places p [] [] h = refl
 same_places p [] (q ∷ qs) h = absurd h
 same_places p (r ∷ ps) [] h = absurd h
 same_places p (r ∷ ps) (q ∷ qs) h = ap₂ (λ x y. same_pos p x || y) h.0.0 (same_places p ps qs h.1)
 
-still_differ : (ps qs : List FactPosition) → Shape ps qs → all_differ qs ≡ all_differ ps
+still_differ : (ps qs : List FactPosition) → Shape ps qs → all_differ (places qs) ≡ all_differ (places ps)
 still_differ [] [] h = refl
 still_differ [] (q ∷ qs) h = absurd h
 still_differ (r ∷ ps) [] h = absurd h
 still_differ (r ∷ ps) (q ∷ qs) h =
-    ap₂ (λ x y. not x && y) (ap (λ z. list_any (λ s. same_pos z s.pos) qs) h.0.0 ∙ same_places r.pos ps qs h.1) (still_differ ps qs h.1)
+    ap₂ (λ x y. not x && y) (ap (λ z. list_any (same_pos z) (places qs)) h.0.0 ∙ same_places r.pos ps qs h.1) (still_differ ps qs h.1)
 
 had_equation : (p : Pos) (ps qs : List FactPosition) → Shape ps qs → has_equation p qs ≡ true → has_equation p ps ≡ true
 had_equation p [] [] h e = e
@@ -225,7 +229,7 @@ own_others p (q ∷ qs) = (one q.pos q.equation, own_others p qs)
     one q None = tt
     one q (Some f) = λ h. h
 
-pub join_solved : (old new : Fact) (post : Post) (missing : Missing) → join old post missing ≡ Done new → all_differ old.positions ≡ true → is_solved old ≡ true → is_solved new ≡ true
+pub join_solved : (old new : Fact) (post : Post) (missing : Missing) → join old post missing ≡ Done new → all_differ (places old.positions) ≡ true → is_solved old ≡ true → is_solved new ≡ true
 join_solved old new post missing e d h =
     let s = join_shape old new post missing e in
     solved_by new (still_differ old.positions new.positions s ∙ d) (λ p i m.

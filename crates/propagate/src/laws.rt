@@ -1,6 +1,6 @@
 //! Laws of joins and rebases, over the definitions alone. The functions do nothing.
 
-ghost use Rattle.std.specs.Prelude.{◌≡◌, ◌+◌, ◌<◌, ◌≤◌, length, true, false, IsTrue, List};
+ghost use Rattle.std.specs.Prelude.{◌≡◌, ◌+◌, ◌<◌, ◌≤◌, length, map, true, false, IsTrue, List};
 ghost use Rattle.fs_pair.specs.declared.positions.Position.{Position};
 ghost use Rattle.nf_terms.specs.Meaning.{Valuation};
 ghost use Rattle.nf_terms.specs.Computed.{Done};
@@ -28,8 +28,8 @@ pub fn rebases_hold()
 
 /// A join of a solved fact, and every rebase, is solved: no position with an equation is mentioned.
 pub fn propagated_facts_are_solved()
-    ensures join { (old new : Fact) (post : Post) (missing : Missing) → join old post missing ≡ Done new → IsTrue (all_differ old.positions) → IsTrue (is_solved old) → IsTrue (is_solved new) }
-    ensures rebase { (post : Post) (ps : List Position) (f : Fact) → rebase post ps ≡ Done f → IsTrue (all_differ f.positions) → IsTrue (is_solved f) }
+    ensures join { (old new : Fact) (post : Post) (missing : Missing) → join old post missing ≡ Done new → IsTrue (all_differ (map (λ p. p.pos) old.positions)) → IsTrue (is_solved old) → IsTrue (is_solved new) }
+    ensures rebase { (post : Post) (ps : List Position) (f : Fact) → rebase post ps ≡ Done f → IsTrue (all_differ (map (λ p. p.pos) f.positions)) → IsTrue (is_solved f) }
 {}
 
 /// A rebased fact is of the positions: it has exactly these, each with a form of its sort, whose symbols are among them.
