@@ -1,4 +1,4 @@
-//! Worked examples of candidate inputs, of first differences and of generated machines. The crate gives nothing.
+//! Worked examples of first differences and of generated machines. The crate gives nothing.
 #![tactic(auto)]
 
 #[cfg(test)]
@@ -7,5 +7,3 @@ mod differences;
 mod generated;
 #[cfg(test)]
 mod machines;
-#[cfg(test)]
-mod pools;
