@@ -69,7 +69,7 @@ differ (q ∷ ps) h =
     fewer : (r : Position) → cond (at_same r q) 1 0 + many (at_same r) ps ≤ 1 → many (at_same r) ps ≤ 1
     fewer r h = omega (arith, h)
 
-all_positions_differ : (ps : List Position) → IsPairing ps → all_differ (map (λ p. p.pos) ps) ≡ true
+pub all_positions_differ : (ps : List Position) → IsPairing ps → all_differ (map (λ p. p.pos) ps) ≡ true
 all_positions_differ ps h = subst (λ qs. all_differ (map (λ p. p.pos) qs) ≡ true) (sym h.positions) (differ (positions h.left h.right) one)
   where
     one : (k : ℕ) (q : Position) → slice_get (positions h.left h.right) k ≡ Some q → many (at_same q) (positions h.left h.right) ≤ 1
@@ -78,7 +78,7 @@ all_positions_differ ps h = subst (λ qs. all_differ (map (λ p. p.pos) qs) ≡ 
         let within = slice_get_within (variables_on q.pos.side h.left h.right) q.pos.var v.variable v.is.is in
         omega (arith, many_counts (at_same q) (positions h.left h.right), position_once h.left h.right h.left_sound h.right_sound q.pos.side q.pos.var within)
 
-few_positions : (ps : List Position) → IsPairing ps → length ps ≤ most_positions
+pub few_positions : (ps : List Position) → IsPairing ps → length ps ≤ most_positions
 few_positions ps h =
     let ss = all_sided_variables h.left.variables h.right.variables in
     omega (arith, ap length h.positions, length-map ss (position_of ss), length_sided h.left.variables h.right.variables, h.left_sound.few_variables, h.right_sound.few_variables)

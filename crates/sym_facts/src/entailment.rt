@@ -2,6 +2,7 @@
 
 ghost use Rattle.std.specs.Prelude.{◌≡◌, ◌<◌, ◌^◌, map, length, IfOk, Some};
 ghost use Rattle.nf_terms.specs.Computed.{Answers};
+ghost use Rattle.nf_rel.specs.NormalLiterals.{IsNormalLiteral};
 ghost use Rattle.nf_rel.specs.View.{literal_in};
 ghost use Rattle.sym_paths.specs.Sequences.{each};
 ghost use Rattle.sym_paths.specs.View.{told, post_in};
@@ -30,8 +31,10 @@ pub struct Entail {
     pub conds: Vec<u32>,
 }
 
-// A form with the vector's forms in place of its symbols.
-fn substitute(alloc: Global, s: &mut Subst, form: &Nf) -> Result<Nf, NfStop>
+/// A form with the vector's forms in place of its symbols.
+///
+/// `Wide` and `Large` come exactly at the first operation that is not narrow, or narrow and not small. `NoMemory`: out of memory.
+pub fn substitute(alloc: Global, s: &mut Subst, form: &Nf) -> Result<Nf, NfStop>
     ensures answers { Answers result (form_substituted s.old.vector form.now) }
     ensures vector { s.new.vector ≡ s.old.vector }
 {
@@ -42,8 +45,8 @@ fn substitute(alloc: Global, s: &mut Subst, form: &Nf) -> Result<Nf, NfStop>
     }
 }
 
-// What a vector has at a position, of the sort of a form.
-fn form_like(alloc: Global, v: &Vector, p: &Pos, form: &Nf) -> Result<Nf, NoMemory>
+/// What a vector has at a position, of the sort of a form. The one refusal is out of memory.
+pub fn form_like(alloc: Global, v: &Vector, p: &Pos, form: &Nf) -> Result<Nf, NoMemory>
     ensures { IfOk result (λ f. f ≡ like v.now p.now form.now) }
 {
     match form {
@@ -112,9 +115,12 @@ fn relation_of(kind: Kind) -> Rel
     }
 }
 
-// A literal with the vector's forms in place of its symbols.
-fn substitute_literal(alloc: Global, s: &mut Subst, l: &NLit) -> Result<NLit, NfStop>
+/// A literal with the vector's forms in place of the symbols of its direction, in normal form.
+///
+/// `Wide` and `Large` come exactly at the first operation that is not narrow, or narrow and not small. `NoMemory`: out of memory.
+pub fn substitute_literal(alloc: Global, s: &mut Subst, l: &NLit) -> Result<NLit, NfStop>
     ensures answers { Answers (told literal_in result) (literal_substituted s.old.vector (literal_in l.now)) }
+    ensures normal { IfOk result (λ m. IsNormalLiteral (literal_in m)) }
     ensures vector { s.new.vector ≡ s.old.vector }
 {
     match l {

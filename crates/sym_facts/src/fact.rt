@@ -25,10 +25,10 @@ use std::marker::Model;
 
 /// A position with its equation, or free.
 #[derive(Drop)]
-pub(crate) struct FactPosition {
-    pub(crate) pos: Pos,
-    pub(crate) sort: Sort,
-    pub(crate) equation: Option<Nf>,
+pub struct FactPosition {
+    pub pos: Pos,
+    pub sort: Sort,
+    pub equation: Option<Nf>,
 }
 
 /// For each position of two machines a normal form or none, and at most 64 literals. It is solved: no position that
@@ -104,8 +104,8 @@ impl Fact {
         }
     }
 
-    // The fact of these positions and literals.
-    pub(crate) fn of(positions: Vec<FactPosition>, conds: Vec<NLit>) -> Fact
+    /// The fact of positions and literals of which all that a fact promises is known: they are not looked at.
+    pub fn of(positions: Vec<FactPosition>, conds: Vec<NLit>) -> Fact
         requires { IsKept (record { positions = map position_in positions.items; literals = map literal_in conds.items }) }
         ensures { result ≡ record { positions = map position_in positions.items; literals = map literal_in conds.items } }
     {
@@ -129,8 +129,8 @@ impl Fact {
         }
     }
 
-    // The positions.
-    pub(crate) fn positions(&self) -> &[FactPosition]
+    /// The positions in the pairing's order, at most 384.
+    pub fn positions(&self) -> &[FactPosition]
         ensures same { map position_in result.now ≡ self.now.positions }
         ensures few { length result.now ≤ most_positions }
     {
@@ -207,8 +207,8 @@ fn size_of_literals(literals: &[NLit]) -> u64
     size
 }
 
-// The symbol of a position of a sort.
-pub(crate) fn own_symbol(alloc: Global, sort: Sort, p: Pos) -> Result<Nf, NoMemory>
+/// The symbol of a position of a sort. The one refusal is out of memory.
+pub fn own_symbol(alloc: Global, sort: Sort, p: Pos) -> Result<Nf, NoMemory>
     ensures { IfOk result (λ f. f ≡ symbol_of sort p) }
 {
     match sort {
@@ -270,8 +270,8 @@ fn copied_positions(
     Ok(out)
 }
 
-// A copy of literals.
-pub(crate) fn copied_literals(alloc: Global, literals: &[NLit]) -> Result<Vec<NLit>, NoMemory>
+/// A copy of literals. The one refusal is out of memory.
+pub fn copied_literals(alloc: Global, literals: &[NLit]) -> Result<Vec<NLit>, NoMemory>
     ensures { IfOk result (λ out. map literal_in out.items ≡ map literal_in literals.now) }
 {
     let mut out = Vec::new(alloc);
