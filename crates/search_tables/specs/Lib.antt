@@ -5,3 +5,4 @@ pub mod LoneMoves
 pub mod WellFormed
 pub mod Certifying
 pub mod Obstacles
+pub mod View

@@ -4,4 +4,5 @@
 
 pub mod laws;
 pub mod moves;
+pub mod nodes;
 pub mod outcome;

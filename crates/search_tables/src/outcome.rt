@@ -1,6 +1,7 @@
 //! How a search ends.
 
 use crate::moves::Move;
+use crate::nodes::NodePoints;
 use certificates::cert::Cert;
 use nf_terms::tree::Side;
 
@@ -14,7 +15,7 @@ pub enum Budget {
 }
 
 /// How a search ends. `moves` are those that made the table, in order, each of which made a node, freed a position or dropped a
-/// condition.
+/// condition; `points` are those of the table's nodes.
 #[derive(Drop)]
 pub enum Outcome {
     /// All obligations of the certificate hold.
@@ -22,28 +23,33 @@ pub enum Outcome {
     /// At this node both machines are done, and the two terms of this left output differ.
     Stuck {
         moves: Vec<Move>,
+        points: Vec<NodePoints>,
         node: u32,
         var: u32,
     },
     /// These nodes follow one another by moves of this side alone, the last leading back to the first.
     Spin {
         moves: Vec<Move>,
+        points: Vec<NodePoints>,
         side: Side,
         cycle: Vec<u32>,
     },
     /// An operation of this move is not narrow; where a mode was being found, of this one path.
     Wide {
         moves: Vec<Move>,
+        points: Vec<NodePoints>,
         at: Move,
     },
     /// An operation of this move is narrow and not small; where a mode was being found, of this one path.
     Large {
         moves: Vec<Move>,
+        points: Vec<NodePoints>,
         at: Move,
     },
     /// This move would pass a budget.
     Exhausted {
         moves: Vec<Move>,
+        points: Vec<NodePoints>,
         at: Move,
         what: Budget,
     },

@@ -1,0 +1,53 @@
+-- How a search ends.
+use Rattle.std.specs.Prelude.{◌≡◌, ◌+◌, ◌*◌, ◌≤◌, ℕ, List, length, map, None}
+use Rattle.fs_model.specs.Machines.{Fsmd}
+use Rattle.bisimulation.specs.Tables.{Node as CertificateNode}
+use Rattle.sym_facts.specs.Facts.{Fact, most_literals}
+use Rattle.sym_facts.specs.Starts.{start_fact}
+use Rattle.certificates.specs.Lawful.{IsLawful, most_nodes}
+use Rattle.certificates.specs.Obligations.{Yes, verdict}
+use Rattle.certificates.specs.View.{node_of}
+use Rattle.search_ranks.specs.Graphs.{AreRanks}
+use Rattle.search_tables.specs.declared.moves.Move.{Move}
+use Rattle.search_tables.specs.declared.outcome.Outcome.{Outcome}
+use Rattle.search_tables.specs.declared.outcome.Outcome.TheVariants as outcomes
+use Rattle.search_tables.specs.Tables.{Machines, Table, positions_of}
+use Rattle.search_tables.specs.Next.{IsClosed}
+use Rattle.search_tables.specs.Legal.{Makes, stuck}
+use Rattle.search_tables.specs.LoneMoves.{lone_moves}
+use Rattle.search_tables.specs.Certifying.{Certifies}
+use Rattle.search_tables.specs.Obstacles.{Obstacle, Stuck, Spin, Wide, Large, Exhausted, StandsIn}
+use Rattle.search_tables.specs.View.{Points, points_in, points_at}
+
+abbrev pub machines : (a b : Fsmd) → Machines
+machines a b = record { left = a; right = b }
+
+-- a legal list of moves makes a closed table in which no outputs differ, of which this is the certificate: it is lawful, and all its obligations hold
+pub record IsClosedWith (m : Machines) (nodes : List (CertificateNode Fact)) : Type 0 where
+  pub moves : List Move
+  pub table : Table
+  pub makes : Makes m moves table
+  pub closed : IsClosed m table
+  pub none_differ : stuck m table ≡ None
+  pub ranks : List ℕ
+  pub are_ranks : AreRanks (lone_moves m table) ranks
+  pub certifies : Certifies m table ranks nodes
+  pub lawful : IsLawful m.left m.right nodes
+  pub hold : verdict m.left m.right (start_fact (positions_of m)) nodes ≡ Yes
+
+-- this legal list of moves makes a table whose nodes have these points, and in which this obstacle stands
+pub record StopsAt (m : Machines) (moves : List Move) (points : List Points) (o : Obstacle) : Type 0 where
+  pub table : Table
+  pub makes : Makes m moves table
+  pub points_are : map points_at table ≡ points
+  pub stands : StandsIn m table o
+  pub short : length moves ≤ most_nodes * (length (positions_of m) + most_literals + 1)
+
+-- the outcome of a search of two machines
+abbrev pub Answers : Machines → Outcome → Type 0
+Answers m (outcomes.Closed cert) = IsClosedWith m (map node_of cert.nodes.items)
+Answers m (outcomes.Stuck moves points node var) = StopsAt m moves.items (map points_in points.items) (Stuck node var)
+Answers m (outcomes.Spin moves points side cycle) = StopsAt m moves.items (map points_in points.items) (Spin side cycle.items)
+Answers m (outcomes.Wide moves points at) = StopsAt m moves.items (map points_in points.items) (Wide at)
+Answers m (outcomes.Large moves points at) = StopsAt m moves.items (map points_in points.items) (Large at)
+Answers m (outcomes.Exhausted moves points at what) = StopsAt m moves.items (map points_in points.items) (Exhausted at what)

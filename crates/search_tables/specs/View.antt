@@ -1,0 +1,25 @@
+-- The nodes of src/ as plain data.
+use Rattle.std.specs.Prelude.{List, map}
+use Rattle.fs_cut.specs.Paths.{Point}
+use Rattle.fs_cut.specs.View.{point_of}
+use Rattle.search_tables.specs.declared.nodes.NodePoints.{NodePoints}
+use Rattle.search_tables.specs.declared.nodes.TableNode.{TableNode}
+use Rattle.search_tables.specs.Tables.{Node, Table}
+
+-- the points of a node of a table
+pub record Points : Type 0 where
+  pub left : Point
+  pub right : Point
+
+abbrev pub points_in : NodePoints → Points
+points_in n = record { left = point_of n.left; right = point_of n.right }
+
+abbrev pub points_at : Node → Points
+points_at n = record { left = n.left; right = n.right }
+
+abbrev pub table_node_in : TableNode → Node
+table_node_in n = record { left = point_of n.left; right = point_of n.right; fact = n.fact }
+
+-- the table of these nodes
+abbrev pub table_in : List TableNode → Table
+table_in ns = map table_node_in ns
