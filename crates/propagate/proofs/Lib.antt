@@ -9,3 +9,10 @@ pub mod Solved
 pub mod Paired
 pub mod Strength
 pub mod Behind
+pub mod JoinTurns
+pub mod Whole
+pub mod JoinPaired
+pub mod RebaseTurns
+pub mod Without
+pub mod Needed
+pub mod RebaseWhole

@@ -114,7 +114,7 @@ abbrev drops : ℕ → List ℕ → List NormalLiteral → Bool
 drops k missing [] = false
 drops k missing (l ∷ ls) = is_among k missing || drops (k + 1) missing ls
 
-no_more_literals : (k : ℕ) (missing : List ℕ) (ls : List NormalLiteral) → length (literals_kept k missing ls) ≤ length ls
+pub no_more_literals : (k : ℕ) (missing : List ℕ) (ls : List NormalLiteral) → length (literals_kept k missing ls) ≤ length ls
 no_more_literals k missing [] = omega arith
 no_more_literals k missing (l ∷ ls) = by_test (is_among k missing) (no_more_literals (k + 1) missing ls)
   where
@@ -226,7 +226,7 @@ count_bounded (q ∷ qs) = of_one q.equation (count_bounded qs)
     of_one None h = omega arith
     of_one (Some f) h = omega arith
 
-taken_bounded : (n : ℕ) (ls : List NormalLiteral) → length (take n ls) ≤ n
+pub taken_bounded : (n : ℕ) (ls : List NormalLiteral) → length (take n ls) ≤ n
 taken_bounded zero ls = omega arith
 taken_bounded (suc n) [] = omega arith
 taken_bounded (suc n) (l ∷ ls) = let h = taken_bounded n ls in omega (arith, h)
