@@ -22,13 +22,13 @@ use Rattle.nf_subst.specs.SamePlaces.{sorts_equal}
 use Rattle.nf_rel.specs.Literals.{NormalLiteral}
 use Rattle.sym_paths.specs.Execution.{Post}
 use Rattle.sym_facts.specs.Facts.{FactPosition, Fact, IsFact, sort_of_terms, form_or_symbol, vector_of, has_its_sort, may_be_kept, most_literals}
-use Rattle.sym_facts.specs.Entailment.{Missing}
+use Rattle.sym_facts.specs.Entailment.{Missing, entails}
 use Rattle.sym_facts.specs.Pairings.{is_position, form_within, literal_within, IsFactOf}
 use Rattle.sym_facts.specs.Parts.{all_differ, IsKept}
 use Rattle.sym_facts.proofs.Vectors.{positions_again}
 use Rattle.propagate.specs.Joins.{Freed, symbol_like, number_tied_to, number_tied, is_alike, form_tied, tied, with_equation, freed_with, position_joined, is_among, positions_joined, literals_kept, join}
-use Rattle.propagate.specs.JoinSteps.{joined_from}
-use Rattle.propagate.proofs.JoinTurns.{joins_in_turn}
+use Rattle.propagate.specs.JoinSteps.{joined_from, literals_from}
+use Rattle.propagate.proofs.JoinTurns.{made, join_in_turn}
 use Rattle.propagate.proofs.Passes.{AllPass, AllEquations, free_asked}
 use Rattle.propagate.proofs.Joined.{joining, kept_pass}
 use Rattle.propagate.proofs.RebaseSymbols.{Passes}
@@ -206,13 +206,10 @@ join_kept ps old new post missing e p h f =
     whole_fact ps new p paired (λ d. join_solved old new post missing e (subst (λ z. all_differ z ≡ true) (sym same) d) f.solved)
     (omega (arith, ap length literals, no_more_literals 0 missing.literals old.literals, f.few)) (subst (λ z. list_all may_be_kept z ≡ true) literals (kept_pass may_be_kept 0 missing.literals old.literals f.literals))
 
-abbrev made : List FactPosition → List NormalLiteral → Computed Fact
-made qs ls = Done (record { positions = qs; literals = ls })
-
 -- the join, from what its two parts give
-pub joined_with : (old : Fact) (post : Post) (missing : Missing) (given qs : List FactPosition) (known ls : List NormalLiteral) → given ≡ old.positions → joined_from post.vector 0 missing.equations [] given ≡ Done qs → known ≡ old.literals → ls ≡ literals_kept 0 missing.literals known
+pub joined_with : (old : Fact) (post : Post) (missing : Missing) (given qs : List FactPosition) (known ls : List NormalLiteral) → entails post old ≡ Done missing → given ≡ old.positions → joined_from post.vector 0 missing.equations [] given ≡ Done qs → known ≡ old.literals → ls ≡ literals_from 0 missing.literals known
     → join old post missing ≡ Done (record { positions = qs; literals = ls })
-joined_with old post missing given qs known ls g e k l =
-    let joined : positions_joined post.vector 0 missing.equations [] old.positions ≡ Done qs = sym (joins_in_turn post.vector 0 missing.equations [] old.positions) ∙ ap (joined_from post.vector 0 missing.equations []) (sym g) ∙ e in
-    let kept : literals_kept 0 missing.literals old.literals ≡ ls = ap (literals_kept 0 missing.literals) (sym k) ∙ sym l in
-    ap (λ c. after c (λ ps. made ps (literals_kept 0 missing.literals old.literals))) joined ∙ ap (λ ms. made qs ms) kept
+joined_with old post missing given qs known ls r g e k l =
+    let joined : joined_from post.vector 0 missing.equations [] old.positions ≡ Done qs = ap (joined_from post.vector 0 missing.equations []) (sym g) ∙ e in
+    let kept : literals_from 0 missing.literals old.literals ≡ ls = ap (literals_from 0 missing.literals) (sym k) ∙ sym l in
+    sym (join_in_turn old post missing r) ∙ ap (λ c. after c (λ ps. made (literals_from 0 missing.literals old.literals) ps)) joined ∙ ap (λ ms. made ms qs) kept

@@ -9,6 +9,7 @@ pub mod Solved
 pub mod Paired
 pub mod Strength
 pub mod Behind
+pub mod Rising
 pub mod JoinTurns
 pub mod Whole
 pub mod JoinPaired

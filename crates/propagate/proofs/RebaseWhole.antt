@@ -1,5 +1,5 @@
 -- Rebased facts are facts.
-use Rattle.std.proofs.Common.{◌≡◌, ◌≤◌, Bool, true, ap, sym, subst, ◌∙◌, List, [], length}
+use Rattle.std.proofs.Common.{◌≡◌, Bool, true, ap, sym, ◌∙◌, List, []}
 use Rattle.std.specs.List.{list_all}
 use Rattle.fs_pair.specs.declared.positions.Position.{Position}
 use Rattle.fs_pair.specs.Paired.{IsPairing}
@@ -8,22 +8,18 @@ use Rattle.nf_terms.specs.declared.tree.Pos.{Pos}
 use Rattle.nf_terms.specs.declared.form.Nf.{Nf}
 use Rattle.nf_rel.specs.Literals.{NormalLiteral}
 use Rattle.sym_paths.specs.Execution.{Post}
-use Rattle.sym_facts.specs.Facts.{FactPosition, Fact, may_be_kept, most_literals}
+use Rattle.sym_facts.specs.Facts.{FactPosition, Fact, may_be_kept}
 use Rattle.sym_facts.specs.Parts.{IsKept}
-use Rattle.propagate.specs.Rebases.{Held, with_needed, rebase}
+use Rattle.propagate.specs.Rebases.{Held, rebase}
 use Rattle.propagate.specs.RebaseSteps.{first_from, second_from, third_from, conditions_kept, rebased_by}
 use Rattle.propagate.proofs.RebaseTurns.{rebase_in_turn}
-use Rattle.propagate.proofs.Rebased.{rebasing}
 use Rattle.propagate.proofs.Paired.{rebase_paired}
 use Rattle.propagate.proofs.Solved.{rebase_solved}
-use Rattle.propagate.proofs.Strength.{taken_bounded}
+use Rattle.propagate.proofs.Strength.{few_literals}
 use Rattle.propagate.proofs.Whole.{whole_fact}
 
 pub rebase_kept : (ps : List Position) (post : Post) (f : Fact) → rebase post ps ≡ Done f → IsPairing ps → list_all may_be_kept f.literals ≡ true → IsKept f
-rebase_kept ps post f e p kept =
-    let r = rebasing post ps f e in
-    let few = subst (λ (z : Fact). length z.literals ≤ most_literals) r.whole (taken_bounded most_literals (with_needed [] r.literals)) in
-    whole_fact ps f p (rebase_paired post ps f e) (λ d. rebase_solved post ps f e d) few kept
+rebase_kept ps post f e p kept = whole_fact ps f p (rebase_paired post ps f e) (λ d. rebase_solved post ps f e d) (few_literals post ps f e) kept
 
 abbrev made : List FactPosition → List NormalLiteral → Computed Fact
 made qs ls = Done (record { positions = qs; literals = ls })

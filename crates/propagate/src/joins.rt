@@ -8,8 +8,8 @@ ghost use Rattle.sym_facts.specs.Entailment.{entails};
 ghost use Rattle.sym_facts.specs.Pairings.{IsFactOf};
 ghost use Rattle.sym_facts.specs.Parts.{most_positions};
 ghost use Rattle.sym_facts.specs.View.{position_in, missing_in};
-ghost use Rattle.propagate.specs.Joins.{is_among, tied, freed_with, literals_kept, join as joined};
-ghost use Rattle.propagate.specs.JoinSteps.{equation_joined, freed_after, joined_from};
+ghost use Rattle.propagate.specs.Joins.{tied, freed_with, join as joined};
+ghost use Rattle.propagate.specs.JoinSteps.{equation_joined, freed_after, is_first, left_behind, joined_from, literals_from};
 ghost use Rattle.propagate.specs.View.{freed_in};
 
 use crate::ties::{Freed, tied};
@@ -25,16 +25,21 @@ use sym_facts::entailment::Entail;
 use sym_facts::fact::{Fact, FactPosition};
 use sym_paths::execution::Post;
 
-// Whether a place is one of these.
-fn is_among(place: u32, places: &[u32]) -> bool
-    ensures { result ≡ is_among place places.now }
+// Whether a place is the first of those that are left.
+fn is_first(place: u32, left: &[u32]) -> bool
+    ensures { result ≡ is_first place left.now }
 {
-    for other in places {
-        if *other == place {
-            return true;
-        }
+    match left {
+        [] => false,
+        [first, ..] => *first == place,
     }
-    false
+}
+
+// Those that are left behind a place.
+fn left_behind(place: u32, left: &[u32]) -> &[u32]
+    ensures { result.now ≡ left_behind place left.now }
+{
+    if is_first(place, left) { &left[1..] } else { left }
 }
 
 // The equation of a position, as it was. The one refusal is out of memory.
@@ -104,9 +109,11 @@ fn positions_joined(
     ensures { Answers (told (λ out. map position_in out.items) result) (joined_from v.now 0 missing.now [] (map position_in positions.now)) }
 {
     let mut freed = Vec::new(alloc);
+    let mut left = missing;
     let mut out = Vec::new(alloc);
     for (place, position) in positions.iter().enumerate() {
-        let fails = is_among(place as u32, missing);
+        let fails = is_first(place as u32, left);
+        left = left_behind(place as u32, left);
         let equation = equation_joined(alloc, s, v, fails, position, &mut freed)?;
         out.push(FactPosition {
             pos: position.pos,
@@ -120,13 +127,15 @@ fn positions_joined(
 // The literals that are not at a missing index.
 fn literals_kept(alloc: Global, missing: &[u32], literals: &[NLit]) -> Result<Vec<NLit>, NoMemory>
     requires { length literals.now < 2 ^ 32 }
-    ensures { IfOk result (λ out. map literal_in out.items ≡ literals_kept 0 missing.now (map literal_in literals.now)) }
+    ensures { IfOk result (λ out. map literal_in out.items ≡ literals_from 0 missing.now (map literal_in literals.now)) }
 {
+    let mut left = missing;
     let mut out = Vec::new(alloc);
     for (index, literal) in literals.iter().enumerate() {
-        if !is_among(index as u32, missing) {
+        if !is_first(index as u32, left) {
             out.push(literal.try_clone(alloc)?)?;
         }
+        left = left_behind(index as u32, left);
     }
     Ok(out)
 }
@@ -138,7 +147,7 @@ fn literals_kept(alloc: Global, missing: &[u32], literals: &[NLit]) -> Result<Ve
 /// `Wide` and `Large` come exactly at the first operation that is not narrow, or narrow and not small: for each number and each freed
 /// one in turn the difference of the forms, that of the arriving numbers, and the substitution of the first; then the sum where they agree.
 /// `NoMemory`: out of memory.
-#[tactic(auto, using(crate::proofs::JoinTurns::joins_in_turn))]
+#[tactic(auto, using(crate::proofs::JoinTurns::join_in_turn))]
 pub fn join(
     alloc: Global,
     old: &Fact,

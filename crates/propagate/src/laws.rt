@@ -51,3 +51,8 @@ pub fn joins_say_less()
 pub fn rebases_say_little()
     ensures { (post : Post) (ps : List Position) (f : Fact) → rebase post ps ≡ Done f → strength f ≤ length ps + most_literals }
 {}
+
+/// A rebased fact has at most 64 literals.
+pub fn rebased_facts_have_few_literals()
+    ensures { (post : Post) (ps : List Position) (f : Fact) → rebase post ps ≡ Done f → length f.literals ≤ most_literals }
+{}

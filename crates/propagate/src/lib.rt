@@ -13,3 +13,4 @@ pub mod refutation;
 mod solutions;
 mod splits;
 mod ties;
+mod values;

@@ -9,9 +9,10 @@ ghost use Rattle.propagate.specs.RebaseSteps.{with_found, first_from, second_tur
 
 use crate::bare_symbols::bare_symbol;
 use crate::conditions::conditions_kept;
-use crate::equations::{equation_found, sort_of_terms, value_at};
+use crate::equations::equation_found;
 use crate::held_symbols::is_held;
 use crate::solutions::solved;
+use crate::values::{sort_of_terms, value_at};
 use fs_pair::positions::{Pairing, Position};
 use nf_subst::subst::Subst;
 use nf_subst::vector::Vector;

@@ -3,12 +3,11 @@
 ghost use Rattle.std.specs.Prelude.{◌≡◌, map, IfOk, None};
 ghost use Rattle.nf_terms.specs.Computed.{Answers, Done};
 ghost use Rattle.nf_terms.specs.declared.form.Nf.TheVariants as form;
-ghost use Rattle.nf_sums.specs.Operations.{subtracted};
-ghost use Rattle.nf_subst.specs.Vectors.{number_at};
 ghost use Rattle.propagate.specs.Joins.{symbol_like, number_tied_to, is_alike, form_tied, tied};
 ghost use Rattle.propagate.specs.JoinSteps.{first_tie};
 ghost use Rattle.propagate.specs.View.{freed_in};
 
+use crate::values::difference_from;
 use nf_subst::subst::Subst;
 use nf_subst::vector::Vector;
 use nf_sums::sums::{add, sub};
@@ -39,15 +38,6 @@ fn symbol_like(alloc: Global, p: Pos, form: &Nf) -> Result<Nf, NoMemory>
     }
 }
 
-// The difference of what arrives at two positions.
-fn arriving_difference(alloc: Global, v: &Vector, p: &Pos, q: &Pos) -> Result<Poly, NfStop>
-    ensures { Answers result (subtracted (number_at v.now p.now) (number_at v.now q.now)) }
-{
-    let left = v.number(alloc, p)?;
-    let right = v.number(alloc, q)?;
-    sub(alloc, &left, &right)
-}
-
 // The number of a position, tied to one freed number.
 fn number_tied_to(
     alloc: Global,
@@ -63,7 +53,8 @@ fn number_tied_to(
     ensures vector { s.new.vector ≡ s.old.vector }
 {
     let difference = sub(alloc, number, other)?;
-    let arriving = arriving_difference(alloc, v, p, q)?;
+    let value = v.number(alloc, p)?;
+    let arriving = difference_from(alloc, v, &value, q)?;
     let substituted = s.poly(alloc, &difference)?;
     if arriving == substituted {
         let symbol = Poly::symbol(alloc, *q)?;
