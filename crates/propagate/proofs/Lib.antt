@@ -1,3 +1,4 @@
+pub mod BareForms
 pub mod Arriving
 pub mod Passes
 pub mod Joined
@@ -14,6 +15,7 @@ pub mod JoinTurns
 pub mod Whole
 pub mod JoinPaired
 pub mod RebaseTurns
+pub mod Splitting
 pub mod Without
 pub mod Needed
 pub mod RebaseWhole

@@ -32,5 +32,3 @@ pub first_read : (n : ℕ) (xs : List NLit) → map literal_in (take n xs) ≡ t
 first_read zero xs = refl
 first_read (suc n) [] = refl
 first_read (suc n) (x ∷ xs) = ap (λ l. literal_in x ∷ l) (first_read n xs)
-
-pub ruleset needed_ones = (first_kept, first_read)

@@ -84,7 +84,6 @@ fn needed(alloc: Global, literals: &[NLit]) -> Result<Vec<NLit>, NoMemory>
 /// The first 64 conditions whose symbols are all held, over the new meanings, without those that are true and without repeats.
 ///
 /// `Wide` and `Large` come exactly at the first operation that is not narrow, or narrow and not small. `NoMemory`: out of memory.
-#[tactic(auto, using(crate::proofs::Needed::needed_ones))]
 pub fn conditions_kept(
     alloc: Global,
     s: &mut Subst<'_>,

@@ -147,7 +147,6 @@ fn literals_kept(alloc: Global, missing: &[u32], literals: &[NLit]) -> Result<Ve
 /// `Wide` and `Large` come exactly at the first operation that is not narrow, or narrow and not small: for each number and each freed
 /// one in turn the difference of the forms, that of the arriving numbers, and the substitution of the first; then the sum where they agree.
 /// `NoMemory`: out of memory.
-#[tactic(auto, using(crate::proofs::JoinTurns::join_in_turn))]
 pub fn join(
     alloc: Global,
     old: &Fact,

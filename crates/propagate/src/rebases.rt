@@ -198,7 +198,6 @@ fn third_pass(
 ///
 /// `Wide` and `Large` come exactly at the first operation that is not narrow, or narrow and not small: those of the second pass come
 /// first, then those of the third, then those of the conditions. `NoMemory`: out of memory.
-#[tactic(auto, using(crate::proofs::RebaseTurns::rebase_in_turn))]
 pub fn rebase(alloc: Global, post: &Post, p: &Pairing) -> Result<Fact, NfStop>
     ensures { Answers result (rebased (post_in post.now) p.now) }
 {

@@ -70,8 +70,15 @@ fn push_terms(
     Ok(())
 }
 
+// The number of a normal list of terms.
+fn from_terms(monos: Vec<(MonoTree, i128)>) -> Poly
+    requires { IsNormal (polynomial_of (map term_in monos.items)) }
+    ensures { result ≡ polynomial_of (map term_in monos.items) }
+{
+    Poly::from_normal(PolyTree { monos })
+}
+
 // The number without one of its terms: no operation, and so no event.
-#[tactic(auto, using(crate::proofs::Without::rest_normal))]
 fn without(alloc: Global, terms: &[(MonoTree, i128)], place: usize) -> Result<Poly, NoMemory>
     requires within { place < length terms.now }
     requires normal { IsNormal (polynomial_of (map term_in terms.now)) }
@@ -80,11 +87,10 @@ fn without(alloc: Global, terms: &[(MonoTree, i128)], place: usize) -> Result<Po
     let mut monos = Vec::new(alloc);
     push_terms(alloc, &mut monos, &terms[..place])?;
     push_terms(alloc, &mut monos, &terms[place + 1..])?;
-    Ok(Poly::from_normal(PolyTree { monos }))
+    Ok(from_terms(monos))
 }
 
 /// The first symbol alone of a number that is not held, with the coefficient 1 or -1, and the rest. The one refusal is out of memory.
-#[tactic(auto, using(crate::proofs::RebaseTurns::splits_in_turn))]
 pub fn split_off(alloc: Global, meanings: &Vector, number: &Poly) -> Result<Option<Split>, NoMemory>
     ensures { IfOk result (λ o. option_map split_in o ≡ split meanings.now number.now) }
 {
