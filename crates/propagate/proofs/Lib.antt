@@ -15,6 +15,7 @@ pub mod JoinTurns
 pub mod Whole
 pub mod JoinPaired
 pub mod RebaseTurns
+pub mod Stops
 pub mod Splitting
 pub mod Without
 pub mod Needed

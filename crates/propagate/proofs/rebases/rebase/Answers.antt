@@ -1,10 +1,12 @@
 use Rattle.std.proofs.Common.{rules, ◌≡◌, map, ap, sym, subst, ◌∙◌}
 use Rattle.nf_rel.specs.View.{literal_in}
-use Rattle.nf_terms.specs.Computed.{Answers, Done}
+use Rattle.nf_terms.specs.Computed.{Answers, Done, after}
 use Rattle.sym_paths.specs.View.{post_in}
 use Rattle.sym_facts.specs.View.{position_in}
 use Rattle.propagate.specs.Rebases.{rebase}
+use Rattle.propagate.specs.RebaseSteps.{conditions_kept}
 use Rattle.propagate.proofs.RebaseWhole.{AfterFirst, AfterSecond, AfterThird, first_done, second_done, third_done, all_done, rebase_kept}
+use Rattle.propagate.proofs.Stops.{stopped}
 use Rattle.propagate.proofs.rebases.rebase.Goals.{After-as_slice, After-as_slice-2, After-as_slice-3, In_ok-conds}
 use Rattle.propagate.proofs.rebases.rebase.Goals as goal
 
@@ -42,7 +44,10 @@ returns-in_err-positions c =
 pub returns-in_err-conds : goal.returns-in_err-conds
 returns-in_err-conds c =
     let at = goal.at.returns-in_err-conds c in
-    subst (λ z. Answers c.from_residual-in_err-conds.result z) (after_third at.After-as_slice-3 (after_second at.After-as_slice-2 (after_first at.After-as_slice))) (search rules)
+    let qs = map position_in c.in_ok-positions.positions.items in
+    let done : after (conditions_kept c.second_pass.new.meanings (map literal_in c.as_slice-3.result.now)) (λ ks. Done (record { positions = qs; literals = ks })) ≡ rebase (post_in c.args.post.now) c.args.p.now =
+        after_third at.After-as_slice-3 (after_second at.After-as_slice-2 (after_first at.After-as_slice)) in
+    subst (λ z. Answers c.from_residual-in_err-conds.result z) done (stopped c.from_residual-in_err-conds.result c.in_err-conds.field-0.0 (conditions_kept c.second_pass.new.meanings (map literal_in c.as_slice-3.result.now)) (λ ks. Done (record { positions = qs; literals = ks })) c.from_residual-in_err-conds.ensures.1 c.in_err-conds.ensures.answers)
 
 pub of-requires : goal.of-requires
 of-requires c =
