@@ -1,10 +1,10 @@
 -- Joined facts are of the positions.
-use Rattle.std.proofs.Common.{◌≡◌, ℕ, ◌+◌, ◌≤◌, Bool, true, false, cond, refl, ap, ap₂, sym, subst, ◌∙◌, arith, List, [], ◌∷◌, length, map, Option, Some, None}
+use Rattle.std.proofs.Common.{◌≡◌, ℕ, ◌+◌, Bool, true, false, cond, refl, ap, ap₂, sym, subst, ◌∙◌, arith, List, [], ◌∷◌, length, map, Option, Some, None}
 use Rattle.std.specs.List.{list_all}
 use Rattle.fs_model.specs.declared.parts.Sort.{Sort}
 use Rattle.fs_pair.specs.declared.positions.Position.{Position}
 use Rattle.fs_pair.specs.Paired.{IsPairing}
-use Rattle.nf_terms.specs.Forms.{same_form, sort_of_form}
+use Rattle.nf_terms.specs.Forms.{sort_of_form}
 use Rattle.nf_terms.specs.Order.{same_polynomial}
 use Rattle.nf_terms.specs.Terms.{Polynomial, polynomial_of_symbol}
 use Rattle.nf_terms.specs.Computed.{Computed, Done, after}
@@ -21,12 +21,12 @@ use Rattle.nf_subst.specs.Substitution.{substituted}
 use Rattle.nf_subst.specs.SamePlaces.{sorts_equal}
 use Rattle.nf_rel.specs.Literals.{NormalLiteral}
 use Rattle.sym_paths.specs.Execution.{Post}
-use Rattle.sym_facts.specs.Facts.{FactPosition, Fact, IsFact, sort_of_terms, form_or_symbol, vector_of, has_its_sort, may_be_kept, most_literals}
+use Rattle.sym_facts.specs.Facts.{FactPosition, Fact, IsFact, sort_of_terms, form_or_symbol, vector_of, has_its_sort, may_be_kept}
 use Rattle.sym_facts.specs.Entailment.{Missing, entails}
-use Rattle.sym_facts.specs.Pairings.{is_position, form_within, literal_within, IsFactOf}
+use Rattle.sym_facts.specs.Pairings.{is_position, form_within, IsFactOf}
 use Rattle.sym_facts.specs.Parts.{all_differ, IsKept}
 use Rattle.sym_facts.proofs.Vectors.{positions_again}
-use Rattle.propagate.specs.Joins.{Freed, symbol_like, number_tied_to, number_tied, is_alike, form_tied, tied, with_equation, freed_with, position_joined, is_among, positions_joined, literals_kept, join}
+use Rattle.propagate.specs.Joins.{Freed, symbol_like, number_tied_to, number_tied, is_alike, form_tied, tied, with_equation, freed_with, position_joined, is_among, positions_joined, join}
 use Rattle.propagate.specs.JoinSteps.{joined_from, literals_from}
 use Rattle.propagate.proofs.JoinTurns.{made, join_in_turn}
 use Rattle.propagate.proofs.Passes.{AllPass, AllEquations, free_asked}

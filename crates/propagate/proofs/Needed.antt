@@ -1,6 +1,6 @@
 -- The literals that a rebased fact keeps may be kept.
 use Rattle.std.proofs.Common.{◌≡◌, ℕ, zero, suc, Bool, true, false, cond, refl, ap, List, [], ◌∷◌, ◌++◌, map, take}
-use Rattle.std.specs.Prelude.{not, ◌&&◌, ◌||◌}
+use Rattle.std.specs.Prelude.{not, ◌||◌}
 use Rattle.std.specs.List.{list_all, list_any}
 use Rattle.nf_terms.proofs.Tests.{and_left, and_right, and_both}
 use Rattle.nf_rel.specs.Literals.{NormalLiteral, True}

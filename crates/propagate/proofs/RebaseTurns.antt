@@ -1,12 +1,12 @@
 -- A rebase as it is made is the rebase.
-use Rattle.std.proofs.Common.{◌≡◌, Bool, true, false, cond, ℤ, pos, refl, ap, sym, ◌∙◌, append_assoc, List, [], ◌∷◌, ◌++◌, Option, Some, None}
+use Rattle.std.proofs.Common.{◌≡◌, Bool, true, false, cond, ℤ, pos, refl, ap, sym, ◌∙◌, List, [], ◌∷◌, ◌++◌, Option, Some, None}
 use Rattle.std.specs.Prelude.{neg_ℤ, is_some, take}
 use Rattle.std.specs.Option.{option_map}
 use Rattle.std.specs.Ordering.{int_eq}
 use Rattle.fs_model.specs.declared.parts.Sort.{Sort}
 use Rattle.fs_model.specs.declared.parts.Sort.TheVariants as sort
 use Rattle.fs_pair.specs.declared.positions.Position.{Position}
-use Rattle.nf_terms.specs.Terms.{Monomial, Polynomial, Plus, polynomial_of, polynomial_of_symbol}
+use Rattle.nf_terms.specs.Terms.{Monomial, Polynomial, polynomial_of, polynomial_of_symbol}
 use Rattle.nf_terms.specs.Computed.{Computed, Done, Wide, Large, after}
 use Rattle.nf_terms.specs.declared.symbols.Sort.TheVariants as term
 use Rattle.nf_terms.specs.declared.tree.Pos.{Pos}
@@ -18,10 +18,9 @@ use Rattle.nf_subst.specs.Substitution.{substituted}
 use Rattle.nf_rel.specs.Literals.{NormalLiteral}
 use Rattle.sym_paths.specs.Execution.{Post}
 use Rattle.sym_facts.specs.Facts.{FactPosition, Fact, most_literals}
-use Rattle.propagate.specs.Rebases.{is_held, number_held, lone_symbol, Held, marked, symbol_found, first_by, first_pass, Split, with_more, split_by, split_at, split, Solution, solved, second_by, second_pass, number_tied_to, number_tied, tied, third_by, third_pass, with_equation, freed_with, equation_found, value_at, with_needed, conditions_over, rebase}
+use Rattle.propagate.specs.Rebases.{is_held, number_held, lone_symbol, marked, symbol_found, first_by, first_pass, Split, with_more, split_by, split_at, split, Solution, solved, second_by, second_pass, number_tied_to, number_tied, tied, third_pass, with_equation, freed_with, equation_found, value_at, with_needed, conditions_over, rebase}
 use Rattle.propagate.specs.JoinSteps.{or_later}
-use Rattle.propagate.specs.RebaseSteps.{with_found, first_from, signed_term, signed_at, signed_by, split_behind, split_from, Turn, turn_of, second_turn, second_from, first_tie, equation_given, freed_after, third_from, conditions_kept, rebased_by}
-use Rattle.propagate.specs.declared.splits.Signed.{Signed}
+use Rattle.propagate.specs.RebaseSteps.{with_found, first_from, signed_at, signed_by, split_behind, split_from, turn_of, second_from, first_tie, third_from, conditions_kept, rebased_by}
 use Rattle.propagate.proofs.JoinTurns.{later_behind}
 
 module _ (v : List (Pos × Nf)) where

@@ -1,5 +1,5 @@
 -- Rebased facts are facts.
-use Rattle.std.proofs.Common.{◌≡◌, Bool, true, ap, sym, ◌∙◌, List, [], map}
+use Rattle.std.proofs.Common.{◌≡◌, true, ap, sym, ◌∙◌, List, [], map}
 use Rattle.std.specs.List.{list_all}
 use Rattle.fs_pair.specs.declared.positions.Position.{Position}
 use Rattle.fs_pair.specs.Paired.{IsPairing}

@@ -1,12 +1,11 @@
 -- A symbol that is split off a sum in its terms' turn.
-use Rattle.std.proofs.Common.{◌≡◌, ℕ, suc, ◌+◌, ◌<◌, ◌≤◌, arith, refl, ap, sym, ◌∙◌, ℤ, List, [], ◌∷◌, ◌++◌, length, map, drop, get_or, drop-cons, add-one, Some, None, Option}
+use Rattle.std.proofs.Common.{◌≡◌, ℕ, suc, ◌+◌, ◌<◌, ◌≤◌, ap, sym, ◌∙◌, ℤ, List, [], ◌∷◌, ◌++◌, length, map, drop, get_or, drop-cons, add-one, Some, None}
 use Rattle.std.proofs.Math.ListN.{drop_of_length-le}
 use Rattle.nf_terms.specs.Terms.{Monomial, polynomial_of}
 use Rattle.nf_terms.specs.View.{term_in}
 use Rattle.nf_terms.specs.declared.tree.Pos.{Pos}
 use Rattle.nf_terms.specs.declared.tree.MonoTree.{MonoTree}
 use Rattle.nf_terms.specs.declared.form.Nf.{Nf}
-use Rattle.propagate.specs.Rebases.{Split}
 use Rattle.propagate.specs.RebaseSteps.{signed_term, split_behind, split_from}
 use Rattle.propagate.specs.declared.splits.Signed.{Signed}
 

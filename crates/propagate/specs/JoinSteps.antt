@@ -5,9 +5,7 @@ use Rattle.nf_terms.specs.Computed.{Computed, Done, after}
 use Rattle.nf_terms.specs.declared.tree.Pos.{Pos}
 use Rattle.nf_terms.specs.declared.form.Nf.{Nf}
 use Rattle.nf_rel.specs.Literals.{NormalLiteral}
-use Rattle.sym_paths.specs.Execution.{Post}
-use Rattle.sym_facts.specs.Facts.{FactPosition, Fact}
-use Rattle.sym_facts.specs.Entailment.{Missing}
+use Rattle.sym_facts.specs.Facts.{FactPosition}
 use Rattle.propagate.specs.Joins.{Freed, number_tied_to, tied, freed_with, with_equation}
 
 -- a form that is found, or else what comes later

@@ -39,7 +39,11 @@ fn is_first(place: u32, left: &[u32]) -> bool
 fn left_behind(place: u32, left: &[u32]) -> &[u32]
     ensures { result.now ≡ left_behind place left.now }
 {
-    if is_first(place, left) { &left[1..] } else { left }
+    if is_first(place, left) {
+        &left[1..]
+    } else {
+        left
+    }
 }
 
 // The equation of a position, as it was. The one refusal is out of memory.

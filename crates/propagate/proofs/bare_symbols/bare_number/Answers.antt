@@ -1,4 +1,4 @@
-use Rattle.std.proofs.Common.{◌≡◌, ap, ◌∙◌}
+use Rattle.std.proofs.Common.{ap, ◌∙◌}
 use Rattle.propagate.specs.Rebases.{bare_number}
 use Rattle.propagate.proofs.BareForms.{two_terms}
 use Rattle.propagate.proofs.bare_symbols.bare_number.Goals as goal

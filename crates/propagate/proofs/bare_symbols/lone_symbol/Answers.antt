@@ -1,4 +1,4 @@
-use Rattle.std.proofs.Common.{◌≡◌, ap, sym, ◌∙◌, map}
+use Rattle.std.proofs.Common.{ap, sym, ◌∙◌, map}
 use Rattle.nf_terms.specs.Terms.{monomial_of}
 use Rattle.nf_terms.specs.View.{atom_in}
 use Rattle.nf_terms.proofs.Degrees.{monomial_in-is}

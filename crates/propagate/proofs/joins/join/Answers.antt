@@ -29,9 +29,9 @@ returns-in_err-positions c =
     let missing = missing_in c.args.miss.now in
     let given = map position_in c.positions.result.now in
     let k : after (joined_from post.vector 0 c.as_slice.result.now [] given) (λ qs. made (literals_from 0 missing.literals old.literals) qs) ≡ join old post missing =
-        ap (λ m. after (joined_from post.vector 0 m [] given) (λ qs. made (literals_from 0 missing.literals old.literals) qs)) c.as_slice.ensures.value
-        ∙ ap (λ ps. after (joined_from post.vector 0 missing.equations [] ps) (λ qs. made (literals_from 0 missing.literals old.literals) qs)) c.positions.ensures.same
-        ∙ join_in_turn old post missing c.requires.missing in
+    ap (λ m. after (joined_from post.vector 0 m [] given) (λ qs. made (literals_from 0 missing.literals old.literals) qs)) c.as_slice.ensures.value
+    ∙ ap (λ ps. after (joined_from post.vector 0 missing.equations [] ps) (λ qs. made (literals_from 0 missing.literals old.literals) qs)) c.positions.ensures.same
+    ∙ join_in_turn old post missing c.requires.missing in
     subst (λ z. Answers c.from_residual.result z) k (search rules)
 
 pub returns : goal.returns

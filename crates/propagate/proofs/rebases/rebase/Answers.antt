@@ -46,7 +46,7 @@ returns-in_err-conds c =
     let at = goal.at.returns-in_err-conds c in
     let qs = map position_in c.in_ok-positions.positions.items in
     let done : after (conditions_kept c.second_pass.new.meanings (map literal_in c.as_slice-3.result.now)) (λ ks. Done (record { positions = qs; literals = ks })) ≡ rebase (post_in c.args.post.now) c.args.p.now =
-        after_third at.After-as_slice-3 (after_second at.After-as_slice-2 (after_first at.After-as_slice)) in
+    after_third at.After-as_slice-3 (after_second at.After-as_slice-2 (after_first at.After-as_slice)) in
     subst (λ z. Answers c.from_residual-in_err-conds.result z) done (stopped c.from_residual-in_err-conds.result c.in_err-conds.field-0.0 (conditions_kept c.second_pass.new.meanings (map literal_in c.as_slice-3.result.now)) (λ ks. Done (record { positions = qs; literals = ks })) c.from_residual-in_err-conds.ensures.1 c.in_err-conds.ensures.answers)
 
 pub of-requires : goal.of-requires

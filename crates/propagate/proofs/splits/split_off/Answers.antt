@@ -1,7 +1,6 @@
-use Rattle.std.proofs.Common.{◌≡◌, ◌+◌, ap, sym, ◌∙◌, map, take, drop, ◌++◌, Some, None}
-use Rattle.nf_terms.specs.Terms.{polynomial_of}
+use Rattle.std.proofs.Common.{ap, sym, ◌∙◌, map, take, Some}
 use Rattle.nf_terms.specs.View.{term_in}
-use Rattle.propagate.specs.Rebases.{Split, split}
+use Rattle.propagate.specs.Rebases.{split}
 use Rattle.propagate.proofs.Splitting.{split_here, none_split}
 use Rattle.propagate.proofs.RebaseTurns.{splits_in_turn}
 use Rattle.propagate.proofs.splits.split_off.Goals as goal
