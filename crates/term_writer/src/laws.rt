@@ -6,12 +6,15 @@ ghost use Rattle.nf_terms.specs.Terms.{Polynomial, ArrayTerm, NoWrites};
 ghost use Rattle.nf_terms.specs.Measures.{size_of, size_of_array};
 ghost use Rattle.nf_terms.specs.Normal.{IsNormal, IsNormalArray};
 ghost use Rattle.nf_terms.specs.Lists.{ListTerm, IsNormalList, size_of_list};
+ghost use Rattle.nf_rel.specs.Literals.{NormalLiteral};
+ghost use Rattle.nf_rel.specs.NormalLiterals.{IsNormalLiteral, size_of_literal};
 ghost use Rattle.term_text.specs.Texts.{polynomial, array, list, polynomial_text, array_text, list_text};
 ghost use Rattle.term_text.specs.Spelled.{Spells};
+ghost use Rattle.condition_text.specs.Texts.{condition_text};
 ghost use Rattle.term_values.specs.Names.{Find};
 ghost use Rattle.term_values.specs.Values.{exact, polynomial_value, array_value, list_value};
-ghost use Rattle.term_writer.specs.Written.{polynomial_written, array_written, list_written};
-ghost use Rattle.term_writer.specs.Named.{IsNamed, OfPolynomial, OfArray, OfList};
+ghost use Rattle.term_writer.specs.Written.{polynomial_written, array_written, list_written, literal_written};
+ghost use Rattle.term_writer.specs.Named.{IsNamed, IsShort, OfPolynomial, OfArray, OfList, OfLiteral};
 
 /// The text that is written for a normal term is one of the grammar, where its symbols have names.
 pub fn written_terms_are_spelled()
@@ -29,7 +32,12 @@ pub fn written_terms_mean_themselves()
 
 /// The text of a normal polynomial has at most 1 byte and 47 bytes for each unit of its size, that of an array or a list 47 for each unit.
 pub fn written_terms_are_short()
-    ensures polynomial { (name : Pos → List ℕ) (find : Find) (p : Polynomial) → OfPolynomial (IsNamed name find) p → IsNormal p → length (polynomial_text (polynomial_written name p)) ≤ 1 + 47 * size_of p }
-    ensures array { (name : Pos → List ℕ) (find : Find) (a : ArrayTerm) → OfArray (IsNamed name find) a → IsNormalArray a → length (array_text (array_written name a)) ≤ 47 * size_of_array a }
-    ensures list { (name : Pos → List ℕ) (find : Find) (l : ListTerm) → OfList (IsNamed name find) l → IsNormalList l → length (list_text (list_written name l)) ≤ 47 * size_of_list l }
+    ensures polynomial { (name : Pos → List ℕ) (p : Polynomial) → OfPolynomial (IsShort name) p → IsNormal p → length (polynomial_text (polynomial_written name p)) ≤ 1 + 47 * size_of p }
+    ensures array { (name : Pos → List ℕ) (a : ArrayTerm) → OfArray (IsShort name) a → IsNormalArray a → length (array_text (array_written name a)) ≤ 47 * size_of_array a }
+    ensures list { (name : Pos → List ℕ) (l : ListTerm) → OfList (IsShort name) l → IsNormalList l → length (list_text (list_written name l)) ≤ 47 * size_of_list l }
+{}
+
+/// The text of a literal in normal form has at most 47 bytes for each unit of its size, less 3.
+pub fn written_literals_are_short()
+    ensures { (name : Pos → List ℕ) (l : NormalLiteral) → OfLiteral (IsShort name) l → IsNormalLiteral l → length (condition_text (literal_written name l)) + 3 ≤ 47 * size_of_literal l }
 {}
