@@ -1,2 +1,5 @@
 mod Plain
 mod Kept
+mod Members
+mod Forks
+mod Values

@@ -1,5 +1,5 @@
 -- The names of machines, and so the texts of a certificate, have plain bytes; so they are UTF-8.
-use Rattle.std.proofs.Common.{◌≡◌, ℕ, zero, suc, ◌<◌, ◌≤◌, ◌==◌, Bool, true, false, not, ◌&&◌, List, [], ◌∷◌, length, get_or, Option, Some, None, IsUtf8, refl, sym, subst, arith}
+use Rattle.std.proofs.Common.{◌≡◌, ℕ, zero, suc, ◌<◌, ◌≤◌, ◌==◌, Bool, true, false, not, ◌&&◌, List, [], ◌∷◌, ◌++◌, length, get_or, Option, Some, None, IsUtf8, refl, sym, ap, ◌∙◌, subst, arith}
 use Rattle.std.specs.Prelude.{nat_le, slice_get, slice_index, IsTrue}
 use Rattle.std.specs.List.{list_all}
 use Rattle.std.specs.Str.{IsAscii}
@@ -85,8 +85,9 @@ name_utf8 x e = plain_utf8 x x refl (name_plain x e)
 pub form_utf8 : (a b : Fsmd) → IsSound a → IsSound b → (f : Nf) (bs : List ℕ) → bs ≡ form_written (name_of a b) f → IsUtf8 bs
 form_utf8 a b s t f bs e = plain_utf8 bs _ e (form_plain a b s t f)
 
-pub symbol_utf8 : (a b : Fsmd) → IsSound a → IsSound b → (p : Pos) (bs : List ℕ) → bs ≡ symbol_text p.side (name_of a b p) → IsUtf8 bs
-symbol_utf8 a b s t p bs e = plain_utf8 bs _ e (key_plain a b s t p)
+-- what was added to nothing
+pub symbol_utf8 : (a b : Fsmd) → IsSound a → IsSound b → (p : Pos) (old new : List ℕ) → old ≡ [] → new ≡ old ++ symbol_text p.side (name_of a b p) → IsUtf8 new
+symbol_utf8 a b s t p old new e f = plain_utf8 new _ (f ∙ ap (λ (xs : List ℕ). xs ++ symbol_text p.side (name_of a b p)) e) (key_plain a b s t p)
 
-pub literal_utf8 : (a b : Fsmd) → IsSound a → IsSound b → (l : NormalLiteral) (bs : List ℕ) → bs ≡ literal_written (name_of a b) l → IsUtf8 bs
-literal_utf8 a b s t l bs e = plain_utf8 bs _ e (literal_plain a b s t l)
+pub literal_utf8 : (a b : Fsmd) → IsSound a → IsSound b → (l : NormalLiteral) (old new : List ℕ) → old ≡ [] → new ≡ old ++ literal_written (name_of a b) l → IsUtf8 new
+literal_utf8 a b s t l old new e f = plain_utf8 new _ (f ∙ ap (λ (xs : List ℕ). xs ++ literal_written (name_of a b) l) e) (literal_plain a b s t l)

@@ -2,7 +2,7 @@
 
 ghost use Rattle.std.specs.Prelude.{◌≡◌, true, map, string_bytes, IfOk, IsTrue};
 ghost use Rattle.std.specs.List.{list_all};
-ghost use Rattle.serde_json.specs.Data.{array};
+ghost use Rattle.serde_json.specs.Data.{array, string};
 ghost use Rattle.serde_json.specs.View.{view};
 ghost use Rattle.nf_rel.specs.View.{literal_in};
 ghost use Rattle.sym_facts.specs.Facts.{may_be_kept};
@@ -19,7 +19,7 @@ use std::alloc::Global;
 use term_writer::writer::write_literal;
 
 // The text of a literal.
-#[tactic(auto, using(crate::proofs::Plain::literal_utf8, crate::proofs::Kept::not_true))]
+#[tactic(auto, using(crate::proofs::Kept::not_true))]
 fn literal_text(alloc: Global, names: &MachineNames<'_>, literal: &NLit) -> Result<String, NoMemory>
     requires { may_be_kept (literal_in literal.now) ≡ true }
     ensures { IfOk result (λ text. string_bytes text ≡ literal_written (names_in names.now) (literal_in literal.now)) }
@@ -30,7 +30,15 @@ fn literal_text(alloc: Global, names: &MachineNames<'_>, literal: &NLit) -> Resu
     Ok(text_of(out))
 }
 
-/// The array of the literals. The one refusal is out of memory.
+// A literal that is not true.
+fn value_of(alloc: Global, names: &MachineNames<'_>, literal: &NLit) -> Result<Value, NoMemory>
+    requires { may_be_kept (literal_in literal.now) ≡ true }
+    ensures { IfOk result (λ v. view v ≡ string (literal_written (names_in names.now) (literal_in literal.now))) }
+{
+    Ok(Value::String(literal_text(alloc, names, literal)?))
+}
+
+/// The array of literals that a fact may have. The one refusal is out of memory.
 pub fn conditions_value(
     alloc: Global,
     names: &MachineNames<'_>,
@@ -41,7 +49,7 @@ pub fn conditions_value(
 {
     let mut out = Vec::new(alloc);
     for literal in literals {
-        out.push(Value::String(literal_text(alloc, names, literal)?))?;
+        out.push(value_of(alloc, names, literal)?)?;
     }
     Ok(Value::Array(out))
 }

@@ -38,7 +38,6 @@ fn form_bytes(alloc: Global, names: &MachineNames<'_>, form: &Nf) -> Result<Vec<
 }
 
 // The text of a normal form.
-#[tactic(auto, using(crate::proofs::Plain::form_utf8))]
 fn form_text(alloc: Global, names: &MachineNames<'_>, form: &Nf) -> Result<String, NoMemory>
     ensures written { IfOk result (λ text. string_bytes text ≡ form_written (names_in names.now) form.now) }
     ensures normal { IsNormalForm form.now }
@@ -49,7 +48,6 @@ fn form_text(alloc: Global, names: &MachineNames<'_>, form: &Nf) -> Result<Strin
 }
 
 // The key of a position.
-#[tactic(auto, using(crate::proofs::Plain::symbol_utf8))]
 fn key_of(alloc: Global, names: &MachineNames<'_>, pos: Pos) -> Result<String, NoMemory>
     ensures { IfOk result (λ key. string_bytes key ≡ symbol_text pos.side (names_in names.now pos)) }
 {
@@ -60,7 +58,7 @@ fn key_of(alloc: Global, names: &MachineNames<'_>, pos: Pos) -> Result<String, N
 }
 
 // Puts a text under a key.
-#[tactic(auto, using(serde_json::proofs::Views::members_view-insert_entry))]
+#[tactic(auto, using(crate::proofs::Members::text_put))]
 fn put_text(members: &mut Map<String, Value>, key: String, text: String) -> Result<(), NoMemory>
     ensures { OnOk result (members_view members.new.entries ≡ with_member (string_bytes key) (string (string_bytes text)) (members_view members.old.entries)) }
 {

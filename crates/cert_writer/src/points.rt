@@ -11,7 +11,7 @@ use fs_ast::machine::Machine;
 use fs_cut::cover::Point;
 
 /// The text of a point of a machine. Takes no memory.
-#[tactic(auto, using(fs_cut::proofs::Listed::fork_state))]
+#[tactic(auto, using(crate::proofs::Forks::state_there))]
 pub fn point_text(m: &Machine, point: Point) -> &str
     requires { is_point m.now (point_of point) ≡ true }
     ensures { result.now ≡ point_written m.now (point_of point) }
