@@ -3,3 +3,6 @@ mod Kept
 mod Members
 mod Forks
 mod Values
+mod Files
+mod Short
+mod Lengths
