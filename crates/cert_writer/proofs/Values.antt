@@ -76,7 +76,7 @@ equations_texts : (name : Pos → List ℕ) (ms : Members) (qs : List FactPositi
 equations_texts name ms [] h = h
 equations_texts name ms (q ∷ qs) h = equations_texts name (with_equation name q.pos q.equation ms) qs (with_texts name q.pos q.equation ms h)
 
-equations_same : (name : Pos → List ℕ) (qs : List FactPosition) → named_texts (named_texts_of (equations_written name no_members qs)) ≡ equations_written name no_members qs
+pub equations_same : (name : Pos → List ℕ) (qs : List FactPosition) → named_texts (named_texts_of (equations_written name no_members qs)) ≡ equations_written name no_members qs
 equations_same name qs = texts_same (equations_written name no_members qs) (equations_texts name no_members qs tt)
 
 -- ---- a node of its parts
