@@ -1,10 +1,9 @@
 -- What a certificate is written as has the form of one, and no float; its text reads as it.
-use Rattle.std.proofs.Common.{◌≡◌, ℕ, suc, ◌+◌, ◌≤◌, ◌==◌, max, Bool, true, false, cond, ◌&&◌, ◌||◌, List, [], ◌∷◌, map, length, Some, IsUtf8, refl, sym, ap, ◌∙◌, arith}
-use Rattle.std.specs.Prelude.{nat_le, nat_lt, codes}
+use Rattle.std.proofs.Common.{◌≡◌, ℕ, suc, ◌≤◌, Bool, true, false, cond, List, [], ◌∷◌, map, length, Some, IsUtf8, refl, ap, ◌∙◌, arith}
+use Rattle.std.specs.Prelude.{nat_le, nat_lt}
 use Rattle.std.specs.List.{list_all, list_any, AllByRecursion}
 use Rattle.std.proofs.lemmas.Bool.Decides.{nat_tests}
-use Rattle.serde_json.specs.Data.{Data, unsigned, number, string, array, object, Items, no_items, item, Members, no_members, member, depth, items_depth, members_depth}
-use Rattle.serde_json.specs.Find.{get}
+use Rattle.serde_json.specs.Data.{Data, depth, items_depth, members_depth}
 use Rattle.serde_json.specs.Events.{items_len}
 use Rattle.serde_json.specs.Read.{read}
 use Rattle.serde_json.specs.Written.{has_float, items_have_float, members_have_float, compact_text}
@@ -17,7 +16,7 @@ use Rattle.bisimulation.specs.Tables.{Node}
 use Rattle.nf_terms.proofs.Tests.{and_left, and_right, and_both}
 use Rattle.sym_facts.specs.Facts.{Fact}
 use Rattle.certificates.specs.Lawful.{IsLawful}
-use Rattle.cert_json.specs.Shape.{are_texts, name_texts, is_mode_name, is_within, is_node, are_nodes, is_format, is_file, has_many_conditions, some_has_many, has_too_many}
+use Rattle.cert_json.specs.Shape.{are_texts, name_texts, is_mode_name, is_node, are_nodes, is_format, is_file, has_many_conditions, some_has_many, has_too_many}
 use Rattle.cert_json.specs.Refusals.{IsFileOf}
 use Rattle.cert_json.specs.Written.{NodeText, texts, named_texts, node_data, nodes_data, file_data}
 use Rattle.cert_writer.specs.Names.{name_of, is_port}

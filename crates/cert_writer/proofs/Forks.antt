@@ -1,5 +1,5 @@
 -- Points at states.
-use Rattle.std.proofs.Common.{◌≡◌, ℕ, ◌<◌, true, List, length}
+use Rattle.std.proofs.Common.{◌≡◌, ℕ, ◌<◌, true, length}
 use Rattle.fs_model.specs.Machines.{Fsmd}
 use Rattle.fs_cut.specs.Paths.{At, is_point}
 use Rattle.fs_cut.proofs.Listed.{fork_state}

@@ -1,5 +1,5 @@
 -- How many bytes a certificate has.
-use Rattle.std.proofs.Common.{◌≡◌, ℕ, zero, suc, ◌+◌, ◌*◌, ◌^◌, ◌<◌, ◌≤◌, ◌==◌, Bool, true, false, not, cond, ◌&&◌, List, [], ◌∷◌, ◌++◌, map, length, length-append, decimal, Option, Some, None, Ordering, Less, Equal, Greater, refl, sym, ap, ◌∙◌, subst, arith, lit<}
+use Rattle.std.proofs.Common.{◌≡◌, ℕ, zero, suc, ◌+◌, ◌*◌, ◌≤◌, Bool, true, false, not, cond, List, [], ◌∷◌, ◌++◌, map, length, length-append, decimal, Option, Some, None, Ordering, Less, Equal, Greater, refl, ap, ◌∙◌, arith}
 use Rattle.std.specs.Prelude.{nat_le, codes, is_some}
 use Rattle.std.specs.List.{list_all, list_any, filter, slice_index_or, AllByRecursion}
 use Rattle.std.specs.Ordering.{nat_cmp, match_ordering}
@@ -7,31 +7,29 @@ use Rattle.std.specs.Cmp.Lexicographic.{slice_cmp}
 use Rattle.std.proofs.lemmas.Bool.Decides.{nat_tests}
 use Rattle.std.proofs.lemmas.Fmt.{length-decimal-le_wide}
 use Rattle.json.specs.Print.{escape, escape_byte, quoted}
-use Rattle.serde_json.specs.Data.{Data, unsigned, number, string, array, object, Items, no_items, item, Members, no_members, member, put}
+use Rattle.serde_json.specs.Data.{Data, unsigned, number, string, array, object, Items, item, Members, no_members, member, put}
 use Rattle.serde_json.specs.Written.{compact_text, items_text, members_text, comma_if}
 use Rattle.serde_json.proofs.OnLiterals.{serde_json_on_literals}
 use Rattle.fs_model.specs.Machines.{State, Fsmd}
 use Rattle.fs_model.specs.Words.{is_name}
 use Rattle.fs_ast.specs.Sound.{IsSound}
-use Rattle.fs_ast.specs.Stored.{name_of as state_name}
 use Rattle.fs_cut.specs.Paths.{Point, Start, At, Done}
 use Rattle.fs_pair.specs.declared.positions.Position.{Position}
 use Rattle.bisimulation.specs.declared.mode.Mode.{Mode}
 use Rattle.bisimulation.specs.declared.mode.Mode.TheVariants as mode
 use Rattle.bisimulation.specs.Tables.{Node}
 use Rattle.nf_terms.specs.declared.tree.Pos.{Pos}
-use Rattle.nf_terms.specs.declared.tree.Side.{Side}
 use Rattle.nf_terms.specs.declared.form.Nf.{Nf}
 use Rattle.nf_terms.proofs.Tests.{and_left, and_right}
 use Rattle.nf_rel.specs.Literals.{NormalLiteral, True}
 use Rattle.nf_rel.specs.NormalLiterals.{is_normal_literal, same_literal}
-use Rattle.sym_facts.specs.Facts.{FactPosition, Fact, IsFact, may_be_kept, size_of_equation, size_of_equations, size_of_literals, size_of_fact}
+use Rattle.sym_facts.specs.Facts.{FactPosition, Fact, may_be_kept, size_of_equation, size_of_equations, size_of_literals, size_of_fact}
 use Rattle.term_text.specs.Texts.{symbol_text}
 use Rattle.term_writer.proofs.Plain.{is_plain, ArePlain}
 use Rattle.term_writer.proofs.Bound.{symbol_short}
-use Rattle.cert_json.specs.Written.{NodeText, texts, named_texts, node_data, nodes_data, file_data}
+use Rattle.cert_json.specs.Written.{NodeText, texts, named_texts, node_data, nodes_data}
 use Rattle.cert_writer.specs.Names.{name_of, is_port}
-use Rattle.cert_writer.specs.Written.{form_written, literal_written, with_equation, equations_written, named_texts_of, point_written, mode_written, node_written, format_of, file_written}
+use Rattle.cert_writer.specs.Written.{form_written, literal_written, with_equation, equations_written, point_written, mode_written, node_written, format_of, file_written}
 use Rattle.cert_writer.specs.Limits.{equation_count, units_of, most_bytes}
 use Rattle.cert_writer.specs.View.{IsNormalEquation, IsKept}
 use Rattle.cert_writer.proofs.Plain.{name_plain, name_short, names_short, form_plain, key_plain, literal_plain}
@@ -163,17 +161,41 @@ node_length n =
     let mode = member (codes "mode") (string n.mode) rank in
     let left = member (codes "left") (string n.left) mode in
     let equations = member (codes "equations") (object (named_texts n.equations)) left in
-    omega (arith, key_lengths.0, key_lengths.1, key_lengths.2, key_lengths.3, key_lengths.4, key_lengths.5,
-    member_length false (codes "conds") (array (texts n.conds)) equations, member_length true (codes "equations") (object (named_texts n.equations)) left, member_length true (codes "left") (string n.left) mode,
-    member_length true (codes "mode") (string n.mode) rank, member_length true (codes "rank") (number (unsigned n.rank)) right, member_length true (codes "right") (string n.right) no_members)
+    omega (
+      arith,
+      key_lengths.0,
+      key_lengths.1,
+      key_lengths.2,
+      key_lengths.3,
+      key_lengths.4,
+      key_lengths.5,
+      member_length false (codes "conds") (array (texts n.conds)) equations,
+      member_length true (codes "equations") (object (named_texts n.equations)) left,
+      member_length true (codes "left") (string n.left) mode,
+      member_length true (codes "mode") (string n.mode) rank,
+      member_length true (codes "rank") (number (unsigned n.rank)) right,
+      member_length true (codes "right") (string n.right) no_members,
+    )
 
 node_bound : (a b : Fsmd) → IsSound a → IsSound b → (n : Node Fact) → IsKept n → n.rank ≤ 4096 → length (compact_text (node_data (node_written a b n))) + 1 ≤ 200 + 44 * length (filter (λ q. is_some q.equation) n.fact.positions) + 47 * size_of_fact n.fact
 node_bound a b s t n k r =
     let w = node_written a b n in
     let ms = equations_written (name_of a b) no_members n.fact.positions in
     let same : length (members_text false (named_texts w.equations)) ≡ length (members_text false ms) = ap (λ x. length (members_text false x)) (equations_same (name_of a b) n.fact.positions) in
-    omega (arith, node_length w, conditions_length a b s t false n.fact.literals k.fact.literals, same, cost_bounds false ms, equations_cost a b s t no_members n.fact.positions k.normal, quoted_length w.left (point_plain a s n.left), point_length a s n.left,
-    mode_length n.mode, rank_length n.rank r, quoted_length w.right (point_plain b t n.right), point_length b t n.right)
+    omega (
+      arith,
+      node_length w,
+      conditions_length a b s t false n.fact.literals k.fact.literals,
+      same,
+      cost_bounds false ms,
+      equations_cost a b s t no_members n.fact.positions k.normal,
+      quoted_length w.left (point_plain a s n.left),
+      point_length a s n.left,
+      mode_length n.mode,
+      rank_length n.rank r,
+      quoted_length w.right (point_plain b t n.right),
+      point_length b t n.right,
+    )
 
 low_rank : (n : ℕ) → nat_le n 4096 ≡ true → n ≤ 4096
 low_rank n e = grind (arith, nat_tests)

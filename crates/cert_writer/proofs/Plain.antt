@@ -1,8 +1,7 @@
 -- The names of machines, and so the texts of a certificate, have plain bytes; so they are UTF-8.
-use Rattle.std.proofs.Common.{◌≡◌, ℕ, zero, suc, ◌<◌, ◌≤◌, ◌==◌, Bool, true, false, not, ◌&&◌, List, [], ◌∷◌, ◌++◌, length, get_or, Option, Some, None, IsUtf8, refl, sym, ap, ◌∙◌, subst, arith}
-use Rattle.std.specs.Prelude.{nat_le, slice_get, slice_index, IsTrue}
+use Rattle.std.proofs.Common.{◌≡◌, ℕ, zero, suc, ◌<◌, ◌≤◌, true, not, ◌&&◌, List, [], ◌∷◌, ◌++◌, length, get_or, IsUtf8, refl, sym, ap, ◌∙◌, subst, arith}
+use Rattle.std.specs.Prelude.{nat_le, slice_get, IsTrue}
 use Rattle.std.specs.List.{list_all}
-use Rattle.std.specs.Str.{IsAscii}
 use Rattle.std.proofs.lemmas.Bool.Decides.{nat_tests}
 use Rattle.std.proofs.lemmas.Str.{IsUtf8-from_ascii}
 use Rattle.fs_model.specs.declared.parts.VarInfo.{VarInfo}
@@ -18,7 +17,7 @@ use Rattle.nf_terms.proofs.Tests.{and_left, and_right, or_left}
 use Rattle.nf_rel.specs.Literals.{NormalLiteral}
 use Rattle.fs_pair.specs.Partners.{variables_on}
 use Rattle.term_text.specs.Texts.{symbol_text}
-use Rattle.term_writer.proofs.Plain.{is_plain, ArePlain, words_plain, word_plain, symbol_plain, polynomial_text_plain, array_text_plain, list_text_plain, condition_text_plain}
+use Rattle.term_writer.proofs.Plain.{is_plain, ArePlain, words_plain, symbol_plain, polynomial_text_plain, array_text_plain, list_text_plain, condition_text_plain}
 use Rattle.cert_writer.specs.Names.{name_or_empty, name_of}
 use Rattle.cert_writer.specs.Written.{form_written, literal_written}
 
