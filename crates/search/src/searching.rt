@@ -126,12 +126,7 @@ fn conclude(
 /// and a left output differs, and is looked at first; `Spin` where the table is closed and one machine alone moves in a cycle; `Wide` and
 /// `Large` at the first operation that is not narrow, or narrow and not small; `Exhausted` where a move would make node 4,097 or a table
 /// of more than 4,000,000 units. The one refusal is out of memory.
-pub fn search(
-    alloc: Global,
-    a: &Machine,
-    b: &Machine,
-    p: &Pairing,
-) -> Result<Outcome, NoMemory>
+pub fn search(alloc: Global, a: &Machine, b: &Machine, p: &Pairing) -> Result<Outcome, NoMemory>
     requires paired { p.now ≡ positions a.now b.now }
     requires interface { interface_fault a.now b.now ≡ None }
     ensures { IfOk result (Answers (machines a.now b.now)) }

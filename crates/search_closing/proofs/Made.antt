@@ -16,7 +16,7 @@ use Rattle.search_tables.specs.Tables.{Machines, Table}
 use Rattle.search_tables.specs.Next.{mode_at}
 use Rattle.search_tables.specs.LoneMoves.{lone_moves, Spins}
 use Rattle.search_tables.specs.Certifying.{table_node, Certifies}
-use Rattle.search_closing.specs.Closings.{HasCertificate, Gives, HasCount, IsMadeOf, ClosesBy}
+use Rattle.search_closing.specs.Closings.{Gives, HasCount, IsMadeOf, ClosesBy}
 use Rattle.search_closing.specs.Modes.{AreModes, cycle_side}
 use Rattle.search_closing.specs.declared.closing.Closing.{Closing}
 use Rattle.search_closing.specs.declared.closing.Closing.TheVariants as closings

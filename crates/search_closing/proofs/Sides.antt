@@ -1,5 +1,5 @@
 -- From the nodes of a cycle one side moves alone.
-use Rattle.std.proofs.Common.{◌≡◌, ℕ, refl, sym, ◌∙◌, ap, subst, true, List, [], ◌∷◌, option_map, Some}
+use Rattle.std.proofs.Common.{◌≡◌, ℕ, refl, sym, ◌∙◌, ap, subst, true, List, [], ◌∷◌, Some}
 use Rattle.std.specs.Prelude.{slice_get}
 use Rattle.std.specs.List.{AllByRecursion}
 use Rattle.bisimulation.specs.declared.mode.Mode.{Mode}
@@ -7,13 +7,13 @@ use Rattle.bisimulation.specs.declared.mode.Mode.TheVariants.{Both, Left, Right,
 use Rattle.nf_terms.specs.declared.tree.Side.{Side}
 use Rattle.propagate.specs.Modes.{Found}
 use Rattle.certificates.specs.Obligations.{same_alone}
-use Rattle.search_ranks.specs.Graphs.{HasEdge, first_or, Follow, IsCycle}
-use Rattle.search_tables.specs.Tables.{Machines, Node, Table}
+use Rattle.search_ranks.specs.Graphs.{first_or, Follow, IsCycle}
+use Rattle.search_tables.specs.Tables.{Machines, Table}
 use Rattle.search_tables.specs.Next.{mode_at}
 use Rattle.search_tables.specs.LoneMoves.{lone_moves, lone_mode, MovesAlone, Spins}
 use Rattle.search_closing.specs.Modes.{AreModes, side_of, cycle_side}
 use Rattle.search_closing.proofs.Found.{mode_place}
-use Rattle.search_closing.proofs.Edges.{IsLone, OneMode, edge_mode}
+use Rattle.search_closing.proofs.Edges.{IsLone, edge_mode}
 
 one_mode : (m : Machines) (T : Table) (k : ℕ) (x y : Mode) → IsLone m T x k → IsLone m T y k → x ≡ y
 one_mode m T k x y a b =

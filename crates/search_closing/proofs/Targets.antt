@@ -1,18 +1,17 @@
 -- Where a path leads that a side takes alone.
-use Rattle.std.proofs.Common.{◌≡◌, ℕ, refl, ap, sym, ◌∙◌, Bool, true, false, cond, List, [], ◌∷◌, ◌++◌}
+use Rattle.std.proofs.Common.{◌≡◌, ℕ, refl, ap, ◌∙◌, Bool, true, false, cond, List, [], ◌∷◌, ◌++◌}
 use Rattle.fs_cut.specs.Paths.{Point}
 use Rattle.bisimulation.specs.declared.mode.Mode.{Mode}
 use Rattle.bisimulation.specs.declared.mode.Mode.TheVariants.{Both}
 use Rattle.propagate.specs.Modes.{Traced, Found, WideAt, LargeAt}
 use Rattle.certificates.specs.Obligations.{same_alone}
-use Rattle.nf_terms.specs.Computed.{Computed, Done, Wide, Large, after}
+use Rattle.nf_terms.specs.Computed.{Computed, Done, Wide, Large}
 use Rattle.nf_rel.specs.Literals.{is_refuted}
 use Rattle.sym_paths.specs.Execution.{Post, end_of}
-use Rattle.search_tables.specs.Tables.{Machines, positions_of, Node, Table, Target, Unknown, Known, target_of, Keeps, Paths, effect}
+use Rattle.search_tables.specs.Tables.{Machines, Node, Table, Target, Unknown, Known, target_of, Paths}
 use Rattle.search_tables.specs.Next.{mode_at}
 use Rattle.search_tables.specs.LoneMoves.{moves_alone, if_alone, lone_target as target_by, lone_targets}
-use Rattle.search_tables.proofs.Closing.{kept}
-use Rattle.search_closing.specs.Moves.{arrival, lone_target}
+use Rattle.search_closing.specs.Moves.{arrival}
 
 -- ---- the number of a node from which the same machine moves alone
 pub known_alone : (m : Machines) (x y : Mode) (t : Target) (k : ℕ) (n : Node) (b : Bool) → t ≡ Known k n → mode_at m n ≡ Found y → same_alone x y ≡ b → if_alone m x t ≡ cond b (k ∷ []) []
@@ -27,23 +26,6 @@ pub leads_nowhere : (m : Machines) (T : Table) (x : Mode) (P Q : Point) (c : Com
 leads_nowhere m T x P Q (Done post) e = none_by (is_refuted post.conditions) (if_alone m x (target_of T P Q)) e
 leads_nowhere m T x P Q (Wide l r) e = refl
 leads_nowhere m T x P Q (Large u d) e = refl
-
-abbrev is_refuted_after : Computed Post → Computed Bool
-is_refuted_after c = after c (λ post. Done (is_refuted post.conditions))
-
-computed : Bool → Computed Bool
-computed b = Done b
-
-pub leads_by : (m : Machines) (T : Table) (x : Mode) (P Q : Point) (c : Computed Post) (b : Bool) → is_refuted_after c ≡ Done b → target_by m T x P Q c ≡ cond b [] (if_alone m x (target_of T P Q))
-leads_by m T x P Q (Done post) b e = let same : is_refuted post.conditions ≡ b = cc e in ap (λ z. cond z [] (if_alone m x (target_of T P Q))) same
-leads_by m T x P Q (Wide l r) b e = absurd (cc e)
-leads_by m T x P Q (Large u d) b e = absurd (cc e)
-
--- ---- a move that keeps the table has no event
-pub has_post : (m : Machines) (T : Table) (n : Node) (x : Paths) → effect m T n x ≡ Keeps → (b : Bool) × (is_refuted_after (arrival m n x) ≡ Done b)
-has_post m T n x h =
-    let a = kept (positions_of m) T (end_of n.left x.left) (end_of n.right x.right) (arrival m n x) h in
-    (is_refuted a.post.conditions, ap is_refuted_after a.arrives)
 
 -- ---- where both machines move, or none does, no machine moves alone
 none_alone : (m : Machines) (t : Target) → if_alone m Both t ≡ []

@@ -15,10 +15,10 @@ ghost use Rattle.search_closing.specs.Modes.{AreModes};
 ghost use Rattle.search_closing.specs.View.{machines_in};
 
 use crate::certify::certify;
-use crate::closed_table::ClosedTable;
 use crate::covered::Covered;
 use crate::lone::lone_moves;
 use crate::modes::{cycle_side, modes_of};
+use crate::node_table::NodeTable;
 use crate::places::places_of;
 use bisimulation::mode::Mode;
 use certificates::cert::Cert;
@@ -37,10 +37,7 @@ pub enum Closing {
     /// Its certificate.
     Certified(Cert),
     /// Nodes that follow one another by moves of this side alone, the last leading back to the first.
-    Spins {
-        side: Side,
-        cycle: Vec<u32>,
-    },
+    Spins { side: Side, cycle: Vec<u32> },
 }
 
 // The moves of one machine alone in a closed table, as a graph. The one refusal is out of memory.
@@ -57,7 +54,7 @@ fn lone_graph<'t>(
     ensures range { IfOk result (λ edges. InRange (lists_in edges.items)) }
 {
     let places = places_of(alloc, nodes)?;
-    let table = ClosedTable {
+    let table = NodeTable {
         machines,
         nodes,
         modes,

@@ -2,9 +2,9 @@
 #![tactic(auto)]
 
 pub(crate) mod certify;
-pub(crate) mod closed_table;
 pub mod closing;
 pub(crate) mod covered;
 pub(crate) mod lone;
 pub(crate) mod modes;
+pub(crate) mod node_table;
 pub(crate) mod places;

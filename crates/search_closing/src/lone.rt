@@ -19,8 +19,8 @@ ghost use Rattle.search_tables.specs.View.{table_in, table_node_in};
 ghost use Rattle.search_closing.specs.Moves.{alone, arrival, Keep, lone_target as target_by, AreShort};
 ghost use Rattle.search_closing.specs.View.{machines_in, as_list};
 
-use crate::closed_table::ClosedTable;
 use crate::covered::Covered;
+use crate::node_table::NodeTable;
 use crate::places::place_of;
 use bisimulation::mode::Mode;
 use fs_ast::machine::Machine;
@@ -45,7 +45,7 @@ fn moves_alone(side: Side, mode: Mode) -> bool
 }
 
 // The number of the node at two points, where a side moves alone from there.
-fn alone_at(table: &ClosedTable<'_>, side: Side, left: Point, right: Point) -> Option<u32>
+fn alone_at(table: &NodeTable<'_>, side: Side, left: Point, right: Point) -> Option<u32>
     ensures { as_list result ≡ if_alone (machines_in table.now.machines.now) (lone_mode side) (target_of (table_in table.now.nodes.now) (point_of left) (point_of right)) }
 {
     let place = place_of(&table.places, left, right)?;
@@ -100,7 +100,7 @@ fn is_refuted_alone(
 // Where a path leads that a side takes alone, if it moves alone from there too. The one refusal is out of memory.
 fn lone_target(
     alloc: Global,
-    table: &ClosedTable<'_>,
+    table: &NodeTable<'_>,
     node: &TableNode,
     side: Side,
     path: &Path,
@@ -133,7 +133,7 @@ fn push(out: &mut Vec<u32>, target: Option<u32>) -> Result<(), NoMemory>
 // Where paths lead that a side takes alone, if it moves alone from there too. The one refusal is out of memory.
 fn lone_targets(
     alloc: Global,
-    table: &ClosedTable<'_>,
+    table: &NodeTable<'_>,
     node: &TableNode,
     side: Side,
     paths: &[Path],
@@ -164,7 +164,7 @@ fn paths<'c>(m: &Machine, cover: &'c Cover, point: Point) -> &'c [Path]
 // Where a node leads in a mode in which one machine moves alone, if that moves alone from there too. The one refusal is out of memory.
 fn targets_at(
     alloc: Global,
-    table: &ClosedTable<'_>,
+    table: &NodeTable<'_>,
     node: &TableNode,
     mode: Mode,
 ) -> Result<Vec<u32>, NoMemory>
@@ -190,7 +190,7 @@ fn targets_at(
 
 /// For each node of a closed table where the moves lead by which one machine moves alone, there and at the target. The one refusal is
 /// out of memory.
-pub(crate) fn lone_moves(alloc: Global, table: &ClosedTable<'_>) -> Result<Vec<Vec<u32>>, NoMemory>
+pub(crate) fn lone_moves(alloc: Global, table: &NodeTable<'_>) -> Result<Vec<Vec<u32>>, NoMemory>
     requires { IsClosed (machines_in table.now.machines.now) (table_in table.now.nodes.now) }
     ensures edges { IfOk result (λ out. lists_in out.items ≡ graph_of (machines_in table.now.machines.now) (table_in table.now.nodes.now)) }
     ensures short { IfOk result (λ out. AreShort (lists_in out.items)) }

@@ -25,14 +25,7 @@ fn mode_of(alloc: Global, m: &Covered<'_>, node: &TableNode) -> Result<Mode, NoM
     ensures { IfOk result (λ x. mode_at (machines_in m.now) (table_node_in node.now) ≡ Found x) }
 {
     match mode(
-        alloc,
-        m.a,
-        m.b,
-        m.left,
-        m.right,
-        &node.fact,
-        node.left,
-        node.right,
+        alloc, m.a, m.b, m.left, m.right, &node.fact, node.left, node.right,
     ) {
         Ok(mode) => Ok(mode),
         Err(stop) => match stop.stop {

@@ -47,11 +47,7 @@ pub(crate) fn places_of(
 }
 
 /// The place of the node at two points, if there is one.
-pub(crate) fn place_of(
-    places: &IndexSet<(u64, u64)>,
-    left: Point,
-    right: Point,
-) -> Option<usize>
+pub(crate) fn place_of(places: &IndexSet<(u64, u64)>, left: Point, right: Point) -> Option<usize>
     ensures { (T : Table) → places.now.keys ≡ keys_in T → StandsAt T (point_of left) (point_of right) result }
 {
     places.get_index_of(&key_of(left, right))

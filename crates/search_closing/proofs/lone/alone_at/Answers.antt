@@ -1,4 +1,4 @@
-use Rattle.std.proofs.Common.{◌≡◌, true, false, sym, ◌∙◌, ◌∷◌, []}
+use Rattle.std.proofs.Common.{true, false, sym, ◌∙◌}
 use Rattle.std.specs.List.{slice_index_or}
 use Rattle.fs_cut.specs.View.{point_of}
 use Rattle.bisimulation.specs.declared.mode.Mode.TheVariants.{Both}

@@ -1,7 +1,7 @@
-use Rattle.std.proofs.Common.{◌≡◌, inl, inr, ap, sym, ◌∙◌}
+use Rattle.std.proofs.Common.{inl, inr, ap, sym, ◌∙◌}
 use Rattle.bisimulation.specs.declared.mode.Mode.TheVariants.{Both}
 use Rattle.propagate.specs.Modes.{Found}
-use Rattle.search_tables.specs.Next.{mode_at, paths_in}
+use Rattle.search_tables.specs.Next.{paths_in}
 use Rattle.search_tables.specs.LoneMoves.{lone_in}
 use Rattle.search_tables.specs.View.{table_in, table_node_in}
 use Rattle.search_closing.specs.View.{machines_in}

@@ -1,4 +1,4 @@
-//! A table with what is known of its nodes.
+//! The nodes of a table of two machines, with their modes and their places.
 
 ghost use Rattle.std.specs.Prelude.{◌≡◌};
 ghost use Rattle.search_tables.specs.WellFormed.{IsWellFormed};
@@ -12,9 +12,9 @@ use bisimulation::mode::Mode;
 use indexmap::IndexSet;
 use search_tables::nodes::TableNode;
 
-/// A table with the modes of its nodes and the places of their points.
+/// The nodes of a table of two machines, with their modes and the places of their points.
 #[derive(Drop)]
-pub(crate) struct ClosedTable<'a> {
+pub(crate) struct NodeTable<'a> {
     pub(crate) machines: &'a Covered<'a>,
     pub(crate) nodes: &'a [TableNode],
     pub(crate) modes: &'a [Mode],
