@@ -15,6 +15,8 @@ use Rattle.search_tables.specs.Obstacles.{Obstacle}
 use Rattle.search_tables.specs.View.{Points}
 use Rattle.search.specs.Answers.{machines, IsClosedWith, StopsAt}
 use Rattle.pair_answers.specs.Texts.{obstacle_text}
+use Rattle.pair_answers.specs.declared.obstacles.Found.{Found}
+use Rattle.pair_answers.specs.declared.obstacles.Found.TheVariants.{Certificate, Obstacle as Line}
 use Rattle.pair_answers.specs.declared.answer.PairAnswer.{PairAnswer}
 use Rattle.pair_answers.specs.declared.answer.PairAnswer.TheVariants.{Equivalent, Counterexample, Undecided}
 
@@ -27,8 +29,8 @@ pub record IsCounterexample (limit : ℕ) (a b : Fsmd) (lines : List ℕ) : Type
   pub told : IsCounterexampleText (input_names a.variables) (given (pool_of a b) number 0 (input_signatures a.variables)) (output_names a.variables) shows.left shows.right lines
 
 -- no candidate shows a difference within so many steps
-abbrev pub NoneDiffers : (limit : ℕ) → Fsmd → Fsmd → Type 0
-NoneDiffers limit a b = (j : ℕ) → j < candidate_count (pool_of a b) → ¬ DiffersAt a b limit j
+pub record NoneDiffers (limit : ℕ) (a b : Fsmd) : Type 0 where
+  pub none : (j : ℕ) → j < candidate_count (pool_of a b) → ¬ DiffersAt a b limit j
 
 -- a legal list of moves stops at an obstacle, which the lines name
 pub record HasObstacle (m : Machines) (lines : List ℕ) : Type 0 where
@@ -37,6 +39,11 @@ pub record HasObstacle (m : Machines) (lines : List ℕ) : Type 0 where
   pub obstacle : Obstacle
   pub stops : StopsAt m moves points obstacle
   pub told : lines ≡ obstacle_text m moves points obstacle
+
+-- what a search finds
+abbrev pub IsFound : Machines → Found → Type 0
+IsFound m (Certificate cert) = IsClosedWith m (map node_of cert.nodes.items)
+IsFound m (Line line) = HasObstacle m line.items
 
 -- no candidate shows a difference, and the lines name what keeps the machines from being shown the same
 pub record IsUndecided (limit : ℕ) (a b : Fsmd) (lines : List ℕ) : Type 0 where

@@ -7,6 +7,9 @@ ghost use Rattle.fs_pair.specs.Positions.{positions};
 ghost use Rattle.pair_answers.specs.Answers.{IsOfPair, IfEquivalent};
 
 use crate::answer::PairAnswer;
+use crate::candidates::counterexample;
+use crate::obstacles::{Found, find};
+use certificates::laws::obligations_give_same_behaviour;
 use fs_ast::machine::Machine;
 use fs_pair::positions::Pairing;
 use nf_terms::stop::NoMemory;
@@ -32,5 +35,15 @@ pub fn compare(
     ensures answers { IfOk result (IsOfPair steps a.now b.now) }
     ensures same { IfOk result (IfEquivalent (SameBehaviour a.now b.now)) }
 {
-    Err(NoMemory)
+    let _left = a.vars();
+    let _right = b.vars();
+    obligations_give_same_behaviour();
+    let line = match find(alloc, a, b, p)? {
+        Found::Certificate(cert) => return Ok(PairAnswer::Equivalent { cert }),
+        Found::Obstacle(line) => line,
+    };
+    match counterexample(alloc, a, b, p, steps)? {
+        Some(lines) => Ok(PairAnswer::Counterexample { lines }),
+        None => Ok(PairAnswer::Undecided { lines: line }),
+    }
 }

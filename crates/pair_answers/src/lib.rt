@@ -3,4 +3,8 @@
 #![tactic(auto)]
 
 pub mod answer;
+mod candidates;
 pub mod compare;
+pub mod laws;
+mod obstacles;
+mod texts;
