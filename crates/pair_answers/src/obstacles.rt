@@ -1,6 +1,6 @@
 //! What a search finds: a certificate, or the line of an obstacle.
 
-ghost use Rattle.std.specs.Prelude.{◌≡◌, None, map, IfOk};
+ghost use Rattle.std.specs.Prelude.{◌≡◌, None, map, IfOk, codes};
 ghost use Rattle.std.specs.Result.{result_map_both};
 ghost use Rattle.fs_pair.specs.Interfaces.{interface_fault};
 ghost use Rattle.fs_pair.specs.Positions.{positions};
@@ -108,6 +108,30 @@ fn operation_line(
     line_at(alloc, what, place.as_slice())
 }
 
+fn wide_line(
+    alloc: Global,
+    a: &Machine,
+    b: &Machine,
+    points: &[NodePoints],
+    at: Move,
+) -> Result<Vec<u8>, NoMemory>
+    ensures { IfOk result (λ line. line.items ≡ undecided_at (codes "coefficient past 128 bits") (move_text (machines a.now b.now) (map points_in points.now) at)) }
+{
+    operation_line(alloc, a, b, b"coefficient past 128 bits", points, at)
+}
+
+fn large_line(
+    alloc: Global,
+    a: &Machine,
+    b: &Machine,
+    points: &[NodePoints],
+    at: Move,
+) -> Result<Vec<u8>, NoMemory>
+    ensures { IfOk result (λ line. line.items ≡ undecided_at (codes "term too large") (move_text (machines a.now b.now) (map points_in points.now) at)) }
+{
+    operation_line(alloc, a, b, b"term too large", points, at)
+}
+
 fn obstacle(line: Result<Vec<u8>, NoMemory>) -> Result<Found, NoMemory>
     ensures { result ≡ result_map_both Obstacle (λ e. e) line }
 {
@@ -137,19 +161,12 @@ fn found_in(alloc: Global, a: &Machine, b: &Machine, outcome: Outcome) -> Result
             moves: _moves,
             points,
             at,
-        } => obstacle(operation_line(
-            alloc,
-            a,
-            b,
-            b"coefficient past 128 bits",
-            points.as_slice(),
-            at,
-        )),
+        } => obstacle(wide_line(alloc, a, b, points.as_slice(), at)),
         Outcome::Large {
             moves: _moves,
             points,
             at,
-        } => obstacle(operation_line(alloc, a, b, b"term too large", points.as_slice(), at)),
+        } => obstacle(large_line(alloc, a, b, points.as_slice(), at)),
         Outcome::Exhausted {
             moves: _moves,
             points: _points,
