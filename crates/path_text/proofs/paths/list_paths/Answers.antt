@@ -1,7 +1,7 @@
 use Rattle.std.proofs.Common.{◌≡◌, IfOk, map, subst}
 use Rattle.fs_cut.specs.View.{point_of}
-use Rattle.fsmd_tool.proofs.Listing.{lists_all}
-use Rattle.fsmd_tool.proofs.paths.list_paths.Goals as goal
+use Rattle.path_text.proofs.Listing.{lists_all}
+use Rattle.path_text.proofs.paths.list_paths.Goals as goal
 
 pub returns-in-Ok : goal.returns-in-Ok
 returns-in-Ok c =

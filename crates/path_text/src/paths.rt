@@ -1,19 +1,19 @@
-//! Lists the paths of a machine.
+//! Writes points and paths, and lists the paths of a machine.
 
 ghost use Rattle.std.specs.Prelude.{◌≡◌, ◌++◌, IfOk, map, decimal};
 ghost use Rattle.std.specs.List.{flat_map};
 ghost use Rattle.std.specs.Result.{OnOk};
 ghost use Rattle.fs_cut.specs.Covers.{paths_from};
 ghost use Rattle.fs_cut.specs.View.{point_of, path_of};
-ghost use Rattle.fsmd_tool.specs.Paths.{point_text, path_text, paths_text};
+ghost use Rattle.path_text.specs.Paths.{point_text, named_path, path_line, paths_text};
 
 use fs_ast::machine::Machine;
 use fs_cut::cover::{Cover, Path, Point};
 use fs_cut::make_cover::cover;
 use std::alloc::{AllocError, Global};
 
-// The name of a point.
-fn point_text(machine: &Machine, point: Point) -> &[u8]
+/// What a point prints as: `start`, the state's name, or `done`. Takes no memory.
+pub fn point_text(machine: &Machine, point: Point) -> &[u8]
     ensures { result.now ≡ point_text machine.now (point_of point) }
 {
     match point {
@@ -38,6 +38,21 @@ fn write_number(
     out.extend_from_slice(text.as_bytes())
 }
 
+/// Adds a path as `FROM.BRANCH>TO`: the points where it begins and ends, and the number of its branch. The
+/// one refusal is out of memory.
+pub fn write_named_path(
+    alloc: Global,
+    machine: &Machine,
+    path: &Path,
+    out: &mut Vec<u8>,
+) -> Result<(), AllocError>
+    ensures { OnOk result (out.new.items ≡ out.old.items ++ named_path machine.now (path_of path.now)) }
+{
+    out.extend_from_slice(point_text(machine, path.from))?;
+    write_number(alloc, ".", path.branch as usize, ">", out)?;
+    out.extend_from_slice(point_text(machine, path.to))
+}
+
 // Adds the line of a path.
 fn write_path(
     alloc: Global,
@@ -45,11 +60,9 @@ fn write_path(
     path: &Path,
     out: &mut Vec<u8>,
 ) -> Result<(), AllocError>
-    ensures { OnOk result (out.new.items ≡ out.old.items ++ path_text machine.now (path_of path.now)) }
+    ensures { OnOk result (out.new.items ≡ out.old.items ++ path_line machine.now (path_of path.now)) }
 {
-    out.extend_from_slice(point_text(machine, path.from))?;
-    write_number(alloc, ".", path.branch as usize, ">", out)?;
-    out.extend_from_slice(point_text(machine, path.to))?;
+    write_named_path(alloc, machine, path, out)?;
     write_number(alloc, ": ", path.states.len(), " steps\n", out)
 }
 
@@ -60,7 +73,7 @@ fn write_paths(
     paths: &[Path],
     out: &mut Vec<u8>,
 ) -> Result<(), AllocError>
-    ensures { OnOk result (out.new.items ≡ out.old.items ++ flat_map (path_text machine.now) (map path_of paths.now)) }
+    ensures { OnOk result (out.new.items ≡ out.old.items ++ flat_map (path_line machine.now) (map path_of paths.now)) }
 {
     for path in paths {
         write_path(alloc, machine, path, out)?;
@@ -75,7 +88,7 @@ fn write_points(
     cover: &Cover,
     points: &[Point],
 ) -> Result<Vec<u8>, AllocError>
-    ensures { IfOk result (λ out. out.items ≡ flat_map (λ P. flat_map (path_text machine.now) (paths_from cover.now P)) (map point_of points.now)) }
+    ensures { IfOk result (λ out. out.items ≡ flat_map (λ P. flat_map (path_line machine.now) (paths_from cover.now P)) (map point_of points.now)) }
 {
     let mut out = Vec::new(alloc);
     for point in points {
