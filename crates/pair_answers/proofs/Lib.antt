@@ -1,2 +1,5 @@
 pub mod Behaviour
+pub mod Branches
+pub mod Named
 pub mod Once
+pub mod Ranks

@@ -1,6 +1,5 @@
 -- Two machines have one answer.
-use Rattle.std.proofs.Common.{◌≡◌, ◌⊎◌, inl, inr, ℕ, List, [], ◌∷◌, None, Some, Option, length, map, refl, sym, ◌∙◌, ap, ap₂, subst}
-use Rattle.std.proofs.lemmas.List.{length-map}
+use Rattle.std.proofs.Common.{◌≡◌, ◌⊎◌, inl, inr, ℕ, List, [], ◌∷◌, None, Some, Option, map, refl, sym, ◌∙◌, ap, ap₂, subst}
 use Rattle.fs_model.specs.Machines.{Fsmd}
 use Rattle.fs_ast.specs.Sound.{IsSound}
 use Rattle.fs_pair.specs.Interfaces.{interface_fault}
@@ -13,7 +12,9 @@ use Rattle.search_tables.specs.declared.moves.Move.{Move}
 use Rattle.search_tables.specs.Tables.{Machines, Table, first_table, TooWide, TooLarge}
 use Rattle.search_tables.specs.Next.{Next, Nothing, Change, Stop, Excess, next, IsClosed}
 use Rattle.search_tables.specs.Legal.{Difference, stuck, Lead}
-use Rattle.search_tables.specs.Certifying.{table_node}
+use Rattle.search_ranks.specs.Graphs.{AreRanks}
+use Rattle.search_tables.specs.LoneMoves.{lone_moves}
+use Rattle.search_tables.specs.Certifying.{Certifies}
 use Rattle.search_tables.specs.Obstacles.{Obstacle, Stuck, Spin, Wide, Large, Exhausted, StandsIn}
 use Rattle.search_tables.specs.View.{points_at}
 use Rattle.search_tables.proofs.Prefixes.{same_change}
@@ -23,6 +24,7 @@ use Rattle.pair_answers.specs.declared.answer.PairAnswer.TheVariants.{Equivalent
 use Rattle.pair_answers.specs.Texts.{obstacle_text}
 use Rattle.pair_answers.specs.Answers.{IsCounterexample, HasObstacle, IsUndecided}
 use Rattle.pair_answers.specs.Laws.{IsCycleLine, OneAnswer}
+use Rattle.pair_answers.proofs.Ranks.{one_certificate}
 use Rattle.pair_answers.proofs.Behaviour.{same_show_nothing, one_counterexample}
 
 -- ---- all legal lists of moves that end make one table
@@ -54,13 +56,10 @@ one_table m (x ∷ xs) (y ∷ ys) S T U t u h k =
 abbrev Nodes : Type 0
 Nodes = List (CertificateNode Fact)
 
-as_many : (cs : Nodes) (T : Table) → map table_node cs ≡ T → length cs ≡ length T
-as_many cs T e = sym (length-map cs table_node) ∙ ap length e
-
-one_count : (m : Machines) (cs ds : Nodes) → IsClosedWith m cs → IsClosedWith m ds → length cs ≡ length ds
-one_count m cs ds x y =
+same_certificate : (m : Machines) (cs ds : Nodes) → IsClosedWith m cs → IsClosedWith m ds → cs ≡ ds
+same_certificate m cs ds x y =
     let same = (one_table m x.moves y.moves (first_table m) x.table y.table (closed_ends m x.table x.closed) (closed_ends m y.table y.closed) x.makes.lead y.makes.lead).1 in
-    as_many cs x.table x.certifies.nodes ∙ ap length same ∙ sym (as_many ds y.table y.certifies.nodes)
+    one_certificate m x.table x.ranks y.ranks cs ds x.are_ranks (subst (λ T. AreRanks (lone_moves m T) y.ranks) (sym same) y.are_ranks) x.certifies (subst (λ T. Certifies m T y.ranks ds) (sym same) y.certifies)
 
 not_both : (m : Machines) (cs : Nodes) (line : List ℕ) → IsClosedWith m cs → HasObstacle m line → ⊥
 not_both m cs line x y =
@@ -131,7 +130,7 @@ not_open : (limit : ℕ) (a b : Fsmd) (l k : List ℕ) → IsCounterexample limi
 not_open limit a b l k x y = y.none_differ.none x.number x.among x.shows
 
 pub one_answer : OneAnswer
-one_answer limit a b s t none (Equivalent c) (Equivalent d) p q = sym (length-map c.nodes.items node_of) ∙ one_count (machines a b) (map node_of c.nodes.items) (map node_of d.nodes.items) p q ∙ length-map d.nodes.items node_of
+one_answer limit a b s t none (Equivalent c) (Equivalent d) p q = same_certificate (machines a b) (map node_of c.nodes.items) (map node_of d.nodes.items) p q
 one_answer limit a b s t none (Equivalent c) (Counterexample k) p q = not_apart limit a b s t none (map node_of c.nodes.items) k.items p q
 one_answer limit a b s t none (Equivalent c) (Undecided k) p q = not_both (machines a b) (map node_of c.nodes.items) k.items p q.obstacle
 one_answer limit a b s t none (Counterexample l) (Equivalent d) p q = not_apart limit a b s t none (map node_of d.nodes.items) l.items q p

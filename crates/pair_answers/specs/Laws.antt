@@ -1,14 +1,18 @@
--- Two machines have one answer, but for the cycle that a line names.
-use Rattle.std.specs.Prelude.{◌≡◌, ◌⊎◌, ℕ, List, None, length}
+-- What holds of answers.
+use Rattle.std.specs.Prelude.{◌≡◌, ◌⊎◌, ℕ, ◌-◌, List, Option, Some, None, length, map, slice_get}
+use Rattle.fs_model.specs.declared.parts.VarInfo.{VarInfo}
 use Rattle.fs_model.specs.Machines.{Fsmd}
 use Rattle.fs_model.specs.Runs.{SameBehaviour}
 use Rattle.fs_ast.specs.Sound.{IsSound}
+use Rattle.fs_cut.specs.Paths.{Point, Path, IsPath}
+use Rattle.fs_cut.specs.Covers.{paths_from, cover_of}
 use Rattle.fs_pair.specs.Interfaces.{interface_fault}
 use Rattle.fs_trials.specs.Differences.{DiffersAt}
 use Rattle.nf_terms.specs.declared.tree.Side.{Side}
+use Rattle.certificates.specs.View.{node_of}
 use Rattle.search_tables.specs.declared.moves.Move.{Move}
 use Rattle.search_tables.specs.Tables.{Machines}
-use Rattle.search_tables.specs.Obstacles.{Spin}
+use Rattle.search_tables.specs.Obstacles.{Obstacle, Stuck, Spin, Wide, Large, Exhausted}
 use Rattle.search_tables.specs.View.{Points}
 use Rattle.search.specs.Answers.{machines, StopsAt}
 use Rattle.pair_answers.specs.declared.answer.PairAnswer.{PairAnswer}
@@ -27,7 +31,7 @@ pub record IsCycleLine (m : Machines) (line : List ℕ) : Type 0 where
 
 -- two answers say the same, but for the cycle that they name
 abbrev pub SaySame : Machines → PairAnswer → PairAnswer → Type 0
-SaySame m (Equivalent c) (Equivalent d) = length c.nodes.items ≡ length d.nodes.items
+SaySame m (Equivalent c) (Equivalent d) = map node_of c.nodes.items ≡ map node_of d.nodes.items
 SaySame m (Equivalent c) (Counterexample k) = ⊥
 SaySame m (Equivalent c) (Undecided k) = ⊥
 SaySame m (Counterexample l) (Equivalent d) = ⊥
@@ -39,6 +43,51 @@ SaySame m (Undecided l) (Undecided k) = (l.items ≡ k.items) ⊎ (IsCycleLine m
 
 abbrev pub OneAnswer : Type 0
 OneAnswer = (limit : ℕ) (a b : Fsmd) → IsSound a → IsSound b → interface_fault a b ≡ None → (x y : PairAnswer) → IsOfPair limit a b x → IsOfPair limit a b y → SaySame (machines a b) x y
+
+-- a branch of a point is listed, and is a path of the machine
+pub record IsBranch (m : Fsmd) (P : Point) (branch : ℕ) : Type 0 where
+  pub path : Path
+  pub is_in : slice_get (paths_from (cover_of m) P) branch ≡ Some path
+  pub is_path : IsPath m path
+  pub from : path.from ≡ P
+  pub numbered : path.branch ≡ branch
+
+abbrev pub HasPath : Fsmd → Point → Option ℕ → Type 0
+HasPath m P None = Unit {0}
+HasPath m P (Some branch) = IsBranch m P branch
+
+-- the node of a move, and its paths
+pub record IsThere (m : Machines) (points : List Points) (x : Move) : Type 0 where
+  pub node : Points
+  pub is_in : slice_get points x.node ≡ Some node
+  pub left : HasPath m.left node.left x.left
+  pub right : HasPath m.right node.right x.right
+
+-- the last move and the output of outputs that differ
+pub record LastIsThere (m : Machines) (moves : List Move) (points : List Points) (output : ℕ) : Type 0 where
+  pub move : Move
+  pub is_last : slice_get moves (length moves - 1) ≡ Some move
+  pub there : IsThere m points move
+  pub variable : VarInfo
+  pub is_output : slice_get m.left.variables output ≡ Some variable
+
+-- the first node of a cycle
+pub record FirstIsThere (points : List Points) (cycle : List ℕ) : Type 0 where
+  pub first : ℕ
+  pub is_first : slice_get cycle 0 ≡ Some first
+  pub node : Points
+  pub is_in : slice_get points first ≡ Some node
+
+-- all that the line of an obstacle names
+abbrev pub NamedAreThere : Machines → List Move → List Points → Obstacle → Type 0
+NamedAreThere m moves points (Stuck node output) = LastIsThere m moves points output
+NamedAreThere m moves points (Spin side cycle) = FirstIsThere points cycle
+NamedAreThere m moves points (Wide at) = IsThere m points at
+NamedAreThere m moves points (Large at) = IsThere m points at
+NamedAreThere m moves points (Exhausted at what) = Unit {0}
+
+abbrev pub LinesNameWhatIsThere : Type 0
+LinesNameWhatIsThere = (m : Machines) → IsSound m.left → IsSound m.right → (moves : List Move) (points : List Points) (o : Obstacle) → StopsAt m moves points o → NamedAreThere m moves points o
 
 -- machines with the same behaviour differ on no candidate
 abbrev pub SameShowNothing : Type 0

@@ -1,11 +1,17 @@
 //! Laws of answers, over the definitions alone. The functions do nothing.
 
-ghost use Rattle.pair_answers.specs.Laws.{OneAnswer, SameShowNothing};
+ghost use Rattle.pair_answers.specs.Laws.{OneAnswer, LinesNameWhatIsThere, SameShowNothing};
 
-/// Two machines have one answer, whatever answers them: one number of nodes, one counterexample, or one line, but for the cycle that it
+/// Two machines have one answer, whatever answers them: one certificate, one counterexample, or one line, but for the cycle that it
 /// names.
 pub fn two_machines_have_one_answer()
     ensures { OneAnswer }
+{}
+
+/// What the line of an obstacle names is there: the output, the node and each path of a move, which is one of its machine from the node's
+/// point by that branch, and the first node of a cycle.
+pub fn lines_name_what_is_there()
+    ensures { LinesNameWhatIsThere }
 {}
 
 /// Machines with the same behaviour differ on no candidate.
