@@ -1,0 +1,9 @@
+mod Symbols
+mod NameTables
+mod Facts
+mod Told
+mod LawfulNodes
+mod Shapes
+mod Contexts
+mod PlainBytes
+mod Readings
