@@ -1,7 +1,7 @@
 -- Equations and literals that make a fact of positions.
 use Rattle.std.proofs.Common.{◌≡◌, ℕ, zero, suc, ◌==◌, Bool, true, false, not, ◌&&◌, cond, refl, ap, sym, subst, ◌∙◌, List, [], ◌∷◌, length, Option, Some, None}
 use Rattle.std.specs.Prelude.{map, set, slice_get, option_map, option_and_then}
-use Rattle.std.specs.List.{list_all, list_any, AllByRecursion}
+use Rattle.std.specs.List.{list_all, AllByRecursion}
 use Rattle.std.proofs.lemmas.List.{length-set}
 use Rattle.std.proofs.lemmas.Bool.{eq-eqb}
 use Rattle.fs_model.specs.declared.parts.Sort.{Sort}
@@ -23,7 +23,7 @@ use Rattle.sym_facts.specs.Parts.{with_equations, equation_within}
 use Rattle.sym_facts.specs.Pairings.{is_position, form_within, literal_within}
 use Rattle.cert_text.specs.declared.names.Places.{Places}
 use Rattle.cert_text.specs.View.{place_in_tables, find_of}
-use Rattle.cert_text.specs.Names.{is_port, is_in_format, place_in, sorted_position, find_in}
+use Rattle.cert_text.specs.Names.{place_in, sorted_position, find_in}
 use Rattle.cert_text.specs.Reading.{unwritten_of, unwritten, sort_at}
 use Rattle.cert_text.specs.Within.{AllFoundPass, FormWithin, LiteralWithin, AreEquationsOf}
 
@@ -46,10 +46,10 @@ among [] k q e = absurd (cc e)
 among (p ∷ ps) zero q e =
     let h : p ≡ q = cc e in
     or_left (same_pos p.pos q.pos && same_sort (sort_of_terms p.sort) (sort_of_terms q.sort)) (is_position ps (sorted_position q))
-        (subst (λ r. (same_pos r.pos q.pos && same_sort (sort_of_terms r.sort) (sort_of_terms q.sort)) ≡ true) (sym h) (and_both (same_pos q.pos q.pos) (same_sort (sort_of_terms q.sort) (sort_of_terms q.sort)) (pos_itself q.pos) (sort_itself (sort_of_terms q.sort))))
+    (subst (λ r. (same_pos r.pos q.pos && same_sort (sort_of_terms r.sort) (sort_of_terms q.sort)) ≡ true) (sym h) (and_both (same_pos q.pos q.pos) (same_sort (sort_of_terms q.sort) (sort_of_terms q.sort)) (pos_itself q.pos) (sort_itself (sort_of_terms q.sort))))
 among (p ∷ ps) (suc k) q e = or_right (same_pos p.pos q.pos && same_sort (sort_of_terms p.sort) (sort_of_terms q.sort)) (is_position ps (sorted_position q)) (among ps k q e)
 
-pub found_pass : (place : Side → List ℕ → Option ℕ) (ps : List Position) (format : ℕ) → AllFoundPass (find_in place ps format) (is_position ps)
+found_pass : (place : Side → List ℕ → Option ℕ) (ps : List Position) (format : ℕ) → AllFoundPass (find_in place ps format) (is_position ps)
 found_pass place ps format s x p e = by_place (place_in place ps format s x) e
   where
     at_place : (k : ℕ) (o : Option Position) → slice_get ps k ≡ o → option_map sorted_position o ≡ Some p → is_position ps p ≡ true
@@ -103,21 +103,21 @@ put_sorts [] fs k f e h = refl
 put_sorts (p ∷ ps) [] k f e h = refl
 put_sorts (p ∷ ps) (g ∷ gs) zero f e h =
     and_both (has_its_sort p.sort (Some f)) (list_all (λ q. has_its_sort q.sort q.equation) (with_equations ps gs))
-        (subst (λ s. same_sort (sort_of_terms p.sort) s ≡ true) (sym e) (sort_itself (sort_of_terms p.sort)))
-        (and_right (has_its_sort p.sort g) (list_all (λ q. has_its_sort q.sort q.equation) (with_equations ps gs)) h)
+    (subst (λ s. same_sort (sort_of_terms p.sort) s ≡ true) (sym e) (sort_itself (sort_of_terms p.sort)))
+    (and_right (has_its_sort p.sort g) (list_all (λ q. has_its_sort q.sort q.equation) (with_equations ps gs)) h)
 put_sorts (p ∷ ps) (g ∷ gs) (suc k) f e h =
     and_both (has_its_sort p.sort g) (list_all (λ q. has_its_sort q.sort q.equation) (with_equations ps (set gs k (Some f))))
-        (and_left (has_its_sort p.sort g) (list_all (λ q. has_its_sort q.sort q.equation) (with_equations ps gs)) h)
-        (put_sorts ps gs k f e (and_right (has_its_sort p.sort g) (list_all (λ q. has_its_sort q.sort q.equation) (with_equations ps gs)) h))
+    (and_left (has_its_sort p.sort g) (list_all (λ q. has_its_sort q.sort q.equation) (with_equations ps gs)) h)
+    (put_sorts ps gs k f e (and_right (has_its_sort p.sort g) (list_all (λ q. has_its_sort q.sort q.equation) (with_equations ps gs)) h))
 
 put_within : (test : Pos × TermSort → Bool) (fs : List (Option Nf)) (k : ℕ) (f : Nf) → form_within test f ≡ true → list_all (equation_within test) fs ≡ true → list_all (equation_within test) (set fs k (Some f)) ≡ true
 put_within test [] k f e h = refl
 put_within test (g ∷ gs) zero f e h = and_both (form_within test f) (list_all (equation_within test) gs) e (and_right (equation_within test g) (list_all (equation_within test) gs) h)
 put_within test (g ∷ gs) (suc k) f e h =
     and_both (equation_within test g) (list_all (equation_within test) (set gs k (Some f))) (and_left (equation_within test g) (list_all (equation_within test) gs) h)
-        (put_within test gs k f e (and_right (equation_within test g) (list_all (equation_within test) gs) h))
+    (put_within test gs k f e (and_right (equation_within test g) (list_all (equation_within test) gs) h))
 
-pub put_fits : (place : Side → List ℕ → Option ℕ) (format : ℕ) (ps : List Position) (fs : List (Option Nf)) (k : ℕ) (f : Nf) → AreEquationsOf ps fs → sort_of_form f ≡ sort_at ps k → FormWithin (find_in place ps format) f
+put_fits : (place : Side → List ℕ → Option ℕ) (format : ℕ) (ps : List Position) (fs : List (Option Nf)) (k : ℕ) (f : Nf) → AreEquationsOf ps fs → sort_of_form f ≡ sort_at ps k → FormWithin (find_in place ps format) f
     → AreEquationsOf ps (set fs k (Some f))
 put_fits place format ps fs k f h e w = record {
   count = length-set fs k (Some f) ∙ h.count;
@@ -127,7 +127,7 @@ put_fits place format ps fs k f h e w = record {
 
 -- ---- literals
 
-pub literals_within : (place : Side → List ℕ → Option ℕ) (format : ℕ) (ps : List Position) (ls : List NormalLiteral) → AllByRecursion (LiteralWithin (find_in place ps format)) ls → list_all (literal_within (is_position ps)) ls ≡ true
+literals_within : (place : Side → List ℕ → Option ℕ) (format : ℕ) (ps : List Position) (ls : List NormalLiteral) → AllByRecursion (LiteralWithin (find_in place ps format)) ls → list_all (literal_within (is_position ps)) ls ≡ true
 literals_within place format ps [] h = refl
 literals_within place format ps (l ∷ ls) h = and_both (literal_within (is_position ps) l) (list_all (literal_within (is_position ps)) ls) (h.0.within (is_position ps) (found_pass place ps format)) (literals_within place format ps ls h.1)
 

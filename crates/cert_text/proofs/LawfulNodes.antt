@@ -1,17 +1,20 @@
 -- One node more, and lawful certificates.
-use Rattle.std.proofs.Common.{◌≡◌, ℕ, ◌≤◌, Bool, true, false, not, ◌&&◌, ◌||◌, refl, ap, sym, ◌∙◌, List, [], ◌∷◌, ◌++◌, length}
-use Rattle.std.specs.Prelude.{nat_le}
+use Rattle.std.proofs.Common.{◌≡◌, ◌≤◌, Bool, true, false, not, ◌&&◌, ◌||◌, refl, ap, sym, subst, ◌∙◌, List, [], ◌∷◌, ◌++◌, length}
+use Rattle.std.specs.Prelude.{nat_le, map}
 use Rattle.std.specs.List.{list_all, list_any, AllByRecursion}
 use Rattle.std.proofs.lemmas.Bool.{le-leb}
+use Rattle.std.proofs.lemmas.List.{map_push}
 use Rattle.fs_model.specs.Machines.{Fsmd}
 use Rattle.fs_cut.specs.Paths.{is_point}
 use Rattle.fs_cut.specs.Covers.{same_point}
 use Rattle.fs_pair.specs.declared.positions.Position.{Position}
 use Rattle.fs_pair.specs.Positions.{positions}
 use Rattle.bisimulation.specs.Tables.{Node}
-use Rattle.nf_terms.proofs.Tests.{and_left, and_right, and_both, not_true}
+use Rattle.nf_terms.proofs.Tests.{and_right, and_both}
 use Rattle.sym_facts.specs.Facts.{Fact}
 use Rattle.sym_facts.specs.Pairings.{IsFactOf}
+use Rattle.certificates.specs.declared.cert.Node.{Node as CodeNode}
+use Rattle.certificates.specs.View.{node_of}
 use Rattle.certificates.specs.Lawful.{IsLawful, points_differ, most_nodes, most_rank}
 use Rattle.cert_text.specs.Points.{is_at}
 use Rattle.cert_text.specs.Within.{IsNodeOf, AreNodesOf}
@@ -42,11 +45,17 @@ differ_last (x ∷ xs) n h e =
     let test : Node Fact → Bool = λ k. same_point x.left k.left && same_point x.right k.right in
     let f : (is_at n.left n.right x ≡ false) × (list_any (is_at n.left n.right) xs ≡ false) = none_in (is_at n.left n.right x) (list_any (is_at n.left n.right) xs) e in
     and_both (not (list_any test (xs ++ n ∷ []))) (points_differ (xs ++ n ∷ [])) (differ_from test xs n (points_differ xs) h f.0)
-        (differ_last xs n (and_right (not (list_any test xs)) (points_differ xs) h) f.1)
+    (differ_last xs n (and_right (not (list_any test xs)) (points_differ xs) h) f.1)
 
 -- a node more, at other points
-pub one_more : (a b : Fsmd) (ps : List Position) (ns : List (Node Fact)) (n : Node Fact) → AreNodesOf a b ps ns → IsNodeOf a b ps n → list_any (is_at n.left n.right) ns ≡ false → AreNodesOf a b ps (ns ++ n ∷ [])
+one_more : (a b : Fsmd) (ps : List Position) (ns : List (Node Fact)) (n : Node Fact) → AreNodesOf a b ps ns → IsNodeOf a b ps n → list_any (is_at n.left n.right) ns ≡ false → AreNodesOf a b ps (ns ++ n ∷ [])
 one_more a b ps ns n h i e = record { each = all_last (IsNodeOf a b ps) ns n h.each i; differ = differ_last ns n h.differ e }
+
+-- the same of nodes of the code
+pub pushed : (a b : Fsmd) (ps : List Position) (xs olds ys : List CodeNode) (x : CodeNode) → xs ≡ olds → ys ≡ olds ++ x ∷ [] → IsNodeOf a b ps (node_of x) → list_any (is_at (node_of x).left (node_of x).right) (map node_of xs) ≡ false
+    → AreNodesOf a b ps (map node_of olds) → AreNodesOf a b ps (map node_of ys)
+pushed a b ps xs olds ys x same e i free h =
+    subst (AreNodesOf a b ps) (sym (ap (map node_of) e ∙ map_push node_of olds x)) (one_more a b ps (map node_of olds) (node_of x) h i (subst (λ zs. list_any (is_at (node_of x).left (node_of x).right) (map node_of zs) ≡ false) same free))
 
 -- nodes of two machines are lawful where they are few
 pub lawful : (a b : Fsmd) (ns : List (Node Fact)) → AreNodesOf a b (positions a b) ns → length ns ≤ most_nodes → IsLawful a b ns

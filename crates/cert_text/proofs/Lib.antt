@@ -5,5 +5,7 @@ mod Told
 mod LawfulNodes
 mod Shapes
 mod Contexts
-mod PlainBytes
+mod NodeLists
 mod Readings
+mod OneWay
+mod Refused

@@ -1,19 +1,26 @@
 -- Tables of names.
-use Rattle.std.proofs.Common.{◌≡◌, ℕ, zero, suc, ◌+◌, ◌<◌, ◌≤◌, Bool, true, false, cond, refl, ap, sym, ◌∙◌, subst, List, [], ◌∷◌, ◌++◌, length, take, get_or, Option, Some, None, arith}
+use Rattle.std.proofs.Common.{◌≡◌, ℕ, zero, suc, ◌+◌, ◌^◌, ◌<◌, ◌≤◌, Bool, true, false, cond, refl, ap, sym, ◌∙◌, subst, List, [], ◌∷◌, ◌++◌, length, take, get_or, Option, Some, None, arith}
 use Rattle.std.specs.Prelude.{map}
 use Rattle.std.specs.Option.{is_some}
 use Rattle.std.specs.Map.{lookup}
 use Rattle.std.specs.Str.{bytes_eq}
 use Rattle.std.proofs.lemmas.Cmp.{nat_list_eq_equiv}
-use Rattle.std.proofs.lemmas.List.{map_push}
-use Rattle.std.proofs.lemmas.Slice.Eq.{bytes_eq-Decides}
+use Rattle.std.proofs.lemmas.List.{map_push, length-map}
 use Rattle.std.proofs.Math.Seq.{take-suc}
 use Rattle.indexmap.specs.IndexMap.{insert_entry}
+use Rattle.fs_model.specs.Limits.{most_states}
 use Rattle.fs_model.specs.Machines.{State, Fsmd}
+use Rattle.fs_rules.specs.Sound.{IsSound}
+use Rattle.fs_pair.specs.declared.positions.Position.{Position}
+use Rattle.fs_pair.specs.SidedVariables.{same_side}
+use Rattle.fs_pair.specs.Paired.{IsPairing}
+use Rattle.nf_terms.specs.declared.tree.Side.{Side}
+use Rattle.sym_facts.specs.Parts.{most_positions}
+use Rattle.sym_facts.proofs.Kept.{few_positions}
 use Rattle.fs_rules.specs.Places.{found}
 use Rattle.fs_rules.proofs.FirstFaults.{found_push}
-use Rattle.fs_ast.specs.Stored.{name_of}
 use Rattle.cert_text.specs.declared.table.NameTable.{NameTable}
+use Rattle.cert_text.specs.Names.{name_of, names_on}
 use Rattle.cert_text.specs.Tables.{number_in, HasFirst}
 
 bytes_sym : (x y : List ℕ) → bytes_eq x y ≡ bytes_eq y x
@@ -46,17 +53,8 @@ module _ {K : Type 0} (seen : K → List ℕ) where
       → lookup (λ e. bytes_eq x (seen e)) new ≡ cond (is_some (lookup (λ e. bytes_eq x (seen e)) es)) (lookup (λ e. bytes_eq x (seen e)) es) (cond (bytes_eq (seen k) x) (Some v) None)
   put_new es new k v absent e x = ap (lookup (λ e. bytes_eq x (seen e))) (e ∙ put_last es k v absent) ∙ found_last es k v x
 
--- a name that is there stays as it is
-pub put_old : (old : List ℕ → Option ℕ) (m : List ℕ) (v : ℕ) → is_some (old m) ≡ true → (n : List ℕ) → old n ≡ cond (is_some (old n)) (old n) (cond (bytes_eq m n) (Some v) None)
-put_old old m v there n = by_value (old n) (bytes_eq m n) (λ t. ap (λ z. is_some (old z)) (sym ((bytes_eq-Decides m n).0 t)) ∙ there)
-  where
-    by_value : (o : Option ℕ) (t : Bool) → (t ≡ true → is_some o ≡ true) → o ≡ cond (is_some o) o (cond t (Some v) None)
-    by_value (Some x) t f = refl
-    by_value None true f = absurd (cc (f refl))
-    by_value None false f = refl
-
 -- one name more of a list
-pub taken : {X Y : Type 0} (f : X → Y) (xs : List X) (k : ℕ) (d : X) → k < length xs → map f (take (suc k) xs) ≡ map f (take k xs) ++ f (get_or xs k d) ∷ []
+taken : {X Y : Type 0} (f : X → Y) (xs : List X) (k : ℕ) (d : X) → k < length xs → map f (take (suc k) xs) ≡ map f (take k xs) ++ f (get_or xs k d) ∷ []
 taken f xs k d h = ap (map f) (take-suc xs k d h) ∙ map_push f (take k xs) (get_or xs k d)
 
 length_taken : {X Y : Type 0} (f : X → Y) (xs : List X) (k : ℕ) → k ≤ length xs → length (map f (take k xs)) ≡ k
@@ -65,27 +63,30 @@ length_taken f [] (suc k) h = absurd (omega arith)
 length_taken f (x ∷ xs) (suc k) h = ap suc (length_taken f xs k (omega arith))
 
 -- the table of one name more
-pub first_more : {K : Type 0} (seen : K → List ℕ) (old new : NameTable) (names : List K) (k : ℕ) (x : K) → k < length names → x ≡ get_or names k x → HasFirst old (map seen (take k names))
-    → ((c : ℕ) (cs : List ℕ) → number_in new (c ∷ cs) ≡ cond (is_some (number_in old (c ∷ cs))) (number_in old (c ∷ cs)) (cond (bytes_eq (seen x) (c ∷ cs)) (Some k) None))
+pub first_more : {K : Type 0} (seen : K → List ℕ) (old new : NameTable) (names : List K) (k : ℕ) (d : K) → k < length names → HasFirst old (map seen (take k names))
+    → ((c : ℕ) (cs : List ℕ) → number_in new (c ∷ cs) ≡ cond (is_some (number_in old (c ∷ cs))) (number_in old (c ∷ cs)) (cond (bytes_eq (seen (get_or names k d)) (c ∷ cs)) (Some k) None))
     → HasFirst new (map seen (take (k + 1) names))
-first_more seen old new names k x low e h put =
+first_more seen old new names k d low h put =
+    let name : List ℕ = seen (get_or names k d) in
     let n : suc k ≡ k + 1 = omega arith in
     let before : List (List ℕ) = map seen (take k names) in
-    let more : map seen (take (suc k) names) ≡ before ++ seen x ∷ [] = taken seen names k x low ∙ ap (λ y. before ++ seen y ∷ []) (sym e) in
+    let more : map seen (take (suc k) names) ≡ before ++ name ∷ [] = taken seen names k d low in
     let many : length before ≡ k = length_taken seen names k (omega (arith, low)) in
     subst (λ j. HasFirst new (map seen (take j names))) n record {
       first = λ c cs.
-          put c cs ∙ ap (λ o. cond (is_some o) o (cond (bytes_eq (seen x) (c ∷ cs)) (Some k) None)) (h.first c cs)
+          put c cs ∙ ap (λ o. cond (is_some o) o (cond (bytes_eq name (c ∷ cs)) (Some k) None)) (h.first c cs)
           ∙ sym
-          (ap (λ ns. found ns (c ∷ cs)) more ∙ found_push before (seen x) (c ∷ cs)
-          ∙ ap (λ j. cond (is_some (found before (c ∷ cs))) (found before (c ∷ cs)) (cond (bytes_eq (seen x) (c ∷ cs)) (Some j) None)) many);
+          (ap (λ ns. found ns (c ∷ cs)) more ∙ found_push before name (c ∷ cs)
+          ∙ ap (λ j. cond (is_some (found before (c ∷ cs))) (found before (c ∷ cs)) (cond (bytes_eq name (c ∷ cs)) (Some j) None)) many);
     }
 
--- the names of one state more
-pub name_more : {K : Type 0} (seen : K → List ℕ) (m : Fsmd) (out new : List K) (b : K) (k : ℕ) → k < length m.states → new ≡ out ++ b ∷ [] → seen b ≡ name_of m k → map seen out ≡ map (λ q. q.name) (take k m.states)
-    → map seen new ≡ map (λ q. q.name) (take (k + 1) m.states)
-name_more seen m out new b k low e g h =
-    let n : suc k ≡ k + 1 = omega arith in
-    subst (λ j. map seen new ≡ map (λ q. q.name) (take j m.states)) n
-        (ap (map seen) e ∙ map_push seen out b ∙ ap (λ xs. xs ++ seen b ∷ []) h ∙ ap (λ x. map (λ q. q.name) (take k m.states) ++ x ∷ []) g
-        ∙ sym (taken (λ (q : State). q.name) m.states k (record { name = []; lines = [] }) low))
+-- ---- few names
+
+pub few_states : {K : Type 0} (seen : K → List ℕ) (m : Fsmd) (names : List K) → IsSound m → map seen names ≡ map (λ q. q.name) m.states → length names ≤ most_states
+few_states seen m names h e = let n : length names ≡ length m.states = sym (length-map names seen) ∙ ap length e ∙ length-map m.states (λ (q : State). q.name) in omega (arith, n, h.few_states)
+
+pub few_names : {K : Type 0} (seen : K → List ℕ) (a b : Fsmd) (side : Side) (ps : List Position) (names : List K) → IsPairing ps → map seen names ≡ names_on a b side ps → length names < 2 ^ 32
+few_names seen a b side ps names h e =
+    let n : length names ≡ length ps = sym (length-map names seen) ∙ ap length e ∙ length-map ps (λ (p : Position). cond (same_side p.pos.side side) (name_of a b p.pos) []) in
+    let few : length ps ≤ most_positions = few_positions ps h in
+    omega (arith, n, few)

@@ -1,15 +1,14 @@
 -- Texts are read in one way.
-use Rattle.std.proofs.Common.{◌≡◌, ℕ, Bool, true, false, cond, List, Option, Some, None, Result, Ok, Err, refl, sym, ap, subst, ◌∙◌}
+use Rattle.std.proofs.Common.{◌≡◌, ℕ, Bool, true, false, cond, List, Option, Some, None, Ok, Err, refl, sym, ap, subst, ◌∙◌}
 use Rattle.std.specs.Prelude.{nat_le, codes, option_and_then}
+use Rattle.std.specs.Option.{option_or}
 use Rattle.std.specs.Str.{bytes_eq}
 use Rattle.nf_terms.specs.Limits.{depth_limit}
 use Rattle.nf_terms.specs.Terms as terms
-use Rattle.nf_terms.specs.Lists.{ListTerm}
 use Rattle.nf_terms.specs.declared.symbols.Sort.{Sort}
 use Rattle.nf_terms.specs.declared.symbols.Sort.TheVariants as sort
-use Rattle.nf_terms.specs.declared.form.Nf.{Nf}
 use Rattle.nf_terms.specs.declared.form.Nf.TheVariants.{Num, Arr, Seq}
-use Rattle.nf_rel.specs.Literals.{NormalLiteral}
+use Rattle.nf_rel.specs.NormalLiterals.{is_normal_literal}
 use Rattle.nf_rel.specs.declared.kind.Kind.{Kind}
 use Rattle.term_text.specs.Texts as text
 use Rattle.term_text.specs.Texts.{Term, polynomial_text, polynomial, array, list}
@@ -27,11 +26,12 @@ use Rattle.term_values.specs.declared.faults.TermError.{TermError}
 use Rattle.term_values.specs.declared.faults.TermError.TheVariants.{BadTerm, NumberTooBig, UnknownName, SortOf, NotNormal, NoMemory}
 use Rattle.term_values.specs.Names.{Find, same_sort}
 use Rattle.term_values.specs.Values.{exact, polynomial_value, array_value, list_value}
-use Rattle.term_values.specs.Conditions.{condition_value}
-use Rattle.term_values.specs.Faults.{sort_of_term, term_fault, condition_fault, IsPolynomialOf, IsArrayOf, IsListOf, HasFault, IsRefused, IsLiteralOf, ConditionHasFault, IsRefusedCondition}
+use Rattle.term_values.specs.Checks.{Test, numbers_fit, names_known, sorts_fit, ones_left_out}
+use Rattle.term_values.specs.Conditions.{condition_value, condition_passes}
+use Rattle.term_values.specs.Faults.{sort_of_term, unless, fault_by, term_passes, stands_normal, term_fault, condition_fault, HasFault, IsRefused, ConditionHasFault, IsRefusedCondition}
 use Rattle.cert_text.proofs.Symbols.{sorts_same}
-use Rattle.cert_text.specs.Texts.{AreRead, Refuses}
-use Rattle.cert_text.specs.Judged.{beginning_of, if_of_sort, term_spelled_by, compared, condition_spelled_by, form_of, unless_fault, term_judged, condition_judged, texts_of}
+use Rattle.cert_text.specs.Texts.{Texts, AreRead, Refuses}
+use Rattle.cert_text.specs.Judged.{beginning_of, if_of_sort, term_spelled_by, compared, condition_spelled_by, form_of, unless_fault, term_judged, condition_judged, texts_by}
 
 -- ---- terms
 
@@ -151,7 +151,8 @@ condition_refused find bytes NotNormal h = condition_has_fault find bytes NotNor
 condition_refused find bytes NoMemory h = tt
 
 -- these functions say of each text what its grammar says
-pub texts_are_read : (find : Find) → AreRead find (texts_of find)
+pub texts_are_read : (find : Find) → AreRead find (texts_by find)
+unfolding texts_by
 texts_are_read find = record {
   polynomial = λ bytes p h. term_read find sort.Scalar bytes (polynomial h.written) refl h.stands.spells h.stands.faultless ∙ ap (λ q. Ok (Num q)) (sym h.value);
   array = λ bytes a h. term_read find sort.Array bytes (array h.written) refl h.stands.spells h.stands.faultless ∙ ap (λ q. Ok (Arr q)) (sym h.value);
@@ -161,3 +162,93 @@ texts_are_read find = record {
       ap (condition_judged find) (condition_again bytes h.written h.spells) ∙ ap (λ o. unless_fault o (condition_value (exact find) h.written)) h.faultless ∙ ap Ok (sym h.value);
   no_condition = condition_refused find;
 }
+
+-- ---- no others do
+
+none_is_some : {X : Type 0} {x : X} → None ≡ Some x → ⊥
+none_is_some e = cc
+
+no_truth : false ≡ true → ⊥
+no_truth e = cc
+
+-- a fault that a term or a condition can have
+abbrev is_fault : TermError → Bool
+is_fault BadTerm = false
+is_fault NumberTooBig = true
+is_fault UnknownName = true
+is_fault SortOf = true
+is_fault NotNormal = true
+is_fault NoMemory = false
+
+abbrev if_any : Option TermError → Bool
+if_any None = true
+if_any (Some e) = is_fault e
+
+either_fault : (a b : Option TermError) → if_any a ≡ true → if_any b ≡ true → if_any (option_or a b) ≡ true
+either_fault None b h g = g
+either_fault (Some e) b h g = h
+
+unless_any : (t : Bool) (e : TermError) → is_fault e ≡ true → if_any (unless t e) ≡ true
+unless_any true e h = refl
+unless_any false e h = h
+
+first_fault : (passes : Test → Bool) (find : Find) (t : Bool) → if_any (option_or (fault_by passes find) (unless t NotNormal)) ≡ true
+first_fault passes find t =
+    let a : Option TermError = unless (passes numbers_fit) NumberTooBig in
+    let b : Option TermError = unless (passes (names_known find)) UnknownName in
+    let c : Option TermError = unless (passes (sorts_fit find)) SortOf in
+    let d : Option TermError = unless (passes ones_left_out) NotNormal in
+    either_fault (fault_by passes find) (unless t NotNormal)
+    (either_fault a (option_or b (option_or c d)) (unless_any (passes numbers_fit) NumberTooBig refl)
+    (either_fault b (option_or c d) (unless_any (passes (names_known find)) UnknownName refl)
+    (either_fault c d (unless_any (passes (sorts_fit find)) SortOf refl) (unless_any (passes ones_left_out) NotNormal refl))))
+    (unless_any t NotNormal refl)
+
+module _ (find : Find) (r : Texts) (h : AreRead find r) where
+  fault_same : (s : Sort) (bytes : List ℕ) (e : TermError) → is_fault e ≡ true → HasFault find s bytes e → r.term s bytes ≡ Err e
+  fault_same s bytes BadTerm f i = absurd (no_truth f)
+  fault_same s bytes NumberTooBig f i = h.no_term s bytes NumberTooBig i
+  fault_same s bytes UnknownName f i = h.no_term s bytes UnknownName i
+  fault_same s bytes SortOf f i = h.no_term s bytes SortOf i
+  fault_same s bytes NotNormal f i = h.no_term s bytes NotNormal i
+  fault_same s bytes NoMemory f i = absurd (no_truth f)
+
+  value_same : (bytes : List ℕ) (t : Term) → Spells bytes t → term_fault find t ≡ None → r.term (sort_of_term t) bytes ≡ Ok (form_of find t)
+  value_same bytes (polynomial p) i f = h.polynomial bytes (polynomial_value (exact find) p) (record { written = p; stands = record { spells = i; faultless = f }; value = refl })
+  value_same bytes (array a) i f = h.array bytes (array_value (exact find) a terms.NoWrites) (record { written = a; stands = record { spells = i; faultless = f }; value = refl })
+  value_same bytes (list l) i f = h.list bytes (list_value (exact find) l) (record { written = l; stands = record { spells = i; faultless = f }; value = refl })
+
+  term_same : (s : Sort) (bytes : List ℕ) → r.term s bytes ≡ term_judged find (term_spelled_by s bytes)
+  term_same s bytes = by_term (term_spelled_by s bytes) refl
+    where
+      by_fault : (t : Term) → sort_of_term t ≡ s → Spells bytes t → (o : Option TermError) → term_fault find t ≡ o → if_any o ≡ true → r.term s bytes ≡ unless_fault o (form_of find t)
+      by_fault t e i None f g = subst (λ q. r.term q bytes ≡ Ok (form_of find t)) e (value_same bytes t i f)
+      by_fault t e i (Some x) f g = fault_same s bytes x g (record { term = t; sort_is = e; spells = i; first = f })
+
+      by_term : (o : Option Term) → term_spelled_by s bytes ≡ o → r.term s bytes ≡ term_judged find o
+      by_term None e = h.no_term s bytes BadTerm (λ t f i. let g : None ≡ Some t = sym e ∙ again_as s bytes t f i in absurd (none_is_some g))
+      by_term (Some t) e = let x = only s bytes t e in by_fault t x.0 x.1 (term_fault find t) refl (first_fault (λ test. term_passes test t) find (stands_normal (exact find) t))
+
+  condition_fault_same : (bytes : List ℕ) (e : TermError) → is_fault e ≡ true → ConditionHasFault find bytes e → r.condition bytes ≡ Err e
+  condition_fault_same bytes BadTerm f i = absurd (no_truth f)
+  condition_fault_same bytes NumberTooBig f i = h.no_condition bytes NumberTooBig i
+  condition_fault_same bytes UnknownName f i = h.no_condition bytes UnknownName i
+  condition_fault_same bytes SortOf f i = h.no_condition bytes SortOf i
+  condition_fault_same bytes NotNormal f i = h.no_condition bytes NotNormal i
+  condition_fault_same bytes NoMemory f i = absurd (no_truth f)
+
+  condition_same : (bytes : List ℕ) → r.condition bytes ≡ condition_judged find (condition_spelled_by bytes)
+  condition_same bytes = by_condition (condition_spelled_by bytes) refl
+    where
+      by_fault : (c : Condition) → conditions.Spells bytes c → (o : Option TermError) → condition_fault find c ≡ o → if_any o ≡ true → r.condition bytes ≡ unless_fault o (condition_value (exact find) c)
+      by_fault c i None f g = h.condition bytes (condition_value (exact find) c) (record { written = c; spells = i; faultless = f; value = refl })
+      by_fault c i (Some x) f g = condition_fault_same bytes x g (record { written = c; spells = i; first = f })
+
+      by_condition : (o : Option Condition) → condition_spelled_by bytes ≡ o → r.condition bytes ≡ condition_judged find o
+      by_condition None e = h.no_condition bytes BadTerm (λ c i. let g : None ≡ Some c = sym e ∙ condition_again bytes c i in absurd (none_is_some g))
+      by_condition (Some c) e = by_fault c (condition_only bytes c e) (condition_fault find c) refl (first_fault (λ test. condition_passes test c) find (is_normal_literal (condition_value (exact find) c)))
+
+  -- functions that say what the grammar says are these
+  pub only_texts : r ≡ texts_by find
+  unfolding texts_by
+  only_texts = λ k. record { term = λ s bytes. term_same s bytes k; condition = λ bytes. condition_same bytes k }

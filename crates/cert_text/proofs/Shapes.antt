@@ -1,6 +1,6 @@
 -- What the form of a certificate says of its numbers.
-use Rattle.std.proofs.Common.{◌≡◌, ℕ, ◌≤◌, Bool, true, false, ◌&&◌, ◌||◌, Option, Some, None, refl, sym, ap, subst, List, length, arith}
-use Rattle.std.specs.Prelude.{nat_le, option_and_then, codes}
+use Rattle.std.proofs.Common.{◌≡◌, ℕ, ◌≤◌, Bool, true, false, ◌&&◌, ◌||◌, Option, Some, None, refl, ap, List, length, arith}
+use Rattle.std.specs.Prelude.{option_and_then, codes}
 use Rattle.std.proofs.lemmas.Bool.{leb-true, ltb-false}
 use Rattle.serde_json.specs.Data.{Data, Items}
 use Rattle.serde_json.specs.Events.{items_len}
@@ -22,8 +22,8 @@ rank_low d h =
     let rank : Bool = is_within 4096 (whole (get (codes "rank") d)) in
     let right : Bool = is_text (get (codes "right") d) in
     let front : Bool =
-        has 6 d && is_list_of_texts (option_and_then as_array (get (codes "conds") d)) && is_map_of_texts (option_and_then as_object (get (codes "equations") d)) && is_text (get (codes "left") d)
-        && is_mode (option_and_then as_str (get (codes "mode") d)) in
+    has 6 d && is_list_of_texts (option_and_then as_array (get (codes "conds") d)) && is_map_of_texts (option_and_then as_object (get (codes "equations") d)) && is_text (get (codes "left") d)
+    && is_mode (option_and_then as_str (get (codes "mode") d)) in
     low (whole (get (codes "rank") d)) (and_right front rank (and_left (front && rank) right h))
 
 neither : (a b : Bool) → (a || b) ≡ false → (a ≡ false) × (b ≡ false)

@@ -1,6 +1,5 @@
 -- What a faultless text stands for has symbols that its names stand for.
-use Rattle.std.proofs.Common.{◌≡◌, ℕ, Bool, true, false, ◌&&◌, cond, refl, ap, sym, subst, List, [], ◌∷◌, ◌++◌, Option, Some, None}
-use Rattle.std.specs.Prelude.{map}
+use Rattle.std.proofs.Common.{◌≡◌, ℕ, Bool, true, false, ◌&&◌, refl, sym, subst, List, [], ◌∷◌, ◌++◌, Option, Some, None}
 use Rattle.std.specs.List.{list_all}
 use Rattle.std.specs.Option.{option_or}
 use Rattle.nf_terms.specs.declared.tree.Side.{Side}
@@ -16,17 +15,17 @@ use Rattle.nf_symbols.proofs.Passing.{together}
 use Rattle.nf_rel.specs.NormalLiterals.{is_normal_literal}
 use Rattle.nf_rel.specs.Literals.{NormalLiteral}
 use Rattle.sym_facts.specs.Facts.{may_be_kept}
-use Rattle.sym_facts.specs.Pairings.{form_within, literal_within}
+use Rattle.sym_facts.specs.Pairings.{literal_within}
 use Rattle.term_text.specs.Texts as text
 use Rattle.term_text.specs.Texts.{Symbol, Read, Quotient, Remainder, Number, One, Times, Positive, Negative, Plus, Minus, Zero, Of, ZeroArray, Bare, Written, EmptyList, BareList, Pushed, polynomial, array, list}
 use Rattle.condition_text.specs.Texts.{Condition, False, Compared}
 use Rattle.term_values.specs.declared.faults.TermError.{TermError}
-use Rattle.term_values.specs.declared.faults.TermError.TheVariants.{BadTerm, NumberTooBig, UnknownName, SortOf, NotNormal, NoMemory}
+use Rattle.term_values.specs.declared.faults.TermError.TheVariants.{NumberTooBig, UnknownName, SortOf, NotNormal}
 use Rattle.term_values.specs.Names.{Find, place_in, position, same_sort, has_sort}
 use Rattle.term_values.specs.Values.{exact, atom_value, atoms_of, sum_value, polynomial_value, array_value, items_of, list_value}
 use Rattle.term_values.specs.Checks.{Test, numbers_fit, names_known, sorts_fit, ones_left_out, atom_passes, monomial_passes, factor_passes, sum_passes, polynomial_passes, array_passes, list_passes}
 use Rattle.term_values.specs.Conditions.{condition_value, condition_passes, integer_passes}
-use Rattle.term_values.specs.Faults.{unless, fault_by, term_passes, stands_normal, condition_fault, IsPolynomialOf, IsArrayOf, IsListOf, IsLiteralOf}
+use Rattle.term_values.specs.Faults.{unless, fault_by, term_passes, stands_normal, IsPolynomialOf, IsArrayOf, IsListOf, IsLiteralOf}
 use Rattle.cert_text.specs.Within.{AllFoundPass, FormWithin, LiteralWithin}
 
 -- ---- tests that a faultless text passes
@@ -94,18 +93,17 @@ module _ (find : Find) (test : Pos × Sort → Bool) (all : AllFoundPass find te
         let t : Test = sorts_fit find in
         let front : (monomial_passes t m && factor_passes t m) ≡ true = and_left (monomial_passes t m && factor_passes t m) (atom_passes t a) h in
         monomial_in m (terms.Times (atom_value (exact find) a) rest) (and_left (monomial_passes t m) (factor_passes t m) front)
-            (together test (symbols_of_atom (atom_value (exact find) a)) (symbols_of_monomial rest) (atom_in a (and_right (monomial_passes t m && factor_passes t m) (atom_passes t a) h)) r)
-
-    -- a last monomial, before others
-    last_in : (m : text.Monomial) (rest : terms.Polynomial) → monomial_passes (sorts_fit find) m ≡ true → list_all test (symbols_of rest) ≡ true
-        → list_all test (symbols_of_monomial (atoms_of (exact find) m terms.One) ++ symbols_of rest) ≡ true
-    last_in m rest h r = together test (symbols_of_monomial (atoms_of (exact find) m terms.One)) (symbols_of rest) (monomial_in m terms.One h refl) r
+        (together test (symbols_of_atom (atom_value (exact find) a)) (symbols_of_monomial rest) (atom_in a (and_right (monomial_passes t m && factor_passes t m) (atom_passes t a) h)) r)
 
     sum_in : (s : text.Sum) (rest : terms.Polynomial) → sum_passes (sorts_fit find) s ≡ true → list_all test (symbols_of rest) ≡ true → list_all test (symbols_of (sum_value (exact find) s rest)) ≡ true
-    sum_in (Positive m) rest h r = last_in m rest h r
-    sum_in (Negative m) rest h r = last_in m rest h r
-    sum_in (Plus s m) rest h r = sum_in s _ (and_left (sum_passes (sorts_fit find) s) (monomial_passes (sorts_fit find) m) h) (last_in m rest (and_right (sum_passes (sorts_fit find) s) (monomial_passes (sorts_fit find) m) h) r)
-    sum_in (Minus s m) rest h r = sum_in s _ (and_left (sum_passes (sorts_fit find) s) (monomial_passes (sorts_fit find) m) h) (last_in m rest (and_right (sum_passes (sorts_fit find) s) (monomial_passes (sorts_fit find) m) h) r)
+    sum_in (Positive m) rest h r = together test (symbols_of_monomial (atoms_of (exact find) m terms.One)) (symbols_of rest) (monomial_in m terms.One h refl) r
+    sum_in (Negative m) rest h r = together test (symbols_of_monomial (atoms_of (exact find) m terms.One)) (symbols_of rest) (monomial_in m terms.One h refl) r
+    sum_in (Plus s m) rest h r =
+        sum_in s _ (and_left (sum_passes (sorts_fit find) s) (monomial_passes (sorts_fit find) m) h)
+        (together test (symbols_of_monomial (atoms_of (exact find) m terms.One)) (symbols_of rest) (monomial_in m terms.One (and_right (sum_passes (sorts_fit find) s) (monomial_passes (sorts_fit find) m) h) refl) r)
+    sum_in (Minus s m) rest h r =
+        sum_in s _ (and_left (sum_passes (sorts_fit find) s) (monomial_passes (sorts_fit find) m) h)
+        (together test (symbols_of_monomial (atoms_of (exact find) m terms.One)) (symbols_of rest) (monomial_in m terms.One (and_right (sum_passes (sorts_fit find) s) (monomial_passes (sorts_fit find) m) h) refl) r)
 
     polynomial_in : (p : text.Polynomial) → polynomial_passes (sorts_fit find) p ≡ true → list_all test (symbols_of (polynomial_value (exact find) p)) ≡ true
     polynomial_in Zero h = refl
@@ -118,9 +116,9 @@ module _ (find : Find) (test : Pos × Sort → Bool) (all : AllFoundPass find te
         let t : Test = sorts_fit find in
         let front : (array_passes t a && polynomial_passes t i) ≡ true = and_left (array_passes t a && polynomial_passes t i) (polynomial_passes t v) h in
         array_in a (terms.Write (polynomial_value (exact find) i) (polynomial_value (exact find) v) ws) (and_left (array_passes t a) (polynomial_passes t i) front)
-            (together test (symbols_of (polynomial_value (exact find) i)) (symbols_of (polynomial_value (exact find) v) ++ symbols_of_writes ws)
-            (polynomial_in i (and_right (array_passes t a) (polynomial_passes t i) front))
-            (together test (symbols_of (polynomial_value (exact find) v)) (symbols_of_writes ws) (polynomial_in v (and_right (array_passes t a && polynomial_passes t i) (polynomial_passes t v) h)) r))
+        (together test (symbols_of (polynomial_value (exact find) i)) (symbols_of (polynomial_value (exact find) v) ++ symbols_of_writes ws)
+        (polynomial_in i (and_right (array_passes t a) (polynomial_passes t i) front))
+        (together test (symbols_of (polynomial_value (exact find) v)) (symbols_of_writes ws) (polynomial_in v (and_right (array_passes t a && polynomial_passes t i) (polynomial_passes t v) h)) r))
 
   items_in : (l : text.ListTerm) (rest : List terms.Polynomial) → list_passes (sorts_fit find) l ≡ true → list_all test (symbols_of_items rest) ≡ true → list_all test (symbols_of_list (record { base = (list_value (exact find) l).base; items = items_of (exact find) l rest })) ≡ true
   items_in EmptyList rest h r = r

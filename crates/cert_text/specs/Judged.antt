@@ -1,5 +1,5 @@
 -- Functions that say what texts stand for.
-use Rattle.std.specs.Prelude.{ℕ, nat_le, Bool, cond, List, Option, Some, None, option_map, option_and_then, Result, Ok, Err, codes}
+use Rattle.std.specs.Prelude.{ℕ, nat_le, cond, List, Option, Some, None, option_and_then, Result, Ok, Err, codes}
 use Rattle.std.specs.Str.{bytes_eq}
 use Rattle.nf_terms.specs.Limits.{depth_limit}
 use Rattle.nf_terms.specs.Terms as terms
@@ -67,8 +67,9 @@ abbrev pub condition_judged : Find → Option Condition → Result NormalLiteral
 condition_judged find None = Err BadTerm
 condition_judged find (Some c) = unless_fault (condition_fault find c) (condition_value (exact find) c)
 
-abbrev pub texts_of : Find → Texts
-texts_of find = record {
+-- what texts stand for, by their grammar
+unfoldable pub texts_by : Find → Texts
+texts_by find = record {
   term = λ s bytes. term_judged find (term_spelled_by s bytes);
   condition = λ bytes. condition_judged find (condition_spelled_by bytes);
 }

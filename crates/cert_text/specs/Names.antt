@@ -1,6 +1,5 @@
 -- What the names of a certificate stand for.
 use Rattle.std.specs.Prelude.{ℕ, ◌==◌, Bool, true, false, not, ◌&&◌, cond, List, [], ◌∷◌, map, Option, Some, None, slice_get, option_and_then, option_map}
-use Rattle.std.specs.List.{slice_index_or}
 use Rattle.fs_model.specs.declared.parts.Sort.{Sort}
 use Rattle.fs_model.specs.declared.parts.Sort.TheVariants as sort
 use Rattle.fs_model.specs.declared.parts.VarInfo.{VarInfo}

@@ -43,7 +43,7 @@ pub record States : Type 0 where
   pub right : List ℕ → Option ℕ
 
 -- the points of node i behind others: first both are known, then both are points, then no other node stands there
-abbrev pub points_read : ℕ → States → List (Node Fact) → (left right : List ℕ) → Result (Point × Point) CertError
+unfoldable pub points_read : ℕ → States → List (Node Fact) → (left right : List ℕ) → Result (Point × Point) CertError
 points_read i s earlier left right =
     after (known_point i (point_named s.left left)) (λ P.
     after (known_point i (point_named s.right right)) (λ Q.

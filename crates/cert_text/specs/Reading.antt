@@ -69,10 +69,13 @@ equation_read c i e =
     after (known_place i (place_by_key (place_in c.place c.positions c.format) e.0)) (λ k.
     after (text_read i (c.texts.term (sort_at c.positions k) e.1)) (λ f. Ok (k, f)))
 
--- equations in order, each put at its place among those before
+-- an equation, put at its place among those before
+abbrev pub equation_put : Terms → ℕ → List (Option Nf) → List ℕ × List ℕ → Result (List (Option Nf)) CertError
+equation_put c i fs e = after (equation_read c i e) (λ x. Ok (set fs x.0 (Some x.1)))
+
 abbrev pub equations_read : Terms → ℕ → List (Option Nf) → List (List ℕ × List ℕ) → Result (List (Option Nf)) CertError
 equations_read c i fs [] = Ok fs
-equations_read c i fs (e ∷ es) = after (equation_read c i e) (λ x. equations_read c i (set fs x.0 (Some x.1)) es)
+equations_read c i fs (e ∷ es) = after (equation_put c i fs e) (λ gs. equations_read c i gs es)
 
 -- the equation of a position without key: none, and of a port in format 1 the empty list
 abbrev pub unwritten_of : ℕ → Sort → Option Nf
@@ -99,18 +102,22 @@ abbrev pub mode_named : List ℕ → Mode
 mode_named s = cond (bytes_eq s (codes "both")) mode.Both (cond (bytes_eq s (codes "left")) mode.Left (cond (bytes_eq s (codes "right")) mode.Right mode.End))
 
 -- the fact of node i: its equations, then its conditions, and then whether it is solved
-abbrev pub node_fact : Terms → ℕ → NodeText → Result Fact CertError
+unfoldable pub node_fact : Terms → ℕ → NodeText → Result Fact CertError
 node_fact c i n =
     after (equations_read c i (map (unwritten c.format) c.positions) n.equations) (λ fs.
     after (conditions_read c i [] n.conds) (λ ls. fact_read c i fs ls))
 
 -- node i behind others: first its points, then its fact
-abbrev pub node_read : Context → ℕ → List (Node Fact) → NodeText → Result (Node Fact) CertError
+unfoldable pub node_read : Context → ℕ → List (Node Fact) → NodeText → Result (Node Fact) CertError
 node_read c i earlier n =
     after (points_read i c.states earlier n.left n.right) (λ P.
     after (node_fact c.terms i n) (λ f. Ok (record { left = P.0; right = P.1; mode = mode_named n.mode; rank = n.rank; fact = f })))
 
+-- others with node i behind them
+abbrev pub node_added : Context → ℕ → List (Node Fact) → NodeText → Result (List (Node Fact)) CertError
+node_added c i earlier n = after (node_read c i earlier n) (λ m. Ok (earlier ++ m ∷ []))
+
 -- nodes in order, numbered from i, behind those before
 abbrev pub nodes_read : Context → ℕ → List (Node Fact) → List NodeText → Result (List (Node Fact)) CertError
 nodes_read c i earlier [] = Ok earlier
-nodes_read c i earlier (n ∷ ns) = after (node_read c i earlier n) (λ m. nodes_read c (i + 1) (earlier ++ m ∷ []) ns)
+nodes_read c i earlier (n ∷ ns) = after (node_added c i earlier n) (λ ms. nodes_read c (i + 1) ms ns)

@@ -7,7 +7,7 @@ use Rattle.cert_text.specs.declared.context.Context.{Context as CodeContext}
 use Rattle.cert_text.specs.declared.names.Places.{Places}
 use Rattle.cert_text.specs.Names.{find_in}
 use Rattle.cert_text.specs.Points.{States}
-use Rattle.cert_text.specs.Texts.{Texts}
+use Rattle.cert_text.specs.Judged.{texts_by}
 use Rattle.cert_text.specs.Reading.{Terms, Context}
 use Rattle.cert_text.specs.Tables.{number_in}
 
@@ -22,8 +22,8 @@ find_of t = find_in (place_in_tables t) t.positions.now t.format
 abbrev pub states_in : CodeContext → States
 states_in c = record { a = c.a.now; b = c.b.now; left = number_in c.left_states; right = number_in c.right_states }
 
-abbrev pub terms_in : Places → Texts → Terms
-terms_in t r = record { place = place_in_tables t; positions = t.positions.now; format = t.format; texts = r }
+abbrev pub terms_in : Places → Terms
+terms_in t = record { place = place_in_tables t; positions = t.positions.now; format = t.format; texts = texts_by (find_of t) }
 
-abbrev pub context_in : CodeContext → Texts → Context
-context_in c r = record { states = states_in c; terms = terms_in c.places r }
+abbrev pub context_in : CodeContext → Context
+context_in c = record { states = states_in c; terms = terms_in c.places }

@@ -10,9 +10,8 @@ ghost use Rattle.cert_text.specs.Parts.{texts_of, named_texts_of};
 ghost use Rattle.cert_text.specs.Names.{place_in, place_by_key};
 ghost use Rattle.cert_text.specs.Answers.{Tells};
 ghost use Rattle.cert_text.specs.Points.{after};
-ghost use Rattle.cert_text.specs.Reading.{known_place as known, unwritten as unwritten_at, unwritten_of, sort_at as sort_of_place, equation_read, equations_read, conditions_read};
+ghost use Rattle.cert_text.specs.Reading.{known_place as known, unwritten as unwritten_at, unwritten_of, sort_at as sort_of_place, equation_read, equation_put, equations_read, conditions_read};
 ghost use Rattle.cert_text.specs.View.{place_in_tables, find_of, terms_in};
-ghost use Rattle.cert_text.specs.Texts.{Texts, AreRead};
 ghost use Rattle.cert_text.specs.Within.{FormWithin, LiteralWithin, AreEquationsOf};
 
 use crate::faults::{CertError, Stop};
@@ -85,7 +84,7 @@ fn read_equation(
     key: &[u8],
     text: &[u8],
 ) -> Result<(u32, Nf), Stop>
-    ensures told { (r : Texts) → AreRead (find_of places.now) r → Tells (λ x. x) result (equation_read (terms_in places.now r) node (key.now, text.now)) }
+    ensures told { Tells (λ x. x) result (equation_read (terms_in places.now) node (key.now, text.now)) }
     ensures in_range { IfOk result (λ x. x.0 < length places.now.positions.now) }
     ensures sort { IfOk result (λ x. sort_of_form x.1 ≡ sort_of_place places.now.positions.now x.0) }
     ensures within { IfOk result (λ x. FormWithin (find_of places.now) x.1) }
@@ -106,7 +105,7 @@ fn put_equation(
     forms: &mut Vec<Option<Nf>>,
 ) -> Result<(), Stop>
     requires { AreEquationsOf places.now.positions.now forms.old.items }
-    ensures told { (r : Texts) → AreRead (find_of places.now) r → Tells (λ _. forms.new.items) result (after (equation_read (terms_in places.now r) node (key.now, text.now)) (λ x. Ok (set forms.old.items x.0 (Some x.1)))) }
+    ensures told { Tells (λ _. forms.new.items) result (equation_put (terms_in places.now) node forms.old.items (key.now, text.now)) }
     ensures kept { OnOk result (AreEquationsOf places.now.positions.now forms.new.items) }
 {
     let (place, form) = read_equation(alloc, places, node, key, text)?;
@@ -123,7 +122,7 @@ pub fn put_equations(
     forms: &mut Vec<Option<Nf>>,
 ) -> Result<(), Stop>
     requires { AreEquationsOf places.now.positions.now forms.old.items }
-    ensures told { (r : Texts) → AreRead (find_of places.now) r → Tells (λ _. forms.new.items) result (equations_read (terms_in places.now r) node forms.old.items (named_texts_of (members_view members.now.entries))) }
+    ensures told { Tells (λ _. forms.new.items) result (equations_read (terms_in places.now) node forms.old.items (named_texts_of (members_view members.now.entries))) }
     ensures kept { OnOk result (AreEquationsOf places.now.positions.now forms.new.items) }
 {
     for (key, value) in members.iter() {
@@ -146,7 +145,7 @@ pub fn read_conditions(
     node: u32,
     items: &[Value],
 ) -> Result<Vec<NLit>, Stop>
-    ensures told { (r : Texts) → AreRead (find_of places.now) r → Tells (λ ls. map literal_in ls.items) result (conditions_read (terms_in places.now r) node [] (texts_of (items_view items.now))) }
+    ensures told { Tells (λ ls. map literal_in ls.items) result (conditions_read (terms_in places.now) node [] (texts_of (items_view items.now))) }
     ensures count { IfOk result (λ ls. length ls.items ≡ length items.now) }
     ensures kept { IfOk result (λ ls. IsTrue (list_all may_be_kept (map literal_in ls.items))) }
     ensures within { IfOk result (λ ls. AllByRecursion (LiteralWithin (find_of places.now)) (map literal_in ls.items)) }

@@ -1,6 +1,7 @@
 //! What the names of a certificate stand for.
 
-ghost use Rattle.std.specs.Prelude.{◌≡◌, ◌<◌, length, map, IfOk, IfSome};
+ghost use Rattle.std.specs.Prelude.{◌≡◌, ◌<◌, ◌≤◌, length, map, IfOk, IfSome};
+ghost use Rattle.fs_model.specs.Limits.{most_states};
 ghost use Rattle.fs_pair.specs.Partners.{variables_on as variables_of};
 ghost use Rattle.sym_facts.specs.Facts.{sort_of_terms as sort_for_terms};
 ghost use Rattle.cert_text.specs.Names.{is_in_format as in_format, names_on as names_of, name_of, state_names as names_of_states, place_in, place_by_key, find_in};
@@ -137,8 +138,10 @@ pub fn names_on<'a>(
 }
 
 /// The names of states. The one refusal is out of memory.
+#[tactic(auto, using(crate::proofs::NameTables::few_states))]
 pub fn state_names<'a>(alloc: Global, m: &'a Machine) -> Result<Vec<&'a [u8]>, NoMemory>
-    ensures { IfOk result (λ out. map (λ n. n.now) out.items ≡ names_of_states m.now) }
+    ensures same { IfOk result (λ out. map (λ n. n.now) out.items ≡ names_of_states m.now) }
+    ensures few { IfOk result (λ out. length out.items ≤ most_states) }
 {
     let mut out = Vec::new(alloc);
     for state in 0..m.state_count() {

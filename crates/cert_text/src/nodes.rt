@@ -12,9 +12,8 @@ ghost use Rattle.certificates.specs.View.{node_of};
 ghost use Rattle.cert_text.specs.Parts.{number_at as number_under, equations_in, node_text, node_texts};
 ghost use Rattle.cert_text.specs.Answers.{Tells};
 ghost use Rattle.cert_text.specs.Points.{after, is_at};
-ghost use Rattle.cert_text.specs.Reading.{mode_named as mode_of, unwritten, equations_read, fact_read, node_fact, node_read, nodes_read};
+ghost use Rattle.cert_text.specs.Reading.{mode_named as mode_of, unwritten, equations_read, fact_read, node_fact, node_read, node_added, nodes_read};
 ghost use Rattle.cert_text.specs.View.{find_of, terms_in, context_in};
-ghost use Rattle.cert_text.specs.Texts.{Texts, AreRead};
 ghost use Rattle.cert_text.specs.Within.{LiteralWithin, AreEquationsOf, IsNodeOf, AreNodesOf};
 
 use crate::context::Context;
@@ -53,7 +52,7 @@ fn read_equations(
     node: u32,
     value: &Value,
 ) -> Result<Vec<Option<Nf>>, Stop>
-    ensures told { (r : Texts) → AreRead (find_of c.now.places) r → Tells (λ fs. fs.items) result (equations_read (terms_in c.now.places r) node (map (unwritten c.now.places.format) c.now.places.positions.now) (equations_in (view value.now))) }
+    ensures told { Tells (λ fs. fs.items) result (equations_read (terms_in c.now.places) node (map (unwritten c.now.places.format) c.now.places.positions.now) (equations_in (view value.now))) }
     ensures kept { IfOk result (λ fs. AreEquationsOf c.now.places.positions.now fs.items) }
 {
     let mut forms = all_unwritten(alloc, c.places.format, c.places.positions)?;
@@ -77,7 +76,7 @@ fn solved_fact(
     requires few { length conds.items ≤ most_literals }
     requires kept { IsTrue (list_all may_be_kept (map literal_in conds.items)) }
     requires within { AllByRecursion (LiteralWithin (find_of c.now.places)) (map literal_in conds.items) }
-    ensures told { (r : Texts) → AreRead (find_of c.now.places) r → Tells (λ f. f) result (fact_read (terms_in c.now.places r) node forms.items (map literal_in conds.items)) }
+    ensures told { Tells (λ f. f) result (fact_read (terms_in c.now.places) node forms.items (map literal_in conds.items)) }
     ensures of { IfOk result (λ f. IsFactOf c.now.places.positions.now f) }
 {
     match Fact::new(alloc, c.pairing, forms, conds) {
@@ -90,11 +89,11 @@ fn solved_fact(
 }
 
 // The fact of a node.
-#[tactic(auto, using(crate::proofs::Shapes::conds_few))]
+#[tactic(auto, using(crate::proofs::Shapes::conds_few), unfolding(crate::specs::Reading::node_fact))]
 fn read_fact(alloc: Global, c: &Context<'_>, node: u32, value: &Value) -> Result<Fact, Stop>
     requires pairing { c.now.pairing.now ≡ c.now.places.positions.now }
     requires few { has_many_conditions (view value.now) ≡ false }
-    ensures told { (r : Texts) → AreRead (find_of c.now.places) r → Tells (λ f. f) result (node_fact (terms_in c.now.places r) node (node_text (view value.now))) }
+    ensures told { Tells (λ f. f) result (node_fact (terms_in c.now.places) node (node_text (view value.now))) }
     ensures of { IfOk result (λ f. IsFactOf c.now.places.positions.now f) }
 {
     let forms = read_equations(alloc, c, node, value)?;
@@ -113,6 +112,7 @@ fn rank_of(value: &Value) -> u32
 }
 
 // A node behind earlier ones.
+#[tactic(auto, unfolding(crate::specs::Reading::node_read))]
 fn read_node(
     alloc: Global,
     c: &Context<'_>,
@@ -123,7 +123,7 @@ fn read_node(
     requires pairing { c.now.pairing.now ≡ c.now.places.positions.now }
     requires shape { is_node (view value.now) ≡ true }
     requires few { has_many_conditions (view value.now) ≡ false }
-    ensures told { (r : Texts) → AreRead (find_of c.now.places) r → Tells node_of result (node_read (context_in c.now r) node (map node_of earlier.now) (node_text (view value.now))) }
+    ensures told { Tells node_of result (node_read (context_in c.now) node (map node_of earlier.now) (node_text (view value.now))) }
     ensures free { IfOk result (λ n. list_any (is_at (node_of n).left (node_of n).right) (map node_of earlier.now) ≡ false) }
     ensures of { IfOk result (λ n. IsNodeOf c.now.a.now c.now.b.now c.now.places.positions.now (node_of n)) }
 {
@@ -145,7 +145,6 @@ fn read_node(
 }
 
 // Adds a node to earlier ones.
-#[tactic(auto, using(crate::proofs::LawfulNodes::one_more))]
 fn push_node(
     alloc: Global,
     c: &Context<'_>,
@@ -156,7 +155,7 @@ fn push_node(
     requires pairing { c.now.pairing.now ≡ c.now.places.positions.now }
     requires shape { is_node (view value.now) ≡ true }
     requires few { has_many_conditions (view value.now) ≡ false }
-    ensures told { (r : Texts) → AreRead (find_of c.now.places) r → Tells (λ _. map node_of nodes.new.items) result (after (node_read (context_in c.now r) node (map node_of nodes.old.items) (node_text (view value.now))) (λ n. Ok (map node_of nodes.old.items ++ n ∷ []))) }
+    ensures told { Tells (λ _. map node_of nodes.new.items) result (node_added (context_in c.now) node (map node_of nodes.old.items) (node_text (view value.now))) }
     ensures lawful { OnOk result (AreNodesOf c.now.a.now c.now.b.now c.now.places.positions.now (map node_of nodes.old.items) → AreNodesOf c.now.a.now c.now.b.now c.now.places.positions.now (map node_of nodes.new.items)) }
     ensures count { OnOk result (length nodes.new.items ≡ length nodes.old.items + 1) }
 {
@@ -171,7 +170,7 @@ pub fn read_nodes(alloc: Global, c: &Context<'_>, values: &[Value]) -> Result<Ve
     requires shape { are_nodes (items_view values.now) ≡ true }
     requires few { some_has_many (items_view values.now) ≡ false }
     requires count { length values.now ≤ most_nodes }
-    ensures told { (r : Texts) → AreRead (find_of c.now.places) r → Tells (λ ns. map node_of ns.items) result (nodes_read (context_in c.now r) 0 [] (node_texts (items_view values.now))) }
+    ensures told { Tells (λ ns. map node_of ns.items) result (nodes_read (context_in c.now) 0 [] (node_texts (items_view values.now))) }
     ensures of { IfOk result (λ ns. AreNodesOf c.now.a.now c.now.b.now c.now.places.positions.now (map node_of ns.items)) }
     ensures count { IfOk result (λ ns. length ns.items ≡ length values.now) }
 {

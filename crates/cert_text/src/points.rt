@@ -52,9 +52,7 @@ fn is_cut(m: &Machine, point: Point) -> bool
     match point {
         Point::Start | Point::Done => true,
         Point::At(state) => {
-            state.0 < m.state_count()
-                && state.0 != m.reset().0
-                && m.branches(state).len() > 1
+            state.0 < m.state_count() && state.0 != m.reset().0 && m.branches(state).len() > 1
         }
     }
 }
@@ -122,6 +120,7 @@ fn free_points(
 }
 
 /// The points of a node behind earlier ones.
+#[tactic(auto, unfolding(crate::specs::Points::points_read))]
 pub fn read_points(
     c: &Context<'_>,
     node: u32,
