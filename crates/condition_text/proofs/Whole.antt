@@ -70,12 +70,12 @@ no_false : parts_of (codes "false") ≡ None
 no_false = refl
 
 -- the parts of a condition that is spelled, unless it is `false`
-spelled_parts : (bytes : List ℕ) (p : Polynomial) (k : Kind) (i : Integer) → Spells bytes (Compared p k i) → parts_of bytes ≡ Some (polynomial_text p, k, i)
+pub spelled_parts : (bytes : List ℕ) (p : Polynomial) (k : Kind) (i : Integer) → Spells bytes (Compared p k i) → parts_of bytes ≡ Some (polynomial_text p, k, i)
 spelled_parts bytes p k i s =
     let e = both (polynomial_spelled p) (integer_spelled i) s.spelled in
     ap parts_of s.text ∙ parts_again (polynomial_text p) k i (polynomial_plain p e.0) e.1
 
-front_spelled : (bytes : List ℕ) (p : Polynomial) (k : Kind) (i : Integer) → Spells bytes (Compared p k i) → terms.Spells (polynomial_text p) (polynomial p)
+pub front_spelled : (bytes : List ℕ) (p : Polynomial) (k : Kind) (i : Integer) → Spells bytes (Compared p k i) → terms.Spells (polynomial_text p) (polynomial p)
 front_spelled bytes p k i s =
     let e = both (polynomial_spelled p) (integer_spelled i) s.spelled in
     record { spelled = e.0; text = refl; shallow = ap (λ n. nat_le n depth_limit) (sym (ap (most_open 0) s.text ∙ same_brackets p k i e.0 e.1)) ∙ s.shallow }

@@ -1,0 +1,46 @@
+-- Answers of parts of a file.
+use Rattle.std.specs.Prelude.{◌≡◌, ℕ, Result, Ok, Err}
+use Rattle.term_values.specs.declared.faults.TermError.{TermError}
+use Rattle.term_values.specs.declared.faults.TermError.TheVariants as term
+use Rattle.cert_json.specs.declared.faults.FileError.{FileError}
+use Rattle.cert_json.specs.declared.faults.FileError.TheVariants as file
+use Rattle.cert_text.specs.declared.faults.CertError.{CertError}
+use Rattle.cert_text.specs.declared.faults.CertError.TheVariants as errors
+use Rattle.cert_text.specs.declared.faults.Stop.{Stop}
+use Rattle.cert_text.specs.declared.faults.Stop.TheVariants as stop
+
+-- an answer is what a function says, or memory was refused
+abbrev pub Tells : {X Y : Type 0} → (X → Y) → Result X Stop → Result Y CertError → Type 0
+Tells view (Ok x) y = y ≡ Ok (view x)
+Tells view (Err (stop.Refused e)) y = y ≡ Err e
+Tells view (Err stop.NoMemory) y = Unit {0}
+
+-- the same of an answer on a text
+abbrev pub TellsText : {X Y : Type 0} → (X → Y) → Result X TermError → Result Y TermError → Type 0
+TellsText view (Ok x) y = y ≡ Ok (view x)
+TellsText view (Err term.BadTerm) y = y ≡ Err term.BadTerm
+TellsText view (Err term.NumberTooBig) y = y ≡ Err term.NumberTooBig
+TellsText view (Err term.UnknownName) y = y ≡ Err term.UnknownName
+TellsText view (Err term.SortOf) y = y ≡ Err term.SortOf
+TellsText view (Err term.NotNormal) y = y ≡ Err term.NotNormal
+TellsText view (Err term.NoMemory) y = Unit {0}
+
+-- why node i is refused where one of its texts is, or out of memory
+abbrev pub stop_of : ℕ → TermError → Stop
+stop_of i term.BadTerm = stop.Refused (errors.BadTerm i)
+stop_of i term.NumberTooBig = stop.Refused (errors.NumberTooBig i)
+stop_of i term.UnknownName = stop.Refused (errors.UnknownName i)
+stop_of i term.SortOf = stop.Refused (errors.SortOf i)
+stop_of i term.NotNormal = stop.Refused (errors.NotNormal i)
+stop_of i term.NoMemory = stop.NoMemory
+
+-- why a file is refused, before its nodes are looked at, and for them
+abbrev pub error_of_file : FileError → CertError
+error_of_file file.NotJson = errors.NotJson
+error_of_file file.Shape = errors.Shape
+error_of_file file.TooMany = errors.TooMany
+error_of_file file.NoMemory = errors.NoMemory
+
+abbrev pub error_of : Stop → CertError
+error_of (stop.Refused e) = e
+error_of stop.NoMemory = errors.NoMemory

@@ -1,0 +1,11 @@
+pub mod Parts
+pub mod Names
+pub mod Texts
+pub mod Answers
+pub mod Points
+pub mod Reading
+pub mod Refusals
+pub mod Tables
+pub mod View
+pub mod Within
+pub mod Judged

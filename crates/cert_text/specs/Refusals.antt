@@ -1,0 +1,59 @@
+-- What the bytes of a certificate spell, and why they are refused.
+use Rattle.std.specs.Prelude.{◌≡◌, ℕ, List, [], map, Result, Ok, Err}
+use Rattle.serde_json.specs.Data.{Data}
+use Rattle.fs_model.specs.Machines.{Fsmd}
+use Rattle.fs_pair.specs.Positions.{positions}
+use Rattle.bisimulation.specs.Tables.{Node}
+use Rattle.sym_facts.specs.Facts.{Fact}
+use Rattle.cert_json.specs.Refusals.{IsJson, IsFileOf, HasOtherShape, HasTooMany}
+use Rattle.cert_text.specs.declared.faults.CertError.{CertError}
+use Rattle.cert_text.specs.declared.faults.CertError.TheVariants.{NotJson, Shape, TooMany, NoMemory}
+use Rattle.cert_text.specs.declared.faults.Stop.{Stop}
+use Rattle.cert_text.specs.declared.faults.Stop.TheVariants as stop
+use Rattle.certificates.specs.declared.cert.Cert.{Cert}
+use Rattle.certificates.specs.View.{node_of}
+use Rattle.cert_text.specs.Parts.{nodes_in, format_in}
+use Rattle.cert_text.specs.Names.{state_named, place_named, find_in}
+use Rattle.cert_text.specs.Texts.{Texts, AreRead}
+use Rattle.cert_text.specs.Reading.{Context, nodes_read}
+
+-- a file of two machines is read against their states, their positions by name, its format and what texts stand for
+abbrev pub context_of : (a b : Fsmd) → (format : ℕ) → Texts → Context
+context_of a b format r = record {
+  states = record { a = a; b = b; left = state_named a; right = state_named b };
+  terms = record { place = place_named a b (positions a b); positions = positions a b; format = format; texts = r };
+}
+
+-- what comes of the nodes of a file
+abbrev pub file_read : (a b : Fsmd) → Data → Texts → Result (List (Node Fact)) CertError
+file_read a b d r = nodes_read (context_of a b (format_in d) r) 0 [] (nodes_in d)
+
+-- the nodes of a file come to this, whatever functions say what its texts stand for
+abbrev pub ComesTo : (a b : Fsmd) → Data → Result (List (Node Fact)) CertError → Type 0
+ComesTo a b d y = (r : Texts) → AreRead (find_in (place_named a b (positions a b)) (positions a b) (format_in d)) r → file_read a b d r ≡ y
+
+-- an answer is what the nodes of a file come to, or memory was refused
+abbrev pub TellsNodes : (a b : Fsmd) → Data → Result Cert Stop → Type 0
+TellsNodes a b d (Ok c) = ComesTo a b d (Ok (map node_of c.nodes.items))
+TellsNodes a b d (Err (stop.Refused e)) = ComesTo a b d (Err e)
+TellsNodes a b d (Err stop.NoMemory) = Unit {0}
+
+-- the bytes spell these nodes
+pub record SpellsNodes (a b : Fsmd) (bytes : List ℕ) (ns : List (Node Fact)) : Type 0 where
+  pub value : Data
+  pub file : IsFileOf bytes value
+  pub nodes : ComesTo a b value (Ok ns)
+
+-- the bytes are a file in which this is the first rule of nodes that is broken
+pub record BreaksFirst (a b : Fsmd) (bytes : List ℕ) (e : CertError) : Type 0 where
+  pub value : Data
+  pub file : IsFileOf bytes value
+  pub first : ComesTo a b value (Err e)
+
+-- why bytes are refused; out of memory may come at any time
+abbrev pub IsRefused : (a b : Fsmd) → List ℕ → CertError → Type 0
+IsRefused a b bytes NotJson = (d : Data) → ¬ IsJson bytes d
+IsRefused a b bytes Shape = HasOtherShape bytes
+IsRefused a b bytes TooMany = HasTooMany bytes
+IsRefused a b bytes NoMemory = Unit {0}
+IsRefused a b bytes e = BreaksFirst a b bytes e

@@ -1,0 +1,158 @@
+//! The equations and the conditions of a node.
+
+ghost use Rattle.std.specs.Prelude.{◌≡◌, ◌<◌, [], Ok, Some, length, map, set, IsTrue, IfOk, OnOk};
+ghost use Rattle.std.specs.List.{list_all, AllByRecursion};
+ghost use Rattle.serde_json.specs.View.{items_view, members_view};
+ghost use Rattle.nf_terms.specs.Forms.{sort_of_form};
+ghost use Rattle.nf_rel.specs.View.{literal_in};
+ghost use Rattle.sym_facts.specs.Facts.{may_be_kept};
+ghost use Rattle.cert_text.specs.Parts.{texts_of, named_texts_of};
+ghost use Rattle.cert_text.specs.Names.{place_in, place_by_key};
+ghost use Rattle.cert_text.specs.Answers.{Tells};
+ghost use Rattle.cert_text.specs.Points.{after};
+ghost use Rattle.cert_text.specs.Reading.{known_place as known, unwritten as unwritten_at, unwritten_of, sort_at as sort_of_place, equation_read, equation_put, equations_read, conditions_read};
+ghost use Rattle.cert_text.specs.View.{place_in_tables, find_of, terms_in};
+ghost use Rattle.cert_text.specs.Within.{FormWithin, LiteralWithin, AreEquationsOf};
+
+use crate::faults::{CertError, Stop};
+use crate::forms::{read_condition, read_term};
+use crate::names::{Places, is_in_format, place_of_key, sort_of_terms};
+use crate::parts::text_of;
+use fs_model::parts::Sort;
+use fs_pair::positions::Position;
+use nf_rel::literals::NLit;
+use nf_terms::form::Nf;
+use nf_terms::seq::Seq;
+use nf_terms::stop::NoMemory;
+use nf_terms::symbols::Sort as TermSort;
+use nf_terms::tree::SeqBase;
+use serde_json::{Map, Value};
+use std::alloc::Global;
+
+// The equation of a position without key.
+fn unwritten(alloc: Global, format: u64, sort: Sort) -> Option<Nf>
+    ensures { result ≡ unwritten_of format sort }
+{
+    if is_in_format(format, sort) {
+        None
+    } else {
+        Some(Nf::Seq(Seq::bare(alloc, SeqBase::Empty)))
+    }
+}
+
+/// The equations of positions without keys: none, and of a port in format 1 the empty list. The one refusal is out of memory.
+pub fn all_unwritten(
+    alloc: Global,
+    format: u64,
+    positions: &[Position],
+) -> Result<Vec<Option<Nf>>, NoMemory>
+    ensures same { IfOk result (λ out. out.items ≡ map (unwritten_at format) positions.now) }
+{
+    let mut out = Vec::new(alloc);
+    for position in positions {
+        out.push(unwritten(alloc, format, position.sort))?;
+    }
+    Ok(out)
+}
+
+// The place that a key of a node names.
+fn known_place(places: &Places<'_>, node: u32, key: &[u8]) -> Result<u32, Stop>
+    ensures told { Tells (λ k. k) result (known node (place_by_key (place_in (place_in_tables places.now) places.now.positions.now places.now.format) key.now)) }
+    ensures in_range { IfOk result (λ k. k < length places.now.positions.now) }
+{
+    match place_of_key(places, key) {
+        Some(place) => Ok(place),
+        None => Err(Stop::Refused(CertError::UnknownName { node })),
+    }
+}
+
+// The sort of the terms at a place.
+fn sort_at(positions: &[Position], place: u32) -> TermSort
+    ensures { result ≡ sort_of_place positions.now place }
+{
+    match positions.get(place as usize) {
+        Some(position) => sort_of_terms(position.sort),
+        None => TermSort::Scalar,
+    }
+}
+
+// An equation of a node: its place and its term.
+fn read_equation(
+    alloc: Global,
+    places: &Places<'_>,
+    node: u32,
+    key: &[u8],
+    text: &[u8],
+) -> Result<(u32, Nf), Stop>
+    ensures told { Tells (λ x. x) result (equation_read (terms_in places.now) node (key.now, text.now)) }
+    ensures in_range { IfOk result (λ x. x.0 < length places.now.positions.now) }
+    ensures sort { IfOk result (λ x. sort_of_form x.1 ≡ sort_of_place places.now.positions.now x.0) }
+    ensures within { IfOk result (λ x. FormWithin (find_of places.now) x.1) }
+{
+    let place = known_place(places, node, key)?;
+    let form = read_term(alloc, places, node, sort_at(places.positions, place), text)?;
+    Ok((place, form))
+}
+
+// Puts an equation of a node at its place.
+#[tactic(auto, using(crate::proofs::Facts::counted, crate::proofs::Facts::put_in))]
+fn put_equation(
+    alloc: Global,
+    places: &Places<'_>,
+    node: u32,
+    key: &[u8],
+    text: &[u8],
+    forms: &mut Vec<Option<Nf>>,
+) -> Result<(), Stop>
+    requires { AreEquationsOf places.now.positions.now forms.old.items }
+    ensures told { Tells (λ _. forms.new.items) result (equation_put (terms_in places.now) node forms.old.items (key.now, text.now)) }
+    ensures kept { OnOk result (AreEquationsOf places.now.positions.now forms.new.items) }
+{
+    let (place, form) = read_equation(alloc, places, node, key, text)?;
+    forms[place as usize] = Some(form);
+    Ok(())
+}
+
+/// Puts the equations of a node at their places, in the order of the keys.
+pub fn put_equations(
+    alloc: Global,
+    places: &Places<'_>,
+    node: u32,
+    members: &Map<String, Value>,
+    forms: &mut Vec<Option<Nf>>,
+) -> Result<(), Stop>
+    requires { AreEquationsOf places.now.positions.now forms.old.items }
+    ensures told { Tells (λ _. forms.new.items) result (equations_read (terms_in places.now) node forms.old.items (named_texts_of (members_view members.now.entries))) }
+    ensures kept { OnOk result (AreEquationsOf places.now.positions.now forms.new.items) }
+{
+    for (key, value) in members.iter() {
+        put_equation(
+            alloc,
+            places,
+            node,
+            key.as_bytes(),
+            text_of(value).as_bytes(),
+            forms,
+        )?;
+    }
+    Ok(())
+}
+
+/// The conditions of a node, in order.
+pub fn read_conditions(
+    alloc: Global,
+    places: &Places<'_>,
+    node: u32,
+    items: &[Value],
+) -> Result<Vec<NLit>, Stop>
+    ensures told { Tells (λ ls. map literal_in ls.items) result (conditions_read (terms_in places.now) node [] (texts_of (items_view items.now))) }
+    ensures count { IfOk result (λ ls. length ls.items ≡ length items.now) }
+    ensures kept { IfOk result (λ ls. IsTrue (list_all may_be_kept (map literal_in ls.items))) }
+    ensures within { IfOk result (λ ls. AllByRecursion (LiteralWithin (find_of places.now)) (map literal_in ls.items)) }
+{
+    let mut out = Vec::new(alloc);
+    for item in items {
+        out.push(read_condition(alloc, places, node, text_of(item).as_bytes())?)?;
+    }
+    Ok(out)
+}

@@ -1,0 +1,141 @@
+//! The points of nodes.
+
+ghost use Rattle.std.specs.Prelude.{◌≡◌, true, false, option_map, map, IfOk};
+ghost use Rattle.std.specs.List.{list_any};
+ghost use Rattle.fs_cut.specs.Paths.{is_point};
+ghost use Rattle.fs_cut.specs.Covers.{same_point as same};
+ghost use Rattle.fs_cut.specs.View.{point_of};
+ghost use Rattle.certificates.specs.View.{node_of};
+ghost use Rattle.cert_text.specs.Answers.{Tells};
+ghost use Rattle.cert_text.specs.Tables.{number_in};
+ghost use Rattle.cert_text.specs.Points.{point_named as named, known_point as known, cut_point as cut, is_at as stands_at, noted, points_read};
+ghost use Rattle.cert_text.specs.View.{states_in};
+
+use crate::context::Context;
+use crate::faults::{CertError, Stop};
+use crate::table::{NameTable, number_of};
+use certificates::cert::Node;
+use fs_ast::machine::Machine;
+use fs_cut::cover::Point;
+use fs_model::parts::StateId;
+
+// The point of a text, if there is one.
+fn point_named(states: &NameTable<'_>, text: &[u8]) -> Option<Point>
+    ensures { option_map point_of result ≡ named (number_in states.now) text.now }
+{
+    if text == b"start".as_slice() {
+        return Some(Point::Start);
+    }
+    if text == b"done".as_slice() {
+        return Some(Point::Done);
+    }
+    match number_of(states, text) {
+        Some(state) => Some(Point::At(StateId(state))),
+        None => None,
+    }
+}
+
+// The point of a text of a node.
+fn known_point(node: u32, states: &NameTable<'_>, text: &[u8]) -> Result<Point, Stop>
+    ensures { Tells point_of result (known node (named (number_in states.now) text.now)) }
+{
+    match point_named(states, text) {
+        Some(point) => Ok(point),
+        None => Err(Stop::Refused(CertError::UnknownState { node })),
+    }
+}
+
+// Whether a machine's paths are cut at a point: at a state that is not the reset state and has more than one branch.
+fn is_cut(m: &Machine, point: Point) -> bool
+    ensures { result ≡ is_point m.now (point_of point) }
+{
+    match point {
+        Point::Start | Point::Done => true,
+        Point::At(state) => {
+            state.0 < m.state_count() && state.0 != m.reset().0 && m.branches(state).len() > 1
+        }
+    }
+}
+
+// Refuses a node at a state at which paths are not cut.
+fn cut_point(node: u32, m: &Machine, point: Point) -> Result<Point, Stop>
+    ensures same { Tells point_of result (cut node m.now (point_of point)) }
+    ensures point { IfOk result (λ P. is_point m.now (point_of point) ≡ true) }
+{
+    if is_cut(m, point) {
+        Ok(point)
+    } else {
+        Err(Stop::Refused(CertError::NotCutpoint { node }))
+    }
+}
+
+// Whether two points are one.
+fn same_point(left: Point, right: Point) -> bool
+    ensures { result ≡ same (point_of left) (point_of right) }
+{
+    match left {
+        Point::Start => matches!(right, Point::Start),
+        Point::At(state) => match right {
+            Point::At(other) => state.0 == other.0,
+            Point::Start | Point::Done => false,
+        },
+        Point::Done => matches!(right, Point::Done),
+    }
+}
+
+// Whether a node stands at two points.
+fn is_at(left: Point, right: Point, node: &Node) -> bool
+    ensures { result ≡ stands_at (point_of left) (point_of right) (node_of node.now) }
+{
+    same_point(node.left, left) && same_point(node.right, right)
+}
+
+// Whether one of the nodes stands at two points.
+fn is_taken(left: Point, right: Point, nodes: &[Node]) -> bool
+    ensures { result ≡ list_any (stands_at (point_of left) (point_of right)) (map node_of nodes.now) }
+{
+    for node in nodes {
+        if is_at(left, right, node) {
+            return true;
+        }
+    }
+    false
+}
+
+// Refuses a node at points at which an earlier one stands.
+fn free_points(
+    node: u32,
+    earlier: &[Node],
+    left: Point,
+    right: Point,
+) -> Result<(Point, Point), Stop>
+    ensures told { Tells (λ P. (point_of P.0, point_of P.1)) result (noted node (map node_of earlier.now) (point_of left) (point_of right)) }
+    ensures free { IfOk result (λ P. list_any (stands_at (point_of P.0) (point_of P.1)) (map node_of earlier.now) ≡ false) }
+    ensures same { IfOk result (λ P. P ≡ (left, right)) }
+{
+    if is_taken(left, right, earlier) {
+        return Err(Stop::Refused(CertError::TwiceNode { node }));
+    }
+    Ok((left, right))
+}
+
+/// The points of a node behind earlier ones.
+#[tactic(auto, unfolding(crate::specs::Points::points_read))]
+pub fn read_points(
+    c: &Context<'_>,
+    node: u32,
+    earlier: &[Node],
+    left: &[u8],
+    right: &[u8],
+) -> Result<(Point, Point), Stop>
+    ensures told { Tells (λ P. (point_of P.0, point_of P.1)) result (points_read node (states_in c.now) (map node_of earlier.now) left.now right.now) }
+    ensures free { IfOk result (λ P. list_any (stands_at (point_of P.0) (point_of P.1)) (map node_of earlier.now) ≡ false) }
+    ensures left { IfOk result (λ P. is_point c.now.a.now (point_of P.0) ≡ true) }
+    ensures right { IfOk result (λ P. is_point c.now.b.now (point_of P.1) ≡ true) }
+{
+    let first = known_point(node, &c.left_states, left)?;
+    let second = known_point(node, &c.right_states, right)?;
+    let first = cut_point(node, c.a, first)?;
+    let second = cut_point(node, c.b, second)?;
+    free_points(node, earlier, first, second)
+}

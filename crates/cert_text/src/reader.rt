@@ -1,0 +1,97 @@
+//! Reading a certificate.
+
+ghost use Rattle.std.specs.Prelude.{◌≡◌, true, false, map, IfOk, IfErr};
+ghost use Rattle.serde_json.specs.View.{view};
+ghost use Rattle.fs_pair.specs.Positions.{positions};
+ghost use Rattle.certificates.specs.Lawful.{IsLawful};
+ghost use Rattle.certificates.specs.View.{node_of};
+ghost use Rattle.cert_json.specs.Shape.{is_file, has_too_many};
+ghost use Rattle.cert_text.specs.Refusals.{TellsNodes, SpellsNodes, IsRefused};
+ghost use Rattle.cert_text.specs.Answers.{error_of_file as error_from_file, error_of as error_from};
+
+use crate::context::context_of;
+use crate::faults::{CertError, Stop};
+use crate::nodes::read_nodes;
+use crate::parts::{items_at, number_at};
+use cert_json::faults::FileError;
+use cert_json::reader::read_file;
+use certificates::cert::Cert;
+use fs_ast::machine::Machine;
+use fs_pair::positions::Pairing;
+use serde_json::Value;
+use std::alloc::Global;
+
+// The certificate of a file.
+#[tactic(auto, using(crate::proofs::Contexts::come_to, crate::proofs::Shapes::nodes_shaped, crate::proofs::Shapes::conditions_few, crate::proofs::Shapes::nodes_few, crate::proofs::LawfulNodes::lawful))]
+fn read_value(
+    alloc: Global,
+    value: &Value,
+    a: &Machine,
+    b: &Machine,
+    p: &Pairing,
+) -> Result<Cert, Stop>
+    requires pairing { p.now ≡ positions a.now b.now }
+    requires shape { is_file (view value.now) ≡ true }
+    requires few { has_too_many (view value.now) ≡ false }
+    ensures told { TellsNodes a.now b.now (view value.now) result }
+    ensures lawful { IfOk result (λ c. IsLawful a.now b.now (map node_of c.nodes.items)) }
+{
+    let context = context_of(alloc, a, b, p, number_at(value, "format"))?;
+    let nodes = read_nodes(alloc, &context, items_at(value, "nodes"))?;
+    Ok(Cert { nodes })
+}
+
+// Why a file is refused before its nodes are looked at.
+fn error_of_file(refused: FileError) -> CertError
+    ensures { result ≡ error_from_file refused }
+{
+    match refused {
+        FileError::NotJson => CertError::NotJson,
+        FileError::Shape => CertError::Shape,
+        FileError::TooMany => CertError::TooMany,
+        FileError::NoMemory => CertError::NoMemory,
+    }
+}
+
+// Why a file is refused for its nodes.
+fn error_of(stop: Stop) -> CertError
+    ensures { result ≡ error_from stop }
+{
+    match stop {
+        Stop::Refused(error) => error,
+        Stop::NoMemory => CertError::NoMemory,
+    }
+}
+
+/// The certificate of two machines that bytes spell. It is lawful for them.
+///
+/// The first rule that is broken is refused. First the whole file is looked at: `NotJson` where the bytes are not JSON as
+/// `serde_json` reads it, `Shape` where the value does not have the form of a certificate, `TooMany` where there are more
+/// than 4,096 nodes or 64 conditions in a node. Then, for each node in order: `UnknownState` for its left and then for its
+/// right point, `NotCutpoint` for the left and then for the right, `TwiceNode`; for each equation in byte order of the keys
+/// `UnknownName` where the key names no position, and then what is wrong with its term; what is wrong with each condition
+/// in order; and `NotSolved` with the place of the first position that has an equation and is mentioned. Of a term or a
+/// condition the first of these counts: `BadTerm`, `NumberTooBig`, `UnknownName`, `SortOf`, `NotNormal`. In a file of
+/// format 1 a port is no position, and its equation is the empty list. Of equal keys the last counts. `NoMemory` may come
+/// at any time.
+pub fn read_cert(
+    alloc: Global,
+    bytes: &[u8],
+    a: &Machine,
+    b: &Machine,
+    p: &Pairing,
+) -> Result<Cert, CertError>
+    requires { p.now ≡ positions a.now b.now }
+    ensures spelled { IfOk result (λ c. SpellsNodes a.now b.now bytes.now (map node_of c.nodes.items)) }
+    ensures lawful { IfOk result (λ c. IsLawful a.now b.now (map node_of c.nodes.items)) }
+    ensures refused { IfErr result (λ e. IsRefused a.now b.now bytes.now e) }
+{
+    let value = match read_file(alloc, bytes) {
+        Ok(value) => value,
+        Err(refused) => return Err(error_of_file(refused)),
+    };
+    match read_value(alloc, &value, a, b, p) {
+        Ok(cert) => Ok(cert),
+        Err(stop) => Err(error_of(stop)),
+    }
+}

@@ -1,0 +1,54 @@
+//! Tables of names.
+
+ghost use Rattle.std.specs.Prelude.{◌≡◌, ◌<◌, ◌^◌, ◌∷◌, ℕ, List, cond, None, Some, length, map, IfOk, OnOk};
+ghost use Rattle.std.specs.Option.{is_some};
+ghost use Rattle.std.specs.Str.{bytes_eq};
+ghost use Rattle.cert_text.specs.Tables.{number_in, HasFirst};
+
+use indexmap::IndexMap;
+use nf_terms::stop::NoMemory;
+use std::alloc::Global;
+
+/// Names that are not empty, each with the number of its first place in a list.
+#[derive(Drop)]
+pub struct NameTable<'a> {
+    pub numbers: IndexMap<&'a [u8], u32>,
+}
+
+/// The number of a name; the empty name has none.
+pub fn number_of(table: &NameTable<'_>, name: &[u8]) -> Option<u32>
+    ensures { result ≡ number_in table.now name.now }
+{
+    if name.is_empty() {
+        return None;
+    }
+    match table.numbers.get(name) {
+        Some(number) => Some(*number),
+        None => None,
+    }
+}
+
+// Puts the number of a name that stands for the first time.
+fn put_first<'a>(table: &mut NameTable<'a>, name: &'a [u8], number: u32) -> Result<(), NoMemory>
+    ensures { OnOk result ((c : ℕ) → (cs : List ℕ) → number_in table.new (c ∷ cs) ≡ cond (is_some (number_in table.old (c ∷ cs))) (number_in table.old (c ∷ cs)) (cond (bytes_eq name.now (c ∷ cs)) (Some number) None)) }
+{
+    if table.numbers.contains_key(name) {
+        return Ok(());
+    }
+    table.numbers.insert(name, number)?;
+    Ok(())
+}
+
+/// The table of names in order; the empty one is left out. The one refusal is out of memory.
+pub fn table_of<'a>(alloc: Global, names: &[&'a [u8]]) -> Result<NameTable<'a>, NoMemory>
+    requires { length names.now < 2 ^ 32 }
+    ensures { IfOk result (λ t. HasFirst t (map (λ n. n.now) names.now)) }
+{
+    let mut table = NameTable {
+        numbers: IndexMap::new(alloc),
+    };
+    for number in 0..names.len() {
+        put_first(&mut table, names[number], number as u32)?;
+    }
+    Ok(table)
+}
