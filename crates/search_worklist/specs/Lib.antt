@@ -1,1 +1,10 @@
 pub mod Ends
+pub mod View
+pub mod Moves
+pub mod Puts
+pub mod Waiting
+pub mod States
+pub mod Trials
+pub mod Turns
+pub mod Outputs
+pub mod Endings

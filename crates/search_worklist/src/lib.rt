@@ -2,4 +2,11 @@
 #![tactic(auto)]
 
 pub mod ends;
+mod moves;
+mod outputs;
 pub mod run;
+mod sides;
+mod state;
+mod trial;
+mod trials;
+mod turns;

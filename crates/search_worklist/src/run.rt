@@ -1,17 +1,87 @@
 //! Makes the moves of a search.
 
-ghost use Rattle.std.specs.Prelude.{◌≡◌, None, IfOk};
+ghost use Rattle.std.specs.Prelude.{◌≡◌, ◌<◌, None, length, IfOk};
 ghost use Rattle.fs_cut.specs.Covers.{cover_of};
 ghost use Rattle.fs_pair.specs.Interfaces.{interface_fault};
 ghost use Rattle.fs_pair.specs.Positions.{positions};
+ghost use Rattle.search_worklist.specs.Endings.{IsEndedWith};
 ghost use Rattle.search_worklist.specs.Ends.{IsEnded};
+ghost use Rattle.search_worklist.specs.States.{table as table_now};
+ghost use Rattle.search_worklist.specs.View.{machines_in};
 
-use crate::ends::Ended;
+use crate::ends::{End, Ended};
+use crate::outputs::output_at;
+use crate::sides::Sides;
+use crate::state::{State, begin, make};
+use crate::turns::{Step, next};
 use fs_ast::machine::Machine;
 use fs_cut::cover::Cover;
 use fs_pair::positions::Pairing;
 use nf_terms::stop::NoMemory;
+use search_places::nodes::table;
+use search_tables::moves::Move;
 use std::alloc::Global;
+
+// The nodes alone, with the moves that made them and how these end. The one refusal is out of memory.
+fn ended(alloc: Global, state: State, moves: Vec<Move>, end: End) -> Result<Ended, NoMemory>
+    ensures { IfOk result (IsEndedWith (table_now state) moves end) }
+{
+    Ok(Ended {
+        nodes: table(alloc, state.entries)?,
+        moves,
+        end,
+    })
+}
+
+// Makes moves, each the one that is next, until one ends the search.
+fn make_moves(alloc: Global, m: &Sides<'_>) -> Result<Ended, NoMemory>
+    ensures { IfOk result (IsEnded (machines_in m.now)) }
+{
+    let _left = m.left.vars();
+    let _right = m.right.vars();
+    let mut state = begin(alloc, m)?;
+    let mut moves = Vec::new(alloc);
+    let mut changed = 0;
+    'moves: loop {
+        match output_at(alloc, m, &state.entries, changed)? {
+            Some(var) => {
+                let node = changed as u32;
+                return ended(alloc, state, moves, End::Stuck { node, var });
+            }
+            None => match next(alloc, m, &mut state)? {
+                Step::Ends(end) => return ended(alloc, state, moves, end),
+                Step::Changes { at, change } => {
+                    changed = make(alloc, &mut state, change)?;
+                    moves.push(at)?;
+                }
+            },
+        }
+    }
+}
+
+// As `run`, for references that live equally long.
+fn run_sides<'a>(
+    alloc: Global,
+    a: &'a Machine,
+    b: &'a Machine,
+    p: &'a Pairing,
+    ca: &'a Cover,
+    cb: &'a Cover,
+) -> Result<Ended, NoMemory>
+    requires paired { p.now ≡ positions a.now b.now }
+    requires left_cover { ca.now ≡ cover_of a.now }
+    requires right_cover { cb.now ≡ cover_of b.now }
+    ensures { IfOk result (IsEnded (record { left = a.now; right = b.now })) }
+{
+    let sides = Sides {
+        left: a,
+        right: b,
+        pairing: p,
+        left_cover: ca,
+        right_cover: cb,
+    };
+    make_moves(alloc, &sides)
+}
 
 /// Makes a table from the start node by the moves that are next, up to the first obstacle or until nothing is next. The one refusal is
 /// out of memory.
@@ -29,5 +99,5 @@ pub fn run(
     requires right_cover { cb.now ≡ cover_of b.now }
     ensures { IfOk result (IsEnded (record { left = a.now; right = b.now })) }
 {
-    Err(NoMemory)
+    run_sides(alloc, a, b, p, ca, cb)
 }

@@ -1,0 +1,5 @@
+pub mod Pairs
+pub mod Lines
+pub mod Changes
+pub mod Order
+pub mod View

@@ -1,0 +1,75 @@
+//! Pairs of points, as keys.
+
+ghost use Rattle.std.specs.Prelude.{◌≡◌};
+ghost use Rattle.fs_cut.specs.Covers.{same_point as same};
+ghost use Rattle.fs_cut.specs.View.{point_of};
+ghost use Rattle.search_places.specs.Pairs.{number_of as number};
+
+use fs_cut::cover::Point;
+use std::hash::{Hash, Hasher};
+
+/// The two points of a node.
+#[derive(Clone, Copy, Debug)]
+pub struct PointPair {
+    pub left: Point,
+    pub right: Point,
+}
+
+// Whether two points are the same.
+fn same_point(p: Point, q: Point) -> bool
+    ensures { result ≡ same (point_of p) (point_of q) }
+{
+    match p {
+        Point::Start => matches!(q, Point::Start),
+        Point::At(state) => match q {
+            Point::At(other) => state.0 == other.0,
+            Point::Start | Point::Done => false,
+        },
+        Point::Done => matches!(q, Point::Done),
+    }
+}
+
+// The number of a point.
+fn number_of(p: Point) -> u64
+    ensures { result ≡ number (point_of p) }
+{
+    match p {
+        Point::Start => 0,
+        Point::Done => 1,
+        Point::At(state) => state.0 as u64 + 2,
+    }
+}
+
+impl PartialEq for PointPair {
+    ghost use Rattle.search_places.specs.Pairs.{same_pair, pairs_partly};
+
+    ghost eq = { same_pair };
+
+    ghost laws = { pairs_partly };
+
+    fn eq(&self, other: &PointPair) -> bool {
+        same_point(other.left, self.left) && same_point(other.right, self.right)
+    }
+}
+
+impl Eq for PointPair {
+    ghost use Rattle.search_places.specs.Pairs.{pairs_same};
+
+    ghost laws = { pairs_same };
+}
+
+impl Hash for PointPair {
+    ghost use Rattle.std.specs.Hash as fed;
+    ghost use Rattle.std.specs.Prelude.{◌++◌};
+    ghost use Rattle.fs_cut.specs.View.{point_of};
+    ghost use Rattle.search_places.specs.Pairs.{number_of as number, pairs_alike};
+
+    ghost hash_input = { λ p. fed.u64 (number (point_of p.left)) ++ fed.u64 (number (point_of p.right)) };
+
+    ghost respects_eq = { pairs_alike };
+
+    fn hash<H: Hasher>(&self, state: &mut H) {
+        state.write_u64(number_of(self.left));
+        state.write_u64(number_of(self.right));
+    }
+}

@@ -1,0 +1,11 @@
+pub mod Lookups
+pub mod Moved
+pub mod Least
+pub mod Keeping
+pub mod Found
+pub mod Finished
+pub mod Changed
+pub mod Judged
+pub mod Differing
+pub mod Facts
+pub mod Legal

@@ -1,0 +1,91 @@
+use Rattle.std.proofs.Common.{◌≡◌, ◌<◌, ◌≤◌, ◌++◌, ◌∷◌, [], length, Some, None, ap, refl, sym, ◌∙◌, subst, arith}
+use Rattle.std.proofs.lemmas.Option.{slice_get_within}
+use Rattle.certificates.specs.Lawful.{most_nodes}
+use Rattle.search_tables.specs.Next.{Change, next}
+use Rattle.search_tables.specs.Legal.{Makes, stuck}
+use Rattle.search_tables.proofs.Forming.{well_formed}
+use Rattle.fs_cut.specs.View.{point_of}
+use Rattle.search_worklist.specs.Ends.{EndsSo}
+use Rattle.search_worklist.specs.Outputs.{OutputAt}
+use Rattle.search_worklist.specs.Puts.{number_at, changed}
+use Rattle.search_worklist.specs.States.{table}
+use Rattle.search_worklist.specs.Turns.{IsNext}
+use Rattle.search_worklist.specs.View.{machines_in}
+use Rattle.search_worklist.proofs.Differing.{DiffersAlone, start_differs, put_differs, none_differs, one_differs}
+use Rattle.search_worklist.proofs.Legal.{makes_none, makes_more, made, fewer_left, number_in, ends_with, if_ok}
+use Rattle.search_worklist.proofs.run.make_moves.Goals as goal
+
+pub moves-init : goal.moves-init
+moves-init c = record {
+  ready = c.in_ok-state.ensures.ready;
+  makes = makes_none (machines_in c.args.m.now) c.new-moves.result.items (table c.in_ok-state.state) c.new-moves.ensures.items c.in_ok-state.ensures.table;
+  differs = start_differs (machines_in c.args.m.now) (table c.in_ok-state.state) c.in_ok-state.ensures.table;
+}
+
+pub output_at-requires : goal.output_at-requires
+output_at-requires c = number_in c.moves.state.entries.entries c.moves.changed c.moves.invariant.differs.node c.moves.invariant.differs.is_in
+
+pub overflow_cast-node : goal.overflow_cast-node
+overflow_cast-node c =
+    let w = well_formed (machines_in c.args.m.now) c.vars-left.ensures.sound c.vars-right.ensures.sound c.moves.moves.items (table c.moves.state) c.moves.invariant.makes in
+    let lt = slice_get_within (table c.moves.state) c.moves.changed c.moves.invariant.differs.node c.moves.invariant.differs.is_in in
+    let small : c.moves.changed < 4096 = omega (arith, lt, w.few) in
+    omega (arith, small)
+
+pub returns-in-Some : goal.returns-in-Some
+returns-in-Some c =
+    let m = machines_in c.args.m.now in
+    let T = table c.moves.state in
+    let d = one_differs m T c.moves.changed c.in-Some.var c.moves.invariant.differs (subst (OutputAt m T c.moves.changed) c.in-Some.is c.in_ok-var.ensures) in
+    if_ok c.ended.result (λ e h. ends_with m T c.moves.moves _ e c.moves.invariant.makes d h) c.ended.ensures
+
+pub next-requires-clause-made : goal.next-requires-clause-made
+next-requires-clause-made c =
+    let m = machines_in c.args.m.now in
+    let T = table c.moves.state in
+    made m c.moves.moves.items T c.vars-left.ensures.sound c.vars-right.ensures.sound c.moves.invariant.makes (none_differs m T c.moves.changed c.moves.invariant.differs (subst (OutputAt m T c.moves.changed) c.in-None.is c.in_ok-var.ensures))
+
+pub returns-in-Ends : goal.returns-in-Ends
+returns-in-Ends c =
+    let m = machines_in c.args.m.now in
+    let same = c.in_ok-end-in-None.ensures.same in
+    let n = subst (IsNext m (table c.moves.state)) c.in-Ends.is c.in_ok-end-in-None.ensures.next in
+    if_ok c.ended-in-Ends.result
+    (λ e h. ends_with m (table c.next.new.state) c.moves.moves c.in-Ends.end e (subst (Makes m c.moves.moves.items) (sym same) c.moves.invariant.makes) (subst (λ T. EndsSo m T c.in-Ends.end) (sym same) n) h) c.ended-in-Ends.ensures
+
+pub make-requires-clause-few : goal.make-requires-clause-few
+make-requires-clause-few c =
+    let m = machines_in c.args.m.now in
+    let T = table c.moves.state in
+    let same = c.in_ok-end-in-None.ensures.same in
+    let free = none_differs m T c.moves.changed c.moves.invariant.differs (subst (OutputAt m T c.moves.changed) c.in-None.is c.in_ok-var.ensures) in
+    let n = subst (IsNext m T) c.in-Changes.is c.in_ok-end-in-None.ensures.next in
+    let h = makes_more m c.moves.moves.items (c.moves.moves.items ++ c.in-Changes.at ∷ []) c.in-Changes.at T (changed T c.in-Changes.change) (changed T c.in-Changes.change) c.moves.invariant.makes free n.0 refl refl in
+    let w = well_formed m c.vars-left.ensures.sound c.vars-right.ensures.sound (c.moves.moves.items ++ c.in-Changes.at ∷ []) (changed T c.in-Changes.change) h in
+    subst (λ U. length (changed U c.in-Changes.change) ≤ most_nodes) (sym same) w.few
+
+pub moves-smaller : goal.moves-smaller
+moves-smaller c =
+    let m = machines_in c.args.m.now in
+    let T = table c.moves.state in
+    let free = none_differs m T c.moves.changed c.moves.invariant.differs (subst (OutputAt m T c.moves.changed) c.in-None.is c.in_ok-var.ensures) in
+    let n = subst (IsNext m T) c.in-Changes.is c.in_ok-end-in-None.ensures.next in
+    let made_table = c.in_ok-changed-in-Changes.ensures.table ∙ ap (λ U. changed U c.in-Changes.change) c.in_ok-end-in-None.ensures.same in
+    fewer_left m c.moves.moves.items c.push.new.self.items c.in-Changes.at (table c.make.new.state) c.in_ok-push-in-Changes.ensures.items
+    (makes_more m c.moves.moves.items c.push.new.self.items c.in-Changes.at T (changed T c.in-Changes.change) (table c.make.new.state) c.moves.invariant.makes free n.0 c.in_ok-push-in-Changes.ensures.items made_table)
+
+pub moves-preserved : goal.moves-preserved
+moves-preserved c =
+    let m = machines_in c.args.m.now in
+    let T = table c.moves.state in
+    let x = c.in-Changes.change in
+    let same = c.in_ok-end-in-None.ensures.same in
+    let free = none_differs m T c.moves.changed c.moves.invariant.differs (subst (OutputAt m T c.moves.changed) c.in-None.is c.in_ok-var.ensures) in
+    let n = subst (IsNext m T) c.in-Changes.is c.in_ok-end-in-None.ensures.next in
+    let made_table = c.in_ok-changed-in-Changes.ensures.table ∙ ap (λ U. changed U x) same in
+    let number = c.in_ok-changed-in-Changes.ensures.number ∙ ap (λ U. number_at U (point_of x.left) (point_of x.right)) same in
+    record {
+      ready = c.in_ok-changed-in-Changes.ensures.ready m c.in_ok-end-in-None.ensures.ready;
+      makes = makes_more m c.moves.moves.items c.push.new.self.items c.in-Changes.at T (changed T x) (table c.make.new.state) c.moves.invariant.makes free n.0 c.in_ok-push-in-Changes.ensures.items made_table;
+      differs = subst (DiffersAlone m (table c.make.new.state)) (sym number) (subst (λ U. DiffersAlone m U (number_at T (point_of x.left) (point_of x.right))) (sym made_table) (put_differs m T (point_of x.left) (point_of x.right) x.fact free));
+    }

@@ -1,0 +1,111 @@
+//! The moves of a node.
+
+ghost use Rattle.std.specs.Prelude.{◌≡◌, ◌≤◌, ◌++◌, map, option_map, length, IsTrue, OnOk, IfOk};
+ghost use Rattle.fs_cut.specs.Paths.{is_point};
+ghost use Rattle.fs_cut.specs.Covers.{paths_of};
+ghost use Rattle.fs_cut.specs.View.{point_of, path_of};
+ghost use Rattle.search_worklist.specs.Moves.{rights_beside, lefts_alone, pairs, moves_by, path_in, most_moves};
+
+use crate::sides::{Sides, left_paths, right_paths};
+use bisimulation::mode::Mode;
+use fs_cut::cover::{Path, Point};
+use nf_terms::stop::NoMemory;
+use search_places::pairs::PointPair;
+use search_tables::moves::Move;
+use std::alloc::Global;
+
+// Adds the moves by each right path, beside this left one or alone.
+fn push_rights(
+    out: &mut Vec<Move>,
+    node: u32,
+    left: Option<u32>,
+    rights: &[Path],
+) -> Result<(), NoMemory>
+    ensures { OnOk result (out.new.items ≡ out.old.items ++ rights_beside node left (map path_of rights.now)) }
+{
+    for path in rights {
+        out.push(Move {
+            node,
+            left,
+            right: Some(path.branch),
+        })?;
+    }
+    Ok(())
+}
+
+// Adds the moves by each left path alone.
+fn push_lefts(out: &mut Vec<Move>, node: u32, lefts: &[Path]) -> Result<(), NoMemory>
+    ensures { OnOk result (out.new.items ≡ out.old.items ++ lefts_alone node (map path_of lefts.now)) }
+{
+    for path in lefts {
+        out.push(Move {
+            node,
+            left: Some(path.branch),
+            right: None,
+        })?;
+    }
+    Ok(())
+}
+
+// Adds the moves by each left path with each right one.
+fn push_pairs(
+    out: &mut Vec<Move>,
+    node: u32,
+    lefts: &[Path],
+    rights: &[Path],
+) -> Result<(), NoMemory>
+    ensures { OnOk result (out.new.items ≡ out.old.items ++ pairs node (map path_of lefts.now) (map path_of rights.now)) }
+{
+    for path in lefts {
+        push_rights(out, node, Some(path.branch), rights)?;
+    }
+    Ok(())
+}
+
+// Adds the moves of a mode.
+fn push_moves(
+    out: &mut Vec<Move>,
+    node: u32,
+    lefts: &[Path],
+    rights: &[Path],
+    mode: Mode,
+) -> Result<(), NoMemory>
+    ensures { OnOk result (out.new.items ≡ out.old.items ++ moves_by node (map path_of lefts.now) (map path_of rights.now) mode) }
+{
+    match mode {
+        Mode::Both => push_pairs(out, node, lefts, rights),
+        Mode::Left => push_lefts(out, node, lefts),
+        Mode::Right => push_rights(out, node, None, rights),
+        Mode::End => Ok(()),
+    }
+}
+
+/// The moves of a node in a mode, in order of the left branch and then of the right one: at most 4,096. The one refusal is out of memory.
+pub fn moves(
+    alloc: Global,
+    m: &Sides<'_>,
+    node: u32,
+    points: PointPair,
+    mode: Mode,
+) -> Result<Vec<Move>, NoMemory>
+    requires left { IsTrue (is_point m.now.left.now (point_of points.left)) }
+    requires right { IsTrue (is_point m.now.right.now (point_of points.right)) }
+    ensures moves { IfOk result (λ out. out.items ≡ moves_by node (paths_of m.now.left.now (point_of points.left)) (paths_of m.now.right.now (point_of points.right)) mode) }
+    ensures few { IfOk result (λ out. length out.items ≤ most_moves) }
+{
+    let lefts = left_paths(m, points.left);
+    let rights = right_paths(m, points.right);
+    let mut out = Vec::new(alloc);
+    push_moves(&mut out, node, lefts, rights, mode)?;
+    Ok(out)
+}
+
+/// The path of a side by its branch, which stays where there is none.
+pub fn path_by(paths: &[Path], branch: Option<u32>) -> Option<&Path>
+    ensures { option_map (λ p. path_of p.now) result ≡ path_in (map path_of paths.now) branch }
+{
+    match branch {
+        Some(branch) => paths.get(branch as usize),
+        None => None,
+    }
+}

@@ -1,0 +1,172 @@
+//! Moves, tried.
+
+ghost use Rattle.std.specs.Prelude.{◌≡◌, ◌+◌, ◌<◌, nat_le, cond, false, length, option_map, Some, None};
+ghost use Rattle.fs_cut.specs.View.{point_of, path_of};
+ghost use Rattle.nf_rel.specs.Literals.{is_refuted as refuted};
+ghost use Rattle.sym_paths.specs.Execution.{end_of as end};
+ghost use Rattle.sym_paths.specs.View.{post_in};
+ghost use Rattle.sym_facts.specs.Facts.{size_of_fact};
+ghost use Rattle.sym_facts.specs.Entailment.{is_nothing as nothing};
+ghost use Rattle.sym_facts.specs.View.{missing_in};
+ghost use Rattle.search_tables.specs.Tables.{Table, units, most_units, within_units, target_of, looked_up, positions_of};
+ghost use Rattle.search_places.specs.Changes.{StandsAt};
+ghost use Rattle.search_worklist.specs.Puts.{put};
+ghost use Rattle.search_worklist.specs.Trials.{GivesChange, TellsChange, Tells, TriesAt};
+ghost use Rattle.search_worklist.specs.States.{lines, table, IsMade};
+ghost use Rattle.search_worklist.specs.View.{machines_in};
+
+use crate::moves::path_by;
+use crate::sides::{Sides, left_paths, right_paths};
+use crate::state::State;
+use crate::trial::{Change, Trial};
+use fs_cut::cover::{Path, Point};
+use nf_terms::stop::NfStop;
+use propagate::joins::join;
+use propagate::rebases::rebase;
+use propagate::refutation::is_refuted;
+use search_places::nodes::{find, node_at};
+use search_tables::moves::Move;
+use search_tables::outcome::Budget;
+use std::alloc::Global;
+use sym_facts::arrival::arrive;
+use sym_facts::entailment::{Entail, entails};
+use sym_facts::fact::Fact;
+use sym_paths::execution::Post;
+
+const NODE_LIMIT: usize = 4096;
+const UNIT_LIMIT: u64 = 4_000_000;
+
+// The sum of two numbers of units, where it is within the budget.
+fn units_with(rest: u64, more: u64) -> Option<u64>
+    ensures { result ≡ cond (nat_le (rest + more) most_units) (Some (rest + more)) None }
+{
+    if rest <= UNIT_LIMIT && more <= UNIT_LIMIT - rest {
+        Some(rest + more)
+    } else {
+        None
+    }
+}
+
+// Gives the node at two points a fact, beside so many units of the other nodes.
+fn changed(rest: u64, left: Point, right: Point, fact: Fact) -> Trial
+    ensures { (T : Table) → rest + size_of_fact fact ≡ units (put T (point_of left) (point_of right) fact) → GivesChange T (within_units (put T (point_of left) (point_of right) fact)) result }
+{
+    match units_with(rest, fact.size()) {
+        Some(units) => Trial::Changes(Change {
+            left,
+            right,
+            fact,
+            units,
+        }),
+        None => Trial::Exceeds(Budget::Units),
+    }
+}
+
+// Whether nothing is missing.
+fn is_nothing(miss: &Entail) -> bool
+    ensures { result ≡ nothing (missing_in miss.now) }
+{
+    miss.equations.is_empty() && miss.conds.is_empty()
+}
+
+// A post that arrives at two points where no node stands.
+fn try_new(
+    alloc: Global,
+    m: &Sides<'_>,
+    state: &State,
+    left: Point,
+    right: Point,
+    post: &Post,
+) -> Result<Trial, NfStop>
+    requires absent { StandsAt (lines state.now) (point_of left) (point_of right) None }
+    requires sized { state.now.units ≡ units (table state.now) }
+    ensures { TellsChange (table state.now) (looked_up (positions_of (machines_in m.now)) (table state.now) (point_of left) (point_of right) (post_in post.now) (target_of (table state.now) (point_of left) (point_of right))) result }
+{
+    if state.entries.len() >= NODE_LIMIT {
+        return Ok(Trial::Exceeds(Budget::Nodes));
+    }
+    let fact = rebase(alloc, post, m.pairing)?;
+    Ok(changed(state.units, left, right, fact))
+}
+
+// A post that arrives at two points where a node stands.
+fn try_known(
+    alloc: Global,
+    m: &Sides<'_>,
+    state: &State,
+    left: Point,
+    right: Point,
+    number: usize,
+    post: &Post,
+) -> Result<Trial, NfStop>
+    requires stands { StandsAt (lines state.now) (point_of left) (point_of right) (Some number) }
+    requires is_open { refuted (post_in post.now).conditions ≡ false }
+    requires sized { state.now.units ≡ units (table state.now) }
+    requires made { IsMade (machines_in m.now) (table state.now) }
+    ensures { Tells (table state.now) (point_of left) (point_of right) (post_in post.now) (looked_up (positions_of (machines_in m.now)) (table state.now) (point_of left) (point_of right) (post_in post.now) (target_of (table state.now) (point_of left) (point_of right))) result }
+{
+    let target = node_at(&state.entries, number).entry;
+    let miss = entails(alloc, post, &target.fact)?;
+    if is_nothing(&miss) {
+        return Ok(Trial::Entailed { target: number });
+    }
+    let fact = join(alloc, &target.fact, post, &miss, m.pairing)?;
+    Ok(changed(state.units - target.fact.size(), left, right, fact))
+}
+
+// A post that arrives at two points.
+fn try_arrival(
+    alloc: Global,
+    m: &Sides<'_>,
+    state: &State,
+    left: Point,
+    right: Point,
+    post: &Post,
+) -> Result<Trial, NfStop>
+    requires is_open { refuted (post_in post.now).conditions ≡ false }
+    requires sized { state.now.units ≡ units (table state.now) }
+    requires made { IsMade (machines_in m.now) (table state.now) }
+    ensures { Tells (table state.now) (point_of left) (point_of right) (post_in post.now) (looked_up (positions_of (machines_in m.now)) (table state.now) (point_of left) (point_of right) (post_in post.now) (target_of (table state.now) (point_of left) (point_of right))) result }
+{
+    match find(&state.entries, left, right) {
+        Some(number) => try_known(alloc, m, state, left, right, number, post),
+        None => try_new(alloc, m, state, left, right, post),
+    }
+}
+
+// Where a side comes to, which keeps its point where it stays.
+fn end_of(point: Point, path: Option<&Path>) -> Point
+    ensures { point_of result ≡ end (point_of point) (option_map (λ p. path_of p.now) path.entry) }
+{
+    match path {
+        Some(path) => path.to,
+        None => point,
+    }
+}
+
+/// What a move of a node does to the table.
+///
+/// `Wide` and `Large` come exactly at the first operation that is not narrow, or narrow and not small: those of the paths come first,
+/// then those of the comparison with the target's fact, and then those that make a fact. `NoMemory`: out of memory.
+pub fn try_move(
+    alloc: Global,
+    m: &Sides<'_>,
+    state: &State,
+    at: Move,
+) -> Result<Trial, NfStop>
+    requires node { at.node < length (lines state.now) }
+    requires sized { state.now.units ≡ units (table state.now) }
+    requires made { IsMade (machines_in m.now) (table state.now) }
+    ensures { TriesAt (machines_in m.now) (lines state.now) at result }
+{
+    let from = node_at(&state.entries, at.node as usize);
+    let left = path_by(left_paths(m, from.points.left), at.left);
+    let right = path_by(right_paths(m, from.points.right), at.right);
+    let post = arrive(alloc, m.left, m.right, &from.entry.fact, left, right)?;
+    if is_refuted(post.conds.as_slice()) {
+        return Ok(Trial::Refuted);
+    }
+    let left = end_of(from.points.left, left);
+    let right = end_of(from.points.right, right);
+    try_arrival(alloc, m, state, left, right, &post)
+}
