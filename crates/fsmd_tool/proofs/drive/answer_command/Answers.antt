@@ -1,7 +1,7 @@
 use Rattle.std.proofs.Common.{ap, Some}
 use Rattle.command_words.specs.declared.asking.Ask.{Ask}
 use Rattle.command_words.specs.Words.{asked}
-use Rattle.fsmd_tool.proofs.Outcomes.{as_ok, as_refused}
+use Rattle.fsmd_tool.proofs.Answers.{as_ok, as_refused}
 use Rattle.fsmd_tool.proofs.drive.answer_command.Goals as goal
 
 pub returns-in-Check-clause-ok : goal.returns-in-Check-clause-ok
@@ -9,6 +9,12 @@ returns-in-Check-clause-ok g c = as_ok _ _ c.check.result (ap (λ (k : Ask). Som
 
 pub returns-in-Check-clause-refused : goal.returns-in-Check-clause-refused
 returns-in-Check-clause-refused g c = as_refused _ _ c.check.result (ap (λ (k : Ask). Some (asked k)) c.in-Check.is) c.check.ensures.refused
+
+pub returns-in-Verify-clause-ok : goal.returns-in-Verify-clause-ok
+returns-in-Verify-clause-ok g c = as_ok _ _ c.verify_files.result (ap (λ (k : Ask). Some (asked k)) c.in-Verify.is) c.verify_files.ensures.ok
+
+pub returns-in-Verify-clause-refused : goal.returns-in-Verify-clause-refused
+returns-in-Verify-clause-refused g c = as_refused _ _ c.verify_files.result (ap (λ (k : Ask). Some (asked k)) c.in-Verify.is) c.verify_files.ensures.refused
 
 pub returns-in-Run-clause-ok : goal.returns-in-Run-clause-ok
 returns-in-Run-clause-ok g c = as_ok _ _ c.run_files.result (ap (λ (k : Ask). Some (asked k)) c.in-Run.is) c.run_files.ensures.ok
@@ -33,6 +39,9 @@ returns-in-Cuts-clause-ok g c = as_ok _ _ c.cut_paths.result (ap (λ (k : Ask). 
 
 pub returns-in-Cuts-clause-refused : goal.returns-in-Cuts-clause-refused
 returns-in-Cuts-clause-refused g c = as_refused _ _ c.cut_paths.result (ap (λ (k : Ask). Some (asked k)) c.in-Cuts.is) c.cut_paths.ensures.refused
+
+pub check-requires : goal.check-requires
+check-requires g c = let limits = rw c.in-Check.is at c.requires in limits.0
 
 pub run_files-requires : goal.run_files-requires
 run_files-requires g c = let limits = rw c.in-Run.is at c.requires in limits.0

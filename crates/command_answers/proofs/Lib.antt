@@ -1,0 +1,4 @@
+pub mod Ends
+pub mod Loops
+pub mod Maps
+pub mod Refused
