@@ -10,7 +10,7 @@
 
 use fs_base::memory::CleanFiles;
 use fs_base::sinks::CleanSink;
-use command_answers::answer::Status;
+use fsmd_tool::answer::Status;
 use fsmd_tool::drive::drive;
 use std::alloc::{AllocError, Global};
 use std::process::Abort;

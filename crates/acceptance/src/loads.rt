@@ -4,7 +4,7 @@ use crate::asked::words_of;
 use fs_base::memory::MemFiles;
 use fs_base::outside::Files;
 use fs_base::sinks::MemSink;
-use command_answers::answer::Status;
+use fsmd_tool::answer::Status;
 use fsmd_tool::drive::drive;
 use std::alloc::{AllocError, Global};
 use std::process::Abort;

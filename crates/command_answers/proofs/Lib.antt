@@ -1,4 +1,6 @@
+pub mod ByBytes
 pub mod Ends
 pub mod Loops
 pub mod Maps
-pub mod Refused
+pub mod Names
+pub mod Pairs

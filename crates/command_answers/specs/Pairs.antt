@@ -8,7 +8,7 @@ use Rattle.bisimulation.specs.Tables.{Node}
 use Rattle.sym_facts.specs.Facts.{Fact}
 use Rattle.cert_writer.specs.Written.{certificate_text}
 use Rattle.search.specs.Answers.{machines, IsClosedWith}
-use Rattle.pair_answers.specs.Pairs.{IsCounterexample, NoneDiffers, HasObstacle}
+use Rattle.pair_answers.specs.Answers.{IsCounterexample, IsUndecided}
 use Rattle.command_answers.specs.declared.answer.Answer.{Answer}
 use Rattle.command_answers.specs.declared.answer.Answer.TheVariants.{Equivalent, Differs, Undecided}
 use Rattle.command_answers.specs.Lines.{HasLines}
@@ -28,7 +28,7 @@ kept keeps text = if keeps then Some text else None
 pub data IsOfPair (limit : ℕ) (keeps : Bool) (a b : Fsmd) (answer : Answer) : Type 0 where
   Same : (nodes : List (Node Fact)) → AreSame a b nodes → answer ≡ Equivalent (length nodes) (kept keeps (certificate_text a b nodes)) → IsOfPair limit keeps a b answer
   Apart : HasLines (IsCounterexample limit a b) Differs answer → IsOfPair limit keeps a b answer
-  Open : NoneDiffers limit a b → HasLines (HasObstacle (machines a b)) Undecided answer → IsOfPair limit keeps a b answer
+  Open : HasLines (IsUndecided limit a b) Undecided answer → IsOfPair limit keeps a b answer
 
 -- the two machines of so many loops
 abbrev pub left_of : ℕ → Fsmd

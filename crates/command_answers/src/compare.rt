@@ -13,7 +13,8 @@ use cert_writer::writer::write_cert;
 use certificates::cert::Cert;
 use fs_ast::machine::Machine;
 use fs_pair::positions::Pairing;
-use pair_answers::comparing::{PairAnswer, compare as compare_pair};
+use pair_answers::answer::PairAnswer;
+use pair_answers::compare::compare as compare_pair;
 use std::alloc::{AllocError, Global};
 
 // The text of a certificate, where it is to be stored.

@@ -1,6 +1,6 @@
 //! Judges a certificate.
 
-ghost use Rattle.std.specs.Prelude.{◌≡◌, ◌++◌, IfOk, None, map, codes, decimal};
+ghost use Rattle.std.specs.Prelude.{◌≡◌, ◌++◌, IfOk, None, map, codes, decimal, string_bytes};
 ghost use Rattle.fs_pair.specs.Interfaces.{interface_fault};
 ghost use Rattle.fs_pair.specs.Positions.{positions};
 ghost use Rattle.certificates.specs.Lawful.{IsLawful};
@@ -18,6 +18,23 @@ use fs_ast::machine::Machine;
 use fs_pair::positions::Pairing;
 use std::alloc::{AllocError, Global};
 
+// The line of an obligation that fails, up to the reason.
+fn obligation_text(alloc: Global, obligation: u32) -> Result<String, AllocError>
+    ensures { IfOk result (λ text. string_bytes text ≡ codes "no: obligation " ++ (decimal obligation ++ codes ", ")) }
+{
+    format!(in alloc; "no: obligation {obligation}, ")
+}
+
+// The line of an obligation that fails for a reason.
+fn failed_for(alloc: Global, obligation: u32, reason: &[u8]) -> Result<Lines, AllocError>
+    ensures { IfOk result (λ lines. lines ≡ codes "no: obligation " ++ (decimal obligation ++ (codes ", " ++ (reason.now ++ codes "\n")))) }
+{
+    let mut bytes = obligation_text(alloc, obligation)?.into_bytes();
+    bytes.extend_from_slice(reason)?;
+    bytes.extend_from_slice(b"\n")?;
+    Ok(Lines::of(bytes))
+}
+
 // The line of an obligation that fails.
 fn failed(
     alloc: Global,
@@ -31,10 +48,7 @@ fn failed(
     ensures { IfOk result (λ lines. lines ≡ codes "no: obligation " ++ (decimal obligation ++ (codes ", " ++ (reason_text a.now b.now reason ++ codes "\n")))) }
 {
     let reason = reason_text(alloc, a, b, p, reason)?;
-    let mut bytes = format!(in alloc; "no: obligation {obligation}, ")?.into_bytes();
-    bytes.extend_from_slice(reason.as_slice())?;
-    bytes.extend_from_slice(b"\n")?;
-    Ok(Lines::of(bytes))
+    failed_for(alloc, obligation, reason.as_slice())
 }
 
 // The line of an obligation that has an event.

@@ -148,14 +148,19 @@ fn node_text(alloc: Global, node: Option<u32>) -> Result<String, AllocError>
     }
 }
 
+// The line of a refused file, of a kind and a node.
+fn refused(alloc: Global, word: &str, kind: &str, node: &str) -> Result<String, AllocError>
+    ensures { IfOk result (λ text. string_bytes text ≡ codes "bad input: " ++ (word.now ++ (codes ": " ++ (kind.now ++ (node.now ++ codes "\n"))))) }
+{
+    format!(in alloc; "bad input: {word}: {kind}{node}\n")
+}
+
 /// The line of a file that spells no certificate.
 pub fn cert_refused(alloc: Global, word: &str, error: CertError) -> Result<String, AllocError>
     ensures { IfOk result (λ text. string_bytes text ≡ codes "bad input: " ++ (word.now ++ (codes ": " ++ (cert_error_name error ++ (node_text (node_in error) ++ codes "\n"))))) }
 {
-    let name = cert_error_name(error);
     let node = node_text(alloc, node_of(error))?;
-    let node = node.as_str();
-    format!(in alloc; "bad input: {word}: {name}{node}\n")
+    refused(alloc, word, cert_error_name(error), node.as_str())
 }
 
 /// The line of a file that has more bytes than are read.

@@ -4,4 +4,4 @@ pub mod Statuses
 pub mod Found
 pub mod Says
 pub mod Causes
-pub mod Answers
+pub mod Putting

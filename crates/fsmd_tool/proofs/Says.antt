@@ -9,8 +9,7 @@ use Rattle.bisimulation.specs.Tables.{Node}
 use Rattle.sym_facts.specs.Facts.{Fact}
 use Rattle.certificates.specs.Obligations.{Yes}
 use Rattle.cert_writer.specs.Written.{certificate_text}
-use Rattle.search.specs.Answers.{machines}
-use Rattle.pair_answers.specs.Pairs.{IsCounterexample, NoneDiffers, HasObstacle}
+use Rattle.pair_answers.specs.Answers.{IsCounterexample, IsUndecided}
 use Rattle.command_answers.specs.declared.answer.Status.{Status}
 use Rattle.command_answers.specs.declared.answer.Status.TheVariants as statuses
 use Rattle.command_answers.specs.declared.answer.Answer.{Answer}
@@ -71,21 +70,17 @@ record Alike (keeps : Bool) (a b : Fsmd) (x : Answer) : Type 0 where
 fine : (limit : ℕ) (keeps : Bool) (a b : Fsmd) (x : Answer) → IsOfPair limit keeps a b x → Ends statuses.Fine x → Alike keeps a b x
 fine limit keeps a b x (Same ns same e) s = record { nodes = ns; same = same; is = e }
 fine limit keeps a b x (Apart l) s = absurd (let h : statuses.Differ ≡ statuses.Fine = moved statuses.Fine statuses.Differ x _ l.is refl s in cc)
-fine limit keeps a b x (Open n l) s = absurd (let h : statuses.Undecided ≡ statuses.Fine = moved statuses.Fine statuses.Undecided x _ l.is refl s in cc)
+fine limit keeps a b x (Open l) s = absurd (let h : statuses.Undecided ≡ statuses.Fine = moved statuses.Fine statuses.Undecided x _ l.is refl s in cc)
 
 differ : (limit : ℕ) (keeps : Bool) (a b : Fsmd) (x : Answer) → IsOfPair limit keeps a b x → Ends statuses.Differ x → HasLines (IsCounterexample limit a b) Differs x
 differ limit keeps a b x (Same ns same e) s = absurd (let h : statuses.Fine ≡ statuses.Differ = moved statuses.Differ statuses.Fine x _ e refl s in cc)
 differ limit keeps a b x (Apart l) s = l
-differ limit keeps a b x (Open n l) s = absurd (let h : statuses.Undecided ≡ statuses.Differ = moved statuses.Differ statuses.Undecided x _ l.is refl s in cc)
+differ limit keeps a b x (Open l) s = absurd (let h : statuses.Undecided ≡ statuses.Differ = moved statuses.Differ statuses.Undecided x _ l.is refl s in cc)
 
-record IsOpen (limit : ℕ) (a b : Fsmd) (x : Answer) : Type 0 where
-  none_differs : NoneDiffers limit a b
-  lines : HasLines (HasObstacle (machines a b)) Undecided x
-
-undecided : (limit : ℕ) (keeps : Bool) (a b : Fsmd) (x : Answer) → IsOfPair limit keeps a b x → Ends statuses.Undecided x → IsOpen limit a b x
+undecided : (limit : ℕ) (keeps : Bool) (a b : Fsmd) (x : Answer) → IsOfPair limit keeps a b x → Ends statuses.Undecided x → HasLines (IsUndecided limit a b) Undecided x
 undecided limit keeps a b x (Same ns same e) s = absurd (let h : statuses.Fine ≡ statuses.Undecided = moved statuses.Undecided statuses.Fine x _ e refl s in cc)
 undecided limit keeps a b x (Apart l) s = absurd (let h : statuses.Differ ≡ statuses.Undecided = moved statuses.Undecided statuses.Differ x _ l.is refl s in cc)
-undecided limit keeps a b x (Open n l) s = record { none_differs = n; lines = l }
+undecided limit keeps a b x (Open l) s = l
 
 -- what is to be stored of an equivalent answer
 stores_text : (o : Option Asked) (x : Answer) (nodes : ℕ) (text name : List ℕ) → x ≡ Equivalent nodes (kept (is_some (cert_of o)) text) → cert_of o ≡ Some name → to_store o x ≡ Some (entry name text)
@@ -121,8 +116,8 @@ pub says_undecided : (g : Call) (st : Stores) (p : Put) → Answered g st p → 
 says_undecided g st p a e t =
     let w = well g st p statuses.Undecided a refl e in
     let c = compared g statuses.Undecided a.answer a.correct t refl w.meant_is in
-    let k = undecided (step_limit g.asked) (is_some (cert_of g.asked)) c.left c.right a.answer c.answer w.meant_is in
-    record { left = c.left; right = c.right; paired = c.paired; lines = k.lines.lines; none_differs = k.none_differs; stops = k.lines.holds; put = put_lines g p a.answer k.lines.lines w.got (ap (λ x. lines_of x g.asked) k.lines.is) }
+    let l = undecided (step_limit g.asked) (is_some (cert_of g.asked)) c.left c.right a.answer c.answer w.meant_is in
+    record { left = c.left; right = c.right; paired = c.paired; lines = l.lines; is_undecided = l.holds; put = put_lines g p a.answer l.lines w.got (ap (λ x. lines_of x g.asked) l.is) }
 
 -- the reply to a certificate begins with no other line
 no_opening : (o : Option Asked) → IsTrue (is_verify o) → (x : Answer) → reply x o ≡ lines_of x o

@@ -4,14 +4,11 @@ use Rattle.std.proofs.lemmas.Bool.{false≢true}
 use Rattle.fs_model.specs.Machines.{Fsmd}
 use Rattle.fs_model.specs.Runs.{Inputs}
 use Rattle.certificates.specs.Obligations.{Verdict, Yes, No, IsWide, IsLarge}
-use Rattle.pair_answers.specs.Pairs.{IsCounterexample, NoneDiffers, HasObstacle}
-use Rattle.search.specs.Answers.{machines}
 use Rattle.command_answers.specs.declared.answer.Operand.{Operand}
 use Rattle.command_answers.specs.declared.answer.Operand.TheVariants.{First, Second}
 use Rattle.command_answers.specs.declared.answer.Status.{Status}
 use Rattle.command_answers.specs.declared.answer.Status.TheVariants as statuses
 use Rattle.command_answers.specs.declared.answer.Answer.{Answer}
-use Rattle.command_answers.specs.declared.answer.Answer.TheVariants.{Differs, Undecided}
 use Rattle.command_answers.specs.Statuses.{status_of}
 use Rattle.command_answers.specs.Lines.{HasLines}
 use Rattle.command_answers.specs.Readings.{Content, Unreadable, Reading}
@@ -88,7 +85,7 @@ pair_fault r x (InterfacesDiffer a b p l) s = absurd (let h : statuses.BadInput 
 pub of_pair_fault : (limit : ℕ) (keeps : Bool) (a b : Fsmd) (x : Answer) → IsOfPair limit keeps a b x → Ends statuses.Fault x → ⊥
 of_pair_fault limit keeps a b x (Same ns same e) s = let h : statuses.Fine ≡ statuses.Fault = moved statuses.Fault statuses.Fine x _ e refl s in cc
 of_pair_fault limit keeps a b x (Apart l) s = let h : statuses.Differ ≡ statuses.Fault = moved statuses.Fault statuses.Differ x _ l.is refl s in cc
-of_pair_fault limit keeps a b x (Open n l) s = let h : statuses.Undecided ≡ statuses.Fault = moved statuses.Fault statuses.Undecided x _ l.is refl s in cc
+of_pair_fault limit keeps a b x (Open l) s = let h : statuses.Undecided ≡ statuses.Fault = moved statuses.Fault statuses.Undecided x _ l.is refl s in cc
 
 pub run_fault : (limit : ℕ) (m : Fsmd) (ins : Inputs) (x : Answer) → IsOfRun limit m ins x → Ends statuses.Fault x → ⊥
 run_fault limit m ins x (Ended o n e l) s = let h : statuses.Fine ≡ statuses.Fault = moved statuses.Fault statuses.Fine x _ l.is refl s in cc

@@ -10,7 +10,7 @@ use Rattle.sym_facts.specs.Facts.{Fact}
 use Rattle.certificates.specs.Obligations.{Yes}
 use Rattle.cert_writer.specs.Written.{certificate_text}
 use Rattle.search.specs.Answers.{machines, IsClosedWith}
-use Rattle.pair_answers.specs.Pairs.{IsCounterexample, NoneDiffers, HasObstacle}
+use Rattle.pair_answers.specs.Answers.{IsCounterexample, IsUndecided}
 use Rattle.command_answers.specs.declared.answer.Operand.{Operand}
 use Rattle.command_answers.specs.declared.answer.Operand.TheVariants.{First, Second, Third}
 use Rattle.command_answers.specs.Words.{names, cert_of, is_check, step_limit}
@@ -57,14 +57,13 @@ pub record SaysDiffer (g : Call) (p : Put) : Type 0 where
   pub shows : IsCounterexample (step_limit g.asked) left right lines
   pub put : HasPut g p lines
 
--- a legal list of moves of the machines has an obstacle, which was put, and no candidate shows a difference
+-- no candidate shows a difference of the machines, and a legal list of moves stops at an obstacle, which was put
 pub record SaysUndecided (g : Call) (p : Put) : Type 0 where
   pub left : Fsmd
   pub right : Fsmd
   pub paired : ArePaired g left right
   pub lines : List ℕ
-  pub none_differs : NoneDiffers (step_limit g.asked) left right
-  pub stops : HasObstacle (machines left right) lines
+  pub is_undecided : IsUndecided (step_limit g.asked) left right lines
   pub put : HasPut g p lines
 
 -- the first two files spell machines with the same inputs and outputs and the third a lawful certificate of theirs, each where it is known what

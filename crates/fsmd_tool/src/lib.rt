@@ -7,3 +7,5 @@ mod load;
 mod pair;
 pub mod program;
 mod put;
+
+pub use command_answers::answer;

@@ -1,4 +1,4 @@
-use Rattle.command_answers.proofs.Refused.{refused_bytes}
+use Rattle.command_answers.proofs.ByBytes.{refused_bytes}
 use Rattle.command_answers.proofs.reading.read_inputs.Goals as goal
 
 pub returns-in-Err-clause-refused : goal.returns-in-Err-clause-refused

@@ -1,4 +1,4 @@
-use Rattle.command_answers.proofs.Refused.{faulty}
+use Rattle.command_answers.proofs.ByBytes.{faulty}
 use Rattle.command_answers.proofs.reading.refused_inputs.Goals as goal
 
 pub returns-in-Shape : goal.returns-in-Shape

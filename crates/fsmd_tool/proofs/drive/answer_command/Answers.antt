@@ -1,7 +1,7 @@
 use Rattle.std.proofs.Common.{ap, Some}
 use Rattle.command_words.specs.declared.asking.Ask.{Ask}
 use Rattle.command_words.specs.Words.{asked}
-use Rattle.fsmd_tool.proofs.Answers.{as_ok, as_refused}
+use Rattle.fsmd_tool.proofs.Putting.{as_ok, as_refused}
 use Rattle.fsmd_tool.proofs.drive.answer_command.Goals as goal
 
 pub returns-in-Check-clause-ok : goal.returns-in-Check-clause-ok

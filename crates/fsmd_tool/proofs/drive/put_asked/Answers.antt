@@ -1,5 +1,5 @@
 use Rattle.fsmd_tool.specs.Puts.{put}
-use Rattle.fsmd_tool.proofs.Answers.{answered, keeps}
+use Rattle.fsmd_tool.proofs.Putting.{answered, keeps}
 use Rattle.fsmd_tool.proofs.drive.put_asked.Goals as goal
 
 pub returns-clause-answered : goal.returns-clause-answered

@@ -1,5 +1,5 @@
 use Rattle.fsmd_tool.specs.Puts.{put}
-use Rattle.fsmd_tool.proofs.Answers.{answers_usage, to_words, keeps_to_words}
+use Rattle.fsmd_tool.proofs.Putting.{answers_usage, to_words, keeps_to_words}
 use Rattle.fsmd_tool.proofs.drive.put_reply.Goals as goal
 
 pub returns-in-Ok-clause-answered : goal.returns-in-Ok-clause-answered
