@@ -32,11 +32,14 @@ either P false x rest here there = there
 within_by : (name : Text) (rows : List Row) → IfSome (asked_by name rows) IsWithinLimits
 within_by name rows =
     let steps = number_within 1 100000 10000 (omega arith) (omega arith) (one_of (codes "steps") rows) in
+    let loops = number_within 1 300 1 (omega arith) (omega arith) (one_of (codes "loops") rows) in
     either IsWithinLimits (bytes_eq name (codes "check")) _ _ steps
+    (either IsWithinLimits (bytes_eq name (codes "verify")) _ _ tt
     (either IsWithinLimits (bytes_eq name (codes "run")) _ _ steps
     (either IsWithinLimits (bytes_eq name (codes "replay")) _ _ steps
     (either IsWithinLimits (bytes_eq name (codes "fmt")) _ _ tt
-    (either IsWithinLimits (bytes_eq name (codes "cuts")) _ _ tt tt))))
+    (either IsWithinLimits (bytes_eq name (codes "cuts")) _ _ tt
+    (either IsWithinLimits (bytes_eq name (codes "generate")) _ _ loops tt))))))
 
 within_in : (o : Option (Text × List Row)) → IfSome (asked_in o) IsWithinLimits
 within_in None = tt

@@ -1,5 +1,5 @@
 -- The command line, as a definition of clap's.
-use Rattle.std.specs.Prelude.{List, [], ◌∷◌, Some, true, false, codes}
+use Rattle.std.specs.Prelude.{List, [], ◌∷◌, Some, true, false, pos, codes}
 use Rattle.clap.specs.Words.{App, Rule, Shape, Text, new_rule}
 use Rattle.clap.specs.Simple.{new_shape}
 use Rattle.clap.specs.declared.builder.value_parser.ValueParser.TheVariants as parsers
@@ -20,6 +20,10 @@ steps_option = record (new_rule (codes "steps")) {
   defaults = codes "10000" ∷ [];
 }
 
+-- `N`, from 1 to 300
+abbrev pub loops_word : Rule
+loops_word = record (file_word (codes "loops")) { parser = Some (parsers.Signed (pos 1) (pos 300)) }
+
 abbrev pub command_with : Text → List Rule → Shape
 command_with name rules = record (new_shape name) { rules = rules }
 
@@ -31,6 +35,11 @@ alone command = record { top = command; subs = [] }
 abbrev pub check_command : Shape
 check_command = command_with (codes "check")
     (file_word (codes "left") ∷ file_word (codes "right") ∷ cert_option ∷ steps_option ∷ [])
+
+-- `verify A B C`
+abbrev pub verify_command : Shape
+verify_command = command_with (codes "verify")
+    (file_word (codes "left") ∷ file_word (codes "right") ∷ file_word (codes "certificate") ∷ [])
 
 -- `run A I [--steps N]`
 abbrev pub run_command : Shape
@@ -50,6 +59,10 @@ fmt_command = command_with (codes "fmt") (file_word (codes "machine") ∷ [])
 abbrev pub cuts_command : Shape
 cuts_command = command_with (codes "cuts") (file_word (codes "machine") ∷ [])
 
+-- `generate N`
+abbrev pub generate_command : Shape
+generate_command = command_with (codes "generate") (loops_word ∷ [])
+
 -- before its commands are added: the words are those after the program's name, and one of the commands has to be there
 abbrev pub program_alone : Shape
 program_alone = record (new_shape (codes "fsmd")) {
@@ -62,5 +75,5 @@ program_alone = record (new_shape (codes "fsmd")) {
 abbrev pub command_line : App
 command_line = record {
   top = record program_alone { is_leaf = false };
-  subs = check_command ∷ run_command ∷ replay_command ∷ fmt_command ∷ cuts_command ∷ [];
+  subs = check_command ∷ verify_command ∷ run_command ∷ replay_command ∷ fmt_command ∷ cuts_command ∷ generate_command ∷ [];
 }

@@ -5,7 +5,7 @@ use Rattle.clap.specs.Words.{Text, fault_of}
 use Rattle.clap.specs.declared.error.kind.ErrorKind.{ErrorKind}
 use Rattle.clap.specs.declared.error.kind.ErrorKind.TheVariants as kinds
 use Rattle.command_words.specs.CommandLine.{command_line}
-use Rattle.command_words.specs.Words.{AreTaken, Asked, asked_of, Check, Run, Replay, Fmt, Cuts}
+use Rattle.command_words.specs.Words.{AreTaken, Asked, asked_of, Check, Verify, Run, Replay, Fmt, Cuts, Generate}
 
 abbrev pub Asks : List Text → Asked → Type 0
 Asks words what = AreTaken words × (asked_of words ≡ Some what)
@@ -24,6 +24,8 @@ pub record TakenExamples : Type 0 where
       (Cuts (codes "--steps"))
   pub hyphen_value : Asks (codes "check" ∷ codes "A" ∷ codes "B" ∷ codes "--cert=-x" ∷ [])
       (Check (codes "A") (codes "B") (Some (codes "-x")) 10000)
+  pub most_loops : Asks (codes "generate" ∷ codes "300" ∷ []) (Generate 300)
+  pub with_plus : Asks (codes "generate" ∷ codes "+7" ∷ []) (Generate 7)
 
 pub record RefusedExamples : Type 0 where
   pub nothing : FailBy [] kinds.MissingSubcommand
@@ -45,6 +47,10 @@ pub record RefusedExamples : Type 0 where
   pub twice : FailBy
       (codes "check" ∷ codes "A" ∷ codes "B" ∷ codes "--steps=1" ∷ codes "--steps=1" ∷ [])
       kinds.ArgumentConflict
+  pub no_loops : FailBy (codes "generate" ∷ codes "0" ∷ []) kinds.ValueValidation
+  pub too_many_loops : FailBy (codes "generate" ∷ codes "301" ∷ []) kinds.ValueValidation
+  pub no_certificate : FailBy (codes "verify" ∷ codes "A" ∷ codes "B" ∷ [])
+      kinds.MissingRequiredArgument
   pub help : FailBy (codes "check" ∷ codes "--help" ∷ []) kinds.DisplayHelp
   pub top_help : FailBy (codes "-h" ∷ []) kinds.DisplayHelp
 
@@ -55,6 +61,8 @@ IsPlain word = strip_byte 45 word ≡ None
 pub record PlainWordsAreFiles : Type 0 where
   pub check : (left right : Text) → IsPlain left → IsPlain right
       → Asks (codes "check" ∷ left ∷ right ∷ []) (Check left right None 10000)
+  pub verify : (left right cert : Text) → IsPlain left → IsPlain right → IsPlain cert
+      → Asks (codes "verify" ∷ left ∷ right ∷ cert ∷ []) (Verify left right cert)
   pub run : (machine inputs : Text) → IsPlain machine → IsPlain inputs
       → Asks (codes "run" ∷ machine ∷ inputs ∷ []) (Run machine inputs 10000)
   pub replay : (left right inputs : Text) → IsPlain left → IsPlain right → IsPlain inputs

@@ -12,19 +12,24 @@ use Rattle.command_words.specs.declared.asking.Ask.TheVariants as asks
 -- what is asked, as plain data: files as their words, then numbers
 pub data Asked : Type 0 where
   Check : (left right : Text) → (cert : Option Text) → (steps : ℕ) → Asked
+  Verify : (left right cert : Text) → Asked
   Run : (machine inputs : Text) → (steps : ℕ) → Asked
   Replay : (left right inputs : Text) → (steps : ℕ) → Asked
   Fmt : (machine : Text) → Asked
   Cuts : (machine : Text) → Asked
+  Generate : (loops : ℕ) → Asked
 
 abbrev pub asked : Ask → Asked
 asked (asks.Check left right cert steps) =
     Check (string_bytes left) (string_bytes right) (option_map string_bytes cert) steps
+asked (asks.Verify left right cert) =
+    Verify (string_bytes left) (string_bytes right) (string_bytes cert)
 asked (asks.Run machine inputs steps) = Run (string_bytes machine) (string_bytes inputs) steps
 asked (asks.Replay left right inputs steps) =
     Replay (string_bytes left) (string_bytes right) (string_bytes inputs) steps
 asked (asks.Fmt machine) = Fmt (string_bytes machine)
 asked (asks.Cuts machine) = Cuts (string_bytes machine)
+asked (asks.Generate n) = Generate n
 
 -- ---- fields, by the matches of a command
 
@@ -45,11 +50,18 @@ number_in low high other (Some text) =
 abbrev pub steps_of : List Row → ℕ
 steps_of rows = number_in 1 100000 10000 (one_of (codes "steps") rows)
 
+abbrev pub loops_of : List Row → ℕ
+loops_of rows = number_in 1 300 1 (one_of (codes "loops") rows)
+
 -- ---- commands, by their matches
 
 abbrev pub check_of : List Row → Asked
 check_of rows = Check (word_of (codes "left") rows) (word_of (codes "right") rows)
     (first_of (codes "cert") rows) (steps_of rows)
+
+abbrev pub verify_of : List Row → Asked
+verify_of rows = Verify (word_of (codes "left") rows) (word_of (codes "right") rows)
+    (word_of (codes "certificate") rows)
 
 abbrev pub run_of : List Row → Asked
 run_of rows = Run (word_of (codes "machine") rows) (word_of (codes "inputs") rows) (steps_of rows)
@@ -64,14 +76,19 @@ fmt_of rows = Fmt (word_of (codes "machine") rows)
 abbrev pub cuts_of : List Row → Asked
 cuts_of rows = Cuts (word_of (codes "machine") rows)
 
+abbrev pub generate_of : List Row → Asked
+generate_of rows = Generate (loops_of rows)
+
 abbrev pub asked_by : Text → List Row → Option Asked
 asked_by name rows =
     if bytes_eq name (codes "check") then Some (check_of rows)
+    else (if bytes_eq name (codes "verify") then Some (verify_of rows)
     else (if bytes_eq name (codes "run") then Some (run_of rows)
     else (if bytes_eq name (codes "replay") then Some (replay_of rows)
     else (if bytes_eq name (codes "fmt") then Some (fmt_of rows)
     else (if bytes_eq name (codes "cuts") then Some (cuts_of rows)
-    else None))))
+    else (if bytes_eq name (codes "generate") then Some (generate_of rows)
+    else None))))))
 
 -- what a command and its matches ask
 abbrev pub asked_in : Option (Text × List Row) → Option Asked
@@ -96,9 +113,10 @@ where_taken (kind ∷ kinds) what = None
 unfoldable pub asked_of : List Text → Option Asked
 asked_of words = where_taken (fault_of command_line words) (matched_of words)
 
--- steps are from 1 to 100,000
+-- steps are from 1 to 100,000, and loops from 1 to 300
 abbrev pub IsWithinLimits : Asked → Type 0
 IsWithinLimits (Check left right cert steps) = (1 ≤ steps) × (steps ≤ 100000)
 IsWithinLimits (Run machine inputs steps) = (1 ≤ steps) × (steps ≤ 100000)
 IsWithinLimits (Replay left right inputs steps) = (1 ≤ steps) × (steps ≤ 100000)
+IsWithinLimits (Generate loops) = (1 ≤ loops) × (loops ≤ 300)
 IsWithinLimits _ = ⊤

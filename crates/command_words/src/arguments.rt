@@ -2,7 +2,7 @@
 
 ghost use Rattle.std.specs.Prelude.{◌≡◌, false};
 ghost use Rattle.clap.specs.Words.{rule_of};
-ghost use Rattle.command_words.specs.CommandLine.{cert_option, file_word, steps_option};
+ghost use Rattle.command_words.specs.CommandLine.{cert_option, file_word, loops_word, steps_option};
 
 use clap::{Arg, value_parser};
 use std::alloc::Global;
@@ -32,4 +32,14 @@ pub fn steps<'a>(alloc: Global) -> Arg<'a>
         .long("steps")
         .value_parser(value_parser!(u64).range(1..=100_000))
         .default_value("10000")
+}
+
+/// `N`, the number of loops.
+pub fn loops<'a>(alloc: Global) -> Arg<'a>
+    ensures rule { rule_of result ≡ loops_word }
+    ensures local { result.global ≡ false }
+{
+    Arg::new(alloc, "loops")
+        .required(true)
+        .value_parser(value_parser!(u32).range(1..=300))
 }

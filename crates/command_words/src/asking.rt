@@ -7,7 +7,8 @@ use std::alloc::AllocError;
 
 /// What is asked: a command, its files as they were named, and its numbers.
 ///
-/// `steps` is the greatest number of steps of a run, from 1 to 100,000.
+/// `steps` is the greatest number of steps of a run, from 1 to 100,000, and `n` the number of generated loops, from 1
+/// to 300.
 #[derive(Drop, Debug)]
 pub enum Ask {
     /// `check A B [--cert F] [--steps N]`: whether two machines have the same behaviour.
@@ -16,6 +17,12 @@ pub enum Ask {
         right: String,
         cert: Option<String>,
         steps: u64,
+    },
+    /// `verify A B C`: whether a certificate shows that two machines have the same behaviour.
+    Verify {
+        left: String,
+        right: String,
+        cert: String,
     },
     /// `run A I [--steps N]`: a run of a machine on inputs.
     Run {
@@ -37,6 +44,10 @@ pub enum Ask {
     /// `cuts A`: the paths of a machine between its cutpoints.
     Cuts {
         machine: String,
+    },
+    /// `generate N`: whether two machines of so many loops have the same behaviour.
+    Generate {
+        n: u32,
     },
 }
 

@@ -5,7 +5,7 @@ ghost use Rattle.clap.specs.Words.{app_of, shape_of, with_subcommand};
 ghost use Rattle.clap.specs.declared.builder.command.Command.TheViews.{out-Command};
 ghost use Rattle.command_words.specs.CommandLine.{alone, command_line, program_alone};
 
-use crate::commands::{check, cuts, fmt, replay, run};
+use crate::commands::{check, cuts, fmt, generate, replay, run, verify};
 use clap::Command;
 use std::alloc::{AllocError, Global};
 
@@ -35,8 +35,10 @@ pub fn command_line<'a>(alloc: Global) -> Result<Command<'a>, AllocError>
     ensures { IfOk result (λ command. app_of command ≡ command_line) }
 {
     let line = with_command(program(alloc), check(alloc))?;
+    let line = with_command(line, verify(alloc))?;
     let line = with_command(line, run(alloc))?;
     let line = with_command(line, replay(alloc))?;
     let line = with_command(line, fmt(alloc))?;
-    with_command(line, cuts(alloc))
+    let line = with_command(line, cuts(alloc))?;
+    with_command(line, generate(alloc))
 }

@@ -3,9 +3,9 @@
 ghost use Rattle.std.specs.Prelude.{◌≡◌, ◌∷◌, [], false, IfOk};
 ghost use Rattle.clap.specs.Words.{app_of, shape_of};
 ghost use Rattle.clap.specs.declared.builder.command.Command.TheViews.{out-Command};
-ghost use Rattle.command_words.specs.CommandLine.{alone, check_command, command_with, cuts_command, file_word, fmt_command, replay_command, run_command};
+ghost use Rattle.command_words.specs.CommandLine.{alone, check_command, command_with, cuts_command, file_word, fmt_command, generate_command, replay_command, run_command, verify_command};
 
-use crate::arguments::{cert, file, steps};
+use crate::arguments::{cert, file, loops, steps};
 use clap::Command;
 use std::alloc::{AllocError, Global};
 
@@ -33,6 +33,14 @@ pub fn check<'a>(alloc: Global) -> Result<Command<'a>, AllocError>
     two_files(alloc, "check", "left", "right")?
         .arg(cert(alloc))?
         .arg(steps(alloc))
+}
+
+/// `verify A B C`.
+pub fn verify<'a>(alloc: Global) -> Result<Command<'a>, AllocError>
+    ensures shape { IfOk result (λ command. shape_of command ≡ verify_command) }
+    ensures local { IfOk result (λ command. (out-Command command).has_globals ≡ false) }
+{
+    two_files(alloc, "verify", "left", "right")?.arg(file(alloc, "certificate"))
 }
 
 /// `run A I [--steps N]`.
@@ -67,4 +75,12 @@ pub fn cuts<'a>(alloc: Global) -> Result<Command<'a>, AllocError>
     ensures local { IfOk result (λ command. (out-Command command).has_globals ≡ false) }
 {
     Command::new(alloc, "cuts").arg(file(alloc, "machine"))
+}
+
+/// `generate N`.
+pub fn generate<'a>(alloc: Global) -> Result<Command<'a>, AllocError>
+    ensures shape { IfOk result (λ command. shape_of command ≡ generate_command) }
+    ensures local { IfOk result (λ command. (out-Command command).has_globals ≡ false) }
+{
+    Command::new(alloc, "generate").arg(loops(alloc))
 }

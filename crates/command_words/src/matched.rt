@@ -2,7 +2,7 @@
 
 ghost use Rattle.std.specs.Prelude.{◌≡◌, IfOk, option_map, string_bytes};
 ghost use Rattle.clap.specs.Words.{first_of, found_of, rows_of};
-ghost use Rattle.command_words.specs.Words.{in_range, steps_of, word_of};
+ghost use Rattle.command_words.specs.Words.{in_range, loops_of, steps_of, word_of};
 
 use clap::ArgMatches;
 use std::alloc::{AllocError, Global};
@@ -46,4 +46,21 @@ pub fn steps(found: &ArgMatches) -> u64
     ensures { result ≡ steps_of (rows_of (found_of found.now)) }
 {
     steps_in_range(found.get_one::<u64>("steps"))
+}
+
+// The number of loops, where it lies in the range, as above.
+fn loops_in_range(number: Option<u32>) -> u32
+    ensures { result ≡ in_range 1 300 1 number }
+{
+    match number {
+        Some(n) if 1 <= n && n <= 300 => n,
+        _ => 1,
+    }
+}
+
+/// The number of loops.
+pub fn loops(found: &ArgMatches) -> u32
+    ensures { result ≡ loops_of (rows_of (found_of found.now)) }
+{
+    loops_in_range(found.get_one::<u32>("loops"))
 }

@@ -2,11 +2,11 @@
 
 ghost use Rattle.std.specs.Prelude.{◌≡◌, IfOk, IfErr, IfNone, Some, None};
 ghost use Rattle.clap.specs.Words.{found_of, rows_of};
-ghost use Rattle.command_words.specs.Words.{asked, asked_by, check_of, replay_of, run_of};
+ghost use Rattle.command_words.specs.Words.{asked, asked_by, check_of, replay_of, run_of, verify_of};
 ghost use Rattle.command_words.specs.declared.asking.AskError.TheVariants.{Usage};
 
 use crate::asking::{Ask, AskError};
-use crate::matched::{optional_word, steps, word};
+use crate::matched::{loops, optional_word, steps, word};
 use clap::ArgMatches;
 use std::alloc::{AllocError, Global};
 
@@ -18,6 +18,16 @@ fn check(alloc: Global, found: &ArgMatches) -> Result<Ask, AllocError>
         right: word(alloc, found, "right")?,
         cert: optional_word(alloc, found, "cert")?,
         steps: steps(found),
+    })
+}
+
+fn verify(alloc: Global, found: &ArgMatches) -> Result<Ask, AllocError>
+    ensures { IfOk result (λ ask. asked ask ≡ verify_of (rows_of (found_of found.now))) }
+{
+    Ok(Ask::Verify {
+        left: word(alloc, found, "left")?,
+        right: word(alloc, found, "right")?,
+        cert: word(alloc, found, "certificate")?,
     })
 }
 
@@ -49,6 +59,7 @@ pub fn read(alloc: Global, name: &str, found: &ArgMatches) -> Result<Ask, AskErr
 {
     match name {
         "check" => Ok(check(alloc, found)?),
+        "verify" => Ok(verify(alloc, found)?),
         "run" => Ok(run(alloc, found)?),
         "replay" => Ok(replay(alloc, found)?),
         "fmt" => Ok(Ask::Fmt {
@@ -57,6 +68,7 @@ pub fn read(alloc: Global, name: &str, found: &ArgMatches) -> Result<Ask, AskErr
         "cuts" => Ok(Ask::Cuts {
             machine: word(alloc, found, "machine")?,
         }),
+        "generate" => Ok(Ask::Generate { n: loops(found) }),
         _ => Err(AskError::Usage),
     }
 }

@@ -13,6 +13,7 @@ check a.fsmd --cert c.json --steps 100000 b.fsmd¦Check { left: "a.fsmd", right:
 check --cert=c.json a.fsmd --steps=1 b.fsmd¦Check { left: "a.fsmd", right: "b.fsmd", cert: Some("c.json"), steps: 1 }
 check -- -a.fsmd --steps¦Check { left: "-a.fsmd", right: "--steps", cert: None, steps: 10000 }
 check fmt check¦Check { left: "fmt", right: "check", cert: None, steps: 10000 }
+verify a.fsmd b.fsmd c.json¦Verify { left: "a.fsmd", right: "b.fsmd", cert: "c.json" }
 run a.fsmd i.json¦Run { machine: "a.fsmd", inputs: "i.json", steps: 10000 }
 run a.fsmd --steps 5 i.json¦Run { machine: "a.fsmd", inputs: "i.json", steps: 5 }
 replay a.fsmd b.fsmd i.json¦Replay { left: "a.fsmd", right: "b.fsmd", inputs: "i.json", steps: 10000 }
@@ -20,6 +21,8 @@ replay --steps=007 a.fsmd b.fsmd i.json¦Replay { left: "a.fsmd", right: "b.fsmd
 fmt a.fsmd¦Fmt { machine: "a.fsmd" }
 fmt -¦Fmt { machine: "-" }
 cuts a.fsmd¦Cuts { machine: "a.fsmd" }
+generate 200¦Generate { n: 200 }
+generate +1¦Generate { n: 1 }
 "#;
 
 // Words that are refused. The first line has none.
@@ -49,7 +52,9 @@ check a.fsmd b.fsmd --cert c.json --cert=d.json
 check a.fsmd b.fsmd --depth 5
 check --steps 5
 --steps 5 check a.fsmd b.fsmd
-verify a.fsmd b.fsmd c.json
+verify a.fsmd b.fsmd
+verify a.fsmd b.fsmd c.json d.json
+verify a.fsmd b.fsmd c.json --steps 5
 run a.fsmd
 run a.fsmd i.json --cert c.json
 replay a.fsmd b.fsmd
@@ -59,7 +64,11 @@ fmt a.fsmd b.fsmd
 fmt a.fsmd --steps 5
 cuts
 cuts --steps
-generate 1
+generate
+generate 0
+generate 301
+generate 1 2
+generate a.fsmd
 ";
 
 fn split(alloc: Global, text: &str) -> Result<Vec<String>, AllocError> {

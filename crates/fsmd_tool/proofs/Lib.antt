@@ -1,5 +1,7 @@
 pub mod FromFiles
-pub mod Ends
-pub mod Pairs
-pub mod Outcomes
-pub mod Positions
+pub mod Later
+pub mod Statuses
+pub mod Found
+pub mod Says
+pub mod Causes
+pub mod Putting

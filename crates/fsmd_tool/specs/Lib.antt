@@ -1,13 +1,6 @@
-pub mod Statuses
-pub mod Replies
+pub mod Calls
 pub mod Puts
-pub mod Words
-pub mod Texts
-pub mod Paths
-pub mod Readings
-pub mod Refusals
-pub mod Pairs
-pub mod Runs
-pub mod Replays
-pub mod Correct
+pub mod Stores
 pub mod Loading
+pub mod Correct
+pub mod Clauses

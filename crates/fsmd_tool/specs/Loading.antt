@@ -1,30 +1,10 @@
--- What loading a file gives, or why no answer was found.
-use Rattle.std.specs.Prelude.{◌≡◌, ℕ, List}
-use Rattle.fs_model.specs.Source.{Source}
-use Rattle.fs_model.specs.Machines.{Fsmd}
-use Rattle.fs_ast.specs.Spelled.{machine_of}
+-- What loading a file gives.
+use Rattle.std.specs.Prelude.{ℕ, List}
 use Rattle.fs_base.specs.Outside.{Held}
-use Rattle.fs_runs.specs.InputValues.{Signature}
-use Rattle.fs_inputs.specs.declared.faults.Fault.{Fault}
-use Rattle.fs_inputs.specs.declared.faults.InputError.TheVariants as errors
-use Rattle.fs_inputs.specs.Refusals.{IsFaulty, IsRefused}
-use Rattle.fsmd_tool.specs.declared.answer.Operand.{Operand}
-use Rattle.fsmd_tool.specs.declared.answer.Answer.{Answer}
-use Rattle.fsmd_tool.specs.declared.answer.Answer.TheVariants.{NotJson, InputRefused}
-use Rattle.fsmd_tool.specs.declared.load.Refused.{Refused as Refusal}
-use Rattle.fsmd_tool.specs.declared.load.Refused.TheVariants.{Answered, NoMemory}
-use Rattle.fsmd_tool.specs.Texts.{SpellsParts}
-use Rattle.fsmd_tool.specs.Readings.{Content, MayBeRead}
-
--- if there is an answer, then P of it
-abbrev pub WhereAnswered : (Answer → Type 0) → Refusal → Type 0
-WhereAnswered P (Answered answer) = P answer
-WhereAnswered P NoMemory = Unit {0}
-
--- these parts and this machine are what the bytes spell
-pub record IsLoaded (parts : Source) (m : Fsmd) (bytes : List ℕ) : Type 0 where
-  pub spells : SpellsParts parts bytes
-  pub machine : m ≡ machine_of parts
+use Rattle.command_answers.specs.declared.answer.Operand.{Operand}
+use Rattle.command_answers.specs.declared.answer.Answer.{Answer}
+use Rattle.command_answers.specs.Readings.{Content}
+use Rattle.fsmd_tool.specs.Calls.{Call, held, FailedToRead, MayBeRead}
 
 -- what may be read of a file meets P
 pub record MayGive (known : Held) (Failed : Type 0) (P : Content → Type 0) : Type 0 where
@@ -32,7 +12,6 @@ pub record MayGive (known : Held) (Failed : Type 0) (P : Content → Type 0) : T
   pub may : MayBeRead known Failed content
   pub meets : P content
 
--- bytes are refused as inputs of these names and sorts
-pub data RefusesBytes (fs : List Signature) (file : Operand) (bytes : List ℕ) (answer : Answer) : Type 0 where
-  BytesByJson : IsRefused fs bytes errors.NotJson → answer ≡ NotJson file → RefusesBytes fs file bytes answer
-  BytesByInput : (fault : Fault) (name : List ℕ) → IsFaulty fs bytes name fault → answer ≡ InputRefused file fault name → RefusesBytes fs file bytes answer
+-- what may be read of a file of the call meets P with the answer
+abbrev pub Gives : Call → Operand → (Content → Answer → Type 0) → Answer → Type 0
+Gives g file P answer = MayGive (held g file) (FailedToRead g file) (λ content. P content answer)

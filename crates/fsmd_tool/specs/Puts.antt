@@ -1,8 +1,8 @@
 -- What a sink got of a reply.
 use Rattle.std.specs.Prelude.{◌≡◌, ℕ, ◌<◌, List, length, take, Option}
 use Rattle.fs_base.specs.Outside.{Rose, appended}
-use Rattle.fsmd_tool.specs.declared.answer.Status.{Status}
-use Rattle.fsmd_tool.specs.declared.answer.Status.TheVariants.{Fault}
+use Rattle.command_answers.specs.declared.answer.Status.{Status}
+use Rattle.command_answers.specs.declared.answer.Status.TheVariants.{Fault}
 
 -- a status, and what a sink got and how often it had failed before and at the end
 pub record Put : Type 0 where

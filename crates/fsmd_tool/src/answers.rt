@@ -1,43 +1,95 @@
-//! What each command answers.
+//! What each command answers, from its files.
 
 ghost use Rattle.std.specs.Prelude.{◌≡◌, None, ◌≤◌, IfOk, Some};
 ghost use Rattle.std.specs.Result.{IfErr};
 ghost use Rattle.command_words.specs.Words.{asked};
-ghost use Rattle.fs_base.specs.Outside.{Rose, NoneFell, SameHeld};
+ghost use Rattle.fs_base.specs.Outside.{NoneFell, SameHeld};
 ghost use Rattle.fs_pair.specs.Interfaces.{interface_fault};
-ghost use Rattle.fsmd_tool.specs.declared.answer.Operand.TheVariants as operands;
-ghost use Rattle.fsmd_tool.specs.Words.{word_of};
-ghost use Rattle.fsmd_tool.specs.Texts.{HasCanonicalText};
-ghost use Rattle.fsmd_tool.specs.Paths.{HasPaths};
-ghost use Rattle.fsmd_tool.specs.Readings.{call, IsCorrectBy};
-ghost use Rattle.fsmd_tool.specs.Runs.{IsOfRun};
-ghost use Rattle.fsmd_tool.specs.Replays.{IsOfReplay};
-ghost use Rattle.fsmd_tool.specs.Correct.{FollowsForCheck, FollowsForText, FollowsFromInputs, FollowsForRun, FollowsForReplay};
-ghost use Rattle.fsmd_tool.specs.Loading.{WhereAnswered, MayGive};
+ghost use Rattle.fs_pair.specs.Positions.{positions};
+ghost use Rattle.command_answers.specs.declared.answer.Operand.TheVariants as operands;
+ghost use Rattle.command_answers.specs.Texts.{HasCanonicalText};
+ghost use Rattle.command_answers.specs.Paths.{HasPaths};
+ghost use Rattle.command_answers.specs.Runs.{IsOfRun};
+ghost use Rattle.command_answers.specs.Follows.{ForCheck, ForVerify, ForReplay, FollowsForPair, FollowsForText, FollowsFromInputs, FollowsForRun};
+ghost use Rattle.command_answers.specs.Refusing.{WhereAnswered};
+ghost use Rattle.fsmd_tool.specs.Calls.{call, IsCorrectBy};
+ghost use Rattle.fsmd_tool.specs.Loading.{Gives};
 
-use crate::answer::{Answer, Lines, Operand};
-use crate::compare::compare;
-use crate::load::{Loaded, Refused, load, load_inputs, load_machine};
+use crate::load::{load, load_certificate, load_inputs, load_machine};
 use crate::pair::{Pair, load_pair};
-use crate::runs::{replay_machines, run_machine};
+use command_answers::answer::{Answer, Lines, Operand};
+use command_answers::compare::compare;
+use command_answers::judge::judge;
+use command_answers::reading::Loaded;
+use command_answers::refused::Refused;
+use command_answers::runs::{replay_machines, run_machine};
 use command_words::asking::Ask;
 use fs_ast::machine::Machine;
 use fs_base::outside::Files;
-use fs_model::name::Name;
-use fs_pair::positions::{FaceError, same_interface};
+use fs_pair::positions::Pairing;
 use fs_write::write_parts;
 use path_text::paths::list_paths;
-use std::alloc::{AllocError, Global};
+use std::alloc::Global;
 
-/// What `check` answers: what two machines get.
-pub fn check<F: Files>(alloc: Global, ask: &Ask, files: &mut F) -> Result<Answer, Refused>
-    ensures ok { IfOk result (IsCorrectBy FollowsForCheck (call (Some (asked ask.now)) (F.holds files.old) (F.faults files.old) (F.faults files.new))) }
-    ensures refused { IfErr result (WhereAnswered (IsCorrectBy FollowsForCheck (call (Some (asked ask.now)) (F.holds files.old) (F.faults files.old) (F.faults files.new)))) }
+/// What `check` answers: what two machines get, of runs of at most so many steps, with the text of the certificate where `keeps`
+/// says so.
+pub fn check<F: Files>(
+    alloc: Global,
+    ask: &Ask,
+    steps: u64,
+    keeps: bool,
+    files: &mut F,
+) -> Result<Answer, Refused>
+    requires { 1 ≤ steps }
+    ensures ok { IfOk result (IsCorrectBy (FollowsForPair (ForCheck steps keeps)) (call (Some (asked ask.now)) (F.holds files.old) (F.faults files.old) (F.faults files.new))) }
+    ensures refused { IfErr result (WhereAnswered (IsCorrectBy (FollowsForPair (ForCheck steps keeps)) (call (Some (asked ask.now)) (F.holds files.old) (F.faults files.old) (F.faults files.new)))) }
     ensures counts { NoneFell (F.faults files.old) (F.faults files.new) }
+    ensures store_counts { NoneFell (F.store_faults files.old) (F.store_faults files.new) }
     ensures unchanged { SameHeld (F.holds files.old) (F.holds files.new) }
 {
-    let Pair { left, right } = load_pair(alloc, ask, files)?;
-    Ok(compare(alloc, &left, &right)?)
+    let Pair {
+        left,
+        right,
+        pairing,
+    } = load_pair(alloc, ask, files)?;
+    Ok(compare(alloc, &left, &right, &pairing, steps, keeps)?)
+}
+
+// What a certificate of two machines answers to the file that spells it.
+fn verify_from<F: Files>(
+    alloc: Global,
+    ask: &Ask,
+    left: &Machine,
+    right: &Machine,
+    pairing: &Pairing,
+    files: &mut F,
+) -> Result<Answer, Refused>
+    requires paired { pairing.now ≡ positions left.now right.now }
+    requires alike { interface_fault left.now right.now ≡ None }
+    ensures ok { IfOk result (Gives (call (Some (asked ask.now)) (F.holds files.old) (F.faults files.old) (F.faults files.new)) operands.Third (ForVerify left.now right.now)) }
+    ensures refused { IfErr result (WhereAnswered (Gives (call (Some (asked ask.now)) (F.holds files.old) (F.faults files.old) (F.faults files.new)) operands.Third (ForVerify left.now right.now))) }
+    ensures counts { NoneFell (F.faults files.old) (F.faults files.new) }
+    ensures store_counts { NoneFell (F.store_faults files.old) (F.store_faults files.new) }
+    ensures unchanged { SameHeld (F.holds files.old) (F.holds files.new) }
+{
+    let cert = load_certificate(alloc, Operand::Third, ask, left, right, pairing, files)?;
+    Ok(judge(alloc, left, right, pairing, &cert)?)
+}
+
+/// What `verify` answers: whether a certificate shows that two machines have the same behaviour.
+pub fn verify_files<F: Files>(alloc: Global, ask: &Ask, files: &mut F) -> Result<Answer, Refused>
+    ensures ok { IfOk result (IsCorrectBy (FollowsForPair ForVerify) (call (Some (asked ask.now)) (F.holds files.old) (F.faults files.old) (F.faults files.new))) }
+    ensures refused { IfErr result (WhereAnswered (IsCorrectBy (FollowsForPair ForVerify) (call (Some (asked ask.now)) (F.holds files.old) (F.faults files.old) (F.faults files.new)))) }
+    ensures counts { NoneFell (F.faults files.old) (F.faults files.new) }
+    ensures store_counts { NoneFell (F.store_faults files.old) (F.store_faults files.new) }
+    ensures unchanged { SameHeld (F.holds files.old) (F.holds files.new) }
+{
+    let Pair {
+        left,
+        right,
+        pairing,
+    } = load_pair(alloc, ask, files)?;
+    verify_from(alloc, ask, &left, &right, &pairing, files)
 }
 
 /// What `fmt` answers: the canonical text of a machine.
@@ -45,6 +97,7 @@ pub fn format_text<F: Files>(alloc: Global, ask: &Ask, files: &mut F) -> Result<
     ensures ok { IfOk result (IsCorrectBy (FollowsForText HasCanonicalText) (call (Some (asked ask.now)) (F.holds files.old) (F.faults files.old) (F.faults files.new))) }
     ensures refused { IfErr result (WhereAnswered (IsCorrectBy (FollowsForText HasCanonicalText) (call (Some (asked ask.now)) (F.holds files.old) (F.faults files.old) (F.faults files.new)))) }
     ensures counts { NoneFell (F.faults files.old) (F.faults files.new) }
+    ensures store_counts { NoneFell (F.store_faults files.old) (F.store_faults files.new) }
     ensures unchanged { SameHeld (F.holds files.old) (F.holds files.new) }
 {
     let Loaded { parts, .. } = load(alloc, Operand::First, ask, files)?;
@@ -61,6 +114,7 @@ pub fn cut_paths<F: Files>(alloc: Global, ask: &Ask, files: &mut F) -> Result<An
     ensures ok { IfOk result (IsCorrectBy (FollowsForText HasPaths) (call (Some (asked ask.now)) (F.holds files.old) (F.faults files.old) (F.faults files.new))) }
     ensures refused { IfErr result (WhereAnswered (IsCorrectBy (FollowsForText HasPaths) (call (Some (asked ask.now)) (F.holds files.old) (F.faults files.old) (F.faults files.new)))) }
     ensures counts { NoneFell (F.faults files.old) (F.faults files.new) }
+    ensures store_counts { NoneFell (F.store_faults files.old) (F.store_faults files.new) }
     ensures unchanged { SameHeld (F.holds files.old) (F.holds files.new) }
 {
     let machine = load_machine(alloc, Operand::First, ask, files)?;
@@ -77,9 +131,10 @@ fn run_from<F: Files>(
     files: &mut F,
 ) -> Result<Answer, Refused>
     requires { 1 ≤ steps }
-    ensures ok { IfOk result (λ answer. MayGive (F.holds files.old (word_of (Some (asked ask.now)) operands.Second)) (Rose (F.faults files.old (word_of (Some (asked ask.now)) operands.Second)) (F.faults files.new (word_of (Some (asked ask.now)) operands.Second))) (λ content. FollowsFromInputs (IsOfRun steps machine.now) machine.now operands.Second content answer)) }
-    ensures refused { IfErr result (WhereAnswered (λ answer. MayGive (F.holds files.old (word_of (Some (asked ask.now)) operands.Second)) (Rose (F.faults files.old (word_of (Some (asked ask.now)) operands.Second)) (F.faults files.new (word_of (Some (asked ask.now)) operands.Second))) (λ content. FollowsFromInputs (IsOfRun steps machine.now) machine.now operands.Second content answer))) }
+    ensures ok { IfOk result (Gives (call (Some (asked ask.now)) (F.holds files.old) (F.faults files.old) (F.faults files.new)) operands.Second (FollowsFromInputs (IsOfRun steps machine.now) machine.now operands.Second)) }
+    ensures refused { IfErr result (WhereAnswered (Gives (call (Some (asked ask.now)) (F.holds files.old) (F.faults files.old) (F.faults files.new)) operands.Second (FollowsFromInputs (IsOfRun steps machine.now) machine.now operands.Second))) }
     ensures counts { NoneFell (F.faults files.old) (F.faults files.new) }
+    ensures store_counts { NoneFell (F.store_faults files.old) (F.store_faults files.new) }
     ensures unchanged { SameHeld (F.holds files.old) (F.holds files.new) }
 {
     let inputs = load_inputs(alloc, Operand::Second, ask, machine, files)?;
@@ -97,25 +152,11 @@ pub fn run_files<F: Files>(
     ensures ok { IfOk result (IsCorrectBy (FollowsForRun steps) (call (Some (asked ask.now)) (F.holds files.old) (F.faults files.old) (F.faults files.new))) }
     ensures refused { IfErr result (WhereAnswered (IsCorrectBy (FollowsForRun steps) (call (Some (asked ask.now)) (F.holds files.old) (F.faults files.old) (F.faults files.new)))) }
     ensures counts { NoneFell (F.faults files.old) (F.faults files.new) }
+    ensures store_counts { NoneFell (F.store_faults files.old) (F.store_faults files.new) }
     ensures unchanged { SameHeld (F.holds files.old) (F.holds files.new) }
 {
     let machine = load_machine(alloc, Operand::First, ask, files)?;
     run_from(alloc, ask, &machine, steps, files)
-}
-
-// The first name of which two machines have other inputs or outputs, if there is one.
-fn first_difference(
-    alloc: Global,
-    left: &Machine,
-    right: &Machine,
-) -> Result<Option<Name>, AllocError>
-    ensures { IfOk result (λ name. interface_fault left.now right.now ≡ name) }
-{
-    match same_interface(alloc, left, right) {
-        Ok(_) => Ok(None),
-        Err(FaceError::Interface { name }) => Ok(Some(name)),
-        Err(FaceError::NoMemory) => Err(AllocError),
-    }
 }
 
 // What runs of two machines with the same interface answer to the file of their inputs.
@@ -129,9 +170,10 @@ fn replay_from<F: Files>(
 ) -> Result<Answer, Refused>
     requires alike { interface_fault left.now right.now ≡ None }
     requires steps { 1 ≤ steps }
-    ensures ok { IfOk result (λ answer. MayGive (F.holds files.old (word_of (Some (asked ask.now)) operands.Third)) (Rose (F.faults files.old (word_of (Some (asked ask.now)) operands.Third)) (F.faults files.new (word_of (Some (asked ask.now)) operands.Third))) (λ content. FollowsFromInputs (IsOfReplay steps left.now right.now) left.now operands.Third content answer)) }
-    ensures refused { IfErr result (WhereAnswered (λ answer. MayGive (F.holds files.old (word_of (Some (asked ask.now)) operands.Third)) (Rose (F.faults files.old (word_of (Some (asked ask.now)) operands.Third)) (F.faults files.new (word_of (Some (asked ask.now)) operands.Third))) (λ content. FollowsFromInputs (IsOfReplay steps left.now right.now) left.now operands.Third content answer))) }
+    ensures ok { IfOk result (Gives (call (Some (asked ask.now)) (F.holds files.old) (F.faults files.old) (F.faults files.new)) operands.Third (ForReplay steps left.now right.now)) }
+    ensures refused { IfErr result (WhereAnswered (Gives (call (Some (asked ask.now)) (F.holds files.old) (F.faults files.old) (F.faults files.new)) operands.Third (ForReplay steps left.now right.now))) }
     ensures counts { NoneFell (F.faults files.old) (F.faults files.new) }
+    ensures store_counts { NoneFell (F.store_faults files.old) (F.store_faults files.new) }
     ensures unchanged { SameHeld (F.holds files.old) (F.holds files.new) }
 {
     let inputs = load_inputs(alloc, Operand::Third, ask, left, files)?;
@@ -146,14 +188,12 @@ pub fn replay_files<F: Files>(
     files: &mut F,
 ) -> Result<Answer, Refused>
     requires { 1 ≤ steps }
-    ensures ok { IfOk result (IsCorrectBy (FollowsForReplay steps) (call (Some (asked ask.now)) (F.holds files.old) (F.faults files.old) (F.faults files.new))) }
-    ensures refused { IfErr result (WhereAnswered (IsCorrectBy (FollowsForReplay steps) (call (Some (asked ask.now)) (F.holds files.old) (F.faults files.old) (F.faults files.new)))) }
+    ensures ok { IfOk result (IsCorrectBy (FollowsForPair (ForReplay steps)) (call (Some (asked ask.now)) (F.holds files.old) (F.faults files.old) (F.faults files.new))) }
+    ensures refused { IfErr result (WhereAnswered (IsCorrectBy (FollowsForPair (ForReplay steps)) (call (Some (asked ask.now)) (F.holds files.old) (F.faults files.old) (F.faults files.new)))) }
     ensures counts { NoneFell (F.faults files.old) (F.faults files.new) }
+    ensures store_counts { NoneFell (F.store_faults files.old) (F.store_faults files.new) }
     ensures unchanged { SameHeld (F.holds files.old) (F.holds files.new) }
 {
-    let Pair { left, right } = load_pair(alloc, ask, files)?;
-    match first_difference(alloc, &left, &right)? {
-        None => replay_from(alloc, ask, &left, &right, steps, files),
-        Some(name) => Ok(Answer::Interfaces { name }),
-    }
+    let Pair { left, right, .. } = load_pair(alloc, ask, files)?;
+    replay_from(alloc, ask, &left, &right, steps, files)
 }

@@ -4,17 +4,20 @@ ghost use Rattle.std.specs.Prelude.{◌≡◌, ◌≤◌, Some, IfOk, IsTrue, ma
 ghost use Rattle.std.specs.Result.{IfErr, OnErr};
 ghost use Rattle.fs_base.specs.Outside.{NoneFell, SameHeld};
 ghost use Rattle.command_words.specs.Words.{IsWithinLimits, asked, asked_of};
-ghost use Rattle.fsmd_tool.specs.Words.{is_check};
-ghost use Rattle.fsmd_tool.specs.Readings.{call};
-ghost use Rattle.fsmd_tool.specs.Correct.{IsCorrectAnswer, Answered, Outcome, SaysSame, HasCause};
+ghost use Rattle.command_answers.specs.declared.answer.Status.TheVariants.{Fine, Differ, Undecided, Fault};
+ghost use Rattle.command_answers.specs.Words.{compares, is_verify};
+ghost use Rattle.command_answers.specs.Refusing.{WhereAnswered};
+ghost use Rattle.fsmd_tool.specs.Calls.{call};
 ghost use Rattle.fsmd_tool.specs.Puts.{put};
-ghost use Rattle.fsmd_tool.specs.Loading.{WhereAnswered};
-ghost use Rattle.fsmd_tool.specs.declared.answer.Status.TheVariants.{Fine, Fault};
+ghost use Rattle.fsmd_tool.specs.Stores.{stores};
+ghost use Rattle.fsmd_tool.specs.Correct.{IsCorrectAnswer, Answered, Outcome};
+ghost use Rattle.fsmd_tool.specs.Clauses.{SaysSame, SaysDiffer, SaysUndecided, IsChecked, KeepsFiles, HasCause};
 
-use crate::answer::{Answer, Status};
-use crate::answers::{check, cut_paths, format_text, replay_files, run_files};
-use crate::load::Refused;
+use crate::answers::{check, cut_paths, format_text, replay_files, run_files, verify_files};
 use crate::put::{put_answer, put_usage};
+use command_answers::answer::{Answer, Status};
+use command_answers::generated::compare_generated;
+use command_answers::refused::Refused;
 use command_words::asking::{Ask, AskError};
 use command_words::words::ask;
 use fs_base::outside::{Files, Sink};
@@ -23,28 +26,29 @@ use std::alloc::{AllocError, Global};
 // What a command answers.
 fn answer_command<F: Files>(alloc: Global, ask: &Ask, files: &mut F) -> Result<Answer, Refused>
     requires { IsWithinLimits (asked ask.now) }
-    ensures ok { IfOk result (IsCorrectAnswer
-        (call (Some (asked ask.now)) (F.holds files.old) (F.faults files.old) (F.faults files.new))) }
-    ensures refused { IfErr result (WhereAnswered (IsCorrectAnswer
-        (call (Some (asked ask.now)) (F.holds files.old) (F.faults files.old) (F.faults files.new)))) }
+    ensures ok { IfOk result (IsCorrectAnswer (call (Some (asked ask.now)) (F.holds files.old) (F.faults files.old) (F.faults files.new))) }
+    ensures refused { IfErr result (WhereAnswered (IsCorrectAnswer (call (Some (asked ask.now)) (F.holds files.old) (F.faults files.old) (F.faults files.new)))) }
     ensures counts { NoneFell (F.faults files.old) (F.faults files.new) }
+    ensures store_counts { NoneFell (F.store_faults files.old) (F.store_faults files.new) }
     ensures unchanged { SameHeld (F.holds files.old) (F.holds files.new) }
 {
     match ask {
-        Ask::Check { .. } => check(alloc, ask, files),
+        Ask::Check { cert, steps, .. } => check(alloc, ask, *steps, cert.is_some(), files),
+        Ask::Verify { .. } => verify_files(alloc, ask, files),
         Ask::Run { steps, .. } => run_files(alloc, ask, *steps, files),
         Ask::Replay { steps, .. } => replay_files(alloc, ask, *steps, files),
         Ask::Fmt { .. } => format_text(alloc, ask, files),
         Ask::Cuts { .. } => cut_paths(alloc, ask, files),
+        Ask::Generate { n } => Ok(compare_generated(alloc, *n)?),
     }
 }
 
 // What is answered to what is asked.
 fn answer<F: Files>(alloc: Global, ask: &Ask, files: &mut F) -> Result<Answer, AllocError>
     requires { IsWithinLimits (asked ask.now) }
-    ensures correct { IfOk result (IsCorrectAnswer
-        (call (Some (asked ask.now)) (F.holds files.old) (F.faults files.old) (F.faults files.new))) }
+    ensures correct { IfOk result (IsCorrectAnswer (call (Some (asked ask.now)) (F.holds files.old) (F.faults files.old) (F.faults files.new))) }
     ensures counts { NoneFell (F.faults files.old) (F.faults files.new) }
+    ensures store_counts { NoneFell (F.store_faults files.old) (F.store_faults files.new) }
     ensures unchanged { SameHeld (F.holds files.old) (F.holds files.new) }
 {
     match answer_command(alloc, ask, files) {
@@ -62,16 +66,15 @@ fn put_asked<F: Files, S: Sink>(
     out: &mut S,
 ) -> Result<Status, AllocError>
     requires { IsWithinLimits (asked ask.now) }
-    ensures answered { IfOk result (λ status. Answered
-        (call (Some (asked ask.now)) (F.holds files.old) (F.faults files.old) (F.faults files.new))
-        (put status (S.got out.old) (S.got out.new) (S.faults out.old) (S.faults out.new))) }
+    ensures answered { IfOk result (λ status. Answered (call (Some (asked ask.now)) (F.holds files.old) (F.faults files.old) (F.faults files.new)) (stores (F.holds files.old) (F.holds files.new) (F.store_faults files.old) (F.store_faults files.new)) (put status (S.got out.old) (S.got out.new) (S.faults out.old) (S.faults out.new))) }
     ensures err { OnErr result (S.got out.new ≡ S.got out.old) }
     ensures counts { NoneFell (F.faults files.old) (F.faults files.new) }
+    ensures store_counts { NoneFell (F.store_faults files.old) (F.store_faults files.new) }
     ensures sink_counts { S.faults out.old ≤ S.faults out.new }
-    ensures unchanged { SameHeld (F.holds files.old) (F.holds files.new) }
+    ensures unchanged { KeepsFiles (call (Some (asked ask.now)) (F.holds files.old) (F.faults files.old) (F.faults files.new)) (stores (F.holds files.old) (F.holds files.new) (F.store_faults files.old) (F.store_faults files.new)) }
 {
     let answer = answer(alloc, ask, files)?;
-    put_answer(alloc, &answer, ask, out)
+    put_answer(alloc, &answer, ask, files, out)
 }
 
 // Puts the reply to words.
@@ -81,13 +84,12 @@ fn put_reply<F: Files, S: Sink>(
     files: &mut F,
     out: &mut S,
 ) -> Result<Status, AllocError>
-    ensures answered { IfOk result (λ status. Answered
-        (call (asked_of (map string_bytes words.now)) (F.holds files.old) (F.faults files.old) (F.faults files.new))
-        (put status (S.got out.old) (S.got out.new) (S.faults out.old) (S.faults out.new))) }
+    ensures answered { IfOk result (λ status. Answered (call (asked_of (map string_bytes words.now)) (F.holds files.old) (F.faults files.old) (F.faults files.new)) (stores (F.holds files.old) (F.holds files.new) (F.store_faults files.old) (F.store_faults files.new)) (put status (S.got out.old) (S.got out.new) (S.faults out.old) (S.faults out.new))) }
     ensures err { OnErr result (S.got out.new ≡ S.got out.old) }
     ensures counts { NoneFell (F.faults files.old) (F.faults files.new) }
+    ensures store_counts { NoneFell (F.store_faults files.old) (F.store_faults files.new) }
     ensures sink_counts { S.faults out.old ≤ S.faults out.new }
-    ensures unchanged { SameHeld (F.holds files.old) (F.holds files.new) }
+    ensures unchanged { KeepsFiles (call (asked_of (map string_bytes words.now)) (F.holds files.old) (F.faults files.old) (F.faults files.new)) (stores (F.holds files.old) (F.holds files.new) (F.store_faults files.old) (F.store_faults files.new)) }
 {
     match ask(alloc, words) {
         Ok(ask) => put_asked(alloc, &ask, files, out),
@@ -98,28 +100,27 @@ fn put_reply<F: Files, S: Sink>(
 
 /// Does what the words ask, puts the reply, and tells how it ended.
 ///
-/// The words are those after the program's name: a command, the names of its files, and its options. No file is changed.
-/// `NoMemory` comes where memory is refused, also where the sink has no room for the reply; then nothing was put.
-/// `Fault` comes where a file could not be read, which the reply says, or where the sink failed, which then got a
-/// prefix of the reply.
+/// The words are those after the program's name: a command, the names of its files, and its options. No file is changed but
+/// the one that `--cert` names, and that only where `check` answers `equivalent`: then it holds the certificate, before the reply
+/// is put. `NoMemory` comes where memory is refused, also where the sink has no room for the reply; then nothing was put.
+/// `Fault` comes where a file could not be read, or the certificate not be stored, which the reply says, or where the
+/// sink failed, which then got a prefix of the reply.
 pub fn drive<F: Files, S: Sink>(
     alloc: Global,
     words: &[String],
     files: &mut F,
     out: &mut S,
 ) -> Status
-    ensures outcome { Outcome
-        (call (asked_of (map string_bytes words.now)) (F.holds files.old) (F.faults files.old) (F.faults files.new))
-        (put result (S.got out.old) (S.got out.new) (S.faults out.old) (S.faults out.new)) }
-    ensures equivalent { result ≡ Fine → IsTrue (is_check (asked_of (map string_bytes words.now))) → SaysSame
-        (call (asked_of (map string_bytes words.now)) (F.holds files.old) (F.faults files.old) (F.faults files.new))
-        (put result (S.got out.old) (S.got out.new) (S.faults out.old) (S.faults out.new)) }
-    ensures fault { result ≡ Fault → HasCause
-        (call (asked_of (map string_bytes words.now)) (F.holds files.old) (F.faults files.old) (F.faults files.new))
-        (put result (S.got out.old) (S.got out.new) (S.faults out.old) (S.faults out.new)) }
+    ensures outcome { Outcome (call (asked_of (map string_bytes words.now)) (F.holds files.old) (F.faults files.old) (F.faults files.new)) (stores (F.holds files.old) (F.holds files.new) (F.store_faults files.old) (F.store_faults files.new)) (put result (S.got out.old) (S.got out.new) (S.faults out.old) (S.faults out.new)) }
+    ensures equivalent { result ≡ Fine → IsTrue (compares (asked_of (map string_bytes words.now))) → SaysSame (call (asked_of (map string_bytes words.now)) (F.holds files.old) (F.faults files.old) (F.faults files.new)) (stores (F.holds files.old) (F.holds files.new) (F.store_faults files.old) (F.store_faults files.new)) (put result (S.got out.old) (S.got out.new) (S.faults out.old) (S.faults out.new)) }
+    ensures differ { result ≡ Differ → IsTrue (compares (asked_of (map string_bytes words.now))) → SaysDiffer (call (asked_of (map string_bytes words.now)) (F.holds files.old) (F.faults files.old) (F.faults files.new)) (put result (S.got out.old) (S.got out.new) (S.faults out.old) (S.faults out.new)) }
+    ensures undecided { result ≡ Undecided → IsTrue (compares (asked_of (map string_bytes words.now))) → SaysUndecided (call (asked_of (map string_bytes words.now)) (F.holds files.old) (F.faults files.old) (F.faults files.new)) (put result (S.got out.old) (S.got out.new) (S.faults out.old) (S.faults out.new)) }
+    ensures checked { result ≡ Fine → IsTrue (is_verify (asked_of (map string_bytes words.now))) → IsChecked (call (asked_of (map string_bytes words.now)) (F.holds files.old) (F.faults files.old) (F.faults files.new)) (put result (S.got out.old) (S.got out.new) (S.faults out.old) (S.faults out.new)) }
+    ensures fault { result ≡ Fault → HasCause (call (asked_of (map string_bytes words.now)) (F.holds files.old) (F.faults files.old) (F.faults files.new)) (stores (F.holds files.old) (F.holds files.new) (F.store_faults files.old) (F.store_faults files.new)) (put result (S.got out.old) (S.got out.new) (S.faults out.old) (S.faults out.new)) }
     ensures counts { NoneFell (F.faults files.old) (F.faults files.new) }
+    ensures store_counts { NoneFell (F.store_faults files.old) (F.store_faults files.new) }
     ensures sink_counts { S.faults out.old ≤ S.faults out.new }
-    ensures unchanged { SameHeld (F.holds files.old) (F.holds files.new) }
+    ensures unchanged { KeepsFiles (call (asked_of (map string_bytes words.now)) (F.holds files.old) (F.faults files.old) (F.faults files.new)) (stores (F.holds files.old) (F.holds files.new) (F.store_faults files.old) (F.store_faults files.new)) }
 {
     match put_reply(alloc, words, files, out) {
         Ok(status) => status,

@@ -1,14 +1,11 @@
-//! The commands of `fsmd`: what is asked, what is answered, and the bytes that are put.
+//! The commands of `fsmd`: their files in order, what is put, and what is stored.
 #![tactic(auto)]
 
-pub mod answer;
 mod answers;
-mod compare;
 pub mod drive;
 mod load;
 mod pair;
 pub mod program;
 mod put;
-mod reply;
-mod runs;
-mod words;
+
+pub use command_answers::answer;

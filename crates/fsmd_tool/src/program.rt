@@ -2,10 +2,10 @@
 //! `drive`.
 
 ghost use Rattle.std.specs.Prelude.{◌≡◌, ◌⊎◌};
-ghost use Rattle.fsmd_tool.specs.declared.answer.Status.TheVariants.{NoMemory, Fault};
+ghost use Rattle.command_answers.specs.declared.answer.Status.TheVariants.{NoMemory, Fault};
 
-use crate::answer::Status;
 use crate::drive::drive;
+use command_answers::answer::Status;
 use fs_base::disk::{DiskFiles, StdSink};
 use std::rt::Runtime;
 use std::{env, io};

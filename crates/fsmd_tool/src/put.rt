@@ -1,18 +1,22 @@
-//! Puts the reply of an answer.
+//! Stores the certificate of an answer, and puts the reply.
 
-ghost use Rattle.std.specs.Prelude.{◌≡◌, ◌≤◌, IfOk, IsTrue, Some, None};
+ghost use Rattle.std.specs.Prelude.{◌≡◌, ◌≤◌, IfOk, IsTrue, Some, None, length, option_map};
 ghost use Rattle.std.specs.Result.{OnErr};
 ghost use Rattle.command_words.specs.Words.{asked};
-ghost use Rattle.fs_base.specs.Outside.{HasRoom};
-ghost use Rattle.fsmd_tool.specs.declared.answer.Answer.TheVariants.{Usage};
-ghost use Rattle.fsmd_tool.specs.Statuses.{status_of};
-ghost use Rattle.fsmd_tool.specs.Replies.{reply};
+ghost use Rattle.fs_base.specs.Outside.{HasRoom, NoneFell};
+ghost use Rattle.command_answers.specs.declared.answer.Answer.TheVariants.{Usage};
+ghost use Rattle.command_answers.specs.declared.answer.Status.TheVariants.{Fault};
+ghost use Rattle.command_answers.specs.Statuses.{status_of};
+ghost use Rattle.command_answers.specs.Replies.{reply, unstored_reply};
 ghost use Rattle.fsmd_tool.specs.Puts.{IsPut, put};
+ghost use Rattle.fsmd_tool.specs.Stores.{stores, entry, to_store, Leaves};
+ghost use Rattle.fsmd_tool.specs.Correct.{IsDone};
 
-use crate::answer::{Answer, Status};
-use crate::reply::{USAGE, reply};
+use command_answers::answer::{Answer, Status};
+use command_answers::reply::{USAGE, reply, unstored_reply};
+use command_answers::words::cert_word;
 use command_words::asking::Ask;
-use fs_base::outside::Sink;
+use fs_base::outside::{Files, Sink, StoreError};
 use fs_base::put_all::put_all;
 use std::alloc::{AllocError, Global};
 
@@ -26,21 +30,30 @@ fn fits(room: Option<u64>, count: usize) -> bool
     }
 }
 
+// Puts a reply that has room, and gives the status that is meant, or `Fault` where the sink failed.
+fn put_fitting<S: Sink>(reply: &[u8], meant: Status, out: &mut S) -> Status
+    requires { HasRoom (S.spare out.old) (length reply.now) }
+    ensures put { IsPut reply.now meant (put result (S.got out.old) (S.got out.new) (S.faults out.old) (S.faults out.new)) }
+    ensures sink_counts { S.faults out.old ≤ S.faults out.new }
+{
+    match put_all(out, reply) {
+        Ok(()) => meant,
+        Err(_) => Status::Fault,
+    }
+}
+
 // Puts a reply, and gives the status that is meant, or `Fault` where the sink failed.
 //
 // The error is out of memory: the reply is longer than the sink has room; then nothing was put.
 fn put_whole<S: Sink>(reply: &[u8], meant: Status, out: &mut S) -> Result<Status, AllocError>
-    ensures ok { IfOk result (λ status. IsPut reply.now meant
-        (put status (S.got out.old) (S.got out.new) (S.faults out.old) (S.faults out.new))) }
+    ensures ok { IfOk result (λ status. IsPut reply.now meant (put status (S.got out.old) (S.got out.new) (S.faults out.old) (S.faults out.new))) }
     ensures err { OnErr result (S.got out.new ≡ S.got out.old) }
-    ensures counts { S.faults out.old ≤ S.faults out.new }
+    ensures sink_counts { S.faults out.old ≤ S.faults out.new }
 {
-    if !fits(out.room(), reply.len()) {
-        return Err(AllocError);
-    }
-    match put_all(out, reply) {
-        Ok(()) => Ok(meant),
-        Err(_) => Ok(Status::Fault),
+    if fits(out.room(), reply.len()) {
+        Ok(put_fitting(reply, meant, out))
+    } else {
+        Err(AllocError)
     }
 }
 
@@ -48,28 +61,90 @@ fn put_whole<S: Sink>(reply: &[u8], meant: Status, out: &mut S) -> Result<Status
 ///
 /// The error is out of memory: the line is longer than the sink has room; then nothing was put.
 pub fn put_usage<S: Sink>(out: &mut S) -> Result<Status, AllocError>
-    ensures ok { IfOk result (λ status. IsPut (reply Usage None) (status_of Usage)
-        (put status (S.got out.old) (S.got out.new) (S.faults out.old) (S.faults out.new))) }
+    ensures ok { IfOk result (λ status. IsPut (reply Usage None) (status_of Usage) (put status (S.got out.old) (S.got out.new) (S.faults out.old) (S.faults out.new))) }
     ensures err { OnErr result (S.got out.new ≡ S.got out.old) }
-    ensures counts { S.faults out.old ≤ S.faults out.new }
+    ensures sink_counts { S.faults out.old ≤ S.faults out.new }
 {
     put_whole(USAGE.as_bytes(), Status::Usage, out)
 }
 
-/// Puts the reply of an answer to what is asked, and gives the answer's status, or `Fault` where the sink failed.
+// Puts that the certificate could not be stored under a name.
+fn put_unstored<S: Sink>(alloc: Global, name: &str, out: &mut S) -> Result<Status, AllocError>
+    ensures ok { IfOk result (λ status. IsPut (unstored_reply name.now) Fault (put status (S.got out.old) (S.got out.new) (S.faults out.old) (S.faults out.new))) }
+    ensures err { OnErr result (S.got out.new ≡ S.got out.old) }
+    ensures sink_counts { S.faults out.old ≤ S.faults out.new }
+{
+    let bytes = unstored_reply(alloc, name)?;
+    put_whole(bytes.as_slice(), Status::Fault, out)
+}
+
+// Stores bytes under a name, and then puts a reply that has room; where they cannot be stored, puts that.
+fn put_stored<F: Files, S: Sink>(
+    alloc: Global,
+    item: &Entry<'_>,
+    reply: &[u8],
+    meant: Status,
+    files: &mut F,
+    out: &mut S,
+) -> Result<Status, AllocError>
+    requires { HasRoom (S.spare out.old) (length reply.now) }
+    ensures ok { IfOk result (λ status. IsDone (Some (entry item.now.name.now item.now.bytes.now)) reply.now meant (stores (F.holds files.old) (F.holds files.new) (F.store_faults files.old) (F.store_faults files.new)) (put status (S.got out.old) (S.got out.new) (S.faults out.old) (S.faults out.new))) }
+    ensures err { OnErr result (S.got out.new ≡ S.got out.old) }
+    ensures leaves { Leaves (Some (entry item.now.name.now item.now.bytes.now)) (stores (F.holds files.old) (F.holds files.new) (F.store_faults files.old) (F.store_faults files.new)) }
+    ensures counts { NoneFell (F.faults files.old) (F.faults files.new) }
+    ensures store_counts { NoneFell (F.store_faults files.old) (F.store_faults files.new) }
+    ensures sink_counts { S.faults out.old ≤ S.faults out.new }
+{
+    match files.store(alloc, item.name, item.bytes) {
+        Ok(()) => Ok(put_fitting(reply, meant, out)),
+        Err(StoreError::Failed) => put_unstored(alloc, item.name, out),
+        Err(StoreError::NoMemory) => Err(AllocError),
+    }
+}
+
+// Bytes that are to be stored under a name.
+#[derive(Clone, Copy)]
+struct Entry<'a> {
+    name: &'a str,
+    bytes: &'a [u8],
+}
+
+// What is to be stored of an answer to what is asked: its certificate, under the word for it.
+fn to_store<'a>(answer: &'a Answer, ask: &'a Ask) -> Option<Entry<'a>>
+    ensures { option_map (λ e. entry e.name.now e.bytes.now) result ≡ to_store (Some (asked ask.entry.now)) answer.entry.now }
+{
+    match (cert_word(ask), answer.certificate()) {
+        (Some(name), Some(bytes)) => Some(Entry { name, bytes }),
+        _ => None,
+    }
+}
+
+/// Stores the certificate of an answer, where it has one and a file for it is named, and then puts the reply to what is asked; gives
+/// the answer's status, or `Fault` where the certificate could not be stored, which is put in the reply's place, or where
+/// the sink failed.
 ///
-/// The error is out of memory, also where the reply is longer than the sink has room; then nothing was put.
-pub fn put_answer<S: Sink>(
+/// The error is out of memory, also where the reply is longer than the sink has room; then nothing was put, and nothing
+/// stored but where that failed.
+pub fn put_answer<F: Files, S: Sink>(
     alloc: Global,
     answer: &Answer,
     ask: &Ask,
+    files: &mut F,
     out: &mut S,
 ) -> Result<Status, AllocError>
-    ensures ok { IfOk result (λ status. IsPut (reply answer.now (Some (asked ask.now))) (status_of answer.now)
-        (put status (S.got out.old) (S.got out.new) (S.faults out.old) (S.faults out.new))) }
+    ensures ok { IfOk result (λ status. IsDone (to_store (Some (asked ask.now)) answer.now) (reply answer.now (Some (asked ask.now))) (status_of answer.now) (stores (F.holds files.old) (F.holds files.new) (F.store_faults files.old) (F.store_faults files.new)) (put status (S.got out.old) (S.got out.new) (S.faults out.old) (S.faults out.new))) }
     ensures err { OnErr result (S.got out.new ≡ S.got out.old) }
-    ensures counts { S.faults out.old ≤ S.faults out.new }
+    ensures leaves { Leaves (to_store (Some (asked ask.now)) answer.now) (stores (F.holds files.old) (F.holds files.new) (F.store_faults files.old) (F.store_faults files.new)) }
+    ensures counts { NoneFell (F.faults files.old) (F.faults files.new) }
+    ensures store_counts { NoneFell (F.store_faults files.old) (F.store_faults files.new) }
+    ensures sink_counts { S.faults out.old ≤ S.faults out.new }
 {
     let bytes = reply(alloc, answer, ask)?;
-    put_whole(bytes.as_slice(), answer.status(), out)
+    if !fits(out.room(), bytes.len()) {
+        return Err(AllocError);
+    }
+    match to_store(answer, ask) {
+        Some(item) => put_stored(alloc, &item, bytes.as_slice(), answer.status(), files, out),
+        None => Ok(put_fitting(bytes.as_slice(), answer.status(), out)),
+    }
 }

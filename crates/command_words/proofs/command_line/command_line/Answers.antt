@@ -1,15 +1,17 @@
 use Rattle.std.proofs.Common.{◌∙◌, ap}
 use Rattle.std.proofs.lemmas.Result.{IfOk-weaker}
 use Rattle.clap.specs.Words.{App, app_of, with_subcommand}
-use Rattle.command_words.specs.CommandLine.{check_command, run_command, replay_command, fmt_command, cuts_command}
+use Rattle.command_words.specs.CommandLine.{check_command, verify_command, run_command, replay_command, fmt_command, cuts_command, generate_command}
 use Rattle.command_words.proofs.Added.{added}
 use Rattle.command_words.proofs.command_line.command_line.Goals as goal
 
 pub returns : goal.returns
 returns c =
     let with_check = added c.check.result (app_of c.program.result) _ _ c.check.ensures.shape c.in_ok-line.ensures ∙ ap (λ (a : App). with_subcommand a check_command) c.program.ensures in
-    let with_run = added c.run.result (app_of c.in_ok-line.line) _ _ c.run.ensures.shape c.in_ok-line-2.ensures ∙ ap (λ (a : App). with_subcommand a run_command) with_check in
-    let with_replay = added c.replay.result (app_of c.in_ok-line-2.line) _ _ c.replay.ensures.shape c.in_ok-line-3.ensures ∙ ap (λ (a : App). with_subcommand a replay_command) with_run in
-    let with_fmt = added c.fmt.result (app_of c.in_ok-line-3.line) _ _ c.fmt.ensures.shape c.in_ok-line-4.ensures ∙ ap (λ (a : App). with_subcommand a fmt_command) with_replay in
-    IfOk-weaker c.with_command-5.result _ _
-    (λ command h. added c.cuts.result (app_of c.in_ok-line-4.line) _ _ c.cuts.ensures.shape h ∙ ap (λ (a : App). with_subcommand a cuts_command) with_fmt) c.with_command-5.ensures
+    let with_verify = added c.verify.result (app_of c.in_ok-line.line) _ _ c.verify.ensures.shape c.in_ok-line-2.ensures ∙ ap (λ (a : App). with_subcommand a verify_command) with_check in
+    let with_run = added c.run.result (app_of c.in_ok-line-2.line) _ _ c.run.ensures.shape c.in_ok-line-3.ensures ∙ ap (λ (a : App). with_subcommand a run_command) with_verify in
+    let with_replay = added c.replay.result (app_of c.in_ok-line-3.line) _ _ c.replay.ensures.shape c.in_ok-line-4.ensures ∙ ap (λ (a : App). with_subcommand a replay_command) with_run in
+    let with_fmt = added c.fmt.result (app_of c.in_ok-line-4.line) _ _ c.fmt.ensures.shape c.in_ok-line-5.ensures ∙ ap (λ (a : App). with_subcommand a fmt_command) with_replay in
+    let with_cuts = added c.cuts.result (app_of c.in_ok-line-5.line) _ _ c.cuts.ensures.shape c.in_ok-line-6.ensures ∙ ap (λ (a : App). with_subcommand a cuts_command) with_fmt in
+    IfOk-weaker c.with_command-7.result _ _
+    (λ command h. added c.generate.result (app_of c.in_ok-line-6.line) _ _ c.generate.ensures.shape h ∙ ap (λ (a : App). with_subcommand a generate_command) with_cuts) c.with_command-7.ensures

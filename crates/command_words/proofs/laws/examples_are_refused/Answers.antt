@@ -14,6 +14,9 @@ returns c = record {
   no_value = refl;
   flag_for_value = refl;
   twice = refl;
+  no_loops = refl;
+  too_many_loops = refl;
+  no_certificate = refl;
   help = refl;
   top_help = refl;
 }

@@ -11,4 +11,6 @@ returns c = record {
   named_as_command = (refl, refl);
   after_hyphens = (refl, refl);
   hyphen_value = (refl, refl);
+  most_loops = (refl, refl);
+  with_plus = (refl, refl);
 }

@@ -8,6 +8,7 @@ pub returns : goal.returns
 unfolding clap_on_literals asked_of
 returns c = record {
   check = λ a b p q. rw (no_hyphens a p, no_long a p, no_short a p, no_hyphens b q, no_long b q, no_short b q) (refl, refl);
+  verify = λ a b d p q r. rw (no_hyphens a p, no_long a p, no_short a p, no_hyphens b q, no_long b q, no_short b q, no_hyphens d r, no_long d r, no_short d r) (refl, refl);
   run = λ a b p q. rw (no_hyphens a p, no_long a p, no_short a p, no_hyphens b q, no_long b q, no_short b q) (refl, refl);
   replay = λ a b d p q r. rw (no_hyphens a p, no_long a p, no_short a p, no_hyphens b q, no_long b q, no_short b q, no_hyphens d r, no_long d r, no_short d r) (refl, refl);
   fmt = λ a p. rw (no_hyphens a p, no_long a p, no_short a p) (refl, refl);

@@ -1,9 +1,9 @@
 use Rattle.std.proofs.Common.{rules, Some}
 use Rattle.command_words.specs.Words.{asked}
-use Rattle.fsmd_tool.specs.Readings.{call, IsCorrectBy}
-use Rattle.fsmd_tool.specs.Loading.{WhereAnswered}
-use Rattle.fsmd_tool.specs.Texts.{HasCanonicalText}
-use Rattle.fsmd_tool.specs.Correct.{FollowsForText, TextRefused}
+use Rattle.fsmd_tool.specs.Calls.{call, IsCorrectBy}
+use Rattle.command_answers.specs.Refusing.{WhereAnswered}
+use Rattle.command_answers.specs.Texts.{HasCanonicalText}
+use Rattle.command_answers.specs.Follows.{FollowsForText, TextRefused}
 use Rattle.fsmd_tool.proofs.FromFiles.{machine_refused, canonical_listed}
 use Rattle.fsmd_tool.proofs.answers.format_text.Goals as goal
 

@@ -1,21 +1,19 @@
 use Rattle.std.proofs.Common.{rules, Some}
 use Rattle.command_words.specs.Words.{asked}
-use Rattle.fs_base.specs.Outside.{Rose}
+use Rattle.fsmd_tool.specs.Calls.{call}
+use Rattle.fsmd_tool.specs.Loading.{Gives}
+use Rattle.command_answers.specs.Refusing.{WhereAnswered}
 use Rattle.fs_runs.specs.InputValues.{inputs_of}
-use Rattle.fsmd_tool.specs.declared.answer.Operand.TheVariants.{Third}
-use Rattle.fsmd_tool.specs.Words.{word_of}
-use Rattle.fsmd_tool.specs.Replays.{IsOfReplay}
 use Rattle.fs_show.proofs.Serving.{serves_both}
-use Rattle.fsmd_tool.specs.Correct.{FollowsFromInputs}
-use Rattle.fsmd_tool.specs.Loading.{WhereAnswered, MayGive}
+use Rattle.command_answers.specs.declared.answer.Operand.TheVariants.{Third}
+use Rattle.command_answers.specs.Replays.{IsOfReplay}
+use Rattle.command_answers.specs.Follows.{ForReplay}
 use Rattle.fsmd_tool.proofs.FromFiles.{inputs_refused, inputs_spelled}
 use Rattle.fsmd_tool.proofs.answers.replay_from.Goals as goal
 
 pub returns-in_err-inputs-clause-refused : goal.returns-in_err-inputs-clause-refused
 returns-in_err-inputs-clause-refused g c =
-    let h : WhereAnswered (λ x. MayGive (g.F.Files.holds c.args.files.now (word_of (Some (asked c.args.ask.now)) Third)) (Rose (g.F.Files.faults c.args.files.now (word_of (Some (asked c.args.ask.now)) Third)) (g.F.Files.faults c.load_inputs.new.files (word_of (Some (asked c.args.ask.now)) Third))) (λ content. FollowsFromInputs (IsOfReplay c.args.steps c.args.left.now c.args.right.now) c.args.left.now Third content x)) c.in_err-inputs.field-0.0 =
-    inputs_refused (IsOfReplay c.args.steps c.args.left.now c.args.right.now) c.args.left.now Third _ _ _ c.in_err-inputs.ensures.refused
-    in
+    let h : WhereAnswered (Gives (call (Some (asked c.args.ask.now)) (g.F.Files.holds c.args.files.now) (g.F.Files.faults c.args.files.now) (g.F.Files.faults c.load_inputs.new.files)) Third (ForReplay c.args.steps c.args.left.now c.args.right.now)) c.in_err-inputs.field-0.0 = inputs_refused (IsOfReplay c.args.steps c.args.left.now c.args.right.now) c.args.left.now Third _ _ _ c.in_err-inputs.ensures.refused in
     search rules
 
 pub returns-clause-ok : goal.returns-clause-ok

@@ -1,9 +1,10 @@
+use Rattle.command_answers.proofs.Maps.{answer_map, ok_map, err_map}
 use Rattle.std.proofs.Common.{rules, Some}
 use Rattle.command_words.specs.Words.{asked}
-use Rattle.fsmd_tool.specs.Readings.{call, IsCorrectBy}
-use Rattle.fsmd_tool.specs.Loading.{WhereAnswered}
-use Rattle.fsmd_tool.specs.Correct.{FollowsForRun, MachineRefused}
-use Rattle.fsmd_tool.proofs.FromFiles.{answer_map, ok_map, err_map, machine_refused, ran}
+use Rattle.fsmd_tool.specs.Calls.{call, IsCorrectBy}
+use Rattle.command_answers.specs.Refusing.{WhereAnswered}
+use Rattle.command_answers.specs.Follows.{FollowsForRun, MachineRefused}
+use Rattle.fsmd_tool.proofs.FromFiles.{machine_refused, ran}
 use Rattle.fsmd_tool.proofs.answers.run_files.Goals as goal
 
 pub returns-in_err-machine-clause-refused : goal.returns-in_err-machine-clause-refused

@@ -1,20 +1,18 @@
 use Rattle.std.proofs.Common.{rules, Some}
 use Rattle.command_words.specs.Words.{asked}
-use Rattle.fs_base.specs.Outside.{Rose}
+use Rattle.fsmd_tool.specs.Calls.{call}
+use Rattle.fsmd_tool.specs.Loading.{Gives}
+use Rattle.command_answers.specs.Refusing.{WhereAnswered}
 use Rattle.fs_runs.specs.InputValues.{inputs_of}
-use Rattle.fsmd_tool.specs.declared.answer.Operand.TheVariants.{Second}
-use Rattle.fsmd_tool.specs.Words.{word_of}
-use Rattle.fsmd_tool.specs.Runs.{IsOfRun}
-use Rattle.fsmd_tool.specs.Correct.{FollowsFromInputs}
-use Rattle.fsmd_tool.specs.Loading.{WhereAnswered, MayGive}
+use Rattle.command_answers.specs.declared.answer.Operand.TheVariants.{Second}
+use Rattle.command_answers.specs.Runs.{IsOfRun}
+use Rattle.command_answers.specs.Follows.{FollowsFromInputs}
 use Rattle.fsmd_tool.proofs.FromFiles.{inputs_refused, inputs_spelled}
 use Rattle.fsmd_tool.proofs.answers.run_from.Goals as goal
 
 pub returns-in_err-inputs-clause-refused : goal.returns-in_err-inputs-clause-refused
 returns-in_err-inputs-clause-refused g c =
-    let h : WhereAnswered (λ x. MayGive (g.F.Files.holds c.args.files.now (word_of (Some (asked c.args.ask.now)) Second)) (Rose (g.F.Files.faults c.args.files.now (word_of (Some (asked c.args.ask.now)) Second)) (g.F.Files.faults c.load_inputs.new.files (word_of (Some (asked c.args.ask.now)) Second))) (λ content. FollowsFromInputs (IsOfRun c.args.steps c.args.machine.now) c.args.machine.now Second content x)) c.in_err-inputs.field-0.0 =
-    inputs_refused (IsOfRun c.args.steps c.args.machine.now) c.args.machine.now Second _ _ _ c.in_err-inputs.ensures.refused
-    in
+    let h : WhereAnswered (Gives (call (Some (asked c.args.ask.now)) (g.F.Files.holds c.args.files.now) (g.F.Files.faults c.args.files.now) (g.F.Files.faults c.load_inputs.new.files)) Second (FollowsFromInputs (IsOfRun c.args.steps c.args.machine.now) c.args.machine.now Second)) c.in_err-inputs.field-0.0 = inputs_refused (IsOfRun c.args.steps c.args.machine.now) c.args.machine.now Second _ _ _ c.in_err-inputs.ensures.refused in
     search rules
 
 pub returns-clause-ok : goal.returns-clause-ok

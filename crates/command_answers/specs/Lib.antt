@@ -1,0 +1,14 @@
+pub mod Statuses
+pub mod Words
+pub mod Lines
+pub mod Texts
+pub mod Paths
+pub mod Readings
+pub mod Refusals
+pub mod Refusing
+pub mod Pairs
+pub mod Verdicts
+pub mod Runs
+pub mod Replays
+pub mod Follows
+pub mod Replies

@@ -1,0 +1,120 @@
+-- The bytes that each answer puts.
+use Rattle.std.specs.Prelude.{ℕ, List, [], ◌++◌, Option, Some, None, codes, decimal}
+use Rattle.command_words.specs.Words.{Asked, Generate}
+use Rattle.fs_grammar.specs.declared.fault.TextKind.{TextKind}
+use Rattle.fs_grammar.specs.declared.fault.TextKind.TheVariants.{BadByte, BadWord, NumberTooBig, Unexpected, Operators, Nested, Ended}
+use Rattle.fs_rules.specs.declared.check.CheckRule.{CheckRule}
+use Rattle.fs_rules.specs.declared.check.CheckRule.TheVariants.{TwiceNamed, UnknownName, WrongSort, AssignInput, AssignedTwice, NoElse, AfterElse, TooManyBranches, EndlessLine, UnknownState, TooMany, TooManyEmits}
+use Rattle.fs_inputs.specs.declared.faults.Fault.{Fault}
+use Rattle.fs_inputs.specs.declared.faults.Fault.TheVariants.{Shape, Unknown, TooBig}
+use Rattle.cert_text.specs.declared.faults.CertError.{CertError}
+use Rattle.cert_text.specs.declared.faults.CertError.TheVariants as cert_errors
+use Rattle.command_answers.specs.declared.answer.Answer.{Answer}
+use Rattle.command_answers.specs.declared.answer.Answer.TheVariants.{Usage, Equivalent, Text, Differs, Undecided, TextRefused, CheckRefused, NotJson, InputRefused, CertRefused, Interfaces, TooLong, CannotRead}
+use Rattle.command_answers.specs.Words.{word_of}
+
+-- the name of what is wrong in a text
+abbrev pub kind_name : TextKind → List ℕ
+kind_name BadByte = codes "BadByte"
+kind_name BadWord = codes "BadWord"
+kind_name NumberTooBig = codes "NumberTooBig"
+kind_name Unexpected = codes "Unexpected"
+kind_name Operators = codes "Operators"
+kind_name Nested = codes "Nested"
+kind_name Ended = codes "Ended"
+
+-- the name of a broken rule
+abbrev pub rule_name : CheckRule → List ℕ
+rule_name TwiceNamed = codes "TwiceNamed"
+rule_name UnknownName = codes "UnknownName"
+rule_name WrongSort = codes "WrongSort"
+rule_name AssignInput = codes "AssignInput"
+rule_name AssignedTwice = codes "AssignedTwice"
+rule_name NoElse = codes "NoElse"
+rule_name AfterElse = codes "AfterElse"
+rule_name TooManyBranches = codes "TooManyBranches"
+rule_name EndlessLine = codes "EndlessLine"
+rule_name UnknownState = codes "UnknownState"
+rule_name TooMany = codes "TooMany"
+rule_name TooManyEmits = codes "TooManyEmits"
+
+-- the name of what is wrong in a file of inputs
+abbrev pub input_fault_name : Fault → List ℕ
+input_fault_name Shape = codes "Shape"
+input_fault_name Unknown = codes "UnknownName"
+input_fault_name TooBig = codes "NumberTooBig"
+
+-- the name of what is wrong in a file of a certificate
+abbrev pub cert_error_name : CertError → List ℕ
+cert_error_name cert_errors.NotJson = codes "NotJson"
+cert_error_name cert_errors.Shape = codes "Shape"
+cert_error_name (cert_errors.UnknownState node) = codes "UnknownState"
+cert_error_name (cert_errors.NotCutpoint node) = codes "NotCutpoint"
+cert_error_name (cert_errors.UnknownName node) = codes "UnknownName"
+cert_error_name (cert_errors.SortOf node) = codes "SortOf"
+cert_error_name (cert_errors.NotSolved node place) = codes "NotSolved"
+cert_error_name (cert_errors.TwiceNode node) = codes "TwiceNode"
+cert_error_name (cert_errors.NumberTooBig node) = codes "NumberTooBig"
+cert_error_name cert_errors.TooMany = codes "TooMany"
+cert_error_name cert_errors.NoMemory = codes "NoMemory"
+cert_error_name (cert_errors.BadTerm node) = codes "BadTerm"
+cert_error_name (cert_errors.NotNormal node) = codes "NotNormal"
+
+-- the node where something is wrong, from 0, if it is of a node
+abbrev pub node_in : CertError → Option ℕ
+node_in (cert_errors.UnknownState node) = Some node
+node_in (cert_errors.NotCutpoint node) = Some node
+node_in (cert_errors.UnknownName node) = Some node
+node_in (cert_errors.SortOf node) = Some node
+node_in (cert_errors.NotSolved node place) = Some node
+node_in (cert_errors.TwiceNode node) = Some node
+node_in (cert_errors.NumberTooBig node) = Some node
+node_in (cert_errors.BadTerm node) = Some node
+node_in (cert_errors.NotNormal node) = Some node
+node_in _ = None
+
+abbrev pub node_text : Option ℕ → List ℕ
+node_text None = []
+node_text (Some node) = codes " node " ++ decimal node
+
+-- the line with which each reply to what is asked begins: of generated machines their number of loops
+abbrev pub opening : Option Asked → List ℕ
+opening (Some (Generate loops)) = codes "generated: " ++ (decimal loops ++ codes " loops\n")
+opening _ = []
+
+-- the line that machines of the same behaviour get
+abbrev pub equivalent_text : (nodes : ℕ) → List ℕ
+equivalent_text nodes = codes "equivalent: " ++ (decimal nodes ++ codes " nodes\n")
+
+-- the line that a refused file begins with
+abbrev pub refused_text : List ℕ → List ℕ → List ℕ
+refused_text word rest = codes "bad input: " ++ (word ++ rest)
+
+-- the lines of each answer to what is asked
+abbrev pub lines_of : Answer → Option Asked → List ℕ
+lines_of Usage asked =
+    codes "usage: fsmd check A B [--cert F] [--steps N] | verify A B C | run A I [--steps N] | replay A B I [--steps N] | fmt A | cuts A | generate N\n"
+lines_of (Equivalent nodes cert) asked = equivalent_text nodes
+lines_of (Text lines) asked = lines
+lines_of (Differs lines) asked = lines
+lines_of (Undecided lines) asked = lines
+lines_of (TextRefused file fault) asked =
+    refused_text (word_of asked file) (codes ":" ++ (decimal fault.line ++ (codes ":" ++ (decimal fault.column ++ (codes ": " ++ (kind_name fault.kind ++ codes "\n"))))))
+lines_of (CheckRefused file fault) asked =
+    refused_text (word_of asked file) (codes ":" ++ (decimal fault.line ++ (codes ": " ++ (rule_name fault.rule ++ codes "\n"))))
+lines_of (NotJson file) asked = refused_text (word_of asked file) (codes ": NotJson\n")
+lines_of (InputRefused file fault name) asked =
+    refused_text (word_of asked file) (codes ": " ++ (input_fault_name fault ++ (codes " " ++ (name ++ codes "\n"))))
+lines_of (CertRefused file error) asked =
+    refused_text (word_of asked file) (codes ": " ++ (cert_error_name error ++ (node_text (node_in error) ++ codes "\n")))
+lines_of (Interfaces name) asked = codes "bad input: interface: " ++ (name ++ codes "\n")
+lines_of (TooLong file limit) asked = refused_text (word_of asked file) (codes ": longer than " ++ (decimal limit ++ codes " bytes\n"))
+lines_of (CannotRead file) asked = codes "fault: cannot read " ++ (word_of asked file ++ codes "\n")
+
+-- the reply of each answer to what is asked
+abbrev pub reply : Answer → Option Asked → List ℕ
+reply answer asked = opening asked ++ lines_of answer asked
+
+-- the reply where the certificate could not be stored
+abbrev pub unstored_reply : (name : List ℕ) → List ℕ
+unstored_reply name = codes "fault: cannot write " ++ (name ++ codes "\n")

@@ -1,0 +1,53 @@
+-- What the bytes of a file spell, by the grammar of machine texts and the rules of machines.
+use Rattle.std.specs.Prelude.{◌≡◌, ℕ, ◌<◌, ◌≤◌, List, length}
+use Rattle.fs_model.specs.Source.{Source}
+use Rattle.fs_model.specs.Machines.{Fsmd}
+use Rattle.fs_model.specs.Limits.{most_text_bytes}
+use Rattle.fs_grammar.specs.declared.fault.TextFault.{TextFault}
+use Rattle.fs_text_laws.specs.Texts.{TextSpells, TextStops}
+use Rattle.fs_write.specs.Canonical.{canonical}
+use Rattle.fs_rules.specs.declared.check.CheckFault.{CheckFault}
+use Rattle.fs_ast.specs.Spelled.{machine_of}
+use Rattle.fs_ast.specs.Rules.{IsLawful, IsFirstBroken}
+
+-- the most bytes of a certificate that are read
+abbrev pub most_certificate_bytes : ℕ
+most_certificate_bytes = 268435456
+
+-- there are more bytes than are read
+abbrev pub IsTooLong : (limit : ℕ) → List ℕ → Type 0
+IsTooLong limit bytes = limit < length bytes
+
+-- the bytes spell these parts, which break no rule
+pub record SpellsParts (parts : Source) (bytes : List ℕ) : Type 0 where
+  pub few : length bytes ≤ most_text_bytes
+  pub spells : TextSpells bytes parts
+  pub lawful : IsLawful parts
+
+-- the bytes spell this machine
+pub record SpellsMachine (m : Fsmd) (bytes : List ℕ) : Type 0 where
+  pub parts : Source
+  pub spells : SpellsParts parts bytes
+  pub machine : m ≡ machine_of parts
+
+-- the bytes spell some machine
+abbrev pub IsMachine : List ℕ → Type 0
+IsMachine bytes = (m : Fsmd) × SpellsMachine m bytes
+
+-- the bytes spell a machine, of whose parts this is the canonical text
+pub record HasCanonicalText (text : List ℕ) (bytes : List ℕ) : Type 0 where
+  pub parts : Source
+  pub spells : SpellsParts parts bytes
+  pub is_canonical : text ≡ canonical parts
+
+-- the bytes spell no parts: they are faulty here
+pub record HasTextFault (fault : TextFault) (bytes : List ℕ) : Type 0 where
+  pub few : length bytes ≤ most_text_bytes
+  pub stops : TextStops bytes fault
+
+-- the bytes spell parts, and this is the rule that they break first
+pub record HasCheckFault (fault : CheckFault) (bytes : List ℕ) : Type 0 where
+  pub parts : Source
+  pub few : length bytes ≤ most_text_bytes
+  pub spells : TextSpells bytes parts
+  pub broken : IsFirstBroken parts fault

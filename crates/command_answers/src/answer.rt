@@ -1,0 +1,184 @@
+//! How a command ends, and what it answers.
+
+ghost use Rattle.std.specs.Prelude.{◌≡◌, option_map};
+ghost use Rattle.command_answers.specs.Statuses.{code_of, status_of, certificate_in};
+
+use cert_text::faults::CertError;
+use fs_ast::check::CheckFault;
+use fs_grammar::fault::TextFault;
+use fs_inputs::Fault as InputFault;
+use fs_model::name::Name;
+use std::marker::Model;
+
+/// How a command ended.
+#[derive(Clone, Copy, Debug, PartialEq, Eq)]
+pub enum Status {
+    /// The question was answered, and where it can have a yes, with that.
+    Fine,
+    /// A difference was found.
+    Differ,
+    /// Neither sameness nor a difference was found.
+    Undecided,
+    /// The words are no command.
+    Usage,
+    /// A file that was named is refused.
+    BadInput,
+    /// Out of memory.
+    NoMemory,
+    /// A file could not be read or written, or the reply could not be written.
+    Fault,
+}
+
+impl Status {
+    /// The number with which the program ends.
+    pub fn code(self) -> u8
+        ensures { result ≡ code_of self }
+    {
+        match self {
+            Status::Fine => 0,
+            Status::Differ => 1,
+            Status::Undecided => 2,
+            Status::Usage => 64,
+            Status::BadInput => 65,
+            Status::NoMemory => 71,
+            Status::Fault => 74,
+        }
+    }
+}
+
+/// Which file of a command: the first, the second or the third that it names.
+#[derive(Clone, Copy, Debug, PartialEq, Eq)]
+pub enum Operand {
+    First,
+    Second,
+    Third,
+}
+
+/// Lines of text that a command answers. Contracts see their bytes.
+#[derive(Drop)]
+pub struct Lines {
+    bytes: Vec<u8>,
+}
+
+impl Model for Lines {
+    ghost use Rattle.std.specs.Prelude.{ℕ, List};
+
+    ghost Value = { List ℕ };
+
+    ghost view = { λ lines. lines.bytes.items };
+}
+
+impl Lines {
+    /// Lines of these bytes. Takes no memory.
+    pub fn of(bytes: Vec<u8>) -> Lines
+        ensures { result ≡ bytes.items }
+    {
+        Lines { bytes }
+    }
+
+    /// The bytes. Takes no memory.
+    pub fn bytes(&self) -> &[u8]
+        ensures { result.now ≡ self.now }
+    {
+        self.bytes.as_slice()
+    }
+}
+
+/// What a command answers.
+#[derive(Drop)]
+pub enum Answer {
+    /// The words are no command.
+    Usage,
+    /// The machines have the same behaviour, which this many nodes show; with the text of the certificate, where that
+    /// is to be stored.
+    Equivalent {
+        nodes: u32,
+        cert: Option<Lines>,
+    },
+    /// What was asked of a machine, or of runs that ended, with the same outputs where they are two; or that a
+    /// certificate shows that two machines have the same behaviour.
+    Text {
+        lines: Lines,
+    },
+    /// Two runs that ended with other outputs, or an obligation of a certificate that fails.
+    Differs {
+        lines: Lines,
+    },
+    /// What kept two machines, a certificate or a run from being decided.
+    Undecided {
+        lines: Lines,
+    },
+    /// A file spells no parts of a machine.
+    TextRefused {
+        file: Operand,
+        fault: TextFault,
+    },
+    /// The parts that a file spells break a rule.
+    CheckRefused {
+        file: Operand,
+        fault: CheckFault,
+    },
+    /// A file of inputs is not JSON.
+    NotJson {
+        file: Operand,
+    },
+    /// A file of inputs has a fault at a name.
+    InputRefused {
+        file: Operand,
+        fault: InputFault,
+        name: Lines,
+    },
+    /// A file spells no certificate.
+    CertRefused {
+        file: Operand,
+        error: CertError,
+    },
+    /// A name is an input or output of one machine and not alike of the other.
+    Interfaces {
+        name: Name,
+    },
+    /// A file has more bytes than are read.
+    TooLong {
+        file: Operand,
+        limit: u64,
+    },
+    /// A file could not be read.
+    CannotRead {
+        file: Operand,
+    },
+}
+
+impl Answer {
+    /// The status with which a command that answers this ends.
+    pub fn status(&self) -> Status
+        ensures { result ≡ status_of self.now }
+    {
+        match self {
+            Answer::Equivalent { .. } | Answer::Text { .. } => Status::Fine,
+            Answer::Differs { .. } => Status::Differ,
+            Answer::Undecided { .. } => Status::Undecided,
+            Answer::Usage => Status::Usage,
+            Answer::TextRefused { .. }
+            | Answer::CheckRefused { .. }
+            | Answer::NotJson { .. }
+            | Answer::InputRefused { .. }
+            | Answer::CertRefused { .. }
+            | Answer::Interfaces { .. }
+            | Answer::TooLong { .. } => Status::BadInput,
+            Answer::CannotRead { .. } => Status::Fault,
+        }
+    }
+
+    /// The text of a certificate that is to be stored, if one is. Takes no memory.
+    pub fn certificate(&self) -> Option<&[u8]>
+        ensures { option_map (λ text. text.now) result ≡ certificate_in self.now }
+    {
+        match self {
+            Answer::Equivalent {
+                cert: Some(lines),
+                ..
+            } => Some(lines.bytes()),
+            _ => None,
+        }
+    }
+}

@@ -1,0 +1,14 @@
+//! What each command answers, from what was read of its files, and the bytes of each answer.
+#![tactic(auto)]
+
+pub mod answer;
+pub mod compare;
+pub mod generated;
+pub mod judge;
+pub mod reading;
+mod reason;
+mod refusals;
+pub mod refused;
+pub mod reply;
+pub mod runs;
+pub mod words;

@@ -1,0 +1,117 @@
+-- Which statuses an answer has.
+use Rattle.std.proofs.Common.{◌≡◌, ◌⊎◌, inl, inr, ◌∙◌, ℕ, Bool, true, false, List, refl, sym, ap, subst}
+use Rattle.std.proofs.lemmas.Bool.{false≢true}
+use Rattle.fs_model.specs.Machines.{Fsmd}
+use Rattle.fs_model.specs.Runs.{Inputs}
+use Rattle.certificates.specs.Obligations.{Verdict, Yes, No, IsWide, IsLarge}
+use Rattle.command_answers.specs.declared.answer.Operand.{Operand}
+use Rattle.command_answers.specs.declared.answer.Operand.TheVariants.{First, Second}
+use Rattle.command_answers.specs.declared.answer.Status.{Status}
+use Rattle.command_answers.specs.declared.answer.Status.TheVariants as statuses
+use Rattle.command_answers.specs.declared.answer.Answer.{Answer}
+use Rattle.command_answers.specs.Statuses.{status_of}
+use Rattle.command_answers.specs.Lines.{HasLines}
+use Rattle.command_answers.specs.Readings.{Content, Unreadable, Reading}
+use Rattle.command_answers.specs.Refusals.{IsUnread, Failed, Long, RefusesMachine, Unread, ByText, ByRule, RefusesPair, FirstRefused, SecondRefused, InterfacesDiffer, RefusesInputs, UnreadInputs, ByJson, ByInput, RefusesCertificate, UnreadCertificate, ByCertificate}
+use Rattle.command_answers.specs.Pairs.{IsOfPair, Same, Apart, Open}
+use Rattle.command_answers.specs.Verdicts.{answer_to}
+use Rattle.command_answers.specs.Runs.{IsOfRun, Ended, Stopped}
+use Rattle.command_answers.specs.Replays.{IsOfReplay, LeftStopped, RightStopped, Agreed, Differed}
+
+abbrev pub Ends : Status → Answer → Type 0
+Ends s x = status_of x ≡ s
+
+-- an answer has one status
+pub moved : (s t : Status) (x y : Answer) → x ≡ y → status_of y ≡ t → Ends s x → t ≡ s
+moved s t x y e is h = sym is ∙ ap status_of (sym e) ∙ h
+
+-- the statuses of refused files
+abbrev pub is_refusal : Status → Bool
+is_refusal statuses.BadInput = true
+is_refusal statuses.Fault = true
+is_refusal _ = false
+
+-- a status that is none of these is none of a refused file
+pub not_refused : (s : Status) (x : Answer) → is_refusal s ≡ false → is_refusal (status_of x) ≡ true → Ends s x → ⊥
+not_refused s x away refused e = false≢true (sym away ∙ ap is_refusal (sym e) ∙ refused)
+
+-- ---- refused files
+
+pub unread_refuses : (limit : ℕ) (file : Operand) (c : Content) (x : Answer) → IsUnread limit file c x → is_refusal (status_of x) ≡ true
+unread_refuses limit file c x (Failed u e) = ap (λ y. is_refusal (status_of y)) e
+unread_refuses limit file c x (Long u e) = ap (λ y. is_refusal (status_of y)) e
+
+pub machine_refuses : (file : Operand) (c : Content) (x : Answer) → RefusesMachine file c x → is_refusal (status_of x) ≡ true
+machine_refuses file c x (Unread u) = unread_refuses _ file c x u
+machine_refuses file c x (ByText f t e) = ap (λ y. is_refusal (status_of y)) e
+machine_refuses file c x (ByRule f t e) = ap (λ y. is_refusal (status_of y)) e
+
+pub pair_refuses : (r : Reading) (x : Answer) → RefusesPair r x → is_refusal (status_of x) ≡ true
+pair_refuses r x (FirstRefused p) = machine_refuses First r.first x p
+pair_refuses r x (SecondRefused m p) = machine_refuses Second r.second x p
+pair_refuses r x (InterfacesDiffer a b p l) = ap (λ y. is_refusal (status_of y)) l.is
+
+pub certificate_refuses : (a b : Fsmd) (file : Operand) (c : Content) (x : Answer) → RefusesCertificate a b file c x → is_refusal (status_of x) ≡ true
+certificate_refuses a b file c x (UnreadCertificate u) = unread_refuses _ file c x u
+certificate_refuses a b file c x (ByCertificate f t e) = ap (λ y. is_refusal (status_of y)) e
+
+-- where the status is of a fault, the file could not be read
+
+unread_fault : (limit : ℕ) (file : Operand) (c : Content) (x : Answer) → IsUnread limit file c x → Ends statuses.Fault x → c ≡ Unreadable
+unread_fault limit file c x (Failed u e) s = u
+unread_fault limit file c x (Long u e) s = absurd (let h : statuses.BadInput ≡ statuses.Fault = moved statuses.Fault statuses.BadInput x _ e refl s in cc)
+
+pub machine_fault : (file : Operand) (c : Content) (x : Answer) → RefusesMachine file c x → Ends statuses.Fault x → c ≡ Unreadable
+machine_fault file c x (Unread u) s = unread_fault _ file c x u s
+machine_fault file c x (ByText f t e) s = absurd (let h : statuses.BadInput ≡ statuses.Fault = moved statuses.Fault statuses.BadInput x _ e refl s in cc)
+machine_fault file c x (ByRule f t e) s = absurd (let h : statuses.BadInput ≡ statuses.Fault = moved statuses.Fault statuses.BadInput x _ e refl s in cc)
+
+pub inputs_fault : (m : Fsmd) (file : Operand) (c : Content) (x : Answer) → RefusesInputs m file c x → Ends statuses.Fault x → c ≡ Unreadable
+inputs_fault m file c x (UnreadInputs u) s = unread_fault _ file c x u s
+inputs_fault m file c x (ByJson t e) s = absurd (let h : statuses.BadInput ≡ statuses.Fault = moved statuses.Fault statuses.BadInput x _ e refl s in cc)
+inputs_fault m file c x (ByInput f n t e) s = absurd (let h : statuses.BadInput ≡ statuses.Fault = moved statuses.Fault statuses.BadInput x _ e refl s in cc)
+
+pub certificate_fault : (a b : Fsmd) (file : Operand) (c : Content) (x : Answer) → RefusesCertificate a b file c x → Ends statuses.Fault x → c ≡ Unreadable
+certificate_fault a b file c x (UnreadCertificate u) s = unread_fault _ file c x u s
+certificate_fault a b file c x (ByCertificate f t e) s = absurd (let h : statuses.BadInput ≡ statuses.Fault = moved statuses.Fault statuses.BadInput x _ e refl s in cc)
+
+pub pair_fault : (r : Reading) (x : Answer) → RefusesPair r x → Ends statuses.Fault x → (r.first ≡ Unreadable) ⊎ (r.second ≡ Unreadable)
+pair_fault r x (FirstRefused p) s = inl (machine_fault First r.first x p s)
+pair_fault r x (SecondRefused m p) s = inr (machine_fault Second r.second x p s)
+pair_fault r x (InterfacesDiffer a b p l) s = absurd (let h : statuses.BadInput ≡ statuses.Fault = moved statuses.Fault statuses.BadInput x _ l.is refl s in cc)
+
+-- ---- answers that are no fault
+
+pub of_pair_fault : (limit : ℕ) (keeps : Bool) (a b : Fsmd) (x : Answer) → IsOfPair limit keeps a b x → Ends statuses.Fault x → ⊥
+of_pair_fault limit keeps a b x (Same ns same e) s = let h : statuses.Fine ≡ statuses.Fault = moved statuses.Fault statuses.Fine x _ e refl s in cc
+of_pair_fault limit keeps a b x (Apart l) s = let h : statuses.Differ ≡ statuses.Fault = moved statuses.Fault statuses.Differ x _ l.is refl s in cc
+of_pair_fault limit keeps a b x (Open l) s = let h : statuses.Undecided ≡ statuses.Fault = moved statuses.Fault statuses.Undecided x _ l.is refl s in cc
+
+pub run_fault : (limit : ℕ) (m : Fsmd) (ins : Inputs) (x : Answer) → IsOfRun limit m ins x → Ends statuses.Fault x → ⊥
+run_fault limit m ins x (Ended o n e l) s = let h : statuses.Fine ≡ statuses.Fault = moved statuses.Fault statuses.Fine x _ l.is refl s in cc
+run_fault limit m ins x (Stopped t e l) s = let h : statuses.Undecided ≡ statuses.Fault = moved statuses.Fault statuses.Undecided x _ l.is refl s in cc
+
+pub replay_fault : (limit : ℕ) (a b : Fsmd) (ins : Inputs) (x : Answer) → IsOfReplay limit a b ins x → Ends statuses.Fault x → ⊥
+replay_fault limit a b ins x (LeftStopped t e l) s = let h : statuses.Undecided ≡ statuses.Fault = moved statuses.Fault statuses.Undecided x _ l.is refl s in cc
+replay_fault limit a b ins x (RightStopped o n f t e l) s = let h : statuses.Undecided ≡ statuses.Fault = moved statuses.Fault statuses.Undecided x _ l.is refl s in cc
+replay_fault limit a b ins x (Agreed p q e t l) s = let h : statuses.Fine ≡ statuses.Fault = moved statuses.Fault statuses.Fine x _ l.is refl s in cc
+replay_fault limit a b ins x (Differed p q e t l) s = let h : statuses.Differ ≡ statuses.Fault = moved statuses.Fault statuses.Differ x _ l.is refl s in cc
+
+verdict_fault : (a b : Fsmd) (v : Verdict) → status_of (answer_to a b v) ≡ statuses.Fault → ⊥
+verdict_fault a b Yes s = cc
+verdict_fault a b (No k r) s = cc
+verdict_fault a b (IsWide k) s = cc
+verdict_fault a b (IsLarge k) s = cc
+
+pub judged_fault : (a b : Fsmd) (v : Verdict) (x : Answer) → x ≡ answer_to a b v → Ends statuses.Fault x → ⊥
+judged_fault a b v x e s = verdict_fault a b v (ap status_of (sym e) ∙ s)
+
+verdict_yes : (a b : Fsmd) (v : Verdict) → status_of (answer_to a b v) ≡ statuses.Fine → v ≡ Yes
+verdict_yes a b Yes s = refl
+verdict_yes a b (No k r) s = cc
+verdict_yes a b (IsWide k) s = cc
+verdict_yes a b (IsLarge k) s = cc
+
+-- only the verdict yes is answered with yes
+pub judged_yes : (a b : Fsmd) (v : Verdict) (x : Answer) → x ≡ answer_to a b v → Ends statuses.Fine x → v ≡ Yes
+judged_yes a b v x e s = verdict_yes a b v (ap status_of (sym e) ∙ s)

@@ -1,0 +1,51 @@
+-- What is known of the files of a call, and what may have been read of them.
+use Rattle.std.specs.Prelude.{ℕ, List, Option}
+use Rattle.command_words.specs.Words.{Asked}
+use Rattle.fs_base.specs.Outside.{Held, Rose, AreHeld}
+use Rattle.command_answers.specs.declared.answer.Operand.{Operand}
+use Rattle.command_answers.specs.declared.answer.Operand.TheVariants.{First, Second, Third}
+use Rattle.command_answers.specs.declared.answer.Answer.{Answer}
+use Rattle.command_answers.specs.Words.{word_of}
+use Rattle.command_answers.specs.Readings.{Content, Unopened, Readable, Unreadable, Reading}
+
+-- what the words of a call ask, what each name held at its start, and how often each had failed to be read before and at its end
+pub record Call : Type 0 where
+  pub asked : Option Asked
+  pub holds : List ℕ → Held
+  pub faults_before : List ℕ → ℕ
+  pub faults_now : List ℕ → ℕ
+
+abbrev pub call : Option Asked → (List ℕ → Held) → (before now : List ℕ → ℕ) → Call
+call asked holds before now = record { asked = asked; holds = holds; faults_before = before; faults_now = now }
+
+-- what is known of a file of the call
+abbrev pub held : Call → Operand → Held
+held g file = g.holds (word_of g.asked file)
+
+-- a file of the call failed to be read
+abbrev pub FailedToRead : Call → Operand → Type 0
+FailedToRead g file = Rose (g.faults_before (word_of g.asked file)) (g.faults_now (word_of g.asked file))
+
+-- what may be read of a file, of which this is known; Failed says that it failed to be read
+abbrev pub MayBeRead : Held → (Failed : Type 0) → Content → Type 0
+MayBeRead known Failed Unopened = Unit {0}
+MayBeRead known Failed (Readable bytes) = AreHeld known bytes
+MayBeRead known Failed Unreadable = Failed
+
+-- bytes that a file may hold, by what is known of it, meet P
+pub record MayHold (known : Held) (P : List ℕ → Type 0) : Type 0 where
+  pub bytes : List ℕ
+  pub may : AreHeld known bytes
+  pub meet : P bytes
+
+-- each file may be read so, by what is known of it alone
+pub record MayRead (g : Call) (r : Reading) : Type 0 where
+  pub first : MayBeRead (held g First) (FailedToRead g First) r.first
+  pub second : MayBeRead (held g Second) (FailedToRead g Second) r.second
+  pub third : MayBeRead (held g Third) (FailedToRead g Third) r.third
+
+-- the answer follows, by P, from what may have been read of the files
+pub record IsCorrectBy (P : Reading → Answer → Type 0) (g : Call) (answer : Answer) : Type 0 where
+  pub reading : Reading
+  pub may_be_read : MayRead g reading
+  pub follows : P reading answer

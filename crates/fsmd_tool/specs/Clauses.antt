@@ -1,0 +1,95 @@
+-- What the status of a call tells of its files and of what was put.
+use Rattle.std.specs.Prelude.{◌≡◌, ℕ, IsTrue, List, ◌++◌, length, Some, None, codes}
+use Rattle.command_words.specs.Words.{Generate}
+use Rattle.fs_base.specs.Outside.{Rose, appended}
+use Rattle.fs_model.specs.Machines.{Fsmd}
+use Rattle.fs_model.specs.Runs.{SameBehaviour}
+use Rattle.fs_pair.specs.Interfaces.{interface_fault}
+use Rattle.bisimulation.specs.Tables.{Node}
+use Rattle.sym_facts.specs.Facts.{Fact}
+use Rattle.certificates.specs.Obligations.{Yes}
+use Rattle.cert_writer.specs.Written.{certificate_text}
+use Rattle.search.specs.Answers.{machines, IsClosedWith}
+use Rattle.pair_answers.specs.Answers.{IsCounterexample, IsUndecided}
+use Rattle.command_answers.specs.declared.answer.Operand.{Operand}
+use Rattle.command_answers.specs.declared.answer.Operand.TheVariants.{First, Second, Third}
+use Rattle.command_answers.specs.Words.{names, cert_of, is_check, step_limit}
+use Rattle.command_answers.specs.Texts.{SpellsMachine}
+use Rattle.command_answers.specs.Refusals.{SpellsCertificate}
+use Rattle.command_answers.specs.Pairs.{left_of, right_of}
+use Rattle.command_answers.specs.Verdicts.{verdict_on}
+use Rattle.command_answers.specs.Replies.{opening, equivalent_text}
+use Rattle.fsmd_tool.specs.Calls.{Call, held, FailedToRead, MayHold}
+use Rattle.fsmd_tool.specs.Puts.{Put}
+use Rattle.fsmd_tool.specs.Stores.{Stores, IsKept, IsStored, IsUnstored}
+
+-- two machines are compared: those that the first two files of a check spell, each where it is known what it holds, or those of so many loops
+pub data AreCompared (g : Call) (a b : Fsmd) : Type 0 where
+  OfFiles : IsTrue (is_check g.asked) → MayHold (held g First) (SpellsMachine a) → MayHold (held g Second) (SpellsMachine b) → AreCompared g a b
+  OfLoops : (loops : ℕ) → g.asked ≡ Some (Generate loops) → a ≡ left_of loops → b ≡ right_of loops → AreCompared g a b
+
+-- machines with the same inputs and outputs are compared
+pub record ArePaired (g : Call) (a b : Fsmd) : Type 0 where
+  pub compared : AreCompared g a b
+  pub alike : interface_fault a b ≡ None
+
+-- this was put, behind the line with which each reply begins
+abbrev pub HasPut : Call → Put → List ℕ → Type 0
+HasPut g p lines = p.got_now ≡ appended p.got_before (opening g.asked ++ lines)
+
+-- a closed search's certificate shows that the machines have the same behaviour; its number of nodes was put, and it was stored where that is asked
+pub record SaysSame (g : Call) (s : Stores) (p : Put) : Type 0 where
+  pub left : Fsmd
+  pub right : Fsmd
+  pub paired : ArePaired g left right
+  pub nodes : List (Node Fact)
+  pub closed : IsClosedWith (machines left right) nodes
+  pub same : SameBehaviour left right
+  pub put : HasPut g p (equivalent_text (length nodes))
+  pub stored : (name : List ℕ) → cert_of g.asked ≡ Some name → IsStored name (certificate_text left right nodes) s
+
+-- runs of the machines from the first candidate that shows a difference end with other outputs, which was put
+pub record SaysDiffer (g : Call) (p : Put) : Type 0 where
+  pub left : Fsmd
+  pub right : Fsmd
+  pub paired : ArePaired g left right
+  pub lines : List ℕ
+  pub shows : IsCounterexample (step_limit g.asked) left right lines
+  pub put : HasPut g p lines
+
+-- no candidate shows a difference of the machines, and a legal list of moves stops at an obstacle, which was put
+pub record SaysUndecided (g : Call) (p : Put) : Type 0 where
+  pub left : Fsmd
+  pub right : Fsmd
+  pub paired : ArePaired g left right
+  pub lines : List ℕ
+  pub is_undecided : IsUndecided (step_limit g.asked) left right lines
+  pub put : HasPut g p lines
+
+-- the first two files spell machines with the same inputs and outputs and the third a lawful certificate of theirs, each where it is known what
+-- it holds; all its obligations hold, and the machines have the same behaviour
+pub record IsChecked (g : Call) (p : Put) : Type 0 where
+  pub left : Fsmd
+  pub right : Fsmd
+  pub nodes : List (Node Fact)
+  pub first : MayHold (held g First) (SpellsMachine left)
+  pub second : MayHold (held g Second) (SpellsMachine right)
+  pub third : MayHold (held g Third) (SpellsCertificate left right nodes)
+  pub alike : interface_fault left right ≡ None
+  pub hold : verdict_on left right nodes ≡ Yes
+  pub same : SameBehaviour left right
+  pub put : p.got_now ≡ appended p.got_before (codes "yes\n")
+
+-- no file was changed but the one for a certificate, and that only where a closed search made one: it was stored, or that failed
+pub data KeepsFiles (g : Call) (s : Stores) : Type 0 where
+  AllKept : IsKept s → KeepsFiles g s
+  CertificateStored : (name : List ℕ) → cert_of g.asked ≡ Some name → (a b : Fsmd) → ArePaired g a b → (nodes : List (Node Fact)) → IsClosedWith (machines a b) nodes
+      → IsStored name (certificate_text a b nodes) s → KeepsFiles g s
+  CertificateFailed : (name : List ℕ) → cert_of g.asked ≡ Some name → (a b : Fsmd) → ArePaired g a b → (nodes : List (Node Fact)) → IsClosedWith (machines a b) nodes
+      → IsUnstored name s → KeepsFiles g s
+
+-- a file that is named to be read failed to be read, the certificate failed to be stored, or the sink failed
+pub data HasCause (g : Call) (s : Stores) (p : Put) : Type 0 where
+  FileFailed : (file : Operand) → IsTrue (names g.asked file) → FailedToRead g file → HasCause g s p
+  CertificateUnstored : (name : List ℕ) → cert_of g.asked ≡ Some name → Rose (s.faults_before name) (s.faults_now name) → HasCause g s p
+  SinkFailed : Rose p.faults_before p.faults_now → HasCause g s p

@@ -1,0 +1,54 @@
+-- What became of a certificate that was to be stored.
+use Rattle.std.specs.Prelude.{◌≡◌, ℕ, List, Option, Some, None}
+use Rattle.command_words.specs.Words.{Asked}
+use Rattle.fs_base.specs.Outside.{Held, Rose, SameHeld, OthersHeld, held_after}
+use Rattle.command_answers.specs.declared.answer.Answer.{Answer}
+use Rattle.command_answers.specs.Statuses.{certificate_in}
+use Rattle.command_answers.specs.Words.{cert_of}
+
+-- what each name held before and holds now, and how often each had failed to be written before and now
+pub record Stores : Type 0 where
+  pub held_before : List ℕ → Held
+  pub held_now : List ℕ → Held
+  pub faults_before : List ℕ → ℕ
+  pub faults_now : List ℕ → ℕ
+
+abbrev pub stores : (held_before held_now : List ℕ → Held) → (faults_before faults_now : List ℕ → ℕ) → Stores
+stores held_before held_now faults_before faults_now = record { held_before = held_before; held_now = held_now; faults_before = faults_before; faults_now = faults_now }
+
+-- each name holds what it held
+abbrev pub IsKept : Stores → Type 0
+IsKept s = SameHeld s.held_before s.held_now
+
+-- this name holds these bytes now, where it is told, and each other what it held
+pub record IsStored (name bytes : List ℕ) (s : Stores) : Type 0 where
+  pub stored : s.held_now name ≡ held_after (s.held_before name) bytes
+  pub others : OthersHeld name s.held_before s.held_now
+
+-- this name failed to be written and may hold any bytes, and each other holds what it held
+pub record IsUnstored (name : List ℕ) (s : Stores) : Type 0 where
+  pub failed : Rose (s.faults_before name) (s.faults_now name)
+  pub others : OthersHeld name s.held_before s.held_now
+
+-- bytes that are to be stored under a name
+pub record Entry : Type 0 where
+  pub name : List ℕ
+  pub bytes : List ℕ
+
+abbrev pub entry : (name bytes : List ℕ) → Entry
+entry name bytes = record { name = name; bytes = bytes }
+
+abbrev pub entry_of : (name bytes : Option (List ℕ)) → Option Entry
+entry_of None bytes = None
+entry_of (Some name) None = None
+entry_of (Some name) (Some bytes) = Some (entry name bytes)
+
+-- what is to be stored of an answer to what is asked: its certificate, under the word for it
+abbrev pub to_store : Option Asked → Answer → Option Entry
+to_store o answer = entry_of (cert_of o) (certificate_in answer)
+
+-- what became of what was to be stored, if anything was
+pub data Leaves (e : Option Entry) (s : Stores) : Type 0 where
+  LeftAlone : IsKept s → Leaves e s
+  LeftStored : (x : Entry) → e ≡ Some x → IsStored x.name x.bytes s → Leaves e s
+  LeftUnstored : (x : Entry) → e ≡ Some x → IsUnstored x.name s → Leaves e s
