@@ -1,7 +1,7 @@
 //! A certificate cut short at each byte, and damaged in each of its strings.
 
 use crate::certificates::SUM_PAST_A_TEST;
-use cases::answers::{Held, answers, ended, pair_with};
+use cases::answers::{Held, answers, end_of, pair_with};
 use cases::machines::{SUM_BEFORE_A_TEST, SUM_BEHIND_A_TEST};
 use std::alloc::{AllocError, Global};
 use std::process::Abort;
@@ -34,7 +34,7 @@ fn each_front(rt: HostRuntime) -> Result<(), AllocError> {
 
 // Whether a certificate of this text is refused.
 fn is_refused(alloc: Global, cert: &str) -> Result<bool, AllocError> {
-    match ended(alloc, WORDS, &held_with(cert.as_bytes()))? {
+    match end_of(alloc, WORDS, &held_with(cert.as_bytes()))? {
         Some(ended) => Ok(ended.puts_front("bad input: c.json: ")),
         None => Ok(false),
     }

@@ -184,6 +184,29 @@ fn keys_that_are_no_positions(rt: HostRuntime) -> Result<(), AllocError> {
     )
 }
 
+const EQUATIONS: &str = r#""L.x":"0"¦"L.x":"0 + "¦bad input: c.json: BadTerm node 0
+"L.x":"0"¦"L.x":"170141183460469231731687303715884105728"¦bad input: c.json: NumberTooBig node 0
+"L.x":"L.a + L.b"¦"L.x":"L.b + L.a"¦bad input: c.json: NotNormal node 1
+"L.x":"L.a + L.b"¦"L.x":"L.a[0] + L.b"¦bad input: c.json: SortOf node 1
+"R.x":"0","R.y":"0"},"left":"s1"¦"R.x":"L.y","R.y":"0"},"left":"s1"¦bad input: c.json: NotSolved node 1
+"R.x":"L.a + L.b"¦"R.x":"L.a + L.z"¦bad input: c.json: UnknownName node 2
+"R.x":"L.a + L.b"¦"R.x":"L.a + L.b","R.a":"L.z"¦bad input: c.json: UnknownName node 2
+"R.y":"L.y"¦"R.y":"R.x"¦bad input: c.json: NotSolved node 2
+"#;
+
+// The node whose equation it is.
+#[test]
+fn equations_of_each_node(rt: HostRuntime) -> Result<(), AllocError> {
+    damaged(
+        &rt,
+        rt.alloc(),
+        SUM_BEFORE_A_TEST,
+        SUM_BEHIND_A_TEST,
+        SUM_PAST_A_TEST,
+        EQUATIONS,
+    )
+}
+
 // The equations and the conditions of the only node.
 const SOLVED: &str =
     r#"verify a.fsmd b.fsmd c.json¦fsmd 2; input a; input array m; output y; output array n; port p; reset s; state s: goto s: y = a;¦fsmd 2; input a; input array m; output y; output array n; port p; reset s; state s: goto s: y = a;¦¦{3}\n¦{"format":2,"nodes":[{"conds":[ {2} ],"equations":{ {1} },"left":"start","mode":"both","rank":0,"right":"start"}]}"#;

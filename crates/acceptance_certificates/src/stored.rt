@@ -4,7 +4,7 @@ use crate::asked::{each_row, stores};
 use crate::certificates::{
     LEFT_ALONE, LOOP_TURNED_ROUND, RIGHT_ALONE, SUM_OUT_OF_A_LOOP, SUM_PAST_A_TEST, TRACE,
 };
-use cases::answers::{answers, ended, pair_with};
+use cases::answers::{answers, end_of, pair_with};
 use cases::machines::{
     COMMON_DIVISOR, COMMON_DIVISOR_SCHEDULE, COPIES, EMITS_AT_ONCE, EMITS_IN_TURN,
     LOOP_TESTED_AT_THE_BOTTOM, LOOP_TESTED_AT_THE_TOP, MAY_NEVER_END, SOLVER, SOLVER_SCHEDULE,
@@ -158,7 +158,7 @@ fn answers_without_a_certificate(rt: HostRuntime) -> Result<(), AllocError> {
 // Whether `verify` finds nothing wrong with the certificate that `check` stores.
 fn is_taken_back(alloc: Global, left: &str, right: &str) -> Result<bool, AllocError> {
     let machines = pair_with(left, right, b"");
-    match ended(alloc, "check a.fsmd b.fsmd --cert c.json", &machines)? {
+    match end_of(alloc, "check a.fsmd b.fsmd --cert c.json", &machines)? {
         Some(checked) => {
             let held = pair_with(left, right, checked.cert());
             answers(alloc, "verify a.fsmd b.fsmd c.json", &held, "yes\n")

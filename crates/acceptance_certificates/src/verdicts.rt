@@ -1,12 +1,12 @@
 //! What `verify` answers of certificates that are read: `yes`, or the first obligation that does not hold, and why.
 
-use crate::asked::{damaged, each_row, holds};
+use crate::asked::{damaged, holds, verifies};
 use crate::certificates::{
-    EMITS, LOOP_TURNED_ROUND, NEVER_ENDING, SQUARE, SUM_OUT_OF_A_LOOP, SUM_PAST_A_TEST, TRACE,
+    EMITS, LOOP_TURNED_ROUND, SQUARE, SUM_OUT_OF_A_LOOP, SUM_PAST_A_TEST, TRACE,
 };
 use cases::machines::{
-    EMITS_AT_ONCE, EMITS_IN_TURN, ENDS_AT_ONCE, LOOP_TESTED_AT_THE_BOTTOM, LOOP_TESTED_AT_THE_TOP,
-    MAY_NEVER_END, SQUARE_MULTIPLIED_OUT, SQUARE_OF_A_SUM, SUM_BEFORE_A_LOOP, SUM_BEFORE_A_TEST,
+    EMITS_AT_ONCE, EMITS_IN_TURN, LOOP_TESTED_AT_THE_BOTTOM, LOOP_TESTED_AT_THE_TOP,
+    SQUARE_MULTIPLIED_OUT, SQUARE_OF_A_SUM, SUM_BEFORE_A_LOOP, SUM_BEFORE_A_TEST,
     SUM_BEHIND_A_TEST, SUM_IN_A_LOOP, TRACE_OF_A_LOOP, TRACE_OF_A_LOOP_SCHEDULE,
 };
 use std::alloc::AllocError;
@@ -64,12 +64,19 @@ const START: &str =
 "conds":[],"equations":{"L.x":"0",¦"conds":["L.x >= 0","L.x <= 0"],"equations":{¦yes
 "#;
 
+const NO_START: &str = r#"{"format":1,"nodes":[]}¦no: obligation 1, no start node
+{"format":2,"nodes":[]}¦no: obligation 1, no start node
+{"format":1,"nodes":[{"conds":[],"equations":{},"left":"start","mode":"end","rank":0,"right":"done"}]}¦no: obligation 1, no start node
+"#;
+
 // The first obligation is that of the start: a node, which the two start stores fit.
 #[test]
 fn the_start(rt: HostRuntime) -> Result<(), AllocError> {
+    let alloc = rt.alloc();
+    verifies(&rt, alloc, SUM_BEFORE_A_TEST, SUM_BEHIND_A_TEST, NO_START)?;
     damaged(
         &rt,
-        rt.alloc(),
+        alloc,
         SUM_BEFORE_A_TEST,
         SUM_BEHIND_A_TEST,
         SUM_PAST_A_TEST,

@@ -64,7 +64,7 @@ fn files_of(alloc: Global, held: &Held) -> Option<CleanFiles> {
 }
 
 /// How these words end over files of these bytes, and `None` for want of memory.
-pub fn ended(alloc: Global, words: &str, held: &Held) -> Result<Option<Ended>, AllocError> {
+pub fn end_of(alloc: Global, words: &str, held: &Held) -> Result<Option<Ended>, AllocError> {
     let Some(mut files) = files_of(alloc, held) else {
         return Ok(None);
     };
@@ -90,7 +90,7 @@ pub fn answers_and_stores(
     reply: &str,
     stored: &[u8],
 ) -> Result<bool, AllocError> {
-    match ended(alloc, words, held)? {
+    match end_of(alloc, words, held)? {
         Some(ended) => Ok(ended.puts(reply) && ended.cert() == stored),
         None => Ok(false),
     }

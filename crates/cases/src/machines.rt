@@ -29,14 +29,6 @@ state q0: goto q0: y = a * a + b * b;
 /// A machine without variables.
 pub const NOTHING_TO_DO: &str = "fsmd 1; reset s; state s: goto s;";
 
-/// It returns after one step, and changes nothing.
-pub const LEAVES_ALL: &str = "fsmd 1;
-input x;
-output y;
-reset q0;
-state q0: goto q0;
-";
-
 /// Greatest common divisors by subtraction.
 pub const COMMON_DIVISOR: &str = "fsmd 1;
 input a, b;
