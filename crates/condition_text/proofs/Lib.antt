@@ -1,4 +1,4 @@
 mod Plain
 mod Complete
 mod Sound
-mod Whole
+pub mod Whole

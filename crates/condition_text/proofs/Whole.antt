@@ -39,7 +39,7 @@ kind_open Le rest e = omega (arith, e)
 kind_open Eq rest e = omega (arith, e)
 kind_open Ne rest e = omega (arith, e)
 
-same_brackets : (p : Polynomial) (k : Kind) (i : Integer) → polynomial_spelled p ≡ true → integer_spelled i ≡ true → most_open 0 (polynomial_text p ++ (kind_text k ++ integer_text i)) ≡ most_open 0 (polynomial_text p)
+pub same_brackets : (p : Polynomial) (k : Kind) (i : Integer) → polynomial_spelled p ≡ true → integer_spelled i ≡ true → most_open 0 (polynomial_text p ++ (kind_text k ++ integer_text i)) ≡ most_open 0 (polynomial_text p)
 same_brackets p k i e f =
     let whole = term_open (polynomial p) 0 (kind_text k ++ integer_text i) e in
     let alone = term_open (polynomial p) 0 [] e in

@@ -5,3 +5,4 @@ pub mod Arrays
 pub mod Adds
 pub mod RunOnce
 pub mod Serving
+pub mod Told

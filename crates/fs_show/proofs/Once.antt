@@ -1,13 +1,13 @@
 -- Each thing that prints has one text.
 use Rattle.std.proofs.Common.{◌≡◌, ℕ, Bool, true, false, List, [], ◌∷◌, refl, sym, ◌∙◌, ap, subst}
 use Rattle.std.specs.Bool.{Decides}
-use Rattle.fs_model.specs.Runs.{Number, Entries, Emitted}
+use Rattle.fs_model.specs.Runs.{Content, Number, Entries, Emitted}
 use Rattle.fs_runs.specs.declared.run.RunStop.TheVariants.{StepsOver, PastWide, NoMemory}
 use Rattle.fs_show.specs.Shown.{array_text, Shows}
 use Rattle.fs_runs.specs.Outcomes.{Outputs}
-use Rattle.fs_show.specs.Items.{item_of, IsItem, AreItems, SameOutputs}
-use Rattle.fs_show.specs.Ends.{end_text, replay_text}
-use Rattle.fs_show.specs.Laws.{OneContentText, OneEndText, OneStopText, OneReplayText}
+use Rattle.fs_show.specs.Items.{item_of, IsItem, AreItems, IsGiven, AreGiven, SameOutputs}
+use Rattle.fs_show.specs.Ends.{end_text, replay_text, counterexample_text}
+use Rattle.fs_show.specs.Laws.{OneContentText, OneEndText, OneStopText, OneReplayText, OneCounterexampleText}
 use Rattle.fs_show.proofs.Listed.{listing_once}
 
 pub content_once : OneContentText
@@ -49,3 +49,23 @@ replay_once names left right t u a b =
     let l : a.lefts ≡ b.lefts = items_once left names a.lefts b.lefts a.are_lefts b.are_lefts in
     let r : a.rights ≡ b.rights = items_once right names a.rights b.rights a.are_rights b.are_rights in
     a.spelled ∙ ap (λ x. replay_text x a.lefts a.rights) s ∙ ap (λ x. replay_text b.same x a.rights) l ∙ ap (λ x. replay_text b.same b.lefts x) r ∙ sym b.spelled
+
+given_once : (name : List ℕ) (content : Content) (t u : List ℕ) → IsGiven name content t → IsGiven name content u → t ≡ u
+given_once name content t u a b = a.spelled ∙ ap (item_of name) (content_once content a.text b.text a.shown b.shown) ∙ sym b.spelled
+
+inputs_once : (names : List (List ℕ)) (cs : List Content) (ts us : List (List ℕ)) → AreGiven names cs ts → AreGiven names cs us → ts ≡ us
+inputs_once [] [] [] [] a b = refl
+inputs_once [] [] [] (u ∷ us) a b = absurd b
+inputs_once [] [] (t ∷ ts) us a b = absurd a
+inputs_once [] (c ∷ cs) ts us a b = absurd a
+inputs_once (n ∷ ns) [] ts us a b = absurd a
+inputs_once (n ∷ ns) (c ∷ cs) [] us a b = absurd a
+inputs_once (n ∷ ns) (c ∷ cs) (t ∷ ts) [] a b = absurd b
+inputs_once (n ∷ ns) (c ∷ cs) (t ∷ ts) (u ∷ us) a b = ap (λ x. x ∷ ts) (given_once n c t u a.0 b.0) ∙ ap (λ xs. u ∷ xs) (inputs_once ns cs ts us a.1 b.1)
+
+pub counterexample_once : OneCounterexampleText
+counterexample_once inputs contents names left right t u a b =
+    let g : a.items ≡ b.items = inputs_once inputs contents a.items b.items a.are_given b.are_given in
+    let l : a.lefts ≡ b.lefts = items_once left names a.lefts b.lefts a.are_lefts b.are_lefts in
+    let r : a.rights ≡ b.rights = items_once right names a.rights b.rights a.are_rights b.are_rights in
+    a.spelled ∙ ap (λ x. counterexample_text x a.lefts a.rights) g ∙ ap (λ x. counterexample_text b.items x a.rights) l ∙ ap (λ x. counterexample_text b.items b.lefts x) r ∙ sym b.spelled

@@ -8,7 +8,8 @@ use Rattle.fs_show.specs.declared.ends.Side.{Side}
 use Rattle.fs_show.specs.declared.ends.Side.TheVariants.{Only, Left, Right}
 use Rattle.fs_show.specs.Shown.{joined}
 use Rattle.fs_runs.specs.Outcomes.{Outputs}
-use Rattle.fs_show.specs.Items.{AreItems, SameOutputs}
+use Rattle.fs_model.specs.Runs.{Content}
+use Rattle.fs_show.specs.Items.{AreGiven, AreItems, SameOutputs}
 
 abbrev pub line_of : List ℕ → List ℕ
 line_of item = item ++ codes "\n"
@@ -58,3 +59,17 @@ pub record IsReplayText (names : List (List ℕ)) (left right : Outputs) (text :
   pub are_lefts : AreItems left names lefts
   pub are_rights : AreItems right names rights
   pub spelled : text ≡ replay_text same lefts rights
+
+abbrev pub counterexample_text : (inputs lefts rights : List (List ℕ)) → List ℕ
+counterexample_text inputs lefts rights = codes "counterexample\n" ++ (flat_map line_of inputs ++ (side_line (codes "left:") lefts ++ side_line (codes "right:") rights))
+
+-- the text of inputs from which two runs ended with other outputs: a line for each input with what it is given, and both
+-- sides' outputs in the order of the names
+pub record IsCounterexampleText (inputs : List (List ℕ)) (contents : List Content) (names : List (List ℕ)) (left right : Outputs) (text : List ℕ) : Type 0 where
+  pub items : List (List ℕ)
+  pub lefts : List (List ℕ)
+  pub rights : List (List ℕ)
+  pub are_given : AreGiven inputs contents items
+  pub are_lefts : AreItems left names lefts
+  pub are_rights : AreItems right names rights
+  pub spelled : text ≡ counterexample_text items lefts rights

@@ -9,7 +9,7 @@ use Rattle.fs_show.specs.declared.ends.Side.{Side}
 use Rattle.fs_show.specs.Shown.{Shows}
 use Rattle.fs_runs.specs.Outcomes.{Outputs}
 use Rattle.fs_show.specs.Runs.{IsRunText}
-use Rattle.fs_show.specs.Ends.{IsEndText, IsStopText, IsReplayText}
+use Rattle.fs_show.specs.Ends.{IsEndText, IsStopText, IsReplayText, IsCounterexampleText}
 
 -- of all things that have such a text, it is one
 abbrev pub IsOne : (List ℕ → Type 0) → Type 0
@@ -30,6 +30,9 @@ OneRunText = (m : Fsmd) (ins : Inputs) (limit : ℕ) → IsOne (IsRunText m ins 
 
 abbrev pub OneReplayText : Type 0
 OneReplayText = (names : List (List ℕ)) (left right : Outputs) → IsOne (IsReplayText names left right)
+
+abbrev pub OneCounterexampleText : Type 0
+OneCounterexampleText = (inputs : List (List ℕ)) (contents : List Content) (names : List (List ℕ)) (left right : Outputs) → IsOne (IsCounterexampleText inputs contents names left right)
 
 -- of two machines with the same inputs and outputs, values for the inputs of one serve the other
 abbrev pub InputsServeBoth : Type 0

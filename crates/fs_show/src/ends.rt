@@ -52,7 +52,7 @@ fn steps_line(alloc: Global, steps: u64) -> Result<String, AllocError>
 }
 
 // Appends lines.
-fn append_lines(out: &mut Vec<u8>, items: &[Vec<u8>]) -> Result<(), NoMemory>
+pub(crate) fn append_lines(out: &mut Vec<u8>, items: &[Vec<u8>]) -> Result<(), NoMemory>
     ensures { OnOk result (out.new.items ≡ out.old.items ++ flat_map line_of (map (λ i. i.items) items.now)) }
 {
     for item in items {

@@ -1,17 +1,19 @@
-//! Outputs by name, and their text.
+//! Inputs and outputs by name, and their text.
 
 ghost use Rattle.std.specs.Prelude.{◌≡◌, ℕ, List, [], ◌∷◌, map, option_map, IfOk};
 ghost use Rattle.std.specs.Result.{OnOk};
 ghost use Rattle.fs_runs.specs.Values.{content_of};
+ghost use Rattle.fs_runs.specs.InputValues.{input_values, signatures_of, input_signatures};
 ghost use Rattle.fs_runs.specs.Outcomes.{output_names, told_by, HoldsEach};
 ghost use Rattle.fs_show.specs.Shown.{Shows};
-ghost use Rattle.fs_show.specs.Items.{AreItems, AddsItems, item_of};
+ghost use Rattle.fs_show.specs.Items.{AreGiven, AreItems, AddsItems, input_names, item_of};
 
 use crate::memory::NoMemory;
 use crate::shown::{append, push, value_text};
 use fs_ast::machine::Machine;
 use fs_model::name::Name;
 use fs_model::parts::VarInfo;
+use fs_runs::inputs::Inputs;
 use fs_runs::values::Value;
 use std::alloc::Global;
 
@@ -34,7 +36,7 @@ pub(crate) fn held<'a>(m: &Machine, outputs: &'a [Value], name: &Name) -> Option
     None
 }
 
-// The name of an output and what it holds.
+// The name of an input or output and what it holds.
 fn item(alloc: Global, name: &Name, value: &Value) -> Result<Vec<u8>, NoMemory>
     ensures { IfOk result (λ item. (text : List ℕ) × Shows (content_of value.now) text × (item.items ≡ item_of name.now text)) }
 {
@@ -88,4 +90,24 @@ fn add_item(
         Some(value) => push(items, item(alloc, &variable.name, value)?),
         None => Ok(()),
     }
+}
+
+// The inputs of a machine, each with what it is given.
+pub(crate) fn input_items(
+    alloc: Global,
+    m: &Machine,
+    inputs: &Inputs,
+) -> Result<Vec<Vec<u8>>, NoMemory>
+    requires { signatures_of inputs.now ≡ input_signatures m.now.variables }
+    ensures { IfOk result (λ items. AreGiven (input_names m.now.variables) (map content_of (input_values inputs.now)) (map (λ i. i.items) items.items)) }
+{
+    let mut items = Vec::new(alloc);
+    let mut k: u32 = 0;
+    for variable in m.vars() {
+        if variable.role.is_input() {
+            push(&mut items, item(alloc, &variable.name, inputs.get(k))?)?;
+            k += 1;
+        }
+    }
+    Ok(items)
 }

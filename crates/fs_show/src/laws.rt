@@ -1,7 +1,7 @@
 //! Laws: each thing that prints has one text, and inputs serve machines with one interface. The
 //! functions do nothing.
 
-ghost use Rattle.fs_show.specs.Laws.{OneContentText, OneEndText, OneStopText, OneRunText, OneReplayText, InputsServeBoth};
+ghost use Rattle.fs_show.specs.Laws.{OneContentText, OneEndText, OneStopText, OneRunText, OneReplayText, OneCounterexampleText, InputsServeBoth};
 
 /// A content prints as one text.
 pub fn a_content_has_one_text()
@@ -18,6 +18,11 @@ pub fn a_run_has_one_text()
 /// Two runs that ended have one text.
 pub fn a_replay_has_one_text()
     ensures { OneReplayText }
+{}
+
+/// A counterexample has one text.
+pub fn a_counterexample_has_one_text()
+    ensures { OneCounterexampleText }
 {}
 
 /// Values for the inputs of a machine serve each machine with the same inputs and outputs.

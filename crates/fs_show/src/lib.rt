@@ -1,6 +1,7 @@
 //! What runs answer, as text.
 #![tactic(auto)]
 
+pub mod counterexample;
 pub mod ends;
 mod items;
 pub mod laws;

@@ -159,7 +159,7 @@ fn side_by_side(
 }
 
 // Appends the line of one side.
-fn append_side(
+pub(crate) fn append_side(
     alloc: Global,
     out: &mut Vec<u8>,
     word: &[u8],

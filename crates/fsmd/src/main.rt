@@ -1,6 +1,6 @@
-//! Checks schedules: `check A B` tells whether two machines with datapath have the same behaviour, `fmt A` writes a
-//! machine's canonical text, `cuts A` lists its paths, `run A I` runs it on inputs, and `replay A B I` runs two machines on
-//! the same inputs.
+//! Checks schedules: `check A B` tells whether two machines with datapath have the same behaviour, `verify A B C` whether a
+//! certificate shows it, and `generate N` checks a pair of a size; `run A I` runs a machine on inputs, `replay A B I` two machines
+//! on the same inputs; `fmt A` writes a machine's canonical text, and `cuts A` lists its paths.
 #![tactic(auto)]
 
 use fsmd_tool::program::run_program;

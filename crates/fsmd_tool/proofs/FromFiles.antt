@@ -21,7 +21,8 @@ use Rattle.fsmd_tool.specs.declared.load.Refused.{Refused as Refusal}
 use Rattle.fsmd_tool.specs.declared.load.Refused.TheVariants.{Answered, NoMemory}
 use Rattle.fsmd_tool.specs.Words.{word_of}
 use Rattle.fsmd_tool.specs.Texts.{SpellsMachine, HasCanonicalText}
-use Rattle.fsmd_tool.specs.Paths.{paths_text, HasPaths}
+use Rattle.path_text.specs.Paths.{paths_text}
+use Rattle.fsmd_tool.specs.Paths.{HasPaths}
 use Rattle.fsmd_tool.specs.Readings.{Call, held, FailedToRead, Content, Unopened, Readable, Unreadable, MayBeRead, MayHold, Reading, IsCorrectBy}
 use Rattle.fsmd_tool.specs.Refusals.{IsUnread, Long, signatures, ByJson, ByInput, RefusesMachine, RefusesPair, SecondRefused, RefusesInputs, SpellsInputs}
 use Rattle.fsmd_tool.specs.Pairs.{IsOfPair}

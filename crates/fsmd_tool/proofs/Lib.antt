@@ -3,4 +3,3 @@ pub mod Ends
 pub mod Pairs
 pub mod Outcomes
 pub mod Positions
-pub mod Listing

@@ -19,7 +19,6 @@ use crate::answer::{Answer, Lines, Operand};
 use crate::compare::compare;
 use crate::load::{Loaded, Refused, load, load_inputs, load_machine};
 use crate::pair::{Pair, load_pair};
-use crate::paths::list_paths;
 use crate::runs::{replay_machines, run_machine};
 use command_words::asking::Ask;
 use fs_ast::machine::Machine;
@@ -27,6 +26,7 @@ use fs_base::outside::Files;
 use fs_model::name::Name;
 use fs_pair::positions::{FaceError, same_interface};
 use fs_write::write_parts;
+use path_text::paths::list_paths;
 use std::alloc::{AllocError, Global};
 
 /// What `check` answers: what two machines get.

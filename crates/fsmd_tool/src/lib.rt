@@ -7,7 +7,6 @@ mod compare;
 pub mod drive;
 mod load;
 mod pair;
-mod paths;
 pub mod program;
 mod put;
 mod reply;

@@ -15,7 +15,8 @@ use Rattle.fs_write.specs.Canonical.{canonical}
 use Rattle.fs_model.specs.Limits.{most_text_bytes}
 use Rattle.fs_text_laws.proofs.Texts.{one_source, one_fault, not_both}
 use Rattle.fsmd_tool.specs.Texts.{SpellsMachine, IsMachine, HasCanonicalText, IsTooLong, HasTextFault, HasCheckFault}
-use Rattle.fsmd_tool.specs.Paths.{paths_text, HasPaths}
+use Rattle.path_text.specs.Paths.{paths_text}
+use Rattle.fsmd_tool.specs.Paths.{HasPaths}
 
 -- ---- the broken rule that is answered is one
 

@@ -1,3 +1,4 @@
+pub mod BareForms
 pub mod Arriving
 pub mod Passes
 pub mod Joined
@@ -9,3 +10,13 @@ pub mod Solved
 pub mod Paired
 pub mod Strength
 pub mod Behind
+pub mod Rising
+pub mod JoinTurns
+pub mod Whole
+pub mod JoinPaired
+pub mod RebaseTurns
+pub mod Stops
+pub mod Splitting
+pub mod Without
+pub mod Needed
+pub mod RebaseWhole

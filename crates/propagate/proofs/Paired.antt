@@ -64,7 +64,7 @@ second_many v (p ∷ ps) (b ∷ bs) ms r m e =
         subst (λ (z : Held). AsMany (p ∷ ps) z.free) k (again _ t.middle t.first)
 
 -- ---- the sort of what is found is the position's
-sort_of_own : (s : Sort) (p : Pos) → sort_of_form (own_symbol s p) ≡ sort_of_terms s
+pub sort_of_own : (s : Sort) (p : Pos) → sort_of_form (own_symbol s p) ≡ sort_of_terms s
 sort_of_own sort.Scalar p = refl
 sort_of_own sort.Array p = refl
 sort_of_own sort.Port p = refl
@@ -78,6 +78,23 @@ substituted_sort : (ms : List (Pos × Nf)) (f g : Nf) → form_substituted ms f 
 substituted_sort ms (Num p) g e = let s = goes_done (substituted ms p) (λ q. Done (Num q)) g e in let k : Num s.middle ≡ g = cc s.next in sym (ap sort_of_form k)
 substituted_sort ms (Arr a) g e = let s = goes_done (array_substituted ms a) (λ q. Done (Arr q)) g e in let k : Arr s.middle ≡ g = cc s.next in sym (ap sort_of_form k)
 substituted_sort ms (Seq l) g e = let s = goes_done (list_substituted ms l) (λ q. Done (Seq q)) g e in let k : Seq s.middle ≡ g = cc s.next in sym (ap sort_of_form k)
+
+-- each position of the fact passes where those of the list do
+abbrev pub RowsPass : (Sort → Pos → Type 0) → List FactPosition → Type 0
+RowsPass Q [] = Unit {0}
+RowsPass Q (r ∷ rs) = Q r.sort r.pos × RowsPass Q rs
+
+free_pass : (Q : Sort → Pos → Type 0) (rs : List FactPosition) → RowsPass Q rs → FreePass Q rs
+free_pass Q [] h = tt
+free_pass Q (r ∷ rs) h = ((λ e. h.0), free_pass Q rs h.1)
+
+pub forms_within : (test : Pos × TermSort → Bool) (rs : List FactPosition) → RowsPass (Passes test) rs → AllEquations (Inside test) rs → list_all (λ e. form_within test e.1) (vector_of rs) ≡ true
+forms_within test [] h g = refl
+forms_within test (r ∷ rs) h g = and_both _ _ (one r.sort r.pos r.equation h.0 g.0) (forms_within test rs h.1 g.1)
+  where
+    one : (s : Sort) (p : Pos) (o : Option Nf) → Passes test s p → Inside test p o → form_within test (form_or_symbol s p o) ≡ true
+    one s p None i j = own_within test s p i
+    one s p (Some f) i j = j
 
 module _ (v ms : List (Pos × Nf)) where
   number_sort : (t : Polynomial) (qs : List Position) (x : Nf) → number_tied v ms t qs ≡ Done (Some x) → sort_of_form x ≡ term.Scalar
@@ -164,30 +181,13 @@ module _ (v ms : List (Pos × Nf)) where
   rows_forms (p ∷ ps) [] h = absurd h
   rows_forms (p ∷ ps) (r ∷ rs) h = ap₂ (λ x y. x ∷ y) h.0.2 (rows_forms ps rs h.1)
 
-  -- each position of the fact passes where those of the list do
-  abbrev RowsPass : (Sort → Pos → Type 0) → List FactPosition → Type 0
-  RowsPass Q [] = Unit {0}
-  RowsPass Q (r ∷ rs) = Q r.sort r.pos × RowsPass Q rs
-
   rows_pass : (Q : Sort → Pos → Type 0) (ps : List Position) (rs : List FactPosition) → Rows ps rs → AllPass Q ps → RowsPass Q rs
   rows_pass Q [] [] h g = tt
   rows_pass Q [] (r ∷ rs) h g = absurd h
   rows_pass Q (p ∷ ps) [] h g = absurd h
   rows_pass Q (p ∷ ps) (r ∷ rs) h g = (subst (Q r.sort) (sym h.0.0) (subst (λ s. Q s p.pos) (sym h.0.1) g.0), rows_pass Q ps rs h.1 g.1)
 
-  free_pass : (Q : Sort → Pos → Type 0) (rs : List FactPosition) → RowsPass Q rs → FreePass Q rs
-  free_pass Q [] h = tt
-  free_pass Q (r ∷ rs) h = ((λ e. h.0), free_pass Q rs h.1)
-
-  forms_within : (test : Pos × TermSort → Bool) (rs : List FactPosition) → RowsPass (Passes test) rs → AllEquations (Inside test) rs → list_all (λ e. form_within test e.1) (vector_of rs) ≡ true
-  forms_within test [] h g = refl
-  forms_within test (r ∷ rs) h g = and_both _ _ (one r.sort r.pos r.equation h.0 g.0) (forms_within test rs h.1 g.1)
-    where
-      one : (s : Sort) (p : Pos) (o : Option Nf) → Passes test s p → Inside test p o → form_within test (form_or_symbol s p o) ≡ true
-      one s p None i j = own_within test s p i
-      one s p (Some f) i j = j
-
-listed : (whole qs : List Position) → ((x : Pos × TermSort) → is_position qs x ≡ true → is_position whole x ≡ true) → AllPass (Passes (is_position whole)) qs
+pub listed : (whole qs : List Position) → ((x : Pos × TermSort) → is_position qs x ≡ true → is_position whole x ≡ true) → AllPass (Passes (is_position whole)) qs
 listed whole [] h = tt
 listed whole (q ∷ qs) h =
     (h (q.pos, sort_of_terms q.sort) (ap₂ (λ x y. (x && y) || is_position qs (q.pos, sort_of_terms q.sort)) (own_pos q.pos) (own_sort (sort_of_terms q.sort))), listed whole qs (λ x i. h x (or_second (same_pos q.pos x.0 && same_sort (sort_of_terms q.sort) x.1) (is_position qs x) i)))
@@ -204,13 +204,13 @@ rebase_paired post ps f e =
     let many = second_many v ps (first_pass v ps []).free (first_pass v ps []).meanings r.held (first_many v ps []) r.second in
     let rows = subst (λ (z : Fact). Rows v ms ps z.positions) r.whole (third_rows v ms ps r.held.free [] r.positions many r.third) in
     let pass = rows_pass v ms (Passes (is_position ps)) ps f.positions rows (listed ps ps (λ x i. i)) in
-    let inside = rebase_within (is_position ps) post ps f e (free_pass v ms (Passes (is_position ps)) f.positions pass) in
+    let inside = rebase_within (is_position ps) post ps f e (free_pass (Passes (is_position ps)) f.positions pass) in
     record {
       sorts = rows_sorts v ms ps f.positions rows;
       vector = record {
         positions = rows_positions v ms ps f.positions rows;
         sorts = rows_forms v ms ps f.positions rows;
-        symbols = forms_within v ms (is_position ps) f.positions pass inside.0;
+        symbols = forms_within (is_position ps) f.positions pass inside.0;
       };
       literals = inside.1;
     }

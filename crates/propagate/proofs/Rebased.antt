@@ -293,7 +293,7 @@ module _ (w : Valuation) (v : List (Pos × Nf)) where
         by_test false i g next = next rs g
 
 -- ---- the literals that are needed
-last_passes : (test : NormalLiteral → Bool) (ls : List NormalLiteral) (l : NormalLiteral) → list_all test ls ≡ true → test l ≡ true → list_all test (ls ++ l ∷ []) ≡ true
+pub last_passes : (test : NormalLiteral → Bool) (ls : List NormalLiteral) (l : NormalLiteral) → list_all test ls ≡ true → test l ≡ true → list_all test (ls ++ l ∷ []) ≡ true
 last_passes test [] l h g = and_both (test l) true g refl
 last_passes test (m ∷ ls) l h g = and_both (test m) (list_all test (ls ++ l ∷ [])) (and_left (test m) (list_all test ls) h) (last_passes test ls l (and_right (test m) (list_all test ls) h) g)
 

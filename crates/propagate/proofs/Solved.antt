@@ -163,7 +163,7 @@ pub rebase_solved : (post : Post) (ps : List Position) (f : Fact) → rebase pos
 rebase_solved post ps f e d = solved_by f d (λ p i m. let r = rebase_within (is_other p) post ps f e m in record { equations = r.0; literals = r.1 })
 
 -- ---- the positions of a join are the old ones, and each that has an equation had one
-abbrev Shape : List FactPosition → List FactPosition → Type 0
+abbrev pub Shape : List FactPosition → List FactPosition → Type 0
 Shape [] [] = Unit {0}
 Shape [] (q ∷ qs) = ⊥
 Shape (p ∷ ps) [] = ⊥
@@ -189,7 +189,7 @@ shape_of : (v : List (Pos × Nf)) (k : ℕ) (missing : List ℕ) (fs : List Free
 shape_of v k missing fs [] qs e = let s : [] ≡ qs = cc e in subst (Shape []) s tt
 shape_of v k missing fs (p ∷ ps) qs e = shape_step v (is_among k missing) p p.equation refl fs (λ gs. positions_joined v (k + 1) missing gs ps) ps qs (λ gs rs i. shape_of v (k + 1) missing gs ps rs i) e
 
-join_shape : (old new : Fact) (post : Post) (missing : Missing) → join old post missing ≡ Done new → Shape old.positions new.positions
+pub join_shape : (old new : Fact) (post : Post) (missing : Missing) → join old post missing ≡ Done new → Shape old.positions new.positions
 join_shape old new post missing e =
     let j = joining old new post missing e in
     subst (λ (z : Fact). Shape old.positions z.positions) j.whole (shape_of post.vector 0 missing.equations [] old.positions j.positions j.joined)

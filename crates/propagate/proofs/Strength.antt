@@ -114,7 +114,7 @@ abbrev drops : ℕ → List ℕ → List NormalLiteral → Bool
 drops k missing [] = false
 drops k missing (l ∷ ls) = is_among k missing || drops (k + 1) missing ls
 
-no_more_literals : (k : ℕ) (missing : List ℕ) (ls : List NormalLiteral) → length (literals_kept k missing ls) ≤ length ls
+pub no_more_literals : (k : ℕ) (missing : List ℕ) (ls : List NormalLiteral) → length (literals_kept k missing ls) ≤ length ls
 no_more_literals k missing [] = omega arith
 no_more_literals k missing (l ∷ ls) = by_test (is_among k missing) (no_more_literals (k + 1) missing ls)
   where
@@ -231,11 +231,15 @@ taken_bounded zero ls = omega arith
 taken_bounded (suc n) [] = omega arith
 taken_bounded (suc n) (l ∷ ls) = let h = taken_bounded n ls in omega (arith, h)
 
+pub few_literals : (post : Post) (ps : List Position) (f : Fact) → rebase post ps ≡ Done f → length f.literals ≤ most_literals
+few_literals post ps f e =
+    let r = rebasing post ps f e in
+    subst (λ (z : Fact). length z.literals ≤ most_literals) r.whole (taken_bounded most_literals (with_needed [] r.literals))
+
 pub rebase_bounded : (post : Post) (ps : List Position) (f : Fact) → rebase post ps ≡ Done f → strength f ≤ length ps + most_literals
 rebase_bounded post ps f e =
-    let r = rebasing post ps f e in
     let a = count_bounded f.positions in
-    let b : length f.literals ≤ most_literals = subst (λ (z : Fact). length z.literals ≤ most_literals) r.whole (taken_bounded most_literals (with_needed [] r.literals)) in
+    let b = few_literals post ps f e in
     let c : length f.positions ≡ length ps = sym (length-map f.positions (λ (q : FactPosition). q.sort)) ∙ ap length (rebase_paired post ps f e).sorts ∙ length-map ps (λ (p : Position). p.sort) in
     total (count f.positions) (length f.literals) (length f.positions) (length ps) most_literals a b c
   where

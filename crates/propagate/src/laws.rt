@@ -37,6 +37,11 @@ pub fn rebased_facts_are_of_the_positions()
     ensures { (post : Post) (ps : List Position) (f : Fact) → rebase post ps ≡ Done f → IsFactOf ps f }
 {}
 
+/// A joined fact is of the positions where the old fact is.
+pub fn joined_facts_are_of_the_positions()
+    ensures { (ps : List Position) (old new : Fact) (post : Post) (missing : Missing) → join old post missing ≡ Done new → IsFactOf ps old → IsFactOf ps new }
+{}
+
 /// A join says less than the old fact where something of it is not entailed: it has fewer equations and literals.
 pub fn joins_say_less()
     ensures { (old new : Fact) (post : Post) (missing : Missing) → entails post old ≡ Done missing → is_nothing missing ≡ false → join old post missing ≡ Done new → strength new < strength old }
@@ -45,4 +50,9 @@ pub fn joins_say_less()
 /// A rebased fact says little: at most one equation a position, and at most 64 literals.
 pub fn rebases_say_little()
     ensures { (post : Post) (ps : List Position) (f : Fact) → rebase post ps ≡ Done f → strength f ≤ length ps + most_literals }
+{}
+
+/// A rebased fact has at most 64 literals.
+pub fn rebased_facts_have_few_literals()
+    ensures { (post : Post) (ps : List Position) (f : Fact) → rebase post ps ≡ Done f → length f.literals ≤ most_literals }
 {}

@@ -1,7 +1,6 @@
 //! Which machines move at a node.
 
-ghost use Rattle.std.specs.Prelude.{◌≡◌, IsTrue, IfOk, map};
-ghost use Rattle.nf_rel.specs.View.{literal_in};
+ghost use Rattle.std.specs.Prelude.{◌≡◌, IsTrue, map};
 ghost use Rattle.fs_cut.specs.Paths.{is_point};
 ghost use Rattle.fs_cut.specs.Paths as paths;
 ghost use Rattle.fs_cut.specs.Covers.{cover_of, same_point};
@@ -15,12 +14,11 @@ use crate::refutation::is_refuted;
 use bisimulation::mode::Mode;
 use fs_ast::machine::Machine;
 use fs_cut::cover::{Cover, Path, Point};
-use nf_rel::literals::NLit;
 use nf_subst::vector::Vector;
 use nf_terms::stop::{NfStop, NoMemory};
 use nf_terms::tree::Side;
 use std::alloc::Global;
-use sym_facts::fact::Fact;
+use sym_facts::fact::{Fact, copied_literals};
 use sym_paths::execution::conditions;
 
 /// Why a mode is not found: the stop of the conditions of the path by this branch of this side's point. Where memory
@@ -44,17 +42,6 @@ impl From<NoMemory> for ModeStop {
             branch: 0,
         }
     }
-}
-
-// Copies of literals. The one refusal is out of memory.
-fn copied_literals(alloc: Global, literals: &[NLit]) -> Result<Vec<NLit>, NoMemory>
-    ensures { IfOk result (λ out. map literal_in out.items ≡ map literal_in literals.now) }
-{
-    let mut out = Vec::new(alloc);
-    for literal in literals {
-        out.push(literal.try_clone(alloc)?)?;
-    }
-    Ok(out)
 }
 
 // Whether a path is not refuted under a fact with this vector.

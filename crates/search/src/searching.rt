@@ -1,15 +1,123 @@
 //! The search.
 
-ghost use Rattle.std.specs.Prelude.{◌≡◌, None, IfOk};
+ghost use Rattle.std.specs.Prelude.{◌≡◌, None, map, IfOk};
+ghost use Rattle.std.specs.List.{AllByRecursion};
+ghost use Rattle.fs_cut.specs.Covers.{cover_of};
 ghost use Rattle.fs_pair.specs.Interfaces.{interface_fault};
 ghost use Rattle.fs_pair.specs.Positions.{positions};
+ghost use Rattle.sym_facts.specs.Pairings.{IsFactOf};
+ghost use Rattle.search_tables.specs.Next.{IsClosed};
+ghost use Rattle.search_tables.specs.Legal.{Makes, stuck};
+ghost use Rattle.search_tables.specs.View.{table_in, points_in, points_at};
+ghost use Rattle.search_worklist.specs.Ends.{IsEnded};
 ghost use Rattle.search.specs.Answers.{machines, Answers};
 
 use fs_ast::machine::Machine;
+use fs_cut::cover::Cover;
+use fs_cut::make_cover::cover;
 use fs_pair::positions::Pairing;
 use nf_terms::stop::NoMemory;
+use search_closing::closing::{Closing, close};
+use search_tables::moves::Move;
+use search_tables::nodes::{NodePoints, TableNode};
 use search_tables::outcome::Outcome;
+use search_worklist::ends::{End, Ended};
+use search_worklist::run::run;
 use std::alloc::Global;
+
+// The cover of a machine. The one refusal is out of memory.
+fn cover_of(alloc: Global, m: &Machine) -> Result<Cover, NoMemory>
+    ensures { IfOk result (λ c. c ≡ cover_of m.now) }
+{
+    match cover(alloc, m) {
+        Ok(cover) => Ok(cover),
+        Err(_) => Err(NoMemory),
+    }
+}
+
+// The points of nodes, in order. The one refusal is out of memory.
+fn points_of(alloc: Global, nodes: &[TableNode]) -> Result<Vec<NodePoints>, NoMemory>
+    ensures { IfOk result (λ points. map points_at (table_in nodes.now) ≡ map points_in points.items) }
+{
+    let mut out = Vec::new(alloc);
+    for node in nodes {
+        out.push(NodePoints {
+            left: node.left,
+            right: node.right,
+        })?;
+    }
+    Ok(out)
+}
+
+// What a closed table in which no outputs differ gives, by the moves that made it. The one refusal is out of memory.
+fn close_table(
+    alloc: Global,
+    a: &Machine,
+    b: &Machine,
+    ca: &Cover,
+    cb: &Cover,
+    nodes: Vec<TableNode>,
+    moves: Vec<Move>,
+    points: Vec<NodePoints>,
+) -> Result<Outcome, NoMemory>
+    requires interface { interface_fault a.now b.now ≡ None }
+    requires left_cover { ca.now ≡ cover_of a.now }
+    requires right_cover { cb.now ≡ cover_of b.now }
+    requires makes { Makes (machines a.now b.now) moves.items (table_in nodes.items) }
+    requires facts { AllByRecursion (λ n. IsFactOf (positions a.now b.now) n.fact) (table_in nodes.items) }
+    requires closed { IsClosed (machines a.now b.now) (table_in nodes.items) }
+    requires none_differ { stuck (machines a.now b.now) (table_in nodes.items) ≡ None }
+    requires points { map points_at (table_in nodes.items) ≡ map points_in points.items }
+    ensures { IfOk result (Answers (machines a.now b.now)) }
+{
+    let _left = a.vars();
+    let _right = b.vars();
+    match close(alloc, a, b, ca, cb, nodes)? {
+        Closing::Certified(cert) => Ok(Outcome::Closed(cert)),
+        Closing::Spins { side, cycle } => Ok(Outcome::Spin {
+            moves,
+            points,
+            side,
+            cycle,
+        }),
+    }
+}
+
+// How a search ends where its moves end so. The one refusal is out of memory.
+fn conclude(
+    alloc: Global,
+    a: &Machine,
+    b: &Machine,
+    ca: &Cover,
+    cb: &Cover,
+    ended: Ended,
+) -> Result<Outcome, NoMemory>
+    requires interface { interface_fault a.now b.now ≡ None }
+    requires left_cover { ca.now ≡ cover_of a.now }
+    requires right_cover { cb.now ≡ cover_of b.now }
+    requires ended { IsEnded (machines a.now b.now) ended }
+    ensures { IfOk result (Answers (machines a.now b.now)) }
+{
+    let Ended { nodes, moves, end } = ended;
+    let points = points_of(alloc, nodes.as_slice())?;
+    match end {
+        End::Closed => close_table(alloc, a, b, ca, cb, nodes, moves, points),
+        End::Stuck { node, var } => Ok(Outcome::Stuck {
+            moves,
+            points,
+            node,
+            var,
+        }),
+        End::Wide { at } => Ok(Outcome::Wide { moves, points, at }),
+        End::Large { at } => Ok(Outcome::Large { moves, points, at }),
+        End::Exhausted { at, what } => Ok(Outcome::Exhausted {
+            moves,
+            points,
+            at,
+            what,
+        }),
+    }
+}
 
 /// Searches for a certificate that two machines with the same interface have the same behaviour: makes nodes, beginning with both
 /// starts, and moves from them, up to the first obstacle, or to a table in which no move makes a difference any more.
@@ -18,15 +126,13 @@ use std::alloc::Global;
 /// and a left output differs, and is looked at first; `Spin` where the table is closed and one machine alone moves in a cycle; `Wide` and
 /// `Large` at the first operation that is not narrow, or narrow and not small; `Exhausted` where a move would make node 4,097 or a table
 /// of more than 4,000,000 units. The one refusal is out of memory.
-pub fn search(
-    alloc: Global,
-    a: &Machine,
-    b: &Machine,
-    p: &Pairing,
-) -> Result<Outcome, NoMemory>
+pub fn search(alloc: Global, a: &Machine, b: &Machine, p: &Pairing) -> Result<Outcome, NoMemory>
     requires paired { p.now ≡ positions a.now b.now }
     requires interface { interface_fault a.now b.now ≡ None }
     ensures { IfOk result (Answers (machines a.now b.now)) }
 {
-    Err(NoMemory)
+    let ca = cover_of(alloc, a)?;
+    let cb = cover_of(alloc, b)?;
+    let ended = run(alloc, a, b, p, &ca, &cb)?;
+    conclude(alloc, a, b, &ca, &cb, ended)
 }

@@ -1,1 +1,5 @@
 pub mod Closings
+pub mod Places
+pub mod Modes
+pub mod View
+pub mod Moves

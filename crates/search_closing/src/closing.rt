@@ -1,6 +1,6 @@
 //! What a closed table gives.
 
-ghost use Rattle.std.specs.Prelude.{◌≡◌, None, IfOk};
+ghost use Rattle.std.specs.Prelude.{◌≡◌, None, length, IfOk};
 ghost use Rattle.std.specs.List.{AllByRecursion};
 ghost use Rattle.fs_cut.specs.Covers.{cover_of};
 ghost use Rattle.fs_pair.specs.Positions.{positions};
@@ -8,13 +8,26 @@ ghost use Rattle.sym_facts.specs.Pairings.{IsFactOf};
 ghost use Rattle.search_tables.specs.Next.{IsClosed};
 ghost use Rattle.search_tables.specs.WellFormed.{IsWellFormed};
 ghost use Rattle.search_tables.specs.View.{table_in};
-ghost use Rattle.search_closing.specs.Closings.{Gives};
+ghost use Rattle.search_ranks.specs.Walks.{lists_in, InRange, IsRanking};
+ghost use Rattle.search_tables.specs.LoneMoves.{lone_moves as graph_of};
+ghost use Rattle.search_closing.specs.Closings.{Gives, HasCount, ClosesBy};
+ghost use Rattle.search_closing.specs.Modes.{AreModes};
+ghost use Rattle.search_closing.specs.View.{machines_in};
 
+use crate::certify::certify;
+use crate::covered::Covered;
+use crate::lone::lone_moves;
+use crate::modes::{cycle_side, modes_of};
+use crate::node_table::NodeTable;
+use crate::places::places_of;
+use bisimulation::mode::Mode;
 use certificates::cert::Cert;
 use fs_ast::machine::Machine;
 use fs_cut::cover::Cover;
 use nf_terms::stop::NoMemory;
 use nf_terms::tree::Side;
+use search_ranks::ranking::Ranking;
+use search_ranks::walk::rank_all;
 use search_tables::nodes::TableNode;
 use std::alloc::Global;
 
@@ -24,10 +37,64 @@ pub enum Closing {
     /// Its certificate.
     Certified(Cert),
     /// Nodes that follow one another by moves of this side alone, the last leading back to the first.
-    Spins {
-        side: Side,
-        cycle: Vec<u32>,
-    },
+    Spins { side: Side, cycle: Vec<u32> },
+}
+
+// The moves of one machine alone in a closed table, as a graph. The one refusal is out of memory.
+fn lone_graph<'t>(
+    alloc: Global,
+    machines: &'t Covered<'t>,
+    nodes: &'t [TableNode],
+    modes: &'t [Mode],
+) -> Result<Vec<Vec<u32>>, NoMemory>
+    requires formed { IsWellFormed (machines_in machines.now) (table_in nodes.now) }
+    requires closed { IsClosed (machines_in machines.now) (table_in nodes.now) }
+    requires modes { AreModes (machines_in machines.now) (table_in nodes.now) modes.now }
+    ensures edges { IfOk result (λ edges. lists_in edges.items ≡ graph_of (machines_in machines.now) (table_in nodes.now)) }
+    ensures range { IfOk result (λ edges. InRange (lists_in edges.items)) }
+{
+    let places = places_of(alloc, nodes)?;
+    let table = NodeTable {
+        machines,
+        nodes,
+        modes,
+        places,
+    };
+    lone_moves(alloc, &table)
+}
+
+// The ranks of a graph, or a cycle of it. The one refusal is out of memory.
+fn rank(alloc: Global, edges: &[Vec<u32>]) -> Result<Ranking, NoMemory>
+    requires { InRange (lists_in edges.now) }
+    ensures { IfOk result (IsRanking (lists_in edges.now)) }
+{
+    match rank_all(alloc, edges) {
+        Ok(ranking) => Ok(ranking),
+        Err(_) => Err(NoMemory),
+    }
+}
+
+// What a closed table gives, where its nodes have these modes.
+fn close_by(
+    alloc: Global,
+    nodes: Vec<TableNode>,
+    modes: &[Mode],
+    ranking: Ranking,
+) -> Result<Closing, NoMemory>
+    requires modes { length modes.now ≡ length nodes.items }
+    requires ranks { HasCount (length nodes.items) ranking }
+    ensures { IfOk result (λ c. ClosesBy (table_in nodes.items) modes.now ranking c) }
+{
+    match ranking {
+        Ranking::Cycle(cycle) => {
+            let side = cycle_side(modes, cycle.as_slice());
+            Ok(Closing::Spins { side, cycle })
+        }
+        Ranking::Ranks(ranks) => {
+            let nodes = certify(alloc, nodes, modes, ranks.as_slice())?;
+            Ok(Closing::Certified(Cert { nodes }))
+        }
+    }
 }
 
 /// The certificate of a closed table, whose nodes are the table's, each with its mode and the length of the longest chain of moves of one
@@ -46,5 +113,9 @@ pub fn close(
     requires closed { IsClosed (record { left = a.now; right = b.now }) (table_in nodes.items) }
     ensures { IfOk result (Gives (record { left = a.now; right = b.now }) (table_in nodes.items)) }
 {
-    Err(NoMemory)
+    let machines = Covered::of(a, b, ca, cb);
+    let modes = modes_of(alloc, &machines, nodes.as_slice())?;
+    let edges = lone_graph(alloc, &machines, nodes.as_slice(), modes.as_slice())?;
+    let ranking = rank(alloc, edges.as_slice())?;
+    close_by(alloc, nodes, modes.as_slice(), ranking)
 }

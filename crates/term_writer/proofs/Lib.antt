@@ -1,7 +1,9 @@
-mod Directly
+pub mod Directly
 mod Integers
-mod Bound
+pub mod Bound
 mod Back
 mod Deep
 mod Spelling
-mod ListTexts
+pub mod ListTexts
+pub mod LiteralTexts
+pub mod Plain

@@ -15,7 +15,7 @@ use Rattle.term_text.proofs.Depths.{both, and, term_open}
 use Rattle.term_values.specs.Names.{Find, place_in}
 use Rattle.term_values.specs.Values.{exact, list_base, items_of, list_value}
 use Rattle.term_writer.specs.Written.{polynomial_written, items_written, list_base_written, list_written}
-use Rattle.term_writer.specs.Named.{IsNamed, OfItems, OfListBase, OfList}
+use Rattle.term_writer.specs.Named.{IsNamed, IsShort, OfItems, OfListBase, OfList}
 use Rattle.term_writer.proofs.Spelling.{polynomial_spells}
 use Rattle.term_writer.proofs.Back.{polynomial_back}
 use Rattle.term_writer.proofs.Bound.{polynomial_bound, symbol_short, four}
@@ -80,15 +80,15 @@ list_back name find l h n = λ k. record {
 
 -- ---- length
 
-items_bound : (name : Pos → List ℕ) (find : Find) (w : ListTerm) (ps : List terms.Polynomial) → OfItems (IsNamed name find) ps → AreNormal ps → length (list_text (items_written name w ps)) ≤ length (list_text w) + 47 * size_of_items ps
-items_bound name find w [] h n = omega arith
-items_bound name find w (p ∷ ps) h n =
+items_bound : (name : Pos → List ℕ) (w : ListTerm) (ps : List terms.Polynomial) → OfItems (IsShort name) ps → AreNormal ps → length (list_text (items_written name w ps)) ≤ length (list_text w) + 47 * size_of_items ps
+items_bound name w [] h n = omega arith
+items_bound name w (p ∷ ps) h n =
     let l = both (is_light p) (narrow_inside p) n.0.narrow in
-    omega (arith, items_bound name find (Pushed w (polynomial_written name p)) ps h.1 n.1, four (list_text w) (codes "{") (polynomial_text (polynomial_written name p)) (codes "}"), polynomial_bound name find p h.0 l.0 l.1)
+    omega (arith, items_bound name (Pushed w (polynomial_written name p)) ps h.1 n.1, four (list_text w) (codes "{") (polynomial_text (polynomial_written name p)) (codes "}"), polynomial_bound name p h.0 l.0 l.1)
 
-base_bound : (name : Pos → List ℕ) (find : Find) (b : SeqBase) → OfListBase (IsNamed name find) b → length (list_text (list_base_written name b)) ≤ 34
-base_bound name find list_bases.Empty h = omega arith
-base_bound name find (list_bases.Sym p) h = symbol_short p.side (name p) h.short
+base_bound : (name : Pos → List ℕ) (b : SeqBase) → OfListBase (IsShort name) b → length (list_text (list_base_written name b)) ≤ 34
+base_bound name list_bases.Empty h = omega arith
+base_bound name (list_bases.Sym p) h = symbol_short p.side (name p) h
 
-pub list_bound : (name : Pos → List ℕ) (find : Find) (l : lists.ListTerm) → OfList (IsNamed name find) l → AreNormal l.items → length (list_text (list_written name l)) ≤ 47 * lists.size_of_list l
-list_bound name find l h n = omega (arith, items_bound name find (list_base_written name l.base) l.items h.1 n, base_bound name find l.base h.0)
+pub list_bound : (name : Pos → List ℕ) (l : lists.ListTerm) → OfList (IsShort name) l → AreNormal l.items → length (list_text (list_written name l)) ≤ 47 * lists.size_of_list l
+list_bound name l h n = omega (arith, items_bound name (list_base_written name l.base) l.items h.1 n, base_bound name l.base h.0)

@@ -9,6 +9,7 @@ use Rattle.nf_terms.specs.declared.symbols.Sort.{Sort}
 use Rattle.nf_terms.specs.declared.symbols.Sort.TheVariants as sort
 use Rattle.nf_terms.specs.Terms.{Atom, Monomial, Polynomial, ArrayTerm, Writes, Symbol, Read, Quotient, Remainder, One, Times, Zero, Plus, Over, NoWrites, Write}
 use Rattle.nf_terms.specs.Lists.{ListTerm}
+use Rattle.nf_rel.specs.Literals.{NormalLiteral, True, False, Is}
 use Rattle.term_text.specs.Spelled.{is_symbol_name}
 use Rattle.term_values.specs.Names.{Find}
 
@@ -17,6 +18,10 @@ pub record IsNamed (name : Pos → List ℕ) (find : Find) (s : Sort) (p : Pos) 
   pub word : is_symbol_name (name p) ≡ true
   pub short : length (name p) ≤ 32
   pub found : find p.side (name p) ≡ Some (p, s)
+
+-- a position has a short name
+abbrev pub IsShort : (Pos → List ℕ) → Sort → Pos → Type 0
+IsShort name s p = length (name p) ≤ 32
 
 abbrev pub OfBase : (Sort → Pos → Type 0) → Base → Type 0
 OfBase P bases.Zero = Unit {0}
@@ -54,3 +59,8 @@ OfItems P (p ∷ ps) = OfPolynomial P p × OfItems P ps
 
 abbrev pub OfList : (Sort → Pos → Type 0) → ListTerm → Type 0
 OfList P l = OfListBase P l.base × OfItems P l.items
+
+abbrev pub OfLiteral : (Sort → Pos → Type 0) → NormalLiteral → Type 0
+OfLiteral P True = Unit {0}
+OfLiteral P False = Unit {0}
+OfLiteral P (Is d k b) = OfPolynomial P d

@@ -3,7 +3,7 @@
 ghost use Rattle.std.specs.Prelude.{◌≡◌, ◌≢◌, ◌++◌, OnOk};
 ghost use Rattle.nf_rel.specs.Literals as literals;
 ghost use Rattle.nf_rel.specs.View.{literal_in};
-ghost use Rattle.term_text.specs.Texts.{polynomial_text, array_text, list_text};
+ghost use Rattle.term_text.specs.Texts.{symbol_text, polynomial_text, array_text, list_text};
 ghost use Rattle.condition_text.specs.Texts.{condition_text, kind_text, integer_text};
 ghost use Rattle.term_writer.specs.Written.{polynomial_written, array_written, list_written, literal_written, integer_written};
 ghost use Rattle.term_writer.specs.Direct.{polynomial_direct, list_base_direct, items_direct};
@@ -17,7 +17,14 @@ use nf_terms::arr::Arr;
 use nf_terms::poly::Poly;
 use nf_terms::seq::Seq;
 use nf_terms::stop::NoMemory;
-use nf_terms::tree::SeqBase;
+use nf_terms::tree::{Pos, SeqBase};
+
+/// Adds the side and the name of a position. The one refusal is out of memory.
+pub fn write_symbol<N: PositionNames>(out: &mut Vec<u8>, names: &N, p: Pos) -> Result<(), NoMemory>
+    ensures { OnOk result (out.new.items ≡ out.old.items ++ symbol_text p.side (N.name names.now p)) }
+{
+    put_symbol(out, p.side, names.name(p))
+}
 
 /// Adds the text of a polynomial. The one refusal is out of memory.
 #[tactic(auto, using(crate::proofs::Directly::polynomial_same))]
@@ -52,7 +59,7 @@ fn put_list_base<N: PositionNames>(
 {
     match base {
         SeqBase::Empty => put(out, b"none"),
-        SeqBase::Sym(p) => put_symbol(out, p.side, names.name(p)),
+        SeqBase::Sym(p) => write_symbol(out, names, p),
     }
 }
 

@@ -1,4 +1,3 @@
-use Rattle.std.proofs.Common.{refl}
 use Rattle.fsmd_tool.specs.Puts.{put}
 use Rattle.fsmd_tool.proofs.Outcomes.{answers_usage, to_words}
 use Rattle.fsmd_tool.proofs.drive.put_reply.Goals as goal

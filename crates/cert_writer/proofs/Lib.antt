@@ -1,0 +1,8 @@
+mod Plain
+mod Kept
+mod Members
+mod Forks
+mod Values
+mod Files
+mod Short
+mod Lengths

@@ -1,0 +1,18 @@
+-- How long a certificate is at most.
+use Rattle.std.specs.Prelude.{ℕ, ◌+◌, ◌*◌, is_some, List, [], ◌∷◌, length}
+use Rattle.std.specs.List.{filter}
+use Rattle.bisimulation.specs.Tables.{Node}
+use Rattle.sym_facts.specs.Facts.{Fact, size_of_fact}
+
+-- how many equations nodes have, and how many units their facts
+abbrev pub equation_count : List (Node Fact) → ℕ
+equation_count [] = 0
+equation_count (n ∷ ns) = length (filter (λ q. is_some q.equation) n.fact.positions) + equation_count ns
+
+abbrev pub units_of : List (Node Fact) → ℕ
+units_of [] = 0
+units_of (n ∷ ns) = size_of_fact n.fact + units_of ns
+
+-- the most bytes of a certificate
+abbrev pub most_bytes : List (Node Fact) → ℕ
+most_bytes ns = 64 + 200 * length ns + 44 * equation_count ns + 47 * units_of ns

@@ -1,0 +1,144 @@
+//! Equations over held symbols.
+
+ghost use Rattle.std.specs.Prelude.{◌≡◌, IfOk, None};
+ghost use Rattle.fs_model.specs.declared.parts.Sort.TheVariants as variable;
+ghost use Rattle.nf_terms.specs.Computed.{Answers, Done};
+ghost use Rattle.propagate.specs.Rebases.{number_tied_to, form_tied, tied, equation_found};
+ghost use Rattle.propagate.specs.RebaseSteps.{first_tie};
+
+use crate::held_symbols::{form_held, number_held};
+use crate::values::{difference_from, value_at};
+use fs_model::parts::Sort;
+use fs_pair::positions::Position;
+use nf_subst::subst::Subst;
+use nf_subst::vector::Vector;
+use nf_sums::sums::add;
+use nf_terms::form::Nf;
+use nf_terms::poly::Poly;
+use nf_terms::stop::{NfStop, NoMemory};
+use nf_terms::tree::Pos;
+use std::alloc::Global;
+use sym_facts::entailment::substitute;
+use sym_facts::fact::own_symbol;
+
+// A number, tied to one number that is freed.
+fn number_tied_to(
+    alloc: Global,
+    s: &mut Subst<'_>,
+    v: &Vector,
+    meanings: &Vector,
+    number: &Poly,
+    q: &Pos,
+) -> Result<Option<Nf>, NfStop>
+    requires { s.old.vector ≡ meanings.now }
+    ensures answers { Answers result (number_tied_to v.now meanings.now number.now variable.Scalar q.now (Done None)) }
+    ensures vector { s.new.vector ≡ s.old.vector }
+{
+    let difference = difference_from(alloc, v, number, q)?;
+    if !number_held(alloc, meanings, &difference)? {
+        return Ok(None);
+    }
+    let held = s.poly(alloc, &difference)?;
+    let symbol = Poly::symbol(alloc, *q)?;
+    Ok(Some(Nf::Num(add(alloc, &symbol, &held)?)))
+}
+
+// A number, tied to one position that is freed.
+fn tied_to(
+    alloc: Global,
+    s: &mut Subst<'_>,
+    v: &Vector,
+    meanings: &Vector,
+    number: &Poly,
+    q: &Position,
+) -> Result<Option<Nf>, NfStop>
+    requires { s.old.vector ≡ meanings.now }
+    ensures answers { Answers result (number_tied_to v.now meanings.now number.now q.now.sort q.now.pos (Done None)) }
+    ensures vector { s.new.vector ≡ s.old.vector }
+{
+    match q.sort {
+        Sort::Scalar => number_tied_to(alloc, s, v, meanings, number, &q.pos),
+        Sort::Array | Sort::Port => Ok(None),
+    }
+}
+
+// A number, tied to the first position that is freed from which it differs by held symbols alone.
+fn number_tied(
+    alloc: Global,
+    s: &mut Subst<'_>,
+    v: &Vector,
+    meanings: &Vector,
+    number: &Poly,
+    freed: &[Position],
+) -> Result<Option<Nf>, NfStop>
+    requires { s.old.vector ≡ meanings.now }
+    ensures answers { Answers result (first_tie v.now meanings.now number.now freed.now) }
+    ensures vector { s.new.vector ≡ s.old.vector }
+{
+    for q in freed {
+        if let Some(tie) = tied_to(alloc, s, v, meanings, number, q)? {
+            return Ok(Some(tie));
+        }
+    }
+    Ok(None)
+}
+
+// An array or a list, tied to the first position that is freed that has the same.
+fn form_tied(
+    alloc: Global,
+    v: &Vector,
+    form: &Nf,
+    freed: &[Position],
+) -> Result<Option<Nf>, NoMemory>
+    ensures { IfOk result (λ o. o ≡ form_tied v.now form.now freed.now) }
+{
+    for q in freed {
+        let value = value_at(alloc, v, q.sort, &q.pos)?;
+        if form.is_same(&value) {
+            return Ok(Some(own_symbol(alloc, q.sort, q.pos)?));
+        }
+    }
+    Ok(None)
+}
+
+// A form, tied to the first position that is freed that it can be tied to.
+#[tactic(auto, using(crate::proofs::RebaseTurns::ties_in_turn))]
+fn tied(
+    alloc: Global,
+    s: &mut Subst<'_>,
+    v: &Vector,
+    meanings: &Vector,
+    form: &Nf,
+    freed: &[Position],
+) -> Result<Option<Nf>, NfStop>
+    requires { s.old.vector ≡ meanings.now }
+    ensures answers { Answers result (tied v.now meanings.now form.now freed.now) }
+    ensures vector { s.new.vector ≡ s.old.vector }
+{
+    match form {
+        Nf::Num(number) => number_tied(alloc, s, v, meanings, number, freed),
+        Nf::Arr(_) | Nf::Seq(_) => Ok(form_tied(alloc, v, form, freed)?),
+    }
+}
+
+/// The equation of a position that has this form: the form over the new meanings, where all its symbols are held, else a tie to a
+/// position that is freed, where there is one.
+///
+/// `Wide` and `Large` come exactly at the first operation that is not narrow, or narrow and not small. `NoMemory`: out of memory.
+pub fn equation_found(
+    alloc: Global,
+    s: &mut Subst<'_>,
+    v: &Vector,
+    meanings: &Vector,
+    form: &Nf,
+    freed: &[Position],
+) -> Result<Option<Nf>, NfStop>
+    requires { s.old.vector ≡ meanings.now }
+    ensures answers { Answers result (equation_found v.now meanings.now form.now freed.now) }
+    ensures vector { s.new.vector ≡ s.old.vector }
+{
+    if form_held(alloc, meanings, form)? {
+        return Ok(Some(substitute(alloc, s, form)?));
+    }
+    tied(alloc, s, v, meanings, form, freed)
+}

@@ -1,0 +1,50 @@
+//! What a vector has at positions.
+
+ghost use Rattle.std.specs.Prelude.{◌≡◌, IfOk};
+ghost use Rattle.nf_terms.specs.Computed.{Answers};
+ghost use Rattle.nf_sums.specs.Operations.{subtracted};
+ghost use Rattle.nf_subst.specs.Vectors.{number_at};
+ghost use Rattle.sym_facts.specs.Facts.{sort_of_terms};
+ghost use Rattle.propagate.specs.Rebases.{value_at};
+
+use fs_model::parts::Sort;
+use nf_subst::vector::Vector;
+use nf_sums::sums::sub;
+use nf_terms::form::Nf;
+use nf_terms::poly::Poly;
+use nf_terms::stop::{NfStop, NoMemory};
+use nf_terms::symbols::Sort as TermSort;
+use nf_terms::tree::Pos;
+use std::alloc::Global;
+
+/// The sort of the terms that stand for variables of a sort.
+pub fn sort_of_terms(sort: Sort) -> TermSort
+    ensures { result ≡ sort_of_terms sort }
+{
+    match sort {
+        Sort::Scalar => TermSort::Scalar,
+        Sort::Array => TermSort::Array,
+        Sort::Port => TermSort::List,
+    }
+}
+
+/// What a vector has at a position of a sort. The one refusal is out of memory.
+pub fn value_at(alloc: Global, v: &Vector, sort: Sort, p: &Pos) -> Result<Nf, NoMemory>
+    ensures { IfOk result (λ f. f ≡ value_at v.now sort p.now) }
+{
+    match sort {
+        Sort::Scalar => Ok(Nf::Num(v.number(alloc, p)?)),
+        Sort::Array => Ok(Nf::Arr(v.array(alloc, p)?)),
+        Sort::Port => Ok(Nf::Seq(v.list(alloc, p)?)),
+    }
+}
+
+/// The difference of a number from the number that a vector has at a position.
+///
+/// `Wide` and `Large` come exactly where the difference is not narrow, or narrow and not small. `NoMemory`: out of memory.
+pub fn difference_from(alloc: Global, v: &Vector, number: &Poly, q: &Pos) -> Result<Poly, NfStop>
+    ensures { Answers result (subtracted number.now (number_at v.now q.now)) }
+{
+    let other = v.number(alloc, q)?;
+    sub(alloc, number, &other)
+}

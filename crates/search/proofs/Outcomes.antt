@@ -1,0 +1,38 @@
+-- The two ways in which a search ends: with a certificate, or with an obstacle.
+use Rattle.std.proofs.Common.{◌≡◌, List, map, None}
+use Rattle.std.specs.List.{AllByRecursion}
+use Rattle.fs_ast.specs.Sound.{IsSound}
+use Rattle.fs_pair.specs.Interfaces.{interface_fault}
+use Rattle.bisimulation.specs.Tables.{Node as CertificateNode}
+use Rattle.sym_facts.specs.Facts.{Fact}
+use Rattle.sym_facts.specs.Pairings.{IsFactOf}
+use Rattle.search_tables.specs.declared.moves.Move.{Move}
+use Rattle.search_tables.specs.Tables.{Machines, Table, positions_of}
+use Rattle.search_tables.specs.Next.{IsClosed}
+use Rattle.search_tables.specs.Legal.{Makes, stuck}
+use Rattle.search_tables.specs.Obstacles.{Obstacle, StandsIn}
+use Rattle.search_tables.specs.View.{Points, points_at}
+use Rattle.search_tables.proofs.Forming.{well_formed}
+use Rattle.search_tables.proofs.Lawful.{lawful}
+use Rattle.search_tables.proofs.Certified.{certified}
+use Rattle.search_tables.proofs.Bounded.{legal_short}
+use Rattle.search_closing.specs.Closings.{HasCertificate}
+use Rattle.search.specs.Answers.{IsClosedWith, StopsAt}
+
+pub closes : (m : Machines) (moves : List Move) (T : Table) (nodes : List (CertificateNode Fact)) → IsSound m.left → IsSound m.right → interface_fault m.left m.right ≡ None → Makes m moves T
+    → AllByRecursion (λ n. IsFactOf (positions_of m) n.fact) T → IsClosed m T → stuck m T ≡ None → HasCertificate m T nodes → IsClosedWith m nodes
+closes m moves T nodes left right matched makes facts closed none h = record {
+  moves = moves;
+  table = T;
+  makes = makes;
+  closed = closed;
+  none_differ = none;
+  ranks = h.ranks;
+  are_ranks = h.are_ranks;
+  certifies = h.certifies;
+  lawful = lawful m T h.ranks nodes (well_formed m left right moves T makes) facts h.low h.certifies;
+  hold = certified m left matched moves T h.ranks nodes makes closed none h.are_ranks h.certifies;
+}
+
+pub stops : (m : Machines) (moves : List Move) (T : Table) (points : List Points) (o : Obstacle) → Makes m moves T → map points_at T ≡ points → StandsIn m T o → StopsAt m moves points o
+stops m moves T points o makes e h = record { table = T; makes = makes; points_are = e; stands = h; short = legal_short m moves T makes }

@@ -1,0 +1,25 @@
+//! The nodes of a table of two machines, with their modes and their places.
+
+ghost use Rattle.std.specs.Prelude.{◌≡◌};
+ghost use Rattle.search_tables.specs.WellFormed.{IsWellFormed};
+ghost use Rattle.search_tables.specs.View.{table_in};
+ghost use Rattle.search_closing.specs.Places.{keys_in};
+ghost use Rattle.search_closing.specs.Modes.{AreModes};
+ghost use Rattle.search_closing.specs.View.{machines_in};
+
+use crate::covered::Covered;
+use bisimulation::mode::Mode;
+use indexmap::IndexSet;
+use search_tables::nodes::TableNode;
+
+/// The nodes of a table of two machines, with their modes and the places of their points.
+#[derive(Drop)]
+pub(crate) struct NodeTable<'a> {
+    pub(crate) machines: &'a Covered<'a>,
+    pub(crate) nodes: &'a [TableNode],
+    pub(crate) modes: &'a [Mode],
+    pub(crate) places: IndexSet<(u64, u64)>,
+    ghost formed: { IsWellFormed (machines_in machines.now) (table_in nodes.now) },
+    ghost modes_are: { AreModes (machines_in machines.now) (table_in nodes.now) modes.now },
+    ghost places_are: { places.keys ≡ keys_in (table_in nodes.now) },
+}

@@ -1,0 +1,54 @@
+//! Where nodes stand in a table, by their points.
+
+ghost use Rattle.std.specs.Prelude.{◌≡◌, IsTrue, IfOk};
+ghost use Rattle.fs_cut.specs.View.{point_of};
+ghost use Rattle.search_tables.specs.Tables.{Table};
+ghost use Rattle.search_tables.specs.WellFormed.{nodes_differ};
+ghost use Rattle.search_tables.specs.View.{table_in};
+ghost use Rattle.search_closing.specs.Places.{number_of, key_of, keys_in, StandsAt};
+
+use fs_cut::cover::Point;
+use indexmap::IndexSet;
+use nf_terms::stop::NoMemory;
+use search_tables::nodes::TableNode;
+use std::alloc::Global;
+
+// The number of a point.
+fn number_of(point: Point) -> u64
+    ensures { result ≡ number_of (point_of point) }
+{
+    match point {
+        Point::Start => 0,
+        Point::Done => 1,
+        Point::At(state) => u64::from(state.0) + 2,
+    }
+}
+
+// The key of two points.
+fn key_of(left: Point, right: Point) -> (u64, u64)
+    ensures { result ≡ key_of (point_of left) (point_of right) }
+{
+    (number_of(left), number_of(right))
+}
+
+/// The keys of nodes at different pairs of points, in order: a key is found in constant time. The one refusal is out of memory.
+pub(crate) fn places_of(
+    alloc: Global,
+    nodes: &[TableNode],
+) -> Result<IndexSet<(u64, u64)>, NoMemory>
+    requires { IsTrue (nodes_differ (table_in nodes.now)) }
+    ensures { IfOk result (λ places. places.keys ≡ keys_in (table_in nodes.now)) }
+{
+    let mut places = IndexSet::new(alloc);
+    for node in nodes {
+        places.insert(key_of(node.left, node.right))?;
+    }
+    Ok(places)
+}
+
+/// The place of the node at two points, if there is one.
+pub(crate) fn place_of(places: &IndexSet<(u64, u64)>, left: Point, right: Point) -> Option<usize>
+    ensures { (T : Table) → places.now.keys ≡ keys_in T → StandsAt T (point_of left) (point_of right) result }
+{
+    places.get_index_of(&key_of(left, right))
+}
