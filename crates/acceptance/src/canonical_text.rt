@@ -152,8 +152,12 @@ check a.fsmd b.fsmd --steps 5 --steps 5
 check a.fsmd b.fsmd --depth 5
 run a.fsmd i.json --cert c.json
 fmt a.fsmd --steps 5
-verify a.fsmd b.fsmd c.json
+verify a.fsmd b.fsmd
+verify a.fsmd b.fsmd c.json --steps 5
+generate
 generate 0
+generate 301
+generate one
 --help
 ";
 

@@ -1,6 +1,7 @@
 //! Faults of texts: each kind, with its line and its column.
 
-use crate::asked::{answers, each_pair, each_row};
+use crate::asked::{each_pair, each_row};
+use cases::answers::{Held, answers};
 use std::alloc::AllocError;
 use std::test::Fail;
 
@@ -47,6 +48,16 @@ fn a_byte_that_begins_no_token(rt: HostRuntime) -> Result<(), AllocError> {
     each_pair(&rt, rt.alloc(), IN_STATE, "BadByte", BAD_BYTES)
 }
 
+// Only the left file holds bytes.
+fn left_alone(left: &[u8]) -> Held<'_> {
+    Held {
+        left,
+        right: b"",
+        inputs: b"",
+        cert: b"",
+    }
+}
+
 #[test]
 fn bytes_that_are_no_text(rt: HostRuntime) -> Result<(), Fail> {
     let cases: [(&[u8], &str); 8] = [
@@ -64,7 +75,7 @@ fn bytes_that_are_no_text(rt: HostRuntime) -> Result<(), Fail> {
     ];
     for (left, reply) in cases {
         assert!(rt;
-            answers(rt.alloc(), "check a.fsmd b.fsmd", [left, b"", b""], reply)?,
+            answers(rt.alloc(), "check a.fsmd b.fsmd", &left_alone(left), reply)?,
             "{reply}"
         );
     }

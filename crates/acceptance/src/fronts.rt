@@ -5,32 +5,32 @@ use std::alloc::{AllocError, Global};
 use std::process::Abort;
 use std::test::Fail;
 
-// A front and what stands behind the name of its file in the reply. The other file is the whole text's schedule.
+// A front and the reply. The other file is the schedule of the whole text.
 const FRONT: &str = "check a.fsmd b.fsmd¦{1}¦fsmd 1; input a, b; output g; local x, y; reset q0;
 state q0: goto q1: x = a, y = b;
 state q1: when x == y goto q0: g = x; goto q2;
 state q2: when x > y goto q1: x = x - y; goto q1: y = y - x;
-¦¦bad input: a.fsmd{2}
+¦¦{2}
 ";
 
 // Greatest common divisors by subtraction, token by token, each with the blank before it. A part begins where a file may
 // end, but the first. Before it stands the answer to the file that ends there, or in the blanks that follow.
 const PARTS: &str =
-    r":▸: Ended¦fsmd· 1·;· input· a·,· b·;· output· g·;· local· x·,· y·;· reset· s0·;
-:1: UnknownState¦\nstate· s0·:
-:2: NoElse¦ goto· s1·:· x· =· a·,· y· =· b·;
-:2: UnknownState¦\nstate· s1·:
-:3: NoElse¦ when· x· ==· y· goto· s0·:· g· =· x·;
-:3: NoElse¦ goto· s2·;
-:3: UnknownState¦\nstate· s2·:
-:4: NoElse¦ when· x· >· y· goto· s3·;
-:4: NoElse¦ goto· s4·;
-:4: UnknownState¦\nstate· s3·:
-:4: UnknownState¦ goto· s1·:· x· =· x· -· y·;
-:4: UnknownState¦\nstate· s4·:
-:6: NoElse¦ goto· s1·:· y· =· y· -· x·;
-: NotBuilt¦\n
-: NotBuilt¦
+    r"bad input: a.fsmd:▸: Ended¦fsmd· 1·;· input· a·,· b·;· output· g·;· local· x·,· y·;· reset· s0·;
+bad input: a.fsmd:1: UnknownState¦\nstate· s0·:
+bad input: a.fsmd:2: NoElse¦ goto· s1·:· x· =· a·,· y· =· b·;
+bad input: a.fsmd:2: UnknownState¦\nstate· s1·:
+bad input: a.fsmd:3: NoElse¦ when· x· ==· y· goto· s0·:· g· =· x·;
+bad input: a.fsmd:3: NoElse¦ goto· s2·;
+bad input: a.fsmd:3: UnknownState¦\nstate· s2·:
+bad input: a.fsmd:4: NoElse¦ when· x· >· y· goto· s3·;
+bad input: a.fsmd:4: NoElse¦ goto· s4·;
+bad input: a.fsmd:4: UnknownState¦\nstate· s3·:
+bad input: a.fsmd:4: UnknownState¦ goto· s1·:· x· =· x· -· y·;
+bad input: a.fsmd:4: UnknownState¦\nstate· s4·:
+bad input: a.fsmd:6: NoElse¦ goto· s1·:· y· =· y· -· x·;
+equivalent: 4 nodes¦\n
+equivalent: 4 nodes¦
 ";
 
 const RESERVED: &str = " fsmd input output local reset state when goto ";
@@ -43,9 +43,9 @@ fn cut_inside(rt: &impl Abort, alloc: Global, text: &str, word: &str) -> Result<
     for letter in word.chars() {
         if !begun.is_empty() {
             let row = if RESERVED.contains(word) || word == "==" {
-                format!(in alloc; "{text}▸{begun}¦:▸: Unexpected")?
+                format!(in alloc; "{text}▸{begun}¦bad input: a.fsmd:▸: Unexpected")?
             } else {
-                format!(in alloc; "{text}{begun}▸¦:▸: Ended")?
+                format!(in alloc; "{text}{begun}▸¦bad input: a.fsmd:▸: Ended")?
             };
             each_row(rt, alloc, FRONT, row.as_str())?;
         }
@@ -72,7 +72,11 @@ fn split_blank(token: &str) -> (&str, &str) {
 
 // The answer to a front that ends before a token of a part: only before its first one may a file end.
 fn answer_before(is_first: bool, before: &str) -> &str {
-    if is_first { before } else { ":▸: Ended" }
+    if is_first {
+        before
+    } else {
+        "bad input: a.fsmd:▸: Ended"
+    }
 }
 
 // Adds the tokens of a part, and asserts the answers to the fronts that end in it. Those that end before its first word

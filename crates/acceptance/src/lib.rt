@@ -1,7 +1,8 @@
-//! Worked examples of the program's behaviour, by the one call that the program makes, over files in memory.
+//! Worked examples of texts, of the rules of machines and of runs, by the one call that the program makes, over files in
+//! memory.
 //!
 //! The crate gives nothing: each module is a set of tests, and each test is a table of texts with the replies that the
-//! rules of machine texts, of machines, of runs and of comparison give for them.
+//! rules give for them.
 #![tactic(auto)]
 
 #[cfg(test)]
@@ -13,15 +14,13 @@ mod canonical_text;
 #[cfg(test)]
 mod faults;
 #[cfg(test)]
-mod forms;
-#[cfg(test)]
 mod fronts;
+#[cfg(test)]
+mod interfaces;
 #[cfg(test)]
 mod limits;
 #[cfg(test)]
 mod loads;
-#[cfg(test)]
-mod machines;
 #[cfg(test)]
 mod paths;
 #[cfg(test)]
@@ -30,5 +29,3 @@ mod ports;
 mod rules;
 #[cfg(test)]
 mod runs;
-#[cfg(test)]
-mod sums;

@@ -67,7 +67,7 @@ fsmd ▸{1}
 
 const ACCEPTED: &str = r"check a.fsmd b.fsmd¦{1}¦{1}¦¦equivalent: 2 nodes\n";
 
-const READ: &str = r"check a.fsmd b.fsmd¦{1}¦{1}¦¦bad input: a.fsmd: NotBuilt\n";
+const WRITTEN: &str = r"run a.fsmd i.json¦{1}¦¦{}¦ended: 1 steps\nn = {}\n";
 
 // 2 to the 127 less 1 is read and 2 to the 127 is not, with any zeros before.
 #[test]
@@ -129,11 +129,11 @@ n[m[0]] = <<126 times:m[>>a<<126 times:]>>
 n[a / 2] = <<126 times:a % >>3
 n[0] = <<127 times:a / >>3
 n[-a] = -a, n[-a] = <<126 times:->>a
-n[0] = 0, n[1] = 1, n[2] = <<63 times:m[->>(a)<<63 times:]>>
+n[0] = 0, n[1] = 0, n[2] = <<63 times:m[->>(a)<<63 times:]>>
 ";
 
 const ASSIGNMENT: &str =
-    r"check a.fsmd b.fsmd¦fsmd 1; input a; input array m; output array n; reset s; state s: goto s: {1}, n[0] = 0;¦fsmd 1; input a; input array m; output array n; reset s; state s: goto s: {1}, n[0] = 0;¦¦bad input: a.fsmd: NotBuilt\n";
+    r"run a.fsmd i.json¦fsmd 1; input a; input array m; output array n; reset s; state s: goto s: {1}, n[0] = 0;¦¦{}¦ended: 1 steps\nn = {}\n";
 
 const ASSIGNMENT_AND_MORE: &str =
     r"check a.fsmd b.fsmd¦fsmd 1; input a; input array m; output array n; reset s; state s: goto s: {1}▸{A}¦{machine}¦¦bad input: a.fsmd:▸: Operators\n";
@@ -159,7 +159,7 @@ const GUARDS: &str = "<<127 times:!>>a > 0
 ";
 
 const GUARD: &str =
-    r"check a.fsmd b.fsmd¦fsmd 1; input a, b; input array m; output y; reset s; state s: when {1} goto s; goto s;¦fsmd 1; input a, b; input array m; output y; reset s; state s: when {1} goto s; goto s;¦¦bad input: a.fsmd: NotBuilt\n";
+    r"run a.fsmd i.json¦fsmd 1; input a, b; input array m; output y; reset s; state s: when {1} goto s; goto s;¦¦{}¦ended: 1 steps\ny = 0\n";
 
 const GUARD_AND_MORE: &str =
     r"check a.fsmd b.fsmd¦fsmd 1; input a, b; input array m; output y; reset s; state s: when {1} ▸{A}¦{machine}¦¦bad input: a.fsmd:▸: Operators\n";
@@ -215,13 +215,13 @@ fn each_sign_counts(rt: HostRuntime) -> Result<(), AllocError> {
 const FULL_LINES: &str =
     "fsmd 1; input a; output y, z; reset s; state s: when <<127 times:!>>a > 0 goto s: y = <<128 times:->>a, z = <<128 times:->>a; when <<127 times:!>>a > 0 goto s: y = <<128 times:->>a, z = <<128 times:->>a; goto s: z = <<128 times:->>a, y = <<128 times:->>a";
 
-// Each guard and each assignment may have 128, and operator_count between them do not count.
+// Each guard and each assignment may have 128 of its own.
 #[test]
 fn operators_count_anew(rt: HostRuntime) -> Result<(), AllocError> {
     each_row(
         &rt,
         rt.alloc(),
-        r"check a.fsmd b.fsmd¦{1};¦{1};¦¦bad input: a.fsmd: NotBuilt\n",
+        r"run a.fsmd i.json¦{1};¦¦{}¦ended: 1 steps\ny = 0\nz = 0\n",
         FULL_LINES,
     )?;
     each_row(
@@ -233,7 +233,7 @@ fn operators_count_anew(rt: HostRuntime) -> Result<(), AllocError> {
     each_row(
         &rt,
         rt.alloc(),
-        READ,
+        WRITTEN,
         "fsmd 1; input a; input array m; output array n; reset s; state s: goto s: <<300 times:n[a] = -a, >>n[0] = a;",
     )
 }
@@ -242,7 +242,7 @@ const SCALARS: &str =
     r"check a.fsmd b.fsmd¦{1}<<0 to 127:n#, >>n127{2}\nreset s;\nstate s: goto s;¦{1}<<0 to 127:n#, >>n127{2}\nreset s;\nstate s: goto s;¦¦equivalent: 2 nodes\n";
 
 const NAMES_AND_ARRAYS: &str =
-    r"check a.fsmd b.fsmd¦{1}<<0 to 126:n#, >>n126{2}\nreset s;\nstate s: goto s;¦{1}<<0 to 126:n#, >>n126{2}\nreset s;\nstate s: goto s;¦¦bad input: a.fsmd: NotBuilt\n";
+    r"cuts a.fsmd¦{1}<<0 to 126:n#, >>n126{2}\nreset s;\nstate s: goto s;¦¦¦start.0>done: 1 steps\n";
 
 const NAMES: &str =
     r"check a.fsmd b.fsmd¦{1}<<0 to 127:n#, >>n127{2}\nreset s;\nstate s: goto s;¦{machine}¦¦bad input: a.fsmd:{3}\n";
@@ -303,7 +303,7 @@ fn states_of_a_machine(rt: HostRuntime) -> Result<(), AllocError> {
 }
 
 const BRANCHES: &str =
-    r"check a.fsmd b.fsmd¦fsmd 1;\noutput y;\nreset s;\nstate s:\n{1}goto s;¦fsmd 1;\noutput y;\nreset s;\nstate s:\n{1}goto s;¦¦bad input: a.fsmd: NotBuilt\n";
+    r"run a.fsmd i.json¦fsmd 1;\noutput y;\nreset s;\nstate s:\n{1}goto s;¦¦{}¦ended: 1 steps\ny = 0\n";
 
 const TOO_MANY_BRANCHES: &str =
     r"check a.fsmd b.fsmd¦fsmd 1;\noutput y;\nreset s;\nstate s:\n{1}goto s;¦{machine}¦¦bad input: a.fsmd:4: TooManyBranches\n";

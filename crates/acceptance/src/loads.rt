@@ -1,6 +1,6 @@
 //! Faults of loading: each call of a command that fails in turn, with the line that is put and the number of calls made.
 
-use crate::asked::words_of;
+use cases::answers::words_of;
 use fs_base::memory::MemFiles;
 use fs_base::outside::Files;
 use fs_base::sinks::MemSink;

@@ -1,7 +1,7 @@
-//! Ports: what is read, checked, written, run and compared of machines that emit numbers.
+//! Ports: what is read, checked, written, run and replayed of machines that emit numbers.
 
 use crate::asked::{each_pair, each_row, replays, runs};
-use crate::machines::{EMITS_AT_ONCE, EMITS_EXCHANGED, EMITS_IN_TURN, TRACE_OF_A_LOOP};
+use cases::machines::{EMITS_AT_ONCE, EMITS_EXCHANGED, EMITS_IN_TURN, TRACE_OF_A_LOOP};
 use std::alloc::AllocError;
 
 const BEHIND: &str = r"check a.fsmd b.fsmd¦{1}▸{2}¦{machine}¦¦bad input: a.fsmd:▸: {A}\n";
@@ -196,19 +196,19 @@ fn replays_that_emit(rt: HostRuntime) -> Result<(), AllocError> {
 }
 
 const INTERFACE: &str =
-    r"check a.fsmd b.fsmd¦fsmd 2; {1} reset s; state s: goto s;¦fsmd 2; {2} reset s; state s: goto s;¦¦bad input: {3}\n";
+    r"check a.fsmd b.fsmd¦fsmd 2; {1} reset s; state s: goto s;¦fsmd 2; {2} reset s; state s: goto s;¦¦{3}\n";
 
-const INTERFACES: &str = "port p;¦output p;¦interface: p
-output p;¦port p;¦interface: p
-output array p;¦port p;¦interface: p
-port p;¦¦interface: p
-¦port p;¦interface: p
-port p;¦port q;¦interface: p
-port p;¦port p;¦a.fsmd: NotBuilt
-port q, p;¦port p; port q;¦a.fsmd: NotBuilt
+const INTERFACES: &str = "port p;¦output p;¦bad input: interface: p
+output p;¦port p;¦bad input: interface: p
+output array p;¦port p;¦bad input: interface: p
+port p;¦¦bad input: interface: p
+¦port p;¦bad input: interface: p
+port p;¦port q;¦bad input: interface: p
+port p;¦port p;¦equivalent: 2 nodes
+port q, p;¦port p; port q;¦equivalent: 2 nodes
 ";
 
-// A port is an output of its own sort. Machines with ports are not compared yet, which is looked at after the interfaces.
+// A port is an output of its own sort.
 #[test]
 fn interfaces_with_ports(rt: HostRuntime) -> Result<(), AllocError> {
     each_row(&rt, rt.alloc(), INTERFACE, INTERFACES)

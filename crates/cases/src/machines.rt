@@ -10,6 +10,14 @@ state s0: goto s1: t = a + b;
 state s1: goto s0: y = t * t;
 ";
 
+/// The square of a sum, multiplied out, in one step.
+pub const SQUARE_MULTIPLIED_OUT: &str = "fsmd 1;
+input a, b;
+output y;
+reset q0;
+state q0: goto q0: y = a * a + 2 * a * b + b * b;
+";
+
 /// A sum of squares.
 pub const SUM_OF_SQUARES: &str = "fsmd 1;
 input a, b;
@@ -94,6 +102,24 @@ reset q0;
 state q0: goto q0: y = 1;
 ";
 
+/// It makes two tests, on which nothing depends, before it copies an input.
+pub const TESTS_AND_COPIES: &str = "fsmd 1;
+input a, b;
+output y;
+reset s0;
+state s0: when a > 0 goto s1; goto s1;
+state s1: when b > 0 goto s2; goto s2;
+state s2: goto s0: y = a;
+";
+
+/// It copies an input.
+pub const COPIES: &str = "fsmd 1;
+input a, b;
+output y;
+reset q0;
+state q0: goto q0: y = a;
+";
+
 /// For x other than 0 a number past 128 bits is touched: in step 2 for 1 and -1, and else in step 1.
 pub const LARGE_PRODUCT: &str = "fsmd 1;
 input x;
@@ -104,7 +130,30 @@ state s0: goto s1: t = 170141183460469231731687303715884105727 * x;
 state s1: goto s0: y = t + t;
 ";
 
-/// An operation that another machine has before the test stands behind it in both branches.
+/// The size of a term grows with each step.
+pub const GROWING_TERM: &str = "fsmd 1;
+input a, b;
+output y;
+local t;
+reset s0;
+state s0: goto s1: t = a + b;
+state s1: goto s2: t = t * t;
+state s2: goto s3: t = t * t;
+state s3: goto s4: t = t * t;
+state s4: goto s0: y = t * t;
+";
+
+/// A sum stands before a test.
+pub const SUM_BEFORE_A_TEST: &str = "fsmd 1;
+input a, b, c;
+output y;
+local x;
+reset s0;
+state s0: goto s1: x = a + b;
+state s1: when c > 0 goto s0: y = x + 1; goto s0: y = x - 1;
+";
+
+/// The sum was moved past the test, into both branches.
 pub const SUM_BEHIND_A_TEST: &str = "fsmd 1;
 input a, b, c;
 output y;
@@ -115,7 +164,70 @@ state q1: goto q0: y = x + 1;
 state q2: goto q0: y = x - 1;
 ";
 
-/// A guarded loop that is tested at the bottom.
+/// The same, with a difference for the sum in one branch.
+pub const DIFFERENCE_BEHIND_A_TEST: &str = "fsmd 1;
+input a, b, c;
+output y;
+local x;
+reset q0;
+state q0: when c > 0 goto q1: x = a + b; goto q2: x = a - b;
+state q1: goto q0: y = x + 1;
+state q2: goto q0: y = x - 1;
+";
+
+/// A sum that each turn of a loop makes anew.
+pub const SUM_IN_A_LOOP: &str = "fsmd 1;
+input a, b, n;
+output y;
+local i, s, x;
+reset s0;
+state s0: goto s1: i = n, s = 0;
+state s1: when i > 0 goto s2: x = a + b; goto s0: y = s;
+state s2: goto s1: s = s + x, i = i - 1;
+";
+
+/// The sum was moved out of the loop.
+pub const SUM_BEFORE_A_LOOP: &str = "fsmd 1;
+input a, b, n;
+output y;
+local i, s, x;
+reset q0;
+state q0: goto q1: i = n, s = 0, x = a + b;
+state q1: when i > 0 goto q1: s = s + x, i = i - 1; goto q0: y = s;
+";
+
+/// A sum that is another in each turn of a loop.
+pub const CHANGING_SUM_IN_A_LOOP: &str = "fsmd 1;
+input a, b, n;
+output y;
+local i, s, x, p;
+reset s0;
+state s0: goto s1: i = n, s = 0, p = a;
+state s1: when i > 0 goto s2: x = p + b; goto s0: y = s;
+state s2: goto s1: s = s + x, i = i - 1, p = p + 1;
+";
+
+/// The sum was moved out of the loop nevertheless.
+pub const CHANGING_SUM_BEFORE_A_LOOP: &str = "fsmd 1;
+input a, b, n;
+output y;
+local i, s, x, p;
+reset q0;
+state q0: goto q1: i = n, s = 0, x = a + b, p = a;
+state q1: when i > 0 goto q1: s = s + x, i = i - 1, p = p + 1; goto q0: y = s;
+";
+
+/// A loop that is tested at the top.
+pub const LOOP_TESTED_AT_THE_TOP: &str = "fsmd 1;
+input a, n;
+output y;
+local i, s;
+reset s0;
+state s0: goto s1: i = 0, s = 0;
+state s1: when i < n goto s1: s = s + a, i = i + 1; goto s0: y = s;
+";
+
+/// The same, guarded and tested at the bottom, with a counter that runs one ahead.
 pub const LOOP_TESTED_AT_THE_BOTTOM: &str = "fsmd 1;
 input a, n;
 output y;
@@ -160,4 +272,14 @@ reset s0;
 state s0: goto s1: i = n;
 state s1: when i > 0 goto s2: emit p v + i; goto s0;
 state s2: goto s1: i = i - 1;
+";
+
+/// The same, with the step that counts merged with the one that emits.
+pub const TRACE_OF_A_LOOP_SCHEDULE: &str = "fsmd 2;
+input n, v;
+port p;
+local i;
+reset q0;
+state q0: goto q1: i = n;
+state q1: when i > 0 goto q1: emit p v + i, i = i - 1; goto q0;
 ";
