@@ -29,11 +29,11 @@ StandsIn ps p = slice_get ps p.branch ≡ Some p
 paths_stand_by : (m : Fsmd) (P : Point) (q : ℕ) (n : ℕ) → AllByRecursion (StandsIn (map (path_by m P q) (range_with_len 0 n))) (map (path_by m P q) (range_with_len 0 n))
 paths_stand_by m P q n =
     all_in (StandsIn (map (path_by m P q) (range_with_len 0 n))) (map (path_by m P q) (range_with_len 0 n)) (λ k p e.
-      let b = get_map_back (path_by m P q) (range_with_len 0 n) k p e in
-      let at : b.0 ≡ 0 + k = range_at 0 n k b.0 b.1 in
-      let branch : p.branch ≡ b.0 = sym (ap (λ (r : Path). r.branch) b.2) in
-      let here : k ≡ p.branch = omega (arith, at, branch) in
-      subst (λ j. slice_get (map (path_by m P q) (range_with_len 0 n)) j ≡ Some p) here e)
+    let b = get_map_back (path_by m P q) (range_with_len 0 n) k p e in
+    let at : b.0 ≡ 0 + k = range_at 0 n k b.0 b.1 in
+    let branch : p.branch ≡ b.0 = sym (ap (λ (r : Path). r.branch) b.2) in
+    let here : k ≡ p.branch = omega (arith, at, branch) in
+    subst (λ j. slice_get (map (path_by m P q) (range_with_len 0 n)) j ≡ Some p) here e)
 
 paths_stand : (m : Fsmd) (P : Point) → AllByRecursion (StandsIn (paths_of m P)) (paths_of m P)
 paths_stand m Start = paths_stand_by m Start m.reset (branch_count m m.reset)

@@ -10,23 +10,13 @@ pub enum End {
     /// No move makes a difference, and no outputs differ.
     Closed,
     /// At this node both machines are done, and the two terms of this left output differ.
-    Stuck {
-        node: u32,
-        var: u32,
-    },
+    Stuck { node: u32, var: u32 },
     /// An operation of this move is not narrow; where a mode was being found, of this one path.
-    Wide {
-        at: Move,
-    },
+    Wide { at: Move },
     /// An operation of this move is narrow and not small; where a mode was being found, of this one path.
-    Large {
-        at: Move,
-    },
+    Large { at: Move },
     /// This move would pass a budget.
-    Exhausted {
-        at: Move,
-        what: Budget,
-    },
+    Exhausted { at: Move, what: Budget },
 }
 
 /// The table that moves made, in order, and why no further move is made.

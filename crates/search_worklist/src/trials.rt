@@ -34,6 +34,7 @@ use sym_facts::fact::Fact;
 use sym_paths::execution::Post;
 
 const NODE_LIMIT: usize = 4096;
+
 const UNIT_LIMIT: u64 = 4_000_000;
 
 // The sum of two numbers of units, where it is within the budget.
@@ -148,12 +149,7 @@ fn end_of(point: Point, path: Option<&Path>) -> Point
 ///
 /// `Wide` and `Large` come exactly at the first operation that is not narrow, or narrow and not small: those of the paths come first,
 /// then those of the comparison with the target's fact, and then those that make a fact. `NoMemory`: out of memory.
-pub fn try_move(
-    alloc: Global,
-    m: &Sides<'_>,
-    state: &State,
-    at: Move,
-) -> Result<Trial, NfStop>
+pub fn try_move(alloc: Global, m: &Sides<'_>, state: &State, at: Move) -> Result<Trial, NfStop>
     requires node { at.node < length (lines state.now) }
     requires sized { state.now.units ≡ units (table state.now) }
     requires made { IsMade (machines_in m.now) (table state.now) }

@@ -111,10 +111,7 @@ fn find_mode(
             list_moves(alloc, m, state, node, mode)?;
             Ok(None)
         }
-        Err(s) => Ok(Some(Step::Ends(end_at(
-            path_at(node, s.side, s.branch),
-            s.stop,
-        )?))),
+        Err(s) => Ok(Some(Step::Ends(end_at(path_at(node, s.side, s.branch), s.stop)?))),
     }
 }
 
