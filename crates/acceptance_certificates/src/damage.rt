@@ -1,6 +1,6 @@
 //! A certificate cut short at each byte, and damaged in each of its strings.
 
-use crate::certificates::SUM_PAST_A_TEST;
+use crate::worked::SUM_PAST_A_TEST;
 use cases::answers::{Held, answers, end_of, pair_with};
 use cases::machines::{SUM_BEFORE_A_TEST, SUM_BEHIND_A_TEST};
 use std::alloc::{AllocError, Global};

@@ -1,6 +1,6 @@
 //! Faults of files and of the sink, where `check` stores a certificate and `verify` loads one.
 
-use crate::certificates::SUM_PAST_A_TEST;
+use crate::worked::SUM_PAST_A_TEST;
 use cases::answers::words_of;
 use cases::machines::{
     SQUARE_MULTIPLIED_OUT, SQUARE_OF_A_SUM, SUM_BEFORE_A_TEST, SUM_BEHIND_A_TEST,

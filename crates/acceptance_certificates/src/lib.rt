@@ -10,8 +10,6 @@ mod arrays;
 #[cfg(test)]
 mod asked;
 #[cfg(test)]
-mod certificates;
-#[cfg(test)]
 mod damage;
 #[cfg(test)]
 mod faults;
@@ -31,5 +29,7 @@ mod terms;
 mod undecided;
 #[cfg(test)]
 mod verdicts;
+#[cfg(test)]
+mod worked;
 #[cfg(test)]
 mod writing;

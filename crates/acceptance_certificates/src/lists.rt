@@ -1,7 +1,7 @@
 //! Certificates of machines that emit, and the two formats.
 
 use crate::asked::{damaged, each_row, verifies};
-use crate::certificates::{EMITS, TRACE};
+use crate::worked::{EMITS, TRACE};
 use cases::machines::{EMITS_AT_ONCE, EMITS_IN_TURN, TRACE_OF_A_LOOP, TRACE_OF_A_LOOP_SCHEDULE};
 use std::alloc::AllocError;
 

@@ -1,7 +1,7 @@
 //! Which refusal is answered where several apply.
 
 use crate::asked::{damaged, each_row};
-use crate::certificates::SQUARE;
+use crate::worked::SQUARE;
 use cases::machines::{SQUARE_MULTIPLIED_OUT, SQUARE_OF_A_SUM};
 use std::alloc::AllocError;
 

@@ -1,7 +1,7 @@
 //! Ranks: they fall where one machine moves alone, so that it does not do so for ever.
 
 use crate::asked::damaged;
-use crate::certificates::{LEFT_ALONE, NEVER_ENDING, RIGHT_ALONE};
+use crate::worked::{LEFT_ALONE, NEVER_ENDING, RIGHT_ALONE};
 use cases::machines::{COPIES, ENDS_AT_ONCE, MAY_NEVER_END, TESTS_AND_COPIES};
 use std::alloc::AllocError;
 

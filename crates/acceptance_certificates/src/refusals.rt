@@ -1,7 +1,7 @@
 //! Certificates that are refused for their form, their points, or what their equations speak of.
 
 use crate::asked::{damaged, each_row};
-use crate::certificates::SUM_PAST_A_TEST;
+use crate::worked::SUM_PAST_A_TEST;
 use cases::machines::{SUM_BEFORE_A_TEST, SUM_BEHIND_A_TEST};
 use std::alloc::AllocError;
 

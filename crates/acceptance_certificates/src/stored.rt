@@ -1,7 +1,7 @@
 //! Certificates that `check` stores: only where it finds the same behaviour, and then exactly these bytes.
 
 use crate::asked::{each_row, stores};
-use crate::certificates::{
+use crate::worked::{
     LEFT_ALONE, LOOP_TURNED_ROUND, RIGHT_ALONE, SUM_OUT_OF_A_LOOP, SUM_PAST_A_TEST, TRACE,
 };
 use cases::answers::{answers, end_of, pair_with};

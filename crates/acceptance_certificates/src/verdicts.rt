@@ -1,9 +1,7 @@
 //! What `verify` answers of certificates that are read: `yes`, or the first obligation that does not hold, and why.
 
 use crate::asked::{damaged, holds, verifies};
-use crate::certificates::{
-    EMITS, LOOP_TURNED_ROUND, SQUARE, SUM_OUT_OF_A_LOOP, SUM_PAST_A_TEST, TRACE,
-};
+use crate::worked::{EMITS, LOOP_TURNED_ROUND, SQUARE, SUM_OUT_OF_A_LOOP, SUM_PAST_A_TEST, TRACE};
 use cases::machines::{
     EMITS_AT_ONCE, EMITS_IN_TURN, LOOP_TESTED_AT_THE_BOTTOM, LOOP_TESTED_AT_THE_TOP,
     SQUARE_MULTIPLIED_OUT, SQUARE_OF_A_SUM, SUM_BEFORE_A_LOOP, SUM_BEFORE_A_TEST,

@@ -1,7 +1,7 @@
 //! The same certificate written in other ways, with white space and other orders, and with nodes that are not needed.
 
 use crate::asked::{damaged, verifies};
-use crate::certificates::SQUARE;
+use crate::worked::SQUARE;
 use cases::machines::{SQUARE_MULTIPLIED_OUT, SQUARE_OF_A_SUM};
 use std::alloc::AllocError;
 
