@@ -103,9 +103,7 @@ pub fn reason_text(
         Reason::Mode => b"mode".to_vec(alloc),
         Reason::NoTarget => b"no target node".to_vec(alloc),
         Reason::Equation { place } => with_place(alloc, "equation ", a, b, p, place),
-        Reason::Condition { index } => {
-            Ok(format!(in alloc; "condition {index}")?.into_bytes())
-        }
+        Reason::Condition { index } => { Ok(format!(in alloc; "condition {index}")?.into_bytes()) }
         Reason::Rank => b"rank".to_vec(alloc),
         Reason::Output { var } => with_name(alloc, "output ", variable_name(a.vars(), var)),
     }

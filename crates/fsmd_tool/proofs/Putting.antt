@@ -5,6 +5,7 @@ use Rattle.std.specs.Result.{IfErr}
 use Rattle.command_words.specs.Words.{Asked, Check, Generate}
 use Rattle.fs_base.specs.Outside.{Held, SameHeld, NoneFell}
 use Rattle.command_answers.specs.declared.answer.Status.{Status}
+use Rattle.command_answers.specs.declared.answer.Status.TheVariants.{Fault}
 use Rattle.command_answers.specs.declared.answer.Answer.{Answer}
 use Rattle.command_answers.specs.declared.answer.Answer.TheVariants.{Usage}
 use Rattle.command_answers.specs.declared.refused.Refused.{Refused as Refusal}
@@ -12,14 +13,14 @@ use Rattle.command_answers.specs.Statuses.{status_of}
 use Rattle.command_answers.specs.Words.{cert_of}
 use Rattle.command_answers.specs.Readings.{Unopened}
 use Rattle.command_answers.specs.Refusing.{WhereAnswered}
-use Rattle.command_answers.specs.Replies.{reply}
+use Rattle.command_answers.specs.Replies.{reply, unstored_reply}
 use Rattle.command_answers.specs.Pairs.{IsOfLoops}
 use Rattle.command_answers.specs.Follows.{FollowsForPair, ForCheck, Follows}
 use Rattle.command_answers.proofs.Maps.{answer_map, ok_map, err_map}
 use Rattle.fsmd_tool.specs.Calls.{Call, call, IsCorrectBy}
 use Rattle.fsmd_tool.specs.Puts.{Put, IsPut}
-use Rattle.fsmd_tool.specs.Stores.{Stores, stores, IsKept, entry_of, to_store, Leaves}
-use Rattle.fsmd_tool.specs.Correct.{IsCorrectAnswer, IsDone, Kept, Answered}
+use Rattle.fsmd_tool.specs.Stores.{Stores, stores, IsKept, IsUnstored, Entry, to_store, Leaves}
+use Rattle.fsmd_tool.specs.Correct.{IsCorrectAnswer, IsDone, Kept, Unstored, Answered}
 use Rattle.fsmd_tool.specs.Clauses.{KeepsFiles}
 use Rattle.fsmd_tool.proofs.FromFiles.{unread_answer}
 use Rattle.fsmd_tool.proofs.Later.{correct_later, done_since, leaves_since}
@@ -40,6 +41,11 @@ answers_usage g s (Ok t) p e k put = record {
   done = subst (λ o. IsDone (to_store o Usage) (reply Usage o) (status_of Usage) s (p t)) (sym e) (Kept refl k put);
 }
 answers_usage g s (Err x) p e k put = tt
+
+-- what was put in the place of the reply, where what is to be stored was not
+pub unstored : {E : Type 0} (x : Entry) (reply : List ℕ) (meant : Status) (s : Stores) (r : Result Status E) (p : Status → Put) → IsUnstored x.name s → IfOk r (λ t. IsPut (unstored_reply x.name) Fault (p t)) → IfOk r (λ t. IsDone (Some x) reply meant s (p t))
+unstored x reply meant s (Ok t) p u put = Unstored x refl u put
+unstored x reply meant s (Err e) p u put = tt
 
 -- what was put of an answer, over files that were loaded before
 pub answered : {E : Type 0} (o : Option Asked) (old mid now : List ℕ → Held) (a b c f g h : List ℕ → ℕ) (answer : Answer) (r : Result Status E) (p : Status → Put) → NoneFell a b → NoneFell b c → SameHeld old mid → NoneFell f g
