@@ -25,7 +25,7 @@ use Rattle.fsmd_tool_laws.proofs.Contents.{some_same, some_none, of_both, bytes_
 use Rattle.fsmd_tool_laws.proofs.Texts.{spells_once, canonical_once, canonical_machine, paths_once}
 use Rattle.fsmd_tool_laws.proofs.Files.{refused_opened, machine_once, machine_or_refused, some_or_refused}
 use Rattle.fsmd_tool_laws.proofs.Inputs.{follows_opened, follows_once}
-use Rattle.fsmd_tool_laws.proofs.Certificates.{judged_opened, judged_once}
+use Rattle.fsmd_tool_laws.proofs.Certificates.{ReadInOneWay, judged_opened, judged_once}
 use Rattle.fsmd_tool_laws.proofs.Pairs.{pair_once}
 use Rattle.fsmd_tool_laws.proofs.Runs.{run_answer_once}
 use Rattle.fsmd_tool_laws.proofs.Replays.{replay_answer_once}
@@ -134,25 +134,25 @@ check_once : (o : Option Asked) (limit : ℕ) (keeps : Bool) (r s : Reading) (x 
 check_once o limit keeps r s x y checks e f p q =
     pair_follows (ForCheck limit keeps) (SaySame o s x y) r s x y e f (λ h. One h) (λ m n c u v. compared_once o s m n x y (OfFiles checks c) (pair_once limit keeps m n x y u v)) p q
 
-verified_once : (a b : Fsmd) (c d : Content) (x y : Answer) → Same c d → FollowsFromCertificate a b Third c x → FollowsFromCertificate a b Third d y → x ≡ y
-verified_once a b c d x y e p q = judged_once a b Third d x y (subst (λ k. FollowsFromCertificate a b Third k x) (e (judged_opened a b Third c x p) (judged_opened a b Third d y q)) p) q
+verified_once : (w : ReadInOneWay) → (a b : Fsmd) (c d : Content) (x y : Answer) → Same c d → FollowsFromCertificate a b Third c x → FollowsFromCertificate a b Third d y → x ≡ y
+verified_once w a b c d x y e p q = judged_once w a b Third d x y (subst (λ k. FollowsFromCertificate a b Third k x) (e (judged_opened a b Third c x p) (judged_opened a b Third d y q)) p) q
 
-verify_once : (r s : Reading) (x y : Answer) → Same r.first s.first → Same r.second s.second → Same r.third s.third → FollowsForPair ForVerify r x → FollowsForPair ForVerify s y → x ≡ y
-verify_once r s x y e f g p q = pair_follows ForVerify (x ≡ y) r s x y e f (λ h. h) (λ m n c u v. verified_once m n r.third s.third x y g u v) p q
+verify_once : (w : ReadInOneWay) → (r s : Reading) (x y : Answer) → Same r.first s.first → Same r.second s.second → Same r.third s.third → FollowsForPair ForVerify r x → FollowsForPair ForVerify s y → x ≡ y
+verify_once w r s x y e f g p q = pair_follows ForVerify (x ≡ y) r s x y e f (λ h. h) (λ m n c u v. verified_once w m n r.third s.third x y g u v) p q
 
 replay_once : (limit : ℕ) (r s : Reading) (x y : Answer) → Same r.first s.first → Same r.second s.second → Same r.third s.third → FollowsForPair (ForReplay limit) r x → FollowsForPair (ForReplay limit) s y → x ≡ y
 replay_once limit r s x y e f g p q =
     pair_follows (ForReplay limit) (x ≡ y) r s x y e f (λ h. h) (λ m n c u v. inputs_once (IsOfReplay limit m n) (replay_answer_once limit m n) m Third r.third s.third x y g u v) p q
 
-pub follows_from_one : (o : Option Asked) (r s : Reading) (x y : Answer) → Agree o r s → Follows o r x → Follows o s y → SaySame o s x y
-follows_from_one None r s x y a p q = One (p ∙ sym q)
-follows_from_one (Some (Check left right cert steps)) r s x y a p q = check_once (Some (Check left right cert steps)) steps (is_some cert) r s x y refl (a.agree First refl) (a.agree Second refl) p q
-follows_from_one (Some (Verify left right cert)) r s x y a p q = One (verify_once r s x y (a.agree First refl) (a.agree Second refl) (a.agree Third refl) p q)
-follows_from_one (Some (Run machine inputs steps)) r s x y a p q = One (run_once steps r s x y (a.agree First refl) (a.agree Second refl) p q)
-follows_from_one (Some (Replay left right inputs steps)) r s x y a p q = One (replay_once steps r s x y (a.agree First refl) (a.agree Second refl) (a.agree Third refl) p q)
-follows_from_one (Some (Fmt machine)) r s x y a p q = One (text_once HasCanonicalText canonical_once canonical_machine r s x y (a.agree First refl) p q)
-follows_from_one (Some (Cuts machine)) r s x y a p q = One (text_once HasPaths paths_once (λ bytes t h. (h.machine, h.spells)) r s x y (a.agree First refl) p q)
-follows_from_one (Some (Generate loops)) r s x y a p q =
+pub follows_from_one : (w : ReadInOneWay) → (o : Option Asked) (r s : Reading) (x y : Answer) → Agree o r s → Follows o r x → Follows o s y → SaySame o s x y
+follows_from_one w None r s x y a p q = One (p ∙ sym q)
+follows_from_one w (Some (Check left right cert steps)) r s x y a p q = check_once (Some (Check left right cert steps)) steps (is_some cert) r s x y refl (a.agree First refl) (a.agree Second refl) p q
+follows_from_one w (Some (Verify left right cert)) r s x y a p q = One (verify_once w r s x y (a.agree First refl) (a.agree Second refl) (a.agree Third refl) p q)
+follows_from_one w (Some (Run machine inputs steps)) r s x y a p q = One (run_once steps r s x y (a.agree First refl) (a.agree Second refl) p q)
+follows_from_one w (Some (Replay left right inputs steps)) r s x y a p q = One (replay_once steps r s x y (a.agree First refl) (a.agree Second refl) (a.agree Third refl) p q)
+follows_from_one w (Some (Fmt machine)) r s x y a p q = One (text_once HasCanonicalText canonical_once canonical_machine r s x y (a.agree First refl) p q)
+follows_from_one w (Some (Cuts machine)) r s x y a p q = One (text_once HasPaths paths_once (λ bytes t h. (h.machine, h.spells)) r s x y (a.agree First refl) p q)
+follows_from_one w (Some (Generate loops)) r s x y a p q =
     compared_once (Some (Generate loops)) s (left_of loops) (right_of loops) x y (OfLoops loops refl refl refl) (pair_once generated_steps false (left_of loops) (right_of loops) x y p q)
 
 -- ---- what compares no machines

@@ -1,4 +1,4 @@
-//! Laws of files and answers, over the definitions alone. The functions do nothing.
+//! Laws of files and answers, over the definitions alone. The functions do nothing: those that they call are laws.
 
 ghost use Rattle.std.specs.Prelude.{◌≡◌, ℕ, Bool, List, Option, false};
 ghost use Rattle.command_words.specs.Words.{Asked};
@@ -19,6 +19,8 @@ ghost use Rattle.command_answers.specs.Pairs.{IsOfPair};
 ghost use Rattle.command_answers.specs.Follows.{Follows};
 ghost use Rattle.fsmd_tool_laws.specs.Agreement.{Agree};
 ghost use Rattle.fsmd_tool_laws.specs.Cycles.{AreOne, SaySame};
+
+use cert_text::laws::{certificates_are_read_in_one_way, texts_are_read};
 
 /// Two machines get at most one answer, but for the cycle that its line names.
 pub fn two_machines_get_one_answer()
@@ -50,7 +52,10 @@ pub fn a_file_spells_one_certificate()
     ensures one { (a b : Fsmd) (bytes : List ℕ) (n k : List (Node Fact)) → SpellsCertificate a b n bytes → SpellsCertificate a b k bytes → n ≡ k }
     ensures fault { (a b : Fsmd) (bytes : List ℕ) (e f : CertError) → HasCertFault a b e bytes → HasCertFault a b f bytes → e ≡ f }
     ensures no_fault { (a b : Fsmd) (bytes : List ℕ) (n : List (Node Fact)) (e : CertError) → SpellsCertificate a b n bytes → HasCertFault a b e bytes → ⊥ }
-{}
+{
+    certificates_are_read_in_one_way();
+    texts_are_read();
+}
 
 /// At most one answer follows from what was read of the files, where two readings agree on each file that both
 /// opened; but two lines may each name another cycle of the machines that are compared. So it is for a file that fails
@@ -58,4 +63,7 @@ pub fn a_file_spells_one_certificate()
 pub fn one_answer_follows()
     ensures compared { (o : Option Asked) (r s : Reading) (x y : Answer) → Agree o r s → Follows o r x → Follows o s y → SaySame o s x y }
     ensures uncompared { (o : Option Asked) (r s : Reading) (x y : Answer) → compares o ≡ false → Agree o r s → Follows o r x → Follows o s y → x ≡ y }
-{}
+{
+    certificates_are_read_in_one_way();
+    texts_are_read();
+}
