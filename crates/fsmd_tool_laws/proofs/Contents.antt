@@ -1,7 +1,7 @@
 -- What was read of a file is one thing.
 use Rattle.std.proofs.Common.{◌≡◌, ℕ, List, Option, Some, None, sym, ◌∙◌, subst}
-use Rattle.fsmd_tool.specs.Readings.{Content, Unopened, Readable, Unreadable, OfBytes}
-use Rattle.fsmd_tool_laws.specs.Settled.{IsOpened}
+use Rattle.command_answers.specs.Readings.{Content, Unopened, Readable, Unreadable, OfBytes}
+use Rattle.fsmd_tool_laws.specs.Agreement.{IsOpened}
 
 pub some_same : {A : Type 0} (x y : A) → Path (Option A) (Some x) (Some y) → x ≡ y
 some_same x y e = cc

@@ -9,14 +9,13 @@ use Rattle.fs_inputs.specs.Files.{file_fault, inputs_in}
 use Rattle.fs_inputs.specs.Refusals.{IsJson, IsFaulty, SpelledBy, Spells}
 use Rattle.serde_json.specs.Data.{Data}
 use Rattle.serde_json.specs.Find.{as_object}
-use Rattle.fsmd_tool.specs.declared.answer.Operand.{Operand}
-use Rattle.fsmd_tool.specs.declared.answer.Answer.{Answer}
-use Rattle.fsmd_tool.specs.declared.answer.Answer.TheVariants.{InputRefused}
-use Rattle.fsmd_tool.specs.Texts.{IsTooLong}
-use Rattle.fsmd_tool.specs.Readings.{Content, OfBytes}
-use Rattle.fsmd_tool.specs.Refusals.{signatures, IsUnread, IsNotJson, HasInputFault, SpellsInputs, RefusesInputs, UnreadInputs, ByJson, ByInput}
-use Rattle.fsmd_tool.specs.Correct.{FollowsFromInputs, InputsRefused, Spelled}
-use Rattle.fsmd_tool_laws.specs.Settled.{IsOpened}
+use Rattle.command_answers.specs.declared.answer.Operand.{Operand}
+use Rattle.command_answers.specs.declared.answer.Answer.{Answer}
+use Rattle.command_answers.specs.declared.answer.Answer.TheVariants.{InputRefused}
+use Rattle.command_answers.specs.Readings.{Content, OfBytes}
+use Rattle.command_answers.specs.Refusals.{signatures, IsUnread, IsNotJson, HasInputFault, SpellsInputs, RefusesInputs, UnreadInputs, ByJson, ByInput}
+use Rattle.command_answers.specs.Follows.{FollowsFromInputs, InputsRefused, Spelled}
+use Rattle.fsmd_tool_laws.specs.Agreement.{IsOpened}
 use Rattle.fsmd_tool_laws.proofs.Contents.{some_same, some_none, of_both, bytes_opened}
 use Rattle.fsmd_tool_laws.proofs.Texts.{few_not_many}
 use Rattle.fsmd_tool_laws.proofs.Files.{unread_opened, unread_once, unread_or}
@@ -45,21 +44,21 @@ spelled_or_faulty fs bytes ins name f p q = faultless fs q.value ins name f (sub
 -- ---- refusals
 
 inputs_opened : (m : Fsmd) (file : Operand) (c : Content) (x : Answer) → RefusesInputs m file c x → IsOpened c
-inputs_opened m file c x (UnreadInputs u) = unread_opened file c x u
+inputs_opened m file c x (UnreadInputs u) = unread_opened most_text_bytes file c x u
 inputs_opened m file c x (ByJson t e) = bytes_opened c (IsNotJson m) t
 inputs_opened m file c x (ByInput f n t e) = bytes_opened c (HasInputFault m f n) t
 
-not_json_read : (m : Fsmd) (file : Operand) (c : Content) (x : Answer) → OfBytes c (IsNotJson m) → IsUnread file c x → ⊥
-not_json_read m file c x t u = unread_or file c (IsNotJson m) x (λ b p l. few_not_many _ most_text_bytes p.few l) t u
+not_json_read : (m : Fsmd) (file : Operand) (c : Content) (x : Answer) → OfBytes c (IsNotJson m) → IsUnread most_text_bytes file c x → ⊥
+not_json_read m file c x t u = unread_or most_text_bytes file c (IsNotJson m) x (λ b p l. few_not_many _ most_text_bytes p.few l) t u
 
-faulty_read : (m : Fsmd) (file : Operand) (c : Content) (f : Fault) (n : List ℕ) (x : Answer) → OfBytes c (HasInputFault m f n) → IsUnread file c x → ⊥
-faulty_read m file c f n x t u = unread_or file c (HasInputFault m f n) x (λ b p l. few_not_many _ most_text_bytes p.few l) t u
+faulty_read : (m : Fsmd) (file : Operand) (c : Content) (f : Fault) (n : List ℕ) (x : Answer) → OfBytes c (HasInputFault m f n) → IsUnread most_text_bytes file c x → ⊥
+faulty_read m file c f n x t u = unread_or most_text_bytes file c (HasInputFault m f n) x (λ b p l. few_not_many _ most_text_bytes p.few l) t u
 
 not_json_or_faulty : (m : Fsmd) (c : Content) (f : Fault) (n : List ℕ) → OfBytes c (IsNotJson m) → OfBytes c (HasInputFault m f n) → ⊥
 not_json_or_faulty m c f n t s = of_both c (IsNotJson m) (HasInputFault m f n) ⊥ (λ b p q. p.refused q.faulty.value q.faulty.json) t s
 
 refused_once : (m : Fsmd) (file : Operand) (c : Content) (x y : Answer) → RefusesInputs m file c x → RefusesInputs m file c y → x ≡ y
-refused_once m file c x y (UnreadInputs u) (UnreadInputs v) = unread_once file c x y u v
+refused_once m file c x y (UnreadInputs u) (UnreadInputs v) = unread_once most_text_bytes file c x y u v
 refused_once m file c x y (UnreadInputs u) (ByJson t e) = absurd (not_json_read m file c x t u)
 refused_once m file c x y (UnreadInputs u) (ByInput f n t e) = absurd (faulty_read m file c f n x t u)
 refused_once m file c x y (ByJson t e) (UnreadInputs u) = absurd (not_json_read m file c y t u)
@@ -72,7 +71,7 @@ refused_once m file c x y (ByInput f n t e) (ByInput g k s h) =
     e ∙ ap (λ r. InputRefused file r.1 r.0) same ∙ sym h
 
 spelled_or_refused : (m : Fsmd) (file : Operand) (c : Content) (ins : Inputs) (x : Answer) → OfBytes c (SpellsInputs m ins) → RefusesInputs m file c x → ⊥
-spelled_or_refused m file c ins x i (UnreadInputs u) = unread_or file c (SpellsInputs m ins) x (λ b p l. few_not_many _ most_text_bytes p.few l) i u
+spelled_or_refused m file c ins x i (UnreadInputs u) = unread_or most_text_bytes file c (SpellsInputs m ins) x (λ b p l. few_not_many _ most_text_bytes p.few l) i u
 spelled_or_refused m file c ins x i (ByJson t e) = of_both c (SpellsInputs m ins) (IsNotJson m) ⊥ (λ b p q. q.refused p.spells.value p.spells.json) i t
 spelled_or_refused m file c ins x i (ByInput f n t e) = of_both c (SpellsInputs m ins) (HasInputFault m f n) ⊥ (λ b p q. spelled_or_faulty (signatures m) b ins n f p.spells q.faulty) i t
 

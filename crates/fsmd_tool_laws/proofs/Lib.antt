@@ -1,9 +1,10 @@
-pub mod Outcomes
+pub mod Searches
 pub mod Pairs
 pub mod Texts
 pub mod Contents
 pub mod Files
 pub mod Inputs
+pub mod Certificates
 pub mod Runs
 pub mod Replays
-pub mod Correct
+pub mod Following

@@ -7,10 +7,10 @@ use Rattle.fs_show.specs.declared.ends.Side.TheVariants as sides
 use Rattle.fs_show.specs.Items.{SameOutputs}
 use Rattle.fs_show.specs.Ends.{IsReplayText}
 use Rattle.fs_show.proofs.Once.{replay_once}
-use Rattle.fsmd_tool.specs.declared.answer.Answer.{Answer}
-use Rattle.fsmd_tool.specs.declared.answer.Answer.TheVariants.{Text, Differs}
-use Rattle.fsmd_tool.specs.Runs.{HasLines}
-use Rattle.fsmd_tool.specs.Replays.{BothEnd, IsOfReplay, LeftStopped, RightStopped, Agreed, Differed}
+use Rattle.command_answers.specs.declared.answer.Answer.{Answer}
+use Rattle.command_answers.specs.declared.answer.Answer.TheVariants.{Text, Differs}
+use Rattle.command_answers.specs.Lines.{HasLines}
+use Rattle.command_answers.specs.Replays.{BothEnd, IsOfReplay, LeftStopped, RightStopped, Agreed, Differed}
 use Rattle.fsmd_tool_laws.proofs.Runs.{stops_once, not_stopped, ends_same}
 
 -- the answer to two runs that ended

@@ -10,15 +10,16 @@ use Rattle.fs_show.specs.declared.ends.Side.TheVariants.{Only}
 use Rattle.fs_show.specs.Ends.{IsEndText, IsStopText}
 use Rattle.fs_show.proofs.Once.{end_once, stop_once}
 use Rattle.fs_show.proofs.RunOnce.{told_of_run}
-use Rattle.fsmd_tool.specs.declared.answer.Answer.{Answer}
-use Rattle.fsmd_tool.specs.declared.answer.Answer.TheVariants.{Text, NoReturn}
-use Rattle.fsmd_tool.specs.Runs.{HasLines, IsOfStop, IsOfRun, Ended, Stopped}
+use Rattle.command_answers.specs.declared.answer.Answer.{Answer}
+use Rattle.command_answers.specs.declared.answer.Answer.TheVariants.{Text, Undecided}
+use Rattle.command_answers.specs.Lines.{HasLines}
+use Rattle.command_answers.specs.Runs.{IsOfStop, IsOfRun, Ended, Stopped}
 
 -- the answers of stops of one run are one
 pub stops_once : (limit : ℕ) (m : Fsmd) (ins : Inputs) (side : Side) (s r : RunStop) (x y : Answer) → IsStopped m ins limit s → IsStopped m ins limit r → IsOfStop side s x → IsOfStop side r y → x ≡ y
 stops_once limit m ins side s r x y a b p q =
     let same : s ≡ r = one_stop m ins limit s r a b (told_of_run side s p.lines p.holds) (told_of_run side r q.lines q.holds) in
-    p.is ∙ ap NoReturn (stop_once side r p.lines q.lines (subst (λ z. IsStopText side z p.lines) same p.holds) q.holds) ∙ sym q.is
+    p.is ∙ ap Undecided (stop_once side r p.lines q.lines (subst (λ z. IsStopText side z p.lines) same p.holds) q.holds) ∙ sym q.is
 
 pub ends_same : (limit : ℕ) (m : Fsmd) (ins : Inputs) (o p : Outputs) (n k : ℕ) → EndsWith m ins limit o n → EndsWith m ins limit p k → o ≡ p
 ends_same limit m ins o p n k a b = (one_end m ins limit o p n k a b).0

@@ -14,9 +14,9 @@ use Rattle.fs_ast.specs.Rules.{rank, is_sooner, plain_faults, branch_faults, IsF
 use Rattle.fs_write.specs.Canonical.{canonical}
 use Rattle.fs_model.specs.Limits.{most_text_bytes}
 use Rattle.fs_text_laws.proofs.Texts.{one_source, one_fault, not_both}
-use Rattle.fsmd_tool.specs.Texts.{SpellsMachine, IsMachine, HasCanonicalText, IsTooLong, HasTextFault, HasCheckFault}
+use Rattle.command_answers.specs.Texts.{SpellsMachine, IsMachine, HasCanonicalText, IsTooLong, HasTextFault, HasCheckFault}
 use Rattle.path_text.specs.Paths.{paths_text}
-use Rattle.fsmd_tool.specs.Paths.{HasPaths}
+use Rattle.command_answers.specs.Paths.{HasPaths}
 
 -- ---- the broken rule that is answered is one
 
@@ -89,13 +89,13 @@ spells_no_text_fault bytes m f s t = not_both bytes s.parts f s.spells.spells t.
 pub spells_no_check_fault : (bytes : List ℕ) (m : Fsmd) (f : CheckFault) → SpellsMachine m bytes → HasCheckFault f bytes → ⊥
 spells_no_check_fault bytes m f s t = lawful_unbroken t.parts f (subst IsLawful (one_source bytes s.parts t.parts s.spells.spells t.spells) s.spells.lawful) t.broken
 
-pub long_spells_none : (bytes : List ℕ) (m : Fsmd) → SpellsMachine m bytes → IsTooLong bytes → ⊥
+pub long_spells_none : (bytes : List ℕ) (m : Fsmd) → SpellsMachine m bytes → IsTooLong most_text_bytes bytes → ⊥
 long_spells_none bytes m s long = few_not_many (length bytes) most_text_bytes s.spells.few long
 
-pub long_no_text_fault : (bytes : List ℕ) (f : TextFault) → HasTextFault f bytes → IsTooLong bytes → ⊥
+pub long_no_text_fault : (bytes : List ℕ) (f : TextFault) → HasTextFault f bytes → IsTooLong most_text_bytes bytes → ⊥
 long_no_text_fault bytes f s long = few_not_many (length bytes) most_text_bytes s.few long
 
-pub long_no_check_fault : (bytes : List ℕ) (f : CheckFault) → HasCheckFault f bytes → IsTooLong bytes → ⊥
+pub long_no_check_fault : (bytes : List ℕ) (f : CheckFault) → HasCheckFault f bytes → IsTooLong most_text_bytes bytes → ⊥
 long_no_check_fault bytes f s long = few_not_many (length bytes) most_text_bytes s.few long
 
 pub canonical_once : (bytes t u : List ℕ) → HasCanonicalText t bytes → HasCanonicalText u bytes → t ≡ u

@@ -1,2 +1,2 @@
-pub mod Outcomes
-pub mod Settled
+pub mod Agreement
+pub mod Cycles

@@ -1,4 +1,4 @@
-//! Laws of answers: at most one is correct.
+//! Laws of answers: at most one is correct, and which answers come.
 #![tactic(auto)]
 
 pub mod laws;

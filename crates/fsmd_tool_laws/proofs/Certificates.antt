@@ -1,0 +1,147 @@
+-- What follows from a file of a certificate is one answer.
+use Rattle.std.proofs.Common.{◌≡◌, ℕ, true, false, List, Result, refl, sym, ◌∙◌, ap, subst}
+use Rattle.std.specs.Prelude.{◌≢◌, Ok, Err}
+use Rattle.serde_json.specs.Data.{Data}
+use Rattle.fs_model.specs.Machines.{Fsmd}
+use Rattle.fs_pair.specs.Positions.{positions}
+use Rattle.bisimulation.specs.Tables.{Node}
+use Rattle.sym_facts.specs.Facts.{Fact}
+use Rattle.term_values.specs.Names.{Find}
+use Rattle.cert_json.specs.Refusals.{IsJson, HasOtherShape, HasTooMany}
+use Rattle.cert_json.specs.Shape.{is_file, has_too_many}
+use Rattle.cert_text.specs.declared.faults.CertError.{CertError}
+use Rattle.cert_text.specs.declared.faults.CertError.TheVariants.{NotJson, Shape, UnknownState, NotCutpoint, UnknownName, SortOf, NotSolved, TwiceNode, NumberTooBig, TooMany, NoMemory, BadTerm, NotNormal}
+use Rattle.cert_text.specs.Parts.{format_in}
+use Rattle.cert_text.specs.Names.{place_named, find_in}
+use Rattle.cert_text.specs.Texts.{AreRead}
+use Rattle.cert_text.specs.Judged.{texts_by}
+use Rattle.cert_text.specs.Refusals.{file_read, SpellsNodes, BreaksFirst, IsRefused}
+use Rattle.command_answers.specs.declared.answer.Operand.{Operand}
+use Rattle.command_answers.specs.declared.answer.Answer.{Answer}
+use Rattle.command_answers.specs.declared.answer.Answer.TheVariants.{CertRefused}
+use Rattle.command_answers.specs.Texts.{most_certificate_bytes}
+use Rattle.command_answers.specs.Readings.{Content, OfBytes}
+use Rattle.command_answers.specs.Refusals.{IsUnread, SpellsCertificate, HasCertFault, RefusesCertificate, UnreadCertificate, ByCertificate}
+use Rattle.command_answers.specs.Verdicts.{IsJudged, answer_to, verdict_on}
+use Rattle.command_answers.specs.Follows.{FollowsFromCertificate, CertificateRefused, Judged}
+use Rattle.fsmd_tool_laws.specs.Agreement.{IsOpened}
+use Rattle.fsmd_tool_laws.proofs.Contents.{some_same, of_both, bytes_opened}
+use Rattle.fsmd_tool_laws.proofs.Texts.{few_not_many}
+use Rattle.fsmd_tool_laws.proofs.Files.{unread_opened, unread_once, unread_or}
+
+-- the laws of reading: bytes spell one list of nodes and are then taken, and there are functions that say what texts stand for
+pub record ReadInOneWay : Type 0 where
+  pub same : (a b : Fsmd) → (bytes : List ℕ) → (ns ms : List (Node Fact)) → SpellsNodes a b bytes ns → SpellsNodes a b bytes ms → ns ≡ ms
+  pub taken : (a b : Fsmd) → (bytes : List ℕ) → (ns : List (Node Fact)) → (e : CertError) → SpellsNodes a b bytes ns → IsRefused a b bytes e → e ≡ NoMemory
+  pub texts : (find : Find) → AreRead find (texts_by find)
+
+-- ---- why bytes are refused is one
+
+-- on which ground bytes are refused
+data Ground (a b : Fsmd) (bytes : List ℕ) (e : CertError) : Type 0 where
+  OfText : ((d : Data) → ¬ IsJson bytes d) → e ≡ NotJson → Ground a b bytes e
+  OfShape : HasOtherShape bytes → e ≡ Shape → Ground a b bytes e
+  OfCount : HasTooMany bytes → e ≡ TooMany → Ground a b bytes e
+  OfNodes : BreaksFirst a b bytes e → Ground a b bytes e
+
+ground : (a b : Fsmd) (bytes : List ℕ) (e : CertError) → e ≢ NoMemory → IsRefused a b bytes e → Ground a b bytes e
+ground a b bytes NotJson told g = OfText g refl
+ground a b bytes Shape told g = OfShape g refl
+ground a b bytes TooMany told g = OfCount g refl
+ground a b bytes NoMemory told g = absurd (told refl)
+ground a b bytes (UnknownState i) told g = OfNodes g
+ground a b bytes (NotCutpoint i) told g = OfNodes g
+ground a b bytes (UnknownName i) told g = OfNodes g
+ground a b bytes (SortOf i) told g = OfNodes g
+ground a b bytes (NotSolved i k) told g = OfNodes g
+ground a b bytes (TwiceNode i) told g = OfNodes g
+ground a b bytes (NumberTooBig i) told g = OfNodes g
+ground a b bytes (BadTerm i) told g = OfNodes g
+ground a b bytes (NotNormal i) told g = OfNodes g
+
+one_value : (bytes : List ℕ) (d e : Data) → IsJson bytes d → IsJson bytes e → d ≡ e
+one_value bytes d e p q = some_same d e (sym p.value ∙ q.value)
+
+shaped : (bytes : List ℕ) (d : Data) → HasOtherShape bytes → IsJson bytes d → is_file d ≡ true → ⊥
+shaped bytes d p q e = let f : is_file p.value ≡ true = ap is_file (one_value bytes p.value d p.json q) ∙ e in let g : true ≡ false = sym f ∙ p.shape in cc
+
+not_many : (bytes : List ℕ) (d : Data) → HasTooMany bytes → IsJson bytes d → has_too_many d ≡ false → ⊥
+not_many bytes d p q e = let f : has_too_many p.value ≡ false = ap has_too_many (one_value bytes p.value d p.json q) ∙ e in let g : true ≡ false = sym p.many ∙ f in cc
+
+abbrev find_for : (a b : Fsmd) → Data → Find
+find_for a b d = find_in (place_named a b (positions a b)) (positions a b) (format_in d)
+
+err_same : (e f : CertError) → Path (Result (List (Node Fact)) CertError) (Err e) (Err f) → e ≡ f
+err_same e f h = cc
+
+one_break : (w : ReadInOneWay) → (a b : Fsmd) (bytes : List ℕ) (e f : CertError) → BreaksFirst a b bytes e → BreaksFirst a b bytes f → e ≡ f
+one_break w a b bytes e f p q =
+    let same : p.value ≡ q.value = one_value bytes p.value q.value p.file.json q.file.json in
+    err_same e f
+    (sym (p.first (texts_by (find_for a b p.value)) (w.texts (find_for a b p.value)))
+    ∙ (ap (λ d. file_read a b d (texts_by (find_for a b d))) same ∙ q.first (texts_by (find_for a b q.value)) (w.texts (find_for a b q.value))))
+
+ground_once : (w : ReadInOneWay) → (a b : Fsmd) (bytes : List ℕ) (e f : CertError) → Ground a b bytes e → Ground a b bytes f → e ≡ f
+ground_once w a b bytes e f (OfText p h) (OfText q k) = h ∙ sym k
+ground_once w a b bytes e f (OfText p h) (OfShape q k) = absurd (p q.value q.json)
+ground_once w a b bytes e f (OfText p h) (OfCount q k) = absurd (p q.value q.json)
+ground_once w a b bytes e f (OfText p h) (OfNodes q) = absurd (p q.value q.file.json)
+ground_once w a b bytes e f (OfShape p h) (OfText q k) = absurd (q p.value p.json)
+ground_once w a b bytes e f (OfShape p h) (OfShape q k) = h ∙ sym k
+ground_once w a b bytes e f (OfShape p h) (OfCount q k) = absurd (shaped bytes q.value p q.json q.shape)
+ground_once w a b bytes e f (OfShape p h) (OfNodes q) = absurd (shaped bytes q.value p q.file.json q.file.shape)
+ground_once w a b bytes e f (OfCount p h) (OfText q k) = absurd (q p.value p.json)
+ground_once w a b bytes e f (OfCount p h) (OfShape q k) = absurd (shaped bytes p.value q p.json p.shape)
+ground_once w a b bytes e f (OfCount p h) (OfCount q k) = h ∙ sym k
+ground_once w a b bytes e f (OfCount p h) (OfNodes q) = absurd (not_many bytes q.value p q.file.json q.file.few)
+ground_once w a b bytes e f (OfNodes p) (OfText q k) = absurd (q p.value p.file.json)
+ground_once w a b bytes e f (OfNodes p) (OfShape q k) = absurd (shaped bytes p.value q p.file.json p.file.shape)
+ground_once w a b bytes e f (OfNodes p) (OfCount q k) = absurd (not_many bytes p.value q p.file.json p.file.few)
+ground_once w a b bytes e f (OfNodes p) (OfNodes q) = one_break w a b bytes e f p q
+
+pub cert_fault_once : (w : ReadInOneWay) → (a b : Fsmd) (bytes : List ℕ) (e f : CertError) → HasCertFault a b e bytes → HasCertFault a b f bytes → e ≡ f
+cert_fault_once w a b bytes e f p q = ground_once w a b bytes e f (ground a b bytes e p.told p.refused) (ground a b bytes f q.told q.refused)
+
+pub certificate_once : (w : ReadInOneWay) → (a b : Fsmd) (bytes : List ℕ) (n k : List (Node Fact)) → SpellsCertificate a b n bytes → SpellsCertificate a b k bytes → n ≡ k
+certificate_once w a b bytes n k p q = w.same a b bytes n k p.spells q.spells
+
+pub spells_no_cert_fault : (w : ReadInOneWay) → (a b : Fsmd) (bytes : List ℕ) (n : List (Node Fact)) (e : CertError) → SpellsCertificate a b n bytes → HasCertFault a b e bytes → ⊥
+spells_no_cert_fault w a b bytes n e p q = q.told (w.taken a b bytes n e p.spells q.refused)
+
+-- ---- refusals
+
+certificate_opened : (a b : Fsmd) (file : Operand) (c : Content) (x : Answer) → RefusesCertificate a b file c x → IsOpened c
+certificate_opened a b file c x (UnreadCertificate u) = unread_opened most_certificate_bytes file c x u
+certificate_opened a b file c x (ByCertificate e t h) = bytes_opened c (HasCertFault a b e) t
+
+fault_read : (a b : Fsmd) (file : Operand) (c : Content) (e : CertError) (x : Answer) → OfBytes c (HasCertFault a b e) → IsUnread most_certificate_bytes file c x → ⊥
+fault_read a b file c e x t u = unread_or most_certificate_bytes file c (HasCertFault a b e) x (λ v p l. few_not_many _ most_certificate_bytes p.few l) t u
+
+refused_once : (w : ReadInOneWay) → (a b : Fsmd) (file : Operand) (c : Content) (x y : Answer) → RefusesCertificate a b file c x → RefusesCertificate a b file c y → x ≡ y
+refused_once w a b file c x y (UnreadCertificate u) (UnreadCertificate v) = unread_once most_certificate_bytes file c x y u v
+refused_once w a b file c x y (UnreadCertificate u) (ByCertificate e t h) = absurd (fault_read a b file c e x t u)
+refused_once w a b file c x y (ByCertificate e t h) (UnreadCertificate u) = absurd (fault_read a b file c e y t u)
+refused_once w a b file c x y (ByCertificate e t h) (ByCertificate f s k) =
+    h ∙ ap (CertRefused file) (of_both c (HasCertFault a b e) (HasCertFault a b f) (e ≡ f) (λ v p q. cert_fault_once w a b v e f p q) t s) ∙ sym k
+
+spelled_or_refused : (w : ReadInOneWay) → (a b : Fsmd) (file : Operand) (c : Content) (n : List (Node Fact)) (x : Answer) → OfBytes c (SpellsCertificate a b n) → RefusesCertificate a b file c x → ⊥
+spelled_or_refused w a b file c n x s (UnreadCertificate u) = unread_or most_certificate_bytes file c (SpellsCertificate a b n) x (λ v p l. few_not_many _ most_certificate_bytes p.few l) s u
+spelled_or_refused w a b file c n x s (ByCertificate e t h) = of_both c (SpellsCertificate a b n) (HasCertFault a b e) ⊥ (λ v p q. spells_no_cert_fault w a b v n e p q) s t
+
+-- ---- what follows
+
+pub judged_opened : (a b : Fsmd) (file : Operand) (c : Content) (x : Answer) → FollowsFromCertificate a b file c x → IsOpened c
+judged_opened a b file c x (CertificateRefused p) = certificate_opened a b file c x p
+judged_opened a b file c x (Judged n s p) = bytes_opened c (SpellsCertificate a b n) s
+
+-- nodes that are spelled are judged
+pub spelled_judged : (w : ReadInOneWay) → (a b : Fsmd) (file : Operand) (c : Content) (n : List (Node Fact)) (x : Answer) → OfBytes c (SpellsCertificate a b n) → FollowsFromCertificate a b file c x → IsJudged a b n x
+spelled_judged w a b file c n x s (CertificateRefused p) = absurd (spelled_or_refused w a b file c n x s p)
+spelled_judged w a b file c n x s (Judged k t p) =
+    subst (λ v. IsJudged a b v x) (of_both c (SpellsCertificate a b k) (SpellsCertificate a b n) (k ≡ n) (λ v q r. certificate_once w a b v k n q r) t s) p
+
+pub judged_once : (w : ReadInOneWay) → (a b : Fsmd) (file : Operand) (c : Content) (x y : Answer) → FollowsFromCertificate a b file c x → FollowsFromCertificate a b file c y → x ≡ y
+judged_once w a b file c x y (CertificateRefused p) (CertificateRefused q) = refused_once w a b file c x y p q
+judged_once w a b file c x y (CertificateRefused p) (Judged n s q) = absurd (spelled_or_refused w a b file c n x s p)
+judged_once w a b file c x y (Judged n s p) (CertificateRefused q) = absurd (spelled_or_refused w a b file c n y s q)
+judged_once w a b file c x y (Judged n s p) (Judged k t q) = let j = spelled_judged w a b file c n y s (Judged k t q) in p.is ∙ sym j.is

@@ -1,0 +1,179 @@
+-- At most one answer follows from what was read, but for the cycle that it names.
+use Rattle.std.proofs.Common.{◌≡◌, ◌⊎◌, ⊎_elim, ℕ, List, Option, Some, None, Bool, true, false, refl, sym, ◌∙◌, ap, subst}
+use Rattle.std.specs.Prelude.{is_some, IsTrue}
+use Rattle.command_words.specs.Words.{Asked, Check, Verify, Run, Replay, Fmt, Cuts, Generate}
+use Rattle.fs_model.specs.Machines.{Fsmd}
+use Rattle.fs_model.specs.Runs.{Inputs}
+use Rattle.fs_pair.specs.Interfaces.{interface_fault}
+use Rattle.command_answers.specs.declared.answer.Operand.{Operand}
+use Rattle.command_answers.specs.declared.answer.Operand.TheVariants.{First, Second, Third}
+use Rattle.command_answers.specs.declared.answer.Answer.{Answer}
+use Rattle.command_answers.specs.declared.answer.Answer.TheVariants.{Text, Interfaces}
+use Rattle.command_answers.specs.Words.{is_check, compares, generated_steps}
+use Rattle.command_answers.specs.Lines.{HasLines}
+use Rattle.command_answers.specs.Texts.{SpellsMachine, IsMachine, HasCanonicalText}
+use Rattle.command_answers.specs.Paths.{HasPaths}
+use Rattle.command_answers.specs.Readings.{Content, Unopened, Readable, Unreadable, OfBytes, Reading}
+use Rattle.command_answers.specs.Refusals.{ArePair, RefusesMachine, RefusesPair, FirstRefused, SecondRefused, InterfacesDiffer}
+use Rattle.command_answers.specs.Pairs.{left_of, right_of}
+use Rattle.command_answers.specs.Runs.{IsOfRun}
+use Rattle.command_answers.specs.Replays.{IsOfReplay}
+use Rattle.command_answers.specs.Follows.{FollowsForText, TextRefused, Listed, FollowsFromInputs, FollowsFromCertificate, FollowsForRun, MachineRefused, Ran, FollowsForPair, PairRefused, Answered, ForCheck, ForVerify, ForReplay, Follows}
+use Rattle.fsmd_tool_laws.specs.Agreement.{IsOpened, Agree}
+use Rattle.fsmd_tool_laws.specs.Cycles.{AreOne, AreCompared, OfFiles, OfLoops, SaySame, One, Cycles}
+use Rattle.fsmd_tool_laws.proofs.Contents.{some_same, some_none, of_both, bytes_opened}
+use Rattle.fsmd_tool_laws.proofs.Texts.{spells_once, canonical_once, canonical_machine, paths_once}
+use Rattle.fsmd_tool_laws.proofs.Files.{refused_opened, machine_once, machine_or_refused, some_or_refused}
+use Rattle.fsmd_tool_laws.proofs.Inputs.{follows_opened, follows_once}
+use Rattle.fsmd_tool_laws.proofs.Certificates.{ReadInOneWay, judged_opened, judged_once}
+use Rattle.fsmd_tool_laws.proofs.Pairs.{pair_once}
+use Rattle.fsmd_tool_laws.proofs.Runs.{run_answer_once}
+use Rattle.fsmd_tool_laws.proofs.Replays.{replay_answer_once}
+
+-- two contents are the same where both are of a file that was opened
+abbrev pub Same : Content → Content → Type 0
+Same c d = IsOpened c → IsOpened d → c ≡ d
+
+machine_same : (c d : Content) (m n : Fsmd) → Same c d → OfBytes c (SpellsMachine m) → OfBytes d (SpellsMachine n) → m ≡ n
+machine_same c d m n e p q =
+    of_both d (SpellsMachine m) (SpellsMachine n) (m ≡ n) (λ b s t. spells_once b m n s t)
+    (subst (λ k. OfBytes k (SpellsMachine m)) (e (bytes_opened c (SpellsMachine m) p) (bytes_opened d (SpellsMachine n) q)) p) q
+
+-- ---- one file
+
+refused_same : (file : Operand) (c d : Content) (x y : Answer) → Same c d → RefusesMachine file c x → RefusesMachine file d y → x ≡ y
+refused_same file c d x y e p q = machine_once file d x y (subst (λ k. RefusesMachine file k x) (e (refused_opened file c x p) (refused_opened file d y q)) p) q
+
+machine_not_refused : (file : Operand) (c d : Content) (m : Fsmd) (x : Answer) → Same c d → OfBytes c (SpellsMachine m) → RefusesMachine file d x → ⊥
+machine_not_refused file c d m x e p q = machine_or_refused file d m x (subst (λ k. OfBytes k (SpellsMachine m)) (e (bytes_opened c (SpellsMachine m) p) (refused_opened file d x q)) p) q
+
+some_not_refused : (file : Operand) (c d : Content) (x : Answer) → Same c d → OfBytes c IsMachine → RefusesMachine file d x → ⊥
+some_not_refused file c d x e p q = some_or_refused file d x (subst (λ k. OfBytes k IsMachine) (e (bytes_opened c IsMachine p) (refused_opened file d x q)) p) q
+
+same_back : (c d : Content) → Same c d → Same d c
+same_back c d e o p = sym (e p o)
+
+-- ---- two files
+
+-- what P says of the machines of one reading is said of those of the other
+pub with_pair : (r s : Reading) (a b m n : Fsmd) (P : Fsmd → Fsmd → Type 0) → Same r.first s.first → Same r.second s.second → ArePair r a b → ArePair s m n → P a b → P m n
+with_pair r s a b m n P e f p q h =
+    subst (λ v. P m v) (machine_same r.second s.second b n f p.right q.right) (subst (λ u. P u b) (machine_same r.first s.first a m e p.left q.left) h)
+
+other_interface : (r s : Reading) (a b m n : Fsmd) (name : List ℕ) → Same r.first s.first → Same r.second s.second → ArePair r a b → ArePair s m n → interface_fault a b ≡ None → interface_fault m n ≡ Some name → ⊥
+other_interface r s a b m n name e f p q none some = some_none name (interface_fault m n) some (with_pair r s a b m n (λ u v. interface_fault u v ≡ None) e f p q none)
+
+interfaces_once : (r s : Reading) (a b m n : Fsmd) (x y : Answer) → Same r.first s.first → Same r.second s.second → ArePair r a b → ArePair s m n
+    → HasLines (λ name. interface_fault a b ≡ Some name) Interfaces x → HasLines (λ name. interface_fault m n ≡ Some name) Interfaces y → x ≡ y
+interfaces_once r s a b m n x y e f p q l k =
+    let here : interface_fault m n ≡ Some l.lines = with_pair r s a b m n (λ u v. interface_fault u v ≡ Some l.lines) e f p q l.holds in
+    l.is ∙ ap Interfaces (some_same l.lines k.lines (sym here ∙ k.holds)) ∙ sym k.is
+
+-- machines with the same inputs and outputs are not refused
+pub pair_not_refused : (r s : Reading) (a b : Fsmd) (x : Answer) → Same r.first s.first → Same r.second s.second → ArePair r a b → interface_fault a b ≡ None → RefusesPair s x → ⊥
+pair_not_refused r s a b x e f p i (FirstRefused q) = machine_not_refused First r.first s.first a x e p.left q
+pair_not_refused r s a b x e f p i (SecondRefused m q) = machine_not_refused Second r.second s.second b x f p.right q
+pair_not_refused r s a b x e f p i (InterfacesDiffer m n q l) = other_interface r s a b m n l.lines e f p q i l.holds
+
+pair_refused_once : (r s : Reading) (x y : Answer) → Same r.first s.first → Same r.second s.second → RefusesPair r x → RefusesPair s y → x ≡ y
+pair_refused_once r s x y e f (FirstRefused p) (FirstRefused q) = refused_same First r.first s.first x y e p q
+pair_refused_once r s x y e f (FirstRefused p) (SecondRefused m q) = absurd (some_not_refused First s.first r.first x (same_back r.first s.first e) m p)
+pair_refused_once r s x y e f (FirstRefused p) (InterfacesDiffer m n q l) = absurd (machine_not_refused First s.first r.first m x (same_back r.first s.first e) q.left p)
+pair_refused_once r s x y e f (SecondRefused m p) (FirstRefused q) = absurd (some_not_refused First r.first s.first y e m q)
+pair_refused_once r s x y e f (SecondRefused m p) (SecondRefused n q) = refused_same Second r.second s.second x y f p q
+pair_refused_once r s x y e f (SecondRefused k p) (InterfacesDiffer m n q l) = absurd (machine_not_refused Second s.second r.second n x (same_back r.second s.second f) q.right p)
+pair_refused_once r s x y e f (InterfacesDiffer a b p l) (FirstRefused q) = absurd (machine_not_refused First r.first s.first a y e p.left q)
+pair_refused_once r s x y e f (InterfacesDiffer a b p l) (SecondRefused m q) = absurd (machine_not_refused Second r.second s.second b y f p.right q)
+pair_refused_once r s x y e f (InterfacesDiffer a b p l) (InterfacesDiffer m n q k) = interfaces_once r s a b m n x y e f p q l k
+
+-- two answers to two files of machines are as R says, where they are so if they are one, and if P says them of the same machines
+pair_follows : (P : (a b : Fsmd) → Content → Answer → Type 0) (R : Type 0) (r s : Reading) (x y : Answer) → Same r.first s.first → Same r.second s.second
+    → (x ≡ y → R) → ((m n : Fsmd) → ArePair s m n → P m n r.third x → P m n s.third y → R) → FollowsForPair P r x → FollowsForPair P s y → R
+pair_follows P R r s x y e f same once (PairRefused p) (PairRefused q) = same (pair_refused_once r s x y e f p q)
+pair_follows P R r s x y e f same once (PairRefused p) (Answered a b q i o) = absurd (pair_not_refused s r a b x (same_back r.first s.first e) (same_back r.second s.second f) q i p)
+pair_follows P R r s x y e f same once (Answered a b p i o) (PairRefused q) = absurd (pair_not_refused r s a b y e f p i q)
+pair_follows P R r s x y e f same once (Answered a b p i o) (Answered m n q j u) = once m n q (with_pair r s a b m n (λ k l. P k l r.third x) e f p q o) u
+
+-- ---- by commands
+
+text_machine : (P : (text bytes : List ℕ) → Type 0) → ((bytes t : List ℕ) → P t bytes → IsMachine bytes) → (c : Content) (t : List ℕ) → OfBytes c (P t) → OfBytes c IsMachine
+text_machine P spells Unopened t h = absurd h
+text_machine P spells (Readable b) t h = spells b t h
+text_machine P spells Unreadable t h = absurd h
+
+text_once : (P : (text bytes : List ℕ) → Type 0) → ((bytes t u : List ℕ) → P t bytes → P u bytes → t ≡ u) → ((bytes t : List ℕ) → P t bytes → IsMachine bytes)
+    → (r s : Reading) (x y : Answer) → Same r.first s.first → FollowsForText P r x → FollowsForText P s y → x ≡ y
+text_once P once spells r s x y e (TextRefused p) (TextRefused q) = refused_same First r.first s.first x y e p q
+text_once P once spells r s x y e (TextRefused p) (Listed l) = absurd (some_not_refused First s.first r.first x (same_back r.first s.first e) (text_machine P spells s.first l.lines l.holds) p)
+text_once P once spells r s x y e (Listed l) (TextRefused q) = absurd (some_not_refused First r.first s.first y e (text_machine P spells r.first l.lines l.holds) q)
+text_once P once spells r s x y e (Listed l) (Listed k) =
+    let same : l.lines ≡ k.lines = of_both s.first (P l.lines) (P k.lines) (l.lines ≡ k.lines) (λ b t u. once b l.lines k.lines t u)
+    (subst (λ c. OfBytes c (P l.lines)) (e (bytes_opened r.first (P l.lines) l.holds) (bytes_opened s.first (P k.lines) k.holds)) l.holds) k.holds
+    in
+    l.is ∙ ap Text same ∙ sym k.is
+
+inputs_once : (P : Inputs → Answer → Type 0) → ((ins : Inputs) (x y : Answer) → P ins x → P ins y → x ≡ y) → (m : Fsmd) (file : Operand) (c d : Content) (x y : Answer) → Same c d
+    → FollowsFromInputs P m file c x → FollowsFromInputs P m file d y → x ≡ y
+inputs_once P once m file c d x y e p q =
+    follows_once P once m file d x y (subst (λ k. FollowsFromInputs P m file k x) (e (follows_opened P m file c x p) (follows_opened P m file d y q)) p) q
+
+run_once : (limit : ℕ) (r s : Reading) (x y : Answer) → Same r.first s.first → Same r.second s.second → FollowsForRun limit r x → FollowsForRun limit s y → x ≡ y
+run_once limit r s x y e f (MachineRefused p) (MachineRefused q) = refused_same First r.first s.first x y e p q
+run_once limit r s x y e f (MachineRefused p) (Ran m h q) = absurd (machine_not_refused First s.first r.first m x (same_back r.first s.first e) h p)
+run_once limit r s x y e f (Ran m h p) (MachineRefused q) = absurd (machine_not_refused First r.first s.first m y e h q)
+run_once limit r s x y e f (Ran m h p) (Ran n k q) =
+    let same : m ≡ n = machine_same r.first s.first m n e h k in
+    inputs_once (IsOfRun limit n) (run_answer_once limit n) n Second r.second s.second x y f (subst (λ o. FollowsFromInputs (IsOfRun limit o) o Second r.second x) same p) q
+
+-- answers to two machines that are compared are one, or name cycles of theirs
+compared_once : (o : Option Asked) (r : Reading) (a b : Fsmd) (x y : Answer) → AreCompared o r a b → AreOne a b x y → SaySame o r x y
+compared_once o r a b x y c h = ⊎_elim (λ e. One e) (λ d. Cycles a b c d.0 d.1) h
+
+check_once : (o : Option Asked) (limit : ℕ) (keeps : Bool) (r s : Reading) (x y : Answer) → IsTrue (is_check o) → Same r.first s.first → Same r.second s.second
+    → FollowsForPair (ForCheck limit keeps) r x → FollowsForPair (ForCheck limit keeps) s y → SaySame o s x y
+check_once o limit keeps r s x y checks e f p q =
+    pair_follows (ForCheck limit keeps) (SaySame o s x y) r s x y e f (λ h. One h) (λ m n c u v. compared_once o s m n x y (OfFiles checks c) (pair_once limit keeps m n x y u v)) p q
+
+verified_once : (w : ReadInOneWay) → (a b : Fsmd) (c d : Content) (x y : Answer) → Same c d → FollowsFromCertificate a b Third c x → FollowsFromCertificate a b Third d y → x ≡ y
+verified_once w a b c d x y e p q = judged_once w a b Third d x y (subst (λ k. FollowsFromCertificate a b Third k x) (e (judged_opened a b Third c x p) (judged_opened a b Third d y q)) p) q
+
+verify_once : (w : ReadInOneWay) → (r s : Reading) (x y : Answer) → Same r.first s.first → Same r.second s.second → Same r.third s.third → FollowsForPair ForVerify r x → FollowsForPair ForVerify s y → x ≡ y
+verify_once w r s x y e f g p q = pair_follows ForVerify (x ≡ y) r s x y e f (λ h. h) (λ m n c u v. verified_once w m n r.third s.third x y g u v) p q
+
+replay_once : (limit : ℕ) (r s : Reading) (x y : Answer) → Same r.first s.first → Same r.second s.second → Same r.third s.third → FollowsForPair (ForReplay limit) r x → FollowsForPair (ForReplay limit) s y → x ≡ y
+replay_once limit r s x y e f g p q =
+    pair_follows (ForReplay limit) (x ≡ y) r s x y e f (λ h. h) (λ m n c u v. inputs_once (IsOfReplay limit m n) (replay_answer_once limit m n) m Third r.third s.third x y g u v) p q
+
+pub follows_from_one : (w : ReadInOneWay) → (o : Option Asked) (r s : Reading) (x y : Answer) → Agree o r s → Follows o r x → Follows o s y → SaySame o s x y
+follows_from_one w None r s x y a p q = One (p ∙ sym q)
+follows_from_one w (Some (Check left right cert steps)) r s x y a p q = check_once (Some (Check left right cert steps)) steps (is_some cert) r s x y refl (a.agree First refl) (a.agree Second refl) p q
+follows_from_one w (Some (Verify left right cert)) r s x y a p q = One (verify_once w r s x y (a.agree First refl) (a.agree Second refl) (a.agree Third refl) p q)
+follows_from_one w (Some (Run machine inputs steps)) r s x y a p q = One (run_once steps r s x y (a.agree First refl) (a.agree Second refl) p q)
+follows_from_one w (Some (Replay left right inputs steps)) r s x y a p q = One (replay_once steps r s x y (a.agree First refl) (a.agree Second refl) (a.agree Third refl) p q)
+follows_from_one w (Some (Fmt machine)) r s x y a p q = One (text_once HasCanonicalText canonical_once canonical_machine r s x y (a.agree First refl) p q)
+follows_from_one w (Some (Cuts machine)) r s x y a p q = One (text_once HasPaths paths_once (λ bytes t h. (h.machine, h.spells)) r s x y (a.agree First refl) p q)
+follows_from_one w (Some (Generate loops)) r s x y a p q =
+    compared_once (Some (Generate loops)) s (left_of loops) (right_of loops) x y (OfLoops loops refl refl refl) (pair_once generated_steps false (left_of loops) (right_of loops) x y p q)
+
+-- ---- what compares no machines
+
+check_compares : (o : Option Asked) → is_check o ≡ true → compares o ≡ true
+check_compares None e = e
+check_compares (Some (Check left right cert steps)) e = refl
+check_compares (Some (Verify left right cert)) e = e
+check_compares (Some (Run machine inputs steps)) e = e
+check_compares (Some (Replay left right inputs steps)) e = e
+check_compares (Some (Fmt machine)) e = e
+check_compares (Some (Cuts machine)) e = e
+check_compares (Some (Generate loops)) e = refl
+
+compared_compares : (o : Option Asked) (r : Reading) (a b : Fsmd) → AreCompared o r a b → compares o ≡ true
+compared_compares o r a b (OfFiles checks c) = check_compares o checks
+compared_compares o r a b (OfLoops loops is left right) = ap compares is
+
+true_false : (b : Bool) → b ≡ true → b ≡ false → ⊥
+true_false b e f = let g : true ≡ false = sym e ∙ f in cc
+
+pub uncompared_one : (o : Option Asked) (r : Reading) (x y : Answer) → compares o ≡ false → SaySame o r x y → x ≡ y
+uncompared_one o r x y e (One h) = h
+uncompared_one o r x y e (Cycles a b c p q) = absurd (true_false (compares o) (compared_compares o r a b c) e)

@@ -1,0 +1,115 @@
+-- What a search ends with is one certificate, or one obstacle, but for the cycle that it names.
+use Rattle.std.proofs.Common.{◌≡◌, ◌⊎◌, inl, inr, ℕ, List, [], ◌∷◌, None, Some, Option, map, refl, sym, ◌∙◌, ap, ap₂, subst}
+use Rattle.nf_terms.specs.declared.tree.Side.{Side}
+use Rattle.bisimulation.specs.Tables.{Node as CertificateNode}
+use Rattle.sym_facts.specs.Facts.{Fact}
+use Rattle.search_tables.specs.declared.moves.Move.{Move}
+use Rattle.search_tables.specs.Tables.{Machines, Table, first_table, TooWide, TooLarge}
+use Rattle.search_tables.specs.Next.{Next, Nothing, Change, Stop, Excess, next, IsClosed}
+use Rattle.search_tables.specs.Legal.{Difference, stuck, Lead}
+use Rattle.search_ranks.specs.Graphs.{AreRanks}
+use Rattle.search_tables.specs.LoneMoves.{lone_moves}
+use Rattle.search_tables.specs.Certifying.{Certifies}
+use Rattle.search_tables.specs.Obstacles.{Obstacle, Stuck, Spin, Wide, Large, Exhausted, StandsIn}
+use Rattle.search_tables.specs.View.{points_at}
+use Rattle.search_tables.proofs.Prefixes.{same_change}
+use Rattle.search_tables.proofs.Ending.{no_certificate}
+use Rattle.search.specs.Answers.{IsClosedWith, StopsAt}
+use Rattle.pair_answers.specs.Texts.{obstacle_text}
+use Rattle.pair_answers.specs.Answers.{HasObstacle}
+use Rattle.pair_answers.specs.Laws.{IsCycleLine}
+use Rattle.pair_answers.proofs.Ranks.{one_certificate}
+
+-- ---- all legal lists of moves that end make one table
+
+abbrev Ends : Machines → Table → Type 0
+Ends m T = (x : Move) (V : Table) → stuck m T ≡ None → next m T ≡ Change x V → ⊥
+
+closed_ends : (m : Machines) (T : Table) → IsClosed m T → Ends m T
+closed_ends m T h x V s e = cc (h, e)
+
+stands_ends : (m : Machines) (T : Table) (o : Obstacle) → StandsIn m T o → Ends m T
+stands_ends m T (Stuck k x) h y V s e = cc (h, s)
+stands_ends m T (Spin d xs) h y V s e = cc (h.1, e)
+stands_ends m T (Wide at) h y V s e = cc (h.3, e)
+stands_ends m T (Large at) h y V s e = cc (h.3, e)
+stands_ends m T (Exhausted at what) h y V s e = cc (h.1, e)
+
+one_table : (m : Machines) (xs ys : List Move) (S T U : Table) → Ends m T → Ends m U → Lead m S xs T → Lead m S ys U → (xs ≡ ys) × (T ≡ U)
+one_table m [] [] S T U t u h k = (refl, sym h ∙ k)
+one_table m [] (y ∷ ys) S T U t u h k = absurd (subst (Ends m) (sym h) t y k.0 k.1 k.2)
+one_table m (x ∷ xs) [] S T U t u h k = absurd (subst (Ends m) (sym k) u x h.0 h.1 h.2)
+one_table m (x ∷ xs) (y ∷ ys) S T U t u h k =
+    let e = same_change (next m S) x y h.0 k.0 h.2 k.2 in
+    let r = one_table m xs ys h.0 T U t u h.3 (subst (λ V. Lead m V ys U) (sym e.1) k.3) in
+    (ap₂ (λ z zs. z ∷ zs) e.0 r.0, r.1)
+
+-- ---- certificates
+
+abbrev pub Nodes : Type 0
+Nodes = List (CertificateNode Fact)
+
+pub same_certificate : (m : Machines) (cs ds : Nodes) → IsClosedWith m cs → IsClosedWith m ds → cs ≡ ds
+same_certificate m cs ds x y =
+    let same = (one_table m x.moves y.moves (first_table m) x.table y.table (closed_ends m x.table x.closed) (closed_ends m y.table y.closed) x.makes.lead y.makes.lead).1 in
+    one_certificate m x.table x.ranks y.ranks cs ds x.are_ranks (subst (λ T. AreRanks (lone_moves m T) y.ranks) (sym same) y.are_ranks) x.certifies (subst (λ T. Certifies m T y.ranks ds) (sym same) y.certifies)
+
+pub not_both : (m : Machines) (cs : Nodes) (line : List ℕ) → IsClosedWith m cs → HasObstacle m line → ⊥
+not_both m cs line x y =
+    let same = (one_table m x.moves y.moves (first_table m) x.table y.stops.table (closed_ends m x.table x.closed) (stands_ends m y.stops.table y.obstacle y.stops.stands) x.makes.lead y.stops.makes.lead).1 in
+    no_certificate m x.table y.obstacle x.ranks (subst (λ T. StandsIn m T y.obstacle) (sym same) y.stops.stands) x.closed x.none_differ x.are_ranks
+
+-- ---- obstacles
+
+-- the obstacle of a table that is no cycle
+abbrev plain_obstacle : Option Difference → Next → Option Obstacle
+plain_obstacle (Some d) n = Some (Stuck d.node d.output)
+plain_obstacle None Nothing = None
+plain_obstacle None (Change x V) = None
+plain_obstacle None (Stop x (TooWide l r)) = Some (Wide x)
+plain_obstacle None (Stop x (TooLarge u d)) = Some (Large x)
+plain_obstacle None (Excess x b) = Some (Exhausted x b)
+
+record IsCycle (o : Obstacle) : Type 0 where
+  pub side : Side
+  pub cycle : List ℕ
+  pub is : o ≡ Spin side cycle
+
+abbrev Stands : Option Obstacle → Obstacle → Type 0
+Stands p o = (p ≡ Some o) ⊎ ((p ≡ None) × IsCycle o)
+
+stands : (m : Machines) (T : Table) (o : Obstacle) → StandsIn m T o → Stands (plain_obstacle (stuck m T) (next m T)) o
+stands m T (Stuck k x) h = inl (ap (λ s. plain_obstacle s (next m T)) h)
+stands m T (Spin d xs) h = inr (ap₂ plain_obstacle h.0 h.1, record { side = d; cycle = xs; is = refl })
+stands m T (Wide at) h = inl (ap₂ plain_obstacle h.0 h.3)
+stands m T (Large at) h = inl (ap₂ plain_obstacle h.0 h.3)
+stands m T (Exhausted at what) h = inl (ap₂ plain_obstacle h.0 h.1)
+
+abbrev AreOne : Obstacle → Obstacle → Type 0
+AreOne o p = (o ≡ p) ⊎ (IsCycle o × IsCycle p)
+
+are_one : (x : Option Obstacle) (o p : Obstacle) → Stands x o → Stands x p → AreOne o p
+are_one x o p (inl e) (inl f) = inl (cc (e, f))
+are_one x o p (inl e) (inr g) = absurd (cc (e, g.0))
+are_one x o p (inr g) (inl f) = absurd (cc (g.0, f))
+are_one x o p (inr g) (inr h) = inr (g.1, h.1)
+
+cycle_line : (m : Machines) (line : List ℕ) (x : HasObstacle m line) → IsCycle x.obstacle → IsCycleLine m line
+cycle_line m line x c = record {
+  moves = x.moves;
+  points = x.points;
+  side = c.side;
+  cycle = c.cycle;
+  stops = subst (StopsAt m x.moves x.points) c.is x.stops;
+  told = x.told ∙ ap (obstacle_text m x.moves x.points) c.is;
+}
+
+pub one_line : (m : Machines) (l k : List ℕ) → HasObstacle m l → HasObstacle m k → (l ≡ k) ⊎ (IsCycleLine m l × IsCycleLine m k)
+one_line m l k x y =
+    let same = one_table m x.moves y.moves (first_table m) x.stops.table y.stops.table (stands_ends m x.stops.table x.obstacle x.stops.stands) (stands_ends m y.stops.table y.obstacle y.stops.stands) x.stops.makes.lead y.stops.makes.lead in
+    let points : x.points ≡ y.points = sym x.stops.points_are ∙ ap (map points_at) same.1 ∙ y.stops.points_are in
+    let there : StandsIn m x.stops.table y.obstacle = subst (λ T. StandsIn m T y.obstacle) (sym same.1) y.stops.stands in
+    elim (are_one (plain_obstacle (stuck m x.stops.table) (next m x.stops.table)) x.obstacle y.obstacle (stands m x.stops.table x.obstacle x.stops.stands) (stands m x.stops.table y.obstacle there)) as (λ _. (l ≡ k) ⊎ (IsCycleLine m l × IsCycleLine m k)) [
+      | inl e ↦ inl (x.told ∙ ap (λ ms. obstacle_text m ms x.points x.obstacle) same.0 ∙ ap (λ ps. obstacle_text m y.moves ps x.obstacle) points ∙ ap (obstacle_text m y.moves y.points) e ∙ sym y.told)
+      | inr c ↦ inr (cycle_line m l x c.0, cycle_line m k y c.1)
+    ]
