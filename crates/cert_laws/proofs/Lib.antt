@@ -1,0 +1,11 @@
+mod Named
+mod Passing
+mod Readable
+mod Lookups
+mod Places
+mod Members
+mod Equations
+mod FactTexts
+mod Points
+mod FileTexts
+mod Nodes

@@ -1,0 +1,4 @@
+//! Laws of the texts of certificates: what is written is read as the same certificate.
+#![tactic(auto)]
+
+pub mod laws;
