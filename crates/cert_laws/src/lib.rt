@@ -1,4 +1,5 @@
 //! Laws of the texts of certificates: what is written is read as the same certificate.
 #![tactic(auto)]
 
+pub mod kept;
 pub mod laws;
