@@ -1,15 +1,13 @@
 -- Equations in any order of their keys are read as themselves.
-use Rattle.std.proofs.Common.{◌≡◌, ◌≢◌, ℕ, zero, suc, ◌<◌, ◌==◌, Bool, true, false, List, [], ◌∷◌, map, length, Option, Some, None, Result, Ok, refl, sym, ap, subst, ◌∙◌, inl, inr, arith}
-use Rattle.std.specs.Prelude.{◌⊎◌, cond, set, slice_get, option_map}
+use Rattle.std.proofs.Common.{◌≡◌, ◌≢◌, ℕ, zero, suc, ◌==◌, Bool, true, false, List, [], ◌∷◌, length, Option, Some, Ok, refl, sym, ap, subst, ◌∙◌, inl, inr}
+use Rattle.std.specs.Prelude.{◌⊎◌, set, slice_get}
 use Rattle.std.specs.List.{AllByRecursion}
 use Rattle.std.proofs.lemmas.Bool.{eqb-true, eq-eqb}
 use Rattle.std.proofs.lemmas.List.{length-set}
-use Rattle.std.proofs.lemmas.Option.{slice_get_within}
 use Rattle.nf_terms.specs.declared.form.Nf.{Nf}
-use Rattle.cert_text.specs.declared.faults.CertError.{CertError}
 use Rattle.cert_text.specs.Names.{place_in, place_by_key}
 use Rattle.cert_text.specs.Points.{after}
-use Rattle.cert_text.specs.Reading.{Terms, known_place, text_read, sort_at, equation_read, equation_put, equations_read}
+use Rattle.cert_text.specs.Reading.{Terms, equation_read, equations_read}
 use Rattle.cert_laws.proofs.Lookups.{same_lists}
 use Rattle.cert_laws.proofs.Members.{HasName}
 
@@ -34,7 +32,7 @@ record Found {X : Type 0} (xs : List X) (k : ℕ) : Type 0 where
 there_too : {X : Type 0} (xs ys : List X) (k : ℕ) (y : X) → length xs ≡ length ys → slice_get ys k ≡ Some y → Found xs k
 there_too [] [] k y n e = absurd (cc e)
 there_too [] (z ∷ ys) k y n e = absurd (cc n)
-there_too (x ∷ xs) [] k y n e = absurd (cc n)
+there_too (x ∷ xs) [] k y n e = absurd (cc e)
 there_too (x ∷ xs) (z ∷ ys) zero y n e = record { item = x; at = refl }
 there_too (x ∷ xs) (z ∷ ys) (suc k) y n e = let r = there_too xs ys k y (cc n) e in record { item = r.item; at = r.at }
 

@@ -1,21 +1,19 @@
 -- The texts of a fact are read as the fact.
-use Rattle.std.proofs.Common.{◌≡◌, ◌≢◌, ℕ, zero, suc, ◌+◌, Bool, true, false, not, ◌&&◌, cond, List, [], ◌∷◌, ◌++◌, map, length, append-nil, append_assoc, Option, Some, None, Ok, refl, sym, ap, subst, ◌∙◌, inl, inr}
+use Rattle.std.proofs.Common.{◌≡◌, ◌≢◌, ℕ, zero, suc, ◌+◌, Bool, true, not, cond, List, [], ◌∷◌, ◌++◌, map, length, append-nil, append_assoc, Option, Some, None, Ok, refl, sym, ap, subst, ◌∙◌, inl, inr}
 use Rattle.std.specs.Prelude.{slice_get, option_map}
 use Rattle.std.specs.List.{list_all, AllByRecursion, position_from}
 use Rattle.std.proofs.lemmas.List.{length-map}
 use Rattle.std.proofs.lemmas.Option.{slice_get-map}
 use Rattle.serde_json.specs.Data.{no_members}
-use Rattle.fs_model.specs.declared.parts.Sort.{Sort}
 use Rattle.fs_model.specs.Machines.{Fsmd}
 use Rattle.fs_ast.specs.Sound.{IsSound}
 use Rattle.fs_pair.specs.declared.positions.Position.{Position}
 use Rattle.fs_pair.specs.Positions.{positions}
-use Rattle.nf_terms.specs.declared.tree.Pos.{Pos}
 use Rattle.nf_terms.specs.declared.tree.SeqBase.TheVariants as base
 use Rattle.nf_terms.specs.declared.form.Nf.{Nf}
 use Rattle.nf_terms.specs.declared.form.Nf.TheVariants.{Seq}
 use Rattle.nf_terms.specs.Lists.{bare_list}
-use Rattle.nf_terms.specs.Forms.{IsNormalForm, sort_of_form}
+use Rattle.nf_terms.specs.Forms.{sort_of_form}
 use Rattle.nf_terms.proofs.Tests.{and_left, and_right, not_true}
 use Rattle.nf_subst.specs.SamePlaces.{sorts_equal}
 use Rattle.nf_rel.specs.Literals.{NormalLiteral, True}
@@ -28,12 +26,12 @@ use Rattle.cert_json.specs.Written.{NodeText}
 use Rattle.cert_writer.specs.Names.{name_of}
 use Rattle.cert_writer.specs.View.{IsNormalEquation}
 use Rattle.cert_writer.specs.Written.{form_written, literal_written, equations_written, named_texts_of, format_of}
-use Rattle.cert_text.specs.Names.{is_in_format, place_named}
+use Rattle.cert_text.specs.Names.{place_named}
 use Rattle.cert_text.specs.Points.{after}
 use Rattle.cert_text.specs.Reading.{Terms, text_read, known_place, sort_or_scalar, sort_at, equation_read, equations_read, unwritten, conditions_read, solved, fact_read, node_fact}
 use Rattle.cert_text.specs.Texts.{Texts, AreRead}
 use Rattle.cert_laws.proofs.Lookups.{all_at, each_at}
-use Rattle.cert_laws.proofs.Members.{HasName, all_written, new_written}
+use Rattle.cert_laws.proofs.Members.{all_written, new_written}
 use Rattle.cert_laws.proofs.Places.{in_format, find, named, key_found}
 use Rattle.cert_laws.proofs.Equations.{Names, IsOneOf, IsSet, all_read}
 use Rattle.cert_laws.proofs.Readable.{TextLaws, form_read, literal_read}
@@ -110,12 +108,18 @@ module _ (a b : Fsmd) (left : IsSound a) (right : IsSound b) (laws : TextLaws (n
       let texts : List (List ℕ) = map (literal_written (name_of a b)) ls in
       let kept : may_be_kept l ≡ true = and_left (may_be_kept l) (list_all may_be_kept ls) h in
       let here = literal_read (name_of a b) (find a b left right) laws r read (is_position all) (named a b left right) l (and_right (not (same_literal l True)) (is_normal_literal l) kept) (not_kept l kept)
-          (and_left (literal_within (is_position all) l) (list_all (literal_within (is_position all)) ls) w) in
+      (and_left (literal_within (is_position all) l) (list_all (literal_within (is_position all)) ls) w) in
       ap (λ y. after (text_read i y) (λ m. conditions_read terms i (before ++ m ∷ []) texts)) here
       ∙ conditions_again i (before ++ l ∷ []) ls (and_right (may_be_kept l) (list_all may_be_kept ls) h) (and_right (literal_within (is_position all) l) (list_all (literal_within (is_position all)) ls) w)
       ∙ ap Ok (append_assoc before (l ∷ []) ls)
 
   -- ---- equations
+
+  equation_again : (i : ℕ) (key text : List ℕ) (k : ℕ) (g : Nf) → Names terms k key → sort_at all k ≡ sort_of_form g → r.term (sort_of_form g) text ≡ Ok g → equation_read terms i (key, text) ≡ Ok (k, g)
+  equation_again i key text k g names sort is =
+      ap (λ o. after (known_place i o) (λ j. after (text_read i (r.term (sort_at all j) text)) (λ x. Ok (j, x)))) names
+      ∙ ap (λ y. after (text_read i (r.term y text)) (λ x. Ok (k, x))) sort
+      ∙ ap (λ y. after (text_read i y) (λ x. Ok (k, x))) is
 
   module _ (i : ℕ) (f : Fact) (of : IsFactOf all f) (fact : IsFact f) (normal : AllByRecursion (λ q. IsNormalEquation q.equation) f.positions) where
     abbrev key : FactPosition → List ℕ
@@ -132,8 +136,8 @@ module _ (a b : Fsmd) (left : IsSound a) (right : IsSound b) (laws : TextLaws (n
     text_again : (k : ℕ) (q : FactPosition) (g : Nf) → slice_get f.positions k ≡ Some q → q.equation ≡ Some g → r.term (sort_of_form g) (form_written (name_of a b) g) ≡ Ok g
     text_again k q g h is =
         let within : form_within (is_position all) g ≡ true =
-            ap (λ o. form_within (is_position all) (form_or_symbol q.sort q.pos o)) (sym is)
-            ∙ all_at (λ e. form_within (is_position all) e.1) (λ (z : FactPosition). (z.pos, form_or_symbol z.sort z.pos z.equation)) f.positions k q of.vector.symbols h in
+        ap (λ o. form_within (is_position all) (form_or_symbol q.sort q.pos o)) (sym is)
+        ∙ all_at (λ e. form_within (is_position all) e.1) (λ (z : FactPosition). (z.pos, form_or_symbol z.sort z.pos z.equation)) f.positions k q of.vector.symbols h in
         form_read (name_of a b) (find a b left right) laws r read (is_position all) (named a b left right) g (subst IsNormalEquation is (normal_at f.positions k q normal h)) within
 
     one_of : (k : ℕ) (q : FactPosition) (g : Nf) → slice_get f.positions k ≡ Some q → q.equation ≡ Some g → AtPlace all f.positions k → IsOneOf terms i (equations_in f.positions) (key q, form_written (name_of a b) g)
@@ -142,15 +146,11 @@ module _ (a b : Fsmd) (left : IsSound a) (right : IsSound b) (laws : TextLaws (n
         let u : z ≡ q = (let v : Some z ≡ Some q = sym t ∙ h in cc v) in
         let same : SamePlace p q = subst (SamePlace p) u s in
         let names : Names terms k (key q) = key_names k p q e same in
-        let text : List ℕ = form_written (name_of a b) g in
         record {
           place = k;
           form = g;
           names = names;
-          read =
-              ap (λ o. after (known_place i o) (λ j. after (text_read i (r.term (sort_at all j) text)) (λ x. Ok (j, x)))) names
-              ∙ ap (λ y. after (text_read i (r.term y text)) (λ x. Ok (k, x))) (sort_is k p q g e h same is)
-              ∙ ap (λ y. after (text_read i y) (λ x. Ok (k, x))) (text_again k q g h is);
+          read = equation_again i (key q) (form_written (name_of a b) g) k g names (sort_is k p q g e h same is) (text_again k q g h is);
           there = slice_get-map (λ (x : FactPosition). x.equation) f.positions k ∙ ap (option_map (λ (x : FactPosition). x.equation)) h ∙ ap Some is;
         }
 
@@ -174,7 +174,7 @@ module _ (a b : Fsmd) (left : IsSound a) (right : IsSound b) (laws : TextLaws (n
     equations_again : equations_read terms i (map (unwritten (format_of all)) all) written ≡ Ok (equations_in f.positions)
     equations_again =
         let n : length (equations_in f.positions) ≡ length all =
-            length-map f.positions (λ (x : FactPosition). x.equation) ∙ sym (length-map f.positions (λ (x : FactPosition). x.sort)) ∙ ap length of.sorts ∙ length-map all (λ (x : Position). x.sort) in
+        length-map f.positions (λ (x : FactPosition). x.equation) ∙ sym (length-map f.positions (λ (x : FactPosition). x.sort)) ∙ ap length of.sorts ∙ length-map all (λ (x : Position). x.sort) in
         all_read terms i (equations_in f.positions) written (map (unwritten (format_of all)) all)
         (all_written (IsOneOf terms i (equations_in f.positions)) (name_of a b) no_members f.positions (λ k q g h is. one_of k q g h is (places k)) tt)
         (length-map all (unwritten (format_of all)) ∙ sym n) (λ k. begun_so k (places k))

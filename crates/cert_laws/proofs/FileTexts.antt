@@ -1,5 +1,5 @@
 -- The JSON of a certificate has its parts again.
-use Rattle.std.proofs.Common.{◌≡◌, ℕ, List, [], ◌∷◌, refl, ap, ap₂, ◌∙◌}
+use Rattle.std.proofs.Common.{◌≡◌, ℕ, List, [], ◌∷◌, refl, ap, ap₂}
 use Rattle.serde_json.proofs.OnLiterals.{serde_json_on_literals}
 use Rattle.cert_json.specs.Written.{NodeText, texts, named_texts, node_data, nodes_data, file_data}
 use Rattle.cert_text.specs.Parts.{texts_of, named_texts_of, node_text, node_texts, nodes_in, format_in}

@@ -9,3 +9,4 @@ mod FactTexts
 mod Points
 mod FileTexts
 mod Nodes
+mod KnownNodes

@@ -10,7 +10,7 @@ use Rattle.nf_terms.specs.declared.tree.Pos.{Pos}
 use Rattle.nf_terms.specs.declared.form.Nf.{Nf}
 use Rattle.sym_facts.specs.Facts.{FactPosition}
 use Rattle.term_text.specs.Texts.{symbol_text}
-use Rattle.cert_writer.specs.Written.{form_written, with_equation, equations_written, text_of, named_texts_of}
+use Rattle.cert_writer.specs.Written.{form_written, with_equation, equations_written, named_texts_of}
 
 -- one of the texts has a name that passes
 abbrev pub HasName : (List ℕ → Type 0) → List (List ℕ × List ℕ) → Type 0

@@ -19,10 +19,10 @@ use Rattle.cert_writer.specs.Names.{name_of}
 use Rattle.cert_writer.specs.View.{IsKept}
 use Rattle.cert_writer.specs.Written.{format_of, mode_written, node_written, file_written}
 use Rattle.cert_text.specs.Names.{place_named, find_in}
-use Rattle.cert_text.specs.Parts.{nodes_in, format_in}
-use Rattle.cert_text.specs.Points.{after, is_at, points_read}
-use Rattle.cert_text.specs.Reading.{Context, mode_named, node_fact, node_read, node_added, nodes_read}
-use Rattle.cert_text.specs.Refusals.{context_of, file_read, ComesTo, SpellsNodes}
+use Rattle.cert_text.specs.Parts.{nodes_in}
+use Rattle.cert_text.specs.Points.{after, is_at}
+use Rattle.cert_text.specs.Reading.{Context, mode_named, node_fact, node_read, nodes_read}
+use Rattle.cert_text.specs.Refusals.{context_of, SpellsNodes}
 use Rattle.cert_text.specs.Texts.{Texts, AreRead}
 use Rattle.cert_laws.specs.Kept.{AreNormal}
 use Rattle.cert_laws.proofs.FactTexts.{fact_again}

@@ -14,7 +14,7 @@ use Rattle.nf_terms.specs.Lists.{AreNormal}
 use Rattle.nf_terms.specs.Measures.{weight_of}
 use Rattle.nf_terms.specs.Normal.{narrow_atom, narrow_monomial, narrow_inside, narrow_writes, narrow_array, is_light}
 use Rattle.nf_terms.proofs.Tests.{and_both}
-use Rattle.term_text.specs.Texts.{Atom, Monomial, Sum, ArrayTerm, ListTerm, Number, One, Times, ZeroArray, Bare, Written, EmptyList, BareList, Pushed}
+use Rattle.term_text.specs.Texts.{Atom, Monomial, Sum, ArrayTerm, ListTerm, Number, One, Times, ZeroArray, Bare, Written, Pushed}
 use Rattle.term_values.specs.Checks.{Test, factor_passes, atom_passes, monomial_passes, sum_passes, polynomial_passes, array_passes, list_passes}
 use Rattle.term_values.specs.Conditions.{integer_passes}
 use Rattle.term_writer.specs.Named.{OfAtom, OfMonomial, OfPolynomial, OfWrites, OfArray, OfListBase, OfItems, OfList}

@@ -1,5 +1,5 @@
 -- The name of a position finds its place.
-use Rattle.std.proofs.Common.{◌≡◌, ℕ, zero, suc, ◌<◌, ◌≤◌, ◌==◌, Bool, true, false, cond, ◌&&◌, List, [], ◌∷◌, map, length, Option, Some, None, refl, sym, ap, subst, ◌∙◌, arith}
+use Rattle.std.proofs.Common.{◌≡◌, ℕ, zero, suc, ◌≤◌, ◌==◌, Bool, true, false, cond, ◌&&◌, List, [], ◌∷◌, length, Option, Some, None, refl, sym, ap, subst, ◌∙◌, arith}
 use Rattle.std.specs.Prelude.{not, nat_le, slice_get, option_map, option_and_then}
 use Rattle.std.specs.List.{list_all, list_any}
 use Rattle.std.specs.Str.{bytes_eq}
@@ -18,7 +18,7 @@ use Rattle.fs_ast.specs.Sound.{IsSound}
 use Rattle.fs_pair.specs.declared.positions.Position.{Position}
 use Rattle.fs_pair.specs.SidedVariables.{same_side}
 use Rattle.fs_pair.specs.Positions.{positions}
-use Rattle.fs_pair.specs.Partners.{variables_on, is_at, StandsForVariable}
+use Rattle.fs_pair.specs.Partners.{variables_on, is_at}
 use Rattle.fs_pair.proofs.Once.{names_of, own_number, position_once}
 use Rattle.fs_pair.proofs.Tests.{same_side_self, same_side_is}
 use Rattle.fs_pair.proofs.Variables.{stands_for}
@@ -39,7 +39,7 @@ use Rattle.cert_writer.specs.Names as written
 use Rattle.cert_writer.specs.Written.{format_of}
 use Rattle.cert_text.specs.Names as read
 use Rattle.cert_text.specs.Names.{names_on, place_named, is_in_format, place_within, place_in, sorted_position, find_in, place_by_key}
-use Rattle.cert_laws.proofs.Lookups.{all_at, each_at, any_at, passing, alone}
+use Rattle.cert_laws.proofs.Lookups.{each_at, any_at, passing, alone}
 
 -- ---- first places
 

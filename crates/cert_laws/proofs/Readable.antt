@@ -5,7 +5,6 @@ use Rattle.std.specs.Option.{option_or}
 use Rattle.std.specs.Str.{bytes_eq}
 use Rattle.std.specs.Cmp.{signed_Decides}
 use Rattle.std.proofs.lemmas.Bool.{le-leb}
-use Rattle.std.proofs.lemmas.Bool.Decides.{nat_tests}
 use Rattle.std.proofs.lemmas.Fmt.{decimal_by_steps_wide}
 use Rattle.std.proofs.lemmas.Int.{ints}
 use Rattle.std.proofs.lemmas.List.Sums.{fold-append}
@@ -21,8 +20,8 @@ use Rattle.nf_terms.specs.Lists.{IsNormalList, size_of_list, depth_of_list}
 use Rattle.nf_terms.specs.Limits.{weight_limit}
 use Rattle.nf_terms.specs.Measures.{size_of_array, depth_of_array}
 use Rattle.nf_terms.specs.Forms.{IsNormalForm, sort_of_form}
-use Rattle.nf_terms.specs.Normal.{is_light, narrow_inside, ordered_array, narrow_array, IsNormal, IsNormalArray}
-use Rattle.nf_terms.proofs.Tests.{and_left, and_right, and_both}
+use Rattle.nf_terms.specs.Normal.{is_light, narrow_inside, IsNormal, IsNormalArray}
+use Rattle.nf_terms.proofs.Tests.{and_right, and_both}
 use Rattle.nf_rel.specs.Literals.{NormalLiteral, True, False, Is}
 use Rattle.nf_rel.specs.NormalLiterals.{is_normal, is_primitive, is_inner, is_normal_literal, IsNormalLiteral}
 use Rattle.nf_rel.proofs.NormalForms.{normal_is}

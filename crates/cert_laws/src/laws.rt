@@ -17,7 +17,7 @@ use term_writer::laws::{
     written_terms_mean_themselves,
 };
 
-/// The file that is written of the nodes of a lawful certificate spells these nodes, and no others.
+/// The file that is written of the nodes of a lawful certificate of two machines spells these nodes.
 pub fn written_certificates_are_read()
     ensures { (a b : Fsmd) → (bytes : List ℕ) → (ns : List (Node Fact)) → IsSound a → IsSound b → IsLawful a b ns → AreNormal ns → IsFileOf bytes (file_written a b (positions a b) ns) → SpellsNodes a b bytes ns }
 {
