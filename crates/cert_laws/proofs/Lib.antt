@@ -1,0 +1,12 @@
+mod Named
+mod Passing
+mod Readable
+mod Lookups
+mod Places
+mod Members
+mod Equations
+mod FactTexts
+mod Points
+mod FileTexts
+mod Nodes
+mod KnownNodes

@@ -1,0 +1,67 @@
+//! What the types of certificates promise.
+
+ghost use Rattle.std.specs.Prelude.{map};
+ghost use Rattle.std.specs.List.{AllByRecursion};
+ghost use Rattle.nf_terms.specs.Forms.{IsNormalForm};
+ghost use Rattle.sym_facts.specs.View.{position_in};
+ghost use Rattle.certificates.specs.View.{node_of};
+ghost use Rattle.cert_writer.specs.View.{IsNormalEquation, IsKept};
+ghost use Rattle.cert_laws.specs.Kept.{AreNormal};
+
+use certificates::cert::{Cert, Node};
+use nf_terms::form::Nf;
+use sym_facts::fact::FactPosition;
+
+// A normal form is normal; nothing runs.
+fn form_is_normal(form: &Nf)
+    ensures { IsNormalForm form.now }
+{
+    match form {
+        Nf::Num(number) => {
+            let _tree = number.tree();
+        }
+        Nf::Arr(array) => {
+            let _tree = array.tree();
+        }
+        Nf::Seq(list) => {
+            let _base = list.base();
+        }
+    }
+}
+
+// The equation of a position is in normal form.
+fn equation_is_normal(position: &FactPosition)
+    ensures { IsNormalEquation (position_in position.now).equation }
+{
+    match &position.equation {
+        Some(form) => form_is_normal(form),
+        None => {}
+    }
+}
+
+// The equations of positions are in normal form.
+fn equations_are_normal(positions: &[FactPosition])
+    ensures { AllByRecursion (λ q. IsNormalEquation q.equation) (map position_in positions.now) }
+{
+    for position in positions {
+        equation_is_normal(position);
+    }
+}
+
+// The fact of a node is one, and its equations are in normal form.
+fn node_is_kept(node: &Node)
+    ensures { IsKept (node_of node.now) }
+{
+    node.fact.holds();
+    equations_are_normal(node.fact.positions());
+}
+
+/// What holds of the nodes of each certificate, so that what is written of a lawful one is read as it. Nothing is changed;
+/// the time is linear in the number of positions of the nodes.
+pub fn certificates_are_normal(c: &Cert)
+    ensures { AreNormal (map node_of c.now.nodes.items) }
+{
+    for node in c.nodes.as_slice() {
+        node_is_kept(node);
+    }
+}
