@@ -50,7 +50,7 @@ machine_not_refused file c d m x e p q = machine_or_refused file d m x (subst (�
 some_not_refused : (file : Operand) (c d : Content) (x : Answer) → Same c d → OfBytes c IsMachine → RefusesMachine file d x → ⊥
 some_not_refused file c d x e p q = some_or_refused file d x (subst (λ k. OfBytes k IsMachine) (e (bytes_opened c IsMachine p) (refused_opened file d x q)) p) q
 
-same_back : (c d : Content) → Same c d → Same d c
+pub same_back : (c d : Content) → Same c d → Same d c
 same_back c d e o p = sym (e p o)
 
 -- ---- two files
