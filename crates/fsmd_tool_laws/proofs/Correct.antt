@@ -1,10 +1,9 @@
 -- At most one answer is correct, and machines are answered.
-use Rattle.std.proofs.Common.{◌≡◌, ℕ, List, Option, Some, None, true, false, Bool, refl, sym, ◌∙◌, ap, subst}
+use Rattle.std.proofs.Common.{◌≡◌, ℕ, List, Option, Some, None, true, false, refl, sym, ◌∙◌, ap, subst}
 use Rattle.std.specs.Prelude.{is_some, codes}
 use Rattle.command_words.specs.Words.{Asked, Check, Verify, Run, Replay, Fmt, Cuts, Generate}
-use Rattle.fs_base.specs.Outside.{Held, Unknown, Nothing, Bytes, AreHeld}
+use Rattle.fs_base.specs.Outside.{Held, Unknown, Nothing, Bytes}
 use Rattle.fs_model.specs.Machines.{Fsmd}
-use Rattle.fs_pair.specs.Interfaces.{interface_fault}
 use Rattle.bisimulation.specs.Tables.{Node}
 use Rattle.sym_facts.specs.Facts.{Fact}
 use Rattle.search.specs.Answers.{machines, IsClosedWith}
@@ -14,15 +13,15 @@ use Rattle.command_answers.specs.declared.answer.Answer.{Answer}
 use Rattle.command_answers.specs.declared.answer.Answer.TheVariants.{Text}
 use Rattle.command_answers.specs.Words.{cert_of, is_check, is_verify, compares, step_limit}
 use Rattle.command_answers.specs.Texts.{SpellsMachine}
-use Rattle.command_answers.specs.Readings.{Content, Unopened, Readable, Unreadable, OfBytes, Reading, content_of}
-use Rattle.command_answers.specs.Refusals.{ArePair, SpellsCertificate}
+use Rattle.command_answers.specs.Readings.{Content, Unopened, Readable, Unreadable, Reading, content_of}
+use Rattle.command_answers.specs.Refusals.{SpellsCertificate}
 use Rattle.command_answers.specs.Pairs.{IsOfPair, IsOfLoops}
 use Rattle.command_answers.specs.Verdicts.{IsJudged, answer_to}
 use Rattle.command_answers.specs.Follows.{FollowsFromCertificate, FollowsForPair, PairRefused, Answered, ForCheck, ForVerify, Follows}
-use Rattle.fsmd_tool.specs.Calls.{Call, held, FailedToRead, MayBeRead, MayRead, IsCorrectBy}
+use Rattle.fsmd_tool.specs.Calls.{Call, held, FailedToRead, MayBeRead, MayRead}
 use Rattle.fsmd_tool.specs.Correct.{IsCorrectAnswer}
-use Rattle.fsmd_tool_laws.specs.Agreement.{IsOpened, Agree}
-use Rattle.fsmd_tool_laws.specs.Settled.{Settles, IsSettled, AreSettled, IsKnown, SpellPair}
+use Rattle.fsmd_tool_laws.specs.Agreement.{Agree}
+use Rattle.fsmd_tool_laws.specs.Settled.{Settles, AreSettled, IsKnown, SpellPair}
 use Rattle.fsmd_tool_laws.specs.Cycles.{SaySame}
 use Rattle.fsmd_tool_laws.proofs.Certificates.{ReadInOneWay, judged_opened, spelled_judged}
 use Rattle.fsmd_tool_laws.proofs.Following.{Same, with_pair, same_back, pair_not_refused, follows_from_one, uncompared_one}
