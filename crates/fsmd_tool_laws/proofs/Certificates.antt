@@ -1,6 +1,6 @@
 -- What follows from a file of a certificate is one answer.
 use Rattle.std.proofs.Common.{◌≡◌, ℕ, true, false, List, Result, refl, sym, ◌∙◌, ap, subst}
-use Rattle.std.specs.Prelude.{◌≢◌, Ok, Err}
+use Rattle.std.specs.Prelude.{◌≢◌, Err}
 use Rattle.serde_json.specs.Data.{Data}
 use Rattle.fs_model.specs.Machines.{Fsmd}
 use Rattle.fs_pair.specs.Positions.{positions}
@@ -22,7 +22,7 @@ use Rattle.command_answers.specs.declared.answer.Answer.TheVariants.{CertRefused
 use Rattle.command_answers.specs.Texts.{most_certificate_bytes}
 use Rattle.command_answers.specs.Readings.{Content, OfBytes}
 use Rattle.command_answers.specs.Refusals.{IsUnread, SpellsCertificate, HasCertFault, RefusesCertificate, UnreadCertificate, ByCertificate}
-use Rattle.command_answers.specs.Verdicts.{IsJudged, answer_to, verdict_on}
+use Rattle.command_answers.specs.Verdicts.{IsJudged}
 use Rattle.command_answers.specs.Follows.{FollowsFromCertificate, CertificateRefused, Judged}
 use Rattle.fsmd_tool_laws.specs.Agreement.{IsOpened}
 use Rattle.fsmd_tool_laws.proofs.Contents.{some_same, of_both, bytes_opened}

@@ -4,7 +4,7 @@ use Rattle.fs_model.specs.Limits.{most_text_bytes}
 use Rattle.fs_model.specs.Machines.{Fsmd}
 use Rattle.command_answers.specs.declared.answer.Operand.{Operand}
 use Rattle.command_answers.specs.declared.answer.Answer.{Answer}
-use Rattle.command_answers.specs.declared.answer.Answer.TheVariants.{TextRefused, CheckRefused, TooLong}
+use Rattle.command_answers.specs.declared.answer.Answer.TheVariants.{TextRefused, CheckRefused}
 use Rattle.command_answers.specs.Texts.{SpellsMachine, IsMachine, IsTooLong, HasTextFault, HasCheckFault}
 use Rattle.command_answers.specs.Readings.{Content, OfBytes}
 use Rattle.command_answers.specs.Refusals.{IsUnread, Failed, Long, RefusesMachine, Unread, ByText, ByRule}

@@ -1,5 +1,5 @@
 -- At most one answer follows from what was read, but for the cycle that it names.
-use Rattle.std.proofs.Common.{◌≡◌, ◌⊎◌, ⊎_elim, ℕ, List, Option, Some, None, Bool, true, false, refl, sym, ◌∙◌, ap, subst}
+use Rattle.std.proofs.Common.{◌≡◌, ⊎_elim, ℕ, List, Option, Some, None, Bool, true, false, refl, sym, ◌∙◌, ap, subst}
 use Rattle.std.specs.Prelude.{is_some, IsTrue}
 use Rattle.command_words.specs.Words.{Asked, Check, Verify, Run, Replay, Fmt, Cuts, Generate}
 use Rattle.fs_model.specs.Machines.{Fsmd}
@@ -50,7 +50,7 @@ machine_not_refused file c d m x e p q = machine_or_refused file d m x (subst (�
 some_not_refused : (file : Operand) (c d : Content) (x : Answer) → Same c d → OfBytes c IsMachine → RefusesMachine file d x → ⊥
 some_not_refused file c d x e p q = some_or_refused file d x (subst (λ k. OfBytes k IsMachine) (e (bytes_opened c IsMachine p) (refused_opened file d x q)) p) q
 
-same_back : (c d : Content) → Same c d → Same d c
+pub same_back : (c d : Content) → Same c d → Same d c
 same_back c d e o p = sym (e p o)
 
 -- ---- two files

@@ -8,3 +8,4 @@ pub mod Certificates
 pub mod Runs
 pub mod Replays
 pub mod Following
+pub mod Correct

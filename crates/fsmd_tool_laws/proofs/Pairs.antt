@@ -1,5 +1,5 @@
 -- Two machines get one answer, but for the cycle that it names.
-use Rattle.std.proofs.Common.{◌≡◌, ◌⊎◌, inl, inr, ⊎_elim, ℕ, List, length, Bool, sym, ◌∙◌, ap}
+use Rattle.std.proofs.Common.{inl, inr, ⊎_elim, ℕ, List, length, Bool, sym, ◌∙◌, ap}
 use Rattle.fs_model.specs.Machines.{Fsmd}
 use Rattle.cert_writer.specs.Written.{certificate_text}
 use Rattle.search.specs.Answers.{machines}

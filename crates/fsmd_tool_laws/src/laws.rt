@@ -1,7 +1,7 @@
 //! Laws of files and answers, over the definitions alone. The functions do nothing: those that they call are laws.
 
-ghost use Rattle.std.specs.Prelude.{◌≡◌, ℕ, Bool, List, Option, false};
-ghost use Rattle.command_words.specs.Words.{Asked};
+ghost use Rattle.std.specs.Prelude.{◌≡◌, ℕ, Bool, List, Option, Some, true, false, is_some, codes};
+ghost use Rattle.command_words.specs.Words.{Asked, Generate};
 ghost use Rattle.fs_model.specs.Limits.{most_text_bytes};
 ghost use Rattle.fs_model.specs.Machines.{Fsmd};
 ghost use Rattle.fs_grammar.specs.declared.fault.TextFault.{TextFault};
@@ -9,15 +9,22 @@ ghost use Rattle.fs_rules.specs.declared.check.CheckFault.{CheckFault};
 ghost use Rattle.bisimulation.specs.Tables.{Node};
 ghost use Rattle.sym_facts.specs.Facts.{Fact};
 ghost use Rattle.cert_text.specs.declared.faults.CertError.{CertError};
+ghost use Rattle.search.specs.Answers.{machines, IsClosedWith};
+ghost use Rattle.command_answers.specs.declared.answer.Operand.TheVariants.{Third};
 ghost use Rattle.command_answers.specs.declared.answer.Answer.{Answer};
-ghost use Rattle.command_answers.specs.Words.{compares};
+ghost use Rattle.command_answers.specs.declared.answer.Answer.TheVariants.{Text};
+ghost use Rattle.command_answers.specs.Words.{cert_of, is_check, is_verify, compares, step_limit};
 ghost use Rattle.command_answers.specs.Paths.{HasPaths};
 ghost use Rattle.command_answers.specs.Texts.{SpellsMachine, HasCanonicalText, IsTooLong, HasTextFault, HasCheckFault};
 ghost use Rattle.command_answers.specs.Readings.{Reading};
 ghost use Rattle.command_answers.specs.Refusals.{SpellsCertificate, HasCertFault};
-ghost use Rattle.command_answers.specs.Pairs.{IsOfPair};
+ghost use Rattle.command_answers.specs.Pairs.{IsOfPair, IsOfLoops};
+ghost use Rattle.command_answers.specs.Verdicts.{IsJudged};
 ghost use Rattle.command_answers.specs.Follows.{Follows};
+ghost use Rattle.fsmd_tool.specs.Calls.{Call};
+ghost use Rattle.fsmd_tool.specs.Correct.{IsCorrectAnswer};
 ghost use Rattle.fsmd_tool_laws.specs.Agreement.{Agree};
+ghost use Rattle.fsmd_tool_laws.specs.Settled.{AreSettled, IsKnown, SpellPair};
 ghost use Rattle.fsmd_tool_laws.specs.Cycles.{AreOne, SaySame};
 
 use cert_text::laws::{certificates_are_read_in_one_way, texts_are_read};
@@ -63,6 +70,36 @@ pub fn a_file_spells_one_certificate()
 pub fn one_answer_follows()
     ensures compared { (o : Option Asked) (r s : Reading) (x y : Answer) → Agree o r s → Follows o r x → Follows o s y → SaySame o s x y }
     ensures uncompared { (o : Option Asked) (r s : Reading) (x y : Answer) → compares o ≡ false → Agree o r s → Follows o r x → Follows o s y → x ≡ y }
+{
+    certificates_are_read_in_one_way();
+    texts_are_read();
+}
+
+/// At most one answer is correct where the files that are named are settled up to the first that is refused; but two
+/// lines may each name another cycle of the machines that are compared.
+pub fn at_most_one_answer_is_correct()
+    ensures compared { (g : Call) (x y : Answer) (p : IsCorrectAnswer g x) (q : IsCorrectAnswer g y) → AreSettled g p.reading q.reading → SaySame g.asked q.reading x y }
+    ensures uncompared { (g : Call) (x y : Answer) → compares g.asked ≡ false → (p : IsCorrectAnswer g x) (q : IsCorrectAnswer g y) → AreSettled g p.reading q.reading → x ≡ y }
+{
+    certificates_are_read_in_one_way();
+    texts_are_read();
+}
+
+/// Machines that are spelled and have the same inputs and outputs are answered, and not refused. Two that are compared
+/// are equivalent, have a counterexample, or are undecided by an obstacle. A certificate of theirs that is spelled is
+/// judged: by its verdict, which is yes, no or undecided.
+pub fn machines_are_answered()
+    ensures check { (g : Call) (x : Answer) (a b : Fsmd) → is_check g.asked ≡ true → SpellPair g a b → IsCorrectAnswer g x → IsOfPair (step_limit g.asked) (is_some (cert_of g.asked)) a b x }
+    ensures verify { (g : Call) (x : Answer) (a b : Fsmd) (nodes : List (Node Fact)) → is_verify g.asked ≡ true → SpellPair g a b → IsKnown g Third (SpellsCertificate a b nodes) → IsCorrectAnswer g x → IsJudged a b nodes x }
+    ensures generate { (g : Call) (x : Answer) (loops : ℕ) → g.asked ≡ Some (Generate loops) → IsCorrectAnswer g x → IsOfLoops loops x }
+{
+    certificates_are_read_in_one_way();
+    texts_are_read();
+}
+
+/// A certificate of a closed search passes: where a file spells its nodes, and two others its machines, the answer is yes.
+pub fn certificates_of_closed_searches_pass()
+    ensures { (g : Call) (x : Answer) (a b : Fsmd) (nodes : List (Node Fact)) → is_verify g.asked ≡ true → SpellPair g a b → IsKnown g Third (SpellsCertificate a b nodes) → IsClosedWith (machines a b) nodes → IsCorrectAnswer g x → x ≡ Text (codes "yes\n") }
 {
     certificates_are_read_in_one_way();
     texts_are_read();

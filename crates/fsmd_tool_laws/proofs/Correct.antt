@@ -1,0 +1,125 @@
+-- At most one answer is correct, and machines are answered.
+use Rattle.std.proofs.Common.{◌≡◌, ℕ, List, Option, Some, None, true, false, refl, sym, ◌∙◌, ap, subst}
+use Rattle.std.specs.Prelude.{is_some, codes}
+use Rattle.command_words.specs.Words.{Asked, Check, Verify, Run, Replay, Fmt, Cuts, Generate}
+use Rattle.fs_base.specs.Outside.{Held, Unknown, Nothing, Bytes}
+use Rattle.fs_model.specs.Machines.{Fsmd}
+use Rattle.bisimulation.specs.Tables.{Node}
+use Rattle.sym_facts.specs.Facts.{Fact}
+use Rattle.search.specs.Answers.{machines, IsClosedWith}
+use Rattle.command_answers.specs.declared.answer.Operand.{Operand}
+use Rattle.command_answers.specs.declared.answer.Operand.TheVariants.{First, Second, Third}
+use Rattle.command_answers.specs.declared.answer.Answer.{Answer}
+use Rattle.command_answers.specs.declared.answer.Answer.TheVariants.{Text}
+use Rattle.command_answers.specs.Words.{cert_of, is_check, is_verify, compares, step_limit}
+use Rattle.command_answers.specs.Texts.{SpellsMachine}
+use Rattle.command_answers.specs.Readings.{Content, Unopened, Readable, Unreadable, Reading, content_of}
+use Rattle.command_answers.specs.Refusals.{SpellsCertificate}
+use Rattle.command_answers.specs.Pairs.{IsOfPair, IsOfLoops}
+use Rattle.command_answers.specs.Verdicts.{IsJudged, answer_to}
+use Rattle.command_answers.specs.Follows.{FollowsFromCertificate, FollowsForPair, PairRefused, Answered, ForCheck, ForVerify, Follows}
+use Rattle.fsmd_tool.specs.Calls.{Call, held, FailedToRead, MayBeRead, MayRead}
+use Rattle.fsmd_tool.specs.Correct.{IsCorrectAnswer}
+use Rattle.fsmd_tool_laws.specs.Agreement.{Agree}
+use Rattle.fsmd_tool_laws.specs.Settled.{Settles, AreSettled, IsKnown, SpellPair}
+use Rattle.fsmd_tool_laws.specs.Cycles.{SaySame}
+use Rattle.fsmd_tool_laws.proofs.Certificates.{ReadInOneWay, judged_opened, spelled_judged}
+use Rattle.fsmd_tool_laws.proofs.Following.{Same, with_pair, same_back, pair_not_refused, follows_from_one, uncompared_one}
+
+-- ---- what is known settles what was read
+
+settled_same : (k : Held) (F : Type 0) (c d : Content) → Settles k F → MayBeRead k F c → MayBeRead k F d → Same c d
+settled_same k F Unopened d s m n o p = absurd o
+settled_same k F c Unopened s m n o p = absurd p
+settled_same Unknown F c d s m n o p = absurd s
+settled_same Nothing F (Readable b) d s m n o p = absurd m
+settled_same Nothing F c (Readable b) s m n o p = absurd n
+settled_same Nothing F Unreadable Unreadable s m n o p = refl
+settled_same (Bytes b) F Unreadable d s m n o p = absurd (s m)
+settled_same (Bytes b) F c Unreadable s m n o p = absurd (s n)
+settled_same (Bytes b) F (Readable x) (Readable y) s m n o p = ap Readable (m ∙ sym n)
+
+may_be_read : (g : Call) (r : Reading) (file : Operand) → MayRead g r → MayBeRead (held g file) (FailedToRead g file) (content_of r file)
+may_be_read g r First m = m.first
+may_be_read g r Second m = m.second
+may_be_read g r Third m = m.third
+
+agree : (g : Call) (x y : Answer) (p : IsCorrectAnswer g x) (q : IsCorrectAnswer g y) → AreSettled g p.reading q.reading → Agree g.asked p.reading q.reading
+agree g x y p q s = record {
+  agree = λ file named o u.
+      settled_same (held g file) (FailedToRead g file) (content_of p.reading file) (content_of q.reading file) (s.settled file named o u)
+      (may_be_read g p.reading file p.may_be_read) (may_be_read g q.reading file q.may_be_read) o u;
+}
+
+pub correct_once : (w : ReadInOneWay) → (g : Call) (x y : Answer) (p : IsCorrectAnswer g x) (q : IsCorrectAnswer g y) → AreSettled g p.reading q.reading → SaySame g.asked q.reading x y
+correct_once w g x y p q s = follows_from_one w g.asked p.reading q.reading x y (agree g x y p q s) p.follows q.follows
+
+pub correct_one : (w : ReadInOneWay) → (g : Call) (x y : Answer) → compares g.asked ≡ false → (p : IsCorrectAnswer g x) (q : IsCorrectAnswer g y) → AreSettled g p.reading q.reading → x ≡ y
+correct_one w g x y e p q s = uncompared_one g.asked q.reading x y e (correct_once w g x y p q s)
+
+-- ---- machines are answered
+
+-- what was read of a file that is known is what is known
+known_same : (k : Held) (F : Type 0) (c : Content) (bytes : List ℕ) → k ≡ Bytes bytes → ¬ F → MayBeRead k F c → Same c (Readable bytes)
+known_same k F c bytes e f m = settled_same (Bytes bytes) F c (Readable bytes) f (subst (λ h. MayBeRead h F c) e m) refl
+
+known_read : (g : Call) (r : Reading) (file : Operand) (P : List ℕ → Type 0) (k : IsKnown g file P) → MayRead g r → Same (content_of r file) (Readable k.bytes)
+known_read g r file P k m = known_same (held g file) (FailedToRead g file) (content_of r file) k.bytes k.known k.was_read (may_be_read g r file m)
+
+-- what P says of the machines that were read, it says of those that the files spell
+pair_answered : (P : (a b : Fsmd) → Content → Answer → Type 0) (g : Call) (a b : Fsmd) (k : SpellPair g a b) (r : Reading) (x : Answer) → MayRead g r → FollowsForPair P r x → P a b r.third x
+pair_answered P g a b k r x m (PairRefused p) =
+    let left = known_read g r First (SpellsMachine a) k.left m in
+    let right = known_read g r Second (SpellsMachine b) k.right m in
+    let s : Reading = record { first = Readable k.left.bytes; second = Readable k.right.bytes; third = r.third } in
+    absurd (pair_not_refused s r a b x (same_back r.first s.first left) (same_back r.second s.second right) (record { left = k.left.meet; right = k.right.meet }) k.alike p)
+pair_answered P g a b k r x m (Answered u v p i o) =
+    let left = known_read g r First (SpellsMachine a) k.left m in
+    let right = known_read g r Second (SpellsMachine b) k.right m in
+    let s : Reading = record { first = Readable k.left.bytes; second = Readable k.right.bytes; third = r.third } in
+    with_pair r s u v a b (λ c d. P c d r.third x) left right p (record { left = k.left.meet; right = k.right.meet }) o
+
+not_true : false ≡ true → ⊥
+not_true e = cc
+
+check_answered : (o : Option Asked) (g : Call) (a b : Fsmd) → SpellPair g a b → (r : Reading) (x : Answer) → MayRead g r → is_check o ≡ true → Follows o r x → IsOfPair (step_limit o) (is_some (cert_of o)) a b x
+check_answered (Some (Check left right cert steps)) g a b k r x m e f = pair_answered (ForCheck steps (is_some cert)) g a b k r x m f
+check_answered None g a b k r x m e f = absurd (not_true e)
+check_answered (Some (Verify left right cert)) g a b k r x m e f = absurd (not_true e)
+check_answered (Some (Run machine inputs steps)) g a b k r x m e f = absurd (not_true e)
+check_answered (Some (Replay left right inputs steps)) g a b k r x m e f = absurd (not_true e)
+check_answered (Some (Fmt machine)) g a b k r x m e f = absurd (not_true e)
+check_answered (Some (Cuts machine)) g a b k r x m e f = absurd (not_true e)
+check_answered (Some (Generate loops)) g a b k r x m e f = absurd (not_true e)
+
+pub machines_checked : (g : Call) (x : Answer) (a b : Fsmd) → is_check g.asked ≡ true → SpellPair g a b → IsCorrectAnswer g x → IsOfPair (step_limit g.asked) (is_some (cert_of g.asked)) a b x
+machines_checked g x a b e k p = check_answered g.asked g a b k p.reading x p.may_be_read e p.follows
+
+nodes_judged : (w : ReadInOneWay) → (g : Call) (a b : Fsmd) (nodes : List (Node Fact)) → IsKnown g Third (SpellsCertificate a b nodes) → (r : Reading) (x : Answer) → MayRead g r → FollowsFromCertificate a b Third r.third x → IsJudged a b nodes x
+nodes_judged w g a b nodes k r x m f =
+    let same : r.third ≡ Readable k.bytes = known_read g r Third (SpellsCertificate a b nodes) k m (judged_opened a b Third r.third x f) tt in
+    spelled_judged w a b Third (Readable k.bytes) nodes x k.meet (subst (λ c. FollowsFromCertificate a b Third c x) same f)
+
+verify_answered : (w : ReadInOneWay) → (o : Option Asked) (g : Call) (a b : Fsmd) (nodes : List (Node Fact)) → SpellPair g a b → IsKnown g Third (SpellsCertificate a b nodes) → (r : Reading) (x : Answer) → MayRead g r
+    → is_verify o ≡ true → Follows o r x → IsJudged a b nodes x
+verify_answered w (Some (Verify left right cert)) g a b nodes k n r x m e f = nodes_judged w g a b nodes n r x m (pair_answered ForVerify g a b k r x m f)
+verify_answered w None g a b nodes k n r x m e f = absurd (not_true e)
+verify_answered w (Some (Check left right cert steps)) g a b nodes k n r x m e f = absurd (not_true e)
+verify_answered w (Some (Run machine inputs steps)) g a b nodes k n r x m e f = absurd (not_true e)
+verify_answered w (Some (Replay left right inputs steps)) g a b nodes k n r x m e f = absurd (not_true e)
+verify_answered w (Some (Fmt machine)) g a b nodes k n r x m e f = absurd (not_true e)
+verify_answered w (Some (Cuts machine)) g a b nodes k n r x m e f = absurd (not_true e)
+verify_answered w (Some (Generate loops)) g a b nodes k n r x m e f = absurd (not_true e)
+
+pub certificate_judged : (w : ReadInOneWay) → (g : Call) (x : Answer) (a b : Fsmd) (nodes : List (Node Fact)) → is_verify g.asked ≡ true → SpellPair g a b → IsKnown g Third (SpellsCertificate a b nodes) → IsCorrectAnswer g x → IsJudged a b nodes x
+certificate_judged w g x a b nodes e k n p = verify_answered w g.asked g a b nodes k n p.reading x p.may_be_read e p.follows
+
+pub loops_answered : (g : Call) (x : Answer) (loops : ℕ) → g.asked ≡ Some (Generate loops) → IsCorrectAnswer g x → IsOfLoops loops x
+loops_answered g x loops e p = subst (λ o. Follows o p.reading x) e p.follows
+
+-- ---- certificates of closed searches
+
+-- nodes that a closed search certifies are judged to pass
+pub closed_pass : (w : ReadInOneWay) → (g : Call) (x : Answer) (a b : Fsmd) (nodes : List (Node Fact)) → is_verify g.asked ≡ true → SpellPair g a b → IsKnown g Third (SpellsCertificate a b nodes) → IsClosedWith (machines a b) nodes → IsCorrectAnswer g x
+    → x ≡ Text (codes "yes\n")
+closed_pass w g x a b nodes e k n closed p = let j = certificate_judged w g x a b nodes e k n p in j.is ∙ ap (answer_to a b) closed.hold

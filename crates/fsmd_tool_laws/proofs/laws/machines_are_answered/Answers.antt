@@ -1,0 +1,14 @@
+use Rattle.fsmd_tool_laws.proofs.Correct.{machines_checked, certificate_judged, loops_answered}
+use Rattle.fsmd_tool_laws.proofs.Certificates.{ReadInOneWay}
+use Rattle.fsmd_tool_laws.proofs.laws.machines_are_answered.Goals as goal
+
+pub returns-clause-check : goal.returns-clause-check
+returns-clause-check c = machines_checked
+
+pub returns-clause-verify : goal.returns-clause-verify
+returns-clause-verify c =
+    let w : ReadInOneWay = record { same = c.certificates_are_read_in_one_way.ensures.same; taken = c.certificates_are_read_in_one_way.ensures.taken; texts = c.texts_are_read.ensures } in
+    certificate_judged w
+
+pub returns-clause-generate : goal.returns-clause-generate
+returns-clause-generate c = loops_answered
