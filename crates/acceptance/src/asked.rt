@@ -55,11 +55,11 @@ pub fn runs(rt: &impl Abort, alloc: Global, machine: &str, rows: &str) -> Result
 }
 
 /// Asserts what `replay` puts of two machines: a row has the inputs and the reply.
-pub fn replays(
+pub fn replays<'a>(
     rt: &impl Abort,
     alloc: Global,
-    left: &str,
-    right: &str,
+    left: &'a str,
+    right: &'a str,
     rows: &str,
 ) -> Result<(), AllocError> {
     let mut form = of_pair("replay a.fsmd b.fsmd i.json", left, right, "{2}");

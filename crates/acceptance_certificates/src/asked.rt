@@ -42,11 +42,11 @@ fn each_case(
 }
 
 /// Asserts what `verify` puts of two machines and certificates: a row has the certificate and the reply.
-pub fn verifies(
+pub fn verifies<'a>(
     rt: &impl Abort,
     alloc: Global,
-    left: &str,
-    right: &str,
+    left: &'a str,
+    right: &'a str,
     rows: &str,
 ) -> Result<(), AllocError> {
     let mut form = of_pair("verify a.fsmd b.fsmd c.json", left, right, r"{2}\n");
@@ -55,12 +55,12 @@ pub fn verifies(
 }
 
 /// Asserts that `verify` finds nothing wrong with a certificate of two machines.
-pub fn holds(
+pub fn holds<'a>(
     rt: &impl Abort,
     alloc: Global,
-    left: &str,
-    right: &str,
-    cert: &str,
+    left: &'a str,
+    right: &'a str,
+    cert: &'a str,
 ) -> Result<(), AllocError> {
     let mut form = of_pair("verify a.fsmd b.fsmd c.json", left, right, r"yes\n");
     form.cert = cert;
@@ -87,12 +87,12 @@ pub fn damaged(
 }
 
 // Asserts what `verify` puts of this certificate with the second cell of the row in its place: the third one.
-fn judged(
+fn judged<'a>(
     rt: &impl Abort,
     alloc: Global,
-    left: &str,
-    right: &str,
-    cert: &str,
+    left: &'a str,
+    right: &'a str,
+    cert: &'a str,
     row: &str,
 ) -> Result<(), AllocError> {
     let mut form = of_pair("verify a.fsmd b.fsmd c.json", left, right, r"{3}\n");
@@ -107,13 +107,13 @@ fn with_hole(alloc: Global, cert: &str, piece: &str) -> Result<String, AllocErro
 }
 
 /// Asserts what `check` puts of two machines, and what it stores under `c.json`, which held another text before.
-pub fn stores(
+pub fn stores<'a>(
     rt: &impl Abort,
     alloc: Global,
-    left: &str,
-    right: &str,
-    reply: &str,
-    stored: &str,
+    left: &'a str,
+    right: &'a str,
+    reply: &'a str,
+    stored: &'a str,
 ) -> Result<(), AllocError> {
     let mut form = of_pair("check a.fsmd b.fsmd --cert c.json", left, right, reply);
     form.cert = "before";
