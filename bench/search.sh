@@ -34,10 +34,9 @@ chain > "$folder/chain.fsmd"
 timed() {
   printf '%-32s ' "$1"
   shift
-  TIMEFORMAT='%R s'
-  { time "$program" "$@" 2>&1 | tail -1 | tr '\n' ' '; } 2>&1 | tr '\n' ' '
-  echo
+  python3 bench/timed.py "$program" "$@"
 }
+timed "100 loops, 102 nodes" generate 100
 timed "200 loops, 202 nodes" generate 200
 timed "rings of 64 and 65 states" check "$folder/ring64.fsmd" "$folder/ring65.fsmd"
 timed "the same with 4,000,000 units" check "$folder/wide64.fsmd" "$folder/wide65.fsmd"

@@ -140,6 +140,8 @@ fn the_kind_that_is_answered(rt: HostRuntime) -> Result<(), AllocError> {
 }
 
 const PLACES: &str = r"¦1:1: Ended
+fsmd 1;\nreset s0;\nstate s0: goto s0: y = ;¦3:24: Unexpected
+fsmd 1;\nreset s0;\nstate s0: goto s0¦3:18: Ended
  ¦1:2: Ended
 \n¦2:1: Ended
 \r\n¦2:1: Ended

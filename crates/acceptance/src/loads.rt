@@ -26,6 +26,7 @@ fn ends(
     text: &str,
     failing: u64,
     calls: u64,
+    meant: Status,
     line: &str,
 ) -> Result<bool, AllocError> {
     let Some(mut files) = files(alloc, failing, calls)? else {
@@ -38,7 +39,7 @@ fn ends(
     let words = words_of(alloc, text)?;
     let status = drive(alloc, words.as_slice(), &mut files, &mut out);
     let last = files.load(alloc, "a.fsmd", 1_000);
-    Ok(status == Status::Fault && out.bytes() == line.as_bytes() && last.is_err())
+    Ok(status == meant && out.bytes() == line.as_bytes() && last.is_err())
 }
 
 // Asserts of a command how it ends where its first call fails, its second, and so on: each line of these is what it puts.
@@ -48,7 +49,7 @@ fn each_call(rt: &impl Abort, alloc: Global, words: &str, lines: &str) -> Result
         let line = format!(in alloc; "{line}\n")?;
         let calls = failing.saturating_add(1);
         assert!(rt;
-            ends(alloc, words, failing, calls, line.as_str())?,
+            ends(alloc, words, failing, calls, Status::Fault, line.as_str())?,
             "{words}: {line}"
         );
         failing = calls;
@@ -77,4 +78,19 @@ fn commands_with_a_file_that_fails(rt: HostRuntime) -> Result<(), AllocError> {
     each_call(&rt, alloc, "replay a.fsmd b.fsmd i.json", PAIR_AND_INPUTS)?;
     each_call(&rt, alloc, "fmt a.fsmd", LEFT)?;
     each_call(&rt, alloc, "cuts a.fsmd", LEFT)
+}
+
+const EQUIVALENT: &str = "equivalent: 2 nodes\n";
+
+const ENDED: &str = "ended: 1 steps\ny = 0\n";
+
+// Two files are loaded by two calls, so the third call, which would fail, is not made.
+#[test]
+fn commands_of_two_files(rt: HostRuntime) -> Result<(), AllocError> {
+    let alloc = rt.alloc();
+    let checked = ends(alloc, "check a.fsmd b.fsmd", 2, 2, Status::Fine, EQUIVALENT)?;
+    assert!(rt; checked);
+    let ran = ends(alloc, "run a.fsmd i.json", 2, 2, Status::Fine, ENDED)?;
+    assert!(rt; ran);
+    Ok(())
 }

@@ -126,6 +126,7 @@ const TEXTS: &str =
 fsmd 02;output y;reset s;state s:goto s;¦fsmd 1;\noutput y;\nreset s;\nstate s:\n  goto s;\n
 fsmd 2;port p;reset s;state s:goto s;¦fsmd 2;\nport p;\nreset s;\nstate s:\n  goto s;\n
 fsmd 2;input a;port p;output y;reset s;state s:when a>0 goto s:emit p a,y=a,emit p(y);goto s;¦fsmd 2;\ninput a;\nport p;\noutput y;\nreset s;\nstate s:\n  when a > 0 goto s: emit p a, y = a, emit p y;\n  goto s;\n
+fsmd 2;input a;port p;reset s;state s:goto s:<<15 times:emit p a,>>emit p a;¦fsmd 2;\ninput a;\nport p;\nreset s;\nstate s:\n  goto s: <<15 times:emit p a, >>emit p a;\n
 ";
 
 // The head is that of format 2 exactly when the machine declares a port or emits.

@@ -120,6 +120,10 @@ fsmd 1;\ninput a;\nreset s;\nstate s:\n when a > 0 goto t;\n when a[0] > 0 goto 
 fsmd 1;\ninput a;\nreset s;\nstate s:\n when a[0] > 0 goto t;\n when c > 0 goto s;\n goto s;¦5: WrongSort
 fsmd 1;\nreset s;\nstate s: goto t;\nstate t:\nstate u: goto v;¦4: NoElse
 fsmd 1;\nreset s;\nstate s: goto u;\nstate t: goto v;\nstate u:¦4: UnknownState
+fsmd 1;\noutput y;\nreset s0;\nstate s0: goto s1;\nstate s1: goto s1;¦5: EndlessLine
+fsmd 1;\noutput y;\nreset s0;\nstate s0: goto s1;\nstate s1: when y > 0 goto s0;¦5: NoElse
+fsmd 1;\noutput y, y;\nreset s0;\nstate s0: goto s1;\nstate s1: when y > 0 goto s0;¦2: TwiceNamed
+fsmd 1;\noutput y;\nreset s0;\nstate s0: goto s9;\nstate s1: goto s1;¦4: UnknownState
 ";
 
 // Of the broken rules that with the least line is answered, also where another rule stands first.

@@ -68,6 +68,7 @@ fn forms_of_a_file(rt: HostRuntime) -> Result<(), AllocError> {
 }
 
 const SHAPES: &str = r#""conds":[],¦¦bad input: c.json: Shape
+"format":1¦"format":3¦bad input: c.json: Shape
 "rank":0,¦¦bad input: c.json: Shape
 "rank":0¦"rank":0,"note":""¦bad input: c.json: Shape
 "conds":[]¦"Conds":[]¦bad input: c.json: Shape

@@ -42,6 +42,10 @@ const SUMS_OF_A_LOOP: &str = r"5¦undecided: output y at s1.1>done | q1.1>done\n
 100000¦counterexample\na = 2\nb = 2\nn = 2\nleft: y = 9\nright: y = 8\n
 ";
 
+const SUM_PAST_A_TEST: &str = r"1¦undecided: output y at s1.1>done | start.1>done\n
+2¦counterexample\na = -1\nb = -1\nc = -1\nleft: y = -3\nright: y = -1\n
+";
+
 const SUMS_WITHIN: &str = r"1¦undecided: output y at start.0>done | start.0>done\n
 2¦counterexample\na = 1\nb = 1\nleft: y = 4\nright: y = 2\n
 ";
@@ -56,6 +60,13 @@ fn differences_within_steps(rt: HostRuntime) -> Result<(), AllocError> {
         CHANGING_SUM_IN_A_LOOP,
         CHANGING_SUM_BEFORE_A_LOOP,
         SUMS_OF_A_LOOP,
+    )?;
+    checks_within(
+        &rt,
+        alloc,
+        SUM_BEFORE_A_TEST,
+        DIFFERENCE_BEHIND_A_TEST,
+        SUM_PAST_A_TEST,
     )?;
     checks_within(&rt, alloc, SQUARE_OF_A_SUM, SUM_OF_SQUARES, SUMS_WITHIN)
 }

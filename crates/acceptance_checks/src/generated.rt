@@ -7,6 +7,7 @@ const GENERATED: &str = r"generate {1}¦¦¦¦generated: {1} loops\nequivalent: 
 
 const LOOPS: &str = "1¦3
 3¦5
+200¦202
 ";
 
 // Two machines of so many loops, whose table has a node for each loop and two more.

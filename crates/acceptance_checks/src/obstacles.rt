@@ -111,8 +111,22 @@ const NODES: &str = "1¦1¦equivalent: 4 nodes
 63¦64¦undecided: more than 4096 nodes
 ";
 
+// The same rings with one more input, each of whose nodes has 125 numbers of the size of a squared sum.
+const HEAVY_RINGS: &str =
+    r"check a.fsmd b.fsmd¦fsmd 1; input a, b; local x<<0 to 125:, t#>>; reset s; state s: goto c0: x = a<<0 to 125:, t# = (a + b) * (a + b)>>;<<0 to {1}: state c#: when x > 0 goto c#+1: x = x; goto s;>> state c{1}: when x > 0 goto c0: x = x; goto s;¦fsmd 1; input a, b; local x<<0 to 125:, t#>>; reset s; state s: goto c0: x = a<<0 to 125:, t# = (a + b) * (a + b)>>;<<0 to {2}: state c#: when x > 0 goto c#+1: x = x; goto s;>> state c{2}: when x > 0 goto c0: x = x; goto s;¦¦{3}\n";
+
+const UNITS: &str = "1¦1¦equivalent: 4 nodes
+63¦64¦undecided: more than 4000000 units
+";
+
 // A table has 4,096 nodes and not more.
 #[test]
 fn nodes_of_a_table(rt: HostRuntime) -> Result<(), AllocError> {
     each_row(&rt, rt.alloc(), RINGS, NODES)
+}
+
+// A table has 4,000,000 units and not more.
+#[test]
+fn units_of_a_table(rt: HostRuntime) -> Result<(), AllocError> {
+    each_row(&rt, rt.alloc(), HEAVY_RINGS, UNITS)
 }

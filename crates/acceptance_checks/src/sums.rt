@@ -169,6 +169,8 @@ t + w¦t + w¦undecided: term too large at start.0>done | start.0>done\n
 w - t¦w - t¦undecided: term too large at start.0>done | start.0>done\n
 t - t¦t - t¦undecided: term too large at start.0>done | start.0>done\n
 a * t¦a * t¦undecided: term too large at start.0>done | start.0>done\n
+t * t, w = 170141183460469231731687303715884105727 + a¦t * t, w = 170141183460469231731687303715884105727 + a¦undecided: term too large at start.0>done | start.0>done\n
+170141183460469231731687303715884105727 + a, w = t * t¦170141183460469231731687303715884105727 + a, w = t * t¦undecided: coefficient past 128 bits at start.0>done | start.0>done\n
 (v0 + v1) * w¦(v0 + v1) * w¦undecided: term too large at start.0>done | start.0>done\n
 (v0 + v1) * u¦(v0 + v1) * u¦equivalent: 2 nodes\n
 t * t - t * t¦1 - 1 + 0 * (170141183460469231731687303715884105727 + a)¦undecided: term too large at start.0>done | start.0>done\n

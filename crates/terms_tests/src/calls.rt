@@ -108,15 +108,21 @@ fn sums_with_other_coefficients(rt: HostRuntime) {
 }
 
 // Whether a vector has the form of a text, of each sort, for a position alone.
-fn is_put(alloc: Global, text: &str) -> Result<bool, Trouble> {
-    let mut vector = Vector::new(alloc);
-    vector.put(M, form(alloc, text)?)?;
+fn holds(alloc: Global, vector: &Vector, text: &str) -> Result<bool, Trouble> {
     let found = match form(alloc, text)? {
         Nf::Num(sum) => vector.number(alloc, &M)? == sum,
         Nf::Arr(array) => vector.array_base(alloc, &Base::Sym(M))? == array,
         Nf::Seq(list) => vector.list_base(alloc, &SeqBase::Sym(M))? == list,
     };
     Ok(found && vector.form(Sort::Scalar, B).is_none() && vector.number(alloc, &B)?.mentions(B))
+}
+
+// Whether a vector that the form of a text is put into has it, and a copy of the vector too.
+fn is_put(alloc: Global, text: &str) -> Result<bool, Trouble> {
+    let mut vector = Vector::new(alloc);
+    vector.put(M, form(alloc, text)?)?;
+    let copy = vector.try_clone(alloc)?;
+    Ok(holds(alloc, &vector, text)? && holds(alloc, &copy, text)?)
 }
 
 #[test]

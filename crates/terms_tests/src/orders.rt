@@ -43,6 +43,7 @@ A B / < a b %
 a a * < a b *
 a b * < b b *
 b b * < a
+a b * < a
 a b * < A
 a < a b +
 a < a 1 +

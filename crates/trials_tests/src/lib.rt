@@ -7,3 +7,5 @@ mod differences;
 mod generated;
 #[cfg(test)]
 mod machines;
+#[cfg(test)]
+mod pairing;

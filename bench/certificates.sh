@@ -1,0 +1,50 @@
+#!/usr/bin/env bash
+# Times certificates near the limit of a file: bench/certificates.sh [FOLDER]. It writes machines and certificates into a folder (some 600
+# MB), and prints seconds and memory.
+set -eu
+cd "$(dirname "$0")/.."
+program=$PWD/crates/fsmd/out/fsmd
+folder=${1:-$(mktemp -d)}
+mkdir -p "$folder"
+[ -x "$program" ] || { echo "build the program first: (cd crates/fsmd && rt run)"; exit 1; }
+
+# A ring of so many states, each with a test, over 125 locals of long names that each hold a squared sum.
+ring() { # states
+  awk -v n="$1" 'BEGIN {
+    a = "input_with_thirty_two_bytes_____"; b = "other_with_thirty_two_bytes_____"
+    printf "fsmd 1; input %s, %s; local x", a, b
+    for (k = 0; k < 125; k++) printf ", local_with_thirty_two_bytes__%03d_", k
+    printf "; reset s0; state s0: goto c0: x = %s", a
+    for (k = 0; k < 125; k++) printf ", local_with_thirty_two_bytes__%03d_ = (%s + %s) * (%s + %s)", k, a, b, a, b
+    print ";"
+    for (k = 0; k < n; k++) printf "state c%d: when x > 0 goto c%d: x = x; goto s0;\n", k, (k + 1) % n
+  }'
+}
+timed() {
+  printf '%-40s ' "$1"
+  shift
+  python3 bench/timed.py "$program" "$@"
+}
+ring 41 > "$folder/left.fsmd"
+ring 43 > "$folder/right.fsmd"
+timed "check" check "$folder/left.fsmd" "$folder/right.fsmd"
+timed "check, with the certificate" check "$folder/left.fsmd" "$folder/right.fsmd" --cert "$folder/certificate.json"
+printf '%-40s %s bytes\n' "the certificate" "$(wc -c < "$folder/certificate.json")"
+timed "verify" verify "$folder/left.fsmd" "$folder/right.fsmd" "$folder/certificate.json"
+
+# Files that are refused, near the limit.
+python3 - "$folder" <<'END'
+import sys
+folder, size = sys.argv[1], 268_435_456
+def put(name, text):
+    open(f"{folder}/{name}.json", "w").write(text)
+put("brackets", "[" * size)
+put("zeros", "[" + "0," * (size // 2 - 2) + "0]")
+term = "(" * (size - 200)
+put("term", '{"format":1,"nodes":[{"conds":[],"equations":{"L.x":"' + term + '"},"left":"start","mode":"both","rank":0,"right":"start"}]}')
+sums = "L.x" + " + L.x" * (size // 6 - 60)
+put("sum", '{"format":1,"nodes":[{"conds":[],"equations":{"L.x":"' + sums + '"},"left":"start","mode":"both","rank":0,"right":"start"}]}')
+END
+for name in brackets zeros term sum; do
+  timed "verify, a file of $name" verify "$folder/left.fsmd" "$folder/right.fsmd" "$folder/$name.json"
+done
