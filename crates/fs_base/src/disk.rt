@@ -10,7 +10,7 @@ use std::alloc::Global;
 use std::fs::File;
 use std::io::{ErrorKind, Read, Write};
 use std::marker::Model;
-use std::{fs, io, rt};
+use std::{io, rt};
 
 // A file is read by parts of at most so many bytes.
 const PART: usize = 8192;
@@ -101,6 +101,19 @@ fn part_of(left: u64) -> usize
     }
 }
 
+// Makes a file of exactly these bytes.
+fn write_file<R: rt::Files>(runtime: &R, name: &str, bytes: &[u8]) -> Result<(), StoreError> {
+    let mut file = match File::create(runtime, name) {
+        Ok(file) => file,
+        Err(error) if error.kind() == ErrorKind::OutOfMemory => return Err(StoreError::NoMemory),
+        Err(_) => return Err(StoreError::Failed),
+    };
+    match file.write_all(bytes) {
+        Ok(()) => Ok(()),
+        Err(_) => Err(StoreError::Failed),
+    }
+}
+
 impl<R: rt::Files> Files for DiskFiles<'_, R> {
     ghost use Rattle.fs_base.specs.Outside.{Unknown};
 
@@ -122,14 +135,14 @@ impl<R: rt::Files> Files for DiskFiles<'_, R> {
         loaded
     }
 
+    /// `NoMemory` only where there is no memory to create the file, which then stands as before. A failure that comes later, for
+    /// want of memory too, is `Failed`: the file may then hold any bytes.
     fn store(&mut self, _alloc: Global, name: &str, bytes: &[u8]) -> Result<(), StoreError> {
-        match fs::write(self.runtime, name, bytes) {
-            Ok(()) => Ok(()),
-            Err(_) => {
-                self.failures = self.failures.saturating_add(1);
-                Err(StoreError::Failed)
-            }
+        let stored = write_file(self.runtime, name, bytes);
+        if matches!(stored, Err(StoreError::Failed)) {
+            self.failures = self.failures.saturating_add(1);
         }
+        stored
     }
 }
 
