@@ -10,3 +10,4 @@ mod Points
 mod FileTexts
 mod Nodes
 mod KnownNodes
+mod Deciding
