@@ -20,7 +20,7 @@ number_utf8 (negative z) h = absurd h
 number_utf8 (float x) h = absurd h
 
 mutual
-  value_utf8 : (d : Data) → IsOrderly d → IsUtf8 (compact_text d)
+  pub value_utf8 : (d : Data) → IsOrderly d → IsUtf8 (compact_text d)
   value_utf8 null h = IsUtf8-are_ascii (compact_text null) refl
   value_utf8 (boolean b) h = IsUtf8-boolean b
   value_utf8 (number n) h = number_utf8 n h

@@ -31,7 +31,6 @@ yes_where_held js = (all_held 1 js, says_yes 1 js)
 module _ (say : ℕ → Verdict) (Decides : Judged → Type 0) (no_yes : (n : ℕ) → Yes ≡ say n → ⊥)
     (here : (k n : ℕ) (j : Judged) (later : Verdict) → verdict_by k j later ≡ say n → ((k ≡ n) × Decides j) ⊎ (Held j × (later ≡ say n)))
     (back : (k : ℕ) (j : Judged) (later : Verdict) → Decides j → verdict_by k j later ≡ say k) where
-
   -- the same with numbers from k on
   abbrev First : ℕ → ℕ → List Judged → Type 0
   First k n js = (earlier : List Judged) × (j : Judged) × (later : List Judged) × (earlier ++ j ∷ later ≡ js) × (length earlier + k ≡ n) × AllByRecursion Held earlier × Decides j

@@ -11,3 +11,4 @@ mod FileTexts
 mod Nodes
 mod KnownNodes
 mod Deciding
+mod WrittenFiles

@@ -1,6 +1,6 @@
 //! Laws of certificates and of their texts. The functions do nothing.
 
-ghost use Rattle.std.specs.Prelude.{◌≡◌, ◌↔◌, ℕ, List};
+ghost use Rattle.std.specs.Prelude.{◌≡◌, ◌≤◌, ◌↔◌, ℕ, List, length};
 ghost use Rattle.std.specs.List.{AllByRecursion};
 ghost use Rattle.fs_model.specs.Machines.{Fsmd};
 ghost use Rattle.fs_ast.specs.Sound.{IsSound};
@@ -11,7 +11,8 @@ ghost use Rattle.certificates.specs.declared.reason.Reason.{Reason};
 ghost use Rattle.certificates.specs.Lawful.{IsLawful};
 ghost use Rattle.certificates.specs.Obligations.{Yes, No, IsWide, IsLarge, obligations, verdict};
 ghost use Rattle.cert_json.specs.Refusals.{IsFileOf};
-ghost use Rattle.cert_writer.specs.Written.{file_written};
+ghost use Rattle.cert_writer.specs.Limits.{most_bytes};
+ghost use Rattle.cert_writer.specs.Written.{file_written, certificate_text};
 ghost use Rattle.cert_text.specs.Refusals.{SpellsNodes};
 ghost use Rattle.normal_certificates.specs.Kept.{AreNormal};
 ghost use Rattle.cert_laws.specs.Deciding.{Held, FailsFor, IsTooWide, IsTooLarge, IsFirst};
@@ -20,6 +21,13 @@ use term_writer::laws::{
     written_literals_are_spelled, written_literals_mean_themselves, written_terms_are_spelled,
     written_terms_mean_themselves,
 };
+
+/// The text of a lawful certificate of two machines whose facts are in normal form is JSON of the file that is written of it, and has at most
+/// 64 bytes, 200 more for each node, 44 for each equation and 47 for each unit.
+pub fn texts_of_certificates_are_files()
+    ensures file { (a b : Fsmd) (ns : List (Node Fact)) → IsSound a → IsSound b → IsLawful a b ns → AreNormal ns → IsFileOf (certificate_text a b ns) (file_written a b (positions a b) ns) }
+    ensures short { (a b : Fsmd) (ns : List (Node Fact)) → IsSound a → IsSound b → IsLawful a b ns → AreNormal ns → length (certificate_text a b ns) ≤ most_bytes ns }
+{}
 
 /// The file that is written of the nodes of a lawful certificate of two machines spells these nodes.
 pub fn written_certificates_are_read()

@@ -44,7 +44,7 @@ module _ {X : Type 0} (p t u : X → Bool) (under : (x : X) → u x ≡ true →
       by_tests false false true h f g less rest = absurd (let e : false ≡ true = h refl in cc e)
       by_tests false false false h f g less rest = rest
 
-filter_short : {X : Type 0} (t : X → Bool) (xs : List X) → length (filter t xs) ≤ length xs
+pub filter_short : {X : Type 0} (t : X → Bool) (xs : List X) → length (filter t xs) ≤ length xs
 filter_short t [] = omega arith
 filter_short t (x ∷ xs) = by_test (t x) (filter_short t xs)
   where
@@ -82,10 +82,10 @@ paired k (v ∷ vs) rs h =
       arith,
       length-append (s ∷ option_to_list (partner_among rs v)) (with_partners ls rs),
       one_fewer (λ t. same_name_and_sort v t.variable) (is_alone ls) (is_alone (s ∷ ls))
-      (λ t. under_or (same_name_and_sort t.variable v) (list_any (λ z. same_name_and_sort t.variable z.variable) ls))
-      (λ t e. ap not (none_named t.variable v.name (k + 1) vs (same_name v t.variable e) apart))
-      (λ t e. ap (λ b. not (b || list_any (λ z. same_name_and_sort t.variable z.variable) ls)) (same_back v t.variable e))
-      rs,
+          (λ t. under_or (same_name_and_sort t.variable v) (list_any (λ z. same_name_and_sort t.variable z.variable) ls))
+          (λ t e. ap not (none_named t.variable v.name (k + 1) vs (same_name v t.variable e) apart))
+          (λ t e. ap (λ b. not (b || list_any (λ z. same_name_and_sort t.variable z.variable) ls)) (same_back v t.variable e))
+          rs,
       paired (k + 1) vs rs (and_right (not named) differ h),
     )
 
