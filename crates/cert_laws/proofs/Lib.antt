@@ -10,3 +10,5 @@ mod Points
 mod FileTexts
 mod Nodes
 mod KnownNodes
+mod Deciding
+mod WrittenFiles

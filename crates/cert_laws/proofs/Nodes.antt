@@ -24,7 +24,7 @@ use Rattle.cert_text.specs.Points.{after, is_at}
 use Rattle.cert_text.specs.Reading.{Context, mode_named, node_fact, node_read, nodes_read}
 use Rattle.cert_text.specs.Refusals.{context_of, SpellsNodes}
 use Rattle.cert_text.specs.Texts.{Texts, AreRead}
-use Rattle.cert_laws.specs.Kept.{AreNormal}
+use Rattle.normal_certificates.specs.Kept.{AreNormal}
 use Rattle.cert_laws.proofs.FactTexts.{fact_again}
 use Rattle.cert_laws.proofs.FileTexts.{nodes_of_file, format_of_file}
 use Rattle.cert_laws.proofs.Places.{find}

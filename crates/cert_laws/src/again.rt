@@ -6,7 +6,6 @@ ghost use Rattle.certificates.specs.Lawful.{IsLawful};
 ghost use Rattle.certificates.specs.View.{node_of};
 ghost use Rattle.cert_text.specs.declared.faults.CertError.TheVariants.{NoMemory as OutOfMemory};
 
-use crate::kept::certificates_are_normal;
 use crate::laws::written_certificates_are_read;
 use cert_text::faults::CertError;
 use cert_text::laws::certificates_are_read_in_one_way;
@@ -15,6 +14,7 @@ use cert_writer::writer::write_cert;
 use certificates::cert::Cert;
 use fs_ast::machine::Machine;
 use fs_pair::positions::Pairing;
+use normal_certificates::kept::certificates_are_normal;
 use std::alloc::Global;
 
 /// What is read of the bytes that a lawful certificate is written as: the same nodes. `NoMemory`, out of memory, is the one refusal.

@@ -1,6 +1,5 @@
-//! Laws of the texts of certificates: what is written is read as the same certificate.
+//! Laws of certificates: what is written is read as the same certificate, and a verdict is that of the first obligation that decides.
 #![tactic(auto)]
 
 pub mod again;
-pub mod kept;
 pub mod laws;

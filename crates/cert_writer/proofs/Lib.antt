@@ -1,8 +1,8 @@
-mod Plain
+pub mod Plain
 mod Kept
 mod Members
 mod Forks
-mod Values
-mod Files
+pub mod Values
+pub mod Files
 mod Short
-mod Lengths
+pub mod Lengths

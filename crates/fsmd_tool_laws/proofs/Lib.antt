@@ -9,3 +9,4 @@ pub mod Runs
 pub mod Replays
 pub mod Following
 pub mod Correct
+pub mod Stored

@@ -9,6 +9,7 @@ ghost use Rattle.fs_rules.specs.declared.check.CheckFault.{CheckFault};
 ghost use Rattle.bisimulation.specs.Tables.{Node};
 ghost use Rattle.sym_facts.specs.Facts.{Fact};
 ghost use Rattle.cert_text.specs.declared.faults.CertError.{CertError};
+ghost use Rattle.cert_writer.specs.Written.{certificate_text};
 ghost use Rattle.search.specs.Answers.{machines, IsClosedWith};
 ghost use Rattle.command_answers.specs.declared.answer.Operand.TheVariants.{Third};
 ghost use Rattle.command_answers.specs.declared.answer.Answer.{Answer};
@@ -28,6 +29,9 @@ ghost use Rattle.fsmd_tool_laws.specs.Settled.{AreSettled, IsKnown, SpellPair};
 ghost use Rattle.fsmd_tool_laws.specs.Cycles.{AreOne, SaySame};
 
 use cert_text::laws::{certificates_are_read_in_one_way, texts_are_read};
+use search_laws::laws::{
+    certificates_of_closed_searches_are_small, written_certificates_of_closed_searches_are_read,
+};
 
 /// Two machines get at most one answer, but for the cycle that its line names.
 pub fn two_machines_get_one_answer()
@@ -103,4 +107,14 @@ pub fn certificates_of_closed_searches_pass()
 {
     certificates_are_read_in_one_way();
     texts_are_read();
+}
+
+/// What is stored of a closed search passes: where a file is the text of its certificate, and two others spell its machines, the answer is yes.
+pub fn stored_certificates_pass()
+    ensures { (g : Call) (x : Answer) (a b : Fsmd) (nodes : List (Node Fact)) → is_verify g.asked ≡ true → SpellPair g a b → IsKnown g Third (λ bytes. bytes ≡ certificate_text a b nodes) → IsClosedWith (machines a b) nodes → IsCorrectAnswer g x → x ≡ Text (codes "yes\n") }
+{
+    certificates_are_read_in_one_way();
+    texts_are_read();
+    certificates_of_closed_searches_are_small();
+    written_certificates_of_closed_searches_are_read();
 }

@@ -1,1 +1,2 @@
+pub mod FewPositions
 pub mod Outcomes

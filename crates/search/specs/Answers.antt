@@ -1,12 +1,14 @@
 -- How a search ends.
 use Rattle.std.specs.Prelude.{◌≡◌, ◌+◌, ◌*◌, ◌≤◌, ℕ, List, length, map, None}
 use Rattle.fs_model.specs.Machines.{Fsmd}
+use Rattle.fs_ast.specs.Sound.{IsSound}
 use Rattle.bisimulation.specs.Tables.{Node as CertificateNode}
 use Rattle.sym_facts.specs.Facts.{Fact, most_literals}
 use Rattle.sym_facts.specs.Starts.{start_fact}
 use Rattle.certificates.specs.Lawful.{IsLawful, most_nodes}
 use Rattle.certificates.specs.Obligations.{Yes, verdict}
 use Rattle.certificates.specs.View.{node_of}
+use Rattle.normal_certificates.specs.Kept.{AreNormal}
 use Rattle.search_ranks.specs.Graphs.{AreRanks}
 use Rattle.search_tables.specs.declared.moves.Move.{Move}
 use Rattle.search_tables.specs.declared.outcome.Outcome.{Outcome}
@@ -22,8 +24,10 @@ use Rattle.search_tables.specs.View.{Points, points_in, points_at}
 abbrev pub machines : (a b : Fsmd) → Machines
 machines a b = record { left = a; right = b }
 
--- a legal list of moves makes a closed table in which no outputs differ, of which this is the certificate: it is lawful, and all its obligations hold
+-- of two sound machines a legal list of moves makes a closed table in which no outputs differ, of which this is the certificate: it is lawful, its facts are in normal form, and all its obligations hold
 pub record IsClosedWith (m : Machines) (nodes : List (CertificateNode Fact)) : Type 0 where
+  pub left_sound : IsSound m.left
+  pub right_sound : IsSound m.right
   pub moves : List Move
   pub table : Table
   pub makes : Makes m moves table
@@ -33,7 +37,16 @@ pub record IsClosedWith (m : Machines) (nodes : List (CertificateNode Fact)) : T
   pub are_ranks : AreRanks (lone_moves m table) ranks
   pub certifies : Certifies m table ranks nodes
   pub lawful : IsLawful m.left m.right nodes
+  pub normal : AreNormal nodes
   pub hold : verdict m.left m.right (start_fact (positions_of m)) nodes ≡ Yes
+
+-- the most positions of two sound machines: 128 variables of each
+abbrev pub most_positions : ℕ
+most_positions = 256
+
+-- the most moves of a legal list, of two sound machines: 4,096 times 321
+abbrev pub most_moves : ℕ
+most_moves = most_nodes * (most_positions + most_literals + 1)
 
 -- this legal list of moves makes a table whose nodes have these points, and in which this obstacle stands
 pub record StopsAt (m : Machines) (moves : List Move) (points : List Points) (o : Obstacle) : Type 0 where
@@ -42,6 +55,7 @@ pub record StopsAt (m : Machines) (moves : List Move) (points : List Points) (o 
   pub points_are : map points_at table ≡ points
   pub stands : StandsIn m table o
   pub short : length moves ≤ most_nodes * (length (positions_of m) + most_literals + 1)
+  pub few : length moves ≤ most_moves
 
 -- the outcome of a search of two machines
 abbrev pub Answers : Machines → Outcome → Type 0

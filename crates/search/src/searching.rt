@@ -17,6 +17,7 @@ use fs_cut::cover::Cover;
 use fs_cut::make_cover::cover;
 use fs_pair::positions::Pairing;
 use nf_terms::stop::NoMemory;
+use normal_certificates::kept::certificates_are_normal;
 use search_closing::closing::{Closing, close};
 use search_tables::moves::Move;
 use search_tables::nodes::{NodePoints, TableNode};
@@ -73,7 +74,10 @@ fn close_table(
     let _left = a.vars();
     let _right = b.vars();
     match close(alloc, a, b, ca, cb, nodes)? {
-        Closing::Certified(cert) => Ok(Outcome::Closed(cert)),
+        Closing::Certified(cert) => {
+            certificates_are_normal(&cert);
+            Ok(Outcome::Closed(cert))
+        }
         Closing::Spins { side, cycle } => Ok(Outcome::Spin {
             moves,
             points,
@@ -98,6 +102,8 @@ fn conclude(
     requires ended { IsEnded (machines a.now b.now) ended }
     ensures { IfOk result (Answers (machines a.now b.now)) }
 {
+    let _left = a.vars();
+    let _right = b.vars();
     let Ended { nodes, moves, end } = ended;
     let points = points_of(alloc, nodes.as_slice())?;
     match end {
@@ -122,10 +128,10 @@ fn conclude(
 /// Searches for a certificate that two machines with the same interface have the same behaviour: makes nodes, beginning with both
 /// starts, and moves from them, up to the first obstacle, or to a table in which no move makes a difference any more.
 ///
-/// `Closed` carries the certificate of that table: it is lawful, and all its obligations hold. `Stuck` comes where both machines are done
+/// `Closed` carries the certificate of that table: it is lawful, its facts are in normal form, and all its obligations hold. `Stuck` comes where both machines are done
 /// and a left output differs, and is looked at first; `Spin` where the table is closed and one machine alone moves in a cycle; `Wide` and
 /// `Large` at the first operation that is not narrow, or narrow and not small; `Exhausted` where a move would make node 4,097 or a table
-/// of more than 4,000,000 units. The one refusal is out of memory.
+/// of more than 4,000,000 units. An obstacle comes after at most 1,314,816 moves. The one refusal is out of memory.
 pub fn search(alloc: Global, a: &Machine, b: &Machine, p: &Pairing) -> Result<Outcome, NoMemory>
     requires paired { p.now ≡ positions a.now b.now }
     requires interface { interface_fault a.now b.now ≡ None }

@@ -16,10 +16,10 @@ returns-in-Certified c =
     let m = machines c.args.a.now c.args.b.now in
     let T = table_in c.args.nodes.items in
     closes m c.args.moves.items T (map node_of c.in-Certified.cert.nodes.items) c.vars-left.ensures.sound c.vars-right.ensures.sound c.requires.interface c.requires.makes c.requires.facts c.requires.closed c.requires.none_differ
-    (subst (Gives m T) c.in-Certified.is c.in_ok-cert.ensures)
+    (subst (Gives m T) c.in-Certified.is c.in_ok-cert.ensures) c.certificates_are_normal-in-Certified.ensures
 
 pub returns-in-Spins : goal.returns-in-Spins
 returns-in-Spins c =
     let m = machines c.args.a.now c.args.b.now in
     let T = table_in c.args.nodes.items in
-    stops m c.args.moves.items T (map points_in c.args.points.items) (Spin c.in-Spins.side c.in-Spins.cycle.items) c.requires.makes c.requires.points (c.requires.none_differ, c.requires.closed, subst (Gives m T) c.in-Spins.is c.in_ok-cert.ensures)
+    stops m c.args.moves.items T (map points_in c.args.points.items) (Spin c.in-Spins.side c.in-Spins.cycle.items) c.vars-left.ensures.sound c.vars-right.ensures.sound c.requires.makes c.requires.points (c.requires.none_differ, c.requires.closed, subst (Gives m T) c.in-Spins.is c.in_ok-cert.ensures)

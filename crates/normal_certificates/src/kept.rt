@@ -6,7 +6,7 @@ ghost use Rattle.nf_terms.specs.Forms.{IsNormalForm};
 ghost use Rattle.sym_facts.specs.View.{position_in};
 ghost use Rattle.certificates.specs.View.{node_of};
 ghost use Rattle.cert_writer.specs.View.{IsNormalEquation, IsKept};
-ghost use Rattle.cert_laws.specs.Kept.{AreNormal};
+ghost use Rattle.normal_certificates.specs.Kept.{AreNormal};
 
 use certificates::cert::{Cert, Node};
 use nf_terms::form::Nf;
@@ -56,8 +56,7 @@ fn node_is_kept(node: &Node)
     equations_are_normal(node.fact.positions());
 }
 
-/// What holds of the nodes of each certificate, so that what is written of a lawful one is read as it. Nothing is changed;
-/// the time is linear in the number of positions of the nodes.
+/// The facts of each certificate are in normal form. Nothing is changed; the time is linear in the number of positions of the nodes.
 pub fn certificates_are_normal(c: &Cert)
     ensures { AreNormal (map node_of c.now.nodes.items) }
 {

@@ -1,0 +1,3 @@
+pub mod Putting
+pub mod Again
+pub mod Utf8

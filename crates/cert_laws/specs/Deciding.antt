@@ -1,0 +1,32 @@
+-- Which obligation of a certificate decides.
+use Rattle.std.specs.Prelude.{◌≡◌, ℕ, ◌+◌, List, ◌∷◌, ◌++◌, length, Some, None}
+use Rattle.std.specs.List.{AllByRecursion}
+use Rattle.nf_terms.specs.Computed.{Done, Wide, Large}
+use Rattle.certificates.specs.declared.reason.Reason.{Reason}
+use Rattle.certificates.specs.Obligations.{Judged}
+
+-- an obligation holds
+abbrev pub Held : Judged → Type 0
+Held j = j ≡ Done None
+
+-- an obligation fails for this reason
+abbrev pub FailsFor : Reason → Judged → Type 0
+FailsFor r j = j ≡ Done (Some r)
+
+-- an operation of an obligation is not narrow
+abbrev pub IsTooWide : Judged → Type 0
+IsTooWide j = (left : ℕ) × (right : ℕ) × (j ≡ Wide left right)
+
+-- an operation of an obligation is narrow and not small
+abbrev pub IsTooLarge : Judged → Type 0
+IsTooLarge j = (units : ℕ) × (depth : ℕ) × (j ≡ Large units depth)
+
+-- obligation number k, counted from 1, decides so, and all earlier ones hold
+pub record IsFirst (js : List Judged) (k : ℕ) (Decides : Judged → Type 0) : Type 0 where
+  pub earlier : List Judged
+  pub decisive : Judged
+  pub later : List Judged
+  pub in_order : earlier ++ decisive ∷ later ≡ js
+  pub number : length earlier + 1 ≡ k
+  pub hold : AllByRecursion Held earlier
+  pub decides : Decides decisive
