@@ -1,4 +1,3 @@
-pub mod Searches
 pub mod Pairs
 pub mod Texts
 pub mod Contents
@@ -9,3 +8,5 @@ pub mod Runs
 pub mod Replays
 pub mod Following
 pub mod Correct
+pub mod Settling
+pub mod Outcomes

@@ -53,15 +53,15 @@ one_table m (x ∷ xs) (y ∷ ys) S T U t u h k =
 
 -- ---- certificates
 
-abbrev Nodes : Type 0
+abbrev pub Nodes : Type 0
 Nodes = List (CertificateNode Fact)
 
-same_certificate : (m : Machines) (cs ds : Nodes) → IsClosedWith m cs → IsClosedWith m ds → cs ≡ ds
+pub same_certificate : (m : Machines) (cs ds : Nodes) → IsClosedWith m cs → IsClosedWith m ds → cs ≡ ds
 same_certificate m cs ds x y =
     let same = (one_table m x.moves y.moves (first_table m) x.table y.table (closed_ends m x.table x.closed) (closed_ends m y.table y.closed) x.makes.lead y.makes.lead).1 in
     one_certificate m x.table x.ranks y.ranks cs ds x.are_ranks (subst (λ T. AreRanks (lone_moves m T) y.ranks) (sym same) y.are_ranks) x.certifies (subst (λ T. Certifies m T y.ranks ds) (sym same) y.certifies)
 
-not_both : (m : Machines) (cs : Nodes) (line : List ℕ) → IsClosedWith m cs → HasObstacle m line → ⊥
+pub not_both : (m : Machines) (cs : Nodes) (line : List ℕ) → IsClosedWith m cs → HasObstacle m line → ⊥
 not_both m cs line x y =
     let same = (one_table m x.moves y.moves (first_table m) x.table y.stops.table (closed_ends m x.table x.closed) (stands_ends m y.stops.table y.obstacle y.stops.stands) x.makes.lead y.stops.makes.lead).1 in
     no_certificate m x.table y.obstacle x.ranks (subst (λ T. StandsIn m T y.obstacle) (sym same) y.stops.stands) x.closed x.none_differ x.are_ranks
@@ -111,7 +111,7 @@ cycle_line m line x c = record {
   told = x.told ∙ ap (obstacle_text m x.moves x.points) c.is;
 }
 
-one_line : (m : Machines) (l k : List ℕ) → HasObstacle m l → HasObstacle m k → (l ≡ k) ⊎ (IsCycleLine m l × IsCycleLine m k)
+pub one_line : (m : Machines) (l k : List ℕ) → HasObstacle m l → HasObstacle m k → (l ≡ k) ⊎ (IsCycleLine m l × IsCycleLine m k)
 one_line m l k x y =
     let same = one_table m x.moves y.moves (first_table m) x.stops.table y.stops.table (stands_ends m x.stops.table x.obstacle x.stops.stands) (stands_ends m y.stops.table y.obstacle y.stops.stands) x.stops.makes.lead y.stops.makes.lead in
     let points : x.points ≡ y.points = sym x.stops.points_are ∙ ap (map points_at) same.1 ∙ y.stops.points_are in
@@ -126,7 +126,7 @@ one_line m l k x y =
 not_apart : (limit : ℕ) (a b : Fsmd) → IsSound a → IsSound b → interface_fault a b ≡ None → (cs : Nodes) (l : List ℕ) → IsClosedWith (machines a b) cs → IsCounterexample limit a b l → ⊥
 not_apart limit a b s t none cs l x y = same_show_nothing limit a b y.number (same_where_yes a b s t none cs x.lawful x.hold) y.shows
 
-not_open : (limit : ℕ) (a b : Fsmd) (l k : List ℕ) → IsCounterexample limit a b l → IsUndecided limit a b k → ⊥
+pub not_open : (limit : ℕ) (a b : Fsmd) (l k : List ℕ) → IsCounterexample limit a b l → IsUndecided limit a b k → ⊥
 not_open limit a b l k x y = y.none_differ.none x.number x.among x.shows
 
 pub one_answer : OneAnswer
