@@ -13,17 +13,22 @@ use Rattle.command_answers.specs.declared.answer.Answer.TheVariants.{Usage, Text
 use Rattle.command_answers.specs.Lines.{HasLines}
 use Rattle.command_answers.specs.Texts.{SpellsMachine, HasCanonicalText}
 use Rattle.command_answers.specs.Paths.{HasPaths}
-use Rattle.command_answers.specs.Readings.{Content, OfBytes, Reading}
+use Rattle.command_answers.specs.Readings.{Content, Unopened, OfBytes, Reading, NoneOpened, OnlyFirst, OnlyTwo}
 use Rattle.command_answers.specs.Refusals.{ArePair, RefusesMachine, RefusesPair, RefusesInputs, SpellsInputs, RefusesCertificate, SpellsCertificate}
 use Rattle.command_answers.specs.Pairs.{IsOfPair, IsOfLoops}
 use Rattle.command_answers.specs.Verdicts.{IsJudged}
 use Rattle.command_answers.specs.Runs.{IsOfRun}
 use Rattle.command_answers.specs.Replays.{IsOfReplay}
 
+-- what follows where words name no file: P says the answer, and none was opened
+pub record FollowsUnread (P : Answer → Type 0) (r : Reading) (answer : Answer) : Type 0 where
+  pub says : P answer
+  pub unopened : NoneOpened r
+
 -- what follows for a question about one machine: its file is refused, or the answer is a text that P says of its bytes
 pub data FollowsForText (P : (text bytes : List ℕ) → Type 0) (r : Reading) (answer : Answer) : Type 0 where
-  TextRefused : RefusesMachine First r.first answer → FollowsForText P r answer
-  Listed : HasLines (λ text. OfBytes r.first (P text)) Text answer → FollowsForText P r answer
+  TextRefused : RefusesMachine First r.first answer → OnlyFirst r → FollowsForText P r answer
+  Listed : HasLines (λ text. OfBytes r.first (P text)) Text answer → OnlyFirst r → FollowsForText P r answer
 
 -- what follows for a file of a machine's inputs: it is refused, or spells inputs of which P says the answer
 pub data FollowsFromInputs (P : Inputs → Answer → Type 0) (m : Fsmd) (file : Operand) (content : Content) (answer : Answer) : Type 0 where
@@ -35,10 +40,11 @@ pub data FollowsFromCertificate (a b : Fsmd) (file : Operand) (content : Content
   CertificateRefused : RefusesCertificate a b file content answer → FollowsFromCertificate a b file content answer
   Judged : (nodes : List (Node Fact)) → OfBytes content (SpellsCertificate a b nodes) → IsJudged a b nodes answer → FollowsFromCertificate a b file content answer
 
--- what follows for a run of at most so many steps: the file of the machine is refused, or the machine runs from its inputs
+-- what follows for a run of at most so many steps: the file of the machine is refused, and that of its inputs not opened; or the machine runs
+-- from its inputs
 pub data FollowsForRun (limit : ℕ) (r : Reading) (answer : Answer) : Type 0 where
-  MachineRefused : RefusesMachine First r.first answer → FollowsForRun limit r answer
-  Ran : (m : Fsmd) → OfBytes r.first (SpellsMachine m) → FollowsFromInputs (IsOfRun limit m) m Second r.second answer → FollowsForRun limit r answer
+  MachineRefused : RefusesMachine First r.first answer → OnlyFirst r → FollowsForRun limit r answer
+  Ran : (m : Fsmd) → OfBytes r.first (SpellsMachine m) → FollowsFromInputs (IsOfRun limit m) m Second r.second answer → OnlyTwo r → FollowsForRun limit r answer
 
 -- what follows for a question about two machines: their files are refused, or they have the same inputs and outputs, and P says the answer to
 -- them and to what was read of the third file
@@ -46,10 +52,12 @@ pub data FollowsForPair (P : (a b : Fsmd) → Content → Answer → Type 0) (r 
   PairRefused : RefusesPair r answer → FollowsForPair P r answer
   Answered : (a b : Fsmd) → ArePair r a b → interface_fault a b ≡ None → P a b r.third answer → FollowsForPair P r answer
 
--- what is said of the machines of a check, a checked certificate and a replay
-abbrev pub ForCheck : (limit : ℕ) → (keeps : Bool) → (a b : Fsmd) → Content → Answer → Type 0
-ForCheck limit keeps a b content answer = IsOfPair limit keeps a b answer
+-- what is said of the machines of a check, which names no third file
+pub record ForCheck (limit : ℕ) (keeps : Bool) (a b : Fsmd) (content : Content) (answer : Answer) : Type 0 where
+  pub says : IsOfPair limit keeps a b answer
+  pub unopened : content ≡ Unopened
 
+-- what is said of the machines of a checked certificate, and of a replay
 abbrev pub ForVerify : (a b : Fsmd) → Content → Answer → Type 0
 ForVerify a b content answer = FollowsFromCertificate a b Third content answer
 
@@ -58,11 +66,11 @@ ForReplay limit a b content answer = FollowsFromInputs (IsOfReplay limit a b) a 
 
 -- what follows for what is asked, or for words that ask nothing, from what was read
 abbrev pub Follows : Option Asked → Reading → Answer → Type 0
-Follows None r answer = answer ≡ Usage
+Follows None r answer = FollowsUnread (λ x. x ≡ Usage) r answer
 Follows (Some (Check left right cert steps)) r answer = FollowsForPair (ForCheck steps (is_some cert)) r answer
 Follows (Some (Verify left right cert)) r answer = FollowsForPair ForVerify r answer
 Follows (Some (Run machine inputs steps)) r answer = FollowsForRun steps r answer
 Follows (Some (Replay left right inputs steps)) r answer = FollowsForPair (ForReplay steps) r answer
 Follows (Some (Fmt machine)) r answer = FollowsForText HasCanonicalText r answer
 Follows (Some (Cuts machine)) r answer = FollowsForText HasPaths r answer
-Follows (Some (Generate loops)) r answer = IsOfLoops loops answer
+Follows (Some (Generate loops)) r answer = FollowsUnread (IsOfLoops loops) r answer

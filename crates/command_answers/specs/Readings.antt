@@ -1,5 +1,5 @@
 -- What was read of the files of a call.
-use Rattle.std.specs.Prelude.{ℕ, List}
+use Rattle.std.specs.Prelude.{◌≡◌, ℕ, List}
 use Rattle.command_answers.specs.declared.answer.Operand.{Operand}
 use Rattle.command_answers.specs.Words.{chosen}
 
@@ -23,3 +23,18 @@ pub record Reading : Type 0 where
 
 abbrev pub content_of : Reading → Operand → Content
 content_of r file = chosen r.first r.second r.third file
+
+-- no file was opened
+pub record NoneOpened (r : Reading) : Type 0 where
+  pub first : r.first ≡ Unopened
+  pub second : r.second ≡ Unopened
+  pub third : r.third ≡ Unopened
+
+-- no file behind the first was opened
+pub record OnlyFirst (r : Reading) : Type 0 where
+  pub second : r.second ≡ Unopened
+  pub third : r.third ≡ Unopened
+
+-- no file behind the second was opened
+pub record OnlyTwo (r : Reading) : Type 0 where
+  pub third : r.third ≡ Unopened

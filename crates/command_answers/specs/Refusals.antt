@@ -22,7 +22,7 @@ use Rattle.command_answers.specs.declared.answer.Answer.{Answer}
 use Rattle.command_answers.specs.declared.answer.Answer.TheVariants.{CannotRead, TooLong, TextRefused, CheckRefused, NotJson, InputRefused, CertRefused, Interfaces}
 use Rattle.command_answers.specs.Lines.{HasLines}
 use Rattle.command_answers.specs.Texts.{most_certificate_bytes, IsTooLong, SpellsMachine, IsMachine, HasTextFault, HasCheckFault}
-use Rattle.command_answers.specs.Readings.{Content, Unreadable, OfBytes, Reading}
+use Rattle.command_answers.specs.Readings.{Content, Unreadable, OfBytes, Reading, OnlyFirst, OnlyTwo}
 
 -- the bytes of a file were not read: it failed to be read, or has more bytes than a limit
 pub data IsUnread (limit : ℕ) (file : Operand) (content : Content) (answer : Answer) : Type 0 where
@@ -42,11 +42,12 @@ pub record ArePair (r : Reading) (a b : Fsmd) : Type 0 where
   pub left : OfBytes r.first (SpellsMachine a)
   pub right : OfBytes r.second (SpellsMachine b)
 
--- why two files of machines are refused: the first, then the second, and then the first name of which they have other inputs or outputs
+-- why two files of machines are refused: the first, then the second, and then the first name of which they have other inputs or outputs; no file
+-- behind what is refused was opened
 pub data RefusesPair (r : Reading) (answer : Answer) : Type 0 where
-  FirstRefused : RefusesMachine First r.first answer → RefusesPair r answer
-  SecondRefused : OfBytes r.first IsMachine → RefusesMachine Second r.second answer → RefusesPair r answer
-  InterfacesDiffer : (a b : Fsmd) → ArePair r a b → HasLines (λ name. interface_fault a b ≡ Some name) Interfaces answer → RefusesPair r answer
+  FirstRefused : RefusesMachine First r.first answer → OnlyFirst r → RefusesPair r answer
+  SecondRefused : OfBytes r.first IsMachine → RefusesMachine Second r.second answer → OnlyTwo r → RefusesPair r answer
+  InterfacesDiffer : (a b : Fsmd) → ArePair r a b → HasLines (λ name. interface_fault a b ≡ Some name) Interfaces answer → OnlyTwo r → RefusesPair r answer
 
 -- ---- inputs
 

@@ -52,17 +52,17 @@ of_pair P o r x n m third (PairRefused p) s = either o r n m (pair_fault r x p s
 of_pair P o r x n m third (Paired a b p alike h) s = third a b h s
 
 of_text : (P : (text bytes : List ℕ) → Type 0) (o : Option Asked) (r : Reading) (x : Answer) → IsTrue (names o First) → FollowsForText P r x → Ends statuses.Fault x → Unread o r
-of_text P o r x n (TextRefused p) s = record { file = First; named = n; unreadable = machine_fault First r.first x p s }
-of_text P o r x n (Listed l) s = absurd (let h : statuses.Fine ≡ statuses.Fault = moved statuses.Fault statuses.Fine x _ l.is refl s in cc)
+of_text P o r x n (TextRefused p u) s = record { file = First; named = n; unreadable = machine_fault First r.first x p s }
+of_text P o r x n (Listed l u) s = absurd (let h : statuses.Fine ≡ statuses.Fault = moved statuses.Fault statuses.Fine x _ l.is refl s in cc)
 
 of_run : (limit : ℕ) (o : Option Asked) (r : Reading) (x : Answer) → IsTrue (names o First) → IsTrue (names o Second) → FollowsForRun limit r x → Ends statuses.Fault x → Unread o r
-of_run limit o r x n m (MachineRefused p) s = record { file = First; named = n; unreadable = machine_fault First r.first x p s }
-of_run limit o r x n m (Ran k h p) s = record { file = Second; named = m; unreadable = from_inputs (IsOfRun limit k) (run_fault limit k) k Second r.second x p s }
+of_run limit o r x n m (MachineRefused p u) s = record { file = First; named = n; unreadable = machine_fault First r.first x p s }
+of_run limit o r x n m (Ran k h p u) s = record { file = Second; named = m; unreadable = from_inputs (IsOfRun limit k) (run_fault limit k) k Second r.second x p s }
 
 unread : (o : Option Asked) (r : Reading) (x : Answer) → Follows o r x → Ends statuses.Fault x → Unread o r
-unread None r x e s = absurd (let h : statuses.Usage ≡ statuses.Fault = moved statuses.Fault statuses.Usage x Usage e refl s in cc)
+unread None r x f s = absurd (let h : statuses.Usage ≡ statuses.Fault = moved statuses.Fault statuses.Usage x Usage f.says refl s in cc)
 unread (Some (Check left right cert steps)) r x f s =
-    of_pair (ForCheck steps (is_some cert)) (Some (Check left right cert steps)) r x refl refl (λ a b h t. absurd (of_pair_fault steps (is_some cert) a b x h t)) f s
+    of_pair (ForCheck steps (is_some cert)) (Some (Check left right cert steps)) r x refl refl (λ a b h t. absurd (of_pair_fault steps (is_some cert) a b x h.says t)) f s
 unread (Some (Verify left right cert)) r x f s =
     of_pair ForVerify (Some (Verify left right cert)) r x refl refl (λ a b h t. record { file = Third; named = refl; unreadable = from_certificate a b r.third x h t }) f s
 unread (Some (Run machine inputs steps)) r x f s = of_run steps (Some (Run machine inputs steps)) r x refl refl f s
@@ -71,7 +71,7 @@ unread (Some (Replay left right inputs steps)) r x f s =
     (λ a b h t. record { file = Third; named = refl; unreadable = from_inputs (IsOfReplay steps a b) (replay_fault steps a b) a Third r.third x h t }) f s
 unread (Some (Fmt machine)) r x f s = of_text HasCanonicalText (Some (Fmt machine)) r x refl f s
 unread (Some (Cuts machine)) r x f s = of_text HasPaths (Some (Cuts machine)) r x refl f s
-unread (Some (Generate n)) r x f s = absurd (of_pair_fault generated_steps _ (left_of n) (right_of n) x f s)
+unread (Some (Generate n)) r x f s = absurd (of_pair_fault generated_steps _ (left_of n) (right_of n) x f.says s)
 
 failed : (k : Held) (F : Type 0) (c : Content) → MayBeRead k F c → c ≡ Unreadable → F
 failed k F c m e = subst (λ d. MayBeRead k F d) e m
@@ -88,7 +88,7 @@ put_cause : (g : Call) (s : Stores) (p : Put) (x : Answer) (reply : List ℕ) �
 put_cause g s p x reply c e (Whole w) = file_cause g s p x c (sym w.status ∙ e)
 put_cause g s p x reply c e (Cut w) = SinkFailed w.failed
 
-entry_named : (cert text : Option (List ℕ)) (x : Entry) → entry_of cert text ≡ Some x → cert ≡ Some x.name
+pub entry_named : (cert text : Option (List ℕ)) (x : Entry) → entry_of cert text ≡ Some x → cert ≡ Some x.name
 entry_named None text x e = absurd (cc)
 entry_named (Some name) None x e = absurd (cc)
 entry_named (Some name) (Some bytes) x e = let same : record { name = name; bytes = bytes } ≡ x = cc in ap (λ (z : Entry). Some z.name) same

@@ -60,7 +60,7 @@ of_files g o r x may is check b = record {
     compared = OfFiles (subst (λ k. IsTrue (is_check k)) (sym is) check) (may_hold (held g First) (FailedToRead g First) r.first (SpellsMachine b.left) may.first b.pair.left) (may_hold (held g Second) (FailedToRead g Second) r.second (SpellsMachine b.right) may.second b.pair.right);
     alike = b.alike;
   };
-  answer = subst (λ k. IsOfPair (step_limit k) (is_some (cert_of k)) b.left b.right x) (sym is) b.says;
+  answer = subst (λ k. IsOfPair (step_limit k) (is_some (cert_of k)) b.left b.right x) (sym is) b.says.says;
 }
 
 of_loops : (g : Call) (n : ℕ) (x : Answer) → g.asked ≡ Some (Generate n) → IsOfPair (step_limit (Some (Generate n))) false (left_of n) (right_of n) x → Compared g x
@@ -79,7 +79,7 @@ by_asked (Some (Run machine inputs steps)) g r s x may is c away e f = absurd (f
 by_asked (Some (Replay left right inputs steps)) g r s x may is c away e f = absurd (false≢true c)
 by_asked (Some (Fmt machine)) g r s x may is c away e f = absurd (false≢true c)
 by_asked (Some (Cuts machine)) g r s x may is c away e f = absurd (false≢true c)
-by_asked (Some (Generate n)) g r s x may is c away e f = of_loops g n x is f
+by_asked (Some (Generate n)) g r s x may is c away e f = of_loops g n x is f.says
 
 pub compared : (g : Call) (s : Status) (x : Answer) → IsCorrectAnswer g x → IsTrue (compares g.asked) → is_refusal s ≡ false → Ends s x → Compared g x
 compared g s x c t away e = by_asked g.asked g c.reading s x c.may_be_read refl t away e c.follows

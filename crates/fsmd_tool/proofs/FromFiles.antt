@@ -21,13 +21,13 @@ use Rattle.command_answers.specs.Words.{word_of}
 use Rattle.command_answers.specs.Lines.{HasLines}
 use Rattle.command_answers.specs.Texts.{SpellsMachine, HasCanonicalText}
 use Rattle.command_answers.specs.Paths.{HasPaths}
-use Rattle.command_answers.specs.Readings.{Content, Unopened, Readable, Unreadable, Reading}
+use Rattle.command_answers.specs.Readings.{Content, Unopened, Readable, Unreadable, Reading, NoneOpened, OnlyFirst, OnlyTwo}
 use Rattle.command_answers.specs.Refusals.{IsUnread, Long, RefusesMachine, RefusesPair, SecondRefused, InterfacesDiffer, RefusesInputs, SpellsInputs, RefusesCertificate, SpellsCertificate}
 use Rattle.command_answers.specs.Refusing.{WhereAnswered, IsLoaded}
 use Rattle.command_answers.specs.Pairs.{IsOfLoops}
 use Rattle.command_answers.specs.Verdicts.{IsJudged}
 use Rattle.command_answers.specs.Runs.{IsOfRun}
-use Rattle.command_answers.specs.Follows.{FollowsForText, Listed, FollowsFromInputs, InputsRefused, Spelled, FollowsFromCertificate, CertificateRefused, Judged, FollowsForRun, Ran, FollowsForPair, PairRefused, Answered}
+use Rattle.command_answers.specs.Follows.{FollowsUnread, FollowsForText, Listed, FollowsFromInputs, InputsRefused, Spelled, FollowsFromCertificate, CertificateRefused, Judged, FollowsForRun, Ran, FollowsForPair, PairRefused, Answered}
 use Rattle.command_answers.proofs.Maps.{answer_map, ok_map, err_map}
 use Rattle.fsmd_tool.specs.Calls.{Call, held, FailedToRead, MayBeRead, MayHold, IsCorrectBy}
 use Rattle.fsmd_tool.specs.Loading.{MayGive, Gives}
@@ -85,32 +85,39 @@ later g file h before P e le m =
 
 -- ---- no file
 
-pub unread_answer : (P : Answer → Type 0) (g : Call) (x : Answer) → P x → IsCorrectBy (λ r. P) g x
-unread_answer P g x p = record { reading = record { first = Unopened; second = Unopened; third = Unopened }; may_be_read = record { first = tt; second = tt; third = tt }; follows = p }
+pub unread_answer : (P : Answer → Type 0) (g : Call) (x : Answer) → P x → IsCorrectBy (FollowsUnread P) g x
+unread_answer P g x p = record {
+  reading = record { first = Unopened; second = Unopened; third = Unopened };
+  may_be_read = record { first = tt; second = tt; third = tt };
+  follows = record { says = p; unopened = record { first = refl; second = refl; third = refl } };
+}
 
 -- ---- one file
 
 abbrev only : Content → Reading
 only c = record { first = c; second = Unopened; third = Unopened }
 
-pub machine_refused : (P : Reading → Answer → Type 0) (g : Call) (e : Refusal) → ((r : Reading) (x : Answer) → RefusesMachine First r.first x → P r x)
+only_first : (c : Content) → OnlyFirst (only c)
+only_first c = record { second = refl; third = refl }
+
+pub machine_refused : (P : Reading → Answer → Type 0) (g : Call) (e : Refusal) → ((r : Reading) (x : Answer) → RefusesMachine First r.first x → OnlyFirst r → P r x)
     → WhereAnswered (Gives g First (RefusesMachine First)) e → WhereAnswered (IsCorrectBy P g) e
 machine_refused P g e f h =
     answer_map (Gives g First (RefusesMachine First)) (IsCorrectBy P g)
-    (λ x m. record { reading = only m.content; may_be_read = record { first = m.may; second = tt; third = tt }; follows = f (only m.content) x m.meets }) e h
+    (λ x m. record { reading = only m.content; may_be_read = record { first = m.may; second = tt; third = tt }; follows = f (only m.content) x m.meets (only_first m.content) }) e h
 
 pub canonical_listed : (g : Call) (parts : Source) (m : Fsmd) (text lines : List ℕ) → MayHold (held g First) (IsLoaded parts m) → text ≡ canonical parts → lines ≡ text → IsCorrectBy (FollowsForText HasCanonicalText) g (Text lines)
 canonical_listed g parts m text lines h e is = record {
   reading = only (Readable h.bytes);
   may_be_read = record { first = h.may; second = tt; third = tt };
-  follows = Listed (record { lines = lines; holds = record { parts = parts; spells = h.meet.spells; is_canonical = is ∙ e }; is = refl });
+  follows = Listed (record { lines = lines; holds = record { parts = parts; spells = h.meet.spells; is_canonical = is ∙ e }; is = refl }) (only_first (Readable h.bytes));
 }
 
 pub paths_listed : (g : Call) (m : Fsmd) (text lines : List ℕ) → MayHold (held g First) (SpellsMachine m) → text ≡ paths_text m → lines ≡ text → IsCorrectBy (FollowsForText HasPaths) g (Text lines)
 paths_listed g m text lines h e is = record {
   reading = only (Readable h.bytes);
   may_be_read = record { first = h.may; second = tt; third = tt };
-  follows = Listed (record { lines = lines; holds = record { machine = m; spells = h.meet; lists = is ∙ e }; is = refl });
+  follows = Listed (record { lines = lines; holds = record { machine = m; spells = h.meet; lists = is ∙ e }; is = refl }) (only_first (Readable h.bytes));
 }
 
 -- ---- two files of machines
@@ -124,7 +131,7 @@ second_refused g h before a e same le left r =
     record {
       reading = record { first = Readable left.bytes; second = k.content; third = Unopened };
       may_be_read = record { first = left.may; second = k.may; third = tt };
-      follows = SecondRefused (a, left.meet) k.meets;
+      follows = SecondRefused (a, left.meet) k.meets (record { third = refl });
     }) e r
 
 abbrev both : List ℕ → List ℕ → Reading
@@ -137,7 +144,7 @@ interfaces_refused g a b e l r h =
     (λ x n. record {
       reading = both l.bytes r.bytes;
       may_be_read = record { first = l.may; second = r.may; third = tt };
-      follows = InterfacesDiffer a b (record { left = l.meet; right = r.meet }) n;
+      follows = InterfacesDiffer a b (record { left = l.meet; right = r.meet }) n (record { third = refl });
     }) e h
 
 pub pair_refused : (P : (a b : Fsmd) → Content → Answer → Type 0) (g : Call) (e : Refusal) → WhereAnswered (IsCorrectBy RefusesPair g) e → WhereAnswered (IsCorrectBy (FollowsForPair P) g) e
@@ -176,7 +183,7 @@ ran limit g h before m same le first x v =
     record {
       reading = record { first = Readable first.bytes; second = k.content; third = Unopened };
       may_be_read = record { first = first.may; second = k.may; third = tt };
-      follows = Ran m first.meet k.meets;
+      follows = Ran m first.meet k.meets (record { third = refl });
     }
 
 -- what P says of both machines and of what was read of a third file

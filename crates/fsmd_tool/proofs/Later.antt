@@ -10,7 +10,7 @@ use Rattle.command_answers.specs.Words.{word_of}
 use Rattle.command_answers.specs.Readings.{Content, Unopened, Readable, Unreadable}
 use Rattle.fsmd_tool.specs.Calls.{Call, call, held, FailedToRead, MayBeRead}
 use Rattle.fsmd_tool.specs.Puts.{Put}
-use Rattle.fsmd_tool.specs.Stores.{stores, IsKept, IsStored, IsUnstored, Entry, Leaves, LeftAlone, LeftStored, LeftUnstored}
+use Rattle.fsmd_tool.specs.Stores.{stores, IsKept, IsStored, IsUnstored, Entry, Leaves, LeftAlone, LeftStored, LeftUnstored, NotStored, Untouched, Failed}
 use Rattle.fsmd_tool.specs.Correct.{IsCorrectAnswer, IsDone, Kept, Stored, Unstored}
 
 or_more : (c n : ℕ) → c ≤ n → (c < n) ⊎ (n ≡ c)
@@ -64,6 +64,10 @@ pub done_since : (e : Option Entry) (reply : List ℕ) (meant : Status) (old mid
 done_since e reply meant old mid now f g h p same le (Kept none k put) = Kept none (kept_since old mid now f g h same k) put
 done_since e reply meant old mid now f g h p same le (Stored x is s put) = Stored x is (stored_since x.name x.bytes old mid now f g h same s) put
 done_since e reply meant old mid now f g h p same le (Unstored x is u put) = Unstored x is (unstored_since x.name old mid now f g h same le u) put
+
+pub not_stored_since : (e : Option Entry) (old mid now : List ℕ → Held) (f g h : List ℕ → ℕ) → SameHeld old mid → NoneFell f g → NotStored e (stores mid now g h) → NotStored e (stores old now f h)
+not_stored_since e old mid now f g h same le (Untouched k) = Untouched (kept_since old mid now f g h same k)
+not_stored_since e old mid now f g h same le (Failed x is u) = Failed x is (unstored_since x.name old mid now f g h same le u)
 
 pub leaves_since : (e : Option Entry) (old mid now : List ℕ → Held) (f g h : List ℕ → ℕ) → SameHeld old mid → NoneFell f g → Leaves e (stores mid now g h) → Leaves e (stores old now f h)
 leaves_since e old mid now f g h same le (LeftAlone k) = LeftAlone (kept_since old mid now f g h same k)

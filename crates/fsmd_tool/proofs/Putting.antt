@@ -1,7 +1,7 @@
 -- What is answered, and what is put of it.
 use Rattle.std.proofs.Common.{◌≡◌, ◌∙◌, ℕ, Bool, List, Option, Some, None, refl, sym, subst}
 use Rattle.std.specs.Prelude.{Result, Ok, Err, IfOk, is_some, option_map}
-use Rattle.std.specs.Result.{IfErr}
+use Rattle.std.specs.Result.{IfErr, OnErr}
 use Rattle.command_words.specs.Words.{Asked, Check, Generate}
 use Rattle.fs_base.specs.Outside.{Held, SameHeld, NoneFell}
 use Rattle.command_answers.specs.declared.answer.Status.{Status}
@@ -9,7 +9,7 @@ use Rattle.command_answers.specs.declared.answer.Status.TheVariants.{Fault}
 use Rattle.command_answers.specs.declared.answer.Answer.{Answer}
 use Rattle.command_answers.specs.declared.answer.Answer.TheVariants.{Usage}
 use Rattle.command_answers.specs.declared.refused.Refused.{Refused as Refusal}
-use Rattle.command_answers.specs.Statuses.{status_of}
+use Rattle.command_answers.specs.Statuses.{status_of, certificate_in}
 use Rattle.command_answers.specs.Words.{cert_of}
 use Rattle.command_answers.specs.Readings.{Unopened}
 use Rattle.command_answers.specs.Refusing.{WhereAnswered}
@@ -19,11 +19,12 @@ use Rattle.command_answers.specs.Follows.{FollowsForPair, ForCheck, Follows}
 use Rattle.command_answers.proofs.Maps.{answer_map, ok_map, err_map}
 use Rattle.fsmd_tool.specs.Calls.{Call, call, IsCorrectBy}
 use Rattle.fsmd_tool.specs.Puts.{Put, IsPut}
-use Rattle.fsmd_tool.specs.Stores.{Stores, stores, IsKept, IsUnstored, Entry, to_store, Leaves}
+use Rattle.fsmd_tool.specs.Stores.{Stores, stores, IsKept, IsUnstored, Entry, to_store, Leaves, NotStored, Untouched, Failed, IsUnwritten, NoneWritten, WriteFailed}
 use Rattle.fsmd_tool.specs.Correct.{IsCorrectAnswer, IsDone, Kept, Unstored, Answered}
 use Rattle.fsmd_tool.specs.Clauses.{KeepsFiles}
 use Rattle.fsmd_tool.proofs.FromFiles.{unread_answer}
-use Rattle.fsmd_tool.proofs.Later.{correct_later, done_since, leaves_since}
+use Rattle.fsmd_tool.proofs.Later.{correct_later, done_since, leaves_since, not_stored_since}
+use Rattle.fsmd_tool.proofs.Causes.{entry_named}
 use Rattle.fsmd_tool.proofs.Says.{keeps_files}
 
 -- words that ask nothing are answered how the program is used
@@ -31,7 +32,7 @@ usage : (g : Call) → g.asked ≡ None → IsCorrectAnswer g Usage
 usage g e = record {
   reading = record { first = Unopened; second = Unopened; third = Unopened };
   may_be_read = record { first = tt; second = tt; third = tt };
-  follows = subst (λ o. Follows o (record { first = Unopened; second = Unopened; third = Unopened }) Usage) (sym e) refl;
+  follows = subst (λ o. Follows o (record { first = Unopened; second = Unopened; third = Unopened }) Usage) (sym e) (record { says = refl; unopened = record { first = refl; second = refl; third = refl } });
 }
 
 pub answers_usage : {E : Type 0} (g : Call) (s : Stores) (r : Result Status E) (p : Status → Put) → g.asked ≡ None → IsKept s → IfOk r (λ t. IsPut (reply Usage None) (status_of Usage) (p t)) → IfOk r (λ t. Answered g s (p t))
@@ -41,6 +42,10 @@ answers_usage g s (Ok t) p e k put = record {
   done = subst (λ o. IsDone (to_store o Usage) (reply Usage o) (status_of Usage) s (p t)) (sym e) (Kept refl k put);
 }
 answers_usage g s (Err x) p e k put = tt
+
+pub on_err : {T E : Type 0} (r : Result T E) (P : Type 0) → P → OnErr r P
+on_err (Ok t) P h = tt
+on_err (Err e) P h = h
 
 -- what was put in the place of the reply, where what is to be stored was not
 pub unstored : {E : Type 0} (x : Entry) (reply : List ℕ) (meant : Status) (s : Stores) (r : Result Status E) (p : Status → Put) → IsUnstored x.name s → IfOk r (λ t. IsPut (unstored_reply x.name) Fault (p t)) → IfOk r (λ t. IsDone (Some x) reply meant s (p t))
@@ -61,6 +66,19 @@ pub keeps : (o : Option Asked) (old mid now : List ℕ → Held) (a b c f g h : 
     → IsCorrectAnswer (call o old a b) answer → Leaves (to_store o answer) (stores mid now g h) → KeepsFiles (call o old a c) (stores old now f h)
 keeps o old mid now a b c f g h answer ab bc same fg correct leaves =
     keeps_files (call o old a c) (stores old now f h) answer (correct_later o old a b c answer ab bc correct) (leaves_since (to_store o answer) old mid now f g h same fg leaves)
+
+-- nothing that the words ask to be stored was
+unwritten_of : (o : Option Asked) (answer : Answer) (s : Stores) → NotStored (to_store o answer) s → IsUnwritten o s
+unwritten_of o answer s (Untouched k) = NoneWritten k
+unwritten_of o answer s (Failed x e u) = WriteFailed x.name (entry_named (cert_of o) (certificate_in answer) x e) u
+
+pub unwritten : {T E : Type 0} (o : Option Asked) (old mid now : List ℕ → Held) (f g h : List ℕ → ℕ) (answer : Answer) (r : Result T E) → SameHeld old mid → NoneFell f g
+    → OnErr r (NotStored (to_store o answer) (stores mid now g h)) → OnErr r (IsUnwritten o (stores old now f h))
+unwritten o old mid now f g h answer (Ok t) same fg n = tt
+unwritten o old mid now f g h answer (Err e) same fg n = unwritten_of o answer (stores old now f h) (not_stored_since (to_store o answer) old mid now f g h same fg n)
+
+pub unwritten_to_words : {T E : Type 0} (o w : Option Asked) (s : Stores) (r : Result T E) → w ≡ o → OnErr r (IsUnwritten o s) → OnErr r (IsUnwritten w s)
+unwritten_to_words o w s r e h = subst (λ v. OnErr r (IsUnwritten v s)) (sym e) h
 
 pub as_ok : {E : Type 0} (o : Option Asked) (g : Call) (r : Result Answer E) → g.asked ≡ o → IfOk r (IsCorrectBy (Follows o) g) → IfOk r (IsCorrectAnswer g)
 as_ok o g r e h = subst (λ k. IfOk r (IsCorrectBy (Follows k) g)) (sym e) h

@@ -47,9 +47,9 @@ machine_refuses file c x (ByText f t e) = ap (λ y. is_refusal (status_of y)) e
 machine_refuses file c x (ByRule f t e) = ap (λ y. is_refusal (status_of y)) e
 
 pub pair_refuses : (r : Reading) (x : Answer) → RefusesPair r x → is_refusal (status_of x) ≡ true
-pair_refuses r x (FirstRefused p) = machine_refuses First r.first x p
-pair_refuses r x (SecondRefused m p) = machine_refuses Second r.second x p
-pair_refuses r x (InterfacesDiffer a b p l) = ap (λ y. is_refusal (status_of y)) l.is
+pair_refuses r x (FirstRefused p o) = machine_refuses First r.first x p
+pair_refuses r x (SecondRefused m p o) = machine_refuses Second r.second x p
+pair_refuses r x (InterfacesDiffer a b p l o) = ap (λ y. is_refusal (status_of y)) l.is
 
 pub certificate_refuses : (a b : Fsmd) (file : Operand) (c : Content) (x : Answer) → RefusesCertificate a b file c x → is_refusal (status_of x) ≡ true
 certificate_refuses a b file c x (UnreadCertificate u) = unread_refuses _ file c x u
@@ -76,9 +76,9 @@ certificate_fault a b file c x (UnreadCertificate u) s = unread_fault _ file c x
 certificate_fault a b file c x (ByCertificate f t e) s = absurd (let h : statuses.BadInput ≡ statuses.Fault = moved statuses.Fault statuses.BadInput x _ e refl s in cc)
 
 pub pair_fault : (r : Reading) (x : Answer) → RefusesPair r x → Ends statuses.Fault x → (r.first ≡ Unreadable) ⊎ (r.second ≡ Unreadable)
-pair_fault r x (FirstRefused p) s = inl (machine_fault First r.first x p s)
-pair_fault r x (SecondRefused m p) s = inr (machine_fault Second r.second x p s)
-pair_fault r x (InterfacesDiffer a b p l) s = absurd (let h : statuses.BadInput ≡ statuses.Fault = moved statuses.Fault statuses.BadInput x _ l.is refl s in cc)
+pair_fault r x (FirstRefused p o) s = inl (machine_fault First r.first x p s)
+pair_fault r x (SecondRefused m p o) s = inr (machine_fault Second r.second x p s)
+pair_fault r x (InterfacesDiffer a b p l o) s = absurd (let h : statuses.BadInput ≡ statuses.Fault = moved statuses.Fault statuses.BadInput x _ l.is refl s in cc)
 
 -- ---- answers that are no fault
 

@@ -8,7 +8,7 @@ use Rattle.command_answers.specs.Replies.{reply, unstored_reply}
 use Rattle.command_answers.specs.Follows.{Follows}
 use Rattle.fsmd_tool.specs.Calls.{Call, IsCorrectBy}
 use Rattle.fsmd_tool.specs.Puts.{Put, IsPut}
-use Rattle.fsmd_tool.specs.Stores.{Stores, IsKept, IsStored, IsUnstored, Entry, to_store}
+use Rattle.fsmd_tool.specs.Stores.{Stores, IsKept, IsStored, IsUnstored, Entry, to_store, IsUnwritten}
 
 -- the answer follows from what may have been read of the files
 abbrev pub IsCorrectAnswer : Call → Answer → Type 0
@@ -27,12 +27,13 @@ pub record Answered (g : Call) (s : Stores) (p : Put) : Type 0 where
   pub correct : IsCorrectAnswer g answer
   pub done : IsDone (to_store g.asked answer) (reply answer g.asked) (status_of answer) s p
 
--- there was no memory, and nothing was put
-pub record IsStarved (p : Put) : Type 0 where
+-- there was no memory: nothing was put, and nothing was stored
+pub record IsStarved (g : Call) (s : Stores) (p : Put) : Type 0 where
   pub status : p.status ≡ NoMemory
   pub got : p.got_now ≡ p.got_before
+  pub files : IsUnwritten g.asked s
 
 -- how a call ends
 pub data Outcome (g : Call) (s : Stores) (p : Put) : Type 0 where
   Answers : Answered g s p → Outcome g s p
-  Starves : IsStarved p → Outcome g s p
+  Starves : IsStarved g s p → Outcome g s p

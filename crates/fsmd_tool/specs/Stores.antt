@@ -52,3 +52,13 @@ pub data Leaves (e : Option Entry) (s : Stores) : Type 0 where
   LeftAlone : IsKept s → Leaves e s
   LeftStored : (x : Entry) → e ≡ Some x → IsStored x.name x.bytes s → Leaves e s
   LeftUnstored : (x : Entry) → e ≡ Some x → IsUnstored x.name s → Leaves e s
+
+-- nothing was stored: each name holds what it held, or the name for what was to be stored failed to be written
+pub data NotStored (e : Option Entry) (s : Stores) : Type 0 where
+  Untouched : IsKept s → NotStored e s
+  Failed : (x : Entry) → e ≡ Some x → IsUnstored x.name s → NotStored e s
+
+-- no file was written, or the one for a certificate failed to be
+pub data IsUnwritten (o : Option Asked) (s : Stores) : Type 0 where
+  NoneWritten : IsKept s → IsUnwritten o s
+  WriteFailed : (name : List ℕ) → cert_of o ≡ Some name → IsUnstored name s → IsUnwritten o s

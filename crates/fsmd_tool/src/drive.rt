@@ -9,7 +9,7 @@ ghost use Rattle.command_answers.specs.Words.{compares, is_verify};
 ghost use Rattle.command_answers.specs.Refusing.{WhereAnswered};
 ghost use Rattle.fsmd_tool.specs.Calls.{call};
 ghost use Rattle.fsmd_tool.specs.Puts.{put};
-ghost use Rattle.fsmd_tool.specs.Stores.{stores};
+ghost use Rattle.fsmd_tool.specs.Stores.{stores, IsUnwritten};
 ghost use Rattle.fsmd_tool.specs.Correct.{IsCorrectAnswer, Answered, Outcome};
 ghost use Rattle.fsmd_tool.specs.Clauses.{SaysSame, SaysDiffer, SaysUndecided, IsChecked, KeepsFiles, HasCause};
 
@@ -68,6 +68,7 @@ fn put_asked<F: Files, S: Sink>(
     requires { IsWithinLimits (asked ask.now) }
     ensures answered { IfOk result (λ status. Answered (call (Some (asked ask.now)) (F.holds files.old) (F.faults files.old) (F.faults files.new)) (stores (F.holds files.old) (F.holds files.new) (F.store_faults files.old) (F.store_faults files.new)) (put status (S.got out.old) (S.got out.new) (S.faults out.old) (S.faults out.new))) }
     ensures err { OnErr result (S.got out.new ≡ S.got out.old) }
+    ensures unwritten { OnErr result (IsUnwritten (Some (asked ask.now)) (stores (F.holds files.old) (F.holds files.new) (F.store_faults files.old) (F.store_faults files.new))) }
     ensures counts { NoneFell (F.faults files.old) (F.faults files.new) }
     ensures store_counts { NoneFell (F.store_faults files.old) (F.store_faults files.new) }
     ensures sink_counts { S.faults out.old ≤ S.faults out.new }
@@ -86,6 +87,7 @@ fn put_reply<F: Files, S: Sink>(
 ) -> Result<Status, AllocError>
     ensures answered { IfOk result (λ status. Answered (call (asked_of (map string_bytes words.now)) (F.holds files.old) (F.faults files.old) (F.faults files.new)) (stores (F.holds files.old) (F.holds files.new) (F.store_faults files.old) (F.store_faults files.new)) (put status (S.got out.old) (S.got out.new) (S.faults out.old) (S.faults out.new))) }
     ensures err { OnErr result (S.got out.new ≡ S.got out.old) }
+    ensures unwritten { OnErr result (IsUnwritten (asked_of (map string_bytes words.now)) (stores (F.holds files.old) (F.holds files.new) (F.store_faults files.old) (F.store_faults files.new))) }
     ensures counts { NoneFell (F.faults files.old) (F.faults files.new) }
     ensures store_counts { NoneFell (F.store_faults files.old) (F.store_faults files.new) }
     ensures sink_counts { S.faults out.old ≤ S.faults out.new }
@@ -102,7 +104,8 @@ fn put_reply<F: Files, S: Sink>(
 ///
 /// The words are those after the program's name: a command, the names of its files, and its options. No file is changed but
 /// the one that `--cert` names, and that only where `check` answers `equivalent`: then it holds the certificate, before the reply
-/// is put. `NoMemory` comes where memory is refused, also where the sink has no room for the reply; then nothing was put.
+/// is put. `NoMemory` comes where memory is refused, also where the sink has no room for the reply; then nothing was put, and
+/// nothing stored but where that failed.
 /// `Fault` comes where a file could not be read, or the certificate not be stored, which the reply says, or where the
 /// sink failed, which then got a prefix of the reply.
 pub fn drive<F: Files, S: Sink>(

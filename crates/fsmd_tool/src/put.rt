@@ -9,7 +9,7 @@ ghost use Rattle.command_answers.specs.declared.answer.Status.TheVariants.{Fault
 ghost use Rattle.command_answers.specs.Statuses.{status_of};
 ghost use Rattle.command_answers.specs.Replies.{reply, unstored_reply};
 ghost use Rattle.fsmd_tool.specs.Puts.{IsPut, put};
-ghost use Rattle.fsmd_tool.specs.Stores.{stores, entry, to_store, Leaves};
+ghost use Rattle.fsmd_tool.specs.Stores.{stores, entry, to_store, Leaves, NotStored};
 ghost use Rattle.fsmd_tool.specs.Correct.{IsDone};
 
 use command_answers::answer::{Answer, Status};
@@ -78,30 +78,6 @@ fn put_unstored<S: Sink>(alloc: Global, name: &str, out: &mut S) -> Result<Statu
     put_whole(bytes.as_slice(), Status::Fault, out)
 }
 
-// Stores bytes under a name, and then puts a reply that has room; where they cannot be stored, puts that.
-fn put_stored<F: Files, S: Sink>(
-    alloc: Global,
-    item: &Entry<'_>,
-    reply: &[u8],
-    meant: Status,
-    files: &mut F,
-    out: &mut S,
-) -> Result<Status, AllocError>
-    requires { HasRoom (S.spare out.old) (length reply.now) }
-    ensures ok { IfOk result (λ status. IsDone (Some (entry item.now.name.now item.now.bytes.now)) reply.now meant (stores (F.holds files.old) (F.holds files.new) (F.store_faults files.old) (F.store_faults files.new)) (put status (S.got out.old) (S.got out.new) (S.faults out.old) (S.faults out.new))) }
-    ensures err { OnErr result (S.got out.new ≡ S.got out.old) }
-    ensures leaves { Leaves (Some (entry item.now.name.now item.now.bytes.now)) (stores (F.holds files.old) (F.holds files.new) (F.store_faults files.old) (F.store_faults files.new)) }
-    ensures counts { NoneFell (F.faults files.old) (F.faults files.new) }
-    ensures store_counts { NoneFell (F.store_faults files.old) (F.store_faults files.new) }
-    ensures sink_counts { S.faults out.old ≤ S.faults out.new }
-{
-    match files.store(alloc, item.name, item.bytes) {
-        Ok(()) => Ok(put_fitting(reply, meant, out)),
-        Err(StoreError::Failed) => put_unstored(alloc, item.name, out),
-        Err(StoreError::NoMemory) => Err(AllocError),
-    }
-}
-
 // Bytes that are to be stored under a name.
 #[derive(Clone, Copy)]
 struct Entry<'a> {
@@ -116,6 +92,31 @@ fn to_store<'a>(answer: &'a Answer, ask: &'a Ask) -> Option<Entry<'a>>
     match (cert_word(ask), answer.certificate()) {
         (Some(name), Some(bytes)) => Some(Entry { name, bytes }),
         _ => None,
+    }
+}
+
+// Stores bytes under a name, and then puts a reply that has room; where they cannot be stored, puts that.
+fn put_stored<F: Files, S: Sink>(
+    alloc: Global,
+    item: &Entry<'_>,
+    reply: &[u8],
+    meant: Status,
+    files: &mut F,
+    out: &mut S,
+) -> Result<Status, AllocError>
+    requires { HasRoom (S.spare out.old) (length reply.now) }
+    ensures ok { IfOk result (λ status. IsDone (Some (entry item.now.name.now item.now.bytes.now)) reply.now meant (stores (F.holds files.old) (F.holds files.new) (F.store_faults files.old) (F.store_faults files.new)) (put status (S.got out.old) (S.got out.new) (S.faults out.old) (S.faults out.new))) }
+    ensures err { OnErr result (S.got out.new ≡ S.got out.old) }
+    ensures leaves { Leaves (Some (entry item.now.name.now item.now.bytes.now)) (stores (F.holds files.old) (F.holds files.new) (F.store_faults files.old) (F.store_faults files.new)) }
+    ensures unstored { OnErr result (NotStored (Some (entry item.now.name.now item.now.bytes.now)) (stores (F.holds files.old) (F.holds files.new) (F.store_faults files.old) (F.store_faults files.new))) }
+    ensures counts { NoneFell (F.faults files.old) (F.faults files.new) }
+    ensures store_counts { NoneFell (F.store_faults files.old) (F.store_faults files.new) }
+    ensures sink_counts { S.faults out.old ≤ S.faults out.new }
+{
+    match files.store(alloc, item.name, item.bytes) {
+        Ok(()) => Ok(put_fitting(reply, meant, out)),
+        Err(StoreError::Failed) => put_unstored(alloc, item.name, out),
+        Err(StoreError::NoMemory) => Err(AllocError),
     }
 }
 
@@ -135,6 +136,7 @@ pub fn put_answer<F: Files, S: Sink>(
     ensures ok { IfOk result (λ status. IsDone (to_store (Some (asked ask.now)) answer.now) (reply answer.now (Some (asked ask.now))) (status_of answer.now) (stores (F.holds files.old) (F.holds files.new) (F.store_faults files.old) (F.store_faults files.new)) (put status (S.got out.old) (S.got out.new) (S.faults out.old) (S.faults out.new))) }
     ensures err { OnErr result (S.got out.new ≡ S.got out.old) }
     ensures leaves { Leaves (to_store (Some (asked ask.now)) answer.now) (stores (F.holds files.old) (F.holds files.new) (F.store_faults files.old) (F.store_faults files.new)) }
+    ensures unstored { OnErr result (NotStored (to_store (Some (asked ask.now)) answer.now) (stores (F.holds files.old) (F.holds files.new) (F.store_faults files.old) (F.store_faults files.new))) }
     ensures counts { NoneFell (F.faults files.old) (F.faults files.new) }
     ensures store_counts { NoneFell (F.store_faults files.old) (F.store_faults files.new) }
     ensures sink_counts { S.faults out.old ≤ S.faults out.new }

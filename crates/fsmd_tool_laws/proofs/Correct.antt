@@ -4,6 +4,7 @@ use Rattle.std.specs.Prelude.{is_some, codes}
 use Rattle.command_words.specs.Words.{Asked, Check, Verify, Run, Replay, Fmt, Cuts, Generate}
 use Rattle.fs_base.specs.Outside.{Held, Unknown, Nothing, Bytes}
 use Rattle.fs_model.specs.Machines.{Fsmd}
+use Rattle.fs_model.specs.Runs.{Inputs}
 use Rattle.bisimulation.specs.Tables.{Node}
 use Rattle.sym_facts.specs.Facts.{Fact}
 use Rattle.search.specs.Answers.{machines, IsClosedWith}
@@ -12,19 +13,25 @@ use Rattle.command_answers.specs.declared.answer.Operand.TheVariants.{First, Sec
 use Rattle.command_answers.specs.declared.answer.Answer.{Answer}
 use Rattle.command_answers.specs.declared.answer.Answer.TheVariants.{Text}
 use Rattle.command_answers.specs.Words.{cert_of, is_check, is_verify, compares, step_limit}
-use Rattle.command_answers.specs.Texts.{SpellsMachine}
-use Rattle.command_answers.specs.Readings.{Content, Unopened, Readable, Unreadable, Reading, content_of}
-use Rattle.command_answers.specs.Refusals.{SpellsCertificate}
+use Rattle.command_answers.specs.Texts.{SpellsMachine, IsMachine, HasCanonicalText}
+use Rattle.command_answers.specs.Paths.{HasPaths}
+use Rattle.command_answers.specs.Readings.{Content, Unopened, Readable, Unreadable, OfBytes, Reading, content_of}
+use Rattle.command_answers.specs.Refusals.{SpellsInputs, SpellsCertificate}
 use Rattle.command_answers.specs.Pairs.{IsOfPair, IsOfLoops}
 use Rattle.command_answers.specs.Verdicts.{IsJudged, answer_to}
-use Rattle.command_answers.specs.Follows.{FollowsFromCertificate, FollowsForPair, PairRefused, Answered, ForCheck, ForVerify, Follows}
+use Rattle.command_answers.specs.Runs.{IsOfRun}
+use Rattle.command_answers.specs.Replays.{IsOfReplay}
+use Rattle.command_answers.specs.Follows.{FollowsForText, Listed, FollowsFromInputs, FollowsFromCertificate, FollowsForRun, MachineRefused, Ran, FollowsForPair, PairRefused, Answered, ForCheck, ForVerify, ForReplay, Follows}
 use Rattle.fsmd_tool.specs.Calls.{Call, held, FailedToRead, MayBeRead, MayRead}
 use Rattle.fsmd_tool.specs.Correct.{IsCorrectAnswer}
 use Rattle.fsmd_tool_laws.specs.Agreement.{Agree}
 use Rattle.fsmd_tool_laws.specs.Settled.{Settles, AreSettled, IsKnown, SpellPair}
 use Rattle.fsmd_tool_laws.specs.Cycles.{SaySame}
+use Rattle.fsmd_tool_laws.proofs.Contents.{bytes_opened}
+use Rattle.fsmd_tool_laws.proofs.Texts.{canonical_once, canonical_machine, paths_once}
+use Rattle.fsmd_tool_laws.proofs.Inputs.{follows_opened, spelled_answered}
 use Rattle.fsmd_tool_laws.proofs.Certificates.{ReadInOneWay, judged_opened, spelled_judged}
-use Rattle.fsmd_tool_laws.proofs.Following.{Same, with_pair, same_back, pair_not_refused, follows_from_one, uncompared_one}
+use Rattle.fsmd_tool_laws.proofs.Following.{Same, machine_same, machine_not_refused, with_pair, same_back, pair_not_refused, text_once, follows_from_one, uncompared_one}
 
 -- ---- what is known settles what was read
 
@@ -39,7 +46,7 @@ settled_same (Bytes b) F Unreadable d s m n o p = absurd (s m)
 settled_same (Bytes b) F c Unreadable s m n o p = absurd (s n)
 settled_same (Bytes b) F (Readable x) (Readable y) s m n o p = ap Readable (m ∙ sym n)
 
-may_be_read : (g : Call) (r : Reading) (file : Operand) → MayRead g r → MayBeRead (held g file) (FailedToRead g file) (content_of r file)
+pub may_be_read : (g : Call) (r : Reading) (file : Operand) → MayRead g r → MayBeRead (held g file) (FailedToRead g file) (content_of r file)
 may_be_read g r First m = m.first
 may_be_read g r Second m = m.second
 may_be_read g r Third m = m.third
@@ -63,7 +70,7 @@ correct_one w g x y e p q s = uncompared_one g.asked q.reading x y e (correct_on
 known_same : (k : Held) (F : Type 0) (c : Content) (bytes : List ℕ) → k ≡ Bytes bytes → ¬ F → MayBeRead k F c → Same c (Readable bytes)
 known_same k F c bytes e f m = settled_same (Bytes bytes) F c (Readable bytes) f (subst (λ h. MayBeRead h F c) e m) refl
 
-known_read : (g : Call) (r : Reading) (file : Operand) (P : List ℕ → Type 0) (k : IsKnown g file P) → MayRead g r → Same (content_of r file) (Readable k.bytes)
+pub known_read : (g : Call) (r : Reading) (file : Operand) (P : List ℕ → Type 0) (k : IsKnown g file P) → MayRead g r → Same (content_of r file) (Readable k.bytes)
 known_read g r file P k m = known_same (held g file) (FailedToRead g file) (content_of r file) k.bytes k.known k.was_read (may_be_read g r file m)
 
 -- what P says of the machines that were read, it says of those that the files spell
@@ -83,7 +90,7 @@ not_true : false ≡ true → ⊥
 not_true e = cc
 
 check_answered : (o : Option Asked) (g : Call) (a b : Fsmd) → SpellPair g a b → (r : Reading) (x : Answer) → MayRead g r → is_check o ≡ true → Follows o r x → IsOfPair (step_limit o) (is_some (cert_of o)) a b x
-check_answered (Some (Check left right cert steps)) g a b k r x m e f = pair_answered (ForCheck steps (is_some cert)) g a b k r x m f
+check_answered (Some (Check left right cert steps)) g a b k r x m e f = (pair_answered (ForCheck steps (is_some cert)) g a b k r x m f).says
 check_answered None g a b k r x m e f = absurd (not_true e)
 check_answered (Some (Verify left right cert)) g a b k r x m e f = absurd (not_true e)
 check_answered (Some (Run machine inputs steps)) g a b k r x m e f = absurd (not_true e)
@@ -115,7 +122,44 @@ pub certificate_judged : (w : ReadInOneWay) → (g : Call) (x : Answer) (a b : F
 certificate_judged w g x a b nodes e k n p = verify_answered w g.asked g a b nodes k n p.reading x p.may_be_read e p.follows
 
 pub loops_answered : (g : Call) (x : Answer) (loops : ℕ) → g.asked ≡ Some (Generate loops) → IsCorrectAnswer g x → IsOfLoops loops x
-loops_answered g x loops e p = subst (λ o. Follows o p.reading x) e p.follows
+loops_answered g x loops e p = let f : Follows (Some (Generate loops)) p.reading x = subst (λ o. Follows o p.reading x) e p.follows in f.says
+
+-- what follows for a file of inputs that is known
+inputs_answered : (P : Inputs → Answer → Type 0) (m : Fsmd) (file : Operand) (c d : Content) (ins : Inputs) (x : Answer) → Same c d → OfBytes d (SpellsInputs m ins) → FollowsFromInputs P m file c x → P ins x
+inputs_answered P m file c d ins x e i f =
+    spelled_answered P m file d ins x i (subst (λ k. FollowsFromInputs P m file k x) (e (follows_opened P m file c x f) (bytes_opened d (SpellsInputs m ins) i)) f)
+
+run_follows : (limit : ℕ) (r s : Reading) (m : Fsmd) (ins : Inputs) (x : Answer) → Same r.first s.first → Same r.second s.second → OfBytes s.first (SpellsMachine m) → OfBytes s.second (SpellsInputs m ins) → FollowsForRun limit r x → IsOfRun limit m ins x
+run_follows limit r s m ins x e f h i (MachineRefused p o) = absurd (machine_not_refused First s.first r.first m x (same_back r.first s.first e) h p)
+run_follows limit r s m ins x e f h i (Ran n k p o) =
+    let same : n ≡ m = machine_same r.first s.first n m e k h in
+    inputs_answered (IsOfRun limit m) m Second r.second s.second ins x f i (subst (λ (z : Fsmd). FollowsFromInputs (IsOfRun limit z) z Second r.second x) same p)
+
+pub run_answered : (g : Call) (x : Answer) (machine inputs : List ℕ) (steps : ℕ) (m : Fsmd) (ins : Inputs) → g.asked ≡ Some (Run machine inputs steps) → IsKnown g First (SpellsMachine m) → IsKnown g Second (SpellsInputs m ins) → IsCorrectAnswer g x
+    → IsOfRun steps m ins x
+run_answered g x machine inputs steps m ins e k i p =
+    let f : Follows (Some (Run machine inputs steps)) p.reading x = subst (λ o. Follows o p.reading x) e p.follows in
+    let s : Reading = record { first = Readable k.bytes; second = Readable i.bytes; third = p.reading.third } in
+    run_follows steps p.reading s m ins x (known_read g p.reading First (SpellsMachine m) k p.may_be_read) (known_read g p.reading Second (SpellsInputs m ins) i p.may_be_read) k.meet i.meet f
+
+pub replay_answered : (g : Call) (x : Answer) (left right inputs : List ℕ) (steps : ℕ) (a b : Fsmd) (ins : Inputs) → g.asked ≡ Some (Replay left right inputs steps) → SpellPair g a b → IsKnown g Third (SpellsInputs a ins) → IsCorrectAnswer g x
+    → IsOfReplay steps a b ins x
+replay_answered g x left right inputs steps a b ins e k i p =
+    let f : Follows (Some (Replay left right inputs steps)) p.reading x = subst (λ o. Follows o p.reading x) e p.follows in
+    inputs_answered (IsOfReplay steps a b) a Third p.reading.third (Readable i.bytes) ins x (known_read g p.reading Third (SpellsInputs a ins) i p.may_be_read) i.meet (pair_answered (ForReplay steps) g a b k p.reading x p.may_be_read f)
+
+-- the answer to a question about one machine is the text that its file has
+text_answered : (P : (text bytes : List ℕ) → Type 0) → ((bytes t u : List ℕ) → P t bytes → P u bytes → t ≡ u) → ((bytes t : List ℕ) → P t bytes → IsMachine bytes) → (g : Call) (r : Reading) (x : Answer) (text : List ℕ) → IsKnown g First (P text) → MayRead g r
+    → FollowsForText P r x → x ≡ Text text
+text_answered P once spells g r x text k m f =
+    let s : Reading = record { first = Readable k.bytes; second = Unopened; third = Unopened } in
+    text_once P once spells r s x (Text text) (known_read g r First (P text) k m) f (Listed (record { lines = text; holds = k.meet; is = refl }) (record { second = refl; third = refl }))
+
+pub fmt_answered : (g : Call) (x : Answer) (machine text : List ℕ) → g.asked ≡ Some (Fmt machine) → IsKnown g First (HasCanonicalText text) → IsCorrectAnswer g x → x ≡ Text text
+fmt_answered g x machine text e k p = text_answered HasCanonicalText canonical_once canonical_machine g p.reading x text k p.may_be_read (subst (λ o. Follows o p.reading x) e p.follows)
+
+pub cuts_answered : (g : Call) (x : Answer) (machine text : List ℕ) → g.asked ≡ Some (Cuts machine) → IsKnown g First (HasPaths text) → IsCorrectAnswer g x → x ≡ Text text
+cuts_answered g x machine text e k p = text_answered HasPaths paths_once (λ bytes t h. (h.machine, h.spells)) g p.reading x text k p.may_be_read (subst (λ o. Follows o p.reading x) e p.follows)
 
 -- ---- certificates of closed searches
 

@@ -34,7 +34,7 @@ use Rattle.fsmd_tool_laws.proofs.Replays.{replay_answer_once}
 abbrev pub Same : Content → Content → Type 0
 Same c d = IsOpened c → IsOpened d → c ≡ d
 
-machine_same : (c d : Content) (m n : Fsmd) → Same c d → OfBytes c (SpellsMachine m) → OfBytes d (SpellsMachine n) → m ≡ n
+pub machine_same : (c d : Content) (m n : Fsmd) → Same c d → OfBytes c (SpellsMachine m) → OfBytes d (SpellsMachine n) → m ≡ n
 machine_same c d m n e p q =
     of_both d (SpellsMachine m) (SpellsMachine n) (m ≡ n) (λ b s t. spells_once b m n s t)
     (subst (λ k. OfBytes k (SpellsMachine m)) (e (bytes_opened c (SpellsMachine m) p) (bytes_opened d (SpellsMachine n) q)) p) q
@@ -44,10 +44,10 @@ machine_same c d m n e p q =
 refused_same : (file : Operand) (c d : Content) (x y : Answer) → Same c d → RefusesMachine file c x → RefusesMachine file d y → x ≡ y
 refused_same file c d x y e p q = machine_once file d x y (subst (λ k. RefusesMachine file k x) (e (refused_opened file c x p) (refused_opened file d y q)) p) q
 
-machine_not_refused : (file : Operand) (c d : Content) (m : Fsmd) (x : Answer) → Same c d → OfBytes c (SpellsMachine m) → RefusesMachine file d x → ⊥
+pub machine_not_refused : (file : Operand) (c d : Content) (m : Fsmd) (x : Answer) → Same c d → OfBytes c (SpellsMachine m) → RefusesMachine file d x → ⊥
 machine_not_refused file c d m x e p q = machine_or_refused file d m x (subst (λ k. OfBytes k (SpellsMachine m)) (e (bytes_opened c (SpellsMachine m) p) (refused_opened file d x q)) p) q
 
-some_not_refused : (file : Operand) (c d : Content) (x : Answer) → Same c d → OfBytes c IsMachine → RefusesMachine file d x → ⊥
+pub some_not_refused : (file : Operand) (c d : Content) (x : Answer) → Same c d → OfBytes c IsMachine → RefusesMachine file d x → ⊥
 some_not_refused file c d x e p q = some_or_refused file d x (subst (λ k. OfBytes k IsMachine) (e (bytes_opened c IsMachine p) (refused_opened file d x q)) p) q
 
 pub same_back : (c d : Content) → Same c d → Same d c
@@ -60,7 +60,7 @@ pub with_pair : (r s : Reading) (a b m n : Fsmd) (P : Fsmd → Fsmd → Type 0) 
 with_pair r s a b m n P e f p q h =
     subst (λ v. P m v) (machine_same r.second s.second b n f p.right q.right) (subst (λ u. P u b) (machine_same r.first s.first a m e p.left q.left) h)
 
-other_interface : (r s : Reading) (a b m n : Fsmd) (name : List ℕ) → Same r.first s.first → Same r.second s.second → ArePair r a b → ArePair s m n → interface_fault a b ≡ None → interface_fault m n ≡ Some name → ⊥
+pub other_interface : (r s : Reading) (a b m n : Fsmd) (name : List ℕ) → Same r.first s.first → Same r.second s.second → ArePair r a b → ArePair s m n → interface_fault a b ≡ None → interface_fault m n ≡ Some name → ⊥
 other_interface r s a b m n name e f p q none some = some_none name (interface_fault m n) some (with_pair r s a b m n (λ u v. interface_fault u v ≡ None) e f p q none)
 
 interfaces_once : (r s : Reading) (a b m n : Fsmd) (x y : Answer) → Same r.first s.first → Same r.second s.second → ArePair r a b → ArePair s m n
@@ -71,20 +71,20 @@ interfaces_once r s a b m n x y e f p q l k =
 
 -- machines with the same inputs and outputs are not refused
 pub pair_not_refused : (r s : Reading) (a b : Fsmd) (x : Answer) → Same r.first s.first → Same r.second s.second → ArePair r a b → interface_fault a b ≡ None → RefusesPair s x → ⊥
-pair_not_refused r s a b x e f p i (FirstRefused q) = machine_not_refused First r.first s.first a x e p.left q
-pair_not_refused r s a b x e f p i (SecondRefused m q) = machine_not_refused Second r.second s.second b x f p.right q
-pair_not_refused r s a b x e f p i (InterfacesDiffer m n q l) = other_interface r s a b m n l.lines e f p q i l.holds
+pair_not_refused r s a b x e f p i (FirstRefused q o) = machine_not_refused First r.first s.first a x e p.left q
+pair_not_refused r s a b x e f p i (SecondRefused m q o) = machine_not_refused Second r.second s.second b x f p.right q
+pair_not_refused r s a b x e f p i (InterfacesDiffer m n q l o) = other_interface r s a b m n l.lines e f p q i l.holds
 
 pair_refused_once : (r s : Reading) (x y : Answer) → Same r.first s.first → Same r.second s.second → RefusesPair r x → RefusesPair s y → x ≡ y
-pair_refused_once r s x y e f (FirstRefused p) (FirstRefused q) = refused_same First r.first s.first x y e p q
-pair_refused_once r s x y e f (FirstRefused p) (SecondRefused m q) = absurd (some_not_refused First s.first r.first x (same_back r.first s.first e) m p)
-pair_refused_once r s x y e f (FirstRefused p) (InterfacesDiffer m n q l) = absurd (machine_not_refused First s.first r.first m x (same_back r.first s.first e) q.left p)
-pair_refused_once r s x y e f (SecondRefused m p) (FirstRefused q) = absurd (some_not_refused First r.first s.first y e m q)
-pair_refused_once r s x y e f (SecondRefused m p) (SecondRefused n q) = refused_same Second r.second s.second x y f p q
-pair_refused_once r s x y e f (SecondRefused k p) (InterfacesDiffer m n q l) = absurd (machine_not_refused Second s.second r.second n x (same_back r.second s.second f) q.right p)
-pair_refused_once r s x y e f (InterfacesDiffer a b p l) (FirstRefused q) = absurd (machine_not_refused First r.first s.first a y e p.left q)
-pair_refused_once r s x y e f (InterfacesDiffer a b p l) (SecondRefused m q) = absurd (machine_not_refused Second r.second s.second b y f p.right q)
-pair_refused_once r s x y e f (InterfacesDiffer a b p l) (InterfacesDiffer m n q k) = interfaces_once r s a b m n x y e f p q l k
+pair_refused_once r s x y e f (FirstRefused p o) (FirstRefused q u) = refused_same First r.first s.first x y e p q
+pair_refused_once r s x y e f (FirstRefused p o) (SecondRefused m q u) = absurd (some_not_refused First s.first r.first x (same_back r.first s.first e) m p)
+pair_refused_once r s x y e f (FirstRefused p o) (InterfacesDiffer m n q l u) = absurd (machine_not_refused First s.first r.first m x (same_back r.first s.first e) q.left p)
+pair_refused_once r s x y e f (SecondRefused m p o) (FirstRefused q u) = absurd (some_not_refused First r.first s.first y e m q)
+pair_refused_once r s x y e f (SecondRefused m p o) (SecondRefused n q u) = refused_same Second r.second s.second x y f p q
+pair_refused_once r s x y e f (SecondRefused k p o) (InterfacesDiffer m n q l u) = absurd (machine_not_refused Second s.second r.second n x (same_back r.second s.second f) q.right p)
+pair_refused_once r s x y e f (InterfacesDiffer a b p l o) (FirstRefused q u) = absurd (machine_not_refused First r.first s.first a y e p.left q)
+pair_refused_once r s x y e f (InterfacesDiffer a b p l o) (SecondRefused m q u) = absurd (machine_not_refused Second r.second s.second b y f p.right q)
+pair_refused_once r s x y e f (InterfacesDiffer a b p l o) (InterfacesDiffer m n q k u) = interfaces_once r s a b m n x y e f p q l k
 
 -- two answers to two files of machines are as R says, where they are so if they are one, and if P says them of the same machines
 pair_follows : (P : (a b : Fsmd) → Content → Answer → Type 0) (R : Type 0) (r s : Reading) (x y : Answer) → Same r.first s.first → Same r.second s.second
@@ -101,12 +101,12 @@ text_machine P spells Unopened t h = absurd h
 text_machine P spells (Readable b) t h = spells b t h
 text_machine P spells Unreadable t h = absurd h
 
-text_once : (P : (text bytes : List ℕ) → Type 0) → ((bytes t u : List ℕ) → P t bytes → P u bytes → t ≡ u) → ((bytes t : List ℕ) → P t bytes → IsMachine bytes)
+pub text_once : (P : (text bytes : List ℕ) → Type 0) → ((bytes t u : List ℕ) → P t bytes → P u bytes → t ≡ u) → ((bytes t : List ℕ) → P t bytes → IsMachine bytes)
     → (r s : Reading) (x y : Answer) → Same r.first s.first → FollowsForText P r x → FollowsForText P s y → x ≡ y
-text_once P once spells r s x y e (TextRefused p) (TextRefused q) = refused_same First r.first s.first x y e p q
-text_once P once spells r s x y e (TextRefused p) (Listed l) = absurd (some_not_refused First s.first r.first x (same_back r.first s.first e) (text_machine P spells s.first l.lines l.holds) p)
-text_once P once spells r s x y e (Listed l) (TextRefused q) = absurd (some_not_refused First r.first s.first y e (text_machine P spells r.first l.lines l.holds) q)
-text_once P once spells r s x y e (Listed l) (Listed k) =
+text_once P once spells r s x y e (TextRefused p o) (TextRefused q u) = refused_same First r.first s.first x y e p q
+text_once P once spells r s x y e (TextRefused p o) (Listed l u) = absurd (some_not_refused First s.first r.first x (same_back r.first s.first e) (text_machine P spells s.first l.lines l.holds) p)
+text_once P once spells r s x y e (Listed l o) (TextRefused q u) = absurd (some_not_refused First r.first s.first y e (text_machine P spells r.first l.lines l.holds) q)
+text_once P once spells r s x y e (Listed l o) (Listed k u) =
     let same : l.lines ≡ k.lines = of_both s.first (P l.lines) (P k.lines) (l.lines ≡ k.lines) (λ b t u. once b l.lines k.lines t u)
     (subst (λ c. OfBytes c (P l.lines)) (e (bytes_opened r.first (P l.lines) l.holds) (bytes_opened s.first (P k.lines) k.holds)) l.holds) k.holds
     in
@@ -118,10 +118,10 @@ inputs_once P once m file c d x y e p q =
     follows_once P once m file d x y (subst (λ k. FollowsFromInputs P m file k x) (e (follows_opened P m file c x p) (follows_opened P m file d y q)) p) q
 
 run_once : (limit : ℕ) (r s : Reading) (x y : Answer) → Same r.first s.first → Same r.second s.second → FollowsForRun limit r x → FollowsForRun limit s y → x ≡ y
-run_once limit r s x y e f (MachineRefused p) (MachineRefused q) = refused_same First r.first s.first x y e p q
-run_once limit r s x y e f (MachineRefused p) (Ran m h q) = absurd (machine_not_refused First s.first r.first m x (same_back r.first s.first e) h p)
-run_once limit r s x y e f (Ran m h p) (MachineRefused q) = absurd (machine_not_refused First r.first s.first m y e h q)
-run_once limit r s x y e f (Ran m h p) (Ran n k q) =
+run_once limit r s x y e f (MachineRefused p o) (MachineRefused q u) = refused_same First r.first s.first x y e p q
+run_once limit r s x y e f (MachineRefused p o) (Ran m h q u) = absurd (machine_not_refused First s.first r.first m x (same_back r.first s.first e) h p)
+run_once limit r s x y e f (Ran m h p o) (MachineRefused q u) = absurd (machine_not_refused First r.first s.first m y e h q)
+run_once limit r s x y e f (Ran m h p o) (Ran n k q u) =
     let same : m ≡ n = machine_same r.first s.first m n e h k in
     inputs_once (IsOfRun limit n) (run_answer_once limit n) n Second r.second s.second x y f (subst (λ o. FollowsFromInputs (IsOfRun limit o) o Second r.second x) same p) q
 
@@ -132,7 +132,7 @@ compared_once o r a b x y c h = ⊎_elim (λ e. One e) (λ d. Cycles a b c d.0 d
 check_once : (o : Option Asked) (limit : ℕ) (keeps : Bool) (r s : Reading) (x y : Answer) → IsTrue (is_check o) → Same r.first s.first → Same r.second s.second
     → FollowsForPair (ForCheck limit keeps) r x → FollowsForPair (ForCheck limit keeps) s y → SaySame o s x y
 check_once o limit keeps r s x y checks e f p q =
-    pair_follows (ForCheck limit keeps) (SaySame o s x y) r s x y e f (λ h. One h) (λ m n c u v. compared_once o s m n x y (OfFiles checks c) (pair_once limit keeps m n x y u v)) p q
+    pair_follows (ForCheck limit keeps) (SaySame o s x y) r s x y e f (λ h. One h) (λ m n c u v. compared_once o s m n x y (OfFiles checks c) (pair_once limit keeps m n x y u.says v.says)) p q
 
 verified_once : (w : ReadInOneWay) → (a b : Fsmd) (c d : Content) (x y : Answer) → Same c d → FollowsFromCertificate a b Third c x → FollowsFromCertificate a b Third d y → x ≡ y
 verified_once w a b c d x y e p q = judged_once w a b Third d x y (subst (λ k. FollowsFromCertificate a b Third k x) (e (judged_opened a b Third c x p) (judged_opened a b Third d y q)) p) q
@@ -145,7 +145,7 @@ replay_once limit r s x y e f g p q =
     pair_follows (ForReplay limit) (x ≡ y) r s x y e f (λ h. h) (λ m n c u v. inputs_once (IsOfReplay limit m n) (replay_answer_once limit m n) m Third r.third s.third x y g u v) p q
 
 pub follows_from_one : (w : ReadInOneWay) → (o : Option Asked) (r s : Reading) (x y : Answer) → Agree o r s → Follows o r x → Follows o s y → SaySame o s x y
-follows_from_one w None r s x y a p q = One (p ∙ sym q)
+follows_from_one w None r s x y a p q = One (p.says ∙ sym q.says)
 follows_from_one w (Some (Check left right cert steps)) r s x y a p q = check_once (Some (Check left right cert steps)) steps (is_some cert) r s x y refl (a.agree First refl) (a.agree Second refl) p q
 follows_from_one w (Some (Verify left right cert)) r s x y a p q = One (verify_once w r s x y (a.agree First refl) (a.agree Second refl) (a.agree Third refl) p q)
 follows_from_one w (Some (Run machine inputs steps)) r s x y a p q = One (run_once steps r s x y (a.agree First refl) (a.agree Second refl) p q)
@@ -153,7 +153,7 @@ follows_from_one w (Some (Replay left right inputs steps)) r s x y a p q = One (
 follows_from_one w (Some (Fmt machine)) r s x y a p q = One (text_once HasCanonicalText canonical_once canonical_machine r s x y (a.agree First refl) p q)
 follows_from_one w (Some (Cuts machine)) r s x y a p q = One (text_once HasPaths paths_once (λ bytes t h. (h.machine, h.spells)) r s x y (a.agree First refl) p q)
 follows_from_one w (Some (Generate loops)) r s x y a p q =
-    compared_once (Some (Generate loops)) s (left_of loops) (right_of loops) x y (OfLoops loops refl refl refl) (pair_once generated_steps false (left_of loops) (right_of loops) x y p q)
+    compared_once (Some (Generate loops)) s (left_of loops) (right_of loops) x y (OfLoops loops refl refl refl) (pair_once generated_steps false (left_of loops) (right_of loops) x y p.says q.says)
 
 -- ---- what compares no machines
 

@@ -88,3 +88,10 @@ follows_once P once m file c x y (Spelled j i p) (InputsRefused q) = absurd (spe
 follows_once P once m file c x y (Spelled j i p) (Spelled k h q) =
     let same : j ≡ k = of_both c (SpellsInputs m j) (SpellsInputs m k) (j ≡ k) (λ b s t. inputs_once (signatures m) b j k s.spells t.spells) i h in
     once k x y (subst (λ o. P o x) same p) q
+
+-- where a file spells inputs, P is said of these
+pub spelled_answered : (P : Inputs → Answer → Type 0) (m : Fsmd) (file : Operand) (c : Content) (ins : Inputs) (x : Answer) → OfBytes c (SpellsInputs m ins) → FollowsFromInputs P m file c x → P ins x
+spelled_answered P m file c ins x i (InputsRefused p) = absurd (spelled_or_refused m file c ins x i p)
+spelled_answered P m file c ins x i (Spelled j k p) =
+    let same : j ≡ ins = of_both c (SpellsInputs m j) (SpellsInputs m ins) (j ≡ ins) (λ b s t. inputs_once (signatures m) b j ins s.spells t.spells) k i in
+    subst (λ o. P o x) same p

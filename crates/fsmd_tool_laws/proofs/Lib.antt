@@ -1,4 +1,3 @@
-pub mod Searches
 pub mod Pairs
 pub mod Texts
 pub mod Contents
@@ -10,3 +9,5 @@ pub mod Replays
 pub mod Following
 pub mod Correct
 pub mod Stored
+pub mod Settling
+pub mod Outcomes

@@ -1,3 +1,4 @@
 pub mod Agreement
 pub mod Cycles
 pub mod Settled
+pub mod Outcomes

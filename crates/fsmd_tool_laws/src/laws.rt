@@ -1,32 +1,43 @@
 //! Laws of files and answers, over the definitions alone. The functions do nothing: those that they call are laws.
 
-ghost use Rattle.std.specs.Prelude.{◌≡◌, ℕ, Bool, List, Option, Some, true, false, is_some, codes};
-ghost use Rattle.command_words.specs.Words.{Asked, Generate};
+ghost use Rattle.std.specs.Prelude.{◌≡◌, ◌<◌, ℕ, Bool, IsTrue, List, Option, Some, true, false, is_some, codes};
+ghost use Rattle.command_words.specs.Words.{Asked, Run, Replay, Fmt, Cuts, Generate};
 ghost use Rattle.fs_model.specs.Limits.{most_text_bytes};
 ghost use Rattle.fs_model.specs.Machines.{Fsmd};
+ghost use Rattle.fs_model.specs.Runs.{Inputs};
 ghost use Rattle.fs_grammar.specs.declared.fault.TextFault.{TextFault};
 ghost use Rattle.fs_rules.specs.declared.check.CheckFault.{CheckFault};
+ghost use Rattle.fs_trials.specs.Pool.{pool_of};
+ghost use Rattle.fs_trials.specs.Candidates.{candidate_count};
+ghost use Rattle.fs_trials.specs.Differences.{DiffersAt};
 ghost use Rattle.bisimulation.specs.Tables.{Node};
 ghost use Rattle.sym_facts.specs.Facts.{Fact};
 ghost use Rattle.cert_text.specs.declared.faults.CertError.{CertError};
 ghost use Rattle.cert_writer.specs.Written.{certificate_text};
 ghost use Rattle.search.specs.Answers.{machines, IsClosedWith};
-ghost use Rattle.command_answers.specs.declared.answer.Operand.TheVariants.{Third};
+ghost use Rattle.command_answers.specs.declared.answer.Operand.TheVariants.{First, Second, Third};
+ghost use Rattle.command_answers.specs.declared.answer.Status.TheVariants.{Differ};
 ghost use Rattle.command_answers.specs.declared.answer.Answer.{Answer};
 ghost use Rattle.command_answers.specs.declared.answer.Answer.TheVariants.{Text};
+ghost use Rattle.command_answers.specs.Statuses.{status_of};
 ghost use Rattle.command_answers.specs.Words.{cert_of, is_check, is_verify, compares, step_limit};
 ghost use Rattle.command_answers.specs.Paths.{HasPaths};
 ghost use Rattle.command_answers.specs.Texts.{SpellsMachine, HasCanonicalText, IsTooLong, HasTextFault, HasCheckFault};
 ghost use Rattle.command_answers.specs.Readings.{Reading};
-ghost use Rattle.command_answers.specs.Refusals.{SpellsCertificate, HasCertFault};
+ghost use Rattle.command_answers.specs.Refusals.{SpellsInputs, SpellsCertificate, HasCertFault};
 ghost use Rattle.command_answers.specs.Pairs.{IsOfPair, IsOfLoops};
 ghost use Rattle.command_answers.specs.Verdicts.{IsJudged};
+ghost use Rattle.command_answers.specs.Runs.{IsOfRun};
+ghost use Rattle.command_answers.specs.Replays.{IsOfReplay};
 ghost use Rattle.command_answers.specs.Follows.{Follows};
 ghost use Rattle.fsmd_tool.specs.Calls.{Call};
-ghost use Rattle.fsmd_tool.specs.Correct.{IsCorrectAnswer};
+ghost use Rattle.fsmd_tool.specs.Puts.{Put};
+ghost use Rattle.fsmd_tool.specs.Stores.{Stores};
+ghost use Rattle.fsmd_tool.specs.Correct.{IsCorrectAnswer, Outcome};
 ghost use Rattle.fsmd_tool_laws.specs.Agreement.{Agree};
-ghost use Rattle.fsmd_tool_laws.specs.Settled.{AreSettled, IsKnown, SpellPair};
+ghost use Rattle.fsmd_tool_laws.specs.Settled.{AreSettled, IsKnown, SpellPair, AreSettledUpToRefused};
 ghost use Rattle.fsmd_tool_laws.specs.Cycles.{AreOne, SaySame};
+ghost use Rattle.fsmd_tool_laws.specs.Outcomes.{NothingFailed, is_of_comparison};
 
 use cert_text::laws::{certificates_are_read_in_one_way, texts_are_read};
 use search_laws::laws::{
@@ -36,6 +47,11 @@ use search_laws::laws::{
 /// Two machines get at most one answer, but for the cycle that its line names.
 pub fn two_machines_get_one_answer()
     ensures { (limit : ℕ) (keeps : Bool) (a b : Fsmd) (x y : Answer) → IsOfPair limit keeps a b x → IsOfPair limit keeps a b y → AreOne a b x y }
+{}
+
+/// Where a candidate shows a difference of two machines, that is what they get: their status is `Differ`.
+pub fn differences_are_told()
+    ensures { (limit : ℕ) (keeps : Bool) (a b : Fsmd) (x : Answer) (j : ℕ) → j < candidate_count (pool_of a b) → DiffersAt a b limit j → IsOfPair limit keeps a b x → status_of x ≡ Differ }
 {}
 
 /// A file spells at most one machine, with one canonical text and one list of paths, and is then no file with a
@@ -89,17 +105,41 @@ pub fn at_most_one_answer_is_correct()
     texts_are_read();
 }
 
-/// Machines that are spelled and have the same inputs and outputs are answered, and not refused. Two that are compared
-/// are equivalent, have a counterexample, or are undecided by an obstacle. A certificate of theirs that is spelled is
-/// judged: by its verdict, which is yes, no or undecided.
-pub fn machines_are_answered()
-    ensures check { (g : Call) (x : Answer) (a b : Fsmd) → is_check g.asked ≡ true → SpellPair g a b → IsCorrectAnswer g x → IsOfPair (step_limit g.asked) (is_some (cert_of g.asked)) a b x }
-    ensures verify { (g : Call) (x : Answer) (a b : Fsmd) (nodes : List (Node Fact)) → is_verify g.asked ≡ true → SpellPair g a b → IsKnown g Third (SpellsCertificate a b nodes) → IsCorrectAnswer g x → IsJudged a b nodes x }
-    ensures generate { (g : Call) (x : Answer) (loops : ℕ) → g.asked ≡ Some (Generate loops) → IsCorrectAnswer g x → IsOfLoops loops x }
+/// Where the files that are named are settled up to the first that is refused, at most one answer is correct, whatever the
+/// files behind hold, and whether they can be read or not; but two lines may each name another cycle of the machines
+/// that are compared.
+pub fn files_up_to_the_refused_one_settle_the_answer()
+    ensures compared { (g : Call) (x y : Answer) → AreSettledUpToRefused g → (p : IsCorrectAnswer g x) (q : IsCorrectAnswer g y) → SaySame g.asked q.reading x y }
+    ensures uncompared { (g : Call) (x y : Answer) → compares g.asked ≡ false → AreSettledUpToRefused g → IsCorrectAnswer g x → IsCorrectAnswer g y → x ≡ y }
 {
     certificates_are_read_in_one_way();
     texts_are_read();
 }
+
+/// Machines that are spelled and have the same inputs and outputs are answered, and not refused. Two that are compared
+/// are equivalent, have a counterexample, or are undecided by an obstacle. A certificate of theirs that is spelled is
+/// judged: by its verdict, which is yes, no or undecided. Inputs that are spelled are run from: by one machine, or by two. The
+/// answer to `fmt` is the canonical text of the machine, and that to `cuts` the list of its paths.
+pub fn machines_are_answered()
+    ensures check { (g : Call) (x : Answer) (a b : Fsmd) → is_check g.asked ≡ true → SpellPair g a b → IsCorrectAnswer g x → IsOfPair (step_limit g.asked) (is_some (cert_of g.asked)) a b x }
+    ensures verify { (g : Call) (x : Answer) (a b : Fsmd) (nodes : List (Node Fact)) → is_verify g.asked ≡ true → SpellPair g a b → IsKnown g Third (SpellsCertificate a b nodes) → IsCorrectAnswer g x → IsJudged a b nodes x }
+    ensures generate { (g : Call) (x : Answer) (loops : ℕ) → g.asked ≡ Some (Generate loops) → IsCorrectAnswer g x → IsOfLoops loops x }
+    ensures run { (g : Call) (x : Answer) (machine inputs : List ℕ) (steps : ℕ) (m : Fsmd) (ins : Inputs) → g.asked ≡ Some (Run machine inputs steps) → IsKnown g First (SpellsMachine m) → IsKnown g Second (SpellsInputs m ins) → IsCorrectAnswer g x → IsOfRun steps m ins x }
+    ensures replay { (g : Call) (x : Answer) (left right inputs : List ℕ) (steps : ℕ) (a b : Fsmd) (ins : Inputs) → g.asked ≡ Some (Replay left right inputs steps) → SpellPair g a b → IsKnown g Third (SpellsInputs a ins) → IsCorrectAnswer g x → IsOfReplay steps a b ins x }
+    ensures fmt { (g : Call) (x : Answer) (machine text : List ℕ) → g.asked ≡ Some (Fmt machine) → IsKnown g First (HasCanonicalText text) → IsCorrectAnswer g x → x ≡ Text text }
+    ensures cuts { (g : Call) (x : Answer) (machine text : List ℕ) → g.asked ≡ Some (Cuts machine) → IsKnown g First (HasPaths text) → IsCorrectAnswer g x → x ≡ Text text }
+{
+    certificates_are_read_in_one_way();
+    texts_are_read();
+}
+
+/// A comparison ends with what the machines get, as `Fine`, `Differ` or `Undecided`, or with `NoMemory`, where neither the
+/// sink nor the store of the certificate failed: of machines that files spell and that have the same inputs and outputs,
+/// and of generated ones.
+pub fn comparisons_end_with_what_machines_get()
+    ensures check { (g : Call) (s : Stores) (p : Put) (a b : Fsmd) → is_check g.asked ≡ true → SpellPair g a b → NothingFailed g s p → Outcome g s p → IsTrue (is_of_comparison p.status) }
+    ensures generate { (g : Call) (s : Stores) (p : Put) (loops : ℕ) → g.asked ≡ Some (Generate loops) → NothingFailed g s p → Outcome g s p → IsTrue (is_of_comparison p.status) }
+{}
 
 /// A certificate of a closed search passes: where a file spells its nodes, and two others its machines, the answer is yes.
 pub fn certificates_of_closed_searches_pass()

@@ -1,5 +1,5 @@
 -- Two machines have one answer.
-use Rattle.std.proofs.Common.{◌≡◌, ◌⊎◌, inl, inr, ℕ, List, [], ◌∷◌, None, Some, Option, map, refl, sym, ◌∙◌, ap, ap₂, subst}
+use Rattle.std.proofs.Common.{◌≡◌, ◌⊎◌, inl, inr, ℕ, List, None, Some, Option, map, refl, sym, ◌∙◌, ap, ap₂, subst}
 use Rattle.fs_model.specs.Machines.{Fsmd}
 use Rattle.fs_ast.specs.Sound.{IsSound}
 use Rattle.fs_pair.specs.Interfaces.{interface_fault}
@@ -8,17 +8,15 @@ use Rattle.bisimulation.specs.Tables.{Node as CertificateNode}
 use Rattle.sym_facts.specs.Facts.{Fact}
 use Rattle.certificates.specs.View.{node_of}
 use Rattle.certificates.proofs.AllHold.{same_where_yes}
-use Rattle.search_tables.specs.declared.moves.Move.{Move}
 use Rattle.search_tables.specs.Tables.{Machines, Table, first_table, TooWide, TooLarge}
 use Rattle.search_tables.specs.Next.{Next, Nothing, Change, Stop, Excess, next, IsClosed}
-use Rattle.search_tables.specs.Legal.{Difference, stuck, Lead}
+use Rattle.search_tables.specs.Legal.{Difference, stuck}
 use Rattle.search_ranks.specs.Graphs.{AreRanks}
 use Rattle.search_tables.specs.LoneMoves.{lone_moves}
 use Rattle.search_tables.specs.Certifying.{Certifies}
 use Rattle.search_tables.specs.Obstacles.{Obstacle, Stuck, Spin, Wide, Large, Exhausted, StandsIn}
 use Rattle.search_tables.specs.View.{points_at}
-use Rattle.search_tables.proofs.Prefixes.{same_change}
-use Rattle.search_tables.proofs.Ending.{no_certificate}
+use Rattle.search_tables.proofs.Ending.{Ends, stands_ends, same_moves, no_certificate}
 use Rattle.search.specs.Answers.{machines, IsClosedWith, StopsAt}
 use Rattle.pair_answers.specs.declared.answer.PairAnswer.TheVariants.{Equivalent, Counterexample, Undecided}
 use Rattle.pair_answers.specs.Texts.{obstacle_text}
@@ -27,43 +25,24 @@ use Rattle.pair_answers.specs.Laws.{IsCycleLine, OneAnswer}
 use Rattle.pair_answers.proofs.Ranks.{one_certificate}
 use Rattle.pair_answers.proofs.Behaviour.{same_show_nothing, one_counterexample}
 
--- ---- all legal lists of moves that end make one table
-
-abbrev Ends : Machines → Table → Type 0
-Ends m T = (x : Move) (V : Table) → stuck m T ≡ None → next m T ≡ Change x V → ⊥
+-- ---- tables in which a search ends
 
 closed_ends : (m : Machines) (T : Table) → IsClosed m T → Ends m T
 closed_ends m T h x V s e = cc (h, e)
 
-stands_ends : (m : Machines) (T : Table) (o : Obstacle) → StandsIn m T o → Ends m T
-stands_ends m T (Stuck k x) h y V s e = cc (h, s)
-stands_ends m T (Spin d xs) h y V s e = cc (h.1, e)
-stands_ends m T (Wide at) h y V s e = cc (h.3, e)
-stands_ends m T (Large at) h y V s e = cc (h.3, e)
-stands_ends m T (Exhausted at what) h y V s e = cc (h.1, e)
-
-one_table : (m : Machines) (xs ys : List Move) (S T U : Table) → Ends m T → Ends m U → Lead m S xs T → Lead m S ys U → (xs ≡ ys) × (T ≡ U)
-one_table m [] [] S T U t u h k = (refl, sym h ∙ k)
-one_table m [] (y ∷ ys) S T U t u h k = absurd (subst (Ends m) (sym h) t y k.0 k.1 k.2)
-one_table m (x ∷ xs) [] S T U t u h k = absurd (subst (Ends m) (sym k) u x h.0 h.1 h.2)
-one_table m (x ∷ xs) (y ∷ ys) S T U t u h k =
-    let e = same_change (next m S) x y h.0 k.0 h.2 k.2 in
-    let r = one_table m xs ys h.0 T U t u h.3 (subst (λ V. Lead m V ys U) (sym e.1) k.3) in
-    (ap₂ (λ z zs. z ∷ zs) e.0 r.0, r.1)
-
 -- ---- certificates
 
-abbrev Nodes : Type 0
+abbrev pub Nodes : Type 0
 Nodes = List (CertificateNode Fact)
 
-same_certificate : (m : Machines) (cs ds : Nodes) → IsClosedWith m cs → IsClosedWith m ds → cs ≡ ds
+pub same_certificate : (m : Machines) (cs ds : Nodes) → IsClosedWith m cs → IsClosedWith m ds → cs ≡ ds
 same_certificate m cs ds x y =
-    let same = (one_table m x.moves y.moves (first_table m) x.table y.table (closed_ends m x.table x.closed) (closed_ends m y.table y.closed) x.makes.lead y.makes.lead).1 in
+    let same = (same_moves m x.moves y.moves (first_table m) x.table y.table (closed_ends m x.table x.closed) (closed_ends m y.table y.closed) x.makes.lead y.makes.lead).1 in
     one_certificate m x.table x.ranks y.ranks cs ds x.are_ranks (subst (λ T. AreRanks (lone_moves m T) y.ranks) (sym same) y.are_ranks) x.certifies (subst (λ T. Certifies m T y.ranks ds) (sym same) y.certifies)
 
-not_both : (m : Machines) (cs : Nodes) (line : List ℕ) → IsClosedWith m cs → HasObstacle m line → ⊥
+pub not_both : (m : Machines) (cs : Nodes) (line : List ℕ) → IsClosedWith m cs → HasObstacle m line → ⊥
 not_both m cs line x y =
-    let same = (one_table m x.moves y.moves (first_table m) x.table y.stops.table (closed_ends m x.table x.closed) (stands_ends m y.stops.table y.obstacle y.stops.stands) x.makes.lead y.stops.makes.lead).1 in
+    let same = (same_moves m x.moves y.moves (first_table m) x.table y.stops.table (closed_ends m x.table x.closed) (stands_ends m y.stops.table y.obstacle y.stops.stands) x.makes.lead y.stops.makes.lead).1 in
     no_certificate m x.table y.obstacle x.ranks (subst (λ T. StandsIn m T y.obstacle) (sym same) y.stops.stands) x.closed x.none_differ x.are_ranks
 
 -- ---- obstacles
@@ -111,9 +90,9 @@ cycle_line m line x c = record {
   told = x.told ∙ ap (obstacle_text m x.moves x.points) c.is;
 }
 
-one_line : (m : Machines) (l k : List ℕ) → HasObstacle m l → HasObstacle m k → (l ≡ k) ⊎ (IsCycleLine m l × IsCycleLine m k)
+pub one_line : (m : Machines) (l k : List ℕ) → HasObstacle m l → HasObstacle m k → (l ≡ k) ⊎ (IsCycleLine m l × IsCycleLine m k)
 one_line m l k x y =
-    let same = one_table m x.moves y.moves (first_table m) x.stops.table y.stops.table (stands_ends m x.stops.table x.obstacle x.stops.stands) (stands_ends m y.stops.table y.obstacle y.stops.stands) x.stops.makes.lead y.stops.makes.lead in
+    let same = same_moves m x.moves y.moves (first_table m) x.stops.table y.stops.table (stands_ends m x.stops.table x.obstacle x.stops.stands) (stands_ends m y.stops.table y.obstacle y.stops.stands) x.stops.makes.lead y.stops.makes.lead in
     let points : x.points ≡ y.points = sym x.stops.points_are ∙ ap (map points_at) same.1 ∙ y.stops.points_are in
     let there : StandsIn m x.stops.table y.obstacle = subst (λ T. StandsIn m T y.obstacle) (sym same.1) y.stops.stands in
     elim (are_one (plain_obstacle (stuck m x.stops.table) (next m x.stops.table)) x.obstacle y.obstacle (stands m x.stops.table x.obstacle x.stops.stands) (stands m x.stops.table y.obstacle there)) as (λ _. (l ≡ k) ⊎ (IsCycleLine m l × IsCycleLine m k)) [
@@ -126,7 +105,7 @@ one_line m l k x y =
 not_apart : (limit : ℕ) (a b : Fsmd) → IsSound a → IsSound b → interface_fault a b ≡ None → (cs : Nodes) (l : List ℕ) → IsClosedWith (machines a b) cs → IsCounterexample limit a b l → ⊥
 not_apart limit a b s t none cs l x y = same_show_nothing limit a b y.number (same_where_yes a b s t none cs x.lawful x.hold) y.shows
 
-not_open : (limit : ℕ) (a b : Fsmd) (l k : List ℕ) → IsCounterexample limit a b l → IsUndecided limit a b k → ⊥
+pub not_open : (limit : ℕ) (a b : Fsmd) (l k : List ℕ) → IsCounterexample limit a b l → IsUndecided limit a b k → ⊥
 not_open limit a b l k x y = y.none_differ.none x.number x.among x.shows
 
 pub one_answer : OneAnswer

@@ -11,17 +11,18 @@ use Rattle.search_tables.specs.Obstacles.{Obstacle, Stuck, Spin, Wide, Large, Ex
 use Rattle.search_tables.proofs.Prefixes.{same_change}
 
 -- no legal list goes on from a table
-abbrev Ends : Machines → Table → Type 0
+abbrev pub Ends : Machines → Table → Type 0
 Ends m T = (x : Move) (V : Table) → stuck m T ≡ None → next m T ≡ Change x V → ⊥
 
-stands_ends : (m : Machines) (T : Table) (o : Obstacle) → StandsIn m T o → Ends m T
+pub stands_ends : (m : Machines) (T : Table) (o : Obstacle) → StandsIn m T o → Ends m T
 stands_ends m T (Stuck k x) h y V s e = cc (h, s)
 stands_ends m T (Spin d xs) h y V s e = cc (h.1, e)
 stands_ends m T (Wide at) h y V s e = cc (h.3, e)
 stands_ends m T (Large at) h y V s e = cc (h.3, e)
 stands_ends m T (Exhausted at what) h y V s e = cc (h.1, e)
 
-same_moves : (m : Machines) (xs ys : List Move) (S T U : Table) → Ends m T → Ends m U → Lead m S xs T → Lead m S ys U → (xs ≡ ys) × (T ≡ U)
+-- all legal lists of moves that end make one table
+pub same_moves : (m : Machines) (xs ys : List Move) (S T U : Table) → Ends m T → Ends m U → Lead m S xs T → Lead m S ys U → (xs ≡ ys) × (T ≡ U)
 same_moves m [] [] S T U t u h k = (refl, sym h ∙ k)
 same_moves m [] (y ∷ ys) S T U t u h k = absurd (subst (Ends m) (sym h) t y k.0 k.1 k.2)
 same_moves m (x ∷ xs) [] S T U t u h k = absurd (subst (Ends m) (sym k) u x h.0 h.1 h.2)

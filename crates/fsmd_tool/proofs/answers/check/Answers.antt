@@ -1,4 +1,4 @@
-use Rattle.std.proofs.Common.{rules, Some}
+use Rattle.std.proofs.Common.{rules, refl, Some}
 use Rattle.command_words.specs.Words.{asked}
 use Rattle.fsmd_tool.specs.Calls.{call, IsCorrectBy}
 use Rattle.command_answers.specs.Refusing.{WhereAnswered}
@@ -12,4 +12,4 @@ returns-in_err-left-clause-refused g c =
     search rules
 
 pub returns-clause-ok : goal.returns-clause-ok
-returns-clause-ok g c = paired (ForCheck c.args.steps c.args.keeps) _ c.in_ok-left.field-0.left c.in_ok-left.field-0.right c.in_ok-compare.field-0 c.in_ok-left.ensures.left c.in_ok-left.ensures.right c.in_ok-left.ensures.alike c.in_ok-compare.ensures
+returns-clause-ok g c = paired (ForCheck c.args.steps c.args.keeps) _ c.in_ok-left.field-0.left c.in_ok-left.field-0.right c.in_ok-compare.field-0 c.in_ok-left.ensures.left c.in_ok-left.ensures.right c.in_ok-left.ensures.alike (record { says = c.in_ok-compare.ensures; unopened = refl })

@@ -9,7 +9,7 @@ use Rattle.fsmd_tool.proofs.answers.format_text.Goals as goal
 
 pub returns-in_err-parts-clause-refused : goal.returns-in_err-parts-clause-refused
 returns-in_err-parts-clause-refused g c =
-    let h : WhereAnswered (IsCorrectBy (FollowsForText HasCanonicalText) (call (Some (asked c.args.ask.now)) (g.F.Files.holds c.args.files.now) (g.F.Files.faults c.args.files.now) (g.F.Files.faults c.load.new.files))) c.in_err-parts.field-0.0 = machine_refused (FollowsForText HasCanonicalText) _ _ (λ r x p. TextRefused p) c.in_err-parts.ensures.refused in
+    let h : WhereAnswered (IsCorrectBy (FollowsForText HasCanonicalText) (call (Some (asked c.args.ask.now)) (g.F.Files.holds c.args.files.now) (g.F.Files.faults c.args.files.now) (g.F.Files.faults c.load.new.files))) c.in_err-parts.field-0.0 = machine_refused (FollowsForText HasCanonicalText) _ _ (λ r x p o. TextRefused p o) c.in_err-parts.ensures.refused in
     search rules
 
 pub returns-in-Ok-clause-ok : goal.returns-in-Ok-clause-ok

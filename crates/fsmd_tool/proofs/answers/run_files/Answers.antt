@@ -9,7 +9,7 @@ use Rattle.fsmd_tool.proofs.answers.run_files.Goals as goal
 
 pub returns-in_err-machine-clause-refused : goal.returns-in_err-machine-clause-refused
 returns-in_err-machine-clause-refused g c =
-    let h : WhereAnswered (IsCorrectBy (FollowsForRun c.args.steps) (call (Some (asked c.args.ask.now)) (g.F.Files.holds c.args.files.now) (g.F.Files.faults c.args.files.now) (g.F.Files.faults c.load_machine.new.files))) c.in_err-machine.field-0.0 = machine_refused (FollowsForRun c.args.steps) _ _ (λ r x p. MachineRefused p) c.in_err-machine.ensures.refused in
+    let h : WhereAnswered (IsCorrectBy (FollowsForRun c.args.steps) (call (Some (asked c.args.ask.now)) (g.F.Files.holds c.args.files.now) (g.F.Files.faults c.args.files.now) (g.F.Files.faults c.load_machine.new.files))) c.in_err-machine.field-0.0 = machine_refused (FollowsForRun c.args.steps) _ _ (λ r x p o. MachineRefused p o) c.in_err-machine.ensures.refused in
     search rules
 
 pub returns-clause-ok : goal.returns-clause-ok

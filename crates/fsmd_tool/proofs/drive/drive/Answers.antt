@@ -1,3 +1,6 @@
+use Rattle.std.proofs.Common.{◌≡◌, refl}
+use Rattle.command_answers.specs.declared.answer.Status.TheVariants.{NoMemory, Fine, Differ, Undecided, Fault}
+use Rattle.fsmd_tool.specs.Correct.{Starves}
 use Rattle.fsmd_tool.proofs.Says.{says_same, says_differ, says_undecided, is_checked}
 use Rattle.fsmd_tool.proofs.Causes.{has_cause}
 use Rattle.fsmd_tool.proofs.drive.drive.Goals as goal
@@ -16,3 +19,21 @@ returns-in-Ok-clause-checked g c = is_checked _ _ _ c.in-Ok.ensures.answered
 
 pub returns-in-Ok-clause-fault : goal.returns-in-Ok-clause-fault
 returns-in-Ok-clause-fault g c = has_cause _ _ _ c.in-Ok.ensures.answered
+
+pub returns-in-Err-clause-outcome : goal.returns-in-Err-clause-outcome
+returns-in-Err-clause-outcome g c = Starves (record { status = refl; got = c.in-Err.ensures.err; files = c.in-Err.ensures.unwritten })
+
+pub returns-in-Err-clause-equivalent : goal.returns-in-Err-clause-equivalent
+returns-in-Err-clause-equivalent g c = λ e t. absurd (let h : NoMemory ≡ Fine = e in cc)
+
+pub returns-in-Err-clause-differ : goal.returns-in-Err-clause-differ
+returns-in-Err-clause-differ g c = λ e t. absurd (let h : NoMemory ≡ Differ = e in cc)
+
+pub returns-in-Err-clause-undecided : goal.returns-in-Err-clause-undecided
+returns-in-Err-clause-undecided g c = λ e t. absurd (let h : NoMemory ≡ Undecided = e in cc)
+
+pub returns-in-Err-clause-checked : goal.returns-in-Err-clause-checked
+returns-in-Err-clause-checked g c = λ e t. absurd (let h : NoMemory ≡ Fine = e in cc)
+
+pub returns-in-Err-clause-fault : goal.returns-in-Err-clause-fault
+returns-in-Err-clause-fault g c = λ e. absurd (let h : NoMemory ≡ Fault = e in cc)

@@ -8,7 +8,7 @@ use Rattle.fsmd_tool.proofs.pair.load_pair.Goals as goal
 
 pub returns-in_err-left-clause-refused : goal.returns-in_err-left-clause-refused
 returns-in_err-left-clause-refused g c =
-    let h : WhereAnswered (IsCorrectBy RefusesPair (call (Some (asked c.args.ask.now)) (g.F.Files.holds c.args.files.now) (g.F.Files.faults c.args.files.now) (g.F.Files.faults c.load_machine.new.files))) c.in_err-left.field-0.0 = machine_refused RefusesPair _ _ (λ r x p. FirstRefused p) c.in_err-left.ensures.refused in
+    let h : WhereAnswered (IsCorrectBy RefusesPair (call (Some (asked c.args.ask.now)) (g.F.Files.holds c.args.files.now) (g.F.Files.faults c.args.files.now) (g.F.Files.faults c.load_machine.new.files))) c.in_err-left.field-0.0 = machine_refused RefusesPair _ _ (λ r x p o. FirstRefused p o) c.in_err-left.ensures.refused in
     search rules
 
 pub returns-in_err-right-clause-refused : goal.returns-in_err-right-clause-refused

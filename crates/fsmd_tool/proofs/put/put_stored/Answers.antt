@@ -1,8 +1,8 @@
 use Rattle.std.proofs.Common.{refl}
 use Rattle.fsmd_tool.specs.Puts.{put}
-use Rattle.fsmd_tool.specs.Stores.{entry, LeftStored, LeftUnstored}
+use Rattle.fsmd_tool.specs.Stores.{entry, LeftStored, LeftUnstored, Failed}
 use Rattle.fsmd_tool.specs.Correct.{Stored}
-use Rattle.fsmd_tool.proofs.Putting.{unstored}
+use Rattle.fsmd_tool.proofs.Putting.{unstored, on_err}
 use Rattle.fsmd_tool.proofs.put.put_stored.Goals as goal
 
 pub returns-in-Ok-clause-ok : goal.returns-in-Ok-clause-ok
@@ -21,3 +21,8 @@ pub returns-in-Err-Failed-clause-leaves : goal.returns-in-Err-Failed-clause-leav
 returns-in-Err-Failed-clause-leaves g c =
     let failed = rw c.in-Err-Failed.field-0-is at c.in-Err-Failed.ensures.failed in
     LeftUnstored (entry c.args.item.now.name.now c.args.item.now.bytes.now) refl (record { failed = failed; others = c.in-Err-Failed.ensures.others })
+
+pub returns-in-Err-Failed-clause-unstored : goal.returns-in-Err-Failed-clause-unstored
+returns-in-Err-Failed-clause-unstored g c =
+    let failed = rw c.in-Err-Failed.field-0-is at c.in-Err-Failed.ensures.failed in
+    on_err c.put_unstored.result _ (Failed (entry c.args.item.now.name.now c.args.item.now.bytes.now) refl (record { failed = failed; others = c.in-Err-Failed.ensures.others }))

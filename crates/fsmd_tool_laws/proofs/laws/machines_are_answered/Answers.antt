@@ -1,4 +1,4 @@
-use Rattle.fsmd_tool_laws.proofs.Correct.{machines_checked, certificate_judged, loops_answered}
+use Rattle.fsmd_tool_laws.proofs.Correct.{machines_checked, certificate_judged, loops_answered, run_answered, replay_answered, fmt_answered, cuts_answered}
 use Rattle.fsmd_tool_laws.proofs.Certificates.{ReadInOneWay}
 use Rattle.fsmd_tool_laws.proofs.laws.machines_are_answered.Goals as goal
 
@@ -12,3 +12,15 @@ returns-clause-verify c =
 
 pub returns-clause-generate : goal.returns-clause-generate
 returns-clause-generate c = loops_answered
+
+pub returns-clause-run : goal.returns-clause-run
+returns-clause-run c = run_answered
+
+pub returns-clause-replay : goal.returns-clause-replay
+returns-clause-replay c = replay_answered
+
+pub returns-clause-fmt : goal.returns-clause-fmt
+returns-clause-fmt c = fmt_answered
+
+pub returns-clause-cuts : goal.returns-clause-cuts
+returns-clause-cuts c = cuts_answered
