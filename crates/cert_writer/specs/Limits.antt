@@ -16,3 +16,7 @@ units_of (n ∷ ns) = size_of_fact n.fact + units_of ns
 -- the most bytes of a certificate
 abbrev pub most_bytes : List (Node Fact) → ℕ
 most_bytes ns = 64 + 200 * length ns + 44 * equation_count ns + 47 * units_of ns
+
+-- the most bytes of a file of a certificate
+abbrev pub most_certificate_bytes : ℕ
+most_certificate_bytes = 268435456

@@ -13,6 +13,7 @@ use Rattle.fs_pair.specs.Interfaces.{interface_fault}
 use Rattle.bisimulation.specs.Tables.{Node}
 use Rattle.sym_facts.specs.Facts.{Fact}
 use Rattle.certificates.specs.Lawful.{IsLawful}
+use Rattle.cert_writer.specs.Limits.{most_certificate_bytes}
 use Rattle.cert_text.specs.declared.faults.CertError.{CertError}
 use Rattle.cert_text.specs.declared.faults.CertError.TheVariants as cert_errors
 use Rattle.cert_text.specs.Refusals.{SpellsNodes, IsRefused as IsRefusedFor}
@@ -21,7 +22,7 @@ use Rattle.command_answers.specs.declared.answer.Operand.TheVariants.{First, Sec
 use Rattle.command_answers.specs.declared.answer.Answer.{Answer}
 use Rattle.command_answers.specs.declared.answer.Answer.TheVariants.{CannotRead, TooLong, TextRefused, CheckRefused, NotJson, InputRefused, CertRefused, Interfaces}
 use Rattle.command_answers.specs.Lines.{HasLines}
-use Rattle.command_answers.specs.Texts.{most_certificate_bytes, IsTooLong, SpellsMachine, IsMachine, HasTextFault, HasCheckFault}
+use Rattle.command_answers.specs.Texts.{IsTooLong, SpellsMachine, IsMachine, HasTextFault, HasCheckFault}
 use Rattle.command_answers.specs.Readings.{Content, Unreadable, OfBytes, Reading, OnlyFirst, OnlyTwo}
 
 -- the bytes of a file were not read: it failed to be read, or has more bytes than a limit

@@ -10,10 +10,6 @@ use Rattle.fs_rules.specs.declared.check.CheckFault.{CheckFault}
 use Rattle.fs_ast.specs.Spelled.{machine_of}
 use Rattle.fs_ast.specs.Rules.{IsLawful, IsFirstBroken}
 
--- the most bytes of a certificate that are read
-abbrev pub most_certificate_bytes : ℕ
-most_certificate_bytes = 268435456
-
 -- there are more bytes than are read
 abbrev pub IsTooLong : (limit : ℕ) → List ℕ → Type 0
 IsTooLong limit bytes = limit < length bytes

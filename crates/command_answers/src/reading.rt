@@ -10,10 +10,10 @@ ghost use Rattle.fs_runs.specs.InputValues.{Signature, signatures_of, inputs_of,
 ghost use Rattle.fs_inputs.specs.Refusals.{IsRefused};
 ghost use Rattle.fs_pair.specs.Positions.{positions};
 ghost use Rattle.certificates.specs.View.{node_of};
+ghost use Rattle.cert_writer.specs.Limits.{most_certificate_bytes};
 ghost use Rattle.cert_text.specs.Refusals.{IsRefused as IsRefusedFor};
 ghost use Rattle.command_answers.specs.declared.answer.Answer.TheVariants.{InputRefused};
 ghost use Rattle.command_answers.specs.declared.refused.Refused.TheVariants.{Answered};
-ghost use Rattle.command_answers.specs.Texts.{most_certificate_bytes};
 ghost use Rattle.command_answers.specs.Readings.{Readable};
 ghost use Rattle.command_answers.specs.Refusals.{signatures, RefusesMachine, RefusesInputs, SpellsInputs, RefusesCertificate, SpellsCertificate};
 ghost use Rattle.command_answers.specs.Refusing.{WhereAnswered, IsLoaded, RefusesBytes};

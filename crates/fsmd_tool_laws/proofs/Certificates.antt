@@ -9,6 +9,7 @@ use Rattle.sym_facts.specs.Facts.{Fact}
 use Rattle.term_values.specs.Names.{Find}
 use Rattle.cert_json.specs.Refusals.{IsJson, HasOtherShape, HasTooMany}
 use Rattle.cert_json.specs.Shape.{is_file, has_too_many}
+use Rattle.cert_writer.specs.Limits.{most_certificate_bytes}
 use Rattle.cert_text.specs.declared.faults.CertError.{CertError}
 use Rattle.cert_text.specs.declared.faults.CertError.TheVariants.{NotJson, Shape, UnknownState, NotCutpoint, UnknownName, SortOf, NotSolved, TwiceNode, NumberTooBig, TooMany, NoMemory, BadTerm, NotNormal}
 use Rattle.cert_text.specs.Parts.{format_in}
@@ -19,7 +20,6 @@ use Rattle.cert_text.specs.Refusals.{file_read, SpellsNodes, BreaksFirst, IsRefu
 use Rattle.command_answers.specs.declared.answer.Operand.{Operand}
 use Rattle.command_answers.specs.declared.answer.Answer.{Answer}
 use Rattle.command_answers.specs.declared.answer.Answer.TheVariants.{CertRefused}
-use Rattle.command_answers.specs.Texts.{most_certificate_bytes}
 use Rattle.command_answers.specs.Readings.{Content, OfBytes}
 use Rattle.command_answers.specs.Refusals.{IsUnread, SpellsCertificate, HasCertFault, RefusesCertificate, UnreadCertificate, ByCertificate}
 use Rattle.command_answers.specs.Verdicts.{IsJudged}

@@ -4,6 +4,7 @@ use Rattle.std.specs.Prelude.{codes}
 use Rattle.fs_model.specs.Machines.{Fsmd}
 use Rattle.bisimulation.specs.Tables.{Node}
 use Rattle.sym_facts.specs.Facts.{Fact}
+use Rattle.cert_writer.specs.Limits.{most_certificate_bytes}
 use Rattle.cert_text.specs.Refusals.{SpellsNodes}
 use Rattle.cert_writer.specs.Written.{certificate_text}
 use Rattle.search.specs.Answers.{machines, IsClosedWith}
@@ -11,7 +12,6 @@ use Rattle.command_answers.specs.declared.answer.Operand.TheVariants.{Third}
 use Rattle.command_answers.specs.declared.answer.Answer.{Answer}
 use Rattle.command_answers.specs.declared.answer.Answer.TheVariants.{Text}
 use Rattle.command_answers.specs.Words.{is_verify}
-use Rattle.command_answers.specs.Texts.{most_certificate_bytes}
 use Rattle.command_answers.specs.Refusals.{SpellsCertificate}
 use Rattle.fsmd_tool.specs.Calls.{Call}
 use Rattle.fsmd_tool.specs.Correct.{IsCorrectAnswer}

@@ -19,7 +19,7 @@ use Rattle.sym_paths.specs.Execution.{arrive, end_of}
 use Rattle.sym_facts.specs.Facts.{Fact, vector_of, size_of_equation, size_of_equations, size_of_fact}
 use Rattle.sym_facts.specs.Pairings.{IsFactOf}
 use Rattle.sym_facts.specs.Starts.{zero_of, start_form, partner_in, start_position, start_fact}
-use Rattle.cert_writer.specs.Limits.{equation_count, units_of, most_bytes}
+use Rattle.cert_writer.specs.Limits.{equation_count, units_of, most_bytes, most_certificate_bytes}
 use Rattle.cert_writer.specs.Written.{certificate_text}
 use Rattle.search_tables.specs.declared.moves.Move.{Move}
 use Rattle.search_tables.specs.Tables.{Machines, positions_of, Node, Table, units, most_units, start_node, first_table}
@@ -29,7 +29,6 @@ use Rattle.search_tables.specs.Certifying.{table_node}
 use Rattle.search_tables.proofs.Changing.{next_does, arrives_so}
 use Rattle.search.specs.Answers.{most_positions, machines, IsClosedWith}
 use Rattle.search.proofs.FewPositions.{filter_short, few_positions}
-use Rattle.search_laws.specs.Limits.{most_text_bytes}
 
 -- ---- equations
 
@@ -93,7 +92,7 @@ module _ (m : Machines) (few : length (positions_of m) ≤ 256) where
 in_all : (nodes equations units bytes : ℕ) → nodes ≤ 4096 → equations ≤ 256 * nodes → units ≤ 4000000 → bytes ≤ 64 + 200 * nodes + 44 * equations + 47 * units → bytes ≤ 268435456
 in_all nodes equations units bytes n e u h = omega (arith, n, e, u, h)
 
-pub small : (a b : Fsmd) (nodes : List (CertificateNode Fact)) → IsClosedWith (machines a b) nodes → length (certificate_text a b nodes) ≤ most_bytes nodes → length (certificate_text a b nodes) ≤ most_text_bytes
+pub small : (a b : Fsmd) (nodes : List (CertificateNode Fact)) → IsClosedWith (machines a b) nodes → length (certificate_text a b nodes) ≤ most_bytes nodes → length (certificate_text a b nodes) ≤ most_certificate_bytes
 small a b nodes h short =
     let m = machines a b in
     let few : length (positions a b) ≤ 256 = few_positions a b h.left_sound h.right_sound in

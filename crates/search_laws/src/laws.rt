@@ -5,17 +5,17 @@ ghost use Rattle.fs_model.specs.Machines.{Fsmd};
 ghost use Rattle.bisimulation.specs.Tables.{Node};
 ghost use Rattle.sym_facts.specs.Facts.{Fact};
 ghost use Rattle.certificates.specs.Lawful.{IsLawful};
+ghost use Rattle.cert_writer.specs.Limits.{most_certificate_bytes};
 ghost use Rattle.cert_writer.specs.Written.{certificate_text};
 ghost use Rattle.cert_text.specs.Refusals.{SpellsNodes};
 ghost use Rattle.search.specs.Answers.{machines, IsClosedWith};
-ghost use Rattle.search_laws.specs.Limits.{most_text_bytes};
 
 use cert_laws::laws::{texts_of_certificates_are_files, written_certificates_are_read};
 
 /// The text of the certificate of a closed search has at most 268,435,456 bytes: the table has at most 4,096 nodes and 4,000,000 units, and a
 /// node at most 256 equations.
 pub fn certificates_of_closed_searches_are_small()
-    ensures { (a b : Fsmd) (nodes : List (Node Fact)) → IsClosedWith (machines a b) nodes → length (certificate_text a b nodes) ≤ most_text_bytes }
+    ensures { (a b : Fsmd) (nodes : List (Node Fact)) → IsClosedWith (machines a b) nodes → length (certificate_text a b nodes) ≤ most_certificate_bytes }
 {
     texts_of_certificates_are_files();
 }
