@@ -14,7 +14,7 @@ use Rattle.search_places.specs.declared.pairs.PointPair.{PointPair}
 use Rattle.search_places.specs.declared.entry.Item.{Item}
 use Rattle.search_places.specs.declared.entry.Entry.{Entry}
 use Rattle.search_places.specs.Pairs.{same_pair}
-use Rattle.search_places.specs.Lines.{Line, line_of, lines_in, table_of}
+use Rattle.search_places.specs.Lines.{line_of, lines_in, table_of}
 use Rattle.search_places.specs.Changes.{StandsAt, fresh, Puts}
 use Rattle.search_places.proofs.Lists.{get_map}
 

@@ -2,3 +2,4 @@ pub mod Lists
 pub mod Finding
 pub mod Values
 pub mod Orders
+pub mod Moved

@@ -3,3 +3,4 @@ pub mod Lines
 pub mod Changes
 pub mod Order
 pub mod View
+pub mod Moves

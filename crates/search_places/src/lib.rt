@@ -2,6 +2,7 @@
 #![tactic(auto)]
 
 pub mod entry;
+pub mod moves;
 pub mod nodes;
 pub mod pairs;
 pub mod waiting;

@@ -36,7 +36,7 @@ fn number_of(p: Point) -> u64
     match p {
         Point::Start => 0,
         Point::Done => 1,
-        Point::At(state) => state.0 as u64 + 2,
+        Point::At(state) => u64::from(state.0) + 2,
     }
 }
 

@@ -1,5 +1,5 @@
 -- A turn at a move that keeps the table: its item no longer waits.
-use Rattle.std.proofs.Common.{◌≡◌, ℕ, zero, suc, ◌+◌, ◌<◌, ◌⊎◌, inl, inr, refl, sym, ◌∙◌, ap, subst, arith, true, false, List, [], ◌∷◌, ◌++◌, length, map, Some, None, Ok}
+use Rattle.std.proofs.Common.{◌≡◌, ℕ, zero, suc, ◌<◌, ◌⊎◌, inl, inr, refl, sym, ◌∙◌, ap, subst, arith, true, List, [], ◌∷◌, ◌++◌, length, map, Some, None, Ok}
 use Rattle.std.proofs.lemmas.List.{length-map}
 use Rattle.std.proofs.lemmas.Option.{slice_get_within}
 use Rattle.std.specs.Prelude.{◌≢◌, slice_get, slice_set, sum_by, Result}
@@ -20,12 +20,12 @@ use Rattle.search_places.proofs.Lists.{get_snoc, get_map, get_map_back, set_same
 use Rattle.search_worklist.specs.declared.state.State.{State}
 use Rattle.search_worklist.specs.declared.trial.Trial.{Trial}
 use Rattle.search_worklist.specs.declared.trial.Trial.TheVariants as tried
-use Rattle.search_worklist.specs.Moves.{paths_at}
+use Rattle.search_places.specs.Moves.{paths_at}
 use Rattle.search_worklist.specs.Trials.{Tries, TriesAt}
 use Rattle.search_worklist.specs.Turns.{IsTurned, IsMoveAt, NoMoveAt}
 use Rattle.search_worklist.specs.Waiting.{IsEntailed, Arrives, IsSettled, IsWaiting}
 use Rattle.search_worklist.specs.States.{lines, Ready, IsReady, weight, work_of}
-use Rattle.search_worklist.proofs.Moved.{again}
+use Rattle.search_places.proofs.Moved.{again}
 use Rattle.search_worklist.proofs.Keeping.{Lists, lists_none, lists_one, lists_this, move_done}
 use Rattle.search_worklist.proofs.Found.{weight_set, apart}
 
@@ -89,17 +89,23 @@ module _ (m : Machines) (ls ls' : List Line) (w w2 : BTreeSet Item) (n : ℕ) (r
 
 -- ---- what settles an item
 -- the move of an item is the one that was tried
+same_moves : (t l : Line) (xs ys : List Move) → t ≡ l → t.moves ≡ Some xs → l.moves ≡ Some ys → xs ≡ ys
+same_moves t l xs ys e g h = let k = ap (λ (q : Line). q.moves) e in cc
+
+same_paths : (m : Machines) (i : ℕ) (n : Node) (mode : Mode) (p : ℕ) (x y : Paths) (at : Move) → slice_get (paths_in m n mode) p ≡ Some x → slice_get (paths_in m n mode) p ≡ Some y → move_by i y ≡ at → (move_by i x ≡ at) × (paths_at m n at ≡ x)
+same_paths m i n mode p x y at g h e =
+    let same : y ≡ x = cc in
+    let is : move_by i x ≡ at = sym (ap (move_by i) same) ∙ e in
+    (is, ap (paths_at m n) (sym is) ∙ again m i n mode p x g)
+
 chosen : (m : Machines) (ls : List Line) (y : Item) (at : Move) (t : IsMoveAt ls y at) (l : Line) (mode : Mode) (x : Paths) (p : ℕ) → y.place ≡ suc p → slice_get ls y.node ≡ Some l → l.moves ≡ Some (map (move_by y.node) (paths_in m l.node mode)) → slice_get (paths_in m l.node mode) p ≡ Some x
     → (move_by y.node x ≡ at) × (paths_at m l.node at ≡ x)
 chosen m ls y at t l mode x p e g h z =
     let line : t.line ≡ l = (let a = t.is_in in cc) in
-    let known : t.moves ≡ map (move_by y.node) (paths_in m l.node mode) = (let a : Some t.moves ≡ Some (map (move_by y.node) (paths_in m l.node mode)) = sym t.known ∙ ap (λ (q : Line). q.moves) line ∙ h in cc) in
+    let known = same_moves t.line l t.moves (map (move_by y.node) (paths_in m l.node mode)) line t.known h in
     let number : t.number ≡ p = (let a = t.place in omega (arith, a, e)) in
-    let found : slice_get (map (move_by y.node) (paths_in m l.node mode)) p ≡ Some at = subst (λ xs. slice_get xs p ≡ Some at) known (subst (λ i. slice_get t.moves i ≡ Some at) number t.listed) in
-    let b = get_map_back (move_by y.node) (paths_in m l.node mode) p at found in
-    let same : b.0 ≡ x = (let a = b.1 in cc) in
-    let is : move_by y.node x ≡ at = ap (move_by y.node) (sym same) ∙ b.2 in
-    (is, ap (paths_at m l.node) (sym is) ∙ again m y.node l.node mode p x z)
+    let b = get_map_back (move_by y.node) (paths_in m l.node mode) p at (subst (λ xs. slice_get xs p ≡ Some at) known (subst (λ i. slice_get t.moves i ≡ Some at) number t.listed)) in
+    same_paths m y.node l.node mode p x b.0 at z b.1 b.2
 
 -- what settles an item, for each way in which its move may be named
 abbrev pub Settles : (m : Machines) (ls ls' : List Line) (y : Item) (p : ℕ) → Type 0

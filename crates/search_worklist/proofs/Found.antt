@@ -17,7 +17,7 @@ use Rattle.search_places.specs.Changes.{SetsMoves}
 use Rattle.search_places.specs.Order.{waits, AddsMoves, Drops}
 use Rattle.search_places.proofs.Lists.{set_same, set_other, same_or_not}
 use Rattle.search_worklist.specs.declared.state.State.{State}
-use Rattle.search_worklist.specs.Moves.{most_moves}
+use Rattle.search_places.specs.Moves.{most_moves}
 use Rattle.search_worklist.specs.Turns.{IsTurned}
 use Rattle.search_worklist.specs.Waiting.{Arrives, IsWaiting}
 use Rattle.search_worklist.specs.States.{lines, Ready, IsReady, weight, work_of}

@@ -24,11 +24,11 @@ use Rattle.search_tables.specs.declared.moves.Move.{Move}
 use Rattle.search_tables.specs.declared.outcome.Budget.{Budget}
 use Rattle.search_tables.specs.declared.outcome.Budget.TheVariants.{Nodes, Units}
 use Rattle.search_tables.specs.Tables.{Machines, positions_of, Node, Table, units, most_units, Unknown, Known, target_of, with_fact, TooWide, TooLarge, Effect, Keeps, Changes, Meets, Exceeds, within_units, added, weakened, compared, looked_up, arrived, Paths, effect}
-use Rattle.search_tables.specs.Next.{mode_at, paths_in, move_by, path_at, Next, Nothing, Change, Stop, Excess, next_by, next_in, or_next, next}
+use Rattle.search_tables.specs.Next.{mode_at, path_at, next_by, or_next, next}
 use Rattle.search_tables.specs.Legal.{stuck}
 use Rattle.search_tables.proofs.Forming.{known_in}
 use Rattle.search_places.specs.declared.entry.Item.{Item}
-use Rattle.search_places.specs.Lines.{Line, node, item, table_of}
+use Rattle.search_places.specs.Lines.{Line, node, table_of}
 use Rattle.search_places.specs.Order.{IsLeast}
 use Rattle.search_worklist.specs.declared.ends.End.{End}
 use Rattle.search_worklist.specs.declared.ends.End.TheVariants as end
@@ -37,12 +37,12 @@ use Rattle.search_worklist.specs.declared.trial.Trial.{Trial}
 use Rattle.search_worklist.specs.declared.trial.Trial.TheVariants as tried
 use Rattle.search_worklist.specs.declared.turns.Step.TheVariants as step
 use Rattle.search_worklist.specs.Ends.{EndsSo}
-use Rattle.search_worklist.specs.Moves.{path_in, paths_at}
+use Rattle.search_places.specs.Moves.{path_in, paths_at}
 use Rattle.search_worklist.specs.Puts.{put_by, put, changed}
 use Rattle.search_worklist.specs.Trials.{GivesChange, Gives, IsMet, TellsChange, Tells, Tries, TriesAt}
 use Rattle.search_worklist.specs.Turns.{IsNext, IsEndAt, IsMoveAt}
 use Rattle.search_worklist.specs.Waiting.{arrival, IsWaiting}
-use Rattle.search_worklist.proofs.Moved.{again}
+use Rattle.search_places.proofs.Moved.{again}
 use Rattle.search_worklist.proofs.Least.{Comes, mode_next, move_next}
 use Rattle.search_worklist.proofs.Finished.{same_line}
 

@@ -1,5 +1,5 @@
 -- What comes next is found at the least item that waits.
-use Rattle.std.proofs.Common.{◌≡◌, ℕ, zero, suc, ◌+◌, ◌<◌, ◌⊎◌, inl, inr, refl, ◌∙◌, ap, sym, subst, arith, Bool, true, false, cond, List, [], ◌∷◌, drop, map, Some}
+use Rattle.std.proofs.Common.{◌≡◌, ℕ, zero, suc, ◌+◌, ◌<◌, ◌⊎◌, inl, inr, refl, ◌∙◌, ap, subst, arith, Bool, true, false, cond, List, [], ◌∷◌, drop, map, Some}
 use Rattle.std.specs.Prelude.{slice_get}
 use Rattle.fs_cut.specs.Paths.{Point}
 use Rattle.fs_pair.specs.declared.positions.Position.{Position}
@@ -7,9 +7,8 @@ use Rattle.bisimulation.specs.declared.mode.Mode.{Mode}
 use Rattle.nf_terms.specs.Computed.{Done}
 use Rattle.nf_rel.specs.Literals.{is_refuted}
 use Rattle.sym_paths.specs.Execution.{Post, end_of}
-use Rattle.sym_facts.specs.Entailment.{entails, is_nothing}
 use Rattle.propagate.specs.Joins.{join}
-use Rattle.propagate.specs.Modes.{Traced}
+use Rattle.propagate.specs.Modes.{Traced, Found}
 use Rattle.search_tables.specs.declared.moves.Move.{Move}
 use Rattle.search_tables.specs.Tables.{Machines, positions_of, Node, Table, target_of, compared, looked_up, weakened, Keeps, arrived, Paths, effect}
 use Rattle.search_tables.specs.Next.{Next, Nothing, mode_at, paths_in, move_by, next_by, first_of, next_in, next_at, or_next, next_from, next}
@@ -17,7 +16,7 @@ use Rattle.search_places.specs.declared.entry.Item.{Item}
 use Rattle.search_places.specs.Lines.{Line, item, table_of}
 use Rattle.search_places.specs.Order.{IsLeast}
 use Rattle.search_places.proofs.Lists.{get_map, get_map_back}
-use Rattle.search_worklist.specs.Waiting.{arrival, IsEntailed, IsSettled, IsWaiting}
+use Rattle.search_worklist.specs.Waiting.{IsEntailed, IsSettled, IsWaiting}
 
 -- a post that entails the fact of its target keeps the table
 entailed_keeps : (ps : List Position) (T : Table) (P Q : Point) (post : Post) (k : ℕ) → is_refuted post.conditions ≡ false → IsEntailed T P Q post k → arrived ps T P Q (Done post) ≡ Keeps
@@ -122,25 +121,29 @@ module _ (m : Machines) (ls : List Line) (waits : Item → Bool) (w : IsWaiting 
     pub is : move_by i paths ≡ at
     pub comes : Comes m (table_of ls) (λ rest. next_by at (effect m (table_of ls) n paths) rest)
 
-  pub move_next : (i p : ℕ) (l : Line) (xs : List Move) (at : Move) → IsLeast waits i (suc p) → slice_get ls i ≡ Some l → l.moves ≡ Some xs → slice_get xs p ≡ Some at → Chosen i p l.node at
-  move_next i p l xs at least g k z =
+  chosen_by : (i p : ℕ) (l : Line) (mode : Mode) (x : Paths) (at : Move) → IsLeast waits i (suc p) → slice_get ls i ≡ Some l → mode_at m l.node ≡ Found mode → slice_get (paths_in m l.node mode) p ≡ Some x → move_by i x ≡ at
+      → ((q : ℕ) (y : Paths) → q < p → slice_get (paths_in m l.node mode) q ≡ Some y → effect m (table_of ls) l.node y ≡ Keeps) → Chosen i p l.node at
+  chosen_by i p l mode x at least g found listed is keeps =
       let T = table_of ls in
-      let r = w.rests i l g (least.of_same 0 (omega arith)) in
-      let same : xs ≡ map (move_by i) (paths_in m l.node r.mode) = (let a = r.listed in cc) in
-      let b = get_map_back (move_by i) (paths_in m l.node r.mode) p at (subst (λ ys. slice_get ys p ≡ Some at) same z) in
-      let x = b.0 in
-      let rest = first_of m T i l.node (drop (suc p) (paths_in m l.node r.mode)) in
+      let rest = first_of m T i l.node (drop (suc p) (paths_in m l.node mode)) in
       record {
-        mode = r.mode;
+        mode = mode;
         paths = x;
-        listed = b.1;
-        is = b.2;
+        listed = listed;
+        is = is;
         comes = record {
           rest = rest;
           after = later i;
           is = least_next i (suc p) l least g
-              ∙ ap (λ q. or_next (next_in m T i l.node q) (later i)) r.found
-              ∙ ap (λ q. or_next q (later i)) (pass_moves m T i l.node (paths_in m l.node r.mode) p x b.1 (λ q y lt u. keeps_by l.node y (item i (suc q)) (least.of_same (suc q) (omega arith)) (r.each q y u)))
-              ∙ ap (λ a. or_next (next_by a (effect m T l.node x) rest) (later i)) b.2;
+              ∙ ap (λ r. or_next (next_in m T i l.node r) (later i)) found
+              ∙ ap (λ r. or_next r (later i)) (pass_moves m T i l.node (paths_in m l.node mode) p x listed keeps)
+              ∙ ap (λ a. or_next (next_by a (effect m T l.node x) rest) (later i)) is;
         };
       }
+
+  pub move_next : (i p : ℕ) (l : Line) (xs : List Move) (at : Move) → IsLeast waits i (suc p) → slice_get ls i ≡ Some l → l.moves ≡ Some xs → slice_get xs p ≡ Some at → Chosen i p l.node at
+  move_next i p l xs at least g k z =
+      let r = w.rests i l g (least.of_same 0 (omega arith)) in
+      let same : xs ≡ map (move_by i) (paths_in m l.node r.mode) = (let a = r.listed in cc) in
+      let b = get_map_back (move_by i) (paths_in m l.node r.mode) p at (subst (λ ys. slice_get ys p ≡ Some at) same z) in
+      chosen_by i p l r.mode b.0 at least g r.found b.1 b.2 (λ q y lt u. keeps_by l.node y (item i (suc q)) (least.of_same (suc q) (omega arith)) (r.each q y u))

@@ -1,5 +1,4 @@
 pub mod Lookups
-pub mod Moved
 pub mod Least
 pub mod Keeping
 pub mod Found

@@ -1,5 +1,5 @@
 -- How the moves of a search end.
-use Rattle.std.specs.Prelude.{◌≡◌, List, map, None}
+use Rattle.std.specs.Prelude.{◌≡◌, None}
 use Rattle.std.specs.List.{AllByRecursion}
 use Rattle.sym_facts.specs.Pairings.{IsFactOf}
 use Rattle.search_tables.specs.Tables.{Machines, Table, positions_of}

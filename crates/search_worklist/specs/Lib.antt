@@ -1,6 +1,5 @@
 pub mod Ends
 pub mod View
-pub mod Moves
 pub mod Puts
 pub mod Waiting
 pub mod States

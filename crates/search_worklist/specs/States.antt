@@ -10,7 +10,7 @@ use Rattle.search_places.specs.declared.entry.Item.{Item}
 use Rattle.search_places.specs.Lines.{Line, item, lines_in, table_of}
 use Rattle.search_places.specs.Order.{waits}
 use Rattle.search_worklist.specs.declared.state.State.{State}
-use Rattle.search_worklist.specs.Moves.{most_moves}
+use Rattle.search_places.specs.Moves.{most_moves}
 use Rattle.search_worklist.specs.Waiting.{Arrives, IsWaiting}
 
 abbrev pub lines : State → List Line

@@ -11,7 +11,7 @@ use Rattle.search_tables.specs.Tables.{Machines, Node, Table, units, TooWide, To
 use Rattle.search_worklist.specs.declared.trial.Trial.{Trial}
 use Rattle.search_worklist.specs.declared.trial.Trial.TheVariants as tried
 use Rattle.search_places.specs.Lines.{Line, table_of}
-use Rattle.search_worklist.specs.Moves.{paths_at}
+use Rattle.search_places.specs.Moves.{paths_at}
 use Rattle.search_worklist.specs.Puts.{changed}
 use Rattle.search_worklist.specs.Waiting.{arrival, IsEntailed}
 

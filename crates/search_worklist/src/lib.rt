@@ -2,7 +2,6 @@
 #![tactic(auto)]
 
 pub mod ends;
-mod moves;
 mod outputs;
 pub mod run;
 mod sides;

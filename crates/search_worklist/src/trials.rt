@@ -15,7 +15,6 @@ ghost use Rattle.search_worklist.specs.Trials.{GivesChange, TellsChange, Tells, 
 ghost use Rattle.search_worklist.specs.States.{lines, table, IsMade};
 ghost use Rattle.search_worklist.specs.View.{machines_in};
 
-use crate::moves::path_by;
 use crate::sides::{Sides, left_paths, right_paths};
 use crate::state::State;
 use crate::trial::{Change, Trial};
@@ -24,6 +23,7 @@ use nf_terms::stop::NfStop;
 use propagate::joins::join;
 use propagate::rebases::rebase;
 use propagate::refutation::is_refuted;
+use search_places::moves::path_by;
 use search_places::nodes::{find, node_at};
 use search_tables::moves::Move;
 use search_tables::outcome::Budget;

@@ -9,8 +9,7 @@ ghost use Rattle.search_worklist.specs.Turns.{IsNext, IsTurned, IsEndAt, ModeFou
 ghost use Rattle.search_worklist.specs.View.{machines_in};
 
 use crate::ends::End;
-use crate::moves::moves;
-use crate::sides::Sides;
+use crate::sides::{Sides, left_paths, right_paths};
 use crate::state::State;
 use crate::trial::{Change, Trial};
 use crate::trials::try_move;
@@ -19,8 +18,8 @@ use nf_terms::stop::{NfStop, NoMemory};
 use nf_terms::tree::Side;
 use propagate::modes::{ModeStop, mode};
 use search_places::entry::Item;
+use search_places::moves::moves;
 use search_places::nodes::{list_arrival, node_at, set_moves};
-use search_places::pairs::PointPair;
 use search_places::waiting::{add_moves, least, remove};
 use search_tables::moves::Move;
 use std::alloc::Global;
@@ -76,7 +75,9 @@ fn list_moves(
     ensures { OnOk result (IsTurned (machines_in m.now) state.old state.new None) }
 {
     let points = node_at(&state.entries, node as usize).points;
-    let moves = moves(alloc, m, node, points, mode)?;
+    let lefts = left_paths(m, points.left);
+    let rights = right_paths(m, points.right);
+    let moves = moves(alloc, node, lefts, rights, mode)?;
     add_moves(&mut state.waiting, node, moves.len() as u32)?;
     remove(&mut state.waiting, Item { node, place: 0 });
     set_moves(&mut state.entries, node as usize, moves);

@@ -1,8 +1,7 @@
-use Rattle.std.proofs.Common.{◌≡◌, ◌<◌, ◌≤◌, ◌++◌, ◌∷◌, [], length, Some, None, ap, refl, sym, ◌∙◌, subst, arith}
+use Rattle.std.proofs.Common.{◌<◌, ◌≤◌, ◌++◌, ◌∷◌, [], length, ap, refl, sym, ◌∙◌, subst, arith}
 use Rattle.std.proofs.lemmas.Option.{slice_get_within}
 use Rattle.certificates.specs.Lawful.{most_nodes}
-use Rattle.search_tables.specs.Next.{Change, next}
-use Rattle.search_tables.specs.Legal.{Makes, stuck}
+use Rattle.search_tables.specs.Legal.{Makes}
 use Rattle.search_tables.proofs.Forming.{well_formed}
 use Rattle.fs_cut.specs.View.{point_of}
 use Rattle.search_worklist.specs.Ends.{EndsSo}

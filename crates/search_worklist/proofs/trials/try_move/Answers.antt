@@ -1,12 +1,12 @@
-use Rattle.std.proofs.Common.{◌≡◌, ap, map, true, false, sym, ◌∙◌, option_map}
-use Rattle.fs_cut.specs.View.{point_of, path_of}
+use Rattle.std.proofs.Common.{◌≡◌, ap, map, true, false, sym, ◌∙◌}
+use Rattle.fs_cut.specs.View.{point_of}
 use Rattle.nf_terms.specs.Computed.{Done}
 use Rattle.nf_rel.specs.Literals.{is_refuted}
 use Rattle.nf_rel.specs.View.{literal_in}
 use Rattle.sym_paths.specs.Execution.{end_of}
 use Rattle.sym_paths.specs.View.{post_in}
 use Rattle.search_places.specs.View.{standing_in}
-use Rattle.search_worklist.specs.Moves.{path_in, paths_at}
+use Rattle.search_places.specs.Moves.{path_in, paths_at}
 use Rattle.search_worklist.specs.States.{lines, table}
 use Rattle.search_worklist.specs.View.{machines_in}
 use Rattle.search_worklist.proofs.Legal.{left_point, right_point}

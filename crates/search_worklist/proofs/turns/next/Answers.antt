@@ -1,5 +1,4 @@
 use Rattle.std.proofs.Common.{subst}
-use Rattle.search_tables.specs.Next.{IsClosed}
 use Rattle.search_places.specs.Lines.{item}
 use Rattle.search_places.specs.Order.{waits}
 use Rattle.search_worklist.specs.declared.ends.End.TheVariants.{Closed}

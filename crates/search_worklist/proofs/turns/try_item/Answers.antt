@@ -1,6 +1,6 @@
 use Rattle.std.proofs.Common.{refl, subst, Ok, Err}
 use Rattle.search_places.specs.Order.{waits}
-use Rattle.search_worklist.specs.declared.trial.Trial.TheVariants.{Refuted, Entailed, Changes, Exceeds}
+use Rattle.search_worklist.specs.declared.trial.Trial.TheVariants.{Changes, Exceeds}
 use Rattle.search_worklist.specs.States.{lines}
 use Rattle.search_worklist.specs.Trials.{TriesAt}
 use Rattle.search_worklist.specs.View.{machines_in}

@@ -10,12 +10,11 @@ use Rattle.fs_cut.specs.Paths.{Point, Start, At, Done, Path}
 use Rattle.fs_cut.specs.Covers.{path_by, paths_of}
 use Rattle.bisimulation.specs.declared.mode.Mode.{Mode}
 use Rattle.bisimulation.specs.declared.mode.Mode.TheVariants.{Both, Left, Right, End}
-use Rattle.search_tables.specs.declared.moves.Move.{Move}
 use Rattle.search_tables.specs.Tables.{Machines, Node, Paths}
 use Rattle.search_tables.specs.Next.{paths_in, move_by}
 use Rattle.search_tables.proofs.Lists.{all_in, one_of, all_from, all_under, all_flat}
 use Rattle.search_places.proofs.Lists.{get_map_back}
-use Rattle.search_worklist.specs.Moves.{most_moves, move, rights_beside, lefts_alone, pairs, moves_by, paths_at}
+use Rattle.search_places.specs.Moves.{most_moves, move, rights_beside, lefts_alone, pairs, moves_by, paths_at}
 
 -- ---- each path of a point stands at the place of its branch
 range_at : (i n k j : ℕ) → slice_get (range_with_len i n) k ≡ Some j → j ≡ i + k

@@ -1,16 +1,13 @@
 //! The moves of a node.
 
-ghost use Rattle.std.specs.Prelude.{◌≡◌, ◌≤◌, ◌++◌, map, option_map, length, IsTrue, OnOk, IfOk};
-ghost use Rattle.fs_cut.specs.Paths.{is_point};
-ghost use Rattle.fs_cut.specs.Covers.{paths_of};
-ghost use Rattle.fs_cut.specs.View.{point_of, path_of};
-ghost use Rattle.search_worklist.specs.Moves.{rights_beside, lefts_alone, pairs, moves_by, path_in, most_moves};
+ghost use Rattle.std.specs.Prelude.{◌≡◌, ◌≤◌, ◌++◌, map, option_map, length, OnOk, IfOk};
+ghost use Rattle.fs_model.specs.Limits.{most_branches};
+ghost use Rattle.fs_cut.specs.View.{path_of};
+ghost use Rattle.search_places.specs.Moves.{rights_beside, lefts_alone, pairs, moves_by, path_in, most_moves};
 
-use crate::sides::{Sides, left_paths, right_paths};
 use bisimulation::mode::Mode;
-use fs_cut::cover::{Path, Point};
+use fs_cut::cover::Path;
 use nf_terms::stop::NoMemory;
-use search_places::pairs::PointPair;
 use search_tables::moves::Move;
 use std::alloc::Global;
 
@@ -80,21 +77,20 @@ fn push_moves(
     }
 }
 
-/// The moves of a node in a mode, in order of the left branch and then of the right one: at most 4,096. The one refusal is out of memory.
+/// The moves of a node in a mode by these paths of its points, in order of the left branch and then of the right one: at most 4,096. The
+/// one refusal is out of memory.
 pub fn moves(
     alloc: Global,
-    m: &Sides<'_>,
     node: u32,
-    points: PointPair,
+    lefts: &[Path],
+    rights: &[Path],
     mode: Mode,
 ) -> Result<Vec<Move>, NoMemory>
-    requires left { IsTrue (is_point m.now.left.now (point_of points.left)) }
-    requires right { IsTrue (is_point m.now.right.now (point_of points.right)) }
-    ensures moves { IfOk result (λ out. out.items ≡ moves_by node (paths_of m.now.left.now (point_of points.left)) (paths_of m.now.right.now (point_of points.right)) mode) }
+    requires few_left { length lefts.now ≤ most_branches }
+    requires few_right { length rights.now ≤ most_branches }
+    ensures moves { IfOk result (λ out. out.items ≡ moves_by node (map path_of lefts.now) (map path_of rights.now) mode) }
     ensures few { IfOk result (λ out. length out.items ≤ most_moves) }
 {
-    let lefts = left_paths(m, points.left);
-    let rights = right_paths(m, points.right);
     let mut out = Vec::new(alloc);
     push_moves(&mut out, node, lefts, rights, mode)?;
     Ok(out)
