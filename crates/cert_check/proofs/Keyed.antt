@@ -2,39 +2,15 @@
 use Rattle.std.proofs.Common.{◌≡◌, ℕ, ◌+◌, ◌==◌, Bool, true, false, not, ◌&&◌, ◌||◌, cond, Option, Some, None, List, [], ◌∷◌, ◌++◌, map, option_map, refl, ap, sym, subst, ◌∙◌, arith}
 use Rattle.std.specs.Map.{lookup}
 use Rattle.std.specs.List.{list_any}
-use Rattle.std.proofs.lemmas.Bool.{eqb-true, eq-eqb}
 use Rattle.indexmap.specs.IndexMap.{insert_entry}
-use Rattle.fs_cut.specs.Paths.{Point, Start, At, Done}
+use Rattle.fs_cut.specs.Paths.{Point}
 use Rattle.fs_cut.specs.Covers.{same_point}
 use Rattle.bisimulation.specs.Tables.{Node}
 use Rattle.sym_facts.specs.Facts.{Fact}
 use Rattle.certificates.specs.Lawful.{points_differ}
 use Rattle.certificates.specs.Obligations.{node_at}
-use Rattle.cert_check.specs.Keys.{number_of, key_of}
-
-decided : (a b : ℕ) (t : Bool) → (a ≡ b → t ≡ true) → (t ≡ true → a ≡ b) → (a == b) ≡ t
-decided a b t to from = by_values (a == b) t refl refl
-  where
-    by_values : (u w : Bool) → (a == b) ≡ u → t ≡ w → u ≡ w
-    by_values true true e f = refl
-    by_values true false e f = sym (to (eqb-true a b e)) ∙ f
-    by_values false true e f = sym e ∙ eq-eqb a b (from f)
-    by_values false false e f = refl
-
--- points are the same as their numbers are
-same_numbers : (P Q : Point) → (number_of P == number_of Q) ≡ same_point Q P
-same_numbers Start Start = refl
-same_numbers Start (At r) = decided 0 (r + 2) false (λ e. absurd (omega (arith, e))) (λ e. absurd (cc e))
-same_numbers Start Done = refl
-same_numbers (At q) Start = decided (q + 2) 0 false (λ e. absurd (omega (arith, e))) (λ e. absurd (cc e))
-same_numbers (At q) (At r) = decided (q + 2) (r + 2) (r == q) (λ e. eq-eqb r q (omega (arith, e))) (λ e. let f : r ≡ q = eqb-true r q e in omega (arith, f))
-same_numbers (At q) Done = decided (q + 2) 1 false (λ e. absurd (omega (arith, e))) (λ e. absurd (cc e))
-same_numbers Done Start = refl
-same_numbers Done (At r) = decided 1 (r + 2) false (λ e. absurd (omega (arith, e))) (λ e. absurd (cc e))
-same_numbers Done Done = refl
-
-abbrev pub same_key : ℕ × ℕ → ℕ × ℕ → Bool
-same_key a b = (a.0 == b.0) && (a.1 == b.1)
+use Rattle.machine_pairs.specs.Keys.{key_of}
+use Rattle.machine_pairs.proofs.Keys.{same_numbers, same_key}
 
 module _ {V : Type 0} (seen : V → Node Fact) where
   -- each node has the key of its points

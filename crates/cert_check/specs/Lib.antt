@@ -1,4 +1,3 @@
 pub mod Progress
-pub mod Keys
 pub mod Outputs
 pub mod View

@@ -5,33 +5,16 @@ ghost use Rattle.fs_cut.specs.View.{point_of};
 ghost use Rattle.certificates.specs.Lawful.{points_differ};
 ghost use Rattle.certificates.specs.Obligations.{node_at};
 ghost use Rattle.certificates.specs.View.{node_of};
-ghost use Rattle.cert_check.specs.Keys.{number_of, key_of};
+ghost use Rattle.machine_pairs.specs.Keys.{key_of};
 ghost use Rattle.cert_check.specs.View.{nodes_in};
 
 use crate::node_index::NodeIndex;
 use certificates::cert::Node;
 use fs_cut::cover::Point;
 use indexmap::IndexMap;
+use machine_pairs::keys::key_of;
 use nf_terms::stop::NoMemory;
 use std::alloc::Global;
-
-// The number of a point.
-fn number_of(point: Point) -> u64
-    ensures { result ≡ number_of (point_of point) }
-{
-    match point {
-        Point::Start => 0,
-        Point::Done => 1,
-        Point::At(state) => state.0 as u64 + 2,
-    }
-}
-
-// The key of two points.
-fn key_of(left: Point, right: Point) -> (u64, u64)
-    ensures { result ≡ key_of (point_of left) (point_of right) }
-{
-    (number_of(left), number_of(right))
-}
 
 /// The node at two points.
 pub fn node_at<'a>(index: &NodeIndex<'a>, left: Point, right: Point) -> Option<&'a Node>

@@ -2,7 +2,7 @@
 
 ghost use Rattle.std.specs.Prelude.{◌≡◌, map};
 ghost use Rattle.fs_cut.specs.View.{point_of};
-ghost use Rattle.cert_check.specs.Keys.{key_of};
+ghost use Rattle.machine_pairs.specs.Keys.{key_of};
 
 use certificates::cert::Node;
 use indexmap::IndexMap;

@@ -20,7 +20,7 @@ ghost use Rattle.cert_check.specs.Progress.{progress_from};
 ghost use Rattle.cert_check.specs.View.{verdict_in, progress_in, nodes_in, owed_in, moves_of, start_post, most_moves, most_owed, NumberUpTo};
 
 use crate::lookup::node_at;
-use crate::make_table::{paths, table_of};
+use crate::make_table::table_of;
 use crate::moves::{both_moves, judge_target, left_moves, right_moves};
 use crate::outputs::outputs;
 use crate::progress::{Progress, advance, verdict};
@@ -33,6 +33,7 @@ use certificates::reason::Reason;
 use fs_ast::machine::Machine;
 use fs_cut::cover::Point;
 use fs_pair::positions::Pairing;
+use machine_pairs::covers::paths;
 use nf_terms::stop::{NfStop, NoMemory};
 use std::alloc::Global;
 use sym_facts::start::start_fact;

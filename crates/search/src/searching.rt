@@ -14,8 +14,8 @@ ghost use Rattle.search.specs.Answers.{machines, Answers};
 
 use fs_ast::machine::Machine;
 use fs_cut::cover::Cover;
-use fs_cut::make_cover::cover;
 use fs_pair::positions::Pairing;
+use machine_pairs::covers::cover_of;
 use nf_terms::stop::NoMemory;
 use normal_certificates::kept::certificates_are_normal;
 use search_closing::closing::{Closing, close};
@@ -25,16 +25,6 @@ use search_tables::outcome::Outcome;
 use search_worklist::ends::{End, Ended};
 use search_worklist::run::run;
 use std::alloc::Global;
-
-// The cover of a machine. The one refusal is out of memory.
-fn cover_of(alloc: Global, m: &Machine) -> Result<Cover, NoMemory>
-    ensures { IfOk result (λ c. c ≡ cover_of m.now) }
-{
-    match cover(alloc, m) {
-        Ok(cover) => Ok(cover),
-        Err(_) => Err(NoMemory),
-    }
-}
 
 // The points of nodes, in order. The one refusal is out of memory.
 fn points_of(alloc: Global, nodes: &[TableNode]) -> Result<Vec<NodePoints>, NoMemory>

@@ -3,42 +3,19 @@ use Rattle.std.proofs.Common.{◌≡◌, ℕ, suc, ◌+◌, ◌<◌, ◌==◌, B
 use Rattle.std.specs.Prelude.{slice_get, position}
 use Rattle.std.specs.List.{list_any, position_from, slice_index_or}
 use Rattle.std.proofs.Math.Seq.{take-suc}
-use Rattle.std.proofs.lemmas.Bool.{eqb-true, eq-eqb}
 use Rattle.std.proofs.lemmas.List.{map-append, take-append-drop}
 use Rattle.std.proofs.lemmas.Iterator.Adapters.{position_from-zero}
 use Rattle.indexmap.specs.IndexSet.{insert_key}
-use Rattle.fs_cut.specs.Paths.{Point, Start, At, Done}
+use Rattle.fs_cut.specs.Paths.{Point}
 use Rattle.fs_cut.specs.Covers.{same_point}
 use Rattle.nf_terms.proofs.Tests.{and_left, and_right}
 use Rattle.search_tables.specs.declared.nodes.TableNode.{TableNode}
 use Rattle.search_tables.specs.View.{table_in, table_node_in}
 use Rattle.search_tables.specs.Tables.{Node, Table, Unknown, Known, is_at, target_from}
 use Rattle.search_tables.specs.WellFormed.{nodes_differ}
-use Rattle.search_closing.specs.Places.{number_of, key_of, keys_in, StandsAt}
-
-decided : (a b : ℕ) (t : Bool) → (a ≡ b → t ≡ true) → (t ≡ true → a ≡ b) → (a == b) ≡ t
-decided a b t to from = by_values (a == b) t refl refl
-  where
-    by_values : (u w : Bool) → (a == b) ≡ u → t ≡ w → u ≡ w
-    by_values true true e f = refl
-    by_values true false e f = sym (to (eqb-true a b e)) ∙ f
-    by_values false true e f = sym e ∙ eq-eqb a b (from f)
-    by_values false false e f = refl
-
--- points are the same as their numbers are
-same_numbers : (P Q : Point) → (number_of P == number_of Q) ≡ same_point Q P
-same_numbers Start Start = refl
-same_numbers Start (At r) = decided 0 (r + 2) false (λ e. absurd (omega (arith, e))) (λ e. absurd (cc e))
-same_numbers Start Done = refl
-same_numbers (At q) Start = decided (q + 2) 0 false (λ e. absurd (omega (arith, e))) (λ e. absurd (cc e))
-same_numbers (At q) (At r) = decided (q + 2) (r + 2) (r == q) (λ e. eq-eqb r q (omega (arith, e))) (λ e. let f : r ≡ q = eqb-true r q e in omega (arith, f))
-same_numbers (At q) Done = decided (q + 2) 1 false (λ e. absurd (omega (arith, e))) (λ e. absurd (cc e))
-same_numbers Done Start = refl
-same_numbers Done (At r) = decided 1 (r + 2) false (λ e. absurd (omega (arith, e))) (λ e. absurd (cc e))
-same_numbers Done Done = refl
-
-abbrev pub same_key : ℕ × ℕ → ℕ × ℕ → Bool
-same_key a b = (a.0 == b.0) && (a.1 == b.1)
+use Rattle.machine_pairs.specs.Keys.{key_of}
+use Rattle.machine_pairs.proofs.Keys.{same_numbers, same_key}
+use Rattle.search_closing.specs.Places.{keys_in, StandsAt}
 
 abbrev key_at : Node → ℕ × ℕ
 key_at n = key_of n.left n.right

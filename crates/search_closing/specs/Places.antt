@@ -1,16 +1,8 @@
 -- Where nodes stand in a table, by their points.
-use Rattle.std.specs.Prelude.{◌≡◌, ℕ, ◌+◌, List, map, Option, Some, None, slice_get}
-use Rattle.fs_cut.specs.Paths.{Point, Start, At, Done}
+use Rattle.std.specs.Prelude.{◌≡◌, ℕ, List, map, Option, Some, None, slice_get}
+use Rattle.fs_cut.specs.Paths.{Point}
+use Rattle.machine_pairs.specs.Keys.{key_of}
 use Rattle.search_tables.specs.Tables.{Node, Table, Unknown, Known, target_of}
-
--- pairs of points as pairs of numbers
-abbrev pub number_of : Point → ℕ
-number_of Start = 0
-number_of Done = 1
-number_of (At q) = q + 2
-
-abbrev pub key_of : (left right : Point) → ℕ × ℕ
-key_of P Q = (number_of P, number_of Q)
 
 -- the keys of the nodes of a table, in order
 abbrev pub keys_in : Table → List (ℕ × ℕ)

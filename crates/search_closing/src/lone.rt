@@ -3,7 +3,6 @@
 ghost use Rattle.std.specs.Prelude.{◌≡◌, ◌≤◌, ◌++◌, ◌∷◌, [], ◌&&◌, true, length, map, IsTrue, IfOk, OnOk};
 ghost use Rattle.fs_model.specs.Limits.{most_branches};
 ghost use Rattle.fs_cut.specs.Paths.{is_point};
-ghost use Rattle.fs_cut.specs.Covers.{cover_of, paths_of};
 ghost use Rattle.fs_cut.specs.View.{point_of, path_of};
 ghost use Rattle.nf_terms.specs.Computed.{Answers, Done, after};
 ghost use Rattle.nf_rel.specs.Literals.{is_refuted as refuted};
@@ -23,9 +22,8 @@ use crate::covered::Covered;
 use crate::node_table::NodeTable;
 use crate::places::place_of;
 use bisimulation::mode::Mode;
-use fs_ast::machine::Machine;
-use fs_cut::cover::{Cover, Path, Point};
-use fs_cut::laws::the_cover_has_the_paths;
+use fs_cut::cover::{Path, Point};
+use machine_pairs::covers::paths;
 use nf_terms::stop::{NfStop, NoMemory};
 use nf_terms::tree::Side;
 use propagate::refutation::is_refuted;
@@ -147,18 +145,6 @@ fn lone_targets(
         push(&mut out, lone_target(alloc, table, node, side, path)?)?;
     }
     Ok(out)
-}
-
-// The paths of a point of a machine, by its cover.
-fn paths<'c>(m: &Machine, cover: &'c Cover, point: Point) -> &'c [Path]
-    requires cover { cover.now ≡ cover_of m.now }
-    requires point { is_point m.now (point_of point) ≡ true }
-    ensures paths { map path_of result.now ≡ paths_of m.now (point_of point) }
-    ensures few { length result.now ≤ most_branches }
-{
-    let _sound = m.vars();
-    the_cover_has_the_paths();
-    cover.from(point)
 }
 
 // Where a node leads in a mode in which one machine moves alone, if that moves alone from there too. The one refusal is out of memory.

@@ -5,31 +5,14 @@ ghost use Rattle.fs_cut.specs.View.{point_of};
 ghost use Rattle.search_tables.specs.Tables.{Table};
 ghost use Rattle.search_tables.specs.WellFormed.{nodes_differ};
 ghost use Rattle.search_tables.specs.View.{table_in};
-ghost use Rattle.search_closing.specs.Places.{number_of, key_of, keys_in, StandsAt};
+ghost use Rattle.search_closing.specs.Places.{keys_in, StandsAt};
 
 use fs_cut::cover::Point;
 use indexmap::IndexSet;
+use machine_pairs::keys::key_of;
 use nf_terms::stop::NoMemory;
 use search_tables::nodes::TableNode;
 use std::alloc::Global;
-
-// The number of a point.
-fn number_of(point: Point) -> u64
-    ensures { result ≡ number_of (point_of point) }
-{
-    match point {
-        Point::Start => 0,
-        Point::Done => 1,
-        Point::At(state) => u64::from(state.0) + 2,
-    }
-}
-
-// The key of two points.
-fn key_of(left: Point, right: Point) -> (u64, u64)
-    ensures { result ≡ key_of (point_of left) (point_of right) }
-{
-    (number_of(left), number_of(right))
-}
 
 /// The keys of nodes at different pairs of points, in order: a key is found in constant time. The one refusal is out of memory.
 pub(crate) fn places_of(

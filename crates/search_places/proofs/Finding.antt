@@ -16,7 +16,7 @@ use Rattle.search_places.specs.declared.entry.Entry.{Entry}
 use Rattle.search_places.specs.Pairs.{same_pair}
 use Rattle.search_places.specs.Lines.{line_of, lines_in, table_of}
 use Rattle.search_places.specs.Changes.{StandsAt, fresh, Puts}
-use Rattle.search_places.proofs.Lists.{get_map}
+use Rattle.search_ranks.proofs.Lists.{get_map}
 
 abbrev nodes : List (PointPair × Entry) → List Node
 nodes es = table_of (lines_in es)

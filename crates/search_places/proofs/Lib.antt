@@ -1,4 +1,3 @@
-pub mod Lists
 pub mod Finding
 pub mod Values
 pub mod Orders

@@ -13,7 +13,7 @@ use Rattle.bisimulation.specs.declared.mode.Mode.TheVariants.{Both, Left, Right,
 use Rattle.search_tables.specs.Tables.{Machines, Node, Paths}
 use Rattle.search_tables.specs.Next.{paths_in, move_by}
 use Rattle.search_tables.proofs.Lists.{all_in, one_of, all_from, all_under, all_flat}
-use Rattle.search_places.proofs.Lists.{get_map_back}
+use Rattle.search_ranks.proofs.Lists.{get_map_back}
 use Rattle.search_places.specs.Moves.{most_moves, move, rights_beside, lefts_alone, pairs, moves_by, paths_at}
 
 -- ---- each path of a point stands at the place of its branch

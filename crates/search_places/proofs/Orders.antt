@@ -8,7 +8,7 @@ use Rattle.std.specs.Ordering.{nat_cmp, ordering_then, is_gt, is_eq}
 use Rattle.search_places.specs.declared.entry.Item.{Item}
 use Rattle.search_places.specs.Lines.{item}
 use Rattle.search_places.specs.Order.{item_cmp, IsLeast, Adds, Drops, AddsMoves}
-use Rattle.search_places.proofs.Lists.{same_or_not}
+use Rattle.search_ranks.proofs.Lists.{same_or_not}
 
 cmp_greater : (x y : ℕ) → y < x → nat_cmp x y ≡ Greater
 cmp_greater x y h = grind (arith, nat_tests)

@@ -8,18 +8,13 @@ use Rattle.fs_cut.specs.Paths.{Point, Start, At, Done}
 use Rattle.fs_cut.specs.Covers.{same_point}
 use Rattle.fs_cut.specs.View.{point_of}
 use Rattle.fs_cut.proofs.Listed.{same_is}
+use Rattle.machine_pairs.specs.Keys.{number_of}
 use Rattle.nf_terms.proofs.Tests.{and_left, and_right, and_both}
 use Rattle.search_places.specs.declared.pairs.PointPair.{PointPair}
 
 -- whether two pairs are of the same points
 abbrev pub same_pair : PointPair → PointPair → Bool
 same_pair a b = same_point (point_of b.left) (point_of a.left) && same_point (point_of b.right) (point_of a.right)
-
--- a point as a number
-abbrev pub number_of : Point → ℕ
-number_of Start = 0
-number_of Done = 1
-number_of (At q) = q + 2
 
 own_point : (P : Point) → same_point P P ≡ true
 own_point Start = refl

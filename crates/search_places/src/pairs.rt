@@ -3,9 +3,9 @@
 ghost use Rattle.std.specs.Prelude.{◌≡◌};
 ghost use Rattle.fs_cut.specs.Covers.{same_point as same};
 ghost use Rattle.fs_cut.specs.View.{point_of};
-ghost use Rattle.search_places.specs.Pairs.{number_of as number};
 
 use fs_cut::cover::Point;
+use machine_pairs::keys::number_of;
 use std::hash::{Hash, Hasher};
 
 /// The two points of a node.
@@ -26,17 +26,6 @@ fn same_point(p: Point, q: Point) -> bool
             Point::Start | Point::Done => false,
         },
         Point::Done => matches!(q, Point::Done),
-    }
-}
-
-// The number of a point.
-fn number_of(p: Point) -> u64
-    ensures { result ≡ number (point_of p) }
-{
-    match p {
-        Point::Start => 0,
-        Point::Done => 1,
-        Point::At(state) => u64::from(state.0) + 2,
     }
 }
 
@@ -62,7 +51,8 @@ impl Hash for PointPair {
     ghost use Rattle.std.specs.Hash as fed;
     ghost use Rattle.std.specs.Prelude.{◌++◌};
     ghost use Rattle.fs_cut.specs.View.{point_of};
-    ghost use Rattle.search_places.specs.Pairs.{number_of as number, pairs_alike};
+    ghost use Rattle.machine_pairs.specs.Keys.{number_of as number};
+    ghost use Rattle.search_places.specs.Pairs.{pairs_alike};
 
     ghost hash_input = { λ p. fed.u64 (number (point_of p.left)) ++ fed.u64 (number (point_of p.right)) };
 

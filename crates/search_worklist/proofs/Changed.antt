@@ -15,7 +15,7 @@ use Rattle.search_places.specs.declared.entry.Entry.{Entry}
 use Rattle.search_places.specs.Lines.{Line, node, item, lines_in, table_of}
 use Rattle.search_places.specs.Changes.{fresh, PutsLast, PutsAgain, Puts}
 use Rattle.search_places.specs.Order.{item_cmp, waits, Adds, AddsAll}
-use Rattle.search_places.proofs.Lists.{get_snoc, set_same, set_other, same_or_not}
+use Rattle.search_ranks.proofs.Lists.{get_snoc, set_same, set_other, same_or_not}
 use Rattle.search_worklist.specs.Puts.{put_by, put, number_by, number_at}
 use Rattle.search_worklist.specs.Waiting.{Arrives}
 use Rattle.search_worklist.specs.States.{Ready}

@@ -8,7 +8,7 @@ use Rattle.search_tables.specs.Tables.{Machines, Node, Table, start_node, first_
 use Rattle.search_tables.specs.Legal.{Difference, difference_at, output_at, stuck_from, stuck}
 use Rattle.search_tables.proofs.Forming.{known_in}
 use Rattle.search_places.specs.Lines.{node}
-use Rattle.search_places.proofs.Lists.{get_last, set_same}
+use Rattle.search_ranks.proofs.Lists.{get_last, set_same}
 use Rattle.search_worklist.specs.Outputs.{OutputAt}
 use Rattle.search_worklist.specs.Puts.{put_by, put, number_by, number_at}
 

@@ -16,7 +16,7 @@ use Rattle.search_places.specs.declared.entry.Item.{Item}
 use Rattle.search_places.specs.Lines.{Line, item, line_of, table_of}
 use Rattle.search_places.specs.Changes.{ListsArrival}
 use Rattle.search_places.specs.Order.{waits, IsLeast, Drops}
-use Rattle.search_places.proofs.Lists.{get_snoc, get_map, get_map_back, set_same, set_other, same_or_not}
+use Rattle.search_ranks.proofs.Lists.{get_snoc, get_map, get_map_back, set_same, set_other, same_or_not}
 use Rattle.search_worklist.specs.declared.state.State.{State}
 use Rattle.search_worklist.specs.declared.trial.Trial.{Trial}
 use Rattle.search_worklist.specs.declared.trial.Trial.TheVariants as tried

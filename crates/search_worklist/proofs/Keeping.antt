@@ -13,7 +13,7 @@ use Rattle.search_tables.specs.Tables.{Machines, Node, Known, target_of, Paths}
 use Rattle.search_tables.specs.Next.{mode_at, paths_in, move_by}
 use Rattle.search_places.specs.declared.entry.Item.{Item}
 use Rattle.search_places.specs.Lines.{Line, item, table_of}
-use Rattle.search_places.proofs.Lists.{set_same, set_other, get_front, get_last, get_snoc, get_map, same_or_not, not_before}
+use Rattle.search_ranks.proofs.Lists.{set_same, set_other, get_front, get_last, get_snoc, get_map, same_or_not, not_before}
 use Rattle.search_worklist.specs.Waiting.{Arrives, IsSettled, Rests, IsWaiting}
 use Rattle.search_worklist.proofs.Lookups.{target_front, target_other}
 

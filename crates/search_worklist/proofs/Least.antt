@@ -15,7 +15,7 @@ use Rattle.search_tables.specs.Next.{Next, Nothing, mode_at, paths_in, move_by, 
 use Rattle.search_places.specs.declared.entry.Item.{Item}
 use Rattle.search_places.specs.Lines.{Line, item, table_of}
 use Rattle.search_places.specs.Order.{IsLeast}
-use Rattle.search_places.proofs.Lists.{get_map, get_map_back}
+use Rattle.search_ranks.proofs.Lists.{get_map, get_map_back}
 use Rattle.search_worklist.specs.Waiting.{IsEntailed, IsSettled, IsWaiting}
 
 -- a post that entails the fact of its target keeps the table

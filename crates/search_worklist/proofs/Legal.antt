@@ -22,7 +22,7 @@ use Rattle.search_tables.specs.View.{table_in}
 use Rattle.search_places.specs.declared.pairs.PointPair.{PointPair}
 use Rattle.search_places.specs.declared.entry.Entry.{Entry}
 use Rattle.search_places.specs.Lines.{Line, line_of, lines_in, table_of}
-use Rattle.search_places.proofs.Lists.{get_map}
+use Rattle.search_ranks.proofs.Lists.{get_map}
 use Rattle.search_worklist.specs.declared.ends.End.{End}
 use Rattle.search_worklist.specs.declared.ends.Ended.{Ended}
 use Rattle.search_worklist.specs.Ends.{EndsSo, IsEnded}

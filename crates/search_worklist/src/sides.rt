@@ -9,8 +9,8 @@ ghost use Rattle.fs_pair.specs.Positions.{positions};
 
 use fs_ast::machine::Machine;
 use fs_cut::cover::{Cover, Path, Point};
-use fs_cut::laws::the_cover_has_the_paths;
 use fs_pair::positions::Pairing;
+use machine_pairs::covers::paths;
 
 /// The two machines, each with its cover, and their pairing.
 #[derive(Drop)]
@@ -23,18 +23,6 @@ pub struct Sides<'a> {
     ghost paired: { pairing.now ≡ positions left.now right.now },
     ghost left_is: { left_cover.now ≡ cover_of left.now },
     ghost right_is: { right_cover.now ≡ cover_of right.now },
-}
-
-// The paths of a point of a machine, by its cover.
-fn paths<'c>(m: &Machine, cover: &'c Cover, point: Point) -> &'c [Path]
-    requires cover { cover.now ≡ cover_of m.now }
-    requires point { IsTrue (is_point m.now (point_of point)) }
-    ensures paths { map path_of result.now ≡ paths_of m.now (point_of point) }
-    ensures few { length result.now ≤ most_branches }
-{
-    let _sound = m.vars();
-    the_cover_has_the_paths();
-    cover.from(point)
 }
 
 /// The paths of a point of the left machine.

@@ -4,7 +4,7 @@ use Rattle.sym_facts.specs.Facts.{vector_of}
 use Rattle.search_tables.specs.Legal.{first_differing}
 use Rattle.search_places.specs.Lines.{Line, lines_in}
 use Rattle.search_places.specs.View.{standing_in}
-use Rattle.search_places.proofs.Lists.{get_map}
+use Rattle.search_ranks.proofs.Lists.{get_map}
 use Rattle.search_worklist.proofs.Legal.{if_ok}
 use Rattle.search_worklist.proofs.outputs.output_at.Goals as goal
 
