@@ -10,7 +10,7 @@ use Rattle.sym_facts.specs.Facts.{Fact}
 use Rattle.certificates.specs.Lawful.{points_differ}
 use Rattle.certificates.specs.Obligations.{node_at}
 use Rattle.machine_pairs.specs.Keys.{key_of}
-use Rattle.machine_pairs.proofs.Keys.{same_numbers, same_key}
+use Rattle.machine_pairs.proofs.SameKeys.{same_numbers, same_key}
 
 module _ {V : Type 0} (seen : V → Node Fact) where
   -- each node has the key of its points

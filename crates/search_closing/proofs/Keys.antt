@@ -14,7 +14,7 @@ use Rattle.search_tables.specs.View.{table_in, table_node_in}
 use Rattle.search_tables.specs.Tables.{Node, Table, Unknown, Known, is_at, target_from}
 use Rattle.search_tables.specs.WellFormed.{nodes_differ}
 use Rattle.machine_pairs.specs.Keys.{key_of}
-use Rattle.machine_pairs.proofs.Keys.{same_numbers, same_key}
+use Rattle.machine_pairs.proofs.SameKeys.{same_numbers, same_key}
 use Rattle.search_closing.specs.Places.{keys_in, StandsAt}
 
 abbrev key_at : Node → ℕ × ℕ
