@@ -21,7 +21,7 @@ use Rattle.command_answers.specs.Words.{word_of}
 use Rattle.command_answers.specs.Lines.{HasLines}
 use Rattle.command_answers.specs.Texts.{SpellsMachine, HasCanonicalText}
 use Rattle.command_answers.specs.Paths.{HasPaths}
-use Rattle.command_answers.specs.Readings.{Content, Unopened, Readable, Unreadable, Reading, NoneOpened, OnlyFirst, OnlyTwo}
+use Rattle.command_answers.specs.Readings.{Content, Unopened, Readable, Unreadable, Reading, OnlyFirst}
 use Rattle.command_answers.specs.Refusals.{IsUnread, Long, RefusesMachine, RefusesPair, SecondRefused, InterfacesDiffer, RefusesInputs, SpellsInputs, RefusesCertificate, SpellsCertificate}
 use Rattle.command_answers.specs.Refusing.{WhereAnswered, IsLoaded}
 use Rattle.command_answers.specs.Pairs.{IsOfLoops}

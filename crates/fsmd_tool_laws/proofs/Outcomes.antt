@@ -1,7 +1,7 @@
 -- Calls that compare machines end with what these get, or have no memory.
-use Rattle.std.proofs.Common.{◌≡◌, ◌∙◌, ℕ, Bool, true, false, List, Option, Some, None, ap}
+use Rattle.std.proofs.Common.{◌≡◌, ◌∙◌, ℕ, Bool, true, false, List, Option, Some, ap}
 use Rattle.std.specs.Prelude.{IsTrue, is_some}
-use Rattle.command_words.specs.Words.{Asked, Generate}
+use Rattle.command_words.specs.Words.{Generate}
 use Rattle.fs_base.specs.Outside.{Rose}
 use Rattle.fs_model.specs.Machines.{Fsmd}
 use Rattle.command_answers.specs.declared.answer.Status.{Status}
@@ -17,7 +17,6 @@ use Rattle.fsmd_tool.specs.Correct.{IsCorrectAnswer, IsDone, Kept, Stored, Unsto
 use Rattle.fsmd_tool.proofs.Causes.{entry_named}
 use Rattle.fsmd_tool_laws.specs.Settled.{SpellPair}
 use Rattle.fsmd_tool_laws.specs.Outcomes.{NothingFailed, is_of_comparison}
-use Rattle.fsmd_tool_laws.proofs.Contents.{some_none}
 use Rattle.fsmd_tool_laws.proofs.Correct.{machines_checked, loops_answered}
 
 pair_status : (limit : ℕ) (keeps : Bool) (a b : Fsmd) (x : Answer) → IsOfPair limit keeps a b x → IsTrue (is_of_comparison (status_of x))

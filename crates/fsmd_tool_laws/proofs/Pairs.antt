@@ -1,5 +1,5 @@
 -- Two machines get one answer, but for the cycle that it names.
-use Rattle.std.proofs.Common.{◌≡◌, inl, inr, ⊎_elim, ℕ, ◌<◌, List, length, Bool, sym, ◌∙◌, ap}
+use Rattle.std.proofs.Common.{◌≡◌, inl, inr, ⊎_elim, ℕ, ◌<◌, length, Bool, sym, ◌∙◌, ap}
 use Rattle.fs_model.specs.Machines.{Fsmd}
 use Rattle.fs_trials.specs.Pool.{pool_of}
 use Rattle.fs_trials.specs.Candidates.{candidate_count}

@@ -1,6 +1,7 @@
 use Rattle.std.proofs.Common.{refl}
 use Rattle.fsmd_tool.specs.Puts.{put}
-use Rattle.fsmd_tool.proofs.Putting.{answers_usage, to_words, keeps_to_words, unwritten_to_words}
+use Rattle.fsmd_tool.specs.Stores.{NoneWritten}
+use Rattle.fsmd_tool.proofs.Putting.{answers_usage, to_words, keeps_to_words, unwritten_to_words, on_err}
 use Rattle.fsmd_tool.proofs.drive.put_reply.Goals as goal
 
 pub returns-in-Ok-clause-answered : goal.returns-in-Ok-clause-answered
@@ -16,3 +17,6 @@ returns-in-Err-Usage-clause-answered g c =
 
 pub returns-in-Ok-clause-unwritten : goal.returns-in-Ok-clause-unwritten
 returns-in-Ok-clause-unwritten g c = unwritten_to_words _ _ _ c.put_asked.result c.in-Ok.ensures.ok c.put_asked.ensures.unwritten
+
+pub returns-in-Err-Usage-clause-unwritten : goal.returns-in-Err-Usage-clause-unwritten
+returns-in-Err-Usage-clause-unwritten g c = on_err c.put_usage.result _ (NoneWritten (λ name. refl))
