@@ -27,7 +27,7 @@ use Rattle.search_tables.specs.Next.{Change, next}
 use Rattle.search_tables.specs.Legal.{Lead, Makes}
 use Rattle.search_tables.specs.Certifying.{table_node}
 use Rattle.search_tables.proofs.Changing.{next_does, arrives_so}
-use Rattle.search.specs.Answers.{most_positions, machines, IsClosedWith}
+use Rattle.search.specs.Answers.{machines, IsClosedWith}
 use Rattle.search.proofs.FewPositions.{filter_short, few_positions}
 use Rattle.search_laws.specs.Limits.{most_text_bytes}
 
