@@ -1,5 +1,5 @@
 -- What is stored of a closed search passes.
-use Rattle.std.proofs.Common.{◌≡◌, ℕ, ◌≤◌, List, length, true, sym, subst}
+use Rattle.std.proofs.Common.{◌≡◌, ◌≤◌, List, length, true, sym, subst}
 use Rattle.std.specs.Prelude.{codes}
 use Rattle.fs_model.specs.Machines.{Fsmd}
 use Rattle.bisimulation.specs.Tables.{Node}

@@ -1,6 +1,6 @@
 -- The text of the certificate of a closed search is small, since its nodes, equations and units are few.
 use Rattle.std.proofs.Common.{◌≡◌, ℕ, ◌+◌, ◌*◌, ◌≤◌, List, [], ◌∷◌, length, map, Option, Some, None, refl, sym, ap, subst, ◌∙◌, arith}
-use Rattle.std.specs.Prelude.{is_some, sum_by}
+use Rattle.std.specs.Prelude.{is_some}
 use Rattle.std.specs.List.{filter, AllByRecursion}
 use Rattle.std.proofs.lemmas.List.{length-map}
 use Rattle.std.proofs.lemmas.List.Sums.{sum_by-cons}
@@ -16,9 +16,9 @@ use Rattle.nf_terms.specs.declared.tree.Side.{Side}
 use Rattle.nf_terms.specs.declared.tree.Side.TheVariants as side
 use Rattle.bisimulation.specs.Tables.{Node as CertificateNode}
 use Rattle.sym_paths.specs.Execution.{arrive, end_of}
-use Rattle.sym_facts.specs.Facts.{Fact, vector_of, size_of_equation, size_of_equations, size_of_fact}
+use Rattle.sym_facts.specs.Facts.{FactPosition, Fact, vector_of, size_of_equation, size_of_equations, size_of_fact}
 use Rattle.sym_facts.specs.Pairings.{IsFactOf}
-use Rattle.sym_facts.specs.Starts.{zero_of, start_form, partner_in, start_position, start_fact}
+use Rattle.sym_facts.specs.Starts.{zero_of, start_form, partner_in, start_position}
 use Rattle.cert_writer.specs.Limits.{equation_count, units_of, most_bytes, most_certificate_bytes}
 use Rattle.cert_writer.specs.Written.{certificate_text}
 use Rattle.search_tables.specs.declared.moves.Move.{Move}
@@ -27,13 +27,13 @@ use Rattle.search_tables.specs.Next.{Change, next}
 use Rattle.search_tables.specs.Legal.{Lead, Makes}
 use Rattle.search_tables.specs.Certifying.{table_node}
 use Rattle.search_tables.proofs.Changing.{next_does, arrives_so}
-use Rattle.search.specs.Answers.{most_positions, machines, IsClosedWith}
+use Rattle.search.specs.Answers.{machines, IsClosedWith}
 use Rattle.search.proofs.FewPositions.{filter_short, few_positions}
 
 -- ---- equations
 
 equations_in : (ps : List Position) (f : Fact) → IsFactOf ps f → length (filter (λ q. is_some q.equation) f.positions) ≤ length ps
-equations_in ps f of = omega (arith, filter_short (λ q. is_some q.equation) f.positions, length-map f.positions (λ q. q.sort), ap length of.sorts, length-map ps (λ p. p.sort))
+equations_in ps f of = omega (arith, filter_short (λ (q : FactPosition). is_some q.equation) f.positions, length-map f.positions (λ (q : FactPosition). q.sort), ap length of.sorts, length-map ps (λ (p : Position). p.sort))
 
 equations_few : (ps : List Position) → length ps ≤ 256 → (cs : List (CertificateNode Fact)) → AllByRecursion (λ n. IsFactOf ps n.fact) cs → equation_count cs ≤ 256 * length cs
 equations_few ps few [] h = omega arith
@@ -41,12 +41,9 @@ equations_few ps few (c ∷ cs) h = omega (arith, few, equations_in ps c.fact h.
 
 -- ---- units
 
-abbrev size_of : Node → ℕ
-size_of n = size_of_fact n.fact
-
 units_same : (cs : List (CertificateNode Fact)) → units_of cs ≡ units (map table_node cs)
 units_same [] = refl
-units_same (c ∷ cs) = omega (arith, sum_by-cons size_of (table_node c) (map table_node cs), units_same cs)
+units_same (c ∷ cs) = omega (arith, sum_by-cons (λ (n : Node). size_of_fact n.fact) (table_node c) (map table_node cs), units_same cs)
 
 own_small : (s : Sort) (q : Option Pos) → size_of_equation (start_form Input side.Right s q) ≤ 2
 own_small s None = omega arith
@@ -71,7 +68,7 @@ starts_small all (p ∷ ps) = omega (arith, start_small p.role p.pos.side p.sort
 
 module _ (m : Machines) (few : length (positions_of m) ≤ 256) where
   first_small : units (first_table m) ≤ most_units
-  first_small = omega (arith, few, sum_by-cons size_of (start_node m) [], starts_small (positions_of m) (positions_of m))
+  first_small = omega (arith, few, sum_by-cons (λ (n : Node). size_of_fact n.fact) (start_node m) [], starts_small (positions_of m) (positions_of m))
 
   next_small : (T U : Table) (y : Move) → next m T ≡ Change y U → units U ≤ most_units
   next_small T U y h =

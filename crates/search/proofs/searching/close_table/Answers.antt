@@ -16,7 +16,7 @@ returns-in-Certified c =
     let m = machines c.args.a.now c.args.b.now in
     let T = table_in c.args.nodes.items in
     closes m c.args.moves.items T (map node_of c.in-Certified.cert.nodes.items) c.vars-left.ensures.sound c.vars-right.ensures.sound c.requires.interface c.requires.makes c.requires.facts c.requires.closed c.requires.none_differ
-    (subst (Gives m T) c.in-Certified.is c.in_ok-cert.ensures) c.certificates_are_normal-in-Certified.ensures
+    (subst (Gives m T) c.in-Certified.is c.in_ok-cert.ensures) c.certificates_are_normal.ensures
 
 pub returns-in-Spins : goal.returns-in-Spins
 returns-in-Spins c =
