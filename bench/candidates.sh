@@ -22,5 +22,5 @@ for count in 0 10; do
   rounds "$count" "a / 1" > "$folder/left.fsmd"
   rounds "$count" "a" > "$folder/right.fsmd"
   printf '%-32s ' "$count more assignments a step"
-  python3 bench/timed.py "$program" check "$folder/left.fsmd" "$folder/right.fsmd" --steps 100000
+  RUNS=1 python3 bench/timed.py "$program" check "$folder/left.fsmd" "$folder/right.fsmd" --steps 100000
 done

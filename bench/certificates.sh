@@ -13,9 +13,9 @@ ring() { # states
   awk -v n="$1" 'BEGIN {
     a = "input_with_thirty_two_bytes_____"; b = "other_with_thirty_two_bytes_____"
     printf "fsmd 1; input %s, %s; local x", a, b
-    for (k = 0; k < 125; k++) printf ", local_with_thirty_two_bytes__%03d_", k
+    for (k = 0; k < 125; k++) printf ", local_with_thirty_two_bytes_%03d_", k
     printf "; reset s0; state s0: goto c0: x = %s", a
-    for (k = 0; k < 125; k++) printf ", local_with_thirty_two_bytes__%03d_ = (%s + %s) * (%s + %s)", k, a, b, a, b
+    for (k = 0; k < 125; k++) printf ", local_with_thirty_two_bytes_%03d_ = (%s + %s) * (%s + %s)", k, a, b, a, b
     print ";"
     for (k = 0; k < n; k++) printf "state c%d: when x > 0 goto c%d: x = x; goto s0;\n", k, (k + 1) % n
   }'
