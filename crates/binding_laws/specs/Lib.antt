@@ -1,0 +1,4 @@
+pub mod Liveness
+pub mod Closed
+pub mod Bindings
+pub mod Conflicts

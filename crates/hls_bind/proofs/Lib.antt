@@ -1,0 +1,7 @@
+pub mod Bits
+pub mod Alive
+pub mod Losses
+pub mod Given
+pub mod Loops
+pub mod Yes
+pub mod Ordered

@@ -1,0 +1,52 @@
+-- The parts with registers and their machine are right.
+use Rattle.std.proofs.Common.{◌≡◌, ℕ, List, ap, sym, ◌∙◌, subst, length, inl, inr, ◌⊎◌, [], arith}
+use Rattle.std.specs.Prelude.{Contains, IsTrue}
+use Rattle.fs_model.specs.Machines.{Fsmd}
+use Rattle.fs_model.specs.Source.{Source}
+use Rattle.fs_model.specs.Runs.{SameBehaviour}
+use Rattle.fs_model.specs.WellFormed.{is_well_formed}
+use Rattle.fs_rules.specs.declared.check.CheckFault.{CheckFault}
+use Rattle.fs_rules.specs.Spelled.{machine_of, variables_of}
+use Rattle.fs_rules.specs.Sound.{IsSound}
+use Rattle.fs_rules.specs.Rules.{plain_faults, branch_faults, Broken, IsLawful}
+use Rattle.binding_laws.specs.Bindings.{IsBindingOf, bound_parts}
+use Rattle.binding_laws.proofs.Formed.{bound_formed}
+use Rattle.binding_laws.proofs.Whole.{bound_lawful}
+use Rattle.binding_laws.proofs.Renamed.{bound_parts_behave}
+use Rattle.hls_bind.specs.Results.{IsBuiltOf, IsBoundParts, HasNoConflict, IsYes}
+
+none_in : (xs : List CheckFault) (f : CheckFault) → xs ≡ [] → Contains xs f → ⊥
+none_in xs f e x = let low = x.1 in let count : length xs ≡ 0 = ap length e in omega arith
+
+-- of lawful parts no rule is broken
+pub unbroken : (p : Source) (f : CheckFault) → IsLawful p → Broken p f → ⊥
+unbroken p f l (inl x) = none_in (plain_faults p) f l.plain x
+unbroken p f l (inr (e, inl x)) = none_in (branch_faults p) f l.branches x
+unbroken p f l (inr (e, inr (rule, x))) = l.ends f.line x
+
+module _ (p q : Source) (m : Fsmd) (b : List (ℕ × List ℕ)) (built : IsBuiltOf p m) (binds : IsBindingOf m.variables b) (free : HasNoConflict b m) (sound : IsSound m) (x : IsBoundParts b p q) where
+  sound_p : IsSound (machine_of p)
+  sound_p = subst (λ (k : Fsmd). IsSound k) built.spelled sound
+
+  binds_p : IsBindingOf (variables_of p.declarations) b
+  binds_p = subst (λ (k : Fsmd). IsBindingOf k.variables b) built.spelled binds
+
+  free_p : HasNoConflict b (machine_of p)
+  free_p = subst (λ (k : Fsmd). HasNoConflict b k) built.spelled free
+
+  pub formed : IsTrue (is_well_formed q)
+  formed = ap is_well_formed x.parts ∙ bound_formed b x.registers p built.formed
+
+  pub lawful : IsLawful q
+  lawful = subst (λ (s : Source). IsLawful s) (sym x.parts) (bound_lawful b x.registers p sound_p binds_p x.are (λ c t. free_p.none c (inl t)) built.lawful)
+
+  pub is_yes : (k : Fsmd) → k ≡ machine_of q → IsSound k → IsYes p m b q k
+  is_yes k e s =
+      let at : k ≡ machine_of (bound_parts b x.registers p) = e ∙ ap machine_of x.parts in
+      let same : SameBehaviour (machine_of p) (machine_of (bound_parts b x.registers p)) = bound_parts_behave b x.registers p sound_p binds_p x.are (subst (λ (z : Fsmd). IsSound z) at s) (λ c d. free_p.none c (inr d)) in
+      record {
+        free = free;
+        parts = x;
+        built = record { formed = formed; lawful = lawful; spelled = e };
+        same = subst (λ (z : Fsmd). SameBehaviour m z) (sym at) (subst (λ (z : Fsmd). SameBehaviour z (machine_of (bound_parts b x.registers p))) (sym built.spelled) same);
+      }

@@ -1,0 +1,11 @@
+use Rattle.std.proofs.Common.{◌≡◌, ◌-◌, length}
+use Rattle.std.specs.Prelude.{map}
+use Rattle.hls_bind.specs.Entries.{entry_of}
+use Rattle.hls_bind.specs.Lost.{first_from, conflict_in, first_conflict}
+use Rattle.hls_bind.proofs.conflicts.first_conflict.Given as goal
+
+abbrev pub invariant-loop-state : goal.invariant-loop-state
+invariant-loop-state l = record {
+  all : l.state-end ≡ length l.m.states;
+  left : first_from (conflict_in (map entry_of l.all) l.m l.live) l.state (length l.m.states - l.state) ≡ first_conflict (map entry_of l.all) l.m l.live;
+}

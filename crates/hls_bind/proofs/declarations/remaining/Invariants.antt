@@ -1,0 +1,10 @@
+use Rattle.std.proofs.Common.{◌≡◌, take}
+use Rattle.std.specs.Prelude.{map, filter}
+use Rattle.fs_rules.specs.Spelled.{names_of}
+use Rattle.binding_laws.specs.Bindings.{remaining}
+use Rattle.hls_bind.specs.Entries.{entry_of}
+use Rattle.fs_model.specs.View.{declaration_of}
+use Rattle.hls_bind.proofs.declarations.remaining.Given as goal
+
+abbrev pub invariant-loop-decl : goal.invariant-loop-decl
+invariant-loop-decl l = map declaration_of l.out.items ≡ remaining (map entry_of l.registers.entries.now) (names_of l.registers.vars.now) (map declaration_of (take l.decl-index l.decls))

@@ -1,0 +1,106 @@
+//! Declarations in which registers stand for the locals that are bound to them.
+
+ghost use Rattle.std.specs.Prelude.{◌≡◌, ◌++◌, true, map, filter, IfOk};
+ghost use Rattle.std.specs.Result.{OnOk};
+ghost use Rattle.fs_model.specs.View.{declaration_of};
+ghost use Rattle.fs_ast.specs.Spelled.{names_of};
+ghost use Rattle.binding_laws.specs.Bindings.{is_rising, AreRegisters, stays, without, remaining, of_registers};
+ghost use Rattle.hls_bind.specs.Entries.{entry_of};
+
+use crate::binding::BoundLocal;
+use crate::memory::NoMemory;
+use crate::renaming::{Registers, place, register_at};
+use fs_model::name::Name;
+use fs_model::parts::{Decl, Role, Sort};
+use std::alloc::Global;
+
+// Whether a name stays declared.
+fn stays(registers: &Registers, name: &Name) -> bool
+    ensures { result ≡ stays (map entry_of registers.now.entries.now) (names_of registers.now.vars.now) name.now }
+{
+    register_at(registers.entries, place(registers.vars, name)).is_none()
+}
+
+// Copies of the names that stay declared.
+fn names_left(alloc: Global, registers: &Registers, names: &[Name]) -> Result<Vec<Name>, NoMemory>
+    ensures { IfOk result (λ out. out.items ≡ filter (stays (map entry_of registers.now.entries.now) (names_of registers.now.vars.now)) names.now) }
+{
+    let mut out = Vec::new(alloc);
+    for name in names {
+        if stays(registers, name) {
+            out.push(name.try_clone(alloc)?)?;
+        }
+    }
+    Ok(out)
+}
+
+// A declaration without bound locals.
+fn without(alloc: Global, registers: &Registers, decl: &Decl) -> Result<Decl, NoMemory>
+    ensures { IfOk result (λ d. declaration_of d ≡ without (map entry_of registers.now.entries.now) (names_of registers.now.vars.now) (declaration_of decl.now)) }
+{
+    Ok(Decl {
+        line: decl.line,
+        role: decl.role,
+        sort: decl.sort,
+        names: names_left(alloc, registers, &decl.names)?,
+    })
+}
+
+/// The declarations without bound locals, those that are then empty left out.
+pub fn remaining(
+    alloc: Global,
+    registers: &Registers,
+    decls: &[Decl],
+) -> Result<Vec<Decl>, NoMemory>
+    ensures { IfOk result (λ out. map declaration_of out.items ≡ remaining (map entry_of registers.now.entries.now) (names_of registers.now.vars.now) (map declaration_of decls.now)) }
+{
+    let mut out = Vec::new(alloc);
+    for decl in decls {
+        let left = without(alloc, registers, decl)?;
+        if left.names.len() != 0 {
+            out.push(left)?;
+        }
+    }
+    Ok(out)
+}
+
+// The registers of a binding, once for each local.
+fn all_registers(alloc: Global, entries: &[BoundLocal]) -> Result<Vec<Name>, NoMemory>
+    ensures { IfOk result (λ out. out.items ≡ map (λ e. e.register) entries.now) }
+{
+    let mut out = Vec::new(alloc);
+    for entry in entries {
+        out.push(entry.register.try_clone(alloc)?)?;
+    }
+    Ok(out)
+}
+
+/// The registers of a binding, each once, in the order of their bytes.
+pub fn registers_of(alloc: Global, entries: &[BoundLocal]) -> Result<Vec<Name>, NoMemory>
+    requires { is_rising (map entry_of entries.now) ≡ true }
+    ensures { IfOk result (λ out. AreRegisters (map entry_of entries.now) out.items) }
+{
+    let mut out = all_registers(alloc, entries)?;
+    out.sort_unstable();
+    out.dedup();
+    Ok(out)
+}
+
+/// Adds one declaration of the registers, if there are any.
+pub fn declare_registers(
+    decls: &mut Vec<Decl>,
+    line: u32,
+    registers: Vec<Name>,
+) -> Result<(), NoMemory>
+    ensures { OnOk result (map declaration_of decls.new.items ≡ map declaration_of decls.old.items ++ of_registers line registers.items) }
+{
+    if registers.len() != 0 {
+        decls.push(Decl {
+            line,
+            role: Role::Local,
+            sort: Sort::Scalar,
+            names: registers,
+        })?;
+    }
+    Ok(())
+}

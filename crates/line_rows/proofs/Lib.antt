@@ -1,0 +1,4 @@
+pub mod Exchange
+pub mod Rows
+pub mod Once
+pub mod Emits

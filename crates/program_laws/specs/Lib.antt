@@ -1,0 +1,5 @@
+pub mod Programs
+pub mod Meaning
+pub mod Compiled
+pub mod WellFormed
+pub mod Examples

@@ -1,0 +1,4 @@
+mod Joined
+mod Same
+pub mod Fits
+mod Names
