@@ -1,0 +1,5 @@
+pub mod Sets
+pub mod Profiles
+pub mod Heights
+pub mod Waiting
+pub mod Plans
