@@ -142,11 +142,11 @@ some_or : {T : Type 0} (a b : Option T) → is_some (option_or a b) ≡ is_some 
 some_or None b = refl
 some_or (Some x) b = refl
 
-some_map : {S T : Type 0} (f : S → T) (a : Option S) → is_some (option_map f a) ≡ is_some a
+pub some_map : {S T : Type 0} (f : S → T) (a : Option S) → is_some (option_map f a) ≡ is_some a
 some_map f None = refl
 some_map f (Some x) = refl
 
-some_place : {T : Type 0} (test : T → Bool) (i : ℕ) (xs : List T) → is_some (position_from test i xs) ≡ list_any test xs
+pub some_place : {T : Type 0} (test : T → Bool) (i : ℕ) (xs : List T) → is_some (position_from test i xs) ≡ list_any test xs
 some_place test i [] = refl
 some_place test i (x ∷ xs) = by_test (test x) (some_place test (i + 1) xs)
   where

@@ -1,10 +1,8 @@
 //! Which literals clash, and what they imply.
 
-ghost use Rattle.std.specs.Prelude.{◌≡◌, ◌<◌, ◌^◌, length, map, drop, option_map, IfSome};
-ghost use Rattle.std.specs.List.{position_from};
+ghost use Rattle.std.specs.Prelude.{◌≡◌, IsTrue, map};
 ghost use Rattle.nf_rel.specs.Literals.{negate, clash, is_implied, bounds_clash, clashes_with};
-ghost use Rattle.std.specs.Prelude.{IsTrue};
-ghost use Rattle.nf_rel.specs.Bounds.{clashing_from, in_range, negated_clash};
+ghost use Rattle.nf_rel.specs.Bounds.{in_range, negated_clash};
 ghost use Rattle.nf_rel.specs.View.{literal_in};
 
 use crate::kind::Kind;
@@ -98,48 +96,6 @@ pub fn clash(l: &NLit, m: &NLit) -> bool
             NLit::Is(c) => bounds_clash(b.kind, &b.bound, c.kind, &c.bound) && b.dir == c.dir,
         },
     }
-}
-
-// The first place from i on whose literal clashes with one.
-fn first_clash(list: &[NLit], l: &NLit, first: usize) -> Option<usize>
-    requires { first < length list.now }
-    ensures place { result ≡ position_from (clash (literal_in l.now)) first (map literal_in (drop first list.now)) }
-    ensures within { IfSome result (λ place. place < length list.now) }
-{
-    let mut place = first;
-    while place < list.len() {
-        if clash(l, &list[place]) {
-            return Some(place);
-        }
-        place += 1;
-    }
-    None
-}
-
-/// Two places.
-#[derive(Clone, Copy)]
-pub struct Places {
-    pub first: u32,
-    pub second: u32,
-}
-
-/// The least two places whose literals clash, by the first and then by the second. They are equal
-/// exactly where the list begins with a False.
-pub fn refuted(list: &[NLit]) -> Option<Places>
-    requires { length list.now < 2 ^ 32 }
-    ensures { option_map (λ c. (c.first, c.second)) result ≡ clashing_from 0 (map literal_in list.now) }
-{
-    let mut place = 0;
-    while place < list.len() {
-        if let Some(second) = first_clash(list, &list[place], place) {
-            return Some(Places {
-                first: place as u32,
-                second: second as u32,
-            });
-        }
-        place += 1;
-    }
-    None
 }
 
 // Whether no number meets the second bound but not the first.

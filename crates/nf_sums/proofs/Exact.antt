@@ -1,5 +1,5 @@
 -- What the operations give: the normal form of the raw sum, with its meaning, where they are narrow and small.
-use Rattle.std.proofs.Common.{◌≡◌, ℕ, ℤ, unsigned_abs, neg_ℤ, ◌+◌, ◌*◌, ◌<◌, ◌≤◌, nat_le, ◌+ℤ◌, ◌-ℤ◌, ◌*ℤ◌, Bool, true, false, cond, Result, Ok, Err, IfOk, inl, inr, arith, refl, ap, sym, subst, ◌∙◌}
+use Rattle.std.proofs.Common.{◌≡◌, ℕ, ℤ, unsigned_abs, neg_ℤ, ◌+◌, ◌*◌, ◌<◌, ◌≤◌, nat_le, ◌+ℤ◌, ◌-ℤ◌, ◌*ℤ◌, Bool, true, false, cond, inl, inr, arith, refl, ap, sym, subst, ◌∙◌}
 use Rattle.std.specs.Prelude.{◌⊎◌}
 use Rattle.std.proofs.lemmas.Int.{ints}
 use Rattle.std.proofs.lemmas.Bool.{leb-true, le-leb}
@@ -9,10 +9,7 @@ use Rattle.nf_terms.specs.Meaning.{Valuation, value_of}
 use Rattle.nf_terms.specs.Limits.{weight_limit, size_limit, depth_limit}
 use Rattle.nf_terms.specs.Normal.{IsNormal}
 use Rattle.nf_terms.specs.RawSums.{raw_sum, raw_negation, raw_difference, raw_product, IsNormalFormOf}
-use Rattle.nf_terms.specs.declared.stop.NfStop.{NfStop}
-use Rattle.nf_terms.specs.declared.stop.NfStop.TheVariants as stop
 use Rattle.nf_sums.specs.OrderedSums.{fits, IsOrderedSum, IsOrderedProduct}
-use Rattle.nf_sums.specs.Events.{StopsAtEvent}
 use Rattle.nf_terms.proofs.Simple.{number_normal}
 use Rattle.nf_terms.proofs.Partings.{value_of_number}
 use Rattle.nf_terms.proofs.Tests.{and_both, by_test}
@@ -20,7 +17,7 @@ use Rattle.nf_sums.proofs.Terms.{size-sum, weight-sum, fits-sum}
 use Rattle.nf_sums.proofs.Worth.{worth-sum}
 use Rattle.nf_sums.proofs.Forms.{negation_normal, negation_weight, negation_size, negation_value, negation_form, sum_form, sum_value, product_form, product_value}
 use Rattle.nf_sums.proofs.Unique.{normal_forms_equal}
-use Rattle.nf_terms.specs.Computed.{Computed, Done, Wide, Large, IfDone, Answers, if_small}
+use Rattle.nf_terms.specs.Computed.{Computed, Done, Wide, Large, IfDone, if_small}
 use Rattle.nf_sums.specs.Forms.{normal_form}
 use Rattle.nf_terms.specs.Means.{IsNumberOf}
 use Rattle.nf_sums.specs.Operations.{operation, added, subtracted, multiplied, negated, number}
@@ -67,11 +64,6 @@ small_deep units depth t h k =
     ap (λ b. cond b (cond (nat_le depth depth_limit) (Done t) (Large units depth)) (Large units 0)) (le-leb units size_limit h)
     ∙ ap (λ b. cond b (Done t) (Large units depth)) (not_le depth depth_limit (λ e. omega arith))
 
-pub small_gives : {T : Type 0} (units depth : ℕ) (t : T) (P : T → Type 0) → (units ≤ size_limit → depth ≤ depth_limit → P t) → IfDone (if_small units depth t) P
-small_gives units depth t P f =
-    by_test (λ o. IfDone o P) (cond (nat_le depth depth_limit) (Done t) (Large units depth)) (Large units 0) (nat_le units size_limit)
-    (λ e. by_test (λ o. IfDone o P) (Done t) (Large units depth) (nat_le depth depth_limit) (λ g. f (leb-true units size_limit e) (leb-true depth depth_limit g)) (λ g. tt)) (λ e. tt)
-
 module _ (p q raw : Polynomial) (weight units : ℕ) where
   within : weight ≤ weight_limit → operation p q weight units raw ≡ if_small units (depth_of (normal_form raw)) (normal_form raw)
   within h = ap (λ b. cond b (if_small units (depth_of (normal_form raw)) (normal_form raw)) (Wide (weight_of p) (weight_of q))) (le-leb weight weight_limit h)
@@ -80,16 +72,12 @@ module _ (p q raw : Polynomial) (weight units : ℕ) where
   past h = ap (λ b. cond b (if_small units (depth_of (normal_form raw)) (normal_form raw)) (Wide (weight_of p) (weight_of q))) (not_le weight weight_limit h)
 
   module _ (form : weight ≤ weight_limit → units ≤ size_limit → IsNormalFormOf (normal_form raw) raw) where
-    -- an answer by its event, or by the form of its sum, is what is computed
-    pub operation_answers : (o : Result Polynomial NfStop) → IfOk o (λ s. IsNormalFormOf s raw) → StopsAtEvent p q weight units o → Answers o (operation p q weight units raw)
-    operation_answers (Ok s) h e =
-        let f = form e.0 e.1 in
-        within e.0 ∙ small_done units (depth_of (normal_form raw)) (normal_form raw) e.1 f.normal.shallow
+    -- a form of the raw sum is what is computed, where the operation is narrow and small
+    pub operation_gives : weight ≤ weight_limit → units ≤ size_limit → (s : Polynomial) → IsNormalFormOf s raw → operation p q weight units raw ≡ Done s
+    operation_gives w u s h =
+        let f = form w u in
+        within w ∙ small_done units (depth_of (normal_form raw)) (normal_form raw) u f.normal.shallow
         ∙ ap Done (normal_forms_equal (normal_form raw) s f.normal h.normal (record { totals = λ bag. f.same.totals bag ∙ sym (h.same.totals bag) }))
-    operation_answers (Err (stop.Wide l r)) h e = past e.0 ∙ ap (λ x. Wide x (weight_of q)) (sym e.1) ∙ ap (Wide l) (sym e.2)
-    operation_answers (Err (stop.Large u d)) h e =
-        within e.0 ∙ small_large units (depth_of (normal_form raw)) (normal_form raw) e.1 ∙ ap (λ x. Large x 0) (sym e.2) ∙ ap (Large u) (sym e.3)
-    operation_answers (Err stop.NoMemory) h e = tt
 
     is_le : (a b : ℕ) → (a ≤ b) ⊎ ¬ (a ≤ b)
     is_le a b = by_value (nat_le a b) refl
@@ -121,22 +109,6 @@ module _ (p q raw : Polynomial) (weight units : ℕ) where
         by_cases c (IsWide n) = tt
         by_cases c (IsLarge h n) = tt
 
-    -- an answer that is what is computed tells its event, or the form of its sum
-    pub operation_tells : (o : Result Polynomial NfStop) → Answers o (operation p q weight units raw) → IfOk o (λ s. IsNormalFormOf s raw) × StopsAtEvent p q weight units o
-    operation_tells o a = by_cases o (operation p q weight units raw) operation_is a
-      where
-        by_cases : (o : Result Polynomial NfStop) (c : Computed Polynomial) → IsComputed c → Answers o c → IfOk o (λ s. IsNormalFormOf s raw) × StopsAtEvent p q weight units o
-        by_cases (Ok s) c (IsDone h k) a = let e : normal_form raw ≡ s = cc in (subst (λ x. IsNormalFormOf x raw) e (form h k), (h, k))
-        by_cases (Ok s) c (IsWide n) a = cc
-        by_cases (Ok s) c (IsLarge h n) a = cc
-        by_cases (Err (stop.Wide l r)) c (IsDone h k) a = cc
-        by_cases (Err (stop.Wide l r)) c (IsWide n) a = (tt, (n, cc, cc))
-        by_cases (Err (stop.Wide l r)) c (IsLarge h n) a = cc
-        by_cases (Err (stop.Large u d)) c (IsDone h k) a = cc
-        by_cases (Err (stop.Large u d)) c (IsWide n) a = cc
-        by_cases (Err (stop.Large u d)) c (IsLarge h n) a = (tt, (h, n, cc, cc))
-        by_cases (Err stop.NoMemory) c i a = (tt, tt)
-
 module _ (p q : Polynomial) (m : IsNormal p) (n : IsNormal q) where
   form_added : weight_of p + weight_of q ≤ weight_limit → size_of p + size_of q ≤ size_limit → IsNormalFormOf (normal_form (raw_sum p q)) (raw_sum p q)
   form_added = sum_form p q (normal_form (raw_sum p q)) m n (form_of_sum p q m n)
@@ -149,24 +121,14 @@ module _ (p q : Polynomial) (m : IsNormal p) (n : IsNormal q) where
       let k = negation_normal q n in
       sum_form p (raw_negation q) (normal_form (raw_difference p q)) m k (form_of_sum p (raw_negation q) m k) (omega (arith, w, negation_weight q)) (omega (arith, s, negation_size q))
 
-  pub sum_answers : (o : Result Polynomial NfStop) → IfOk o (λ s. IsNormalFormOf s (raw_sum p q)) → StopsAtEvent p q (weight_of p + weight_of q) (size_of p + size_of q) o → Answers o (added p q)
-  sum_answers = operation_answers p q (raw_sum p q) (weight_of p + weight_of q) (size_of p + size_of q) form_added
+  pub sum_gives : weight_of p + weight_of q ≤ weight_limit → size_of p + size_of q ≤ size_limit → (s : Polynomial) → IsNormalFormOf s (raw_sum p q) → added p q ≡ Done s
+  sum_gives = operation_gives p q (raw_sum p q) (weight_of p + weight_of q) (size_of p + size_of q) form_added
 
-  pub product_answers : (o : Result Polynomial NfStop) → IfOk o (λ s. IsNormalFormOf s (raw_product p q)) → StopsAtEvent p q (weight_of p * weight_of q) (size_of p * size_of q) o → Answers o (multiplied p q)
-  product_answers = operation_answers p q (raw_product p q) (weight_of p * weight_of q) (size_of p * size_of q) form_multiplied
+  pub product_gives : weight_of p * weight_of q ≤ weight_limit → size_of p * size_of q ≤ size_limit → (s : Polynomial) → IsNormalFormOf s (raw_product p q) → multiplied p q ≡ Done s
+  product_gives = operation_gives p q (raw_product p q) (weight_of p * weight_of q) (size_of p * size_of q) form_multiplied
 
-  pub difference_answers : (o : Result Polynomial NfStop) → IfOk o (λ s. IsNormalFormOf s (raw_difference p q)) → StopsAtEvent p q (weight_of p + weight_of q) (size_of p + size_of q) o → Answers o (subtracted p q)
-  difference_answers = operation_answers p q (raw_difference p q) (weight_of p + weight_of q) (size_of p + size_of q) form_subtracted
-
-  -- ---- the same the other way round
-  pub sum_tells : (o : Result Polynomial NfStop) → Answers o (added p q) → IfOk o (λ s. IsNormalFormOf s (raw_sum p q)) × StopsAtEvent p q (weight_of p + weight_of q) (size_of p + size_of q) o
-  sum_tells = operation_tells p q (raw_sum p q) (weight_of p + weight_of q) (size_of p + size_of q) form_added
-
-  pub product_tells : (o : Result Polynomial NfStop) → Answers o (multiplied p q) → IfOk o (λ s. IsNormalFormOf s (raw_product p q)) × StopsAtEvent p q (weight_of p * weight_of q) (size_of p * size_of q) o
-  product_tells = operation_tells p q (raw_product p q) (weight_of p * weight_of q) (size_of p * size_of q) form_multiplied
-
-  pub difference_tells : (o : Result Polynomial NfStop) → Answers o (subtracted p q) → IfOk o (λ s. IsNormalFormOf s (raw_difference p q)) × StopsAtEvent p q (weight_of p + weight_of q) (size_of p + size_of q) o
-  difference_tells = operation_tells p q (raw_difference p q) (weight_of p + weight_of q) (size_of p + size_of q) form_subtracted
+  pub difference_gives : weight_of p + weight_of q ≤ weight_limit → size_of p + size_of q ≤ size_limit → (s : Polynomial) → IsNormalFormOf s (raw_difference p q) → subtracted p q ≡ Done s
+  difference_gives = operation_gives p q (raw_difference p q) (weight_of p + weight_of q) (size_of p + size_of q) form_subtracted
 
   -- ---- forms and meaning
   pub added_form : IfDone (added p q) (λ s. IsNormalFormOf s (raw_sum p q))

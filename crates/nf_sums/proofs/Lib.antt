@@ -4,6 +4,7 @@ pub mod Bags
 pub mod Terms
 pub mod Merging
 pub mod Turns
+pub mod Moves
 pub mod Joining
 pub mod Products
 pub mod Within
@@ -20,4 +21,5 @@ pub mod Tidying
 pub mod Settling
 pub mod Given
 pub mod Rising
+pub mod Grown
 pub mod Placed

@@ -1,16 +1,20 @@
 -- The merge of two ordered lists of terms.
-use Rattle.std.proofs.Common.{◌≡◌, ◌+◌, ◌≤◌, ℤ, pos, ◌+ℤ◌, ◌*ℤ◌, Bool, true, false, ◌&&◌, not, unsigned_abs, List, [], ◌∷◌, ◌++◌, arith, refl, ap, ◌∙◌}
+use Rattle.std.proofs.Common.{◌≡◌, ◌+◌, ◌≤◌, ℤ, pos, ◌+ℤ◌, ◌*ℤ◌, Bool, true, false, ◌&&◌, not, cond, unsigned_abs, List, [], ◌∷◌, ◌++◌, arith, refl, ap, sym, subst, ◌∙◌}
 use Rattle.std.proofs.lemmas.Int.{ints}
+use Rattle.std.proofs.lemmas.List.{append-nil}
 use Rattle.std.specs.Ordering.{int_eq, is_lt}
+use Rattle.std.specs.Cmp.{signed_Decides}
 use Rattle.std.specs.declared.cmp.Ordering.{Ordering}
 use Rattle.std.specs.declared.cmp.Ordering.TheVariants.{Less, Equal, Greater}
-use Rattle.nf_terms.specs.Terms.{Monomial}
+use Rattle.nf_terms.specs.Terms.{Monomial, polynomial_of}
+use Rattle.nf_terms.specs.Order.{cmp_monomial}
+use Rattle.nf_terms.specs.TermKeys.{monomial_ties}
 use Rattle.nf_terms.specs.Comparison.{monomials_total}
-use Rattle.nf_terms.specs.Normal.{ordered_monomial}
-use Rattle.nf_sums.specs.OrderedSums.{fits_monomial}
-use Rattle.nf_terms.proofs.Tests.{and_right, and_both}
+use Rattle.nf_terms.specs.Normal.{ordered, ordered_monomial}
+use Rattle.nf_sums.specs.OrderedSums.{fits_monomial, IsOrderedSum, term_unless_zero}
+use Rattle.nf_terms.proofs.Tests.{and_left, and_right, and_both}
 use Rattle.nf_sums.proofs.Sorted.{follows, good_of, sorted_move, sorted_insert, sorted_drop, sorted_change, back_of}
-use Rattle.nf_sums.proofs.Terms.{Rises, good_term, before_term, term_worth, term_size, term_weight, terms_fit, term_worth-append, term_size-append, term_weight-append, terms_fit-append}
+use Rattle.nf_sums.proofs.Terms.{Rises, rises_of, ordered_of, good_term, before_term, term_worth, term_size, term_weight, terms_fit, term_worth-append, term_size-append, term_weight-append, terms_fit-append}
 use Rattle.integers.proofs.Ring.{add-mul_z}
 
 less_of : (r : Ordering) → is_lt r ≡ true → r ≡ Less
@@ -29,6 +33,18 @@ pub record Merging (l r out a b : List (Monomial × ℤ)) : Type 0 where
   pub size : term_size out + (term_size a + term_size b) ≤ term_size l + term_size r
   pub weight : term_weight out + (term_weight a + term_weight b) ≤ term_weight l + term_weight r
   pub inside : terms_fit l ≡ true → terms_fit r ≡ true → terms_fit out && (terms_fit a && terms_fit b) ≡ true
+
+pub started : (l r : List (Monomial × ℤ)) → ordered (polynomial_of l) ≡ true → ordered (polynomial_of r) ≡ true → Merging l r [] l r
+started l r p q = record { left = rises_of l p; right = rises_of r q; worth = λ f. omega (arith, ints); size = omega arith; weight = omega arith; inside = λ a b. cc }
+
+pub finished : (l r out : List (Monomial × ℤ)) → Merging l r out [] [] → IsOrderedSum (polynomial_of l) (polynomial_of r) (polynomial_of out)
+finished l r out m = record {
+  in_order = ordered_of out (rw (← append-nil out) m.left);
+  worth = λ f. omega (arith, ints, m.worth f);
+  size = omega (arith, m.size);
+  weight = omega (arith, m.weight);
+  inside = λ p q. and_left (terms_fit out) true (m.inside p q);
+}
 
 abs_add : (c d : ℤ) → unsigned_abs (c +ℤ d) ≤ unsigned_abs c + unsigned_abs d
 abs_add c d = omega (arith, ints)
@@ -99,3 +115,14 @@ module _ (l r out : List (Monomial × ℤ)) where
       where
         good : good_term (n, c +ℤ d) ≡ true
         good = and_both (not (int_eq (c +ℤ d) (pos 0))) (ordered_monomial n) e (and_right (not (int_eq c (pos 0))) (ordered_monomial n) (good_of good_term before_term (n, c) a (back_of good_term before_term out ((n, c) ∷ a) m.left.rises)))
+
+  -- the first terms are of one monomial
+  pub merge_equal : (x y : Monomial) (c d : ℤ) (a b out' : List (Monomial × ℤ)) → Merging l r out ((x, c) ∷ a) ((y, d) ∷ b) → cmp_monomial x y ≡ Equal → out' ≡ out ++ term_unless_zero x (c +ℤ d) → Merging l r out' a b
+  merge_equal x y c d a b out' m e o = by_value (int_eq (c +ℤ d) (pos 0)) refl o
+    where
+      heads : Merging l r out ((x, c) ∷ a) ((x, d) ∷ b)
+      heads = subst (λ n. Merging l r out ((x, c) ∷ a) ((n, d) ∷ b)) (sym (monomial_ties x y e)) m
+
+      by_value : (t : Bool) → int_eq (c +ℤ d) (pos 0) ≡ t → out' ≡ out ++ cond t [] ((x, c +ℤ d) ∷ []) → Merging l r out' a b
+      by_value true z o' = rw (o', append-nil) (merge_none x c d a b heads ((signed_Decides (c +ℤ d) (pos 0)).0 z))
+      by_value false z o' = rw o' (merge_both x c d a b heads (ap not z))

@@ -1,11 +1,11 @@
 -- Monomials put in their places.
-use Rattle.std.proofs.Common.{◌≡◌, ℕ, zero, suc, ◌+◌, ◌<◌, ◌≤◌, ℤ, pos, ◌+ℤ◌, true, false, not, cond, unsigned_abs, List, [], ◌∷◌, ◌++◌, map, take, drop, length, get_or, set, add-one, arith, refl, ap, sym, subst, ◌∙◌}
-use Rattle.std.proofs.lemmas.Int.{ints}
+use Rattle.std.proofs.Common.{◌≡◌, ℕ, zero, suc, ◌+◌, ◌<◌, ◌≤◌, ℤ, pos, ◌+ℤ◌, true, false, not, cond, unsigned_abs, List, [], ◌∷◌, ◌++◌, take, drop, length, get_or, set, add-one, arith, refl, ap, sym, subst, ◌∙◌}
 use Rattle.std.specs.declared.cmp.Ordering.{Ordering}
 use Rattle.std.specs.declared.cmp.Ordering.TheVariants.{Less, Equal, Greater}
+use Rattle.std.specs.Cmp.{signed_Decides}
 use Rattle.std.specs.Ordering.{is_lt, is_eq, int_eq, ordering_reverse}
-use Rattle.nf_terms.specs.Terms.{Monomial, Polynomial, Zero, Plus, polynomial_of}
-use Rattle.nf_terms.specs.View.{monomial_in, term_in}
+use Rattle.nf_terms.specs.Terms.{Monomial, Polynomial, Zero, Plus}
+use Rattle.nf_terms.specs.View.{monomial_in}
 use Rattle.nf_terms.specs.Order.{cmp_monomial}
 use Rattle.nf_terms.specs.Comparison.{monomials_total}
 use Rattle.nf_terms.specs.Measures.{size_of, size_of_monomial, weight_of}
@@ -14,19 +14,14 @@ use Rattle.nf_terms.specs.Normal.{IsNormal, ordered}
 use Rattle.nf_terms.specs.RawSums.{raw_sum, IsNormalFormOf}
 use Rattle.nf_terms.specs.declared.tree.MonoTree.{MonoTree}
 use Rattle.nf_terms.proofs.Partings.{less_of, ordered_term}
-use Rattle.nf_terms.proofs.Tests.{and_left, and_right, and_both}
+use Rattle.nf_terms.proofs.Tests.{and_left, and_right, and_both, by_test}
 use Rattle.nf_sums.specs.Forms.{with_term, plus, by_order}
-use Rattle.nf_sums.specs.OrderedSums.{fits_monomial, IsOrderedSum}
 use Rattle.nf_sums.specs.Accumulators.{stand_before, begins_behind, begins_with, coefficient_of, with_first, with_more, IsMeasured}
-use Rattle.nf_sums.proofs.Terms.{size-sum, weight-sum}
-use Rattle.nf_sums.proofs.Forms.{sum_form}
-use Rattle.nf_sums.proofs.Collecting.{with_term_ordered, worth-with_term, size-with_term, weight-with_term, fits-with_term}
+use Rattle.nf_sums.proofs.Terms.{terms_in, size-sum, weight-sum}
+use Rattle.nf_sums.proofs.Turns.{weight_at}
+use Rattle.nf_sums.proofs.Grown.{all_more}
 
 -- ---- where a monomial has its place
--- the polynomial of a tree's terms
-abbrev pub terms_in : List (MonoTree × ℤ) → Polynomial
-terms_in l = polynomial_of (map term_in l)
-
 pub terms_joined : (a b : List (MonoTree × ℤ)) → terms_in (a ++ b) ≡ raw_sum (terms_in a) (terms_in b)
 terms_joined [] b = refl
 terms_joined (x ∷ a) b = ap (Plus (monomial_in x.0) x.1) (terms_joined a b)
@@ -43,11 +38,6 @@ before_step m (y ∷ z ∷ l) (suc k) x o h e g =
 
 pub before_more : (m : Monomial) (l : List (MonoTree × ℤ)) (k : ℕ) (x : MonoTree × ℤ) → ordered (terms_in l) ≡ true → k < length l → x ≡ get_or l k x → is_lt (cmp_monomial (monomial_in x.0) m) ≡ true → stand_before m (terms_in (take (k + 1) l)) ≡ true
 before_more m l k x o h e g = subst (λ n. stand_before m (terms_in (take n l)) ≡ true) (sym (add-one k)) (before_step m l k x o h e g)
-
-pub behind_here : (m : Monomial) (l : List (MonoTree × ℤ)) (k : ℕ) (x : MonoTree × ℤ) → k < length l → x ≡ get_or l k x → is_lt (cmp_monomial (monomial_in x.0) m) ≡ false → begins_behind m (terms_in (drop k l)) ≡ true
-behind_here m [] k x h e g = absurd (omega arith)
-behind_here m (y ∷ l) zero x h e g = ap not (ap (λ z. is_lt (cmp_monomial (monomial_in z.0) m)) (sym e) ∙ g)
-behind_here m (y ∷ l) (suc k) x h e g = behind_here m l k x (omega arith) e g
 
 -- ---- a monomial put there
 greater_of : (m n : Monomial) → is_lt (cmp_monomial n m) ≡ true → cmp_monomial m n ≡ Greater
@@ -97,18 +87,13 @@ put_old m c k l s w =
     ap (raw_sum (terms_in (take k l))) (sym (old_term m c (terms_in (drop k l)) w)) ∙ sym (passed m c (terms_in (take k l)) (terms_in (drop k l)) s) ∙ ap (with_term m c) (split_at k l)
 
 -- ---- a coefficient more
-at_drop : (k : ℕ) (l : List (MonoTree × ℤ)) → k < length l → unsigned_abs (coefficient_of (terms_in (drop k l))) ≤ weight_of (terms_in l)
-at_drop k [] h = absurd (omega arith)
-at_drop zero (x ∷ l) h = omega arith
-at_drop (suc k) (x ∷ l) h = omega (arith, at_drop k l (omega arith))
-
 pub coefficient_at : (l : List (MonoTree × ℤ)) (k : ℕ) (x : MonoTree × ℤ) → k < length l → x ≡ get_or l k x → coefficient_of (terms_in (drop k l)) ≡ x.1
 coefficient_at [] k x h e = absurd (omega arith)
 coefficient_at (y ∷ l) zero x h e = ap (λ z. z.1) (sym e)
 coefficient_at (y ∷ l) (suc k) x h e = coefficient_at l k x (omega arith) e
 
 pub fits_more : (l : List (MonoTree × ℤ)) (k : ℕ) (x : MonoTree × ℤ) (c : ℤ) → k < length l → x ≡ get_or l k x → weight_of (terms_in l) + unsigned_abs c ≤ weight_limit → unsigned_abs c + unsigned_abs x.1 ≤ weight_limit
-fits_more l k x c h e w = let a = at_drop k l h in let b = ap unsigned_abs (coefficient_at l k x h e) in omega (arith, w)
+fits_more l k x c h e w = omega (arith, w, weight_at l k x h e)
 
 pub removed_at : (k : ℕ) (l : List (MonoTree × ℤ)) (t : ℤ) → k < length l → int_eq t (pos 0) ≡ true → terms_in (take k l ++ drop (suc k) l) ≡ raw_sum (terms_in (take k l)) (with_first t (terms_in (drop k l)))
 removed_at k [] t h z = absurd (omega arith)
@@ -120,38 +105,44 @@ changed_at k [] x t h e z = absurd (omega arith)
 changed_at zero (y ∷ l) x t h e z = ap (λ w. Plus (monomial_in w.0) t (terms_in l)) e ∙ sym (plus_is (monomial_in y.0) t (terms_in l) z)
 changed_at (suc k) (y ∷ l) x t h e z = ap (Plus (monomial_in y.0) y.1) (changed_at k l x t (omega arith) e z)
 
--- ---- it is the sum
-module _ (p : Polynomial) (m : Monomial) (c : ℤ) (n : IsNormal p) (k : IsNormal (Plus m c Zero)) where
-  sum_one : IsOrderedSum p (Plus m c Zero) (with_term m c p)
-  sum_one = record {
-    in_order = with_term_ordered m c p (ordered_term m c Zero k.ordered).first n.ordered;
-    worth = λ f. omega (arith, ints, worth-with_term f m c p);
-    size = omega (arith, size-with_term m c p);
-    weight = omega (arith, weight-with_term m c p);
-    inside = λ g h. fits-with_term m c p (and_left (fits_monomial m) true h) g;
-  }
+-- ---- the measures where a coefficient changes
+pub size_at : (l : List (MonoTree × ℤ)) (k : ℕ) (x : MonoTree × ℤ) → k < length l → x ≡ get_or l k x → 1 + size_of_monomial (monomial_in x.0) ≤ size_of (terms_in l)
+size_at [] k x h e = absurd (omega arith)
+size_at (y ∷ l) zero x h e = let f : size_of_monomial (monomial_in x.0) ≡ size_of_monomial (monomial_in y.0) = ap (λ t. size_of_monomial (monomial_in t.0)) e in omega arith
+size_at (y ∷ l) (suc k) x h e = omega (arith, size_at l k x (omega arith) e)
 
-  pub one_more : weight_of p + unsigned_abs c ≤ weight_limit → size_of p + (1 + size_of_monomial m) ≤ size_limit → IsNormalFormOf (with_term m c p) (raw_sum p (Plus m c Zero))
-  one_more w s = sum_form p (Plus m c Zero) (with_term m c p) n k sum_one (omega (arith, w)) (omega (arith, s))
+pub ruleset terms_at = (weight_at, size_at)
 
-  pub one_nonzero : int_eq c (pos 0) ≡ false
-  one_nonzero = (ordered_term m c Zero k.ordered).nonzero
+pub size_stays : (l : List (MonoTree × ℤ)) (k : ℕ) (t : ℤ) → k < length l → int_eq t (pos 0) ≡ false → size_of (raw_sum (terms_in (take k l)) (with_first t (terms_in (drop k l)))) ≡ size_of (terms_in l)
+size_stays [] k t h z = absurd (omega arith)
+size_stays (y ∷ l) zero t h z = ap size_of (plus_is (monomial_in y.0) t (terms_in l) z)
+size_stays (y ∷ l) (suc k) t h z = omega (arith, size_stays l k t (omega arith) z)
+
+pub size_falls : (l : List (MonoTree × ℤ)) (k : ℕ) (x : MonoTree × ℤ) (t : ℤ) → k < length l → x ≡ get_or l k x → int_eq t (pos 0) ≡ true → size_of (raw_sum (terms_in (take k l)) (with_first t (terms_in (drop k l)))) + (1 + size_of_monomial (monomial_in x.0)) ≡ size_of (terms_in l)
+size_falls [] k x t h e z = absurd (omega arith)
+size_falls (y ∷ l) zero x t h e z =
+    let f : size_of (plus (monomial_in y.0) t (terms_in l)) ≡ size_of (terms_in l) = ap (λ b. size_of (cond b (terms_in l) (Plus (monomial_in y.0) t (terms_in l)))) z in
+    let g : size_of_monomial (monomial_in x.0) ≡ size_of_monomial (monomial_in y.0) = ap (λ w. size_of_monomial (monomial_in w.0)) e in
+    omega (arith, f, g)
+size_falls (y ∷ l) (suc k) x t h e z = omega (arith, size_falls l k x t (omega arith) e z)
+
+weight_plus : (m : Monomial) (c : ℤ) (p : Polynomial) → weight_of (plus m c p) ≡ unsigned_abs c + weight_of p
+weight_plus m c p = by_test (λ t. weight_of t ≡ unsigned_abs c + weight_of p) p (Plus m c p) (int_eq c (pos 0)) (λ e. omega (arith, ap unsigned_abs ((signed_Decides c (pos 0)).0 e))) (λ e. refl)
+
+pub weight_changes : (l : List (MonoTree × ℤ)) (k : ℕ) (x : MonoTree × ℤ) (t : ℤ) → k < length l → x ≡ get_or l k x → weight_of (raw_sum (terms_in (take k l)) (with_first t (terms_in (drop k l)))) + unsigned_abs x.1 ≡ weight_of (terms_in l) + unsigned_abs t
+weight_changes [] k x t h e = absurd (omega arith)
+weight_changes (y ∷ l) zero x t h e = omega (arith, weight_plus (monomial_in y.0) t (terms_in l), ap (λ w. unsigned_abs w.1) e)
+weight_changes (y ∷ l) (suc k) x t h e = omega (arith, weight_changes l k x t (omega arith) e)
 
 -- ---- a sum that grows by one monomial
-pub stands_within : (m : Monomial) (k : ℕ) (l : List (MonoTree × ℤ)) → begins_with m (terms_in (drop k l)) ≡ true → k < length l
-stands_within m zero [] w = absurd (cc w)
-stands_within m (suc k) [] w = absurd (cc w)
-stands_within m zero (x ∷ l) w = omega arith
-stands_within m (suc k) (x ∷ l) w = omega (arith, stands_within m k l w)
-
 module _ (l : List (MonoTree × ℤ)) (size weight k : ℕ) (m : Monomial) (c : ℤ) (have : IsMeasured (terms_in l) size weight) (one : IsNormal (Plus m c Zero)) (small : size + (1 + size_of_monomial m) ≤ size_limit) (narrow : weight + unsigned_abs c ≤ weight_limit)
     (before : stand_before m (terms_in (take k l)) ≡ true) where
   grown_form : IsNormalFormOf (with_term m c (terms_in l)) (raw_sum (terms_in l) (Plus m c Zero))
-  grown_form = one_more (terms_in l) m c have.normal one (omega (arith, have.has_weight, narrow)) (omega (arith, have.has_size, small))
+  grown_form = all_more (terms_in l) (Plus m c Zero) have.normal one (omega (arith, have.has_weight, narrow)) (omega (arith, have.has_size, small))
 
   module _ (q : Polynomial) (behind : begins_behind m (terms_in (drop k l)) ≡ true) (new : begins_with m (terms_in (drop k l)) ≡ false) (is : q ≡ raw_sum (terms_in (take k l)) (Plus m c (terms_in (drop k l)))) where
     pub new_is : q ≡ with_term m c (terms_in l)
-    new_is = is ∙ put_new m c k l (one_nonzero (terms_in l) m c have.normal one) before behind new
+    new_is = is ∙ put_new m c k l (ordered_term m c Zero one.ordered).nonzero before behind new
 
     pub new_measured : (s w : ℕ) → s ≡ size + (1 + size_of_monomial m) → w ≡ weight + unsigned_abs c → IsMeasured q s w
     new_measured s w e f = record {
@@ -174,5 +165,5 @@ module _ (l : List (MonoTree × ℤ)) (size weight k : ℕ) (m : Monomial) (c : 
     pub old_is : q ≡ with_term m c (terms_in l)
     old_is = is ∙ put_old m c k l before old
 
-    pub old_normal : IsNormal q
-    old_normal = subst IsNormal (sym old_is) grown_form.normal
+    pub old_measured : (s w : ℕ) → s ≡ size_of q → w ≡ weight_of q → IsMeasured q s w
+    old_measured s w e f = record { normal = subst IsNormal (sym old_is) grown_form.normal; has_size = e; has_weight = f }

@@ -18,48 +18,44 @@ use Rattle.nf_terms.proofs.Tests.{and_left, and_right, and_both}
 use Rattle.nf_sums.proofs.Sorted.{front_of, back_of}
 use Rattle.nf_sums.proofs.Worth.{worth-product_left, worth-product_right}
 use Rattle.nf_sums.proofs.Bags.{size_worth, size_ignores, size-joined, fits_worth, fits_ignores, fits_again, fits-joined}
-use Rattle.nf_sums.proofs.Terms.{Rises, rises_of, ordered_of, good_term, before_term, polynomial_of-append, size-sum, weight-sum, fits-sum}
-
--- the polynomial of a tree's terms
-abbrev pub terms : List (MonoTree × ℤ) → Polynomial
-terms l = polynomial_of (map term_in l)
+use Rattle.nf_sums.proofs.Terms.{terms_in, Rises, rises_of, ordered_of, good_term, before_term, polynomial_of-append, size-sum, weight-sum, fits-sum}
 
 module _ (l f b : List (MonoTree × ℤ)) (e : l ≡ f ++ b) where
   split : map term_in l ≡ map term_in f ++ map term_in b
   split = ap (map term_in) e ∙ map-append term_in f b
 
-  pub halves : terms l ≡ raw_sum (terms f) (terms b)
+  pub halves : terms_in l ≡ raw_sum (terms_in f) (terms_in b)
   halves = ap polynomial_of split ∙ polynomial_of-append (map term_in f) (map term_in b)
 
-  whole : ordered (terms l) ≡ true → Rises (map term_in f ++ map term_in b)
+  whole : ordered (terms_in l) ≡ true → Rises (map term_in f ++ map term_in b)
   whole o = subst Rises split (rises_of (map term_in l) o)
 
-  pub front_ordered : ordered (terms l) ≡ true → ordered (terms f) ≡ true
+  pub front_ordered : ordered (terms_in l) ≡ true → ordered (terms_in f) ≡ true
   front_ordered o = ordered_of (map term_in f) (record { rises = front_of good_term before_term (map term_in f) (map term_in b) (whole o).rises })
 
-  pub back_ordered : ordered (terms l) ≡ true → ordered (terms b) ≡ true
+  pub back_ordered : ordered (terms_in l) ≡ true → ordered (terms_in b) ≡ true
   back_ordered o = ordered_of (map term_in b) (record { rises = back_of good_term before_term (map term_in f) (map term_in b) (whole o).rises })
 
-  weight_halves : weight_of (terms l) ≡ weight_of (terms f) + weight_of (terms b)
-  weight_halves = ap weight_of halves ∙ weight-sum (terms f) (terms b)
+  weight_halves : weight_of (terms_in l) ≡ weight_of (terms_in f) + weight_of (terms_in b)
+  weight_halves = ap weight_of halves ∙ weight-sum (terms_in f) (terms_in b)
 
-  weight_left : (w : ℕ) → weight_of (terms l) * w ≡ weight_of (terms f) * w + weight_of (terms b) * w
-  weight_left w = ap (λ v. v * w) weight_halves ∙ add-mul (weight_of (terms f)) (weight_of (terms b)) w
+  weight_left : (w : ℕ) → weight_of (terms_in l) * w ≡ weight_of (terms_in f) * w + weight_of (terms_in b) * w
+  weight_left w = ap (λ v. v * w) weight_halves ∙ add-mul (weight_of (terms_in f)) (weight_of (terms_in b)) w
 
-  weight_right : (w : ℕ) → w * weight_of (terms l) ≡ w * weight_of (terms f) + w * weight_of (terms b)
-  weight_right w = ap (λ v. w * v) weight_halves ∙ mul-add w (weight_of (terms f)) (weight_of (terms b))
+  weight_right : (w : ℕ) → w * weight_of (terms_in l) ≡ w * weight_of (terms_in f) + w * weight_of (terms_in b)
+  weight_right w = ap (λ v. w * v) weight_halves ∙ mul-add w (weight_of (terms_in f)) (weight_of (terms_in b))
 
   module _ (w k : ℕ) where
-    pub front_narrow_left : weight_of (terms l) * w ≤ k → weight_of (terms f) * w ≤ k
+    pub front_narrow_left : weight_of (terms_in l) * w ≤ k → weight_of (terms_in f) * w ≤ k
     front_narrow_left h = omega (arith, weight_left w)
 
-    pub back_narrow_left : weight_of (terms l) * w ≤ k → weight_of (terms b) * w ≤ k
+    pub back_narrow_left : weight_of (terms_in l) * w ≤ k → weight_of (terms_in b) * w ≤ k
     back_narrow_left h = omega (arith, weight_left w)
 
-    pub front_narrow_right : w * weight_of (terms l) ≤ k → w * weight_of (terms f) ≤ k
+    pub front_narrow_right : w * weight_of (terms_in l) ≤ k → w * weight_of (terms_in f) ≤ k
     front_narrow_right h = omega (arith, weight_right w)
 
-    pub back_narrow_right : w * weight_of (terms l) ≤ k → w * weight_of (terms b) ≤ k
+    pub back_narrow_right : w * weight_of (terms_in l) ≤ k → w * weight_of (terms_in b) ≤ k
     back_narrow_right h = omega (arith, weight_right w)
 
 -- the sum of the products of the halves is the product
@@ -86,24 +82,24 @@ product_right x y z l p q s e a b c = record {
 }
 
 -- what a call that gives a sum of two products of halves gives
-returned : (p q x y : Polynomial) (f : (t : Polynomial) → IsOrderedSum p q t → IsOrderedProduct x y t) (o : Result (Vec (MonoTree × ℤ) Global) NoMemory) → IfOk o (λ v. IsOrderedSum p q (terms v.items)) → IfOk o (λ v. IsOrderedProduct x y (terms v.items))
-returned p q x y f (Ok v) h = f (terms v.items) h
+returned : (p q x y : Polynomial) (f : (t : Polynomial) → IsOrderedSum p q t → IsOrderedProduct x y t) (o : Result (Vec (MonoTree × ℤ) Global) NoMemory) → IfOk o (λ v. IsOrderedSum p q (terms_in v.items)) → IfOk o (λ v. IsOrderedProduct x y (terms_in v.items))
+returned p q x y f (Ok v) h = f (terms_in v.items) h
 returned p q x y f (Err e) h = h
 
-module _ (l f b : List (MonoTree × ℤ)) (e : l ≡ f ++ b) (r p q p' q' : List (MonoTree × ℤ)) (i : p' ≡ p) (j : q' ≡ q) where
-  module _ (g : IsOrderedProduct (terms f) (terms r) (terms p)) (h : IsOrderedProduct (terms b) (terms r) (terms q)) where
-    pub narrow_left : weight_of (terms l) * weight_of (terms r) ≤ weight_limit → weight_of (terms p') + weight_of (terms q') ≤ weight_limit
-    narrow_left n = omega (arith, weight_left l f b e (weight_of (terms r)), g.weight, h.weight, ap (λ t. weight_of (terms t)) i, ap (λ t. weight_of (terms t)) j)
+module _ (l f b : List (MonoTree × ℤ)) (e : l ≡ f ++ b) (r p q : List (MonoTree × ℤ)) where
+  module _ (g : IsOrderedProduct (terms_in f) (terms_in r) (terms_in p)) (h : IsOrderedProduct (terms_in b) (terms_in r) (terms_in q)) where
+    pub narrow_left : weight_of (terms_in l) * weight_of (terms_in r) ≤ weight_limit → weight_of (terms_in p) + weight_of (terms_in q) ≤ weight_limit
+    narrow_left n = omega (arith, weight_left l f b e (weight_of (terms_in r)), g.weight, h.weight)
 
-    pub returned_left : (o : Result (Vec (MonoTree × ℤ) Global) NoMemory) → IfOk o (λ v. IsOrderedSum (terms p') (terms q') (terms v.items)) → IfOk o (λ v. IsOrderedProduct (terms l) (terms r) (terms v.items))
-    returned_left = returned (terms p') (terms q') (terms l) (terms r) (λ t s. product_left (terms l) (terms f) (terms b) (terms r) (terms p') (terms q') t (halves l f b e) (subst (λ u. IsOrderedProduct (terms f) (terms r) (terms u)) (sym i) g) (subst (λ u. IsOrderedProduct (terms b) (terms r) (terms u)) (sym j) h) s)
+    pub returned_left : (o : Result (Vec (MonoTree × ℤ) Global) NoMemory) → IfOk o (λ v. IsOrderedSum (terms_in p) (terms_in q) (terms_in v.items)) → IfOk o (λ v. IsOrderedProduct (terms_in l) (terms_in r) (terms_in v.items))
+    returned_left = returned (terms_in p) (terms_in q) (terms_in l) (terms_in r) (λ t s. product_left (terms_in l) (terms_in f) (terms_in b) (terms_in r) (terms_in p) (terms_in q) t (halves l f b e) g h s)
 
-  module _ (g : IsOrderedProduct (terms r) (terms f) (terms p)) (h : IsOrderedProduct (terms r) (terms b) (terms q)) where
-    pub narrow_right : weight_of (terms r) * weight_of (terms l) ≤ weight_limit → weight_of (terms p') + weight_of (terms q') ≤ weight_limit
-    narrow_right n = omega (arith, weight_right l f b e (weight_of (terms r)), g.weight, h.weight, ap (λ t. weight_of (terms t)) i, ap (λ t. weight_of (terms t)) j)
+  module _ (g : IsOrderedProduct (terms_in r) (terms_in f) (terms_in p)) (h : IsOrderedProduct (terms_in r) (terms_in b) (terms_in q)) where
+    pub narrow_right : weight_of (terms_in r) * weight_of (terms_in l) ≤ weight_limit → weight_of (terms_in p) + weight_of (terms_in q) ≤ weight_limit
+    narrow_right n = omega (arith, weight_right l f b e (weight_of (terms_in r)), g.weight, h.weight)
 
-    pub returned_right : (o : Result (Vec (MonoTree × ℤ) Global) NoMemory) → IfOk o (λ v. IsOrderedSum (terms p') (terms q') (terms v.items)) → IfOk o (λ v. IsOrderedProduct (terms r) (terms l) (terms v.items))
-    returned_right = returned (terms p') (terms q') (terms r) (terms l) (λ t s. product_right (terms l) (terms f) (terms b) (terms r) (terms p') (terms q') t (halves l f b e) (subst (λ u. IsOrderedProduct (terms r) (terms f) (terms u)) (sym i) g) (subst (λ u. IsOrderedProduct (terms r) (terms b) (terms u)) (sym j) h) s)
+    pub returned_right : (o : Result (Vec (MonoTree × ℤ) Global) NoMemory) → IfOk o (λ v. IsOrderedSum (terms_in p) (terms_in q) (terms_in v.items)) → IfOk o (λ v. IsOrderedProduct (terms_in r) (terms_in l) (terms_in v.items))
+    returned_right = returned (terms_in p) (terms_in q) (terms_in r) (terms_in l) (λ t s. product_right (terms_in l) (terms_in f) (terms_in b) (terms_in r) (terms_in p) (terms_in q) t (halves l f b e) g h s)
 
 -- a product of numbers that are not 0 is not 0
 abs_zero : (c : ℤ) → unsigned_abs c ≡ 0 → c ≡ pos 0
@@ -157,10 +153,10 @@ only_one (y ∷ []) x h k e = ap (λ z. z ∷ []) (sym e)
 only_one (y ∷ z ∷ l) x h k e = absurd (omega arith)
 
 -- the product of two lists of one term
-pub single_product : (l r old out : List (MonoTree × ℤ)) (x y : MonoTree × ℤ) (k : Monomial) (e : ℤ) → length l ≤ 1 → 0 < length l → x ≡ get_or l 0 x → length r ≤ 1 → 0 < length r → y ≡ get_or r 0 y → ordered (terms l) ≡ true → ordered (terms r) ≡ true → IsOrderedJoin (monomial_in x.0) (monomial_in y.0) k → e ≡ x.1 *ℤ y.1 → old ≡ [] → map term_in out ≡ map term_in old ++ (k, e) ∷ [] → IsOrderedProduct (terms l) (terms r) (terms out)
+pub single_product : (l r old out : List (MonoTree × ℤ)) (x y : MonoTree × ℤ) (k : Monomial) (e : ℤ) → length l ≤ 1 → 0 < length l → x ≡ get_or l 0 x → length r ≤ 1 → 0 < length r → y ≡ get_or r 0 y → ordered (terms_in l) ≡ true → ordered (terms_in r) ≡ true → IsOrderedJoin (monomial_in x.0) (monomial_in y.0) k → e ≡ x.1 *ℤ y.1 → old ≡ [] → map term_in out ≡ map term_in old ++ (k, e) ∷ [] → IsOrderedProduct (terms_in l) (terms_in r) (terms_in out)
 single_product l r old out x y k e a b c a' b' c' g h j p z o =
-    let i : terms l ≡ Plus (monomial_in x.0) x.1 Zero = ap terms (only_one l x a b c) in
-    let i' : terms r ≡ Plus (monomial_in y.0) y.1 Zero = ap terms (only_one r y a' b' c') in
-    let n : terms out ≡ Plus k (x.1 *ℤ y.1) Zero = ap polynomial_of (o ∙ ap (λ t. map term_in t ++ (k, e) ∷ []) z) ∙ ap (λ t. Plus k t Zero) p in
+    let i : terms_in l ≡ Plus (monomial_in x.0) x.1 Zero = ap terms_in (only_one l x a b c) in
+    let i' : terms_in r ≡ Plus (monomial_in y.0) y.1 Zero = ap terms_in (only_one r y a' b' c') in
+    let n : terms_in out ≡ Plus k (x.1 *ℤ y.1) Zero = ap polynomial_of (o ∙ ap (λ t. map term_in t ++ (k, e) ∷ []) z) ∙ ap (λ t. Plus k t Zero) p in
     let s : IsOrderedProduct (Plus (monomial_in x.0) x.1 Zero) (Plus (monomial_in y.0) y.1 Zero) (Plus k (x.1 *ℤ y.1) Zero) = product_one (monomial_in x.0) (monomial_in y.0) k x.1 y.1 (ap ordered (sym i) ∙ g) (ap ordered (sym i') ∙ h) j in
-    subst (λ t. IsOrderedProduct t (terms r) (terms out)) (sym i) (subst (λ t. IsOrderedProduct (Plus (monomial_in x.0) x.1 Zero) t (terms out)) (sym i') (subst (λ t. IsOrderedProduct (Plus (monomial_in x.0) x.1 Zero) (Plus (monomial_in y.0) y.1 Zero) t) (sym n) s))
+    subst (λ t. IsOrderedProduct t (terms_in r) (terms_in out)) (sym i) (subst (λ t. IsOrderedProduct (Plus (monomial_in x.0) x.1 Zero) t (terms_in out)) (sym i') (subst (λ t. IsOrderedProduct (Plus (monomial_in x.0) x.1 Zero) (Plus (monomial_in y.0) y.1 Zero) t) (sym n) s))

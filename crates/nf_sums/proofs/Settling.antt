@@ -6,11 +6,12 @@ use Rattle.nf_terms.specs.Order.{cmp_monomial}
 use Rattle.nf_terms.specs.Tidied.{tidied}
 use Rattle.nf_terms.specs.Lists.{ListTerm, AreNormal, IsNormalList}
 use Rattle.nf_terms.specs.Normal.{IsNormal, IsNormalArray, ordered, ordered_atom, ordered_monomial, ordered_array, ordered_writes, atom_rises, monomial_rises, is_constant, stays_read}
+use Rattle.nf_terms.specs.Parts.{HasNormalParts}
 use Rattle.nf_terms.specs.RawSums.{total, SameTotals}
 use Rattle.nf_terms.proofs.Tests.{and_left, and_right}
 use Rattle.nf_terms.proofs.Partings.{ordered_term, less_of}
 use Rattle.nf_sums.specs.Forms.{plus, by_order, with_term, normal_form}
-use Rattle.nf_sums.specs.Sameness.{settled_atom, settled_monomial, settled, settled_writes, settled_array, SameSum, SameArray, SameItems, SameList}
+use Rattle.nf_sums.specs.Sameness.{settled_atom, settled_monomial, settled, settled_writes, settled_array, SameSum, SameAtom, SameArray, SameItems, SameList}
 use Rattle.nf_sums.proofs.Sorting.{sorted_stays, atoms_ordered}
 use Rattle.nf_sums.proofs.Collecting.{atoms_in_order}
 use Rattle.nf_sums.proofs.Tidying.{ordered_write, tidied_stays}
@@ -87,6 +88,24 @@ sums_equal p q m n s = normal_forms_equal p q m n (record { totals = λ bag. ap 
 pub arrays_equal : (a b : ArrayTerm) → IsNormalArray a → IsNormalArray b → SameArray a b → a ≡ b
 arrays_equal a b m n s = sym (array_stays a m.ordered) ∙ s.forms ∙ array_stays b n.ordered
 
+pub atoms_equal : (a b : Atom) → HasNormalParts a → HasNormalParts b → SameAtom a b → a ≡ b
+atoms_equal (Symbol p) (Symbol q) m n s = ap Symbol s
+atoms_equal (Symbol p) (Read b j) m n s = absurd s
+atoms_equal (Symbol p) (Quotient r t) m n s = absurd s
+atoms_equal (Symbol p) (Remainder r t) m n s = absurd s
+atoms_equal (Read a i) (Symbol q) m n s = absurd s
+atoms_equal (Read a i) (Read b j) m n s = λ k. Read (arrays_equal a b m.0 n.0 s.0 k) (sums_equal i j m.1 n.1 s.1 k)
+atoms_equal (Read a i) (Quotient r t) m n s = absurd s
+atoms_equal (Read a i) (Remainder r t) m n s = absurd s
+atoms_equal (Quotient p q) (Symbol t) m n s = absurd s
+atoms_equal (Quotient p q) (Read b j) m n s = absurd s
+atoms_equal (Quotient p q) (Quotient r t) m n s = λ k. Quotient (sums_equal p r m.0 n.0 s.0 k) (sums_equal q t m.1 n.1 s.1 k)
+atoms_equal (Quotient p q) (Remainder r t) m n s = absurd s
+atoms_equal (Remainder p q) (Symbol t) m n s = absurd s
+atoms_equal (Remainder p q) (Read b j) m n s = absurd s
+atoms_equal (Remainder p q) (Quotient r t) m n s = absurd s
+atoms_equal (Remainder p q) (Remainder r t) m n s = λ k. Remainder (sums_equal p r m.0 n.0 s.0 k) (sums_equal q t m.1 n.1 s.1 k)
+
 items_equal : (ps qs : List Polynomial) → AreNormal ps → AreNormal qs → SameItems ps qs → ps ≡ qs
 items_equal [] [] m n s = refl
 items_equal [] (q ∷ qs) m n s = absurd s
@@ -96,4 +115,4 @@ items_equal (p ∷ ps) (q ∷ qs) m n s = λ k. sums_equal p q m.0 n.0 s.0 k ∷
 pub lists_equal : (l m : ListTerm) → IsNormalList l → IsNormalList m → SameList l m → l ≡ m
 lists_equal l m h n s = λ k. record { base = s.bases k; items = items_equal l.items m.items h.items n.items s.items k }
 
-pub ruleset equal_forms = (sums_equal, arrays_equal, lists_equal)
+pub ruleset equal_forms = (sums_equal, atoms_equal, arrays_equal, lists_equal)

@@ -1,7 +1,9 @@
 -- Lists of terms, as polynomials.
-use Rattle.std.proofs.Common.{◌≡◌, ℕ, ◌+◌, ℤ, pos, ◌+ℤ◌, Bool, true, false, ◌&&◌, not, List, [], ◌∷◌, ◌++◌, arith, refl, ap, sym, ◌∙◌}
+use Rattle.std.proofs.Common.{◌≡◌, ℕ, ◌+◌, ℤ, pos, ◌+ℤ◌, Bool, true, false, ◌&&◌, not, List, [], ◌∷◌, ◌++◌, map, arith, refl, ap, sym, ◌∙◌}
 use Rattle.std.specs.Ordering.{is_lt, int_eq}
 use Rattle.nf_terms.specs.Terms.{Monomial, Polynomial, Zero, Plus, polynomial_of}
+use Rattle.nf_terms.specs.View.{term_in}
+use Rattle.nf_terms.specs.declared.tree.MonoTree.{MonoTree}
 use Rattle.nf_terms.specs.Order.{cmp_monomial}
 use Rattle.nf_terms.specs.Measures.{size_of, weight_of}
 use Rattle.nf_terms.specs.Normal.{ordered, ordered_monomial}
@@ -9,6 +11,10 @@ use Rattle.nf_terms.specs.RawSums.{raw_sum}
 use Rattle.nf_sums.specs.OrderedSums.{worth_of, fits, fits_monomial}
 use Rattle.nf_sums.proofs.Worth.{worth-sum}
 use Rattle.nf_sums.proofs.Sorted.{sorted, Sorted}
+
+-- the polynomial of a tree's terms
+abbrev pub terms_in : List (MonoTree × ℤ) → Polynomial
+terms_in l = polynomial_of (map term_in l)
 
 -- a term that an ordered polynomial may have
 abbrev pub good_term : Monomial × ℤ → Bool

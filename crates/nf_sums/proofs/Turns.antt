@@ -1,17 +1,14 @@
 -- The turns of a merge of two lists of a tree's terms.
-use Rattle.std.proofs.Common.{◌≡◌, ℕ, zero, suc, ◌+◌, ◌<◌, ◌≤◌, ℤ, pos, ◌+ℤ◌, neg_ℤ, Bool, true, false, not, cond, unsigned_abs, List, [], ◌∷◌, ◌++◌, map, length, get_or, drop, arith, refl, ap, sym, subst, ◌∙◌, drop-cons, add-one}
-use Rattle.std.proofs.lemmas.Int.{ints}
-use Rattle.std.proofs.lemmas.List.{drop_all, append-nil}
+use Rattle.std.proofs.Common.{◌≡◌, ℕ, zero, suc, ◌+◌, ◌<◌, ◌≤◌, ℤ, ◌+ℤ◌, neg_ℤ, true, unsigned_abs, List, [], ◌∷◌, ◌++◌, map, length, get_or, drop, arith, refl, ap, sym, subst, ◌∙◌, drop-cons, add-one}
+use Rattle.std.proofs.lemmas.List.{drop_all}
 use Rattle.std.specs.declared.cmp.Ordering.TheVariants.{Less, Equal, Greater}
-use Rattle.std.specs.Ordering.{is_lt, int_eq, ordering_reverse}
-use Rattle.std.specs.Cmp.{signed_Decides}
+use Rattle.std.specs.Ordering.{is_lt, ordering_reverse}
 use Rattle.nf_terms.specs.Terms.{Monomial, Polynomial, polynomial_of}
 use Rattle.nf_terms.specs.Terms as terms
 use Rattle.nf_terms.specs.View.{term_in, monomial_in}
 use Rattle.nf_terms.specs.Order.{cmp_monomial}
 use Rattle.nf_terms.specs.Measures.{weight_of}
 use Rattle.nf_terms.specs.Normal.{ordered}
-use Rattle.nf_terms.specs.TermKeys.{monomial_ties}
 use Rattle.nf_terms.specs.Comparison.{monomials_total}
 use Rattle.nf_terms.specs.declared.tree.MonoTree.{MonoTree}
 use Rattle.nf_sums.specs.declared.merge.Sign.{Sign}
@@ -19,9 +16,7 @@ use Rattle.nf_sums.specs.declared.merge.Sign.TheVariants.{Plus, Minus}
 use Rattle.nf_sums.specs.OrderedSums.{IsOrderedSum, term_unless_zero}
 use Rattle.nf_sums.specs.Signs.{by_sign, signed}
 use Rattle.nf_sums.proofs.Forms.{negation_ordered}
-use Rattle.nf_terms.proofs.Tests.{and_left}
-use Rattle.nf_sums.proofs.Terms.{rises_of, ordered_of, terms_fit}
-use Rattle.nf_sums.proofs.Merging.{Merging, merge_left, merge_right, merge_none, merge_both}
+use Rattle.nf_sums.proofs.Merging.{Merging, started, finished, merge_left, merge_right, merge_equal}
 
 -- a term of the right side, as it counts
 abbrev pub seen : Sign → MonoTree × ℤ → Monomial × ℤ
@@ -44,17 +39,14 @@ pub record Merged (g : Sign) (l r out : List (MonoTree × ℤ)) (i j : ℕ) : Ty
 pub begun : (g : Sign) (l r out : List (MonoTree × ℤ)) (i j : ℕ) → out ≡ [] → i ≡ 0 → j ≡ 0 → ordered (polynomial_of (map term_in l)) ≡ true → ordered (polynomial_of (map term_in r)) ≡ true → Merged g l r out i j
 begun g l r out i j e f h p q =
     let right : ordered (polynomial_of (map (seen g) r)) ≡ true = ap ordered (seen_of g r) ∙ signed_ordered g (polynomial_of (map term_in r)) q in
-    let m : Merged g l r [] 0 0 = record { so_far = record { left = rises_of (map term_in l) p; right = rises_of (map (seen g) r) right; worth = λ h. omega (arith, ints); size = omega arith; weight = omega arith; inside = λ a b. cc } } in
+    let m : Merged g l r [] 0 0 = record { so_far = started (map term_in l) (map (seen g) r) p right } in
     subst (λ o. Merged g l r o i j) (sym e) (subst (λ a. Merged g l r [] a j) (sym f) (subst (λ b. Merged g l r [] 0 b) (sym h) m))
 
-next : (l : List (MonoTree × ℤ)) (i : ℕ) (x : MonoTree × ℤ) → i < length l → x ≡ get_or l i x → map term_in (drop i l) ≡ (monomial_in x.0, x.1) ∷ map term_in (drop (i + 1) l)
+pub next : (l : List (MonoTree × ℤ)) (i : ℕ) (x : MonoTree × ℤ) → i < length l → x ≡ get_or l i x → map term_in (drop i l) ≡ (monomial_in x.0, x.1) ∷ map term_in (drop (i + 1) l)
 next l i x h e = rw (drop-cons l i x, ← e, add-one) refl
 
 next_seen : (g : Sign) (r : List (MonoTree × ℤ)) (j : ℕ) (y : MonoTree × ℤ) → j < length r → y ≡ get_or r j y → map (seen g) (drop j r) ≡ (monomial_in y.0, by_sign g y.1) ∷ map (seen g) (drop (j + 1) r)
 next_seen g r j y h e = rw (drop-cons r j y, ← e, add-one) refl
-
-zero_of : (c : ℤ) → int_eq c (pos 0) ≡ true → c ≡ pos 0
-zero_of c e = (signed_Decides c (pos 0)).0 e
 
 past : (l : List (MonoTree × ℤ)) (i : ℕ) → length l ≤ i → map term_in (drop i l) ≡ []
 past l i h = ap (map term_in) (drop_all i l h)
@@ -66,14 +58,7 @@ pub ended : (g : Sign) (l r out : List (MonoTree × ℤ)) (i j : ℕ) → Merged
 ended g l r out i j m h k =
     let P = λ (a b : List (Monomial × ℤ)). Merging (map term_in l) (map (seen g) r) (map term_in out) a b in
     let s : P [] [] = subst (λ a. P a []) (past l i h) (subst (λ b. P (map term_in (drop i l)) b) (past_seen g r j k) m.so_far) in
-    subst (λ q. IsOrderedSum (polynomial_of (map term_in l)) q (polynomial_of (map term_in out))) (seen_of g r)
-    (record {
-      in_order = ordered_of (map term_in out) (rw (← append-nil (map term_in out)) s.left);
-      worth = λ f. omega (arith, ints, s.worth f);
-      size = omega (arith, s.size);
-      weight = omega (arith, s.weight);
-      inside = λ p q. and_left (terms_fit (map term_in out)) true (s.inside p q);
-    })
+    subst (λ q. IsOrderedSum (polynomial_of (map term_in l)) q (polynomial_of (map term_in out))) (seen_of g r) (finished (map term_in l) (map (seen g) r) (map term_in out) s)
 
 module _ (g : Sign) (l r out out' : List (MonoTree × ℤ)) (i j : ℕ) (m : Merged g l r out i j) where
   pub turn_left_end : (x : MonoTree × ℤ) → i < length l → x ≡ get_or l i x → length r ≤ j → map term_in out' ≡ map term_in out ++ (monomial_in x.0, x.1) ∷ [] → Merged g l r out' (i + 1) j
@@ -97,17 +82,10 @@ module _ (g : Sign) (l r out out' : List (MonoTree × ℤ)) (i j : ℕ) (m : Mer
       let less : cmp_monomial (monomial_in y.0) (monomial_in x.0) ≡ Less = monomials_total.antisymm (monomial_in y.0) (monomial_in x.0) ∙ ap ordering_reverse (sym c) in
       record { so_far = rw o (merge_right (map term_in l) (map (seen g) r) (map term_in out) (monomial_in y.0, by_sign g y.1) _ _ s (rw (next l i x h e) (ap is_lt less))) }
 
-  both_heads : (x y : MonoTree × ℤ) → i < length l → x ≡ get_or l i x → j < length r → y ≡ get_or r j y → Equal ≡ cmp_monomial (monomial_in x.0) (monomial_in y.0) → Merging (map term_in l) (map (seen g) r) (map term_in out) ((monomial_in x.0, x.1) ∷ map term_in (drop (i + 1) l)) ((monomial_in x.0, by_sign g y.1) ∷ map (seen g) (drop (j + 1) r))
-  both_heads x y h e k f c =
-      let s : Merging (map term_in l) (map (seen g) r) (map term_in out) ((monomial_in x.0, x.1) ∷ map term_in (drop (i + 1) l)) ((monomial_in y.0, by_sign g y.1) ∷ map (seen g) (drop (j + 1) r)) = rw (← next l i x h e, ← next_seen g r j y k f) m.so_far in
-      subst (λ p. Merging (map term_in l) (map (seen g) r) (map term_in out) ((monomial_in x.0, x.1) ∷ map term_in (drop (i + 1) l)) ((p, by_sign g y.1) ∷ map (seen g) (drop (j + 1) r))) (sym (monomial_ties (monomial_in x.0) (monomial_in y.0) (sym c))) s
-
   pub turn_equal : (x y : MonoTree × ℤ) (c : ℤ) → i < length l → x ≡ get_or l i x → j < length r → y ≡ get_or r j y → Equal ≡ cmp_monomial (monomial_in x.0) (monomial_in y.0) → c ≡ x.1 +ℤ by_sign g y.1 → map term_in out' ≡ map term_in out ++ term_unless_zero (monomial_in x.0) c → Merged g l r out' (i + 1) (j + 1)
-  turn_equal x y c h e k f d q o = record { so_far = by_value (int_eq c (pos 0)) refl o }
-    where
-      by_value : (b : Bool) → int_eq c (pos 0) ≡ b → map term_in out' ≡ map term_in out ++ cond b [] ((monomial_in x.0, c) ∷ []) → Merging (map term_in l) (map (seen g) r) (map term_in out') (map term_in (drop (i + 1) l)) (map (seen g) (drop (j + 1) r))
-      by_value true z o' = rw (o', append-nil) (merge_none (map term_in l) (map (seen g) r) (map term_in out) (monomial_in x.0) x.1 (by_sign g y.1) _ _ (both_heads x y h e k f d) (sym q ∙ zero_of c z))
-      by_value false z o' = rw (o', q) (merge_both (map term_in l) (map (seen g) r) (map term_in out) (monomial_in x.0) x.1 (by_sign g y.1) _ _ (both_heads x y h e k f d) (rw (← q) (ap not z)))
+  turn_equal x y c h e k f d q o =
+      let s : Merging (map term_in l) (map (seen g) r) (map term_in out) ((monomial_in x.0, x.1) ∷ map term_in (drop (i + 1) l)) ((monomial_in y.0, by_sign g y.1) ∷ map (seen g) (drop (j + 1) r)) = rw (← next l i x h e, ← next_seen g r j y k f) m.so_far in
+      record { so_far = merge_equal (map term_in l) (map (seen g) r) (map term_in out) (monomial_in x.0) (monomial_in y.0) x.1 (by_sign g y.1) _ _ (map term_in out') s (sym d) (o ∙ ap (λ z. map term_in out ++ term_unless_zero (monomial_in x.0) z) q) }
 
 -- each coefficient counts in the weight
 pub weight_at : (l : List (MonoTree × ℤ)) (i : ℕ) (x : MonoTree × ℤ) → i < length l → x ≡ get_or l i x → unsigned_abs x.1 ≤ weight_of (polynomial_of (map term_in l))

@@ -31,6 +31,11 @@ abbrev pub with_term : Monomial → ℤ → Polynomial → Polynomial
 with_term m c Zero = plus m c Zero
 with_term m c (Plus n d p) = by_order (cmp_monomial m n) (plus m c (Plus n d p)) (plus n (c +ℤ d) p) (Plus n d (with_term m c p))
 
+-- the monomials of the second polynomial, each in its place in the first
+abbrev pub with_terms : Polynomial → Polynomial → Polynomial
+with_terms p Zero = p
+with_terms p (Plus m c q) = with_terms (with_term m c p) q
+
 -- a raw sum's monomials in order, those that are the same joined
 abbrev pub normal_form : Polynomial → Polynomial
 normal_form Zero = Zero

@@ -2,6 +2,5 @@ pub mod Forms
 pub mod Operations
 pub mod Accumulators
 pub mod OrderedSums
-pub mod Events
 pub mod Sameness
 pub mod Signs

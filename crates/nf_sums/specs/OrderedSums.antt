@@ -1,7 +1,10 @@
 -- Ordered polynomials that are sums and products.
-use Rattle.std.specs.Prelude.{◌≡◌, ◌+◌, ◌*◌, ◌≤◌, ℤ, pos, ◌+ℤ◌, ◌*ℤ◌, Bool, true, ◌&&◌, cond, nat_le, IsTrue, List, [], ◌∷◌}
+use Rattle.std.specs.Prelude.{◌≡◌, ◌+◌, ◌*◌, ◌≤◌, ℤ, pos, ◌+ℤ◌, ◌*ℤ◌, Bool, true, ◌&&◌, cond, nat_le, IsTrue, List, [], ◌∷◌, Option, Some, None}
+use Rattle.std.specs.declared.cmp.Ordering.{Ordering}
+use Rattle.std.specs.declared.cmp.Ordering.TheVariants.{Less, Greater}
 use Rattle.std.specs.Ordering.{int_eq}
 use Rattle.nf_terms.specs.Terms.{Atom, Monomial, Polynomial, One, Times, Zero, Plus}
+use Rattle.nf_terms.specs.Order.{cmp_monomial}
 use Rattle.nf_terms.specs.Measures.{size_of, weight_of, depth_of_atom}
 use Rattle.nf_terms.specs.Limits.{depth_limit}
 use Rattle.nf_terms.specs.Normal.{ordered, ordered_monomial, narrow_atom}
@@ -54,3 +57,16 @@ pub record IsOrderedProduct (l r p : Polynomial) : Type 0 where
 -- a monomial with its coefficient, or nothing where that is 0
 abbrev pub term_unless_zero : Monomial → ℤ → List (Monomial × ℤ)
 term_unless_zero m c = cond (int_eq c (pos 0)) [] ((m, c) ∷ [])
+
+-- how the first monomials of two polynomials stand; a polynomial without one stands behind, and two such have no order
+abbrev pub first_order : Polynomial → Polynomial → Option Ordering
+first_order Zero Zero = None
+first_order Zero (Plus n d q) = Some Greater
+first_order (Plus m c p) Zero = Some Less
+first_order (Plus m c p) (Plus n d q) = Some (cmp_monomial m n)
+
+-- the first monomials of two polynomials, which are the same, with their coefficients together
+abbrev pub joined_firsts : Polynomial → Polynomial → List (Monomial × ℤ)
+joined_firsts Zero q = []
+joined_firsts (Plus m c p) Zero = []
+joined_firsts (Plus m c p) (Plus n d q) = term_unless_zero m (c +ℤ d)

@@ -1,6 +1,6 @@
 //! Sums that grow.
 
-ghost use Rattle.std.specs.Prelude.{◌≡◌, ◌+◌, ◌≤◌, ◌<◌, ◌+ℤ◌, pos, true, map, take, drop, length, unsigned_abs, IfOk, IsTrue};
+ghost use Rattle.std.specs.Prelude.{◌≡◌, ◌+◌, ◌^◌, ◌≤◌, ◌<◌, ◌+ℤ◌, pos, true, map, take, drop, length, unsigned_abs, IfOk, IsTrue};
 ghost use Rattle.std.specs.Ordering.{int_eq};
 ghost use Rattle.nf_terms.specs.Terms.{Zero, Plus, polynomial_of};
 ghost use Rattle.nf_terms.specs.View.{monomial_in, term_in};
@@ -9,14 +9,12 @@ ghost use Rattle.nf_terms.specs.Limits.{weight_limit, size_limit};
 ghost use Rattle.nf_terms.specs.Normal.{IsNormal, ordered};
 ghost use Rattle.nf_terms.specs.RawSums.{raw_sum, IsNormalFormOf};
 ghost use Rattle.nf_terms.specs.Computed.{Answers};
-ghost use Rattle.nf_sums.specs.Events.{IsNarrow, IsSmall, StopsAtEvent};
 ghost use Rattle.nf_sums.specs.Operations.{added};
-ghost use Rattle.nf_sums.specs.Forms.{with_term};
+ghost use Rattle.nf_sums.specs.Forms.{with_term, with_terms};
 ghost use Rattle.nf_sums.specs.Accumulators.{stand_before, begins_behind, begins_with, coefficient_of, with_first, with_more, IsMeasured};
 
-use crate::merge::{Sign, merged};
-use nf_terms::limits::{SIZE_LIMIT, WEIGHT_LIMIT};
-use nf_terms::measures::{size_of_mono, size_of_poly, weight_of_poly};
+use crate::limits::check_limits;
+use nf_terms::measures::size_of_mono;
 use nf_terms::order::compare_monos;
 use nf_terms::poly::Poly;
 use nf_terms::stop::{NfStop, NoMemory};
@@ -55,6 +53,14 @@ fn stands_at(terms: &[(MonoTree, i128)], place: usize, mono: &MonoTree) -> bool
     }
 }
 
+// The weight of a term.
+fn weight_of_term(coefficient: &i128) -> u128
+    ensures same { result ≡ unsigned_abs coefficient.now }
+    ensures bound { result ≤ 2 ^ 127 }
+{
+    coefficient.unsigned_abs()
+}
+
 // Terms with their size and their weight.
 #[derive(Drop)]
 struct Measured {
@@ -81,29 +87,13 @@ fn put_at(
 {
     let mut terms = sum.terms;
     let size = sum.size + (1 + size_of_mono(mono));
-    let weight = sum.weight + coefficient.unsigned_abs();
+    let weight = sum.weight + weight_of_term(coefficient);
     terms.insert(place, (mono.try_clone(alloc)?, *coefficient))?;
     Ok(Measured {
         terms,
         size,
         weight,
     })
-}
-
-// Terms with their measures, which are taken anew.
-fn with_measures(terms: Vec<(MonoTree, i128)>) -> Measured
-    requires { IsNormal (polynomial_of (map term_in terms.items)) }
-    ensures same { result.terms ≡ terms }
-    ensures measured { IsMeasured (polynomial_of (map term_in result.terms.items)) result.size result.weight }
-{
-    let tree = PolyTree { monos: terms };
-    let size = size_of_poly(&tree);
-    let weight = weight_of_poly(&tree);
-    Measured {
-        terms: tree.monos,
-        size,
-        weight,
-    }
 }
 
 // Two coefficients together.
@@ -143,14 +133,52 @@ fn replace_at(terms: &mut Vec<(MonoTree, i128)>, place: usize, total: &i128)
     }
 }
 
-// A coefficient more for the term at a place.
-fn add_at(terms: &mut Vec<(MonoTree, i128)>, place: usize, more: &i128)
-    requires within { place < length terms.old.items }
-    requires narrow { weight_of (polynomial_of (map term_in terms.old.items)) + unsigned_abs more.now ≤ weight_limit }
-    ensures { polynomial_of (map term_in terms.new.items) ≡ raw_sum (polynomial_of (map term_in (take place terms.old.items))) (with_more more.now (polynomial_of (map term_in (drop place terms.old.items)))) }
+// The size of a sum where the term at a place gets another coefficient.
+#[tactic(auto, using(crate::proofs::Placed::terms_at))]
+fn size_with(terms: &[(MonoTree, i128)], place: usize, coefficient: &i128, size: u64) -> u64
+    requires within { place < length terms.now }
+    requires measured { size ≡ size_of (polynomial_of (map term_in terms.now)) }
+    requires small { size ≤ size_limit }
+    ensures { result ≡ size_of (raw_sum (polynomial_of (map term_in (take place terms.now))) (with_first coefficient.now (polynomial_of (map term_in (drop place terms.now))))) }
 {
-    let total = total_at(terms, place, more);
-    replace_at(terms, place, &total);
+    if !is_zero(coefficient) {
+        return size;
+    }
+    let (mono, _coefficient) = &terms[place];
+    size - (1 + size_of_mono(mono))
+}
+
+// The weight of a sum where the term at a place gets another coefficient.
+#[tactic(auto, using(crate::proofs::Placed::terms_at))]
+fn weight_with(terms: &[(MonoTree, i128)], place: usize, coefficient: &i128, weight: u128) -> u128
+    requires within { place < length terms.now }
+    requires measured { weight ≡ weight_of (polynomial_of (map term_in terms.now)) }
+    requires narrow { weight ≤ weight_limit }
+    ensures { result ≡ weight_of (raw_sum (polynomial_of (map term_in (take place terms.now))) (with_first coefficient.now (polynomial_of (map term_in (drop place terms.now))))) }
+{
+    let (_mono, old) = &terms[place];
+    weight - weight_of_term(old) + weight_of_term(coefficient)
+}
+
+// A coefficient more for the term at a place.
+fn add_at(sum: Measured, place: usize, more: &i128) -> Measured
+    requires within { place < length sum.terms.items }
+    requires measured { IsMeasured (polynomial_of (map term_in sum.terms.items)) sum.size sum.weight }
+    requires narrow { sum.weight + unsigned_abs more.now ≤ weight_limit }
+    ensures sum { polynomial_of (map term_in result.terms.items) ≡ raw_sum (polynomial_of (map term_in (take place sum.terms.items))) (with_more more.now (polynomial_of (map term_in (drop place sum.terms.items)))) }
+    ensures size { result.size ≡ size_of (polynomial_of (map term_in result.terms.items)) }
+    ensures weight { result.weight ≡ weight_of (polynomial_of (map term_in result.terms.items)) }
+{
+    let total = total_at(&sum.terms, place, more);
+    let size = size_with(&sum.terms, place, &total, sum.size);
+    let weight = weight_with(&sum.terms, place, &total, sum.weight);
+    let mut terms = sum.terms;
+    replace_at(&mut terms, place, &total);
+    Measured {
+        terms,
+        size,
+        weight,
+    }
 }
 
 // A normal sum and one monomial more.
@@ -171,12 +199,30 @@ fn with_one(
     if !stands_at(&sum.terms, place, mono) {
         return Ok(put_at(alloc, sum, place, mono, coefficient)?);
     }
-    let mut terms = sum.terms;
-    add_at(&mut terms, place, coefficient);
-    Ok(with_measures(terms))
+    Ok(add_at(sum, place, coefficient))
 }
 
-/// A normal polynomial that grows: one monomial more is put in its place, and the others are left alone.
+// A normal sum and some monomials more, each put in its place.
+fn with_all(
+    alloc: Global,
+    start: Measured,
+    terms: &[(MonoTree, i128)],
+) -> Result<Measured, NoMemory>
+    requires measured { IsMeasured (polynomial_of (map term_in start.terms.items)) start.size start.weight }
+    requires terms { IsNormal (polynomial_of (map term_in terms.now)) }
+    requires small { start.size + size_of (polynomial_of (map term_in terms.now)) ≤ size_limit }
+    requires narrow { start.weight + weight_of (polynomial_of (map term_in terms.now)) ≤ weight_limit }
+    ensures sum { IfOk result (λ s. polynomial_of (map term_in s.terms.items) ≡ with_terms (polynomial_of (map term_in start.terms.items)) (polynomial_of (map term_in terms.now))) }
+    ensures measured { IfOk result (λ s. IsMeasured (polynomial_of (map term_in s.terms.items)) s.size s.weight) }
+{
+    let mut sum = start;
+    for (mono, coefficient) in terms {
+        sum = with_one(alloc, sum, mono, coefficient)?;
+    }
+    Ok(sum)
+}
+
+/// A normal polynomial that grows: each monomial more is put in its place, and the others are left alone.
 #[derive(Drop)]
 pub struct Accumulator {
     sum: Measured,
@@ -222,64 +268,15 @@ impl Accumulator {
         })
     }
 
-    // Looks whether the sum with a polynomial is narrow and small.
-    fn check(&self, p: &Poly) -> Result<(), NfStop>
-        ensures events { StopsAtEvent self.now p.now (weight_of self.now + weight_of p.now) (size_of self.now + size_of p.now) result }
-        ensures left { IsNormal self.now }
-        ensures right { IsNormal p.now }
-    {
-        if self.sum.weight + p.weight() > WEIGHT_LIMIT {
-            return Err(NfStop::Wide {
-                left: self.sum.weight,
-                right: p.weight(),
-            });
-        }
-        let units = self.sum.size + p.size();
-        if units > SIZE_LIMIT {
-            return Err(NfStop::Large { units, depth: 0 });
-        }
-        Ok(())
-    }
-
-    // The sum with a polynomial of one monomial.
-    fn with_term(
-        self,
-        alloc: Global,
-        mono: &MonoTree,
-        coefficient: &i128,
-    ) -> Result<Accumulator, NoMemory>
-        requires term { IsNormal (Plus (monomial_in mono.now) coefficient.now Zero) }
-        requires small { size_of self + (1 + size_of_monomial (monomial_in mono.now)) ≤ size_limit }
-        requires narrow { weight_of self + unsigned_abs coefficient.now ≤ weight_limit }
-        ensures { IfOk result (λ s. IsNormalFormOf s (raw_sum self (Plus (monomial_in mono.now) coefficient.now Zero))) }
-    {
-        Ok(Accumulator {
-            sum: with_one(alloc, self.sum, mono, coefficient)?,
-        })
-    }
-
-    // The sum with any polynomial: both are merged.
-    fn merged_with(self, alloc: Global, p: &Poly) -> Result<Accumulator, NoMemory>
-        requires narrow { IsNarrow (weight_of self + weight_of p.now) }
-        requires small { IsSmall (size_of self + size_of p.now) }
-        ensures { IfOk result (λ s. IsNormalFormOf s (raw_sum self p.now)) }
-    {
-        let terms = merged(alloc, &self.sum.terms, p.monos(), Sign::Plus)?;
-        Ok(Accumulator {
-            sum: with_measures(terms),
-        })
-    }
-
     // The sum with a polynomial, where it is narrow and small.
     fn joined(self, alloc: Global, p: &Poly) -> Result<Accumulator, NoMemory>
-        requires narrow { IsNarrow (weight_of self + weight_of p.now) }
-        requires small { IsSmall (size_of self + size_of p.now) }
+        requires narrow { weight_of self + weight_of p.now ≤ weight_limit }
+        requires small { size_of self + size_of p.now ≤ size_limit }
         ensures { IfOk result (λ s. IsNormalFormOf s (raw_sum self p.now)) }
     {
-        match p.monos() {
-            [(mono, coefficient)] => self.with_term(alloc, mono, coefficient),
-            _ => self.merged_with(alloc, p),
-        }
+        Ok(Accumulator {
+            sum: with_all(alloc, self.sum, p.monos())?,
+        })
     }
 
     /// The sum with one polynomial more: the normal form of the one raw sum after the other.
@@ -290,7 +287,9 @@ impl Accumulator {
     pub fn add(self, alloc: Global, p: &Poly) -> Result<Accumulator, NfStop>
         ensures { Answers result (added self p.now) }
     {
-        self.check(p)?;
+        let left = self.sum.weight;
+        let right = p.weight();
+        check_limits(left, right, left + right, self.sum.size + p.size())?;
         Ok(self.joined(alloc, p)?)
     }
 }

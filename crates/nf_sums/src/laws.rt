@@ -7,6 +7,7 @@ ghost use Rattle.nf_terms.specs.Meaning.{value_of};
 ghost use Rattle.nf_terms.specs.Means.{IsNumberOf};
 ghost use Rattle.nf_terms.specs.Lists.{ListTerm, IsNormalList};
 ghost use Rattle.nf_terms.specs.Normal.{IsNormal, IsNormalArray};
+ghost use Rattle.nf_terms.specs.Parts.{HasNormalParts};
 ghost use Rattle.nf_terms.specs.RawSums.{raw_sum, raw_difference, raw_product, raw_negation};
 ghost use Rattle.nf_sums.specs.Forms.{normal_form};
 ghost use Rattle.nf_sums.specs.Sameness.{settled, settled_atom, IsFormOf, SameSum, SameArray, SameAtom, SameList};
@@ -16,6 +17,7 @@ ghost use Rattle.nf_sums.specs.Operations.{added, subtracted, multiplied, negate
 #[tactic(auto, using(crate::proofs::Settling::equal_forms))]
 pub fn normal_forms_are_unique()
     ensures sums { (p q : Polynomial) → IsNormal p → IsNormal q → SameSum p q → p ≡ q }
+    ensures atoms { (a b : AtomTerm) → HasNormalParts a → HasNormalParts b → SameAtom a b → a ≡ b }
     ensures arrays { (a b : ArrayTerm) → IsNormalArray a → IsNormalArray b → SameArray a b → a ≡ b }
     ensures lists { (l m : ListTerm) → IsNormalList l → IsNormalList m → SameList l m → l ≡ m }
 {}

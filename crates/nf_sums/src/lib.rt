@@ -7,5 +7,6 @@ pub mod laws;
 mod limits;
 mod merge;
 mod negation;
+mod owned;
 mod product;
 pub mod sums;

@@ -1,20 +1,21 @@
 //! The limits of an operation.
 
-ghost use Rattle.nf_sums.specs.Events.{StopsAtEvent};
+ghost use Rattle.std.specs.Prelude.{◌≤◌, OnOk};
+ghost use Rattle.nf_terms.specs.Computed.{Answers};
+ghost use Rattle.nf_terms.specs.Limits.{weight_limit, size_limit};
+ghost use Rattle.nf_sums.specs.Operations.{checked};
 
 use nf_terms::limits::{SIZE_LIMIT, WEIGHT_LIMIT};
-use nf_terms::poly::Poly;
 use nf_terms::stop::NfStop;
 
-/// Looks whether an operation on `l` and `r` of this weight and raw size is narrow and small.
-pub fn check_limits(l: &Poly, r: &Poly, weight: u128, units: u64) -> Result<(), NfStop>
-    ensures { StopsAtEvent l.now r.now weight units result }
+/// Looks whether an operation of this weight and raw size, on sides of these weights, is narrow and small.
+pub fn check_limits(left: u128, right: u128, weight: u128, units: u64) -> Result<(), NfStop>
+    ensures event { Answers result (checked left right weight units) }
+    ensures narrow { OnOk result (weight ≤ weight_limit) }
+    ensures small { OnOk result (units ≤ size_limit) }
 {
     if weight > WEIGHT_LIMIT {
-        return Err(NfStop::Wide {
-            left: l.weight(),
-            right: r.weight(),
-        });
+        return Err(NfStop::Wide { left, right });
     }
     if units > SIZE_LIMIT {
         return Err(NfStop::Large { units, depth: 0 });

@@ -9,7 +9,7 @@ ghost use Rattle.nf_terms.specs.Normal.{ordered};
 ghost use Rattle.nf_sums.specs.OrderedSums.{IsOrderedProduct};
 
 use crate::join::joined;
-use crate::merge::{Sign, merged};
+use crate::owned::merged_owned;
 use nf_terms::copies::push_term;
 use nf_terms::stop::NoMemory;
 use nf_terms::tree::MonoTree;
@@ -70,13 +70,13 @@ pub fn multiplied(
         let (front, back) = l.split_at(l.len() / 2);
         let front = multiplied(alloc, front, r)?;
         let back = multiplied(alloc, back, r)?;
-        return merged(alloc, &front, &back, Sign::Plus);
+        return merged_owned(alloc, front, back);
     }
     if r.len() > 1 {
         let (front, back) = r.split_at(r.len() / 2);
         let front = multiplied(alloc, l, front)?;
         let back = multiplied(alloc, l, back)?;
-        return merged(alloc, &front, &back, Sign::Plus);
+        return merged_owned(alloc, front, back);
     }
     single(alloc, l, r)
 }

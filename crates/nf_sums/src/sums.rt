@@ -1,13 +1,13 @@
 //! Sums and products of normal polynomials.
 
-ghost use Rattle.std.specs.Prelude.{◌≡◌, ◌+◌, ◌*◌, true, false, map, IfOk, MatchOption};
+ghost use Rattle.std.specs.Prelude.{◌≡◌, ◌+◌, ◌*◌, ◌≤◌, true, false, map, IfOk, MatchOption};
 ghost use Rattle.nf_terms.specs.Terms.{polynomial_of};
 ghost use Rattle.nf_terms.specs.View.{term_in};
 ghost use Rattle.nf_terms.specs.Measures.{size_of, weight_of};
+ghost use Rattle.nf_terms.specs.Limits.{weight_limit, size_limit};
 ghost use Rattle.nf_terms.specs.Computed.{Answers};
 ghost use Rattle.nf_terms.specs.Normal.{IsNormal, constant_part as constant_of_polynomial, is_constant as constant};
 ghost use Rattle.nf_terms.specs.RawSums.{raw_sum, raw_difference, raw_product, IsNormalFormOf};
-ghost use Rattle.nf_sums.specs.Events.{IsNarrow, IsSmall};
 ghost use Rattle.nf_sums.specs.Operations.{added, subtracted, multiplied as product_of, negated as negated_of, number as number_of};
 
 use crate::limits::check_limits;
@@ -43,8 +43,8 @@ fn from_terms(monos: Vec<(MonoTree, i128)>) -> Poly
 
 // A sum that is narrow and small.
 fn narrow_sum(alloc: Global, l: &Poly, r: &Poly) -> Result<Poly, NoMemory>
-    requires narrow { IsNarrow (weight_of l.now + weight_of r.now) }
-    requires small { IsSmall (size_of l.now + size_of r.now) }
+    requires narrow { weight_of l.now + weight_of r.now ≤ weight_limit }
+    requires small { size_of l.now + size_of r.now ≤ size_limit }
     ensures { IfOk result (λ p. IsNormalFormOf p (raw_sum l.now r.now)) }
 {
     let terms = merged(alloc, l.monos(), r.monos(), Sign::Plus)?;
@@ -53,8 +53,8 @@ fn narrow_sum(alloc: Global, l: &Poly, r: &Poly) -> Result<Poly, NoMemory>
 
 // A difference that is narrow and small.
 fn narrow_difference(alloc: Global, l: &Poly, r: &Poly) -> Result<Poly, NoMemory>
-    requires narrow { IsNarrow (weight_of l.now + weight_of r.now) }
-    requires small { IsSmall (size_of l.now + size_of r.now) }
+    requires narrow { weight_of l.now + weight_of r.now ≤ weight_limit }
+    requires small { size_of l.now + size_of r.now ≤ size_limit }
     ensures { IfOk result (λ p. IsNormalFormOf p (raw_difference l.now r.now)) }
 {
     let terms = merged(alloc, l.monos(), r.monos(), Sign::Minus)?;
@@ -63,8 +63,8 @@ fn narrow_difference(alloc: Global, l: &Poly, r: &Poly) -> Result<Poly, NoMemory
 
 // A product that is narrow and small.
 fn narrow_product(alloc: Global, l: &Poly, r: &Poly) -> Result<Poly, NoMemory>
-    requires narrow { IsNarrow (weight_of l.now * weight_of r.now) }
-    requires small { IsSmall (size_of l.now * size_of r.now) }
+    requires narrow { weight_of l.now * weight_of r.now ≤ weight_limit }
+    requires small { size_of l.now * size_of r.now ≤ size_limit }
     ensures { IfOk result (λ p. IsNormalFormOf p (raw_product l.now r.now)) }
 {
     let terms = multiplied(alloc, l.monos(), r.monos())?;
@@ -79,7 +79,9 @@ fn narrow_product(alloc: Global, l: &Poly, r: &Poly) -> Result<Poly, NoMemory>
 pub fn add(alloc: Global, l: &Poly, r: &Poly) -> Result<Poly, NfStop>
     ensures { Answers result (added l.now r.now) }
 {
-    check_limits(l, r, l.weight() + r.weight(), l.size() + r.size())?;
+    let left = l.weight();
+    let right = r.weight();
+    check_limits(left, right, left + right, l.size() + r.size())?;
     Ok(narrow_sum(alloc, l, r)?)
 }
 
@@ -89,7 +91,9 @@ pub fn add(alloc: Global, l: &Poly, r: &Poly) -> Result<Poly, NfStop>
 pub fn sub(alloc: Global, l: &Poly, r: &Poly) -> Result<Poly, NfStop>
     ensures { Answers result (subtracted l.now r.now) }
 {
-    check_limits(l, r, l.weight() + r.weight(), l.size() + r.size())?;
+    let left = l.weight();
+    let right = r.weight();
+    check_limits(left, right, left + right, l.size() + r.size())?;
     Ok(narrow_difference(alloc, l, r)?)
 }
 
@@ -101,8 +105,9 @@ pub fn sub(alloc: Global, l: &Poly, r: &Poly) -> Result<Poly, NfStop>
 pub fn mul(alloc: Global, l: &Poly, r: &Poly) -> Result<Poly, NfStop>
     ensures { Answers result (product_of l.now r.now) }
 {
-    let weight = l.weight().saturating_mul(r.weight());
-    check_limits(l, r, weight, l.size() * r.size())?;
+    let left = l.weight();
+    let right = r.weight();
+    check_limits(left, right, left.saturating_mul(right), l.size() * r.size())?;
     Ok(narrow_product(alloc, l, r)?)
 }
 

@@ -5,7 +5,8 @@ ghost use Rattle.std.specs.Prelude.{◌<◌, ◌^◌, length};
 use crate::forms::sum;
 use crate::trouble::Trouble;
 use fs_model::parts::Rel;
-use nf_rel::clashes::{clash, implied, negate, refuted};
+use nf_refutation::refutation::{Places, is_refuted, refuted};
+use nf_rel::clashes::{clash, implied, negate};
 use nf_rel::copies::is_same;
 use nf_rel::kind::Kind;
 use nf_rel::literals::{Bound, NLit};
@@ -191,23 +192,27 @@ fn read_list(alloc: Global, text: &str) -> Result<Vec<NLit>, Trouble> {
 }
 
 // The places that clash in a list, if it is short.
-fn clashing(list: &[NLit]) -> Option<(u32, u32)> {
+fn clashing(alloc: Global, list: &[NLit]) -> Result<Option<Places>, Trouble> {
     if list.len() > 100 {
-        return None;
+        return Err(Trouble::Unread);
     }
-    let places = refuted(list)?;
-    Some((places.first, places.second))
+    Ok(refuted(alloc, list)?)
 }
 
 // Whether the first literals of a row that clash stand at its places.
 fn is_refuted_at(alloc: Global, row: &str) -> Result<bool, Trouble> {
     let (text, places) = row.split_once(':').unwrap_or((row, ""));
     let list = read_list(alloc, text)?;
-    match clashing(list.as_slice()) {
-        None => Ok(places.trim() == "none"),
-        Some((first, second)) => {
+    let is_refuted = is_refuted(alloc, list.as_slice())?;
+    match clashing(alloc, list.as_slice())? {
+        None => Ok(!is_refuted && places.trim() == "none"),
+        Some(Places { first, second }) => {
             let (left, right) = places.trim().split_once(' ').unwrap_or(("", ""));
-            Ok(left.parse::<u32>().ok() == Some(first) && right.parse::<u32>().ok() == Some(second))
+            Ok(
+                is_refuted
+                    && left.parse::<u32>().ok() == Some(first)
+                    && right.parse::<u32>().ok() == Some(second),
+            )
         }
     }
 }
@@ -222,6 +227,13 @@ c, ==, 0; a, >=, 2; a, <=, 1; a, <=, 0: 1 2
 0, ==, 1; 0, ==, 1: 0 0
 a, >=, 2; 0, ==, 1: 0 1
 0, ==, 0; 0, ==, 0: none
+a, !=, 5; a, ==, 1; a, ==, 5; a, ==, 9: 0 2
+a, !=, 4; a, ==, 1; a, ==, 5: 1 2
+a, ==, 3; a, !=, 2; a, !=, 3: 0 2
+a, >=, 2; b, >=, 2; a, !=, 2; a, ==, 2: 2 3
+a b +, >=, 2; a, <=, 1; a b +, ==, 1: 0 2
+a, <=, 4; a, >=, 1; a, >=, 5; a, >=, 3: 0 2
+a, >=, 1; a, <=, 9; a, !=, 3; b, ==, 3: none
 ";
 
 #[test]

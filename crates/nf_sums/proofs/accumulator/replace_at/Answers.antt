@@ -1,7 +1,8 @@
 use Rattle.std.proofs.Common.{set, rules, FitsSigned, ap, sym, ◌∙◌}
 use Rattle.std.specs.Int.{w128}
 use Rattle.std.proofs.lemmas.Int.{to_z-of_z}
-use Rattle.nf_sums.proofs.Placed.{terms_in, removed_at, changed_at}
+use Rattle.nf_sums.proofs.Terms.{terms_in}
+use Rattle.nf_sums.proofs.Placed.{removed_at, changed_at}
 use Rattle.nf_sums.proofs.accumulator.replace_at.Goals as goal
 
 pub returns-then-is_zero : goal.returns-then-is_zero
