@@ -5,8 +5,6 @@ ghost use Rattle.std.specs.List.{flat_map};
 ghost use Rattle.fs_model.specs.Limits.{most_branches};
 ghost use Rattle.fs_cut.specs.View.{point_of, path_of};
 ghost use Rattle.nf_terms.specs.Computed.{Answers, Done, after};
-ghost use Rattle.nf_rel.specs.Literals.{clashes_with, is_refuted};
-ghost use Rattle.nf_rel.specs.View.{literal_in};
 ghost use Rattle.sym_paths.specs.Execution.{end_of};
 ghost use Rattle.sym_paths.specs.View.{post_in};
 ghost use Rattle.sym_facts.specs.Entailment.{entails as entailed};
@@ -22,39 +20,12 @@ use bisimulation::mode::Mode;
 use certificates::cert::Node;
 use certificates::reason::Reason;
 use fs_cut::cover::{Path, Point};
-use nf_rel::clashes::clash;
-use nf_rel::literals::NLit;
+use nf_refutation::refutation::is_refuted;
 use nf_terms::stop::{NfStop, NoMemory};
 use std::alloc::Global;
 use sym_facts::arrival::arrive;
 use sym_facts::entailment::entails;
 use sym_paths::execution::Post;
-
-// Whether a literal clashes with a member.
-fn clashes_with(list: &[NLit], l: &NLit) -> bool
-    ensures { result ≡ clashes_with (map literal_in list.now) (literal_in l.now) }
-{
-    for m in list {
-        if clash(l, m) {
-            return true;
-        }
-    }
-    false
-}
-
-// Whether two members clash, or one with itself.
-fn is_refuted(list: &[NLit]) -> bool
-    ensures { result ≡ is_refuted (map literal_in list.now) }
-{
-    let mut place = 0;
-    while place < list.len() {
-        if clashes_with(&list[place..], &list[place]) {
-            return true;
-        }
-        place += 1;
-    }
-    false
-}
 
 // The first that is missing, and then whether the rank falls.
 fn first_missing(equations: &[u32], literals: &[u32], falls: bool) -> Option<Reason>
@@ -142,7 +113,7 @@ fn judge_move(
     ensures { Answers result (move_in table.now (node_of node.now) (option_map (λ p. path_of p.now) left.entry) (option_map (λ p. path_of p.now) right.entry)) }
 {
     let post = arrive(alloc, table.a, table.b, &node.fact, left, right)?;
-    if is_refuted(post.conds.as_slice()) {
+    if is_refuted(alloc, post.conds.as_slice())? {
         return Ok(None);
     }
     let (left, right) = (end_of(node.left, left), end_of(node.right, right));

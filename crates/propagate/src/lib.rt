@@ -9,7 +9,6 @@ pub mod joins;
 pub mod laws;
 pub mod modes;
 pub mod rebases;
-pub mod refutation;
 mod solutions;
 mod splits;
 mod ties;

@@ -10,10 +10,10 @@ ghost use Rattle.sym_facts.specs.Facts.{vector_of};
 ghost use Rattle.propagate.specs.Modes.{is_open as is_open_under, count_from, mode_of_counts as mode_of_numbers, mode_of};
 ghost use Rattle.propagate.specs.View.{Traces};
 
-use crate::refutation::is_refuted;
 use bisimulation::mode::Mode;
 use fs_ast::machine::Machine;
 use fs_cut::cover::{Cover, Path, Point};
+use nf_refutation::refutation::is_refuted;
 use nf_subst::vector::Vector;
 use nf_terms::stop::{NfStop, NoMemory};
 use nf_terms::tree::Side;
@@ -59,7 +59,7 @@ fn is_open(
 {
     let mut literals = copied_literals(alloc, fact.conds())?;
     literals.append(&mut conditions(alloc, m, path, side, v)?)?;
-    Ok(!is_refuted(&literals))
+    Ok(!is_refuted(alloc, &literals)?)
 }
 
 // How many paths are not refuted under a fact with this vector.

@@ -24,9 +24,9 @@ use crate::places::place_of;
 use bisimulation::mode::Mode;
 use fs_cut::cover::{Path, Point};
 use machine_pairs::covers::paths;
+use nf_refutation::refutation::is_refuted;
 use nf_terms::stop::{NfStop, NoMemory};
 use nf_terms::tree::Side;
-use propagate::refutation::is_refuted;
 use search_tables::nodes::TableNode;
 use std::alloc::Global;
 use sym_facts::arrival::arrive;
@@ -92,7 +92,7 @@ fn is_refuted_alone(
     ensures { Answers result (after (arrival (machines_in m.now) (table_node_in node.now) (alone side (path_of path.now))) (λ post. Done (refuted post.conditions))) }
 {
     let post = arrive_alone(alloc, m, node, side, path)?;
-    Ok(is_refuted(post.conds.as_slice()))
+    Ok(is_refuted(alloc, post.conds.as_slice())?)
 }
 
 // Where a path leads that a side takes alone, if it moves alone from there too. The one refusal is out of memory.

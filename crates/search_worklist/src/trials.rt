@@ -19,10 +19,10 @@ use crate::sides::{Sides, left_paths, right_paths};
 use crate::state::State;
 use crate::trial::{Change, Trial};
 use fs_cut::cover::{Path, Point};
+use nf_refutation::refutation::is_refuted;
 use nf_terms::stop::NfStop;
 use propagate::joins::join;
 use propagate::rebases::rebase;
-use propagate::refutation::is_refuted;
 use search_places::moves::path_by;
 use search_places::nodes::{find, node_at};
 use search_tables::moves::Move;
@@ -159,7 +159,7 @@ pub fn try_move(alloc: Global, m: &Sides<'_>, state: &State, at: Move) -> Result
     let left = path_by(left_paths(m, from.points.left), at.left);
     let right = path_by(right_paths(m, from.points.right), at.right);
     let post = arrive(alloc, m.left, m.right, &from.entry.fact, left, right)?;
-    if is_refuted(post.conds.as_slice()) {
+    if is_refuted(alloc, post.conds.as_slice())? {
         return Ok(Trial::Refuted);
     }
     let left = end_of(from.points.left, left);

@@ -19,13 +19,13 @@ left_paths-requires c = left_point (machines_in c.args.m.now) (lines c.args.stat
 pub right_paths-requires : goal.right_paths-requires
 right_paths-requires c = right_point (machines_in c.args.m.now) (lines c.args.state.now) c.requires.made c.args.at.node (standing_in c.node_at-from.result) c.node_at-from.ensures
 
-pub returns-then-is_refuted : goal.returns-then-is_refuted
-returns-then-is_refuted c =
+pub returns-then-branch : goal.returns-then-branch
+returns-then-branch c =
     let l = standing_in c.node_at-from.result in
     let left = c.path_by-left.ensures ∙ ap (λ ps. path_in ps c.args.at.left) c.left_paths.ensures.paths in
     let right = c.path_by-right.ensures ∙ ap (λ ps. path_in ps c.args.at.right) c.right_paths.ensures.paths in
     let post = post_in c.in_ok-post.post in
-    let refuted : is_refuted post.conditions ≡ true = sym (ap (λ ls. is_refuted (map literal_in ls)) c.as_slice.ensures.value) ∙ sym c.is_refuted.ensures ∙ c.if-is_refuted.true in
+    let refuted : is_refuted post.conditions ≡ true = sym (ap (λ ls. is_refuted (map literal_in ls)) c.as_slice.ensures.value) ∙ sym c.in_ok-is_refuted.ensures ∙ c.if-branch.true in
     record { line = l; is_in = c.node_at-from.ensures; tries = (post, arrives_by (machines_in c.args.m.now) l.node c.args.at _ _ (Done post) left right c.in_ok-post.ensures, refuted) }
 
 pub returns : goal.returns
@@ -35,7 +35,7 @@ returns c =
     let left = c.path_by-left.ensures ∙ ap (λ ps. path_in ps c.args.at.left) c.left_paths.ensures.paths in
     let right = c.path_by-right.ensures ∙ ap (λ ps. path_in ps c.args.at.right) c.right_paths.ensures.paths in
     let post = post_in c.in_ok-post.post in
-    let is_open : is_refuted post.conditions ≡ false = sym (ap (λ ls. is_refuted (map literal_in ls)) c.as_slice.ensures.value) ∙ sym c.is_refuted.ensures ∙ c.if-is_refuted.false in
+    let is_open : is_refuted post.conditions ≡ false = sym (ap (λ ls. is_refuted (map literal_in ls)) c.as_slice.ensures.value) ∙ sym c.in_ok-is_refuted.ensures ∙ c.if-branch.false in
     record {
       line = l;
       is_in = c.node_at-from.ensures;

@@ -1,0 +1,3 @@
+pub mod BoundTables
+pub mod LiteralTables
+pub mod Pairs
