@@ -1,7 +1,7 @@
 -- The nodes of a file, one after another.
-use Rattle.std.proofs.Common.{◌≡◌, ℕ, zero, suc, ◌+◌, ◌<◌, Bool, true, false, ◌||◌, refl, ap, sym, subst, ◌∙◌, List, [], ◌∷◌, ◌++◌, length, get_or, drop, Result, Ok, Err, arith}
+use Rattle.std.proofs.Common.{◌≡◌, ℕ, ◌+◌, Bool, true, false, ◌||◌, refl, ap, sym, subst, ◌∙◌, List, [], ◌∷◌, ◌++◌, Result, Ok, Err}
 use Rattle.std.specs.Prelude.{map}
-use Rattle.std.proofs.lemmas.List.{map_push, drop_more}
+use Rattle.std.proofs.lemmas.List.{map_push}
 use Rattle.serde_json.specs.View.{view, items_view}
 use Rattle.serde_json.specs.declared.value.Value.{Value}
 use Rattle.fs_cut.specs.Paths.{Point}
@@ -31,22 +31,19 @@ not_first : (a b : Bool) → (a || b) ≡ false → b ≡ false
 not_first true b e = cc
 not_first false b e = e
 
-shaped_at : (vs : List Value) (k : ℕ) (v : Value) → k < length vs → are_nodes (items_view vs) ≡ true → is_node (view (get_or vs k v)) ≡ true
-shaped_at [] k v h e = absurd (omega arith)
-shaped_at (x ∷ vs) zero v h e = and_left (is_node (view x)) (are_nodes (items_view vs)) e
-shaped_at (x ∷ vs) (suc k) v h e = shaped_at vs k v (omega arith) (and_right (is_node (view x)) (are_nodes (items_view vs)) e)
+-- the first of the values that are left has the form of a node, and few conditions
+module _ (left rest : List Value) (x : Value) (is : left ≡ x ∷ rest) where
+  pub next_shaped : are_nodes (items_view left) ≡ true → is_node (view x) ≡ true
+  next_shaped s = and_left (is_node (view x)) (are_nodes (items_view rest)) (sym (ap (λ vs. are_nodes (items_view vs)) is) ∙ s)
 
-few_at : (vs : List Value) (k : ℕ) (v : Value) → k < length vs → some_has_many (items_view vs) ≡ false → has_many_conditions (view (get_or vs k v)) ≡ false
-few_at [] k v h e = absurd (omega arith)
-few_at (x ∷ vs) zero v h e = is_first (has_many_conditions (view x)) (some_has_many (items_view vs)) e
-few_at (x ∷ vs) (suc k) v h e = few_at vs k v (omega arith) (not_first (has_many_conditions (view x)) (some_has_many (items_view vs)) e)
+  pub others_shaped : are_nodes (items_view left) ≡ true → are_nodes (items_view rest) ≡ true
+  others_shaped s = and_right (is_node (view x)) (are_nodes (items_view rest)) (sym (ap (λ vs. are_nodes (items_view vs)) is) ∙ s)
 
--- a value of nodes has the form of a node, and few conditions
-pub node_shaped : (vs : List Value) (k : ℕ) (v : Value) → v ≡ get_or vs k v → k < length vs → are_nodes (items_view vs) ≡ true → is_node (view v) ≡ true
-node_shaped vs k v e h s = ap (λ x. is_node (view x)) e ∙ shaped_at vs k v h s
+  pub next_few : some_has_many (items_view left) ≡ false → has_many_conditions (view x) ≡ false
+  next_few s = is_first (has_many_conditions (view x)) (some_has_many (items_view rest)) (sym (ap (λ vs. some_has_many (items_view vs)) is) ∙ s)
 
-pub node_few : (vs : List Value) (k : ℕ) (v : Value) → v ≡ get_or vs k v → k < length vs → some_has_many (items_view vs) ≡ false → has_many_conditions (view v) ≡ false
-node_few vs k v e h s = ap (λ x. has_many_conditions (view x)) e ∙ few_at vs k v h s
+  pub others_few : some_has_many (items_view left) ≡ false → some_has_many (items_view rest) ≡ false
+  others_few s = not_first (has_many_conditions (view x)) (some_has_many (items_view rest)) (sym (ap (λ vs. some_has_many (items_view vs)) is) ∙ s)
 
 -- where a part stops, the whole does
 stopped_first : {V W X Y : Type 0} (v : V → X) (w : W → Y) (e : Stop) (y : Result X CertError) (next : X → Result Y CertError) → Tells v (Err e) y → Tells w (Err e) (after y next)
@@ -92,16 +89,13 @@ added c i xs olds ys x n same e h =
 
 -- ---- all nodes
 
-module _ (c : Context) (vs : List Value) (k : ℕ) (earlier : List (Node Fact)) (x : Value) (low : k < length vs) (is : x ≡ get_or vs k x)
-    (kept : nodes_read c k earlier (node_texts (items_view (drop k vs))) ≡ nodes_read c 0 [] (node_texts (items_view vs))) where
-  next_is : drop k vs ≡ x ∷ drop (k + 1) vs
-  next_is = drop_more vs k x low ∙ ap (λ y. y ∷ drop (k + 1) vs) (sym is)
+module _ (c : Context) (whole left rest : List Value) (k : ℕ) (earlier : List (Node Fact)) (x : Value) (is : left ≡ x ∷ rest)
+    (kept : nodes_read c k earlier (node_texts (items_view left)) ≡ nodes_read c 0 [] (node_texts (items_view whole))) where
+  here : nodes_read c 0 [] (node_texts (items_view whole)) ≡ after (node_added c k earlier (node_text (view x))) (λ ms. nodes_read c (k + 1) ms (node_texts (items_view rest)))
+  here = sym kept ∙ ap (λ vs. nodes_read c k earlier (node_texts (items_view vs))) is
 
-  here : nodes_read c 0 [] (node_texts (items_view vs)) ≡ after (node_added c k earlier (node_text (view x))) (λ ms. nodes_read c (k + 1) ms (node_texts (items_view (drop (k + 1) vs))))
-  here = sym kept ∙ ap (λ xs. nodes_read c k earlier (node_texts (items_view xs))) next_is
-
-  pub nodes_stop : (e : Stop) → Tells {X = List (Node Fact)} (λ ns. ns) (Err e) (node_added c k earlier (node_text (view x))) → Tells {X = List (Node Fact)} (λ ns. ns) (Err e) (nodes_read c 0 [] (node_texts (items_view vs)))
+  pub nodes_stop : (e : Stop) → Tells {X = List (Node Fact)} (λ ns. ns) (Err e) (node_added c k earlier (node_text (view x))) → Tells {X = List (Node Fact)} (λ ns. ns) (Err e) (nodes_read c 0 [] (node_texts (items_view whole)))
   nodes_stop e h = subst (λ y. Tells {X = List (Node Fact)} (λ ns. ns) (Err e) y) (sym here) (stopped_first {V = List (Node Fact)} {W = List (Node Fact)} (λ ns. ns) (λ ns. ns) e (node_added c k earlier (node_text (view x))) _ h)
 
-  pub nodes_more : (next : List (Node Fact)) → node_added c k earlier (node_text (view x)) ≡ Ok next → nodes_read c (k + 1) next (node_texts (items_view (drop (k + 1) vs))) ≡ nodes_read c 0 [] (node_texts (items_view vs))
-  nodes_more next h = sym (here ∙ ap (λ y. after y (λ ms. nodes_read c (k + 1) ms (node_texts (items_view (drop (k + 1) vs))))) h)
+  pub nodes_more : (next : List (Node Fact)) → node_added c k earlier (node_text (view x)) ≡ Ok next → nodes_read c (k + 1) next (node_texts (items_view rest)) ≡ nodes_read c 0 [] (node_texts (items_view whole))
+  nodes_more next h = sym (here ∙ ap (λ y. after y (λ ms. nodes_read c (k + 1) ms (node_texts (items_view rest)))) h)

@@ -5,6 +5,7 @@ pub mod Answers
 pub mod Points
 pub mod Reading
 pub mod Refusals
+pub mod NameKeys
 pub mod Tables
 pub mod View
 pub mod Within

@@ -8,7 +8,7 @@ use Rattle.cert_text.specs.declared.table.NameTable.{NameTable}
 -- the number of a name in a table; the empty name has none
 abbrev pub number_in : NameTable → List ℕ → Option ℕ
 number_in t [] = None
-number_in t (c ∷ cs) = lookup (λ k. bytes_eq (c ∷ cs) k.now) t.numbers.entries
+number_in t (c ∷ cs) = lookup (λ k. bytes_eq (c ∷ cs) k.bytes.now) t.numbers.entries
 
 -- a table has the first place of each name of a list that is not empty
 pub record HasFirst (t : NameTable) (names : List (List ℕ)) : Type 0 where

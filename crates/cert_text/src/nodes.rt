@@ -164,19 +164,40 @@ fn push_node(
     Ok(())
 }
 
-/// The nodes of a file, in order.
-pub fn read_nodes(alloc: Global, c: &Context<'_>, values: &[Value]) -> Result<Vec<Node>, Stop>
+// Adds a node to earlier ones, and lets go of its value.
+fn push_value(
+    alloc: Global,
+    c: &Context<'_>,
+    node: u32,
+    nodes: &mut Vec<Node>,
+    value: Value,
+) -> Result<(), Stop>
     requires pairing { c.now.pairing.now ≡ c.now.places.positions.now }
-    requires shape { are_nodes (items_view values.now) ≡ true }
-    requires few { some_has_many (items_view values.now) ≡ false }
-    requires count { length values.now ≤ most_nodes }
-    ensures told { Tells (λ ns. map node_of ns.items) result (nodes_read (context_in c.now) 0 [] (node_texts (items_view values.now))) }
+    requires shape { is_node (view value) ≡ true }
+    requires few { has_many_conditions (view value) ≡ false }
+    ensures told { Tells (λ _. map node_of nodes.new.items) result (node_added (context_in c.now) node (map node_of nodes.old.items) (node_text (view value))) }
+    ensures lawful { OnOk result (AreNodesOf c.now.a.now c.now.b.now c.now.places.positions.now (map node_of nodes.old.items) → AreNodesOf c.now.a.now c.now.b.now c.now.places.positions.now (map node_of nodes.new.items)) }
+    ensures count { OnOk result (length nodes.new.items ≡ length nodes.old.items + 1) }
+{
+    let pushed = push_node(alloc, c, node, nodes, &value);
+    drop(value);
+    pushed
+}
+
+/// The nodes of a file, in order. Each value is let go when its node is read, so that values and nodes are never all there at once.
+pub fn read_nodes(alloc: Global, c: &Context<'_>, values: Vec<Value>) -> Result<Vec<Node>, Stop>
+    requires pairing { c.now.pairing.now ≡ c.now.places.positions.now }
+    requires shape { are_nodes (items_view values.items) ≡ true }
+    requires few { some_has_many (items_view values.items) ≡ false }
+    requires count { length values.items ≤ most_nodes }
+    ensures told { Tells (λ ns. map node_of ns.items) result (nodes_read (context_in c.now) 0 [] (node_texts (items_view values.items))) }
     ensures of { IfOk result (λ ns. AreNodesOf c.now.a.now c.now.b.now c.now.places.positions.now (map node_of ns.items)) }
-    ensures count { IfOk result (λ ns. length ns.items ≡ length values.now) }
+    ensures count { IfOk result (λ ns. length ns.items ≡ length values.items) }
 {
     let mut nodes = Vec::new(alloc);
-    for (node, value) in values.iter().enumerate() {
-        push_node(alloc, c, node as u32, &mut nodes, value)?;
+    let mut rest = values.into_iter();
+    while let Some(value) = rest.next() {
+        push_value(alloc, c, nodes.len() as u32, &mut nodes, value)?;
     }
     Ok(nodes)
 }

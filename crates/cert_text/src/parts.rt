@@ -6,6 +6,8 @@ ghost use Rattle.serde_json.specs.View.{view, items_view, members_view};
 ghost use Rattle.cert_text.specs.Parts.{text_of as text_in, text_at as text_under, number_at as number_under, items_or_none};
 
 use serde_json::{Map, Value};
+use std::alloc::Global;
+use std::mem;
 
 /// The text of a value, empty where it is none.
 pub fn text_of(value: &Value) -> &str
@@ -50,6 +52,19 @@ pub fn items_at<'a>(value: &'a Value, key: &str) -> &'a [Value]
             None => &[],
         },
         None => &[],
+    }
+}
+
+/// The items that a value has under a name, taken out of it.
+pub fn take_items(alloc: Global, value: &mut Value, key: &str) -> Vec<Value>
+    ensures { items_view result.items ≡ items_or_none (option_and_then as_array (get key.now (view value.old))) }
+{
+    match value.get_mut(key) {
+        Some(found) => match found.as_array_mut() {
+            Some(items) => mem::replace(items, Vec::new(alloc)),
+            None => Vec::new(alloc),
+        },
+        None => Vec::new(alloc),
     }
 }
 

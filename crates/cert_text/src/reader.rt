@@ -12,7 +12,7 @@ ghost use Rattle.cert_text.specs.Answers.{error_of_file as error_from_file, erro
 use crate::context::context_of;
 use crate::faults::{CertError, Stop};
 use crate::nodes::read_nodes;
-use crate::parts::{items_at, number_at};
+use crate::parts::{number_at, take_items};
 use cert_json::faults::FileError;
 use cert_json::reader::read_file;
 use certificates::cert::Cert;
@@ -21,23 +21,23 @@ use fs_pair::positions::Pairing;
 use serde_json::Value;
 use std::alloc::Global;
 
-// The certificate of a file.
+// The certificate of a file, of which the nodes are taken out.
 #[tactic(auto, using(crate::proofs::Contexts::come_to, crate::proofs::Shapes::nodes_shaped, crate::proofs::Shapes::conditions_few, crate::proofs::Shapes::nodes_few, crate::proofs::LawfulNodes::lawful))]
 fn read_value(
     alloc: Global,
-    value: &Value,
+    value: &mut Value,
     a: &Machine,
     b: &Machine,
     p: &Pairing,
 ) -> Result<Cert, Stop>
     requires pairing { p.now ≡ positions a.now b.now }
-    requires shape { is_file (view value.now) ≡ true }
-    requires few { has_too_many (view value.now) ≡ false }
-    ensures told { TellsNodes a.now b.now (view value.now) result }
+    requires shape { is_file (view value.old) ≡ true }
+    requires few { has_too_many (view value.old) ≡ false }
+    ensures told { TellsNodes a.now b.now (view value.old) result }
     ensures lawful { IfOk result (λ c. IsLawful a.now b.now (map node_of c.nodes.items)) }
 {
     let context = context_of(alloc, a, b, p, number_at(value, "format"))?;
-    let nodes = read_nodes(alloc, &context, items_at(value, "nodes"))?;
+    let nodes = read_nodes(alloc, &context, take_items(alloc, value, "nodes"))?;
     Ok(Cert { nodes })
 }
 
@@ -86,11 +86,11 @@ pub fn read_cert(
     ensures lawful { IfOk result (λ c. IsLawful a.now b.now (map node_of c.nodes.items)) }
     ensures refused { IfErr result (λ e. IsRefused a.now b.now bytes.now e) }
 {
-    let value = match read_file(alloc, bytes) {
+    let mut value = match read_file(alloc, bytes) {
         Ok(value) => value,
         Err(refused) => return Err(error_of_file(refused)),
     };
-    match read_value(alloc, &value, a, b, p) {
+    match read_value(alloc, &mut value, a, b, p) {
         Ok(cert) => Ok(cert),
         Err(stop) => Err(error_of(stop)),
     }

@@ -8,11 +8,48 @@ ghost use Rattle.cert_text.specs.Tables.{number_in, HasFirst};
 use indexmap::IndexMap;
 use nf_terms::stop::NoMemory;
 use std::alloc::Global;
+use std::hash::{Hash, Hasher};
+
+/// A name as a key. Its bytes are hashed as a whole, and not one by one as those of a slice are.
+#[derive(Clone, Copy, Drop)]
+pub struct NameKey<'a> {
+    pub bytes: &'a [u8],
+}
+
+impl<'a> PartialEq for NameKey<'a> {
+    ghost use Rattle.cert_text.specs.NameKeys.{same_name, names_partly};
+
+    ghost eq = { same_name };
+
+    ghost laws = { names_partly };
+
+    fn eq(&self, other: &NameKey<'a>) -> bool {
+        self.bytes == other.bytes
+    }
+}
+
+impl<'a> Eq for NameKey<'a> {
+    ghost use Rattle.cert_text.specs.NameKeys.{names_same};
+
+    ghost laws = { names_same };
+}
+
+impl<'a> Hash for NameKey<'a> {
+    ghost use Rattle.cert_text.specs.NameKeys.{hashed_name, names_alike};
+
+    ghost hash_input = { hashed_name };
+
+    ghost respects_eq = { names_alike };
+
+    fn hash<H: Hasher>(&self, state: &mut H) {
+        state.write(self.bytes);
+    }
+}
 
 /// Names that are not empty, each with the number of its first place in a list.
 #[derive(Drop)]
 pub struct NameTable<'a> {
-    pub numbers: IndexMap<&'a [u8], u32>,
+    pub numbers: IndexMap<NameKey<'a>, u32>,
 }
 
 /// The number of a name; the empty name has none.
@@ -22,7 +59,7 @@ pub fn number_of(table: &NameTable<'_>, name: &[u8]) -> Option<u32>
     if name.is_empty() {
         return None;
     }
-    match table.numbers.get(name) {
+    match table.numbers.get(&NameKey { bytes: name }) {
         Some(number) => Some(*number),
         None => None,
     }
@@ -32,10 +69,11 @@ pub fn number_of(table: &NameTable<'_>, name: &[u8]) -> Option<u32>
 fn put_first<'a>(table: &mut NameTable<'a>, name: &'a [u8], number: u32) -> Result<(), NoMemory>
     ensures { OnOk result ((c : ℕ) → (cs : List ℕ) → number_in table.new (c ∷ cs) ≡ cond (is_some (number_in table.old (c ∷ cs))) (number_in table.old (c ∷ cs)) (cond (bytes_eq name.now (c ∷ cs)) (Some number) None)) }
 {
-    if table.numbers.contains_key(name) {
+    let key = NameKey { bytes: name };
+    if table.numbers.contains_key(&key) {
         return Ok(());
     }
-    table.numbers.insert(name, number)?;
+    table.numbers.insert(key, number)?;
     Ok(())
 }
 

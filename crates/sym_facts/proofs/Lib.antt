@@ -10,3 +10,4 @@ pub mod PairingPaths
 pub mod Vectors
 pub mod Walks
 pub mod Kept
+pub mod MentionedPositions

@@ -5,3 +5,4 @@ pub mod Pairings
 pub mod Parts
 pub mod View
 pub mod Codes
+pub mod PositionSets

@@ -4,12 +4,17 @@ use Rattle.sym_facts.specs.declared.fact.FactPosition.{FactPosition as CodePosit
 use Rattle.sym_facts.specs.declared.fact.FactError.{FactError}
 use Rattle.sym_facts.specs.declared.fact.FactError.TheVariants as error
 use Rattle.sym_facts.specs.declared.entailment.Entail.{Entail}
+use Rattle.sym_facts.specs.declared.position_set.PositionSet.{PositionSet as CodeSet}
 use Rattle.sym_facts.specs.Facts.{FactPosition, Fact}
 use Rattle.sym_facts.specs.Parts.{first_unsolved}
 use Rattle.sym_facts.specs.Entailment.{Missing}
+use Rattle.sym_facts.specs.PositionSets.{PositionSet}
 
 abbrev pub position_in : CodePosition → FactPosition
 position_in p = record { pos = p.pos; sort = p.sort; equation = p.equation }
+
+abbrev pub set_in : CodeSet → PositionSet
+set_in s = record { left = s.left.items; right = s.right.items }
 
 abbrev pub missing_in : Entail → Missing
 missing_in e = record { equations = e.equations.items; literals = e.conds.items }

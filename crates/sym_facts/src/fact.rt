@@ -98,7 +98,8 @@ impl Fact {
     {
         p.holds();
         let positions = with_equations(alloc, p.positions(), defs)?;
-        match first_unsolved(positions.as_slice(), conds.as_slice()) {
+        let first = first_unsolved(alloc, positions.as_slice(), conds.as_slice())?;
+        match first {
             Some(place) => Err(FactError::NotSolved { place }),
             None => Ok(Fact::of(positions, conds)),
         }

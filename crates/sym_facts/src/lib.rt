@@ -5,5 +5,7 @@ pub mod arrival;
 pub mod entailment;
 pub mod fact;
 pub mod laws;
+mod mentioned;
 mod parts;
+mod position_set;
 pub mod start;

@@ -1,18 +1,20 @@
 //! The parts of a fact, and whether it is solved.
 
 ghost use Rattle.std.specs.Prelude.{◌≡◌, ◌<◌, ◌^◌, IfOk, length, map};
-ghost use Rattle.std.specs.List.{list_any, position_from};
+ghost use Rattle.std.specs.List.{position_from};
 ghost use Rattle.nf_rel.specs.View.{literal_in};
-ghost use Rattle.sym_facts.specs.Facts.{equation_mentions as equation_has, literal_mentions as literal_has, is_unsolved as unsolved};
+ghost use Rattle.sym_facts.specs.Facts.{is_unsolved as unsolved};
 ghost use Rattle.sym_facts.specs.Parts.{with_equations as positions_with};
-ghost use Rattle.sym_facts.specs.View.{position_in};
+ghost use Rattle.sym_facts.specs.PositionSets.{with_symbols, symbols_of_equation, symbols_of_equations, symbols_of_literal, symbols_of_literals, bound_of as bound, mentioned_below, is_unsolved_in};
+ghost use Rattle.sym_facts.specs.View.{position_in, set_in};
 
 use crate::fact::FactPosition;
+use crate::mentioned::{add_form, add_number};
+use crate::position_set::PositionSet;
 use fs_pair::positions::Position;
 use nf_rel::literals::NLit;
 use nf_terms::form::Nf;
 use nf_terms::stop::NoMemory;
-use nf_terms::tree::Pos;
 use std::alloc::Global;
 
 /// Each position with its equation, or free.
@@ -39,67 +41,100 @@ pub fn with_equations(
     Ok(out)
 }
 
-// Whether a position is mentioned in an equation.
-fn equation_mentions(position: &FactPosition, p: Pos) -> bool
-    ensures { result ≡ equation_has p (position_in position.now).equation }
+// A bound on the numbers of positions.
+fn bound_of(positions: &[FactPosition]) -> usize
+    ensures { result ≡ bound (map position_in positions.now) }
+{
+    let mut least = 0;
+    for position in positions {
+        least = least.max(position.pos.var as usize + 1);
+    }
+    least
+}
+
+// Adds the positions that an equation mentions.
+fn add_equation(mentioned: &mut PositionSet, position: &FactPosition)
+    ensures { set_in mentioned.new ≡ with_symbols (set_in mentioned.old) (symbols_of_equation (position_in position.now).equation) }
 {
     match &position.equation {
-        Some(form) => form.mentions(p),
-        None => false,
+        Some(form) => add_form(mentioned, form),
+        None => {}
     }
 }
 
-// Whether a position is mentioned in one of the equations.
-fn equations_mention(positions: &[FactPosition], p: Pos) -> bool
-    ensures { result ≡ list_any (λ q. equation_has p q.equation) (map position_in positions.now) }
+// Adds the positions that equations mention.
+#[tactic(auto, using(crate::proofs::MentionedPositions::joined, std::proofs::lemmas::Grind::common_steps))]
+fn add_equations(mentioned: &mut PositionSet, positions: &[FactPosition])
+    ensures { set_in mentioned.new ≡ with_symbols (set_in mentioned.old) (symbols_of_equations (map position_in positions.now)) }
 {
     for position in positions {
-        if equation_mentions(position, p) {
-            return true;
-        }
+        add_equation(mentioned, position);
     }
-    false
 }
 
-// Whether a position is mentioned in a literal.
-fn literal_mentions(literal: &NLit, p: Pos) -> bool
-    ensures { result ≡ literal_has p (literal_in literal.now) }
+// Adds the positions that a literal mentions.
+fn add_literal(mentioned: &mut PositionSet, literal: &NLit)
+    ensures { set_in mentioned.new ≡ with_symbols (set_in mentioned.old) (symbols_of_literal (literal_in literal.now)) }
 {
     match literal {
-        NLit::Is(b) => b.dir.mentions(p),
-        NLit::True | NLit::False => false,
+        NLit::Is(b) => add_number(mentioned, &b.dir),
+        NLit::True | NLit::False => {}
     }
 }
 
-// Whether a position is mentioned in one of the literals.
-fn literals_mention(literals: &[NLit], p: Pos) -> bool
-    ensures { result ≡ list_any (literal_has p) (map literal_in literals.now) }
+// Adds the positions that literals mention.
+#[tactic(auto, using(crate::proofs::MentionedPositions::joined, std::proofs::lemmas::Grind::common_steps))]
+fn add_literals(mentioned: &mut PositionSet, literals: &[NLit])
+    ensures { set_in mentioned.new ≡ with_symbols (set_in mentioned.old) (symbols_of_literals (map literal_in literals.now)) }
 {
     for literal in literals {
-        if literal_mentions(literal, p) {
-            return true;
-        }
+        add_literal(mentioned, literal);
     }
-    false
+}
+
+// Of some positions, those that their equations and literals mention.
+fn mentioned_in(
+    alloc: Global,
+    positions: &[FactPosition],
+    literals: &[NLit],
+) -> Result<PositionSet, NoMemory>
+    ensures { IfOk result (λ s. set_in s ≡ mentioned_below (bound (map position_in positions.now)) (record { positions = map position_in positions.now; literals = map literal_in literals.now })) }
+{
+    let mut mentioned = PositionSet::new(alloc, bound_of(positions))?;
+    add_equations(&mut mentioned, positions);
+    add_literals(&mut mentioned, literals);
+    Ok(mentioned)
 }
 
 // Whether a position has an equation and is mentioned.
-fn is_unsolved(positions: &[FactPosition], literals: &[NLit], position: &FactPosition) -> bool
-    ensures { result ≡ unsolved (record { positions = map position_in positions.now; literals = map literal_in literals.now }) (position_in position.now) }
+fn is_unsolved(mentioned: &PositionSet, position: &FactPosition) -> bool
+    ensures { result ≡ is_unsolved_in (set_in mentioned.now) (position_in position.now) }
 {
-    position.equation.is_some()
-        && (equations_mention(positions, position.pos) || literals_mention(literals, position.pos))
+    position.equation.is_some() && mentioned.contains(position.pos)
 }
 
-/// The first position that has an equation and is mentioned.
-pub fn first_unsolved(positions: &[FactPosition], literals: &[NLit]) -> Option<u32>
+// The first position that has an equation and is mentioned.
+fn first_unsolved_in(mentioned: &PositionSet, positions: &[FactPosition]) -> Option<u32>
     requires { length positions.now < 2 ^ 32 }
-    ensures { result ≡ position_from (unsolved (record { positions = map position_in positions.now; literals = map literal_in literals.now })) 0 (map position_in positions.now) }
+    ensures { result ≡ position_from (is_unsolved_in (set_in mentioned.now)) 0 (map position_in positions.now) }
 {
     for (place, position) in positions.iter().enumerate() {
-        if is_unsolved(positions, literals, position) {
+        if is_unsolved(mentioned, position) {
             return Some(place as u32);
         }
     }
     None
+}
+
+/// The first position that has an equation and is mentioned. The one refusal is out of memory.
+pub fn first_unsolved(
+    alloc: Global,
+    positions: &[FactPosition],
+    literals: &[NLit],
+) -> Result<Option<u32>, NoMemory>
+    requires { length positions.now < 2 ^ 32 }
+    ensures { IfOk result (λ first. first ≡ position_from (unsolved (record { positions = map position_in positions.now; literals = map literal_in literals.now })) 0 (map position_in positions.now)) }
+{
+    let mentioned = mentioned_in(alloc, positions, literals)?;
+    Ok(first_unsolved_in(&mentioned, positions))
 }

@@ -5,3 +5,4 @@ mod Exact
 mod ListForms
 mod Refusals
 mod LiteralForms
+mod Faultless

@@ -74,3 +74,7 @@ sorts_fit find = record { number = any_digits; factor = any_digits; name = λ wa
 -- no 1 stands before an atom
 abbrev pub ones_left_out : Test
 ones_left_out = record { number = any_digits; factor = λ ds. not (bytes_eq ds (codes "1")); name = any_name }
+
+-- all of these at once
+abbrev pub faultless : Find → Test
+faultless find = record { number = numbers_fit.number; factor = ones_left_out.factor; name = (sorts_fit find).name }

@@ -11,7 +11,7 @@ ghost use Rattle.term_values.specs.Terms.{written_passes};
 
 use crate::checks::{Check, array_passes, list_passes, polynomial_passes};
 use crate::names::Names;
-use crate::tests::{NamesKnown, NumbersFit, OnesLeftOut, SortsFit};
+use crate::tests::{Faultless, NamesKnown, NumbersFit, OnesLeftOut, SortsFit};
 use condition_text::condition::{WrittenCondition, WrittenInteger};
 use nf_terms::stop::NoMemory;
 use std::alloc::AllocFailed;
@@ -105,8 +105,8 @@ fn passes<C: Check>(check: &C, term: WrittenTerm<'_, '_>) -> bool
     }
 }
 
-/// The first fault that the numbers and names of a term show.
-pub fn fault<N: Names>(names: &N, term: WrittenTerm<'_, '_>) -> Option<TermError>
+// The first fault that one test after another shows.
+fn first_fault<N: Names>(names: &N, term: WrittenTerm<'_, '_>) -> Option<TermError>
     ensures { result ≡ fault_by (λ test. written_passes test term.entry) (N.find names.now) }
 {
     if !passes(&NumbersFit, term) {
@@ -122,4 +122,15 @@ pub fn fault<N: Names>(names: &N, term: WrittenTerm<'_, '_>) -> Option<TermError
         return Some(TermError::NotNormal);
     }
     None
+}
+
+/// The first fault that the numbers and names of a term show. A term that shows none is gone over once.
+#[tactic(auto, using(crate::proofs::Faultless::no_fault))]
+pub fn fault<N: Names>(names: &N, term: WrittenTerm<'_, '_>) -> Option<TermError>
+    ensures { result ≡ fault_by (λ test. written_passes test term.entry) (N.find names.now) }
+{
+    if passes(&Faultless(names), term) {
+        return None;
+    }
+    first_fault(names, term)
 }

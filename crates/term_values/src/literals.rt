@@ -39,7 +39,7 @@ fn integer(written: &WrittenInteger<'_>) -> i128
 fn bounded(dir: Poly, kind: Kind, bound: &i128) -> Result<NLit, TermError>
     ensures { IsJudgedAs literal_in result (is_normal_literal (literals.Is dir kind bound.now)) (literals.Is dir kind bound.now) }
 {
-    let _ = dir.size();
+    let _ = dir.tree();
     if !is_inner(bound) {
         return Err(TermError::NotNormal);
     }

@@ -30,7 +30,7 @@ pub(crate) fn normal_polynomial<N: Names>(
     let tree = polynomial_tree(alloc, names, written)?;
     match Poly::of(tree) {
         Some(polynomial) => {
-            let _ = polynomial.size();
+            let _ = polynomial.tree();
             Ok(polynomial)
         }
         None => Err(TermError::NotNormal),
@@ -49,7 +49,7 @@ fn normal_array<N: Names>(
     let tree = array_tree(alloc, names, written)?;
     match Arr::of(tree) {
         Some(array) => {
-            let _ = array.size();
+            let _ = array.tree();
             Ok(array)
         }
         None => Err(TermError::NotNormal),
@@ -84,7 +84,7 @@ fn normal_list<N: Names>(
     let base = list_base_tree(names, &written.base);
     match Seq::of(base, items) {
         Some(list) => {
-            let _ = list.size();
+            let _ = list.items();
             Ok(list)
         }
         None => Err(TermError::NotNormal),

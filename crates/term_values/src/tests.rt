@@ -96,3 +96,25 @@ impl Check for OnesLeftOut {
         true
     }
 }
+
+/// All of these at once.
+#[derive(Drop)]
+pub struct Faultless<'a, N>(pub &'a N);
+
+impl<'a, N: Names> Check for Faultless<'a, N> {
+    ghost use Rattle.term_values.specs.Checks.{faultless};
+
+    ghost test = { λ t. faultless (N.find t.0.now) };
+
+    fn number(&self, digits: &[u8]) -> bool {
+        NumbersFit.number(digits)
+    }
+
+    fn factor(&self, digits: &[u8]) -> bool {
+        OnesLeftOut.factor(digits)
+    }
+
+    fn name(&self, wanted: Sort, side: Side, name: &[u8]) -> bool {
+        has_sort(self.0, wanted, side, name)
+    }
+}

@@ -1,19 +1,12 @@
-use Rattle.std.proofs.Common.{◌≡◌, map, sym, ◌∙◌, arith}
+use Rattle.std.proofs.Common.{map, ap, ◌∙◌}
 use Rattle.std.specs.List.{position_from}
 use Rattle.nf_rel.specs.View.{literal_in}
-use Rattle.sym_facts.specs.Facts.{is_unsolved}
+use Rattle.sym_facts.specs.PositionSets.{is_unsolved_in}
 use Rattle.sym_facts.specs.View.{position_in}
-use Rattle.sym_facts.proofs.Walks.{passes_here, passes_later}
+use Rattle.sym_facts.proofs.MentionedPositions.{first_is}
 use Rattle.sym_facts.proofs.parts.first_unsolved.Goals as goal
 
-pub returns-then-is_unsolved : goal.returns-then-is_unsolved
-returns-then-is_unsolved c =
-    let xs = c.args.positions.now in
-    let test = is_unsolved (record { positions = map position_in xs; literals = map literal_in c.args.literals.now }) in
-    passes_here test xs c.loop-place.place c.index-positions-place.result (position_from test 0 (map position_in xs)) (omega (arith, c.loop-place-test.true)) c.index-positions-place.is c.loop-place.invariant (sym c.is_unsolved.ensures ∙ c.if-is_unsolved.true)
-
-pub loop-place-preserved : goal.loop-place-preserved
-loop-place-preserved c =
-    let xs = c.args.positions.now in
-    let test = is_unsolved (record { positions = map position_in xs; literals = map literal_in c.args.literals.now }) in
-    passes_later test xs c.loop-place.place c.index-positions-place.result (position_from test 0 (map position_in xs)) (omega (arith, c.loop-place-test.true)) c.index-positions-place.is c.loop-place.invariant (sym c.is_unsolved.ensures ∙ c.if-is_unsolved.false)
+pub returns : goal.returns
+returns c =
+    let qs = map position_in c.args.positions.now in
+    c.first_unsolved_in.ensures ∙ ap (λ s. position_from (is_unsolved_in s) 0 qs) c.in_ok-mentioned.ensures ∙ first_is (record { positions = qs; literals = map literal_in c.args.literals.now })

@@ -10,7 +10,7 @@ returns-in-Some g c =
     let r = within_limit (g.N.Names.find c.args.names.now) in
     let w = c.args.written.now in
     let made = parts_make r w c.deref.result.now c.list_base_tree-base.result c.in_ok-items.items.items c.deref.ensures.value c.in_ok-items.ensures.0 c.list_base_tree-base.ensures in
-    (c.in-Some.ensures ∙ made, list_judged c.in-Some.list (list_value r (list_in w)) (c.in-Some.ensures ∙ made) c.size.ensures.normal)
+    (c.in-Some.ensures ∙ made, list_judged c.in-Some.list (list_value r (list_in w)) (c.in-Some.ensures ∙ made) c.items.ensures.normal)
 
 pub returns-in-None : goal.returns-in-None
 returns-in-None g c =

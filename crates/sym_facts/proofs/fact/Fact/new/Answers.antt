@@ -25,7 +25,7 @@ of-requires c =
     let made : map position_in c.in_ok-positions.positions.items ≡ with_equations ps fs = c.in_ok-positions.ensures ∙ ap (λ qs. with_equations qs fs) c.positions.ensures in
     let read = ap₂ (λ qs ms. position_from (is_unsolved (record { positions = qs; literals = ms })) 0 qs) (ap (map position_in) c.as_slice.ensures.value ∙ made) (ap (map literal_in) c.as_slice-2.ensures.value) in
     subst (λ qs. IsKept (record { positions = qs; literals = ls })) (sym made)
-    (parts_kept ps fs ls c.holds.ensures c.requires.count c.requires.sorts (omega (arith, length-map c.args.conds.items literal_in, c.requires.few)) c.requires.kept (sym read ∙ sym c.first_unsolved.ensures ∙ c.in-None.is))
+    (parts_kept ps fs ls c.holds.ensures c.requires.count c.requires.sorts (omega (arith, length-map c.args.conds.items literal_in, c.requires.few)) c.requires.kept (sym read ∙ sym c.in_ok-first.ensures ∙ c.in-None.is))
 
 pub returns-in-None-clause-pairing : goal.returns-in-None-clause-pairing
 returns-in-None-clause-pairing c =
