@@ -16,8 +16,8 @@ use Rattle.program_laws.specs.WellFormed.{is_well_formed}
 use Rattle.program_laws.proofs.WellFormedParts.{parts_fine}
 use Rattle.program_laws.proofs.Numbers.{length_numbered, length_states}
 use Rattle.program_laws.proofs.Programs.{does_as}
-use Rattle.hls_lang.specs.declared.fault.LangError.{LangError}
-use Rattle.hls_lang.specs.declared.fault.LangError.TheVariants.{NoMemory}
+use Rattle.program_text.specs.declared.fault.LangError.{LangError}
+use Rattle.program_text.specs.declared.fault.LangError.TheVariants.{NoMemory}
 use Rattle.hls_lang.specs.Refusals.{IsRefusalOf}
 
 few : (p : Program) → IsLawful (parts_of p) → count p.body < most_states

@@ -1,8 +1,8 @@
 -- Why a program is not compiled.
 use Rattle.fs_model.specs.Source.{Source}
 use Rattle.fs_rules.specs.Rules.{IsFirstBroken}
-use Rattle.hls_lang.specs.declared.fault.LangError.{LangError}
-use Rattle.hls_lang.specs.declared.fault.LangError.TheVariants.{Text, Check, NoMemory}
+use Rattle.program_text.specs.declared.fault.LangError.{LangError}
+use Rattle.program_text.specs.declared.fault.LangError.TheVariants.{Text, Check, NoMemory}
 
 -- the refusal names the first rule that the parts break, or memory was refused
 abbrev pub IsRefusalOf : Source → LangError → Type 0

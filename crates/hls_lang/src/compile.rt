@@ -11,11 +11,11 @@ ghost use Rattle.program_laws.specs.WellFormed.{is_well_formed};
 ghost use Rattle.program_parts.specs.View.{program_of};
 ghost use Rattle.hls_lang.specs.Refusals.{IsRefusalOf};
 
-use crate::fault::LangError;
 use fs_ast::build::BuildError;
 use fs_ast::machine::Machine;
 use fs_model::parts::Parts;
 use program_parts::program::Program;
+use program_text::fault::LangError;
 use std::alloc::Global;
 
 /// The parts to which a program is compiled, and their machine.

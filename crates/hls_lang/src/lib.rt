@@ -1,7 +1,7 @@
-//! Programs of the small behavioural language, compiled to machines that do what the programs do.
+//! Programs of the small behavioural language, read from texts and compiled to machines that do what the programs do.
 #![tactic(auto)]
 
 pub mod compile;
-pub mod fault;
 
 pub use program_parts::{memory, program, well_formed};
+pub use program_text::{fault, read_program};

@@ -1,0 +1,15 @@
+pub mod Walks
+pub mod Closers
+pub mod Complete
+pub mod Reached
+pub mod Sound
+pub mod Beginning
+pub mod Once
+pub mod Tallies
+pub mod Depths
+pub mod Excess
+pub mod Strangers
+pub mod Exact
+pub mod Texts
+pub mod Counts
+pub mod WellFormed

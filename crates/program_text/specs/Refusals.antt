@@ -1,0 +1,11 @@
+-- Why a program is not read.
+use Rattle.std.specs.Prelude.{ℕ, List}
+use Rattle.program_grammar.specs.Texts.{TextStops}
+use Rattle.program_text.specs.declared.fault.LangError.{LangError}
+use Rattle.program_text.specs.declared.fault.LangError.TheVariants.{Text, Check, NoMemory}
+
+-- the bytes are faulty where the refusal says, or memory was refused; no rule of parts is looked at
+abbrev pub IsTextRefusal : List ℕ → LangError → Type 0
+IsTextRefusal bytes (Text f) = TextStops bytes f
+IsTextRefusal bytes (Check f) = ⊥
+IsTextRefusal bytes NoMemory = Unit {0}
