@@ -63,7 +63,7 @@ same_count : (keep : List ℕ) (ls : List (Transition ℕ ℕ)) → count_leaves
 same_count keep [] = refl
 same_count keep (l ∷ ls) = same_guard l.guard (Leaf l.assignments (place_in keep l.target)) (tree_of_transitions (map (renumbered keep) ls)) (Leaf l.assignments l.target) (tree_of_transitions ls) refl (same_count keep ls)
 
-same_branches : (keep : List ℕ) (ls : List (Transition ℕ ℕ)) → length (branches_of (map (renumbered keep) ls)) ≡ length (branches_of ls)
+pub same_branches : (keep : List ℕ) (ls : List (Transition ℕ ℕ)) → length (branches_of (map (renumbered keep) ls)) ≡ length (branches_of ls)
 same_branches keep ls = length-leaves (tree_of_transitions (map (renumbered keep) ls)) [] ∙ same_count keep ls ∙ sym (length-leaves (tree_of_transitions ls) [])
 
 target_renumbered : (keep : List ℕ) (ls : List (Transition ℕ ℕ)) → ends_open ls ≡ true → first_transition_target (map (renumbered keep) ls) ≡ place_in keep (first_transition_target ls)

@@ -3,6 +3,7 @@ use Rattle.std.proofs.Common.{◌≡◌, ℕ, zero, suc, ◌<◌, ◌≤◌, ref
 use Rattle.std.specs.Prelude.{◌≢◌, not, cond, slice_get}
 use Rattle.std.specs.List.{slice_index_or}
 use Rattle.std.proofs.lemmas.Bool.Decides.{nat_tests}
+use Rattle.fs_model.specs.Terms.{Transition}
 use Rattle.fs_model.specs.Machines.{Fsmd, transitions_of}
 use Rattle.fs_model.specs.Runs.{SameBehaviour}
 use Rattle.fs_model.specs.Trees.{Branch, branches_of}
@@ -43,15 +44,20 @@ length_rows : (n k : ℕ) (ps : List Placed) → length (rows_from k n ps) ≡ n
 length_rows zero k ps = refl
 length_rows (suc n) k ps = ap suc (length_rows n (suc k) ps)
 
+-- the one transition of a straight state, and that its assignments are the item
+pub its_line : (m : Fsmd) (sound : IsSound m) (q : ℕ) → q < length m.states → is_straight m q ≡ true → (l : Transition ℕ ℕ) × (transitions_of m q ≡ l ∷ []) × (item_of m q ≡ l.assignments)
+its_line m sound q h e =
+    let c : is_cutpoint m q ≡ false = not_of (is_cutpoint m q) e in
+    let a = alone (branches_of (transitions_of m q)) (some_branch m sound q h) (few m q c) in
+    let o = only_transition (transitions_of m q) a.0 (sound.open_last q h) a.1 in
+    let is : (branch_at m q 0).assignments ≡ o.line.assignments = ap (λ (bs : List Branch). (slice_index_or bs 0 (record { literals = []; assignments = []; target = 0 })).assignments) a.1 ∙ sym o.assignments in
+    (o.line, o.alone, is)
+
 module _ (m : Fsmd) (units : Units) (sound : IsSound m) (within : IsWithin units m) where
-  -- the item of a straight state is that of its one transition
   item_within : (q : ℕ) → q < length m.states → is_straight m q ≡ true → suffice units none_used (used_by (item_of m q)) ≡ true
   item_within q h e =
-      let c : is_cutpoint m q ≡ false = not_of (is_cutpoint m q) e in
-      let a = alone (branches_of (transitions_of m q)) (some_branch m sound q h) (few m q c) in
-      let o = only_transition (transitions_of m q) a.0 (sound.open_last q h) a.1 in
-      let is : (branch_at m q 0).assignments ≡ o.line.assignments = ap (λ (bs : List Branch). (slice_index_or bs 0 (record { literals = []; assignments = []; target = 0 })).assignments) a.1 ∙ sym o.assignments in
-      subst (λ z. suffice units none_used (used_by z) ≡ true) (sym is) (within q 0 o.line (ap (λ ls. slice_get ls 0) o.alone))
+      let l = its_line m sound q h e in
+      subst (λ z. suffice units none_used (used_by z) ≡ true) (sym l.2) (within q 0 l.0 (ap (λ ls. slice_get ls 0) l.1))
 
   -- each item of a line is within the units
   each_step : (n j q : ℕ) (t : Bool) → follows m q (next m q) ≡ t → j < length (map (item_of m) (cond t (line_from m n (next m q)) [])) → (follows m q (next m q) ≡ true → j < length (map (item_of m) (line_from m n (next m q))) → suffice units none_used (used_by (slice_index_or (map (item_of m) (line_from m n (next m q))) j [])) ≡ true)
@@ -76,7 +82,7 @@ module _ (m : Fsmd) (units : Units) (sound : IsSound m) (within : IsWithin units
   some_item (suc n) q = omega arith
 
   -- the number of rows
-  rows_count : (q : ℕ) → length (rows_by units m q) ≡ (filling (graph_of (items_at m q)) units).count
+  pub rows_count : (q : ℕ) → length (rows_by units m q) ≡ (filling (graph_of (items_at m q)) units).count
   rows_count q = length_rows (filling (graph_of (items_at m q)) units).count 0 (placed_by (items_at m q) (filling (graph_of (items_at m q)) units))
 
   pub no_longer : (q : ℕ) → q < length m.states → is_first m q ≡ true → length (rows_by units m q) ≤ length (line_at m q)

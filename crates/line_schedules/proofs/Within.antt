@@ -2,13 +2,13 @@
 use Rattle.std.proofs.Common.{◌≡◌, inl, inr, ℕ, zero, suc, ◌+◌, ◌<◌, ◌≤◌, refl, sym, ◌∙◌, ap, subst, arith, Bool, true, false, List, [], ◌∷◌, ◌++◌, map, length, Option, Some, None}
 use Rattle.std.specs.Prelude.{◌==◌, cond, slice_get}
 use Rattle.std.specs.List.{slice_index_or}
-use Rattle.fs_model.specs.Terms.{Transition}
+use Rattle.fs_model.specs.Terms.{Assignment, Transition}
 use Rattle.fs_model.specs.Machines.{State, Fsmd, transitions_of}
 use Rattle.fs_rules.specs.Sound.{IsSound}
 use Rattle.line_rows.specs.Items.{Item}
-use Rattle.line_rows.specs.Placings.{Placed, joined, row_at, rows_from}
+use Rattle.line_rows.specs.Placings.{PlacedOver, Placed, joined, row_at, rows_from}
 use Rattle.line_machines.specs.Lines.{all_states, line_at, exit_of, is_first, firsts, items_at}
-use Rattle.line_machines.specs.Replaced.{Move, moves, all_moves, line_of, lines_by, state_at, replaced}
+use Rattle.line_machines.specs.Replaced.{MoveOver, Move, moves, all_moves, line_of, lines_by, state_at, replaced}
 use Rattle.line_machines.specs.Selected.{renumbered}
 use Rattle.line_machines.specs.Scheduled.{kept_states}
 use Rattle.line_machines.proofs.Among.{Among, joined_from, passes_test, was_among, range_within}
@@ -51,10 +51,14 @@ module _ (g : Graph) (item : ℕ → Item) (uses : (i : ℕ) (x : Kind) → g.us
 abbrev AllRows : Units → List Item → Type 0
 AllRows units rows = (a : Item) → Among a rows → suffice units none_used (used_by a) ≡ true
 
+-- a row is the items of one number joined
+pub row_joined : {X : Type 0} (ps : List (PlacedOver X)) (n k : ℕ) (a : List (Assignment X)) → Among a (rows_from k n ps) → (j : ℕ) × (a ≡ joined (row_at j ps))
+row_joined ps zero k a w = absurd w
+row_joined ps (suc n) k a (inl e) = (k, e)
+row_joined ps (suc n) k a (inr w) = row_joined ps n (suc k) a w
+
 rows_within : (units : Units) (ps : List Placed) → ((r : ℕ) → suffice units none_used (used_by (joined (row_at r ps))) ≡ true) → (n k : ℕ) → AllRows units (rows_from k n ps)
-rows_within units ps h zero k a w = absurd w
-rows_within units ps h (suc n) k a (inl e) = subst (λ z. suffice units none_used (used_by z) ≡ true) (sym e) (h k)
-rows_within units ps h (suc n) k a (inr w) = rows_within units ps h n (suc k) a w
+rows_within units ps h n k a w = let j = row_joined ps n k a w in subst (λ z. suffice units none_used (used_by z) ≡ true) (sym j.1) (h j.0)
 
 filled_within : (items : List Item) (units : Units) → EachFits (graph_of items) units → AllRows units (new_rows units items)
 filled_within items units each =
@@ -69,11 +73,12 @@ filled_within items units each =
     f.count 0
 
 -- ---- from rows to transitions
-move_row : (exit : ℕ) (qs : List ℕ) (rows : List Item) (x : Move) → Among x (moves exit qs rows) → Among x.assignments rows
-move_row exit [] rows x h = absurd h
-move_row exit (q ∷ qs) [] x h = absurd h
-move_row exit (q ∷ qs) (a ∷ rows) x (inl e) = inl (ap (λ (z : Move). z.assignments) e)
-move_row exit (q ∷ qs) (a ∷ rows) x (inr h) = inr (move_row exit qs rows x h)
+module _ {X : Type 0} where
+  pub move_row : (exit : ℕ) (qs : List ℕ) (rows : List (List (Assignment X))) (x : MoveOver X) → Among x (moves exit qs rows) → Among x.assignments rows
+  move_row exit [] rows x h = absurd h
+  move_row exit (q ∷ qs) [] x h = absurd h
+  move_row exit (q ∷ qs) (a ∷ rows) x (inl e) = inl (ap (λ (z : MoveOver X). z.assignments) e)
+  move_row exit (q ∷ qs) (a ∷ rows) x (inr h) = inr (move_row exit qs rows x h)
 
 abbrev Fits : Units → List (Transition ℕ ℕ) → Type 0
 Fits units ls = (k : ℕ) (l : Transition ℕ ℕ) → slice_get ls k ≡ Some l → suffice units none_used (used_by l.assignments) ≡ true

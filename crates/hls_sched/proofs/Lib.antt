@@ -1,0 +1,4 @@
+pub mod Rows
+pub mod ByStates
+pub mod Gathered
+pub mod Outcome

@@ -1,0 +1,7 @@
+use Rattle.std.proofs.Common.{◌≡◌, take, map}
+use Rattle.line_machines.specs.Lines.{item_of}
+use Rattle.line_filling.specs.Sets.{sets_of, sets_from, none_changed}
+use Rattle.hls_sched.proofs.plans.all_effects.Given as goal
+
+abbrev pub invariant-loop-state : goal.invariant-loop-state
+invariant-loop-state l = map sets_of l.out.items ≡ map (λ q. sets_from (item_of l.m q.0) none_changed) (take l.state-index l.states)

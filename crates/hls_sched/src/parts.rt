@@ -1,0 +1,162 @@
+//! The parts of a machine with its lines in rows.
+
+ghost use Rattle.std.specs.Prelude.{◌≡◌, ℕ, ◌<◌, ◌∷◌, ◌++◌, [], map, option_map, length, IfOk, IfSome};
+ghost use Rattle.std.specs.List.{All};
+ghost use Rattle.std.specs.Result.{OnOk};
+ghost use Rattle.fs_model.specs.Source.{Source};
+ghost use Rattle.fs_model.specs.View.{named_assignment, source_state_of, source_of};
+ghost use Rattle.scheduled_sources.specs.Rows.{first_assignments, found};
+ghost use Rattle.scheduled_sources.specs.Sources.{moved, states_by, source_by_rows};
+ghost use Rattle.hls_sched.specs.Moves.{joined_items, done_by, move_of, IsMoveAmong};
+
+use crate::memory::NoMemory;
+use crate::moves::Move;
+use fs_ast::machine::Machine;
+use fs_model::name::Name;
+use fs_model::parts::{Assign, Parts, RawLine, RawState, StateId};
+use line_tracing::lines::is_straight;
+use part_copies::assignments::add_assignments;
+use part_copies::states::{copied_declarations, copied_state};
+use std::alloc::Global;
+
+// The move of a state, where there is one.
+fn move_of_state(moves: &[Move], state: StateId) -> Option<&Move>
+    ensures found { (p : Source) → option_map (λ x. done_by p x.now) result ≡ found (map (move_of p) moves.now) state.0 }
+    ensures among { (count : ℕ) → All (IsMoveAmong count) moves.now → IfSome result (λ x. IsMoveAmong count x.now) }
+{
+    for one in moves {
+        if one.state == state {
+            return Some(one);
+        }
+    }
+    None
+}
+
+// Adds copies of the assignments of a state's first transition.
+fn add_item(alloc: Global, state: &RawState, out: &mut Vec<Assign<Name>>) -> Result<(), NoMemory>
+    ensures { OnOk result (map named_assignment out.new.items ≡ map named_assignment out.old.items ++ first_assignments (source_state_of state.now).lines) }
+{
+    if let Some(line) = state.lines.first() {
+        add_assignments(alloc, &line.assigns, out)?;
+    }
+    Ok(())
+}
+
+// Copies of the assignments of items, one after another.
+fn joined_items(
+    alloc: Global,
+    parts: &Parts,
+    items: &[StateId],
+) -> Result<Vec<Assign<Name>>, NoMemory>
+    requires { All (λ q. q.0 < length parts.now.states.items) items.now }
+    ensures { IfOk result (λ out. map named_assignment out.items ≡ joined_items (source_of parts.now) items.now) }
+{
+    let mut out = Vec::new(alloc);
+    for state in items {
+        add_item(alloc, &parts.states[state.0 as usize], &mut out)?;
+    }
+    Ok(out)
+}
+
+// A list of one transition.
+fn alone(alloc: Global, line: RawLine) -> Result<Vec<RawLine>, NoMemory>
+    ensures { IfOk result (λ out. out.items ≡ line ∷ []) }
+{
+    let mut out = Vec::new(alloc);
+    out.push(line)?;
+    Ok(out)
+}
+
+// A state with a move for its one transition.
+fn moved_state(
+    alloc: Global,
+    parts: &Parts,
+    state: &RawState,
+    by: &Move,
+) -> Result<RawState, NoMemory>
+    requires { IsMoveAmong (length parts.now.states.items) by.now }
+    ensures { IfOk result (λ out. source_state_of out ≡ moved (source_of parts.now) (source_state_of state.now) (done_by (source_of parts.now) by.now)) }
+{
+    let name = state.name.try_clone(alloc)?;
+    let target = parts.states[by.target.0 as usize].name.try_clone(alloc)?;
+    let assigns = joined_items(alloc, parts, &by.items)?;
+    let lines = alone(
+        alloc,
+        RawLine {
+            line: state.line,
+            guard: None,
+            target,
+            assigns,
+        },
+    )?;
+    Ok(RawState {
+        line: state.line,
+        name,
+        lines,
+    })
+}
+
+// Adds a state as it will be: with its row where it has one, not at all where it has none and stands in a line,
+// and else as it is.
+fn add_state(
+    alloc: Global,
+    parts: &Parts,
+    m: &Machine,
+    moves: &[Move],
+    state: StateId,
+    out: &mut Vec<RawState>,
+) -> Result<(), NoMemory>
+    requires moves { All (IsMoveAmong (length parts.now.states.items)) moves.now }
+    requires machine { length m.now.states ≡ length parts.now.states.items }
+    requires state { state.0 < length parts.now.states.items }
+    ensures { OnOk result (map source_state_of out.new.items ≡ map source_state_of out.old.items ++ states_by (source_of parts.now) m.now (found (map (move_of (source_of parts.now)) moves.now)) state.0) }
+{
+    let old = &parts.states[state.0 as usize];
+    match move_of_state(moves, state) {
+        Some(by) => out.push(moved_state(alloc, parts, old, by)?)?,
+        None => if !is_straight(m, state) {
+            out.push(copied_state(alloc, old)?)?;
+        },
+    }
+    Ok(())
+}
+
+// The states with moves: one for each move, and none for a state of a line that has no move.
+fn moved_states(
+    alloc: Global,
+    parts: &Parts,
+    m: &Machine,
+    moves: &[Move],
+) -> Result<Vec<RawState>, NoMemory>
+    requires moves { All (IsMoveAmong (length parts.now.states.items)) moves.now }
+    requires machine { length m.now.states ≡ length parts.now.states.items }
+    ensures { IfOk result (λ out. map source_state_of out.items ≡ (source_by_rows (source_of parts.now) m.now (found (map (move_of (source_of parts.now)) moves.now))).states) }
+{
+    let mut out = Vec::new(alloc);
+    for q in 0..m.state_count() {
+        add_state(alloc, parts, m, moves, StateId(q), &mut out)?;
+    }
+    Ok(out)
+}
+
+/// The parts with moves: a state for each move, and none for a state of a line that has no move. Other states and the
+/// declarations stay.
+pub fn moved_parts(
+    alloc: Global,
+    parts: &Parts,
+    m: &Machine,
+    moves: &[Move],
+) -> Result<Parts, NoMemory>
+    requires moves { All (IsMoveAmong (length parts.now.states.items)) moves.now }
+    requires machine { length m.now.states ≡ length parts.now.states.items }
+    ensures { IfOk result (λ out. source_of out ≡ source_by_rows (source_of parts.now) m.now (found (map (move_of (source_of parts.now)) moves.now))) }
+{
+    let states = moved_states(alloc, parts, m, moves)?;
+    let decls = copied_declarations(alloc, &parts.decls)?;
+    Ok(Parts {
+        decls,
+        reset_line: parts.reset_line,
+        reset: parts.reset.try_clone(alloc)?,
+        states,
+    })
+}

@@ -1,0 +1,73 @@
+//! Plans of lines.
+
+ghost use Rattle.std.specs.Prelude.{◌≡◌, ◌<◌, ◌≤◌, length, map, IfOk};
+ghost use Rattle.std.specs.List.{All};
+ghost use Rattle.line_machines.specs.Lines.{item_of, items_at};
+ghost use Rattle.unit_counts.specs.declared.units.Unit.{Unit as Kind};
+ghost use Rattle.line_fills.specs.Units.{used_by, units_in};
+ghost use Rattle.line_fills.specs.Heights.{chain_of};
+ghost use Rattle.line_fills.specs.Filling.{graph_of, filling};
+ghost use Rattle.line_schedules.specs.Schedules.{IsWithin};
+ghost use Rattle.line_filling.specs.Sets.{sets_of, sets_from, none_changed};
+ghost use Rattle.line_filling.specs.Profiles.{uses_in, capped};
+ghost use Rattle.line_filling.specs.Plans.{filled_in};
+ghost use Rattle.hls_sched.specs.Moves.{IsPlanFor};
+ghost use Rattle.hls_sched.specs.Lines.{IsLineFrom};
+
+use crate::memory::NoMemory;
+use fs_ast::machine::Machine;
+use fs_model::parts::StateId;
+use line_filling::effects::Effects;
+use line_filling::plan::{Plan, make_plan};
+use line_filling::uses::{Uses, uses_of};
+use line_tracing::lines::{Line, item};
+use std::alloc::Global;
+use unit_counts::Units;
+use unit_limits::laws::items_within_the_units_are_counted;
+use unit_limits::over::see_counts;
+
+// The effects of items, in their order.
+fn all_effects(alloc: Global, m: &Machine, states: &[StateId]) -> Result<Vec<Effects>, NoMemory>
+    requires { All (λ q. q.0 < length m.now.states) states.now }
+    ensures { IfOk result (λ out. map sets_of out.items ≡ map (λ q. sets_from (item_of m.now q.0) none_changed) states.now) }
+{
+    let mut out = Vec::new(alloc);
+    for state in states {
+        out.push(Effects::of(item(m, *state)))?;
+    }
+    Ok(out)
+}
+
+// The units that items use, in their order.
+fn all_uses(alloc: Global, m: &Machine, states: &[StateId]) -> Result<Vec<Uses>, NoMemory>
+    requires { All (λ q. q.0 < length m.now.states) states.now }
+    ensures { IfOk result (λ out. (kind : Kind) → map (λ u. uses_in u kind) out.items ≡ map (λ q. capped (used_by (item_of m.now q.0) kind)) states.now) }
+{
+    let mut out = Vec::new(alloc);
+    for state in states {
+        out.push(uses_of(item(m, *state)))?;
+    }
+    Ok(out)
+}
+
+/// Plans the rows of a line.
+pub fn plan_line(
+    alloc: Global,
+    m: &Machine,
+    first: StateId,
+    line: &Line,
+    units: &Units,
+) -> Result<Plan, NoMemory>
+    requires within { IsWithin (units_in units.now) m.now }
+    requires line { IsLineFrom m.now first.0 line.now }
+    ensures rows { IfOk result (λ p. filled_in p ≡ filling (graph_of (items_at m.now first.0)) (units_in units.now)) }
+    ensures chain { IfOk result (λ p. p.chain ≡ chain_of (items_at m.now first.0)) }
+    ensures plan { IfOk result (λ p. IsPlanFor (length line.now.states.items) p) }
+{
+    let _vars = m.vars();
+    see_counts(units);
+    items_within_the_units_are_counted();
+    let effects = all_effects(alloc, m, &line.states)?;
+    let uses = all_uses(alloc, m, &line.states)?;
+    Ok(make_plan(alloc, &effects, &uses, units)?)
+}

@@ -1,0 +1,192 @@
+//! List scheduling: the straight lines of a machine in rows.
+
+ghost use Rattle.std.specs.Prelude.{◌≡◌, ◌++◌, None, length, map, IsTrue, IfOk};
+ghost use Rattle.std.specs.List.{All};
+ghost use Rattle.std.specs.Result.{OnOk, IfErr};
+ghost use Rattle.fs_model.specs.Runs.{SameBehaviour};
+ghost use Rattle.fs_model.specs.Source.{Source};
+ghost use Rattle.fs_model.specs.View.{source_of};
+ghost use Rattle.fs_model.specs.WellFormed.{is_well_formed};
+ghost use Rattle.fs_rules.specs.Spelled.{machine_of};
+ghost use Rattle.fs_rules.specs.Rules.{IsLawful};
+ghost use Rattle.line_fills.specs.Units.{units_in};
+ghost use Rattle.line_schedules.specs.Schedules.{IsWithin, schedule_of};
+ghost use Rattle.scheduled_sources.specs.Rows.{named_moves};
+ghost use Rattle.scheduled_sources.specs.Sources.{scheduled_source};
+ghost use Rattle.unit_limits.specs.Over.{over_in};
+ghost use Rattle.hls_sched.specs.Moves.{move_of, IsMoveAmong};
+ghost use Rattle.hls_sched.specs.Lines.{IsLineFrom, moves_from};
+ghost use Rattle.hls_sched.specs.Reports.{report_of, report_at, reports, KeepsLengths, IsRefused};
+ghost use Rattle.hls_sched.specs.declared.scheduling.SchedError.TheVariants as errors;
+
+use crate::memory::NoMemory;
+use crate::moves::{Move, add_moves};
+use crate::parts::moved_parts;
+use crate::plans::plan_line;
+use fs_ast::machine::Machine;
+use fs_model::parts::{Parts, StateId};
+use lawful_machines::build_lawful;
+use line_tracing::arrivals::count_arrivals;
+use line_tracing::lines::{Line, firsts, trace_line};
+use scheduled_sources::laws::{a_scheduled_text_is_lawful, a_scheduled_text_spells_the_schedule};
+use std::alloc::Global;
+use unit_counts::{Unit, Units};
+use unit_limits::laws::machines_within_the_units;
+use unit_limits::over::over_in;
+
+/// A line: its first state, its length, how many rows it has now, and its chain.
+#[derive(Clone, Copy, Debug, PartialEq, Eq)]
+pub struct LineReport {
+    pub first: StateId,
+    pub before: u32,
+    pub after: u32,
+    pub chain: u32,
+}
+
+/// A machine whose lines are scheduled: its parts, the machine that they spell, and what became of each line, in the
+/// order of first states.
+#[derive(Drop)]
+pub struct Scheduled {
+    pub parts: Parts,
+    pub machine: Machine,
+    pub lines: Vec<LineReport>,
+}
+
+/// Why a machine is not scheduled.
+#[derive(Clone, Copy, Debug, PartialEq, Eq)]
+pub enum SchedError {
+    /// A transition of the state uses more of the unit than is given.
+    Over { state: StateId, unit: Unit },
+    /// There is no memory.
+    NoMemory,
+}
+
+impl From<NoMemory> for SchedError {
+    ghost from_gives = { λ _ e. e ≡ errors.NoMemory };
+
+    fn from(_refused: NoMemory) -> SchedError {
+        SchedError::NoMemory
+    }
+}
+
+impl From<fs_model::name::NoMemory> for SchedError {
+    ghost from_gives = { λ _ e. e ≡ errors.NoMemory };
+
+    fn from(_refused: fs_model::name::NoMemory) -> SchedError {
+        SchedError::NoMemory
+    }
+}
+
+// The rows of all lines in their states, and what becomes of each line.
+#[derive(Drop)]
+struct Lines {
+    moves: Vec<Move>,
+    reports: Vec<LineReport>,
+}
+
+// Adds the rows of a line in its first states. What becomes of it.
+fn schedule_line(
+    alloc: Global,
+    m: &Machine,
+    units: &Units,
+    first: StateId,
+    line: &Line,
+    out: &mut Vec<Move>,
+) -> Result<LineReport, NoMemory>
+    requires within { IsWithin (units_in units.now) m.now }
+    requires line { IsLineFrom m.now first.0 line.now }
+    requires among { All (IsMoveAmong (length m.now.states)) out.now.items }
+    ensures report { IfOk result (λ r. report_of r ≡ report_at (units_in units.now) m.now first.0) }
+    ensures moves { OnOk result ((p : Source) → map (move_of p) out.new.items ≡ map (move_of p) out.old.items ++ moves_from (units_in units.now) p m.now first.0) }
+    ensures among { OnOk result (All (IsMoveAmong (length m.now.states)) out.new.items) }
+{
+    let _vars = m.vars();
+    let plan = plan_line(alloc, m, first, line, units)?;
+    add_moves(alloc, line, &plan, out)?;
+    Ok(LineReport {
+        first,
+        before: line.states.len() as u32,
+        after: plan.count,
+        chain: plan.chain,
+    })
+}
+
+// The rows of all lines in their states, and what becomes of each line.
+fn schedule_lines(alloc: Global, m: &Machine, units: &Units) -> Result<Lines, NoMemory>
+    requires within { IsWithin (units_in units.now) m.now }
+    ensures reports { IfOk result (λ l. map report_of l.reports.items ≡ reports (units_in units.now) m.now) }
+    ensures moves { IfOk result (λ l. (p : Source) → map (move_of p) l.moves.items ≡ named_moves (units_in units.now) p m.now) }
+    ensures among { IfOk result (λ l. All (IsMoveAmong (length m.now.states)) l.moves.items) }
+{
+    let arrivals = count_arrivals(alloc, m)?;
+    let firsts = firsts(alloc, m, &arrivals)?;
+    let mut moves = Vec::new(alloc);
+    let mut reports = Vec::new(alloc);
+    for first in &firsts {
+        let line = trace_line(alloc, m, &arrivals, *first)?;
+        reports.push(schedule_line(alloc, m, units, *first, &line, &mut moves)?)?;
+    }
+    Ok(Lines { moves, reports })
+}
+
+// The parts with all lines in rows, and what becomes of each line.
+fn parts_in_rows(
+    alloc: Global,
+    parts: &Parts,
+    m: &Machine,
+    units: &Units,
+) -> Result<(Parts, Vec<LineReport>), NoMemory>
+    requires within { IsWithin (units_in units.now) m.now }
+    requires built { m.now ≡ machine_of (source_of parts.now) }
+    ensures parts { IfOk result (λ r. source_of r.0 ≡ scheduled_source (units_in units.now) (source_of parts.now) m.now) }
+    ensures lines { IfOk result (λ r. map report_of r.1.items ≡ reports (units_in units.now) m.now) }
+{
+    let Lines { moves, reports } = schedule_lines(alloc, m, units)?;
+    let parts = moved_parts(alloc, parts, m, &moves)?;
+    Ok((parts, reports))
+}
+
+/// Schedules each straight line of a machine under a number of units. Rows are filled one after another, of the
+/// items whose earlier ones and whose units let them stand in the row the highest first, at a tie the first; the rows
+/// stand in the first states of the line, and its other states are left out. The parts are those of which the machine
+/// was built.
+///
+/// `Over` comes exactly where a transition uses more of a unit than is given: it names the first state, in order, that
+/// has such a branch, and the first such unit of its first such branch. `NoMemory` may come at any time.
+///
+/// Takes time in the square of the states and linear in the rest.
+pub fn schedule(
+    alloc: Global,
+    parts: &Parts,
+    m: &Machine,
+    units: &Units,
+) -> Result<Scheduled, SchedError>
+    requires formed { IsTrue (is_well_formed (source_of parts.now)) }
+    requires built { m.now ≡ machine_of (source_of parts.now) }
+    ensures parts { IfOk result (λ s. source_of s.parts ≡ scheduled_source (units_in units.now) (source_of parts.now) m.now) }
+    ensures formed { IfOk result (λ s. IsTrue (is_well_formed (source_of s.parts))) }
+    ensures lawful { IfOk result (λ s. IsLawful (source_of s.parts)) }
+    ensures spelled { IfOk result (λ s. s.machine ≡ machine_of (source_of s.parts)) }
+    ensures machine { IfOk result (λ s. s.machine ≡ schedule_of (units_in units.now) m.now) }
+    ensures behaves { IfOk result (λ s. SameBehaviour m.now s.machine) }
+    ensures within { IfOk result (λ s. IsWithin (units_in units.now) s.machine) }
+    ensures lines { IfOk result (λ s. map report_of s.lines.items ≡ reports (units_in units.now) m.now) }
+    ensures lengths { IfOk result (λ s. All (λ r. KeepsLengths (units_in units.now) m.now (report_of r)) s.lines.items) }
+    ensures fits { OnOk result (over_in (units_in units.now) m.now ≡ None) }
+    ensures refused { IfErr result (λ e. IsRefused (units_in units.now) m.now e) }
+{
+    let _vars = m.vars();
+    if let Some((state, unit)) = over_in(m, units) {
+        return Err(SchedError::Over { state, unit });
+    }
+    machines_within_the_units();
+    let (parts, lines) = parts_in_rows(alloc, parts, m, units)?;
+    a_scheduled_text_is_lawful();
+    let machine = build_lawful(alloc, &parts)?;
+    a_scheduled_text_spells_the_schedule();
+    Ok(Scheduled {
+        parts,
+        machine,
+        lines,
+    })
+}

@@ -1,0 +1,12 @@
+//! When parts keep the rules. The function does nothing.
+#![tactic(auto)]
+
+ghost use Rattle.fs_model.specs.Source.{Source};
+ghost use Rattle.fs_rules.specs.Spelled.{machine_of};
+ghost use Rattle.fs_rules.specs.Sound.{IsSound};
+ghost use Rattle.fs_rules.specs.Rules.{IsLawful};
+
+/// Parts that spell a sound machine are lawful.
+pub fn parts_of_a_sound_machine_are_lawful()
+    ensures { (p : Source) → IsSound (machine_of p) → IsLawful p }
+{}

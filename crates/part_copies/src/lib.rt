@@ -1,0 +1,5 @@
+//! Copies of the parts of a text.
+#![tactic(auto)]
+
+pub mod assignments;
+pub mod states;

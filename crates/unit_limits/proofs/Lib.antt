@@ -1,0 +1,3 @@
+pub mod EachLeaf
+pub mod Fitting
+pub mod Counting
