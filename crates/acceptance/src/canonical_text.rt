@@ -158,11 +158,14 @@ generate
 generate 0
 generate 301
 generate one
+compile
+schedule a.fsmd
+bind a.fsmd i.json c.json
 --help
 ";
 
 const USAGE: &str =
-    r"{1}¦{machine}¦{machine}¦¦usage: fsmd check A B [--cert F] [--steps N] | verify A B C | run A I [--steps N] | replay A B I [--steps N] | fmt A | cuts A | generate N\n";
+    r"{1}¦{machine}¦{machine}¦¦usage: fsmd check A B [--cert F] [--steps N] | verify A B C | run A I [--steps N] | replay A B I [--steps N] | fmt A | cuts A | generate N | compile P | schedule A U | bind A M\n";
 
 #[test]
 fn words_that_are_no_command(rt: HostRuntime) -> Result<(), AllocError> {

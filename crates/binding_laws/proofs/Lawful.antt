@@ -1,23 +1,14 @@
 -- The parts in which registers stand for locals keep the rules, where no branch is twice.
-use Rattle.std.proofs.Common.{◌≡◌, ℕ, ℤ, zero, suc, ◌+◌, ◌<◌, ◌≤◌, List, [], ◌∷◌, ◌++◌, length, take, drop, map, ap, ap₂, sym, refl, ◌∙◌, subst, inl, inr, ◌⊎◌, arith, Bool, true, false, cond, Option, Some, None}
-use Rattle.std.specs.Prelude.{◌≢◌, ◌==◌, ◌&&◌, ◌||◌, not, nat_lt, is_some, slice_get, option_map, filter}
-use Rattle.std.specs.List.{list_all, list_any, flat_map, slice_index_or}
-use Rattle.std.specs.Str.{bytes_eq}
-use Rattle.std.proofs.lemmas.Bool.Decides.{nat_tests}
-use Rattle.std.proofs.lemmas.List.Folds.{list_all-append}
-use Rattle.std.proofs.lemmas.Option.{slice_get_within}
-use Rattle.fs_model.specs.declared.parts.Role.{Role}
-use Rattle.fs_model.specs.declared.parts.Role.TheVariants.{Input, Output, Local}
+use Rattle.std.proofs.Common.{◌≡◌, ℕ, ℤ, ◌+◌, List, [], ◌∷◌, ◌++◌, map, ap, ap₂, sym, refl, ◌∙◌, Bool, true, false, Option, Some, None}
+use Rattle.std.specs.Prelude.{◌==◌, ◌||◌, not, slice_get, option_map}
+use Rattle.std.specs.List.{list_all}
 use Rattle.fs_model.specs.declared.parts.Sort.{Sort}
-use Rattle.fs_model.specs.declared.parts.Sort.TheVariants.{Scalar, Array, Port}
 use Rattle.fs_model.specs.declared.parts.VarInfo.{VarInfo}
-use Rattle.fs_model.specs.Terms.{Term, Number, Variable, Read, Sum, Difference, Product, Quotient, Remainder, Negative, Literal, Guard, Test, Not, And, Or, Assignment, Assign, ArrayWrite, Emit, Transition}
-use Rattle.fs_model.specs.Renamed.{term_over, guard_over, assignment_over, line_over}
+use Rattle.fs_model.specs.Terms.{Term, Number, Variable, Read, Sum, Difference, Product, Quotient, Remainder, Negative, Guard, Test, Not, And, Or, Assignment, Assign, ArrayWrite, Emit, Transition}
+use Rattle.fs_model.specs.Renamed.{term_over, guard_over, assignment_over}
 use Rattle.fs_model.specs.Parts.{Listing, scalars, arrays, uses_in, uses_in_guard, uses_in_condition, uses_in_assignment, uses_in_assignments}
-use Rattle.fs_model.specs.Runs.{is_scalar, is_array, is_port}
 use Rattle.fs_model.proofs.Truth.{and_left, and_right, and_both, not_true}
-use Rattle.fs_rules.specs.Sound.{has_sort, other_sort_at, scalar_at, array_at, port_at, input_at, is_input_of, changed_by, assigned_in, occurs, all_differ, scalars_in_condition, arrays_in_condition, scalars_in_assignments, arrays_in_assignments, port_in, ports_in_assignments}
-use Rattle.fs_rules.specs.Rules.{is_known}
+use Rattle.fs_rules.specs.Sound.{has_sort, input_at, changed_by, assigned_in, occurs, all_differ, scalars_in_condition, arrays_in_condition, scalars_in_assignments, arrays_in_assignments, port_in, ports_in_assignments}
 use Rattle.fs_rules.proofs.Turns.{map_joined}
 use Rattle.binding_laws.proofs.Effects.{same_number, other_number, is_same}
 
@@ -103,37 +94,22 @@ module _ (f : ℕ → ℕ) where
   changed_over (Emit x e) = refl
 
 -- ---- sorts of variables that keep theirs
-known_sort : (test : Sort → Bool) (vs : List VarInfo) (x : ℕ) → has_sort test (slice_get vs x) ≡ true → (is_known vs x ≡ true) × (other_sort_at test vs x ≡ false)
-known_sort test [] x h = absurd (cc h)
-known_sort test (v ∷ vs) zero h = (grind (arith, nat_tests), ap not h)
-known_sort test (v ∷ vs) (suc x) h =
-    let k = known_sort test vs x h in
-    let low = k.0 in
-    (grind (arith, nat_tests, low), k.1)
-
 module _ (f : ℕ → ℕ) (vs ws : List VarInfo) (keeps : (test : Sort → Bool) (x : ℕ) → has_sort test (slice_get vs x) ≡ true → has_sort test (slice_get ws (f x)) ≡ true) where
-  pub all_known : (test : Sort → Bool) (xs : List ℕ) → list_all (λ x. has_sort test (slice_get vs x)) xs ≡ true → list_all (is_known ws) (map f xs) ≡ true
-  all_known test [] h = refl
-  all_known test (x ∷ xs) h =
-      and_both (is_known ws (f x)) (list_all (is_known ws) (map f xs))
-      (known_sort test ws (f x) (keeps test x (and_left (has_sort test (slice_get vs x)) (list_all (λ y. has_sort test (slice_get vs y)) xs) h))).0
-      (all_known test xs (and_right (has_sort test (slice_get vs x)) (list_all (λ y. has_sort test (slice_get vs y)) xs) h))
-
-  pub none_other : (test : Sort → Bool) (xs : List ℕ) → list_all (λ x. has_sort test (slice_get vs x)) xs ≡ true → list_any (other_sort_at test ws) (map f xs) ≡ false
-  none_other test [] h = refl
-  none_other test (x ∷ xs) h =
-      neither (other_sort_at test ws (f x)) (list_any (other_sort_at test ws) (map f xs))
-      (known_sort test ws (f x) (keeps test x (and_left (has_sort test (slice_get vs x)) (list_all (λ y. has_sort test (slice_get vs y)) xs) h))).1
-      (none_other test xs (and_right (has_sort test (slice_get vs x)) (list_all (λ y. has_sort test (slice_get vs y)) xs) h))
+  pub sorts_kept : (test : Sort → Bool) (xs : List ℕ) → list_all (λ x. has_sort test (slice_get vs x)) xs ≡ true → list_all (λ x. has_sort test (slice_get ws x)) (map f xs) ≡ true
+  sorts_kept test [] h = refl
+  sorts_kept test (x ∷ xs) h =
+      and_both (has_sort test (slice_get ws (f x))) (list_all (λ y. has_sort test (slice_get ws y)) (map f xs))
+      (keeps test x (and_left (has_sort test (slice_get vs x)) (list_all (λ y. has_sort test (slice_get vs y)) xs) h))
+      (sorts_kept test xs (and_right (has_sort test (slice_get vs x)) (list_all (λ y. has_sort test (slice_get vs y)) xs) h))
 
 module _ (f : ℕ → ℕ) (vs ws : List VarInfo) (keeps : (x : ℕ) → input_at vs x ≡ false → input_at ws (f x) ≡ false) where
-  pub none_input : (acts : List (Assignment ℕ)) → list_all (λ a. not (input_at vs (changed_by a))) acts ≡ true → list_any (λ a. input_at ws (changed_by a)) (map (assignment_over f) acts) ≡ false
-  none_input [] h = refl
-  none_input (a ∷ acts) h =
+  pub inputs_kept : (acts : List (Assignment ℕ)) → list_all (λ a. not (input_at vs (changed_by a))) acts ≡ true → list_all (λ a. not (input_at ws (changed_by a))) (map (assignment_over f) acts) ≡ true
+  inputs_kept [] h = refl
+  inputs_kept (a ∷ acts) h =
       let here = not_true (input_at vs (changed_by a)) (and_left (not (input_at vs (changed_by a))) (list_all (λ c. not (input_at vs (changed_by c))) acts) h) in
-      neither (input_at ws (changed_by (assignment_over f a))) (list_any (λ c. input_at ws (changed_by c)) (map (assignment_over f) acts))
-      (ap (input_at ws) (changed_over f a) ∙ keeps (changed_by a) here)
-      (none_input acts (and_right (not (input_at vs (changed_by a))) (list_all (λ c. not (input_at vs (changed_by c))) acts) h))
+      and_both (not (input_at ws (changed_by (assignment_over f a)))) (list_all (λ c. not (input_at ws (changed_by c))) (map (assignment_over f) acts))
+      (ap not (ap (input_at ws) (changed_over f a) ∙ keeps (changed_by a) here))
+      (inputs_kept acts (and_right (not (input_at vs (changed_by a))) (list_all (λ c. not (input_at vs (changed_by c))) acts) h))
 
 -- ---- numbers that stay apart
 module _ (f : ℕ → ℕ) where

@@ -1,6 +1,6 @@
 -- The names of the variables when registers stand for locals: they differ, and there are no more than before.
-use Rattle.std.proofs.Common.{◌≡◌, ℕ, zero, suc, ◌+◌, ◌<◌, ◌≤◌, List, [], ◌∷◌, ◌++◌, length, map, ap, ap₂, sym, refl, ◌∙◌, subst, arith, Bool, true, false, cond, Option, Some, None, Less, Equal}
-use Rattle.std.specs.Prelude.{◌&&◌, ◌||◌, ◌==◌, not, filter, take, drop, slice_get, is_some}
+use Rattle.std.proofs.Common.{◌≡◌, ℕ, zero, suc, ◌+◌, ◌≤◌, List, [], ◌∷◌, ◌++◌, length, map, ap, sym, refl, ◌∙◌, subst, arith, Bool, true, false, cond, Option, Some, None, Less, Equal}
+use Rattle.std.specs.Prelude.{◌||◌, not, filter, slice_get, is_some}
 use Rattle.std.specs.List.{list_any, AllByRecursion}
 use Rattle.std.specs.List.Sorted.{IsStrictlySortedBy}
 use Rattle.std.specs.Option.{option_to_list}
@@ -9,46 +9,16 @@ use Rattle.std.specs.Cmp.{nat_cmp_total}
 use Rattle.std.proofs.lemmas.Cmp.{tied_itself}
 use Rattle.std.specs.Cmp.Lexicographic.{slice_cmp}
 use Rattle.std.specs.Str.{bytes_eq}
-use Rattle.std.proofs.lemmas.Slice.Eq.{bytes_eq-Decides}
 use Rattle.fs_model.specs.declared.parts.VarInfo.{VarInfo}
 use Rattle.fs_model.proofs.Truth.{and_left, and_right, and_both, not_true}
 use Rattle.fs_rules.specs.Spelled.{place, names_of}
 use Rattle.fs_rules.specs.Sound.{names_differ}
-use Rattle.fs_rules.specs.Rules.{repeated, past}
-use Rattle.fs_rules.specs.Places.{names_in}
 use Rattle.fs_rules.proofs.Turns.{map_joined}
-use Rattle.binding_laws.specs.Bindings.{register, is_bound, stays, is_scalar_local, IsBindingOf, AreRegisters}
+use Rattle.lawful_parts.proofs.Repeats.{is_listed, refuted, kept_absent, kept_differ}
+use Rattle.binding_laws.specs.Bindings.{register, is_scalar_local, IsBindingOf, AreRegisters}
 use Rattle.binding_laws.proofs.Looks.{same_name, own_name, place_own}
 use Rattle.binding_laws.proofs.Variables.{as_local, keeps}
 use Rattle.binding_laws.proofs.Lawful.{neither, either_false, first_true, second_true}
-
-abbrev pub is_listed : List ℕ → List (List ℕ) → Bool
-is_listed n ns = list_any (λ m. bytes_eq m n) ns
-
-refuted : (t : Bool) → (t ≡ true → ⊥) → t ≡ false
-refuted true h = absurd (h refl)
-refuted false h = refl
-
--- ---- no name again
-unseen : (b : Bool) (line : ℕ) (rest : List ℕ) → b ≡ false → rest ≡ [] → cond b (line ∷ rest) rest ≡ []
-unseen true line rest h i = absurd (cc h)
-unseen false line rest h i = i
-
-pub never_again : (before : List (List ℕ)) (ns : List (ℕ × List ℕ)) → names_differ (names_in ns) ≡ true → ((x : List ℕ) → is_listed x (names_in ns) ≡ true → is_listed x before ≡ false) → repeated before ns ≡ []
-never_again before [] h i = refl
-never_again before (n ∷ ns) h i =
-    let fresh = not_true (is_listed n.1 (names_in ns)) (and_left (not (is_listed n.1 (names_in ns))) (names_differ (names_in ns)) h) in
-    unseen (list_any (λ m. bytes_eq m n.1) before) n.0 (repeated (n.1 ∷ before) ns) (i n.1 (first_true (bytes_eq n.1 n.1) (is_listed n.1 (names_in ns)) (own_name n.1)))
-    (never_again (n.1 ∷ before) ns (and_right (not (is_listed n.1 (names_in ns))) (names_differ (names_in ns)) h)
-    (λ x e. neither (bytes_eq n.1 x) (is_listed x before)
-    (refuted (bytes_eq n.1 x) (λ s. let same = same_name n.1 x s in let f : is_listed n.1 (names_in ns) ≡ true = ap (λ k. is_listed k (names_in ns)) same ∙ e in cc (fresh, f)))
-    (i x (second_true (bytes_eq n.1 x) (is_listed x (names_in ns)) e))))
-
-pub no_past : (most : ℕ) (ns : List (ℕ × List ℕ)) → length ns ≤ most → past most ns ≡ []
-no_past zero [] h = refl
-no_past zero (n ∷ ns) h = absurd (omega (arith, h))
-no_past (suc most) [] h = refl
-no_past (suc most) (n ∷ ns) h = no_past most ns (omega (arith, h))
 
 -- ---- lists one after another
 listed_cases : (x : List ℕ) (cs bs : List (List ℕ)) → is_listed x cs ≡ false → is_listed x bs ≡ false → is_listed x (cs ++ bs) ≡ false
@@ -61,26 +31,6 @@ joined_differ (a ∷ cs) bs h i apart =
     and_both (not (is_listed a (cs ++ bs))) (names_differ (cs ++ bs))
     (ap not (listed_cases a cs bs (not_true (is_listed a cs) (and_left (not (is_listed a cs)) (names_differ cs) h)) (apart a (first_true (bytes_eq a a) (is_listed a cs) (own_name a)))))
     (joined_differ cs bs (and_right (not (is_listed a cs)) (names_differ cs) h) i (λ x e. apart x (second_true (bytes_eq a x) (is_listed x cs) e)))
-
--- ---- names that stay
-module _ (keep : VarInfo → Bool) where
-  kept_absent_by : (v : VarInfo) (us : List VarInfo) (x : List ℕ) (t : Bool) → bytes_eq v.name x ≡ false → is_listed x (names_of us) ≡ false → is_listed x (names_of (cond t (v ∷ us) us)) ≡ false
-  kept_absent_by v us x true h i = neither (bytes_eq v.name x) (is_listed x (names_of us)) h i
-  kept_absent_by v us x false h i = i
-
-  kept_absent : (vs : List VarInfo) (x : List ℕ) → is_listed x (names_of vs) ≡ false → is_listed x (names_of (filter keep vs)) ≡ false
-  kept_absent [] x h = refl
-  kept_absent (v ∷ vs) x h = let e = either_false (bytes_eq v.name x) (is_listed x (names_of vs)) h in kept_absent_by v (filter keep vs) x (keep v) e.0 (kept_absent vs x e.1)
-
-  kept_differ_by : (v : VarInfo) (us : List VarInfo) (t : Bool) → is_listed v.name (names_of us) ≡ false → names_differ (names_of us) ≡ true → names_differ (names_of (cond t (v ∷ us) us)) ≡ true
-  kept_differ_by v us true h i = and_both (not (is_listed v.name (names_of us))) (names_differ (names_of us)) (ap not h) i
-  kept_differ_by v us false h i = i
-
-  kept_differ : (vs : List VarInfo) → names_differ (names_of vs) ≡ true → names_differ (names_of (filter keep vs)) ≡ true
-  kept_differ [] h = refl
-  kept_differ (v ∷ vs) h =
-      kept_differ_by v (filter keep vs) (keep v) (kept_absent vs v.name (not_true (is_listed v.name (names_of vs)) (and_left (not (is_listed v.name (names_of vs))) (names_differ (names_of vs)) h)))
-      (kept_differ vs (and_right (not (is_listed v.name (names_of vs))) (names_differ (names_of vs)) h))
 
 -- ---- registers in order
 cmp_same : (n : List ℕ) → slice_cmp nat_cmp n n ≡ Equal
@@ -205,10 +155,10 @@ module _ (b : List (ℕ × List ℕ)) (vs : List VarInfo) (rs : List (List ℕ))
   apart x h =
       refuted (is_listed x (names_of (map as_local rs))) (λ e.
       let y = are.only x (ap (is_listed x) (sym (register_names rs)) ∙ e) in
-      let none = kept_absent (keeps b ns) vs x (fresh_listed vs x (binds.fresh y.0 x y.1)) in
+      let none = kept_absent (λ (v : VarInfo). v.name) (keeps b ns) vs x (fresh_listed vs x (binds.fresh y.0 x y.1)) in
       cc (h, none))
 
   pub new_differ : names_differ (names_of new) ≡ true
   new_differ =
       ap names_differ (map_joined (λ (v : VarInfo). v.name) (filter (keeps b ns) vs) (map as_local rs))
-      ∙ joined_differ (names_of (filter (keeps b ns) vs)) (names_of (map as_local rs)) (kept_differ (keeps b ns) vs differ) (ap names_differ (register_names rs) ∙ sorted_differ rs are.in_order) apart
+      ∙ joined_differ (names_of (filter (keeps b ns) vs)) (names_of (map as_local rs)) (kept_differ (λ (v : VarInfo). v.name) (keeps b ns) vs differ) (ap names_differ (register_names rs) ∙ sorted_differ rs are.in_order) apart

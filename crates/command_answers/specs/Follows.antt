@@ -1,8 +1,8 @@
 -- Which answer follows from what was read.
 use Rattle.std.specs.Prelude.{◌≡◌, ℕ, Bool, List, Option, Some, None, is_some}
-use Rattle.command_words.specs.Words.{Asked, Check, Verify, Run, Replay, Fmt, Cuts, Generate}
+use Rattle.command_words.specs.Words.{Asked, Check, Verify, Run, Replay, Fmt, Cuts, Generate, Compile, Schedule, Bind}
 use Rattle.fs_model.specs.Machines.{Fsmd}
-use Rattle.fs_model.specs.Runs.{Inputs}
+use Rattle.fs_model.specs.Source.{Source}
 use Rattle.fs_pair.specs.Interfaces.{interface_fault}
 use Rattle.bisimulation.specs.Tables.{Node}
 use Rattle.sym_facts.specs.Facts.{Fact}
@@ -11,10 +11,14 @@ use Rattle.command_answers.specs.declared.answer.Operand.TheVariants.{First, Sec
 use Rattle.command_answers.specs.declared.answer.Answer.{Answer}
 use Rattle.command_answers.specs.declared.answer.Answer.TheVariants.{Usage, Text}
 use Rattle.command_answers.specs.Lines.{HasLines}
-use Rattle.command_answers.specs.Texts.{SpellsMachine, HasCanonicalText}
+use Rattle.command_answers.specs.Texts.{SpellsParts, SpellsMachine, HasCanonicalText}
 use Rattle.command_answers.specs.Paths.{HasPaths}
 use Rattle.command_answers.specs.Readings.{Content, Unopened, OfBytes, Reading, NoneOpened, OnlyFirst, OnlyTwo}
-use Rattle.command_answers.specs.Refusals.{ArePair, RefusesMachine, RefusesPair, RefusesInputs, SpellsInputs, RefusesCertificate, SpellsCertificate}
+use Rattle.command_answers.specs.Refusals.{ArePair, RefusesMachine, RefusesPair, RefusesCertificate, SpellsCertificate}
+use Rattle.command_answers.specs.InputFiles.{FollowsFromInputs}
+use Rattle.command_answers.specs.Programs.{RefusesProgram, HasCompiledText}
+use Rattle.command_answers.specs.Schedules.{ForSchedule}
+use Rattle.command_answers.specs.Bindings.{ForBind}
 use Rattle.command_answers.specs.Pairs.{IsOfPair, IsOfLoops}
 use Rattle.command_answers.specs.Verdicts.{IsJudged}
 use Rattle.command_answers.specs.Runs.{IsOfRun}
@@ -25,15 +29,16 @@ pub record FollowsUnread (P : Answer → Type 0) (r : Reading) (answer : Answer)
   pub says : P answer
   pub unopened : NoneOpened r
 
--- what follows for a question about one machine: its file is refused, or the answer is a text that P says of its bytes
-pub data FollowsForText (P : (text bytes : List ℕ) → Type 0) (r : Reading) (answer : Answer) : Type 0 where
-  TextRefused : RefusesMachine First r.first answer → OnlyFirst r → FollowsForText P r answer
-  Listed : HasLines (λ text. OfBytes r.first (P text)) Text answer → OnlyFirst r → FollowsForText P r answer
+-- what follows for a question about one file: it is refused, by R, or the answer is a text that P says of its bytes
+pub data FollowsForText (R : Content → Answer → Type 0) (P : (text bytes : List ℕ) → Type 0) (r : Reading) (answer : Answer) : Type 0 where
+  TextRefused : R r.first answer → OnlyFirst r → FollowsForText R P r answer
+  Listed : HasLines (λ text. OfBytes r.first (P text)) Text answer → OnlyFirst r → FollowsForText R P r answer
 
--- what follows for a file of a machine's inputs: it is refused, or spells inputs of which P says the answer
-pub data FollowsFromInputs (P : Inputs → Answer → Type 0) (m : Fsmd) (file : Operand) (content : Content) (answer : Answer) : Type 0 where
-  InputsRefused : RefusesInputs m file content answer → FollowsFromInputs P m file content answer
-  Spelled : (ins : Inputs) → OfBytes content (SpellsInputs m ins) → P ins answer → FollowsFromInputs P m file content answer
+-- what follows for a question about a machine and a second file: the file of the machine is refused, and the second not opened; or it spells
+-- parts, and P says the answer to these and to what was read of the second
+pub data FollowsForParts (P : Source → Content → Answer → Type 0) (r : Reading) (answer : Answer) : Type 0 where
+  PartsRefused : RefusesMachine First r.first answer → OnlyFirst r → FollowsForParts P r answer
+  PartsSpelled : (parts : Source) → OfBytes r.first (SpellsParts parts) → P parts r.second answer → OnlyTwo r → FollowsForParts P r answer
 
 -- what follows for a file of two machines' certificate: it is refused, or spells nodes that are judged
 pub data FollowsFromCertificate (a b : Fsmd) (file : Operand) (content : Content) (answer : Answer) : Type 0 where
@@ -71,6 +76,9 @@ Follows (Some (Check left right cert steps)) r answer = FollowsForPair (ForCheck
 Follows (Some (Verify left right cert)) r answer = FollowsForPair ForVerify r answer
 Follows (Some (Run machine inputs steps)) r answer = FollowsForRun steps r answer
 Follows (Some (Replay left right inputs steps)) r answer = FollowsForPair (ForReplay steps) r answer
-Follows (Some (Fmt machine)) r answer = FollowsForText HasCanonicalText r answer
-Follows (Some (Cuts machine)) r answer = FollowsForText HasPaths r answer
+Follows (Some (Fmt machine)) r answer = FollowsForText (RefusesMachine First) HasCanonicalText r answer
+Follows (Some (Cuts machine)) r answer = FollowsForText (RefusesMachine First) HasPaths r answer
 Follows (Some (Generate loops)) r answer = FollowsUnread (IsOfLoops loops) r answer
+Follows (Some (Compile program)) r answer = FollowsForText (RefusesProgram First) HasCompiledText r answer
+Follows (Some (Schedule machine units)) r answer = FollowsForParts ForSchedule r answer
+Follows (Some (Bind machine binding)) r answer = FollowsForParts ForBind r answer

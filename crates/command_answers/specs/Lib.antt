@@ -4,11 +4,17 @@ pub mod Lines
 pub mod Texts
 pub mod Paths
 pub mod Readings
+pub mod Unread
+pub mod Keys
+pub mod InputFiles
 pub mod Refusals
 pub mod Refusing
 pub mod Pairs
 pub mod Verdicts
 pub mod Runs
 pub mod Replays
+pub mod Programs
+pub mod Bindings
+pub mod Schedules
 pub mod Follows
 pub mod Replies

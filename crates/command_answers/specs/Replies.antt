@@ -5,12 +5,13 @@ use Rattle.fs_grammar.specs.declared.fault.TextKind.{TextKind}
 use Rattle.fs_grammar.specs.declared.fault.TextKind.TheVariants.{BadByte, BadWord, NumberTooBig, Unexpected, Operators, Nested, Ended}
 use Rattle.fs_rules.specs.declared.check.CheckRule.{CheckRule}
 use Rattle.fs_rules.specs.declared.check.CheckRule.TheVariants.{TwiceNamed, UnknownName, WrongSort, AssignInput, AssignedTwice, NoElse, AfterElse, TooManyBranches, EndlessLine, UnknownState, TooMany, TooManyEmits}
-use Rattle.fs_inputs.specs.declared.faults.Fault.{Fault}
-use Rattle.fs_inputs.specs.declared.faults.Fault.TheVariants.{Shape, Unknown, TooBig}
+use Rattle.unit_counts.specs.Counts.{key_of}
 use Rattle.cert_text.specs.declared.faults.CertError.{CertError}
 use Rattle.cert_text.specs.declared.faults.CertError.TheVariants as cert_errors
+use Rattle.command_answers.specs.declared.answer.KeyFault.{KeyFault}
+use Rattle.command_answers.specs.declared.answer.KeyFault.TheVariants as keys
 use Rattle.command_answers.specs.declared.answer.Answer.{Answer}
-use Rattle.command_answers.specs.declared.answer.Answer.TheVariants.{Usage, Equivalent, Text, Differs, Undecided, TextRefused, CheckRefused, NotJson, InputRefused, CertRefused, Interfaces, TooLong, CannotRead}
+use Rattle.command_answers.specs.declared.answer.Answer.TheVariants.{Usage, Equivalent, Text, Differs, Undecided, TextRefused, CheckRefused, NotJson, KeyRefused, Over, CertRefused, Interfaces, TooLong, CannotRead}
 use Rattle.command_answers.specs.Words.{word_of}
 
 -- the name of what is wrong in a text
@@ -38,11 +39,13 @@ rule_name UnknownState = codes "UnknownState"
 rule_name TooMany = codes "TooMany"
 rule_name TooManyEmits = codes "TooManyEmits"
 
--- the name of what is wrong in a file of inputs
-abbrev pub input_fault_name : Fault → List ℕ
-input_fault_name Shape = codes "Shape"
-input_fault_name Unknown = codes "UnknownName"
-input_fault_name TooBig = codes "NumberTooBig"
+-- the name of what is wrong at a key of a file
+abbrev pub key_fault_name : KeyFault → List ℕ
+key_fault_name keys.Shape = codes "Shape"
+key_fault_name keys.UnknownName = codes "UnknownName"
+key_fault_name keys.NumberTooBig = codes "NumberTooBig"
+key_fault_name keys.BadName = codes "BadName"
+key_fault_name keys.Taken = codes "Taken"
 
 -- the name of what is wrong in a file of a certificate
 abbrev pub cert_error_name : CertError → List ℕ
@@ -93,7 +96,7 @@ refused_text word rest = codes "bad input: " ++ (word ++ rest)
 -- the lines of each answer to what is asked
 abbrev pub lines_of : Answer → Option Asked → List ℕ
 lines_of Usage asked =
-    codes "usage: fsmd check A B [--cert F] [--steps N] | verify A B C | run A I [--steps N] | replay A B I [--steps N] | fmt A | cuts A | generate N\n"
+    codes "usage: fsmd check A B [--cert F] [--steps N] | verify A B C | run A I [--steps N] | replay A B I [--steps N] | fmt A | cuts A | generate N | compile P | schedule A U | bind A M\n"
 lines_of (Equivalent nodes cert) asked = equivalent_text nodes
 lines_of (Text lines) asked = lines
 lines_of (Differs lines) asked = lines
@@ -103,8 +106,10 @@ lines_of (TextRefused file fault) asked =
 lines_of (CheckRefused file fault) asked =
     refused_text (word_of asked file) (codes ":" ++ (decimal fault.line ++ (codes ": " ++ (rule_name fault.rule ++ codes "\n"))))
 lines_of (NotJson file) asked = refused_text (word_of asked file) (codes ": NotJson\n")
-lines_of (InputRefused file fault name) asked =
-    refused_text (word_of asked file) (codes ": " ++ (input_fault_name fault ++ (codes " " ++ (name ++ codes "\n"))))
+lines_of (KeyRefused file fault key) asked =
+    refused_text (word_of asked file) (codes ": " ++ (key_fault_name fault ++ (codes " " ++ (key ++ codes "\n"))))
+lines_of (Over file state unit) asked =
+    refused_text (word_of asked file) (codes ": Over " ++ (state ++ (codes " " ++ (key_of unit ++ codes "\n"))))
 lines_of (CertRefused file error) asked =
     refused_text (word_of asked file) (codes ": " ++ (cert_error_name error ++ (node_text (node_in error) ++ codes "\n")))
 lines_of (Interfaces name) asked = codes "bad input: interface: " ++ (name ++ codes "\n")

@@ -1,12 +1,12 @@
 -- Which answer the certificate of two machines gets.
 use Rattle.std.specs.Prelude.{◌≡◌, ℕ, List, [], ◌++◌, Option, Some, None, codes, decimal, slice_get}
-use Rattle.fs_model.specs.declared.parts.VarInfo.{VarInfo}
 use Rattle.fs_model.specs.Machines.{Fsmd}
 use Rattle.fs_model.specs.Runs.{SameBehaviour}
 use Rattle.fs_pair.specs.declared.positions.Position.{Position}
 use Rattle.fs_pair.specs.Partners.{variables_on}
 use Rattle.fs_pair.specs.Positions.{positions}
 use Rattle.term_text.specs.Texts.{symbol_text}
+use Rattle.synthesis_answers.specs.Variables.{variable_name}
 use Rattle.bisimulation.specs.Tables.{Node}
 use Rattle.sym_facts.specs.Facts.{Fact}
 use Rattle.sym_facts.specs.Starts.{start_fact}
@@ -15,14 +15,6 @@ use Rattle.certificates.specs.declared.reason.Reason.TheVariants as reasons
 use Rattle.certificates.specs.Obligations.{Verdict, Yes, No, IsWide, IsLarge, verdict}
 use Rattle.command_answers.specs.declared.answer.Answer.{Answer}
 use Rattle.command_answers.specs.declared.answer.Answer.TheVariants.{Text, Differs, Undecided}
-
-abbrev pub name_or_none : Option VarInfo → List ℕ
-name_or_none None = []
-name_or_none (Some v) = v.name
-
--- the name of a variable
-abbrev pub variable_name : List VarInfo → ℕ → List ℕ
-variable_name vs x = name_or_none (slice_get vs x)
 
 -- a position: its side and its name
 abbrev pub position_text : (a b : Fsmd) → Option Position → List ℕ

@@ -1,6 +1,6 @@
 -- The files of what words ask.
 use Rattle.std.specs.Prelude.{ℕ, Bool, true, false, Option, Some, None, List, [], is_some, unwrap_or}
-use Rattle.command_words.specs.Words.{Asked, Check, Verify, Run, Replay, Fmt, Cuts, Generate}
+use Rattle.command_words.specs.Words.{Asked, Check, Verify, Run, Replay, Fmt, Cuts, Generate, Compile, Schedule, Bind}
 use Rattle.command_answers.specs.declared.answer.Operand.{Operand}
 use Rattle.command_answers.specs.declared.answer.Operand.TheVariants.{First, Second, Third}
 
@@ -20,6 +20,9 @@ file_of (Some (Replay left right inputs steps)) = chosen (Some left) (Some right
 file_of (Some (Fmt machine)) = chosen (Some machine) None None
 file_of (Some (Cuts machine)) = chosen (Some machine) None None
 file_of (Some (Generate loops)) = chosen None None None
+file_of (Some (Compile program)) = chosen (Some program) None None
+file_of (Some (Schedule machine units)) = chosen (Some machine) (Some units) None
+file_of (Some (Bind machine binding)) = chosen (Some machine) (Some binding) None
 
 -- the word that names a file, or no text
 abbrev pub word_of : Option Asked → Operand → List ℕ

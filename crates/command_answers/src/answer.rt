@@ -6,9 +6,9 @@ ghost use Rattle.command_answers.specs.Statuses.{code_of, status_of, certificate
 use cert_text::faults::CertError;
 use fs_ast::check::CheckFault;
 use fs_grammar::fault::TextFault;
-use fs_inputs::Fault as InputFault;
 use fs_model::name::Name;
 use std::marker::Model;
+use unit_counts::Unit;
 
 /// How a command ended.
 #[derive(Clone, Copy, Debug, PartialEq, Eq)]
@@ -84,6 +84,21 @@ impl Lines {
     }
 }
 
+/// What is wrong at a key of a JSON file. The empty key stands for a file that is no object.
+#[derive(Clone, Copy, Debug, PartialEq, Eq)]
+pub enum KeyFault {
+    /// The value has a wrong form.
+    Shape,
+    /// The key is none that a value may be given for.
+    UnknownName,
+    /// The value is a number that is too great or too small.
+    NumberTooBig,
+    /// The value is a string that is no name.
+    BadName,
+    /// The value is the name of a variable.
+    Taken,
+}
+
 /// What a command answers.
 #[derive(Drop)]
 pub enum Answer {
@@ -95,12 +110,13 @@ pub enum Answer {
         nodes: u32,
         cert: Option<Lines>,
     },
-    /// What was asked of a machine, or of runs that ended, with the same outputs where they are two; or that a
-    /// certificate shows that two machines have the same behaviour.
+    /// What was asked of a machine or of a program, or of runs that ended, with the same outputs where they are two; or
+    /// that a certificate shows that two machines have the same behaviour.
     Text {
         lines: Lines,
     },
-    /// Two runs that ended with other outputs, or an obligation of a certificate that fails.
+    /// Two runs that ended with other outputs, an obligation of a certificate that fails, or a branch that loses a
+    /// local by a binding.
     Differs {
         lines: Lines,
     },
@@ -108,25 +124,31 @@ pub enum Answer {
     Undecided {
         lines: Lines,
     },
-    /// A file spells no parts of a machine.
+    /// A file spells no parts of a machine, or no program.
     TextRefused {
         file: Operand,
         fault: TextFault,
     },
-    /// The parts that a file spells break a rule.
+    /// The parts that a file spells, or those of the machine of its program, break a rule.
     CheckRefused {
         file: Operand,
         fault: CheckFault,
     },
-    /// A file of inputs is not JSON.
+    /// A file of inputs, of unit counts or of a binding is not JSON.
     NotJson {
         file: Operand,
     },
-    /// A file of inputs has a fault at a name.
-    InputRefused {
+    /// A file of inputs, of unit counts or of a binding has a fault at a key.
+    KeyRefused {
         file: Operand,
-        fault: InputFault,
-        name: Lines,
+        fault: KeyFault,
+        key: Lines,
+    },
+    /// A transition of a state uses more of a unit than the file of unit counts gives.
+    Over {
+        file: Operand,
+        state: Lines,
+        unit: Unit,
     },
     /// A file spells no certificate.
     CertRefused {
@@ -161,7 +183,8 @@ impl Answer {
             Answer::TextRefused { .. }
             | Answer::CheckRefused { .. }
             | Answer::NotJson { .. }
-            | Answer::InputRefused { .. }
+            | Answer::KeyRefused { .. }
+            | Answer::Over { .. }
             | Answer::CertRefused { .. }
             | Answer::Interfaces { .. }
             | Answer::TooLong { .. } => Status::BadInput,

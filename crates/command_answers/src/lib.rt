@@ -2,13 +2,16 @@
 #![tactic(auto)]
 
 pub mod answer;
+pub mod bindings;
 pub mod compare;
 pub mod generated;
 pub mod judge;
+pub mod programs;
 pub mod reading;
 mod reason;
 mod refusals;
 pub mod refused;
 pub mod reply;
 pub mod runs;
+pub mod schedules;
 pub mod words;

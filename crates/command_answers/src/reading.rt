@@ -6,19 +6,20 @@ ghost use Rattle.fs_model.specs.Limits.{most_text_bytes};
 ghost use Rattle.fs_model.specs.Machines.{Fsmd};
 ghost use Rattle.fs_model.specs.View.{source_of};
 ghost use Rattle.fs_model.specs.WellFormed.{is_well_formed};
-ghost use Rattle.fs_runs.specs.InputValues.{Signature, signatures_of, inputs_of, Serves};
+ghost use Rattle.fs_runs.specs.InputValues.{signatures_of, inputs_of, Serves};
 ghost use Rattle.fs_inputs.specs.Refusals.{IsRefused};
 ghost use Rattle.fs_pair.specs.Positions.{positions};
 ghost use Rattle.certificates.specs.View.{node_of};
 ghost use Rattle.cert_writer.specs.Limits.{most_certificate_bytes};
 ghost use Rattle.cert_text.specs.Refusals.{IsRefused as IsRefusedFor};
-ghost use Rattle.command_answers.specs.declared.answer.Answer.TheVariants.{InputRefused};
+ghost use Rattle.command_answers.specs.declared.answer.Answer.TheVariants.{KeyRefused};
 ghost use Rattle.command_answers.specs.declared.refused.Refused.TheVariants.{Answered};
 ghost use Rattle.command_answers.specs.Readings.{Readable};
-ghost use Rattle.command_answers.specs.Refusals.{signatures, RefusesMachine, RefusesInputs, SpellsInputs, RefusesCertificate, SpellsCertificate};
-ghost use Rattle.command_answers.specs.Refusing.{WhereAnswered, IsLoaded, RefusesBytes};
+ghost use Rattle.command_answers.specs.Refusals.{RefusesMachine, RefusesCertificate, SpellsCertificate};
+ghost use Rattle.command_answers.specs.InputFiles.{signatures, RefusesInputs, SpellsInputs};
+ghost use Rattle.command_answers.specs.Refusing.{WhereAnswered, IsLoaded};
 
-use crate::answer::{Answer, Lines, Operand};
+use crate::answer::{Answer, KeyFault, Lines, Operand};
 use crate::refused::Refused;
 use cert_text::faults::CertError;
 use cert_text::reader::read_cert;
@@ -26,7 +27,7 @@ use certificates::cert::Cert;
 use fs_ast::build::BuildError;
 use fs_ast::machine::Machine;
 use fs_grammar::fault::ReadError;
-use fs_inputs::{Fault as InputFault, InputError, read_inputs as read_input_values};
+use fs_inputs::{InputError, read_inputs as read_input_values};
 use fs_model::parts::Parts;
 use fs_pair::positions::Pairing;
 use fs_runs::inputs::Inputs;
@@ -66,23 +67,23 @@ pub fn read_machine(alloc: Global, file: Operand, bytes: &[u8]) -> Result<Loaded
     }
 }
 
-// The refusal of a file of inputs with this fault at a name.
-fn refused_at(file: Operand, fault: InputFault, name: String) -> Refused
-    ensures { result ≡ Answered (InputRefused file fault (string_bytes name)) }
+// The refusal of a file with this fault at a key.
+pub(crate) fn refused_at(file: Operand, fault: KeyFault, key: String) -> Refused
+    ensures { result ≡ Answered (KeyRefused file fault (string_bytes key)) }
 {
-    let name = Lines::of(name.into_bytes());
-    Refused::Answered(Answer::InputRefused { file, fault, name })
+    let key = Lines::of(key.into_bytes());
+    Refused::Answered(Answer::KeyRefused { file, fault, key })
 }
 
 // The refusal of a file of inputs.
 fn refused_inputs(file: Operand, error: InputError) -> Refused
-    ensures { (fs : List Signature) (bytes : List ℕ) → IsRefused fs bytes error → WhereAnswered (RefusesBytes fs file bytes) result }
+    ensures { (m : Fsmd) (bytes : List ℕ) → length bytes ≤ most_text_bytes → IsRefused (signatures m) bytes error → WhereAnswered (RefusesInputs m file (Readable bytes)) result }
 {
     match error {
         InputError::NotJson => Refused::Answered(Answer::NotJson { file }),
-        InputError::Shape { name } => refused_at(file, InputFault::Shape, name),
-        InputError::UnknownName { name } => refused_at(file, InputFault::Unknown, name),
-        InputError::NumberTooBig { name } => refused_at(file, InputFault::TooBig, name),
+        InputError::Shape { name } => refused_at(file, KeyFault::Shape, name),
+        InputError::UnknownName { name } => refused_at(file, KeyFault::UnknownName, name),
+        InputError::NumberTooBig { name } => refused_at(file, KeyFault::NumberTooBig, name),
         InputError::NoMemory => Refused::NoMemory,
     }
 }

@@ -4,7 +4,7 @@ ghost use Rattle.std.specs.Prelude.{◌≡◌, ◌++◌, [], IfOk, Some, slice_g
 ghost use Rattle.term_text.specs.Texts.{symbol_text};
 ghost use Rattle.fs_pair.specs.Partners.{variables_on};
 ghost use Rattle.fs_pair.specs.Positions.{positions};
-ghost use Rattle.command_answers.specs.Verdicts.{variable_name, position_text, reason_text};
+ghost use Rattle.command_answers.specs.Verdicts.{position_text, reason_text};
 
 use certificates::reason::Reason;
 use fs_ast::machine::Machine;
@@ -12,16 +12,7 @@ use fs_model::parts::VarInfo;
 use fs_pair::positions::{Pairing, Position};
 use nf_terms::tree::{Pos, Side};
 use std::alloc::{AllocError, Global};
-
-// The name of a variable, or no text where there is no such variable.
-fn variable_name(variables: &[VarInfo], x: u32) -> &[u8]
-    ensures { result.now ≡ variable_name variables.now x }
-{
-    match variables.get(x as usize) {
-        Some(variable) => variable.name.bytes(),
-        None => &[],
-    }
-}
+use synthesis_answers::variables::variable_name;
 
 // A text and a name.
 fn with_name(alloc: Global, before: &str, name: &[u8]) -> Result<Vec<u8>, AllocError>

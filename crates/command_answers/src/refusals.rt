@@ -1,13 +1,15 @@
 //! The lines of files that are refused.
 
 ghost use Rattle.std.specs.Prelude.{◌≡◌, ◌++◌, IfOk, codes, decimal, string_bytes};
-ghost use Rattle.command_answers.specs.Replies.{kind_name, rule_name, input_fault_name, cert_error_name, node_in, node_text};
+ghost use Rattle.unit_counts.specs.Counts.{key_of};
+ghost use Rattle.command_answers.specs.Replies.{kind_name, rule_name, key_fault_name, cert_error_name, node_in, node_text};
 
+use crate::answer::KeyFault;
 use cert_text::faults::CertError;
 use fs_ast::check::{CheckFault, CheckRule};
 use fs_grammar::fault::{TextFault, TextKind};
-use fs_inputs::Fault as InputFault;
 use std::alloc::{AllocError, Global};
+use unit_counts::Unit;
 
 fn kind_name(kind: TextKind) -> &'static str
     ensures { result.now ≡ kind_name kind }
@@ -42,13 +44,15 @@ fn rule_name(rule: CheckRule) -> &'static str
     }
 }
 
-fn input_fault_name(fault: InputFault) -> &'static str
-    ensures { result.now ≡ input_fault_name fault }
+fn key_fault_name(fault: KeyFault) -> &'static str
+    ensures { result.now ≡ key_fault_name fault }
 {
     match fault {
-        InputFault::Shape => "Shape",
-        InputFault::Unknown => "UnknownName",
-        InputFault::TooBig => "NumberTooBig",
+        KeyFault::Shape => "Shape",
+        KeyFault::UnknownName => "UnknownName",
+        KeyFault::NumberTooBig => "NumberTooBig",
+        KeyFault::BadName => "BadName",
+        KeyFault::Taken => "Taken",
     }
 }
 
@@ -108,33 +112,68 @@ pub fn check_refused(alloc: Global, word: &str, fault: &CheckFault) -> Result<St
     format!(in alloc; "bad input: {word}:{line}: {rule}\n")
 }
 
-/// The line of a file of inputs that is not JSON.
+/// The line of a file that is not JSON.
 pub fn not_json(alloc: Global, word: &str) -> Result<String, AllocError>
     ensures { IfOk result (λ text. string_bytes text ≡ codes "bad input: " ++ (word.now ++ codes ": NotJson\n")) }
 {
     format!(in alloc; "bad input: {word}: NotJson\n")
 }
 
-// What is refused of a file of inputs, up to the name.
-fn input_fault(alloc: Global, word: &str, fault: InputFault) -> Result<String, AllocError>
-    ensures { IfOk result (λ text. string_bytes text ≡ codes "bad input: " ++ (word.now ++ (codes ": " ++ (input_fault_name fault ++ codes " ")))) }
+// The line of a refused file, of a cause, up to a name.
+fn refused_before(alloc: Global, word: &str, cause: &str) -> Result<String, AllocError>
+    ensures { IfOk result (λ text. string_bytes text ≡ codes "bad input: " ++ (word.now ++ (codes ": " ++ (cause.now ++ codes " ")))) }
 {
-    let fault = input_fault_name(fault);
-    format!(in alloc; "bad input: {word}: {fault} ")
+    format!(in alloc; "bad input: {word}: {cause} ")
 }
 
-/// The line of a file of inputs with a fault at a name.
-pub fn input_refused(
+/// The line of a file of keys and values with a fault at a key.
+pub fn key_refused(
     alloc: Global,
     word: &str,
-    fault: InputFault,
-    name: &[u8],
+    fault: KeyFault,
+    key: &[u8],
 ) -> Result<Vec<u8>, AllocError>
-    ensures { IfOk result (λ bytes. bytes.items ≡ codes "bad input: " ++ (word.now ++ (codes ": " ++ (input_fault_name fault ++ (codes " " ++ (name.now ++ codes "\n")))))) }
+    ensures { IfOk result (λ bytes. bytes.items ≡ codes "bad input: " ++ (word.now ++ (codes ": " ++ (key_fault_name fault ++ (codes " " ++ (key.now ++ codes "\n")))))) }
 {
-    let mut bytes = input_fault(alloc, word, fault)?.into_bytes();
-    bytes.extend_from_slice(name)?;
+    let mut bytes = refused_before(alloc, word, key_fault_name(fault))?.into_bytes();
+    bytes.extend_from_slice(key)?;
     bytes.extend_from_slice(b"\n")?;
+    Ok(bytes)
+}
+
+fn unit_name(unit: Unit) -> &'static str
+    ensures { result.now ≡ key_of unit }
+{
+    match unit {
+        Unit::Add => "add",
+        Unit::Mul => "mul",
+        Unit::Div => "div",
+        Unit::Mem => "mem",
+    }
+}
+
+// The line of a file of unit counts, up to the name of a state.
+fn over_before(alloc: Global, word: &str) -> Result<String, AllocError>
+    ensures { IfOk result (λ text. string_bytes text ≡ codes "bad input: " ++ (word.now ++ codes ": Over ")) }
+{
+    format!(in alloc; "bad input: {word}: Over ")
+}
+
+// The last word of a line.
+fn last_word(alloc: Global, word: &str) -> Result<String, AllocError>
+    ensures { IfOk result (λ text. string_bytes text ≡ codes " " ++ (word.now ++ codes "\n")) }
+{
+    format!(in alloc; " {word}\n")
+}
+
+/// The line of a file of unit counts of which a state needs more of a unit.
+pub fn over(alloc: Global, word: &str, state: &[u8], unit: Unit) -> Result<Vec<u8>, AllocError>
+    ensures { IfOk result (λ bytes. bytes.items ≡ codes "bad input: " ++ (word.now ++ (codes ": Over " ++ (state.now ++ (codes " " ++ (key_of unit ++ codes "\n")))))) }
+{
+    let mut bytes = over_before(alloc, word)?.into_bytes();
+    let unit = last_word(alloc, unit_name(unit))?;
+    bytes.extend_from_slice(state)?;
+    bytes.extend_from_slice(unit.as_bytes())?;
     Ok(bytes)
 }
 

@@ -6,7 +6,7 @@ ghost use Rattle.command_answers.specs.Replies.{opening, equivalent_text, lines_
 
 use crate::answer::Answer;
 use crate::refusals::{
-    cannot_read, cert_refused, check_refused, input_refused, not_json, text_refused, too_long,
+    cannot_read, cert_refused, check_refused, key_refused, not_json, over, text_refused, too_long,
 };
 use crate::words::word_of;
 use command_words::asking::Ask;
@@ -15,7 +15,7 @@ use std::alloc::{AllocError, Global};
 
 /// The line that words print that ask nothing.
 pub const USAGE: &str =
-    "usage: fsmd check A B [--cert F] [--steps N] | verify A B C | run A I [--steps N] | replay A B I [--steps N] | fmt A | cuts A | generate N\n";
+    "usage: fsmd check A B [--cert F] [--steps N] | verify A B C | run A I [--steps N] | replay A B I [--steps N] | fmt A | cuts A | generate N | compile P | schedule A U | bind A M\n";
 
 // The line of a name that is an input or output of one machine and not alike of the other.
 fn interfaces(alloc: Global, name: &Name) -> Result<Vec<u8>, AllocError>
@@ -43,8 +43,11 @@ fn lines(alloc: Global, answer: &Answer, ask: &Ask) -> Result<Vec<u8>, AllocErro
             return lines.bytes().to_vec(alloc);
         }
         Answer::Interfaces { name } => return interfaces(alloc, name),
-        Answer::InputRefused { file, fault, name } => {
-            return input_refused(alloc, word_of(ask, *file), *fault, name.bytes());
+        Answer::KeyRefused { file, fault, key } => {
+            return key_refused(alloc, word_of(ask, *file), *fault, key.bytes());
+        }
+        Answer::Over { file, state, unit } => {
+            return over(alloc, word_of(ask, *file), state.bytes(), *unit);
         }
         Answer::Usage => String::from_str(alloc, USAGE)?,
         Answer::Equivalent { nodes, .. } => equivalent(alloc, *nodes)?,

@@ -27,6 +27,9 @@ pub fn word_of(ask: &Ask, file: Operand) -> &str
         } => [left.as_str(), right.as_str(), inputs.as_str()],
         Ask::Fmt { machine } | Ask::Cuts { machine } => [machine.as_str(), "", ""],
         Ask::Generate { .. } => ["", "", ""],
+        Ask::Compile { program } => [program.as_str(), "", ""],
+        Ask::Schedule { machine, units } => [machine.as_str(), units.as_str(), ""],
+        Ask::Bind { machine, binding } => [machine.as_str(), binding.as_str(), ""],
     };
     match file {
         Operand::First => words[0],

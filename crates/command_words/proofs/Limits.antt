@@ -39,7 +39,10 @@ within_by name rows =
     (either IsWithinLimits (bytes_eq name (codes "replay")) _ _ steps
     (either IsWithinLimits (bytes_eq name (codes "fmt")) _ _ tt
     (either IsWithinLimits (bytes_eq name (codes "cuts")) _ _ tt
-    (either IsWithinLimits (bytes_eq name (codes "generate")) _ _ loops tt))))))
+    (either IsWithinLimits (bytes_eq name (codes "generate")) _ _ loops
+    (either IsWithinLimits (bytes_eq name (codes "compile")) _ _ tt
+    (either IsWithinLimits (bytes_eq name (codes "schedule")) _ _ tt
+    (either IsWithinLimits (bytes_eq name (codes "bind")) _ _ tt tt)))))))))
 
 within_in : (o : Option (Text × List Row)) → IfSome (asked_in o) IsWithinLimits
 within_in None = tt

@@ -32,7 +32,28 @@ abbrev IsCommand : Shape → Type 0
 IsCommand s = (rows : List Row) → is_some (asked_by s.name rows) ≡ true
 
 are_commands : Each IsCommand (built command_line).subs
-are_commands = ((λ rows. refl), ((λ rows. refl), ((λ rows. refl), ((λ rows. refl), ((λ rows. refl), ((λ rows. refl), ((λ rows. refl), tt)))))))
+are_commands = (
+  (λ rows. refl),
+  (
+    (λ rows. refl),
+    (
+      (λ rows. refl),
+      (
+        (λ rows. refl),
+        (
+          (λ rows. refl),
+          (
+            (λ rows. refl),
+            (
+              (λ rows. refl),
+              ((λ rows. refl), ((λ rows. refl), ((λ rows. refl), tt))),
+            ),
+          ),
+        ),
+      ),
+    ),
+  ),
+)
 
 found_asks : (o : Option Shape) (words : List Text) → IfSome o IsCommand → is_some (option_map (λ s. rows_at s words) o) ≡ true
     → is_some (asked_in (option_map (λ s. rows_at s words) o)) ≡ true

@@ -63,6 +63,18 @@ cuts_command = command_with (codes "cuts") (file_word (codes "machine") ∷ [])
 abbrev pub generate_command : Shape
 generate_command = command_with (codes "generate") (loops_word ∷ [])
 
+-- `compile P`
+abbrev pub compile_command : Shape
+compile_command = command_with (codes "compile") (file_word (codes "program") ∷ [])
+
+-- `schedule A U`
+abbrev pub schedule_command : Shape
+schedule_command = command_with (codes "schedule") (file_word (codes "machine") ∷ file_word (codes "units") ∷ [])
+
+-- `bind A M`
+abbrev pub bind_command : Shape
+bind_command = command_with (codes "bind") (file_word (codes "machine") ∷ file_word (codes "binding") ∷ [])
+
 -- before its commands are added: the words are those after the program's name, and one of the commands has to be there
 abbrev pub program_alone : Shape
 program_alone = record (new_shape (codes "fsmd")) {
@@ -75,5 +87,6 @@ program_alone = record (new_shape (codes "fsmd")) {
 abbrev pub command_line : App
 command_line = record {
   top = record program_alone { is_leaf = false };
-  subs = check_command ∷ verify_command ∷ run_command ∷ replay_command ∷ fmt_command ∷ cuts_command ∷ generate_command ∷ [];
+  subs = check_command ∷ verify_command ∷ run_command ∷ replay_command ∷ fmt_command ∷ cuts_command ∷ generate_command
+      ∷ compile_command ∷ schedule_command ∷ bind_command ∷ [];
 }

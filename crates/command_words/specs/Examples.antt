@@ -5,7 +5,7 @@ use Rattle.clap.specs.Words.{Text, fault_of}
 use Rattle.clap.specs.declared.error.kind.ErrorKind.{ErrorKind}
 use Rattle.clap.specs.declared.error.kind.ErrorKind.TheVariants as kinds
 use Rattle.command_words.specs.CommandLine.{command_line}
-use Rattle.command_words.specs.Words.{AreTaken, Asked, asked_of, Check, Verify, Run, Replay, Fmt, Cuts, Generate}
+use Rattle.command_words.specs.Words.{AreTaken, Asked, asked_of, Check, Verify, Run, Replay, Fmt, Cuts, Generate, Compile, Schedule, Bind}
 
 abbrev pub Asks : List Text → Asked → Type 0
 Asks words what = AreTaken words × (asked_of words ≡ Some what)
@@ -69,3 +69,9 @@ pub record PlainWordsAreFiles : Type 0 where
       → Asks (codes "replay" ∷ left ∷ right ∷ inputs ∷ []) (Replay left right inputs 10000)
   pub fmt : (machine : Text) → IsPlain machine → Asks (codes "fmt" ∷ machine ∷ []) (Fmt machine)
   pub cuts : (machine : Text) → IsPlain machine → Asks (codes "cuts" ∷ machine ∷ []) (Cuts machine)
+  pub compile : (program : Text) → IsPlain program
+      → Asks (codes "compile" ∷ program ∷ []) (Compile program)
+  pub schedule : (machine units : Text) → IsPlain machine → IsPlain units
+      → Asks (codes "schedule" ∷ machine ∷ units ∷ []) (Schedule machine units)
+  pub bind : (machine binding : Text) → IsPlain machine → IsPlain binding
+      → Asks (codes "bind" ∷ machine ∷ binding ∷ []) (Bind machine binding)

@@ -18,6 +18,9 @@ pub data Asked : Type 0 where
   Fmt : (machine : Text) → Asked
   Cuts : (machine : Text) → Asked
   Generate : (loops : ℕ) → Asked
+  Compile : (program : Text) → Asked
+  Schedule : (machine units : Text) → Asked
+  Bind : (machine binding : Text) → Asked
 
 abbrev pub asked : Ask → Asked
 asked (asks.Check left right cert steps) =
@@ -30,6 +33,9 @@ asked (asks.Replay left right inputs steps) =
 asked (asks.Fmt machine) = Fmt (string_bytes machine)
 asked (asks.Cuts machine) = Cuts (string_bytes machine)
 asked (asks.Generate n) = Generate n
+asked (asks.Compile program) = Compile (string_bytes program)
+asked (asks.Schedule machine units) = Schedule (string_bytes machine) (string_bytes units)
+asked (asks.Bind machine binding) = Bind (string_bytes machine) (string_bytes binding)
 
 -- ---- fields, by the matches of a command
 
@@ -79,6 +85,15 @@ cuts_of rows = Cuts (word_of (codes "machine") rows)
 abbrev pub generate_of : List Row → Asked
 generate_of rows = Generate (loops_of rows)
 
+abbrev pub compile_of : List Row → Asked
+compile_of rows = Compile (word_of (codes "program") rows)
+
+abbrev pub schedule_of : List Row → Asked
+schedule_of rows = Schedule (word_of (codes "machine") rows) (word_of (codes "units") rows)
+
+abbrev pub bind_of : List Row → Asked
+bind_of rows = Bind (word_of (codes "machine") rows) (word_of (codes "binding") rows)
+
 abbrev pub asked_by : Text → List Row → Option Asked
 asked_by name rows =
     if bytes_eq name (codes "check") then Some (check_of rows)
@@ -88,7 +103,10 @@ asked_by name rows =
     else (if bytes_eq name (codes "fmt") then Some (fmt_of rows)
     else (if bytes_eq name (codes "cuts") then Some (cuts_of rows)
     else (if bytes_eq name (codes "generate") then Some (generate_of rows)
-    else None))))))
+    else (if bytes_eq name (codes "compile") then Some (compile_of rows)
+    else (if bytes_eq name (codes "schedule") then Some (schedule_of rows)
+    else (if bytes_eq name (codes "bind") then Some (bind_of rows)
+    else None)))))))))
 
 -- what a command and its matches ask
 abbrev pub asked_in : Option (Text × List Row) → Option Asked

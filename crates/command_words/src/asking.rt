@@ -49,6 +49,20 @@ pub enum Ask {
     Generate {
         n: u32,
     },
+    /// `compile P`: the machine of a program.
+    Compile {
+        program: String,
+    },
+    /// `schedule A U`: a machine with its lines in rows, under the units of a file.
+    Schedule {
+        machine: String,
+        units: String,
+    },
+    /// `bind A M`: a machine with registers for its locals, by a file.
+    Bind {
+        machine: String,
+        binding: String,
+    },
 }
 
 /// Why nothing is asked.

@@ -5,7 +5,7 @@ ghost use Rattle.clap.specs.Words.{app_of, shape_of, with_subcommand};
 ghost use Rattle.clap.specs.declared.builder.command.Command.TheViews.{out-Command};
 ghost use Rattle.command_words.specs.CommandLine.{alone, command_line, program_alone};
 
-use crate::commands::{check, cuts, fmt, generate, replay, run, verify};
+use crate::commands::{bind, check, compile, cuts, fmt, generate, replay, run, schedule, verify};
 use clap::Command;
 use std::alloc::{AllocError, Global};
 
@@ -40,5 +40,8 @@ pub fn command_line<'a>(alloc: Global) -> Result<Command<'a>, AllocError>
     let line = with_command(line, replay(alloc))?;
     let line = with_command(line, fmt(alloc))?;
     let line = with_command(line, cuts(alloc))?;
-    with_command(line, generate(alloc))
+    let line = with_command(line, generate(alloc))?;
+    let line = with_command(line, compile(alloc))?;
+    let line = with_command(line, schedule(alloc))?;
+    with_command(line, bind(alloc))
 }

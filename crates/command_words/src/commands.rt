@@ -3,7 +3,7 @@
 ghost use Rattle.std.specs.Prelude.{◌≡◌, ◌∷◌, [], false, IfOk};
 ghost use Rattle.clap.specs.Words.{app_of, shape_of};
 ghost use Rattle.clap.specs.declared.builder.command.Command.TheViews.{out-Command};
-ghost use Rattle.command_words.specs.CommandLine.{alone, check_command, command_with, cuts_command, file_word, fmt_command, generate_command, replay_command, run_command, verify_command};
+ghost use Rattle.command_words.specs.CommandLine.{alone, bind_command, check_command, command_with, compile_command, cuts_command, file_word, fmt_command, generate_command, replay_command, run_command, schedule_command, verify_command};
 
 use crate::arguments::{cert, file, loops, steps};
 use clap::Command;
@@ -83,4 +83,28 @@ pub fn generate<'a>(alloc: Global) -> Result<Command<'a>, AllocError>
     ensures local { IfOk result (λ command. (out-Command command).has_globals ≡ false) }
 {
     Command::new(alloc, "generate").arg(loops(alloc))
+}
+
+/// `compile P`.
+pub fn compile<'a>(alloc: Global) -> Result<Command<'a>, AllocError>
+    ensures shape { IfOk result (λ command. shape_of command ≡ compile_command) }
+    ensures local { IfOk result (λ command. (out-Command command).has_globals ≡ false) }
+{
+    Command::new(alloc, "compile").arg(file(alloc, "program"))
+}
+
+/// `schedule A U`.
+pub fn schedule<'a>(alloc: Global) -> Result<Command<'a>, AllocError>
+    ensures shape { IfOk result (λ command. shape_of command ≡ schedule_command) }
+    ensures local { IfOk result (λ command. (out-Command command).has_globals ≡ false) }
+{
+    two_files(alloc, "schedule", "machine", "units")
+}
+
+/// `bind A M`.
+pub fn bind<'a>(alloc: Global) -> Result<Command<'a>, AllocError>
+    ensures shape { IfOk result (λ command. shape_of command ≡ bind_command) }
+    ensures local { IfOk result (λ command. (out-Command command).has_globals ≡ false) }
+{
+    two_files(alloc, "bind", "machine", "binding")
 }

@@ -2,7 +2,7 @@
 
 ghost use Rattle.std.specs.Prelude.{◌≡◌, IfOk, IfErr, IfNone, Some, None};
 ghost use Rattle.clap.specs.Words.{found_of, rows_of};
-ghost use Rattle.command_words.specs.Words.{asked, asked_by, check_of, replay_of, run_of, verify_of};
+ghost use Rattle.command_words.specs.Words.{asked, asked_by, bind_of, check_of, replay_of, run_of, schedule_of, verify_of};
 ghost use Rattle.command_words.specs.declared.asking.AskError.TheVariants.{Usage};
 
 use crate::asking::{Ask, AskError};
@@ -52,6 +52,24 @@ fn replay(alloc: Global, found: &ArgMatches) -> Result<Ask, AllocError>
     })
 }
 
+fn schedule(alloc: Global, found: &ArgMatches) -> Result<Ask, AllocError>
+    ensures { IfOk result (λ ask. asked ask ≡ schedule_of (rows_of (found_of found.now))) }
+{
+    Ok(Ask::Schedule {
+        machine: word(alloc, found, "machine")?,
+        units: word(alloc, found, "units")?,
+    })
+}
+
+fn bind(alloc: Global, found: &ArgMatches) -> Result<Ask, AllocError>
+    ensures { IfOk result (λ ask. asked ask ≡ bind_of (rows_of (found_of found.now))) }
+{
+    Ok(Ask::Bind {
+        machine: word(alloc, found, "machine")?,
+        binding: word(alloc, found, "binding")?,
+    })
+}
+
 /// What the command of this name asks, by its matches. `Usage` comes only for a name that is no command's.
 pub fn read(alloc: Global, name: &str, found: &ArgMatches) -> Result<Ask, AskError>
     ensures ok { IfOk result (λ ask. asked_by name.now (rows_of (found_of found.now)) ≡ Some (asked ask)) }
@@ -69,6 +87,11 @@ pub fn read(alloc: Global, name: &str, found: &ArgMatches) -> Result<Ask, AskErr
             machine: word(alloc, found, "machine")?,
         }),
         "generate" => Ok(Ask::Generate { n: loops(found) }),
+        "compile" => Ok(Ask::Compile {
+            program: word(alloc, found, "program")?,
+        }),
+        "schedule" => Ok(schedule(alloc, found)?),
+        "bind" => Ok(bind(alloc, found)?),
         _ => Err(AskError::Usage),
     }
 }

@@ -23,6 +23,9 @@ fmt -¦Fmt { machine: "-" }
 cuts a.fsmd¦Cuts { machine: "a.fsmd" }
 generate 200¦Generate { n: 200 }
 generate +1¦Generate { n: 1 }
+compile p.prog¦Compile { program: "p.prog" }
+schedule a.fsmd u.json¦Schedule { machine: "a.fsmd", units: "u.json" }
+bind -- a.fsmd -m.json¦Bind { machine: "a.fsmd", binding: "-m.json" }
 "#;
 
 // Words that are refused. The first line has none.
@@ -69,6 +72,13 @@ generate 0
 generate 301
 generate 1 2
 generate a.fsmd
+compile
+compile p.prog q.prog
+compile p.prog --steps 5
+schedule a.fsmd
+schedule a.fsmd u.json v.json
+bind a.fsmd
+bind a.fsmd m.json --cert c.json
 ";
 
 fn split(alloc: Global, text: &str) -> Result<Vec<String>, AllocError> {

@@ -1,14 +1,18 @@
 -- Where a call ends with a fault, a file or the sink failed.
 use Rattle.std.proofs.Common.{◌≡◌, ◌∙◌, ◌⊎◌, inl, inr, ℕ, List, Option, Some, None, refl, sym, ap, subst}
 use Rattle.std.specs.Prelude.{IsTrue, is_some}
-use Rattle.command_words.specs.Words.{Asked, Check, Verify, Run, Replay, Fmt, Cuts, Generate}
+use Rattle.command_words.specs.Words.{Asked, Check, Verify, Run, Replay, Fmt, Cuts, Generate, Compile, Schedule, Bind}
 use Rattle.fs_base.specs.Outside.{Held}
 use Rattle.fs_model.specs.Machines.{Fsmd}
 use Rattle.fs_model.specs.Runs.{Inputs}
+use Rattle.fs_model.specs.Source.{Source}
+use Rattle.fs_rules.specs.Spelled.{machine_of}
+use Rattle.unit_counts.specs.Counts.{Units}
 use Rattle.command_answers.specs.declared.answer.Operand.{Operand}
 use Rattle.command_answers.specs.declared.answer.Operand.TheVariants.{First, Second, Third}
 use Rattle.command_answers.specs.declared.answer.Status.{Status}
 use Rattle.command_answers.specs.declared.answer.Status.TheVariants as statuses
+use Rattle.command_answers.specs.declared.answer.KeyFault.{KeyFault}
 use Rattle.command_answers.specs.declared.answer.Answer.{Answer}
 use Rattle.command_answers.specs.declared.answer.Answer.TheVariants.{Usage}
 use Rattle.command_answers.specs.Statuses.{status_of, certificate_in}
@@ -20,13 +24,20 @@ use Rattle.command_answers.specs.Pairs.{left_of, right_of}
 use Rattle.command_answers.specs.Verdicts.{verdict_on}
 use Rattle.command_answers.specs.Runs.{IsOfRun}
 use Rattle.command_answers.specs.Replays.{IsOfReplay}
-use Rattle.command_answers.specs.Follows.{FollowsForText, TextRefused, Listed, FollowsFromInputs, InputsRefused, Spelled, FollowsFromCertificate, CertificateRefused, Judged, FollowsForRun, MachineRefused, Ran, FollowsForPair, PairRefused, Answered as Paired, ForCheck, ForVerify, ForReplay, Follows}
+use Rattle.command_answers.specs.Keys.{FollowsFromKeys, KeysRefused, KeysSpelled}
+use Rattle.command_answers.specs.InputFiles.{IsNotJson, HasInputFault, SpellsInputs, FollowsFromInputs}
+use Rattle.command_answers.specs.Refusals.{RefusesMachine}
+use Rattle.command_answers.specs.Programs.{RefusesProgram, HasCompiledText}
+use Rattle.command_answers.specs.Schedules.{AreNoUnits, HaveUnitFault, SpellUnits, IsOfSchedule, ForSchedule}
+use Rattle.synthesis_answers.specs.Bindings.{Binding}
+use Rattle.command_answers.specs.Bindings.{IsNoBinding, HasBindingFault, SpellsBinding, IsOfBinding, ForBind}
+use Rattle.command_answers.specs.Follows.{FollowsForText, TextRefused, Listed, FollowsForParts, PartsRefused, PartsSpelled, FollowsFromCertificate, CertificateRefused, Judged, FollowsForRun, MachineRefused, Ran, FollowsForPair, PairRefused, Answered as Paired, ForCheck, ForVerify, ForReplay, Follows}
 use Rattle.fsmd_tool.specs.Calls.{Call, held, FailedToRead, MayBeRead, MayRead}
 use Rattle.fsmd_tool.specs.Puts.{Put, IsPut, Whole, Cut}
 use Rattle.fsmd_tool.specs.Stores.{Stores, IsUnstored, Entry, entry_of, to_store}
 use Rattle.fsmd_tool.specs.Correct.{IsCorrectAnswer, IsDone, Kept, Stored, Unstored, Answered}
 use Rattle.fsmd_tool.specs.Clauses.{HasCause, FileFailed, CertificateUnstored, SinkFailed}
-use Rattle.fsmd_tool.proofs.Statuses.{Ends, moved, machine_fault, inputs_fault, certificate_fault, pair_fault, of_pair_fault, run_fault, replay_fault, judged_fault}
+use Rattle.fsmd_tool.proofs.Statuses.{Ends, moved, machine_fault, program_fault, keys_fault, certificate_fault, pair_fault, of_pair_fault, run_fault, replay_fault, schedule_fault, binding_fault, judged_fault}
 
 -- a file that is named could not be read
 record Unread (o : Option Asked) (r : Reading) : Type 0 where
@@ -34,9 +45,13 @@ record Unread (o : Option Asked) (r : Reading) : Type 0 where
   named : IsTrue (names o file)
   unreadable : content_of r file ≡ Unreadable
 
+from_keys : (T : Type 0) (N : List ℕ → Type 0) (F : KeyFault → (key bytes : List ℕ) → Type 0) (S : T → List ℕ → Type 0) (P : T → Answer → Type 0) → ((v : T) (x : Answer) → P v x → Ends statuses.Fault x → ⊥) → (file : Operand) (c : Content) (x : Answer)
+    → FollowsFromKeys T N F S P file c x → Ends statuses.Fault x → c ≡ Unreadable
+from_keys T N F S P never file c x (KeysRefused p) s = keys_fault N F file c x p s
+from_keys T N F S P never file c x (KeysSpelled v i p) s = absurd (never v x p s)
+
 from_inputs : (P : Inputs → Answer → Type 0) → ((ins : Inputs) (x : Answer) → P ins x → Ends statuses.Fault x → ⊥) → (m : Fsmd) (file : Operand) (c : Content) (x : Answer) → FollowsFromInputs P m file c x → Ends statuses.Fault x → c ≡ Unreadable
-from_inputs P never m file c x (InputsRefused p) s = inputs_fault m file c x p s
-from_inputs P never m file c x (Spelled ins i p) s = absurd (never ins x p s)
+from_inputs P never m file c x f s = from_keys Inputs (IsNotJson m) (HasInputFault m) (SpellsInputs m) P never file c x f s
 
 from_certificate : (a b : Fsmd) (c : Content) (x : Answer) → FollowsFromCertificate a b Third c x → Ends statuses.Fault x → c ≡ Unreadable
 from_certificate a b c x (CertificateRefused p) s = certificate_fault a b Third c x p s
@@ -51,13 +66,19 @@ of_pair : (P : (a b : Fsmd) → Content → Answer → Type 0) (o : Option Asked
 of_pair P o r x n m third (PairRefused p) s = either o r n m (pair_fault r x p s)
 of_pair P o r x n m third (Paired a b p alike h) s = third a b h s
 
-of_text : (P : (text bytes : List ℕ) → Type 0) (o : Option Asked) (r : Reading) (x : Answer) → IsTrue (names o First) → FollowsForText P r x → Ends statuses.Fault x → Unread o r
-of_text P o r x n (TextRefused p u) s = record { file = First; named = n; unreadable = machine_fault First r.first x p s }
-of_text P o r x n (Listed l u) s = absurd (let h : statuses.Fine ≡ statuses.Fault = moved statuses.Fault statuses.Fine x _ l.is refl s in cc)
+of_text : (R : Content → Answer → Type 0) (P : (text bytes : List ℕ) → Type 0) → ((c : Content) (x : Answer) → R c x → Ends statuses.Fault x → c ≡ Unreadable) → (o : Option Asked) (r : Reading) (x : Answer) → IsTrue (names o First) → FollowsForText R P r x
+    → Ends statuses.Fault x → Unread o r
+of_text R P failed o r x n (TextRefused p u) s = record { file = First; named = n; unreadable = failed r.first x p s }
+of_text R P failed o r x n (Listed l u) s = absurd (let h : statuses.Fine ≡ statuses.Fault = moved statuses.Fault statuses.Fine x _ l.is refl s in cc)
 
 of_run : (limit : ℕ) (o : Option Asked) (r : Reading) (x : Answer) → IsTrue (names o First) → IsTrue (names o Second) → FollowsForRun limit r x → Ends statuses.Fault x → Unread o r
 of_run limit o r x n m (MachineRefused p u) s = record { file = First; named = n; unreadable = machine_fault First r.first x p s }
 of_run limit o r x n m (Ran k h p u) s = record { file = Second; named = m; unreadable = from_inputs (IsOfRun limit k) (run_fault limit k) k Second r.second x p s }
+
+of_parts : (P : Source → Content → Answer → Type 0) → ((p : Source) (c : Content) (x : Answer) → P p c x → Ends statuses.Fault x → c ≡ Unreadable) → (o : Option Asked) (r : Reading) (x : Answer) → IsTrue (names o First) → IsTrue (names o Second)
+    → FollowsForParts P r x → Ends statuses.Fault x → Unread o r
+of_parts P second o r x n m (PartsRefused p u) s = record { file = First; named = n; unreadable = machine_fault First r.first x p s }
+of_parts P second o r x n m (PartsSpelled k h p u) s = record { file = Second; named = m; unreadable = second k r.second x p s }
 
 unread : (o : Option Asked) (r : Reading) (x : Answer) → Follows o r x → Ends statuses.Fault x → Unread o r
 unread None r x f s = absurd (let h : statuses.Usage ≡ statuses.Fault = moved statuses.Fault statuses.Usage x Usage f.says refl s in cc)
@@ -69,8 +90,13 @@ unread (Some (Run machine inputs steps)) r x f s = of_run steps (Some (Run machi
 unread (Some (Replay left right inputs steps)) r x f s =
     of_pair (ForReplay steps) (Some (Replay left right inputs steps)) r x refl refl
     (λ a b h t. record { file = Third; named = refl; unreadable = from_inputs (IsOfReplay steps a b) (replay_fault steps a b) a Third r.third x h t }) f s
-unread (Some (Fmt machine)) r x f s = of_text HasCanonicalText (Some (Fmt machine)) r x refl f s
-unread (Some (Cuts machine)) r x f s = of_text HasPaths (Some (Cuts machine)) r x refl f s
+unread (Some (Fmt machine)) r x f s = of_text (RefusesMachine First) HasCanonicalText (λ c y p t. machine_fault First c y p t) (Some (Fmt machine)) r x refl f s
+unread (Some (Cuts machine)) r x f s = of_text (RefusesMachine First) HasPaths (λ c y p t. machine_fault First c y p t) (Some (Cuts machine)) r x refl f s
+unread (Some (Compile program)) r x f s = of_text (RefusesProgram First) HasCompiledText (λ c y p t. program_fault First c y p t) (Some (Compile program)) r x refl f s
+unread (Some (Schedule machine units)) r x f s =
+    of_parts ForSchedule (λ p c y h t. from_keys Units AreNoUnits HaveUnitFault SpellUnits (IsOfSchedule p) (schedule_fault p) Second c y h t) (Some (Schedule machine units)) r x refl refl f s
+unread (Some (Bind machine binding)) r x f s =
+    of_parts ForBind (λ p c y h t. from_keys Binding (IsNoBinding (machine_of p)) (HasBindingFault (machine_of p)) (SpellsBinding (machine_of p)) (IsOfBinding p) (binding_fault p) Second c y h t) (Some (Bind machine binding)) r x refl refl f s
 unread (Some (Generate n)) r x f s = absurd (of_pair_fault generated_steps _ (left_of n) (right_of n) x f.says s)
 
 failed : (k : Held) (F : Type 0) (c : Content) → MayBeRead k F c → c ≡ Unreadable → F

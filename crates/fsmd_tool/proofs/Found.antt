@@ -2,7 +2,7 @@
 use Rattle.std.proofs.Common.{◌≡◌, ◌∙◌, ℕ, Bool, true, false, List, Option, Some, None, refl, sym, ap, subst}
 use Rattle.std.specs.Prelude.{IsTrue, is_some}
 use Rattle.std.proofs.lemmas.Bool.{false≢true}
-use Rattle.command_words.specs.Words.{Asked, Check, Verify, Run, Replay, Fmt, Cuts, Generate}
+use Rattle.command_words.specs.Words.{Asked, Check, Verify, Run, Replay, Fmt, Cuts, Generate, Compile, Schedule, Bind}
 use Rattle.fs_base.specs.Outside.{Held}
 use Rattle.fs_model.specs.Machines.{Fsmd}
 use Rattle.fs_model.specs.Runs.{SameBehaviour}
@@ -79,6 +79,9 @@ by_asked (Some (Run machine inputs steps)) g r s x may is c away e f = absurd (f
 by_asked (Some (Replay left right inputs steps)) g r s x may is c away e f = absurd (false≢true c)
 by_asked (Some (Fmt machine)) g r s x may is c away e f = absurd (false≢true c)
 by_asked (Some (Cuts machine)) g r s x may is c away e f = absurd (false≢true c)
+by_asked (Some (Compile program)) g r s x may is c away e f = absurd (false≢true c)
+by_asked (Some (Schedule machine units)) g r s x may is c away e f = absurd (false≢true c)
+by_asked (Some (Bind machine binding)) g r s x may is c away e f = absurd (false≢true c)
 by_asked (Some (Generate n)) g r s x may is c away e f = of_loops g n x is f.says
 
 pub compared : (g : Call) (s : Status) (x : Answer) → IsCorrectAnswer g x → IsTrue (compares g.asked) → is_refusal s ≡ false → Ends s x → Compared g x
@@ -128,6 +131,9 @@ checked_by (Some (Replay left right inputs steps)) g r s x may c away e f = absu
 checked_by (Some (Fmt machine)) g r s x may c away e f = absurd (false≢true c)
 checked_by (Some (Cuts machine)) g r s x may c away e f = absurd (false≢true c)
 checked_by (Some (Generate n)) g r s x may c away e f = absurd (false≢true c)
+checked_by (Some (Compile program)) g r s x may c away e f = absurd (false≢true c)
+checked_by (Some (Schedule machine units)) g r s x may c away e f = absurd (false≢true c)
+checked_by (Some (Bind machine binding)) g r s x may c away e f = absurd (false≢true c)
 
 pub checked : (g : Call) (s : Status) (x : Answer) → IsCorrectAnswer g x → IsTrue (is_verify g.asked) → is_refusal s ≡ false → Ends s x → Checked g x
 checked g s x c t away e = checked_by g.asked g c.reading s x c.may_be_read t away e c.follows

@@ -19,15 +19,20 @@ use Rattle.command_answers.specs.declared.answer.Answer.TheVariants.{Text, Inter
 use Rattle.command_answers.specs.declared.refused.Refused.{Refused as Refusal}
 use Rattle.command_answers.specs.Words.{word_of}
 use Rattle.command_answers.specs.Lines.{HasLines}
-use Rattle.command_answers.specs.Texts.{SpellsMachine, HasCanonicalText}
+use Rattle.command_answers.specs.declared.answer.KeyFault.{KeyFault}
+use Rattle.command_answers.specs.Texts.{SpellsParts, SpellsMachine, HasCanonicalText}
 use Rattle.command_answers.specs.Paths.{HasPaths}
 use Rattle.command_answers.specs.Readings.{Content, Unopened, Readable, Unreadable, Reading, OnlyFirst}
-use Rattle.command_answers.specs.Refusals.{IsUnread, Long, RefusesMachine, RefusesPair, SecondRefused, InterfacesDiffer, RefusesInputs, SpellsInputs, RefusesCertificate, SpellsCertificate}
+use Rattle.command_answers.specs.Unread.{IsUnread, Long}
+use Rattle.command_answers.specs.Keys.{RefusesKeys, FollowsFromKeys, KeysRefused, KeysSpelled}
+use Rattle.command_answers.specs.InputFiles.{IsNotJson, HasInputFault, SpellsInputs, RefusesInputs, FollowsFromInputs}
+use Rattle.command_answers.specs.Programs.{RefusesProgram, HasCompiledText}
+use Rattle.command_answers.specs.Refusals.{RefusesMachine, RefusesPair, SecondRefused, InterfacesDiffer, RefusesCertificate, SpellsCertificate}
 use Rattle.command_answers.specs.Refusing.{WhereAnswered, IsLoaded}
 use Rattle.command_answers.specs.Pairs.{IsOfLoops}
 use Rattle.command_answers.specs.Verdicts.{IsJudged}
 use Rattle.command_answers.specs.Runs.{IsOfRun}
-use Rattle.command_answers.specs.Follows.{FollowsUnread, FollowsForText, Listed, FollowsFromInputs, InputsRefused, Spelled, FollowsFromCertificate, CertificateRefused, Judged, FollowsForRun, Ran, FollowsForPair, PairRefused, Answered}
+use Rattle.command_answers.specs.Follows.{FollowsUnread, FollowsForText, TextRefused, Listed, FollowsForParts, PartsRefused, PartsSpelled, FollowsFromCertificate, CertificateRefused, Judged, FollowsForRun, Ran, FollowsForPair, PairRefused, Answered}
 use Rattle.command_answers.proofs.Maps.{answer_map, ok_map, err_map}
 use Rattle.fsmd_tool.specs.Calls.{Call, held, FailedToRead, MayBeRead, MayHold, IsCorrectBy}
 use Rattle.fsmd_tool.specs.Loading.{MayGive, Gives}
@@ -100,20 +105,40 @@ only c = record { first = c; second = Unopened; third = Unopened }
 only_first : (c : Content) → OnlyFirst (only c)
 only_first c = record { second = refl; third = refl }
 
-pub machine_refused : (P : Reading → Answer → Type 0) (g : Call) (e : Refusal) → ((r : Reading) (x : Answer) → RefusesMachine First r.first x → OnlyFirst r → P r x)
-    → WhereAnswered (Gives g First (RefusesMachine First)) e → WhereAnswered (IsCorrectBy P g) e
-machine_refused P g e f h =
-    answer_map (Gives g First (RefusesMachine First)) (IsCorrectBy P g)
+pub file_refused : (R : Content → Answer → Type 0) (P : Reading → Answer → Type 0) (g : Call) (e : Refusal) → ((r : Reading) (x : Answer) → R r.first x → OnlyFirst r → P r x)
+    → WhereAnswered (Gives g First R) e → WhereAnswered (IsCorrectBy P g) e
+file_refused R P g e f h =
+    answer_map (Gives g First R) (IsCorrectBy P g)
     (λ x m. record { reading = only m.content; may_be_read = record { first = m.may; second = tt; third = tt }; follows = f (only m.content) x m.meets (only_first m.content) }) e h
 
-pub canonical_listed : (g : Call) (parts : Source) (m : Fsmd) (text lines : List ℕ) → MayHold (held g First) (IsLoaded parts m) → text ≡ canonical parts → lines ≡ text → IsCorrectBy (FollowsForText HasCanonicalText) g (Text lines)
+pub machine_refused : (P : Reading → Answer → Type 0) (g : Call) (e : Refusal) → ((r : Reading) (x : Answer) → RefusesMachine First r.first x → OnlyFirst r → P r x)
+    → WhereAnswered (Gives g First (RefusesMachine First)) e → WhereAnswered (IsCorrectBy P g) e
+machine_refused P g e f h = file_refused (RefusesMachine First) P g e f h
+
+-- lines that P says of what a file holds
+pub text_listed : (R : Content → Answer → Type 0) (P : (text bytes : List ℕ) → Type 0) (g : Call) (x : Answer) → HasLines (λ text. MayHold (held g First) (P text)) Text x → IsCorrectBy (FollowsForText R P) g x
+text_listed R P g x l = record {
+  reading = only (Readable l.holds.bytes);
+  may_be_read = record { first = l.holds.may; second = tt; third = tt };
+  follows = Listed (record { lines = l.lines; holds = l.holds.meet; is = l.is }) (only_first (Readable l.holds.bytes));
+}
+
+pub text_refused : (R : Content → Answer → Type 0) (P : (text bytes : List ℕ) → Type 0) (g : Call) (e : Refusal) → WhereAnswered (Gives g First R) e → WhereAnswered (IsCorrectBy (FollowsForText R P) g) e
+text_refused R P g e h = file_refused R (FollowsForText R P) g e (λ r x p o. TextRefused p o) h
+
+-- lines that P says of bytes are said of what a file holds
+pub lines_held : {E : Type 0} (k : Held) (bytes : List ℕ) (P : (text bytes : List ℕ) → Type 0) (r : Result Answer E) → AreHeld k bytes → IfOk r (HasLines (λ text. P text bytes) Text) → IfOk r (HasLines (λ text. MayHold k (P text)) Text)
+lines_held k bytes P r m h =
+    ok_map (HasLines (λ text. P text bytes) Text) (HasLines (λ text. MayHold k (P text)) Text) (λ x l. record { lines = l.lines; holds = record { bytes = bytes; may = m; meet = l.holds }; is = l.is }) r h
+
+pub canonical_listed : (g : Call) (parts : Source) (m : Fsmd) (text lines : List ℕ) → MayHold (held g First) (IsLoaded parts m) → text ≡ canonical parts → lines ≡ text → IsCorrectBy (FollowsForText (RefusesMachine First) HasCanonicalText) g (Text lines)
 canonical_listed g parts m text lines h e is = record {
   reading = only (Readable h.bytes);
   may_be_read = record { first = h.may; second = tt; third = tt };
   follows = Listed (record { lines = lines; holds = record { parts = parts; spells = h.meet.spells; is_canonical = is ∙ e }; is = refl }) (only_first (Readable h.bytes));
 }
 
-pub paths_listed : (g : Call) (m : Fsmd) (text lines : List ℕ) → MayHold (held g First) (SpellsMachine m) → text ≡ paths_text m → lines ≡ text → IsCorrectBy (FollowsForText HasPaths) g (Text lines)
+pub paths_listed : (g : Call) (m : Fsmd) (text lines : List ℕ) → MayHold (held g First) (SpellsMachine m) → text ≡ paths_text m → lines ≡ text → IsCorrectBy (FollowsForText (RefusesMachine First) HasPaths) g (Text lines)
 paths_listed g m text lines h e is = record {
   reading = only (Readable h.bytes);
   may_be_read = record { first = h.may; second = tt; third = tt };
@@ -162,12 +187,20 @@ paired P g a b x l r alike p = record {
 
 -- ---- a file behind that of a machine, or behind those of two
 
+pub keys_refused : (T : Type 0) (N : List ℕ → Type 0) (G : KeyFault → (key bytes : List ℕ) → Type 0) (S : T → List ℕ → Type 0) (P : T → Answer → Type 0) (file : Operand) (k : Held) (F : Type 0) (e : Refusal)
+    → WhereAnswered (λ x. MayGive k F (λ c. RefusesKeys N G file c x)) e → WhereAnswered (λ x. MayGive k F (λ c. FollowsFromKeys T N G S P file c x)) e
+keys_refused T N G S P file k F e h = refusal_map k F (RefusesKeys N G file) (FollowsFromKeys T N G S P file) (λ c x r. KeysRefused r) e h
+
+pub keys_spelled : (T : Type 0) (N : List ℕ → Type 0) (G : KeyFault → (key bytes : List ℕ) → Type 0) (S : T → List ℕ → Type 0) (P : T → Answer → Type 0) (file : Operand) (k : Held) (F : Type 0) (value : T) (x : Answer)
+    → MayHold k (S value) → P value x → MayGive k F (λ c. FollowsFromKeys T N G S P file c x)
+keys_spelled T N G S P file k F value x h p = record { content = Readable h.bytes; may = h.may; meets = KeysSpelled value h.meet p }
+
 pub inputs_refused : (P : Inputs → Answer → Type 0) (m : Fsmd) (file : Operand) (k : Held) (F : Type 0) (e : Refusal)
     → WhereAnswered (λ x. MayGive k F (λ c. RefusesInputs m file c x)) e → WhereAnswered (λ x. MayGive k F (λ c. FollowsFromInputs P m file c x)) e
-inputs_refused P m file k F e h = refusal_map k F (RefusesInputs m file) (FollowsFromInputs P m file) (λ c x r. InputsRefused r) e h
+inputs_refused P m file k F e h = keys_refused Inputs (IsNotJson m) (HasInputFault m) (SpellsInputs m) P file k F e h
 
 pub inputs_spelled : (P : Inputs → Answer → Type 0) (m : Fsmd) (file : Operand) (k : Held) (F : Type 0) (ins : Inputs) (x : Answer) → MayHold k (SpellsInputs m ins) → P ins x → MayGive k F (λ c. FollowsFromInputs P m file c x)
-inputs_spelled P m file k F ins x h p = record { content = Readable h.bytes; may = h.may; meets = Spelled ins h.meet p }
+inputs_spelled P m file k F ins x h p = keys_spelled Inputs (IsNotJson m) (HasInputFault m) (SpellsInputs m) P file k F ins x h p
 
 pub certificate_refused : (a b : Fsmd) (file : Operand) (k : Held) (F : Type 0) (e : Refusal)
     → WhereAnswered (λ x. MayGive k F (λ c. RefusesCertificate a b file c x)) e → WhereAnswered (λ x. MayGive k F (λ c. FollowsFromCertificate a b file c x)) e
@@ -185,6 +218,20 @@ ran limit g h before m same le first x v =
       may_be_read = record { first = first.may; second = k.may; third = tt };
       follows = Ran m first.meet k.meets (record { third = refl });
     }
+
+-- what P says of the parts of a machine and of what was read of a second file
+pub of_parts : (P : Source → Content → Answer → Type 0) (g : Call) (h : Held) (before : ℕ) (parts : Source) (m : Fsmd) → h ≡ held g Second → g.faults_before (word_of g.asked Second) ≤ before → MayHold (held g First) (IsLoaded parts m)
+    → (x : Answer) → MayGive h (Rose before (g.faults_now (word_of g.asked Second))) (λ c. P parts c x) → IsCorrectBy (FollowsForParts P) g x
+of_parts P g h before parts m same le first x v =
+    let k = later g Second h before (λ c. P parts c x) same le v in
+    record {
+      reading = record { first = Readable first.bytes; second = k.content; third = Unopened };
+      may_be_read = record { first = first.may; second = k.may; third = tt };
+      follows = PartsSpelled parts first.meet.spells k.meets (record { third = refl });
+    }
+
+pub parts_refused : (P : Source → Content → Answer → Type 0) (g : Call) (e : Refusal) → WhereAnswered (Gives g First (RefusesMachine First)) e → WhereAnswered (IsCorrectBy (FollowsForParts P) g) e
+parts_refused P g e h = machine_refused (FollowsForParts P) g e (λ r x p o. PartsRefused p o) h
 
 -- what P says of both machines and of what was read of a third file
 pub with_third : (P : (a b : Fsmd) → Content → Answer → Type 0) (g : Call) (h : Held) (before : ℕ) (a b : Fsmd) → h ≡ held g Third → g.faults_before (word_of g.asked Third) ≤ before → MayHold (held g First) (SpellsMachine a)

@@ -2,7 +2,7 @@
 use Rattle.std.proofs.Common.{◌≡◌, ◌∙◌, ℕ, Bool, true, false, List, ◌++◌, Option, Some, None, refl, sym, ap, subst, length, codes}
 use Rattle.std.specs.Prelude.{IsTrue, is_some}
 use Rattle.std.proofs.lemmas.Bool.{false≢true}
-use Rattle.command_words.specs.Words.{Asked, Check, Verify, Run, Replay, Fmt, Cuts, Generate}
+use Rattle.command_words.specs.Words.{Asked, Check, Verify, Run, Replay, Fmt, Cuts, Generate, Compile, Schedule, Bind}
 use Rattle.fs_base.specs.Outside.{appended}
 use Rattle.fs_model.specs.Machines.{Fsmd}
 use Rattle.bisimulation.specs.Tables.{Node}
@@ -13,7 +13,7 @@ use Rattle.pair_answers.specs.Answers.{IsCounterexample, IsUndecided}
 use Rattle.command_answers.specs.declared.answer.Status.{Status}
 use Rattle.command_answers.specs.declared.answer.Status.TheVariants as statuses
 use Rattle.command_answers.specs.declared.answer.Answer.{Answer}
-use Rattle.command_answers.specs.declared.answer.Answer.TheVariants.{Usage, Equivalent, Text, Differs, Undecided, TextRefused, CheckRefused, NotJson, InputRefused, CertRefused, Interfaces, TooLong, CannotRead}
+use Rattle.command_answers.specs.declared.answer.Answer.TheVariants.{Usage, Equivalent, Text, Differs, Undecided, TextRefused, CheckRefused, NotJson, KeyRefused, Over, CertRefused, Interfaces, TooLong, CannotRead}
 use Rattle.command_answers.specs.Statuses.{status_of, certificate_in}
 use Rattle.command_answers.specs.Words.{compares, is_verify, cert_of, step_limit}
 use Rattle.command_answers.specs.Lines.{HasLines}
@@ -30,10 +30,10 @@ use Rattle.fsmd_tool.proofs.Found.{Compared, compared, Checked, checked}
 
 -- ---- what was put with a status that is none of a fault
 
-record IsWell (e : Option Entry) (reply : List ℕ) (meant s : Status) (st : Stores) (p : Put) : Type 0 where
-  meant_is : meant ≡ s
-  got : p.got_now ≡ appended p.got_before reply
-  stored : (x : Entry) → e ≡ Some x → IsStored x.name x.bytes st
+pub record IsWell (e : Option Entry) (reply : List ℕ) (meant s : Status) (st : Stores) (p : Put) : Type 0 where
+  pub meant_is : meant ≡ s
+  pub got : p.got_now ≡ appended p.got_before reply
+  pub stored : (x : Entry) → e ≡ Some x → IsStored x.name x.bytes st
 
 cut_not : (s : Status) → is_refusal s ≡ false → statuses.Fault ≡ s → ⊥
 cut_not s away e = false≢true (sym away ∙ ap is_refusal (sym e))
@@ -57,7 +57,7 @@ done_well e reply meant s st p away is (Kept none k put) = put_well e reply mean
 done_well e reply meant s st p away is (Stored x some k put) = put_well e reply meant s st p away is (only_entry e x st some k) put
 done_well e reply meant s st p away is (Unstored x some u put) = absurd (unstored_not (unstored_reply x.name) s p away is put)
 
-well : (g : Call) (st : Stores) (p : Put) (s : Status) (a : Answered g st p) → is_refusal s ≡ false → p.status ≡ s → IsWell (to_store g.asked a.answer) (reply a.answer g.asked) (status_of a.answer) s st p
+pub well : (g : Call) (st : Stores) (p : Put) (s : Status) (a : Answered g st p) → is_refusal s ≡ false → p.status ≡ s → IsWell (to_store g.asked a.answer) (reply a.answer g.asked) (status_of a.answer) s st p
 well g st p s a away is = done_well (to_store g.asked a.answer) (reply a.answer g.asked) (status_of a.answer) s st p away is a.done
 
 -- ---- the answer to two machines, by its status
@@ -86,7 +86,7 @@ undecided limit keeps a b x (Open l) s = l
 stores_text : (o : Option Asked) (x : Answer) (nodes : ℕ) (text name : List ℕ) → x ≡ Equivalent nodes (kept (is_some (cert_of o)) text) → cert_of o ≡ Some name → to_store o x ≡ Some (entry name text)
 stores_text o x nodes text name is e = rw (is, e) refl
 
-put_lines : (g : Call) (p : Put) (x : Answer) (lines : List ℕ) → p.got_now ≡ appended p.got_before (reply x g.asked) → lines_of x g.asked ≡ lines → HasPut g p lines
+pub put_lines : (g : Call) (p : Put) (x : Answer) (lines : List ℕ) → p.got_now ≡ appended p.got_before (reply x g.asked) → lines_of x g.asked ≡ lines → HasPut g p lines
 put_lines g p x lines got is = got ∙ ap (λ l. appended p.got_before (opening g.asked ++ l)) is
 
 pub says_same : (g : Call) (st : Stores) (p : Put) → Answered g st p → p.status ≡ statuses.Fine → IsTrue (compares g.asked) → SaysSame g st p
@@ -129,6 +129,9 @@ no_opening (Some (Replay left right inputs steps)) t x = absurd (false≢true t)
 no_opening (Some (Fmt machine)) t x = absurd (false≢true t)
 no_opening (Some (Cuts machine)) t x = absurd (false≢true t)
 no_opening (Some (Generate n)) t x = absurd (false≢true t)
+no_opening (Some (Compile program)) t x = absurd (false≢true t)
+no_opening (Some (Schedule machine units)) t x = absurd (false≢true t)
+no_opening (Some (Bind machine binding)) t x = absurd (false≢true t)
 
 pub is_checked : (g : Call) (st : Stores) (p : Put) → Answered g st p → p.status ≡ statuses.Fine → IsTrue (is_verify g.asked) → IsChecked g p
 is_checked g st p a e t =
@@ -161,7 +164,8 @@ with_certificate (Undecided lines) text e = cc
 with_certificate (TextRefused file fault) text e = cc
 with_certificate (CheckRefused file fault) text e = cc
 with_certificate (NotJson file) text e = cc
-with_certificate (InputRefused file fault name) text e = cc
+with_certificate (KeyRefused file fault key) text e = cc
+with_certificate (Over file state unit) text e = cc
 with_certificate (CertRefused file error) text e = cc
 with_certificate (Interfaces name) text e = cc
 with_certificate (TooLong file limit) text e = cc
@@ -185,6 +189,9 @@ named_compares (Some (Replay left right inputs steps)) name e = absurd (cc)
 named_compares (Some (Fmt machine)) name e = absurd (cc)
 named_compares (Some (Cuts machine)) name e = absurd (cc)
 named_compares (Some (Generate n)) name e = absurd (cc)
+named_compares (Some (Compile program)) name e = absurd (cc)
+named_compares (Some (Schedule machine units)) name e = absurd (cc)
+named_compares (Some (Bind machine binding)) name e = absurd (cc)
 
 -- what is to be stored is the text of a closed search's certificate
 record IsOfSearch (g : Call) (x : Entry) : Type 0 where

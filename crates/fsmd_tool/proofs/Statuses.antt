@@ -3,16 +3,25 @@ use Rattle.std.proofs.Common.{◌≡◌, ◌⊎◌, inl, inr, ◌∙◌, ℕ, Bo
 use Rattle.std.proofs.lemmas.Bool.{false≢true}
 use Rattle.fs_model.specs.Machines.{Fsmd}
 use Rattle.fs_model.specs.Runs.{Inputs}
+use Rattle.fs_model.specs.Source.{Source}
+use Rattle.unit_counts.specs.Counts.{Units}
 use Rattle.certificates.specs.Obligations.{Verdict, Yes, No, IsWide, IsLarge}
 use Rattle.command_answers.specs.declared.answer.Operand.{Operand}
 use Rattle.command_answers.specs.declared.answer.Operand.TheVariants.{First, Second}
 use Rattle.command_answers.specs.declared.answer.Status.{Status}
 use Rattle.command_answers.specs.declared.answer.Status.TheVariants as statuses
+use Rattle.command_answers.specs.declared.answer.KeyFault.{KeyFault}
 use Rattle.command_answers.specs.declared.answer.Answer.{Answer}
 use Rattle.command_answers.specs.Statuses.{status_of}
 use Rattle.command_answers.specs.Lines.{HasLines}
 use Rattle.command_answers.specs.Readings.{Content, Unreadable, Reading}
-use Rattle.command_answers.specs.Refusals.{IsUnread, Failed, Long, RefusesMachine, Unread, ByText, ByRule, RefusesPair, FirstRefused, SecondRefused, InterfacesDiffer, RefusesInputs, UnreadInputs, ByJson, ByInput, RefusesCertificate, UnreadCertificate, ByCertificate}
+use Rattle.command_answers.specs.Unread.{IsUnread, Failed, Long}
+use Rattle.command_answers.specs.Keys.{RefusesKeys, UnreadKeys, ByJson, ByKey, FollowsFromKeys, KeysRefused, KeysSpelled}
+use Rattle.command_answers.specs.Refusals.{RefusesMachine, Unread, ByText, ByRule, RefusesPair, FirstRefused, SecondRefused, InterfacesDiffer, RefusesCertificate, UnreadCertificate, ByCertificate}
+use Rattle.command_answers.specs.Programs.{RefusesProgram, UnreadProgram, ProgramByText, ProgramByRule}
+use Rattle.command_answers.specs.Schedules.{IsOfSchedule, IsOver, InRows}
+use Rattle.synthesis_answers.specs.Bindings.{Binding}
+use Rattle.command_answers.specs.Bindings.{IsOfBinding, IsBound, Loses}
 use Rattle.command_answers.specs.Pairs.{IsOfPair, Same, Apart, Open}
 use Rattle.command_answers.specs.Verdicts.{answer_to}
 use Rattle.command_answers.specs.Runs.{IsOfRun, Ended, Stopped}
@@ -51,6 +60,16 @@ pair_refuses r x (FirstRefused p o) = machine_refuses First r.first x p
 pair_refuses r x (SecondRefused m p o) = machine_refuses Second r.second x p
 pair_refuses r x (InterfacesDiffer a b p l o) = ap (λ y. is_refusal (status_of y)) l.is
 
+pub program_refuses : (file : Operand) (c : Content) (x : Answer) → RefusesProgram file c x → is_refusal (status_of x) ≡ true
+program_refuses file c x (UnreadProgram u) = unread_refuses _ file c x u
+program_refuses file c x (ProgramByText f t e) = ap (λ y. is_refusal (status_of y)) e
+program_refuses file c x (ProgramByRule f t e) = ap (λ y. is_refusal (status_of y)) e
+
+pub keys_refuse : (N : List ℕ → Type 0) (F : KeyFault → (key bytes : List ℕ) → Type 0) (file : Operand) (c : Content) (x : Answer) → RefusesKeys N F file c x → is_refusal (status_of x) ≡ true
+keys_refuse N F file c x (UnreadKeys u) = unread_refuses _ file c x u
+keys_refuse N F file c x (ByJson t e) = ap (λ y. is_refusal (status_of y)) e
+keys_refuse N F file c x (ByKey f k t e) = ap (λ y. is_refusal (status_of y)) e
+
 pub certificate_refuses : (a b : Fsmd) (file : Operand) (c : Content) (x : Answer) → RefusesCertificate a b file c x → is_refusal (status_of x) ≡ true
 certificate_refuses a b file c x (UnreadCertificate u) = unread_refuses _ file c x u
 certificate_refuses a b file c x (ByCertificate f t e) = ap (λ y. is_refusal (status_of y)) e
@@ -66,10 +85,15 @@ machine_fault file c x (Unread u) s = unread_fault _ file c x u s
 machine_fault file c x (ByText f t e) s = absurd (let h : statuses.BadInput ≡ statuses.Fault = moved statuses.Fault statuses.BadInput x _ e refl s in cc)
 machine_fault file c x (ByRule f t e) s = absurd (let h : statuses.BadInput ≡ statuses.Fault = moved statuses.Fault statuses.BadInput x _ e refl s in cc)
 
-pub inputs_fault : (m : Fsmd) (file : Operand) (c : Content) (x : Answer) → RefusesInputs m file c x → Ends statuses.Fault x → c ≡ Unreadable
-inputs_fault m file c x (UnreadInputs u) s = unread_fault _ file c x u s
-inputs_fault m file c x (ByJson t e) s = absurd (let h : statuses.BadInput ≡ statuses.Fault = moved statuses.Fault statuses.BadInput x _ e refl s in cc)
-inputs_fault m file c x (ByInput f n t e) s = absurd (let h : statuses.BadInput ≡ statuses.Fault = moved statuses.Fault statuses.BadInput x _ e refl s in cc)
+pub program_fault : (file : Operand) (c : Content) (x : Answer) → RefusesProgram file c x → Ends statuses.Fault x → c ≡ Unreadable
+program_fault file c x (UnreadProgram u) s = unread_fault _ file c x u s
+program_fault file c x (ProgramByText f t e) s = absurd (let h : statuses.BadInput ≡ statuses.Fault = moved statuses.Fault statuses.BadInput x _ e refl s in cc)
+program_fault file c x (ProgramByRule f t e) s = absurd (let h : statuses.BadInput ≡ statuses.Fault = moved statuses.Fault statuses.BadInput x _ e refl s in cc)
+
+pub keys_fault : (N : List ℕ → Type 0) (F : KeyFault → (key bytes : List ℕ) → Type 0) (file : Operand) (c : Content) (x : Answer) → RefusesKeys N F file c x → Ends statuses.Fault x → c ≡ Unreadable
+keys_fault N F file c x (UnreadKeys u) s = unread_fault _ file c x u s
+keys_fault N F file c x (ByJson t e) s = absurd (let h : statuses.BadInput ≡ statuses.Fault = moved statuses.Fault statuses.BadInput x _ e refl s in cc)
+keys_fault N F file c x (ByKey f k t e) s = absurd (let h : statuses.BadInput ≡ statuses.Fault = moved statuses.Fault statuses.BadInput x _ e refl s in cc)
 
 pub certificate_fault : (a b : Fsmd) (file : Operand) (c : Content) (x : Answer) → RefusesCertificate a b file c x → Ends statuses.Fault x → c ≡ Unreadable
 certificate_fault a b file c x (UnreadCertificate u) s = unread_fault _ file c x u s
@@ -96,6 +120,14 @@ replay_fault limit a b ins x (LeftStopped t e l) s = let h : statuses.Undecided 
 replay_fault limit a b ins x (RightStopped o n f t e l) s = let h : statuses.Undecided ≡ statuses.Fault = moved statuses.Fault statuses.Undecided x _ l.is refl s in cc
 replay_fault limit a b ins x (Agreed p q e t l) s = let h : statuses.Fine ≡ statuses.Fault = moved statuses.Fault statuses.Fine x _ l.is refl s in cc
 replay_fault limit a b ins x (Differed p q e t l) s = let h : statuses.Differ ≡ statuses.Fault = moved statuses.Fault statuses.Differ x _ l.is refl s in cc
+
+pub schedule_fault : (p : Source) (units : Units) (x : Answer) → IsOfSchedule p units x → Ends statuses.Fault x → ⊥
+schedule_fault p units x (IsOver q k o e) s = let h : statuses.BadInput ≡ statuses.Fault = moved statuses.Fault statuses.BadInput x _ e refl s in cc
+schedule_fault p units x (InRows l) s = let h : statuses.Fine ≡ statuses.Fault = moved statuses.Fault statuses.Fine x _ l.is refl s in cc
+
+pub binding_fault : (p : Source) (b : Binding) (x : Answer) → IsOfBinding p b x → Ends statuses.Fault x → ⊥
+binding_fault p b x (IsBound l) s = let h : statuses.Fine ≡ statuses.Fault = moved statuses.Fault statuses.Fine x _ l.is refl s in cc
+binding_fault p b x (Loses l) s = let h : statuses.Differ ≡ statuses.Fault = moved statuses.Fault statuses.Differ x _ l.is refl s in cc
 
 verdict_fault : (a b : Fsmd) (v : Verdict) → status_of (answer_to a b v) ≡ statuses.Fault → ⊥
 verdict_fault a b Yes s = cc

@@ -4,6 +4,8 @@ use Rattle.command_words.specs.Words.{Generate}
 use Rattle.fs_base.specs.Outside.{Rose, appended}
 use Rattle.fs_model.specs.Machines.{Fsmd}
 use Rattle.fs_model.specs.Runs.{SameBehaviour}
+use Rattle.fs_model.specs.Source.{Source}
+use Rattle.fs_rules.specs.Spelled.{machine_of}
 use Rattle.fs_pair.specs.Interfaces.{interface_fault}
 use Rattle.bisimulation.specs.Tables.{Node}
 use Rattle.sym_facts.specs.Facts.{Fact}
@@ -14,7 +16,15 @@ use Rattle.pair_answers.specs.Answers.{IsCounterexample, IsUndecided}
 use Rattle.command_answers.specs.declared.answer.Operand.{Operand}
 use Rattle.command_answers.specs.declared.answer.Operand.TheVariants.{First, Second, Third}
 use Rattle.command_answers.specs.Words.{names, cert_of, is_check, step_limit}
-use Rattle.command_answers.specs.Texts.{SpellsMachine}
+use Rattle.program_laws.specs.Programs.{Program}
+use Rattle.unit_counts.specs.Counts.{Units}
+use Rattle.synthesis_answers.specs.Programs.{IsCompiledText}
+use Rattle.synthesis_answers.specs.Schedules.{IsScheduleText}
+use Rattle.synthesis_answers.specs.Bindings.{Binding, IsBoundText}
+use Rattle.command_answers.specs.Texts.{SpellsParts, SpellsMachine}
+use Rattle.command_answers.specs.Programs.{SpellsProgram}
+use Rattle.command_answers.specs.Schedules.{SpellUnits}
+use Rattle.command_answers.specs.Bindings.{SpellsBinding}
 use Rattle.command_answers.specs.Refusals.{SpellsCertificate}
 use Rattle.command_answers.specs.Pairs.{left_of, right_of}
 use Rattle.command_answers.specs.Verdicts.{verdict_on}
@@ -79,6 +89,36 @@ pub record IsChecked (g : Call) (p : Put) : Type 0 where
   pub hold : verdict_on left right nodes ≡ Yes
   pub same : SameBehaviour left right
   pub put : p.got_now ≡ appended p.got_before (codes "yes\n")
+
+-- the first file spells a program, where it is known what it holds; the text of what it is compiled to was put
+pub record IsCompiled (g : Call) (p : Put) : Type 0 where
+  pub program : Program
+  pub text : List ℕ
+  pub first : MayHold (held g First) (SpellsProgram program)
+  pub is : IsCompiledText program text
+  pub put : HasPut g p text
+
+-- the first file spells parts and the second unit counts, each where it is known what it holds; the text of the parts' schedule under these was
+-- put
+pub record IsInRows (g : Call) (p : Put) : Type 0 where
+  pub parts : Source
+  pub units : Units
+  pub text : List ℕ
+  pub first : MayHold (held g First) (SpellsParts parts)
+  pub second : MayHold (held g Second) (SpellUnits units)
+  pub is : IsScheduleText units parts text
+  pub put : HasPut g p text
+
+-- the first file spells parts and the second a binding of their machine, each where it is known what it holds; the text of the parts with
+-- registers was put
+pub record IsInRegisters (g : Call) (p : Put) : Type 0 where
+  pub parts : Source
+  pub binding : Binding
+  pub text : List ℕ
+  pub first : MayHold (held g First) (SpellsParts parts)
+  pub second : MayHold (held g Second) (SpellsBinding (machine_of parts) binding)
+  pub is : IsBoundText parts binding text
+  pub put : HasPut g p text
 
 -- no file was changed but the one for a certificate, and that only where a closed search made one: it was stored, or that failed
 pub data KeepsFiles (g : Call) (s : Stores) : Type 0 where

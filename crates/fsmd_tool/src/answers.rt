@@ -10,7 +10,9 @@ ghost use Rattle.command_answers.specs.declared.answer.Operand.TheVariants as op
 ghost use Rattle.command_answers.specs.Texts.{HasCanonicalText};
 ghost use Rattle.command_answers.specs.Paths.{HasPaths};
 ghost use Rattle.command_answers.specs.Runs.{IsOfRun};
-ghost use Rattle.command_answers.specs.Follows.{ForCheck, ForVerify, ForReplay, FollowsForPair, FollowsForText, FollowsFromInputs, FollowsForRun};
+ghost use Rattle.command_answers.specs.Refusals.{RefusesMachine};
+ghost use Rattle.command_answers.specs.InputFiles.{FollowsFromInputs};
+ghost use Rattle.command_answers.specs.Follows.{ForCheck, ForVerify, ForReplay, FollowsForPair, FollowsForText, FollowsForRun};
 ghost use Rattle.command_answers.specs.Refusing.{WhereAnswered};
 ghost use Rattle.fsmd_tool.specs.Calls.{call, IsCorrectBy};
 ghost use Rattle.fsmd_tool.specs.Loading.{Gives};
@@ -94,8 +96,8 @@ pub fn verify_files<F: Files>(alloc: Global, ask: &Ask, files: &mut F) -> Result
 
 /// What `fmt` answers: the canonical text of a machine.
 pub fn format_text<F: Files>(alloc: Global, ask: &Ask, files: &mut F) -> Result<Answer, Refused>
-    ensures ok { IfOk result (IsCorrectBy (FollowsForText HasCanonicalText) (call (Some (asked ask.now)) (F.holds files.old) (F.faults files.old) (F.faults files.new))) }
-    ensures refused { IfErr result (WhereAnswered (IsCorrectBy (FollowsForText HasCanonicalText) (call (Some (asked ask.now)) (F.holds files.old) (F.faults files.old) (F.faults files.new)))) }
+    ensures ok { IfOk result (IsCorrectBy (FollowsForText (RefusesMachine operands.First) HasCanonicalText) (call (Some (asked ask.now)) (F.holds files.old) (F.faults files.old) (F.faults files.new))) }
+    ensures refused { IfErr result (WhereAnswered (IsCorrectBy (FollowsForText (RefusesMachine operands.First) HasCanonicalText) (call (Some (asked ask.now)) (F.holds files.old) (F.faults files.old) (F.faults files.new)))) }
     ensures counts { NoneFell (F.faults files.old) (F.faults files.new) }
     ensures store_counts { NoneFell (F.store_faults files.old) (F.store_faults files.new) }
     ensures unchanged { SameHeld (F.holds files.old) (F.holds files.new) }
@@ -111,8 +113,8 @@ pub fn format_text<F: Files>(alloc: Global, ask: &Ask, files: &mut F) -> Result<
 
 /// What `cuts` answers: the paths of a machine.
 pub fn cut_paths<F: Files>(alloc: Global, ask: &Ask, files: &mut F) -> Result<Answer, Refused>
-    ensures ok { IfOk result (IsCorrectBy (FollowsForText HasPaths) (call (Some (asked ask.now)) (F.holds files.old) (F.faults files.old) (F.faults files.new))) }
-    ensures refused { IfErr result (WhereAnswered (IsCorrectBy (FollowsForText HasPaths) (call (Some (asked ask.now)) (F.holds files.old) (F.faults files.old) (F.faults files.new)))) }
+    ensures ok { IfOk result (IsCorrectBy (FollowsForText (RefusesMachine operands.First) HasPaths) (call (Some (asked ask.now)) (F.holds files.old) (F.faults files.old) (F.faults files.new))) }
+    ensures refused { IfErr result (WhereAnswered (IsCorrectBy (FollowsForText (RefusesMachine operands.First) HasPaths) (call (Some (asked ask.now)) (F.holds files.old) (F.faults files.old) (F.faults files.new)))) }
     ensures counts { NoneFell (F.faults files.old) (F.faults files.new) }
     ensures store_counts { NoneFell (F.store_faults files.old) (F.store_faults files.new) }
     ensures unchanged { SameHeld (F.holds files.old) (F.holds files.new) }

@@ -1,9 +1,9 @@
 //! The top call: from words to a status.
 
-ghost use Rattle.std.specs.Prelude.{◌≡◌, ◌≤◌, Some, IfOk, IsTrue, map, string_bytes};
+ghost use Rattle.std.specs.Prelude.{◌≡◌, ◌≤◌, ℕ, List, Some, IfOk, IsTrue, map, string_bytes};
 ghost use Rattle.std.specs.Result.{IfErr, OnErr};
 ghost use Rattle.fs_base.specs.Outside.{NoneFell, SameHeld};
-ghost use Rattle.command_words.specs.Words.{IsWithinLimits, asked, asked_of};
+ghost use Rattle.command_words.specs.Words.{Compile, Schedule, Bind, IsWithinLimits, asked, asked_of};
 ghost use Rattle.command_answers.specs.declared.answer.Status.TheVariants.{Fine, Differ, Undecided, Fault};
 ghost use Rattle.command_answers.specs.Words.{compares, is_verify};
 ghost use Rattle.command_answers.specs.Refusing.{WhereAnswered};
@@ -11,10 +11,11 @@ ghost use Rattle.fsmd_tool.specs.Calls.{call};
 ghost use Rattle.fsmd_tool.specs.Puts.{put};
 ghost use Rattle.fsmd_tool.specs.Stores.{stores, IsUnwritten};
 ghost use Rattle.fsmd_tool.specs.Correct.{IsCorrectAnswer, Answered, Outcome};
-ghost use Rattle.fsmd_tool.specs.Clauses.{SaysSame, SaysDiffer, SaysUndecided, IsChecked, KeepsFiles, HasCause};
+ghost use Rattle.fsmd_tool.specs.Clauses.{SaysSame, SaysDiffer, SaysUndecided, IsChecked, IsCompiled, IsInRows, IsInRegisters, KeepsFiles, HasCause};
 
 use crate::answers::{check, cut_paths, format_text, replay_files, run_files, verify_files};
 use crate::put::{put_answer, put_usage};
+use crate::synthesis::{bind_files, compile_file, schedule_files};
 use command_answers::answer::{Answer, Status};
 use command_answers::generated::compare_generated;
 use command_answers::refused::Refused;
@@ -40,6 +41,9 @@ fn answer_command<F: Files>(alloc: Global, ask: &Ask, files: &mut F) -> Result<A
         Ask::Fmt { .. } => format_text(alloc, ask, files),
         Ask::Cuts { .. } => cut_paths(alloc, ask, files),
         Ask::Generate { n } => Ok(compare_generated(alloc, *n)?),
+        Ask::Compile { .. } => compile_file(alloc, ask, files),
+        Ask::Schedule { .. } => schedule_files(alloc, ask, files),
+        Ask::Bind { .. } => bind_files(alloc, ask, files),
     }
 }
 
@@ -119,6 +123,9 @@ pub fn drive<F: Files, S: Sink>(
     ensures differ { result ≡ Differ → IsTrue (compares (asked_of (map string_bytes words.now))) → SaysDiffer (call (asked_of (map string_bytes words.now)) (F.holds files.old) (F.faults files.old) (F.faults files.new)) (put result (S.got out.old) (S.got out.new) (S.faults out.old) (S.faults out.new)) }
     ensures undecided { result ≡ Undecided → IsTrue (compares (asked_of (map string_bytes words.now))) → SaysUndecided (call (asked_of (map string_bytes words.now)) (F.holds files.old) (F.faults files.old) (F.faults files.new)) (put result (S.got out.old) (S.got out.new) (S.faults out.old) (S.faults out.new)) }
     ensures checked { result ≡ Fine → IsTrue (is_verify (asked_of (map string_bytes words.now))) → IsChecked (call (asked_of (map string_bytes words.now)) (F.holds files.old) (F.faults files.old) (F.faults files.new)) (put result (S.got out.old) (S.got out.new) (S.faults out.old) (S.faults out.new)) }
+    ensures compiled { result ≡ Fine → (program : List ℕ) → asked_of (map string_bytes words.now) ≡ Some (Compile program) → IsCompiled (call (asked_of (map string_bytes words.now)) (F.holds files.old) (F.faults files.old) (F.faults files.new)) (put result (S.got out.old) (S.got out.new) (S.faults out.old) (S.faults out.new)) }
+    ensures in_rows { result ≡ Fine → (machine units : List ℕ) → asked_of (map string_bytes words.now) ≡ Some (Schedule machine units) → IsInRows (call (asked_of (map string_bytes words.now)) (F.holds files.old) (F.faults files.old) (F.faults files.new)) (put result (S.got out.old) (S.got out.new) (S.faults out.old) (S.faults out.new)) }
+    ensures in_registers { result ≡ Fine → (machine binding : List ℕ) → asked_of (map string_bytes words.now) ≡ Some (Bind machine binding) → IsInRegisters (call (asked_of (map string_bytes words.now)) (F.holds files.old) (F.faults files.old) (F.faults files.new)) (put result (S.got out.old) (S.got out.new) (S.faults out.old) (S.faults out.new)) }
     ensures fault { result ≡ Fault → HasCause (call (asked_of (map string_bytes words.now)) (F.holds files.old) (F.faults files.old) (F.faults files.new)) (stores (F.holds files.old) (F.holds files.new) (F.store_faults files.old) (F.store_faults files.new)) (put result (S.got out.old) (S.got out.new) (S.faults out.old) (S.faults out.new)) }
     ensures counts { NoneFell (F.faults files.old) (F.faults files.new) }
     ensures store_counts { NoneFell (F.store_faults files.old) (F.store_faults files.new) }

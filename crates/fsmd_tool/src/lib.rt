@@ -7,5 +7,6 @@ mod load;
 mod pair;
 pub mod program;
 mod put;
+mod synthesis;
 
 pub use command_answers::answer;

@@ -10,16 +10,28 @@ ghost use Rattle.fs_runs.specs.InputValues.{signatures_of, inputs_of, Serves};
 ghost use Rattle.fs_pair.specs.Positions.{positions};
 ghost use Rattle.certificates.specs.View.{node_of};
 ghost use Rattle.command_answers.specs.Words.{word_of};
+ghost use Rattle.binding_laws.specs.Bindings.{IsBindingOf};
+ghost use Rattle.unit_counts.specs.Counts.{units_in};
+ghost use Rattle.command_answers.specs.declared.answer.Answer.TheVariants.{Text};
+ghost use Rattle.command_answers.specs.Lines.{HasLines};
 ghost use Rattle.command_answers.specs.Texts.{SpellsMachine};
-ghost use Rattle.command_answers.specs.Refusals.{signatures, IsUnread, RefusesMachine, RefusesInputs, SpellsInputs, RefusesCertificate, SpellsCertificate};
+ghost use Rattle.command_answers.specs.Unread.{IsUnread};
+ghost use Rattle.command_answers.specs.Refusals.{RefusesMachine, RefusesCertificate, SpellsCertificate};
+ghost use Rattle.command_answers.specs.InputFiles.{signatures, RefusesInputs, SpellsInputs};
+ghost use Rattle.command_answers.specs.Programs.{HasCompiledText, RefusesProgram};
+ghost use Rattle.command_answers.specs.Schedules.{SpellUnits, RefusesUnits};
+ghost use Rattle.command_answers.specs.Bindings.{SpellsBinding, RefusesBinding};
 ghost use Rattle.command_answers.specs.Refusing.{WhereAnswered, IsLoaded};
 ghost use Rattle.fsmd_tool.specs.Calls.{call, MayHold};
 ghost use Rattle.fsmd_tool.specs.Loading.{Gives};
 
 use certificates::cert::Cert;
 use command_answers::answer::{Answer, Operand};
+use command_answers::bindings::read_binding;
+use command_answers::programs::compile_program;
 use command_answers::reading::{CERT_LIMIT, Loaded, read_certificate, read_inputs, read_machine};
 use command_answers::refused::Refused;
+use command_answers::schedules::read_units;
 use command_answers::words::word_of;
 use command_words::asking::Ask;
 use fs_ast::machine::Machine;
@@ -27,7 +39,9 @@ use fs_base::outside::{Files, LoadError};
 use fs_model::limits::TEXT_LIMIT;
 use fs_pair::positions::Pairing;
 use fs_runs::inputs::Inputs;
+use hls_bind::Binding;
 use std::alloc::Global;
+use unit_counts::Units;
 
 // The bytes of a file, at most so many, or the answer that they are not read.
 fn load_bytes<F: Files>(
@@ -126,4 +140,57 @@ pub fn load_certificate<F: Files>(
 {
     let bytes = load_bytes(alloc, file, CERT_LIMIT, ask, files)?;
     read_certificate(alloc, file, bytes.as_slice(), a, b, p)
+}
+
+/// The canonical text of the parts to which the program that a file spells is compiled, or the answer that refuses the file.
+pub fn load_compiled<F: Files>(
+    alloc: Global,
+    file: Operand,
+    ask: &Ask,
+    files: &mut F,
+) -> Result<Answer, Refused>
+    ensures compiled { IfOk result (HasLines (λ text. MayHold (F.holds files.old (word_of (Some (asked ask.now)) file)) (HasCompiledText text)) Text) }
+    ensures refused { IfErr result (WhereAnswered (Gives (call (Some (asked ask.now)) (F.holds files.old) (F.faults files.old) (F.faults files.new)) file (RefusesProgram file))) }
+    ensures counts { NoneFell (F.faults files.old) (F.faults files.new) }
+    ensures store_counts { NoneFell (F.store_faults files.old) (F.store_faults files.new) }
+    ensures unchanged { SameHeld (F.holds files.old) (F.holds files.new) }
+{
+    let bytes = load_bytes(alloc, file, TEXT_LIMIT as u64, ask, files)?;
+    compile_program(alloc, file, bytes.as_slice())
+}
+
+/// The unit counts that a file spells, or the answer that refuses the file.
+pub fn load_units<F: Files>(
+    alloc: Global,
+    file: Operand,
+    ask: &Ask,
+    files: &mut F,
+) -> Result<Units, Refused>
+    ensures spell { IfOk result (λ u. MayHold (F.holds files.old (word_of (Some (asked ask.now)) file)) (SpellUnits (units_in u))) }
+    ensures refused { IfErr result (WhereAnswered (Gives (call (Some (asked ask.now)) (F.holds files.old) (F.faults files.old) (F.faults files.new)) file (RefusesUnits file))) }
+    ensures counts { NoneFell (F.faults files.old) (F.faults files.new) }
+    ensures store_counts { NoneFell (F.store_faults files.old) (F.store_faults files.new) }
+    ensures unchanged { SameHeld (F.holds files.old) (F.holds files.new) }
+{
+    let bytes = load_bytes(alloc, file, TEXT_LIMIT as u64, ask, files)?;
+    read_units(alloc, file, bytes.as_slice())
+}
+
+/// The binding that a file gives a machine, or the answer that refuses the file.
+pub fn load_binding<F: Files>(
+    alloc: Global,
+    file: Operand,
+    ask: &Ask,
+    machine: &Machine,
+    files: &mut F,
+) -> Result<Binding, Refused>
+    ensures spells { IfOk result (λ b. MayHold (F.holds files.old (word_of (Some (asked ask.now)) file)) (SpellsBinding machine.now b)) }
+    ensures of_machine { IfOk result (λ b. IsBindingOf machine.now.variables b) }
+    ensures refused { IfErr result (WhereAnswered (Gives (call (Some (asked ask.now)) (F.holds files.old) (F.faults files.old) (F.faults files.new)) file (RefusesBinding machine.now file))) }
+    ensures counts { NoneFell (F.faults files.old) (F.faults files.new) }
+    ensures store_counts { NoneFell (F.store_faults files.old) (F.store_faults files.new) }
+    ensures unchanged { SameHeld (F.holds files.old) (F.holds files.new) }
+{
+    let bytes = load_bytes(alloc, file, TEXT_LIMIT as u64, ask, files)?;
+    read_binding(alloc, file, bytes.as_slice(), machine)
 }

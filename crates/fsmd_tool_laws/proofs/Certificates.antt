@@ -21,7 +21,8 @@ use Rattle.command_answers.specs.declared.answer.Operand.{Operand}
 use Rattle.command_answers.specs.declared.answer.Answer.{Answer}
 use Rattle.command_answers.specs.declared.answer.Answer.TheVariants.{CertRefused}
 use Rattle.command_answers.specs.Readings.{Content, OfBytes}
-use Rattle.command_answers.specs.Refusals.{IsUnread, SpellsCertificate, HasCertFault, RefusesCertificate, UnreadCertificate, ByCertificate}
+use Rattle.command_answers.specs.Unread.{IsUnread}
+use Rattle.command_answers.specs.Refusals.{SpellsCertificate, HasCertFault, RefusesCertificate, UnreadCertificate, ByCertificate}
 use Rattle.command_answers.specs.Verdicts.{IsJudged}
 use Rattle.command_answers.specs.Follows.{FollowsFromCertificate, CertificateRefused, Judged}
 use Rattle.fsmd_tool_laws.specs.Agreement.{IsOpened}

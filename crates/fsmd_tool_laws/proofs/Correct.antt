@@ -1,37 +1,49 @@
 -- At most one answer is correct, and machines are answered.
 use Rattle.std.proofs.Common.{◌≡◌, ℕ, List, Option, Some, None, true, false, refl, sym, ◌∙◌, ap, subst}
 use Rattle.std.specs.Prelude.{is_some, codes}
-use Rattle.command_words.specs.Words.{Asked, Check, Verify, Run, Replay, Fmt, Cuts, Generate}
+use Rattle.command_words.specs.Words.{Asked, Check, Verify, Run, Replay, Fmt, Cuts, Generate, Compile, Schedule, Bind}
 use Rattle.fs_base.specs.Outside.{Held, Unknown, Nothing, Bytes}
 use Rattle.fs_model.specs.Machines.{Fsmd}
 use Rattle.fs_model.specs.Runs.{Inputs}
+use Rattle.fs_model.specs.Source.{Source}
+use Rattle.fs_rules.specs.Spelled.{machine_of}
+use Rattle.unit_counts.specs.Counts.{Units}
 use Rattle.bisimulation.specs.Tables.{Node}
 use Rattle.sym_facts.specs.Facts.{Fact}
 use Rattle.search.specs.Answers.{machines, IsClosedWith}
 use Rattle.command_answers.specs.declared.answer.Operand.{Operand}
 use Rattle.command_answers.specs.declared.answer.Operand.TheVariants.{First, Second, Third}
+use Rattle.command_answers.specs.declared.answer.KeyFault.{KeyFault}
 use Rattle.command_answers.specs.declared.answer.Answer.{Answer}
 use Rattle.command_answers.specs.declared.answer.Answer.TheVariants.{Text}
 use Rattle.command_answers.specs.Words.{cert_of, is_check, is_verify, compares, step_limit}
-use Rattle.command_answers.specs.Texts.{SpellsMachine, IsMachine, HasCanonicalText}
+use Rattle.command_answers.specs.Texts.{SpellsParts, SpellsMachine, HasCanonicalText}
 use Rattle.command_answers.specs.Paths.{HasPaths}
 use Rattle.command_answers.specs.Readings.{Content, Unopened, Readable, Unreadable, OfBytes, Reading, content_of}
-use Rattle.command_answers.specs.Refusals.{SpellsInputs, SpellsCertificate}
+use Rattle.command_answers.specs.Refusals.{RefusesMachine, SpellsCertificate}
+use Rattle.command_answers.specs.Keys.{FollowsFromKeys}
+use Rattle.command_answers.specs.InputFiles.{IsNotJson, HasInputFault, SpellsInputs, FollowsFromInputs}
+use Rattle.command_answers.specs.Programs.{RefusesProgram, HasCompiledText}
+use Rattle.command_answers.specs.Schedules.{AreNoUnits, HaveUnitFault, SpellUnits, IsOfSchedule, ForSchedule}
+use Rattle.synthesis_answers.specs.Bindings.{Binding}
+use Rattle.command_answers.specs.Bindings.{IsNoBinding, HasBindingFault, SpellsBinding, IsOfBinding, ForBind}
 use Rattle.command_answers.specs.Pairs.{IsOfPair, IsOfLoops}
 use Rattle.command_answers.specs.Verdicts.{IsJudged, answer_to}
 use Rattle.command_answers.specs.Runs.{IsOfRun}
 use Rattle.command_answers.specs.Replays.{IsOfReplay}
-use Rattle.command_answers.specs.Follows.{FollowsForText, Listed, FollowsFromInputs, FollowsFromCertificate, FollowsForRun, MachineRefused, Ran, FollowsForPair, PairRefused, Answered, ForCheck, ForVerify, ForReplay, Follows}
+use Rattle.command_answers.specs.Follows.{FollowsForText, Listed, FollowsForParts, PartsRefused, PartsSpelled, FollowsFromCertificate, FollowsForRun, MachineRefused, Ran, FollowsForPair, PairRefused, Answered, ForCheck, ForVerify, ForReplay, Follows}
 use Rattle.fsmd_tool.specs.Calls.{Call, held, FailedToRead, MayBeRead, MayRead}
 use Rattle.fsmd_tool.specs.Correct.{IsCorrectAnswer}
 use Rattle.fsmd_tool_laws.specs.Agreement.{Agree}
 use Rattle.fsmd_tool_laws.specs.Settled.{Settles, AreSettled, IsKnown, SpellPair}
 use Rattle.fsmd_tool_laws.specs.Cycles.{SaySame}
 use Rattle.fsmd_tool_laws.proofs.Contents.{bytes_opened}
-use Rattle.fsmd_tool_laws.proofs.Texts.{canonical_once, canonical_machine, paths_once}
-use Rattle.fsmd_tool_laws.proofs.Inputs.{follows_opened, spelled_answered}
+use Rattle.fsmd_tool_laws.proofs.Keys.{AreOneThing, follows_opened, spelled_answered}
+use Rattle.fsmd_tool_laws.proofs.Inputs.{inputs_are_one}
+use Rattle.fsmd_tool_laws.proofs.UnitFiles.{units_are_one}
+use Rattle.fsmd_tool_laws.proofs.BindingFiles.{bindings_are_one}
 use Rattle.fsmd_tool_laws.proofs.Certificates.{ReadInOneWay, judged_opened, spelled_judged}
-use Rattle.fsmd_tool_laws.proofs.Following.{Same, machine_same, machine_not_refused, with_pair, same_back, pair_not_refused, text_once, follows_from_one, uncompared_one}
+use Rattle.fsmd_tool_laws.proofs.Following.{Same, machine_same, machine_not_refused, with_pair, same_back, pair_not_refused, AreOneText, canonical_texts, path_texts, compiled_texts, text_once, parts_same, parts_not_refused, follows_from_one, uncompared_one}
 
 -- ---- what is known settles what was read
 
@@ -98,6 +110,9 @@ check_answered (Some (Replay left right inputs steps)) g a b k r x m e f = absur
 check_answered (Some (Fmt machine)) g a b k r x m e f = absurd (not_true e)
 check_answered (Some (Cuts machine)) g a b k r x m e f = absurd (not_true e)
 check_answered (Some (Generate loops)) g a b k r x m e f = absurd (not_true e)
+check_answered (Some (Compile program)) g a b k r x m e f = absurd (not_true e)
+check_answered (Some (Schedule machine units)) g a b k r x m e f = absurd (not_true e)
+check_answered (Some (Bind machine binding)) g a b k r x m e f = absurd (not_true e)
 
 pub machines_checked : (g : Call) (x : Answer) (a b : Fsmd) → is_check g.asked ≡ true → SpellPair g a b → IsCorrectAnswer g x → IsOfPair (step_limit g.asked) (is_some (cert_of g.asked)) a b x
 machines_checked g x a b e k p = check_answered g.asked g a b k p.reading x p.may_be_read e p.follows
@@ -117,6 +132,9 @@ verify_answered w (Some (Replay left right inputs steps)) g a b nodes k n r x m 
 verify_answered w (Some (Fmt machine)) g a b nodes k n r x m e f = absurd (not_true e)
 verify_answered w (Some (Cuts machine)) g a b nodes k n r x m e f = absurd (not_true e)
 verify_answered w (Some (Generate loops)) g a b nodes k n r x m e f = absurd (not_true e)
+verify_answered w (Some (Compile program)) g a b nodes k n r x m e f = absurd (not_true e)
+verify_answered w (Some (Schedule machine units)) g a b nodes k n r x m e f = absurd (not_true e)
+verify_answered w (Some (Bind machine binding)) g a b nodes k n r x m e f = absurd (not_true e)
 
 pub certificate_judged : (w : ReadInOneWay) → (g : Call) (x : Answer) (a b : Fsmd) (nodes : List (Node Fact)) → is_verify g.asked ≡ true → SpellPair g a b → IsKnown g Third (SpellsCertificate a b nodes) → IsCorrectAnswer g x → IsJudged a b nodes x
 certificate_judged w g x a b nodes e k n p = verify_answered w g.asked g a b nodes k n p.reading x p.may_be_read e p.follows
@@ -124,10 +142,14 @@ certificate_judged w g x a b nodes e k n p = verify_answered w g.asked g a b nod
 pub loops_answered : (g : Call) (x : Answer) (loops : ℕ) → g.asked ≡ Some (Generate loops) → IsCorrectAnswer g x → IsOfLoops loops x
 loops_answered g x loops e p = let f : Follows (Some (Generate loops)) p.reading x = subst (λ o. Follows o p.reading x) e p.follows in f.says
 
--- what follows for a file of inputs that is known
+-- what follows for a file of keys that is known
+keys_answered : (T : Type 0) (N : List ℕ → Type 0) (F : KeyFault → (key bytes : List ℕ) → Type 0) (S : T → List ℕ → Type 0) → AreOneThing T N F S → (P : T → Answer → Type 0) (file : Operand) (c d : Content) (v : T) (x : Answer) → Same c d → OfBytes d (S v)
+    → FollowsFromKeys T N F S P file c x → P v x
+keys_answered T N F S o P file c d v x e i f =
+    spelled_answered T N F S o P file d v x i (subst (λ k. FollowsFromKeys T N F S P file k x) (e (follows_opened T N F S P file c x f) (bytes_opened d (S v) i)) f)
+
 inputs_answered : (P : Inputs → Answer → Type 0) (m : Fsmd) (file : Operand) (c d : Content) (ins : Inputs) (x : Answer) → Same c d → OfBytes d (SpellsInputs m ins) → FollowsFromInputs P m file c x → P ins x
-inputs_answered P m file c d ins x e i f =
-    spelled_answered P m file d ins x i (subst (λ k. FollowsFromInputs P m file k x) (e (follows_opened P m file c x f) (bytes_opened d (SpellsInputs m ins) i)) f)
+inputs_answered P m file c d ins x e i f = keys_answered Inputs (IsNotJson m) (HasInputFault m) (SpellsInputs m) (inputs_are_one m) P file c d ins x e i f
 
 run_follows : (limit : ℕ) (r s : Reading) (m : Fsmd) (ins : Inputs) (x : Answer) → Same r.first s.first → Same r.second s.second → OfBytes s.first (SpellsMachine m) → OfBytes s.second (SpellsInputs m ins) → FollowsForRun limit r x → IsOfRun limit m ins x
 run_follows limit r s m ins x e f h i (MachineRefused p o) = absurd (machine_not_refused First s.first r.first m x (same_back r.first s.first e) h p)
@@ -148,18 +170,44 @@ replay_answered g x left right inputs steps a b ins e k i p =
     let f : Follows (Some (Replay left right inputs steps)) p.reading x = subst (λ o. Follows o p.reading x) e p.follows in
     inputs_answered (IsOfReplay steps a b) a Third p.reading.third (Readable i.bytes) ins x (known_read g p.reading Third (SpellsInputs a ins) i p.may_be_read) i.meet (pair_answered (ForReplay steps) g a b k p.reading x p.may_be_read f)
 
--- the answer to a question about one machine is the text that its file has
-text_answered : (P : (text bytes : List ℕ) → Type 0) → ((bytes t u : List ℕ) → P t bytes → P u bytes → t ≡ u) → ((bytes t : List ℕ) → P t bytes → IsMachine bytes) → (g : Call) (r : Reading) (x : Answer) (text : List ℕ) → IsKnown g First (P text) → MayRead g r
-    → FollowsForText P r x → x ≡ Text text
-text_answered P once spells g r x text k m f =
+-- the answer to a question about one file is the text that it has
+text_answered : (R : Content → Answer → Type 0) (P : (text bytes : List ℕ) → Type 0) → AreOneText R P → (g : Call) (r : Reading) (x : Answer) (text : List ℕ) → IsKnown g First (P text) → MayRead g r → FollowsForText R P r x → x ≡ Text text
+text_answered R P o g r x text k m f =
     let s : Reading = record { first = Readable k.bytes; second = Unopened; third = Unopened } in
-    text_once P once spells r s x (Text text) (known_read g r First (P text) k m) f (Listed (record { lines = text; holds = k.meet; is = refl }) (record { second = refl; third = refl }))
+    text_once R P o r s x (Text text) (known_read g r First (P text) k m) f (Listed (record { lines = text; holds = k.meet; is = refl }) (record { second = refl; third = refl }))
 
 pub fmt_answered : (g : Call) (x : Answer) (machine text : List ℕ) → g.asked ≡ Some (Fmt machine) → IsKnown g First (HasCanonicalText text) → IsCorrectAnswer g x → x ≡ Text text
-fmt_answered g x machine text e k p = text_answered HasCanonicalText canonical_once canonical_machine g p.reading x text k p.may_be_read (subst (λ o. Follows o p.reading x) e p.follows)
+fmt_answered g x machine text e k p = text_answered (RefusesMachine First) HasCanonicalText canonical_texts g p.reading x text k p.may_be_read (subst (λ o. Follows o p.reading x) e p.follows)
 
 pub cuts_answered : (g : Call) (x : Answer) (machine text : List ℕ) → g.asked ≡ Some (Cuts machine) → IsKnown g First (HasPaths text) → IsCorrectAnswer g x → x ≡ Text text
-cuts_answered g x machine text e k p = text_answered HasPaths paths_once (λ bytes t h. (h.machine, h.spells)) g p.reading x text k p.may_be_read (subst (λ o. Follows o p.reading x) e p.follows)
+cuts_answered g x machine text e k p = text_answered (RefusesMachine First) HasPaths path_texts g p.reading x text k p.may_be_read (subst (λ o. Follows o p.reading x) e p.follows)
+
+pub compile_answered : (g : Call) (x : Answer) (program text : List ℕ) → g.asked ≡ Some (Compile program) → IsKnown g First (HasCompiledText text) → IsCorrectAnswer g x → x ≡ Text text
+compile_answered g x program text e k p = text_answered (RefusesProgram First) HasCompiledText compiled_texts g p.reading x text k p.may_be_read (subst (λ o. Follows o p.reading x) e p.follows)
+
+-- ---- a machine and a second file
+
+-- what P says of the parts that were read, it says of those that the file spells
+parts_answered : (P : Source → Content → Answer → Type 0) (g : Call) (parts : Source) (k : IsKnown g First (SpellsParts parts)) (r : Reading) (x : Answer) → MayRead g r → FollowsForParts P r x → P parts r.second x
+parts_answered P g parts k r x m (PartsRefused p o) = absurd (parts_not_refused (Readable k.bytes) r.first parts x (same_back r.first (Readable k.bytes) (known_read g r First (SpellsParts parts) k m)) k.meet p)
+parts_answered P g parts k r x m (PartsSpelled q h p o) =
+    let same : q ≡ parts = parts_same r.first (Readable k.bytes) q parts (known_read g r First (SpellsParts parts) k m) h k.meet in
+    subst (λ z. P z r.second x) same p
+
+pub schedule_answered : (g : Call) (x : Answer) (machine counts : List ℕ) (parts : Source) (units : Units) → g.asked ≡ Some (Schedule machine counts) → IsKnown g First (SpellsParts parts) → IsKnown g Second (SpellUnits units) → IsCorrectAnswer g x
+    → IsOfSchedule parts units x
+schedule_answered g x machine counts parts units e k u p =
+    let f : Follows (Some (Schedule machine counts)) p.reading x = subst (λ o. Follows o p.reading x) e p.follows in
+    keys_answered Units AreNoUnits HaveUnitFault SpellUnits units_are_one (IsOfSchedule parts) Second p.reading.second (Readable u.bytes) units x (known_read g p.reading Second (SpellUnits units) u p.may_be_read) u.meet
+    (parts_answered ForSchedule g parts k p.reading x p.may_be_read f)
+
+pub bind_answered : (g : Call) (x : Answer) (machine registers : List ℕ) (parts : Source) (b : Binding) → g.asked ≡ Some (Bind machine registers) → IsKnown g First (SpellsParts parts) → IsKnown g Second (SpellsBinding (machine_of parts) b) → IsCorrectAnswer g x
+    → IsOfBinding parts b x
+bind_answered g x machine registers parts b e k u p =
+    let f : Follows (Some (Bind machine registers)) p.reading x = subst (λ o. Follows o p.reading x) e p.follows in
+    let m = machine_of parts in
+    keys_answered Binding (IsNoBinding m) (HasBindingFault m) (SpellsBinding m) (bindings_are_one m) (IsOfBinding parts) Second p.reading.second (Readable u.bytes) b x (known_read g p.reading Second (SpellsBinding m b) u p.may_be_read) u.meet
+    (parts_answered ForBind g parts k p.reading x p.may_be_read f)
 
 -- ---- certificates of closed searches
 

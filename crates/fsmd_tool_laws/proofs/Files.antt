@@ -7,7 +7,8 @@ use Rattle.command_answers.specs.declared.answer.Answer.{Answer}
 use Rattle.command_answers.specs.declared.answer.Answer.TheVariants.{TextRefused, CheckRefused}
 use Rattle.command_answers.specs.Texts.{SpellsMachine, IsMachine, IsTooLong, HasTextFault, HasCheckFault}
 use Rattle.command_answers.specs.Readings.{Content, OfBytes}
-use Rattle.command_answers.specs.Refusals.{IsUnread, Failed, Long, RefusesMachine, Unread, ByText, ByRule}
+use Rattle.command_answers.specs.Unread.{IsUnread, Failed, Long}
+use Rattle.command_answers.specs.Refusals.{RefusesMachine, Unread, ByText, ByRule}
 use Rattle.fsmd_tool_laws.specs.Agreement.{IsOpened}
 use Rattle.fsmd_tool_laws.proofs.Contents.{of_both, unreadable_bytes, bytes_opened, unreadable_opened}
 use Rattle.fsmd_tool_laws.proofs.Texts.{text_fault_once, check_fault_once, text_or_check, spells_no_text_fault, spells_no_check_fault, long_spells_none, long_no_text_fault, long_no_check_fault}

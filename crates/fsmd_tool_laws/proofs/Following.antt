@@ -1,30 +1,44 @@
 -- At most one answer follows from what was read, but for the cycle that it names.
 use Rattle.std.proofs.Common.{◌≡◌, ⊎_elim, ℕ, List, Option, Some, None, Bool, true, false, refl, sym, ◌∙◌, ap, subst}
 use Rattle.std.specs.Prelude.{is_some, IsTrue}
-use Rattle.command_words.specs.Words.{Asked, Check, Verify, Run, Replay, Fmt, Cuts, Generate}
+use Rattle.command_words.specs.Words.{Asked, Check, Verify, Run, Replay, Fmt, Cuts, Generate, Compile, Schedule, Bind}
 use Rattle.fs_model.specs.Machines.{Fsmd}
 use Rattle.fs_model.specs.Runs.{Inputs}
+use Rattle.fs_model.specs.Source.{Source}
+use Rattle.fs_rules.specs.Spelled.{machine_of}
+use Rattle.unit_counts.specs.Counts.{Units}
 use Rattle.fs_pair.specs.Interfaces.{interface_fault}
 use Rattle.command_answers.specs.declared.answer.Operand.{Operand}
 use Rattle.command_answers.specs.declared.answer.Operand.TheVariants.{First, Second, Third}
+use Rattle.command_answers.specs.declared.answer.KeyFault.{KeyFault}
 use Rattle.command_answers.specs.declared.answer.Answer.{Answer}
 use Rattle.command_answers.specs.declared.answer.Answer.TheVariants.{Text, Interfaces}
 use Rattle.command_answers.specs.Words.{is_check, compares, generated_steps}
 use Rattle.command_answers.specs.Lines.{HasLines}
-use Rattle.command_answers.specs.Texts.{SpellsMachine, IsMachine, HasCanonicalText}
+use Rattle.command_answers.specs.Texts.{SpellsParts, SpellsMachine, IsMachine, HasCanonicalText}
 use Rattle.command_answers.specs.Paths.{HasPaths}
 use Rattle.command_answers.specs.Readings.{Content, Unopened, Readable, Unreadable, OfBytes, Reading}
 use Rattle.command_answers.specs.Refusals.{ArePair, RefusesMachine, RefusesPair, FirstRefused, SecondRefused, InterfacesDiffer}
 use Rattle.command_answers.specs.Pairs.{left_of, right_of}
+use Rattle.command_answers.specs.Keys.{FollowsFromKeys}
+use Rattle.command_answers.specs.InputFiles.{IsNotJson, HasInputFault, SpellsInputs, FollowsFromInputs}
+use Rattle.command_answers.specs.Programs.{RefusesProgram, HasCompiledText}
+use Rattle.command_answers.specs.Schedules.{AreNoUnits, HaveUnitFault, SpellUnits, IsOfSchedule, ForSchedule}
+use Rattle.synthesis_answers.specs.Bindings.{Binding}
+use Rattle.command_answers.specs.Bindings.{IsNoBinding, HasBindingFault, SpellsBinding, IsOfBinding, ForBind}
 use Rattle.command_answers.specs.Runs.{IsOfRun}
 use Rattle.command_answers.specs.Replays.{IsOfReplay}
-use Rattle.command_answers.specs.Follows.{FollowsForText, TextRefused, Listed, FollowsFromInputs, FollowsFromCertificate, FollowsForRun, MachineRefused, Ran, FollowsForPair, PairRefused, Answered, ForCheck, ForVerify, ForReplay, Follows}
+use Rattle.command_answers.specs.Follows.{FollowsForText, TextRefused, Listed, FollowsForParts, PartsRefused, PartsSpelled, FollowsFromCertificate, FollowsForRun, MachineRefused, Ran, FollowsForPair, PairRefused, Answered, ForCheck, ForVerify, ForReplay, Follows}
 use Rattle.fsmd_tool_laws.specs.Agreement.{IsOpened, Agree}
 use Rattle.fsmd_tool_laws.specs.Cycles.{AreOne, AreCompared, OfFiles, OfLoops, SaySame, One, Cycles}
 use Rattle.fsmd_tool_laws.proofs.Contents.{some_same, some_none, of_both, bytes_opened}
-use Rattle.fsmd_tool_laws.proofs.Texts.{spells_once, canonical_once, canonical_machine, paths_once}
+use Rattle.fsmd_tool_laws.proofs.Texts.{spells_once, parts_once, canonical_once, canonical_machine, paths_once}
 use Rattle.fsmd_tool_laws.proofs.Files.{refused_opened, machine_once, machine_or_refused, some_or_refused}
-use Rattle.fsmd_tool_laws.proofs.Inputs.{follows_opened, follows_once}
+use Rattle.fsmd_tool_laws.proofs.Keys.{AreOneThing, follows_opened, follows_once}
+use Rattle.fsmd_tool_laws.proofs.Inputs.{inputs_are_one}
+use Rattle.fsmd_tool_laws.proofs.UnitFiles.{units_are_one, schedule_once}
+use Rattle.fsmd_tool_laws.proofs.BindingFiles.{bindings_are_one, binding_once}
+use Rattle.fsmd_tool_laws.proofs.ProgramFiles.{program_opened, program_refused_once, compiled_once, compiled_or_refused}
 use Rattle.fsmd_tool_laws.proofs.Certificates.{ReadInOneWay, judged_opened, judged_once}
 use Rattle.fsmd_tool_laws.proofs.Pairs.{pair_once}
 use Rattle.fsmd_tool_laws.proofs.Runs.{run_answer_once}
@@ -96,26 +110,94 @@ pair_follows P R r s x y e f same once (Answered a b p i o) (Answered m n q j u)
 
 -- ---- by commands
 
+-- what is refused by R or has a text by P is one thing: a file that was read, refused in one way, or with one text
+pub record AreOneText (R : Content → Answer → Type 0) (P : (text bytes : List ℕ) → Type 0) : Type 0 where
+  pub opened : (c : Content) (x : Answer) → R c x → IsOpened c
+  pub one_refusal : (c : Content) (x y : Answer) → R c x → R c y → x ≡ y
+  pub refused_or_text : (c : Content) (x : Answer) (t : List ℕ) → R c x → OfBytes c (P t) → ⊥
+  pub one_text : (b t u : List ℕ) → P t b → P u b → t ≡ u
+
 text_machine : (P : (text bytes : List ℕ) → Type 0) → ((bytes t : List ℕ) → P t bytes → IsMachine bytes) → (c : Content) (t : List ℕ) → OfBytes c (P t) → OfBytes c IsMachine
 text_machine P spells Unopened t h = absurd h
 text_machine P spells (Readable b) t h = spells b t h
 text_machine P spells Unreadable t h = absurd h
 
-pub text_once : (P : (text bytes : List ℕ) → Type 0) → ((bytes t u : List ℕ) → P t bytes → P u bytes → t ≡ u) → ((bytes t : List ℕ) → P t bytes → IsMachine bytes)
-    → (r s : Reading) (x y : Answer) → Same r.first s.first → FollowsForText P r x → FollowsForText P s y → x ≡ y
-text_once P once spells r s x y e (TextRefused p o) (TextRefused q u) = refused_same First r.first s.first x y e p q
-text_once P once spells r s x y e (TextRefused p o) (Listed l u) = absurd (some_not_refused First s.first r.first x (same_back r.first s.first e) (text_machine P spells s.first l.lines l.holds) p)
-text_once P once spells r s x y e (Listed l o) (TextRefused q u) = absurd (some_not_refused First r.first s.first y e (text_machine P spells r.first l.lines l.holds) q)
-text_once P once spells r s x y e (Listed l o) (Listed k u) =
-    let same : l.lines ≡ k.lines = of_both s.first (P l.lines) (P k.lines) (l.lines ≡ k.lines) (λ b t u. once b l.lines k.lines t u)
-    (subst (λ c. OfBytes c (P l.lines)) (e (bytes_opened r.first (P l.lines) l.holds) (bytes_opened s.first (P k.lines) k.holds)) l.holds) k.holds
+-- texts of machines
+of_machines : (P : (text bytes : List ℕ) → Type 0) → ((bytes t u : List ℕ) → P t bytes → P u bytes → t ≡ u) → ((bytes t : List ℕ) → P t bytes → IsMachine bytes) → AreOneText (RefusesMachine First) P
+of_machines P once spells = record {
+  opened = λ c x p. refused_opened First c x p;
+  one_refusal = λ c x y p q. machine_once First c x y p q;
+  refused_or_text = λ c x t p h. some_or_refused First c x (text_machine P spells c t h) p;
+  one_text = once;
+}
+
+pub canonical_texts : AreOneText (RefusesMachine First) HasCanonicalText
+canonical_texts = of_machines HasCanonicalText canonical_once canonical_machine
+
+pub path_texts : AreOneText (RefusesMachine First) HasPaths
+path_texts = of_machines HasPaths paths_once (λ bytes t h. (h.machine, h.spells))
+
+-- texts of programs
+pub compiled_texts : AreOneText (RefusesProgram First) HasCompiledText
+compiled_texts = record {
+  opened = λ c x p. program_opened First c x p;
+  one_refusal = λ c x y p q. program_refused_once First c x y p q;
+  refused_or_text = λ c x t p h. compiled_or_refused First c t x h p;
+  one_text = compiled_once;
+}
+
+pub text_once : (R : Content → Answer → Type 0) (P : (text bytes : List ℕ) → Type 0) → AreOneText R P → (r s : Reading) (x y : Answer) → Same r.first s.first → FollowsForText R P r x → FollowsForText R P s y → x ≡ y
+text_once R P o r s x y e (TextRefused p k) (TextRefused q u) = o.one_refusal s.first x y (subst (λ c. R c x) (e (o.opened r.first x p) (o.opened s.first y q)) p) q
+text_once R P o r s x y e (TextRefused p k) (Listed l u) =
+    absurd (o.refused_or_text s.first x l.lines (subst (λ c. R c x) (e (o.opened r.first x p) (bytes_opened s.first (P l.lines) l.holds)) p) l.holds)
+text_once R P o r s x y e (Listed l k) (TextRefused q u) =
+    absurd (o.refused_or_text s.first y l.lines q (subst (λ c. OfBytes c (P l.lines)) (e (bytes_opened r.first (P l.lines) l.holds) (o.opened s.first y q)) l.holds))
+text_once R P o r s x y e (Listed l k) (Listed n u) =
+    let same : l.lines ≡ n.lines = of_both s.first (P l.lines) (P n.lines) (l.lines ≡ n.lines) (λ b t v. o.one_text b l.lines n.lines t v)
+    (subst (λ c. OfBytes c (P l.lines)) (e (bytes_opened r.first (P l.lines) l.holds) (bytes_opened s.first (P n.lines) n.holds)) l.holds) n.holds
     in
-    l.is ∙ ap Text same ∙ sym k.is
+    l.is ∙ ap Text same ∙ sym n.is
+
+-- what follows from files of keys that are the same
+pub keys_once : (T : Type 0) (N : List ℕ → Type 0) (F : KeyFault → (key bytes : List ℕ) → Type 0) (S : T → List ℕ → Type 0) → AreOneThing T N F S → (P : T → Answer → Type 0) → ((v : T) (x y : Answer) → P v x → P v y → x ≡ y) → (file : Operand) (c d : Content) (x y : Answer)
+    → Same c d → FollowsFromKeys T N F S P file c x → FollowsFromKeys T N F S P file d y → x ≡ y
+keys_once T N F S o P once file c d x y e p q =
+    follows_once T N F S o P once file d x y (subst (λ k. FollowsFromKeys T N F S P file k x) (e (follows_opened T N F S P file c x p) (follows_opened T N F S P file d y q)) p) q
 
 inputs_once : (P : Inputs → Answer → Type 0) → ((ins : Inputs) (x y : Answer) → P ins x → P ins y → x ≡ y) → (m : Fsmd) (file : Operand) (c d : Content) (x y : Answer) → Same c d
     → FollowsFromInputs P m file c x → FollowsFromInputs P m file d y → x ≡ y
-inputs_once P once m file c d x y e p q =
-    follows_once P once m file d x y (subst (λ k. FollowsFromInputs P m file k x) (e (follows_opened P m file c x p) (follows_opened P m file d y q)) p) q
+inputs_once P once m file c d x y e p q = keys_once Inputs (IsNotJson m) (HasInputFault m) (SpellsInputs m) (inputs_are_one m) P once file c d x y e p q
+
+pub parts_same : (c d : Content) (p q : Source) → Same c d → OfBytes c (SpellsParts p) → OfBytes d (SpellsParts q) → p ≡ q
+parts_same c d p q e h k =
+    of_both d (SpellsParts p) (SpellsParts q) (p ≡ q) (λ b s t. parts_once b p q s t)
+    (subst (λ o. OfBytes o (SpellsParts p)) (e (bytes_opened c (SpellsParts p) h) (bytes_opened d (SpellsParts q) k)) h) k
+
+parts_machine : (c : Content) (p : Source) → OfBytes c (SpellsParts p) → OfBytes c (SpellsMachine (machine_of p))
+parts_machine Unopened p h = absurd h
+parts_machine (Readable b) p h = record { parts = p; spells = h; machine = refl }
+parts_machine Unreadable p h = absurd h
+
+pub parts_not_refused : (c d : Content) (p : Source) (x : Answer) → Same c d → OfBytes c (SpellsParts p) → RefusesMachine First d x → ⊥
+parts_not_refused c d p x e h q = machine_not_refused First c d (machine_of p) x e (parts_machine c p h) q
+
+-- one answer follows from the parts of a machine and a second file, where P says one of both
+parts_follow : (P : Source → Content → Answer → Type 0) → ((p : Source) (c d : Content) (x y : Answer) → Same c d → P p c x → P p d y → x ≡ y) → (r s : Reading) (x y : Answer) → Same r.first s.first → Same r.second s.second
+    → FollowsForParts P r x → FollowsForParts P s y → x ≡ y
+parts_follow P once r s x y e f (PartsRefused p o) (PartsRefused q u) = refused_same First r.first s.first x y e p q
+parts_follow P once r s x y e f (PartsRefused p o) (PartsSpelled k h q u) = absurd (parts_not_refused s.first r.first k x (same_back r.first s.first e) h p)
+parts_follow P once r s x y e f (PartsSpelled k h p o) (PartsRefused q u) = absurd (parts_not_refused r.first s.first k y e h q)
+parts_follow P once r s x y e f (PartsSpelled k h p o) (PartsSpelled l i q u) =
+    let same : k ≡ l = parts_same r.first s.first k l e h i in
+    once l r.second s.second x y f (subst (λ z. P z r.second x) same p) q
+
+schedules_once : (p : Source) (c d : Content) (x y : Answer) → Same c d → ForSchedule p c x → ForSchedule p d y → x ≡ y
+schedules_once p c d x y e h k = keys_once Units AreNoUnits HaveUnitFault SpellUnits units_are_one (IsOfSchedule p) (schedule_once p) Second c d x y e h k
+
+bindings_once : (p : Source) (c d : Content) (x y : Answer) → Same c d → ForBind p c x → ForBind p d y → x ≡ y
+bindings_once p c d x y e h k =
+    let m = machine_of p in
+    keys_once Binding (IsNoBinding m) (HasBindingFault m) (SpellsBinding m) (bindings_are_one m) (IsOfBinding p) (binding_once p) Second c d x y e h k
 
 run_once : (limit : ℕ) (r s : Reading) (x y : Answer) → Same r.first s.first → Same r.second s.second → FollowsForRun limit r x → FollowsForRun limit s y → x ≡ y
 run_once limit r s x y e f (MachineRefused p o) (MachineRefused q u) = refused_same First r.first s.first x y e p q
@@ -150,8 +232,11 @@ follows_from_one w (Some (Check left right cert steps)) r s x y a p q = check_on
 follows_from_one w (Some (Verify left right cert)) r s x y a p q = One (verify_once w r s x y (a.agree First refl) (a.agree Second refl) (a.agree Third refl) p q)
 follows_from_one w (Some (Run machine inputs steps)) r s x y a p q = One (run_once steps r s x y (a.agree First refl) (a.agree Second refl) p q)
 follows_from_one w (Some (Replay left right inputs steps)) r s x y a p q = One (replay_once steps r s x y (a.agree First refl) (a.agree Second refl) (a.agree Third refl) p q)
-follows_from_one w (Some (Fmt machine)) r s x y a p q = One (text_once HasCanonicalText canonical_once canonical_machine r s x y (a.agree First refl) p q)
-follows_from_one w (Some (Cuts machine)) r s x y a p q = One (text_once HasPaths paths_once (λ bytes t h. (h.machine, h.spells)) r s x y (a.agree First refl) p q)
+follows_from_one w (Some (Fmt machine)) r s x y a p q = One (text_once (RefusesMachine First) HasCanonicalText canonical_texts r s x y (a.agree First refl) p q)
+follows_from_one w (Some (Cuts machine)) r s x y a p q = One (text_once (RefusesMachine First) HasPaths path_texts r s x y (a.agree First refl) p q)
+follows_from_one w (Some (Compile program)) r s x y a p q = One (text_once (RefusesProgram First) HasCompiledText compiled_texts r s x y (a.agree First refl) p q)
+follows_from_one w (Some (Schedule machine units)) r s x y a p q = One (parts_follow ForSchedule schedules_once r s x y (a.agree First refl) (a.agree Second refl) p q)
+follows_from_one w (Some (Bind machine binding)) r s x y a p q = One (parts_follow ForBind bindings_once r s x y (a.agree First refl) (a.agree Second refl) p q)
 follows_from_one w (Some (Generate loops)) r s x y a p q =
     compared_once (Some (Generate loops)) s (left_of loops) (right_of loops) x y (OfLoops loops refl refl refl) (pair_once generated_steps false (left_of loops) (right_of loops) x y p.says q.says)
 
@@ -166,6 +251,9 @@ check_compares (Some (Replay left right inputs steps)) e = e
 check_compares (Some (Fmt machine)) e = e
 check_compares (Some (Cuts machine)) e = e
 check_compares (Some (Generate loops)) e = refl
+check_compares (Some (Compile program)) e = e
+check_compares (Some (Schedule machine units)) e = e
+check_compares (Some (Bind machine binding)) e = e
 
 compared_compares : (o : Option Asked) (r : Reading) (a b : Fsmd) → AreCompared o r a b → compares o ≡ true
 compared_compares o r a b (OfFiles checks c) = check_compares o checks

@@ -2,7 +2,11 @@ pub mod Pairs
 pub mod Texts
 pub mod Contents
 pub mod Files
+pub mod Keys
 pub mod Inputs
+pub mod UnitFiles
+pub mod BindingFiles
+pub mod ProgramFiles
 pub mod Certificates
 pub mod Runs
 pub mod Replays

@@ -1,9 +1,10 @@
 -- No file is opened behind one that is refused.
 use Rattle.std.proofs.Common.{◌≡◌, ℕ, List, Option, Some, None, false, sym, ap, subst, refl}
 use Rattle.std.specs.Prelude.{IsTrue, is_some}
-use Rattle.command_words.specs.Words.{Asked, Check, Verify, Run, Replay, Fmt, Cuts, Generate}
+use Rattle.command_words.specs.Words.{Asked, Check, Verify, Run, Replay, Fmt, Cuts, Generate, Compile, Schedule, Bind}
 use Rattle.fs_base.specs.Outside.{Held, Unknown, Nothing, Bytes}
 use Rattle.fs_model.specs.Machines.{Fsmd}
+use Rattle.fs_model.specs.Source.{Source}
 use Rattle.fs_pair.specs.Interfaces.{interface_fault}
 use Rattle.command_answers.specs.declared.answer.Operand.{Operand}
 use Rattle.command_answers.specs.declared.answer.Operand.TheVariants.{First, Second, Third}
@@ -13,14 +14,17 @@ use Rattle.command_answers.specs.Texts.{SpellsMachine, HasCanonicalText}
 use Rattle.command_answers.specs.Paths.{HasPaths}
 use Rattle.command_answers.specs.Readings.{Content, Unopened, Readable, Unreadable, Reading, content_of, OnlyFirst, OnlyTwo}
 use Rattle.command_answers.specs.Refusals.{ArePair, RefusesMachine, FirstRefused, SecondRefused, InterfacesDiffer}
-use Rattle.command_answers.specs.Follows.{FollowsForText, TextRefused, Listed, FollowsForRun, MachineRefused, Ran, FollowsForPair, PairRefused, Answered, ForCheck, ForVerify, ForReplay, Follows}
+use Rattle.command_answers.specs.Programs.{RefusesProgram, HasCompiledText}
+use Rattle.command_answers.specs.Schedules.{ForSchedule}
+use Rattle.command_answers.specs.Bindings.{ForBind}
+use Rattle.command_answers.specs.Follows.{FollowsForText, TextRefused, Listed, FollowsForParts, PartsRefused, PartsSpelled, FollowsForRun, MachineRefused, Ran, FollowsForPair, PairRefused, Answered, ForCheck, ForVerify, ForReplay, Follows}
 use Rattle.fsmd_tool.specs.Calls.{Call, held, FailedToRead, MayBeRead, MayRead}
 use Rattle.fsmd_tool.specs.Correct.{IsCorrectAnswer}
 use Rattle.fsmd_tool_laws.specs.Agreement.{IsOpened}
 use Rattle.fsmd_tool_laws.specs.Settled.{Settles, IsSettled, AreSettled, IsKnown, read_of, IsRefused, AreSettledUpToRefused, AllSettled, FirstIsRefused, SecondIsRefused, OthersAreSpelled}
 use Rattle.fsmd_tool_laws.specs.Cycles.{SaySame}
 use Rattle.fsmd_tool_laws.proofs.Certificates.{ReadInOneWay}
-use Rattle.fsmd_tool_laws.proofs.Following.{Same, machine_not_refused, some_not_refused, other_interface}
+use Rattle.fsmd_tool_laws.proofs.Following.{Same, machine_not_refused, some_not_refused, parts_not_refused, other_interface}
 use Rattle.fsmd_tool_laws.proofs.Correct.{may_be_read, known_read, correct_once, correct_one}
 
 unopened : (c : Content) → c ≡ Unopened → IsOpened c → ⊥
@@ -53,9 +57,13 @@ run_stops : (limit : ℕ) (r : Reading) (x y : Answer) (c : Content) → Same r.
 run_stops limit r x y c e q (MachineRefused p o) = o
 run_stops limit r x y c e q (Ran m h p o) = absurd (machine_not_refused First r.first c m y e h q)
 
-text_stops : (P : (text bytes : List ℕ) → Type 0) (r : Reading) (x : Answer) → FollowsForText P r x → OnlyFirst r
-text_stops P r x (TextRefused p o) = o
-text_stops P r x (Listed l o) = o
+text_stops : (R : Content → Answer → Type 0) (P : (text bytes : List ℕ) → Type 0) (r : Reading) (x : Answer) → FollowsForText R P r x → OnlyFirst r
+text_stops R P r x (TextRefused p o) = o
+text_stops R P r x (Listed l o) = o
+
+parts_stop : (P : Source → Content → Answer → Type 0) (r : Reading) (x y : Answer) (c : Content) → Same r.first c → RefusesMachine First c y → FollowsForParts P r x → OnlyFirst r
+parts_stop P r x y c e q (PartsRefused p o) = o
+parts_stop P r x y c e q (PartsSpelled k h p o) = absurd (parts_not_refused r.first c k y e h q)
 
 first_stops : (o : Option Asked) (r : Reading) (x y : Answer) (c : Content) → Same r.first c → RefusesMachine First c y → Follows o r x → OnlyFirst r
 first_stops None r x y c e q f = record { second = f.unopened.second; third = f.unopened.third }
@@ -63,8 +71,11 @@ first_stops (Some (Check left right cert steps)) r x y c e q f = pair_stops (For
 first_stops (Some (Verify left right cert)) r x y c e q f = pair_stops ForVerify r x y c e q f
 first_stops (Some (Run machine inputs steps)) r x y c e q f = run_stops steps r x y c e q f
 first_stops (Some (Replay left right inputs steps)) r x y c e q f = pair_stops (ForReplay steps) r x y c e q f
-first_stops (Some (Fmt machine)) r x y c e q f = text_stops HasCanonicalText r x f
-first_stops (Some (Cuts machine)) r x y c e q f = text_stops HasPaths r x f
+first_stops (Some (Fmt machine)) r x y c e q f = text_stops (RefusesMachine First) HasCanonicalText r x f
+first_stops (Some (Cuts machine)) r x y c e q f = text_stops (RefusesMachine First) HasPaths r x f
+first_stops (Some (Compile program)) r x y c e q f = text_stops (RefusesProgram First) HasCompiledText r x f
+first_stops (Some (Schedule machine units)) r x y c e q f = parts_stop ForSchedule r x y c e q f
+first_stops (Some (Bind machine binding)) r x y c e q f = parts_stop ForBind r x y c e q f
 first_stops (Some (Generate loops)) r x y c e q f = record { second = f.unopened.second; third = f.unopened.third }
 
 first_refused : (g : Call) (r : Reading) (x : Answer) → MayRead g r → Follows g.asked r x → IsRefused g First → (file : Operand) → IsOpened (content_of r file) → IsSettled g file
@@ -85,14 +96,21 @@ run_ends : (limit : ℕ) (r : Reading) (x : Answer) → FollowsForRun limit r x 
 run_ends limit r x (MachineRefused p o) = record { third = o.third }
 run_ends limit r x (Ran m h p o) = o
 
+parts_end : (P : Source → Content → Answer → Type 0) (r : Reading) (x : Answer) → FollowsForParts P r x → OnlyTwo r
+parts_end P r x (PartsRefused p o) = record { third = o.third }
+parts_end P r x (PartsSpelled k h p o) = o
+
 two_end : (o : Option Asked) (r : Reading) (x : Answer) → ((a b : Fsmd) → ArePair r a b → interface_fault a b ≡ None → ⊥) → Follows o r x → OnlyTwo r
 two_end None r x none f = record { third = f.unopened.third }
 two_end (Some (Check left right cert steps)) r x none f = pair_ends (ForCheck steps (is_some cert)) r x none f
 two_end (Some (Verify left right cert)) r x none f = pair_ends ForVerify r x none f
 two_end (Some (Run machine inputs steps)) r x none f = run_ends steps r x f
 two_end (Some (Replay left right inputs steps)) r x none f = pair_ends (ForReplay steps) r x none f
-two_end (Some (Fmt machine)) r x none f = record { third = (text_stops HasCanonicalText r x f).third }
-two_end (Some (Cuts machine)) r x none f = record { third = (text_stops HasPaths r x f).third }
+two_end (Some (Fmt machine)) r x none f = record { third = (text_stops (RefusesMachine First) HasCanonicalText r x f).third }
+two_end (Some (Cuts machine)) r x none f = record { third = (text_stops (RefusesMachine First) HasPaths r x f).third }
+two_end (Some (Compile program)) r x none f = record { third = (text_stops (RefusesProgram First) HasCompiledText r x f).third }
+two_end (Some (Schedule machine units)) r x none f = parts_end ForSchedule r x f
+two_end (Some (Bind machine binding)) r x none f = parts_end ForBind r x f
 two_end (Some (Generate loops)) r x none f = record { third = f.unopened.third }
 
 two_settled : (g : Call) (r : Reading) (x : Answer) → IsSettled g First → IsSettled g Second → ((a b : Fsmd) → ArePair r a b → interface_fault a b ≡ None → ⊥) → Follows g.asked r x

@@ -14,7 +14,7 @@ use Rattle.fs_ast.specs.Rules.{rank, is_sooner, plain_faults, branch_faults, IsF
 use Rattle.fs_write.specs.Canonical.{canonical}
 use Rattle.fs_model.specs.Limits.{most_text_bytes}
 use Rattle.fs_text_laws.proofs.Texts.{one_source, one_fault, not_both}
-use Rattle.command_answers.specs.Texts.{SpellsMachine, IsMachine, HasCanonicalText, IsTooLong, HasTextFault, HasCheckFault}
+use Rattle.command_answers.specs.Texts.{SpellsParts, SpellsMachine, IsMachine, HasCanonicalText, IsTooLong, HasTextFault, HasCheckFault}
 use Rattle.path_text.specs.Paths.{paths_text}
 use Rattle.command_answers.specs.Paths.{HasPaths}
 
@@ -53,7 +53,7 @@ rank_same r s e = sym (rule_back r) ∙ ap rule_at e ∙ rule_back s
 fault_same : (f g : CheckFault) → f.rule ≡ g.rule → f.line ≡ g.line → f ≡ g
 fault_same f g e h = λ i. record { rule = e i; line = h i }
 
-first_broken_once : (p : Source) (f g : CheckFault) → IsFirstBroken p f → IsFirstBroken p g → f ≡ g
+pub first_broken_once : (p : Source) (f g : CheckFault) → IsFirstBroken p f → IsFirstBroken p g → f ≡ g
 first_broken_once p f g s t =
     let e : is_sooner g f ≡ false = s.first g t.broken in
     let h : is_sooner f g ≡ false = t.first f s.broken in
@@ -62,7 +62,7 @@ first_broken_once p f g s t =
 nothing_there : {A : Type 0} (xs : List A) (x : A) → xs ≡ [] → Contains xs x → ⊥
 nothing_there xs x e c = let h : c.0 < length xs = c.1 in let n : length xs ≡ 0 = ap length e in omega arith
 
-lawful_unbroken : (p : Source) (f : CheckFault) → IsLawful p → IsFirstBroken p f → ⊥
+pub lawful_unbroken : (p : Source) (f : CheckFault) → IsLawful p → IsFirstBroken p f → ⊥
 lawful_unbroken p f l b =
     ⊎_elim (λ c. nothing_there (plain_faults p) f l.plain c) (λ late. ⊎_elim (λ c. nothing_there (branch_faults p) f l.branches c) (λ e. l.ends f.line e.1) late.1) b.broken
 
@@ -73,6 +73,9 @@ few_not_many n m h k = omega arith
 
 pub spells_once : (bytes : List ℕ) (m n : Fsmd) → SpellsMachine m bytes → SpellsMachine n bytes → m ≡ n
 spells_once bytes m n s t = s.machine ∙ ap machine_of (one_source bytes s.parts t.parts s.spells.spells t.spells.spells) ∙ sym t.machine
+
+pub parts_once : (bytes : List ℕ) (p q : Source) → SpellsParts p bytes → SpellsParts q bytes → p ≡ q
+parts_once bytes p q s t = one_source bytes p q s.spells t.spells
 
 pub text_fault_once : (bytes : List ℕ) (f g : TextFault) → HasTextFault f bytes → HasTextFault g bytes → f ≡ g
 text_fault_once bytes f g s t = one_fault bytes f g s.stops t.stops

@@ -1,10 +1,12 @@
 //! Laws of files and answers, over the definitions alone. The functions do nothing: those that they call are laws.
 
 ghost use Rattle.std.specs.Prelude.{◌≡◌, ◌<◌, ℕ, Bool, IsTrue, List, Option, Some, true, false, is_some, codes};
-ghost use Rattle.command_words.specs.Words.{Asked, Run, Replay, Fmt, Cuts, Generate};
+ghost use Rattle.command_words.specs.Words.{Asked, Run, Replay, Fmt, Cuts, Generate, Compile, Schedule, Bind};
 ghost use Rattle.fs_model.specs.Limits.{most_text_bytes};
 ghost use Rattle.fs_model.specs.Machines.{Fsmd};
 ghost use Rattle.fs_model.specs.Runs.{Inputs};
+ghost use Rattle.fs_model.specs.Source.{Source};
+ghost use Rattle.fs_rules.specs.Spelled.{machine_of};
 ghost use Rattle.fs_grammar.specs.declared.fault.TextFault.{TextFault};
 ghost use Rattle.fs_rules.specs.declared.check.CheckFault.{CheckFault};
 ghost use Rattle.fs_trials.specs.Pool.{pool_of};
@@ -22,9 +24,15 @@ ghost use Rattle.command_answers.specs.declared.answer.Answer.TheVariants.{Text}
 ghost use Rattle.command_answers.specs.Statuses.{status_of};
 ghost use Rattle.command_answers.specs.Words.{cert_of, is_check, is_verify, compares, step_limit};
 ghost use Rattle.command_answers.specs.Paths.{HasPaths};
-ghost use Rattle.command_answers.specs.Texts.{SpellsMachine, HasCanonicalText, IsTooLong, HasTextFault, HasCheckFault};
+ghost use Rattle.command_answers.specs.Texts.{SpellsParts, SpellsMachine, HasCanonicalText, IsTooLong, HasTextFault, HasCheckFault};
 ghost use Rattle.command_answers.specs.Readings.{Reading};
-ghost use Rattle.command_answers.specs.Refusals.{SpellsInputs, SpellsCertificate, HasCertFault};
+ghost use Rattle.command_answers.specs.Refusals.{SpellsCertificate, HasCertFault};
+ghost use Rattle.command_answers.specs.InputFiles.{SpellsInputs};
+ghost use Rattle.command_answers.specs.Programs.{HasCompiledText};
+ghost use Rattle.unit_counts.specs.Counts.{Units};
+ghost use Rattle.command_answers.specs.Schedules.{SpellUnits, IsOfSchedule};
+ghost use Rattle.synthesis_answers.specs.Bindings.{Binding};
+ghost use Rattle.command_answers.specs.Bindings.{SpellsBinding, IsOfBinding};
 ghost use Rattle.command_answers.specs.Pairs.{IsOfPair, IsOfLoops};
 ghost use Rattle.command_answers.specs.Verdicts.{IsJudged};
 ghost use Rattle.command_answers.specs.Runs.{IsOfRun};
@@ -119,7 +127,8 @@ pub fn files_up_to_the_refused_one_settle_the_answer()
 /// Machines that are spelled and have the same inputs and outputs are answered, and not refused. Two that are compared
 /// are equivalent, have a counterexample, or are undecided by an obstacle. A certificate of theirs that is spelled is
 /// judged: by its verdict, which is yes, no or undecided. Inputs that are spelled are run from: by one machine, or by two. The
-/// answer to `fmt` is the canonical text of the machine, and that to `cuts` the list of its paths.
+/// answer to `fmt` is the canonical text of the machine, and that to `cuts` the list of its paths. A program whose parts break no
+/// rule is answered by their canonical text; parts that are spelled are answered under unit counts, and by a binding.
 pub fn machines_are_answered()
     ensures check { (g : Call) (x : Answer) (a b : Fsmd) → is_check g.asked ≡ true → SpellPair g a b → IsCorrectAnswer g x → IsOfPair (step_limit g.asked) (is_some (cert_of g.asked)) a b x }
     ensures verify { (g : Call) (x : Answer) (a b : Fsmd) (nodes : List (Node Fact)) → is_verify g.asked ≡ true → SpellPair g a b → IsKnown g Third (SpellsCertificate a b nodes) → IsCorrectAnswer g x → IsJudged a b nodes x }
@@ -128,6 +137,9 @@ pub fn machines_are_answered()
     ensures replay { (g : Call) (x : Answer) (left right inputs : List ℕ) (steps : ℕ) (a b : Fsmd) (ins : Inputs) → g.asked ≡ Some (Replay left right inputs steps) → SpellPair g a b → IsKnown g Third (SpellsInputs a ins) → IsCorrectAnswer g x → IsOfReplay steps a b ins x }
     ensures fmt { (g : Call) (x : Answer) (machine text : List ℕ) → g.asked ≡ Some (Fmt machine) → IsKnown g First (HasCanonicalText text) → IsCorrectAnswer g x → x ≡ Text text }
     ensures cuts { (g : Call) (x : Answer) (machine text : List ℕ) → g.asked ≡ Some (Cuts machine) → IsKnown g First (HasPaths text) → IsCorrectAnswer g x → x ≡ Text text }
+    ensures compile { (g : Call) (x : Answer) (program text : List ℕ) → g.asked ≡ Some (Compile program) → IsKnown g First (HasCompiledText text) → IsCorrectAnswer g x → x ≡ Text text }
+    ensures schedule { (g : Call) (x : Answer) (machine counts : List ℕ) (parts : Source) (units : Units) → g.asked ≡ Some (Schedule machine counts) → IsKnown g First (SpellsParts parts) → IsKnown g Second (SpellUnits units) → IsCorrectAnswer g x → IsOfSchedule parts units x }
+    ensures bind { (g : Call) (x : Answer) (machine registers : List ℕ) (parts : Source) (b : Binding) → g.asked ≡ Some (Bind machine registers) → IsKnown g First (SpellsParts parts) → IsKnown g Second (SpellsBinding (machine_of parts) b) → IsCorrectAnswer g x → IsOfBinding parts b x }
 {
     certificates_are_read_in_one_way();
     texts_are_read();

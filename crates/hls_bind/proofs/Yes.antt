@@ -38,7 +38,7 @@ module _ (p q : Source) (m : Fsmd) (b : List (ℕ × List ℕ)) (built : IsBuilt
   formed = ap is_well_formed x.parts ∙ bound_formed b x.registers p built.formed
 
   pub lawful : IsLawful q
-  lawful = subst (λ (s : Source). IsLawful s) (sym x.parts) (bound_lawful b x.registers p sound_p binds_p x.are (λ c t. free_p.none c (inl t)) built.lawful)
+  lawful = subst (λ (s : Source). IsLawful s) (sym x.parts) (bound_lawful b x.registers p sound_p binds_p x.are (λ c t. free_p.none c (inl t)))
 
   pub is_yes : (k : Fsmd) → k ≡ machine_of q → IsSound k → IsYes p m b q k
   is_yes k e s =

@@ -6,4 +6,4 @@ pub returns-clause-formed : goal.returns-clause-formed
 returns-clause-formed c = λ p b rs h. bound_formed b rs p h
 
 pub returns-clause-lawful : goal.returns-clause-lawful
-returns-clause-lawful c = λ p b rs sound lawful binds are never. bound_lawful b rs p sound binds are never lawful
+returns-clause-lawful c = λ p b rs sound lawful binds are never. bound_lawful b rs p sound binds are never

@@ -13,4 +13,7 @@ returns c = record {
   replay = λ a b d p q r. rw (no_hyphens a p, no_long a p, no_short a p, no_hyphens b q, no_long b q, no_short b q, no_hyphens d r, no_long d r, no_short d r) (refl, refl);
   fmt = λ a p. rw (no_hyphens a p, no_long a p, no_short a p) (refl, refl);
   cuts = λ a p. rw (no_hyphens a p, no_long a p, no_short a p) (refl, refl);
+  compile = λ a p. rw (no_hyphens a p, no_long a p, no_short a p) (refl, refl);
+  schedule = λ a b p q. rw (no_hyphens a p, no_long a p, no_short a p, no_hyphens b q, no_long b q, no_short b q) (refl, refl);
+  bind = λ a b p q. rw (no_hyphens a p, no_long a p, no_short a p, no_hyphens b q, no_long b q, no_short b q) (refl, refl);
 }

@@ -1,6 +1,8 @@
 use Rattle.std.proofs.Common.{rules, Some}
 use Rattle.command_words.specs.Words.{asked}
 use Rattle.fsmd_tool.specs.Calls.{call, IsCorrectBy}
+use Rattle.command_answers.specs.declared.answer.Operand.TheVariants.{First}
+use Rattle.command_answers.specs.Refusals.{RefusesMachine}
 use Rattle.command_answers.specs.Refusing.{WhereAnswered}
 use Rattle.command_answers.specs.Paths.{HasPaths}
 use Rattle.command_answers.specs.Follows.{FollowsForText, TextRefused}
@@ -9,7 +11,7 @@ use Rattle.fsmd_tool.proofs.answers.cut_paths.Goals as goal
 
 pub returns-in_err-machine-clause-refused : goal.returns-in_err-machine-clause-refused
 returns-in_err-machine-clause-refused g c =
-    let h : WhereAnswered (IsCorrectBy (FollowsForText HasPaths) (call (Some (asked c.args.ask.now)) (g.F.Files.holds c.args.files.now) (g.F.Files.faults c.args.files.now) (g.F.Files.faults c.load_machine.new.files))) c.in_err-machine.field-0.0 = machine_refused (FollowsForText HasPaths) _ _ (λ r x p o. TextRefused p o) c.in_err-machine.ensures.refused in
+    let h : WhereAnswered (IsCorrectBy (FollowsForText (RefusesMachine First) HasPaths) (call (Some (asked c.args.ask.now)) (g.F.Files.holds c.args.files.now) (g.F.Files.faults c.args.files.now) (g.F.Files.faults c.load_machine.new.files))) c.in_err-machine.field-0.0 = machine_refused (FollowsForText (RefusesMachine First) HasPaths) _ _ (λ r x p o. TextRefused p o) c.in_err-machine.ensures.refused in
     search rules
 
 pub returns-clause-ok : goal.returns-clause-ok

@@ -1,6 +1,8 @@
 use Rattle.std.proofs.Common.{rules, Some}
 use Rattle.command_words.specs.Words.{asked}
 use Rattle.fsmd_tool.specs.Calls.{call, IsCorrectBy}
+use Rattle.command_answers.specs.declared.answer.Operand.TheVariants.{First}
+use Rattle.command_answers.specs.Refusals.{RefusesMachine}
 use Rattle.command_answers.specs.Refusing.{WhereAnswered}
 use Rattle.command_answers.specs.Texts.{HasCanonicalText}
 use Rattle.command_answers.specs.Follows.{FollowsForText, TextRefused}
@@ -9,7 +11,7 @@ use Rattle.fsmd_tool.proofs.answers.format_text.Goals as goal
 
 pub returns-in_err-parts-clause-refused : goal.returns-in_err-parts-clause-refused
 returns-in_err-parts-clause-refused g c =
-    let h : WhereAnswered (IsCorrectBy (FollowsForText HasCanonicalText) (call (Some (asked c.args.ask.now)) (g.F.Files.holds c.args.files.now) (g.F.Files.faults c.args.files.now) (g.F.Files.faults c.load.new.files))) c.in_err-parts.field-0.0 = machine_refused (FollowsForText HasCanonicalText) _ _ (λ r x p o. TextRefused p o) c.in_err-parts.ensures.refused in
+    let h : WhereAnswered (IsCorrectBy (FollowsForText (RefusesMachine First) HasCanonicalText) (call (Some (asked c.args.ask.now)) (g.F.Files.holds c.args.files.now) (g.F.Files.faults c.args.files.now) (g.F.Files.faults c.load.new.files))) c.in_err-parts.field-0.0 = machine_refused (FollowsForText (RefusesMachine First) HasCanonicalText) _ _ (λ r x p o. TextRefused p o) c.in_err-parts.ensures.refused in
     search rules
 
 pub returns-in-Ok-clause-ok : goal.returns-in-Ok-clause-ok

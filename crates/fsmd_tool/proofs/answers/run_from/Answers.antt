@@ -6,7 +6,7 @@ use Rattle.command_answers.specs.Refusing.{WhereAnswered}
 use Rattle.fs_runs.specs.InputValues.{inputs_of}
 use Rattle.command_answers.specs.declared.answer.Operand.TheVariants.{Second}
 use Rattle.command_answers.specs.Runs.{IsOfRun}
-use Rattle.command_answers.specs.Follows.{FollowsFromInputs}
+use Rattle.command_answers.specs.InputFiles.{FollowsFromInputs}
 use Rattle.fsmd_tool.proofs.FromFiles.{inputs_refused, inputs_spelled}
 use Rattle.fsmd_tool.proofs.answers.run_from.Goals as goal
 

@@ -45,6 +45,24 @@ returns-in-Cuts-clause-ok g c = as_ok _ _ c.cut_paths.result (ap (λ (k : Ask). 
 pub returns-in-Cuts-clause-refused : goal.returns-in-Cuts-clause-refused
 returns-in-Cuts-clause-refused g c = as_refused _ _ c.cut_paths.result (ap (λ (k : Ask). Some (asked k)) c.in-Cuts.is) c.cut_paths.ensures.refused
 
+pub returns-in-Compile-clause-ok : goal.returns-in-Compile-clause-ok
+returns-in-Compile-clause-ok g c = as_ok _ _ c.compile_file.result (ap (λ (k : Ask). Some (asked k)) c.in-Compile.is) c.compile_file.ensures.ok
+
+pub returns-in-Compile-clause-refused : goal.returns-in-Compile-clause-refused
+returns-in-Compile-clause-refused g c = as_refused _ _ c.compile_file.result (ap (λ (k : Ask). Some (asked k)) c.in-Compile.is) c.compile_file.ensures.refused
+
+pub returns-in-Schedule-clause-ok : goal.returns-in-Schedule-clause-ok
+returns-in-Schedule-clause-ok g c = as_ok _ _ c.schedule_files.result (ap (λ (k : Ask). Some (asked k)) c.in-Schedule.is) c.schedule_files.ensures.ok
+
+pub returns-in-Schedule-clause-refused : goal.returns-in-Schedule-clause-refused
+returns-in-Schedule-clause-refused g c = as_refused _ _ c.schedule_files.result (ap (λ (k : Ask). Some (asked k)) c.in-Schedule.is) c.schedule_files.ensures.refused
+
+pub returns-in-Bind-clause-ok : goal.returns-in-Bind-clause-ok
+returns-in-Bind-clause-ok g c = as_ok _ _ c.bind_files.result (ap (λ (k : Ask). Some (asked k)) c.in-Bind.is) c.bind_files.ensures.ok
+
+pub returns-in-Bind-clause-refused : goal.returns-in-Bind-clause-refused
+returns-in-Bind-clause-refused g c = as_refused _ _ c.bind_files.result (ap (λ (k : Ask). Some (asked k)) c.in-Bind.is) c.bind_files.ensures.refused
+
 pub check-requires : goal.check-requires
 check-requires g c = let limits = rw c.in-Check.is at c.requires in limits.0
 

@@ -2,6 +2,7 @@ use Rattle.std.proofs.Common.{◌≡◌, refl}
 use Rattle.command_answers.specs.declared.answer.Status.TheVariants.{NoMemory, Fine, Differ, Undecided, Fault}
 use Rattle.fsmd_tool.specs.Correct.{Starves}
 use Rattle.fsmd_tool.proofs.Says.{says_same, says_differ, says_undecided, is_checked}
+use Rattle.fsmd_tool.proofs.Synthesized.{is_compiled, is_in_rows, is_in_registers}
 use Rattle.fsmd_tool.proofs.Causes.{has_cause}
 use Rattle.fsmd_tool.proofs.drive.drive.Goals as goal
 
@@ -16,6 +17,15 @@ returns-in-Ok-clause-undecided g c = says_undecided _ _ _ c.in-Ok.ensures.answer
 
 pub returns-in-Ok-clause-checked : goal.returns-in-Ok-clause-checked
 returns-in-Ok-clause-checked g c = is_checked _ _ _ c.in-Ok.ensures.answered
+
+pub returns-in-Ok-clause-compiled : goal.returns-in-Ok-clause-compiled
+returns-in-Ok-clause-compiled g c = is_compiled _ _ _ c.in-Ok.ensures.answered
+
+pub returns-in-Ok-clause-in_rows : goal.returns-in-Ok-clause-in_rows
+returns-in-Ok-clause-in_rows g c = is_in_rows _ _ _ c.in-Ok.ensures.answered
+
+pub returns-in-Ok-clause-in_registers : goal.returns-in-Ok-clause-in_registers
+returns-in-Ok-clause-in_registers g c = is_in_registers _ _ _ c.in-Ok.ensures.answered
 
 pub returns-in-Ok-clause-fault : goal.returns-in-Ok-clause-fault
 returns-in-Ok-clause-fault g c = has_cause _ _ _ c.in-Ok.ensures.answered
@@ -34,6 +44,15 @@ returns-in-Err-clause-undecided g c = λ e t. absurd (let h : NoMemory ≡ Undec
 
 pub returns-in-Err-clause-checked : goal.returns-in-Err-clause-checked
 returns-in-Err-clause-checked g c = λ e t. absurd (let h : NoMemory ≡ Fine = e in cc)
+
+pub returns-in-Err-clause-compiled : goal.returns-in-Err-clause-compiled
+returns-in-Err-clause-compiled g c = λ e p t. absurd (let h : NoMemory ≡ Fine = e in cc)
+
+pub returns-in-Err-clause-in_rows : goal.returns-in-Err-clause-in_rows
+returns-in-Err-clause-in_rows g c = λ e m u t. absurd (let h : NoMemory ≡ Fine = e in cc)
+
+pub returns-in-Err-clause-in_registers : goal.returns-in-Err-clause-in_registers
+returns-in-Err-clause-in_registers g c = λ e m b t. absurd (let h : NoMemory ≡ Fine = e in cc)
 
 pub returns-in-Err-clause-fault : goal.returns-in-Err-clause-fault
 returns-in-Err-clause-fault g c = λ e. absurd (let h : NoMemory ≡ Fault = e in cc)

@@ -1,6 +1,6 @@
 use Rattle.std.proofs.Common.{sym, subst}
 use Rattle.fs_base.specs.Outside.{AreHeld}
-use Rattle.command_answers.specs.Refusals.{RefusesInputs}
+use Rattle.command_answers.specs.InputFiles.{RefusesInputs}
 use Rattle.fsmd_tool.proofs.FromFiles.{bytes_given}
 use Rattle.fsmd_tool.proofs.load.load_inputs.Goals as goal
 

@@ -1,4 +1,4 @@
-use Rattle.fsmd_tool_laws.proofs.Correct.{machines_checked, certificate_judged, loops_answered, run_answered, replay_answered, fmt_answered, cuts_answered}
+use Rattle.fsmd_tool_laws.proofs.Correct.{machines_checked, certificate_judged, loops_answered, run_answered, replay_answered, fmt_answered, cuts_answered, compile_answered, schedule_answered, bind_answered}
 use Rattle.fsmd_tool_laws.proofs.Certificates.{ReadInOneWay}
 use Rattle.fsmd_tool_laws.proofs.laws.machines_are_answered.Goals as goal
 
@@ -24,3 +24,12 @@ returns-clause-fmt c = fmt_answered
 
 pub returns-clause-cuts : goal.returns-clause-cuts
 returns-clause-cuts c = cuts_answered
+
+pub returns-clause-compile : goal.returns-clause-compile
+returns-clause-compile c = compile_answered
+
+pub returns-clause-schedule : goal.returns-clause-schedule
+returns-clause-schedule c = schedule_answered
+
+pub returns-clause-bind : goal.returns-clause-bind
+returns-clause-bind c = bind_answered

@@ -1,0 +1,9 @@
+use Rattle.std.proofs.Common.{refl}
+use Rattle.program_parts.specs.View.{program_of}
+use Rattle.command_answers.specs.Programs.{ProgramByRule}
+use Rattle.command_answers.proofs.programs.compile_program.Goals as goal
+
+pub returns-in-Err-Check-clause-refused : goal.returns-in-Err-Check-clause-refused
+returns-in-Err-Check-clause-refused c =
+    let broken = rw c.in-Err-Check.field-0-is at c.in-Err-Check.ensures.refused in
+    ProgramByRule c.in-Err-Check.fault (record { program = program_of c.in_ok-program.program; few = c.requires; spells = c.in_ok-program.ensures.spells; broken = broken }) refl

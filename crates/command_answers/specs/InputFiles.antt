@@ -1,0 +1,51 @@
+-- Files of a machine's inputs.
+use Rattle.std.specs.Prelude.{◌≡◌, ℕ, ◌≤◌, List, length}
+use Rattle.fs_model.specs.Limits.{most_text_bytes}
+use Rattle.fs_model.specs.Machines.{Fsmd}
+use Rattle.fs_model.specs.Runs.{Inputs}
+use Rattle.fs_runs.specs.InputValues.{Signature, input_signatures}
+use Rattle.fs_inputs.specs.declared.faults.Fault.{Fault}
+use Rattle.fs_inputs.specs.declared.faults.Fault.TheVariants as faults
+use Rattle.fs_inputs.specs.declared.faults.InputError.TheVariants as errors
+use Rattle.fs_inputs.specs.Refusals.{IsFaulty, IsRefused, Spells}
+use Rattle.command_answers.specs.declared.answer.Operand.{Operand}
+use Rattle.command_answers.specs.declared.answer.KeyFault.{KeyFault}
+use Rattle.command_answers.specs.declared.answer.KeyFault.TheVariants as keys
+use Rattle.command_answers.specs.declared.answer.Answer.{Answer}
+use Rattle.command_answers.specs.Readings.{Content}
+use Rattle.command_answers.specs.Keys.{RefusesKeys, FollowsFromKeys}
+
+-- the names and sorts of a machine's inputs
+abbrev pub signatures : Fsmd → List Signature
+signatures m = input_signatures m.variables
+
+-- what is wrong at the name of an input
+abbrev pub input_fault : Fault → KeyFault
+input_fault faults.Shape = keys.Shape
+input_fault faults.Unknown = keys.UnknownName
+input_fault faults.TooBig = keys.NumberTooBig
+
+-- bytes that are read are not JSON
+pub record IsNotJson (m : Fsmd) (bytes : List ℕ) : Type 0 where
+  pub few : length bytes ≤ most_text_bytes
+  pub refused : IsRefused (signatures m) bytes errors.NotJson
+
+-- bytes that are read are JSON, whose first fault as inputs of a machine is this, at this name
+pub record HasInputFault (m : Fsmd) (fault : KeyFault) (name bytes : List ℕ) : Type 0 where
+  pub few : length bytes ≤ most_text_bytes
+  pub kind : Fault
+  pub is : fault ≡ input_fault kind
+  pub faulty : IsFaulty (signatures m) bytes name kind
+
+-- bytes that are read spell inputs of a machine
+pub record SpellsInputs (m : Fsmd) (ins : Inputs) (bytes : List ℕ) : Type 0 where
+  pub few : length bytes ≤ most_text_bytes
+  pub spells : Spells (signatures m) bytes ins
+
+-- why a file of a machine's inputs is refused
+abbrev pub RefusesInputs : Fsmd → Operand → Content → Answer → Type 0
+RefusesInputs m file content answer = RefusesKeys (IsNotJson m) (HasInputFault m) file content answer
+
+-- what follows for a file of a machine's inputs: it is refused, or spells inputs of which P says the answer
+abbrev pub FollowsFromInputs : (Inputs → Answer → Type 0) → Fsmd → Operand → Content → Answer → Type 0
+FollowsFromInputs P m file content answer = FollowsFromKeys Inputs (IsNotJson m) (HasInputFault m) (SpellsInputs m) P file content answer

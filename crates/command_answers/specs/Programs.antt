@@ -1,0 +1,44 @@
+-- What the bytes of a file spell as a program, and the machine to which it is compiled.
+use Rattle.std.specs.Prelude.{◌≡◌, ℕ, ◌≤◌, List, length}
+use Rattle.fs_model.specs.Limits.{most_text_bytes}
+use Rattle.fs_grammar.specs.declared.fault.TextFault.{TextFault}
+use Rattle.fs_rules.specs.declared.check.CheckFault.{CheckFault}
+use Rattle.fs_rules.specs.Rules.{IsFirstBroken}
+use Rattle.program_laws.specs.Programs.{Program}
+use Rattle.program_laws.specs.Compiled.{parts_of}
+use Rattle.program_grammar.specs.Texts.{TextSpells as ProgramSpells, TextStops as ProgramStops}
+use Rattle.synthesis_answers.specs.Programs.{IsCompiledText}
+use Rattle.command_answers.specs.declared.answer.Operand.{Operand}
+use Rattle.command_answers.specs.declared.answer.Answer.{Answer}
+use Rattle.command_answers.specs.declared.answer.Answer.TheVariants.{TextRefused, CheckRefused}
+use Rattle.command_answers.specs.Readings.{Content, OfBytes}
+use Rattle.command_answers.specs.Unread.{IsUnread}
+
+-- the bytes spell this program
+pub record SpellsProgram (program : Program) (bytes : List ℕ) : Type 0 where
+  pub few : length bytes ≤ most_text_bytes
+  pub spells : ProgramSpells bytes program
+
+-- the bytes spell a program, and this is the text of what it is compiled to
+pub record HasCompiledText (text bytes : List ℕ) : Type 0 where
+  pub program : Program
+  pub spells : SpellsProgram program bytes
+  pub compiled : IsCompiledText program text
+
+-- the bytes spell no program: they are faulty here
+pub record HasProgramFault (fault : TextFault) (bytes : List ℕ) : Type 0 where
+  pub few : length bytes ≤ most_text_bytes
+  pub stops : ProgramStops bytes fault
+
+-- the bytes spell a program, and this is the rule that its parts break first
+pub record BreaksRule (fault : CheckFault) (bytes : List ℕ) : Type 0 where
+  pub program : Program
+  pub few : length bytes ≤ most_text_bytes
+  pub spells : ProgramSpells bytes program
+  pub broken : IsFirstBroken (parts_of program) fault
+
+-- why the file of a program is refused: by its text, or by the rules of machines
+pub data RefusesProgram (file : Operand) (content : Content) (answer : Answer) : Type 0 where
+  UnreadProgram : IsUnread most_text_bytes file content answer → RefusesProgram file content answer
+  ProgramByText : (fault : TextFault) → OfBytes content (HasProgramFault fault) → answer ≡ TextRefused file fault → RefusesProgram file content answer
+  ProgramByRule : (fault : CheckFault) → OfBytes content (BreaksRule fault) → answer ≡ CheckRefused file fault → RefusesProgram file content answer

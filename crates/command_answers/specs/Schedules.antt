@@ -1,0 +1,58 @@
+-- Files of unit counts, and which answer a machine gets under them.
+use Rattle.std.specs.Prelude.{◌≡◌, ℕ, ◌≤◌, List, length, Some}
+use Rattle.fs_model.specs.Limits.{most_text_bytes}
+use Rattle.fs_model.specs.Source.{Source}
+use Rattle.fs_rules.specs.Spelled.{machine_of}
+use Rattle.fs_ast.specs.Stored.{name_of}
+use Rattle.unit_counts.specs.declared.units.Unit.{Unit as Kind}
+use Rattle.unit_counts.specs.declared.faults.Fault.{Fault}
+use Rattle.unit_counts.specs.declared.faults.Fault.TheVariants as faults
+use Rattle.unit_counts.specs.declared.faults.UnitError.TheVariants as errors
+use Rattle.unit_counts.specs.Counts.{Units}
+use Rattle.unit_counts.specs.Refusals.{Spells, IsFaulty, IsRefused}
+use Rattle.unit_limits.specs.Over.{over_in}
+use Rattle.synthesis_answers.specs.Schedules.{IsScheduleText}
+use Rattle.command_answers.specs.declared.answer.Operand.{Operand}
+use Rattle.command_answers.specs.declared.answer.Operand.TheVariants.{Second}
+use Rattle.command_answers.specs.declared.answer.KeyFault.{KeyFault}
+use Rattle.command_answers.specs.declared.answer.KeyFault.TheVariants as keys
+use Rattle.command_answers.specs.declared.answer.Answer.{Answer}
+use Rattle.command_answers.specs.declared.answer.Answer.TheVariants.{Text, Over}
+use Rattle.command_answers.specs.Lines.{HasLines}
+use Rattle.command_answers.specs.Readings.{Content}
+use Rattle.command_answers.specs.Keys.{RefusesKeys, FollowsFromKeys}
+
+-- what is wrong at the key of a kind of unit
+abbrev pub unit_fault : Fault → KeyFault
+unit_fault faults.Shape = keys.Shape
+unit_fault faults.Unknown = keys.UnknownName
+
+-- bytes that are read are not JSON
+pub record AreNoUnits (bytes : List ℕ) : Type 0 where
+  pub few : length bytes ≤ most_text_bytes
+  pub refused : IsRefused bytes errors.NotJson
+
+-- bytes that are read are JSON, whose first fault as unit counts is this, at this key
+pub record HaveUnitFault (fault : KeyFault) (key bytes : List ℕ) : Type 0 where
+  pub few : length bytes ≤ most_text_bytes
+  pub kind : Fault
+  pub is : fault ≡ unit_fault kind
+  pub faulty : IsFaulty bytes key kind
+
+-- bytes that are read spell these unit counts
+pub record SpellUnits (units : Units) (bytes : List ℕ) : Type 0 where
+  pub few : length bytes ≤ most_text_bytes
+  pub spells : Spells bytes units
+
+-- why a file of unit counts is refused
+abbrev pub RefusesUnits : Operand → Content → Answer → Type 0
+RefusesUnits file content answer = RefusesKeys AreNoUnits HaveUnitFault file content answer
+
+-- the answer to the machine of these parts under these units: its schedule, or the first state of which a transition uses more of a unit
+pub data IsOfSchedule (p : Source) (units : Units) (answer : Answer) : Type 0 where
+  IsOver : (q : ℕ) (k : Kind) → over_in units (machine_of p) ≡ Some (q, k) → answer ≡ Over Second (name_of (machine_of p) q) k → IsOfSchedule p units answer
+  InRows : HasLines (IsScheduleText units p) Text answer → IsOfSchedule p units answer
+
+-- what is said of the parts of a machine and of a file of unit counts
+abbrev pub ForSchedule : Source → Content → Answer → Type 0
+ForSchedule p content answer = FollowsFromKeys Units AreNoUnits HaveUnitFault SpellUnits (IsOfSchedule p) Second content answer

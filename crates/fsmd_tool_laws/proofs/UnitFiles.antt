@@ -1,0 +1,60 @@
+-- Bytes are one thing as unit counts, and a machine gets one answer under them.
+use Rattle.std.proofs.Common.{◌≡◌, ℕ, List, Option, Some, None, sym, ◌∙◌, ap, subst}
+use Rattle.serde_json.specs.Data.{Data}
+use Rattle.serde_json.specs.Find.{as_object}
+use Rattle.fs_model.specs.Source.{Source}
+use Rattle.fs_rules.specs.Spelled.{machine_of}
+use Rattle.fs_ast.specs.Stored.{name_of}
+use Rattle.unit_counts.specs.declared.units.Unit.{Unit as Kind}
+use Rattle.unit_counts.specs.declared.faults.Fault.{Fault}
+use Rattle.unit_counts.specs.Counts.{Units, first_fault, file_fault, counts_in}
+use Rattle.unit_counts.specs.Refusals.{IsJson, SpelledBy, Spells, IsFaulty}
+use Rattle.unit_limits.specs.Over.{over_in}
+use Rattle.command_answers.specs.declared.answer.Operand.TheVariants.{Second}
+use Rattle.command_answers.specs.declared.answer.Answer.{Answer}
+use Rattle.command_answers.specs.declared.answer.Answer.TheVariants.{Text, Over}
+use Rattle.command_answers.specs.Schedules.{unit_fault, AreNoUnits, HaveUnitFault, SpellUnits, IsOfSchedule, IsOver, InRows}
+use Rattle.fsmd_tool_laws.proofs.Contents.{some_same, some_none}
+use Rattle.fsmd_tool_laws.proofs.Keys.{AreOneThing}
+
+json_once : (bytes : List ℕ) (d e : Data) → IsJson bytes d → IsJson bytes e → d ≡ e
+json_once bytes d e p q = some_same d e (sym p.value ∙ q.value)
+
+units_once : (bytes : List ℕ) (u v : Units) → Spells bytes u → Spells bytes v → u ≡ v
+units_once bytes u v p q = p.spelled.counts ∙ ap counts_in (json_once bytes p.value q.value p.json q.json) ∙ sym q.spelled.counts
+
+faulty_once : (bytes k j : List ℕ) (f g : Fault) → IsFaulty bytes k f → IsFaulty bytes j g → Path (List ℕ × Fault) (k, f) (j, g)
+faulty_once bytes k j f g p q =
+    let value : p.value ≡ q.value = json_once bytes p.value q.value p.json q.json in
+    let first : Path (Option (List ℕ × Fault)) (Some (k, f)) (Some (j, g)) = sym p.first ∙ ap (λ d. file_fault (as_object d)) value ∙ q.first in
+    some_same (k, f) (j, g) first
+
+faultless : (d : Data) (units : Units) (key : List ℕ) (f : Fault) → SpelledBy d units → file_fault (as_object d) ≡ Some (key, f) → ⊥
+faultless d units key f p e = some_none (key, f) (file_fault (as_object d)) e (ap file_fault p.object ∙ p.faultless)
+
+spelled_or_faulty : (bytes : List ℕ) (units : Units) (key : List ℕ) (f : Fault) → Spells bytes units → IsFaulty bytes key f → ⊥
+spelled_or_faulty bytes units key f p q = faultless q.value units key f (subst (λ d. SpelledBy d units) (json_once bytes p.value q.value p.json q.json) p.spelled) q.first
+
+-- bytes are one thing as unit counts
+pub units_are_one : AreOneThing Units AreNoUnits HaveUnitFault SpellUnits
+units_are_one = record {
+  few_without = λ b p. p.few;
+  few_faulty = λ b f k p. p.few;
+  few_spelled = λ b v p. p.few;
+  without_or_faulty = λ b f k p q. p.refused q.faulty.value q.faulty.json;
+  without_or_spelled = λ b v p q. p.refused q.spells.value q.spells.json;
+  faulty_or_spelled = λ b f k v p q. spelled_or_faulty b v k p.kind q.spells p.faulty;
+  one_fault = λ b f g k j p q.
+      let same = faulty_once b k j p.kind q.kind p.faulty q.faulty in
+      ap (λ h. (h, k)) p.is ∙ ap (λ (t : List ℕ × Fault). (unit_fault t.1, t.0)) same ∙ ap (λ h. (h, j)) (sym q.is);
+  one_value = λ b v w p q. units_once b v w p.spells q.spells;
+}
+
+-- the machine of parts gets one answer under unit counts
+pub schedule_once : (p : Source) (units : Units) (x y : Answer) → IsOfSchedule p units x → IsOfSchedule p units y → x ≡ y
+schedule_once p units x y (IsOver q k o e) (IsOver r j u h) =
+    let same : Path (ℕ × Kind) (q, k) (r, j) = some_same (q, k) (r, j) (sym o ∙ u) in
+    e ∙ ap (λ (t : ℕ × Kind). Over Second (name_of (machine_of p) t.0) t.1) same ∙ sym h
+schedule_once p units x y (IsOver q k o e) (InRows l) = absurd (some_none (q, k) (over_in units (machine_of p)) o l.holds.fits)
+schedule_once p units x y (InRows l) (IsOver q k o h) = absurd (some_none (q, k) (over_in units (machine_of p)) o l.holds.fits)
+schedule_once p units x y (InRows l) (InRows n) = l.is ∙ ap Text (l.holds.is ∙ sym n.holds.is) ∙ sym n.is

@@ -1,0 +1,4 @@
+pub mod Unlined
+pub mod MovedWords
+pub mod MovedTokens
+pub mod Gaps

@@ -1,0 +1,4 @@
+pub mod Variables
+pub mod Programs
+pub mod Schedules
+pub mod Bindings

@@ -1,0 +1,31 @@
+//! The texts of compiled programs.
+
+ghost use Rattle.std.specs.Prelude.{IsTrue, IfOk};
+ghost use Rattle.std.specs.Result.{IfErr};
+ghost use Rattle.program_laws.specs.Compiled.{parts_of};
+ghost use Rattle.program_laws.specs.WellFormed.{is_well_formed};
+ghost use Rattle.program_parts.specs.View.{program_of};
+ghost use Rattle.hls_lang.specs.Refusals.{IsRefusalOf};
+ghost use Rattle.synthesis_answers.specs.Programs.{IsCompiledText};
+
+use fs_write::write_parts;
+use hls_lang::compile::{Compiled, compile};
+use hls_lang::fault::LangError;
+use hls_lang::program::Program;
+use program_laws::parts_of_programs_are_well_formed;
+use std::alloc::Global;
+
+/// The canonical text of the parts to which a well-formed program is compiled. `Check` comes exactly where they break a rule,
+/// and names the first; `Text` is never answered.
+pub fn compiled_text(alloc: Global, program: &Program) -> Result<Vec<u8>, LangError>
+    requires formed { IsTrue (is_well_formed (program_of program.now)) }
+    ensures compiled { IfOk result (λ text. IsCompiledText (program_of program.now) text.items) }
+    ensures refused { IfErr result (λ e. IsRefusalOf (parts_of (program_of program.now)) e) }
+{
+    parts_of_programs_are_well_formed();
+    let Compiled { parts, .. } = compile(alloc, program)?;
+    match write_parts(alloc, &parts) {
+        Ok(text) => Ok(text),
+        Err(_) => Err(LangError::NoMemory),
+    }
+}
