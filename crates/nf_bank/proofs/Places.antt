@@ -1,14 +1,25 @@
 -- The places of atoms.
-use Rattle.std.proofs.Common.{◌≡◌, ℕ, zero, suc, ◌+◌, ◌<◌, nat_lt, Bool, true, false, ◌||◌, not, cond, Some, None, List, [], ◌∷◌, ◌++◌, length, arith, refl, ap, sym, subst, ◌∙◌}
+use Rattle.std.proofs.Common.{◌≡◌, ℕ, zero, suc, ◌+◌, ◌<◌, nat_lt, Bool, true, false, ◌||◌, not, cond, Some, None, List, [], ◌∷◌, ◌++◌, length, take, get_or, arith, refl, ap, sym, subst, ◌∙◌}
 use Rattle.std.proofs.lemmas.Bool.Decides.{nat_tests}
-use Rattle.std.specs.List.{list_any, position_or_len, position, slice_get}
+use Rattle.std.proofs.lemmas.List.Quantifiers.{position-Some}
+use Rattle.std.specs.List.{position_or_len, position, slice_get}
+use Rattle.std.specs.declared.cmp.Ordering.{Ordering}
+use Rattle.std.specs.declared.cmp.Ordering.TheVariants.{Less, Equal, Greater}
 use Rattle.std.specs.Ordering.{is_eq}
 use Rattle.nf_terms.specs.Terms.{Atom}
-use Rattle.nf_terms.specs.Order.{same_atom}
-use Rattle.nf_terms.specs.TermKeys.{atom_same}
-use Rattle.nf_terms.proofs.Tests.{not_true}
+use Rattle.nf_terms.specs.Order.{cmp_atom, same_atom}
+use Rattle.nf_terms.specs.TermKeys.{atom_ties, atom_same}
+use Rattle.nf_terms.proofs.Tests.{not_true, or_left, or_right}
 use Rattle.nf_bank.specs.Atoms.{holds, place_of, with_one, AreDifferent, IsBank}
-use Rattle.nf_bank.specs.Equal.{equal_atoms}
+use Rattle.nf_bank.specs.Spelled.{past_end, atom_at}
+
+tie : (r : Ordering) → is_eq r ≡ true → r ≡ Equal
+tie Less e = cc
+tie Equal e = refl
+tie Greater e = cc
+
+pub equal_atoms : (a b : Atom) → same_atom a b ≡ true → a ≡ b
+equal_atoms a b e = atom_ties a b (tie (cmp_atom a b) e)
 
 pub own_atom : (a b : Atom) → a ≡ b → same_atom a b ≡ true
 own_atom a b e = ap is_eq (atom_same a b e)
@@ -24,43 +35,8 @@ or_rest : (a b : Bool) → a || b ≡ false → b ≡ false
 or_rest true b e = cc
 or_rest false b e = e
 
-module _ (test : Atom → Bool) where
-  found_within : (xs : List Atom) → list_any test xs ≡ true → position_or_len test xs < length xs
-  found_within [] e = cc
-  found_within (x ∷ xs) e = by_value (test x) e (found_within xs)
-    where
-      by_value : (t : Bool) → t || list_any test xs ≡ true → (list_any test xs ≡ true → position_or_len test xs < length xs) → cond (not t) (1 + position_or_len test xs) 0 < length (x ∷ xs)
-      by_value true e again = omega arith
-      by_value false e again = omega (arith, again e)
-
-  passed : (x : Atom) (n : ℕ) → test x ≡ false → cond (not (test x)) (1 + n) 0 ≡ 1 + n
-  passed x n e = ap (λ b. cond (not b) (1 + n) 0) e
-
-  last_found : (xs : List Atom) (a : Atom) → list_any test xs ≡ false → test a ≡ true → position_or_len test (xs ++ a ∷ []) ≡ length xs
-  last_found [] a e t = ap (λ b. cond (not b) 1 0) t
-  last_found (x ∷ xs) a e t =
-      passed x (position_or_len test (xs ++ a ∷ [])) (or_none (test x) (list_any test xs) e) ∙ omega (arith, last_found xs a (or_rest (test x) (list_any test xs) e) t)
-
-  not_found : (xs : List Atom) → list_any test xs ≡ false → position_or_len test xs ≡ length xs
-  not_found [] e = refl
-  not_found (x ∷ xs) e = passed x (position_or_len test xs) (or_none (test x) (list_any test xs) e) ∙ omega (arith, not_found xs (or_rest (test x) (list_any test xs) e))
-
-one_longer : (xs : List Atom) (a : Atom) → length (xs ++ a ∷ []) ≡ length xs + 1
-one_longer [] a = refl
-one_longer (x ∷ xs) a = omega (arith, one_longer xs a)
-
 place_at : (test : Atom → Bool) (xs : List Atom) (k : ℕ) → position_or_len test xs ≡ k → k < length xs → position test xs ≡ Some k
 place_at test xs k e h = ap (λ n. cond (nat_lt n (length xs)) (Some n) None) e ∙ ap (λ b. cond b (Some k) None) (lt_is k (length xs) h)
-
--- the place of an atom that was put last if it was not there
-pub place_one : (a : Atom) (xs : List Atom) → place_of a (with_one a xs) ≡ Some (position_or_len (same_atom a) xs)
-place_one a xs = by_value (holds a xs) refl
-  where
-    by_value : (t : Bool) → holds a xs ≡ t → place_of a (cond t xs (xs ++ a ∷ [])) ≡ Some (position_or_len (same_atom a) xs)
-    by_value true e = place_at (same_atom a) xs (position_or_len (same_atom a) xs) refl (found_within (same_atom a) xs e)
-    by_value false e =
-        let f : position_or_len (same_atom a) xs ≡ length xs = not_found (same_atom a) xs e in
-        place_at (same_atom a) (xs ++ a ∷ []) (length xs) (last_found (same_atom a) xs a e (own_atom a a refl)) (omega (arith, one_longer xs a)) ∙ ap Some (sym f)
 
 -- ---- different atoms
 
@@ -88,14 +64,24 @@ bank_one a xs b = by_value (holds a xs) refl
     by_value true e = b
     by_value false e = record { different = different-last xs a b.different e }
 
-there : (xs : List Atom) (k : ℕ) (a : Atom) → slice_get xs k ≡ Some a → holds a xs ≡ true
+not_held : (a : Atom) (n : ℕ) (xs : List Atom) → holds a xs ≡ false → holds a (take n xs) ≡ false
+not_held a zero xs h = refl
+not_held a (suc n) [] h = refl
+not_held a (suc n) (x ∷ xs) h = (λ k. or_none (same_atom a x) (holds a xs) h k || not_held a n xs (or_rest (same_atom a x) (holds a xs) h) k)
+
+different_taken : (n : ℕ) (xs : List Atom) → AreDifferent xs → AreDifferent (take n xs)
+different_taken zero xs u = tt
+different_taken (suc n) [] u = tt
+different_taken (suc n) (x ∷ xs) u = (ap not (not_held x n xs (not_true (holds x xs) u.0)), different_taken n xs u.1)
+
+-- the first atoms of a bank are one
+pub bank_taken : (n : ℕ) (xs : List Atom) → IsBank xs → IsBank (take n xs)
+bank_taken n xs b = record { different = different_taken n xs b.different }
+
+pub there : (xs : List Atom) (k : ℕ) (a : Atom) → slice_get xs k ≡ Some a → holds a xs ≡ true
 there [] k a e = cc
-there (x ∷ xs) zero a e = let f : x ≡ a = cc in ap (λ t. t || holds a xs) (own_atom a x (sym f))
+there (x ∷ xs) zero a e = let f : x ≡ a = cc in or_left (same_atom a x) (holds a xs) (own_atom a x (sym f))
 there (x ∷ xs) (suc k) a e = or_right (same_atom a x) (holds a xs) (there xs k a e)
-  where
-    or_right : (p q : Bool) → q ≡ true → p || q ≡ true
-    or_right true q e = refl
-    or_right false q e = e
 
 first_place : (xs : List Atom) (k : ℕ) (a : Atom) → AreDifferent xs → slice_get xs k ≡ Some a → position_or_len (same_atom a) xs ≡ k
 first_place [] k a u e = cc
@@ -116,3 +102,35 @@ pub one_place : (xs : List Atom) (a : Atom) (k : ℕ) → IsBank xs → slice_ge
 one_place xs a k b e = place_at (same_atom a) xs k (first_place xs k a b.different e) (place_within xs k a e)
 
 pub ruleset places = (one_place)
+
+-- ---- atoms at their places
+
+item_at : (xs : List Atom) (k : ℕ) (d : Atom) → k < length xs → slice_get xs k ≡ Some (get_or xs k d)
+item_at [] k d h = absurd (omega arith)
+item_at (x ∷ xs) zero d h = refl
+item_at (x ∷ xs) (suc k) d h = item_at xs k d (omega arith)
+
+-- the atom at a place within a list
+pub at_place : (xs : List Atom) (k : ℕ) (a : Atom) → a ≡ atom_at xs k → k < length xs → slice_get xs k ≡ Some a
+at_place xs k a e h = item_at xs k past_end h ∙ ap Some (sym e)
+
+-- the atom that is found at a place stands there
+pub found_at : (xs : List Atom) (k : ℕ) (a : Atom) → place_of a xs ≡ Some k → (k < length xs) × (atom_at xs k ≡ a)
+found_at xs k a e =
+    let f = position-Some (same_atom a) xs k past_end e in
+    (f.0, sym (equal_atoms a (atom_at xs k) f.1))
+
+-- an atom that is found is there, and one that is not there is not found
+pub found_there : (xs : List Atom) (k : ℕ) (a : Atom) → place_of a xs ≡ Some k → holds a xs ≡ true
+found_there xs k a e = let f = found_at xs k a e in there xs k a (at_place xs k a (sym f.1) f.0)
+
+pub not_there : (xs : List Atom) (a : Atom) → holds a xs ≡ false → place_of a xs ≡ None
+not_there xs a h = ap (λ n. cond (nat_lt n (length xs)) (Some n) None) (past xs h) ∙ ap (λ b. cond b (Some (length xs)) None) (not_less (length xs))
+  where
+    past : (xs : List Atom) → holds a xs ≡ false → position_or_len (same_atom a) xs ≡ length xs
+    past [] h = refl
+    past (x ∷ xs) h =
+        ap (λ b. cond (not b) (1 + position_or_len (same_atom a) xs) 0) (or_none (same_atom a x) (holds a xs) h) ∙ omega (arith, past xs (or_rest (same_atom a x) (holds a xs) h))
+
+    not_less : (n : ℕ) → nat_lt n n ≡ false
+    not_less n = grind (arith, nat_tests)

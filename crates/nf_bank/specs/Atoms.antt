@@ -45,6 +45,13 @@ abbrev mutual
   pub with_array : ArrayTerm → List Atom → List Atom
   with_array (Over b ws) kept = with_writes ws kept
 
+-- a list with the atoms in an atom
+abbrev pub with_inner : Atom → List Atom → List Atom
+with_inner (Symbol p) kept = kept
+with_inner (Read a i) kept = with_terms i (with_array a kept)
+with_inner (Quotient p q) kept = with_terms q (with_terms p kept)
+with_inner (Remainder p q) kept = with_terms q (with_terms p kept)
+
 -- no atom stands twice
 abbrev pub AreDifferent : List Atom → Type 0
 AreDifferent [] = Unit {0}

@@ -1,3 +1,6 @@
 pub mod Atoms
-pub mod Digests
+pub mod Held
+pub mod Nodes
 pub mod Equal
+pub mod Spelled
+pub mod Graphs

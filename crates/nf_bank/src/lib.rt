@@ -2,6 +2,9 @@
 #![tactic(auto)]
 
 pub mod bank;
-pub mod digest;
-pub mod key;
+pub mod items;
 pub mod laws;
+mod lookup;
+pub mod node;
+pub mod numbering;
+mod trees;

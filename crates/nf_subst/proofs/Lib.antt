@@ -1,4 +1,4 @@
 pub mod Copying
 pub mod Entries
-pub mod Finding
+pub mod Known
 pub mod Values

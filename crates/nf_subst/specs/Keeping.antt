@@ -1,13 +1,14 @@
 -- The atoms that a substitution keeps: those of its arguments, inner ones first, each once, as a bank does.
-use Rattle.std.specs.Prelude.{◌≡◌, List, [], ◌∷◌}
+use Rattle.std.specs.Prelude.{◌≡◌, ℕ, ◌<◌, Option, Some, None, List, [], ◌∷◌, length, get_or}
 use Rattle.std.specs.Coded.{Coded, code_by, coded×, coded_list}
 use Rattle.std.proofs.Common.{refl}
-use Rattle.nf_terms.specs.Terms.{Atom, Polynomial, Symbol, Read, Quotient, Remainder}
+use Rattle.nf_terms.specs.Terms.{Atom, Polynomial}
 use Rattle.nf_terms.specs.Codes.{coded_atom}
 use Rattle.nf_terms.specs.declared.tree.Pos.{Pos}
 use Rattle.nf_terms.specs.declared.form.Nf.{Nf}
 use Rattle.nf_terms.specs.Computed.{Done}
-pub use Rattle.nf_bank.specs.Atoms.{holds, with_one, with_atom, with_monomial as with_atoms, with_terms, with_writes, with_array, IsFront}
+pub use Rattle.nf_bank.specs.Atoms.{with_terms, with_array, IsFront}
+use Rattle.nf_bank.specs.Spelled.{atom_at}
 use Rattle.nf_subst.specs.Places.{coded_vector}
 use Rattle.nf_subst.specs.Substitution.{atom_substituted}
 
@@ -16,22 +17,18 @@ pub record Kept : Type 0 where
   pub vector : List (Pos × Nf)
   pub atoms : List Atom
 
--- those inside an atom
-abbrev pub with_inner : Atom → List Atom → List Atom
-with_inner (Symbol p) kept = kept
-with_inner (Read a i) kept = with_terms i (with_array a kept)
-with_inner (Quotient p q) kept = with_terms q (with_terms p kept)
-with_inner (Remainder p q) kept = with_terms q (with_terms p kept)
-
 -- those of the items of a list
 abbrev pub with_items : List Polynomial → List Atom → List Atom
 with_items [] kept = kept
 with_items (p ∷ ps) kept = with_items ps (with_terms p kept)
 
--- each kept polynomial is its atom substituted
-abbrev pub AreAnswered : List (Pos × Nf) → List (Atom × Polynomial) → Type 0
-AreAnswered v [] = Unit {0}
-AreAnswered v (e ∷ es) = (atom_substituted v e.0 ≡ Done e.1) × AreAnswered v es
+-- the value of a number, as far as it is known
+abbrev pub value_at : List (Option Polynomial) → ℕ → Option Polynomial
+value_at values k = get_or values k None
+
+-- each known value is that of an atom, substituted
+pub record AreValues (v : List (Pos × Nf)) (atoms : List Atom) (values : List (Option Polynomial)) : Type 0 where
+  pub each : (k : ℕ) (p : Polynomial) → value_at values k ≡ Some p → (k < length atoms) × (atom_substituted v (atom_at atoms k) ≡ Done p)
 
 -- a substitution as a tree of numbers
 abbrev pub coded_kept : Coded Kept

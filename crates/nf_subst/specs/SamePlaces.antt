@@ -1,7 +1,8 @@
--- Places that are the same are equal, and hashed alike.
-use Rattle.std.specs.Prelude.{◌≡◌, ℕ, Bool, true, false, ◌&&◌, ◌==◌}
+-- Places that are the same are equal.
+use Rattle.std.specs.Prelude.{◌≡◌, Bool, true, false, ◌&&◌, ◌==◌}
 use Rattle.std.proofs.Common.{refl, ap, sym, ◌∙◌}
 use Rattle.std.proofs.lemmas.Bool.{eqb-true, eq-eqb}
+use Rattle.std.specs.Bool.{Decides}
 use Rattle.std.specs.Cmp.{IsPartialEquivalence, IsEquivalence}
 use Rattle.nf_terms.specs.Mentions.{same_side, same_pos}
 use Rattle.nf_terms.specs.declared.tree.Side.{Side}
@@ -11,7 +12,6 @@ use Rattle.nf_terms.specs.declared.symbols.Sort.{Sort}
 use Rattle.nf_terms.specs.declared.symbols.Sort.TheVariants as sort
 use Rattle.nf_terms.proofs.Tests.{and_left, and_right, and_both}
 use Rattle.nf_subst.specs.Vectors.{same_sort}
-use Rattle.nf_bank.specs.Digests.{mixed, mixed_pos}
 use Rattle.nf_subst.specs.declared.place.Place.{Place}
 
 -- whether two places are the same
@@ -71,13 +71,5 @@ places_partly = record { symm = same_turned; trans = λ a b d e f. ap (λ n. sam
 pub places_same : IsEquivalence same_place
 places_same = record { refl = own_place; symm = same_turned; congr = λ a b d e. ap (λ n. same_place n d) (places_equal a b e) }
 
-abbrev pub number_of_sort : Sort → ℕ
-number_of_sort sort.Scalar = 1
-number_of_sort sort.Array = 2
-number_of_sort sort.List = 3
-
-abbrev pub digest_of_place : Place → ℕ
-digest_of_place a = mixed (mixed_pos 0 a.pos) (number_of_sort a.sort)
-
-pub places_alike : (a b : Place) → same_place a b ≡ true → digest_of_place a ≡ digest_of_place b
-places_alike a b e = ap digest_of_place (places_equal a b e)
+pub places_decide : (a b : Place) → Decides (same_place a b) (a ≡ b)
+places_decide a b = (places_equal a b, (λ e. ap (same_place a) (sym e) ∙ own_place a))

@@ -2,7 +2,9 @@
 #![tactic(auto)]
 
 mod copies;
+mod evaluation;
 pub mod laws;
+mod memo;
 mod place;
 pub mod subst;
 pub mod vector;

@@ -2,15 +2,13 @@
 
 ghost use Rattle.std.specs.Prelude.{◌≡◌};
 ghost use Rattle.nf_subst.specs.Vectors.{same_sort as same};
-ghost use Rattle.nf_subst.specs.SamePlaces.{digest_of_place, number_of_sort as number_of};
 
-use nf_bank::digest::{mix, mix_pos};
 use nf_terms::symbols::Sort;
 use nf_terms::tree::Pos;
-use std::hash::{Hash, Hasher};
+use std::hash::Hash;
 
 /// A position and the sort of its form.
-#[derive(Clone, Copy, Drop)]
+#[derive(Clone, Copy, Hash, Drop)]
 pub struct Place {
     pub pos: Pos,
     pub sort: Sort,
@@ -25,24 +23,6 @@ fn same_sort(left: Sort, right: Sort) -> bool
         Sort::Array => matches!(right, Sort::Array),
         Sort::List => matches!(right, Sort::List),
     }
-}
-
-// The number of a sort.
-fn number_of_sort(sort: Sort) -> u64
-    ensures { result ≡ number_of sort }
-{
-    match sort {
-        Sort::Scalar => 1,
-        Sort::Array => 2,
-        Sort::List => 3,
-    }
-}
-
-// The digest of a place.
-fn digest(place: &Place) -> u64
-    ensures { result ≡ digest_of_place place.now }
-{
-    mix(mix_pos(0, &place.pos), number_of_sort(place.sort))
 }
 
 impl PartialEq for Place {
@@ -63,16 +43,10 @@ impl Eq for Place {
     ghost laws = { places_same };
 }
 
+#[derived]
 impl Hash for Place {
-    ghost use Rattle.std.proofs.Common.{ap};
-    ghost use Rattle.std.specs.Hash as fed;
-    ghost use Rattle.nf_subst.specs.SamePlaces.{digest_of_place, places_alike};
+    ghost use Rattle.std.specs.Hash.{same_Alike};
+    ghost use Rattle.nf_subst.specs.SamePlaces.{places_decide};
 
-    ghost hash_input = { λ p. fed.u64 (digest_of_place p) };
-
-    ghost respects_eq = { λ x y e. ap fed.u64 (places_alike x y e) };
-
-    fn hash<H: Hasher>(&self, state: &mut H) {
-        state.write_u64(digest(self));
-    }
+    ghost respects_eq = { (same_Alike _ places_decide).fed };
 }

@@ -1,89 +1,61 @@
 //! Substitution of a vector in normal forms: each different atom is substituted once.
 
-ghost use Rattle.std.specs.Prelude.{◌≡◌, [], false, true, length, take, option_map, IfOk, OnOk, OnErr, MatchOption};
+ghost use Rattle.std.specs.Prelude.{◌≡◌, ◌≤◌, [], length, take, IfOk, OnOk, OnErr};
 ghost use Rattle.nf_terms.specs.Meaning.{Valuation, value_of, contents, items_in};
-ghost use Rattle.nf_terms.specs.View.{atom_in, monomial_in, polynomial_in, array_in};
-ghost use Rattle.nf_terms.specs.Computed.{Answers, Done, after};
-ghost use Rattle.nf_sums.specs.Operations.{number as number_of};
-ghost use Rattle.nf_subst.specs.Vectors.{number_at, array_of_base, list_of_base, meaning};
-ghost use Rattle.nf_subst.specs.Substitution.{atom_substituted, atoms_substituted, substituted, array_substituted, items_substituted, list_substituted};
-ghost use Rattle.nf_subst.specs.Keeping.{holds, with_one, with_inner, with_atom, with_atoms, with_terms, with_array, with_items, IsFront};
+ghost use Rattle.nf_terms.specs.View.{polynomial_in, array_in};
+ghost use Rattle.nf_terms.specs.Computed.{Answers};
+ghost use Rattle.nf_bank.specs.Spelled.{bound_of_sum, bound_of_array, sum_over, array_over, SpellsSum, SpellsArray};
+ghost use Rattle.nf_subst.specs.Vectors.{list_of_base, meaning};
+ghost use Rattle.nf_subst.specs.Substitution.{substituted, array_substituted, items_substituted, list_substituted};
+ghost use Rattle.nf_subst.specs.Keeping.{with_terms, with_array, with_items, IsFront};
 
+use crate::evaluation::{array_value, sum_value};
+use crate::memo::Memo;
 use crate::vector::Vector;
-use indexmap::IndexMap;
-use nf_arrays::division::{div, rem};
 use nf_arrays::pushes::push;
-use nf_arrays::reads::read;
-use nf_arrays::writes::write;
-use nf_bank::key::AtomKey;
-use nf_sums::accumulator::Accumulator;
-use nf_sums::sums::{mul, number};
+use nf_bank::bank::Bank;
+use nf_bank::items::Items;
+use nf_bank::node::{Array, Term};
+use nf_bank::numbering::{put_array, put_sum};
 use nf_terms::arr::Arr;
 use nf_terms::poly::Poly;
 use nf_terms::seq::Seq;
 use nf_terms::stop::{NfStop, NoMemory};
-use nf_terms::tree::{ArrTree, Atom, Base, MonoTree, PolyTree, Pos, SeqBase};
+use nf_terms::tree::{ArrTree, PolyTree, SeqBase};
 use std::alloc::Global;
 use std::marker::Model;
 
-/// A vector, and the atoms that were substituted, with their answers.
+/// A vector, and the atoms that were substituted, with their values by number.
 #[derive(Drop)]
 pub struct Subst<'v> {
     vector: &'v Vector,
-    kept: IndexMap<AtomKey, Poly>,
+    bank: Bank,
+    memo: Memo,
 }
 
 impl<'v> Model for Subst<'v> {
-    ghost use Rattle.std.specs.Map.{keys_of};
-    ghost use Rattle.nf_subst.specs.Keeping.{Kept, AreAnswered, coded_kept};
+    ghost use Rattle.nf_subst.specs.Keeping.{Kept, AreValues, coded_kept};
 
     ghost Value = { Kept };
 
     ghost coded = { coded_kept };
 
-    ghost view = { λ s. record { vector = s.vector.now; atoms = keys_of s.kept.entries } };
+    ghost view = { λ s. record { vector = s.vector.now; atoms = s.bank } };
 
-    ghost invariant = { λ s. AreAnswered s.vector.now s.kept.entries };
+    ghost invariant = { λ s. AreValues s.vector.now s.bank s.memo };
 }
 
 impl<'v> Subst<'v> {
     /// A substitution that has kept no atom yet.
+    #[tactic(auto, using(crate::proofs::Known::none_known))]
     pub fn new(alloc: Global, vector: &'v Vector) -> Subst<'v>
         ensures { result ≡ record { vector = vector.now; atoms = [] } }
     {
-        let kept = IndexMap::new(alloc);
-        Subst { vector, kept }
-    }
-
-    // The kept answer of an atom.
-    fn kept_answer(&self, key: &AtomKey) -> Option<&Poly>
-        ensures { MatchOption (option_map (λ p. p.now) result) (holds key.now self.now.atoms ≡ false) (λ p. (holds key.now self.now.atoms ≡ true) × (atom_substituted self.now.vector key.now ≡ Done p)) }
-    {
-        self.kept.get(key)
-    }
-
-    // A copy of the kept answer of an atom.
-    fn find(&self, alloc: Global, key: &AtomKey) -> Result<Option<Poly>, NoMemory>
-        ensures { IfOk result (λ o. MatchOption o (holds key.now self.now.atoms ≡ false) (λ p. (holds key.now self.now.atoms ≡ true) × (atom_substituted self.now.vector key.now ≡ Done p))) }
-    {
-        match self.kept_answer(key) {
-            Some(answer) => Ok(Some(answer.try_clone(alloc)?)),
-            None => Ok(None),
+        Subst {
+            vector,
+            bank: Bank::new(alloc),
+            memo: Memo::new(alloc),
         }
-    }
-
-    // The vector's number of a symbol.
-    fn symbol(&self, alloc: Global, p: &Pos) -> Result<Poly, NoMemory>
-        ensures { IfOk result (λ n. n ≡ number_at self.now.vector p.now) }
-    {
-        self.vector.number(alloc, p)
-    }
-
-    // The vector's array of a base.
-    fn array_base(&self, alloc: Global, base: &Base) -> Result<Arr, NoMemory>
-        ensures { IfOk result (λ a. a ≡ array_of_base self.now.vector base.now) }
-    {
-        self.vector.array_base(alloc, base)
     }
 
     // The vector's list of a base.
@@ -93,142 +65,89 @@ impl<'v> Subst<'v> {
         self.vector.list_base(alloc, base)
     }
 
-    // Keeps the answer of an atom.
-    #[tactic(auto, using(crate::proofs::Finding::kept_keys, crate::proofs::Finding::kept_answers))]
-    fn keep(&mut self, alloc: Global, key: AtomKey, answer: Poly) -> Result<Poly, NoMemory>
-        requires { atom_substituted self.old.vector key ≡ Done answer }
-        ensures same { IfOk result (λ p. p ≡ answer) }
+    // Keeps the atoms of a polynomial, and gives it by their numbers.
+    #[tactic(auto, using(crate::proofs::Known::known_more))]
+    fn put_sum(&mut self, alloc: Global, sum: &PolyTree) -> Result<Items<Term>, NoMemory>
         ensures vector { self.new.vector ≡ self.old.vector }
-        ensures kept { OnOk result (self.new.atoms ≡ with_one key self.old.atoms) }
-        ensures refused { OnErr result (self.new ≡ self.old) }
+        ensures kept { OnOk result (self.new.atoms ≡ with_terms (polynomial_in sum.now) self.old.atoms) }
+        ensures spelled { IfOk result (λ terms. SpellsSum self.new.atoms terms (polynomial_in sum.now)) }
+        ensures front { IsFront self.old.atoms self.new.atoms }
     {
-        let copy = answer.try_clone(alloc)?;
-        self.kept.insert(key, copy)?;
-        Ok(answer)
+        put_sum(alloc, &mut self.bank, sum)
+    }
+
+    // Keeps the atoms in an array, and gives it by their numbers.
+    #[tactic(auto, using(crate::proofs::Known::known_more))]
+    fn put_array(&mut self, alloc: Global, array: &ArrTree) -> Result<Array, NoMemory>
+        ensures vector { self.new.vector ≡ self.old.vector }
+        ensures kept { OnOk result (self.new.atoms ≡ with_array (array_in array.now) self.old.atoms) }
+        ensures spelled { IfOk result (λ numbers. SpellsArray self.new.atoms numbers (array_in array.now)) }
+        ensures front { IsFront self.old.atoms self.new.atoms }
+    {
+        put_array(alloc, &mut self.bank, array)
+    }
+
+    // The value of a polynomial that is given by numbers.
+    fn sum_value(&mut self, alloc: Global, terms: &[Term]) -> Result<Poly, NfStop>
+        requires { bound_of_sum terms.now ≤ length self.old.atoms }
+        ensures answers { Answers result (substituted self.old.vector (sum_over self.old.atoms terms.now)) }
+        ensures same { self.new ≡ self.old }
+    {
+        sum_value(alloc, self.vector, &self.bank, &mut self.memo, terms)
+    }
+
+    // The value of an array that is given by numbers.
+    fn array_value(&mut self, alloc: Global, array: &Array) -> Result<Arr, NfStop>
+        requires { bound_of_array array.now ≤ length self.old.atoms }
+        ensures answers { Answers result (array_substituted self.old.vector (array_over self.old.atoms array.now)) }
+        ensures same { self.new ≡ self.old }
+    {
+        array_value(alloc, self.vector, &self.bank, &mut self.memo, array)
     }
 
     // How many atoms are kept.
-    #[tactic(auto, using(crate::proofs::Finding::keys_counted))]
-    fn count(&self) -> usize
+    fn count(&self) -> u64
         ensures { result ≡ length self.now.atoms }
     {
-        self.kept.len()
+        self.bank.len()
     }
 
     // Forgets the atoms behind the first ones.
-    #[tactic(auto, using(crate::proofs::Finding::keys_taken, crate::proofs::Finding::answers_taken))]
-    fn forget(&mut self, count: usize)
+    #[tactic(auto, using(crate::proofs::Known::known_taken))]
+    fn forget(&mut self, count: u64)
         ensures { self.new ≡ record { vector = self.old.vector; atoms = take count self.old.atoms } }
     {
-        self.kept.truncate(count);
+        self.bank.truncate(count);
+        self.memo.truncate(count);
     }
-}
-
-// The operation of an atom on its substituted parts.
-#[cycle(keeps)]
-#[tactic(auto, using(crate::proofs::Finding::fronts))]
-fn operate(alloc: Global, s: &mut Subst, atom: &Atom) -> Result<Poly, NfStop>
-    ensures answers { Answers result (atom_substituted s.old.vector (atom_in atom.now)) }
-    ensures vector { s.new.vector ≡ s.old.vector }
-    ensures kept { OnOk result (s.new.atoms ≡ with_inner (atom_in atom.now) s.old.atoms) }
-    ensures front { IsFront s.old.atoms s.new.atoms }
-{
-    match atom {
-        Atom::Sym(p) => Ok(s.symbol(alloc, p)?),
-        Atom::Read(array, index) => {
-            let array = keep_arr(alloc, s, array)?;
-            let index = keep_poly(alloc, s, index)?;
-            read(alloc, &array, &index)
-        }
-        Atom::Div(left, right) => {
-            let left = keep_poly(alloc, s, left)?;
-            let right = keep_poly(alloc, s, right)?;
-            div(alloc, &left, &right)
-        }
-        Atom::Rem(left, right) => {
-            let left = keep_poly(alloc, s, left)?;
-            let right = keep_poly(alloc, s, right)?;
-            rem(alloc, &left, &right)
-        }
-    }
-}
-
-// An atom with the vector's forms in place of its symbols.
-#[cycle(keeps)]
-#[tactic(auto, using(crate::proofs::Finding::one_kept))]
-fn keep_atom(alloc: Global, s: &mut Subst, atom: &Atom) -> Result<Poly, NfStop>
-    ensures answers { Answers result (atom_substituted s.old.vector (atom_in atom.now)) }
-    ensures vector { s.new.vector ≡ s.old.vector }
-    ensures kept { OnOk result (s.new.atoms ≡ with_atom (atom_in atom.now) s.old.atoms) }
-    ensures front { IsFront s.old.atoms s.new.atoms }
-{
-    let key = AtomKey::copied(alloc, atom)?;
-    if let Some(answer) = s.find(alloc, &key)? {
-        return Ok(answer);
-    }
-    let answer = operate(alloc, s, atom)?;
-    Ok(s.keep(alloc, key, answer)?)
-}
-
-// A coefficient times the atoms of a monomial, with the vector's forms in place of the symbols.
-#[cycle(keeps)]
-#[tactic(auto, using(crate::proofs::Finding::fronts))]
-fn keep_mono(
-    alloc: Global,
-    s: &mut Subst,
-    coefficient: &i128,
-    mono: &MonoTree,
-) -> Result<Poly, NfStop>
-    ensures answers { Answers result (after (number_of coefficient.now) (atoms_substituted s.old.vector (monomial_in mono.now))) }
-    ensures vector { s.new.vector ≡ s.old.vector }
-    ensures kept { OnOk result (s.new.atoms ≡ with_atoms (monomial_in mono.now) s.old.atoms) }
-    ensures front { IsFront s.old.atoms s.new.atoms }
-{
-    let mut so_far = number(alloc, coefficient)?;
-    for atom in &mono.atoms {
-        let factor = keep_atom(alloc, s, atom)?;
-        so_far = mul(alloc, &so_far, &factor)?;
-    }
-    Ok(so_far)
 }
 
 // A polynomial with the vector's forms in place of its symbols.
-#[cycle(keeps)]
-#[tactic(auto, using(crate::proofs::Finding::fronts))]
+#[tactic(auto, using(nf_bank::proofs::Fronts::fronts))]
 fn keep_poly(alloc: Global, s: &mut Subst, tree: &PolyTree) -> Result<Poly, NfStop>
     ensures answers { Answers result (substituted s.old.vector (polynomial_in tree.now)) }
     ensures vector { s.new.vector ≡ s.old.vector }
     ensures kept { OnOk result (s.new.atoms ≡ with_terms (polynomial_in tree.now) s.old.atoms) }
     ensures front { IsFront s.old.atoms s.new.atoms }
 {
-    let mut so_far = Accumulator::new(alloc);
-    for (mono, coefficient) in &tree.monos {
-        let term = keep_mono(alloc, s, coefficient, mono)?;
-        so_far = so_far.add(alloc, &term)?;
-    }
-    Ok(so_far.into_poly())
+    let terms = s.put_sum(alloc, tree)?;
+    s.sum_value(alloc, terms.as_slice())
 }
 
 // An array with the vector's forms in place of its symbols.
-#[cycle(keeps)]
-#[tactic(auto, using(crate::proofs::Finding::fronts))]
+#[tactic(auto, using(nf_bank::proofs::Fronts::fronts))]
 fn keep_arr(alloc: Global, s: &mut Subst, tree: &ArrTree) -> Result<Arr, NfStop>
     ensures answers { Answers result (array_substituted s.old.vector (array_in tree.now)) }
     ensures vector { s.new.vector ≡ s.old.vector }
     ensures kept { OnOk result (s.new.atoms ≡ with_array (array_in tree.now) s.old.atoms) }
     ensures front { IsFront s.old.atoms s.new.atoms }
 {
-    let mut so_far = s.array_base(alloc, &tree.base)?;
-    for (index, value) in &tree.writes {
-        let index = keep_poly(alloc, s, index)?;
-        let value = keep_poly(alloc, s, value)?;
-        so_far = write(alloc, &so_far, &index, &value)?;
-    }
-    Ok(so_far)
+    let array = s.put_array(alloc, tree)?;
+    s.array_value(alloc, &array)
 }
 
 // Items with the vector's forms in place of their symbols, behind a list.
-#[tactic(auto, using(crate::proofs::Finding::fronts))]
+#[tactic(auto, using(nf_bank::proofs::Fronts::fronts))]
 fn keep_items(alloc: Global, s: &mut Subst, first: Seq, items: &[Poly]) -> Result<Seq, NfStop>
     ensures answers { Answers result (items_substituted s.old.vector items.now first) }
     ensures vector { s.new.vector ≡ s.old.vector }
@@ -259,7 +178,7 @@ impl<'v> Subst<'v> {
     ///
     /// `Wide` and `Large` come exactly at the first operation that is not narrow, or narrow and not small, in the order of the
     /// monomials, in each the atoms, and in each its parts. `NoMemory` comes when memory runs out. After a refusal nothing more is kept.
-    #[tactic(auto, using(crate::proofs::Finding::front_taken))]
+    #[tactic(auto, using(nf_bank::proofs::Fronts::cut_back))]
     pub fn poly(&mut self, alloc: Global, p: &Poly) -> Result<Poly, NfStop>
         ensures answers { Answers result (substituted self.old.vector p.now) }
         ensures vector { self.new.vector ≡ self.old.vector }
@@ -278,7 +197,7 @@ impl<'v> Subst<'v> {
     ///
     /// `Wide` and `Large` come exactly at the first operation that is not narrow, or narrow and not small, in the order of the
     /// writes, in each the index, the value and the write. `NoMemory` comes when memory runs out. After a refusal nothing more is kept.
-    #[tactic(auto, using(crate::proofs::Finding::front_taken))]
+    #[tactic(auto, using(nf_bank::proofs::Fronts::cut_back))]
     pub fn arr(&mut self, alloc: Global, a: &Arr) -> Result<Arr, NfStop>
         ensures answers { Answers result (array_substituted self.old.vector a.now) }
         ensures vector { self.new.vector ≡ self.old.vector }
@@ -297,7 +216,7 @@ impl<'v> Subst<'v> {
     ///
     /// `Wide` and `Large` come exactly at the first operation that is not narrow, or narrow and not small, in the order of the
     /// items, in each the item and the push. `NoMemory` comes when memory runs out. After a refusal nothing more is kept.
-    #[tactic(auto, using(crate::proofs::Finding::front_taken))]
+    #[tactic(auto, using(nf_bank::proofs::Fronts::cut_back))]
     pub fn seq(&mut self, alloc: Global, l: &Seq) -> Result<Seq, NfStop>
         ensures answers { Answers result (list_substituted self.old.vector l.now) }
         ensures vector { self.new.vector ≡ self.old.vector }
