@@ -1,15 +1,10 @@
 -- What bytes are as the JSON of a certificate, and why they are refused.
-use Rattle.std.specs.Prelude.{◌≡◌, ℕ, true, false, List, Some, IsUtf8}
+use Rattle.std.specs.Prelude.{◌≡◌, ℕ, true, false, List, Some}
 use Rattle.serde_json.specs.Data.{Data}
-use Rattle.serde_json.specs.Read.{read}
+use Rattle.json_files.specs.Json.{IsJson, IsNotJson}
 use Rattle.cert_json.specs.declared.faults.FileError.{FileError}
 use Rattle.cert_json.specs.declared.faults.FileError.TheVariants.{NotJson, Shape, TooMany, NoMemory}
 use Rattle.cert_json.specs.Shape.{is_file, has_too_many}
-
--- the bytes are text, and JSON of this value
-pub record IsJson (bytes : List ℕ) (d : Data) : Type 0 where
-  pub text : IsUtf8 bytes
-  pub value : read bytes ≡ Some d
 
 -- the bytes are JSON of a value that has the form of a certificate and is within the limits
 pub record IsFileOf (bytes : List ℕ) (d : Data) : Type 0 where
@@ -32,14 +27,7 @@ pub record HasTooMany (bytes : List ℕ) : Type 0 where
 
 -- why bytes are refused; out of memory may come at any time
 abbrev pub IsRefused : List ℕ → FileError → Type 0
-IsRefused bytes NotJson = (d : Data) → ¬ IsJson bytes d
+IsRefused bytes NotJson = IsNotJson bytes
 IsRefused bytes Shape = HasOtherShape bytes
 IsRefused bytes TooMany = HasTooMany bytes
 IsRefused bytes NoMemory = Unit {0}
-
--- the refusal of bytes that are not JSON
-abbrev pub IsOfBytes : List ℕ → FileError → Type 0
-IsOfBytes bytes NotJson = (d : Data) → ¬ IsJson bytes d
-IsOfBytes bytes Shape = ⊥
-IsOfBytes bytes TooMany = ⊥
-IsOfBytes bytes NoMemory = Unit {0}

@@ -2,27 +2,13 @@
 
 ghost use Rattle.std.specs.Prelude.{IfOk, IfErr};
 ghost use Rattle.serde_json.specs.View.{view};
-ghost use Rattle.cert_json.specs.Refusals.{IsJson, IsFileOf, IsRefused, IsOfBytes};
+ghost use Rattle.cert_json.specs.Refusals.{IsFileOf, IsRefused};
 
 use crate::faults::FileError;
 use crate::shape::{has_too_many, is_file};
+use json_files::{JsonError, read_json};
 use serde_json::Value;
 use std::alloc::Global;
-
-// The value that bytes are as JSON.
-fn parse(alloc: Global, bytes: &[u8]) -> Result<Value, FileError>
-    ensures json { IfOk result (λ v. IsJson bytes.now (view v)) }
-    ensures refused { IfErr result (λ e. IsOfBytes bytes.now e) }
-{
-    match Value::from_slice(alloc, bytes) {
-        Ok(value) => Ok(value),
-        Err(e) => if e.is_memory() {
-            Err(FileError::NoMemory)
-        } else {
-            Err(FileError::NotJson)
-        },
-    }
-}
 
 /// The JSON value of a certificate's bytes, in time linear in them.
 ///
@@ -33,7 +19,11 @@ pub fn read_file(alloc: Global, bytes: &[u8]) -> Result<Value, FileError>
     ensures read { IfOk result (λ v. IsFileOf bytes.now (view v)) }
     ensures refused { IfErr result (λ e. IsRefused bytes.now e) }
 {
-    let value = parse(alloc, bytes)?;
+    let value = match read_json(alloc, bytes) {
+        Ok(value) => value,
+        Err(JsonError::NotJson) => return Err(FileError::NotJson),
+        Err(JsonError::NoMemory) => return Err(FileError::NoMemory),
+    };
     if !is_file(&value) {
         return Err(FileError::Shape);
     }

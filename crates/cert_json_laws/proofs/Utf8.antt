@@ -6,7 +6,7 @@ use Rattle.json.specs.Print.{quoted}
 use Rattle.json.proofs.Printed.Utf8.{IsUtf8-are_ascii, IsUtf8-quoted, IsUtf8-boolean}
 use Rattle.serde_json.specs.Data.{Num, unsigned, negative, float, Data, null, boolean, number, string, array, object, Items, no_items, item, Members, no_members, member, depth}
 use Rattle.serde_json.specs.Written.{number_text, comma_if, compact_text, items_text, members_text}
-use Rattle.cert_json.specs.Refusals.{IsJson}
+use Rattle.json_files.specs.Json.{IsJson}
 use Rattle.cert_json_laws.specs.Orderly.{IsCount, IsOrderly, AreOrderly, MembersAreOrderly}
 use Rattle.cert_json_laws.proofs.Again.{read_again}
 

@@ -6,7 +6,7 @@ use Rattle.fs_pair.specs.Positions.{positions}
 use Rattle.bisimulation.specs.Tables.{Node}
 use Rattle.sym_facts.specs.Facts.{Fact}
 use Rattle.term_values.specs.Names.{Find}
-use Rattle.cert_json.specs.Refusals.{IsJson}
+use Rattle.json_files.proofs.Once.{one_value}
 use Rattle.cert_json.specs.Shape.{is_file, has_too_many}
 use Rattle.cert_text.specs.declared.faults.CertError.{CertError}
 use Rattle.cert_text.specs.declared.faults.CertError.TheVariants.{NotJson, Shape, UnknownState, NotCutpoint, UnknownName, SortOf, NotSolved, TwiceNode, NumberTooBig, TooMany, NoMemory, BadTerm, NotNormal}
@@ -15,9 +15,6 @@ use Rattle.cert_text.specs.Names.{place_named, find_in}
 use Rattle.cert_text.specs.Judged.{texts_by}
 use Rattle.cert_text.specs.Refusals.{file_read, ComesTo, SpellsNodes, BreaksFirst, IsRefused}
 use Rattle.cert_text.proofs.Readings.{texts_are_read}
-
-one_value : (bytes : List ℕ) (d e : Data) → IsJson bytes d → IsJson bytes e → d ≡ e
-one_value bytes d e h g = cc (h.value, g.value)
 
 -- the nodes of a file come to one thing
 one_outcome : (a b : Fsmd) (d e : Data) (x y : Result (List (Node Fact)) CertError) → d ≡ e → ComesTo a b d x → ComesTo a b e y → x ≡ y

@@ -5,7 +5,8 @@ use Rattle.fs_model.specs.Machines.{Fsmd}
 use Rattle.fs_pair.specs.Positions.{positions}
 use Rattle.bisimulation.specs.Tables.{Node}
 use Rattle.sym_facts.specs.Facts.{Fact}
-use Rattle.cert_json.specs.Refusals.{IsJson, IsFileOf, HasOtherShape, HasTooMany}
+use Rattle.json_files.specs.Json.{IsNotJson}
+use Rattle.cert_json.specs.Refusals.{IsFileOf, HasOtherShape, HasTooMany}
 use Rattle.cert_text.specs.declared.faults.CertError.{CertError}
 use Rattle.cert_text.specs.declared.faults.CertError.TheVariants.{NotJson, Shape, TooMany, NoMemory}
 use Rattle.cert_text.specs.declared.faults.Stop.{Stop}
@@ -52,7 +53,7 @@ pub record BreaksFirst (a b : Fsmd) (bytes : List ℕ) (e : CertError) : Type 0 
 
 -- why bytes are refused; out of memory may come at any time
 abbrev pub IsRefused : (a b : Fsmd) → List ℕ → CertError → Type 0
-IsRefused a b bytes NotJson = (d : Data) → ¬ IsJson bytes d
+IsRefused a b bytes NotJson = IsNotJson bytes
 IsRefused a b bytes Shape = HasOtherShape bytes
 IsRefused a b bytes TooMany = HasTooMany bytes
 IsRefused a b bytes NoMemory = Unit {0}

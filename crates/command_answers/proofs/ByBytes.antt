@@ -10,6 +10,6 @@ use Rattle.command_answers.specs.Keys.{RefusesKeys, ByKey}
 use Rattle.command_answers.specs.Refusing.{WhereAnswered}
 
 -- the refusal of bytes with a fault at a key
-pub at_key : (N : List ℕ → Type 0) (F : KeyFault → (key bytes : List ℕ) → Type 0) (file : Operand) (bytes key : List ℕ) (fault : KeyFault) (r : Refusal) → F fault key bytes → r ≡ Answered (KeyRefused file fault key)
-    → WhereAnswered (RefusesKeys N F file (Readable bytes)) r
-at_key N F file bytes key fault r h e = subst (WhereAnswered (RefusesKeys N F file (Readable bytes))) (sym e) (ByKey fault key h refl)
+pub at_key : (F : KeyFault → (key bytes : List ℕ) → Type 0) (file : Operand) (bytes key : List ℕ) (fault : KeyFault) (r : Refusal) → F fault key bytes → r ≡ Answered (KeyRefused file fault key)
+    → WhereAnswered (RefusesKeys F file (Readable bytes)) r
+at_key F file bytes key fault r h e = subst (WhereAnswered (RefusesKeys F file (Readable bytes))) (sym e) (ByKey fault key h refl)

@@ -6,8 +6,7 @@ use Rattle.fs_model.specs.Source.{Source}
 use Rattle.fs_rules.specs.Spelled.{machine_of}
 use Rattle.hls_bind.specs.declared.faults.Fault.{Fault}
 use Rattle.hls_bind.specs.declared.faults.Fault.TheVariants as faults
-use Rattle.hls_bind.specs.declared.faults.BindError.TheVariants as errors
-use Rattle.hls_bind.specs.Files.{Gives, IsFaulty, IsRefused}
+use Rattle.hls_bind.specs.Files.{Gives, IsFaulty}
 use Rattle.synthesis_answers.specs.Bindings.{Binding, IsBoundText, IsConflictLine}
 use Rattle.command_answers.specs.declared.answer.Operand.{Operand}
 use Rattle.command_answers.specs.declared.answer.Operand.TheVariants.{Second}
@@ -26,11 +25,6 @@ binding_fault faults.Shape = keys.Shape
 binding_fault faults.BadName = keys.BadName
 binding_fault faults.Taken = keys.Taken
 
--- bytes that are read are not JSON
-pub record IsNoBinding (m : Fsmd) (bytes : List ℕ) : Type 0 where
-  pub few : length bytes ≤ most_text_bytes
-  pub refused : IsRefused m.variables bytes errors.NotJson
-
 -- bytes that are read are JSON, whose first fault as a binding of a machine is this, at this name
 pub record HasBindingFault (m : Fsmd) (fault : KeyFault) (name bytes : List ℕ) : Type 0 where
   pub few : length bytes ≤ most_text_bytes
@@ -45,7 +39,7 @@ pub record SpellsBinding (m : Fsmd) (b : Binding) (bytes : List ℕ) : Type 0 wh
 
 -- why a file of a machine's binding is refused
 abbrev pub RefusesBinding : Fsmd → Operand → Content → Answer → Type 0
-RefusesBinding m file content answer = RefusesKeys (IsNoBinding m) (HasBindingFault m) file content answer
+RefusesBinding m file content answer = RefusesKeys (HasBindingFault m) file content answer
 
 -- the answer to a binding of the machine of these parts: the text of the parts with registers, or the first branch that loses a local
 pub data IsOfBinding (p : Source) (b : Binding) (answer : Answer) : Type 0 where
@@ -54,4 +48,4 @@ pub data IsOfBinding (p : Source) (b : Binding) (answer : Answer) : Type 0 where
 
 -- what is said of the parts of a machine and of a file of its binding
 abbrev pub ForBind : Source → Content → Answer → Type 0
-ForBind p content answer = FollowsFromKeys Binding (IsNoBinding (machine_of p)) (HasBindingFault (machine_of p)) (SpellsBinding (machine_of p)) (IsOfBinding p) Second content answer
+ForBind p content answer = FollowsFromKeys Binding (HasBindingFault (machine_of p)) (SpellsBinding (machine_of p)) (IsOfBinding p) Second content answer

@@ -6,8 +6,7 @@ use Rattle.fs_model.specs.Runs.{Inputs}
 use Rattle.fs_runs.specs.InputValues.{Signature, input_signatures}
 use Rattle.fs_inputs.specs.declared.faults.Fault.{Fault}
 use Rattle.fs_inputs.specs.declared.faults.Fault.TheVariants as faults
-use Rattle.fs_inputs.specs.declared.faults.InputError.TheVariants as errors
-use Rattle.fs_inputs.specs.Refusals.{IsFaulty, IsRefused, Spells}
+use Rattle.fs_inputs.specs.Refusals.{IsFaulty, Spells}
 use Rattle.command_answers.specs.declared.answer.Operand.{Operand}
 use Rattle.command_answers.specs.declared.answer.KeyFault.{KeyFault}
 use Rattle.command_answers.specs.declared.answer.KeyFault.TheVariants as keys
@@ -25,11 +24,6 @@ input_fault faults.Shape = keys.Shape
 input_fault faults.Unknown = keys.UnknownName
 input_fault faults.TooBig = keys.NumberTooBig
 
--- bytes that are read are not JSON
-pub record IsNotJson (m : Fsmd) (bytes : List ℕ) : Type 0 where
-  pub few : length bytes ≤ most_text_bytes
-  pub refused : IsRefused (signatures m) bytes errors.NotJson
-
 -- bytes that are read are JSON, whose first fault as inputs of a machine is this, at this name
 pub record HasInputFault (m : Fsmd) (fault : KeyFault) (name bytes : List ℕ) : Type 0 where
   pub few : length bytes ≤ most_text_bytes
@@ -44,8 +38,8 @@ pub record SpellsInputs (m : Fsmd) (ins : Inputs) (bytes : List ℕ) : Type 0 wh
 
 -- why a file of a machine's inputs is refused
 abbrev pub RefusesInputs : Fsmd → Operand → Content → Answer → Type 0
-RefusesInputs m file content answer = RefusesKeys (IsNotJson m) (HasInputFault m) file content answer
+RefusesInputs m file content answer = RefusesKeys (HasInputFault m) file content answer
 
 -- what follows for a file of a machine's inputs: it is refused, or spells inputs of which P says the answer
 abbrev pub FollowsFromInputs : (Inputs → Answer → Type 0) → Fsmd → Operand → Content → Answer → Type 0
-FollowsFromInputs P m file content answer = FollowsFromKeys Inputs (IsNotJson m) (HasInputFault m) (SpellsInputs m) P file content answer
+FollowsFromInputs P m file content answer = FollowsFromKeys Inputs (HasInputFault m) (SpellsInputs m) P file content answer

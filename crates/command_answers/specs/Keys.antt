@@ -1,5 +1,6 @@
 -- Files of JSON objects from keys to values.
-use Rattle.std.specs.Prelude.{◌≡◌, ℕ, List}
+use Rattle.std.specs.Prelude.{◌≡◌, ◌≤◌, ℕ, List, length}
+use Rattle.json_files.specs.Json.{IsNotJson}
 use Rattle.fs_model.specs.Limits.{most_text_bytes}
 use Rattle.command_answers.specs.declared.answer.Operand.{Operand}
 use Rattle.command_answers.specs.declared.answer.KeyFault.{KeyFault}
@@ -8,13 +9,18 @@ use Rattle.command_answers.specs.declared.answer.Answer.TheVariants.{NotJson, Ke
 use Rattle.command_answers.specs.Readings.{Content, OfBytes}
 use Rattle.command_answers.specs.Unread.{IsUnread}
 
--- why such a file is refused: it was not read, or its bytes are no JSON, by N, or have this first fault at a key, by F
-pub data RefusesKeys (N : List ℕ → Type 0) (F : KeyFault → (key bytes : List ℕ) → Type 0) (file : Operand) (content : Content) (answer : Answer) : Type 0 where
-  UnreadKeys : IsUnread most_text_bytes file content answer → RefusesKeys N F file content answer
-  ByJson : OfBytes content N → answer ≡ NotJson file → RefusesKeys N F file content answer
-  ByKey : (fault : KeyFault) (key : List ℕ) → OfBytes content (F fault key) → answer ≡ KeyRefused file fault key → RefusesKeys N F file content answer
+-- bytes that are read are not JSON
+pub record AreNotJson (bytes : List ℕ) : Type 0 where
+  pub few : length bytes ≤ most_text_bytes
+  pub refused : IsNotJson bytes
+
+-- why such a file is refused: it was not read, or its bytes are not JSON, or have this first fault at a key, by F
+pub data RefusesKeys (F : KeyFault → (key bytes : List ℕ) → Type 0) (file : Operand) (content : Content) (answer : Answer) : Type 0 where
+  UnreadKeys : IsUnread most_text_bytes file content answer → RefusesKeys F file content answer
+  ByJson : OfBytes content AreNotJson → answer ≡ NotJson file → RefusesKeys F file content answer
+  ByKey : (fault : KeyFault) (key : List ℕ) → OfBytes content (F fault key) → answer ≡ KeyRefused file fault key → RefusesKeys F file content answer
 
 -- what follows for such a file: it is refused, or spells a value, by S, of which P says the answer
-pub data FollowsFromKeys (T : Type 0) (N : List ℕ → Type 0) (F : KeyFault → (key bytes : List ℕ) → Type 0) (S : T → List ℕ → Type 0) (P : T → Answer → Type 0) (file : Operand) (content : Content) (answer : Answer) : Type 0 where
-  KeysRefused : RefusesKeys N F file content answer → FollowsFromKeys T N F S P file content answer
-  KeysSpelled : (value : T) → OfBytes content (S value) → P value answer → FollowsFromKeys T N F S P file content answer
+pub data FollowsFromKeys (T : Type 0) (F : KeyFault → (key bytes : List ℕ) → Type 0) (S : T → List ℕ → Type 0) (P : T → Answer → Type 0) (file : Operand) (content : Content) (answer : Answer) : Type 0 where
+  KeysRefused : RefusesKeys F file content answer → FollowsFromKeys T F S P file content answer
+  KeysSpelled : (value : T) → OfBytes content (S value) → P value answer → FollowsFromKeys T F S P file content answer

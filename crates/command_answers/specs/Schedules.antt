@@ -7,9 +7,8 @@ use Rattle.fs_ast.specs.Stored.{name_of}
 use Rattle.unit_counts.specs.declared.units.Unit.{Unit as Kind}
 use Rattle.unit_counts.specs.declared.faults.Fault.{Fault}
 use Rattle.unit_counts.specs.declared.faults.Fault.TheVariants as faults
-use Rattle.unit_counts.specs.declared.faults.UnitError.TheVariants as errors
 use Rattle.unit_counts.specs.Counts.{Units}
-use Rattle.unit_counts.specs.Refusals.{Spells, IsFaulty, IsRefused}
+use Rattle.unit_counts.specs.Refusals.{Spells, IsFaulty}
 use Rattle.unit_limits.specs.Over.{over_in}
 use Rattle.synthesis_answers.specs.Schedules.{IsScheduleText}
 use Rattle.command_answers.specs.declared.answer.Operand.{Operand}
@@ -27,11 +26,6 @@ abbrev pub unit_fault : Fault → KeyFault
 unit_fault faults.Shape = keys.Shape
 unit_fault faults.Unknown = keys.UnknownName
 
--- bytes that are read are not JSON
-pub record AreNoUnits (bytes : List ℕ) : Type 0 where
-  pub few : length bytes ≤ most_text_bytes
-  pub refused : IsRefused bytes errors.NotJson
-
 -- bytes that are read are JSON, whose first fault as unit counts is this, at this key
 pub record HaveUnitFault (fault : KeyFault) (key bytes : List ℕ) : Type 0 where
   pub few : length bytes ≤ most_text_bytes
@@ -46,7 +40,7 @@ pub record SpellUnits (units : Units) (bytes : List ℕ) : Type 0 where
 
 -- why a file of unit counts is refused
 abbrev pub RefusesUnits : Operand → Content → Answer → Type 0
-RefusesUnits file content answer = RefusesKeys AreNoUnits HaveUnitFault file content answer
+RefusesUnits file content answer = RefusesKeys HaveUnitFault file content answer
 
 -- the answer to the machine of these parts under these units: its schedule, or the first state of which a transition uses more of a unit
 pub data IsOfSchedule (p : Source) (units : Units) (answer : Answer) : Type 0 where
@@ -55,4 +49,4 @@ pub data IsOfSchedule (p : Source) (units : Units) (answer : Answer) : Type 0 wh
 
 -- what is said of the parts of a machine and of a file of unit counts
 abbrev pub ForSchedule : Source → Content → Answer → Type 0
-ForSchedule p content answer = FollowsFromKeys Units AreNoUnits HaveUnitFault SpellUnits (IsOfSchedule p) Second content answer
+ForSchedule p content answer = FollowsFromKeys Units HaveUnitFault SpellUnits (IsOfSchedule p) Second content answer

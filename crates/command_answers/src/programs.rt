@@ -1,6 +1,6 @@
 //! Reads programs, and compiles them.
 
-ghost use Rattle.std.specs.Prelude.{◌≡◌, ◌≤◌, length, IsTrue, IfOk};
+ghost use Rattle.std.specs.Prelude.{◌≤◌, length, IsTrue, IfOk};
 ghost use Rattle.std.specs.Result.{IfErr};
 ghost use Rattle.fs_model.specs.Limits.{most_text_bytes};
 ghost use Rattle.program_grammar.specs.Texts.{TextSpells};

@@ -1,4 +1,4 @@
-//! Why there is no machine, no inputs, or no verdict.
+//! Why nothing is given of what a file should spell.
 
 ghost use Rattle.std.specs.Prelude.{◌≡◌};
 ghost use Rattle.command_answers.specs.declared.refused.Refused.TheVariants.{NoMemory};
@@ -6,7 +6,7 @@ ghost use Rattle.command_answers.specs.declared.refused.Refused.TheVariants.{NoM
 use crate::answer::Answer;
 use std::alloc::AllocError;
 
-/// Why there is no machine, no inputs, or no verdict.
+/// Why nothing is given of what a file should spell: a machine, inputs, a certificate, a program, unit counts or a binding.
 #[derive(Drop)]
 pub enum Refused {
     /// This is answered instead.

@@ -1,6 +1,6 @@
 //! The bytes of each answer.
 
-ghost use Rattle.std.specs.Prelude.{◌≡◌, ◌++◌, IfOk, codes, decimal, Some, string_bytes};
+ghost use Rattle.std.specs.Prelude.{◌≡◌, ◌++◌, IfOk, codes, Some, string_bytes};
 ghost use Rattle.command_words.specs.Words.{asked};
 ghost use Rattle.command_answers.specs.Replies.{opening, equivalent_text, lines_of, reply, unstored_reply};
 

@@ -27,7 +27,7 @@ fn unended(alloc: Global, side: Side, stop: RunStop) -> Result<Answer, AllocErro
     }
 }
 
-/// What a run of a machine of at most so many steps from inputs answers.
+/// What a run of a machine of at most so many steps from inputs answers. The one refusal is out of memory.
 pub fn run_machine(
     alloc: Global,
     machine: &Machine,
@@ -61,7 +61,8 @@ fn compared(same: bool, lines: Lines) -> Answer
     }
 }
 
-/// What runs of at most so many steps of two machines with the same inputs and outputs answer, from the same inputs.
+/// What runs of at most so many steps of two machines with the same inputs and outputs answer, from the same inputs. The one
+/// refusal is out of memory.
 pub fn replay_machines(
     alloc: Global,
     left: &Machine,

@@ -1,7 +1,7 @@
 -- What bytes are as a file of inputs, and why they are refused.
-use Rattle.std.specs.Prelude.{◌≡◌, ℕ, List, Option, Some, None, string_bytes, IsUtf8}
+use Rattle.std.specs.Prelude.{◌≡◌, ℕ, List, Option, Some, None, string_bytes}
 use Rattle.serde_json.specs.Data.{Data, Members}
-use Rattle.serde_json.specs.Read.{read}
+use Rattle.json_files.specs.Json.{IsJson, IsNotJson}
 use Rattle.serde_json.specs.Find.{as_object}
 use Rattle.fs_model.specs.Runs.{Inputs}
 use Rattle.fs_runs.specs.InputValues.{Signature}
@@ -10,11 +10,6 @@ use Rattle.fs_inputs.specs.declared.faults.Fault.TheVariants as faults
 use Rattle.fs_inputs.specs.declared.faults.InputError.{InputError}
 use Rattle.fs_inputs.specs.declared.faults.InputError.TheVariants.{NotJson, Shape, UnknownName, NumberTooBig, NoMemory}
 use Rattle.fs_inputs.specs.Files.{first_fault, file_fault, inputs_in}
-
--- the bytes are text, and JSON of this value
-pub record IsJson (bytes : List ℕ) (d : Data) : Type 0 where
-  pub text : IsUtf8 bytes
-  pub value : read bytes ≡ Some d
 
 -- a value is an object without fault, which spells these inputs
 pub record SpelledBy (signatures : List Signature) (d : Data) (ins : Inputs) : Type 0 where
@@ -37,19 +32,11 @@ pub record IsFaulty (signatures : List Signature) (bytes name : List ℕ) (f : F
 
 -- why bytes are refused; out of memory may come at any time
 abbrev pub IsRefused : List Signature → List ℕ → InputError → Type 0
-IsRefused signatures bytes NotJson = (d : Data) → ¬ IsJson bytes d
+IsRefused signatures bytes NotJson = IsNotJson bytes
 IsRefused signatures bytes (Shape name) = IsFaulty signatures bytes (string_bytes name) faults.Shape
 IsRefused signatures bytes (UnknownName name) = IsFaulty signatures bytes (string_bytes name) faults.Unknown
 IsRefused signatures bytes (NumberTooBig name) = IsFaulty signatures bytes (string_bytes name) faults.TooBig
 IsRefused signatures bytes NoMemory = Unit {0}
-
--- the refusal of bytes that are not JSON
-abbrev pub IsOfBytes : List ℕ → InputError → Type 0
-IsOfBytes bytes NotJson = (d : Data) → ¬ IsJson bytes d
-IsOfBytes bytes (Shape name) = ⊥
-IsOfBytes bytes (UnknownName name) = ⊥
-IsOfBytes bytes (NumberTooBig name) = ⊥
-IsOfBytes bytes NoMemory = Unit {0}
 
 -- the refusal of a first fault
 abbrev pub IsOfFault : Option (List ℕ × Fault) → InputError → Type 0

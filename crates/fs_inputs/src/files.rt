@@ -8,7 +8,7 @@ ghost use Rattle.serde_json.specs.Find.{as_object};
 ghost use Rattle.fs_runs.specs.InputValues.{inputs_of, input_values, signatures_of, input_signatures, sort_named, Serves};
 ghost use Rattle.fs_inputs.specs.Files.{first_fault, file_fault, fault_at, value_fault, inputs_in};
 ghost use Rattle.fs_inputs.specs.Steps.{place_of, IsGivenAt, Gives, inputs_over};
-ghost use Rattle.fs_inputs.specs.Refusals.{IsJson, SpelledBy, Spells, IsRefused, IsOfBytes, IsOfFault};
+ghost use Rattle.fs_inputs.specs.Refusals.{SpelledBy, Spells, IsRefused, IsOfFault};
 
 use crate::faults::{Fault, InputError};
 use crate::values::{value_fault, value_for};
@@ -16,6 +16,7 @@ use fs_ast::machine::Machine;
 use fs_model::parts::{Role, Sort, VarInfo};
 use fs_runs::inputs::Inputs;
 use fs_runs::memory::NoMemory;
+use json_files::{JsonError, read_json};
 use serde_json::{Map, Value};
 use std::alloc::Global;
 
@@ -164,21 +165,6 @@ fn read_object(alloc: Global, m: &Machine, value: &Value) -> Result<Inputs, Inpu
     Ok(spelled_inputs(alloc, m, members)?)
 }
 
-// The value that bytes are as JSON.
-fn parse(alloc: Global, bytes: &[u8]) -> Result<Value, InputError>
-    ensures json { IfOk result (λ v. IsJson bytes.now (view v)) }
-    ensures refused { IfErr result (λ e. IsOfBytes bytes.now e) }
-{
-    match Value::from_slice(alloc, bytes) {
-        Ok(value) => Ok(value),
-        Err(e) => if e.is_memory() {
-            Err(InputError::NoMemory)
-        } else {
-            Err(InputError::NotJson)
-        },
-    }
-}
-
 /// Reads a file of inputs for a machine, in time linear in the file.
 ///
 /// `NotJson` comes exactly when the bytes are not UTF-8 text, or are not JSON as `serde_json` reads
@@ -194,6 +180,10 @@ pub fn read_inputs(alloc: Global, bytes: &[u8], m: &Machine) -> Result<Inputs, I
     ensures signatures { IfOk result (λ ins. signatures_of ins ≡ input_signatures m.now.variables) }
     ensures serves { IfOk result (λ ins. Serves (signatures_of ins) m.now) }
 {
-    let value = parse(alloc, bytes)?;
+    let value = match read_json(alloc, bytes) {
+        Ok(value) => value,
+        Err(JsonError::NotJson) => return Err(InputError::NotJson),
+        Err(JsonError::NoMemory) => return Err(InputError::NoMemory),
+    };
     read_object(alloc, m, &value)
 }

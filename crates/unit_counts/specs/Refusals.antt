@@ -1,18 +1,13 @@
 -- What bytes are as a file of unit counts, and why they are refused.
-use Rattle.std.specs.Prelude.{◌≡◌, ℕ, List, Option, Some, None, string_bytes, IsUtf8}
+use Rattle.std.specs.Prelude.{◌≡◌, ℕ, List, Option, Some, None, string_bytes}
 use Rattle.serde_json.specs.Data.{Data, Members}
-use Rattle.serde_json.specs.Read.{read}
+use Rattle.json_files.specs.Json.{IsJson, IsNotJson}
 use Rattle.serde_json.specs.Find.{as_object}
 use Rattle.unit_counts.specs.declared.faults.Fault.{Fault}
 use Rattle.unit_counts.specs.declared.faults.Fault.TheVariants as faults
 use Rattle.unit_counts.specs.declared.faults.UnitError.{UnitError}
 use Rattle.unit_counts.specs.declared.faults.UnitError.TheVariants.{NotJson, Shape, UnknownName, NoMemory}
 use Rattle.unit_counts.specs.Counts.{Units, first_fault, file_fault, counts_in}
-
--- the bytes are text, and JSON of this value
-pub record IsJson (bytes : List ℕ) (d : Data) : Type 0 where
-  pub text : IsUtf8 bytes
-  pub value : read bytes ≡ Some d
 
 -- a value is an object without fault, which gives these counts
 pub record SpelledBy (d : Data) (units : Units) : Type 0 where
@@ -35,17 +30,10 @@ pub record IsFaulty (bytes key : List ℕ) (f : Fault) : Type 0 where
 
 -- why bytes are refused; out of memory may come at any time
 abbrev pub IsRefused : List ℕ → UnitError → Type 0
-IsRefused bytes NotJson = (d : Data) → ¬ IsJson bytes d
+IsRefused bytes NotJson = IsNotJson bytes
 IsRefused bytes (Shape name) = IsFaulty bytes (string_bytes name) faults.Shape
 IsRefused bytes (UnknownName name) = IsFaulty bytes (string_bytes name) faults.Unknown
 IsRefused bytes NoMemory = Unit {0}
-
--- the refusal of bytes that are not JSON
-abbrev pub IsOfBytes : List ℕ → UnitError → Type 0
-IsOfBytes bytes NotJson = (d : Data) → ¬ IsJson bytes d
-IsOfBytes bytes (Shape name) = ⊥
-IsOfBytes bytes (UnknownName name) = ⊥
-IsOfBytes bytes NoMemory = Unit {0}
 
 -- the refusal of a first fault
 abbrev pub IsOfFault : Option (List ℕ × Fault) → UnitError → Type 0

@@ -5,10 +5,11 @@ ghost use Rattle.std.specs.Option.{option_map};
 ghost use Rattle.serde_json.specs.View.{view, members_view};
 ghost use Rattle.serde_json.specs.Find.{as_object};
 ghost use Rattle.unit_counts.specs.Counts.{units_in, is_kind, value_fault, fault_at, first_fault, file_fault, count_of, counts_in};
-ghost use Rattle.unit_counts.specs.Refusals.{IsJson, Spells, SpelledBy, IsRefused, IsOfBytes, IsOfFault};
+ghost use Rattle.unit_counts.specs.Refusals.{Spells, SpelledBy, IsRefused, IsOfFault};
 
 use crate::faults::{Fault, UnitError};
 use crate::units::Units;
+use json_files::{JsonError, read_json};
 use serde_json::{Map, Value};
 use std::alloc::Global;
 
@@ -106,21 +107,6 @@ fn read_object(alloc: Global, value: &Value) -> Result<Units, UnitError>
     Ok(counts_in(value))
 }
 
-// The value that bytes are as JSON.
-fn parse(alloc: Global, bytes: &[u8]) -> Result<Value, UnitError>
-    ensures json { IfOk result (λ v. IsJson bytes.now (view v)) }
-    ensures refused { IfErr result (λ e. IsOfBytes bytes.now e) }
-{
-    match Value::from_slice(alloc, bytes) {
-        Ok(value) => Ok(value),
-        Err(e) => if e.is_memory() {
-            Err(UnitError::NoMemory)
-        } else {
-            Err(UnitError::NotJson)
-        },
-    }
-}
-
 /// Reads a file of unit counts, in time linear in the file.
 ///
 /// `NotJson` comes exactly when the bytes are not UTF-8 text, or are not JSON as `serde_json` reads it. Else
@@ -132,6 +118,10 @@ pub fn read_units(alloc: Global, bytes: &[u8]) -> Result<Units, UnitError>
     ensures spelled { IfOk result (λ units. Spells bytes.now (units_in units)) }
     ensures refused { IfErr result (λ e. IsRefused bytes.now e) }
 {
-    let value = parse(alloc, bytes)?;
+    let value = match read_json(alloc, bytes) {
+        Ok(value) => value,
+        Err(JsonError::NotJson) => return Err(UnitError::NotJson),
+        Err(JsonError::NoMemory) => return Err(UnitError::NoMemory),
+    };
     read_object(alloc, &value)
 }

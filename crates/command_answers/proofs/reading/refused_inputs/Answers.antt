@@ -1,7 +1,7 @@
 use Rattle.std.proofs.Common.{refl}
 use Rattle.fs_inputs.specs.declared.faults.Fault.TheVariants.{Shape, Unknown, TooBig}
 use Rattle.command_answers.specs.Keys.{ByJson}
-use Rattle.command_answers.specs.InputFiles.{IsNotJson, HasInputFault}
+use Rattle.command_answers.specs.InputFiles.{HasInputFault}
 use Rattle.command_answers.proofs.ByBytes.{at_key}
 use Rattle.command_answers.proofs.reading.refused_inputs.Goals as goal
 
@@ -11,14 +11,14 @@ returns-in-NotJson c = λ m bytes few h. let f = rw c.in-NotJson.is at h in ByJs
 pub returns-in-Shape : goal.returns-in-Shape
 returns-in-Shape c = λ m bytes few h.
     let f = rw c.in-Shape.is at h in
-    at_key (IsNotJson m) (HasInputFault m) c.args.file bytes _ _ _ (record { few = few; kind = Shape; is = refl; faulty = f }) c.refused_at.ensures
+    at_key (HasInputFault m) c.args.file bytes _ _ _ (record { few = few; kind = Shape; is = refl; faulty = f }) c.refused_at.ensures
 
 pub returns-in-UnknownName : goal.returns-in-UnknownName
 returns-in-UnknownName c = λ m bytes few h.
     let f = rw c.in-UnknownName.is at h in
-    at_key (IsNotJson m) (HasInputFault m) c.args.file bytes _ _ _ (record { few = few; kind = Unknown; is = refl; faulty = f }) c.refused_at-in-UnknownName.ensures
+    at_key (HasInputFault m) c.args.file bytes _ _ _ (record { few = few; kind = Unknown; is = refl; faulty = f }) c.refused_at-in-UnknownName.ensures
 
 pub returns-in-NumberTooBig : goal.returns-in-NumberTooBig
 returns-in-NumberTooBig c = λ m bytes few h.
     let f = rw c.in-NumberTooBig.is at h in
-    at_key (IsNotJson m) (HasInputFault m) c.args.file bytes _ _ _ (record { few = few; kind = TooBig; is = refl; faulty = f }) c.refused_at-in-NumberTooBig.ensures
+    at_key (HasInputFault m) c.args.file bytes _ _ _ (record { few = few; kind = TooBig; is = refl; faulty = f }) c.refused_at-in-NumberTooBig.ensures

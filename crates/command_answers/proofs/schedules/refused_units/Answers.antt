@@ -1,7 +1,7 @@
 use Rattle.std.proofs.Common.{refl}
 use Rattle.unit_counts.specs.declared.faults.Fault.TheVariants.{Shape, Unknown}
 use Rattle.command_answers.specs.Keys.{ByJson}
-use Rattle.command_answers.specs.Schedules.{AreNoUnits, HaveUnitFault}
+use Rattle.command_answers.specs.Schedules.{HaveUnitFault}
 use Rattle.command_answers.proofs.ByBytes.{at_key}
 use Rattle.command_answers.proofs.schedules.refused_units.Goals as goal
 
@@ -11,9 +11,9 @@ returns-in-NotJson c = λ bytes few h. let f = rw c.in-NotJson.is at h in ByJson
 pub returns-in-Shape : goal.returns-in-Shape
 returns-in-Shape c = λ bytes few h.
     let f = rw c.in-Shape.is at h in
-    at_key AreNoUnits HaveUnitFault c.args.file bytes _ _ _ (record { few = few; kind = Shape; is = refl; faulty = f }) c.refused_at.ensures
+    at_key HaveUnitFault c.args.file bytes _ _ _ (record { few = few; kind = Shape; is = refl; faulty = f }) c.refused_at.ensures
 
 pub returns-in-UnknownName : goal.returns-in-UnknownName
 returns-in-UnknownName c = λ bytes few h.
     let f = rw c.in-UnknownName.is at h in
-    at_key AreNoUnits HaveUnitFault c.args.file bytes _ _ _ (record { few = few; kind = Unknown; is = refl; faulty = f }) c.refused_at-in-UnknownName.ensures
+    at_key HaveUnitFault c.args.file bytes _ _ _ (record { few = few; kind = Unknown; is = refl; faulty = f }) c.refused_at-in-UnknownName.ensures
