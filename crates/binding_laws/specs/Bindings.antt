@@ -7,7 +7,7 @@ use Rattle.std.specs.Ordering.{nat_cmp}
 use Rattle.std.specs.Cmp.Lexicographic.{slice_cmp}
 use Rattle.std.specs.Str.{bytes_eq}
 use Rattle.fs_model.specs.declared.parts.Role.{Role}
-use Rattle.fs_model.specs.declared.parts.Role.TheVariants.{Input, Output, Local}
+use Rattle.fs_model.specs.declared.parts.Role.TheVariants.{Local}
 use Rattle.fs_model.specs.declared.parts.Sort.TheVariants.{Scalar}
 use Rattle.fs_model.specs.declared.parts.VarInfo.{VarInfo}
 use Rattle.fs_model.specs.Runs.{is_scalar}

@@ -3,7 +3,7 @@ use Rattle.std.specs.Prelude.{◌≡◌, ◌≢◌, ℕ, ◌<◌, Bool, true, fa
 use Rattle.fs_model.specs.Machines.{Fsmd}
 use Rattle.fs_rules.specs.Sound.{branch_count}
 use Rattle.fs_cut.specs.Paths.{branch_at, target_of}
-use Rattle.binding_laws.specs.Liveness.{reads, writes, IsLive}
+use Rattle.binding_laws.specs.Liveness.{reads, writes}
 
 -- a set has each state of which a branch reads x, and each of which a branch leads into it without writing x or returning
 pub record IsClosed (m : Fsmd) (x : ℕ) (set : ℕ → Bool) : Type 0 where

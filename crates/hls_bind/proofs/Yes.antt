@@ -1,28 +1,18 @@
 -- The parts with registers and their machine are right.
-use Rattle.std.proofs.Common.{◌≡◌, ℕ, List, ap, sym, ◌∙◌, subst, length, inl, inr, ◌⊎◌, [], arith}
-use Rattle.std.specs.Prelude.{Contains, IsTrue}
+use Rattle.std.proofs.Common.{◌≡◌, ℕ, List, ap, sym, ◌∙◌, subst, inl, inr}
+use Rattle.std.specs.Prelude.{IsTrue}
 use Rattle.fs_model.specs.Machines.{Fsmd}
 use Rattle.fs_model.specs.Source.{Source}
 use Rattle.fs_model.specs.Runs.{SameBehaviour}
 use Rattle.fs_model.specs.WellFormed.{is_well_formed}
-use Rattle.fs_rules.specs.declared.check.CheckFault.{CheckFault}
 use Rattle.fs_rules.specs.Spelled.{machine_of, variables_of}
 use Rattle.fs_rules.specs.Sound.{IsSound}
-use Rattle.fs_rules.specs.Rules.{plain_faults, branch_faults, Broken, IsLawful}
+use Rattle.fs_rules.specs.Rules.{IsLawful}
 use Rattle.binding_laws.specs.Bindings.{IsBindingOf, bound_parts}
 use Rattle.binding_laws.proofs.Formed.{bound_formed}
 use Rattle.binding_laws.proofs.Whole.{bound_lawful}
 use Rattle.binding_laws.proofs.Renamed.{bound_parts_behave}
 use Rattle.hls_bind.specs.Results.{IsBuiltOf, IsBoundParts, HasNoConflict, IsYes}
-
-none_in : (xs : List CheckFault) (f : CheckFault) → xs ≡ [] → Contains xs f → ⊥
-none_in xs f e x = let low = x.1 in let count : length xs ≡ 0 = ap length e in omega arith
-
--- of lawful parts no rule is broken
-pub unbroken : (p : Source) (f : CheckFault) → IsLawful p → Broken p f → ⊥
-unbroken p f l (inl x) = none_in (plain_faults p) f l.plain x
-unbroken p f l (inr (e, inl x)) = none_in (branch_faults p) f l.branches x
-unbroken p f l (inr (e, inr (rule, x))) = l.ends f.line x
 
 module _ (p q : Source) (m : Fsmd) (b : List (ℕ × List ℕ)) (built : IsBuiltOf p m) (binds : IsBindingOf m.variables b) (free : HasNoConflict b m) (sound : IsSound m) (x : IsBoundParts b p q) where
   sound_p : IsSound (machine_of p)

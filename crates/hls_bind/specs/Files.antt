@@ -1,10 +1,10 @@
 -- What an object of names and values is as a file of a binding.
-use Rattle.std.specs.Prelude.{◌≡◌, ℕ, suc, Bool, cond, List, [], ◌∷◌, ◌++◌, Option, Some, None, option_map, slice_get, string_bytes, IsUtf8}
+use Rattle.std.specs.Prelude.{◌≡◌, ℕ, suc, Bool, cond, List, [], ◌∷◌, ◌++◌, Option, Some, None, option_map, slice_get, string_bytes}
 use Rattle.std.specs.Option.{option_or}
 use Rattle.std.specs.List.{list_any}
 use Rattle.std.specs.Str.{bytes_eq}
 use Rattle.serde_json.specs.Data.{Data, Members, no_members, member}
-use Rattle.serde_json.specs.Read.{read}
+use Rattle.json_files.specs.Json.{IsJson, IsNotJson}
 use Rattle.serde_json.specs.Find.{as_str, as_object}
 use Rattle.fs_model.specs.declared.parts.VarInfo.{VarInfo}
 use Rattle.fs_model.specs.Words.{is_name}
@@ -56,11 +56,6 @@ abbrev pub binding_from : ℕ → List VarInfo → Members → List (ℕ × List
 binding_from x [] ms = []
 binding_from x (v ∷ vs) ms = entry_at x (register_given ms v.name) ++ binding_from (suc x) vs ms
 
--- the bytes are text, and JSON of this value
-pub record IsJson (bytes : List ℕ) (d : Data) : Type 0 where
-  pub text : IsUtf8 bytes
-  pub value : read bytes ≡ Some d
-
 -- a value is an object without fault, which gives this binding
 pub record GivenBy (vs : List VarInfo) (d : Data) (b : List (ℕ × List ℕ)) : Type 0 where
   pub members : Members
@@ -82,21 +77,12 @@ pub record IsFaulty (vs : List VarInfo) (bytes name : List ℕ) (f : Fault) : Ty
 
 -- why bytes are refused; out of memory may come at any time
 abbrev pub IsRefused : List VarInfo → List ℕ → BindError → Type 0
-IsRefused vs bytes NotJson = (d : Data) → ¬ IsJson bytes d
+IsRefused vs bytes NotJson = IsNotJson bytes
 IsRefused vs bytes (Shape name) = IsFaulty vs bytes (string_bytes name) faults.Shape
 IsRefused vs bytes (UnknownName name) = IsFaulty vs bytes (string_bytes name) faults.Unknown
 IsRefused vs bytes (BadName name) = IsFaulty vs bytes (string_bytes name) faults.BadName
 IsRefused vs bytes (Taken name) = IsFaulty vs bytes (string_bytes name) faults.Taken
 IsRefused vs bytes NoMemory = Unit {0}
-
--- the refusal of bytes that are not JSON
-abbrev pub IsOfBytes : List ℕ → BindError → Type 0
-IsOfBytes bytes NotJson = (d : Data) → ¬ IsJson bytes d
-IsOfBytes bytes (Shape name) = ⊥
-IsOfBytes bytes (UnknownName name) = ⊥
-IsOfBytes bytes (BadName name) = ⊥
-IsOfBytes bytes (Taken name) = ⊥
-IsOfBytes bytes NoMemory = Unit {0}
 
 -- the refusal of a first fault
 abbrev pub IsOfFault : Option (List ℕ × Fault) → BindError → Type 0

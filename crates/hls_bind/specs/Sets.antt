@@ -1,5 +1,5 @@
 -- Sets of variables below 128 as numbers of 128 bits, and what branches do to the sets of what is live.
-use Rattle.std.specs.Prelude.{ℕ, zero, suc, ◌*◌, ◌%◌, ◌^◌, ◌==◌, nat_lt, Bool, cond, List, [], ◌∷◌, ◌++◌, map, length, bit_or}
+use Rattle.std.specs.Prelude.{ℕ, zero, suc, ◌*◌, ◌%◌, ◌^◌, ◌==◌, nat_lt, Bool, cond, List, [], ◌∷◌, ◌++◌, map, bit_or}
 use Rattle.std.specs.Int.{bit_at, bit_not, w128}
 use Rattle.fs_model.specs.Machines.{Fsmd, transitions_of}
 use Rattle.fs_model.specs.Trees.{Branch, branches_of}

@@ -103,7 +103,7 @@ fn branch_at(m: &Machine, state: StateId, number: u32) -> &Branch
     &m.branches(state)[number as usize]
 }
 
-// The first pair of which a branch loses one.
+// The first pair of which the branch of a number loses one.
 fn conflict_at(
     m: &Machine,
     all: &[BoundLocal],

@@ -8,9 +8,8 @@ ghost use Rattle.binding_laws.specs.Bindings.{is_rising, AreRegisters, stays, wi
 ghost use Rattle.hls_bind.specs.Entries.{entry_of};
 
 use crate::binding::BoundLocal;
-use crate::memory::NoMemory;
 use crate::renaming::{Registers, place, register_at};
-use fs_model::name::Name;
+use fs_model::name::{Name, NoMemory};
 use fs_model::parts::{Decl, Role, Sort};
 use std::alloc::Global;
 

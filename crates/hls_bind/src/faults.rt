@@ -3,7 +3,7 @@
 ghost use Rattle.std.specs.Prelude.{◌≡◌};
 ghost use Rattle.hls_bind.specs.declared.faults.BindError.TheVariants as errors;
 
-use crate::memory::NoMemory;
+use fs_model::name::NoMemory;
 use std::alloc::AllocError;
 use thiserror::Error;
 

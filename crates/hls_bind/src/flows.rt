@@ -1,21 +1,17 @@
 //! What is live at each state, as sets of variables.
 
-ghost use Rattle.std.specs.Prelude.{◌≡◌, ◌≤◌, ◌<◌, ◌++◌, length, map, IfOk, All};
-ghost use Rattle.std.specs.Int.{bit_not, w128};
+ghost use Rattle.std.specs.Prelude.{◌≡◌, ◌<◌, ◌++◌, length, map, IfOk};
 ghost use Rattle.std.specs.List.{flat_map};
 ghost use Rattle.std.specs.Result.{OnOk};
 ghost use Rattle.fs_model.specs.View.{term_of, literal_of, assignment_of, branch_of};
-ghost use Rattle.fs_model.specs.Machines.{transitions_of};
 ghost use Rattle.fs_model.specs.Parts.{scalars, uses_in_literal};
-ghost use Rattle.fs_model.specs.Trees.{branches_of};
 ghost use Rattle.fs_rules.specs.Sound.{scalars_in, assigned_in};
-ghost use Rattle.live_sets.specs.Flows.{IsInside};
-ghost use Rattle.binding_laws.specs.Liveness.{read_by, read_by_assignment};
+ghost use Rattle.binding_laws.specs.Liveness.{read_by_assignment};
 ghost use Rattle.hls_bind.specs.Sets.{single, with_all, is_in, flow_of, flows_at, flows_below};
 ghost use Rattle.hls_bind.specs.Live.{HasLive};
 
-use crate::memory::NoMemory;
 use fs_ast::machine::Machine;
+use fs_model::name::NoMemory;
 use fs_model::parts::{Assign, Branch, Expr, Lit, StateId, VarId};
 use live_sets::flows::{Flow, live_sets};
 use std::alloc::Global;

@@ -10,13 +10,12 @@ mod conflicts;
 mod declarations;
 mod faults;
 mod flows;
-mod memory;
 mod outcome;
 mod reader;
 mod renaming;
 
 pub use binding::{Binding, BoundLocal};
 pub use faults::BindError;
-pub use memory::NoMemory;
+pub use fs_model::name::NoMemory;
 pub use outcome::{Bound, bind};
 pub use reader::read_binding;

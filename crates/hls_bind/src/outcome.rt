@@ -1,12 +1,9 @@
 //! Binding the locals of a machine to registers.
 
-ghost use Rattle.std.specs.Prelude.{◌≡◌, ◌++◌, map, IfOk, IsTrue};
+ghost use Rattle.std.specs.Prelude.{◌≡◌, ◌++◌, map, IfOk};
 ghost use Rattle.std.specs.Option.{option_map};
 ghost use Rattle.fs_model.specs.View.{source_of, declaration_of};
-ghost use Rattle.fs_model.specs.WellFormed.{is_well_formed};
 ghost use Rattle.fs_rules.specs.Spelled.{machine_of, names_of, variables_of};
-ghost use Rattle.fs_rules.specs.Sound.{IsSound};
-ghost use Rattle.fs_rules.specs.Rules.{IsLawful};
 ghost use Rattle.binding_laws.specs.Bindings.{IsBindingOf, remaining, of_registers, bound_parts};
 ghost use Rattle.hls_bind.specs.Entries.{entry_of, conflict_of};
 ghost use Rattle.hls_bind.specs.Results.{IsBuiltOf, IsBoundParts, HasNoConflict, IsVerdict, IsRight};
@@ -15,12 +12,11 @@ use crate::binding::Binding;
 use crate::conflicts::{Conflict, first_conflict};
 use crate::declarations::{declare_registers, registers_of, remaining};
 use crate::flows::live_at_states;
-use crate::memory::NoMemory;
 use crate::renaming::{Registers, renamed_states};
-use fs_ast::build::BuildError;
 use fs_ast::machine::Machine;
-use fs_model::name::Name;
+use fs_model::name::{Name, NoMemory};
 use fs_model::parts::{Decl, Parts, StateId, VarId};
+use lawful_machines::build_lawful;
 use std::alloc::Global;
 
 /// What comes of binding locals to registers.
@@ -33,7 +29,7 @@ pub enum Bound {
         machine: Machine,
     },
     /// The first branch that loses one of two locals with one register: it writes the first, and it writes the other
-    /// too (`twice`), or the other is live where it leads.
+    /// too (`twice`), or the other is live where it leads. Branches of a state count from 0.
     No {
         state: StateId,
         branch: u32,
@@ -100,23 +96,6 @@ fn bound_parts(alloc: Global, parts: &Parts, m: &Machine, b: &Binding) -> Result
     parts_with(alloc, &registers, parts, names)
 }
 
-// The machine of parts that break no rule.
-fn built(alloc: Global, parts: &Parts) -> Result<Machine, NoMemory>
-    requires formed { IsTrue (is_well_formed (source_of parts.now)) }
-    requires lawful { IsLawful (source_of parts.now) }
-    ensures spelled { IfOk result (λ m. m ≡ machine_of (source_of parts.now)) }
-    ensures sound { IfOk result (λ m. IsSound m) }
-{
-    match Machine::build(alloc, parts) {
-        Ok(machine) => {
-            let _vars = machine.vars();
-            Ok(machine)
-        }
-        Err(BuildError::NoMemory) => Err(NoMemory),
-        Err(BuildError::Check(_)) => unreachable!(),
-    }
-}
-
 // The parts with registers and their machine, where no branch loses a local.
 fn with_registers(alloc: Global, parts: &Parts, m: &Machine, b: &Binding) -> Result<Bound, NoMemory>
     requires built { IsBuiltOf (source_of parts.now) m.now }
@@ -126,7 +105,7 @@ fn with_registers(alloc: Global, parts: &Parts, m: &Machine, b: &Binding) -> Res
 {
     let _vars = m.vars();
     let new_parts = bound_parts(alloc, parts, m, b)?;
-    let machine = built(alloc, &new_parts)?;
+    let machine = build_lawful(alloc, &new_parts)?;
     Ok(Bound::Yes {
         parts: new_parts,
         machine,

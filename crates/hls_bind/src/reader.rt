@@ -9,14 +9,14 @@ ghost use Rattle.fs_model.specs.Words.{is_name};
 ghost use Rattle.fs_model.specs.Limits.{most_variables};
 ghost use Rattle.binding_laws.specs.Bindings.{is_scalar_local, IsBindingOf};
 ghost use Rattle.hls_bind.specs.Entries.{entry_of};
-ghost use Rattle.hls_bind.specs.Files.{is_taken, names_local, register_fault, fault_at, first_fault, file_fault, register_given, entry_at, binding_from, IsJson, GivenBy, Gives, IsRefused, IsOfBytes, IsOfFault};
+ghost use Rattle.hls_bind.specs.Files.{is_taken, names_local, register_fault, fault_at, first_fault, file_fault, register_given, entry_at, binding_from, GivenBy, Gives, IsRefused, IsOfFault};
 
 use crate::binding::{Binding, BoundLocal};
 use crate::faults::{BindError, Fault};
-use crate::memory::NoMemory;
 use fs_ast::machine::Machine;
-use fs_model::name::{Name, is_name};
+use fs_model::name::{Name, NoMemory, is_name};
 use fs_model::parts::{Role, VarId, VarInfo};
+use json_files::{JsonError, read_json};
 use serde_json::{Map, Value};
 use std::alloc::Global;
 
@@ -27,7 +27,7 @@ fn is_named(var: &VarInfo, name: &[u8]) -> bool
     var.name.bytes() == name
 }
 
-// Whether a variable has the name.
+// Whether one of the variables has the name.
 fn is_taken(vars: &[VarInfo], name: &[u8]) -> bool
     ensures { result ≡ is_taken vars.now name.now }
 {
@@ -181,21 +181,6 @@ fn read_object(alloc: Global, m: &Machine, value: &Value) -> Result<Binding, Bin
     Ok(binding_of(alloc, m, members)?)
 }
 
-// The value that bytes are as JSON.
-fn parse(alloc: Global, bytes: &[u8]) -> Result<Value, BindError>
-    ensures json { IfOk result (λ v. IsJson bytes.now (view v)) }
-    ensures refused { IfErr result (λ e. IsOfBytes bytes.now e) }
-{
-    match Value::from_slice(alloc, bytes) {
-        Ok(value) => Ok(value),
-        Err(e) => if e.is_memory() {
-            Err(BindError::NoMemory)
-        } else {
-            Err(BindError::NotJson)
-        },
-    }
-}
-
 /// Reads a file of a binding for a machine: a JSON object from names of scalar locals to names of registers.
 ///
 /// `NotJson` comes exactly where the bytes are not UTF-8 text, or are not JSON as `serde_json` reads it. Else `Shape`
@@ -208,6 +193,10 @@ pub fn read_binding(alloc: Global, bytes: &[u8], m: &Machine) -> Result<Binding,
     ensures of_machine { IfOk result (λ b. IsBindingOf m.now.variables b) }
     ensures refused { IfErr result (λ e. IsRefused m.now.variables bytes.now e) }
 {
-    let value = parse(alloc, bytes)?;
+    let value = match read_json(alloc, bytes) {
+        Ok(value) => value,
+        Err(JsonError::NotJson) => return Err(BindError::NotJson),
+        Err(JsonError::NoMemory) => return Err(BindError::NoMemory),
+    };
     read_object(alloc, m, &value)
 }

@@ -1,8 +1,6 @@
 //! States in which registers stand for the locals that are bound to them.
 
 ghost use Rattle.std.specs.Prelude.{◌≡◌, map, option_map, IfOk};
-ghost use Rattle.std.specs.Option.{unwrap_or};
-ghost use Rattle.std.specs.Str.{bytes_eq};
 ghost use Rattle.fs_model.specs.Renamed.{guard_over, assignment_over};
 ghost use Rattle.fs_model.specs.View.{named_guard, named_assignment, source_transition_of, source_state_of};
 ghost use Rattle.fs_ast.specs.Spelled.{place, names_of};
@@ -10,9 +8,8 @@ ghost use Rattle.binding_laws.specs.Bindings.{register, renamed, transition_rena
 ghost use Rattle.hls_bind.specs.Entries.{entry_of, name_for};
 
 use crate::binding::BoundLocal;
-use crate::memory::NoMemory;
 use fs_model::copies::{Rename, renamed_assignments};
-use fs_model::name::{Name, NoMemory as NoCopy};
+use fs_model::name::{Name, NoMemory};
 use fs_model::parts::{Assign, Guard, RawLine, RawState, VarInfo};
 use std::alloc::Global;
 
@@ -56,7 +53,7 @@ impl<'a> Rename<Name> for Registers<'a> {
 
     ghost renamed = { λ own n. name_for own n };
 
-    fn rename(&self, alloc: Global, variable: &Name) -> Result<Name, NoCopy> {
+    fn rename(&self, alloc: Global, variable: &Name) -> Result<Name, NoMemory> {
         match register_at(self.entries, place(self.vars, variable)) {
             Some(register) => register.try_clone(alloc),
             None => variable.try_clone(alloc),

@@ -28,7 +28,7 @@ pub struct Compiled {
 /// The machine of a well-formed program. It does what the program does: from the same inputs it has a run to the same
 /// outputs exactly where the program ends with them. Each statement has a state, `k1`, `k2` and so on in order of the text,
 /// on the statement's line; the reset state `k0` goes to the first. `Check` is the first rule that the parts break, as
-/// `Machine::build` answers it; `Text` is never answered.
+/// `Machine::build` answers it; `Text` is never answered. `NoMemory`: out of memory, or 2^32 - 1 statements or more.
 #[tactic(auto, using(crate::proofs::Few::lawful, crate::proofs::Few::does, crate::proofs::Few::broken, crate::proofs::Few::no_memory))]
 pub fn compile(alloc: Global, program: &Program) -> Result<Compiled, LangError>
     requires formed { IsTrue (is_well_formed (program_of program.now)) }

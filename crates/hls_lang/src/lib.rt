@@ -3,5 +3,5 @@
 
 pub mod compile;
 
-pub use program_parts::{memory, program, well_formed};
+pub use program_parts::{program, well_formed};
 pub use program_text::{fault, read_program};

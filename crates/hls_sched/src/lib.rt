@@ -1,7 +1,6 @@
 //! List scheduling of the straight lines of a machine under a number of units.
 #![tactic(auto)]
 
-pub mod memory;
 mod moves;
 mod parts;
 mod plans;

@@ -11,7 +11,7 @@ ghost use Rattle.line_filling.specs.Waiting.{rows_in};
 ghost use Rattle.scheduled_sources.specs.Rows.{row_of, rows_in_line};
 ghost use Rattle.hls_sched.specs.Moves.{joined_items, move_of, target_of_row, row_in_state, IsMoveAmong, IsPlanFor};
 
-use crate::memory::NoMemory;
+use fs_model::name::NoMemory;
 use fs_model::parts::StateId;
 use line_filling::plan::Plan;
 use line_tracing::lines::Line;

@@ -1,6 +1,6 @@
 //! The parts of a machine with its lines in rows.
 
-ghost use Rattle.std.specs.Prelude.{◌≡◌, ℕ, ◌<◌, ◌∷◌, ◌++◌, [], map, option_map, length, IfOk, IfSome};
+ghost use Rattle.std.specs.Prelude.{◌≡◌, ℕ, ◌<◌, ◌++◌, map, option_map, length, IfOk, IfSome};
 ghost use Rattle.std.specs.List.{All};
 ghost use Rattle.std.specs.Result.{OnOk};
 ghost use Rattle.fs_model.specs.Source.{Source};
@@ -9,10 +9,9 @@ ghost use Rattle.scheduled_sources.specs.Rows.{first_assignments, found};
 ghost use Rattle.scheduled_sources.specs.Sources.{moved, states_by, source_by_rows};
 ghost use Rattle.hls_sched.specs.Moves.{joined_items, done_by, move_of, IsMoveAmong};
 
-use crate::memory::NoMemory;
 use crate::moves::Move;
 use fs_ast::machine::Machine;
-use fs_model::name::Name;
+use fs_model::name::{Name, NoMemory};
 use fs_model::parts::{Assign, Parts, RawLine, RawState, StateId};
 use line_tracing::lines::is_straight;
 use part_copies::assignments::add_assignments;
@@ -58,15 +57,6 @@ fn joined_items(
     Ok(out)
 }
 
-// A list of one transition.
-fn alone(alloc: Global, line: RawLine) -> Result<Vec<RawLine>, NoMemory>
-    ensures { IfOk result (λ out. out.items ≡ line ∷ []) }
-{
-    let mut out = Vec::new(alloc);
-    out.push(line)?;
-    Ok(out)
-}
-
 // A state with a move for its one transition.
 fn moved_state(
     alloc: Global,
@@ -80,19 +70,16 @@ fn moved_state(
     let name = state.name.try_clone(alloc)?;
     let target = parts.states[by.target.0 as usize].name.try_clone(alloc)?;
     let assigns = joined_items(alloc, parts, &by.items)?;
-    let lines = alone(
-        alloc,
-        RawLine {
-            line: state.line,
-            guard: None,
-            target,
-            assigns,
-        },
-    )?;
+    let line = RawLine {
+        line: state.line,
+        guard: None,
+        target,
+        assigns,
+    };
     Ok(RawState {
         line: state.line,
         name,
-        lines,
+        lines: vec![in alloc; line]?,
     })
 }
 

@@ -1,6 +1,6 @@
 //! Plans of lines.
 
-ghost use Rattle.std.specs.Prelude.{◌≡◌, ◌<◌, ◌≤◌, length, map, IfOk};
+ghost use Rattle.std.specs.Prelude.{◌≡◌, ◌<◌, length, map, IfOk};
 ghost use Rattle.std.specs.List.{All};
 ghost use Rattle.line_machines.specs.Lines.{item_of, items_at};
 ghost use Rattle.unit_counts.specs.declared.units.Unit.{Unit as Kind};
@@ -14,8 +14,8 @@ ghost use Rattle.line_filling.specs.Plans.{filled_in};
 ghost use Rattle.hls_sched.specs.Moves.{IsPlanFor};
 ghost use Rattle.hls_sched.specs.Lines.{IsLineFrom};
 
-use crate::memory::NoMemory;
 use fs_ast::machine::Machine;
+use fs_model::name::NoMemory;
 use fs_model::parts::StateId;
 use line_filling::effects::Effects;
 use line_filling::plan::{Plan, make_plan};

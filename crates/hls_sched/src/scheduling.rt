@@ -19,11 +19,11 @@ ghost use Rattle.hls_sched.specs.Lines.{IsLineFrom, moves_from};
 ghost use Rattle.hls_sched.specs.Reports.{report_of, report_at, reports, KeepsLengths, IsRefused};
 ghost use Rattle.hls_sched.specs.declared.scheduling.SchedError.TheVariants as errors;
 
-use crate::memory::NoMemory;
 use crate::moves::{Move, add_moves};
 use crate::parts::moved_parts;
 use crate::plans::plan_line;
 use fs_ast::machine::Machine;
+use fs_model::name::NoMemory;
 use fs_model::parts::{Parts, StateId};
 use lawful_machines::build_lawful;
 use line_tracing::arrivals::count_arrivals;
@@ -65,14 +65,6 @@ impl From<NoMemory> for SchedError {
     ghost from_gives = { λ _ e. e ≡ errors.NoMemory };
 
     fn from(_refused: NoMemory) -> SchedError {
-        SchedError::NoMemory
-    }
-}
-
-impl From<fs_model::name::NoMemory> for SchedError {
-    ghost from_gives = { λ _ e. e ≡ errors.NoMemory };
-
-    fn from(_refused: fs_model::name::NoMemory) -> SchedError {
         SchedError::NoMemory
     }
 }

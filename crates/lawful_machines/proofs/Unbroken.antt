@@ -1,5 +1,5 @@
 -- Of lawful parts no rule is broken.
-use Rattle.std.proofs.Common.{◌≡◌, ℕ, List, [], ap, length, inl, inr, ◌⊎◌, arith}
+use Rattle.std.proofs.Common.{◌≡◌, List, [], ap, length, inl, inr, arith}
 use Rattle.std.specs.Prelude.{Contains}
 use Rattle.fs_model.specs.Source.{Source}
 use Rattle.fs_rules.specs.declared.check.CheckFault.{CheckFault}

@@ -14,7 +14,7 @@ use Rattle.line_rows.proofs.Exchange.{and-left, and-right}
 use Rattle.line_fills.specs.Filling.{Graph, Rows, put, is_before, is_by, lets, is_ready, more, may_stand, next_item, row_filled, all_placed, filled_from}
 use Rattle.line_fills.proofs.Fills.{all_range, in_all, is_none_of, highest_passes}
 use Rattle.line_filling.specs.Profiles.{edge_at, strict_in, weak_in, graph_in}
-use Rattle.line_filling.specs.Waiting.{rows_in, AreReady, AreWaiting, AreLow, AreReleased, waits_below, is_released, same_edge}
+use Rattle.line_filling.specs.Waiting.{rows_in, AreReady, AreWaiting, AreLow, AreReleased, waits_below, holds_back, same_edge}
 
 -- ---- none waits where all let
 count_zero : (g : Graph) (rows : Rows) (r j n : ℕ) → ((i : ℕ) → i < n → lets g rows r i j ≡ true) → waits_below g rows r j n ≡ 0
@@ -97,7 +97,7 @@ still_waiting table rows k r old new free l w d = record {
 }
 
 -- those that are held by an item that is not placed wait for one at least
-pub some_wait : (table : List Profile) (rows : Rows) (k r j : ℕ) (old : List ℕ) → is_none (rows k) ≡ true → AreWaiting (graph_in table) rows r old → j < length table → is_released table Weak k j ≡ true → 1 ≤ slice_index_or old j 0
+pub some_wait : (table : List Profile) (rows : Rows) (k r j : ℕ) (old : List ℕ) → is_none (rows k) ≡ true → AreWaiting (graph_in table) rows r old → j < length table → holds_back table Weak k j ≡ true → 1 ≤ slice_index_or old j 0
 some_wait table rows k r j old free w h e =
     let y = put_waits table rows k r j free j in
     let z = w.counted j h in
@@ -106,24 +106,24 @@ some_wait table rows k r j old free w h e =
 
 -- those that are looked at one after another
 released_step : (table : List Profile) (kind : Edge) (k j i : ℕ) (old mid new : List ℕ) (t : Bool) → (i == j) ≡ t
-    → ((x : ℕ) → x < j → x < length table → slice_index_or mid x 0 + cond (is_released table kind k x) 1 0 ≡ slice_index_or old x 0)
+    → ((x : ℕ) → x < j → x < length table → slice_index_or mid x 0 + cond (holds_back table kind k x) 1 0 ≡ slice_index_or old x 0)
     → ((x : ℕ) → j ≤ x → x < length table → slice_index_or mid x 0 ≡ slice_index_or old x 0)
-    → slice_index_or new j 0 + cond (is_released table kind k j) 1 0 ≡ slice_index_or mid j 0
+    → slice_index_or new j 0 + cond (holds_back table kind k j) 1 0 ≡ slice_index_or mid j 0
     → ((x : ℕ) → x ≢ j → slice_index_or new x 0 ≡ slice_index_or mid x 0)
-    → i < j + 1 → i < length table → slice_index_or new i 0 + cond (is_released table kind k i) 1 0 ≡ slice_index_or old i 0
+    → i < j + 1 → i < length table → slice_index_or new i 0 + cond (holds_back table kind k i) 1 0 ≡ slice_index_or old i 0
 released_step table kind k j i old mid new true e below above here others p q =
     let c : j ≡ i = grind (arith, nat_tests) in
-    subst (λ (z : ℕ). slice_index_or new z 0 + cond (is_released table kind k z) 1 0 ≡ slice_index_or old z 0) c (here ∙ above j (omega arith) (omega (arith, c, q)))
+    subst (λ (z : ℕ). slice_index_or new z 0 + cond (holds_back table kind k z) 1 0 ≡ slice_index_or old z 0) c (here ∙ above j (omega arith) (omega (arith, c, q)))
 released_step table kind k j i old mid new false e below above here others p q =
     let d : i ≢ j = grind (arith, nat_tests) in
-    ap (λ (z : ℕ). z + cond (is_released table kind k i) 1 0) (others i d) ∙ below i (omega (arith, d, p)) q
+    ap (λ (z : ℕ). z + cond (holds_back table kind k i) 1 0) (others i d) ∙ below i (omega (arith, d, p)) q
 
 pub released_next : (table : List Profile) (kind : Edge) (k j : ℕ) (old mid new : List ℕ)
-    → ((x : ℕ) → x < j → x < length table → slice_index_or mid x 0 + cond (is_released table kind k x) 1 0 ≡ slice_index_or old x 0)
+    → ((x : ℕ) → x < j → x < length table → slice_index_or mid x 0 + cond (holds_back table kind k x) 1 0 ≡ slice_index_or old x 0)
     → ((x : ℕ) → j ≤ x → x < length table → slice_index_or mid x 0 ≡ slice_index_or old x 0)
-    → slice_index_or new j 0 + cond (is_released table kind k j) 1 0 ≡ slice_index_or mid j 0
+    → slice_index_or new j 0 + cond (holds_back table kind k j) 1 0 ≡ slice_index_or mid j 0
     → ((x : ℕ) → x ≢ j → slice_index_or new x 0 ≡ slice_index_or mid x 0)
-    → (i : ℕ) → i < j + 1 → i < length table → slice_index_or new i 0 + cond (is_released table kind k i) 1 0 ≡ slice_index_or old i 0
+    → (i : ℕ) → i < j + 1 → i < length table → slice_index_or new i 0 + cond (holds_back table kind k i) 1 0 ≡ slice_index_or old i 0
 released_next table kind k j old mid new below above here others i p q = released_step table kind k j i old mid new (i == j) refl below above here others p q
 
 pub released_later : (j n : ℕ) (old mid new : List ℕ) → ((x : ℕ) → j ≤ x → x < n → slice_index_or mid x 0 ≡ slice_index_or old x 0) → ((x : ℕ) → x ≢ j → slice_index_or new x 0 ≡ slice_index_or mid x 0)

@@ -11,7 +11,7 @@ use Rattle.line_fills.proofs.Lists.{heights_fall}
 use Rattle.line_filling.specs.declared.effects.Effects.{Effects}
 use Rattle.line_filling.specs.declared.effects.Edge.{Edge}
 use Rattle.line_filling.specs.declared.effects.Edge.TheVariants.{Apart, Weak, Strict}
-use Rattle.line_filling.specs.Profiles.{strict_in, weak_in, through_edge, no_effects, height_upto}
+use Rattle.line_filling.specs.Profiles.{strict_in, weak_in, through_edge, edge_of_effects, height_upto}
 use Rattle.line_filling.specs.Heights.{AreHeights, AreLowHeights}
 
 pub through_by : (e : Edge) (h : ℕ) → through_edge e h ≡ cond (strict_in e) (suc h) (cond (weak_in e) h 0)
@@ -39,7 +39,7 @@ pub first_upto : (effects : List Effects) (known : List ℕ) (i : ℕ) → 0 ≡
 first_upto effects known i = sym (none_upto effects known i (i + 1) (omega arith))
 
 pub more_upto : (effects : List Effects) (known : List ℕ) (i n best : ℕ) → i < n → best ≡ height_upto effects known i n
-    → max best (through_edge (no_effects (slice_get effects i) (slice_get effects n)) (slice_index_or known n 0)) ≡ height_upto effects known i (n + 1)
+    → max best (through_edge (edge_of_effects (slice_get effects i) (slice_get effects n)) (slice_index_or known n 0)) ≡ height_upto effects known i (n + 1)
 more_upto effects known i n best h e = let l : nat_lt i n ≡ true = grind (arith, nat_tests) in let s : n + 1 ≡ suc n = omega arith in rw s (rw l (rw e refl))
 
 pub low_upto : (e : Edge) (r best h i j n : ℕ) → r ≡ max best (through_edge e h) → best + i < n → h + j < n → i < j → r + i < n
@@ -56,11 +56,11 @@ none_low n known = record { low = λ j p q. absurd (omega (arith, p, q)) }
 
 -- ---- one height more is known
 upto_step : (effects : List Effects) (known : List ℕ) (i j n v : ℕ) (t : Bool) → nat_lt j n ≡ t → i ≤ j → height_upto effects (set known i v) j n ≡ height_upto effects known j n
-    → max (height_upto effects (set known i v) j n) (cond t (through_edge (no_effects (slice_get effects j) (slice_get effects n)) (slice_index_or (set known i v) n 0)) 0)
-    ≡ max (height_upto effects known j n) (cond t (through_edge (no_effects (slice_get effects j) (slice_get effects n)) (slice_index_or known n 0)) 0)
+    → max (height_upto effects (set known i v) j n) (cond t (through_edge (edge_of_effects (slice_get effects j) (slice_get effects n)) (slice_index_or (set known i v) n 0)) 0)
+    ≡ max (height_upto effects known j n) (cond t (through_edge (edge_of_effects (slice_get effects j) (slice_get effects n)) (slice_index_or known n 0)) 0)
 upto_step effects known i j n v true e h w =
     let d : n ≢ i = (let l : j < n = grind (arith, nat_tests) in omega (arith, l, h)) in
-    ap₂ (λ (x y : ℕ). max x (through_edge (no_effects (slice_get effects j) (slice_get effects n)) y)) w (get_or-set_other known i n v 0 d)
+    ap₂ (λ (x y : ℕ). max x (through_edge (edge_of_effects (slice_get effects j) (slice_get effects n)) y)) w (get_or-set_other known i n v 0 d)
 upto_step effects known i j n v false e h w = ap (λ (x : ℕ). max x 0) w
 
 set_upto : (effects : List Effects) (known : List ℕ) (i j n v : ℕ) → i ≤ j → height_upto effects (set known i v) j n ≡ height_upto effects known j n
@@ -94,7 +94,7 @@ set_low known n item v h f a = record { low = λ j p q. low_step known n item v 
 
 module _ (effects : List Effects) (known : List ℕ) (i : ℕ) where
   at : ℕ → ℕ
-  at j = through_edge (no_effects (slice_get effects i) (slice_get effects j)) (slice_index_or known j 0)
+  at j = through_edge (edge_of_effects (slice_get effects i) (slice_get effects j)) (slice_index_or known j 0)
 
   reach_last : (n j : ℕ) (t : Bool) → nat_lt j n ≡ t → i < j → j < suc n → (j < n → at j ≤ height_upto effects known i n) → at j ≤ max (height_upto effects known i n) (at n)
   reach_last n j true e p q w = let r : j < n = grind (arith, nat_tests) in omega (arith, w r)
@@ -120,7 +120,7 @@ module _ (effects : List Effects) (known : List ℕ) (i : ℕ) where
 
 -- the edges between items, by their effects
 abbrev pub SameEdges : List Effects → List Item → Type 0
-SameEdges effects items = (i j h : ℕ) → i < length items → j < length items → through_edge (no_effects (slice_get effects i) (slice_get effects j)) h ≡ through (slice_index_or items i []) (slice_index_or items j []) h
+SameEdges effects items = (i j h : ℕ) → i < length items → j < length items → through_edge (edge_of_effects (slice_get effects i) (slice_get effects j)) h ≡ through (slice_index_or items i []) (slice_index_or items j []) h
 
 module _ (effects : List Effects) (items : List Item) (known : List ℕ) (count : length effects ≡ length items) (edges : SameEdges effects items) (are : AreHeights effects 0 known) where
   -- from the last item to the first

@@ -10,9 +10,9 @@ use Rattle.line_filling.specs.declared.effects.Effects.{Effects}
 use Rattle.line_filling.specs.declared.uses.Uses.{Uses}
 use Rattle.line_filling.specs.declared.profiles.Profile.{Profile}
 use Rattle.line_filling.specs.Sets.{edge_between}
-use Rattle.line_filling.specs.Profiles.{weak_in, through_edge, no_effects, graph_in, AreProfiles}
+use Rattle.line_filling.specs.Profiles.{weak_in, through_edge, edge_of_effects, graph_in, AreProfiles}
 use Rattle.line_filling.specs.Heights.{AreHeights}
-use Rattle.line_filling.specs.Plans.{AreOf, AreJoined}
+use Rattle.line_filling.specs.Plans.{AreCountedOf, AreJoined}
 use Rattle.line_filling.proofs.Edges.{same_graph, strict_between, weak_between}
 use Rattle.line_filling.proofs.Levels.{through_by, SameEdges, height_is}
 
@@ -36,14 +36,14 @@ length_heights : (items : List Item) → length (heights items) ≡ length items
 length_heights [] = refl
 length_heights (a ∷ items) = ap suc (length_heights items)
 
-module _ (effects : List Effects) (uses : List Uses) (items : List Item) (are : AreOf effects uses items) where
+module _ (effects : List Effects) (uses : List Uses) (items : List Item) (are : AreCountedOf effects uses items) where
   edges_by : (i j h : ℕ) → i < length items → j < length items → (e f : Effects) → slice_get effects i ≡ Some e → slice_get effects j ≡ Some f
-      → through_edge (no_effects (slice_get effects i) (slice_get effects j)) h ≡ through (slice_index_or items i []) (slice_index_or items j []) h
+      → through_edge (edge_of_effects (slice_get effects i) (slice_get effects j)) h ≡ through (slice_index_or items i []) (slice_index_or items j []) h
   edges_by i j h p q e f d g =
       let s = strict_between e f (slice_index_or items i []) (slice_index_or items j []) (are.effects i e d) (are.effects j f g) (are.within i p) (are.within j q) in
       let w = weak_between e f (slice_index_or items i []) (slice_index_or items j []) (are.effects i e d) (are.effects j f g) (are.within i p) (are.within j q) in
-      ap (λ o. through_edge (no_effects o (slice_get effects j)) h) d
-      ∙ ap (λ o. through_edge (no_effects (Some e) o) h) g
+      ap (λ o. through_edge (edge_of_effects o (slice_get effects j)) h) d
+      ∙ ap (λ o. through_edge (edge_of_effects (Some e) o) h) g
       ∙ through_by (edge_between e f) h
       ∙ ap (λ b. cond b (suc h) (cond (weak_in (edge_between e f)) h 0)) s
       ∙ ap (λ b. cond (is_strict (slice_index_or items i []) (slice_index_or items j [])) (suc h) (cond b h 0)) w

@@ -8,7 +8,7 @@ use Rattle.line_filling.specs.declared.effects.Edge.{Edge}
 use Rattle.line_filling.specs.declared.effects.Edge.TheVariants.{Apart, Weak, Strict}
 use Rattle.line_fills.specs.Filling.{Graph, Rows, is_before, is_by, is_in, lets}
 use Rattle.line_filling.specs.Profiles.{edge_at, strict_in, weak_in, graph_in}
-use Rattle.line_filling.specs.Waiting.{AreWaiting, AreReleased, AreTurned, AreLow, waits_below, waits_turned, is_released, same_edge}
+use Rattle.line_filling.specs.Waiting.{AreWaiting, AreReleased, AreTurned, AreLow, waits_below, waits_turned, holds_back, same_edge}
 
 none_turned : (g : Graph) (rows : Rows) (r j n : ℕ) → waits_turned g rows r 0 j n ≡ waits_below g rows r j n
 none_turned g rows r j zero = refl
@@ -113,7 +113,7 @@ turned_off table rows r m waits l i e w = record {
       omega (arith, y, z, b));
 }
 
-pub some_turn : (table : List Profile) (rows : Rows) (r m j : ℕ) (old : List ℕ) → AreLow (graph_in table) rows r → m < length table → is_in r (rows m) ≡ true → AreTurned (graph_in table) rows r m old → j < length table → is_released table Strict m j ≡ true → 1 ≤ slice_index_or old j 0
+pub some_turn : (table : List Profile) (rows : Rows) (r m j : ℕ) (old : List ℕ) → AreLow (graph_in table) rows r → m < length table → is_in r (rows m) ≡ true → AreTurned (graph_in table) rows r m old → j < length table → holds_back table Strict m j ≡ true → 1 ≤ slice_index_or old j 0
 some_turn table rows r m j old l i e w h f =
     let y = turn_waits table rows r m j (λ k g. l.low m k i g) j in
     let z = w.counted j h in

@@ -13,7 +13,7 @@ use Rattle.line_filling.specs.Profiles.{uses_in, IsWithinSets}
 use Rattle.line_filling.specs.Waiting.{rows_in}
 
 -- the effects and the uses of items, in their order
-pub record AreOf (es : List Effects) (us : List Uses) (items : List Item) : Type 0 where
+pub record AreCountedOf (es : List Effects) (us : List Uses) (items : List Item) : Type 0 where
   pub count : length es ≡ length items
   pub within : (i : ℕ) → i < length items → IsWithinSets (slice_index_or items i [])
   pub effects : (i : ℕ) (e : Effects) → slice_get es i ≡ Some e → sets_of e ≡ sets_from (slice_index_or items i []) none_changed

@@ -66,15 +66,16 @@ through_edge Apart height = 0
 through_edge Weak height = height
 through_edge Strict height = suc height
 
-abbrev pub no_effects : Option Effects → Option Effects → Edge
-no_effects None f = Apart
-no_effects (Some e) None = Apart
-no_effects (Some e) (Some f) = edge_between e f
+-- the edge from an item of these effects to a later one of those, where both have some
+abbrev pub edge_of_effects : Option Effects → Option Effects → Edge
+edge_of_effects None f = Apart
+edge_of_effects (Some e) None = Apart
+edge_of_effects (Some e) (Some f) = edge_between e f
 
 -- the greatest number of strict edges on walks from an item to those after it and before number n, whose heights are known
 abbrev pub height_upto : List Effects → List ℕ → ℕ → ℕ → ℕ
 height_upto effects known i zero = 0
-height_upto effects known i (suc n) = max (height_upto effects known i n) (cond (nat_lt i n) (through_edge (no_effects (slice_get effects i) (slice_get effects n)) (slice_index_or known n 0)) 0)
+height_upto effects known i (suc n) = max (height_upto effects known i n) (cond (nat_lt i n) (through_edge (edge_of_effects (slice_get effects i) (slice_get effects n)) (slice_index_or known n 0)) 0)
 
 -- the variables of an item are numbered below 128, which sets have room for
 pub record IsWithinSets (item : Item) : Type 0 where

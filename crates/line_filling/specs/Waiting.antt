@@ -15,7 +15,7 @@ rows_in rows = λ i. slice_index_or rows i None
 abbrev pub none_placed : Rows
 none_placed i = None
 
--- for each item, how many earlier ones hold it back
+-- an item waits for no earlier one exactly where it may stand in the row
 pub record AreReady (g : Graph) (rows : Rows) (r : ℕ) (waits : List ℕ) : Type 0 where
   pub ready : (j : ℕ) → j < g.count → (slice_index_or waits j 0 == 0) ≡ is_ready g rows r j
 
@@ -44,13 +44,13 @@ same_edge Strict Weak = false
 same_edge Strict Strict = true
 
 -- whether item k is before item j with an edge of this kind to it
-abbrev pub is_released : List Profile → Edge → ℕ → ℕ → Bool
-is_released table edge k j = nat_lt k j && same_edge (edge_at table k j) edge
+abbrev pub holds_back : List Profile → Edge → ℕ → ℕ → Bool
+holds_back table edge k j = nat_lt k j && same_edge (edge_at table k j) edge
 
 -- those waits less by one each that item k no longer holds back
 pub record AreReleased (table : List Profile) (edge : Edge) (k : ℕ) (old new : List ℕ) : Type 0 where
   pub count : length new ≡ length old
-  pub waits : (j : ℕ) → j < length old → slice_index_or new j 0 + cond (is_released table edge k j) 1 0 ≡ slice_index_or old j 0
+  pub waits : (j : ℕ) → j < length old → slice_index_or new j 0 + cond (holds_back table edge k j) 1 0 ≡ slice_index_or old j 0
 
 -- the same while a row turns: the items below m are looked at from the next row on
 abbrev pub waits_turned : Graph → Rows → ℕ → ℕ → ℕ → ℕ → ℕ

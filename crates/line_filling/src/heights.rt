@@ -3,11 +3,11 @@
 ghost use Rattle.std.specs.Prelude.{◌≡◌, ◌+◌, ◌-◌, ◌<◌, ◌≤◌, max, length, slice_get, IfOk};
 ghost use Rattle.std.specs.List.{slice_index_or};
 ghost use Rattle.line_fills.specs.Heights.{greatest};
-ghost use Rattle.line_filling.specs.Profiles.{through_edge, no_effects, height_upto};
+ghost use Rattle.line_filling.specs.Profiles.{through_edge, edge_of_effects, height_upto};
 ghost use Rattle.line_filling.specs.Heights.{AreLowHeights, AreHeights};
 
 use crate::effects::{Edge, Effects, edge_between};
-use crate::memory::NoMemory;
+use fs_model::name::NoMemory;
 use std::alloc::Global;
 
 // The strict edges of a walk that begins with an edge to an item of a height.
@@ -26,7 +26,7 @@ fn through(edge: Edge, height: u32) -> u32
 fn edge(effects: &[Effects], i: usize, j: usize) -> Edge
     requires first { i < length effects.now }
     requires second { j < length effects.now }
-    ensures { result ≡ no_effects (slice_get effects.now i) (slice_get effects.now j) }
+    ensures { result ≡ edge_of_effects (slice_get effects.now i) (slice_get effects.now j) }
 {
     edge_between(&effects[i], &effects[j])
 }
@@ -38,7 +38,7 @@ fn height_by(effects: &[Effects], heights: &[u32], item: usize, j: usize, best: 
     requires first { item < length effects.now }
     requires second { j < length effects.now }
     requires low { slice_index_or heights.now j 0 + j < length effects.now }
-    ensures { result ≡ max best (through_edge (no_effects (slice_get effects.now item) (slice_get effects.now j)) (slice_index_or heights.now j 0)) }
+    ensures { result ≡ max best (through_edge (edge_of_effects (slice_get effects.now item) (slice_get effects.now j)) (slice_index_or heights.now j 0)) }
 {
     best.max(through(edge(effects, item, j), heights[j]))
 }
@@ -100,7 +100,7 @@ fn set_all(effects: &[Effects], heights: &mut [u32])
 }
 
 /// The height of each item: the greatest number of strict edges on a walk from it. Takes time in the
-/// square of the items.
+/// square of the items. The one refusal is out of memory.
 pub fn heights(alloc: Global, effects: &[Effects]) -> Result<Vec<u32>, NoMemory>
     requires few { length effects.now ≤ 4096 }
     ensures heights { IfOk result (λ heights. AreHeights effects.now 0 heights.items) }

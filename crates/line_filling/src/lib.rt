@@ -2,12 +2,11 @@
 #![tactic(auto)]
 
 pub mod effects;
-pub mod fill;
-pub mod heights;
-pub mod memory;
+mod fill;
+mod heights;
 pub mod plan;
-pub mod profiles;
-pub mod rows;
-pub mod turn;
+mod profiles;
+mod rows;
+mod turn;
 pub mod uses;
-pub mod waits;
+mod waits;

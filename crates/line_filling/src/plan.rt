@@ -5,18 +5,19 @@ ghost use Rattle.line_rows.specs.Items.{Item};
 ghost use Rattle.line_fills.specs.Units.{units_in};
 ghost use Rattle.line_fills.specs.Heights.{chain_of};
 ghost use Rattle.line_fills.specs.Filling.{graph_of, filling};
-ghost use Rattle.line_filling.specs.Plans.{AreOf, AreJoined, filled_in};
+ghost use Rattle.line_filling.specs.Plans.{AreCountedOf, AreJoined, filled_in};
 
 use crate::effects::Effects;
 use crate::heights::{chain, heights};
-use crate::memory::NoMemory;
 use crate::profiles::Profile;
 use crate::rows::{Filling, make_filling};
 use crate::uses::Uses;
+use fs_model::name::NoMemory;
 use std::alloc::Global;
 use unit_counts::Units;
 
-/// The row of each item of a line, how many rows there are, and the line's chain.
+/// The row of each item of a line, how many rows there are, and the line's chain. Rows count from 0; an item has none where it
+/// alone uses more than the units.
 #[derive(Drop)]
 pub struct Plan {
     pub rows: Vec<Option<u32>>,
@@ -48,7 +49,7 @@ fn profiles(
 
 /// Plans a line: its rows are filled one after another, of the items whose earlier ones and whose units let
 /// them stand in a row the highest first, at a tie the first. `effects` and `uses` are those of its items in
-/// order. Takes time in the square of the items.
+/// order. Takes time in the square of the items. The one refusal is out of memory.
 pub fn make_plan(
     alloc: Global,
     effects: &[Effects],
@@ -57,8 +58,8 @@ pub fn make_plan(
 ) -> Result<Plan, NoMemory>
     requires few { length effects.now ≤ 4096 }
     requires same { length uses.now ≡ length effects.now }
-    ensures rows { IfOk result (λ p. (items : List Item) → AreOf effects.now uses.now items → filled_in p ≡ filling (graph_of items) (units_in units.now)) }
-    ensures chain { IfOk result (λ p. (items : List Item) → AreOf effects.now uses.now items → p.chain ≡ chain_of items) }
+    ensures rows { IfOk result (λ p. (items : List Item) → AreCountedOf effects.now uses.now items → filled_in p ≡ filling (graph_of items) (units_in units.now)) }
+    ensures chain { IfOk result (λ p. (items : List Item) → AreCountedOf effects.now uses.now items → p.chain ≡ chain_of items) }
     ensures count { IfOk result (λ p. length p.rows.items ≡ length effects.now) }
 {
     let heights = heights(alloc, effects)?;

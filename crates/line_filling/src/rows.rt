@@ -7,10 +7,10 @@ ghost use Rattle.line_filling.specs.Profiles.{graph_in};
 ghost use Rattle.line_filling.specs.Waiting.{rows_in, none_placed, AreWaiting, AreLow};
 
 use crate::fill::fill_row;
-use crate::memory::NoMemory;
 use crate::profiles::Profile;
 use crate::turn::turn_row;
 use crate::waits::first_waits;
+use fs_model::name::NoMemory;
 use std::alloc::Global;
 use unit_counts::Units;
 
@@ -70,7 +70,7 @@ fn fill(table: &[Profile], rows: &mut [Option<u32>], waits: &mut [u32], units: &
     table.len() as u32
 }
 
-/// The row of each item, from 0, and how many rows there are.
+/// The row of each item, from 0, and how many rows there are. An item has no row where it alone uses more than the units.
 #[derive(Drop)]
 pub struct Filling {
     pub rows: Vec<Option<u32>>,
@@ -78,7 +78,7 @@ pub struct Filling {
 }
 
 /// Fills rows with items, one row after another: of the items whose earlier ones and whose units let them
-/// stand in a row the highest goes first, at a tie the first. Takes time in the square of the items.
+/// stand in a row the highest goes first, at a tie the first. Takes time in the square of the items. The one refusal is out of memory.
 pub fn make_filling(alloc: Global, table: &[Profile], units: &Units) -> Result<Filling, NoMemory>
     requires few { length table.now ≤ 4096 }
     ensures filling { IfOk result (λ f. record { rows = rows_in f.rows.items; count = f.count } ≡ filling (graph_in table.now) (units_in units.now)) }

@@ -3,11 +3,11 @@
 ghost use Rattle.std.specs.Prelude.{◌≡◌, ◌≢◌, ◌+◌, ◌<◌, ◌≤◌, ℕ, true, cond, length, IfOk};
 ghost use Rattle.std.specs.List.{slice_index_or};
 ghost use Rattle.line_filling.specs.Profiles.{edge_at, graph_in};
-ghost use Rattle.line_filling.specs.Waiting.{none_placed, waits_below, same_edge, is_released, AreWaiting, AreReleased};
+ghost use Rattle.line_filling.specs.Waiting.{none_placed, waits_below, same_edge, holds_back, AreWaiting, AreReleased};
 
 use crate::effects::{Edge, edge_between};
-use crate::memory::NoMemory;
 use crate::profiles::Profile;
+use fs_model::name::NoMemory;
 use std::alloc::Global;
 
 // The edge from an item to another.
@@ -27,10 +27,10 @@ fn same_edge(edge: Edge, kind: Edge) -> bool
 }
 
 // Whether item k holds back item j by an edge of this kind.
-fn is_released(table: &[Profile], edge_kind: Edge, k: usize, j: usize) -> bool
+fn holds_back(table: &[Profile], edge_kind: Edge, k: usize, j: usize) -> bool
     requires first { k < j }
     requires second { j < length table.now }
-    ensures { result ≡ is_released table.now edge_kind k j }
+    ensures { result ≡ holds_back table.now edge_kind k j }
 {
     same_edge(edge(table, k, j), edge_kind)
 }
@@ -40,12 +40,12 @@ fn release_one(table: &[Profile], waits: &mut [u32], edge_kind: Edge, k: usize, 
     requires first { k < j }
     requires second { j < length table.now }
     requires waits { length waits.now ≡ length table.now }
-    requires held { is_released table.now edge_kind k j ≡ true → 1 ≤ slice_index_or waits.now j 0 }
-    ensures here { slice_index_or waits.new j 0 + cond (is_released table.now edge_kind k j) 1 0 ≡ slice_index_or waits.old j 0 }
+    requires held { holds_back table.now edge_kind k j ≡ true → 1 ≤ slice_index_or waits.now j 0 }
+    ensures here { slice_index_or waits.new j 0 + cond (holds_back table.now edge_kind k j) 1 0 ≡ slice_index_or waits.old j 0 }
     ensures others { (i : ℕ) → i ≢ j → slice_index_or waits.new i 0 ≡ slice_index_or waits.old i 0 }
     ensures count { length waits.new ≡ length waits.old }
 {
-    if is_released(table, edge_kind, k, j) {
+    if holds_back(table, edge_kind, k, j) {
         waits[j] -= 1;
     }
 }
@@ -54,7 +54,7 @@ fn release_one(table: &[Profile], waits: &mut [u32], edge_kind: Edge, k: usize, 
 pub fn release(table: &[Profile], waits: &mut [u32], edge_kind: Edge, k: usize)
     requires in_range { k < length table.now }
     requires waits { length waits.now ≡ length table.now }
-    requires held { (j : ℕ) → j < length table.now → is_released table.now edge_kind k j ≡ true → 1 ≤ slice_index_or waits.now j 0 }
+    requires held { (j : ℕ) → j < length table.now → holds_back table.now edge_kind k j ≡ true → 1 ≤ slice_index_or waits.now j 0 }
     ensures { AreReleased table.now edge_kind k waits.old waits.new }
 {
     for j in k + 1..table.len() {
@@ -77,7 +77,7 @@ fn first_wait(table: &[Profile], j: usize) -> u32
     count
 }
 
-/// For each item, how many earlier ones hold it back while none is placed.
+/// For each item, how many earlier ones hold it back while none is placed. The one refusal is out of memory.
 pub fn first_waits(alloc: Global, table: &[Profile]) -> Result<Vec<u32>, NoMemory>
     requires few { length table.now ≤ 4096 }
     ensures waiting { IfOk result (λ waits. AreWaiting (graph_in table.now) none_placed 0 waits.items) }

@@ -58,10 +58,10 @@ emits (Emit x e ∷ rest) = true
 abbrev pub meet : List ℕ → List ℕ → Bool
 meet xs ys = list_any (λ y. occurs y xs) ys
 
--- of two items in their order: the second reads what the first changes, or both assign a scalar, or both emit
+-- of two items in their order: the second reads what the first changes, or both assign the same scalar, or both emit
 abbrev pub is_strict : Item → Item → Bool
 is_strict i j = meet (changes i) (reads j) || (meet (assigned_in i) (assigned_in j) || (emits i && emits j))
 
--- otherwise: the first reads what the second changes, or both write an array
+-- otherwise: the first reads what the second changes, or both write the same array
 abbrev pub is_weak : Item → Item → Bool
 is_weak i j = not (is_strict i j) && (meet (changes j) (reads i) || meet (stored_in i) (stored_in j))

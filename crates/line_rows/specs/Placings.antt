@@ -2,7 +2,7 @@
 use Rattle.std.specs.Prelude.{ℕ, zero, suc, ◌==◌, nat_lt, Bool, true, not, ◌&&◌, cond, List, [], ◌∷◌, ◌++◌, map, filter}
 use Rattle.std.specs.List.{list_all}
 use Rattle.fs_model.specs.Terms.{Assignment}
-use Rattle.line_rows.specs.Items.{Item, is_strict, is_weak}
+use Rattle.line_rows.specs.Items.{is_strict, is_weak}
 
 -- an item with its row. X tells variables apart: numbers of a machine, or names of a text
 pub record PlacedOver (X : Type 0) : Type 0 where

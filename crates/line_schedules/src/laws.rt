@@ -7,7 +7,7 @@ ghost use Rattle.fs_rules.specs.Sound.{IsSound};
 ghost use Rattle.line_machines.specs.Lines.{is_first, line_at, items_at};
 ghost use Rattle.line_fills.specs.Units.{Units, none_used, suffice};
 ghost use Rattle.line_fills.specs.Heights.{chain_of};
-ghost use Rattle.line_fills.specs.Filling.{graph_of, used_by_all, new_rows};
+ghost use Rattle.line_fills.specs.Filling.{graph_of, used_by_all};
 ghost use Rattle.line_schedules.specs.Schedules.{IsWithin, rows_by, schedule_of};
 
 /// A machine each of whose transitions is within the units behaves as it did when its lines are scheduled under these.

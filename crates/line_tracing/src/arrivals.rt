@@ -8,7 +8,7 @@ ghost use Rattle.line_tracing.specs.Arrivals.{arrivals_of, leading, AreArrivals}
 ghost use Rattle.line_tracing.specs.declared.arrivals.Arrivals.TheVariants as variants;
 
 use fs_ast::machine::Machine;
-use fs_cut::memory::NoMemory;
+use fs_model::name::NoMemory;
 use fs_model::parts::{Branch, StateId};
 use std::alloc::Global;
 

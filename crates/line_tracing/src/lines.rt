@@ -8,7 +8,7 @@ ghost use Rattle.line_tracing.specs.Arrivals.{AreArrivals};
 
 use crate::arrivals::Arrivals;
 use fs_ast::machine::Machine;
-use fs_cut::memory::NoMemory;
+use fs_model::name::NoMemory;
 use fs_model::parts::{Assign, StateId, VarId};
 use std::alloc::Global;
 

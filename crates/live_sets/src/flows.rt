@@ -1,6 +1,6 @@
 //! Bit sets of live names, one for each state.
 
-ghost use Rattle.std.specs.Prelude.{◌≡◌, ◌<◌, ℕ, true, false, List, length, All, slice_index, IfOk};
+ghost use Rattle.std.specs.Prelude.{◌≡◌, ◌<◌, ℕ, true, false, length, All, slice_index, IfOk};
 ghost use Rattle.live_sets.specs.Flows.{stepped, IsSettled, weight, AreLive, IsInside, IsExact};
 
 use std::alloc::{AllocError, Global};
@@ -52,8 +52,8 @@ fn round(flows: &[Flow], reset: usize, live: &mut Vec<u128>) -> bool
     changed
 }
 
-/// Adds all that is live.
-pub fn close(flows: &[Flow], reset: usize, live: &mut Vec<u128>)
+// Adds all that is live.
+fn close(flows: &[Flow], reset: usize, live: &mut Vec<u128>)
     requires inside { All (IsInside (length live.old.items)) flows.now }
     ensures same { length live.new.items ≡ length live.old.items }
     ensures settled { All (IsSettled reset live.new.items) flows.now }
@@ -73,7 +73,8 @@ fn empty_sets(alloc: Global, states: usize) -> Result<Vec<u128>, AllocError>
     Ok(out)
 }
 
-/// For each state the names that are live there, as bits.
+/// For each state the names that are live there: bit x of its set is name x. All branches are gone over backwards again and
+/// again until none adds a bit, so at most once more than there are bits. The one refusal is out of memory.
 pub fn live_sets(
     alloc: Global,
     flows: &[Flow],

@@ -2,9 +2,9 @@
 use Rattle.std.proofs.Common.{◌≡◌, refl, ◌∙◌, ap, ap₂, List, ℕ}
 use Rattle.fs_model.specs.declared.parts.Guard.{Guard as DeclaredGuard}
 use Rattle.fs_model.specs.declared.parts.Assign.{Assign as DeclaredAssign}
-use Rattle.fs_model.specs.Terms.{Term, Number, Variable, Read, Sum, Difference, Product, Quotient, Remainder, Negative, Literal, Guard, Test, Not, And, Or, Assignment, Assign, ArrayWrite, Emit}
+use Rattle.fs_model.specs.Terms.{Term, Number, Variable, Read, Sum, Difference, Product, Quotient, Remainder, Negative, Guard, Test, Not, And, Or, Assignment, Assign, ArrayWrite, Emit}
 use Rattle.fs_model.specs.View.{guard_by, assignment_by, named_guard, named_assignment}
-use Rattle.fs_model.specs.Renamed.{term_over, literal_over, guard_over, assignment_over}
+use Rattle.fs_model.specs.Renamed.{term_over, guard_over, assignment_over}
 
 term_kept : {X : Type 0} (t : Term X) → term_over (λ x. x) t ≡ t
 term_kept (Number n) = refl

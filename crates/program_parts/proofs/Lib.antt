@@ -1,4 +1,3 @@
 mod Joined
-mod Same
 pub mod Fits
 mod Names

@@ -2,9 +2,7 @@
 //! compiled.
 #![tactic(auto)]
 
-mod copies;
 mod counts;
-pub mod memory;
 mod operators;
 pub mod parts;
 pub mod program;

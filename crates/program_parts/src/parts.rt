@@ -6,10 +6,10 @@ ghost use Rattle.program_laws.specs.Compiled.{entry, numbered, parts_of, state_n
 ghost use Rattle.program_parts.specs.View.{block_of, program_of};
 
 use crate::counts::{count, first};
-use crate::memory::NoMemory;
 use crate::program::{Program, Stmt};
 use crate::states::add_block;
 use crate::transitions::{state_name, step};
+use fs_model::name::NoMemory;
 use fs_model::parts::{Decl, Parts, RawState};
 use std::alloc::Global;
 

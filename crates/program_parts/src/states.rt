@@ -5,13 +5,12 @@ ghost use Rattle.fs_model.specs.View.{named_assignment, source_state_of};
 ghost use Rattle.program_laws.specs.Compiled.{count, numbered, state_name, states_of};
 ghost use Rattle.program_parts.specs.View.{alone, block_of};
 
-use crate::copies::copied_assignment;
 use crate::counts::{count, first, size};
-use crate::memory::NoMemory;
 use crate::program::Stmt;
 use crate::transitions::{choice, step};
-use fs_model::name::Name;
+use fs_model::name::{Name, NoMemory};
 use fs_model::parts::{Assign, RawState};
+use part_copies::assignments::copied_assignment;
 use std::alloc::Global;
 
 fn push<T: Drop>(out: &mut Vec<T>, item: T) -> Result<(), NoMemory>

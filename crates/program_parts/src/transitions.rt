@@ -4,10 +4,9 @@ ghost use Rattle.std.specs.Prelude.{◌≡◌, ◌∷◌, [], map, IfOk, string_
 ghost use Rattle.fs_model.specs.View.{named_assignment, named_guard, source_state_of, source_transition_of};
 ghost use Rattle.program_laws.specs.Compiled.{always, named_state, state_name, where_holds};
 
-use crate::copies::copied_guard;
-use crate::memory::NoMemory;
-use fs_model::name::Name;
+use fs_model::name::{Name, NoMemory};
 use fs_model::parts::{Assign, Guard, RawLine, RawState};
+use part_copies::assignments::copied_guard;
 use std::alloc::{AllocError, Global};
 
 fn state_text(alloc: Global, number: u32) -> Result<String, AllocError>

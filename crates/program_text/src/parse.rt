@@ -1,6 +1,6 @@
 //! A program, from its tokens.
 
-ghost use Rattle.std.specs.Prelude.{◌<◌, [], length, IfOk};
+ghost use Rattle.std.specs.Prelude.{◌<◌, []};
 ghost use Rattle.fs_grammar.specs.Tokens.{Gives, ParsesOn};
 ghost use Rattle.program_laws.specs.Programs as plain;
 ghost use Rattle.program_parts.specs.View.{program_of};

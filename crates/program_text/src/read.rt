@@ -30,7 +30,7 @@ fn read(alloc: Global, bytes: &[u8]) -> Result<Program, ReadError>
     parse(alloc, &tokens)
 }
 
-/// The program that the bytes spell, which is well formed; at most 1,048,576 bytes are read. `Text` comes exactly where they
+/// The program that the bytes spell, which is well formed; the bytes are at most 1,048,576. `Text` comes exactly where they
 /// spell none: at the first token that is faulty or can follow in no program, with its line and column and what is wrong
 /// with it; `Operators` is at the first operator or opening bracket that has 128 of them before it in the one guard or
 /// assignment that it stands in, and `Nested` at the first brace that opens a block in more than 64 others. `NoMemory`: out

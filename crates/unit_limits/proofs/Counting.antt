@@ -31,7 +31,7 @@ use Rattle.line_schedules.proofs.Schedules.{each_fits}
 use Rattle.line_filling.specs.declared.effects.Effects.{Effects}
 use Rattle.line_filling.specs.declared.uses.Uses.{Uses}
 use Rattle.line_filling.specs.Profiles.{capped, IsWithinSets}
-use Rattle.line_filling.specs.Plans.{AreOf}
+use Rattle.line_filling.specs.Plans.{AreCountedOf}
 use Rattle.unit_limits.specs.Counted.{AreCounts, AreCounted}
 
 weaker : {X : Type 0} (p q : X → Bool) → ((x : X) → p x ≡ true → q x ≡ true) → (xs : List X) → list_all p xs ≡ true → list_all q xs ≡ true
@@ -144,7 +144,7 @@ module _ (m : Fsmd) (sound : IsSound m) where
         let few : 0 + used_by (slice_index_or (items_at m q) i []) kind ≤ units kind = suffices units none_used (used_by (slice_index_or (items_at m q) i [])) (each i l) kind in
         count_is (used_by (slice_index_or (items_at m q) i []) kind) (units kind) (omega (arith, few)) (counts kind)
 
-    pub are_of : (es : List Effects) (us : List Uses) → AreCounted es us (items_at m q) → AreOf es us (items_at m q)
+    pub are_of : (es : List Effects) (us : List Uses) → AreCounted es us (items_at m q) → AreCountedOf es us (items_at m q)
     are_of es us c = record {
       count = c.count;
       within = λ i l. items_within q i h l;

@@ -8,7 +8,7 @@ ghost use Rattle.line_fills.specs.Units.{Units};
 ghost use Rattle.line_schedules.specs.Schedules.{IsWithin};
 ghost use Rattle.line_filling.specs.declared.effects.Effects.{Effects};
 ghost use Rattle.line_filling.specs.declared.uses.Uses.{Uses};
-ghost use Rattle.line_filling.specs.Plans.{AreOf};
+ghost use Rattle.line_filling.specs.Plans.{AreCountedOf};
 ghost use Rattle.unit_limits.specs.Over.{over_in};
 ghost use Rattle.unit_limits.specs.Counted.{AreCounts, AreCounted};
 
@@ -21,5 +21,5 @@ pub fn machines_within_the_units()
 /// Where each transition of a sound machine is within the units, what is counted of the items of a line is exact: no
 /// use is cut off, and each variable fits into a set.
 pub fn items_within_the_units_are_counted()
-    ensures { (m : Fsmd) (units : Units) (q : ℕ) (es : List Effects) (us : List Uses) → IsSound m → IsWithin units m → AreCounts units → q < length m.states → is_first m q ≡ true → AreCounted es us (items_at m q) → AreOf es us (items_at m q) }
+    ensures { (m : Fsmd) (units : Units) (q : ℕ) (es : List Effects) (us : List Uses) → IsSound m → IsWithin units m → AreCounts units → q < length m.states → is_first m q ≡ true → AreCounted es us (items_at m q) → AreCountedOf es us (items_at m q) }
 {}

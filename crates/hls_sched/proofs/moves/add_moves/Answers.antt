@@ -1,4 +1,4 @@
-use Rattle.std.proofs.Common.{List, sym, subst, arith, map}
+use Rattle.std.proofs.Common.{List, sym, subst, map}
 use Rattle.std.specs.List.{All}
 use Rattle.std.proofs.lemmas.List.Elements.{All-push}
 use Rattle.line_filling.specs.Plans.{filled_in}
