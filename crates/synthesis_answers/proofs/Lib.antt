@@ -1,1 +1,4 @@
+pub mod Comments
+pub mod Compiled
+pub mod Registers
 pub mod Scheduled

@@ -3,7 +3,9 @@ use Rattle.std.specs.Prelude.{◌≡◌, ℕ, Bool, List, ◌++◌, cond, codes,
 use Rattle.fs_model.specs.Machines.{Fsmd}
 use Rattle.fs_model.specs.Source.{Source}
 use Rattle.fs_rules.specs.Spelled.{machine_of}
+use Rattle.fs_rules.specs.Rules.{IsLawful}
 use Rattle.fs_ast.specs.Stored.{name_of}
+use Rattle.fs_text_laws.specs.Texts.{TextSpells}
 use Rattle.fs_write.specs.Canonical.{canonical}
 use Rattle.binding_laws.specs.Conflicts.{Conflict, IsFirstConflict}
 use Rattle.hls_bind.specs.Results.{IsYes}
@@ -21,12 +23,17 @@ conflict_text m c twice =
     codes "no: " ++ (name_of m c.state ++ (codes "." ++ (decimal c.branch ++ (codes " writes " ++ (variable_name m.variables c.written
     ++ (cond twice (codes " and ") (codes " over ") ++ (variable_name m.variables c.other ++ codes "\n")))))))
 
--- no branch loses a local: the canonical text of the parts with registers, whose machine behaves as before
+-- no branch loses a local, and this is the canonical text of the parts with registers, whose machine behaves as before; what it spells breaks
+-- no rule, and its machine is that one
 pub record IsBoundText (p : Source) (b : Binding) (text : List ℕ) : Type 0 where
   pub bound : Source
   pub machine : Fsmd
   pub yes : IsYes p (machine_of p) b bound machine
   pub is : text ≡ canonical bound
+  pub spelled : Source
+  pub spells : TextSpells text spelled
+  pub lawful : IsLawful spelled
+  pub same_machine : machine_of spelled ≡ machine
 
 -- the line of the first branch that loses a local
 pub record IsConflictLine (p : Source) (b : Binding) (line : List ℕ) : Type 0 where

@@ -82,8 +82,8 @@ fn conflict_text(
     )
 }
 
-/// What the machine of parts gets by a binding: the canonical text of the parts with registers, or the line of the first branch
-/// that loses a local. The one refusal is out of memory.
+/// What the machine of parts gets by a binding: the canonical text of the parts with registers, which spells their machine, or the
+/// line of the first branch that loses a local. The one refusal is out of memory.
 pub fn bound_text(
     alloc: Global,
     parts: &Parts,

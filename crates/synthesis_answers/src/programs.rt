@@ -15,8 +15,9 @@ use hls_lang::program::Program;
 use program_laws::parts_of_programs_are_well_formed;
 use std::alloc::Global;
 
-/// The canonical text of the parts to which a well-formed program is compiled. `Check` comes exactly where they break a rule,
-/// and names the first; `Text` is never answered.
+/// The canonical text of the parts to which a well-formed program is compiled, which spells a machine that does what the program
+/// does. `Check` comes exactly where the parts break a rule, and names the first; `Text` is never answered. `NoMemory` may come at
+/// any time.
 pub fn compiled_text(alloc: Global, program: &Program) -> Result<Vec<u8>, LangError>
     requires formed { IsTrue (is_well_formed (program_of program.now)) }
     ensures compiled { IfOk result (λ text. IsCompiledText (program_of program.now) text.items) }

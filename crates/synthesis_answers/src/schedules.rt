@@ -1,11 +1,14 @@
 //! The texts of schedules.
 
-ghost use Rattle.std.specs.Prelude.{◌≡◌, ◌++◌, map, codes, decimal, IsTrue, IfOk, string_bytes};
+ghost use Rattle.std.specs.Prelude.{◌≡◌, ◌++◌, length, map, codes, decimal, IsTrue, IfOk, string_bytes};
 ghost use Rattle.std.specs.List.{flat_map};
 ghost use Rattle.std.specs.Result.{OnOk, IfErr};
 ghost use Rattle.fs_model.specs.View.{source_of};
 ghost use Rattle.fs_model.specs.WellFormed.{is_well_formed};
+ghost use Rattle.fs_text_laws.specs.Texts.{TextSpells};
 ghost use Rattle.fs_write.specs.Canonical.{canonical};
+ghost use Rattle.fs_write.specs.CanonicalLines.{with_canonical_lines};
+ghost use Rattle.printed_machines.specs.Lines.{lines_moved};
 ghost use Rattle.unit_counts.specs.Counts.{units_in};
 ghost use Rattle.hls_bind.specs.Results.{IsBuiltOf};
 ghost use Rattle.hls_sched.specs.Reports.{report_of, IsRefused};
@@ -62,15 +65,18 @@ fn reports_text(
     Ok(out)
 }
 
-// What is told of the lines of a machine, and the canonical text of its scheduled parts.
+// What is told of the lines of a machine, and the canonical text of its scheduled parts. Together they spell these parts, since what
+// is told stands in comments.
 fn schedule_text(
     alloc: Global,
     machine: &Machine,
     scheduled: &Scheduled,
 ) -> Result<Vec<u8>, AllocError>
     requires { IsTrue (is_well_formed (source_of scheduled.now.parts)) }
-    ensures { IfOk result (λ bytes. bytes.items ≡ flat_map (report_text machine.now) (map report_of scheduled.now.lines.items) ++ canonical (source_of scheduled.now.parts)) }
+    ensures text { IfOk result (λ bytes. bytes.items ≡ flat_map (report_text machine.now) (map report_of scheduled.now.lines.items) ++ canonical (source_of scheduled.now.parts)) }
+    ensures spells { IfOk result (λ bytes. TextSpells bytes.items (lines_moved (length scheduled.now.lines.items) (with_canonical_lines (source_of scheduled.now.parts)))) }
 {
+    let _sound = machine.vars();
     let mut bytes = reports_text(alloc, machine, scheduled.lines.as_slice())?;
     match write_parts(alloc, &scheduled.parts) {
         Ok(text) => {
@@ -82,8 +88,8 @@ fn schedule_text(
 }
 
 /// What is told of the lines of the machine of parts under unit counts, and the canonical text of the parts with their lines in
-/// rows. `Over` comes exactly where a transition uses more of a unit than is given, and names the first by state, branch and
-/// unit. `NoMemory` may come at any time.
+/// rows. Together they spell the schedule of the machine. `Over` comes exactly where a transition uses more of a unit than is given,
+/// and names the first by state, branch and unit. `NoMemory` may come at any time.
 pub fn scheduled_text(
     alloc: Global,
     parts: &Parts,
