@@ -11,6 +11,18 @@ pub data Held : Type 0 where
   Nothing : Held
   Bytes : List ℕ → Held
 
+-- what is told of files: what stands under each name, and how often each name failed to be read, and to be written
+pub record FilesTold : Type 0 where
+  pub holds : List ℕ → Held
+  pub faults : List ℕ → ℕ
+  pub store_faults : List ℕ → ℕ
+
+-- what is told of a sink: the bytes that it got, how often it failed, and how many bytes more have room
+pub record SinkTold : Type 0 where
+  pub got : Option (List ℕ)
+  pub faults : ℕ
+  pub spare : Option ℕ
+
 -- the last value of a count
 abbrev pub last_count : ℕ
 last_count = 2 ^ 64 - 1

@@ -117,11 +117,7 @@ fn write_file<R: rt::Files>(runtime: &R, name: &str, bytes: &[u8]) -> Result<(),
 impl<R: rt::Files> Files for DiskFiles<'_, R> {
     ghost use Rattle.fs_base.specs.Outside.{Unknown};
 
-    ghost faults = { λ failures name. failures };
-
-    ghost store_faults = { λ failures name. failures };
-
-    ghost holds = { λ files name. Unknown };
+    ghost told = { λ failures. record { holds = λ name. Unknown; faults = λ name. failures; store_faults = λ name. failures } };
 
     fn load(&mut self, alloc: Global, name: &str, limit: u64) -> Result<Vec<u8>, LoadError> {
         let loaded = match File::open(self.runtime, name) {
@@ -194,11 +190,7 @@ impl<'a, R: Print> StdSink<'a, R> {
 impl<R: Print> Sink for StdSink<'_, R> {
     ghost use Rattle.std.specs.Prelude.{None};
 
-    ghost faults = { λ failures. failures };
-
-    ghost got = { λ sink. None };
-
-    ghost spare = { λ sink. None };
+    ghost told = { λ failures. record { got = None; faults = failures; spare = None } };
 
     fn room(&self) -> Option<u64> {
         None

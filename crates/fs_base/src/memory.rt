@@ -163,11 +163,7 @@ impl Files for MemFiles {
     ghost use Rattle.fs_base.specs.Stored.{newest, held_or_nothing};
     ghost use Rattle.fs_base.specs.Memory.{fails_next, CannotLoad, after_load, after_store};
 
-    ghost faults = { λ held name. held.failures };
-
-    ghost store_faults = { λ held name. held.failures };
-
-    ghost holds = { λ held name. held_or_nothing (newest held.files name) };
+    ghost told = { λ held. record { holds = λ name. held_or_nothing (newest held.files name); faults = λ name. held.failures; store_faults = λ name. held.failures } };
 
     fn load(&mut self, alloc: Global, name: &str, limit: u64) -> Result<Vec<u8>, LoadError>
         ensures bytes { IfOk result (λ bytes. newest self.old.files name.now ≡ Some bytes.items) }
@@ -262,11 +258,7 @@ impl Files for CleanFiles {
     ghost use Rattle.fs_base.specs.Outside.{AreHeld, MoreAreHeld, WhereFailed, WhereTooLong};
     ghost use Rattle.fs_base.specs.Stored.{newest, held_or_empty};
 
-    ghost faults = { λ held name. 0 };
-
-    ghost store_faults = { λ held name. 0 };
-
-    ghost holds = { λ held name. held_or_empty (newest held name) };
+    ghost told = { λ held. record { holds = λ name. held_or_empty (newest held name); faults = λ name. 0; store_faults = λ name. 0 } };
 
     fn load(&mut self, alloc: Global, name: &str, limit: u64) -> Result<Vec<u8>, LoadError>
         ensures bytes { IfOk result (λ bytes. AreHeld (held_or_empty (newest self.old name.now)) bytes.items) }

@@ -1,5 +1,5 @@
 //! What the program reaches outside itself, by trait.
-ghost use Rattle.std.specs.Prelude.{◌≡◌, ℕ, ◌<◌, ◌≤◌, List, length, take, Option, IfOk, OnOk};
+ghost use Rattle.std.specs.Prelude.{◌≡◌, ◌<◌, ◌≤◌, length, take, Option, IfOk, OnOk};
 ghost use Rattle.std.specs.Result.{IfErr, OnErr};
 
 use std::alloc::Global;
@@ -34,16 +34,12 @@ pub struct SinkFailed;
 
 /// Files by name.
 ///
-/// `faults` counts the failures of `load` under a name and `store_faults` those of `store`; no count ever falls.
-/// `holds` tells what stands under a name, where it can be told.
+/// What is told of them: `holds`, what stands under a name, where it can be told; `faults` counts the failures of `load`
+/// under a name and `store_faults` those of `store`; no count ever falls.
 pub trait Files {
-    ghost use Rattle.fs_base.specs.Outside.{Held, Rose, NoneFell, SameCounts, SameHeld, OthersHeld, AreHeld, MoreAreHeld, WhereFailed, WhereTooLong, WhereNoMemory, held_after, WhereNotStored, WhereNoRoom};
+    ghost use Rattle.fs_base.specs.Outside.{FilesTold, Rose, NoneFell, SameCounts, SameHeld, OthersHeld, AreHeld, MoreAreHeld, WhereFailed, WhereTooLong, WhereNoMemory, held_after, WhereNotStored, WhereNoRoom};
 
-    ghost faults: { Self → List ℕ → ℕ };
-
-    ghost store_faults: { Self → List ℕ → ℕ };
-
-    ghost holds: { Self → List ℕ → Held };
+    ghost told: { Self → FilesTold };
 
     /// Reads the bytes under a name, at most `limit` of them. It changes no file.
     ///
@@ -51,60 +47,56 @@ pub trait Files {
     /// than `limit` bytes; `NoMemory` where there is no memory, and then no count changed.
     fn load(&mut self, alloc: Global, name: &str, limit: u64) -> Result<Vec<u8>, LoadError>
         ensures within { IfOk result (λ bytes. length bytes.items ≤ limit) }
-        ensures held { IfOk result (λ bytes. AreHeld (holds self.old name.now) bytes.items) }
-        ensures too_long { IfErr result (WhereTooLong (MoreAreHeld (holds self.old name.now) limit)) }
-        ensures failed { IfErr result (WhereFailed (Rose (faults self.old name.now) (faults self.new name.now))) }
-        ensures no_memory { IfErr result (WhereNoMemory (SameCounts (faults self.old) (faults self.new))) }
-        ensures no_memory_store { IfErr result (WhereNoMemory (SameCounts (store_faults self.old) (store_faults self.new))) }
-        ensures counts { NoneFell (faults self.old) (faults self.new) }
-        ensures store_counts { NoneFell (store_faults self.old) (store_faults self.new) }
-        ensures unchanged { SameHeld (holds self.old) (holds self.new) };
+        ensures held { IfOk result (λ bytes. AreHeld ((told self.old).holds name.now) bytes.items) }
+        ensures too_long { IfErr result (WhereTooLong (MoreAreHeld ((told self.old).holds name.now) limit)) }
+        ensures failed { IfErr result (WhereFailed (Rose ((told self.old).faults name.now) ((told self.new).faults name.now))) }
+        ensures no_memory { IfErr result (WhereNoMemory (SameCounts (told self.old).faults (told self.new).faults)) }
+        ensures no_memory_store { IfErr result (WhereNoMemory (SameCounts (told self.old).store_faults (told self.new).store_faults)) }
+        ensures counts { NoneFell (told self.old).faults (told self.new).faults }
+        ensures store_counts { NoneFell (told self.old).store_faults (told self.new).store_faults }
+        ensures unchanged { SameHeld (told self.old).holds (told self.new).holds };
 
     /// Makes a name hold exactly these bytes. Other names stay.
     ///
     /// `Failed` where the file cannot be written: the count of store faults of this name rose, and the name may hold
     /// any bytes; `NoMemory` where there is no memory, and then nothing changed.
     fn store(&mut self, alloc: Global, name: &str, bytes: &[u8]) -> Result<(), StoreError>
-        ensures stored { OnOk result (holds self.new name.now ≡ held_after (holds self.old name.now) bytes.now) }
-        ensures others { OthersHeld name.now (holds self.old) (holds self.new) }
-        ensures failed { IfErr result (WhereNotStored (Rose (store_faults self.old name.now) (store_faults self.new name.now))) }
-        ensures no_memory { IfErr result (WhereNoRoom (SameHeld (holds self.old) (holds self.new))) }
-        ensures no_memory_load { IfErr result (WhereNoRoom (SameCounts (faults self.old) (faults self.new))) }
-        ensures no_memory_store { IfErr result (WhereNoRoom (SameCounts (store_faults self.old) (store_faults self.new))) }
-        ensures counts { NoneFell (faults self.old) (faults self.new) }
-        ensures store_counts { NoneFell (store_faults self.old) (store_faults self.new) };
+        ensures stored { OnOk result ((told self.new).holds name.now ≡ held_after ((told self.old).holds name.now) bytes.now) }
+        ensures others { OthersHeld name.now (told self.old).holds (told self.new).holds }
+        ensures failed { IfErr result (WhereNotStored (Rose ((told self.old).store_faults name.now) ((told self.new).store_faults name.now))) }
+        ensures no_memory { IfErr result (WhereNoRoom (SameHeld (told self.old).holds (told self.new).holds)) }
+        ensures no_memory_load { IfErr result (WhereNoRoom (SameCounts (told self.old).faults (told self.new).faults)) }
+        ensures no_memory_store { IfErr result (WhereNoRoom (SameCounts (told self.old).store_faults (told self.new).store_faults)) }
+        ensures counts { NoneFell (told self.old).faults (told self.new).faults }
+        ensures store_counts { NoneFell (told self.old).store_faults (told self.new).store_faults };
 }
 
 /// A sink of bytes.
 ///
-/// `faults` counts its failures and never falls. `got` is the bytes taken so far, and `spare` the number of bytes for
-/// which room was made, each where it can be told; no call changes whether it is told.
+/// What is told of it: `got` is the bytes taken so far, and `spare` the number of bytes for which room was made, each
+/// where it can be told, and no call changes whether it is told; `faults` counts its failures and never falls.
 pub trait Sink {
-    ghost use Rattle.fs_base.specs.Outside.{Rose, appended, lowered, HasRoom};
+    ghost use Rattle.fs_base.specs.Outside.{SinkTold, Rose, appended, lowered, HasRoom};
 
-    ghost faults: { Self → ℕ };
-
-    ghost got: { Self → Option (List ℕ) };
-
-    ghost spare: { Self → Option ℕ };
+    ghost told: { Self → SinkTold };
 
     /// The number of bytes for which room was made, and `None` where that is untold.
     fn room(&self) -> Option<u64>
-        ensures { result ≡ spare self.now };
+        ensures { result ≡ (told self.now).spare };
 
     /// Takes some bytes from the front of a piece, and answers how many: at least one, if the piece is not empty.
     ///
     /// `SinkFailed` where it takes nothing of a piece that is not empty, and then the count of faults rose. A piece that is
     /// empty is answered `Ok(0)`. It takes no memory.
     fn put(&mut self, piece: &[u8]) -> Result<u64, SinkFailed>
-        requires { HasRoom (spare self.old) (length piece.now) }
+        requires { HasRoom (told self.old).spare (length piece.now) }
         ensures within { IfOk result (λ taken. taken ≤ length piece.now) }
         ensures some { IfOk result (λ taken. 0 < length piece.now → 0 < taken) }
-        ensures got { IfOk result (λ taken. got self.new ≡ appended (got self.old) (take taken piece.now)) }
-        ensures spare { IfOk result (λ taken. spare self.new ≡ lowered (spare self.old) taken) }
-        ensures failed { OnErr result (Rose (faults self.old) (faults self.new)) }
+        ensures got { IfOk result (λ taken. (told self.new).got ≡ appended (told self.old).got (take taken piece.now)) }
+        ensures spare { IfOk result (λ taken. (told self.new).spare ≡ lowered (told self.old).spare taken) }
+        ensures failed { OnErr result (Rose (told self.old).faults (told self.new).faults) }
         ensures empty { OnErr result (0 < length piece.now) }
-        ensures got_nothing { OnErr result (got self.new ≡ got self.old) }
-        ensures spare_stays { OnErr result (spare self.new ≡ spare self.old) }
-        ensures counts { faults self.old ≤ faults self.new };
+        ensures got_nothing { OnErr result ((told self.new).got ≡ (told self.old).got) }
+        ensures spare_stays { OnErr result ((told self.new).spare ≡ (told self.old).spare) }
+        ensures counts { (told self.old).faults ≤ (told self.new).faults };
 }

@@ -1,5 +1,5 @@
 //! Putting bytes whole.
-ghost use Rattle.std.specs.Prelude.{◌≡◌, ℕ, ◌<◌, ◌≤◌, length, take, OnOk};
+ghost use Rattle.std.specs.Prelude.{◌≡◌, ◌<◌, ◌≤◌, length, take, OnOk};
 ghost use Rattle.std.specs.Result.{IfErr, OnErr};
 ghost use Rattle.fs_base.specs.Outside.{Rose, appended, lowered, HasRoom};
 
@@ -16,14 +16,14 @@ pub struct PutError {
 ///
 /// An error where the sink failed: its count of faults rose, and it took exactly the first `sent` bytes.
 pub fn put_all<S: Sink>(sink: &mut S, bytes: &[u8]) -> Result<(), PutError>
-    requires { HasRoom (S.spare sink.old) (length bytes.now) }
-    ensures got { OnOk result (S.got sink.new ≡ appended (S.got sink.old) bytes.now) }
-    ensures spare { OnOk result (S.spare sink.new ≡ lowered (S.spare sink.old) (length bytes.now)) }
-    ensures failed { OnErr result (Rose (S.faults sink.old) (S.faults sink.new)) }
+    requires { HasRoom (S.told sink.old).spare (length bytes.now) }
+    ensures got { OnOk result ((S.told sink.new).got ≡ appended (S.told sink.old).got bytes.now) }
+    ensures spare { OnOk result ((S.told sink.new).spare ≡ lowered (S.told sink.old).spare (length bytes.now)) }
+    ensures failed { OnErr result (Rose (S.told sink.old).faults (S.told sink.new).faults) }
     ensures sent { IfErr result (λ e. e.sent < length bytes.now) }
-    ensures got_sent { IfErr result (λ e. S.got sink.new ≡ appended (S.got sink.old) (take e.sent bytes.now)) }
-    ensures spare_left { IfErr result (λ e. S.spare sink.new ≡ lowered (S.spare sink.old) e.sent) }
-    ensures counts { S.faults sink.old ≤ S.faults sink.new }
+    ensures got_sent { IfErr result (λ e. (S.told sink.new).got ≡ appended (S.told sink.old).got (take e.sent bytes.now)) }
+    ensures spare_left { IfErr result (λ e. (S.told sink.new).spare ≡ lowered (S.told sink.old).spare e.sent) }
+    ensures counts { (S.told sink.old).faults ≤ (S.told sink.new).faults }
 {
     let mut sent = 0;
     while sent < bytes.len() {

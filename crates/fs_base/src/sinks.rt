@@ -1,5 +1,5 @@
 //! Sinks in memory. Each takes its memory before it is put to, by `reserve`.
-ghost use Rattle.std.specs.Prelude.{◌≡◌, ℕ, ◌+◌, ◌<◌, ◌≤◌, List, [], ◌++◌, length, take, OnOk, IfOk, vec_len, vec_capacity};
+ghost use Rattle.std.specs.Prelude.{◌≡◌, ◌+◌, ◌<◌, ◌≤◌, [], ◌++◌, length, take, OnOk, IfOk, vec_len, vec_capacity};
 ghost use Rattle.std.specs.Result.{OnErr};
 ghost use Rattle.fs_base.specs.Sinks.{RoomySink, with_room, ScriptedSink, no_puts, with_room_scripted, taken_next, after_taking, after_failed_put};
 
@@ -81,11 +81,7 @@ impl Sink for CleanSink {
     ghost use Rattle.std.specs.Prelude.{◌≡◌, ◌≤◌, length, Some, Ok};
     ghost use Rattle.fs_base.specs.Sinks.{with_bytes};
 
-    ghost faults = { λ sink. 0 };
-
-    ghost got = { λ sink. Some sink.bytes };
-
-    ghost spare = { λ sink. Some sink.room };
+    ghost told = { λ sink. record { got = Some sink.bytes; faults = 0; spare = Some sink.room } };
 
     fn room(&self) -> Option<u64> {
         Some(self.room)
@@ -193,11 +189,7 @@ impl Sink for MemSink {
     ghost use Rattle.fs_base.specs.Outside.{Rose};
     ghost use Rattle.fs_base.specs.Sinks.{taken_next, after_put};
 
-    ghost faults = { λ sink. sink.failures };
-
-    ghost got = { λ sink. Some sink.bytes };
-
-    ghost spare = { λ sink. None };
+    ghost told = { λ sink. record { got = Some sink.bytes; faults = sink.failures; spare = None } };
 
     fn room(&self) -> Option<u64> {
         None

@@ -10,7 +10,6 @@ use Rattle.fs_rules.specs.Spelled.{machine_of}
 use Rattle.unit_counts.specs.Counts.{Units}
 use Rattle.command_answers.specs.declared.answer.Operand.{Operand}
 use Rattle.command_answers.specs.declared.answer.Operand.TheVariants.{First, Second, Third}
-use Rattle.command_answers.specs.declared.answer.Status.{Status}
 use Rattle.command_answers.specs.declared.answer.Status.TheVariants as statuses
 use Rattle.command_answers.specs.declared.answer.KeyFault.{KeyFault}
 use Rattle.command_answers.specs.declared.answer.Answer.{Answer}
@@ -25,16 +24,16 @@ use Rattle.command_answers.specs.Verdicts.{verdict_on}
 use Rattle.command_answers.specs.Runs.{IsOfRun}
 use Rattle.command_answers.specs.Replays.{IsOfReplay}
 use Rattle.command_answers.specs.Keys.{FollowsFromKeys, KeysRefused, KeysSpelled}
-use Rattle.command_answers.specs.InputFiles.{IsNotJson, HasInputFault, SpellsInputs, FollowsFromInputs}
+use Rattle.command_answers.specs.InputFiles.{HasInputFault, SpellsInputs, FollowsFromInputs}
 use Rattle.command_answers.specs.Refusals.{RefusesMachine}
 use Rattle.command_answers.specs.Programs.{RefusesProgram, HasCompiledText}
-use Rattle.command_answers.specs.Schedules.{AreNoUnits, HaveUnitFault, SpellUnits, IsOfSchedule, ForSchedule}
+use Rattle.command_answers.specs.Schedules.{HaveUnitFault, SpellUnits, IsOfSchedule, ForSchedule}
 use Rattle.synthesis_answers.specs.Bindings.{Binding}
-use Rattle.command_answers.specs.Bindings.{IsNoBinding, HasBindingFault, SpellsBinding, IsOfBinding, ForBind}
+use Rattle.command_answers.specs.Bindings.{HasBindingFault, SpellsBinding, IsOfBinding, ForBind}
 use Rattle.command_answers.specs.Follows.{FollowsForText, TextRefused, Listed, FollowsForParts, PartsRefused, PartsSpelled, FollowsFromCertificate, CertificateRefused, Judged, FollowsForRun, MachineRefused, Ran, FollowsForPair, PairRefused, Answered as Paired, ForCheck, ForVerify, ForReplay, Follows}
 use Rattle.fsmd_tool.specs.Calls.{Call, held, FailedToRead, MayBeRead, MayRead}
 use Rattle.fsmd_tool.specs.Puts.{Put, IsPut, Whole, Cut}
-use Rattle.fsmd_tool.specs.Stores.{Stores, IsUnstored, Entry, entry_of, to_store}
+use Rattle.fsmd_tool.specs.Stores.{stores, Entry, entry_of, to_store}
 use Rattle.fsmd_tool.specs.Correct.{IsCorrectAnswer, IsDone, Kept, Stored, Unstored, Answered}
 use Rattle.fsmd_tool.specs.Clauses.{HasCause, FileFailed, CertificateUnstored, SinkFailed}
 use Rattle.fsmd_tool.proofs.Statuses.{Ends, moved, machine_fault, program_fault, keys_fault, certificate_fault, pair_fault, of_pair_fault, run_fault, replay_fault, schedule_fault, binding_fault, judged_fault}
@@ -45,13 +44,13 @@ record Unread (o : Option Asked) (r : Reading) : Type 0 where
   named : IsTrue (names o file)
   unreadable : content_of r file ≡ Unreadable
 
-from_keys : (T : Type 0) (N : List ℕ → Type 0) (F : KeyFault → (key bytes : List ℕ) → Type 0) (S : T → List ℕ → Type 0) (P : T → Answer → Type 0) → ((v : T) (x : Answer) → P v x → Ends statuses.Fault x → ⊥) → (file : Operand) (c : Content) (x : Answer)
-    → FollowsFromKeys T N F S P file c x → Ends statuses.Fault x → c ≡ Unreadable
-from_keys T N F S P never file c x (KeysRefused p) s = keys_fault N F file c x p s
-from_keys T N F S P never file c x (KeysSpelled v i p) s = absurd (never v x p s)
+from_keys : (T : Type 0) (F : KeyFault → (key bytes : List ℕ) → Type 0) (S : T → List ℕ → Type 0) (P : T → Answer → Type 0) → ((v : T) (x : Answer) → P v x → Ends statuses.Fault x → ⊥) → (file : Operand) (c : Content) (x : Answer)
+    → FollowsFromKeys T F S P file c x → Ends statuses.Fault x → c ≡ Unreadable
+from_keys T F S P never file c x (KeysRefused p) s = keys_fault F file c x p s
+from_keys T F S P never file c x (KeysSpelled v i p) s = absurd (never v x p s)
 
 from_inputs : (P : Inputs → Answer → Type 0) → ((ins : Inputs) (x : Answer) → P ins x → Ends statuses.Fault x → ⊥) → (m : Fsmd) (file : Operand) (c : Content) (x : Answer) → FollowsFromInputs P m file c x → Ends statuses.Fault x → c ≡ Unreadable
-from_inputs P never m file c x f s = from_keys Inputs (IsNotJson m) (HasInputFault m) (SpellsInputs m) P never file c x f s
+from_inputs P never m file c x f s = from_keys Inputs (HasInputFault m) (SpellsInputs m) P never file c x f s
 
 from_certificate : (a b : Fsmd) (c : Content) (x : Answer) → FollowsFromCertificate a b Third c x → Ends statuses.Fault x → c ≡ Unreadable
 from_certificate a b c x (CertificateRefused p) s = certificate_fault a b Third c x p s
@@ -94,9 +93,9 @@ unread (Some (Fmt machine)) r x f s = of_text (RefusesMachine First) HasCanonica
 unread (Some (Cuts machine)) r x f s = of_text (RefusesMachine First) HasPaths (λ c y p t. machine_fault First c y p t) (Some (Cuts machine)) r x refl f s
 unread (Some (Compile program)) r x f s = of_text (RefusesProgram First) HasCompiledText (λ c y p t. program_fault First c y p t) (Some (Compile program)) r x refl f s
 unread (Some (Schedule machine units)) r x f s =
-    of_parts ForSchedule (λ p c y h t. from_keys Units AreNoUnits HaveUnitFault SpellUnits (IsOfSchedule p) (schedule_fault p) Second c y h t) (Some (Schedule machine units)) r x refl refl f s
+    of_parts ForSchedule (λ p c y h t. from_keys Units HaveUnitFault SpellUnits (IsOfSchedule p) (schedule_fault p) Second c y h t) (Some (Schedule machine units)) r x refl refl f s
 unread (Some (Bind machine binding)) r x f s =
-    of_parts ForBind (λ p c y h t. from_keys Binding (IsNoBinding (machine_of p)) (HasBindingFault (machine_of p)) (SpellsBinding (machine_of p)) (IsOfBinding p) (binding_fault p) Second c y h t) (Some (Bind machine binding)) r x refl refl f s
+    of_parts ForBind (λ p c y h t. from_keys Binding (HasBindingFault (machine_of p)) (SpellsBinding (machine_of p)) (IsOfBinding p) (binding_fault p) Second c y h t) (Some (Bind machine binding)) r x refl refl f s
 unread (Some (Generate n)) r x f s = absurd (of_pair_fault generated_steps _ (left_of n) (right_of n) x f.says s)
 
 failed : (k : Held) (F : Type 0) (c : Content) → MayBeRead k F c → c ≡ Unreadable → F
@@ -107,22 +106,22 @@ file_failed g r First may e = failed (held g First) (FailedToRead g First) r.fir
 file_failed g r Second may e = failed (held g Second) (FailedToRead g Second) r.second may.second e
 file_failed g r Third may e = failed (held g Third) (FailedToRead g Third) r.third may.third e
 
-file_cause : (g : Call) (s : Stores) (p : Put) (x : Answer) → IsCorrectAnswer g x → Ends statuses.Fault x → HasCause g s p
-file_cause g s p x c e = let u = unread g.asked c.reading x c.follows e in FileFailed u.file u.named (file_failed g c.reading u.file c.may_be_read u.unreadable)
+file_cause : (g : Call) (p : Put) (x : Answer) → IsCorrectAnswer g x → Ends statuses.Fault x → HasCause g p
+file_cause g p x c e = let u = unread g.asked c.reading x c.follows e in FileFailed u.file u.named (file_failed g c.reading u.file c.may_be_read u.unreadable)
 
-put_cause : (g : Call) (s : Stores) (p : Put) (x : Answer) (reply : List ℕ) → IsCorrectAnswer g x → p.status ≡ statuses.Fault → IsPut reply (status_of x) p → HasCause g s p
-put_cause g s p x reply c e (Whole w) = file_cause g s p x c (sym w.status ∙ e)
-put_cause g s p x reply c e (Cut w) = SinkFailed w.failed
+put_cause : (g : Call) (p : Put) (x : Answer) (reply : List ℕ) → IsCorrectAnswer g x → p.status ≡ statuses.Fault → IsPut reply (status_of x) p → HasCause g p
+put_cause g p x reply c e (Whole w) = file_cause g p x c (sym w.status ∙ e)
+put_cause g p x reply c e (Cut w) = SinkFailed w.failed
 
 pub entry_named : (cert text : Option (List ℕ)) (x : Entry) → entry_of cert text ≡ Some x → cert ≡ Some x.name
 entry_named None text x e = absurd (cc)
 entry_named (Some name) None x e = absurd (cc)
 entry_named (Some name) (Some bytes) x e = let same : record { name = name; bytes = bytes } ≡ x = cc in ap (λ (z : Entry). Some z.name) same
 
-done_cause : (g : Call) (s : Stores) (p : Put) (x : Answer) → IsCorrectAnswer g x → p.status ≡ statuses.Fault → (reply : List ℕ) → IsDone (to_store g.asked x) reply (status_of x) s p → HasCause g s p
-done_cause g s p x c e reply (Kept none k put) = put_cause g s p x reply c e put
-done_cause g s p x c e reply (Stored y some k put) = put_cause g s p x reply c e put
-done_cause g s p x c e reply (Unstored y some u put) = CertificateUnstored y.name (entry_named (cert_of g.asked) (certificate_in x) y some) u.failed
+done_cause : (g : Call) (p : Put) (x : Answer) → IsCorrectAnswer g x → p.status ≡ statuses.Fault → (reply : List ℕ) → IsDone (to_store g.asked x) reply (status_of x) (stores g.before g.now) p → HasCause g p
+done_cause g p x c e reply (Kept none k put) = put_cause g p x reply c e put
+done_cause g p x c e reply (Stored y some k put) = put_cause g p x reply c e put
+done_cause g p x c e reply (Unstored y some u put) = CertificateUnstored y.name (entry_named (cert_of g.asked) (certificate_in x) y some) u.failed
 
-pub has_cause : (g : Call) (s : Stores) (p : Put) → Answered g s p → p.status ≡ statuses.Fault → HasCause g s p
-has_cause g s p a e = done_cause g s p a.answer a.correct e _ a.done
+pub has_cause : (g : Call) (p : Put) → Answered g p → p.status ≡ statuses.Fault → HasCause g p
+has_cause g p a e = done_cause g p a.answer a.correct e _ a.done

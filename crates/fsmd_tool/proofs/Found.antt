@@ -1,15 +1,13 @@
 -- The machines that a call compares, where its answer is no refusal.
-use Rattle.std.proofs.Common.{◌≡◌, ◌∙◌, ℕ, Bool, true, false, List, Option, Some, None, refl, sym, ap, subst}
+use Rattle.std.proofs.Common.{◌≡◌, ℕ, true, false, List, Option, Some, None, refl, sym, subst}
 use Rattle.std.specs.Prelude.{IsTrue, is_some}
 use Rattle.std.proofs.lemmas.Bool.{false≢true}
 use Rattle.command_words.specs.Words.{Asked, Check, Verify, Run, Replay, Fmt, Cuts, Generate, Compile, Schedule, Bind}
 use Rattle.fs_base.specs.Outside.{Held}
 use Rattle.fs_model.specs.Machines.{Fsmd}
-use Rattle.fs_model.specs.Runs.{SameBehaviour}
 use Rattle.fs_pair.specs.Interfaces.{interface_fault}
 use Rattle.bisimulation.specs.Tables.{Node}
 use Rattle.sym_facts.specs.Facts.{Fact}
-use Rattle.certificates.specs.Obligations.{Yes}
 use Rattle.command_answers.specs.declared.answer.Operand.TheVariants.{First, Second, Third}
 use Rattle.command_answers.specs.declared.answer.Status.{Status}
 use Rattle.command_answers.specs.declared.answer.Status.TheVariants as statuses
@@ -19,7 +17,7 @@ use Rattle.command_answers.specs.Texts.{SpellsMachine}
 use Rattle.command_answers.specs.Readings.{Content, Unopened, Readable, Unreadable, OfBytes, Reading}
 use Rattle.command_answers.specs.Refusals.{ArePair, SpellsCertificate}
 use Rattle.command_answers.specs.Pairs.{IsOfPair, left_of, right_of}
-use Rattle.command_answers.specs.Verdicts.{IsJudged, verdict_on, answer_to}
+use Rattle.command_answers.specs.Verdicts.{IsJudged}
 use Rattle.command_answers.specs.Follows.{FollowsForPair, PairRefused, Answered, FollowsFromCertificate, CertificateRefused, Judged, ForCheck, ForVerify, Follows}
 use Rattle.command_answers.proofs.Loops.{loops_alike}
 use Rattle.fsmd_tool.specs.Calls.{Call, held, FailedToRead, MayBeRead, MayHold, MayRead}

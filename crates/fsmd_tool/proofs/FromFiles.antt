@@ -1,5 +1,5 @@
 -- What is correct, from what was loaded.
-use Rattle.std.proofs.Common.{◌≡◌, ◌≤◌, ◌<◌, ◌+◌, ℕ, List, length, refl, sym, ◌∙◌, subst, inl, inr, arith}
+use Rattle.std.proofs.Common.{◌≡◌, ◌≤◌, ◌<◌, ◌+◌, ℕ, List, length, refl, ◌∙◌, subst, inl, inr, arith}
 use Rattle.std.specs.Prelude.{Result, Ok, Err, IfOk, Some, None, replicate}
 use Rattle.std.proofs.lemmas.List.{length-replicate}
 use Rattle.std.specs.Result.{IfErr}
@@ -20,22 +20,30 @@ use Rattle.command_answers.specs.declared.refused.Refused.{Refused as Refusal}
 use Rattle.command_answers.specs.Words.{word_of}
 use Rattle.command_answers.specs.Lines.{HasLines}
 use Rattle.command_answers.specs.declared.answer.KeyFault.{KeyFault}
-use Rattle.command_answers.specs.Texts.{SpellsParts, SpellsMachine, HasCanonicalText}
+use Rattle.command_answers.specs.Texts.{SpellsMachine, HasCanonicalText}
 use Rattle.command_answers.specs.Paths.{HasPaths}
 use Rattle.command_answers.specs.Readings.{Content, Unopened, Readable, Unreadable, Reading, OnlyFirst}
 use Rattle.command_answers.specs.Unread.{IsUnread, Long}
 use Rattle.command_answers.specs.Keys.{RefusesKeys, FollowsFromKeys, KeysRefused, KeysSpelled}
-use Rattle.command_answers.specs.InputFiles.{IsNotJson, HasInputFault, SpellsInputs, RefusesInputs, FollowsFromInputs}
-use Rattle.command_answers.specs.Programs.{RefusesProgram, HasCompiledText}
+use Rattle.command_answers.specs.InputFiles.{HasInputFault, SpellsInputs, RefusesInputs, FollowsFromInputs}
 use Rattle.command_answers.specs.Refusals.{RefusesMachine, RefusesPair, SecondRefused, InterfacesDiffer, RefusesCertificate, SpellsCertificate}
 use Rattle.command_answers.specs.Refusing.{WhereAnswered, IsLoaded}
-use Rattle.command_answers.specs.Pairs.{IsOfLoops}
 use Rattle.command_answers.specs.Verdicts.{IsJudged}
 use Rattle.command_answers.specs.Runs.{IsOfRun}
 use Rattle.command_answers.specs.Follows.{FollowsUnread, FollowsForText, TextRefused, Listed, FollowsForParts, PartsRefused, PartsSpelled, FollowsFromCertificate, CertificateRefused, Judged, FollowsForRun, Ran, FollowsForPair, PairRefused, Answered}
 use Rattle.command_answers.proofs.Maps.{answer_map, ok_map, err_map}
-use Rattle.fsmd_tool.specs.Calls.{Call, held, FailedToRead, MayBeRead, MayHold, IsCorrectBy}
+use Rattle.fsmd_tool.specs.Calls.{Call, held, FailedToRead, MayBeRead, MayHold, IsCorrectBy, AnswersBy}
 use Rattle.fsmd_tool.specs.Loading.{MayGive, Gives}
+
+-- what holds of answers, for another cause
+pub answers_map : (P Q : Answer → Type 0) → ((x : Answer) → P x → Q x) → (r : Result Answer Refusal) → AnswersBy P r → AnswersBy Q r
+answers_map P Q f (Ok x) h = f x h
+answers_map P Q f (Err e) h = answer_map P Q f e h
+
+-- the two clauses of a function that gives an answer, in one
+pub answers_both : (P : Answer → Type 0) (r : Result Answer Refusal) → IfOk r P → IfErr r (WhereAnswered P) → AnswersBy P r
+answers_both P (Ok x) h k = h
+answers_both P (Err e) h k = k
 
 -- ---- what a file may give
 
@@ -83,10 +91,10 @@ rose_since a b c le (inl less) = inl (omega arith)
 rose_since a b c le (inr last) = inr last
 
 -- the same of a file of a call that was loaded later in it
-later : (g : Call) (file : Operand) (h : Held) (before : ℕ) (P : Content → Type 0) → h ≡ held g file → g.faults_before (word_of g.asked file) ≤ before
-    → MayGive h (Rose before (g.faults_now (word_of g.asked file))) P → MayGive (held g file) (FailedToRead g file) P
+later : (g : Call) (file : Operand) (h : Held) (before : ℕ) (P : Content → Type 0) → h ≡ held g file → g.before.faults (word_of g.asked file) ≤ before
+    → MayGive h (Rose before (g.now.faults (word_of g.asked file))) P → MayGive (held g file) (FailedToRead g file) P
 later g file h before P e le m =
-    gives_kept h (held g file) (Rose before (g.faults_now (word_of g.asked file))) (FailedToRead g file) P e (λ rose. rose_since (g.faults_before (word_of g.asked file)) before (g.faults_now (word_of g.asked file)) le rose) m
+    gives_kept h (held g file) (Rose before (g.now.faults (word_of g.asked file))) (FailedToRead g file) P e (λ rose. rose_since (g.before.faults (word_of g.asked file)) before (g.now.faults (word_of g.asked file)) le rose) m
 
 -- ---- no file
 
@@ -147,10 +155,10 @@ paths_listed g m text lines h e is = record {
 
 -- ---- two files of machines
 
-pub second_refused : (g : Call) (h : Held) (before : ℕ) (a : Fsmd) (e : Refusal) → h ≡ held g Second → g.faults_before (word_of g.asked Second) ≤ before → MayHold (held g First) (SpellsMachine a)
-    → WhereAnswered (λ x. MayGive h (Rose before (g.faults_now (word_of g.asked Second))) (λ c. RefusesMachine Second c x)) e → WhereAnswered (IsCorrectBy RefusesPair g) e
+pub second_refused : (g : Call) (h : Held) (before : ℕ) (a : Fsmd) (e : Refusal) → h ≡ held g Second → g.before.faults (word_of g.asked Second) ≤ before → MayHold (held g First) (SpellsMachine a)
+    → WhereAnswered (λ x. MayGive h (Rose before (g.now.faults (word_of g.asked Second))) (λ c. RefusesMachine Second c x)) e → WhereAnswered (IsCorrectBy RefusesPair g) e
 second_refused g h before a e same le left r =
-    answer_map (λ x. MayGive h (Rose before (g.faults_now (word_of g.asked Second))) (λ c. RefusesMachine Second c x)) (IsCorrectBy RefusesPair g)
+    answer_map (λ x. MayGive h (Rose before (g.now.faults (word_of g.asked Second))) (λ c. RefusesMachine Second c x)) (IsCorrectBy RefusesPair g)
     (λ x m.
     let k = later g Second h before (λ c. RefusesMachine Second c x) same le m in
     record {
@@ -187,20 +195,20 @@ paired P g a b x l r alike p = record {
 
 -- ---- a file behind that of a machine, or behind those of two
 
-pub keys_refused : (T : Type 0) (N : List ℕ → Type 0) (G : KeyFault → (key bytes : List ℕ) → Type 0) (S : T → List ℕ → Type 0) (P : T → Answer → Type 0) (file : Operand) (k : Held) (F : Type 0) (e : Refusal)
-    → WhereAnswered (λ x. MayGive k F (λ c. RefusesKeys N G file c x)) e → WhereAnswered (λ x. MayGive k F (λ c. FollowsFromKeys T N G S P file c x)) e
-keys_refused T N G S P file k F e h = refusal_map k F (RefusesKeys N G file) (FollowsFromKeys T N G S P file) (λ c x r. KeysRefused r) e h
+pub keys_refused : (T : Type 0) (G : KeyFault → (key bytes : List ℕ) → Type 0) (S : T → List ℕ → Type 0) (P : T → Answer → Type 0) (file : Operand) (k : Held) (F : Type 0) (e : Refusal)
+    → WhereAnswered (λ x. MayGive k F (λ c. RefusesKeys G file c x)) e → WhereAnswered (λ x. MayGive k F (λ c. FollowsFromKeys T G S P file c x)) e
+keys_refused T G S P file k F e h = refusal_map k F (RefusesKeys G file) (FollowsFromKeys T G S P file) (λ c x r. KeysRefused r) e h
 
-pub keys_spelled : (T : Type 0) (N : List ℕ → Type 0) (G : KeyFault → (key bytes : List ℕ) → Type 0) (S : T → List ℕ → Type 0) (P : T → Answer → Type 0) (file : Operand) (k : Held) (F : Type 0) (value : T) (x : Answer)
-    → MayHold k (S value) → P value x → MayGive k F (λ c. FollowsFromKeys T N G S P file c x)
-keys_spelled T N G S P file k F value x h p = record { content = Readable h.bytes; may = h.may; meets = KeysSpelled value h.meet p }
+pub keys_spelled : (T : Type 0) (G : KeyFault → (key bytes : List ℕ) → Type 0) (S : T → List ℕ → Type 0) (P : T → Answer → Type 0) (file : Operand) (k : Held) (F : Type 0) (value : T) (x : Answer)
+    → MayHold k (S value) → P value x → MayGive k F (λ c. FollowsFromKeys T G S P file c x)
+keys_spelled T G S P file k F value x h p = record { content = Readable h.bytes; may = h.may; meets = KeysSpelled value h.meet p }
 
 pub inputs_refused : (P : Inputs → Answer → Type 0) (m : Fsmd) (file : Operand) (k : Held) (F : Type 0) (e : Refusal)
     → WhereAnswered (λ x. MayGive k F (λ c. RefusesInputs m file c x)) e → WhereAnswered (λ x. MayGive k F (λ c. FollowsFromInputs P m file c x)) e
-inputs_refused P m file k F e h = keys_refused Inputs (IsNotJson m) (HasInputFault m) (SpellsInputs m) P file k F e h
+inputs_refused P m file k F e h = keys_refused Inputs (HasInputFault m) (SpellsInputs m) P file k F e h
 
 pub inputs_spelled : (P : Inputs → Answer → Type 0) (m : Fsmd) (file : Operand) (k : Held) (F : Type 0) (ins : Inputs) (x : Answer) → MayHold k (SpellsInputs m ins) → P ins x → MayGive k F (λ c. FollowsFromInputs P m file c x)
-inputs_spelled P m file k F ins x h p = keys_spelled Inputs (IsNotJson m) (HasInputFault m) (SpellsInputs m) P file k F ins x h p
+inputs_spelled P m file k F ins x h p = keys_spelled Inputs (HasInputFault m) (SpellsInputs m) P file k F ins x h p
 
 pub certificate_refused : (a b : Fsmd) (file : Operand) (k : Held) (F : Type 0) (e : Refusal)
     → WhereAnswered (λ x. MayGive k F (λ c. RefusesCertificate a b file c x)) e → WhereAnswered (λ x. MayGive k F (λ c. FollowsFromCertificate a b file c x)) e
@@ -209,8 +217,8 @@ certificate_refused a b file k F e h = refusal_map k F (RefusesCertificate a b f
 pub certificate_spelled : (a b : Fsmd) (file : Operand) (k : Held) (F : Type 0) (nodes : List (Node Fact)) (x : Answer) → MayHold k (SpellsCertificate a b nodes) → IsJudged a b nodes x → MayGive k F (λ c. FollowsFromCertificate a b file c x)
 certificate_spelled a b file k F nodes x h p = record { content = Readable h.bytes; may = h.may; meets = Judged nodes h.meet p }
 
-pub ran : (limit : ℕ) (g : Call) (h : Held) (before : ℕ) (m : Fsmd) → h ≡ held g Second → g.faults_before (word_of g.asked Second) ≤ before → MayHold (held g First) (SpellsMachine m)
-    → (x : Answer) → MayGive h (Rose before (g.faults_now (word_of g.asked Second))) (λ c. FollowsFromInputs (IsOfRun limit m) m Second c x) → IsCorrectBy (FollowsForRun limit) g x
+pub ran : (limit : ℕ) (g : Call) (h : Held) (before : ℕ) (m : Fsmd) → h ≡ held g Second → g.before.faults (word_of g.asked Second) ≤ before → MayHold (held g First) (SpellsMachine m)
+    → (x : Answer) → MayGive h (Rose before (g.now.faults (word_of g.asked Second))) (λ c. FollowsFromInputs (IsOfRun limit m) m Second c x) → IsCorrectBy (FollowsForRun limit) g x
 ran limit g h before m same le first x v =
     let k = later g Second h before (λ c. FollowsFromInputs (IsOfRun limit m) m Second c x) same le v in
     record {
@@ -220,8 +228,8 @@ ran limit g h before m same le first x v =
     }
 
 -- what P says of the parts of a machine and of what was read of a second file
-pub of_parts : (P : Source → Content → Answer → Type 0) (g : Call) (h : Held) (before : ℕ) (parts : Source) (m : Fsmd) → h ≡ held g Second → g.faults_before (word_of g.asked Second) ≤ before → MayHold (held g First) (IsLoaded parts m)
-    → (x : Answer) → MayGive h (Rose before (g.faults_now (word_of g.asked Second))) (λ c. P parts c x) → IsCorrectBy (FollowsForParts P) g x
+pub of_parts : (P : Source → Content → Answer → Type 0) (g : Call) (h : Held) (before : ℕ) (parts : Source) (m : Fsmd) → h ≡ held g Second → g.before.faults (word_of g.asked Second) ≤ before → MayHold (held g First) (IsLoaded parts m)
+    → (x : Answer) → MayGive h (Rose before (g.now.faults (word_of g.asked Second))) (λ c. P parts c x) → IsCorrectBy (FollowsForParts P) g x
 of_parts P g h before parts m same le first x v =
     let k = later g Second h before (λ c. P parts c x) same le v in
     record {
@@ -234,9 +242,9 @@ pub parts_refused : (P : Source → Content → Answer → Type 0) (g : Call) (e
 parts_refused P g e h = machine_refused (FollowsForParts P) g e (λ r x p o. PartsRefused p o) h
 
 -- what P says of both machines and of what was read of a third file
-pub with_third : (P : (a b : Fsmd) → Content → Answer → Type 0) (g : Call) (h : Held) (before : ℕ) (a b : Fsmd) → h ≡ held g Third → g.faults_before (word_of g.asked Third) ≤ before → MayHold (held g First) (SpellsMachine a)
+pub with_third : (P : (a b : Fsmd) → Content → Answer → Type 0) (g : Call) (h : Held) (before : ℕ) (a b : Fsmd) → h ≡ held g Third → g.before.faults (word_of g.asked Third) ≤ before → MayHold (held g First) (SpellsMachine a)
     → MayHold (held g Second) (SpellsMachine b) → interface_fault a b ≡ None
-    → (x : Answer) → MayGive h (Rose before (g.faults_now (word_of g.asked Third))) (λ c. P a b c x) → IsCorrectBy (FollowsForPair P) g x
+    → (x : Answer) → MayGive h (Rose before (g.now.faults (word_of g.asked Third))) (λ c. P a b c x) → IsCorrectBy (FollowsForPair P) g x
 with_third P g h before a b same le left right alike x v =
     let k = later g Third h before (λ c. P a b c x) same le v in
     record {

@@ -1,9 +1,9 @@
 -- What is answered, and what is put of it.
 use Rattle.std.proofs.Common.{◌≡◌, ◌∙◌, ℕ, Bool, List, Option, Some, None, refl, sym, subst}
 use Rattle.std.specs.Prelude.{Result, Ok, Err, IfOk, is_some, option_map}
-use Rattle.std.specs.Result.{IfErr, OnErr}
+use Rattle.std.specs.Result.{OnErr}
 use Rattle.command_words.specs.Words.{Asked, Check, Generate}
-use Rattle.fs_base.specs.Outside.{Held, SameHeld, NoneFell}
+use Rattle.fs_base.specs.Outside.{FilesTold, NoneFell}
 use Rattle.command_answers.specs.declared.answer.Status.{Status}
 use Rattle.command_answers.specs.declared.answer.Status.TheVariants.{Fault}
 use Rattle.command_answers.specs.declared.answer.Answer.{Answer}
@@ -12,17 +12,15 @@ use Rattle.command_answers.specs.declared.refused.Refused.{Refused as Refusal}
 use Rattle.command_answers.specs.Statuses.{status_of, certificate_in}
 use Rattle.command_answers.specs.Words.{cert_of}
 use Rattle.command_answers.specs.Readings.{Unopened}
-use Rattle.command_answers.specs.Refusing.{WhereAnswered}
 use Rattle.command_answers.specs.Replies.{reply, unstored_reply}
 use Rattle.command_answers.specs.Pairs.{IsOfLoops}
 use Rattle.command_answers.specs.Follows.{FollowsForPair, ForCheck, Follows}
-use Rattle.command_answers.proofs.Maps.{answer_map, ok_map, err_map}
-use Rattle.fsmd_tool.specs.Calls.{Call, call, IsCorrectBy}
+use Rattle.fsmd_tool.specs.Calls.{Call, call, OnlyRead, IsCorrectBy, AnswersBy}
 use Rattle.fsmd_tool.specs.Puts.{Put, IsPut}
 use Rattle.fsmd_tool.specs.Stores.{Stores, stores, IsKept, IsUnstored, Entry, to_store, Leaves, NotStored, Untouched, Failed, IsUnwritten, NoneWritten, WriteFailed}
-use Rattle.fsmd_tool.specs.Correct.{IsCorrectAnswer, IsDone, Kept, Unstored, Answered}
+use Rattle.fsmd_tool.specs.Correct.{IsCorrectAnswer, IsDone, IsDoneFor, Kept, Unstored, Answered}
 use Rattle.fsmd_tool.specs.Clauses.{KeepsFiles}
-use Rattle.fsmd_tool.proofs.FromFiles.{unread_answer}
+use Rattle.fsmd_tool.proofs.FromFiles.{answers_map, unread_answer}
 use Rattle.fsmd_tool.proofs.Later.{correct_later, done_since, leaves_since, not_stored_since}
 use Rattle.fsmd_tool.proofs.Causes.{entry_named}
 use Rattle.fsmd_tool.proofs.Says.{keeps_files}
@@ -35,13 +33,13 @@ usage g e = record {
   follows = subst (λ o. Follows o (record { first = Unopened; second = Unopened; third = Unopened }) Usage) (sym e) (record { says = refl; unopened = record { first = refl; second = refl; third = refl } });
 }
 
-pub answers_usage : {E : Type 0} (g : Call) (s : Stores) (r : Result Status E) (p : Status → Put) → g.asked ≡ None → IsKept s → IfOk r (λ t. IsPut (reply Usage None) (status_of Usage) (p t)) → IfOk r (λ t. Answered g s (p t))
-answers_usage g s (Ok t) p e k put = record {
+pub answers_usage : {E : Type 0} (g : Call) (r : Result Status E) (p : Status → Put) → g.asked ≡ None → IsKept (stores g.before g.now) → IfOk r (λ t. IsPut (reply Usage None) (status_of Usage) (p t)) → IfOk r (λ t. Answered g (p t))
+answers_usage g (Ok t) p e k put = record {
   answer = Usage;
   correct = usage g e;
-  done = subst (λ o. IsDone (to_store o Usage) (reply Usage o) (status_of Usage) s (p t)) (sym e) (Kept refl k put);
+  done = subst (λ o. IsDoneFor o Usage (stores g.before g.now) (p t)) (sym e) (Kept refl k put);
 }
-answers_usage g s (Err x) p e k put = tt
+answers_usage g (Err x) p e k put = tt
 
 pub on_err : {T E : Type 0} (r : Result T E) (P : Type 0) → P → OnErr r P
 on_err (Ok t) P h = tt
@@ -53,35 +51,36 @@ unstored x reply meant s (Ok t) p u put = Unstored x refl u put
 unstored x reply meant s (Err e) p u put = tt
 
 -- what was put of an answer, over files that were loaded before
-pub answered : {E : Type 0} (o : Option Asked) (old mid now : List ℕ → Held) (a b c f g h : List ℕ → ℕ) (answer : Answer) (r : Result Status E) (p : Status → Put) → NoneFell a b → NoneFell b c → SameHeld old mid → NoneFell f g
-    → IsCorrectAnswer (call o old a b) answer → IfOk r (λ t. IsDone (to_store o answer) (reply answer o) (status_of answer) (stores mid now g h) (p t)) → IfOk r (λ t. Answered (call o old a c) (stores old now f h) (p t))
-answered o old mid now a b c f g h answer (Ok t) p ab bc same fg correct done = record {
+pub answered : {E : Type 0} (o : Option Asked) (old mid now : FilesTold) (answer : Answer) (r : Result Status E) (p : Status → Put) → OnlyRead old mid → NoneFell mid.faults now.faults
+    → IsCorrectAnswer (call o old mid) answer → IfOk r (λ t. IsDoneFor o answer (stores mid now) (p t)) → IfOk r (λ t. Answered (call o old now) (p t))
+answered o old mid now answer (Ok t) p read fell correct done = record {
   answer = answer;
-  correct = correct_later o old a b c answer ab bc correct;
-  done = done_since (to_store o answer) (reply answer o) (status_of answer) old mid now f g h (p t) same fg done;
+  correct = correct_later o old mid now answer read.counts fell correct;
+  done = done_since (to_store o answer) (reply answer o) (status_of answer) old mid now (p t) read done;
 }
-answered o old mid now a b c f g h answer (Err x) p ab bc same fg correct done = tt
+answered o old mid now answer (Err x) p read fell correct done = tt
 
-pub keeps : (o : Option Asked) (old mid now : List ℕ → Held) (a b c f g h : List ℕ → ℕ) (answer : Answer) → NoneFell a b → NoneFell b c → SameHeld old mid → NoneFell f g
-    → IsCorrectAnswer (call o old a b) answer → Leaves (to_store o answer) (stores mid now g h) → KeepsFiles (call o old a c) (stores old now f h)
-keeps o old mid now a b c f g h answer ab bc same fg correct leaves =
-    keeps_files (call o old a c) (stores old now f h) answer (correct_later o old a b c answer ab bc correct) (leaves_since (to_store o answer) old mid now f g h same fg leaves)
+pub keeps : (o : Option Asked) (old mid now : FilesTold) (answer : Answer) → OnlyRead old mid → NoneFell mid.faults now.faults
+    → IsCorrectAnswer (call o old mid) answer → Leaves (to_store o answer) (stores mid now) → KeepsFiles (call o old now)
+keeps o old mid now answer read fell correct leaves =
+    keeps_files (call o old now) answer (correct_later o old mid now answer read.counts fell correct) (leaves_since (to_store o answer) old mid now read leaves)
 
 -- nothing that the words ask to be stored was
 unwritten_of : (o : Option Asked) (answer : Answer) (s : Stores) → NotStored (to_store o answer) s → IsUnwritten o s
 unwritten_of o answer s (Untouched k) = NoneWritten k
 unwritten_of o answer s (Failed x e u) = WriteFailed x.name (entry_named (cert_of o) (certificate_in answer) x e) u
 
-pub unwritten : {T E : Type 0} (o : Option Asked) (old mid now : List ℕ → Held) (f g h : List ℕ → ℕ) (answer : Answer) (r : Result T E) → SameHeld old mid → NoneFell f g
-    → OnErr r (NotStored (to_store o answer) (stores mid now g h)) → OnErr r (IsUnwritten o (stores old now f h))
-unwritten o old mid now f g h answer (Ok t) same fg n = tt
-unwritten o old mid now f g h answer (Err e) same fg n = unwritten_of o answer (stores old now f h) (not_stored_since (to_store o answer) old mid now f g h same fg n)
+pub unwritten : {T E : Type 0} (o : Option Asked) (old mid now : FilesTold) (answer : Answer) (r : Result T E) → OnlyRead old mid
+    → OnErr r (NotStored (to_store o answer) (stores mid now)) → OnErr r (IsUnwritten o (stores old now))
+unwritten o old mid now answer (Ok t) read n = tt
+unwritten o old mid now answer (Err e) read n = unwritten_of o answer (stores old now) (not_stored_since (to_store o answer) old mid now read n)
 
 pub unwritten_to_words : {T E : Type 0} (o w : Option Asked) (s : Stores) (r : Result T E) → w ≡ o → OnErr r (IsUnwritten o s) → OnErr r (IsUnwritten w s)
 unwritten_to_words o w s r e h = subst (λ v. OnErr r (IsUnwritten v s)) (sym e) h
 
-pub as_ok : {E : Type 0} (o : Option Asked) (g : Call) (r : Result Answer E) → g.asked ≡ o → IfOk r (IsCorrectBy (Follows o) g) → IfOk r (IsCorrectAnswer g)
-as_ok o g r e h = subst (λ k. IfOk r (IsCorrectBy (Follows k) g)) (sym e) h
+-- what is answered to what is asked, where that is this
+pub answers_as : (o : Option Asked) (g : Call) (r : Result Answer Refusal) → g.asked ≡ o → AnswersBy (IsCorrectBy (Follows o) g) r → AnswersBy (IsCorrectAnswer g) r
+answers_as o g r e h = subst (λ k. AnswersBy (IsCorrectBy (Follows k) g) r) (sym e) h
 
 -- what is answered to a check, where `keeps` says whether a word names a file for a certificate
 follows_check : (left right : List ℕ) (cert : Option (List ℕ)) (steps : ℕ) (keeps : Bool) (g : Call) (x : Answer) → g.asked ≡ Some (Check left right cert steps) → keeps ≡ is_some cert → IsCorrectBy (FollowsForPair (ForCheck steps keeps)) g x → IsCorrectAnswer g x
@@ -92,27 +91,18 @@ is_some_of : {A B : Type 0} (f : A → B) (o : Option A) → is_some o ≡ is_so
 is_some_of f (Some x) = refl
 is_some_of f None = refl
 
-pub check_ok : {A E : Type 0} (left right : List ℕ) (f : A → List ℕ) (cert : Option A) (steps : ℕ) (keeps : Bool) (g : Call) (r : Result Answer E) → g.asked ≡ Some (Check left right (option_map f cert) steps) → keeps ≡ is_some cert
-    → IfOk r (IsCorrectBy (FollowsForPair (ForCheck steps keeps)) g) → IfOk r (IsCorrectAnswer g)
-check_ok left right f cert steps keeps g r e k h =
-    ok_map (IsCorrectBy (FollowsForPair (ForCheck steps keeps)) g) (IsCorrectAnswer g) (λ x c. follows_check left right (option_map f cert) steps keeps g x e (k ∙ is_some_of f cert) c) r h
-
-pub check_refused : {A T : Type 0} (left right : List ℕ) (f : A → List ℕ) (cert : Option A) (steps : ℕ) (keeps : Bool) (g : Call) (r : Result T Refusal) → g.asked ≡ Some (Check left right (option_map f cert) steps) → keeps ≡ is_some cert
-    → IfErr r (WhereAnswered (IsCorrectBy (FollowsForPair (ForCheck steps keeps)) g)) → IfErr r (WhereAnswered (IsCorrectAnswer g))
-check_refused left right f cert steps keeps g r e k h =
-    err_map (WhereAnswered (IsCorrectBy (FollowsForPair (ForCheck steps keeps)) g)) (WhereAnswered (IsCorrectAnswer g))
-    (λ x. answer_map (IsCorrectBy (FollowsForPair (ForCheck steps keeps)) g) (IsCorrectAnswer g) (λ y c. follows_check left right (option_map f cert) steps keeps g y e (k ∙ is_some_of f cert) c) x) r h
+pub check_answers : {A : Type 0} (left right : List ℕ) (f : A → List ℕ) (cert : Option A) (steps : ℕ) (keeps : Bool) (g : Call) (r : Result Answer Refusal) → g.asked ≡ Some (Check left right (option_map f cert) steps) → keeps ≡ is_some cert
+    → AnswersBy (IsCorrectBy (FollowsForPair (ForCheck steps keeps)) g) r → AnswersBy (IsCorrectAnswer g) r
+check_answers left right f cert steps keeps g r e k h =
+    answers_map (IsCorrectBy (FollowsForPair (ForCheck steps keeps)) g) (IsCorrectAnswer g) (λ x c. follows_check left right (option_map f cert) steps keeps g x e (k ∙ is_some_of f cert) c) r h
 
 -- what is answered to generated machines
 pub of_loops : (g : Call) (loops : ℕ) (x : Answer) → g.asked ≡ Some (Generate loops) → IsOfLoops loops x → IsCorrectAnswer g x
 of_loops g loops x e h = subst (λ o. IsCorrectBy (Follows o) g x) (sym e) (unread_answer (IsOfLoops loops) g x h)
 
-pub as_refused : {T : Type 0} (o : Option Asked) (g : Call) (r : Result T Refusal) → g.asked ≡ o → IfErr r (WhereAnswered (IsCorrectBy (Follows o) g)) → IfErr r (WhereAnswered (IsCorrectAnswer g))
-as_refused o g r e h = subst (λ k. IfErr r (WhereAnswered (IsCorrectBy (Follows k) g))) (sym e) h
-
 -- what is answered to what words ask
-pub to_words : {E : Type 0} (o w : Option Asked) (held : List ℕ → Held) (before now : List ℕ → ℕ) (s : Stores) (r : Result Status E) (p : Status → Put) → w ≡ o → IfOk r (λ t. Answered (call o held before now) s (p t)) → IfOk r (λ t. Answered (call w held before now) s (p t))
-to_words o w held before now s r p e a = subst (λ k. IfOk r (λ t. Answered (call k held before now) s (p t))) (sym e) a
+pub to_words : {E : Type 0} (o w : Option Asked) (before now : FilesTold) (r : Result Status E) (p : Status → Put) → w ≡ o → IfOk r (λ t. Answered (call o before now) (p t)) → IfOk r (λ t. Answered (call w before now) (p t))
+to_words o w before now r p e a = subst (λ k. IfOk r (λ t. Answered (call k before now) (p t))) (sym e) a
 
-pub keeps_to_words : (o w : Option Asked) (held : List ℕ → Held) (before now : List ℕ → ℕ) (s : Stores) → w ≡ o → KeepsFiles (call o held before now) s → KeepsFiles (call w held before now) s
-keeps_to_words o w held before now s e k = subst (λ v. KeepsFiles (call v held before now) s) (sym e) k
+pub keeps_to_words : (o w : Option Asked) (before now : FilesTold) → w ≡ o → KeepsFiles (call o before now) → KeepsFiles (call w before now)
+keeps_to_words o w before now e k = subst (λ v. KeepsFiles (call v before now)) (sym e) k

@@ -7,7 +7,6 @@ use Rattle.fs_base.specs.Outside.{appended}
 use Rattle.fs_model.specs.Machines.{Fsmd}
 use Rattle.bisimulation.specs.Tables.{Node}
 use Rattle.sym_facts.specs.Facts.{Fact}
-use Rattle.certificates.specs.Obligations.{Yes}
 use Rattle.cert_writer.specs.Written.{certificate_text}
 use Rattle.pair_answers.specs.Answers.{IsCounterexample, IsUndecided}
 use Rattle.command_answers.specs.declared.answer.Status.{Status}
@@ -22,11 +21,11 @@ use Rattle.command_answers.specs.Verdicts.{verdict_on, answer_to}
 use Rattle.command_answers.specs.Replies.{opening, lines_of, reply, equivalent_text, unstored_reply}
 use Rattle.fsmd_tool.specs.Calls.{Call}
 use Rattle.fsmd_tool.specs.Puts.{Put, IsPut, Whole, Cut}
-use Rattle.fsmd_tool.specs.Stores.{Stores, IsKept, IsStored, IsUnstored, Entry, entry, entry_of, to_store, Leaves, LeftAlone, LeftStored, LeftUnstored}
+use Rattle.fsmd_tool.specs.Stores.{Stores, stores, IsStored, Entry, entry, entry_of, to_store, Leaves, LeftAlone, LeftStored, LeftUnstored}
 use Rattle.fsmd_tool.specs.Correct.{IsCorrectAnswer, IsDone, Kept, Stored, Unstored, Answered}
 use Rattle.fsmd_tool.specs.Clauses.{HasPut, ArePaired, SaysSame, SaysDiffer, SaysUndecided, IsChecked, KeepsFiles, AllKept, CertificateStored, CertificateFailed}
 use Rattle.fsmd_tool.proofs.Statuses.{Ends, moved, is_refusal, judged_yes}
-use Rattle.fsmd_tool.proofs.Found.{Compared, compared, Checked, checked}
+use Rattle.fsmd_tool.proofs.Found.{compared, checked}
 
 -- ---- what was put with a status that is none of a fault
 
@@ -57,8 +56,8 @@ done_well e reply meant s st p away is (Kept none k put) = put_well e reply mean
 done_well e reply meant s st p away is (Stored x some k put) = put_well e reply meant s st p away is (only_entry e x st some k) put
 done_well e reply meant s st p away is (Unstored x some u put) = absurd (unstored_not (unstored_reply x.name) s p away is put)
 
-pub well : (g : Call) (st : Stores) (p : Put) (s : Status) (a : Answered g st p) → is_refusal s ≡ false → p.status ≡ s → IsWell (to_store g.asked a.answer) (reply a.answer g.asked) (status_of a.answer) s st p
-well g st p s a away is = done_well (to_store g.asked a.answer) (reply a.answer g.asked) (status_of a.answer) s st p away is a.done
+pub well : (g : Call) (p : Put) (s : Status) (a : Answered g p) → is_refusal s ≡ false → p.status ≡ s → IsWell (to_store g.asked a.answer) (reply a.answer g.asked) (status_of a.answer) s (stores g.before g.now) p
+well g p s a away is = done_well (to_store g.asked a.answer) (reply a.answer g.asked) (status_of a.answer) s (stores g.before g.now) p away is a.done
 
 -- ---- the answer to two machines, by its status
 
@@ -89,9 +88,9 @@ stores_text o x nodes text name is e = rw (is, e) refl
 pub put_lines : (g : Call) (p : Put) (x : Answer) (lines : List ℕ) → p.got_now ≡ appended p.got_before (reply x g.asked) → lines_of x g.asked ≡ lines → HasPut g p lines
 put_lines g p x lines got is = got ∙ ap (λ l. appended p.got_before (opening g.asked ++ l)) is
 
-pub says_same : (g : Call) (st : Stores) (p : Put) → Answered g st p → p.status ≡ statuses.Fine → IsTrue (compares g.asked) → SaysSame g st p
-says_same g st p a e t =
-    let w = well g st p statuses.Fine a refl e in
+pub says_same : (g : Call) (p : Put) → Answered g p → p.status ≡ statuses.Fine → IsTrue (compares g.asked) → SaysSame g p
+says_same g p a e t =
+    let w = well g p statuses.Fine a refl e in
     let c = compared g statuses.Fine a.answer a.correct t refl w.meant_is in
     let k = fine (step_limit g.asked) (is_some (cert_of g.asked)) c.left c.right a.answer c.answer w.meant_is in
     record {
@@ -105,16 +104,16 @@ says_same g st p a e t =
       stored = λ name named. w.stored (entry name (certificate_text c.left c.right k.nodes)) (stores_text g.asked a.answer (length k.nodes) (certificate_text c.left c.right k.nodes) name k.is named);
     }
 
-pub says_differ : (g : Call) (st : Stores) (p : Put) → Answered g st p → p.status ≡ statuses.Differ → IsTrue (compares g.asked) → SaysDiffer g p
-says_differ g st p a e t =
-    let w = well g st p statuses.Differ a refl e in
+pub says_differ : (g : Call) (p : Put) → Answered g p → p.status ≡ statuses.Differ → IsTrue (compares g.asked) → SaysDiffer g p
+says_differ g p a e t =
+    let w = well g p statuses.Differ a refl e in
     let c = compared g statuses.Differ a.answer a.correct t refl w.meant_is in
     let l = differ (step_limit g.asked) (is_some (cert_of g.asked)) c.left c.right a.answer c.answer w.meant_is in
     record { left = c.left; right = c.right; paired = c.paired; lines = l.lines; shows = l.holds; put = put_lines g p a.answer l.lines w.got (ap (λ x. lines_of x g.asked) l.is) }
 
-pub says_undecided : (g : Call) (st : Stores) (p : Put) → Answered g st p → p.status ≡ statuses.Undecided → IsTrue (compares g.asked) → SaysUndecided g p
-says_undecided g st p a e t =
-    let w = well g st p statuses.Undecided a refl e in
+pub says_undecided : (g : Call) (p : Put) → Answered g p → p.status ≡ statuses.Undecided → IsTrue (compares g.asked) → SaysUndecided g p
+says_undecided g p a e t =
+    let w = well g p statuses.Undecided a refl e in
     let c = compared g statuses.Undecided a.answer a.correct t refl w.meant_is in
     let l = undecided (step_limit g.asked) (is_some (cert_of g.asked)) c.left c.right a.answer c.answer w.meant_is in
     record { left = c.left; right = c.right; paired = c.paired; lines = l.lines; is_undecided = l.holds; put = put_lines g p a.answer l.lines w.got (ap (λ x. lines_of x g.asked) l.is) }
@@ -133,9 +132,9 @@ no_opening (Some (Compile program)) t x = absurd (false≢true t)
 no_opening (Some (Schedule machine units)) t x = absurd (false≢true t)
 no_opening (Some (Bind machine binding)) t x = absurd (false≢true t)
 
-pub is_checked : (g : Call) (st : Stores) (p : Put) → Answered g st p → p.status ≡ statuses.Fine → IsTrue (is_verify g.asked) → IsChecked g p
-is_checked g st p a e t =
-    let w = well g st p statuses.Fine a refl e in
+pub is_checked : (g : Call) (p : Put) → Answered g p → p.status ≡ statuses.Fine → IsTrue (is_verify g.asked) → IsChecked g p
+is_checked g p a e t =
+    let w = well g p statuses.Fine a refl e in
     let c = checked g statuses.Fine a.answer a.correct t refl w.meant_is in
     let yes = judged_yes c.left c.right (verdict_on c.left c.right c.nodes) a.answer c.judged.is w.meant_is in
     let is : a.answer ≡ Text (codes "yes\n") = c.judged.is ∙ ap (answer_to c.left c.right) yes in
@@ -223,7 +222,7 @@ of_search g y x c e =
       text = kept_text (is_some (cert_of g.asked)) (certificate_text m.left m.right k.nodes) x.bytes (sym (ap certificate_in k.is) ∙ i.told);
     }
 
-pub keeps_files : (g : Call) (s : Stores) (y : Answer) → IsCorrectAnswer g y → Leaves (to_store g.asked y) s → KeepsFiles g s
-keeps_files g s y c (LeftAlone k) = AllKept k
-keeps_files g s y c (LeftStored x e h) = let o = of_search g y x c e in CertificateStored x.name o.named o.left o.right o.paired o.nodes o.same.closed (subst (λ t. IsStored x.name t s) o.text h)
-keeps_files g s y c (LeftUnstored x e h) = let o = of_search g y x c e in CertificateFailed x.name o.named o.left o.right o.paired o.nodes o.same.closed h
+pub keeps_files : (g : Call) (y : Answer) → IsCorrectAnswer g y → Leaves (to_store g.asked y) (stores g.before g.now) → KeepsFiles g
+keeps_files g y c (LeftAlone k) = AllKept k
+keeps_files g y c (LeftStored x e h) = let o = of_search g y x c e in CertificateStored x.name o.named o.left o.right o.paired o.nodes o.same.closed (subst (λ t. IsStored x.name t (stores g.before g.now)) o.text h)
+keeps_files g y c (LeftUnstored x e h) = let o = of_search g y x c e in CertificateFailed x.name o.named o.left o.right o.paired o.nodes o.same.closed h

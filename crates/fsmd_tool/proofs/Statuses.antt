@@ -1,5 +1,5 @@
 -- Which statuses an answer has.
-use Rattle.std.proofs.Common.{◌≡◌, ◌⊎◌, inl, inr, ◌∙◌, ℕ, Bool, true, false, List, refl, sym, ap, subst}
+use Rattle.std.proofs.Common.{◌≡◌, ◌⊎◌, inl, inr, ◌∙◌, ℕ, Bool, true, false, List, refl, sym, ap}
 use Rattle.std.proofs.lemmas.Bool.{false≢true}
 use Rattle.fs_model.specs.Machines.{Fsmd}
 use Rattle.fs_model.specs.Runs.{Inputs}
@@ -13,10 +13,9 @@ use Rattle.command_answers.specs.declared.answer.Status.TheVariants as statuses
 use Rattle.command_answers.specs.declared.answer.KeyFault.{KeyFault}
 use Rattle.command_answers.specs.declared.answer.Answer.{Answer}
 use Rattle.command_answers.specs.Statuses.{status_of}
-use Rattle.command_answers.specs.Lines.{HasLines}
 use Rattle.command_answers.specs.Readings.{Content, Unreadable, Reading}
 use Rattle.command_answers.specs.Unread.{IsUnread, Failed, Long}
-use Rattle.command_answers.specs.Keys.{RefusesKeys, UnreadKeys, ByJson, ByKey, FollowsFromKeys, KeysRefused, KeysSpelled}
+use Rattle.command_answers.specs.Keys.{RefusesKeys, UnreadKeys, ByJson, ByKey}
 use Rattle.command_answers.specs.Refusals.{RefusesMachine, Unread, ByText, ByRule, RefusesPair, FirstRefused, SecondRefused, InterfacesDiffer, RefusesCertificate, UnreadCertificate, ByCertificate}
 use Rattle.command_answers.specs.Programs.{RefusesProgram, UnreadProgram, ProgramByText, ProgramByRule}
 use Rattle.command_answers.specs.Schedules.{IsOfSchedule, IsOver, InRows}
@@ -65,10 +64,10 @@ program_refuses file c x (UnreadProgram u) = unread_refuses _ file c x u
 program_refuses file c x (ProgramByText f t e) = ap (λ y. is_refusal (status_of y)) e
 program_refuses file c x (ProgramByRule f t e) = ap (λ y. is_refusal (status_of y)) e
 
-pub keys_refuse : (N : List ℕ → Type 0) (F : KeyFault → (key bytes : List ℕ) → Type 0) (file : Operand) (c : Content) (x : Answer) → RefusesKeys N F file c x → is_refusal (status_of x) ≡ true
-keys_refuse N F file c x (UnreadKeys u) = unread_refuses _ file c x u
-keys_refuse N F file c x (ByJson t e) = ap (λ y. is_refusal (status_of y)) e
-keys_refuse N F file c x (ByKey f k t e) = ap (λ y. is_refusal (status_of y)) e
+pub keys_refuse : (F : KeyFault → (key bytes : List ℕ) → Type 0) (file : Operand) (c : Content) (x : Answer) → RefusesKeys F file c x → is_refusal (status_of x) ≡ true
+keys_refuse F file c x (UnreadKeys u) = unread_refuses _ file c x u
+keys_refuse F file c x (ByJson t e) = ap (λ y. is_refusal (status_of y)) e
+keys_refuse F file c x (ByKey f k t e) = ap (λ y. is_refusal (status_of y)) e
 
 pub certificate_refuses : (a b : Fsmd) (file : Operand) (c : Content) (x : Answer) → RefusesCertificate a b file c x → is_refusal (status_of x) ≡ true
 certificate_refuses a b file c x (UnreadCertificate u) = unread_refuses _ file c x u
@@ -90,10 +89,10 @@ program_fault file c x (UnreadProgram u) s = unread_fault _ file c x u s
 program_fault file c x (ProgramByText f t e) s = absurd (let h : statuses.BadInput ≡ statuses.Fault = moved statuses.Fault statuses.BadInput x _ e refl s in cc)
 program_fault file c x (ProgramByRule f t e) s = absurd (let h : statuses.BadInput ≡ statuses.Fault = moved statuses.Fault statuses.BadInput x _ e refl s in cc)
 
-pub keys_fault : (N : List ℕ → Type 0) (F : KeyFault → (key bytes : List ℕ) → Type 0) (file : Operand) (c : Content) (x : Answer) → RefusesKeys N F file c x → Ends statuses.Fault x → c ≡ Unreadable
-keys_fault N F file c x (UnreadKeys u) s = unread_fault _ file c x u s
-keys_fault N F file c x (ByJson t e) s = absurd (let h : statuses.BadInput ≡ statuses.Fault = moved statuses.Fault statuses.BadInput x _ e refl s in cc)
-keys_fault N F file c x (ByKey f k t e) s = absurd (let h : statuses.BadInput ≡ statuses.Fault = moved statuses.Fault statuses.BadInput x _ e refl s in cc)
+pub keys_fault : (F : KeyFault → (key bytes : List ℕ) → Type 0) (file : Operand) (c : Content) (x : Answer) → RefusesKeys F file c x → Ends statuses.Fault x → c ≡ Unreadable
+keys_fault F file c x (UnreadKeys u) s = unread_fault _ file c x u s
+keys_fault F file c x (ByJson t e) s = absurd (let h : statuses.BadInput ≡ statuses.Fault = moved statuses.Fault statuses.BadInput x _ e refl s in cc)
+keys_fault F file c x (ByKey f k t e) s = absurd (let h : statuses.BadInput ≡ statuses.Fault = moved statuses.Fault statuses.BadInput x _ e refl s in cc)
 
 pub certificate_fault : (a b : Fsmd) (file : Operand) (c : Content) (x : Answer) → RefusesCertificate a b file c x → Ends statuses.Fault x → c ≡ Unreadable
 certificate_fault a b file c x (UnreadCertificate u) s = unread_fault _ file c x u s

@@ -1,30 +1,38 @@
 -- What is known of the files of a call, and what may have been read of them.
-use Rattle.std.specs.Prelude.{ℕ, List, Option}
+use Rattle.std.specs.Prelude.{ℕ, List, Option, Result, Ok, Err}
 use Rattle.command_words.specs.Words.{Asked}
-use Rattle.fs_base.specs.Outside.{Held, Rose, AreHeld}
+use Rattle.fs_base.specs.Outside.{Held, FilesTold, Rose, NoneFell, SameHeld, AreHeld}
 use Rattle.command_answers.specs.declared.answer.Operand.{Operand}
 use Rattle.command_answers.specs.declared.answer.Operand.TheVariants.{First, Second, Third}
 use Rattle.command_answers.specs.declared.answer.Answer.{Answer}
+use Rattle.command_answers.specs.declared.refused.Refused.{Refused as Refusal}
 use Rattle.command_answers.specs.Words.{word_of}
 use Rattle.command_answers.specs.Readings.{Content, Unopened, Readable, Unreadable, Reading}
+use Rattle.command_answers.specs.Refusing.{WhereAnswered}
 
--- what the words of a call ask, what each name held at its start, and how often each had failed to be read before and at its end
+-- what the words of a call ask, and what is told of the files before it and at its end
 pub record Call : Type 0 where
   pub asked : Option Asked
-  pub holds : List ℕ → Held
-  pub faults_before : List ℕ → ℕ
-  pub faults_now : List ℕ → ℕ
+  pub before : FilesTold
+  pub now : FilesTold
 
-abbrev pub call : Option Asked → (List ℕ → Held) → (before now : List ℕ → ℕ) → Call
-call asked holds before now = record { asked = asked; holds = holds; faults_before = before; faults_now = now }
+-- the call that asks this, by what is told of the files before it and now
+abbrev pub call : Option Asked → (before now : FilesTold) → Call
+call asked before now = record { asked = asked; before = before; now = now }
 
--- what is known of a file of the call
+-- the files were only read: no count of faults fell, and each name holds what it held
+pub record OnlyRead (before now : FilesTold) : Type 0 where
+  pub counts : NoneFell before.faults now.faults
+  pub store_counts : NoneFell before.store_faults now.store_faults
+  pub unchanged : SameHeld before.holds now.holds
+
+-- what is known of a file at the start of the call
 abbrev pub held : Call → Operand → Held
-held g file = g.holds (word_of g.asked file)
+held g file = g.before.holds (word_of g.asked file)
 
 -- a file of the call failed to be read
 abbrev pub FailedToRead : Call → Operand → Type 0
-FailedToRead g file = Rose (g.faults_before (word_of g.asked file)) (g.faults_now (word_of g.asked file))
+FailedToRead g file = Rose (g.before.faults (word_of g.asked file)) (g.now.faults (word_of g.asked file))
 
 -- what may be read of a file, of which this is known; Failed says that it failed to be read
 abbrev pub MayBeRead : Held → (Failed : Type 0) → Content → Type 0
@@ -49,3 +57,8 @@ pub record IsCorrectBy (P : Reading → Answer → Type 0) (g : Call) (answer : 
   pub reading : Reading
   pub may_be_read : MayRead g reading
   pub follows : P reading answer
+
+-- an answer that is given, or that is in a refusal, meets P; where there is no memory, nothing is said
+abbrev pub AnswersBy : (Answer → Type 0) → Result Answer Refusal → Type 0
+AnswersBy P (Ok answer) = P answer
+AnswersBy P (Err refused) = WhereAnswered P refused

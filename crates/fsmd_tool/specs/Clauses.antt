@@ -31,7 +31,7 @@ use Rattle.command_answers.specs.Verdicts.{verdict_on}
 use Rattle.command_answers.specs.Replies.{opening, equivalent_text}
 use Rattle.fsmd_tool.specs.Calls.{Call, held, FailedToRead, MayHold}
 use Rattle.fsmd_tool.specs.Puts.{Put}
-use Rattle.fsmd_tool.specs.Stores.{Stores, IsKept, IsStored, IsUnstored}
+use Rattle.fsmd_tool.specs.Stores.{stores, IsKept, IsStored, IsUnstored}
 
 -- two machines are compared: those that the first two files of a check spell, each where it is known what it holds, or those of so many loops
 pub data AreCompared (g : Call) (a b : Fsmd) : Type 0 where
@@ -48,7 +48,7 @@ abbrev pub HasPut : Call → Put → List ℕ → Type 0
 HasPut g p lines = p.got_now ≡ appended p.got_before (opening g.asked ++ lines)
 
 -- a closed search's certificate shows that the machines have the same behaviour; its number of nodes was put, and it was stored where that is asked
-pub record SaysSame (g : Call) (s : Stores) (p : Put) : Type 0 where
+pub record SaysSame (g : Call) (p : Put) : Type 0 where
   pub left : Fsmd
   pub right : Fsmd
   pub paired : ArePaired g left right
@@ -56,7 +56,7 @@ pub record SaysSame (g : Call) (s : Stores) (p : Put) : Type 0 where
   pub closed : IsClosedWith (machines left right) nodes
   pub same : SameBehaviour left right
   pub put : HasPut g p (equivalent_text (length nodes))
-  pub stored : (name : List ℕ) → cert_of g.asked ≡ Some name → IsStored name (certificate_text left right nodes) s
+  pub stored : (name : List ℕ) → cert_of g.asked ≡ Some name → IsStored name (certificate_text left right nodes) (stores g.before g.now)
 
 -- runs of the machines from the first candidate that shows a difference end with other outputs, which was put
 pub record SaysDiffer (g : Call) (p : Put) : Type 0 where
@@ -121,15 +121,15 @@ pub record IsInRegisters (g : Call) (p : Put) : Type 0 where
   pub put : HasPut g p text
 
 -- no file was changed but the one for a certificate, and that only where a closed search made one: it was stored, or that failed
-pub data KeepsFiles (g : Call) (s : Stores) : Type 0 where
-  AllKept : IsKept s → KeepsFiles g s
+pub data KeepsFiles (g : Call) : Type 0 where
+  AllKept : IsKept (stores g.before g.now) → KeepsFiles g
   CertificateStored : (name : List ℕ) → cert_of g.asked ≡ Some name → (a b : Fsmd) → ArePaired g a b → (nodes : List (Node Fact)) → IsClosedWith (machines a b) nodes
-      → IsStored name (certificate_text a b nodes) s → KeepsFiles g s
+      → IsStored name (certificate_text a b nodes) (stores g.before g.now) → KeepsFiles g
   CertificateFailed : (name : List ℕ) → cert_of g.asked ≡ Some name → (a b : Fsmd) → ArePaired g a b → (nodes : List (Node Fact)) → IsClosedWith (machines a b) nodes
-      → IsUnstored name s → KeepsFiles g s
+      → IsUnstored name (stores g.before g.now) → KeepsFiles g
 
 -- a file that is named to be read failed to be read, the certificate failed to be stored, or the sink failed
-pub data HasCause (g : Call) (s : Stores) (p : Put) : Type 0 where
-  FileFailed : (file : Operand) → IsTrue (names g.asked file) → FailedToRead g file → HasCause g s p
-  CertificateUnstored : (name : List ℕ) → cert_of g.asked ≡ Some name → Rose (s.faults_before name) (s.faults_now name) → HasCause g s p
-  SinkFailed : Rose p.faults_before p.faults_now → HasCause g s p
+pub data HasCause (g : Call) (p : Put) : Type 0 where
+  FileFailed : (file : Operand) → IsTrue (names g.asked file) → FailedToRead g file → HasCause g p
+  CertificateUnstored : (name : List ℕ) → cert_of g.asked ≡ Some name → Rose (g.before.store_faults name) (g.now.store_faults name) → HasCause g p
+  SinkFailed : Rose p.faults_before p.faults_now → HasCause g p

@@ -1,5 +1,4 @@
 -- What loading a file gives.
-use Rattle.std.specs.Prelude.{ℕ, List}
 use Rattle.fs_base.specs.Outside.{Held}
 use Rattle.command_answers.specs.declared.answer.Operand.{Operand}
 use Rattle.command_answers.specs.declared.answer.Answer.{Answer}

@@ -1,6 +1,6 @@
 -- What a sink got of a reply.
 use Rattle.std.specs.Prelude.{◌≡◌, ℕ, ◌<◌, List, length, take, Option}
-use Rattle.fs_base.specs.Outside.{Rose, appended}
+use Rattle.fs_base.specs.Outside.{SinkTold, Rose, appended}
 use Rattle.command_answers.specs.declared.answer.Status.{Status}
 use Rattle.command_answers.specs.declared.answer.Status.TheVariants.{Fault}
 
@@ -12,14 +12,9 @@ pub record Put : Type 0 where
   pub faults_before : ℕ
   pub faults_now : ℕ
 
-abbrev pub put : Status → (got_before got_now : Option (List ℕ)) → (faults_before faults_now : ℕ) → Put
-put status got_before got_now faults_before faults_now = record {
-  status = status;
-  got_before = got_before;
-  got_now = got_now;
-  faults_before = faults_before;
-  faults_now = faults_now;
-}
+-- the same, by what is told of the sink before and now
+abbrev pub put : Status → (before now : SinkTold) → Put
+put status before now = record { status = status; got_before = before.got; got_now = now.got; faults_before = before.faults; faults_now = now.faults }
 
 -- the sink got the whole reply
 pub record IsWhole (reply : List ℕ) (meant : Status) (p : Put) : Type 0 where

@@ -1,7 +1,7 @@
 -- What became of a certificate that was to be stored.
 use Rattle.std.specs.Prelude.{◌≡◌, ℕ, List, Option, Some, None}
 use Rattle.command_words.specs.Words.{Asked}
-use Rattle.fs_base.specs.Outside.{Held, Rose, SameHeld, OthersHeld, held_after}
+use Rattle.fs_base.specs.Outside.{Held, FilesTold, Rose, SameHeld, OthersHeld, held_after}
 use Rattle.command_answers.specs.declared.answer.Answer.{Answer}
 use Rattle.command_answers.specs.Statuses.{certificate_in}
 use Rattle.command_answers.specs.Words.{cert_of}
@@ -13,8 +13,9 @@ pub record Stores : Type 0 where
   pub faults_before : List ℕ → ℕ
   pub faults_now : List ℕ → ℕ
 
-abbrev pub stores : (held_before held_now : List ℕ → Held) → (faults_before faults_now : List ℕ → ℕ) → Stores
-stores held_before held_now faults_before faults_now = record { held_before = held_before; held_now = held_now; faults_before = faults_before; faults_now = faults_now }
+-- the same, by what is told of the files before and now
+abbrev pub stores : (before now : FilesTold) → Stores
+stores before now = record { held_before = before.holds; held_now = now.holds; faults_before = before.store_faults; faults_now = now.store_faults }
 
 -- each name holds what it held
 abbrev pub IsKept : Stores → Type 0

@@ -1,9 +1,7 @@
 //! What each command answers, from its files.
 
-ghost use Rattle.std.specs.Prelude.{◌≡◌, None, ◌≤◌, IfOk, Some};
-ghost use Rattle.std.specs.Result.{IfErr};
+ghost use Rattle.std.specs.Prelude.{◌≡◌, None, ◌≤◌, Some};
 ghost use Rattle.command_words.specs.Words.{asked};
-ghost use Rattle.fs_base.specs.Outside.{NoneFell, SameHeld};
 ghost use Rattle.fs_pair.specs.Interfaces.{interface_fault};
 ghost use Rattle.fs_pair.specs.Positions.{positions};
 ghost use Rattle.command_answers.specs.declared.answer.Operand.TheVariants as operands;
@@ -13,8 +11,7 @@ ghost use Rattle.command_answers.specs.Runs.{IsOfRun};
 ghost use Rattle.command_answers.specs.Refusals.{RefusesMachine};
 ghost use Rattle.command_answers.specs.InputFiles.{FollowsFromInputs};
 ghost use Rattle.command_answers.specs.Follows.{ForCheck, ForVerify, ForReplay, FollowsForPair, FollowsForText, FollowsForRun};
-ghost use Rattle.command_answers.specs.Refusing.{WhereAnswered};
-ghost use Rattle.fsmd_tool.specs.Calls.{call, IsCorrectBy};
+ghost use Rattle.fsmd_tool.specs.Calls.{call, OnlyRead, IsCorrectBy, AnswersBy};
 ghost use Rattle.fsmd_tool.specs.Loading.{Gives};
 
 use crate::load::{load, load_certificate, load_inputs, load_machine};
@@ -43,11 +40,8 @@ pub fn check<F: Files>(
     files: &mut F,
 ) -> Result<Answer, Refused>
     requires { 1 ≤ steps }
-    ensures ok { IfOk result (IsCorrectBy (FollowsForPair (ForCheck steps keeps)) (call (Some (asked ask.now)) (F.holds files.old) (F.faults files.old) (F.faults files.new))) }
-    ensures refused { IfErr result (WhereAnswered (IsCorrectBy (FollowsForPair (ForCheck steps keeps)) (call (Some (asked ask.now)) (F.holds files.old) (F.faults files.old) (F.faults files.new)))) }
-    ensures counts { NoneFell (F.faults files.old) (F.faults files.new) }
-    ensures store_counts { NoneFell (F.store_faults files.old) (F.store_faults files.new) }
-    ensures unchanged { SameHeld (F.holds files.old) (F.holds files.new) }
+    ensures answers { AnswersBy (IsCorrectBy (FollowsForPair (ForCheck steps keeps)) (call (Some (asked ask.now)) (F.told files.old) (F.told files.new))) result }
+    ensures only_read { OnlyRead (F.told files.old) (F.told files.new) }
 {
     let Pair {
         left,
@@ -68,11 +62,8 @@ fn verify_from<F: Files>(
 ) -> Result<Answer, Refused>
     requires paired { pairing.now ≡ positions left.now right.now }
     requires alike { interface_fault left.now right.now ≡ None }
-    ensures ok { IfOk result (Gives (call (Some (asked ask.now)) (F.holds files.old) (F.faults files.old) (F.faults files.new)) operands.Third (ForVerify left.now right.now)) }
-    ensures refused { IfErr result (WhereAnswered (Gives (call (Some (asked ask.now)) (F.holds files.old) (F.faults files.old) (F.faults files.new)) operands.Third (ForVerify left.now right.now))) }
-    ensures counts { NoneFell (F.faults files.old) (F.faults files.new) }
-    ensures store_counts { NoneFell (F.store_faults files.old) (F.store_faults files.new) }
-    ensures unchanged { SameHeld (F.holds files.old) (F.holds files.new) }
+    ensures answers { AnswersBy (Gives (call (Some (asked ask.now)) (F.told files.old) (F.told files.new)) operands.Third (ForVerify left.now right.now)) result }
+    ensures only_read { OnlyRead (F.told files.old) (F.told files.new) }
 {
     let cert = load_certificate(alloc, Operand::Third, ask, left, right, pairing, files)?;
     Ok(judge(alloc, left, right, pairing, &cert)?)
@@ -80,11 +71,8 @@ fn verify_from<F: Files>(
 
 /// What `verify` answers: whether a certificate shows that two machines have the same behaviour.
 pub fn verify_files<F: Files>(alloc: Global, ask: &Ask, files: &mut F) -> Result<Answer, Refused>
-    ensures ok { IfOk result (IsCorrectBy (FollowsForPair ForVerify) (call (Some (asked ask.now)) (F.holds files.old) (F.faults files.old) (F.faults files.new))) }
-    ensures refused { IfErr result (WhereAnswered (IsCorrectBy (FollowsForPair ForVerify) (call (Some (asked ask.now)) (F.holds files.old) (F.faults files.old) (F.faults files.new)))) }
-    ensures counts { NoneFell (F.faults files.old) (F.faults files.new) }
-    ensures store_counts { NoneFell (F.store_faults files.old) (F.store_faults files.new) }
-    ensures unchanged { SameHeld (F.holds files.old) (F.holds files.new) }
+    ensures answers { AnswersBy (IsCorrectBy (FollowsForPair ForVerify) (call (Some (asked ask.now)) (F.told files.old) (F.told files.new))) result }
+    ensures only_read { OnlyRead (F.told files.old) (F.told files.new) }
 {
     let Pair {
         left,
@@ -96,11 +84,8 @@ pub fn verify_files<F: Files>(alloc: Global, ask: &Ask, files: &mut F) -> Result
 
 /// What `fmt` answers: the canonical text of a machine.
 pub fn format_text<F: Files>(alloc: Global, ask: &Ask, files: &mut F) -> Result<Answer, Refused>
-    ensures ok { IfOk result (IsCorrectBy (FollowsForText (RefusesMachine operands.First) HasCanonicalText) (call (Some (asked ask.now)) (F.holds files.old) (F.faults files.old) (F.faults files.new))) }
-    ensures refused { IfErr result (WhereAnswered (IsCorrectBy (FollowsForText (RefusesMachine operands.First) HasCanonicalText) (call (Some (asked ask.now)) (F.holds files.old) (F.faults files.old) (F.faults files.new)))) }
-    ensures counts { NoneFell (F.faults files.old) (F.faults files.new) }
-    ensures store_counts { NoneFell (F.store_faults files.old) (F.store_faults files.new) }
-    ensures unchanged { SameHeld (F.holds files.old) (F.holds files.new) }
+    ensures answers { AnswersBy (IsCorrectBy (FollowsForText (RefusesMachine operands.First) HasCanonicalText) (call (Some (asked ask.now)) (F.told files.old) (F.told files.new))) result }
+    ensures only_read { OnlyRead (F.told files.old) (F.told files.new) }
 {
     let Loaded { parts, .. } = load(alloc, Operand::First, ask, files)?;
     match write_parts(alloc, &parts) {
@@ -113,11 +98,8 @@ pub fn format_text<F: Files>(alloc: Global, ask: &Ask, files: &mut F) -> Result<
 
 /// What `cuts` answers: the paths of a machine.
 pub fn cut_paths<F: Files>(alloc: Global, ask: &Ask, files: &mut F) -> Result<Answer, Refused>
-    ensures ok { IfOk result (IsCorrectBy (FollowsForText (RefusesMachine operands.First) HasPaths) (call (Some (asked ask.now)) (F.holds files.old) (F.faults files.old) (F.faults files.new))) }
-    ensures refused { IfErr result (WhereAnswered (IsCorrectBy (FollowsForText (RefusesMachine operands.First) HasPaths) (call (Some (asked ask.now)) (F.holds files.old) (F.faults files.old) (F.faults files.new)))) }
-    ensures counts { NoneFell (F.faults files.old) (F.faults files.new) }
-    ensures store_counts { NoneFell (F.store_faults files.old) (F.store_faults files.new) }
-    ensures unchanged { SameHeld (F.holds files.old) (F.holds files.new) }
+    ensures answers { AnswersBy (IsCorrectBy (FollowsForText (RefusesMachine operands.First) HasPaths) (call (Some (asked ask.now)) (F.told files.old) (F.told files.new))) result }
+    ensures only_read { OnlyRead (F.told files.old) (F.told files.new) }
 {
     let machine = load_machine(alloc, Operand::First, ask, files)?;
     let lines = Lines::of(list_paths(alloc, &machine)?);
@@ -133,11 +115,8 @@ fn run_from<F: Files>(
     files: &mut F,
 ) -> Result<Answer, Refused>
     requires { 1 ≤ steps }
-    ensures ok { IfOk result (Gives (call (Some (asked ask.now)) (F.holds files.old) (F.faults files.old) (F.faults files.new)) operands.Second (FollowsFromInputs (IsOfRun steps machine.now) machine.now operands.Second)) }
-    ensures refused { IfErr result (WhereAnswered (Gives (call (Some (asked ask.now)) (F.holds files.old) (F.faults files.old) (F.faults files.new)) operands.Second (FollowsFromInputs (IsOfRun steps machine.now) machine.now operands.Second))) }
-    ensures counts { NoneFell (F.faults files.old) (F.faults files.new) }
-    ensures store_counts { NoneFell (F.store_faults files.old) (F.store_faults files.new) }
-    ensures unchanged { SameHeld (F.holds files.old) (F.holds files.new) }
+    ensures answers { AnswersBy (Gives (call (Some (asked ask.now)) (F.told files.old) (F.told files.new)) operands.Second (FollowsFromInputs (IsOfRun steps machine.now) machine.now operands.Second)) result }
+    ensures only_read { OnlyRead (F.told files.old) (F.told files.new) }
 {
     let inputs = load_inputs(alloc, Operand::Second, ask, machine, files)?;
     Ok(run_machine(alloc, machine, &inputs, steps)?)
@@ -151,11 +130,8 @@ pub fn run_files<F: Files>(
     files: &mut F,
 ) -> Result<Answer, Refused>
     requires { 1 ≤ steps }
-    ensures ok { IfOk result (IsCorrectBy (FollowsForRun steps) (call (Some (asked ask.now)) (F.holds files.old) (F.faults files.old) (F.faults files.new))) }
-    ensures refused { IfErr result (WhereAnswered (IsCorrectBy (FollowsForRun steps) (call (Some (asked ask.now)) (F.holds files.old) (F.faults files.old) (F.faults files.new)))) }
-    ensures counts { NoneFell (F.faults files.old) (F.faults files.new) }
-    ensures store_counts { NoneFell (F.store_faults files.old) (F.store_faults files.new) }
-    ensures unchanged { SameHeld (F.holds files.old) (F.holds files.new) }
+    ensures answers { AnswersBy (IsCorrectBy (FollowsForRun steps) (call (Some (asked ask.now)) (F.told files.old) (F.told files.new))) result }
+    ensures only_read { OnlyRead (F.told files.old) (F.told files.new) }
 {
     let machine = load_machine(alloc, Operand::First, ask, files)?;
     run_from(alloc, ask, &machine, steps, files)
@@ -172,11 +148,8 @@ fn replay_from<F: Files>(
 ) -> Result<Answer, Refused>
     requires alike { interface_fault left.now right.now ≡ None }
     requires steps { 1 ≤ steps }
-    ensures ok { IfOk result (Gives (call (Some (asked ask.now)) (F.holds files.old) (F.faults files.old) (F.faults files.new)) operands.Third (ForReplay steps left.now right.now)) }
-    ensures refused { IfErr result (WhereAnswered (Gives (call (Some (asked ask.now)) (F.holds files.old) (F.faults files.old) (F.faults files.new)) operands.Third (ForReplay steps left.now right.now))) }
-    ensures counts { NoneFell (F.faults files.old) (F.faults files.new) }
-    ensures store_counts { NoneFell (F.store_faults files.old) (F.store_faults files.new) }
-    ensures unchanged { SameHeld (F.holds files.old) (F.holds files.new) }
+    ensures answers { AnswersBy (Gives (call (Some (asked ask.now)) (F.told files.old) (F.told files.new)) operands.Third (ForReplay steps left.now right.now)) result }
+    ensures only_read { OnlyRead (F.told files.old) (F.told files.new) }
 {
     let inputs = load_inputs(alloc, Operand::Third, ask, left, files)?;
     Ok(replay_machines(alloc, left, right, &inputs, steps)?)
@@ -190,11 +163,8 @@ pub fn replay_files<F: Files>(
     files: &mut F,
 ) -> Result<Answer, Refused>
     requires { 1 ≤ steps }
-    ensures ok { IfOk result (IsCorrectBy (FollowsForPair (ForReplay steps)) (call (Some (asked ask.now)) (F.holds files.old) (F.faults files.old) (F.faults files.new))) }
-    ensures refused { IfErr result (WhereAnswered (IsCorrectBy (FollowsForPair (ForReplay steps)) (call (Some (asked ask.now)) (F.holds files.old) (F.faults files.old) (F.faults files.new)))) }
-    ensures counts { NoneFell (F.faults files.old) (F.faults files.new) }
-    ensures store_counts { NoneFell (F.store_faults files.old) (F.store_faults files.new) }
-    ensures unchanged { SameHeld (F.holds files.old) (F.holds files.new) }
+    ensures answers { AnswersBy (IsCorrectBy (FollowsForPair (ForReplay steps)) (call (Some (asked ask.now)) (F.told files.old) (F.told files.new))) result }
+    ensures only_read { OnlyRead (F.told files.old) (F.told files.new) }
 {
     let Pair { left, right, .. } = load_pair(alloc, ask, files)?;
     replay_from(alloc, ask, &left, &right, steps, files)

@@ -1,13 +1,12 @@
 //! The top call: from words to a status.
 
-ghost use Rattle.std.specs.Prelude.{◌≡◌, ◌≤◌, ℕ, List, Some, IfOk, IsTrue, map, string_bytes};
-ghost use Rattle.std.specs.Result.{IfErr, OnErr};
-ghost use Rattle.fs_base.specs.Outside.{NoneFell, SameHeld};
-ghost use Rattle.command_words.specs.Words.{Compile, Schedule, Bind, IsWithinLimits, asked, asked_of};
+ghost use Rattle.std.specs.Prelude.{◌≡◌, ◌≤◌, Some, IfOk};
+ghost use Rattle.std.specs.Result.{OnErr};
+ghost use Rattle.fs_base.specs.Outside.{NoneFell};
+ghost use Rattle.command_words.specs.Words.{IsWithinLimits, asked};
 ghost use Rattle.command_answers.specs.declared.answer.Status.TheVariants.{Fine, Differ, Undecided, Fault};
-ghost use Rattle.command_answers.specs.Words.{compares, is_verify};
-ghost use Rattle.command_answers.specs.Refusing.{WhereAnswered};
-ghost use Rattle.fsmd_tool.specs.Calls.{call};
+ghost use Rattle.fsmd_tool.specs.Asking.{asked_in, AskToCompare, AskToVerify, AskToCompile, AskToSchedule, AskToBind};
+ghost use Rattle.fsmd_tool.specs.Calls.{call, OnlyRead, AnswersBy};
 ghost use Rattle.fsmd_tool.specs.Puts.{put};
 ghost use Rattle.fsmd_tool.specs.Stores.{stores, IsUnwritten};
 ghost use Rattle.fsmd_tool.specs.Correct.{IsCorrectAnswer, Answered, Outcome};
@@ -27,11 +26,8 @@ use std::alloc::{AllocError, Global};
 // What a command answers.
 fn answer_command<F: Files>(alloc: Global, ask: &Ask, files: &mut F) -> Result<Answer, Refused>
     requires { IsWithinLimits (asked ask.now) }
-    ensures ok { IfOk result (IsCorrectAnswer (call (Some (asked ask.now)) (F.holds files.old) (F.faults files.old) (F.faults files.new))) }
-    ensures refused { IfErr result (WhereAnswered (IsCorrectAnswer (call (Some (asked ask.now)) (F.holds files.old) (F.faults files.old) (F.faults files.new)))) }
-    ensures counts { NoneFell (F.faults files.old) (F.faults files.new) }
-    ensures store_counts { NoneFell (F.store_faults files.old) (F.store_faults files.new) }
-    ensures unchanged { SameHeld (F.holds files.old) (F.holds files.new) }
+    ensures answers { AnswersBy (IsCorrectAnswer (call (Some (asked ask.now)) (F.told files.old) (F.told files.new))) result }
+    ensures only_read { OnlyRead (F.told files.old) (F.told files.new) }
 {
     match ask {
         Ask::Check { cert, steps, .. } => check(alloc, ask, *steps, cert.is_some(), files),
@@ -50,10 +46,8 @@ fn answer_command<F: Files>(alloc: Global, ask: &Ask, files: &mut F) -> Result<A
 // What is answered to what is asked.
 fn answer<F: Files>(alloc: Global, ask: &Ask, files: &mut F) -> Result<Answer, AllocError>
     requires { IsWithinLimits (asked ask.now) }
-    ensures correct { IfOk result (IsCorrectAnswer (call (Some (asked ask.now)) (F.holds files.old) (F.faults files.old) (F.faults files.new))) }
-    ensures counts { NoneFell (F.faults files.old) (F.faults files.new) }
-    ensures store_counts { NoneFell (F.store_faults files.old) (F.store_faults files.new) }
-    ensures unchanged { SameHeld (F.holds files.old) (F.holds files.new) }
+    ensures correct { IfOk result (IsCorrectAnswer (call (Some (asked ask.now)) (F.told files.old) (F.told files.new))) }
+    ensures only_read { OnlyRead (F.told files.old) (F.told files.new) }
 {
     match answer_command(alloc, ask, files) {
         Ok(answer) => Ok(answer),
@@ -70,13 +64,13 @@ fn put_asked<F: Files, S: Sink>(
     out: &mut S,
 ) -> Result<Status, AllocError>
     requires { IsWithinLimits (asked ask.now) }
-    ensures answered { IfOk result (λ status. Answered (call (Some (asked ask.now)) (F.holds files.old) (F.faults files.old) (F.faults files.new)) (stores (F.holds files.old) (F.holds files.new) (F.store_faults files.old) (F.store_faults files.new)) (put status (S.got out.old) (S.got out.new) (S.faults out.old) (S.faults out.new))) }
-    ensures err { OnErr result (S.got out.new ≡ S.got out.old) }
-    ensures unwritten { OnErr result (IsUnwritten (Some (asked ask.now)) (stores (F.holds files.old) (F.holds files.new) (F.store_faults files.old) (F.store_faults files.new))) }
-    ensures counts { NoneFell (F.faults files.old) (F.faults files.new) }
-    ensures store_counts { NoneFell (F.store_faults files.old) (F.store_faults files.new) }
-    ensures sink_counts { S.faults out.old ≤ S.faults out.new }
-    ensures unchanged { KeepsFiles (call (Some (asked ask.now)) (F.holds files.old) (F.faults files.old) (F.faults files.new)) (stores (F.holds files.old) (F.holds files.new) (F.store_faults files.old) (F.store_faults files.new)) }
+    ensures answered { IfOk result (λ status. Answered (call (Some (asked ask.now)) (F.told files.old) (F.told files.new)) (put status (S.told out.old) (S.told out.new))) }
+    ensures err { OnErr result ((S.told out.new).got ≡ (S.told out.old).got) }
+    ensures unwritten { OnErr result (IsUnwritten (Some (asked ask.now)) (stores (F.told files.old) (F.told files.new))) }
+    ensures counts { NoneFell (F.told files.old).faults (F.told files.new).faults }
+    ensures store_counts { NoneFell (F.told files.old).store_faults (F.told files.new).store_faults }
+    ensures sink_counts { (S.told out.old).faults ≤ (S.told out.new).faults }
+    ensures unchanged { KeepsFiles (call (Some (asked ask.now)) (F.told files.old) (F.told files.new)) }
 {
     let answer = answer(alloc, ask, files)?;
     put_answer(alloc, &answer, ask, files, out)
@@ -89,13 +83,13 @@ fn put_reply<F: Files, S: Sink>(
     files: &mut F,
     out: &mut S,
 ) -> Result<Status, AllocError>
-    ensures answered { IfOk result (λ status. Answered (call (asked_of (map string_bytes words.now)) (F.holds files.old) (F.faults files.old) (F.faults files.new)) (stores (F.holds files.old) (F.holds files.new) (F.store_faults files.old) (F.store_faults files.new)) (put status (S.got out.old) (S.got out.new) (S.faults out.old) (S.faults out.new))) }
-    ensures err { OnErr result (S.got out.new ≡ S.got out.old) }
-    ensures unwritten { OnErr result (IsUnwritten (asked_of (map string_bytes words.now)) (stores (F.holds files.old) (F.holds files.new) (F.store_faults files.old) (F.store_faults files.new))) }
-    ensures counts { NoneFell (F.faults files.old) (F.faults files.new) }
-    ensures store_counts { NoneFell (F.store_faults files.old) (F.store_faults files.new) }
-    ensures sink_counts { S.faults out.old ≤ S.faults out.new }
-    ensures unchanged { KeepsFiles (call (asked_of (map string_bytes words.now)) (F.holds files.old) (F.faults files.old) (F.faults files.new)) (stores (F.holds files.old) (F.holds files.new) (F.store_faults files.old) (F.store_faults files.new)) }
+    ensures answered { IfOk result (λ status. Answered (call (asked_in words.now) (F.told files.old) (F.told files.new)) (put status (S.told out.old) (S.told out.new))) }
+    ensures err { OnErr result ((S.told out.new).got ≡ (S.told out.old).got) }
+    ensures unwritten { OnErr result (IsUnwritten (asked_in words.now) (stores (F.told files.old) (F.told files.new))) }
+    ensures counts { NoneFell (F.told files.old).faults (F.told files.new).faults }
+    ensures store_counts { NoneFell (F.told files.old).store_faults (F.told files.new).store_faults }
+    ensures sink_counts { (S.told out.old).faults ≤ (S.told out.new).faults }
+    ensures unchanged { KeepsFiles (call (asked_in words.now) (F.told files.old) (F.told files.new)) }
 {
     match ask(alloc, words) {
         Ok(ask) => put_asked(alloc, &ask, files, out),
@@ -118,19 +112,19 @@ pub fn drive<F: Files, S: Sink>(
     files: &mut F,
     out: &mut S,
 ) -> Status
-    ensures outcome { Outcome (call (asked_of (map string_bytes words.now)) (F.holds files.old) (F.faults files.old) (F.faults files.new)) (stores (F.holds files.old) (F.holds files.new) (F.store_faults files.old) (F.store_faults files.new)) (put result (S.got out.old) (S.got out.new) (S.faults out.old) (S.faults out.new)) }
-    ensures equivalent { result ≡ Fine → IsTrue (compares (asked_of (map string_bytes words.now))) → SaysSame (call (asked_of (map string_bytes words.now)) (F.holds files.old) (F.faults files.old) (F.faults files.new)) (stores (F.holds files.old) (F.holds files.new) (F.store_faults files.old) (F.store_faults files.new)) (put result (S.got out.old) (S.got out.new) (S.faults out.old) (S.faults out.new)) }
-    ensures differ { result ≡ Differ → IsTrue (compares (asked_of (map string_bytes words.now))) → SaysDiffer (call (asked_of (map string_bytes words.now)) (F.holds files.old) (F.faults files.old) (F.faults files.new)) (put result (S.got out.old) (S.got out.new) (S.faults out.old) (S.faults out.new)) }
-    ensures undecided { result ≡ Undecided → IsTrue (compares (asked_of (map string_bytes words.now))) → SaysUndecided (call (asked_of (map string_bytes words.now)) (F.holds files.old) (F.faults files.old) (F.faults files.new)) (put result (S.got out.old) (S.got out.new) (S.faults out.old) (S.faults out.new)) }
-    ensures checked { result ≡ Fine → IsTrue (is_verify (asked_of (map string_bytes words.now))) → IsChecked (call (asked_of (map string_bytes words.now)) (F.holds files.old) (F.faults files.old) (F.faults files.new)) (put result (S.got out.old) (S.got out.new) (S.faults out.old) (S.faults out.new)) }
-    ensures compiled { result ≡ Fine → (program : List ℕ) → asked_of (map string_bytes words.now) ≡ Some (Compile program) → IsCompiled (call (asked_of (map string_bytes words.now)) (F.holds files.old) (F.faults files.old) (F.faults files.new)) (put result (S.got out.old) (S.got out.new) (S.faults out.old) (S.faults out.new)) }
-    ensures in_rows { result ≡ Fine → (machine units : List ℕ) → asked_of (map string_bytes words.now) ≡ Some (Schedule machine units) → IsInRows (call (asked_of (map string_bytes words.now)) (F.holds files.old) (F.faults files.old) (F.faults files.new)) (put result (S.got out.old) (S.got out.new) (S.faults out.old) (S.faults out.new)) }
-    ensures in_registers { result ≡ Fine → (machine binding : List ℕ) → asked_of (map string_bytes words.now) ≡ Some (Bind machine binding) → IsInRegisters (call (asked_of (map string_bytes words.now)) (F.holds files.old) (F.faults files.old) (F.faults files.new)) (put result (S.got out.old) (S.got out.new) (S.faults out.old) (S.faults out.new)) }
-    ensures fault { result ≡ Fault → HasCause (call (asked_of (map string_bytes words.now)) (F.holds files.old) (F.faults files.old) (F.faults files.new)) (stores (F.holds files.old) (F.holds files.new) (F.store_faults files.old) (F.store_faults files.new)) (put result (S.got out.old) (S.got out.new) (S.faults out.old) (S.faults out.new)) }
-    ensures counts { NoneFell (F.faults files.old) (F.faults files.new) }
-    ensures store_counts { NoneFell (F.store_faults files.old) (F.store_faults files.new) }
-    ensures sink_counts { S.faults out.old ≤ S.faults out.new }
-    ensures unchanged { KeepsFiles (call (asked_of (map string_bytes words.now)) (F.holds files.old) (F.faults files.old) (F.faults files.new)) (stores (F.holds files.old) (F.holds files.new) (F.store_faults files.old) (F.store_faults files.new)) }
+    ensures outcome { Outcome (call (asked_in words.now) (F.told files.old) (F.told files.new)) (put result (S.told out.old) (S.told out.new)) }
+    ensures equivalent { result ≡ Fine → AskToCompare words.now → SaysSame (call (asked_in words.now) (F.told files.old) (F.told files.new)) (put result (S.told out.old) (S.told out.new)) }
+    ensures differ { result ≡ Differ → AskToCompare words.now → SaysDiffer (call (asked_in words.now) (F.told files.old) (F.told files.new)) (put result (S.told out.old) (S.told out.new)) }
+    ensures undecided { result ≡ Undecided → AskToCompare words.now → SaysUndecided (call (asked_in words.now) (F.told files.old) (F.told files.new)) (put result (S.told out.old) (S.told out.new)) }
+    ensures checked { result ≡ Fine → AskToVerify words.now → IsChecked (call (asked_in words.now) (F.told files.old) (F.told files.new)) (put result (S.told out.old) (S.told out.new)) }
+    ensures compiled { result ≡ Fine → AskToCompile words.now → IsCompiled (call (asked_in words.now) (F.told files.old) (F.told files.new)) (put result (S.told out.old) (S.told out.new)) }
+    ensures in_rows { result ≡ Fine → AskToSchedule words.now → IsInRows (call (asked_in words.now) (F.told files.old) (F.told files.new)) (put result (S.told out.old) (S.told out.new)) }
+    ensures in_registers { result ≡ Fine → AskToBind words.now → IsInRegisters (call (asked_in words.now) (F.told files.old) (F.told files.new)) (put result (S.told out.old) (S.told out.new)) }
+    ensures fault { result ≡ Fault → HasCause (call (asked_in words.now) (F.told files.old) (F.told files.new)) (put result (S.told out.old) (S.told out.new)) }
+    ensures counts { NoneFell (F.told files.old).faults (F.told files.new).faults }
+    ensures store_counts { NoneFell (F.told files.old).store_faults (F.told files.new).store_faults }
+    ensures sink_counts { (S.told out.old).faults ≤ (S.told out.new).faults }
+    ensures unchanged { KeepsFiles (call (asked_in words.now) (F.told files.old) (F.told files.new)) }
 {
     match put_reply(alloc, words, files, out) {
         Ok(status) => status,

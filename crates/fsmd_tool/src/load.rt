@@ -3,7 +3,7 @@
 ghost use Rattle.std.specs.Prelude.{◌≡◌, ◌≤◌, length, map, IsTrue, IfOk, Some};
 ghost use Rattle.std.specs.Result.{IfErr};
 ghost use Rattle.command_words.specs.Words.{asked};
-ghost use Rattle.fs_base.specs.Outside.{NoneFell, SameHeld, AreHeld};
+ghost use Rattle.fs_base.specs.Outside.{AreHeld};
 ghost use Rattle.fs_model.specs.View.{source_of};
 ghost use Rattle.fs_model.specs.WellFormed.{is_well_formed};
 ghost use Rattle.fs_runs.specs.InputValues.{signatures_of, inputs_of, Serves};
@@ -22,7 +22,7 @@ ghost use Rattle.command_answers.specs.Programs.{HasCompiledText, RefusesProgram
 ghost use Rattle.command_answers.specs.Schedules.{SpellUnits, RefusesUnits};
 ghost use Rattle.command_answers.specs.Bindings.{SpellsBinding, RefusesBinding};
 ghost use Rattle.command_answers.specs.Refusing.{WhereAnswered, IsLoaded};
-ghost use Rattle.fsmd_tool.specs.Calls.{call, MayHold};
+ghost use Rattle.fsmd_tool.specs.Calls.{call, OnlyRead, MayHold};
 ghost use Rattle.fsmd_tool.specs.Loading.{Gives};
 
 use certificates::cert::Cert;
@@ -51,12 +51,10 @@ fn load_bytes<F: Files>(
     ask: &Ask,
     files: &mut F,
 ) -> Result<Vec<u8>, Refused>
-    ensures held { IfOk result (λ bytes. AreHeld (F.holds files.old (word_of (Some (asked ask.now)) file)) bytes.items) }
+    ensures held { IfOk result (λ bytes. AreHeld ((F.told files.old).holds (word_of (Some (asked ask.now)) file)) bytes.items) }
     ensures within { IfOk result (λ bytes. length bytes.items ≤ limit) }
-    ensures unread { IfErr result (WhereAnswered (Gives (call (Some (asked ask.now)) (F.holds files.old) (F.faults files.old) (F.faults files.new)) file (IsUnread limit file))) }
-    ensures counts { NoneFell (F.faults files.old) (F.faults files.new) }
-    ensures store_counts { NoneFell (F.store_faults files.old) (F.store_faults files.new) }
-    ensures unchanged { SameHeld (F.holds files.old) (F.holds files.new) }
+    ensures unread { IfErr result (WhereAnswered (Gives (call (Some (asked ask.now)) (F.told files.old) (F.told files.new)) file (IsUnread limit file))) }
+    ensures only_read { OnlyRead (F.told files.old) (F.told files.new) }
 {
     match files.load(alloc, word_of(ask, file), limit) {
         Ok(bytes) => Ok(bytes),
@@ -73,12 +71,10 @@ pub fn load<F: Files>(
     ask: &Ask,
     files: &mut F,
 ) -> Result<Loaded, Refused>
-    ensures loaded { IfOk result (λ l. MayHold (F.holds files.old (word_of (Some (asked ask.now)) file)) (IsLoaded (source_of l.parts) l.machine)) }
+    ensures loaded { IfOk result (λ l. MayHold ((F.told files.old).holds (word_of (Some (asked ask.now)) file)) (IsLoaded (source_of l.parts) l.machine)) }
     ensures well_formed { IfOk result (λ l. IsTrue (is_well_formed (source_of l.parts))) }
-    ensures refused { IfErr result (WhereAnswered (Gives (call (Some (asked ask.now)) (F.holds files.old) (F.faults files.old) (F.faults files.new)) file (RefusesMachine file))) }
-    ensures counts { NoneFell (F.faults files.old) (F.faults files.new) }
-    ensures store_counts { NoneFell (F.store_faults files.old) (F.store_faults files.new) }
-    ensures unchanged { SameHeld (F.holds files.old) (F.holds files.new) }
+    ensures refused { IfErr result (WhereAnswered (Gives (call (Some (asked ask.now)) (F.told files.old) (F.told files.new)) file (RefusesMachine file))) }
+    ensures only_read { OnlyRead (F.told files.old) (F.told files.new) }
 {
     let bytes = load_bytes(alloc, file, TEXT_LIMIT as u64, ask, files)?;
     read_machine(alloc, file, bytes.as_slice())
@@ -91,11 +87,9 @@ pub fn load_machine<F: Files>(
     ask: &Ask,
     files: &mut F,
 ) -> Result<Machine, Refused>
-    ensures spells { IfOk result (λ m. MayHold (F.holds files.old (word_of (Some (asked ask.now)) file)) (SpellsMachine m)) }
-    ensures refused { IfErr result (WhereAnswered (Gives (call (Some (asked ask.now)) (F.holds files.old) (F.faults files.old) (F.faults files.new)) file (RefusesMachine file))) }
-    ensures counts { NoneFell (F.faults files.old) (F.faults files.new) }
-    ensures store_counts { NoneFell (F.store_faults files.old) (F.store_faults files.new) }
-    ensures unchanged { SameHeld (F.holds files.old) (F.holds files.new) }
+    ensures spells { IfOk result (λ m. MayHold ((F.told files.old).holds (word_of (Some (asked ask.now)) file)) (SpellsMachine m)) }
+    ensures refused { IfErr result (WhereAnswered (Gives (call (Some (asked ask.now)) (F.told files.old) (F.told files.new)) file (RefusesMachine file))) }
+    ensures only_read { OnlyRead (F.told files.old) (F.told files.new) }
 {
     let Loaded { machine, .. } = load(alloc, file, ask, files)?;
     Ok(machine)
@@ -109,13 +103,11 @@ pub fn load_inputs<F: Files>(
     machine: &Machine,
     files: &mut F,
 ) -> Result<Inputs, Refused>
-    ensures spells { IfOk result (λ i. MayHold (F.holds files.old (word_of (Some (asked ask.now)) file)) (SpellsInputs machine.now (inputs_of i))) }
+    ensures spells { IfOk result (λ i. MayHold ((F.told files.old).holds (word_of (Some (asked ask.now)) file)) (SpellsInputs machine.now (inputs_of i))) }
     ensures signatures { IfOk result (λ i. signatures_of i ≡ signatures machine.now) }
     ensures serves { IfOk result (λ i. Serves (signatures_of i) machine.now) }
-    ensures refused { IfErr result (WhereAnswered (Gives (call (Some (asked ask.now)) (F.holds files.old) (F.faults files.old) (F.faults files.new)) file (RefusesInputs machine.now file))) }
-    ensures counts { NoneFell (F.faults files.old) (F.faults files.new) }
-    ensures store_counts { NoneFell (F.store_faults files.old) (F.store_faults files.new) }
-    ensures unchanged { SameHeld (F.holds files.old) (F.holds files.new) }
+    ensures refused { IfErr result (WhereAnswered (Gives (call (Some (asked ask.now)) (F.told files.old) (F.told files.new)) file (RefusesInputs machine.now file))) }
+    ensures only_read { OnlyRead (F.told files.old) (F.told files.new) }
 {
     let bytes = load_bytes(alloc, file, TEXT_LIMIT as u64, ask, files)?;
     read_inputs(alloc, file, bytes.as_slice(), machine)
@@ -132,11 +124,9 @@ pub fn load_certificate<F: Files>(
     files: &mut F,
 ) -> Result<Cert, Refused>
     requires { p.now ≡ positions a.now b.now }
-    ensures spells { IfOk result (λ c. MayHold (F.holds files.old (word_of (Some (asked ask.now)) file)) (SpellsCertificate a.now b.now (map node_of c.nodes.items))) }
-    ensures refused { IfErr result (WhereAnswered (Gives (call (Some (asked ask.now)) (F.holds files.old) (F.faults files.old) (F.faults files.new)) file (RefusesCertificate a.now b.now file))) }
-    ensures counts { NoneFell (F.faults files.old) (F.faults files.new) }
-    ensures store_counts { NoneFell (F.store_faults files.old) (F.store_faults files.new) }
-    ensures unchanged { SameHeld (F.holds files.old) (F.holds files.new) }
+    ensures spells { IfOk result (λ c. MayHold ((F.told files.old).holds (word_of (Some (asked ask.now)) file)) (SpellsCertificate a.now b.now (map node_of c.nodes.items))) }
+    ensures refused { IfErr result (WhereAnswered (Gives (call (Some (asked ask.now)) (F.told files.old) (F.told files.new)) file (RefusesCertificate a.now b.now file))) }
+    ensures only_read { OnlyRead (F.told files.old) (F.told files.new) }
 {
     let bytes = load_bytes(alloc, file, CERT_LIMIT, ask, files)?;
     read_certificate(alloc, file, bytes.as_slice(), a, b, p)
@@ -149,11 +139,9 @@ pub fn load_compiled<F: Files>(
     ask: &Ask,
     files: &mut F,
 ) -> Result<Answer, Refused>
-    ensures compiled { IfOk result (HasLines (λ text. MayHold (F.holds files.old (word_of (Some (asked ask.now)) file)) (HasCompiledText text)) Text) }
-    ensures refused { IfErr result (WhereAnswered (Gives (call (Some (asked ask.now)) (F.holds files.old) (F.faults files.old) (F.faults files.new)) file (RefusesProgram file))) }
-    ensures counts { NoneFell (F.faults files.old) (F.faults files.new) }
-    ensures store_counts { NoneFell (F.store_faults files.old) (F.store_faults files.new) }
-    ensures unchanged { SameHeld (F.holds files.old) (F.holds files.new) }
+    ensures compiled { IfOk result (HasLines (λ text. MayHold ((F.told files.old).holds (word_of (Some (asked ask.now)) file)) (HasCompiledText text)) Text) }
+    ensures refused { IfErr result (WhereAnswered (Gives (call (Some (asked ask.now)) (F.told files.old) (F.told files.new)) file (RefusesProgram file))) }
+    ensures only_read { OnlyRead (F.told files.old) (F.told files.new) }
 {
     let bytes = load_bytes(alloc, file, TEXT_LIMIT as u64, ask, files)?;
     compile_program(alloc, file, bytes.as_slice())
@@ -166,11 +154,9 @@ pub fn load_units<F: Files>(
     ask: &Ask,
     files: &mut F,
 ) -> Result<Units, Refused>
-    ensures spell { IfOk result (λ u. MayHold (F.holds files.old (word_of (Some (asked ask.now)) file)) (SpellUnits (units_in u))) }
-    ensures refused { IfErr result (WhereAnswered (Gives (call (Some (asked ask.now)) (F.holds files.old) (F.faults files.old) (F.faults files.new)) file (RefusesUnits file))) }
-    ensures counts { NoneFell (F.faults files.old) (F.faults files.new) }
-    ensures store_counts { NoneFell (F.store_faults files.old) (F.store_faults files.new) }
-    ensures unchanged { SameHeld (F.holds files.old) (F.holds files.new) }
+    ensures spell { IfOk result (λ u. MayHold ((F.told files.old).holds (word_of (Some (asked ask.now)) file)) (SpellUnits (units_in u))) }
+    ensures refused { IfErr result (WhereAnswered (Gives (call (Some (asked ask.now)) (F.told files.old) (F.told files.new)) file (RefusesUnits file))) }
+    ensures only_read { OnlyRead (F.told files.old) (F.told files.new) }
 {
     let bytes = load_bytes(alloc, file, TEXT_LIMIT as u64, ask, files)?;
     read_units(alloc, file, bytes.as_slice())
@@ -184,12 +170,10 @@ pub fn load_binding<F: Files>(
     machine: &Machine,
     files: &mut F,
 ) -> Result<Binding, Refused>
-    ensures spells { IfOk result (λ b. MayHold (F.holds files.old (word_of (Some (asked ask.now)) file)) (SpellsBinding machine.now b)) }
+    ensures spells { IfOk result (λ b. MayHold ((F.told files.old).holds (word_of (Some (asked ask.now)) file)) (SpellsBinding machine.now b)) }
     ensures of_machine { IfOk result (λ b. IsBindingOf machine.now.variables b) }
-    ensures refused { IfErr result (WhereAnswered (Gives (call (Some (asked ask.now)) (F.holds files.old) (F.faults files.old) (F.faults files.new)) file (RefusesBinding machine.now file))) }
-    ensures counts { NoneFell (F.faults files.old) (F.faults files.new) }
-    ensures store_counts { NoneFell (F.store_faults files.old) (F.store_faults files.new) }
-    ensures unchanged { SameHeld (F.holds files.old) (F.holds files.new) }
+    ensures refused { IfErr result (WhereAnswered (Gives (call (Some (asked ask.now)) (F.told files.old) (F.told files.new)) file (RefusesBinding machine.now file))) }
+    ensures only_read { OnlyRead (F.told files.old) (F.told files.new) }
 {
     let bytes = load_bytes(alloc, file, TEXT_LIMIT as u64, ask, files)?;
     read_binding(alloc, file, bytes.as_slice(), machine)

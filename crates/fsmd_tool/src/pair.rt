@@ -3,7 +3,6 @@
 ghost use Rattle.std.specs.Prelude.{◌≡◌, IfOk, Some, None};
 ghost use Rattle.std.specs.Result.{IfErr};
 ghost use Rattle.command_words.specs.Words.{asked};
-ghost use Rattle.fs_base.specs.Outside.{NoneFell, SameHeld};
 ghost use Rattle.fs_pair.specs.Interfaces.{interface_fault};
 ghost use Rattle.fs_pair.specs.Positions.{positions};
 ghost use Rattle.command_answers.specs.declared.answer.Operand.TheVariants as operands;
@@ -13,7 +12,7 @@ ghost use Rattle.command_answers.specs.Lines.{HasLines};
 ghost use Rattle.command_answers.specs.Texts.{SpellsMachine};
 ghost use Rattle.command_answers.specs.Refusals.{RefusesPair};
 ghost use Rattle.command_answers.specs.Refusing.{WhereAnswered};
-ghost use Rattle.fsmd_tool.specs.Calls.{call, MayHold, IsCorrectBy};
+ghost use Rattle.fsmd_tool.specs.Calls.{call, OnlyRead, MayHold, IsCorrectBy};
 
 use crate::load::load_machine;
 use command_answers::answer::{Answer, Operand};
@@ -48,14 +47,12 @@ fn pairing_of(alloc: Global, left: &Machine, right: &Machine) -> Result<Pairing,
 /// Loads the first two files of a call, the first one first, or answers the first refusal: of a file, and then that the machines have
 /// other inputs or outputs.
 pub fn load_pair<F: Files>(alloc: Global, ask: &Ask, files: &mut F) -> Result<Pair, Refused>
-    ensures left { IfOk result (λ p. MayHold (F.holds files.old (word_of (Some (asked ask.now)) operands.First)) (SpellsMachine p.left)) }
-    ensures right { IfOk result (λ p. MayHold (F.holds files.old (word_of (Some (asked ask.now)) operands.Second)) (SpellsMachine p.right)) }
+    ensures left { IfOk result (λ p. MayHold ((F.told files.old).holds (word_of (Some (asked ask.now)) operands.First)) (SpellsMachine p.left)) }
+    ensures right { IfOk result (λ p. MayHold ((F.told files.old).holds (word_of (Some (asked ask.now)) operands.Second)) (SpellsMachine p.right)) }
     ensures alike { IfOk result (λ p. interface_fault p.left p.right ≡ None) }
     ensures paired { IfOk result (λ p. p.pairing ≡ positions p.left p.right) }
-    ensures refused { IfErr result (WhereAnswered (IsCorrectBy RefusesPair (call (Some (asked ask.now)) (F.holds files.old) (F.faults files.old) (F.faults files.new)))) }
-    ensures counts { NoneFell (F.faults files.old) (F.faults files.new) }
-    ensures store_counts { NoneFell (F.store_faults files.old) (F.store_faults files.new) }
-    ensures unchanged { SameHeld (F.holds files.old) (F.holds files.new) }
+    ensures refused { IfErr result (WhereAnswered (IsCorrectBy RefusesPair (call (Some (asked ask.now)) (F.told files.old) (F.told files.new)))) }
+    ensures only_read { OnlyRead (F.told files.old) (F.told files.new) }
 {
     let left = load_machine(alloc, Operand::First, ask, files)?;
     let right = load_machine(alloc, Operand::Second, ask, files)?;

@@ -10,7 +10,7 @@ ghost use Rattle.command_answers.specs.Statuses.{status_of};
 ghost use Rattle.command_answers.specs.Replies.{reply, unstored_reply};
 ghost use Rattle.fsmd_tool.specs.Puts.{IsPut, put};
 ghost use Rattle.fsmd_tool.specs.Stores.{stores, entry, to_store, Leaves, NotStored};
-ghost use Rattle.fsmd_tool.specs.Correct.{IsDone};
+ghost use Rattle.fsmd_tool.specs.Correct.{IsDone, IsDoneFor};
 
 use command_answers::answer::{Answer, Status};
 use command_answers::reply::{USAGE, reply, unstored_reply};
@@ -32,9 +32,9 @@ fn fits(room: Option<u64>, count: usize) -> bool
 
 // Puts a reply that has room, and gives the status that is meant, or `Fault` where the sink failed.
 fn put_fitting<S: Sink>(reply: &[u8], meant: Status, out: &mut S) -> Status
-    requires { HasRoom (S.spare out.old) (length reply.now) }
-    ensures put { IsPut reply.now meant (put result (S.got out.old) (S.got out.new) (S.faults out.old) (S.faults out.new)) }
-    ensures sink_counts { S.faults out.old ≤ S.faults out.new }
+    requires { HasRoom (S.told out.old).spare (length reply.now) }
+    ensures put { IsPut reply.now meant (put result (S.told out.old) (S.told out.new)) }
+    ensures sink_counts { (S.told out.old).faults ≤ (S.told out.new).faults }
 {
     match put_all(out, reply) {
         Ok(()) => meant,
@@ -46,9 +46,9 @@ fn put_fitting<S: Sink>(reply: &[u8], meant: Status, out: &mut S) -> Status
 //
 // The error is out of memory: the reply is longer than the sink has room; then nothing was put.
 fn put_whole<S: Sink>(reply: &[u8], meant: Status, out: &mut S) -> Result<Status, AllocError>
-    ensures ok { IfOk result (λ status. IsPut reply.now meant (put status (S.got out.old) (S.got out.new) (S.faults out.old) (S.faults out.new))) }
-    ensures err { OnErr result (S.got out.new ≡ S.got out.old) }
-    ensures sink_counts { S.faults out.old ≤ S.faults out.new }
+    ensures ok { IfOk result (λ status. IsPut reply.now meant (put status (S.told out.old) (S.told out.new))) }
+    ensures err { OnErr result ((S.told out.new).got ≡ (S.told out.old).got) }
+    ensures sink_counts { (S.told out.old).faults ≤ (S.told out.new).faults }
 {
     if fits(out.room(), reply.len()) {
         Ok(put_fitting(reply, meant, out))
@@ -61,18 +61,18 @@ fn put_whole<S: Sink>(reply: &[u8], meant: Status, out: &mut S) -> Result<Status
 ///
 /// The error is out of memory: the line is longer than the sink has room; then nothing was put.
 pub fn put_usage<S: Sink>(out: &mut S) -> Result<Status, AllocError>
-    ensures ok { IfOk result (λ status. IsPut (reply Usage None) (status_of Usage) (put status (S.got out.old) (S.got out.new) (S.faults out.old) (S.faults out.new))) }
-    ensures err { OnErr result (S.got out.new ≡ S.got out.old) }
-    ensures sink_counts { S.faults out.old ≤ S.faults out.new }
+    ensures ok { IfOk result (λ status. IsPut (reply Usage None) (status_of Usage) (put status (S.told out.old) (S.told out.new))) }
+    ensures err { OnErr result ((S.told out.new).got ≡ (S.told out.old).got) }
+    ensures sink_counts { (S.told out.old).faults ≤ (S.told out.new).faults }
 {
     put_whole(USAGE.as_bytes(), Status::Usage, out)
 }
 
 // Puts that the certificate could not be stored under a name.
 fn put_unstored<S: Sink>(alloc: Global, name: &str, out: &mut S) -> Result<Status, AllocError>
-    ensures ok { IfOk result (λ status. IsPut (unstored_reply name.now) Fault (put status (S.got out.old) (S.got out.new) (S.faults out.old) (S.faults out.new))) }
-    ensures err { OnErr result (S.got out.new ≡ S.got out.old) }
-    ensures sink_counts { S.faults out.old ≤ S.faults out.new }
+    ensures ok { IfOk result (λ status. IsPut (unstored_reply name.now) Fault (put status (S.told out.old) (S.told out.new))) }
+    ensures err { OnErr result ((S.told out.new).got ≡ (S.told out.old).got) }
+    ensures sink_counts { (S.told out.old).faults ≤ (S.told out.new).faults }
 {
     let bytes = unstored_reply(alloc, name)?;
     put_whole(bytes.as_slice(), Status::Fault, out)
@@ -104,14 +104,14 @@ fn put_stored<F: Files, S: Sink>(
     files: &mut F,
     out: &mut S,
 ) -> Result<Status, AllocError>
-    requires { HasRoom (S.spare out.old) (length reply.now) }
-    ensures ok { IfOk result (λ status. IsDone (Some (entry item.now.name.now item.now.bytes.now)) reply.now meant (stores (F.holds files.old) (F.holds files.new) (F.store_faults files.old) (F.store_faults files.new)) (put status (S.got out.old) (S.got out.new) (S.faults out.old) (S.faults out.new))) }
-    ensures err { OnErr result (S.got out.new ≡ S.got out.old) }
-    ensures leaves { Leaves (Some (entry item.now.name.now item.now.bytes.now)) (stores (F.holds files.old) (F.holds files.new) (F.store_faults files.old) (F.store_faults files.new)) }
-    ensures unstored { OnErr result (NotStored (Some (entry item.now.name.now item.now.bytes.now)) (stores (F.holds files.old) (F.holds files.new) (F.store_faults files.old) (F.store_faults files.new))) }
-    ensures counts { NoneFell (F.faults files.old) (F.faults files.new) }
-    ensures store_counts { NoneFell (F.store_faults files.old) (F.store_faults files.new) }
-    ensures sink_counts { S.faults out.old ≤ S.faults out.new }
+    requires { HasRoom (S.told out.old).spare (length reply.now) }
+    ensures ok { IfOk result (λ status. IsDone (Some (entry item.now.name.now item.now.bytes.now)) reply.now meant (stores (F.told files.old) (F.told files.new)) (put status (S.told out.old) (S.told out.new))) }
+    ensures err { OnErr result ((S.told out.new).got ≡ (S.told out.old).got) }
+    ensures leaves { Leaves (Some (entry item.now.name.now item.now.bytes.now)) (stores (F.told files.old) (F.told files.new)) }
+    ensures unstored { OnErr result (NotStored (Some (entry item.now.name.now item.now.bytes.now)) (stores (F.told files.old) (F.told files.new))) }
+    ensures counts { NoneFell (F.told files.old).faults (F.told files.new).faults }
+    ensures store_counts { NoneFell (F.told files.old).store_faults (F.told files.new).store_faults }
+    ensures sink_counts { (S.told out.old).faults ≤ (S.told out.new).faults }
 {
     match files.store(alloc, item.name, item.bytes) {
         Ok(()) => Ok(put_fitting(reply, meant, out)),
@@ -133,13 +133,13 @@ pub fn put_answer<F: Files, S: Sink>(
     files: &mut F,
     out: &mut S,
 ) -> Result<Status, AllocError>
-    ensures ok { IfOk result (λ status. IsDone (to_store (Some (asked ask.now)) answer.now) (reply answer.now (Some (asked ask.now))) (status_of answer.now) (stores (F.holds files.old) (F.holds files.new) (F.store_faults files.old) (F.store_faults files.new)) (put status (S.got out.old) (S.got out.new) (S.faults out.old) (S.faults out.new))) }
-    ensures err { OnErr result (S.got out.new ≡ S.got out.old) }
-    ensures leaves { Leaves (to_store (Some (asked ask.now)) answer.now) (stores (F.holds files.old) (F.holds files.new) (F.store_faults files.old) (F.store_faults files.new)) }
-    ensures unstored { OnErr result (NotStored (to_store (Some (asked ask.now)) answer.now) (stores (F.holds files.old) (F.holds files.new) (F.store_faults files.old) (F.store_faults files.new))) }
-    ensures counts { NoneFell (F.faults files.old) (F.faults files.new) }
-    ensures store_counts { NoneFell (F.store_faults files.old) (F.store_faults files.new) }
-    ensures sink_counts { S.faults out.old ≤ S.faults out.new }
+    ensures ok { IfOk result (λ status. IsDoneFor (Some (asked ask.now)) answer.now (stores (F.told files.old) (F.told files.new)) (put status (S.told out.old) (S.told out.new))) }
+    ensures err { OnErr result ((S.told out.new).got ≡ (S.told out.old).got) }
+    ensures leaves { Leaves (to_store (Some (asked ask.now)) answer.now) (stores (F.told files.old) (F.told files.new)) }
+    ensures unstored { OnErr result (NotStored (to_store (Some (asked ask.now)) answer.now) (stores (F.told files.old) (F.told files.new))) }
+    ensures counts { NoneFell (F.told files.old).faults (F.told files.new).faults }
+    ensures store_counts { NoneFell (F.told files.old).store_faults (F.told files.new).store_faults }
+    ensures sink_counts { (S.told out.old).faults ≤ (S.told out.new).faults }
 {
     let bytes = reply(alloc, answer, ask)?;
     if !fits(out.room(), bytes.len()) {

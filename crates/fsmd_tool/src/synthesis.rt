@@ -1,9 +1,7 @@
 //! What the commands of synthesis answer, from their files.
 
-ghost use Rattle.std.specs.Prelude.{◌≡◌, IfOk, Some};
-ghost use Rattle.std.specs.Result.{IfErr};
+ghost use Rattle.std.specs.Prelude.{Some};
 ghost use Rattle.command_words.specs.Words.{asked};
-ghost use Rattle.fs_base.specs.Outside.{NoneFell, SameHeld};
 ghost use Rattle.fs_model.specs.View.{source_of};
 ghost use Rattle.hls_bind.specs.Results.{IsBuiltOf};
 ghost use Rattle.command_answers.specs.declared.answer.Operand.TheVariants as operands;
@@ -11,8 +9,7 @@ ghost use Rattle.command_answers.specs.Programs.{HasCompiledText, RefusesProgram
 ghost use Rattle.command_answers.specs.Schedules.{ForSchedule};
 ghost use Rattle.command_answers.specs.Bindings.{ForBind};
 ghost use Rattle.command_answers.specs.Follows.{FollowsForText, FollowsForParts};
-ghost use Rattle.command_answers.specs.Refusing.{WhereAnswered};
-ghost use Rattle.fsmd_tool.specs.Calls.{call, IsCorrectBy};
+ghost use Rattle.fsmd_tool.specs.Calls.{call, OnlyRead, IsCorrectBy, AnswersBy};
 ghost use Rattle.fsmd_tool.specs.Loading.{Gives};
 
 use crate::load::{load, load_binding, load_compiled, load_units};
@@ -27,11 +24,8 @@ use std::alloc::Global;
 
 /// What `compile` answers: the canonical text of the machine of a program.
 pub fn compile_file<F: Files>(alloc: Global, ask: &Ask, files: &mut F) -> Result<Answer, Refused>
-    ensures ok { IfOk result (IsCorrectBy (FollowsForText (RefusesProgram operands.First) HasCompiledText) (call (Some (asked ask.now)) (F.holds files.old) (F.faults files.old) (F.faults files.new))) }
-    ensures refused { IfErr result (WhereAnswered (IsCorrectBy (FollowsForText (RefusesProgram operands.First) HasCompiledText) (call (Some (asked ask.now)) (F.holds files.old) (F.faults files.old) (F.faults files.new)))) }
-    ensures counts { NoneFell (F.faults files.old) (F.faults files.new) }
-    ensures store_counts { NoneFell (F.store_faults files.old) (F.store_faults files.new) }
-    ensures unchanged { SameHeld (F.holds files.old) (F.holds files.new) }
+    ensures answers { AnswersBy (IsCorrectBy (FollowsForText (RefusesProgram operands.First) HasCompiledText) (call (Some (asked ask.now)) (F.told files.old) (F.told files.new))) result }
+    ensures only_read { OnlyRead (F.told files.old) (F.told files.new) }
 {
     load_compiled(alloc, Operand::First, ask, files)
 }
@@ -44,11 +38,8 @@ fn schedule_from<F: Files>(
     files: &mut F,
 ) -> Result<Answer, Refused>
     requires { IsBuiltOf (source_of loaded.now.parts) loaded.now.machine }
-    ensures ok { IfOk result (Gives (call (Some (asked ask.now)) (F.holds files.old) (F.faults files.old) (F.faults files.new)) operands.Second (ForSchedule (source_of loaded.now.parts))) }
-    ensures refused { IfErr result (WhereAnswered (Gives (call (Some (asked ask.now)) (F.holds files.old) (F.faults files.old) (F.faults files.new)) operands.Second (ForSchedule (source_of loaded.now.parts)))) }
-    ensures counts { NoneFell (F.faults files.old) (F.faults files.new) }
-    ensures store_counts { NoneFell (F.store_faults files.old) (F.store_faults files.new) }
-    ensures unchanged { SameHeld (F.holds files.old) (F.holds files.new) }
+    ensures answers { AnswersBy (Gives (call (Some (asked ask.now)) (F.told files.old) (F.told files.new)) operands.Second (ForSchedule (source_of loaded.now.parts))) result }
+    ensures only_read { OnlyRead (F.told files.old) (F.told files.new) }
 {
     let units = load_units(alloc, Operand::Second, ask, files)?;
     Ok(schedule_machine(alloc, &loaded.parts, &loaded.machine, &units)?)
@@ -56,11 +47,8 @@ fn schedule_from<F: Files>(
 
 /// What `schedule` answers: a machine with its lines in rows, under the units of a file.
 pub fn schedule_files<F: Files>(alloc: Global, ask: &Ask, files: &mut F) -> Result<Answer, Refused>
-    ensures ok { IfOk result (IsCorrectBy (FollowsForParts ForSchedule) (call (Some (asked ask.now)) (F.holds files.old) (F.faults files.old) (F.faults files.new))) }
-    ensures refused { IfErr result (WhereAnswered (IsCorrectBy (FollowsForParts ForSchedule) (call (Some (asked ask.now)) (F.holds files.old) (F.faults files.old) (F.faults files.new)))) }
-    ensures counts { NoneFell (F.faults files.old) (F.faults files.new) }
-    ensures store_counts { NoneFell (F.store_faults files.old) (F.store_faults files.new) }
-    ensures unchanged { SameHeld (F.holds files.old) (F.holds files.new) }
+    ensures answers { AnswersBy (IsCorrectBy (FollowsForParts ForSchedule) (call (Some (asked ask.now)) (F.told files.old) (F.told files.new))) result }
+    ensures only_read { OnlyRead (F.told files.old) (F.told files.new) }
 {
     let loaded = load(alloc, Operand::First, ask, files)?;
     schedule_from(alloc, ask, &loaded, files)
@@ -74,11 +62,8 @@ fn bind_from<F: Files>(
     files: &mut F,
 ) -> Result<Answer, Refused>
     requires { IsBuiltOf (source_of loaded.now.parts) loaded.now.machine }
-    ensures ok { IfOk result (Gives (call (Some (asked ask.now)) (F.holds files.old) (F.faults files.old) (F.faults files.new)) operands.Second (ForBind (source_of loaded.now.parts))) }
-    ensures refused { IfErr result (WhereAnswered (Gives (call (Some (asked ask.now)) (F.holds files.old) (F.faults files.old) (F.faults files.new)) operands.Second (ForBind (source_of loaded.now.parts)))) }
-    ensures counts { NoneFell (F.faults files.old) (F.faults files.new) }
-    ensures store_counts { NoneFell (F.store_faults files.old) (F.store_faults files.new) }
-    ensures unchanged { SameHeld (F.holds files.old) (F.holds files.new) }
+    ensures answers { AnswersBy (Gives (call (Some (asked ask.now)) (F.told files.old) (F.told files.new)) operands.Second (ForBind (source_of loaded.now.parts))) result }
+    ensures only_read { OnlyRead (F.told files.old) (F.told files.new) }
 {
     let binding = load_binding(alloc, Operand::Second, ask, &loaded.machine, files)?;
     Ok(bind_machine(alloc, &loaded.parts, &loaded.machine, &binding)?)
@@ -86,11 +71,8 @@ fn bind_from<F: Files>(
 
 /// What `bind` answers: a machine with registers for its locals, or the first branch that loses one.
 pub fn bind_files<F: Files>(alloc: Global, ask: &Ask, files: &mut F) -> Result<Answer, Refused>
-    ensures ok { IfOk result (IsCorrectBy (FollowsForParts ForBind) (call (Some (asked ask.now)) (F.holds files.old) (F.faults files.old) (F.faults files.new))) }
-    ensures refused { IfErr result (WhereAnswered (IsCorrectBy (FollowsForParts ForBind) (call (Some (asked ask.now)) (F.holds files.old) (F.faults files.old) (F.faults files.new)))) }
-    ensures counts { NoneFell (F.faults files.old) (F.faults files.new) }
-    ensures store_counts { NoneFell (F.store_faults files.old) (F.store_faults files.new) }
-    ensures unchanged { SameHeld (F.holds files.old) (F.holds files.new) }
+    ensures answers { AnswersBy (IsCorrectBy (FollowsForParts ForBind) (call (Some (asked ask.now)) (F.told files.old) (F.told files.new))) result }
+    ensures only_read { OnlyRead (F.told files.old) (F.told files.new) }
 {
     let loaded = load(alloc, Operand::First, ask, files)?;
     bind_from(alloc, ask, &loaded, files)

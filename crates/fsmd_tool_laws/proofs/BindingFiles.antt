@@ -20,29 +20,27 @@ use Rattle.fs_write.specs.Canonical.{canonical}
 use Rattle.binding_laws.specs.Bindings.{AreRegisters, bound_parts}
 use Rattle.binding_laws.specs.Conflicts.{Conflict, IsTwice, IsFirstConflict, is_before}
 use Rattle.hls_bind.specs.declared.faults.Fault.{Fault}
-use Rattle.hls_bind.specs.Files.{IsJson, GivenBy, Gives, IsFaulty, file_fault, binding_from}
+use Rattle.json_files.proofs.Once.{one_value}
+use Rattle.hls_bind.specs.Files.{GivenBy, Gives, IsFaulty, file_fault, binding_from}
 use Rattle.hls_bind.specs.Results.{IsBoundParts}
 use Rattle.command_answers.specs.declared.answer.Answer.{Answer}
 use Rattle.command_answers.specs.declared.answer.Answer.TheVariants.{Text, Differs}
 use Rattle.synthesis_answers.specs.Bindings.{Binding, conflict_text}
-use Rattle.command_answers.specs.Bindings.{binding_fault, IsNoBinding, HasBindingFault, SpellsBinding, IsOfBinding, IsBound, Loses}
+use Rattle.command_answers.specs.Bindings.{binding_fault, HasBindingFault, SpellsBinding, IsOfBinding, IsBound, Loses}
 use Rattle.fsmd_tool_laws.proofs.Contents.{some_same, some_none}
 use Rattle.fsmd_tool_laws.proofs.Keys.{AreOneThing}
 
 -- ---- files
 
-json_once : (bytes : List ℕ) (d e : Data) → IsJson bytes d → IsJson bytes e → d ≡ e
-json_once bytes d e p q = some_same d e (sym p.value ∙ q.value)
-
 given_once : (vs : List VarInfo) (d : Data) (x y : Binding) → GivenBy vs d x → GivenBy vs d y → x ≡ y
 given_once vs d x y p q = p.binding ∙ ap (binding_from 0 vs) (some_same p.members q.members (sym p.object ∙ q.object)) ∙ sym q.binding
 
 gives_once : (vs : List VarInfo) (bytes : List ℕ) (x y : Binding) → Gives vs bytes x → Gives vs bytes y → x ≡ y
-gives_once vs bytes x y p q = given_once vs q.value x y (subst (λ d. GivenBy vs d x) (json_once bytes p.value q.value p.json q.json) p.given) q.given
+gives_once vs bytes x y p q = given_once vs q.value x y (subst (λ d. GivenBy vs d x) (one_value bytes p.value q.value p.json q.json) p.given) q.given
 
 faulty_once : (vs : List VarInfo) (bytes n k : List ℕ) (f g : Fault) → IsFaulty vs bytes n f → IsFaulty vs bytes k g → Path (List ℕ × Fault) (n, f) (k, g)
 faulty_once vs bytes n k f g p q =
-    let value : p.value ≡ q.value = json_once bytes p.value q.value p.json q.json in
+    let value : p.value ≡ q.value = one_value bytes p.value q.value p.json q.json in
     let first : Path (Option (List ℕ × Fault)) (Some (n, f)) (Some (k, g)) = sym p.first ∙ ap (λ d. file_fault vs (as_object d)) value ∙ q.first in
     some_same (n, f) (k, g) first
 
@@ -50,10 +48,10 @@ faultless : (vs : List VarInfo) (d : Data) (b : Binding) (name : List ℕ) (f : 
 faultless vs d b name f p e = some_none (name, f) (file_fault vs (as_object d)) e (ap (file_fault vs) p.object ∙ p.faultless)
 
 given_or_faulty : (vs : List VarInfo) (bytes : List ℕ) (b : Binding) (name : List ℕ) (f : Fault) → Gives vs bytes b → IsFaulty vs bytes name f → ⊥
-given_or_faulty vs bytes b name f p q = faultless vs q.value b name f (subst (λ d. GivenBy vs d b) (json_once bytes p.value q.value p.json q.json) p.given) q.first
+given_or_faulty vs bytes b name f p q = faultless vs q.value b name f (subst (λ d. GivenBy vs d b) (one_value bytes p.value q.value p.json q.json) p.given) q.first
 
 -- bytes are one thing as a binding of a machine
-pub bindings_are_one : (m : Fsmd) → AreOneThing Binding (IsNoBinding m) (HasBindingFault m) (SpellsBinding m)
+pub bindings_are_one : (m : Fsmd) → AreOneThing Binding (HasBindingFault m) (SpellsBinding m)
 bindings_are_one m = record {
   few_without = λ b p. p.few;
   few_faulty = λ b f k p. p.few;

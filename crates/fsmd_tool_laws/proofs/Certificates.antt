@@ -7,7 +7,9 @@ use Rattle.fs_pair.specs.Positions.{positions}
 use Rattle.bisimulation.specs.Tables.{Node}
 use Rattle.sym_facts.specs.Facts.{Fact}
 use Rattle.term_values.specs.Names.{Find}
-use Rattle.cert_json.specs.Refusals.{IsJson, HasOtherShape, HasTooMany}
+use Rattle.json_files.specs.Json.{IsJson, IsNotJson}
+use Rattle.json_files.proofs.Once.{one_value}
+use Rattle.cert_json.specs.Refusals.{HasOtherShape, HasTooMany}
 use Rattle.cert_json.specs.Shape.{is_file, has_too_many}
 use Rattle.cert_writer.specs.Limits.{most_certificate_bytes}
 use Rattle.cert_text.specs.declared.faults.CertError.{CertError}
@@ -40,7 +42,7 @@ pub record ReadInOneWay : Type 0 where
 
 -- on which ground bytes are refused
 data Ground (a b : Fsmd) (bytes : List ℕ) (e : CertError) : Type 0 where
-  OfText : ((d : Data) → ¬ IsJson bytes d) → e ≡ NotJson → Ground a b bytes e
+  OfText : IsNotJson bytes → e ≡ NotJson → Ground a b bytes e
   OfShape : HasOtherShape bytes → e ≡ Shape → Ground a b bytes e
   OfCount : HasTooMany bytes → e ≡ TooMany → Ground a b bytes e
   OfNodes : BreaksFirst a b bytes e → Ground a b bytes e
@@ -59,9 +61,6 @@ ground a b bytes (TwiceNode i) told g = OfNodes g
 ground a b bytes (NumberTooBig i) told g = OfNodes g
 ground a b bytes (BadTerm i) told g = OfNodes g
 ground a b bytes (NotNormal i) told g = OfNodes g
-
-one_value : (bytes : List ℕ) (d e : Data) → IsJson bytes d → IsJson bytes e → d ≡ e
-one_value bytes d e p q = some_same d e (sym p.value ∙ q.value)
 
 shaped : (bytes : List ℕ) (d : Data) → HasOtherShape bytes → IsJson bytes d → is_file d ≡ true → ⊥
 shaped bytes d p q e = let f : is_file p.value ≡ true = ap is_file (one_value bytes p.value d p.json q) ∙ e in let g : true ≡ false = sym f ∙ p.shape in cc

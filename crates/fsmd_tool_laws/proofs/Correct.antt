@@ -22,11 +22,11 @@ use Rattle.command_answers.specs.Paths.{HasPaths}
 use Rattle.command_answers.specs.Readings.{Content, Unopened, Readable, Unreadable, OfBytes, Reading, content_of}
 use Rattle.command_answers.specs.Refusals.{RefusesMachine, SpellsCertificate}
 use Rattle.command_answers.specs.Keys.{FollowsFromKeys}
-use Rattle.command_answers.specs.InputFiles.{IsNotJson, HasInputFault, SpellsInputs, FollowsFromInputs}
+use Rattle.command_answers.specs.InputFiles.{HasInputFault, SpellsInputs, FollowsFromInputs}
 use Rattle.command_answers.specs.Programs.{RefusesProgram, HasCompiledText}
-use Rattle.command_answers.specs.Schedules.{AreNoUnits, HaveUnitFault, SpellUnits, IsOfSchedule, ForSchedule}
+use Rattle.command_answers.specs.Schedules.{HaveUnitFault, SpellUnits, IsOfSchedule, ForSchedule}
 use Rattle.synthesis_answers.specs.Bindings.{Binding}
-use Rattle.command_answers.specs.Bindings.{IsNoBinding, HasBindingFault, SpellsBinding, IsOfBinding, ForBind}
+use Rattle.command_answers.specs.Bindings.{HasBindingFault, SpellsBinding, IsOfBinding, ForBind}
 use Rattle.command_answers.specs.Pairs.{IsOfPair, IsOfLoops}
 use Rattle.command_answers.specs.Verdicts.{IsJudged, answer_to}
 use Rattle.command_answers.specs.Runs.{IsOfRun}
@@ -143,13 +143,13 @@ pub loops_answered : (g : Call) (x : Answer) (loops : ℕ) → g.asked ≡ Some 
 loops_answered g x loops e p = let f : Follows (Some (Generate loops)) p.reading x = subst (λ o. Follows o p.reading x) e p.follows in f.says
 
 -- what follows for a file of keys that is known
-keys_answered : (T : Type 0) (N : List ℕ → Type 0) (F : KeyFault → (key bytes : List ℕ) → Type 0) (S : T → List ℕ → Type 0) → AreOneThing T N F S → (P : T → Answer → Type 0) (file : Operand) (c d : Content) (v : T) (x : Answer) → Same c d → OfBytes d (S v)
-    → FollowsFromKeys T N F S P file c x → P v x
-keys_answered T N F S o P file c d v x e i f =
-    spelled_answered T N F S o P file d v x i (subst (λ k. FollowsFromKeys T N F S P file k x) (e (follows_opened T N F S P file c x f) (bytes_opened d (S v) i)) f)
+keys_answered : (T : Type 0) (F : KeyFault → (key bytes : List ℕ) → Type 0) (S : T → List ℕ → Type 0) → AreOneThing T F S → (P : T → Answer → Type 0) (file : Operand) (c d : Content) (v : T) (x : Answer) → Same c d → OfBytes d (S v)
+    → FollowsFromKeys T F S P file c x → P v x
+keys_answered T F S o P file c d v x e i f =
+    spelled_answered T F S o P file d v x i (subst (λ k. FollowsFromKeys T F S P file k x) (e (follows_opened T F S P file c x f) (bytes_opened d (S v) i)) f)
 
 inputs_answered : (P : Inputs → Answer → Type 0) (m : Fsmd) (file : Operand) (c d : Content) (ins : Inputs) (x : Answer) → Same c d → OfBytes d (SpellsInputs m ins) → FollowsFromInputs P m file c x → P ins x
-inputs_answered P m file c d ins x e i f = keys_answered Inputs (IsNotJson m) (HasInputFault m) (SpellsInputs m) (inputs_are_one m) P file c d ins x e i f
+inputs_answered P m file c d ins x e i f = keys_answered Inputs (HasInputFault m) (SpellsInputs m) (inputs_are_one m) P file c d ins x e i f
 
 run_follows : (limit : ℕ) (r s : Reading) (m : Fsmd) (ins : Inputs) (x : Answer) → Same r.first s.first → Same r.second s.second → OfBytes s.first (SpellsMachine m) → OfBytes s.second (SpellsInputs m ins) → FollowsForRun limit r x → IsOfRun limit m ins x
 run_follows limit r s m ins x e f h i (MachineRefused p o) = absurd (machine_not_refused First s.first r.first m x (same_back r.first s.first e) h p)
@@ -198,7 +198,7 @@ pub schedule_answered : (g : Call) (x : Answer) (machine counts : List ℕ) (par
     → IsOfSchedule parts units x
 schedule_answered g x machine counts parts units e k u p =
     let f : Follows (Some (Schedule machine counts)) p.reading x = subst (λ o. Follows o p.reading x) e p.follows in
-    keys_answered Units AreNoUnits HaveUnitFault SpellUnits units_are_one (IsOfSchedule parts) Second p.reading.second (Readable u.bytes) units x (known_read g p.reading Second (SpellUnits units) u p.may_be_read) u.meet
+    keys_answered Units HaveUnitFault SpellUnits units_are_one (IsOfSchedule parts) Second p.reading.second (Readable u.bytes) units x (known_read g p.reading Second (SpellUnits units) u p.may_be_read) u.meet
     (parts_answered ForSchedule g parts k p.reading x p.may_be_read f)
 
 pub bind_answered : (g : Call) (x : Answer) (machine registers : List ℕ) (parts : Source) (b : Binding) → g.asked ≡ Some (Bind machine registers) → IsKnown g First (SpellsParts parts) → IsKnown g Second (SpellsBinding (machine_of parts) b) → IsCorrectAnswer g x
@@ -206,7 +206,7 @@ pub bind_answered : (g : Call) (x : Answer) (machine registers : List ℕ) (part
 bind_answered g x machine registers parts b e k u p =
     let f : Follows (Some (Bind machine registers)) p.reading x = subst (λ o. Follows o p.reading x) e p.follows in
     let m = machine_of parts in
-    keys_answered Binding (IsNoBinding m) (HasBindingFault m) (SpellsBinding m) (bindings_are_one m) (IsOfBinding parts) Second p.reading.second (Readable u.bytes) b x (known_read g p.reading Second (SpellsBinding m b) u p.may_be_read) u.meet
+    keys_answered Binding (HasBindingFault m) (SpellsBinding m) (bindings_are_one m) (IsOfBinding parts) Second p.reading.second (Readable u.bytes) b x (known_read g p.reading Second (SpellsBinding m b) u p.may_be_read) u.meet
     (parts_answered ForBind g parts k p.reading x p.may_be_read f)
 
 -- ---- certificates of closed searches

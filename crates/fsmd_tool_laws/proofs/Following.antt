@@ -21,11 +21,11 @@ use Rattle.command_answers.specs.Readings.{Content, Unopened, Readable, Unreadab
 use Rattle.command_answers.specs.Refusals.{ArePair, RefusesMachine, RefusesPair, FirstRefused, SecondRefused, InterfacesDiffer}
 use Rattle.command_answers.specs.Pairs.{left_of, right_of}
 use Rattle.command_answers.specs.Keys.{FollowsFromKeys}
-use Rattle.command_answers.specs.InputFiles.{IsNotJson, HasInputFault, SpellsInputs, FollowsFromInputs}
+use Rattle.command_answers.specs.InputFiles.{HasInputFault, SpellsInputs, FollowsFromInputs}
 use Rattle.command_answers.specs.Programs.{RefusesProgram, HasCompiledText}
-use Rattle.command_answers.specs.Schedules.{AreNoUnits, HaveUnitFault, SpellUnits, IsOfSchedule, ForSchedule}
+use Rattle.command_answers.specs.Schedules.{HaveUnitFault, SpellUnits, IsOfSchedule, ForSchedule}
 use Rattle.synthesis_answers.specs.Bindings.{Binding}
-use Rattle.command_answers.specs.Bindings.{IsNoBinding, HasBindingFault, SpellsBinding, IsOfBinding, ForBind}
+use Rattle.command_answers.specs.Bindings.{HasBindingFault, SpellsBinding, IsOfBinding, ForBind}
 use Rattle.command_answers.specs.Runs.{IsOfRun}
 use Rattle.command_answers.specs.Replays.{IsOfReplay}
 use Rattle.command_answers.specs.Follows.{FollowsForText, TextRefused, Listed, FollowsForParts, PartsRefused, PartsSpelled, FollowsFromCertificate, FollowsForRun, MachineRefused, Ran, FollowsForPair, PairRefused, Answered, ForCheck, ForVerify, ForReplay, Follows}
@@ -159,14 +159,14 @@ text_once R P o r s x y e (Listed l k) (Listed n u) =
     l.is ∙ ap Text same ∙ sym n.is
 
 -- what follows from files of keys that are the same
-pub keys_once : (T : Type 0) (N : List ℕ → Type 0) (F : KeyFault → (key bytes : List ℕ) → Type 0) (S : T → List ℕ → Type 0) → AreOneThing T N F S → (P : T → Answer → Type 0) → ((v : T) (x y : Answer) → P v x → P v y → x ≡ y) → (file : Operand) (c d : Content) (x y : Answer)
-    → Same c d → FollowsFromKeys T N F S P file c x → FollowsFromKeys T N F S P file d y → x ≡ y
-keys_once T N F S o P once file c d x y e p q =
-    follows_once T N F S o P once file d x y (subst (λ k. FollowsFromKeys T N F S P file k x) (e (follows_opened T N F S P file c x p) (follows_opened T N F S P file d y q)) p) q
+pub keys_once : (T : Type 0) (F : KeyFault → (key bytes : List ℕ) → Type 0) (S : T → List ℕ → Type 0) → AreOneThing T F S → (P : T → Answer → Type 0) → ((v : T) (x y : Answer) → P v x → P v y → x ≡ y) → (file : Operand) (c d : Content) (x y : Answer)
+    → Same c d → FollowsFromKeys T F S P file c x → FollowsFromKeys T F S P file d y → x ≡ y
+keys_once T F S o P once file c d x y e p q =
+    follows_once T F S o P once file d x y (subst (λ k. FollowsFromKeys T F S P file k x) (e (follows_opened T F S P file c x p) (follows_opened T F S P file d y q)) p) q
 
 inputs_once : (P : Inputs → Answer → Type 0) → ((ins : Inputs) (x y : Answer) → P ins x → P ins y → x ≡ y) → (m : Fsmd) (file : Operand) (c d : Content) (x y : Answer) → Same c d
     → FollowsFromInputs P m file c x → FollowsFromInputs P m file d y → x ≡ y
-inputs_once P once m file c d x y e p q = keys_once Inputs (IsNotJson m) (HasInputFault m) (SpellsInputs m) (inputs_are_one m) P once file c d x y e p q
+inputs_once P once m file c d x y e p q = keys_once Inputs (HasInputFault m) (SpellsInputs m) (inputs_are_one m) P once file c d x y e p q
 
 pub parts_same : (c d : Content) (p q : Source) → Same c d → OfBytes c (SpellsParts p) → OfBytes d (SpellsParts q) → p ≡ q
 parts_same c d p q e h k =
@@ -192,12 +192,12 @@ parts_follow P once r s x y e f (PartsSpelled k h p o) (PartsSpelled l i q u) =
     once l r.second s.second x y f (subst (λ z. P z r.second x) same p) q
 
 schedules_once : (p : Source) (c d : Content) (x y : Answer) → Same c d → ForSchedule p c x → ForSchedule p d y → x ≡ y
-schedules_once p c d x y e h k = keys_once Units AreNoUnits HaveUnitFault SpellUnits units_are_one (IsOfSchedule p) (schedule_once p) Second c d x y e h k
+schedules_once p c d x y e h k = keys_once Units HaveUnitFault SpellUnits units_are_one (IsOfSchedule p) (schedule_once p) Second c d x y e h k
 
 bindings_once : (p : Source) (c d : Content) (x y : Answer) → Same c d → ForBind p c x → ForBind p d y → x ≡ y
 bindings_once p c d x y e h k =
     let m = machine_of p in
-    keys_once Binding (IsNoBinding m) (HasBindingFault m) (SpellsBinding m) (bindings_are_one m) (IsOfBinding p) (binding_once p) Second c d x y e h k
+    keys_once Binding (HasBindingFault m) (SpellsBinding m) (bindings_are_one m) (IsOfBinding p) (binding_once p) Second c d x y e h k
 
 run_once : (limit : ℕ) (r s : Reading) (x y : Answer) → Same r.first s.first → Same r.second s.second → FollowsForRun limit r x → FollowsForRun limit s y → x ≡ y
 run_once limit r s x y e f (MachineRefused p o) (MachineRefused q u) = refused_same First r.first s.first x y e p q

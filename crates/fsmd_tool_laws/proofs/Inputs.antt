@@ -5,25 +5,23 @@ use Rattle.fs_model.specs.Runs.{Inputs}
 use Rattle.fs_runs.specs.InputValues.{Signature}
 use Rattle.fs_inputs.specs.declared.faults.Fault.{Fault}
 use Rattle.fs_inputs.specs.Files.{file_fault, inputs_in}
-use Rattle.fs_inputs.specs.Refusals.{IsJson, IsFaulty, SpelledBy, Spells}
+use Rattle.json_files.proofs.Once.{one_value}
+use Rattle.fs_inputs.specs.Refusals.{IsFaulty, SpelledBy, Spells}
 use Rattle.serde_json.specs.Data.{Data}
 use Rattle.serde_json.specs.Find.{as_object}
-use Rattle.command_answers.specs.InputFiles.{signatures, input_fault, IsNotJson, HasInputFault, SpellsInputs}
+use Rattle.command_answers.specs.InputFiles.{signatures, input_fault, HasInputFault, SpellsInputs}
 use Rattle.fsmd_tool_laws.proofs.Contents.{some_same, some_none}
 use Rattle.fsmd_tool_laws.proofs.Keys.{AreOneThing}
-
-json_once : (bytes : List ℕ) (d e : Data) → IsJson bytes d → IsJson bytes e → d ≡ e
-json_once bytes d e p q = some_same d e (sym p.value ∙ q.value)
 
 spelled_once : (fs : List Signature) (d : Data) (x y : Inputs) → SpelledBy fs d x → SpelledBy fs d y → x ≡ y
 spelled_once fs d x y p q = p.inputs ∙ ap inputs_in (some_same p.members q.members (sym p.object ∙ q.object)) ∙ sym q.inputs
 
 inputs_once : (fs : List Signature) (bytes : List ℕ) (x y : Inputs) → Spells fs bytes x → Spells fs bytes y → x ≡ y
-inputs_once fs bytes x y p q = spelled_once fs q.value x y (subst (λ d. SpelledBy fs d x) (json_once bytes p.value q.value p.json q.json) p.spelled) q.spelled
+inputs_once fs bytes x y p q = spelled_once fs q.value x y (subst (λ d. SpelledBy fs d x) (one_value bytes p.value q.value p.json q.json) p.spelled) q.spelled
 
 faulty_once : (fs : List Signature) (bytes n k : List ℕ) (f g : Fault) → IsFaulty fs bytes n f → IsFaulty fs bytes k g → Path (List ℕ × Fault) (n, f) (k, g)
 faulty_once fs bytes n k f g p q =
-    let value : p.value ≡ q.value = json_once bytes p.value q.value p.json q.json in
+    let value : p.value ≡ q.value = one_value bytes p.value q.value p.json q.json in
     let first : Path (Option (List ℕ × Fault)) (Some (n, f)) (Some (k, g)) = sym p.first ∙ ap (λ d. file_fault fs (as_object d)) value ∙ q.first in
     some_same (n, f) (k, g) first
 
@@ -31,10 +29,10 @@ faultless : (fs : List Signature) (d : Data) (ins : Inputs) (name : List ℕ) (f
 faultless fs d ins name f p e = some_none (name, f) (file_fault fs (as_object d)) e (ap (file_fault fs) p.object ∙ p.faultless)
 
 spelled_or_faulty : (fs : List Signature) (bytes : List ℕ) (ins : Inputs) (name : List ℕ) (f : Fault) → Spells fs bytes ins → IsFaulty fs bytes name f → ⊥
-spelled_or_faulty fs bytes ins name f p q = faultless fs q.value ins name f (subst (λ d. SpelledBy fs d ins) (json_once bytes p.value q.value p.json q.json) p.spelled) q.first
+spelled_or_faulty fs bytes ins name f p q = faultless fs q.value ins name f (subst (λ d. SpelledBy fs d ins) (one_value bytes p.value q.value p.json q.json) p.spelled) q.first
 
 -- bytes are one thing as inputs of a machine
-pub inputs_are_one : (m : Fsmd) → AreOneThing Inputs (IsNotJson m) (HasInputFault m) (SpellsInputs m)
+pub inputs_are_one : (m : Fsmd) → AreOneThing Inputs (HasInputFault m) (SpellsInputs m)
 inputs_are_one m = record {
   few_without = λ b p. p.few;
   few_faulty = λ b f k p. p.few;

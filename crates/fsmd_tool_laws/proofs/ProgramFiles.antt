@@ -7,6 +7,7 @@ use Rattle.fs_rules.specs.Rules.{IsLawful, IsFirstBroken}
 use Rattle.fs_write.specs.Canonical.{canonical}
 use Rattle.program_laws.specs.Compiled.{parts_of}
 use Rattle.program_grammar.proofs.Texts.{one_program, one_fault, not_both}
+use Rattle.synthesis_answers.proofs.Compiled.{parts_lawful}
 use Rattle.command_answers.specs.declared.answer.Operand.{Operand}
 use Rattle.command_answers.specs.declared.answer.Answer.{Answer}
 use Rattle.command_answers.specs.declared.answer.Answer.TheVariants.{TextRefused, CheckRefused}
@@ -33,7 +34,7 @@ compiled_or_text : (bytes t : List ℕ) (f : TextFault) → HasCompiledText t by
 compiled_or_text bytes t f p q = not_both bytes p.program f p.spells.spells q.stops
 
 compiled_or_rule : (bytes t : List ℕ) (f : CheckFault) → HasCompiledText t bytes → BreaksRule f bytes → ⊥
-compiled_or_rule bytes t f p q = lawful_unbroken (parts_of q.program) f (subst (λ k. IsLawful (parts_of k)) (one_program bytes p.program q.program p.spells.spells q.spells) p.compiled.lawful) q.broken
+compiled_or_rule bytes t f p q = lawful_unbroken (parts_of q.program) f (subst (λ k. IsLawful (parts_of k)) (one_program bytes p.program q.program p.spells.spells q.spells) (parts_lawful p.program t p.compiled)) q.broken
 
 pub program_opened : (file : Operand) (c : Content) (x : Answer) → RefusesProgram file c x → IsOpened c
 program_opened file c x (UnreadProgram u) = unread_opened most_text_bytes file c x u

@@ -8,24 +8,22 @@ use Rattle.fs_ast.specs.Stored.{name_of}
 use Rattle.unit_counts.specs.declared.units.Unit.{Unit as Kind}
 use Rattle.unit_counts.specs.declared.faults.Fault.{Fault}
 use Rattle.unit_counts.specs.Counts.{Units, first_fault, file_fault, counts_in}
-use Rattle.unit_counts.specs.Refusals.{IsJson, SpelledBy, Spells, IsFaulty}
+use Rattle.json_files.proofs.Once.{one_value}
+use Rattle.unit_counts.specs.Refusals.{SpelledBy, Spells, IsFaulty}
 use Rattle.unit_limits.specs.Over.{over_in}
 use Rattle.command_answers.specs.declared.answer.Operand.TheVariants.{Second}
 use Rattle.command_answers.specs.declared.answer.Answer.{Answer}
 use Rattle.command_answers.specs.declared.answer.Answer.TheVariants.{Text, Over}
-use Rattle.command_answers.specs.Schedules.{unit_fault, AreNoUnits, HaveUnitFault, SpellUnits, IsOfSchedule, IsOver, InRows}
+use Rattle.command_answers.specs.Schedules.{unit_fault, HaveUnitFault, SpellUnits, IsOfSchedule, IsOver, InRows}
 use Rattle.fsmd_tool_laws.proofs.Contents.{some_same, some_none}
 use Rattle.fsmd_tool_laws.proofs.Keys.{AreOneThing}
 
-json_once : (bytes : List ℕ) (d e : Data) → IsJson bytes d → IsJson bytes e → d ≡ e
-json_once bytes d e p q = some_same d e (sym p.value ∙ q.value)
-
 units_once : (bytes : List ℕ) (u v : Units) → Spells bytes u → Spells bytes v → u ≡ v
-units_once bytes u v p q = p.spelled.counts ∙ ap counts_in (json_once bytes p.value q.value p.json q.json) ∙ sym q.spelled.counts
+units_once bytes u v p q = p.spelled.counts ∙ ap counts_in (one_value bytes p.value q.value p.json q.json) ∙ sym q.spelled.counts
 
 faulty_once : (bytes k j : List ℕ) (f g : Fault) → IsFaulty bytes k f → IsFaulty bytes j g → Path (List ℕ × Fault) (k, f) (j, g)
 faulty_once bytes k j f g p q =
-    let value : p.value ≡ q.value = json_once bytes p.value q.value p.json q.json in
+    let value : p.value ≡ q.value = one_value bytes p.value q.value p.json q.json in
     let first : Path (Option (List ℕ × Fault)) (Some (k, f)) (Some (j, g)) = sym p.first ∙ ap (λ d. file_fault (as_object d)) value ∙ q.first in
     some_same (k, f) (j, g) first
 
@@ -33,10 +31,10 @@ faultless : (d : Data) (units : Units) (key : List ℕ) (f : Fault) → SpelledB
 faultless d units key f p e = some_none (key, f) (file_fault (as_object d)) e (ap file_fault p.object ∙ p.faultless)
 
 spelled_or_faulty : (bytes : List ℕ) (units : Units) (key : List ℕ) (f : Fault) → Spells bytes units → IsFaulty bytes key f → ⊥
-spelled_or_faulty bytes units key f p q = faultless q.value units key f (subst (λ d. SpelledBy d units) (json_once bytes p.value q.value p.json q.json) p.spelled) q.first
+spelled_or_faulty bytes units key f p q = faultless q.value units key f (subst (λ d. SpelledBy d units) (one_value bytes p.value q.value p.json q.json) p.spelled) q.first
 
 -- bytes are one thing as unit counts
-pub units_are_one : AreOneThing Units AreNoUnits HaveUnitFault SpellUnits
+pub units_are_one : AreOneThing Units HaveUnitFault SpellUnits
 units_are_one = record {
   few_without = λ b p. p.few;
   few_faulty = λ b f k p. p.few;

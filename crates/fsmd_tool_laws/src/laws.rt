@@ -40,12 +40,11 @@ ghost use Rattle.command_answers.specs.Replays.{IsOfReplay};
 ghost use Rattle.command_answers.specs.Follows.{Follows};
 ghost use Rattle.fsmd_tool.specs.Calls.{Call};
 ghost use Rattle.fsmd_tool.specs.Puts.{Put};
-ghost use Rattle.fsmd_tool.specs.Stores.{Stores};
 ghost use Rattle.fsmd_tool.specs.Correct.{IsCorrectAnswer, Outcome};
 ghost use Rattle.fsmd_tool_laws.specs.Agreement.{Agree};
 ghost use Rattle.fsmd_tool_laws.specs.Settled.{AreSettled, IsKnown, SpellPair, AreSettledUpToRefused};
 ghost use Rattle.fsmd_tool_laws.specs.Cycles.{AreOne, SaySame};
-ghost use Rattle.fsmd_tool_laws.specs.Outcomes.{NothingFailed, is_of_comparison};
+ghost use Rattle.fsmd_tool_laws.specs.Outcomes.{NothingFailed, is_of_comparison, EndsBy};
 
 use cert_text::laws::{certificates_are_read_in_one_way, texts_are_read};
 use search_laws::laws::{
@@ -145,12 +144,31 @@ pub fn machines_are_answered()
     texts_are_read();
 }
 
+/// Machines that are spelled get their answers: where neither the sink nor the store of the certificate failed, a call ends with
+/// an answer of theirs, as `machines_are_answered` says it, whose reply was put whole and whose status is the call's, or there was
+/// no memory.
+pub fn machines_get_their_answers()
+    ensures check { (g : Call) (p : Put) (a b : Fsmd) → is_check g.asked ≡ true → SpellPair g a b → NothingFailed g p → Outcome g p → EndsBy (IsOfPair (step_limit g.asked) (is_some (cert_of g.asked)) a b) g p }
+    ensures verify { (g : Call) (p : Put) (a b : Fsmd) (nodes : List (Node Fact)) → is_verify g.asked ≡ true → SpellPair g a b → IsKnown g Third (SpellsCertificate a b nodes) → NothingFailed g p → Outcome g p → EndsBy (IsJudged a b nodes) g p }
+    ensures generate { (g : Call) (p : Put) (loops : ℕ) → g.asked ≡ Some (Generate loops) → NothingFailed g p → Outcome g p → EndsBy (IsOfLoops loops) g p }
+    ensures run { (g : Call) (p : Put) (machine inputs : List ℕ) (steps : ℕ) (m : Fsmd) (ins : Inputs) → g.asked ≡ Some (Run machine inputs steps) → IsKnown g First (SpellsMachine m) → IsKnown g Second (SpellsInputs m ins) → NothingFailed g p → Outcome g p → EndsBy (IsOfRun steps m ins) g p }
+    ensures replay { (g : Call) (p : Put) (left right inputs : List ℕ) (steps : ℕ) (a b : Fsmd) (ins : Inputs) → g.asked ≡ Some (Replay left right inputs steps) → SpellPair g a b → IsKnown g Third (SpellsInputs a ins) → NothingFailed g p → Outcome g p → EndsBy (IsOfReplay steps a b ins) g p }
+    ensures fmt { (g : Call) (p : Put) (machine text : List ℕ) → g.asked ≡ Some (Fmt machine) → IsKnown g First (HasCanonicalText text) → NothingFailed g p → Outcome g p → EndsBy (λ x. x ≡ Text text) g p }
+    ensures cuts { (g : Call) (p : Put) (machine text : List ℕ) → g.asked ≡ Some (Cuts machine) → IsKnown g First (HasPaths text) → NothingFailed g p → Outcome g p → EndsBy (λ x. x ≡ Text text) g p }
+    ensures compile { (g : Call) (p : Put) (program text : List ℕ) → g.asked ≡ Some (Compile program) → IsKnown g First (HasCompiledText text) → NothingFailed g p → Outcome g p → EndsBy (λ x. x ≡ Text text) g p }
+    ensures schedule { (g : Call) (p : Put) (machine counts : List ℕ) (parts : Source) (units : Units) → g.asked ≡ Some (Schedule machine counts) → IsKnown g First (SpellsParts parts) → IsKnown g Second (SpellUnits units) → NothingFailed g p → Outcome g p → EndsBy (IsOfSchedule parts units) g p }
+    ensures bind { (g : Call) (p : Put) (machine registers : List ℕ) (parts : Source) (b : Binding) → g.asked ≡ Some (Bind machine registers) → IsKnown g First (SpellsParts parts) → IsKnown g Second (SpellsBinding (machine_of parts) b) → NothingFailed g p → Outcome g p → EndsBy (IsOfBinding parts b) g p }
+{
+    certificates_are_read_in_one_way();
+    texts_are_read();
+}
+
 /// A comparison ends with what the machines get, as `Fine`, `Differ` or `Undecided`, or with `NoMemory`, where neither the
 /// sink nor the store of the certificate failed: of machines that files spell and that have the same inputs and outputs,
 /// and of generated ones.
 pub fn comparisons_end_with_what_machines_get()
-    ensures check { (g : Call) (s : Stores) (p : Put) (a b : Fsmd) → is_check g.asked ≡ true → SpellPair g a b → NothingFailed g s p → Outcome g s p → IsTrue (is_of_comparison p.status) }
-    ensures generate { (g : Call) (s : Stores) (p : Put) (loops : ℕ) → g.asked ≡ Some (Generate loops) → NothingFailed g s p → Outcome g s p → IsTrue (is_of_comparison p.status) }
+    ensures check { (g : Call) (p : Put) (a b : Fsmd) → is_check g.asked ≡ true → SpellPair g a b → NothingFailed g p → Outcome g p → IsTrue (is_of_comparison p.status) }
+    ensures generate { (g : Call) (p : Put) (loops : ℕ) → g.asked ≡ Some (Generate loops) → NothingFailed g p → Outcome g p → IsTrue (is_of_comparison p.status) }
 {}
 
 /// A certificate of a closed search passes: where a file spells its nodes, and two others its machines, the answer is yes.

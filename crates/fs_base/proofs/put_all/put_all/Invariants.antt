@@ -5,9 +5,9 @@ use Rattle.fs_base.proofs.put_all.put_all.Given as goal
 abbrev pub invariant-loop-sent : goal.invariant-loop-sent
 invariant-loop-sent g l = record {
   within : l.sent ≤ length l.bytes;
-  got : g.S.Sink.got l.sink ≡ appended (g.S.Sink.got l.initial.sink) (take l.sent l.bytes);
-  spare : g.S.Sink.spare l.sink ≡ lowered (g.S.Sink.spare l.initial.sink) l.sent;
-  counts : g.S.Sink.faults l.initial.sink ≤ g.S.Sink.faults l.sink;
+  got : (g.S.Sink.told l.sink).got ≡ appended (g.S.Sink.told l.initial.sink).got (take l.sent l.bytes);
+  spare : (g.S.Sink.told l.sink).spare ≡ lowered (g.S.Sink.told l.initial.sink).spare l.sent;
+  counts : (g.S.Sink.told l.initial.sink).faults ≤ (g.S.Sink.told l.sink).faults;
 }
 
 abbrev pub decreases-loop-sent : goal.decreases-loop-sent

@@ -11,13 +11,13 @@ use Rattle.command_answers.specs.Follows.{ForReplay}
 use Rattle.fsmd_tool.proofs.FromFiles.{inputs_refused, inputs_spelled}
 use Rattle.fsmd_tool.proofs.answers.replay_from.Goals as goal
 
-pub returns-in_err-inputs-clause-refused : goal.returns-in_err-inputs-clause-refused
-returns-in_err-inputs-clause-refused g c =
-    let h : WhereAnswered (Gives (call (Some (asked c.args.ask.now)) (g.F.Files.holds c.args.files.now) (g.F.Files.faults c.args.files.now) (g.F.Files.faults c.load_inputs.new.files)) Third (ForReplay c.args.steps c.args.left.now c.args.right.now)) c.in_err-inputs.field-0.0 = inputs_refused (IsOfReplay c.args.steps c.args.left.now c.args.right.now) c.args.left.now Third _ _ _ c.in_err-inputs.ensures.refused in
+pub returns-in_err-inputs-clause-answers : goal.returns-in_err-inputs-clause-answers
+returns-in_err-inputs-clause-answers g c =
+    let h : WhereAnswered (Gives (call (Some (asked c.args.ask.now)) (g.F.Files.told c.args.files.now) (g.F.Files.told c.load_inputs.new.files)) Third (ForReplay c.args.steps c.args.left.now c.args.right.now)) c.in_err-inputs.field-0.0 = inputs_refused (IsOfReplay c.args.steps c.args.left.now c.args.right.now) c.args.left.now Third _ _ _ c.in_err-inputs.ensures.refused in
     search rules
 
-pub returns-clause-ok : goal.returns-clause-ok
-returns-clause-ok g c = inputs_spelled (IsOfReplay c.args.steps c.args.left.now c.args.right.now) c.args.left.now Third _ _ (inputs_of c.in_ok-inputs.inputs) c.in_ok-replay_machines.field-0 c.in_ok-inputs.ensures.spells c.in_ok-replay_machines.ensures
+pub returns-clause-answers : goal.returns-clause-answers
+returns-clause-answers g c = inputs_spelled (IsOfReplay c.args.steps c.args.left.now c.args.right.now) c.args.left.now Third _ _ (inputs_of c.in_ok-inputs.inputs) c.in_ok-replay_machines.field-0 c.in_ok-inputs.ensures.spells c.in_ok-replay_machines.ensures
 
 pub replay_machines-requires-clause-right_inputs : goal.replay_machines-requires-clause-right_inputs
 replay_machines-requires-clause-right_inputs g c = serves_both c.args.left.now c.args.right.now _ c.requires.alike c.in_ok-inputs.ensures.signatures

@@ -7,28 +7,28 @@ use Rattle.fsmd_tool.proofs.Causes.{has_cause}
 use Rattle.fsmd_tool.proofs.drive.drive.Goals as goal
 
 pub returns-in-Ok-clause-equivalent : goal.returns-in-Ok-clause-equivalent
-returns-in-Ok-clause-equivalent g c = says_same _ _ _ c.in-Ok.ensures.answered
+returns-in-Ok-clause-equivalent g c = says_same _ _ c.in-Ok.ensures.answered
 
 pub returns-in-Ok-clause-differ : goal.returns-in-Ok-clause-differ
-returns-in-Ok-clause-differ g c = says_differ _ _ _ c.in-Ok.ensures.answered
+returns-in-Ok-clause-differ g c = says_differ _ _ c.in-Ok.ensures.answered
 
 pub returns-in-Ok-clause-undecided : goal.returns-in-Ok-clause-undecided
-returns-in-Ok-clause-undecided g c = says_undecided _ _ _ c.in-Ok.ensures.answered
+returns-in-Ok-clause-undecided g c = says_undecided _ _ c.in-Ok.ensures.answered
 
 pub returns-in-Ok-clause-checked : goal.returns-in-Ok-clause-checked
-returns-in-Ok-clause-checked g c = is_checked _ _ _ c.in-Ok.ensures.answered
+returns-in-Ok-clause-checked g c = is_checked _ _ c.in-Ok.ensures.answered
 
 pub returns-in-Ok-clause-compiled : goal.returns-in-Ok-clause-compiled
-returns-in-Ok-clause-compiled g c = is_compiled _ _ _ c.in-Ok.ensures.answered
+returns-in-Ok-clause-compiled g c = is_compiled _ _ c.in-Ok.ensures.answered
 
 pub returns-in-Ok-clause-in_rows : goal.returns-in-Ok-clause-in_rows
-returns-in-Ok-clause-in_rows g c = is_in_rows _ _ _ c.in-Ok.ensures.answered
+returns-in-Ok-clause-in_rows g c = is_in_rows _ _ c.in-Ok.ensures.answered
 
 pub returns-in-Ok-clause-in_registers : goal.returns-in-Ok-clause-in_registers
-returns-in-Ok-clause-in_registers g c = is_in_registers _ _ _ c.in-Ok.ensures.answered
+returns-in-Ok-clause-in_registers g c = is_in_registers _ _ c.in-Ok.ensures.answered
 
 pub returns-in-Ok-clause-fault : goal.returns-in-Ok-clause-fault
-returns-in-Ok-clause-fault g c = has_cause _ _ _ c.in-Ok.ensures.answered
+returns-in-Ok-clause-fault g c = has_cause _ _ c.in-Ok.ensures.answered
 
 pub returns-in-Err-clause-outcome : goal.returns-in-Err-clause-outcome
 returns-in-Err-clause-outcome g c = Starves (record { status = refl; got = c.in-Err.ensures.err; files = c.in-Err.ensures.unwritten })
@@ -46,13 +46,13 @@ pub returns-in-Err-clause-checked : goal.returns-in-Err-clause-checked
 returns-in-Err-clause-checked g c = λ e t. absurd (let h : NoMemory ≡ Fine = e in cc)
 
 pub returns-in-Err-clause-compiled : goal.returns-in-Err-clause-compiled
-returns-in-Err-clause-compiled g c = λ e p t. absurd (let h : NoMemory ≡ Fine = e in cc)
+returns-in-Err-clause-compiled g c = λ e t. absurd (let h : NoMemory ≡ Fine = e in cc)
 
 pub returns-in-Err-clause-in_rows : goal.returns-in-Err-clause-in_rows
-returns-in-Err-clause-in_rows g c = λ e m u t. absurd (let h : NoMemory ≡ Fine = e in cc)
+returns-in-Err-clause-in_rows g c = λ e t. absurd (let h : NoMemory ≡ Fine = e in cc)
 
 pub returns-in-Err-clause-in_registers : goal.returns-in-Err-clause-in_registers
-returns-in-Err-clause-in_registers g c = λ e m b t. absurd (let h : NoMemory ≡ Fine = e in cc)
+returns-in-Err-clause-in_registers g c = λ e t. absurd (let h : NoMemory ≡ Fine = e in cc)
 
 pub returns-in-Err-clause-fault : goal.returns-in-Err-clause-fault
 returns-in-Err-clause-fault g c = λ e. absurd (let h : NoMemory ≡ Fault = e in cc)

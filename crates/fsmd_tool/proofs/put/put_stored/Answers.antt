@@ -15,7 +15,7 @@ returns-in-Ok-clause-leaves g c = LeftStored (entry c.args.item.now.name.now c.a
 pub returns-in-Err-Failed-clause-ok : goal.returns-in-Err-Failed-clause-ok
 returns-in-Err-Failed-clause-ok g c =
     let failed = rw c.in-Err-Failed.field-0-is at c.in-Err-Failed.ensures.failed in
-    unstored (entry c.args.item.now.name.now c.args.item.now.bytes.now) _ _ _ c.put_unstored.result (λ s. put s (g.S.Sink.got c.args.out.now) (g.S.Sink.got c.put_unstored.new.out) (g.S.Sink.faults c.args.out.now) (g.S.Sink.faults c.put_unstored.new.out)) (record { failed = failed; others = c.in-Err-Failed.ensures.others }) c.put_unstored.ensures.ok
+    unstored (entry c.args.item.now.name.now c.args.item.now.bytes.now) _ _ _ c.put_unstored.result (λ s. put s (g.S.Sink.told c.args.out.now) (g.S.Sink.told c.put_unstored.new.out)) (record { failed = failed; others = c.in-Err-Failed.ensures.others }) c.put_unstored.ensures.ok
 
 pub returns-in-Err-Failed-clause-leaves : goal.returns-in-Err-Failed-clause-leaves
 returns-in-Err-Failed-clause-leaves g c =

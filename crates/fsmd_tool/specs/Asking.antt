@@ -1,0 +1,43 @@
+-- What the words of a call ask.
+use Rattle.std.specs.Prelude.{Bool, true, false, List, Option, Some, String, string_bytes, map, IsTrue}
+use Rattle.command_words.specs.Words.{Asked, asked_of, Compile, Schedule, Bind}
+use Rattle.command_answers.specs.Words.{compares, is_verify}
+
+-- what these words ask
+abbrev pub asked_in : {A : Type 0} → List (String A) → Option Asked
+asked_in words = asked_of (map string_bytes words)
+
+-- the words ask to compare two machines, of files or generated
+abbrev pub AskToCompare : {A : Type 0} → List (String A) → Type 0
+AskToCompare words = IsTrue (compares (asked_in words))
+
+-- the words ask to check a certificate
+abbrev pub AskToVerify : {A : Type 0} → List (String A) → Type 0
+AskToVerify words = IsTrue (is_verify (asked_in words))
+
+-- a program is to be compiled
+abbrev pub is_compile : Option Asked → Bool
+is_compile (Some (Compile program)) = true
+is_compile _ = false
+
+-- a machine is to be scheduled
+abbrev pub is_schedule : Option Asked → Bool
+is_schedule (Some (Schedule machine units)) = true
+is_schedule _ = false
+
+-- a machine is to be bound
+abbrev pub is_bind : Option Asked → Bool
+is_bind (Some (Bind machine binding)) = true
+is_bind _ = false
+
+-- the words ask to compile a program
+abbrev pub AskToCompile : {A : Type 0} → List (String A) → Type 0
+AskToCompile words = IsTrue (is_compile (asked_in words))
+
+-- the words ask to schedule a machine
+abbrev pub AskToSchedule : {A : Type 0} → List (String A) → Type 0
+AskToSchedule words = IsTrue (is_schedule (asked_in words))
+
+-- the words ask to bind a machine
+abbrev pub AskToBind : {A : Type 0} → List (String A) → Type 0
+AskToBind words = IsTrue (is_bind (asked_in words))
