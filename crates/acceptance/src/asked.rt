@@ -1,4 +1,4 @@
-//! Assertions of tables: `cases` says how a table is written.
+//! Assertions of paths, runs, schedules and replays: `cases` says how a table is written.
 
 use cases::case::{Case, broken_row, case_of, of_pair};
 use std::alloc::{AllocError, Global};
@@ -24,7 +24,8 @@ pub fn each_pair(
     Ok(())
 }
 
-fn each_case(
+/// Asserts each case of a table, with one line of another.
+pub fn each_case(
     rt: &impl Abort,
     alloc: Global,
     form: &Case,
@@ -34,9 +35,10 @@ fn each_case(
     let broken = broken_row(alloc, form, line, rows)?;
     assert!(rt;
         broken.is_none(),
-        "{} {} with {line} and {broken:?}",
+        "{} {} {} with {line} and {broken:?}",
         form.words,
-        form.left
+        form.left,
+        form.cert
     );
     Ok(())
 }
@@ -50,6 +52,18 @@ pub fn cuts(rt: &impl Abort, alloc: Global, machine: &str, rows: &str) -> Result
 /// Asserts what `run` puts of a machine: a row has the inputs and the reply.
 pub fn runs(rt: &impl Abort, alloc: Global, machine: &str, rows: &str) -> Result<(), AllocError> {
     let mut form = of_pair("run a.fsmd i.json", machine, "", "{2}");
+    form.inputs = "{1}";
+    each_case(rt, alloc, &form, "", rows)
+}
+
+/// Asserts what `schedule` puts of a machine: a row has the unit counts and the reply.
+pub fn schedules(
+    rt: &impl Abort,
+    alloc: Global,
+    machine: &str,
+    rows: &str,
+) -> Result<(), AllocError> {
+    let mut form = of_pair("schedule a.fsmd u.json", machine, "", "{2}");
     form.inputs = "{1}";
     each_case(rt, alloc, &form, "", rows)
 }

@@ -8,21 +8,11 @@ use fs_model::parts::VarId;
 use fs_runs::inputs::{Inputs, start};
 use fs_runs::store::Store;
 use fs_runs::values::Value;
-use fs_text::read_parts;
 use std::alloc::Global;
 use std::test::Fail;
+use text_machines::reading::machine;
 
 const TEXT: &str = "fsmd 1; input a; output y; reset s; state s: goto s: y = a;";
-
-fn machine(alloc: Global) -> Result<Machine, Fail> {
-    let Ok(parts) = read_parts(alloc, TEXT.as_bytes()) else {
-        return Err("no parts".into());
-    };
-    match Machine::build(alloc, &parts) {
-        Ok(machine) => Ok(machine),
-        Err(_) => Err("no machine".into()),
-    }
-}
 
 // The number of an input, where there is such an input.
 fn number_given(inputs: &Inputs, k: u32) -> Option<i128> {
@@ -38,7 +28,7 @@ fn number_given(inputs: &Inputs, k: u32) -> Option<i128> {
 #[test]
 fn what_inputs_hold(rt: HostRuntime) -> Result<(), Fail> {
     let alloc = rt.alloc();
-    let machine = machine(alloc)?;
+    let machine = machine(alloc, TEXT)?;
     let Ok(inputs) = Inputs::zero(alloc, &machine) else {
         return Err("no memory".into());
     };
@@ -74,7 +64,7 @@ fn first_begins_with(alloc: Global, machine: &Machine) -> Result<Option<i128>, F
 #[test]
 fn what_variables_hold(rt: HostRuntime) -> Result<(), Fail> {
     let alloc = rt.alloc();
-    let machine = machine(alloc)?;
+    let machine = machine(alloc, TEXT)?;
     assert_eq!(rt; first_begins_with(alloc, &machine)?, Some(0));
     Ok(())
 }

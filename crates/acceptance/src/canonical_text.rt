@@ -147,6 +147,7 @@ Fmt a.fsmd
 cut a.fsmd
 check a.fsmd
 check a.fsmd b.fsmd --steps 0
+check --steps 0 a.fsmd b.fsmd
 check a.fsmd b.fsmd --steps 100001
 check a.fsmd b.fsmd --steps 5 --steps 5
 check a.fsmd b.fsmd --depth 5

@@ -28,7 +28,7 @@ fn the_left_file_first(rt: HostRuntime) -> Result<(), AllocError> {
 const INTERFACE: &str =
     r"check a.fsmd b.fsmd¦fsmd 1; {1} reset s; state s: goto s;¦fsmd 1; {2} reset s; state s: goto s;¦¦bad input: interface: {3}\n";
 
-const INTERFACES: &str = "input a;¦input b;¦a
+const INTERFACES: &str = "input a; output y;¦input b; output y;¦a
 input a, b;¦input b;¦a
 input a, b;¦input a;¦b
 input a;¦input b, a;¦b

@@ -29,12 +29,21 @@ const NEGATED_GUARD: &str =
 const NEGATED_GUARD_PATHS: &str =
     r"start.0>done: 1 steps\nstart.1>done: 1 steps\nstart.2>done: 1 steps\n";
 
+// Two tests of which both must hold make three branches, in either order.
+const CONJUNCTION: &str =
+    r"cuts a.fsmd¦fsmd 1; input a, b; output y; reset s0; state s0: when {1} goto s0: y = 1; goto s0: y = 2;¦¦¦start.0>done: 1 steps\nstart.1>done: 1 steps\nstart.2>done: 1 steps\n";
+
+const CONJUNCTIONS: &str = "a > 0 && b > 0
+b > 0 && a > 0
+";
+
 const SUM_BEHIND_A_TEST_PATHS: &str = r"start.0>done: 2 steps\nstart.1>done: 2 steps\n";
 
 #[test]
 fn paths_of_branches(rt: HostRuntime) -> Result<(), AllocError> {
     let alloc = rt.alloc();
     cuts(&rt, alloc, NEGATED_GUARD, NEGATED_GUARD_PATHS)?;
+    each_row(&rt, alloc, CONJUNCTION, CONJUNCTIONS)?;
     cuts(&rt, alloc, SUM_BEHIND_A_TEST, SUM_BEHIND_A_TEST_PATHS)
 }
 

@@ -106,12 +106,12 @@ fn rules_on_ports(rt: HostRuntime) -> Result<(), AllocError> {
     each_row(&rt, rt.alloc(), IN_STATE, RULES)
 }
 
-const DECLARED: &str = r"fmt a.fsmd¦{1}¦¦¦bad input: a.fsmd:1: {2}\n";
+const DECLARED: &str = r#"run a.fsmd i.json¦{1}¦¦{"a": 1, "b": 2}¦bad input: a.fsmd:1: {2}\n"#;
 
 const NAMES: &str = "fsmd 2; port p, p; reset s; state s: goto s;¦TwiceNamed
 fsmd 2; input p; port p; reset s; state s: goto s;¦TwiceNamed
 fsmd 2; port <<0 to 128:p#, >>q; reset s; state s: goto s;¦TooMany
-fsmd 2; input a; port p; reset s0; state s0: goto s1: emit p a; state s1: goto s0: emit p p;¦WrongSort
+fsmd 2; input a, b; port p; reset s0; state s0: goto s1: emit p a; state s1: goto s0: emit p p;¦WrongSort
 ";
 
 #[test]

@@ -208,7 +208,6 @@ const REFUSALS: &str = r#"¦NotJson
 []¦Shape 
 1¦Shape 
 null¦Shape 
-{"z": 1}¦UnknownName z
 {"y": 1}¦UnknownName y
 {"": 1}¦UnknownName 
 {"a": -0}¦Shape a
@@ -235,9 +234,12 @@ null¦Shape
 {"a": 1, "a": "x"}¦Shape a
 "#;
 
+const NO_INPUT_OF_DIVISION: &str = r#"{"z": 1}¦bad input: i.json: UnknownName z\n"#;
+
 #[test]
 fn refusals_of_inputs(rt: HostRuntime) -> Result<(), AllocError> {
-    each_row(&rt, rt.alloc(), INPUTS, REFUSALS)
+    each_row(&rt, rt.alloc(), INPUTS, REFUSALS)?;
+    runs(&rt, rt.alloc(), DIVISION, NO_INPUT_OF_DIVISION)
 }
 
 const SQUARES: &str = r#"{"a": 1, "b": "1"}¦differ\nleft: y = 4\nright: y = 2\n

@@ -24,6 +24,7 @@ pub fn each_pair(
     Ok(())
 }
 
+// Asserts each case of a table, with one line of another.
 fn each_case(
     rt: &impl Abort,
     alloc: Global,
@@ -34,8 +35,9 @@ fn each_case(
     let broken = broken_row(alloc, form, line, rows)?;
     assert!(rt;
         broken.is_none(),
-        "{} {} with {line} and {broken:?}",
+        "{} {} {} with {line} and {broken:?}",
         form.words,
+        form.left,
         form.cert
     );
     Ok(())

@@ -3,12 +3,23 @@
 use crate::asked::each_row;
 use std::alloc::AllocError;
 
+const EXCHANGED: &str =
+    r"check a.fsmd b.fsmd¦fsmd 1; input {1}; output array m; reset s0; state s0: goto s0: {2}, {3};¦fsmd 1; input {1}; output array m; reset s0; state s0: goto s0: {3}, {2};¦¦equivalent: 2 nodes\n";
+
+const EXCHANGED_WRITES: &str = "u, v¦m[0] = u¦m[1] = v
+i, u, v¦m[i] = u¦m[i + 1] = v
+";
+
+// Two writes of one step, whose indices differ by a constant, in either order.
+#[test]
+fn writes_that_are_exchanged(rt: HostRuntime) -> Result<(), AllocError> {
+    each_row(&rt, rt.alloc(), EXCHANGED, EXCHANGED_WRITES)
+}
+
 const SAME: &str =
     r"check a.fsmd b.fsmd¦fsmd 1; input i, j, u, v; input array n; output y; output array m; reset s; state s: goto s: {1};¦fsmd 1; input i, j, u, v; input array n; output y; output array m; reset s; state s: goto s: {2};¦¦equivalent: 2 nodes\n";
 
-const SAME_WRITES: &str = "m[0] = u, m[1] = v¦m[1] = v, m[0] = u
-m[i] = u, m[i + 1] = v¦m[i + 1] = v, m[i] = u
-m[i + j] = u, m[j + i - 2] = v¦m[i - 2 + j] = v, m[j + i] = u
+const SAME_WRITES: &str = "m[i + j] = u, m[j + i - 2] = v¦m[i - 2 + j] = v, m[j + i] = u
 m[2 * i] = u, m[2 * i + 1] = v¦m[i + i + 1] = v, m[2 * i] = u
 m[n[0]] = u, m[n[0] + 1] = v¦m[n[0] + 1] = v, m[n[0]] = u
 m[i] = u, m[i] = v¦m[i] = v
@@ -37,14 +48,20 @@ fn writes_and_reads_of_one_step(rt: HostRuntime) -> Result<(), AllocError> {
 const READ_LATER: &str =
     r"check a.fsmd b.fsmd¦fsmd 1; input i, j, v; input array n; output y; local array m; reset s; state s: goto t: {1}; state t: goto s: y = {2};¦fsmd 1; input i, j, v; input array n; output y; reset s; state s: goto s: y = {3};¦¦equivalent: 2 nodes\n";
 
-const READS_LATER: &str = "m[i] = v¦m[i]¦v
-m[i] = v¦m[i + 1]¦0
-m[i] = v¦m[i] + m[i + 1]¦v
-m[0] = v, m[1] = i¦m[0] - m[1]¦v - i
+const READS_LATER: &str = "m[0] = v, m[1] = i¦m[0] - m[1]¦v - i
 m[i] = v, m[j] = 7¦m[j]¦7
 m[i] = n[j]¦m[i] + n[j]¦2 * n[j]
 m[i] = 1, m[i + 1] = 2, m[i + 2] = 3¦m[i] + m[i + 1] + m[i + 2]¦6
 m[n[i]] = v¦m[n[i]]¦v
+";
+
+// One write, and what its index and the next one are read as.
+const READ_BESIDE: &str =
+    r"check a.fsmd b.fsmd¦fsmd 1; input i, v; output y; local array m; reset s0; state s0: goto s1: m[i] = v; state s1: goto s0: y = {1};¦fsmd 1; input i, v; output y; reset s0; state s0: goto s0: y = {2};¦¦equivalent: 2 nodes\n";
+
+const READS_BESIDE: &str = "m[i]¦v
+m[i + 1]¦0
+m[i] + m[i + 1]¦v
 ";
 
 const READ_TWICE: &str =
@@ -53,11 +70,12 @@ const READ_TWICE: &str =
 #[test]
 fn reads_behind_writes(rt: HostRuntime) -> Result<(), AllocError> {
     each_row(&rt, rt.alloc(), READ_LATER, READS_LATER)?;
+    each_row(&rt, rt.alloc(), READ_BESIDE, READS_BESIDE)?;
     each_row(&rt, rt.alloc(), READ_TWICE, "2 * m[i]")
 }
 
 const WRITTEN: &str =
-    r"check a.fsmd b.fsmd¦fsmd 1; input i, j; output array m; reset s; state s: goto s: {1};¦fsmd 1; input i, j; output array m; reset s; state s: goto s: {2};¦¦{3}\n";
+    r"check a.fsmd b.fsmd¦fsmd 1; input i, j; output array m; reset s0; state s0: goto s0: {1};¦fsmd 1; input i, j; output array m; reset s0; state s0: goto s0: {2};¦¦{3}\n";
 
 const WRITES: &str =
     r"m[i] = 1, m[j] = 2¦m[j] = 2, m[i] = 1¦counterexample\ni = 0\nj = 0\nleft: m = {0: 2}\nright: m = {0: 1}

@@ -1,4 +1,4 @@
-//! Assertions of tables: `cases` says how a table is written.
+//! Assertions of checked pairs: `cases` says how a table is written.
 
 use cases::case::{Case, broken_row, case_of, of_pair};
 use std::alloc::{AllocError, Global};
@@ -24,6 +24,7 @@ pub fn each_pair(
     Ok(())
 }
 
+// Asserts each case of a table, with one line of another.
 fn each_case(
     rt: &impl Abort,
     alloc: Global,
@@ -34,9 +35,10 @@ fn each_case(
     let broken = broken_row(alloc, form, line, rows)?;
     assert!(rt;
         broken.is_none(),
-        "{} {} with {line} and {broken:?}",
+        "{} {} {} with {line} and {broken:?}",
         form.words,
-        form.left
+        form.left,
+        form.cert
     );
     Ok(())
 }

@@ -1,10 +1,11 @@
 //! Division and remainder in `check`: of two numbers they are worked out, and else each stands for itself.
 
-use crate::asked::each_row;
+use crate::asked::each_pair;
 use std::alloc::AllocError;
 
+// Two right sides, and the inputs of both machines.
 const COMPARED: &str =
-    r"check a.fsmd b.fsmd¦fsmd 1; input a, b; output y; reset s; state s: goto s: y = {1};¦fsmd 1; input a, b; output y; reset s; state s: goto s: y = {2};¦¦{3}\n";
+    r"check a.fsmd b.fsmd¦fsmd 1; input {A}; output y; reset s; state s: goto s: y = {1};¦fsmd 1; input {A}; output y; reset s; state s: goto s: y = {2};¦¦{3}\n";
 
 const NUMBERS: &str = "7 / 2 + -7 % 2¦2¦equivalent: 2 nodes
 7 / -2¦-3¦equivalent: 2 nodes
@@ -28,8 +29,8 @@ a * (b / 2)¦b / 2 * a¦equivalent: 2 nodes
 
 #[test]
 fn quotients_that_are_the_same(rt: HostRuntime) -> Result<(), AllocError> {
-    each_row(&rt, rt.alloc(), COMPARED, NUMBERS)?;
-    each_row(&rt, rt.alloc(), COMPARED, TERMS)
+    each_pair(&rt, rt.alloc(), COMPARED, "a", NUMBERS)?;
+    each_pair(&rt, rt.alloc(), COMPARED, "a, b", TERMS)
 }
 
 const UNDECIDED: &str = "a / 1¦a¦undecided: output y at start.0>done | start.0>done
@@ -37,7 +38,9 @@ a % 1¦0¦undecided: output y at start.0>done | start.0>done
 0 / a¦0¦undecided: output y at start.0>done | start.0>done
 a / 0¦0¦undecided: output y at start.0>done | start.0>done
 a % 0¦0¦undecided: output y at start.0>done | start.0>done
--(a / b)¦-a / b¦undecided: output y at start.0>done | start.0>done
+";
+
+const SIGNS: &str = "-(a / b)¦-a / b¦undecided: output y at start.0>done | start.0>done
 -(a / b)¦a / -b¦undecided: output y at start.0>done | start.0>done
 ";
 
@@ -51,6 +54,7 @@ a / 2¦a / -2¦counterexample\na = 2\nb = 2\nleft: y = 1\nright: y = -1
 
 #[test]
 fn quotients_that_are_not_decided(rt: HostRuntime) -> Result<(), AllocError> {
-    each_row(&rt, rt.alloc(), COMPARED, UNDECIDED)?;
-    each_row(&rt, rt.alloc(), COMPARED, DIFFERENT)
+    each_pair(&rt, rt.alloc(), COMPARED, "a", UNDECIDED)?;
+    each_pair(&rt, rt.alloc(), COMPARED, "a, b", SIGNS)?;
+    each_pair(&rt, rt.alloc(), COMPARED, "a, b", DIFFERENT)
 }

@@ -103,7 +103,7 @@ fn terms_that_are_too_large(rt: HostRuntime) -> Result<(), AllocError> {
 // Two rings, each of one state more than its cell says. They go round together through as many nodes as the least number
 // that both sizes divide, and there are two nodes more.
 const RINGS: &str =
-    r"check a.fsmd b.fsmd¦fsmd 1; input a; local x; reset s; state s: goto c0: x = a;<<0 to {1}: state c#: when x > 0 goto c#+1: x = x; goto s;>> state c{1}: when x > 0 goto c0: x = x; goto s;¦fsmd 1; input a; local x; reset s; state s: goto c0: x = a;<<0 to {2}: state c#: when x > 0 goto c#+1: x = x; goto s;>> state c{2}: when x > 0 goto c0: x = x; goto s;¦¦{3}\n";
+    r"check a.fsmd b.fsmd¦fsmd 1; input a; local x; reset s0; state s0: goto c0: x = a;<<0 to {1}: state c#: when x > 0 goto c#+1: x = x; goto s0;>> state c{1}: when x > 0 goto c0: x = x; goto s0;¦fsmd 1; input a; local x; reset s0; state s0: goto c0: x = a;<<0 to {2}: state c#: when x > 0 goto c#+1: x = x; goto s0;>> state c{2}: when x > 0 goto c0: x = x; goto s0;¦¦{3}\n";
 
 const NODES: &str = "1¦1¦equivalent: 4 nodes
 3¦4¦equivalent: 22 nodes
@@ -113,7 +113,7 @@ const NODES: &str = "1¦1¦equivalent: 4 nodes
 
 // The same rings with one more input, each of whose nodes has 125 numbers of the size of a squared sum.
 const HEAVY_RINGS: &str =
-    r"check a.fsmd b.fsmd¦fsmd 1; input a, b; local x<<0 to 125:, t#>>; reset s; state s: goto c0: x = a<<0 to 125:, t# = (a + b) * (a + b)>>;<<0 to {1}: state c#: when x > 0 goto c#+1: x = x; goto s;>> state c{1}: when x > 0 goto c0: x = x; goto s;¦fsmd 1; input a, b; local x<<0 to 125:, t#>>; reset s; state s: goto c0: x = a<<0 to 125:, t# = (a + b) * (a + b)>>;<<0 to {2}: state c#: when x > 0 goto c#+1: x = x; goto s;>> state c{2}: when x > 0 goto c0: x = x; goto s;¦¦{3}\n";
+    r"check a.fsmd b.fsmd¦fsmd 1; input a, b; local x<<0 to 10:, t00#>><<10 to 100:, t0#>><<100 to 125:, t#>>; reset s0; state s0: goto c0: x = a<<0 to 10:, t00# = (a + b) * (a + b)>><<10 to 100:, t0# = (a + b) * (a + b)>><<100 to 125:, t# = (a + b) * (a + b)>>;<<0 to {1}: state c#: when x > 0 goto c#+1: x = x; goto s0;>> state c{1}: when x > 0 goto c0: x = x; goto s0;¦fsmd 1; input a, b; local x<<0 to 10:, t00#>><<10 to 100:, t0#>><<100 to 125:, t#>>; reset s0; state s0: goto c0: x = a<<0 to 10:, t00# = (a + b) * (a + b)>><<10 to 100:, t0# = (a + b) * (a + b)>><<100 to 125:, t# = (a + b) * (a + b)>>;<<0 to {2}: state c#: when x > 0 goto c#+1: x = x; goto s0;>> state c{2}: when x > 0 goto c0: x = x; goto s0;¦¦{3}\n";
 
 const UNITS: &str = "1¦1¦equivalent: 4 nodes
 63¦64¦undecided: more than 4000000 units

@@ -108,7 +108,7 @@ fn loops_that_may_never_end(rt: HostRuntime) -> Result<(), AllocError> {
 }
 
 const GUARDS: &str =
-    r"check a.fsmd b.fsmd¦fsmd 1; input a, b, c; output y; reset s; state s: when {A} goto s: y = 1; goto s: y = 2;¦fsmd 1; input a, b, c; output y; reset s; state s: when {B} goto s: y = 1; goto s: y = 2;¦¦{C}";
+    r"check a.fsmd b.fsmd¦fsmd 1; input a, b; output y; reset s0; state s0: when {A} goto s0: y = 1; goto s0: y = 2;¦fsmd 1; input a, b; output y; reset s0; state s0: when {B} goto s0: y = 1; goto s0: y = 2;¦¦{C}";
 
 // Which guard is the left machine's, and which the right one's.
 const BOTH_WAYS: &str = r"{1}¦{2}¦equivalent: 2 nodes\n
@@ -130,7 +130,7 @@ a < 0¦a <= -1
 a > b¦b < a
 a >= b¦b <= a
 a == b¦b == a
-a - b > c¦a > b + c
+a - b > a * b¦a > b + a * b
 2 * a > 2 * b¦a > b
 2 * a > 1¦a >= 1
 -2 * a > 1¦a <= -1

@@ -4,26 +4,23 @@ use crate::asked::{each_pair, each_row};
 use std::alloc::AllocError;
 
 const SAME: &str =
-    r"check a.fsmd b.fsmd¦fsmd 1; input a, b, c; output y; reset s0; state s0: goto s0: y = {A};¦fsmd 1; input a, b, c; output y; reset s0; state s0: goto s0: y = {B};¦¦equivalent: 2 nodes\n";
+    r"check a.fsmd b.fsmd¦fsmd 1; input {C}; output y; reset s0; state s0: goto s0: y = {A};¦fsmd 1; input {C}; output y; reset s0; state s0: goto s0: y = {B};¦¦equivalent: 2 nodes\n";
 
 const OTHER: &str =
     r"check a.fsmd b.fsmd¦fsmd 1; input a, b, c; output y; reset s0; state s0: goto s0: y = {1};¦fsmd 1; input a, b, c; output y; reset s0; state s0: goto s0: y = {2};¦¦counterexample\n{3}\n{4}\n";
 
-// Which sum is the left machine's, and which the right one's.
-const BOTH_WAYS: &str = "{1}¦{2}
-{2}¦{1}
+// Which sum is the left machine's, which the right one's, and the inputs.
+const OF_TWO_INPUTS: &str = "{1}¦{2}¦a, b
+{2}¦{1}¦a, b
+";
+
+const OF_THREE_INPUTS: &str = "{1}¦{2}¦a, b, c
+{2}¦{1}¦a, b, c
 ";
 
 const SAME_SUMS: &str = "(a - b) * (a + b)¦a * a - b * b
 (a + b) * (a + b)¦a * a + 2 * a * b + b * b
 (a - b) * (a * a + a * b + b * b)¦a * a * a - b * b * b
-a - b - c¦(a - b) - c
-a - b - c¦a - (b + c)
-a - b + c¦(a - b) + c
-a - b + c¦a + c - b
-a + b * c¦a + (b * c)
-a * b + c¦c + b * a
-a * b * c¦c * (b * a)
 -a * b¦-(a * b)
 -a * b¦a * -b
 -a - b¦-(a + b)
@@ -48,9 +45,19 @@ y + a¦a
 a - y¦a + 5 * y
 ";
 
+const SAME_SUMS_OF_THREE: &str = "a - b - c¦(a - b) - c
+a - b - c¦a - (b + c)
+a - b + c¦(a - b) + c
+a - b + c¦a + c - b
+a + b * c¦a + (b * c)
+a * b + c¦c + b * a
+a * b * c¦c * (b * a)
+";
+
 #[test]
 fn sums_that_are_the_same(rt: HostRuntime) -> Result<(), AllocError> {
-    each_pair(&rt, rt.alloc(), SAME, BOTH_WAYS, SAME_SUMS)
+    each_pair(&rt, rt.alloc(), SAME, OF_TWO_INPUTS, SAME_SUMS)?;
+    each_pair(&rt, rt.alloc(), SAME, OF_THREE_INPUTS, SAME_SUMS_OF_THREE)
 }
 
 const OTHER_SUMS: &str =

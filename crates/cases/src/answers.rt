@@ -6,14 +6,14 @@ use fsmd_tool::answer::Status;
 use fsmd_tool::drive::drive;
 use std::alloc::{AllocError, Global};
 
-/// The bytes of `a.fsmd`, `b.fsmd`, `i.json` and `c.json`.
+/// The bytes of the files.
 #[derive(Clone, Copy)]
 pub struct Held<'a> {
-    /// `a.fsmd`.
+    /// `a.fsmd`, and `p.prog`.
     pub left: &'a [u8],
     /// `b.fsmd`.
     pub right: &'a [u8],
-    /// `i.json`.
+    /// `i.json`, and `u.json` and `m.json`.
     pub inputs: &'a [u8],
     /// `c.json`.
     pub cert: &'a [u8],
@@ -58,7 +58,10 @@ fn files_of(alloc: Global, held: &Held) -> Option<CleanFiles> {
     let mut files = CleanFiles::new(alloc);
     let are_held = files.add("a.fsmd", held.left).is_ok()
         && files.add("b.fsmd", held.right).is_ok()
+        && files.add("p.prog", held.left).is_ok()
         && files.add("i.json", held.inputs).is_ok()
+        && files.add("u.json", held.inputs).is_ok()
+        && files.add("m.json", held.inputs).is_ok()
         && files.add("c.json", held.cert).is_ok();
     are_held.then_some(files)
 }

@@ -10,11 +10,11 @@ use std::alloc::{AllocError, Global};
 pub struct Case<'a> {
     /// The words.
     pub words: &'a str,
-    /// The text of `a.fsmd`.
+    /// The text of `a.fsmd`, and of `p.prog`.
     pub left: &'a str,
     /// The text of `b.fsmd`.
     pub right: &'a str,
-    /// The text of `i.json`.
+    /// The text of `i.json`, and of `u.json` and `m.json`.
     pub inputs: &'a str,
     /// The bytes that are put.
     pub reply: &'a str,

@@ -9,11 +9,11 @@ ghost use Rattle.hls_bind.specs.Results.{IsBuiltOf};
 use fs_ast::machine::Machine;
 use fs_model::name::Name;
 use fs_model::parts::{Parts, VarId};
-use fs_text::read_parts;
 use fs_write::write_parts;
 use hls_bind::{BindError, Binding, Bound, bind, read_binding};
 use std::alloc::Global;
 use std::test::Fail;
+use text_machines::reading::parts_and_machine;
 
 // The name of a variable.
 fn name_of(m: &Machine, variable: VarId) -> Result<&str, Fail> {
@@ -81,15 +81,7 @@ fn what_comes(alloc: Global, parts: &Parts, m: &Machine, b: &Binding) -> Result<
 
 /// What a file of a binding comes to, for the machine of a text.
 pub fn answer(alloc: Global, text: &str, file: &str) -> Result<String, Fail> {
-    if text.len() > 1_048_576 {
-        return Err("too long".into());
-    }
-    let Ok(parts) = read_parts(alloc, text.as_bytes()) else {
-        return Err("no parts".into());
-    };
-    let Ok(machine) = Machine::build(alloc, &parts) else {
-        return Err("no machine".into());
-    };
+    let (parts, machine) = parts_and_machine(alloc, text)?;
     match read_binding(alloc, file.as_bytes(), &machine) {
         Ok(binding) => what_comes(alloc, &parts, &machine, &binding),
         Err(error) => refusal(alloc, &error),

@@ -7,11 +7,11 @@ ghost use Rattle.fs_rules.specs.Spelled.{machine_of};
 
 use fs_ast::machine::Machine;
 use fs_model::parts::Parts;
-use fs_text::read_parts;
 use fs_write::write_parts;
 use hls_sched::{LineReport, SchedError, Scheduled, Unit, Units, read_units, schedule};
 use std::alloc::Global;
 use std::test::Fail;
+use text_machines::reading::parts_and_machine;
 
 // The name of a kind of unit.
 fn kind(unit: Unit) -> &'static str {
@@ -66,15 +66,7 @@ fn what_comes(alloc: Global, parts: &Parts, m: &Machine, units: &Units) -> Resul
 /// What is told of the lines and the canonical text of the scheduled machine, or the state and the unit of which too
 /// much is used.
 pub fn scheduled(alloc: Global, text: &str, units: &str) -> Result<String, Fail> {
-    if text.len() > 1_048_576 {
-        return Err("too long".into());
-    }
-    let Ok(parts) = read_parts(alloc, text.as_bytes()) else {
-        return Err("no parts".into());
-    };
-    let Ok(machine) = Machine::build(alloc, &parts) else {
-        return Err("no machine".into());
-    };
+    let (parts, machine) = parts_and_machine(alloc, text)?;
     let Ok(units) = read_units(alloc, units.as_bytes()) else {
         return Err("no counts".into());
     };

@@ -2,21 +2,7 @@
 
 use crate::machines::scheduled;
 use std::test::Fail;
-
-// The differential equation solver, one operation a transition.
-const SOLVER: &str =
-    "fsmd 1; input a, dx, xi, ui, yi; output x, u, y; local t1, t2, t3, t4, t5, t6; reset s0;
-state s0: goto s1: x = xi, u = ui, y = yi;
-state s1: when x < a goto s2; goto s0;
-state s2: goto s3: t1 = u * dx;
-state s3: goto s4: t2 = 3 * x;
-state s4: goto s5: t3 = 3 * y;
-state s5: goto s6: t4 = t1 * t2;
-state s6: goto s7: t5 = dx * t3;
-state s7: goto s8: t6 = u - t4;
-state s8: goto s9: u = t6 - t5;
-state s9: goto s10: y = y + t1;
-state s10: goto s1: x = x + dx;";
+use text_machines::samples::{EMITS, PRODUCTS, SOLVER};
 
 const SOLVER_IN_FOUR_ROWS: &str = "2: 9 to 4, chain 4
 fsmd 1;
@@ -54,20 +40,6 @@ state s3:
   goto s0: y = y + 3;
 ";
 
-// Three products under one multiplier: the second row holds the second one, and the third fits no row before the last.
-const PRODUCTS: &str = "fsmd 1; input a; output x, y, z; reset s0;
-state s0: goto s1;
-state s1: goto s2: x = a * a;
-state s2: goto s3: y = a * a;
-state s3: goto s0: z = a * a;";
-
-// Two emits keep their order in rows of their own, and an assignment goes beside the first.
-const EMITS: &str = "fsmd 2; input a; output x; port p, q; reset s0;
-state s0: goto s1;
-state s1: goto s2: emit p a;
-state s2: goto s3: emit q a;
-state s3: goto s0: x = a;";
-
 // Rows are filled by heights, and places are weak where a name is read before it is written.
 #[test]
 fn solver_in_rows(rt: HostRuntime) -> Result<(), Fail> {
@@ -93,7 +65,8 @@ fn nothing_moves(rt: HostRuntime) -> Result<(), Fail> {
     Ok(())
 }
 
-// Units, and emits, part items that share no variable.
+// Units, and emits, part items that share no variable: under one multiplier the second row holds the second product, and the
+// third fits no row before the last; emits keep their order in rows of their own, and an assignment goes beside the first.
 #[test]
 fn rows_of_one(rt: HostRuntime) -> Result<(), Fail> {
     let alloc = rt.alloc();

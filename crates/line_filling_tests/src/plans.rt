@@ -2,27 +2,14 @@
 
 use fs_ast::machine::Machine;
 use fs_model::parts::StateId;
-use fs_text::read_parts;
 use line_filling::effects::Effects;
 use line_filling::plan::{Plan, make_plan};
 use line_filling::uses::{Uses, uses_of};
 use std::alloc::Global;
 use std::test::Fail;
+use text_machines::reading::machine;
+use text_machines::samples::{EMITS, PRODUCTS, SOLVER};
 use unit_counts::{Units, read_units};
-
-// The machine of a text.
-fn machine(alloc: Global, text: &str) -> Result<Machine, Fail> {
-    if text.len() > 1_048_576 {
-        return Err("too long".into());
-    }
-    let Ok(parts) = read_parts(alloc, text.as_bytes()) else {
-        return Err("no parts".into());
-    };
-    match Machine::build(alloc, &parts) {
-        Ok(machine) => Ok(machine),
-        Err(_) => Err("no machine".into()),
-    }
-}
 
 // The plan of items by their effects and uses.
 fn plan_of(alloc: Global, effects: &[Effects], uses: &[Uses], units: &Units) -> Result<Plan, Fail> {
@@ -70,21 +57,6 @@ fn rows(alloc: Global, text: &str, from: u32, counts: &str) -> Result<String, Fa
     shown(alloc, &planned(alloc, &machine, from, &units)?)
 }
 
-// The differential equation solver, one operation a transition.
-const SOLVER: &str =
-    "fsmd 1; input a, dx, xi, ui, yi; output x, u, y; local t1, t2, t3, t4, t5, t6; reset s0;
-state s0: goto s1: x = xi, u = ui, y = yi;
-state s1: when x < a goto s2; goto s0;
-state s2: goto s3: t1 = u * dx;
-state s3: goto s4: t2 = 3 * x;
-state s4: goto s5: t3 = 3 * y;
-state s5: goto s6: t4 = t1 * t2;
-state s6: goto s7: t5 = dx * t3;
-state s7: goto s8: t6 = u - t4;
-state s8: goto s9: u = t6 - t5;
-state s9: goto s10: y = y + t1;
-state s10: goto s1: x = x + dx;";
-
 // Rows are filled by heights, and an item that reads a variable stands in no later row than one that writes it.
 #[test]
 fn solver_in_rows(rt: HostRuntime) -> Result<(), Fail> {
@@ -103,20 +75,7 @@ state s1: goto s2: y = a + 1;
 state s2: goto s3: y = y + 2;
 state s3: goto s0: y = y + 3;";
 
-// Three products, for which one multiplier needs three rows.
-const PRODUCTS: &str = "fsmd 1; input a; output x, y, z; reset s0;
-state s0: goto s1;
-state s1: goto s2: x = a * a;
-state s2: goto s3: y = a * a;
-state s3: goto s0: z = a * a;";
-
-// Two emits keep their order in rows of their own.
-const EMITS: &str = "fsmd 2; input a; output x; port p, q; reset s0;
-state s0: goto s1;
-state s1: goto s2: emit p a;
-state s2: goto s3: emit q a;
-state s3: goto s0: x = a;";
-
+// One multiplier needs a row for each of three products, and two emits keep their order in rows of their own.
 #[test]
 fn rows_of_one(rt: HostRuntime) -> Result<(), Fail> {
     let alloc = rt.alloc();

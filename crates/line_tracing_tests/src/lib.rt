@@ -4,6 +4,4 @@
 #[cfg(test)]
 mod limits;
 #[cfg(test)]
-mod machines;
-#[cfg(test)]
 mod traces;

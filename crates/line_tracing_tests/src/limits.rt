@@ -1,8 +1,9 @@
 //! Transitions that use more of a unit than is given.
 
-use crate::machines::{SOLVER, machine};
 use std::alloc::Global;
 use std::test::Fail;
+use text_machines::reading::machine;
+use text_machines::samples::SOLVER;
 use unit_counts::{Unit, read_units};
 use unit_limits::over::over_in;
 

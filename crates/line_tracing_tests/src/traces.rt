@@ -1,11 +1,12 @@
 //! The lines of machines.
 
-use crate::machines::{SOLVER, machine};
 use fs_model::parts::StateId;
 use line_tracing::arrivals::count_arrivals;
 use line_tracing::lines::{Line, firsts, is_straight, item, trace_line};
 use std::alloc::Global;
 use std::test::Fail;
+use text_machines::reading::machine;
+use text_machines::samples::SOLVER;
 
 // A line: its states, and where it leads.
 fn shown(alloc: Global, line: &Line) -> Result<String, Fail> {

@@ -1,27 +1,26 @@
 //! What the text of a program gives.
 
-use fs_grammar::fault::{TextFault, TextKind};
 use fs_write::write_parts;
 use hls_lang::compile::compile;
-use hls_lang::fault::LangError;
+use hls_lang::fault::{LangError, LangFault, LangKind};
 use hls_lang::program::Program;
 use hls_lang::read_program;
 use std::alloc::Global;
 use std::test::Fail;
 
-fn kind_name(kind: TextKind) -> &'static str {
+fn kind_name(kind: LangKind) -> &'static str {
     match kind {
-        TextKind::BadByte => "BadByte",
-        TextKind::BadWord => "BadWord",
-        TextKind::NumberTooBig => "NumberTooBig",
-        TextKind::Unexpected => "Unexpected",
-        TextKind::Operators => "Operators",
-        TextKind::Nested => "Nested",
-        TextKind::Ended => "Ended",
+        LangKind::BadByte => "BadByte",
+        LangKind::BadWord => "BadWord",
+        LangKind::NumberTooBig => "NumberTooBig",
+        LangKind::Unexpected => "Unexpected",
+        LangKind::Operators => "Operators",
+        LangKind::Nested => "Nested",
+        LangKind::Ended => "Ended",
     }
 }
 
-fn fault_text(alloc: Global, fault: TextFault) -> Result<String, Fail> {
+fn fault_text(alloc: Global, fault: LangFault) -> Result<String, Fail> {
     let name = kind_name(fault.kind);
     Ok(format!(in alloc; "{}:{} {}", fault.line, fault.column, name)?)
 }

@@ -2,7 +2,8 @@
 
 ghost use Rattle.std.specs.Prelude.{◌≡◌, ◌≤◌, ◌<◌, length, neg_ℤ, unsigned_abs};
 
-use crate::forms::{form, sum};
+use crate::forms::{form, normal, sum, written_form};
+use crate::trees::Tree;
 use crate::trouble::Trouble;
 use nf_bank::bank::{AtomId, Bank};
 use nf_subst::vector::Vector;
@@ -68,6 +69,24 @@ fn copies_of_forms(rt: HostRuntime) {
     }
 }
 
+// Whether the tree taken out of a text's form is the one that the text writes.
+fn is_taken_out(alloc: Global, text: &str) -> Result<bool, Trouble> {
+    let tree = match form(alloc, text)? {
+        Nf::Num(sum) => Tree::Sum(sum.into_tree()),
+        Nf::Arr(array) => Tree::Array(array.into_tree()),
+        Nf::Seq(_) => return Err(Trouble::Unread),
+    };
+    let again = normal(tree).ok_or(Trouble::Unread)?;
+    Ok(again.is_same(&written_form(alloc, text)?))
+}
+
+#[test]
+fn trees_of_forms(rt: HostRuntime) {
+    let alloc = rt.alloc();
+    assert!(rt; is_taken_out(alloc, "a b / 2 +").unwrap_or(false));
+    assert!(rt; is_taken_out(alloc, "@m a b {}").unwrap_or(false));
+}
+
 // Whether the part with atoms of the left text is the right one.
 fn has_part(alloc: Global, text: &str, part: &str) -> Result<bool, Trouble> {
     let whole = sum(alloc, text)?;
@@ -131,6 +150,27 @@ fn forms_of_vectors(rt: HostRuntime) {
     for text in ["a 1 +", "@m 0 a {}", "#m 5 <<"] {
         assert!(rt; is_put(alloc, text).unwrap_or(false), "{text}");
     }
+}
+
+// Whether a vector has a number for a position, and gives this form by the position alone.
+fn gives_number(vector: &Vector, p: Pos, wanted: &Nf) -> bool {
+    match vector.form(Sort::Scalar, p) {
+        Some(_) => vector.get(p).is_same(wanted),
+        None => false,
+    }
+}
+
+// Whether a vector gives the number that was put into it.
+fn is_given(alloc: Global, text: &str) -> Result<bool, Trouble> {
+    let mut vector = Vector::new(alloc);
+    vector.put(M, form(alloc, text)?)?;
+    let wanted = form(alloc, text)?;
+    Ok(gives_number(&vector, M, &wanted) && !gives_number(&vector, B, &wanted))
+}
+
+#[test]
+fn numbers_of_vectors(rt: HostRuntime) {
+    assert!(rt; is_given(rt.alloc(), "a 1 +").unwrap_or(false));
 }
 
 // The first atom of a text's sum.

@@ -1,8 +1,9 @@
 //! The first candidate that shows a difference of two machines.
 
-use crate::machines::{first_number, machine};
+use crate::first::first_number;
 use std::alloc::Global;
 use std::test::Fail;
+use text_machines::reading::machine;
 
 const SUM: &str = "fsmd 1; input a, b; output y; local t; reset s0;
 state s0: goto s1: t = a + b;

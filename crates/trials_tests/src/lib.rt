@@ -4,8 +4,8 @@
 #[cfg(test)]
 mod differences;
 #[cfg(test)]
-mod generated;
+mod first;
 #[cfg(test)]
-mod machines;
+mod generated;
 #[cfg(test)]
 mod pairing;

@@ -1,10 +1,10 @@
 //! The positions of two machines.
 
-use crate::machines::machine;
 use fs_pair::positions::{Position, same_interface};
 use nf_terms::tree::Side;
 use std::alloc::Global;
 use std::test::Fail;
+use text_machines::reading::machine;
 
 const LEFT: &str = "fsmd 1; input a; local t, u; output y; reset s0;
 state s0: goto s0: y = a;";
