@@ -1,6 +1,6 @@
 #!/usr/bin/env bash
-# Times certificates near the limit of a file: bench/certificates.sh [FOLDER]. It writes machines and certificates into a folder (some 600
-# MB), and prints seconds and memory.
+# Times certificates near the limit of a file: bench/certificates.sh [FOLDER]. It writes machines and certificates into a folder (about
+# 1.2 GB), and prints processor seconds and memory.
 set -eu
 cd "$(dirname "$0")/.."
 program=$PWD/crates/fsmd/out/fsmd

@@ -1,5 +1,5 @@
 #!/usr/bin/env bash
-# Times the program on large machines: bench/large.sh [FOLDER]. It writes the machines into a folder, and prints seconds.
+# Times the program on large machines: bench/large.sh [FOLDER]. It writes the machines into a folder, and prints elapsed seconds.
 set -eu
 cd "$(dirname "$0")/.."
 program=crates/fsmd/out/fsmd
@@ -19,7 +19,7 @@ chain() { # states, scalars
     }
   }'
 }
-# One transition that is as long as a file may be.
+# One transition of 120 operators, and 900 kB of comments behind it.
 long_line() { awk 'BEGIN {
     printf "fsmd 1; input a; output y; local x; reset s0; state s0: goto s0: y = a"
     for (k = 0; k < 60; k++) printf " + a * a"

@@ -1,5 +1,6 @@
 #!/usr/bin/env bash
-# Times `check` on large searches: bench/search.sh [FOLDER]. It writes the machines into a folder, and prints seconds.
+# Times `check` on large searches: bench/search.sh [FOLDER]. It writes the machines into a folder, and prints processor
+# seconds and memory.
 set -eu
 cd "$(dirname "$0")/.."
 program=$PWD/crates/fsmd/out/fsmd
@@ -38,6 +39,7 @@ timed() {
 }
 timed "100 loops, 102 nodes" generate 100
 timed "200 loops, 202 nodes" generate 200
+timed "300 loops, 302 nodes" generate 300
 timed "rings of 64 and 65 states" check "$folder/ring64.fsmd" "$folder/ring65.fsmd"
 timed "the same with 4,000,000 units" check "$folder/wide64.fsmd" "$folder/wide65.fsmd"
 timed "4,096 states over 125 scalars" check "$folder/chain.fsmd" "$folder/chain.fsmd"
