@@ -25,8 +25,8 @@ loops() { awk 'BEGIN {
     }
     print "y = i; }"
   }'; }
-# Each of 800 states has a guard of 64 branches and assigns all of 124 locals, 62 pairs of which share a register. No local
-# is read, so none is lost, and each branch is looked at.
+# Each of 800 states has 33 branches, of which 32 assign one local of each of 62 pairs; a pair shares a register. No local is
+# read, so none is lost, and each branch is looked at.
 pairs() { awk 'BEGIN {
     printf "fsmd 1; input a; output y; local v0"; for (k = 1; k < 124; k++) printf ", v%d", k
     print "; reset s0;"
