@@ -7,7 +7,7 @@ use Rattle.nf_terms.specs.declared.tree.Side.{Side}
 use Rattle.nf_terms.specs.declared.tree.Side.TheVariants.{Left, Right}
 use Rattle.term_text.specs.Texts.{ListTerm, Term, EmptyList, BareList, Pushed, polynomial, array, list, list_text, term_text, Atom, Monomial, Sum, Polynomial, ArrayTerm, Symbol, Read, Quotient, Remainder, Number, One, Times, Positive, Negative, Plus, Minus, Zero, Of, ZeroArray, Bare, Written, symbol_text, atom_text, monomial_text, sum_text, polynomial_text, array_text}
 use Rattle.term_text.specs.Spelled.{is_number, is_symbol_name, atom_spelled, monomial_spelled, sum_spelled, polynomial_spelled, array_spelled, list_spelled, term_spelled}
-use Rattle.term_text.specs.Brackets.{opens, closes, after, most_open, atom_depth, monomial_depth, sum_depth, polynomial_depth, array_depth, list_depth, term_depth}
+use Rattle.term_text.specs.Brackets.{opens, closes, after, most_open, openings, atom_depth, monomial_depth, sum_depth, polynomial_depth, array_depth, list_depth, term_depth}
 
 pub both : (a b : Bool) → (a && b) ≡ true → (a ≡ true) × (b ≡ true)
 both true b e = (refl, e)
@@ -163,3 +163,24 @@ one_by false false n = omega arith
 
 pub one_at_most : (n b : ℕ) → after n b ≤ n + 1
 one_at_most n b = one_by (opens b) (closes b) n
+
+-- ---- brackets in all
+
+pub opened : (bytes : List ℕ) (i d : ℕ) → i < length bytes → openings (drop i bytes) ≡ cond (opens (get_or bytes i d)) 1 0 + openings (drop (i + 1) bytes)
+opened bytes i d h =
+    let s : suc i ≡ i + 1 = omega arith in
+    ap openings (drop-cons bytes i d h) ∙ ap (λ j. cond (opens (get_or bytes i d)) 1 0 + openings (drop j bytes)) s
+
+step_by : (o c : Bool) (n m k : ℕ) → m ≤ cond o (n + 1) (cond c (n - 1) n) + k → m ≤ n + (cond o 1 0 + k)
+step_by true c n m k h = omega (arith, h)
+step_by false true n m k h = omega (arith, h)
+step_by false false n m k h = omega (arith, h)
+
+open_by : (n : ℕ) (bs : List ℕ) → most_open n bs ≤ n + openings bs
+open_by n [] = omega arith
+open_by n (b ∷ bs) =
+    let l = step_by (opens b) (closes b) n (most_open (after n b) bs) (openings bs) (open_by (after n b) bs) in
+    omega (arith, l)
+
+pub no_more_than_openings : (bs : List ℕ) → most_open 0 bs ≤ openings bs
+no_more_than_openings bs = omega (arith, open_by 0 bs)

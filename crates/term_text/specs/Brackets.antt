@@ -17,6 +17,11 @@ abbrev pub most_open : ℕ → List ℕ → ℕ
 most_open n [] = n
 most_open n (b ∷ bs) = max n (most_open (after n b) bs)
 
+-- how many brackets are opened in all
+abbrev pub openings : List ℕ → ℕ
+openings [] = 0
+openings (b ∷ bs) = cond (opens b) 1 0 + openings bs
+
 abbrev mutual
   pub atom_depth : Atom → ℕ
   atom_depth (Symbol s x) = 0
