@@ -1,24 +1,23 @@
 -- What an object without fault gives is a binding of the variables.
-use Rattle.std.proofs.Common.{◌≡◌, ℕ, zero, suc, ◌+◌, ◌<◌, ◌≤◌, List, [], ◌∷◌, ◌++◌, length, ap, sym, refl, ◌∙◌, subst, arith, Bool, true, false, cond, Option, Some, None}
-use Rattle.std.specs.Prelude.{◌==◌, ◌&&◌, nat_lt, option_map, slice_get, IfSome}
-use Rattle.std.specs.List.{list_all, list_any}
+use Rattle.std.proofs.Common.{◌≡◌, ℕ, suc, ◌+◌, ◌<◌, List, [], ◌∷◌, ◌++◌, ap, sym, refl, ◌∙◌, subst, arith, Bool, true, false, cond, Option, Some, None}
+use Rattle.std.specs.Prelude.{◌==◌, nat_lt, option_map, slice_get, IfSome}
+use Rattle.std.specs.List.{list_all}
 use Rattle.std.specs.Option.{option_or}
 use Rattle.std.specs.Str.{bytes_eq}
 use Rattle.std.proofs.lemmas.Slice.Eq.{bytes_eq-Decides}
-use Rattle.std.proofs.lemmas.Bool.Decides.{nat_tests}
 use Rattle.serde_json.specs.Data.{Data, Members, no_members, member}
 use Rattle.serde_json.specs.Find.{as_str}
 use Rattle.fs_model.specs.declared.parts.VarInfo.{VarInfo}
 use Rattle.fs_model.specs.Words.{is_name}
 use Rattle.fs_model.proofs.Truth.{and_both}
-use Rattle.fs_rules.specs.Spelled.{place, names_of}
+use Rattle.fs_rules.specs.Spelled.{names_of}
 use Rattle.fs_rules.specs.Sound.{names_differ}
 use Rattle.binding_laws.specs.Bindings.{register, is_rising, is_scalar_local, IsBindingOf}
 use Rattle.binding_laws.proofs.Looks.{place_own}
 use Rattle.hls_bind.specs.declared.faults.Fault.{Fault}
 use Rattle.hls_bind.specs.declared.faults.Fault.TheVariants as faults
 use Rattle.hls_bind.specs.Files.{is_taken, names_local, register_fault, fault_at, first_fault, register_given, entry_at, binding_from}
-use Rattle.hls_bind.proofs.Bits.{is_low, same_number}
+use Rattle.hls_bind.proofs.Listed.{is_low, same_number}
 
 -- ---- rising
 above_by : (y x : ℕ) (o : Option (List ℕ)) (rest : List (ℕ × List ℕ)) → y < x → list_all (λ d. nat_lt y d.0) rest ≡ true → list_all (λ d. nat_lt y d.0) (entry_at x o ++ rest) ≡ true

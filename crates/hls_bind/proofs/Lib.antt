@@ -1,4 +1,4 @@
-pub mod Bits
+pub mod Listed
 pub mod Alive
 pub mod Losses
 pub mod Given

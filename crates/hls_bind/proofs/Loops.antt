@@ -1,5 +1,5 @@
 -- One turn of a loop.
-use Rattle.std.proofs.Common.{◌≡◌, ℕ, zero, suc, ◌+◌, ◌-◌, ◌<◌, ◌≤◌, List, [], ◌∷◌, ◌++◌, length, get_or, take, drop, map, ap, ap₂, sym, refl, ◌∙◌, subst, arith, add-one, append_assoc, Option, Some, None}
+use Rattle.std.proofs.Common.{◌≡◌, ℕ, zero, suc, ◌+◌, ◌-◌, ◌<◌, List, [], ◌∷◌, ◌++◌, length, get_or, drop, map, ap, ap₂, sym, ◌∙◌, subst, arith, add-one, append_assoc, Bool, false, Option, Some, None}
 use Rattle.std.specs.Option.{option_or}
 use Rattle.std.specs.List.{flat_map, slice_index_or}
 use Rattle.serde_json.specs.Data.{Members}
@@ -16,13 +16,12 @@ use Rattle.fs_cut.proofs.Loops.{target_is_in}
 use Rattle.fs_rules.specs.Spelled.{names_of, variables_of}
 use Rattle.fs_model.specs.Source.{Source, Declaration, SourceState}
 use Rattle.fs_model.specs.Parts.{scalars, uses_in_literal}
-use Rattle.std.specs.Int.{bit_not, w128}
 use Rattle.binding_laws.specs.Liveness.{read_by, read_by_assignment}
 use Rattle.binding_laws.specs.Bindings.{renamed, remaining, of_registers, state_renamed, bound_parts}
-use Rattle.live_sets.specs.declared.flows.Flow.{Flow}
+use Rattle.variable_sets.specs.Sets.{also_all}
+use Rattle.variable_sets.proofs.Members.{also_joined}
 use Rattle.hls_bind.specs.Files.{register_given, entry_at, binding_from}
-use Rattle.hls_bind.specs.Sets.{with_all, flow_of, flows_at, flows_below}
-use Rattle.hls_bind.proofs.Bits.{with_joined}
+use Rattle.hls_bind.specs.Flows.{low, Transfer, transfer_by, transfers_at, transfers_below}
 use Rattle.hls_bind.specs.Lost.{first_from}
 
 dropped_suc : {A : Type 0} (xs : List A) (i : ℕ) (x : A) → i < length xs → x ≡ get_or xs i x → drop i xs ≡ x ∷ drop (suc i) xs
@@ -45,31 +44,31 @@ entry_more vs ms k v old new o h e g put =
     ∙ ap (λ ws. old ++ binding_from k ws ms) (sym (dropped vs k v h e))
 
 -- ---- flows
-pub flows_more : (m : Fsmd) (k count n : ℕ) (old new : List Flow) → count ≡ n → k < count → new ≡ old ++ flows_at m (count - 1 - k) → new ++ flows_below m (n - (k + 1)) ≡ old ++ flows_below m (n - k)
-flows_more m k count n old new all h put =
+pub transfers_more : (m : Fsmd) (k count n : ℕ) (old new : List Transfer) → count ≡ n → k < count → new ≡ old ++ transfers_at m (count - 1 - k) → new ++ transfers_below m (n - (k + 1)) ≡ old ++ transfers_below m (n - k)
+transfers_more m k count n old new all h put =
     let at : n - k ≡ suc (count - 1 - k) = omega (arith, all, h) in
     let rest : n - (k + 1) ≡ count - 1 - k = omega (arith, all, h) in
-    ap (λ fs. fs ++ flows_below m (n - (k + 1))) put
-    ∙ append_assoc old (flows_at m (count - 1 - k)) (flows_below m (n - (k + 1)))
-    ∙ ap (λ i. old ++ (flows_at m (count - 1 - k) ++ flows_below m i)) rest
-    ∙ ap (λ i. old ++ flows_below m i) (sym at)
+    ap (λ fs. fs ++ transfers_below m (n - (k + 1))) put
+    ∙ append_assoc old (transfers_at m (count - 1 - k)) (transfers_below m (n - (k + 1)))
+    ∙ ap (λ i. old ++ (transfers_at m (count - 1 - k) ++ transfers_below m i)) rest
+    ∙ ap (λ i. old ++ transfers_below m i) (sym at)
 
-pub read_more : {A B : Type 0} (f : A → List ℕ) (view : B → A) (xs : List B) (i : ℕ) (x : B) (old new whole : ℕ) → i < length xs → x ≡ get_or xs i x → new ≡ with_all (f (view x)) old → with_all (flat_map f (map view (drop i xs))) old ≡ whole
-    → with_all (flat_map f (map view (drop (i + 1) xs))) new ≡ whole
+pub read_more : {A B : Type 0} (f : A → List ℕ) (view : B → A) (xs : List B) (i : ℕ) (x : B) (old new whole : ℕ → Bool) → i < length xs → x ≡ get_or xs i x → new ≡ also_all (f (view x)) old → also_all (flat_map f (map view (drop i xs))) old ≡ whole
+    → also_all (flat_map f (map view (drop (i + 1) xs))) new ≡ whole
 read_more f view xs i x old new whole h e put g =
-    ap (with_all (flat_map f (map view (drop (i + 1) xs)))) put
-    ∙ sym (with_joined (f (view x)) (flat_map f (map view (drop (i + 1) xs))) old)
-    ∙ ap (λ ys. with_all (flat_map f (map view ys)) old) (sym (dropped xs i x h e))
+    ap (also_all (flat_map f (map view (drop (i + 1) xs)))) put
+    ∙ sym (also_joined (f (view x)) (flat_map f (map view (drop (i + 1) xs))) old)
+    ∙ ap (λ ys. also_all (flat_map f (map view ys)) old) (sym (dropped xs i x h e))
     ∙ g
 
-abbrev pub made_flow : (from target reads writes : ℕ) → Flow
-made_flow from target reads writes = record { from = from; target = target; reads = reads; keeps = bit_not w128 writes }
+abbrev pub made_transfer : (from target : ℕ) → (reads writes : ℕ → Bool) → Transfer
+made_transfer from target reads writes = record { from = from; target = target; reads = reads; writes = writes }
 
-pub flow_is : (from : ℕ) (x : Branch) (lits reads writes : ℕ) → lits ≡ with_all (flat_map (uses_in_literal scalars) x.literals) 0 → reads ≡ with_all (flat_map read_by_assignment x.assignments) lits → writes ≡ with_all (assigned_in x.assignments) 0
-    → made_flow from x.target reads writes ≡ flow_of from x
-flow_is from x lits reads writes e f g =
-    let all : reads ≡ with_all (read_by x) 0 = f ∙ ap (with_all (flat_map read_by_assignment x.assignments)) e ∙ sym (with_joined (flat_map (uses_in_literal scalars) x.literals) (flat_map read_by_assignment x.assignments) 0) in
-    ap₂ (λ (i j : ℕ). made_flow from x.target i j) all g
+pub transfer_is : (from : ℕ) (x : Branch) (lits reads writes : ℕ → Bool) → lits ≡ low (flat_map (uses_in_literal scalars) x.literals) → reads ≡ also_all (flat_map read_by_assignment x.assignments) lits → writes ≡ low (assigned_in x.assignments)
+    → made_transfer from x.target reads writes ≡ transfer_by from x
+transfer_is from x lits reads writes e f g =
+    let all : reads ≡ low (read_by x) = f ∙ ap (also_all (flat_map read_by_assignment x.assignments)) e ∙ sym (also_joined (flat_map (uses_in_literal scalars) x.literals) (flat_map read_by_assignment x.assignments) (λ y. false)) in
+    ap₂ (λ (i j : ℕ → Bool). made_transfer from x.target i j) all g
 
 -- ---- the first of several numbers
 pub first_step : {A : Type 0} (f : ℕ → Option A) (k n : ℕ) → k < n → first_from f k (n - k) ≡ option_or (f k) (first_from f (k + 1) (n - (k + 1)))

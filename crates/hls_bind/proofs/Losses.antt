@@ -1,5 +1,5 @@
 -- The conflict that is found is the first, and where none is found there is none.
-use Rattle.std.proofs.Common.{◌≡◌, ℕ, zero, suc, ◌+◌, ◌<◌, ◌≤◌, List, [], ◌∷◌, length, ap, ap₂, sym, refl, ◌∙◌, subst, inl, inr, ◌⊎◌, arith, Bool, true, false, cond, Option, Some, None, slice_index}
+use Rattle.std.proofs.Common.{◌≡◌, ℕ, zero, suc, ◌+◌, ◌<◌, ◌≤◌, List, [], ◌∷◌, length, ap, ap₂, sym, refl, ◌∙◌, subst, inl, inr, ◌⊎◌, arith, Bool, true, false, cond, Option, Some, None}
 use Rattle.std.specs.Prelude.{◌≢◌, ◌==◌, ◌&&◌, ◌||◌, not, nat_lt, option_map, slice_get}
 use Rattle.std.specs.List.{list_all}
 use Rattle.std.specs.Option.{option_or}
@@ -15,12 +15,13 @@ use Rattle.binding_laws.specs.Liveness.{writes, IsLive}
 use Rattle.fs_model.specs.declared.parts.VarInfo.{VarInfo}
 use Rattle.std.proofs.lemmas.Option.{slice_get_within}
 use Rattle.binding_laws.specs.Bindings.{register, is_rising, is_scalar_local, IsBindingOf}
-use Rattle.hls_bind.specs.Results.{HasNoConflict, IsVerdict}
-use Rattle.binding_laws.specs.Conflicts.{Conflict, IsShared, IsTwice, Clobbers, IsConflict, is_before, IsFirstConflict}
-use Rattle.hls_bind.specs.Sets.{is_in}
+use Rattle.hls_bind.specs.Results.{IsVerdict}
+use Rattle.binding_laws.specs.Conflicts.{Conflict, IsShared, IsTwice, IsConflict, is_before, IsFirstConflict}
+use Rattle.variable_sets.specs.declared.VariableSet.{VariableSet}
+use Rattle.live_sets.specs.Flows.{has_at}
 use Rattle.hls_bind.specs.Live.{HasLive}
 use Rattle.hls_bind.specs.Lost.{Pair, is_lost, lost_with, lost_by, written_at, live_after, found, conflict_at, conflict_in, first_from, first_conflict}
-use Rattle.hls_bind.proofs.Bits.{members, none_in, same_number, other_number, is_low}
+use Rattle.hls_bind.proofs.Listed.{members, same_number, other_number}
 use Rattle.hls_bind.proofs.Alive.{is_there}
 
 -- ---- tests
@@ -77,7 +78,7 @@ entry_cases d es x r h = entry_cases_by d es x r (d.0 == x) refl h
 pub head_entry : (d : ℕ × List ℕ) (es : List (ℕ × List ℕ)) → register (d ∷ es) d.0 ≡ Some d.1
 head_entry d es = ap (λ t. cond t (Some d.1) (register es d.0)) (same_is d.0)
 
-module _ (w l : ℕ) where
+module _ (w l : ℕ → Bool) where
   -- ---- the other local
   abbrev Loses : (one : ℕ × List ℕ) → ℕ → List ℕ → Type 0
   Loses one y s = is_lost w l one (y, s) ≡ true
@@ -87,16 +88,16 @@ module _ (w l : ℕ) where
     entry : register es p.other ≡ Some name
     lost : Loses one p.other name
     written : p.written ≡ one.0
-    twice : p.twice ≡ is_in w p.other
+    twice : p.twice ≡ w p.other
     first : (y : ℕ) (s : List ℕ) → register es y ≡ Some s → Loses one y s → y < p.other → ⊥
 
   one_lost : (one d : ℕ × List ℕ) (x : ℕ) (r : List ℕ) → IsHead d x r → Loses one x r → is_lost w l one d ≡ true
   one_lost one d x r h i = ap₂ (λ (n : ℕ) (s : List ℕ). is_lost w l one (n, s)) h.number h.name ∙ i
 
   other_by : (one d : ℕ × List ℕ) (es : List (ℕ × List ℕ)) (p : Pair) (t : Bool) → is_lost w l one d ≡ t → list_all (λ c. nat_lt d.0 c.0) es ≡ true
-      → cond t (Some (record { written = one.0; other = d.0; twice = is_in w d.0 })) (lost_with w l one es) ≡ Some p → (lost_with w l one es ≡ Some p → IsFirstOther one es p) → IsFirstOther one (d ∷ es) p
+      → cond t (Some (record { written = one.0; other = d.0; twice = w d.0 })) (lost_with w l one es) ≡ Some p → (lost_with w l one es ≡ Some p → IsFirstOther one es p) → IsFirstOther one (d ∷ es) p
   other_by one d es p true e h i next =
-      let same : record { written = one.0; other = d.0; twice = is_in w d.0 } ≡ p = cc i in
+      let same : record { written = one.0; other = d.0; twice = w d.0 } ≡ p = cc i in
       subst (λ (q : Pair). IsFirstOther one (d ∷ es) q) same (record {
         name = d.1;
         entry = head_entry d es;
@@ -126,7 +127,7 @@ module _ (w l : ℕ) where
   first_other one [] p h e = absurd (cc e)
   first_other one (d ∷ es) p h e = other_by one d es p (is_lost w l one d) refl (and_left (list_all (λ c. nat_lt d.0 c.0) es) (is_rising es) h) e (first_other one es p (and_right (list_all (λ c. nat_lt d.0 c.0) es) (is_rising es) h))
 
-  none_by : (one d : ℕ × List ℕ) (es : List (ℕ × List ℕ)) (t : Bool) → is_lost w l one d ≡ t → cond t (Some (record { written = one.0; other = d.0; twice = is_in w d.0 })) (lost_with w l one es) ≡ None
+  none_by : (one d : ℕ × List ℕ) (es : List (ℕ × List ℕ)) (t : Bool) → is_lost w l one d ≡ t → cond t (Some (record { written = one.0; other = d.0; twice = w d.0 })) (lost_with w l one es) ≡ None
       → (y : ℕ) (s : List ℕ) → register (d ∷ es) y ≡ Some s → Loses one y s → (lost_with w l one es ≡ None → (z : ℕ) (q : List ℕ) → register es z ≡ Some q → Loses one z q → ⊥) → ⊥
   none_by one d es true e h y s at lost next = cc h
   none_by one d es false e h y s at lost next = elim (entry_cases d es y s at) [
@@ -143,31 +144,31 @@ module _ (w l : ℕ) where
     record IsFirstPair (es : List (ℕ × List ℕ)) (p : Pair) : Type 0 where
       name : List ℕ
       entry : register es p.written ≡ Some name
-      writes : is_in w p.written ≡ true
+      writes : w p.written ≡ true
       other : IsFirstOther (p.written, name) all p
-      first : (x : ℕ) (r : List ℕ) → register es x ≡ Some r → is_in w x ≡ true → x < p.written → (y : ℕ) (s : List ℕ) → register all y ≡ Some s → Loses (x, r) y s → ⊥
+      first : (x : ℕ) (r : List ℕ) → register es x ≡ Some r → w x ≡ true → x < p.written → (y : ℕ) (s : List ℕ) → register all y ≡ Some s → Loses (x, r) y s → ⊥
 
     abbrev of_one : ℕ × List ℕ → Option Pair
-    of_one d = cond (is_in w d.0) (lost_with w l d all) None
+    of_one d = cond (w d.0) (lost_with w l d all) None
 
-    none_of_one : (d : ℕ × List ℕ) (x : ℕ) (r : List ℕ) → IsHead d x r → of_one d ≡ None → is_in w x ≡ true → (y : ℕ) (s : List ℕ) → register all y ≡ Some s → Loses (x, r) y s → ⊥
+    none_of_one : (d : ℕ × List ℕ) (x : ℕ) (r : List ℕ) → IsHead d x r → of_one d ≡ None → w x ≡ true → (y : ℕ) (s : List ℕ) → register all y ≡ Some s → Loses (x, r) y s → ⊥
     none_of_one d x r head e h y s at lost =
         let none : of_one (x, r) ≡ None = ap₂ (λ (n : ℕ) (q : List ℕ). of_one (n, q)) (sym head.number) (sym head.name) ∙ e in
         no_other (x, r) all (sym (ap (λ t. cond t (lost_with w l (x, r) all) None) h) ∙ none) y s at lost
 
-    some_of_one : (d : ℕ × List ℕ) (p : Pair) (t : Bool) → is_in w d.0 ≡ t → cond t (lost_with w l d all) None ≡ Some p → (t ≡ true) × IsFirstOther d all p
+    some_of_one : (d : ℕ × List ℕ) (p : Pair) (t : Bool) → w d.0 ≡ t → cond t (lost_with w l d all) None ≡ Some p → (t ≡ true) × IsFirstOther d all p
     some_of_one d p true e h = (refl, first_other d all p rising h)
     some_of_one d p false e h = absurd (cc h)
 
     pair_by : (d : ℕ × List ℕ) (es : List (ℕ × List ℕ)) (p : Pair) (o : Option Pair) → of_one d ≡ o → list_all (λ c. nat_lt d.0 c.0) es ≡ true → option_or o (lost_by w l all es) ≡ Some p → (lost_by w l all es ≡ Some p → IsFirstPair es p) → IsFirstPair (d ∷ es) p
     pair_by d es p (Some q) e h i next =
         let same : q ≡ p = cc i in
-        let x = some_of_one d p (is_in w d.0) refl (e ∙ ap (λ (c : Pair). Some c) same) in
+        let x = some_of_one d p (w d.0) refl (e ∙ ap (λ (c : Pair). Some c) same) in
         let number : d.0 ≡ p.written = sym x.1.written in
         record {
           name = d.1;
           entry = ap (register (d ∷ es)) (sym number) ∙ head_entry d es;
-          writes = ap (is_in w) (sym number) ∙ x.0;
+          writes = ap w (sym number) ∙ x.0;
           other = subst (λ n. IsFirstOther (n, d.1) all p) number x.1;
           first = λ y r at written low. elim (entry_cases d es y r at) [
             | inl head ↦ (let n = head.number in absurd (omega (arith, n, low, number)))
@@ -191,15 +192,15 @@ module _ (w l : ℕ) where
     first_pair [] p h e = absurd (cc e)
     first_pair (d ∷ es) p h e = pair_by d es p (of_one d) refl (and_left (list_all (λ c. nat_lt d.0 c.0) es) (is_rising es) h) e (first_pair es p (and_right (list_all (λ c. nat_lt d.0 c.0) es) (is_rising es) h))
 
-    no_pair_by : (d : ℕ × List ℕ) (es : List (ℕ × List ℕ)) (o : Option Pair) → of_one d ≡ o → option_or o (lost_by w l all es) ≡ None → (x : ℕ) (r : List ℕ) → register (d ∷ es) x ≡ Some r → is_in w x ≡ true → (y : ℕ) (s : List ℕ) → register all y ≡ Some s
-        → Loses (x, r) y s → (lost_by w l all es ≡ None → (z : ℕ) (q : List ℕ) → register es z ≡ Some q → is_in w z ≡ true → (v : ℕ) (u : List ℕ) → register all v ≡ Some u → Loses (z, q) v u → ⊥) → ⊥
+    no_pair_by : (d : ℕ × List ℕ) (es : List (ℕ × List ℕ)) (o : Option Pair) → of_one d ≡ o → option_or o (lost_by w l all es) ≡ None → (x : ℕ) (r : List ℕ) → register (d ∷ es) x ≡ Some r → w x ≡ true → (y : ℕ) (s : List ℕ) → register all y ≡ Some s
+        → Loses (x, r) y s → (lost_by w l all es ≡ None → (z : ℕ) (q : List ℕ) → register es z ≡ Some q → w z ≡ true → (v : ℕ) (u : List ℕ) → register all v ≡ Some u → Loses (z, q) v u → ⊥) → ⊥
     no_pair_by d es (Some q) o e x r at written y s there lost next = cc e
     no_pair_by d es None o e x r at written y s there lost next = elim (entry_cases d es x r at) [
       | inl head ↦ none_of_one d x r head o written y s there lost
       | inr later ↦ next e x r later written y s there lost
     ]
 
-    no_pair : (es : List (ℕ × List ℕ)) → lost_by w l all es ≡ None → (x : ℕ) (r : List ℕ) → register es x ≡ Some r → is_in w x ≡ true → (y : ℕ) (s : List ℕ) → register all y ≡ Some s → Loses (x, r) y s → ⊥
+    no_pair : (es : List (ℕ × List ℕ)) → lost_by w l all es ≡ None → (x : ℕ) (r : List ℕ) → register es x ≡ Some r → w x ≡ true → (y : ℕ) (s : List ℕ) → register all y ≡ Some s → Loses (x, r) y s → ⊥
     no_pair [] e x r at written y s there lost = cc at
     no_pair (d ∷ es) e x r at written y s there lost = no_pair_by d es (of_one d) refl e x r at written y s there lost (no_pair es)
 
@@ -251,27 +252,31 @@ none_mapped g None h = refl
 none_mapped g (Some a) h = absurd (cc h)
 
 -- ---- the conflict of a machine
-module _ (b : List (ℕ × List ℕ)) (m : Fsmd) (sets : List ℕ) (sound : IsSound m) (rising : is_rising b ≡ true) (low : (x : ℕ) (r : List ℕ) → register b x ≡ Some r → x < 128) (count : length sets ≡ length m.states) (has : HasLive m sets) where
-  abbrev W : ℕ → ℕ → ℕ
+module _ (b : List (ℕ × List ℕ)) (m : Fsmd) (sets : List VariableSet) (sound : IsSound m) (rising : is_rising b ≡ true) (low : (x : ℕ) (r : List ℕ) → register b x ≡ Some r → x < 128) (count : length sets ≡ length m.states) (has : HasLive m sets) where
+  abbrev W : ℕ → ℕ → ℕ → Bool
   W q k = written_at m q k
 
-  abbrev L : ℕ → ℕ → ℕ
+  abbrev L : ℕ → ℕ → ℕ → Bool
   L q k = live_after m sets q k
 
-  written_is : (q k x : ℕ) → x < 128 → is_in (W q k) x ≡ writes x (branch_at m q k)
+  written_is : (q k x : ℕ) → x < 128 → W q k x ≡ writes x (branch_at m q k)
   written_is q k x h = members (assigned_in (branch_at m q k).assignments) x h
+
+  -- what is live where a branch leads, by whether that is the reset state
+  abbrev after : Bool → ℕ → ℕ → ℕ → Bool
+  after t q k = cond t (λ y. false) (has_at sets (target_of m q k))
 
   record IsLiveAfter (q k x : ℕ) : Type 0 where
     goes_on : target_of m q k ≢ m.reset
     live : IsLive m x (target_of m q k)
 
-  live_by : (q k x : ℕ) (t : Bool) → (target_of m q k == m.reset) ≡ t → k < branch_count m q → x < 128 → is_in (cond t 0 (slice_index sets (target_of m q k))) x ≡ true → IsLiveAfter q k x
-  live_by q k x true e h i j = let none = none_in x in absurd (cc (none, j))
+  live_by : (q k x : ℕ) (t : Bool) → (target_of m q k == m.reset) ≡ t → k < branch_count m q → x < 128 → after t q k x ≡ true → IsLiveAfter q k x
+  live_by q k x true e h i j = absurd (cc j)
   live_by q k x false e h i j =
       let there = target_in m sound q k h in
       record { goes_on = other_number (target_of m q k) m.reset e; live = has.sound (target_of m q k) x (omega (arith, there, count)) i j }
 
-  live_is : (q k x : ℕ) (t : Bool) → (target_of m q k == m.reset) ≡ t → x < 128 → IsLiveAfter q k x → is_in (cond t 0 (slice_index sets (target_of m q k))) x ≡ true
+  live_is : (q k x : ℕ) (t : Bool) → (target_of m q k == m.reset) ≡ t → x < 128 → IsLiveAfter q k x → after t q k x ≡ true
   live_is q k x true e i l = absurd (l.goes_on (same_number (target_of m q k) m.reset e))
   live_is q k x false e i l = has.complete (target_of m q k) x i l.live
 
@@ -284,43 +289,43 @@ module _ (b : List (ℕ × List ℕ)) (m : Fsmd) (sets : List ℕ) (sound : IsSo
 
   record IsLoss (q k x y : ℕ) (r s : List ℕ) : Type 0 where
     apart : x ≢ y
-    lost : (is_in (W q k) y ≡ true) ⊎ (is_in (L q k) y ≡ true)
+    lost : (W q k y ≡ true) ⊎ (L q k y ≡ true)
     same : s ≡ r
 
   loss : (q k x y : ℕ) (r s : List ℕ) → is_lost (W q k) (L q k) (x, r) (y, s) ≡ true → IsLoss q k x y r s
   loss q k x y r s h =
-      let rest = and_right (not (y == x)) ((is_in (W q k) y || is_in (L q k) y) && bytes_eq s r) h in
-      let apart = other_number y x (not_true (y == x) (and_left (not (y == x)) ((is_in (W q k) y || is_in (L q k) y) && bytes_eq s r) h)) in
+      let rest = and_right (not (y == x)) ((W q k y || L q k y) && bytes_eq s r) h in
+      let apart = other_number y x (not_true (y == x) (and_left (not (y == x)) ((W q k y || L q k y) && bytes_eq s r) h)) in
       record {
         apart = λ e. apart (sym e);
-        lost = or_cases (is_in (W q k) y) (is_in (L q k) y) (and_left (is_in (W q k) y || is_in (L q k) y) (bytes_eq s r) rest);
-        same = same_names r s (and_right (is_in (W q k) y || is_in (L q k) y) (bytes_eq s r) rest);
+        lost = or_cases (W q k y) (L q k y) (and_left (W q k y || L q k y) (bytes_eq s r) rest);
+        same = same_names r s (and_right (W q k y || L q k y) (bytes_eq s r) rest);
       }
 
   apart_is : (x y : ℕ) → x ≢ y → not (y == x) ≡ true
   apart_is x y h = ap not (refuted (y == x) (λ e. h (sym (same_number y x e))))
 
-  is_loss : (q k x y : ℕ) (r s : List ℕ) → x ≢ y → (is_in (W q k) y || is_in (L q k) y) ≡ true → s ≡ r → is_lost (W q k) (L q k) (x, r) (y, s) ≡ true
+  is_loss : (q k x y : ℕ) (r s : List ℕ) → x ≢ y → (W q k y || L q k y) ≡ true → s ≡ r → is_lost (W q k) (L q k) (x, r) (y, s) ≡ true
   is_loss q k x y r s a l e =
-      and_both (not (y == x)) ((is_in (W q k) y || is_in (L q k) y) && bytes_eq s r) (apart_is x y a) (and_both (is_in (W q k) y || is_in (L q k) y) (bytes_eq s r) l (own_name r s e))
+      and_both (not (y == x)) ((W q k y || L q k y) && bytes_eq s r) (apart_is x y a) (and_both (W q k y || L q k y) (bytes_eq s r) l (own_name r s e))
 
   -- a conflict loses the other local
   shared_of : (c : Conflict) → IsConflict b m c → IsShared b m c
   shared_of c (inl t) = t.shared
   shared_of c (inr d) = d.shared
 
-  other_lost : (c : Conflict) → IsConflict b m c → (is_in (W c.state c.branch) c.other || is_in (L c.state c.branch) c.other) ≡ true
+  other_lost : (c : Conflict) → IsConflict b m c → (W c.state c.branch c.other || L c.state c.branch c.other) ≡ true
   other_lost c (inl t) =
       let i = low c.other t.shared.shared t.shared.other_in in
-      or_first (is_in (W c.state c.branch) c.other) (is_in (L c.state c.branch) c.other) (written_is c.state c.branch c.other i ∙ t.both)
+      or_first (W c.state c.branch c.other) (L c.state c.branch c.other) (written_is c.state c.branch c.other i ∙ t.both)
   other_lost c (inr d) =
       let i = low c.other d.shared.shared d.shared.other_in in
-      or_right (is_in (W c.state c.branch) c.other) (is_in (L c.state c.branch) c.other) (live_is c.state c.branch c.other (target_of m c.state c.branch == m.reset) refl i (record { goes_on = d.goes_on; live = d.live }))
+      or_right (W c.state c.branch c.other) (L c.state c.branch c.other) (live_is c.state c.branch c.other (target_of m c.state c.branch == m.reset) refl i (record { goes_on = d.goes_on; live = d.live }))
 
   conflict_lost : (c : Conflict) (h : IsConflict b m c) → is_lost (W c.state c.branch) (L c.state c.branch) (c.written, (shared_of c h).shared) (c.other, (shared_of c h).shared) ≡ true
   conflict_lost c h = let s = shared_of c h in is_loss c.state c.branch c.written c.other s.shared s.shared s.differ (other_lost c h) refl
 
-  conflict_writes : (c : Conflict) (h : IsConflict b m c) → is_in (W c.state c.branch) c.written ≡ true
+  conflict_writes : (c : Conflict) (h : IsConflict b m c) → W c.state c.branch c.written ≡ true
   conflict_writes c h = let s = shared_of c h in written_is c.state c.branch c.written (low c.written s.shared s.written_in) ∙ s.writes
 
   -- no conflict at a branch where no pair is found
@@ -373,10 +378,10 @@ module _ (b : List (ℕ × List ℕ)) (m : Fsmd) (sets : List ℕ) (sound : IsSo
       writes = sym (written_is q k p.written (low p.written x.name x.entry)) ∙ x.writes;
     }
 
-    twice_by : is_in (W q k) p.other ≡ true → IsTwice b m c
+    twice_by : W q k p.other ≡ true → IsTwice b m c
     twice_by h = record { shared = shared; both = sym (written_is q k p.other low_other) ∙ h }
 
-    conflict_by : (is_in (W q k) p.other ≡ true) ⊎ (is_in (L q k) p.other ≡ true) → IsConflict b m c
+    conflict_by : (W q k p.other ≡ true) ⊎ (L q k p.other ≡ true) → IsConflict b m c
     conflict_by (inl h) = inl (twice_by h)
     conflict_by (inr h) =
         let l = live_by q k p.other (target_of m q k == m.reset) refl at.numbered low_other h in
@@ -397,8 +402,8 @@ module _ (b : List (ℕ × List ℕ)) (m : Fsmd) (sets : List ℕ) (sound : IsSo
       moved : (P : ℕ → ℕ → Type 0) → d.state ≡ q → d.branch ≡ k → P d.state d.branch → P q k
       moved P e f y = subst (λ z. P q z) f (subst (λ z. P z d.branch) e y)
 
-      writes_here : d.state ≡ q → d.branch ≡ k → is_in (W q k) d.written ≡ true
-      writes_here e f = moved (λ i j. is_in (W i j) d.written ≡ true) e f (conflict_writes d h)
+      writes_here : d.state ≡ q → d.branch ≡ k → W q k d.written ≡ true
+      writes_here e f = moved (λ i j. W i j d.written ≡ true) e f (conflict_writes d h)
 
       lost_here : d.state ≡ q → d.branch ≡ k → is_lost (W q k) (L q k) (d.written, s.shared) (d.other, s.shared) ≡ true
       lost_here e f = moved (λ i j. is_lost (W i j) (L i j) (d.written, s.shared) (d.other, s.shared) ≡ true) e f (conflict_lost d h)
@@ -467,5 +472,5 @@ all_low m b sound binds x r e =
     let few = sound.few_variables in
     omega (arith, low, few)
 
-pub verdict_of : (m : Fsmd) (b es : List (ℕ × List ℕ)) (sets : List ℕ) (o : Option (Conflict × Bool)) → es ≡ b → IsSound m → is_rising b ≡ true → IsBindingOf m.variables b → length sets ≡ length m.states → HasLive m sets → o ≡ first_conflict es m sets → IsVerdict b m o
+pub verdict_of : (m : Fsmd) (b es : List (ℕ × List ℕ)) (sets : List VariableSet) (o : Option (Conflict × Bool)) → es ≡ b → IsSound m → is_rising b ≡ true → IsBindingOf m.variables b → length sets ≡ length m.states → HasLive m sets → o ≡ first_conflict es m sets → IsVerdict b m o
 verdict_of m b es sets o e sound rising binds count has h = verdict b m sets sound rising (all_low m b sound binds) count has o (h ∙ ap (λ ds. first_conflict ds m sets) e)

@@ -1,6 +1,6 @@
 -- Registers that are sorted, each once.
-use Rattle.std.proofs.Common.{◌≡◌, ℕ, zero, suc, ◌<◌, List, [], ◌∷◌, length, map, ap, sym, refl, ◌∙◌, subst, arith, Bool, true, false, cond, Option, Some, None}
-use Rattle.std.specs.Prelude.{◌==◌, ◌||◌, ◌&&◌, nat_lt, Contains}
+use Rattle.std.proofs.Common.{◌≡◌, ℕ, zero, suc, ◌<◌, List, [], ◌∷◌, length, map, ap, sym, refl, ◌∙◌, subst, arith, Bool, true, false, cond, Some}
+use Rattle.std.specs.Prelude.{◌==◌, ◌||◌, nat_lt, Contains}
 use Rattle.std.specs.List.{list_all, list_any, slice_index_or, dedup}
 use Rattle.std.specs.List.Sorted.{IsSorted, IsPermutation}
 use Rattle.std.specs.Ordering.{nat_cmp}

@@ -1,6 +1,6 @@
 pub mod Entries
 pub mod Files
-pub mod Sets
+pub mod Flows
 pub mod Live
 pub mod Lost
 pub mod Results

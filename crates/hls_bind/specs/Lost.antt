@@ -1,12 +1,14 @@
 -- The first branch that loses a local, looked for in order.
-use Rattle.std.specs.Prelude.{ℕ, zero, suc, ◌==◌, Bool, not, ◌&&◌, ◌||◌, cond, List, [], ◌∷◌, length, Option, Some, None, option_map, slice_index}
+use Rattle.std.specs.Prelude.{ℕ, zero, suc, ◌==◌, Bool, false, not, ◌&&◌, ◌||◌, cond, List, [], ◌∷◌, length, Option, Some, None, option_map}
 use Rattle.std.specs.Option.{option_or}
 use Rattle.std.specs.Str.{bytes_eq}
 use Rattle.fs_model.specs.Machines.{Fsmd}
 use Rattle.fs_rules.specs.Sound.{assigned_in, branch_count}
 use Rattle.fs_cut.specs.Paths.{branch_at, target_of}
+use Rattle.variable_sets.specs.declared.VariableSet.{VariableSet}
+use Rattle.live_sets.specs.Flows.{has_at}
 use Rattle.binding_laws.specs.Conflicts.{Conflict}
-use Rattle.hls_bind.specs.Sets.{with_all, is_in}
+use Rattle.hls_bind.specs.Flows.{low}
 
 -- two locals of which a branch loses the other by writing the first, and whether it writes both
 pub record Pair : Type 0 where
@@ -15,32 +17,32 @@ pub record Pair : Type 0 where
   pub twice : Bool
 
 -- whether another local has the same register, and is written or live
-abbrev pub is_lost : (writes live : ℕ) → (one other : ℕ × List ℕ) → Bool
-is_lost writes live one other = not (other.0 == one.0) && ((is_in writes other.0 || is_in live other.0) && bytes_eq other.1 one.1)
+abbrev pub is_lost : (writes live : ℕ → Bool) → (one other : ℕ × List ℕ) → Bool
+is_lost writes live one other = not (other.0 == one.0) && ((writes other.0 || live other.0) && bytes_eq other.1 one.1)
 
 -- the first local that is lost as one is written
-abbrev pub lost_with : (writes live : ℕ) → ℕ × List ℕ → List (ℕ × List ℕ) → Option Pair
+abbrev pub lost_with : (writes live : ℕ → Bool) → ℕ × List ℕ → List (ℕ × List ℕ) → Option Pair
 lost_with writes live one [] = None
-lost_with writes live one (e ∷ es) = cond (is_lost writes live one e) (Some (record { written = one.0; other = e.0; twice = is_in writes e.0 })) (lost_with writes live one es)
+lost_with writes live one (e ∷ es) = cond (is_lost writes live one e) (Some (record { written = one.0; other = e.0; twice = writes e.0 })) (lost_with writes live one es)
 
 -- the first pair, where the written one is among these
-abbrev pub lost_by : (writes live : ℕ) → (all these : List (ℕ × List ℕ)) → Option Pair
+abbrev pub lost_by : (writes live : ℕ → Bool) → (all these : List (ℕ × List ℕ)) → Option Pair
 lost_by writes live all [] = None
-lost_by writes live all (e ∷ es) = option_or (cond (is_in writes e.0) (lost_with writes live e all) None) (lost_by writes live all es)
+lost_by writes live all (e ∷ es) = option_or (cond (writes e.0) (lost_with writes live e all) None) (lost_by writes live all es)
 
 -- what a branch writes
-abbrev pub written_at : Fsmd → ℕ → ℕ → ℕ
-written_at m q k = with_all (assigned_in (branch_at m q k).assignments) 0
+abbrev pub written_at : Fsmd → ℕ → ℕ → ℕ → Bool
+written_at m q k = low (assigned_in (branch_at m q k).assignments)
 
 -- what is live where a branch leads, nothing where it returns
-abbrev pub live_after : Fsmd → List ℕ → ℕ → ℕ → ℕ
-live_after m sets q k = cond (target_of m q k == m.reset) 0 (slice_index sets (target_of m q k))
+abbrev pub live_after : Fsmd → List VariableSet → ℕ → ℕ → ℕ → Bool
+live_after m sets q k = cond (target_of m q k == m.reset) (λ x. false) (has_at sets (target_of m q k))
 
 -- a conflict, and whether it is twice
 abbrev pub found : ℕ → ℕ → Pair → Conflict × Bool
 found q k p = (record { state = q; branch = k; written = p.written; other = p.other }, p.twice)
 
-abbrev pub conflict_at : List (ℕ × List ℕ) → Fsmd → List ℕ → ℕ → ℕ → Option (Conflict × Bool)
+abbrev pub conflict_at : List (ℕ × List ℕ) → Fsmd → List VariableSet → ℕ → ℕ → Option (Conflict × Bool)
 conflict_at b m sets q k = option_map (found q k) (lost_by (written_at m q k) (live_after m sets q k) b b)
 
 -- the first answer for n numbers from k on
@@ -48,8 +50,8 @@ abbrev pub first_from : {A : Type 0} → (ℕ → Option A) → ℕ → ℕ → 
 first_from f k zero = None
 first_from f k (suc n) = option_or (f k) (first_from f (suc k) n)
 
-abbrev pub conflict_in : List (ℕ × List ℕ) → Fsmd → List ℕ → ℕ → Option (Conflict × Bool)
+abbrev pub conflict_in : List (ℕ × List ℕ) → Fsmd → List VariableSet → ℕ → Option (Conflict × Bool)
 conflict_in b m sets q = first_from (conflict_at b m sets q) 0 (branch_count m q)
 
-abbrev pub first_conflict : List (ℕ × List ℕ) → Fsmd → List ℕ → Option (Conflict × Bool)
+abbrev pub first_conflict : List (ℕ × List ℕ) → Fsmd → List VariableSet → Option (Conflict × Bool)
 first_conflict b m sets = first_from (conflict_in b m sets) 0 (length m.states)

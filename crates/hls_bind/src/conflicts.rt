@@ -1,18 +1,20 @@
 //! The first branch that loses one of two locals with one register.
 
-ghost use Rattle.std.specs.Prelude.{◌≡◌, ◌<◌, ◌==◌, cond, length, map, slice_index, None};
+ghost use Rattle.std.specs.Prelude.{◌≡◌, ◌<◌, ◌==◌, false, cond, length, map, None};
 ghost use Rattle.std.specs.Option.{option_map};
 ghost use Rattle.fs_model.specs.View.{branch_of};
 ghost use Rattle.fs_rules.specs.Sound.{branch_count};
 ghost use Rattle.fs_cut.specs.Paths.{branch_at};
+ghost use Rattle.variable_sets.specs.Sets.{has};
+ghost use Rattle.live_sets.specs.Flows.{has_at};
 ghost use Rattle.hls_bind.specs.Entries.{entry_of, pair_of, conflict_of};
-ghost use Rattle.hls_bind.specs.Sets.{is_in};
 ghost use Rattle.hls_bind.specs.Lost.{is_lost, lost_with, lost_by, conflict_at, conflict_in, first_conflict};
 
 use crate::binding::BoundLocal;
-use crate::flows::{assigned, is_in};
+use crate::flows::assigned;
 use fs_ast::machine::Machine;
 use fs_model::parts::{Branch, StateId, VarId};
+use variable_sets::VariableSet;
 
 // Two locals of which a branch loses the other by writing the first.
 #[derive(Clone, Copy)]
@@ -34,24 +36,29 @@ pub struct Conflict {
 }
 
 // Whether another local has the same register, and is written or live.
-fn is_lost(writes: u128, live: u128, one: &BoundLocal, other: &BoundLocal) -> bool
-    ensures { result ≡ is_lost writes live (entry_of one.now) (entry_of other.now) }
+fn is_lost(writes: VariableSet, live: VariableSet, one: &BoundLocal, other: &BoundLocal) -> bool
+    ensures { result ≡ is_lost (has writes) (has live) (entry_of one.now) (entry_of other.now) }
 {
     other.local != one.local
-        && (is_in(writes, other.local) || is_in(live, other.local))
+        && (writes.contains(other.local) || live.contains(other.local))
         && other.register == one.register
 }
 
 // The first local that is lost as one is written.
-fn lost_with(writes: u128, live: u128, one: &BoundLocal, all: &[BoundLocal]) -> Option<Pair>
-    ensures { option_map pair_of result ≡ lost_with writes live (entry_of one.now) (map entry_of all.now) }
+fn lost_with(
+    writes: VariableSet,
+    live: VariableSet,
+    one: &BoundLocal,
+    all: &[BoundLocal],
+) -> Option<Pair>
+    ensures { option_map pair_of result ≡ lost_with (has writes) (has live) (entry_of one.now) (map entry_of all.now) }
 {
     for other in all {
         if is_lost(writes, live, one, other) {
             return Some(Pair {
                 written: one.local,
                 other: other.local,
-                twice: is_in(writes, other.local),
+                twice: writes.contains(other.local),
             });
         }
     }
@@ -59,10 +66,15 @@ fn lost_with(writes: u128, live: u128, one: &BoundLocal, all: &[BoundLocal]) -> 
 }
 
 // What is lost as one is written, if it is.
-fn lost_if_written(writes: u128, live: u128, one: &BoundLocal, all: &[BoundLocal]) -> Option<Pair>
-    ensures { option_map pair_of result ≡ cond (is_in writes one.now.local.0) (lost_with writes live (entry_of one.now) (map entry_of all.now)) None }
+fn lost_if_written(
+    writes: VariableSet,
+    live: VariableSet,
+    one: &BoundLocal,
+    all: &[BoundLocal],
+) -> Option<Pair>
+    ensures { option_map pair_of result ≡ cond (has writes one.now.local.0) (lost_with (has writes) (has live) (entry_of one.now) (map entry_of all.now)) None }
 {
-    if is_in(writes, one.local) {
+    if writes.contains(one.local) {
         lost_with(writes, live, one, all)
     } else {
         None
@@ -70,8 +82,8 @@ fn lost_if_written(writes: u128, live: u128, one: &BoundLocal, all: &[BoundLocal
 }
 
 // The first pair of which a branch loses one.
-fn lost_by(writes: u128, live: u128, all: &[BoundLocal]) -> Option<Pair>
-    ensures { option_map pair_of result ≡ lost_by writes live (map entry_of all.now) (map entry_of all.now) }
+fn lost_by(writes: VariableSet, live: VariableSet, all: &[BoundLocal]) -> Option<Pair>
+    ensures { option_map pair_of result ≡ lost_by (has writes) (has live) (map entry_of all.now) (map entry_of all.now) }
 {
     for one in all {
         if let Some(pair) = lost_if_written(writes, live, one, all) {
@@ -82,12 +94,12 @@ fn lost_by(writes: u128, live: u128, all: &[BoundLocal]) -> Option<Pair>
 }
 
 // What is live where a branch leads, nothing where it returns to the reset state.
-fn live_after(m: &Machine, live: &[u128], target: StateId) -> u128
+fn live_after(m: &Machine, live: &[VariableSet], target: StateId) -> VariableSet
     requires { target.0 < length live.now }
-    ensures { result ≡ cond (target.0 == m.now.reset) 0 (slice_index live.now target.0) }
+    ensures { has result ≡ cond (target.0 == m.now.reset) (λ x. false) (has_at live.now target.0) }
 {
     if target == m.reset() {
-        0
+        VariableSet::empty()
     } else {
         live[target.0 as usize]
     }
@@ -107,7 +119,7 @@ fn branch_at(m: &Machine, state: StateId, number: u32) -> &Branch
 fn conflict_at(
     m: &Machine,
     all: &[BoundLocal],
-    live: &[u128],
+    live: &[VariableSet],
     state: StateId,
     number: u32,
 ) -> Option<Conflict>
@@ -131,7 +143,12 @@ fn conflict_at(
 }
 
 // The first conflict of a state.
-fn conflict_in(m: &Machine, all: &[BoundLocal], live: &[u128], state: StateId) -> Option<Conflict>
+fn conflict_in(
+    m: &Machine,
+    all: &[BoundLocal],
+    live: &[VariableSet],
+    state: StateId,
+) -> Option<Conflict>
     requires state { state.0 < length m.now.states }
     requires live { length live.now ≡ length m.now.states }
     ensures { option_map conflict_of result ≡ conflict_in (map entry_of all.now) m.now live.now state.0 }
@@ -147,7 +164,7 @@ fn conflict_in(m: &Machine, all: &[BoundLocal], live: &[u128], state: StateId) -
 
 /// The first conflict by state, then by branch, then by the written local, then by the other. `live` has for each state
 /// the scalars that are live there.
-pub fn first_conflict(m: &Machine, all: &[BoundLocal], live: &[u128]) -> Option<Conflict>
+pub fn first_conflict(m: &Machine, all: &[BoundLocal], live: &[VariableSet]) -> Option<Conflict>
     requires live { length live.now ≡ length m.now.states }
     ensures { option_map conflict_of result ≡ first_conflict (map entry_of all.now) m.now live.now }
 {

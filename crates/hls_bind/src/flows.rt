@@ -6,8 +6,9 @@ ghost use Rattle.std.specs.Result.{OnOk};
 ghost use Rattle.fs_model.specs.View.{term_of, literal_of, assignment_of, branch_of};
 ghost use Rattle.fs_model.specs.Parts.{scalars, uses_in_literal};
 ghost use Rattle.fs_rules.specs.Sound.{scalars_in, assigned_in};
+ghost use Rattle.variable_sets.specs.Sets.{has, also_all};
 ghost use Rattle.binding_laws.specs.Liveness.{read_by_assignment};
-ghost use Rattle.hls_bind.specs.Sets.{single, with_all, is_in, flow_of, flows_at, flows_below};
+ghost use Rattle.hls_bind.specs.Flows.{low, transfer_of, transfer_by, transfers_at, transfers_below};
 ghost use Rattle.hls_bind.specs.Live.{HasLive};
 
 use fs_ast::machine::Machine;
@@ -15,94 +16,72 @@ use fs_model::name::NoMemory;
 use fs_model::parts::{Assign, Branch, Expr, Lit, StateId, VarId};
 use live_sets::flows::{Flow, live_sets};
 use std::alloc::Global;
+use variable_sets::VariableSet;
 
-// The set of one variable.
-fn single(variable: VarId) -> u128
-    ensures { result ≡ single variable.0 }
-{
-    if variable.0 < 128 {
-        1u128 << variable.0
-    } else {
-        0
-    }
-}
-
-/// Whether a set has a variable.
-#[tactic(auto, using(crate::proofs::Bits::low_bit, crate::proofs::Bits::past_bits))]
-pub fn is_in(set: u128, variable: VarId) -> bool
-    ensures { result ≡ is_in set variable.0 }
-{
-    if variable.0 < 128 {
-        (set >> variable.0) & 1 == 1
-    } else {
-        false
-    }
-}
-
-// A set with the scalars that an expression reads.
-#[tactic(auto, using(crate::proofs::Bits::with_joined))]
-fn with_read(expr: &Expr<VarId>, set: u128) -> u128
-    ensures { result ≡ with_all (scalars_in (term_of expr.now)) set }
+// A set and the scalars that an expression reads.
+#[tactic(auto, using(variable_sets::proofs::Members::also_joined))]
+fn with_read(set: VariableSet, expr: &Expr<VarId>) -> VariableSet
+    ensures { has result ≡ also_all (scalars_in (term_of expr.now)) (has set) }
 {
     match expr {
         Expr::Num(_) => set,
-        Expr::Var(x) => set | single(*x),
-        Expr::Read(_, index) => with_read(index, set),
+        Expr::Var(x) => set.with(*x),
+        Expr::Read(_, index) => with_read(set, index),
         Expr::Add(a, b) | Expr::Sub(a, b) | Expr::Mul(a, b) | Expr::Div(a, b) | Expr::Rem(a, b) =>
-            with_read(b, with_read(a, set)),
-        Expr::Neg(a) => with_read(a, set),
+            with_read(with_read(set, a), b),
+        Expr::Neg(a) => with_read(set, a),
     }
 }
 
-// A set with the scalars that a literal reads.
-#[tactic(auto, using(crate::proofs::Bits::with_joined))]
-fn with_literal(lit: &Lit<VarId>, set: u128) -> u128
-    ensures { result ≡ with_all (uses_in_literal scalars (literal_of lit.now)) set }
+// A set and the scalars that a literal reads.
+#[tactic(auto, using(variable_sets::proofs::Members::also_joined))]
+fn with_literal(set: VariableSet, lit: &Lit<VarId>) -> VariableSet
+    ensures { has result ≡ also_all (uses_in_literal scalars (literal_of lit.now)) (has set) }
 {
-    with_read(&lit.right, with_read(&lit.left, set))
+    with_read(with_read(set, &lit.left), &lit.right)
 }
 
-// A set with the scalars that an assignment reads.
-#[tactic(auto, using(crate::proofs::Bits::with_joined))]
-fn with_assignment(assign: &Assign<VarId>, set: u128) -> u128
-    ensures { result ≡ with_all (read_by_assignment (assignment_of assign.now)) set }
+// A set and the scalars that an assignment reads.
+#[tactic(auto, using(variable_sets::proofs::Members::also_joined))]
+fn with_assignment(set: VariableSet, assign: &Assign<VarId>) -> VariableSet
+    ensures { has result ≡ also_all (read_by_assignment (assignment_of assign.now)) (has set) }
 {
     match assign {
-        Assign::Set(_, value) | Assign::Emit(_, value) => with_read(value, set),
-        Assign::Put(_, index, value) => with_read(value, with_read(index, set)),
+        Assign::Set(_, value) | Assign::Emit(_, value) => with_read(set, value),
+        Assign::Put(_, index, value) => with_read(with_read(set, index), value),
     }
 }
 
 // The scalars that literals read.
-fn read_by_literals(lits: &[Lit<VarId>]) -> u128
-    ensures { result ≡ with_all (flat_map (uses_in_literal scalars) (map literal_of lits.now)) 0 }
+fn read_by_literals(lits: &[Lit<VarId>]) -> VariableSet
+    ensures { has result ≡ low (flat_map (uses_in_literal scalars) (map literal_of lits.now)) }
 {
-    let mut set = 0;
+    let mut set = VariableSet::empty();
     for lit in lits {
-        set = with_literal(lit, set);
+        set = with_literal(set, lit);
     }
     set
 }
 
-// A set with the scalars that assignments read.
-fn with_assignments(assigns: &[Assign<VarId>], set: u128) -> u128
-    ensures { result ≡ with_all (flat_map read_by_assignment (map assignment_of assigns.now)) set }
+// A set and the scalars that assignments read.
+fn with_assignments(set: VariableSet, assigns: &[Assign<VarId>]) -> VariableSet
+    ensures { has result ≡ also_all (flat_map read_by_assignment (map assignment_of assigns.now)) (has set) }
 {
     let mut set = set;
     for assign in assigns {
-        set = with_assignment(assign, set);
+        set = with_assignment(set, assign);
     }
     set
 }
 
 /// The scalars that a branch assigns.
-pub fn assigned(branch: &Branch) -> u128
-    ensures { result ≡ with_all (assigned_in (branch_of branch.now).assignments) 0 }
+pub fn assigned(branch: &Branch) -> VariableSet
+    ensures { has result ≡ low (assigned_in (branch_of branch.now).assignments) }
 {
-    let mut set = 0;
+    let mut set = VariableSet::empty();
     for assign in &branch.assigns {
         if let Assign::Set(x, _) = assign {
-            set |= single(*x);
+            set = set.with(*x);
         }
     }
     set
@@ -110,19 +89,19 @@ pub fn assigned(branch: &Branch) -> u128
 
 // What a branch of a state does to the sets of what is live.
 fn flow(from: u32, branch: &Branch) -> Flow
-    ensures { result ≡ flow_of from (branch_of branch.now) }
+    ensures { transfer_of result ≡ transfer_by from (branch_of branch.now) }
 {
     Flow {
         from: from as usize,
         target: branch.target.0 as usize,
-        reads: with_assignments(&branch.assigns, read_by_literals(&branch.lits)),
-        keeps: !assigned(branch),
+        reads: with_assignments(read_by_literals(&branch.lits), &branch.assigns),
+        writes: assigned(branch),
     }
 }
 
 // Adds what branches of a state do.
 fn add_flows(flows: &mut Vec<Flow>, from: u32, branches: &[Branch]) -> Result<(), NoMemory>
-    ensures { OnOk result (flows.new.items ≡ flows.old.items ++ map (flow_of from) (map branch_of branches.now)) }
+    ensures { OnOk result (map transfer_of flows.new.items ≡ map transfer_of flows.old.items ++ map (transfer_by from) (map branch_of branches.now)) }
 {
     for branch in branches {
         flows.push(flow(from, branch))?;
@@ -133,14 +112,14 @@ fn add_flows(flows: &mut Vec<Flow>, from: u32, branches: &[Branch]) -> Result<()
 // Adds what the branches of a state do.
 fn add_state(flows: &mut Vec<Flow>, m: &Machine, state: StateId) -> Result<(), NoMemory>
     requires { state.0 < length m.now.states }
-    ensures { OnOk result (flows.new.items ≡ flows.old.items ++ flows_at m.now state.0) }
+    ensures { OnOk result (map transfer_of flows.new.items ≡ map transfer_of flows.old.items ++ transfers_at m.now state.0) }
 {
     add_flows(flows, state.0, m.branches(state))
 }
 
-// What the branches of all states do. From the last state to the first, since names become live backwards.
+// What the branches of all states do. From the last state to the first, since variables become live backwards.
 fn all_flows(alloc: Global, m: &Machine) -> Result<Vec<Flow>, NoMemory>
-    ensures { IfOk result (λ flows. flows.items ≡ flows_below m.now (length m.now.states)) }
+    ensures { IfOk result (λ flows. map transfer_of flows.items ≡ transfers_below m.now (length m.now.states)) }
 {
     let mut flows = Vec::new(alloc);
     let count = m.state_count();
@@ -151,7 +130,7 @@ fn all_flows(alloc: Global, m: &Machine) -> Result<Vec<Flow>, NoMemory>
 }
 
 /// For each state of a machine the scalars that are live there.
-pub fn live_at_states(alloc: Global, m: &Machine) -> Result<Vec<u128>, NoMemory>
+pub fn live_at_states(alloc: Global, m: &Machine) -> Result<Vec<VariableSet>, NoMemory>
     ensures count { IfOk result (λ sets. length sets.items ≡ length m.now.states) }
     ensures live { IfOk result (λ sets. HasLive m.now sets.items) }
 {

@@ -2,62 +2,35 @@
 
 ghost use Rattle.std.specs.Prelude.{◌≡◌, map};
 ghost use Rattle.fs_model.specs.View.{term_of, assignment_of};
-ghost use Rattle.line_filling.specs.Sets.{member_of, also, with_reads, meets, sets_of, none_changed, sets_after, sets_from, edge_between};
+ghost use Rattle.line_rows.specs.Items.{read_in};
+ghost use Rattle.variable_sets.specs.Sets.{has, also_all};
+ghost use Rattle.line_filling.specs.Sets.{sets_of, none_changed, sets_after, sets_from, edge_between};
 
 use fs_model::parts::{Assign, Expr, VarId};
+use variable_sets::VariableSet;
 
-/// A set of variables numbered below 128: bit `x` stands for the variable numbered `x`. Others are left out.
-#[derive(Clone, Copy, Debug, PartialEq, Eq)]
-pub struct VarSet {
-    pub bits: u128,
-}
-
-impl VarSet {
-    /// The set and one variable more.
-    pub fn with(self, variable: VarId) -> VarSet
-        ensures { member_of result ≡ also variable.0 (member_of self) }
-    {
-        if variable.0 < 128 {
-            VarSet {
-                bits: self.bits | 1 << variable.0,
-            }
-        } else {
-            self
-        }
-    }
-
-    /// The set and the variables that an expression reads.
-    pub fn with_reads(self, expr: &Expr<VarId>) -> VarSet
-        ensures { member_of result ≡ with_reads (term_of expr.now) (member_of self) }
-    {
-        match expr {
-            Expr::Num(_) => self,
-            Expr::Var(x) => self.with(*x),
-            Expr::Read(x, index) => self.with(*x).with_reads(index),
-            Expr::Add(a, b)
-            | Expr::Sub(a, b)
-            | Expr::Mul(a, b)
-            | Expr::Div(a, b)
-            | Expr::Rem(a, b) => self.with_reads(a).with_reads(b),
-            Expr::Neg(a) => self.with_reads(a),
-        }
-    }
-
-    /// Whether a variable is in both sets.
-    pub fn meets(self, other: VarSet) -> bool
-        ensures { result ≡ meets self other }
-    {
-        self.bits & other.bits != 0
+// A set and the variables that an expression reads, arrays among them.
+#[tactic(auto, using(variable_sets::proofs::Members::also_joined))]
+fn with_reads(set: VariableSet, expr: &Expr<VarId>) -> VariableSet
+    ensures { has result ≡ also_all (read_in (term_of expr.now)) (has set) }
+{
+    match expr {
+        Expr::Num(_) => set,
+        Expr::Var(x) => set.with(*x),
+        Expr::Read(x, index) => with_reads(set.with(*x), index),
+        Expr::Add(a, b) | Expr::Sub(a, b) | Expr::Mul(a, b) | Expr::Div(a, b) | Expr::Rem(a, b) =>
+            with_reads(with_reads(set, a), b),
+        Expr::Neg(a) => with_reads(set, a),
     }
 }
 
 /// What an item reads, changes, assigns and writes, and whether it emits.
 #[derive(Clone, Copy, Debug, PartialEq, Eq)]
 pub struct Effects {
-    pub reads: VarSet,
-    pub changes: VarSet,
-    pub assigns: VarSet,
-    pub writes: VarSet,
+    pub reads: VariableSet,
+    pub changes: VariableSet,
+    pub assigns: VariableSet,
+    pub writes: VariableSet,
     pub emits: bool,
 }
 
@@ -68,21 +41,21 @@ impl Effects {
     {
         match assign {
             Assign::Set(x, value) => Effects {
-                reads: self.reads.with_reads(value),
+                reads: with_reads(self.reads, value),
                 changes: self.changes.with(*x),
                 assigns: self.assigns.with(*x),
                 writes: self.writes,
                 emits: self.emits,
             },
             Assign::Put(x, index, value) => Effects {
-                reads: self.reads.with_reads(index).with_reads(value),
+                reads: with_reads(with_reads(self.reads, index), value),
                 changes: self.changes.with(*x),
                 assigns: self.assigns,
                 writes: self.writes.with(*x),
                 emits: self.emits,
             },
             Assign::Emit(x, value) => Effects {
-                reads: self.reads.with_reads(value),
+                reads: with_reads(self.reads, value),
                 changes: self.changes.with(*x),
                 assigns: self.assigns,
                 writes: self.writes,
@@ -95,7 +68,7 @@ impl Effects {
     fn none() -> Effects
         ensures { sets_of result ≡ none_changed }
     {
-        let empty = VarSet { bits: 0 };
+        let empty = VariableSet::empty();
         Effects {
             reads: empty,
             changes: empty,

@@ -1,169 +1,167 @@
--- Bits that are added, and the weight that falls.
-use Rattle.std.proofs.Common.{◌≡◌, ◌++◌, ℕ, zero, suc, ◌+◌, ◌-◌, ◌^◌, ◌<◌, ◌≤◌, List, [], ◌∷◌, length, sym, refl, ◌∙◌, ap, subst, ◌⊎◌, inl, inr, arith, Bool, true, false, cond, slice_index, slice_set, bit_and, bit_or, max, min, All, take, rules}
-use Rattle.std.specs.Prelude.{◌≢◌, Contains, ◌==◌}
+-- Variables that are added, and the weight that falls.
+use Rattle.std.proofs.Common.{◌≡◌, ◌++◌, ℕ, zero, suc, ◌+◌, ◌^◌, ◌<◌, ◌≤◌, List, [], ◌∷◌, length, sym, refl, ◌∙◌, ap, ap₂, subst, inl, inr, arith, Bool, true, false, cond, slice_set, All, take, length-set, get_or-set_same, get_or-set_other}
+use Rattle.std.specs.Prelude.{◌≢◌, ◌==◌, ◌&&◌, ◌||◌, not, Contains}
 use Rattle.std.specs.List.{slice_index_or}
-use Rattle.std.specs.Int.{bit_at}
-use Rattle.std.proofs.lemmas.Nat.{le_or_l}
-use Rattle.std.proofs.lemmas.List.Elements.{All-more}
-use Rattle.std.proofs.lemmas.Nat.Bits.{bit_at-zero, bit_at_or, bit_at_and, bit_at-lt}
+use Rattle.std.proofs.lemmas.List.{set-get_or}
+use Rattle.std.proofs.lemmas.List.Elements.{All-more, All-contains, Contains-get_or}
+use Rattle.std.proofs.lemmas.Bool.{both_ways, or_cases, or_left, or_right, and_parts, and_from, not-true, not-false, not_from_false}
 use Rattle.std.proofs.lemmas.Bool.Decides.{nat_tests}
+use Rattle.variable_sets.specs.declared.VariableSet.{VariableSet}
+use Rattle.variable_sets.specs.Sets.{has}
+use Rattle.variable_sets.proofs.Bits.{has_none, more_bits}
 use Rattle.live_sets.specs.declared.flows.Flow.{Flow}
-use Rattle.live_sets.specs.Flows.{weight, grown, stepped, AreLive, IsLiveIn, reading, passing, IsSettled, IsInside}
-
-pub lighter : (ns : List ℕ) (i v : ℕ) → i < length ns → slice_index_or ns i 0 < v → slice_index_or ns i 0 < 2 ^ 128 → weight (slice_set ns i v) < weight ns
-lighter [] i v h k f = absurd (omega arith)
-lighter (n ∷ ns) zero v h k f = omega (arith, k, f)
-lighter (n ∷ ns) (suc i) v h k f = omega (arith, lighter ns i v (omega (arith, h)) k f)
-
-strict : (a c : ℕ) → a ≤ c → (c ≡ a → ⊥) → a < c
-strict a c h f = omega (arith, h, f)
-
-pub more_bits : (a b : ℕ) → (bit_or a b ≡ a → ⊥) → a < bit_or a b
-more_bits a b f = strict a (bit_or a b) (le_or_l a b) f
+use Rattle.live_sets.specs.Flows.{set_at, has_at, live_before, stepped, weight, AreLive, IsLiveIn, reading, passing, IsSettled, IsInside}
 
 same_number : (x y : ℕ) → (x == y) ≡ true → x ≡ y
 same_number x y h = grind (arith, nat_tests)
 
-other_number : (x y : ℕ) → (x == y) ≡ false → x ≡ y → ⊥
+other_number : (x y : ℕ) → (x == y) ≡ false → x ≢ y
 other_number x y h e = grind (arith, nat_tests)
 
-zero_bit : (x : ℕ) → bit_at 0 x ≡ 1 → ⊥
-zero_bit x h = omega (arith, h, bit_at-zero x)
+or_false : (b : Bool) → (b || false) ≡ b
+or_false true = refl
+or_false false = refl
+
+abbrev nothing : VariableSet
+nothing = record { bits = 0 }
+
+abbrev set_of : ℕ → VariableSet
+set_of n = record { bits = n }
+
+-- ---- what is live before a branch
+-- by whether it leads to the reset state
+abbrev before_by : Bool → List VariableSet → Flow → ℕ → Bool
+before_by t live f = cond t (has f.reads) (λ x. has f.reads x || (has_at live f.target x && not (has f.writes x)))
+
+pub passed_on : (reset : ℕ) (live : List VariableSet) (f : Flow) (at left all : VariableSet) → f.target ≢ reset → at ≡ set_at live f.target → has left ≡ (λ x. has at x && not (has f.writes x)) → has all ≡ (λ x. has f.reads x || has left x) → has all ≡ live_before reset live f
+passed_on reset live f at left all on read e g =
+    let apart : (f.target == reset) ≡ false = grind (arith, nat_tests) in
+    g
+    ∙ ap {B = ℕ → Bool} (λ (m : ℕ → Bool) (x : ℕ). has f.reads x || m x) e
+    ∙ ap {B = ℕ → Bool} (λ (s : VariableSet) (x : ℕ). has f.reads x || (has s x && not (has f.writes x))) read
+    ∙ sym (ap (λ t. before_by t live f) apart)
+
+-- ---- a step
+lighter : (ss : List VariableSet) (i : ℕ) (s : VariableSet) → i < length ss → (set_at ss i).bits < s.bits → (set_at ss i).bits < 2 ^ 128 → weight (slice_set ss i s) < weight ss
+lighter [] i s h k f = absurd (omega arith)
+lighter (n ∷ ss) zero s h k f = omega (arith, k, f)
+lighter (n ∷ ss) (suc i) s h k f = omega (arith, lighter ss i s (omega (arith, h)) k f)
+
+strict : (a c : ℕ) → a ≤ c → (c ≡ a → ⊥) → a < c
+strict a c h f = omega (arith, h, f)
+
+-- what a step does
+pub record Grown (reset : ℕ) (live : List VariableSet) (f : Flow) (new : List VariableSet) (changed : Bool) : Type 0 where
+  pub count : length new ≡ length live
+  pub stepped : (q x : ℕ) → has_at new q x ≡ stepped reset live f q x
+  pub settled : changed ≡ false → (new ≡ live) × IsSettled reset live f
+  pub grows : changed ≡ true → weight new < weight live
+
+-- the set of a state, with what is live by a branch added
+module _ (reset : ℕ) (live : List VariableSet) (f : Flow) (old more new : VariableSet) (inside : IsInside (length live) f) (read : old ≡ set_at live f.from) (before : has more ≡ live_before reset live f) (is : has new ≡ (λ x. has old x || has more x)) where
+  own : (x : ℕ) → has new x ≡ (has_at live f.from x || live_before reset live f x)
+  own x = ap (λ (m : ℕ → Bool). m x) is ∙ ap₂ (λ (s : VariableSet) (m : ℕ → Bool). has s x || m x) read before
+
+  step_by : (q x : ℕ) (t : Bool) → (q == f.from) ≡ t → has_at (slice_set live f.from new) q x ≡ (has_at live q x || (t && live_before reset live f x))
+  step_by q x true e =
+      let same : q ≡ f.from = same_number q f.from e in
+      subst (λ z. has_at (slice_set live f.from new) z x ≡ (has_at live z x || live_before reset live f x)) (sym same) (ap (λ s. has s x) (get_or-set_same live f.from new nothing inside.0) ∙ own x)
+  step_by q x false e = ap (λ s. has s x) (get_or-set_other live f.from q new nothing (other_number q f.from e)) ∙ sym (or_false (has_at live q x))
+
+  grown_step : (q x : ℕ) → has_at (slice_set live f.from new) q x ≡ stepped reset live f q x
+  grown_step q x = step_by q x (q == f.from) refl
+
+  same_sets : new.bits ≡ old.bits → slice_set live f.from new ≡ live
+  same_sets e = ap (λ n. slice_set live f.from (set_of n)) e ∙ ap (λ s. slice_set live f.from s) read ∙ set-get_or live f.from nothing
+
+  now_settled : new.bits ≡ old.bits → IsSettled reset live f
+  now_settled e = λ x h. ap (λ s. has s x) (sym (ap set_of e ∙ read)) ∙ own x ∙ or_right (has_at live f.from x) (live_before reset live f x) h
+
+  grown_lighter : (new.bits ≡ old.bits → ⊥) → old.bits < 2 ^ 128 → weight (slice_set live f.from new) < weight live
+  grown_lighter apart few = lighter live f.from new inside.0 (subst (λ s. s.bits < new.bits) read (strict old.bits new.bits (more_bits old more new is) apart)) (subst (λ s. s.bits < 2 ^ 128) read few)
+
+  pub grown : (changed : Bool) → changed ≡ not (new.bits == old.bits) → old.bits < 2 ^ 128 → Grown reset live f (slice_set live f.from new) changed
+  grown changed e few = record {
+    count = length-set live f.from new;
+    stepped = grown_step;
+    settled = λ h. let same = same_number new.bits old.bits (not-false (new.bits == old.bits) (sym e ∙ h)) in (same_sets same, now_settled same);
+    grows = λ h. grown_lighter (other_number new.bits old.bits (not-true (new.bits == old.bits) (sym e ∙ h))) few;
+  }
 
 -- ---- a step adds what is live
-one_of : (m n : ℕ) → m < 2 → n < 2 → max m n ≡ 1 → (m ≡ 1) ⊎ (n ≡ 1)
-one_of zero n h i e = inr (omega (arith, e))
-one_of (suc zero) n h i e = inl refl
-one_of (suc (suc m)) n h i e = absurd (omega (arith, h))
+module _ (flows : List Flow) (reset : ℕ) (live new : List VariableSet) (f : Flow) (listed : Contains flows f) (is : (q x : ℕ) → has_at new q x ≡ stepped reset live f q x) (sound : AreLive flows reset live) where
+  before_live : (x : ℕ) (t : Bool) → (f.target == reset) ≡ t → before_by t live f x ≡ true → IsLiveIn flows reset x f.from
+  before_live x true e h = reading f listed h
+  before_live x false e h = elim (or_cases (has f.reads x) (has_at live f.target x && not (has f.writes x)) h) [
+    | inl r ↦ reading f listed r
+    | inr p ↦ (let two = and_parts (has_at live f.target x) (not (has f.writes x)) p in
+        passing f listed (not-true (has f.writes x) two.1) (other_number f.target reset e) (sound f.target x two.0))
+  ]
 
-or_one : (a b x : ℕ) → bit_at (bit_or a b) x ≡ 1 → (bit_at a x ≡ 1) ⊎ (bit_at b x ≡ 1)
-or_one a b x h = one_of (bit_at a x) (bit_at b x) (bit_at-lt a x) (bit_at-lt b x) (sym (bit_at_or a b x) ∙ h)
+  step_live : (q x : ℕ) → (q == f.from && live_before reset live f x) ≡ true → IsLiveIn flows reset x q
+  step_live q x h =
+      let two = and_parts (q == f.from) (live_before reset live f x) h in
+      let same : q ≡ f.from = same_number q f.from two.0 in
+      subst (λ z. IsLiveIn flows reset x z) (sym same) (before_live x (f.target == reset) refl two.1)
 
-both_of : (m n : ℕ) → m < 2 → n < 2 → min m n ≡ 1 → (m ≡ 1) × (n ≡ 1)
-both_of m n h i e = (omega (arith, h, i, e), omega (arith, h, i, e))
-
-and_one : (a b x : ℕ) → bit_at (bit_and a b) x ≡ 1 → (bit_at a x ≡ 1) × (bit_at b x ≡ 1)
-and_one a b x h = both_of (bit_at a x) (bit_at b x) (bit_at-lt a x) (bit_at-lt b x) (sym (bit_at_and a b x) ∙ h)
-
-less_one : (q i : ℕ) → (suc q == suc i) ≡ false → (q == i) ≡ false
-less_one q i h = grind (arith, nat_tests)
-
-at_other : (ns : List ℕ) (i q v : ℕ) → (q == i) ≡ false → slice_index_or (slice_set ns i v) q 0 ≡ slice_index_or ns q 0
-at_other [] i q v h = refl
-at_other (n ∷ ns) zero zero v h = absurd (other_number 0 0 h refl)
-at_other (n ∷ ns) zero (suc q) v h = refl
-at_other (n ∷ ns) (suc i) zero v h = refl
-at_other (n ∷ ns) (suc i) (suc q) v h = at_other ns i q v (less_one q i h)
-
-at_own : (ns : List ℕ) (i v : ℕ) → i < length ns → slice_index_or (slice_set ns i v) i 0 ≡ v
-at_own [] i v h = absurd (omega arith)
-at_own (n ∷ ns) zero v h = refl
-at_own (n ∷ ns) (suc i) v h = at_own ns i v (omega (arith, h))
-
-pub length_set : (ns : List ℕ) (i v : ℕ) → length (slice_set ns i v) ≡ length ns
-length_set [] i v = refl
-length_set (n ∷ ns) zero v = refl
-length_set (n ∷ ns) (suc i) v = ap suc (length_set ns i v)
-
-module _ (flows : List Flow) (reset : ℕ) (live : List ℕ) (f : Flow) (listed : Contains flows f) (inside : IsInside (length live) f) (sound : AreLive flows reset live) where
-  by_target : (x : ℕ) (t : Bool) → (f.target == reset) ≡ t → bit_at (cond t 0 (bit_and (slice_index live f.target) f.keeps)) x ≡ 1 → IsLiveIn flows reset x f.from
-  by_target x true e h = absurd (zero_bit x h)
-  by_target x false e h =
-      let b = and_one (slice_index live f.target) f.keeps x h in
-      passing f listed b.1 (λ same. other_number f.target reset e same) (sound f.target x inside.1 b.0)
-
-  by_gain : (x : ℕ) → (bit_at f.reads x ≡ 1) ⊎ (bit_at (cond (f.target == reset) 0 (bit_and (slice_index live f.target) f.keeps)) x ≡ 1) → IsLiveIn flows reset x f.from
-  by_gain x (inl h) = reading f listed h
-  by_gain x (inr h) = by_target x (f.target == reset) refl h
-
-  by_grown : (x : ℕ) → (bit_at (slice_index live f.from) x ≡ 1) ⊎ (bit_at (bit_or f.reads (cond (f.target == reset) 0 (bit_and (slice_index live f.target) f.keeps))) x ≡ 1) → IsLiveIn flows reset x f.from
-  by_grown x (inl h) = sound f.from x inside.0 h
-  by_grown x (inr h) = by_gain x (or_one f.reads (cond (f.target == reset) 0 (bit_and (slice_index live f.target) f.keeps)) x h)
-
-  step_by : (q x : ℕ) (t : Bool) → (q == f.from) ≡ t → q < length live → bit_at (slice_index (stepped reset live f) q) x ≡ 1 → IsLiveIn flows reset x q
-  step_by q x true e i h =
-      let same : q ≡ f.from = same_number q f.from e in
-      subst (λ z. IsLiveIn flows reset x z) (sym same) (by_grown x (or_one (slice_index live f.from) (bit_or f.reads (cond (f.target == reset) 0 (bit_and (slice_index live f.target) f.keeps))) x (ap (λ n. bit_at n x) (sym (ap (slice_index (stepped reset live f)) same ∙ at_own live f.from (grown reset live f) inside.0)) ∙ h)))
-  step_by q x false e i h = sound q x i (ap (λ n. bit_at n x) (sym (at_other live f.from q (grown reset live f) e)) ∙ h)
-
-  pub step_sound : AreLive flows reset (stepped reset live f)
-  step_sound = λ q x i h. step_by q x (q == f.from) refl (omega (arith, i, length_set live f.from (grown reset live f))) h
+  pub step_sound : AreLive flows reset new
+  step_sound = λ q x h. elim (or_cases (has_at live q x) (q == f.from && live_before reset live f x) (sym (is q x) ∙ h)) [ inl e ↦ sound q x e | inr e ↦ step_live q x e ]
 
 -- ---- one turn of a round
 -- what holds after i turns
-abbrev pub Kept : List Flow → ℕ → (first live : List ℕ) → Bool → ℕ → Type 0
+abbrev pub Kept : List Flow → ℕ → (first live : List VariableSet) → Bool → ℕ → Type 0
 Kept flows reset first live changed i =
     (length live ≡ length first) × (changed ≡ false → (live ≡ first) × All (IsSettled reset first) (take i flows)) × (changed ≡ true → weight live < weight first) × (AreLive flows reset first → AreLive flows reset live)
 
-module _ (flows : List Flow) (reset : ℕ) (first live new : List ℕ) (i : ℕ) (d : Flow) (inside : i < length flows) (all : All (IsInside (length first)) flows) (is : new ≡ stepped reset live (slice_index_or flows i d)) where
-  same_length : length live ≡ length first → length new ≡ length first
-  same_length h = ap length is ∙ length_set live (slice_index_or flows i d).from (grown reset live (slice_index_or flows i d)) ∙ h
-
-  here : length live ≡ length first → IsInside (length live) (slice_index_or flows i d)
-  here h = let x = all i d inside in (omega (arith, x.0, h), omega (arith, x.1, h))
-
-  sound_next : length live ≡ length first → AreLive flows reset live → AreLive flows reset new
-  sound_next h s = subst (λ (v : List ℕ). AreLive flows reset v) (sym is) (step_sound flows reset live (slice_index_or flows i d) (search rules) (here h) s)
+module _ (flows : List Flow) (reset : ℕ) (first live new : List VariableSet) (i : ℕ) (d : Flow) (inside : i < length flows) (all : All (IsInside (length first)) flows) (count : length new ≡ length live) (is : (q x : ℕ) → has_at new q x ≡ stepped reset live (slice_index_or flows i d) q x) where
+  sound_next : AreLive flows reset live → AreLive flows reset new
+  sound_next s = step_sound flows reset live new (slice_index_or flows i d) (Contains-get_or flows i d inside) is s
 
   lighter_next : (before : Bool) → (before ≡ false → (live ≡ first) × All (IsSettled reset first) (take i flows)) → (before ≡ true → weight live < weight first) → weight new < weight live → weight new < weight first
   lighter_next true h g w = omega (arith, w, g refl)
   lighter_next false h g w = omega (arith, w, ap weight (h refl).0)
 
   settled_next : live ≡ first → All (IsSettled reset first) (take i flows) → IsSettled reset live (slice_index_or flows i d) → All (IsSettled reset first) (take (i + 1) flows)
-  settled_next e h s = All-more (IsSettled reset first) flows i d inside h (subst (λ (v : List ℕ). IsSettled reset v (slice_index_or flows i d)) e s)
+  settled_next e h s = All-more (IsSettled reset first) flows i d inside h (subst (λ (v : List VariableSet). IsSettled reset v (slice_index_or flows i d)) e s)
 
   pub turned : (before grew after : Bool) → Kept flows reset first live before i → (grew ≡ false → (new ≡ live) × IsSettled reset live (slice_index_or flows i d)) → (grew ≡ true → weight new < weight live) → (grew ≡ true → after ≡ true) → (grew ≡ false → after ≡ before)
       → Kept flows reset first new after (i + 1)
-  turned before true after k s g t e = (same_length k.0, (λ n. absurd (cc (n, t refl))), (λ n. lighter_next before k.1 k.2 (g refl)), λ h. sound_next k.0 (k.3 h))
+  turned before true after k s g t e = (count ∙ k.0, (λ n. absurd (cc (n, t refl))), (λ n. lighter_next before k.1 k.2 (g refl)), λ h. sound_next (k.3 h))
   turned before false after k s g t e =
       let x = s refl in
       let y = e refl in (
-        same_length k.0,
+        count ∙ k.0,
         (λ n. let z = k.1 (sym y ∙ n) in (x.0 ∙ z.0, settled_next z.0 z.1 x.1)),
-        (λ n. subst (λ (v : List ℕ). weight v < weight first) (sym x.0) (k.2 (sym y ∙ n))),
-        λ h. sound_next k.0 (k.3 h),
+        (λ n. subst (λ (v : List VariableSet). weight v < weight first) (sym x.0) (k.2 (sym y ∙ n))),
+        λ h. sound_next (k.3 h),
       )
 
 -- ---- a settled round
-or_back : (m n : ℕ) → m < 2 → n < 2 → n ≡ 1 → max m n ≡ 1
-or_back m n h i e = omega (arith, h, i, e)
+module _ (flows : List Flow) (reset : ℕ) (live : List VariableSet) (settled : All (IsSettled reset live) flows) where
+  read_before : (f : Flow) (x : ℕ) (t : Bool) → has f.reads x ≡ true → before_by t live f x ≡ true
+  read_before f x true h = h
+  read_before f x false h = or_left (has f.reads x) (has_at live f.target x && not (has f.writes x)) h
 
-or_front : (m n : ℕ) → m < 2 → n < 2 → m ≡ 1 → max m n ≡ 1
-or_front m n h i e = omega (arith, h, i, e)
+  passed_before : (f : Flow) (x : ℕ) (t : Bool) → (f.target == reset) ≡ t → f.target ≢ reset → has f.writes x ≡ false → has_at live f.target x ≡ true → before_by t live f x ≡ true
+  passed_before f x true e on w h = absurd (on (same_number f.target reset e))
+  passed_before f x false e on w h = or_right (has f.reads x) (has_at live f.target x && not (has f.writes x)) (and_from (has_at live f.target x) (not (has f.writes x)) h (not_from_false (has f.writes x) w))
 
-and_up : (m n : ℕ) → m ≡ 1 → n ≡ 1 → min m n ≡ 1
-and_up m n h i = omega (arith, h, i)
-
-in_back : (a b x : ℕ) → bit_at b x ≡ 1 → bit_at (bit_or a b) x ≡ 1
-in_back a b x h = bit_at_or a b x ∙ or_back (bit_at a x) (bit_at b x) (bit_at-lt a x) (bit_at-lt b x) h
-
-in_front : (a b x : ℕ) → bit_at a x ≡ 1 → bit_at (bit_or a b) x ≡ 1
-in_front a b x h = bit_at_or a b x ∙ or_front (bit_at a x) (bit_at b x) (bit_at-lt a x) (bit_at-lt b x) h
-
-module _ (flows : List Flow) (reset : ℕ) (live : List ℕ) (settled : All (IsSettled reset live) flows) where
   at_listed : (f : Flow) → Contains flows f → IsSettled reset live f
-  at_listed f l = subst (λ (g : Flow). IsSettled reset live g) l.2 (settled l.0 f l.1)
+  at_listed f l = All-contains (IsSettled reset live) flows f settled l
 
-  passed_on : (f : Flow) (x : ℕ) (t : Bool) → (f.target == reset) ≡ t → f.target ≢ reset → bit_at f.keeps x ≡ 1 → bit_at (slice_index live f.target) x ≡ 1 → bit_at (cond t 0 (bit_and (slice_index live f.target) f.keeps)) x ≡ 1
-  passed_on f x true e on k h = absurd (on (same_number f.target reset e))
-  passed_on f x false e on k h = bit_at_and (slice_index live f.target) f.keeps x ∙ and_up (bit_at (slice_index live f.target) x) (bit_at f.keeps x) h k
+  pub has_live : (x q : ℕ) → IsLiveIn flows reset x q → has_at live q x ≡ true
+  has_live x q (reading f l r) = at_listed f l x (read_before f x (f.target == reset) r)
+  has_live x q (passing f l w on d) = at_listed f l x (passed_before f x (f.target == reset) refl on w (has_live x f.target d))
 
-  pub has_live : (x q : ℕ) → IsLiveIn flows reset x q → bit_at (slice_index live q) x ≡ 1
-  has_live x q (reading f l r) =
-      ap (λ n. bit_at n x) (sym (at_listed f l)) ∙ in_back (slice_index live f.from) (bit_or f.reads (cond (f.target == reset) 0 (bit_and (slice_index live f.target) f.keeps))) x (in_front f.reads (cond (f.target == reset) 0 (bit_and (slice_index live f.target) f.keeps)) x r)
-  has_live x q (passing f l k on d) =
-      ap (λ n. bit_at n x) (sym (at_listed f l)) ∙ in_back (slice_index live f.from) (bit_or f.reads (cond (f.target == reset) 0 (bit_and (slice_index live f.target) f.keeps))) x (in_back f.reads (cond (f.target == reset) 0 (bit_and (slice_index live f.target) f.keeps)) x (passed_on f x (f.target == reset) refl on k (has_live x f.target d)))
+pub none_live : (flows : List Flow) (reset : ℕ) (live : List VariableSet) → ((q x : ℕ) → has_at live q x ≡ false) → AreLive flows reset live
+none_live flows reset live h = λ q x e. absurd (both_ways (has_at live q x) (h q x) e)
 
-pub none_live : (flows : List Flow) (reset : ℕ) (live : List ℕ) → ((q : ℕ) → slice_index live q ≡ 0) → AreLive flows reset live
-none_live flows reset live h = λ q x i e. absurd (zero_bit x (ap (λ n. bit_at n x) (sym (h q)) ∙ e))
+-- ---- empty sets
+pub none_at_first : (q x : ℕ) → has_at [] q x ≡ false
+none_at_first q x = ap (λ (m : ℕ → Bool). m x) has_none
 
-pub zero_pushed : (ns : List ℕ) → ((q : ℕ) → slice_index_or ns q 0 ≡ 0) → (q : ℕ) → slice_index_or (ns ++ 0 ∷ []) q 0 ≡ 0
-zero_pushed [] h zero = refl
-zero_pushed [] h (suc q) = refl
-zero_pushed (n ∷ ns) h zero = h 0
-zero_pushed (n ∷ ns) h (suc q) = zero_pushed ns (λ i. h (suc i)) q
-
-pub any_default : (ns : List ℕ) (i d e : ℕ) → i < length ns → slice_index_or ns i d ≡ slice_index_or ns i e
-any_default [] i d e h = absurd (omega arith)
-any_default (n ∷ ns) zero d e h = refl
-any_default (n ∷ ns) (suc i) d e h = any_default ns i d e (omega (arith, h))
+pub none_pushed : (ss : List VariableSet) (s : VariableSet) → ((q x : ℕ) → has_at ss q x ≡ false) → has s ≡ (λ x. false) → (q x : ℕ) → has_at (ss ++ s ∷ []) q x ≡ false
+none_pushed [] s h e zero x = ap (λ (m : ℕ → Bool). m x) e
+none_pushed [] s h e (suc q) x = none_at_first q x
+none_pushed (n ∷ ss) s h e zero x = h 0 x
+none_pushed (n ∷ ss) s h e (suc q) x = none_pushed ss s (λ i. h (suc i)) e q x

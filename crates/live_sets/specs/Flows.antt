@@ -1,37 +1,48 @@
--- What is live at states, as bit sets, and by the branches that lead on.
-use Rattle.std.specs.Prelude.{◌≡◌, ◌≢◌, ℕ, ◌+◌, ◌-◌, ◌^◌, ◌<◌, ◌==◌, cond, List, [], ◌∷◌, length, slice_index, slice_set, Contains, bit_and, bit_or}
-use Rattle.std.specs.Int.{bit_at}
+-- What is live at states, as sets of variables, and by the branches that lead on.
+use Rattle.std.specs.Prelude.{◌≡◌, ◌≢◌, ℕ, ◌+◌, ◌-◌, ◌^◌, ◌<◌, ◌==◌, Bool, true, false, not, ◌&&◌, ◌||◌, cond, List, [], ◌∷◌, Contains}
+use Rattle.std.specs.List.{slice_index_or}
+use Rattle.variable_sets.specs.declared.VariableSet.{VariableSet}
+use Rattle.variable_sets.specs.Sets.{has}
 use Rattle.live_sets.specs.declared.flows.Flow.{Flow}
 
 -- both states of a branch are there
 abbrev pub IsInside : ℕ → Flow → Type 0
 IsInside count f = (f.from < count) × (f.target < count)
 
--- what is live before a branch by it, from what is live where it leads
-abbrev pub grown : ℕ → List ℕ → Flow → ℕ
-grown reset live f = bit_or (slice_index live f.from) (bit_or f.reads (cond (f.target == reset) 0 (bit_and (slice_index live f.target) f.keeps)))
+-- the set of a state, empty where there is no such state
+abbrev pub set_at : List VariableSet → ℕ → VariableSet
+set_at sets q = slice_index_or sets q (record { bits = 0 })
 
-abbrev pub stepped : ℕ → List ℕ → Flow → List ℕ
-stepped reset live f = slice_set live f.from (grown reset live f)
+-- whether the set of a state has a variable
+abbrev pub has_at : List VariableSet → ℕ → ℕ → Bool
+has_at sets q x = has (set_at sets q) x
+
+-- what is live before a branch by it, from what is live where it leads, or nothing where it leads to the reset state
+abbrev pub live_before : ℕ → List VariableSet → Flow → ℕ → Bool
+live_before reset live f = cond (f.target == reset) (has f.reads) (λ x. has f.reads x || (has_at live f.target x && not (has f.writes x)))
+
+-- what is live at states, once that is added
+abbrev pub stepped : ℕ → List VariableSet → Flow → ℕ → ℕ → Bool
+stepped reset live f q x = has_at live q x || (q == f.from && live_before reset live f x)
 
 -- nothing more is live by a branch
-abbrev pub IsSettled : ℕ → List ℕ → Flow → Type 0
-IsSettled reset live f = grown reset live f ≡ slice_index live f.from
+abbrev pub IsSettled : ℕ → List VariableSet → Flow → Type 0
+IsSettled reset live f = (x : ℕ) → live_before reset live f x ≡ true → has_at live f.from x ≡ true
 
--- it falls where a bit is added
-abbrev pub weight : List ℕ → ℕ
+-- it falls where a variable is added
+abbrev pub weight : List VariableSet → ℕ
 weight [] = 0
-weight (n ∷ ns) = (2 ^ 128 - n) + weight ns
+weight (s ∷ ss) = (2 ^ 128 - s.bits) + weight ss
 
--- by walks: a branch reads the name, or leads on without writing it
+-- by walks: a branch reads the variable, or leads on without writing it
 pub data IsLiveIn (flows : List Flow) (reset x : ℕ) : ℕ → Type 0 where
-  reading : (f : Flow) → Contains flows f → bit_at f.reads x ≡ 1 → IsLiveIn flows reset x f.from
-  passing : (f : Flow) → Contains flows f → bit_at f.keeps x ≡ 1 → f.target ≢ reset → IsLiveIn flows reset x f.target → IsLiveIn flows reset x f.from
+  reading : (f : Flow) → Contains flows f → has f.reads x ≡ true → IsLiveIn flows reset x f.from
+  passing : (f : Flow) → Contains flows f → has f.writes x ≡ false → f.target ≢ reset → IsLiveIn flows reset x f.target → IsLiveIn flows reset x f.from
 
--- each bit that is set is live
-abbrev pub AreLive : List Flow → ℕ → List ℕ → Type 0
-AreLive flows reset live = (q x : ℕ) → q < length live → bit_at (slice_index live q) x ≡ 1 → IsLiveIn flows reset x q
+-- each variable of a set is live
+abbrev pub AreLive : List Flow → ℕ → List VariableSet → Type 0
+AreLive flows reset live = (q x : ℕ) → has_at live q x ≡ true → IsLiveIn flows reset x q
 
--- the bits that are set are what is live
-abbrev pub IsExact : List Flow → ℕ → List ℕ → Type 0
-IsExact flows reset live = AreLive flows reset live × ((q x : ℕ) → IsLiveIn flows reset x q → bit_at (slice_index live q) x ≡ 1)
+-- the variables of the sets are what is live
+abbrev pub IsExact : List Flow → ℕ → List VariableSet → Type 0
+IsExact flows reset live = AreLive flows reset live × ((q x : ℕ) → IsLiveIn flows reset x q → has_at live q x ≡ true)

@@ -1,42 +1,49 @@
-//! Bit sets of live names, one for each state.
+//! Sets of live variables, one for each state.
 
-ghost use Rattle.std.specs.Prelude.{◌≡◌, ◌<◌, ℕ, true, false, length, All, slice_index, IfOk};
-ghost use Rattle.live_sets.specs.Flows.{stepped, IsSettled, weight, AreLive, IsInside, IsExact};
+ghost use Rattle.std.specs.Prelude.{◌≡◌, ◌<◌, ℕ, true, false, length, All, IfOk};
+ghost use Rattle.variable_sets.specs.Sets.{has};
+ghost use Rattle.live_sets.specs.Flows.{has_at, live_before, stepped, IsSettled, weight, AreLive, IsInside, IsExact};
 
 use std::alloc::{AllocError, Global};
+use variable_sets::VariableSet;
 
-/// What a branch does to the names that are live: by its two states, the names that it reads, and those that it doesn't write.
+/// What a branch does to the variables that are live: by its two states, what it reads, and what it writes.
 #[derive(Clone, Copy)]
 pub struct Flow {
     pub from: usize,
     pub target: usize,
-    pub reads: u128,
-    pub keeps: u128,
+    pub reads: VariableSet,
+    pub writes: VariableSet,
 }
 
-/// Adds what is live by one branch. Whether that is more than was known.
-fn grow(flow: &Flow, reset: usize, live: &mut Vec<u128>) -> bool
+// What is live before a branch by it.
+fn live_before(flow: &Flow, reset: usize, live: &[VariableSet]) -> VariableSet
+    requires inside { IsInside (length live.now) flow.now }
+    ensures { has result ≡ live_before reset live.now flow.now }
+{
+    if flow.target == reset {
+        flow.reads
+    } else {
+        flow.reads.joined(live[flow.target].without(flow.writes))
+    }
+}
+
+// Adds what is live by one branch. Whether that is more than was known.
+fn grow(flow: &Flow, reset: usize, live: &mut Vec<VariableSet>) -> bool
     requires inside { IsInside (length live.old.items) flow.now }
-    ensures stepped { live.new.items ≡ stepped reset live.old.items flow.now }
+    ensures count { length live.new.items ≡ length live.old.items }
+    ensures stepped { (q x : ℕ) → has_at live.new.items q x ≡ stepped reset live.old.items flow.now q x }
     ensures settled { result ≡ false → (live.new.items ≡ live.old.items) × IsSettled reset live.old.items flow.now }
     ensures grows { result ≡ true → weight live.new.items < weight live.old.items }
 {
     let old = live[flow.from];
-    let passed = if flow.target == reset {
-        0
-    } else {
-        live[flow.target] & flow.keeps
-    };
-    let new = old | (flow.reads | passed);
-    if new == old {
-        return false;
-    }
+    let new = old.joined(live_before(flow, reset, live.as_slice()));
     live[flow.from] = new;
-    true
+    new.bits != old.bits
 }
 
-/// Adds what is live by each branch. Whether that is more than was known.
-fn round(flows: &[Flow], reset: usize, live: &mut Vec<u128>) -> bool
+// Adds what is live by each branch. Whether that is more than was known.
+fn round(flows: &[Flow], reset: usize, live: &mut Vec<VariableSet>) -> bool
     requires inside { All (IsInside (length live.old.items)) flows.now }
     ensures same { length live.new.items ≡ length live.old.items }
     ensures settled { result ≡ false → (live.new.items ≡ live.old.items) × All (IsSettled reset live.old.items) flows.now }
@@ -53,7 +60,7 @@ fn round(flows: &[Flow], reset: usize, live: &mut Vec<u128>) -> bool
 }
 
 // Adds all that is live.
-fn close(flows: &[Flow], reset: usize, live: &mut Vec<u128>)
+fn close(flows: &[Flow], reset: usize, live: &mut Vec<VariableSet>)
     requires inside { All (IsInside (length live.old.items)) flows.now }
     ensures same { length live.new.items ≡ length live.old.items }
     ensures settled { All (IsSettled reset live.new.items) flows.now }
@@ -62,25 +69,26 @@ fn close(flows: &[Flow], reset: usize, live: &mut Vec<u128>)
     'rounds: while round(flows, reset, live) {}
 }
 
-fn empty_sets(alloc: Global, states: usize) -> Result<Vec<u128>, AllocError>
-    ensures empty { IfOk result (λ v. (q : ℕ) → slice_index v.items q ≡ 0) }
+fn empty_sets(alloc: Global, states: usize) -> Result<Vec<VariableSet>, AllocError>
+    ensures empty { IfOk result (λ v. (q x : ℕ) → has_at v.items q x ≡ false) }
     ensures count { IfOk result (λ v. length v.items ≡ states) }
 {
     let mut out = Vec::new(alloc);
     for _ in 0..states {
-        out.push(0)?;
+        out.push(VariableSet::empty())?;
     }
     Ok(out)
 }
 
-/// For each state the names that are live there: bit x of its set is name x. All branches are gone over backwards again and
-/// again until none adds a bit, so at most once more than there are bits. The one refusal is out of memory.
+/// For each state the set of the variables that are live there. All branches are gone over backwards again and again
+/// until none adds a variable, so at most once more than there are variables in the sets. The one refusal is out of
+/// memory.
 pub fn live_sets(
     alloc: Global,
     flows: &[Flow],
     states: usize,
     reset: usize,
-) -> Result<Vec<u128>, AllocError>
+) -> Result<Vec<VariableSet>, AllocError>
     requires inside { All (IsInside states) flows.now }
     ensures count { IfOk result (λ v. length v.items ≡ states) }
     ensures exact { IfOk result (λ v. IsExact flows.now reset v.items) }

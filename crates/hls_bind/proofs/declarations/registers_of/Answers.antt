@@ -2,7 +2,6 @@ use Rattle.std.proofs.Common.{◌∙◌, sym}
 use Rattle.std.specs.Prelude.{map}
 use Rattle.std.proofs.lemmas.List.Filters.{dedup_is}
 use Rattle.fs_rules.proofs.Turns.{map_map}
-use Rattle.hls_bind.specs.declared.binding.BoundLocal.{BoundLocal}
 use Rattle.hls_bind.specs.Entries.{entry_of}
 use Rattle.hls_bind.proofs.Ordered.{are}
 use Rattle.hls_bind.proofs.declarations.registers_of.Goals as goal

@@ -1,5 +1,5 @@
 use Rattle.std.proofs.Common.{◌≡◌, take}
-use Rattle.std.specs.Prelude.{map, filter}
+use Rattle.std.specs.Prelude.{map}
 use Rattle.fs_rules.specs.Spelled.{names_of}
 use Rattle.binding_laws.specs.Bindings.{remaining}
 use Rattle.hls_bind.specs.Entries.{entry_of}

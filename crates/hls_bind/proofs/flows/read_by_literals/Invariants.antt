@@ -3,8 +3,9 @@ use Rattle.std.specs.Prelude.{map}
 use Rattle.std.specs.List.{flat_map}
 use Rattle.fs_model.specs.View.{literal_of}
 use Rattle.fs_model.specs.Parts.{scalars, uses_in_literal}
-use Rattle.hls_bind.specs.Sets.{with_all}
+use Rattle.variable_sets.specs.Sets.{has, also_all}
+use Rattle.hls_bind.specs.Flows.{low}
 use Rattle.hls_bind.proofs.flows.read_by_literals.Given as goal
 
 abbrev pub invariant-loop-lit : goal.invariant-loop-lit
-invariant-loop-lit l = with_all (flat_map (uses_in_literal scalars) (map literal_of (drop l.lit-index l.lits))) l.set ≡ with_all (flat_map (uses_in_literal scalars) (map literal_of l.lits)) 0
+invariant-loop-lit l = also_all (flat_map (uses_in_literal scalars) (map literal_of (drop l.lit-index l.lits))) (has l.set) ≡ low (flat_map (uses_in_literal scalars) (map literal_of l.lits))

@@ -3,8 +3,8 @@ use Rattle.std.specs.Prelude.{map}
 use Rattle.std.specs.List.{flat_map}
 use Rattle.fs_model.specs.View.{assignment_of}
 use Rattle.binding_laws.specs.Liveness.{read_by_assignment}
-use Rattle.hls_bind.specs.Sets.{with_all}
+use Rattle.variable_sets.specs.Sets.{has, also_all}
 use Rattle.hls_bind.proofs.flows.with_assignments.Given as goal
 
 abbrev pub invariant-loop-assign : goal.invariant-loop-assign
-invariant-loop-assign l = with_all (flat_map read_by_assignment (map assignment_of (drop l.assign-index l.assigns))) l.set ≡ with_all (flat_map read_by_assignment (map assignment_of l.assigns)) l.initial.set
+invariant-loop-assign l = also_all (flat_map read_by_assignment (map assignment_of (drop l.assign-index l.assigns))) (has l.set) ≡ also_all (flat_map read_by_assignment (map assignment_of l.assigns)) (has l.initial.set)

@@ -1,5 +1,4 @@
 use Rattle.std.proofs.Common.{◌∙◌, ap, sym, subst, ℕ, List}
-use Rattle.std.specs.Prelude.{map}
 use Rattle.serde_json.specs.View.{members_view}
 use Rattle.binding_laws.specs.Bindings.{is_rising, IsBindingOf}
 use Rattle.hls_bind.specs.Files.{binding_from}

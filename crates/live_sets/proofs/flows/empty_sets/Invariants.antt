@@ -1,5 +1,6 @@
-use Rattle.std.proofs.Common.{◌≡◌, ℕ, length, slice_index}
+use Rattle.std.proofs.Common.{◌≡◌, ℕ, false, length}
+use Rattle.live_sets.specs.Flows.{has_at}
 use Rattle.live_sets.proofs.flows.empty_sets.Given as goal
 
 abbrev pub invariant-loop : goal.invariant-loop
-invariant-loop l = ((q : ℕ) → slice_index l.out.items q ≡ 0) × (length l.out.items ≡ l.counter)
+invariant-loop l = ((q x : ℕ) → has_at l.out.items q x ≡ false) × (length l.out.items ≡ l.counter)

@@ -1,16 +1,21 @@
-use Rattle.std.proofs.Common.{rules, ◌≡◌, ◌<◌, ℕ, true, false, List, length, All, ◌+◌, ◌-◌, ◌*◌, ◌≤◌, ◌^◌, ◌/◌, ◌%◌, Bool, nat_eq, nat_lt, [], ◌∷◌, ◌++◌, slice_index_or, slice_set, bit_and, bit_or, Fits, w8, w32, w64, Bor, MutBor}
-use Rattle.live_sets.specs.Flows.{stepped, IsSettled, weight, AreLive, IsInside}
-use Rattle.std.proofs.Common.{subst, ◌∙◌}
+use Rattle.std.proofs.Common.{rules, ◌≡◌, ◌<◌, ◌^◌, ◌∙◌, ap, refl, List, Fits}
 use Rattle.std.specs.Int.{w128}
-use Rattle.live_sets.proofs.Grows.{lighter, more_bits, any_default}
+use Rattle.std.specs.List.{slice_index_or}
+use Rattle.std.proofs.lemmas.List.{get_or_read}
+use Rattle.variable_sets.specs.declared.VariableSet.{VariableSet}
+use Rattle.live_sets.specs.Flows.{live_before}
+use Rattle.live_sets.proofs.Grows.{grown}
 use Rattle.live_sets.proofs.flows.grow.Goals as goal
 
-pub returns-clause-grows : goal.returns-clause-grows
-returns-clause-grows c =
+pub returns : goal.returns
+returns c =
+    let live = c.args.live.now.items in
+    let flow = c.args.flow.now in
     let o = c.index-old.result.now in
-    let more = bit_or c.args.flow.now.reads c.if-flow-reset.passed in
-    let own : o ≡ slice_index_or c.args.live.now.items c.args.flow.now.from o = search rules in
-    let same : o ≡ slice_index_or c.args.live.now.items c.args.flow.now.from 0 = own ∙ any_default c.args.live.now.items c.args.flow.now.from o 0 c.requires.inside.0 in
-    let range : Fits w128 o = search rules in
-    let fits : o < 2 ^ 128 = search (rules, range) in
-    λ e. lighter c.args.live.now.items c.args.flow.now.from _ c.requires.inside.0 (subst (λ n. n < bit_or o more) same (more_bits o more c.if-new-old.false)) (subst (λ n. n < 2 ^ 128) same fits)
+    let own : o ≡ slice_index_or live flow.from o = search rules in
+    let read = get_or_read live flow.from o c.requires.inside.0 own (record { bits = 0 }) in
+    let before = c.live_before.ensures ∙ ap (λ (s : List VariableSet). live_before c.args.reset s flow) c.as_slice.ensures.value in
+    let range : Fits w128 o.bits = search rules in
+    let few : o.bits < 2 ^ 128 = search (rules, range) in
+    let g = grown c.args.reset live flow o c.live_before.result c.joined-new.result c.requires.inside read before c.joined-new.ensures _ refl few in
+    record { count = g.count; stepped = g.stepped; settled = g.settled; grows = g.grows }

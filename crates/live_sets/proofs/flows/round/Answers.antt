@@ -1,5 +1,5 @@
-use Rattle.std.proofs.Common.{rules, ◌≡◌, ◌<◌, ℕ, true, false, List, length, All, ◌+◌, ◌-◌, ◌*◌, ◌≤◌, ◌/◌, ◌%◌, Bool, nat_eq, nat_lt, [], ◌∷◌, ◌++◌, slice_index_or, slice_set, bit_and, bit_or, Fits, w8, w32, w64, Bor, MutBor}
-use Rattle.live_sets.specs.Flows.{stepped, IsSettled, weight, AreLive, IsInside}
+use Rattle.std.proofs.Common.{All}
+use Rattle.live_sets.specs.Flows.{IsSettled}
 use Rattle.std.proofs.Common.{subst}
 use Rattle.std.proofs.lemmas.List.{take_all}
 use Rattle.live_sets.proofs.Grows.{turned}
@@ -9,8 +9,8 @@ use Rattle.live_sets.proofs.flows.round.Goals as goal
 pub loop-flow-preserved : goal.loop-flow-preserved
 loop-flow-preserved c =
     elim c.if-grow.branch [
-      | then-grow w ↦ turned c.args.flows.now c.args.reset c.args.live.now.items c.loop-flow.live.items c.grow.new.live.items c.loop-flow.flow-index _ c.loop-flow-test.true c.requires.inside c.grow.ensures.stepped c.loop-flow.changed c.grow.result c.if-grow.changed c.loop-flow.invariant c.grow.ensures.settled c.grow.ensures.grows (λ e. w.changed-is) (λ e. absurd (cc (e, w.if-grow.true)))
-      | else-grow w ↦ turned c.args.flows.now c.args.reset c.args.live.now.items c.loop-flow.live.items c.grow.new.live.items c.loop-flow.flow-index _ c.loop-flow-test.true c.requires.inside c.grow.ensures.stepped c.loop-flow.changed c.grow.result c.if-grow.changed c.loop-flow.invariant c.grow.ensures.settled c.grow.ensures.grows (λ e. absurd (cc (e, w.if-grow.false))) (λ e. w.changed-is)
+      | then-grow w ↦ turned c.args.flows.now c.args.reset c.args.live.now.items c.loop-flow.live.items c.grow.new.live.items c.loop-flow.flow-index _ c.loop-flow-test.true c.requires.inside c.grow.ensures.count c.grow.ensures.stepped c.loop-flow.changed c.grow.result c.if-grow.changed c.loop-flow.invariant c.grow.ensures.settled c.grow.ensures.grows (λ e. w.changed-is) (λ e. absurd (cc (e, w.if-grow.true)))
+      | else-grow w ↦ turned c.args.flows.now c.args.reset c.args.live.now.items c.loop-flow.live.items c.grow.new.live.items c.loop-flow.flow-index _ c.loop-flow-test.true c.requires.inside c.grow.ensures.count c.grow.ensures.stepped c.loop-flow.changed c.grow.result c.if-grow.changed c.loop-flow.invariant c.grow.ensures.settled c.grow.ensures.grows (λ e. absurd (cc (e, w.if-grow.false))) (λ e. w.changed-is)
     ]
 
 pub returns-clause-settled : goal.returns-clause-settled
