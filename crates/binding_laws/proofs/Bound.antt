@@ -1,21 +1,21 @@
 -- A machine with registers in place of locals goes along with the machine.
-use Rattle.std.proofs.Common.{◌≡◌, ℕ, zero, suc, ◌<◌, List, [], ◌∷◌, ◌++◌, length, map, ap, ap₂, sym, refl, ◌∙◌, subst, arith, Option, Some, None, Bool, true, false, ℤ, pos}
-use Rattle.std.specs.Prelude.{◌≢◌, ◌&&◌, ◌||◌, ◌==◌, cond, not, slice_get}
-use Rattle.std.specs.List.{list_all, list_any, slice_index_or, flat_map}
+use Rattle.std.proofs.Common.{◌≡◌, ℕ, zero, suc, ◌<◌, List, [], ◌∷◌, ◌++◌, length, map, ap, sym, refl, ◌∙◌, subst, arith, Option, Some, None, Bool, true, false, ℤ, pos}
+use Rattle.std.specs.Prelude.{◌≢◌, ◌&&◌, ◌==◌, cond, not, slice_get}
+use Rattle.std.specs.List.{list_all, slice_index_or, flat_map}
 use Rattle.std.proofs.lemmas.List.Folds.{list_all-append}
 use Rattle.fs_model.specs.declared.parts.Role.{Role}
 use Rattle.fs_model.specs.declared.parts.Role.TheVariants.{Input, Output, Local}
 use Rattle.fs_model.specs.declared.parts.Sort.{Sort}
 use Rattle.fs_model.specs.declared.parts.Sort.TheVariants.{Scalar, Array, Port}
 use Rattle.fs_model.specs.declared.parts.VarInfo.{VarInfo}
-use Rattle.fs_model.specs.Terms.{Literal, Guard, Test, Not, And, Or, Assignment, Transition}
+use Rattle.fs_model.specs.Terms.{Literal, Assignment, Transition}
 use Rattle.fs_model.specs.Machines.{Fsmd, State, transitions_of}
 use Rattle.fs_model.specs.Stores.{Store}
-use Rattle.fs_model.specs.Meaning.{literal_holds, act_all}
-use Rattle.fs_model.specs.Runs.{AfterStep, ReachesReset, FirstReturn, Run, Inputs, Content, start, output, first_scalar, first_array, is_input, is_scalar, is_array, SameBehaviour}
-use Rattle.fs_model.specs.Trees.{Branch, branches_of, branch_holds, negated}
-use Rattle.fs_ast.specs.Spelled.{line_over, literal_over, assignment_over}
-use Rattle.fs_rules.specs.Sound.{IsSound, branch_count, array_at, has_sort, arrays_in, arrays_in_condition, arrays_in_assignments, assigned_in}
+use Rattle.fs_model.specs.Meaning.{act_all}
+use Rattle.fs_model.specs.Runs.{AfterStep, ReachesReset, FirstReturn, Run, Inputs, Content, start, first_scalar, first_array, is_input, is_scalar, is_array, SameBehaviour}
+use Rattle.fs_model.specs.Trees.{Branch, branches_of, branch_holds}
+use Rattle.fs_ast.specs.Spelled.{line_over, assignment_over}
+use Rattle.fs_rules.specs.Sound.{IsSound, branch_count, array_at, has_sort, arrays_in_condition, arrays_in_assignments}
 use Rattle.fs_cut.specs.Paths.{branch_at, target_of, after}
 use Rattle.fs_cut.specs.Cuts.{branch_taken}
 use Rattle.fs_model.proofs.Truth.{and_left, and_right, and_both}

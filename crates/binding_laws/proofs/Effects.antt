@@ -1,8 +1,8 @@
 -- Literals and assignments over other numbers of variables, between two stores.
-use Rattle.std.proofs.Common.{◌≡◌, ℕ, zero, suc, ◌<◌, List, [], ◌∷◌, ◌++◌, length, map, ap, ap₂, sym, refl, ◌∙◌, subst, arith, Option, Some, None, Bool, true, false, ℤ}
+use Rattle.std.proofs.Common.{◌≡◌, ℕ, List, [], ◌∷◌, ◌++◌, map, ap, ap₂, sym, refl, ◌∙◌, subst, arith, Bool, true, false, ℤ}
 use Rattle.std.specs.Prelude.{◌&&◌, ◌||◌, ◌==◌, cond, not}
 use Rattle.std.specs.Ordering.{int_eq}
-use Rattle.std.specs.List.{list_all, list_any, flat_map}
+use Rattle.std.specs.List.{list_all, flat_map}
 use Rattle.std.proofs.lemmas.Bool.Decides.{nat_tests}
 use Rattle.std.proofs.lemmas.List.Folds.{list_all-append}
 use Rattle.fs_model.specs.Terms.{Term, Literal, Assignment, Assign, ArrayWrite, Emit}
@@ -13,7 +13,7 @@ use Rattle.fs_rules.specs.Sound.{scalars_in, arrays_in, arrays_in_assignment, ar
 use Rattle.fs_model.proofs.Truth.{and_left, and_right}
 use Rattle.binding_laws.specs.Liveness.{read_by_assignment}
 use Rattle.binding_laws.proofs.Renaming.{Agree}
-use Rattle.binding_laws.proofs.Over.{has, read_by_literal, in_front, in_back, first_in, Same, left, right, value_over, literal_holds_over}
+use Rattle.binding_laws.proofs.Over.{has, read_by_literal, in_front, in_back, first_in, Same, value_over, literal_holds_over}
 
 pub same_number : (x y : ℕ) → (x == y) ≡ true → x ≡ y
 same_number x y h = grind (arith, nat_tests)

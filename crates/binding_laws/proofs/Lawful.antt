@@ -1,5 +1,5 @@
 -- The parts in which registers stand for locals keep the rules, where no branch is twice.
-use Rattle.std.proofs.Common.{◌≡◌, ℕ, ℤ, ◌+◌, List, [], ◌∷◌, ◌++◌, map, ap, ap₂, sym, refl, ◌∙◌, Bool, true, false, Option, Some, None}
+use Rattle.std.proofs.Common.{◌≡◌, ℕ, ℤ, List, [], ◌∷◌, ◌++◌, map, ap, ap₂, sym, refl, ◌∙◌, Bool, true, false, Option, Some, None}
 use Rattle.std.specs.Prelude.{◌==◌, ◌||◌, not, slice_get, option_map}
 use Rattle.std.specs.List.{list_all}
 use Rattle.fs_model.specs.declared.parts.Sort.{Sort}

@@ -1,11 +1,11 @@
--- What is live by walks is the least closed set.
-use Rattle.std.proofs.Common.{◌≡◌, ℕ, ◌<◌, List, [], ◌∷◌, sym, refl, ◌∙◌, subst, Bool, true, false}
+-- Each closed set has what is live by walks.
+use Rattle.std.proofs.Common.{◌≡◌, ℕ, ◌<◌, List, [], ◌∷◌, sym, refl, subst, Bool, true, false}
 use Rattle.std.specs.Prelude.{◌≢◌}
 use Rattle.fs_model.specs.Machines.{Fsmd}
 use Rattle.fs_rules.specs.Sound.{branch_count}
 use Rattle.fs_cut.specs.Paths.{branch_at, target_of}
 use Rattle.binding_laws.specs.Liveness.{reads, writes, Passes, IsLive}
-use Rattle.binding_laws.specs.Closed.{IsClosed, IsLeastClosed}
+use Rattle.binding_laws.specs.Closed.{IsClosed}
 
 module _ (m : Fsmd) (x : ℕ) where
   pub live_reads : (q k : ℕ) → k < branch_count m q → reads x (branch_at m q k) ≡ true → IsLive m x q
@@ -21,7 +21,3 @@ module _ (m : Fsmd) (x : ℕ) where
   -- each closed set has what is live
   pub has_live : (set : ℕ → Bool) → IsClosed m x set → (q : ℕ) → IsLive m x q → set q ≡ true
   has_live set c q l = walk_in set c l.earlier q l.state l.passes (c.reading l.state l.branch l.numbered l.read)
-
-  -- a closed set of states at which x is live is the least one
-  pub is_least : (set : ℕ → Bool) → IsClosed m x set → ((q : ℕ) → set q ≡ true → IsLive m x q) → IsLeastClosed m x set
-  is_least set c h = record { closed = c; least = λ other d q e. has_live other d q (h q e) }

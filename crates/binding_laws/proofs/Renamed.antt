@@ -1,25 +1,25 @@
 -- The machine of the parts in which registers stand for locals.
-use Rattle.std.proofs.Common.{◌≡◌, ℕ, zero, suc, ◌<◌, List, [], ◌∷◌, ◌++◌, length, map, ap, ap₂, sym, refl, ◌∙◌, subst, arith, Option, Some, None, Bool, true, false}
-use Rattle.std.specs.Prelude.{◌&&◌, cond, not, slice_get, option_map}
+use Rattle.std.proofs.Common.{◌≡◌, ℕ, suc, List, [], ◌∷◌, ◌++◌, map, ap, ap₂, sym, refl, ◌∙◌, subst, Option, Some, None, Bool, true}
+use Rattle.std.specs.Prelude.{slice_get, option_map}
 use Rattle.std.specs.List.{list_all, slice_index_or}
-use Rattle.std.specs.Option.{unwrap_or, is_some}
+use Rattle.std.specs.Option.{unwrap_or}
 use Rattle.std.proofs.lemmas.List.Folds.{list_all-append}
 use Rattle.std.proofs.lemmas.Option.{slice_get_within}
 use Rattle.fs_model.specs.declared.parts.VarInfo.{VarInfo}
-use Rattle.fs_model.specs.Terms.{Term, Number, Variable, Read, Sum, Difference, Product, Quotient, Remainder, Negative, Literal, Guard, Test, Not, And, Or, Assignment, Assign, ArrayWrite, Emit, Transition}
+use Rattle.fs_model.specs.Terms.{Term, Number, Variable, Read, Sum, Difference, Product, Quotient, Remainder, Negative, Guard, Test, Not, And, Or, Assignment, Assign, ArrayWrite, Emit, Transition}
 use Rattle.fs_model.specs.Source.{SourceTransition, SourceState, Source}
 use Rattle.fs_model.specs.Machines.{Fsmd, State}
 use Rattle.fs_model.specs.declared.parts.Sort.{Sort}
 use Rattle.fs_model.specs.Runs.{SameBehaviour, is_scalar, is_array, is_port}
-use Rattle.fs_ast.specs.Spelled.{place, names_of, variables_of, state_names, term_over, literal_over, guard_over, assignment_over, line_over, line_spelled, state_spelled, machine_of}
+use Rattle.fs_ast.specs.Spelled.{place, names_of, variables_of, state_names, term_over, guard_over, assignment_over, line_over, state_spelled, machine_of}
 use Rattle.fs_rules.specs.Sound.{IsSound, scalar_at, array_at, port_at, has_sort, port_in, ports_in_assignments, scalars_in, arrays_in, scalars_in_guard, arrays_in_guard, scalars_in_condition, arrays_in_condition, scalars_in_assignment, arrays_in_assignment, scalars_in_assignments, arrays_in_assignments}
 use Rattle.fs_model.proofs.Truth.{and_left, and_right}
 use Rattle.binding_laws.proofs.Renaming.{state_over, IsBoundBy, NeverClobbers}
 use Rattle.binding_laws.specs.Bindings.{register, is_bound, renamed, transition_renamed, state_renamed, bound_parts, IsBindingOf, AreRegisters}
 use Rattle.binding_laws.specs.Conflicts.{Conflict, IsShared, Clobbers}
 use Rattle.binding_laws.proofs.Bound.{same_behaviour}
-use Rattle.binding_laws.proofs.Looks.{look, get_place, look_name}
-use Rattle.binding_laws.proofs.Variables.{variables_bound, new, name_at, name_for, number_for, inside_is, is_kept, is_register, is_local_of, are_apart, shared_register, same_output, bound_is}
+use Rattle.binding_laws.proofs.Looks.{get_place, look_name}
+use Rattle.binding_laws.proofs.Variables.{variables_bound, new, name_at, number_for, inside_is, is_kept, is_register, is_local_of, are_apart, shared_register, same_output, bound_is}
 
 -- ---- one way round and the other
 module _ (g g' : List ℕ → ℕ) (r : List ℕ → List ℕ) (f : ℕ → ℕ) (S A P : ℕ → Bool) (as_scalar : (n : List ℕ) → S (g n) ≡ true → g' (r n) ≡ f (g n)) (as_array : (n : List ℕ) → A (g n) ≡ true → g' (r n) ≡ f (g n)) (as_port : (n : List ℕ) → P (g n) ≡ true → g' (r n) ≡ f (g n)) where

@@ -1,6 +1,6 @@
 -- Each transition of a state is taken by some branch of it.
-use Rattle.std.proofs.Common.{◌≡◌, ℕ, zero, suc, ◌<◌, length, subst, List, [], ◌∷◌, ◌++◌, ap, refl, sym, ◌∙◌, inl, inr, ◌⊎◌, Bool, true, false, Option, Some, None}
-use Rattle.std.specs.Prelude.{◌&&◌, not, is_none, slice_get}
+use Rattle.std.proofs.Common.{◌≡◌, ℕ, zero, suc, ◌<◌, length, subst, List, [], ◌∷◌, ◌++◌, ap, refl, ◌∙◌, inl, inr, ◌⊎◌, true, Option, Some, None}
+use Rattle.std.specs.Prelude.{not, is_none, slice_get}
 use Rattle.std.specs.List.{slice_index_or}
 use Rattle.fs_model.specs.Terms.{Literal, Guard, Test, Not, And, Or, Assignment, Transition}
 use Rattle.fs_model.specs.Trees.{Tree, Empty, Leaf, Node, Branch, tree_of_guard, tree_of_condition, tree_of_transitions, leaves, branches_of, negated}

@@ -1,12 +1,11 @@
 -- The variables of the parts in which registers stand for locals.
 use Rattle.std.proofs.Common.{◌≡◌, ℕ, zero, suc, ◌+◌, ◌-◌, ◌<◌, ◌≤◌, append-nil, ℤ, List, [], ◌∷◌, ◌++◌, length, map, ap, ap₂, sym, refl, ◌∙◌, subst, arith, Option, Some, None, Bool, true, false}
 use Rattle.std.specs.Prelude.{◌&&◌, ◌||◌, ◌==◌, cond, not, slice_get, filter, nat_lt}
-use Rattle.std.specs.List.{list_any, flat_map, slice_index_or}
+use Rattle.std.specs.List.{list_any, flat_map}
 use Rattle.std.specs.Option.{unwrap_or, is_some}
 use Rattle.std.specs.Str.{bytes_eq}
 use Rattle.std.proofs.lemmas.Bool.Decides.{nat_tests}
 use Rattle.std.proofs.lemmas.Option.{slice_get_past, slice_get_within}
-use Rattle.std.proofs.lemmas.List.{map-append}
 use Rattle.std.proofs.lemmas.List.Elements.{filter-append}
 use Rattle.std.proofs.lemmas.Grind.{flat_map-append}
 use Rattle.fs_model.specs.declared.parts.Role.{Role}
@@ -21,8 +20,8 @@ use Rattle.fs_model.specs.Runs as runs
 use Rattle.fs_ast.specs.Spelled.{place, names_of, variables_of, declared_by}
 use Rattle.fs_rules.specs.Sound.{names_differ}
 use Rattle.binding_laws.proofs.Renaming.{Agree}
-use Rattle.binding_laws.specs.Bindings.{is_local, is_scalar_local, register, is_bound, renamed, stays, without, remaining, of_registers, IsBindingOf, AreRegisters}
-use Rattle.binding_laws.proofs.Looks.{same_name, own_name, look, or_else, get_place, look_name, look_joined, look_none, look_stays, look_goes, place_own, shown, output_is, flip}
+use Rattle.binding_laws.specs.Bindings.{is_local, is_scalar_local, register, is_bound, stays, without, remaining, of_registers, IsBindingOf, AreRegisters}
+use Rattle.binding_laws.proofs.Looks.{same_name, look, or_else, get_place, look_name, look_joined, look_none, look_stays, look_goes, place_own, shown, output_is}
 
 -- a register as a variable
 abbrev pub as_local : List ℕ → VarInfo

@@ -1,5 +1,5 @@
 -- The parts in which registers stand for locals are lawful.
-use Rattle.std.proofs.Common.{◌≡◌, ℕ, zero, suc, ◌+◌, ◌<◌, List, [], ◌∷◌, ◌++◌, length, map, ap, ap₂, sym, refl, ◌∙◌, subst, arith, Bool, true, false, Option, Some, None}
+use Rattle.std.proofs.Common.{◌≡◌, ℕ, zero, suc, ◌<◌, List, [], ◌∷◌, ◌++◌, length, map, ap, ap₂, sym, refl, ◌∙◌, subst, arith, Bool, true, false, Option, Some, None}
 use Rattle.std.specs.Prelude.{◌==◌, ◌&&◌, ◌||◌, not, nat_lt, is_none, slice_get, option_map}
 use Rattle.std.specs.List.{list_all, slice_index_or}
 use Rattle.fs_model.specs.declared.parts.Role.{Role}
@@ -21,7 +21,6 @@ use Rattle.fs_rules.proofs.Uses.{emits_over}
 use Rattle.fs_ast.proofs.Kept.{no_state, get_mapped, not_endless}
 use Rattle.lawful_parts.proofs.Faultless.{IsFaultless}
 use Rattle.lawful_parts.proofs.Kept.{KeepsRules, lawful_where}
-use Rattle.binding_laws.specs.Liveness.{writes}
 use Rattle.binding_laws.specs.Bindings.{register, is_bound, is_local, is_scalar_local, bound_parts, IsBindingOf, AreRegisters}
 use Rattle.binding_laws.specs.Conflicts.{Conflict, IsShared, IsTwice}
 use Rattle.binding_laws.proofs.Renaming.{state_over}

@@ -1,4 +1,4 @@
--- Liveness as the least set of states that is closed backwards.
+-- Sets of states that are closed backwards.
 use Rattle.std.specs.Prelude.{◌≡◌, ◌≢◌, ℕ, ◌<◌, Bool, true, false}
 use Rattle.fs_model.specs.Machines.{Fsmd}
 use Rattle.fs_rules.specs.Sound.{branch_count}
@@ -9,8 +9,3 @@ use Rattle.binding_laws.specs.Liveness.{reads, writes}
 pub record IsClosed (m : Fsmd) (x : ℕ) (set : ℕ → Bool) : Type 0 where
   pub reading : (q k : ℕ) → k < branch_count m q → reads x (branch_at m q k) ≡ true → set q ≡ true
   pub passing : (q k : ℕ) → k < branch_count m q → writes x (branch_at m q k) ≡ false → target_of m q k ≢ m.reset → set (target_of m q k) ≡ true → set q ≡ true
-
--- the least such set
-pub record IsLeastClosed (m : Fsmd) (x : ℕ) (set : ℕ → Bool) : Type 0 where
-  pub closed : IsClosed m x set
-  pub least : (other : ℕ → Bool) → IsClosed m x other → (q : ℕ) → set q ≡ true → other q ≡ true
