@@ -8,7 +8,7 @@ ghost use Rattle.command_answers.specs.Verdicts.{position_text, reason_text};
 
 use certificates::reason::Reason;
 use fs_ast::machine::Machine;
-use fs_model::parts::VarInfo;
+use fs_model::parts::{VarId, VarInfo};
 use fs_pair::positions::{Pairing, Position};
 use nf_terms::tree::{Pos, Side};
 use std::alloc::{AllocError, Global};
@@ -56,7 +56,7 @@ fn with_position(
 {
     let Pos { side, var } = position.pos;
     let mut bytes = with_name(alloc, before, side_text(side))?;
-    bytes.extend_from_slice(variable_name(variables_on(side, a, b), var))?;
+    bytes.extend_from_slice(variable_name(variables_on(side, a, b), VarId(var)))?;
     Ok(bytes)
 }
 
@@ -96,6 +96,6 @@ pub fn reason_text(
         Reason::Equation { place } => with_place(alloc, "equation ", a, b, p, place),
         Reason::Condition { index } => { Ok(format!(in alloc; "condition {index}")?.into_bytes()) }
         Reason::Rank => b"rank".to_vec(alloc),
-        Reason::Output { var } => with_name(alloc, "output ", variable_name(a.vars(), var)),
+        Reason::Output { var } => with_name(alloc, "output ", variable_name(a.vars(), VarId(var))),
     }
 }

@@ -9,7 +9,7 @@ ghost use Rattle.synthesis_answers.specs.Bindings.{conflict_text, IsRightOf};
 use crate::variables::variable_name;
 use fs_ast::machine::Machine;
 use fs_cut::cover::Point;
-use fs_model::parts::{Parts, StateId};
+use fs_model::parts::{Parts, StateId, VarId};
 use fs_write::write_parts;
 use hls_bind::{Binding, Bound, bind};
 use path_text::paths::point_text;
@@ -65,11 +65,11 @@ fn conflict_text(
     machine: &Machine,
     state: StateId,
     branch: u32,
-    written: u32,
-    other: u32,
+    written: VarId,
+    other: VarId,
     twice: bool,
 ) -> Result<Vec<u8>, AllocError>
-    ensures { IfOk result (λ bytes. bytes.items ≡ conflict_text machine.now (record { state = state.0; branch = branch; written = written; other = other }) twice) }
+    ensures { IfOk result (λ bytes. bytes.items ≡ conflict_text machine.now (record { state = state.0; branch = branch; written = written.0; other = other.0 }) twice) }
 {
     let branch = branch_text(alloc, branch)?;
     line_of(
@@ -108,7 +108,7 @@ pub fn bound_text(
                 twice,
             },
         ) => {
-            let line = conflict_text(alloc, machine, state, branch, written.0, other.0, twice)?;
+            let line = conflict_text(alloc, machine, state, branch, written, other, twice)?;
             Ok(BindingAnswer::Lost { line })
         }
         Err(_) => Err(AllocError),

@@ -3,13 +3,13 @@
 ghost use Rattle.std.specs.Prelude.{◌≡◌};
 ghost use Rattle.synthesis_answers.specs.Variables.{variable_name};
 
-use fs_model::parts::VarInfo;
+use fs_model::parts::{VarId, VarInfo};
 
 /// The name of a variable, or no text where there is no such variable. Takes no memory.
-pub fn variable_name(variables: &[VarInfo], x: u32) -> &[u8]
-    ensures { result.now ≡ variable_name variables.now x }
+pub fn variable_name(variables: &[VarInfo], x: VarId) -> &[u8]
+    ensures { result.now ≡ variable_name variables.now x.0 }
 {
-    match variables.get(x as usize) {
+    match variables.get(x.0 as usize) {
         Some(variable) => variable.name.bytes(),
         None => &[],
     }
