@@ -9,3 +9,4 @@ mod NodeLists
 mod Readings
 mod OneWay
 mod Refused
+mod Repeated

@@ -10,3 +10,4 @@ pub mod Tables
 pub mod View
 pub mod Within
 pub mod Judged
+pub mod Repeats

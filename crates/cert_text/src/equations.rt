@@ -12,19 +12,20 @@ ghost use Rattle.cert_text.specs.Answers.{Tells};
 ghost use Rattle.cert_text.specs.Points.{after};
 ghost use Rattle.cert_text.specs.Reading.{known_place as known, unwritten as unwritten_at, unwritten_of, sort_at as sort_of_place, equation_read, equation_put, equations_read, conditions_read};
 ghost use Rattle.cert_text.specs.View.{place_in_tables, find_of, terms_in};
+ghost use Rattle.cert_text.specs.Repeats.{AreLast};
 ghost use Rattle.cert_text.specs.Within.{FormWithin, LiteralWithin, AreEquationsOf};
 
 use crate::faults::{CertError, Stop};
-use crate::forms::{read_condition, read_term};
-use crate::names::{Places, is_in_format, place_of_key, sort_of_terms};
+use crate::forms::read_condition;
+use crate::names::{Places, is_in_format, place_of_key};
 use crate::parts::text_of;
+use crate::repeats::{ReadText, read_at};
 use fs_model::parts::Sort;
 use fs_pair::positions::Position;
 use nf_rel::literals::NLit;
 use nf_terms::form::Nf;
 use nf_terms::seq::Seq;
 use nf_terms::stop::NoMemory;
-use nf_terms::symbols::Sort as TermSort;
 use nf_terms::tree::SeqBase;
 use serde_json::{Map, Value};
 use std::alloc::Global;
@@ -66,31 +67,24 @@ fn known_place(places: &Places<'_>, node: u32, key: &[u8]) -> Result<u32, Stop>
     }
 }
 
-// The sort of the terms at a place.
-fn sort_at(positions: &[Position], place: u32) -> TermSort
-    ensures { result ≡ sort_of_place positions.now place }
-{
-    match positions.get(place as usize) {
-        Some(position) => sort_of_terms(position.sort),
-        None => TermSort::Scalar,
-    }
-}
-
 // An equation of a node: its place and its term.
 fn read_equation(
     alloc: Global,
     places: &Places<'_>,
     node: u32,
     key: &[u8],
-    text: &[u8],
+    text: &str,
+    last: &mut Vec<Option<ReadText>>,
 ) -> Result<(u32, Nf), Stop>
+    requires { AreLast places.now last.old.items }
     ensures told { Tells (λ x. x) result (equation_read (terms_in places.now) node (key.now, text.now)) }
     ensures in_range { IfOk result (λ x. x.0 < length places.now.positions.now) }
     ensures sort { IfOk result (λ x. sort_of_form x.1 ≡ sort_of_place places.now.positions.now x.0) }
     ensures within { IfOk result (λ x. FormWithin (find_of places.now) x.1) }
+    ensures last { OnOk result (AreLast places.now last.new.items) }
 {
     let place = known_place(places, node, key)?;
-    let form = read_term(alloc, places, node, sort_at(places.positions, place), text)?;
+    let form = read_at(alloc, places, node, place, text, last)?;
     Ok((place, form))
 }
 
@@ -101,14 +95,17 @@ fn put_equation(
     places: &Places<'_>,
     node: u32,
     key: &[u8],
-    text: &[u8],
+    text: &str,
+    last: &mut Vec<Option<ReadText>>,
     forms: &mut Vec<Option<Nf>>,
 ) -> Result<(), Stop>
-    requires { AreEquationsOf places.now.positions.now forms.old.items }
+    requires last { AreLast places.now last.old.items }
+    requires forms { AreEquationsOf places.now.positions.now forms.old.items }
     ensures told { Tells (λ _. forms.new.items) result (equation_put (terms_in places.now) node forms.old.items (key.now, text.now)) }
     ensures kept { OnOk result (AreEquationsOf places.now.positions.now forms.new.items) }
+    ensures last { OnOk result (AreLast places.now last.new.items) }
 {
-    let (place, form) = read_equation(alloc, places, node, key, text)?;
+    let (place, form) = read_equation(alloc, places, node, key, text, last)?;
     forms[place as usize] = Some(form);
     Ok(())
 }
@@ -119,11 +116,14 @@ pub fn put_equations(
     places: &Places<'_>,
     node: u32,
     members: &Map<String, Value>,
+    last: &mut Vec<Option<ReadText>>,
     forms: &mut Vec<Option<Nf>>,
 ) -> Result<(), Stop>
-    requires { AreEquationsOf places.now.positions.now forms.old.items }
+    requires last { AreLast places.now last.old.items }
+    requires forms { AreEquationsOf places.now.positions.now forms.old.items }
     ensures told { Tells (λ _. forms.new.items) result (equations_read (terms_in places.now) node forms.old.items (named_texts_of (members_view members.now.entries))) }
     ensures kept { OnOk result (AreEquationsOf places.now.positions.now forms.new.items) }
+    ensures last { OnOk result (AreLast places.now last.new.items) }
 {
     for (key, value) in members.iter() {
         put_equation(
@@ -131,7 +131,8 @@ pub fn put_equations(
             places,
             node,
             key.as_bytes(),
-            text_of(value).as_bytes(),
+            text_of(value),
+            last,
             forms,
         )?;
     }

@@ -11,4 +11,5 @@ mod nodes;
 mod parts;
 mod points;
 pub mod reader;
+mod repeats;
 mod table;

@@ -13,6 +13,7 @@ ghost use Rattle.cert_text.specs.Parts.{number_at as number_under, equations_in,
 ghost use Rattle.cert_text.specs.Answers.{Tells};
 ghost use Rattle.cert_text.specs.Points.{after, is_at};
 ghost use Rattle.cert_text.specs.Reading.{mode_named as mode_of, unwritten, equations_read, fact_read, node_fact, node_read, node_added, nodes_read};
+ghost use Rattle.cert_text.specs.Repeats.{AreLast};
 ghost use Rattle.cert_text.specs.View.{find_of, terms_in, context_in};
 ghost use Rattle.cert_text.specs.Within.{LiteralWithin, AreEquationsOf, IsNodeOf, AreNodesOf};
 
@@ -21,6 +22,7 @@ use crate::equations::{all_unwritten, put_equations, read_conditions};
 use crate::faults::{CertError, Stop};
 use crate::parts::{items_at, members_at, number_at, text_at};
 use crate::points::read_points;
+use crate::repeats::{ReadText, none_read};
 use bisimulation::mode::Mode;
 use certificates::cert::Node;
 use nf_rel::literals::NLit;
@@ -51,13 +53,16 @@ fn read_equations(
     c: &Context<'_>,
     node: u32,
     value: &Value,
+    last: &mut Vec<Option<ReadText>>,
 ) -> Result<Vec<Option<Nf>>, Stop>
+    requires { AreLast c.now.places last.old.items }
     ensures told { Tells (λ fs. fs.items) result (equations_read (terms_in c.now.places) node (map (unwritten c.now.places.format) c.now.places.positions.now) (equations_in (view value.now))) }
     ensures kept { IfOk result (λ fs. AreEquationsOf c.now.places.positions.now fs.items) }
+    ensures last { OnOk result (AreLast c.now.places last.new.items) }
 {
     let mut forms = all_unwritten(alloc, c.places.format, c.places.positions)?;
     if let Some(members) = members_at(value, "equations") {
-        put_equations(alloc, &c.places, node, members, &mut forms)?;
+        put_equations(alloc, &c.places, node, members, last, &mut forms)?;
     }
     Ok(forms)
 }
@@ -90,13 +95,21 @@ fn solved_fact(
 
 // The fact of a node.
 #[tactic(auto, using(crate::proofs::Shapes::conds_few), unfolding(crate::specs::Reading::node_fact))]
-fn read_fact(alloc: Global, c: &Context<'_>, node: u32, value: &Value) -> Result<Fact, Stop>
+fn read_fact(
+    alloc: Global,
+    c: &Context<'_>,
+    node: u32,
+    value: &Value,
+    last: &mut Vec<Option<ReadText>>,
+) -> Result<Fact, Stop>
     requires pairing { c.now.pairing.now ≡ c.now.places.positions.now }
     requires few { has_many_conditions (view value.now) ≡ false }
+    requires last { AreLast c.now.places last.old.items }
     ensures told { Tells (λ f. f) result (node_fact (terms_in c.now.places) node (node_text (view value.now))) }
     ensures of { IfOk result (λ f. IsFactOf c.now.places.positions.now f) }
+    ensures last { OnOk result (AreLast c.now.places last.new.items) }
 {
-    let forms = read_equations(alloc, c, node, value)?;
+    let forms = read_equations(alloc, c, node, value, last)?;
     let conds = read_conditions(alloc, &c.places, node, items_at(value, "conds"))?;
     solved_fact(alloc, c, node, forms, conds)
 }
@@ -119,13 +132,16 @@ fn read_node(
     node: u32,
     earlier: &[Node],
     value: &Value,
+    last: &mut Vec<Option<ReadText>>,
 ) -> Result<Node, Stop>
     requires pairing { c.now.pairing.now ≡ c.now.places.positions.now }
     requires shape { is_node (view value.now) ≡ true }
     requires few { has_many_conditions (view value.now) ≡ false }
+    requires last { AreLast c.now.places last.old.items }
     ensures told { Tells node_of result (node_read (context_in c.now) node (map node_of earlier.now) (node_text (view value.now))) }
     ensures free { IfOk result (λ n. list_any (is_at (node_of n).left (node_of n).right) (map node_of earlier.now) ≡ false) }
     ensures of { IfOk result (λ n. IsNodeOf c.now.a.now c.now.b.now c.now.places.positions.now (node_of n)) }
+    ensures last { OnOk result (AreLast c.now.places last.new.items) }
 {
     let (left, right) = read_points(
         c,
@@ -134,7 +150,7 @@ fn read_node(
         text_at(value, "left").as_bytes(),
         text_at(value, "right").as_bytes(),
     )?;
-    let fact = read_fact(alloc, c, node, value)?;
+    let fact = read_fact(alloc, c, node, value, last)?;
     Ok(Node {
         left,
         right,
@@ -151,15 +167,18 @@ fn push_node(
     node: u32,
     nodes: &mut Vec<Node>,
     value: &Value,
+    last: &mut Vec<Option<ReadText>>,
 ) -> Result<(), Stop>
     requires pairing { c.now.pairing.now ≡ c.now.places.positions.now }
     requires shape { is_node (view value.now) ≡ true }
     requires few { has_many_conditions (view value.now) ≡ false }
+    requires last { AreLast c.now.places last.old.items }
     ensures told { Tells (λ _. map node_of nodes.new.items) result (node_added (context_in c.now) node (map node_of nodes.old.items) (node_text (view value.now))) }
     ensures lawful { OnOk result (AreNodesOf c.now.a.now c.now.b.now c.now.places.positions.now (map node_of nodes.old.items) → AreNodesOf c.now.a.now c.now.b.now c.now.places.positions.now (map node_of nodes.new.items)) }
     ensures count { OnOk result (length nodes.new.items ≡ length nodes.old.items + 1) }
+    ensures last { OnOk result (AreLast c.now.places last.new.items) }
 {
-    let next = read_node(alloc, c, node, nodes.as_slice(), value)?;
+    let next = read_node(alloc, c, node, nodes.as_slice(), value, last)?;
     nodes.push(next)?;
     Ok(())
 }
@@ -171,15 +190,18 @@ fn push_value(
     node: u32,
     nodes: &mut Vec<Node>,
     value: Value,
+    last: &mut Vec<Option<ReadText>>,
 ) -> Result<(), Stop>
     requires pairing { c.now.pairing.now ≡ c.now.places.positions.now }
     requires shape { is_node (view value) ≡ true }
     requires few { has_many_conditions (view value) ≡ false }
+    requires last { AreLast c.now.places last.old.items }
     ensures told { Tells (λ _. map node_of nodes.new.items) result (node_added (context_in c.now) node (map node_of nodes.old.items) (node_text (view value))) }
     ensures lawful { OnOk result (AreNodesOf c.now.a.now c.now.b.now c.now.places.positions.now (map node_of nodes.old.items) → AreNodesOf c.now.a.now c.now.b.now c.now.places.positions.now (map node_of nodes.new.items)) }
     ensures count { OnOk result (length nodes.new.items ≡ length nodes.old.items + 1) }
+    ensures last { OnOk result (AreLast c.now.places last.new.items) }
 {
-    let pushed = push_node(alloc, c, node, nodes, &value);
+    let pushed = push_node(alloc, c, node, nodes, &value, last);
     drop(value);
     pushed
 }
@@ -195,9 +217,10 @@ pub fn read_nodes(alloc: Global, c: &Context<'_>, values: Vec<Value>) -> Result<
     ensures count { IfOk result (λ ns. length ns.items ≡ length values.items) }
 {
     let mut nodes = Vec::new(alloc);
+    let mut last = none_read(alloc, &c.places)?;
     let mut rest = values.into_iter();
     while let Some(value) = rest.next() {
-        push_value(alloc, c, nodes.len() as u32, &mut nodes, value)?;
+        push_value(alloc, c, nodes.len() as u32, &mut nodes, value, &mut last)?;
     }
     Ok(nodes)
 }

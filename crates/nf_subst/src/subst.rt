@@ -232,7 +232,8 @@ impl<'v> Subst<'v> {
     }
 }
 
-/// A polynomial with the vector's forms in place of its symbols, as by a new `Subst`.
+/// A polynomial with the vector's forms in place of its symbols: what `poly` of a new `Subst` answers, `Wide`, `Large` and
+/// `NoMemory` among it.
 #[tactic(auto, using(crate::proofs::Values::answers))]
 pub fn subst_poly(alloc: Global, p: &Poly, v: &Vector) -> Result<Poly, NfStop>
     ensures answers { Answers result (substituted v.now p.now) }
@@ -241,7 +242,8 @@ pub fn subst_poly(alloc: Global, p: &Poly, v: &Vector) -> Result<Poly, NfStop>
     Subst::new(alloc, v).poly(alloc, p)
 }
 
-/// An array with the vector's forms in place of its symbols, as by a new `Subst`.
+/// An array with the vector's forms in place of its symbols: what `arr` of a new `Subst` answers, `Wide`, `Large` and
+/// `NoMemory` among it.
 #[tactic(auto, using(crate::proofs::Values::answers))]
 pub fn subst_arr(alloc: Global, a: &Arr, v: &Vector) -> Result<Arr, NfStop>
     ensures answers { Answers result (array_substituted v.now a.now) }
@@ -250,7 +252,8 @@ pub fn subst_arr(alloc: Global, a: &Arr, v: &Vector) -> Result<Arr, NfStop>
     Subst::new(alloc, v).arr(alloc, a)
 }
 
-/// A list with the vector's forms in place of its symbols, as by a new `Subst`.
+/// A list with the vector's forms in place of its symbols: what `seq` of a new `Subst` answers, `Wide`, `Large` and
+/// `NoMemory` among it.
 #[tactic(auto, using(crate::proofs::Values::answers))]
 pub fn subst_seq(alloc: Global, l: &Seq, v: &Vector) -> Result<Seq, NfStop>
     ensures answers { Answers result (list_substituted v.now l.now) }

@@ -44,7 +44,7 @@ impl VariableSet {
         }
     }
 
-    /// The variables of both sets.
+    /// The variables of either set.
     pub fn joined(self, other: VariableSet) -> VariableSet
         ensures { has result ≡ λ x. has self x || has other x }
     {

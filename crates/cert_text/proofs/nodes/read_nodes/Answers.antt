@@ -15,7 +15,7 @@ push_value-requires-clause-few c = next_few c.loop-value.rest.rest.items c.next.
 
 pub returns-in_err-push_value-clause-told : goal.returns-in_err-push_value-clause-told
 returns-in_err-push_value-clause-told c =
-    let o : c.from_residual.result ≡ Err c.in_err-push_value.field-0.0 = search rules in
+    let o : c.from_residual-in_err-push_value.result ≡ Err c.in_err-push_value.field-0.0 = search rules in
     let C = context_in c.args.c.now in
     let earlier = map node_of c.loop-value.nodes.items in
     let left = c.loop-value.rest.rest.items in
@@ -44,4 +44,5 @@ loop-value-preserved c =
       many = omega (arith, lengths, c.in-Some.ensures.cases.1, c.loop-value.invariant.many);
       shape = others_shaped left rest c.in-Some.value is c.loop-value.invariant.shape;
       few = others_few left rest c.in-Some.value is c.loop-value.invariant.few;
+      last = c.in_ok-push_value.ensures.last;
     }

@@ -6,6 +6,7 @@ use Rattle.cert_json.specs.Shape.{are_nodes, some_has_many}
 use Rattle.cert_text.specs.Parts.{node_texts}
 use Rattle.cert_text.specs.Reading.{nodes_read}
 use Rattle.cert_text.specs.View.{context_in}
+use Rattle.cert_text.specs.Repeats.{AreLast}
 use Rattle.cert_text.specs.Within.{AreNodesOf}
 use Rattle.cert_text.proofs.nodes.read_nodes.Given as goal
 
@@ -17,6 +18,7 @@ invariant-loop-value l = record {
   many : into_iter_len l.rest ≡ length l.rest.rest.items;
   shape : are_nodes (items_view l.rest.rest.items) ≡ true;
   few : some_has_many (items_view l.rest.rest.items) ≡ false;
+  last : AreLast l.c.places l.last.items;
 }
 
 abbrev pub decreases-loop-value : goal.decreases-loop-value

@@ -1,0 +1,127 @@
+//! Equations that stand at one place in node after node, as most do: their text is read once.
+
+ghost use Rattle.std.specs.Prelude.{◌≡◌, ◌<◌, length, option_map, IfOk, IfSome, OnOk};
+ghost use Rattle.nf_terms.specs.Forms.{sort_of_form};
+ghost use Rattle.cert_text.specs.Answers.{Tells};
+ghost use Rattle.cert_text.specs.Judged.{texts_by};
+ghost use Rattle.cert_text.specs.Reading.{text_read, sort_at as sort_of_place};
+ghost use Rattle.cert_text.specs.Repeats.{IsReadAs, last_at, AreLast};
+ghost use Rattle.cert_text.specs.View.{find_of};
+ghost use Rattle.cert_text.specs.Within.{FormWithin};
+
+use crate::faults::Stop;
+use crate::forms::read_term;
+use crate::names::{Places, sort_of_terms};
+use fs_pair::positions::Position;
+use nf_terms::form::Nf;
+use nf_terms::stop::NoMemory;
+use nf_terms::symbols::Sort as TermSort;
+use std::alloc::Global;
+
+/// A text and the form that it stands for.
+#[derive(Drop)]
+pub struct ReadText {
+    pub text: String,
+    pub form: Nf,
+}
+
+/// No text at any place. The one refusal is out of memory.
+#[tactic(auto, using(crate::proofs::Repeated::one_more, crate::proofs::Repeated::none_read))]
+pub fn none_read(alloc: Global, places: &Places<'_>) -> Result<Vec<Option<ReadText>>, NoMemory>
+    ensures { IfOk result (λ last. AreLast places.now last.items) }
+{
+    let mut last = Vec::new(alloc);
+    for _ in 0..places.positions.len() {
+        last.push(None)?;
+    }
+    Ok(last)
+}
+
+// The text that was read last at a place, if there is one.
+fn last_at(last: &[Option<ReadText>], place: u32) -> Option<&ReadText>
+    ensures { option_map (λ r. r.now) result ≡ last_at last.now place }
+{
+    match last.get(place as usize) {
+        Some(Some(read)) => Some(read),
+        Some(None) | None => None,
+    }
+}
+
+// The sort of the terms at a place.
+fn sort_at(positions: &[Position], place: u32) -> TermSort
+    ensures { result ≡ sort_of_place positions.now place }
+{
+    match positions.get(place as usize) {
+        Some(position) => sort_of_terms(position.sort),
+        None => TermSort::Scalar,
+    }
+}
+
+// The form of a text at a place, where that text was read last there. The one refusal is out of memory.
+fn repeated(
+    alloc: Global,
+    places: &Places<'_>,
+    place: u32,
+    text: &str,
+    last: &[Option<ReadText>],
+) -> Result<Option<Nf>, NoMemory>
+    requires { AreLast places.now last.now }
+    ensures { IfOk result (λ o. IfSome o (IsReadAs places.now place text.now)) }
+{
+    match last_at(last, place) {
+        Some(read) => if read.text.as_str() == text {
+            Ok(Some(read.form.try_clone(alloc)?))
+        } else {
+            Ok(None)
+        },
+        None => Ok(None),
+    }
+}
+
+// The form of a text at a place, where the text now is the last one.
+fn read_new(
+    alloc: Global,
+    places: &Places<'_>,
+    node: u32,
+    place: u32,
+    text: &str,
+    last: &mut Vec<Option<ReadText>>,
+) -> Result<Nf, Stop>
+    requires place { place < length places.now.positions.now }
+    requires last { AreLast places.now last.old.items }
+    ensures told { Tells (λ f. f) result (text_read node ((texts_by (find_of places.now)).term (sort_of_place places.now.positions.now place) text.now)) }
+    ensures sort { IfOk result (λ f. sort_of_form f ≡ sort_of_place places.now.positions.now place) }
+    ensures within { IfOk result (FormWithin (find_of places.now)) }
+    ensures last { OnOk result (AreLast places.now last.new.items) }
+{
+    let sort = sort_at(places.positions, place);
+    let form = read_term(alloc, places, node, sort, text.as_bytes())?;
+    let copy = form.try_clone(alloc)?;
+    last[place as usize] = Some(ReadText {
+        text: String::from_str(alloc, text)?,
+        form: copy,
+    });
+    Ok(form)
+}
+
+/// The form of a text of a node at a place, or why the node is refused.
+pub fn read_at(
+    alloc: Global,
+    places: &Places<'_>,
+    node: u32,
+    place: u32,
+    text: &str,
+    last: &mut Vec<Option<ReadText>>,
+) -> Result<Nf, Stop>
+    requires place { place < length places.now.positions.now }
+    requires last { AreLast places.now last.old.items }
+    ensures told { Tells (λ f. f) result (text_read node ((texts_by (find_of places.now)).term (sort_of_place places.now.positions.now place) text.now)) }
+    ensures sort { IfOk result (λ f. sort_of_form f ≡ sort_of_place places.now.positions.now place) }
+    ensures within { IfOk result (FormWithin (find_of places.now)) }
+    ensures last { OnOk result (AreLast places.now last.new.items) }
+{
+    match repeated(alloc, places, place, text, last.as_slice())? {
+        Some(form) => Ok(form),
+        None => read_new(alloc, places, node, place, text, last),
+    }
+}
