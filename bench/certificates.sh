@@ -1,6 +1,6 @@
 #!/usr/bin/env bash
 # Times certificates near the limit of a file: bench/certificates.sh [FOLDER]. It writes machines and certificates into a folder (about
-# 1.2 GB), and prints processor seconds and memory.
+# 1.4 GB), and prints processor seconds and memory.
 set -eu
 cd "$(dirname "$0")/.."
 program=$PWD/crates/fsmd/out/fsmd
@@ -31,6 +31,25 @@ timed "check" check "$folder/left.fsmd" "$folder/right.fsmd"
 timed "check, with the certificate" check "$folder/left.fsmd" "$folder/right.fsmd" --cert "$folder/certificate.json"
 printf '%-40s %s bytes\n' "the certificate" "$(wc -c < "$folder/certificate.json")"
 timed "verify" verify "$folder/left.fsmd" "$folder/right.fsmd" "$folder/certificate.json"
+
+# What reading takes: the first node moves alone, so that the first obligation fails. Once as it was written, and once with
+# other numbers in each node, so that no two neighbouring nodes have an equation in common.
+python3 - "$folder" <<'END'
+import json, sys
+folder = sys.argv[1]
+certificate = json.load(open(f"{folder}/certificate.json"))
+def put(name):
+    json.dump(certificate, open(f"{folder}/{name}.json", "w"), separators=(",", ":"))
+nodes = certificate["nodes"]
+nodes[0]["mode"] = "left"
+put("read")
+for number, node in enumerate(nodes, start=2):
+    for key, text in node["equations"].items():
+        node["equations"][key] = text.replace(" + 2*", f" + {number}*")
+put("read_anew")
+END
+timed "verify, refused at once" verify "$folder/left.fsmd" "$folder/right.fsmd" "$folder/read.json"
+timed "the same, no equation twice" verify "$folder/left.fsmd" "$folder/right.fsmd" "$folder/read_anew.json"
 
 # Files that are refused, near the limit.
 python3 - "$folder" <<'END'
