@@ -1,6 +1,10 @@
 //! Assertions of certificates: `cases` says how a table is written.
 
+use crate::worked::{SQUARE, SUM_PAST_A_TEST};
 use cases::case::{Case, broken_row, case_of, of_pair};
+use cases::machines::{
+    SQUARE_MULTIPLIED_OUT, SQUARE_OF_A_SUM, SUM_BEFORE_A_TEST, SUM_BEHIND_A_TEST,
+};
 use std::alloc::{AllocError, Global};
 use std::process::Abort;
 
@@ -86,6 +90,30 @@ pub fn damaged(
         judged(rt, alloc, left, right, open.as_str(), row)?;
     }
     Ok(())
+}
+
+/// The same of the certificate of a sum that was moved past a test.
+pub fn damaged_sum(rt: &impl Abort, alloc: Global, rows: &str) -> Result<(), AllocError> {
+    damaged(
+        rt,
+        alloc,
+        SUM_BEFORE_A_TEST,
+        SUM_BEHIND_A_TEST,
+        SUM_PAST_A_TEST,
+        rows,
+    )
+}
+
+/// The same of the certificate of the square of a sum.
+pub fn damaged_square(rt: &impl Abort, alloc: Global, rows: &str) -> Result<(), AllocError> {
+    damaged(
+        rt,
+        alloc,
+        SQUARE_OF_A_SUM,
+        SQUARE_MULTIPLIED_OUT,
+        SQUARE,
+        rows,
+    )
 }
 
 // Asserts what `verify` puts of this certificate with the second cell of the row in its place: the third one.

@@ -1,8 +1,6 @@
 //! Which refusal is answered where several apply.
 
-use crate::asked::{damaged, each_row};
-use crate::worked::SQUARE;
-use cases::machines::{SQUARE_MULTIPLIED_OUT, SQUARE_OF_A_SUM};
+use crate::asked::{damaged_square, each_row};
 use std::alloc::AllocError;
 
 const FILES: &str = r"verify a.fsmd b.fsmd c.json¦{1}¦{2}¦¦bad input: {3}\n¦{4}";
@@ -27,12 +25,9 @@ fn machines_before_certificates(rt: HostRuntime) -> Result<(), AllocError> {
 // A certificate may be longer than a machine's text.
 #[test]
 fn a_long_file(rt: HostRuntime) -> Result<(), AllocError> {
-    damaged(
+    damaged_square(
         &rt,
         rt.alloc(),
-        SQUARE_OF_A_SUM,
-        SQUARE_MULTIPLIED_OUT,
-        SQUARE,
         r#""format"¦<<1048577 times: >>"format"¦yes"#,
     )
 }

@@ -1,8 +1,6 @@
 //! Certificates that are refused for their form, their points, or what their equations speak of.
 
-use crate::asked::{damaged, each_row};
-use crate::worked::SUM_PAST_A_TEST;
-use cases::machines::{SUM_BEFORE_A_TEST, SUM_BEHIND_A_TEST};
+use crate::asked::{damaged_sum, each_row};
 use std::alloc::AllocError;
 
 const FILE: &str = r"verify a.fsmd b.fsmd c.json¦{machine}¦{machine}¦¦bad input: c.json: {2}\n¦{1}";
@@ -101,14 +99,7 @@ const SHAPES: &str = r#""conds":[],¦¦bad input: c.json: Shape
 
 #[test]
 fn forms_of_a_node(rt: HostRuntime) -> Result<(), AllocError> {
-    damaged(
-        &rt,
-        rt.alloc(),
-        SUM_BEFORE_A_TEST,
-        SUM_BEHIND_A_TEST,
-        SUM_PAST_A_TEST,
-        SHAPES,
-    )
+    damaged_sum(&rt, rt.alloc(), SHAPES)
 }
 
 const NUMBERS: &str =
@@ -146,14 +137,7 @@ const POINTS: &str = r#""left":"s1"¦"left":"s9"¦bad input: c.json: UnknownStat
 // A point is the start, the return, or a state with more than one branch that is not the reset state.
 #[test]
 fn points(rt: HostRuntime) -> Result<(), AllocError> {
-    damaged(
-        &rt,
-        rt.alloc(),
-        SUM_BEFORE_A_TEST,
-        SUM_BEHIND_A_TEST,
-        SUM_PAST_A_TEST,
-        POINTS,
-    )
+    damaged_sum(&rt, rt.alloc(), POINTS)
 }
 
 const KEYS: &str = r#""R.x":"0"¦"R.z":"0"¦bad input: c.json: UnknownName node 0
@@ -175,14 +159,7 @@ const KEYS: &str = r#""R.x":"0"¦"R.z":"0"¦bad input: c.json: UnknownName node 
 
 #[test]
 fn keys_that_are_no_positions(rt: HostRuntime) -> Result<(), AllocError> {
-    damaged(
-        &rt,
-        rt.alloc(),
-        SUM_BEFORE_A_TEST,
-        SUM_BEHIND_A_TEST,
-        SUM_PAST_A_TEST,
-        KEYS,
-    )
+    damaged_sum(&rt, rt.alloc(), KEYS)
 }
 
 const EQUATIONS: &str = r#""L.x":"0"¦"L.x":"0 + "¦bad input: c.json: BadTerm node 0
@@ -198,14 +175,7 @@ const EQUATIONS: &str = r#""L.x":"0"¦"L.x":"0 + "¦bad input: c.json: BadTerm n
 // The node whose equation it is.
 #[test]
 fn equations_of_each_node(rt: HostRuntime) -> Result<(), AllocError> {
-    damaged(
-        &rt,
-        rt.alloc(),
-        SUM_BEFORE_A_TEST,
-        SUM_BEHIND_A_TEST,
-        SUM_PAST_A_TEST,
-        EQUATIONS,
-    )
+    damaged_sum(&rt, rt.alloc(), EQUATIONS)
 }
 
 // The equations and the conditions of the only node.

@@ -1,6 +1,6 @@
 //! What `verify` answers of certificates that are read: `yes`, or the first obligation that does not hold, and why.
 
-use crate::asked::{damaged, holds, verifies};
+use crate::asked::{damaged, damaged_square, damaged_sum, holds, verifies};
 use crate::worked::{EMITS, LOOP_TURNED_ROUND, SQUARE, SUM_OUT_OF_A_LOOP, SUM_PAST_A_TEST, TRACE};
 use cases::machines::{
     EMITS_AT_ONCE, EMITS_IN_TURN, LOOP_TESTED_AT_THE_BOTTOM, LOOP_TESTED_AT_THE_TOP,
@@ -72,14 +72,7 @@ const NO_START: &str = r#"{"format":1,"nodes":[]}¦no: obligation 1, no start no
 fn the_start(rt: HostRuntime) -> Result<(), AllocError> {
     let alloc = rt.alloc();
     verifies(&rt, alloc, SUM_BEFORE_A_TEST, SUM_BEHIND_A_TEST, NO_START)?;
-    damaged(
-        &rt,
-        alloc,
-        SUM_BEFORE_A_TEST,
-        SUM_BEHIND_A_TEST,
-        SUM_PAST_A_TEST,
-        START,
-    )
+    damaged_sum(&rt, alloc, START)
 }
 
 const MODES: &str = r#""mode":"left"¦"mode":"end"¦no: obligation 2, mode
@@ -97,14 +90,7 @@ const MODES: &str = r#""mode":"left"¦"mode":"end"¦no: obligation 2, mode
 
 #[test]
 fn modes_and_targets(rt: HostRuntime) -> Result<(), AllocError> {
-    damaged(
-        &rt,
-        rt.alloc(),
-        SUM_BEFORE_A_TEST,
-        SUM_BEHIND_A_TEST,
-        SUM_PAST_A_TEST,
-        MODES,
-    )
+    damaged_sum(&rt, rt.alloc(), MODES)
 }
 
 const FACTS: &str =
@@ -127,14 +113,7 @@ const FACTS: &str =
 // owe nothing.
 #[test]
 fn facts(rt: HostRuntime) -> Result<(), AllocError> {
-    damaged(
-        &rt,
-        rt.alloc(),
-        SUM_BEFORE_A_TEST,
-        SUM_BEHIND_A_TEST,
-        SUM_PAST_A_TEST,
-        FACTS,
-    )
+    damaged_sum(&rt, rt.alloc(), FACTS)
 }
 
 const SQUARES: &str = r#""R.b":"L.b",¦¦no: obligation 3, equation R.y
@@ -156,14 +135,7 @@ const SQUARES: &str = r#""R.b":"L.b",¦¦no: obligation 3, equation R.y
 // A fact may say less than it could, or the same in other words.
 #[test]
 fn squares(rt: HostRuntime) -> Result<(), AllocError> {
-    damaged(
-        &rt,
-        rt.alloc(),
-        SQUARE_OF_A_SUM,
-        SQUARE_MULTIPLIED_OUT,
-        SQUARE,
-        SQUARES,
-    )
+    damaged_square(&rt, rt.alloc(), SQUARES)
 }
 
 const LOOPS: &str = r#""L.i <= 0"¦"L.i <= 5"¦yes
