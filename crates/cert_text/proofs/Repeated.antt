@@ -26,20 +26,23 @@ put_one P (x ∷ xs) zero r h p (suc j) s e = h (suc j) s e
 put_one P (x ∷ xs) (suc k) r h p zero s e = h zero s e
 put_one P (x ∷ xs) (suc k) r h p (suc j) s e = put_one (λ i. P (suc i)) xs k r (λ i t f. h (suc i) t f) p j s e
 
--- a text that is read now is the last one at its place
+-- what a text is read as
 text_told : (i : ℕ) (x : Result Nf TermError) (f : Nf) → text_read i x ≡ Ok f → x ≡ Ok f
 text_told i (Ok g) f e = let h : g ≡ f = cc e in ap Ok h
 text_told i (Err g) f e = absurd (cc e)
 
-pub read_now : (t : Places) (rs : List (Option ReadText)) (i k : ℕ) (s : Sort) (text : List ℕ) (f : Nf) (r : ReadText) → AreLast t rs → s ≡ sort_at t.positions.now k → text_read i ((texts_by (find_of t)).term s text) ≡ Ok f
-    → sort_of_form f ≡ s → FormWithin (find_of t) f → string_bytes r.text ≡ text → r.form ≡ f → AreLast t (set rs k (Some r))
-read_now t rs i k s text f r h is told sort within e g = record { count = length-set rs k (Some r) ∙ h.count; read = put_one (λ j q. IsReadAs t j (string_bytes q.text) q.form) rs k r h.read now }
-  where
-    at_text : IsReadAs t k text f
-    at_text = record { told = text_told i ((texts_by (find_of t)).term (sort_at t.positions.now k) text) f (subst (λ q. text_read i ((texts_by (find_of t)).term q text) ≡ Ok f) is told); sort = sort ∙ is; within = within }
+pub read_as : (t : Places) (i k : ℕ) (s : Sort) (text : List ℕ) (f : Nf) → s ≡ sort_at t.positions.now k → text_read i ((texts_by (find_of t)).term s text) ≡ Ok f → sort_of_form f ≡ s → FormWithin (find_of t) f → IsReadAs t k text f
+read_as t i k s text f is told sort within = record {
+  told = text_told i ((texts_by (find_of t)).term (sort_at t.positions.now k) text) f (subst (λ q. text_read i ((texts_by (find_of t)).term q text) ≡ Ok f) is told);
+  sort = sort ∙ is;
+  within = within;
+}
 
-    now : IsReadAs t k (string_bytes r.text) r.form
-    now = subst (λ x. IsReadAs t k x r.form) (sym e) (subst (IsReadAs t k text) (sym g) at_text)
+-- a text that is read now is the last one at its place
+pub read_now : (t : Places) (rs : List (Option ReadText)) (k : ℕ) (text : List ℕ) (f : Nf) (r : ReadText) → AreLast t rs → IsReadAs t k text f → string_bytes r.text ≡ text → r.form ≡ f → AreLast t (set rs k (Some r))
+read_now t rs k text f r h p e g =
+    let now = subst (λ x. IsReadAs t k x r.form) (sym e) (subst (IsReadAs t k text) (sym g) p) in
+    record { count = length-set rs k (Some r) ∙ h.count; read = put_one (λ j q. IsReadAs t j (string_bytes q.text) q.form) rs k r h.read now }
 
 -- a text that was read last at a place is read again
 pub read_again : (t : Places) (rs : List (Option ReadText)) (k : ℕ) (r : ReadText) (text : List ℕ) (f : Nf) → AreLast t rs → last_at rs k ≡ Some r → bytes_eq (string_bytes r.text) text ≡ true → f ≡ r.form → IsReadAs t k text f

@@ -78,33 +78,30 @@ fn repeated(
     }
 }
 
-// The form of a text at a place, where the text now is the last one.
-fn read_new(
+// Keeps a text as the one that was read last at a place, with its form. The one refusal is out of memory.
+fn keep(
     alloc: Global,
     places: &Places<'_>,
-    node: u32,
     place: u32,
     text: &str,
+    form: &Nf,
     last: &mut Vec<Option<ReadText>>,
-) -> Result<Nf, Stop>
+) -> Result<(), NoMemory>
     requires place { place < length places.now.positions.now }
+    requires read { IsReadAs places.now place text.now form.now }
     requires last { AreLast places.now last.old.items }
-    ensures told { Tells (λ f. f) result (text_read node ((texts_by (find_of places.now)).term (sort_of_place places.now.positions.now place) text.now)) }
-    ensures sort { IfOk result (λ f. sort_of_form f ≡ sort_of_place places.now.positions.now place) }
-    ensures within { IfOk result (FormWithin (find_of places.now)) }
-    ensures last { OnOk result (AreLast places.now last.new.items) }
+    ensures { OnOk result (AreLast places.now last.new.items) }
 {
-    let sort = sort_at(places.positions, place);
-    let form = read_term(alloc, places, node, sort, text.as_bytes())?;
     let copy = form.try_clone(alloc)?;
     last[place as usize] = Some(ReadText {
         text: String::from_str(alloc, text)?,
         form: copy,
     });
-    Ok(form)
+    Ok(())
 }
 
 /// The form of a text of a node at a place, or why the node is refused.
+#[tactic(auto, using(crate::proofs::Repeated::read_as))]
 pub fn read_at(
     alloc: Global,
     places: &Places<'_>,
@@ -120,8 +117,11 @@ pub fn read_at(
     ensures within { IfOk result (FormWithin (find_of places.now)) }
     ensures last { OnOk result (AreLast places.now last.new.items) }
 {
-    match repeated(alloc, places, place, text, last.as_slice())? {
-        Some(form) => Ok(form),
-        None => read_new(alloc, places, node, place, text, last),
+    if let Some(form) = repeated(alloc, places, place, text, last.as_slice())? {
+        return Ok(form);
     }
+    let sort = sort_at(places.positions, place);
+    let form = read_term(alloc, places, node, sort, text.as_bytes())?;
+    keep(alloc, places, place, text, &form, last)?;
+    Ok(form)
 }
