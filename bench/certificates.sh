@@ -1,6 +1,6 @@
 #!/usr/bin/env bash
 # Times certificates near the limit of a file: bench/certificates.sh [FOLDER]. It writes machines and certificates into a folder (about
-# 1.4 GB), and prints processor seconds and memory.
+# 1.6 GB), and prints processor seconds and memory.
 set -eu
 cd "$(dirname "$0")/.."
 program=$PWD/crates/fsmd/out/fsmd
@@ -48,8 +48,22 @@ for number, node in enumerate(nodes, start=2):
         node["equations"][key] = text.replace(" + 2*", f" + {number}*")
 put("read_anew")
 END
+# And once with the first node and 3,080 others, of the states of larger rings.
+ring 55 > "$folder/larger_left.fsmd"
+ring 56 > "$folder/larger_right.fsmd"
+python3 - "$folder" <<'END'
+import json, sys
+folder = sys.argv[1]
+first, node = json.load(open(f"{folder}/read.json"))["nodes"][:2]
+def text(value):
+    return json.dumps(value, separators=(",", ":"))
+pairs = [(left, right) for left in range(55) for right in range(56)]
+nodes = [text(first)] + [text({**node, "left": f"c{left}", "right": f"c{right}"}) for left, right in pairs]
+open(f"{folder}/read_more.json", "w").write('{"format":1,"nodes":[' + ",".join(nodes) + "]}")
+END
 timed "verify, refused at once" verify "$folder/left.fsmd" "$folder/right.fsmd" "$folder/read.json"
 timed "the same, no equation twice" verify "$folder/left.fsmd" "$folder/right.fsmd" "$folder/read_anew.json"
+timed "refused at once, $(wc -c < "$folder/read_more.json") bytes" verify "$folder/larger_left.fsmd" "$folder/larger_right.fsmd" "$folder/read_more.json"
 
 # Files that are refused, near the limit.
 python3 - "$folder" <<'END'
