@@ -1,8 +1,8 @@
 -- What clashes is refuted, and what a direction implies.
-use Rattle.std.proofs.Common.{◌≡◌, ℕ, zero, suc, ◌+◌, ℤ, pos, Bool, true, false, zero-add, arith, refl, ap, sym, ◌∙◌, List, [], ◌∷◌, Option, None, Some}
+use Rattle.std.proofs.Common.{◌≡◌, ℕ, zero, suc, ◌+◌, ℤ, pos, Bool, true, false, zero-add, arith, refl, ap, sym, ◌∙◌, List, [], ◌∷◌, Some}
 use Rattle.std.specs.Prelude.{not, ◌&&◌, ◌||◌, option_map}
 use Rattle.std.specs.List.{list_any, list_all, slice_get, position_from}
-use Rattle.std.specs.Option.{is_some, option_or}
+use Rattle.std.specs.Option.{is_some}
 use Rattle.nf_terms.specs.Terms.{Polynomial}
 use Rattle.nf_terms.specs.Order.{same_polynomial}
 use Rattle.nf_terms.proofs.Tests.{and_left, and_right, and_both, or_left, or_right}
@@ -10,7 +10,7 @@ use Rattle.nf_rel.specs.declared.kind.Kind.{Kind}
 use Rattle.nf_rel.specs.declared.kind.Kind.TheVariants.{Ge, Le, Eq, Ne}
 use Rattle.nf_rel.specs.Bounds.{clashing_from}
 use Rattle.nf_rel.specs.Literals.{NormalLiteral, True, False, Is, meets, negate, clash, is_false, clashes_with, meets_along, meets_all, is_refuted_along, is_refuted_at, is_refuted, is_implied}
-use Rattle.nf_rel.proofs.Exact.{own_along, along_own, refuted_none, none_refuted}
+use Rattle.nf_rel.proofs.Exact.{own_along, refuted_none, none_refuted}
 use Rattle.nf_rel.proofs.Truth.{same_is, clash_along, not_both, negate_met}
 use Rattle.nf_rel.proofs.NormalLaws.{some_map, some_place, some_or}
 
@@ -176,7 +176,7 @@ unfolding is_implied
 met_implied ls d k b f =
     or_right (list_any is_false ls) _
     (none_refuted d (negate (Is d k b) ∷ ls) (λ v. not_both (meets_along d v (negate (Is d k b)) && meets_all d v ls)
-      (λ h. let x : meets k v b ≡ true = f v (and_right (meets_along d v (negate (Is d k b))) (meets_all d v ls) h) in
-        let y : not (meets k v b) ≡ true = sym (negation_along d k b v) ∙ and_left (meets_along d v (negate (Is d k b))) (meets_all d v ls) h in
-        let z : false ≡ true = sym (ap not x) ∙ y in
-        cc z)))
+    (λ h. let x : meets k v b ≡ true = f v (and_right (meets_along d v (negate (Is d k b))) (meets_all d v ls) h) in
+    let y : not (meets k v b) ≡ true = sym (negation_along d k b v) ∙ and_left (meets_along d v (negate (Is d k b))) (meets_all d v ls) h in
+    let z : false ≡ true = sym (ap not x) ∙ y in
+    cc z)))

@@ -1,18 +1,18 @@
 -- Which numbers meet all literals of a direction: where any does, one at a bound or next to it does, or 0.
-use Rattle.std.proofs.Common.{◌≡◌, ℕ, zero, suc, ℤ, pos, negsuc, ◌+ℤ◌, ◌-ℤ◌, neg_ℤ, Bool, true, false, ◌⊎◌, inl, inr, arith, refl, ap, sym, subst, ◌∙◌, List, [], ◌∷◌}
-use Rattle.std.specs.Prelude.{not, ◌&&◌, ◌||◌, int_lt}
+use Rattle.std.proofs.Common.{◌≡◌, ℕ, zero, suc, ℤ, pos, negsuc, ◌+ℤ◌, ◌-ℤ◌, neg_ℤ, Bool, true, false, ◌⊎◌, inl, inr, arith, refl, ap, sym, ◌∙◌, List, [], ◌∷◌}
+use Rattle.std.specs.Prelude.{not, ◌&&◌, ◌||◌}
 use Rattle.std.proofs.lemmas.Int.{ints}
-use Rattle.std.specs.List.{list_any, list_all}
+use Rattle.std.specs.List.{list_any}
 use Rattle.std.specs.Ordering.{int_eq, is_eq}
 use Rattle.std.specs.Cmp.{signed_Decides}
 use Rattle.nf_terms.specs.Terms.{Polynomial}
 use Rattle.nf_terms.specs.Order.{same_polynomial}
 use Rattle.nf_terms.specs.TermKeys.{polynomial_same}
-use Rattle.nf_terms.proofs.Tests.{and_left, and_right, and_both, or_left, or_right, not_true}
+use Rattle.nf_terms.proofs.Tests.{and_left, and_right, or_left, or_right, not_true}
 use Rattle.nf_rel.specs.declared.kind.Kind.{Kind}
 use Rattle.nf_rel.specs.declared.kind.Kind.TheVariants.{Ge, Le, Eq, Ne}
 use Rattle.nf_rel.specs.Literals.{NormalLiteral, True, False, Is, meets, meets_along, meets_all, numbers_near, is_refuted_along}
-use Rattle.nf_rel.proofs.Floors.{lt_true, lt_false, is_lt, not_lt}
+use Rattle.nf_rel.proofs.Floors.{lt_true, lt_false}
 
 pub same_self : (p : Polynomial) → same_polynomial p p ≡ true
 same_self p = ap is_eq (polynomial_same p p refl)

@@ -1,8 +1,7 @@
 -- Between which bounds a list leaves a direction, and that nothing is refuted where one side is open.
-use Rattle.std.proofs.Common.{◌≡◌, ℕ, ℤ, pos, ◌+ℤ◌, ◌-ℤ◌, ◌≤ℤ◌, ◌<ℤ◌, cond, Bool, true, false, arith, refl, ap, sym, subst, ◌∙◌, List, [], ◌∷◌, Option, None, Some}
+use Rattle.std.proofs.Common.{◌≡◌, ℤ, pos, ◌+ℤ◌, ◌-ℤ◌, ◌≤ℤ◌, ◌<ℤ◌, cond, Bool, true, false, arith, refl, ap, sym, subst, ◌∙◌, List, [], ◌∷◌, Option, None, Some}
 use Rattle.std.specs.Prelude.{not, ◌&&◌, ◌||◌, ◌↔◌, IsTrue, int_lt}
 use Rattle.std.proofs.lemmas.Int.{ints}
-use Rattle.std.specs.Ordering.{int_eq}
 use Rattle.nf_terms.specs.Terms.{Polynomial}
 use Rattle.nf_terms.specs.Order.{same_polynomial}
 use Rattle.nf_terms.proofs.Tests.{and_left, and_right, and_both, not_true}
@@ -10,7 +9,7 @@ use Rattle.nf_rel.specs.declared.kind.Kind.{Kind}
 use Rattle.nf_rel.specs.declared.kind.Kind.TheVariants.{Ge, Le, Eq, Ne}
 use Rattle.nf_rel.specs.Bounds.{lower_of, upper_of, lower_along, upper_along, greater, less, greatest_lower, least_upper}
 use Rattle.nf_rel.specs.Literals.{NormalLiteral, True, False, Is, meets, meets_along, meets_all, is_refuted_along}
-use Rattle.nf_rel.proofs.Floors.{lt_true, lt_false, is_lt, not_lt}
+use Rattle.nf_rel.proofs.Floors.{lt_true, lt_false, not_lt}
 use Rattle.nf_rel.proofs.Exact.{eq_true, not_eq, same_self, own_along, met_open, refuted_none, none_refuted}
 
 -- a number is not below a lower bound, and not above an upper one

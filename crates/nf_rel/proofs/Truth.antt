@@ -1,6 +1,6 @@
 -- Negation, clashes and implication keep truth.
 use Rattle.std.proofs.Common.{◌≡◌, ℤ, pos, ◌+ℤ◌, ◌-ℤ◌, Bool, true, false, arith, refl, ap, sym, ◌∙◌, List, [], ◌∷◌}
-use Rattle.std.specs.Prelude.{not, ◌&&◌, ◌||◌, int_lt}
+use Rattle.std.specs.Prelude.{not, ◌||◌, int_lt}
 use Rattle.std.proofs.lemmas.Int.{ints}
 use Rattle.std.specs.declared.cmp.Ordering.{Ordering}
 use Rattle.std.specs.declared.cmp.Ordering.TheVariants.{Less, Equal, Greater}

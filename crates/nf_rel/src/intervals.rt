@@ -104,13 +104,7 @@ fn greater<'a>(a: Option<&'a i128>, b: Option<&'a i128>) -> Option<&'a i128>
         None => b,
         Some(first) => match b {
             None => a,
-            Some(second) => {
-                if *first < *second {
-                    b
-                } else {
-                    a
-                }
-            }
+            Some(second) => { if *first < *second { b } else { a } }
         },
     }
 }
@@ -123,13 +117,7 @@ fn less<'a>(a: Option<&'a i128>, b: Option<&'a i128>) -> Option<&'a i128>
         None => b,
         Some(first) => match b {
             None => a,
-            Some(second) => {
-                if *second < *first {
-                    b
-                } else {
-                    a
-                }
-            }
+            Some(second) => { if *second < *first { b } else { a } }
         },
     }
 }
@@ -164,14 +152,7 @@ fn meets_beside(dir: &Poly, k: Kind, bound: &i128, list: &[NLit], number: &i128)
 }
 
 // Whether no number from one to another meets a bound of a direction and all literals of it.
-fn none_between(
-    dir: &Poly,
-    k: Kind,
-    bound: &i128,
-    list: &[NLit],
-    low: &i128,
-    high: &i128,
-) -> bool
+fn none_between(dir: &Poly, k: Kind, bound: &i128, list: &[NLit], low: &i128, high: &i128) -> bool
     ensures { IsTrue result ↔ ((v : ℤ) → low.now ≤ℤ v → v ≤ℤ high.now → meets k v bound.now && meets_all dir.now v (map literal_in list.now) ≡ false) }
 {
     if *high < *low {

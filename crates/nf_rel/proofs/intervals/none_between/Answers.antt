@@ -1,4 +1,4 @@
-use Rattle.std.proofs.Common.{◌≡◌, ℤ, pos, ◌+ℤ◌, ◌≤ℤ◌, ◌&&◌, false, map, FitsSigned, to_z, of_z, arith, sym, ◌∙◌, rules}
+use Rattle.std.proofs.Common.{◌≡◌, pos, ◌+ℤ◌, ◌&&◌, false, map, FitsSigned, to_z, of_z, arith, sym, ◌∙◌, rules}
 use Rattle.std.specs.Int.{w128}
 use Rattle.std.proofs.lemmas.Int.{ints, to_z-of_z}
 use Rattle.nf_rel.specs.Literals.{meets, meets_all}
