@@ -45,8 +45,7 @@ pub fn further_values(alloc: Global, pool: &[i128]) -> Result<Vec<i128>, NoMemor
     ensures distinct { IfOk result (λ v. IsDistinct int_eq v.items) }
     ensures few { IfOk result (λ v. length v.items ≤ most_further_values) }
 {
-    let mut values = Vec::new(alloc);
-    add_all(&mut values, FIXED_VALUES.as_slice(), FURTHER_LIMIT)?;
+    let mut values = FIXED_VALUES.as_slice().to_vec(alloc)?;
     add_all(&mut values, pool, FURTHER_LIMIT)?;
     Ok(values)
 }
