@@ -3,14 +3,15 @@ use Rattle.std.proofs.Common.{◌≡◌, ℕ, ℤ, ◌+◌, ◌<◌, ◌≤◌, 
 use Rattle.std.proofs.lemmas.Bool.{cases_lt}
 use Rattle.fs_model.specs.Machines.{Fsmd}
 use Rattle.fs_model.specs.Runs.{Inputs}
+use Rattle.fs_runs.specs.InputValues.{input_signatures}
 use Rattle.fs_runs.specs.declared.run.Ended.{Ended}
 use Rattle.fs_runs.specs.declared.run.RunStop.{RunStop}
 use Rattle.fs_runs.specs.Outcomes.{IsStopped, IsOfRun, told_by}
 use Rattle.fs_runs.proofs.RunOnce.{one_end, end_or_stop}
 use Rattle.fs_show.specs.Items.{SameOutputs}
 use Rattle.fs_trials.specs.Pool.{pool_of}
-use Rattle.fs_trials.specs.Candidates.{candidate}
-use Rattle.fs_trials.specs.Differences.{ShowsDifference, DiffersAt, IsEnd, HasNoEnd}
+use Rattle.fs_trials.specs.Candidates.{candidate, contents, inputs_told, stated_inputs}
+use Rattle.fs_trials.specs.Differences.{ShowsDifference, DiffersAt, IsEnd, HasNoEnd, AreApart}
 
 -- a run that was stopped has no end
 pub no_end : (m : Fsmd) (ins : Inputs) (limit : ℕ) (stop : RunStop) → IsStopped m ins limit stop → IsOfRun stop → HasNoEnd m ins limit
@@ -29,9 +30,33 @@ same_shows_none a b ins limit left right l r same d =
     let rights = (one_end b ins limit d.right (told_by b right.outputs.items) d.right_steps right.steps d.right_ends r.ends).0 in
     d.differ (λ name. ap (λ o. o name) lefts ∙ same name ∙ sym (ap (λ o. o name) rights))
 
+-- runs that are apart show a difference
+apart_shows : (a b : Fsmd) (ins : Inputs) (limit : ℕ) (left right : Ended) → AreApart a b ins limit left right → ShowsDifference a b ins limit
+apart_shows a b ins limit left right d = record {
+  left = told_by a left.outputs.items;
+  right = told_by b right.outputs.items;
+  left_steps = left.steps;
+  right_steps = right.steps;
+  left_ends = d.left_end.ends;
+  right_ends = d.right_end.ends;
+  differ = d.differ;
+}
+
+-- the inputs of candidate j of a pool
+abbrev told_of : Fsmd → List ℤ → (j : ℕ) → Inputs
+told_of a pool j = inputs_told (input_signatures a.variables) (contents (candidate pool j) 0 (input_signatures a.variables))
+
+-- inputs of candidate j of the pool of two machines are those of their stated candidate j
+pub stated_here : (a b : Fsmd) (j : ℕ) (pool : List ℤ) (ins : Inputs) → ins ≡ told_of a pool j → pool ≡ pool_of a b → ins ≡ stated_inputs a b j
+stated_here a b j pool ins e f = e ∙ ap (λ p. told_of a p j) f
+
 -- what inputs do not show, their candidate does not
-pub at_candidate : (a b : Fsmd) (limit j : ℕ) (pool : List ℤ) (ins : Inputs) → ins ≡ candidate pool j a → pool ≡ pool_of a b → ¬ ShowsDifference a b ins limit → ¬ DiffersAt a b limit j
-at_candidate a b limit j pool ins e f none = subst (λ x. ¬ ShowsDifference a b x limit) (e ∙ ap (λ p. candidate p j a) f) none
+pub at_candidate : (a b : Fsmd) (limit j : ℕ) (ins : Inputs) → ins ≡ stated_inputs a b j → ¬ ShowsDifference a b ins limit → ¬ DiffersAt a b limit j
+at_candidate a b limit j ins e none = subst (λ x. ¬ ShowsDifference a b x limit) e none
+
+-- what inputs show, their candidate does
+pub shown_at : (a b : Fsmd) (limit j : ℕ) (ins : Inputs) (left right : Ended) → ins ≡ stated_inputs a b j → AreApart a b ins limit left right → DiffersAt a b limit j
+shown_at a b limit j ins left right e d = subst (λ x. ShowsDifference a b x limit) e (apart_shows a b ins limit left right d)
 
 pub one_more : (P : ℕ → Type 0) (j : ℕ) → ((i : ℕ) → i < j → P i) → P j → (i : ℕ) → i < j + 1 → P i
 one_more P j before here i h =

@@ -17,7 +17,7 @@ use Rattle.fs_runs.specs.declared.inputs.Inputs.{Inputs as InputValues}
 use Rattle.fs_runs.specs.Values.{content_of, number_in, entry_in}
 use Rattle.fs_runs.specs.InputValues.{Signature, input_signatures, signature, value_named, input_values, inputs_of, signatures_of}
 use Rattle.fs_runs.specs.Outcomes.{told}
-use Rattle.fs_trials.specs.Candidates.{pooled, place_of, filled, given_at, given, number_told, array_told, inputs_told}
+use Rattle.fs_trials.specs.Candidates.{Candidate, content_at, array_of, contents, number_told, array_told, inputs_told}
 
 -- ---- values by name and contents in order
 
@@ -63,19 +63,19 @@ inputs_are ins fs cs e f = as_told ins ∙ ap (λ gs. inputs_told gs (map conten
 -- ---- one input after another
 
 -- the first k contents are those that a candidate gives
-abbrev pub AreGiven : List ℤ → (j k : ℕ) → List Content → List Signature → Type 0
-AreGiven pool j k cs fs = (i : ℕ) → i < k → slice_get cs i ≡ slice_get (given pool j 0 fs) i
+abbrev pub AreGiven : Candidate → (k : ℕ) → List Content → List Signature → Type 0
+AreGiven g k cs fs = (i : ℕ) → i < k → slice_get cs i ≡ slice_get (contents g 0 fs) i
 
-given_get : (pool : List ℤ) (j m k : ℕ) (fs : List Signature) (f : Signature) → slice_get fs k ≡ Some f → slice_get (given pool j m fs) k ≡ Some (given_at pool (place_of pool j (m + k)) f.1)
-given_get pool j m k [] f e = absurd (cc)
-given_get pool j m zero (g ∷ fs) f e = let same : g ≡ f = cc in ap (λ h. Some (given_at pool (place_of pool j m) h.1)) same ∙ ap (λ n. Some (given_at pool (place_of pool j n) f.1)) (sym (add-zero m))
-given_get pool j m (suc k) (g ∷ fs) f e =
+contents_get : (g : Candidate) (m k : ℕ) (fs : List Signature) (f : Signature) → slice_get fs k ≡ Some f → slice_get (contents g m fs) k ≡ Some (content_at g (m + k) f.1)
+contents_get g m k [] f e = absurd (cc)
+contents_get g m zero (h ∷ fs) f e = let same : h ≡ f = cc in ap (λ x. Some (content_at g m x.1)) same ∙ ap (λ n. Some (content_at g n f.1)) (sym (add-zero m))
+contents_get g m (suc k) (h ∷ fs) f e =
     let place : (m + 1) + k ≡ m + suc k = omega arith in
-    given_get pool j (m + 1) k fs f e ∙ ap (λ n. Some (given_at pool (place_of pool j n) f.1)) place
+    contents_get g (m + 1) k fs f e ∙ ap (λ n. Some (content_at g n f.1)) place
 
-given_count : (pool : List ℤ) (j m : ℕ) (fs : List Signature) → length (given pool j m fs) ≡ length fs
-given_count pool j m [] = refl
-given_count pool j m (f ∷ fs) = ap suc (given_count pool j (m + 1) fs)
+contents_count : (g : Candidate) (m : ℕ) (fs : List Signature) → length (contents g m fs) ≡ length fs
+contents_count g m [] = refl
+contents_count g m (f ∷ fs) = ap suc (contents_count g (m + 1) fs)
 
 length_mapped : {A B : Type 0} (f : A → B) (xs : List A) → length (map f xs) ≡ length xs
 length_mapped f [] = refl
@@ -105,23 +105,23 @@ get_low (y ∷ xs) zero x e = omega arith
 get_low (y ∷ xs) (suc k) x e = let h = get_low xs k x e in omega arith
 
 -- one more input gets what the candidate gives it
-pub given_more : (pool : List ℤ) (j k : ℕ) (old new : List Value) (fs : List Signature) (s : Sort) (v : Value) → length (map content_of old) ≡ length fs → option_map (λ (f : Signature). f.1) (slice_get fs k) ≡ Some s
-    → content_of v ≡ given_at pool (place_of pool j k) s → new ≡ slice_set old k v → AreGiven pool j k (map content_of old) fs → AreGiven pool j (k + 1) (map content_of new) fs
-given_more pool j k old new fs s v count sort own put before i less =
+pub given_more : (g : Candidate) (k : ℕ) (old new : List Value) (fs : List Signature) (s : Sort) (v : Value) → length (map content_of old) ≡ length fs → option_map (λ (f : Signature). f.1) (slice_get fs k) ≡ Some s
+    → content_of v ≡ content_at g k s → new ≡ slice_set old k v → AreGiven g k (map content_of old) fs → AreGiven g (k + 1) (map content_of new) fs
+given_more g k old new fs s v count sort own put before i less =
     let cs = map content_of old in
-    let f = there (λ (g : Signature). g.1) (slice_get fs k) s sort in
+    let f = there (λ (h : Signature). h.1) (slice_get fs k) s sort in
     let low : k < length fs = get_low fs k f.0 f.1 in
     let all : map content_of new ≡ slice_set cs k (content_of v) = ap (map content_of) put ∙ map-set content_of old k v in
     let here : slice_get (slice_set cs k (content_of v)) k ≡ Some (content_of v) = get_set_here cs k (content_of v) (omega arith) in
-    let wanted : slice_get (given pool j 0 fs) k ≡ Some (given_at pool (place_of pool j (0 + k)) f.0.1) = given_get pool j 0 k fs f.0 f.1 in
+    let wanted : slice_get (contents g 0 fs) k ≡ Some (content_at g (0 + k) f.0.1) = contents_get g 0 k fs f.0 f.1 in
     let zero_place : 0 + k ≡ k = omega arith in
-    let given_here : slice_get (given pool j 0 fs) k ≡ Some (given_at pool (place_of pool j k) s) = wanted ∙ ap (λ n. Some (given_at pool (place_of pool j n) f.0.1)) zero_place ∙ ap (λ t. Some (given_at pool (place_of pool j k) t)) f.2 in
+    let given_here : slice_get (contents g 0 fs) k ≡ Some (content_at g k s) = wanted ∙ ap (λ n. Some (content_at g n f.0.1)) zero_place ∙ ap (λ t. Some (content_at g k t)) f.2 in
     ap (λ ds. slice_get ds i) all
-    ∙ elim (cases_lt i k) as (λ _. slice_get (slice_set cs k (content_of v)) i ≡ slice_get (given pool j 0 fs) i) [
+    ∙ elim (cases_lt i k) as (λ _. slice_get (slice_set cs k (content_of v)) i ≡ slice_get (contents g 0 fs) i) [
       | inl earlier ↦ get_set_before cs k i (content_of v) earlier ∙ before i earlier
       | inr later ↦
           let same : k ≡ i = omega arith in
-          subst (λ n. slice_get (slice_set cs k (content_of v)) n ≡ slice_get (given pool j 0 fs) n) same (here ∙ ap Some own ∙ sym given_here)
+          subst (λ n. slice_get (slice_set cs k (content_of v)) n ≡ slice_get (contents g 0 fs) n) same (here ∙ ap Some own ∙ sym given_here)
     ]
 
 same_lists : {A : Type 0} (xs ys : List A) → length xs ≡ length ys → ((i : ℕ) → i < length xs → slice_get xs i ≡ slice_get ys i) → xs ≡ ys
@@ -135,8 +135,8 @@ same_lists (x ∷ xs) (y ∷ ys) e each =
     cc
 
 -- all inputs have what the candidate gives them
-pub given_all : (pool : List ℤ) (j k : ℕ) (cs : List Content) (fs : List Signature) → length cs ≡ length fs → length fs ≤ k → AreGiven pool j k cs fs → cs ≡ given pool j 0 fs
-given_all pool j k cs fs count all each = same_lists cs (given pool j 0 fs) (count ∙ sym (given_count pool j 0 fs)) (λ i h. each i (omega arith))
+pub given_all : (g : Candidate) (k : ℕ) (cs : List Content) (fs : List Signature) → length cs ≡ length fs → length fs ≤ k → AreGiven g k cs fs → cs ≡ contents g 0 fs
+given_all g k cs fs count all each = same_lists cs (contents g 0 fs) (count ∙ sym (contents_count g 0 fs)) (λ i h. each i (omega arith))
 
 none_there : {A B : Type 0} (f : A → B) (o : Option A) → option_map f o ≡ None → o ≡ None
 none_there f None e = refl
@@ -152,24 +152,32 @@ past_all fs k e = got_none fs k (none_there (λ (f : Signature). f.1) (slice_get
 
 -- ---- arrays
 
-pub filled_more : (pool : List ℤ) (place k : ℕ) (v : ℤ) (old new : ℤ → ℤ) → v ≡ pooled pool (place + k) → ((x : ℤ) → new x ≡ cond (int_eq (pos k) x) v (old x)) → ((x : ℤ) → old x ≡ filled pool place k x) → (x : ℤ) → new x ≡ filled pool place (k + 1) x
-filled_more pool place k v old new e put before (negsuc i) = put (negsuc i) ∙ before (negsuc i)
-filled_more pool place k v old new e put before (pos i) =
+pub filled_more : (numbers : ℕ → ℤ) (k : ℕ) (v : ℤ) (old new : ℤ → ℤ) → v ≡ numbers k → ((x : ℤ) → new x ≡ cond (int_eq (pos k) x) v (old x)) → ((x : ℤ) → old x ≡ array_of numbers k x) → (x : ℤ) → new x ≡ array_of numbers (k + 1) x
+filled_more numbers k v old new e put before (negsuc i) = put (negsuc i) ∙ before (negsuc i)
+filled_more numbers k v old new e put before (pos i) =
     put (pos i)
-    ∙ elim (int_eq (pos k) (pos i)) as (λ b. int_eq (pos k) (pos i) ≡ b → cond b v (old (pos i)) ≡ cond (nat_lt i (k + 1)) (pooled pool (place + i)) (pos 0)) [
+    ∙ elim (int_eq (pos k) (pos i)) as (λ b. int_eq (pos k) (pos i) ≡ b → cond b v (old (pos i)) ≡ cond (nat_lt i (k + 1)) (numbers i) (pos 0)) [
       | true ↦ λ same.
           let whole : pos k ≡ pos i = (Decides-int_eq (pos k) (pos i)).0 same in
           let number : k ≡ i = cc in
           let inside : nat_lt i (k + 1) ≡ true = grind (arith, nat_tests) in
-          e ∙ ap (λ n. pooled pool (place + n)) number ∙ ap (λ b. cond b (pooled pool (place + i)) (pos 0)) (sym inside)
+          e ∙ ap numbers number ∙ ap (λ b. cond b (numbers i) (pos 0)) (sym inside)
       | false ↦ λ apart.
           let differ : k ≢ i = λ q. false≢true (sym apart ∙ (Decides-int_eq (pos k) (pos i)).1 (ap pos q)) in
           let test : nat_lt i k ≡ nat_lt i (k + 1) = grind (arith, nat_tests) in
-          before (pos i) ∙ ap (λ b. cond b (pooled pool (place + i)) (pos 0)) test
+          before (pos i) ∙ ap (λ b. cond b (numbers i) (pos 0)) test
     ] refl
 
 pub entries_are : (f g : ℤ → ℤ) → ((i : ℤ) → f i ≡ g i) → Entries f ≡ Entries g
 entries_are f g each = ap Entries (λ j i. each i j)
+
+-- ---- which candidate it is
+
+pub of_pool : {A : Type 0} (j n : ℕ) (x y : A) → j < n → cond (nat_lt j n) x y ≡ x
+of_pool j n x y h = let test : nat_lt j n ≡ true = grind (arith, nat_tests) in ap (λ b. cond b x y) test
+
+pub of_further : {A : Type 0} (j n : ℕ) (x y : A) → n ≤ j → cond (nat_lt j n) x y ≡ y
+of_further j n x y h = let test : nat_lt j n ≡ false = grind (arith, nat_tests) in ap (λ b. cond b x y) test
 
 -- ---- how many inputs there are
 

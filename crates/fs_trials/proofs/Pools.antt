@@ -1,4 +1,4 @@
--- A pool that grows by a number at a time is the pool of all of them.
+-- A list that grows by a number at a time is the list of all of them.
 use Rattle.std.proofs.Common.{◌≡◌, ℕ, zero, suc, ◌<◌, ◌≤◌, Bool, true, false, cond, leb, List, [], ◌∷◌, ◌++◌, length, take, refl, sym, ◌∙◌, ap, arith, append_assoc, append-nil, length-append}
 use Rattle.std.specs.Prelude.{ℤ, pos, negsuc, ◌+ℤ◌, ◌-ℤ◌, not, ◌&&◌, ◌||◌, Option, Some, None, FitsSigned, nat_le}
 use Rattle.std.specs.Int.{w128}
@@ -12,7 +12,7 @@ use Rattle.std.proofs.lemmas.List.{take_all, take-append-le, length-take}
 use Rattle.std.proofs.lemmas.List.Elements.{filter_agree}
 use Rattle.std.proofs.lemmas.List.Folds.{list_any-append}
 use Rattle.std.proofs.lemmas.List.Sums.{fold-append}
-use Rattle.fs_trials.specs.Pool.{most_values, fits, first_values, neighbours, distinct, pool_from, is_in, grown}
+use Rattle.fs_trials.specs.Pool.{fits, first_values, fixed_values, neighbours, distinct, first_distinct, pool_from, further_values, is_in, grown}
 
 -- ---- numbers of 128 bits
 
@@ -74,26 +74,26 @@ new_left p v ds h =
     ∙ filter_agree (λ w. not (int_eq v w) && not (is_in w p)) (λ w. not (is_in w (p ++ v ∷ []))) (λ w. sym (new_behind p v w)) ds in
     ap (λ r. p ++ r) (taken ∙ ap (λ r. v ∷ r) rest) ∙ sym (append_assoc p (v ∷ []) (filter (λ w. not (is_in w (p ++ v ∷ []))) ds))
 
-full_stays : (p xs : List ℤ) → length p ≤ 24 → leb 24 (length p) ≡ true → take 24 (p ++ xs) ≡ p
-full_stays p xs low h = let high : 24 ≤ length p = grind (arith, nat_tests) in take-append-le 24 p xs high ∙ take_all 24 p low
+full_stays : (room : ℕ) (p xs : List ℤ) → length p ≤ room → leb room (length p) ≡ true → take room (p ++ xs) ≡ p
+full_stays room p xs low h = let high : room ≤ length p = grind (arith, nat_tests) in take-append-le room p xs high ∙ take_all room p low
 
-pub grown_full : (p vs : List ℤ) → nat_le most_values (length p) ≡ true → fold grown p vs ≡ p
-grown_full p [] h = refl
-grown_full p (v ∷ vs) h = let same : grown p v ≡ p = rw h refl in ap (λ q. fold grown q vs) same ∙ grown_full p vs h
+pub grown_full : (room : ℕ) (p vs : List ℤ) → nat_le room (length p) ≡ true → fold (grown room) p vs ≡ p
+grown_full room p [] h = refl
+grown_full room p (v ∷ vs) h = let same : grown room p v ≡ p = rw h refl in ap (λ q. fold (grown room) q vs) same ∙ grown_full room p vs h
 
--- all numbers that are new to a pool are added, as far as there is room
-grown_all : (p vs : List ℤ) → length p ≤ 24 → fold grown p vs ≡ take 24 (p ++ filter (λ w. not (is_in w p)) (distinct vs))
-grown_all p [] low = sym (ap (take 24) (append-nil p) ∙ take_all 24 p low)
-grown_all p (v ∷ vs) low =
+-- all numbers that are new to a list are added, as far as there is room
+grown_all : (room : ℕ) (p vs : List ℤ) → length p ≤ room → fold (grown room) p vs ≡ take room (p ++ filter (λ w. not (is_in w p)) (distinct vs))
+grown_all room p [] low = sym (ap (take room) (append-nil p) ∙ take_all room p low)
+grown_all room p (v ∷ vs) low =
     let ds = distinct vs in
-    elim (nat_le most_values (length p)) as (λ b. nat_le most_values (length p) ≡ b → fold grown (cond (b || is_in v p) p (p ++ v ∷ [])) vs ≡ take 24 (p ++ filter (λ w. not (is_in w p)) (v ∷ filter (λ w. not (int_eq v w)) ds))) [
-      | true ↦ λ full. grown_full p vs full ∙ sym (full_stays p (filter (λ w. not (is_in w p)) (v ∷ filter (λ w. not (int_eq v w)) ds)) low full)
-      | false ↦ λ room. elim (is_in v p) as (λ b. is_in v p ≡ b → fold grown (cond b p (p ++ v ∷ [])) vs ≡ take 24 (p ++ filter (λ w. not (is_in w p)) (v ∷ filter (λ w. not (int_eq v w)) ds))) [
-        | true ↦ λ there. grown_all p vs low ∙ ap (λ r. take 24 (p ++ r)) (sym (known_left p v ds there))
+    elim (nat_le room (length p)) as (λ b. nat_le room (length p) ≡ b → fold (grown room) (cond (b || is_in v p) p (p ++ v ∷ [])) vs ≡ take room (p ++ filter (λ w. not (is_in w p)) (v ∷ filter (λ w. not (int_eq v w)) ds))) [
+      | true ↦ λ full. grown_full room p vs full ∙ sym (full_stays room p (filter (λ w. not (is_in w p)) (v ∷ filter (λ w. not (int_eq v w)) ds)) low full)
+      | false ↦ λ free. elim (is_in v p) as (λ b. is_in v p ≡ b → fold (grown room) (cond b p (p ++ v ∷ [])) vs ≡ take room (p ++ filter (λ w. not (is_in w p)) (v ∷ filter (λ w. not (int_eq v w)) ds))) [
+        | true ↦ λ there. grown_all room p vs low ∙ ap (λ r. take room (p ++ r)) (sym (known_left p v ds there))
         | false ↦ λ away.
-            let less : length p < 24 = grind (arith, nat_tests) in
-            let more : length (p ++ v ∷ []) ≤ 24 = simp length-append (omega arith) in
-            grown_all (p ++ v ∷ []) vs more ∙ ap (take 24) (sym (new_left p v ds away))
+            let less : length p < room = grind (arith, nat_tests) in
+            let more : length (p ++ v ∷ []) ≤ room = simp length-append (omega arith) in
+            grown_all room (p ++ v ∷ []) vs more ∙ ap (take room) (sym (new_left p v ds away))
       ] refl
     ] refl
 
@@ -101,14 +101,23 @@ all_new : (ds : List ℤ) → filter (λ w. not (is_in w [])) ds ≡ ds
 all_new [] = refl
 all_new (d ∷ ds) = ap (λ r. d ∷ r) (all_new ds)
 
-pub pool_grown : (xs ys p q r : List ℤ) → p ≡ fold grown [] first_values → q ≡ fold grown p (flat_map neighbours xs) → r ≡ fold grown q (flat_map neighbours ys) → r ≡ pool_from (xs ++ ys)
+from_none : (room : ℕ) (vs : List ℤ) → fold (grown room) [] vs ≡ first_distinct room vs
+from_none room vs = grown_all room [] vs (omega arith) ∙ ap (take room) (all_new (distinct vs))
+
+pub pool_grown : (xs ys p q r : List ℤ) → p ≡ fold (grown 24) [] first_values → q ≡ fold (grown 24) p (flat_map neighbours xs) → r ≡ fold (grown 24) q (flat_map neighbours ys) → r ≡ pool_from (xs ++ ys)
 pool_grown xs ys p q r e f g =
     let na = flat_map neighbours xs in
     let nb = flat_map neighbours ys in
-    let two : q ≡ fold grown [] (first_values ++ na) = f ∙ ap (λ x. fold grown x na) e ∙ sym (fold-append grown [] first_values na) in
-    let three : r ≡ fold grown [] ((first_values ++ na) ++ nb) = g ∙ ap (λ x. fold grown x nb) two ∙ sym (fold-append grown [] (first_values ++ na) nb) in
+    let two : q ≡ fold (grown 24) [] (first_values ++ na) = f ∙ ap (λ x. fold (grown 24) x na) e ∙ sym (fold-append (grown 24) [] first_values na) in
+    let three : r ≡ fold (grown 24) [] ((first_values ++ na) ++ nb) = g ∙ ap (λ x. fold (grown 24) x nb) two ∙ sym (fold-append (grown 24) [] (first_values ++ na) nb) in
     let joined : (first_values ++ na) ++ nb ≡ first_values ++ flat_map neighbours (xs ++ ys) = append_assoc first_values na nb ∙ ap (λ x. first_values ++ x) (sym (flat_map-append neighbours xs ys)) in
-    three ∙ ap (fold grown []) joined ∙ grown_all [] (first_values ++ flat_map neighbours (xs ++ ys)) (omega arith) ∙ ap (take 24) (all_new (distinct (first_values ++ flat_map neighbours (xs ++ ys))))
+    three ∙ ap (fold (grown 24) []) joined ∙ from_none 24 (first_values ++ flat_map neighbours (xs ++ ys))
+
+fixed_grown : fixed_values ≡ fold (grown 40) [] fixed_values
+fixed_grown = refl
+
+pub further_grown : (pool p q : List ℤ) → p ≡ fixed_values → q ≡ fold (grown 40) p pool → q ≡ further_values pool
+further_grown pool p q e f = f ∙ ap (λ x. fold (grown 40) x pool) (e ∙ fixed_grown) ∙ sym (fold-append (grown 40) [] fixed_values pool) ∙ from_none 40 (fixed_values ++ pool)
 
 -- ---- a number with its neighbours
 
@@ -120,13 +129,13 @@ three_kept x y z own =
       | false ↦ rw own refl
     ]
 
-pub around : (c : ℤ) (p q r s low high : List ℤ) → fits c ≡ true → low ≡ filter fits ((c -ℤ pos 1) ∷ []) → high ≡ filter fits ((c +ℤ pos 1) ∷ []) → q ≡ fold grown p low → r ≡ grown q c → s ≡ fold grown r high
-    → s ≡ fold grown p (neighbours c)
-around c p q r s low high own l h e f g =
-    g ∙ ap (λ x. fold grown x high) (f ∙ ap (λ x. grown x c) e) ∙ sym (fold-append grown p low (c ∷ high))
-    ∙ ap (fold grown p) (ap (λ x. x ++ (c ∷ high)) l ∙ ap (λ x. filter fits ((c -ℤ pos 1) ∷ []) ++ (c ∷ x)) h ∙ sym (three_kept (c -ℤ pos 1) c (c +ℤ pos 1) own))
+pub around : (room : ℕ) (c : ℤ) (p q r s low high : List ℤ) → fits c ≡ true → low ≡ filter fits ((c -ℤ pos 1) ∷ []) → high ≡ filter fits ((c +ℤ pos 1) ∷ []) → q ≡ fold (grown room) p low → r ≡ grown room q c → s ≡ fold (grown room) r high
+    → s ≡ fold (grown room) p (neighbours c)
+around room c p q r s low high own l h e f g =
+    g ∙ ap (λ x. fold (grown room) x high) (f ∙ ap (λ x. grown room x c) e) ∙ sym (fold-append (grown room) p low (c ∷ high))
+    ∙ ap (fold (grown room) p) (ap (λ x. x ++ (c ∷ high)) l ∙ ap (λ x. filter fits ((c -ℤ pos 1) ∷ []) ++ (c ∷ x)) h ∙ sym (three_kept (c -ℤ pos 1) c (c +ℤ pos 1) own))
 
--- ---- laws of pools
+-- ---- laws of pools and of further numbers
 
 none_same : (v : ℤ) (ds : List ℤ) → AllByRecursion (λ y. int_eq v y ≡ false) (filter (λ w. not (int_eq v w)) ds)
 none_same v [] = tt
@@ -169,11 +178,14 @@ unfolding IsDistinct
 distinct_differ [] = tt
 distinct_differ (v ∷ vs) = (none_same v (distinct vs), differ_filter (λ w. not (int_eq v w)) (distinct vs) (distinct_differ vs))
 
-pub pool_differs : (cs : List ℤ) → IsDistinct int_eq (pool_from cs)
-pool_differs cs = differ_take 24 (distinct (first_values ++ flat_map neighbours cs)) (distinct_differ (first_values ++ flat_map neighbours cs))
+pub list_differs : (room : ℕ) (vs : List ℤ) → IsDistinct int_eq (first_distinct room vs)
+list_differs room vs = differ_take room (distinct vs) (distinct_differ vs)
 
-pub pool_few : (cs : List ℤ) → length (pool_from cs) ≤ 24
-pool_few cs = let count = length-take 24 (distinct (first_values ++ flat_map neighbours cs)) in omega arith
+pub list_few : (room : ℕ) (vs : List ℤ) → length (first_distinct room vs) ≤ room
+list_few room vs = let count = length-take room (distinct vs) in omega arith
 
 pub pool_begins : (cs : List ℤ) → take 4 (pool_from cs) ≡ first_values
 pool_begins cs = refl
+
+pub further_begins : (pool : List ℤ) → take 17 (further_values pool) ≡ fixed_values
+further_begins pool = refl

@@ -1,10 +1,9 @@
 use Rattle.std.proofs.Common.{◌≡◌, ◌∙◌, ap}
-use Rattle.fs_runs.specs.InputValues.{inputs_of, signatures_of}
+use Rattle.fs_runs.specs.InputValues.{inputs_of, signatures_of, input_signatures}
 use Rattle.fs_show.proofs.Serving.{serves_both}
-use Rattle.fs_trials.specs.Pool.{pool_of}
-use Rattle.fs_trials.specs.Candidates.{candidate_count}
-use Rattle.fs_trials.specs.Differences.{DiffersAt}
-use Rattle.fs_trials.proofs.Apart.{at_candidate, one_more, all_below}
+use Rattle.fs_trials.specs.Candidates.{candidate, candidate_count, contents, stated_count}
+use Rattle.fs_trials.specs.Differences.{DiffersAt, AreApart}
+use Rattle.fs_trials.proofs.Apart.{stated_here, at_candidate, shown_at, one_more, all_below}
 use Rattle.fs_trials.proofs.differences.first_difference.Goals as goal
 
 pub differing_ends-requires-clause-right : goal.differing_ends-requires-clause-right
@@ -14,12 +13,30 @@ pub loop-j-preserved : goal.loop-j-preserved
 loop-j-preserved c =
     let a = c.args.a.now in
     let b = c.args.b.now in
+    let ins = inputs_of c.in_ok-inputs.inputs in
     one_more (λ i. ¬ DiffersAt a b c.args.steps i) c.loop-j.j c.loop-j.invariant
-    (at_candidate a b c.args.steps c.loop-j.j c.as_slice-in-loop-j.result.now (inputs_of c.in_ok-inputs.inputs) c.in_ok-inputs.ensures.inputs (c.as_slice-in-loop-j.ensures.value ∙ c.in_ok-pool.ensures.exact) (c.in_ok-left.ensures.none c.in_default.is))
+    (at_candidate a b c.args.steps c.loop-j.j ins (stated_here a b c.loop-j.j c.in_ok-candidates.candidates.pool.items ins c.in_ok-inputs.ensures.inputs c.in_ok-candidates.ensures) (c.in_ok-left.ensures.none c.in_default.is))
+
+pub returns-in-Some-clause-inputs : goal.returns-in-Some-clause-inputs
+returns-in-Some-clause-inputs c =
+    stated_here c.args.a.now c.args.b.now c.loop-j.j c.in_ok-candidates.candidates.pool.items (inputs_of c.in_ok-inputs.inputs) c.in_ok-inputs.ensures.inputs c.in_ok-candidates.ensures
+
+pub returns-in-Some-clause-contents : goal.returns-in-Some-clause-contents
+returns-in-Some-clause-contents c =
+    let fs = input_signatures c.args.a.now.variables in
+    c.in_ok-inputs.ensures.contents ∙ ap (λ pool. contents (candidate pool c.loop-j.j) 0 fs) c.in_ok-candidates.ensures
+
+pub returns-in-Some-clause-shows : goal.returns-in-Some-clause-shows
+returns-in-Some-clause-shows c =
+    let a = c.args.a.now in
+    let b = c.args.b.now in
+    let ins = inputs_of c.in_ok-inputs.inputs in
+    let apart : AreApart a b ins c.args.steps c.in-Some.left c.in-Some.right = rw c.in-Some.is at c.in_ok-left.ensures.found in
+    shown_at a b c.args.steps c.loop-j.j ins c.in-Some.left c.in-Some.right (returns-in-Some-clause-inputs c) apart
 
 pub returns-clause-none : goal.returns-clause-none
 returns-clause-none c =
     let a = c.args.a.now in
     let b = c.args.b.now in
-    let total : c.candidate_count-j-end.result ≡ candidate_count (pool_of a b) = c.candidate_count-j-end.ensures ∙ ap candidate_count (c.as_slice.ensures.value ∙ c.in_ok-pool.ensures.exact) in
-    λ _. all_below (λ i. ¬ DiffersAt a b c.args.steps i) c.loop-j.j c.candidate_count-j-end.result (candidate_count (pool_of a b)) c.loop-j.invariant c.loop-j-test.false total
+    let total : c.count-j-end.result ≡ stated_count a b = c.count-j-end.ensures ∙ ap candidate_count c.in_ok-candidates.ensures in
+    λ _. all_below (λ i. ¬ DiffersAt a b c.args.steps i) c.loop-j.j c.count-j-end.result (stated_count a b) c.loop-j.invariant c.loop-j-test.false total

@@ -4,4 +4,4 @@ use Rattle.fs_trials.specs.Pool.{grown}
 use Rattle.fs_trials.proofs.pool.add_all.Given as goal
 
 abbrev pub invariant-loop-value : goal.invariant-loop-value
-invariant-loop-value l = fold grown l.pool.items (drop l.value-index l.values) ≡ fold grown l.initial.pool.items l.values
+invariant-loop-value l = fold (grown l.room) l.list.items (drop l.value-index l.values) ≡ fold (grown l.room) l.initial.list.items l.values

@@ -5,4 +5,4 @@ use Rattle.fs_trials.proofs.pool.add_neighbours.Given as goal
 
 -- what the constants that are left add makes all of it
 abbrev pub invariant-loop-c : goal.invariant-loop-c
-invariant-loop-c l = fold grown l.pool.items (flat_map neighbours (drop l.c-index l.constants)) ≡ fold grown l.initial.pool.items (flat_map neighbours l.constants)
+invariant-loop-c l = fold (grown l.room) l.list.items (flat_map neighbours (drop l.c-index l.constants)) ≡ fold (grown l.room) l.initial.list.items (flat_map neighbours l.constants)
