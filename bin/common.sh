@@ -16,11 +16,12 @@ read_crates() {
 # Prints the names of the crates given and of those below them, sorted.
 crates_below() {
   local -A found=()
-  local name todo=("$@")
+  local name last todo=("$@")
   while [ "${#todo[@]}" -gt 0 ]; do
-    name=${todo[-1]}
-    unset 'todo[-1]'
-    [[ -v libraries[$name] && ! -v found[$name] ]] || continue
+    last=$((${#todo[@]} - 1))
+    name=${todo[last]}
+    unset "todo[last]"
+    if [ -z "${libraries[$name]+known}" ] || [ -n "${found[$name]+known}" ]; then continue; fi
     found[$name]=yes
     # shellcheck disable=SC2206 # names of crates are words
     todo+=(${libraries[$name]})
