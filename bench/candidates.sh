@@ -5,7 +5,7 @@ cd "$(dirname "$0")/.."
 program=$PWD/crates/fsmd/out/fsmd
 folder=${1:-$(mktemp -d)}
 mkdir -p "$folder"
-[ -x "$program" ] || { echo "build the program first: (cd crates/fsmd && rt run)"; exit 1; }
+[ -x "$program" ] || { echo "build the program first: bin/build"; exit 1; }
 
 # A machine of 128 names that goes round 99,996 times, with so many assignments each time. The numbers in its guards fill the pool.
 rounds() { # assignments, the last right side

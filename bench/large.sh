@@ -5,7 +5,7 @@ cd "$(dirname "$0")/.."
 program=crates/fsmd/out/fsmd
 folder=${1:-$(mktemp -d)}
 mkdir -p "$folder"
-[ -x "$program" ] || { echo "build the program first: (cd crates/fsmd && rt run)"; exit 1; }
+[ -x "$program" ] || { echo "build the program first: bin/build"; exit 1; }
 
 # A chain of states, each with one assignment to one of many scalars.
 chain() { # states, scalars

@@ -6,7 +6,7 @@ cd "$(dirname "$0")/.."
 program=$PWD/crates/fsmd/out/fsmd
 folder=$(mktemp -d)
 trap 'rm -rf "$folder"' EXIT
-[ -x "$program" ] || { echo "build the program first: (cd crates/fsmd && rt run)"; exit 1; }
+[ -x "$program" ] || { echo "build the program first: bin/build"; exit 1; }
 
 # The C library's requests, of which the one of number REFUSED is refused.
 cat > "$folder/refuse.c" <<'END'

@@ -6,7 +6,7 @@ cd "$(dirname "$0")/.."
 program=$PWD/crates/fsmd/out/fsmd
 folder=${1:-$(mktemp -d)}
 mkdir -p "$folder"
-[ -x "$program" ] || { echo "build the program first: (cd crates/fsmd && rt run)"; exit 1; }
+[ -x "$program" ] || { echo "build the program first: bin/build"; exit 1; }
 
 # A ring of so many states, each with a test: two rings of 64 and of 65 states meet in 64 times 65 pairs.
 ring() { # states, more inputs, more locals, more assignments

@@ -6,7 +6,7 @@ cd "$(dirname "$0")/.."
 program=$PWD/crates/fsmd/out/fsmd
 folder=${1:-$(mktemp -d)}
 mkdir -p "$folder"
-[ -x "$program" ] || { echo "build the program first: (cd crates/fsmd && rt run)"; exit 1; }
+[ -x "$program" ] || { echo "build the program first: bin/build"; exit 1; }
 
 # One straight line of 4,000 assignments over 124 scalars.
 line() { awk 'BEGIN {

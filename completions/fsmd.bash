@@ -1,0 +1,23 @@
+# Completion of fsmd for bash: source this file, or put it where bash-completion looks for it, as bin/install does.
+_fsmd() {
+  local commands="check verify run replay fmt cuts generate compile schedule bind"
+  local word=${COMP_WORDS[COMP_CWORD]} options=""
+  COMPREPLY=()
+  if [ "$COMP_CWORD" = 1 ]; then
+    mapfile -t COMPREPLY < <(compgen -W "$commands" -- "$word")
+    return
+  fi
+  case ${COMP_WORDS[1]} in
+    check) options="--cert --steps" ;;
+    run | replay) options="--steps" ;;
+    generate) return ;;
+  esac
+  case ${COMP_WORDS[COMP_CWORD - 1]} in --steps) return ;; esac
+  if [[ $word == -* ]]; then
+    mapfile -t COMPREPLY < <(compgen -W "$options" -- "$word")
+  else
+    compopt -o filenames 2> /dev/null
+    mapfile -t COMPREPLY < <(compgen -f -- "$word")
+  fi
+}
+complete -F _fsmd fsmd
