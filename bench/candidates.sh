@@ -1,5 +1,5 @@
 #!/usr/bin/env bash
-# Times `check` where the search meets an obstacle and all 576 candidates run for nearly 100,000 steps: bench/candidates.sh [FOLDER].
+# Times `check` where the search meets an obstacle and all 832 stated candidates run for nearly 100,000 steps: bench/candidates.sh [FOLDER].
 set -eu
 cd "$(dirname "$0")/.."
 program=$PWD/crates/fsmd/out/fsmd

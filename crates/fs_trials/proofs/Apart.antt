@@ -3,14 +3,13 @@ use Rattle.std.proofs.Common.{◌≡◌, ℕ, ℤ, ◌+◌, ◌<◌, ◌≤◌, 
 use Rattle.std.proofs.lemmas.Bool.{cases_lt}
 use Rattle.fs_model.specs.Machines.{Fsmd}
 use Rattle.fs_model.specs.Runs.{Inputs}
-use Rattle.fs_runs.specs.InputValues.{input_signatures}
 use Rattle.fs_runs.specs.declared.run.Ended.{Ended}
 use Rattle.fs_runs.specs.declared.run.RunStop.{RunStop}
 use Rattle.fs_runs.specs.Outcomes.{IsStopped, IsOfRun, told_by}
 use Rattle.fs_runs.proofs.RunOnce.{one_end, end_or_stop}
 use Rattle.fs_show.specs.Items.{SameOutputs}
 use Rattle.fs_trials.specs.Pool.{pool_of}
-use Rattle.fs_trials.specs.Candidates.{candidate, contents, inputs_told, stated_inputs}
+use Rattle.fs_trials.specs.Candidates.{candidate_inputs, stated_inputs}
 use Rattle.fs_trials.specs.Differences.{ShowsDifference, DiffersAt, IsEnd, HasNoEnd, AreApart}
 
 -- a run that was stopped has no end
@@ -42,13 +41,9 @@ apart_shows a b ins limit left right d = record {
   differ = d.differ;
 }
 
--- the inputs of candidate j of a pool
-abbrev told_of : Fsmd → List ℤ → (j : ℕ) → Inputs
-told_of a pool j = inputs_told (input_signatures a.variables) (contents (candidate pool j) 0 (input_signatures a.variables))
-
 -- inputs of candidate j of the pool of two machines are those of their stated candidate j
-pub stated_here : (a b : Fsmd) (j : ℕ) (pool : List ℤ) (ins : Inputs) → ins ≡ told_of a pool j → pool ≡ pool_of a b → ins ≡ stated_inputs a b j
-stated_here a b j pool ins e f = e ∙ ap (λ p. told_of a p j) f
+pub stated_here : (a b : Fsmd) (j : ℕ) (pool : List ℤ) (ins : Inputs) → ins ≡ candidate_inputs pool j a → pool ≡ pool_of a b → ins ≡ stated_inputs a b j
+stated_here a b j pool ins e f = e ∙ ap (λ p. candidate_inputs p j a) f
 
 -- what inputs do not show, their candidate does not
 pub at_candidate : (a b : Fsmd) (limit j : ℕ) (ins : Inputs) → ins ≡ stated_inputs a b j → ¬ ShowsDifference a b ins limit → ¬ DiffersAt a b limit j

@@ -1,5 +1,6 @@
 -- Candidate inputs of two machines.
-use Rattle.std.specs.Prelude.{ℕ, ◌+◌, ◌-◌, ◌*◌, ◌/◌, ◌%◌, nat_lt, cond, ℤ, pos, negsuc, List, [], ◌∷◌, length, map, Option, Some, None}
+use Rattle.std.specs.Prelude.{ℕ, ◌+◌, ◌-◌, ◌*◌, ◌/◌, ◌%◌, nat_lt, cond, ℤ, pos, negsuc}
+use Rattle.std.specs.Prelude.{List, [], ◌∷◌, length, map, Option, Some, None}
 use Rattle.std.specs.List.{slice_index_or}
 use Rattle.fs_model.specs.declared.parts.Sort.{Sort}
 use Rattle.fs_model.specs.declared.parts.Sort.TheVariants.{Scalar, Array, Port}
@@ -20,7 +21,10 @@ pool_place n j k i = j + k * (j / n) + i
 
 -- candidate j of a pool
 abbrev pub pool_candidate : List ℤ → (j : ℕ) → Candidate
-pool_candidate pool j = record { number = λ k i. slice_index_or pool (pool_place (length pool) j k i % length pool) (pos 0); filled = 16 }
+pool_candidate pool j = record {
+  number = λ k i. slice_index_or pool (pool_place (length pool) j k i % length pool) (pos 0);
+  filled = 16;
+}
 
 -- the place among n numbers that further candidate j gives index i of input k
 abbrev pub further_place : (n j k i : ℕ) → ℕ
@@ -28,7 +32,10 @@ further_place n j k i = ((j + 1) * (j + 31) * (k + 7) + (2 * j + 1) * (k + 3) * 
 
 -- further candidate j over numbers
 abbrev pub further_candidate : List ℤ → (j : ℕ) → Candidate
-further_candidate values j = record { number = λ k i. slice_index_or values (further_place (length values) j k i) (pos 0); filled = 32 }
+further_candidate values j = record {
+  number = λ k i. slice_index_or values (further_place (length values) j k i) (pos 0);
+  filled = 32;
+}
 
 -- how many candidates a pool gives
 abbrev pub pool_count : List ℤ → ℕ
@@ -40,17 +47,22 @@ candidate_count pool = pool_count pool + 256
 
 -- candidate j: those of the pool come first, and then the further ones
 abbrev pub candidate : List ℤ → (j : ℕ) → Candidate
-candidate pool j = cond (nat_lt j (pool_count pool)) (pool_candidate pool j) (further_candidate (further_values pool) (j - pool_count pool))
+candidate pool j =
+    cond (nat_lt j (pool_count pool)) (pool_candidate pool j) (further_candidate (further_values pool) (j - pool_count pool))
 
 -- an array that has numbers at the first so many indices from 0 on, and 0 elsewhere
 abbrev pub array_of : (numbers : ℕ → ℤ) → (count : ℕ) → ℤ → ℤ
 array_of numbers count (pos i) = cond (nat_lt i count) (numbers i) (pos 0)
 array_of numbers count (negsuc i) = pos 0
 
+-- the array that a candidate gives input k
+abbrev pub array_at : Candidate → (k : ℕ) → ℤ → ℤ
+array_at c k = array_of (c.number k) c.filled
+
 -- what a candidate gives input k of a sort
 abbrev pub content_at : Candidate → (k : ℕ) → Sort → Content
 content_at c k Scalar = Number (c.number k 0)
-content_at c k Array = Entries (array_of (c.number k) c.filled)
+content_at c k Array = Entries (array_at c k)
 content_at c k Port = Emitted []
 
 -- what a candidate gives inputs in order, of which the first has number k
@@ -78,14 +90,22 @@ inputs_told fs cs = record {
   array = λ name i. array_told (told (map (λ f. f.0) fs) cs name) i;
 }
 
+-- what candidate j of a pool gives the inputs of a machine, in order of declaration
+abbrev pub candidate_contents : List ℤ → (j : ℕ) → Fsmd → List Content
+candidate_contents pool j m = contents (candidate pool j) 0 (input_signatures m.variables)
+
+-- the inputs of candidate j of a pool for a machine
+abbrev pub candidate_inputs : List ℤ → (j : ℕ) → Fsmd → Inputs
+candidate_inputs pool j m = inputs_told (input_signatures m.variables) (candidate_contents pool j m)
+
 -- how many stated candidates two machines have
 abbrev pub stated_count : Fsmd → Fsmd → ℕ
 stated_count a b = candidate_count (pool_of a b)
 
 -- what stated candidate j of two machines gives the inputs of the left one, in order of declaration
 abbrev pub stated_contents : Fsmd → Fsmd → (j : ℕ) → List Content
-stated_contents a b j = contents (candidate (pool_of a b) j) 0 (input_signatures a.variables)
+stated_contents a b j = candidate_contents (pool_of a b) j a
 
 -- the inputs of stated candidate j of two machines
 abbrev pub stated_inputs : Fsmd → Fsmd → (j : ℕ) → Inputs
-stated_inputs a b j = inputs_told (input_signatures a.variables) (stated_contents a b j)
+stated_inputs a b j = candidate_inputs (pool_of a b) j a

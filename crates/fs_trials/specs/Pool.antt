@@ -1,5 +1,6 @@
 -- The numbers of which candidate inputs are made.
-use Rattle.std.specs.Prelude.{ℕ, ◌^◌, nat_lt, nat_le, Bool, not, ◌||◌, cond, ℤ, pos, negsuc, ◌+ℤ◌, ◌-ℤ◌, List, [], ◌∷◌, ◌++◌, length, take}
+use Rattle.std.specs.Prelude.{ℕ, ◌^◌, nat_lt, nat_le, Bool, not, ◌||◌, cond, ℤ, pos, negsuc, ◌+ℤ◌, ◌-ℤ◌}
+use Rattle.std.specs.Prelude.{List, [], ◌∷◌, ◌++◌, length, take}
 use Rattle.std.specs.List.{filter, flat_map, list_any}
 use Rattle.std.specs.Ordering.{int_eq}
 use Rattle.fs_model.specs.Machines.{Fsmd}

@@ -4,7 +4,8 @@ ghost use Rattle.std.specs.Prelude.{◌≡◌, ◌^◌, ◌<◌, ◌≤◌, ℤ,
 ghost use Rattle.fs_runs.specs.Values.{entry, content_of, sort_of};
 ghost use Rattle.fs_runs.specs.InputValues.{input_values, inputs_of, signatures_of, input_signatures, Serves};
 ghost use Rattle.fs_trials.specs.Pool.{most_values, pool_of, further_values};
-ghost use Rattle.fs_trials.specs.Candidates.{further_place, pool_count, candidate_count, pool_candidate, further_candidate, candidate, content_at, array_of, contents, inputs_told};
+ghost use Rattle.fs_trials.specs.Candidates.{pool_count, candidate_count, pool_candidate, further_place, further_candidate};
+ghost use Rattle.fs_trials.specs.Candidates.{candidate, array_at, content_at, candidate_contents, candidate_inputs};
 
 use crate::pool::{further_values, pool};
 use fs_ast::machine::Machine;
@@ -61,19 +62,19 @@ impl Candidates {
     }
 
     /// What candidate `j` gives the inputs of a machine. The candidates of the pool come first, and then the further ones.
-    /// Inputs are counted in order of declaration from 0, and n is the length of the list of which the number at a place is taken.
+    /// Inputs are counted in order of declaration from 0, and n is how many numbers there are to take from.
     ///
     /// Candidate j of the pool gives index i of input k the number of the pool at the place `j + k * (j / n) + i`, where
-    /// the quotient is rounded down and places are counted round. Further candidate j gives it the further number at the place
-    /// `((j + 1)(j + 31)(k + 7) + (2j + 1)(k + 3)i + i * i * (j mod 5)) mod 10007 mod n`. A scalar has the number of index
-    /// 0. An array has those of the first indices, 16 by a candidate of the pool and 32 by a further one, and 0 elsewhere.
-    /// The only refusal is out of memory.
+    /// the quotient is rounded down and places are counted round. Further candidate j gives it the further number at the
+    /// place `((j + 1)(j + 31)(k + 7) + (2j + 1)(k + 3)i + i * i * (j mod 5)) mod 10007 mod n`. A scalar has the number of
+    /// index 0. An array has those of its first indices, 16 by a candidate of the pool and 32 by a further one, and 0
+    /// elsewhere. The only refusal is out of memory.
     pub fn inputs(&self, alloc: Global, j: u64, m: &Machine) -> Result<Inputs, NoMemory>
         requires { j < candidate_count self.now.pool.items }
         ensures signatures { IfOk result (λ ins. signatures_of ins ≡ input_signatures m.now.variables) }
         ensures serves { IfOk result (λ ins. Serves (signatures_of ins) m.now) }
-        ensures contents { IfOk result (λ ins. map content_of (input_values ins) ≡ contents (candidate self.now.pool.items j) 0 (input_signatures m.now.variables)) }
-        ensures inputs { IfOk result (λ ins. inputs_of ins ≡ inputs_told (input_signatures m.now.variables) (contents (candidate self.now.pool.items j) 0 (input_signatures m.now.variables))) }
+        ensures contents { IfOk result (λ ins. map content_of (input_values ins) ≡ candidate_contents self.now.pool.items j m.now) }
+        ensures inputs { IfOk result (λ ins. inputs_of ins ≡ candidate_inputs self.now.pool.items j m.now) }
     {
         let mut inputs = Inputs::zero(alloc, m)?;
         for k in 0..m.vars().len() as u32 {
@@ -104,7 +105,7 @@ impl Candidates {
     fn array(&self, alloc: Global, j: u64, k: u64) -> Result<Entries, NoMemory>
         requires candidate { j < candidate_count self.now.pool.items }
         requires input { k < 128 }
-        ensures { IfOk result (λ e. (i : ℤ) → entry e i ≡ array_of ((candidate self.now.pool.items j).number k) (candidate self.now.pool.items j).filled i) }
+        ensures { IfOk result (λ e. (i : ℤ) → entry e i ≡ array_at (candidate self.now.pool.items j) k i) }
     {
         let mut entries = Entries::new(alloc);
         for i in 0..self.filled(j) {

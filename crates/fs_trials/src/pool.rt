@@ -5,7 +5,8 @@ ghost use Rattle.std.specs.List.{fold, flat_map, filter, IsDistinct};
 ghost use Rattle.std.specs.Option.{option_to_list};
 ghost use Rattle.std.specs.Ordering.{int_eq};
 ghost use Rattle.std.specs.Result.{OnOk};
-ghost use Rattle.fs_trials.specs.Pool.{most_values, most_further_values, fits, first_values, fixed_values, neighbours, pool_of, further_values, is_in, grown};
+ghost use Rattle.fs_trials.specs.Pool.{most_values, fits, first_values, neighbours, pool_of};
+ghost use Rattle.fs_trials.specs.Pool.{most_further_values, fixed_values, further_values, is_in, grown};
 
 use fs_ast::machine::Machine;
 use fs_runs::memory::NoMemory;

@@ -1,19 +1,23 @@
-//! The first candidate that shows a difference of two machines.
+//! The first stated candidate that shows a difference of two machines.
 
 use fs_ast::machine::Machine;
 use fs_pair::positions::same_interface;
-use fs_trials::differences::first_difference;
+use fs_trials::differences::{Found, first_difference};
 use std::alloc::Global;
 use std::test::Fail;
 
-/// The number of the first candidate that shows a difference.
-pub fn first_number(alloc: Global, left: &Machine, right: &Machine) -> Result<Option<u64>, Fail> {
+/// The first stated candidate that shows a difference within 1,000 steps.
+pub fn first_found(alloc: Global, left: &Machine, right: &Machine) -> Result<Option<Found>, Fail> {
     let Ok(pairing) = same_interface(alloc, left, right) else {
         return Err("other interfaces".into());
     };
     match first_difference(alloc, left, right, &pairing, 1_000) {
-        Ok(Some(found)) => Ok(Some(found.j)),
-        Ok(None) => Ok(None),
+        Ok(found) => Ok(found),
         Err(_) => Err("no memory".into()),
     }
+}
+
+/// The number of the first stated candidate that shows a difference.
+pub fn first_number(alloc: Global, left: &Machine, right: &Machine) -> Result<Option<u64>, Fail> {
+    Ok(first_found(alloc, left, right)?.map(|found| found.j))
 }

@@ -1,7 +1,7 @@
 use Rattle.std.proofs.Common.{◌≡◌, ◌∙◌, ap}
-use Rattle.fs_runs.specs.InputValues.{inputs_of, signatures_of, input_signatures}
+use Rattle.fs_runs.specs.InputValues.{inputs_of, signatures_of}
 use Rattle.fs_show.proofs.Serving.{serves_both}
-use Rattle.fs_trials.specs.Candidates.{candidate, candidate_count, contents, stated_count}
+use Rattle.fs_trials.specs.Candidates.{candidate_count, candidate_contents, stated_count}
 use Rattle.fs_trials.specs.Differences.{DiffersAt, AreApart}
 use Rattle.fs_trials.proofs.Apart.{stated_here, at_candidate, shown_at, one_more, all_below}
 use Rattle.fs_trials.proofs.differences.first_difference.Goals as goal
@@ -23,8 +23,7 @@ returns-in-Some-clause-inputs c =
 
 pub returns-in-Some-clause-contents : goal.returns-in-Some-clause-contents
 returns-in-Some-clause-contents c =
-    let fs = input_signatures c.args.a.now.variables in
-    c.in_ok-inputs.ensures.contents ∙ ap (λ pool. contents (candidate pool c.loop-j.j) 0 fs) c.in_ok-candidates.ensures
+    c.in_ok-inputs.ensures.contents ∙ ap (λ pool. candidate_contents pool c.loop-j.j c.args.a.now) c.in_ok-candidates.ensures
 
 pub returns-in-Some-clause-shows : goal.returns-in-Some-clause-shows
 returns-in-Some-clause-shows c =
