@@ -6,7 +6,7 @@
 declare -A libraries=()
 read_crates() {
   local line
-  while IFS= read -r line; do
+  while IFS= read -r line || [ -n "$line" ]; do
     line=${line%%#*}
     [[ $line == *:* ]] || continue
     libraries[${line%%[ :]*}]=${line#*:}
@@ -79,7 +79,7 @@ lacks() {
   while read -r line; do
     [[ $line != flags* ]] || break
   done < /proc/cpuinfo
-  [[ $line == *\ sse4_2\ * && $line == *\ popcnt\ * ]] || echo "this processor is older than x86-64-v2"
+  [[ " $line " == *\ sse4_2\ * && " $line " == *\ popcnt\ * ]] || echo "this processor is older than x86-64-v2"
 }
 
 # Prints why the program does not run on this machine, and nothing where it does: without words it ends with status 64.
