@@ -11,8 +11,9 @@ use Rattle.bisimulation.specs.Tables.{Node}
 use Rattle.sym_facts.specs.Facts.{Fact}
 use Rattle.certificates.specs.Obligations.{Yes}
 use Rattle.cert_writer.specs.Written.{certificate_text}
-use Rattle.search.specs.Answers.{machines, IsClosedWith}
-use Rattle.pair_answers.specs.Answers.{IsCounterexample, IsUndecided}
+use Rattle.search.specs.Answers.{machines}
+use Rattle.search_laws.specs.Certificates.{IsCertificate}
+use Rattle.pair_answers.specs.Answers.{ShowsSame, IsCounterexample, IsUndecided}
 use Rattle.command_answers.specs.declared.answer.Operand.{Operand}
 use Rattle.command_answers.specs.declared.answer.Operand.TheVariants.{First, Second, Third}
 use Rattle.command_answers.specs.Words.{names, cert_of, is_check, step_limit}
@@ -47,13 +48,16 @@ pub record ArePaired (g : Call) (a b : Fsmd) : Type 0 where
 abbrev pub HasPut : Call → Put → List ℕ → Type 0
 HasPut g p lines = p.got_now ≡ appended p.got_before (opening g.asked ++ lines)
 
--- a closed search's certificate shows that the machines have the same behaviour; its number of nodes was put, and it was stored where that is asked
+-- a certificate shows that the machines have the same behaviour: that of a closed search, or one that was found beyond a search that is left open,
+-- and judged. It holds: it is lawful, within the limits, and all its obligations hold. Its number of nodes was put, and it was stored where that
+-- is asked
 pub record SaysSame (g : Call) (p : Put) : Type 0 where
   pub left : Fsmd
   pub right : Fsmd
   pub paired : ArePaired g left right
   pub nodes : List (Node Fact)
-  pub closed : IsClosedWith (machines left right) nodes
+  pub shows : ShowsSame (machines left right) nodes
+  pub holds : IsCertificate (machines left right) nodes
   pub same : SameBehaviour left right
   pub put : HasPut g p (equivalent_text (length nodes))
   pub stored : (name : List ℕ) → cert_of g.asked ≡ Some name → IsStored name (certificate_text left right nodes) (stores g.before g.now)
@@ -120,12 +124,13 @@ pub record IsInRegisters (g : Call) (p : Put) : Type 0 where
   pub is : IsBoundText parts binding text
   pub put : HasPut g p text
 
--- no file was changed but the one for a certificate, and that only where a closed search made one: it was stored, or that failed
+-- no file was changed but the one for a certificate, and that only where one shows that the machines that are compared have the same behaviour:
+-- it was stored, or that failed
 pub data KeepsFiles (g : Call) : Type 0 where
   AllKept : IsKept (stores g.before g.now) → KeepsFiles g
-  CertificateStored : (name : List ℕ) → cert_of g.asked ≡ Some name → (a b : Fsmd) → ArePaired g a b → (nodes : List (Node Fact)) → IsClosedWith (machines a b) nodes
+  CertificateStored : (name : List ℕ) → cert_of g.asked ≡ Some name → (a b : Fsmd) → ArePaired g a b → (nodes : List (Node Fact)) → ShowsSame (machines a b) nodes
       → IsStored name (certificate_text a b nodes) (stores g.before g.now) → KeepsFiles g
-  CertificateFailed : (name : List ℕ) → cert_of g.asked ≡ Some name → (a b : Fsmd) → ArePaired g a b → (nodes : List (Node Fact)) → IsClosedWith (machines a b) nodes
+  CertificateFailed : (name : List ℕ) → cert_of g.asked ≡ Some name → (a b : Fsmd) → ArePaired g a b → (nodes : List (Node Fact)) → ShowsSame (machines a b) nodes
       → IsUnstored name (stores g.before g.now) → KeepsFiles g
 
 -- a file that is named to be read failed to be read, the certificate failed to be stored, or the sink failed

@@ -18,7 +18,7 @@ use Rattle.search.specs.Answers.{machines, StopsAt}
 use Rattle.pair_answers.specs.declared.answer.PairAnswer.{PairAnswer}
 use Rattle.pair_answers.specs.declared.answer.PairAnswer.TheVariants.{Equivalent, Counterexample, Undecided}
 use Rattle.pair_answers.specs.Texts.{obstacle_text}
-use Rattle.pair_answers.specs.Answers.{IsOfPair}
+use Rattle.pair_answers.specs.Answers.{IsFoundBeyond, IsOfPair}
 
 -- the line of a cycle
 pub record IsCycleLine (m : Machines) (line : List ℕ) : Type 0 where
@@ -29,15 +29,16 @@ pub record IsCycleLine (m : Machines) (line : List ℕ) : Type 0 where
   pub stops : StopsAt m moves points (Spin side cycle)
   pub told : line ≡ obstacle_text m moves points (Spin side cycle)
 
--- two answers say the same, but for the cycle that they name
+-- two answers say the same, but for the cycle that they name, and but for what is found beyond a search that is left open: there each may be
+-- another certificate that holds, or an obstacle
 abbrev pub SaySame : Machines → PairAnswer → PairAnswer → Type 0
-SaySame m (Equivalent c) (Equivalent d) = map node_of c.nodes.items ≡ map node_of d.nodes.items
+SaySame m (Equivalent c) (Equivalent d) = (map node_of c.nodes.items ≡ map node_of d.nodes.items) ⊎ (IsFoundBeyond m (map node_of c.nodes.items) × IsFoundBeyond m (map node_of d.nodes.items))
 SaySame m (Equivalent c) (Counterexample k) = ⊥
-SaySame m (Equivalent c) (Undecided k) = ⊥
+SaySame m (Equivalent c) (Undecided k) = IsFoundBeyond m (map node_of c.nodes.items)
 SaySame m (Counterexample l) (Equivalent d) = ⊥
 SaySame m (Counterexample l) (Counterexample k) = l.items ≡ k.items
 SaySame m (Counterexample l) (Undecided k) = ⊥
-SaySame m (Undecided l) (Equivalent d) = ⊥
+SaySame m (Undecided l) (Equivalent d) = IsFoundBeyond m (map node_of d.nodes.items)
 SaySame m (Undecided l) (Counterexample k) = ⊥
 SaySame m (Undecided l) (Undecided k) = (l.items ≡ k.items) ⊎ (IsCycleLine m l.items × IsCycleLine m k.items)
 

@@ -3,7 +3,7 @@
 ghost use Rattle.pair_answers.specs.Laws.{OneAnswer, LinesNameWhatIsThere, SameShowNothing};
 
 /// Two machines have one answer, whatever answers them: one certificate, one counterexample, or one line, but for the cycle that it
-/// names.
+/// names. Where the search is left open, and no candidate shows a difference, it is any certificate that holds, or the line.
 pub fn two_machines_have_one_answer()
     ensures { OneAnswer }
 {}
