@@ -1,5 +1,6 @@
 -- Two machines have one answer.
 use Rattle.std.proofs.Common.{◌≡◌, ◌⊎◌, inl, inr, ℕ, List, None, Some, Option, map, refl, sym, ◌∙◌, ap, ap₂, subst}
+use Rattle.std.proofs.lemmas.Bool.{false≢true}
 use Rattle.fs_model.specs.Machines.{Fsmd}
 use Rattle.fs_ast.specs.Sound.{IsSound}
 use Rattle.fs_pair.specs.Interfaces.{interface_fault}
@@ -21,8 +22,8 @@ use Rattle.search_tables.proofs.Ending.{Ends, stands_ends, same_moves, no_certif
 use Rattle.search.specs.Answers.{machines, IsClosedWith, StopsAt}
 use Rattle.pair_answers.specs.declared.answer.PairAnswer.TheVariants.{Equivalent, Counterexample, Undecided}
 use Rattle.pair_answers.specs.Texts.{obstacle_text}
-use Rattle.pair_answers.specs.Answers.{IsCounterexample, HasObstacle, IsLeftOpen, IsFoundBeyond, ShowsSame, IsUndecided}
-use Rattle.pair_answers.specs.Laws.{IsCycleLine, OneAnswer}
+use Rattle.pair_answers.specs.Answers.{IsCounterexample, HasObstacle, is_open, IsLeftOpen, IsFoundBeyond, ShowsSame, IsUndecided}
+use Rattle.pair_answers.specs.Laws.{IsCycleLine, OneAnswer, ClosedIsNotOpen, LimitIsNotOpen}
 use Rattle.pair_answers.proofs.Ranks.{one_certificate}
 use Rattle.pair_answers.proofs.Behaviour.{same_show_nothing, one_counterexample}
 
@@ -121,6 +122,23 @@ one_line m l k x y =
       | inl e ↦ inl (x.told ∙ ap (λ ms. obstacle_text m ms x.points x.obstacle) same.0 ∙ ap (λ ps. obstacle_text m y.moves ps x.obstacle) points ∙ ap (obstacle_text m y.moves y.points) e ∙ sym y.told)
       | inr c ↦ inr (cycle_line m l x c.0, cycle_line m k y c.1)
     ]
+
+-- two obstacles of one search are one, or both are cycles
+one_obstacle : (m : Machines) (ms ns : List Move) (ps qs : List Points) (o p : Obstacle) → StopsAt m ms ps o → StopsAt m ns qs p → AreOne o p
+one_obstacle m ms ns ps qs o p x y =
+    let same = (same_moves m ms ns (first_table m) x.table y.table (stands_ends m x.table o x.stands) (stands_ends m y.table p y.stands) x.makes.lead y.makes.lead).1 in
+    let there : StandsIn m x.table p = subst (λ T. StandsIn m T p) (sym same) y.stands in
+    are_one (plain_obstacle (stuck m x.table) (next m x.table)) o p (stands m x.table o x.stands) (stands m x.table p there)
+
+both_open : (o p : Obstacle) → AreOne o p → is_open o ≡ is_open p
+both_open o p (inl e) = ap is_open e
+both_open o p (inr c) = ap is_open c.0.is ∙ sym (ap is_open c.1.is)
+
+pub closed_not_open : ClosedIsNotOpen
+closed_not_open m cs x y = not_both m cs x y
+
+pub limit_not_open : LimitIsNotOpen
+limit_not_open m moves points o x limit y = false≢true (sym limit ∙ both_open o y.obstacle (one_obstacle m moves y.moves points y.points o y.obstacle x y.stops) ∙ y.open)
 
 -- ---- answers
 

@@ -1,5 +1,5 @@
 -- What holds of answers.
-use Rattle.std.specs.Prelude.{◌≡◌, ◌⊎◌, ℕ, ◌-◌, List, Option, Some, None, length, map, slice_get}
+use Rattle.std.specs.Prelude.{◌≡◌, ◌⊎◌, ℕ, ◌-◌, false, List, Option, Some, None, length, map, slice_get}
 use Rattle.fs_model.specs.declared.parts.VarInfo.{VarInfo}
 use Rattle.fs_model.specs.Machines.{Fsmd}
 use Rattle.fs_model.specs.Runs.{SameBehaviour}
@@ -9,16 +9,18 @@ use Rattle.fs_cut.specs.Covers.{paths_from, cover_of}
 use Rattle.fs_pair.specs.Interfaces.{interface_fault}
 use Rattle.fs_trials.specs.Differences.{DiffersAt}
 use Rattle.nf_terms.specs.declared.tree.Side.{Side}
+use Rattle.bisimulation.specs.Tables.{Node}
+use Rattle.sym_facts.specs.Facts.{Fact}
 use Rattle.certificates.specs.View.{node_of}
 use Rattle.search_tables.specs.declared.moves.Move.{Move}
 use Rattle.search_tables.specs.Tables.{Machines}
 use Rattle.search_tables.specs.Obstacles.{Obstacle, Stuck, Spin, Wide, Large, Exhausted}
 use Rattle.search_tables.specs.View.{Points}
-use Rattle.search.specs.Answers.{machines, StopsAt}
+use Rattle.search.specs.Answers.{machines, IsClosedWith, StopsAt}
 use Rattle.pair_answers.specs.declared.answer.PairAnswer.{PairAnswer}
 use Rattle.pair_answers.specs.declared.answer.PairAnswer.TheVariants.{Equivalent, Counterexample, Undecided}
 use Rattle.pair_answers.specs.Texts.{obstacle_text}
-use Rattle.pair_answers.specs.Answers.{IsFoundBeyond, IsOfPair}
+use Rattle.pair_answers.specs.Answers.{is_open, IsLeftOpen, IsFoundBeyond, IsOfPair}
 
 -- the line of a cycle
 pub record IsCycleLine (m : Machines) (line : List ℕ) : Type 0 where
@@ -44,6 +46,13 @@ SaySame m (Undecided l) (Undecided k) = (l.items ≡ k.items) ⊎ (IsCycleLine m
 
 abbrev pub OneAnswer : Type 0
 OneAnswer = (limit : ℕ) (a b : Fsmd) → IsSound a → IsSound b → interface_fault a b ≡ None → (x y : PairAnswer) → IsOfPair limit a b x → IsOfPair limit a b y → SaySame (machines a b) x y
+
+-- a search that closes, or that stops at a limit, is not left open
+abbrev pub ClosedIsNotOpen : Type 0
+ClosedIsNotOpen = (m : Machines) (nodes : List (Node Fact)) → IsClosedWith m nodes → IsLeftOpen m → ⊥
+
+abbrev pub LimitIsNotOpen : Type 0
+LimitIsNotOpen = (m : Machines) (moves : List Move) (points : List Points) (o : Obstacle) → StopsAt m moves points o → is_open o ≡ false → IsLeftOpen m → ⊥
 
 -- a branch of a point is listed, and is a path of the machine
 pub record IsBranch (m : Fsmd) (P : Point) (branch : ℕ) : Type 0 where
