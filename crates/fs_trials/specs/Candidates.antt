@@ -1,5 +1,5 @@
--- Candidate inputs, made of the numbers of a pool.
-use Rattle.std.specs.Prelude.{ℕ, ◌+◌, ◌*◌, ◌/◌, ◌%◌, nat_lt, cond, ℤ, pos, negsuc, List, [], ◌∷◌, length, map, Option, Some, None}
+-- Candidate inputs of two machines.
+use Rattle.std.specs.Prelude.{ℕ, ◌+◌, ◌-◌, ◌*◌, ◌/◌, ◌%◌, nat_lt, cond, ℤ, pos, negsuc, List, [], ◌∷◌, length, map, Option, Some, None}
 use Rattle.std.specs.List.{slice_index_or}
 use Rattle.fs_model.specs.declared.parts.Sort.{Sort}
 use Rattle.fs_model.specs.declared.parts.Sort.TheVariants.{Scalar, Array, Port}
@@ -7,34 +7,56 @@ use Rattle.fs_model.specs.Machines.{Fsmd}
 use Rattle.fs_model.specs.Runs.{Inputs, Content, Number, Entries, Emitted}
 use Rattle.fs_runs.specs.InputValues.{Signature, input_signatures}
 use Rattle.fs_runs.specs.Outcomes.{told}
+use Rattle.fs_trials.specs.Pool.{pool_of, further_values}
+
+-- a candidate: the number that index i of input k has, and how many indices of an array have one, from 0 on
+pub record Candidate : Type 0 where
+  pub number : (k i : ℕ) → ℤ
+  pub filled : ℕ
+
+-- the place of a pool of n numbers, before it is counted round, that candidate j of the pool gives index i of input k
+abbrev pub pool_place : (n j k i : ℕ) → ℕ
+pool_place n j k i = j + k * (j / n) + i
+
+-- candidate j of a pool
+abbrev pub pool_candidate : List ℤ → (j : ℕ) → Candidate
+pool_candidate pool j = record { number = λ k i. slice_index_or pool (pool_place (length pool) j k i % length pool) (pos 0); filled = 16 }
+
+-- the place among n numbers that further candidate j gives index i of input k
+abbrev pub further_place : (n j k i : ℕ) → ℕ
+further_place n j k i = ((j + 1) * (j + 31) * (k + 7) + (2 * j + 1) * (k + 3) * i + i * i * (j % 5)) % 10007 % n
+
+-- further candidate j over numbers
+abbrev pub further_candidate : List ℤ → (j : ℕ) → Candidate
+further_candidate values j = record { number = λ k i. slice_index_or values (further_place (length values) j k i) (pos 0); filled = 32 }
 
 -- how many candidates a pool gives
+abbrev pub pool_count : List ℤ → ℕ
+pool_count pool = length pool * length pool
+
+-- how many candidates there are with the further ones
 abbrev pub candidate_count : List ℤ → ℕ
-candidate_count pool = length pool * length pool
+candidate_count pool = pool_count pool + 256
 
--- the number at a place of a pool, counted round
-abbrev pub pooled : List ℤ → ℕ → ℤ
-pooled pool n = slice_index_or pool (n % length pool) (pos 0)
+-- candidate j: those of the pool come first, and then the further ones
+abbrev pub candidate : List ℤ → (j : ℕ) → Candidate
+candidate pool j = cond (nat_lt j (pool_count pool)) (pool_candidate pool j) (further_candidate (further_values pool) (j - pool_count pool))
 
--- the place at which input k of candidate j begins
-abbrev pub place_of : List ℤ → (j k : ℕ) → ℕ
-place_of pool j k = j + k * (j / length pool)
+-- an array that has numbers at the first so many indices from 0 on, and 0 elsewhere
+abbrev pub array_of : (numbers : ℕ → ℤ) → (count : ℕ) → ℤ → ℤ
+array_of numbers count (pos i) = cond (nat_lt i count) (numbers i) (pos 0)
+array_of numbers count (negsuc i) = pos 0
 
--- an array of so many numbers of a pool, from a place on at the indices from 0 on; 0 elsewhere
-abbrev pub filled : List ℤ → (place count : ℕ) → ℤ → ℤ
-filled pool place count (pos i) = cond (nat_lt i count) (pooled pool (place + i)) (pos 0)
-filled pool place count (negsuc i) = pos 0
+-- what a candidate gives input k of a sort
+abbrev pub content_at : Candidate → (k : ℕ) → Sort → Content
+content_at c k Scalar = Number (c.number k 0)
+content_at c k Array = Entries (array_of (c.number k) c.filled)
+content_at c k Port = Emitted []
 
--- what an input of a sort is given that begins at a place
-abbrev pub given_at : List ℤ → ℕ → Sort → Content
-given_at pool place Scalar = Number (pooled pool place)
-given_at pool place Array = Entries (filled pool place 16)
-given_at pool place Port = Emitted []
-
--- what candidate j gives inputs in order, of which the first has number k
-abbrev pub given : List ℤ → (j k : ℕ) → List Signature → List Content
-given pool j k [] = []
-given pool j k (f ∷ fs) = given_at pool (place_of pool j k) f.1 ∷ given pool j (k + 1) fs
+-- what a candidate gives inputs in order, of which the first has number k
+abbrev pub contents : Candidate → (k : ℕ) → List Signature → List Content
+contents c k [] = []
+contents c k (f ∷ fs) = content_at c k f.1 ∷ contents c (k + 1) fs
 
 -- a content as a number and as an array: 0 where it is of another sort, or there is none
 abbrev pub number_told : Option Content → ℤ
@@ -56,6 +78,14 @@ inputs_told fs cs = record {
   array = λ name i. array_told (told (map (λ f. f.0) fs) cs name) i;
 }
 
--- candidate j for the inputs of a machine
-abbrev pub candidate : List ℤ → ℕ → Fsmd → Inputs
-candidate pool j m = inputs_told (input_signatures m.variables) (given pool j 0 (input_signatures m.variables))
+-- how many stated candidates two machines have
+abbrev pub stated_count : Fsmd → Fsmd → ℕ
+stated_count a b = candidate_count (pool_of a b)
+
+-- what stated candidate j of two machines gives the inputs of the left one, in order of declaration
+abbrev pub stated_contents : Fsmd → Fsmd → (j : ℕ) → List Content
+stated_contents a b j = contents (candidate (pool_of a b) j) 0 (input_signatures a.variables)
+
+-- the inputs of stated candidate j of two machines
+abbrev pub stated_inputs : Fsmd → Fsmd → (j : ℕ) → Inputs
+stated_inputs a b j = inputs_told (input_signatures a.variables) (stated_contents a b j)

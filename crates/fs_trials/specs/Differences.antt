@@ -5,8 +5,7 @@ use Rattle.fs_model.specs.Runs.{Inputs}
 use Rattle.fs_runs.specs.declared.run.Ended.{Ended}
 use Rattle.fs_runs.specs.Outcomes.{Outputs, EndsWith, HoldsEach, output_names, told_by}
 use Rattle.fs_show.specs.Items.{SameOutputs}
-use Rattle.fs_trials.specs.Pool.{pool_of}
-use Rattle.fs_trials.specs.Candidates.{candidate}
+use Rattle.fs_trials.specs.Candidates.{stated_inputs}
 
 -- both runs end within a limit of steps and touch no number outside 128 bits, and an output differs
 pub record ShowsDifference (a b : Fsmd) (ins : Inputs) (limit : ℕ) : Type 0 where
@@ -18,9 +17,9 @@ pub record ShowsDifference (a b : Fsmd) (ins : Inputs) (limit : ℕ) : Type 0 wh
   pub right_ends : EndsWith b ins limit right right_steps
   pub differ : ¬ SameOutputs left right
 
--- a candidate shows a difference
+-- a stated candidate shows a difference
 abbrev pub DiffersAt : Fsmd → Fsmd → (limit j : ℕ) → Type 0
-DiffersAt a b limit j = ShowsDifference a b (candidate (pool_of a b) j a) limit
+DiffersAt a b limit j = ShowsDifference a b (stated_inputs a b j) limit
 
 -- what is answered of a run that ends: it ends so, and each output holds something
 pub record IsEnd (m : Fsmd) (ins : Inputs) (limit : ℕ) (e : Ended) : Type 0 where

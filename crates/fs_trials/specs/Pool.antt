@@ -27,18 +27,36 @@ abbrev pub distinct : List ℤ → List ℤ
 distinct [] = []
 distinct (v ∷ vs) = v ∷ filter (λ w. not (int_eq v w)) (distinct vs)
 
+-- the first so many numbers, each once
+abbrev pub first_distinct : (room : ℕ) → List ℤ → List ℤ
+first_distinct room vs = take room (distinct vs)
+
 -- the pool that constants give, in their order
 abbrev pub pool_from : List ℤ → List ℤ
-pool_from constants = take most_values (distinct (first_values ++ flat_map neighbours constants))
+pool_from constants = first_distinct most_values (first_values ++ flat_map neighbours constants)
 
 -- the pool of two machines: the constants of the left one come first
 abbrev pub pool_of : Fsmd → Fsmd → List ℤ
 pool_of a b = pool_from (numbers_in_states a.states ++ numbers_in_states b.states)
+
+-- the most numbers of further candidates
+abbrev pub most_further_values : ℕ
+most_further_values = 40
+
+-- the numbers with which those of further candidates begin: 0 to 10, 12, 16, -1, -2, -3, -5
+abbrev pub fixed_values : List ℤ
+fixed_values =
+    pos 0 ∷ pos 1 ∷ pos 2 ∷ pos 3 ∷ pos 4 ∷ pos 5 ∷ pos 6 ∷ pos 7 ∷ pos 8 ∷ pos 9 ∷ pos 10 ∷ pos 12 ∷ pos 16
+    ∷ negsuc 0 ∷ negsuc 1 ∷ negsuc 2 ∷ negsuc 4 ∷ []
+
+-- the numbers of further candidates: the fixed ones, and then those of a pool
+abbrev pub further_values : List ℤ → List ℤ
+further_values pool = first_distinct most_further_values (fixed_values ++ pool)
 
 -- a number stands in a list
 abbrev pub is_in : ℤ → List ℤ → Bool
 is_in v vs = list_any (λ w. int_eq w v) vs
 
 -- a list with one more number, where it has room and the number is new
-abbrev pub grown : List ℤ → ℤ → List ℤ
-grown vs v = cond (nat_le most_values (length vs) || is_in v vs) vs (vs ++ v ∷ [])
+abbrev pub grown : (room : ℕ) → List ℤ → ℤ → List ℤ
+grown room vs v = cond (nat_le room (length vs) || is_in v vs) vs (vs ++ v ∷ [])

@@ -1,11 +1,12 @@
-//! Candidate inputs, made of the numbers of a pool.
+//! Candidate inputs of two machines.
 
 ghost use Rattle.std.specs.Prelude.{◌≡◌, ◌^◌, ◌<◌, ◌≤◌, ℤ, length, map, IfOk};
 ghost use Rattle.fs_runs.specs.Values.{entry, content_of, sort_of};
 ghost use Rattle.fs_runs.specs.InputValues.{input_values, inputs_of, signatures_of, input_signatures, Serves};
-ghost use Rattle.fs_trials.specs.Pool.{most_values};
-ghost use Rattle.fs_trials.specs.Candidates.{candidate_count, pooled, place_of, filled, given_at, given, candidate};
+ghost use Rattle.fs_trials.specs.Pool.{most_values, pool_of, further_values};
+ghost use Rattle.fs_trials.specs.Candidates.{further_place, pool_count, candidate_count, pool_candidate, further_candidate, candidate, content_at, array_of, contents, inputs_told};
 
+use crate::pool::{further_values, pool};
 use fs_ast::machine::Machine;
 use fs_model::parts::Sort;
 use fs_runs::inputs::Inputs;
@@ -14,85 +15,167 @@ use fs_runs::numbers::Numbers;
 use fs_runs::values::{Entries, Value};
 use std::alloc::Global;
 
-/// How many indices of an array, from 0 on, a candidate gives a number of the pool.
-pub const FILLED_LENGTH: u64 = 16;
+/// How many indices of an array, from 0 on, a candidate of the pool gives a number.
+pub const POOL_FILLED: u64 = 16;
 
-/// How many candidates a pool of at most 24 numbers gives: as many as its length times its length.
-/// Takes no memory.
-pub fn candidate_count(pool: &[i128]) -> u64
-    requires { length pool.now ≤ most_values }
-    ensures { result ≡ candidate_count pool.now }
-{
-    let len = pool.len() as u64;
-    len * len
+/// How many indices of an array, from 0 on, a further candidate gives a number.
+pub const FURTHER_FILLED: u64 = 32;
+
+/// How many further candidates there are.
+pub const FURTHER_COUNT: u64 = 256;
+
+/// The numbers of which the candidates of two machines are made: their pool, and the numbers of the further candidates.
+#[derive(Drop)]
+pub struct Candidates {
+    pub pool: Vec<i128>,
+    pub further: Vec<i128>,
+    pub ghost some: { 1 ≤ length pool.items },
+    pub ghost few: { length pool.items ≤ most_values },
+    pub ghost values: { further.items ≡ further_values pool.items },
 }
 
-/// Candidate `j` of a pool for the inputs of a machine. Input k, counted in order of declaration from 0, begins at
-/// the place `j + k * (j / len)` of the pool, where `len` is the pool's length and the quotient is rounded
-/// down; places are counted round. A scalar is the number at its place. An array has the numbers from its place on at the
-/// indices from 0 to 15, and 0 elsewhere. The only refusal is out of memory.
-pub fn candidate(alloc: Global, pool: &[i128], j: u64, m: &Machine) -> Result<Inputs, NoMemory>
-    requires some { 1 ≤ length pool.now }
-    requires few { length pool.now ≤ most_values }
-    requires number { j < candidate_count pool.now }
-    ensures signatures { IfOk result (λ ins. signatures_of ins ≡ input_signatures m.now.variables) }
-    ensures serves { IfOk result (λ ins. Serves (signatures_of ins) m.now) }
-    ensures contents { IfOk result (λ ins. map content_of (input_values ins) ≡ given pool.now j 0 (input_signatures m.now.variables)) }
-    ensures inputs { IfOk result (λ ins. inputs_of ins ≡ candidate pool.now j m.now) }
-{
-    let mut inputs = Inputs::zero(alloc, m)?;
-    for k in 0..m.vars().len() as u32 {
-        let Some(sort) = inputs.sort(k) else {
-            return Ok(inputs);
-        };
-        let own = value(alloc, pool, place_of(pool, j, k), sort)?;
-        inputs.set(alloc, k, own)?;
+impl Candidates {
+    /// The candidates of two machines. The only refusal is out of memory.
+    pub fn of(alloc: Global, a: &Machine, b: &Machine) -> Result<Candidates, NoMemory>
+        ensures { IfOk result (λ c. c.pool.items ≡ pool_of a.now b.now) }
+    {
+        let pool = pool(alloc, a, b)?;
+        let further = further_values(alloc, pool.as_slice())?;
+        Ok(Candidates { pool, further })
     }
-    Ok(inputs)
+
+    // How many candidates the pool gives: as many as its length times its length.
+    fn pool_count(&self) -> u64
+        ensures count { result ≡ pool_count self.now.pool.items }
+        ensures bound { result ≤ 576 }
+    {
+        let len = self.pool.len() as u64;
+        len * len
+    }
+
+    /// How many candidates there are: as many as the pool's length times its length, and 256 further ones. Takes no memory.
+    pub fn count(&self) -> u64
+        ensures { result ≡ candidate_count self.now.pool.items }
+    {
+        self.pool_count() + FURTHER_COUNT
+    }
+
+    /// What candidate `j` gives the inputs of a machine. The candidates of the pool come first, and then the further ones.
+    /// Inputs are counted in order of declaration from 0, and n is the length of the list of which the number at a place is taken.
+    ///
+    /// Candidate j of the pool gives index i of input k the number of the pool at the place `j + k * (j / n) + i`, where
+    /// the quotient is rounded down and places are counted round. Further candidate j gives it the further number at the place
+    /// `((j + 1)(j + 31)(k + 7) + (2j + 1)(k + 3)i + i * i * (j mod 5)) mod 10007 mod n`. A scalar has the number of index
+    /// 0. An array has those of the first indices, 16 by a candidate of the pool and 32 by a further one, and 0 elsewhere.
+    /// The only refusal is out of memory.
+    pub fn inputs(&self, alloc: Global, j: u64, m: &Machine) -> Result<Inputs, NoMemory>
+        requires { j < candidate_count self.now.pool.items }
+        ensures signatures { IfOk result (λ ins. signatures_of ins ≡ input_signatures m.now.variables) }
+        ensures serves { IfOk result (λ ins. Serves (signatures_of ins) m.now) }
+        ensures contents { IfOk result (λ ins. map content_of (input_values ins) ≡ contents (candidate self.now.pool.items j) 0 (input_signatures m.now.variables)) }
+        ensures inputs { IfOk result (λ ins. inputs_of ins ≡ inputs_told (input_signatures m.now.variables) (contents (candidate self.now.pool.items j) 0 (input_signatures m.now.variables))) }
+    {
+        let mut inputs = Inputs::zero(alloc, m)?;
+        for k in 0..m.vars().len() as u32 {
+            let Some(sort) = inputs.sort(k) else {
+                return Ok(inputs);
+            };
+            let own = self.value(alloc, j, u64::from(k), sort)?;
+            inputs.set(alloc, k, own)?;
+        }
+        Ok(inputs)
+    }
+
+    // What candidate j gives input k of a sort.
+    fn value(&self, alloc: Global, j: u64, k: u64, sort: Sort) -> Result<Value, NoMemory>
+        requires candidate { j < candidate_count self.now.pool.items }
+        requires input { k < 128 }
+        ensures content { IfOk result (λ v. content_of v ≡ content_at (candidate self.now.pool.items j) k sort) }
+        ensures sort { IfOk result (λ v. sort_of v ≡ sort) }
+    {
+        match sort {
+            Sort::Scalar => Ok(Value::Num(self.number(j, k, 0))),
+            Sort::Array => Ok(Value::Arr(self.array(alloc, j, k)?)),
+            Sort::Port => Ok(Value::List(Numbers::new(alloc))),
+        }
+    }
+
+    // The array that candidate j gives input k.
+    fn array(&self, alloc: Global, j: u64, k: u64) -> Result<Entries, NoMemory>
+        requires candidate { j < candidate_count self.now.pool.items }
+        requires input { k < 128 }
+        ensures { IfOk result (λ e. (i : ℤ) → entry e i ≡ array_of ((candidate self.now.pool.items j).number k) (candidate self.now.pool.items j).filled i) }
+    {
+        let mut entries = Entries::new(alloc);
+        for i in 0..self.filled(j) {
+            entries.set(i128::from(i), self.number(j, k, i))?;
+        }
+        Ok(entries)
+    }
+
+    // How many indices of an array candidate j gives a number.
+    fn filled(&self, j: u64) -> u64
+        ensures count { result ≡ (candidate self.now.pool.items j).filled }
+        ensures bound { result ≤ 32 }
+    {
+        if j < self.pool_count() {
+            POOL_FILLED
+        } else {
+            FURTHER_FILLED
+        }
+    }
+
+    // The number that candidate j gives index i of input k.
+    fn number(&self, j: u64, k: u64, i: u64) -> i128
+        requires candidate { j < candidate_count self.now.pool.items }
+        requires input { k < 128 }
+        requires index { i < 32 }
+        ensures { result ≡ (candidate self.now.pool.items j).number k i }
+    {
+        let count = self.pool_count();
+        if j < count {
+            pool_number(self.pool.as_slice(), j, k, i)
+        } else {
+            further_number(self.further.as_slice(), j - count, k, i)
+        }
+    }
 }
 
-// The place at which input k begins.
-fn place_of(pool: &[i128], j: u64, k: u32) -> u64
+// The number of a pool that its candidate j gives index i of input k.
+fn pool_number(pool: &[i128], j: u64, k: u64, i: u64) -> i128
     requires some { 1 ≤ length pool.now }
     requires candidate { j < 576 }
     requires input { k < 128 }
-    ensures place { result ≡ place_of pool.now j k }
-    ensures low { result < 2 ^ 32 }
+    requires index { i < 32 }
+    ensures { result ≡ (pool_candidate pool.now j).number k i }
 {
-    j + u64::from(k) * (j / pool.len() as u64)
+    let len = pool.len() as u64;
+    let place = j + k * (j / len) + i;
+    pool[(place % len) as usize]
 }
 
-// The number at a place, counted round.
-fn pooled(pool: &[i128], place: u64) -> i128
-    requires { 1 ≤ length pool.now }
-    ensures { result ≡ pooled pool.now place }
+// The number that further candidate j gives index i of input k.
+fn further_number(values: &[i128], j: u64, k: u64, i: u64) -> i128
+    requires some { 1 ≤ length values.now }
+    requires candidate { j < 256 }
+    requires input { k < 128 }
+    requires index { i < 32 }
+    ensures { result ≡ (further_candidate values.now j).number k i }
 {
-    pool[(place % pool.len() as u64) as usize]
+    values[further_place(values.len() as u64, j, k, i) as usize]
 }
 
-// The value of an input that begins at a place.
-fn value(alloc: Global, pool: &[i128], place: u64, sort: Sort) -> Result<Value, NoMemory>
-    requires some { 1 ≤ length pool.now }
-    requires low { place < 2 ^ 32 }
-    ensures content { IfOk result (λ v. content_of v ≡ given_at pool.now place sort) }
-    ensures sort { IfOk result (λ v. sort_of v ≡ sort) }
+// The place among n numbers that further candidate j gives index i of input k.
+fn further_place(n: u64, j: u64, k: u64, i: u64) -> u64
+    requires some { 1 ≤ n }
+    requires candidate { j < 256 }
+    requires input { k < 128 }
+    requires index { i < 32 }
+    ensures place { result ≡ further_place n j k i }
+    ensures bound { result < n }
 {
-    match sort {
-        Sort::Scalar => Ok(Value::Num(pooled(pool, place))),
-        Sort::Array => Ok(Value::Arr(filled(alloc, pool, place)?)),
-        Sort::Port => Ok(Value::List(Numbers::new(alloc))),
-    }
-}
-
-// An array with the numbers from a place on.
-fn filled(alloc: Global, pool: &[i128], place: u64) -> Result<Entries, NoMemory>
-    requires some { 1 ≤ length pool.now }
-    requires low { place < 2 ^ 32 }
-    ensures { IfOk result (λ e. (i : ℤ) → entry e i ≡ filled pool.now place 16 i) }
-{
-    let mut entries = Entries::new(alloc);
-    for i in 0..FILLED_LENGTH {
-        entries.set(i128::from(i), pooled(pool, place + i))?;
-    }
-    Ok(entries)
+    let start = (j + 1) * (j + 31) * (k + 7);
+    let slope = (2 * j + 1) * (k + 3);
+    let bend = j % 5;
+    (start + slope * i + i * i * bend) % 10_007 % n
 }

@@ -1,15 +1,13 @@
-//! The first candidate that shows a difference of two machines.
+//! Inputs that show a difference of two machines, and the first stated candidate that does.
 
 ghost use Rattle.std.specs.Prelude.{◌≡◌, ◌≤◌, ◌<◌, ℕ, IfOk, MatchOption, IfSome, None, map};
 ghost use Rattle.fs_pair.specs.Interfaces.{interface_fault};
 ghost use Rattle.fs_runs.specs.Values.{content_of};
 ghost use Rattle.fs_runs.specs.InputValues.{input_values, inputs_of, signatures_of, input_signatures, Serves};
-ghost use Rattle.fs_trials.specs.Pool.{pool_of};
-ghost use Rattle.fs_trials.specs.Candidates.{candidate_count, given, candidate};
+ghost use Rattle.fs_trials.specs.Candidates.{stated_count, stated_contents, stated_inputs};
 ghost use Rattle.fs_trials.specs.Differences.{ShowsDifference, DiffersAt, IsEnd, HasNoEnd, AreApart};
 
-use crate::candidates::{candidate, candidate_count};
-use crate::pool::pool;
+use crate::candidates::Candidates;
 use fs_ast::machine::Machine;
 use fs_pair::positions::Pairing;
 use fs_runs::inputs::Inputs;
@@ -18,7 +16,7 @@ use fs_runs::run::{Ended, RunStop, run};
 use fs_show::replay::same_outputs;
 use std::alloc::Global;
 
-/// A candidate that shows a difference: its number, its inputs, and how the run of each machine ended.
+/// A stated candidate that shows a difference: its number, its inputs, and how the run of each machine ended.
 #[derive(Drop)]
 pub struct Found {
     pub j: u64,
@@ -27,9 +25,9 @@ pub struct Found {
     pub right: Ended,
 }
 
-/// The first candidate that shows a difference of two machines with the same inputs and outputs: both runs end within so many
-/// steps and touch no number outside 128 bits, and an output differs. `None` exactly where no candidate does.
-/// The only refusal is out of memory.
+/// The first stated candidate that shows a difference of two machines with the same inputs and outputs: both runs end within
+/// so many steps and touch no number outside 128 bits, and an output differs. `None` exactly where no stated candidate does.
+/// The further candidates are tried only where no candidate of the pool does. The only refusal is out of memory.
 pub fn first_difference(
     alloc: Global,
     a: &Machine,
@@ -39,18 +37,18 @@ pub fn first_difference(
 ) -> Result<Option<Found>, NoMemory>
     requires steps { 1 ≤ steps }
     requires interfaces { interface_fault a.now b.now ≡ None }
-    ensures number { IfOk result (λ o. IfSome o (λ f. f.j < candidate_count (pool_of a.now b.now))) }
-    ensures inputs { IfOk result (λ o. IfSome o (λ f. inputs_of f.inputs ≡ candidate (pool_of a.now b.now) f.j a.now)) }
+    ensures number { IfOk result (λ o. IfSome o (λ f. f.j < stated_count a.now b.now)) }
+    ensures inputs { IfOk result (λ o. IfSome o (λ f. inputs_of f.inputs ≡ stated_inputs a.now b.now f.j)) }
     ensures signatures { IfOk result (λ o. IfSome o (λ f. signatures_of f.inputs ≡ input_signatures a.now.variables)) }
-    ensures contents { IfOk result (λ o. IfSome o (λ f. map content_of (input_values f.inputs) ≡ given (pool_of a.now b.now) f.j 0 (input_signatures a.now.variables))) }
+    ensures contents { IfOk result (λ o. IfSome o (λ f. map content_of (input_values f.inputs) ≡ stated_contents a.now b.now f.j)) }
     ensures ends { IfOk result (λ o. IfSome o (λ f. AreApart a.now b.now (inputs_of f.inputs) steps f.left f.right)) }
     ensures shows { IfOk result (λ o. IfSome o (λ f. DiffersAt a.now b.now steps f.j)) }
     ensures first { IfOk result (λ o. IfSome o (λ f. (i : ℕ) → i < f.j → ¬ DiffersAt a.now b.now steps i)) }
-    ensures none { IfOk result (λ o. o ≡ None → (i : ℕ) → i < candidate_count (pool_of a.now b.now) → ¬ DiffersAt a.now b.now steps i) }
+    ensures none { IfOk result (λ o. o ≡ None → (i : ℕ) → i < stated_count a.now b.now → ¬ DiffersAt a.now b.now steps i) }
 {
-    let pool = pool(alloc, a, b)?;
-    for j in 0..candidate_count(pool.as_slice()) {
-        let inputs = candidate(alloc, pool.as_slice(), j, a)?;
+    let candidates = Candidates::of(alloc, a, b)?;
+    for j in 0..candidates.count() {
+        let inputs = candidates.inputs(alloc, j, a)?;
         if let Some((left, right)) = differing_ends(alloc, a, b, &inputs, steps)? {
             return Ok(Some(Found {
                 j,
@@ -63,8 +61,9 @@ pub fn first_difference(
     Ok(None)
 }
 
-// How both runs end, where both end and an output differs.
-fn differing_ends(
+/// How the runs of two machines with the same inputs and outputs end on inputs, where both end within so many steps and touch
+/// no number outside 128 bits, and an output differs. `None` exactly where that is not so. The only refusal is out of memory.
+pub fn differing_ends(
     alloc: Global,
     a: &Machine,
     b: &Machine,

@@ -5,7 +5,7 @@ ghost use Rattle.std.specs.List.{fold, flat_map, filter, IsDistinct};
 ghost use Rattle.std.specs.Option.{option_to_list};
 ghost use Rattle.std.specs.Ordering.{int_eq};
 ghost use Rattle.std.specs.Result.{OnOk};
-ghost use Rattle.fs_trials.specs.Pool.{most_values, fits, first_values, neighbours, pool_of, is_in, grown};
+ghost use Rattle.fs_trials.specs.Pool.{most_values, most_further_values, fits, first_values, fixed_values, neighbours, pool_of, further_values, is_in, grown};
 
 use fs_ast::machine::Machine;
 use fs_runs::memory::NoMemory;
@@ -13,6 +13,12 @@ use std::alloc::Global;
 
 /// The most numbers of a pool.
 pub const POOL_LIMIT: usize = 24;
+
+/// The most numbers of further candidates.
+pub const FURTHER_LIMIT: usize = 40;
+
+/// The numbers with which those of further candidates begin.
+pub const FIXED_VALUES: [i128; 17] = [0, 1, 2, 3, 4, 5, 6, 7, 8, 9, 10, 12, 16, -1, -2, -3, -5];
 
 /// The pool of two machines: 0, 1, -1 and 2, and then, for each number of the left machine's guards
 /// and assignments and then of the right one's, in order of the text, the number before it, the number
@@ -25,50 +31,64 @@ pub fn pool(alloc: Global, a: &Machine, b: &Machine) -> Result<Vec<i128>, NoMemo
     ensures few { IfOk result (λ p. length p.items ≤ most_values) }
 {
     let mut pool = Vec::new(alloc);
-    add_all(&mut pool, [0, 1, -1, 2].as_slice())?;
-    add_neighbours(&mut pool, a.constants())?;
-    add_neighbours(&mut pool, b.constants())?;
+    add_all(&mut pool, [0, 1, -1, 2].as_slice(), POOL_LIMIT)?;
+    add_neighbours(&mut pool, a.constants(), POOL_LIMIT)?;
+    add_neighbours(&mut pool, b.constants(), POOL_LIMIT)?;
     Ok(pool)
 }
 
-fn is_full(pool: &[i128]) -> bool
-    ensures { result ≡ nat_le most_values (length pool.now) }
+/// The numbers of further candidates: 0 to 10, 12, 16, -1, -2, -3 and -5, and then those of a pool. A number that is there
+/// already is left out, and they end at 40 numbers. The only refusal is out of memory.
+pub fn further_values(alloc: Global, pool: &[i128]) -> Result<Vec<i128>, NoMemory>
+    ensures exact { IfOk result (λ v. v.items ≡ further_values pool.now) }
+    ensures begins { IfOk result (λ v. take 17 v.items ≡ fixed_values) }
+    ensures distinct { IfOk result (λ v. IsDistinct int_eq v.items) }
+    ensures few { IfOk result (λ v. length v.items ≤ most_further_values) }
 {
-    pool.len() >= POOL_LIMIT
+    let mut values = Vec::new(alloc);
+    add_all(&mut values, FIXED_VALUES.as_slice(), FURTHER_LIMIT)?;
+    add_all(&mut values, pool, FURTHER_LIMIT)?;
+    Ok(values)
 }
 
-fn is_in(value: &i128, pool: &[i128]) -> bool
-    ensures { result ≡ is_in value.now pool.now }
+fn is_full(list: &[i128], room: usize) -> bool
+    ensures { result ≡ nat_le room (length list.now) }
 {
-    pool.iter().any(|own| *own == *value)
+    list.len() >= room
 }
 
-// Adds a number that is not there, where there is room.
-fn add(pool: &mut Vec<i128>, value: &i128) -> Result<(), NoMemory>
-    ensures { OnOk result (pool.new.items ≡ grown pool.old.items value.now) }
+fn is_in(value: &i128, list: &[i128]) -> bool
+    ensures { result ≡ is_in value.now list.now }
 {
-    if is_full(pool.as_slice()) || is_in(value, pool.as_slice()) {
+    list.iter().any(|own| *own == *value)
+}
+
+// Adds a number that is not there, where there is room for one more.
+fn add(list: &mut Vec<i128>, value: &i128, room: usize) -> Result<(), NoMemory>
+    ensures { OnOk result (list.new.items ≡ grown room list.old.items value.now) }
+{
+    if is_full(list.as_slice(), room) || is_in(value, list.as_slice()) {
         return Ok(());
     }
-    pool.push(*value)?;
+    list.push(*value)?;
     Ok(())
 }
 
-fn add_all(pool: &mut Vec<i128>, values: &[i128]) -> Result<(), NoMemory>
-    ensures { OnOk result (pool.new.items ≡ fold grown pool.old.items values.now) }
+fn add_all(list: &mut Vec<i128>, values: &[i128], room: usize) -> Result<(), NoMemory>
+    ensures { OnOk result (list.new.items ≡ fold (grown room) list.old.items values.now) }
 {
     for value in values {
-        add(pool, value)?;
+        add(list, value, room)?;
     }
     Ok(())
 }
 
 // Adds a number, if there is one.
-fn add_any(pool: &mut Vec<i128>, value: Option<i128>) -> Result<(), NoMemory>
-    ensures { OnOk result (pool.new.items ≡ fold grown pool.old.items (option_to_list value)) }
+fn add_any(list: &mut Vec<i128>, value: Option<i128>, room: usize) -> Result<(), NoMemory>
+    ensures { OnOk result (list.new.items ≡ fold (grown room) list.old.items (option_to_list value)) }
 {
     match value {
-        Some(value) => add(pool, &value),
+        Some(value) => add(list, &value, room),
         None => Ok(()),
     }
 }
@@ -89,23 +109,23 @@ fn after(c: &i128) -> Option<i128>
 }
 
 // Adds a number with the numbers before and after it.
-fn add_around(pool: &mut Vec<i128>, c: &i128) -> Result<(), NoMemory>
-    ensures { OnOk result (pool.new.items ≡ fold grown pool.old.items (neighbours c.now)) }
+fn add_around(list: &mut Vec<i128>, c: &i128, room: usize) -> Result<(), NoMemory>
+    ensures { OnOk result (list.new.items ≡ fold (grown room) list.old.items (neighbours c.now)) }
 {
-    add_any(pool, before(c))?;
-    add(pool, c)?;
-    add_any(pool, after(c))
+    add_any(list, before(c), room)?;
+    add(list, c, room)?;
+    add_any(list, after(c), room)
 }
 
 // Adds what constants give, up to the first at which there is no room.
-fn add_neighbours(pool: &mut Vec<i128>, constants: &[i128]) -> Result<(), NoMemory>
-    ensures { OnOk result (pool.new.items ≡ fold grown pool.old.items (flat_map neighbours constants.now)) }
+fn add_neighbours(list: &mut Vec<i128>, constants: &[i128], room: usize) -> Result<(), NoMemory>
+    ensures { OnOk result (list.new.items ≡ fold (grown room) list.old.items (flat_map neighbours constants.now)) }
 {
     for c in constants {
-        if is_full(pool.as_slice()) {
+        if is_full(list.as_slice(), room) {
             return Ok(());
         }
-        add_around(pool, c)?;
+        add_around(list, c, room)?;
     }
     Ok(())
 }
