@@ -62,7 +62,7 @@ pub record SaysSame (g : Call) (p : Put) : Type 0 where
   pub put : HasPut g p (equivalent_text (length nodes))
   pub stored : (name : List ℕ) → cert_of g.asked ≡ Some name → IsStored name (certificate_text left right nodes) (stores g.before g.now)
 
--- runs of the machines from the first candidate that shows a difference end with other outputs, which was put
+-- runs of the machines from the first stated candidate that shows a difference end with other outputs, which was put
 pub record SaysDiffer (g : Call) (p : Put) : Type 0 where
   pub left : Fsmd
   pub right : Fsmd
@@ -71,7 +71,7 @@ pub record SaysDiffer (g : Call) (p : Put) : Type 0 where
   pub shows : IsCounterexample (step_limit g.asked) left right lines
   pub put : HasPut g p lines
 
--- no candidate shows a difference of the machines, and a legal list of moves stops at an obstacle, which was put
+-- no stated candidate shows a difference of the machines, and a legal list of moves stops at an obstacle, which was put
 pub record SaysUndecided (g : Call) (p : Put) : Type 0 where
   pub left : Fsmd
   pub right : Fsmd

@@ -1,8 +1,7 @@
 -- Two machines get one answer, but for the cycle that it names, and for what is found beyond a search that is left open.
 use Rattle.std.proofs.Common.{◌≡◌, ⊎_elim, ℕ, ◌<◌, length, Bool, sym, ◌∙◌, ap}
 use Rattle.fs_model.specs.Machines.{Fsmd}
-use Rattle.fs_trials.specs.Pool.{pool_of}
-use Rattle.fs_trials.specs.Candidates.{candidate_count}
+use Rattle.fs_trials.specs.Candidates.{stated_count}
 use Rattle.fs_trials.specs.Differences.{DiffersAt}
 use Rattle.cert_writer.specs.Written.{certificate_text}
 use Rattle.search.specs.Answers.{machines}
@@ -49,7 +48,7 @@ pair_once limit keeps a b x y (Open p) (Apart q) = absurd (not_open limit a b q.
 pair_once limit keeps a b x y (Open p) (Open q) = open_once limit a b x y p q
 
 -- where a candidate shows a difference, the answer is one
-pub difference_told : (limit : ℕ) (keeps : Bool) (a b : Fsmd) (x : Answer) (j : ℕ) → j < candidate_count (pool_of a b) → DiffersAt a b limit j → IsOfPair limit keeps a b x → status_of x ≡ Differ
+pub difference_told : (limit : ℕ) (keeps : Bool) (a b : Fsmd) (x : Answer) (j : ℕ) → j < stated_count a b → DiffersAt a b limit j → IsOfPair limit keeps a b x → status_of x ≡ Differ
 difference_told limit keeps a b x j among shows (Same n p e) = absurd (same_show_nothing limit a b j p.same shows)
 difference_told limit keeps a b x j among shows (Apart p) = ap status_of p.is
 difference_told limit keeps a b x j among shows (Open p) = absurd (p.holds.none_differ.none j among shows)

@@ -20,7 +20,7 @@ use Rattle.command_answers.specs.Pairs.{kept, left_of, right_of}
 abbrev pub NamesCycle : (a b : Fsmd) → Answer → Type 0
 NamesCycle a b answer = HasLines (IsCycleLine (machines a b)) Undecided answer
 
--- what may be answered where no candidate shows a difference and the search is left open: a certificate that is found beyond it and holds, by
+-- what may be answered where no stated candidate shows a difference and the search is left open: a certificate that is found beyond it and holds, by
 -- its number of nodes and its text where that is to be stored; or the line of the search's obstacle
 pub data IsBeyond (a b : Fsmd) (answer : Answer) : Type 0 where
   Found : (nodes : List (Node Fact)) → IsFoundBeyond (machines a b) nodes → (keeps : Bool) → answer ≡ Equivalent (length nodes) (kept keeps (certificate_text a b nodes)) → IsBeyond a b answer

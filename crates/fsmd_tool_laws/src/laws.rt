@@ -9,8 +9,7 @@ ghost use Rattle.fs_model.specs.Source.{Source};
 ghost use Rattle.fs_rules.specs.Spelled.{machine_of};
 ghost use Rattle.fs_grammar.specs.declared.fault.TextFault.{TextFault};
 ghost use Rattle.fs_rules.specs.declared.check.CheckFault.{CheckFault};
-ghost use Rattle.fs_trials.specs.Pool.{pool_of};
-ghost use Rattle.fs_trials.specs.Candidates.{candidate_count};
+ghost use Rattle.fs_trials.specs.Candidates.{stated_count};
 ghost use Rattle.fs_trials.specs.Differences.{DiffersAt};
 ghost use Rattle.bisimulation.specs.Tables.{Node};
 ghost use Rattle.sym_facts.specs.Facts.{Fact};
@@ -54,15 +53,15 @@ use search_laws::laws::{
     written_certificates_that_hold_are_read,
 };
 
-/// Two machines get at most one answer, but for the cycle that its line names, and but for what may be answered where no candidate shows a
+/// Two machines get at most one answer, but for the cycle that its line names, and but for what may be answered where no stated candidate shows a
 /// difference and the search is left open: any certificate that holds, or the line of the obstacle.
 pub fn two_machines_get_one_answer()
     ensures { (limit : ℕ) (keeps : Bool) (a b : Fsmd) (x y : Answer) → IsOfPair limit keeps a b x → IsOfPair limit keeps a b y → AreOne a b x y }
 {}
 
-/// Where a candidate shows a difference of two machines, that is what they get: their status is `Differ`.
+/// Where a stated candidate shows a difference of two machines, that is what they get: their status is `Differ`.
 pub fn differences_are_told()
-    ensures { (limit : ℕ) (keeps : Bool) (a b : Fsmd) (x : Answer) (j : ℕ) → j < candidate_count (pool_of a b) → DiffersAt a b limit j → IsOfPair limit keeps a b x → status_of x ≡ Differ }
+    ensures { (limit : ℕ) (keeps : Bool) (a b : Fsmd) (x : Answer) (j : ℕ) → j < stated_count a b → DiffersAt a b limit j → IsOfPair limit keeps a b x → status_of x ≡ Differ }
 {}
 
 /// A file spells at most one machine, with one canonical text and one list of paths, and is then no file with a
@@ -96,7 +95,7 @@ pub fn a_file_spells_one_certificate()
 }
 
 /// At most one answer follows from what was read of the files, where two readings agree on each file that both opened. So it is for a
-/// file that fails to be read, too. Of machines that are compared two lines may each name another cycle; and where no candidate shows a
+/// file that fails to be read, too. Of machines that are compared two lines may each name another cycle; and where no stated candidate shows a
 /// difference and the search is left open, each answer may be any certificate that holds, or the line of the obstacle.
 pub fn one_answer_follows()
     ensures compared { (o : Option Asked) (r s : Reading) (x y : Answer) → Agree o r s → Follows o r x → Follows o s y → SaySame o s x y }

@@ -1,12 +1,10 @@
 -- Which answer two machines get.
 use Rattle.std.specs.Prelude.{◌≡◌, ◌⊎◌, ◌<◌, ℕ, Bool, true, false, IsTrue, List, map}
 use Rattle.fs_model.specs.Machines.{Fsmd}
-use Rattle.fs_runs.specs.InputValues.{input_signatures}
 use Rattle.fs_runs.specs.Outcomes.{output_names}
 use Rattle.fs_show.specs.Items.{input_names}
 use Rattle.fs_show.specs.Ends.{IsCounterexampleText}
-use Rattle.fs_trials.specs.Pool.{pool_of}
-use Rattle.fs_trials.specs.Candidates.{candidate_count, given}
+use Rattle.fs_trials.specs.Candidates.{stated_count, stated_contents}
 use Rattle.fs_trials.specs.Differences.{DiffersAt}
 use Rattle.bisimulation.specs.Tables.{Node}
 use Rattle.sym_facts.specs.Facts.{Fact}
@@ -23,17 +21,17 @@ use Rattle.pair_answers.specs.declared.obstacles.Found.TheVariants.{Certificate,
 use Rattle.pair_answers.specs.declared.answer.PairAnswer.{PairAnswer}
 use Rattle.pair_answers.specs.declared.answer.PairAnswer.TheVariants.{Equivalent, Counterexample, Undecided}
 
--- the lines tell of the first candidate that shows a difference within so many steps: its inputs, and both runs' outputs
+-- the lines tell of the first stated candidate that shows a difference within so many steps: its inputs, and both runs' outputs
 pub record IsCounterexample (limit : ℕ) (a b : Fsmd) (lines : List ℕ) : Type 0 where
   pub number : ℕ
-  pub among : number < candidate_count (pool_of a b)
+  pub among : number < stated_count a b
   pub shows : DiffersAt a b limit number
   pub first : (i : ℕ) → i < number → ¬ DiffersAt a b limit i
-  pub told : IsCounterexampleText (input_names a.variables) (given (pool_of a b) number 0 (input_signatures a.variables)) (output_names a.variables) shows.left shows.right lines
+  pub told : IsCounterexampleText (input_names a.variables) (stated_contents a b number) (output_names a.variables) shows.left shows.right lines
 
--- no candidate shows a difference within so many steps
+-- no stated candidate shows a difference within so many steps
 pub record NoneDiffers (limit : ℕ) (a b : Fsmd) : Type 0 where
-  pub none : (j : ℕ) → j < candidate_count (pool_of a b) → ¬ DiffersAt a b limit j
+  pub none : (j : ℕ) → j < stated_count a b → ¬ DiffersAt a b limit j
 
 -- a legal list of moves stops at an obstacle, which the lines name
 pub record HasObstacle (m : Machines) (lines : List ℕ) : Type 0 where
@@ -76,7 +74,7 @@ IsFound m (Certificate cert) = IsClosedWith m (map node_of cert.nodes.items)
 IsFound m (Open line) = IsLeftOpen m × HasObstacle m line.items
 IsFound m (Limit line) = HasObstacle m line.items
 
--- no candidate shows a difference, and the lines name what keeps the machines from being shown the same
+-- no stated candidate shows a difference, and the lines name what keeps the machines from being shown the same
 pub record IsUndecided (limit : ℕ) (a b : Fsmd) (lines : List ℕ) : Type 0 where
   pub none_differ : NoneDiffers limit a b
   pub obstacle : HasObstacle (machines a b) lines

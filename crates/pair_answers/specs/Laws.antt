@@ -99,6 +99,6 @@ NamedAreThere m moves points (Exhausted at what) = Unit {0}
 abbrev pub LinesNameWhatIsThere : Type 0
 LinesNameWhatIsThere = (m : Machines) → IsSound m.left → IsSound m.right → (moves : List Move) (points : List Points) (o : Obstacle) → StopsAt m moves points o → NamedAreThere m moves points o
 
--- machines with the same behaviour differ on no candidate
+-- machines with the same behaviour differ on no stated candidate
 abbrev pub SameShowNothing : Type 0
 SameShowNothing = (limit : ℕ) (a b : Fsmd) (j : ℕ) → SameBehaviour a b → ¬ DiffersAt a b limit j

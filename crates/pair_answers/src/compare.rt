@@ -17,7 +17,7 @@ use fs_pair::positions::Pairing;
 use nf_terms::stop::NoMemory;
 use std::alloc::Global;
 
-// What two machines get that no certificate shows to have the same behaviour: by candidate inputs, and where none shows a difference by the
+// What two machines get that no certificate shows to have the same behaviour: by stated candidate inputs, and where none shows a difference by the
 // line of the obstacle of the search. The one refusal is out of memory.
 fn try_candidates(
     alloc: Global,
@@ -69,9 +69,9 @@ fn go_beyond(
 /// steps.
 ///
 /// `Equivalent` comes where the first search closes, or where it is left open and all obligations of a certificate of the second search
-/// hold; then both have the same behaviour. `Counterexample` tells of the first candidate from which both runs end, within the steps and
+/// hold; then both have the same behaviour. `Counterexample` tells of the first stated candidate from which both runs end, within the steps and
 /// within 128 bits, and an output differs: `counterexample`, a line `NAME = VALUE` for each input, and both sides' outputs. Where no
-/// candidate shows a difference, `Undecided` names the obstacle of the first search, in one line. Where a limit stops the first search,
+/// stated candidate shows a difference, `Undecided` names the obstacle of the first search, in one line. Where a limit stops the first search,
 /// there is no second one. The one refusal is out of memory.
 pub fn compare(
     alloc: Global,

@@ -3,7 +3,7 @@
 ghost use Rattle.pair_answers.specs.Laws.{OneAnswer, ClosedIsNotOpen, LimitIsNotOpen, LinesNameWhatIsThere, SameShowNothing};
 
 /// Two machines have one answer, whatever answers them: one certificate, one counterexample, or one line, but for the cycle that it
-/// names. Where the search is left open, and no candidate shows a difference, it is any certificate that holds, or the line.
+/// names. Where the search is left open, and no stated candidate shows a difference, it is any certificate that holds, or the line.
 pub fn two_machines_have_one_answer()
     ensures { OneAnswer }
 {}
@@ -20,7 +20,7 @@ pub fn lines_name_what_is_there()
     ensures { LinesNameWhatIsThere }
 {}
 
-/// Machines with the same behaviour differ on no candidate.
+/// Machines with the same behaviour differ on no stated candidate.
 pub fn same_behaviour_shows_no_difference()
     ensures { SameShowNothing }
 {}
