@@ -23,8 +23,9 @@ pub record AreSame (a b : Fsmd) (nodes : List (Node Fact)) : Type 0 where
 abbrev pub kept : Bool → List ℕ → Option (List ℕ)
 kept keeps text = if keeps then Some text else None
 
--- the answer to two machines with the same inputs and outputs, of runs of at most so many steps, and with the text of the certificate where
--- that is to be stored: by a certificate that holds; by the first stated candidate that shows a difference; or, where none does, by the search's obstacle
+-- the answer to two machines with the same inputs and outputs, of runs of at most so many steps, and with the text of the
+-- certificate where that is to be stored: by a certificate that holds; by the first stated candidate that shows a difference; or,
+-- where none does, by the search's obstacle
 pub data IsOfPair (limit : ℕ) (keeps : Bool) (a b : Fsmd) (answer : Answer) : Type 0 where
   Same : (nodes : List (Node Fact)) → AreSame a b nodes → answer ≡ Equivalent (length nodes) (kept keeps (certificate_text a b nodes)) → IsOfPair limit keeps a b answer
   Apart : HasLines (IsCounterexample limit a b) Differs answer → IsOfPair limit keeps a b answer

@@ -1,4 +1,5 @@
--- Answers that say the same: they are one, but for the cycle that their lines name, and but for what is found beyond a search that is left open.
+-- Answers that say the same: they are one, but for the cycle that their lines name, and but for what is found beyond a search
+-- that is left open.
 use Rattle.std.specs.Prelude.{◌≡◌, ℕ, Bool, List, length, Option, Some, IsTrue}
 use Rattle.command_words.specs.Words.{Asked, Generate}
 use Rattle.fs_model.specs.Machines.{Fsmd}
@@ -20,14 +21,14 @@ use Rattle.command_answers.specs.Pairs.{kept, left_of, right_of}
 abbrev pub NamesCycle : (a b : Fsmd) → Answer → Type 0
 NamesCycle a b answer = HasLines (IsCycleLine (machines a b)) Undecided answer
 
--- what may be answered where no stated candidate shows a difference and the search is left open: a certificate that is found beyond it and holds, by
--- its number of nodes and its text where that is to be stored; or the line of the search's obstacle
+-- what may be answered where no stated candidate shows a difference and the search is left open: a certificate that is found
+-- beyond it and holds, by its number of nodes and its text where that is to be stored; or the line of the search's obstacle
 pub data IsBeyond (a b : Fsmd) (answer : Answer) : Type 0 where
   Found : (nodes : List (Node Fact)) → IsFoundBeyond (machines a b) nodes → (keeps : Bool) → answer ≡ Equivalent (length nodes) (kept keeps (certificate_text a b nodes)) → IsBeyond a b answer
   NoneFound : HasLines (HasObstacle (machines a b)) Undecided answer → IsBeyond a b answer
 
--- two answers to two machines are one, or both are lines of a cycle; or the search of these machines is left open, and both say what may be
--- answered there
+-- two answers to two machines are one, or both are lines of a cycle; or the search of these machines is left open, and both say
+-- what may be answered there
 pub data AreOne (a b : Fsmd) (x y : Answer) : Type 0 where
   Equal : x ≡ y → AreOne a b x y
   NameCycles : NamesCycle a b x → NamesCycle a b y → AreOne a b x y

@@ -53,8 +53,8 @@ use search_laws::laws::{
     written_certificates_that_hold_are_read,
 };
 
-/// Two machines get at most one answer, but for the cycle that its line names, and but for what may be answered where no stated candidate shows a
-/// difference and the search is left open: any certificate that holds, or the line of the obstacle.
+/// Two machines get at most one answer, but for the cycle that its line names, and but for what may be answered where no stated
+/// candidate shows a difference and the search is left open: any certificate that holds, or the line of the obstacle.
 pub fn two_machines_get_one_answer()
     ensures { (limit : ℕ) (keeps : Bool) (a b : Fsmd) (x y : Answer) → IsOfPair limit keeps a b x → IsOfPair limit keeps a b y → AreOne a b x y }
 {}
@@ -94,9 +94,10 @@ pub fn a_file_spells_one_certificate()
     texts_are_read();
 }
 
-/// At most one answer follows from what was read of the files, where two readings agree on each file that both opened. So it is for a
-/// file that fails to be read, too. Of machines that are compared two lines may each name another cycle; and where no stated candidate shows a
-/// difference and the search is left open, each answer may be any certificate that holds, or the line of the obstacle.
+/// At most one answer follows from what was read of the files, where two readings agree on each file that both opened. So it is
+/// for a file that fails to be read, too. Of machines that are compared two lines may each name another cycle; and where no
+/// stated candidate shows a difference and the search is left open, each answer may be any certificate that holds, or the line of
+/// the obstacle.
 pub fn one_answer_follows()
     ensures compared { (o : Option Asked) (r s : Reading) (x y : Answer) → Agree o r s → Follows o r x → Follows o s y → SaySame o s x y }
     ensures uncompared { (o : Option Asked) (r s : Reading) (x y : Answer) → compares o ≡ false → Agree o r s → Follows o r x → Follows o s y → x ≡ y }
@@ -105,8 +106,8 @@ pub fn one_answer_follows()
     texts_are_read();
 }
 
-/// At most one answer is correct where the files that are named are settled up to the first that is refused; but of machines that are
-/// compared two may be correct as `one_answer_follows` says.
+/// At most one answer is correct where the files that are named are settled up to the first that is refused; but of machines that
+/// are compared two may be correct as `one_answer_follows` says.
 pub fn at_most_one_answer_is_correct()
     ensures compared { (g : Call) (x y : Answer) (p : IsCorrectAnswer g x) (q : IsCorrectAnswer g y) → AreSettled g p.reading q.reading → SaySame g.asked q.reading x y }
     ensures uncompared { (g : Call) (x y : Answer) → compares g.asked ≡ false → (p : IsCorrectAnswer g x) (q : IsCorrectAnswer g y) → AreSettled g p.reading q.reading → x ≡ y }
@@ -148,8 +149,8 @@ pub fn machines_are_answered()
 }
 
 /// Machines that are spelled get their answers: where neither the sink nor the store of the certificate failed, a call ends with
-/// an answer of theirs, as `machines_are_answered` says it, whose reply was put whole and whose status is the call's, or there was
-/// no memory.
+/// an answer of theirs, as `machines_are_answered` says it, whose reply was put whole and whose status is the call's, or there
+/// was no memory.
 pub fn machines_get_their_answers()
     ensures check { (g : Call) (p : Put) (a b : Fsmd) → is_check g.asked ≡ true → SpellPair g a b → NothingFailed g p → Outcome g p → EndsBy (IsOfPair (step_limit g.asked) (is_some (cert_of g.asked)) a b) g p }
     ensures verify { (g : Call) (p : Put) (a b : Fsmd) (nodes : List (Node Fact)) → is_verify g.asked ≡ true → SpellPair g a b → IsKnown g Third (SpellsCertificate a b nodes) → NothingFailed g p → Outcome g p → EndsBy (IsJudged a b nodes) g p }
@@ -174,8 +175,8 @@ pub fn comparisons_end_with_what_machines_get()
     ensures generate { (g : Call) (p : Put) (loops : ℕ) → g.asked ≡ Some (Generate loops) → NothingFailed g p → Outcome g p → IsTrue (is_of_comparison p.status) }
 {}
 
-/// A certificate that holds passes: where a file spells its nodes, and two others its machines, the answer is yes. So it is for each
-/// certificate that shows that two machines have the same behaviour.
+/// A certificate that holds passes: where a file spells its nodes, and two others its machines, the answer is yes. So it is for
+/// each certificate that shows that two machines have the same behaviour.
 pub fn certificates_that_hold_pass()
     ensures { (g : Call) (x : Answer) (a b : Fsmd) (nodes : List (Node Fact)) → is_verify g.asked ≡ true → SpellPair g a b → IsKnown g Third (SpellsCertificate a b nodes) → IsCertificate (machines a b) nodes → IsCorrectAnswer g x → x ≡ Text (codes "yes\n") }
 {
@@ -191,8 +192,8 @@ pub fn certificates_of_closed_searches_pass()
     certificates_that_hold_pass();
 }
 
-/// What is stored passes: where a file is the text of a certificate that shows that two machines have the same behaviour, and two others
-/// spell these machines, the answer is yes.
+/// What is stored passes: where a file is the text of a certificate that shows that two machines have the same behaviour, and two
+/// others spell these machines, the answer is yes.
 pub fn stored_certificates_pass()
     ensures { (g : Call) (x : Answer) (a b : Fsmd) (nodes : List (Node Fact)) → is_verify g.asked ≡ true → SpellPair g a b → IsKnown g Third (λ bytes. bytes ≡ certificate_text a b nodes) → ShowsSame (machines a b) nodes → IsCorrectAnswer g x → x ≡ Text (codes "yes\n") }
 {

@@ -41,7 +41,8 @@ pub record HasObstacle (m : Machines) (lines : List ℕ) : Type 0 where
   pub stops : StopsAt m moves points obstacle
   pub told : lines ≡ obstacle_text m moves points obstacle
 
--- an obstacle that leaves open whether the machines have the same behaviour: outputs that differ, or a machine alone in a cycle. Else it is a limit
+-- an obstacle that leaves open whether the machines have the same behaviour: outputs that differ, or a machine alone in a cycle.
+-- Else it is a limit
 abbrev pub is_open : Obstacle → Bool
 is_open (Stuck node output) = true
 is_open (Spin side cycle) = true
@@ -62,8 +63,8 @@ pub record IsFoundBeyond (m : Machines) (nodes : List (Node Fact)) : Type 0 wher
   pub left_open : IsLeftOpen m
   pub certificate : IsCertificate m nodes
 
--- which certificate shows that two machines have the same behaviour: one that holds. It is that of the search, which closes with it; or the
--- search is left open
+-- which certificate shows that two machines have the same behaviour: one that holds. It is that of the search, which closes with
+-- it; or the search is left open
 pub record ShowsSame (m : Machines) (nodes : List (Node Fact)) : Type 0 where
   pub certificate : IsCertificate m nodes
   pub found : IsClosedWith m nodes ⊎ IsLeftOpen m

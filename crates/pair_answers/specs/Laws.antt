@@ -31,8 +31,8 @@ pub record IsCycleLine (m : Machines) (line : List ℕ) : Type 0 where
   pub stops : StopsAt m moves points (Spin side cycle)
   pub told : line ≡ obstacle_text m moves points (Spin side cycle)
 
--- two answers say the same, but for the cycle that they name, and but for what is found beyond a search that is left open: there each may be
--- another certificate that holds, or an obstacle
+-- two answers say the same, but for the cycle that they name, and but for what is found beyond a search that is left open: there
+-- each may be another certificate that holds, or an obstacle
 abbrev pub SaySame : Machines → PairAnswer → PairAnswer → Type 0
 SaySame m (Equivalent c) (Equivalent d) = (map node_of c.nodes.items ≡ map node_of d.nodes.items) ⊎ (IsFoundBeyond m (map node_of c.nodes.items) × IsFoundBeyond m (map node_of d.nodes.items))
 SaySame m (Equivalent c) (Counterexample k) = ⊥

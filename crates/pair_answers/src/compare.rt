@@ -17,8 +17,8 @@ use fs_pair::positions::Pairing;
 use nf_terms::stop::NoMemory;
 use std::alloc::Global;
 
-// What two machines get that no certificate shows to have the same behaviour: by stated candidate inputs, and where none shows a difference by the
-// line of the obstacle of the search. The one refusal is out of memory.
+// What two machines get that no certificate shows to have the same behaviour: by stated candidate inputs, and where none shows a
+// difference by the line of the obstacle of the search. The one refusal is out of memory.
 fn try_candidates(
     alloc: Global,
     a: &Machine,
@@ -64,15 +64,15 @@ fn go_beyond(
     }
 }
 
-/// What two machines with the same inputs and outputs get: first by a search for a certificate; where that meets outputs that differ, or
-/// a machine alone in a cycle, by a second search, whose certificate is judged; and else by candidate inputs, with runs of at most so many
-/// steps.
+/// What two machines with the same inputs and outputs get: first by a search for a certificate; where that meets outputs that
+/// differ, or a machine alone in a cycle, by a second search, whose certificate is judged; and else by candidate inputs, with
+/// runs of at most so many steps.
 ///
-/// `Equivalent` comes where the first search closes, or where it is left open and all obligations of a certificate of the second search
-/// hold; then both have the same behaviour. `Counterexample` tells of the first stated candidate from which both runs end, within the steps and
-/// within 128 bits, and an output differs: `counterexample`, a line `NAME = VALUE` for each input, and both sides' outputs. Where no
-/// stated candidate shows a difference, `Undecided` names the obstacle of the first search, in one line. Where a limit stops the first search,
-/// there is no second one. The one refusal is out of memory.
+/// `Equivalent` comes where the first search closes, or where it is left open and all obligations of a certificate of the second
+/// search hold; then both have the same behaviour. `Counterexample` tells of the first stated candidate from which both runs end,
+/// within the steps and within 128 bits, and an output differs: `counterexample`, a line `NAME = VALUE` for each input, and both
+/// sides' outputs. Where no stated candidate shows a difference, `Undecided` names the obstacle of the first search, in one line.
+/// Where a limit stops the first search, there is no second one. The one refusal is out of memory.
 pub fn compare(
     alloc: Global,
     a: &Machine,

@@ -10,8 +10,8 @@ use Rattle.normal_certificates.specs.Kept.{AreNormal}
 use Rattle.cert_writer.specs.Limits.{units_of}
 use Rattle.search_tables.specs.Tables.{Machines, positions_of, most_units}
 
--- the nodes are a certificate of two sound machines that holds: it is lawful, its facts are in normal form and have together at most
--- 4,000,000 units, and all its obligations hold
+-- the nodes are a certificate of two sound machines that holds: it is lawful, its facts are in normal form and have together at
+-- most 4,000,000 units, and all its obligations hold
 pub record IsCertificate (m : Machines) (nodes : List (Node Fact)) : Type 0 where
   pub left_sound : IsSound m.left
   pub right_sound : IsSound m.right
