@@ -138,7 +138,7 @@ pub closed_not_open : ClosedIsNotOpen
 closed_not_open m cs x y = not_both m cs x y
 
 pub limit_not_open : LimitIsNotOpen
-limit_not_open m moves points o x limit y = false≢true (sym limit ∙ both_open o y.obstacle (one_obstacle m moves y.moves points y.points o y.obstacle x y.stops) ∙ y.open)
+limit_not_open m moves points o x limit y = false≢true (sym limit ∙ both_open o y.obstacle (one_obstacle m moves y.moves points y.points o y.obstacle x y.stops) ∙ y.leaves_open)
 
 -- ---- answers
 

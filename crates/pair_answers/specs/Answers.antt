@@ -56,7 +56,7 @@ pub record IsLeftOpen (m : Machines) : Type 0 where
   pub points : List Points
   pub obstacle : Obstacle
   pub stops : StopsAt m moves points obstacle
-  pub open : IsTrue (is_open obstacle)
+  pub leaves_open : IsTrue (is_open obstacle)
 
 -- the nodes are found beyond the search, which is left open, and are judged: they are a certificate that holds
 pub record IsFoundBeyond (m : Machines) (nodes : List (Node Fact)) : Type 0 where

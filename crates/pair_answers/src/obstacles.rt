@@ -134,13 +134,13 @@ fn large_line(
     operation_line(alloc, a, b, b"term too large", points, at)
 }
 
-fn open(line: Result<Vec<u8>, NoMemory>) -> Result<Found, NoMemory>
+fn open_found(line: Result<Vec<u8>, NoMemory>) -> Result<Found, NoMemory>
     ensures { result ≡ result_map_both Open (λ e. e) line }
 {
     Ok(Found::Open(line?))
 }
 
-fn limit(line: Result<Vec<u8>, NoMemory>) -> Result<Found, NoMemory>
+fn limit_found(line: Result<Vec<u8>, NoMemory>) -> Result<Found, NoMemory>
     ensures { result ≡ result_map_both Limit (λ e. e) line }
 {
     Ok(Found::Limit(line?))
@@ -158,29 +158,29 @@ fn found_in(alloc: Global, a: &Machine, b: &Machine, outcome: Outcome) -> Result
             points,
             node: _node,
             var,
-        } => open(stuck_line(alloc, a, b, moves.as_slice(), points.as_slice(), var)),
+        } => open_found(stuck_line(alloc, a, b, moves.as_slice(), points.as_slice(), var)),
         Outcome::Spin {
             moves: _moves,
             points,
             side,
             cycle,
-        } => open(spin_line(alloc, a, b, points.as_slice(), side, cycle.as_slice())),
+        } => open_found(spin_line(alloc, a, b, points.as_slice(), side, cycle.as_slice())),
         Outcome::Wide {
             moves: _moves,
             points,
             at,
-        } => limit(wide_line(alloc, a, b, points.as_slice(), at)),
+        } => limit_found(wide_line(alloc, a, b, points.as_slice(), at)),
         Outcome::Large {
             moves: _moves,
             points,
             at,
-        } => limit(large_line(alloc, a, b, points.as_slice(), at)),
+        } => limit_found(large_line(alloc, a, b, points.as_slice(), at)),
         Outcome::Exhausted {
             moves: _moves,
             points: _points,
             at: _at,
             what,
-        } => limit(line_over(alloc, what)),
+        } => limit_found(line_over(alloc, what)),
     }
 }
 
