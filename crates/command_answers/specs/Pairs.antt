@@ -7,24 +7,25 @@ use Rattle.fs_generated.specs.Generated.{left_source, right_source}
 use Rattle.bisimulation.specs.Tables.{Node}
 use Rattle.sym_facts.specs.Facts.{Fact}
 use Rattle.cert_writer.specs.Written.{certificate_text}
-use Rattle.search.specs.Answers.{machines, IsClosedWith}
-use Rattle.pair_answers.specs.Answers.{IsCounterexample, IsUndecided}
+use Rattle.search.specs.Answers.{machines}
+use Rattle.pair_answers.specs.Answers.{ShowsSame, IsCounterexample, IsUndecided}
 use Rattle.command_answers.specs.declared.answer.Answer.{Answer}
 use Rattle.command_answers.specs.declared.answer.Answer.TheVariants.{Equivalent, Differs, Undecided}
 use Rattle.command_answers.specs.Lines.{HasLines}
 use Rattle.command_answers.specs.Words.{generated_steps}
 
--- the certificate of a closed search shows that two machines have the same behaviour
+-- a certificate that holds shows that two machines have the same behaviour
 pub record AreSame (a b : Fsmd) (nodes : List (Node Fact)) : Type 0 where
-  pub closed : IsClosedWith (machines a b) nodes
+  pub shows : ShowsSame (machines a b) nodes
   pub same : SameBehaviour a b
 
 -- the text of a certificate, where it is to be stored
 abbrev pub kept : Bool → List ℕ → Option (List ℕ)
 kept keeps text = if keeps then Some text else None
 
--- the answer to two machines with the same inputs and outputs, of runs of at most so many steps, and with the text of the certificate where
--- that is to be stored: by the search, where it closes; else by the candidates; and where none shows a difference, by the search's obstacle
+-- the answer to two machines with the same inputs and outputs, of runs of at most so many steps, and with the text of the
+-- certificate where that is to be stored: by a certificate that holds; by the first stated candidate that shows a difference; or,
+-- where none does, by the search's obstacle
 pub data IsOfPair (limit : ℕ) (keeps : Bool) (a b : Fsmd) (answer : Answer) : Type 0 where
   Same : (nodes : List (Node Fact)) → AreSame a b nodes → answer ≡ Equivalent (length nodes) (kept keeps (certificate_text a b nodes)) → IsOfPair limit keeps a b answer
   Apart : HasLines (IsCounterexample limit a b) Differs answer → IsOfPair limit keeps a b answer

@@ -57,9 +57,9 @@ fn equivalent(
     Ok(Answer::Equivalent { nodes, cert })
 }
 
-/// What is answered of two machines with the same inputs and outputs: by the search for a certificate, and where it does not
-/// close, by runs of at most so many steps from candidate inputs. The text of the certificate comes with the answer
-/// where `keeps` says so. The one refusal is out of memory.
+/// What is answered of two machines with the same inputs and outputs: by a certificate that holds, and where none is found, by
+/// runs of at most so many steps from candidate inputs. The text of the certificate comes with the answer where `keeps` says so.
+/// The one refusal is out of memory.
 pub fn compare(
     alloc: Global,
     a: &Machine,

@@ -98,7 +98,8 @@ says_same g p a e t =
       right = c.right;
       paired = c.paired;
       nodes = k.nodes;
-      closed = k.same.closed;
+      shows = k.same.shows;
+      holds = k.same.shows.certificate;
       same = k.same.same;
       put = put_lines g p a.answer (equivalent_text (length k.nodes)) w.got (ap (λ x. lines_of x g.asked) k.is);
       stored = λ name named. w.stored (entry name (certificate_text c.left c.right k.nodes)) (stores_text g.asked a.answer (length k.nodes) (certificate_text c.left c.right k.nodes) name k.is named);
@@ -192,7 +193,7 @@ named_compares (Some (Compile program)) name e = absurd (cc)
 named_compares (Some (Schedule machine units)) name e = absurd (cc)
 named_compares (Some (Bind machine binding)) name e = absurd (cc)
 
--- what is to be stored is the text of a closed search's certificate
+-- what is to be stored is the text of a certificate that shows that the machines have the same behaviour
 record IsOfSearch (g : Call) (x : Entry) : Type 0 where
   named : cert_of g.asked ≡ Some x.name
   left : Fsmd
@@ -224,5 +225,5 @@ of_search g y x c e =
 
 pub keeps_files : (g : Call) (y : Answer) → IsCorrectAnswer g y → Leaves (to_store g.asked y) (stores g.before g.now) → KeepsFiles g
 keeps_files g y c (LeftAlone k) = AllKept k
-keeps_files g y c (LeftStored x e h) = let o = of_search g y x c e in CertificateStored x.name o.named o.left o.right o.paired o.nodes o.same.closed (subst (λ t. IsStored x.name t (stores g.before g.now)) o.text h)
-keeps_files g y c (LeftUnstored x e h) = let o = of_search g y x c e in CertificateFailed x.name o.named o.left o.right o.paired o.nodes o.same.closed h
+keeps_files g y c (LeftStored x e h) = let o = of_search g y x c e in CertificateStored x.name o.named o.left o.right o.paired o.nodes o.same.shows (subst (λ t. IsStored x.name t (stores g.before g.now)) o.text h)
+keeps_files g y c (LeftUnstored x e h) = let o = of_search g y x c e in CertificateFailed x.name o.named o.left o.right o.paired o.nodes o.same.shows h

@@ -11,8 +11,9 @@ use Rattle.bisimulation.specs.Tables.{Node}
 use Rattle.sym_facts.specs.Facts.{Fact}
 use Rattle.certificates.specs.Obligations.{Yes}
 use Rattle.cert_writer.specs.Written.{certificate_text}
-use Rattle.search.specs.Answers.{machines, IsClosedWith}
-use Rattle.pair_answers.specs.Answers.{IsCounterexample, IsUndecided}
+use Rattle.search.specs.Answers.{machines}
+use Rattle.search_laws.specs.Certificates.{IsCertificate}
+use Rattle.pair_answers.specs.Answers.{ShowsSame, IsCounterexample, IsUndecided}
 use Rattle.command_answers.specs.declared.answer.Operand.{Operand}
 use Rattle.command_answers.specs.declared.answer.Operand.TheVariants.{First, Second, Third}
 use Rattle.command_answers.specs.Words.{names, cert_of, is_check, step_limit}
@@ -33,7 +34,8 @@ use Rattle.fsmd_tool.specs.Calls.{Call, held, FailedToRead, MayHold}
 use Rattle.fsmd_tool.specs.Puts.{Put}
 use Rattle.fsmd_tool.specs.Stores.{stores, IsKept, IsStored, IsUnstored}
 
--- two machines are compared: those that the first two files of a check spell, each where it is known what it holds, or those of so many loops
+-- two machines are compared: those that the first two files of a check spell, each where it is known what it holds, or those of
+-- so many loops
 pub data AreCompared (g : Call) (a b : Fsmd) : Type 0 where
   OfFiles : IsTrue (is_check g.asked) → MayHold (held g First) (SpellsMachine a) → MayHold (held g Second) (SpellsMachine b) → AreCompared g a b
   OfLoops : (loops : ℕ) → g.asked ≡ Some (Generate loops) → a ≡ left_of loops → b ≡ right_of loops → AreCompared g a b
@@ -47,18 +49,21 @@ pub record ArePaired (g : Call) (a b : Fsmd) : Type 0 where
 abbrev pub HasPut : Call → Put → List ℕ → Type 0
 HasPut g p lines = p.got_now ≡ appended p.got_before (opening g.asked ++ lines)
 
--- a closed search's certificate shows that the machines have the same behaviour; its number of nodes was put, and it was stored where that is asked
+-- a certificate shows that the machines have the same behaviour: that of a closed search, or one that was found beyond a search
+-- that is left open, and judged. It holds: it is lawful, within the limits, and all its obligations hold. Its number of nodes was
+-- put, and it was stored where that is asked
 pub record SaysSame (g : Call) (p : Put) : Type 0 where
   pub left : Fsmd
   pub right : Fsmd
   pub paired : ArePaired g left right
   pub nodes : List (Node Fact)
-  pub closed : IsClosedWith (machines left right) nodes
+  pub shows : ShowsSame (machines left right) nodes
+  pub holds : IsCertificate (machines left right) nodes
   pub same : SameBehaviour left right
   pub put : HasPut g p (equivalent_text (length nodes))
   pub stored : (name : List ℕ) → cert_of g.asked ≡ Some name → IsStored name (certificate_text left right nodes) (stores g.before g.now)
 
--- runs of the machines from the first candidate that shows a difference end with other outputs, which was put
+-- runs of the machines from the first stated candidate that shows a difference end with other outputs, which was put
 pub record SaysDiffer (g : Call) (p : Put) : Type 0 where
   pub left : Fsmd
   pub right : Fsmd
@@ -67,7 +72,7 @@ pub record SaysDiffer (g : Call) (p : Put) : Type 0 where
   pub shows : IsCounterexample (step_limit g.asked) left right lines
   pub put : HasPut g p lines
 
--- no candidate shows a difference of the machines, and a legal list of moves stops at an obstacle, which was put
+-- no stated candidate shows a difference of the machines, and a legal list of moves stops at an obstacle, which was put
 pub record SaysUndecided (g : Call) (p : Put) : Type 0 where
   pub left : Fsmd
   pub right : Fsmd
@@ -76,8 +81,8 @@ pub record SaysUndecided (g : Call) (p : Put) : Type 0 where
   pub is_undecided : IsUndecided (step_limit g.asked) left right lines
   pub put : HasPut g p lines
 
--- the first two files spell machines with the same inputs and outputs and the third a lawful certificate of theirs, each where it is known what
--- it holds; all its obligations hold, and the machines have the same behaviour
+-- the first two files spell machines with the same inputs and outputs and the third a lawful certificate of theirs, each where it
+-- is known what it holds; all its obligations hold, and the machines have the same behaviour
 pub record IsChecked (g : Call) (p : Put) : Type 0 where
   pub left : Fsmd
   pub right : Fsmd
@@ -98,8 +103,8 @@ pub record IsCompiled (g : Call) (p : Put) : Type 0 where
   pub is : IsCompiledText program text
   pub put : HasPut g p text
 
--- the first file spells parts and the second unit counts, each where it is known what it holds; the text of the parts' schedule under these was
--- put
+-- the first file spells parts and the second unit counts, each where it is known what it holds; the text of the parts' schedule
+-- under these was put
 pub record IsInRows (g : Call) (p : Put) : Type 0 where
   pub parts : Source
   pub units : Units
@@ -109,8 +114,8 @@ pub record IsInRows (g : Call) (p : Put) : Type 0 where
   pub is : IsScheduleText units parts text
   pub put : HasPut g p text
 
--- the first file spells parts and the second a binding of their machine, each where it is known what it holds; the text of the parts with
--- registers was put
+-- the first file spells parts and the second a binding of their machine, each where it is known what it holds; the text of the
+-- parts with registers was put
 pub record IsInRegisters (g : Call) (p : Put) : Type 0 where
   pub parts : Source
   pub binding : Binding
@@ -120,12 +125,13 @@ pub record IsInRegisters (g : Call) (p : Put) : Type 0 where
   pub is : IsBoundText parts binding text
   pub put : HasPut g p text
 
--- no file was changed but the one for a certificate, and that only where a closed search made one: it was stored, or that failed
+-- no file was changed but the one for a certificate, and that only where one shows that the machines that are compared have the
+-- same behaviour: it was stored, or that failed
 pub data KeepsFiles (g : Call) : Type 0 where
   AllKept : IsKept (stores g.before g.now) → KeepsFiles g
-  CertificateStored : (name : List ℕ) → cert_of g.asked ≡ Some name → (a b : Fsmd) → ArePaired g a b → (nodes : List (Node Fact)) → IsClosedWith (machines a b) nodes
+  CertificateStored : (name : List ℕ) → cert_of g.asked ≡ Some name → (a b : Fsmd) → ArePaired g a b → (nodes : List (Node Fact)) → ShowsSame (machines a b) nodes
       → IsStored name (certificate_text a b nodes) (stores g.before g.now) → KeepsFiles g
-  CertificateFailed : (name : List ℕ) → cert_of g.asked ≡ Some name → (a b : Fsmd) → ArePaired g a b → (nodes : List (Node Fact)) → IsClosedWith (machines a b) nodes
+  CertificateFailed : (name : List ℕ) → cert_of g.asked ≡ Some name → (a b : Fsmd) → ArePaired g a b → (nodes : List (Node Fact)) → ShowsSame (machines a b) nodes
       → IsUnstored name (stores g.before g.now) → KeepsFiles g
 
 -- a file that is named to be read failed to be read, the certificate failed to be stored, or the sink failed

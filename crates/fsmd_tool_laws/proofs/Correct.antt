@@ -10,7 +10,8 @@ use Rattle.fs_rules.specs.Spelled.{machine_of}
 use Rattle.unit_counts.specs.Counts.{Units}
 use Rattle.bisimulation.specs.Tables.{Node}
 use Rattle.sym_facts.specs.Facts.{Fact}
-use Rattle.search.specs.Answers.{machines, IsClosedWith}
+use Rattle.search.specs.Answers.{machines}
+use Rattle.search_laws.specs.Certificates.{IsCertificate}
 use Rattle.command_answers.specs.declared.answer.Operand.{Operand}
 use Rattle.command_answers.specs.declared.answer.Operand.TheVariants.{First, Second, Third}
 use Rattle.command_answers.specs.declared.answer.KeyFault.{KeyFault}
@@ -36,7 +37,7 @@ use Rattle.fsmd_tool.specs.Calls.{Call, held, FailedToRead, MayBeRead, MayRead}
 use Rattle.fsmd_tool.specs.Correct.{IsCorrectAnswer}
 use Rattle.fsmd_tool_laws.specs.Agreement.{Agree}
 use Rattle.fsmd_tool_laws.specs.Settled.{Settles, AreSettled, IsKnown, SpellPair}
-use Rattle.fsmd_tool_laws.specs.Cycles.{SaySame}
+use Rattle.fsmd_tool_laws.specs.OneAnswer.{SaySame}
 use Rattle.fsmd_tool_laws.proofs.Contents.{bytes_opened}
 use Rattle.fsmd_tool_laws.proofs.Keys.{AreOneThing, follows_opened, spelled_answered}
 use Rattle.fsmd_tool_laws.proofs.Inputs.{inputs_are_one}
@@ -209,9 +210,9 @@ bind_answered g x machine registers parts b e k u p =
     keys_answered Binding (HasBindingFault m) (SpellsBinding m) (bindings_are_one m) (IsOfBinding parts) Second p.reading.second (Readable u.bytes) b x (known_read g p.reading Second (SpellsBinding m b) u p.may_be_read) u.meet
     (parts_answered ForBind g parts k p.reading x p.may_be_read f)
 
--- ---- certificates of closed searches
+-- ---- certificates that hold
 
--- nodes that a closed search certifies are judged to pass
-pub closed_pass : (w : ReadInOneWay) → (g : Call) (x : Answer) (a b : Fsmd) (nodes : List (Node Fact)) → is_verify g.asked ≡ true → SpellPair g a b → IsKnown g Third (SpellsCertificate a b nodes) → IsClosedWith (machines a b) nodes → IsCorrectAnswer g x
+-- the nodes of a certificate that holds are judged to pass
+pub certificate_passes : (w : ReadInOneWay) → (g : Call) (x : Answer) (a b : Fsmd) (nodes : List (Node Fact)) → is_verify g.asked ≡ true → SpellPair g a b → IsKnown g Third (SpellsCertificate a b nodes) → IsCertificate (machines a b) nodes → IsCorrectAnswer g x
     → x ≡ Text (codes "yes\n")
-closed_pass w g x a b nodes e k n closed p = let j = certificate_judged w g x a b nodes e k n p in j.is ∙ ap (answer_to a b) closed.hold
+certificate_passes w g x a b nodes e k n holds p = let j = certificate_judged w g x a b nodes e k n p in j.is ∙ ap (answer_to a b) holds.hold

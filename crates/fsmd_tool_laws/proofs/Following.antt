@@ -1,5 +1,5 @@
--- At most one answer follows from what was read, but for the cycle that it names.
-use Rattle.std.proofs.Common.{◌≡◌, ⊎_elim, ℕ, List, Option, Some, None, Bool, true, false, refl, sym, ◌∙◌, ap, subst}
+-- At most one answer follows from what was read, but for what may be answered of two machines that are compared.
+use Rattle.std.proofs.Common.{◌≡◌, ℕ, List, Option, Some, None, Bool, true, false, refl, sym, ◌∙◌, ap, subst}
 use Rattle.std.specs.Prelude.{is_some, IsTrue}
 use Rattle.command_words.specs.Words.{Asked, Check, Verify, Run, Replay, Fmt, Cuts, Generate, Compile, Schedule, Bind}
 use Rattle.fs_model.specs.Machines.{Fsmd}
@@ -30,7 +30,7 @@ use Rattle.command_answers.specs.Runs.{IsOfRun}
 use Rattle.command_answers.specs.Replays.{IsOfReplay}
 use Rattle.command_answers.specs.Follows.{FollowsForText, TextRefused, Listed, FollowsForParts, PartsRefused, PartsSpelled, FollowsFromCertificate, FollowsForRun, MachineRefused, Ran, FollowsForPair, PairRefused, Answered, ForCheck, ForVerify, ForReplay, Follows}
 use Rattle.fsmd_tool_laws.specs.Agreement.{IsOpened, Agree}
-use Rattle.fsmd_tool_laws.specs.Cycles.{AreOne, AreCompared, OfFiles, OfLoops, SaySame, One, Cycles}
+use Rattle.fsmd_tool_laws.specs.OneAnswer.{AreCompared, OfFiles, OfLoops, SaySame, One, OfPair}
 use Rattle.fsmd_tool_laws.proofs.Contents.{some_same, some_none, of_both, bytes_opened}
 use Rattle.fsmd_tool_laws.proofs.Texts.{spells_once, parts_once, canonical_once, canonical_machine, paths_once}
 use Rattle.fsmd_tool_laws.proofs.Files.{refused_opened, machine_once, machine_or_refused, some_or_refused}
@@ -207,14 +207,10 @@ run_once limit r s x y e f (Ran m h p o) (Ran n k q u) =
     let same : m ≡ n = machine_same r.first s.first m n e h k in
     inputs_once (IsOfRun limit n) (run_answer_once limit n) n Second r.second s.second x y f (subst (λ o. FollowsFromInputs (IsOfRun limit o) o Second r.second x) same p) q
 
--- answers to two machines that are compared are one, or name cycles of theirs
-compared_once : (o : Option Asked) (r : Reading) (a b : Fsmd) (x y : Answer) → AreCompared o r a b → AreOne a b x y → SaySame o r x y
-compared_once o r a b x y c h = ⊎_elim (λ e. One e) (λ d. Cycles a b c d.0 d.1) h
-
 check_once : (o : Option Asked) (limit : ℕ) (keeps : Bool) (r s : Reading) (x y : Answer) → IsTrue (is_check o) → Same r.first s.first → Same r.second s.second
     → FollowsForPair (ForCheck limit keeps) r x → FollowsForPair (ForCheck limit keeps) s y → SaySame o s x y
 check_once o limit keeps r s x y checks e f p q =
-    pair_follows (ForCheck limit keeps) (SaySame o s x y) r s x y e f (λ h. One h) (λ m n c u v. compared_once o s m n x y (OfFiles checks c) (pair_once limit keeps m n x y u.says v.says)) p q
+    pair_follows (ForCheck limit keeps) (SaySame o s x y) r s x y e f (λ h. One h) (λ m n c u v. OfPair m n (OfFiles checks c) (pair_once limit keeps m n x y u.says v.says)) p q
 
 verified_once : (w : ReadInOneWay) → (a b : Fsmd) (c d : Content) (x y : Answer) → Same c d → FollowsFromCertificate a b Third c x → FollowsFromCertificate a b Third d y → x ≡ y
 verified_once w a b c d x y e p q = judged_once w a b Third d x y (subst (λ k. FollowsFromCertificate a b Third k x) (e (judged_opened a b Third c x p) (judged_opened a b Third d y q)) p) q
@@ -238,7 +234,7 @@ follows_from_one w (Some (Compile program)) r s x y a p q = One (text_once (Refu
 follows_from_one w (Some (Schedule machine units)) r s x y a p q = One (parts_follow ForSchedule schedules_once r s x y (a.agree First refl) (a.agree Second refl) p q)
 follows_from_one w (Some (Bind machine binding)) r s x y a p q = One (parts_follow ForBind bindings_once r s x y (a.agree First refl) (a.agree Second refl) p q)
 follows_from_one w (Some (Generate loops)) r s x y a p q =
-    compared_once (Some (Generate loops)) s (left_of loops) (right_of loops) x y (OfLoops loops refl refl refl) (pair_once generated_steps false (left_of loops) (right_of loops) x y p.says q.says)
+    OfPair (left_of loops) (right_of loops) (OfLoops loops refl refl refl) (pair_once generated_steps false (left_of loops) (right_of loops) x y p.says q.says)
 
 -- ---- what compares no machines
 
@@ -264,4 +260,4 @@ true_false b e f = let g : true ≡ false = sym e ∙ f in cc
 
 pub uncompared_one : (o : Option Asked) (r : Reading) (x y : Answer) → compares o ≡ false → SaySame o r x y → x ≡ y
 uncompared_one o r x y e (One h) = h
-uncompared_one o r x y e (Cycles a b c p q) = absurd (true_false (compares o) (compared_compares o r a b c) e)
+uncompared_one o r x y e (OfPair a b c p) = absurd (true_false (compares o) (compared_compares o r a b c) e)

@@ -22,7 +22,7 @@ use Rattle.fsmd_tool.specs.Calls.{Call, held, FailedToRead, MayBeRead, MayRead}
 use Rattle.fsmd_tool.specs.Correct.{IsCorrectAnswer}
 use Rattle.fsmd_tool_laws.specs.Agreement.{IsOpened}
 use Rattle.fsmd_tool_laws.specs.Settled.{Settles, IsSettled, AreSettled, IsKnown, read_of, IsRefused, AreSettledUpToRefused, AllSettled, FirstIsRefused, SecondIsRefused, OthersAreSpelled}
-use Rattle.fsmd_tool_laws.specs.Cycles.{SaySame}
+use Rattle.fsmd_tool_laws.specs.OneAnswer.{SaySame}
 use Rattle.fsmd_tool_laws.proofs.Certificates.{ReadInOneWay}
 use Rattle.fsmd_tool_laws.proofs.Following.{Same, machine_not_refused, some_not_refused, parts_not_refused, other_interface}
 use Rattle.fsmd_tool_laws.proofs.Correct.{may_be_read, known_read, correct_once, correct_one}

@@ -1,4 +1,4 @@
--- What is stored of a closed search passes.
+-- What is stored of a certificate that holds passes.
 use Rattle.std.proofs.Common.{◌≡◌, ◌≤◌, List, length, true, sym, subst}
 use Rattle.std.specs.Prelude.{codes}
 use Rattle.fs_model.specs.Machines.{Fsmd}
@@ -7,7 +7,8 @@ use Rattle.sym_facts.specs.Facts.{Fact}
 use Rattle.cert_writer.specs.Limits.{most_certificate_bytes}
 use Rattle.cert_text.specs.Refusals.{SpellsNodes}
 use Rattle.cert_writer.specs.Written.{certificate_text}
-use Rattle.search.specs.Answers.{machines, IsClosedWith}
+use Rattle.search.specs.Answers.{machines}
+use Rattle.search_laws.specs.Certificates.{IsCertificate}
 use Rattle.command_answers.specs.declared.answer.Operand.TheVariants.{Third}
 use Rattle.command_answers.specs.declared.answer.Answer.{Answer}
 use Rattle.command_answers.specs.declared.answer.Answer.TheVariants.{Text}
@@ -17,21 +18,21 @@ use Rattle.fsmd_tool.specs.Calls.{Call}
 use Rattle.fsmd_tool.specs.Correct.{IsCorrectAnswer}
 use Rattle.fsmd_tool_laws.specs.Settled.{IsKnown, SpellPair}
 use Rattle.fsmd_tool_laws.proofs.Certificates.{ReadInOneWay}
-use Rattle.fsmd_tool_laws.proofs.Correct.{closed_pass}
+use Rattle.fsmd_tool_laws.proofs.Correct.{certificate_passes}
 
--- bytes that are the text of a closed search's certificate spell it
-stored_spells : (g : Call) (a b : Fsmd) (nodes : List (Node Fact)) → length (certificate_text a b nodes) ≤ most_certificate_bytes → SpellsNodes a b (certificate_text a b nodes) nodes → IsClosedWith (machines a b) nodes
+-- bytes that are the text of a certificate that holds spell it
+stored_spells : (g : Call) (a b : Fsmd) (nodes : List (Node Fact)) → length (certificate_text a b nodes) ≤ most_certificate_bytes → SpellsNodes a b (certificate_text a b nodes) nodes → IsCertificate (machines a b) nodes
     → IsKnown g Third (λ bytes. bytes ≡ certificate_text a b nodes) → IsKnown g Third (SpellsCertificate a b nodes)
-stored_spells g a b nodes few spells closed k = record {
+stored_spells g a b nodes few spells holds k = record {
   bytes = k.bytes;
   known = k.known;
-  meet = subst (SpellsCertificate a b nodes) (sym k.meet) (record { few = few; spells = spells; lawful = closed.lawful });
+  meet = subst (SpellsCertificate a b nodes) (sym k.meet) (record { few = few; spells = spells; lawful = holds.lawful });
   was_read = k.was_read;
 }
 
-pub stored_pass : (w : ReadInOneWay) → (small : (a b : Fsmd) (nodes : List (Node Fact)) → IsClosedWith (machines a b) nodes → length (certificate_text a b nodes) ≤ most_certificate_bytes)
-    → (spelled : (a b : Fsmd) (nodes : List (Node Fact)) → IsClosedWith (machines a b) nodes → SpellsNodes a b (certificate_text a b nodes) nodes)
-    → (g : Call) (x : Answer) (a b : Fsmd) (nodes : List (Node Fact)) → is_verify g.asked ≡ true → SpellPair g a b → IsKnown g Third (λ bytes. bytes ≡ certificate_text a b nodes) → IsClosedWith (machines a b) nodes → IsCorrectAnswer g x
+pub stored_pass : (w : ReadInOneWay) → (small : (a b : Fsmd) (nodes : List (Node Fact)) → IsCertificate (machines a b) nodes → length (certificate_text a b nodes) ≤ most_certificate_bytes)
+    → (spelled : (a b : Fsmd) (nodes : List (Node Fact)) → IsCertificate (machines a b) nodes → SpellsNodes a b (certificate_text a b nodes) nodes)
+    → (g : Call) (x : Answer) (a b : Fsmd) (nodes : List (Node Fact)) → is_verify g.asked ≡ true → SpellPair g a b → IsKnown g Third (λ bytes. bytes ≡ certificate_text a b nodes) → IsCertificate (machines a b) nodes → IsCorrectAnswer g x
     → x ≡ Text (codes "yes\n")
-stored_pass w small spelled g x a b nodes e pair known closed p =
-    closed_pass w g x a b nodes e pair (stored_spells g a b nodes (small a b nodes closed) (spelled a b nodes closed) closed known) closed p
+stored_pass w small spelled g x a b nodes e pair known holds p =
+    certificate_passes w g x a b nodes e pair (stored_spells g a b nodes (small a b nodes holds) (spelled a b nodes holds) holds known) holds p

@@ -1,4 +1,4 @@
 pub mod Agreement
-pub mod Cycles
+pub mod OneAnswer
 pub mod Settled
 pub mod Outcomes

@@ -9,14 +9,15 @@ ghost use Rattle.fs_model.specs.Source.{Source};
 ghost use Rattle.fs_rules.specs.Spelled.{machine_of};
 ghost use Rattle.fs_grammar.specs.declared.fault.TextFault.{TextFault};
 ghost use Rattle.fs_rules.specs.declared.check.CheckFault.{CheckFault};
-ghost use Rattle.fs_trials.specs.Pool.{pool_of};
-ghost use Rattle.fs_trials.specs.Candidates.{candidate_count};
+ghost use Rattle.fs_trials.specs.Candidates.{stated_count};
 ghost use Rattle.fs_trials.specs.Differences.{DiffersAt};
 ghost use Rattle.bisimulation.specs.Tables.{Node};
 ghost use Rattle.sym_facts.specs.Facts.{Fact};
 ghost use Rattle.cert_text.specs.declared.faults.CertError.{CertError};
 ghost use Rattle.cert_writer.specs.Written.{certificate_text};
 ghost use Rattle.search.specs.Answers.{machines, IsClosedWith};
+ghost use Rattle.search_laws.specs.Certificates.{IsCertificate};
+ghost use Rattle.pair_answers.specs.Answers.{ShowsSame};
 ghost use Rattle.command_answers.specs.declared.answer.Operand.TheVariants.{First, Second, Third};
 ghost use Rattle.command_answers.specs.declared.answer.Status.TheVariants.{Differ};
 ghost use Rattle.command_answers.specs.declared.answer.Answer.{Answer};
@@ -43,22 +44,24 @@ ghost use Rattle.fsmd_tool.specs.Puts.{Put};
 ghost use Rattle.fsmd_tool.specs.Correct.{IsCorrectAnswer, Outcome};
 ghost use Rattle.fsmd_tool_laws.specs.Agreement.{Agree};
 ghost use Rattle.fsmd_tool_laws.specs.Settled.{AreSettled, IsKnown, SpellPair, AreSettledUpToRefused};
-ghost use Rattle.fsmd_tool_laws.specs.Cycles.{AreOne, SaySame};
+ghost use Rattle.fsmd_tool_laws.specs.OneAnswer.{AreOne, SaySame};
 ghost use Rattle.fsmd_tool_laws.specs.Outcomes.{NothingFailed, is_of_comparison, EndsBy};
 
 use cert_text::laws::{certificates_are_read_in_one_way, texts_are_read};
 use search_laws::laws::{
-    certificates_of_closed_searches_are_small, written_certificates_of_closed_searches_are_read,
+    certificates_of_closed_searches_hold, certificates_that_hold_are_small,
+    written_certificates_that_hold_are_read,
 };
 
-/// Two machines get at most one answer, but for the cycle that its line names.
+/// Two machines get at most one answer, but for the cycle that its line names, and but for what may be answered where no stated
+/// candidate shows a difference and the search is left open: any certificate that holds, or the line of the obstacle.
 pub fn two_machines_get_one_answer()
     ensures { (limit : ℕ) (keeps : Bool) (a b : Fsmd) (x y : Answer) → IsOfPair limit keeps a b x → IsOfPair limit keeps a b y → AreOne a b x y }
 {}
 
-/// Where a candidate shows a difference of two machines, that is what they get: their status is `Differ`.
+/// Where a stated candidate shows a difference of two machines, that is what they get: their status is `Differ`.
 pub fn differences_are_told()
-    ensures { (limit : ℕ) (keeps : Bool) (a b : Fsmd) (x : Answer) (j : ℕ) → j < candidate_count (pool_of a b) → DiffersAt a b limit j → IsOfPair limit keeps a b x → status_of x ≡ Differ }
+    ensures { (limit : ℕ) (keeps : Bool) (a b : Fsmd) (x : Answer) (j : ℕ) → j < stated_count a b → DiffersAt a b limit j → IsOfPair limit keeps a b x → status_of x ≡ Differ }
 {}
 
 /// A file spells at most one machine, with one canonical text and one list of paths, and is then no file with a
@@ -91,9 +94,10 @@ pub fn a_file_spells_one_certificate()
     texts_are_read();
 }
 
-/// At most one answer follows from what was read of the files, where two readings agree on each file that both
-/// opened; but two lines may each name another cycle of the machines that are compared. So it is for a file that fails
-/// to be read, too.
+/// At most one answer follows from what was read of the files, where two readings agree on each file that both opened. So it is
+/// for a file that fails to be read, too. Of machines that are compared two lines may each name another cycle; and where no
+/// stated candidate shows a difference and the search is left open, each answer may be any certificate that holds, or the line of
+/// the obstacle.
 pub fn one_answer_follows()
     ensures compared { (o : Option Asked) (r s : Reading) (x y : Answer) → Agree o r s → Follows o r x → Follows o s y → SaySame o s x y }
     ensures uncompared { (o : Option Asked) (r s : Reading) (x y : Answer) → compares o ≡ false → Agree o r s → Follows o r x → Follows o s y → x ≡ y }
@@ -102,8 +106,8 @@ pub fn one_answer_follows()
     texts_are_read();
 }
 
-/// At most one answer is correct where the files that are named are settled up to the first that is refused; but two
-/// lines may each name another cycle of the machines that are compared.
+/// At most one answer is correct where the files that are named are settled up to the first that is refused; but of machines that
+/// are compared two may be correct as `one_answer_follows` says.
 pub fn at_most_one_answer_is_correct()
     ensures compared { (g : Call) (x y : Answer) (p : IsCorrectAnswer g x) (q : IsCorrectAnswer g y) → AreSettled g p.reading q.reading → SaySame g.asked q.reading x y }
     ensures uncompared { (g : Call) (x y : Answer) → compares g.asked ≡ false → (p : IsCorrectAnswer g x) (q : IsCorrectAnswer g y) → AreSettled g p.reading q.reading → x ≡ y }
@@ -113,8 +117,8 @@ pub fn at_most_one_answer_is_correct()
 }
 
 /// Where the files that are named are settled up to the first that is refused, at most one answer is correct, whatever the
-/// files behind hold, and whether they can be read or not; but two lines may each name another cycle of the machines
-/// that are compared.
+/// files behind hold, and whether they can be read or not; but of machines that are compared two may be correct as
+/// `one_answer_follows` says.
 pub fn files_up_to_the_refused_one_settle_the_answer()
     ensures compared { (g : Call) (x y : Answer) → AreSettledUpToRefused g → (p : IsCorrectAnswer g x) (q : IsCorrectAnswer g y) → SaySame g.asked q.reading x y }
     ensures uncompared { (g : Call) (x y : Answer) → compares g.asked ≡ false → AreSettledUpToRefused g → IsCorrectAnswer g x → IsCorrectAnswer g y → x ≡ y }
@@ -145,8 +149,8 @@ pub fn machines_are_answered()
 }
 
 /// Machines that are spelled get their answers: where neither the sink nor the store of the certificate failed, a call ends with
-/// an answer of theirs, as `machines_are_answered` says it, whose reply was put whole and whose status is the call's, or there was
-/// no memory.
+/// an answer of theirs, as `machines_are_answered` says it, whose reply was put whole and whose status is the call's, or there
+/// was no memory.
 pub fn machines_get_their_answers()
     ensures check { (g : Call) (p : Put) (a b : Fsmd) → is_check g.asked ≡ true → SpellPair g a b → NothingFailed g p → Outcome g p → EndsBy (IsOfPair (step_limit g.asked) (is_some (cert_of g.asked)) a b) g p }
     ensures verify { (g : Call) (p : Put) (a b : Fsmd) (nodes : List (Node Fact)) → is_verify g.asked ≡ true → SpellPair g a b → IsKnown g Third (SpellsCertificate a b nodes) → NothingFailed g p → Outcome g p → EndsBy (IsJudged a b nodes) g p }
@@ -171,20 +175,30 @@ pub fn comparisons_end_with_what_machines_get()
     ensures generate { (g : Call) (p : Put) (loops : ℕ) → g.asked ≡ Some (Generate loops) → NothingFailed g p → Outcome g p → IsTrue (is_of_comparison p.status) }
 {}
 
-/// A certificate of a closed search passes: where a file spells its nodes, and two others its machines, the answer is yes.
-pub fn certificates_of_closed_searches_pass()
-    ensures { (g : Call) (x : Answer) (a b : Fsmd) (nodes : List (Node Fact)) → is_verify g.asked ≡ true → SpellPair g a b → IsKnown g Third (SpellsCertificate a b nodes) → IsClosedWith (machines a b) nodes → IsCorrectAnswer g x → x ≡ Text (codes "yes\n") }
+/// A certificate that holds passes: where a file spells its nodes, and two others its machines, the answer is yes. So it is for
+/// each certificate that shows that two machines have the same behaviour.
+pub fn certificates_that_hold_pass()
+    ensures { (g : Call) (x : Answer) (a b : Fsmd) (nodes : List (Node Fact)) → is_verify g.asked ≡ true → SpellPair g a b → IsKnown g Third (SpellsCertificate a b nodes) → IsCertificate (machines a b) nodes → IsCorrectAnswer g x → x ≡ Text (codes "yes\n") }
 {
     certificates_are_read_in_one_way();
     texts_are_read();
 }
 
-/// What is stored of a closed search passes: where a file is the text of its certificate, and two others spell its machines, the answer is yes.
+/// A certificate of a closed search passes: where a file spells its nodes, and two others its machines, the answer is yes.
+pub fn certificates_of_closed_searches_pass()
+    ensures { (g : Call) (x : Answer) (a b : Fsmd) (nodes : List (Node Fact)) → is_verify g.asked ≡ true → SpellPair g a b → IsKnown g Third (SpellsCertificate a b nodes) → IsClosedWith (machines a b) nodes → IsCorrectAnswer g x → x ≡ Text (codes "yes\n") }
+{
+    certificates_of_closed_searches_hold();
+    certificates_that_hold_pass();
+}
+
+/// What is stored passes: where a file is the text of a certificate that shows that two machines have the same behaviour, and two
+/// others spell these machines, the answer is yes.
 pub fn stored_certificates_pass()
-    ensures { (g : Call) (x : Answer) (a b : Fsmd) (nodes : List (Node Fact)) → is_verify g.asked ≡ true → SpellPair g a b → IsKnown g Third (λ bytes. bytes ≡ certificate_text a b nodes) → IsClosedWith (machines a b) nodes → IsCorrectAnswer g x → x ≡ Text (codes "yes\n") }
+    ensures { (g : Call) (x : Answer) (a b : Fsmd) (nodes : List (Node Fact)) → is_verify g.asked ≡ true → SpellPair g a b → IsKnown g Third (λ bytes. bytes ≡ certificate_text a b nodes) → ShowsSame (machines a b) nodes → IsCorrectAnswer g x → x ≡ Text (codes "yes\n") }
 {
     certificates_are_read_in_one_way();
     texts_are_read();
-    certificates_of_closed_searches_are_small();
-    written_certificates_of_closed_searches_are_read();
+    certificates_that_hold_are_small();
+    written_certificates_that_hold_are_read();
 }

@@ -4,24 +4,22 @@ use Rattle.fs_model.specs.Machines.{Fsmd}
 use Rattle.fs_model.specs.Runs.{Inputs, Content, SameBehaviour, start, output}
 use Rattle.fs_model.proofs.Determined.{goes_once}
 use Rattle.fs_runs.specs.declared.run.Ended.{Ended}
-use Rattle.fs_runs.specs.InputValues.{input_signatures}
 use Rattle.fs_runs.specs.Outcomes.{Outputs, output_names, told_by}
 use Rattle.fs_runs.proofs.RunOnce.{one_end}
 use Rattle.fs_show.specs.Items.{input_names}
 use Rattle.fs_show.specs.Ends.{IsCounterexampleText}
 use Rattle.fs_show.proofs.Once.{counterexample_once}
-use Rattle.fs_trials.specs.Pool.{pool_of}
-use Rattle.fs_trials.specs.Candidates.{candidate_count, given, candidate}
+use Rattle.fs_trials.specs.Candidates.{stated_count, stated_contents, stated_inputs}
 use Rattle.fs_trials.specs.Differences.{ShowsDifference, DiffersAt, AreApart}
 use Rattle.pair_answers.specs.Answers.{IsCounterexample}
 use Rattle.pair_answers.specs.Laws.{SameShowNothing}
 
--- what the first candidate that shows a difference tells is a counterexample
+-- what the first stated candidate that shows a difference tells is a counterexample
 pub is_counterexample : (limit : ℕ) (a b : Fsmd) (j : ℕ) (ins : Inputs) (contents : List Content) (left right : Ended) (lines : List ℕ)
-    → j < candidate_count (pool_of a b) → ins ≡ candidate (pool_of a b) j a → contents ≡ given (pool_of a b) j 0 (input_signatures a.variables) → AreApart a b ins limit left right → ((i : ℕ) → i < j → ¬ DiffersAt a b limit i)
+    → j < stated_count a b → ins ≡ stated_inputs a b j → contents ≡ stated_contents a b j → AreApart a b ins limit left right → ((i : ℕ) → i < j → ¬ DiffersAt a b limit i)
     → IsCounterexampleText (input_names a.variables) contents (output_names a.variables) (told_by a left.outputs.items) (told_by b right.outputs.items) lines → IsCounterexample limit a b lines
 is_counterexample limit a b j ins contents left right lines among is are apart first told =
-    let there : AreApart a b (candidate (pool_of a b) j a) limit left right = subst (λ (i : Inputs). AreApart a b i limit left right) is apart in
+    let there : AreApart a b (stated_inputs a b j) limit left right = subst (λ (i : Inputs). AreApart a b i limit left right) is apart in
     record {
       number = j;
       among = among;
@@ -45,17 +43,17 @@ no_difference a b ins limit same d =
     d.differ (λ name. sym (r.1.gives name) ∙ ap (λ s. output b s name) once.1 ∙ d.right_ends.run.gives name)
 
 pub same_show_nothing : SameShowNothing
-same_show_nothing limit a b j same d = no_difference a b (candidate (pool_of a b) j a) limit same d
+same_show_nothing limit a b j same d = no_difference a b (stated_inputs a b j) limit same d
 
 abbrev Tells : (limit : ℕ) (a b : Fsmd) (j : ℕ) → DiffersAt a b limit j → List ℕ → Type 0
-Tells limit a b j d lines = IsCounterexampleText (input_names a.variables) (given (pool_of a b) j 0 (input_signatures a.variables)) (output_names a.variables) d.left d.right lines
+Tells limit a b j d lines = IsCounterexampleText (input_names a.variables) (stated_contents a b j) (output_names a.variables) d.left d.right lines
 
 told_once : (limit : ℕ) (a b : Fsmd) (j : ℕ) (d e : DiffersAt a b limit j) (l k : List ℕ) → Tells limit a b j d l → Tells limit a b j e k → l ≡ k
 told_once limit a b j d e l k p q =
-    let ins = candidate (pool_of a b) j a in
+    let ins = stated_inputs a b j in
     let left : d.left ≡ e.left = (one_end a ins limit d.left e.left d.left_steps e.left_steps d.left_ends e.left_ends).0 in
     let right : d.right ≡ e.right = (one_end b ins limit d.right e.right d.right_steps e.right_steps d.right_ends e.right_ends).0 in
-    let contents = given (pool_of a b) j 0 (input_signatures a.variables) in
+    let contents = stated_contents a b j in
     let names = output_names a.variables in
     counterexample_once (input_names a.variables) contents names e.left e.right l k
     (subst (λ (o : Outputs). IsCounterexampleText (input_names a.variables) contents names e.left o l) right (subst (λ (o : Outputs). IsCounterexampleText (input_names a.variables) contents names o d.right l) left p))

@@ -3,3 +3,4 @@ pub mod Branches
 pub mod Named
 pub mod Once
 pub mod Ranks
+mod Shown

@@ -1,5 +1,6 @@
 -- Two machines have one answer.
 use Rattle.std.proofs.Common.{◌≡◌, ◌⊎◌, inl, inr, ℕ, List, None, Some, Option, map, refl, sym, ◌∙◌, ap, ap₂, subst}
+use Rattle.std.proofs.lemmas.Bool.{false≢true}
 use Rattle.fs_model.specs.Machines.{Fsmd}
 use Rattle.fs_ast.specs.Sound.{IsSound}
 use Rattle.fs_pair.specs.Interfaces.{interface_fault}
@@ -8,6 +9,7 @@ use Rattle.bisimulation.specs.Tables.{Node as CertificateNode}
 use Rattle.sym_facts.specs.Facts.{Fact}
 use Rattle.certificates.specs.View.{node_of}
 use Rattle.certificates.proofs.AllHold.{same_where_yes}
+use Rattle.search_tables.specs.declared.moves.Move.{Move}
 use Rattle.search_tables.specs.Tables.{Machines, Table, first_table, TooWide, TooLarge}
 use Rattle.search_tables.specs.Next.{Next, Nothing, Change, Stop, Excess, next, IsClosed}
 use Rattle.search_tables.specs.Legal.{Difference, stuck}
@@ -15,13 +17,13 @@ use Rattle.search_ranks.specs.Graphs.{AreRanks}
 use Rattle.search_tables.specs.LoneMoves.{lone_moves}
 use Rattle.search_tables.specs.Certifying.{Certifies}
 use Rattle.search_tables.specs.Obstacles.{Obstacle, Stuck, Spin, Wide, Large, Exhausted, StandsIn}
-use Rattle.search_tables.specs.View.{points_at}
+use Rattle.search_tables.specs.View.{Points, points_at}
 use Rattle.search_tables.proofs.Ending.{Ends, stands_ends, same_moves, no_certificate}
 use Rattle.search.specs.Answers.{machines, IsClosedWith, StopsAt}
 use Rattle.pair_answers.specs.declared.answer.PairAnswer.TheVariants.{Equivalent, Counterexample, Undecided}
 use Rattle.pair_answers.specs.Texts.{obstacle_text}
-use Rattle.pair_answers.specs.Answers.{IsCounterexample, HasObstacle, IsUndecided}
-use Rattle.pair_answers.specs.Laws.{IsCycleLine, OneAnswer}
+use Rattle.pair_answers.specs.Answers.{IsCounterexample, HasObstacle, is_open, IsLeftOpen, IsFoundBeyond, ShowsSame, IsUndecided}
+use Rattle.pair_answers.specs.Laws.{IsCycleLine, OneAnswer, ClosedIsNotOpen, LimitIsNotOpen}
 use Rattle.pair_answers.proofs.Ranks.{one_certificate}
 use Rattle.pair_answers.proofs.Behaviour.{same_show_nothing, one_counterexample}
 
@@ -40,10 +42,31 @@ same_certificate m cs ds x y =
     let same = (same_moves m x.moves y.moves (first_table m) x.table y.table (closed_ends m x.table x.closed) (closed_ends m y.table y.closed) x.makes.lead y.makes.lead).1 in
     one_certificate m x.table x.ranks y.ranks cs ds x.are_ranks (subst (λ T. AreRanks (lone_moves m T) y.ranks) (sym same) y.are_ranks) x.certifies (subst (λ T. Certifies m T y.ranks ds) (sym same) y.certifies)
 
-pub not_both : (m : Machines) (cs : Nodes) (line : List ℕ) → IsClosedWith m cs → HasObstacle m line → ⊥
-not_both m cs line x y =
-    let same = (same_moves m x.moves y.moves (first_table m) x.table y.stops.table (closed_ends m x.table x.closed) (stands_ends m y.stops.table y.obstacle y.stops.stands) x.makes.lead y.stops.makes.lead).1 in
-    no_certificate m x.table y.obstacle x.ranks (subst (λ T. StandsIn m T y.obstacle) (sym same) y.stops.stands) x.closed x.none_differ x.are_ranks
+not_stopped : (m : Machines) (cs : Nodes) (moves : List Move) (points : List Points) (o : Obstacle) → IsClosedWith m cs → StopsAt m moves points o → ⊥
+not_stopped m cs moves points o x y =
+    let same = (same_moves m x.moves moves (first_table m) x.table y.table (closed_ends m x.table x.closed) (stands_ends m y.table o y.stands) x.makes.lead y.makes.lead).1 in
+    no_certificate m x.table o x.ranks (subst (λ T. StandsIn m T o) (sym same) y.stands) x.closed x.none_differ x.are_ranks
+
+not_both : (m : Machines) (cs : Nodes) → IsClosedWith m cs → IsLeftOpen m → ⊥
+not_both m cs x y = not_stopped m cs y.moves y.points y.obstacle x y.stops
+
+-- certificates of two machines are one, or both are found beyond the search
+pub one_or_beyond : (m : Machines) (cs ds : Nodes) → ShowsSame m cs → ShowsSame m ds → (cs ≡ ds) ⊎ (IsFoundBeyond m cs × IsFoundBeyond m ds)
+one_or_beyond m cs ds p q = by_found p.found q.found
+  where
+    by_found : IsClosedWith m cs ⊎ IsLeftOpen m → IsClosedWith m ds ⊎ IsLeftOpen m → (cs ≡ ds) ⊎ (IsFoundBeyond m cs × IsFoundBeyond m ds)
+    by_found (inl x) (inl y) = inl (same_certificate m cs ds x y)
+    by_found (inl x) (inr y) = absurd (not_both m cs x y)
+    by_found (inr x) (inl y) = absurd (not_both m ds y x)
+    by_found (inr x) (inr y) = inr (record { left_open = x; certificate = p.certificate }, record { left_open = y; certificate = q.certificate })
+
+-- where a search has an obstacle, a certificate is found beyond it
+pub only_beyond : (m : Machines) (cs : Nodes) (line : List ℕ) → ShowsSame m cs → HasObstacle m line → IsFoundBeyond m cs
+only_beyond m cs line p y = by_found p.found
+  where
+    by_found : IsClosedWith m cs ⊎ IsLeftOpen m → IsFoundBeyond m cs
+    by_found (inl x) = absurd (not_stopped m cs y.moves y.points y.obstacle x y.stops)
+    by_found (inr x) = record { left_open = x; certificate = p.certificate }
 
 -- ---- obstacles
 
@@ -100,21 +123,38 @@ one_line m l k x y =
       | inr c ↦ inr (cycle_line m l x c.0, cycle_line m k y c.1)
     ]
 
+-- two obstacles of one search are one, or both are cycles
+one_obstacle : (m : Machines) (ms ns : List Move) (ps qs : List Points) (o p : Obstacle) → StopsAt m ms ps o → StopsAt m ns qs p → AreOne o p
+one_obstacle m ms ns ps qs o p x y =
+    let same = (same_moves m ms ns (first_table m) x.table y.table (stands_ends m x.table o x.stands) (stands_ends m y.table p y.stands) x.makes.lead y.makes.lead).1 in
+    let there : StandsIn m x.table p = subst (λ T. StandsIn m T p) (sym same) y.stands in
+    are_one (plain_obstacle (stuck m x.table) (next m x.table)) o p (stands m x.table o x.stands) (stands m x.table p there)
+
+both_open : (o p : Obstacle) → AreOne o p → is_open o ≡ is_open p
+both_open o p (inl e) = ap is_open e
+both_open o p (inr c) = ap is_open c.0.is ∙ sym (ap is_open c.1.is)
+
+pub closed_not_open : ClosedIsNotOpen
+closed_not_open m cs x y = not_both m cs x y
+
+pub limit_not_open : LimitIsNotOpen
+limit_not_open m moves points o x limit y = false≢true (sym limit ∙ both_open o y.obstacle (one_obstacle m moves y.moves points y.points o y.obstacle x y.stops) ∙ y.leaves_open)
+
 -- ---- answers
 
-not_apart : (limit : ℕ) (a b : Fsmd) → IsSound a → IsSound b → interface_fault a b ≡ None → (cs : Nodes) (l : List ℕ) → IsClosedWith (machines a b) cs → IsCounterexample limit a b l → ⊥
-not_apart limit a b s t none cs l x y = same_show_nothing limit a b y.number (same_where_yes a b s t none cs x.lawful x.hold) y.shows
+not_apart : (limit : ℕ) (a b : Fsmd) → IsSound a → IsSound b → interface_fault a b ≡ None → (cs : Nodes) (l : List ℕ) → ShowsSame (machines a b) cs → IsCounterexample limit a b l → ⊥
+not_apart limit a b s t none cs l x y = same_show_nothing limit a b y.number (same_where_yes a b s t none cs x.certificate.lawful x.certificate.hold) y.shows
 
 pub not_open : (limit : ℕ) (a b : Fsmd) (l k : List ℕ) → IsCounterexample limit a b l → IsUndecided limit a b k → ⊥
 not_open limit a b l k x y = y.none_differ.none x.number x.among x.shows
 
 pub one_answer : OneAnswer
-one_answer limit a b s t none (Equivalent c) (Equivalent d) p q = same_certificate (machines a b) (map node_of c.nodes.items) (map node_of d.nodes.items) p q
+one_answer limit a b s t none (Equivalent c) (Equivalent d) p q = one_or_beyond (machines a b) (map node_of c.nodes.items) (map node_of d.nodes.items) p q
 one_answer limit a b s t none (Equivalent c) (Counterexample k) p q = not_apart limit a b s t none (map node_of c.nodes.items) k.items p q
-one_answer limit a b s t none (Equivalent c) (Undecided k) p q = not_both (machines a b) (map node_of c.nodes.items) k.items p q.obstacle
+one_answer limit a b s t none (Equivalent c) (Undecided k) p q = only_beyond (machines a b) (map node_of c.nodes.items) k.items p q.obstacle
 one_answer limit a b s t none (Counterexample l) (Equivalent d) p q = not_apart limit a b s t none (map node_of d.nodes.items) l.items q p
 one_answer limit a b s t none (Counterexample l) (Counterexample k) p q = one_counterexample limit a b l.items k.items p q
 one_answer limit a b s t none (Counterexample l) (Undecided k) p q = not_open limit a b l.items k.items p q
-one_answer limit a b s t none (Undecided l) (Equivalent d) p q = not_both (machines a b) (map node_of d.nodes.items) l.items q p.obstacle
+one_answer limit a b s t none (Undecided l) (Equivalent d) p q = only_beyond (machines a b) (map node_of d.nodes.items) l.items q p.obstacle
 one_answer limit a b s t none (Undecided l) (Counterexample k) p q = not_open limit a b k.items l.items q p
 one_answer limit a b s t none (Undecided l) (Undecided k) p q = one_line (machines a b) l.items k.items p.obstacle q.obstacle

@@ -1,5 +1,5 @@
 -- What holds of answers.
-use Rattle.std.specs.Prelude.{◌≡◌, ◌⊎◌, ℕ, ◌-◌, List, Option, Some, None, length, map, slice_get}
+use Rattle.std.specs.Prelude.{◌≡◌, ◌⊎◌, ℕ, ◌-◌, false, List, Option, Some, None, length, map, slice_get}
 use Rattle.fs_model.specs.declared.parts.VarInfo.{VarInfo}
 use Rattle.fs_model.specs.Machines.{Fsmd}
 use Rattle.fs_model.specs.Runs.{SameBehaviour}
@@ -9,16 +9,18 @@ use Rattle.fs_cut.specs.Covers.{paths_from, cover_of}
 use Rattle.fs_pair.specs.Interfaces.{interface_fault}
 use Rattle.fs_trials.specs.Differences.{DiffersAt}
 use Rattle.nf_terms.specs.declared.tree.Side.{Side}
+use Rattle.bisimulation.specs.Tables.{Node}
+use Rattle.sym_facts.specs.Facts.{Fact}
 use Rattle.certificates.specs.View.{node_of}
 use Rattle.search_tables.specs.declared.moves.Move.{Move}
 use Rattle.search_tables.specs.Tables.{Machines}
 use Rattle.search_tables.specs.Obstacles.{Obstacle, Stuck, Spin, Wide, Large, Exhausted}
 use Rattle.search_tables.specs.View.{Points}
-use Rattle.search.specs.Answers.{machines, StopsAt}
+use Rattle.search.specs.Answers.{machines, IsClosedWith, StopsAt}
 use Rattle.pair_answers.specs.declared.answer.PairAnswer.{PairAnswer}
 use Rattle.pair_answers.specs.declared.answer.PairAnswer.TheVariants.{Equivalent, Counterexample, Undecided}
 use Rattle.pair_answers.specs.Texts.{obstacle_text}
-use Rattle.pair_answers.specs.Answers.{IsOfPair}
+use Rattle.pair_answers.specs.Answers.{is_open, IsLeftOpen, IsFoundBeyond, IsOfPair}
 
 -- the line of a cycle
 pub record IsCycleLine (m : Machines) (line : List ℕ) : Type 0 where
@@ -29,20 +31,28 @@ pub record IsCycleLine (m : Machines) (line : List ℕ) : Type 0 where
   pub stops : StopsAt m moves points (Spin side cycle)
   pub told : line ≡ obstacle_text m moves points (Spin side cycle)
 
--- two answers say the same, but for the cycle that they name
+-- two answers say the same, but for the cycle that they name, and but for what is found beyond a search that is left open: there
+-- each may be another certificate that holds, or an obstacle
 abbrev pub SaySame : Machines → PairAnswer → PairAnswer → Type 0
-SaySame m (Equivalent c) (Equivalent d) = map node_of c.nodes.items ≡ map node_of d.nodes.items
+SaySame m (Equivalent c) (Equivalent d) = (map node_of c.nodes.items ≡ map node_of d.nodes.items) ⊎ (IsFoundBeyond m (map node_of c.nodes.items) × IsFoundBeyond m (map node_of d.nodes.items))
 SaySame m (Equivalent c) (Counterexample k) = ⊥
-SaySame m (Equivalent c) (Undecided k) = ⊥
+SaySame m (Equivalent c) (Undecided k) = IsFoundBeyond m (map node_of c.nodes.items)
 SaySame m (Counterexample l) (Equivalent d) = ⊥
 SaySame m (Counterexample l) (Counterexample k) = l.items ≡ k.items
 SaySame m (Counterexample l) (Undecided k) = ⊥
-SaySame m (Undecided l) (Equivalent d) = ⊥
+SaySame m (Undecided l) (Equivalent d) = IsFoundBeyond m (map node_of d.nodes.items)
 SaySame m (Undecided l) (Counterexample k) = ⊥
 SaySame m (Undecided l) (Undecided k) = (l.items ≡ k.items) ⊎ (IsCycleLine m l.items × IsCycleLine m k.items)
 
 abbrev pub OneAnswer : Type 0
 OneAnswer = (limit : ℕ) (a b : Fsmd) → IsSound a → IsSound b → interface_fault a b ≡ None → (x y : PairAnswer) → IsOfPair limit a b x → IsOfPair limit a b y → SaySame (machines a b) x y
+
+-- a search that closes, or that stops at a limit, is not left open
+abbrev pub ClosedIsNotOpen : Type 0
+ClosedIsNotOpen = (m : Machines) (nodes : List (Node Fact)) → IsClosedWith m nodes → IsLeftOpen m → ⊥
+
+abbrev pub LimitIsNotOpen : Type 0
+LimitIsNotOpen = (m : Machines) (moves : List Move) (points : List Points) (o : Obstacle) → StopsAt m moves points o → is_open o ≡ false → IsLeftOpen m → ⊥
 
 -- a branch of a point is listed, and is a path of the machine
 pub record IsBranch (m : Fsmd) (P : Point) (branch : ℕ) : Type 0 where
@@ -89,6 +99,6 @@ NamedAreThere m moves points (Exhausted at what) = Unit {0}
 abbrev pub LinesNameWhatIsThere : Type 0
 LinesNameWhatIsThere = (m : Machines) → IsSound m.left → IsSound m.right → (moves : List Move) (points : List Points) (o : Obstacle) → StopsAt m moves points o → NamedAreThere m moves points o
 
--- machines with the same behaviour differ on no candidate
+-- machines with the same behaviour differ on no stated candidate
 abbrev pub SameShowNothing : Type 0
 SameShowNothing = (limit : ℕ) (a b : Fsmd) (j : ℕ) → SameBehaviour a b → ¬ DiffersAt a b limit j

@@ -1,4 +1,4 @@
-//! Counterexamples among candidate inputs.
+//! Counterexamples among stated candidate inputs.
 
 ghost use Rattle.std.specs.Prelude.{◌≡◌, ◌≤◌, None, map, IfOk, MatchOption};
 ghost use Rattle.fs_pair.specs.Interfaces.{interface_fault};
@@ -29,7 +29,8 @@ fn text_of(alloc: Global, a: &Machine, b: &Machine, found: &Found) -> Result<Vec
     }
 }
 
-/// The lines of the first candidate that shows a difference within so many steps, if one does. The one refusal is out of memory.
+/// The lines of the first stated candidate that shows a difference within so many steps, if one does. The one refusal is out of
+/// memory.
 pub fn counterexample(
     alloc: Global,
     a: &Machine,

@@ -1,20 +1,28 @@
 //! Laws of answers, over the definitions alone. The functions do nothing.
 
-ghost use Rattle.pair_answers.specs.Laws.{OneAnswer, LinesNameWhatIsThere, SameShowNothing};
+ghost use Rattle.pair_answers.specs.Laws.{OneAnswer, ClosedIsNotOpen, LimitIsNotOpen, LinesNameWhatIsThere, SameShowNothing};
 
-/// Two machines have one answer, whatever answers them: one certificate, one counterexample, or one line, but for the cycle that it
-/// names.
+/// Two machines have one answer, whatever answers them: one certificate, one counterexample, or one line, but for the cycle that
+/// it names. Where the search is left open, and no stated candidate shows a difference, it is any certificate that holds, or the
+/// line.
 pub fn two_machines_have_one_answer()
     ensures { OneAnswer }
 {}
 
-/// What the line of an obstacle names is there: the output, the node and each path of a move, which is one of its machine from the node's
-/// point by that branch, and the first node of a cycle.
+/// A search that closes, or that a limit stops, is not left open: there two machines have one answer, and a certificate is that
+/// of the search.
+pub fn closed_searches_and_limits_leave_nothing_open()
+    ensures closed { ClosedIsNotOpen }
+    ensures limit { LimitIsNotOpen }
+{}
+
+/// What the line of an obstacle names is there: the output, the node and each path of a move, which is one of its machine from
+/// the node's point by that branch, and the first node of a cycle.
 pub fn lines_name_what_is_there()
     ensures { LinesNameWhatIsThere }
 {}
 
-/// Machines with the same behaviour differ on no candidate.
+/// Machines with the same behaviour differ on no stated candidate.
 pub fn same_behaviour_shows_no_difference()
     ensures { SameShowNothing }
 {}

@@ -3,6 +3,7 @@
 #![tactic(auto)]
 
 pub mod answer;
+mod beyond;
 mod candidates;
 pub mod compare;
 pub mod laws;

@@ -1,4 +1,4 @@
-//! What a search finds: a certificate, or the line of an obstacle.
+//! What the search finds: a certificate, or the line of an obstacle.
 
 ghost use Rattle.std.specs.Prelude.{◌≡◌, None, map, IfOk, codes};
 ghost use Rattle.std.specs.Result.{result_map_both};
@@ -7,7 +7,7 @@ ghost use Rattle.fs_pair.specs.Positions.{positions};
 ghost use Rattle.search_tables.specs.View.{points_in};
 ghost use Rattle.search.specs.Answers.{machines, Answers};
 ghost use Rattle.pair_answers.specs.Texts.{undecided_at, undecided_over, cycle_text, output_text, last_move_text, first_node_text, move_text};
-ghost use Rattle.pair_answers.specs.declared.obstacles.Found.TheVariants.{Obstacle};
+ghost use Rattle.pair_answers.specs.declared.obstacles.Found.TheVariants.{Open, Limit};
 ghost use Rattle.pair_answers.specs.Answers.{IsFound};
 
 use crate::texts::{first_node_text, last_move_text, move_text, output_text};
@@ -22,13 +22,15 @@ use search_tables::nodes::NodePoints;
 use search_tables::outcome::{Budget, Outcome};
 use std::alloc::Global;
 
-/// What a search finds.
+/// What the search finds.
 #[derive(Drop)]
 pub enum Found {
     /// All obligations of the certificate hold.
     Certificate(Cert),
-    /// The line of an obstacle.
-    Obstacle(Vec<u8>),
+    /// The line of an obstacle that leaves open whether the machines have the same behaviour.
+    Open(Vec<u8>),
+    /// The line of a limit.
+    Limit(Vec<u8>),
 }
 
 // The line of what is met at a place.
@@ -132,10 +134,16 @@ fn large_line(
     operation_line(alloc, a, b, b"term too large", points, at)
 }
 
-fn obstacle(line: Result<Vec<u8>, NoMemory>) -> Result<Found, NoMemory>
-    ensures { result ≡ result_map_both Obstacle (λ e. e) line }
+fn open_found(line: Result<Vec<u8>, NoMemory>) -> Result<Found, NoMemory>
+    ensures { result ≡ result_map_both Open (λ e. e) line }
 {
-    Ok(Found::Obstacle(line?))
+    Ok(Found::Open(line?))
+}
+
+fn limit_found(line: Result<Vec<u8>, NoMemory>) -> Result<Found, NoMemory>
+    ensures { result ≡ result_map_both Limit (λ e. e) line }
+{
+    Ok(Found::Limit(line?))
 }
 
 // What the outcome of a search says.
@@ -150,29 +158,29 @@ fn found_in(alloc: Global, a: &Machine, b: &Machine, outcome: Outcome) -> Result
             points,
             node: _node,
             var,
-        } => obstacle(stuck_line(alloc, a, b, moves.as_slice(), points.as_slice(), var)),
+        } => open_found(stuck_line(alloc, a, b, moves.as_slice(), points.as_slice(), var)),
         Outcome::Spin {
             moves: _moves,
             points,
             side,
             cycle,
-        } => obstacle(spin_line(alloc, a, b, points.as_slice(), side, cycle.as_slice())),
+        } => open_found(spin_line(alloc, a, b, points.as_slice(), side, cycle.as_slice())),
         Outcome::Wide {
             moves: _moves,
             points,
             at,
-        } => obstacle(wide_line(alloc, a, b, points.as_slice(), at)),
+        } => limit_found(wide_line(alloc, a, b, points.as_slice(), at)),
         Outcome::Large {
             moves: _moves,
             points,
             at,
-        } => obstacle(large_line(alloc, a, b, points.as_slice(), at)),
+        } => limit_found(large_line(alloc, a, b, points.as_slice(), at)),
         Outcome::Exhausted {
             moves: _moves,
             points: _points,
             at: _at,
             what,
-        } => obstacle(line_over(alloc, what)),
+        } => limit_found(line_over(alloc, what)),
     }
 }
 

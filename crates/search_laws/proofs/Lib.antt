@@ -1,1 +1,1 @@
-mod Small
+pub mod Small

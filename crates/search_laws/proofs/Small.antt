@@ -1,4 +1,4 @@
--- The text of the certificate of a closed search is small, since its nodes, equations and units are few.
+-- The certificate of a closed search holds, and the text of a certificate that holds is small, since its nodes, equations and units are few.
 use Rattle.std.proofs.Common.{◌≡◌, ℕ, ◌+◌, ◌*◌, ◌≤◌, List, [], ◌∷◌, length, map, Option, Some, None, refl, sym, ap, subst, ◌∙◌, arith}
 use Rattle.std.specs.Prelude.{is_some}
 use Rattle.std.specs.List.{filter, AllByRecursion}
@@ -28,6 +28,7 @@ use Rattle.search_tables.specs.Legal.{Lead, Makes}
 use Rattle.search_tables.specs.Certifying.{table_node}
 use Rattle.search_tables.proofs.Changing.{next_does, arrives_so}
 use Rattle.search.specs.Answers.{machines, IsClosedWith}
+use Rattle.search_laws.specs.Certificates.{IsCertificate}
 use Rattle.search.proofs.FewPositions.{filter_short, few_positions}
 
 -- ---- equations
@@ -89,9 +90,20 @@ module _ (m : Machines) (few : length (positions_of m) ≤ 256) where
 in_all : (nodes equations units bytes : ℕ) → nodes ≤ 4096 → equations ≤ 256 * nodes → units ≤ 4000000 → bytes ≤ 64 + 200 * nodes + 44 * equations + 47 * units → bytes ≤ 268435456
 in_all nodes equations units bytes n e u h = omega (arith, n, e, u, h)
 
-pub small : (a b : Fsmd) (nodes : List (CertificateNode Fact)) → IsClosedWith (machines a b) nodes → length (certificate_text a b nodes) ≤ most_bytes nodes → length (certificate_text a b nodes) ≤ most_certificate_bytes
-small a b nodes h short =
+pub closed_holds : (a b : Fsmd) (nodes : List (CertificateNode Fact)) → IsClosedWith (machines a b) nodes → IsCertificate (machines a b) nodes
+closed_holds a b nodes h =
     let m = machines a b in
     let few : length (positions a b) ≤ 256 = few_positions a b h.left_sound h.right_sound in
-    let low : units_of nodes ≤ 4000000 = subst (λ n. n ≤ 4000000) (sym (units_same nodes ∙ ap units h.certifies.nodes)) (units_low m few h.moves h.table h.makes) in
-    in_all (length nodes) (equation_count nodes) (units_of nodes) (length (certificate_text a b nodes)) h.lawful.few (equations_few (positions a b) few nodes h.lawful.facts) low short
+    record {
+      left_sound = h.left_sound;
+      right_sound = h.right_sound;
+      lawful = h.lawful;
+      normal = h.normal;
+      within = subst (λ n. n ≤ most_units) (sym (units_same nodes ∙ ap units h.certifies.nodes)) (units_low m few h.moves h.table h.makes);
+      hold = h.hold;
+    }
+
+pub small : (a b : Fsmd) (nodes : List (CertificateNode Fact)) → IsCertificate (machines a b) nodes → length (certificate_text a b nodes) ≤ most_bytes nodes → length (certificate_text a b nodes) ≤ most_certificate_bytes
+small a b nodes h short =
+    let few : length (positions a b) ≤ 256 = few_positions a b h.left_sound h.right_sound in
+    in_all (length nodes) (equation_count nodes) (units_of nodes) (length (certificate_text a b nodes)) h.lawful.few (equations_few (positions a b) few nodes h.lawful.facts) h.within short

@@ -1,4 +1,4 @@
-//! Laws of searches and of the texts of their certificates: they are small, and are read as the same certificate.
+//! Laws of certificates that hold and of closed searches: their texts are small, and are read as the same certificate.
 #![tactic(auto)]
 
 pub mod laws;

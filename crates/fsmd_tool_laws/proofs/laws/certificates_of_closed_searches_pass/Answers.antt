@@ -1,8 +1,4 @@
-use Rattle.fsmd_tool_laws.proofs.Correct.{closed_pass}
-use Rattle.fsmd_tool_laws.proofs.Certificates.{ReadInOneWay}
 use Rattle.fsmd_tool_laws.proofs.laws.certificates_of_closed_searches_pass.Goals as goal
 
 pub returns : goal.returns
-returns c =
-    let w : ReadInOneWay = record { same = c.certificates_are_read_in_one_way.ensures.same; taken = c.certificates_are_read_in_one_way.ensures.taken; texts = c.texts_are_read.ensures } in
-    closed_pass w
+returns c = λ g x a b nodes e pair known closed p. c.certificates_that_hold_pass.ensures g x a b nodes e pair known (c.certificates_of_closed_searches_hold.ensures a b nodes closed) p
