@@ -1,6 +1,7 @@
 #!/usr/bin/env bash
-# One task of an array job over a list that pairs.sh printed: array_job.sh LIST FOLDER. Task K of N checks the pairs on lines K, K + N,
-# K + 2N .., and leaves out those whose row is newer than both machines. It ends with the last status that was not 0.
+# One task of an array job over a list that pairs.sh printed: array_job.sh LIST FOLDER. Task K of N checks the pairs on
+# lines K, K + N, K + 2N .., and leaves out those whose row is newer than both machines. It ends with the last status that
+# was not 0.
 set -u
 list=$1 folder=$2
 task=${SLURM_ARRAY_TASK_ID:-${PBS_ARRAY_INDEX:-${SGE_TASK_ID:?the number of this task, from 1}}}
