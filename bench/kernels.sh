@@ -16,7 +16,8 @@ rows() {
 }
 rows | awk '{ print $3, $4, 1000 * ($1 + $2) }' | sort -k 3,3n | awk '
   function line(kind) {
-    printf "%-16s %8d %12d %10d %11d\n", kind, decided[kind], all[kind] - decided[kind], times[kind, int((all[kind] + 1) / 2)], times[kind, all[kind]]
+    printf "%-16s %8d %12d %10d %11d\n", kind, decided[kind], all[kind] - decided[kind],
+      times[kind, int((all[kind] + 1) / 2)], times[kind, all[kind]]
   }
   function count(kind) {
     times[kind, ++all[kind]] = $3

@@ -144,6 +144,15 @@ def operators(tree):
 
 # ---------------------------------------------------------------- the function, read
 
+def fresh(wanted, taken):
+    """A name near the one wanted that is not taken; now it is."""
+    base = re.sub(r"\W", "_", wanted)[:24]
+    base = "v" + base if base[0].isdigit() else base
+    name = next(name for name in itertools.chain([base], (f"{base}_{k}" for k in itertools.count(2))) if name not in taken)
+    taken.add(name)
+    return name
+
+
 class Block:
     """A basic block: its lines of the IR, phis as (variable, is a truth value, {label: operand}), steps, and either edges as
     (guard, label), of which the last has the guard `yes`, or what is returned, as a list of at most one term.
@@ -161,18 +170,14 @@ class Function:
     """What is read of a function."""
 
     def __init__(self):
-        self.scalars, self.arrays, self.written, self.blocks = [], [], [], []
+        self.scalars, self.arrays, self.blocks = [], [], []
+        self.written = {}  # each array that is written, with the input of its entries before the call
         self.values, self.guards, self.addresses, self.names = {}, {}, {}, {}
-        self.taken = set(RESERVED)
+        self.taken = RESERVED | {"result", "cells", "copy_k"}
         self.returns = False
 
     def fresh(self, wanted):
-        """A name near the one wanted that nothing else has."""
-        base = re.sub(r"\W", "_", wanted)[:24]
-        base = "v" + base if base[0].isdigit() else base
-        name = next(n for n in itertools.chain([base], (f"{base}_{k}" for k in itertools.count(2))) if n not in self.taken)
-        self.taken.add(name)
-        return name
+        return fresh(wanted, self.taken)
 
     def variable(self, value):
         """The variable of a value of the IR, which may be used above the line that makes it."""
@@ -285,9 +290,8 @@ def read_truth(function, value, rest):
         function.guards[value] = negation(function.guard(found[1]))
     elif found := matched(rf"select i1 ({VALUE}), i1 ({VALUE}), i1 ({VALUE})", rest):
         test, yes, no = (function.guard(found[place]) for place in (1, 2, 3))
-        function.guards[value] = joined("or", joined("and", test, yes), joined("and", negation(test), no))
-        if no[0] == "no" or yes[0] == "yes":
-            function.guards[value] = joined("and", test, yes) if no[0] == "no" else joined("or", test, no)
+        no_way = no if yes[0] == "yes" else joined("and", negation(test), no)
+        function.guards[value] = joined("or", joined("and", test, yes), no_way)
     elif found := matched(rf"freeze i1 ({VALUE})", rest):
         function.guards[value] = function.guard(found[1])
     elif found := matched(rf"(?:[sz]ext|trunc(?! {TYPE} {VALUE} to i1$)|freeze) (?!i1 ){TYPE} ({VALUE})(?: to {TYPE})?", rest):
@@ -322,7 +326,8 @@ def read_end(function, block, line):
 
 def read_phi(function, block, value, kind, rest):
     variable = function.variable(value)
-    block.phis.append((variable, kind == "i1", {label: operand for operand, label in re.findall(rf"\[ ({VALUE}), %({NAME}) \]", rest)}))
+    operands = {label: operand for operand, label in re.findall(rf"\[ ({VALUE}), %({NAME}) \]", rest)}
+    block.phis.append((variable, kind == "i1", operands))
     if kind == "i1":
         function.guards[value] = relation("!=", ("var", variable), num(0))
 
@@ -336,34 +341,33 @@ def read_line(function, block, line):
     elif found := matched(rf"store {TYPE} ({VALUE}), {TYPE}\* ({VALUE})(?:, .*)?", line):
         array, index = function.address(found[2])
         if array not in function.written:
-            function.written.append(array)
+            function.written[array] = function.fresh(f"{array}_in")
         block.steps.append(("store", array, index, function.term(found[1])))
     elif not read_end(function, block, line):
         raise Refused("an instruction that is not translated")
 
 
 def split(lines, function_name):
-    """The parameters and the blocks of the one function, or of the one that is named, with the lines of the file."""
-    defined = [place for place, line in enumerate(lines) if re.match(r"define .*@" + (re.escape(function_name) if function_name else NAME) + r"\(", line)]
-    if len(defined) != 1:
-        raise Refused(f"{len(defined)} functions of this name" if function_name else f"{len(defined)} functions: name one by --function")
-    first = defined[0]
-    name, parameters = re.match(rf"define .*?@({NAME})\((.*)\)[^()]*\{{$", lines[first]).groups()
-    blocks, joined_lines, place = [], "", first
-    for place in range(first + 1, lines.index("}", first)):
+    """The parameters and the blocks of the one function, or of the one that is named."""
+    head = rf"define .*?@({re.escape(function_name) if function_name else NAME})\((.*)\)[^()]*\{{"
+    heads = [place for place, line in enumerate(lines) if matched(head, line)]
+    if len(heads) != 1:
+        raise Refused(f"{len(heads)} functions" + (" of this name" if function_name else ": name one by --function"))
+    parameters, blocks, whole = matched(head, lines[heads[0]])[2], [], ""
+    for place in range(heads[0] + 1, lines.index("}", heads[0])):
         line = re.sub(r"\s*;.*$", "", lines[place]).strip()
         if found := matched(rf"({NAME}):", line):
             blocks.append(Block(found[1]))
             continue
-        joined_lines += (" " if joined_lines else "") + line
-        if joined_lines.count("[") > joined_lines.count("]") or not joined_lines:
-            continue
+        whole = f"{whole} {line}".strip()
+        if not whole or whole.count("[") > whole.count("]"):
+            continue  # nothing, or a switch that goes on
         if not blocks:
             blocks.append(Block(str(parameters.count("%"))))
-        if "@llvm.lifetime" not in joined_lines and "@llvm.assume" not in joined_lines and "@llvm.dbg" not in joined_lines:
-            blocks[-1].lines.append((place + 1, re.sub(r", !\w+ !\d+", "", joined_lines)))
-        joined_lines = ""
-    return name, parameters, blocks
+        if not re.search(r"@llvm\.(lifetime|assume|dbg)", whole):
+            blocks[-1].lines.append((place + 1, re.sub(r", !\w+ !\d+", "", whole)))
+        whole = ""
+    return parameters, blocks
 
 
 def in_order(blocks):
@@ -384,7 +388,7 @@ def read(path, function_name):
     lines = open(path, encoding="utf-8").read().splitlines()
     function, number, line = Function(), 1, ""
     try:
-        function.name, parameters, blocks = split(lines, function_name)
+        parameters, blocks = split(lines, function_name)
         read_parameters(function, parameters)
         function.blocks = in_order(blocks)
         for block in function.blocks:
@@ -418,16 +422,12 @@ class Machine:
 
     def __init__(self, function, single):
         self.function, self.single = function, single
-        self.states, self.state_names, self.labels = [], set(RESERVED) | {"begin", "copy"}, {}
+        self.states, self.state_names, self.labels = [], RESERVED | {"begin", "copy"}, {}
         for block in function.blocks:
             self.labels[block.label] = self.state_name(block.label.strip('"'))
 
     def state_name(self, wanted):
-        base = re.sub(r"\W", "_", wanted)[:24]
-        base = "b" + base if base[0].isdigit() else base
-        name = next(n for n in itertools.chain([base], (f"{base}_{k}" for k in itertools.count(2))) if n not in self.state_names)
-        self.state_names.add(name)
-        return name
+        return fresh(wanted, self.state_names)
 
     def put_state(self, part, ways):
         """A state that does a part, with more of the scalars on each way: a guard, a target and these."""
@@ -480,7 +480,8 @@ class Machine:
         for step in block.steps if self.single else grouped(block.steps):
             part = self.put_step(part, step)
         ways = self.ways_out(block, part)
-        if not part.is_empty() and (self.single or any(is_long(tree) for guard, _, more in ways for tree in (guard, *more.values()))):
+        trees = [tree for guard, _, more in ways for tree in (guard, *more.values())]
+        if not part.is_empty() and (self.single or any(map(is_long, trees))):
             part = self.next_part(part)
             ways = self.ways_out(block, part)
         self.put_state(part, [way for way in ways if way[0][0] != "no"])
@@ -527,11 +528,11 @@ def machine_of(function, single):
 
 def declarations(function, machine):
     inputs = function.scalars + (["cells"] if function.written else [])
-    input_arrays = [name if name not in function.written else f"{name}_in" for name in function.arrays]
+    input_arrays = [function.written.get(name, name) for name in function.arrays]
     assigned = dict.fromkeys(x for _, ways in machine.states for _, _, sets, _ in ways for x in sets)
     local_names = [x for x in assigned if x != "result"] + (["copy_k"] if function.written else [])
     for words, names in (("input", inputs), ("input array", input_arrays), ("output", ["result"] if function.returns else []),
-                         ("output array", function.written), ("local", local_names)):
+                         ("output array", list(function.written)), ("local", local_names)):
         if names:
             yield f"{words} {', '.join(names)};"
 
@@ -551,7 +552,7 @@ def machine_text(function, machine):
     yield "state begin:"
     yield "  goto copy: copy_k = 0;" if function.written else f"  goto {first};"
     if function.written:
-        copied = ", ".join(f"{name}[copy_k] = {name}_in[copy_k]" for name in function.written)
+        copied = ", ".join(f"{name}[copy_k] = {before}[copy_k]" for name, before in function.written.items())
         yield "state copy:"
         yield f"  when copy_k < cells goto copy: {copied}, copy_k = copy_k + 1;"
         yield f"  goto {first};"

@@ -15,7 +15,10 @@ make -s -j "${JOBS:-2}" -C "$here/../many" FOLDER="$folder" OUT="$work/results" 
 
 # The rows by kind, in the order in which the machines are made, and the names of the kernels that are undecided.
 sort "$work/results/rows" | awk -F '[\t/]' '
-  BEGIN { n = split("instructions schedule simplifycfg early-cse gvn licm loop-rotate indvars instcombine reassociate jump-threading O1 broken", kinds, " ") }
+  BEGIN {
+    n = split("instructions schedule simplifycfg early-cse gvn licm loop-rotate indvars instcombine reassociate " \
+              "jump-threading O1 broken", kinds, " ")
+  }
   { all[$2]++; count[$2, $3]++ }
   $3 == "undecided" { open[$2] = open[$2] " " $1 }
   END {
@@ -23,7 +26,8 @@ sort "$work/results/rows" | awk -F '[\t/]' '
     printf row, "kind", "all", "equivalent", "counterexample", "undecided"
     for (k = 1; k <= n; k++) {
       kind = kinds[k]
-      printf row, kind, all[kind], count[kind, "equivalent"] + 0, count[kind, "counterexample"] + 0, count[kind, "undecided"] + 0
+      printf row, kind, all[kind] + 0, count[kind, "equivalent"] + 0, count[kind, "counterexample"] + 0,
+        count[kind, "undecided"] + 0
     }
     for (k = 1; k <= n; k++) if (open[kinds[k]] != "") print "undecided " kinds[k] ":" open[kinds[k]]
   }' | fold -s -w 120 | sed 's/ *$//'

@@ -8,7 +8,10 @@ sort | case $1 in
       END {
         wide = wide < 4 ? 4 : wide
         printf "%-*s  %-14s  %5s  %8s\n", wide, "pair", "answer", "nodes", "seconds"
-        for (k = 1; k <= NR; k++) { split(rows[k], cell, "\t"); printf "%-*s  %-14s  %5s  %8.3f\n", wide, cell[1], cell[2], cell[3], cell[4] }
+        for (k = 1; k <= NR; k++) {
+          split(rows[k], cell, "\t")
+          printf "%-*s  %-14s  %5s  %8.3f\n", wide, cell[1], cell[2], cell[3], cell[4]
+        }
         printf "%d equivalent, %d counterexample, %d undecided\n", count["equivalent"], count["counterexample"], count["undecided"]
       }'
     ;;
@@ -16,7 +19,10 @@ sort | case $1 in
   json)
     awk -F '\t' '
       BEGIN { printf "[" }
-      { printf "%s\n {\"pair\":\"%s\",\"answer\":\"%s\",\"nodes\":%s,\"seconds\":%s}", NR == 1 ? "" : ",", $1, $2, $3 == "-" ? "null" : $3, $4 }
+      {
+        printf "%s\n {\"pair\":\"%s\",\"answer\":\"%s\",", NR == 1 ? "" : ",", $1, $2
+        printf "\"nodes\":%s,\"seconds\":%s}", $3 == "-" ? "null" : $3, $4
+      }
       END { print "\n]" }'
     ;;
 esac
