@@ -129,7 +129,9 @@ impl<'p> Collection<'p> {
 
     /// Adds a form, unless it is there, it is past a bound, or it mentions what is no position. The one refusal is out of memory.
     pub fn add_form(&mut self, alloc: Global, form: Nf) -> Result<(), NoMemory> {
-        if self.terms.len() >= TERM_LIMIT || self.is_full() || has_form(self.terms.as_slice(), &form)
+        if self.terms.len() >= TERM_LIMIT
+            || self.is_full()
+            || has_form(self.terms.as_slice(), &form)
         {
             return Ok(());
         }

@@ -2,19 +2,18 @@
 
 use crate::collection::Collection;
 use crate::stop::unless_stopped;
-use fs_model::parts::{Expr, Lit, VarId};
+use fs_model::parts::{Expr, Lit, Rel, VarId};
 use nf_rel::clashes::negate;
 use nf_rel::kind::Kind;
 use nf_rel::literals::{Bound, NLit};
 use nf_rel::normalize::literal;
+use nf_sums::sums::number;
 use nf_terms::form::Nf;
+use nf_terms::poly::Poly;
 use nf_terms::stop::NoMemory;
 use nf_terms::tree::Side;
 use std::alloc::Global;
 use sym_paths::evaluation::evaluate;
-
-// The greatest bound that is moved.
-const BOUND_LIMIT: i128 = i128::MAX - 2;
 
 // Adds the term that an expression is.
 fn add_term(
@@ -39,11 +38,7 @@ pub(crate) fn add_expr(
     match e {
         Expr::Num(_) | Expr::Var(_) => return Ok(()),
         Expr::Read(_, i) | Expr::Neg(i) => add_expr(alloc, all, side, i)?,
-        Expr::Add(l, r)
-        | Expr::Sub(l, r)
-        | Expr::Mul(l, r)
-        | Expr::Div(l, r)
-        | Expr::Rem(l, r) => {
+        Expr::Add(l, r) | Expr::Sub(l, r) | Expr::Mul(l, r) | Expr::Div(l, r) | Expr::Rem(l, r) => {
             add_expr(alloc, all, side, l)?;
             add_expr(alloc, all, side, r)?;
         }
@@ -51,22 +46,42 @@ pub(crate) fn add_expr(
     add_term(alloc, all, side, e)
 }
 
-// A literal whose bound is another.
-fn with_bound(alloc: Global, b: &Bound, bound: i128) -> Result<NLit, NoMemory> {
-    Ok(NLit::Is(Bound {
-        dir: b.dir.try_clone(alloc)?,
-        kind: b.kind,
-        bound,
-    }))
+// The relation of a kind of bound that is moved.
+fn moved_relation(kind: Kind) -> Option<Rel> {
+    match kind {
+        Kind::Ge => Some(Rel::Ge),
+        Kind::Le => Some(Rel::Le),
+        Kind::Eq | Kind::Ne => None,
+    }
+}
+
+// Adds the literal of a direction against another bound, unless that meets a limit.
+fn add_bounded(
+    alloc: Global,
+    all: &mut Collection<'_>,
+    relation: Rel,
+    dir: &Poly,
+    bound: Option<i128>,
+) -> Result<(), NoMemory> {
+    let Some(bound) = bound else {
+        return Ok(());
+    };
+    let Some(bound) = unless_stopped(number(alloc, &bound))? else {
+        return Ok(());
+    };
+    match unless_stopped(literal(alloc, relation, dir, &bound))? {
+        Some(moved) => all.add_literal(moved),
+        None => Ok(()),
+    }
 }
 
 // Adds the literals whose bounds are 1 more and 1 less.
 fn add_moved(alloc: Global, all: &mut Collection<'_>, b: &Bound) -> Result<(), NoMemory> {
-    if !matches!(b.kind, Kind::Ge | Kind::Le) || b.bound < -BOUND_LIMIT || BOUND_LIMIT < b.bound {
+    let Some(relation) = moved_relation(b.kind) else {
         return Ok(());
-    }
-    all.add_literal(with_bound(alloc, b, b.bound + 1)?)?;
-    all.add_literal(with_bound(alloc, b, b.bound - 1)?)
+    };
+    add_bounded(alloc, all, relation, &b.dir, b.bound.checked_add(1))?;
+    add_bounded(alloc, all, relation, &b.dir, b.bound.checked_sub(1))
 }
 
 // Adds a literal and those with a bound beside its own.

@@ -1,6 +1,7 @@
 //! The terms and the literals of two machines.
 
 use crate::collection::Collection;
+use crate::stop::unless_stopped;
 use crate::subterms::{add_expr, add_literals};
 use fs_ast::machine::Machine;
 use fs_model::parts::{Assign, Branch, Sort, StateId, VarId, VarInfo};
@@ -16,8 +17,6 @@ use nf_terms::tree::{Base, Pos, SeqBase, Side};
 use std::alloc::Global;
 use sym_facts::fact::own_symbol;
 use sym_paths::evaluation::evaluate;
-
-use crate::stop::unless_stopped;
 
 /// A term over the symbols of positions, and the places of the positions that it mentions.
 #[derive(Drop)]
