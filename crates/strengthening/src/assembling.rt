@@ -152,7 +152,7 @@ fn points_differ(nodes: &[Node]) -> bool
     ensures { result ≡ points_differ (map node_of nodes.now) }
 {
     let mut rest = nodes;
-    while let Some((node, others)) = rest.split_first() {
+    'nodes: while let Some((node, others)) = rest.split_first() {
         if stands_among(node, others) {
             return false;
         }

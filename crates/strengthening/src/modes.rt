@@ -80,10 +80,26 @@ fn flags_of(
     let mut flags = flags_at(all, node.left, node.right);
     let v = node.fact.vector(alloc)?;
     if !flags.many_left {
-        flags.many_left = has_many(alloc, work, &sides.left, Side::Left, &node.fact, &v, node.left)?;
+        flags.many_left = has_many(
+            alloc,
+            work,
+            &sides.left,
+            Side::Left,
+            &node.fact,
+            &v,
+            node.left,
+        )?;
     }
     if !flags.many_right {
-        flags.many_right = has_many(alloc, work, &sides.right, Side::Right, &node.fact, &v, node.right)?;
+        flags.many_right = has_many(
+            alloc,
+            work,
+            &sides.right,
+            Side::Right,
+            &node.fact,
+            &v,
+            node.right,
+        )?;
     }
     Ok(flags)
 }

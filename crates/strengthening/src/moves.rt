@@ -108,7 +108,14 @@ fn weaken(
         return Ok(Step::Keeps);
     };
     let count = p.positions().len();
-    weed(alloc, &mut state.work, universe, count, &mut node.claims, post)?;
+    weed(
+        alloc,
+        &mut state.work,
+        universe,
+        count,
+        &mut node.claims,
+        post,
+    )?;
     let fact = fact_of(alloc, &mut state.work, universe, p, &node.claims)?;
     change_fact(state, place, fact)?;
     Ok(Step::Changes { place })

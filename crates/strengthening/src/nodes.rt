@@ -1,5 +1,7 @@
 //! Nodes of a search.
 
+ghost use Rattle.std.specs.Prelude.{◌≤◌, length};
+
 use bisimulation::mode::Mode;
 use fs_cut::cover::Point;
 use strengthening_claims::claims::Claims;
@@ -65,7 +67,9 @@ fn comes_after(numbers: (usize, usize), others: (usize, usize)) -> bool {
 }
 
 /// The place at which a node with these numbers keeps the order.
-pub fn place_for(nodes: &[SearchNode], numbers: (usize, usize)) -> usize {
+pub fn place_for(nodes: &[SearchNode], numbers: (usize, usize)) -> usize
+    ensures { result ≤ length nodes.now }
+{
     for (place, node) in nodes.iter().enumerate() {
         if comes_after(node.numbers, numbers) {
             return place;

@@ -1,5 +1,8 @@
 //! Whether outputs differ at the end.
 
+ghost use Rattle.std.specs.Prelude.{◌≤◌, length};
+ghost use Rattle.fs_model.specs.Limits.{most_variables};
+
 use crate::nodes::SearchNode;
 use crate::sides::Sides;
 use fs_cut::cover::Point;
@@ -16,7 +19,9 @@ fn differs(
     variable: &VarInfo,
     left: u32,
     rights: &[VarInfo],
-) -> Result<bool, NoMemory> {
+) -> Result<bool, NoMemory>
+    requires { length rights.now ≤ most_variables }
+{
     if !is_output(variable.role) {
         return Ok(false);
     }
@@ -30,7 +35,10 @@ fn some_differs(
     v: &Vector,
     lefts: &[VarInfo],
     rights: &[VarInfo],
-) -> Result<bool, NoMemory> {
+) -> Result<bool, NoMemory>
+    requires few_left { length lefts.now ≤ most_variables }
+    requires few_right { length rights.now ≤ most_variables }
+{
     for (left, variable) in lefts.iter().enumerate() {
         if differs(alloc, v, variable, left as u32, rights)? {
             return Ok(true);
@@ -50,5 +58,10 @@ pub fn outputs_differ(
         return Ok(false);
     }
     let v = node.fact.vector(alloc)?;
-    some_differs(alloc, &v, sides.left.machine.vars(), sides.right.machine.vars())
+    some_differs(
+        alloc,
+        &v,
+        sides.left.machine.vars(),
+        sides.right.machine.vars(),
+    )
 }

@@ -1,7 +1,9 @@
 //! The ranks of nodes.
 
-ghost use Rattle.std.specs.Prelude.{IsTrue};
+ghost use Rattle.std.specs.Prelude.{◌≡◌, nat_lt, IsTrue};
+ghost use Rattle.std.specs.List.{list_all};
 ghost use Rattle.search_ranks.specs.Walks.{lists_in, InRange};
+ghost use Rattle.strengthening.specs.Edges.{are_edges};
 
 use crate::nodes::{SearchNode, Settled, find_version};
 use bisimulation::mode::Mode;
@@ -57,7 +59,9 @@ fn lone_moves(alloc: Global, nodes: &[SearchNode]) -> Result<Vec<Vec<u32>>, NoMe
 }
 
 // Whether all targets are below a number.
-fn are_below(targets: &[u32], count: usize) -> bool {
+fn are_below(targets: &[u32], count: usize) -> bool
+    ensures { result ≡ list_all (λ t. nat_lt t count) targets.now }
+{
     for target in targets {
         if *target as usize >= count {
             return false;
@@ -66,19 +70,24 @@ fn are_below(targets: &[u32], count: usize) -> bool {
     true
 }
 
-// Whether a graph has at most 4,096 nodes, each with at most 4,096 targets, which are its nodes.
-fn is_in_range(edges: &[Vec<u32>]) -> bool
-    ensures { IsTrue result → InRange (lists_in edges.now) }
+// Whether nodes have at most 4,096 targets each, which are below a number.
+fn are_edges(edges: &[Vec<u32>], count: usize) -> bool
+    ensures { result ≡ are_edges count (lists_in edges.now) }
 {
-    if edges.len() > 4096 {
-        return false;
-    }
     for targets in edges {
-        if targets.len() > 4096 || !are_below(targets.as_slice(), edges.len()) {
+        if targets.len() > 4096 || !are_below(targets.as_slice(), count) {
             return false;
         }
     }
     true
+}
+
+// Whether a graph has at most 4,096 nodes, each with at most 4,096 targets, which are its nodes.
+#[tactic(auto, using(crate::proofs::Ranges::in_range))]
+fn is_in_range(edges: &[Vec<u32>]) -> bool
+    ensures { IsTrue result → InRange (lists_in edges.now) }
+{
+    edges.len() <= 4096 && are_edges(edges, edges.len())
 }
 
 /// The lengths of the longest chains of moves of one machine alone; none where there is a cycle of them. The one refusal is out of memory.

@@ -26,7 +26,7 @@ pub struct Sides<'a> {
     pub universe: Universe,
 }
 
-fn covered<'a>(alloc: Global, machine: &'a Machine) -> Result<Covered<'a>, Stop> {
+fn with_cover<'a>(alloc: Global, machine: &'a Machine) -> Result<Covered<'a>, Stop> {
     let cover = cover_of(alloc, machine)?;
     let order = PointOrder::of(alloc, &cover)?;
     Ok(Covered {
@@ -43,8 +43,8 @@ pub fn sides_of<'a>(
     b: &'a Machine,
     pairing: &'a Pairing,
 ) -> Result<Sides<'a>, Stop> {
-    let left = covered(alloc, a)?;
-    let right = covered(alloc, b)?;
+    let left = with_cover(alloc, a)?;
+    let right = with_cover(alloc, b)?;
     let universe = universe_of(alloc, a, b, pairing)?;
     Ok(Sides {
         left,

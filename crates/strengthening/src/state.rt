@@ -118,7 +118,10 @@ pub fn add(
     fact: Fact,
 ) -> Result<usize, Stop> {
     let version = count_change(state)?;
-    let numbers = (sides.left.order.number(left), sides.right.order.number(right));
+    let numbers = (
+        sides.left.order.number(left),
+        sides.right.order.number(right),
+    );
     let place = place_for(state.nodes.as_slice(), numbers);
     let units = fact.size();
     let node = SearchNode {

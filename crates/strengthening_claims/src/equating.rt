@@ -124,7 +124,10 @@ fn all_replaced(
     let mut s = Subst::new(alloc, &only);
     let mut values = Vector::new(alloc);
     for position in positions {
-        values.put(position.pos, replaced(alloc, work, &mut s, solution, position)?)?;
+        values.put(
+            position.pos,
+            replaced(alloc, work, &mut s, solution, position)?,
+        )?;
     }
     Ok(values)
 }

@@ -6,6 +6,7 @@ use crate::weeding::value_of;
 use fs_model::parts::Role;
 use fs_pair::positions::Position;
 use nf_subst::subst::Subst;
+use nf_subst::vector::Vector;
 use nf_terms::form::Nf;
 use nf_terms::stop::NoMemory;
 use nf_terms::tree::Side;
@@ -75,6 +76,35 @@ fn unknown_class(
     }
 }
 
+// The value of a form over free positions, or none where it meets a limit.
+fn value_over(
+    alloc: Global,
+    work: &mut Work,
+    values: &Vector,
+    form: &Nf,
+) -> Result<Option<Nf>, Stop> {
+    let mut s = Subst::new(alloc, values);
+    value_of(alloc, work, &mut s, form)
+}
+
+// The value that a term tells of its class, if it tells one.
+fn told_value(
+    alloc: Global,
+    work: &mut Work,
+    universe: &Universe,
+    claims: &Claims,
+    solution: &Solution,
+    place: usize,
+) -> Result<Option<Nf>, Stop> {
+    if !is_telling(alloc, universe, claims, solution, place)? {
+        return Ok(None);
+    }
+    match form_at(universe, claims, place) {
+        Some(form) => value_over(alloc, work, &solution.values, form),
+        None => Ok(None),
+    }
+}
+
 // Makes the class of a term known by the term, if it can. Answers whether it did.
 fn tell(
     alloc: Global,
@@ -88,18 +118,13 @@ fn tell(
     let Some(class) = unknown_class(positions, claims, solution, place) else {
         return Ok(false);
     };
-    let Some(form) = form_at(universe, claims, place) else {
-        return Ok(false);
-    };
-    if !is_telling(alloc, universe, claims, solution, place)? {
-        return Ok(false);
+    match told_value(alloc, work, universe, claims, solution, place)? {
+        Some(value) => {
+            give_value(alloc, positions, claims, class, &value, solution)?;
+            Ok(true)
+        }
+        None => Ok(false),
     }
-    let mut s = Subst::new(alloc, &solution.values);
-    let Some(value) = value_of(alloc, work, &mut s, form)? else {
-        return Ok(false);
-    };
-    give_value(alloc, positions, claims, class, &value, solution)?;
-    Ok(true)
 }
 
 // Goes over all terms that are no positions once. Answers whether a class became known.
@@ -164,10 +189,21 @@ enum Choice {
 }
 
 // Whether a position is of a choice: a left input, or one with a position of the other side in its class.
-fn is_of(choice: Choice, positions: &[Position], claims: &Claims, place: usize, p: &Position) -> bool {
+fn is_of(
+    choice: Choice,
+    positions: &[Position],
+    claims: &Claims,
+    place: usize,
+    p: &Position,
+) -> bool {
     match choice {
         Choice::LeftInputs => p.role == Role::Input && p.pos.side == Side::Left,
-        Choice::Shared => has_side(positions, claims, class_at(claims, place), other_side(p.pos.side)),
+        Choice::Shared => has_side(
+            positions,
+            claims,
+            class_at(claims, place),
+            other_side(p.pos.side),
+        ),
         Choice::Any => true,
     }
 }

@@ -157,15 +157,17 @@ fn has_its_sort(sort: Sort, equation: &Option<Nf>) -> bool
 fn have_their_sorts(positions: &[Position], equations: &[Option<Nf>]) -> bool
     ensures { result ≡ list_all (λ q. has_its_sort q.sort q.equation) (with_equations positions.now equations.now) }
 {
-    for (place, position) in positions.iter().enumerate() {
-        match equations.get(place) {
-            Some(equation) => {
-                if !has_its_sort(position.sort, equation) {
-                    return false;
-                }
-            }
-            None => return true,
+    let mut left = positions;
+    let mut rest = equations;
+    'pairs: while let Some((position, later)) = left.split_first() {
+        let Some((equation, others)) = rest.split_first() else {
+            return true;
+        };
+        if !has_its_sort(position.sort, equation) {
+            return false;
         }
+        left = later;
+        rest = others;
     }
     true
 }
