@@ -1,4 +1,14 @@
-//! A second search for a certificate that two machines have the same behaviour.
+//! A second search for a certificate that two machines have the same behaviour, for pairs that the first one leaves undecided.
 #![tactic(auto)]
 
+mod assembling;
+mod flags;
+mod modes;
+mod moves;
+mod nodes;
+mod outputs;
+mod ranks;
+mod sides;
+mod state;
+mod steps;
 pub mod strengthening;

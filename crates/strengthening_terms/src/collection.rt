@@ -1,0 +1,162 @@
+//! Terms and literals, collected without repeats.
+
+use crate::universe::{Term, Universe};
+use fs_pair::positions::Position;
+use nf_rel::copies::is_same;
+use nf_rel::literals::NLit;
+use nf_subst::vector::Vector;
+use nf_terms::form::Nf;
+use nf_terms::stop::NoMemory;
+use nf_terms::symbols::Sort;
+use nf_terms::tree::Pos;
+use std::alloc::Global;
+
+/// The most terms of a universe.
+pub const TERM_LIMIT: usize = 512;
+
+/// The most literals of a universe.
+pub const LITERAL_LIMIT: usize = 512;
+
+/// The most terms and literals that are looked at.
+pub const CANDIDATE_LIMIT: u32 = 16_384;
+
+/// What was collected of two machines with these positions.
+#[derive(Drop)]
+pub struct Collection<'p> {
+    positions: &'p [Position],
+    own: Vector,
+    terms: Vec<Term>,
+    literals: Vec<NLit>,
+    candidates: u32,
+}
+
+/// The place of a position.
+pub fn place_of(positions: &[Position], pos: Pos) -> Option<usize> {
+    for (place, position) in positions.iter().enumerate() {
+        if position.pos == pos {
+            return Some(place);
+        }
+    }
+    None
+}
+
+// The places of symbols, without repeats; none where one is no position.
+fn places_of_symbols(
+    alloc: Global,
+    positions: &[Position],
+    symbols: &[(Pos, Sort)],
+) -> Result<Option<Vec<usize>>, NoMemory> {
+    let mut places = Vec::new(alloc);
+    for (pos, _sort) in symbols {
+        let Some(place) = place_of(positions, *pos) else {
+            return Ok(None);
+        };
+        if !places.contains(&place) {
+            places.push(place)?;
+        }
+    }
+    Ok(Some(places))
+}
+
+/// The places of the positions that a form mentions; none where it mentions another. The one refusal is out of memory.
+pub fn places_in(
+    alloc: Global,
+    positions: &[Position],
+    form: &Nf,
+) -> Result<Option<Vec<usize>>, NoMemory> {
+    let symbols = form.symbols(alloc)?;
+    places_of_symbols(alloc, positions, symbols.as_slice())
+}
+
+// Whether a form is one of the terms.
+fn has_form(terms: &[Term], form: &Nf) -> bool {
+    for term in terms {
+        if term.form.is_same(form) {
+            return true;
+        }
+    }
+    false
+}
+
+// Whether a literal is one of these.
+fn has_literal(literals: &[NLit], literal: &NLit) -> bool {
+    for other in literals {
+        if is_same(other, literal) {
+            return true;
+        }
+    }
+    false
+}
+
+impl<'p> Collection<'p> {
+    /// Nothing yet.
+    pub fn new(alloc: Global, positions: &'p [Position]) -> Collection<'p> {
+        Collection {
+            positions,
+            own: Vector::new(alloc),
+            terms: Vec::new(alloc),
+            literals: Vec::new(alloc),
+            candidates: 0,
+        }
+    }
+
+    /// The positions.
+    pub fn positions(&self) -> &'p [Position] {
+        self.positions
+    }
+
+    /// The vector in which each position has its own symbol.
+    pub fn own(&self) -> &Vector {
+        &self.own
+    }
+
+    /// The position of the other machine's variable of the name and the sort of a position.
+    pub fn partner(&self, pos: Pos) -> Option<Pos> {
+        let place = place_of(self.positions, pos)?;
+        let position = self.positions.get(place)?;
+        let partner = position.partner?;
+        Some(self.positions.get(partner as usize)?.pos)
+    }
+
+    // Whether no more is looked at.
+    fn is_full(&mut self) -> bool {
+        if self.candidates >= CANDIDATE_LIMIT {
+            return true;
+        }
+        self.candidates += 1;
+        false
+    }
+
+    /// Adds a form, unless it is there, it is past a bound, or it mentions what is no position. The one refusal is out of memory.
+    pub fn add_form(&mut self, alloc: Global, form: Nf) -> Result<(), NoMemory> {
+        if self.terms.len() >= TERM_LIMIT
+            || self.is_full()
+            || has_form(self.terms.as_slice(), &form)
+        {
+            return Ok(());
+        }
+        if let Some(places) = places_in(alloc, self.positions, &form)? {
+            self.terms.push(Term { form, places })?;
+        }
+        Ok(())
+    }
+
+    /// Adds a literal, unless it is there, it is true or false, or it is past a bound. The one refusal is out of memory.
+    pub fn add_literal(&mut self, literal: NLit) -> Result<(), NoMemory> {
+        if self.literals.len() >= LITERAL_LIMIT || self.is_full() {
+            return Ok(());
+        }
+        if matches!(literal, NLit::Is(_)) && !has_literal(self.literals.as_slice(), &literal) {
+            self.literals.push(literal)?;
+        }
+        Ok(())
+    }
+
+    /// What was collected.
+    pub fn into_universe(self) -> Universe {
+        Universe {
+            terms: self.terms,
+            literals: self.literals,
+        }
+    }
+}

@@ -1,0 +1,175 @@
+//! The terms and the literals of two machines.
+
+use crate::collection::Collection;
+use crate::stop::unless_stopped;
+use crate::subterms::{add_expr, add_literals};
+use fs_ast::machine::Machine;
+use fs_model::parts::{Assign, Branch, Sort, StateId, VarId, VarInfo};
+use fs_pair::positions::Pairing;
+use nf_arrays::writes::write;
+use nf_rel::literals::NLit;
+use nf_terms::arr::Arr;
+use nf_terms::form::Nf;
+use nf_terms::poly::Poly;
+use nf_terms::seq::Seq;
+use nf_terms::stop::NoMemory;
+use nf_terms::tree::{Base, Pos, SeqBase, Side};
+use std::alloc::Global;
+use sym_facts::fact::own_symbol;
+use sym_paths::evaluation::evaluate;
+
+/// A term over the symbols of positions, and the places of the positions that it mentions.
+#[derive(Drop)]
+pub struct Term {
+    pub form: Nf,
+    pub places: Vec<usize>,
+}
+
+/// Terms and literals that may hold between two machines, none of them twice. The first terms are the symbols of the positions, in order.
+#[derive(Drop)]
+pub struct Universe {
+    pub terms: Vec<Term>,
+    pub literals: Vec<NLit>,
+}
+
+// Adds the symbols of all positions.
+fn add_positions(alloc: Global, all: &mut Collection<'_>) -> Result<(), NoMemory> {
+    let positions = all.positions();
+    for position in positions {
+        let symbol = own_symbol(alloc, position.sort, position.pos)?;
+        all.add_form(alloc, symbol)?;
+    }
+    Ok(())
+}
+
+// Adds 0, the array that is 0 everywhere, and the empty list.
+fn add_zeros(alloc: Global, all: &mut Collection<'_>) -> Result<(), NoMemory> {
+    all.add_form(alloc, Nf::Num(Poly::number(alloc, 0)?))?;
+    all.add_form(alloc, Nf::Arr(Arr::bare(alloc, Base::Zero)))?;
+    all.add_form(alloc, Nf::Seq(Seq::bare(alloc, SeqBase::Empty)))
+}
+
+// Adds the array of a position after a write.
+fn add_write(
+    alloc: Global,
+    all: &mut Collection<'_>,
+    base: Pos,
+    index: &Poly,
+    value: &Poly,
+) -> Result<(), NoMemory> {
+    let array = Arr::bare(alloc, Base::Sym(base));
+    match unless_stopped(write(alloc, &array, index, value))? {
+        Some(written) => all.add_form(alloc, Nf::Arr(written)),
+        None => Ok(()),
+    }
+}
+
+// Adds the arrays of a name, of either side, after a write.
+fn add_writes(
+    alloc: Global,
+    all: &mut Collection<'_>,
+    array: Pos,
+    index: &Poly,
+    value: &Poly,
+) -> Result<(), NoMemory> {
+    add_write(alloc, all, array, index, value)?;
+    match all.partner(array) {
+        Some(partner) => add_write(alloc, all, partner, index, value),
+        None => Ok(()),
+    }
+}
+
+// Adds what a write has: the subterms of its index and its value, and the arrays that it leaves.
+fn add_put(
+    alloc: Global,
+    all: &mut Collection<'_>,
+    side: Side,
+    assign: &Assign<VarId>,
+) -> Result<(), NoMemory> {
+    let Assign::Put(x, i, e) = assign else {
+        return Ok(());
+    };
+    let Some(index) = unless_stopped(evaluate(alloc, side, all.own(), i))? else {
+        return Ok(());
+    };
+    let Some(value) = unless_stopped(evaluate(alloc, side, all.own(), e))? else {
+        return Ok(());
+    };
+    add_writes(alloc, all, Pos { side, var: x.0 }, &index, &value)
+}
+
+// Adds what an assignment has.
+fn add_assign(
+    alloc: Global,
+    all: &mut Collection<'_>,
+    side: Side,
+    assign: &Assign<VarId>,
+) -> Result<(), NoMemory> {
+    match assign {
+        Assign::Set(_, e) | Assign::Emit(_, e) => add_expr(alloc, all, side, e),
+        Assign::Put(_, i, e) => {
+            add_expr(alloc, all, side, i)?;
+            add_expr(alloc, all, side, e)?;
+            add_put(alloc, all, side, assign)
+        }
+    }
+}
+
+// Adds what assignments have.
+fn add_assigns(
+    alloc: Global,
+    all: &mut Collection<'_>,
+    side: Side,
+    assigns: &[Assign<VarId>],
+) -> Result<(), NoMemory> {
+    for assign in assigns {
+        add_assign(alloc, all, side, assign)?;
+    }
+    Ok(())
+}
+
+// Adds what branches have.
+fn add_branches(
+    alloc: Global,
+    all: &mut Collection<'_>,
+    side: Side,
+    branches: &[Branch],
+) -> Result<(), NoMemory> {
+    for branch in branches {
+        add_literals(alloc, all, side, branch.lits.as_slice())?;
+        add_assigns(alloc, all, side, branch.assigns.as_slice())?;
+    }
+    Ok(())
+}
+
+// Adds what a machine has.
+fn add_machine(
+    alloc: Global,
+    all: &mut Collection<'_>,
+    side: Side,
+    m: &Machine,
+) -> Result<(), NoMemory> {
+    for state in 0..m.state_count() {
+        add_branches(alloc, all, side, m.branches(StateId(state)))?;
+    }
+    Ok(())
+}
+
+/// The universe of two machines: the symbols of their positions; 0, the array that is 0 everywhere and the empty list; each term of a right
+/// side, an index or a guard that has an operator, in its machine's symbols; for each write the arrays of its name, of either machine, after
+/// it; each literal of a guard and its negation, and of `>=` and `<=` also the ones whose bound is 1 more or less. The left machine's come
+/// first. Terms past a limit are left out, and so are those behind the first 512 terms and the first 512 literals, and behind the first
+/// 16,384 that are looked at. The one refusal is out of memory.
+pub fn universe_of(
+    alloc: Global,
+    a: &Machine,
+    b: &Machine,
+    p: &Pairing,
+) -> Result<Universe, NoMemory> {
+    let mut all = Collection::new(alloc, p.positions());
+    add_positions(alloc, &mut all)?;
+    add_zeros(alloc, &mut all)?;
+    add_machine(alloc, &mut all, Side::Left, a)?;
+    add_machine(alloc, &mut all, Side::Right, b)?;
+    Ok(all.into_universe())
+}
