@@ -277,10 +277,16 @@ a, <=, -170141183460469231731687303715884105725; a, !=, -17014118346046923173168
 fn lists_that_are_refuted_together(rt: HostRuntime) {
     let alloc = rt.alloc();
     for row in REFUTED_TOGETHER.lines() {
-        assert!(rt; is_refuted_together(alloc, row, true).unwrap_or(false), "{row}");
+        assert!(rt;
+            is_refuted_together(alloc, row, true).unwrap_or(false),
+            "{row}"
+        );
     }
     for row in OPEN.lines() {
-        assert!(rt; is_refuted_together(alloc, row, false).unwrap_or(false), "{row}");
+        assert!(rt;
+            is_refuted_together(alloc, row, false).unwrap_or(false),
+            "{row}"
+        );
     }
 }
 
