@@ -157,7 +157,8 @@ fn kept_literals(
 }
 
 /// Weeds claims by a post: each class is split by the values that its terms have in the arriving vector, a term whose value meets a limit is
-/// out, and literals go that the arriving conditions do not imply. `Bound` comes where too little work is left.
+/// out, and literals go that the arriving conditions do not imply. Answers whether this changed the claims. `Bound` comes where too little
+/// work is left.
 pub fn weed(
     alloc: Global,
     work: &mut Work,
@@ -165,14 +166,16 @@ pub fn weed(
     positions: usize,
     claims: &mut Claims,
     post: &Post,
-) -> Result<(), Stop> {
+) -> Result<bool, Stop> {
     let mut s = Subst::new(alloc, &post.vector);
     let mut classes = split_classes(alloc, work, universe, claims, &mut s)?;
     let shared = shared_classes(alloc, classes.as_slice())?;
     put_out_lone(&mut classes, shared.as_slice(), positions);
     let conds = post.conds.as_slice();
     let literals = kept_literals(alloc, work, &mut s, conds, claims.literals.as_slice())?;
+    let changed = classes.as_slice() != claims.classes.as_slice()
+        || literals.len() != claims.literals.len();
     claims.classes = classes;
     claims.literals = literals;
-    Ok(())
+    Ok(changed)
 }

@@ -3,7 +3,7 @@
 use crate::stop::Stop;
 
 /// The most units of work of a search: sizes of terms that are substituted and of what comes of them.
-pub const WORK_LIMIT: u64 = 40_000_000;
+pub const WORK_LIMIT: u64 = 2_000_000;
 
 /// How much work is left.
 #[derive(Drop)]
