@@ -6,13 +6,13 @@ use crate::state::{State, add, change_fact};
 use fs_cut::cover::{Path, Point};
 use nf_refutation::refutation::is_refuted;
 use std::alloc::Global;
-use strengthening_claims::claims::{claims_before, put_out};
+use strengthening_claims::claims::claims_before;
 use strengthening_claims::facts::fact_of;
 use strengthening_claims::weeding::weed;
 use strengthening_terms::stop::{Stop, unless_stopped};
 use strengthening_terms::work::Work;
 use sym_facts::arrival::arrive;
-use sym_facts::entailment::{Entail, entails};
+use sym_facts::entailment::entails;
 use sym_paths::execution::Post;
 
 /// What a step does.
@@ -94,58 +94,46 @@ fn add_target(
     Ok(Step::Changes { place })
 }
 
-// Weeds the claims of a node by a post. Where this changes nothing, though the post does not entail the fact that was made of them, the
-// positions whose equations it does not entail are put out of their classes; `Bound` comes where there is none.
-fn weed_node(
-    alloc: Global,
-    sides: &Sides<'_>,
-    work: &mut Work,
-    node: &mut SearchNode,
-    post: &Post,
-    missing: &Entail,
-) -> Result<(), Stop> {
-    let universe = &sides.universe;
-    let count = sides.pairing.positions().len();
-    if weed(alloc, work, universe, count, &mut node.claims, post)? {
-        return Ok(());
-    }
-    if missing.equations.is_empty() {
-        return Err(Stop::Bound);
-    }
-    put_out(&mut node.claims, missing.equations.as_slice());
-    weed(alloc, work, universe, count, &mut node.claims, post)?;
-    Ok(())
-}
-
-// Weakens the node at a place so that a post entails its fact.
+// Weakens the node at a place so that a post entails its fact. `Bound` comes where the post leaves the claims as they are, though it does
+// not entail the fact that was made of them.
 fn weaken(
     alloc: Global,
     sides: &Sides<'_>,
     state: &mut State,
     post: &Post,
     place: usize,
-    missing: &Entail,
 ) -> Result<Step, Stop> {
+    let universe = &sides.universe;
+    let p = sides.pairing;
     let Some(node) = state.nodes.get_mut(place) else {
         return Ok(Step::Keeps);
     };
-    weed_node(alloc, sides, &mut state.work, node, post, missing)?;
-    let p = sides.pairing;
-    let fact = fact_of(alloc, &mut state.work, &sides.universe, p, &node.claims)?;
+    let count = p.positions().len();
+    if !weed(
+        alloc,
+        &mut state.work,
+        universe,
+        count,
+        &mut node.claims,
+        post,
+    )? {
+        return Err(Stop::Bound);
+    }
+    let fact = fact_of(alloc, &mut state.work, universe, p, &node.claims)?;
     change_fact(state, place, fact)?;
     Ok(Step::Changes { place })
 }
 
-// What of the fact of a node a post does not entail. `Bound` comes where an operation meets a limit.
-fn missing_at(
+// Whether a post entails the fact of a node. `Bound` comes where an operation meets a limit.
+fn is_entailed(
     alloc: Global,
     work: &mut Work,
     post: &Post,
     node: &SearchNode,
-) -> Result<Entail, Stop> {
+) -> Result<bool, Stop> {
     work.spend(node.units)?;
     match unless_stopped(entails(alloc, post, &node.fact))? {
-        Some(missing) => Ok(missing),
+        Some(missing) => Ok(missing.equations.is_empty() && missing.conds.is_empty()),
         None => Err(Stop::Bound),
     }
 }
@@ -167,9 +155,8 @@ fn meet(
         return Ok(Step::Keeps);
     };
     let version = node.version;
-    let missing = missing_at(alloc, &mut state.work, post, node)?;
-    if !missing.equations.is_empty() || !missing.conds.is_empty() {
-        return weaken(alloc, sides, state, post, target, &missing);
+    if !is_entailed(alloc, &mut state.work, post, node)? {
+        return weaken(alloc, sides, state, post, target);
     }
     settle(&mut state.nodes, from.0, from.1, Settled::Held { version });
     Ok(Step::Keeps)

@@ -39,15 +39,6 @@ pub fn class_at(claims: &Claims, place: usize) -> Option<usize> {
     }
 }
 
-/// Puts the terms at places out of their classes.
-pub fn put_out(claims: &mut Claims, places: &[u32]) {
-    for place in places {
-        if let Some(class) = claims.classes.get_mut(*place as usize) {
-            *class = None;
-        }
-    }
-}
-
 // Adds the equations of positions.
 fn push_equations(
     alloc: Global,
