@@ -98,9 +98,13 @@ x - 170141183460469231731687303715884105727 == 0¦170141183460469231731687303715
 x + 1 == 170141183460469231731687303715884105727¦170141183460469231731687303715884105726
 10 < 20 && 30 < 40 && 50 < 60 && x == 70¦70
 10 < 20 && 30 < 40 && 50 < 60 && x + 1 == 70¦69
+x == 7 - 2¦5
+-x == 5¦-5
+x * x == 9¦3
 ";
 
-// Candidates have the values 0, 1, -1, 2, and each number of the texts with its neighbours, up to 24 values.
+// Candidates have the values 0, 1, -1, 2, and each number of the texts with its neighbours, up to 24 values. Further ones have
+// 0 to 10, 12, 16, -1, -2, -3, -5, and then these.
 #[test]
 fn values_of_candidates(rt: HostRuntime) -> Result<(), AllocError> {
     each_row(&rt, rt.alloc(), SET_WHERE, FOUND)
@@ -110,9 +114,9 @@ const NOT_SET_WHERE: &str =
     r"check a.fsmd b.fsmd¦fsmd 1; input x; output y; reset s; state s: goto s;¦fsmd 1; input x; output y; reset s; state s: when {1} goto s: y = 1; goto s;¦¦undecided: output y at - | start.0>done\n";
 
 const NOT_FOUND: &str = "x * x == 10404
-x == 7 - 2
--x == 5
-x * x == 9
+x == 70 - 2
+-x == 11
+x * x == 121
 10 < 20 && 30 < 40 && 50 < 60 && x - 1 == 70
 ";
 

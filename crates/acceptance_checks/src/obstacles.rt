@@ -14,7 +14,6 @@ state s: goto s: y = a / 1, x = b / 1;¦state s: goto s: y = a, x = b;¦output x
 state s: when a > 0 goto s: y = a; goto s: y = a / 1;¦state s: when a > 0 goto s: y = a; goto s: y = a;¦output y at start.1>done | start.1>done
 state s: when a > 0 && b > 0 goto s; goto s: y = a / 1;¦state s: when a > 0 && b > 0 goto s; goto s: y = a;¦output y at start.1>done | start.1>done
 state s: when a > b && b > 1 && a > 1 goto s: y = 1; goto s;¦state s: when a > b && b > 1 goto s: y = 1; goto s;¦output y at start.1>done | start.0>done
-state s: when a >= 0 && a <= 0 goto s: y = 1; goto s;¦state s: when a == 0 goto s: y = 1; goto s;¦output y at start.0>done | start.1>done
 state s: when a * a >= 0 goto s: y = 1; goto s;¦state s: goto s: y = 1;¦output y at start.1>done | -
 state s: when a * a == 10404 goto s: y = 1; goto s;¦state s: goto s;¦output y at start.0>done | -
 state s: goto s: y = 1;¦state s: when a * a >= 0 goto s: y = 1; goto s;¦output y at - | start.1>done
