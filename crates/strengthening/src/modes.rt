@@ -16,6 +16,9 @@ use strengthening_terms::work::Work;
 use sym_facts::fact::{Fact, copied_literals};
 use sym_paths::execution::conditions;
 
+// The units of work of the conditions of a path.
+const PATH_UNITS: u64 = 8;
+
 // Whether a path is not refuted under a fact with this vector. `Bound` comes where its conditions meet a limit.
 fn is_open(
     alloc: Global,
@@ -26,7 +29,8 @@ fn is_open(
     v: &Vector,
     path: &Path,
 ) -> Result<bool, Stop> {
-    work.spend(1)?;
+    work.spend(fact.conds().len() as u64)?;
+    work.spend(PATH_UNITS)?;
     let Some(mut more) = unless_stopped(conditions(alloc, machine.machine, path, side, v))? else {
         return Err(Stop::Bound);
     };

@@ -15,6 +15,9 @@ use sym_facts::arrival::arrive;
 use sym_facts::entailment::entails;
 use sym_paths::execution::Post;
 
+// The units of work of a state on a path.
+const STATE_UNITS: u64 = 32;
+
 /// What a step does.
 #[derive(Clone, Copy, Debug, PartialEq, Eq)]
 pub enum Step {
@@ -57,6 +60,14 @@ fn settle(nodes: &mut [SearchNode], place: usize, number: usize, settled: Settle
     }
 }
 
+// The units of work of a path: those of so many states.
+fn units_of_path(path: Option<&Path>) -> u64 {
+    match path {
+        Some(path) => (path.states.len() as u64).saturating_mul(STATE_UNITS),
+        None => 0,
+    }
+}
+
 // What arrives by a move, and at which points. `Bound` comes where an operation meets a limit.
 fn arrival(
     alloc: Global,
@@ -65,9 +76,11 @@ fn arrival(
     node: &SearchNode,
     tried: NodeMove,
 ) -> Result<(Post, Point, Point), Stop> {
-    work.spend(node.units)?;
     let left = path_by(&sides.left, node.left, tried.left);
     let right = path_by(&sides.right, node.right, tried.right);
+    work.spend(node.units)?;
+    work.spend(units_of_path(left))?;
+    work.spend(units_of_path(right))?;
     let (a, b) = (sides.left.machine, sides.right.machine);
     match unless_stopped(arrive(alloc, a, b, &node.fact, left, right))? {
         Some(post) => Ok((post, end_of(node.left, left), end_of(node.right, right))),
@@ -170,6 +183,7 @@ pub fn try_move(
     place: usize,
     number: usize,
 ) -> Result<Step, Stop> {
+    state.work.spend(1)?;
     let Some(node) = state.nodes.get(place) else {
         return Ok(Step::Keeps);
     };
