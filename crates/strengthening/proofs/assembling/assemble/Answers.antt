@@ -1,8 +1,7 @@
-use Rattle.std.proofs.Common.{◌≡◌, ◌≤◌, List, map, length, subst, arith, rules}
+use Rattle.std.proofs.Common.{List, map, subst, arith, rules}
 use Rattle.std.specs.List.{AllByRecursion}
 use Rattle.std.proofs.lemmas.List.{length-map}
 use Rattle.fs_pair.specs.declared.positions.Position.{Position}
-use Rattle.fs_pair.specs.Positions.{positions}
 use Rattle.sym_facts.specs.Pairings.{IsFactOf}
 use Rattle.certificates.specs.View.{node_of}
 use Rattle.strengthening.proofs.assembling.assemble.Goals as goal
