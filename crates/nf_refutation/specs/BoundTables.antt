@@ -1,5 +1,5 @@
 -- What tables of bounds tell of directions.
-use Rattle.std.specs.Prelude.{◌≡◌, Bool, false, ◌&&◌, ◌||◌, ℤ, int_lt, Option, None, Some}
+use Rattle.std.specs.Prelude.{◌≡◌, Bool, not, false, ◌&&◌, ◌||◌, ℤ, int_lt, List, Option, None, Some}
 use Rattle.std.specs.Ordering.{int_cmp, int_eq, ordering_then, is_eq}
 use Rattle.std.specs.Borrow.{Bor}
 use Rattle.std.specs.List.{list_any}
@@ -8,9 +8,7 @@ use Rattle.std.specs.BTreeMap.{BTreeMap}
 use Rattle.std.specs.BTreeSet.{BTreeSet}
 use Rattle.nf_terms.specs.Terms.{Polynomial}
 use Rattle.nf_terms.specs.Order.{cmp_polynomial, same_polynomial}
-use Rattle.nf_rel.specs.declared.kind.Kind.{Kind}
-use Rattle.nf_rel.specs.declared.kind.Kind.TheVariants.{Ge, Le, Eq, Ne}
-use Rattle.nf_rel.specs.Literals.{bounds_clash}
+use Rattle.nf_rel.specs.Literals.{NormalLiteral, meets_along, meets_all}
 use Rattle.nf_refutation.specs.declared.bound_table.BoundTable.{BoundTable}
 
 -- the bound of a direction
@@ -31,12 +29,13 @@ abbrev pub is_above : ℤ → Option ℤ → Bool
 is_above a None = false
 is_above a (Some b) = int_lt b a
 
--- whether a bound of a direction clashes with one of a table
-abbrev pub bound_clashes : BoundTable → Polynomial → Kind → ℤ → Bool
-bound_clashes t d Ge a = is_above a (bound_in t.upper d)
-bound_clashes t d Le a = is_below a (bound_in t.lower d)
-bound_clashes t d Eq a = is_below a (bound_in t.lower d) || is_above a (bound_in t.upper d) || has_number t.unequal d a
-bound_clashes t d Ne a = has_number t.equal d a
+-- whether a number of a direction is within the bounds of a table and not left out
+abbrev pub leaves : BoundTable → Polynomial → ℤ → Bool
+leaves t d v = not (is_below v (bound_in t.lower d)) && not (is_above v (bound_in t.upper d)) && not (has_number t.left_out d v)
+
+-- what a table leaves is what meets all literals of a list
+abbrev pub IsTableOf : BoundTable → List NormalLiteral → Type 0
+IsTableOf t ls = (d : Polynomial) (v : ℤ) → leaves t d v ≡ meets_all d v ls
 
 -- a direction has one bound more, the others are as before, and a number is beyond the bounds of a direction where it is beyond one of them
 abbrev pub Tightens : (is_beyond : ℤ → Option ℤ → Bool) → (old new : BTreeMap (Bor Polynomial) ℤ) → Polynomial → ℤ → Type 0
@@ -46,6 +45,6 @@ Tightens is_beyond old new e b = (d : Polynomial) (a : ℤ) → is_beyond a (bou
 abbrev pub AddsNumber : (old new : BTreeSet (ℤ × Bor Polynomial)) → Polynomial → ℤ → Type 0
 AddsNumber old new e b = (d : Polynomial) (a : ℤ) → has_number new d a ≡ (same_polynomial d e && int_eq a b) || has_number old d a
 
--- one bound of a direction more
-abbrev pub AddsBound : (old new : BoundTable) → Polynomial → Kind → ℤ → Type 0
-AddsBound old new e j b = (d : Polynomial) (k : Kind) (a : ℤ) → bound_clashes new d k a ≡ (same_polynomial d e && bounds_clash k a j b) || bound_clashes old d k a
+-- one literal more
+abbrev pub AddsLiteral : (old new : BoundTable) → NormalLiteral → Type 0
+AddsLiteral old new l = (d : Polynomial) (v : ℤ) → leaves new d v ≡ meets_along d v l && leaves old d v

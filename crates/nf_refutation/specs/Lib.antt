@@ -1,3 +1,1 @@
 pub mod BoundTables
-pub mod LiteralTables
-pub mod Pairs

@@ -1,26 +1,35 @@
 //! What the bounds of literals tell of their directions.
 
-ghost use Rattle.std.specs.Prelude.{◌≡◌, ℤ, false, OnOk};
+ghost use Rattle.std.specs.Prelude.{◌≡◌, ◌↔◌, ◌≤ℤ◌, IsTrue, ℤ, true, false, map, List, OnOk, IfOk};
+ghost use Rattle.std.specs.List.{list_any};
+ghost use Rattle.std.specs.Option.{option_copied};
 ghost use Rattle.nf_terms.specs.Terms.{Polynomial};
-ghost use Rattle.nf_rel.specs.declared.kind.Kind.{Kind as PlainKind};
-ghost use Rattle.nf_refutation.specs.BoundTables.{bound_in, is_below, is_above, has_number, bound_clashes, Tightens, AddsNumber, AddsBound};
+ghost use Rattle.nf_rel.specs.Literals.{NormalLiteral, is_refuted_at};
+ghost use Rattle.nf_rel.specs.View.{literal_in};
+ghost use Rattle.nf_refutation.specs.BoundTables.{bound_in, is_below, is_above, has_number, leaves, IsTableOf, Tightens, AddsNumber, AddsLiteral};
 
 use nf_rel::kind::Kind;
-use nf_rel::literals::Bound;
+use nf_rel::literals::{Bound, NLit};
 use nf_terms::poly::Poly;
 use nf_terms::stop::NoMemory;
 use std::alloc::Global;
 use std::collections::{BTreeMap, BTreeSet};
 
-/// The greatest lower bound and the least upper bound of each direction, and the numbers that it equals or differs from.
+/// The greatest lower bound and the least upper bound of each direction, and the numbers that a `!=` leaves out of it.
 ///
 /// An equality bounds its direction from both sides.
 #[derive(Drop)]
 pub(crate) struct BoundTable<'a> {
     pub(crate) lower: BTreeMap<&'a Poly, i128>,
     pub(crate) upper: BTreeMap<&'a Poly, i128>,
-    pub(crate) equal: BTreeSet<(i128, &'a Poly)>,
-    pub(crate) unequal: BTreeSet<(i128, &'a Poly)>,
+    pub(crate) left_out: BTreeSet<(i128, &'a Poly)>,
+}
+
+// The bound of a direction.
+fn bound_in<'a, 'b>(bounds: &'b BTreeMap<&'a Poly, i128>, dir: &'a Poly) -> Option<&'b i128>
+    ensures { option_copied result ≡ bound_in bounds.now dir.now }
+{
+    bounds.get(&dir)
 }
 
 // Whether a number is below the lower bound of a direction.
@@ -51,7 +60,7 @@ fn has_number<'a>(numbers: &BTreeSet<(i128, &'a Poly)>, dir: &'a Poly, number: &
 }
 
 // Raises the lower bound of a direction to a bound, if it is below. The one refusal is out of memory.
-fn raise<'a>(
+fn bound_from_below<'a>(
     lower: &mut BTreeMap<&'a Poly, i128>,
     dir: &'a Poly,
     bound: &i128,
@@ -66,7 +75,7 @@ fn raise<'a>(
 }
 
 // Lowers the upper bound of a direction to a bound, if it is above. The one refusal is out of memory.
-fn lower<'a>(
+fn bound_from_above<'a>(
     upper: &mut BTreeMap<&'a Poly, i128>,
     dir: &'a Poly,
     bound: &i128,
@@ -93,51 +102,105 @@ fn add_number<'a>(
 }
 
 impl<'a> BoundTable<'a> {
-    /// No bound of any direction. It takes no memory.
-    pub(crate) fn new(alloc: Global) -> BoundTable<'a>
-        ensures { (d : Polynomial) (k : PlainKind) (a : ℤ) → bound_clashes result d k a ≡ false }
+    // No bound of any direction. It takes no memory.
+    fn new(alloc: Global) -> BoundTable<'a>
+        ensures { (d : Polynomial) (v : ℤ) → leaves result d v ≡ true }
     {
         BoundTable {
             lower: BTreeMap::new(alloc),
             upper: BTreeMap::new(alloc),
-            equal: BTreeSet::new(alloc),
-            unequal: BTreeSet::new(alloc),
+            left_out: BTreeSet::new(alloc),
         }
     }
 
-    /// Whether a bound clashes with one that was added.
-    pub(crate) fn clashes(&self, bound: &'a Bound) -> bool
-        ensures { result ≡ bound_clashes self.now bound.now.dir bound.now.kind bound.now.bound }
+    // Adds a bound. The one refusal is out of memory.
+    fn add(&mut self, bound: &'a Bound) -> Result<(), NoMemory>
+        ensures { OnOk result (AddsLiteral self.old self.new (literal_in (NLit.Is bound.now))) }
     {
         let dir = &bound.dir;
         let number = &bound.bound;
         match bound.kind {
-            Kind::Ge => is_above(&self.upper, dir, number),
-            Kind::Le => is_below(&self.lower, dir, number),
+            Kind::Ge => bound_from_below(&mut self.lower, dir, number),
+            Kind::Le => bound_from_above(&mut self.upper, dir, number),
             Kind::Eq => {
-                is_below(&self.lower, dir, number)
-                    || is_above(&self.upper, dir, number)
-                    || has_number(&self.unequal, dir, number)
+                bound_from_below(&mut self.lower, dir, number)?;
+                bound_from_above(&mut self.upper, dir, number)
             }
-            Kind::Ne => has_number(&self.equal, dir, number),
+            Kind::Ne => add_number(&mut self.left_out, dir, number),
         }
     }
 
-    /// Adds a bound. The one refusal is out of memory.
-    pub(crate) fn add(&mut self, bound: &'a Bound) -> Result<(), NoMemory>
-        ensures { OnOk result (AddsBound self.old self.new bound.now.dir bound.now.kind bound.now.bound) }
+    // Adds a literal. The one refusal is out of memory.
+    fn add_literal(&mut self, literal: &'a NLit) -> Result<(), NoMemory>
+        ensures { OnOk result (AddsLiteral self.old self.new (literal_in literal.now)) }
     {
-        let dir = &bound.dir;
-        let number = &bound.bound;
-        match bound.kind {
-            Kind::Ge => raise(&mut self.lower, dir, number),
-            Kind::Le => lower(&mut self.upper, dir, number),
-            Kind::Eq => {
-                raise(&mut self.lower, dir, number)?;
-                lower(&mut self.upper, dir, number)?;
-                add_number(&mut self.equal, dir, number)
-            }
-            Kind::Ne => add_number(&mut self.unequal, dir, number),
+        match literal {
+            NLit::True | NLit::False => Ok(()),
+            NLit::Is(bound) => self.add(bound),
         }
+    }
+
+    /// The bounds of a list of literals. The one refusal is out of memory.
+    pub(crate) fn of(alloc: Global, list: &'a [NLit]) -> Result<BoundTable<'a>, NoMemory>
+        ensures { IfOk result (λ table. IsTableOf table (map literal_in list.now)) }
+    {
+        let mut table = BoundTable::new(alloc);
+        for literal in list {
+            table.add_literal(literal)?;
+        }
+        Ok(table)
+    }
+
+    // Whether each number of a direction from one to another is left out.
+    fn leaves_out(&self, dir: &'a Poly, low: &i128, high: &i128) -> bool
+        ensures { IsTrue result ↔ ((v : ℤ) → low.now ≤ℤ v → v ≤ℤ high.now → has_number self.now.left_out dir.now v ≡ true) }
+    {
+        if *high < *low {
+            return true;
+        }
+        let mut number = *low;
+        while number < *high {
+            if !has_number(&self.left_out, dir, &number) {
+                return false;
+            }
+            number += 1;
+        }
+        has_number(&self.left_out, dir, high)
+    }
+
+    // Whether no number of a direction is left.
+    fn leaves_none(&self, dir: &'a Poly) -> bool
+        ensures { IsTrue result ↔ ((v : ℤ) → leaves self.now dir.now v ≡ false) }
+    {
+        match bound_in(&self.lower, dir) {
+            None => false,
+            Some(low) => match bound_in(&self.upper, dir) {
+                None => false,
+                Some(high) => self.leaves_out(dir, low, high),
+            },
+        }
+    }
+
+    // Whether a literal is False, or no number of its direction is left.
+    fn refutes(&self, literal: &'a NLit) -> bool
+        ensures { (ls : List NormalLiteral) → IsTableOf self.now ls → result ≡ is_refuted_at ls (literal_in literal.now) }
+    {
+        match literal {
+            NLit::True => false,
+            NLit::False => true,
+            NLit::Is(bound) => self.leaves_none(&bound.dir),
+        }
+    }
+
+    /// Whether one of some literals is False, or no number of its direction is left.
+    pub(crate) fn refutes_any(&self, list: &'a [NLit]) -> bool
+        ensures { (ls : List NormalLiteral) → IsTableOf self.now ls → result ≡ list_any (is_refuted_at ls) (map literal_in list.now) }
+    {
+        for literal in list {
+            if self.refutes(literal) {
+                return true;
+            }
+        }
+        false
     }
 }

@@ -1,6 +1,5 @@
-//! Which literals of a list clash, found by their directions.
+//! Which lists of literals are refuted, found by their directions, and which literals of a list clash.
 #![tactic(auto)]
 
 mod bound_table;
-mod literal_table;
 pub mod refutation;

@@ -2,13 +2,11 @@
 
 ghost use Rattle.std.specs.Prelude.{◌≡◌, ◌<◌, ◌^◌, length, map, drop, option_map, IfOk, IfSome};
 ghost use Rattle.std.specs.List.{position_from};
-ghost use Rattle.std.specs.Option.{is_some};
 ghost use Rattle.nf_rel.specs.Bounds.{clashing_from};
 ghost use Rattle.nf_rel.specs.Literals.{clash, is_refuted};
 ghost use Rattle.nf_rel.specs.View.{literal_in};
-ghost use Rattle.nf_refutation.specs.Pairs.{pair_from};
 
-use crate::literal_table::LiteralTable;
+use crate::bound_table::BoundTable;
 use nf_rel::clashes::clash;
 use nf_rel::literals::NLit;
 use nf_terms::stop::NoMemory;
@@ -37,51 +35,33 @@ fn first_clash(list: &[NLit], l: &NLit, first: usize) -> Option<usize>
     None
 }
 
-// The first place whose literal clashes with one from there on.
-fn first_place<'a>(alloc: Global, list: &'a [NLit]) -> Result<Option<usize>, NoMemory>
-    ensures pair { IfOk result (λ first. pair_from first list.now ≡ clashing_from 0 (map literal_in list.now)) }
-    ensures refuted { IfOk result (λ first. is_some first ≡ is_refuted (map literal_in list.now)) }
-    ensures within { IfOk result (λ first. IfSome first (λ place. place < length list.now)) }
+/// The least two places whose literals clash, by the first and then by the second. They are equal exactly where the list
+/// begins with a False.
+///
+/// A list may be refuted where no two of its literals clash. Each literal is compared with those behind it, so n of them
+/// take n * n / 2 comparisons; it takes no memory.
+pub fn refuted(list: &[NLit]) -> Option<Places>
+    requires { length list.now < 2 ^ 32 }
+    ensures { option_map (λ c. (c.first, c.second)) result ≡ clashing_from 0 (map literal_in list.now) }
 {
-    let mut later = LiteralTable::new(alloc);
-    let mut first = None;
-    let mut place = list.len();
-    while place > 0 {
-        place -= 1;
-        let literal = &list[place];
-        later.add(literal)?;
-        if later.clashes(literal) {
-            first = Some(place);
+    for first in 0..list.len() {
+        if let Some(second) = first_clash(list, &list[first], first) {
+            return Some(Places {
+                first: first as u32,
+                second: second as u32,
+            });
         }
     }
-    Ok(first)
+    None
 }
 
-/// The least two places whose literals clash, by the first and then by the second. They are equal
-/// exactly where the list begins with a False.
+/// Whether a literal is False, or no integer meets all literals of some direction.
 ///
-/// Literals are looked up by their directions, so n of them take the time of n log n comparisons. The one refusal is out of memory.
-pub fn refuted(alloc: Global, list: &[NLit]) -> Result<Option<Places>, NoMemory>
-    requires { length list.now < 2 ^ 32 }
-    ensures { IfOk result (λ places. option_map (λ c. (c.first, c.second)) places ≡ clashing_from 0 (map literal_in list.now)) }
-{
-    let Some(first) = first_place(alloc, list)? else {
-        return Ok(None);
-    };
-    match first_clash(list, &list[first], first) {
-        Some(second) => Ok(Some(Places {
-            first: first as u32,
-            second: second as u32,
-        })),
-        None => Ok(None),
-    }
-}
-
-/// Whether two of the literals clash, or one is False.
-///
-/// Literals are looked up by their directions, so n of them take the time of n log n comparisons. The one refusal is out of memory.
+/// Literals are looked up by their directions, so n of them take the time of n log n comparisons, and log n for each literal
+/// and each number that a `!=` leaves out beside the greatest lower bound of its direction. The one refusal is out of memory.
 pub fn is_refuted(alloc: Global, list: &[NLit]) -> Result<bool, NoMemory>
     ensures { IfOk result (λ refuted. refuted ≡ is_refuted (map literal_in list.now)) }
 {
-    Ok(first_place(alloc, list)?.is_some())
+    let table = BoundTable::of(alloc, list)?;
+    Ok(table.refutes_any(list))
 }

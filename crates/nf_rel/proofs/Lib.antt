@@ -1,6 +1,9 @@
 pub mod Floors
 pub mod CommonDivisors
+pub mod Exact
 pub mod Truth
+pub mod Clashing
+pub mod Sides
 pub mod Values
 pub mod Divided
 pub mod Directions

@@ -25,8 +25,7 @@ use Rattle.nf_sums.proofs.Forms.{negation_normal}
 use Rattle.nf_sums.proofs.Values.{goes_done}
 use Rattle.nf_rel.specs.declared.kind.Kind.{Kind}
 use Rattle.nf_rel.specs.declared.kind.Kind.TheVariants.{Ge, Le, Eq, Ne}
-use Rattle.nf_rel.specs.Bounds.{clashing_from}
-use Rattle.nf_rel.specs.Literals.{NormalLiteral, True, False, Is, Form, AtLeastZero, IsZero, IsNotZero, literal_form, one, against_zero, literal, negate, clash, clashes_with, is_refuted}
+use Rattle.nf_rel.specs.Literals.{NormalLiteral, True, False, Is, Form, AtLeastZero, IsZero, IsNotZero, literal_form, one, against_zero, literal, negate}
 use Rattle.nf_rel.specs.NormalLiterals.{is_normal, is_primitive, is_inner, IsNormalLiteral, direction_of, rank, same_literal}
 use Rattle.nf_rel.proofs.NormalForms.{form_normal}
 use Rattle.nf_rel.proofs.Truth.{same_is}
@@ -138,7 +137,7 @@ literal_same (Is d k b) =
     and_both ((rank k == rank k) && int_eq b b) (same_polynomial d d) (and_both (rank k == rank k) (int_eq b b) (own_kind k) ((signed_Decides b b).1 refl)) (ap is_eq (polynomial_same d d refl))
 
 -- ---- clashes
-some_or : {T : Type 0} (a b : Option T) → is_some (option_or a b) ≡ is_some a || is_some b
+pub some_or : {T : Type 0} (a b : Option T) → is_some (option_or a b) ≡ is_some a || is_some b
 some_or None b = refl
 some_or (Some x) b = refl
 
@@ -153,14 +152,3 @@ some_place test i (x ∷ xs) = by_test (test x) (some_place test (i + 1) xs)
     by_test : (t : Bool) → is_some (position_from test (i + 1) xs) ≡ list_any test xs → is_some (cond t (Some i) (position_from test (i + 1) xs)) ≡ t || list_any test xs
     by_test true e = refl
     by_test false e = e
-
-refuted_from : (i : ℕ) (ls : List NormalLiteral) → is_some (clashing_from i ls) ≡ is_refuted ls
-refuted_from i [] = refl
-refuted_from i (l ∷ ls) =
-    let f : ℕ → ℕ × ℕ = λ j. (i, j) in
-    some_or (option_map f (position_from (clash l) i (l ∷ ls))) (clashing_from (i + 1) ls)
-    ∙ ap (λ b. b || is_some (clashing_from (i + 1) ls)) (some_map f (position_from (clash l) i (l ∷ ls)) ∙ some_place (clash l) i (l ∷ ls))
-    ∙ ap (λ b. clashes_with (l ∷ ls) l || b) (refuted_from (i + 1) ls)
-
-pub refuted_where : (ls : List NormalLiteral) → is_some (clashing_from 0 ls) ≡ is_refuted ls
-refuted_where ls = refuted_from 0 ls

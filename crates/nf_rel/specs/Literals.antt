@@ -146,12 +146,39 @@ clash (Is d k a) (Is e j b) = same_polynomial d e && bounds_clash k a j b
 abbrev pub clashes_with : List NormalLiteral → NormalLiteral → Bool
 clashes_with ls l = list_any (clash l) ls
 
--- whether two members clash, or one with itself
-abbrev pub is_refuted : List NormalLiteral → Bool
-is_refuted [] = false
-is_refuted (l ∷ ls) = clashes_with (l ∷ ls) l || is_refuted ls
+-- whether a number meets a literal as far as it bounds a direction
+abbrev pub meets_along : Polynomial → ℤ → NormalLiteral → Bool
+meets_along d v True = true
+meets_along d v False = true
+meets_along d v (Is e k b) = not (same_polynomial d e) || meets k v b
 
-abbrev pub is_implied : List NormalLiteral → NormalLiteral → Bool
+-- whether a number meets all literals of a direction
+abbrev pub meets_all : Polynomial → ℤ → List NormalLiteral → Bool
+meets_all d v ls = list_all (meets_along d v) ls
+
+-- 0, and each number at a bound or next to it
+abbrev pub numbers_near : List NormalLiteral → List ℤ
+numbers_near [] = pos 0 ∷ []
+numbers_near (True ∷ ls) = numbers_near ls
+numbers_near (False ∷ ls) = numbers_near ls
+numbers_near (Is d k b ∷ ls) = (b -ℤ pos 1) ∷ b ∷ (b +ℤ pos 1) ∷ numbers_near ls
+
+-- whether no number meets all literals of a direction: where any does, one of these does
+unfoldable pub is_refuted_along : Polynomial → List NormalLiteral → Bool
+is_refuted_along d ls = not (list_any (λ v. meets_all d v ls) (numbers_near ls))
+
+-- whether a literal is False, or no number meets all literals of its direction
+abbrev pub is_refuted_at : List NormalLiteral → NormalLiteral → Bool
+is_refuted_at ls True = false
+is_refuted_at ls False = true
+is_refuted_at ls (Is d k b) = is_refuted_along d ls
+
+-- whether a member is False, or no number meets all literals of some direction
+unfoldable pub is_refuted : List NormalLiteral → Bool
+is_refuted ls = list_any (is_refuted_at ls) ls
+
+-- whether a literal is True, or a member is False, or each number that meets all literals of its direction meets it
+unfoldable pub is_implied : List NormalLiteral → NormalLiteral → Bool
 is_implied ls True = true
-is_implied ls False = clashes_with ls True
-is_implied ls (Is d k b) = clashes_with ls (negate (Is d k b))
+is_implied ls False = list_any is_false ls
+is_implied ls (Is d k b) = list_any is_false ls || is_refuted_along d (negate (Is d k b) ∷ ls)

@@ -1,10 +1,11 @@
 //! Which literals clash, and what they imply.
 
-ghost use Rattle.std.specs.Prelude.{◌≡◌, IsTrue, map};
-ghost use Rattle.nf_rel.specs.Literals.{negate, clash, is_implied, bounds_clash, clashes_with};
-ghost use Rattle.nf_rel.specs.Bounds.{in_range, negated_clash};
+ghost use Rattle.std.specs.Prelude.{◌≡◌, map};
+ghost use Rattle.std.specs.List.{list_any};
+ghost use Rattle.nf_rel.specs.Literals.{negate, clash, is_false, is_implied, bounds_clash};
 ghost use Rattle.nf_rel.specs.View.{literal_in};
 
+use crate::intervals::negation_refuted;
 use crate::kind::Kind;
 use crate::literals::{Bound, NLit};
 
@@ -98,56 +99,29 @@ pub fn clash(l: &NLit, m: &NLit) -> bool
     }
 }
 
-// Whether no number meets the second bound but not the first.
-fn negation_clashes(k: Kind, a: &i128, j: Kind, b: &i128) -> bool
-    requires { IsTrue (in_range k a.now) }
-    ensures { result ≡ negated_clash k a.now j b.now }
+// Whether a list has a False.
+fn has_false(list: &[NLit]) -> bool
+    ensures { result ≡ list_any is_false (map literal_in list.now) }
 {
-    match k {
-        Kind::Ge => bounds_clash(Kind::Le, &(*a - 1), j, b),
-        Kind::Le => bounds_clash(Kind::Ge, &(*a + 1), j, b),
-        Kind::Eq => bounds_clash(Kind::Ne, a, j, b),
-        Kind::Ne => bounds_clash(Kind::Eq, a, j, b),
-    }
-}
-
-// Whether a literal's negation clashes with another.
-fn contradicts(l: &NLit, m: &NLit) -> bool
-    ensures { result ≡ clash (negate (literal_in l.now)) (literal_in m.now) }
-{
-    match l {
-        NLit::True => true,
-        NLit::False => match m {
-            NLit::True => false,
-            NLit::False => true,
-            NLit::Is(_) => false,
-        },
-        NLit::Is(b) => match m {
-            NLit::True => false,
-            NLit::False => true,
-            NLit::Is(c) => negation_clashes(b.kind, &b.bound, c.kind, &c.bound) && b.dir == c.dir,
-        },
-    }
-}
-
-// Whether a literal's negation clashes with a member.
-fn some_contradicts(list: &[NLit], l: &NLit) -> bool
-    ensures { result ≡ clashes_with (map literal_in list.now) (negate (literal_in l.now)) }
-{
-    for m in list {
-        if contradicts(l, m) {
+    for l in list {
+        if let NLit::False = l {
             return true;
         }
     }
     false
 }
 
-/// Whether a literal is implied by a list: it is true, or its negation clashes with a member.
+/// Whether a literal is implied by a list: it is True, or the list has a False, or each integer that meets the list's
+/// literals of its direction meets it, also where none meets them.
+///
+/// It takes no memory. A list of n literals is gone through three times, and once more for each number that a `!=` leaves
+/// out beside the greatest lower bound of the literal's negation and the list: at most n + 4 times.
 pub fn implied(list: &[NLit], l: &NLit) -> bool
     ensures { result ≡ is_implied (map literal_in list.now) (literal_in l.now) }
 {
     match l {
         NLit::True => true,
-        NLit::False | NLit::Is(_) => some_contradicts(list, l),
+        NLit::False => has_false(list),
+        NLit::Is(bound) => has_false(list) || negation_refuted(list, bound),
     }
 }

@@ -1,6 +1,7 @@
 //! Laws of literals. The functions do nothing.
 
-ghost use Rattle.std.specs.Prelude.{◌≡◌, ℤ, not, true, false, List};
+ghost use Rattle.std.specs.Prelude.{◌≡◌, ℕ, ℤ, not, true, false, List};
+ghost use Rattle.std.specs.List.{list_any, slice_get};
 ghost use Rattle.std.specs.Option.{is_some};
 ghost use Rattle.fs_model.specs.declared.parts.Rel.{Rel};
 ghost use Rattle.fs_model.specs.Meaning.{relates};
@@ -11,7 +12,7 @@ ghost use Rattle.nf_terms.specs.Normal.{IsNormal};
 ghost use Rattle.nf_rel.specs.declared.kind.Kind.{Kind};
 ghost use Rattle.nf_rel.specs.Bounds.{clashing_from};
 ghost use Rattle.nf_rel.specs.NormalLiterals.{IsNormalLiteral, direction_of, same_literal};
-ghost use Rattle.nf_rel.specs.Literals.{NormalLiteral, Is, is_true_in, all_true_in, literal, negate, clash, is_refuted, is_implied};
+ghost use Rattle.nf_rel.specs.Literals.{NormalLiteral, Is, meets, is_true_in, all_true_in, literal, negate, clash, clashes_with, is_false, meets_all, is_refuted_along, is_refuted_at, is_refuted, is_implied};
 
 /// A literal is true exactly where its relation holds.
 pub fn a_literal_means_its_relation()
@@ -44,7 +45,24 @@ pub fn literals_that_are_the_same_are_equal()
     ensures same { (l : NormalLiteral) → same_literal l l ≡ true }
 {}
 
-/// A list has two places that clash exactly where it is refuted.
+/// What clashes is refuted, and implied where it is the negation that clashes.
 pub fn what_clashes_is_refuted()
-    ensures { (ls : List NormalLiteral) → is_some (clashing_from 0 ls) ≡ is_refuted ls }
+    ensures least { (ls : List NormalLiteral) → is_some (clashing_from 0 ls) ≡ true → is_refuted ls ≡ true }
+    ensures places { (ls : List NormalLiteral) (i j : ℕ) (l m : NormalLiteral) → slice_get ls i ≡ Some l → slice_get ls j ≡ Some m → clash l m ≡ true → is_refuted ls ≡ true }
+    ensures implied { (ls : List NormalLiteral) (l : NormalLiteral) → clashes_with ls (negate l) ≡ true → is_implied ls l ≡ true }
+{}
+
+/// Refutation and implication are exact by direction.
+///
+/// A direction is refuted exactly where no integer meets all its literals. A list is refuted exactly where it has a False
+/// or one of its directions is refuted. A bound is implied where the list has a False; otherwise exactly where each integer
+/// that meets all literals of its direction meets it.
+pub fn refutation_is_exact_by_direction()
+    ensures none_meets { (d : Polynomial) (ls : List NormalLiteral) → is_refuted_along d ls ≡ true → (v : ℤ) → meets_all d v ls ≡ false }
+    ensures where_none_meets { (d : Polynomial) (ls : List NormalLiteral) → ((v : ℤ) → meets_all d v ls ≡ false) → is_refuted_along d ls ≡ true }
+    ensures refuted { (ls : List NormalLiteral) → is_refuted ls ≡ list_any (is_refuted_at ls) ls }
+    ensures some_direction { (d : Polynomial) (ls : List NormalLiteral) → is_refuted_along d ls ≡ true → is_refuted ls ≡ true }
+    ensures each_meets { (ls : List NormalLiteral) (d : Polynomial) (k : Kind) (b : ℤ) → list_any is_false ls ≡ false → is_implied ls (Is d k b) ≡ true → (v : ℤ) → meets_all d v ls ≡ true → meets k v b ≡ true }
+    ensures where_each_meets { (ls : List NormalLiteral) (d : Polynomial) (k : Kind) (b : ℤ) → ((v : ℤ) → meets_all d v ls ≡ true → meets k v b ≡ true) → is_implied ls (Is d k b) ≡ true }
+    ensures where_false { (ls : List NormalLiteral) (l : NormalLiteral) → list_any is_false ls ≡ true → is_implied ls l ≡ true }
 {}

@@ -4,6 +4,7 @@
 pub mod clashes;
 pub mod copies;
 mod divisors;
+mod intervals;
 pub mod kind;
 pub mod laws;
 pub mod literals;

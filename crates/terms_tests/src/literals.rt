@@ -192,11 +192,11 @@ fn read_list(alloc: Global, text: &str) -> Result<Vec<NLit>, Trouble> {
 }
 
 // The places that clash in a list, if it is short.
-fn clashing(alloc: Global, list: &[NLit]) -> Result<Option<Places>, Trouble> {
+fn clashing(list: &[NLit]) -> Result<Option<Places>, Trouble> {
     if list.len() > 100 {
         return Err(Trouble::Unread);
     }
-    Ok(refuted(alloc, list)?)
+    Ok(refuted(list))
 }
 
 // Whether the first literals of a row that clash stand at its places.
@@ -204,7 +204,7 @@ fn is_refuted_at(alloc: Global, row: &str) -> Result<bool, Trouble> {
     let (text, places) = row.split_once(':').unwrap_or((row, ""));
     let list = read_list(alloc, text)?;
     let is_refuted = is_refuted(alloc, list.as_slice())?;
-    match clashing(alloc, list.as_slice())? {
+    match clashing(list.as_slice())? {
         None => Ok(!is_refuted && places.trim() == "none"),
         Some(Places { first, second }) => {
             let (left, right) = places.trim().split_once(' ').unwrap_or(("", ""));
@@ -244,6 +244,46 @@ fn lists_that_are_refuted(rt: HostRuntime) {
     }
 }
 
+// Whether a row is refuted as wanted, though no two of its literals clash.
+fn is_refuted_together(alloc: Global, row: &str, wanted: bool) -> Result<bool, Trouble> {
+    let list = read_list(alloc, row)?;
+    let is_refuted = is_refuted(alloc, list.as_slice())?;
+    Ok(is_refuted == wanted && clashing(list.as_slice())?.is_none())
+}
+
+const REFUTED_TOGETHER: &str = "a, >=, 3; a, <=, 3; a, !=, 3
+a, <=, b; b, <=, a; a, !=, b
+2 a *, >=, 5; 2 a *, <=, 7; a, !=, 3
+a, !=, 4; a, <=, 5; a, !=, 3; a, >=, 3; a, !=, 5
+a, >=, -1; b, >=, 0; a, <=, 1; a, !=, 0; a, !=, 1; a, !=, -1
+b, >=, 0; a, >=, 3; c, !=, 7; a, !=, 3; b, <=, 4; a, <=, 3
+a, >=, 170141183460469231731687303715884105726; a, <=, 170141183460469231731687303715884105726; a, !=, 170141183460469231731687303715884105726
+a, >=, -170141183460469231731687303715884105726; a, <=, -170141183460469231731687303715884105726; a, !=, -170141183460469231731687303715884105726
+a, >=, 170141183460469231731687303715884105724; a, <=, 170141183460469231731687303715884105725; a, !=, 170141183460469231731687303715884105724; a, !=, 170141183460469231731687303715884105725
+";
+
+const OPEN: &str = "a, >=, 3; a, !=, 3; a, !=, 4
+a, <=, 3; a, !=, 3; a, !=, 2
+a, !=, 3; a, !=, 4
+a, >=, 3; a, <=, 5; a, !=, 3; a, !=, 5
+a, ==, 4; a, !=, 3; a, !=, 5; a, >=, 4; a, <=, 4
+a, >=, 3; b, <=, 3; a, !=, 3; b, !=, 3
+a, >=, 0; b, >=, 0; a b +, <=, -1
+a, >=, 170141183460469231731687303715884105726; a, !=, 170141183460469231731687303715884105726
+a, <=, -170141183460469231731687303715884105725; a, !=, -170141183460469231731687303715884105725
+";
+
+#[test]
+fn lists_that_are_refuted_together(rt: HostRuntime) {
+    let alloc = rt.alloc();
+    for row in REFUTED_TOGETHER.lines() {
+        assert!(rt; is_refuted_together(alloc, row, true).unwrap_or(false), "{row}");
+    }
+    for row in OPEN.lines() {
+        assert!(rt; is_refuted_together(alloc, row, false).unwrap_or(false), "{row}");
+    }
+}
+
 // Whether the list of a row implies its literal.
 fn implies(alloc: Global, row: &str) -> Result<bool, Trouble> {
     let (text, last) = row.split_once(':').unwrap_or((row, ""));
@@ -262,14 +302,29 @@ b, >=, 0; a, <, b: b, >, a
 b, >=, 0: 0, ==, 0
 0, ==, 1: a, ==, 5
 0, ==, 1: 0, ==, 1
+a, >=, 2; a, <=, 2: a, ==, 2
+a, >=, 3; a, !=, 3: a, >=, 4
+a, !=, b; a, <=, b: a, <, b
+a, <=, 5; a, !=, 5; a, !=, 4: a, <, 4
+a, >=, 0; a, <=, 2; a, !=, 0; a, !=, 2: a, ==, 1
+a, >=, 3; a, <=, 4; a, !=, 3: a, !=, 5
+a, >=, 3; a, <=, 3; a, !=, 3: a, ==, 9
+a, >=, 3; 0, ==, 1: b, ==, 9
+a, <=, 170141183460469231731687303715884105725; a, !=, 170141183460469231731687303715884105725: a, <=, 170141183460469231731687303715884105724
+a, >=, -170141183460469231731687303715884105726; a, !=, -170141183460469231731687303715884105726: a, >=, -170141183460469231731687303715884105725
+a, >=, 170141183460469231731687303715884105726: a, >=, 170141183460469231731687303715884105726
 ";
 
 const NOT_IMPLIED: &str = "a, >=, 2: a, >=, 3
 a, >=, 2: a, <=, 5
 a, >=, 2: b, >=, 2
-a, >=, 2; a, <=, 2: a, ==, 2
 a, !=, 2: a, !=, 3
 b, >=, 0: 0, ==, 1
+a, >=, 3; a, !=, 4: a, >=, 4
+a, >=, 0; a, <=, 2; a, !=, 0: a, ==, 1
+a, >=, 3; a, <=, 3; a, !=, 3: b, ==, 9
+a, >=, 3; a, <=, 3; a, !=, 3: 0, ==, 1
+a, >=, 170141183460469231731687303715884105725: a, >=, 170141183460469231731687303715884105726
 ";
 
 fn each_implied(rt: &impl Abort, alloc: Global, rows: &str, wanted: bool) {

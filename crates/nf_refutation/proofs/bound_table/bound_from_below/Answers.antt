@@ -4,7 +4,7 @@ use Rattle.std.proofs.lemmas.Int.{to_z-of_z}
 use Rattle.nf_terms.specs.Order.{same_polynomial}
 use Rattle.nf_refutation.specs.BoundTables.{bound_in, is_below}
 use Rattle.nf_refutation.proofs.Additions.{below_compares, tightens_needless, tightens_better}
-use Rattle.nf_refutation.proofs.bound_table.raise.Goals as goal
+use Rattle.nf_refutation.proofs.bound_table.bound_from_below.Goals as goal
 
 pub returns-then-is_below : goal.returns-then-is_below
 returns-then-is_below c = tightens_needless is_below below_compares c.args.dir.now c.args.bound.now c.args.lower.now (sym c.is_below.ensures ∙ c.if-is_below.true)

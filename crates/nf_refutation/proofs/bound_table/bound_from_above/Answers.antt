@@ -4,7 +4,7 @@ use Rattle.std.proofs.lemmas.Int.{to_z-of_z}
 use Rattle.nf_terms.specs.Order.{same_polynomial}
 use Rattle.nf_refutation.specs.BoundTables.{bound_in, is_above}
 use Rattle.nf_refutation.proofs.Additions.{above_compares, tightens_needless, tightens_better}
-use Rattle.nf_refutation.proofs.bound_table.lower.Goals as goal
+use Rattle.nf_refutation.proofs.bound_table.bound_from_above.Goals as goal
 
 pub returns-then-is_above : goal.returns-then-is_above
 returns-then-is_above c = tightens_needless is_above above_compares c.args.dir.now c.args.bound.now c.args.upper.now (sym c.is_above.ensures ∙ c.if-is_above.true)

@@ -1,7 +1,0 @@
-use Rattle.std.proofs.Common.{◌≡◌, map, drop}
-use Rattle.nf_rel.specs.Literals.{negate, clashes_with}
-use Rattle.nf_rel.specs.View.{literal_in}
-use Rattle.nf_rel.proofs.clashes.some_contradicts.Given as goal
-
-abbrev pub invariant-loop-m : goal.invariant-loop-m
-invariant-loop-m l = clashes_with (map literal_in (drop l.m-index l.list)) (negate (literal_in l.l)) ≡ clashes_with (map literal_in l.list) (negate (literal_in l.l))
