@@ -1,0 +1,2 @@
+pub mod ExpressionTerms
+pub mod EvenPaths
