@@ -1,2 +1,4 @@
 pub mod ExpressionTerms
 pub mod EvenPaths
+pub mod Parting
+pub mod OtherPaths
