@@ -5,3 +5,7 @@ pub mod Extending
 pub mod Splits
 pub mod Freeing
 pub mod EvenRebases
+pub mod Coupled
+pub mod EvenVectors
+pub mod EvenStart
+pub mod RisenFacts
