@@ -42,10 +42,10 @@ done_is x y e = cc e
 
 -- ---- the other side stays
 
-record Stays (side : Side) (v u : List (Pos × Nf)) : Type 0 where
-  numbers : (x : ℕ) → number_at u (at side x) ≡ number_at v (at side x)
-  arrays : (x : ℕ) → array_at u (at side x) ≡ array_at v (at side x)
-  lists : (x : ℕ) → list_at u (at side x) ≡ list_at v (at side x)
+pub record Stays (side : Side) (v u : List (Pos × Nf)) : Type 0 where
+  pub numbers : (x : ℕ) → number_at u (at side x) ≡ number_at v (at side x)
+  pub arrays : (x : ℕ) → array_at u (at side x) ≡ array_at v (at side x)
+  pub lists : (x : ℕ) → list_at u (at side x) ≡ list_at v (at side x)
 
 other_at : (side : Side) (x y : ℕ) → same_pos (at (other side) y) (at side x) ≡ false
 other_at Left x y = refl
@@ -84,7 +84,7 @@ module _ (side : Side) where
       let s = goes_done (change side c v) (λ z. change_all side cs z) u e in
       stay_on v s.middle u (change_stays v s.middle c s.first) (changes_stay cs s.middle u s.next)
 
-  steps_stay : (m : Fsmd) (xs : List Step) (v u : List (Pos × Nf)) → steps_over m side xs v ≡ Done u → Stays (other side) v u
+  pub steps_stay : (m : Fsmd) (xs : List Step) (v u : List (Pos × Nf)) → steps_over m side xs v ≡ Done u → Stays (other side) v u
   steps_stay m [] v u e = none_stays v u (done_is v u e)
   steps_stay m (x ∷ xs) v u e =
       let s = goes_done (act_over side (branch_at m x.state x.branch).assignments v) (λ z. steps_over m side xs z) u e in
@@ -92,7 +92,7 @@ module _ (side : Side) where
       stay_on v s.middle u (changes_stay t.middle v s.middle t.next) (steps_stay m xs s.middle u s.next)
 
 -- a path that is executed leaves what its steps leave
-steps_of : (m : Fsmd) (p : Path) (side : Side) (v : List (Pos × Nf)) (post : Post) → execute m p side v ≡ Done post → steps_over m side (steps_in p) v ≡ Done post.vector
+pub steps_of : (m : Fsmd) (p : Path) (side : Side) (v : List (Pos × Nf)) (post : Post) → execute m p side v ≡ Done post → steps_over m side (steps_in p) v ≡ Done post.vector
 steps_of m p side v post e =
     let c = goes_done (conditions m p side v) (λ c. after (steps_over m side (steps_in p) v) (λ u. Done (record { conditions = c; vector = u }))) post e in
     let u = goes_done (steps_over m side (steps_in p) v) (λ u. Done (record { conditions = c.middle; vector = u })) post c.next in

@@ -2,3 +2,4 @@ pub mod ExpressionTerms
 pub mod EvenPaths
 pub mod Parting
 pub mod OtherPaths
+pub mod OtherArrivals

@@ -33,3 +33,10 @@ pub fn paths_of_other_numbers_clash()
         → IsSound a → AlikePoints a b pairs P Q → IsEven a b v → IsPath a p → IsPath b q → p.from ≡ P → q.from ≡ Q
         → p.branch ≢ q.branch → conditions a p Left v ≡ Done ls → conditions b q Right v ≡ Done ms → SomeClash ls ms }
 {}
+
+/// The conditions with which two paths of alike points arrive clash among themselves, where the paths are not of one number.
+pub fn arrivals_of_other_numbers_clash()
+    ensures { (a b : Fsmd) (pairs : List (Point × Point)) (P Q : Point) (p q : Path) (ls : List NormalLiteral) (v : List (Pos × Nf))
+        (post : Post) → IsSound a → AlikePoints a b pairs P Q → IsEven a b v → IsPath a p → IsPath b q → p.from ≡ P → q.from ≡ Q
+        → p.branch ≢ q.branch → arrive a b ls v (Some p) (Some q) ≡ Done post → SomeClash post.conditions post.conditions }
+{}
