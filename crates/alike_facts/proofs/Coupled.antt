@@ -1,7 +1,7 @@
 -- The positions of machines that declare the same stand in couples.
-use Rattle.std.proofs.Common.{◌≡◌, ℕ, zero, suc, ◌+◌, List, [], ◌∷◌, ◌++◌, map, ap, ap₂, sym, refl, ◌∙◌, subst, arith, Option, Some, None, Bool, true, false, cond, inl, inr}
-use Rattle.std.specs.Prelude.{not, ◌&&◌, ◌||◌, ◌⊎◌, slice_get}
-use Rattle.std.specs.List.{list_any, find, filter, flat_map}
+use Rattle.std.proofs.Common.{◌≡◌, ℕ, zero, suc, ◌+◌, List, [], ◌∷◌, ◌++◌, map, ap, sym, refl, ◌∙◌, subst, arith, Option, Some, Bool, true, false, cond, inl, inr}
+use Rattle.std.specs.Prelude.{not, ◌||◌, ◌⊎◌, slice_get}
+use Rattle.std.specs.List.{list_any, filter}
 use Rattle.std.specs.Option.{option_to_list}
 use Rattle.std.specs.Str.{bytes_eq}
 use Rattle.std.proofs.lemmas.Slice.Eq.{bytes_eq-Decides}
@@ -11,16 +11,14 @@ use Rattle.fs_model.specs.declared.parts.VarInfo.{VarInfo}
 use Rattle.fs_model.specs.Machines.{Fsmd}
 use Rattle.fs_model.proofs.Truth.{and_left, and_right, or_right, not_true}
 use Rattle.fs_ast.specs.Sound.{IsSound, names_differ}
-use Rattle.fs_pair.specs.declared.positions.Position.{Position}
 use Rattle.fs_pair.specs.SidedVariables.{SidedVariable, sided_variables, same_name_and_sort, partner_among, with_partners, is_alone, all_sided_variables}
 use Rattle.fs_pair.specs.Positions.{position_of, positions}
 use Rattle.fs_pair.proofs.Tests.{same_name, are_same}
 use Rattle.nf_terms.specs.declared.tree.Side.TheVariants.{Left, Right}
 use Rattle.nf_terms.specs.declared.tree.Pos.{Pos}
 use Rattle.sym_paths.specs.Stores.{at}
-use Rattle.alike_behaviour.specs.Sameness.{AreTwins}
 use Rattle.alike_behaviour.specs.Alike.{DeclareTheSame}
-use Rattle.alike_facts.specs.Couples.{IsCouple, AreCouples, sorted_positions}
+use Rattle.alike_facts.specs.Couples.{AreCouples, sorted_positions}
 
 -- ---- names that differ
 

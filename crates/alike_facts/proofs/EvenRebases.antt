@@ -1,5 +1,5 @@
 -- The rebase of a post in whose vector each couple has equal values is even.
-use Rattle.std.proofs.Common.{◌≡◌, cond, Bool, true, false, refl, ap, ap₂, sym, subst, ◌∙◌, List, [], ◌∷◌, ◌++◌, take, Option, Some, None, map}
+use Rattle.std.proofs.Common.{◌≡◌, cond, Bool, true, false, refl, ap, sym, subst, ◌∙◌, List, [], ◌∷◌, ◌++◌, take, Option, Some, None, map}
 use Rattle.fs_model.specs.declared.parts.Sort.{Sort}
 use Rattle.fs_model.specs.declared.parts.Sort.TheVariants as sort
 use Rattle.fs_pair.specs.declared.positions.Position.{Position}
@@ -8,16 +8,15 @@ use Rattle.nf_terms.specs.Forms.{same_form}
 use Rattle.nf_terms.specs.Computed.{Computed, Done, after}
 use Rattle.nf_terms.specs.declared.tree.Pos.{Pos}
 use Rattle.nf_terms.specs.declared.form.Nf.{Nf}
-use Rattle.nf_terms.specs.declared.form.Nf.TheVariants.{Num, Arr, Seq}
+use Rattle.nf_terms.specs.declared.form.Nf.TheVariants.{Num}
 use Rattle.nf_sums.specs.Operations.{added, subtracted}
 use Rattle.nf_sums.proofs.Values.{goes_done}
 use Rattle.nf_subst.specs.Vectors.{number_at}
 use Rattle.nf_subst.specs.Substitution.{substituted}
-use Rattle.nf_rel.specs.Literals.{NormalLiteral}
 use Rattle.sym_paths.specs.Execution.{Post}
 use Rattle.sym_facts.specs.Facts.{FactPosition, Fact, own_symbol, form_or_symbol, most_literals}
 use Rattle.sym_facts.specs.Entailment.{form_substituted}
-use Rattle.propagate.specs.Rebases.{value_at, number_held, form_held, Held, first_pass, second_pass, number_tied_to, number_tied, form_tied, tied, equation_found, freed_with, with_equation, third_by, third_pass, with_needed, conditions_over, rebase}
+use Rattle.propagate.specs.Rebases.{value_at, number_held, form_held, first_pass, second_pass, number_tied_to, number_tied, form_tied, tied, equation_found, freed_with, with_equation, third_by, third_pass, with_needed, conditions_over, rebase}
 use Rattle.alike_terms.proofs.RisenSubstitutions.{self_difference}
 use Rattle.alike_facts.specs.EvenFacts.{AreEvenValues, AreEvenPositions, IsEvenFact}
 use Rattle.alike_facts.proofs.Extending.{extends_self}

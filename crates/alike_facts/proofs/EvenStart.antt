@@ -1,10 +1,9 @@
 -- The start fact of machines that declare the same is even.
-use Rattle.std.proofs.Common.{◌≡◌, ℕ, zero, suc, ◌+◌, List, [], ◌∷◌, ◌++◌, map, ap, sym, refl, ◌∙◌, subst, arith, Option, Some, None, Bool, true, false, cond}
-use Rattle.std.specs.Prelude.{not, ◌&&◌, slice_get, option_map}
+use Rattle.std.proofs.Common.{◌≡◌, ℕ, zero, suc, ◌+◌, List, [], ◌∷◌, ◌++◌, map, ap, sym, refl, ◌∙◌, subst, arith, Option, Some, Bool, true, false, cond}
+use Rattle.std.specs.Prelude.{slice_get, option_map}
 use Rattle.std.specs.List.{find, position_from}
 use Rattle.std.specs.Option.{option_to_list}
 use Rattle.std.proofs.lemmas.Option.{slice_get-map}
-use Rattle.std.proofs.lemmas.List.{append-nil}
 use Rattle.fs_model.specs.declared.parts.Role.{Role}
 use Rattle.fs_model.specs.declared.parts.Role.TheVariants.{Input, Output, Local}
 use Rattle.fs_model.specs.declared.parts.Sort.{Sort}
@@ -17,9 +16,8 @@ use Rattle.fs_pair.specs.Positions.{position_of, positions}
 use Rattle.fs_pair.proofs.Tests.{same_name, are_same}
 use Rattle.nf_terms.specs.declared.tree.Side.TheVariants.{Left, Right}
 use Rattle.nf_terms.specs.declared.tree.Pos.{Pos}
-use Rattle.nf_terms.specs.declared.form.Nf.{Nf}
 use Rattle.sym_paths.specs.Stores.{at}
-use Rattle.sym_facts.specs.Facts.{FactPosition, own_symbol, form_or_symbol}
+use Rattle.sym_facts.specs.Facts.{own_symbol, form_or_symbol}
 use Rattle.sym_facts.specs.Starts.{start_form, partner_in, start_position, start_fact}
 use Rattle.alike_behaviour.specs.Alike.{DeclareTheSame}
 use Rattle.alike_facts.specs.EvenFacts.{AreEvenPositions, IsEvenFact}
@@ -102,9 +100,10 @@ module _ (a b : Fsmd) (sound_a : IsSound a) (sound_b : IsSound b) (same : Declar
       let here = first_of a b sound_b same x v vs h in
       let t = twin_of a b sound_b same x v here in
       let s : SidedVariable = record { pos = record { side = Left; var = x }; variable = v } in
-      subst (λ o. AreEvenPositions (map (start_position (positions a b)) (map (position_of (all_sided_variables a.variables b.variables)) ((s ∷ option_to_list o) ++ with_partners (sided_variables Left (x + 1) vs) (sided_variables Right 0 b.variables))))) (sym t.2)
-      (starts_alike v.role v.sort (at Left x) (partner_in (positions a b) (position_from (is_partner (record { pos = record { side = Right; var = t.0 }; variable = v })) 0 all)) (partner_in (positions a b) (position_from (is_partner s) 0 all)) (partner_at x t.0 v here),
-      starts_even (x + 1) vs (rest_of a b sound_b same x v vs h))
+      subst (λ o. AreEvenPositions (map (start_position (positions a b)) (map (position_of (all_sided_variables a.variables b.variables)) ((s ∷ option_to_list o) ++ with_partners (sided_variables Left (x + 1) vs) (sided_variables Right 0 b.variables))))) (sym t.2) (
+        starts_alike v.role v.sort (at Left x) (partner_in (positions a b) (position_from (is_partner (record { pos = record { side = Right; var = t.0 }; variable = v })) 0 all)) (partner_in (positions a b) (position_from (is_partner s) 0 all)) (partner_at x t.0 v here),
+        starts_even (x + 1) vs (rest_of a b sound_b same x v vs h),
+      )
 
   pub start_even : IsEvenFact (start_fact (positions a b))
   start_even =

@@ -1,5 +1,5 @@
 -- Even vectors have equal values in each couple, and even facts have even vectors.
-use Rattle.std.proofs.Common.{◌≡◌, ℕ, ◌==◌, List, [], ◌∷◌, map, ap, ap₂, sym, refl, ◌∙◌, subst, Option, Some, None, Bool, true, false, cond, inl, inr}
+use Rattle.std.proofs.Common.{◌≡◌, ℕ, ◌==◌, List, [], ◌∷◌, ap, sym, refl, ◌∙◌, subst, Option, Some, None, Bool, true, false, cond, inl, inr}
 use Rattle.std.specs.Prelude.{◌&&◌, ◌⊎◌, slice_get}
 use Rattle.std.specs.List.{list_all}
 use Rattle.std.proofs.lemmas.Bool.{eqb-true, eq-eqb}
@@ -19,14 +19,14 @@ use Rattle.nf_terms.specs.declared.form.Nf.{Nf}
 use Rattle.nf_terms.specs.declared.form.Nf.TheVariants.{Num, Arr, Seq}
 use Rattle.nf_terms.proofs.Tests.{and_left, and_right, and_both}
 use Rattle.nf_subst.specs.Vectors.{same_sort, form_at, number_or, array_or, list_or}
-use Rattle.nf_subst.specs.SamePlaces.{own_pos, own_sort}
+use Rattle.nf_subst.specs.SamePlaces.{own_pos}
 use Rattle.sym_paths.specs.Stores.{at}
-use Rattle.sym_facts.specs.Facts.{FactPosition, Fact, sort_of_terms, own_symbol, form_or_symbol, vector_of, has_its_sort}
+use Rattle.sym_facts.specs.Facts.{FactPosition, sort_of_terms, own_symbol, form_or_symbol, vector_of, has_its_sort}
 use Rattle.propagate.specs.Rebases.{value_at}
 use Rattle.alike_behaviour.specs.Sameness.{AreTwins}
 use Rattle.alike_paths.specs.Evenness.{IsEven}
 use Rattle.alike_facts.specs.EvenFacts.{places_of, AreEvenValues, AreEvenPositions}
-use Rattle.alike_facts.specs.Couples.{IsCouple, AreCouples}
+use Rattle.alike_facts.specs.Couples.{AreCouples}
 use Rattle.alike_facts.proofs.Coupled.{Among, one_name}
 
 -- ---- equal values

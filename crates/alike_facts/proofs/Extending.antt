@@ -1,5 +1,5 @@
 -- New meanings with more of them, and what a substitution sees.
-use Rattle.std.proofs.Common.{◌≡◌, Bool, true, false, cond, refl, ap, sym, subst, ◌∙◌, List, [], ◌∷◌, ◌++◌, Option, Some, None}
+use Rattle.std.proofs.Common.{◌≡◌, Bool, true, false, cond, refl, ap, sym, ◌∙◌, List, [], ◌∷◌, ◌++◌, Option, Some}
 use Rattle.std.specs.Prelude.{◌&&◌, is_some}
 use Rattle.std.specs.List.{list_all}
 use Rattle.std.proofs.lemmas.List.Folds.{list_all-append}
@@ -7,7 +7,7 @@ use Rattle.nf_terms.specs.Terms.{Atom, Monomial, Polynomial, ArrayTerm, Writes, 
 use Rattle.nf_terms.specs.Forms.{sort_of_form}
 use Rattle.nf_terms.specs.Mentions.{same_pos}
 use Rattle.nf_terms.specs.Symbols.{symbols_of_atom, symbols_of_monomial, symbols_of, symbols_of_base, symbols_of_writes, symbols_of_array}
-use Rattle.nf_terms.specs.Computed.{Computed, Done, after}
+use Rattle.nf_terms.specs.Computed.{Done, after}
 use Rattle.nf_terms.specs.declared.symbols.Sort.{Sort as TermSort}
 use Rattle.nf_terms.specs.declared.symbols.Sort.TheVariants as term
 use Rattle.nf_terms.specs.declared.tree.Pos.{Pos}
@@ -101,7 +101,7 @@ module _ (v w : List (Pos × Nf)) (n : Pos × TermSort → Bool) (agree : (q : P
     writes_again (Write i x ws) h b =
         λ k. after (terms_again i (all_left n (symbols_of i) (symbols_of x ++ symbols_of_writes ws) h) Zero k)
         (λ j. after (terms_again x (all_left n (symbols_of x) (symbols_of_writes ws) (all_right n (symbols_of i) (symbols_of x ++ symbols_of_writes ws) h)) Zero k)
-            (λ y. after (written b j y) (λ a. writes_again ws (all_right n (symbols_of x) (symbols_of_writes ws) (all_right n (symbols_of i) (symbols_of x ++ symbols_of_writes ws) h)) a k)))
+        (λ y. after (written b j y) (λ a. writes_again ws (all_right n (symbols_of x) (symbols_of_writes ws) (all_right n (symbols_of i) (symbols_of x ++ symbols_of_writes ws) h)) a k)))
 
     array_again : (b : ArrayTerm) → list_all n (symbols_of_array b) ≡ true → array_substituted v b ≡ array_substituted w b
     array_again (Over b ws) h =

@@ -1,20 +1,19 @@
 -- The equations of a couple with equal values fail together.
-use Rattle.std.proofs.Common.{◌≡◌, ℕ, ◌+◌, ◌≤◌, ◌==◌, cond, Bool, true, false, arith, refl, ap, ap₂, sym, subst, ◌∙◌, List, [], ◌∷◌, Option, Some, None}
-use Rattle.std.specs.Prelude.{not, ◌||◌, ◌&&◌}
+use Rattle.std.proofs.Common.{◌≡◌, ℕ, ◌+◌, ◌≤◌, ◌==◌, Bool, true, false, arith, refl, ap, sym, subst, ◌∙◌, List, [], ◌∷◌, Option, Some, None}
+use Rattle.std.specs.Prelude.{not, ◌||◌}
 use Rattle.std.specs.List.{list_all}
 use Rattle.std.proofs.lemmas.Bool.Decides.{nat_tests}
 use Rattle.fs_model.specs.declared.parts.Sort.{Sort}
 use Rattle.fs_model.specs.declared.parts.Sort.TheVariants as sort
-use Rattle.nf_terms.specs.Terms.{polynomial_of_symbol, bare_array}
-use Rattle.nf_terms.specs.Lists.{bare_list}
+use Rattle.nf_terms.specs.Terms.{polynomial_of_symbol}
 use Rattle.nf_terms.specs.Forms.{same_form}
-use Rattle.nf_terms.specs.Computed.{Computed, Done, after}
+use Rattle.nf_terms.specs.Computed.{Done, after}
 use Rattle.nf_terms.specs.declared.tree.Pos.{Pos}
 use Rattle.nf_terms.specs.declared.form.Nf.{Nf}
 use Rattle.nf_terms.specs.declared.form.Nf.TheVariants.{Num, Arr, Seq}
 use Rattle.nf_terms.proofs.Tests.{and_left, and_right}
 use Rattle.nf_sums.proofs.Values.{goes_done}
-use Rattle.nf_subst.specs.Vectors.{number_at, array_at, list_at}
+use Rattle.nf_subst.specs.Vectors.{array_at, list_at}
 use Rattle.nf_subst.specs.Substitution.{substituted}
 use Rattle.sym_paths.specs.Sequences.{each}
 use Rattle.sym_facts.specs.Facts.{FactPosition, own_symbol, form_or_symbol, has_its_sort}
@@ -110,8 +109,7 @@ module _ (v : List (Pos × Nf)) (risen : IsRisenVector v) where
       let rest : list_all (λ p. has_its_sort p.sort p.equation) ps ≡ true =
       and_right (has_its_sort q.sort q.equation) (list_all (λ p. has_its_sort p.sort p.equation) ps) (and_right (has_its_sort p.sort p.equation) (list_all (λ p. has_its_sort p.sort p.equation) (q ∷ ps)) f) in
       let equal : value_at v p.sort p.pos ≡ value_at v p.sort q.pos = e ∙ ap (λ z. value_at v z q.pos) (sym c) in
-      let z = together p.sort p.pos q.pos p.equation s.middle u.middle equal here s.first (ap (equation_met v q.pos) (sym h) ∙ u.first) in
-      (
+      let z = together p.sort p.pos q.pos p.equation s.middle u.middle equal here s.first (ap (equation_met v q.pos) (sym h) ∙ u.first) in (
         subst (λ o. FailTogether p.equation o (is_among (k + 1) m)) (sym x) (subst (λ o. FailTogether p.equation (not s.middle) o) (sym y) z),
         fail_evenly ps es rest hs (k + 1 + 1) w.middle m w.first (λ i o. a' i (omega (arith, o)) ∙ fails_later s.middle (u.middle ∷ w.middle) k i (omega (arith, o)) ∙ fails_later u.middle w.middle (k + 1) i o),
       )

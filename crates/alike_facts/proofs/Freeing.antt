@@ -1,16 +1,15 @@
 -- Which positions the first two passes of a rebase make free: of a couple with equal values never the second one.
-use Rattle.std.proofs.Common.{◌≡◌, ℤ, pos, cond, Bool, true, false, refl, ap, ap₂, sym, subst, ◌∙◌, List, [], ◌∷◌, Option, Some, None, map}
-use Rattle.std.specs.Prelude.{◌&&◌, is_some}
-use Rattle.std.specs.List.{list_all}
+use Rattle.std.proofs.Common.{◌≡◌, pos, cond, Bool, true, false, refl, ap, ap₂, sym, subst, ◌∙◌, List, [], ◌∷◌, Option, Some, None, map}
+use Rattle.std.specs.Prelude.{is_some}
 use Rattle.std.specs.Ordering.{int_eq}
 use Rattle.std.specs.Cmp.{signed_Decides}
 use Rattle.fs_model.specs.declared.parts.Sort.{Sort}
 use Rattle.fs_model.specs.declared.parts.Sort.TheVariants as sort
 use Rattle.fs_pair.specs.declared.positions.Position.{Position}
-use Rattle.nf_terms.specs.Terms.{Polynomial, ArrayTerm, One, Times, Zero, Plus, Over, NoWrites, Write, polynomial_of_symbol, bare_array}
-use Rattle.nf_terms.specs.Lists.{ListTerm, bare_list}
+use Rattle.nf_terms.specs.Terms.{Polynomial, ArrayTerm, Zero, Plus, Over, NoWrites, Write, polynomial_of_symbol, bare_array}
+use Rattle.nf_terms.specs.Lists.{bare_list}
 use Rattle.nf_terms.specs.Forms.{sort_of_form}
-use Rattle.nf_terms.specs.Symbols.{symbols_of, symbols_of_form}
+use Rattle.nf_terms.specs.Symbols.{symbols_of}
 use Rattle.nf_terms.specs.Computed.{Computed, Done, after}
 use Rattle.nf_terms.specs.declared.symbols.Sort.{Sort as TermSort}
 use Rattle.nf_terms.specs.declared.symbols.Sort.TheVariants as term
@@ -21,13 +20,13 @@ use Rattle.nf_terms.specs.declared.tree.SeqBase.{SeqBase}
 use Rattle.nf_terms.specs.declared.tree.SeqBase.TheVariants as list
 use Rattle.nf_terms.specs.declared.form.Nf.{Nf}
 use Rattle.nf_terms.specs.declared.form.Nf.TheVariants.{Num, Arr, Seq}
-use Rattle.nf_terms.proofs.Tests.{and_left, and_both}
+use Rattle.nf_terms.proofs.Tests.{and_both}
 use Rattle.nf_sums.proofs.Values.{goes_done}
 use Rattle.nf_subst.specs.Vectors.{form_at, with_form, number_or, array_or, list_or, number_at, array_at, list_at}
 use Rattle.nf_subst.specs.Substitution.{substituted}
 use Rattle.sym_facts.specs.Facts.{sort_of_terms, own_symbol}
 use Rattle.sym_facts.specs.Entailment.{form_substituted}
-use Rattle.propagate.specs.Rebases.{value_at, is_held, number_held, form_held, lone_symbol, bare_number, bare_base, symbol_of_array, bare_list_base, symbol_of_list, bare_symbol, Held, marked, unheld, symbol_found, first_by, first_pass, Split, split, less_rest, Solution, solution, solved, second_by, second_pass}
+use Rattle.propagate.specs.Rebases.{value_at, is_held, number_held, form_held, lone_symbol, bare_number, bare_base, symbol_of_array, symbol_of_list, bare_symbol, Held, marked, unheld, symbol_found, first_by, first_pass, Split, split, less_rest, Solution, solution, solved, second_by, second_pass}
 use Rattle.alike_terms.specs.Risen.{is_risen}
 use Rattle.alike_terms.proofs.SubstitutedWorth.{symbol_substituted}
 use Rattle.alike_facts.specs.EvenFacts.{AreEvenValues}
@@ -221,14 +220,16 @@ module _ (v : List (Pos × Nf)) where
               let there : form_at term.Scalar y.symbol ns ≡ Some (Num m) = put_there ms y.symbol (Num m) in
               record {
                 grows = grown;
-                freed = record { gives = λ fs g.
-                    let at : form_at term.Scalar y.symbol fs ≡ Some (Num m) = sym (g.kept y.symbol term.Scalar (ap is_some there)) ∙ there in
-                    let ext = extends_on ms ns fs grown g in
-                    record {
-                      held = f.whole (is_held fs) (all_held ms fs ext (symbols_of y.rest) i) (ap is_some at);
-                      back = λ u h. let t = goes_done (substituted fs (number_at v p)) (λ q. Done (Num q)) u h in
-                          sym (done_is (Num t.middle) u t.next) ∙ ap Num (solved_back ms fs (number_at v p) y p r m t.middle s i e l ext (ap (number_or (polynomial_of_symbol y.symbol)) at) t.first);
-                    } };
+                freed = record {
+                  gives = λ fs g.
+                      let at : form_at term.Scalar y.symbol fs ≡ Some (Num m) = sym (g.kept y.symbol term.Scalar (ap is_some there)) ∙ there in
+                      let ext = extends_on ms ns fs grown g in
+                      record {
+                        held = f.whole (is_held fs) (all_held ms fs ext (symbols_of y.rest) i) (ap is_some at);
+                        back = λ u h. let t = goes_done (substituted fs (number_at v p)) (λ q. Done (Num q)) u h in
+                            sym (done_is (Num t.middle) u t.next) ∙ ap Num (solved_back ms fs (number_at v p) y p r m t.middle s i e l ext (ap (number_or (polynomial_of_symbol y.symbol)) at) t.first);
+                      };
+                };
               }
       by_test false i k = absurd (let d : None ≡ Some x = done_is None (Some x) k in cc d)
 

@@ -1,5 +1,5 @@
 -- What a rebase and a join make rises.
-use Rattle.std.proofs.Common.{◌≡◌, ℕ, ◌+◌, cond, Bool, true, false, refl, ap, sym, subst, ◌∙◌, List, [], ◌∷◌, ◌++◌, take, Option, Some, None, map}
+use Rattle.std.proofs.Common.{◌≡◌, ℕ, ◌+◌, cond, Bool, true, false, refl, sym, subst, ◌∙◌, List, [], ◌∷◌, take, Option, Some, None, map}
 use Rattle.std.specs.Prelude.{◌&&◌}
 use Rattle.fs_model.specs.declared.parts.Role.{Role}
 use Rattle.fs_model.specs.declared.parts.Role.TheVariants.{Input, Output, Local}
@@ -25,10 +25,10 @@ use Rattle.nf_subst.specs.Vectors.{same_sort, is_at, form_at, with_form, number_
 use Rattle.nf_subst.specs.Substitution.{substituted, array_substituted, list_substituted}
 use Rattle.nf_subst.proofs.Entries.{form_put}
 use Rattle.sym_paths.specs.Execution.{Post}
-use Rattle.sym_facts.specs.Facts.{FactPosition, Fact, own_symbol, form_or_symbol, vector_of, sort_of_terms, most_literals}
-use Rattle.sym_facts.specs.Entailment.{form_substituted, form_like, Missing}
+use Rattle.sym_facts.specs.Facts.{FactPosition, Fact, own_symbol, form_or_symbol, vector_of, most_literals}
+use Rattle.sym_facts.specs.Entailment.{form_substituted, Missing}
 use Rattle.sym_facts.specs.Starts.{zero_of, start_form, partner_in, start_position, start_fact}
-use Rattle.propagate.specs.Rebases.{value_at, number_held, form_held, Held, marked, symbol_found, first_by, first_pass, Split, split, less_rest, Solution, solution, solved, second_by, second_pass, number_tied_to, number_tied, form_tied, tied, equation_found, freed_with, with_equation, third_by, third_pass, with_needed, conditions_over, rebase}
+use Rattle.propagate.specs.Rebases.{value_at, number_held, form_held, Held, marked, symbol_found, first_by, first_pass, Split, split, less_rest, Solution, solution, solved, second_by, second_pass, number_tied_to, number_tied, form_tied, tied, equation_found, freed_with, with_equation, third_pass, with_needed, conditions_over, rebase}
 use Rattle.propagate.specs.Joins as joins
 use Rattle.propagate.specs.Joins.{Freed, symbol_like, is_alike, position_joined, is_among, positions_joined, literals_kept, join}
 use Rattle.alike_terms.specs.Risen.{is_risen, is_risen_array, IsRisenVector}

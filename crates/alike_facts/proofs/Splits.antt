@@ -1,20 +1,20 @@
 -- A symbol that is split off a number, and what its new meaning gives back.
-use Rattle.std.proofs.Common.{◌≡◌, ℤ, pos, neg_ℤ, ◌+ℤ◌, ◌-ℤ◌, ◌*ℤ◌, cond, Bool, true, false, arith, refl, ap, ap₂, sym, subst, ◌∙◌, List, [], ◌∷◌, ◌++◌, Option, Some, None}
+use Rattle.std.proofs.Common.{◌≡◌, ℤ, pos, neg_ℤ, ◌+ℤ◌, ◌*ℤ◌, Bool, true, false, arith, refl, ap, ap₂, sym, subst, ◌∙◌, List, Option, Some, None}
 use Rattle.std.specs.Prelude.{◌&&◌, option_map}
 use Rattle.std.specs.List.{list_all}
 use Rattle.std.specs.Ordering.{int_eq}
 use Rattle.std.specs.Cmp.{signed_Decides}
 use Rattle.std.proofs.lemmas.Int.{ints}
 use Rattle.nf_terms.specs.Terms.{Atom, Monomial, Polynomial, Symbol, Read, Quotient, Remainder, One, Times, Zero, Plus, polynomial_of_symbol}
-use Rattle.nf_terms.specs.Symbols.{symbols_of_atom, symbols_of_monomial, symbols_of}
-use Rattle.nf_terms.specs.Computed.{Computed, Done, after}
+use Rattle.nf_terms.specs.Symbols.{symbols_of_monomial, symbols_of}
+use Rattle.nf_terms.specs.Computed.{Done, after}
 use Rattle.nf_terms.specs.declared.symbols.Sort.{Sort as TermSort}
 use Rattle.nf_terms.specs.declared.symbols.Sort.TheVariants as term
 use Rattle.nf_terms.specs.declared.tree.Pos.{Pos}
 use Rattle.nf_terms.specs.declared.form.Nf.{Nf}
-use Rattle.nf_terms.proofs.Tests.{and_left, and_right, and_both}
+use Rattle.nf_terms.proofs.Tests.{and_left, and_both}
 use Rattle.nf_sums.specs.OrderedSums.{worth_of, IgnoresOrder}
-use Rattle.nf_sums.specs.Operations.{added, subtracted, number}
+use Rattle.nf_sums.specs.Operations.{added, number}
 use Rattle.nf_sums.proofs.Values.{goes_done}
 use Rattle.nf_subst.specs.Vectors.{number_at}
 use Rattle.nf_subst.specs.Substitution.{atoms_substituted, terms_substituted, substituted}

@@ -1,5 +1,5 @@
 -- What a position with the same values as another is tied to.
-use Rattle.std.proofs.Common.{◌≡◌, pos, cond, Bool, true, false, refl, ap, ap₂, sym, subst, ◌∙◌, List, [], ◌∷◌, ◌++◌, Option, Some, None}
+use Rattle.std.proofs.Common.{◌≡◌, cond, Bool, true, false, refl, ap, ap₂, sym, subst, ◌∙◌, List, [], ◌∷◌, ◌++◌, Option, Some, None}
 use Rattle.std.specs.Prelude.{◌&&◌}
 use Rattle.std.specs.declared.cmp.Ordering.{Ordering}
 use Rattle.std.specs.declared.cmp.Ordering.TheVariants.{Less, Equal, Greater}
@@ -16,9 +16,7 @@ use Rattle.nf_terms.specs.Computed.{Computed, Done, after}
 use Rattle.nf_terms.specs.declared.tree.Pos.{Pos}
 use Rattle.nf_terms.specs.declared.form.Nf.{Nf}
 use Rattle.nf_terms.specs.declared.form.Nf.TheVariants.{Num, Arr, Seq}
-use Rattle.nf_terms.specs.RawSums.{raw_sum}
 use Rattle.nf_terms.proofs.Tests.{and_both}
-use Rattle.nf_sums.specs.Forms.{normal_form}
 use Rattle.nf_sums.specs.Operations.{added, subtracted}
 use Rattle.nf_sums.proofs.Values.{goes_done}
 use Rattle.nf_subst.specs.Vectors.{number_at}

@@ -1,5 +1,5 @@
 -- Over an even vector alike paths have the same conditions, and lead to an even vector.
-use Rattle.std.proofs.Common.{◌≡◌, ℕ, cond, Bool, true, false, refl, ap, ap₂, sym, subst, ◌∙◌, List, [], ◌∷◌, ◌++◌, Option, Some}
+use Rattle.std.proofs.Common.{◌≡◌, ℕ, cond, false, refl, ap, ap₂, sym, subst, ◌∙◌, List, [], ◌∷◌, ◌++◌, Option, Some}
 use Rattle.std.specs.Prelude.{◌&&◌}
 use Rattle.fs_model.specs.declared.parts.Sort.TheVariants as sorts
 use Rattle.fs_model.specs.Terms.{Term, Literal}

@@ -180,7 +180,7 @@ module _ (k : Terms) (side : Side) where
         let computed : array_term_of k (Stored (s.array x) (expressed before i) (expressed before e)) ≡ Done d.middle =
         after_done (array_term_of k (s.array x)) (λ a. after (term_of k (expressed before i)) (λ m. after (term_of k (expressed before e)) (λ p. written a m p))) (array_at u (at side x)) d.middle (h.arrays x)
         (after_done (term_of k (expressed before i)) (λ m. after (term_of k (expressed before e)) (λ p. written (array_at u (at side x)) m p)) r.middle d.middle (expressed_term before v b i r.middle r.first)
-            (after_done (term_of k (expressed before e)) (λ p. written (array_at u (at side x)) r.middle p) t.middle d.middle (expressed_term before v b e t.middle t.first) d.first)) in
+        (after_done (term_of k (expressed before e)) (λ p. written (array_at u (at side x)) r.middle p) t.middle d.middle (expressed_term before v b e t.middle t.first) d.first)) in
         subst (Shows k (acted (ArrayWrite x i e) before s) side) (done_is (with_form (at side x) (Arr d.middle) u) next d.next) (put_shows s u h x (expressed before i) (expressed before e) d.middle computed)
     assignment_shows s u next h (Emit x e) c g i =
         let r = goes_done (evaluate side v e) (λ p. Done (PushTo x p)) c g in

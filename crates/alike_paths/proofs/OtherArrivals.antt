@@ -1,11 +1,11 @@
 -- What arrives by paths of other numbers has conditions that clash.
-use Rattle.std.proofs.Common.{◌≡◌, ℕ, zero, suc, ap, sym, refl, ◌∙◌, subst, List, [], ◌∷◌, ◌++◌, Some}
+use Rattle.std.proofs.Common.{◌≡◌, ℕ, zero, suc, ap, sym, ◌∙◌, subst, List, [], ◌∷◌, ◌++◌, Some}
 use Rattle.std.specs.Prelude.{◌≢◌, slice_get}
 use Rattle.fs_model.specs.Terms.{Term, Literal}
 use Rattle.fs_model.specs.Machines.{Fsmd}
 use Rattle.fs_ast.specs.Sound.{IsSound}
 use Rattle.fs_cut.specs.Paths.{Point, Path, IsPath, state_of, branch_at, steps_in}
-use Rattle.nf_terms.specs.Computed.{Computed, Done, after}
+use Rattle.nf_terms.specs.Computed.{Done, after}
 use Rattle.nf_terms.specs.declared.tree.Side.{Side}
 use Rattle.nf_terms.specs.declared.tree.Side.TheVariants.{Left, Right}
 use Rattle.nf_terms.specs.declared.tree.Pos.{Pos}
@@ -19,7 +19,7 @@ use Rattle.alike_behaviour.specs.Expressions.{initial, expressed}
 use Rattle.alike_behaviour.specs.Alike.{AlikePoints}
 use Rattle.alike_paths.specs.Evenness.{IsEven}
 use Rattle.alike_paths.specs.Clashes.{SomeClash}
-use Rattle.alike_paths.proofs.ExpressionTerms.{Terms, terms_of, term_of, initial_term}
+use Rattle.alike_paths.proofs.ExpressionTerms.{terms_of, term_of, initial_term}
 use Rattle.alike_paths.proofs.EvenPaths.{Stays, steps_stay, steps_of}
 use Rattle.alike_paths.proofs.OtherPaths.{others_clash}
 

@@ -1,5 +1,5 @@
 -- Over an even vector, paths of other numbers have literals that clash.
-use Rattle.std.proofs.Common.{◌≡◌, ℕ, zero, suc, ◌<◌, arith, true, List, [], ◌∷◌, ◌++◌, Some, length, refl, ap, ap₂, sym, subst, ◌∙◌, inl, inr}
+use Rattle.std.proofs.Common.{◌≡◌, ℕ, zero, suc, ◌<◌, arith, true, List, [], ◌∷◌, ◌++◌, Some, length, refl, ap, sym, subst, ◌∙◌, inl, inr}
 use Rattle.std.specs.Prelude.{◌≢◌, ◌⊎◌, slice_get}
 use Rattle.std.specs.List.{slice_index_or}
 use Rattle.fs_model.specs.declared.parts.Rel.{Rel}
@@ -11,7 +11,7 @@ use Rattle.fs_ast.specs.Sound.{IsSound, branch_count}
 use Rattle.fs_cut.specs.Paths.{Point, Path, IsPath, state_of, branch_at}
 use Rattle.fs_cut.specs.Covers.{path_by}
 use Rattle.fs_cut.proofs.Listed.{path_is}
-use Rattle.nf_terms.specs.Computed.{Computed, Done, after}
+use Rattle.nf_terms.specs.Computed.{Done, after}
 use Rattle.nf_terms.specs.declared.tree.Side.{Side}
 use Rattle.nf_terms.specs.declared.tree.Side.TheVariants.{Left, Right}
 use Rattle.nf_terms.specs.declared.tree.Pos.{Pos}
@@ -78,9 +78,10 @@ module _ (side : Side) (v : List (Pos × Nf)) where
   parted_clash : (x y : Branch) → Part x y → (ls ms : List NormalLiteral) → each (λ l. evaluate_literal side v l) x.literals ≡ Done ls → each (λ l. evaluate_literal side v l) y.literals ≡ Done ms → SomeClash ls ms × SomeClash ms ls
   parted_clash x y p ls ms e g =
       let f = evaluated_behind p.way p.literal p.mine ls (ap (each (λ l. evaluate_literal side v l)) (sym p.first) ∙ e) in
-      let h = evaluated_behind p.way (negated p.literal) p.theirs ms (ap (each (λ l. evaluate_literal side v l)) (sym p.second) ∙ g) in
-      (record { left = f.place; right = h.place; literal = f.result; other = h.result; left_at = f.at; right_at = h.at; clashes = negation_clashes p.literal f.result h.result (opposite p.literal.relation) refl f.is h.is },
-      record { left = h.place; right = f.place; literal = h.result; other = f.result; left_at = h.at; right_at = f.at; clashes = negation_clashes (negated p.literal) h.result f.result p.literal.relation (twice p.literal.relation) h.is f.is })
+      let h = evaluated_behind p.way (negated p.literal) p.theirs ms (ap (each (λ l. evaluate_literal side v l)) (sym p.second) ∙ g) in (
+        record { left = f.place; right = h.place; literal = f.result; other = h.result; left_at = f.at; right_at = h.at; clashes = negation_clashes p.literal f.result h.result (opposite p.literal.relation) refl f.is h.is },
+        record { left = h.place; right = f.place; literal = h.result; other = f.result; left_at = h.at; right_at = f.at; clashes = negation_clashes (negated p.literal) h.result f.result p.literal.relation (twice p.literal.relation) h.is f.is },
+      )
 
 -- of two numbers that differ, one is the lower
 lower_or_higher : (i j : ℕ) → i ≢ j → (i < j) ⊎ (j < i)
@@ -117,7 +118,7 @@ module _ (a b : Fsmd) (sound : IsSound a) (K : List (Point × Point)) where
       by_order : (p.branch < q.branch) ⊎ (q.branch < p.branch) → SomeClash ls ms
       by_order (inl o) =
           (parted_clash Left v (branch_at a (state_of a P) p.branch) (branch_at a (state_of a P) q.branch)
-              (branches_part (transitions_of a (state_of a P)) p.branch q.branch (branch_at a (state_of a P) p.branch) (branch_at a (state_of a P) q.branch) o (branch_there p.branch within_p) (branch_there q.branch within)) ls ms of_p of_twin).0
+          (branches_part (transitions_of a (state_of a P)) p.branch q.branch (branch_at a (state_of a P) p.branch) (branch_at a (state_of a P) q.branch) o (branch_there p.branch within_p) (branch_there q.branch within)) ls ms of_p of_twin).0
       by_order (inr o) =
           (parted_clash Left v (branch_at a (state_of a P) q.branch) (branch_at a (state_of a P) p.branch)
-              (branches_part (transitions_of a (state_of a P)) q.branch p.branch (branch_at a (state_of a P) q.branch) (branch_at a (state_of a P) p.branch) o (branch_there q.branch within) (branch_there p.branch within_p)) ms ls of_twin of_p).1
+          (branches_part (transitions_of a (state_of a P)) q.branch p.branch (branch_at a (state_of a P) q.branch) (branch_at a (state_of a P) p.branch) o (branch_there q.branch within) (branch_there p.branch within_p)) ms ls of_twin of_p).1
