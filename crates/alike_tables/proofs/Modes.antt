@@ -1,10 +1,10 @@
 -- At alike points as many paths of one machine are open as of the other.
-use Rattle.std.proofs.Common.{◌≡◌, ℕ, zero, suc, ◌+◌, ◌<◌, ◌≤◌, arith, refl, ap, ap₂, sym, subst, ◌∙◌, List, [], ◌∷◌, ◌++◌, map, length, Bool, true, false, cond}
+use Rattle.std.proofs.Common.{◌≡◌, ℕ, zero, suc, ◌+◌, ◌<◌, ◌≤◌, arith, refl, ap, ap₂, sym, subst, ◌∙◌, List, ◌++◌, map, Bool, true, false, cond}
 use Rattle.std.specs.Prelude.{◌≢◌, not, nat_le}
 use Rattle.std.specs.List.{range_with_len}
 use Rattle.fs_model.specs.Machines.{Fsmd}
 use Rattle.fs_ast.specs.Sound.{IsSound, branch_count}
-use Rattle.fs_cut.specs.Paths.{Point, Start, At, Done, Path, IsPath, state_of}
+use Rattle.fs_cut.specs.Paths.{Point, Start, At, Done, state_of}
 use Rattle.fs_cut.specs.Covers.{path_by, paths_by, paths_of, same_point}
 use Rattle.fs_cut.proofs.Listed.{path_is}
 use Rattle.bisimulation.specs.declared.mode.Mode.{Mode}
@@ -14,7 +14,6 @@ use Rattle.nf_terms.specs.Computed.{Computed, Wide, Large, after}
 use Rattle.nf_terms.specs.declared.tree.Side.{Side}
 use Rattle.nf_terms.specs.declared.tree.Side.TheVariants as side
 use Rattle.nf_rel.specs.Literals.{is_refuted}
-use Rattle.sym_paths.specs.Execution.{conditions}
 use Rattle.sym_facts.specs.Facts.{Fact, vector_of}
 use Rattle.propagate.specs.Modes.{Traced, Found, WideAt, LargeAt, followed, on_path, is_open, counted, count_from, mode_of_counts, mode_by, mode_of}
 use Rattle.alike_behaviour.specs.Alike.{AlikePoints}

@@ -1,5 +1,5 @@
 -- In an even vector the two terms of each output are the same.
-use Rattle.std.proofs.Common.{◌≡◌, ℕ, zero, suc, ◌+◌, List, [], ◌∷◌, map, ap, sym, refl, ◌∙◌, arith, Option, Some, None, Bool, true, false, cond}
+use Rattle.std.proofs.Common.{◌≡◌, ℕ, zero, suc, ◌+◌, List, [], ◌∷◌, map, ap, sym, refl, ◌∙◌, arith, Option, Some, Bool, true, false, cond}
 use Rattle.std.specs.Prelude.{slice_get}
 use Rattle.std.specs.List.{position_from, AllByRecursion}
 use Rattle.std.specs.Str.{bytes_eq}
