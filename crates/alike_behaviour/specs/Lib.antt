@@ -1,0 +1,4 @@
+pub mod Expressions
+pub mod Sameness
+pub mod Alike
+pub mod Values

@@ -1,0 +1,11 @@
+pub mod Ties
+pub mod Failing
+pub mod EvenJoins
+pub mod Extending
+pub mod Splits
+pub mod Freeing
+pub mod EvenRebases
+pub mod Coupled
+pub mod EvenVectors
+pub mod EvenStart
+pub mod RisenFacts

@@ -1,0 +1,3 @@
+pub mod EvenFacts
+pub mod Couples
+pub mod RisenFacts

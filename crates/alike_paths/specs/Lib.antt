@@ -1,0 +1,2 @@
+pub mod Evenness
+pub mod Clashes
