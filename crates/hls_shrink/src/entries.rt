@@ -3,7 +3,7 @@
 ghost use Rattle.std.specs.Prelude.{◌≡◌, ◌≤◌, ◌++◌, map, IfOk};
 ghost use Rattle.std.specs.Result.{OnOk};
 ghost use Rattle.fs_runs.specs.Values.{content_of, sort_of};
-ghost use Rattle.fs_runs.specs.InputValues.{input_values, signatures_of, input_signatures};
+ghost use Rattle.fs_runs.specs.InputValues.{input_values, signatures_of, input_signatures, Serves};
 ghost use Rattle.hls_shrink.specs.Entries.{AreEntries, at_input, number_entries};
 ghost use Rattle.hls_shrink.specs.Growth.{AddsEntries};
 ghost use Rattle.hls_shrink.specs.Reductions.{content_with, contents_with};
@@ -94,6 +94,7 @@ pub fn with_number(
 ) -> Result<Inputs, NoMemory>
     requires { signatures_of inputs.now ≡ input_signatures m.now.variables }
     ensures signatures { IfOk result (λ ins. signatures_of ins ≡ input_signatures m.now.variables) }
+    ensures serves { IfOk result (λ ins. Serves (signatures_of ins) m.now) }
     ensures contents { IfOk result (λ ins. map content_of (input_values ins) ≡ contents_with (map content_of (input_values inputs.now)) entry.now number.now) }
 {
     let mut copy = copied(alloc, m, inputs)?;
@@ -125,6 +126,7 @@ fn value_with(value: &Value, index: &i128, number: &i128) -> Result<Value, NoMem
 pub fn copied(alloc: Global, m: &Machine, inputs: &Inputs) -> Result<Inputs, NoMemory>
     requires { signatures_of inputs.now ≡ input_signatures m.now.variables }
     ensures signatures { IfOk result (λ ins. signatures_of ins ≡ input_signatures m.now.variables) }
+    ensures serves { IfOk result (λ ins. Serves (signatures_of ins) m.now) }
     ensures contents { IfOk result (λ ins. map content_of (input_values ins) ≡ map content_of (input_values inputs.now)) }
 {
     let mut copy = Inputs::zero(alloc, m)?;

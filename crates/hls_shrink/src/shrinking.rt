@@ -77,7 +77,7 @@ fn started(
     ensures small { IfOk result (λ s. IsSmall a.now b.now steps s) }
 {
     let copy = copied(alloc, a, inputs)?;
-    match differing_ends(alloc, a, b, inputs, steps)? {
+    match differing_ends(alloc, a, b, &copy, steps)? {
         Some((left, right)) => Ok(Small {
             inputs: copy,
             left,
