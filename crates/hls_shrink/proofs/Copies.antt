@@ -1,5 +1,5 @@
 -- Values that are copied and changed one by one.
-use Rattle.std.proofs.Common.{◌≡◌, ℕ, zero, suc, ◌+◌, ◌<◌, ◌≤◌, Bool, true, false, List, [], ◌∷◌, length, refl, sym, ◌∙◌, ap, subst, arith, inl, inr}
+use Rattle.std.proofs.Common.{◌≡◌, ℕ, zero, suc, ◌+◌, ◌<◌, ◌≤◌, true, false, List, [], ◌∷◌, length, refl, sym, ◌∙◌, ap, subst, arith, inl, inr}
 use Rattle.std.specs.Prelude.{ℤ, Option, Some, None, map, slice_get, slice_set, option_map}
 use Rattle.std.specs.Option.{is_none}
 use Rattle.std.proofs.lemmas.Bool.{cases_lt, false≢true}
@@ -12,14 +12,12 @@ use Rattle.fs_runs.specs.declared.inputs.Input.{Input}
 use Rattle.fs_runs.specs.declared.inputs.Inputs.{Inputs}
 use Rattle.fs_runs.specs.Values.{content_of, sort_of}
 use Rattle.fs_runs.specs.InputValues.{Signature, signature, input_values, signatures_of}
+use Rattle.hls_shrink.specs.Entries.{contents_in}
 use Rattle.hls_shrink.specs.Reductions.{content_with, changed}
 
 length_mapped : {A B : Type 0} (f : A → B) (xs : List A) → length (map f xs) ≡ length xs
 length_mapped f [] = refl
 length_mapped f (x ∷ xs) = ap suc (length_mapped f xs)
-
-abbrev pub contents_in : Inputs → List Content
-contents_in ins = map content_of (input_values ins)
 
 pub as_many : (ins : Inputs) → length (contents_in ins) ≡ length (signatures_of ins)
 as_many ins = length_mapped content_of (input_values ins) ∙ length_mapped (λ (i : Input). i.value) ins.items.items ∙ sym (length_mapped signature ins.items.items)

@@ -1,9 +1,9 @@
 -- Entries that are listed input after input.
-use Rattle.std.proofs.Common.{◌≡◌, ℕ, zero, suc, ◌+◌, ◌<◌, ◌≤◌, List, [], ◌∷◌, ◌++◌, drop, length, refl, sym, ◌∙◌, ap, subst, arith, append_assoc, append-nil}
+use Rattle.std.proofs.Common.{◌≡◌, ℕ, zero, suc, ◌+◌, ◌≤◌, List, [], ◌∷◌, ◌++◌, drop, length, refl, sym, ◌∙◌, ap, subst, arith, append_assoc, append-nil}
 use Rattle.std.specs.Prelude.{Some, slice_get}
 use Rattle.fs_model.specs.Runs.{Content}
 use Rattle.hls_shrink.specs.declared.entries.Entry.{Entry}
-use Rattle.hls_shrink.specs.Entries.{AreEntriesOf, AreEntries}
+use Rattle.hls_shrink.specs.Entries.{AreEntries}
 use Rattle.hls_shrink.specs.Growth.{AddsEntries}
 
 -- with the entries of the inputs that are left, a list has those of all

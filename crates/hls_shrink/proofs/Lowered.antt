@@ -1,5 +1,5 @@
 -- A reduction lowers the sum of the absolute values.
-use Rattle.std.proofs.Common.{◌≡◌, ◌≢◌, ℕ, zero, suc, ◌+◌, ◌<◌, ◌≤◌, Bool, true, false, cond, ℤ, pos, List, [], ◌∷◌, ◌++◌, length, refl, sym, ◌∙◌, ap, subst, arith, inl, inr}
+use Rattle.std.proofs.Common.{◌≡◌, ◌≢◌, ℕ, suc, ◌+◌, ◌<◌, ◌≤◌, Bool, true, false, cond, ℤ, pos, List, [], ◌∷◌, ◌++◌, refl, sym, ◌∙◌, ap, subst, arith, inl, inr}
 use Rattle.std.specs.Prelude.{unsigned_abs, map, ◌⊎◌}
 use Rattle.std.specs.List.{AllByRecursion}
 use Rattle.std.specs.List.Sorted.{IsStrictlySortedBy}
@@ -116,10 +116,10 @@ replaced i z n ys other = record {
   rising = λ h. h;
   not_zero = λ h. (other, h.1);
   says = λ h x.
-    elim (int_eq x i) as (λ b. int_eq x i ≡ b → number_at ((i, n) ∷ ys) x ≡ cond (int_eq i x) n (number_at ((i, z) ∷ ys) x)) [
-      | true ↦ λ q. rw q (rw (int_eq_swapped x i true q) refl)
-      | false ↦ λ q. rw q (rw (int_eq_swapped x i false q) refl)
-    ] refl;
+      elim (int_eq x i) as (λ b. int_eq x i ≡ b → number_at ((i, n) ∷ ys) x ≡ cond (int_eq i x) n (number_at ((i, z) ∷ ys) x)) [
+        | true ↦ λ q. rw q (rw (int_eq_swapped x i true q) refl)
+        | false ↦ λ q. rw q (rw (int_eq_swapped x i false q) refl)
+      ] refl;
 }
 
 -- an index is left out
@@ -131,12 +131,12 @@ left_out i z ys = record {
   rising = λ h. h.1;
   not_zero = λ h. h.1;
   says = λ h x.
-    elim (int_eq x i) as (λ b. int_eq x i ≡ b → number_at ys x ≡ cond (int_eq i x) (pos 0) (number_at ((i, z) ∷ ys) x)) [
-      | true ↦ λ q.
-          let here : x ≡ i = (Decides-int_eq x i).0 q in
-          rw (int_eq_swapped x i true q) (none_away x ys (away_behind x i ys here h.0))
-      | false ↦ λ q. rw q (rw (int_eq_swapped x i false q) refl)
-    ] refl;
+      elim (int_eq x i) as (λ b. int_eq x i ≡ b → number_at ys x ≡ cond (int_eq i x) (pos 0) (number_at ((i, z) ∷ ys) x)) [
+        | true ↦ λ q.
+            let here : x ≡ i = (Decides-int_eq x i).0 q in
+            rw (int_eq_swapped x i true q) (none_away x ys (away_behind x i ys here h.0))
+        | false ↦ λ q. rw q (rw (int_eq_swapped x i false q) refl)
+      ] refl;
 }
 
 abbrev put : (ℤ → ℤ) → (i n : ℤ) → ℤ → ℤ

@@ -1,5 +1,5 @@
 -- Inputs that show a difference, by their contents.
-use Rattle.std.proofs.Common.{◌≡◌, ℕ, Bool, true, refl, sym, ◌∙◌, ap, subst}
+use Rattle.std.proofs.Common.{◌≡◌, ℕ, true, refl, sym, ◌∙◌, ap, subst}
 use Rattle.std.specs.Prelude.{Option, Some, None, Result, Ok, Err, IfOk, IfSome}
 use Rattle.fs_model.specs.Machines.{Fsmd}
 use Rattle.fs_model.specs.Runs.{Inputs, Content}
@@ -11,11 +11,11 @@ use Rattle.fs_runs.specs.Outcomes.{told_by}
 use Rattle.fs_trials.specs.Candidates.{inputs_told}
 use Rattle.fs_trials.specs.Differences.{ShowsDifference, AreApart}
 use Rattle.fs_trials.proofs.Given.{inputs_are}
+use Rattle.hls_shrink.specs.Entries.{contents_in}
 use Rattle.hls_shrink.specs.declared.shrinking.Small.{Small}
 use Rattle.hls_shrink.specs.declared.entries.Entry.{Entry}
 use Rattle.hls_shrink.specs.Reductions.{is_beyond_one, reductions_at}
 use Rattle.hls_shrink.specs.Shrunk.{Shows, IsSmall, IsFirst, NoneHas}
-use Rattle.hls_shrink.proofs.Copies.{contents_in}
 use Rattle.hls_shrink.proofs.First.{with_zero, with_half, first_half, none_either}
 use Rattle.std.specs.Prelude.{List}
 

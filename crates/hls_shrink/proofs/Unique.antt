@@ -1,14 +1,13 @@
 -- The chain of first reductions has one end, and each of its steps lowers the sum of the absolute values.
-use Rattle.std.proofs.Common.{◌≡◌, ◌≢◌, ℕ, zero, suc, ◌+◌, ◌<◌, ◌≤◌, Bool, true, false, cond, ℤ, pos, negsuc, List, [], ◌∷◌, ◌++◌, refl, sym, ◌∙◌, ap, subst, arith, inl, inr}
-use Rattle.std.specs.Prelude.{unsigned_abs, int_div, neg_ℤ, nat_lt, map, ◌⊎◌, ◌/◌, ◌*◌}
+use Rattle.std.proofs.Common.{◌≡◌, ℕ, zero, suc, ◌+◌, ◌<◌, Bool, true, false, cond, ℤ, pos, negsuc, List, [], ◌∷◌, ◌++◌, refl, sym, ◌∙◌, ap, subst, arith, inl, inr}
+use Rattle.std.specs.Prelude.{unsigned_abs, int_div, neg_ℤ, map, ◌⊎◌, ◌/◌}
 use Rattle.std.proofs.Math.Nat.{div-mul-le_self}
 use Rattle.std.proofs.lemmas.Bool.Decides.{nat_tests}
 use Rattle.fs_model.specs.Runs.{Content, Number, Entries, Emitted}
-use Rattle.fs_runs.specs.Listing.{IsListing}
 use Rattle.fs_show.proofs.Listed.{listing_once}
 use Rattle.hls_shrink.specs.declared.entries.Entry.{Entry}
 use Rattle.hls_shrink.specs.Entries.{at_input, AreEntriesOf, AreEntries}
-use Rattle.hls_shrink.specs.Reductions.{is_beyond_one, lesser, contents_with, reductions_at, reductions}
+use Rattle.hls_shrink.specs.Reductions.{is_beyond_one, contents_with, reductions_at, reductions}
 use Rattle.hls_shrink.specs.Shrunk.{IsFirst, IsFirstReduction, IsLeast, EndsAfter, EndsIn}
 use Rattle.hls_shrink.proofs.First.{first_once, first_or_none}
 use Rattle.hls_shrink.proofs.Lowered.{size, IsNearer, lower_entries}
@@ -49,6 +48,13 @@ end_after_once P (suc n) (suc m) cs x y a b =
 
 pub end_once : (P : List Content → Type 0) (cs x y : List Content) → EndsIn P cs x → EndsIn P cs y → x ≡ y
 end_once P cs x y a b = end_after_once P a.count b.count cs x y a.ends b.ends
+
+least_after : (P : List Content → Type 0) (n : ℕ) (cs end : List Content) → EndsAfter P n cs end → IsLeast P end
+least_after P zero cs end h = h.1
+least_after P (suc n) cs end h = least_after P n h.next end h.rest
+
+pub end_least : (P : List Content → Type 0) (cs end : List Content) → EndsIn P cs end → IsLeast P end
+end_least P cs end h = least_after P h.count cs end h.ends
 
 pub ends_here : (P : List Content → Type 0) (cs : List Content) → IsLeast P cs → EndsIn P cs cs
 ends_here P cs least = record { count = 0; ends = (refl, least) }

@@ -2,8 +2,15 @@
 use Rattle.std.specs.Prelude.{◌≡◌, ℕ, ◌+◌, cond, ℤ, pos, List, [], ◌∷◌, ◌++◌, map}
 use Rattle.std.specs.Ordering.{int_eq}
 use Rattle.fs_model.specs.Runs.{Content, Number, Entries, Emitted}
+use Rattle.fs_runs.specs.declared.inputs.Inputs.{Inputs}
+use Rattle.fs_runs.specs.Values.{content_of}
+use Rattle.fs_runs.specs.InputValues.{input_values}
 use Rattle.fs_runs.specs.Listing.{IsListing}
 use Rattle.hls_shrink.specs.declared.entries.Entry.{Entry}
+
+-- what inputs are given, in order of declaration
+abbrev pub contents_in : Inputs → List Content
+contents_in ins = map content_of (input_values ins)
 
 -- an index and its number, as an entry of an input
 abbrev pub at_input : (input : ℕ) → ℤ × ℤ → Entry

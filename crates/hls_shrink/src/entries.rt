@@ -1,10 +1,10 @@
 //! The numbers of inputs that are not 0, and inputs with another number.
 
-ghost use Rattle.std.specs.Prelude.{◌≡◌, ◌≤◌, ◌++◌, map, IfOk};
+ghost use Rattle.std.specs.Prelude.{◌≡◌, ◌++◌, map, IfOk};
 ghost use Rattle.std.specs.Result.{OnOk};
 ghost use Rattle.fs_runs.specs.Values.{content_of, sort_of};
-ghost use Rattle.fs_runs.specs.InputValues.{input_values, signatures_of, input_signatures, Serves};
-ghost use Rattle.hls_shrink.specs.Entries.{AreEntries, at_input, number_entries};
+ghost use Rattle.fs_runs.specs.InputValues.{signatures_of, input_signatures, Serves};
+ghost use Rattle.hls_shrink.specs.Entries.{contents_in, AreEntries, at_input, number_entries};
 ghost use Rattle.hls_shrink.specs.Growth.{AddsEntries};
 ghost use Rattle.hls_shrink.specs.Reductions.{content_with, contents_with};
 
@@ -27,7 +27,7 @@ pub struct Entry {
 /// is out of memory.
 pub fn entries(alloc: Global, m: &Machine, inputs: &Inputs) -> Result<Vec<Entry>, NoMemory>
     requires { signatures_of inputs.now ≡ input_signatures m.now.variables }
-    ensures { IfOk result (λ es. AreEntries 0 (map content_of (input_values inputs.now)) es.items) }
+    ensures { IfOk result (λ es. AreEntries 0 (contents_in inputs.now) es.items) }
 {
     let mut list = Vec::new(alloc);
     for k in 0..m.vars().len() as u32 {
@@ -95,7 +95,7 @@ pub fn with_number(
     requires { signatures_of inputs.now ≡ input_signatures m.now.variables }
     ensures signatures { IfOk result (λ ins. signatures_of ins ≡ input_signatures m.now.variables) }
     ensures serves { IfOk result (λ ins. Serves (signatures_of ins) m.now) }
-    ensures contents { IfOk result (λ ins. map content_of (input_values ins) ≡ contents_with (map content_of (input_values inputs.now)) entry.now number.now) }
+    ensures contents { IfOk result (λ ins. contents_in ins ≡ contents_with (contents_in inputs.now) entry.now number.now) }
 {
     let mut copy = copied(alloc, m, inputs)?;
     if inputs.sort(entry.input).is_none() {
@@ -127,7 +127,7 @@ pub fn copied(alloc: Global, m: &Machine, inputs: &Inputs) -> Result<Inputs, NoM
     requires { signatures_of inputs.now ≡ input_signatures m.now.variables }
     ensures signatures { IfOk result (λ ins. signatures_of ins ≡ input_signatures m.now.variables) }
     ensures serves { IfOk result (λ ins. Serves (signatures_of ins) m.now) }
-    ensures contents { IfOk result (λ ins. map content_of (input_values ins) ≡ map content_of (input_values inputs.now)) }
+    ensures contents { IfOk result (λ ins. contents_in ins ≡ contents_in inputs.now) }
 {
     let mut copy = Inputs::zero(alloc, m)?;
     for k in 0..m.vars().len() as u32 {

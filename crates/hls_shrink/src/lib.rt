@@ -4,6 +4,7 @@
 #![tactic(auto)]
 
 pub mod entries;
+pub mod laws;
 mod reductions;
 mod shrinking;
 

@@ -1,10 +1,10 @@
 //! The end of the chain of first reductions.
 
-ghost use Rattle.std.specs.Prelude.{◌≡◌, ◌≤◌, map, IfOk, None};
+ghost use Rattle.std.specs.Prelude.{◌≡◌, ◌≤◌, IfOk, None};
 ghost use Rattle.fs_pair.specs.Interfaces.{interface_fault};
-ghost use Rattle.fs_runs.specs.Values.{content_of};
-ghost use Rattle.fs_runs.specs.InputValues.{input_values, signatures_of, input_signatures, inputs_of};
+ghost use Rattle.fs_runs.specs.InputValues.{signatures_of, input_signatures, inputs_of};
 ghost use Rattle.fs_trials.specs.Differences.{ShowsDifference, AreApart};
+ghost use Rattle.hls_shrink.specs.Entries.{contents_in};
 ghost use Rattle.hls_shrink.specs.Shrunk.{Shows, IsLeast, IsSmall, EndsIn};
 
 use crate::entries::{copied, entries};
@@ -47,8 +47,8 @@ pub fn shrink(
     requires inputs { signatures_of inputs.now ≡ input_signatures a.now.variables }
     requires shows { ShowsDifference a.now b.now (inputs_of inputs.now) steps }
     ensures signatures { IfOk result (λ s. signatures_of s.inputs ≡ input_signatures a.now.variables) }
-    ensures end { IfOk result (λ s. EndsIn (Shows a.now b.now steps) (map content_of (input_values inputs.now)) (map content_of (input_values s.inputs))) }
-    ensures least { IfOk result (λ s. IsLeast (Shows a.now b.now steps) (map content_of (input_values s.inputs))) }
+    ensures end { IfOk result (λ s. EndsIn (Shows a.now b.now steps) (contents_in inputs.now) (contents_in s.inputs)) }
+    ensures least { IfOk result (λ s. IsLeast (Shows a.now b.now steps) (contents_in s.inputs)) }
     ensures shows { IfOk result (λ s. ShowsDifference a.now b.now (inputs_of s.inputs) steps) }
     ensures ends { IfOk result (λ s. AreApart a.now b.now (inputs_of s.inputs) steps s.left s.right) }
 {
@@ -73,7 +73,7 @@ fn started(
     requires interfaces { interface_fault a.now b.now ≡ None }
     requires inputs { signatures_of inputs.now ≡ input_signatures a.now.variables }
     requires shows { ShowsDifference a.now b.now (inputs_of inputs.now) steps }
-    ensures contents { IfOk result (λ s. map content_of (input_values s.inputs) ≡ map content_of (input_values inputs.now)) }
+    ensures contents { IfOk result (λ s. contents_in s.inputs ≡ contents_in inputs.now) }
     ensures small { IfOk result (λ s. IsSmall a.now b.now steps s) }
 {
     let copy = copied(alloc, a, inputs)?;

@@ -4,7 +4,8 @@ use Rattle.std.specs.Option.{is_none}
 use Rattle.fs_runs.specs.Values.{content_of}
 use Rattle.fs_runs.specs.InputValues.{Signature, input_values, input_signatures, signatures_of, Serves}
 use Rattle.fs_trials.proofs.Given.{few_inputs}
-use Rattle.hls_shrink.proofs.Copies.{contents_in, as_many, same_count, none_left, some_left, content_there, sort_there, same_more, same_all}
+use Rattle.hls_shrink.specs.Entries.{contents_in}
+use Rattle.hls_shrink.proofs.Copies.{as_many, same_count, none_left, some_left, content_there, sort_there, same_more, same_all}
 use Rattle.hls_shrink.proofs.entries.copied.Goals as goal
 
 pub returns-then-is_none-clause-contents : goal.returns-then-is_none-clause-contents

@@ -1,6 +1,7 @@
 use Rattle.std.proofs.Common.{◌≡◌}
 use Rattle.fs_runs.specs.InputValues.{signatures_of, input_signatures, Serves}
-use Rattle.hls_shrink.proofs.Copies.{contents_in, SameBelow}
+use Rattle.hls_shrink.specs.Entries.{contents_in}
+use Rattle.hls_shrink.proofs.Copies.{SameBelow}
 use Rattle.hls_shrink.proofs.entries.copied.Given as goal
 
 abbrev pub invariant-loop-k : goal.invariant-loop-k

@@ -1,4 +1,4 @@
-use Rattle.std.proofs.Common.{◌≡◌, cond, rules, sym, ◌∙◌, ap}
+use Rattle.std.proofs.Common.{cond, rules, sym, ◌∙◌, ap}
 use Rattle.std.specs.Prelude.{FitsSigned}
 use Rattle.std.specs.Int.{w128}
 use Rattle.std.specs.Ordering.{int_eq}

@@ -3,8 +3,9 @@ use Rattle.std.specs.Prelude.{Some, option_map, slice_get}
 use Rattle.std.specs.Option.{is_none}
 use Rattle.fs_runs.specs.Values.{content_of}
 use Rattle.fs_runs.specs.InputValues.{Signature, input_values, signatures_of}
+use Rattle.hls_shrink.specs.Entries.{contents_in}
 use Rattle.hls_shrink.specs.Reductions.{changed}
-use Rattle.hls_shrink.proofs.Copies.{contents_in, none_left, some_left, content_there, sort_there, changed_past, changed_is}
+use Rattle.hls_shrink.proofs.Copies.{none_left, some_left, content_there, sort_there, changed_past, changed_is}
 use Rattle.hls_shrink.proofs.entries.with_number.Goals as goal
 
 pub returns-then-is_none-clause-contents : goal.returns-then-is_none-clause-contents

@@ -1,7 +1,7 @@
 use Rattle.std.proofs.Common.{◌+◌, drop}
 use Rattle.std.proofs.lemmas.List.{drop_more}
+use Rattle.hls_shrink.specs.Entries.{contents_in}
 use Rattle.hls_shrink.specs.Shrunk.{Shows}
-use Rattle.hls_shrink.proofs.Copies.{contents_in}
 use Rattle.hls_shrink.proofs.First.{passed_found}
 use Rattle.hls_shrink.proofs.reductions.first_reduction.Goals as goal
 

@@ -1,6 +1,6 @@
 use Rattle.std.proofs.Common.{drop}
+use Rattle.hls_shrink.specs.Entries.{contents_in}
 use Rattle.hls_shrink.specs.Shrunk.{Shows}
-use Rattle.hls_shrink.proofs.Copies.{contents_in}
 use Rattle.hls_shrink.proofs.First.{Passed}
 use Rattle.hls_shrink.proofs.reductions.first_reduction.Given as goal
 

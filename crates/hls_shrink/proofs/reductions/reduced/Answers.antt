@@ -2,10 +2,10 @@ use Rattle.std.proofs.Common.{◌≡◌, true, subst, rules}
 use Rattle.std.specs.Prelude.{None, IfOk, IfSome, FitsSigned}
 use Rattle.std.specs.Int.{w128}
 use Rattle.std.proofs.lemmas.Int.{to_z-of_z}
+use Rattle.hls_shrink.specs.Entries.{contents_in}
 use Rattle.hls_shrink.specs.Reductions.{is_beyond_one, contents_with}
 use Rattle.hls_shrink.specs.Shrunk.{Shows, IsSmall}
-use Rattle.hls_shrink.proofs.Copies.{contents_in}
-use Rattle.hls_shrink.proofs.First.{with_zero, with_half, first_zero}
+use Rattle.hls_shrink.proofs.First.{with_zero, first_zero}
 use Rattle.hls_shrink.proofs.Smalls.{small_shows, half_found, half_none}
 use Rattle.hls_shrink.proofs.reductions.reduced.Goals as goal
 

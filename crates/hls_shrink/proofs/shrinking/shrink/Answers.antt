@@ -1,7 +1,7 @@
 use Rattle.std.proofs.Common.{subst}
+use Rattle.hls_shrink.specs.Entries.{contents_in}
 use Rattle.hls_shrink.specs.Reductions.{reductions}
-use Rattle.hls_shrink.specs.Shrunk.{Shows, IsSmall, IsFirst, NoneHas, IsFirstReduction, IsLeast}
-use Rattle.hls_shrink.proofs.Copies.{contents_in}
+use Rattle.hls_shrink.specs.Shrunk.{Shows, IsSmall, IsFirst, NoneHas, IsFirstReduction}
 use Rattle.hls_shrink.proofs.Unique.{ends_here, ends_further, smaller}
 use Rattle.hls_shrink.proofs.shrinking.shrink.Goals as goal
 

@@ -1,8 +1,7 @@
 use Rattle.std.proofs.Common.{List}
 use Rattle.fs_model.specs.Runs.{Content}
-use Rattle.hls_shrink.specs.Entries.{AreEntries}
+use Rattle.hls_shrink.specs.Entries.{contents_in, AreEntries}
 use Rattle.hls_shrink.specs.Shrunk.{Shows, IsSmall, EndsIn}
-use Rattle.hls_shrink.proofs.Copies.{contents_in}
 use Rattle.hls_shrink.proofs.Lowered.{size}
 use Rattle.hls_shrink.proofs.shrinking.shrink.Given as goal
 
