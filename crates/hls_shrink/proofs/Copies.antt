@@ -1,0 +1,124 @@
+-- Values that are copied and changed one by one.
+use Rattle.std.proofs.Common.{◌≡◌, ℕ, zero, suc, ◌+◌, ◌<◌, ◌≤◌, true, false, List, [], ◌∷◌, length, refl, sym, ◌∙◌, ap, subst, arith, inl, inr}
+use Rattle.std.specs.Prelude.{ℤ, Option, Some, None, map, slice_get, slice_set, option_map}
+use Rattle.std.specs.Option.{is_none}
+use Rattle.std.proofs.lemmas.Bool.{cases_lt, false≢true}
+use Rattle.std.proofs.lemmas.List.{map-set}
+use Rattle.std.proofs.lemmas.Option.{slice_get-map, slice_get_within}
+use Rattle.fs_model.specs.declared.parts.Sort.{Sort}
+use Rattle.fs_model.specs.Runs.{Content}
+use Rattle.fs_runs.specs.declared.values.Value.{Value}
+use Rattle.fs_runs.specs.declared.inputs.Input.{Input}
+use Rattle.fs_runs.specs.declared.inputs.Inputs.{Inputs}
+use Rattle.fs_runs.specs.Values.{content_of, sort_of}
+use Rattle.fs_runs.specs.InputValues.{Signature, signature, input_values, signatures_of}
+use Rattle.hls_shrink.specs.Entries.{contents_in}
+use Rattle.hls_shrink.specs.Reductions.{content_with, changed}
+
+length_mapped : {A B : Type 0} (f : A → B) (xs : List A) → length (map f xs) ≡ length xs
+length_mapped f [] = refl
+length_mapped f (x ∷ xs) = ap suc (length_mapped f xs)
+
+pub as_many : (ins : Inputs) → length (contents_in ins) ≡ length (signatures_of ins)
+as_many ins = length_mapped content_of (input_values ins) ∙ length_mapped (λ (i : Input). i.value) ins.items.items ∙ sym (length_mapped signature ins.items.items)
+
+pub same_count : (x y : Inputs) → signatures_of x ≡ signatures_of y → length (contents_in x) ≡ length (contents_in y)
+same_count x y e = as_many x ∙ ap length e ∙ sym (as_many y)
+
+none_mapped : {A B : Type 0} (f : A → B) (o : Option A) → is_none (option_map f o) ≡ true → o ≡ None
+none_mapped f None e = refl
+none_mapped f (Some x) e = absurd (false≢true e)
+
+got_none : {A : Type 0} (xs : List A) (k : ℕ) → slice_get xs k ≡ None → length xs ≤ k
+got_none [] k e = omega arith
+got_none (x ∷ xs) zero e = absurd (cc)
+got_none (x ∷ xs) (suc k) e = let h = got_none xs k e in omega arith
+
+-- where there is no sort, there are no more inputs
+pub none_left : (ins : Inputs) (k : ℕ) (o : Option Sort) → o ≡ option_map (λ (f : Signature). f.1) (slice_get (signatures_of ins) k) → is_none o ≡ true → length (contents_in ins) ≤ k
+none_left ins k o e gone =
+    let h = got_none (signatures_of ins) k (none_mapped (λ (f : Signature). f.1) (slice_get (signatures_of ins) k) (ap is_none (sym e) ∙ gone)) in
+    let count = as_many ins in
+    omega arith
+
+some_mapped : {A B : Type 0} (f : A → B) (xs : List A) (k : ℕ) (o : Option A) → slice_get xs k ≡ o → is_none (option_map f o) ≡ false → k < length xs
+some_mapped f xs k None at e = absurd (false≢true (sym e))
+some_mapped f xs k (Some x) at e = slice_get_within xs k x at
+
+-- where there is a sort, there is an input
+pub some_left : (ins : Inputs) (k : ℕ) (o : Option Sort) → o ≡ option_map (λ (f : Signature). f.1) (slice_get (signatures_of ins) k) → is_none o ≡ false → k < length (signatures_of ins)
+some_left ins k o e there = some_mapped (λ (f : Signature). f.1) (signatures_of ins) k (slice_get (signatures_of ins) k) refl (ap is_none (sym e) ∙ there)
+
+-- contents are the same below a number
+abbrev pub SameBelow : (k : ℕ) → (cs ds : List Content) → Type 0
+SameBelow k cs ds = (i : ℕ) → i < k → slice_get cs i ≡ slice_get ds i
+
+get_set_here : {A : Type 0} (xs : List A) (k : ℕ) (x : A) → k < length xs → slice_get (slice_set xs k x) k ≡ Some x
+get_set_here [] k x h = absurd (omega arith)
+get_set_here (y ∷ xs) zero x h = refl
+get_set_here (y ∷ xs) (suc k) x h = get_set_here xs k x (omega arith)
+
+get_set_before : {A : Type 0} (xs : List A) (k i : ℕ) (x : A) → i < k → slice_get (slice_set xs k x) i ≡ slice_get xs i
+get_set_before [] k i x h = refl
+get_set_before (y ∷ xs) zero i x h = absurd (omega arith)
+get_set_before (y ∷ xs) (suc k) zero x h = refl
+get_set_before (y ∷ xs) (suc k) (suc i) x h = get_set_before xs k i x (omega arith)
+
+-- one more is the same
+pub same_more : (k : ℕ) (old new : List Value) (ds : List Content) (v : Value) (c : Content) → length (map content_of old) ≡ length ds → slice_get ds k ≡ Some c → content_of v ≡ c → new ≡ slice_set old k v → SameBelow k (map content_of old) ds → SameBelow (k + 1) (map content_of new) ds
+same_more k old new ds v c count there own put before i less =
+    let cs = map content_of old in
+    let low : k < length ds = slice_get_within ds k c there in
+    let all : map content_of new ≡ slice_set cs k (content_of v) = ap (map content_of) put ∙ map-set content_of old k v in
+    let here : slice_get (slice_set cs k (content_of v)) k ≡ Some (content_of v) = get_set_here cs k (content_of v) (omega arith) in
+    ap (λ xs. slice_get xs i) all
+    ∙ elim (cases_lt i k) as (λ _. slice_get (slice_set cs k (content_of v)) i ≡ slice_get ds i) [
+      | inl earlier ↦ get_set_before cs k i (content_of v) earlier ∙ before i earlier
+      | inr later ↦
+          let same : k ≡ i = omega arith in
+          subst (λ n. slice_get (slice_set cs k (content_of v)) n ≡ slice_get ds n) same (here ∙ ap Some own ∙ sym there)
+    ]
+
+same_lists : {A : Type 0} (xs ys : List A) → length xs ≡ length ys → ((i : ℕ) → i < length xs → slice_get xs i ≡ slice_get ys i) → xs ≡ ys
+same_lists [] [] e each = refl
+same_lists [] (y ∷ ys) e each = absurd (omega arith)
+same_lists (x ∷ xs) [] e each = absurd (omega arith)
+same_lists (x ∷ xs) (y ∷ ys) e each =
+    let first : Some x ≡ Some y = each 0 (omega arith) in
+    let head : x ≡ y = cc in
+    let rest : xs ≡ ys = same_lists xs ys (omega arith) (λ i h. each (suc i) (omega arith)) in
+    cc
+
+-- all are the same
+pub same_all : (k : ℕ) (cs ds : List Content) → length cs ≡ length ds → length ds ≤ k → SameBelow k cs ds → cs ≡ ds
+same_all k cs ds count all each = same_lists cs ds count (λ i h. each i (omega arith))
+
+-- ---- the sort of a value
+
+sort_of_input : (x : Option Input) (v : Value) → option_map (λ (i : Input). i.value) x ≡ Some v → option_map (λ (f : Signature). f.1) (option_map signature x) ≡ Some (sort_of v)
+sort_of_input None v e = absurd (cc)
+sort_of_input (Some x) v e = let same : x.value ≡ v = cc in ap (λ w. Some (sort_of w)) same
+
+pub sort_there : (ins : Inputs) (k : ℕ) (v : Value) → slice_get (input_values ins) k ≡ Some v → option_map (λ (f : Signature). f.1) (slice_get (signatures_of ins) k) ≡ Some (sort_of v)
+sort_there ins k v e =
+    ap (option_map (λ (f : Signature). f.1)) (slice_get-map signature ins.items.items k)
+    ∙ sort_of_input (slice_get ins.items.items k) v (sym (slice_get-map (λ (i : Input). i.value) ins.items.items k) ∙ e)
+
+pub content_there : (ins : Inputs) (k : ℕ) (v : Value) → slice_get (input_values ins) k ≡ Some v → slice_get (contents_in ins) k ≡ Some (content_of v)
+content_there ins k v e = slice_get-map content_of (input_values ins) k ∙ ap (option_map content_of) e
+
+-- ---- a changed content
+
+pub changed_past : (cs : List Content) (k : ℕ) (i n : ℤ) → length cs ≤ k → changed cs k i n ≡ cs
+changed_past [] k i n h = refl
+changed_past (c ∷ cs) zero i n h = absurd (omega arith)
+changed_past (c ∷ cs) (suc k) i n h = ap (λ r. c ∷ r) (changed_past cs k i n (omega arith))
+
+changed_there : (cs : List Content) (k : ℕ) (c : Content) (i n : ℤ) → slice_get cs k ≡ Some c → slice_set cs k (content_with c i n) ≡ changed cs k i n
+changed_there [] k c i n e = absurd (cc)
+changed_there (d ∷ cs) zero c i n e = let same : d ≡ c = cc in ap (λ x. content_with x i n ∷ cs) (sym same)
+changed_there (d ∷ cs) (suc k) c i n e = ap (λ r. d ∷ r) (changed_there cs k c i n e)
+
+pub changed_is : (old new : List Value) (k : ℕ) (v : Value) (c : Content) (i n : ℤ) → slice_get (map content_of old) k ≡ Some c → content_of v ≡ content_with c i n → new ≡ slice_set old k v → map content_of new ≡ changed (map content_of old) k i n
+changed_is old new k v c i n there own put =
+    ap (map content_of) put ∙ map-set content_of old k v ∙ ap (slice_set (map content_of old) k) own ∙ changed_there (map content_of old) k c i n there

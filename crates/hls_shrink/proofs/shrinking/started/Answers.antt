@@ -1,0 +1,11 @@
+use Rattle.fs_runs.specs.InputValues.{signatures_of}
+use Rattle.fs_show.proofs.Serving.{serves_both}
+use Rattle.hls_shrink.proofs.Smalls.{same_show}
+use Rattle.hls_shrink.proofs.shrinking.started.Goals as goal
+
+pub differing_ends-requires-clause-right : goal.differing_ends-requires-clause-right
+differing_ends-requires-clause-right c = serves_both c.args.a.now c.args.b.now (signatures_of c.in_ok-copy.copy) c.requires.interfaces c.in_ok-copy.ensures.signatures
+
+pub unreachable-requires : goal.unreachable-requires
+unreachable-requires c =
+    c.in_ok-left.ensures.none c.in-None.is (same_show c.args.a.now c.args.b.now c.args.steps c.in_ok-copy.copy c.args.inputs.now c.in_ok-copy.ensures.signatures c.requires.inputs c.in_ok-copy.ensures.contents c.requires.shows)

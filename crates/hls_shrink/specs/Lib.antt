@@ -1,0 +1,5 @@
+pub mod Entries
+pub mod Growth
+pub mod Laws
+pub mod Reductions
+pub mod Shrunk
