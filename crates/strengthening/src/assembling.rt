@@ -188,8 +188,7 @@ fn are_small(nodes: &[Node]) -> bool
     true
 }
 
-/// The certificate of nodes with these ranks, where it is lawful and has at most 4,000,000 units. The one refusal is out of
-/// memory.
+/// The certificate of nodes with these ranks, where it is lawful and has at most 4,000,000 units. The one refusal is out of memory.
 pub fn assemble(
     alloc: Global,
     a: &Machine,

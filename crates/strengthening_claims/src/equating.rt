@@ -147,8 +147,8 @@ fn replace(
     Ok(())
 }
 
-/// While two terms of a class have different values, solves this for a free position, and puts what it is equal to in its
-/// place. `Bound` comes where too little work is left, or a value meets a limit.
+/// While two terms of a class have different values, solves this for a free position, and puts what it is equal to in its place. `Bound`
+/// comes where too little work is left, or a value meets a limit.
 pub fn equate(
     alloc: Global,
     work: &mut Work,

@@ -78,8 +78,8 @@ fn needed(alloc: Global, literals: &[NLit]) -> Result<Vec<NLit>, NoMemory> {
     Ok(out)
 }
 
-/// The literals over free positions: those that are true or false or meet a limit are left out, and so are those that another
-/// one implies, and all behind the first 64. `Bound` comes where too little work is left.
+/// The literals over free positions: those that are true or false or meet a limit are left out, and so are those that another one implies,
+/// and all behind the first 64. `Bound` comes where too little work is left.
 pub fn literals_over(
     alloc: Global,
     work: &mut Work,

@@ -172,9 +172,9 @@ fn have_their_sorts(positions: &[Position], equations: &[Option<Nf>]) -> bool
     true
 }
 
-/// The fact of these parts: one entry a position, and the literals. None where they make no fact of the pairing: another number
-/// of entries, an entry of another sort than its position, a symbol that is no position, a position that has an entry and is
-/// mentioned, more than 64 literals, or one that is true or not in normal form. The one refusal is out of memory.
+/// The fact of these parts: one entry a position, and the literals. None where they make no fact of the pairing: another number of entries,
+/// an entry of another sort than its position, a symbol that is no position, a position that has an entry and is mentioned, more than 64
+/// literals, or one that is true or not in normal form. The one refusal is out of memory.
 pub fn tested_fact(
     alloc: Global,
     p: &Pairing,
