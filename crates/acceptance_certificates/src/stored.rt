@@ -177,3 +177,18 @@ fn certificates_that_are_taken_back(rt: HostRuntime) -> Result<(), AllocError> {
     assert!(rt; is_taken_back(alloc, EMITS_IN_TURN, EMITS_AT_ONCE)?);
     Ok(())
 }
+
+const READ_TWICE: &str =
+    "fsmd 1; input n; input array a; output y; local i, s; reset s0; state s0: goto s1: i = 0, s = 0; state s1: when i < n goto s2; goto s0: y = s; state s2: when a[i] > 0 goto s3: s = s + a[i]; goto s3; state s3: goto s1: i = i + 1;";
+
+const READ_ONCE: &str =
+    "fsmd 1; input n; input array a; output y; local i, s, v; reset q0; state q0: goto q1: i = 0, s = 0; state q1: when i < n goto q2: v = a[i]; goto q0: y = s; state q2: when v > 0 goto q1: s = s + v, i = i + 1; goto q1: i = i + 1;";
+
+// The first search leaves these open.
+#[test]
+fn certificates_of_the_second_search(rt: HostRuntime) -> Result<(), AllocError> {
+    let alloc = rt.alloc();
+    assert!(rt; is_taken_back(alloc, READ_TWICE, READ_ONCE)?);
+    assert!(rt; is_taken_back(alloc, READ_ONCE, READ_TWICE)?);
+    Ok(())
+}

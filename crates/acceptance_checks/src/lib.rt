@@ -21,4 +21,6 @@ mod obstacles;
 #[cfg(test)]
 mod schedules;
 #[cfg(test)]
+mod second_search;
+#[cfg(test)]
 mod sums;
