@@ -58,6 +58,7 @@ each() {
 examples=examples
 each "check" check $examples/sum_past_a_test/behaviour.fsmd $examples/sum_past_a_test/schedule.fsmd
 each "check, with the certificate" check $examples/sum_past_a_test/behaviour.fsmd $examples/sum_past_a_test/schedule.fsmd --cert "$folder/c.json"
+each "check, by the second search" check $examples/counter_run_down/behaviour.fsmd $examples/counter_run_down/schedule.fsmd
 each "verify" verify $examples/sum_out_of_a_loop/behaviour.fsmd $examples/sum_out_of_a_loop/schedule.fsmd $examples/sum_out_of_a_loop/certificate.json
 each "a counterexample" check $examples/square_of_sum/behaviour.fsmd $examples/square_of_sum/sum_of_squares.fsmd
 each "generate 3" generate 3
