@@ -1,6 +1,6 @@
 //! The certificate of a closed table.
 
-ghost use Rattle.std.specs.Prelude.{◌≡◌, ◌≤◌, ◌&&◌, length, map, nat_le, IsTrue, IfOk, IfSome};
+ghost use Rattle.std.specs.Prelude.{◌≡◌, ◌≤◌, ◌&&◌, map, nat_le, IsTrue, IfOk, IfSome};
 ghost use Rattle.std.specs.List.{list_all, list_any, AllByRecursion};
 ghost use Rattle.fs_cut.specs.Paths.{is_point};
 ghost use Rattle.fs_cut.specs.Covers.{same_point as same};
@@ -12,7 +12,7 @@ ghost use Rattle.certificates.specs.View.{node_of};
 ghost use Rattle.cert_writer.specs.Limits.{units_of};
 
 use crate::nodes::SearchNode;
-use bisimulation::mode::Mode;
+use crate::state::UNIT_LIMIT;
 use certificates::cert::{Cert, Node};
 use fs_ast::machine::Machine;
 use fs_cut::cover::Point;
@@ -26,8 +26,6 @@ use sym_facts::fact::{Fact, FactPosition, copied_literals};
 const NODE_LIMIT: usize = 4096;
 
 const RANK_LIMIT: u32 = 4096;
-
-const UNIT_LIMIT: u64 = 4_000_000;
 
 // Copies of the equations of positions.
 fn copied_equations(
@@ -188,7 +186,8 @@ fn are_small(nodes: &[Node]) -> bool
     true
 }
 
-/// The certificate of nodes with these ranks, where it is lawful and has at most 4,000,000 units. The one refusal is out of memory.
+/// The certificate of nodes with these ranks, where it is lawful and has at most 4,000,000 units. The one refusal is out of
+/// memory.
 pub fn assemble(
     alloc: Global,
     a: &Machine,

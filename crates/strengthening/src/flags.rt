@@ -4,7 +4,8 @@ use bisimulation::mode::Mode;
 use fs_cut::cover::Point;
 use nf_terms::stop::NoMemory;
 
-/// What is kept of a pair of points: whether a side has had more than one open path there, and the mode since the table was last cleared.
+/// What is kept of a pair of points: whether a side has had more than one open path there, and the mode since the table was
+/// last cleared.
 #[derive(Clone, Copy, Debug)]
 pub struct Flags {
     pub left: Point,

@@ -58,7 +58,8 @@ fn has_many(
     Ok(open > 1)
 }
 
-// A side alone moves where the other one has more ways on; where neither has, and one is at the head of a loop, the other one moves alone.
+// A side alone moves where the other one has more ways on; where neither has, and one is at the head of a loop, the other one
+// moves alone.
 fn mode_by(flags: Flags, left_head: bool, right_head: bool) -> Mode {
     if flags.many_left != flags.many_right {
         return if flags.many_left {
@@ -209,8 +210,8 @@ fn set_moves(nodes: &mut [SearchNode], place: usize, mode: Mode, moves: Vec<Node
     }
 }
 
-/// Sees that the node at a place has its mode and its moves. Where the mode is another one than its points had since the table was last
-/// cleared, clears the table. Answers whether it did.
+/// Sees that the node at a place has its mode and its moves. Where the mode is another one than its points had since the table
+/// was last cleared, clears the table. Answers whether it did.
 pub fn see_mode(
     alloc: Global,
     sides: &Sides<'_>,

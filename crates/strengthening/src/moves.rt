@@ -107,8 +107,8 @@ fn add_target(
     Ok(Step::Changes { place })
 }
 
-// Weakens the node at a place so that a post entails its fact. `Bound` comes where the post leaves the claims as they are, though it does
-// not entail the fact that was made of them.
+// Weakens the node at a place so that a post entails its fact. `Bound` comes where the post leaves the claims as they are,
+// though it does not entail the fact that was made of them.
 fn weaken(
     alloc: Global,
     sides: &Sides<'_>,

@@ -26,8 +26,8 @@ pub struct NodeMove {
     pub settled: Settled,
 }
 
-/// A node: two points with their numbers in the order of points, what is claimed there and the fact that is made of it. No two facts of a
-/// search have one version. The mode is not known before the moves are.
+/// A node: two points with their numbers in the order of points, what is claimed there and the fact that is made of it. No two
+/// facts of a search have one version. The mode is not known before the moves are.
 #[derive(Drop)]
 pub struct SearchNode {
     pub left: Point,

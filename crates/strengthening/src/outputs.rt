@@ -47,8 +47,8 @@ fn some_differs(
     Ok(false)
 }
 
-/// Whether both machines are done at a node, and an output has another form than the right variable of its name. The one refusal is out of
-/// memory.
+/// Whether both machines are done at a node, and an output has another form than the right variable of its name. The one
+/// refusal is out of memory.
 pub fn outputs_differ(
     alloc: Global,
     sides: &Sides<'_>,

@@ -90,7 +90,8 @@ fn is_in_range(edges: &[Vec<u32>]) -> bool
     edges.len() <= 4096 && are_edges(edges, edges.len())
 }
 
-/// The lengths of the longest chains of moves of one machine alone; none where there is a cycle of them. The one refusal is out of memory.
+/// The lengths of the longest chains of moves of one machine alone; none where there is a cycle of them. The one refusal is out
+/// of memory.
 pub fn ranks_of(alloc: Global, nodes: &[SearchNode]) -> Result<Option<Vec<u32>>, NoMemory> {
     let edges = lone_moves(alloc, nodes)?;
     if !is_in_range(edges.as_slice()) {

@@ -3,7 +3,6 @@
 use crate::flags::{Flags, forget_modes};
 use crate::nodes::{SearchNode, place_for, units_of};
 use crate::sides::Sides;
-use bisimulation::mode::Mode;
 use fs_cut::cover::Point;
 use fs_pair::positions::Pairing;
 use nf_terms::stop::NoMemory;
@@ -140,8 +139,8 @@ pub fn add(
     Ok(place)
 }
 
-/// Gives the node at a place another fact, forgets its mode and its moves, and deletes all nodes behind it. `Bound` comes where too much was
-/// changed, or the table has too many units.
+/// Gives the node at a place another fact, forgets its mode and its moves, and deletes all nodes behind it. `Bound` comes where
+/// too much was changed, or the table has too many units.
 pub fn change_fact(state: &mut State, place: usize, fact: Fact) -> Result<(), Stop> {
     let version = count_change(state)?;
     if let Some(node) = state.nodes.get_mut(place) {

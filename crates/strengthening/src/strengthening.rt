@@ -32,11 +32,11 @@ fn closed_table<'a>(
     Ok(state)
 }
 
-/// Searches a second time for a certificate that two machines with the same interface have the same behaviour: for each pair of points it
-/// keeps which terms have been equal at every arrival, and makes the facts anew of these.
+/// Searches a second time for a certificate that two machines with the same interface have the same behaviour: for each pair of
+/// points it keeps which terms have been equal at every arrival, and makes the facts anew of these.
 ///
-/// What it finds is a lawful certificate of at most 4,000,000 units; whether its obligations hold is for a checker to say. It finds none
-/// within the bounds of its work, or where outputs differ. The one refusal is out of memory.
+/// What it finds is a lawful certificate of at most 4,000,000 units; whether its obligations hold is for a checker to say. It
+/// finds none within the bounds of its work, or where outputs differ. The one refusal is out of memory.
 pub fn strengthen(
     alloc: Global,
     a: &Machine,

@@ -11,9 +11,9 @@ use strengthening_terms::universe::Universe;
 use sym_facts::fact::{Fact, FactPosition, copied_literals};
 use sym_paths::execution::Post;
 
-/// What has held at every arrival at a pair of points: terms have been equal, and literals have been true. The terms are those of the
-/// universe and then the extras. The class of a term is the place of the first term that has been equal to it; a term out of all classes
-/// claims nothing.
+/// What has held at every arrival at a pair of points: terms have been equal, and literals have been true. The terms are those
+/// of the universe and then the extras. The class of a term is the place of the first term that has been equal to it; a term
+/// out of all classes claims nothing.
 #[derive(Drop)]
 pub struct Claims {
     pub extras: Vec<Nf>,
@@ -85,8 +85,8 @@ fn bare_claims(alloc: Global, universe: &Universe) -> Result<Claims, NoMemory> {
     })
 }
 
-/// What is claimed before the first arrival: that all terms are equal and all literals true. The extras are the equations of the fact that
-/// the post carries on, whose literals are claimed too. The one refusal is out of memory.
+/// What is claimed before the first arrival: that all terms are equal and all literals true. The extras are the equations of
+/// the fact that the post carries on, whose literals are claimed too. The one refusal is out of memory.
 pub fn claims_before(
     alloc: Global,
     universe: &Universe,

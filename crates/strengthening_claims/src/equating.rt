@@ -10,10 +10,10 @@ use nf_subst::vector::Vector;
 use nf_terms::form::Nf;
 use nf_terms::stop::NoMemory;
 use std::alloc::Global;
-use strengthening_terms::stop::{Stop, unless_stopped};
+use strengthening_terms::stop::Stop;
 use strengthening_terms::universe::Universe;
 use strengthening_terms::work::Work;
-use sym_facts::entailment::{form_like, substitute};
+use sym_facts::entailment::form_like;
 use sym_facts::fact::own_symbol;
 
 // The value of a term that is in a class.
@@ -147,8 +147,8 @@ fn replace(
     Ok(())
 }
 
-/// While two terms of a class have different values, solves this for a free position, and puts what it is equal to in its place. `Bound`
-/// comes where too little work is left, or a value meets a limit.
+/// While two terms of a class have different values, solves this for a free position, and puts what it is equal to in its
+/// place. `Bound` comes where too little work is left, or a value meets a limit.
 pub fn equate(
     alloc: Global,
     work: &mut Work,

@@ -42,8 +42,8 @@ fn equations_of(
     Ok(out)
 }
 
-/// The fact that is made of claims: each position is free, or has a value over free positions that all its class has. `Bound` comes where
-/// too little work is left, or what is made is no fact.
+/// The fact that is made of claims: each position is free, or has a value over free positions that all its class has. `Bound`
+/// comes where too little work is left, or what is made is no fact.
 pub fn fact_of(
     alloc: Global,
     work: &mut Work,

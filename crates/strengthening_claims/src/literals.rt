@@ -1,5 +1,6 @@
 //! The literals of claims over free positions.
 
+use crate::tested_facts::LITERAL_LIMIT;
 use nf_rel::clashes::implied;
 use nf_rel::literals::NLit;
 use nf_subst::subst::Subst;
@@ -9,9 +10,6 @@ use std::alloc::Global;
 use strengthening_terms::stop::{Stop, unless_stopped};
 use strengthening_terms::work::Work;
 use sym_facts::entailment::substitute_literal;
-
-/// The most literals of a fact.
-const LITERAL_LIMIT: usize = 64;
 
 // Adds a literal over free positions, unless it is true or false, or meets a limit.
 fn push_value(
@@ -78,8 +76,8 @@ fn needed(alloc: Global, literals: &[NLit]) -> Result<Vec<NLit>, NoMemory> {
     Ok(out)
 }
 
-/// The literals over free positions: those that are true or false or meet a limit are left out, and so are those that another one implies,
-/// and all behind the first 64. `Bound` comes where too little work is left.
+/// The literals over free positions: those that are true or false or meet a limit are left out, and so are those that another
+/// one implies, and all behind the first 64. `Bound` comes where too little work is left.
 pub fn literals_over(
     alloc: Global,
     work: &mut Work,

@@ -254,9 +254,9 @@ fn free(
     }
 }
 
-/// Values of all positions: those of a class have the value of a term whose positions are all known; where no term tells a value, the next
-/// position is free, left inputs first, then those with a position of the other side in their class, then the others. `Bound` comes where
-/// too little work is left.
+/// Values of all positions: those of a class have the value of a term whose positions are all known; where no term tells a
+/// value, the next position is free, left inputs first, then those with a position of the other side in their class, then the
+/// others. `Bound` comes where too little work is left.
 pub fn settle(
     alloc: Global,
     work: &mut Work,

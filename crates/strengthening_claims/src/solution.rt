@@ -5,7 +5,8 @@ use nf_terms::stop::NoMemory;
 use nf_terms::tree::Pos;
 use std::alloc::Global;
 
-/// For each position whether it is known, and the values of known positions, over free ones. A free position has no value but its symbol.
+/// For each position whether it is known, and the values of known positions, over free ones. A free position has no value but
+/// its symbol.
 #[derive(Drop)]
 pub struct Solution {
     pub known: Vec<bool>,

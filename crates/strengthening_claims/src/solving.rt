@@ -155,9 +155,9 @@ fn solved_symbol(
     }
 }
 
-/// What a free position is equal to where two values are equal: a number that stands in their difference alone, with the coefficient 1 or
-/// -1, or an array or a list that one of them is and the other does not mention. None where no such position is free, or it is an input.
-/// The one refusal is out of memory.
+/// What a free position is equal to where two values are equal: a number that stands in their difference alone, with the
+/// coefficient 1 or -1, or an array or a list that one of them is and the other does not mention. None where no such position
+/// is free, or it is an input. The one refusal is out of memory.
 pub fn solve(
     alloc: Global,
     positions: &[Position],

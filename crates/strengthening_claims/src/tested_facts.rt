@@ -2,11 +2,10 @@
 
 ghost use Rattle.std.specs.Prelude.{◌≡◌, map, IfOk, IfSome};
 ghost use Rattle.std.specs.List.{list_all};
-ghost use Rattle.nf_terms.specs.declared.symbols.Sort.{Sort as PlainTermSort};
 ghost use Rattle.nf_subst.specs.Vectors.{same_sort as same};
 ghost use Rattle.nf_rel.specs.View.{literal_in};
 ghost use Rattle.sym_facts.specs.Facts.{has_its_sort, may_be_kept, sort_of_terms as terms_of_sort};
-ghost use Rattle.sym_facts.specs.Pairings.{IsFactOf, is_position, form_within, literal_within};
+ghost use Rattle.sym_facts.specs.Pairings.{IsFactOf, is_position, literal_within};
 ghost use Rattle.sym_facts.specs.Parts.{equation_within, with_equations};
 
 use fs_model::parts::Sort;
@@ -172,9 +171,9 @@ fn have_their_sorts(positions: &[Position], equations: &[Option<Nf>]) -> bool
     true
 }
 
-/// The fact of these parts: one entry a position, and the literals. None where they make no fact of the pairing: another number of entries,
-/// an entry of another sort than its position, a symbol that is no position, a position that has an entry and is mentioned, more than 64
-/// literals, or one that is true or not in normal form. The one refusal is out of memory.
+/// The fact of these parts: one entry a position, and the literals. None where they make no fact of the pairing: another number
+/// of entries, an entry of another sort than its position, a symbol that is no position, a position that has an entry and is
+/// mentioned, more than 64 literals, or one that is true or not in normal form. The one refusal is out of memory.
 pub fn tested_fact(
     alloc: Global,
     p: &Pairing,

@@ -156,9 +156,9 @@ fn kept_literals(
     Ok(out)
 }
 
-/// Weeds claims by a post: each class is split by the values that its terms have in the arriving vector, a term whose value meets a limit is
-/// out, and literals go that the arriving conditions do not imply. Answers whether this changed the claims. `Bound` comes where too little
-/// work is left.
+/// Weeds claims by a post: each class is split by the values that its terms have in the arriving vector, a term whose value
+/// meets a limit is out, and literals go that the arriving conditions do not imply. Answers whether this changed the claims.
+/// `Bound` comes where too little work is left.
 pub fn weed(
     alloc: Global,
     work: &mut Work,

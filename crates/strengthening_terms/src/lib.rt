@@ -1,5 +1,5 @@
-//! What a second search compares at each pair of points: the terms and the literals of two machines, the points in an order by loops, and
-//! how much work is left.
+//! What a second search compares at each pair of points: the terms and the literals of two machines, the points in an order by
+//! loops, and how much work is left.
 #![tactic(auto)]
 
 pub mod collection;

@@ -4,7 +4,7 @@ use crate::collection::Collection;
 use crate::stop::unless_stopped;
 use crate::subterms::{add_expr, add_literals};
 use fs_ast::machine::Machine;
-use fs_model::parts::{Assign, Branch, Sort, StateId, VarId, VarInfo};
+use fs_model::parts::{Assign, Branch, StateId, VarId};
 use fs_pair::positions::Pairing;
 use nf_arrays::writes::write;
 use nf_rel::literals::NLit;
@@ -25,7 +25,8 @@ pub struct Term {
     pub places: Vec<usize>,
 }
 
-/// Terms and literals that may hold between two machines, none of them twice. The first terms are the symbols of the positions, in order.
+/// Terms and literals that may hold between two machines, none of them twice. The first terms are the symbols of the positions,
+/// in order.
 #[derive(Drop)]
 pub struct Universe {
     pub terms: Vec<Term>,
@@ -155,11 +156,11 @@ fn add_machine(
     Ok(())
 }
 
-/// The universe of two machines: the symbols of their positions; 0, the array that is 0 everywhere and the empty list; each term of a right
-/// side, an index or a guard that has an operator, in its machine's symbols; for each write the arrays of its name, of either machine, after
-/// it; each literal of a guard and its negation, and of `>=` and `<=` also the ones whose bound is 1 more or less. The left machine's come
-/// first. Terms past a limit are left out, and so are those behind the first 512 terms and the first 512 literals, and behind the first
-/// 16,384 that are looked at. The one refusal is out of memory.
+/// The universe of two machines: the symbols of their positions; 0, the array that is 0 everywhere and the empty list; each
+/// term of a right side, an index or a guard that has an operator, in its machine's symbols; for each write the arrays of its
+/// name, of either machine, after it; each literal of a guard and its negation, and of `>=` and `<=` also the ones whose bound
+/// is 1 more or less. The left machine's come first. Terms past a limit are left out, and so are those behind the first 512
+/// terms and the first 512 literals, and behind the first 16,384 that are looked at. The one refusal is out of memory.
 pub fn universe_of(
     alloc: Global,
     a: &Machine,

@@ -17,11 +17,6 @@ impl Work {
         Work { left: WORK_LIMIT }
     }
 
-    /// How many units are left.
-    pub fn left(&self) -> u64 {
-        self.left
-    }
-
     /// Takes so many units off. `Bound` comes where fewer are left.
     pub fn spend(&mut self, units: u64) -> Result<(), Stop> {
         if self.left < units {

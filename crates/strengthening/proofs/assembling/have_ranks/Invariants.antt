@@ -5,4 +5,6 @@ use Rattle.certificates.specs.View.{node_of}
 use Rattle.strengthening.proofs.assembling.have_ranks.Given as goal
 
 abbrev pub invariant-loop-node : goal.invariant-loop-node
-invariant-loop-node l = list_all (λ n. nat_le n.rank most_rank) (map node_of (drop l.node-index l.nodes)) ≡ list_all (λ n. nat_le n.rank most_rank) (map node_of l.nodes)
+invariant-loop-node l =
+    list_all (λ n. nat_le n.rank most_rank) (map node_of (drop l.node-index l.nodes)) ≡
+    list_all (λ n. nat_le n.rank most_rank) (map node_of l.nodes)

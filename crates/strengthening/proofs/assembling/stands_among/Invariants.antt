@@ -6,4 +6,6 @@ use Rattle.certificates.specs.View.{node_of}
 use Rattle.strengthening.proofs.assembling.stands_among.Given as goal
 
 abbrev pub invariant-loop-other : goal.invariant-loop-other
-invariant-loop-other l = list_any (λ k. same_point (point_of l.node.left) k.left && same_point (point_of l.node.right) k.right) (map node_of (drop l.other-index l.others)) ≡ list_any (λ k. same_point (point_of l.node.left) k.left && same_point (point_of l.node.right) k.right) (map node_of l.others)
+invariant-loop-other l =
+    list_any (λ k. same_point (point_of l.node.left) k.left && same_point (point_of l.node.right) k.right) (map node_of (drop l.other-index l.others)) ≡
+    list_any (λ k. same_point (point_of l.node.left) k.left && same_point (point_of l.node.right) k.right) (map node_of l.others)

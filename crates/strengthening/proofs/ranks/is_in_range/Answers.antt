@@ -5,4 +5,6 @@ use Rattle.strengthening.proofs.Ranges.{in_range_by}
 use Rattle.strengthening.proofs.ranks.is_in_range.Goals as goal
 
 pub returns-then-edges-le4096 : goal.returns-then-edges-le4096
-returns-then-edges-le4096 c = λ h. in_range_by (lists_in c.args.edges.now) (length c.args.edges.now) c.are_edges.result (omega (arith, length-map c.args.edges.now (λ (v : Vec ℕ Global). v.items))) c.if-edges-le4096.true c.are_edges.ensures h
+returns-then-edges-le4096 c =
+    λ h. in_range_by (lists_in c.args.edges.now) (length c.args.edges.now) c.are_edges.result
+    (omega (arith, length-map c.args.edges.now (λ (v : Vec ℕ Global). v.items))) c.if-edges-le4096.true c.are_edges.ensures h

@@ -5,4 +5,6 @@ use Rattle.sym_facts.specs.Parts.{equation_within}
 use Rattle.strengthening_claims.proofs.tested_facts.are_equations_within.Given as goal
 
 abbrev pub invariant-loop-equation : goal.invariant-loop-equation
-invariant-loop-equation l = list_all (equation_within (is_position l.positions)) (drop l.equation-index l.equations) ≡ list_all (equation_within (is_position l.positions)) l.equations
+invariant-loop-equation l =
+    list_all (equation_within (is_position l.positions)) (drop l.equation-index l.equations) ≡
+    list_all (equation_within (is_position l.positions)) l.equations
