@@ -5,6 +5,7 @@
 
 pub mod build;
 mod constants;
+mod copies;
 pub mod laws;
 pub mod machine;
 mod resolve;

@@ -11,6 +11,7 @@ ghost use Rattle.fs_ast.specs.Stored.{name_of, KeepsTypes};
 ghost use Rattle.fs_model.specs.Words.{is_name};
 
 use crate::constants::constants_of;
+use crate::copies::{copy_states, copy_variables};
 use crate::resolve::State;
 use crate::trees::branches;
 use fs_model::name::{Name, NoMemory};
@@ -94,6 +95,15 @@ impl Machine {
         ensures sound { IsSound self.now }
     {
         self.constants.as_slice()
+    }
+
+    /// An equal machine. The only refusal is out of memory.
+    pub fn try_clone(&self, alloc: Global) -> Result<Machine, NoMemory>
+        ensures { IfOk result (λ m. m ≡ self.now) }
+    {
+        let vars = copy_variables(alloc, &self.vars)?;
+        let states = copy_states(alloc, &self.states)?;
+        Machine::of(alloc, vars, self.reset, states)
     }
 
     /// The machine of these variables and states.

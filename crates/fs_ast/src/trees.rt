@@ -4,16 +4,17 @@ ghost use Rattle.std.specs.Prelude.{◌≡◌, ◌++◌, ◌∷◌, [], List, ma
 ghost use Rattle.fs_model.specs.declared.parts.VarId.{VarId};
 ghost use Rattle.fs_model.specs.declared.parts.Lit.{Lit as LitOf};
 ghost use Rattle.std.specs.Result.{OnOk};
-ghost use Rattle.fs_model.specs.View.{literal_of, guard_of, assignment_of, branch_of};
+ghost use Rattle.fs_model.specs.View.{literal_of, guard_of, branch_of};
 ghost use Rattle.fs_model.specs.Trees.{Leaf, Node, tree_of_guard, tree_of_transitions, opposite, leaves, branches_of, count_leaves};
 ghost use Rattle.fs_ast.specs.Resolved.{line_of};
 ghost use Rattle.fs_ast.specs.Forks.{tree_of, leaves_by, leaves_by_condition, capped};
 
+use crate::copies::copy_assigns;
 use crate::resolve::Transition;
 use fs_model::limits::BRANCH_LIMIT;
 use fs_model::memory::both_boxed;
 use fs_model::name::NoMemory;
-use fs_model::parts::{Assign, Branch, Guard, Lit, VarId};
+use fs_model::parts::{Branch, Guard, Lit, VarId};
 use std::alloc::Global;
 
 // A decision tree over transitions.
@@ -203,16 +204,6 @@ fn copy_way(alloc: Global, way: &[Lit<VarId>]) -> Result<Vec<Lit<VarId>>, NoMemo
     let mut out = Vec::new(alloc);
     for lit in way {
         out.push(lit.try_clone(alloc)?)?;
-    }
-    Ok(out)
-}
-
-fn copy_assigns(alloc: Global, assigns: &[Assign<VarId>]) -> Result<Vec<Assign<VarId>>, NoMemory>
-    ensures { IfOk result (λ out. map assignment_of out.items ≡ map assignment_of assigns.now) }
-{
-    let mut out = Vec::new(alloc);
-    for assign in assigns {
-        out.push(assign.try_clone(alloc)?)?;
     }
     Ok(out)
 }

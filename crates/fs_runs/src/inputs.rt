@@ -53,6 +53,15 @@ impl Inputs {
         Ok(())
     }
 
+    /// Inputs of the same names, sorts and values. The only refusal is out of memory.
+    pub fn try_clone(&self, alloc: Global) -> Result<Inputs, NoMemory>
+        ensures signatures { IfOk result (λ ins. signatures_of ins ≡ signatures_of self.now) }
+        ensures contents { IfOk result (λ ins. map content_of (input_values ins) ≡ map content_of (input_values self.now)) }
+    {
+        let items = copy_items(alloc, &self.items)?;
+        Ok(Inputs { items })
+    }
+
     /// The sort of the input of a number, and none where there are not so many. Takes no memory.
     pub fn sort(&self, k: u32) -> Option<Sort>
         ensures { result ≡ option_map (λ f. f.1) (slice_get (signatures_of self.now) k) }
@@ -82,6 +91,20 @@ impl Inputs {
         }
         None
     }
+}
+
+// Copies of the values of inputs.
+fn copy_items(alloc: Global, items: &[Input]) -> Result<Vec<Input>, NoMemory>
+    ensures signatures { IfOk result (λ out. map signature out.items ≡ map signature items.now) }
+    ensures contents { IfOk result (λ out. map content_of (map (λ i. i.value) out.items) ≡ map content_of (map (λ i. i.value) items.now)) }
+{
+    let mut out = Vec::new(alloc);
+    for item in items {
+        let name = item.name.try_clone(alloc)?;
+        let value = item.value.try_clone()?;
+        out.push(Input { name, value })?;
+    }
+    Ok(out)
 }
 
 // Whether a variable starts with what the inputs give.

@@ -1,0 +1,87 @@
+//! Copies of the parts of a machine.
+
+ghost use Rattle.std.specs.Prelude.{◌≡◌, map, option_map, IfOk};
+ghost use Rattle.fs_model.specs.View.{guard_of, assignment_of};
+ghost use Rattle.fs_ast.specs.Resolved.{line_of, state_of};
+
+use crate::resolve::{State, Transition};
+use fs_model::name::NoMemory;
+use fs_model::parts::{Assign, Guard, VarId, VarInfo};
+use std::alloc::Global;
+
+/// Copies of variables.
+pub fn copy_variables(alloc: Global, vars: &[VarInfo]) -> Result<Vec<VarInfo>, NoMemory>
+    ensures { IfOk result (λ out. out.items ≡ vars.now) }
+{
+    let mut out = Vec::new(alloc);
+    for var in vars {
+        let name = var.name.try_clone(alloc)?;
+        out.push(VarInfo {
+            name,
+            role: var.role,
+            sort: var.sort,
+        })?;
+    }
+    Ok(out)
+}
+
+// A copy of a guard, where there is one.
+fn copy_condition(
+    alloc: Global,
+    guard: &Option<Guard<VarId>>,
+) -> Result<Option<Guard<VarId>>, NoMemory>
+    ensures { IfOk result (λ g. option_map guard_of g ≡ option_map guard_of guard.now) }
+{
+    match guard {
+        None => Ok(None),
+        Some(guard) => Ok(Some(guard.try_clone(alloc)?)),
+    }
+}
+
+/// Copies of assignments.
+pub fn copy_assigns(
+    alloc: Global,
+    assigns: &[Assign<VarId>],
+) -> Result<Vec<Assign<VarId>>, NoMemory>
+    ensures { IfOk result (λ out. map assignment_of out.items ≡ map assignment_of assigns.now) }
+{
+    let mut out = Vec::new(alloc);
+    for assign in assigns {
+        out.push(assign.try_clone(alloc)?)?;
+    }
+    Ok(out)
+}
+
+// Copies of transitions.
+fn copy_lines(alloc: Global, lines: &[Transition]) -> Result<Vec<Transition>, NoMemory>
+    ensures { IfOk result (λ out. map line_of out.items ≡ map line_of lines.now) }
+{
+    let mut out = Vec::new(alloc);
+    for line in lines {
+        let guard = copy_condition(alloc, &line.guard)?;
+        let assigns = copy_assigns(alloc, &line.assigns)?;
+        out.push(Transition {
+            guard,
+            target: line.target,
+            assigns,
+        })?;
+    }
+    Ok(out)
+}
+
+/// Copies of states.
+pub fn copy_states(alloc: Global, states: &[State]) -> Result<Vec<State>, NoMemory>
+    ensures { IfOk result (λ out. map state_of out.items ≡ map state_of states.now) }
+{
+    let mut out = Vec::new(alloc);
+    for state in states {
+        let name = state.name.try_clone(alloc)?;
+        let lines = copy_lines(alloc, &state.lines)?;
+        out.push(State {
+            line: state.line,
+            name,
+            lines,
+        })?;
+    }
+    Ok(out)
+}
