@@ -40,7 +40,8 @@ pub fn outputs_of_even_vectors_are_the_same()
 pub fn moves_of_other_numbers_are_refuted()
     ensures { (a b : Fsmd) (pairs : List (Point × Point)) (P Q : Point) (p q : Path) (ls : List NormalLiteral)
         (v : List (Pos × Nf)) (post : Post) → IsSound a → AlikePoints a b pairs P Q → IsEven a b v → IsPath a p → IsPath b q
-        → p.from ≡ P → q.from ≡ Q → p.branch ≢ q.branch → arrive a b ls v (Some p) (Some q) ≡ Done post → is_refuted post.conditions ≡ true }
+        → p.from ≡ P → q.from ≡ Q → p.branch ≢ q.branch → arrive a b ls v (Some p) (Some q) ≡ Done post
+        → is_refuted post.conditions ≡ true }
 {}
 
 /// The fact of an even node has an even vector, and at the node both machines move or none does, where no event is met.
