@@ -11,4 +11,6 @@ pub record ChainEnds : Type 0 where
 
 -- both machines, as the code of a pair
 abbrev pub coded_ends : Coded ChainEnds
-coded_ends = code_by (Fsmd × Fsmd) (coded× coded_fsmd coded_fsmd) (λ e. (e.first, e.last)) (λ p. record { first = p.0; last = p.1 }) (λ _. refl)
+coded_ends =
+    code_by (Fsmd × Fsmd) (coded× coded_fsmd coded_fsmd) (λ e. (e.first, e.last))
+    (λ p. record { first = p.0; last = p.1 }) (λ _. refl)

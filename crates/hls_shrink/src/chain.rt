@@ -5,13 +5,12 @@ ghost use Rattle.std.specs.Result.{OnOk, IfErr};
 ghost use Rattle.fs_model.specs.Runs.{SameBehaviour};
 ghost use Rattle.fs_pair.specs.Interfaces.{interface_fault};
 ghost use Rattle.fs_pair.specs.Positions.{positions};
-ghost use Rattle.sym_facts.specs.Starts.{start_fact};
 ghost use Rattle.certificates.specs.Lawful.{IsLawful};
-ghost use Rattle.certificates.specs.Obligations.{Yes, verdict};
+ghost use Rattle.certificates.specs.Obligations.{Yes};
 ghost use Rattle.certificates.specs.View.{node_of};
 ghost use Rattle.cert_check.specs.View.{verdict_in};
 ghost use Rattle.cert_check.specs.declared.verdict.Verdict.TheVariants.{Yes as Holds};
-ghost use Rattle.hls_shrink.specs.ChainStops.{IsStopOf};
+ghost use Rattle.hls_shrink.specs.ChainStops.{verdict_on, IsStopOf};
 
 use cert_check::verdict::Verdict;
 use cert_check::verify::verify;
@@ -24,7 +23,7 @@ use nf_terms::stop::NoMemory as NoRoom;
 use std::alloc::Global;
 use std::marker::Model;
 
-/// A chain of machines: its first machine and its last one, which have the same behaviour. The machines between them are not kept.
+/// A chain of machines: its first machine and its last one, which have the same behaviour. Those between them are not kept.
 #[derive(Drop)]
 pub struct Chain {
     first: Machine,
@@ -84,9 +83,9 @@ impl Chain {
 
     /// The chain with one machine more behind its last one, by a lawful certificate of these two.
     ///
-    /// `Verdict` comes exactly where the checker's verdict on the certificate is not yes, with that verdict. The one other refusal
-    /// is out of memory. After a refusal the chain and the machine are gone. The cost is that of one check of the certificate,
-    /// whatever the length of the chain; two machines are kept.
+    /// `Verdict` comes exactly where the checker's verdict on the certificate is not yes, with that verdict. The one other
+    /// refusal is out of memory. After a refusal the chain and the machine are gone. The cost is that of one check of the
+    /// certificate, whatever the length of the chain; two machines are kept.
     pub fn add(
         self,
         alloc: Global,
@@ -99,8 +98,8 @@ impl Chain {
         requires lawful { IsLawful self.last next (map node_of c.now.nodes.items) }
         ensures first { IfOk result (λ chain. chain.first ≡ self.first) }
         ensures last { IfOk result (λ chain. chain.last ≡ next) }
-        ensures holds { OnOk result (verdict self.last next (start_fact (positions self.last next)) (map node_of c.now.nodes.items) ≡ Yes) }
-        ensures verdict { IfErr result (IsStopOf (verdict self.last next (start_fact (positions self.last next)) (map node_of c.now.nodes.items))) }
+        ensures holds { OnOk result (verdict_on self.last next (map node_of c.now.nodes.items) ≡ Yes) }
+        ensures verdict { IfErr result (IsStopOf (verdict_on self.last next (map node_of c.now.nodes.items))) }
     {
         same_behaviour_is_transitive();
         let verdict = verify(alloc, &self.last, &next, p, c)?;

@@ -17,8 +17,8 @@ pub fn the_end_of_a_chain_is_least()
     ensures { EndIsLeast }
 {}
 
-/// What the inputs of a machine are given in order of declaration is given by their names and sorts, where none of them is a port:
-/// of what an input that is a port is given, inputs by names say nothing.
+/// What inputs give in order of declaration is what they give the names of a machine's inputs, where none of these is a port:
+/// of a port, inputs by names say nothing.
 pub fn inputs_are_given_by_name()
     ensures { GivenByName }
 {}
