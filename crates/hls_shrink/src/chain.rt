@@ -101,13 +101,10 @@ impl Chain {
         ensures holds { OnOk result (verdict_on self.last next (map node_of c.now.nodes.items) ≡ Yes) }
         ensures verdict { IfErr result (IsStopOf (verdict_on self.last next (map node_of c.now.nodes.items))) }
     {
+        let Chain { first, last } = self;
+        where_yes(verify(alloc, &last, &next, p, c)?)?;
         same_behaviour_is_transitive();
-        let verdict = verify(alloc, &self.last, &next, p, c)?;
-        where_yes(verdict)?;
-        Ok(Chain {
-            first: self.first,
-            last: next,
-        })
+        Ok(Chain { first, last: next })
     }
 }
 
