@@ -1,4 +1,5 @@
-pub mod Copies
+pub mod ByName
+pub mod Changed
 pub mod First
 pub mod Listed
 pub mod Lowered
