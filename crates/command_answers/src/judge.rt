@@ -59,8 +59,8 @@ fn undecided(alloc: Global, obligation: u32, event: &str) -> Result<Lines, Alloc
     Ok(Lines::of(text.into_bytes()))
 }
 
-// The answer that a verdict gets.
-fn answer_to(
+/// The answer that a verdict gets.
+pub(crate) fn answer_to(
     alloc: Global,
     a: &Machine,
     b: &Machine,
