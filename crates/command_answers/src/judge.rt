@@ -59,7 +59,7 @@ fn undecided(alloc: Global, obligation: u32, event: &str) -> Result<Lines, Alloc
     Ok(Lines::of(text.into_bytes()))
 }
 
-/// The answer that a verdict gets.
+// The answer that a verdict gets.
 pub(crate) fn answer_to(
     alloc: Global,
     a: &Machine,

@@ -33,8 +33,8 @@ fn told_at(alloc: Global, ask: &Ask, link: u32, stop: &Answer) -> Result<Answer,
     ensures { IfOk result (λ answer. answer ≡ Link (status_of stop.now) (link_lines (Some (asked ask.now)) link stop.now)) }
 {
     let mut bytes = format!(in alloc; "link {link}: ")?.into_bytes();
-    let mut own = lines(alloc, stop, ask)?;
-    bytes.append(&mut own)?;
+    let mut stop_lines = lines(alloc, stop, ask)?;
+    bytes.append(&mut stop_lines)?;
     Ok(Answer::Link {
         status: stop.status(),
         lines: Lines::of(bytes),

@@ -34,7 +34,7 @@ fn equivalent(alloc: Global, nodes: u32) -> Result<String, AllocError>
     format!(in alloc; "equivalent: {nodes} nodes\n")
 }
 
-/// The lines of an answer to what is asked. The one refusal is out of memory.
+// The lines of an answer to what is asked.
 pub(crate) fn lines(alloc: Global, answer: &Answer, ask: &Ask) -> Result<Vec<u8>, AllocError>
     ensures { IfOk result (λ bytes. bytes.items ≡ lines_of answer.now (Some (asked ask.now))) }
 {

@@ -11,7 +11,7 @@ use command_words::asking::Ask;
 pub fn word_of(ask: &Ask, file: Operand) -> &str
     ensures { result.now ≡ word_of (Some (asked ask.now)) file }
 {
-    let Operand(number) = file;
+    let number = file.0;
     match ask {
         Ask::Check { left, right, .. } => word_at(&[left.as_str(), right.as_str()], number),
         Ask::Verify { left, right, cert } => {
