@@ -3,20 +3,18 @@ use Rattle.std.specs.Prelude.{◌≡◌, ℕ, ◌≤◌, List, length}
 use Rattle.fs_model.specs.Limits.{most_text_bytes}
 use Rattle.fs_model.specs.Machines.{Fsmd}
 use Rattle.fs_model.specs.Source.{Source}
-use Rattle.fs_rules.specs.Spelled.{machine_of}
 use Rattle.hls_bind.specs.declared.faults.Fault.{Fault}
 use Rattle.hls_bind.specs.declared.faults.Fault.TheVariants as faults
 use Rattle.hls_bind.specs.Files.{Gives, IsFaulty}
 use Rattle.synthesis_answers.specs.Bindings.{Binding, IsBoundText, IsConflictLine}
 use Rattle.command_answers.specs.declared.answer.Operand.{Operand}
-use Rattle.command_answers.specs.declared.answer.Operand.TheVariants.{Second}
 use Rattle.command_answers.specs.declared.answer.KeyFault.{KeyFault}
 use Rattle.command_answers.specs.declared.answer.KeyFault.TheVariants as keys
 use Rattle.command_answers.specs.declared.answer.Answer.{Answer}
 use Rattle.command_answers.specs.declared.answer.Answer.TheVariants.{Text, Differs}
 use Rattle.command_answers.specs.Lines.{HasLines}
 use Rattle.command_answers.specs.Readings.{Content}
-use Rattle.command_answers.specs.Keys.{RefusesKeys, FollowsFromKeys}
+use Rattle.command_answers.specs.Keys.{RefusesKeys}
 
 -- what is wrong at the name of a local
 abbrev pub binding_fault : Fault → KeyFault
@@ -45,7 +43,3 @@ RefusesBinding m file content answer = RefusesKeys (HasBindingFault m) file cont
 pub data IsOfBinding (p : Source) (b : Binding) (answer : Answer) : Type 0 where
   IsBound : HasLines (IsBoundText p b) Text answer → IsOfBinding p b answer
   Loses : HasLines (IsConflictLine p b) Differs answer → IsOfBinding p b answer
-
--- what is said of the parts of a machine and of a file of its binding
-abbrev pub ForBind : Source → Content → Answer → Type 0
-ForBind p content answer = FollowsFromKeys Binding (HasBindingFault (machine_of p)) (SpellsBinding (machine_of p)) (IsOfBinding p) Second content answer

@@ -1,84 +1,132 @@
 -- Which answer follows from what was read.
-use Rattle.std.specs.Prelude.{◌≡◌, ℕ, Bool, List, Option, Some, None, is_some}
-use Rattle.command_words.specs.Words.{Asked, Check, Verify, Run, Replay, Fmt, Cuts, Generate, Compile, Schedule, Bind}
+use Rattle.std.specs.Prelude.{◌≡◌, ◌≢◌, ℕ, zero, suc, ◌+◌, List, [], ◌∷◌, Option, Some, None, is_some}
+use Rattle.command_words.specs.Words.{Asked, Check, Verify, Run, Replay, Fmt, Cuts, Generate, Compile, Schedule, Bind, Shrink, Chain}
 use Rattle.fs_model.specs.Machines.{Fsmd}
+use Rattle.fs_model.specs.Runs.{Inputs}
 use Rattle.fs_model.specs.Source.{Source}
+use Rattle.fs_rules.specs.Spelled.{machine_of}
 use Rattle.fs_pair.specs.Interfaces.{interface_fault}
 use Rattle.bisimulation.specs.Tables.{Node}
+use Rattle.certificates.specs.Obligations.{Yes}
 use Rattle.sym_facts.specs.Facts.{Fact}
+use Rattle.program_laws.specs.Programs.{Program}
+use Rattle.unit_counts.specs.Counts.{Units}
+use Rattle.synthesis_answers.specs.Bindings.{Binding}
 use Rattle.command_answers.specs.declared.answer.Operand.{Operand}
-use Rattle.command_answers.specs.declared.answer.Operand.TheVariants.{First, Second, Third}
 use Rattle.command_answers.specs.declared.answer.Answer.{Answer}
 use Rattle.command_answers.specs.declared.answer.Answer.TheVariants.{Usage, Text}
-use Rattle.command_answers.specs.Lines.{HasLines}
-use Rattle.command_answers.specs.Texts.{SpellsParts, SpellsMachine, HasCanonicalText}
-use Rattle.command_answers.specs.Paths.{HasPaths}
-use Rattle.command_answers.specs.Readings.{Content, Unopened, OfBytes, Reading, NoneOpened, OnlyFirst, OnlyTwo}
-use Rattle.command_answers.specs.Refusals.{ArePair, RefusesMachine, RefusesPair, RefusesCertificate, SpellsCertificate}
-use Rattle.command_answers.specs.InputFiles.{FollowsFromInputs}
-use Rattle.command_answers.specs.Programs.{RefusesProgram, HasCompiledText}
-use Rattle.command_answers.specs.Schedules.{ForSchedule}
-use Rattle.command_answers.specs.Bindings.{ForBind}
+use Rattle.command_answers.specs.Words.{operand}
+use Rattle.command_answers.specs.Texts.{SpellsParts, SpellsMachine}
+use Rattle.path_text.specs.Paths.{paths_text}
+use Rattle.fs_write.specs.Canonical.{canonical}
+use Rattle.command_answers.specs.Readings.{Content, OfBytes, Reading}
+use Rattle.command_answers.specs.Refusals.{RefusesMachine, RefusesPair, RefusesCertificate, SpellsCertificate}
+use Rattle.command_answers.specs.InputFiles.{RefusesInputs, SpellsInputs}
+use Rattle.command_answers.specs.Programs.{RefusesProgram, SpellsProgram, IsOfProgram}
+use Rattle.command_answers.specs.Schedules.{RefusesUnits, SpellUnits, IsOfSchedule}
+use Rattle.command_answers.specs.Bindings.{RefusesBinding, SpellsBinding, IsOfBinding}
 use Rattle.command_answers.specs.Pairs.{IsOfPair, IsOfLoops}
-use Rattle.command_answers.specs.Verdicts.{IsJudged}
+use Rattle.command_answers.specs.Verdicts.{IsJudged, verdict_on}
 use Rattle.command_answers.specs.Runs.{IsOfRun}
 use Rattle.command_answers.specs.Replays.{IsOfReplay}
+use Rattle.command_answers.specs.Shrinks.{IsOfShrink}
+use Rattle.command_answers.specs.Links.{AtLink, links_of, IsOfChain}
 
--- what follows where words name no file: P says the answer, and none was opened
-pub record FollowsUnread (P : Answer → Type 0) (r : Reading) (answer : Answer) : Type 0 where
-  pub says : P answer
-  pub unopened : NoneOpened r
+-- ---- files one after another
+-- Each definition says which answer follows from what was read of the files from a number on.
 
--- what follows for a question about one file: it is refused, by R, or the answer is a text that P says of its bytes
-pub data FollowsForText (R : Content → Answer → Type 0) (P : (text bytes : List ℕ) → Type 0) (r : Reading) (answer : Answer) : Type 0 where
-  TextRefused : R r.first answer → OnlyFirst r → FollowsForText R P r answer
-  Listed : HasLines (λ text. OfBytes r.first (P text)) Text answer → OnlyFirst r → FollowsForText R P r answer
+-- no file more is opened, and P says the answer
+abbrev pub Ends : (P : Answer → Type 0) → (file : ℕ) → Reading → Answer → Type 0
+Ends P file [] answer = P answer
+Ends P file (content ∷ rest) answer = ⊥
 
--- what follows for a question about a machine and a second file: the file of the machine is refused, and the second not opened; or it spells
--- parts, and P says the answer to these and to what was read of the second
-pub data FollowsForParts (P : Source → Content → Answer → Type 0) (r : Reading) (answer : Answer) : Type 0 where
-  PartsRefused : RefusesMachine First r.first answer → OnlyFirst r → FollowsForParts P r answer
-  PartsSpelled : (parts : Source) → OfBytes r.first (SpellsParts parts) → P parts r.second answer → OnlyTwo r → FollowsForParts P r answer
+-- the next file is opened: it is refused, by R, and no file more is opened; or it spells a value, by S, and P says what follows
+-- from the files behind it
+pub data OpensWith (T : Type 0) (R : Operand → Content → Answer → Type 0) (S : T → List ℕ → Type 0) (P : T → (file : ℕ) → Reading → Answer → Type 0)
+    (file : ℕ) (content : Content) (rest : Reading) (answer : Answer) : Type 0 where
+  Refused : R (operand file) content answer → rest ≡ [] → OpensWith T R S P file content rest answer
+  Spelled : (value : T) → OfBytes content (S value) → P value (file + 1) rest answer → OpensWith T R S P file content rest answer
 
--- what follows for a file of two machines' certificate: it is refused, or spells nodes that are judged
-pub data FollowsFromCertificate (a b : Fsmd) (file : Operand) (content : Content) (answer : Answer) : Type 0 where
-  CertificateRefused : RefusesCertificate a b file content answer → FollowsFromCertificate a b file content answer
-  Judged : (nodes : List (Node Fact)) → OfBytes content (SpellsCertificate a b nodes) → IsJudged a b nodes answer → FollowsFromCertificate a b file content answer
+abbrev pub Opens : (T : Type 0) → (R : Operand → Content → Answer → Type 0) → (S : T → List ℕ → Type 0) → (P : T → (file : ℕ) → Reading → Answer → Type 0)
+    → (file : ℕ) → Reading → Answer → Type 0
+Opens T R S P file [] answer = ⊥
+Opens T R S P file (content ∷ rest) answer = OpensWith T R S P file content rest answer
 
--- what follows for a run of at most so many steps: the file of the machine is refused, and that of its inputs not opened; or the machine runs
--- from its inputs
-pub data FollowsForRun (limit : ℕ) (r : Reading) (answer : Answer) : Type 0 where
-  MachineRefused : RefusesMachine First r.first answer → OnlyFirst r → FollowsForRun limit r answer
-  Ran : (m : Fsmd) → OfBytes r.first (SpellsMachine m) → FollowsFromInputs (IsOfRun limit m) m Second r.second answer → OnlyTwo r → FollowsForRun limit r answer
+-- the next file is that of a machine, of the parts of one, of inputs of a machine, of a certificate of two machines, of a
+-- program, of unit counts, or of a machine's binding
+abbrev pub OpensMachine : (P : Fsmd → (file : ℕ) → Reading → Answer → Type 0) → (file : ℕ) → Reading → Answer → Type 0
+OpensMachine P file r answer = Opens Fsmd RefusesMachine SpellsMachine P file r answer
 
--- what follows for a question about two machines: their files are refused, or they have the same inputs and outputs, and P says the answer to
--- them and to what was read of the third file
-pub data FollowsForPair (P : (a b : Fsmd) → Content → Answer → Type 0) (r : Reading) (answer : Answer) : Type 0 where
-  PairRefused : RefusesPair r answer → FollowsForPair P r answer
-  Answered : (a b : Fsmd) → ArePair r a b → interface_fault a b ≡ None → P a b r.third answer → FollowsForPair P r answer
+abbrev pub OpensParts : (P : Source → (file : ℕ) → Reading → Answer → Type 0) → (file : ℕ) → Reading → Answer → Type 0
+OpensParts P file r answer = Opens Source RefusesMachine SpellsParts P file r answer
 
--- what is said of the machines of a check, which names no third file
-pub record ForCheck (limit : ℕ) (keeps : Bool) (a b : Fsmd) (content : Content) (answer : Answer) : Type 0 where
-  pub says : IsOfPair limit keeps a b answer
-  pub unopened : content ≡ Unopened
+abbrev pub OpensInputs : Fsmd → (P : Inputs → (file : ℕ) → Reading → Answer → Type 0) → (file : ℕ) → Reading → Answer → Type 0
+OpensInputs m P file r answer = Opens Inputs (RefusesInputs m) (SpellsInputs m) P file r answer
 
--- what is said of the machines of a checked certificate, and of a replay
-abbrev pub ForVerify : (a b : Fsmd) → Content → Answer → Type 0
-ForVerify a b content answer = FollowsFromCertificate a b Third content answer
+abbrev pub OpensCertificate : (a b : Fsmd) → (P : List (Node Fact) → (file : ℕ) → Reading → Answer → Type 0) → (file : ℕ) → Reading → Answer → Type 0
+OpensCertificate a b P file r answer = Opens (List (Node Fact)) (RefusesCertificate a b) (SpellsCertificate a b) P file r answer
 
-abbrev pub ForReplay : (limit : ℕ) → (a b : Fsmd) → Content → Answer → Type 0
-ForReplay limit a b content answer = FollowsFromInputs (IsOfReplay limit a b) a Third content answer
+abbrev pub OpensProgram : (P : Program → (file : ℕ) → Reading → Answer → Type 0) → (file : ℕ) → Reading → Answer → Type 0
+OpensProgram P file r answer = Opens Program RefusesProgram SpellsProgram P file r answer
 
--- what follows for what is asked, or for words that ask nothing, from what was read
+abbrev pub OpensUnits : (P : Units → (file : ℕ) → Reading → Answer → Type 0) → (file : ℕ) → Reading → Answer → Type 0
+OpensUnits P file r answer = Opens Units RefusesUnits SpellUnits P file r answer
+
+abbrev pub OpensBinding : Fsmd → (P : Binding → (file : ℕ) → Reading → Answer → Type 0) → (file : ℕ) → Reading → Answer → Type 0
+OpensBinding m P file r answer = Opens Binding (RefusesBinding m) (SpellsBinding m) P file r answer
+
+-- two machines do not have the same inputs and outputs, which R says of the answer, and no file more is opened; or they have, and
+-- P says what follows
+pub data Pairs (a b : Fsmd) (R : Answer → Type 0) (P : (file : ℕ) → Reading → Answer → Type 0) (file : ℕ) (r : Reading) (answer : Answer) : Type 0 where
+  Other : R answer → r ≡ [] → Pairs a b R P file r answer
+  Alike : interface_fault a b ≡ None → P file r answer → Pairs a b R P file r answer
+
+-- the next two files are those of machines with the same inputs and outputs
+abbrev pub OpensPair : (P : (a b : Fsmd) → (file : ℕ) → Reading → Answer → Type 0) → (file : ℕ) → Reading → Answer → Type 0
+OpensPair P file r answer = OpensMachine (λ a. OpensMachine (λ b. Pairs a b (RefusesPair a b) (P a b))) file r answer
+
+-- ---- chains
+
+-- the verdict on a certificate of two machines is not yes, which is the answer, told as that of the link of this number, and no
+-- file more is opened; or it is yes, and P says what follows
+pub data Judges (asked : Option Asked) (link : ℕ) (a b : Fsmd) (nodes : List (Node Fact)) (P : (file : ℕ) → Reading → Answer → Type 0)
+    (file : ℕ) (r : Reading) (answer : Answer) : Type 0 where
+  Fails : verdict_on a b nodes ≢ Yes → AtLink asked link (IsJudged a b nodes) answer → r ≡ [] → Judges asked link a b nodes P file r answer
+  Holds : verdict_on a b nodes ≡ Yes → P file r answer → Judges asked link a b nodes P file r answer
+
+-- the next two files are those of the link of this number: the next machine, and a certificate of it and of the last one. A refusal
+-- is told as that of the link
+abbrev pub OpensLink : Option Asked → (link : ℕ) → (last : Fsmd) → (P : Fsmd → (file : ℕ) → Reading → Answer → Type 0) → (file : ℕ) → Reading → Answer → Type 0
+OpensLink asked link last P file r answer =
+    Opens Fsmd (λ f c. AtLink asked link (RefusesMachine f c)) SpellsMachine (λ next.
+    Pairs last next (AtLink asked link (RefusesPair last next)) (
+    Opens (List (Node Fact)) (λ f c. AtLink asked link (RefusesCertificate last next f c)) (SpellsCertificate last next) (λ nodes.
+    Judges asked link last next nodes (P next)))) file r answer
+
+-- so many links are left of a chain from the first machine to the last one, of which so many hold
+abbrev pub OpensLinks : Option Asked → (first last : Fsmd) → (held left : ℕ) → (file : ℕ) → Reading → Answer → Type 0
+OpensLinks asked first last held zero file r answer = Ends (IsOfChain first last held) file r answer
+OpensLinks asked first last held (suc left) file r answer =
+    OpensLink asked (held + 1) last (λ next. OpensLinks asked first next (held + 1) left) file r answer
+
+-- ---- commands
+
+-- which answer follows for what is asked, or for words that ask nothing, from what was read of the files from a number on
+abbrev pub FollowsFrom : Option Asked → (file : ℕ) → Reading → Answer → Type 0
+FollowsFrom None = Ends (λ answer. answer ≡ Usage)
+FollowsFrom (Some (Check left right cert steps)) = OpensPair (λ a b. Ends (IsOfPair steps (is_some cert) a b))
+FollowsFrom (Some (Verify left right cert)) = OpensPair (λ a b. OpensCertificate a b (λ nodes. Ends (IsJudged a b nodes)))
+FollowsFrom (Some (Run machine inputs steps)) = OpensMachine (λ m. OpensInputs m (λ ins. Ends (IsOfRun steps m ins)))
+FollowsFrom (Some (Replay left right inputs steps)) = OpensPair (λ a b. OpensInputs a (λ ins. Ends (IsOfReplay steps a b ins)))
+FollowsFrom (Some (Fmt machine)) = OpensParts (λ parts. Ends (λ answer. answer ≡ Text (canonical parts)))
+FollowsFrom (Some (Cuts machine)) = OpensMachine (λ m. Ends (λ answer. answer ≡ Text (paths_text m)))
+FollowsFrom (Some (Generate loops)) = Ends (IsOfLoops loops)
+FollowsFrom (Some (Compile program)) = OpensProgram (λ p. Ends (IsOfProgram p))
+FollowsFrom (Some (Schedule machine units)) = OpensParts (λ parts. OpensUnits (λ counts. Ends (IsOfSchedule parts counts)))
+FollowsFrom (Some (Bind machine binding)) = OpensParts (λ parts. OpensBinding (machine_of parts) (λ b. Ends (IsOfBinding parts b)))
+FollowsFrom (Some (Shrink left right inputs steps)) = OpensPair (λ a b. OpensInputs a (λ ins. Ends (IsOfShrink steps a b ins)))
+FollowsFrom (Some (Chain files)) = OpensMachine (λ m. OpensLinks (Some (Chain files)) m m 0 (links_of files))
+
+-- the same from what was read of all files
 abbrev pub Follows : Option Asked → Reading → Answer → Type 0
-Follows None r answer = FollowsUnread (λ x. x ≡ Usage) r answer
-Follows (Some (Check left right cert steps)) r answer = FollowsForPair (ForCheck steps (is_some cert)) r answer
-Follows (Some (Verify left right cert)) r answer = FollowsForPair ForVerify r answer
-Follows (Some (Run machine inputs steps)) r answer = FollowsForRun steps r answer
-Follows (Some (Replay left right inputs steps)) r answer = FollowsForPair (ForReplay steps) r answer
-Follows (Some (Fmt machine)) r answer = FollowsForText (RefusesMachine First) HasCanonicalText r answer
-Follows (Some (Cuts machine)) r answer = FollowsForText (RefusesMachine First) HasPaths r answer
-Follows (Some (Generate loops)) r answer = FollowsUnread (IsOfLoops loops) r answer
-Follows (Some (Compile program)) r answer = FollowsForText (RefusesProgram First) HasCompiledText r answer
-Follows (Some (Schedule machine units)) r answer = FollowsForParts ForSchedule r answer
-Follows (Some (Bind machine binding)) r answer = FollowsForParts ForBind r answer
+Follows asked r answer = FollowsFrom asked 0 r answer

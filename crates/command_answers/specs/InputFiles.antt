@@ -12,7 +12,7 @@ use Rattle.command_answers.specs.declared.answer.KeyFault.{KeyFault}
 use Rattle.command_answers.specs.declared.answer.KeyFault.TheVariants as keys
 use Rattle.command_answers.specs.declared.answer.Answer.{Answer}
 use Rattle.command_answers.specs.Readings.{Content}
-use Rattle.command_answers.specs.Keys.{RefusesKeys, FollowsFromKeys}
+use Rattle.command_answers.specs.Keys.{RefusesKeys}
 
 -- the names and sorts of a machine's inputs
 abbrev pub signatures : Fsmd → List Signature
@@ -39,7 +39,3 @@ pub record SpellsInputs (m : Fsmd) (ins : Inputs) (bytes : List ℕ) : Type 0 wh
 -- why a file of a machine's inputs is refused
 abbrev pub RefusesInputs : Fsmd → Operand → Content → Answer → Type 0
 RefusesInputs m file content answer = RefusesKeys (HasInputFault m) file content answer
-
--- what follows for a file of a machine's inputs: it is refused, or spells inputs of which P says the answer
-abbrev pub FollowsFromInputs : (Inputs → Answer → Type 0) → Fsmd → Operand → Content → Answer → Type 0
-FollowsFromInputs P m file content answer = FollowsFromKeys Inputs (HasInputFault m) (SpellsInputs m) P file content answer

@@ -19,8 +19,3 @@ pub data RefusesKeys (F : KeyFault → (key bytes : List ℕ) → Type 0) (file 
   UnreadKeys : IsUnread most_text_bytes file content answer → RefusesKeys F file content answer
   ByJson : OfBytes content AreNotJson → answer ≡ NotJson file → RefusesKeys F file content answer
   ByKey : (fault : KeyFault) (key : List ℕ) → OfBytes content (F fault key) → answer ≡ KeyRefused file fault key → RefusesKeys F file content answer
-
--- what follows for such a file: it is refused, or spells a value, by S, of which P says the answer
-pub data FollowsFromKeys (T : Type 0) (F : KeyFault → (key bytes : List ℕ) → Type 0) (S : T → List ℕ → Type 0) (P : T → Answer → Type 0) (file : Operand) (content : Content) (answer : Answer) : Type 0 where
-  KeysRefused : RefusesKeys F file content answer → FollowsFromKeys T F S P file content answer
-  KeysSpelled : (value : T) → OfBytes content (S value) → P value answer → FollowsFromKeys T F S P file content answer

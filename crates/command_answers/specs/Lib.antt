@@ -2,7 +2,6 @@ pub mod Statuses
 pub mod Words
 pub mod Lines
 pub mod Texts
-pub mod Paths
 pub mod Readings
 pub mod Unread
 pub mod Keys
@@ -13,8 +12,10 @@ pub mod Pairs
 pub mod Verdicts
 pub mod Runs
 pub mod Replays
+pub mod Shrinks
 pub mod Programs
 pub mod Bindings
 pub mod Schedules
-pub mod Follows
 pub mod Replies
+pub mod Links
+pub mod Follows

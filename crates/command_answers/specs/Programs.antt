@@ -3,27 +3,33 @@ use Rattle.std.specs.Prelude.{◌≡◌, ℕ, ◌≤◌, List, length}
 use Rattle.fs_model.specs.Limits.{most_text_bytes}
 use Rattle.fs_grammar.specs.declared.fault.TextFault.{TextFault}
 use Rattle.fs_rules.specs.declared.check.CheckFault.{CheckFault}
-use Rattle.fs_rules.specs.Rules.{IsFirstBroken}
+use Rattle.fs_rules.specs.Rules.{IsFirstBroken, IsLawful}
 use Rattle.program_laws.specs.Programs.{Program}
 use Rattle.program_laws.specs.Compiled.{parts_of}
 use Rattle.program_grammar.specs.Texts.{TextSpells as ProgramSpells, TextStops as ProgramStops}
 use Rattle.synthesis_answers.specs.Programs.{IsCompiledText}
 use Rattle.command_answers.specs.declared.answer.Operand.{Operand}
 use Rattle.command_answers.specs.declared.answer.Answer.{Answer}
-use Rattle.command_answers.specs.declared.answer.Answer.TheVariants.{TextRefused, CheckRefused}
+use Rattle.command_answers.specs.declared.answer.Answer.TheVariants.{Text, TextRefused, CheckRefused}
+use Rattle.command_answers.specs.Lines.{HasLines}
 use Rattle.command_answers.specs.Readings.{Content, OfBytes}
 use Rattle.command_answers.specs.Unread.{IsUnread}
 
--- the bytes spell this program
+-- the bytes spell this program, whose parts break no rule
 pub record SpellsProgram (program : Program) (bytes : List ℕ) : Type 0 where
   pub few : length bytes ≤ most_text_bytes
   pub spells : ProgramSpells bytes program
+  pub lawful : IsLawful (parts_of program)
 
--- the bytes spell a program, and this is the text of what it is compiled to
-pub record HasCompiledText (text bytes : List ℕ) : Type 0 where
+-- the answer to a program: the text of what it is compiled to
+abbrev pub IsOfProgram : Program → Answer → Type 0
+IsOfProgram program answer = HasLines (IsCompiledText program) Text answer
+
+-- the bytes spell a program, which gets this answer
+pub record IsOfProgramIn (bytes : List ℕ) (answer : Answer) : Type 0 where
   pub program : Program
   pub spells : SpellsProgram program bytes
-  pub compiled : IsCompiledText program text
+  pub is : IsOfProgram program answer
 
 -- the bytes spell no program: they are faulty here
 pub record HasProgramFault (fault : TextFault) (bytes : List ℕ) : Type 0 where

@@ -13,12 +13,11 @@ use Rattle.cert_text.specs.declared.faults.CertError.{CertError}
 use Rattle.cert_text.specs.declared.faults.CertError.TheVariants as cert_errors
 use Rattle.cert_text.specs.Refusals.{SpellsNodes, IsRefused as IsRefusedFor}
 use Rattle.command_answers.specs.declared.answer.Operand.{Operand}
-use Rattle.command_answers.specs.declared.answer.Operand.TheVariants.{First, Second}
 use Rattle.command_answers.specs.declared.answer.Answer.{Answer}
 use Rattle.command_answers.specs.declared.answer.Answer.TheVariants.{TextRefused, CheckRefused, CertRefused, Interfaces}
 use Rattle.command_answers.specs.Lines.{HasLines}
-use Rattle.command_answers.specs.Texts.{SpellsMachine, IsMachine, HasTextFault, HasCheckFault}
-use Rattle.command_answers.specs.Readings.{Content, OfBytes, Reading, OnlyFirst, OnlyTwo}
+use Rattle.command_answers.specs.Texts.{HasTextFault, HasCheckFault}
+use Rattle.command_answers.specs.Readings.{Content, OfBytes}
 use Rattle.command_answers.specs.Unread.{IsUnread}
 
 -- ---- machines
@@ -29,17 +28,9 @@ pub data RefusesMachine (file : Operand) (content : Content) (answer : Answer) :
   ByText : (fault : TextFault) → OfBytes content (HasTextFault fault) → answer ≡ TextRefused file fault → RefusesMachine file content answer
   ByRule : (fault : CheckFault) → OfBytes content (HasCheckFault fault) → answer ≡ CheckRefused file fault → RefusesMachine file content answer
 
--- the first two files spell these machines
-pub record ArePair (r : Reading) (a b : Fsmd) : Type 0 where
-  pub left : OfBytes r.first (SpellsMachine a)
-  pub right : OfBytes r.second (SpellsMachine b)
-
--- why two files of machines are refused: the first, then the second, and then the first name of which they have other inputs or outputs; no file
--- behind what is refused was opened
-pub data RefusesPair (r : Reading) (answer : Answer) : Type 0 where
-  FirstRefused : RefusesMachine First r.first answer → OnlyFirst r → RefusesPair r answer
-  SecondRefused : OfBytes r.first IsMachine → RefusesMachine Second r.second answer → OnlyTwo r → RefusesPair r answer
-  InterfacesDiffer : (a b : Fsmd) → ArePair r a b → HasLines (λ name. interface_fault a b ≡ Some name) Interfaces answer → OnlyTwo r → RefusesPair r answer
+-- why two machines are refused as a pair: the first name of which they have other inputs or outputs
+abbrev pub RefusesPair : (a b : Fsmd) → Answer → Type 0
+RefusesPair a b answer = HasLines (λ name. interface_fault a b ≡ Some name) Interfaces answer
 
 -- ---- certificates
 

@@ -11,7 +11,7 @@ use Rattle.cert_text.specs.declared.faults.CertError.TheVariants as cert_errors
 use Rattle.command_answers.specs.declared.answer.KeyFault.{KeyFault}
 use Rattle.command_answers.specs.declared.answer.KeyFault.TheVariants as keys
 use Rattle.command_answers.specs.declared.answer.Answer.{Answer}
-use Rattle.command_answers.specs.declared.answer.Answer.TheVariants.{Usage, Equivalent, Text, Differs, Undecided, TextRefused, CheckRefused, NotJson, KeyRefused, Over, CertRefused, Interfaces, TooLong, CannotRead}
+use Rattle.command_answers.specs.declared.answer.Answer.TheVariants.{Usage, Equivalent, Text, Differs, Undecided, Link, TextRefused, CheckRefused, NotJson, KeyRefused, Over, CertRefused, Interfaces, TooLong, CannotRead}
 use Rattle.command_answers.specs.Words.{word_of}
 
 -- the name of what is wrong in a text
@@ -96,11 +96,12 @@ refused_text word rest = codes "bad input: " ++ (word ++ rest)
 -- the lines of each answer to what is asked
 abbrev pub lines_of : Answer → Option Asked → List ℕ
 lines_of Usage asked =
-    codes "usage: fsmd check A B [--cert F] [--steps N] | verify A B C | run A I [--steps N] | replay A B I [--steps N] | fmt A | cuts A | generate N | compile P | schedule A U | bind A M\n"
+    codes "usage: fsmd check A B [--cert F] [--steps N] | verify A B C | run A I [--steps N] | replay A B I [--steps N] | fmt A | cuts A | generate N | compile P | schedule A U | bind A M | shrink A B I [--steps N] | chain A C B [C B ..]\n"
 lines_of (Equivalent nodes cert) asked = equivalent_text nodes
 lines_of (Text lines) asked = lines
 lines_of (Differs lines) asked = lines
 lines_of (Undecided lines) asked = lines
+lines_of (Link status lines) asked = lines
 lines_of (TextRefused file fault) asked =
     refused_text (word_of asked file) (codes ":" ++ (decimal fault.line ++ (codes ":" ++ (decimal fault.column ++ (codes ": " ++ (kind_name fault.kind ++ codes "\n"))))))
 lines_of (CheckRefused file fault) asked =

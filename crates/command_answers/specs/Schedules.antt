@@ -12,14 +12,14 @@ use Rattle.unit_counts.specs.Refusals.{Spells, IsFaulty}
 use Rattle.unit_limits.specs.Over.{over_in}
 use Rattle.synthesis_answers.specs.Schedules.{IsScheduleText}
 use Rattle.command_answers.specs.declared.answer.Operand.{Operand}
-use Rattle.command_answers.specs.declared.answer.Operand.TheVariants.{Second}
+use Rattle.command_answers.specs.Words.{operand}
 use Rattle.command_answers.specs.declared.answer.KeyFault.{KeyFault}
 use Rattle.command_answers.specs.declared.answer.KeyFault.TheVariants as keys
 use Rattle.command_answers.specs.declared.answer.Answer.{Answer}
 use Rattle.command_answers.specs.declared.answer.Answer.TheVariants.{Text, Over}
 use Rattle.command_answers.specs.Lines.{HasLines}
 use Rattle.command_answers.specs.Readings.{Content}
-use Rattle.command_answers.specs.Keys.{RefusesKeys, FollowsFromKeys}
+use Rattle.command_answers.specs.Keys.{RefusesKeys}
 
 -- what is wrong at the key of a kind of unit
 abbrev pub unit_fault : Fault → KeyFault
@@ -44,9 +44,5 @@ RefusesUnits file content answer = RefusesKeys HaveUnitFault file content answer
 
 -- the answer to the machine of these parts under these units: its schedule, or the first state of which a transition uses more of a unit
 pub data IsOfSchedule (p : Source) (units : Units) (answer : Answer) : Type 0 where
-  IsOver : (q : ℕ) (k : Kind) → over_in units (machine_of p) ≡ Some (q, k) → answer ≡ Over Second (name_of (machine_of p) q) k → IsOfSchedule p units answer
+  IsOver : (q : ℕ) (k : Kind) → over_in units (machine_of p) ≡ Some (q, k) → answer ≡ Over (operand 1) (name_of (machine_of p) q) k → IsOfSchedule p units answer
   InRows : HasLines (IsScheduleText units p) Text answer → IsOfSchedule p units answer
-
--- what is said of the parts of a machine and of a file of unit counts
-abbrev pub ForSchedule : Source → Content → Answer → Type 0
-ForSchedule p content answer = FollowsFromKeys Units HaveUnitFault SpellUnits (IsOfSchedule p) Second content answer

@@ -22,6 +22,7 @@ status_of (answers.Equivalent nodes cert) = Fine
 status_of (answers.Text lines) = Fine
 status_of (answers.Differs lines) = Differ
 status_of (answers.Undecided lines) = Undecided
+status_of (answers.Link status lines) = status
 status_of (answers.TextRefused file fault) = BadInput
 status_of (answers.CheckRefused file fault) = BadInput
 status_of (answers.NotJson file) = BadInput

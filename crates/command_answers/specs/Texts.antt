@@ -5,7 +5,6 @@ use Rattle.fs_model.specs.Machines.{Fsmd}
 use Rattle.fs_model.specs.Limits.{most_text_bytes}
 use Rattle.fs_grammar.specs.declared.fault.TextFault.{TextFault}
 use Rattle.fs_text_laws.specs.Texts.{TextSpells, TextStops}
-use Rattle.fs_write.specs.Canonical.{canonical}
 use Rattle.fs_rules.specs.declared.check.CheckFault.{CheckFault}
 use Rattle.fs_ast.specs.Spelled.{machine_of}
 use Rattle.fs_ast.specs.Rules.{IsLawful, IsFirstBroken}
@@ -25,16 +24,6 @@ pub record SpellsMachine (m : Fsmd) (bytes : List ℕ) : Type 0 where
   pub parts : Source
   pub spells : SpellsParts parts bytes
   pub machine : m ≡ machine_of parts
-
--- the bytes spell some machine
-abbrev pub IsMachine : List ℕ → Type 0
-IsMachine bytes = (m : Fsmd) × SpellsMachine m bytes
-
--- the bytes spell a machine, of whose parts this is the canonical text
-pub record HasCanonicalText (text : List ℕ) (bytes : List ℕ) : Type 0 where
-  pub parts : Source
-  pub spells : SpellsParts parts bytes
-  pub is_canonical : text ≡ canonical parts
 
 -- the bytes spell no parts: they are faulty here
 pub record HasTextFault (fault : TextFault) (bytes : List ℕ) : Type 0 where

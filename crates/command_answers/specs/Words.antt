@@ -1,36 +1,42 @@
 -- The files of what words ask.
-use Rattle.std.specs.Prelude.{ℕ, Bool, true, false, Option, Some, None, List, [], is_some, unwrap_or}
-use Rattle.command_words.specs.Words.{Asked, Check, Verify, Run, Replay, Fmt, Cuts, Generate, Compile, Schedule, Bind}
+use Rattle.std.specs.Prelude.{ℕ, Bool, true, false, Option, Some, None, List, [], ◌∷◌, get_or}
+use Rattle.command_words.specs.Words.{Asked, Check, Verify, Run, Replay, Fmt, Cuts, Generate, Compile, Schedule, Bind, Shrink, Chain}
 use Rattle.command_answers.specs.declared.answer.Operand.{Operand}
-use Rattle.command_answers.specs.declared.answer.Operand.TheVariants.{First, Second, Third}
 
--- the first, the second or the third
-abbrev pub chosen : {A : Type 0} → (first second third : A) → Operand → A
-chosen first second third First = first
-chosen first second third Second = second
-chosen first second third Third = third
+-- the file of a number, in the order of work, from 0
+abbrev pub operand : ℕ → Operand
+operand n = record { 0 = n }
 
--- the word that names a file to be read, if there is such a file
-abbrev pub file_of : Option Asked → Operand → Option (List ℕ)
-file_of None = chosen None None None
-file_of (Some (Check left right cert steps)) = chosen (Some left) (Some right) None
-file_of (Some (Verify left right cert)) = chosen (Some left) (Some right) (Some cert)
-file_of (Some (Run machine inputs steps)) = chosen (Some machine) (Some inputs) None
-file_of (Some (Replay left right inputs steps)) = chosen (Some left) (Some right) (Some inputs)
-file_of (Some (Fmt machine)) = chosen (Some machine) None None
-file_of (Some (Cuts machine)) = chosen (Some machine) None None
-file_of (Some (Generate loops)) = chosen None None None
-file_of (Some (Compile program)) = chosen (Some program) None None
-file_of (Some (Schedule machine units)) = chosen (Some machine) (Some units) None
-file_of (Some (Bind machine binding)) = chosen (Some machine) (Some binding) None
+-- the words for the files of a chain behind its first machine, in the order of work: of each link the next machine, and then the
+-- certificate, whose word stands before
+abbrev pub in_links : List (List ℕ) → List (List ℕ)
+in_links (certificate ∷ machine ∷ words) = machine ∷ certificate ∷ in_links words
+in_links words = words
 
--- the word that names a file, or no text
+-- the words for the files of a chain, in the order of work; where there are none, no text stands for that of the first machine
+abbrev pub in_chain : List (List ℕ) → List (List ℕ)
+in_chain [] = [] ∷ []
+in_chain (machine ∷ words) = machine ∷ in_links words
+
+-- the words that name files to be read, in the order of work
+abbrev pub files_of : Option Asked → List (List ℕ)
+files_of None = []
+files_of (Some (Check left right cert steps)) = left ∷ right ∷ []
+files_of (Some (Verify left right cert)) = left ∷ right ∷ cert ∷ []
+files_of (Some (Run machine inputs steps)) = machine ∷ inputs ∷ []
+files_of (Some (Replay left right inputs steps)) = left ∷ right ∷ inputs ∷ []
+files_of (Some (Fmt machine)) = machine ∷ []
+files_of (Some (Cuts machine)) = machine ∷ []
+files_of (Some (Generate loops)) = []
+files_of (Some (Compile program)) = program ∷ []
+files_of (Some (Schedule machine units)) = machine ∷ units ∷ []
+files_of (Some (Bind machine binding)) = machine ∷ binding ∷ []
+files_of (Some (Shrink left right inputs steps)) = left ∷ right ∷ inputs ∷ []
+files_of (Some (Chain files)) = in_chain files
+
+-- the word that names a file, or no text where there is no such file
 abbrev pub word_of : Option Asked → Operand → List ℕ
-word_of o file = unwrap_or (file_of o file) []
-
--- whether a file is named that is to be read
-abbrev pub names : Option Asked → Operand → Bool
-names o file = is_some (file_of o file)
+word_of o file = get_or (files_of o) file.0 []
 
 -- the word that names the file for a certificate
 abbrev pub cert_of : Option Asked → Option (List ℕ)
@@ -61,3 +67,8 @@ generated_steps = 10000
 abbrev pub step_limit : Option Asked → ℕ
 step_limit (Some (Check left right cert steps)) = steps
 step_limit _ = generated_steps
+
+-- the most steps of a run from inputs that are to be made small
+abbrev pub shrink_limit : Option Asked → ℕ
+shrink_limit (Some (Shrink left right inputs steps)) = steps
+shrink_limit _ = generated_steps

@@ -1,6 +1,6 @@
 -- What the words of a call ask.
 use Rattle.std.specs.Prelude.{Bool, true, false, List, Option, Some, String, string_bytes, map, IsTrue}
-use Rattle.command_words.specs.Words.{Asked, asked_of, Compile, Schedule, Bind}
+use Rattle.command_words.specs.Words.{Asked, asked_of, Compile, Schedule, Bind, Shrink, Chain}
 use Rattle.command_answers.specs.Words.{compares, is_verify}
 
 -- what these words ask
@@ -30,6 +30,16 @@ abbrev pub is_bind : Option Asked → Bool
 is_bind (Some (Bind machine binding)) = true
 is_bind _ = false
 
+-- inputs are to be made small
+abbrev pub is_shrink : Option Asked → Bool
+is_shrink (Some (Shrink left right inputs steps)) = true
+is_shrink _ = false
+
+-- a chain is to be checked
+abbrev pub is_chain : Option Asked → Bool
+is_chain (Some (Chain files)) = true
+is_chain _ = false
+
 -- the words ask to compile a program
 abbrev pub AskToCompile : {A : Type 0} → List (String A) → Type 0
 AskToCompile words = IsTrue (is_compile (asked_in words))
@@ -41,3 +51,11 @@ AskToSchedule words = IsTrue (is_schedule (asked_in words))
 -- the words ask to bind a machine
 abbrev pub AskToBind : {A : Type 0} → List (String A) → Type 0
 AskToBind words = IsTrue (is_bind (asked_in words))
+
+-- the words ask to make inputs small
+abbrev pub AskToShrink : {A : Type 0} → List (String A) → Type 0
+AskToShrink words = IsTrue (is_shrink (asked_in words))
+
+-- the words ask to check a chain
+abbrev pub AskToChain : {A : Type 0} → List (String A) → Type 0
+AskToChain words = IsTrue (is_chain (asked_in words))

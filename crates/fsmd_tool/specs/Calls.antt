@@ -1,13 +1,12 @@
 -- What is known of the files of a call, and what may have been read of them.
-use Rattle.std.specs.Prelude.{ℕ, List, Option, Result, Ok, Err}
+use Rattle.std.specs.Prelude.{ℕ, ◌+◌, List, [], ◌∷◌, Option, Result, Ok, Err}
 use Rattle.command_words.specs.Words.{Asked}
 use Rattle.fs_base.specs.Outside.{Held, FilesTold, Rose, NoneFell, SameHeld, AreHeld}
 use Rattle.command_answers.specs.declared.answer.Operand.{Operand}
-use Rattle.command_answers.specs.declared.answer.Operand.TheVariants.{First, Second, Third}
 use Rattle.command_answers.specs.declared.answer.Answer.{Answer}
 use Rattle.command_answers.specs.declared.refused.Refused.{Refused as Refusal}
-use Rattle.command_answers.specs.Words.{word_of}
-use Rattle.command_answers.specs.Readings.{Content, Unopened, Readable, Unreadable, Reading}
+use Rattle.command_answers.specs.Words.{operand, word_of}
+use Rattle.command_answers.specs.Readings.{Content, Readable, Unreadable, Reading}
 use Rattle.command_answers.specs.Refusing.{WhereAnswered}
 
 -- what the words of a call ask, and what is told of the files before it and at its end
@@ -36,7 +35,6 @@ FailedToRead g file = Rose (g.before.faults (word_of g.asked file)) (g.now.fault
 
 -- what may be read of a file, of which this is known; Failed says that it failed to be read
 abbrev pub MayBeRead : Held → (Failed : Type 0) → Content → Type 0
-MayBeRead known Failed Unopened = Unit {0}
 MayBeRead known Failed (Readable bytes) = AreHeld known bytes
 MayBeRead known Failed Unreadable = Failed
 
@@ -46,17 +44,16 @@ pub record MayHold (known : Held) (P : List ℕ → Type 0) : Type 0 where
   pub may : AreHeld known bytes
   pub meet : P bytes
 
--- each file may be read so, by what is known of it alone
-pub record MayRead (g : Call) (r : Reading) : Type 0 where
-  pub first : MayBeRead (held g First) (FailedToRead g First) r.first
-  pub second : MayBeRead (held g Second) (FailedToRead g Second) r.second
-  pub third : MayBeRead (held g Third) (FailedToRead g Third) r.third
+-- each file from a number on that was opened may be read so, by what is known of it alone
+abbrev pub MayRead : Call → (file : ℕ) → Reading → Type 0
+MayRead g file [] = Unit {0}
+MayRead g file (content ∷ rest) = MayBeRead (held g (operand file)) (FailedToRead g (operand file)) content × MayRead g (file + 1) rest
 
--- the answer follows, by P, from what may have been read of the files
-pub record IsCorrectBy (P : Reading → Answer → Type 0) (g : Call) (answer : Answer) : Type 0 where
+-- the answer follows, by P, from what may have been read of the files from a number on
+pub record IsCorrectFrom (P : (file : ℕ) → Reading → Answer → Type 0) (file : ℕ) (g : Call) (answer : Answer) : Type 0 where
   pub reading : Reading
-  pub may_be_read : MayRead g reading
-  pub follows : P reading answer
+  pub may_be_read : MayRead g file reading
+  pub follows : P file reading answer
 
 -- an answer that is given, or that is in a refusal, meets P; where there is no memory, nothing is said
 abbrev pub AnswersBy : (Answer → Type 0) → Result Answer Refusal → Type 0

@@ -1,12 +1,15 @@
 -- What the status of a call tells of its files and of what was put.
-use Rattle.std.specs.Prelude.{◌≡◌, ℕ, IsTrue, List, ◌++◌, length, Some, None, codes}
-use Rattle.command_words.specs.Words.{Generate}
+use Rattle.std.specs.Prelude.{◌≡◌, ◌<◌, ℕ, zero, suc, ◌+◌, IsTrue, List, ◌++◌, length, Some, None, codes, decimal}
+use Rattle.command_words.specs.Words.{Generate, Chain}
 use Rattle.fs_base.specs.Outside.{Rose, appended}
 use Rattle.fs_model.specs.Machines.{Fsmd}
-use Rattle.fs_model.specs.Runs.{SameBehaviour}
+use Rattle.fs_model.specs.Runs.{Inputs, Content, SameBehaviour}
 use Rattle.fs_model.specs.Source.{Source}
 use Rattle.fs_rules.specs.Spelled.{machine_of}
 use Rattle.fs_pair.specs.Interfaces.{interface_fault}
+use Rattle.fs_trials.specs.Differences.{ShowsDifference}
+use Rattle.hls_shrink.specs.Shrunk.{Shows, EndsIn}
+use Rattle.hls_shrink.specs.Given.{given_contents}
 use Rattle.bisimulation.specs.Tables.{Node}
 use Rattle.sym_facts.specs.Facts.{Fact}
 use Rattle.certificates.specs.Obligations.{Yes}
@@ -14,9 +17,7 @@ use Rattle.cert_writer.specs.Written.{certificate_text}
 use Rattle.search.specs.Answers.{machines}
 use Rattle.search_laws.specs.Certificates.{IsCertificate}
 use Rattle.pair_answers.specs.Answers.{ShowsSame, IsCounterexample, IsUndecided}
-use Rattle.command_answers.specs.declared.answer.Operand.{Operand}
-use Rattle.command_answers.specs.declared.answer.Operand.TheVariants.{First, Second, Third}
-use Rattle.command_answers.specs.Words.{names, cert_of, is_check, step_limit}
+use Rattle.command_answers.specs.Words.{operand, files_of, cert_of, is_check, step_limit, shrink_limit}
 use Rattle.program_laws.specs.Programs.{Program}
 use Rattle.unit_counts.specs.Counts.{Units}
 use Rattle.synthesis_answers.specs.Programs.{IsCompiledText}
@@ -28,6 +29,9 @@ use Rattle.command_answers.specs.Schedules.{SpellUnits}
 use Rattle.command_answers.specs.Bindings.{SpellsBinding}
 use Rattle.command_answers.specs.Refusals.{SpellsCertificate}
 use Rattle.command_answers.specs.Pairs.{left_of, right_of}
+use Rattle.command_answers.specs.InputFiles.{SpellsInputs}
+use Rattle.command_answers.specs.Shrinks.{IsSmallText}
+use Rattle.command_answers.specs.Links.{links_of}
 use Rattle.command_answers.specs.Verdicts.{verdict_on}
 use Rattle.command_answers.specs.Replies.{opening, equivalent_text}
 use Rattle.fsmd_tool.specs.Calls.{Call, held, FailedToRead, MayHold}
@@ -37,7 +41,7 @@ use Rattle.fsmd_tool.specs.Stores.{stores, IsKept, IsStored, IsUnstored}
 -- two machines are compared: those that the first two files of a check spell, each where it is known what it holds, or those of
 -- so many loops
 pub data AreCompared (g : Call) (a b : Fsmd) : Type 0 where
-  OfFiles : IsTrue (is_check g.asked) → MayHold (held g First) (SpellsMachine a) → MayHold (held g Second) (SpellsMachine b) → AreCompared g a b
+  OfFiles : IsTrue (is_check g.asked) → MayHold (held g (operand 0)) (SpellsMachine a) → MayHold (held g (operand 1)) (SpellsMachine b) → AreCompared g a b
   OfLoops : (loops : ℕ) → g.asked ≡ Some (Generate loops) → a ≡ left_of loops → b ≡ right_of loops → AreCompared g a b
 
 -- machines with the same inputs and outputs are compared
@@ -87,9 +91,9 @@ pub record IsChecked (g : Call) (p : Put) : Type 0 where
   pub left : Fsmd
   pub right : Fsmd
   pub nodes : List (Node Fact)
-  pub first : MayHold (held g First) (SpellsMachine left)
-  pub second : MayHold (held g Second) (SpellsMachine right)
-  pub third : MayHold (held g Third) (SpellsCertificate left right nodes)
+  pub first : MayHold (held g (operand 0)) (SpellsMachine left)
+  pub second : MayHold (held g (operand 1)) (SpellsMachine right)
+  pub third : MayHold (held g (operand 2)) (SpellsCertificate left right nodes)
   pub alike : interface_fault left right ≡ None
   pub hold : verdict_on left right nodes ≡ Yes
   pub same : SameBehaviour left right
@@ -99,7 +103,7 @@ pub record IsChecked (g : Call) (p : Put) : Type 0 where
 pub record IsCompiled (g : Call) (p : Put) : Type 0 where
   pub program : Program
   pub text : List ℕ
-  pub first : MayHold (held g First) (SpellsProgram program)
+  pub first : MayHold (held g (operand 0)) (SpellsProgram program)
   pub is : IsCompiledText program text
   pub put : HasPut g p text
 
@@ -109,8 +113,8 @@ pub record IsInRows (g : Call) (p : Put) : Type 0 where
   pub parts : Source
   pub units : Units
   pub text : List ℕ
-  pub first : MayHold (held g First) (SpellsParts parts)
-  pub second : MayHold (held g Second) (SpellUnits units)
+  pub first : MayHold (held g (operand 0)) (SpellsParts parts)
+  pub second : MayHold (held g (operand 1)) (SpellUnits units)
   pub is : IsScheduleText units parts text
   pub put : HasPut g p text
 
@@ -120,10 +124,55 @@ pub record IsInRegisters (g : Call) (p : Put) : Type 0 where
   pub parts : Source
   pub binding : Binding
   pub text : List ℕ
-  pub first : MayHold (held g First) (SpellsParts parts)
-  pub second : MayHold (held g Second) (SpellsBinding (machine_of parts) binding)
+  pub first : MayHold (held g (operand 0)) (SpellsParts parts)
+  pub second : MayHold (held g (operand 1)) (SpellsBinding (machine_of parts) binding)
   pub is : IsBoundText parts binding text
   pub put : HasPut g p text
+
+-- the first two files spell machines with the same inputs and outputs and the third inputs of theirs that show a difference, each
+-- where it is known what it holds; the lines that were put tell of the end of the chain of first reductions of these
+pub record IsShrunk (g : Call) (p : Put) : Type 0 where
+  pub left : Fsmd
+  pub right : Fsmd
+  pub inputs : Inputs
+  pub end : List Content
+  pub lines : List ℕ
+  pub first : MayHold (held g (operand 0)) (SpellsMachine left)
+  pub second : MayHold (held g (operand 1)) (SpellsMachine right)
+  pub third : MayHold (held g (operand 2)) (SpellsInputs left inputs)
+  pub alike : interface_fault left right ≡ None
+  pub shows : ShowsDifference left right inputs (shrink_limit g.asked)
+  pub ends : EndsIn (Shows left right (shrink_limit g.asked)) (given_contents left inputs) end
+  pub told : IsSmallText (shrink_limit g.asked) left right end lines
+  pub put : HasPut g p lines
+
+-- the files of the link that begins with this number spell the next machine, with the same inputs and outputs as the last one, and
+-- a lawful certificate of both, each where it is known what it holds; all its obligations hold, and so does Rest of the next machine
+pub record LinkHolds (g : Call) (file : ℕ) (last : Fsmd) (Rest : Fsmd → Type 0) : Type 0 where
+  pub next : Fsmd
+  pub nodes : List (Node Fact)
+  pub machine : MayHold (held g (operand file)) (SpellsMachine next)
+  pub alike : interface_fault last next ≡ None
+  pub certificate : MayHold (held g (operand (file + 1))) (SpellsCertificate last next nodes)
+  pub hold : verdict_on last next nodes ≡ Yes
+  pub rest : Rest next
+
+-- so many links from a file on hold, from the last machine so far to the last of the chain
+abbrev pub LinksHold : Call → (file links : ℕ) → (last end : Fsmd) → Type 0
+LinksHold g file zero last end = last ≡ end
+LinksHold g file (suc links) last end = LinkHolds g file last (λ next. LinksHold g (file + 2) links next end)
+
+-- the first file spells a machine, where it is known what it holds, and all links behind it hold; the first and the last machine
+-- have the same behaviour, and how many machines there are was put
+pub record IsChained (g : Call) (p : Put) : Type 0 where
+  pub words : List (List ℕ)
+  pub asked : g.asked ≡ Some (Chain words)
+  pub first : Fsmd
+  pub last : Fsmd
+  pub begins : MayHold (held g (operand 0)) (SpellsMachine first)
+  pub hold : LinksHold g 1 (links_of words) first last
+  pub same : SameBehaviour first last
+  pub put : HasPut g p (codes "yes: " ++ (decimal (links_of words + 1) ++ codes " machines\n"))
 
 -- no file was changed but the one for a certificate, and that only where one shows that the machines that are compared have the
 -- same behaviour: it was stored, or that failed
@@ -136,6 +185,6 @@ pub data KeepsFiles (g : Call) : Type 0 where
 
 -- a file that is named to be read failed to be read, the certificate failed to be stored, or the sink failed
 pub data HasCause (g : Call) (p : Put) : Type 0 where
-  FileFailed : (file : Operand) → IsTrue (names g.asked file) → FailedToRead g file → HasCause g p
+  FileFailed : (file : ℕ) → file < length (files_of g.asked) → FailedToRead g (operand file) → HasCause g p
   CertificateUnstored : (name : List ℕ) → cert_of g.asked ≡ Some name → Rose (g.before.store_faults name) (g.now.store_faults name) → HasCause g p
   SinkFailed : Rose p.faults_before p.faults_now → HasCause g p

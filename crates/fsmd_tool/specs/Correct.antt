@@ -6,14 +6,14 @@ use Rattle.command_answers.specs.declared.answer.Status.TheVariants.{NoMemory, F
 use Rattle.command_answers.specs.declared.answer.Answer.{Answer}
 use Rattle.command_answers.specs.Statuses.{status_of}
 use Rattle.command_answers.specs.Replies.{reply, unstored_reply}
-use Rattle.command_answers.specs.Follows.{Follows}
-use Rattle.fsmd_tool.specs.Calls.{Call, IsCorrectBy}
+use Rattle.command_answers.specs.Follows.{FollowsFrom}
+use Rattle.fsmd_tool.specs.Calls.{Call, IsCorrectFrom}
 use Rattle.fsmd_tool.specs.Puts.{Put, IsPut}
 use Rattle.fsmd_tool.specs.Stores.{Stores, stores, IsKept, IsStored, IsUnstored, Entry, to_store, IsUnwritten}
 
 -- the answer follows from what may have been read of the files
 abbrev pub IsCorrectAnswer : Call → Answer → Type 0
-IsCorrectAnswer g answer = IsCorrectBy (Follows g.asked) g answer
+IsCorrectAnswer g answer = IsCorrectFrom (FollowsFrom g.asked) 0 g answer
 
 -- what was to be stored was stored, if anything was, and then the reply was put with its status, whole or cut by a sink that failed; or it
 -- could not be stored, and this was put
