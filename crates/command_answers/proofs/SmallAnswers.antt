@@ -39,6 +39,7 @@ some_apart a b ins limit o p e h = apart_shows a b ins limit p.0 p.1 (subst (λ 
 small_text : (limit : ℕ) (a b : Fsmd) (small : Small) (lines : List ℕ) → signatures_of small.inputs ≡ input_signatures a.variables → AreApart a b (inputs_of small.inputs) limit small.left small.right
     → IsCounterexampleText (input_names a.variables) (contents_in small.inputs) (output_names a.variables) (told_by a small.left.outputs.items) (told_by b small.right.outputs.items) lines
     → IsSmallText limit a b (contents_in small.inputs) lines
+unfolding apart_shows
 small_text limit a b small lines signed apart told =
     let ins = inputs_told (input_signatures a.variables) (contents_in small.inputs) in
     let there : AreApart a b ins limit small.left small.right = subst (λ (i : Inputs). AreApart a b i limit small.left small.right) (by_contents a small.inputs signed) apart in
