@@ -1,4 +1,4 @@
-use Rattle.std.proofs.Common.{◌∙◌, map, Some, rules}
+use Rattle.std.proofs.Common.{◌∙◌, map, Some}
 use Rattle.certificates.specs.View.{node_of}
 use Rattle.cert_check.specs.View.{verdict_in}
 use Rattle.command_words.specs.Words.{asked}
