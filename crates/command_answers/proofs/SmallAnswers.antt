@@ -2,7 +2,6 @@
 use Rattle.std.proofs.Common.{◌≡◌, ℕ, List, refl, sym, subst}
 use Rattle.std.specs.Prelude.{Option, Some, IfSome}
 use Rattle.fs_model.specs.Machines.{Fsmd}
-use Rattle.fs_model.specs.Runs.{Content}
 use Rattle.fs_runs.specs.declared.inputs.Inputs.{Inputs as InputValues}
 use Rattle.fs_runs.specs.declared.run.Ended.{Ended}
 use Rattle.fs_runs.specs.InputValues.{inputs_of, signatures_of, input_signatures}
@@ -39,6 +38,7 @@ some_apart a b ins limit o p e h = apart_shows a b ins limit p.0 p.1 (subst (λ 
 small_text : (limit : ℕ) (a b : Fsmd) (small : Small) (lines : List ℕ) → signatures_of small.inputs ≡ input_signatures a.variables → AreApart a b (inputs_of small.inputs) limit small.left small.right
     → IsCounterexampleText (input_names a.variables) (contents_in small.inputs) (output_names a.variables) (told_by a small.left.outputs.items) (told_by b small.right.outputs.items) lines
     → IsSmallText limit a b (contents_in small.inputs) lines
+unfolding apart_shows
 small_text limit a b small lines signed apart told =
     let ins = inputs_told (input_signatures a.variables) (contents_in small.inputs) in
     let there : AreApart a b ins limit small.left small.right = subst (λ (i : Inputs). AreApart a b i limit small.left small.right) (by_contents a small.inputs signed) apart in
