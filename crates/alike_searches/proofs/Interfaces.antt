@@ -16,7 +16,8 @@ use Rattle.alike_behaviour.specs.Alike.{DeclareTheSame}
 use Rattle.alike_facts.proofs.Coupled.{others_differ, not_again}
 
 -- where names differ, the variable of a name is the one that has it
-named_is : (vs : List VarInfo) (k : ℕ) (v : VarInfo) → names_differ (map (λ (z : VarInfo). z.name) vs) ≡ true → slice_get vs k ≡ Some v → named vs v.name ≡ Some v
+named_is : (vs : List VarInfo) (k : ℕ) (v : VarInfo) → names_differ (map (λ (z : VarInfo). z.name) vs) ≡ true → slice_get vs k ≡ Some v
+    → named vs v.name ≡ Some v
 named_is [] k v d e = absurd (cc e)
 named_is (w ∷ vs) zero v d e =
     let same : w ≡ v = cc e in
@@ -41,10 +42,12 @@ own_role Local t e = refl
 not_lacking : (others : List VarInfo) (v : VarInfo) → named others v.name ≡ Some v → lacks_match others v ≡ false
 not_lacking others v e = ap (λ (o : Option VarInfo). is_interface v.role && not (is_like v o)) e ∙ own_role v.role (same_sort v.sort v.sort) (own_sort v.sort)
 
-none_unmatched : (vs others : List VarInfo) → ((k : ℕ) (v : VarInfo) → slice_get vs k ≡ Some v → named others v.name ≡ Some v) → first_unmatched vs others ≡ None
+none_unmatched : (vs others : List VarInfo) → ((k : ℕ) (v : VarInfo) → slice_get vs k ≡ Some v → named others v.name ≡ Some v)
+    → first_unmatched vs others ≡ None
 none_unmatched [] others h = refl
 none_unmatched (v ∷ vs) others h =
-    ap (λ t. cond {A = Option (List ℕ)} t (Some v.name) (first_unmatched vs others)) (not_lacking others v (h 0 v refl)) ∙ none_unmatched vs others (λ k w e. h (suc k) w e)
+    ap (λ t. cond {A = Option (List ℕ)} t (Some v.name) (first_unmatched vs others)) (not_lacking others v (h 0 v refl))
+    ∙ none_unmatched vs others (λ k w e. h (suc k) w e)
 
 abbrev pub OwnNames : Fsmd → Type 0
 OwnNames m = names_differ (map (λ (z : VarInfo). z.name) m.variables) ≡ true

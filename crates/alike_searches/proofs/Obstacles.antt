@@ -14,6 +14,7 @@ use Rattle.nf_terms.specs.declared.form.Nf.{Nf}
 use Rattle.sym_facts.specs.Facts.{vector_of}
 use Rattle.certificates.specs.Obligations.{same_forms}
 use Rattle.alike_behaviour.specs.Alike.{Alike}
+use Rattle.alike_paths.specs.Evenness.{IsEven}
 use Rattle.search_tables.specs.declared.moves.Move.{Move}
 use Rattle.search_tables.specs.Tables.{Machines, Node, Table, is_at}
 use Rattle.search_tables.specs.Legal.{Difference, first_differing, output_at, stuck_from, stuck, Makes}
@@ -52,8 +53,11 @@ module _ (m : Machines) (sound_left : IsSound m.left) (sound_right : IsSound m.r
       outputs : List OutputPair
       outputs = output_pairs 0 m.left.variables m.right.variables
 
+      even : IsEven m.left m.right v
+      even = vector_between m.left m.right n.fact h.fact sound_left sound_right alike.declare_the_same
+
       none : first_differing v outputs ≡ None
-      none = none_differing v outputs (outputs_same m.left m.right sound_right alike.declare_the_same v (vector_between m.left m.right n.fact h.fact sound_left sound_right alike.declare_the_same))
+      none = none_differing v outputs (outputs_same m.left m.right sound_right alike.declare_the_same v even)
 
       by_end : (t : Bool) → cond t (first_differing v outputs) None ≡ None
       by_end true = none

@@ -11,13 +11,13 @@ ghost use Rattle.search_tables.specs.declared.moves.Move.{Move as PlainMove};
 ghost use Rattle.search_tables.specs.Tables.{Machines};
 ghost use Rattle.search_tables.specs.Obstacles.{Stuck, Spin, IsObstacle};
 
-/// Limits alone stop a search of alike machines: no legal list of moves leads to outputs that differ, nor to one machine alone in a
-/// cycle.
+/// Limits alone stop a search of alike machines: no legal list of moves leads to outputs that differ, nor to one machine alone in
+/// a cycle.
 pub fn limits_alone_stop_alike_machines()
-    ensures stuck { (m : Machines) (pairs : List (Point × Point)) (moves : List PlainMove) (node output : ℕ) → IsSound m.left
-        → IsSound m.right → Alike m.left m.right pairs → IsObstacle m moves (Stuck node output) → ⊥ }
-    ensures spin { (m : Machines) (pairs : List (Point × Point)) (moves : List PlainMove) (side : Side) (cycle : List ℕ) → IsSound m.left
-        → IsSound m.right → Alike m.left m.right pairs → IsObstacle m moves (Spin side cycle) → ⊥ }
+    ensures stuck { (m : Machines) (pairs : List (Point × Point)) (moves : List PlainMove) (node output : ℕ)
+        → IsSound m.left → IsSound m.right → Alike m.left m.right pairs → IsObstacle m moves (Stuck node output) → ⊥ }
+    ensures spin { (m : Machines) (pairs : List (Point × Point)) (moves : List PlainMove) (side : Side) (cycle : List ℕ)
+        → IsSound m.left → IsSound m.right → Alike m.left m.right pairs → IsObstacle m moves (Spin side cycle) → ⊥ }
 {}
 
 /// Machines that declare the same have the same inputs and outputs.

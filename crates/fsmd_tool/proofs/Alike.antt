@@ -14,17 +14,32 @@ module _ (g : Call) (p : Put) (a : Answered g p) (t : IsTrue (compares g.asked))
   same_of_alike : p.status ≡ Fine → TellsOfAlike g p
   same_of_alike e =
       let s = says_same g p a e t in
-      record { left = s.left; right = s.right; paired = s.paired; tells = λ K alike. Closes e s.nodes (closes_where_same s.left s.right K alike s.nodes s.shows) s.put }
+      record {
+        left = s.left;
+        right = s.right;
+        paired = s.paired;
+        tells = λ K alike. Closes e s.nodes (closes_where_same s.left s.right K alike s.nodes s.shows) s.put;
+      }
 
   difference_of_alike : p.status ≡ Differ → TellsOfAlike g p
   difference_of_alike e =
       let s = says_differ g p a e t in
-      record { left = s.left; right = s.right; paired = s.paired; tells = λ K alike. absurd (no_counterexample s.left s.right K alike (step_limit g.asked) s.lines s.shows) }
+      record {
+        left = s.left;
+        right = s.right;
+        paired = s.paired;
+        tells = λ K alike. absurd (no_counterexample s.left s.right K alike (step_limit g.asked) s.lines s.shows);
+      }
 
   obstacle_of_alike : p.status ≡ Undecided → TellsOfAlike g p
   obstacle_of_alike e =
       let s = says_undecided g p a e t in
-      record { left = s.left; right = s.right; paired = s.paired; tells = λ K alike. Stops e s.lines (has_limit s.left s.right K alike s.lines s.is_undecided.obstacle) s.put }
+      record {
+        left = s.left;
+        right = s.right;
+        paired = s.paired;
+        tells = λ K alike. Stops e s.lines (has_limit s.left s.right K alike s.lines s.is_undecided.obstacle) s.put;
+      }
 
 pub tells_of_alike : (g : Call) (p : Put) → Answered g p → AnswersPair p.status → IsTrue (compares g.asked) → TellsOfAlike g p
 tells_of_alike g p a (inl e) t = same_of_alike g p a t e

@@ -36,17 +36,19 @@ closed_or_limit limit keeps a b x (Open l) K alike = OfLimit (record { lines = l
 own_names : (m : Fsmd) (bytes : List ℕ) → SpellsMachine m bytes → OwnNames m
 own_names m bytes h =
     let ds = h.parts.declarations in
-    ap its_names_differ h.machine ∙ (ap names_differ (sym (names_declared ds)) ∙ differ (declared_names ds) (all_kept h.parts h.spells.lawful.plain).variables_once)
+    let once = (all_kept h.parts h.spells.lawful.plain).variables_once in
+    ap its_names_differ h.machine ∙ (ap names_differ (sym (names_declared ds)) ∙ differ (declared_names ds) once)
   where
     its_names_differ : Fsmd → Bool
     its_names_differ z = names_differ (map (λ (v : VarInfo). v.name) z.variables)
 
-pub alike_checked : (g : Call) (p : Put) (a b : Fsmd) → is_check g.asked ≡ true → IsKnown g First (SpellsMachine a) → IsKnown g Second (SpellsMachine b) → NothingFailed g p → Outcome g p
-    → WhereAlike a b (EndsBy (IsClosedOrLimit (is_some (cert_of g.asked)) a b) g p)
+pub alike_checked : (g : Call) (p : Put) (a b : Fsmd) → is_check g.asked ≡ true → IsKnown g First (SpellsMachine a) → IsKnown g Second (SpellsMachine b)
+    → NothingFailed g p → Outcome g p → WhereAlike a b (EndsBy (IsClosedOrLimit (is_some (cert_of g.asked)) a b) g p)
 alike_checked g p a b e first second n o K alike =
     let limit = step_limit g.asked in
     let keeps = is_some (cert_of g.asked) in
-    let one : interface_fault a b ≡ None = one_interface a b (own_names a first.bytes first.meet) (own_names b second.bytes second.meet) alike.declare_the_same in
+    let one : interface_fault a b ≡ None =
+    one_interface a b (own_names a first.bytes first.meet) (own_names b second.bytes second.meet) alike.declare_the_same in
     ends_by (IsClosedOrLimit keeps a b) g p n
     (λ x c. closed_or_limit limit keeps a b x (machines_checked g x a b e (record { left = first; right = second; alike = one }) c) K alike) o
 

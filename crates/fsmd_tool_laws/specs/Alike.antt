@@ -14,5 +14,6 @@ use Rattle.command_answers.specs.Pairs.{kept}
 -- an answer to two machines: the certificate of a search that closes, by its number of nodes and by its text where that is to be
 -- stored; or the line of a limit that stops the search
 pub data IsClosedOrLimit (keeps : Bool) (a b : Fsmd) (answer : Answer) : Type 0 where
-  OfClosed : (nodes : List (Node Fact)) → IsClosedWith (machines a b) nodes → answer ≡ Equivalent (length nodes) (kept keeps (certificate_text a b nodes)) → IsClosedOrLimit keeps a b answer
+  OfClosed : (nodes : List (Node Fact)) → IsClosedWith (machines a b) nodes
+      → answer ≡ Equivalent (length nodes) (kept keeps (certificate_text a b nodes)) → IsClosedOrLimit keeps a b answer
   OfLimit : HasLines (HasLimit (machines a b)) Undecided answer → IsClosedOrLimit keeps a b answer

@@ -51,5 +51,7 @@ alike_are_answered limit a b (Equivalent cert) h K alike = closes_where_same a b
 alike_are_answered limit a b (Counterexample lines) h K alike = no_counterexample a b K alike limit lines.items h
 alike_are_answered limit a b (Undecided lines) h K alike = has_limit a b K alike lines.items h.obstacle
 
-pub answered_where_alike : {E : Type 0} (limit : ℕ) (a b : Fsmd) (r : Result PairAnswer E) → IfOk r (IsOfPair limit a b) → IfOk r (λ x. WhereAlike a b (IsClosedOrLimit (machines a b) x))
-answered_where_alike limit a b r h = IfOk-weaker r (IsOfPair limit a b) (λ x. WhereAlike a b (IsClosedOrLimit (machines a b) x)) (λ x k. alike_are_answered limit a b x k) h
+pub answered_where_alike : {E : Type 0} (limit : ℕ) (a b : Fsmd) (r : Result PairAnswer E) → IfOk r (IsOfPair limit a b)
+    → IfOk r (λ x. WhereAlike a b (IsClosedOrLimit (machines a b) x))
+answered_where_alike limit a b r h =
+    IfOk-weaker r (IsOfPair limit a b) (λ x. WhereAlike a b (IsClosedOrLimit (machines a b) x)) (λ x k. alike_are_answered limit a b x k) h

@@ -22,8 +22,8 @@ use Rattle.pair_answers.specs.declared.obstacles.Found.TheVariants.{Certificate,
 use Rattle.pair_answers.specs.declared.answer.PairAnswer.{PairAnswer}
 use Rattle.pair_answers.specs.declared.answer.PairAnswer.TheVariants.{Equivalent, Counterexample, Undecided}
 
--- the lines tell of the first stated candidate that shows a difference of two sound machines within so many steps: its inputs, and
--- both runs' outputs
+-- the lines tell of the first stated candidate that shows a difference of two sound machines within so many steps: its inputs,
+-- and both runs' outputs
 pub record IsCounterexample (limit : ℕ) (a b : Fsmd) (lines : List ℕ) : Type 0 where
   pub left_sound : IsSound a
   pub right_sound : IsSound b

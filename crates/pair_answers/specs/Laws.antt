@@ -106,4 +106,5 @@ SameShowNothing = (limit : ℕ) (a b : Fsmd) (j : ℕ) → SameBehaviour a b →
 
 -- an answer to alike machines is that of a search that closes, or that a limit stops
 abbrev pub AlikeAreAnswered : Type 0
-AlikeAreAnswered = (limit : ℕ) (a b : Fsmd) (x : PairAnswer) → IsOfPair limit a b x → WhereAlike a b (IsClosedOrLimit (machines a b) x)
+AlikeAreAnswered =
+    (limit : ℕ) (a b : Fsmd) (x : PairAnswer) → IsOfPair limit a b x → WhereAlike a b (IsClosedOrLimit (machines a b) x)

@@ -1,6 +1,7 @@
 //! Laws of answers, over the definitions alone. The functions do nothing.
 
-ghost use Rattle.pair_answers.specs.Laws.{OneAnswer, ClosedIsNotOpen, LimitIsNotOpen, LinesNameWhatIsThere, SameShowNothing, AlikeAreAnswered};
+ghost use Rattle.pair_answers.specs.Laws.{OneAnswer, ClosedIsNotOpen, LimitIsNotOpen};
+ghost use Rattle.pair_answers.specs.Laws.{LinesNameWhatIsThere, SameShowNothing, AlikeAreAnswered};
 
 /// Two machines have one answer, whatever answers them: one certificate, one counterexample, or one line, but for the cycle that
 /// it names. Where the search is left open, and no stated candidate shows a difference, it is any certificate that holds, or the
@@ -27,8 +28,8 @@ pub fn same_behaviour_shows_no_difference()
     ensures { SameShowNothing }
 {}
 
-/// Alike machines, which differ only in the names of their states and in how straight lines are cut into states, are answered by a
-/// search that closes, or that a limit stops: they have no counterexample, and no other obstacle.
+/// Alike machines, which differ only in the names of their states and in how straight lines are cut into states, are answered by
+/// a search that closes, or that a limit stops: they have no counterexample, and no other obstacle.
 pub fn alike_machines_are_answered()
     ensures { AlikeAreAnswered }
 {}

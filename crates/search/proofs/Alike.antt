@@ -28,11 +28,14 @@ module _ (m : Machines) (K : List (Point × Point)) (alike : Alike m.left m.righ
 
 closes_or_meets_limit : (a b : Fsmd) (o : Outcome) → Answers (machines a b) o → WhereAlike a b (ClosesOrMeetsLimit o)
 closes_or_meets_limit a b (outcomes.Closed cert) h K alike = tt
-closes_or_meets_limit a b (outcomes.Stuck moves points node var) h K alike = not_stuck (machines a b) K alike moves.items (map points_in points.items) node var h
-closes_or_meets_limit a b (outcomes.Spin moves points side cycle) h K alike = not_spinning (machines a b) K alike moves.items (map points_in points.items) side cycle.items h
+closes_or_meets_limit a b (outcomes.Stuck moves points node var) h K alike =
+    not_stuck (machines a b) K alike moves.items (map points_in points.items) node var h
+closes_or_meets_limit a b (outcomes.Spin moves points side cycle) h K alike =
+    not_spinning (machines a b) K alike moves.items (map points_in points.items) side cycle.items h
 closes_or_meets_limit a b (outcomes.Wide moves points at) h K alike = tt
 closes_or_meets_limit a b (outcomes.Large moves points at) h K alike = tt
 closes_or_meets_limit a b (outcomes.Exhausted moves points at what) h K alike = tt
 
-pub answers_where_alike : {E : Type 0} (a b : Fsmd) (r : Result Outcome E) → IfOk r (Answers (machines a b)) → IfOk r (λ o. WhereAlike a b (ClosesOrMeetsLimit o))
+pub answers_where_alike : {E : Type 0} (a b : Fsmd) (r : Result Outcome E) → IfOk r (Answers (machines a b))
+    → IfOk r (λ o. WhereAlike a b (ClosesOrMeetsLimit o))
 answers_where_alike a b r h = IfOk-weaker r (Answers (machines a b)) (λ o. WhereAlike a b (ClosesOrMeetsLimit o)) (λ o k. closes_or_meets_limit a b o k) h
