@@ -19,8 +19,8 @@ AnswersPair s = (s ≡ Fine) ⊎ ((s ≡ Differ) ⊎ (s ≡ Undecided))
 
 -- a search of two machines closes, and the number of nodes of its certificate was put; or a limit stops it, whose line was put
 pub data TellsClosedOrLimit (g : Call) (p : Put) (a b : Fsmd) : Type 0 where
-  Closes : p.status ≡ Fine → (nodes : List (Node Fact)) → IsClosedWith (machines a b) nodes → HasPut g p (equivalent_text (length nodes))
-      → TellsClosedOrLimit g p a b
+  Closes : p.status ≡ Fine → (nodes : List (Node Fact)) → IsClosedWith (machines a b) nodes
+      → HasPut g p (equivalent_text (length nodes)) → TellsClosedOrLimit g p a b
   Stops : p.status ≡ Undecided → (lines : List ℕ) → HasLimit (machines a b) lines → HasPut g p lines → TellsClosedOrLimit g p a b
 
 -- two machines are compared; and where these are alike, it was told that a search of them closes, or that a limit stops it: no

@@ -15,10 +15,9 @@ ghost use Rattle.fsmd_tool_laws.specs.Settled.{IsKnown};
 ghost use Rattle.fsmd_tool_laws.specs.Outcomes.{NothingFailed, EndsBy};
 ghost use Rattle.fsmd_tool_laws.specs.Alike.{IsClosedOrLimit};
 
-/// Alike machines, which differ only in the names of their states and in how straight lines are cut into states, get the answer of
-/// a search that closes, or the line of a limit that stops it, or there was no memory, where neither the sink failed nor the store
-/// of the certificate: never a refusal, a difference or another obstacle. So it is of machines that files spell, and of generated
-/// ones.
+/// Alike machines get the answer of a search that closes, or the line of a limit that stops it, or there was no memory, where
+/// neither the sink failed nor the store of the certificate: never a refusal, a difference or another obstacle. So it is of
+/// machines that files spell, and of generated ones.
 pub fn alike_machines_get_their_answers()
     ensures check { (g : Call) (p : Put) (a b : Fsmd) → is_check g.asked ≡ true → IsKnown g First (SpellsMachine a)
         → IsKnown g Second (SpellsMachine b) → NothingFailed g p → Outcome g p
