@@ -28,7 +28,7 @@ pub fn same_behaviour_shows_no_difference()
     ensures { SameShowNothing }
 {}
 
-/// Alike machines are answered by a search that closes, or that a limit stops: they have no counterexample, and no other obstacle.
+/// Alike machines are answered by a search that closes, or that a limit stops: they have no counterexample and no other obstacle.
 pub fn alike_machines_are_answered()
     ensures { AlikeAreAnswered }
 {}
