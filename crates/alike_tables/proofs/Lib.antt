@@ -1,2 +1,6 @@
 pub mod Modes
 pub mod Outputs
+pub mod OtherMoves
+pub mod EvenNodes
+pub mod NextMoves
+pub mod EvenTables

@@ -39,7 +39,7 @@ found_on d k (Large u n) x e = absurd (cc e)
 done_is : {T : Type 0} (x y : T) → computed.Done x ≡ computed.Done y → x ≡ y
 done_is x y e = cc e
 
-found_is : {T : Type 0} (x y : T) → Found x ≡ Found y → x ≡ y
+pub found_is : {T : Type 0} (x y : T) → Found x ≡ Found y → x ≡ y
 found_is x y e = cc e
 
 -- the paths of a point that is not the return
