@@ -1,5 +1,5 @@
 -- Each point but the return stands in one pair, with itself.
-use Rattle.std.proofs.Common.{◌≡◌, ℕ, zero, suc, ◌+◌, ◌<◌, ◌≤◌, ◌==◌, arith, refl, ap, sym, ◌∙◌, inl, inr, Bool, true, false, cond, List, [], ◌∷◌, length, map, Some}
+use Rattle.std.proofs.Common.{◌≡◌, ℕ, zero, suc, ◌+◌, ◌<◌, ◌≤◌, ◌==◌, arith, refl, ap, sym, ◌∙◌, inl, inr, Bool, true, false, cond, List, ◌∷◌, length, Some}
 use Rattle.std.specs.Prelude.{◌≢◌, slice_get, filter}
 use Rattle.std.specs.List.{range_with_len}
 use Rattle.std.specs.Option.{option_map}
@@ -10,7 +10,7 @@ use Rattle.fs_ast.proofs.Kept.{get_mapped}
 use Rattle.fs_cut.specs.Paths.{Point, Start, At, Done, is_fork, is_point}
 use Rattle.fs_cut.proofs.Listed.{fork_state}
 use Rattle.alike_behaviour.specs.Alike.{ArePaired}
-use Rattle.alike_names.specs.Names.{with_itself, own_pairs}
+use Rattle.alike_names.specs.Names.{own_pairs}
 
 -- ---- the numbers of a range that pass a test
 
@@ -76,7 +76,7 @@ listed t a (suc n) x le lt h = by_equal (a == x) refl (λ more. listed t (a + 1)
 -- ---- pairs
 
 module _ (m : Fsmd) where
-  forks : List ℕ
+  abbrev forks : List ℕ
   forks = passing (is_fork m) 0 (length m.states)
 
   pub record IsOwn (P Q : Point) : Type 0 where
@@ -93,14 +93,18 @@ module _ (m : Fsmd) where
 
   fork_at : (j : ℕ) (P Q : Point) → slice_get (own_pairs m) (suc j) ≡ Some (P, Q) → IsFork j P Q
   fork_at j P Q e =
-      let g = get_mapped (λ (q : ℕ). with_itself (At q)) forks j (P, Q) e in
+      let g = get_mapped (λ (q : ℕ). (At q, At q)) forks j (P, Q) e in
       record { number = g.0; is_in = g.1.0; left = ap (λ (z : Point × Point). z.0) g.1.1; right = ap (λ (z : Point × Point). z.1) g.1.1 }
+
+  starts_first : (P Q : Point) → slice_get (own_pairs m) 0 ≡ Some (P, Q) → (Start ≡ P) × (Start ≡ Q)
+  starts_first P Q e =
+      let same : (Start, Start) ≡ (P, Q) = cc e in
+      (ap (λ (z : Point × Point). z.0) same, ap (λ (z : Point × Point). z.1) same)
 
   pub own : (k : ℕ) (P Q : Point) → slice_get (own_pairs m) k ≡ Some (P, Q) → IsOwn P Q
   own zero P Q e =
-      let l : Start ≡ P = cc e in
-      let r : Start ≡ Q = cc e in
-      record { same = sym l ∙ r; point = sym (ap (is_point m) l); goes = λ d. let c : Start ≡ Done = l ∙ d in absurd (cc c) }
+      let s = starts_first P Q e in
+      record { same = sym s.0 ∙ s.1; point = sym (ap (is_point m) s.0); goes = λ d. let c : Start ≡ Done = s.0 ∙ d in absurd (cc c) }
   own (suc j) P Q e =
       let f = fork_at j P Q e in
       record {
@@ -112,14 +116,12 @@ module _ (m : Fsmd) where
   pub stands_once : (i j : ℕ) (P Q R S : Point) → slice_get (own_pairs m) i ≡ Some (P, Q) → slice_get (own_pairs m) j ≡ Some (R, S) → P ≡ R → i ≡ j
   stands_once zero zero P Q R S e g s = refl
   stands_once zero (suc j) P Q R S e g s =
-      let l : Start ≡ P = cc e in
       let f = fork_at j R S g in
-      let c : Start ≡ At f.number = l ∙ s ∙ f.left in
+      let c : Start ≡ At f.number = (starts_first P Q e).0 ∙ s ∙ f.left in
       absurd (cc c)
   stands_once (suc i) zero P Q R S e g s =
       let f = fork_at i P Q e in
-      let r : Start ≡ R = cc g in
-      let c : At f.number ≡ Start = sym f.left ∙ s ∙ sym r in
+      let c : At f.number ≡ Start = sym f.left ∙ s ∙ sym (starts_first R S g).0 in
       absurd (cc c)
   stands_once (suc i) (suc j) P Q R S e g s =
       let f = fork_at i P Q e in
@@ -132,5 +134,5 @@ module _ (m : Fsmd) where
   paired Start h = inl (0, refl)
   paired (At q) h =
       let r = listed (is_fork m) 0 (length m.states) q (omega arith) (omega (arith, fork_state m q h)) h in
-      inl (suc r.0, slice_get-map (λ (x : ℕ). with_itself (At x)) forks r.0 ∙ ap (option_map (λ (x : ℕ). with_itself (At x))) r.1)
+      inl (suc r.0, slice_get-map (λ (x : ℕ). (At x, At x)) forks r.0 ∙ ap (option_map (λ (x : ℕ). (At x, At x))) r.1)
   paired Done h = inr (refl, refl)

@@ -1,9 +1,9 @@
 -- Machines that differ only in the names of their states have the same paths.
-use Rattle.std.proofs.Common.{◌≡◌, ℕ, zero, suc, ◌<◌, ◌==◌, refl, ap, ap₂, sym, subst, ◌∙◌, Bool, true, cond, List, [], ◌∷◌, length, Some}
+use Rattle.std.proofs.Common.{◌≡◌, ℕ, zero, suc, ◌<◌, ◌==◌, refl, ap, ap₂, sym, subst, ◌∙◌, true, cond, List, [], ◌∷◌, length, Some}
 use Rattle.std.specs.Prelude.{◌&&◌, ◌||◌, not, nat_lt, slice_get}
 use Rattle.std.specs.List.{list_all, slice_index_or}
 use Rattle.fs_model.specs.Machines.{Fsmd, transitions_of}
-use Rattle.fs_model.specs.Terms.{Literal, Transition}
+use Rattle.fs_model.specs.Terms.{Transition}
 use Rattle.fs_model.specs.Trees.{Branch, branches_of}
 use Rattle.fs_ast.specs.Sound.{IsSound, branch_count, is_cutpoint}
 use Rattle.fs_ast.specs.Branches.{is_sound_literal, is_sound_assignment}

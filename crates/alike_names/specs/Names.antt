@@ -1,5 +1,5 @@
 -- Machines that differ only in the names of their states.
-use Rattle.std.specs.Prelude.{◌≡◌, ℕ, List, [], ◌∷◌, length, map, filter}
+use Rattle.std.specs.Prelude.{◌≡◌, ℕ, List, ◌∷◌, length, map, filter}
 use Rattle.std.specs.List.{range_with_len}
 use Rattle.fs_model.specs.Machines.{Fsmd, transitions_of}
 use Rattle.fs_cut.specs.Paths.{Point, Start, At, is_fork}
@@ -10,10 +10,6 @@ pub record DifferInNames (a b : Fsmd) : Type 0 where
   pub reset : a.reset ≡ b.reset
   pub transitions : (q : ℕ) → transitions_of a q ≡ transitions_of b q
 
--- a point, paired with itself
-abbrev pub with_itself : Point → Point × Point
-with_itself P = (P, P)
-
 -- each point of a machine but the return, paired with itself
 abbrev pub own_pairs : Fsmd → List (Point × Point)
-own_pairs m = with_itself Start ∷ map (λ q. with_itself (At q)) (filter (is_fork m) (range_with_len 0 (length m.states)))
+own_pairs m = (Start, Start) ∷ map (λ q. (At q, At q)) (filter (is_fork m) (range_with_len 0 (length m.states)))

@@ -30,7 +30,7 @@ none_differing : (v : List (Pos × Nf)) (os : List OutputPair) → AllByRecursio
 none_differing v [] h = refl
 none_differing v (o ∷ os) h = ap (λ t. cond t (first_differing v os) (Some o.left)) h.0 ∙ none_differing v os h.1
 
-difference : (node output : ℕ) → Difference
+abbrev difference : (node output : ℕ) → Difference
 difference node output = record { node = node; output = output }
 
 -- in no mode of an even node does one machine move alone
