@@ -6,3 +6,4 @@ pub mod Says
 pub mod Synthesized
 pub mod Causes
 pub mod Putting
+pub mod Alike

@@ -5,3 +5,4 @@ pub mod Stores
 pub mod Loading
 pub mod Correct
 pub mod Clauses
+pub mod Alike

@@ -10,6 +10,7 @@ ghost use Rattle.fsmd_tool.specs.Calls.{call, OnlyRead, AnswersBy};
 ghost use Rattle.fsmd_tool.specs.Puts.{put};
 ghost use Rattle.fsmd_tool.specs.Stores.{stores, IsUnwritten};
 ghost use Rattle.fsmd_tool.specs.Correct.{IsCorrectAnswer, Answered, Outcome};
+ghost use Rattle.fsmd_tool.specs.Alike.{AnswersPair, TellsOfAlike};
 ghost use Rattle.fsmd_tool.specs.Clauses.{SaysSame, SaysDiffer, SaysUndecided, IsChecked, IsCompiled, IsInRows, IsInRegisters, KeepsFiles, HasCause};
 
 use crate::answers::{check, cut_paths, format_text, replay_files, run_files, verify_files};
@@ -116,6 +117,7 @@ pub fn drive<F: Files, S: Sink>(
     ensures equivalent { result ≡ Fine → AskToCompare words.now → SaysSame (call (asked_in words.now) (F.told files.old) (F.told files.new)) (put result (S.told out.old) (S.told out.new)) }
     ensures differ { result ≡ Differ → AskToCompare words.now → SaysDiffer (call (asked_in words.now) (F.told files.old) (F.told files.new)) (put result (S.told out.old) (S.told out.new)) }
     ensures undecided { result ≡ Undecided → AskToCompare words.now → SaysUndecided (call (asked_in words.now) (F.told files.old) (F.told files.new)) (put result (S.told out.old) (S.told out.new)) }
+    ensures alike { AnswersPair result → AskToCompare words.now → TellsOfAlike (call (asked_in words.now) (F.told files.old) (F.told files.new)) (put result (S.told out.old) (S.told out.new)) }
     ensures checked { result ≡ Fine → AskToVerify words.now → IsChecked (call (asked_in words.now) (F.told files.old) (F.told files.new)) (put result (S.told out.old) (S.told out.new)) }
     ensures compiled { result ≡ Fine → AskToCompile words.now → IsCompiled (call (asked_in words.now) (F.told files.old) (F.told files.new)) (put result (S.told out.old) (S.told out.new)) }
     ensures in_rows { result ≡ Fine → AskToSchedule words.now → IsInRows (call (asked_in words.now) (F.told files.old) (F.told files.new)) (put result (S.told out.old) (S.told out.new)) }

@@ -15,3 +15,4 @@ pub mod Correct
 pub mod Stored
 pub mod Settling
 pub mod Outcomes
+pub mod AlikePairs

@@ -2,3 +2,4 @@ pub mod Agreement
 pub mod OneAnswer
 pub mod Settled
 pub mod Outcomes
+pub mod Alike

@@ -3,6 +3,7 @@ use Rattle.std.proofs.Common.{◌≡◌, ℕ, ◌<◌, List, sym, ◌∙◌, ap,
 use Rattle.fs_model.specs.Machines.{Fsmd}
 use Rattle.fs_model.specs.Runs.{Inputs, Content, SameBehaviour, start, output}
 use Rattle.fs_model.proofs.Determined.{goes_once}
+use Rattle.fs_ast.specs.Sound.{IsSound}
 use Rattle.fs_runs.specs.declared.run.Ended.{Ended}
 use Rattle.fs_runs.specs.Outcomes.{Outputs, output_names, told_by}
 use Rattle.fs_runs.proofs.RunOnce.{one_end}
@@ -16,11 +17,14 @@ use Rattle.pair_answers.specs.Laws.{SameShowNothing}
 
 -- what the first stated candidate that shows a difference tells is a counterexample
 pub is_counterexample : (limit : ℕ) (a b : Fsmd) (j : ℕ) (ins : Inputs) (contents : List Content) (left right : Ended) (lines : List ℕ)
+    → IsSound a → IsSound b
     → j < stated_count a b → ins ≡ stated_inputs a b j → contents ≡ stated_contents a b j → AreApart a b ins limit left right → ((i : ℕ) → i < j → ¬ DiffersAt a b limit i)
     → IsCounterexampleText (input_names a.variables) contents (output_names a.variables) (told_by a left.outputs.items) (told_by b right.outputs.items) lines → IsCounterexample limit a b lines
-is_counterexample limit a b j ins contents left right lines among is are apart first told =
+is_counterexample limit a b j ins contents left right lines left_sound right_sound among is are apart first told =
     let there : AreApart a b (stated_inputs a b j) limit left right = subst (λ (i : Inputs). AreApart a b i limit left right) is apart in
     record {
+      left_sound = left_sound;
+      right_sound = right_sound;
       number = j;
       among = among;
       shows = record {

@@ -1,3 +1,4 @@
+pub mod Alike
 pub mod Behaviour
 pub mod Branches
 pub mod Named

@@ -1,6 +1,7 @@
 -- Which answer two machines get.
 use Rattle.std.specs.Prelude.{◌≡◌, ◌⊎◌, ◌<◌, ℕ, Bool, true, false, IsTrue, List, map}
 use Rattle.fs_model.specs.Machines.{Fsmd}
+use Rattle.fs_ast.specs.Sound.{IsSound}
 use Rattle.fs_runs.specs.Outcomes.{output_names}
 use Rattle.fs_show.specs.Items.{input_names}
 use Rattle.fs_show.specs.Ends.{IsCounterexampleText}
@@ -21,8 +22,11 @@ use Rattle.pair_answers.specs.declared.obstacles.Found.TheVariants.{Certificate,
 use Rattle.pair_answers.specs.declared.answer.PairAnswer.{PairAnswer}
 use Rattle.pair_answers.specs.declared.answer.PairAnswer.TheVariants.{Equivalent, Counterexample, Undecided}
 
--- the lines tell of the first stated candidate that shows a difference within so many steps: its inputs, and both runs' outputs
+-- the lines tell of the first stated candidate that shows a difference of two sound machines within so many steps: its inputs,
+-- and both runs' outputs
 pub record IsCounterexample (limit : ℕ) (a b : Fsmd) (lines : List ℕ) : Type 0 where
+  pub left_sound : IsSound a
+  pub right_sound : IsSound b
   pub number : ℕ
   pub among : number < stated_count a b
   pub shows : DiffersAt a b limit number
@@ -58,6 +62,11 @@ pub record IsLeftOpen (m : Machines) : Type 0 where
   pub stops : StopsAt m moves points obstacle
   pub leaves_open : IsTrue (is_open obstacle)
 
+-- a legal list of moves stops at a limit, which the lines name
+pub record HasLimit (m : Machines) (lines : List ℕ) : Type 0 where
+  pub obstacle : HasObstacle m lines
+  pub is_limit : is_open obstacle.obstacle ≡ false
+
 -- the nodes are found beyond the search, which is left open, and are judged: they are a certificate that holds
 pub record IsFoundBeyond (m : Machines) (nodes : List (Node Fact)) : Type 0 where
   pub left_open : IsLeftOpen m
@@ -91,3 +100,9 @@ abbrev pub IfEquivalent : Type 0 → PairAnswer → Type 0
 IfEquivalent P (Equivalent cert) = P
 IfEquivalent P (Counterexample lines) = Unit {0}
 IfEquivalent P (Undecided lines) = Unit {0}
+
+-- the answer is that of a search that closes, or that a limit stops: the certificate, or the line of the limit
+abbrev pub IsClosedOrLimit : Machines → PairAnswer → Type 0
+IsClosedOrLimit m (Equivalent cert) = IsClosedWith m (map node_of cert.nodes.items)
+IsClosedOrLimit m (Counterexample lines) = ⊥
+IsClosedOrLimit m (Undecided lines) = HasLimit m lines.items

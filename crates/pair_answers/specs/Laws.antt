@@ -16,11 +16,12 @@ use Rattle.search_tables.specs.declared.moves.Move.{Move}
 use Rattle.search_tables.specs.Tables.{Machines}
 use Rattle.search_tables.specs.Obstacles.{Obstacle, Stuck, Spin, Wide, Large, Exhausted}
 use Rattle.search_tables.specs.View.{Points}
+use Rattle.alike_searches.specs.Where.{WhereAlike}
 use Rattle.search.specs.Answers.{machines, IsClosedWith, StopsAt}
 use Rattle.pair_answers.specs.declared.answer.PairAnswer.{PairAnswer}
 use Rattle.pair_answers.specs.declared.answer.PairAnswer.TheVariants.{Equivalent, Counterexample, Undecided}
 use Rattle.pair_answers.specs.Texts.{obstacle_text}
-use Rattle.pair_answers.specs.Answers.{is_open, IsLeftOpen, IsFoundBeyond, IsOfPair}
+use Rattle.pair_answers.specs.Answers.{is_open, IsLeftOpen, IsFoundBeyond, IsOfPair, IsClosedOrLimit}
 
 -- the line of a cycle
 pub record IsCycleLine (m : Machines) (line : List ℕ) : Type 0 where
@@ -102,3 +103,8 @@ LinesNameWhatIsThere = (m : Machines) → IsSound m.left → IsSound m.right →
 -- machines with the same behaviour differ on no stated candidate
 abbrev pub SameShowNothing : Type 0
 SameShowNothing = (limit : ℕ) (a b : Fsmd) (j : ℕ) → SameBehaviour a b → ¬ DiffersAt a b limit j
+
+-- an answer to alike machines is that of a search that closes, or that a limit stops
+abbrev pub AlikeAreAnswered : Type 0
+AlikeAreAnswered =
+    (limit : ℕ) (a b : Fsmd) (x : PairAnswer) → IsOfPair limit a b x → WhereAlike a b (IsClosedOrLimit (machines a b) x)

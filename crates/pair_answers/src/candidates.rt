@@ -42,6 +42,8 @@ pub fn counterexample(
     requires interface { interface_fault a.now b.now ≡ None }
     ensures { IfOk result (λ o. MatchOption o (NoneDiffers steps a.now b.now) (λ lines. IsCounterexample steps a.now b.now lines.items)) }
 {
+    let _left = a.vars();
+    let _right = b.vars();
     match first_difference(alloc, a, b, p, steps) {
         Ok(Some(found)) => Ok(Some(text_of(alloc, a, b, &found)?)),
         Ok(None) => Ok(None),

@@ -4,8 +4,9 @@ ghost use Rattle.std.specs.Prelude.{◌≡◌, ◌≤◌, None, IfOk};
 ghost use Rattle.fs_model.specs.Runs.{SameBehaviour};
 ghost use Rattle.fs_pair.specs.Interfaces.{interface_fault};
 ghost use Rattle.fs_pair.specs.Positions.{positions};
+ghost use Rattle.alike_searches.specs.Where.{WhereAlike};
 ghost use Rattle.search.specs.Answers.{machines};
-ghost use Rattle.pair_answers.specs.Answers.{IsLeftOpen, HasObstacle, IsOfPair, IfEquivalent};
+ghost use Rattle.pair_answers.specs.Answers.{IsLeftOpen, HasObstacle, IsOfPair, IfEquivalent, IsClosedOrLimit};
 
 use crate::answer::PairAnswer;
 use crate::beyond::find_beyond;
@@ -72,7 +73,9 @@ fn go_beyond(
 /// search hold; then both have the same behaviour. `Counterexample` tells of the first stated candidate from which both runs end,
 /// within the steps and within 128 bits, and an output differs: `counterexample`, a line `NAME = VALUE` for each input, and both
 /// sides' outputs. Where no stated candidate shows a difference, `Undecided` names the obstacle of the first search, in one line.
-/// Where a limit stops the first search, there is no second one. The one refusal is out of memory.
+/// Where a limit stops the first search, there is no second one. Machines that differ only in the names of their states and in
+/// how straight lines are cut into states are alike: these get `Equivalent` by the first search, or `Undecided` by a limit. The
+/// one refusal is out of memory.
 pub fn compare(
     alloc: Global,
     a: &Machine,
@@ -85,6 +88,7 @@ pub fn compare(
     requires steps { 1 ≤ steps }
     ensures answers { IfOk result (IsOfPair steps a.now b.now) }
     ensures same { IfOk result (IfEquivalent (SameBehaviour a.now b.now)) }
+    ensures alike { IfOk result (λ answer. WhereAlike a.now b.now (IsClosedOrLimit (machines a.now b.now) answer)) }
 {
     let _left = a.vars();
     let _right = b.vars();

@@ -1,6 +1,7 @@
 //! Laws of answers, over the definitions alone. The functions do nothing.
 
-ghost use Rattle.pair_answers.specs.Laws.{OneAnswer, ClosedIsNotOpen, LimitIsNotOpen, LinesNameWhatIsThere, SameShowNothing};
+ghost use Rattle.pair_answers.specs.Laws.{OneAnswer, ClosedIsNotOpen, LimitIsNotOpen};
+ghost use Rattle.pair_answers.specs.Laws.{LinesNameWhatIsThere, SameShowNothing, AlikeAreAnswered};
 
 /// Two machines have one answer, whatever answers them: one certificate, one counterexample, or one line, but for the cycle that
 /// it names. Where the search is left open, and no stated candidate shows a difference, it is any certificate that holds, or the
@@ -25,4 +26,9 @@ pub fn lines_name_what_is_there()
 /// Machines with the same behaviour differ on no stated candidate.
 pub fn same_behaviour_shows_no_difference()
     ensures { SameShowNothing }
+{}
+
+/// Alike machines are answered by a search that closes, or that a limit stops: they have no counterexample and no other obstacle.
+pub fn alike_machines_are_answered()
+    ensures { AlikeAreAnswered }
 {}

@@ -1,2 +1,3 @@
 pub mod FewPositions
 pub mod Outcomes
+pub mod Alike

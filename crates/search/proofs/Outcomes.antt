@@ -46,6 +46,8 @@ low n k h p = omega (arith, h, p)
 
 pub stops : (m : Machines) (moves : List Move) (T : Table) (points : List Points) (o : Obstacle) → IsSound m.left → IsSound m.right → Makes m moves T → map points_at T ≡ points → StandsIn m T o → StopsAt m moves points o
 stops m moves T points o left right makes e h = record {
+  left_sound = left;
+  right_sound = right;
   table = T;
   makes = makes;
   points_are = e;

@@ -48,8 +48,10 @@ most_positions = 256
 abbrev pub most_moves : ℕ
 most_moves = most_nodes * (most_positions + most_literals + 1)
 
--- this legal list of moves makes a table whose nodes have these points, and in which this obstacle stands
+-- of two sound machines this legal list of moves makes a table whose nodes have these points, and in which this obstacle stands
 pub record StopsAt (m : Machines) (moves : List Move) (points : List Points) (o : Obstacle) : Type 0 where
+  pub left_sound : IsSound m.left
+  pub right_sound : IsSound m.right
   pub table : Table
   pub makes : Makes m moves table
   pub points_are : map points_at table ≡ points
@@ -65,3 +67,12 @@ Answers m (outcomes.Spin moves points side cycle) = StopsAt m moves.items (map p
 Answers m (outcomes.Wide moves points at) = StopsAt m moves.items (map points_in points.items) (Wide at)
 Answers m (outcomes.Large moves points at) = StopsAt m moves.items (map points_in points.items) (Large at)
 Answers m (outcomes.Exhausted moves points at what) = StopsAt m moves.items (map points_in points.items) (Exhausted at what)
+
+-- the search closes, or a limit stops it: no outputs differ, and no machine is alone in a cycle
+abbrev pub ClosesOrMeetsLimit : Outcome → Type 0
+ClosesOrMeetsLimit (outcomes.Closed cert) = Unit {0}
+ClosesOrMeetsLimit (outcomes.Stuck moves points node var) = ⊥
+ClosesOrMeetsLimit (outcomes.Spin moves points side cycle) = ⊥
+ClosesOrMeetsLimit (outcomes.Wide moves points at) = Unit {0}
+ClosesOrMeetsLimit (outcomes.Large moves points at) = Unit {0}
+ClosesOrMeetsLimit (outcomes.Exhausted moves points at what) = Unit {0}

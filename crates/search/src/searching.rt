@@ -9,8 +9,9 @@ ghost use Rattle.sym_facts.specs.Pairings.{IsFactOf};
 ghost use Rattle.search_tables.specs.Next.{IsClosed};
 ghost use Rattle.search_tables.specs.Legal.{Makes, stuck};
 ghost use Rattle.search_tables.specs.View.{table_in, points_in, points_at};
+ghost use Rattle.alike_searches.specs.Where.{WhereAlike};
 ghost use Rattle.search_worklist.specs.Ends.{IsEnded};
-ghost use Rattle.search.specs.Answers.{machines, Answers};
+ghost use Rattle.search.specs.Answers.{machines, Answers, ClosesOrMeetsLimit};
 
 use fs_ast::machine::Machine;
 use fs_cut::cover::Cover;
@@ -121,11 +122,14 @@ fn conclude(
 /// `Closed` carries the certificate of that table: it is lawful, its facts are in normal form, and all its obligations hold. `Stuck` comes where both machines are done
 /// and a left output differs, and is looked at first; `Spin` where the table is closed and one machine alone moves in a cycle; `Wide` and
 /// `Large` at the first operation that is not narrow, or narrow and not small; `Exhausted` where a move would make node 4,097 or a table
-/// of more than 4,000,000 units. An obstacle comes after at most 1,314,816 moves. The one refusal is out of memory.
+/// of more than 4,000,000 units. An obstacle comes after at most 1,314,816 moves. Machines that differ only in the names of their
+/// states and in how straight lines are cut into states are alike: of these there is no `Stuck` and no `Spin`. The one refusal is
+/// out of memory.
 pub fn search(alloc: Global, a: &Machine, b: &Machine, p: &Pairing) -> Result<Outcome, NoMemory>
     requires paired { p.now ≡ positions a.now b.now }
     requires interface { interface_fault a.now b.now ≡ None }
-    ensures { IfOk result (Answers (machines a.now b.now)) }
+    ensures answers { IfOk result (Answers (machines a.now b.now)) }
+    ensures alike { IfOk result (λ outcome. WhereAlike a.now b.now (ClosesOrMeetsLimit outcome)) }
 {
     let ca = cover_of(alloc, a)?;
     let cb = cover_of(alloc, b)?;

@@ -1,6 +1,7 @@
 use Rattle.std.proofs.Common.{◌≡◌, refl}
 use Rattle.command_answers.specs.declared.answer.Status.TheVariants.{NoMemory, Fine, Differ, Undecided, Fault}
 use Rattle.fsmd_tool.specs.Correct.{Starves}
+use Rattle.fsmd_tool.proofs.Alike.{tells_of_alike, no_memory_of_pair}
 use Rattle.fsmd_tool.proofs.Says.{says_same, says_differ, says_undecided, is_checked}
 use Rattle.fsmd_tool.proofs.Synthesized.{is_compiled, is_in_rows, is_in_registers}
 use Rattle.fsmd_tool.proofs.Causes.{has_cause}
@@ -14,6 +15,9 @@ returns-in-Ok-clause-differ g c = says_differ _ _ c.in-Ok.ensures.answered
 
 pub returns-in-Ok-clause-undecided : goal.returns-in-Ok-clause-undecided
 returns-in-Ok-clause-undecided g c = says_undecided _ _ c.in-Ok.ensures.answered
+
+pub returns-in-Ok-clause-alike : goal.returns-in-Ok-clause-alike
+returns-in-Ok-clause-alike g c = tells_of_alike _ _ c.in-Ok.ensures.answered
 
 pub returns-in-Ok-clause-checked : goal.returns-in-Ok-clause-checked
 returns-in-Ok-clause-checked g c = is_checked _ _ c.in-Ok.ensures.answered
@@ -41,6 +45,9 @@ returns-in-Err-clause-differ g c = λ e t. absurd (let h : NoMemory ≡ Differ =
 
 pub returns-in-Err-clause-undecided : goal.returns-in-Err-clause-undecided
 returns-in-Err-clause-undecided g c = λ e t. absurd (let h : NoMemory ≡ Undecided = e in cc)
+
+pub returns-in-Err-clause-alike : goal.returns-in-Err-clause-alike
+returns-in-Err-clause-alike g c = λ e t. absurd (no_memory_of_pair e)
 
 pub returns-in-Err-clause-checked : goal.returns-in-Err-clause-checked
 returns-in-Err-clause-checked g c = λ e t. absurd (let h : NoMemory ≡ Fine = e in cc)

@@ -1,0 +1,4 @@
+pub mod Pairs
+pub mod OwnExpressions
+pub mod SamePaths
+pub mod Names

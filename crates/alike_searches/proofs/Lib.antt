@@ -1,0 +1,2 @@
+pub mod Obstacles
+pub mod Interfaces

@@ -1,0 +1,5 @@
+use Rattle.search.proofs.Alike.{answers_where_alike}
+use Rattle.search.proofs.searching.search.Goals as goal
+
+pub returns-clause-alike : goal.returns-clause-alike
+returns-clause-alike c = answers_where_alike c.args.a.now c.args.b.now c.conclude.result c.conclude.ensures
