@@ -1,0 +1,20 @@
+use Rattle.fsmd_tool_laws.proofs.Settling.{all_settled, answered_settled, first_refused, second_refused, others_spelled}
+use Rattle.fsmd_tool_laws.proofs.Certificates.{ReadInOneWay}
+use Rattle.fsmd_tool_laws.proofs.laws.files_are_settled_up_to_the_refused_one.Goals as goal
+
+pub returns-clause-all : goal.returns-clause-all
+returns-clause-all c = all_settled
+
+pub returns-clause-answered : goal.returns-clause-answered
+returns-clause-answered c =
+    let w : ReadInOneWay = record { same = c.certificates_are_read_in_one_way.ensures.same; taken = c.certificates_are_read_in_one_way.ensures.taken; texts = c.texts_are_read.ensures } in
+    answered_settled w
+
+pub returns-clause-first : goal.returns-clause-first
+returns-clause-first c = first_refused
+
+pub returns-clause-second : goal.returns-clause-second
+returns-clause-second c = second_refused
+
+pub returns-clause-others : goal.returns-clause-others
+returns-clause-others c = others_spelled
