@@ -8,17 +8,16 @@ ghost use Rattle.fs_model.specs.View.{source_of};
 ghost use Rattle.fs_model.specs.WellFormed.{is_well_formed};
 ghost use Rattle.fs_runs.specs.InputValues.{signatures_of, inputs_of, Serves};
 ghost use Rattle.fs_pair.specs.Positions.{positions};
+ghost use Rattle.hls_shrink.specs.Given.{has_no_input_port};
 ghost use Rattle.certificates.specs.View.{node_of};
 ghost use Rattle.command_answers.specs.Words.{word_of};
 ghost use Rattle.binding_laws.specs.Bindings.{IsBindingOf};
 ghost use Rattle.unit_counts.specs.Counts.{units_in};
-ghost use Rattle.command_answers.specs.declared.answer.Answer.TheVariants.{Text};
-ghost use Rattle.command_answers.specs.Lines.{HasLines};
 ghost use Rattle.command_answers.specs.Texts.{SpellsMachine};
 ghost use Rattle.command_answers.specs.Unread.{IsUnread};
 ghost use Rattle.command_answers.specs.Refusals.{RefusesMachine, RefusesCertificate, SpellsCertificate};
 ghost use Rattle.command_answers.specs.InputFiles.{signatures, RefusesInputs, SpellsInputs};
-ghost use Rattle.command_answers.specs.Programs.{HasCompiledText, RefusesProgram};
+ghost use Rattle.command_answers.specs.Programs.{IsOfProgramIn, RefusesProgram};
 ghost use Rattle.command_answers.specs.Schedules.{SpellUnits, RefusesUnits};
 ghost use Rattle.command_answers.specs.Bindings.{SpellsBinding, RefusesBinding};
 ghost use Rattle.command_answers.specs.Refusing.{WhereAnswered, IsLoaded};
@@ -40,6 +39,7 @@ use fs_model::limits::TEXT_LIMIT;
 use fs_pair::positions::Pairing;
 use fs_runs::inputs::Inputs;
 use hls_bind::Binding;
+use hls_shrink::laws::no_input_of_a_text_is_a_port;
 use std::alloc::Global;
 use unit_counts::Units;
 
@@ -88,10 +88,12 @@ pub fn load_machine<F: Files>(
     files: &mut F,
 ) -> Result<Machine, Refused>
     ensures spells { IfOk result (λ m. MayHold ((F.told files.old).holds (word_of (Some (asked ask.now)) file)) (SpellsMachine m)) }
+    ensures ports { IfOk result (λ m. IsTrue (has_no_input_port m)) }
     ensures refused { IfErr result (WhereAnswered (Gives (call (Some (asked ask.now)) (F.told files.old) (F.told files.new)) file (RefusesMachine file))) }
     ensures only_read { OnlyRead (F.told files.old) (F.told files.new) }
 {
     let Loaded { machine, .. } = load(alloc, file, ask, files)?;
+    no_input_of_a_text_is_a_port();
     Ok(machine)
 }
 
@@ -139,7 +141,7 @@ pub fn load_compiled<F: Files>(
     ask: &Ask,
     files: &mut F,
 ) -> Result<Answer, Refused>
-    ensures compiled { IfOk result (HasLines (λ text. MayHold ((F.told files.old).holds (word_of (Some (asked ask.now)) file)) (HasCompiledText text)) Text) }
+    ensures compiled { IfOk result (λ answer. MayHold ((F.told files.old).holds (word_of (Some (asked ask.now)) file)) (λ bytes. IsOfProgramIn bytes answer)) }
     ensures refused { IfErr result (WhereAnswered (Gives (call (Some (asked ask.now)) (F.told files.old) (F.told files.new)) file (RefusesProgram file))) }
     ensures only_read { OnlyRead (F.told files.old) (F.told files.new) }
 {
