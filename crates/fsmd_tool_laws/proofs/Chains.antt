@@ -30,9 +30,9 @@ judged : (w : ReadInOneWay) → (o : Option Asked) (link : ℕ) (last : Fsmd) (P
     → IsCorrectFrom (OpensLinkWith o link last P) file g x → IsCorrectFrom (Judges o link last next nodes (P next)) (file + 1 + 1) g x
 judged w o link last P g file x next nodes k p =
     let behind : IsCorrectFrom (BehindMachine o link last P next) (file + 1) g x =
-        opened Fsmd (λ f c. AtLink o link (RefusesMachine f c)) SpellsMachine (at_link o link Fsmd RefusesMachine SpellsMachine machine_opens) (BehindMachine o link last P) g file next x k.machine p in
+    opened Fsmd (λ f c. AtLink o link (RefusesMachine f c)) SpellsMachine (at_link o link Fsmd RefusesMachine SpellsMachine machine_opens) (BehindMachine o link last P) g file next x k.machine p in
     let pair : IsCorrectFrom (BehindPair o link last next P) (file + 1) g x =
-        alike last next (AtLink o link (RefusesPair last next)) (BehindPair o link last next P) (file + 1) g x (λ y q i. other_or_alike last next q.stop q.meets i) k.alike behind in
+    alike last next (AtLink o link (RefusesPair last next)) (BehindPair o link last next P) (file + 1) g x (λ y q i. other_or_alike last next q.stop q.meets i) k.alike behind in
     opened (List (Node Fact)) (λ f c. AtLink o link (RefusesCertificate last next f c)) (SpellsCertificate last next)
     (at_link o link (List (Node Fact)) (RefusesCertificate last next) (SpellsCertificate last next) (certificate_opens w last next)) (BehindCertificate o link last next P) g (file + 1) nodes x k.certificate pair
 
@@ -132,5 +132,5 @@ pub chain_stopped : (w : ReadInOneWay) → (g : Call) (x : Answer) (words : List
     → AreKnownToHold g 1 held first last → SpellLink g (2 * held + 1) last next nodes → verdict_on last next nodes ≢ Yes → IsCorrectAnswer g x → AtLink g.asked (held + 1) (IsJudged last next nodes) x
 chain_stopped w g x words held first last next nodes e below k l link stops p =
     let stopped : AtLink (Some (Chain words)) (0 + held + 1) (IsJudged last next nodes) x =
-        one_fails w (Some (Chain words)) g x first last next nodes (2 * held + 1) link stops 0 held (links_of words) 1 first below (odd_file held) l (begun words g x first e k p) in
+    one_fails w (Some (Chain words)) g x first last next nodes (2 * held + 1) link stops 0 held (links_of words) 1 first below (odd_file held) l (begun words g x first e k p) in
     subst (λ o. AtLink o (held + 1) (IsJudged last next nodes) x) (sym e) (subst (λ n. AtLink (Some (Chain words)) (n + 1) (IsJudged last next nodes) x) (from_zero held) stopped)

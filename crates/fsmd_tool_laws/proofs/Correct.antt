@@ -57,9 +57,10 @@ first_below file n = omega arith
 agree_from : (g : Call) (file : ℕ) (r s : Reading) → MayRead g file r → MayRead g file s → ((k : ℕ) → k < file + length r → k < file + length s → IsSettled g k) → Agree r s
 agree_from g file [] s m n h = tt
 agree_from g file (c ∷ r) [] m n h = tt
-agree_from g file (c ∷ r) (d ∷ s) m n h =
-    (settled_same (held g (operand file)) (FailedToRead g (operand file)) c d (h file (first_below file (length r)) (first_below file (length s))) m.0 n.0,
-    agree_from g (file + 1) r s m.1 n.1 (λ k a b. h k (below k file (length r) a) (below k file (length s) b)))
+agree_from g file (c ∷ r) (d ∷ s) m n h = (
+  settled_same (held g (operand file)) (FailedToRead g (operand file)) c d (h file (first_below file (length r)) (first_below file (length s))) m.0 n.0,
+  agree_from g (file + 1) r s m.1 n.1 (λ k a b. h k (below k file (length r) a) (below k file (length s) b)),
+)
 
 pub below_sum : (k n : ℕ) → k < 0 + n → k < n
 below_sum k n h = omega arith

@@ -80,7 +80,7 @@ alike a b R P file g x apart i p = record { reading = p.reading; may_be_read = p
 pub paired : (P : Fsmd → Fsmd → Rule) (g : Call) (a b : Fsmd) (x : Answer) → SpellPair g a b → IsCorrectFrom (OpensPair P) 0 g x → IsCorrectFrom (P a b) 2 g x
 paired P g a b x k p =
     let left : IsCorrectFrom (OpensMachine (λ n. Pairs a n (RefusesPair a n) (P a n))) 1 g x =
-        opened Fsmd RefusesMachine SpellsMachine machine_opens (λ m. OpensMachine (λ n. Pairs m n (RefusesPair m n) (P m n))) g 0 a x k.left p in
+    opened Fsmd RefusesMachine SpellsMachine machine_opens (λ m. OpensMachine (λ n. Pairs m n (RefusesPair m n) (P m n))) g 0 a x k.left p in
     let right : IsCorrectFrom (Pairs a b (RefusesPair a b) (P a b)) 2 g x =
-        opened Fsmd RefusesMachine SpellsMachine machine_opens (λ n. Pairs a n (RefusesPair a n) (P a n)) g 1 b x k.right left in
+    opened Fsmd RefusesMachine SpellsMachine machine_opens (λ n. Pairs a n (RefusesPair a n) (P a n)) g 1 b x k.right left in
     alike a b (RefusesPair a b) (P a b) 2 g x (other_or_alike a b) k.alike right

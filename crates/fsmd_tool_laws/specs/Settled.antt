@@ -92,4 +92,5 @@ pub record IsRefused (g : Call) (file : ℕ) : Type 0 where
 pub record AreSettledUpToRefused (g : Call) : Type 0 where
   pub count : ℕ
   pub settled : (file : ℕ) → file < count → IsSettled g file
-  pub none_behind : (r : Reading) (answer : Answer) → Agree r (read_from g 0 count) → Follows g.asked r answer → length r ≤ count
+  pub none_behind : (r : Reading) (answer : Answer) → Agree r (read_from g 0 count) → Follows g.asked r answer
+      → length r ≤ count

@@ -62,4 +62,4 @@ pub returns-clause-stopped : goal.returns-clause-stopped
 returns-clause-stopped c =
     let w : ReadInOneWay = record { same = c.certificates_are_read_in_one_way.ensures.same; taken = c.certificates_are_read_in_one_way.ensures.taken; texts = c.texts_are_read.ensures } in
     λ g p words held first last next nodes e below k l link stops n o.
-        ends_by (AtLink g.asked (held + 1) (IsJudged last next nodes)) g p n (λ x h. chain_stopped w g x words held first last next nodes e below k l link stops h) o
+    ends_by (AtLink g.asked (held + 1) (IsJudged last next nodes)) g p n (λ x h. chain_stopped w g x words held first last next nodes e below k l link stops h) o
