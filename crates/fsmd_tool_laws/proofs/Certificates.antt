@@ -35,6 +35,11 @@ pub record ReadInOneWay : Type 0 where
   pub taken : (a b : Fsmd) → (bytes : List ℕ) → (ns : List (Node Fact)) → (e : CertError) → SpellsNodes a b bytes ns → IsRefused a b bytes e → e ≡ NoMemory
   pub texts : (find : Find) → AreRead find (texts_by find)
 
+pub in_one_way : ((a b : Fsmd) → (bytes : List ℕ) → (ns ms : List (Node Fact)) → SpellsNodes a b bytes ns → SpellsNodes a b bytes ms → ns ≡ ms)
+    → ((a b : Fsmd) → (bytes : List ℕ) → (ns : List (Node Fact)) → (e : CertError) → SpellsNodes a b bytes ns → IsRefused a b bytes e → e ≡ NoMemory)
+    → ((find : Find) → AreRead find (texts_by find)) → ReadInOneWay
+in_one_way same taken texts = record { same = same; taken = taken; texts = texts }
+
 -- ---- why bytes are refused is one
 
 -- on which ground bytes are refused
@@ -63,7 +68,8 @@ shaped : (bytes : List ℕ) (d : Data) → HasOtherShape bytes → IsJson bytes 
 shaped bytes d p q e = let f : is_file p.value ≡ true = ap is_file (one_value bytes p.value d p.json q) ∙ e in let g : true ≡ false = sym f ∙ p.shape in cc
 
 not_many : (bytes : List ℕ) (d : Data) → HasTooMany bytes → IsJson bytes d → has_too_many d ≡ false → ⊥
-not_many bytes d p q e = let f : has_too_many p.value ≡ false = ap has_too_many (one_value bytes p.value d p.json q) ∙ e in let g : true ≡ false = sym p.many ∙ f in cc
+not_many bytes d p q e =
+    let f : has_too_many p.value ≡ false = ap has_too_many (one_value bytes p.value d p.json q) ∙ e in let g : true ≡ false = sym p.many ∙ f in cc
 
 abbrev find_for : (a b : Fsmd) → Data → Find
 find_for a b d = find_in (place_named a b (positions a b)) (positions a b) (format_in d)
@@ -99,27 +105,34 @@ ground_once w a b bytes e f (OfNodes p) (OfNodes q) = one_break w a b bytes e f 
 pub cert_fault_once : (w : ReadInOneWay) → (a b : Fsmd) (bytes : List ℕ) (e f : CertError) → HasCertFault a b e bytes → HasCertFault a b f bytes → e ≡ f
 cert_fault_once w a b bytes e f p q = ground_once w a b bytes e f (ground a b bytes e p.told p.refused) (ground a b bytes f q.told q.refused)
 
-pub certificate_once : (w : ReadInOneWay) → (a b : Fsmd) (bytes : List ℕ) (n k : List (Node Fact)) → SpellsCertificate a b n bytes → SpellsCertificate a b k bytes → n ≡ k
+pub certificate_once : (w : ReadInOneWay) → (a b : Fsmd) (bytes : List ℕ) (n k : List (Node Fact)) → SpellsCertificate a b n bytes
+    → SpellsCertificate a b k bytes → n ≡ k
 certificate_once w a b bytes n k p q = w.same a b bytes n k p.spells q.spells
 
-pub spells_no_cert_fault : (w : ReadInOneWay) → (a b : Fsmd) (bytes : List ℕ) (n : List (Node Fact)) (e : CertError) → SpellsCertificate a b n bytes → HasCertFault a b e bytes → ⊥
+pub spells_no_cert_fault : (w : ReadInOneWay) → (a b : Fsmd) (bytes : List ℕ) (n : List (Node Fact)) (e : CertError) → SpellsCertificate a b n bytes
+    → HasCertFault a b e bytes → ⊥
 spells_no_cert_fault w a b bytes n e p q = q.told (w.taken a b bytes n e p.spells q.refused)
 
 -- ---- refusals
 
-fault_read : (a b : Fsmd) (file : Operand) (c : Content) (e : CertError) (x : Answer) → OfBytes c (HasCertFault a b e) → IsUnread most_certificate_bytes file c x → ⊥
+fault_read : (a b : Fsmd) (file : Operand) (c : Content) (e : CertError) (x : Answer) → OfBytes c (HasCertFault a b e)
+    → IsUnread most_certificate_bytes file c x → ⊥
 fault_read a b file c e x t u = unread_or most_certificate_bytes file c (HasCertFault a b e) x (λ v p l. few_not_many _ most_certificate_bytes p.few l) t u
 
-refused_once : (w : ReadInOneWay) → (a b : Fsmd) (file : Operand) (c : Content) (x y : Answer) → RefusesCertificate a b file c x → RefusesCertificate a b file c y → x ≡ y
+refused_once : (w : ReadInOneWay) → (a b : Fsmd) (file : Operand) (c : Content) (x y : Answer) → RefusesCertificate a b file c x
+    → RefusesCertificate a b file c y → x ≡ y
 refused_once w a b file c x y (UnreadCertificate u) (UnreadCertificate v) = unread_once most_certificate_bytes file c x y u v
 refused_once w a b file c x y (UnreadCertificate u) (ByCertificate e t h) = absurd (fault_read a b file c e x t u)
 refused_once w a b file c x y (ByCertificate e t h) (UnreadCertificate u) = absurd (fault_read a b file c e y t u)
 refused_once w a b file c x y (ByCertificate e t h) (ByCertificate f s k) =
     h ∙ ap (CertRefused file) (of_both c (HasCertFault a b e) (HasCertFault a b f) (e ≡ f) (λ v p q. cert_fault_once w a b v e f p q) t s) ∙ sym k
 
-spelled_or_refused : (w : ReadInOneWay) → (a b : Fsmd) (file : Operand) (c : Content) (n : List (Node Fact)) (x : Answer) → OfBytes c (SpellsCertificate a b n) → RefusesCertificate a b file c x → ⊥
-spelled_or_refused w a b file c n x s (UnreadCertificate u) = unread_or most_certificate_bytes file c (SpellsCertificate a b n) x (λ v p l. few_not_many _ most_certificate_bytes p.few l) s u
-spelled_or_refused w a b file c n x s (ByCertificate e t h) = of_both c (SpellsCertificate a b n) (HasCertFault a b e) ⊥ (λ v p q. spells_no_cert_fault w a b v n e p q) s t
+spelled_or_refused : (w : ReadInOneWay) → (a b : Fsmd) (file : Operand) (c : Content) (n : List (Node Fact)) (x : Answer) → OfBytes c (SpellsCertificate a b n)
+    → RefusesCertificate a b file c x → ⊥
+spelled_or_refused w a b file c n x s (UnreadCertificate u) =
+    unread_or most_certificate_bytes file c (SpellsCertificate a b n) x (λ v p l. few_not_many _ most_certificate_bytes p.few l) s u
+spelled_or_refused w a b file c n x s (ByCertificate e t h) =
+    of_both c (SpellsCertificate a b n) (HasCertFault a b e) ⊥ (λ v p q. spells_no_cert_fault w a b v n e p q) s t
 
 -- the file of two machines' certificate is one thing
 pub certificate_opens : (w : ReadInOneWay) → (a b : Fsmd) → OpensInOneWay (List (Node Fact)) (RefusesCertificate a b) (SpellsCertificate a b)

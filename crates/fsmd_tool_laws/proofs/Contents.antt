@@ -24,5 +24,6 @@ pub record OpensInOneWay (T : Type 0) (R : Operand → Content → Answer → Ty
   pub not_both : (file : Operand) (c : Content) (v : T) (x : Answer) → OfBytes c (S v) → R file c x → ⊥
 
 -- a file spells one value
-pub one_spelled : (T : Type 0) (R : Operand → Content → Answer → Type 0) (S : T → List ℕ → Type 0) → OpensInOneWay T R S → (c : Content) (v w : T) → OfBytes c (S v) → OfBytes c (S w) → v ≡ w
+pub one_spelled : (T : Type 0) (R : Operand → Content → Answer → Type 0) (S : T → List ℕ → Type 0) → OpensInOneWay T R S → (c : Content) (v w : T)
+    → OfBytes c (S v) → OfBytes c (S w) → v ≡ w
 one_spelled T R S o c v w p q = of_both c (S v) (S w) (v ≡ w) (λ b s t. o.one_value b v w s t) p q

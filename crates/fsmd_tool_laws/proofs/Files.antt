@@ -21,7 +21,8 @@ unread_once limit file c x y (Long l e) (Failed v h) = absurd (unreadable_bytes 
 unread_once limit file c x y (Long l e) (Long k h) = e ∙ sym h
 
 -- bytes that are not too long were read
-pub unread_or : (limit : ℕ) (file : Operand) (c : Content) (P : List ℕ → Type 0) (x : Answer) → ((b : List ℕ) → P b → IsTooLong limit b → ⊥) → OfBytes c P → IsUnread limit file c x → ⊥
+pub unread_or : (limit : ℕ) (file : Operand) (c : Content) (P : List ℕ → Type 0) (x : Answer) → ((b : List ℕ) → P b → IsTooLong limit b → ⊥) → OfBytes c P
+    → IsUnread limit file c x → ⊥
 unread_or limit file c P x f p (Failed u e) = unreadable_bytes c P u p
 unread_or limit file c P x f p (Long l e) = of_both c P (IsTooLong limit) ⊥ f p l
 
@@ -30,11 +31,13 @@ machine_once file c x y (Unread u) (Unread v) = unread_once most_text_bytes file
 machine_once file c x y (Unread u) (ByText f t e) = absurd (unread_or most_text_bytes file c (HasTextFault f) x (λ b p l. long_no_text_fault b f p l) t u)
 machine_once file c x y (Unread u) (ByRule f t e) = absurd (unread_or most_text_bytes file c (HasCheckFault f) x (λ b p l. long_no_check_fault b f p l) t u)
 machine_once file c x y (ByText f t e) (Unread u) = absurd (unread_or most_text_bytes file c (HasTextFault f) y (λ b p l. long_no_text_fault b f p l) t u)
-machine_once file c x y (ByText f t e) (ByText g s h) = e ∙ ap (λ i. TextRefused file i) (of_both c (HasTextFault f) (HasTextFault g) (f ≡ g) (λ b p q. text_fault_once b f g p q) t s) ∙ sym h
+machine_once file c x y (ByText f t e) (ByText g s h) =
+    e ∙ ap (λ i. TextRefused file i) (of_both c (HasTextFault f) (HasTextFault g) (f ≡ g) (λ b p q. text_fault_once b f g p q) t s) ∙ sym h
 machine_once file c x y (ByText f t e) (ByRule g s h) = absurd (of_both c (HasTextFault f) (HasCheckFault g) ⊥ (λ b p q. text_or_check b f g p q) t s)
 machine_once file c x y (ByRule f t e) (Unread u) = absurd (unread_or most_text_bytes file c (HasCheckFault f) y (λ b p l. long_no_check_fault b f p l) t u)
 machine_once file c x y (ByRule f t e) (ByText g s h) = absurd (of_both c (HasTextFault g) (HasCheckFault f) ⊥ (λ b p q. text_or_check b g f p q) s t)
-machine_once file c x y (ByRule f t e) (ByRule g s h) = e ∙ ap (λ i. CheckRefused file i) (of_both c (HasCheckFault f) (HasCheckFault g) (f ≡ g) (λ b p q. check_fault_once b f g p q) t s) ∙ sym h
+machine_once file c x y (ByRule f t e) (ByRule g s h) =
+    e ∙ ap (λ i. CheckRefused file i) (of_both c (HasCheckFault f) (HasCheckFault g) (f ≡ g) (λ b p q. check_fault_once b f g p q) t s) ∙ sym h
 
 machine_or_refused : (file : Operand) (c : Content) (m : Fsmd) (x : Answer) → OfBytes c (SpellsMachine m) → RefusesMachine file c x → ⊥
 machine_or_refused file c m x s (Unread u) = unread_or most_text_bytes file c (SpellsMachine m) x (λ b p l. long_spells_none b m p l) s u

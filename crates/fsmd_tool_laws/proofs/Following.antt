@@ -80,13 +80,16 @@ ends_by Say P once file [] [] x y a p q = (refl, once x y p q)
 ends_by Say P once file [] (d ∷ s) x y a p q = absurd q
 ends_by Say P once file (c ∷ r) s x y a p q = absurd p
 
-module _ (T : Type 0) (R : Operand → Content → Answer → Type 0) (S : T → List ℕ → Type 0) (o : OpensInOneWay T R S) (Say : Said) (same : IsSaidOfOne Say) (P : T → Rule)
+module _ (T : Type 0) (R : Operand → Content → Answer → Type 0) (S : T → List ℕ → Type 0) (o : OpensInOneWay T R S) (Say : Said) (same : IsSaidOfOne Say)
+    (P : T → Rule)
     (once : (v : T) (c : Content) → OfBytes c (S v) → IsOneBy (λ s. Say (c ∷ s)) (P v)) where
-  opened_by : (file : ℕ) (c : Content) (r s : Reading) (x y : Answer) → Agree r s → OpensWith T R S P file c r x → OpensWith T R S P file c s y → (r ≡ s) × Say (c ∷ s) x y
+  opened_by : (file : ℕ) (c : Content) (r s : Reading) (x y : Answer) → Agree r s → OpensWith T R S P file c r x → OpensWith T R S P file c s y
+      → (r ≡ s) × Say (c ∷ s) x y
   opened_by file c r s x y a (Refused p e) (Refused q h) = (e ∙ sym h, same (c ∷ s) x y (o.one_refusal (operand file) c x y p q))
   opened_by file c r s x y a (Refused p e) (Spelled w k q) = absurd (o.not_both (operand file) c w x k p)
   opened_by file c r s x y a (Spelled v l p) (Refused q h) = absurd (o.not_both (operand file) c v y l q)
-  opened_by file c r s x y a (Spelled v l p) (Spelled w k q) = once w c k (file + 1) r s x y a (subst (λ u. P u (file + 1) r x) (one_spelled T R S o c v w l k) p) q
+  opened_by file c r s x y a (Spelled v l p) (Spelled w k q) =
+      once w c k (file + 1) r s x y a (subst (λ u. P u (file + 1) r x) (one_spelled T R S o c v w l k) p) q
 
   opens_by : IsOneBy Say (Opens T R S P)
   opens_by file [] s x y a p q = absurd p
@@ -95,7 +98,8 @@ module _ (T : Type 0) (R : Operand → Content → Answer → Type 0) (S : T →
       let t = opened_by file d r s x y a.1 (subst (λ k. OpensWith T R S P file k r x) a.0 p) q in
       (ap (λ k. k ∷ r) a.0 ∙ ap (λ u. d ∷ u) t.0, t.1)
 
-pairs_by : (Say : Said) → IsSaidOfOne Say → (a b : Fsmd) (R : Answer → Type 0) (P : Rule) → ((x y : Answer) → R x → R y → x ≡ y) → ((x : Answer) → R x → interface_fault a b ≡ None → ⊥) → IsOneBy Say P → IsOneBy Say (Pairs a b R P)
+pairs_by : (Say : Said) → IsSaidOfOne Say → (a b : Fsmd) (R : Answer → Type 0) (P : Rule) → ((x y : Answer) → R x → R y → x ≡ y)
+    → ((x : Answer) → R x → interface_fault a b ≡ None → ⊥) → IsOneBy Say P → IsOneBy Say (Pairs a b R P)
 pairs_by Say same a b R P once apart one file r s x y g (Other p e) (Other q h) = (e ∙ sym h, same s x y (once x y p q))
 pairs_by Say same a b R P once apart one file r s x y g (Other p e) (Alike i q) = absurd (apart x p i)
 pairs_by Say same a b R P once apart one file r s x y g (Alike i p) (Other q h) = absurd (apart y q i)
@@ -112,7 +116,8 @@ other_or_alike a b x l i = some_none l.lines (interface_fault a b) l.holds i
 pub ends : (P : Answer → Type 0) → ((x y : Answer) → P x → P y → x ≡ y) → IsOne (Ends P)
 ends P once = ends_by AreEqual P once
 
-pub opens : (T : Type 0) (R : Operand → Content → Answer → Type 0) (S : T → List ℕ → Type 0) → OpensInOneWay T R S → (P : T → Rule) → ((v : T) → IsOne (P v)) → IsOne (Opens T R S P)
+pub opens : (T : Type 0) (R : Operand → Content → Answer → Type 0) (S : T → List ℕ → Type 0) → OpensInOneWay T R S → (P : T → Rule) → ((v : T) → IsOne (P v))
+    → IsOne (Opens T R S P)
 opens T R S o P one = opens_by T R S o AreEqual (λ s x y e. e) P (λ v c l. one v)
 
 -- what follows behind two machines with the same inputs and outputs
@@ -130,11 +135,13 @@ judged_once a b nodes x y p q = p.is ∙ sym q.is
 
 -- ---- chains
 
-at_link_once : (o : Option Asked) (link : ℕ) (P : Answer → Type 0) → ((x y : Answer) → P x → P y → x ≡ y) → (x y : Answer) → AtLink o link P x → AtLink o link P y → x ≡ y
+at_link_once : (o : Option Asked) (link : ℕ) (P : Answer → Type 0) → ((x y : Answer) → P x → P y → x ≡ y) → (x y : Answer) → AtLink o link P x
+    → AtLink o link P y → x ≡ y
 at_link_once o link P once x y p q = p.is ∙ ap (λ stop. Link (status_of stop) (link_lines o link stop)) (once p.stop q.stop p.meets q.meets) ∙ sym q.is
 
 -- what is one thing is so where its refusals are told as those of a link
-pub at_link : (o : Option Asked) (link : ℕ) (T : Type 0) (R : Operand → Content → Answer → Type 0) (S : T → List ℕ → Type 0) → OpensInOneWay T R S → OpensInOneWay T (λ f c. AtLink o link (R f c)) S
+pub at_link : (o : Option Asked) (link : ℕ) (T : Type 0) (R : Operand → Content → Answer → Type 0) (S : T → List ℕ → Type 0) → OpensInOneWay T R S
+    → OpensInOneWay T (λ f c. AtLink o link (R f c)) S
 at_link o link T R S i = record {
   one_refusal = λ f c x y p q. at_link_once o link (R f c) (i.one_refusal f c) x y p q;
   one_value = i.one_value;
@@ -152,7 +159,8 @@ abbrev pub BehindCertificate : Option Asked → (link : ℕ) → (last next : Fs
 BehindCertificate o link last next P nodes = Judges o link last next nodes (P next)
 
 abbrev pub BehindPair : Option Asked → (link : ℕ) → (last next : Fsmd) → (P : Fsmd → Rule) → Rule
-BehindPair o link last next P = Opens (List (Node Fact)) (λ f c. AtLink o link (RefusesCertificate last next f c)) (SpellsCertificate last next) (BehindCertificate o link last next P)
+BehindPair o link last next P =
+    Opens (List (Node Fact)) (λ f c. AtLink o link (RefusesCertificate last next f c)) (SpellsCertificate last next) (BehindCertificate o link last next P)
 
 abbrev pub BehindMachine : Option Asked → (link : ℕ) → (last : Fsmd) → (P : Fsmd → Rule) → Fsmd → Rule
 BehindMachine o link last P next = Pairs last next (AtLink o link (RefusesPair last next)) (BehindPair o link last next P)
@@ -160,13 +168,16 @@ BehindMachine o link last P next = Pairs last next (AtLink o link (RefusesPair l
 abbrev pub OpensLinkWith : Option Asked → (link : ℕ) → (last : Fsmd) → (P : Fsmd → Rule) → Rule
 OpensLinkWith o link last P = Opens Fsmd (λ f c. AtLink o link (RefusesMachine f c)) SpellsMachine (BehindMachine o link last P)
 
-link_one : (w : ReadInOneWay) → (o : Option Asked) (link : ℕ) (last : Fsmd) (P : Fsmd → Rule) → ((next : Fsmd) → IsOne (P next)) → IsOne (OpensLinkWith o link last P)
+link_one : (w : ReadInOneWay) → (o : Option Asked) (link : ℕ) (last : Fsmd) (P : Fsmd → Rule) → ((next : Fsmd) → IsOne (P next))
+    → IsOne (OpensLinkWith o link last P)
 link_one w o link last P one =
-    opens Fsmd (λ f c. AtLink o link (RefusesMachine f c)) SpellsMachine (at_link o link Fsmd RefusesMachine SpellsMachine machine_opens) (BehindMachine o link last P) (λ next.
+    opens Fsmd (λ f c. AtLink o link (RefusesMachine f c)) SpellsMachine (at_link o link Fsmd RefusesMachine SpellsMachine machine_opens)
+    (BehindMachine o link last P) (λ next.
     pairs_by AreEqual (λ s x y e. e) last next (AtLink o link (RefusesPair last next)) (BehindPair o link last next P)
     (at_link_once o link (RefusesPair last next) (interfaces_once last next)) (λ x p i. other_or_alike last next p.stop p.meets i)
     (opens (List (Node Fact)) (λ f c. AtLink o link (RefusesCertificate last next f c)) (SpellsCertificate last next)
-    (at_link o link (List (Node Fact)) (RefusesCertificate last next) (SpellsCertificate last next) (certificate_opens w last next)) (BehindCertificate o link last next P) (λ nodes.
+    (at_link o link (List (Node Fact)) (RefusesCertificate last next) (SpellsCertificate last next) (certificate_opens w last next))
+    (BehindCertificate o link last next P) (λ nodes.
     judges o link last next nodes (P next) (one next))))
 
 links_one : (w : ReadInOneWay) → (o : Option Asked) (first last : Fsmd) (held left : ℕ) → IsOne (OpensLinks o first last held left)
@@ -176,14 +187,16 @@ links_one w o first last held (suc left) file r s x y a p q =
 
 -- ---- by commands
 
-check : (left right : List ℕ) (cert : Option (List ℕ)) (steps : ℕ) → IsOneBy (SaySame (Some (Check left right cert steps))) (FollowsFrom (Some (Check left right cert steps)))
+check : (left right : List ℕ) (cert : Option (List ℕ)) (steps : ℕ)
+    → IsOneBy (SaySame (Some (Check left right cert steps))) (FollowsFrom (Some (Check left right cert steps)))
 check left right cert steps =
     let Say : Said = SaySame (Some (Check left right cert steps)) in
     let P : Fsmd → Fsmd → Rule = λ a b. Ends (IsOfPair steps (is_some cert) a b) in
     opens_by Fsmd RefusesMachine SpellsMachine machine_opens Say (λ s x y e. One e) (λ a. OpensMachine (λ b. Pairs a b (RefusesPair a b) (P a b))) (λ a c l.
     opens_by Fsmd RefusesMachine SpellsMachine machine_opens (λ s. Say (c ∷ s)) (λ s x y e. One e) (λ b. Pairs a b (RefusesPair a b) (P a b)) (λ b d k.
     pairs_by (λ s. Say (c ∷ d ∷ s)) (λ s x y e. One e) a b (RefusesPair a b) (P a b) (interfaces_once a b) (other_or_alike a b)
-    (ends_by (λ s. Say (c ∷ d ∷ s)) (IsOfPair steps (is_some cert) a b) (λ x y p q. OfPair a b (OfFiles refl (l, k)) (pair_once steps (is_some cert) a b x y p q)))))
+    (ends_by (λ s. Say (c ∷ d ∷ s)) (IsOfPair steps (is_some cert) a b)
+    (λ x y p q. OfPair a b (OfFiles refl (l, k)) (pair_once steps (is_some cert) a b x y p q)))))
 
 verify : (w : ReadInOneWay) → IsOne (OpensPair (λ a b. OpensCertificate a b (λ nodes. Ends (IsJudged a b nodes))))
 verify w =
@@ -192,7 +205,9 @@ verify w =
     ends (IsJudged a b nodes) (judged_once a b nodes)))
 
 run : (steps : ℕ) → IsOne (OpensMachine (λ m. OpensInputs m (λ ins. Ends (IsOfRun steps m ins))))
-run steps = opens Fsmd RefusesMachine SpellsMachine machine_opens (λ m. OpensInputs m (λ ins. Ends (IsOfRun steps m ins))) (λ m. inputs m (IsOfRun steps m) (run_answer_once steps m))
+run steps =
+    opens Fsmd RefusesMachine SpellsMachine machine_opens (λ m. OpensInputs m (λ ins. Ends (IsOfRun steps m ins)))
+    (λ m. inputs m (IsOfRun steps m) (run_answer_once steps m))
 
 replay : (steps : ℕ) → IsOne (OpensPair (λ a b. OpensInputs a (λ ins. Ends (IsOfReplay steps a b ins))))
 replay steps = pair (λ a b. OpensInputs a (λ ins. Ends (IsOfReplay steps a b ins))) (λ a b. inputs a (IsOfReplay steps a b) (replay_answer_once steps a b))
@@ -201,10 +216,14 @@ shrink : (steps : ℕ) → IsOne (OpensPair (λ a b. OpensInputs a (λ ins. Ends
 shrink steps = pair (λ a b. OpensInputs a (λ ins. Ends (IsOfShrink steps a b ins))) (λ a b. inputs a (IsOfShrink steps a b) (shrink_answer_once steps a b))
 
 format : IsOne (Opens Source RefusesMachine SpellsParts (λ parts. Ends (λ x. x ≡ Text (canonical parts))))
-format = opens Source RefusesMachine SpellsParts parts_open (λ parts. Ends (λ x. x ≡ Text (canonical parts))) (λ parts. ends (λ x. x ≡ Text (canonical parts)) (λ x y p q. p ∙ sym q))
+format =
+    opens Source RefusesMachine SpellsParts parts_open (λ parts. Ends (λ x. x ≡ Text (canonical parts)))
+    (λ parts. ends (λ x. x ≡ Text (canonical parts)) (λ x y p q. p ∙ sym q))
 
 paths : IsOne (OpensMachine (λ m. Ends (λ x. x ≡ Text (paths_text m))))
-paths = opens Fsmd RefusesMachine SpellsMachine machine_opens (λ m. Ends (λ x. x ≡ Text (paths_text m))) (λ m. ends (λ x. x ≡ Text (paths_text m)) (λ x y p q. p ∙ sym q))
+paths =
+    opens Fsmd RefusesMachine SpellsMachine machine_opens (λ m. Ends (λ x. x ≡ Text (paths_text m)))
+    (λ m. ends (λ x. x ≡ Text (paths_text m)) (λ x y p q. p ∙ sym q))
 
 compile : IsOne (Opens Program RefusesProgram SpellsProgram (λ p. Ends (IsOfProgram p)))
 compile = opens Program RefusesProgram SpellsProgram program_opens (λ p. Ends (IsOfProgram p)) (λ p. ends (IsOfProgram p) (compiled_once p))
@@ -218,7 +237,8 @@ schedule =
 bind : IsOne (Opens Source RefusesMachine SpellsParts (λ parts. OpensBinding (machine_of parts) (λ b. Ends (IsOfBinding parts b))))
 bind =
     opens Source RefusesMachine SpellsParts parts_open (λ parts. OpensBinding (machine_of parts) (λ b. Ends (IsOfBinding parts b))) (λ parts.
-    opens Binding (RefusesBinding (machine_of parts)) (SpellsBinding (machine_of parts)) (binding_opens (machine_of parts)) (λ b. Ends (IsOfBinding parts b)) (λ b.
+    opens Binding (RefusesBinding (machine_of parts)) (SpellsBinding (machine_of parts)) (binding_opens (machine_of parts)) (λ b. Ends (IsOfBinding parts b))
+    (λ b.
     ends (IsOfBinding parts b) (binding_once parts b)))
 
 chain : (w : ReadInOneWay) → (o : Option Asked) (left : ℕ) → IsOne (OpensMachine (λ m. OpensLinks o m m 0 left))
@@ -228,18 +248,27 @@ chain w o left = opens Fsmd RefusesMachine SpellsMachine machine_opens (λ m. Op
 pub follows_one : (w : ReadInOneWay) → (o : Option Asked) → IsOneBy (SaySame o) (FollowsFrom o)
 follows_one w None = said_of_one (SaySame None) (Ends (λ x. x ≡ Usage)) (λ s x y e. One e) (ends (λ x. x ≡ Usage) (λ x y p q. p ∙ sym q))
 follows_one w (Some (Check left right cert steps)) = check left right cert steps
-follows_one w (Some (Verify left right cert)) = said_of_one (SaySame (Some (Verify left right cert))) (FollowsFrom (Some (Verify left right cert))) (λ s x y e. One e) (verify w)
-follows_one w (Some (Run machine ins steps)) = said_of_one (SaySame (Some (Run machine ins steps))) (FollowsFrom (Some (Run machine ins steps))) (λ s x y e. One e) (run steps)
-follows_one w (Some (Replay left right ins steps)) = said_of_one (SaySame (Some (Replay left right ins steps))) (FollowsFrom (Some (Replay left right ins steps))) (λ s x y e. One e) (replay steps)
+follows_one w (Some (Verify left right cert)) =
+    said_of_one (SaySame (Some (Verify left right cert))) (FollowsFrom (Some (Verify left right cert))) (λ s x y e. One e) (verify w)
+follows_one w (Some (Run machine ins steps)) =
+    said_of_one (SaySame (Some (Run machine ins steps))) (FollowsFrom (Some (Run machine ins steps))) (λ s x y e. One e) (run steps)
+follows_one w (Some (Replay left right ins steps)) =
+    said_of_one (SaySame (Some (Replay left right ins steps))) (FollowsFrom (Some (Replay left right ins steps))) (λ s x y e. One e) (replay steps)
 follows_one w (Some (Fmt machine)) = said_of_one (SaySame (Some (Fmt machine))) (FollowsFrom (Some (Fmt machine))) (λ s x y e. One e) format
 follows_one w (Some (Cuts machine)) = said_of_one (SaySame (Some (Cuts machine))) (FollowsFrom (Some (Cuts machine))) (λ s x y e. One e) paths
 follows_one w (Some (Generate loops)) =
-    ends_by (SaySame (Some (Generate loops))) (IsOfLoops loops) (λ x y p q. OfPair (left_of loops) (right_of loops) (OfLoops loops refl refl refl) (pair_once generated_steps false (left_of loops) (right_of loops) x y p q))
+    ends_by (SaySame (Some (Generate loops))) (IsOfLoops loops)
+    (λ x y p q. OfPair (left_of loops) (right_of loops) (OfLoops loops refl refl refl)
+    (pair_once generated_steps false (left_of loops) (right_of loops) x y p q))
 follows_one w (Some (Compile program)) = said_of_one (SaySame (Some (Compile program))) (FollowsFrom (Some (Compile program))) (λ s x y e. One e) compile
-follows_one w (Some (Schedule machine counts)) = said_of_one (SaySame (Some (Schedule machine counts))) (FollowsFrom (Some (Schedule machine counts))) (λ s x y e. One e) schedule
-follows_one w (Some (Bind machine binding)) = said_of_one (SaySame (Some (Bind machine binding))) (FollowsFrom (Some (Bind machine binding))) (λ s x y e. One e) bind
-follows_one w (Some (Shrink left right ins steps)) = said_of_one (SaySame (Some (Shrink left right ins steps))) (FollowsFrom (Some (Shrink left right ins steps))) (λ s x y e. One e) (shrink steps)
-follows_one w (Some (Chain files)) = said_of_one (SaySame (Some (Chain files))) (FollowsFrom (Some (Chain files))) (λ s x y e. One e) (chain w (Some (Chain files)) (links_of files))
+follows_one w (Some (Schedule machine counts)) =
+    said_of_one (SaySame (Some (Schedule machine counts))) (FollowsFrom (Some (Schedule machine counts))) (λ s x y e. One e) schedule
+follows_one w (Some (Bind machine binding)) =
+    said_of_one (SaySame (Some (Bind machine binding))) (FollowsFrom (Some (Bind machine binding))) (λ s x y e. One e) bind
+follows_one w (Some (Shrink left right ins steps)) =
+    said_of_one (SaySame (Some (Shrink left right ins steps))) (FollowsFrom (Some (Shrink left right ins steps))) (λ s x y e. One e) (shrink steps)
+follows_one w (Some (Chain files)) =
+    said_of_one (SaySame (Some (Chain files))) (FollowsFrom (Some (Chain files))) (λ s x y e. One e) (chain w (Some (Chain files)) (links_of files))
 
 -- ---- what compares no machines
 

@@ -29,7 +29,8 @@ faultless : (fs : List Signature) (d : Data) (ins : Inputs) (name : List ℕ) (f
 faultless fs d ins name f p e = some_none (name, f) (file_fault fs (as_object d)) e (ap (file_fault fs) p.object ∙ p.faultless)
 
 spelled_or_faulty : (fs : List Signature) (bytes : List ℕ) (ins : Inputs) (name : List ℕ) (f : Fault) → Spells fs bytes ins → IsFaulty fs bytes name f → ⊥
-spelled_or_faulty fs bytes ins name f p q = faultless fs q.value ins name f (subst (λ d. SpelledBy fs d ins) (one_value bytes p.value q.value p.json q.json) p.spelled) q.first
+spelled_or_faulty fs bytes ins name f p q =
+    faultless fs q.value ins name f (subst (λ d. SpelledBy fs d ins) (one_value bytes p.value q.value p.json q.json) p.spelled) q.first
 
 -- bytes are one thing as inputs of a machine
 inputs_are_one : (m : Fsmd) → AreOneThing Inputs (HasInputFault m) (SpellsInputs m)

@@ -41,9 +41,11 @@ known_settled g file P k = subst (λ h. Settles h (FailedToRead g (operand file)
 pub known_meets : (g : Call) (file : ℕ) (P : List ℕ → Type 0) → IsKnown g file P → OfBytes (read_of (held g (operand file))) P
 known_meets g file P k = subst (λ h. OfBytes (read_of h) P) (sym k.known) k.meet
 
-known_read : (g : Call) (file : ℕ) (P : List ℕ → Type 0) (c : Content) → IsKnown g file P → MayBeRead (held g (operand file)) (FailedToRead g (operand file)) c → OfBytes c P
+known_read : (g : Call) (file : ℕ) (P : List ℕ → Type 0) (c : Content) → IsKnown g file P → MayBeRead (held g (operand file)) (FailedToRead g (operand file)) c
+    → OfBytes c P
 known_read g file P c k m =
-    subst (λ d. OfBytes d P) (sym (settled_read (held g (operand file)) (FailedToRead g (operand file)) c (known_settled g file P k) m)) (known_meets g file P k)
+    subst (λ d. OfBytes d P) (sym (settled_read (held g (operand file)) (FailedToRead g (operand file)) c (known_settled g file P k) m))
+    (known_meets g file P k)
 
 -- ---- what follows, file by file
 
@@ -54,7 +56,8 @@ ended_of P file (c ∷ r) x p = absurd p
 pub ended : (P : Answer → Type 0) (file : ℕ) (g : Call) (x : Answer) → IsCorrectFrom (Ends P) file g x → P x
 ended P file g x p = ended_of P file p.reading x p.follows
 
-module _ (T : Type 0) (R : Operand → Content → Answer → Type 0) (S : T → List ℕ → Type 0) (o : OpensInOneWay T R S) (P : T → Rule) (g : Call) (file : ℕ) (v : T) (x : Answer) where
+module _ (T : Type 0) (R : Operand → Content → Answer → Type 0) (S : T → List ℕ → Type 0) (o : OpensInOneWay T R S) (P : T → Rule) (g : Call) (file : ℕ) (v : T)
+    (x : Answer) where
   spelled_of : (c : Content) (r : Reading) → OfBytes c (S v) → MayRead g (file + 1) r → OpensWith T R S P file c r x → IsCorrectFrom (P v) (file + 1) g x
   spelled_of c r s m (Refused p e) = absurd (o.not_both (operand file) c v x s p)
   spelled_of c r s m (Spelled w l p) = record { reading = r; may_be_read = m; follows = subst (λ u. P u (file + 1) r x) (one_spelled T R S o c w v l s) p }
@@ -67,12 +70,14 @@ module _ (T : Type 0) (R : Operand → Content → Answer → Type 0) (S : T →
   pub opened : IsKnown g file (S v) → IsCorrectFrom (Opens T R S P) file g x → IsCorrectFrom (P v) (file + 1) g x
   opened k p = opened_of p.reading k p.may_be_read p.follows
 
-alike_of : (a b : Fsmd) (R : Answer → Type 0) (P : Rule) (file : ℕ) (r : Reading) (x : Answer) → ((y : Answer) → R y → interface_fault a b ≡ None → ⊥) → interface_fault a b ≡ None → Pairs a b R P file r x → P file r x
+alike_of : (a b : Fsmd) (R : Answer → Type 0) (P : Rule) (file : ℕ) (r : Reading) (x : Answer) → ((y : Answer) → R y → interface_fault a b ≡ None → ⊥)
+    → interface_fault a b ≡ None → Pairs a b R P file r x → P file r x
 alike_of a b R P file r x apart i (Other p e) = absurd (apart x p i)
 alike_of a b R P file r x apart i (Alike j p) = p
 
 -- what follows from two machines with the same inputs and outputs
-pub alike : (a b : Fsmd) (R : Answer → Type 0) (P : Rule) (file : ℕ) (g : Call) (x : Answer) → ((y : Answer) → R y → interface_fault a b ≡ None → ⊥) → interface_fault a b ≡ None → IsCorrectFrom (Pairs a b R P) file g x
+pub alike : (a b : Fsmd) (R : Answer → Type 0) (P : Rule) (file : ℕ) (g : Call) (x : Answer) → ((y : Answer) → R y → interface_fault a b ≡ None → ⊥)
+    → interface_fault a b ≡ None → IsCorrectFrom (Pairs a b R P) file g x
     → IsCorrectFrom P file g x
 alike a b R P file g x apart i p = record { reading = p.reading; may_be_read = p.may_be_read; follows = alike_of a b R P file p.reading x apart i p.follows }
 

@@ -78,7 +78,8 @@ pair P n within =
 inputs : (m : Fsmd) (P : Inputs → Answer → Type 0) → IsWithin 1 (OpensInputs m (λ ins. Ends (P ins)))
 inputs m P = opens Inputs (RefusesInputs m) (SpellsInputs m) (λ ins. Ends (P ins)) 0 (λ ins. ends 0 (P ins))
 
-links : (o : Option Asked) (first last : Fsmd) (held : ℕ) (words : List (List ℕ)) → IsWithin (length (in_links words)) (OpensLinks o first last held (links_in words))
+links : (o : Option Asked) (first last : Fsmd) (held : ℕ) (words : List (List ℕ))
+    → IsWithin (length (in_links words)) (OpensLinks o first last held (links_in words))
 links o first last held [] file r x p = ends 0 (IsOfChain first last held) file r x p
 links o first last held (certificate ∷ []) file r x p = ends 1 (IsOfChain first last held) file r x p
 links o first last held (certificate ∷ machine ∷ words) file r x p =
@@ -86,7 +87,8 @@ links o first last held (certificate ∷ machine ∷ words) file r x p =
     let P : Fsmd → Rule = λ next. OpensLinks o first next (held + 1) (links_in words) in
     opens Fsmd (λ f c. AtLink o (held + 1) (RefusesMachine f c)) SpellsMachine (BehindMachine o (held + 1) last P) (suc n) (λ next.
     pairs last next (AtLink o (held + 1) (RefusesPair last next)) (BehindPair o (held + 1) last next P) (suc n)
-    (opens (List (Node Fact)) (λ f c. AtLink o (held + 1) (RefusesCertificate last next f c)) (SpellsCertificate last next) (BehindCertificate o (held + 1) last next P) n (λ nodes.
+    (opens (List (Node Fact)) (λ f c. AtLink o (held + 1) (RefusesCertificate last next f c)) (SpellsCertificate last next)
+    (BehindCertificate o (held + 1) last next P) n (λ nodes.
     judges o (held + 1) last next nodes (P next) n (links o first next (held + 1) words)))) file r x p
 
 chain : (o : Option Asked) (words : List (List ℕ)) → IsWithin (suc (length (in_links words))) (OpensMachine (λ m. OpensLinks o m m 0 (links_in words)))
@@ -98,10 +100,13 @@ named_only (Some (Check left right cert steps)) = pair (λ a b. Ends (IsOfPair s
 named_only (Some (Verify left right cert)) =
     pair (λ a b. OpensCertificate a b (λ nodes. Ends (IsJudged a b nodes))) 1 (λ a b.
     opens (List (Node Fact)) (RefusesCertificate a b) (SpellsCertificate a b) (λ nodes. Ends (IsJudged a b nodes)) 0 (λ nodes. ends 0 (IsJudged a b nodes)))
-named_only (Some (Run machine ins steps)) = opens Fsmd RefusesMachine SpellsMachine (λ m. OpensInputs m (λ i. Ends (IsOfRun steps m i))) 1 (λ m. inputs m (IsOfRun steps m))
+named_only (Some (Run machine ins steps)) =
+    opens Fsmd RefusesMachine SpellsMachine (λ m. OpensInputs m (λ i. Ends (IsOfRun steps m i))) 1 (λ m. inputs m (IsOfRun steps m))
 named_only (Some (Replay left right ins steps)) = pair (λ a b. OpensInputs a (λ i. Ends (IsOfReplay steps a b i))) 1 (λ a b. inputs a (IsOfReplay steps a b))
-named_only (Some (Fmt machine)) = opens Source RefusesMachine SpellsParts (λ parts. Ends (λ x. x ≡ Text (canonical parts))) 0 (λ parts. ends 0 (λ x. x ≡ Text (canonical parts)))
-named_only (Some (Cuts machine)) = opens Fsmd RefusesMachine SpellsMachine (λ m. Ends (λ x. x ≡ Text (paths_text m))) 0 (λ m. ends 0 (λ x. x ≡ Text (paths_text m)))
+named_only (Some (Fmt machine)) =
+    opens Source RefusesMachine SpellsParts (λ parts. Ends (λ x. x ≡ Text (canonical parts))) 0 (λ parts. ends 0 (λ x. x ≡ Text (canonical parts)))
+named_only (Some (Cuts machine)) =
+    opens Fsmd RefusesMachine SpellsMachine (λ m. Ends (λ x. x ≡ Text (paths_text m))) 0 (λ m. ends 0 (λ x. x ≡ Text (paths_text m)))
 named_only (Some (Generate loops)) = ends 0 (IsOfLoops loops)
 named_only (Some (Compile program)) = opens Program RefusesProgram SpellsProgram (λ p. Ends (IsOfProgram p)) 0 (λ p. ends 0 (IsOfProgram p))
 named_only (Some (Schedule machine counts)) =
@@ -109,7 +114,8 @@ named_only (Some (Schedule machine counts)) =
     opens Units RefusesUnits SpellUnits (λ units. Ends (IsOfSchedule parts units)) 0 (λ units. ends 0 (IsOfSchedule parts units)))
 named_only (Some (Bind machine binding)) =
     opens Source RefusesMachine SpellsParts (λ parts. OpensBinding (machine_of parts) (λ b. Ends (IsOfBinding parts b))) 1 (λ parts.
-    opens Binding (RefusesBinding (machine_of parts)) (SpellsBinding (machine_of parts)) (λ b. Ends (IsOfBinding parts b)) 0 (λ b. ends 0 (IsOfBinding parts b)))
+    opens Binding (RefusesBinding (machine_of parts)) (SpellsBinding (machine_of parts)) (λ b. Ends (IsOfBinding parts b)) 0
+    (λ b. ends 0 (IsOfBinding parts b)))
 named_only (Some (Shrink left right ins steps)) = pair (λ a b. OpensInputs a (λ i. Ends (IsOfShrink steps a b i))) 1 (λ a b. inputs a (IsOfShrink steps a b))
 named_only (Some (Chain [])) = opens Fsmd RefusesMachine SpellsMachine (λ m. OpensLinks (Some (Chain [])) m m 0 0) 0 (λ m. ends 0 (IsOfChain m m 0))
 named_only (Some (Chain (machine ∷ words))) = chain (Some (Chain (machine ∷ words))) words

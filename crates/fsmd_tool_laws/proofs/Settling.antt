@@ -40,21 +40,27 @@ use Rattle.fsmd_tool_laws.proofs.Correct.{below, first_below, below_sum, correct
 read_so : (g : Call) (file : ℕ) (r : Reading) (count : ℕ) → MayRead g file r → ((k : ℕ) → k < file + count → IsSettled g k) → Agree r (read_from g file count)
 read_so g file [] count m h = tt
 read_so g file (c ∷ r) zero m h = tt
-read_so g file (c ∷ r) (suc count) m h =
-    (settled_read (held g (operand file)) (FailedToRead g (operand file)) c (h file (first_below file count)) m.0, read_so g (file + 1) r count m.1 (λ k b. h k (below k file count b)))
+read_so g file (c ∷ r) (suc count) m h = (
+  settled_read (held g (operand file)) (FailedToRead g (operand file)) c (h file (first_below file count)) m.0,
+  read_so g (file + 1) r count m.1
+      (λ k b. h k (below k file count b)),
+)
 
 sooner : (k n m : ℕ) → k < n → n ≤ m → k < m
 sooner k n m a b = omega arith
 
 are_settled : (g : Call) (x y : Answer) → AreSettledUpToRefused g → (p : IsCorrectAnswer g x) (q : IsCorrectAnswer g y) → AreSettled g p.reading q.reading
 are_settled g x y u p q =
-    let few : length p.reading ≤ u.count = u.none_behind p.reading x (read_so g 0 p.reading u.count p.may_be_read (λ k b. u.settled k (below_sum k u.count b))) p.follows in
+    let few : length p.reading ≤ u.count = u.none_behind p.reading x (read_so g 0 p.reading u.count p.may_be_read (λ k b. u.settled k (below_sum k u.count b)))
+    p.follows in
     record { settled = λ file a b. u.settled file (sooner file (length p.reading) u.count a few) }
 
-pub settled_once : (w : ReadInOneWay) → (g : Call) (x y : Answer) → AreSettledUpToRefused g → (p : IsCorrectAnswer g x) (q : IsCorrectAnswer g y) → SaySame g.asked q.reading x y
+pub settled_once : (w : ReadInOneWay) → (g : Call) (x y : Answer) → AreSettledUpToRefused g → (p : IsCorrectAnswer g x) (q : IsCorrectAnswer g y)
+    → SaySame g.asked q.reading x y
 settled_once w g x y s p q = correct_once w g x y p q (are_settled g x y s p q)
 
-pub settled_one : (w : ReadInOneWay) → (g : Call) (x y : Answer) → compares g.asked ≡ false → AreSettledUpToRefused g → IsCorrectAnswer g x → IsCorrectAnswer g y → x ≡ y
+pub settled_one : (w : ReadInOneWay) → (g : Call) (x y : Answer) → compares g.asked ≡ false → AreSettledUpToRefused g → IsCorrectAnswer g x
+    → IsCorrectAnswer g y → x ≡ y
 settled_one w g x y e s p q = correct_one w g x y e p q (are_settled g x y s p q)
 
 -- ---- all files that are named, and those from which an answer follows
@@ -69,7 +75,8 @@ length_read g file (suc count) = ap suc (length_read g (file + 1) count)
 no_more : (n m : ℕ) → n ≡ m → n ≤ m
 no_more n m e = omega arith
 
-pub answered_settled : (w : ReadInOneWay) → (g : Call) (count : ℕ) (y : Answer) → ((file : ℕ) → file < count → IsSettled g file) → Follows g.asked (read_from g 0 count) y → AreSettledUpToRefused g
+pub answered_settled : (w : ReadInOneWay) → (g : Call) (count : ℕ) (y : Answer) → ((file : ℕ) → file < count → IsSettled g file)
+    → Follows g.asked (read_from g 0 count) y → AreSettledUpToRefused g
 answered_settled w g count y h p = record {
   count = count;
   settled = h;
@@ -84,7 +91,8 @@ few_one : (n : ℕ) → n ≤ 0 → n ≤ 1
 few_one n h = omega arith
 
 -- no file is opened behind one that spells nothing
-opens_one : (T : Type 0) (R : Operand → Content → Answer → Type 0) (S : T → List ℕ → Type 0) (P : T → Rule) (file : ℕ) (r : Reading) (x : Answer) (c : Content) → ((v : T) → OfBytes c (S v) → ⊥) → Agree r (c ∷ []) → Opens T R S P file r x
+opens_one : (T : Type 0) (R : Operand → Content → Answer → Type 0) (S : T → List ℕ → Type 0) (P : T → Rule) (file : ℕ) (r : Reading) (x : Answer) (c : Content)
+    → ((v : T) → OfBytes c (S v) → ⊥) → Agree r (c ∷ []) → Opens T R S P file r x
     → length r ≤ 1
 opens_one T R S P file [] x c none a f = absurd f
 opens_one T R S P file (d ∷ r) x c none a (Refused p e) = one_more (length r) 0 (at_end r 0 e)
@@ -100,17 +108,21 @@ module _ (c : Content) (y : Answer) (refused : RefusesMachine (operand 0) c y) w
 
   first_stops : (o : Option Asked) (r : Reading) (x : Answer) → Agree r (c ∷ []) → Follows o r x → length r ≤ 1
   first_stops None r x a f = few_one (length r) (named_only None 0 r x f)
-  first_stops (Some (Check left right cert steps)) r x a f = machine_one (λ l. OpensMachine (λ k. Pairs l k (RefusesPair l k) (Ends (IsOfPair steps (is_some cert) l k)))) r x a f
-  first_stops (Some (Verify left right cert)) r x a f = machine_one (λ l. OpensMachine (λ k. Pairs l k (RefusesPair l k) (OpensCertificate l k (λ n. Ends (IsJudged l k n))))) r x a f
+  first_stops (Some (Check left right cert steps)) r x a f =
+      machine_one (λ l. OpensMachine (λ k. Pairs l k (RefusesPair l k) (Ends (IsOfPair steps (is_some cert) l k)))) r x a f
+  first_stops (Some (Verify left right cert)) r x a f =
+      machine_one (λ l. OpensMachine (λ k. Pairs l k (RefusesPair l k) (OpensCertificate l k (λ n. Ends (IsJudged l k n))))) r x a f
   first_stops (Some (Run machine ins steps)) r x a f = machine_one (λ m. OpensInputs m (λ i. Ends (IsOfRun steps m i))) r x a f
-  first_stops (Some (Replay left right ins steps)) r x a f = machine_one (λ l. OpensMachine (λ k. Pairs l k (RefusesPair l k) (OpensInputs l (λ i. Ends (IsOfReplay steps l k i))))) r x a f
+  first_stops (Some (Replay left right ins steps)) r x a f =
+      machine_one (λ l. OpensMachine (λ k. Pairs l k (RefusesPair l k) (OpensInputs l (λ i. Ends (IsOfReplay steps l k i))))) r x a f
   first_stops (Some (Fmt machine)) r x a f = named_only (Some (Fmt machine)) 0 r x f
   first_stops (Some (Cuts machine)) r x a f = named_only (Some (Cuts machine)) 0 r x f
   first_stops (Some (Generate loops)) r x a f = few_one (length r) (named_only (Some (Generate loops)) 0 r x f)
   first_stops (Some (Compile program)) r x a f = named_only (Some (Compile program)) 0 r x f
   first_stops (Some (Schedule machine counts)) r x a f = parts_one (λ parts. OpensUnits (λ units. Ends (IsOfSchedule parts units))) r x a f
   first_stops (Some (Bind machine binding)) r x a f = parts_one (λ parts. OpensBinding (machine_of parts) (λ b. Ends (IsOfBinding parts b))) r x a f
-  first_stops (Some (Shrink left right ins steps)) r x a f = machine_one (λ l. OpensMachine (λ k. Pairs l k (RefusesPair l k) (OpensInputs l (λ i. Ends (IsOfShrink steps l k i))))) r x a f
+  first_stops (Some (Shrink left right ins steps)) r x a f =
+      machine_one (λ l. OpensMachine (λ k. Pairs l k (RefusesPair l k) (OpensInputs l (λ i. Ends (IsOfShrink steps l k i))))) r x a f
   first_stops (Some (Chain files)) r x a f = machine_one (λ m. OpensLinks (Some (Chain files)) m m 0 (links_of files)) r x a f
 
 only_first : (g : Call) → IsSettled g 0 → (file : ℕ) → file < 1 → IsSettled g file
@@ -142,7 +154,8 @@ module _ (R : Fsmd → Operand → Content → Answer → Type 0) (Q : (a b : Fs
   pairs_end file r a b none (Other p e) = e
   pairs_end file r a b none (Alike i p) = absurd (none i)
 
-  second_ends : (file : ℕ) (c : Content) (r : Reading) (a : Fsmd) → OfBytes c (SpellsMachine a) → NoPair (c ∷ r) → Opens Fsmd (R a) SpellsMachine (λ b. Pairs a b (Q a b) (P a b)) file r x → length r ≤ 1
+  second_ends : (file : ℕ) (c : Content) (r : Reading) (a : Fsmd) → OfBytes c (SpellsMachine a) → NoPair (c ∷ r)
+      → Opens Fsmd (R a) SpellsMachine (λ b. Pairs a b (Q a b) (P a b)) file r x → length r ≤ 1
   second_ends file c [] a l none f = absurd f
   second_ends file c (d ∷ r) a l none (Refused p e) = one_more (length r) 0 (at_end r 0 e)
   second_ends file c (d ∷ r) a l none (Spelled b k p) = one_more (length r) 0 (at_end r 0 (pairs_end (file + 1) r a b (none a b (l, k)) p))
@@ -203,7 +216,8 @@ second_refused g s k = two_settled g s k.settled (not_spelled (read_of (held g (
 spelled_same : (c d : Content) (m n : Fsmd) → c ≡ d → OfBytes c (SpellsMachine m) → OfBytes d (SpellsMachine n) → m ≡ n
 spelled_same c d m n e p q = one_spelled Fsmd RefusesMachine SpellsMachine machine_opens d m n (subst (λ k. OfBytes k (SpellsMachine m)) e p) q
 
-not_alike : (c d : Content) (a b : Fsmd) → OfBytes c (SpellsMachine a) → OfBytes d (SpellsMachine b) → (interface_fault a b ≡ None → ⊥) → (r : Reading) → Agree r (c ∷ d ∷ []) → NoPair r
+not_alike : (c d : Content) (a b : Fsmd) → OfBytes c (SpellsMachine a) → OfBytes d (SpellsMachine b) → (interface_fault a b ≡ None → ⊥) → (r : Reading)
+    → Agree r (c ∷ d ∷ []) → NoPair r
 not_alike c d a b s t none [] g m n l i = absurd l
 not_alike c d a b s t none (e ∷ []) g m n l i = absurd l
 not_alike c d a b s t none (e ∷ f ∷ r) g m n l i =
@@ -211,7 +225,9 @@ not_alike c d a b s t none (e ∷ f ∷ r) g m n l i =
     let right : n ≡ b = spelled_same f d n b g.1.0 l.1 t in
     none (subst (λ k. interface_fault a k ≡ None) right (subst (λ k. interface_fault k n ≡ None) left i))
 
-pub others_spelled : (g : Call) (a b : Fsmd) → IsKnown g 0 (SpellsMachine a) → IsKnown g 1 (SpellsMachine b) → (name : List ℕ) → interface_fault a b ≡ Some name → AreSettledUpToRefused g
+pub others_spelled : (g : Call) (a b : Fsmd) → IsKnown g 0 (SpellsMachine a) → IsKnown g 1 (SpellsMachine b) → (name : List ℕ) → interface_fault a b ≡ Some name
+    → AreSettledUpToRefused g
 others_spelled g a b left right name fault =
     two_settled g (known_settled g 0 (SpellsMachine a) left) (known_settled g 1 (SpellsMachine b) right)
-    (not_alike (read_of (held g (operand 0))) (read_of (held g (operand 1))) a b (known_meets g 0 (SpellsMachine a) left) (known_meets g 1 (SpellsMachine b) right) (some_none name (interface_fault a b) fault))
+    (not_alike (read_of (held g (operand 0))) (read_of (held g (operand 1))) a b (known_meets g 0 (SpellsMachine a) left)
+    (known_meets g 1 (SpellsMachine b) right) (some_none name (interface_fault a b) fault))

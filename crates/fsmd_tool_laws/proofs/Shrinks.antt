@@ -25,12 +25,16 @@ Tells a cs left right lines = IsCounterexampleText (input_names a.variables) cs 
 told_once : (limit : ℕ) (a b : Fsmd) (cs : List Content) (l k : List ℕ) → IsSmallText limit a b cs l → IsSmallText limit a b cs k → l ≡ k
 told_once limit a b cs l k p q =
     let ins : Inputs = inputs_told (input_signatures a.variables) cs in
-    let left : p.shows.left ≡ q.shows.left = ends_same limit a ins p.shows.left q.shows.left p.shows.left_steps q.shows.left_steps p.shows.left_ends q.shows.left_ends in
-    let right : p.shows.right ≡ q.shows.right = ends_same limit b ins p.shows.right q.shows.right p.shows.right_steps q.shows.right_steps p.shows.right_ends q.shows.right_ends in
-    let here : Tells a cs q.shows.left q.shows.right l = subst (λ (o : Outputs). Tells a cs q.shows.left o l) right (subst (λ (o : Outputs). Tells a cs o p.shows.right l) left p.told) in
+    let left : p.shows.left ≡ q.shows.left = ends_same limit a ins p.shows.left q.shows.left p.shows.left_steps q.shows.left_steps p.shows.left_ends
+    q.shows.left_ends in
+    let right : p.shows.right ≡ q.shows.right = ends_same limit b ins p.shows.right q.shows.right p.shows.right_steps q.shows.right_steps p.shows.right_ends
+    q.shows.right_ends in
+    let here : Tells a cs q.shows.left q.shows.right l = subst (λ (o : Outputs). Tells a cs q.shows.left o l) right
+    (subst (λ (o : Outputs). Tells a cs o p.shows.right l) left p.told) in
     counterexample_once (input_names a.variables) cs (output_names a.variables) q.shows.left q.shows.right l k here q.told
 
-small_once : (limit : ℕ) (a b : Fsmd) (cs : List Content) (x y : Answer) → HasLines (IsSmallText limit a b cs) Differs x → HasLines (IsSmallText limit a b cs) Differs y → x ≡ y
+small_once : (limit : ℕ) (a b : Fsmd) (cs : List Content) (x y : Answer) → HasLines (IsSmallText limit a b cs) Differs x
+    → HasLines (IsSmallText limit a b cs) Differs y → x ≡ y
 small_once limit a b cs x y p q = p.is ∙ ap Differs (told_once limit a b cs p.lines q.lines p.holds q.holds) ∙ sym q.is
 
 pub shrink_answer_once : (limit : ℕ) (a b : Fsmd) (ins : Inputs) (x y : Answer) → IsOfShrink limit a b ins x → IsOfShrink limit a b ins y → x ≡ y

@@ -1,5 +1,5 @@
 use Rattle.fsmd_tool_laws.proofs.Settling.{all_settled, answered_settled, first_refused, second_refused, others_spelled}
-use Rattle.fsmd_tool_laws.proofs.Certificates.{ReadInOneWay}
+use Rattle.fsmd_tool_laws.proofs.Certificates.{in_one_way}
 use Rattle.fsmd_tool_laws.proofs.laws.files_are_settled_up_to_the_refused_one.Goals as goal
 
 pub returns-clause-all : goal.returns-clause-all
@@ -7,7 +7,7 @@ returns-clause-all c = all_settled
 
 pub returns-clause-answered : goal.returns-clause-answered
 returns-clause-answered c =
-    let w : ReadInOneWay = record { same = c.certificates_are_read_in_one_way.ensures.same; taken = c.certificates_are_read_in_one_way.ensures.taken; texts = c.texts_are_read.ensures } in
+    let w = in_one_way c.certificates_are_read_in_one_way.ensures.same c.certificates_are_read_in_one_way.ensures.taken c.texts_are_read.ensures in
     answered_settled w
 
 pub returns-clause-first : goal.returns-clause-first
