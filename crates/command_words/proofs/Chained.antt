@@ -1,5 +1,5 @@
 -- A parse of a chain's words fails, or it holds from 3 to 129 files.
-use Rattle.std.proofs.Common.{◌≡◌, ◌≤◌, ◌||◌, ap, subst, sym, refl, cond, ℕ, Bool, true, false, List, [], ◌∷◌, ◌++◌, length, Option, Some, None, nat_lt, codes, fold}
+use Rattle.std.proofs.Common.{◌≡◌, ◌≤◌, ◌||◌, ap, subst, sym, refl, cond, ℕ, Bool, true, false, List, [], ◌∷◌, ◌++◌, length, Option, Some, None, nat_lt, codes, drop, encode_utf8, fold}
 use Rattle.std.specs.Prelude.{◌==◌, slice_get}
 use Rattle.std.specs.Option.{option_map_or}
 use Rattle.std.specs.Str.{bytes_eq, chars}
@@ -86,7 +86,9 @@ first_flag : (o : Option ℕ) (files : List Text) (waits : Bool) (word flags : T
     → after_flag chain_rules (waiting_for waits) word (bundle_step chain_rules o flags 0 plain (held_files files) met).0 (bundle_step chain_rules o flags 0 plain (held_files files) met).1
     ≡ (held_files files, value)
 first_flag None files waits word flags faults met e = plain_stays waits word (held_files files)
-first_flag (Some x) files waits word flags faults met e = absurd (short_fails (104 == x) (held_files files) _ _ e)
+first_flag (Some x) files waits word flags faults met e =
+    let rest = drop (length (encode_utf8 x)) flags in
+    absurd (short_fails (104 == x) (held_files files) rest (faults rest 0) e)
 
 flags_stay : (flags : Text) (files : List Text) (waits : Bool) (word : Text) → bundle_fault chain_rules false flags (held_files files) ≡ []
     → short_word chain_rules (waiting_for waits) word flags (held_files files) ≡ (held_files files, value)
