@@ -7,6 +7,7 @@ use Rattle.fs_base.specs.Outside.{Held, Unknown, Nothing, Bytes, AreHeld, MoreAr
 use Rattle.fs_model.specs.Machines.{Fsmd}
 use Rattle.fs_model.specs.Source.{Source}
 use Rattle.fs_pair.specs.Interfaces.{interface_fault}
+use Rattle.program_laws.specs.Programs.{Program}
 use Rattle.command_answers.specs.declared.answer.Operand.{Operand}
 use Rattle.command_answers.specs.declared.answer.Answer.{Answer}
 use Rattle.command_answers.specs.declared.answer.Answer.TheVariants.{TooLong}
@@ -17,8 +18,9 @@ use Rattle.command_answers.specs.Readings.{Content, Readable, Reading}
 use Rattle.command_answers.specs.Unread.{IsUnread, Long}
 use Rattle.command_answers.specs.Refusals.{RefusesMachine, RefusesPair}
 use Rattle.command_answers.specs.Refusing.{WhereAnswered, IsLoaded}
-use Rattle.command_answers.specs.Follows.{Ends, Opens, Refused, Spelled, Pairs, Other, Alike, OpensMachine, OpensPair}
-use Rattle.command_answers.proofs.Maps.{answer_map, err_map}
+use Rattle.command_answers.specs.Programs.{RefusesProgram, SpellsProgram, IsOfProgram, IsOfProgramIn}
+use Rattle.command_answers.specs.Follows.{Ends, Opens, Refused, Spelled, Pairs, Other, Alike, OpensMachine, OpensPair, OpensProgram}
+use Rattle.command_answers.proofs.Maps.{answer_map, ok_map, err_map}
 use Rattle.fsmd_tool.specs.Calls.{Call, held, MayHold, IsCorrectFrom, AnswersBy}
 use Rattle.fsmd_tool.specs.Loading.{MayGive, Gives, NothingFollows, RefusesNext, RefusesBoth}
 
@@ -47,6 +49,10 @@ pub too_long : (k h : Held) (F : Type 0) (limit : ℕ) (file : Operand) → h �
 too_long Unknown h F limit file e m = record { content = Readable (longer limit).bytes; may = tt; meets = Long (longer limit).more refl }
 too_long Nothing h F limit file e m = absurd (subst (λ o. MoreAreHeld o limit) e m)
 too_long (Bytes b) h F limit file e m = record { content = Readable b; may = refl; meets = Long (subst (λ o. MoreAreHeld o limit) e m) refl }
+
+-- a program that bytes spell is one that a file may hold
+pub compiled_held : {E : Type 0} (k : Held) (bytes : List ℕ) (r : Result Answer E) → AreHeld k bytes → IfOk r (IsOfProgramIn bytes) → IfOk r (λ x. MayHold k (λ b. IsOfProgramIn b x))
+compiled_held k bytes r m h = ok_map (IsOfProgramIn bytes) (λ x. MayHold k (λ b. IsOfProgramIn b x)) (λ x p. record { bytes = bytes; may = m; meet = p }) r h
 
 -- a file of loaded parts spells these parts
 pub parts_held : (k : Held) (parts : Source) (m : Fsmd) → MayHold k (IsLoaded parts m) → MayHold k (SpellsParts parts)
@@ -86,6 +92,19 @@ module _ (a b : Fsmd) (R : Answer → Type 0) (P : (file : ℕ) → Reading → 
   -- they have
   pub alike : interface_fault a b ≡ None → IsCorrectFrom P n g x → IsCorrectFrom (Pairs a b R P) n g x
   alike e c = record { reading = c.reading; may_be_read = c.may_be_read; follows = Alike e c.follows }
+
+-- the file of a program, whose answer is made where it is read
+pub program_answers : (g : Call) (r : Result Answer Refusal) → IfOk r (λ x. MayHold (held g (operand 0)) (λ bytes. IsOfProgramIn bytes x)) → IfErr r (WhereAnswered (Gives g (operand 0) (RefusesProgram (operand 0))))
+    → AnswersBy (IsCorrectFrom (OpensProgram (λ p. Ends (IsOfProgram p))) 0 g) r
+program_answers g (Ok x) h w =
+    spelled_last Program RefusesProgram SpellsProgram IsOfProgram 0 g h.meet.program x (record { bytes = h.bytes; may = h.may; meet = h.meet.spells }) h.meet.is
+program_answers g (Err e) h w = refused_as Program RefusesProgram SpellsProgram (λ p. Ends (IsOfProgram p)) 0 g e w
+
+-- the next file is that of a machine with other inputs or outputs than the one before it
+pub next_differs : (a b : Fsmd) (n : ℕ) (g : Call) (e : Refusal) → MayHold (held g (operand n)) (SpellsMachine b) → WhereAnswered (RefusesPair a b) e → WhereAnswered (IsCorrectFrom (RefusesNext a) n g) e
+next_differs a b n g e h w =
+    answer_map (RefusesPair a b) (IsCorrectFrom (RefusesNext a) n g)
+    (λ x p. spelled Fsmd RefusesMachine SpellsMachine (λ v. Pairs a v (RefusesPair a v) NothingFollows) n g b x h (others a b (RefusesPair a b) NothingFollows (n + 1) g x p)) e w
 
 -- ---- the same, of what follows otherwise
 

@@ -1,7 +1,7 @@
-use Rattle.std.proofs.Common.{ap, Some, string_bytes}
+use Rattle.std.proofs.Common.{ap, map, Some, string_bytes}
 use Rattle.command_words.specs.declared.asking.Ask.{Ask}
 use Rattle.command_words.specs.Words.{asked}
-use Rattle.fsmd_tool.proofs.Putting.{answers_as, check_answers, of_loops}
+use Rattle.fsmd_tool.proofs.Putting.{answers_as, check_answers, of_loops, chain_answers}
 use Rattle.fsmd_tool.proofs.drive.answer_command.Goals as goal
 
 pub returns-in-Check-clause-answers : goal.returns-in-Check-clause-answers
@@ -35,6 +35,12 @@ returns-in-Schedule-clause-answers g c = answers_as _ _ c.schedule_files.result 
 pub returns-in-Bind-clause-answers : goal.returns-in-Bind-clause-answers
 returns-in-Bind-clause-answers g c = answers_as _ _ c.bind_files.result (ap (λ (k : Ask). Some (asked k)) c.in-Bind.is) c.bind_files.ensures.answers
 
+pub returns-in-Shrink-clause-answers : goal.returns-in-Shrink-clause-answers
+returns-in-Shrink-clause-answers g c = answers_as _ _ c.shrink_files.result (ap (λ (k : Ask). Some (asked k)) c.in-Shrink.is) c.shrink_files.ensures.answers
+
+pub returns-in-Chain-clause-answers : goal.returns-in-Chain-clause-answers
+returns-in-Chain-clause-answers g c = chain_answers (map string_bytes c.as_slice.result.now) _ c.chain_files.result (ap (λ (k : Ask). Some (asked k)) c.in-Chain.is) c.chain_files.ensures.answers
+
 pub check-requires : goal.check-requires
 check-requires g c = let limits = rw c.in-Check.is at c.requires in limits.0
 
@@ -43,3 +49,9 @@ run_files-requires g c = let limits = rw c.in-Run.is at c.requires in limits.0
 
 pub replay_files-requires : goal.replay_files-requires
 replay_files-requires g c = let limits = rw c.in-Replay.is at c.requires in limits.0
+
+pub shrink_files-requires : goal.shrink_files-requires
+shrink_files-requires g c = let limits = rw c.in-Shrink.is at c.requires in limits.0
+
+pub chain_files-requires : goal.chain_files-requires
+chain_files-requires g c = let limits = rw c.in-Chain.is at c.requires in limits.1
