@@ -1,7 +1,7 @@
 -- Where a call ends with a fault, a file, the store of the certificate or the sink failed.
 use Rattle.std.proofs.Common.{◌≡◌, ◌∙◌, ℕ, zero, suc, false, ◌+◌, ◌*◌, ◌<◌, ◌≤◌, List, [], ◌∷◌, length, Option, Some, None, refl, sym, ap, subst, arith}
 use Rattle.std.specs.Prelude.{is_some}
-use Rattle.command_words.specs.Words.{Asked, Check, Verify, Run, Replay, Fmt, Cuts, Generate, Compile, Schedule, Bind, Shrink, Chain, IsWithinLimits}
+use Rattle.command_words.specs.Words.{Asked, Check, Verify, Run, Replay, Fmt, Cuts, Generate, Compile, Schedule, Bind, Shrink, Chain}
 use Rattle.fs_base.specs.Outside.{Held}
 use Rattle.fs_model.specs.Machines.{Fsmd}
 use Rattle.fs_model.specs.Runs.{Inputs}
@@ -129,63 +129,63 @@ two_a_link [] = omega arith
 two_a_link (c ∷ []) = omega arith
 two_a_link (c ∷ m ∷ words) = omega (arith, two_a_link words)
 
-enough : (files : List (List ℕ)) → 3 ≤ length files → 1 + 2 * links_of files ≤ length (files_of (Some (Chain files)))
-enough [] few = absurd (omega arith)
-enough (m ∷ words) few = omega (arith, two_a_link words)
+enough : (files : List (List ℕ)) → 1 + 2 * links_of files ≤ length (files_of (Some (Chain files)))
+enough [] = omega arith
+enough (m ∷ words) = omega (arith, two_a_link words)
 
-unread : (g : Call) (x : Answer) → HasStatus statuses.Fault x → (o : Option Asked) → ((a : Asked) → o ≡ Some a → IsWithinLimits a) → IsCorrectFrom (FollowsFrom o) 0 g x → OneFailed g (length (files_of o))
-unread g x s None limits c = ends g 0 x (λ answer. answer ≡ Usage) 0 (λ e. usage_fault x e s) c
-unread g x s (Some (Check left right cert steps)) limits c =
+unread : (g : Call) (x : Answer) → HasStatus statuses.Fault x → (o : Option Asked) → IsCorrectFrom (FollowsFrom o) 0 g x → OneFailed g (length (files_of o))
+unread g x s None c = ends g 0 x (λ answer. answer ≡ Usage) 0 (λ e. usage_fault x e s) c
+unread g x s (Some (Check left right cert steps)) c =
     pair g 2 x s (λ a b. Ends (IsOfPair steps (is_some cert) a b)) (omega arith) (λ a b d. ends g 2 x (IsOfPair steps (is_some cert) a b) 2 (λ p. of_pair_fault steps (is_some cert) a b x p s) d) c
-unread g x s (Some (Verify left right cert)) limits c =
+unread g x s (Some (Verify left right cert)) c =
     pair g 3 x s (λ a b. OpensCertificate a b (λ nodes. Ends (IsJudged a b nodes))) (omega arith)
     (λ a b d. opens g 3 x (List (Node Fact)) (RefusesCertificate a b) (SpellsCertificate a b) (λ nodes. Ends (IsJudged a b nodes)) 2 (omega arith) (λ e p. certificate_fault a b (operand 2) e x p s)
     (λ nodes e. ends g 3 x (IsJudged a b nodes) 3 (λ j. judged_fault a b (verdict_on a b nodes) x j.is s) e) d) c
-unread g x s (Some (Run machine_word inputs_word steps)) limits c =
+unread g x s (Some (Run machine_word inputs_word steps)) c =
     machine g 2 x s (λ m. OpensInputs m (λ ins. Ends (IsOfRun steps m ins))) 0 (omega arith) (λ m d. inputs g 2 x s m (IsOfRun steps m) 1 (omega arith) (λ ins p. run_fault steps m ins x p s) d) c
-unread g x s (Some (Replay left right inputs_word steps)) limits c =
+unread g x s (Some (Replay left right inputs_word steps)) c =
     pair g 3 x s (λ a b. OpensInputs a (λ ins. Ends (IsOfReplay steps a b ins))) (omega arith) (λ a b d. inputs g 3 x s a (IsOfReplay steps a b) 2 (omega arith) (λ ins p. replay_fault steps a b ins x p s) d) c
-unread g x s (Some (Fmt machine_word)) limits c =
+unread g x s (Some (Fmt machine_word)) c =
     parts g 1 x s (λ p. Ends (λ answer. answer ≡ Text (canonical p))) (omega arith) (λ p d. ends g 1 x (λ answer. answer ≡ Text (canonical p)) 1 (λ e. text_fault (canonical p) x e s) d) c
-unread g x s (Some (Cuts machine_word)) limits c =
+unread g x s (Some (Cuts machine_word)) c =
     machine g 1 x s (λ m. Ends (λ answer. answer ≡ Text (paths_text m))) 0 (omega arith) (λ m d. ends g 1 x (λ answer. answer ≡ Text (paths_text m)) 1 (λ e. text_fault (paths_text m) x e s) d) c
-unread g x s (Some (Generate n)) limits c = ends g 0 x (IsOfLoops n) 0 (λ p. of_pair_fault generated_steps false (left_of n) (right_of n) x p s) c
-unread g x s (Some (Compile program)) limits c =
+unread g x s (Some (Generate n)) c = ends g 0 x (IsOfLoops n) 0 (λ p. of_pair_fault generated_steps false (left_of n) (right_of n) x p s) c
+unread g x s (Some (Compile program)) c =
     opens g 1 x Program RefusesProgram SpellsProgram (λ p. Ends (IsOfProgram p)) 0 (omega arith) (λ d p. program_fault (operand 0) d x p s) (λ p d. ends g 1 x (IsOfProgram p) 1 (λ l. compile_fault p x l s) d) c
-unread g x s (Some (Schedule machine_word units_word)) limits c =
+unread g x s (Some (Schedule machine_word units_word)) c =
     parts g 2 x s (λ p. OpensUnits (λ u. Ends (IsOfSchedule p u))) (omega arith)
     (λ p d. opens g 2 x Units RefusesUnits SpellUnits (λ u. Ends (IsOfSchedule p u)) 1 (omega arith) (λ e r. keys_fault HaveUnitFault (operand 1) e x r s)
     (λ u e. ends g 2 x (IsOfSchedule p u) 2 (λ q. schedule_fault p u x q s) e) d) c
-unread g x s (Some (Bind machine_word binding_word)) limits c =
+unread g x s (Some (Bind machine_word binding_word)) c =
     parts g 2 x s (λ p. OpensBinding (machine_of p) (λ b. Ends (IsOfBinding p b))) (omega arith)
     (λ p d. opens g 2 x Binding (RefusesBinding (machine_of p)) (SpellsBinding (machine_of p)) (λ b. Ends (IsOfBinding p b)) 1 (omega arith) (λ e r. keys_fault (HasBindingFault (machine_of p)) (operand 1) e x r s)
     (λ b e. ends g 2 x (IsOfBinding p b) 2 (λ q. binding_fault p b x q s) e) d) c
-unread g x s (Some (Shrink left right inputs_word steps)) limits c =
+unread g x s (Some (Shrink left right inputs_word steps)) c =
     pair g 3 x s (λ a b. OpensInputs a (λ ins. Ends (IsOfShrink steps a b ins))) (omega arith) (λ a b d. inputs g 3 x s a (IsOfShrink steps a b) 2 (omega arith) (λ ins p. shrink_fault steps a b ins x p s) d) c
-unread g x s (Some (Chain files)) limits c =
-    let all = enough files (limits (Chain files) refl).0 in
+unread g x s (Some (Chain files)) c =
+    let all = enough files in
     machine g (length (files_of (Some (Chain files)))) x s (λ m. OpensLinks (Some (Chain files)) m m 0 (links_of files)) 0 (omega (arith, all))
     (λ m d. links g (length (files_of (Some (Chain files)))) x s (Some (Chain files)) m m 0 (links_of files) 1 all d) c
 
-file_cause : (g : Call) (p : Put) (x : Answer) → ((a : Asked) → g.asked ≡ Some a → IsWithinLimits a) → IsCorrectAnswer g x → HasStatus statuses.Fault x → HasCause g p
-file_cause g p x limits c e = let u = unread g x e g.asked limits c in FileFailed u.file u.within u.failed
+file_cause : (g : Call) (p : Put) (x : Answer) → IsCorrectAnswer g x → HasStatus statuses.Fault x → HasCause g p
+file_cause g p x c e = let u = unread g x e g.asked c in FileFailed u.file u.within u.failed
 
 -- ---- what was put
 
-put_cause : (g : Call) (p : Put) (x : Answer) (reply : List ℕ) → ((a : Asked) → g.asked ≡ Some a → IsWithinLimits a) → IsCorrectAnswer g x → p.status ≡ statuses.Fault → IsPut reply (status_of x) p → HasCause g p
-put_cause g p x reply limits c e (Whole w) = file_cause g p x limits c (sym w.status ∙ e)
-put_cause g p x reply limits c e (Cut w) = SinkFailed w.failed
+put_cause : (g : Call) (p : Put) (x : Answer) (reply : List ℕ) → IsCorrectAnswer g x → p.status ≡ statuses.Fault → IsPut reply (status_of x) p → HasCause g p
+put_cause g p x reply c e (Whole w) = file_cause g p x c (sym w.status ∙ e)
+put_cause g p x reply c e (Cut w) = SinkFailed w.failed
 
 pub entry_named : (cert text : Option (List ℕ)) (x : Entry) → entry_of cert text ≡ Some x → cert ≡ Some x.name
 entry_named None text x e = absurd (cc)
 entry_named (Some name) None x e = absurd (cc)
 entry_named (Some name) (Some bytes) x e = let same : record { name = name; bytes = bytes } ≡ x = cc in ap (λ (z : Entry). Some z.name) same
 
-done_cause : (g : Call) (p : Put) (x : Answer) → ((a : Asked) → g.asked ≡ Some a → IsWithinLimits a) → IsCorrectAnswer g x → p.status ≡ statuses.Fault
+done_cause : (g : Call) (p : Put) (x : Answer) → IsCorrectAnswer g x → p.status ≡ statuses.Fault
     → (reply : List ℕ) → IsDone (to_store g.asked x) reply (status_of x) (stores g.before g.now) p → HasCause g p
-done_cause g p x limits c e reply (Kept none k put) = put_cause g p x reply limits c e put
-done_cause g p x limits c e reply (Stored y some k put) = put_cause g p x reply limits c e put
-done_cause g p x limits c e reply (Unstored y some u put) = CertificateUnstored y.name (entry_named (cert_of g.asked) (certificate_in x) y some) u.failed
+done_cause g p x c e reply (Kept none k put) = put_cause g p x reply c e put
+done_cause g p x c e reply (Stored y some k put) = put_cause g p x reply c e put
+done_cause g p x c e reply (Unstored y some u put) = CertificateUnstored y.name (entry_named (cert_of g.asked) (certificate_in x) y some) u.failed
 
-pub has_cause : (g : Call) (p : Put) → ((a : Asked) → g.asked ≡ Some a → IsWithinLimits a) → Answered g p → p.status ≡ statuses.Fault → HasCause g p
-has_cause g p limits a e = done_cause g p a.answer limits a.correct e _ a.done
+pub has_cause : (g : Call) (p : Put) → Answered g p → p.status ≡ statuses.Fault → HasCause g p
+has_cause g p a e = done_cause g p a.answer a.correct e _ a.done

@@ -1,5 +1,4 @@
-use Rattle.std.proofs.Common.{◌≡◌, refl, map, string_bytes}
-use Rattle.command_words.proofs.Limits.{is_within}
+use Rattle.std.proofs.Common.{◌≡◌, refl}
 use Rattle.command_answers.specs.declared.answer.Status.TheVariants.{NoMemory, Fine, Differ, Undecided, Fault}
 use Rattle.fsmd_tool.specs.Correct.{Starves}
 use Rattle.fsmd_tool.proofs.Says.{says_same, says_differ, says_undecided, is_checked}
@@ -37,7 +36,7 @@ pub returns-in-Ok-clause-chained : goal.returns-in-Ok-clause-chained
 returns-in-Ok-clause-chained g c = is_chained _ _ c.in-Ok.ensures.answered
 
 pub returns-in-Ok-clause-fault : goal.returns-in-Ok-clause-fault
-returns-in-Ok-clause-fault g c = has_cause _ _ (λ a e. is_within (map string_bytes c.args.words.now) a e) c.in-Ok.ensures.answered
+returns-in-Ok-clause-fault g c = has_cause _ _ c.in-Ok.ensures.answered
 
 pub returns-in-Err-clause-outcome : goal.returns-in-Err-clause-outcome
 returns-in-Err-clause-outcome g c = Starves (record { status = refl; got = c.in-Err.ensures.err; files = c.in-Err.ensures.unwritten })

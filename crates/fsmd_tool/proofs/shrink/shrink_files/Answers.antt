@@ -4,6 +4,7 @@ use Rattle.command_answers.specs.Refusing.{WhereAnswered}
 use Rattle.fsmd_tool.specs.Calls.{call, IsCorrectFrom}
 use Rattle.command_answers.specs.Shrinks.{IsOfShrink}
 use Rattle.command_answers.specs.Follows.{Ends, OpensPair, OpensInputs}
+use Rattle.command_answers.proofs.Ports.{no_input_port}
 use Rattle.fsmd_tool.proofs.FromFiles.{pair_refused, pair_spelled}
 use Rattle.fsmd_tool.proofs.Later.{answers_since}
 use Rattle.fsmd_tool.proofs.shrink.shrink_files.Goals as goal
@@ -18,3 +19,6 @@ pub returns-clause-answers : goal.returns-clause-answers
 returns-clause-answers g c =
     pair_spelled (λ a b. OpensInputs a (λ ins. Ends (IsOfShrink c.args.steps a b ins))) _ c.in_ok-pair.pair.left c.in_ok-pair.pair.right c.in_ok-pair.ensures.left c.in_ok-pair.ensures.right c.in_ok-pair.ensures.alike c.shrink_from.result
     (answers_since _ _ _ _ c.load_pair.ensures.only_read _ 2 c.shrink_from.result c.shrink_from.ensures.answers)
+
+pub shrink_from-requires-clause-ports : goal.shrink_from-requires-clause-ports
+shrink_from-requires-clause-ports g c = no_input_port c.in_ok-pair.pair.left _ c.in_ok-pair.ensures.left.meet
