@@ -1,6 +1,8 @@
-pub mod Copies
+pub mod ByName
+pub mod Changed
 pub mod First
 pub mod Listed
 pub mod Lowered
 pub mod Smalls
+pub mod Stops
 pub mod Unique

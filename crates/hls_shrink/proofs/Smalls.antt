@@ -7,7 +7,7 @@ use Rattle.fs_runs.specs.declared.run.Ended.{Ended}
 use Rattle.fs_runs.specs.declared.memory.NoMemory.{NoMemory}
 use Rattle.fs_runs.specs.declared.inputs.Inputs.{Inputs as InputValues}
 use Rattle.fs_runs.specs.InputValues.{inputs_of, signatures_of, input_signatures}
-use Rattle.fs_runs.specs.Outcomes.{told_by}
+use Rattle.fs_runs.specs.Outcomes.{EndsWith, told_by}
 use Rattle.fs_trials.specs.Candidates.{inputs_told}
 use Rattle.fs_trials.specs.Differences.{ShowsDifference, AreApart}
 use Rattle.fs_trials.proofs.Given.{inputs_are}
@@ -19,24 +19,23 @@ use Rattle.hls_shrink.specs.Shrunk.{Shows, IsSmall, IsFirst, NoneHas}
 use Rattle.hls_shrink.proofs.First.{with_zero, with_half, first_half, none_either}
 use Rattle.std.specs.Prelude.{List}
 
--- runs that are apart show a difference
-pub apart_shows : (a b : Fsmd) (ins : Inputs) (limit : ℕ) (left right : Ended) → AreApart a b ins limit left right → ShowsDifference a b ins limit
-apart_shows a b ins limit left right d = record {
-  left = told_by a left.outputs.items;
-  right = told_by b right.outputs.items;
-  left_steps = left.steps;
-  right_steps = right.steps;
-  left_ends = d.left_end.ends;
-  right_ends = d.right_end.ends;
-  differ = d.differ;
-}
-
 -- inputs of the left machine are what their contents say
 pub by_contents : (a : Fsmd) (ins : InputValues) → signatures_of ins ≡ input_signatures a.variables → inputs_of ins ≡ inputs_told (input_signatures a.variables) (contents_in ins)
 by_contents a ins e = inputs_are ins (input_signatures a.variables) (contents_in ins) e refl
 
+-- what the contents of small inputs show, with how both runs end
 pub small_shows : (a b : Fsmd) (limit : ℕ) (s : Small) → IsSmall a b limit s → Shows a b limit (contents_in s.inputs)
-small_shows a b limit s h = subst (λ x. ShowsDifference a b x limit) (by_contents a s.inputs h.signatures) (apart_shows a b (inputs_of s.inputs) limit s.left s.right h.apart)
+small_shows a b limit s h =
+    let told : inputs_of s.inputs ≡ inputs_told (input_signatures a.variables) (contents_in s.inputs) = by_contents a s.inputs h.signatures in
+    record {
+      left = told_by a s.left.outputs.items;
+      right = told_by b s.right.outputs.items;
+      left_steps = s.left.steps;
+      right_steps = s.right.steps;
+      left_ends = subst (λ x. EndsWith a x limit (told_by a s.left.outputs.items) s.left.steps) told h.apart.left_end.ends;
+      right_ends = subst (λ x. EndsWith b x limit (told_by b s.right.outputs.items) s.right.steps) told h.apart.right_end.ends;
+      differ = h.apart.differ;
+    }
 
 -- inputs with the same contents show the same
 pub same_show : (a b : Fsmd) (limit : ℕ) (x y : InputValues) → signatures_of x ≡ input_signatures a.variables → signatures_of y ≡ input_signatures a.variables → contents_in x ≡ contents_in y → ShowsDifference a b (inputs_of y) limit → ShowsDifference a b (inputs_of x) limit

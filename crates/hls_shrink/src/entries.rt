@@ -97,7 +97,8 @@ pub fn with_number(
     ensures serves { IfOk result (λ ins. Serves (signatures_of ins) m.now) }
     ensures contents { IfOk result (λ ins. contents_in ins ≡ contents_with (contents_in inputs.now) entry.now number.now) }
 {
-    let mut copy = copied(alloc, m, inputs)?;
+    let _vars = m.vars();
+    let mut copy = inputs.try_clone(alloc)?;
     if inputs.sort(entry.input).is_none() {
         return Ok(copy);
     }
@@ -120,22 +121,4 @@ fn value_with(value: &Value, index: &i128, number: &i128) -> Result<Value, NoMem
         }
         Value::List(numbers) => Ok(Value::List(numbers.try_clone()?)),
     }
-}
-
-/// A copy of inputs of a machine. The only refusal is out of memory.
-pub fn copied(alloc: Global, m: &Machine, inputs: &Inputs) -> Result<Inputs, NoMemory>
-    requires { signatures_of inputs.now ≡ input_signatures m.now.variables }
-    ensures signatures { IfOk result (λ ins. signatures_of ins ≡ input_signatures m.now.variables) }
-    ensures serves { IfOk result (λ ins. Serves (signatures_of ins) m.now) }
-    ensures contents { IfOk result (λ ins. contents_in ins ≡ contents_in inputs.now) }
-{
-    let mut copy = Inputs::zero(alloc, m)?;
-    for k in 0..m.vars().len() as u32 {
-        if inputs.sort(k).is_none() {
-            return Ok(copy);
-        }
-        let value = inputs.get(k).try_clone()?;
-        copy.set(alloc, k, value)?;
-    }
-    Ok(copy)
 }

@@ -7,7 +7,7 @@ ghost use Rattle.fs_trials.specs.Differences.{ShowsDifference, AreApart};
 ghost use Rattle.hls_shrink.specs.Entries.{contents_in};
 ghost use Rattle.hls_shrink.specs.Shrunk.{Shows, IsLeast, IsSmall, EndsIn};
 
-use crate::entries::{copied, entries};
+use crate::entries::entries;
 use crate::reductions::first_reduction;
 use fs_ast::machine::Machine;
 use fs_pair::positions::Pairing;
@@ -76,7 +76,8 @@ fn started(
     ensures contents { IfOk result (λ s. contents_in s.inputs ≡ contents_in inputs.now) }
     ensures small { IfOk result (λ s. IsSmall a.now b.now steps s) }
 {
-    let copy = copied(alloc, a, inputs)?;
+    let _vars = a.vars();
+    let copy = inputs.try_clone(alloc)?;
     match differing_ends(alloc, a, b, &copy, steps)? {
         Some((left, right)) => Ok(Small {
             inputs: copy,

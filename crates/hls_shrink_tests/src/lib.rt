@@ -1,6 +1,10 @@
-//! Worked examples of inputs that are made small. The crate gives nothing.
+//! Worked examples of inputs that are made small, and of chains. The crate gives nothing.
 #![tactic(auto)]
 
+#[cfg(test)]
+mod chains;
+#[cfg(test)]
+mod links;
 #[cfg(test)]
 mod shrinking;
 #[cfg(test)]

@@ -4,7 +4,8 @@ use crate::small::shrunk;
 use std::alloc::Global;
 use std::test::Fail;
 
-const SUM: &str = "fsmd 1; input a, b; output y; local t; reset s0;
+/// The square of a sum, in two steps.
+pub const SUM: &str = "fsmd 1; input a, b; output y; local t; reset s0;
 state s0: goto s1: t = a + b;
 state s1: goto s0: y = t * t;";
 

@@ -4,7 +4,7 @@ use Rattle.fs_runs.specs.Values.{content_of}
 use Rattle.fs_runs.specs.InputValues.{input_signatures}
 use Rattle.fs_trials.proofs.Given.{few_inputs}
 use Rattle.hls_shrink.specs.Entries.{contents_in}
-use Rattle.hls_shrink.proofs.Copies.{as_many, none_left, some_left, content_there}
+use Rattle.hls_shrink.proofs.Changed.{as_many, none_left, some_left, content_there}
 use Rattle.hls_shrink.proofs.Listed.{awaits_next, awaits_none}
 use Rattle.hls_shrink.proofs.entries.entries.Goals as goal
 

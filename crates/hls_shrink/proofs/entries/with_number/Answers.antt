@@ -5,8 +5,11 @@ use Rattle.fs_runs.specs.Values.{content_of}
 use Rattle.fs_runs.specs.InputValues.{Signature, input_values, signatures_of}
 use Rattle.hls_shrink.specs.Entries.{contents_in}
 use Rattle.hls_shrink.specs.Reductions.{changed}
-use Rattle.hls_shrink.proofs.Copies.{none_left, some_left, content_there, sort_there, changed_past, changed_is}
+use Rattle.hls_shrink.proofs.Changed.{serve_own, none_left, some_left, content_there, sort_there, changed_past, changed_is}
 use Rattle.hls_shrink.proofs.entries.with_number.Goals as goal
+
+pub returns-then-is_none-clause-serves : goal.returns-then-is_none-clause-serves
+returns-then-is_none-clause-serves c = serve_own c.args.m.now c.in_ok-copy.copy c.vars.ensures.sound (c.in_ok-copy.ensures.signatures ∙ c.requires)
 
 pub returns-then-is_none-clause-contents : goal.returns-then-is_none-clause-contents
 returns-then-is_none-clause-contents c =
@@ -24,8 +27,7 @@ pub set-requires : goal.set-requires
 set-requires c =
     let ins = c.args.inputs.now in
     let k = c.args.entry.now.input in
-    let same : signatures_of c.in_ok-copy.copy ≡ signatures_of ins = c.in_ok-copy.ensures.signatures ∙ sym c.requires in
-    ap (λ fs. option_map (λ (f : Signature). f.1) (slice_get fs k)) same ∙ sort_there ins k c.get.result.now c.get.ensures ∙ ap Some (sym c.in_ok-value.ensures.sort)
+    ap (λ fs. option_map (λ (f : Signature). f.1) (slice_get fs k)) c.in_ok-copy.ensures.signatures ∙ sort_there ins k c.get.result.now c.get.ensures ∙ ap Some (sym c.in_ok-value.ensures.sort)
 
 pub returns-clause-contents : goal.returns-clause-contents
 returns-clause-contents c =
@@ -36,3 +38,6 @@ returns-clause-contents c =
     let there : slice_get (contents_in copy) e.input ≡ Some (content_of c.get.result.now) = ap (λ cs. slice_get cs e.input) c.in_ok-copy.ensures.contents ∙ content_there ins e.input c.get.result.now c.get.ensures in
     changed_is (input_values copy) (input_values c.set.new.self) e.input c.in_ok-value.value (content_of c.get.result.now) e.index n there c.in_ok-value.ensures.content c.in_ok-set.ensures.values
     ∙ ap (λ cs. changed cs e.input e.index n) c.in_ok-copy.ensures.contents
+
+pub returns-clause-serves : goal.returns-clause-serves
+returns-clause-serves c = serve_own c.args.m.now c.set.new.self c.vars.ensures.sound (c.set.ensures.signatures ∙ c.in_ok-copy.ensures.signatures ∙ c.requires)

@@ -1,17 +1,20 @@
--- Values that are copied and changed one by one.
-use Rattle.std.proofs.Common.{◌≡◌, ℕ, zero, suc, ◌+◌, ◌<◌, ◌≤◌, true, false, List, [], ◌∷◌, length, refl, sym, ◌∙◌, ap, subst, arith, inl, inr}
+-- Inputs of which one is changed.
+use Rattle.std.proofs.Common.{◌≡◌, ℕ, zero, suc, ◌+◌, ◌<◌, ◌≤◌, true, false, List, [], ◌∷◌, length, refl, sym, ◌∙◌, ap, arith}
 use Rattle.std.specs.Prelude.{ℤ, Option, Some, None, map, slice_get, slice_set, option_map}
 use Rattle.std.specs.Option.{is_none}
-use Rattle.std.proofs.lemmas.Bool.{cases_lt, false≢true}
+use Rattle.std.proofs.lemmas.Bool.{false≢true}
 use Rattle.std.proofs.lemmas.List.{map-set}
 use Rattle.std.proofs.lemmas.Option.{slice_get-map, slice_get_within}
 use Rattle.fs_model.specs.declared.parts.Sort.{Sort}
+use Rattle.fs_model.specs.Machines.{Fsmd}
 use Rattle.fs_model.specs.Runs.{Content}
+use Rattle.fs_ast.specs.Sound.{IsSound}
 use Rattle.fs_runs.specs.declared.values.Value.{Value}
 use Rattle.fs_runs.specs.declared.inputs.Input.{Input}
 use Rattle.fs_runs.specs.declared.inputs.Inputs.{Inputs}
 use Rattle.fs_runs.specs.Values.{content_of, sort_of}
-use Rattle.fs_runs.specs.InputValues.{Signature, signature, input_values, signatures_of}
+use Rattle.fs_runs.specs.InputValues.{Signature, signature, input_values, signatures_of, input_signatures, sort_named, Serves}
+use Rattle.fs_runs.proofs.InputValues.{serves_own}
 use Rattle.hls_shrink.specs.Entries.{contents_in}
 use Rattle.hls_shrink.specs.Reductions.{content_with, changed}
 
@@ -21,9 +24,6 @@ length_mapped f (x ∷ xs) = ap suc (length_mapped f xs)
 
 pub as_many : (ins : Inputs) → length (contents_in ins) ≡ length (signatures_of ins)
 as_many ins = length_mapped content_of (input_values ins) ∙ length_mapped (λ (i : Input). i.value) ins.items.items ∙ sym (length_mapped signature ins.items.items)
-
-pub same_count : (x y : Inputs) → signatures_of x ≡ signatures_of y → length (contents_in x) ≡ length (contents_in y)
-same_count x y e = as_many x ∙ ap length e ∙ sym (as_many y)
 
 none_mapped : {A B : Type 0} (f : A → B) (o : Option A) → is_none (option_map f o) ≡ true → o ≡ None
 none_mapped f None e = refl
@@ -49,49 +49,9 @@ some_mapped f xs k (Some x) at e = slice_get_within xs k x at
 pub some_left : (ins : Inputs) (k : ℕ) (o : Option Sort) → o ≡ option_map (λ (f : Signature). f.1) (slice_get (signatures_of ins) k) → is_none o ≡ false → k < length (signatures_of ins)
 some_left ins k o e there = some_mapped (λ (f : Signature). f.1) (signatures_of ins) k (slice_get (signatures_of ins) k) refl (ap is_none (sym e) ∙ there)
 
--- contents are the same below a number
-abbrev pub SameBelow : (k : ℕ) → (cs ds : List Content) → Type 0
-SameBelow k cs ds = (i : ℕ) → i < k → slice_get cs i ≡ slice_get ds i
-
-get_set_here : {A : Type 0} (xs : List A) (k : ℕ) (x : A) → k < length xs → slice_get (slice_set xs k x) k ≡ Some x
-get_set_here [] k x h = absurd (omega arith)
-get_set_here (y ∷ xs) zero x h = refl
-get_set_here (y ∷ xs) (suc k) x h = get_set_here xs k x (omega arith)
-
-get_set_before : {A : Type 0} (xs : List A) (k i : ℕ) (x : A) → i < k → slice_get (slice_set xs k x) i ≡ slice_get xs i
-get_set_before [] k i x h = refl
-get_set_before (y ∷ xs) zero i x h = absurd (omega arith)
-get_set_before (y ∷ xs) (suc k) zero x h = refl
-get_set_before (y ∷ xs) (suc k) (suc i) x h = get_set_before xs k i x (omega arith)
-
--- one more is the same
-pub same_more : (k : ℕ) (old new : List Value) (ds : List Content) (v : Value) (c : Content) → length (map content_of old) ≡ length ds → slice_get ds k ≡ Some c → content_of v ≡ c → new ≡ slice_set old k v → SameBelow k (map content_of old) ds → SameBelow (k + 1) (map content_of new) ds
-same_more k old new ds v c count there own put before i less =
-    let cs = map content_of old in
-    let low : k < length ds = slice_get_within ds k c there in
-    let all : map content_of new ≡ slice_set cs k (content_of v) = ap (map content_of) put ∙ map-set content_of old k v in
-    let here : slice_get (slice_set cs k (content_of v)) k ≡ Some (content_of v) = get_set_here cs k (content_of v) (omega arith) in
-    ap (λ xs. slice_get xs i) all
-    ∙ elim (cases_lt i k) as (λ _. slice_get (slice_set cs k (content_of v)) i ≡ slice_get ds i) [
-      | inl earlier ↦ get_set_before cs k i (content_of v) earlier ∙ before i earlier
-      | inr later ↦
-          let same : k ≡ i = omega arith in
-          subst (λ n. slice_get (slice_set cs k (content_of v)) n ≡ slice_get ds n) same (here ∙ ap Some own ∙ sym there)
-    ]
-
-same_lists : {A : Type 0} (xs ys : List A) → length xs ≡ length ys → ((i : ℕ) → i < length xs → slice_get xs i ≡ slice_get ys i) → xs ≡ ys
-same_lists [] [] e each = refl
-same_lists [] (y ∷ ys) e each = absurd (omega arith)
-same_lists (x ∷ xs) [] e each = absurd (omega arith)
-same_lists (x ∷ xs) (y ∷ ys) e each =
-    let first : Some x ≡ Some y = each 0 (omega arith) in
-    let head : x ≡ y = cc in
-    let rest : xs ≡ ys = same_lists xs ys (omega arith) (λ i h. each (suc i) (omega arith)) in
-    cc
-
--- all are the same
-pub same_all : (k : ℕ) (cs ds : List Content) → length cs ≡ length ds → length ds ≤ k → SameBelow k cs ds → cs ≡ ds
-same_all k cs ds count all each = same_lists cs ds count (λ i h. each i (omega arith))
+-- inputs by the names and sorts of a machine's inputs serve that machine
+pub serve_own : (m : Fsmd) (ins : Inputs) → IsSound m → signatures_of ins ≡ input_signatures m.variables → Serves (signatures_of ins) m
+serve_own m ins sound e k v is input = ap (λ fs. sort_named fs v.name) e ∙ serves_own m.variables k v sound.variables_differ is input
 
 -- ---- the sort of a value
 
