@@ -68,4 +68,6 @@ synthesis=$examples/synthesis
 each "compile" compile $synthesis/solver.prog
 each "schedule" schedule "$folder/compiled.fsmd" $synthesis/two_multipliers.json
 each "bind" bind "$folder/scheduled.fsmd" $synthesis/registers.json
+each "shrink" shrink $examples/square_of_sum/{behaviour,sum_of_squares}.fsmd $examples/square_of_sum/inputs.json
+each "chain" chain $examples/square_of_sum/{behaviour.fsmd,certificate.json,schedule.fsmd}
 each "run" run $examples/differential_equation/behaviour.fsmd $examples/differential_equation/inputs.json

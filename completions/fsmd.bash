@@ -1,6 +1,6 @@
 # Completion of fsmd for bash: source this file, or put it where bash-completion looks for it, as bin/install does.
 _fsmd() {
-  local commands="check verify run replay fmt cuts generate compile schedule bind"
+  local commands="check verify run replay fmt cuts generate compile schedule bind shrink chain"
   local word=${COMP_WORDS[COMP_CWORD]} options=""
   COMPREPLY=()
   if [ "$COMP_CWORD" = 1 ]; then
@@ -9,7 +9,7 @@ _fsmd() {
   fi
   case ${COMP_WORDS[1]} in
     check) options="--cert --steps" ;;
-    run | replay) options="--steps" ;;
+    run | replay | shrink) options="--steps" ;;
     generate) return ;;
   esac
   case ${COMP_WORDS[COMP_CWORD - 1]} in --steps) return ;; esac

@@ -1,4 +1,4 @@
-//! Assertions of paths, runs, schedules and replays: `cases` says how a table is written.
+//! Assertions of paths, runs, schedules, replays and inputs that are made small: `cases` says how a table is written.
 
 use cases::case::{Case, broken_row, case_of, of_pair};
 use std::alloc::{AllocError, Global};
@@ -64,6 +64,19 @@ pub fn schedules(
     rows: &str,
 ) -> Result<(), AllocError> {
     let mut form = of_pair("schedule a.fsmd u.json", machine, "", "{2}");
+    form.inputs = "{1}";
+    each_case(rt, alloc, &form, "", rows)
+}
+
+/// Asserts what `shrink` puts of two machines: a row has the inputs and the reply.
+pub fn shrinks<'a>(
+    rt: &impl Abort,
+    alloc: Global,
+    left: &'a str,
+    right: &'a str,
+    rows: &str,
+) -> Result<(), AllocError> {
+    let mut form = of_pair("shrink a.fsmd b.fsmd i.json", left, right, "{2}");
     form.inputs = "{1}";
     each_case(rt, alloc, &form, "", rows)
 }

@@ -162,11 +162,19 @@ generate one
 compile
 schedule a.fsmd
 bind a.fsmd i.json c.json
+shrink a.fsmd b.fsmd
+shrink a.fsmd b.fsmd i.json --steps 0
+chain
+chain a.fsmd
+chain a.fsmd c.json
+chain a.fsmd c.json b.fsmd d.json
+chain a.fsmd c.json b.fsmd --steps 5
+chain a.fsmd<<65 times: c.json b.fsmd>>
 --help
 ";
 
 const USAGE: &str =
-    r"{1}¦{machine}¦{machine}¦¦usage: fsmd check A B [--cert F] [--steps N] | verify A B C | run A I [--steps N] | replay A B I [--steps N] | fmt A | cuts A | generate N | compile P | schedule A U | bind A M\n";
+    r"{1}¦{machine}¦{machine}¦¦usage: fsmd check A B [--cert F] [--steps N] | verify A B C | run A I [--steps N] | replay A B I [--steps N] | fmt A | cuts A | generate N | compile P | schedule A U | bind A M | shrink A B I [--steps N] | chain A C B [C B ..]\n";
 
 #[test]
 fn words_that_are_no_command(rt: HostRuntime) -> Result<(), AllocError> {

@@ -1,5 +1,5 @@
-//! Worked examples of texts, of the rules of machines, of runs and of synthesis, by the one call that the program makes,
-//! over files in memory.
+//! Worked examples of texts, of the rules of machines, of runs, of inputs that are made small and of synthesis, by the one
+//! call that the program makes, over files in memory.
 //!
 //! The crate gives nothing: each module is a set of tests, and each test is a table of texts with the replies that the
 //! rules give for them.
@@ -29,5 +29,7 @@ mod ports;
 mod rules;
 #[cfg(test)]
 mod runs;
+#[cfg(test)]
+mod shrinking;
 #[cfg(test)]
 mod synthesis;

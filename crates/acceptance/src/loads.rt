@@ -16,7 +16,8 @@ fn files(alloc: Global, failing: u64, calls: u64) -> Result<Option<MemFiles>, Al
     let mut files = MemFiles::new(alloc, vec![in alloc; failing, calls]?);
     let held = files.add("a.fsmd", MACHINE).is_ok()
         && files.add("b.fsmd", MACHINE).is_ok()
-        && files.add("i.json", b"{}").is_ok();
+        && files.add("i.json", b"{}").is_ok()
+        && files.add("c.json", b"{}").is_ok();
     Ok(held.then_some(files))
 }
 
@@ -69,13 +70,20 @@ const PAIR_AND_INPUTS: &str = "fault: cannot read a.fsmd
 fault: cannot read b.fsmd
 fault: cannot read i.json";
 
-// The files are loaded in the order of the words, and none after one that fails.
+const LINKED: &str = "fault: cannot read a.fsmd
+link 1: fault: cannot read b.fsmd
+link 1: fault: cannot read c.json";
+
+// The files are loaded in the order of the words, but for a chain each machine before the certificate that leads to it. None
+// is loaded after one that fails.
 #[test]
 fn commands_with_a_file_that_fails(rt: HostRuntime) -> Result<(), AllocError> {
     let alloc = rt.alloc();
     each_call(&rt, alloc, "check a.fsmd b.fsmd", PAIR)?;
     each_call(&rt, alloc, "run a.fsmd i.json", MACHINE_AND_INPUTS)?;
     each_call(&rt, alloc, "replay a.fsmd b.fsmd i.json", PAIR_AND_INPUTS)?;
+    each_call(&rt, alloc, "shrink a.fsmd b.fsmd i.json", PAIR_AND_INPUTS)?;
+    each_call(&rt, alloc, "chain a.fsmd c.json b.fsmd", LINKED)?;
     each_call(&rt, alloc, "fmt a.fsmd", LEFT)?;
     each_call(&rt, alloc, "cuts a.fsmd", LEFT)
 }

@@ -1,5 +1,5 @@
-//! Worked examples of certificates, stored by `check` and judged by `verify`, by the one call that the program makes, over
-//! files in memory.
+//! Worked examples of certificates, stored by `check` and judged by `verify` and `chain`, by the one call that the program
+//! makes, over files in memory.
 //!
 //! The crate gives nothing: each module is a set of tests, and each test is a table of certificates with what is answered of
 //! them.
@@ -9,6 +9,8 @@
 mod arrays;
 #[cfg(test)]
 mod asked;
+#[cfg(test)]
+mod chains;
 #[cfg(test)]
 mod damage;
 #[cfg(test)]

@@ -13,7 +13,7 @@ pub struct Held<'a> {
     pub left: &'a [u8],
     /// `b.fsmd`.
     pub right: &'a [u8],
-    /// `i.json`, and `u.json` and `m.json`.
+    /// `i.json`, `u.json`, `m.json` and `d.json`.
     pub inputs: &'a [u8],
     /// `c.json`.
     pub cert: &'a [u8],
@@ -62,6 +62,7 @@ fn files_of(alloc: Global, held: &Held) -> Option<CleanFiles> {
         && files.add("i.json", held.inputs).is_ok()
         && files.add("u.json", held.inputs).is_ok()
         && files.add("m.json", held.inputs).is_ok()
+        && files.add("d.json", held.inputs).is_ok()
         && files.add("c.json", held.cert).is_ok();
     are_held.then_some(files)
 }
@@ -110,6 +111,7 @@ pub fn words_of(alloc: Global, text: &str) -> Result<Vec<String>, AllocError> {
 
 // The status that goes with a reply.
 fn status_of(reply: &str) -> Status {
+    let reply = behind_link(reply);
     if reply.starts_with("bad input: ") {
         Status::BadInput
     } else if reply.starts_with("undecided: ") {
@@ -118,8 +120,18 @@ fn status_of(reply: &str) -> Status {
         Status::Differ
     } else if reply.starts_with("usage: ") {
         Status::Usage
+    } else if reply.starts_with("fault: ") {
+        Status::Fault
     } else {
         Status::Fine
+    }
+}
+
+// What is told of a link of a chain behind its number, or the whole reply where it names no link.
+fn behind_link(reply: &str) -> &str {
+    match reply.strip_prefix("link ") {
+        Some(rest) => rest.split_once(": ").unwrap_or(("", reply)).1,
+        None => reply,
     }
 }
 

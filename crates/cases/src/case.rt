@@ -14,7 +14,7 @@ pub struct Case<'a> {
     pub left: &'a str,
     /// The text of `b.fsmd`.
     pub right: &'a str,
-    /// The text of `i.json`, and of `u.json` and `m.json`.
+    /// The text of `i.json`, and of `u.json`, `m.json` and `d.json`.
     pub inputs: &'a str,
     /// The bytes that are put.
     pub reply: &'a str,

@@ -24,6 +24,12 @@ steps_option = record (new_rule (codes "steps")) {
 abbrev pub loops_word : Rule
 loops_word = record (file_word (codes "loops")) { parser = Some (parsers.Signed (pos 1) (pos 300)) }
 
+-- `A C B [C B ..]`: from 3 to 129 words, that is a machine, and a certificate and a machine for each of 1 to 64 links
+abbrev pub chain_words : Rule
+chain_words = record (file_word (codes "files")) {
+  range = Some (record { start_inclusive = 3; end_inclusive = 129 });
+}
+
 abbrev pub command_with : Text → List Rule → Shape
 command_with name rules = record (new_shape name) { rules = rules }
 
@@ -75,6 +81,15 @@ schedule_command = command_with (codes "schedule") (file_word (codes "machine") 
 abbrev pub bind_command : Shape
 bind_command = command_with (codes "bind") (file_word (codes "machine") ∷ file_word (codes "binding") ∷ [])
 
+-- `shrink A B I [--steps N]`
+abbrev pub shrink_command : Shape
+shrink_command = command_with (codes "shrink")
+    (file_word (codes "left") ∷ file_word (codes "right") ∷ file_word (codes "inputs") ∷ steps_option ∷ [])
+
+-- `chain A C B [C B ..]`
+abbrev pub chain_command : Shape
+chain_command = command_with (codes "chain") (chain_words ∷ [])
+
 -- before its commands are added: the words are those after the program's name, and one of the commands has to be there
 abbrev pub program_alone : Shape
 program_alone = record (new_shape (codes "fsmd")) {
@@ -88,5 +103,5 @@ abbrev pub command_line : App
 command_line = record {
   top = record program_alone { is_leaf = false };
   subs = check_command ∷ verify_command ∷ run_command ∷ replay_command ∷ fmt_command ∷ cuts_command ∷ generate_command
-      ∷ compile_command ∷ schedule_command ∷ bind_command ∷ [];
+      ∷ compile_command ∷ schedule_command ∷ bind_command ∷ shrink_command ∷ chain_command ∷ [];
 }

@@ -1,17 +1,22 @@
 -- Words that are taken, with what they ask, and words that are refused.
-use Rattle.std.specs.Prelude.{◌≡◌, List, [], ◌∷◌, Some, None, codes}
+use Rattle.std.specs.Prelude.{◌≡◌, List, [], ◌∷◌, All, replicate, Some, None, codes}
 use Rattle.clap.specs.Lexer.{strip_byte}
 use Rattle.clap.specs.Words.{Text, fault_of}
 use Rattle.clap.specs.declared.error.kind.ErrorKind.{ErrorKind}
 use Rattle.clap.specs.declared.error.kind.ErrorKind.TheVariants as kinds
 use Rattle.command_words.specs.CommandLine.{command_line}
-use Rattle.command_words.specs.Words.{AreTaken, Asked, asked_of, Check, Verify, Run, Replay, Fmt, Cuts, Generate, Compile, Schedule, Bind}
+use Rattle.command_words.specs.Words.{AreTaken, AreParsed, IsChainLength, Asked, asked_of}
+use Rattle.command_words.specs.Words.{Check, Verify, Run, Replay, Fmt, Cuts, Generate, Compile, Schedule, Bind, Shrink, Chain}
 
 abbrev pub Asks : List Text → Asked → Type 0
 Asks words what = AreTaken words × (asked_of words ≡ Some what)
 
 abbrev pub FailBy : List Text → ErrorKind → Type 0
 FailBy words kind = fault_of command_line words ≡ kind ∷ []
+
+-- clap takes the words, but their files are not by turns
+abbrev pub FailByTurns : List Text → Type 0
+FailByTurns words = AreParsed words × (asked_of words ≡ None)
 
 pub record TakenExamples : Type 0 where
   pub options_between : Asks
@@ -26,6 +31,15 @@ pub record TakenExamples : Type 0 where
       (Check (codes "A") (codes "B") (Some (codes "-x")) 10000)
   pub most_loops : Asks (codes "generate" ∷ codes "300" ∷ []) (Generate 300)
   pub with_plus : Asks (codes "generate" ∷ codes "+7" ∷ []) (Generate 7)
+  pub shrink_steps : Asks
+      (codes "shrink" ∷ codes "A" ∷ codes "--steps" ∷ codes "7" ∷ codes "B" ∷ codes "I" ∷ [])
+      (Shrink (codes "A") (codes "B") (codes "I") 7)
+  pub one_link : Asks (codes "chain" ∷ codes "A" ∷ codes "C" ∷ codes "B" ∷ [])
+      (Chain (codes "A" ∷ codes "C" ∷ codes "B" ∷ []))
+  pub two_links : Asks (codes "chain" ∷ codes "A" ∷ codes "C" ∷ codes "B" ∷ codes "D" ∷ codes "B" ∷ [])
+      (Chain (codes "A" ∷ codes "C" ∷ codes "B" ∷ codes "D" ∷ codes "B" ∷ []))
+  pub chain_with_hyphens : Asks (codes "chain" ∷ codes "A" ∷ codes "--" ∷ codes "-C" ∷ codes "--" ∷ [])
+      (Chain (codes "A" ∷ codes "-C" ∷ codes "--" ∷ []))
 
 pub record RefusedExamples : Type 0 where
   pub nothing : FailBy [] kinds.MissingSubcommand
@@ -51,6 +65,14 @@ pub record RefusedExamples : Type 0 where
   pub too_many_loops : FailBy (codes "generate" ∷ codes "301" ∷ []) kinds.ValueValidation
   pub no_certificate : FailBy (codes "verify" ∷ codes "A" ∷ codes "B" ∷ [])
       kinds.MissingRequiredArgument
+  pub no_inputs : FailBy (codes "shrink" ∷ codes "A" ∷ codes "B" ∷ []) kinds.MissingRequiredArgument
+  pub no_chain : FailBy (codes "chain" ∷ []) kinds.MissingRequiredArgument
+  pub one_machine : FailBy (codes "chain" ∷ codes "A" ∷ []) kinds.TooFewValues
+  pub two_words : FailBy (codes "chain" ∷ codes "A" ∷ codes "C" ∷ []) kinds.TooFewValues
+  pub four_words : FailByTurns (codes "chain" ∷ codes "A" ∷ codes "C" ∷ codes "B" ∷ codes "D" ∷ [])
+  pub too_many_words : FailBy (codes "chain" ∷ replicate 131 (codes "A")) kinds.TooManyValues
+  pub chain_steps : FailBy (codes "chain" ∷ codes "A" ∷ codes "C" ∷ codes "--steps=5" ∷ codes "B" ∷ [])
+      kinds.UnknownArgument
   pub help : FailBy (codes "check" ∷ codes "--help" ∷ []) kinds.DisplayHelp
   pub top_help : FailBy (codes "-h" ∷ []) kinds.DisplayHelp
 
@@ -75,3 +97,6 @@ pub record PlainWordsAreFiles : Type 0 where
       → Asks (codes "schedule" ∷ machine ∷ units ∷ []) (Schedule machine units)
   pub bind : (machine binding : Text) → IsPlain machine → IsPlain binding
       → Asks (codes "bind" ∷ machine ∷ binding ∷ []) (Bind machine binding)
+  pub shrink : (left right inputs : Text) → IsPlain left → IsPlain right → IsPlain inputs
+      → Asks (codes "shrink" ∷ left ∷ right ∷ inputs ∷ []) (Shrink left right inputs 10000)
+  pub chain : (files : List Text) → All IsPlain files → IsChainLength files → Asks (codes "chain" ∷ files) (Chain files)

@@ -2,7 +2,7 @@
 
 ghost use Rattle.std.specs.Prelude.{◌≡◌, false};
 ghost use Rattle.clap.specs.Words.{rule_of};
-ghost use Rattle.command_words.specs.CommandLine.{cert_option, file_word, loops_word, steps_option};
+ghost use Rattle.command_words.specs.CommandLine.{cert_option, chain_words, file_word, loops_word, steps_option};
 
 use clap::{Arg, value_parser};
 use std::alloc::Global;
@@ -13,6 +13,14 @@ pub fn file<'a>(alloc: Global, id: &'a str) -> Arg<'a>
     ensures local { result.global ≡ false }
 {
     Arg::new(alloc, id).required(true)
+}
+
+/// `A C B [C B ..]`, from 3 to 129 words.
+pub fn files<'a>(alloc: Global) -> Arg<'a>
+    ensures rule { rule_of result ≡ chain_words }
+    ensures local { result.global ≡ false }
+{
+    Arg::new(alloc, "files").required(true).num_args(3..=129)
 }
 
 /// `--cert F`.

@@ -8,7 +8,7 @@ use std::alloc::AllocError;
 /// What is asked: a command, its files as they were named, and its numbers.
 ///
 /// `steps` is the greatest number of steps of a run, from 1 to 100,000, and `n` the number of generated loops, from 1
-/// to 300.
+/// to 300. The files of a chain are an odd number from 3 to 129: a machine, and a certificate and a machine for each link.
 #[derive(Drop, Debug)]
 pub enum Ask {
     /// `check A B [--cert F] [--steps N]`: whether two machines have the same behaviour.
@@ -62,6 +62,17 @@ pub enum Ask {
     Bind {
         machine: String,
         binding: String,
+    },
+    /// `shrink A B I [--steps N]`: inputs that show a difference of two machines, made small.
+    Shrink {
+        left: String,
+        right: String,
+        inputs: String,
+        steps: u64,
+    },
+    /// `chain A C B [C B ..]`: whether certificates show that each machine has the behaviour of the one before.
+    Chain {
+        files: Vec<String>,
     },
 }
 

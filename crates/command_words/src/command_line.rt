@@ -5,7 +5,9 @@ ghost use Rattle.clap.specs.Words.{app_of, shape_of, with_subcommand};
 ghost use Rattle.clap.specs.declared.builder.command.Command.TheViews.{out-Command};
 ghost use Rattle.command_words.specs.CommandLine.{alone, command_line, program_alone};
 
-use crate::commands::{bind, check, compile, cuts, fmt, generate, replay, run, schedule, verify};
+use crate::commands::{
+    bind, chain, check, compile, cuts, fmt, generate, replay, run, schedule, shrink, verify,
+};
 use clap::Command;
 use std::alloc::{AllocError, Global};
 
@@ -43,5 +45,7 @@ pub fn command_line<'a>(alloc: Global) -> Result<Command<'a>, AllocError>
     let line = with_command(line, generate(alloc))?;
     let line = with_command(line, compile(alloc))?;
     let line = with_command(line, schedule(alloc))?;
-    with_command(line, bind(alloc))
+    let line = with_command(line, bind(alloc))?;
+    let line = with_command(line, shrink(alloc))?;
+    with_command(line, chain(alloc))
 }

@@ -1,11 +1,11 @@
 //! The commands, built for `clap`.
 
-ghost use Rattle.std.specs.Prelude.{◌≡◌, ◌∷◌, [], false, IfOk};
+ghost use Rattle.std.specs.Prelude.{◌≡◌, ◌∷◌, [], codes, false, IfOk};
 ghost use Rattle.clap.specs.Words.{app_of, shape_of};
 ghost use Rattle.clap.specs.declared.builder.command.Command.TheViews.{out-Command};
-ghost use Rattle.command_words.specs.CommandLine.{alone, bind_command, check_command, command_with, compile_command, cuts_command, file_word, fmt_command, generate_command, replay_command, run_command, schedule_command, verify_command};
+ghost use Rattle.command_words.specs.CommandLine.{alone, bind_command, chain_command, check_command, command_with, compile_command, cuts_command, file_word, fmt_command, generate_command, replay_command, run_command, schedule_command, shrink_command, steps_option, verify_command};
 
-use crate::arguments::{cert, file, loops, steps};
+use crate::arguments::{cert, file, files, loops, steps};
 use clap::Command;
 use std::alloc::{AllocError, Global};
 
@@ -51,14 +51,23 @@ pub fn run<'a>(alloc: Global) -> Result<Command<'a>, AllocError>
     two_files(alloc, "run", "machine", "inputs")?.arg(steps(alloc))
 }
 
+// A command on two machines and inputs of theirs.
+fn runs<'a>(alloc: Global, name: &'a str) -> Result<Command<'a>, AllocError>
+    ensures shape { IfOk result (λ command. shape_of command
+        ≡ command_with name.entry.now (file_word (codes "left") ∷ file_word (codes "right") ∷ file_word (codes "inputs") ∷ steps_option ∷ [])) }
+    ensures local { IfOk result (λ command. (out-Command command).has_globals ≡ false) }
+{
+    two_files(alloc, name, "left", "right")?
+        .arg(file(alloc, "inputs"))?
+        .arg(steps(alloc))
+}
+
 /// `replay A B I [--steps N]`.
 pub fn replay<'a>(alloc: Global) -> Result<Command<'a>, AllocError>
     ensures shape { IfOk result (λ command. shape_of command ≡ replay_command) }
     ensures local { IfOk result (λ command. (out-Command command).has_globals ≡ false) }
 {
-    two_files(alloc, "replay", "left", "right")?
-        .arg(file(alloc, "inputs"))?
-        .arg(steps(alloc))
+    runs(alloc, "replay")
 }
 
 /// `fmt A`.
@@ -107,4 +116,20 @@ pub fn bind<'a>(alloc: Global) -> Result<Command<'a>, AllocError>
     ensures local { IfOk result (λ command. (out-Command command).has_globals ≡ false) }
 {
     two_files(alloc, "bind", "machine", "binding")
+}
+
+/// `shrink A B I [--steps N]`.
+pub fn shrink<'a>(alloc: Global) -> Result<Command<'a>, AllocError>
+    ensures shape { IfOk result (λ command. shape_of command ≡ shrink_command) }
+    ensures local { IfOk result (λ command. (out-Command command).has_globals ≡ false) }
+{
+    runs(alloc, "shrink")
+}
+
+/// `chain A C B [C B ..]`.
+pub fn chain<'a>(alloc: Global) -> Result<Command<'a>, AllocError>
+    ensures shape { IfOk result (λ command. shape_of command ≡ chain_command) }
+    ensures local { IfOk result (λ command. (out-Command command).has_globals ≡ false) }
+{
+    Command::new(alloc, "chain").arg(files(alloc))
 }

@@ -1,8 +1,8 @@
 //! What was matched for one argument.
 
-ghost use Rattle.std.specs.Prelude.{◌≡◌, IfOk, option_map, string_bytes};
+ghost use Rattle.std.specs.Prelude.{◌≡◌, IfOk, map, option_map, string_bytes};
 ghost use Rattle.clap.specs.Words.{first_of, found_of, rows_of};
-ghost use Rattle.command_words.specs.Words.{in_range, loops_of, steps_of, word_of};
+ghost use Rattle.command_words.specs.Words.{in_range, loops_of, steps_of, word_of, words_of};
 
 use clap::ArgMatches;
 use std::alloc::{AllocError, Global};
@@ -28,6 +28,27 @@ pub fn optional_word(
     match found.get_str(id) {
         Some(text) => Ok(Some(String::from_str(alloc, text)?)),
         None => Ok(None),
+    }
+}
+
+// Copies of texts.
+fn copies(alloc: Global, texts: &[&str]) -> Result<Vec<String>, AllocError>
+    ensures { IfOk result (λ words. map string_bytes words.items ≡ map (λ text. text.now) texts.now) }
+{
+    let mut words = Vec::new(alloc);
+    for text in texts {
+        words.push(String::from_str(alloc, text)?)?;
+    }
+    Ok(words)
+}
+
+/// The words that were matched, in their order, or none.
+pub fn words(alloc: Global, found: &ArgMatches, id: &str) -> Result<Vec<String>, AllocError>
+    ensures { IfOk result (λ words. map string_bytes words.items ≡ words_of id.now (rows_of (found_of found.now))) }
+{
+    match found.get_strs(id) {
+        Some(texts) => copies(alloc, texts),
+        None => Ok(Vec::new(alloc)),
     }
 }
 

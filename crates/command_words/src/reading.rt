@@ -1,12 +1,12 @@
 //! What each command asks, by its matches.
 
-ghost use Rattle.std.specs.Prelude.{◌≡◌, IfOk, IfErr, IfNone, Some, None};
+ghost use Rattle.std.specs.Prelude.{◌≡◌, IfOk, IfErr, IfSome, Some, None, false};
 ghost use Rattle.clap.specs.Words.{found_of, rows_of};
-ghost use Rattle.command_words.specs.Words.{asked, asked_by, bind_of, check_of, replay_of, run_of, schedule_of, verify_of};
+ghost use Rattle.command_words.specs.Words.{IsByTurns, asked, asked_by, bind_of, chain_of, check_of, is_by_turns, replay_of, run_of, schedule_of, shrink_of, verify_of};
 ghost use Rattle.command_words.specs.declared.asking.AskError.TheVariants.{Usage};
 
 use crate::asking::{Ask, AskError};
-use crate::matched::{loops, optional_word, steps, word};
+use crate::matched::{loops, optional_word, steps, word, words};
 use clap::ArgMatches;
 use std::alloc::{AllocError, Global};
 
@@ -70,8 +70,27 @@ fn bind(alloc: Global, found: &ArgMatches) -> Result<Ask, AllocError>
     })
 }
 
-/// What the command of this name asks, by its matches. `Usage` comes only for a name that is no command's.
-pub fn read(alloc: Global, name: &str, found: &ArgMatches) -> Result<Ask, AskError>
+fn shrink(alloc: Global, found: &ArgMatches) -> Result<Ask, AllocError>
+    ensures { IfOk result (λ ask. asked ask ≡ shrink_of (rows_of (found_of found.now))) }
+{
+    Ok(Ask::Shrink {
+        left: word(alloc, found, "left")?,
+        right: word(alloc, found, "right")?,
+        inputs: word(alloc, found, "inputs")?,
+        steps: steps(found),
+    })
+}
+
+fn chain(alloc: Global, found: &ArgMatches) -> Result<Ask, AllocError>
+    ensures { IfOk result (λ ask. asked ask ≡ chain_of (rows_of (found_of found.now))) }
+{
+    Ok(Ask::Chain {
+        files: words(alloc, found, "files")?,
+    })
+}
+
+// What the command of this name asks, by its matches. `Usage` comes only for a name that is no command's.
+fn matched(alloc: Global, name: &str, found: &ArgMatches) -> Result<Ask, AskError>
     ensures ok { IfOk result (λ ask. asked_by name.now (rows_of (found_of found.now)) ≡ Some (asked ask)) }
     ensures usage { IfErr result (λ error. error ≡ Usage → asked_by name.now (rows_of (found_of found.now)) ≡ None) }
 {
@@ -92,6 +111,33 @@ pub fn read(alloc: Global, name: &str, found: &ArgMatches) -> Result<Ask, AskErr
         }),
         "schedule" => Ok(schedule(alloc, found)?),
         "bind" => Ok(bind(alloc, found)?),
+        "shrink" => Ok(shrink(alloc, found)?),
+        "chain" => Ok(chain(alloc, found)?),
         _ => Err(AskError::Usage),
+    }
+}
+
+// The files of a chain are machine and certificate by turns, from a machine to a machine.
+fn stands_by_turns(ask: &Ask) -> bool
+    ensures { result ≡ is_by_turns (asked ask.now) }
+{
+    match ask {
+        Ask::Chain { files } => files.len() % 2 == 1,
+        _ => true,
+    }
+}
+
+/// What the command of this name asks, by its matches. `Usage` comes only for a name that is no command's, or where
+/// the files of a chain are not machine and certificate by turns.
+pub fn read(alloc: Global, name: &str, found: &ArgMatches) -> Result<Ask, AskError>
+    ensures ok { IfOk result (λ ask. (asked_by name.now (rows_of (found_of found.now)) ≡ Some (asked ask)) × IsByTurns (asked ask)) }
+    ensures usage { IfErr result (λ error. error ≡ Usage
+        → IfSome (asked_by name.now (rows_of (found_of found.now))) (λ what. is_by_turns what ≡ false)) }
+{
+    let ask = matched(alloc, name, found)?;
+    if stands_by_turns(&ask) {
+        Ok(ask)
+    } else {
+        Err(AskError::Usage)
     }
 }

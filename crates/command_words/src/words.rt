@@ -13,7 +13,8 @@ use std::alloc::Global;
 /// What the words after the program's name ask.
 ///
 /// Options stand anywhere after the command, as `--steps 5` or `--steps=5`, each at most once. `Usage` comes only for
-/// words that are not taken; a request for help is among these. `NoMemory` comes where memory is refused.
+/// words that are not taken: `clap` refuses them, as it does a request for help, or the number of a chain's files is
+/// even. `NoMemory` comes where memory is refused.
 pub fn ask(alloc: Global, words: &[String]) -> Result<Ask, AskError>
     ensures ok { IfOk result (λ ask. asked_of (map string_bytes words.now) ≡ Some (asked ask)) }
     ensures taken { IfOk result (λ _. AreTaken (map string_bytes words.now)) }

@@ -1,5 +1,6 @@
 //! Words of the command line with what they ask, and words that are refused.
 
+use command_words::asking::Ask;
 use command_words::words::ask;
 use std::alloc::{AllocError, Global};
 use std::test::Fail;
@@ -26,6 +27,12 @@ generate +1¦Generate { n: 1 }
 compile p.prog¦Compile { program: "p.prog" }
 schedule a.fsmd u.json¦Schedule { machine: "a.fsmd", units: "u.json" }
 bind -- a.fsmd -m.json¦Bind { machine: "a.fsmd", binding: "-m.json" }
+shrink a.fsmd b.fsmd i.json¦Shrink { left: "a.fsmd", right: "b.fsmd", inputs: "i.json", steps: 10000 }
+shrink a.fsmd --steps 3 b.fsmd i.json¦Shrink { left: "a.fsmd", right: "b.fsmd", inputs: "i.json", steps: 3 }
+chain a.fsmd c.json b.fsmd¦Chain { files: ["a.fsmd", "c.json", "b.fsmd"] }
+chain a.fsmd c.json b.fsmd d.json b.fsmd¦Chain { files: ["a.fsmd", "c.json", "b.fsmd", "d.json", "b.fsmd"] }
+chain a.fsmd -- --steps -¦Chain { files: ["a.fsmd", "--steps", "-"] }
+chain -- -- check chain¦Chain { files: ["--", "check", "chain"] }
 "#;
 
 // Words that are refused. The first line has none.
@@ -79,6 +86,20 @@ schedule a.fsmd
 schedule a.fsmd u.json v.json
 bind a.fsmd
 bind a.fsmd m.json --cert c.json
+shrink a.fsmd b.fsmd
+shrink a.fsmd b.fsmd i.json j.json
+shrink a.fsmd b.fsmd i.json --steps 0
+shrink a.fsmd b.fsmd i.json --cert c.json
+chain
+chain a.fsmd
+chain a.fsmd c.json
+chain a.fsmd c.json b.fsmd d.json
+chain a.fsmd c.json b.fsmd d.json b.fsmd e.json
+chain a.fsmd c.json b.fsmd --steps 5
+chain a.fsmd c.json --steps=5
+chain a.fsmd -c.json b.fsmd
+chain a.fsmd c.json b.fsmd --help
+chain -- a.fsmd c.json
 ";
 
 fn split(alloc: Global, text: &str) -> Result<Vec<String>, AllocError> {
@@ -94,6 +115,24 @@ fn answer(alloc: Global, text: &str) -> Result<String, Fail> {
     let words = split(alloc, text)?;
     match ask(alloc, words.as_slice()) {
         Ok(ask) => Ok(format!(in alloc; "{ask:?}")?),
+        Err(error) => Ok(format!(in alloc; "{error:?}")?),
+    }
+}
+
+// What a chain of so many files asks, or why it asks nothing.
+fn of_chain(alloc: Global, files: usize) -> Result<String, Fail> {
+    let mut words = Vec::new(alloc);
+    words.push(String::from_str(alloc, "chain")?)?;
+    for file in 0..files {
+        words.push(format!(in alloc; "{file}")?)?;
+    }
+    match ask(alloc, words.as_slice()) {
+        Ok(Ask::Chain { files }) => Ok(format!(in alloc;
+            "{} files, {:?} last",
+            files.len(),
+            files.last()
+        )?),
+        Ok(_) => Err("no chain".into()),
         Err(error) => Ok(format!(in alloc; "{error:?}")?),
     }
 }
@@ -118,5 +157,20 @@ fn words_that_are_refused(rt: HostRuntime) -> Result<(), Fail> {
         let given = answer(alloc, words)?;
         assert!(rt; given.as_str() == "Usage", "{words}: {given}");
     }
+    Ok(())
+}
+
+#[test]
+fn longest_chain(rt: HostRuntime) -> Result<(), Fail> {
+    let alloc = rt.alloc();
+    let longest = of_chain(alloc, 129)?;
+    assert!(rt;
+        longest.as_str() == "129 files, Some(\"128\") last",
+        "{longest}"
+    );
+    let even = of_chain(alloc, 128)?;
+    assert!(rt; even.as_str() == "Usage", "{even}");
+    let longer = of_chain(alloc, 131)?;
+    assert!(rt; longer.as_str() == "Usage", "{longer}");
     Ok(())
 }

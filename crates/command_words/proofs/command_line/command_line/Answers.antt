@@ -1,7 +1,7 @@
 use Rattle.std.proofs.Common.{◌∙◌, ap}
 use Rattle.std.proofs.lemmas.Result.{IfOk-weaker}
 use Rattle.clap.specs.Words.{App, app_of, with_subcommand}
-use Rattle.command_words.specs.CommandLine.{bind_command, check_command, verify_command, run_command, replay_command, fmt_command, cuts_command, generate_command, compile_command, schedule_command}
+use Rattle.command_words.specs.CommandLine.{bind_command, check_command, verify_command, run_command, replay_command, fmt_command, cuts_command, generate_command, compile_command, schedule_command, shrink_command, chain_command}
 use Rattle.command_words.proofs.Added.{added}
 use Rattle.command_words.proofs.command_line.command_line.Goals as goal
 
@@ -16,5 +16,7 @@ returns c =
     let with_generate = added c.generate.result (app_of c.in_ok-line-6.line) _ _ c.generate.ensures.shape c.in_ok-line-7.ensures ∙ ap (λ (a : App). with_subcommand a generate_command) with_cuts in
     let with_compile = added c.compile.result (app_of c.in_ok-line-7.line) _ _ c.compile.ensures.shape c.in_ok-line-8.ensures ∙ ap (λ (a : App). with_subcommand a compile_command) with_generate in
     let with_schedule = added c.schedule.result (app_of c.in_ok-line-8.line) _ _ c.schedule.ensures.shape c.in_ok-line-9.ensures ∙ ap (λ (a : App). with_subcommand a schedule_command) with_compile in
-    IfOk-weaker c.with_command-10.result _ _
-    (λ command h. added c.bind.result (app_of c.in_ok-line-9.line) _ _ c.bind.ensures.shape h ∙ ap (λ (a : App). with_subcommand a bind_command) with_schedule) c.with_command-10.ensures
+    let with_bind = added c.bind.result (app_of c.in_ok-line-9.line) _ _ c.bind.ensures.shape c.in_ok-line-10.ensures ∙ ap (λ (a : App). with_subcommand a bind_command) with_schedule in
+    let with_shrink = added c.shrink.result (app_of c.in_ok-line-10.line) _ _ c.shrink.ensures.shape c.in_ok-line-11.ensures ∙ ap (λ (a : App). with_subcommand a shrink_command) with_bind in
+    IfOk-weaker c.with_command-12.result _ _
+    (λ command h. added c.chain.result (app_of c.in_ok-line-11.line) _ _ c.chain.ensures.shape h ∙ ap (λ (a : App). with_subcommand a chain_command) with_shrink) c.with_command-12.ensures

@@ -1,9 +1,10 @@
 use Rattle.std.proofs.Common.{refl}
 use Rattle.clap.proofs.OnLiterals.{clap_on_literals}
+use Rattle.command_words.specs.Words.{asked_of}
 use Rattle.command_words.proofs.laws.examples_are_refused.Goals as goal
 
 pub returns : goal.returns
-unfolding clap_on_literals
+unfolding clap_on_literals asked_of
 returns c = record {
   nothing = refl;
   unknown = refl;
@@ -17,6 +18,13 @@ returns c = record {
   no_loops = refl;
   too_many_loops = refl;
   no_certificate = refl;
+  no_inputs = refl;
+  no_chain = refl;
+  one_machine = refl;
+  two_words = refl;
+  four_words = (refl, refl);
+  too_many_words = refl;
+  chain_steps = refl;
   help = refl;
   top_help = refl;
 }
