@@ -1,6 +1,11 @@
 pub mod ByBytes
 pub mod Ends
+pub mod LinkAnswers
 pub mod Loops
 pub mod Maps
 pub mod Names
 pub mod Pairs
+pub mod Places
+pub mod Ports
+pub mod ProgramAnswers
+pub mod SmallAnswers

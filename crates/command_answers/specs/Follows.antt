@@ -15,7 +15,6 @@ use Rattle.synthesis_answers.specs.Bindings.{Binding}
 use Rattle.command_answers.specs.declared.answer.Operand.{Operand}
 use Rattle.command_answers.specs.declared.answer.Answer.{Answer}
 use Rattle.command_answers.specs.declared.answer.Answer.TheVariants.{Usage, Text}
-use Rattle.command_answers.specs.Lines.{HasLines}
 use Rattle.command_answers.specs.Words.{operand}
 use Rattle.command_answers.specs.Texts.{SpellsParts, SpellsMachine}
 use Rattle.path_text.specs.Paths.{paths_text}

@@ -25,6 +25,12 @@ pub record SpellsProgram (program : Program) (bytes : List ℕ) : Type 0 where
 abbrev pub IsOfProgram : Program → Answer → Type 0
 IsOfProgram program answer = HasLines (IsCompiledText program) Text answer
 
+-- the bytes spell a program, which gets this answer
+pub record IsOfProgramIn (bytes : List ℕ) (answer : Answer) : Type 0 where
+  pub program : Program
+  pub spells : SpellsProgram program bytes
+  pub is : IsOfProgram program answer
+
 -- the bytes spell no program: they are faulty here
 pub record HasProgramFault (fault : TextFault) (bytes : List ℕ) : Type 0 where
   pub few : length bytes ≤ most_text_bytes

@@ -13,9 +13,9 @@ abbrev pub in_links : List (List ℕ) → List (List ℕ)
 in_links (certificate ∷ machine ∷ words) = machine ∷ certificate ∷ in_links words
 in_links words = words
 
--- the words for the files of a chain, in the order of work
+-- the words for the files of a chain, in the order of work; where there are none, no text stands for that of the first machine
 abbrev pub in_chain : List (List ℕ) → List (List ℕ)
-in_chain [] = []
+in_chain [] = [] ∷ []
 in_chain (machine ∷ words) = machine ∷ in_links words
 
 -- the words that name files to be read, in the order of work

@@ -46,13 +46,9 @@ impl Status {
     }
 }
 
-/// Which file of a command: the first, the second or the third that it names.
+/// The number of a file of a command in the order of work, from 0.
 #[derive(Clone, Copy, Debug, PartialEq, Eq)]
-pub enum Operand {
-    First,
-    Second,
-    Third,
-}
+pub struct Operand(pub u32);
 
 /// Lines of text that a command answers. Contracts see their bytes.
 #[derive(Drop)]
@@ -111,7 +107,8 @@ pub enum Answer {
         cert: Option<Lines>,
     },
     /// What was asked of a machine or of a program, or of runs that ended, with the same outputs where they are two; or
-    /// that a certificate shows that two machines have the same behaviour.
+    /// that a certificate shows that two machines have the same behaviour, or the certificates of a chain its first and
+    /// its last.
     Text {
         lines: Lines,
     },
@@ -122,6 +119,12 @@ pub enum Answer {
     },
     /// What kept two machines, a certificate or a run from being decided.
     Undecided {
+        lines: Lines,
+    },
+    /// What a link of a chain answers that does not hold: the lines of its answer, told as those of the link, with its
+    /// status.
+    Link {
+        status: Status,
         lines: Lines,
     },
     /// A file spells no parts of a machine, or no program.
@@ -179,6 +182,7 @@ impl Answer {
             Answer::Equivalent { .. } | Answer::Text { .. } => Status::Fine,
             Answer::Differs { .. } => Status::Differ,
             Answer::Undecided { .. } => Status::Undecided,
+            Answer::Link { status, .. } => *status,
             Answer::Usage => Status::Usage,
             Answer::TextRefused { .. }
             | Answer::CheckRefused { .. }

@@ -60,7 +60,7 @@ fn undecided(alloc: Global, obligation: u32, event: &str) -> Result<Lines, Alloc
 }
 
 // The answer that a verdict gets.
-fn answer_to(
+pub(crate) fn answer_to(
     alloc: Global,
     a: &Machine,
     b: &Machine,

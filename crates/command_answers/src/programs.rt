@@ -6,10 +6,8 @@ ghost use Rattle.fs_model.specs.Limits.{most_text_bytes};
 ghost use Rattle.program_grammar.specs.Texts.{TextSpells};
 ghost use Rattle.program_laws.specs.WellFormed.{is_well_formed};
 ghost use Rattle.program_parts.specs.View.{program_of};
-ghost use Rattle.command_answers.specs.declared.answer.Answer.TheVariants.{Text};
-ghost use Rattle.command_answers.specs.Lines.{HasLines};
 ghost use Rattle.command_answers.specs.Readings.{Readable};
-ghost use Rattle.command_answers.specs.Programs.{HasCompiledText, RefusesProgram};
+ghost use Rattle.command_answers.specs.Programs.{IsOfProgramIn, RefusesProgram};
 ghost use Rattle.command_answers.specs.Refusing.{WhereAnswered};
 
 use crate::answer::{Answer, Lines, Operand};
@@ -41,7 +39,7 @@ fn read_program(alloc: Global, file: Operand, bytes: &[u8]) -> Result<Program, R
 /// refuses them.
 pub fn compile_program(alloc: Global, file: Operand, bytes: &[u8]) -> Result<Answer, Refused>
     requires { length bytes.now ≤ most_text_bytes }
-    ensures compiled { IfOk result (HasLines (λ text. HasCompiledText text bytes.now) Text) }
+    ensures compiled { IfOk result (IsOfProgramIn bytes.now) }
     ensures refused { IfErr result (WhereAnswered (RefusesProgram file (Readable bytes.now))) }
 {
     let program = read_program(alloc, file, bytes)?;

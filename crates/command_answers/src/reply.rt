@@ -15,7 +15,7 @@ use std::alloc::{AllocError, Global};
 
 /// The line that words print that ask nothing.
 pub const USAGE: &str =
-    "usage: fsmd check A B [--cert F] [--steps N] | verify A B C | run A I [--steps N] | replay A B I [--steps N] | fmt A | cuts A | generate N | compile P | schedule A U | bind A M\n";
+    "usage: fsmd check A B [--cert F] [--steps N] | verify A B C | run A I [--steps N] | replay A B I [--steps N] | fmt A | cuts A | generate N | compile P | schedule A U | bind A M | shrink A B I [--steps N] | chain A C B [C B ..]\n";
 
 // The line of a name that is an input or output of one machine and not alike of the other.
 fn interfaces(alloc: Global, name: &Name) -> Result<Vec<u8>, AllocError>
@@ -35,13 +35,14 @@ fn equivalent(alloc: Global, nodes: u32) -> Result<String, AllocError>
 }
 
 // The lines of an answer to what is asked.
-fn lines(alloc: Global, answer: &Answer, ask: &Ask) -> Result<Vec<u8>, AllocError>
+pub(crate) fn lines(alloc: Global, answer: &Answer, ask: &Ask) -> Result<Vec<u8>, AllocError>
     ensures { IfOk result (λ bytes. bytes.items ≡ lines_of answer.now (Some (asked ask.now))) }
 {
     let text = match answer {
-        Answer::Text { lines } | Answer::Differs { lines } | Answer::Undecided { lines } => {
-            return lines.bytes().to_vec(alloc);
-        }
+        Answer::Text { lines }
+        | Answer::Differs { lines }
+        | Answer::Undecided { lines }
+        | Answer::Link { lines, .. } => return lines.bytes().to_vec(alloc),
         Answer::Interfaces { name } => return interfaces(alloc, name),
         Answer::KeyRefused { file, fault, key } => {
             return key_refused(alloc, word_of(ask, *file), *fault, key.bytes());

@@ -65,7 +65,7 @@ pub fn schedule_machine(
         Err(SchedError::Over { state, unit }) => {
             let name = point_text(machine, Point::At(state)).to_vec(alloc)?;
             Ok(Answer::Over {
-                file: Operand::Second,
+                file: Operand(1),
                 state: Lines::of(name),
                 unit,
             })

@@ -2,8 +2,8 @@ use Rattle.std.proofs.Common.{rules, ◌≡◌, Some, ap, subst, ◌∙◌}
 use Rattle.fs_ast.specs.Stored.{name_of}
 use Rattle.unit_counts.specs.Counts.{units_in}
 use Rattle.unit_limits.specs.Over.{over_in}
-use Rattle.command_answers.specs.declared.answer.Operand.TheVariants.{Second}
 use Rattle.command_answers.specs.declared.answer.Answer.TheVariants.{Over}
+use Rattle.command_answers.specs.Words.{operand}
 use Rattle.command_answers.specs.Schedules.{IsOver}
 use Rattle.command_answers.proofs.schedules.schedule_machine.Goals as goal
 
@@ -16,4 +16,4 @@ returns-in_ok-name-in-Err-Over c =
     let first : over_in units m ≡ Some (q, k) = rw c.in-Err-Over.field-0-is at c.in-Err-Over.ensures.refused in
     let named : c.of-in-Err-Over.result ≡ name_of m q = search rules in
     let spelled = c.requires.spelled in
-    IsOver q k (subst (λ n. over_in units n ≡ Some (q, k)) spelled first) (ap (λ name. Over Second name k) (named ∙ ap (λ n. name_of n q) spelled))
+    IsOver q k (subst (λ n. over_in units n ≡ Some (q, k)) spelled first) (ap (λ name. Over (operand 1) name k) (named ∙ ap (λ n. name_of n q) spelled))
