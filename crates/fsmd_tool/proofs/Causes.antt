@@ -39,6 +39,7 @@ use Rattle.fsmd_tool.specs.Puts.{Put, IsPut, Whole, Cut}
 use Rattle.fsmd_tool.specs.Stores.{stores, Entry, entry_of, to_store}
 use Rattle.fsmd_tool.specs.Correct.{IsCorrectAnswer, IsDone, Kept, Stored, Unstored, Answered}
 use Rattle.fsmd_tool.specs.Clauses.{HasCause, FileFailed, CertificateUnstored, SinkFailed}
+use Rattle.fsmd_tool.proofs.Linked.{judges, certificates, nexts}
 use Rattle.fsmd_tool.proofs.Statuses.{HasStatus, machine_fault, program_fault, keys_fault, certificate_fault, pair_fault, link_status, usage_fault, text_fault, of_pair_fault, run_fault, replay_fault, shrink_fault, chain_fault, compile_fault, schedule_fault, binding_fault, judged_fault}
 
 -- ---- files one after another
@@ -54,13 +55,16 @@ failed k F c m e = subst (λ d. MayBeRead k F d) e m
 
 module _ (g : Call) (files : ℕ) (x : Answer) where
   module _ (T : Type 0) (R : Operand → Content → Answer → Type 0) (S : T → List ℕ → Type 0) (P : T → (file : ℕ) → Reading → Answer → Type 0) (n : ℕ) where
-    opens_by : (r : Reading) → n < files → ((c : Content) → R (operand n) c x → c ≡ Unreadable) → ((v : T) → IsCorrectFrom (P v) (n + 1) g x → OneFailed g files) → MayRead g n r → Opens T R S P n r x → OneFailed g files
+    opens_by : (r : Reading) → n < files → ((c : Content) → R (operand n) c x → c ≡ Unreadable)
+        → ((v : T) → IsCorrectFrom (P v) (n + 1) g x → OneFailed g files) → MayRead g n r → Opens T R S P n r x → OneFailed g files
     opens_by [] within own behind may o = absurd o
-    opens_by (c ∷ rest) within own behind may (Refused p e) = record { file = n; within = within; failed = failed (held g (operand n)) (FailedToRead g (operand n)) c may.0 (own c p) }
+    opens_by (c ∷ rest) within own behind may (Refused p e) =
+        record { file = n; within = within; failed = failed (held g (operand n)) (FailedToRead g (operand n)) c may.0 (own c p) }
     opens_by (c ∷ rest) within own behind may (Spelled v h p) = behind v (record { reading = rest; may_be_read = may.1; follows = p })
 
     -- the next file failed, or one behind it
-    opens : n < files → ((c : Content) → R (operand n) c x → c ≡ Unreadable) → ((v : T) → IsCorrectFrom (P v) (n + 1) g x → OneFailed g files) → IsCorrectFrom (Opens T R S P) n g x → OneFailed g files
+    opens : n < files → ((c : Content) → R (operand n) c x → c ≡ Unreadable) → ((v : T) → IsCorrectFrom (P v) (n + 1) g x → OneFailed g files)
+        → IsCorrectFrom (Opens T R S P) n g x → OneFailed g files
     opens within own behind c = opens_by c.reading within own behind c.may_be_read c.follows
 
   -- no file more is opened
@@ -82,44 +86,54 @@ module _ (g : Call) (files : ℕ) (x : Answer) where
 
   -- the status is of a fault
   module _ (s : HasStatus statuses.Fault x) where
-    machine : (P : Fsmd → (file : ℕ) → Reading → Answer → Type 0) (n : ℕ) → n < files → ((m : Fsmd) → IsCorrectFrom (P m) (n + 1) g x → OneFailed g files) → IsCorrectFrom (OpensMachine P) n g x → OneFailed g files
+    machine : (P : Fsmd → (file : ℕ) → Reading → Answer → Type 0) (n : ℕ) → n < files → ((m : Fsmd) → IsCorrectFrom (P m) (n + 1) g x → OneFailed g files)
+        → IsCorrectFrom (OpensMachine P) n g x → OneFailed g files
     machine P n within behind c = opens Fsmd RefusesMachine SpellsMachine P n within (λ d p. machine_fault (operand n) d x p s) behind c
 
-    parts : (P : Source → (file : ℕ) → Reading → Answer → Type 0) → 0 < files → ((p : Source) → IsCorrectFrom (P p) 1 g x → OneFailed g files) → IsCorrectFrom (Opens Source RefusesMachine SpellsParts P) 0 g x → OneFailed g files
+    parts : (P : Source → (file : ℕ) → Reading → Answer → Type 0) → 0 < files → ((p : Source) → IsCorrectFrom (P p) 1 g x → OneFailed g files)
+        → IsCorrectFrom (Opens Source RefusesMachine SpellsParts P) 0 g x → OneFailed g files
     parts P within behind c = opens Source RefusesMachine SpellsParts P 0 within (λ d p. machine_fault (operand 0) d x p s) behind c
 
-    inputs : (m : Fsmd) (Q : Inputs → Answer → Type 0) (n : ℕ) → n < files → ((ins : Inputs) → Q ins x → ⊥) → IsCorrectFrom (OpensInputs m (λ ins. Ends (Q ins))) n g x → OneFailed g files
+    inputs : (m : Fsmd) (Q : Inputs → Answer → Type 0) (n : ℕ) → n < files → ((ins : Inputs) → Q ins x → ⊥)
+        → IsCorrectFrom (OpensInputs m (λ ins. Ends (Q ins))) n g x → OneFailed g files
     inputs m Q n within never c =
-        opens Inputs (RefusesInputs m) (SpellsInputs m) (λ ins. Ends (Q ins)) n within (λ d p. keys_fault (HasInputFault m) (operand n) d x p s) (λ ins d. ends (Q ins) (n + 1) (never ins) d) c
+        opens Inputs (RefusesInputs m) (SpellsInputs m) (λ ins. Ends (Q ins)) n within (λ d p. keys_fault (HasInputFault m) (operand n) d x p s)
+        (λ ins d. ends (Q ins) (n + 1) (never ins) d) c
 
-    pair : (P : (a b : Fsmd) → (file : ℕ) → Reading → Answer → Type 0) → 1 < files → ((a b : Fsmd) → IsCorrectFrom (P a b) 2 g x → OneFailed g files) → IsCorrectFrom (OpensPair P) 0 g x → OneFailed g files
+    pair : (P : (a b : Fsmd) → (file : ℕ) → Reading → Answer → Type 0) → 1 < files → ((a b : Fsmd) → IsCorrectFrom (P a b) 2 g x → OneFailed g files)
+        → IsCorrectFrom (OpensPair P) 0 g x → OneFailed g files
     pair P within behind c =
         machine (λ a. OpensMachine (λ b. Pairs a b (RefusesPair a b) (P a b))) 0 (omega (arith, within))
-        (λ a d. machine (λ b. Pairs a b (RefusesPair a b) (P a b)) 1 within (λ b e. pairs a b (RefusesPair a b) (P a b) 2 (λ p. pair_fault a b x p s) (behind a b) e) d) c
+        (λ a d. machine (λ b. Pairs a b (RefusesPair a b) (P a b)) 1 within
+        (λ b e. pairs a b (RefusesPair a b) (P a b) 2 (λ p. pair_fault a b x p s) (behind a b) e) d) c
 
     -- ---- chains
 
     module _ (o : Option Asked) (k : ℕ) (a b : Fsmd) (nodes : List (Node Fact)) (P : (file : ℕ) → Reading → Answer → Type 0) (n : ℕ) where
       judges_by : (r : Reading) → (IsCorrectFrom P n g x → OneFailed g files) → MayRead g n r → Judges o k a b nodes P n r x → OneFailed g files
-      judges_by r behind may (Fails no l e) = absurd (judged_fault a b (verdict_on a b nodes) l.stop l.meets.is (link_status statuses.Fault o k (IsJudged a b nodes) x l s))
+      judges_by r behind may (Fails no l e) =
+          absurd (judged_fault a b (verdict_on a b nodes) l.stop l.meets.is (link_status statuses.Fault o k (IsJudged a b nodes) x l s))
       judges_by r behind may (Holds yes p) = behind (record { reading = r; may_be_read = may; follows = p })
 
-    link : (o : Option Asked) (k : ℕ) (last : Fsmd) (P : Fsmd → (file : ℕ) → Reading → Answer → Type 0) (n : ℕ) → n + 1 < files → ((b : Fsmd) → IsCorrectFrom (P b) (n + 1 + 1) g x → OneFailed g files)
+    link : (o : Option Asked) (k : ℕ) (last : Fsmd) (P : Fsmd → (file : ℕ) → Reading → Answer → Type 0) (n : ℕ) → n + 1 < files
+        → ((b : Fsmd) → IsCorrectFrom (P b) (n + 1 + 1) g x → OneFailed g files)
         → IsCorrectFrom (OpensLink o k last P) n g x → OneFailed g files
     link o k last P n within behind c =
-        opens Fsmd (λ f d. AtLink o k (RefusesMachine f d)) SpellsMachine
-        (λ b. Pairs last b (AtLink o k (RefusesPair last b)) (Opens (List (Node Fact)) (λ f d. AtLink o k (RefusesCertificate last b f d)) (SpellsCertificate last b) (λ nodes. Judges o k last b nodes (P b)))) n (omega (arith, within))
+        opens Fsmd (λ f d. AtLink o k (RefusesMachine f d)) SpellsMachine (nexts o k last P) n (omega (arith, within))
         (λ d l. machine_fault (operand n) d l.stop l.meets (link_status statuses.Fault o k (RefusesMachine (operand n) d) x l s))
-        (λ b e. pairs last b (AtLink o k (RefusesPair last b)) (Opens (List (Node Fact)) (λ f d. AtLink o k (RefusesCertificate last b f d)) (SpellsCertificate last b) (λ nodes. Judges o k last b nodes (P b))) (n + 1)
+        (λ b e. pairs last b (AtLink o k (RefusesPair last b)) (certificates o k last b (P b)) (n + 1)
         (λ l. pair_fault last b l.stop l.meets (link_status statuses.Fault o k (RefusesPair last b) x l s))
-        (λ h. opens (List (Node Fact)) (λ f d. AtLink o k (RefusesCertificate last b f d)) (SpellsCertificate last b) (λ nodes. Judges o k last b nodes (P b)) (n + 1) within
-        (λ d l. certificate_fault last b (operand (n + 1)) d l.stop l.meets (link_status statuses.Fault o k (RefusesCertificate last b (operand (n + 1)) d) x l s))
+        (λ h. opens (List (Node Fact)) (λ f d. AtLink o k (RefusesCertificate last b f d)) (SpellsCertificate last b) (judges o k last b (P b)) (n + 1) within
+        (λ d l. certificate_fault last b (operand (n + 1)) d l.stop l.meets
+        (link_status statuses.Fault o k (RefusesCertificate last b (operand (n + 1)) d) x l s))
         (λ nodes j. judges_by o k last b nodes (P b) (n + 1 + 1) j.reading (behind b) j.may_be_read j.follows) h) e) c
 
-    links : (o : Option Asked) (first last : Fsmd) (have left n : ℕ) → n + 2 * left ≤ files → IsCorrectFrom (OpensLinks o first last have left) n g x → OneFailed g files
+    links : (o : Option Asked) (first last : Fsmd) (have left n : ℕ) → n + 2 * left ≤ files → IsCorrectFrom (OpensLinks o first last have left) n g x
+        → OneFailed g files
     links o first last have zero n within c = ends (IsOfChain first last have) n (λ p. chain_fault first last have x p s) c
     links o first last have (suc left) n within c =
-        link o (have + 1) last (λ b. OpensLinks o first b (have + 1) left) n (omega (arith, within)) (λ b d. links o first b (have + 1) left (n + 1 + 1) (omega (arith, within)) d) c
+        link o (have + 1) last (λ b. OpensLinks o first b (have + 1) left) n (omega (arith, within))
+        (λ b d. links o first b (have + 1) left (n + 1 + 1) (omega (arith, within)) d) c
 
 -- ---- commands
 
@@ -136,32 +150,41 @@ enough (m ∷ words) = omega (arith, two_a_link words)
 unread : (g : Call) (x : Answer) → HasStatus statuses.Fault x → (o : Option Asked) → IsCorrectFrom (FollowsFrom o) 0 g x → OneFailed g (length (files_of o))
 unread g x s None c = ends g 0 x (λ answer. answer ≡ Usage) 0 (λ e. usage_fault x e s) c
 unread g x s (Some (Check left right cert steps)) c =
-    pair g 2 x s (λ a b. Ends (IsOfPair steps (is_some cert) a b)) (omega arith) (λ a b d. ends g 2 x (IsOfPair steps (is_some cert) a b) 2 (λ p. of_pair_fault steps (is_some cert) a b x p s) d) c
+    pair g 2 x s (λ a b. Ends (IsOfPair steps (is_some cert) a b)) (omega arith)
+    (λ a b d. ends g 2 x (IsOfPair steps (is_some cert) a b) 2 (λ p. of_pair_fault steps (is_some cert) a b x p s) d) c
 unread g x s (Some (Verify left right cert)) c =
     pair g 3 x s (λ a b. OpensCertificate a b (λ nodes. Ends (IsJudged a b nodes))) (omega arith)
-    (λ a b d. opens g 3 x (List (Node Fact)) (RefusesCertificate a b) (SpellsCertificate a b) (λ nodes. Ends (IsJudged a b nodes)) 2 (omega arith) (λ e p. certificate_fault a b (operand 2) e x p s)
+    (λ a b d. opens g 3 x (List (Node Fact)) (RefusesCertificate a b) (SpellsCertificate a b) (λ nodes. Ends (IsJudged a b nodes)) 2 (omega arith)
+    (λ e p. certificate_fault a b (operand 2) e x p s)
     (λ nodes e. ends g 3 x (IsJudged a b nodes) 3 (λ j. judged_fault a b (verdict_on a b nodes) x j.is s) e) d) c
 unread g x s (Some (Run machine_word inputs_word steps)) c =
-    machine g 2 x s (λ m. OpensInputs m (λ ins. Ends (IsOfRun steps m ins))) 0 (omega arith) (λ m d. inputs g 2 x s m (IsOfRun steps m) 1 (omega arith) (λ ins p. run_fault steps m ins x p s) d) c
+    machine g 2 x s (λ m. OpensInputs m (λ ins. Ends (IsOfRun steps m ins))) 0 (omega arith)
+    (λ m d. inputs g 2 x s m (IsOfRun steps m) 1 (omega arith) (λ ins p. run_fault steps m ins x p s) d) c
 unread g x s (Some (Replay left right inputs_word steps)) c =
-    pair g 3 x s (λ a b. OpensInputs a (λ ins. Ends (IsOfReplay steps a b ins))) (omega arith) (λ a b d. inputs g 3 x s a (IsOfReplay steps a b) 2 (omega arith) (λ ins p. replay_fault steps a b ins x p s) d) c
+    pair g 3 x s (λ a b. OpensInputs a (λ ins. Ends (IsOfReplay steps a b ins))) (omega arith)
+    (λ a b d. inputs g 3 x s a (IsOfReplay steps a b) 2 (omega arith) (λ ins p. replay_fault steps a b ins x p s) d) c
 unread g x s (Some (Fmt machine_word)) c =
-    parts g 1 x s (λ p. Ends (λ answer. answer ≡ Text (canonical p))) (omega arith) (λ p d. ends g 1 x (λ answer. answer ≡ Text (canonical p)) 1 (λ e. text_fault (canonical p) x e s) d) c
+    parts g 1 x s (λ p. Ends (λ answer. answer ≡ Text (canonical p))) (omega arith)
+    (λ p d. ends g 1 x (λ answer. answer ≡ Text (canonical p)) 1 (λ e. text_fault (canonical p) x e s) d) c
 unread g x s (Some (Cuts machine_word)) c =
-    machine g 1 x s (λ m. Ends (λ answer. answer ≡ Text (paths_text m))) 0 (omega arith) (λ m d. ends g 1 x (λ answer. answer ≡ Text (paths_text m)) 1 (λ e. text_fault (paths_text m) x e s) d) c
+    machine g 1 x s (λ m. Ends (λ answer. answer ≡ Text (paths_text m))) 0 (omega arith)
+    (λ m d. ends g 1 x (λ answer. answer ≡ Text (paths_text m)) 1 (λ e. text_fault (paths_text m) x e s) d) c
 unread g x s (Some (Generate n)) c = ends g 0 x (IsOfLoops n) 0 (λ p. of_pair_fault generated_steps false (left_of n) (right_of n) x p s) c
 unread g x s (Some (Compile program)) c =
-    opens g 1 x Program RefusesProgram SpellsProgram (λ p. Ends (IsOfProgram p)) 0 (omega arith) (λ d p. program_fault (operand 0) d x p s) (λ p d. ends g 1 x (IsOfProgram p) 1 (λ l. compile_fault p x l s) d) c
+    opens g 1 x Program RefusesProgram SpellsProgram (λ p. Ends (IsOfProgram p)) 0 (omega arith) (λ d p. program_fault (operand 0) d x p s)
+    (λ p d. ends g 1 x (IsOfProgram p) 1 (λ l. compile_fault p x l s) d) c
 unread g x s (Some (Schedule machine_word units_word)) c =
     parts g 2 x s (λ p. OpensUnits (λ u. Ends (IsOfSchedule p u))) (omega arith)
     (λ p d. opens g 2 x Units RefusesUnits SpellUnits (λ u. Ends (IsOfSchedule p u)) 1 (omega arith) (λ e r. keys_fault HaveUnitFault (operand 1) e x r s)
     (λ u e. ends g 2 x (IsOfSchedule p u) 2 (λ q. schedule_fault p u x q s) e) d) c
 unread g x s (Some (Bind machine_word binding_word)) c =
     parts g 2 x s (λ p. OpensBinding (machine_of p) (λ b. Ends (IsOfBinding p b))) (omega arith)
-    (λ p d. opens g 2 x Binding (RefusesBinding (machine_of p)) (SpellsBinding (machine_of p)) (λ b. Ends (IsOfBinding p b)) 1 (omega arith) (λ e r. keys_fault (HasBindingFault (machine_of p)) (operand 1) e x r s)
+    (λ p d. opens g 2 x Binding (RefusesBinding (machine_of p)) (SpellsBinding (machine_of p)) (λ b. Ends (IsOfBinding p b)) 1 (omega arith)
+    (λ e r. keys_fault (HasBindingFault (machine_of p)) (operand 1) e x r s)
     (λ b e. ends g 2 x (IsOfBinding p b) 2 (λ q. binding_fault p b x q s) e) d) c
 unread g x s (Some (Shrink left right inputs_word steps)) c =
-    pair g 3 x s (λ a b. OpensInputs a (λ ins. Ends (IsOfShrink steps a b ins))) (omega arith) (λ a b d. inputs g 3 x s a (IsOfShrink steps a b) 2 (omega arith) (λ ins p. shrink_fault steps a b ins x p s) d) c
+    pair g 3 x s (λ a b. OpensInputs a (λ ins. Ends (IsOfShrink steps a b ins))) (omega arith)
+    (λ a b d. inputs g 3 x s a (IsOfShrink steps a b) 2 (omega arith) (λ ins p. shrink_fault steps a b ins x p s) d) c
 unread g x s (Some (Chain files)) c =
     let all = enough files in
     machine g (length (files_of (Some (Chain files)))) x s (λ m. OpensLinks (Some (Chain files)) m m 0 (links_of files)) 0 (omega (arith, all))

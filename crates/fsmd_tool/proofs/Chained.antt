@@ -1,5 +1,5 @@
 -- What the status of a call of `chain` tells.
-use Rattle.std.proofs.Common.{◌≡◌, ℕ, zero, suc, ◌+◌, List, ◌++◌, Option, Some, None, refl, ap, subst, codes, decimal, arith}
+use Rattle.std.proofs.Common.{◌≡◌, true, ℕ, zero, suc, ◌+◌, List, ◌++◌, Option, Some, None, refl, ap, subst, codes, decimal, arith}
 use Rattle.std.specs.Prelude.{IsTrue}
 use Rattle.std.proofs.lemmas.Bool.{false≢true}
 use Rattle.command_words.specs.Words.{Asked, Chain}
@@ -10,6 +10,7 @@ use Rattle.sym_facts.specs.Facts.{Fact}
 use Rattle.certificates.specs.Obligations.{Yes}
 use Rattle.command_answers.specs.declared.answer.Status.TheVariants as statuses
 use Rattle.command_answers.specs.declared.answer.Answer.{Answer}
+use Rattle.command_answers.specs.Statuses.{status_of}
 use Rattle.command_answers.specs.Words.{operand}
 use Rattle.command_answers.specs.Texts.{SpellsMachine}
 use Rattle.command_answers.specs.Readings.{Reading}
@@ -17,13 +18,14 @@ use Rattle.command_answers.specs.Refusals.{RefusesMachine, RefusesPair, RefusesC
 use Rattle.command_answers.specs.Verdicts.{IsJudged, verdict_on}
 use Rattle.command_answers.specs.Links.{AtLink, links_of, IsOfChain}
 use Rattle.command_answers.specs.Replies.{lines_of}
-use Rattle.command_answers.specs.Follows.{Opens, Pairs, Judges, Fails, Holds, OpensMachine, OpensLink, OpensLinks, FollowsFrom}
+use Rattle.command_answers.specs.Follows.{Judges, Fails, Holds, OpensMachine, OpensLink, OpensLinks, FollowsFrom}
 use Rattle.fsmd_tool.specs.Asking.{is_chain}
 use Rattle.fsmd_tool.specs.Calls.{Call, held, MayHold, MayRead, IsCorrectFrom}
 use Rattle.fsmd_tool.specs.Puts.{Put}
 use Rattle.fsmd_tool.specs.Correct.{Answered}
 use Rattle.fsmd_tool.specs.Clauses.{LinksHold, IsChained}
-use Rattle.fsmd_tool.proofs.Statuses.{HasStatus, not_refused, machine_refuses, pair_refuses, certificate_refuses, link_refuses, link_status, judged_yes}
+use Rattle.fsmd_tool.proofs.Statuses.{HasStatus, is_refusal, not_refused, machine_refuses, pair_refuses, certificate_refuses, link_refuses, link_status, judged_yes}
+use Rattle.fsmd_tool.proofs.Linked.{judges, certificates, nexts}
 use Rattle.fsmd_tool.proofs.Found.{open_next, end_of, alike_of}
 use Rattle.fsmd_tool.proofs.Says.{well, put_lines}
 
@@ -36,7 +38,8 @@ record IsYes (a b : Fsmd) (nodes : List (Node Fact)) (P : (file : ℕ) → Readi
 
 module _ (o : Option Asked) (k : ℕ) (a b : Fsmd) (nodes : List (Node Fact)) (P : (file : ℕ) → Reading → Answer → Type 0) (n : ℕ) (g : Call) (x : Answer) where
   judged : (r : Reading) → HasStatus statuses.Fine x → MayRead g n r → Judges o k a b nodes P n r x → IsYes a b nodes P n g x
-  judged r s may (Fails no l e) = absurd (no (judged_yes a b (verdict_on a b nodes) l.stop l.meets.is (link_status statuses.Fine o k (IsJudged a b nodes) x l s)))
+  judged r s may (Fails no l e) = absurd (no (judged_yes a b (verdict_on a b nodes) l.stop l.meets.is
+      (link_status statuses.Fine o k (IsJudged a b nodes) x l s)))
   judged r s may (Holds yes p) = record { yes = yes; rest = record { reading = r; may_be_read = may; follows = p } }
 
 -- the files of a link, where its answer is none of its own, and what follows from the files behind it
@@ -49,20 +52,25 @@ record OfLink (g : Call) (n : ℕ) (last : Fsmd) (P : Fsmd → (file : ℕ) → 
   hold : verdict_on last next nodes ≡ Yes
   rest : IsCorrectFrom (P next) (n + 2) g x
 
-module _ (o : Option Asked) (k : ℕ) (last : Fsmd) (P : Fsmd → (file : ℕ) → Reading → Answer → Type 0) (n : ℕ) (g : Call) (x : Answer) (s : HasStatus statuses.Fine x) where
+module _ (o : Option Asked) (k : ℕ) (last : Fsmd) (P : Fsmd → (file : ℕ) → Reading → Answer → Type 0) (n : ℕ) (g : Call) (x : Answer)
+    (s : HasStatus statuses.Fine x) where
+  -- the answer is no refusal, told as that of the link
+  no_own : (Q : Answer → Type 0) → ((y : Answer) → Q y → is_refusal (status_of y) ≡ true) → AtLink o k Q x → ⊥
+  no_own Q refuses l = not_refused statuses.Fine x refl (link_refuses o k Q x refuses l) s
+
   of_link : IsCorrectFrom (OpensLink o k last P) n g x → OfLink g n last P x
   of_link c =
-      let m = open_next Fsmd (λ f d. AtLink o k (RefusesMachine f d)) SpellsMachine
-      (λ next. Pairs last next (AtLink o k (RefusesPair last next)) (Opens (List (Node Fact)) (λ f d. AtLink o k (RefusesCertificate last next f d)) (SpellsCertificate last next) (λ nodes. Judges o k last next nodes (P next)))) n g x
-      (λ d r. not_refused statuses.Fine x refl (link_refuses o k (RefusesMachine (operand n) d) x (λ y p. machine_refuses (operand n) d y p) r) s) c in
+      let m = open_next Fsmd (λ f d. AtLink o k (RefusesMachine f d)) SpellsMachine (nexts o k last P) n g x
+      (λ d r. no_own (RefusesMachine (operand n) d) (λ y p. machine_refuses (operand n) d y p) r) c in
       let b = m.value in
-      let t = alike_of last b (AtLink o k (RefusesPair last b)) (Opens (List (Node Fact)) (λ f d. AtLink o k (RefusesCertificate last b f d)) (SpellsCertificate last b) (λ nodes. Judges o k last b nodes (P b))) (n + 1) g x
-      (λ r. not_refused statuses.Fine x refl (link_refuses o k (RefusesPair last b) x (λ y p. pair_refuses last b y p) r) s) m.rest in
-      let q = open_next (List (Node Fact)) (λ f d. AtLink o k (RefusesCertificate last b f d)) (SpellsCertificate last b) (λ nodes. Judges o k last b nodes (P b)) (n + 1) g x
-      (λ d r. not_refused statuses.Fine x refl (link_refuses o k (RefusesCertificate last b (operand (n + 1)) d) x (λ y p. certificate_refuses last b (operand (n + 1)) d y p) r) s) t.rest in
+      let t = alike_of last b (AtLink o k (RefusesPair last b)) (certificates o k last b (P b)) (n + 1) g x
+      (λ r. no_own (RefusesPair last b) (λ y p. pair_refuses last b y p) r) m.rest in
+      let q = open_next (List (Node Fact)) (λ f d. AtLink o k (RefusesCertificate last b f d)) (SpellsCertificate last b) (judges o k last b (P b)) (n + 1) g x
+      (λ d r. no_own (RefusesCertificate last b (operand (n + 1)) d) (λ y p. certificate_refuses last b (operand (n + 1)) d y p) r) t.rest in
       let y = judged o k last b q.value (P b) (n + 1 + 1) g x q.rest.reading s q.rest.may_be_read q.rest.follows in
       let two : n + 1 + 1 ≡ n + 2 = omega arith in
-      record { next = b; nodes = q.value; machine = m.spells; alike = t.alike; certificate = q.spells; hold = y.yes; rest = subst (λ i. IsCorrectFrom (P b) i g x) two y.rest }
+      let rest = subst (λ i. IsCorrectFrom (P b) i g x) two y.rest in
+      record { next = b; nodes = q.value; machine = m.spells; alike = t.alike; certificate = q.spells; hold = y.yes; rest = rest }
 
 -- ---- all links
 
@@ -72,7 +80,8 @@ record Linked (g : Call) (n left links : ℕ) (first last : Fsmd) (x : Answer) :
   hold : LinksHold g n left last end
   told : IsOfChain first end links x
 
-linked : (o : Option Asked) (g : Call) (x : Answer) → HasStatus statuses.Fine x → (links : ℕ) (first last : Fsmd) (have left n : ℕ) → have + left ≡ links → IsCorrectFrom (OpensLinks o first last have left) n g x
+linked : (o : Option Asked) (g : Call) (x : Answer) → HasStatus statuses.Fine x → (links : ℕ) (first last : Fsmd) (have left n : ℕ) → have + left ≡ links
+    → IsCorrectFrom (OpensLinks o first last have left) n g x
     → Linked g n left links first last x
 linked o g x s links first last have zero n e c =
     let same : have ≡ links = omega (arith, e) in

@@ -29,10 +29,14 @@ use Rattle.fsmd_tool.proofs.Says.{well, put_lines}
 
 -- runs that end with other outputs show a difference
 replay_differs : (limit : ℕ) (a b : Fsmd) (ins : Inputs) (x : Answer) → IsOfReplay limit a b ins x → HasStatus statuses.Differ x → ShowsDifference a b ins limit
-replay_differs limit a b ins x (LeftStopped t e l) s = absurd (let h : statuses.Undecided ≡ statuses.Differ = moved statuses.Differ statuses.Undecided x _ l.is refl s in cc)
-replay_differs limit a b ins x (RightStopped o n f t e l) s = absurd (let h : statuses.Undecided ≡ statuses.Differ = moved statuses.Differ statuses.Undecided x _ l.is refl s in cc)
-replay_differs limit a b ins x (Agreed p q e t l) s = absurd (let h : statuses.Fine ≡ statuses.Differ = moved statuses.Differ statuses.Fine x _ l.is refl s in cc)
-replay_differs limit a b ins x (Differed p q e t l) s = record { left = p; right = q; left_steps = e.left_steps; right_steps = e.right_steps; left_ends = e.left_ends; right_ends = e.right_ends; differ = t }
+replay_differs limit a b ins x (LeftStopped t e l) s =
+    absurd (let h : statuses.Undecided ≡ statuses.Differ = moved statuses.Differ statuses.Undecided x _ l.is refl s in cc)
+replay_differs limit a b ins x (RightStopped o n f t e l) s =
+    absurd (let h : statuses.Undecided ≡ statuses.Differ = moved statuses.Differ statuses.Undecided x _ l.is refl s in cc)
+replay_differs limit a b ins x (Agreed p q e t l) s =
+    absurd (let h : statuses.Fine ≡ statuses.Differ = moved statuses.Differ statuses.Fine x _ l.is refl s in cc)
+replay_differs limit a b ins x (Differed p q e t l) s =
+    record { left = p; right = q; left_steps = e.left_steps; right_steps = e.right_steps; left_ends = e.left_ends; right_ends = e.right_ends; differ = t }
 
 -- inputs that show a difference, and the lines of the end of the chain of their first reductions
 record Small (limit : ℕ) (a b : Fsmd) (ins : Inputs) (x : Answer) : Type 0 where

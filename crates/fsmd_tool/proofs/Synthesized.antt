@@ -33,7 +33,8 @@ use Rattle.fsmd_tool.proofs.Says.{well, put_lines}
 
 -- ---- programs
 
-compile_follows : (g : Call) (x : Answer) (o : Option Asked) → IsTrue (is_compile o) → IsCorrectFrom (FollowsFrom o) 0 g x → IsCorrectFrom (OpensProgram (λ p. Ends (IsOfProgram p))) 0 g x
+compile_follows : (g : Call) (x : Answer) (o : Option Asked) → IsTrue (is_compile o) → IsCorrectFrom (FollowsFrom o) 0 g x
+    → IsCorrectFrom (OpensProgram (λ p. Ends (IsOfProgram p))) 0 g x
 compile_follows g x (Some (Compile program)) t c = c
 compile_follows g x _ t c = absurd (false≢true t)
 
@@ -41,7 +42,8 @@ pub is_compiled : (g : Call) (p : Put) → Answered g p → p.status ≡ statuse
 is_compiled g p a e t =
     let w = well g p statuses.Fine a refl e in
     let x = a.answer in
-    let k = open_next Program RefusesProgram SpellsProgram (λ q. Ends (IsOfProgram q)) 0 g x (λ c r. not_refused statuses.Fine x refl (program_refuses (operand 0) c x r) w.meant_is) (compile_follows g x g.asked t a.correct) in
+    let k = open_next Program RefusesProgram SpellsProgram (λ q. Ends (IsOfProgram q)) 0 g x
+    (λ c r. not_refused statuses.Fine x refl (program_refuses (operand 0) c x r) w.meant_is) (compile_follows g x g.asked t a.correct) in
     let l : HasLines (IsCompiledText k.value) Text x = end_of (IsOfProgram k.value) 1 g x k.rest in
     record { program = k.value; text = l.lines; first = k.spells; is = l.holds; put = put_lines g p x l.lines w.got (ap (λ y. lines_of y g.asked) l.is) }
 
@@ -65,7 +67,16 @@ is_in_rows g p a e t =
     let u = open_next Units RefusesUnits SpellUnits (λ counts. Ends (IsOfSchedule k.value counts)) 1 g x
     (λ c r. not_refused statuses.Fine x refl (keys_refuse HaveUnitFault (operand 1) c x r) w.meant_is) k.rest in
     let l = in_schedule k.value u.value x (end_of (IsOfSchedule k.value u.value) 2 g x u.rest) w.meant_is in
-    record { parts = k.value; units = u.value; text = l.lines; first = k.spells; second = u.spells; is = l.holds; put = put_lines g p x l.lines w.got (ap (λ y. lines_of y g.asked) l.is) }
+    record {
+      parts = k.value;
+      units = u.value;
+      text = l.lines;
+      first = k.spells;
+      second = u.spells;
+      is = l.holds;
+      put = put_lines g p x l.lines w.got
+          (ap (λ y. lines_of y g.asked) l.is);
+    }
 
 bind_follows : (g : Call) (x : Answer) (o : Option Asked) → IsTrue (is_bind o) → IsCorrectFrom (FollowsFrom o) 0 g x
     → IsCorrectFrom (OpensParts (λ parts. OpensBinding (machine_of parts) (λ b. Ends (IsOfBinding parts b)))) 0 g x
@@ -86,4 +97,13 @@ is_in_registers g p a e t =
     let u = open_next Binding (RefusesBinding m) (SpellsBinding m) (λ b. Ends (IsOfBinding k.value b)) 1 g x
     (λ c r. not_refused statuses.Fine x refl (keys_refuse (HasBindingFault m) (operand 1) c x r) w.meant_is) k.rest in
     let l = in_registers k.value u.value x (end_of (IsOfBinding k.value u.value) 2 g x u.rest) w.meant_is in
-    record { parts = k.value; binding = u.value; text = l.lines; first = k.spells; second = u.spells; is = l.holds; put = put_lines g p x l.lines w.got (ap (λ y. lines_of y g.asked) l.is) }
+    record {
+      parts = k.value;
+      binding = u.value;
+      text = l.lines;
+      first = k.spells;
+      second = u.spells;
+      is = l.holds;
+      put = put_lines g p x l.lines w.got
+          (ap (λ y. lines_of y g.asked) l.is);
+    }

@@ -10,11 +10,14 @@ use Rattle.fsmd_tool.proofs.answers.check.Goals as goal
 
 pub returns-in_err-left-clause-answers : goal.returns-in_err-left-clause-answers
 returns-in_err-left-clause-answers g c =
-    let h : WhereAnswered (IsCorrectFrom (OpensPair (λ a b. Ends (IsOfPair c.args.steps c.args.keeps a b))) 0 (call (Some (asked c.args.ask.now)) (g.F.Files.told c.args.files.now) (g.F.Files.told c.load_pair.new.files))) c.in_err-left.field-0.0 =
+    let h : WhereAnswered (IsCorrectFrom (OpensPair (λ a b. Ends (IsOfPair c.args.steps c.args.keeps a b))) 0
+    (call (Some (asked c.args.ask.now)) (g.F.Files.told c.args.files.now) (g.F.Files.told c.load_pair.new.files))) c.in_err-left.field-0.0 =
     pair_refused (λ a b. Ends (IsOfPair c.args.steps c.args.keeps a b)) _ _ c.in_err-left.ensures.refused in
     search rules
 
 pub returns-clause-answers : goal.returns-clause-answers
 returns-clause-answers g c =
-    pair_spelled (λ a b. Ends (IsOfPair c.args.steps c.args.keeps a b)) _ c.in_ok-left.field-0.left c.in_ok-left.field-0.right c.in_ok-left.ensures.left c.in_ok-left.ensures.right c.in_ok-left.ensures.alike (Ok c.in_ok-compare.field-0)
+    pair_spelled (λ a b. Ends (IsOfPair c.args.steps c.args.keeps a b))
+    _ c.in_ok-left.field-0.left c.in_ok-left.field-0.right c.in_ok-left.ensures.left c.in_ok-left.ensures.right c.in_ok-left.ensures.alike
+    (Ok c.in_ok-compare.field-0)
     (ended (IsOfPair c.args.steps c.args.keeps c.in_ok-left.field-0.left c.in_ok-left.field-0.right) 2 _ c.in_ok-compare.field-0 c.in_ok-compare.ensures)

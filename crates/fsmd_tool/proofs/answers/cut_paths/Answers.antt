@@ -13,10 +13,12 @@ use Rattle.fsmd_tool.proofs.answers.cut_paths.Goals as goal
 
 pub returns-in_err-machine-clause-answers : goal.returns-in_err-machine-clause-answers
 returns-in_err-machine-clause-answers g c =
-    let h : WhereAnswered (IsCorrectFrom (OpensMachine (λ m. Ends (λ answer. answer ≡ Text (paths_text m)))) 0 (call (Some (asked c.args.ask.now)) (g.F.Files.told c.args.files.now) (g.F.Files.told c.load_machine.new.files))) c.in_err-machine.field-0.0 =
+    let h : WhereAnswered (IsCorrectFrom (OpensMachine (λ m. Ends (λ answer. answer ≡ Text (paths_text m)))) 0
+    (call (Some (asked c.args.ask.now)) (g.F.Files.told c.args.files.now) (g.F.Files.told c.load_machine.new.files))) c.in_err-machine.field-0.0 =
     refused_as Fsmd RefusesMachine SpellsMachine (λ m. Ends (λ answer. answer ≡ Text (paths_text m))) 0 _ _ c.in_err-machine.ensures.refused in
     search rules
 
 pub returns-clause-answers : goal.returns-clause-answers
 returns-clause-answers g c =
-    spelled_last Fsmd RefusesMachine SpellsMachine (λ m answer. answer ≡ Text (paths_text m)) 0 _ c.in_ok-machine.machine _ c.in_ok-machine.ensures.spells (ap Text (c.of-lines.ensures ∙ c.in_ok-list_paths.ensures))
+    spelled_last Fsmd RefusesMachine SpellsMachine (λ m answer. answer ≡ Text (paths_text m)) 0 _ c.in_ok-machine.machine _ c.in_ok-machine.ensures.spells
+    (ap Text (c.of-lines.ensures ∙ c.in_ok-list_paths.ensures))

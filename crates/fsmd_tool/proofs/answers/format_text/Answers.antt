@@ -13,10 +13,12 @@ use Rattle.fsmd_tool.proofs.answers.format_text.Goals as goal
 
 pub returns-in_err-parts-clause-answers : goal.returns-in_err-parts-clause-answers
 returns-in_err-parts-clause-answers g c =
-    let h : WhereAnswered (IsCorrectFrom (OpensParts (λ parts. Ends (λ answer. answer ≡ Text (canonical parts)))) 0 (call (Some (asked c.args.ask.now)) (g.F.Files.told c.args.files.now) (g.F.Files.told c.load.new.files))) c.in_err-parts.field-0.0 =
+    let h : WhereAnswered (IsCorrectFrom (OpensParts (λ parts. Ends (λ answer. answer ≡ Text (canonical parts)))) 0
+    (call (Some (asked c.args.ask.now)) (g.F.Files.told c.args.files.now) (g.F.Files.told c.load.new.files))) c.in_err-parts.field-0.0 =
     refused_as Source RefusesMachine SpellsParts (λ parts. Ends (λ answer. answer ≡ Text (canonical parts))) 0 _ _ c.in_err-parts.ensures.refused in
     search rules
 
 pub returns-in-Ok-clause-answers : goal.returns-in-Ok-clause-answers
 returns-in-Ok-clause-answers g c =
-    spelled_last Source RefusesMachine SpellsParts (λ parts answer. answer ≡ Text (canonical parts)) 0 _ _ _ (parts_held _ _ _ c.in_ok-parts.ensures.loaded) (ap Text (c.of.ensures ∙ c.in-Ok.ensures.text))
+    spelled_last Source RefusesMachine SpellsParts (λ parts answer. answer ≡ Text (canonical parts)) 0 _ _ _ (parts_held _ _ _ c.in_ok-parts.ensures.loaded)
+    (ap Text (c.of.ensures ∙ c.in-Ok.ensures.text))

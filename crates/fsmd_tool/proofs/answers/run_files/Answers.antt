@@ -13,11 +13,14 @@ use Rattle.fsmd_tool.proofs.answers.run_files.Goals as goal
 
 pub returns-in_err-machine-clause-answers : goal.returns-in_err-machine-clause-answers
 returns-in_err-machine-clause-answers g c =
-    let h : WhereAnswered (IsCorrectFrom (Opens Fsmd RefusesMachine SpellsMachine (λ m. OpensInputs m (λ ins. Ends (IsOfRun c.args.steps m ins)))) 0 (call (Some (asked c.args.ask.now)) (g.F.Files.told c.args.files.now) (g.F.Files.told c.load_machine.new.files))) c.in_err-machine.field-0.0 =
+    let h : WhereAnswered (IsCorrectFrom (Opens Fsmd RefusesMachine SpellsMachine (λ m. OpensInputs m (λ ins. Ends (IsOfRun c.args.steps m ins)))) 0
+    (call (Some (asked c.args.ask.now)) (g.F.Files.told c.args.files.now) (g.F.Files.told c.load_machine.new.files))) c.in_err-machine.field-0.0 =
     refused_as Fsmd RefusesMachine SpellsMachine (λ m. OpensInputs m (λ ins. Ends (IsOfRun c.args.steps m ins))) 0 _ _ c.in_err-machine.ensures.refused in
     search rules
 
 pub returns-clause-answers : goal.returns-clause-answers
 returns-clause-answers g c =
     let v = c.in_ok-machine.machine in
-    spelled_as Fsmd RefusesMachine SpellsMachine (λ m. OpensInputs m (λ ins. Ends (IsOfRun c.args.steps m ins))) 0 _ v c.in_ok-machine.ensures.spells c.run_from.result (answers_since _ _ _ _ c.load_machine.ensures.only_read _ 1 c.run_from.result c.run_from.ensures.answers)
+    spelled_as Fsmd RefusesMachine SpellsMachine (λ m. OpensInputs m (λ ins. Ends (IsOfRun c.args.steps m ins)))
+    0 _ v c.in_ok-machine.ensures.spells c.run_from.result
+    (answers_since _ _ _ _ c.load_machine.ensures.only_read _ 1 c.run_from.result c.run_from.ensures.answers)

@@ -12,9 +12,14 @@ use Rattle.fsmd_tool.proofs.answers.run_from.Goals as goal
 
 pub returns-in_err-inputs-clause-answers : goal.returns-in_err-inputs-clause-answers
 returns-in_err-inputs-clause-answers g c =
-    let h : WhereAnswered (IsCorrectFrom (Opens Inputs (RefusesInputs c.args.machine.now) (SpellsInputs c.args.machine.now) (λ v. Ends (IsOfRun c.args.steps c.args.machine.now v))) 1 (call (Some (asked c.args.ask.now)) (g.F.Files.told c.args.files.now) (g.F.Files.told c.load_inputs.new.files))) c.in_err-inputs.field-0.0 =
-    refused_as Inputs (RefusesInputs c.args.machine.now) (SpellsInputs c.args.machine.now) (λ v. Ends (IsOfRun c.args.steps c.args.machine.now v)) 1 _ _ c.in_err-inputs.ensures.refused in
+    let h : WhereAnswered (IsCorrectFrom (Opens Inputs (RefusesInputs c.args.machine.now) (SpellsInputs c.args.machine.now)
+    (λ v. Ends (IsOfRun c.args.steps c.args.machine.now v))) 1
+    (call (Some (asked c.args.ask.now)) (g.F.Files.told c.args.files.now) (g.F.Files.told c.load_inputs.new.files))) c.in_err-inputs.field-0.0 =
+    refused_as Inputs (RefusesInputs c.args.machine.now) (SpellsInputs c.args.machine.now) (λ v. Ends (IsOfRun c.args.steps c.args.machine.now v))
+    1 _ _ c.in_err-inputs.ensures.refused in
     search rules
 
 pub returns-clause-answers : goal.returns-clause-answers
-returns-clause-answers g c = spelled_last Inputs (RefusesInputs c.args.machine.now) (SpellsInputs c.args.machine.now) (IsOfRun c.args.steps c.args.machine.now) 1 _ (inputs_of c.in_ok-inputs.inputs) c.in_ok-run_machine.field-0 c.in_ok-inputs.ensures.spells c.in_ok-run_machine.ensures
+returns-clause-answers g c = spelled_last Inputs (RefusesInputs c.args.machine.now) (SpellsInputs c.args.machine.now)
+    (IsOfRun c.args.steps c.args.machine.now) 1 _ (inputs_of c.in_ok-inputs.inputs)
+    c.in_ok-run_machine.field-0 c.in_ok-inputs.ensures.spells c.in_ok-run_machine.ensures

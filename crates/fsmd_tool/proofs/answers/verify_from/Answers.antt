@@ -14,12 +14,17 @@ use Rattle.fsmd_tool.proofs.answers.verify_from.Goals as goal
 
 pub returns-in_err-cert-clause-answers : goal.returns-in_err-cert-clause-answers
 returns-in_err-cert-clause-answers g c =
-    let h : WhereAnswered (IsCorrectFrom (Opens (List (Node Fact)) (RefusesCertificate c.args.left.now c.args.right.now) (SpellsCertificate c.args.left.now c.args.right.now) (λ v. Ends (IsJudged c.args.left.now c.args.right.now v))) 2 (call (Some (asked c.args.ask.now)) (g.F.Files.told c.args.files.now) (g.F.Files.told c.load_certificate.new.files))) c.in_err-cert.field-0.0 =
-    refused_as (List (Node Fact)) (RefusesCertificate c.args.left.now c.args.right.now) (SpellsCertificate c.args.left.now c.args.right.now) (λ v. Ends (IsJudged c.args.left.now c.args.right.now v)) 2 _ _ c.in_err-cert.ensures.refused in
+    let h : WhereAnswered (IsCorrectFrom (Opens (List (Node Fact)) (RefusesCertificate c.args.left.now c.args.right.now)
+    (SpellsCertificate c.args.left.now c.args.right.now) (λ v. Ends (IsJudged c.args.left.now c.args.right.now v))) 2
+    (call (Some (asked c.args.ask.now)) (g.F.Files.told c.args.files.now) (g.F.Files.told c.load_certificate.new.files))) c.in_err-cert.field-0.0 =
+    refused_as (List (Node Fact)) (RefusesCertificate c.args.left.now c.args.right.now) (SpellsCertificate c.args.left.now c.args.right.now)
+    (λ v. Ends (IsJudged c.args.left.now c.args.right.now v)) 2 _ _ c.in_err-cert.ensures.refused in
     search rules
 
 pub returns-clause-answers : goal.returns-clause-answers
-returns-clause-answers g c = spelled_last (List (Node Fact)) (RefusesCertificate c.args.left.now c.args.right.now) (SpellsCertificate c.args.left.now c.args.right.now) (IsJudged c.args.left.now c.args.right.now) 2 _ (map node_of c.in_ok-cert.cert.nodes.items) c.in_ok-judge.field-0 c.in_ok-cert.ensures.spells c.in_ok-judge.ensures
+returns-clause-answers g c = spelled_last (List (Node Fact)) (RefusesCertificate c.args.left.now c.args.right.now)
+    (SpellsCertificate c.args.left.now c.args.right.now) (IsJudged c.args.left.now c.args.right.now) 2 _ (map node_of c.in_ok-cert.cert.nodes.items)
+    c.in_ok-judge.field-0 c.in_ok-cert.ensures.spells c.in_ok-judge.ensures
 
 pub judge-requires-clause-lawful : goal.judge-requires-clause-lawful
 judge-requires-clause-lawful g c = c.in_ok-cert.ensures.spells.meet.lawful

@@ -6,10 +6,12 @@ use Rattle.fsmd_tool.proofs.drive.answer_command.Goals as goal
 
 pub returns-in-Check-clause-answers : goal.returns-in-Check-clause-answers
 returns-in-Check-clause-answers g c =
-    check_answers _ _ string_bytes c.in-Check.cert c.in-Check.steps c.is_some.result _ c.check.result (ap (λ (k : Ask). Some (asked k)) c.in-Check.is) c.is_some.ensures c.check.ensures.answers
+    check_answers _ _ string_bytes c.in-Check.cert c.in-Check.steps c.is_some.result _ c.check.result (ap (λ (k : Ask). Some (asked k)) c.in-Check.is)
+    c.is_some.ensures c.check.ensures.answers
 
 pub returns-in_ok-compare_generated-in-Generate-clause-answers : goal.returns-in_ok-compare_generated-in-Generate-clause-answers
-returns-in_ok-compare_generated-in-Generate-clause-answers g c = of_loops _ c.in-Generate.n _ (ap (λ (k : Ask). Some (asked k)) c.in-Generate.is) c.in_ok-compare_generated-in-Generate.ensures
+returns-in_ok-compare_generated-in-Generate-clause-answers g c =
+    of_loops _ c.in-Generate.n _ (ap (λ (k : Ask). Some (asked k)) c.in-Generate.is) c.in_ok-compare_generated-in-Generate.ensures
 
 pub returns-in-Verify-clause-answers : goal.returns-in-Verify-clause-answers
 returns-in-Verify-clause-answers g c = answers_as _ _ c.verify_files.result (ap (λ (k : Ask). Some (asked k)) c.in-Verify.is) c.verify_files.ensures.answers
@@ -30,7 +32,8 @@ pub returns-in-Compile-clause-answers : goal.returns-in-Compile-clause-answers
 returns-in-Compile-clause-answers g c = answers_as _ _ c.compile_file.result (ap (λ (k : Ask). Some (asked k)) c.in-Compile.is) c.compile_file.ensures.answers
 
 pub returns-in-Schedule-clause-answers : goal.returns-in-Schedule-clause-answers
-returns-in-Schedule-clause-answers g c = answers_as _ _ c.schedule_files.result (ap (λ (k : Ask). Some (asked k)) c.in-Schedule.is) c.schedule_files.ensures.answers
+returns-in-Schedule-clause-answers g c = answers_as _ _ c.schedule_files.result (ap (λ (k : Ask). Some (asked k)) c.in-Schedule.is)
+    c.schedule_files.ensures.answers
 
 pub returns-in-Bind-clause-answers : goal.returns-in-Bind-clause-answers
 returns-in-Bind-clause-answers g c = answers_as _ _ c.bind_files.result (ap (λ (k : Ask). Some (asked k)) c.in-Bind.is) c.bind_files.ensures.answers
@@ -39,7 +42,8 @@ pub returns-in-Shrink-clause-answers : goal.returns-in-Shrink-clause-answers
 returns-in-Shrink-clause-answers g c = answers_as _ _ c.shrink_files.result (ap (λ (k : Ask). Some (asked k)) c.in-Shrink.is) c.shrink_files.ensures.answers
 
 pub returns-in-Chain-clause-answers : goal.returns-in-Chain-clause-answers
-returns-in-Chain-clause-answers g c = chain_answers (map string_bytes c.as_slice.result.now) _ c.chain_files.result (ap (λ (k : Ask). Some (asked k)) c.in-Chain.is) c.chain_files.ensures.answers
+returns-in-Chain-clause-answers g c = chain_answers (map string_bytes c.as_slice.result.now) _ c.chain_files.result
+    (ap (λ (k : Ask). Some (asked k)) c.in-Chain.is) c.chain_files.ensures.answers
 
 pub check-requires : goal.check-requires
 check-requires g c = let limits = rw c.in-Check.is at c.requires in limits.0

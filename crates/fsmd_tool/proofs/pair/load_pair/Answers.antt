@@ -13,13 +13,15 @@ use Rattle.fsmd_tool.proofs.pair.load_pair.Goals as goal
 
 pub returns-in_err-left-clause-refused : goal.returns-in_err-left-clause-refused
 returns-in_err-left-clause-refused g c =
-    let h : WhereAnswered (IsCorrectFrom RefusesBoth 0 (call (Some (asked c.args.ask.now)) (g.F.Files.told c.args.files.now) (g.F.Files.told c.load_machine.new.files))) c.in_err-left.field-0.0 =
+    let h : WhereAnswered (IsCorrectFrom RefusesBoth 0 (call (Some (asked c.args.ask.now)) (g.F.Files.told c.args.files.now)
+    (g.F.Files.told c.load_machine.new.files))) c.in_err-left.field-0.0 =
     refused_as Fsmd RefusesMachine SpellsMachine RefusesNext 0 _ _ c.in_err-left.ensures.refused in
     search rules
 
 pub returns-in_err-machine-clause-refused : goal.returns-in_err-machine-clause-refused
 returns-in_err-machine-clause-refused g c =
-    let h : WhereAnswered (IsCorrectFrom RefusesBoth 0 (call (Some (asked c.args.ask.now)) (g.F.Files.told c.args.files.now) (g.F.Files.told c.load_next.new.files))) c.in_err-machine.field-0.0 =
+    let h : WhereAnswered (IsCorrectFrom RefusesBoth 0 (call (Some (asked c.args.ask.now)) (g.F.Files.told c.args.files.now)
+    (g.F.Files.told c.load_next.new.files))) c.in_err-machine.field-0.0 =
     spelled_as Fsmd RefusesMachine SpellsMachine RefusesNext 0 _ c.in_ok-left.left c.in_ok-left.ensures.spells (Err c.in_err-machine.field-0.0)
     (answers_since _ _ _ _ c.load_machine.ensures.only_read _ 1 (Err c.in_err-machine.field-0.0) c.in_err-machine.ensures.refused) in
     search rules

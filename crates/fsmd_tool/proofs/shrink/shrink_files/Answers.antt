@@ -11,13 +11,15 @@ use Rattle.fsmd_tool.proofs.shrink.shrink_files.Goals as goal
 
 pub returns-in_err-pair-clause-answers : goal.returns-in_err-pair-clause-answers
 returns-in_err-pair-clause-answers g c =
-    let h : WhereAnswered (IsCorrectFrom (OpensPair (λ a b. OpensInputs a (λ ins. Ends (IsOfShrink c.args.steps a b ins)))) 0 (call (Some (asked c.args.ask.now)) (g.F.Files.told c.args.files.now) (g.F.Files.told c.load_pair.new.files))) c.in_err-pair.field-0.0 =
+    let h : WhereAnswered (IsCorrectFrom (OpensPair (λ a b. OpensInputs a (λ ins. Ends (IsOfShrink c.args.steps a b ins)))) 0
+    (call (Some (asked c.args.ask.now)) (g.F.Files.told c.args.files.now) (g.F.Files.told c.load_pair.new.files))) c.in_err-pair.field-0.0 =
     pair_refused (λ a b. OpensInputs a (λ ins. Ends (IsOfShrink c.args.steps a b ins))) _ _ c.in_err-pair.ensures.refused in
     search rules
 
 pub returns-clause-answers : goal.returns-clause-answers
 returns-clause-answers g c =
-    pair_spelled (λ a b. OpensInputs a (λ ins. Ends (IsOfShrink c.args.steps a b ins))) _ c.in_ok-pair.pair.left c.in_ok-pair.pair.right c.in_ok-pair.ensures.left c.in_ok-pair.ensures.right c.in_ok-pair.ensures.alike c.shrink_from.result
+    pair_spelled (λ a b. OpensInputs a (λ ins. Ends (IsOfShrink c.args.steps a b ins)))
+    _ c.in_ok-pair.pair.left c.in_ok-pair.pair.right c.in_ok-pair.ensures.left c.in_ok-pair.ensures.right c.in_ok-pair.ensures.alike c.shrink_from.result
     (answers_since _ _ _ _ c.load_pair.ensures.only_read _ 2 c.shrink_from.result c.shrink_from.ensures.answers)
 
 pub shrink_from-requires-clause-ports : goal.shrink_from-requires-clause-ports

@@ -15,14 +15,23 @@ use Rattle.fsmd_tool.proofs.synthesis.bind_files.Goals as goal
 
 pub returns-in_err-loaded-clause-answers : goal.returns-in_err-loaded-clause-answers
 returns-in_err-loaded-clause-answers g c =
-    let h : WhereAnswered (IsCorrectFrom (Opens Source RefusesMachine SpellsParts (λ parts. OpensBinding (machine_of parts) (λ b. Ends (IsOfBinding parts b)))) 0 (call (Some (asked c.args.ask.now)) (g.F.Files.told c.args.files.now) (g.F.Files.told c.load.new.files))) c.in_err-loaded.field-0.0 =
-    refused_as Source RefusesMachine SpellsParts (λ parts. OpensBinding (machine_of parts) (λ b. Ends (IsOfBinding parts b))) 0 _ _ c.in_err-loaded.ensures.refused in
+    let h : WhereAnswered (IsCorrectFrom (Opens Source RefusesMachine SpellsParts
+    (λ parts. OpensBinding (machine_of parts) (λ b. Ends (IsOfBinding parts b)))) 0
+    (call (Some (asked c.args.ask.now)) (g.F.Files.told c.args.files.now) (g.F.Files.told c.load.new.files))) c.in_err-loaded.field-0.0 =
+    refused_as Source RefusesMachine SpellsParts (λ parts. OpensBinding (machine_of parts) (λ b. Ends (IsOfBinding parts b)))
+    0 _ _ c.in_err-loaded.ensures.refused in
     search rules
 
 pub returns-clause-answers : goal.returns-clause-answers
 returns-clause-answers g c =
     let v = source_of c.in_ok-loaded.loaded.parts in
-    spelled_as Source RefusesMachine SpellsParts (λ parts. OpensBinding (machine_of parts) (λ b. Ends (IsOfBinding parts b))) 0 _ v (parts_held _ _ _ c.in_ok-loaded.ensures.loaded) c.bind_from.result (answers_since _ _ _ _ c.load.ensures.only_read _ 1 c.bind_from.result c.bind_from.ensures.answers)
+    spelled_as Source RefusesMachine SpellsParts (λ parts. OpensBinding (machine_of parts) (λ b. Ends (IsOfBinding parts b))) 0 _ v
+    (parts_held _ _ _ c.in_ok-loaded.ensures.loaded) c.bind_from.result
+    (answers_since _ _ _ _ c.load.ensures.only_read _ 1 c.bind_from.result c.bind_from.ensures.answers)
 
 pub bind_from-requires : goal.bind_from-requires
-bind_from-requires g c = record { formed = c.in_ok-loaded.ensures.well_formed; lawful = c.in_ok-loaded.ensures.loaded.meet.spells.lawful; spelled = c.in_ok-loaded.ensures.loaded.meet.machine }
+bind_from-requires g c = record {
+  formed = c.in_ok-loaded.ensures.well_formed;
+  lawful = c.in_ok-loaded.ensures.loaded.meet.spells.lawful;
+  spelled = c.in_ok-loaded.ensures.loaded.meet.machine;
+}

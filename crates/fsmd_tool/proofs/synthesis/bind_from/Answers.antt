@@ -15,7 +15,8 @@ returns-in_err-binding-clause-answers g c =
     let p = source_of c.args.loaded.now.parts in
     let m = machine_of p in
     let r = rw c.requires.spelled at c.in_err-binding.ensures.refused in
-    let h : WhereAnswered (IsCorrectFrom (OpensBinding m (λ b. Ends (IsOfBinding p b))) 1 (call (Some (asked c.args.ask.now)) (g.F.Files.told c.args.files.now) (g.F.Files.told c.load_binding.new.files))) c.in_err-binding.field-0.0 =
+    let h : WhereAnswered (IsCorrectFrom (OpensBinding m (λ b. Ends (IsOfBinding p b))) 1
+    (call (Some (asked c.args.ask.now)) (g.F.Files.told c.args.files.now) (g.F.Files.told c.load_binding.new.files))) c.in_err-binding.field-0.0 =
     refused_as Binding (RefusesBinding m) (SpellsBinding m) (λ b. Ends (IsOfBinding p b)) 1 _ _ r in
     search rules
 
@@ -24,4 +25,5 @@ returns-clause-answers g c =
     let p = source_of c.args.loaded.now.parts in
     let m = machine_of p in
     let spells = rw c.requires.spelled at c.in_ok-binding.ensures.spells in
-    spelled_last Binding (RefusesBinding m) (SpellsBinding m) (IsOfBinding p) 1 _ c.in_ok-binding.binding c.in_ok-bind_machine.field-0 spells c.in_ok-bind_machine.ensures
+    spelled_last Binding (RefusesBinding m) (SpellsBinding m) (IsOfBinding p)
+    1 _ c.in_ok-binding.binding c.in_ok-bind_machine.field-0 spells c.in_ok-bind_machine.ensures
