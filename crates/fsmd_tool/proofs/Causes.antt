@@ -50,8 +50,8 @@ record OneFailed (g : Call) (files : ℕ) : Type 0 where
   within : file < files
   failed : FailedToRead g (operand file)
 
-failed : (k : Held) (F : Type 0) (c : Content) → MayBeRead k F c → c ≡ Unreadable → F
-failed k F c m e = subst (λ d. MayBeRead k F d) e m
+faulted : (k : Held) (F : Type 0) (c : Content) → MayBeRead k F c → c ≡ Unreadable → F
+faulted k F c m e = subst (λ d. MayBeRead k F d) e m
 
 module _ (g : Call) (files : ℕ) (x : Answer) where
   module _ (T : Type 0) (R : Operand → Content → Answer → Type 0) (S : T → List ℕ → Type 0) (P : T → (file : ℕ) → Reading → Answer → Type 0) (n : ℕ) where
@@ -59,7 +59,7 @@ module _ (g : Call) (files : ℕ) (x : Answer) where
         → ((v : T) → IsCorrectFrom (P v) (n + 1) g x → OneFailed g files) → MayRead g n r → Opens T R S P n r x → OneFailed g files
     opens_by [] within own behind may o = absurd o
     opens_by (c ∷ rest) within own behind may (Refused p e) =
-        record { file = n; within = within; failed = failed (held g (operand n)) (FailedToRead g (operand n)) c may.0 (own c p) }
+        record { file = n; within = within; failed = faulted (held g (operand n)) (FailedToRead g (operand n)) c may.0 (own c p) }
     opens_by (c ∷ rest) within own behind may (Spelled v h p) = behind v (record { reading = rest; may_be_read = may.1; follows = p })
 
     -- the next file failed, or one behind it

@@ -7,13 +7,13 @@ use Rattle.fs_runs.specs.InputValues.{inputs_of}
 use Rattle.fs_show.proofs.Serving.{serves_both}
 use Rattle.command_answers.specs.InputFiles.{RefusesInputs, SpellsInputs}
 use Rattle.command_answers.specs.Replays.{IsOfReplay}
-use Rattle.command_answers.specs.Follows.{Ends, Opens}
+use Rattle.command_answers.specs.Follows.{Ends, OpensInputs}
 use Rattle.fsmd_tool.proofs.FromFiles.{refused_as, spelled_last}
 use Rattle.fsmd_tool.proofs.answers.replay_from.Goals as goal
 
 pub returns-in_err-inputs-clause-answers : goal.returns-in_err-inputs-clause-answers
 returns-in_err-inputs-clause-answers g c =
-    let h : WhereAnswered (IsCorrectFrom (Opens Inputs (RefusesInputs c.args.left.now) (SpellsInputs c.args.left.now)
+    let h : WhereAnswered (IsCorrectFrom (OpensInputs c.args.left.now
     (λ v. Ends (IsOfReplay c.args.steps c.args.left.now c.args.right.now v))) 2
     (call (Some (asked c.args.ask.now)) (g.F.Files.told c.args.files.now) (g.F.Files.told c.load_inputs.new.files))) c.in_err-inputs.field-0.0 =
     refused_as Inputs (RefusesInputs c.args.left.now) (SpellsInputs c.args.left.now) (λ v. Ends (IsOfReplay c.args.steps c.args.left.now c.args.right.now v))

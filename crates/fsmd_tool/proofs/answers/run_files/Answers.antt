@@ -6,14 +6,14 @@ use Rattle.fs_model.specs.Machines.{Fsmd}
 use Rattle.command_answers.specs.Texts.{SpellsMachine}
 use Rattle.command_answers.specs.Refusals.{RefusesMachine}
 use Rattle.command_answers.specs.Runs.{IsOfRun}
-use Rattle.command_answers.specs.Follows.{Ends, Opens, OpensInputs}
+use Rattle.command_answers.specs.Follows.{Ends, OpensInputs, OpensMachine}
 use Rattle.fsmd_tool.proofs.FromFiles.{refused_as, spelled_as}
 use Rattle.fsmd_tool.proofs.Later.{answers_since}
 use Rattle.fsmd_tool.proofs.answers.run_files.Goals as goal
 
 pub returns-in_err-machine-clause-answers : goal.returns-in_err-machine-clause-answers
 returns-in_err-machine-clause-answers g c =
-    let h : WhereAnswered (IsCorrectFrom (Opens Fsmd RefusesMachine SpellsMachine (λ m. OpensInputs m (λ ins. Ends (IsOfRun c.args.steps m ins)))) 0
+    let h : WhereAnswered (IsCorrectFrom (OpensMachine (λ m. OpensInputs m (λ ins. Ends (IsOfRun c.args.steps m ins)))) 0
     (call (Some (asked c.args.ask.now)) (g.F.Files.told c.args.files.now) (g.F.Files.told c.load_machine.new.files))) c.in_err-machine.field-0.0 =
     refused_as Fsmd RefusesMachine SpellsMachine (λ m. OpensInputs m (λ ins. Ends (IsOfRun c.args.steps m ins))) 0 _ _ c.in_err-machine.ensures.refused in
     search rules

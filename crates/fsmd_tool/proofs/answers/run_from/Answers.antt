@@ -6,13 +6,13 @@ use Rattle.fs_model.specs.Runs.{Inputs}
 use Rattle.fs_runs.specs.InputValues.{inputs_of}
 use Rattle.command_answers.specs.InputFiles.{RefusesInputs, SpellsInputs}
 use Rattle.command_answers.specs.Runs.{IsOfRun}
-use Rattle.command_answers.specs.Follows.{Ends, Opens}
+use Rattle.command_answers.specs.Follows.{Ends, OpensInputs}
 use Rattle.fsmd_tool.proofs.FromFiles.{refused_as, spelled_last}
 use Rattle.fsmd_tool.proofs.answers.run_from.Goals as goal
 
 pub returns-in_err-inputs-clause-answers : goal.returns-in_err-inputs-clause-answers
 returns-in_err-inputs-clause-answers g c =
-    let h : WhereAnswered (IsCorrectFrom (Opens Inputs (RefusesInputs c.args.machine.now) (SpellsInputs c.args.machine.now)
+    let h : WhereAnswered (IsCorrectFrom (OpensInputs c.args.machine.now
     (λ v. Ends (IsOfRun c.args.steps c.args.machine.now v))) 1
     (call (Some (asked c.args.ask.now)) (g.F.Files.told c.args.files.now) (g.F.Files.told c.load_inputs.new.files))) c.in_err-inputs.field-0.0 =
     refused_as Inputs (RefusesInputs c.args.machine.now) (SpellsInputs c.args.machine.now) (λ v. Ends (IsOfRun c.args.steps c.args.machine.now v))

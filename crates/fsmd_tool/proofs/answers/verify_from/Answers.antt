@@ -8,14 +8,13 @@ use Rattle.sym_facts.specs.Facts.{Fact}
 use Rattle.certificates.specs.View.{node_of}
 use Rattle.command_answers.specs.Refusals.{RefusesCertificate, SpellsCertificate}
 use Rattle.command_answers.specs.Verdicts.{IsJudged}
-use Rattle.command_answers.specs.Follows.{Ends, Opens}
+use Rattle.command_answers.specs.Follows.{Ends, OpensCertificate}
 use Rattle.fsmd_tool.proofs.FromFiles.{refused_as, spelled_last}
 use Rattle.fsmd_tool.proofs.answers.verify_from.Goals as goal
 
 pub returns-in_err-cert-clause-answers : goal.returns-in_err-cert-clause-answers
 returns-in_err-cert-clause-answers g c =
-    let h : WhereAnswered (IsCorrectFrom (Opens (List (Node Fact)) (RefusesCertificate c.args.left.now c.args.right.now)
-    (SpellsCertificate c.args.left.now c.args.right.now) (λ v. Ends (IsJudged c.args.left.now c.args.right.now v))) 2
+    let h : WhereAnswered (IsCorrectFrom (OpensCertificate c.args.left.now c.args.right.now (λ v. Ends (IsJudged c.args.left.now c.args.right.now v))) 2
     (call (Some (asked c.args.ask.now)) (g.F.Files.told c.args.files.now) (g.F.Files.told c.load_certificate.new.files))) c.in_err-cert.field-0.0 =
     refused_as (List (Node Fact)) (RefusesCertificate c.args.left.now c.args.right.now) (SpellsCertificate c.args.left.now c.args.right.now)
     (λ v. Ends (IsJudged c.args.left.now c.args.right.now v)) 2 _ _ c.in_err-cert.ensures.refused in

@@ -1,6 +1,7 @@
-use Rattle.std.proofs.Common.{ap, map, Some, string_bytes}
+use Rattle.std.proofs.Common.{◌∙◌, ap, sym, map, length, List, Some, String, Global, string_bytes, arith}
+use Rattle.std.proofs.lemmas.List.{length-map}
 use Rattle.command_words.specs.declared.asking.Ask.{Ask}
-use Rattle.command_words.specs.Words.{asked}
+use Rattle.command_words.specs.Words.{asked, Chain}
 use Rattle.fsmd_tool.proofs.Putting.{answers_as, check_answers, of_loops, chain_answers}
 use Rattle.fsmd_tool.proofs.drive.answer_command.Goals as goal
 
@@ -42,8 +43,9 @@ pub returns-in-Shrink-clause-answers : goal.returns-in-Shrink-clause-answers
 returns-in-Shrink-clause-answers g c = answers_as _ _ c.shrink_files.result (ap (λ (k : Ask). Some (asked k)) c.in-Shrink.is) c.shrink_files.ensures.answers
 
 pub returns-in-Chain-clause-answers : goal.returns-in-Chain-clause-answers
-returns-in-Chain-clause-answers g c = chain_answers (map string_bytes c.as_slice.result.now) _ c.chain_files.result
-    (ap (λ (k : Ask). Some (asked k)) c.in-Chain.is) c.chain_files.ensures.answers
+returns-in-Chain-clause-answers g c =
+    chain_answers (map string_bytes c.as_slice.result.now) _ c.chain_files.result
+    (ap (λ (k : Ask). Some (asked k)) c.in-Chain.is ∙ ap (λ (ws : List (String Global)). Some (Chain (map string_bytes ws))) (sym c.as_slice.ensures.value)) c.chain_files.ensures.answers
 
 pub check-requires : goal.check-requires
 check-requires g c = let limits = rw c.in-Check.is at c.requires in limits.0
@@ -58,4 +60,6 @@ pub shrink_files-requires : goal.shrink_files-requires
 shrink_files-requires g c = let limits = rw c.in-Shrink.is at c.requires in limits.0
 
 pub chain_files-requires : goal.chain_files-requires
-chain_files-requires g c = let limits = rw c.in-Chain.is at c.requires in limits.1
+chain_files-requires g c =
+    let limits = rw c.in-Chain.is at c.requires in
+    omega (arith, limits.1, length-map c.in-Chain.words.items string_bytes, ap length c.as_slice.ensures.value)

@@ -8,14 +8,14 @@ use Rattle.fs_rules.specs.Spelled.{machine_of}
 use Rattle.command_answers.specs.Texts.{SpellsParts}
 use Rattle.command_answers.specs.Refusals.{RefusesMachine}
 use Rattle.command_answers.specs.Bindings.{IsOfBinding}
-use Rattle.command_answers.specs.Follows.{Ends, Opens, OpensBinding}
+use Rattle.command_answers.specs.Follows.{Ends, OpensBinding, OpensParts}
 use Rattle.fsmd_tool.proofs.FromFiles.{parts_held, refused_as, spelled_as}
 use Rattle.fsmd_tool.proofs.Later.{answers_since}
 use Rattle.fsmd_tool.proofs.synthesis.bind_files.Goals as goal
 
 pub returns-in_err-loaded-clause-answers : goal.returns-in_err-loaded-clause-answers
 returns-in_err-loaded-clause-answers g c =
-    let h : WhereAnswered (IsCorrectFrom (Opens Source RefusesMachine SpellsParts
+    let h : WhereAnswered (IsCorrectFrom (OpensParts
     (λ parts. OpensBinding (machine_of parts) (λ b. Ends (IsOfBinding parts b)))) 0
     (call (Some (asked c.args.ask.now)) (g.F.Files.told c.args.files.now) (g.F.Files.told c.load.new.files))) c.in_err-loaded.field-0.0 =
     refused_as Source RefusesMachine SpellsParts (λ parts. OpensBinding (machine_of parts) (λ b. Ends (IsOfBinding parts b)))

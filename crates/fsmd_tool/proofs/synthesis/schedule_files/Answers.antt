@@ -7,14 +7,14 @@ use Rattle.fs_model.specs.View.{source_of}
 use Rattle.command_answers.specs.Texts.{SpellsParts}
 use Rattle.command_answers.specs.Refusals.{RefusesMachine}
 use Rattle.command_answers.specs.Schedules.{IsOfSchedule}
-use Rattle.command_answers.specs.Follows.{Ends, Opens, OpensUnits}
+use Rattle.command_answers.specs.Follows.{Ends, OpensUnits, OpensParts}
 use Rattle.fsmd_tool.proofs.FromFiles.{parts_held, refused_as, spelled_as}
 use Rattle.fsmd_tool.proofs.Later.{answers_since}
 use Rattle.fsmd_tool.proofs.synthesis.schedule_files.Goals as goal
 
 pub returns-in_err-loaded-clause-answers : goal.returns-in_err-loaded-clause-answers
 returns-in_err-loaded-clause-answers g c =
-    let h : WhereAnswered (IsCorrectFrom (Opens Source RefusesMachine SpellsParts (λ parts. OpensUnits (λ counts. Ends (IsOfSchedule parts counts)))) 0
+    let h : WhereAnswered (IsCorrectFrom (OpensParts (λ parts. OpensUnits (λ counts. Ends (IsOfSchedule parts counts)))) 0
     (call (Some (asked c.args.ask.now)) (g.F.Files.told c.args.files.now) (g.F.Files.told c.load.new.files))) c.in_err-loaded.field-0.0 =
     refused_as Source RefusesMachine SpellsParts (λ parts. OpensUnits (λ counts. Ends (IsOfSchedule parts counts))) 0 _ _ c.in_err-loaded.ensures.refused in
     search rules

@@ -5,13 +5,13 @@ use Rattle.fsmd_tool.specs.Calls.{call, IsCorrectFrom}
 use Rattle.fs_model.specs.View.{source_of}
 use Rattle.unit_counts.specs.Counts.{Units, units_in}
 use Rattle.command_answers.specs.Schedules.{RefusesUnits, SpellUnits, IsOfSchedule}
-use Rattle.command_answers.specs.Follows.{Ends, Opens}
+use Rattle.command_answers.specs.Follows.{Ends, OpensUnits}
 use Rattle.fsmd_tool.proofs.FromFiles.{refused_as, spelled_last}
 use Rattle.fsmd_tool.proofs.synthesis.schedule_from.Goals as goal
 
 pub returns-in_err-units-clause-answers : goal.returns-in_err-units-clause-answers
 returns-in_err-units-clause-answers g c =
-    let h : WhereAnswered (IsCorrectFrom (Opens Units RefusesUnits SpellUnits (λ v. Ends (IsOfSchedule (source_of c.args.loaded.now.parts) v))) 1
+    let h : WhereAnswered (IsCorrectFrom (OpensUnits (λ v. Ends (IsOfSchedule (source_of c.args.loaded.now.parts) v))) 1
     (call (Some (asked c.args.ask.now)) (g.F.Files.told c.args.files.now) (g.F.Files.told c.load_units.new.files))) c.in_err-units.field-0.0 =
     refused_as Units RefusesUnits SpellUnits (λ v. Ends (IsOfSchedule (source_of c.args.loaded.now.parts) v)) 1 _ _ c.in_err-units.ensures.refused in
     search rules
