@@ -36,7 +36,8 @@ pub record Opened (T : Type 0) (S : T → List ℕ → Type 0) (P : T → (file 
   pub spells : MayHold (held g (operand n)) (S value)
   pub rest : IsCorrectFrom (P value) (n + 1) g x
 
-module _ (T : Type 0) (R : Operand → Content → Answer → Type 0) (S : T → List ℕ → Type 0) (P : T → (file : ℕ) → Reading → Answer → Type 0) (n : ℕ) (g : Call) (x : Answer) where
+module _ (T : Type 0) (R : Operand → Content → Answer → Type 0) (S : T → List ℕ → Type 0) (P : T → (file : ℕ) → Reading → Answer → Type 0) (n : ℕ) (g : Call)
+    (x : Answer) where
   opened : (r : Reading) → ((c : Content) → R (operand n) c x → ⊥) → MayRead g n r → Opens T R S P n r x → Opened T S P n g x
   opened [] never may o = absurd o
   opened (c ∷ rest) never may (Refused p e) = absurd (never c p)
@@ -82,16 +83,18 @@ pub record OfPair (P : (a b : Fsmd) → (file : ℕ) → Reading → Answer → 
   pub alike : interface_fault left right ≡ None
   pub rest : IsCorrectFrom (P left right) 2 g x
 
-module _ (P : (a b : Fsmd) → (file : ℕ) → Reading → Answer → Type 0) (g : Call) (s : Status) (x : Answer) (away : is_refusal s ≡ false) (e : HasStatus s x) where
-  no_machine : (n : ℕ) (c : Content) → RefusesMachine (operand n) c x → ⊥
-  no_machine n c p = not_refused s x away (machine_refuses (operand n) c x p) e
+module _ (P : (a b : Fsmd) → (file : ℕ) → Reading → Answer → Type 0) (g : Call) (s : Status) (x : Answer) (away : is_refusal s ≡ false) (e : HasStatus s x)
+  where
+    no_machine : (n : ℕ) (c : Content) → RefusesMachine (operand n) c x → ⊥
+    no_machine n c p = not_refused s x away (machine_refuses (operand n) c x p) e
 
-  pub of_pair : IsCorrectFrom (OpensPair P) 0 g x → OfPair P g x
-  of_pair c =
-      let a = open_next Fsmd RefusesMachine SpellsMachine (λ v. OpensMachine (λ w. Pairs v w (RefusesPair v w) (P v w))) 0 g x (no_machine 0) c in
-      let b = open_next Fsmd RefusesMachine SpellsMachine (λ w. Pairs a.value w (RefusesPair a.value w) (P a.value w)) 1 g x (no_machine 1) a.rest in
-      let k = alike_of a.value b.value (RefusesPair a.value b.value) (P a.value b.value) 2 g x (λ p. not_refused s x away (pair_refuses a.value b.value x p) e) b.rest in
-      record { left = a.value; right = b.value; first = a.spells; second = b.spells; alike = k.alike; rest = k.rest }
+    pub of_pair : IsCorrectFrom (OpensPair P) 0 g x → OfPair P g x
+    of_pair c =
+        let a = open_next Fsmd RefusesMachine SpellsMachine (λ v. OpensMachine (λ w. Pairs v w (RefusesPair v w) (P v w))) 0 g x (no_machine 0) c in
+        let b = open_next Fsmd RefusesMachine SpellsMachine (λ w. Pairs a.value w (RefusesPair a.value w) (P a.value w)) 1 g x (no_machine 1) a.rest in
+        let k = alike_of a.value b.value (RefusesPair a.value b.value) (P a.value b.value) 2 g x
+        (λ p. not_refused s x away (pair_refuses a.value b.value x p) e) b.rest in
+        record { left = a.value; right = b.value; first = a.spells; second = b.spells; alike = k.alike; rest = k.rest }
 
 -- ---- machines that are compared
 
@@ -102,7 +105,8 @@ pub record Compared (g : Call) (x : Answer) : Type 0 where
   pub answer : IsOfPair (step_limit g.asked) (is_some (cert_of g.asked)) left right x
 
 module _ (g : Call) (s : Status) (x : Answer) (away : is_refusal s ≡ false) (e : HasStatus s x) where
-  of_files : (o : Option Asked) → g.asked ≡ o → IsTrue (is_check o) → IsCorrectFrom (OpensPair (λ a b. Ends (IsOfPair (step_limit o) (is_some (cert_of o)) a b))) 0 g x → Compared g x
+  of_files : (o : Option Asked) → g.asked ≡ o → IsTrue (is_check o)
+      → IsCorrectFrom (OpensPair (λ a b. Ends (IsOfPair (step_limit o) (is_some (cert_of o)) a b))) 0 g x → Compared g x
   of_files o is check c =
       let b = of_pair (λ a b. Ends (IsOfPair (step_limit o) (is_some (cert_of o)) a b)) g s x away e c in
       let p = end_of (IsOfPair (step_limit o) (is_some (cert_of o)) b.left b.right) 2 g x b.rest in
@@ -145,7 +149,8 @@ module _ (g : Call) (s : Status) (x : Answer) (away : is_refusal s ≡ false) (e
   of_certificate : IsCorrectFrom (OpensPair (λ a b. OpensCertificate a b (λ nodes. Ends (IsJudged a b nodes)))) 0 g x → Checked g x
   of_certificate c =
       let b = of_pair (λ a b. OpensCertificate a b (λ nodes. Ends (IsJudged a b nodes))) g s x away e c in
-      let k = open_next (List (Node Fact)) (RefusesCertificate b.left b.right) (SpellsCertificate b.left b.right) (λ nodes. Ends (IsJudged b.left b.right nodes)) 2 g x
+      let k = open_next (List (Node Fact)) (RefusesCertificate b.left b.right) (SpellsCertificate b.left b.right)
+      (λ nodes. Ends (IsJudged b.left b.right nodes)) 2 g x
       (λ d p. not_refused s x away (certificate_refuses b.left b.right (operand 2) d x p) e) b.rest in
       record {
         left = b.left;

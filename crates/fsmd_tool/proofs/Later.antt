@@ -44,7 +44,8 @@ pub hold_kept : (h k : Held) (P : List ℕ → Type 0) → h ≡ k → MayHold h
 hold_kept h k P e m = record { bytes = m.bytes; may = subst (λ o. AreHeld o m.bytes) e m.may; meet = m.meet }
 
 -- in another call the same may have been read, where that is so of each file
-module _ (g k : Call) (each : (file : Operand) (c : Content) → MayBeRead (held g file) (FailedToRead g file) c → MayBeRead (held k file) (FailedToRead k file) c) where
+module _ (g k : Call) (each : (file : Operand) (c : Content) → MayBeRead (held g file) (FailedToRead g file) c → MayBeRead (held k file) (FailedToRead k file)
+    c) where
   pub read_map : (n : ℕ) (r : Reading) → MayRead g n r → MayRead k n r
   read_map n [] m = tt
   read_map n (c ∷ rest) m = (each (operand n) c m.0, read_map (n + 1) rest m.1)
@@ -54,25 +55,32 @@ module _ (g k : Call) (each : (file : Operand) (c : Content) → MayBeRead (held
 
 -- in a call that began before, where files were only read until then
 module _ (o : Option Asked) (old mid now : FilesTold) (read : OnlyRead old mid) where
-  each_since : (file : Operand) (c : Content) → MayBeRead (held (call o mid now) file) (FailedToRead (call o mid now) file) c → MayBeRead (held (call o old now) file) (FailedToRead (call o old now) file) c
+  each_since : (file : Operand) (c : Content) → MayBeRead (held (call o mid now) file) (FailedToRead (call o mid now) file) c
+      → MayBeRead (held (call o old now) file) (FailedToRead (call o old now) file) c
   each_since file c m =
-      may_kept (mid.holds (word_of o file)) (old.holds (word_of o file)) (FailedToRead (call o mid now) file) (FailedToRead (call o old now) file) (read.unchanged (word_of o file))
+      may_kept (mid.holds (word_of o file)) (old.holds (word_of o file)) (FailedToRead (call o mid now) file) (FailedToRead (call o old now) file)
+      (read.unchanged (word_of o file))
       (λ rose. rose_since (old.faults (word_of o file)) (mid.faults (word_of o file)) (now.faults (word_of o file)) (read.counts (word_of o file)) rose) c m
 
-  pub correct_since : (P : (file : ℕ) → Reading → Answer → Type 0) (n : ℕ) (x : Answer) → IsCorrectFrom P n (call o mid now) x → IsCorrectFrom P n (call o old now) x
+  pub correct_since : (P : (file : ℕ) → Reading → Answer → Type 0) (n : ℕ) (x : Answer) → IsCorrectFrom P n (call o mid now) x
+      → IsCorrectFrom P n (call o old now) x
   correct_since P n x c = correct_map (call o mid now) (call o old now) each_since P n x c
 
-  pub answers_since : (P : (file : ℕ) → Reading → Answer → Type 0) (n : ℕ) (r : Result Answer Refusal) → AnswersBy (IsCorrectFrom P n (call o mid now)) r → AnswersBy (IsCorrectFrom P n (call o old now)) r
+  pub answers_since : (P : (file : ℕ) → Reading → Answer → Type 0) (n : ℕ) (r : Result Answer Refusal) → AnswersBy (IsCorrectFrom P n (call o mid now)) r
+      → AnswersBy (IsCorrectFrom P n (call o old now)) r
   answers_since P n r a = answers_map (IsCorrectFrom P n (call o mid now)) (IsCorrectFrom P n (call o old now)) (λ x c. correct_since P n x c) r a
 
 -- in a call that ends later, where no count of faults falls
 module _ (o : Option Asked) (old mid now : FilesTold) (begin : NoneFell old.faults mid.faults) (end : NoneFell mid.faults now.faults) where
-  each_until : (file : Operand) (c : Content) → MayBeRead (held (call o old mid) file) (FailedToRead (call o old mid) file) c → MayBeRead (held (call o old now) file) (FailedToRead (call o old now) file) c
+  each_until : (file : Operand) (c : Content) → MayBeRead (held (call o old mid) file) (FailedToRead (call o old mid) file) c
+      → MayBeRead (held (call o old now) file) (FailedToRead (call o old now) file) c
   each_until file c m =
       may_kept (old.holds (word_of o file)) (old.holds (word_of o file)) (FailedToRead (call o old mid) file) (FailedToRead (call o old now) file) refl
-      (λ rose. rose_until (old.faults (word_of o file)) (mid.faults (word_of o file)) (now.faults (word_of o file)) (begin (word_of o file)) (end (word_of o file)) rose) c m
+      (λ rose. rose_until (old.faults (word_of o file)) (mid.faults (word_of o file)) (now.faults (word_of o file)) (begin (word_of o file))
+      (end (word_of o file)) rose) c m
 
-  pub correct_until : (P : (file : ℕ) → Reading → Answer → Type 0) (n : ℕ) (x : Answer) → IsCorrectFrom P n (call o old mid) x → IsCorrectFrom P n (call o old now) x
+  pub correct_until : (P : (file : ℕ) → Reading → Answer → Type 0) (n : ℕ) (x : Answer) → IsCorrectFrom P n (call o old mid) x
+      → IsCorrectFrom P n (call o old now) x
   correct_until P n x c = correct_map (call o old mid) (call o old now) each_until P n x c
 
 -- ---- what was stored
@@ -84,7 +92,11 @@ kept_since : (old mid now : FilesTold) → OnlyRead old mid → IsKept (stores m
 kept_since old mid now r k = λ name. k name ∙ r.unchanged name
 
 stored_since : (name bytes : List ℕ) (old mid now : FilesTold) → OnlyRead old mid → IsStored name bytes (stores mid now) → IsStored name bytes (stores old now)
-stored_since name bytes old mid now r s = record { stored = subst (λ k. now.holds name ≡ held_after k bytes) (r.unchanged name) s.stored; others = others_since name old.holds mid.holds now.holds r.unchanged s.others }
+stored_since name bytes old mid now r s =
+    record {
+      stored = subst (λ k. now.holds name ≡ held_after k bytes) (r.unchanged name) s.stored;
+      others = others_since name old.holds mid.holds now.holds r.unchanged s.others;
+    }
 
 unstored_since : (name : List ℕ) (old mid now : FilesTold) → OnlyRead old mid → IsUnstored name (stores mid now) → IsUnstored name (stores old now)
 unstored_since name old mid now r s = record {
@@ -93,7 +105,8 @@ unstored_since name old mid now r s = record {
 }
 
 -- what was held until the store
-pub done_since : (e : Option Entry) (reply : List ℕ) (meant : Status) (old mid now : FilesTold) (p : Put) → OnlyRead old mid → IsDone e reply meant (stores mid now) p → IsDone e reply meant (stores old now) p
+pub done_since : (e : Option Entry) (reply : List ℕ) (meant : Status) (old mid now : FilesTold) (p : Put) → OnlyRead old mid
+    → IsDone e reply meant (stores mid now) p → IsDone e reply meant (stores old now) p
 done_since e reply meant old mid now p r (Kept none k put) = Kept none (kept_since old mid now r k) put
 done_since e reply meant old mid now p r (Stored x is s put) = Stored x is (stored_since x.name x.bytes old mid now r s) put
 done_since e reply meant old mid now p r (Unstored x is u put) = Unstored x is (unstored_since x.name old mid now r u) put

@@ -37,7 +37,8 @@ pub record IsWell (e : Option Entry) (reply : List ℕ) (meant s : Status) (st :
 cut_not : (s : Status) → is_refusal s ≡ false → statuses.Fault ≡ s → ⊥
 cut_not s away e = false≢true (sym away ∙ ap is_refusal (sym e))
 
-put_well : (e : Option Entry) (reply : List ℕ) (meant s : Status) (st : Stores) (p : Put) → is_refusal s ≡ false → p.status ≡ s → ((x : Entry) → e ≡ Some x → IsStored x.name x.bytes st) → IsPut reply meant p → IsWell e reply meant s st p
+put_well : (e : Option Entry) (reply : List ℕ) (meant s : Status) (st : Stores) (p : Put) → is_refusal s ≡ false → p.status ≡ s
+    → ((x : Entry) → e ≡ Some x → IsStored x.name x.bytes st) → IsPut reply meant p → IsWell e reply meant s st p
 put_well e reply meant s st p away is h (Whole w) = record { meant_is = sym w.status ∙ is; got = w.got; stored = h }
 put_well e reply meant s st p away is h (Cut w) = absurd (cut_not s away (sym w.status ∙ is))
 
@@ -51,12 +52,14 @@ only_entry e x st is s y other = let same : Some x ≡ Some y = sym is ∙ other
 no_entry : (e : Option Entry) (st : Stores) → e ≡ None → (y : Entry) → e ≡ Some y → IsStored y.name y.bytes st
 no_entry e st none y some = absurd (let bad : None ≡ Some y = sym none ∙ some in cc)
 
-done_well : (e : Option Entry) (reply : List ℕ) (meant s : Status) (st : Stores) (p : Put) → is_refusal s ≡ false → p.status ≡ s → IsDone e reply meant st p → IsWell e reply meant s st p
+done_well : (e : Option Entry) (reply : List ℕ) (meant s : Status) (st : Stores) (p : Put) → is_refusal s ≡ false → p.status ≡ s → IsDone e reply meant st p
+    → IsWell e reply meant s st p
 done_well e reply meant s st p away is (Kept none k put) = put_well e reply meant s st p away is (no_entry e st none) put
 done_well e reply meant s st p away is (Stored x some k put) = put_well e reply meant s st p away is (only_entry e x st some k) put
 done_well e reply meant s st p away is (Unstored x some u put) = absurd (unstored_not (unstored_reply x.name) s p away is put)
 
-pub well : (g : Call) (p : Put) (s : Status) (a : Answered g p) → is_refusal s ≡ false → p.status ≡ s → IsWell (to_store g.asked a.answer) (reply a.answer g.asked) (status_of a.answer) s (stores g.before g.now) p
+pub well : (g : Call) (p : Put) (s : Status) (a : Answered g p) → is_refusal s ≡ false → p.status ≡ s
+    → IsWell (to_store g.asked a.answer) (reply a.answer g.asked) (status_of a.answer) s (stores g.before g.now) p
 well g p s a away is = done_well (to_store g.asked a.answer) (reply a.answer g.asked) (status_of a.answer) s (stores g.before g.now) p away is a.done
 
 -- ---- the answer to two machines, by its status
@@ -71,21 +74,25 @@ fine limit keeps a b x (Same ns same e) s = record { nodes = ns; same = same; is
 fine limit keeps a b x (Apart l) s = absurd (let h : statuses.Differ ≡ statuses.Fine = moved statuses.Fine statuses.Differ x _ l.is refl s in cc)
 fine limit keeps a b x (Open l) s = absurd (let h : statuses.Undecided ≡ statuses.Fine = moved statuses.Fine statuses.Undecided x _ l.is refl s in cc)
 
-differ : (limit : ℕ) (keeps : Bool) (a b : Fsmd) (x : Answer) → IsOfPair limit keeps a b x → HasStatus statuses.Differ x → HasLines (IsCounterexample limit a b) Differs x
+differ : (limit : ℕ) (keeps : Bool) (a b : Fsmd) (x : Answer) → IsOfPair limit keeps a b x → HasStatus statuses.Differ x
+    → HasLines (IsCounterexample limit a b) Differs x
 differ limit keeps a b x (Same ns same e) s = absurd (let h : statuses.Fine ≡ statuses.Differ = moved statuses.Differ statuses.Fine x _ e refl s in cc)
 differ limit keeps a b x (Apart l) s = l
 differ limit keeps a b x (Open l) s = absurd (let h : statuses.Undecided ≡ statuses.Differ = moved statuses.Differ statuses.Undecided x _ l.is refl s in cc)
 
-undecided : (limit : ℕ) (keeps : Bool) (a b : Fsmd) (x : Answer) → IsOfPair limit keeps a b x → HasStatus statuses.Undecided x → HasLines (IsUndecided limit a b) Undecided x
+undecided : (limit : ℕ) (keeps : Bool) (a b : Fsmd) (x : Answer) → IsOfPair limit keeps a b x → HasStatus statuses.Undecided x
+    → HasLines (IsUndecided limit a b) Undecided x
 undecided limit keeps a b x (Same ns same e) s = absurd (let h : statuses.Fine ≡ statuses.Undecided = moved statuses.Undecided statuses.Fine x _ e refl s in cc)
 undecided limit keeps a b x (Apart l) s = absurd (let h : statuses.Differ ≡ statuses.Undecided = moved statuses.Undecided statuses.Differ x _ l.is refl s in cc)
 undecided limit keeps a b x (Open l) s = l
 
 -- what is to be stored of an equivalent answer
-stores_text : (o : Option Asked) (x : Answer) (nodes : ℕ) (text name : List ℕ) → x ≡ Equivalent nodes (kept (is_some (cert_of o)) text) → cert_of o ≡ Some name → to_store o x ≡ Some (entry name text)
+stores_text : (o : Option Asked) (x : Answer) (nodes : ℕ) (text name : List ℕ) → x ≡ Equivalent nodes (kept (is_some (cert_of o)) text)
+    → cert_of o ≡ Some name → to_store o x ≡ Some (entry name text)
 stores_text o x nodes text name is e = rw (is, e) refl
 
-pub put_lines : (g : Call) (p : Put) (x : Answer) (lines : List ℕ) → p.got_now ≡ appended p.got_before (reply x g.asked) → lines_of x g.asked ≡ lines → HasPut g p lines
+pub put_lines : (g : Call) (p : Put) (x : Answer) (lines : List ℕ) → p.got_now ≡ appended p.got_before (reply x g.asked) → lines_of x g.asked ≡ lines
+    → HasPut g p lines
 put_lines g p x lines got is = got ∙ ap (λ l. appended p.got_before (opening g.asked ++ l)) is
 
 pub says_same : (g : Call) (p : Put) → Answered g p → p.status ≡ statuses.Fine → IsTrue (compares g.asked) → SaysSame g p
@@ -102,7 +109,8 @@ says_same g p a e t =
       holds = k.same.shows.certificate;
       same = k.same.same;
       put = put_lines g p a.answer (equivalent_text (length k.nodes)) w.got (ap (λ x. lines_of x g.asked) k.is);
-      stored = λ name named. w.stored (entry name (certificate_text c.left c.right k.nodes)) (stores_text g.asked a.answer (length k.nodes) (certificate_text c.left c.right k.nodes) name k.is named);
+      stored = λ name named. w.stored (entry name (certificate_text c.left c.right k.nodes))
+          (stores_text g.asked a.answer (length k.nodes) (certificate_text c.left c.right k.nodes) name k.is named);
     }
 
 pub says_differ : (g : Call) (p : Put) → Answered g p → p.status ≡ statuses.Differ → IsTrue (compares g.asked) → SaysDiffer g p
@@ -110,14 +118,30 @@ says_differ g p a e t =
     let w = well g p statuses.Differ a refl e in
     let c = compared g statuses.Differ a.answer refl w.meant_is a.correct t in
     let l = differ (step_limit g.asked) (is_some (cert_of g.asked)) c.left c.right a.answer c.answer w.meant_is in
-    record { left = c.left; right = c.right; paired = c.paired; lines = l.lines; shows = l.holds; put = put_lines g p a.answer l.lines w.got (ap (λ x. lines_of x g.asked) l.is) }
+    record {
+      left = c.left;
+      right = c.right;
+      paired = c.paired;
+      lines = l.lines;
+      shows = l.holds;
+      put = put_lines g p a.answer l.lines w.got
+          (ap (λ x. lines_of x g.asked) l.is);
+    }
 
 pub says_undecided : (g : Call) (p : Put) → Answered g p → p.status ≡ statuses.Undecided → IsTrue (compares g.asked) → SaysUndecided g p
 says_undecided g p a e t =
     let w = well g p statuses.Undecided a refl e in
     let c = compared g statuses.Undecided a.answer refl w.meant_is a.correct t in
     let l = undecided (step_limit g.asked) (is_some (cert_of g.asked)) c.left c.right a.answer c.answer w.meant_is in
-    record { left = c.left; right = c.right; paired = c.paired; lines = l.lines; is_undecided = l.holds; put = put_lines g p a.answer l.lines w.got (ap (λ x. lines_of x g.asked) l.is) }
+    record {
+      left = c.left;
+      right = c.right;
+      paired = c.paired;
+      lines = l.lines;
+      is_undecided = l.holds;
+      put = put_lines g p a.answer l.lines w.got
+          (ap (λ x. lines_of x g.asked) l.is);
+    }
 
 -- the reply to a certificate begins with no other line
 no_opening : (o : Option Asked) → IsTrue (is_verify o) → (x : Answer) → reply x o ≡ lines_of x o
@@ -157,7 +181,8 @@ record IsEntry (cert text : Option (List ℕ)) (x : Entry) : Type 0 where
 is_entry : (cert text : Option (List ℕ)) (x : Entry) → entry_of cert text ≡ Some x → IsEntry cert text x
 is_entry None text x e = absurd (cc)
 is_entry (Some name) None x e = absurd (cc)
-is_entry (Some name) (Some bytes) x e = let same : entry name bytes ≡ x = cc in record { named = ap (λ z. Some z.name) same; told = ap (λ z. Some z.bytes) same }
+is_entry (Some name) (Some bytes) x e = let same : entry name bytes ≡ x =
+    cc in record { named = ap (λ z. Some z.name) same; told = ap (λ z. Some z.bytes) same }
 
 named_compares : (o : Option Asked) (name : List ℕ) → cert_of o ≡ Some name → IsTrue (compares o)
 named_compares (Some (Check left right cert steps)) name e = refl
@@ -195,5 +220,7 @@ of_search g y x c e =
 
 pub keeps_files : (g : Call) (y : Answer) → IsCorrectAnswer g y → Leaves (to_store g.asked y) (stores g.before g.now) → KeepsFiles g
 keeps_files g y c (LeftAlone k) = AllKept k
-keeps_files g y c (LeftStored x e h) = let o = of_search g y x c e in CertificateStored x.name o.named o.left o.right o.paired o.nodes o.same.shows (subst (λ t. IsStored x.name t (stores g.before g.now)) o.text h)
+keeps_files g y c (LeftStored x e h) = let o =
+    of_search g y x c e in CertificateStored x.name o.named o.left o.right o.paired o.nodes o.same.shows
+    (subst (λ t. IsStored x.name t (stores g.before g.now)) o.text h)
 keeps_files g y c (LeftUnstored x e h) = let o = of_search g y x c e in CertificateFailed x.name o.named o.left o.right o.paired o.nodes o.same.shows h

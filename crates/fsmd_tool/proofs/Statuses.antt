@@ -66,7 +66,8 @@ program_refuses file c x (UnreadProgram u) = unread_refuses _ file c x u
 program_refuses file c x (ProgramByText f t e) = ap (λ y. is_refusal (status_of y)) e
 program_refuses file c x (ProgramByRule f t e) = ap (λ y. is_refusal (status_of y)) e
 
-pub keys_refuse : (F : KeyFault → (key bytes : List ℕ) → Type 0) (file : Operand) (c : Content) (x : Answer) → RefusesKeys F file c x → is_refusal (status_of x) ≡ true
+pub keys_refuse : (F : KeyFault → (key bytes : List ℕ) → Type 0) (file : Operand) (c : Content) (x : Answer) → RefusesKeys F file c x
+    → is_refusal (status_of x) ≡ true
 keys_refuse F file c x (UnreadKeys u) = unread_refuses _ file c x u
 keys_refuse F file c x (ByJson t e) = ap (λ y. is_refusal (status_of y)) e
 keys_refuse F file c x (ByKey f k t e) = ap (λ y. is_refusal (status_of y)) e
@@ -91,14 +92,16 @@ program_fault file c x (UnreadProgram u) s = unread_fault _ file c x u s
 program_fault file c x (ProgramByText f t e) s = absurd (let h : statuses.BadInput ≡ statuses.Fault = moved statuses.Fault statuses.BadInput x _ e refl s in cc)
 program_fault file c x (ProgramByRule f t e) s = absurd (let h : statuses.BadInput ≡ statuses.Fault = moved statuses.Fault statuses.BadInput x _ e refl s in cc)
 
-pub keys_fault : (F : KeyFault → (key bytes : List ℕ) → Type 0) (file : Operand) (c : Content) (x : Answer) → RefusesKeys F file c x → HasStatus statuses.Fault x → c ≡ Unreadable
+pub keys_fault : (F : KeyFault → (key bytes : List ℕ) → Type 0) (file : Operand) (c : Content) (x : Answer) → RefusesKeys F file c x
+    → HasStatus statuses.Fault x → c ≡ Unreadable
 keys_fault F file c x (UnreadKeys u) s = unread_fault _ file c x u s
 keys_fault F file c x (ByJson t e) s = absurd (let h : statuses.BadInput ≡ statuses.Fault = moved statuses.Fault statuses.BadInput x _ e refl s in cc)
 keys_fault F file c x (ByKey f k t e) s = absurd (let h : statuses.BadInput ≡ statuses.Fault = moved statuses.Fault statuses.BadInput x _ e refl s in cc)
 
 pub certificate_fault : (a b : Fsmd) (file : Operand) (c : Content) (x : Answer) → RefusesCertificate a b file c x → HasStatus statuses.Fault x → c ≡ Unreadable
 certificate_fault a b file c x (UnreadCertificate u) s = unread_fault _ file c x u s
-certificate_fault a b file c x (ByCertificate f t e) s = absurd (let h : statuses.BadInput ≡ statuses.Fault = moved statuses.Fault statuses.BadInput x _ e refl s in cc)
+certificate_fault a b file c x (ByCertificate f t e) s =
+    absurd (let h : statuses.BadInput ≡ statuses.Fault = moved statuses.Fault statuses.BadInput x _ e refl s in cc)
 
 pub pair_fault : (a b : Fsmd) (x : Answer) → RefusesPair a b x → HasStatus statuses.Fault x → ⊥
 pair_fault a b x l s = let h : statuses.BadInput ≡ statuses.Fault = moved statuses.Fault statuses.BadInput x _ l.is refl s in cc
@@ -108,7 +111,8 @@ pair_fault a b x l s = let h : statuses.BadInput ≡ statuses.Fault = moved stat
 pub link_status : (s : Status) (o : Option Asked) (k : ℕ) (P : Answer → Type 0) (x : Answer) (l : AtLink o k P x) → HasStatus s x → HasStatus s l.stop
 link_status s o k P x l h = ap status_of (sym l.is) ∙ h
 
-pub link_refuses : (o : Option Asked) (k : ℕ) (P : Answer → Type 0) (x : Answer) → ((y : Answer) → P y → is_refusal (status_of y) ≡ true) → AtLink o k P x → is_refusal (status_of x) ≡ true
+pub link_refuses : (o : Option Asked) (k : ℕ) (P : Answer → Type 0) (x : Answer) → ((y : Answer) → P y → is_refusal (status_of y) ≡ true) → AtLink o k P x
+    → is_refusal (status_of x) ≡ true
 link_refuses o k P x f l = ap (λ y. is_refusal (status_of y)) l.is ∙ f l.stop l.meets
 
 -- ---- answers that are no fault
@@ -124,7 +128,8 @@ run_fault limit m ins x (Stopped t e l) s = let h : statuses.Undecided ≡ statu
 
 pub replay_fault : (limit : ℕ) (a b : Fsmd) (ins : Inputs) (x : Answer) → IsOfReplay limit a b ins x → HasStatus statuses.Fault x → ⊥
 replay_fault limit a b ins x (LeftStopped t e l) s = let h : statuses.Undecided ≡ statuses.Fault = moved statuses.Fault statuses.Undecided x _ l.is refl s in cc
-replay_fault limit a b ins x (RightStopped o n f t e l) s = let h : statuses.Undecided ≡ statuses.Fault = moved statuses.Fault statuses.Undecided x _ l.is refl s in cc
+replay_fault limit a b ins x (RightStopped o n f t e l) s = let h : statuses.Undecided ≡ statuses.Fault =
+    moved statuses.Fault statuses.Undecided x _ l.is refl s in cc
 replay_fault limit a b ins x (Agreed p q e t l) s = let h : statuses.Fine ≡ statuses.Fault = moved statuses.Fault statuses.Fine x _ l.is refl s in cc
 replay_fault limit a b ins x (Differed p q e t l) s = let h : statuses.Differ ≡ statuses.Fault = moved statuses.Fault statuses.Differ x _ l.is refl s in cc
 

@@ -4,10 +4,10 @@
 mod answers;
 mod chain;
 pub mod drive;
-mod load;
-mod pair;
+pub mod load;
+pub mod pair;
 pub mod program;
-mod put;
+pub mod put;
 mod shrink;
 mod synthesis;
 

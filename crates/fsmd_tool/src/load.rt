@@ -8,7 +8,6 @@ ghost use Rattle.fs_model.specs.View.{source_of};
 ghost use Rattle.fs_model.specs.WellFormed.{is_well_formed};
 ghost use Rattle.fs_runs.specs.InputValues.{signatures_of, inputs_of, Serves};
 ghost use Rattle.fs_pair.specs.Positions.{positions};
-ghost use Rattle.hls_shrink.specs.Given.{has_no_input_port};
 ghost use Rattle.certificates.specs.View.{node_of};
 ghost use Rattle.command_answers.specs.Words.{word_of};
 ghost use Rattle.binding_laws.specs.Bindings.{IsBindingOf};
@@ -39,7 +38,6 @@ use fs_model::limits::TEXT_LIMIT;
 use fs_pair::positions::Pairing;
 use fs_runs::inputs::Inputs;
 use hls_bind::Binding;
-use hls_shrink::laws::no_input_of_a_text_is_a_port;
 use std::alloc::Global;
 use unit_counts::Units;
 
@@ -88,12 +86,10 @@ pub fn load_machine<F: Files>(
     files: &mut F,
 ) -> Result<Machine, Refused>
     ensures spells { IfOk result (λ m. MayHold ((F.told files.old).holds (word_of (Some (asked ask.now)) file)) (SpellsMachine m)) }
-    ensures ports { IfOk result (λ m. IsTrue (has_no_input_port m)) }
     ensures refused { IfErr result (WhereAnswered (Gives (call (Some (asked ask.now)) (F.told files.old) (F.told files.new)) file (RefusesMachine file))) }
     ensures only_read { OnlyRead (F.told files.old) (F.told files.new) }
 {
     let Loaded { machine, .. } = load(alloc, file, ask, files)?;
-    no_input_of_a_text_is_a_port();
     Ok(machine)
 }
 

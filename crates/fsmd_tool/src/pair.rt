@@ -1,11 +1,10 @@
 //! Loads the files of machines with the same inputs and outputs.
 
-ghost use Rattle.std.specs.Prelude.{◌≡◌, IfOk, IsTrue, Some, None};
+ghost use Rattle.std.specs.Prelude.{◌≡◌, IfOk, Some, None};
 ghost use Rattle.std.specs.Result.{IfErr};
 ghost use Rattle.command_words.specs.Words.{asked};
 ghost use Rattle.fs_pair.specs.Interfaces.{interface_fault};
 ghost use Rattle.fs_pair.specs.Positions.{positions};
-ghost use Rattle.hls_shrink.specs.Given.{has_no_input_port};
 ghost use Rattle.command_answers.specs.Words.{operand, word_of};
 ghost use Rattle.command_answers.specs.Texts.{SpellsMachine};
 ghost use Rattle.command_answers.specs.Refusals.{RefusesPair};
@@ -76,7 +75,6 @@ pub fn load_next<F: Files>(
 pub fn load_pair<F: Files>(alloc: Global, ask: &Ask, files: &mut F) -> Result<Pair, Refused>
     ensures left { IfOk result (λ p. MayHold ((F.told files.old).holds (word_of (Some (asked ask.now)) (operand 0))) (SpellsMachine p.left)) }
     ensures right { IfOk result (λ p. MayHold ((F.told files.old).holds (word_of (Some (asked ask.now)) (operand 1))) (SpellsMachine p.right)) }
-    ensures ports { IfOk result (λ p. IsTrue (has_no_input_port p.left)) }
     ensures alike { IfOk result (λ p. interface_fault p.left p.right ≡ None) }
     ensures paired { IfOk result (λ p. p.pairing ≡ positions p.left p.right) }
     ensures refused { IfErr result (WhereAnswered (IsCorrectFrom RefusesBoth 0
