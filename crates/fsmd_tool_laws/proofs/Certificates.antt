@@ -1,5 +1,5 @@
 -- The file of a certificate is refused in one way, and not where it spells one.
-use Rattle.std.proofs.Common.{◌≡◌, ℕ, true, false, List, Result, refl, sym, ◌∙◌, ap, subst}
+use Rattle.std.proofs.Common.{◌≡◌, ℕ, true, false, List, Result, refl, sym, ◌∙◌, ap}
 use Rattle.std.specs.Prelude.{◌≢◌, Err}
 use Rattle.serde_json.specs.Data.{Data}
 use Rattle.fs_model.specs.Machines.{Fsmd}

@@ -1,9 +1,8 @@
 -- Chains are answered: where all links are known to hold, and where one is known to fail.
-use Rattle.std.proofs.Common.{◌≡◌, ℕ, zero, suc, ◌+◌, ◌*◌, ◌<◌, List, Option, Some, None, sym, subst, arith}
+use Rattle.std.proofs.Common.{◌≡◌, ℕ, zero, suc, ◌+◌, ◌*◌, ◌<◌, List, Option, Some, sym, subst, arith}
 use Rattle.std.specs.Prelude.{◌≢◌}
 use Rattle.command_words.specs.Words.{Asked, Chain}
 use Rattle.fs_model.specs.Machines.{Fsmd}
-use Rattle.fs_pair.specs.Interfaces.{interface_fault}
 use Rattle.bisimulation.specs.Tables.{Node}
 use Rattle.sym_facts.specs.Facts.{Fact}
 use Rattle.certificates.specs.Obligations.{Yes}

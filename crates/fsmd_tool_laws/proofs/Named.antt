@@ -1,12 +1,11 @@
 -- No file is opened that is not named.
-use Rattle.std.proofs.Common.{◌≡◌, ℕ, zero, suc, ◌+◌, ◌≤◌, List, [], ◌∷◌, length, Option, Some, None, ap, arith}
+use Rattle.std.proofs.Common.{◌≡◌, ℕ, suc, ◌+◌, ◌≤◌, List, [], ◌∷◌, length, Option, Some, None, ap, arith}
 use Rattle.std.specs.Prelude.{is_some}
 use Rattle.command_words.specs.Words.{Asked, Check, Verify, Run, Replay, Fmt, Cuts, Generate, Compile, Schedule, Bind, Shrink, Chain}
 use Rattle.fs_model.specs.Machines.{Fsmd}
 use Rattle.fs_model.specs.Source.{Source}
 use Rattle.fs_model.specs.Runs.{Inputs}
 use Rattle.fs_rules.specs.Spelled.{machine_of}
-use Rattle.fs_pair.specs.Interfaces.{interface_fault}
 use Rattle.fs_write.specs.Canonical.{canonical}
 use Rattle.path_text.specs.Paths.{paths_text}
 use Rattle.program_laws.specs.Programs.{Program}
@@ -30,7 +29,7 @@ use Rattle.command_answers.specs.Verdicts.{IsJudged}
 use Rattle.command_answers.specs.Runs.{IsOfRun}
 use Rattle.command_answers.specs.Replays.{IsOfReplay}
 use Rattle.command_answers.specs.Shrinks.{IsOfShrink}
-use Rattle.command_answers.specs.Links.{AtLink, links_in, links_of, IsOfChain}
+use Rattle.command_answers.specs.Links.{AtLink, links_in, IsOfChain}
 use Rattle.command_answers.specs.Follows.{Ends, OpensWith, Refused, Spelled, Opens, OpensMachine, OpensInputs, OpensCertificate, OpensUnits, OpensBinding, Pairs, Other, Alike, OpensPair, Judges, Fails, Holds, OpensLinks, FollowsFrom}
 use Rattle.fsmd_tool_laws.proofs.Following.{Rule, BehindCertificate, BehindPair, BehindMachine}
 

@@ -1,5 +1,5 @@
 -- No file is opened behind one that is refused: files that are settled up to there settle the answer.
-use Rattle.std.proofs.Common.{◌≡◌, ℕ, zero, suc, ◌+◌, ◌<◌, ◌≤◌, List, [], ◌∷◌, length, Option, Some, None, false, refl, sym, ◌∙◌, ap, subst, arith}
+use Rattle.std.proofs.Common.{◌≡◌, ℕ, zero, suc, ◌+◌, ◌<◌, ◌≤◌, List, [], ◌∷◌, length, Option, Some, None, false, refl, ◌∙◌, ap, subst, arith}
 use Rattle.std.specs.Prelude.{is_some}
 use Rattle.command_words.specs.Words.{Asked, Check, Verify, Run, Replay, Fmt, Cuts, Generate, Compile, Schedule, Bind, Shrink, Chain}
 use Rattle.fs_model.specs.Machines.{Fsmd}
@@ -20,7 +20,7 @@ use Rattle.command_answers.specs.Shrinks.{IsOfShrink}
 use Rattle.command_answers.specs.Schedules.{IsOfSchedule}
 use Rattle.command_answers.specs.Bindings.{IsOfBinding}
 use Rattle.command_answers.specs.Links.{AtLink, links_of, IsOfChain}
-use Rattle.command_answers.specs.Follows.{Ends, OpensWith, Refused, Spelled, Opens, OpensMachine, OpensInputs, OpensCertificate, OpensUnits, OpensBinding, Pairs, Other, Alike, OpensLinks, FollowsFrom, Follows}
+use Rattle.command_answers.specs.Follows.{Ends, Refused, Spelled, Opens, OpensMachine, OpensInputs, OpensCertificate, OpensUnits, OpensBinding, Pairs, Other, Alike, OpensLinks, Follows}
 use Rattle.fsmd_tool.specs.Calls.{Call, held, FailedToRead, MayRead}
 use Rattle.fsmd_tool.specs.Correct.{IsCorrectAnswer}
 use Rattle.fsmd_tool_laws.specs.Agreement.{Agree}

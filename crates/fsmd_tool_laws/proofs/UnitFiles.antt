@@ -1,5 +1,5 @@
 -- Bytes are one thing as unit counts, and a machine gets one answer under them.
-use Rattle.std.proofs.Common.{◌≡◌, ℕ, List, Option, Some, None, sym, ◌∙◌, ap, subst}
+use Rattle.std.proofs.Common.{◌≡◌, ℕ, List, Option, Some, sym, ◌∙◌, ap, subst}
 use Rattle.serde_json.specs.Data.{Data}
 use Rattle.serde_json.specs.Find.{as_object}
 use Rattle.fs_model.specs.Source.{Source}
@@ -7,7 +7,7 @@ use Rattle.fs_rules.specs.Spelled.{machine_of}
 use Rattle.fs_ast.specs.Stored.{name_of}
 use Rattle.unit_counts.specs.declared.units.Unit.{Unit as Kind}
 use Rattle.unit_counts.specs.declared.faults.Fault.{Fault}
-use Rattle.unit_counts.specs.Counts.{Units, first_fault, file_fault, counts_in}
+use Rattle.unit_counts.specs.Counts.{Units, file_fault, counts_in}
 use Rattle.json_files.proofs.Once.{one_value}
 use Rattle.unit_counts.specs.Refusals.{SpelledBy, Spells, IsFaulty}
 use Rattle.unit_limits.specs.Over.{over_in}
