@@ -104,22 +104,22 @@ chain_answered w g x words first last e k l p =
 
 -- ---- a link fails
 
-none_held : (k file : ℕ) → k ≡ file + 2 * zero → k ≡ file
+pub none_held : (k file : ℕ) → k ≡ file + 2 * zero → k ≡ file
 none_held k file e = omega arith
 
 one_held : (k file n : ℕ) → k ≡ file + 2 * suc n → k ≡ file + 2 + 2 * n
 one_held k file n e = omega arith
 
-this_link : (n : ℕ) → n + 1 ≡ n + zero + 1
+pub this_link : (n : ℕ) → n + 1 ≡ n + zero + 1
 this_link n = omega arith
 
-next_link : (n k : ℕ) → n + 1 + k + 1 ≡ n + suc k + 1
+pub next_link : (n k : ℕ) → n + 1 + k + 1 ≡ n + suc k + 1
 next_link n k = omega arith
 
-not_below : (n : ℕ) → n < zero → ⊥
+pub not_below : (n : ℕ) → n < zero → ⊥
 not_below n h = omega arith
 
-one_below : (n k : ℕ) → suc n < suc k → n < k
+pub one_below : (n k : ℕ) → suc n < suc k → n < k
 one_below n k h = omega arith
 
 -- the link behind those that hold is spelled from file k on, and not all obligations of its certificate hold
@@ -145,7 +145,7 @@ module _ (w : ReadInOneWay) (o : Option Asked) (g : Call) (x : Answer) (first la
       (one_fails (held + 1) known left (file + 2) l.next (one_below known left below) (one_held k file known e) l.rest
       (behind w o (held + 1) so_far (λ m. OpensLinks o first m (held + 1) left) g file x l.next l.nodes l.spelled l.holds p))
 
-odd_file : (n : ℕ) → 2 * n + 1 ≡ 1 + 2 * n
+pub odd_file : (n : ℕ) → 2 * n + 1 ≡ 1 + 2 * n
 odd_file n = omega arith
 
 pub chain_stopped : (w : ReadInOneWay) → (g : Call) (x : Answer) (words : List (List ℕ)) (held : ℕ) (first last next : Fsmd) (nodes : List (Node Fact))

@@ -18,4 +18,5 @@ pub mod Correct
 pub mod Chains
 pub mod Stored
 pub mod Settling
+pub mod Stopped
 pub mod Outcomes

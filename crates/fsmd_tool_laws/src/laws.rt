@@ -152,7 +152,8 @@ pub fn files_up_to_the_refused_one_settle_the_answer()
 
 /// Files are settled up to the first that is refused where all that are named are settled; where so many are settled, and an
 /// answer follows from what is read of these alone; where the first is refused as that of a machine; where the first is settled
-/// and the second refused so; and where the first two are known to spell machines with other inputs or outputs.
+/// and the second refused so; where the first two are known to spell machines with other inputs or outputs; and where links of a
+/// chain are known to hold, and the next one not to.
 pub fn files_are_settled_up_to_the_refused_one()
     ensures all { (g : Call) → ((file : ℕ) → file < length (files_of g.asked) → IsSettled g file) → AreSettledUpToRefused g }
     ensures answered { (g : Call) (count : ℕ) (x : Answer) → ((file : ℕ) → file < count → IsSettled g file)
@@ -161,6 +162,10 @@ pub fn files_are_settled_up_to_the_refused_one()
     ensures second { (g : Call) → IsSettled g 0 → IsRefused g 1 → AreSettledUpToRefused g }
     ensures others { (g : Call) (a b : Fsmd) → IsKnown g 0 (SpellsMachine a) → IsKnown g 1 (SpellsMachine b) → (name : List ℕ)
         → interface_fault a b ≡ Some name → AreSettledUpToRefused g }
+    ensures link { (g : Call) (words : List (List ℕ)) (known : ℕ) (first last next : Fsmd) (nodes : List (Node Fact))
+        → g.asked ≡ Some (Chain words) → known < links_of words → IsKnown g 0 (SpellsMachine first)
+        → AreKnownToHold g 1 known first last → SpellLink g (2 * known + 1) last next nodes → verdict_on last next nodes ≢ Yes
+        → AreSettledUpToRefused g }
 {
     certificates_are_read_in_one_way();
     texts_are_read();

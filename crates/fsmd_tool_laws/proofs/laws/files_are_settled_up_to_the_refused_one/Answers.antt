@@ -1,4 +1,5 @@
 use Rattle.fsmd_tool_laws.proofs.Settling.{all_settled, answered_settled, first_refused, second_refused, others_spelled}
+use Rattle.fsmd_tool_laws.proofs.Stopped.{link_settled}
 use Rattle.fsmd_tool_laws.proofs.Certificates.{in_one_way}
 use Rattle.fsmd_tool_laws.proofs.laws.files_are_settled_up_to_the_refused_one.Goals as goal
 
@@ -18,3 +19,8 @@ returns-clause-second c = second_refused
 
 pub returns-clause-others : goal.returns-clause-others
 returns-clause-others c = others_spelled
+
+pub returns-clause-link : goal.returns-clause-link
+returns-clause-link c =
+    let w = in_one_way c.certificates_are_read_in_one_way.ensures.same c.certificates_are_read_in_one_way.ensures.taken c.texts_are_read.ensures in
+    link_settled w
