@@ -1,5 +1,5 @@
 -- A parse of a chain's words fails, or it holds from 3 to 129 files.
-use Rattle.std.proofs.Common.{◌≡◌, ◌≤◌, ◌||◌, ap, subst, sym, refl, cond, ℕ, Bool, true, false, List, [], ◌∷◌, ◌++◌, length, Option, Some, None, nat_lt, codes, drop, encode_utf8, fold}
+use Rattle.std.proofs.Common.{◌≡◌, ◌≤◌, ◌||◌, subst, sym, refl, cond, ℕ, Bool, true, false, List, [], ◌∷◌, ◌++◌, length, Option, Some, None, nat_lt, codes, drop, encode_utf8, fold}
 use Rattle.std.specs.Prelude.{◌==◌, slice_get}
 use Rattle.std.specs.Option.{option_map_or}
 use Rattle.std.specs.Str.{bytes_eq, chars}
@@ -11,7 +11,6 @@ use Rattle.clap.specs.Walk.{Held, Outcome, Rule, Step, Text, Waiting, Walk, afte
 use Rattle.clap.specs.Walk.{plain, plain_word, positional, reacted, short_or_plain, short_word, to_positional, trailing, value, walk, walk_from, walked}
 use Rattle.clap.specs.Faults.{bundle_fault, bundle_step_fault, check_fault, flag_word_fault, flags_fault, level_fault, long_fault, settle_fault, short_fault, turn_fault, walk_fault}
 use Rattle.clap.specs.Words.{Row}
-use Rattle.clap.specs.declared.error.kind.ErrorKind.{ErrorKind}
 use Rattle.clap.specs.declared.error.kind.ErrorKind.TheVariants as kinds
 use Rattle.command_words.proofs.Named.{first_none, second_none}
 use Rattle.command_words.specs.CommandLine.{chain_command, program_alone}
