@@ -4,5 +4,4 @@ pub mod First
 pub mod Listed
 pub mod Lowered
 pub mod Smalls
-pub mod Stops
 pub mod Unique

@@ -2,14 +2,14 @@ use Rattle.std.proofs.Common.{◌≡◌, true, false, sym, ◌∙◌, ap, rules}
 use Rattle.std.specs.Prelude.{Some, option_map, slice_get}
 use Rattle.std.specs.Option.{is_none}
 use Rattle.fs_runs.specs.Values.{content_of}
-use Rattle.fs_runs.specs.InputValues.{Signature, input_values, signatures_of}
+use Rattle.fs_runs.specs.InputValues.{Signature, input_values}
 use Rattle.hls_shrink.specs.Entries.{contents_in}
 use Rattle.hls_shrink.specs.Reductions.{changed}
 use Rattle.hls_shrink.proofs.Changed.{serve_own, none_left, some_left, content_there, sort_there, changed_past, changed_is}
 use Rattle.hls_shrink.proofs.entries.with_number.Goals as goal
 
 pub returns-then-is_none-clause-serves : goal.returns-then-is_none-clause-serves
-returns-then-is_none-clause-serves c = serve_own c.args.m.now c.in_ok-copy.copy c.vars.ensures.sound (c.in_ok-copy.ensures.signatures ∙ c.requires)
+returns-then-is_none-clause-serves c = serve_own c.args.m.now c.in_ok-copy.copy c.vars-vars.ensures.sound (c.in_ok-copy.ensures.signatures ∙ c.requires)
 
 pub returns-then-is_none-clause-contents : goal.returns-then-is_none-clause-contents
 returns-then-is_none-clause-contents c =
@@ -40,4 +40,4 @@ returns-clause-contents c =
     ∙ ap (λ cs. changed cs e.input e.index n) c.in_ok-copy.ensures.contents
 
 pub returns-clause-serves : goal.returns-clause-serves
-returns-clause-serves c = serve_own c.args.m.now c.set.new.self c.vars.ensures.sound (c.set.ensures.signatures ∙ c.in_ok-copy.ensures.signatures ∙ c.requires)
+returns-clause-serves c = serve_own c.args.m.now c.set.new.self c.vars-vars.ensures.sound (c.set.ensures.signatures ∙ c.in_ok-copy.ensures.signatures ∙ c.requires)

@@ -6,7 +6,7 @@ use Rattle.hls_shrink.proofs.Smalls.{same_show}
 use Rattle.hls_shrink.proofs.shrinking.started.Goals as goal
 
 pub differing_ends-requires-clause-left : goal.differing_ends-requires-clause-left
-differing_ends-requires-clause-left c = serve_own c.args.a.now c.in_ok-copy.copy c.vars.ensures.sound (c.in_ok-copy.ensures.signatures ∙ c.requires.inputs)
+differing_ends-requires-clause-left c = serve_own c.args.a.now c.in_ok-copy.copy c.vars-vars.ensures.sound (c.in_ok-copy.ensures.signatures ∙ c.requires.inputs)
 
 pub differing_ends-requires-clause-right : goal.differing_ends-requires-clause-right
 differing_ends-requires-clause-right c = serves_both c.args.a.now c.args.b.now (signatures_of c.in_ok-copy.copy) c.requires.interfaces (c.in_ok-copy.ensures.signatures ∙ c.requires.inputs)
