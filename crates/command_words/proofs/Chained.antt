@@ -1,5 +1,5 @@
 -- A parse of a chain's words fails, or it holds from 3 to 129 files.
-use Rattle.std.proofs.Common.{◌≡◌, ◌≤◌, ◌||◌, ap, subst, sym, refl, cond, ℕ, Bool, true, false, List, [], ◌∷◌, ◌++◌, length, Option, Some, None, nat_lt, codes, fold}
+use Rattle.std.proofs.Common.{◌≡◌, ◌≤◌, ◌||◌, subst, sym, refl, cond, ℕ, Bool, true, false, List, [], ◌∷◌, ◌++◌, length, Option, Some, None, nat_lt, codes, drop, encode_utf8, fold}
 use Rattle.std.specs.Prelude.{◌==◌, slice_get}
 use Rattle.std.specs.Option.{option_map_or}
 use Rattle.std.specs.Str.{bytes_eq, chars}
@@ -11,7 +11,6 @@ use Rattle.clap.specs.Walk.{Held, Outcome, Rule, Step, Text, Waiting, Walk, afte
 use Rattle.clap.specs.Walk.{plain, plain_word, positional, reacted, short_or_plain, short_word, to_positional, trailing, value, walk, walk_from, walked}
 use Rattle.clap.specs.Faults.{bundle_fault, bundle_step_fault, check_fault, flag_word_fault, flags_fault, level_fault, long_fault, settle_fault, short_fault, turn_fault, walk_fault}
 use Rattle.clap.specs.Words.{Row}
-use Rattle.clap.specs.declared.error.kind.ErrorKind.{ErrorKind}
 use Rattle.clap.specs.declared.error.kind.ErrorKind.TheVariants as kinds
 use Rattle.command_words.proofs.Named.{first_none, second_none}
 use Rattle.command_words.specs.CommandLine.{chain_command, program_alone}
@@ -86,7 +85,9 @@ first_flag : (o : Option ℕ) (files : List Text) (waits : Bool) (word flags : T
     → after_flag chain_rules (waiting_for waits) word (bundle_step chain_rules o flags 0 plain (held_files files) met).0 (bundle_step chain_rules o flags 0 plain (held_files files) met).1
     ≡ (held_files files, value)
 first_flag None files waits word flags faults met e = plain_stays waits word (held_files files)
-first_flag (Some x) files waits word flags faults met e = absurd (short_fails (104 == x) (held_files files) _ _ e)
+first_flag (Some x) files waits word flags faults met e =
+    let rest = drop (length (encode_utf8 x)) flags in
+    absurd (short_fails (104 == x) (held_files files) rest (faults rest 0) e)
 
 flags_stay : (flags : Text) (files : List Text) (waits : Bool) (word : Text) → bundle_fault chain_rules false flags (held_files files) ≡ []
     → short_word chain_rules (waiting_for waits) word flags (held_files files) ≡ (held_files files, value)

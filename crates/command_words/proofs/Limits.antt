@@ -1,5 +1,5 @@
 -- What is asked keeps the limits of steps.
-use Rattle.std.proofs.Common.{◌≡◌, ◌∙◌, ℕ, ◌≤◌, ◌%◌, Bool, true, false, List, Option, Some, None, ap, is_some, length, option_map, refl, subst, sym, [], ◌∷◌, arith, codes}
+use Rattle.std.proofs.Common.{◌≡◌, ◌∙◌, ℕ, ◌≤◌, ◌%◌, Bool, true, false, List, Option, Some, None, ap, is_some, length, option_map, refl, subst, sym, [], arith, codes}
 use Rattle.std.specs.Prelude.{IfSome, cond, find}
 use Rattle.std.specs.Option.{option_map_or}
 use Rattle.std.proofs.lemmas.Bool.{leb-true, eqb-true}

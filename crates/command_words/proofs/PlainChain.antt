@@ -1,5 +1,5 @@
 -- Words that begin with no hyphen are the files of a chain.
-use Rattle.std.proofs.Common.{◌≡◌, ◌∙◌, ◌≤◌, ◌%◌, All, ap, ap₂, subst, sym, refl, ℕ, Bool, true, false, List, [], ◌∷◌, ◌++◌, length, Option, Some, None, is_some, arith, append-nil, append_assoc, codes, eq-eqb, fold, le-ltb, ne_eqb}
+use Rattle.std.proofs.Common.{◌≡◌, ◌∙◌, ◌≤◌, ◌%◌, All, ap, ap₂, sym, refl, ℕ, Bool, true, false, List, [], ◌∷◌, ◌++◌, length, Some, is_some, arith, append-nil, append_assoc, codes, eq-eqb, fold, le-ltb, ne_eqb}
 use Rattle.std.specs.Prelude.{◌==◌}
 use Rattle.std.proofs.lemmas.List.Elements.{All-head, All-tail}
 use Rattle.clap.specs.Kinds.{Kinds, or_else, range_kinds, values_kinds}
