@@ -1,46 +1,100 @@
--- The machines that a call compares, where its answer is no refusal.
-use Rattle.std.proofs.Common.{◌≡◌, ℕ, true, false, List, Option, Some, None, refl, sym, subst}
+-- What files spell, where an answer that follows from them is no refusal.
+use Rattle.std.proofs.Common.{◌≡◌, ◌+◌, ℕ, true, false, List, [], ◌∷◌, Option, Some, None, refl, sym, subst}
 use Rattle.std.specs.Prelude.{IsTrue, is_some}
 use Rattle.std.proofs.lemmas.Bool.{false≢true}
-use Rattle.command_words.specs.Words.{Asked, Check, Verify, Run, Replay, Fmt, Cuts, Generate, Compile, Schedule, Bind}
+use Rattle.command_words.specs.Words.{Asked, Check, Verify, Generate}
 use Rattle.fs_base.specs.Outside.{Held}
 use Rattle.fs_model.specs.Machines.{Fsmd}
 use Rattle.fs_pair.specs.Interfaces.{interface_fault}
 use Rattle.bisimulation.specs.Tables.{Node}
 use Rattle.sym_facts.specs.Facts.{Fact}
-use Rattle.command_answers.specs.declared.answer.Operand.TheVariants.{First, Second, Third}
+use Rattle.command_answers.specs.declared.answer.Operand.{Operand}
 use Rattle.command_answers.specs.declared.answer.Status.{Status}
-use Rattle.command_answers.specs.declared.answer.Status.TheVariants as statuses
 use Rattle.command_answers.specs.declared.answer.Answer.{Answer}
-use Rattle.command_answers.specs.Words.{compares, is_check, is_verify, cert_of, step_limit}
+use Rattle.command_answers.specs.Words.{operand, compares, is_check, is_verify, cert_of, step_limit}
 use Rattle.command_answers.specs.Texts.{SpellsMachine}
-use Rattle.command_answers.specs.Readings.{Content, Unopened, Readable, Unreadable, OfBytes, Reading}
-use Rattle.command_answers.specs.Refusals.{ArePair, SpellsCertificate}
+use Rattle.command_answers.specs.Readings.{Content, Readable, Unreadable, OfBytes, Reading}
+use Rattle.command_answers.specs.Refusals.{RefusesMachine, RefusesPair, RefusesCertificate, SpellsCertificate}
 use Rattle.command_answers.specs.Pairs.{IsOfPair, left_of, right_of}
 use Rattle.command_answers.specs.Verdicts.{IsJudged}
-use Rattle.command_answers.specs.Follows.{FollowsForPair, PairRefused, Answered, FollowsFromCertificate, CertificateRefused, Judged, ForCheck, ForVerify, Follows}
+use Rattle.command_answers.specs.Follows.{Ends, Opens, Refused, Spelled, Pairs, Other, Alike, OpensMachine, OpensCertificate, OpensPair, FollowsFrom}
 use Rattle.command_answers.proofs.Loops.{loops_alike}
-use Rattle.fsmd_tool.specs.Calls.{Call, held, FailedToRead, MayBeRead, MayHold, MayRead}
+use Rattle.fsmd_tool.specs.Calls.{Call, held, FailedToRead, MayBeRead, MayHold, MayRead, IsCorrectFrom}
 use Rattle.fsmd_tool.specs.Correct.{IsCorrectAnswer}
 use Rattle.fsmd_tool.specs.Clauses.{ArePaired, OfFiles, OfLoops}
-use Rattle.fsmd_tool.proofs.Statuses.{Ends, is_refusal, not_refused, pair_refuses, certificate_refuses}
+use Rattle.fsmd_tool.proofs.Statuses.{HasStatus, is_refusal, not_refused, machine_refuses, pair_refuses, certificate_refuses}
 
-pub may_hold : (k : Held) (F : Type 0) (c : Content) (P : List ℕ → Type 0) → MayBeRead k F c → OfBytes c P → MayHold k P
-may_hold k F Unopened P m h = absurd h
+-- ---- files one after another
+
+may_hold : (k : Held) (F : Type 0) (c : Content) (P : List ℕ → Type 0) → MayBeRead k F c → OfBytes c P → MayHold k P
 may_hold k F (Readable bytes) P m h = record { bytes = bytes; may = m; meet = h }
 may_hold k F Unreadable P m h = absurd h
 
--- two machines of what was read, of which P holds
-record Both (P : (a b : Fsmd) → Content → Answer → Type 0) (r : Reading) (x : Answer) : Type 0 where
-  left : Fsmd
-  right : Fsmd
-  pair : ArePair r left right
-  alike : interface_fault left right ≡ None
-  says : P left right r.third x
+-- a value that the next file spells, and what follows from the files behind it
+pub record Opened (T : Type 0) (S : T → List ℕ → Type 0) (P : T → (file : ℕ) → Reading → Answer → Type 0) (n : ℕ) (g : Call) (x : Answer) : Type 0 where
+  pub value : T
+  pub spells : MayHold (held g (operand n)) (S value)
+  pub rest : IsCorrectFrom (P value) (n + 1) g x
 
-both : (P : (a b : Fsmd) → Content → Answer → Type 0) (r : Reading) (s : Status) (x : Answer) → is_refusal s ≡ false → Ends s x → FollowsForPair P r x → Both P r x
-both P r s x away e (PairRefused p) = absurd (not_refused s x away (pair_refuses r x p) e)
-both P r s x away e (Answered a b p alike h) = record { left = a; right = b; pair = p; alike = alike; says = h }
+module _ (T : Type 0) (R : Operand → Content → Answer → Type 0) (S : T → List ℕ → Type 0) (P : T → (file : ℕ) → Reading → Answer → Type 0) (n : ℕ) (g : Call)
+    (x : Answer) where
+  opened : (r : Reading) → ((c : Content) → R (operand n) c x → ⊥) → MayRead g n r → Opens T R S P n r x → Opened T S P n g x
+  opened [] never may o = absurd o
+  opened (c ∷ rest) never may (Refused p e) = absurd (never c p)
+  opened (c ∷ rest) never may (Spelled v h p) = record {
+    value = v;
+    spells = may_hold (held g (operand n)) (FailedToRead g (operand n)) c (S v) may.0 h;
+    rest = record { reading = rest; may_be_read = may.1; follows = p };
+  }
+
+  -- the next file is not refused
+  pub open_next : ((c : Content) → R (operand n) c x → ⊥) → IsCorrectFrom (Opens T R S P) n g x → Opened T S P n g x
+  open_next never c = opened c.reading never c.may_be_read c.follows
+
+-- no file more is opened
+ends_so : (P : Answer → Type 0) (n : ℕ) (x : Answer) (r : Reading) → Ends P n r x → P x
+ends_so P n x [] h = h
+ends_so P n x (c ∷ rest) h = absurd h
+
+pub end_of : (P : Answer → Type 0) (n : ℕ) (g : Call) (x : Answer) → IsCorrectFrom (Ends P) n g x → P x
+end_of P n g x c = ends_so P n x c.reading c.follows
+
+-- two machines have the same inputs and outputs, and this follows
+pub record HaveTheSame (a b : Fsmd) (P : (file : ℕ) → Reading → Answer → Type 0) (n : ℕ) (g : Call) (x : Answer) : Type 0 where
+  pub alike : interface_fault a b ≡ None
+  pub rest : IsCorrectFrom P n g x
+
+module _ (a b : Fsmd) (R : Answer → Type 0) (P : (file : ℕ) → Reading → Answer → Type 0) (n : ℕ) (g : Call) (x : Answer) where
+  have_the_same : (r : Reading) → (R x → ⊥) → MayRead g n r → Pairs a b R P n r x → HaveTheSame a b P n g x
+  have_the_same r never may (Other p e) = absurd (never p)
+  have_the_same r never may (Alike e p) = record { alike = e; rest = record { reading = r; may_be_read = may; follows = p } }
+
+  pub alike_of : (R x → ⊥) → IsCorrectFrom (Pairs a b R P) n g x → HaveTheSame a b P n g x
+  alike_of never c = have_the_same c.reading never c.may_be_read c.follows
+
+-- ---- two files of machines
+
+-- two machines with the same inputs and outputs that the first two files spell, and what follows from the files behind them
+pub record OfPair (P : (a b : Fsmd) → (file : ℕ) → Reading → Answer → Type 0) (g : Call) (x : Answer) : Type 0 where
+  pub left : Fsmd
+  pub right : Fsmd
+  pub first : MayHold (held g (operand 0)) (SpellsMachine left)
+  pub second : MayHold (held g (operand 1)) (SpellsMachine right)
+  pub alike : interface_fault left right ≡ None
+  pub rest : IsCorrectFrom (P left right) 2 g x
+
+module _ (P : (a b : Fsmd) → (file : ℕ) → Reading → Answer → Type 0) (g : Call) (s : Status) (x : Answer) (away : is_refusal s ≡ false) (e : HasStatus s x)
+  where
+    no_machine : (n : ℕ) (c : Content) → RefusesMachine (operand n) c x → ⊥
+    no_machine n c p = not_refused s x away (machine_refuses (operand n) c x p) e
+
+    pub of_pair : IsCorrectFrom (OpensPair P) 0 g x → OfPair P g x
+    of_pair c =
+        let a = open_next Fsmd RefusesMachine SpellsMachine (λ v. OpensMachine (λ w. Pairs v w (RefusesPair v w) (P v w))) 0 g x (no_machine 0) c in
+        let b = open_next Fsmd RefusesMachine SpellsMachine (λ w. Pairs a.value w (RefusesPair a.value w) (P a.value w)) 1 g x (no_machine 1) a.rest in
+        let k = alike_of a.value b.value (RefusesPair a.value b.value) (P a.value b.value) 2 g x
+        (λ p. not_refused s x away (pair_refuses a.value b.value x p) e) b.rest in
+        record { left = a.value; right = b.value; first = a.spells; second = b.spells; alike = k.alike; rest = k.rest }
 
 -- ---- machines that are compared
 
@@ -50,40 +104,34 @@ pub record Compared (g : Call) (x : Answer) : Type 0 where
   pub paired : ArePaired g left right
   pub answer : IsOfPair (step_limit g.asked) (is_some (cert_of g.asked)) left right x
 
-of_files : (g : Call) (o : Option Asked) (r : Reading) (x : Answer) → MayRead g r → g.asked ≡ o → IsTrue (is_check o) → Both (ForCheck (step_limit o) (is_some (cert_of o))) r x → Compared g x
-of_files g o r x may is check b = record {
-  left = b.left;
-  right = b.right;
-  paired = record {
-    compared = OfFiles (subst (λ k. IsTrue (is_check k)) (sym is) check) (may_hold (held g First) (FailedToRead g First) r.first (SpellsMachine b.left) may.first b.pair.left) (may_hold (held g Second) (FailedToRead g Second) r.second (SpellsMachine b.right) may.second b.pair.right);
-    alike = b.alike;
-  };
-  answer = subst (λ k. IsOfPair (step_limit k) (is_some (cert_of k)) b.left b.right x) (sym is) b.says.says;
-}
+module _ (g : Call) (s : Status) (x : Answer) (away : is_refusal s ≡ false) (e : HasStatus s x) where
+  of_files : (o : Option Asked) → g.asked ≡ o → IsTrue (is_check o)
+      → IsCorrectFrom (OpensPair (λ a b. Ends (IsOfPair (step_limit o) (is_some (cert_of o)) a b))) 0 g x → Compared g x
+  of_files o is check c =
+      let b = of_pair (λ a b. Ends (IsOfPair (step_limit o) (is_some (cert_of o)) a b)) g s x away e c in
+      let p = end_of (IsOfPair (step_limit o) (is_some (cert_of o)) b.left b.right) 2 g x b.rest in
+      record {
+        left = b.left;
+        right = b.right;
+        paired = record { compared = OfFiles (subst (λ k. IsTrue (is_check k)) (sym is) check) b.first b.second; alike = b.alike };
+        answer = subst (λ k. IsOfPair (step_limit k) (is_some (cert_of k)) b.left b.right x) (sym is) p;
+      }
 
-of_loops : (g : Call) (n : ℕ) (x : Answer) → g.asked ≡ Some (Generate n) → IsOfPair (step_limit (Some (Generate n))) false (left_of n) (right_of n) x → Compared g x
-of_loops g n x is h = record {
-  left = left_of n;
-  right = right_of n;
-  paired = record { compared = OfLoops n is refl refl; alike = loops_alike n };
-  answer = subst (λ k. IsOfPair (step_limit k) (is_some (cert_of k)) (left_of n) (right_of n) x) (sym is) h;
-}
+  of_loops : (n : ℕ) → g.asked ≡ Some (Generate n) → IsOfPair (step_limit (Some (Generate n))) false (left_of n) (right_of n) x → Compared g x
+  of_loops n is p = record {
+    left = left_of n;
+    right = right_of n;
+    paired = record { compared = OfLoops n is refl refl; alike = loops_alike n };
+    answer = subst (λ k. IsOfPair (step_limit k) (is_some (cert_of k)) (left_of n) (right_of n) x) (sym is) p;
+  }
 
-by_asked : (o : Option Asked) (g : Call) (r : Reading) (s : Status) (x : Answer) → MayRead g r → g.asked ≡ o → IsTrue (compares o) → is_refusal s ≡ false → Ends s x → Follows o r x → Compared g x
-by_asked None g r s x may is c away e f = absurd (false≢true c)
-by_asked (Some (Check left right cert steps)) g r s x may is c away e f = of_files g (Some (Check left right cert steps)) r x may is refl (both (ForCheck steps (is_some cert)) r s x away e f)
-by_asked (Some (Verify left right cert)) g r s x may is c away e f = absurd (false≢true c)
-by_asked (Some (Run machine inputs steps)) g r s x may is c away e f = absurd (false≢true c)
-by_asked (Some (Replay left right inputs steps)) g r s x may is c away e f = absurd (false≢true c)
-by_asked (Some (Fmt machine)) g r s x may is c away e f = absurd (false≢true c)
-by_asked (Some (Cuts machine)) g r s x may is c away e f = absurd (false≢true c)
-by_asked (Some (Compile program)) g r s x may is c away e f = absurd (false≢true c)
-by_asked (Some (Schedule machine units)) g r s x may is c away e f = absurd (false≢true c)
-by_asked (Some (Bind machine binding)) g r s x may is c away e f = absurd (false≢true c)
-by_asked (Some (Generate n)) g r s x may is c away e f = of_loops g n x is f.says
+  compared_by : (o : Option Asked) → g.asked ≡ o → IsTrue (compares o) → IsCorrectFrom (FollowsFrom o) 0 g x → Compared g x
+  compared_by (Some (Check left right cert steps)) is t c = of_files (Some (Check left right cert steps)) is refl c
+  compared_by (Some (Generate n)) is t c = of_loops n is (end_of (IsOfPair (step_limit (Some (Generate n))) false (left_of n) (right_of n)) 0 g x c)
+  compared_by _ is t c = absurd (false≢true t)
 
-pub compared : (g : Call) (s : Status) (x : Answer) → IsCorrectAnswer g x → IsTrue (compares g.asked) → is_refusal s ≡ false → Ends s x → Compared g x
-compared g s x c t away e = by_asked g.asked g c.reading s x c.may_be_read refl t away e c.follows
+  pub compared : IsCorrectAnswer g x → IsTrue (compares g.asked) → Compared g x
+  compared c t = compared_by g.asked refl t c
 
 -- ---- a certificate that is checked
 
@@ -91,47 +139,33 @@ pub record Checked (g : Call) (x : Answer) : Type 0 where
   pub left : Fsmd
   pub right : Fsmd
   pub nodes : List (Node Fact)
-  pub first : MayHold (held g First) (SpellsMachine left)
-  pub second : MayHold (held g Second) (SpellsMachine right)
-  pub third : MayHold (held g Third) (SpellsCertificate left right nodes)
+  pub first : MayHold (held g (operand 0)) (SpellsMachine left)
+  pub second : MayHold (held g (operand 1)) (SpellsMachine right)
+  pub third : MayHold (held g (operand 2)) (SpellsCertificate left right nodes)
   pub alike : interface_fault left right ≡ None
   pub judged : IsJudged left right nodes x
 
-record OfCertificate (a b : Fsmd) (c : Content) (x : Answer) : Type 0 where
-  nodes : List (Node Fact)
-  spells : OfBytes c (SpellsCertificate a b nodes)
-  judged : IsJudged a b nodes x
+module _ (g : Call) (s : Status) (x : Answer) (away : is_refusal s ≡ false) (e : HasStatus s x) where
+  of_certificate : IsCorrectFrom (OpensPair (λ a b. OpensCertificate a b (λ nodes. Ends (IsJudged a b nodes)))) 0 g x → Checked g x
+  of_certificate c =
+      let b = of_pair (λ a b. OpensCertificate a b (λ nodes. Ends (IsJudged a b nodes))) g s x away e c in
+      let k = open_next (List (Node Fact)) (RefusesCertificate b.left b.right) (SpellsCertificate b.left b.right)
+      (λ nodes. Ends (IsJudged b.left b.right nodes)) 2 g x
+      (λ d p. not_refused s x away (certificate_refuses b.left b.right (operand 2) d x p) e) b.rest in
+      record {
+        left = b.left;
+        right = b.right;
+        nodes = k.value;
+        first = b.first;
+        second = b.second;
+        third = k.spells;
+        alike = b.alike;
+        judged = end_of (IsJudged b.left b.right k.value) 3 g x k.rest;
+      }
 
-of_certificate : (a b : Fsmd) (c : Content) (s : Status) (x : Answer) → is_refusal s ≡ false → Ends s x → FollowsFromCertificate a b Third c x → OfCertificate a b c x
-of_certificate a b c s x away e (CertificateRefused p) = absurd (not_refused s x away (certificate_refuses a b Third c x p) e)
-of_certificate a b c s x away e (Judged nodes h j) = record { nodes = nodes; spells = h; judged = j }
+  checked_by : (o : Option Asked) → IsTrue (is_verify o) → IsCorrectFrom (FollowsFrom o) 0 g x → Checked g x
+  checked_by (Some (Verify left right cert)) t c = of_certificate c
+  checked_by _ t c = absurd (false≢true t)
 
-of_both : (g : Call) (r : Reading) (s : Status) (x : Answer) → MayRead g r → is_refusal s ≡ false → Ends s x → Both ForVerify r x → Checked g x
-of_both g r s x may away e b =
-    let k = of_certificate b.left b.right r.third s x away e b.says in
-    record {
-      left = b.left;
-      right = b.right;
-      nodes = k.nodes;
-      first = may_hold (held g First) (FailedToRead g First) r.first (SpellsMachine b.left) may.first b.pair.left;
-      second = may_hold (held g Second) (FailedToRead g Second) r.second (SpellsMachine b.right) may.second b.pair.right;
-      third = may_hold (held g Third) (FailedToRead g Third) r.third (SpellsCertificate b.left b.right k.nodes) may.third k.spells;
-      alike = b.alike;
-      judged = k.judged;
-    }
-
-checked_by : (o : Option Asked) (g : Call) (r : Reading) (s : Status) (x : Answer) → MayRead g r → IsTrue (is_verify o) → is_refusal s ≡ false → Ends s x → Follows o r x → Checked g x
-checked_by None g r s x may c away e f = absurd (false≢true c)
-checked_by (Some (Check left right cert steps)) g r s x may c away e f = absurd (false≢true c)
-checked_by (Some (Verify left right cert)) g r s x may c away e f = of_both g r s x may away e (both ForVerify r s x away e f)
-checked_by (Some (Run machine inputs steps)) g r s x may c away e f = absurd (false≢true c)
-checked_by (Some (Replay left right inputs steps)) g r s x may c away e f = absurd (false≢true c)
-checked_by (Some (Fmt machine)) g r s x may c away e f = absurd (false≢true c)
-checked_by (Some (Cuts machine)) g r s x may c away e f = absurd (false≢true c)
-checked_by (Some (Generate n)) g r s x may c away e f = absurd (false≢true c)
-checked_by (Some (Compile program)) g r s x may c away e f = absurd (false≢true c)
-checked_by (Some (Schedule machine units)) g r s x may c away e f = absurd (false≢true c)
-checked_by (Some (Bind machine binding)) g r s x may c away e f = absurd (false≢true c)
-
-pub checked : (g : Call) (s : Status) (x : Answer) → IsCorrectAnswer g x → IsTrue (is_verify g.asked) → is_refusal s ≡ false → Ends s x → Checked g x
-checked g s x c t away e = checked_by g.asked g c.reading s x c.may_be_read t away e c.follows
+  pub checked : IsCorrectAnswer g x → IsTrue (is_verify g.asked) → Checked g x
+  checked c t = checked_by g.asked t c

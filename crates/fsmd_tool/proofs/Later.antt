@@ -1,17 +1,21 @@
--- What holds of a call holds of it where its files were loaded before.
-use Rattle.std.proofs.Common.{◌≡◌, ◌≤◌, ◌<◌, ◌⊎◌, ◌∙◌, ℕ, List, Option, subst, inl, inr, arith}
+-- What holds of a call holds of it where it began before, or where it ends later.
+use Rattle.std.proofs.Common.{◌≡◌, ◌≤◌, ◌<◌, ◌+◌, ◌⊎◌, ◌∙◌, ℕ, List, [], ◌∷◌, Option, refl, subst, inl, inr, arith}
+use Rattle.std.specs.Prelude.{Result}
 use Rattle.command_words.specs.Words.{Asked}
-use Rattle.fs_base.specs.Outside.{Held, FilesTold, Rose, NoneFell, SameHeld, OthersHeld, held_after, last_count}
+use Rattle.fs_base.specs.Outside.{Held, FilesTold, Rose, NoneFell, SameHeld, OthersHeld, AreHeld, held_after, last_count}
 use Rattle.command_answers.specs.declared.answer.Status.{Status}
 use Rattle.command_answers.specs.declared.answer.Answer.{Answer}
 use Rattle.command_answers.specs.declared.answer.Operand.{Operand}
-use Rattle.command_answers.specs.declared.answer.Operand.TheVariants.{First, Second, Third}
-use Rattle.command_answers.specs.Words.{word_of}
-use Rattle.command_answers.specs.Readings.{Content, Unopened, Readable, Unreadable}
-use Rattle.fsmd_tool.specs.Calls.{call, OnlyRead, FailedToRead, MayBeRead}
+use Rattle.command_answers.specs.declared.refused.Refused.{Refused as Refusal}
+use Rattle.command_answers.specs.Words.{operand, word_of}
+use Rattle.command_answers.specs.Readings.{Content, Readable, Unreadable, Reading}
+use Rattle.fsmd_tool.specs.Calls.{Call, call, OnlyRead, held, FailedToRead, MayBeRead, MayHold, MayRead, IsCorrectFrom, AnswersBy}
 use Rattle.fsmd_tool.specs.Puts.{Put}
 use Rattle.fsmd_tool.specs.Stores.{stores, IsKept, IsStored, IsUnstored, Entry, Leaves, LeftAlone, LeftStored, LeftUnstored, NotStored, Untouched, Failed}
-use Rattle.fsmd_tool.specs.Correct.{IsCorrectAnswer, IsDone, Kept, Stored, Unstored}
+use Rattle.fsmd_tool.specs.Correct.{IsDone, Kept, Stored, Unstored}
+use Rattle.fsmd_tool.proofs.FromFiles.{answers_map}
+
+-- ---- counts
 
 or_more : (c n : ℕ) → c ≤ n → (c < n) ⊎ (n ≡ c)
 or_more c n h = grind arith
@@ -24,29 +28,62 @@ rose_until a b c h k (inr last) = elim (or_more last_count c (omega arith)) [
   | inr same ↦ inr same
 ]
 
+-- and where it was counted before
 rose_since : (a b c : ℕ) → a ≤ b → Rose b c → Rose a c
 rose_since a b c h (inl less) = inl (omega arith)
 rose_since a b c h (inr last) = inr last
 
-may_later : (k : Held) (F G : Type 0) → (F → G) → (c : Content) → MayBeRead k F c → MayBeRead k G c
-may_later k F G f Unopened m = tt
-may_later k F G f (Readable bytes) m = m
-may_later k F G f Unreadable m = f m
+-- ---- what may have been read
 
--- counts that were read until later
-pub correct_later : (o : Option Asked) (before mid now : FilesTold) (x : Answer) → NoneFell before.faults mid.faults → NoneFell mid.faults now.faults → IsCorrectAnswer (call o before mid) x → IsCorrectAnswer (call o before now) x
-correct_later o before mid now x p q c =
-    let until : (file : Operand) → FailedToRead (call o before mid) file → FailedToRead (call o before now) file =
-    λ file. rose_until (before.faults (word_of o file)) (mid.faults (word_of o file)) (now.faults (word_of o file)) (p (word_of o file)) (q (word_of o file)) in
-    record {
-      reading = c.reading;
-      may_be_read = record {
-        first = may_later (before.holds (word_of o First)) (FailedToRead (call o before mid) First) (FailedToRead (call o before now) First) (until First) c.reading.first c.may_be_read.first;
-        second = may_later (before.holds (word_of o Second)) (FailedToRead (call o before mid) Second) (FailedToRead (call o before now) Second) (until Second) c.reading.second c.may_be_read.second;
-        third = may_later (before.holds (word_of o Third)) (FailedToRead (call o before mid) Third) (FailedToRead (call o before now) Third) (until Third) c.reading.third c.may_be_read.third;
-      };
-      follows = c.follows;
-    }
+-- what is known, and that it failed to be read, may be said of a file at another time
+may_kept : (h k : Held) (F G : Type 0) → h ≡ k → (F → G) → (c : Content) → MayBeRead h F c → MayBeRead k G c
+may_kept h k F G e f (Readable bytes) m = subst (λ o. AreHeld o bytes) e m
+may_kept h k F G e f Unreadable m = f m
+
+pub hold_kept : (h k : Held) (P : List ℕ → Type 0) → h ≡ k → MayHold h P → MayHold k P
+hold_kept h k P e m = record { bytes = m.bytes; may = subst (λ o. AreHeld o m.bytes) e m.may; meet = m.meet }
+
+-- in another call the same may have been read, where that is so of each file
+module _ (g k : Call) (each : (file : Operand) (c : Content) → MayBeRead (held g file) (FailedToRead g file) c → MayBeRead (held k file) (FailedToRead k file)
+    c) where
+  pub read_map : (n : ℕ) (r : Reading) → MayRead g n r → MayRead k n r
+  read_map n [] m = tt
+  read_map n (c ∷ rest) m = (each (operand n) c m.0, read_map (n + 1) rest m.1)
+
+  pub correct_map : (P : (file : ℕ) → Reading → Answer → Type 0) (n : ℕ) (x : Answer) → IsCorrectFrom P n g x → IsCorrectFrom P n k x
+  correct_map P n x c = record { reading = c.reading; may_be_read = read_map n c.reading c.may_be_read; follows = c.follows }
+
+-- in a call that began before, where files were only read until then
+module _ (o : Option Asked) (old mid now : FilesTold) (read : OnlyRead old mid) where
+  each_since : (file : Operand) (c : Content) → MayBeRead (held (call o mid now) file) (FailedToRead (call o mid now) file) c
+      → MayBeRead (held (call o old now) file) (FailedToRead (call o old now) file) c
+  each_since file c m =
+      may_kept (mid.holds (word_of o file)) (old.holds (word_of o file)) (FailedToRead (call o mid now) file) (FailedToRead (call o old now) file)
+      (read.unchanged (word_of o file))
+      (λ rose. rose_since (old.faults (word_of o file)) (mid.faults (word_of o file)) (now.faults (word_of o file)) (read.counts (word_of o file)) rose) c m
+
+  pub correct_since : (P : (file : ℕ) → Reading → Answer → Type 0) (n : ℕ) (x : Answer) → IsCorrectFrom P n (call o mid now) x
+      → IsCorrectFrom P n (call o old now) x
+  correct_since P n x c = correct_map (call o mid now) (call o old now) each_since P n x c
+
+  pub answers_since : (P : (file : ℕ) → Reading → Answer → Type 0) (n : ℕ) (r : Result Answer Refusal) → AnswersBy (IsCorrectFrom P n (call o mid now)) r
+      → AnswersBy (IsCorrectFrom P n (call o old now)) r
+  answers_since P n r a = answers_map (IsCorrectFrom P n (call o mid now)) (IsCorrectFrom P n (call o old now)) (λ x c. correct_since P n x c) r a
+
+-- in a call that ends later, where no count of faults falls
+module _ (o : Option Asked) (old mid now : FilesTold) (begin : NoneFell old.faults mid.faults) (end : NoneFell mid.faults now.faults) where
+  each_until : (file : Operand) (c : Content) → MayBeRead (held (call o old mid) file) (FailedToRead (call o old mid) file) c
+      → MayBeRead (held (call o old now) file) (FailedToRead (call o old now) file) c
+  each_until file c m =
+      may_kept (old.holds (word_of o file)) (old.holds (word_of o file)) (FailedToRead (call o old mid) file) (FailedToRead (call o old now) file) refl
+      (λ rose. rose_until (old.faults (word_of o file)) (mid.faults (word_of o file)) (now.faults (word_of o file)) (begin (word_of o file))
+      (end (word_of o file)) rose) c m
+
+  pub correct_until : (P : (file : ℕ) → Reading → Answer → Type 0) (n : ℕ) (x : Answer) → IsCorrectFrom P n (call o old mid) x
+      → IsCorrectFrom P n (call o old now) x
+  correct_until P n x c = correct_map (call o old mid) (call o old now) each_until P n x c
+
+-- ---- what was stored
 
 others_since : (name : List ℕ) (old mid now : List ℕ → Held) → SameHeld old mid → OthersHeld name mid now → OthersHeld name old now
 others_since name old mid now same o = λ other away. o other away ∙ same other
@@ -55,7 +92,11 @@ kept_since : (old mid now : FilesTold) → OnlyRead old mid → IsKept (stores m
 kept_since old mid now r k = λ name. k name ∙ r.unchanged name
 
 stored_since : (name bytes : List ℕ) (old mid now : FilesTold) → OnlyRead old mid → IsStored name bytes (stores mid now) → IsStored name bytes (stores old now)
-stored_since name bytes old mid now r s = record { stored = subst (λ k. now.holds name ≡ held_after k bytes) (r.unchanged name) s.stored; others = others_since name old.holds mid.holds now.holds r.unchanged s.others }
+stored_since name bytes old mid now r s =
+    record {
+      stored = subst (λ k. now.holds name ≡ held_after k bytes) (r.unchanged name) s.stored;
+      others = others_since name old.holds mid.holds now.holds r.unchanged s.others;
+    }
 
 unstored_since : (name : List ℕ) (old mid now : FilesTold) → OnlyRead old mid → IsUnstored name (stores mid now) → IsUnstored name (stores old now)
 unstored_since name old mid now r s = record {
@@ -64,7 +105,8 @@ unstored_since name old mid now r s = record {
 }
 
 -- what was held until the store
-pub done_since : (e : Option Entry) (reply : List ℕ) (meant : Status) (old mid now : FilesTold) (p : Put) → OnlyRead old mid → IsDone e reply meant (stores mid now) p → IsDone e reply meant (stores old now) p
+pub done_since : (e : Option Entry) (reply : List ℕ) (meant : Status) (old mid now : FilesTold) (p : Put) → OnlyRead old mid
+    → IsDone e reply meant (stores mid now) p → IsDone e reply meant (stores old now) p
 done_since e reply meant old mid now p r (Kept none k put) = Kept none (kept_since old mid now r k) put
 done_since e reply meant old mid now p r (Stored x is s put) = Stored x is (stored_since x.name x.bytes old mid now r s) put
 done_since e reply meant old mid now p r (Unstored x is u put) = Unstored x is (unstored_since x.name old mid now r u) put

@@ -1,9 +1,12 @@
 pub mod FromFiles
 pub mod Later
+pub mod Linked
 pub mod Statuses
 pub mod Found
 pub mod Says
 pub mod Synthesized
+pub mod Shrunk
+pub mod Chained
 pub mod Causes
 pub mod Putting
 pub mod Alike

@@ -2,7 +2,7 @@
 use Rattle.std.proofs.Common.{◌≡◌, ◌∙◌, ℕ, Bool, true, false, List, ◌++◌, Option, Some, None, refl, sym, ap, subst, length, codes}
 use Rattle.std.specs.Prelude.{IsTrue, is_some}
 use Rattle.std.proofs.lemmas.Bool.{false≢true}
-use Rattle.command_words.specs.Words.{Asked, Check, Verify, Run, Replay, Fmt, Cuts, Generate, Compile, Schedule, Bind}
+use Rattle.command_words.specs.Words.{Asked, Check, Verify}
 use Rattle.fs_base.specs.Outside.{appended}
 use Rattle.fs_model.specs.Machines.{Fsmd}
 use Rattle.bisimulation.specs.Tables.{Node}
@@ -12,7 +12,7 @@ use Rattle.pair_answers.specs.Answers.{IsCounterexample, IsUndecided}
 use Rattle.command_answers.specs.declared.answer.Status.{Status}
 use Rattle.command_answers.specs.declared.answer.Status.TheVariants as statuses
 use Rattle.command_answers.specs.declared.answer.Answer.{Answer}
-use Rattle.command_answers.specs.declared.answer.Answer.TheVariants.{Usage, Equivalent, Text, Differs, Undecided, TextRefused, CheckRefused, NotJson, KeyRefused, Over, CertRefused, Interfaces, TooLong, CannotRead}
+use Rattle.command_answers.specs.declared.answer.Answer.TheVariants.{Equivalent, Text, Differs, Undecided}
 use Rattle.command_answers.specs.Statuses.{status_of, certificate_in}
 use Rattle.command_answers.specs.Words.{compares, is_verify, cert_of, step_limit}
 use Rattle.command_answers.specs.Lines.{HasLines}
@@ -24,7 +24,7 @@ use Rattle.fsmd_tool.specs.Puts.{Put, IsPut, Whole, Cut}
 use Rattle.fsmd_tool.specs.Stores.{Stores, stores, IsStored, Entry, entry, entry_of, to_store, Leaves, LeftAlone, LeftStored, LeftUnstored}
 use Rattle.fsmd_tool.specs.Correct.{IsCorrectAnswer, IsDone, Kept, Stored, Unstored, Answered}
 use Rattle.fsmd_tool.specs.Clauses.{HasPut, ArePaired, SaysSame, SaysDiffer, SaysUndecided, IsChecked, KeepsFiles, AllKept, CertificateStored, CertificateFailed}
-use Rattle.fsmd_tool.proofs.Statuses.{Ends, moved, is_refusal, judged_yes}
+use Rattle.fsmd_tool.proofs.Statuses.{HasStatus, moved, is_refusal, judged_yes}
 use Rattle.fsmd_tool.proofs.Found.{compared, checked}
 
 -- ---- what was put with a status that is none of a fault
@@ -37,7 +37,8 @@ pub record IsWell (e : Option Entry) (reply : List ℕ) (meant s : Status) (st :
 cut_not : (s : Status) → is_refusal s ≡ false → statuses.Fault ≡ s → ⊥
 cut_not s away e = false≢true (sym away ∙ ap is_refusal (sym e))
 
-put_well : (e : Option Entry) (reply : List ℕ) (meant s : Status) (st : Stores) (p : Put) → is_refusal s ≡ false → p.status ≡ s → ((x : Entry) → e ≡ Some x → IsStored x.name x.bytes st) → IsPut reply meant p → IsWell e reply meant s st p
+put_well : (e : Option Entry) (reply : List ℕ) (meant s : Status) (st : Stores) (p : Put) → is_refusal s ≡ false → p.status ≡ s
+    → ((x : Entry) → e ≡ Some x → IsStored x.name x.bytes st) → IsPut reply meant p → IsWell e reply meant s st p
 put_well e reply meant s st p away is h (Whole w) = record { meant_is = sym w.status ∙ is; got = w.got; stored = h }
 put_well e reply meant s st p away is h (Cut w) = absurd (cut_not s away (sym w.status ∙ is))
 
@@ -51,12 +52,14 @@ only_entry e x st is s y other = let same : Some x ≡ Some y = sym is ∙ other
 no_entry : (e : Option Entry) (st : Stores) → e ≡ None → (y : Entry) → e ≡ Some y → IsStored y.name y.bytes st
 no_entry e st none y some = absurd (let bad : None ≡ Some y = sym none ∙ some in cc)
 
-done_well : (e : Option Entry) (reply : List ℕ) (meant s : Status) (st : Stores) (p : Put) → is_refusal s ≡ false → p.status ≡ s → IsDone e reply meant st p → IsWell e reply meant s st p
+done_well : (e : Option Entry) (reply : List ℕ) (meant s : Status) (st : Stores) (p : Put) → is_refusal s ≡ false → p.status ≡ s → IsDone e reply meant st p
+    → IsWell e reply meant s st p
 done_well e reply meant s st p away is (Kept none k put) = put_well e reply meant s st p away is (no_entry e st none) put
 done_well e reply meant s st p away is (Stored x some k put) = put_well e reply meant s st p away is (only_entry e x st some k) put
 done_well e reply meant s st p away is (Unstored x some u put) = absurd (unstored_not (unstored_reply x.name) s p away is put)
 
-pub well : (g : Call) (p : Put) (s : Status) (a : Answered g p) → is_refusal s ≡ false → p.status ≡ s → IsWell (to_store g.asked a.answer) (reply a.answer g.asked) (status_of a.answer) s (stores g.before g.now) p
+pub well : (g : Call) (p : Put) (s : Status) (a : Answered g p) → is_refusal s ≡ false → p.status ≡ s
+    → IsWell (to_store g.asked a.answer) (reply a.answer g.asked) (status_of a.answer) s (stores g.before g.now) p
 well g p s a away is = done_well (to_store g.asked a.answer) (reply a.answer g.asked) (status_of a.answer) s (stores g.before g.now) p away is a.done
 
 -- ---- the answer to two machines, by its status
@@ -66,32 +69,36 @@ record Alike (keeps : Bool) (a b : Fsmd) (x : Answer) : Type 0 where
   same : AreSame a b nodes
   is : x ≡ Equivalent (length nodes) (kept keeps (certificate_text a b nodes))
 
-fine : (limit : ℕ) (keeps : Bool) (a b : Fsmd) (x : Answer) → IsOfPair limit keeps a b x → Ends statuses.Fine x → Alike keeps a b x
+fine : (limit : ℕ) (keeps : Bool) (a b : Fsmd) (x : Answer) → IsOfPair limit keeps a b x → HasStatus statuses.Fine x → Alike keeps a b x
 fine limit keeps a b x (Same ns same e) s = record { nodes = ns; same = same; is = e }
 fine limit keeps a b x (Apart l) s = absurd (let h : statuses.Differ ≡ statuses.Fine = moved statuses.Fine statuses.Differ x _ l.is refl s in cc)
 fine limit keeps a b x (Open l) s = absurd (let h : statuses.Undecided ≡ statuses.Fine = moved statuses.Fine statuses.Undecided x _ l.is refl s in cc)
 
-differ : (limit : ℕ) (keeps : Bool) (a b : Fsmd) (x : Answer) → IsOfPair limit keeps a b x → Ends statuses.Differ x → HasLines (IsCounterexample limit a b) Differs x
+differ : (limit : ℕ) (keeps : Bool) (a b : Fsmd) (x : Answer) → IsOfPair limit keeps a b x → HasStatus statuses.Differ x
+    → HasLines (IsCounterexample limit a b) Differs x
 differ limit keeps a b x (Same ns same e) s = absurd (let h : statuses.Fine ≡ statuses.Differ = moved statuses.Differ statuses.Fine x _ e refl s in cc)
 differ limit keeps a b x (Apart l) s = l
 differ limit keeps a b x (Open l) s = absurd (let h : statuses.Undecided ≡ statuses.Differ = moved statuses.Differ statuses.Undecided x _ l.is refl s in cc)
 
-undecided : (limit : ℕ) (keeps : Bool) (a b : Fsmd) (x : Answer) → IsOfPair limit keeps a b x → Ends statuses.Undecided x → HasLines (IsUndecided limit a b) Undecided x
+undecided : (limit : ℕ) (keeps : Bool) (a b : Fsmd) (x : Answer) → IsOfPair limit keeps a b x → HasStatus statuses.Undecided x
+    → HasLines (IsUndecided limit a b) Undecided x
 undecided limit keeps a b x (Same ns same e) s = absurd (let h : statuses.Fine ≡ statuses.Undecided = moved statuses.Undecided statuses.Fine x _ e refl s in cc)
 undecided limit keeps a b x (Apart l) s = absurd (let h : statuses.Differ ≡ statuses.Undecided = moved statuses.Undecided statuses.Differ x _ l.is refl s in cc)
 undecided limit keeps a b x (Open l) s = l
 
 -- what is to be stored of an equivalent answer
-stores_text : (o : Option Asked) (x : Answer) (nodes : ℕ) (text name : List ℕ) → x ≡ Equivalent nodes (kept (is_some (cert_of o)) text) → cert_of o ≡ Some name → to_store o x ≡ Some (entry name text)
+stores_text : (o : Option Asked) (x : Answer) (nodes : ℕ) (text name : List ℕ) → x ≡ Equivalent nodes (kept (is_some (cert_of o)) text)
+    → cert_of o ≡ Some name → to_store o x ≡ Some (entry name text)
 stores_text o x nodes text name is e = rw (is, e) refl
 
-pub put_lines : (g : Call) (p : Put) (x : Answer) (lines : List ℕ) → p.got_now ≡ appended p.got_before (reply x g.asked) → lines_of x g.asked ≡ lines → HasPut g p lines
+pub put_lines : (g : Call) (p : Put) (x : Answer) (lines : List ℕ) → p.got_now ≡ appended p.got_before (reply x g.asked) → lines_of x g.asked ≡ lines
+    → HasPut g p lines
 put_lines g p x lines got is = got ∙ ap (λ l. appended p.got_before (opening g.asked ++ l)) is
 
 pub says_same : (g : Call) (p : Put) → Answered g p → p.status ≡ statuses.Fine → IsTrue (compares g.asked) → SaysSame g p
 says_same g p a e t =
     let w = well g p statuses.Fine a refl e in
-    let c = compared g statuses.Fine a.answer a.correct t refl w.meant_is in
+    let c = compared g statuses.Fine a.answer refl w.meant_is a.correct t in
     let k = fine (step_limit g.asked) (is_some (cert_of g.asked)) c.left c.right a.answer c.answer w.meant_is in
     record {
       left = c.left;
@@ -102,41 +109,49 @@ says_same g p a e t =
       holds = k.same.shows.certificate;
       same = k.same.same;
       put = put_lines g p a.answer (equivalent_text (length k.nodes)) w.got (ap (λ x. lines_of x g.asked) k.is);
-      stored = λ name named. w.stored (entry name (certificate_text c.left c.right k.nodes)) (stores_text g.asked a.answer (length k.nodes) (certificate_text c.left c.right k.nodes) name k.is named);
+      stored = λ name named. w.stored (entry name (certificate_text c.left c.right k.nodes))
+          (stores_text g.asked a.answer (length k.nodes) (certificate_text c.left c.right k.nodes) name k.is named);
     }
 
 pub says_differ : (g : Call) (p : Put) → Answered g p → p.status ≡ statuses.Differ → IsTrue (compares g.asked) → SaysDiffer g p
 says_differ g p a e t =
     let w = well g p statuses.Differ a refl e in
-    let c = compared g statuses.Differ a.answer a.correct t refl w.meant_is in
+    let c = compared g statuses.Differ a.answer refl w.meant_is a.correct t in
     let l = differ (step_limit g.asked) (is_some (cert_of g.asked)) c.left c.right a.answer c.answer w.meant_is in
-    record { left = c.left; right = c.right; paired = c.paired; lines = l.lines; shows = l.holds; put = put_lines g p a.answer l.lines w.got (ap (λ x. lines_of x g.asked) l.is) }
+    record {
+      left = c.left;
+      right = c.right;
+      paired = c.paired;
+      lines = l.lines;
+      shows = l.holds;
+      put = put_lines g p a.answer l.lines w.got
+          (ap (λ x. lines_of x g.asked) l.is);
+    }
 
 pub says_undecided : (g : Call) (p : Put) → Answered g p → p.status ≡ statuses.Undecided → IsTrue (compares g.asked) → SaysUndecided g p
 says_undecided g p a e t =
     let w = well g p statuses.Undecided a refl e in
-    let c = compared g statuses.Undecided a.answer a.correct t refl w.meant_is in
+    let c = compared g statuses.Undecided a.answer refl w.meant_is a.correct t in
     let l = undecided (step_limit g.asked) (is_some (cert_of g.asked)) c.left c.right a.answer c.answer w.meant_is in
-    record { left = c.left; right = c.right; paired = c.paired; lines = l.lines; is_undecided = l.holds; put = put_lines g p a.answer l.lines w.got (ap (λ x. lines_of x g.asked) l.is) }
+    record {
+      left = c.left;
+      right = c.right;
+      paired = c.paired;
+      lines = l.lines;
+      is_undecided = l.holds;
+      put = put_lines g p a.answer l.lines w.got
+          (ap (λ x. lines_of x g.asked) l.is);
+    }
 
 -- the reply to a certificate begins with no other line
 no_opening : (o : Option Asked) → IsTrue (is_verify o) → (x : Answer) → reply x o ≡ lines_of x o
-no_opening None t x = absurd (false≢true t)
-no_opening (Some (Check left right cert steps)) t x = absurd (false≢true t)
 no_opening (Some (Verify left right cert)) t x = refl
-no_opening (Some (Run machine inputs steps)) t x = absurd (false≢true t)
-no_opening (Some (Replay left right inputs steps)) t x = absurd (false≢true t)
-no_opening (Some (Fmt machine)) t x = absurd (false≢true t)
-no_opening (Some (Cuts machine)) t x = absurd (false≢true t)
-no_opening (Some (Generate n)) t x = absurd (false≢true t)
-no_opening (Some (Compile program)) t x = absurd (false≢true t)
-no_opening (Some (Schedule machine units)) t x = absurd (false≢true t)
-no_opening (Some (Bind machine binding)) t x = absurd (false≢true t)
+no_opening _ t x = absurd (false≢true t)
 
 pub is_checked : (g : Call) (p : Put) → Answered g p → p.status ≡ statuses.Fine → IsTrue (is_verify g.asked) → IsChecked g p
 is_checked g p a e t =
     let w = well g p statuses.Fine a refl e in
-    let c = checked g statuses.Fine a.answer a.correct t refl w.meant_is in
+    let c = checked g statuses.Fine a.answer refl w.meant_is a.correct t in
     let yes = judged_yes c.left c.right (verdict_on c.left c.right c.nodes) a.answer c.judged.is w.meant_is in
     let is : a.answer ≡ Text (codes "yes\n") = c.judged.is ∙ ap (answer_to c.left c.right) yes in
     record {
@@ -155,21 +170,9 @@ is_checked g p a e t =
 -- ---- files that are changed
 
 -- an answer with a certificate is an equivalent one
-with_certificate : (x : Answer) (text : List ℕ) → certificate_in x ≡ Some text → Ends statuses.Fine x
-with_certificate Usage text e = cc
+with_certificate : (x : Answer) (text : List ℕ) → certificate_in x ≡ Some text → HasStatus statuses.Fine x
 with_certificate (Equivalent nodes cert) text e = refl
-with_certificate (Text lines) text e = refl
-with_certificate (Differs lines) text e = cc
-with_certificate (Undecided lines) text e = cc
-with_certificate (TextRefused file fault) text e = cc
-with_certificate (CheckRefused file fault) text e = cc
-with_certificate (NotJson file) text e = cc
-with_certificate (KeyRefused file fault key) text e = cc
-with_certificate (Over file state unit) text e = cc
-with_certificate (CertRefused file error) text e = cc
-with_certificate (Interfaces name) text e = cc
-with_certificate (TooLong file limit) text e = cc
-with_certificate (CannotRead file) text e = cc
+with_certificate _ text e = cc
 
 record IsEntry (cert text : Option (List ℕ)) (x : Entry) : Type 0 where
   named : cert ≡ Some x.name
@@ -178,20 +181,12 @@ record IsEntry (cert text : Option (List ℕ)) (x : Entry) : Type 0 where
 is_entry : (cert text : Option (List ℕ)) (x : Entry) → entry_of cert text ≡ Some x → IsEntry cert text x
 is_entry None text x e = absurd (cc)
 is_entry (Some name) None x e = absurd (cc)
-is_entry (Some name) (Some bytes) x e = let same : entry name bytes ≡ x = cc in record { named = ap (λ z. Some z.name) same; told = ap (λ z. Some z.bytes) same }
+is_entry (Some name) (Some bytes) x e = let same : entry name bytes ≡ x =
+    cc in record { named = ap (λ z. Some z.name) same; told = ap (λ z. Some z.bytes) same }
 
 named_compares : (o : Option Asked) (name : List ℕ) → cert_of o ≡ Some name → IsTrue (compares o)
-named_compares None name e = absurd (cc)
 named_compares (Some (Check left right cert steps)) name e = refl
-named_compares (Some (Verify left right cert)) name e = absurd (cc)
-named_compares (Some (Run machine inputs steps)) name e = absurd (cc)
-named_compares (Some (Replay left right inputs steps)) name e = absurd (cc)
-named_compares (Some (Fmt machine)) name e = absurd (cc)
-named_compares (Some (Cuts machine)) name e = absurd (cc)
-named_compares (Some (Generate n)) name e = absurd (cc)
-named_compares (Some (Compile program)) name e = absurd (cc)
-named_compares (Some (Schedule machine units)) name e = absurd (cc)
-named_compares (Some (Bind machine binding)) name e = absurd (cc)
+named_compares _ name e = absurd (cc)
 
 -- what is to be stored is the text of a certificate that shows that the machines have the same behaviour
 record IsOfSearch (g : Call) (x : Entry) : Type 0 where
@@ -211,7 +206,7 @@ of_search : (g : Call) (y : Answer) (x : Entry) → IsCorrectAnswer g y → to_s
 of_search g y x c e =
     let i = is_entry (cert_of g.asked) (certificate_in y) x e in
     let f = with_certificate y x.bytes i.told in
-    let m = compared g statuses.Fine y c (named_compares g.asked x.name i.named) refl f in
+    let m = compared g statuses.Fine y refl f c (named_compares g.asked x.name i.named) in
     let k = fine (step_limit g.asked) (is_some (cert_of g.asked)) m.left m.right y m.answer f in
     record {
       named = i.named;
@@ -225,5 +220,7 @@ of_search g y x c e =
 
 pub keeps_files : (g : Call) (y : Answer) → IsCorrectAnswer g y → Leaves (to_store g.asked y) (stores g.before g.now) → KeepsFiles g
 keeps_files g y c (LeftAlone k) = AllKept k
-keeps_files g y c (LeftStored x e h) = let o = of_search g y x c e in CertificateStored x.name o.named o.left o.right o.paired o.nodes o.same.shows (subst (λ t. IsStored x.name t (stores g.before g.now)) o.text h)
+keeps_files g y c (LeftStored x e h) = let o =
+    of_search g y x c e in CertificateStored x.name o.named o.left o.right o.paired o.nodes o.same.shows
+    (subst (λ t. IsStored x.name t (stores g.before g.now)) o.text h)
 keeps_files g y c (LeftUnstored x e h) = let o = of_search g y x c e in CertificateFailed x.name o.named o.left o.right o.paired o.nodes o.same.shows h

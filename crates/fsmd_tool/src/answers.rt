@@ -4,15 +4,15 @@ ghost use Rattle.std.specs.Prelude.{◌≡◌, None, ◌≤◌, Some};
 ghost use Rattle.command_words.specs.Words.{asked};
 ghost use Rattle.fs_pair.specs.Interfaces.{interface_fault};
 ghost use Rattle.fs_pair.specs.Positions.{positions};
-ghost use Rattle.command_answers.specs.declared.answer.Operand.TheVariants as operands;
-ghost use Rattle.command_answers.specs.Texts.{HasCanonicalText};
-ghost use Rattle.command_answers.specs.Paths.{HasPaths};
+ghost use Rattle.fs_write.specs.Canonical.{canonical};
+ghost use Rattle.path_text.specs.Paths.{paths_text};
+ghost use Rattle.command_answers.specs.declared.answer.Answer.TheVariants.{Text};
+ghost use Rattle.command_answers.specs.Pairs.{IsOfPair};
+ghost use Rattle.command_answers.specs.Verdicts.{IsJudged};
 ghost use Rattle.command_answers.specs.Runs.{IsOfRun};
-ghost use Rattle.command_answers.specs.Refusals.{RefusesMachine};
-ghost use Rattle.command_answers.specs.InputFiles.{FollowsFromInputs};
-ghost use Rattle.command_answers.specs.Follows.{ForCheck, ForVerify, ForReplay, FollowsForPair, FollowsForText, FollowsForRun};
-ghost use Rattle.fsmd_tool.specs.Calls.{call, OnlyRead, IsCorrectBy, AnswersBy};
-ghost use Rattle.fsmd_tool.specs.Loading.{Gives};
+ghost use Rattle.command_answers.specs.Replays.{IsOfReplay};
+ghost use Rattle.command_answers.specs.Follows.{Ends, OpensPair, OpensMachine, OpensParts, OpensInputs, OpensCertificate};
+ghost use Rattle.fsmd_tool.specs.Calls.{call, OnlyRead, IsCorrectFrom, AnswersBy};
 
 use crate::load::{load, load_certificate, load_inputs, load_machine};
 use crate::pair::{Pair, load_pair};
@@ -40,7 +40,8 @@ pub fn check<F: Files>(
     files: &mut F,
 ) -> Result<Answer, Refused>
     requires { 1 ≤ steps }
-    ensures answers { AnswersBy (IsCorrectBy (FollowsForPair (ForCheck steps keeps)) (call (Some (asked ask.now)) (F.told files.old) (F.told files.new))) result }
+    ensures answers { AnswersBy (IsCorrectFrom (OpensPair (λ a b. Ends (IsOfPair steps keeps a b))) 0
+        (call (Some (asked ask.now)) (F.told files.old) (F.told files.new))) result }
     ensures only_read { OnlyRead (F.told files.old) (F.told files.new) }
 {
     let Pair {
@@ -62,16 +63,18 @@ fn verify_from<F: Files>(
 ) -> Result<Answer, Refused>
     requires paired { pairing.now ≡ positions left.now right.now }
     requires alike { interface_fault left.now right.now ≡ None }
-    ensures answers { AnswersBy (Gives (call (Some (asked ask.now)) (F.told files.old) (F.told files.new)) operands.Third (ForVerify left.now right.now)) result }
+    ensures answers { AnswersBy (IsCorrectFrom (OpensCertificate left.now right.now (λ nodes. Ends (IsJudged left.now right.now nodes))) 2
+        (call (Some (asked ask.now)) (F.told files.old) (F.told files.new))) result }
     ensures only_read { OnlyRead (F.told files.old) (F.told files.new) }
 {
-    let cert = load_certificate(alloc, Operand::Third, ask, left, right, pairing, files)?;
+    let cert = load_certificate(alloc, Operand(2), ask, left, right, pairing, files)?;
     Ok(judge(alloc, left, right, pairing, &cert)?)
 }
 
 /// What `verify` answers: whether a certificate shows that two machines have the same behaviour.
 pub fn verify_files<F: Files>(alloc: Global, ask: &Ask, files: &mut F) -> Result<Answer, Refused>
-    ensures answers { AnswersBy (IsCorrectBy (FollowsForPair ForVerify) (call (Some (asked ask.now)) (F.told files.old) (F.told files.new))) result }
+    ensures answers { AnswersBy (IsCorrectFrom (OpensPair (λ a b. OpensCertificate a b (λ nodes. Ends (IsJudged a b nodes)))) 0
+        (call (Some (asked ask.now)) (F.told files.old) (F.told files.new))) result }
     ensures only_read { OnlyRead (F.told files.old) (F.told files.new) }
 {
     let Pair {
@@ -84,10 +87,11 @@ pub fn verify_files<F: Files>(alloc: Global, ask: &Ask, files: &mut F) -> Result
 
 /// What `fmt` answers: the canonical text of a machine.
 pub fn format_text<F: Files>(alloc: Global, ask: &Ask, files: &mut F) -> Result<Answer, Refused>
-    ensures answers { AnswersBy (IsCorrectBy (FollowsForText (RefusesMachine operands.First) HasCanonicalText) (call (Some (asked ask.now)) (F.told files.old) (F.told files.new))) result }
+    ensures answers { AnswersBy (IsCorrectFrom (OpensParts (λ parts. Ends (λ answer. answer ≡ Text (canonical parts)))) 0
+        (call (Some (asked ask.now)) (F.told files.old) (F.told files.new))) result }
     ensures only_read { OnlyRead (F.told files.old) (F.told files.new) }
 {
-    let Loaded { parts, .. } = load(alloc, Operand::First, ask, files)?;
+    let Loaded { parts, .. } = load(alloc, Operand(0), ask, files)?;
     match write_parts(alloc, &parts) {
         Ok(text) => Ok(Answer::Text {
             lines: Lines::of(text),
@@ -98,10 +102,11 @@ pub fn format_text<F: Files>(alloc: Global, ask: &Ask, files: &mut F) -> Result<
 
 /// What `cuts` answers: the paths of a machine.
 pub fn cut_paths<F: Files>(alloc: Global, ask: &Ask, files: &mut F) -> Result<Answer, Refused>
-    ensures answers { AnswersBy (IsCorrectBy (FollowsForText (RefusesMachine operands.First) HasPaths) (call (Some (asked ask.now)) (F.told files.old) (F.told files.new))) result }
+    ensures answers { AnswersBy (IsCorrectFrom (OpensMachine (λ m. Ends (λ answer. answer ≡ Text (paths_text m)))) 0
+        (call (Some (asked ask.now)) (F.told files.old) (F.told files.new))) result }
     ensures only_read { OnlyRead (F.told files.old) (F.told files.new) }
 {
-    let machine = load_machine(alloc, Operand::First, ask, files)?;
+    let machine = load_machine(alloc, Operand(0), ask, files)?;
     let lines = Lines::of(list_paths(alloc, &machine)?);
     Ok(Answer::Text { lines })
 }
@@ -115,10 +120,11 @@ fn run_from<F: Files>(
     files: &mut F,
 ) -> Result<Answer, Refused>
     requires { 1 ≤ steps }
-    ensures answers { AnswersBy (Gives (call (Some (asked ask.now)) (F.told files.old) (F.told files.new)) operands.Second (FollowsFromInputs (IsOfRun steps machine.now) machine.now operands.Second)) result }
+    ensures answers { AnswersBy (IsCorrectFrom (OpensInputs machine.now (λ ins. Ends (IsOfRun steps machine.now ins))) 1
+        (call (Some (asked ask.now)) (F.told files.old) (F.told files.new))) result }
     ensures only_read { OnlyRead (F.told files.old) (F.told files.new) }
 {
-    let inputs = load_inputs(alloc, Operand::Second, ask, machine, files)?;
+    let inputs = load_inputs(alloc, Operand(1), ask, machine, files)?;
     Ok(run_machine(alloc, machine, &inputs, steps)?)
 }
 
@@ -130,10 +136,11 @@ pub fn run_files<F: Files>(
     files: &mut F,
 ) -> Result<Answer, Refused>
     requires { 1 ≤ steps }
-    ensures answers { AnswersBy (IsCorrectBy (FollowsForRun steps) (call (Some (asked ask.now)) (F.told files.old) (F.told files.new))) result }
+    ensures answers { AnswersBy (IsCorrectFrom (OpensMachine (λ m. OpensInputs m (λ ins. Ends (IsOfRun steps m ins)))) 0
+        (call (Some (asked ask.now)) (F.told files.old) (F.told files.new))) result }
     ensures only_read { OnlyRead (F.told files.old) (F.told files.new) }
 {
-    let machine = load_machine(alloc, Operand::First, ask, files)?;
+    let machine = load_machine(alloc, Operand(0), ask, files)?;
     run_from(alloc, ask, &machine, steps, files)
 }
 
@@ -148,10 +155,11 @@ fn replay_from<F: Files>(
 ) -> Result<Answer, Refused>
     requires alike { interface_fault left.now right.now ≡ None }
     requires steps { 1 ≤ steps }
-    ensures answers { AnswersBy (Gives (call (Some (asked ask.now)) (F.told files.old) (F.told files.new)) operands.Third (ForReplay steps left.now right.now)) result }
+    ensures answers { AnswersBy (IsCorrectFrom (OpensInputs left.now (λ ins. Ends (IsOfReplay steps left.now right.now ins))) 2
+        (call (Some (asked ask.now)) (F.told files.old) (F.told files.new))) result }
     ensures only_read { OnlyRead (F.told files.old) (F.told files.new) }
 {
-    let inputs = load_inputs(alloc, Operand::Third, ask, left, files)?;
+    let inputs = load_inputs(alloc, Operand(2), ask, left, files)?;
     Ok(replay_machines(alloc, left, right, &inputs, steps)?)
 }
 
@@ -163,7 +171,8 @@ pub fn replay_files<F: Files>(
     files: &mut F,
 ) -> Result<Answer, Refused>
     requires { 1 ≤ steps }
-    ensures answers { AnswersBy (IsCorrectBy (FollowsForPair (ForReplay steps)) (call (Some (asked ask.now)) (F.told files.old) (F.told files.new))) result }
+    ensures answers { AnswersBy (IsCorrectFrom (OpensPair (λ a b. OpensInputs a (λ ins. Ends (IsOfReplay steps a b ins)))) 0
+        (call (Some (asked ask.now)) (F.told files.old) (F.told files.new))) result }
     ensures only_read { OnlyRead (F.told files.old) (F.told files.new) }
 {
     let Pair { left, right, .. } = load_pair(alloc, ask, files)?;

@@ -5,16 +5,18 @@ ghost use Rattle.std.specs.Result.{OnErr};
 ghost use Rattle.fs_base.specs.Outside.{NoneFell};
 ghost use Rattle.command_words.specs.Words.{IsWithinLimits, asked};
 ghost use Rattle.command_answers.specs.declared.answer.Status.TheVariants.{Fine, Differ, Undecided, Fault};
-ghost use Rattle.fsmd_tool.specs.Asking.{asked_in, AskToCompare, AskToVerify, AskToCompile, AskToSchedule, AskToBind};
+ghost use Rattle.fsmd_tool.specs.Asking.{asked_in, AskToCompare, AskToVerify, AskToCompile, AskToSchedule, AskToBind, AskToShrink, AskToChain};
 ghost use Rattle.fsmd_tool.specs.Calls.{call, OnlyRead, AnswersBy};
 ghost use Rattle.fsmd_tool.specs.Puts.{put};
 ghost use Rattle.fsmd_tool.specs.Stores.{stores, IsUnwritten};
 ghost use Rattle.fsmd_tool.specs.Correct.{IsCorrectAnswer, Answered, Outcome};
 ghost use Rattle.fsmd_tool.specs.Alike.{AnswersPair, TellsOfAlike};
-ghost use Rattle.fsmd_tool.specs.Clauses.{SaysSame, SaysDiffer, SaysUndecided, IsChecked, IsCompiled, IsInRows, IsInRegisters, KeepsFiles, HasCause};
+ghost use Rattle.fsmd_tool.specs.Clauses.{SaysSame, SaysDiffer, SaysUndecided, IsChecked, IsCompiled, IsInRows, IsInRegisters, KeepsFiles, HasCause, IsShrunk, IsChained};
 
 use crate::answers::{check, cut_paths, format_text, replay_files, run_files, verify_files};
+use crate::chain::chain_files;
 use crate::put::{put_answer, put_usage};
+use crate::shrink::shrink_files;
 use crate::synthesis::{bind_files, compile_file, schedule_files};
 use command_answers::answer::{Answer, Status};
 use command_answers::generated::compare_generated;
@@ -41,6 +43,8 @@ fn answer_command<F: Files>(alloc: Global, ask: &Ask, files: &mut F) -> Result<A
         Ask::Compile { .. } => compile_file(alloc, ask, files),
         Ask::Schedule { .. } => schedule_files(alloc, ask, files),
         Ask::Bind { .. } => bind_files(alloc, ask, files),
+        Ask::Shrink { steps, .. } => shrink_files(alloc, ask, *steps, files),
+        Ask::Chain { files: words } => chain_files(alloc, ask, words.as_slice(), files),
     }
 }
 
@@ -122,6 +126,8 @@ pub fn drive<F: Files, S: Sink>(
     ensures compiled { result ≡ Fine → AskToCompile words.now → IsCompiled (call (asked_in words.now) (F.told files.old) (F.told files.new)) (put result (S.told out.old) (S.told out.new)) }
     ensures in_rows { result ≡ Fine → AskToSchedule words.now → IsInRows (call (asked_in words.now) (F.told files.old) (F.told files.new)) (put result (S.told out.old) (S.told out.new)) }
     ensures in_registers { result ≡ Fine → AskToBind words.now → IsInRegisters (call (asked_in words.now) (F.told files.old) (F.told files.new)) (put result (S.told out.old) (S.told out.new)) }
+    ensures shrunk { result ≡ Differ → AskToShrink words.now → IsShrunk (call (asked_in words.now) (F.told files.old) (F.told files.new)) (put result (S.told out.old) (S.told out.new)) }
+    ensures chained { result ≡ Fine → AskToChain words.now → IsChained (call (asked_in words.now) (F.told files.old) (F.told files.new)) (put result (S.told out.old) (S.told out.new)) }
     ensures fault { result ≡ Fault → HasCause (call (asked_in words.now) (F.told files.old) (F.told files.new)) (put result (S.told out.old) (S.told out.new)) }
     ensures counts { NoneFell (F.told files.old).faults (F.told files.new).faults }
     ensures store_counts { NoneFell (F.told files.old).store_faults (F.told files.new).store_faults }

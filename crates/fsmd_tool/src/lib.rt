@@ -2,11 +2,13 @@
 #![tactic(auto)]
 
 mod answers;
+mod chain;
 pub mod drive;
-mod load;
-mod pair;
+pub mod load;
+pub mod pair;
 pub mod program;
-mod put;
+pub mod put;
+mod shrink;
 mod synthesis;
 
 pub use command_answers::answer;

@@ -12,13 +12,11 @@ ghost use Rattle.certificates.specs.View.{node_of};
 ghost use Rattle.command_answers.specs.Words.{word_of};
 ghost use Rattle.binding_laws.specs.Bindings.{IsBindingOf};
 ghost use Rattle.unit_counts.specs.Counts.{units_in};
-ghost use Rattle.command_answers.specs.declared.answer.Answer.TheVariants.{Text};
-ghost use Rattle.command_answers.specs.Lines.{HasLines};
 ghost use Rattle.command_answers.specs.Texts.{SpellsMachine};
 ghost use Rattle.command_answers.specs.Unread.{IsUnread};
 ghost use Rattle.command_answers.specs.Refusals.{RefusesMachine, RefusesCertificate, SpellsCertificate};
 ghost use Rattle.command_answers.specs.InputFiles.{signatures, RefusesInputs, SpellsInputs};
-ghost use Rattle.command_answers.specs.Programs.{HasCompiledText, RefusesProgram};
+ghost use Rattle.command_answers.specs.Programs.{IsOfProgramIn, RefusesProgram};
 ghost use Rattle.command_answers.specs.Schedules.{SpellUnits, RefusesUnits};
 ghost use Rattle.command_answers.specs.Bindings.{SpellsBinding, RefusesBinding};
 ghost use Rattle.command_answers.specs.Refusing.{WhereAnswered, IsLoaded};
@@ -139,7 +137,7 @@ pub fn load_compiled<F: Files>(
     ask: &Ask,
     files: &mut F,
 ) -> Result<Answer, Refused>
-    ensures compiled { IfOk result (HasLines (λ text. MayHold ((F.told files.old).holds (word_of (Some (asked ask.now)) file)) (HasCompiledText text)) Text) }
+    ensures compiled { IfOk result (λ answer. MayHold ((F.told files.old).holds (word_of (Some (asked ask.now)) file)) (λ bytes. IsOfProgramIn bytes answer)) }
     ensures refused { IfErr result (WhereAnswered (Gives (call (Some (asked ask.now)) (F.told files.old) (F.told files.new)) file (RefusesProgram file))) }
     ensures only_read { OnlyRead (F.told files.old) (F.told files.new) }
 {

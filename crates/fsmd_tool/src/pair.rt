@@ -1,18 +1,16 @@
-//! Loads the files of two machines.
+//! Loads the files of machines with the same inputs and outputs.
 
 ghost use Rattle.std.specs.Prelude.{◌≡◌, IfOk, Some, None};
 ghost use Rattle.std.specs.Result.{IfErr};
 ghost use Rattle.command_words.specs.Words.{asked};
 ghost use Rattle.fs_pair.specs.Interfaces.{interface_fault};
 ghost use Rattle.fs_pair.specs.Positions.{positions};
-ghost use Rattle.command_answers.specs.declared.answer.Operand.TheVariants as operands;
-ghost use Rattle.command_answers.specs.declared.answer.Answer.TheVariants.{Interfaces};
-ghost use Rattle.command_answers.specs.Words.{word_of};
-ghost use Rattle.command_answers.specs.Lines.{HasLines};
+ghost use Rattle.command_answers.specs.Words.{operand, word_of};
 ghost use Rattle.command_answers.specs.Texts.{SpellsMachine};
 ghost use Rattle.command_answers.specs.Refusals.{RefusesPair};
 ghost use Rattle.command_answers.specs.Refusing.{WhereAnswered};
-ghost use Rattle.fsmd_tool.specs.Calls.{call, OnlyRead, MayHold, IsCorrectBy};
+ghost use Rattle.fsmd_tool.specs.Calls.{call, OnlyRead, MayHold, IsCorrectFrom};
+ghost use Rattle.fsmd_tool.specs.Loading.{RefusesNext, RefusesBoth};
 
 use crate::load::load_machine;
 use command_answers::answer::{Answer, Operand};
@@ -22,6 +20,13 @@ use fs_ast::machine::Machine;
 use fs_base::outside::Files;
 use fs_pair::positions::{FaceError, Pairing, same_interface};
 use std::alloc::Global;
+
+/// The machine that a file spells, with the same inputs and outputs as one before it, and the positions of both.
+#[derive(Drop)]
+pub struct Next {
+    pub machine: Machine,
+    pub pairing: Pairing,
+}
 
 /// The machines that the first two files of a call spell, with the same inputs and outputs, and their positions.
 #[derive(Drop)]
@@ -35,7 +40,7 @@ pub struct Pair {
 fn pairing_of(alloc: Global, left: &Machine, right: &Machine) -> Result<Pairing, Refused>
     ensures alike { IfOk result (λ _. interface_fault left.now right.now ≡ None) }
     ensures paired { IfOk result (λ pairing. pairing ≡ positions left.now right.now) }
-    ensures refused { IfErr result (WhereAnswered (HasLines (λ name. interface_fault left.now right.now ≡ Some name) Interfaces)) }
+    ensures refused { IfErr result (WhereAnswered (RefusesPair left.now right.now)) }
 {
     match same_interface(alloc, left, right) {
         Ok(pairing) => Ok(pairing),
@@ -44,22 +49,43 @@ fn pairing_of(alloc: Global, left: &Machine, right: &Machine) -> Result<Pairing,
     }
 }
 
+/// Loads the file of a machine with the same inputs and outputs as one before it, or answers the first refusal: of the file, and
+/// then that the machines have other inputs or outputs.
+pub fn load_next<F: Files>(
+    alloc: Global,
+    file: Operand,
+    ask: &Ask,
+    left: &Machine,
+    files: &mut F,
+) -> Result<Next, Refused>
+    ensures spells { IfOk result (λ n. MayHold ((F.told files.old).holds (word_of (Some (asked ask.now)) file)) (SpellsMachine n.machine)) }
+    ensures alike { IfOk result (λ n. interface_fault left.now n.machine ≡ None) }
+    ensures paired { IfOk result (λ n. n.pairing ≡ positions left.now n.machine) }
+    ensures refused { IfErr result (WhereAnswered (IsCorrectFrom (RefusesNext left.now) file.0
+        (call (Some (asked ask.now)) (F.told files.old) (F.told files.new)))) }
+    ensures only_read { OnlyRead (F.told files.old) (F.told files.new) }
+{
+    let machine = load_machine(alloc, file, ask, files)?;
+    let pairing = pairing_of(alloc, left, &machine)?;
+    Ok(Next { machine, pairing })
+}
+
 /// Loads the first two files of a call, the first one first, or answers the first refusal: of a file, and then that the machines have
 /// other inputs or outputs.
 pub fn load_pair<F: Files>(alloc: Global, ask: &Ask, files: &mut F) -> Result<Pair, Refused>
-    ensures left { IfOk result (λ p. MayHold ((F.told files.old).holds (word_of (Some (asked ask.now)) operands.First)) (SpellsMachine p.left)) }
-    ensures right { IfOk result (λ p. MayHold ((F.told files.old).holds (word_of (Some (asked ask.now)) operands.Second)) (SpellsMachine p.right)) }
+    ensures left { IfOk result (λ p. MayHold ((F.told files.old).holds (word_of (Some (asked ask.now)) (operand 0))) (SpellsMachine p.left)) }
+    ensures right { IfOk result (λ p. MayHold ((F.told files.old).holds (word_of (Some (asked ask.now)) (operand 1))) (SpellsMachine p.right)) }
     ensures alike { IfOk result (λ p. interface_fault p.left p.right ≡ None) }
     ensures paired { IfOk result (λ p. p.pairing ≡ positions p.left p.right) }
-    ensures refused { IfErr result (WhereAnswered (IsCorrectBy RefusesPair (call (Some (asked ask.now)) (F.told files.old) (F.told files.new)))) }
+    ensures refused { IfErr result (WhereAnswered (IsCorrectFrom RefusesBoth 0
+        (call (Some (asked ask.now)) (F.told files.old) (F.told files.new)))) }
     ensures only_read { OnlyRead (F.told files.old) (F.told files.new) }
 {
-    let left = load_machine(alloc, Operand::First, ask, files)?;
-    let right = load_machine(alloc, Operand::Second, ask, files)?;
-    let pairing = pairing_of(alloc, &left, &right)?;
+    let left = load_machine(alloc, Operand(0), ask, files)?;
+    let Next { machine, pairing } = load_next(alloc, Operand(1), ask, &left, files)?;
     Ok(Pair {
         left,
-        right,
+        right: machine,
         pairing,
     })
 }

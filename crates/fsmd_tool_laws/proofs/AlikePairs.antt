@@ -14,7 +14,6 @@ use Rattle.alike_searches.specs.Where.{WhereAlike}
 use Rattle.alike_searches.proofs.Interfaces.{OwnNames, one_interface}
 use Rattle.pair_answers.proofs.Alike.{closes_where_same, has_limit, no_counterexample}
 use Rattle.command_answers.specs.declared.answer.Answer.{Answer}
-use Rattle.command_answers.specs.declared.answer.Operand.TheVariants.{First, Second}
 use Rattle.command_answers.specs.Words.{cert_of, is_check, step_limit, generated_steps}
 use Rattle.command_answers.specs.Texts.{SpellsMachine}
 use Rattle.command_answers.specs.Pairs.{IsOfPair, Same, Apart, Open, left_of, right_of}
@@ -42,7 +41,7 @@ own_names m bytes h =
     its_names_differ : Fsmd → Bool
     its_names_differ z = names_differ (map (λ (v : VarInfo). v.name) z.variables)
 
-pub alike_checked : (g : Call) (p : Put) (a b : Fsmd) → is_check g.asked ≡ true → IsKnown g First (SpellsMachine a) → IsKnown g Second (SpellsMachine b)
+pub alike_checked : (g : Call) (p : Put) (a b : Fsmd) → is_check g.asked ≡ true → IsKnown g 0 (SpellsMachine a) → IsKnown g 1 (SpellsMachine b)
     → NothingFailed g p → Outcome g p → WhereAlike a b (EndsBy (IsClosedOrLimit (is_some (cert_of g.asked)) a b) g p)
 alike_checked g p a b e first second n o K alike =
     let limit = step_limit g.asked in

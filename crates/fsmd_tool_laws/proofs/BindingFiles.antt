@@ -1,5 +1,5 @@
 -- Bytes are one thing as a binding of a machine, which gets one answer by it.
-use Rattle.std.proofs.Common.{◌≡◌, ℕ, Bool, true, false, List, [], ◌∷◌, Option, Some, None, refl, sym, ◌∙◌, ap, subst, arith}
+use Rattle.std.proofs.Common.{◌≡◌, ℕ, Bool, true, false, List, [], ◌∷◌, Option, Some, refl, sym, ◌∙◌, ap, subst, arith}
 use Rattle.std.specs.Prelude.{◌&&◌, ◌||◌, ◌==◌, nat_lt}
 use Rattle.std.specs.declared.cmp.Ordering.TheVariants.{Less}
 use Rattle.std.specs.Ordering.{nat_cmp}
@@ -26,9 +26,9 @@ use Rattle.hls_bind.specs.Results.{IsBoundParts}
 use Rattle.command_answers.specs.declared.answer.Answer.{Answer}
 use Rattle.command_answers.specs.declared.answer.Answer.TheVariants.{Text, Differs}
 use Rattle.synthesis_answers.specs.Bindings.{Binding, conflict_text}
-use Rattle.command_answers.specs.Bindings.{binding_fault, HasBindingFault, SpellsBinding, IsOfBinding, IsBound, Loses}
-use Rattle.fsmd_tool_laws.proofs.Contents.{some_same, some_none}
-use Rattle.fsmd_tool_laws.proofs.Keys.{AreOneThing}
+use Rattle.command_answers.specs.Bindings.{binding_fault, HasBindingFault, SpellsBinding, RefusesBinding, IsOfBinding, IsBound, Loses}
+use Rattle.fsmd_tool_laws.proofs.Contents.{some_same, some_none, OpensInOneWay}
+use Rattle.fsmd_tool_laws.proofs.Keys.{AreOneThing, keys_open}
 
 -- ---- files
 
@@ -51,7 +51,7 @@ given_or_faulty : (vs : List VarInfo) (bytes : List ℕ) (b : Binding) (name : L
 given_or_faulty vs bytes b name f p q = faultless vs q.value b name f (subst (λ d. GivenBy vs d b) (one_value bytes p.value q.value p.json q.json) p.given) q.first
 
 -- bytes are one thing as a binding of a machine
-pub bindings_are_one : (m : Fsmd) → AreOneThing Binding (HasBindingFault m) (SpellsBinding m)
+bindings_are_one : (m : Fsmd) → AreOneThing Binding (HasBindingFault m) (SpellsBinding m)
 bindings_are_one m = record {
   few_without = λ b p. p.few;
   few_faulty = λ b f k p. p.few;
@@ -64,6 +64,10 @@ bindings_are_one m = record {
       ap (λ h. (h, k)) p.is ∙ ap (λ (t : List ℕ × Fault). (binding_fault t.1, t.0)) same ∙ ap (λ h. (h, j)) (sym q.is);
   one_value = λ b v w p q. gives_once m.variables b v w p.gives q.gives;
 }
+
+-- the file of a machine's binding is one thing
+pub binding_opens : (m : Fsmd) → OpensInOneWay Binding (RefusesBinding m) (SpellsBinding m)
+binding_opens m = keys_open Binding (HasBindingFault m) (SpellsBinding m) (bindings_are_one m)
 
 -- ---- sorted names are one list
 

@@ -1,5 +1,5 @@
--- What follows from a file of a certificate is one answer.
-use Rattle.std.proofs.Common.{◌≡◌, ℕ, true, false, List, Result, refl, sym, ◌∙◌, ap, subst}
+-- The file of a certificate is refused in one way, and not where it spells one.
+use Rattle.std.proofs.Common.{◌≡◌, ℕ, true, false, List, Result, refl, sym, ◌∙◌, ap}
 use Rattle.std.specs.Prelude.{◌≢◌, Err}
 use Rattle.serde_json.specs.Data.{Data}
 use Rattle.fs_model.specs.Machines.{Fsmd}
@@ -25,18 +25,20 @@ use Rattle.command_answers.specs.declared.answer.Answer.TheVariants.{CertRefused
 use Rattle.command_answers.specs.Readings.{Content, OfBytes}
 use Rattle.command_answers.specs.Unread.{IsUnread}
 use Rattle.command_answers.specs.Refusals.{SpellsCertificate, HasCertFault, RefusesCertificate, UnreadCertificate, ByCertificate}
-use Rattle.command_answers.specs.Verdicts.{IsJudged}
-use Rattle.command_answers.specs.Follows.{FollowsFromCertificate, CertificateRefused, Judged}
-use Rattle.fsmd_tool_laws.specs.Agreement.{IsOpened}
-use Rattle.fsmd_tool_laws.proofs.Contents.{some_same, of_both, bytes_opened}
+use Rattle.fsmd_tool_laws.proofs.Contents.{of_both, OpensInOneWay}
 use Rattle.fsmd_tool_laws.proofs.Texts.{few_not_many}
-use Rattle.fsmd_tool_laws.proofs.Files.{unread_opened, unread_once, unread_or}
+use Rattle.fsmd_tool_laws.proofs.Files.{unread_once, unread_or}
 
 -- the laws of reading: bytes spell one list of nodes and are then taken, and there are functions that say what texts stand for
 pub record ReadInOneWay : Type 0 where
   pub same : (a b : Fsmd) → (bytes : List ℕ) → (ns ms : List (Node Fact)) → SpellsNodes a b bytes ns → SpellsNodes a b bytes ms → ns ≡ ms
   pub taken : (a b : Fsmd) → (bytes : List ℕ) → (ns : List (Node Fact)) → (e : CertError) → SpellsNodes a b bytes ns → IsRefused a b bytes e → e ≡ NoMemory
   pub texts : (find : Find) → AreRead find (texts_by find)
+
+pub in_one_way : ((a b : Fsmd) → (bytes : List ℕ) → (ns ms : List (Node Fact)) → SpellsNodes a b bytes ns → SpellsNodes a b bytes ms → ns ≡ ms)
+    → ((a b : Fsmd) → (bytes : List ℕ) → (ns : List (Node Fact)) → (e : CertError) → SpellsNodes a b bytes ns → IsRefused a b bytes e → e ≡ NoMemory)
+    → ((find : Find) → AreRead find (texts_by find)) → ReadInOneWay
+in_one_way same taken texts = record { same = same; taken = taken; texts = texts }
 
 -- ---- why bytes are refused is one
 
@@ -66,7 +68,8 @@ shaped : (bytes : List ℕ) (d : Data) → HasOtherShape bytes → IsJson bytes 
 shaped bytes d p q e = let f : is_file p.value ≡ true = ap is_file (one_value bytes p.value d p.json q) ∙ e in let g : true ≡ false = sym f ∙ p.shape in cc
 
 not_many : (bytes : List ℕ) (d : Data) → HasTooMany bytes → IsJson bytes d → has_too_many d ≡ false → ⊥
-not_many bytes d p q e = let f : has_too_many p.value ≡ false = ap has_too_many (one_value bytes p.value d p.json q) ∙ e in let g : true ≡ false = sym p.many ∙ f in cc
+not_many bytes d p q e =
+    let f : has_too_many p.value ≡ false = ap has_too_many (one_value bytes p.value d p.json q) ∙ e in let g : true ≡ false = sym p.many ∙ f in cc
 
 abbrev find_for : (a b : Fsmd) → Data → Find
 find_for a b d = find_in (place_named a b (positions a b)) (positions a b) (format_in d)
@@ -102,46 +105,39 @@ ground_once w a b bytes e f (OfNodes p) (OfNodes q) = one_break w a b bytes e f 
 pub cert_fault_once : (w : ReadInOneWay) → (a b : Fsmd) (bytes : List ℕ) (e f : CertError) → HasCertFault a b e bytes → HasCertFault a b f bytes → e ≡ f
 cert_fault_once w a b bytes e f p q = ground_once w a b bytes e f (ground a b bytes e p.told p.refused) (ground a b bytes f q.told q.refused)
 
-pub certificate_once : (w : ReadInOneWay) → (a b : Fsmd) (bytes : List ℕ) (n k : List (Node Fact)) → SpellsCertificate a b n bytes → SpellsCertificate a b k bytes → n ≡ k
+pub certificate_once : (w : ReadInOneWay) → (a b : Fsmd) (bytes : List ℕ) (n k : List (Node Fact)) → SpellsCertificate a b n bytes
+    → SpellsCertificate a b k bytes → n ≡ k
 certificate_once w a b bytes n k p q = w.same a b bytes n k p.spells q.spells
 
-pub spells_no_cert_fault : (w : ReadInOneWay) → (a b : Fsmd) (bytes : List ℕ) (n : List (Node Fact)) (e : CertError) → SpellsCertificate a b n bytes → HasCertFault a b e bytes → ⊥
+pub spells_no_cert_fault : (w : ReadInOneWay) → (a b : Fsmd) (bytes : List ℕ) (n : List (Node Fact)) (e : CertError) → SpellsCertificate a b n bytes
+    → HasCertFault a b e bytes → ⊥
 spells_no_cert_fault w a b bytes n e p q = q.told (w.taken a b bytes n e p.spells q.refused)
 
 -- ---- refusals
 
-certificate_opened : (a b : Fsmd) (file : Operand) (c : Content) (x : Answer) → RefusesCertificate a b file c x → IsOpened c
-certificate_opened a b file c x (UnreadCertificate u) = unread_opened most_certificate_bytes file c x u
-certificate_opened a b file c x (ByCertificate e t h) = bytes_opened c (HasCertFault a b e) t
-
-fault_read : (a b : Fsmd) (file : Operand) (c : Content) (e : CertError) (x : Answer) → OfBytes c (HasCertFault a b e) → IsUnread most_certificate_bytes file c x → ⊥
+fault_read : (a b : Fsmd) (file : Operand) (c : Content) (e : CertError) (x : Answer) → OfBytes c (HasCertFault a b e)
+    → IsUnread most_certificate_bytes file c x → ⊥
 fault_read a b file c e x t u = unread_or most_certificate_bytes file c (HasCertFault a b e) x (λ v p l. few_not_many _ most_certificate_bytes p.few l) t u
 
-refused_once : (w : ReadInOneWay) → (a b : Fsmd) (file : Operand) (c : Content) (x y : Answer) → RefusesCertificate a b file c x → RefusesCertificate a b file c y → x ≡ y
+refused_once : (w : ReadInOneWay) → (a b : Fsmd) (file : Operand) (c : Content) (x y : Answer) → RefusesCertificate a b file c x
+    → RefusesCertificate a b file c y → x ≡ y
 refused_once w a b file c x y (UnreadCertificate u) (UnreadCertificate v) = unread_once most_certificate_bytes file c x y u v
 refused_once w a b file c x y (UnreadCertificate u) (ByCertificate e t h) = absurd (fault_read a b file c e x t u)
 refused_once w a b file c x y (ByCertificate e t h) (UnreadCertificate u) = absurd (fault_read a b file c e y t u)
 refused_once w a b file c x y (ByCertificate e t h) (ByCertificate f s k) =
     h ∙ ap (CertRefused file) (of_both c (HasCertFault a b e) (HasCertFault a b f) (e ≡ f) (λ v p q. cert_fault_once w a b v e f p q) t s) ∙ sym k
 
-spelled_or_refused : (w : ReadInOneWay) → (a b : Fsmd) (file : Operand) (c : Content) (n : List (Node Fact)) (x : Answer) → OfBytes c (SpellsCertificate a b n) → RefusesCertificate a b file c x → ⊥
-spelled_or_refused w a b file c n x s (UnreadCertificate u) = unread_or most_certificate_bytes file c (SpellsCertificate a b n) x (λ v p l. few_not_many _ most_certificate_bytes p.few l) s u
-spelled_or_refused w a b file c n x s (ByCertificate e t h) = of_both c (SpellsCertificate a b n) (HasCertFault a b e) ⊥ (λ v p q. spells_no_cert_fault w a b v n e p q) s t
+spelled_or_refused : (w : ReadInOneWay) → (a b : Fsmd) (file : Operand) (c : Content) (n : List (Node Fact)) (x : Answer) → OfBytes c (SpellsCertificate a b n)
+    → RefusesCertificate a b file c x → ⊥
+spelled_or_refused w a b file c n x s (UnreadCertificate u) =
+    unread_or most_certificate_bytes file c (SpellsCertificate a b n) x (λ v p l. few_not_many _ most_certificate_bytes p.few l) s u
+spelled_or_refused w a b file c n x s (ByCertificate e t h) =
+    of_both c (SpellsCertificate a b n) (HasCertFault a b e) ⊥ (λ v p q. spells_no_cert_fault w a b v n e p q) s t
 
--- ---- what follows
-
-pub judged_opened : (a b : Fsmd) (file : Operand) (c : Content) (x : Answer) → FollowsFromCertificate a b file c x → IsOpened c
-judged_opened a b file c x (CertificateRefused p) = certificate_opened a b file c x p
-judged_opened a b file c x (Judged n s p) = bytes_opened c (SpellsCertificate a b n) s
-
--- nodes that are spelled are judged
-pub spelled_judged : (w : ReadInOneWay) → (a b : Fsmd) (file : Operand) (c : Content) (n : List (Node Fact)) (x : Answer) → OfBytes c (SpellsCertificate a b n) → FollowsFromCertificate a b file c x → IsJudged a b n x
-spelled_judged w a b file c n x s (CertificateRefused p) = absurd (spelled_or_refused w a b file c n x s p)
-spelled_judged w a b file c n x s (Judged k t p) =
-    subst (λ v. IsJudged a b v x) (of_both c (SpellsCertificate a b k) (SpellsCertificate a b n) (k ≡ n) (λ v q r. certificate_once w a b v k n q r) t s) p
-
-pub judged_once : (w : ReadInOneWay) → (a b : Fsmd) (file : Operand) (c : Content) (x y : Answer) → FollowsFromCertificate a b file c x → FollowsFromCertificate a b file c y → x ≡ y
-judged_once w a b file c x y (CertificateRefused p) (CertificateRefused q) = refused_once w a b file c x y p q
-judged_once w a b file c x y (CertificateRefused p) (Judged n s q) = absurd (spelled_or_refused w a b file c n x s p)
-judged_once w a b file c x y (Judged n s p) (CertificateRefused q) = absurd (spelled_or_refused w a b file c n y s q)
-judged_once w a b file c x y (Judged n s p) (Judged k t q) = let j = spelled_judged w a b file c n y s (Judged k t q) in p.is ∙ sym j.is
+-- the file of two machines' certificate is one thing
+pub certificate_opens : (w : ReadInOneWay) → (a b : Fsmd) → OpensInOneWay (List (Node Fact)) (RefusesCertificate a b) (SpellsCertificate a b)
+certificate_opens w a b = record {
+  one_refusal = λ file c x y p q. refused_once w a b file c x y p q;
+  one_value = λ bytes n k p q. certificate_once w a b bytes n k p q;
+  not_both = λ file c n x s p. spelled_or_refused w a b file c n x s p;
+}

@@ -1,7 +1,8 @@
 -- What was read of a file is one thing.
 use Rattle.std.proofs.Common.{◌≡◌, ℕ, List, Option, Some, None, sym, ◌∙◌, subst}
-use Rattle.command_answers.specs.Readings.{Content, Unopened, Readable, Unreadable, OfBytes}
-use Rattle.fsmd_tool_laws.specs.Agreement.{IsOpened}
+use Rattle.command_answers.specs.declared.answer.Operand.{Operand}
+use Rattle.command_answers.specs.declared.answer.Answer.{Answer}
+use Rattle.command_answers.specs.Readings.{Content, Readable, Unreadable, OfBytes}
 
 pub some_same : {A : Type 0} (x y : A) → Path (Option A) (Some x) (Some y) → x ≡ y
 some_same x y e = cc
@@ -10,17 +11,19 @@ pub some_none : {A : Type 0} (x : A) (o : Option A) → o ≡ Some x → o ≡ N
 some_none x o e n = let f : Some x ≡ None = sym e ∙ n in cc
 
 pub of_both : (c : Content) (P Q : List ℕ → Type 0) (R : Type 0) → ((b : List ℕ) → P b → Q b → R) → OfBytes c P → OfBytes c Q → R
-of_both Unopened P Q R f p q = absurd p
 of_both (Readable b) P Q R f p q = f b p q
 of_both Unreadable P Q R f p q = absurd p
 
 pub unreadable_bytes : (c : Content) (P : List ℕ → Type 0) → c ≡ Unreadable → OfBytes c P → ⊥
 unreadable_bytes c P e p = subst (λ d. OfBytes d P) e p
 
-pub bytes_opened : (c : Content) (P : List ℕ → Type 0) → OfBytes c P → IsOpened c
-bytes_opened Unopened P p = absurd p
-bytes_opened (Readable b) P p = tt
-bytes_opened Unreadable P p = absurd p
+-- what is read of a file is one thing: it is refused by R in one way, or spells one value by S
+pub record OpensInOneWay (T : Type 0) (R : Operand → Content → Answer → Type 0) (S : T → List ℕ → Type 0) : Type 0 where
+  pub one_refusal : (file : Operand) (c : Content) (x y : Answer) → R file c x → R file c y → x ≡ y
+  pub one_value : (b : List ℕ) (v w : T) → S v b → S w b → v ≡ w
+  pub not_both : (file : Operand) (c : Content) (v : T) (x : Answer) → OfBytes c (S v) → R file c x → ⊥
 
-pub unreadable_opened : (c : Content) → c ≡ Unreadable → IsOpened c
-unreadable_opened c e = subst IsOpened (sym e) tt
+-- a file spells one value
+pub one_spelled : (T : Type 0) (R : Operand → Content → Answer → Type 0) (S : T → List ℕ → Type 0) → OpensInOneWay T R S → (c : Content) (v w : T)
+    → OfBytes c (S v) → OfBytes c (S w) → v ≡ w
+one_spelled T R S o c v w p q = of_both c (S v) (S w) (v ≡ w) (λ b s t. o.one_value b v w s t) p q

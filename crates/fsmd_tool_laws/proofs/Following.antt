@@ -1,255 +1,281 @@
--- At most one answer follows from what was read, but for what may be answered of two machines that are compared.
-use Rattle.std.proofs.Common.{◌≡◌, ℕ, List, Option, Some, None, Bool, true, false, refl, sym, ◌∙◌, ap, subst}
-use Rattle.std.specs.Prelude.{is_some, IsTrue}
-use Rattle.command_words.specs.Words.{Asked, Check, Verify, Run, Replay, Fmt, Cuts, Generate, Compile, Schedule, Bind}
+-- At most one answer follows from files one after another, and from readings that agree and are then one.
+use Rattle.std.proofs.Common.{◌≡◌, ℕ, zero, suc, ◌+◌, List, [], ◌∷◌, Option, Some, None, Bool, true, false, refl, sym, ◌∙◌, ap, subst}
+use Rattle.std.specs.Prelude.{is_some}
+use Rattle.command_words.specs.Words.{Asked, Check, Verify, Run, Replay, Fmt, Cuts, Generate, Compile, Schedule, Bind, Shrink, Chain}
 use Rattle.fs_model.specs.Machines.{Fsmd}
 use Rattle.fs_model.specs.Runs.{Inputs}
 use Rattle.fs_model.specs.Source.{Source}
 use Rattle.fs_rules.specs.Spelled.{machine_of}
-use Rattle.unit_counts.specs.Counts.{Units}
 use Rattle.fs_pair.specs.Interfaces.{interface_fault}
-use Rattle.command_answers.specs.declared.answer.Operand.{Operand}
-use Rattle.command_answers.specs.declared.answer.Operand.TheVariants.{First, Second, Third}
-use Rattle.command_answers.specs.declared.answer.KeyFault.{KeyFault}
-use Rattle.command_answers.specs.declared.answer.Answer.{Answer}
-use Rattle.command_answers.specs.declared.answer.Answer.TheVariants.{Text, Interfaces}
-use Rattle.command_answers.specs.Words.{is_check, compares, generated_steps}
-use Rattle.command_answers.specs.Lines.{HasLines}
-use Rattle.command_answers.specs.Texts.{SpellsParts, SpellsMachine, IsMachine, HasCanonicalText}
-use Rattle.command_answers.specs.Paths.{HasPaths}
-use Rattle.command_answers.specs.Readings.{Content, Unopened, Readable, Unreadable, OfBytes, Reading}
-use Rattle.command_answers.specs.Refusals.{ArePair, RefusesMachine, RefusesPair, FirstRefused, SecondRefused, InterfacesDiffer}
-use Rattle.command_answers.specs.Pairs.{left_of, right_of}
-use Rattle.command_answers.specs.Keys.{FollowsFromKeys}
-use Rattle.command_answers.specs.InputFiles.{HasInputFault, SpellsInputs, FollowsFromInputs}
-use Rattle.command_answers.specs.Programs.{RefusesProgram, HasCompiledText}
-use Rattle.command_answers.specs.Schedules.{HaveUnitFault, SpellUnits, IsOfSchedule, ForSchedule}
+use Rattle.fs_write.specs.Canonical.{canonical}
+use Rattle.path_text.specs.Paths.{paths_text}
+use Rattle.program_laws.specs.Programs.{Program}
+use Rattle.unit_counts.specs.Counts.{Units}
 use Rattle.synthesis_answers.specs.Bindings.{Binding}
-use Rattle.command_answers.specs.Bindings.{HasBindingFault, SpellsBinding, IsOfBinding, ForBind}
+use Rattle.bisimulation.specs.Tables.{Node}
+use Rattle.sym_facts.specs.Facts.{Fact}
+use Rattle.command_answers.specs.declared.answer.Operand.{Operand}
+use Rattle.command_answers.specs.declared.answer.Answer.{Answer}
+use Rattle.command_answers.specs.declared.answer.Answer.TheVariants.{Usage, Text, Link, Interfaces}
+use Rattle.command_answers.specs.Words.{operand, is_check, compares, generated_steps}
+use Rattle.command_answers.specs.Statuses.{status_of}
+use Rattle.command_answers.specs.Texts.{SpellsParts, SpellsMachine}
+use Rattle.command_answers.specs.Readings.{Content, OfBytes, Reading}
+use Rattle.command_answers.specs.Refusals.{RefusesMachine, RefusesPair, RefusesCertificate, SpellsCertificate}
+use Rattle.command_answers.specs.InputFiles.{SpellsInputs, RefusesInputs}
+use Rattle.command_answers.specs.Programs.{RefusesProgram, SpellsProgram, IsOfProgram}
+use Rattle.command_answers.specs.Schedules.{RefusesUnits, SpellUnits, IsOfSchedule}
+use Rattle.command_answers.specs.Bindings.{RefusesBinding, SpellsBinding, IsOfBinding}
+use Rattle.command_answers.specs.Pairs.{IsOfPair, IsOfLoops, left_of, right_of}
+use Rattle.command_answers.specs.Verdicts.{IsJudged}
 use Rattle.command_answers.specs.Runs.{IsOfRun}
 use Rattle.command_answers.specs.Replays.{IsOfReplay}
-use Rattle.command_answers.specs.Follows.{FollowsForText, TextRefused, Listed, FollowsForParts, PartsRefused, PartsSpelled, FollowsFromCertificate, FollowsForRun, MachineRefused, Ran, FollowsForPair, PairRefused, Answered, ForCheck, ForVerify, ForReplay, Follows}
-use Rattle.fsmd_tool_laws.specs.Agreement.{IsOpened, Agree}
+use Rattle.command_answers.specs.Shrinks.{IsOfShrink}
+use Rattle.command_answers.specs.Links.{AtLink, link_lines, links_of, IsOfChain}
+use Rattle.command_answers.specs.Follows.{Ends, OpensWith, Refused, Spelled, Opens, OpensMachine, OpensInputs, OpensCertificate, OpensUnits, OpensBinding, Pairs, Other, Alike, OpensPair, Judges, Fails, Holds, OpensLinks, FollowsFrom}
+use Rattle.fsmd_tool_laws.specs.Agreement.{Agree}
 use Rattle.fsmd_tool_laws.specs.OneAnswer.{AreCompared, OfFiles, OfLoops, SaySame, One, OfPair}
-use Rattle.fsmd_tool_laws.proofs.Contents.{some_same, some_none, of_both, bytes_opened}
-use Rattle.fsmd_tool_laws.proofs.Texts.{spells_once, parts_once, canonical_once, canonical_machine, paths_once}
-use Rattle.fsmd_tool_laws.proofs.Files.{refused_opened, machine_once, machine_or_refused, some_or_refused}
-use Rattle.fsmd_tool_laws.proofs.Keys.{AreOneThing, follows_opened, follows_once}
-use Rattle.fsmd_tool_laws.proofs.Inputs.{inputs_are_one}
-use Rattle.fsmd_tool_laws.proofs.UnitFiles.{units_are_one, schedule_once}
-use Rattle.fsmd_tool_laws.proofs.BindingFiles.{bindings_are_one, binding_once}
-use Rattle.fsmd_tool_laws.proofs.ProgramFiles.{program_opened, program_refused_once, compiled_once, compiled_or_refused}
-use Rattle.fsmd_tool_laws.proofs.Certificates.{ReadInOneWay, judged_opened, judged_once}
+use Rattle.fsmd_tool_laws.proofs.Contents.{some_same, some_none, OpensInOneWay, one_spelled}
+use Rattle.fsmd_tool_laws.proofs.Files.{machine_opens, parts_open}
+use Rattle.fsmd_tool_laws.proofs.Inputs.{inputs_open}
+use Rattle.fsmd_tool_laws.proofs.UnitFiles.{units_open, schedule_once}
+use Rattle.fsmd_tool_laws.proofs.BindingFiles.{binding_opens, binding_once}
+use Rattle.fsmd_tool_laws.proofs.ProgramFiles.{program_opens, compiled_once}
+use Rattle.fsmd_tool_laws.proofs.Certificates.{ReadInOneWay, certificate_opens}
 use Rattle.fsmd_tool_laws.proofs.Pairs.{pair_once}
 use Rattle.fsmd_tool_laws.proofs.Runs.{run_answer_once}
 use Rattle.fsmd_tool_laws.proofs.Replays.{replay_answer_once}
+use Rattle.fsmd_tool_laws.proofs.Shrinks.{shrink_answer_once}
 
--- two contents are the same where both are of a file that was opened
-abbrev pub Same : Content → Content → Type 0
-Same c d = IsOpened c → IsOpened d → c ≡ d
+-- which answer follows from what was read of the files from a number on
+abbrev pub Rule : Type 1
+Rule = (file : ℕ) → Reading → Answer → Type 0
 
-pub machine_same : (c d : Content) (m n : Fsmd) → Same c d → OfBytes c (SpellsMachine m) → OfBytes d (SpellsMachine n) → m ≡ n
-machine_same c d m n e p q =
-    of_both d (SpellsMachine m) (SpellsMachine n) (m ≡ n) (λ b s t. spells_once b m n s t)
-    (subst (λ k. OfBytes k (SpellsMachine m)) (e (bytes_opened c (SpellsMachine m) p) (bytes_opened d (SpellsMachine n) q)) p) q
+-- what is said of two answers, of which the second follows from this reading
+abbrev Said : Type 1
+Said = Reading → Answer → Answer → Type 0
 
--- ---- one file
+-- where two readings agree, they are one, and of the answers that follow by P from them this is said
+abbrev pub IsOneBy : Said → Rule → Type 0
+IsOneBy Say P = (file : ℕ) (r s : Reading) (x y : Answer) → Agree r s → P file r x → P file s y → (r ≡ s) × Say s x y
 
-refused_same : (file : Operand) (c d : Content) (x y : Answer) → Same c d → RefusesMachine file c x → RefusesMachine file d y → x ≡ y
-refused_same file c d x y e p q = machine_once file d x y (subst (λ k. RefusesMachine file k x) (e (refused_opened file c x p) (refused_opened file d y q)) p) q
+-- it is said of answers that are one
+abbrev IsSaidOfOne : Said → Type 0
+IsSaidOfOne Say = (s : Reading) (x y : Answer) → x ≡ y → Say s x y
 
-pub machine_not_refused : (file : Operand) (c d : Content) (m : Fsmd) (x : Answer) → Same c d → OfBytes c (SpellsMachine m) → RefusesMachine file d x → ⊥
-machine_not_refused file c d m x e p q = machine_or_refused file d m x (subst (λ k. OfBytes k (SpellsMachine m)) (e (bytes_opened c (SpellsMachine m) p) (refused_opened file d x q)) p) q
+-- the answers are one
+abbrev AreEqual : Said
+AreEqual s x y = x ≡ y
 
-pub some_not_refused : (file : Operand) (c d : Content) (x : Answer) → Same c d → OfBytes c IsMachine → RefusesMachine file d x → ⊥
-some_not_refused file c d x e p q = some_or_refused file d x (subst (λ k. OfBytes k IsMachine) (e (bytes_opened c IsMachine p) (refused_opened file d x q)) p) q
+abbrev pub IsOne : Rule → Type 0
+IsOne P = IsOneBy AreEqual P
 
-pub same_back : (c d : Content) → Same c d → Same d c
-same_back c d e o p = sym (e p o)
+said_of_one : (Say : Said) (P : Rule) → IsSaidOfOne Say → IsOne P → IsOneBy Say P
+said_of_one Say P same one file r s x y a p q = let t = one file r s x y a p q in (t.0, same s x y t.1)
 
--- ---- two files
+-- ---- a file behind another
 
--- what P says of the machines of one reading is said of those of the other
-pub with_pair : (r s : Reading) (a b m n : Fsmd) (P : Fsmd → Fsmd → Type 0) → Same r.first s.first → Same r.second s.second → ArePair r a b → ArePair s m n → P a b → P m n
-with_pair r s a b m n P e f p q h =
-    subst (λ v. P m v) (machine_same r.second s.second b n f p.right q.right) (subst (λ u. P u b) (machine_same r.first s.first a m e p.left q.left) h)
+ends_by : (Say : Said) (P : Answer → Type 0) → ((x y : Answer) → P x → P y → Say [] x y) → IsOneBy Say (Ends P)
+ends_by Say P once file [] [] x y a p q = (refl, once x y p q)
+ends_by Say P once file [] (d ∷ s) x y a p q = absurd q
+ends_by Say P once file (c ∷ r) s x y a p q = absurd p
 
-pub other_interface : (r s : Reading) (a b m n : Fsmd) (name : List ℕ) → Same r.first s.first → Same r.second s.second → ArePair r a b → ArePair s m n → interface_fault a b ≡ None → interface_fault m n ≡ Some name → ⊥
-other_interface r s a b m n name e f p q none some = some_none name (interface_fault m n) some (with_pair r s a b m n (λ u v. interface_fault u v ≡ None) e f p q none)
+module _ (T : Type 0) (R : Operand → Content → Answer → Type 0) (S : T → List ℕ → Type 0) (o : OpensInOneWay T R S) (Say : Said) (same : IsSaidOfOne Say)
+    (P : T → Rule)
+    (once : (v : T) (c : Content) → OfBytes c (S v) → IsOneBy (λ s. Say (c ∷ s)) (P v)) where
+  opened_by : (file : ℕ) (c : Content) (r s : Reading) (x y : Answer) → Agree r s → OpensWith T R S P file c r x → OpensWith T R S P file c s y
+      → (r ≡ s) × Say (c ∷ s) x y
+  opened_by file c r s x y a (Refused p e) (Refused q h) = (e ∙ sym h, same (c ∷ s) x y (o.one_refusal (operand file) c x y p q))
+  opened_by file c r s x y a (Refused p e) (Spelled w k q) = absurd (o.not_both (operand file) c w x k p)
+  opened_by file c r s x y a (Spelled v l p) (Refused q h) = absurd (o.not_both (operand file) c v y l q)
+  opened_by file c r s x y a (Spelled v l p) (Spelled w k q) =
+      once w c k (file + 1) r s x y a (subst (λ u. P u (file + 1) r x) (one_spelled T R S o c v w l k) p) q
 
-interfaces_once : (r s : Reading) (a b m n : Fsmd) (x y : Answer) → Same r.first s.first → Same r.second s.second → ArePair r a b → ArePair s m n
-    → HasLines (λ name. interface_fault a b ≡ Some name) Interfaces x → HasLines (λ name. interface_fault m n ≡ Some name) Interfaces y → x ≡ y
-interfaces_once r s a b m n x y e f p q l k =
-    let here : interface_fault m n ≡ Some l.lines = with_pair r s a b m n (λ u v. interface_fault u v ≡ Some l.lines) e f p q l.holds in
-    l.is ∙ ap Interfaces (some_same l.lines k.lines (sym here ∙ k.holds)) ∙ sym k.is
+  opens_by : IsOneBy Say (Opens T R S P)
+  opens_by file [] s x y a p q = absurd p
+  opens_by file (c ∷ r) [] x y a p q = absurd q
+  opens_by file (c ∷ r) (d ∷ s) x y a p q =
+      let t = opened_by file d r s x y a.1 (subst (λ k. OpensWith T R S P file k r x) a.0 p) q in
+      (ap (λ k. k ∷ r) a.0 ∙ ap (λ u. d ∷ u) t.0, t.1)
 
--- machines with the same inputs and outputs are not refused
-pub pair_not_refused : (r s : Reading) (a b : Fsmd) (x : Answer) → Same r.first s.first → Same r.second s.second → ArePair r a b → interface_fault a b ≡ None → RefusesPair s x → ⊥
-pair_not_refused r s a b x e f p i (FirstRefused q o) = machine_not_refused First r.first s.first a x e p.left q
-pair_not_refused r s a b x e f p i (SecondRefused m q o) = machine_not_refused Second r.second s.second b x f p.right q
-pair_not_refused r s a b x e f p i (InterfacesDiffer m n q l o) = other_interface r s a b m n l.lines e f p q i l.holds
+pairs_by : (Say : Said) → IsSaidOfOne Say → (a b : Fsmd) (R : Answer → Type 0) (P : Rule) → ((x y : Answer) → R x → R y → x ≡ y)
+    → ((x : Answer) → R x → interface_fault a b ≡ None → ⊥) → IsOneBy Say P → IsOneBy Say (Pairs a b R P)
+pairs_by Say same a b R P once apart one file r s x y g (Other p e) (Other q h) = (e ∙ sym h, same s x y (once x y p q))
+pairs_by Say same a b R P once apart one file r s x y g (Other p e) (Alike i q) = absurd (apart x p i)
+pairs_by Say same a b R P once apart one file r s x y g (Alike i p) (Other q h) = absurd (apart y q i)
+pairs_by Say same a b R P once apart one file r s x y g (Alike i p) (Alike j q) = one file r s x y g p q
 
-pair_refused_once : (r s : Reading) (x y : Answer) → Same r.first s.first → Same r.second s.second → RefusesPair r x → RefusesPair s y → x ≡ y
-pair_refused_once r s x y e f (FirstRefused p o) (FirstRefused q u) = refused_same First r.first s.first x y e p q
-pair_refused_once r s x y e f (FirstRefused p o) (SecondRefused m q u) = absurd (some_not_refused First s.first r.first x (same_back r.first s.first e) m p)
-pair_refused_once r s x y e f (FirstRefused p o) (InterfacesDiffer m n q l u) = absurd (machine_not_refused First s.first r.first m x (same_back r.first s.first e) q.left p)
-pair_refused_once r s x y e f (SecondRefused m p o) (FirstRefused q u) = absurd (some_not_refused First r.first s.first y e m q)
-pair_refused_once r s x y e f (SecondRefused m p o) (SecondRefused n q u) = refused_same Second r.second s.second x y f p q
-pair_refused_once r s x y e f (SecondRefused k p o) (InterfacesDiffer m n q l u) = absurd (machine_not_refused Second s.second r.second n x (same_back r.second s.second f) q.right p)
-pair_refused_once r s x y e f (InterfacesDiffer a b p l o) (FirstRefused q u) = absurd (machine_not_refused First r.first s.first a y e p.left q)
-pair_refused_once r s x y e f (InterfacesDiffer a b p l o) (SecondRefused m q u) = absurd (machine_not_refused Second r.second s.second b y f p.right q)
-pair_refused_once r s x y e f (InterfacesDiffer a b p l o) (InterfacesDiffer m n q k u) = interfaces_once r s a b m n x y e f p q l k
+interfaces_once : (a b : Fsmd) (x y : Answer) → RefusesPair a b x → RefusesPair a b y → x ≡ y
+interfaces_once a b x y l k = l.is ∙ ap Interfaces (some_same l.lines k.lines (sym l.holds ∙ k.holds)) ∙ sym k.is
 
--- two answers to two files of machines are as R says, where they are so if they are one, and if P says them of the same machines
-pair_follows : (P : (a b : Fsmd) → Content → Answer → Type 0) (R : Type 0) (r s : Reading) (x y : Answer) → Same r.first s.first → Same r.second s.second
-    → (x ≡ y → R) → ((m n : Fsmd) → ArePair s m n → P m n r.third x → P m n s.third y → R) → FollowsForPair P r x → FollowsForPair P s y → R
-pair_follows P R r s x y e f same once (PairRefused p) (PairRefused q) = same (pair_refused_once r s x y e f p q)
-pair_follows P R r s x y e f same once (PairRefused p) (Answered a b q i o) = absurd (pair_not_refused s r a b x (same_back r.first s.first e) (same_back r.second s.second f) q i p)
-pair_follows P R r s x y e f same once (Answered a b p i o) (PairRefused q) = absurd (pair_not_refused r s a b y e f p i q)
-pair_follows P R r s x y e f same once (Answered a b p i o) (Answered m n q j u) = once m n q (with_pair r s a b m n (λ k l. P k l r.third x) e f p q o) u
+pub other_or_alike : (a b : Fsmd) (x : Answer) → RefusesPair a b x → interface_fault a b ≡ None → ⊥
+other_or_alike a b x l i = some_none l.lines (interface_fault a b) l.holds i
+
+-- ---- the same where answers are one
+
+pub ends : (P : Answer → Type 0) → ((x y : Answer) → P x → P y → x ≡ y) → IsOne (Ends P)
+ends P once = ends_by AreEqual P once
+
+pub opens : (T : Type 0) (R : Operand → Content → Answer → Type 0) (S : T → List ℕ → Type 0) → OpensInOneWay T R S → (P : T → Rule) → ((v : T) → IsOne (P v))
+    → IsOne (Opens T R S P)
+opens T R S o P one = opens_by T R S o AreEqual (λ s x y e. e) P (λ v c l. one v)
+
+-- what follows behind two machines with the same inputs and outputs
+pair : (P : Fsmd → Fsmd → Rule) → ((a b : Fsmd) → IsOne (P a b)) → IsOne (OpensPair P)
+pair P one =
+    opens Fsmd RefusesMachine SpellsMachine machine_opens (λ a. OpensMachine (λ b. Pairs a b (RefusesPair a b) (P a b))) (λ a.
+    opens Fsmd RefusesMachine SpellsMachine machine_opens (λ b. Pairs a b (RefusesPair a b) (P a b)) (λ b.
+    pairs_by AreEqual (λ s x y e. e) a b (RefusesPair a b) (P a b) (interfaces_once a b) (other_or_alike a b) (one a b)))
+
+inputs : (m : Fsmd) (P : Inputs → Answer → Type 0) → ((ins : Inputs) (x y : Answer) → P ins x → P ins y → x ≡ y) → IsOne (OpensInputs m (λ ins. Ends (P ins)))
+inputs m P once = opens Inputs (RefusesInputs m) (SpellsInputs m) (inputs_open m) (λ ins. Ends (P ins)) (λ ins. ends (P ins) (once ins))
+
+judged_once : (a b : Fsmd) (nodes : List (Node Fact)) (x y : Answer) → IsJudged a b nodes x → IsJudged a b nodes y → x ≡ y
+judged_once a b nodes x y p q = p.is ∙ sym q.is
+
+-- ---- chains
+
+at_link_once : (o : Option Asked) (link : ℕ) (P : Answer → Type 0) → ((x y : Answer) → P x → P y → x ≡ y) → (x y : Answer) → AtLink o link P x
+    → AtLink o link P y → x ≡ y
+at_link_once o link P once x y p q = p.is ∙ ap (λ stop. Link (status_of stop) (link_lines o link stop)) (once p.stop q.stop p.meets q.meets) ∙ sym q.is
+
+-- what is one thing is so where its refusals are told as those of a link
+pub at_link : (o : Option Asked) (link : ℕ) (T : Type 0) (R : Operand → Content → Answer → Type 0) (S : T → List ℕ → Type 0) → OpensInOneWay T R S
+    → OpensInOneWay T (λ f c. AtLink o link (R f c)) S
+at_link o link T R S i = record {
+  one_refusal = λ f c x y p q. at_link_once o link (R f c) (i.one_refusal f c) x y p q;
+  one_value = i.one_value;
+  not_both = λ f c v x s p. i.not_both f c v p.stop s p.meets;
+}
+
+judges : (o : Option Asked) (link : ℕ) (a b : Fsmd) (nodes : List (Node Fact)) (P : Rule) → IsOne P → IsOne (Judges o link a b nodes P)
+judges o link a b nodes P one file r s x y g (Fails n p e) (Fails m q h) = (e ∙ sym h, at_link_once o link (IsJudged a b nodes) (judged_once a b nodes) x y p q)
+judges o link a b nodes P one file r s x y g (Fails n p e) (Holds m q) = absurd (n m)
+judges o link a b nodes P one file r s x y g (Holds n p) (Fails m q h) = absurd (m n)
+judges o link a b nodes P one file r s x y g (Holds n p) (Holds m q) = one file r s x y g p q
+
+-- what follows behind the machine, and behind the certificate, of a link
+abbrev pub BehindCertificate : Option Asked → (link : ℕ) → (last next : Fsmd) → (P : Fsmd → Rule) → List (Node Fact) → Rule
+BehindCertificate o link last next P nodes = Judges o link last next nodes (P next)
+
+abbrev pub BehindPair : Option Asked → (link : ℕ) → (last next : Fsmd) → (P : Fsmd → Rule) → Rule
+BehindPair o link last next P =
+    Opens (List (Node Fact)) (λ f c. AtLink o link (RefusesCertificate last next f c)) (SpellsCertificate last next) (BehindCertificate o link last next P)
+
+abbrev pub BehindMachine : Option Asked → (link : ℕ) → (last : Fsmd) → (P : Fsmd → Rule) → Fsmd → Rule
+BehindMachine o link last P next = Pairs last next (AtLink o link (RefusesPair last next)) (BehindPair o link last next P)
+
+abbrev pub OpensLinkWith : Option Asked → (link : ℕ) → (last : Fsmd) → (P : Fsmd → Rule) → Rule
+OpensLinkWith o link last P = Opens Fsmd (λ f c. AtLink o link (RefusesMachine f c)) SpellsMachine (BehindMachine o link last P)
+
+link_one : (w : ReadInOneWay) → (o : Option Asked) (link : ℕ) (last : Fsmd) (P : Fsmd → Rule) → ((next : Fsmd) → IsOne (P next))
+    → IsOne (OpensLinkWith o link last P)
+link_one w o link last P one =
+    opens Fsmd (λ f c. AtLink o link (RefusesMachine f c)) SpellsMachine (at_link o link Fsmd RefusesMachine SpellsMachine machine_opens)
+    (BehindMachine o link last P) (λ next.
+    pairs_by AreEqual (λ s x y e. e) last next (AtLink o link (RefusesPair last next)) (BehindPair o link last next P)
+    (at_link_once o link (RefusesPair last next) (interfaces_once last next)) (λ x p i. other_or_alike last next p.stop p.meets i)
+    (opens (List (Node Fact)) (λ f c. AtLink o link (RefusesCertificate last next f c)) (SpellsCertificate last next)
+    (at_link o link (List (Node Fact)) (RefusesCertificate last next) (SpellsCertificate last next) (certificate_opens w last next))
+    (BehindCertificate o link last next P) (λ nodes.
+    judges o link last next nodes (P next) (one next))))
+
+links_one : (w : ReadInOneWay) → (o : Option Asked) (first last : Fsmd) (held left : ℕ) → IsOne (OpensLinks o first last held left)
+links_one w o first last held zero file r s x y a p q = ends (IsOfChain first last held) (λ x y p q. p.is ∙ sym q.is) file r s x y a p q
+links_one w o first last held (suc left) file r s x y a p q =
+    link_one w o (held + 1) last (λ next. OpensLinks o first next (held + 1) left) (λ next. links_one w o first next (held + 1) left) file r s x y a p q
 
 -- ---- by commands
 
--- what is refused by R or has a text by P is one thing: a file that was read, refused in one way, or with one text
-pub record AreOneText (R : Content → Answer → Type 0) (P : (text bytes : List ℕ) → Type 0) : Type 0 where
-  pub opened : (c : Content) (x : Answer) → R c x → IsOpened c
-  pub one_refusal : (c : Content) (x y : Answer) → R c x → R c y → x ≡ y
-  pub refused_or_text : (c : Content) (x : Answer) (t : List ℕ) → R c x → OfBytes c (P t) → ⊥
-  pub one_text : (b t u : List ℕ) → P t b → P u b → t ≡ u
+check : (left right : List ℕ) (cert : Option (List ℕ)) (steps : ℕ)
+    → IsOneBy (SaySame (Some (Check left right cert steps))) (FollowsFrom (Some (Check left right cert steps)))
+check left right cert steps =
+    let Say : Said = SaySame (Some (Check left right cert steps)) in
+    let P : Fsmd → Fsmd → Rule = λ a b. Ends (IsOfPair steps (is_some cert) a b) in
+    opens_by Fsmd RefusesMachine SpellsMachine machine_opens Say (λ s x y e. One e) (λ a. OpensMachine (λ b. Pairs a b (RefusesPair a b) (P a b))) (λ a c l.
+    opens_by Fsmd RefusesMachine SpellsMachine machine_opens (λ s. Say (c ∷ s)) (λ s x y e. One e) (λ b. Pairs a b (RefusesPair a b) (P a b)) (λ b d k.
+    pairs_by (λ s. Say (c ∷ d ∷ s)) (λ s x y e. One e) a b (RefusesPair a b) (P a b) (interfaces_once a b) (other_or_alike a b)
+    (ends_by (λ s. Say (c ∷ d ∷ s)) (IsOfPair steps (is_some cert) a b)
+    (λ x y p q. OfPair a b (OfFiles refl (l, k)) (pair_once steps (is_some cert) a b x y p q)))))
 
-text_machine : (P : (text bytes : List ℕ) → Type 0) → ((bytes t : List ℕ) → P t bytes → IsMachine bytes) → (c : Content) (t : List ℕ) → OfBytes c (P t) → OfBytes c IsMachine
-text_machine P spells Unopened t h = absurd h
-text_machine P spells (Readable b) t h = spells b t h
-text_machine P spells Unreadable t h = absurd h
+verify : (w : ReadInOneWay) → IsOne (OpensPair (λ a b. OpensCertificate a b (λ nodes. Ends (IsJudged a b nodes))))
+verify w =
+    pair (λ a b. OpensCertificate a b (λ nodes. Ends (IsJudged a b nodes))) (λ a b.
+    opens (List (Node Fact)) (RefusesCertificate a b) (SpellsCertificate a b) (certificate_opens w a b) (λ nodes. Ends (IsJudged a b nodes)) (λ nodes.
+    ends (IsJudged a b nodes) (judged_once a b nodes)))
 
--- texts of machines
-of_machines : (P : (text bytes : List ℕ) → Type 0) → ((bytes t u : List ℕ) → P t bytes → P u bytes → t ≡ u) → ((bytes t : List ℕ) → P t bytes → IsMachine bytes) → AreOneText (RefusesMachine First) P
-of_machines P once spells = record {
-  opened = λ c x p. refused_opened First c x p;
-  one_refusal = λ c x y p q. machine_once First c x y p q;
-  refused_or_text = λ c x t p h. some_or_refused First c x (text_machine P spells c t h) p;
-  one_text = once;
-}
+run : (steps : ℕ) → IsOne (OpensMachine (λ m. OpensInputs m (λ ins. Ends (IsOfRun steps m ins))))
+run steps =
+    opens Fsmd RefusesMachine SpellsMachine machine_opens (λ m. OpensInputs m (λ ins. Ends (IsOfRun steps m ins)))
+    (λ m. inputs m (IsOfRun steps m) (run_answer_once steps m))
 
-pub canonical_texts : AreOneText (RefusesMachine First) HasCanonicalText
-canonical_texts = of_machines HasCanonicalText canonical_once canonical_machine
+replay : (steps : ℕ) → IsOne (OpensPair (λ a b. OpensInputs a (λ ins. Ends (IsOfReplay steps a b ins))))
+replay steps = pair (λ a b. OpensInputs a (λ ins. Ends (IsOfReplay steps a b ins))) (λ a b. inputs a (IsOfReplay steps a b) (replay_answer_once steps a b))
 
-pub path_texts : AreOneText (RefusesMachine First) HasPaths
-path_texts = of_machines HasPaths paths_once (λ bytes t h. (h.machine, h.spells))
+shrink : (steps : ℕ) → IsOne (OpensPair (λ a b. OpensInputs a (λ ins. Ends (IsOfShrink steps a b ins))))
+shrink steps = pair (λ a b. OpensInputs a (λ ins. Ends (IsOfShrink steps a b ins))) (λ a b. inputs a (IsOfShrink steps a b) (shrink_answer_once steps a b))
 
--- texts of programs
-pub compiled_texts : AreOneText (RefusesProgram First) HasCompiledText
-compiled_texts = record {
-  opened = λ c x p. program_opened First c x p;
-  one_refusal = λ c x y p q. program_refused_once First c x y p q;
-  refused_or_text = λ c x t p h. compiled_or_refused First c t x h p;
-  one_text = compiled_once;
-}
+format : IsOne (Opens Source RefusesMachine SpellsParts (λ parts. Ends (λ x. x ≡ Text (canonical parts))))
+format =
+    opens Source RefusesMachine SpellsParts parts_open (λ parts. Ends (λ x. x ≡ Text (canonical parts)))
+    (λ parts. ends (λ x. x ≡ Text (canonical parts)) (λ x y p q. p ∙ sym q))
 
-pub text_once : (R : Content → Answer → Type 0) (P : (text bytes : List ℕ) → Type 0) → AreOneText R P → (r s : Reading) (x y : Answer) → Same r.first s.first → FollowsForText R P r x → FollowsForText R P s y → x ≡ y
-text_once R P o r s x y e (TextRefused p k) (TextRefused q u) = o.one_refusal s.first x y (subst (λ c. R c x) (e (o.opened r.first x p) (o.opened s.first y q)) p) q
-text_once R P o r s x y e (TextRefused p k) (Listed l u) =
-    absurd (o.refused_or_text s.first x l.lines (subst (λ c. R c x) (e (o.opened r.first x p) (bytes_opened s.first (P l.lines) l.holds)) p) l.holds)
-text_once R P o r s x y e (Listed l k) (TextRefused q u) =
-    absurd (o.refused_or_text s.first y l.lines q (subst (λ c. OfBytes c (P l.lines)) (e (bytes_opened r.first (P l.lines) l.holds) (o.opened s.first y q)) l.holds))
-text_once R P o r s x y e (Listed l k) (Listed n u) =
-    let same : l.lines ≡ n.lines = of_both s.first (P l.lines) (P n.lines) (l.lines ≡ n.lines) (λ b t v. o.one_text b l.lines n.lines t v)
-    (subst (λ c. OfBytes c (P l.lines)) (e (bytes_opened r.first (P l.lines) l.holds) (bytes_opened s.first (P n.lines) n.holds)) l.holds) n.holds
-    in
-    l.is ∙ ap Text same ∙ sym n.is
+paths : IsOne (OpensMachine (λ m. Ends (λ x. x ≡ Text (paths_text m))))
+paths =
+    opens Fsmd RefusesMachine SpellsMachine machine_opens (λ m. Ends (λ x. x ≡ Text (paths_text m)))
+    (λ m. ends (λ x. x ≡ Text (paths_text m)) (λ x y p q. p ∙ sym q))
 
--- what follows from files of keys that are the same
-pub keys_once : (T : Type 0) (F : KeyFault → (key bytes : List ℕ) → Type 0) (S : T → List ℕ → Type 0) → AreOneThing T F S → (P : T → Answer → Type 0) → ((v : T) (x y : Answer) → P v x → P v y → x ≡ y) → (file : Operand) (c d : Content) (x y : Answer)
-    → Same c d → FollowsFromKeys T F S P file c x → FollowsFromKeys T F S P file d y → x ≡ y
-keys_once T F S o P once file c d x y e p q =
-    follows_once T F S o P once file d x y (subst (λ k. FollowsFromKeys T F S P file k x) (e (follows_opened T F S P file c x p) (follows_opened T F S P file d y q)) p) q
+compile : IsOne (Opens Program RefusesProgram SpellsProgram (λ p. Ends (IsOfProgram p)))
+compile = opens Program RefusesProgram SpellsProgram program_opens (λ p. Ends (IsOfProgram p)) (λ p. ends (IsOfProgram p) (compiled_once p))
 
-inputs_once : (P : Inputs → Answer → Type 0) → ((ins : Inputs) (x y : Answer) → P ins x → P ins y → x ≡ y) → (m : Fsmd) (file : Operand) (c d : Content) (x y : Answer) → Same c d
-    → FollowsFromInputs P m file c x → FollowsFromInputs P m file d y → x ≡ y
-inputs_once P once m file c d x y e p q = keys_once Inputs (HasInputFault m) (SpellsInputs m) (inputs_are_one m) P once file c d x y e p q
+schedule : IsOne (Opens Source RefusesMachine SpellsParts (λ parts. OpensUnits (λ counts. Ends (IsOfSchedule parts counts))))
+schedule =
+    opens Source RefusesMachine SpellsParts parts_open (λ parts. OpensUnits (λ counts. Ends (IsOfSchedule parts counts))) (λ parts.
+    opens Units RefusesUnits SpellUnits units_open (λ counts. Ends (IsOfSchedule parts counts)) (λ counts.
+    ends (IsOfSchedule parts counts) (schedule_once parts counts)))
 
-pub parts_same : (c d : Content) (p q : Source) → Same c d → OfBytes c (SpellsParts p) → OfBytes d (SpellsParts q) → p ≡ q
-parts_same c d p q e h k =
-    of_both d (SpellsParts p) (SpellsParts q) (p ≡ q) (λ b s t. parts_once b p q s t)
-    (subst (λ o. OfBytes o (SpellsParts p)) (e (bytes_opened c (SpellsParts p) h) (bytes_opened d (SpellsParts q) k)) h) k
+bind : IsOne (Opens Source RefusesMachine SpellsParts (λ parts. OpensBinding (machine_of parts) (λ b. Ends (IsOfBinding parts b))))
+bind =
+    opens Source RefusesMachine SpellsParts parts_open (λ parts. OpensBinding (machine_of parts) (λ b. Ends (IsOfBinding parts b))) (λ parts.
+    opens Binding (RefusesBinding (machine_of parts)) (SpellsBinding (machine_of parts)) (binding_opens (machine_of parts)) (λ b. Ends (IsOfBinding parts b))
+    (λ b.
+    ends (IsOfBinding parts b) (binding_once parts b)))
 
-parts_machine : (c : Content) (p : Source) → OfBytes c (SpellsParts p) → OfBytes c (SpellsMachine (machine_of p))
-parts_machine Unopened p h = absurd h
-parts_machine (Readable b) p h = record { parts = p; spells = h; machine = refl }
-parts_machine Unreadable p h = absurd h
+chain : (w : ReadInOneWay) → (o : Option Asked) (left : ℕ) → IsOne (OpensMachine (λ m. OpensLinks o m m 0 left))
+chain w o left = opens Fsmd RefusesMachine SpellsMachine machine_opens (λ m. OpensLinks o m m 0 left) (λ m. links_one w o m m 0 left)
 
-pub parts_not_refused : (c d : Content) (p : Source) (x : Answer) → Same c d → OfBytes c (SpellsParts p) → RefusesMachine First d x → ⊥
-parts_not_refused c d p x e h q = machine_not_refused First c d (machine_of p) x e (parts_machine c p h) q
-
--- one answer follows from the parts of a machine and a second file, where P says one of both
-parts_follow : (P : Source → Content → Answer → Type 0) → ((p : Source) (c d : Content) (x y : Answer) → Same c d → P p c x → P p d y → x ≡ y) → (r s : Reading) (x y : Answer) → Same r.first s.first → Same r.second s.second
-    → FollowsForParts P r x → FollowsForParts P s y → x ≡ y
-parts_follow P once r s x y e f (PartsRefused p o) (PartsRefused q u) = refused_same First r.first s.first x y e p q
-parts_follow P once r s x y e f (PartsRefused p o) (PartsSpelled k h q u) = absurd (parts_not_refused s.first r.first k x (same_back r.first s.first e) h p)
-parts_follow P once r s x y e f (PartsSpelled k h p o) (PartsRefused q u) = absurd (parts_not_refused r.first s.first k y e h q)
-parts_follow P once r s x y e f (PartsSpelled k h p o) (PartsSpelled l i q u) =
-    let same : k ≡ l = parts_same r.first s.first k l e h i in
-    once l r.second s.second x y f (subst (λ z. P z r.second x) same p) q
-
-schedules_once : (p : Source) (c d : Content) (x y : Answer) → Same c d → ForSchedule p c x → ForSchedule p d y → x ≡ y
-schedules_once p c d x y e h k = keys_once Units HaveUnitFault SpellUnits units_are_one (IsOfSchedule p) (schedule_once p) Second c d x y e h k
-
-bindings_once : (p : Source) (c d : Content) (x y : Answer) → Same c d → ForBind p c x → ForBind p d y → x ≡ y
-bindings_once p c d x y e h k =
-    let m = machine_of p in
-    keys_once Binding (HasBindingFault m) (SpellsBinding m) (bindings_are_one m) (IsOfBinding p) (binding_once p) Second c d x y e h k
-
-run_once : (limit : ℕ) (r s : Reading) (x y : Answer) → Same r.first s.first → Same r.second s.second → FollowsForRun limit r x → FollowsForRun limit s y → x ≡ y
-run_once limit r s x y e f (MachineRefused p o) (MachineRefused q u) = refused_same First r.first s.first x y e p q
-run_once limit r s x y e f (MachineRefused p o) (Ran m h q u) = absurd (machine_not_refused First s.first r.first m x (same_back r.first s.first e) h p)
-run_once limit r s x y e f (Ran m h p o) (MachineRefused q u) = absurd (machine_not_refused First r.first s.first m y e h q)
-run_once limit r s x y e f (Ran m h p o) (Ran n k q u) =
-    let same : m ≡ n = machine_same r.first s.first m n e h k in
-    inputs_once (IsOfRun limit n) (run_answer_once limit n) n Second r.second s.second x y f (subst (λ o. FollowsFromInputs (IsOfRun limit o) o Second r.second x) same p) q
-
-check_once : (o : Option Asked) (limit : ℕ) (keeps : Bool) (r s : Reading) (x y : Answer) → IsTrue (is_check o) → Same r.first s.first → Same r.second s.second
-    → FollowsForPair (ForCheck limit keeps) r x → FollowsForPair (ForCheck limit keeps) s y → SaySame o s x y
-check_once o limit keeps r s x y checks e f p q =
-    pair_follows (ForCheck limit keeps) (SaySame o s x y) r s x y e f (λ h. One h) (λ m n c u v. OfPair m n (OfFiles checks c) (pair_once limit keeps m n x y u.says v.says)) p q
-
-verified_once : (w : ReadInOneWay) → (a b : Fsmd) (c d : Content) (x y : Answer) → Same c d → FollowsFromCertificate a b Third c x → FollowsFromCertificate a b Third d y → x ≡ y
-verified_once w a b c d x y e p q = judged_once w a b Third d x y (subst (λ k. FollowsFromCertificate a b Third k x) (e (judged_opened a b Third c x p) (judged_opened a b Third d y q)) p) q
-
-verify_once : (w : ReadInOneWay) → (r s : Reading) (x y : Answer) → Same r.first s.first → Same r.second s.second → Same r.third s.third → FollowsForPair ForVerify r x → FollowsForPair ForVerify s y → x ≡ y
-verify_once w r s x y e f g p q = pair_follows ForVerify (x ≡ y) r s x y e f (λ h. h) (λ m n c u v. verified_once w m n r.third s.third x y g u v) p q
-
-replay_once : (limit : ℕ) (r s : Reading) (x y : Answer) → Same r.first s.first → Same r.second s.second → Same r.third s.third → FollowsForPair (ForReplay limit) r x → FollowsForPair (ForReplay limit) s y → x ≡ y
-replay_once limit r s x y e f g p q =
-    pair_follows (ForReplay limit) (x ≡ y) r s x y e f (λ h. h) (λ m n c u v. inputs_once (IsOfReplay limit m n) (replay_answer_once limit m n) m Third r.third s.third x y g u v) p q
-
-pub follows_from_one : (w : ReadInOneWay) → (o : Option Asked) (r s : Reading) (x y : Answer) → Agree o r s → Follows o r x → Follows o s y → SaySame o s x y
-follows_from_one w None r s x y a p q = One (p.says ∙ sym q.says)
-follows_from_one w (Some (Check left right cert steps)) r s x y a p q = check_once (Some (Check left right cert steps)) steps (is_some cert) r s x y refl (a.agree First refl) (a.agree Second refl) p q
-follows_from_one w (Some (Verify left right cert)) r s x y a p q = One (verify_once w r s x y (a.agree First refl) (a.agree Second refl) (a.agree Third refl) p q)
-follows_from_one w (Some (Run machine inputs steps)) r s x y a p q = One (run_once steps r s x y (a.agree First refl) (a.agree Second refl) p q)
-follows_from_one w (Some (Replay left right inputs steps)) r s x y a p q = One (replay_once steps r s x y (a.agree First refl) (a.agree Second refl) (a.agree Third refl) p q)
-follows_from_one w (Some (Fmt machine)) r s x y a p q = One (text_once (RefusesMachine First) HasCanonicalText canonical_texts r s x y (a.agree First refl) p q)
-follows_from_one w (Some (Cuts machine)) r s x y a p q = One (text_once (RefusesMachine First) HasPaths path_texts r s x y (a.agree First refl) p q)
-follows_from_one w (Some (Compile program)) r s x y a p q = One (text_once (RefusesProgram First) HasCompiledText compiled_texts r s x y (a.agree First refl) p q)
-follows_from_one w (Some (Schedule machine units)) r s x y a p q = One (parts_follow ForSchedule schedules_once r s x y (a.agree First refl) (a.agree Second refl) p q)
-follows_from_one w (Some (Bind machine binding)) r s x y a p q = One (parts_follow ForBind bindings_once r s x y (a.agree First refl) (a.agree Second refl) p q)
-follows_from_one w (Some (Generate loops)) r s x y a p q =
-    OfPair (left_of loops) (right_of loops) (OfLoops loops refl refl refl) (pair_once generated_steps false (left_of loops) (right_of loops) x y p.says q.says)
+-- readings that agree and from which answers follow are one, and the answers say the same
+pub follows_one : (w : ReadInOneWay) → (o : Option Asked) → IsOneBy (SaySame o) (FollowsFrom o)
+follows_one w None = said_of_one (SaySame None) (Ends (λ x. x ≡ Usage)) (λ s x y e. One e) (ends (λ x. x ≡ Usage) (λ x y p q. p ∙ sym q))
+follows_one w (Some (Check left right cert steps)) = check left right cert steps
+follows_one w (Some (Verify left right cert)) =
+    said_of_one (SaySame (Some (Verify left right cert))) (FollowsFrom (Some (Verify left right cert))) (λ s x y e. One e) (verify w)
+follows_one w (Some (Run machine ins steps)) =
+    said_of_one (SaySame (Some (Run machine ins steps))) (FollowsFrom (Some (Run machine ins steps))) (λ s x y e. One e) (run steps)
+follows_one w (Some (Replay left right ins steps)) =
+    said_of_one (SaySame (Some (Replay left right ins steps))) (FollowsFrom (Some (Replay left right ins steps))) (λ s x y e. One e) (replay steps)
+follows_one w (Some (Fmt machine)) = said_of_one (SaySame (Some (Fmt machine))) (FollowsFrom (Some (Fmt machine))) (λ s x y e. One e) format
+follows_one w (Some (Cuts machine)) = said_of_one (SaySame (Some (Cuts machine))) (FollowsFrom (Some (Cuts machine))) (λ s x y e. One e) paths
+follows_one w (Some (Generate loops)) =
+    ends_by (SaySame (Some (Generate loops))) (IsOfLoops loops)
+    (λ x y p q. OfPair (left_of loops) (right_of loops) (OfLoops loops refl refl refl)
+    (pair_once generated_steps false (left_of loops) (right_of loops) x y p q))
+follows_one w (Some (Compile program)) = said_of_one (SaySame (Some (Compile program))) (FollowsFrom (Some (Compile program))) (λ s x y e. One e) compile
+follows_one w (Some (Schedule machine counts)) =
+    said_of_one (SaySame (Some (Schedule machine counts))) (FollowsFrom (Some (Schedule machine counts))) (λ s x y e. One e) schedule
+follows_one w (Some (Bind machine binding)) =
+    said_of_one (SaySame (Some (Bind machine binding))) (FollowsFrom (Some (Bind machine binding))) (λ s x y e. One e) bind
+follows_one w (Some (Shrink left right ins steps)) =
+    said_of_one (SaySame (Some (Shrink left right ins steps))) (FollowsFrom (Some (Shrink left right ins steps))) (λ s x y e. One e) (shrink steps)
+follows_one w (Some (Chain files)) =
+    said_of_one (SaySame (Some (Chain files))) (FollowsFrom (Some (Chain files))) (λ s x y e. One e) (chain w (Some (Chain files)) (links_of files))
 
 -- ---- what compares no machines
 
 check_compares : (o : Option Asked) → is_check o ≡ true → compares o ≡ true
-check_compares None e = e
 check_compares (Some (Check left right cert steps)) e = refl
-check_compares (Some (Verify left right cert)) e = e
-check_compares (Some (Run machine inputs steps)) e = e
-check_compares (Some (Replay left right inputs steps)) e = e
-check_compares (Some (Fmt machine)) e = e
-check_compares (Some (Cuts machine)) e = e
 check_compares (Some (Generate loops)) e = refl
-check_compares (Some (Compile program)) e = e
-check_compares (Some (Schedule machine units)) e = e
-check_compares (Some (Bind machine binding)) e = e
+check_compares o e = e
 
 compared_compares : (o : Option Asked) (r : Reading) (a b : Fsmd) → AreCompared o r a b → compares o ≡ true
 compared_compares o r a b (OfFiles checks c) = check_compares o checks

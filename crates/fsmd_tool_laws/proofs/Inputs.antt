@@ -9,9 +9,9 @@ use Rattle.json_files.proofs.Once.{one_value}
 use Rattle.fs_inputs.specs.Refusals.{IsFaulty, SpelledBy, Spells}
 use Rattle.serde_json.specs.Data.{Data}
 use Rattle.serde_json.specs.Find.{as_object}
-use Rattle.command_answers.specs.InputFiles.{signatures, input_fault, HasInputFault, SpellsInputs}
-use Rattle.fsmd_tool_laws.proofs.Contents.{some_same, some_none}
-use Rattle.fsmd_tool_laws.proofs.Keys.{AreOneThing}
+use Rattle.command_answers.specs.InputFiles.{signatures, input_fault, HasInputFault, SpellsInputs, RefusesInputs}
+use Rattle.fsmd_tool_laws.proofs.Contents.{some_same, some_none, OpensInOneWay}
+use Rattle.fsmd_tool_laws.proofs.Keys.{AreOneThing, keys_open}
 
 spelled_once : (fs : List Signature) (d : Data) (x y : Inputs) → SpelledBy fs d x → SpelledBy fs d y → x ≡ y
 spelled_once fs d x y p q = p.inputs ∙ ap inputs_in (some_same p.members q.members (sym p.object ∙ q.object)) ∙ sym q.inputs
@@ -29,10 +29,11 @@ faultless : (fs : List Signature) (d : Data) (ins : Inputs) (name : List ℕ) (f
 faultless fs d ins name f p e = some_none (name, f) (file_fault fs (as_object d)) e (ap (file_fault fs) p.object ∙ p.faultless)
 
 spelled_or_faulty : (fs : List Signature) (bytes : List ℕ) (ins : Inputs) (name : List ℕ) (f : Fault) → Spells fs bytes ins → IsFaulty fs bytes name f → ⊥
-spelled_or_faulty fs bytes ins name f p q = faultless fs q.value ins name f (subst (λ d. SpelledBy fs d ins) (one_value bytes p.value q.value p.json q.json) p.spelled) q.first
+spelled_or_faulty fs bytes ins name f p q =
+    faultless fs q.value ins name f (subst (λ d. SpelledBy fs d ins) (one_value bytes p.value q.value p.json q.json) p.spelled) q.first
 
 -- bytes are one thing as inputs of a machine
-pub inputs_are_one : (m : Fsmd) → AreOneThing Inputs (HasInputFault m) (SpellsInputs m)
+inputs_are_one : (m : Fsmd) → AreOneThing Inputs (HasInputFault m) (SpellsInputs m)
 inputs_are_one m = record {
   few_without = λ b p. p.few;
   few_faulty = λ b f k p. p.few;
@@ -45,3 +46,7 @@ inputs_are_one m = record {
       ap (λ h. (h, k)) p.is ∙ ap (λ (t : List ℕ × Fault). (input_fault t.1, t.0)) same ∙ ap (λ h. (h, j)) (sym q.is);
   one_value = λ b v w p q. inputs_once (signatures m) b v w p.spells q.spells;
 }
+
+-- the file of a machine's inputs is one thing
+pub inputs_open : (m : Fsmd) → OpensInOneWay Inputs (RefusesInputs m) (SpellsInputs m)
+inputs_open m = keys_open Inputs (HasInputFault m) (SpellsInputs m) (inputs_are_one m)

@@ -1,5 +1,5 @@
--- What follows from a file of keys and values is one answer.
-use Rattle.std.proofs.Common.{◌≡◌, ◌≤◌, ℕ, List, length, sym, ◌∙◌, ap, subst}
+-- The file of keys and values is refused in one way, and not where it spells a value.
+use Rattle.std.proofs.Common.{◌≡◌, ◌≤◌, ℕ, List, length, sym, ◌∙◌, ap}
 use Rattle.fs_model.specs.Limits.{most_text_bytes}
 use Rattle.command_answers.specs.declared.answer.Operand.{Operand}
 use Rattle.command_answers.specs.declared.answer.KeyFault.{KeyFault}
@@ -7,11 +7,10 @@ use Rattle.command_answers.specs.declared.answer.Answer.{Answer}
 use Rattle.command_answers.specs.declared.answer.Answer.TheVariants.{KeyRefused}
 use Rattle.command_answers.specs.Readings.{Content, OfBytes}
 use Rattle.command_answers.specs.Unread.{IsUnread}
-use Rattle.command_answers.specs.Keys.{AreNotJson, RefusesKeys, UnreadKeys, ByJson, ByKey, FollowsFromKeys, KeysRefused, KeysSpelled}
-use Rattle.fsmd_tool_laws.specs.Agreement.{IsOpened}
-use Rattle.fsmd_tool_laws.proofs.Contents.{of_both, bytes_opened}
+use Rattle.command_answers.specs.Keys.{AreNotJson, RefusesKeys, UnreadKeys, ByJson, ByKey}
+use Rattle.fsmd_tool_laws.proofs.Contents.{of_both, OpensInOneWay}
 use Rattle.fsmd_tool_laws.proofs.Texts.{few_not_many}
-use Rattle.fsmd_tool_laws.proofs.Files.{unread_opened, unread_once, unread_or}
+use Rattle.fsmd_tool_laws.proofs.Files.{unread_once, unread_or}
 
 -- such bytes are few, and one thing: no JSON, or one first fault at a key, or one value
 pub record AreOneThing (T : Type 0) (F : KeyFault → (key bytes : List ℕ) → Type 0) (S : T → List ℕ → Type 0) : Type 0 where
@@ -26,22 +25,22 @@ pub record AreOneThing (T : Type 0) (F : KeyFault → (key bytes : List ℕ) →
 
 -- ---- refusals
 
-keys_opened : (F : KeyFault → (key bytes : List ℕ) → Type 0) (file : Operand) (c : Content) (x : Answer) → RefusesKeys F file c x → IsOpened c
-keys_opened F file c x (UnreadKeys u) = unread_opened most_text_bytes file c x u
-keys_opened F file c x (ByJson t e) = bytes_opened c AreNotJson t
-keys_opened F file c x (ByKey f k t e) = bytes_opened c (F f k) t
-
-without_read : (T : Type 0) (F : KeyFault → (key bytes : List ℕ) → Type 0) (S : T → List ℕ → Type 0) → AreOneThing T F S → (file : Operand) (c : Content) (x : Answer) → OfBytes c AreNotJson → IsUnread most_text_bytes file c x → ⊥
+without_read : (T : Type 0) (F : KeyFault → (key bytes : List ℕ) → Type 0) (S : T → List ℕ → Type 0) → AreOneThing T F S
+    → (file : Operand) (c : Content) (x : Answer) → OfBytes c AreNotJson → IsUnread most_text_bytes file c x → ⊥
 without_read T F S o file c x t u = unread_or most_text_bytes file c AreNotJson x (λ b p l. few_not_many (length b) most_text_bytes (o.few_without b p) l) t u
 
-faulty_read : (T : Type 0) (F : KeyFault → (key bytes : List ℕ) → Type 0) (S : T → List ℕ → Type 0) → AreOneThing T F S → (file : Operand) (c : Content) (f : KeyFault) (k : List ℕ) (x : Answer) → OfBytes c (F f k)
+faulty_read : (T : Type 0) (F : KeyFault → (key bytes : List ℕ) → Type 0) (S : T → List ℕ → Type 0) → AreOneThing T F S
+    → (file : Operand) (c : Content) (f : KeyFault) (k : List ℕ) (x : Answer) → OfBytes c (F f k)
     → IsUnread most_text_bytes file c x → ⊥
-faulty_read T F S o file c f k x t u = unread_or most_text_bytes file c (F f k) x (λ b p l. few_not_many (length b) most_text_bytes (o.few_faulty b f k p) l) t u
+faulty_read T F S o file c f k x t u =
+    unread_or most_text_bytes file c (F f k) x (λ b p l. few_not_many (length b) most_text_bytes (o.few_faulty b f k p) l) t u
 
-without_or : (T : Type 0) (F : KeyFault → (key bytes : List ℕ) → Type 0) (S : T → List ℕ → Type 0) → AreOneThing T F S → (c : Content) (f : KeyFault) (k : List ℕ) → OfBytes c AreNotJson → OfBytes c (F f k) → ⊥
+without_or : (T : Type 0) (F : KeyFault → (key bytes : List ℕ) → Type 0) (S : T → List ℕ → Type 0) → AreOneThing T F S
+    → (c : Content) (f : KeyFault) (k : List ℕ) → OfBytes c AreNotJson → OfBytes c (F f k) → ⊥
 without_or T F S o c f k t s = of_both c AreNotJson (F f k) ⊥ (λ b p q. o.without_or_faulty b f k p q) t s
 
-refused_once : (T : Type 0) (F : KeyFault → (key bytes : List ℕ) → Type 0) (S : T → List ℕ → Type 0) → AreOneThing T F S → (file : Operand) (c : Content) (x y : Answer) → RefusesKeys F file c x → RefusesKeys F file c y → x ≡ y
+refused_once : (T : Type 0) (F : KeyFault → (key bytes : List ℕ) → Type 0) (S : T → List ℕ → Type 0) → AreOneThing T F S
+    → (file : Operand) (c : Content) (x y : Answer) → RefusesKeys F file c x → RefusesKeys F file c y → x ≡ y
 refused_once T F S o file c x y (UnreadKeys u) (UnreadKeys v) = unread_once most_text_bytes file c x y u v
 refused_once T F S o file c x y (UnreadKeys u) (ByJson t e) = absurd (without_read T F S o file c x t u)
 refused_once T F S o file c x y (UnreadKeys u) (ByKey f k t e) = absurd (faulty_read T F S o file c f k x t u)
@@ -51,33 +50,21 @@ refused_once T F S o file c x y (ByJson t e) (ByKey f k s h) = absurd (without_o
 refused_once T F S o file c x y (ByKey f k t e) (UnreadKeys u) = absurd (faulty_read T F S o file c f k y t u)
 refused_once T F S o file c x y (ByKey f k t e) (ByJson s h) = absurd (without_or T F S o c f k s t)
 refused_once T F S o file c x y (ByKey f k t e) (ByKey g j s h) =
-    let same : Path (KeyFault × List ℕ) (f, k) (g, j) = of_both c (F f k) (F g j) (Path (KeyFault × List ℕ) (f, k) (g, j)) (λ b p q. o.one_fault b f g k j p q) t s in
+    let same : Path (KeyFault × List ℕ) (f, k) (g, j) = of_both c (F f k) (F g j) (Path (KeyFault × List ℕ) (f, k) (g, j)) (λ b p q. o.one_fault b f g k j p q)
+    t s in
     e ∙ ap (λ r. KeyRefused file r.0 r.1) same ∙ sym h
 
-spelled_or_refused : (T : Type 0) (F : KeyFault → (key bytes : List ℕ) → Type 0) (S : T → List ℕ → Type 0) → AreOneThing T F S → (file : Operand) (c : Content) (v : T) (x : Answer) → OfBytes c (S v) → RefusesKeys F file c x → ⊥
-spelled_or_refused T F S o file c v x i (UnreadKeys u) = unread_or most_text_bytes file c (S v) x (λ b p l. few_not_many (length b) most_text_bytes (o.few_spelled b v p) l) i u
+spelled_or_refused : (T : Type 0) (F : KeyFault → (key bytes : List ℕ) → Type 0) (S : T → List ℕ → Type 0) → AreOneThing T F S
+    → (file : Operand) (c : Content) (v : T) (x : Answer) → OfBytes c (S v) → RefusesKeys F file c x → ⊥
+spelled_or_refused T F S o file c v x i (UnreadKeys u) =
+    unread_or most_text_bytes file c (S v) x (λ b p l. few_not_many (length b) most_text_bytes (o.few_spelled b v p) l) i u
 spelled_or_refused T F S o file c v x i (ByJson t e) = of_both c AreNotJson (S v) ⊥ (λ b p q. o.without_or_spelled b v p q) t i
 spelled_or_refused T F S o file c v x i (ByKey f k t e) = of_both c (F f k) (S v) ⊥ (λ b p q. o.faulty_or_spelled b f k v p q) t i
 
--- ---- what follows
-
-pub follows_opened : (T : Type 0) (F : KeyFault → (key bytes : List ℕ) → Type 0) (S : T → List ℕ → Type 0) (P : T → Answer → Type 0) (file : Operand) (c : Content) (x : Answer) → FollowsFromKeys T F S P file c x → IsOpened c
-follows_opened T F S P file c x (KeysRefused p) = keys_opened F file c x p
-follows_opened T F S P file c x (KeysSpelled v i p) = bytes_opened c (S v) i
-
-pub follows_once : (T : Type 0) (F : KeyFault → (key bytes : List ℕ) → Type 0) (S : T → List ℕ → Type 0) → AreOneThing T F S → (P : T → Answer → Type 0) → ((v : T) (x y : Answer) → P v x → P v y → x ≡ y) → (file : Operand) (c : Content) (x y : Answer)
-    → FollowsFromKeys T F S P file c x → FollowsFromKeys T F S P file c y → x ≡ y
-follows_once T F S o P once file c x y (KeysRefused p) (KeysRefused q) = refused_once T F S o file c x y p q
-follows_once T F S o P once file c x y (KeysRefused p) (KeysSpelled v i q) = absurd (spelled_or_refused T F S o file c v x i p)
-follows_once T F S o P once file c x y (KeysSpelled v i p) (KeysRefused q) = absurd (spelled_or_refused T F S o file c v y i q)
-follows_once T F S o P once file c x y (KeysSpelled v i p) (KeysSpelled w h q) =
-    let same : v ≡ w = of_both c (S v) (S w) (v ≡ w) (λ b s t. o.one_value b v w s t) i h in
-    once w x y (subst (λ u. P u x) same p) q
-
--- where a file spells a value, P is said of it
-pub spelled_answered : (T : Type 0) (F : KeyFault → (key bytes : List ℕ) → Type 0) (S : T → List ℕ → Type 0) → AreOneThing T F S → (P : T → Answer → Type 0) (file : Operand) (c : Content) (v : T) (x : Answer) → OfBytes c (S v)
-    → FollowsFromKeys T F S P file c x → P v x
-spelled_answered T F S o P file c v x i (KeysRefused p) = absurd (spelled_or_refused T F S o file c v x i p)
-spelled_answered T F S o P file c v x i (KeysSpelled w k p) =
-    let same : w ≡ v = of_both c (S w) (S v) (w ≡ v) (λ b s t. o.one_value b w v s t) k i in
-    subst (λ u. P u x) same p
+-- the file of such bytes is one thing
+pub keys_open : (T : Type 0) (F : KeyFault → (key bytes : List ℕ) → Type 0) (S : T → List ℕ → Type 0) → AreOneThing T F S → OpensInOneWay T (RefusesKeys F) S
+keys_open T F S o = record {
+  one_refusal = λ file c x y p q. refused_once T F S o file c x y p q;
+  one_value = o.one_value;
+  not_both = λ file c v x i p. spelled_or_refused T F S o file c v x i p;
+}

@@ -10,9 +10,14 @@ pub mod ProgramFiles
 pub mod Certificates
 pub mod Runs
 pub mod Replays
+pub mod Shrinks
 pub mod Following
+pub mod Named
+pub mod Known
 pub mod Correct
+pub mod Chains
 pub mod Stored
 pub mod Settling
+pub mod Stopped
 pub mod Outcomes
 pub mod AlikePairs

@@ -1,147 +1,233 @@
--- No file is opened behind one that is refused.
-use Rattle.std.proofs.Common.{◌≡◌, ℕ, List, Option, Some, None, false, sym, ap, subst, refl}
-use Rattle.std.specs.Prelude.{IsTrue, is_some}
-use Rattle.command_words.specs.Words.{Asked, Check, Verify, Run, Replay, Fmt, Cuts, Generate, Compile, Schedule, Bind}
-use Rattle.fs_base.specs.Outside.{Held, Unknown, Nothing, Bytes}
+-- No file is opened behind one that is refused: files that are settled up to there settle the answer.
+use Rattle.std.proofs.Common.{◌≡◌, ℕ, zero, suc, ◌+◌, ◌<◌, ◌≤◌, List, [], ◌∷◌, length, Option, Some, None, false, refl, ◌∙◌, ap, subst, arith}
+use Rattle.std.specs.Prelude.{is_some}
+use Rattle.command_words.specs.Words.{Asked, Check, Verify, Run, Replay, Fmt, Cuts, Generate, Compile, Schedule, Bind, Shrink, Chain}
 use Rattle.fs_model.specs.Machines.{Fsmd}
 use Rattle.fs_model.specs.Source.{Source}
+use Rattle.fs_rules.specs.Spelled.{machine_of}
 use Rattle.fs_pair.specs.Interfaces.{interface_fault}
 use Rattle.command_answers.specs.declared.answer.Operand.{Operand}
-use Rattle.command_answers.specs.declared.answer.Operand.TheVariants.{First, Second, Third}
 use Rattle.command_answers.specs.declared.answer.Answer.{Answer}
-use Rattle.command_answers.specs.Words.{names, compares}
-use Rattle.command_answers.specs.Texts.{SpellsMachine, HasCanonicalText}
-use Rattle.command_answers.specs.Paths.{HasPaths}
-use Rattle.command_answers.specs.Readings.{Content, Unopened, Readable, Unreadable, Reading, content_of, OnlyFirst, OnlyTwo}
-use Rattle.command_answers.specs.Refusals.{ArePair, RefusesMachine, FirstRefused, SecondRefused, InterfacesDiffer}
-use Rattle.command_answers.specs.Programs.{RefusesProgram, HasCompiledText}
-use Rattle.command_answers.specs.Schedules.{ForSchedule}
-use Rattle.command_answers.specs.Bindings.{ForBind}
-use Rattle.command_answers.specs.Follows.{FollowsForText, TextRefused, Listed, FollowsForParts, PartsRefused, PartsSpelled, FollowsForRun, MachineRefused, Ran, FollowsForPair, PairRefused, Answered, ForCheck, ForVerify, ForReplay, Follows}
-use Rattle.fsmd_tool.specs.Calls.{Call, held, FailedToRead, MayBeRead, MayRead}
+use Rattle.command_answers.specs.Words.{operand, files_of, compares}
+use Rattle.command_answers.specs.Texts.{SpellsParts, SpellsMachine}
+use Rattle.command_answers.specs.Readings.{Content, OfBytes, Reading}
+use Rattle.command_answers.specs.Refusals.{RefusesMachine, RefusesPair}
+use Rattle.command_answers.specs.Pairs.{IsOfPair}
+use Rattle.command_answers.specs.Verdicts.{IsJudged}
+use Rattle.command_answers.specs.Runs.{IsOfRun}
+use Rattle.command_answers.specs.Replays.{IsOfReplay}
+use Rattle.command_answers.specs.Shrinks.{IsOfShrink}
+use Rattle.command_answers.specs.Schedules.{IsOfSchedule}
+use Rattle.command_answers.specs.Bindings.{IsOfBinding}
+use Rattle.command_answers.specs.Links.{AtLink, links_of, IsOfChain}
+use Rattle.command_answers.specs.Follows.{Ends, Refused, Spelled, Opens, OpensMachine, OpensInputs, OpensCertificate, OpensUnits, OpensBinding, Pairs, Other, Alike, OpensLinks, Follows}
+use Rattle.fsmd_tool.specs.Calls.{Call, held, FailedToRead, MayRead}
 use Rattle.fsmd_tool.specs.Correct.{IsCorrectAnswer}
-use Rattle.fsmd_tool_laws.specs.Agreement.{IsOpened}
-use Rattle.fsmd_tool_laws.specs.Settled.{Settles, IsSettled, AreSettled, IsKnown, read_of, IsRefused, AreSettledUpToRefused, AllSettled, FirstIsRefused, SecondIsRefused, OthersAreSpelled}
-use Rattle.fsmd_tool_laws.specs.OneAnswer.{SaySame}
+use Rattle.fsmd_tool_laws.specs.Agreement.{Agree}
+use Rattle.fsmd_tool_laws.specs.Settled.{IsSettled, AreSettled, IsKnown, read_of, read_from, IsRefused, AreSettledUpToRefused}
+use Rattle.fsmd_tool_laws.specs.OneAnswer.{ArePair, SaySame}
+use Rattle.fsmd_tool_laws.proofs.Contents.{some_none, one_spelled}
+use Rattle.fsmd_tool_laws.proofs.Files.{machine_opens, parts_open}
 use Rattle.fsmd_tool_laws.proofs.Certificates.{ReadInOneWay}
-use Rattle.fsmd_tool_laws.proofs.Following.{Same, machine_not_refused, some_not_refused, parts_not_refused, other_interface}
-use Rattle.fsmd_tool_laws.proofs.Correct.{may_be_read, known_read, correct_once, correct_one}
+use Rattle.fsmd_tool_laws.proofs.Following.{Rule, follows_one, BehindPair}
+use Rattle.fsmd_tool_laws.proofs.Named.{at_end, one_more, ends, opens, named_only}
+use Rattle.fsmd_tool_laws.proofs.Known.{settled_read, known_settled, known_meets}
+use Rattle.fsmd_tool_laws.proofs.Correct.{below, first_below, below_sum, correct_once, correct_one}
 
-unopened : (c : Content) → c ≡ Unopened → IsOpened c → ⊥
-unopened c e o = subst IsOpened e o
+-- ---- the files that are opened are settled
 
--- what was read of a file that is settled
-settled_read : (k : Held) (F : Type 0) (c : Content) → Settles k F → MayBeRead k F c → Same c (read_of k)
-settled_read k F Unopened s m o p = absurd o
-settled_read Unknown F c s m o p = absurd s
-settled_read Nothing F (Readable b) s m o p = absurd m
-settled_read Nothing F Unreadable s m o p = refl
-settled_read (Bytes b) F (Readable x) s m o p = ap Readable m
-settled_read (Bytes b) F Unreadable s m o p = absurd (s m)
+-- what was read of so many settled files is what is read of them
+read_so : (g : Call) (file : ℕ) (r : Reading) (count : ℕ) → MayRead g file r → ((k : ℕ) → k < file + count → IsSettled g k) → Agree r (read_from g file count)
+read_so g file [] count m h = tt
+read_so g file (c ∷ r) zero m h = tt
+read_so g file (c ∷ r) (suc count) m h = (
+  settled_read (held g (operand file)) (FailedToRead g (operand file)) c (h file (first_below file count)) m.0,
+  read_so g (file + 1) r count m.1
+      (λ k b. h k (below k file count b)),
+)
 
-refused_read : (g : Call) (r : Reading) (file : Operand) → MayRead g r → IsRefused g file → Same (content_of r file) (read_of (held g file))
-refused_read g r file m k = settled_read (held g file) (FailedToRead g file) (content_of r file) k.settled (may_be_read g r file m)
+sooner : (k n m : ℕ) → k < n → n ≤ m → k < m
+sooner k n m a b = omega arith
 
-known_settled : (g : Call) (file : Operand) (P : List ℕ → Type 0) → IsKnown g file P → IsSettled g file
-known_settled g file P k = subst (λ h. Settles h (FailedToRead g file)) (sym k.known) k.was_read
+are_settled : (g : Call) (x y : Answer) → AreSettledUpToRefused g → (p : IsCorrectAnswer g x) (q : IsCorrectAnswer g y) → AreSettled g p.reading q.reading
+are_settled g x y u p q =
+    let few : length p.reading ≤ u.count = u.none_behind p.reading x (read_so g 0 p.reading u.count p.may_be_read (λ k b. u.settled k (below_sum k u.count b)))
+    p.follows in
+    record { settled = λ file a b. u.settled file (sooner file (length p.reading) u.count a few) }
+
+pub settled_once : (w : ReadInOneWay) → (g : Call) (x y : Answer) → AreSettledUpToRefused g → (p : IsCorrectAnswer g x) (q : IsCorrectAnswer g y)
+    → SaySame g.asked q.reading x y
+settled_once w g x y s p q = correct_once w g x y p q (are_settled g x y s p q)
+
+pub settled_one : (w : ReadInOneWay) → (g : Call) (x y : Answer) → compares g.asked ≡ false → AreSettledUpToRefused g → IsCorrectAnswer g x
+    → IsCorrectAnswer g y → x ≡ y
+settled_one w g x y e s p q = correct_one w g x y e p q (are_settled g x y s p q)
+
+-- ---- all files that are named, and those from which an answer follows
+
+pub all_settled : (g : Call) → ((file : ℕ) → file < length (files_of g.asked) → IsSettled g file) → AreSettledUpToRefused g
+all_settled g h = record { count = length (files_of g.asked); settled = h; none_behind = λ r x a f. named_only g.asked 0 r x f }
+
+length_read : (g : Call) (file count : ℕ) → length (read_from g file count) ≡ count
+length_read g file zero = refl
+length_read g file (suc count) = ap suc (length_read g (file + 1) count)
+
+no_more : (n m : ℕ) → n ≡ m → n ≤ m
+no_more n m e = omega arith
+
+pub answered_settled : (w : ReadInOneWay) → (g : Call) (count : ℕ) (y : Answer) → ((file : ℕ) → file < count → IsSettled g file)
+    → Follows g.asked (read_from g 0 count) y → AreSettledUpToRefused g
+answered_settled w g count y h p = record {
+  count = count;
+  settled = h;
+  none_behind = λ r x a f.
+      let same : r ≡ read_from g 0 count = (follows_one w g.asked 0 r (read_from g 0 count) x y a f p).0 in
+      no_more (length r) count (ap length same ∙ length_read g 0 count);
+}
 
 -- ---- the first file is refused
 
-pair_stops : (P : (a b : Fsmd) → Content → Answer → Type 0) (r : Reading) (x y : Answer) (c : Content) → Same r.first c → RefusesMachine First c y → FollowsForPair P r x → OnlyFirst r
-pair_stops P r x y c e q (PairRefused (FirstRefused p o)) = o
-pair_stops P r x y c e q (PairRefused (SecondRefused m p o)) = absurd (some_not_refused First r.first c y e m q)
-pair_stops P r x y c e q (PairRefused (InterfacesDiffer a b p l o)) = absurd (machine_not_refused First r.first c a y e p.left q)
-pair_stops P r x y c e q (Answered a b p i h) = absurd (machine_not_refused First r.first c a y e p.left q)
+few_one : (n : ℕ) → n ≤ 0 → n ≤ 1
+few_one n h = omega arith
 
-run_stops : (limit : ℕ) (r : Reading) (x y : Answer) (c : Content) → Same r.first c → RefusesMachine First c y → FollowsForRun limit r x → OnlyFirst r
-run_stops limit r x y c e q (MachineRefused p o) = o
-run_stops limit r x y c e q (Ran m h p o) = absurd (machine_not_refused First r.first c m y e h q)
+-- no file is opened behind one that spells nothing
+opens_one : (T : Type 0) (R : Operand → Content → Answer → Type 0) (S : T → List ℕ → Type 0) (P : T → Rule) (file : ℕ) (r : Reading) (x : Answer) (c : Content)
+    → ((v : T) → OfBytes c (S v) → ⊥) → Agree r (c ∷ []) → Opens T R S P file r x
+    → length r ≤ 1
+opens_one T R S P file [] x c none a f = absurd f
+opens_one T R S P file (d ∷ r) x c none a (Refused p e) = one_more (length r) 0 (at_end r 0 e)
+opens_one T R S P file (d ∷ r) x c none a (Spelled v l p) = absurd (none v (subst (λ k. OfBytes k (S v)) a.0 l))
 
-text_stops : (R : Content → Answer → Type 0) (P : (text bytes : List ℕ) → Type 0) (r : Reading) (x : Answer) → FollowsForText R P r x → OnlyFirst r
-text_stops R P r x (TextRefused p o) = o
-text_stops R P r x (Listed l o) = o
+-- where the first file is no machine
+module _ (c : Content) (y : Answer) (refused : RefusesMachine (operand 0) c y) where
+  machine_one : (P : Fsmd → Rule) (r : Reading) (x : Answer) → Agree r (c ∷ []) → OpensMachine P 0 r x → length r ≤ 1
+  machine_one P r x a f = opens_one Fsmd RefusesMachine SpellsMachine P 0 r x c (λ m l. machine_opens.not_both (operand 0) c m y l refused) a f
 
-parts_stop : (P : Source → Content → Answer → Type 0) (r : Reading) (x y : Answer) (c : Content) → Same r.first c → RefusesMachine First c y → FollowsForParts P r x → OnlyFirst r
-parts_stop P r x y c e q (PartsRefused p o) = o
-parts_stop P r x y c e q (PartsSpelled k h p o) = absurd (parts_not_refused r.first c k y e h q)
+  parts_one : (P : Source → Rule) (r : Reading) (x : Answer) → Agree r (c ∷ []) → Opens Source RefusesMachine SpellsParts P 0 r x → length r ≤ 1
+  parts_one P r x a f = opens_one Source RefusesMachine SpellsParts P 0 r x c (λ m l. parts_open.not_both (operand 0) c m y l refused) a f
 
-first_stops : (o : Option Asked) (r : Reading) (x y : Answer) (c : Content) → Same r.first c → RefusesMachine First c y → Follows o r x → OnlyFirst r
-first_stops None r x y c e q f = record { second = f.unopened.second; third = f.unopened.third }
-first_stops (Some (Check left right cert steps)) r x y c e q f = pair_stops (ForCheck steps (is_some cert)) r x y c e q f
-first_stops (Some (Verify left right cert)) r x y c e q f = pair_stops ForVerify r x y c e q f
-first_stops (Some (Run machine inputs steps)) r x y c e q f = run_stops steps r x y c e q f
-first_stops (Some (Replay left right inputs steps)) r x y c e q f = pair_stops (ForReplay steps) r x y c e q f
-first_stops (Some (Fmt machine)) r x y c e q f = text_stops (RefusesMachine First) HasCanonicalText r x f
-first_stops (Some (Cuts machine)) r x y c e q f = text_stops (RefusesMachine First) HasPaths r x f
-first_stops (Some (Compile program)) r x y c e q f = text_stops (RefusesProgram First) HasCompiledText r x f
-first_stops (Some (Schedule machine units)) r x y c e q f = parts_stop ForSchedule r x y c e q f
-first_stops (Some (Bind machine binding)) r x y c e q f = parts_stop ForBind r x y c e q f
-first_stops (Some (Generate loops)) r x y c e q f = record { second = f.unopened.second; third = f.unopened.third }
+  first_stops : (o : Option Asked) (r : Reading) (x : Answer) → Agree r (c ∷ []) → Follows o r x → length r ≤ 1
+  first_stops None r x a f = few_one (length r) (named_only None 0 r x f)
+  first_stops (Some (Check left right cert steps)) r x a f =
+      machine_one (λ l. OpensMachine (λ k. Pairs l k (RefusesPair l k) (Ends (IsOfPair steps (is_some cert) l k)))) r x a f
+  first_stops (Some (Verify left right cert)) r x a f =
+      machine_one (λ l. OpensMachine (λ k. Pairs l k (RefusesPair l k) (OpensCertificate l k (λ n. Ends (IsJudged l k n))))) r x a f
+  first_stops (Some (Run machine ins steps)) r x a f = machine_one (λ m. OpensInputs m (λ i. Ends (IsOfRun steps m i))) r x a f
+  first_stops (Some (Replay left right ins steps)) r x a f =
+      machine_one (λ l. OpensMachine (λ k. Pairs l k (RefusesPair l k) (OpensInputs l (λ i. Ends (IsOfReplay steps l k i))))) r x a f
+  first_stops (Some (Fmt machine)) r x a f = named_only (Some (Fmt machine)) 0 r x f
+  first_stops (Some (Cuts machine)) r x a f = named_only (Some (Cuts machine)) 0 r x f
+  first_stops (Some (Generate loops)) r x a f = few_one (length r) (named_only (Some (Generate loops)) 0 r x f)
+  first_stops (Some (Compile program)) r x a f = named_only (Some (Compile program)) 0 r x f
+  first_stops (Some (Schedule machine counts)) r x a f = parts_one (λ parts. OpensUnits (λ units. Ends (IsOfSchedule parts units))) r x a f
+  first_stops (Some (Bind machine binding)) r x a f = parts_one (λ parts. OpensBinding (machine_of parts) (λ b. Ends (IsOfBinding parts b))) r x a f
+  first_stops (Some (Shrink left right ins steps)) r x a f =
+      machine_one (λ l. OpensMachine (λ k. Pairs l k (RefusesPair l k) (OpensInputs l (λ i. Ends (IsOfShrink steps l k i))))) r x a f
+  first_stops (Some (Chain files)) r x a f = machine_one (λ m. OpensLinks (Some (Chain files)) m m 0 (links_of files)) r x a f
 
-first_refused : (g : Call) (r : Reading) (x : Answer) → MayRead g r → Follows g.asked r x → IsRefused g First → (file : Operand) → IsOpened (content_of r file) → IsSettled g file
-first_refused g r x m f k First o = k.settled
-first_refused g r x m f k Second o = absurd (unopened r.second (first_stops g.asked r x k.answer (read_of (held g First)) (refused_read g r First m k) k.refuses f).second o)
-first_refused g r x m f k Third o = absurd (unopened r.third (first_stops g.asked r x k.answer (read_of (held g First)) (refused_read g r First m k) k.refuses f).third o)
+only_first : (g : Call) → IsSettled g 0 → (file : ℕ) → file < 1 → IsSettled g file
+only_first g s zero b = s
+only_first g s (suc file) b = absurd (let h : suc file < 1 = b in omega arith)
+
+pub first_refused : (g : Call) → IsRefused g 0 → AreSettledUpToRefused g
+first_refused g k = record {
+  count = 1;
+  settled = only_first g k.settled;
+  none_behind = λ r x a f. first_stops (read_of (held g (operand 0))) k.answer k.refuses g.asked r x a f;
+}
 
 -- ---- the second file is refused, or the machines have other inputs or outputs
 
--- no file is opened behind two that no machines with the same inputs and outputs are read of
-pair_ends : (P : (a b : Fsmd) → Content → Answer → Type 0) (r : Reading) (x : Answer) → ((a b : Fsmd) → ArePair r a b → interface_fault a b ≡ None → ⊥) → FollowsForPair P r x → OnlyTwo r
-pair_ends P r x none (PairRefused (FirstRefused p o)) = record { third = o.third }
-pair_ends P r x none (PairRefused (SecondRefused m p o)) = o
-pair_ends P r x none (PairRefused (InterfacesDiffer a b p l o)) = o
-pair_ends P r x none (Answered a b p i h) = absurd (none a b p i)
+few_two : (n : ℕ) → n ≤ 1 → n ≤ 2
+few_two n h = omega arith
 
-run_ends : (limit : ℕ) (r : Reading) (x : Answer) → FollowsForRun limit r x → OnlyTwo r
-run_ends limit r x (MachineRefused p o) = record { third = o.third }
-run_ends limit r x (Ran m h p o) = o
+-- two machines that are read of a reading do not have the same inputs and outputs
+abbrev NoPair : Reading → Type 0
+NoPair r = (a b : Fsmd) → ArePair r a b → interface_fault a b ≡ None → ⊥
 
-parts_end : (P : Source → Content → Answer → Type 0) (r : Reading) (x : Answer) → FollowsForParts P r x → OnlyTwo r
-parts_end P r x (PartsRefused p o) = record { third = o.third }
-parts_end P r x (PartsSpelled k h p o) = o
+-- what follows from two files of machines, whatever is said where they are refused
+abbrev Two : (R : Fsmd → Operand → Content → Answer → Type 0) (Q : (a b : Fsmd) → Answer → Type 0) (P : (a b : Fsmd) → Rule) → Rule
+Two R Q P = Opens Fsmd RefusesMachine SpellsMachine (λ a. Opens Fsmd (R a) SpellsMachine (λ b. Pairs a b (Q a b) (P a b)))
 
-two_end : (o : Option Asked) (r : Reading) (x : Answer) → ((a b : Fsmd) → ArePair r a b → interface_fault a b ≡ None → ⊥) → Follows o r x → OnlyTwo r
-two_end None r x none f = record { third = f.unopened.third }
-two_end (Some (Check left right cert steps)) r x none f = pair_ends (ForCheck steps (is_some cert)) r x none f
-two_end (Some (Verify left right cert)) r x none f = pair_ends ForVerify r x none f
-two_end (Some (Run machine inputs steps)) r x none f = run_ends steps r x f
-two_end (Some (Replay left right inputs steps)) r x none f = pair_ends (ForReplay steps) r x none f
-two_end (Some (Fmt machine)) r x none f = record { third = (text_stops (RefusesMachine First) HasCanonicalText r x f).third }
-two_end (Some (Cuts machine)) r x none f = record { third = (text_stops (RefusesMachine First) HasPaths r x f).third }
-two_end (Some (Compile program)) r x none f = record { third = (text_stops (RefusesProgram First) HasCompiledText r x f).third }
-two_end (Some (Schedule machine units)) r x none f = parts_end ForSchedule r x f
-two_end (Some (Bind machine binding)) r x none f = parts_end ForBind r x f
-two_end (Some (Generate loops)) r x none f = record { third = f.unopened.third }
+module _ (R : Fsmd → Operand → Content → Answer → Type 0) (Q : (a b : Fsmd) → Answer → Type 0) (P : (a b : Fsmd) → Rule) (x : Answer) where
+  pairs_end : (file : ℕ) (r : Reading) (a b : Fsmd) → (interface_fault a b ≡ None → ⊥) → Pairs a b (Q a b) (P a b) file r x → r ≡ []
+  pairs_end file r a b none (Other p e) = e
+  pairs_end file r a b none (Alike i p) = absurd (none i)
 
-two_settled : (g : Call) (r : Reading) (x : Answer) → IsSettled g First → IsSettled g Second → ((a b : Fsmd) → ArePair r a b → interface_fault a b ≡ None → ⊥) → Follows g.asked r x
-    → (file : Operand) → IsOpened (content_of r file) → IsSettled g file
-two_settled g r x s t none f First o = s
-two_settled g r x s t none f Second o = t
-two_settled g r x s t none f Third o = absurd (unopened r.third (two_end g.asked r x none f).third o)
+  second_ends : (file : ℕ) (c : Content) (r : Reading) (a : Fsmd) → OfBytes c (SpellsMachine a) → NoPair (c ∷ r)
+      → Opens Fsmd (R a) SpellsMachine (λ b. Pairs a b (Q a b) (P a b)) file r x → length r ≤ 1
+  second_ends file c [] a l none f = absurd f
+  second_ends file c (d ∷ r) a l none (Refused p e) = one_more (length r) 0 (at_end r 0 e)
+  second_ends file c (d ∷ r) a l none (Spelled b k p) = one_more (length r) 0 (at_end r 0 (pairs_end (file + 1) r a b (none a b (l, k)) p))
 
-second_refused : (g : Call) (r : Reading) → MayRead g r → IsRefused g Second → (a b : Fsmd) → ArePair r a b → interface_fault a b ≡ None → ⊥
-second_refused g r m k a b p i = machine_not_refused Second r.second (read_of (held g Second)) b k.answer (refused_read g r Second m k) p.right k.refuses
+  two : (r : Reading) → NoPair r → Two R Q P 0 r x → length r ≤ 2
+  two [] none f = absurd f
+  two (c ∷ r) none (Refused p e) = one_more (length r) 1 (at_end r 1 e)
+  two (c ∷ r) none (Spelled a l p) = one_more (length r) 1 (second_ends 1 c r a l none p)
 
-others_spelled : (g : Call) (r : Reading) (a b : Fsmd) (name : List ℕ) (left : IsKnown g First (SpellsMachine a)) (right : IsKnown g Second (SpellsMachine b)) → MayRead g r → interface_fault a b ≡ Some name
-    → (m n : Fsmd) → ArePair r m n → interface_fault m n ≡ None → ⊥
-others_spelled g r a b name left right may fault m n p i =
-    let s : Reading = record { first = Readable left.bytes; second = Readable right.bytes; third = r.third } in
-    other_interface r s m n a b name (known_read g r First (SpellsMachine a) left may) (known_read g r Second (SpellsMachine b) right may) p (record { left = left.meet; right = right.meet }) i fault
+pair_two : (P : Fsmd → Fsmd → Rule) (r : Reading) (x : Answer) → NoPair r → Two (λ a. RefusesMachine) RefusesPair P 0 r x → length r ≤ 2
+pair_two P r x none f = two (λ a. RefusesMachine) RefusesPair P x r none f
 
--- ---- each file that is opened is settled
+-- no file is opened behind the only machine of a chain
+one_file : (o : Option Asked) (r : Reading) (x : Answer) → OpensMachine (λ m. OpensLinks o m m 0 zero) 0 r x → length r ≤ 1
+one_file o r x f = opens Fsmd RefusesMachine SpellsMachine (λ m. OpensLinks o m m 0 zero) 0 (λ m. ends 0 (IsOfChain m m 0)) 0 r x f
 
-opened_settled : (g : Call) (r : Reading) (x : Answer) → MayRead g r → Follows g.asked r x → AreSettledUpToRefused g → (file : Operand) → IsTrue (names g.asked file) → IsOpened (content_of r file) → IsSettled g file
-opened_settled g r x m f (AllSettled h) file named o = h file named
-opened_settled g r x m f (FirstIsRefused k) file named o = first_refused g r x m f k file o
-opened_settled g r x m f (SecondIsRefused s k) file named o = two_settled g r x s k.settled (second_refused g r m k) f file o
-opened_settled g r x m f (OthersAreSpelled a b left right name fault) file named o =
-    two_settled g r x (known_settled g First (SpellsMachine a) left) (known_settled g Second (SpellsMachine b) right) (others_spelled g r a b name left right m fault) f file o
+links_two : (o : Option Asked) (left : ℕ) (r : Reading) (x : Answer) → NoPair r → OpensMachine (λ m. OpensLinks o m m 0 left) 0 r x → length r ≤ 2
+links_two o zero r x none f = few_two (length r) (one_file o r x f)
+links_two o (suc left) r x none f =
+    two (λ m f c. AtLink o 1 (RefusesMachine f c)) (λ m n. AtLink o 1 (RefusesPair m n)) (λ m n. BehindPair o 1 m n (λ k. OpensLinks o m k 1 left)) x r none f
 
-are_settled : (g : Call) (x y : Answer) → AreSettledUpToRefused g → (p : IsCorrectAnswer g x) (q : IsCorrectAnswer g y) → AreSettled g p.reading q.reading
-are_settled g x y s p q = record { settled = λ file named o u. opened_settled g p.reading x p.may_be_read p.follows s file named o }
+two_end : (o : Option Asked) (r : Reading) (x : Answer) → NoPair r → Follows o r x → length r ≤ 2
+two_end None r x none f = few_two (length r) (few_one (length r) (named_only None 0 r x f))
+two_end (Some (Check left right cert steps)) r x none f = named_only (Some (Check left right cert steps)) 0 r x f
+two_end (Some (Verify left right cert)) r x none f = pair_two (λ a b. OpensCertificate a b (λ n. Ends (IsJudged a b n))) r x none f
+two_end (Some (Run machine ins steps)) r x none f = named_only (Some (Run machine ins steps)) 0 r x f
+two_end (Some (Replay left right ins steps)) r x none f = pair_two (λ a b. OpensInputs a (λ i. Ends (IsOfReplay steps a b i))) r x none f
+two_end (Some (Fmt machine)) r x none f = few_two (length r) (named_only (Some (Fmt machine)) 0 r x f)
+two_end (Some (Cuts machine)) r x none f = few_two (length r) (named_only (Some (Cuts machine)) 0 r x f)
+two_end (Some (Generate loops)) r x none f = few_two (length r) (few_one (length r) (named_only (Some (Generate loops)) 0 r x f))
+two_end (Some (Compile program)) r x none f = few_two (length r) (named_only (Some (Compile program)) 0 r x f)
+two_end (Some (Schedule machine counts)) r x none f = named_only (Some (Schedule machine counts)) 0 r x f
+two_end (Some (Bind machine binding)) r x none f = named_only (Some (Bind machine binding)) 0 r x f
+two_end (Some (Shrink left right ins steps)) r x none f = pair_two (λ a b. OpensInputs a (λ i. Ends (IsOfShrink steps a b i))) r x none f
+two_end (Some (Chain files)) r x none f = links_two (Some (Chain files)) (links_of files) r x none f
 
-pub settled_once : (w : ReadInOneWay) → (g : Call) (x y : Answer) → AreSettledUpToRefused g → (p : IsCorrectAnswer g x) (q : IsCorrectAnswer g y) → SaySame g.asked q.reading x y
-settled_once w g x y s p q = correct_once w g x y p q (are_settled g x y s p q)
+only_two : (g : Call) → IsSettled g 0 → IsSettled g 1 → (file : ℕ) → file < 2 → IsSettled g file
+only_two g s t zero b = s
+only_two g s t (suc zero) b = t
+only_two g s t (suc (suc file)) b = absurd (let h : suc (suc file) < 2 = b in omega arith)
 
-pub settled_one : (w : ReadInOneWay) → (g : Call) (x y : Answer) → compares g.asked ≡ false → AreSettledUpToRefused g → IsCorrectAnswer g x → IsCorrectAnswer g y → x ≡ y
-settled_one w g x y e s p q = correct_one w g x y e p q (are_settled g x y s p q)
+-- two files are settled, of which no machines with the same inputs and outputs are read
+two_settled : (g : Call) → IsSettled g 0 → IsSettled g 1 → ((r : Reading) → Agree r (read_from g 0 2) → NoPair r) → AreSettledUpToRefused g
+two_settled g s t none = record {
+  count = 2;
+  settled = only_two g s t;
+  none_behind = λ r x a f. two_end g.asked r x (none r a) f;
+}
+
+not_spelled : (c d : Content) (y : Answer) → RefusesMachine (operand 1) d y → (r : Reading) → Agree r (c ∷ d ∷ []) → NoPair r
+not_spelled c d y p [] a m n l i = absurd l
+not_spelled c d y p (e ∷ []) a m n l i = absurd l
+not_spelled c d y p (e ∷ f ∷ r) a m n l i = machine_opens.not_both (operand 1) d n y (subst (λ k. OfBytes k (SpellsMachine n)) a.1.0 l.1) p
+
+pub second_refused : (g : Call) → IsSettled g 0 → IsRefused g 1 → AreSettledUpToRefused g
+second_refused g s k = two_settled g s k.settled (not_spelled (read_of (held g (operand 0))) (read_of (held g (operand 1))) k.answer k.refuses)
+
+spelled_same : (c d : Content) (m n : Fsmd) → c ≡ d → OfBytes c (SpellsMachine m) → OfBytes d (SpellsMachine n) → m ≡ n
+spelled_same c d m n e p q = one_spelled Fsmd RefusesMachine SpellsMachine machine_opens d m n (subst (λ k. OfBytes k (SpellsMachine m)) e p) q
+
+not_alike : (c d : Content) (a b : Fsmd) → OfBytes c (SpellsMachine a) → OfBytes d (SpellsMachine b) → (interface_fault a b ≡ None → ⊥) → (r : Reading)
+    → Agree r (c ∷ d ∷ []) → NoPair r
+not_alike c d a b s t none [] g m n l i = absurd l
+not_alike c d a b s t none (e ∷ []) g m n l i = absurd l
+not_alike c d a b s t none (e ∷ f ∷ r) g m n l i =
+    let left : m ≡ a = spelled_same e c m a g.0 l.0 s in
+    let right : n ≡ b = spelled_same f d n b g.1.0 l.1 t in
+    none (subst (λ k. interface_fault a k ≡ None) right (subst (λ k. interface_fault k n ≡ None) left i))
+
+pub others_spelled : (g : Call) (a b : Fsmd) → IsKnown g 0 (SpellsMachine a) → IsKnown g 1 (SpellsMachine b) → (name : List ℕ) → interface_fault a b ≡ Some name
+    → AreSettledUpToRefused g
+others_spelled g a b left right name fault =
+    two_settled g (known_settled g 0 (SpellsMachine a) left) (known_settled g 1 (SpellsMachine b) right)
+    (not_alike (read_of (held g (operand 0))) (read_of (held g (operand 1))) a b (known_meets g 0 (SpellsMachine a) left)
+    (known_meets g 1 (SpellsMachine b) right) (some_none name (interface_fault a b) fault))

@@ -11,12 +11,9 @@ use Rattle.fs_rules.specs.declared.check.CheckRule.TheVariants.{TwiceNamed, Unkn
 use Rattle.fs_rules.specs.declared.check.CheckFault.{CheckFault}
 use Rattle.fs_ast.specs.Spelled.{machine_of}
 use Rattle.fs_ast.specs.Rules.{rank, is_sooner, plain_faults, branch_faults, IsFirstBroken, IsLawful}
-use Rattle.fs_write.specs.Canonical.{canonical}
 use Rattle.fs_model.specs.Limits.{most_text_bytes}
 use Rattle.fs_text_laws.proofs.Texts.{one_source, one_fault, not_both}
-use Rattle.command_answers.specs.Texts.{SpellsParts, SpellsMachine, IsMachine, HasCanonicalText, IsTooLong, HasTextFault, HasCheckFault}
-use Rattle.path_text.specs.Paths.{paths_text}
-use Rattle.command_answers.specs.Paths.{HasPaths}
+use Rattle.command_answers.specs.Texts.{SpellsParts, SpellsMachine, IsTooLong, HasTextFault, HasCheckFault}
 
 -- ---- the broken rule that is answered is one
 
@@ -100,13 +97,3 @@ long_no_text_fault bytes f s long = few_not_many (length bytes) most_text_bytes 
 
 pub long_no_check_fault : (bytes : List ℕ) (f : CheckFault) → HasCheckFault f bytes → IsTooLong most_text_bytes bytes → ⊥
 long_no_check_fault bytes f s long = few_not_many (length bytes) most_text_bytes s.few long
-
-pub canonical_once : (bytes t u : List ℕ) → HasCanonicalText t bytes → HasCanonicalText u bytes → t ≡ u
-canonical_once bytes t u p q = p.is_canonical ∙ ap canonical (one_source bytes p.parts q.parts p.spells.spells q.spells.spells) ∙ sym q.is_canonical
-
-pub paths_once : (bytes t u : List ℕ) → HasPaths t bytes → HasPaths u bytes → t ≡ u
-paths_once bytes t u p q = p.lists ∙ ap paths_text (spells_once bytes p.machine q.machine p.spells q.spells) ∙ sym q.lists
-
--- a file with a canonical text spells a machine
-pub canonical_machine : (bytes t : List ℕ) → HasCanonicalText t bytes → IsMachine bytes
-canonical_machine bytes t p = (machine_of p.parts, record { parts = p.parts; spells = p.spells; machine = refl })

@@ -1,5 +1,5 @@
 -- Bytes are one thing as unit counts, and a machine gets one answer under them.
-use Rattle.std.proofs.Common.{◌≡◌, ℕ, List, Option, Some, None, sym, ◌∙◌, ap, subst}
+use Rattle.std.proofs.Common.{◌≡◌, ℕ, List, Option, Some, sym, ◌∙◌, ap, subst}
 use Rattle.serde_json.specs.Data.{Data}
 use Rattle.serde_json.specs.Find.{as_object}
 use Rattle.fs_model.specs.Source.{Source}
@@ -7,16 +7,16 @@ use Rattle.fs_rules.specs.Spelled.{machine_of}
 use Rattle.fs_ast.specs.Stored.{name_of}
 use Rattle.unit_counts.specs.declared.units.Unit.{Unit as Kind}
 use Rattle.unit_counts.specs.declared.faults.Fault.{Fault}
-use Rattle.unit_counts.specs.Counts.{Units, first_fault, file_fault, counts_in}
+use Rattle.unit_counts.specs.Counts.{Units, file_fault, counts_in}
 use Rattle.json_files.proofs.Once.{one_value}
 use Rattle.unit_counts.specs.Refusals.{SpelledBy, Spells, IsFaulty}
 use Rattle.unit_limits.specs.Over.{over_in}
-use Rattle.command_answers.specs.declared.answer.Operand.TheVariants.{Second}
 use Rattle.command_answers.specs.declared.answer.Answer.{Answer}
 use Rattle.command_answers.specs.declared.answer.Answer.TheVariants.{Text, Over}
-use Rattle.command_answers.specs.Schedules.{unit_fault, HaveUnitFault, SpellUnits, IsOfSchedule, IsOver, InRows}
-use Rattle.fsmd_tool_laws.proofs.Contents.{some_same, some_none}
-use Rattle.fsmd_tool_laws.proofs.Keys.{AreOneThing}
+use Rattle.command_answers.specs.Words.{operand}
+use Rattle.command_answers.specs.Schedules.{unit_fault, HaveUnitFault, SpellUnits, RefusesUnits, IsOfSchedule, IsOver, InRows}
+use Rattle.fsmd_tool_laws.proofs.Contents.{some_same, some_none, OpensInOneWay}
+use Rattle.fsmd_tool_laws.proofs.Keys.{AreOneThing, keys_open}
 
 units_once : (bytes : List ℕ) (u v : Units) → Spells bytes u → Spells bytes v → u ≡ v
 units_once bytes u v p q = p.spelled.counts ∙ ap counts_in (one_value bytes p.value q.value p.json q.json) ∙ sym q.spelled.counts
@@ -34,7 +34,7 @@ spelled_or_faulty : (bytes : List ℕ) (units : Units) (key : List ℕ) (f : Fau
 spelled_or_faulty bytes units key f p q = faultless q.value units key f (subst (λ d. SpelledBy d units) (one_value bytes p.value q.value p.json q.json) p.spelled) q.first
 
 -- bytes are one thing as unit counts
-pub units_are_one : AreOneThing Units HaveUnitFault SpellUnits
+units_are_one : AreOneThing Units HaveUnitFault SpellUnits
 units_are_one = record {
   few_without = λ b p. p.few;
   few_faulty = λ b f k p. p.few;
@@ -48,11 +48,15 @@ units_are_one = record {
   one_value = λ b v w p q. units_once b v w p.spells q.spells;
 }
 
+-- the file of unit counts is one thing
+pub units_open : OpensInOneWay Units RefusesUnits SpellUnits
+units_open = keys_open Units HaveUnitFault SpellUnits units_are_one
+
 -- the machine of parts gets one answer under unit counts
 pub schedule_once : (p : Source) (units : Units) (x y : Answer) → IsOfSchedule p units x → IsOfSchedule p units y → x ≡ y
 schedule_once p units x y (IsOver q k o e) (IsOver r j u h) =
     let same : Path (ℕ × Kind) (q, k) (r, j) = some_same (q, k) (r, j) (sym o ∙ u) in
-    e ∙ ap (λ (t : ℕ × Kind). Over Second (name_of (machine_of p) t.0) t.1) same ∙ sym h
+    e ∙ ap (λ (t : ℕ × Kind). Over (operand 1) (name_of (machine_of p) t.0) t.1) same ∙ sym h
 schedule_once p units x y (IsOver q k o e) (InRows l) = absurd (some_none (q, k) (over_in units (machine_of p)) o l.holds.fits)
 schedule_once p units x y (InRows l) (IsOver q k o h) = absurd (some_none (q, k) (over_in units (machine_of p)) o l.holds.fits)
 schedule_once p units x y (InRows l) (InRows n) = l.is ∙ ap Text (l.holds.is ∙ sym n.holds.is) ∙ sym n.is

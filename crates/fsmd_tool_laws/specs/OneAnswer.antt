@@ -1,6 +1,6 @@
 -- Answers that say the same: they are one, but for the cycle that their lines name, and but for what is found beyond a search
 -- that is left open.
-use Rattle.std.specs.Prelude.{◌≡◌, ℕ, Bool, List, length, Option, Some, IsTrue}
+use Rattle.std.specs.Prelude.{◌≡◌, ℕ, Bool, List, ◌∷◌, length, Option, Some, IsTrue}
 use Rattle.command_words.specs.Words.{Asked, Generate}
 use Rattle.fs_model.specs.Machines.{Fsmd}
 use Rattle.bisimulation.specs.Tables.{Node}
@@ -13,8 +13,8 @@ use Rattle.command_answers.specs.declared.answer.Answer.{Answer}
 use Rattle.command_answers.specs.declared.answer.Answer.TheVariants.{Equivalent, Undecided}
 use Rattle.command_answers.specs.Words.{is_check}
 use Rattle.command_answers.specs.Lines.{HasLines}
-use Rattle.command_answers.specs.Readings.{Reading}
-use Rattle.command_answers.specs.Refusals.{ArePair}
+use Rattle.command_answers.specs.Texts.{SpellsMachine}
+use Rattle.command_answers.specs.Readings.{OfBytes, Reading}
 use Rattle.command_answers.specs.Pairs.{kept, left_of, right_of}
 
 -- the answer is the line of a cycle of two machines
@@ -33,6 +33,11 @@ pub data AreOne (a b : Fsmd) (x y : Answer) : Type 0 where
   Equal : x ≡ y → AreOne a b x y
   NameCycles : NamesCycle a b x → NamesCycle a b y → AreOne a b x y
   GoBeyond : IsLeftOpen (machines a b) → IsBeyond a b x → IsBeyond a b y → AreOne a b x y
+
+-- the first two files that were opened spell these machines
+abbrev pub ArePair : Reading → (a b : Fsmd) → Type 0
+ArePair (left ∷ right ∷ rest) a b = OfBytes left (SpellsMachine a) × OfBytes right (SpellsMachine b)
+ArePair r a b = ⊥
 
 -- two machines are compared: those that were read of the first two files of a check, or those of so many loops
 pub data AreCompared (o : Option Asked) (r : Reading) (a b : Fsmd) : Type 0 where

@@ -1,17 +1,22 @@
 -- When what was read of the files of a call is settled.
-use Rattle.std.specs.Prelude.{◌≡◌, ℕ, List, IsTrue, Some, None}
+use Rattle.std.specs.Prelude.{◌≡◌, ◌<◌, ◌≤◌, ℕ, zero, suc, ◌+◌, List, [], ◌∷◌, length, None}
 use Rattle.fs_base.specs.Outside.{Held, Unknown, Nothing, Bytes}
 use Rattle.fs_model.specs.Machines.{Fsmd}
 use Rattle.fs_pair.specs.Interfaces.{interface_fault}
-use Rattle.command_answers.specs.declared.answer.Operand.{Operand}
-use Rattle.command_answers.specs.declared.answer.Operand.TheVariants.{First, Second}
+use Rattle.bisimulation.specs.Tables.{Node}
+use Rattle.sym_facts.specs.Facts.{Fact}
+use Rattle.certificates.specs.Obligations.{Yes}
 use Rattle.command_answers.specs.declared.answer.Answer.{Answer}
-use Rattle.command_answers.specs.Words.{names}
+use Rattle.command_answers.specs.Words.{operand}
 use Rattle.command_answers.specs.Texts.{SpellsMachine}
-use Rattle.command_answers.specs.Readings.{Content, Unopened, Readable, Unreadable, Reading, content_of}
-use Rattle.command_answers.specs.Refusals.{RefusesMachine}
+use Rattle.command_answers.specs.Readings.{Content, Readable, Unreadable, Reading}
+use Rattle.command_answers.specs.Refusals.{RefusesMachine, SpellsCertificate}
+use Rattle.command_answers.specs.Verdicts.{verdict_on}
+use Rattle.command_answers.specs.Follows.{Follows}
 use Rattle.fsmd_tool.specs.Calls.{Call, held, FailedToRead}
-use Rattle.fsmd_tool_laws.specs.Agreement.{IsOpened}
+use Rattle.fsmd_tool_laws.specs.Agreement.{Agree}
+
+-- ---- files that are settled
 
 -- it is known that there is no file; or it is known what bytes the file has, and it did not fail to be read
 abbrev pub Settles : Held → (Failed : Type 0) → Type 0
@@ -19,45 +24,73 @@ Settles Unknown Failed = ⊥
 Settles Nothing Failed = Unit {0}
 Settles (Bytes bytes) Failed = Failed → ⊥
 
--- the same of a file of the call
-abbrev pub IsSettled : Call → Operand → Type 0
-IsSettled g file = Settles (held g file) (FailedToRead g file)
+-- the same of the file of a number
+abbrev pub IsSettled : Call → (file : ℕ) → Type 0
+IsSettled g file = Settles (held g (operand file)) (FailedToRead g (operand file))
 
--- each file that is named and that both readings opened is settled: so the files up to the first that is refused
+-- each file that both readings opened is settled
 pub record AreSettled (g : Call) (r s : Reading) : Type 0 where
-  pub settled : (file : Operand) → IsTrue (names g.asked file) → IsOpened (content_of r file) → IsOpened (content_of s file) → IsSettled g file
+  pub settled : (file : ℕ) → file < length r → file < length s → IsSettled g file
 
--- it is known that a file of the call has bytes that meet P, and it did not fail to be read
-pub record IsKnown (g : Call) (file : Operand) (P : List ℕ → Type 0) : Type 0 where
+-- ---- files that are known
+
+-- it is known that the file of a number has bytes that meet P, and it did not fail to be read
+pub record IsKnown (g : Call) (file : ℕ) (P : List ℕ → Type 0) : Type 0 where
   pub bytes : List ℕ
-  pub known : held g file ≡ Bytes bytes
+  pub known : held g (operand file) ≡ Bytes bytes
   pub meet : P bytes
-  pub was_read : ¬ FailedToRead g file
+  pub was_read : ¬ FailedToRead g (operand file)
 
 -- it is known that the first two files of the call spell these machines, which have the same inputs and outputs
 pub record SpellPair (g : Call) (a b : Fsmd) : Type 0 where
-  pub left : IsKnown g First (SpellsMachine a)
-  pub right : IsKnown g Second (SpellsMachine b)
+  pub left : IsKnown g 0 (SpellsMachine a)
+  pub right : IsKnown g 1 (SpellsMachine b)
   pub alike : interface_fault a b ≡ None
+
+-- it is known that the file of a number spells the next machine of a chain, with the same inputs and outputs as the last one, and
+-- the file behind it a lawful certificate of both
+pub record SpellLink (g : Call) (file : ℕ) (last next : Fsmd) (nodes : List (Node Fact)) : Type 0 where
+  pub machine : IsKnown g file (SpellsMachine next)
+  pub alike : interface_fault last next ≡ None
+  pub certificate : IsKnown g (file + 1) (SpellsCertificate last next nodes)
+
+-- it is known that the link that begins with the file of a number holds, and of its next machine Rest is known
+pub record IsKnownToHold (g : Call) (file : ℕ) (last : Fsmd) (Rest : Fsmd → Type 0) : Type 0 where
+  pub next : Fsmd
+  pub nodes : List (Node Fact)
+  pub spelled : SpellLink g file last next nodes
+  pub holds : verdict_on last next nodes ≡ Yes
+  pub rest : Rest next
+
+-- it is known that so many links from a file on hold, from the last machine so far to the last of them
+abbrev pub AreKnownToHold : Call → (file links : ℕ) → (last end : Fsmd) → Type 0
+AreKnownToHold g file zero last end = last ≡ end
+AreKnownToHold g file (suc links) last end = IsKnownToHold g file last (λ next. AreKnownToHold g (file + 2) links next end)
 
 -- ---- files that are settled up to the one that is refused
 
 -- what is read of a file of which this is known, where it is settled
 abbrev pub read_of : Held → Content
-read_of Unknown = Unopened
+read_of Unknown = Unreadable
 read_of Nothing = Unreadable
 read_of (Bytes bytes) = Readable bytes
 
--- it is settled what is read of a file of the call, and as that of a machine it is refused
-pub record IsRefused (g : Call) (file : Operand) : Type 0 where
+-- what is read of so many files from a number on, where they are settled
+abbrev pub read_from : Call → (file count : ℕ) → Reading
+read_from g file zero = []
+read_from g file (suc count) = read_of (held g (operand file)) ∷ read_from g (file + 1) count
+
+-- it is settled what is read of the file of a number, and as that of a machine it is refused
+pub record IsRefused (g : Call) (file : ℕ) : Type 0 where
   pub settled : IsSettled g file
   pub answer : Answer
-  pub refuses : RefusesMachine file (read_of (held g file)) answer
+  pub refuses : RefusesMachine (operand file) (read_of (held g (operand file))) answer
 
--- the files of the call that are named are settled, up to the first that is refused: all of them; or the first, which is refused; or the first
--- two, of which the second is refused; or the first two, which spell machines with other inputs or outputs. Of the files behind nothing is said
-pub data AreSettledUpToRefused (g : Call) : Type 0 where
-  AllSettled : ((file : Operand) → IsTrue (names g.asked file) → IsSettled g file) → AreSettledUpToRefused g
-  FirstIsRefused : IsRefused g First → AreSettledUpToRefused g
-  SecondIsRefused : IsSettled g First → IsRefused g Second → AreSettledUpToRefused g
-  OthersAreSpelled : (a b : Fsmd) → IsKnown g First (SpellsMachine a) → IsKnown g Second (SpellsMachine b) → (name : List ℕ) → interface_fault a b ≡ Some name → AreSettledUpToRefused g
+-- so many files of the call are settled, and no file behind these is opened, whatever it holds: an answer follows from no reading
+-- that agrees with what is read of these and that goes further. So it is with all files that are named, and with those up to the
+-- first that is refused
+pub record AreSettledUpToRefused (g : Call) : Type 0 where
+  pub count : ℕ
+  pub settled : (file : ℕ) → file < count → IsSettled g file
+  pub none_behind : (r : Reading) (answer : Answer) → Agree r (read_from g 0 count) → Follows g.asked r answer
+      → length r ≤ count

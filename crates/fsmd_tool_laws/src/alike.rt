@@ -4,7 +4,6 @@ ghost use Rattle.std.specs.Prelude.{◌≡◌, ℕ, true, false, Some, is_some};
 ghost use Rattle.command_words.specs.Words.{Generate};
 ghost use Rattle.fs_model.specs.Machines.{Fsmd};
 ghost use Rattle.alike_searches.specs.Where.{WhereAlike};
-ghost use Rattle.command_answers.specs.declared.answer.Operand.TheVariants.{First, Second};
 ghost use Rattle.command_answers.specs.Words.{cert_of, is_check};
 ghost use Rattle.command_answers.specs.Texts.{SpellsMachine};
 ghost use Rattle.command_answers.specs.Pairs.{left_of, right_of};
@@ -19,8 +18,8 @@ ghost use Rattle.fsmd_tool_laws.specs.Alike.{IsClosedOrLimit};
 /// neither the sink failed nor the store of the certificate: never a refusal, a difference or another obstacle. So it is of
 /// machines that files spell, and of generated ones.
 pub fn alike_machines_get_their_answers()
-    ensures check { (g : Call) (p : Put) (a b : Fsmd) → is_check g.asked ≡ true → IsKnown g First (SpellsMachine a)
-        → IsKnown g Second (SpellsMachine b) → NothingFailed g p → Outcome g p
+    ensures check { (g : Call) (p : Put) (a b : Fsmd) → is_check g.asked ≡ true → IsKnown g 0 (SpellsMachine a)
+        → IsKnown g 1 (SpellsMachine b) → NothingFailed g p → Outcome g p
         → WhereAlike a b (EndsBy (IsClosedOrLimit (is_some (cert_of g.asked)) a b) g p) }
     ensures generate { (g : Call) (p : Put) (loops : ℕ) → g.asked ≡ Some (Generate loops) → NothingFailed g p → Outcome g p
         → WhereAlike (left_of loops) (right_of loops) (EndsBy (IsClosedOrLimit false (left_of loops) (right_of loops)) g p) }

@@ -1,15 +1,23 @@
 use Rattle.std.proofs.Common.{rules, Some}
 use Rattle.command_words.specs.Words.{asked}
-use Rattle.fsmd_tool.specs.Calls.{call, IsCorrectBy}
 use Rattle.command_answers.specs.Refusing.{WhereAnswered}
-use Rattle.command_answers.specs.Follows.{FollowsForPair, ForReplay}
-use Rattle.fsmd_tool.proofs.FromFiles.{answers_map, pair_refused, with_third}
+use Rattle.fsmd_tool.specs.Calls.{call, IsCorrectFrom}
+use Rattle.command_answers.specs.Replays.{IsOfReplay}
+use Rattle.command_answers.specs.Follows.{Ends, OpensPair, OpensInputs}
+use Rattle.fsmd_tool.proofs.FromFiles.{pair_refused, pair_spelled}
+use Rattle.fsmd_tool.proofs.Later.{answers_since}
 use Rattle.fsmd_tool.proofs.answers.replay_files.Goals as goal
 
 pub returns-in_err-left-clause-answers : goal.returns-in_err-left-clause-answers
 returns-in_err-left-clause-answers g c =
-    let h : WhereAnswered (IsCorrectBy (FollowsForPair (ForReplay c.args.steps)) (call (Some (asked c.args.ask.now)) (g.F.Files.told c.args.files.now) (g.F.Files.told c.load_pair.new.files))) c.in_err-left.field-0.0 = pair_refused (ForReplay c.args.steps) _ _ c.in_err-left.ensures.refused in
+    let h : WhereAnswered (IsCorrectFrom (OpensPair (λ a b. OpensInputs a (λ ins. Ends (IsOfReplay c.args.steps a b ins)))) 0
+    (call (Some (asked c.args.ask.now)) (g.F.Files.told c.args.files.now) (g.F.Files.told c.load_pair.new.files))) c.in_err-left.field-0.0 =
+    pair_refused (λ a b. OpensInputs a (λ ins. Ends (IsOfReplay c.args.steps a b ins))) _ _ c.in_err-left.ensures.refused in
     search rules
 
 pub returns-clause-answers : goal.returns-clause-answers
-returns-clause-answers g c = answers_map _ _ (with_third (ForReplay c.args.steps) _ _ _ c.in_ok-left.field-0.left c.in_ok-left.field-0.right (c.load_pair.ensures.only_read.unchanged _) (c.load_pair.ensures.only_read.counts _) c.in_ok-left.ensures.left c.in_ok-left.ensures.right c.in_ok-left.ensures.alike) c.replay_from.result c.replay_from.ensures.answers
+returns-clause-answers g c =
+    pair_spelled (λ a b. OpensInputs a (λ ins. Ends (IsOfReplay c.args.steps a b ins)))
+    _ c.in_ok-left.field-0.left c.in_ok-left.field-0.right c.in_ok-left.ensures.left c.in_ok-left.ensures.right c.in_ok-left.ensures.alike
+    c.replay_from.result
+    (answers_since _ _ _ _ c.load_pair.ensures.only_read _ 2 c.replay_from.result c.replay_from.ensures.answers)

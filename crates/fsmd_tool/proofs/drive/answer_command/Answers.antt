@@ -1,15 +1,18 @@
-use Rattle.std.proofs.Common.{ap, Some, string_bytes}
+use Rattle.std.proofs.Common.{◌∙◌, ap, sym, map, length, List, Some, String, Global, string_bytes, arith}
+use Rattle.std.proofs.lemmas.List.{length-map}
 use Rattle.command_words.specs.declared.asking.Ask.{Ask}
-use Rattle.command_words.specs.Words.{asked}
-use Rattle.fsmd_tool.proofs.Putting.{answers_as, check_answers, of_loops}
+use Rattle.command_words.specs.Words.{asked, Chain}
+use Rattle.fsmd_tool.proofs.Putting.{answers_as, check_answers, of_loops, chain_answers}
 use Rattle.fsmd_tool.proofs.drive.answer_command.Goals as goal
 
 pub returns-in-Check-clause-answers : goal.returns-in-Check-clause-answers
 returns-in-Check-clause-answers g c =
-    check_answers _ _ string_bytes c.in-Check.cert c.in-Check.steps c.is_some.result _ c.check.result (ap (λ (k : Ask). Some (asked k)) c.in-Check.is) c.is_some.ensures c.check.ensures.answers
+    check_answers _ _ string_bytes c.in-Check.cert c.in-Check.steps c.is_some.result _ c.check.result (ap (λ (k : Ask). Some (asked k)) c.in-Check.is)
+    c.is_some.ensures c.check.ensures.answers
 
 pub returns-in_ok-compare_generated-in-Generate-clause-answers : goal.returns-in_ok-compare_generated-in-Generate-clause-answers
-returns-in_ok-compare_generated-in-Generate-clause-answers g c = of_loops _ c.in-Generate.n _ (ap (λ (k : Ask). Some (asked k)) c.in-Generate.is) c.in_ok-compare_generated-in-Generate.ensures
+returns-in_ok-compare_generated-in-Generate-clause-answers g c =
+    of_loops _ c.in-Generate.n _ (ap (λ (k : Ask). Some (asked k)) c.in-Generate.is) c.in_ok-compare_generated-in-Generate.ensures
 
 pub returns-in-Verify-clause-answers : goal.returns-in-Verify-clause-answers
 returns-in-Verify-clause-answers g c = answers_as _ _ c.verify_files.result (ap (λ (k : Ask). Some (asked k)) c.in-Verify.is) c.verify_files.ensures.answers
@@ -30,10 +33,19 @@ pub returns-in-Compile-clause-answers : goal.returns-in-Compile-clause-answers
 returns-in-Compile-clause-answers g c = answers_as _ _ c.compile_file.result (ap (λ (k : Ask). Some (asked k)) c.in-Compile.is) c.compile_file.ensures.answers
 
 pub returns-in-Schedule-clause-answers : goal.returns-in-Schedule-clause-answers
-returns-in-Schedule-clause-answers g c = answers_as _ _ c.schedule_files.result (ap (λ (k : Ask). Some (asked k)) c.in-Schedule.is) c.schedule_files.ensures.answers
+returns-in-Schedule-clause-answers g c = answers_as _ _ c.schedule_files.result (ap (λ (k : Ask). Some (asked k)) c.in-Schedule.is)
+    c.schedule_files.ensures.answers
 
 pub returns-in-Bind-clause-answers : goal.returns-in-Bind-clause-answers
 returns-in-Bind-clause-answers g c = answers_as _ _ c.bind_files.result (ap (λ (k : Ask). Some (asked k)) c.in-Bind.is) c.bind_files.ensures.answers
+
+pub returns-in-Shrink-clause-answers : goal.returns-in-Shrink-clause-answers
+returns-in-Shrink-clause-answers g c = answers_as _ _ c.shrink_files.result (ap (λ (k : Ask). Some (asked k)) c.in-Shrink.is) c.shrink_files.ensures.answers
+
+pub returns-in-Chain-clause-answers : goal.returns-in-Chain-clause-answers
+returns-in-Chain-clause-answers g c =
+    chain_answers (map string_bytes c.as_slice.result.now) _ c.chain_files.result
+    (ap (λ (k : Ask). Some (asked k)) c.in-Chain.is ∙ ap (λ (ws : List (String Global)). Some (Chain (map string_bytes ws))) (sym c.as_slice.ensures.value)) c.chain_files.ensures.answers
 
 pub check-requires : goal.check-requires
 check-requires g c = let limits = rw c.in-Check.is at c.requires in limits.0
@@ -43,3 +55,11 @@ run_files-requires g c = let limits = rw c.in-Run.is at c.requires in limits.0
 
 pub replay_files-requires : goal.replay_files-requires
 replay_files-requires g c = let limits = rw c.in-Replay.is at c.requires in limits.0
+
+pub shrink_files-requires : goal.shrink_files-requires
+shrink_files-requires g c = let limits = rw c.in-Shrink.is at c.requires in limits.0
+
+pub chain_files-requires : goal.chain_files-requires
+chain_files-requires g c =
+    let limits = rw c.in-Chain.is at c.requires in
+    omega (arith, limits.1, length-map c.in-Chain.words.items string_bytes, ap length c.as_slice.ensures.value)

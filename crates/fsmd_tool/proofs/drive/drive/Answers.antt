@@ -4,6 +4,8 @@ use Rattle.fsmd_tool.specs.Correct.{Starves}
 use Rattle.fsmd_tool.proofs.Alike.{tells_of_alike, no_memory_of_pair}
 use Rattle.fsmd_tool.proofs.Says.{says_same, says_differ, says_undecided, is_checked}
 use Rattle.fsmd_tool.proofs.Synthesized.{is_compiled, is_in_rows, is_in_registers}
+use Rattle.fsmd_tool.proofs.Shrunk.{is_shrunk}
+use Rattle.fsmd_tool.proofs.Chained.{is_chained}
 use Rattle.fsmd_tool.proofs.Causes.{has_cause}
 use Rattle.fsmd_tool.proofs.drive.drive.Goals as goal
 
@@ -30,6 +32,12 @@ returns-in-Ok-clause-in_rows g c = is_in_rows _ _ c.in-Ok.ensures.answered
 
 pub returns-in-Ok-clause-in_registers : goal.returns-in-Ok-clause-in_registers
 returns-in-Ok-clause-in_registers g c = is_in_registers _ _ c.in-Ok.ensures.answered
+
+pub returns-in-Ok-clause-shrunk : goal.returns-in-Ok-clause-shrunk
+returns-in-Ok-clause-shrunk g c = is_shrunk _ _ c.in-Ok.ensures.answered
+
+pub returns-in-Ok-clause-chained : goal.returns-in-Ok-clause-chained
+returns-in-Ok-clause-chained g c = is_chained _ _ c.in-Ok.ensures.answered
 
 pub returns-in-Ok-clause-fault : goal.returns-in-Ok-clause-fault
 returns-in-Ok-clause-fault g c = has_cause _ _ c.in-Ok.ensures.answered
@@ -60,6 +68,12 @@ returns-in-Err-clause-in_rows g c = λ e t. absurd (let h : NoMemory ≡ Fine = 
 
 pub returns-in-Err-clause-in_registers : goal.returns-in-Err-clause-in_registers
 returns-in-Err-clause-in_registers g c = λ e t. absurd (let h : NoMemory ≡ Fine = e in cc)
+
+pub returns-in-Err-clause-shrunk : goal.returns-in-Err-clause-shrunk
+returns-in-Err-clause-shrunk g c = λ e t. absurd (let h : NoMemory ≡ Differ = e in cc)
+
+pub returns-in-Err-clause-chained : goal.returns-in-Err-clause-chained
+returns-in-Err-clause-chained g c = λ e t. absurd (let h : NoMemory ≡ Fine = e in cc)
 
 pub returns-in-Err-clause-fault : goal.returns-in-Err-clause-fault
 returns-in-Err-clause-fault g c = λ e. absurd (let h : NoMemory ≡ Fault = e in cc)

@@ -1,12 +1,14 @@
 use Rattle.std.proofs.Common.{sym, subst}
 use Rattle.fs_base.specs.Outside.{AreHeld}
-use Rattle.command_answers.specs.Programs.{HasCompiledText, RefusesProgram}
-use Rattle.fsmd_tool.proofs.FromFiles.{bytes_given, lines_held}
+use Rattle.command_answers.specs.Programs.{RefusesProgram}
+use Rattle.fsmd_tool.proofs.FromFiles.{bytes_given, compiled_held}
 use Rattle.fsmd_tool.proofs.load.load_compiled.Goals as goal
 
 pub returns-clause-refused : goal.returns-clause-refused
 returns-clause-refused g c =
-    bytes_given _ _ c.as_slice.result.now (RefusesProgram c.args.file) c.compile_program.result (subst (AreHeld _) (sym c.as_slice.ensures.value) c.in_ok-bytes.ensures.held) c.compile_program.ensures.refused
+    bytes_given _ _ c.as_slice.result.now (RefusesProgram c.args.file) c.compile_program.result
+    (subst (AreHeld _) (sym c.as_slice.ensures.value) c.in_ok-bytes.ensures.held) c.compile_program.ensures.refused
 
 pub returns-clause-compiled : goal.returns-clause-compiled
-returns-clause-compiled g c = lines_held _ c.as_slice.result.now HasCompiledText c.compile_program.result (subst (AreHeld _) (sym c.as_slice.ensures.value) c.in_ok-bytes.ensures.held) c.compile_program.ensures.compiled
+returns-clause-compiled g c = compiled_held _ c.as_slice.result.now c.compile_program.result
+    (subst (AreHeld _) (sym c.as_slice.ensures.value) c.in_ok-bytes.ensures.held) c.compile_program.ensures.compiled

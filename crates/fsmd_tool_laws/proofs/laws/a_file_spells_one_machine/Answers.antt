@@ -1,4 +1,4 @@
-use Rattle.fsmd_tool_laws.proofs.Texts.{spells_once, spells_no_text_fault, spells_no_check_fault, long_spells_none, canonical_once, paths_once}
+use Rattle.fsmd_tool_laws.proofs.Texts.{spells_once, parts_once, spells_no_text_fault, spells_no_check_fault, long_spells_none}
 use Rattle.fsmd_tool_laws.proofs.laws.a_file_spells_one_machine.Goals as goal
 
 pub returns-clause-one : goal.returns-clause-one
@@ -13,8 +13,5 @@ returns-clause-no_broken_rule c = spells_no_check_fault
 pub returns-clause-not_too_long : goal.returns-clause-not_too_long
 returns-clause-not_too_long c = long_spells_none
 
-pub returns-clause-canonical_text : goal.returns-clause-canonical_text
-returns-clause-canonical_text c = canonical_once
-
-pub returns-clause-paths : goal.returns-clause-paths
-returns-clause-paths c = paths_once
+pub returns-clause-parts : goal.returns-clause-parts
+returns-clause-parts c = parts_once

@@ -1,0 +1,22 @@
+use Rattle.std.proofs.Common.{rules, Some}
+use Rattle.command_words.specs.Words.{asked}
+use Rattle.command_answers.specs.Refusing.{WhereAnswered}
+use Rattle.fsmd_tool.specs.Calls.{call, IsCorrectFrom}
+use Rattle.fsmd_tool.specs.Loading.{RefusesLink}
+use Rattle.fsmd_tool.proofs.Linked.{next_refused_as, certificate_refused}
+use Rattle.fsmd_tool.proofs.chain.load_link.Goals as goal
+
+pub returns-in_err-machine-clause-refused : goal.returns-in_err-machine-clause-refused
+returns-in_err-machine-clause-refused g c =
+    let h : WhereAnswered (IsCorrectFrom (RefusesLink c.args.last.now) c.args.file
+    (call (Some (asked c.args.ask.now)) (g.F.Files.told c.args.files.now) (g.F.Files.told c.load_next.new.files))) c.in_err-machine.field-0.0 =
+    next_refused_as c.args.last.now c.args.file _ _ c.in_err-machine.ensures.refused in
+    search rules
+
+pub returns-in_err-cert-clause-refused : goal.returns-in_err-cert-clause-refused
+returns-in_err-cert-clause-refused g c =
+    let h : WhereAnswered (IsCorrectFrom (RefusesLink c.args.last.now) c.args.file
+    (call (Some (asked c.args.ask.now)) (g.F.Files.told c.args.files.now) (g.F.Files.told c.load_certificate.new.files))) c.in_err-cert.field-0.0 =
+    certificate_refused _ _ _ _ c.args.last.now c.in_ok-machine.field-0.machine c.args.file _ c.load_next.ensures.only_read c.in_ok-machine.ensures.spells
+    c.in_ok-machine.ensures.alike c.in_err-cert.ensures.refused in
+    search rules
