@@ -34,9 +34,11 @@ none_behind (c ∷ m ∷ ws) (suc zero) h = absurd (omega arith)
 none_behind (c ∷ m ∷ ws) (suc (suc k)) h = none_behind ws k (omega arith)
 
 -- the first machine's word, and numbers past all words
-pub first_place : (ws : List (List ℕ)) → get_or ws zero [] ≡ get_or (in_chain ws) zero []
-first_place [] = refl
-first_place (m ∷ ws) = refl
+pub first_place : (ws : List (List ℕ)) (n : ℕ) → n ≡ 0 → get_or ws n [] ≡ get_or (in_chain ws) n []
+first_place [] zero e = refl
+first_place [] (suc n) e = refl
+first_place (m ∷ ws) zero e = refl
+first_place (m ∷ ws) (suc n) e = absurd (omega arith)
 
 pub past_places : (ws : List (List ℕ)) (n : ℕ) → length ws ≤ n → get_or ws n [] ≡ get_or (in_chain ws) n []
 past_places [] zero h = refl

@@ -9,7 +9,8 @@ use Rattle.command_answers.specs.declared.answer.Answer.TheVariants.{Text}
 use Rattle.command_answers.specs.Programs.{IsOfProgramIn}
 
 -- bytes that spell a program, and the text of what it is compiled to
-pub program_answer : (bytes text lines : List ℕ) (program : Program) → length bytes ≤ most_text_bytes → ProgramSpells bytes program → IsCompiledText program text → lines ≡ text → IsOfProgramIn bytes (Text lines)
+pub program_answer : (bytes text lines : List ℕ) (program : Program) → length bytes ≤ most_text_bytes
+    → ProgramSpells bytes program → IsCompiledText program text → lines ≡ text → IsOfProgramIn bytes (Text lines)
 program_answer bytes text lines program few spells compiled e = record {
   program = program;
   spells = record { few = few; spells = spells; lawful = parts_lawful program text compiled };

@@ -1,6 +1,7 @@
 -- Which answer follows from what was read.
 use Rattle.std.specs.Prelude.{◌≡◌, ◌≢◌, ℕ, zero, suc, ◌+◌, List, [], ◌∷◌, Option, Some, None, is_some}
-use Rattle.command_words.specs.Words.{Asked, Check, Verify, Run, Replay, Fmt, Cuts, Generate, Compile, Schedule, Bind, Shrink, Chain}
+use Rattle.command_words.specs.Words.{Asked, Check, Verify, Run, Replay, Fmt, Cuts, Generate}
+use Rattle.command_words.specs.Words.{Compile, Schedule, Bind, Shrink, Chain}
 use Rattle.fs_model.specs.Machines.{Fsmd}
 use Rattle.fs_model.specs.Runs.{Inputs}
 use Rattle.fs_model.specs.Source.{Source}
@@ -42,13 +43,13 @@ Ends P file (content ∷ rest) answer = ⊥
 
 -- the next file is opened: it is refused, by R, and no file more is opened; or it spells a value, by S, and P says what follows
 -- from the files behind it
-pub data OpensWith (T : Type 0) (R : Operand → Content → Answer → Type 0) (S : T → List ℕ → Type 0) (P : T → (file : ℕ) → Reading → Answer → Type 0)
-    (file : ℕ) (content : Content) (rest : Reading) (answer : Answer) : Type 0 where
+pub data OpensWith (T : Type 0) (R : Operand → Content → Answer → Type 0) (S : T → List ℕ → Type 0)
+    (P : T → (file : ℕ) → Reading → Answer → Type 0) (file : ℕ) (content : Content) (rest : Reading) (answer : Answer) : Type 0 where
   Refused : R (operand file) content answer → rest ≡ [] → OpensWith T R S P file content rest answer
   Spelled : (value : T) → OfBytes content (S value) → P value (file + 1) rest answer → OpensWith T R S P file content rest answer
 
-abbrev pub Opens : (T : Type 0) → (R : Operand → Content → Answer → Type 0) → (S : T → List ℕ → Type 0) → (P : T → (file : ℕ) → Reading → Answer → Type 0)
-    → (file : ℕ) → Reading → Answer → Type 0
+abbrev pub Opens : (T : Type 0) → (R : Operand → Content → Answer → Type 0) → (S : T → List ℕ → Type 0)
+    → (P : T → (file : ℕ) → Reading → Answer → Type 0) → (file : ℕ) → Reading → Answer → Type 0
 Opens T R S P file [] answer = ⊥
 Opens T R S P file (content ∷ rest) answer = OpensWith T R S P file content rest answer
 
@@ -63,7 +64,8 @@ OpensParts P file r answer = Opens Source RefusesMachine SpellsParts P file r an
 abbrev pub OpensInputs : Fsmd → (P : Inputs → (file : ℕ) → Reading → Answer → Type 0) → (file : ℕ) → Reading → Answer → Type 0
 OpensInputs m P file r answer = Opens Inputs (RefusesInputs m) (SpellsInputs m) P file r answer
 
-abbrev pub OpensCertificate : (a b : Fsmd) → (P : List (Node Fact) → (file : ℕ) → Reading → Answer → Type 0) → (file : ℕ) → Reading → Answer → Type 0
+abbrev pub OpensCertificate : (a b : Fsmd) → (P : List (Node Fact) → (file : ℕ) → Reading → Answer → Type 0)
+    → (file : ℕ) → Reading → Answer → Type 0
 OpensCertificate a b P file r answer = Opens (List (Node Fact)) (RefusesCertificate a b) (SpellsCertificate a b) P file r answer
 
 abbrev pub OpensProgram : (P : Program → (file : ℕ) → Reading → Answer → Type 0) → (file : ℕ) → Reading → Answer → Type 0
@@ -77,7 +79,8 @@ OpensBinding m P file r answer = Opens Binding (RefusesBinding m) (SpellsBinding
 
 -- two machines do not have the same inputs and outputs, which R says of the answer, and no file more is opened; or they have, and
 -- P says what follows
-pub data Pairs (a b : Fsmd) (R : Answer → Type 0) (P : (file : ℕ) → Reading → Answer → Type 0) (file : ℕ) (r : Reading) (answer : Answer) : Type 0 where
+pub data Pairs (a b : Fsmd) (R : Answer → Type 0) (P : (file : ℕ) → Reading → Answer → Type 0)
+    (file : ℕ) (r : Reading) (answer : Answer) : Type 0 where
   Other : R answer → r ≡ [] → Pairs a b R P file r answer
   Alike : interface_fault a b ≡ None → P file r answer → Pairs a b R P file r answer
 
@@ -89,14 +92,16 @@ OpensPair P file r answer = OpensMachine (λ a. OpensMachine (λ b. Pairs a b (R
 
 -- the verdict on a certificate of two machines is not yes, which is the answer, told as that of the link of this number, and no
 -- file more is opened; or it is yes, and P says what follows
-pub data Judges (asked : Option Asked) (link : ℕ) (a b : Fsmd) (nodes : List (Node Fact)) (P : (file : ℕ) → Reading → Answer → Type 0)
-    (file : ℕ) (r : Reading) (answer : Answer) : Type 0 where
-  Fails : verdict_on a b nodes ≢ Yes → AtLink asked link (IsJudged a b nodes) answer → r ≡ [] → Judges asked link a b nodes P file r answer
+pub data Judges (asked : Option Asked) (link : ℕ) (a b : Fsmd) (nodes : List (Node Fact))
+    (P : (file : ℕ) → Reading → Answer → Type 0) (file : ℕ) (r : Reading) (answer : Answer) : Type 0 where
+  Fails : verdict_on a b nodes ≢ Yes → AtLink asked link (IsJudged a b nodes) answer → r ≡ []
+      → Judges asked link a b nodes P file r answer
   Holds : verdict_on a b nodes ≡ Yes → P file r answer → Judges asked link a b nodes P file r answer
 
--- the next two files are those of the link of this number: the next machine, and a certificate of it and of the last one. A refusal
--- is told as that of the link
-abbrev pub OpensLink : Option Asked → (link : ℕ) → (last : Fsmd) → (P : Fsmd → (file : ℕ) → Reading → Answer → Type 0) → (file : ℕ) → Reading → Answer → Type 0
+-- the next two files are those of the link of this number: the next machine, and a certificate of it and of the last one. A
+-- refusal is told as that of the link
+abbrev pub OpensLink : Option Asked → (link : ℕ) → (last : Fsmd) → (P : Fsmd → (file : ℕ) → Reading → Answer → Type 0)
+    → (file : ℕ) → Reading → Answer → Type 0
 OpensLink asked link last P file r answer =
     Opens Fsmd (λ f c. AtLink asked link (RefusesMachine f c)) SpellsMachine (λ next.
     Pairs last next (AtLink asked link (RefusesPair last next)) (
@@ -123,7 +128,8 @@ FollowsFrom (Some (Cuts machine)) = OpensMachine (λ m. Ends (λ answer. answer 
 FollowsFrom (Some (Generate loops)) = Ends (IsOfLoops loops)
 FollowsFrom (Some (Compile program)) = OpensProgram (λ p. Ends (IsOfProgram p))
 FollowsFrom (Some (Schedule machine units)) = OpensParts (λ parts. OpensUnits (λ counts. Ends (IsOfSchedule parts counts)))
-FollowsFrom (Some (Bind machine binding)) = OpensParts (λ parts. OpensBinding (machine_of parts) (λ b. Ends (IsOfBinding parts b)))
+FollowsFrom (Some (Bind machine binding)) =
+    OpensParts (λ parts. OpensBinding (machine_of parts) (λ b. Ends (IsOfBinding parts b)))
 FollowsFrom (Some (Shrink left right inputs steps)) = OpensPair (λ a b. OpensInputs a (λ ins. Ends (IsOfShrink steps a b ins)))
 FollowsFrom (Some (Chain files)) = OpensMachine (λ m. OpensLinks (Some (Chain files)) m m 0 (links_of files))
 

@@ -27,7 +27,8 @@ pub record AtLink (asked : Option Asked) (link : ℕ) (P : Answer → Type 0) (a
   pub meets : P stop
   pub is : answer ≡ Link (status_of stop) (link_lines asked link stop)
 
--- the answer to a chain whose links hold, so many: how many machines it has. The first one and the last one have the same behaviour
+-- the answer to a chain whose links hold, so many: how many machines it has. The first one and the last one have the same
+-- behaviour
 pub record IsOfChain (first last : Fsmd) (links : ℕ) (answer : Answer) : Type 0 where
   pub same : SameBehaviour first last
   pub is : answer ≡ Text (codes "yes: " ++ (decimal (links + 1) ++ codes " machines\n"))

@@ -44,5 +44,6 @@ RefusesUnits file content answer = RefusesKeys HaveUnitFault file content answer
 
 -- the answer to the machine of these parts under these units: its schedule, or the first state of which a transition uses more of a unit
 pub data IsOfSchedule (p : Source) (units : Units) (answer : Answer) : Type 0 where
-  IsOver : (q : ℕ) (k : Kind) → over_in units (machine_of p) ≡ Some (q, k) → answer ≡ Over (operand 1) (name_of (machine_of p) q) k → IsOfSchedule p units answer
+  IsOver : (q : ℕ) (k : Kind) → over_in units (machine_of p) ≡ Some (q, k) → answer ≡ Over (operand 1) (name_of (machine_of p) q) k
+      → IsOfSchedule p units answer
   InRows : HasLines (IsScheduleText units p) Text answer → IsOfSchedule p units answer

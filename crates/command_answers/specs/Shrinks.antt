@@ -21,6 +21,6 @@ pub record IsSmallText (limit : ℕ) (a b : Fsmd) (contents : List Content) (lin
 -- the answer to inputs of two machines, of runs of at most so many steps: where they show a difference, the end of the chain of
 -- first reductions that show one; and else that of a replay
 pub data IsOfShrink (limit : ℕ) (a b : Fsmd) (ins : Inputs) (answer : Answer) : Type 0 where
-  Smaller : ShowsDifference a b ins limit → (end : List Content) → EndsIn (Shows a b limit) (given_contents a ins) end → HasLines (IsSmallText limit a b end) Differs answer
-      → IsOfShrink limit a b ins answer
+  Smaller : ShowsDifference a b ins limit → (end : List Content) → EndsIn (Shows a b limit) (given_contents a ins) end
+      → HasLines (IsSmallText limit a b end) Differs answer → IsOfShrink limit a b ins answer
   Replayed : ¬ ShowsDifference a b ins limit → IsOfReplay limit a b ins answer → IsOfShrink limit a b ins answer

@@ -1,6 +1,7 @@
 -- The files of what words ask.
 use Rattle.std.specs.Prelude.{ℕ, Bool, true, false, Option, Some, None, List, [], ◌∷◌, get_or}
-use Rattle.command_words.specs.Words.{Asked, Check, Verify, Run, Replay, Fmt, Cuts, Generate, Compile, Schedule, Bind, Shrink, Chain}
+use Rattle.command_words.specs.Words.{Asked, Check, Verify, Run, Replay, Fmt, Cuts, Generate}
+use Rattle.command_words.specs.Words.{Compile, Schedule, Bind, Shrink, Chain}
 use Rattle.command_answers.specs.declared.answer.Operand.{Operand}
 
 -- the file of a number, in the order of work, from 0

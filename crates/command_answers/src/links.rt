@@ -98,7 +98,9 @@ pub fn add_link(
     ensures first { IfOk result (λ longer. longer.first ≡ chain.first) }
     ensures last { IfOk result (λ longer. longer.last ≡ next) }
     ensures holds { OnOk result (verdict_on chain.last next (map node_of cert.now.nodes.items) ≡ Yes) }
-    ensures fails { IfErr result (WhereAnswered (λ answer. (verdict_on chain.last next (map node_of cert.now.nodes.items) ≢ Yes) × AtLink (Some (asked ask.now)) link (IsJudged chain.last next (map node_of cert.now.nodes.items)) answer)) }
+    ensures fails { IfErr result (WhereAnswered (λ answer.
+        (verdict_on chain.last next (map node_of cert.now.nodes.items) ≢ Yes)
+        × AtLink (Some (asked ask.now)) link (IsJudged chain.last next (map node_of cert.now.nodes.items)) answer)) }
 {
     let last = copied(alloc, chain.last())?;
     let copy = copied(alloc, &next)?;

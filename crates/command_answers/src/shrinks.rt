@@ -49,9 +49,9 @@ fn shrunk_answer(
     }
 }
 
-/// What inputs of two machines with the same inputs and outputs answer that are to be made small, of runs of at most so many steps:
-/// where they show a difference, the lines of a counterexample, from the end of the chain of first reductions that show one; and
-/// else what a replay answers. The one refusal is out of memory.
+/// What inputs of two machines with the same inputs and outputs answer that are to be made small, of runs of at most so many
+/// steps: where they show a difference, the lines of a counterexample, from the end of the chain of first reductions that show
+/// one; and else what a replay answers. The one refusal is out of memory.
 pub fn shrink_inputs(
     alloc: Global,
     left: &Machine,

@@ -1,12 +1,13 @@
-use Rattle.std.proofs.Common.{◌∙◌, map, Some, rules}
+use Rattle.std.proofs.Common.{◌∙◌, map, Some}
 use Rattle.certificates.specs.View.{node_of}
 use Rattle.cert_check.specs.View.{verdict_in}
 use Rattle.command_words.specs.Words.{asked}
 use Rattle.command_answers.proofs.LinkAnswers.{link_fails}
 use Rattle.command_answers.proofs.links.add_link.Goals as goal
 
-pub returns-in_ok-answer-in-Err-Verdict-clause-fails : goal.returns-in_ok-answer-in-Err-Verdict-clause-fails
-returns-in_ok-answer-in-Err-Verdict-clause-fails c =
+pub returns-in-Err-Verdict-clause-fails : goal.returns-in-Err-Verdict-clause-fails
+returns-in-Err-Verdict-clause-fails c =
     let told = rw c.in-Err-Verdict.field-0-is at c.in-Err-Verdict.ensures.verdict in
-    link_fails (Some (asked c.args.ask.now)) c.args.link c.args.chain.last c.args.next c.in_ok-last.last c.in_ok-copy.copy (map node_of c.args.cert.now.nodes.items) (verdict_in c.in-Err-Verdict.verdict) c.in_ok-answer.answer
-    (c.in_ok-last.ensures ∙ c.last.ensures.last) c.in_ok-copy.ensures told.0 told.1 c.in_ok-answer.ensures
+    let nodes = map node_of c.args.cert.now.nodes.items in
+    link_fails (Some (asked c.args.ask.now)) c.args.link c.args.chain.last c.args.next c.in_ok-last.last c.in_ok-copy.copy nodes
+    (verdict_in c.in-Err-Verdict.verdict) c.in_ok-answer-in-Err-Verdict.answer (c.in_ok-last.ensures ∙ c.last.ensures.last) c.in_ok-copy.ensures told.0 told.1 c.in_ok-answer-in-Err-Verdict.ensures

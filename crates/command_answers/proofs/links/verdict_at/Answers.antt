@@ -1,5 +1,3 @@
-use Rattle.std.specs.Prelude.{◌≡◌, Some}
-use Rattle.command_words.specs.Words.{asked}
 use Rattle.command_answers.proofs.Maps.{ok_map}
 use Rattle.command_answers.proofs.links.verdict_at.Goals as goal
 

@@ -6,7 +6,9 @@ use Rattle.command_answers.proofs.programs.compile_program.Goals as goal
 
 pub returns-in-Ok-clause-compiled : goal.returns-in-Ok-clause-compiled
 returns-in-Ok-clause-compiled c =
-    program_answer c.args.bytes.now c.in-Ok.text.items c.of.result (program_of c.in_ok-program.program) c.requires c.in_ok-program.ensures.spells c.in-Ok.ensures.compiled c.of.ensures
+    let program = program_of c.in_ok-program.program in
+    let spells = c.in_ok-program.ensures.spells in
+    program_answer c.args.bytes.now c.in-Ok.text.items c.of.result program c.requires spells c.in-Ok.ensures.compiled c.of.ensures
 
 pub returns-in-Err-Check-clause-refused : goal.returns-in-Err-Check-clause-refused
 returns-in-Err-Check-clause-refused c =
