@@ -111,9 +111,9 @@ module _ (g : Call) (files : ℕ) (x : Answer) where
 
     module _ (o : Option Asked) (k : ℕ) (a b : Fsmd) (nodes : List (Node Fact)) (P : (file : ℕ) → Reading → Answer → Type 0) (n : ℕ) where
       judges_by : (r : Reading) → (IsCorrectFrom P n g x → OneFailed g files) → MayRead g n r → Judges o k a b nodes P n r x → OneFailed g files
-      judges_by r behind may (Fails no l e) =
+      judges_by r behind may (Fails other l e) =
           absurd (judged_fault a b (verdict_on a b nodes) l.stop l.meets.is (link_status statuses.Fault o k (IsJudged a b nodes) x l s))
-      judges_by r behind may (Holds yes p) = behind (record { reading = r; may_be_read = may; follows = p })
+      judges_by r behind may (Holds hold p) = behind (record { reading = r; may_be_read = may; follows = p })
 
     link : (o : Option Asked) (k : ℕ) (last : Fsmd) (P : Fsmd → (file : ℕ) → Reading → Answer → Type 0) (n : ℕ) → n + 1 < files
         → ((b : Fsmd) → IsCorrectFrom (P b) (n + 1 + 1) g x → OneFailed g files)

@@ -33,14 +33,14 @@ use Rattle.fsmd_tool.proofs.Says.{well, put_lines}
 
 -- the verdict on a certificate is yes, and this follows
 record IsYes (a b : Fsmd) (nodes : List (Node Fact)) (P : (file : ℕ) → Reading → Answer → Type 0) (n : ℕ) (g : Call) (x : Answer) : Type 0 where
-  yes : verdict_on a b nodes ≡ Yes
+  hold : verdict_on a b nodes ≡ Yes
   rest : IsCorrectFrom P n g x
 
 module _ (o : Option Asked) (k : ℕ) (a b : Fsmd) (nodes : List (Node Fact)) (P : (file : ℕ) → Reading → Answer → Type 0) (n : ℕ) (g : Call) (x : Answer) where
   judged : (r : Reading) → HasStatus statuses.Fine x → MayRead g n r → Judges o k a b nodes P n r x → IsYes a b nodes P n g x
-  judged r s may (Fails no l e) = absurd (no (judged_yes a b (verdict_on a b nodes) l.stop l.meets.is
+  judged r s may (Fails other l e) = absurd (other (judged_yes a b (verdict_on a b nodes) l.stop l.meets.is
       (link_status statuses.Fine o k (IsJudged a b nodes) x l s)))
-  judged r s may (Holds yes p) = record { yes = yes; rest = record { reading = r; may_be_read = may; follows = p } }
+  judged r s may (Holds hold p) = record { hold = hold; rest = record { reading = r; may_be_read = may; follows = p } }
 
 -- the files of a link, where its answer is none of its own, and what follows from the files behind it
 record OfLink (g : Call) (n : ℕ) (last : Fsmd) (P : Fsmd → (file : ℕ) → Reading → Answer → Type 0) (x : Answer) : Type 0 where
@@ -70,7 +70,7 @@ module _ (o : Option Asked) (k : ℕ) (last : Fsmd) (P : Fsmd → (file : ℕ) �
       let y = judged o k last b q.value (P b) (n + 1 + 1) g x q.rest.reading s q.rest.may_be_read q.rest.follows in
       let two : n + 1 + 1 ≡ n + 2 = omega arith in
       let rest = subst (λ i. IsCorrectFrom (P b) i g x) two y.rest in
-      record { next = b; nodes = q.value; machine = m.spells; alike = t.alike; certificate = q.spells; hold = y.yes; rest = rest }
+      record { next = b; nodes = q.value; machine = m.spells; alike = t.alike; certificate = q.spells; hold = y.hold; rest = rest }
 
 -- ---- all links
 

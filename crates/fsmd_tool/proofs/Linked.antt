@@ -131,16 +131,16 @@ pub link_made : {E : Type 0} (n : ℕ) (g : Call) (last loaded next : Fsmd) (nod
     → MayHold (held g (operand n)) (SpellsMachine next) → interface_fault loaded next ≡ None
     → MayHold (held g (operand (n + 1))) (SpellsCertificate loaded next nodes) → (r : Result ChainEnds E) → OnOk r (verdict_on last next nodes ≡ Yes)
     → IfOk r (λ c. c.last ≡ next) → IfOk r (λ c. LinkHolds g n last (λ b. b ≡ c.last))
-link_made n g last loaded next nodes e machine same cert (Ok c) yes is = record {
+link_made n g last loaded next nodes e machine same cert (Ok c) hold is = record {
   next = next;
   nodes = nodes;
   machine = machine;
   alike = subst (λ v. interface_fault v next ≡ None) e same;
   certificate = subst (λ v. MayHold (held g (operand (n + 1))) (SpellsCertificate v next nodes)) e cert;
-  hold = yes;
+  hold = hold;
   rest = sym is;
 }
-link_made n g last loaded next nodes e machine same cert (Err x) yes is = tt
+link_made n g last loaded next nodes e machine same cert (Err x) hold is = tt
 
 -- and a chain that is given none has a link that fails
 pub link_unmade : {T : Type 0} (o : Option Asked) (k n : ℕ) (g : Call) (last loaded next : Fsmd) (nodes : List (Node Fact)) → loaded ≡ last
@@ -159,8 +159,8 @@ link_unmade o k n g last loaded next nodes e machine same cert r h =
 -- what follows of a link whatever follows behind it
 judges_map : (o : Option Asked) (k : ℕ) (a b : Fsmd) (nodes : List (Node Fact)) (P : (file : ℕ) → Reading → Answer → Type 0) (n : ℕ) (r : Reading) (x : Answer)
     → Judges o k a b nodes NothingFollows n r x → Judges o k a b nodes P n r x
-judges_map o k a b nodes P n r x (Fails no l e) = Fails no l e
-judges_map o k a b nodes P n r x (Holds yes p) = absurd p
+judges_map o k a b nodes P n r x (Fails other l e) = Fails other l e
+judges_map o k a b nodes P n r x (Holds hold p) = absurd p
 
 link_map : (o : Option Asked) (k : ℕ) (last : Fsmd) (P : Fsmd → (file : ℕ) → Reading → Answer → Type 0) (x : Answer) (n : ℕ) (r : Reading)
     → OpensLink o k last (λ b. NothingFollows) n r x → OpensLink o k last P n r x

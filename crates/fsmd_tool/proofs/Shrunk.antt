@@ -76,5 +76,5 @@ is_shrunk g p a e t =
       shows = s.shows;
       ends = s.ends;
       told = s.told.holds;
-      put = put_lines g p x s.told.lines w.got (ap (λ y. lines_of y g.asked) s.told.is);
+      put = put_lines g p x s.told.lines w.got (ap (λ y. lines_of y g.asked) {y = Differs s.told.lines} s.told.is);
     }

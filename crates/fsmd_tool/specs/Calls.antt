@@ -47,7 +47,8 @@ pub record MayHold (known : Held) (P : List ℕ → Type 0) : Type 0 where
 -- each file from a number on that was opened may be read so, by what is known of it alone
 abbrev pub MayRead : Call → (file : ℕ) → Reading → Type 0
 MayRead g file [] = Unit {0}
-MayRead g file (content ∷ rest) = MayBeRead (held g (operand file)) (FailedToRead g (operand file)) content × MayRead g (file + 1) rest
+MayRead g file (content ∷ rest) =
+    MayBeRead (held g (operand file)) (FailedToRead g (operand file)) content × MayRead g (file + 1) rest
 
 -- the answer follows, by P, from what may have been read of the files from a number on
 pub record IsCorrectFrom (P : (file : ℕ) → Reading → Answer → Type 0) (file : ℕ) (g : Call) (answer : Answer) : Type 0 where

@@ -41,7 +41,8 @@ use Rattle.fsmd_tool.specs.Stores.{stores, IsKept, IsStored, IsUnstored}
 -- two machines are compared: those that the first two files of a check spell, each where it is known what it holds, or those of
 -- so many loops
 pub data AreCompared (g : Call) (a b : Fsmd) : Type 0 where
-  OfFiles : IsTrue (is_check g.asked) → MayHold (held g (operand 0)) (SpellsMachine a) → MayHold (held g (operand 1)) (SpellsMachine b) → AreCompared g a b
+  OfFiles : IsTrue (is_check g.asked) → MayHold (held g (operand 0)) (SpellsMachine a) → MayHold (held g (operand 1)) (SpellsMachine b)
+      → AreCompared g a b
   OfLoops : (loops : ℕ) → g.asked ≡ Some (Generate loops) → a ≡ left_of loops → b ≡ right_of loops → AreCompared g a b
 
 -- machines with the same inputs and outputs are compared
@@ -146,8 +147,9 @@ pub record IsShrunk (g : Call) (p : Put) : Type 0 where
   pub told : IsSmallText (shrink_limit g.asked) left right end lines
   pub put : HasPut g p lines
 
--- the files of the link that begins with this number spell the next machine, with the same inputs and outputs as the last one, and
--- a lawful certificate of both, each where it is known what it holds; all its obligations hold, and so does Rest of the next machine
+-- the files of the link that begins with this number spell the next machine, with the same inputs and outputs as the last one,
+-- and a lawful certificate of both, each where it is known what it holds; all its obligations hold, and so does Rest of the next
+-- machine
 pub record LinkHolds (g : Call) (file : ℕ) (last : Fsmd) (Rest : Fsmd → Type 0) : Type 0 where
   pub next : Fsmd
   pub nodes : List (Node Fact)

@@ -37,4 +37,5 @@ RefusesBoth file r answer = OpensMachine RefusesNext file r answer
 -- the next two files are refused as those of the link of a chain behind this machine
 abbrev pub RefusesLink : Fsmd → (file : ℕ) → Reading → Answer → Type 0
 RefusesLink last file r answer =
-    OpensMachine (λ next. Pairs last next (RefusesPair last next) (OpensCertificate last next (λ nodes. NothingFollows))) file r answer
+    OpensMachine (λ next. Pairs last next (RefusesPair last next) (
+    OpensCertificate last next (λ nodes. NothingFollows))) file r answer

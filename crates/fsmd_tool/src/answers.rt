@@ -63,8 +63,8 @@ fn verify_from<F: Files>(
 ) -> Result<Answer, Refused>
     requires paired { pairing.now ≡ positions left.now right.now }
     requires alike { interface_fault left.now right.now ≡ None }
-    ensures answers { AnswersBy (IsCorrectFrom (OpensCertificate left.now right.now (λ nodes. Ends (IsJudged left.now right.now nodes))) 2
-        (call (Some (asked ask.now)) (F.told files.old) (F.told files.new))) result }
+    ensures answers { AnswersBy (IsCorrectFrom (OpensCertificate left.now right.now (λ nodes. Ends (IsJudged left.now right.now nodes)))
+        2 (call (Some (asked ask.now)) (F.told files.old) (F.told files.new))) result }
     ensures only_read { OnlyRead (F.told files.old) (F.told files.new) }
 {
     let cert = load_certificate(alloc, Operand(2), ask, left, right, pairing, files)?;

@@ -29,7 +29,8 @@ use fs_pair::positions::Pairing;
 use hls_shrink::Chain;
 use std::alloc::{AllocError, Global};
 
-// What the two files of a link spell: the next machine, with the same inputs and outputs as the last one, and a certificate of both.
+// What the two files of a link spell: the next machine, with the same inputs and outputs as the last one, and a certificate of
+// both.
 #[derive(Drop)]
 struct Link {
     machine: Machine,
@@ -46,10 +47,12 @@ fn load_link<F: Files>(
     files: &mut F,
 ) -> Result<Link, Refused>
     requires { file < 128 }
-    ensures spells { IfOk result (λ l. MayHold ((F.told files.old).holds (word_of (Some (asked ask.now)) (operand file))) (SpellsMachine l.machine)) }
+    ensures spells { IfOk result (λ l. MayHold ((F.told files.old).holds (word_of (Some (asked ask.now)) (operand file)))
+        (SpellsMachine l.machine)) }
     ensures alike { IfOk result (λ l. interface_fault last.now l.machine ≡ None) }
     ensures paired { IfOk result (λ l. l.pairing ≡ positions last.now l.machine) }
-    ensures certificate { IfOk result (λ l. MayHold ((F.told files.old).holds (word_of (Some (asked ask.now)) (operand (file + 1))))
+    ensures certificate { IfOk result (λ l. MayHold
+        ((F.told files.old).holds (word_of (Some (asked ask.now)) (operand (file + 1))))
         (SpellsCertificate last.now l.machine (map node_of l.cert.nodes.items))) }
     ensures refused { IfErr result (WhereAnswered (IsCorrectFrom (RefusesLink last.now) file
         (call (Some (asked ask.now)) (F.told files.old) (F.told files.new)))) }
@@ -72,8 +75,8 @@ fn load_link<F: Files>(
     })
 }
 
-// A chain of which so many links hold, with the next one, or the answer to this one: the first refusal, or the verdict that is not
-// yes.
+// A chain of which so many links hold, with the next one, or the answer to this one: the first refusal, or the verdict that is
+// not yes.
 fn add_next<F: Files>(
     alloc: Global,
     ask: &Ask,
@@ -83,10 +86,11 @@ fn add_next<F: Files>(
 ) -> Result<Chain, Refused>
     requires { held < 64 }
     ensures first { IfOk result (λ longer. longer.first ≡ chain.first) }
-    ensures holds { IfOk result (λ longer. LinkHolds (call (Some (asked ask.now)) (F.told files.old) (F.told files.new)) (2 * held + 1)
-        chain.last (λ next. next ≡ longer.last)) }
-    ensures refused { IfErr result (WhereAnswered (IsCorrectFrom (OpensLink (Some (asked ask.now)) (held + 1) chain.last (λ _. NothingFollows))
-        (2 * held + 1) (call (Some (asked ask.now)) (F.told files.old) (F.told files.new)))) }
+    ensures holds { IfOk result (λ longer. LinkHolds (call (Some (asked ask.now)) (F.told files.old) (F.told files.new))
+        (2 * held + 1) chain.last (λ next. next ≡ longer.last)) }
+    ensures refused { IfErr result (WhereAnswered (IsCorrectFrom
+        (OpensLink (Some (asked ask.now)) (held + 1) chain.last (λ _. NothingFollows)) (2 * held + 1)
+        (call (Some (asked ask.now)) (F.told files.old) (F.told files.new)))) }
     ensures only_read { OnlyRead (F.told files.old) (F.told files.new) }
 {
     let link = match load_link(alloc, 2 * held + 1, ask, chain.last(), files) {
@@ -141,8 +145,8 @@ fn link_count(words: &[String]) -> u32
     (words.len().saturating_sub(1) / 2) as u32
 }
 
-/// What `chain` answers to the files that its words name: how many machines it has, where all links hold, or the answer to the first
-/// that does not.
+/// What `chain` answers to the files that its words name: how many machines it has, where all links hold, or the answer to the
+/// first that does not.
 pub fn chain_files<F: Files>(
     alloc: Global,
     ask: &Ask,
@@ -150,7 +154,8 @@ pub fn chain_files<F: Files>(
     files: &mut F,
 ) -> Result<Answer, Refused>
     requires { length words.now ≤ 129 }
-    ensures answers { AnswersBy (IsCorrectFrom (OpensMachine (λ m. OpensLinks (Some (asked ask.now)) m m 0 (links_of (map string_bytes words.now)))) 0
+    ensures answers { AnswersBy (IsCorrectFrom
+        (OpensMachine (λ m. OpensLinks (Some (asked ask.now)) m m 0 (links_of (map string_bytes words.now)))) 0
         (call (Some (asked ask.now)) (F.told files.old) (F.told files.new))) result }
     ensures only_read { OnlyRead (F.told files.old) (F.told files.new) }
 {

@@ -126,8 +126,10 @@ pub fn drive<F: Files, S: Sink>(
     ensures compiled { result ≡ Fine → AskToCompile words.now → IsCompiled (call (asked_in words.now) (F.told files.old) (F.told files.new)) (put result (S.told out.old) (S.told out.new)) }
     ensures in_rows { result ≡ Fine → AskToSchedule words.now → IsInRows (call (asked_in words.now) (F.told files.old) (F.told files.new)) (put result (S.told out.old) (S.told out.new)) }
     ensures in_registers { result ≡ Fine → AskToBind words.now → IsInRegisters (call (asked_in words.now) (F.told files.old) (F.told files.new)) (put result (S.told out.old) (S.told out.new)) }
-    ensures shrunk { result ≡ Differ → AskToShrink words.now → IsShrunk (call (asked_in words.now) (F.told files.old) (F.told files.new)) (put result (S.told out.old) (S.told out.new)) }
-    ensures chained { result ≡ Fine → AskToChain words.now → IsChained (call (asked_in words.now) (F.told files.old) (F.told files.new)) (put result (S.told out.old) (S.told out.new)) }
+    ensures shrunk { result ≡ Differ → AskToShrink words.now
+        → IsShrunk (call (asked_in words.now) (F.told files.old) (F.told files.new)) (put result (S.told out.old) (S.told out.new)) }
+    ensures chained { result ≡ Fine → AskToChain words.now
+        → IsChained (call (asked_in words.now) (F.told files.old) (F.told files.new)) (put result (S.told out.old) (S.told out.new)) }
     ensures fault { result ≡ Fault → HasCause (call (asked_in words.now) (F.told files.old) (F.told files.new)) (put result (S.told out.old) (S.told out.new)) }
     ensures counts { NoneFell (F.told files.old).faults (F.told files.new).faults }
     ensures store_counts { NoneFell (F.told files.old).store_faults (F.told files.new).store_faults }

@@ -58,7 +58,8 @@ pub fn load_next<F: Files>(
     left: &Machine,
     files: &mut F,
 ) -> Result<Next, Refused>
-    ensures spells { IfOk result (λ n. MayHold ((F.told files.old).holds (word_of (Some (asked ask.now)) file)) (SpellsMachine n.machine)) }
+    ensures spells { IfOk result (λ n. MayHold ((F.told files.old).holds (word_of (Some (asked ask.now)) file))
+        (SpellsMachine n.machine)) }
     ensures alike { IfOk result (λ n. interface_fault left.now n.machine ≡ None) }
     ensures paired { IfOk result (λ n. n.pairing ≡ positions left.now n.machine) }
     ensures refused { IfErr result (WhereAnswered (IsCorrectFrom (RefusesNext left.now) file.0
@@ -70,11 +71,13 @@ pub fn load_next<F: Files>(
     Ok(Next { machine, pairing })
 }
 
-/// Loads the first two files of a call, the first one first, or answers the first refusal: of a file, and then that the machines have
-/// other inputs or outputs.
+/// Loads the first two files of a call, the first one first, or answers the first refusal: of a file, and then that the machines
+/// have other inputs or outputs.
 pub fn load_pair<F: Files>(alloc: Global, ask: &Ask, files: &mut F) -> Result<Pair, Refused>
-    ensures left { IfOk result (λ p. MayHold ((F.told files.old).holds (word_of (Some (asked ask.now)) (operand 0))) (SpellsMachine p.left)) }
-    ensures right { IfOk result (λ p. MayHold ((F.told files.old).holds (word_of (Some (asked ask.now)) (operand 1))) (SpellsMachine p.right)) }
+    ensures left { IfOk result (λ p. MayHold ((F.told files.old).holds (word_of (Some (asked ask.now)) (operand 0)))
+        (SpellsMachine p.left)) }
+    ensures right { IfOk result (λ p. MayHold ((F.told files.old).holds (word_of (Some (asked ask.now)) (operand 1)))
+        (SpellsMachine p.right)) }
     ensures alike { IfOk result (λ p. interface_fault p.left p.right ≡ None) }
     ensures paired { IfOk result (λ p. p.pairing ≡ positions p.left p.right) }
     ensures refused { IfErr result (WhereAnswered (IsCorrectFrom RefusesBoth 0

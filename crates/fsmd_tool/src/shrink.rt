@@ -28,7 +28,8 @@ fn shrink_from<F: Files>(
     requires ports { IsTrue (has_no_input_port pair.now.left) }
     requires alike { interface_fault pair.now.left pair.now.right ≡ None }
     requires steps { 1 ≤ steps }
-    ensures answers { AnswersBy (IsCorrectFrom (OpensInputs pair.now.left (λ ins. Ends (IsOfShrink steps pair.now.left pair.now.right ins))) 2
+    ensures answers { AnswersBy (IsCorrectFrom
+        (OpensInputs pair.now.left (λ ins. Ends (IsOfShrink steps pair.now.left pair.now.right ins))) 2
         (call (Some (asked ask.now)) (F.told files.old) (F.told files.new))) result }
     ensures only_read { OnlyRead (F.told files.old) (F.told files.new) }
 {

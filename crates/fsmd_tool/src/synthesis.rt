@@ -64,7 +64,8 @@ fn bind_from<F: Files>(
     files: &mut F,
 ) -> Result<Answer, Refused>
     requires { IsBuiltOf (source_of loaded.now.parts) loaded.now.machine }
-    ensures answers { AnswersBy (IsCorrectFrom (OpensBinding (machine_of (source_of loaded.now.parts)) (λ b. Ends (IsOfBinding (source_of loaded.now.parts) b))) 1
+    ensures answers { AnswersBy (IsCorrectFrom
+        (OpensBinding (machine_of (source_of loaded.now.parts)) (λ b. Ends (IsOfBinding (source_of loaded.now.parts) b))) 1
         (call (Some (asked ask.now)) (F.told files.old) (F.told files.new))) result }
     ensures only_read { OnlyRead (F.told files.old) (F.told files.new) }
 {
@@ -74,7 +75,8 @@ fn bind_from<F: Files>(
 
 /// What `bind` answers: a machine with registers for its locals, or the first branch that loses one.
 pub fn bind_files<F: Files>(alloc: Global, ask: &Ask, files: &mut F) -> Result<Answer, Refused>
-    ensures answers { AnswersBy (IsCorrectFrom (OpensParts (λ parts. OpensBinding (machine_of parts) (λ b. Ends (IsOfBinding parts b)))) 0
+    ensures answers { AnswersBy (IsCorrectFrom
+        (OpensParts (λ parts. OpensBinding (machine_of parts) (λ b. Ends (IsOfBinding parts b)))) 0
         (call (Some (asked ask.now)) (F.told files.old) (F.told files.new))) result }
     ensures only_read { OnlyRead (F.told files.old) (F.told files.new) }
 {

@@ -15,16 +15,16 @@ loop-held-preserved g c =
     links_next (Some (asked c.args.ask.now)) c.args.first c.args.links (g.F.Files.told c.args.files.now)
     c.loop-held.chain.first c.loop-held.chain.last c.loop-held.held (g.F.Files.told c.loop-held.files) c.loop-held.invariant c.loop-held-test.true
     (g.F.Files.told c.add_next.new.files)
-    c.in_ok-add_next.field-0.first c.in_ok-add_next.field-0.last c.in_ok-add_next.ensures.first c.in_ok-add_next.ensures.holds
+    c.in_ok-chain-2.chain.first c.in_ok-chain-2.chain.last c.in_ok-chain-2.ensures.first c.in_ok-chain-2.ensures.holds
     c.add_next.ensures.only_read
 
-pub returns-in_err-add_next-clause-answers : goal.returns-in_err-add_next-clause-answers
-returns-in_err-add_next-clause-answers g c =
+pub returns-in_err-chain-2-clause-answers : goal.returns-in_err-chain-2-clause-answers
+returns-in_err-chain-2-clause-answers g c =
     let h : WhereAnswered (IsCorrectFrom (OpensLinks (Some (asked c.args.ask.now)) c.args.first c.args.first 0 c.args.links) 1
-    (call (Some (asked c.args.ask.now)) (g.F.Files.told c.args.files.now) (g.F.Files.told c.add_next.new.files))) c.in_err-add_next.field-0.0 =
+    (call (Some (asked c.args.ask.now)) (g.F.Files.told c.args.files.now) (g.F.Files.told c.add_next.new.files))) c.in_err-chain-2.field-0.0 =
     links_stop (Some (asked c.args.ask.now)) c.args.first c.args.links (g.F.Files.told c.args.files.now)
     c.loop-held.chain.first c.loop-held.chain.last c.loop-held.held (g.F.Files.told c.loop-held.files)
-    c.loop-held.invariant c.loop-held-test.true _ _ c.in_err-add_next.ensures.refused in
+    c.loop-held.invariant c.loop-held-test.true _ _ c.in_err-chain-2.ensures.refused in
     search rules
 
 pub returns-clause-answers : goal.returns-clause-answers
