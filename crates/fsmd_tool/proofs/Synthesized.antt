@@ -1,5 +1,5 @@
 -- What the status of a call of synthesis tells.
-use Rattle.std.proofs.Common.{◌≡◌, ℕ, List, Option, Some, refl, ap}
+use Rattle.std.proofs.Common.{◌≡◌, Option, Some, refl, ap}
 use Rattle.std.specs.Prelude.{IsTrue}
 use Rattle.std.proofs.lemmas.Bool.{false≢true}
 use Rattle.command_words.specs.Words.{Asked, Compile, Schedule, Bind}
@@ -105,5 +105,5 @@ is_in_registers g p a e t =
       second = u.spells;
       is = l.holds;
       put = put_lines g p x l.lines w.got
-          (ap (λ y. lines_of y g.asked) l.is);
+          (ap (λ y. lines_of y g.asked) {y = Text l.lines} l.is);
     }
