@@ -1,6 +1,7 @@
 #!/usr/bin/env bash
-# From a program to registers, step by step, each step checked: the machine of the program, its schedules under two and under one
-# multiplier, and the schedule with two registers for its six locals. Prints a line a step, and one of the steps together.
+# From a program to registers, step by step: the machine of the program, its schedules under two and under one multiplier, and the
+# schedule with two registers for its six locals. Each step from a machine to a machine is checked. Prints a line a step, and one
+# of the steps together, from the compiled machine on.
 set -eu
 here=$(cd "$(dirname "$0")" && pwd)
 work=$(mktemp -d)
@@ -24,5 +25,5 @@ step 'two multipliers' compiled two
 step 'one multiplier' compiled one
 "$program" bind "$work/two.fsmd" "$here/registers.json" > "$work/bound.fsmd"
 step 'two registers' two bound
-printf 'from the program to registers: '
+printf 'from the compiled machine to registers: '
 "$program" chain "$work"/{compiled.fsmd,two.json,two.fsmd,bound.json,bound.fsmd}
