@@ -1,4 +1,5 @@
-//! What `chain` answers, from its files: link by link, with two machines and one certificate at a time.
+//! What `chain` answers, from its files, link by link. Between links two machines are kept; a link takes the next one, a
+//! certificate, and copies of two machines for the line of its verdict.
 
 ghost use Rattle.std.specs.Prelude.{◌≡◌, ◌+◌, ◌*◌, ◌<◌, ◌≤◌, length, map, string_bytes, IfOk, None, Some};
 ghost use Rattle.std.specs.Result.{IfErr};

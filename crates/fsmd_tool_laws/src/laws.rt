@@ -120,8 +120,8 @@ pub fn one_answer_follows()
     texts_are_read();
 }
 
-/// No file is opened that is not named.
-pub fn only_named_files_are_opened()
+/// An answer follows from what was read of no more files than are named.
+pub fn answers_follow_from_named_files()
     ensures { (o : Option Asked) (r : Reading) (x : Answer) → Follows o r x → length r ≤ length (files_of o) }
 {}
 
