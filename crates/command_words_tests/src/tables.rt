@@ -170,7 +170,9 @@ fn longest_chain(rt: HostRuntime) -> Result<(), Fail> {
     );
     let even = of_chain(alloc, 128)?;
     assert!(rt; even.as_str() == "Usage", "{even}");
-    let longer = of_chain(alloc, 131)?;
+    let longer = of_chain(alloc, 130)?;
     assert!(rt; longer.as_str() == "Usage", "{longer}");
+    let longer_and_odd = of_chain(alloc, 131)?;
+    assert!(rt; longer_and_odd.as_str() == "Usage", "{longer_and_odd}");
     Ok(())
 }
