@@ -1,11 +1,11 @@
 -- Machines that differ only in the names of their states are alike.
 use Rattle.std.proofs.Common.{◌≡◌, ℕ, refl, ap, sym, subst, ◌∙◌, Bool, true, Some}
-use Rattle.std.specs.Prelude.{slice_get}
+use Rattle.std.specs.Prelude.{map, slice_get}
 use Rattle.fs_model.specs.declared.parts.Sort.{Sort}
 use Rattle.fs_model.specs.declared.parts.Sort.TheVariants as sort
 use Rattle.fs_model.specs.Machines.{Fsmd}
 use Rattle.fs_model.specs.Runs.{is_scalar, is_array, is_port}
-use Rattle.fs_rules.specs.Sound.{has_sort}
+use Rattle.fs_rules.specs.Sound.{has_sort, names_differ}
 use Rattle.fs_ast.specs.Sound.{IsSound, branch_count}
 use Rattle.fs_cut.specs.Paths.{Point, Path, IsPath, state_of, target_of, steps_in}
 use Rattle.fs_cut.proofs.Listed.{path_unique, passes_end}
@@ -18,22 +18,28 @@ use Rattle.alike_names.proofs.Pairs.{own, stands_once, paired}
 use Rattle.alike_names.proofs.OwnExpressions.{AreOwn, own_initial, own_literals}
 use Rattle.alike_names.proofs.SamePaths.{branch_fine, same_count, same_point, same_state, path_back, same_literals, same_left, own_left}
 
-module _ (a b : Fsmd) (sound : IsSound a) (same : DifferInNames a b) where
+module _ (a b : Fsmd) (differ : names_differ (map (λ v. v.name) a.variables) ≡ true) (same : a.variables ≡ b.variables) where
   -- twins have one number
   one_number : (σ : Sort) (x y : ℕ) → AreTwins a b σ x y → x ≡ y
-  one_number σ x y t =
-      one_name a.variables x y t.variable t.variable sound.variables_differ t.left (ap (λ vs. slice_get vs y) same.variables ∙ t.right) refl
+  one_number σ x y t = one_name a.variables x y t.variable t.variable differ t.left (ap (λ vs. slice_get vs y) same ∙ t.right) refl
 
   there : (test : Sort → Bool) (σ : Sort) → test σ ≡ true → (x y : ℕ) → AreTwins a b σ x y → has_sort test (slice_get a.variables x) ≡ true
   there test σ h x y t = ap (has_sort test) t.left ∙ ap test t.sorted ∙ h
 
-  same_to_twin : (s : Expressions) → AreOwn a b same.variables s → SameLeft a b s s
+  pub same_to_twin : (s : Expressions) → AreOwn a b same s → SameLeft a b s s
   same_to_twin s own = record {
     scalars = λ x y t. subst (λ z. Same a b (s.scalar x) (s.scalar z)) (one_number sort.Scalar x y t) (own.scalar x (there is_scalar sort.Scalar refl x y t));
     arrays = λ x y t. subst (λ z. SameArray a b (s.array x) (s.array z)) (one_number sort.Array x y t) (own.array x (there is_array sort.Array refl x y t));
     ports = λ x y t. subst (λ z. SameList a b (s.port x) (s.port z)) (one_number sort.Port x y t) (own.port x (there is_port sort.Port refl x y t));
   }
 
+  pub declare_the_same : DeclareTheSame a b
+  declare_the_same = record {
+    forth = λ x v e. (x, sym (ap (λ vs. slice_get vs x) same) ∙ e);
+    back = λ x v e. (x, ap (λ vs. slice_get vs x) same ∙ e);
+  }
+
+module _ (a b : Fsmd) (sound : IsSound a) (same : DifferInNames a b) where
   its_literals : (p : Path) → SameLiterals a b (literals_of a p) (literals_of b p)
   its_literals p =
       let ls = literals_of a p in
@@ -44,7 +50,7 @@ module _ (a b : Fsmd) (sound : IsSound a) (same : DifferInNames a b) where
   its_values p =
       let s = left_after a p in
       subst (SameLeft a b s) (same_left a b same (steps_in p) initial)
-      (same_to_twin s (own_left a b same sound (steps_in p) initial (own_initial a b same.variables)))
+      (same_to_twin a b sound.variables_differ same.variables s (own_left a b same sound (steps_in p) initial (own_initial a b same.variables)))
 
   its_path : (p : Path) → IsPath a p → AlikePaths a b (own_pairs a) p p
   its_path p w = record {
@@ -70,12 +76,6 @@ module _ (a b : Fsmd) (sound : IsSound a) (same : DifferInNames a b) where
         paths = alike_paths P;
       }
 
-  declare_the_same : DeclareTheSame a b
-  declare_the_same = record {
-    forth = λ x v e. (x, sym (ap (λ vs. slice_get vs x) same.variables) ∙ e);
-    back = λ x v e. (x, ap (λ vs. slice_get vs x) same.variables ∙ e);
-  }
-
   alike_points : (k : ℕ) (P Q : Point) → slice_get (own_pairs a) k ≡ Some (P, Q) → AlikePoints a b (own_pairs a) P Q
   alike_points k P Q e =
       let s : P ≡ Q = (own a k P Q e).same in
@@ -83,7 +83,7 @@ module _ (a b : Fsmd) (sound : IsSound a) (same : DifferInNames a b) where
 
   pub alike : Alike a b (own_pairs a)
   alike = record {
-    declare_the_same = declare_the_same;
+    declare_the_same = declare_the_same a b sound.variables_differ same.variables;
     left_once = λ i j P Q R e g. stands_once a i j P Q P R e g refl;
     right_once = λ i j P Q R e g. stands_once a i j P R Q R e g ((own a i P R e).same ∙ sym (own a j Q R g).same);
     starts = (0, refl);
