@@ -29,14 +29,15 @@ crates_below() {
   printf '%s\n' "${!found[@]}" | LC_ALL=C sort
 }
 
-# Prints the checksum of what the program is made of: of `fsmd` and of each crate below it its line of crates.txt, and each
-# .rt and .antt file of its src/, specs/ and proofs/ with its path. It is the same in each folder and under each locale.
-sources_sum() (
+# Prints the checksum of what a program is made of, `fsmd` where none is named: of its crate and of each below it its line of
+# crates.txt, and each .rt and .antt file of its src/, specs/ and proofs/ with its path. It is the same in each folder and under
+# each locale.
+sources_sum() ( # [NAME]
   local crates=() lines=() files=() crate sum LC_ALL=C
   cd "$root" || exit
   shopt -s globstar nullglob dotglob
   read_crates
-  mapfile -t crates < <(crates_below fsmd)
+  mapfile -t crates < <(crates_below "${1:-fsmd}")
   for crate in "${crates[@]}"; do
     lines+=("$crate:${libraries[$crate]}")
     files+=("crates/$crate"/{src,specs,proofs}/**/*.{rt,antt})
@@ -51,18 +52,26 @@ file_sum() {
 }
 
 # Beside a program stands its record: its checksum, that of the sources that it was made of, and the line of the kit that made it.
+# In release/, where two programs stand, that of `fsmd_show` is fsmd_show-record.
+record_of() { # PROGRAM
+  case $1 in
+    */release/fsmd_show-*) printf '%s\n' "${1%/*}/fsmd_show-record" ;;
+    *) printf '%s\n' "${1%/*}/record" ;;
+  esac
+}
 write_record() { # PROGRAM SOURCES_SUM
-  printf 'program %s\nsources %s\nkit %s\n' "$(file_sum "$1")" "$2" "$(rt version)" > "${1%/*}/record"
+  printf 'program %s\nsources %s\nkit %s\n' "$(file_sum "$1")" "$2" "$(rt version)" > "$(record_of "$1")"
 }
 
 # Prints why a program is not that of the sources with this checksum, and nothing where it is.
 differs() { # PROGRAM SOURCES_SUM
-  local program="" sources="" word rest
+  local program="" sources="" word rest record
+  record=$(record_of "$1")
   [ -f "$1" ] || { echo "there is none"; return; }
-  [ -f "${1%/*}/record" ] || { echo "no record beside it tells which sources it was made of"; return; }
+  [ -f "$record" ] || { echo "no record beside it tells which sources it was made of"; return; }
   while read -r word rest; do
     case $word in program) program=$rest ;; sources) sources=$rest ;; esac
-  done < "${1%/*}/record"
+  done < "$record"
   [ "$program" = "$(file_sum "$1")" ] || { echo "it is another program than its record tells of"; return; }
   [ "$sources" = "$2" ] || echo "the sources changed since it was made"
 }
@@ -93,23 +102,23 @@ stops() { # PROGRAM
   echo "it does not run on this machine: ${lacking:-${said:-it ends with status $status}}"
 }
 
-# Prints the program to run: the release, or else the one that was built here, where it was made of the sources as they stand and
-# runs here. Otherwise it says why there is none, and what to do.
-usable_program() {
-  local sum program why said=""
-  sum=$(sources_sum)
-  for program in "$root/release/fsmd-x86_64-linux" "$root/crates/fsmd/out/fsmd"; do
+# Prints the program to run, `fsmd` where none is named: the release, or else the one that was built here, where it was made of the
+# sources as they stand and runs here. Otherwise it says why there is none, and what to do.
+usable_program() { # [NAME]
+  local name=${1:-fsmd} sum program why said=""
+  sum=$(sources_sum "$name")
+  for program in "$root/release/$name-x86_64-linux" "$root/crates/$name/out/$name"; do
     why=$(differs "$program" "$sum")
     why=${why:-$(stops "$program")}
     [ -n "$why" ] || { printf '%s\n' "$program"; return; }
-    said+="fsmd: ${program#"$root/"}: $why"$'\n'
+    said+="$name: ${program#"$root/"}: $why"$'\n'
   done
   printf '%s' "$said" >&2
   if [[ $said == *"does not run"* ]]; then
-    echo "fsmd: the program needs Linux on x86-64 (x86-64-v2) and glibc 2.34 or newer, as Debian 12, Fedora 35 and Ubuntu 22.04 have." >&2
-    echo "fsmd: bin/build proves the sources and builds it anew, with the Rattle kit, which builds for such machines alone." >&2
+    echo "$name: the program needs Linux on x86-64 (x86-64-v2) and glibc 2.34 or newer, as Debian 12, Fedora 35 and Ubuntu 22.04 have." >&2
+    echo "$name: bin/build proves the sources and builds it anew, with the Rattle kit, which builds for such machines alone." >&2
   else
-    echo "fsmd: bin/build proves the sources as they stand and builds the program; it needs the Rattle kit, with rt on PATH." >&2
+    echo "$name: bin/build proves the sources as they stand and builds the program; it needs the Rattle kit, with rt on PATH." >&2
   fi
   return 70
 }

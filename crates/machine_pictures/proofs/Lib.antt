@@ -1,0 +1,2 @@
+pub mod Over
+mod Loops

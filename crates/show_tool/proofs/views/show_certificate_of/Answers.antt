@@ -1,0 +1,29 @@
+use Rattle.std.proofs.Common.{rules, Some}
+use Rattle.command_words.specs.Words.{asked}
+use Rattle.command_answers.specs.Refusing.{WhereAnswered}
+use Rattle.fsmd_tool.specs.Calls.{call, IsCorrectFrom}
+use Rattle.std.specs.Prelude.{List, map}
+use Rattle.bisimulation.specs.Tables.{Node}
+use Rattle.sym_facts.specs.Facts.{Fact}
+use Rattle.certificates.specs.View.{node_of}
+use Rattle.command_answers.specs.Refusals.{RefusesCertificate, SpellsCertificate}
+use Rattle.command_answers.specs.Follows.{Ends, OpensCertificate}
+use Rattle.fsmd_tool.proofs.FromFiles.{refused_as, spelled_last}
+use Rattle.show_tool.specs.Views.{IsOfCertificate}
+use Rattle.show_tool.proofs.views.show_certificate_of.Goals as goal
+
+pub returns-in_err-cert-clause-answers : goal.returns-in_err-cert-clause-answers
+returns-in_err-cert-clause-answers g c =
+    let h : WhereAnswered (IsCorrectFrom (OpensCertificate c.args.left.now c.args.right.now (λ v. Ends (IsOfCertificate c.args.left.now c.args.right.now v))) 2
+    (call (Some (asked c.args.ask.now)) (g.F.Files.told c.args.files.now) (g.F.Files.told c.load_certificate.new.files))) c.in_err-cert.field-0.0 =
+    refused_as (List (Node Fact)) (RefusesCertificate c.args.left.now c.args.right.now) (SpellsCertificate c.args.left.now c.args.right.now)
+    (λ v. Ends (IsOfCertificate c.args.left.now c.args.right.now v)) 2 _ _ c.in_err-cert.ensures.refused in
+    search rules
+
+pub returns-clause-answers : goal.returns-clause-answers
+returns-clause-answers g c = spelled_last (List (Node Fact)) (RefusesCertificate c.args.left.now c.args.right.now)
+    (SpellsCertificate c.args.left.now c.args.right.now) (IsOfCertificate c.args.left.now c.args.right.now) 2 _ (map node_of c.in_ok-cert.cert.nodes.items)
+    c.in_ok-certificate_of.field-0 c.in_ok-cert.ensures.spells c.in_ok-certificate_of.ensures
+
+pub certificate_of-requires-clause-lawful : goal.certificate_of-requires-clause-lawful
+certificate_of-requires-clause-lawful g c = c.in_ok-cert.ensures.spells.meet.lawful

@@ -1,0 +1,24 @@
+use Rattle.std.proofs.Common.{◌≡◌, ◌∙◌, rules, ap, Some}
+use Rattle.command_words.specs.Words.{asked}
+use Rattle.command_answers.specs.Refusing.{WhereAnswered}
+use Rattle.fsmd_tool.specs.Calls.{call, IsCorrectFrom}
+use Rattle.fs_model.specs.Machines.{Fsmd}
+use Rattle.machine_pictures.specs.Pictures.{picture_of}
+use Rattle.command_answers.specs.declared.answer.Answer.TheVariants.{Text}
+use Rattle.command_answers.specs.Texts.{SpellsMachine}
+use Rattle.command_answers.specs.Refusals.{RefusesMachine}
+use Rattle.command_answers.specs.Follows.{Ends, OpensMachine}
+use Rattle.fsmd_tool.proofs.FromFiles.{refused_as, spelled_last}
+use Rattle.show_tool.proofs.views.show_machine.Goals as goal
+
+pub returns-in_err-machine-clause-answers : goal.returns-in_err-machine-clause-answers
+returns-in_err-machine-clause-answers g c =
+    let h : WhereAnswered (IsCorrectFrom (OpensMachine (λ m. Ends (λ answer. answer ≡ Text (picture_of m)))) 0
+    (call (Some (asked c.args.ask.now)) (g.F.Files.told c.args.files.now) (g.F.Files.told c.load_machine.new.files))) c.in_err-machine.field-0.0 =
+    refused_as Fsmd RefusesMachine SpellsMachine (λ m. Ends (λ answer. answer ≡ Text (picture_of m))) 0 _ _ c.in_err-machine.ensures.refused in
+    search rules
+
+pub returns-clause-answers : goal.returns-clause-answers
+returns-clause-answers g c =
+    spelled_last Fsmd RefusesMachine SpellsMachine (λ m answer. answer ≡ Text (picture_of m)) 0 _ c.in_ok-machine.machine _ c.in_ok-machine.ensures.spells
+    (ap Text (c.of-lines.ensures ∙ c.in_ok-picture_of.ensures))

@@ -1,0 +1,66 @@
+-- Which answer each view gives.
+use Rattle.std.specs.Prelude.{◌≡◌, ℕ, false, List, ◌++◌, length, map}
+use Rattle.fs_model.specs.Machines.{Fsmd}
+use Rattle.bisimulation.specs.Tables.{Node}
+use Rattle.sym_facts.specs.Facts.{Fact}
+use Rattle.search.specs.Answers.{machines}
+use Rattle.pair_answers.specs.declared.answer.PairAnswer.{PairAnswer}
+use Rattle.pair_answers.specs.declared.answer.PairAnswer.TheVariants as pairs
+use Rattle.machine_pictures.specs.Pictures.{picture_of}
+use Rattle.search_views.specs.declared.why.Explanation.{Explanation}
+use Rattle.search_views.specs.Why.{IsExplanation}
+use Rattle.search_views.specs.Pictures.{IsPicture}
+use Rattle.inputs_text.specs.Files.{ShowsDifferenceOf}
+use Rattle.search_views.specs.Demands.{obligation_lines}
+use Rattle.command_answers.specs.declared.answer.Answer.{Answer}
+use Rattle.command_answers.specs.declared.answer.Answer.TheVariants.{Text, Differs, Undecided}
+use Rattle.command_answers.specs.Lines.{HasLines}
+use Rattle.command_answers.specs.Replies.{equivalent_text}
+use Rattle.command_answers.specs.Pairs.{IsOfPair}
+use Rattle.command_answers.specs.Verdicts.{IsJudged}
+use Rattle.command_answers.specs.Readings.{Reading}
+use Rattle.command_answers.specs.Follows.{Ends, OpensMachine, OpensPair, OpensCertificate}
+use Rattle.show_words.specs.declared.asking.View.{View}
+use Rattle.show_words.specs.declared.asking.View.TheVariants.{Machine, Pair, Why, Certificate, Inputs}
+
+-- the picture of the search of two machines
+abbrev pub IsOfPicture : (a b : Fsmd) → Answer → Type 0
+IsOfPicture a b answer = HasLines (IsPicture (machines a b)) Text answer
+
+-- the answer of two machines behind the lines of what led to it
+abbrev pub answer_behind : (lines : List ℕ) → PairAnswer → Answer
+answer_behind lines (pairs.Equivalent cert) = Text (lines ++ equivalent_text (length cert.nodes.items))
+answer_behind lines (pairs.Counterexample more) = Differs (lines ++ more.items)
+answer_behind lines (pairs.Undecided more) = Undecided (lines ++ more.items)
+
+-- what led to the answer that two machines get, and then the lines of `check`, with its status
+pub record IsOfWhy (limit : ℕ) (a b : Fsmd) (answer : Answer) : Type 0 where
+  pub why : Explanation
+  pub is : IsExplanation limit a b why
+  pub told : answer ≡ answer_behind why.lines.items why.answer
+
+-- a file of inputs that show a difference, with the status of `check`; or what `check` answers
+pub data IsOfInputs (limit : ℕ) (a b : Fsmd) (answer : Answer) : Type 0 where
+  Given : HasLines (ShowsDifferenceOf limit a b) Differs answer → IsOfInputs limit a b answer
+  Other : IsOfPair limit false a b answer → IsOfInputs limit a b answer
+
+-- an answer that is lines, behind others
+abbrev pub behind : (lines : List ℕ) → Answer → Answer
+behind lines (Text more) = Text (lines ++ more)
+behind lines (Differs more) = Differs (lines ++ more)
+behind lines (Undecided more) = Undecided (lines ++ more)
+behind lines other = other
+
+-- the obligations of a certificate, and then the lines of `verify`, with its status
+pub record IsOfCertificate (a b : Fsmd) (nodes : List (Node Fact)) (answer : Answer) : Type 0 where
+  pub verdict : Answer
+  pub judged : IsJudged a b nodes verdict
+  pub told : answer ≡ behind (obligation_lines (machines a b) nodes) verdict
+
+-- which answer follows for a view, from what was read of the files from a number on
+abbrev pub ShownFrom : View → (file : ℕ) → Reading → Answer → Type 0
+ShownFrom Machine = OpensMachine (λ m. Ends (λ answer. answer ≡ Text (picture_of m)))
+ShownFrom Why = OpensPair (λ a b. Ends (IsOfWhy 10000 a b))
+ShownFrom Certificate = OpensPair (λ a b. OpensCertificate a b (λ nodes. Ends (IsOfCertificate a b nodes)))
+ShownFrom Inputs = OpensPair (λ a b. Ends (IsOfInputs 10000 a b))
+ShownFrom Pair = OpensPair (λ a b. Ends (IsOfPicture a b))

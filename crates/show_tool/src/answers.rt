@@ -1,0 +1,179 @@
+//! What each view answers of machines and of certificates.
+
+ghost use Rattle.std.specs.Prelude.{◌≡◌, ◌++◌, IfOk, None, false, map, string_bytes};
+ghost use Rattle.fs_pair.specs.Interfaces.{interface_fault};
+ghost use Rattle.fs_pair.specs.Positions.{positions};
+ghost use Rattle.certificates.specs.Lawful.{IsLawful};
+ghost use Rattle.certificates.specs.View.{node_of};
+ghost use Rattle.search.specs.Answers.{machines};
+ghost use Rattle.search_views.specs.Demands.{obligation_lines};
+ghost use Rattle.command_answers.specs.Pairs.{IsOfPair};
+ghost use Rattle.command_answers.specs.Replies.{equivalent_text};
+ghost use Rattle.show_tool.specs.Views.{answer_behind, behind, IsOfPicture, IsOfWhy, IsOfInputs, IsOfCertificate};
+
+use certificates::cert::Cert;
+use command_answers::answer::{Answer, Lines};
+use command_answers::compare::compare;
+use command_answers::judge::judge;
+use fs_ast::machine::Machine;
+use fs_pair::positions::Pairing;
+use inputs_text::differing::differing_inputs;
+use pair_answers::answer::PairAnswer;
+use search_views::obligations::obligation_lines;
+use search_views::pictures::search_picture;
+use search_views::why::{Explanation, explain};
+use std::alloc::{AllocError, Global};
+
+// The most steps of a run from a candidate, where `check` is told none.
+const STEPS: u64 = 10_000;
+
+// The line that machines of the same behaviour get.
+fn equivalent_line(alloc: Global, nodes: usize) -> Result<String, AllocError>
+    ensures { IfOk result (λ text. string_bytes text ≡ equivalent_text nodes) }
+{
+    format!(in alloc; "equivalent: {nodes} nodes\n")
+}
+
+// The lines with others behind them.
+fn joined(mut lines: Vec<u8>, more: &[u8]) -> Result<Lines, AllocError>
+    ensures { IfOk result (λ all. all ≡ lines.items ++ more.now) }
+{
+    lines.extend_from_slice(more)?;
+    Ok(Lines::of(lines))
+}
+
+// The answer of two machines behind the lines of what led to it.
+fn why_answer(alloc: Global, why: Explanation) -> Result<Answer, AllocError>
+    ensures { IfOk result (λ answer. answer ≡ answer_behind why.lines.items why.answer) }
+{
+    let Explanation { lines, answer } = why;
+    match answer {
+        PairAnswer::Equivalent { cert } => {
+            let line = equivalent_line(alloc, cert.nodes.len())?;
+            Ok(Answer::Text {
+                lines: joined(lines, line.as_bytes())?,
+            })
+        }
+        PairAnswer::Counterexample { lines: more } => Ok(Answer::Differs {
+            lines: joined(lines, more.as_slice())?,
+        }),
+        PairAnswer::Undecided { lines: more } => Ok(Answer::Undecided {
+            lines: joined(lines, more.as_slice())?,
+        }),
+    }
+}
+
+/// What `why` answers: what `check` says of two machines, behind the lines of what led to it. The one refusal is out of memory.
+pub fn why_machines(
+    alloc: Global,
+    a: &Machine,
+    b: &Machine,
+    p: &Pairing,
+) -> Result<Answer, AllocError>
+    requires paired { p.now ≡ positions a.now b.now }
+    requires interface { interface_fault a.now b.now ≡ None }
+    ensures { IfOk result (IsOfWhy 10000 a.now b.now) }
+{
+    match explain(alloc, a, b, p, STEPS) {
+        Ok(why) => why_answer(alloc, why),
+        Err(_) => Err(AllocError),
+    }
+}
+
+/// What `pair` answers: the picture of the search of two machines. The one refusal is out of memory.
+pub fn picture_machines(
+    alloc: Global,
+    a: &Machine,
+    b: &Machine,
+    p: &Pairing,
+) -> Result<Answer, AllocError>
+    requires paired { p.now ≡ positions a.now b.now }
+    requires interface { interface_fault a.now b.now ≡ None }
+    ensures { IfOk result (IsOfPicture a.now b.now) }
+{
+    match search_picture(alloc, a, b, p) {
+        Ok(text) => Ok(Answer::Text {
+            lines: Lines::of(text),
+        }),
+        Err(_) => Err(AllocError),
+    }
+}
+
+// The file of inputs that show a difference, or else the answer that `check` gives.
+fn inputs_or(
+    alloc: Global,
+    a: &Machine,
+    b: &Machine,
+    p: &Pairing,
+    answer: Answer,
+) -> Result<Answer, AllocError>
+    requires interface { interface_fault a.now b.now ≡ None }
+    requires answer { IsOfPair 10000 false a.now b.now answer }
+    ensures { IfOk result (IsOfInputs 10000 a.now b.now) }
+{
+    match differing_inputs(alloc, a, b, p, STEPS) {
+        Ok(Some(file)) => Ok(Answer::Differs {
+            lines: Lines::of(file),
+        }),
+        Ok(None) => Ok(answer),
+        Err(_) => Err(AllocError),
+    }
+}
+
+/// What `inputs` answers: the file of inputs that show a difference of two machines, where `check` tells of one, and else what
+/// `check` answers. The one refusal is out of memory.
+pub fn differing_machines(
+    alloc: Global,
+    a: &Machine,
+    b: &Machine,
+    p: &Pairing,
+) -> Result<Answer, AllocError>
+    requires paired { p.now ≡ positions a.now b.now }
+    requires interface { interface_fault a.now b.now ≡ None }
+    ensures { IfOk result (IsOfInputs 10000 a.now b.now) }
+{
+    let answer = compare(alloc, a, b, p, STEPS, false)?;
+    match answer {
+        Answer::Differs { .. } => inputs_or(alloc, a, b, p, answer),
+        _ => Ok(answer),
+    }
+}
+
+// The verdict on a certificate behind lines.
+fn behind(lines: Vec<u8>, answer: Answer) -> Result<Answer, AllocError>
+    ensures { IfOk result (λ told. told ≡ behind lines.items answer) }
+{
+    match answer {
+        Answer::Text { lines: more } => Ok(Answer::Text {
+            lines: joined(lines, more.bytes())?,
+        }),
+        Answer::Differs { lines: more } => Ok(Answer::Differs {
+            lines: joined(lines, more.bytes())?,
+        }),
+        Answer::Undecided { lines: more } => Ok(Answer::Undecided {
+            lines: joined(lines, more.bytes())?,
+        }),
+        other => Ok(other),
+    }
+}
+
+/// What `certificate` answers: the obligations of a lawful certificate of two machines, by number, and then what `verify` says.
+/// The one refusal is out of memory.
+pub fn certificate_of(
+    alloc: Global,
+    a: &Machine,
+    b: &Machine,
+    p: &Pairing,
+    cert: &Cert,
+) -> Result<Answer, AllocError>
+    requires paired { p.now ≡ positions a.now b.now }
+    requires interface { interface_fault a.now b.now ≡ None }
+    requires lawful { IsLawful a.now b.now (map node_of cert.now.nodes.items) }
+    ensures { IfOk result (IsOfCertificate a.now b.now (map node_of cert.now.nodes.items)) }
+{
+    let answer = judge(alloc, a, b, p, cert)?;
+    match obligation_lines(alloc, a, b, cert.nodes.as_slice()) {
+        Ok(lines) => behind(lines, answer),
+        Err(_) => Err(AllocError),
+    }
+}

@@ -1,0 +1,99 @@
+//! The top call: from words to a status.
+
+ghost use Rattle.std.specs.Prelude.{◌≡◌, ◌≤◌, None, Some, IfOk};
+ghost use Rattle.std.specs.Result.{OnErr};
+ghost use Rattle.fs_base.specs.Outside.{NoneFell};
+ghost use Rattle.command_answers.specs.Words.{cert_of};
+ghost use Rattle.fsmd_tool.specs.Calls.{call, OnlyRead, IsCorrectFrom};
+ghost use Rattle.fsmd_tool.specs.Puts.{put};
+ghost use Rattle.fsmd_tool.specs.Stores.{stores, IsKept};
+ghost use Rattle.show_words.specs.Words.{shown};
+ghost use Rattle.show_tool.specs.Views.{ShownFrom};
+ghost use Rattle.show_tool.specs.Shows.{shown_in, IsShown, Outcome, PutsOf};
+
+use crate::put::put_usage;
+use crate::views::answer_view;
+use command_answers::answer::{Answer, Status};
+use command_answers::refused::Refused;
+use command_words::asking::AskError;
+use fs_base::outside::{Files, Sink};
+use fsmd_tool::put::put_answer;
+use show_words::asking::Show;
+use show_words::words::show;
+use std::alloc::{AllocError, Global};
+
+// What is answered to what is asked to be shown.
+fn answer<F: Files>(alloc: Global, show: &Show, files: &mut F) -> Result<Answer, AllocError>
+    ensures correct { IfOk result (IsCorrectFrom (ShownFrom (shown show.now).view) 0
+        (call (Some (shown show.now).asked) (F.told files.old) (F.told files.new))) }
+    ensures only_read { OnlyRead (F.told files.old) (F.told files.new) }
+{
+    match answer_view(alloc, show, files) {
+        Ok(answer) => Ok(answer),
+        Err(Refused::Answered(answer)) => Ok(answer),
+        Err(Refused::NoMemory) => Err(AllocError),
+    }
+}
+
+// Puts what is asked to be shown.
+fn put_shown<F: Files, S: Sink>(
+    alloc: Global,
+    show: &Show,
+    files: &mut F,
+    out: &mut S,
+) -> Result<Status, AllocError>
+    requires { cert_of (Some (shown show.now).asked) ≡ None }
+    ensures shown { IfOk result (λ status. IsShown (shown show.now) (F.told files.old) (F.told files.new)
+        (put status (S.told out.old) (S.told out.new))) }
+    ensures err { OnErr result ((S.told out.new).got ≡ (S.told out.old).got) }
+    ensures kept { IsKept (stores (F.told files.old) (F.told files.new)) }
+    ensures counts { NoneFell (F.told files.old).faults (F.told files.new).faults }
+    ensures sink_counts { (S.told out.old).faults ≤ (S.told out.new).faults }
+{
+    let answer = answer(alloc, show, files)?;
+    put_answer(alloc, &answer, &show.ask, files, out)
+}
+
+// Puts the reply to words.
+fn put_reply<F: Files, S: Sink>(
+    alloc: Global,
+    words: &[String],
+    files: &mut F,
+    out: &mut S,
+) -> Result<Status, AllocError>
+    ensures shown { IfOk result (λ status. PutsOf (shown_in words.now) (F.told files.old) (F.told files.new)
+        (put status (S.told out.old) (S.told out.new))) }
+    ensures err { OnErr result ((S.told out.new).got ≡ (S.told out.old).got) }
+    ensures kept { IsKept (stores (F.told files.old) (F.told files.new)) }
+    ensures counts { NoneFell (F.told files.old).faults (F.told files.new).faults }
+    ensures sink_counts { (S.told out.old).faults ≤ (S.told out.new).faults }
+{
+    match show(alloc, words) {
+        Ok(show) => put_shown(alloc, &show, files, out),
+        Err(AskError::Usage) => put_usage(out),
+        Err(AskError::NoMemory) => Err(AllocError),
+    }
+}
+
+/// Shows what the words ask to see, and tells how it ended.
+///
+/// The words are those after the program's name: a view, and the names of its files. Files are refused as `fsmd` refuses them,
+/// by the same replies and with the same statuses, and no file is changed. `NoMemory` comes where memory is refused, also where
+/// the sink has no room for the reply; then nothing was put.
+pub fn drive_show<F: Files, S: Sink>(
+    alloc: Global,
+    words: &[String],
+    files: &mut F,
+    out: &mut S,
+) -> Status
+    ensures outcome { Outcome (shown_in words.now) (F.told files.old) (F.told files.new)
+        (put result (S.told out.old) (S.told out.new)) }
+    ensures kept { IsKept (stores (F.told files.old) (F.told files.new)) }
+    ensures counts { NoneFell (F.told files.old).faults (F.told files.new).faults }
+    ensures sink_counts { (S.told out.old).faults ≤ (S.told out.new).faults }
+{
+    match put_reply(alloc, words, files, out) {
+        Ok(status) => status,
+        Err(_) => Status::NoMemory,
+    }
+}

@@ -1,0 +1,40 @@
+//! What the program does: the words of its environment, the files and standard output of the system, and one call of
+//! `drive_show`.
+
+ghost use Rattle.std.specs.Prelude.{◌≡◌, ◌⊎◌};
+ghost use Rattle.command_answers.specs.declared.answer.Status.TheVariants.{NoMemory, Fault};
+
+use crate::drive::drive_show;
+use command_answers::answer::Status;
+use fs_base::disk::{DiskFiles, StdSink};
+use std::rt::Runtime;
+use std::{env, io};
+
+// The words of the call, without the program's name.
+fn words<R: Runtime + AllocGlobal>(rt: &R) -> io::Result<Vec<String>> {
+    Ok(env::args(rt)?.skip(1).collect(rt.alloc())?)
+}
+
+// The status where there are no words.
+fn status_without_words(error: &io::Error) -> Status
+    ensures { (result ≡ NoMemory) ⊎ (result ≡ Fault) }
+{
+    match error.kind() {
+        io::ErrorKind::OutOfMemory => Status::NoMemory,
+        _ => Status::Fault,
+    }
+}
+
+/// Runs the program in a runtime, and tells how it ended: as `drive_show` does for the words of the environment, and where
+/// it gives none, `NoMemory` or `Fault`; then nothing is printed.
+pub fn run_program<R: Runtime + AllocGlobal>(rt: &R) -> Status {
+    match words(rt) {
+        Ok(words) => drive_show(
+            rt.alloc(),
+            words.as_slice(),
+            &mut DiskFiles::new(rt),
+            &mut StdSink::new(rt),
+        ),
+        Err(error) => status_without_words(&error),
+    }
+}

@@ -1,0 +1,128 @@
+//! What each view answers, from its files.
+
+ghost use Rattle.std.specs.Prelude.{◌≡◌, None, Some};
+ghost use Rattle.command_words.specs.Words.{asked};
+ghost use Rattle.fs_pair.specs.Interfaces.{interface_fault};
+ghost use Rattle.fs_pair.specs.Positions.{positions};
+ghost use Rattle.machine_pictures.specs.Pictures.{picture_of};
+ghost use Rattle.command_answers.specs.declared.answer.Answer.TheVariants.{Text};
+ghost use Rattle.command_answers.specs.Follows.{Ends, OpensPair, OpensMachine, OpensCertificate};
+ghost use Rattle.fsmd_tool.specs.Calls.{call, OnlyRead, IsCorrectFrom, AnswersBy};
+ghost use Rattle.show_words.specs.Words.{shown};
+ghost use Rattle.show_tool.specs.Views.{IsOfPicture, IsOfWhy, IsOfInputs, IsOfCertificate, ShownFrom};
+
+use crate::answers::{certificate_of, differing_machines, picture_machines, why_machines};
+use command_answers::answer::{Answer, Lines, Operand};
+use command_answers::refused::Refused;
+use command_words::asking::Ask;
+use fs_ast::machine::Machine;
+use fs_base::outside::Files;
+use fs_pair::positions::Pairing;
+use fsmd_tool::load::{load_certificate, load_machine};
+use fsmd_tool::pair::{Pair, load_pair};
+use machine_pictures::pictures::picture_of;
+use show_words::asking::{Show, View};
+use std::alloc::Global;
+
+// What `machine` answers: the picture of a machine.
+fn show_machine<F: Files>(alloc: Global, ask: &Ask, files: &mut F) -> Result<Answer, Refused>
+    ensures answers { AnswersBy (IsCorrectFrom (OpensMachine (λ m. Ends (λ answer. answer ≡ Text (picture_of m)))) 0
+        (call (Some (asked ask.now)) (F.told files.old) (F.told files.new))) result }
+    ensures only_read { OnlyRead (F.told files.old) (F.told files.new) }
+{
+    let machine = load_machine(alloc, Operand(0), ask, files)?;
+    let lines = Lines::of(picture_of(alloc, &machine)?);
+    Ok(Answer::Text { lines })
+}
+
+// What `pair` answers: the picture of the search of two machines.
+fn show_pair<F: Files>(alloc: Global, ask: &Ask, files: &mut F) -> Result<Answer, Refused>
+    ensures answers { AnswersBy (IsCorrectFrom (OpensPair (λ a b. Ends (IsOfPicture a b))) 0
+        (call (Some (asked ask.now)) (F.told files.old) (F.told files.new))) result }
+    ensures only_read { OnlyRead (F.told files.old) (F.told files.new) }
+{
+    let Pair {
+        left,
+        right,
+        pairing,
+    } = load_pair(alloc, ask, files)?;
+    Ok(picture_machines(alloc, &left, &right, &pairing)?)
+}
+
+// What `why` answers.
+fn show_why<F: Files>(alloc: Global, ask: &Ask, files: &mut F) -> Result<Answer, Refused>
+    ensures answers { AnswersBy (IsCorrectFrom (OpensPair (λ a b. Ends (IsOfWhy 10000 a b))) 0
+        (call (Some (asked ask.now)) (F.told files.old) (F.told files.new))) result }
+    ensures only_read { OnlyRead (F.told files.old) (F.told files.new) }
+{
+    let Pair {
+        left,
+        right,
+        pairing,
+    } = load_pair(alloc, ask, files)?;
+    Ok(why_machines(alloc, &left, &right, &pairing)?)
+}
+
+// What `inputs` answers.
+fn show_inputs<F: Files>(alloc: Global, ask: &Ask, files: &mut F) -> Result<Answer, Refused>
+    ensures answers { AnswersBy (IsCorrectFrom (OpensPair (λ a b. Ends (IsOfInputs 10000 a b))) 0
+        (call (Some (asked ask.now)) (F.told files.old) (F.told files.new))) result }
+    ensures only_read { OnlyRead (F.told files.old) (F.told files.new) }
+{
+    let Pair {
+        left,
+        right,
+        pairing,
+    } = load_pair(alloc, ask, files)?;
+    Ok(differing_machines(alloc, &left, &right, &pairing)?)
+}
+
+// What a certificate of two machines answers to the file that spells it.
+fn show_certificate_of<F: Files>(
+    alloc: Global,
+    ask: &Ask,
+    left: &Machine,
+    right: &Machine,
+    pairing: &Pairing,
+    files: &mut F,
+) -> Result<Answer, Refused>
+    requires paired { pairing.now ≡ positions left.now right.now }
+    requires alike { interface_fault left.now right.now ≡ None }
+    ensures answers { AnswersBy (IsCorrectFrom
+        (OpensCertificate left.now right.now (λ nodes. Ends (IsOfCertificate left.now right.now nodes))) 2
+        (call (Some (asked ask.now)) (F.told files.old) (F.told files.new))) result }
+    ensures only_read { OnlyRead (F.told files.old) (F.told files.new) }
+{
+    let cert = load_certificate(alloc, Operand(2), ask, left, right, pairing, files)?;
+    Ok(certificate_of(alloc, left, right, pairing, &cert)?)
+}
+
+// What `certificate` answers.
+fn show_certificate<F: Files>(alloc: Global, ask: &Ask, files: &mut F) -> Result<Answer, Refused>
+    ensures answers { AnswersBy (IsCorrectFrom
+        (OpensPair (λ a b. OpensCertificate a b (λ nodes. Ends (IsOfCertificate a b nodes)))) 0
+        (call (Some (asked ask.now)) (F.told files.old) (F.told files.new))) result }
+    ensures only_read { OnlyRead (F.told files.old) (F.told files.new) }
+{
+    let Pair {
+        left,
+        right,
+        pairing,
+    } = load_pair(alloc, ask, files)?;
+    show_certificate_of(alloc, ask, &left, &right, &pairing, files)
+}
+
+/// What a view answers.
+pub fn answer_view<F: Files>(alloc: Global, show: &Show, files: &mut F) -> Result<Answer, Refused>
+    ensures answers { AnswersBy (IsCorrectFrom (ShownFrom (shown show.now).view) 0
+        (call (Some (shown show.now).asked) (F.told files.old) (F.told files.new))) result }
+    ensures only_read { OnlyRead (F.told files.old) (F.told files.new) }
+{
+    match show.view {
+        View::Machine => show_machine(alloc, &show.ask, files),
+        View::Pair => show_pair(alloc, &show.ask, files),
+        View::Why => show_why(alloc, &show.ask, files),
+        View::Certificate => show_certificate(alloc, &show.ask, files),
+        View::Inputs => show_inputs(alloc, &show.ask, files),
+    }
+}

@@ -1,0 +1,4 @@
+mod Added
+mod Matches
+pub mod Named
+mod Plain

@@ -1,0 +1,25 @@
+//! What is asked to be shown.
+
+use command_words::asking::Ask;
+
+/// What is shown.
+#[derive(Clone, Copy, Debug, PartialEq, Eq)]
+pub enum View {
+    /// `machine A`: the picture of a machine.
+    Machine,
+    /// `pair A B`: the picture of what a search of two machines comes to.
+    Pair,
+    /// `why A B`: what led to the answer that two machines get.
+    Why,
+    /// `certificate A B C`: what a certificate owes, by number.
+    Certificate,
+    /// `inputs A B`: the file of inputs that show a difference.
+    Inputs,
+}
+
+/// A view, and what `fsmd` is asked of the same files.
+#[derive(Drop)]
+pub struct Show {
+    pub view: View,
+    pub ask: Ask,
+}

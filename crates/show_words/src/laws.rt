@@ -1,0 +1,22 @@
+//! Laws of the words. The functions do nothing.
+
+ghost use Rattle.std.specs.Prelude.{List, IsSome};
+ghost use Rattle.clap.specs.Words.{Text};
+ghost use Rattle.show_words.specs.Examples.{PlainWordsAreFiles, RefusedExamples};
+ghost use Rattle.show_words.specs.Words.{AreTaken, shown_of};
+
+/// Words ask to see something exactly where they are taken.
+pub fn taken_words_show()
+    ensures taken { (words : List Text) → AreTaken words → IsSome (shown_of words) }
+    ensures refused { (words : List Text) → IsSome (shown_of words) → AreTaken words }
+{}
+
+/// Words that begin with no hyphen are the files of a view, in their order.
+pub fn plain_words_are_files()
+    ensures { PlainWordsAreFiles }
+{}
+
+/// Examples of words that are refused, and why.
+pub fn examples_are_refused()
+    ensures { RefusedExamples }
+{}

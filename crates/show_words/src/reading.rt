@@ -1,0 +1,66 @@
+//! What each command asks to see, by its matches.
+
+ghost use Rattle.std.specs.Prelude.{◌≡◌, IfOk, IfErr, Some, None};
+ghost use Rattle.clap.specs.Words.{found_of, rows_of};
+ghost use Rattle.command_words.specs.declared.asking.AskError.TheVariants.{Usage};
+ghost use Rattle.show_words.specs.Words.{certificate_of, machine_of, pair_of, shown, shown_by};
+
+use crate::asking::{Show, View};
+use crate::matched::word;
+use clap::ArgMatches;
+use command_words::asking::{Ask, AskError};
+use std::alloc::{AllocError, Global};
+
+fn machine(alloc: Global, found: &ArgMatches) -> Result<Show, AllocError>
+    ensures { IfOk result (λ show. shown show ≡ machine_of (rows_of (found_of found.now))) }
+{
+    let ask = Ask::Fmt {
+        machine: word(alloc, found, "machine")?,
+    };
+    Ok(Show {
+        view: View::Machine,
+        ask,
+    })
+}
+
+// A view of two machines, of which `check` is asked.
+fn pair(alloc: Global, view: View, found: &ArgMatches) -> Result<Show, AllocError>
+    ensures { IfOk result (λ show. shown show ≡ pair_of view (rows_of (found_of found.now))) }
+{
+    let ask = Ask::Check {
+        left: word(alloc, found, "left")?,
+        right: word(alloc, found, "right")?,
+        cert: None,
+        steps: 10_000,
+    };
+    Ok(Show { view, ask })
+}
+
+fn certificate(alloc: Global, found: &ArgMatches) -> Result<Show, AllocError>
+    ensures { IfOk result (λ show. shown show ≡ certificate_of (rows_of (found_of found.now))) }
+{
+    let ask = Ask::Verify {
+        left: word(alloc, found, "left")?,
+        right: word(alloc, found, "right")?,
+        cert: word(alloc, found, "certificate")?,
+    };
+    Ok(Show {
+        view: View::Certificate,
+        ask,
+    })
+}
+
+/// What the command of this name asks to see, by its matches. `Usage` comes only for a name that is no command's.
+pub fn read(alloc: Global, name: &str, found: &ArgMatches) -> Result<Show, AskError>
+    ensures ok { IfOk result (λ show. shown_by name.now (rows_of (found_of found.now)) ≡ Some (shown show)) }
+    ensures usage { IfErr result (λ error. error ≡ Usage → shown_by name.now (rows_of (found_of found.now)) ≡ None) }
+{
+    match name {
+        "machine" => Ok(machine(alloc, found)?),
+        "pair" => Ok(pair(alloc, View::Pair, found)?),
+        "why" => Ok(pair(alloc, View::Why, found)?),
+        "certificate" => Ok(certificate(alloc, found)?),
+        "inputs" => Ok(pair(alloc, View::Inputs, found)?),
+        _ => Err(AskError::Usage),
+    }
+}
