@@ -55,7 +55,7 @@ file_sum() {
 # In release/, where two programs stand, that of `fsmd_show` is fsmd_show-record.
 record_of() { # PROGRAM
   case $1 in
-    */release/fsmd_show-*) printf '%s\n' "${1%/*}/fsmd_show-record" ;;
+    */release/fsmd_show-* | release/fsmd_show-*) printf '%s\n' "${1%/*}/fsmd_show-record" ;;
     *) printf '%s\n' "${1%/*}/record" ;;
   esac
 }
