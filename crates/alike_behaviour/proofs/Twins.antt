@@ -1,9 +1,10 @@
 -- Alike machines have a table of nodes: the pairs of points, where twins hold the same, and the two returns.
-use Rattle.std.proofs.Common.{◌≡◌, ℕ, zero, suc, ◌<◌, ℤ, ◌+ℤ◌, ◌-ℤ◌, ◌*ℤ◌, neg_ℤ, true, cond, ap, ap₂, sym, refl, ◌∙◌, subst, List, [], ◌∷◌, ◌++◌, Option, Some, None, map, inl, inr, zero-add}
+use Rattle.std.proofs.Common.{◌≡◌, ℕ, zero, suc, ◌<◌, ℤ, ◌+ℤ◌, ◌-ℤ◌, ◌*ℤ◌, neg_ℤ, true, cond, ap, ap₂, sym, refl, ◌∙◌, subst, List, [], ◌∷◌, ◌++◌, Option, Some}
+use Rattle.std.proofs.Common.{None, map, inl, inr, zero-add}
 use Rattle.std.specs.Prelude.{◌⊎◌, ◌&&◌, slice_get, option_map}
 use Rattle.std.specs.Ordering.{int_eq}
 use Rattle.std.proofs.lemmas.Option.{slice_get-map}
-use Rattle.integers.specs.Division.{quotient, remainder}
+use Rattle.base_integers.specs.Division.{quotient, remainder}
 use Rattle.fs_model.specs.declared.parts.Sort.{Sort}
 use Rattle.fs_model.specs.declared.parts.Sort.TheVariants as sort
 use Rattle.fs_model.specs.declared.parts.VarInfo.{VarInfo}
@@ -13,18 +14,19 @@ use Rattle.fs_model.specs.Stores.{Store}
 use Rattle.fs_model.specs.Meaning.{value, relates}
 use Rattle.fs_model.specs.Runs.{Inputs, Number, Entries, Emitted, first_scalar, first_array, start, content, output, SameBehaviour}
 use Rattle.fs_model.specs.Trees.{literals_hold}
-use Rattle.fs_ast.specs.Sound.{IsSound, branch_count}
-use Rattle.fs_cut.specs.Paths.{Point, Start, Done, Path, IsPath, is_point, state_of, steps_in, effect, takes}
+use Rattle.fs_ast.specs.SoundMachines.{IsSound, branch_count}
+use Rattle.fs_cut.specs.Paths.{Point, Start, Done, Path, IsPath, is_point, state_of, steps_in, store_after_steps, takes}
 use Rattle.fs_cut.specs.Covers.{path_by}
 use Rattle.fs_cut.proofs.Listed.{path_is}
 use Rattle.fs_cut.proofs.Legs.{one_path}
-use Rattle.bisimulation.specs.declared.mode.Mode.TheVariants.{Both, End}
-use Rattle.bisimulation.specs.Tables.{Node, Stands, Owes, LeadsOn}
-use Rattle.bisimulation.proofs.Nodes.{same_behaviour}
-use Rattle.alike_behaviour.specs.Expressions.{Expression, Constant, Initial, Element, Plus, Minus, Times, Over, Rest, Opposite, ArrayExpression, InitialArray, Stored, ListExpression, InitialList, Pushed, initial, expressed}
-use Rattle.alike_behaviour.specs.Sameness.{AreTwins, Same, SameArray, SameList, SameLiterals}
+use Rattle.cert_bisimulation.specs.declared.mode.Mode.TheVariants.{Both, End}
+use Rattle.cert_bisimulation.specs.Tables.{Node, Stands, Owes, LeadsOn}
+use Rattle.cert_bisimulation.proofs.Nodes.{same_behaviour}
+use Rattle.alike_behaviour.specs.PathExpressions.{Expression, Constant, Initial, Element, Plus, Minus, Times, Over, Rest, Opposite, ArrayExpression}
+use Rattle.alike_behaviour.specs.PathExpressions.{InitialArray, Stored, ListExpression, InitialList, Pushed, initial, expressed}
+use Rattle.alike_behaviour.specs.ExpressionSameness.{AreTwins, Same, SameArray, SameListExpression, SameLiterals}
 use Rattle.alike_behaviour.specs.Alike.{ArePaired, literals_of, left_after, AlikePaths, AlikePoints, Alike}
-use Rattle.alike_behaviour.specs.Values.{value_in, array_in, list_in}
+use Rattle.alike_behaviour.specs.ExpressionValues.{value_in, array_in, list_in}
 use Rattle.alike_behaviour.proofs.Expressions.{expressed_value, at_start, left_shows}
 use Rattle.alike_behaviour.proofs.Outputs.{IsOutputOf, output_or_none, output_there}
 
@@ -55,7 +57,7 @@ module _ (a b : Fsmd) where
       same_array (Stored c j v) z (d, k, w, e, g, p, q) i =
           (λ r. cond (int_eq (same_value j k p r) i) (same_value v w q r) (same_array c d g i r)) ∙ sym (ap (λ r. array_in u r i) e)
 
-    same_list : (l m : ListExpression) → SameList a b l m → list_in s l ≡ list_in u m
+    same_list : (l m : ListExpression) → SameListExpression a b l m → list_in s l ≡ list_in u m
     same_list (InitialList x) z (y, e, t) = h.ports x y t ∙ sym (ap (list_in u) e)
     same_list (Pushed l v) z (m, w, e, g, p) = ap₂ (λ r n. r ++ n ∷ []) (same_list l m g) (same_value v w p) ∙ sym (ap (list_in u) e)
 
@@ -64,14 +66,17 @@ module _ (a b : Fsmd) where
     same_literals : (ls ms : List (Literal ℕ)) → SameLiterals a b ls ms → literals_hold ls s ≡ literals_hold ms u
     same_literals [] ms e = sym (ap (λ r. literals_hold r u) e)
     same_literals (l ∷ ls) ms (m, rest, e, r, g, k, w) =
-        let x : value l.left s ≡ value m.left u = sym (expressed_value s initial s (at_start s) l.left) ∙ same_value (expressed initial l.left) (expressed initial m.left) g ∙ expressed_value u initial u (at_start u) m.left in
-        let y : value l.right s ≡ value m.right u = sym (expressed_value s initial s (at_start s) l.right) ∙ same_value (expressed initial l.right) (expressed initial m.right) k ∙ expressed_value u initial u (at_start u) m.right in
+        let x : value l.left s ≡ value m.left u = sym (expressed_value s initial s (at_start s) l.left)
+        ∙ same_value (expressed initial l.left) (expressed initial m.left) g ∙ expressed_value u initial u (at_start u) m.left in
+        let y : value l.right s ≡ value m.right u = sym (expressed_value s initial s (at_start s) l.right)
+        ∙ same_value (expressed initial l.right) (expressed initial m.right) k ∙ expressed_value u initial u (at_start u) m.right in
         (λ j. relates (r j) (x j) (y j) && same_literals ls rest w j) ∙ sym (ap (λ z. literals_hold z u) e)
 
     takes_alike : (K : List (Point × Point)) (p q : Path) → AlikePaths a b K p q → takes a p s ≡ takes b q u
     takes_alike K p q w = same_literals (literals_of a p) (literals_of b q) w.literals
 
-    ends_alike : (K : List (Point × Point)) (p q : Path) → AlikePaths a b K p q → HoldTheSame a b (effect a (steps_in p) s) (effect b (steps_in q) u)
+    ends_alike : (K : List (Point × Point)) (p q : Path) → AlikePaths a b K p q
+        → HoldTheSame a b (store_after_steps a (steps_in p) s) (store_after_steps b (steps_in q) u)
     ends_alike K p q w =
         let l = left_shows s a (steps_in p) in
         let r = left_shows u b (steps_in q) in
@@ -91,7 +96,8 @@ module _ (a b : Fsmd) where
         ports = λ x y t. refl;
       }
 
-  same_content : (s u : Store) → HoldTheSame a b s u → (x y : ℕ) (v : VarInfo) → slice_get a.variables x ≡ Some v → slice_get b.variables y ≡ Some v → (σ : Sort) → v.sort ≡ σ → content σ x s ≡ content σ y u
+  same_content : (s u : Store) → HoldTheSame a b s u → (x y : ℕ) (v : VarInfo) → slice_get a.variables x ≡ Some v → slice_get b.variables y ≡ Some v
+      → (σ : Sort) → v.sort ≡ σ → content σ x s ≡ content σ y u
   same_content s u h x y v e f sort.Scalar g = ap Number (h.scalars x y (record { variable = v; left = e; right = f; sorted = g }))
   same_content s u h x y v e f sort.Array g = ap Entries (λ k i. h.arrays x y (record { variable = v; left = e; right = f; sorted = g }) i k)
   same_content s u h x y v e f sort.Port g = ap Emitted (h.ports x y (record { variable = v; left = e; right = f; sorted = g }))
@@ -132,11 +138,19 @@ module _ (a b : Fsmd) (sound_a : IsSound a) (sound_b : IsSound b) (K : List (Poi
 
   stands_at : (P Q : Point) (s u : Store) → ArePaired K P Q → HoldTheSame a b s u → Stands Holds table P Q s u
   unfolding Holds
-  stands_at P Q s u (inl d) h = record { node = node_of (P, Q); place = suc d.0; is_in = slice_get-map node_of K d.0 ∙ ap (option_map node_of) d.1; at_left = refl; at_right = refl; holds_of = h }
+  stands_at P Q s u (inl d) h = record {
+    node = node_of (P, Q);
+    place = suc d.0;
+    is_in = slice_get-map node_of K d.0 ∙ ap (option_map node_of) d.1;
+    at_left = refl;
+    at_right = refl;
+    holds_of = h;
+  }
   stands_at P Q s u (inr d) h = record { node = last; place = 0; is_in = refl; at_left = sym d.0; at_right = sym d.1; holds_of = h }
 
   -- from a pair both stores take paths of one number
-  same_number : (P Q : Point) → AlikePoints a b K P Q → (p q : Path) (s u : Store) → HoldTheSame a b s u → IsPath a p → IsPath b q → p.from ≡ P → q.from ≡ Q → takes a p s ≡ true → takes b q u ≡ true → p.branch ≡ q.branch
+  same_number : (P Q : Point) → AlikePoints a b K P Q → (p q : Path) (s u : Store) → HoldTheSame a b s u → IsPath a p → IsPath b q → p.from ≡ P → q.from ≡ Q
+      → takes a p s ≡ true → takes b q u ≡ true → p.branch ≡ q.branch
   same_number P Q w p q s u h v r e f t g =
       let within : p.branch < branch_count b (state_of b Q) = subst (λ n. p.branch < n) (ap (λ X. branch_count a (state_of a X)) e ∙ w.same_count) v.numbered in
       let other = path_by b Q (state_of b Q) p.branch in
@@ -152,7 +166,7 @@ module _ (a b : Fsmd) (sound_a : IsSound a) (sound_b : IsSound b) (K : List (Poi
     λ p q v r e f. record {
       leads = λ s u h t g.
           let alike = w.paths p q v r e f (same_number P Q w p q s u h v r e f t g) in
-          stands_at p.to q.to (effect a (steps_in p) s) (effect b (steps_in q) u) alike.ends (ends_alike a b s u h K p q alike);
+          stands_at p.to q.to (store_after_steps a (steps_in p) s) (store_after_steps b (steps_in q) u) alike.ends (ends_alike a b s u h K p q alike);
     },
   )
 
@@ -165,7 +179,8 @@ module _ (a b : Fsmd) (sound_a : IsSound a) (sound_b : IsSound b) (K : List (Poi
   in_map n (Some c) e = (c, refl, cc e)
 
   -- what holds of the last node and of the node of each pair holds of each node
-  each_node : (P : Node (Unit {0}) → Type 0) → P last → ((k : ℕ) (X Y : Point) → slice_get K k ≡ Some (X, Y) → P (node_of (X, Y))) → (k : ℕ) (n : Node (Unit {0})) → slice_get table k ≡ Some n → P n
+  each_node : (P : Node (Unit {0}) → Type 0) → P last → ((k : ℕ) (X Y : Point) → slice_get K k ≡ Some (X, Y) → P (node_of (X, Y)))
+      → (k : ℕ) (n : Node (Unit {0})) → slice_get table k ≡ Some n → P n
   each_node P z f zero n e = let same : last ≡ n = cc e in subst P same z
   each_node P z f (suc k) n e = let d = in_map n (slice_get K k) (sym (slice_get-map node_of K k) ∙ e) in subst P d.2 (f k d.0.0 d.0.1 d.1)
 
@@ -174,7 +189,8 @@ module _ (a b : Fsmd) (sound_a : IsSound a) (sound_b : IsSound b) (K : List (Poi
   leads_on =
       record {
         starts = λ ins. stands_at Start Start (start a ins) (start b ins) (inl al.starts) (starts_hold a b ins);
-        points = each_node (λ n. (is_point a n.left ≡ true) × (is_point b n.right ≡ true)) (refl, refl) (λ k X Y e. let w = al.points k X Y e in (w.left_point, w.right_point));
+        points = each_node (λ n. (is_point a n.left ≡ true) × (is_point b n.right ≡ true)) (refl, refl)
+            (λ k X Y e. let w = al.points k X Y e in (w.left_point, w.right_point));
         owes = each_node (λ n. Owes Holds a b table n n.mode) owes_end (λ k X Y e. owes_both X Y (al.points k X Y e));
       }
 

@@ -3,10 +3,10 @@ use Rattle.std.specs.Prelude.{◌≡◌, ◌≢◌, ◌⊎◌, ℕ, true, List, 
 use Rattle.fs_model.specs.declared.parts.VarInfo.{VarInfo}
 use Rattle.fs_model.specs.Terms.{Literal}
 use Rattle.fs_model.specs.Machines.{Fsmd}
-use Rattle.fs_ast.specs.Sound.{branch_count}
+use Rattle.fs_ast.specs.SoundMachines.{branch_count}
 use Rattle.fs_cut.specs.Paths.{Point, Start, Done, Path, IsPath, is_point, state_of, branch_at, steps_in}
-use Rattle.alike_behaviour.specs.Expressions.{Expressions, initial, left_by}
-use Rattle.alike_behaviour.specs.Sameness.{SameLiterals, SameLeft}
+use Rattle.alike_behaviour.specs.PathExpressions.{ExpressionVector, initial, left_by}
+use Rattle.alike_behaviour.specs.ExpressionSameness.{SameLiterals, SameLeft}
 
 -- both declare the same names with the same roles and sorts
 pub record DeclareTheSame (a b : Fsmd) : Type 0 where
@@ -22,7 +22,7 @@ abbrev pub literals_of : Fsmd → Path → List (Literal ℕ)
 literals_of m p = (branch_at m (state_of m p.from) p.branch).literals
 
 -- what a path leaves
-abbrev pub left_after : Fsmd → Path → Expressions
+abbrev pub left_after : Fsmd → Path → ExpressionVector
 left_after m p = left_by m (steps_in p) initial
 
 -- two paths have the same literals, leave the same, and end in a pair

@@ -1,4 +1,4 @@
-pub mod Expressions
-pub mod Sameness
+pub mod PathExpressions
+pub mod ExpressionSameness
 pub mod Alike
-pub mod Values
+pub mod ExpressionValues

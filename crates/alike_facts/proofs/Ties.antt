@@ -4,19 +4,20 @@ use Rattle.std.specs.Prelude.{◌&&◌}
 use Rattle.std.specs.declared.cmp.Ordering.{Ordering}
 use Rattle.std.specs.declared.cmp.Ordering.TheVariants.{Less, Equal, Greater}
 use Rattle.std.specs.Ordering.{is_eq, ordering_reverse}
+use Rattle.std.proofs.lemmas.Bool.{and_from}
 use Rattle.fs_model.specs.declared.parts.Sort.{Sort}
 use Rattle.fs_model.specs.declared.parts.Sort.TheVariants as sort
-use Rattle.nf_terms.specs.Terms.{Polynomial, Zero, polynomial_of_symbol}
+use Rattle.nf_terms.specs.NormalTerms.{Polynomial, Zero, polynomial_of_symbol}
 use Rattle.nf_terms.specs.Order.{same_polynomial}
 use Rattle.nf_terms.specs.Lists.{ListTerm, cmp_list}
 use Rattle.nf_terms.specs.Forms.{same_form}
 use Rattle.nf_terms.specs.TermKeys.{polynomial_same, array_same}
 use Rattle.nf_terms.specs.ListComparison.{lists_total}
 use Rattle.nf_terms.specs.Computed.{Computed, Done, after}
-use Rattle.nf_terms.specs.declared.tree.Pos.{Pos}
+use Rattle.fs_model.specs.declared.sides.Pos.{Pos}
 use Rattle.nf_terms.specs.declared.form.Nf.{Nf}
 use Rattle.nf_terms.specs.declared.form.Nf.TheVariants.{Num, Arr, Seq}
-use Rattle.nf_terms.proofs.Tests.{and_both}
+use Rattle.nf_terms.proofs.Computed.{same_Done}
 use Rattle.nf_sums.specs.Operations.{added, subtracted}
 use Rattle.nf_sums.proofs.Values.{goes_done}
 use Rattle.nf_subst.specs.Vectors.{number_at}
@@ -27,9 +28,6 @@ use Rattle.propagate.specs.Rebases.{value_at}
 use Rattle.propagate.specs.Joins.{Freed, symbol_like, number_tied_to, number_tied, is_alike, form_tied, tied}
 use Rattle.alike_terms.proofs.Computing.{sum_is}
 use Rattle.alike_terms.proofs.RisenSubstitutions.{self_difference}
-
-done_is : {T : Type 0} (x y : T) → Done x ≡ Done y → x ≡ y
-done_is x y e = cc e
 
 -- ---- forms and sorts
 
@@ -88,13 +86,17 @@ module _ (v : List (Pos × Nf)) where
   number_alike p q t e (f ∷ fs) = by_form f.old (number_alike p q t e fs)
     where
       by_form : (o : Nf) {l m : Computed (Option Nf)} → l ≡ m → number_tied_to v p t f.pos o l ≡ number_tied_to v q t f.pos o m
-      by_form (Num u) g = λ k. after (subtracted t u) (λ d. after (subtracted (e k) (number_at v f.pos)) (λ c. after (substituted v d) (λ s. cond {A = Computed (Option Nf)} (same_polynomial c s) (after (added (polynomial_of_symbol f.pos) d) (λ r. Done (Some (Num r)))) (g k))))
+      by_form (Num u) g = λ k. after (subtracted t u)
+          (λ d. after (subtracted (e k) (number_at v f.pos))
+          (λ c. after (substituted v d)
+          (λ s. cond {A = Computed (Option Nf)} (same_polynomial c s) (after (added (polynomial_of_symbol f.pos) d) (λ r. Done (Some (Num r)))) (g k))))
       by_form (Arr a) g = g
       by_form (Seq l) g = g
 
   form_alike : (p q : Pos) (t : Nf) → form_like v p t ≡ form_like v q t → (fs : List Freed) → form_tied v p t fs ≡ form_tied v q t fs
   form_alike p q t e [] = refl
-  form_alike p q t e (f ∷ fs) = λ k. cond {A = Option Nf} (same_form t f.old && same_form (e k) (form_like v f.pos f.old)) (Some (symbol_like f.pos t)) (form_alike p q t e fs k)
+  form_alike p q t e (f ∷ fs) = λ k. cond {A = Option Nf} (same_form t f.old && same_form (e k) (form_like v f.pos f.old)) (Some (symbol_like f.pos t))
+      (form_alike p q t e fs k)
 
   pub tied_alike : (p q : Pos) (t : Nf) (fs : List Freed) → form_like v p t ≡ form_like v q t → tied v p t fs ≡ tied v q t fs
   tied_alike p q (Num t) fs e = number_alike p q t (number_of_like p q t e) fs
@@ -109,19 +111,34 @@ module _ (v : List (Pos × Nf)) where
 
   number_passes : (p : Pos) (t : Polynomial) (q : Pos) (o : Nf) (l : Computed (Option Nf)) → number_tied_to v p t q o l ≡ Done None → PassesOn p t q o l
   number_passes p t q (Num u) l e =
-      let a = goes_done (subtracted t u) (λ d. after (subtracted (number_at v p) (number_at v q)) (λ c. after (substituted v d) (λ s. cond (same_polynomial c s) (after (added (polynomial_of_symbol q) d) (λ r. Done (Some (Num r)))) l))) None e in
-      let b = goes_done (subtracted (number_at v p) (number_at v q)) (λ c. after (substituted v a.middle) (λ s. cond (same_polynomial c s) (after (added (polynomial_of_symbol q) a.middle) (λ r. Done (Some (Num r)))) l)) None a.next in
-      let c = goes_done (substituted v a.middle) (λ s. cond (same_polynomial b.middle s) (after (added (polynomial_of_symbol q) a.middle) (λ r. Done (Some (Num r)))) l) None b.next in
+      let a = goes_done (subtracted t u)
+      (λ d. after (subtracted (number_at v p) (number_at v q))
+      (λ c. after (substituted v d) (λ s. cond (same_polynomial c s) (after (added (polynomial_of_symbol q) d) (λ r. Done (Some (Num r)))) l))) None e in
+      let b = goes_done (subtracted (number_at v p) (number_at v q))
+      (λ c. after (substituted v a.middle) (λ s. cond (same_polynomial c s) (after (added (polynomial_of_symbol q) a.middle) (λ r. Done (Some (Num r)))) l))
+      None a.next in
+      let c = goes_done (substituted v a.middle)
+      (λ s. cond (same_polynomial b.middle s) (after (added (polynomial_of_symbol q) a.middle) (λ r. Done (Some (Num r)))) l) None b.next in
       by_test a.middle b.middle c.middle (same_polynomial b.middle c.middle) refl a.first b.first c.first c.next
     where
-      by_test : (d g s : Polynomial) (z : Bool) → same_polynomial g s ≡ z → subtracted t u ≡ Done d → subtracted (number_at v p) (number_at v q) ≡ Done g → substituted v d ≡ Done s
+      by_test : (d g s : Polynomial) (z : Bool) → same_polynomial g s ≡ z → subtracted t u ≡ Done d → subtracted (number_at v p) (number_at v q) ≡ Done g
+          → substituted v d ≡ Done s
           → cond {A = Computed (Option Nf)} z (after (added (polynomial_of_symbol q) d) (λ r. Done (Some (Num r)))) l ≡ Done None → PassesOn p t q (Num u) l
-      by_test d g s true h i j k w = let r = goes_done (added (polynomial_of_symbol q) d) (λ r. Done (Some (Num r))) None w in absurd (let n : Some (Num r.middle) ≡ None = cc r.next in cc n)
+      by_test d g s true h i j k w = let r = goes_done (added (polynomial_of_symbol q) d) (λ r. Done (Some (Num r))) None w in
+          absurd (let n : Some (Num r.middle) ≡ None = cc r.next in cc n)
       by_test d g s false h i j k w =
           record {
-            passes = λ m. (λ n. after (i n) (λ d. after (subtracted (number_at v p) (number_at v q)) (λ c. after (substituted v d) (λ s. cond {A = Computed (Option Nf)} (same_polynomial c s) (after (added (polynomial_of_symbol q) d) (λ r. Done (Some (Num r)))) m))))
-                ∙ (λ n. after (j n) (λ c. after (substituted v d) (λ s. cond {A = Computed (Option Nf)} (same_polynomial c s) (after (added (polynomial_of_symbol q) d) (λ r. Done (Some (Num r)))) m)))
-                ∙ (λ n. after (k n) (λ s. cond {A = Computed (Option Nf)} (same_polynomial g s) (after (added (polynomial_of_symbol q) d) (λ r. Done (Some (Num r)))) m))
+            passes =
+                λ m.
+                (λ n. after (i n)
+                (λ d. after (subtracted (number_at v p) (number_at v q))
+                (λ c. after (substituted v d)
+                (λ s. cond {A = Computed (Option Nf)} (same_polynomial c s) (after (added (polynomial_of_symbol q) d) (λ r. Done (Some (Num r)))) m))))
+                ∙ (λ n. after (j n)
+                (λ c. after (substituted v d)
+                (λ s. cond {A = Computed (Option Nf)} (same_polynomial c s) (after (added (polynomial_of_symbol q) d) (λ r. Done (Some (Num r)))) m)))
+                ∙ (λ n. after (k n)
+                (λ s. cond {A = Computed (Option Nf)} (same_polynomial g s) (after (added (polynomial_of_symbol q) d) (λ r. Done (Some (Num r)))) m))
                 ∙ ap (λ y. cond {A = Computed (Option Nf)} y (after (added (polynomial_of_symbol q) d) (λ r. Done (Some (Num r)))) m) h;
             later = w;
           }
@@ -138,34 +155,49 @@ module _ (v : List (Pos × Nf)) where
   form_more p t [] gs e = refl
   form_more p t (f ∷ fs) gs e = by_test (is_alike v p t f) e (form_more p t fs gs)
     where
-      by_test : (b : Bool) → cond b (Some (symbol_like f.pos t)) (form_tied v p t fs) ≡ None → (form_tied v p t fs ≡ None → form_tied v p t (fs ++ gs) ≡ form_tied v p t gs)
+      by_test : (b : Bool) → cond b (Some (symbol_like f.pos t)) (form_tied v p t fs) ≡ None
+          → (form_tied v p t fs ≡ None → form_tied v p t (fs ++ gs) ≡ form_tied v p t gs)
           → cond b (Some (symbol_like f.pos t)) (form_tied v p t (fs ++ gs)) ≡ form_tied v p t gs
       by_test true h next = absurd (cc h)
       by_test false h next = next h
 
   -- ---- a position is tied to one with its values
 
-  number_self : (p : Pos) (t : Polynomial) (r : Option Nf) → number_tied v p t (record { pos = p; old = Num t } ∷ []) ≡ Done r → r ≡ Some (Num (polynomial_of_symbol p))
+  number_self : (p : Pos) (t : Polynomial) (r : Option Nf) → number_tied v p t (record { pos = p; old = Num t } ∷ []) ≡ Done r
+      → r ≡ Some (Num (polynomial_of_symbol p))
   number_self p t r e =
-      let a = goes_done (subtracted t t) (λ d. after (subtracted (number_at v p) (number_at v p)) (λ c. after (substituted v d) (λ s. cond (same_polynomial c s) (after (added (polynomial_of_symbol p) d) (λ r. Done (Some (Num r)))) (Done None)))) r e in
-      let b = goes_done (subtracted (number_at v p) (number_at v p)) (λ c. after (substituted v a.middle) (λ s. cond (same_polynomial c s) (after (added (polynomial_of_symbol p) a.middle) (λ r. Done (Some (Num r)))) (Done None))) r a.next in
+      let a = goes_done (subtracted t t)
+      (λ d. after (subtracted (number_at v p) (number_at v p))
+      (λ c. after (substituted v d) (λ s. cond (same_polynomial c s) (after (added (polynomial_of_symbol p) d) (λ r. Done (Some (Num r)))) (Done None)))) r e in
+      let b = goes_done (subtracted (number_at v p) (number_at v p))
+      (λ c. after (substituted v a.middle)
+      (λ s. cond (same_polynomial c s) (after (added (polynomial_of_symbol p) a.middle) (λ r. Done (Some (Num r)))) (Done None))) r a.next in
       let d : a.middle ≡ Zero = self_difference t a.middle a.first in
       let c : b.middle ≡ Zero = self_difference (number_at v p) b.middle b.first in
       let k : after (added (polynomial_of_symbol p) Zero) (λ r. Done (Some (Num r))) ≡ Done r =
-      sym (ap₂ (λ x y. after (substituted v x) (λ s. cond {A = Computed (Option Nf)} (same_polynomial y s) (after (added (polynomial_of_symbol p) x) (λ r. Done (Some (Num r)))) (Done None))) d c) ∙ b.next in
+      sym
+      (ap₂
+      (λ x y. after (substituted v x)
+      (λ s. cond {A = Computed (Option Nf)} (same_polynomial y s) (after (added (polynomial_of_symbol p) x) (λ r. Done (Some (Num r)))) (Done None))) d c)
+      ∙ b.next in
       let m = goes_done (added (polynomial_of_symbol p) Zero) (λ r. Done (Some (Num r))) r k in
-      sym (done_is (Some (Num m.middle)) r m.next) ∙ ap (λ z. Some (Num z)) (symbol_more p m.middle m.first)
+      sym (same_Done (Some (Num m.middle)) r m.next) ∙ ap (λ z. Some (Num z)) (symbol_more p m.middle m.first)
 
   form_tied_self : (p : Pos) (t : Nf) → form_tied v p t (record { pos = p; old = t } ∷ []) ≡ Some (symbol_like p t)
-  form_tied_self p t = ap (λ b. cond {A = Option Nf} b (Some (symbol_like p t)) None) (and_both (same_form t t) (same_form (form_like v p t) (form_like v p t)) (form_self t) (form_self (form_like v p t)))
+  form_tied_self p t = ap (λ b. cond {A = Option Nf} b (Some (symbol_like p t)) None)
+      (and_from (same_form t t) (same_form (form_like v p t) (form_like v p t)) (form_self t) (form_self (form_like v p t)))
 
   -- where a position is not tied and is freed, one with its values is tied to it
-  pub tied_to_freed : (p q : Pos) (t : Nf) (fs : List Freed) (r : Option Nf) → form_like v p t ≡ form_like v q t → tied v p t fs ≡ Done None → tied v q t (fs ++ record { pos = p; old = t } ∷ []) ≡ Done r → r ≡ Some (symbol_like p t)
+  pub tied_to_freed : (p q : Pos) (t : Nf) (fs : List Freed) (r : Option Nf) → form_like v p t ≡ form_like v q t → tied v p t fs ≡ Done None
+      → tied v q t (fs ++ record { pos = p; old = t } ∷ []) ≡ Done r → r ≡ Some (symbol_like p t)
   tied_to_freed p q (Num t) fs r e g h =
-      number_self p t r (sym (number_more p t fs (record { pos = p; old = Num t } ∷ []) g) ∙ tied_alike p q (Num t) (fs ++ record { pos = p; old = Num t } ∷ []) e ∙ h)
+      number_self p t r
+      (sym (number_more p t fs (record { pos = p; old = Num t } ∷ []) g) ∙ tied_alike p q (Num t) (fs ++ record { pos = p; old = Num t } ∷ []) e ∙ h)
   tied_to_freed p q (Arr a) fs r e g h =
-      sym (done_is (form_tied v q (Arr a) (fs ++ record { pos = p; old = Arr a } ∷ [])) r h) ∙ sym (form_alike p q (Arr a) e (fs ++ record { pos = p; old = Arr a } ∷ []))
-      ∙ form_more p (Arr a) fs (record { pos = p; old = Arr a } ∷ []) (done_is (form_tied v p (Arr a) fs) None g) ∙ form_tied_self p (Arr a)
+      sym (same_Done (form_tied v q (Arr a) (fs ++ record { pos = p; old = Arr a } ∷ [])) r h)
+      ∙ sym (form_alike p q (Arr a) e (fs ++ record { pos = p; old = Arr a } ∷ []))
+      ∙ form_more p (Arr a) fs (record { pos = p; old = Arr a } ∷ []) (same_Done (form_tied v p (Arr a) fs) None g) ∙ form_tied_self p (Arr a)
   tied_to_freed p q (Seq l) fs r e g h =
-      sym (done_is (form_tied v q (Seq l) (fs ++ record { pos = p; old = Seq l } ∷ [])) r h) ∙ sym (form_alike p q (Seq l) e (fs ++ record { pos = p; old = Seq l } ∷ []))
-      ∙ form_more p (Seq l) fs (record { pos = p; old = Seq l } ∷ []) (done_is (form_tied v p (Seq l) fs) None g) ∙ form_tied_self p (Seq l)
+      sym (same_Done (form_tied v q (Seq l) (fs ++ record { pos = p; old = Seq l } ∷ [])) r h)
+      ∙ sym (form_alike p q (Seq l) e (fs ++ record { pos = p; old = Seq l } ∷ []))
+      ∙ form_more p (Seq l) fs (record { pos = p; old = Seq l } ∷ []) (same_Done (form_tied v p (Seq l) fs) None g) ∙ form_tied_self p (Seq l)

@@ -3,10 +3,10 @@ use Rattle.std.specs.Prelude.{◌≡◌, ℕ, List, [], ◌∷◌, map}
 use Rattle.fs_model.specs.declared.parts.Sort.{Sort}
 use Rattle.fs_model.specs.Machines.{Fsmd}
 use Rattle.fs_pair.specs.declared.positions.Position.{Position}
-use Rattle.nf_terms.specs.declared.tree.Side.TheVariants.{Left, Right}
-use Rattle.nf_terms.specs.declared.tree.Pos.{Pos}
-use Rattle.sym_paths.specs.Stores.{at}
-use Rattle.alike_behaviour.specs.Sameness.{AreTwins}
+use Rattle.fs_model.specs.declared.sides.Side.TheVariants.{Left, Right}
+use Rattle.fs_model.specs.declared.sides.Pos.{Pos}
+use Rattle.sym_paths.specs.ValuationStores.{at}
+use Rattle.alike_behaviour.specs.ExpressionSameness.{AreTwins}
 
 -- a left position and a right one, of twins
 pub record IsCouple (a b : Fsmd) (p q : Pos × Sort) : Type 0 where

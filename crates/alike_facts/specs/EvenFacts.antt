@@ -1,7 +1,7 @@
 -- Facts whose positions stand in couples: of each the second has as its equation what the first one is.
 use Rattle.std.specs.Prelude.{◌≡◌, List, [], ◌∷◌, map, Some}
 use Rattle.fs_model.specs.declared.parts.Sort.{Sort}
-use Rattle.nf_terms.specs.declared.tree.Pos.{Pos}
+use Rattle.fs_model.specs.declared.sides.Pos.{Pos}
 use Rattle.nf_terms.specs.declared.form.Nf.{Nf}
 use Rattle.sym_facts.specs.Facts.{FactPosition, Fact, form_or_symbol}
 use Rattle.propagate.specs.Rebases.{value_at}

@@ -3,11 +3,11 @@
 ghost use Rattle.std.specs.Prelude.{◌≡◌, true, List};
 ghost use Rattle.std.specs.List.{list_all};
 ghost use Rattle.fs_model.specs.Machines.{Fsmd};
-ghost use Rattle.fs_ast.specs.Sound.{IsSound};
+ghost use Rattle.fs_ast.specs.SoundMachines.{IsSound};
 ghost use Rattle.fs_pair.specs.Positions.{positions};
 ghost use Rattle.fs_pair.specs.declared.positions.Position.{Position};
 ghost use Rattle.nf_terms.specs.Computed.{Done};
-ghost use Rattle.nf_terms.specs.declared.tree.Pos.{Pos};
+ghost use Rattle.fs_model.specs.declared.sides.Pos.{Pos};
 ghost use Rattle.nf_terms.specs.declared.form.Nf.{Nf};
 ghost use Rattle.fs_model.specs.declared.parts.Sort.{Sort};
 ghost use Rattle.sym_paths.specs.Execution.{Post};
@@ -31,9 +31,11 @@ pub fn machines_that_declare_the_same_begin_evenly()
 
 /// In an even vector each couple has equal values, and an even fact has an even vector.
 pub fn even_facts_have_even_vectors()
-    ensures values { (a b : Fsmd) (v : List (Pos × Nf)) (ps : List (Pos × Sort)) → IsEven a b v → AreCouples a b ps → AreEvenValues v ps }
+    ensures values { (a b : Fsmd) (v : List (Pos × Nf)) (ps : List (Pos × Sort)) → IsEven a b v → AreCouples a b ps
+        → AreEvenValues v ps }
     ensures vector { (a b : Fsmd) (f : Fact) → IsSound a → IsSound b → DeclareTheSame a b
-        → places_of f.positions ≡ sorted_positions (positions a b) → list_all (λ p. has_its_sort p.sort p.equation) f.positions ≡ true
+        → places_of f.positions ≡ sorted_positions (positions a b)
+        → list_all (λ p. has_its_sort p.sort p.equation) f.positions ≡ true
         → IsEvenFact f → IsEven a b (vector_of f.positions) }
 {}
 
@@ -46,7 +48,8 @@ pub fn rebases_keep_evenness()
 /// The join of an even fact with a post in whose vector each couple has equal values is even.
 pub fn joins_keep_evenness()
     ensures { (old new : Fact) (post : Post) (missing : Missing) → IsRisenVector post.vector
-        → AreEvenValues post.vector (places_of old.positions) → list_all (λ p. has_its_sort p.sort p.equation) old.positions ≡ true
+        → AreEvenValues post.vector (places_of old.positions)
+        → list_all (λ p. has_its_sort p.sort p.equation) old.positions ≡ true
         → IsEvenFact old → entails post old ≡ Done missing → join old post missing ≡ Done new → IsEvenFact new }
 {}
 
@@ -54,6 +57,7 @@ pub fn joins_keep_evenness()
 pub fn facts_rise()
     ensures start { (ps : List Position) → IsRisenFact (start_fact ps) }
     ensures rebase { (post : Post) (ps : List Position) (f : Fact) → rebase post ps ≡ Done f → IsRisenFact f }
-    ensures join { (old new : Fact) (post : Post) (missing : Missing) → IsRisenFact old → join old post missing ≡ Done new → IsRisenFact new }
+    ensures join { (old new : Fact) (post : Post) (missing : Missing) → IsRisenFact old → join old post missing ≡ Done new
+        → IsRisenFact new }
     ensures vector { (f : Fact) → IsRisenFact f → IsRisenVector (vector_of f.positions) }
 {}

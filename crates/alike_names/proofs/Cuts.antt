@@ -6,14 +6,14 @@ use Rattle.fs_model.specs.Limits.{most_branches}
 use Rattle.fs_model.specs.Terms.{Term, Variable, Sum, Difference, Product, Assignment, Assign, Transition}
 use Rattle.fs_model.specs.Machines.{transitions_of}
 use Rattle.fs_rules.specs.Sound.{IsSoundTransition}
-use Rattle.fs_ast.specs.Sound.{IsSound, branch_count, ends_open, reaches_cutpoint}
+use Rattle.fs_ast.specs.SoundMachines.{IsSound, branch_count, ends_open, reaches_cutpoint}
 use Rattle.fs_ast.specs.Branches.{is_sound_assignment}
 use Rattle.fs_cut.specs.Paths.{Point, Start, At, Done, Path, IsPath, state_of}
 use Rattle.fs_cut.proofs.Listed.{path_unique}
-use Rattle.alike_behaviour.specs.Expressions.{Expression, Initial, InitialArray, InitialList, initial, expressed, acted_all}
-use Rattle.alike_behaviour.specs.Sameness.{SameLeft}
+use Rattle.alike_behaviour.specs.PathExpressions.{Expression, Initial, InitialArray, InitialList, initial, expressed, acted_all}
+use Rattle.alike_behaviour.specs.ExpressionSameness.{SameLeft}
 use Rattle.alike_behaviour.specs.Alike.{AlikePaths, AlikePoints, Alike, literals_of, left_after}
-use Rattle.alike_names.specs.Cuts.{their_variables, difference, sum, product, product_at_once, goto, choice, in_one_step, in_two_steps, their_pairs}
+use Rattle.alike_names.specs.SplitStates.{their_variables, difference, sum, product, product_at_once, goto, choice, in_one_step, in_two_steps, their_pairs}
 use Rattle.alike_names.proofs.OwnExpressions.{own_initial, own_literals, own_all}
 use Rattle.alike_names.proofs.Names.{same_to_twin, declare_the_same}
 

@@ -6,14 +6,14 @@ use Rattle.fs_model.specs.declared.parts.Sort.TheVariants as sort
 use Rattle.fs_model.specs.Machines.{Fsmd}
 use Rattle.fs_model.specs.Runs.{is_scalar, is_array, is_port}
 use Rattle.fs_rules.specs.Sound.{has_sort, names_differ}
-use Rattle.fs_ast.specs.Sound.{IsSound, branch_count}
+use Rattle.fs_ast.specs.SoundMachines.{IsSound, branch_count}
 use Rattle.fs_cut.specs.Paths.{Point, Path, IsPath, state_of, target_of, steps_in}
 use Rattle.fs_cut.proofs.Listed.{path_unique, passes_end}
-use Rattle.alike_behaviour.specs.Expressions.{Expressions, initial}
-use Rattle.alike_behaviour.specs.Sameness.{AreTwins, Same, SameArray, SameList, SameLiterals, SameLeft}
+use Rattle.alike_behaviour.specs.PathExpressions.{ExpressionVector, initial}
+use Rattle.alike_behaviour.specs.ExpressionSameness.{AreTwins, Same, SameArray, SameListExpression, SameLiterals, SameLeft}
 use Rattle.alike_behaviour.specs.Alike.{DeclareTheSame, literals_of, left_after, AlikePaths, AlikePoints, Alike}
 use Rattle.alike_facts.proofs.Coupled.{one_name}
-use Rattle.alike_names.specs.Names.{DifferInNames, own_pairs}
+use Rattle.alike_names.specs.RenamedStates.{DifferInNames, own_pairs}
 use Rattle.alike_names.proofs.Pairs.{own, stands_once, paired}
 use Rattle.alike_names.proofs.OwnExpressions.{AreOwn, own_initial, own_literals}
 use Rattle.alike_names.proofs.SamePaths.{branch_fine, same_count, same_point, same_state, path_back, same_literals, same_left, own_left}
@@ -26,11 +26,11 @@ module _ (a b : Fsmd) (differ : names_differ (map (λ v. v.name) a.variables) �
   there : (test : Sort → Bool) (σ : Sort) → test σ ≡ true → (x y : ℕ) → AreTwins a b σ x y → has_sort test (slice_get a.variables x) ≡ true
   there test σ h x y t = ap (has_sort test) t.left ∙ ap test t.sorted ∙ h
 
-  pub same_to_twin : (s : Expressions) → AreOwn a b same s → SameLeft a b s s
+  pub same_to_twin : (s : ExpressionVector) → AreOwn a b same s → SameLeft a b s s
   same_to_twin s own = record {
     scalars = λ x y t. subst (λ z. Same a b (s.scalar x) (s.scalar z)) (one_number sort.Scalar x y t) (own.scalar x (there is_scalar sort.Scalar refl x y t));
     arrays = λ x y t. subst (λ z. SameArray a b (s.array x) (s.array z)) (one_number sort.Array x y t) (own.array x (there is_array sort.Array refl x y t));
-    ports = λ x y t. subst (λ z. SameList a b (s.port x) (s.port z)) (one_number sort.Port x y t) (own.port x (there is_port sort.Port refl x y t));
+    ports = λ x y t. subst (λ z. SameListExpression a b (s.port x) (s.port z)) (one_number sort.Port x y t) (own.port x (there is_port sort.Port refl x y t));
   }
 
   pub declare_the_same : DeclareTheSame a b

@@ -5,13 +5,13 @@ use Rattle.std.specs.List.{list_all, slice_index_or}
 use Rattle.fs_model.specs.Machines.{Fsmd, transitions_of}
 use Rattle.fs_model.specs.Terms.{Transition}
 use Rattle.fs_model.specs.Trees.{Branch, branches_of}
-use Rattle.fs_ast.specs.Sound.{IsSound, branch_count, is_cutpoint}
+use Rattle.fs_ast.specs.SoundMachines.{IsSound, branch_count, is_cutpoint}
 use Rattle.fs_ast.specs.Branches.{is_sound_literal, is_sound_assignment}
 use Rattle.fs_ast.proofs.Lifted.{branch_sound}
-use Rattle.fs_cut.specs.Paths.{Point, Start, At, Done, Path, IsPath, is_point, is_fork, state_of, end_at, branch_at, target_of, Passes, Step}
-use Rattle.alike_behaviour.specs.Expressions.{Expressions, acted_all, left_by}
+use Rattle.fs_cut.specs.Paths.{Point, Start, At, Done, Path, IsPath, is_point, is_fork, state_of, end_at, branch_at, target_of, Passes, BranchStep}
+use Rattle.alike_behaviour.specs.PathExpressions.{ExpressionVector, acted_all, left_by}
 use Rattle.alike_behaviour.specs.Alike.{literals_of}
-use Rattle.alike_names.specs.Names.{DifferInNames}
+use Rattle.alike_names.specs.RenamedStates.{DifferInNames}
 use Rattle.alike_names.proofs.OwnExpressions.{AreOwn, own_all}
 
 -- ---- branches of a sound machine
@@ -29,7 +29,8 @@ module _ (m : Fsmd) (sound : IsSound m) where
   pub branch_fine : (q k : ℕ) → IsFine (branch_at m q k)
   branch_fine q k =
       at_or IsFine (branches_of (transitions_of m q)) k (record { literals = []; assignments = []; target = 0 })
-      (λ j b e. let s = branch_sound m sound q j b e in record { literals_fine = s.literals; assignments_fine = s.assignments }) (record { literals_fine = refl; assignments_fine = refl })
+      (λ j b e. let s = branch_sound m sound q j b e in record { literals_fine = s.literals; assignments_fine = s.assignments })
+      (record { literals_fine = refl; assignments_fine = refl })
 
 -- ---- the same paths
 
@@ -38,7 +39,8 @@ module _ (a b : Fsmd) (same : DifferInNames a b) where
   same_count q = ap (λ (ls : List (Transition ℕ ℕ)). length (branches_of ls)) (same.transitions q)
 
   same_branch : (q k : ℕ) → branch_at a q k ≡ branch_at b q k
-  same_branch q k = ap (λ (ls : List (Transition ℕ ℕ)). slice_index_or (branches_of ls) k (record { literals = []; assignments = []; target = 0 })) (same.transitions q)
+  same_branch q k = ap (λ (ls : List (Transition ℕ ℕ)). slice_index_or (branches_of ls) k (record { literals = []; assignments = []; target = 0 }))
+      (same.transitions q)
 
   same_target : (q k : ℕ) → target_of a q k ≡ target_of b q k
   same_target q k = ap (λ (x : Branch). x.target) (same_branch q k)
@@ -85,7 +87,7 @@ module _ (a b : Fsmd) (same : DifferInNames a b) where
   pub same_literals : (p : Path) → literals_of a p ≡ literals_of b p
   same_literals p = ap (λ q. (branch_at a q p.branch).literals) (same_state p.from) ∙ ap (λ (x : Branch). x.literals) (same_branch (state_of b p.from) p.branch)
 
-  pub same_left : (xs : List Step) (s : Expressions) → left_by a xs s ≡ left_by b xs s
+  pub same_left : (xs : List BranchStep) (s : ExpressionVector) → left_by a xs s ≡ left_by b xs s
   same_left [] s = refl
   same_left (x ∷ xs) s =
       same_left xs (acted_all (branch_at a x.state x.branch).assignments s s)
@@ -93,7 +95,7 @@ module _ (a b : Fsmd) (same : DifferInNames a b) where
 
   -- ---- what steps of the first machine leave
 
-  pub own_left : IsSound a → (xs : List Step) (s : Expressions) → AreOwn a b same.variables s → AreOwn a b same.variables (left_by a xs s)
+  pub own_left : IsSound a → (xs : List BranchStep) (s : ExpressionVector) → AreOwn a b same.variables s → AreOwn a b same.variables (left_by a xs s)
   own_left sound [] s own = own
   own_left sound (x ∷ xs) s own =
       let fine = branch_fine a sound x.state x.branch in

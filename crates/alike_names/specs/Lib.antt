@@ -1,2 +1,2 @@
-pub mod Names
-pub mod Cuts
+pub mod RenamedStates
+pub mod SplitStates

@@ -3,24 +3,24 @@ use Rattle.std.proofs.Common.{◌≡◌, ℕ, ◌+◌, refl, ap, ◌∙◌, inl,
 use Rattle.std.specs.Prelude.{◌⊎◌}
 use Rattle.std.specs.List.{AllByRecursion}
 use Rattle.std.specs.Option.{option_map, option_or}
-use Rattle.fs_ast.specs.Sound.{IsSound}
+use Rattle.base_lemmas.proofs.Quantifiers.{each_at}
+use Rattle.fs_ast.specs.SoundMachines.{IsSound}
 use Rattle.fs_cut.specs.Paths.{Point, Done}
-use Rattle.fs_pair.specs.Outputs.{OutputPair, output_pairs}
-use Rattle.bisimulation.specs.declared.mode.Mode.TheVariants.{Both, End}
-use Rattle.nf_terms.specs.declared.tree.Side.{Side}
-use Rattle.nf_terms.specs.declared.tree.Side.TheVariants as side
-use Rattle.nf_terms.specs.declared.tree.Pos.{Pos}
+use Rattle.fs_pair.specs.PairedOutputs.{OutputPair, output_pairs}
+use Rattle.cert_bisimulation.specs.declared.mode.Mode.TheVariants.{Both, End}
+use Rattle.fs_model.specs.declared.sides.Side.{Side}
+use Rattle.fs_model.specs.declared.sides.Side.TheVariants as side
+use Rattle.fs_model.specs.declared.sides.Pos.{Pos}
 use Rattle.nf_terms.specs.declared.form.Nf.{Nf}
 use Rattle.sym_facts.specs.Facts.{vector_of}
-use Rattle.certificates.specs.Obligations.{same_forms}
+use Rattle.cert_model.specs.Obligations.{same_forms}
 use Rattle.alike_behaviour.specs.Alike.{Alike}
 use Rattle.alike_paths.specs.Evenness.{IsEven}
 use Rattle.search_tables.specs.declared.moves.Move.{Move}
-use Rattle.search_tables.specs.Tables.{Machines, Node, Table, is_at}
+use Rattle.search_tables.specs.SearchTables.{MachinePair, SearchNode, Table, is_at}
 use Rattle.search_tables.specs.Legal.{Difference, first_differing, output_at, stuck_from, stuck, Makes}
 use Rattle.search_tables.specs.LoneMoves.{lone_mode, Spins}
 use Rattle.search_tables.specs.Obstacles.{Stuck, Spin, IsObstacle}
-use Rattle.search_tables.proofs.Lists.{one_of}
 use Rattle.alike_tables.specs.Even.{IsEvenNode, IsEvenTable}
 use Rattle.alike_tables.proofs.Outputs.{outputs_same}
 use Rattle.alike_tables.proofs.EvenNodes.{vector_between, node_modes}
@@ -40,11 +40,11 @@ not_alone side.Left (inr e) = absurd (cc e)
 not_alone side.Right (inl e) = absurd (cc e)
 not_alone side.Right (inr e) = absurd (cc e)
 
-module _ (m : Machines) (sound_left : IsSound m.left) (sound_right : IsSound m.right) (K : List (Point × Point)) (alike : Alike m.left m.right K) where
-  abbrev EvenNode : Node → Type 0
+module _ (m : MachinePair) (sound_left : IsSound m.left) (sound_right : IsSound m.right) (K : List (Point × Point)) (alike : Alike m.left m.right K) where
+  abbrev EvenNode : SearchNode → Type 0
   EvenNode n = IsEvenNode m.left m.right K n
 
-  no_output : (n : Node) → EvenNode n → output_at m n ≡ None
+  no_output : (n : SearchNode) → EvenNode n → output_at m n ≡ None
   no_output n h = by_end (is_at Done Done n)
     where
       v : List (Pos × Nf)
@@ -63,7 +63,7 @@ module _ (m : Machines) (sound_left : IsSound m.left) (sound_right : IsSound m.r
       by_end true = none
       by_end false = refl
 
-  none_from : (i : ℕ) (ns : List Node) → AllByRecursion EvenNode ns → stuck_from m i ns ≡ None
+  none_from : (i : ℕ) (ns : List SearchNode) → AllByRecursion EvenNode ns → stuck_from m i ns ≡ None
   none_from i [] h = refl
   none_from i (n ∷ ns) h = ap (λ (x : Option ℕ). option_or (option_map (difference i) x) (stuck_from m (i + 1) ns)) (no_output n h.0) ∙ none_from (i + 1) ns h.1
 
@@ -74,7 +74,7 @@ module _ (m : Machines) (sound_left : IsSound m.left) (sound_right : IsSound m.r
   none_spins T h d [] s = s.follow
   none_spins T h d (k ∷ ks) s =
       let x = s.alone.0 in
-      not_alone d (node_modes m sound_left sound_right K alike x.node (one_of EvenNode T k x.node h x.is_in) (lone_mode d) x.mode)
+      not_alone d (node_modes m sound_left sound_right K alike x.node (each_at EvenNode T k x.node h x.is_in) (lone_mode d) x.mode)
 
   its_table : (moves : List Move) (T : Table) → Makes m moves T → IsEvenTable m.left m.right K T
   its_table moves T h = even_tables m sound_left sound_right K alike moves T h

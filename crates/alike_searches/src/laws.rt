@@ -2,21 +2,21 @@
 
 ghost use Rattle.std.specs.Prelude.{◌≡◌, ℕ, List, None};
 ghost use Rattle.fs_model.specs.Machines.{Fsmd};
-ghost use Rattle.fs_ast.specs.Sound.{IsSound};
+ghost use Rattle.fs_ast.specs.SoundMachines.{IsSound};
 ghost use Rattle.fs_cut.specs.Paths.{Point};
 ghost use Rattle.fs_pair.specs.Interfaces.{interface_fault};
-ghost use Rattle.nf_terms.specs.declared.tree.Side.{Side};
+ghost use Rattle.fs_model.specs.declared.sides.Side.{Side};
 ghost use Rattle.alike_behaviour.specs.Alike.{DeclareTheSame, Alike};
 ghost use Rattle.search_tables.specs.declared.moves.Move.{Move as PlainMove};
-ghost use Rattle.search_tables.specs.Tables.{Machines};
+ghost use Rattle.search_tables.specs.SearchTables.{MachinePair};
 ghost use Rattle.search_tables.specs.Obstacles.{Stuck, Spin, IsObstacle};
 
 /// Limits alone stop a search of alike machines: no legal list of moves leads to outputs that differ, nor to one machine alone in
 /// a cycle.
 pub fn limits_alone_stop_alike_machines()
-    ensures stuck { (m : Machines) (pairs : List (Point × Point)) (moves : List PlainMove) (node output : ℕ)
+    ensures stuck { (m : MachinePair) (pairs : List (Point × Point)) (moves : List PlainMove) (node output : ℕ)
         → IsSound m.left → IsSound m.right → Alike m.left m.right pairs → IsObstacle m moves (Stuck node output) → ⊥ }
-    ensures spin { (m : Machines) (pairs : List (Point × Point)) (moves : List PlainMove) (side : Side) (cycle : List ℕ)
+    ensures spin { (m : MachinePair) (pairs : List (Point × Point)) (moves : List PlainMove) (side : Side) (cycle : List ℕ)
         → IsSound m.left → IsSound m.right → Alike m.left m.right pairs → IsObstacle m moves (Spin side cycle) → ⊥ }
 {}
 

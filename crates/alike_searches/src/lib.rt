@@ -1,4 +1,9 @@
 //! Searches of alike machines: limits alone stop them.
+//!
+//! Promises: limits alone stop a search of alike machines, over laws of their terms, paths, facts and tables
+//! (`alike_*`).
+//!
+//! Rules: `specs/Where`, `src/laws`.
 #![tactic(auto)]
 
 pub mod laws;

@@ -3,12 +3,12 @@ use Rattle.std.proofs.Common.{◌≡◌, ap₂, sym, refl, ◌∙◌, subst, inl
 use Rattle.std.specs.Prelude.{◌⊎◌}
 use Rattle.std.specs.List.{list_all}
 use Rattle.fs_model.specs.Machines.{Fsmd}
-use Rattle.fs_ast.specs.Sound.{IsSound}
+use Rattle.fs_ast.specs.SoundMachines.{IsSound}
 use Rattle.fs_cut.specs.Paths.{Point, Done}
 use Rattle.fs_pair.specs.declared.positions.Position.{Position}
 use Rattle.fs_pair.specs.Positions.{positions}
-use Rattle.bisimulation.specs.declared.mode.Mode.{Mode}
-use Rattle.bisimulation.specs.declared.mode.Mode.TheVariants.{Both, End}
+use Rattle.cert_bisimulation.specs.declared.mode.Mode.{Mode}
+use Rattle.cert_bisimulation.specs.declared.mode.Mode.TheVariants.{Both, End}
 use Rattle.sym_facts.specs.Facts.{FactPosition, Fact, has_its_sort, vector_of}
 use Rattle.sym_facts.proofs.Vectors.{positions_again}
 use Rattle.propagate.specs.Modes.{Found, mode_of}
@@ -19,7 +19,7 @@ use Rattle.alike_facts.specs.Couples.{AreCouples, sorted_positions}
 use Rattle.alike_facts.specs.EvenFacts.{places_of}
 use Rattle.alike_facts.proofs.Coupled.{Among, positions_couple, positions_among}
 use Rattle.alike_facts.proofs.EvenVectors.{even_vector}
-use Rattle.search_tables.specs.Tables.{Machines, Node}
+use Rattle.search_tables.specs.SearchTables.{MachinePair, SearchNode}
 use Rattle.search_tables.specs.Next.{mode_at}
 use Rattle.alike_tables.specs.Even.{IsEvenBetween, IsEvenNode}
 use Rattle.alike_tables.proofs.Modes.{found_is, both_move}
@@ -58,8 +58,8 @@ module _ (a b : Fsmd) (f : Fact) (h : IsEvenBetween a b f) where
 pub done_ends : (a b : Fsmd) (f : Fact) (P Q : Point) → P ≡ Done → Q ≡ Done → (mode : Mode) → mode_of a b f P Q ≡ Found mode → mode ≡ End
 done_ends a b f P Q p q mode e = sym (found_is End mode (sym (ap₂ (mode_of a b f) p q) ∙ e))
 
-module _ (m : Machines) (sound_left : IsSound m.left) (sound_right : IsSound m.right) (K : List (Point × Point)) (alike : Alike m.left m.right K) where
-  pub node_modes : (n : Node) → IsEvenNode m.left m.right K n → (mode : Mode) → mode_at m n ≡ Found mode → (mode ≡ Both) ⊎ (mode ≡ End)
+module _ (m : MachinePair) (sound_left : IsSound m.left) (sound_right : IsSound m.right) (K : List (Point × Point)) (alike : Alike m.left m.right K) where
+  pub node_modes : (n : SearchNode) → IsEvenNode m.left m.right K n → (mode : Mode) → mode_at m n ≡ Found mode → (mode ≡ Both) ⊎ (mode ≡ End)
   node_modes n h mode e =
       elim h.paired [
         | inl x ↦ inl (both_move m.left m.right sound_left sound_right K n.fact its_vector n.left n.right (alike.points x.0 n.left n.right x.1) mode e)

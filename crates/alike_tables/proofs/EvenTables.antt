@@ -2,14 +2,15 @@
 use Rattle.std.proofs.Common.{◌≡◌, ℕ, zero, suc, ap, sym, subst, ◌∙◌, inl, inr, true, false, List, [], ◌∷◌, Some}
 use Rattle.std.specs.Prelude.{◌≢◌, slice_set}
 use Rattle.std.specs.List.{AllByRecursion}
+use Rattle.base_lemmas.proofs.Quantifiers.{each_weaker, each_append, each_at}
 use Rattle.fs_model.specs.Machines.{Fsmd}
-use Rattle.fs_ast.specs.Sound.{IsSound}
+use Rattle.fs_ast.specs.SoundMachines.{IsSound}
 use Rattle.fs_cut.specs.Paths.{Point, Path}
 use Rattle.fs_cut.specs.Paths as cut
 use Rattle.fs_model.specs.declared.parts.Sort.{Sort}
-use Rattle.bisimulation.specs.declared.mode.Mode.TheVariants.{Both, End}
+use Rattle.cert_bisimulation.specs.declared.mode.Mode.TheVariants.{Both, End}
 use Rattle.nf_terms.specs.Computed.{Computed, Done}
-use Rattle.nf_terms.specs.declared.tree.Pos.{Pos}
+use Rattle.fs_model.specs.declared.sides.Pos.{Pos}
 use Rattle.nf_rel.specs.Literals.{is_refuted}
 use Rattle.sym_paths.specs.Execution.{Post, arrive}
 use Rattle.sym_facts.specs.Facts.{vector_of}
@@ -31,10 +32,9 @@ use Rattle.alike_facts.proofs.EvenJoins.{join_even}
 use Rattle.alike_facts.proofs.RisenFacts.{start_rises, rebase_rises, join_rises, fact_vector_rises}
 use Rattle.search_ranks.proofs.Lists.{same_or_not}
 use Rattle.search_tables.specs.declared.moves.Move.{Move}
-use Rattle.search_tables.specs.Tables.{Machines, positions_of, Node, Table, first_table, Changes, Paths, effect}
-use Rattle.search_tables.specs.Next.{paths_in, Change, next}
-use Rattle.search_tables.specs.Legal.{Lead, Makes}
-use Rattle.search_tables.proofs.Lists.{all_append, one_of, all_under}
+use Rattle.search_tables.specs.SearchTables.{MachinePair, positions_of, SearchNode, Table, first_table, Changes, PathPair, effect}
+use Rattle.search_tables.specs.Next.{paths_in, Change, next_move}
+use Rattle.search_tables.specs.Legal.{MovesLead, Makes}
 use Rattle.search_tables.proofs.Forming.{known_in}
 use Rattle.search_tables.proofs.Changing.{Adds, Weakens, arrives_so}
 use Rattle.alike_tables.specs.Even.{IsEvenNode, IsEvenTable}
@@ -43,13 +43,13 @@ use Rattle.alike_tables.proofs.OtherMoves.{others_refuted}
 use Rattle.alike_tables.proofs.EvenNodes.{has_sorts, its_couples, vector_between, done_ends}
 use Rattle.alike_tables.proofs.NextMoves.{Gives, AllGive, next_gives, AreOfBoth, both_go}
 
-all_set : (P : Node → Type 0) (ns : List Node) (k : ℕ) (x : Node) → AllByRecursion P ns → P x → AllByRecursion P (slice_set ns k x)
+pub all_set : (P : SearchNode → Type 0) (ns : List SearchNode) (k : ℕ) (x : SearchNode) → AllByRecursion P ns → P x → AllByRecursion P (slice_set ns k x)
 all_set P [] k x h g = tt
 all_set P (n ∷ ns) zero x h g = (g, h.1)
 all_set P (n ∷ ns) (suc k) x h g = (h.0, all_set P ns k x h.1 g)
 
 -- both machines are at their returns
-abbrev AtReturns : Node → Type 0
+abbrev AtReturns : SearchNode → Type 0
 AtReturns n = (n.left ≡ cut.Done) × (n.right ≡ cut.Done)
 
 -- a post whose vector is even and rises
@@ -57,8 +57,8 @@ record IsEvenPost (a b : Fsmd) (post : Post) : Type 0 where
   even : IsEven a b post.vector
   risen : IsRisenVector post.vector
 
-module _ (m : Machines) (sound_left : IsSound m.left) (sound_right : IsSound m.right) (K : List (Point × Point)) (alike : Alike m.left m.right K) where
-  abbrev EvenNode : Node → Type 0
+module _ (m : MachinePair) (sound_left : IsSound m.left) (sound_right : IsSound m.right) (K : List (Point × Point)) (alike : Alike m.left m.right K) where
+  abbrev EvenNode : SearchNode → Type 0
   EvenNode n = IsEvenNode m.left m.right K n
 
   abbrev Even : Table → Type 0
@@ -83,12 +83,12 @@ module _ (m : Machines) (sound_left : IsSound m.left) (sound_right : IsSound m.r
             risen = rebase_rises post ps x.fact x.rebased;
           };
         } in
-        subst Even x.is (all_append EvenNode T (record { left = P; right = Q; fact = x.fact } ∷ []) h (node, tt))
+        subst Even x.is (each_append EvenNode T (record { left = P; right = Q; fact = x.fact } ∷ []) h (node, tt))
 
     weakened_even : Weakens T U P Q post → Even U
     weakened_even x =
         let j = known_in P Q 0 T x.number x.node x.target in
-        let old = one_of EvenNode T j.0 x.node h j.2 in
+        let old = each_at EvenNode T j.0 x.node h j.2 in
         let f = x.node.fact in
         let couples = its_couples m.left m.right f old.fact sound_right alike.declare_the_same in
         let sorts = has_sorts m.left m.right f old.fact in
@@ -105,7 +105,7 @@ module _ (m : Machines) (sound_left : IsSound m.left) (sound_right : IsSound m.r
 
   -- ---- the moves of a node at a pair
 
-  module _ (T U : Table) (h : Even T) (n : Node) (own : EvenNode n) (w : AlikePoints m.left m.right K n.left n.right) where
+  module _ (T U : Table) (h : Even T) (n : SearchNode) (own : EvenNode n) (w : AlikePoints m.left m.right K n.left n.right) where
     its_vector : IsEven m.left m.right (vector_of n.fact.positions)
     its_vector = vector_between m.left m.right n.fact own.fact sound_left sound_right alike.declare_the_same
 
@@ -113,7 +113,7 @@ module _ (m : Machines) (sound_left : IsSound m.left) (sound_right : IsSound m.r
     arrival p q = arrive m.left m.right n.fact.literals (vector_of n.fact.positions) (Some p) (Some q)
 
     -- where paths arrive unrefuted they are of one number
-    same_paths : (x : Paths) (g : AreOfBoth m n x) (post : Post) → arrival g.left g.right ≡ Done post → is_refuted post.conditions ≡ false
+    same_paths : (x : PathPair) (g : AreOfBoth m n x) (post : Post) → arrival g.left g.right ≡ Done post → is_refuted post.conditions ≡ false
         → AlikePaths m.left m.right K g.left g.right
     same_paths x g post arrives unrefuted =
         elim (same_or_not g.left.branch g.right.branch) [
@@ -135,7 +135,7 @@ module _ (m : Machines) (sound_left : IsSound m.left) (sound_right : IsSound m.r
           risen = arrival_rises m.left m.right ls v (Some p) (Some q) post (fact_vector_rises n.fact own.fact.risen) arrives;
         }
 
-    both_keep : (x : Paths) → AreOfBoth m n x → effect m T n x ≡ Changes U → Even U
+    both_keep : (x : PathPair) → AreOfBoth m n x → effect m T n x ≡ Changes U → Even U
     both_keep x g e =
         let P = g.left.to in
         let Q = g.right.to in
@@ -151,15 +151,15 @@ module _ (m : Machines) (sound_left : IsSound m.left) (sound_right : IsSound m.r
     pair_keeps y mode e =
         let both : mode ≡ Both = both_move m.left m.right sound_left sound_right K n.fact its_vector n.left n.right w mode e in
         subst (λ z. AllByRecursion (Gives m T U y (Even U) n) (paths_in m n z)) (sym both)
-        (all_under (AreOfBoth m n) (Gives m T U y (Even U) n) (paths_in m n Both) both_keep (both_go m n sound_left sound_right w.left_point w.right_point))
+        (each_weaker (AreOfBoth m n) (Gives m T U y (Even U) n) (paths_in m n Both) both_keep (both_go m n sound_left sound_right w.left_point w.right_point))
 
   -- no paths are listed in the mode End
-  ends_keep : (T U : Table) (n : Node) → AtReturns n → (y : Move) → AllGive m T U y (Even U) n
+  ends_keep : (T U : Table) (n : SearchNode) → AtReturns n → (y : Move) → AllGive m T U y (Even U) n
   ends_keep T U n at y mode e =
       let end : mode ≡ End = done_ends m.left m.right n.fact n.left n.right at.0 at.1 mode e in
       subst (λ z. AllByRecursion (Gives m T U y (Even U) n) (paths_in m n z)) (sym end) tt
 
-  node_keeps : (T U : Table) → Even T → (n : Node) → EvenNode n → (y : Move) → AllGive m T U y (Even U) n
+  node_keeps : (T U : Table) → Even T → (n : SearchNode) → EvenNode n → (y : Move) → AllGive m T U y (Even U) n
   node_keeps T U h n own y =
       elim own.paired [
         | inl x ↦ pair_keeps T U h n own (alike.points x.0 n.left n.right x.1) y
@@ -181,11 +181,11 @@ module _ (m : Machines) (sound_left : IsSound m.left) (sound_right : IsSound m.r
     tt,
   )
 
-  pub next_is_even : (T U : Table) (y : Move) → Even T → next m T ≡ Change y U → Even U
+  pub next_is_even : (T U : Table) (y : Move) → Even T → next_move m T ≡ Change y U → Even U
   next_is_even T U y h e =
-      next_gives m T U y (Even U) (all_under EvenNode (AllGive m T U y (Even U)) T (λ n own. node_keeps T U h n own y) h) e
+      next_gives m T U y (Even U) (each_weaker EvenNode (AllGive m T U y (Even U)) T (λ n own. node_keeps T U h n own y) h) e
 
-  lead_even : (moves : List Move) (S T : Table) → Even S → Lead m S moves T → Even T
+  lead_even : (moves : List Move) (S T : Table) → Even S → MovesLead m S moves T → Even T
   lead_even [] S T h e = subst Even e h
   lead_even (x ∷ xs) S T h e = lead_even xs e.0 T (next_is_even S e.0 x h e.2) e.3
 

@@ -9,7 +9,7 @@ use Rattle.sym_facts.specs.Pairings.{IsFactOf}
 use Rattle.alike_behaviour.specs.Alike.{ArePaired}
 use Rattle.alike_facts.specs.EvenFacts.{IsEvenFact}
 use Rattle.alike_facts.specs.RisenFacts.{IsRisenFact}
-use Rattle.search_tables.specs.Tables.{Node, Table}
+use Rattle.search_tables.specs.SearchTables.{SearchNode, Table}
 
 -- a fact of the positions of two machines is even, and its equations rise
 pub record IsEvenBetween (a b : Fsmd) (f : Fact) : Type 0 where
@@ -18,7 +18,7 @@ pub record IsEvenBetween (a b : Fsmd) (f : Fact) : Type 0 where
   pub risen : IsRisenFact f
 
 -- a node stands at two points that are listed as a pair, or at both returns, and its fact is even
-pub record IsEvenNode (a b : Fsmd) (pairs : List (Point × Point)) (n : Node) : Type 0 where
+pub record IsEvenNode (a b : Fsmd) (pairs : List (Point × Point)) (n : SearchNode) : Type 0 where
   pub paired : ArePaired pairs n.left n.right
   pub fact : IsEvenBetween a b n.fact
 

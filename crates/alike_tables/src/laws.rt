@@ -3,24 +3,24 @@
 ghost use Rattle.std.specs.Prelude.{◌≡◌, ◌≢◌, ◌⊎◌, true, List, Some};
 ghost use Rattle.std.specs.List.{AllByRecursion};
 ghost use Rattle.fs_model.specs.Machines.{Fsmd};
-ghost use Rattle.fs_ast.specs.Sound.{IsSound};
+ghost use Rattle.fs_ast.specs.SoundMachines.{IsSound};
 ghost use Rattle.fs_cut.specs.Paths.{Point, Path, IsPath};
-ghost use Rattle.bisimulation.specs.declared.mode.Mode.{Mode};
-ghost use Rattle.bisimulation.specs.declared.mode.Mode.TheVariants.{Both, End};
-ghost use Rattle.fs_pair.specs.Outputs.{output_pairs};
+ghost use Rattle.cert_bisimulation.specs.declared.mode.Mode.{Mode};
+ghost use Rattle.cert_bisimulation.specs.declared.mode.Mode.TheVariants.{Both, End};
+ghost use Rattle.fs_pair.specs.PairedOutputs.{output_pairs};
 ghost use Rattle.nf_terms.specs.Computed.{Done};
-ghost use Rattle.nf_terms.specs.declared.tree.Pos.{Pos};
+ghost use Rattle.fs_model.specs.declared.sides.Pos.{Pos};
 ghost use Rattle.nf_terms.specs.declared.form.Nf.{Nf};
 ghost use Rattle.nf_rel.specs.Literals.{NormalLiteral, is_refuted};
 ghost use Rattle.sym_paths.specs.Execution.{Post, arrive};
 ghost use Rattle.sym_facts.specs.Facts.{Fact, vector_of};
-ghost use Rattle.certificates.specs.Obligations.{same_forms};
+ghost use Rattle.cert_model.specs.Obligations.{same_forms};
 ghost use Rattle.propagate.specs.Modes.{Found, mode_of};
 ghost use Rattle.alike_behaviour.specs.Alike.{DeclareTheSame, AlikePoints, Alike};
 ghost use Rattle.alike_paths.specs.Evenness.{IsEven};
 ghost use Rattle.search_tables.specs.declared.moves.Move.{Move};
-ghost use Rattle.search_tables.specs.Tables.{Machines, Node, Table, first_table};
-ghost use Rattle.search_tables.specs.Next.{Change, mode_at, next};
+ghost use Rattle.search_tables.specs.SearchTables.{MachinePair, SearchNode, Table, first_table};
+ghost use Rattle.search_tables.specs.Next.{Change, mode_at, next_move};
 ghost use Rattle.search_tables.specs.Legal.{Makes};
 ghost use Rattle.alike_tables.specs.Even.{IsEvenBetween, IsEvenNode, IsEvenTable};
 
@@ -48,18 +48,19 @@ pub fn moves_of_other_numbers_are_refuted()
 pub fn even_nodes_move_together()
     ensures vector { (a b : Fsmd) (f : Fact) → IsSound a → IsSound b → DeclareTheSame a b → IsEvenBetween a b f
         → IsEven a b (vector_of f.positions) }
-    ensures modes { (m : Machines) (pairs : List (Point × Point)) (n : Node) (mode : Mode) → IsSound m.left → IsSound m.right
+    ensures modes { (m : MachinePair) (pairs : List (Point × Point)) (n : SearchNode) (mode : Mode) → IsSound m.left
+        → IsSound m.right
         → Alike m.left m.right pairs → IsEvenNode m.left m.right pairs n
         → mode_at m n ≡ Found mode → (mode ≡ Both) ⊎ (mode ≡ End) }
 {}
 
 /// Each table that a legal list of moves of alike machines makes is even: the first table is, and the next move keeps it so.
 pub fn tables_of_alike_machines_are_even()
-    ensures first { (m : Machines) (pairs : List (Point × Point)) → IsSound m.left → IsSound m.right
+    ensures first { (m : MachinePair) (pairs : List (Point × Point)) → IsSound m.left → IsSound m.right
         → Alike m.left m.right pairs → IsEvenTable m.left m.right pairs (first_table m) }
-    ensures change { (m : Machines) (pairs : List (Point × Point)) (T U : Table) (x : Move) → IsSound m.left → IsSound m.right
-        → Alike m.left m.right pairs → IsEvenTable m.left m.right pairs T → next m T ≡ Change x U
+    ensures change { (m : MachinePair) (pairs : List (Point × Point)) (T U : Table) (x : Move) → IsSound m.left → IsSound m.right
+        → Alike m.left m.right pairs → IsEvenTable m.left m.right pairs T → next_move m T ≡ Change x U
         → IsEvenTable m.left m.right pairs U }
-    ensures legal { (m : Machines) (pairs : List (Point × Point)) (moves : List Move) (T : Table) → IsSound m.left
+    ensures legal { (m : MachinePair) (pairs : List (Point × Point)) (moves : List Move) (T : Table) → IsSound m.left
         → IsSound m.right → Alike m.left m.right pairs → Makes m moves T → IsEvenTable m.left m.right pairs T }
 {}

@@ -1,14 +1,14 @@
 -- What the operations give, where they give a term.
 use Rattle.std.proofs.Common.{◌≡◌, ℕ, ◌+◌, ◌*◌, ℤ, Bool, true, false, cond, nat_le}
 use Rattle.std.specs.Prelude.{unsigned_abs}
-use Rattle.nf_terms.specs.Terms.{Polynomial, polynomial_of_number}
-use Rattle.nf_terms.specs.Measures.{size_of, weight_of, depth_of}
-use Rattle.nf_terms.specs.Limits.{weight_limit}
+use Rattle.nf_terms.specs.NormalTerms.{Polynomial, polynomial_of_number}
+use Rattle.nf_terms.specs.Measures.{size_of, weight_of}
+use Rattle.nf_terms.specs.TermLimits.{weight_limit}
 use Rattle.nf_terms.specs.RawSums.{raw_sum, raw_difference, raw_product}
-use Rattle.nf_terms.specs.Computed.{Computed, Done, Wide, if_small, if_narrow}
-use Rattle.nf_sums.specs.Forms.{normal_form}
-use Rattle.nf_sums.specs.Operations.{operation, added, subtracted, multiplied, number}
-use Rattle.nf_sums.proofs.Values.{small_is}
+use Rattle.nf_terms.specs.Computed.{Computed, Done, Wide, if_narrow}
+use Rattle.nf_sums.specs.RawSumForms.{normal_form}
+use Rattle.nf_sums.specs.Operations.{added, subtracted, multiplied, number}
+use Rattle.nf_sums.proofs.Values.{operation_is}
 
 narrow_is : {T : Type 0} (left right weight : ℕ) (c : Computed T) (x : T) → if_narrow left right weight c ≡ Done x → c ≡ Done x
 narrow_is {T} left right weight c x e = by_test (nat_le weight weight_limit) e
@@ -16,10 +16,6 @@ narrow_is {T} left right weight c x e = by_test (nat_le weight weight_limit) e
     by_test : (b : Bool) → cond {A = Computed T} b c (Wide left right) ≡ Done x → c ≡ Done x
     by_test true h = h
     by_test false h = absurd (cc h)
-
-operation_is : (p q : Polynomial) (weight units : ℕ) (raw x : Polynomial) → operation p q weight units raw ≡ Done x → normal_form raw ≡ x
-operation_is p q weight units raw x e =
-    small_is units (depth_of (normal_form raw)) (normal_form raw) x (narrow_is (weight_of p) (weight_of q) weight (if_small units (depth_of (normal_form raw)) (normal_form raw)) x e)
 
 pub sum_is : (p q r : Polynomial) → added p q ≡ Done r → normal_form (raw_sum p q) ≡ r
 sum_is p q r e = operation_is p q (weight_of p + weight_of q) (size_of p + size_of q) (raw_sum p q) r e

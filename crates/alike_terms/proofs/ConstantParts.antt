@@ -1,13 +1,14 @@
 -- The part with atoms and the constant of a sum that rises and is minus another and minus 1.
 use Rattle.std.proofs.Common.{◌≡◌, ℤ, pos, ◌-ℤ◌, neg_ℤ, true, arith, refl, ◌∙◌}
 use Rattle.std.proofs.lemmas.Int.{ints}
-use Rattle.nf_terms.specs.Terms.{Atom, Monomial, Polynomial, One, Times, Zero, Plus}
+use Rattle.base_lemmas.proofs.Orderings.{is_lt-true}
+use Rattle.nf_terms.specs.NormalTerms.{Atom, Monomial, Polynomial, One, Times, Zero, Plus}
 use Rattle.nf_terms.specs.Order.{cmp_monomial}
 use Rattle.nf_terms.specs.Normal.{part_with_atoms, constant_sum, monomial_rises}
-use Rattle.nf_terms.specs.RawSums.{joined, raw_negation, raw_difference}
-use Rattle.nf_terms.proofs.Partings.{less_of, rises_through}
+use Rattle.nf_terms.specs.RawSums.{monomial_product, raw_negation, raw_difference}
+use Rattle.nf_terms.proofs.Partings.{rises_through}
 use Rattle.nf_sums.specs.OrderedSums.{worth_of, IgnoresOrder}
-use Rattle.nf_sums.specs.Forms.{normal_form}
+use Rattle.nf_sums.specs.RawSumForms.{normal_form}
 use Rattle.nf_sums.proofs.Collecting.{worth-form}
 use Rattle.nf_sums.proofs.Worth.{worth-negation, worth-difference}
 use Rattle.nf_rel.specs.Literals.{one}
@@ -37,14 +38,16 @@ constant_worth (Plus (Times a m) c p) = omega (arith, ints, constant_worth p)
 part_ignores : (f : Monomial → ℤ) → IgnoresOrder f → IgnoresOrder (no_constant f)
 part_ignores f h = record { swapped = by_first }
   where
-    by_first : (k : Monomial) (a b : Atom) (m : Monomial) → no_constant f (joined k (Times a (Times b m))) ≡ no_constant f (joined k (Times b (Times a m)))
+    by_first : (k : Monomial) (a b : Atom) (m : Monomial)
+        → no_constant f (monomial_product k (Times a (Times b m))) ≡ no_constant f (monomial_product k (Times b (Times a m)))
     by_first One a b m = h.swapped One a b m
     by_first (Times c k) a b m = h.swapped (Times c k) a b m
 
 constant_ignores : IgnoresOrder only_constant
 constant_ignores = record { swapped = by_first }
   where
-    by_first : (k : Monomial) (a b : Atom) (m : Monomial) → only_constant (joined k (Times a (Times b m))) ≡ only_constant (joined k (Times b (Times a m)))
+    by_first : (k : Monomial) (a b : Atom) (m : Monomial)
+        → only_constant (monomial_product k (Times a (Times b m))) ≡ only_constant (monomial_product k (Times b (Times a m)))
     by_first One a b m = refl
     by_first (Times c k) a b m = refl
 
@@ -54,7 +57,7 @@ part_rises : (m : Monomial) (p : Polynomial) → monomial_rises m p ≡ true →
 part_rises m Zero r o = refl
 part_rises m (Plus One c p) r o =
     let t = risen_term One c p o in
-    part_rises m p (rises_through m One p (less_of (cmp_monomial m One) r) t.rises) t.rest
+    part_rises m p (rises_through m One p (is_lt-true (cmp_monomial m One) r) t.rises) t.rest
 part_rises m (Plus (Times a k) c p) r o = r
 
 pub part_risen : (p : Polynomial) → is_risen p ≡ true → is_risen (part_with_atoms p) ≡ true
@@ -62,7 +65,8 @@ part_risen Zero o = refl
 part_risen (Plus One c p) o = part_risen p (risen_term One c p o).rest
 part_risen (Plus (Times a m) c p) o =
     let t = risen_term (Times a m) c p o in
-    term_risen (Times a m) c (part_with_atoms p) (record { nonzero = t.nonzero; first = t.first; rises = part_rises (Times a m) p t.rises t.rest; rest = part_risen p t.rest })
+    term_risen (Times a m) c (part_with_atoms p)
+    (record { nonzero = t.nonzero; first = t.first; rises = part_rises (Times a m) p t.rises t.rest; rest = part_risen p t.rest })
 
 -- ---- minus a sum and minus 1
 
@@ -74,8 +78,16 @@ worth_less e f h = worth-form f h (raw_difference (raw_negation e) one) ∙ omeg
 
 pub part_of_less : (e : Polynomial) → is_risen e ≡ true → part_with_atoms (less_one e) ≡ raw_negation (part_with_atoms e)
 part_of_less e o =
-    settled_by_worth (part_with_atoms (less_one e)) (raw_negation (part_with_atoms e)) (part_risen (less_one e) (form_risen (raw_difference (raw_negation e) one))) (negation_risen (part_with_atoms e) (part_risen e o))
-    (λ f h. omega (arith, ints, part_worth f (less_one e), worth_less e (no_constant f) (part_ignores f h), worth-negation f (part_with_atoms e), part_worth f e))
+    settled_by_worth (part_with_atoms (less_one e)) (raw_negation (part_with_atoms e))
+    (part_risen (less_one e) (form_risen (raw_difference (raw_negation e) one))) (negation_risen (part_with_atoms e) (part_risen e o))
+    (λ f h. omega (
+      arith,
+      ints,
+      part_worth f (less_one e),
+      worth_less e (no_constant f) (part_ignores f h),
+      worth-negation f (part_with_atoms e),
+      part_worth f e,
+    ))
 
 pub constant_of_less : (e : Polynomial) → constant_sum (less_one e) ≡ neg_ℤ (constant_sum e) -ℤ pos 1
 constant_of_less e = omega (arith, ints, constant_worth (less_one e), worth_less e only_constant constant_ignores, constant_worth e)

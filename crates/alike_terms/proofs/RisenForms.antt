@@ -3,13 +3,14 @@ use Rattle.std.proofs.Common.{◌≡◌, ℤ, pos, ◌+ℤ◌, neg_ℤ, Bool, tr
 use Rattle.std.proofs.lemmas.Int.{ints}
 use Rattle.std.specs.Ordering.{int_eq, is_le, is_lt}
 use Rattle.std.specs.Cmp.{signed_Decides}
-use Rattle.nf_terms.specs.Terms.{Atom, Monomial, Polynomial, One, Times, Zero, Plus, polynomial_of_number}
+use Rattle.std.proofs.lemmas.Bool.{and_from}
+use Rattle.base_lemmas.proofs.Booleans.{and_first, and_second, by_test}
+use Rattle.nf_terms.specs.NormalTerms.{Atom, Monomial, Polynomial, One, Times, Zero, Plus, polynomial_of_number}
 use Rattle.nf_terms.specs.Order.{cmp_atom, cmp_monomial}
 use Rattle.nf_terms.specs.Normal.{atom_rises, monomial_rises}
 use Rattle.nf_terms.specs.RawSums.{raw_negation}
-use Rattle.nf_terms.proofs.Tests.{and_left, and_right, and_both, by_test}
 use Rattle.nf_sums.specs.OrderedSums.{worth_of, IgnoresOrder}
-use Rattle.nf_sums.specs.Forms.{with_atom, sorted_monomial, plus, with_term, normal_form}
+use Rattle.nf_sums.specs.RawSumForms.{with_atom, sorted_monomial, plus, with_term, normal_form}
 use Rattle.nf_sums.proofs.Sorting.{atom_before, rises_with_atom}
 use Rattle.nf_sums.proofs.Collecting.{by_cases, turned, FirstRises, rises_with}
 use Rattle.nf_sums.proofs.Bags.{bag_ignores}
@@ -28,28 +29,38 @@ pub record IsRisenTerm (m : Monomial) (c : ℤ) (p : Polynomial) : Type 0 where
 pub risen_term : (m : Monomial) (c : ℤ) (p : Polynomial) → is_risen (Plus m c p) ≡ true → IsRisenTerm m c p
 risen_term m c p o =
     let z = not (int_eq c (pos 0)) in
-    let a : z && atoms_rise m && monomial_rises m p ≡ true = and_left (z && atoms_rise m && monomial_rises m p) (is_risen p) o in
-    let b : z && atoms_rise m ≡ true = and_left (z && atoms_rise m) (monomial_rises m p) a in
-    record { nonzero = and_left z (atoms_rise m) b; first = and_right z (atoms_rise m) b; rises = and_right (z && atoms_rise m) (monomial_rises m p) a; rest = and_right (z && atoms_rise m && monomial_rises m p) (is_risen p) o }
+    let a : z && atoms_rise m && monomial_rises m p ≡ true = and_first (z && atoms_rise m && monomial_rises m p) (is_risen p) o in
+    let b : z && atoms_rise m ≡ true = and_first (z && atoms_rise m) (monomial_rises m p) a in
+    record {
+      nonzero = and_first z (atoms_rise m) b;
+      first = and_second z (atoms_rise m) b;
+      rises = and_second (z && atoms_rise m) (monomial_rises m p) a;
+      rest = and_second (z && atoms_rise m && monomial_rises m p) (is_risen p) o;
+    }
 
 pub term_risen : (m : Monomial) (c : ℤ) (p : Polynomial) → IsRisenTerm m c p → is_risen (Plus m c p) ≡ true
 term_risen m c p t =
-    and_both (not (int_eq c (pos 0)) && atoms_rise m && monomial_rises m p) (is_risen p) (and_both (not (int_eq c (pos 0)) && atoms_rise m) (monomial_rises m p) (and_both (not (int_eq c (pos 0))) (atoms_rise m) t.nonzero t.first) t.rises) t.rest
+    and_from (not (int_eq c (pos 0)) && atoms_rise m && monomial_rises m p) (is_risen p)
+    (and_from (not (int_eq c (pos 0)) && atoms_rise m) (monomial_rises m p) (and_from (not (int_eq c (pos 0))) (atoms_rise m) t.nonzero t.first) t.rises) t.rest
 
 -- ---- normal forms rise
 
 with_atom_risen : (a : Atom) (m : Monomial) → atoms_rise m ≡ true → atoms_rise (with_atom a m) ≡ true
 with_atom_risen a One o = refl
 with_atom_risen a (Times b m) o =
-    by_test (λ n. atoms_rise n ≡ true) (Times a (Times b m)) (Times b (with_atom a m)) (is_le (cmp_atom a b)) (λ t. and_both (atom_rises a (Times b m)) (atoms_rise (Times b m)) t o)
-    (λ t. and_both (atom_rises b (with_atom a m)) (atoms_rise (with_atom a m)) (rises_with_atom b a m (atom_before a b t) (and_left (atom_rises b m) (atoms_rise m) o)) (with_atom_risen a m (and_right (atom_rises b m) (atoms_rise m) o)))
+    by_test (λ n. atoms_rise n ≡ true) (Times a (Times b m)) (Times b (with_atom a m)) (is_le (cmp_atom a b))
+    (λ t. and_from (atom_rises a (Times b m)) (atoms_rise (Times b m)) t o)
+    (λ t. and_from (atom_rises b (with_atom a m)) (atoms_rise (with_atom a m))
+    (rises_with_atom b a m (atom_before a b t) (and_first (atom_rises b m) (atoms_rise m) o))
+    (with_atom_risen a m (and_second (atom_rises b m) (atoms_rise m) o)))
 
 sorted_risen : (m : Monomial) → atoms_rise (sorted_monomial m) ≡ true
 sorted_risen One = refl
 sorted_risen (Times a m) = with_atom_risen a (sorted_monomial m) (sorted_risen m)
 
 plus_risen : (m : Monomial) (c : ℤ) (p : Polynomial) → atoms_rise m ≡ true → monomial_rises m p ≡ true → is_risen p ≡ true → is_risen (plus m c p) ≡ true
-plus_risen m c p o r q = by_test (λ t. is_risen t ≡ true) p (Plus m c p) (int_eq c (pos 0)) (λ e. q) (λ e. term_risen m c p (record { nonzero = ap not e; first = o; rises = r; rest = q }))
+plus_risen m c p o r q = by_test (λ t. is_risen t ≡ true) p (Plus m c p) (int_eq c (pos 0)) (λ e. q)
+    (λ e. term_risen m c p (record { nonzero = ap not e; first = o; rises = r; rest = q }))
 
 first_of : (p : Polynomial) → is_risen p ≡ true → FirstRises p
 first_of Zero o = tt
@@ -59,8 +70,15 @@ with_term_risen : (m : Monomial) (c : ℤ) (p : Polynomial) → atoms_rise m ≡
 with_term_risen m c Zero o q = plus_risen m c Zero o refl refl
 with_term_risen m c (Plus n d p) o q =
     let t = risen_term n d p q in
-    by_cases (λ t. is_risen t ≡ true) (plus m c (Plus n d p)) (plus n (c +ℤ d) p) (Plus n d (with_term m c p)) (cmp_monomial m n) (λ e. plus_risen m c (Plus n d p) o (ap is_lt e) q) (λ e. plus_risen n (c +ℤ d) p t.first t.rises t.rest)
-    (λ e. term_risen n d (with_term m c p) (record { nonzero = t.nonzero; first = t.first; rises = rises_with n m c p (turned m n e) (first_of p t.rest) t.rises; rest = with_term_risen m c p o t.rest }))
+    by_cases (λ t. is_risen t ≡ true) (plus m c (Plus n d p)) (plus n (c +ℤ d) p) (Plus n d (with_term m c p)) (cmp_monomial m n)
+    (λ e. plus_risen m c (Plus n d p) o (ap is_lt e) q) (λ e. plus_risen n (c +ℤ d) p t.first t.rises t.rest)
+    (λ e. term_risen n d (with_term m c p)
+    (record {
+      nonzero = t.nonzero;
+      first = t.first;
+      rises = rises_with n m c p (turned m n e) (first_of p t.rest) t.rises;
+      rest = with_term_risen m c p o t.rest;
+    }))
 
 pub form_risen : (p : Polynomial) → is_risen (normal_form p) ≡ true
 form_risen Zero = refl
@@ -73,7 +91,8 @@ pub negation_risen : (p : Polynomial) → is_risen p ≡ true → is_risen (raw_
 negation_risen Zero o = refl
 negation_risen (Plus m c p) o =
     let t = risen_term m c p o in
-    term_risen m (neg_ℤ c) (raw_negation p) (record { nonzero = turned_nonzero c t.nonzero; first = t.first; rises = still_rises m p t.rises; rest = negation_risen p t.rest })
+    term_risen m (neg_ℤ c) (raw_negation p)
+    (record { nonzero = turned_nonzero c t.nonzero; first = t.first; rises = still_rises m p t.rises; rest = negation_risen p t.rest })
   where
     still_rises : (m : Monomial) (p : Polynomial) → monomial_rises m p ≡ true → monomial_rises m (raw_negation p) ≡ true
     still_rises m Zero r = refl
@@ -100,4 +119,5 @@ same_risen Zero = refl
 same_risen (Plus m c p) = ap₂ (λ a b. not (int_eq c (pos 0)) && a && monomial_rises m p && b) (same_risen_monomial m) (same_risen p)
 
 pub settled_by_worth : (p q : Polynomial) → is_risen p ≡ true → is_risen q ≡ true → ((f : Monomial → ℤ) → IgnoresOrder f → worth_of f p ≡ worth_of f q) → p ≡ q
-settled_by_worth p q o r h = unique p q (same_risen p ∙ o) (same_risen q ∙ r) (record { totals = λ bag. total_worth bag p ∙ h (one_for bag) (bag_ignores bag) ∙ sym (total_worth bag q) })
+settled_by_worth p q o r h = unique p q (same_risen p ∙ o) (same_risen q ∙ r)
+    (record { totals = λ bag. total_worth bag p ∙ h (one_for bag) (bag_ignores bag) ∙ sym (total_worth bag q) })

@@ -1,7 +1,9 @@
 -- What the operations give rises.
 use Rattle.std.proofs.Common.{◌≡◌, ◌+◌, ℤ, Bool, true, false, ◌&&◌, cond, refl, subst}
-use Rattle.integers.specs.Division.{quotient, remainder}
-use Rattle.nf_terms.specs.Terms.{Atom, Polynomial, ArrayTerm, Writes, Read, Quotient, Remainder, Zero, Over, NoWrites, Write, polynomial_of_number}
+use Rattle.std.proofs.lemmas.Bool.{and_from}
+use Rattle.base_lemmas.proofs.Booleans.{and_first, and_second, by_test}
+use Rattle.base_integers.specs.Division.{quotient, remainder}
+use Rattle.nf_terms.specs.NormalTerms.{Atom, Polynomial, ArrayTerm, Writes, Read, Quotient, Remainder, Zero, Over, NoWrites, Write, polynomial_of_number}
 use Rattle.nf_terms.specs.Order.{same_polynomial}
 use Rattle.nf_terms.specs.Measures.{size_of, depth_of, size_of_array, depth_of_array}
 use Rattle.nf_terms.specs.Normal.{is_constant, constant_sum, is_written, last_index}
@@ -10,11 +12,10 @@ use Rattle.nf_terms.specs.Tidied.{last_writes, goes_after, with_write, rising_st
 use Rattle.nf_terms.specs.Computed.{Computed, Done}
 use Rattle.nf_terms.specs.declared.tree.Base.{Base}
 use Rattle.nf_terms.specs.declared.tree.Base.TheVariants as base
-use Rattle.nf_terms.proofs.Tests.{and_left, and_right, and_both, by_test}
 use Rattle.nf_sums.specs.Operations.{added, subtracted, multiplied, number}
 use Rattle.nf_sums.proofs.Values.{small_is}
-use Rattle.nf_arrays.specs.Atoms.{polynomial_of_atom, new_atom, divided, remainder_of}
-use Rattle.nf_arrays.specs.Writes.{written_last, with_last_write, written, are_apart, stop_at, prefix_for, last_value, read_here, read_at}
+use Rattle.nf_arrays.specs.NewAtoms.{polynomial_of_atom, new_atom, divided, remainder_of}
+use Rattle.nf_arrays.specs.Writes.{written_last, with_last_write, write_array, are_apart, stop_at, prefix_for, last_value, read_here, read_at}
 use Rattle.alike_terms.specs.Risen.{is_risen, values_rise, is_risen_array}
 use Rattle.alike_terms.proofs.RisenForms.{form_risen, number_risen}
 use Rattle.alike_terms.proofs.Computing.{sum_is, difference_is, product_is, number_is}
@@ -41,7 +42,8 @@ atom_rises_alone a r e =
     let k : polynomial_of_atom a ≡ r = small_is (size_of (polynomial_of_atom a)) (depth_of (polynomial_of_atom a)) (polynomial_of_atom a) r e in
     subst (λ z. is_risen z ≡ true) k refl
 
-number_or_atom : (t : Bool) (c : ℤ) (a : Atom) (r : Polynomial) → cond {A = Computed Polynomial} t (Done (polynomial_of_number c)) (new_atom a) ≡ Done r → is_risen r ≡ true
+number_or_atom : (t : Bool) (c : ℤ) (a : Atom) (r : Polynomial) → cond {A = Computed Polynomial} t (Done (polynomial_of_number c)) (new_atom a) ≡ Done r
+    → is_risen r ≡ true
 number_or_atom true c a r e =
     let k : polynomial_of_number c ≡ r = cc e in
     subst (λ z. is_risen z ≡ true) k (number_risen c)
@@ -57,23 +59,25 @@ remainder_rises p q r e = number_or_atom (is_constant p && is_constant q) (remai
 
 prefix_rises : (i : Polynomial) (ws : Writes) → values_rise ws ≡ true → values_rise (prefix_for i ws) ≡ true
 prefix_rises i NoWrites h = refl
-prefix_rises i (Write j v ws) h = by_rest (prefix_for i ws) (prefix_rises i ws (and_right (is_risen v) (values_rise ws) h))
+prefix_rises i (Write j v ws) h = by_rest (prefix_for i ws) (prefix_rises i ws (and_second (is_risen v) (values_rise ws) h))
   where
     here : is_risen v ≡ true
-    here = and_left (is_risen v) (values_rise ws) h
+    here = and_first (is_risen v) (values_rise ws) h
 
     by_rest : (ps : Writes) → values_rise ps ≡ true → values_rise (stop_at i j v ps) ≡ true
-    by_rest NoWrites g = by_test (λ t. values_rise t ≡ true) NoWrites (Write j v NoWrites) (are_apart j i) (λ e. refl) (λ e. and_both (is_risen v) true here refl)
-    by_rest (Write k w ps) g = and_both (is_risen v) (values_rise (Write k w ps)) here g
+    by_rest NoWrites g = by_test (λ t. values_rise t ≡ true) NoWrites (Write j v NoWrites) (are_apart j i) (λ e. refl)
+        (λ e. and_from (is_risen v) true here refl)
+    by_rest (Write k w ps) g = and_from (is_risen v) (values_rise (Write k w ps)) here g
 
 last_rises : (v : Polynomial) (ws : Writes) → is_risen v ≡ true → values_rise ws ≡ true → is_risen (last_value v ws) ≡ true
 last_rises v NoWrites h g = h
-last_rises v (Write j w ws) h g = last_rises w ws (and_left (is_risen w) (values_rise ws) g) (and_right (is_risen w) (values_rise ws) g)
+last_rises v (Write j w ws) h g = last_rises w ws (and_first (is_risen w) (values_rise ws) g) (and_second (is_risen w) (values_rise ws) g)
 
-read_of_writes : (b : Base) (j v : Polynomial) (ws : Writes) (i r : Polynomial) → values_rise (Write j v ws) ≡ true → (t : Bool) → cond {A = Computed Polynomial} t (Done (last_value v ws)) (new_atom (Read (Over b (Write j v ws)) i)) ≡ Done r → is_risen r ≡ true
+read_of_writes : (b : Base) (j v : Polynomial) (ws : Writes) (i r : Polynomial) → values_rise (Write j v ws) ≡ true → (t : Bool)
+    → cond {A = Computed Polynomial} t (Done (last_value v ws)) (new_atom (Read (Over b (Write j v ws)) i)) ≡ Done r → is_risen r ≡ true
 read_of_writes b j v ws i r h true e =
     let k : last_value v ws ≡ r = cc e in
-    subst (λ z. is_risen z ≡ true) k (last_rises v ws (and_left (is_risen v) (values_rise ws) h) (and_right (is_risen v) (values_rise ws) h))
+    subst (λ z. is_risen z ≡ true) k (last_rises v ws (and_first (is_risen v) (values_rise ws) h) (and_second (is_risen v) (values_rise ws) h))
 read_of_writes b j v ws i r h false e = atom_rises_alone (Read (Over b (Write j v ws)) i) r e
 
 read_of_prefix : (b : Base) (ps : Writes) (i r : Polynomial) → values_rise ps ≡ true → read_here (Over b ps) i ≡ Done r → is_risen r ≡ true
@@ -90,30 +94,35 @@ read_rises (Over b ws) i r h e = read_of_prefix b (prefix_for i ws) i r (prefix_
 -- ---- writes
 
 one_more_rises : (ws : Writes) (i v : Polynomial) → values_rise ws ≡ true → is_risen v ≡ true → values_rise (written_last ws i v) ≡ true
-one_more_rises NoWrites i v h g = and_both (is_risen v) true g refl
-one_more_rises (Write j w ws) i v h g = and_both (is_risen w) (values_rise (written_last ws i v)) (and_left (is_risen w) (values_rise ws) h) (one_more_rises ws i v (and_right (is_risen w) (values_rise ws) h) g)
+one_more_rises NoWrites i v h g = and_from (is_risen v) true g refl
+one_more_rises (Write j w ws) i v h g = and_from (is_risen w) (values_rise (written_last ws i v)) (and_first (is_risen w) (values_rise ws) h)
+    (one_more_rises ws i v (and_second (is_risen w) (values_rise ws) h) g)
 
 last_writes_rise : (ws : Writes) → values_rise ws ≡ true → values_rise (last_writes ws) ≡ true
 last_writes_rise NoWrites h = refl
 last_writes_rise (Write i v ws) h =
-    let rest = last_writes_rise ws (and_right (is_risen v) (values_rise ws) h) in
-    by_test (λ t. values_rise t ≡ true) (last_writes ws) (Write i v (last_writes ws)) (is_written i ws) (λ e. rest) (λ e. and_both (is_risen v) (values_rise (last_writes ws)) (and_left (is_risen v) (values_rise ws) h) rest)
+    let rest = last_writes_rise ws (and_second (is_risen v) (values_rise ws) h) in
+    by_test (λ t. values_rise t ≡ true) (last_writes ws) (Write i v (last_writes ws)) (is_written i ws) (λ e. rest)
+    (λ e. and_from (is_risen v) (values_rise (last_writes ws)) (and_first (is_risen v) (values_rise ws) h) rest)
 
 placed_rises : (i v : Polynomial) (ws : Writes) → is_risen v ≡ true → values_rise ws ≡ true → values_rise (with_write i v ws) ≡ true
-placed_rises i v NoWrites h g = and_both (is_risen v) true h refl
+placed_rises i v NoWrites h g = and_from (is_risen v) true h refl
 placed_rises i v (Write j w ws) h g =
     by_test (λ t. values_rise t ≡ true) (Write j w (with_write i v ws)) (Write i v (Write j w ws)) (goes_after i j)
-    (λ e. and_both (is_risen w) (values_rise (with_write i v ws)) (and_left (is_risen w) (values_rise ws) g) (placed_rises i v ws h (and_right (is_risen w) (values_rise ws) g)))
-    (λ e. and_both (is_risen v) (values_rise (Write j w ws)) h g)
+    (λ e. and_from (is_risen w) (values_rise (with_write i v ws)) (and_first (is_risen w) (values_rise ws) g)
+    (placed_rises i v ws h (and_second (is_risen w) (values_rise ws) g)))
+    (λ e. and_from (is_risen v) (values_rise (Write j w ws)) h g)
 
 stretches_rise : (ws : Writes) → values_rise ws ≡ true → values_rise (rising_stretches ws) ≡ true
 stretches_rise NoWrites h = refl
-stretches_rise (Write i v ws) h = placed_rises i v (rising_stretches ws) (and_left (is_risen v) (values_rise ws) h) (stretches_rise ws (and_right (is_risen v) (values_rise ws) h))
+stretches_rise (Write i v ws) h = placed_rises i v (rising_stretches ws) (and_first (is_risen v) (values_rise ws) h)
+    (stretches_rise ws (and_second (is_risen v) (values_rise ws) h))
 
 tidied_rises : (a : ArrayTerm) (i v : Polynomial) → is_risen_array a ≡ true → is_risen v ≡ true → is_risen_array (tidied (with_last_write a i v)) ≡ true
 tidied_rises (Over b ws) i v h g = stretches_rise (last_writes (written_last ws i v)) (last_writes_rise (written_last ws i v) (one_more_rises ws i v h g))
 
-pub write_rises : (a b : ArrayTerm) (i v : Polynomial) → is_risen_array a ≡ true → is_risen v ≡ true → written a i v ≡ Done b → is_risen_array b ≡ true
+pub write_rises : (a b : ArrayTerm) (i v : Polynomial) → is_risen_array a ≡ true → is_risen v ≡ true → write_array a i v ≡ Done b → is_risen_array b ≡ true
 write_rises a b i v h g e =
-    let k : tidied (with_last_write a i v) ≡ b = small_is (size_of_array a + 1 + size_of i + size_of v) (depth_of_array (tidied (with_last_write a i v))) (tidied (with_last_write a i v)) b e in
+    let k : tidied (with_last_write a i v) ≡ b = small_is (size_of_array a + 1 + size_of i + size_of v) (depth_of_array (tidied (with_last_write a i v)))
+    (tidied (with_last_write a i v)) b e in
     subst (λ z. is_risen_array z ≡ true) k (tidied_rises a i v h g)

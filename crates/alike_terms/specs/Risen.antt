@@ -1,11 +1,11 @@
 -- Terms whose sums rise. What stands inside an atom is left open.
 use Rattle.std.specs.Prelude.{◌≡◌, pos, Bool, true, ◌&&◌, not, List}
 use Rattle.std.specs.Ordering.{int_eq}
-use Rattle.nf_terms.specs.Terms.{Monomial, Polynomial, Writes, ArrayTerm, One, Times, Zero, Plus, Over, NoWrites, Write}
+use Rattle.nf_terms.specs.NormalTerms.{Monomial, Polynomial, Writes, ArrayTerm, One, Times, Zero, Plus, Over, NoWrites, Write}
 use Rattle.nf_terms.specs.Normal.{atom_rises, monomial_rises}
-use Rattle.nf_terms.specs.declared.tree.Pos.{Pos}
+use Rattle.fs_model.specs.declared.sides.Pos.{Pos}
 use Rattle.nf_terms.specs.declared.form.Nf.{Nf}
-use Rattle.nf_subst.specs.Vectors.{number_at, array_at}
+use Rattle.nf_subst.specs.Vectors.{number_at, array_form}
 
 -- whether no atom stands behind a later one
 abbrev pub atoms_rise : Monomial → Bool
@@ -28,4 +28,4 @@ is_risen_array (Over b ws) = values_rise ws
 -- each number of a vector rises, and each value that is written to its arrays
 pub record IsRisenVector (v : List (Pos × Nf)) : Type 0 where
   pub numbers : (p : Pos) → is_risen (number_at v p) ≡ true
-  pub arrays : (p : Pos) → is_risen_array (array_at v p) ≡ true
+  pub arrays : (p : Pos) → is_risen_array (array_form v p) ≡ true

@@ -5,13 +5,13 @@ ghost use Rattle.fs_model.specs.declared.parts.Rel.{Rel};
 ghost use Rattle.fs_model.specs.Trees.{opposite};
 ghost use Rattle.fs_model.specs.Machines.{Fsmd};
 ghost use Rattle.fs_cut.specs.Paths.{Path};
-ghost use Rattle.nf_terms.specs.Terms.{Polynomial, ArrayTerm, Zero, polynomial_of_symbol};
+ghost use Rattle.nf_terms.specs.NormalTerms.{Polynomial, ArrayTerm, Zero, polynomial_of_symbol};
 ghost use Rattle.nf_terms.specs.Computed.{Done};
-ghost use Rattle.nf_terms.specs.declared.tree.Pos.{Pos};
+ghost use Rattle.fs_model.specs.declared.sides.Pos.{Pos};
 ghost use Rattle.nf_terms.specs.declared.form.Nf.{Nf};
 ghost use Rattle.nf_sums.specs.Operations.{added, subtracted, multiplied, negated, number};
-ghost use Rattle.nf_arrays.specs.Atoms.{divided, remainder_of};
-ghost use Rattle.nf_arrays.specs.Writes.{written, read_at};
+ghost use Rattle.nf_arrays.specs.NewAtoms.{divided, remainder_of};
+ghost use Rattle.nf_arrays.specs.Writes.{write_array, read_at};
 ghost use Rattle.nf_subst.specs.Vectors.{number_at};
 ghost use Rattle.nf_subst.specs.Substitution.{substituted, array_substituted};
 ghost use Rattle.nf_rel.specs.Literals.{NormalLiteral, literal, clash};
@@ -35,7 +35,7 @@ pub fn operations_rise()
     ensures negation { (p : Polynomial) → is_risen p ≡ true → is_risen (negated p) ≡ true }
     ensures read { (a : ArrayTerm) (i r : Polynomial) → is_risen_array a ≡ true → read_at a i ≡ Done r → is_risen r ≡ true }
     ensures write { (a b : ArrayTerm) (i v : Polynomial) → is_risen_array a ≡ true → is_risen v ≡ true
-        → written a i v ≡ Done b → is_risen_array b ≡ true }
+        → write_array a i v ≡ Done b → is_risen_array b ≡ true }
 {}
 
 /// What a substitution gives rises, and where the numbers of a vector rise, so do those that arrive.

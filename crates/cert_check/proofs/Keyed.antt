@@ -1,16 +1,18 @@
 -- Nodes by the keys of their points.
-use Rattle.std.proofs.Common.{◌≡◌, ℕ, ◌+◌, ◌==◌, Bool, true, false, not, ◌&&◌, ◌||◌, cond, Option, Some, None, List, [], ◌∷◌, ◌++◌, map, option_map, refl, ap, sym, subst, ◌∙◌, arith}
+use Rattle.std.proofs.Common.{◌≡◌, ℕ, ◌+◌, Bool, true, false, not, ◌&&◌, ◌||◌, cond, Option, Some, None, List, [], ◌∷◌, ◌++◌, map, option_map, refl, ap, sym}
+use Rattle.std.proofs.Common.{subst, ◌∙◌}
 use Rattle.std.specs.Map.{lookup}
 use Rattle.std.specs.List.{list_any}
+use Rattle.base_lemmas.proofs.Booleans.{and_second}
 use Rattle.indexmap.specs.IndexMap.{insert_entry}
 use Rattle.fs_cut.specs.Paths.{Point}
 use Rattle.fs_cut.specs.Covers.{same_point}
-use Rattle.bisimulation.specs.Tables.{Node}
+use Rattle.cert_bisimulation.specs.Tables.{Node}
 use Rattle.sym_facts.specs.Facts.{Fact}
-use Rattle.certificates.specs.Lawful.{points_differ}
-use Rattle.certificates.specs.Obligations.{node_at}
-use Rattle.machine_pairs.specs.Keys.{key_of}
-use Rattle.machine_pairs.proofs.SameKeys.{same_numbers, same_key}
+use Rattle.cert_model.specs.Lawful.{points_differ}
+use Rattle.cert_model.specs.Obligations.{node_at}
+use Rattle.cert_machine_pairs.specs.PointKeys.{key_of}
+use Rattle.cert_machine_pairs.proofs.SameKeys.{same_numbers, same_key}
 
 module _ {V : Type 0} (seen : V → Node Fact) where
   -- each node has the key of its points
@@ -37,11 +39,13 @@ module _ {V : Type 0} (seen : V → Node Fact) where
       test : same_key (key_of P Q) e.0 ≡ (same_point (seen e.1).left P && same_point (seen e.1).right Q)
       test = ap (same_key (key_of P Q)) h.0 ∙ (λ k. same_numbers P (seen e.1).left k && same_numbers Q (seen e.1).right k)
 
-      tested : option_map seen (lookup (same_key (key_of P Q)) (e ∷ es)) ≡ option_map seen (cond (same_point (seen e.1).left P && same_point (seen e.1).right Q) (Some e.1) (lookup (same_key (key_of P Q)) es))
+      tested : option_map seen (lookup (same_key (key_of P Q)) (e ∷ es)) ≡ option_map seen
+          (cond (same_point (seen e.1).left P && same_point (seen e.1).right Q) (Some e.1) (lookup (same_key (key_of P Q)) es))
       tested = ap (λ t. option_map seen (cond {A = Option V} t (Some e.1) (lookup (same_key (key_of P Q)) es))) test
 
       by_test : (t : Bool) → option_map seen (lookup (same_key (key_of P Q)) es) ≡ node_at (map (λ e. seen e.1) es) P Q
-          → option_map seen (cond {A = Option V} t (Some e.1) (lookup (same_key (key_of P Q)) es)) ≡ cond {A = Option (Node Fact)} t (Some (seen e.1)) (node_at (map (λ e. seen e.1) es) P Q)
+          → option_map seen (cond {A = Option V} t (Some e.1) (lookup (same_key (key_of P Q)) es))
+          ≡ cond {A = Option (Node Fact)} t (Some (seen e.1)) (node_at (map (λ e. seen e.1) es) P Q)
       by_test true again = refl
       by_test false again = again
 
@@ -53,11 +57,15 @@ module _ {V : Type 0} (seen : V → Node Fact) where
       ∙ by_test (same_point (seen x.1).left (seen v).left && same_point (seen x.1).right (seen v).right) (put_last es v h.1) e
     where
       test : same_key (key_of (seen v).left (seen v).right) x.0 ≡ (same_point (seen x.1).left (seen v).left && same_point (seen x.1).right (seen v).right)
-      test = ap (same_key (key_of (seen v).left (seen v).right)) h.0 ∙ (λ k. same_numbers (seen v).left (seen x.1).left k && same_numbers (seen v).right (seen x.1).right k)
+      test = ap (same_key (key_of (seen v).left (seen v).right)) h.0
+          ∙ (λ k. same_numbers (seen v).left (seen x.1).left k && same_numbers (seen v).right (seen x.1).right k)
 
-      by_test : (t : Bool) → (node_at (map (λ e. seen e.1) es) (seen v).left (seen v).right ≡ None → insert_entry same_key es (key_of (seen v).left (seen v).right) v ≡ es ++ (key_of (seen v).left (seen v).right, v) ∷ [])
+      by_test : (t : Bool)
+          → (node_at (map (λ e. seen e.1) es) (seen v).left (seen v).right ≡ None
+          → insert_entry same_key es (key_of (seen v).left (seen v).right) v ≡ es ++ (key_of (seen v).left (seen v).right, v) ∷ [])
           → cond {A = Option (Node Fact)} t (Some (seen x.1)) (node_at (map (λ e. seen e.1) es) (seen v).left (seen v).right) ≡ None
-          → cond t ((x.0, v) ∷ es) (x ∷ insert_entry same_key es (key_of (seen v).left (seen v).right) v) ≡ x ∷ (es ++ (key_of (seen v).left (seen v).right, v) ∷ [])
+          → cond t ((x.0, v) ∷ es) (x ∷ insert_entry same_key es (key_of (seen v).left (seen v).right) v) ≡ x
+          ∷ (es ++ (key_of (seen v).left (seen v).right, v) ∷ [])
       by_test true again f = absurd (cc f)
       by_test false again f = ap (λ t. x ∷ t) (again f)
 
@@ -70,19 +78,24 @@ module _ {V : Type 0} (seen : V → Node Fact) where
   nodes_last (x ∷ es) k v = ap (λ t. seen x.1 ∷ t) (nodes_last es k v)
 
   -- a node is found where it stands
-  pub stands : (P Q : Point) (es : List ((ℕ × ℕ) × V)) (o : Option V) → map (λ e. e.0) es ≡ map key_in es → o ≡ lookup (same_key (key_of P Q)) es → option_map seen o ≡ node_at (map (λ e. seen e.1) es) P Q
+  pub stands : (P Q : Point) (es : List ((ℕ × ℕ) × V)) (o : Option V) → map (λ e. e.0) es ≡ map key_in es → o ≡ lookup (same_key (key_of P Q)) es
+      → option_map seen o ≡ node_at (map (λ e. seen e.1) es) P Q
   stands P Q es o h e = ap (option_map seen) e ∙ found P Q es (to_keyed es h)
 
   -- what there is after a node is put
   pub added : (es new : List ((ℕ × ℕ) × V)) (v : V) → map (λ e. e.0) es ≡ map key_in es → node_at (map (λ e. seen e.1) es) (seen v).left (seen v).right ≡ None
-      → new ≡ insert_entry same_key es (key_in (key_of (seen v).left (seen v).right, v)) v → (map (λ e. e.0) new ≡ map key_in new) × (map (λ e. seen e.1) new ≡ map (λ e. seen e.1) es ++ seen v ∷ [])
+      → new ≡ insert_entry same_key es (key_in (key_of (seen v).left (seen v).right, v)) v
+      → (map (λ e. e.0) new ≡ map key_in new) × (map (λ e. seen e.1) new ≡ map (λ e. seen e.1) es ++ seen v ∷ [])
   added es new v h e i =
-      let last : new ≡ es ++ (key_of (seen v).left (seen v).right, v) ∷ [] = i ∙ put_last es v (to_keyed es h) e in
-      (subst (λ z. map (λ e. e.0) z ≡ map key_in z) (sym last) (from_keyed _ (keyed_last es v (to_keyed es h))), ap (map (λ e. seen e.1)) last ∙ nodes_last es (key_of (seen v).left (seen v).right) v)
+      let last : new ≡ es ++ (key_of (seen v).left (seen v).right, v) ∷ [] = i ∙ put_last es v (to_keyed es h) e in (
+        subst (λ z. map (λ e. e.0) z ≡ map key_in z) (sym last) (from_keyed _ (keyed_last es v (to_keyed es h))),
+        ap (map (λ e. seen e.1)) last ∙ nodes_last es (key_of (seen v).left (seen v).right) v,
+      )
 
 -- ---- nodes at different points
 
-not_any : (test : Node Fact → Bool) (xs rest : List (Node Fact)) (n : Node Fact) (later : Bool) → not (list_any test (xs ++ n ∷ rest)) && later ≡ true → test n ≡ false
+not_any : (test : Node Fact → Bool) (xs rest : List (Node Fact)) (n : Node Fact) (later : Bool) → not (list_any test (xs ++ n ∷ rest)) && later ≡ true
+    → test n ≡ false
 not_any test [] rest n later e = by_test (test n) e
   where
     by_test : (t : Bool) → not (t || list_any test rest) && later ≡ true → t ≡ false
@@ -90,17 +103,17 @@ not_any test [] rest n later e = by_test (test n) e
     by_test false f = refl
 not_any test (x ∷ xs) rest n later e = by_test (test x) (not_any test xs rest n later) e
   where
-    by_test : (t : Bool) → (not (list_any test (xs ++ n ∷ rest)) && later ≡ true → test n ≡ false) → not (t || list_any test (xs ++ n ∷ rest)) && later ≡ true → test n ≡ false
+    by_test : (t : Bool) → (not (list_any test (xs ++ n ∷ rest)) && later ≡ true → test n ≡ false) → not (t || list_any test (xs ++ n ∷ rest)) && later ≡ true
+        → test n ≡ false
     by_test true again f = absurd (cc f)
     by_test false again f = again f
-
-later_too : (t u : Bool) → t && u ≡ true → u ≡ true
-later_too true u e = e
-later_too false u e = absurd (cc e)
 
 -- none of the earlier nodes stands at the points of a later one
 pub none_before : (xs rest : List (Node Fact)) (n : Node Fact) → points_differ (xs ++ n ∷ rest) ≡ true → node_at xs n.left n.right ≡ None
 none_before [] rest n e = refl
 none_before (x ∷ xs) rest n e =
-    let test : (same_point x.left n.left && same_point x.right n.right) ≡ false = not_any (λ k. same_point x.left k.left && same_point x.right k.right) xs rest n (points_differ (xs ++ n ∷ rest)) e in
-    ap (λ t. cond {A = Option (Node Fact)} t (Some x) (node_at xs n.left n.right)) test ∙ none_before xs rest n (later_too (not (list_any (λ k. same_point x.left k.left && same_point x.right k.right) (xs ++ n ∷ rest))) (points_differ (xs ++ n ∷ rest)) e)
+    let test : (same_point x.left n.left && same_point x.right n.right) ≡ false =
+    not_any (λ k. same_point x.left k.left && same_point x.right k.right) xs rest n (points_differ (xs ++ n ∷ rest)) e in
+    ap (λ t. cond {A = Option (Node Fact)} t (Some x) (node_at xs n.left n.right)) test
+    ∙ none_before xs rest n
+    (and_second (not (list_any (λ k. same_point x.left k.left && same_point x.right k.right) (xs ++ n ∷ rest))) (points_differ (xs ++ n ∷ rest)) e)

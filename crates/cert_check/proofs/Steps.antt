@@ -1,16 +1,18 @@
 -- Obligations one after another, and lists of them along a loop.
-use Rattle.std.proofs.Common.{◌≡◌, ℕ, zero, suc, ◌+◌, ◌<◌, Bool, true, false, ◌&&◌, cond, List, [], ◌∷◌, ◌++◌, map, drop, length, ap, sym, ◌∙◌, arith, refl}
+use Rattle.std.proofs.Common.{◌≡◌, ℕ, zero, suc, ◌+◌, ◌<◌, Bool, true, false, cond, List, [], ◌∷◌, ◌++◌, map, length, ap, sym, ◌∙◌, arith, refl}
 use Rattle.std.specs.Prelude.{Some, None}
 use Rattle.std.specs.List.{slice_index_or, list_all, position_from}
 use Rattle.std.specs.Str.{bytes_eq}
+use Rattle.base_lemmas.proofs.Booleans.{and_first, and_second}
 use Rattle.fs_model.specs.declared.parts.VarInfo.{VarInfo}
 use Rattle.fs_model.specs.Runs.{is_output}
-use Rattle.fs_pair.specs.Outputs.{OutputPair, output_pairs}
+use Rattle.fs_pair.specs.PairedOutputs.{OutputPair, output_pairs}
 use Rattle.nf_terms.specs.Computed.{Done, Wide, Large}
-use Rattle.certificates.specs.Obligations.{Judged, Verdict, verdict_from, verdict_by}
+use Rattle.cert_model.specs.Obligations.{Judged, Verdict, verdict_from, verdict_by}
 use Rattle.cert_check.specs.Progress.{Progress, Held, Stopped, advance, progress_from, verdict_of}
 
-by_advance : (k : ℕ) (r : Judged) (xs ys : List Judged) (j : ℕ) → advance k r (progress_from (k + 1) xs) ≡ Held j → (progress_from (k + 1) xs ≡ Held j → progress_from (k + 1) (xs ++ ys) ≡ progress_from j ys)
+by_advance : (k : ℕ) (r : Judged) (xs ys : List Judged) (j : ℕ) → advance k r (progress_from (k + 1) xs) ≡ Held j
+    → (progress_from (k + 1) xs ≡ Held j → progress_from (k + 1) (xs ++ ys) ≡ progress_from j ys)
     → advance k r (progress_from (k + 1) (xs ++ ys)) ≡ progress_from j ys
 by_advance k (Done None) xs ys j e next = next e
 by_advance k (Done (Some x)) xs ys j e next = absurd (cc e)
@@ -22,7 +24,8 @@ some_held : (k : ℕ) (xs ys : List Judged) (j : ℕ) → progress_from k xs ≡
 some_held k [] ys j e = let s : k ≡ j = cc e in ap (λ n. progress_from n ys) s
 some_held k (r ∷ xs) ys j e = by_advance k r xs ys j e (λ f. some_held (k + 1) xs ys j f)
 
-by_stop : (k : ℕ) (r : Judged) (xs ys : List Judged) (v : Verdict) → advance k r (progress_from (k + 1) xs) ≡ Stopped v → (progress_from (k + 1) xs ≡ Stopped v → progress_from (k + 1) (xs ++ ys) ≡ Stopped v)
+by_stop : (k : ℕ) (r : Judged) (xs ys : List Judged) (v : Verdict) → advance k r (progress_from (k + 1) xs) ≡ Stopped v
+    → (progress_from (k + 1) xs ≡ Stopped v → progress_from (k + 1) (xs ++ ys) ≡ Stopped v)
     → advance k r (progress_from (k + 1) (xs ++ ys)) ≡ Stopped v
 by_stop k (Done None) xs ys v e next = next e
 by_stop k (Done (Some x)) xs ys v e next = e
@@ -35,15 +38,18 @@ some_stop k [] ys v e = absurd (cc e)
 some_stop k (r ∷ xs) ys v e = by_stop k r xs ys v e (λ f. some_stop (k + 1) xs ys v f)
 
 -- those that are left after some that hold
-pub left_held : (k j : ℕ) (xs rs all whole : List Judged) (first : ℕ) (p : Progress) → all ≡ xs ++ rs → p ≡ Held j → p ≡ progress_from k xs → progress_from k all ≡ progress_from first whole → progress_from j rs ≡ progress_from first whole
+pub left_held : (k j : ℕ) (xs rs all whole : List Judged) (first : ℕ) (p : Progress) → all ≡ xs ++ rs → p ≡ Held j → p ≡ progress_from k xs
+    → progress_from k all ≡ progress_from first whole → progress_from j rs ≡ progress_from first whole
 left_held k j xs rs all whole first p e s h i = sym (some_held k xs rs j (sym h ∙ s)) ∙ ap (progress_from k) (sym e) ∙ i
 
 -- the whole stops where some of those that are left do
-pub left_stop : (k : ℕ) (v : Verdict) (xs rs all whole : List Judged) (first : ℕ) (p : Progress) → all ≡ xs ++ rs → p ≡ Stopped v → p ≡ progress_from k xs → progress_from k all ≡ progress_from first whole → Stopped v ≡ progress_from first whole
+pub left_stop : (k : ℕ) (v : Verdict) (xs rs all whole : List Judged) (first : ℕ) (p : Progress) → all ≡ xs ++ rs → p ≡ Stopped v → p ≡ progress_from k xs
+    → progress_from k all ≡ progress_from first whole → Stopped v ≡ progress_from first whole
 left_stop k v xs rs all whole first p e s h i = sym (some_stop k xs rs v (sym h ∙ s)) ∙ ap (progress_from k) (sym e) ∙ i
 
 -- the verdict of obligations is that of where they lead
-by_verdict : (k : ℕ) (r : Judged) (rs : List Judged) → verdict_of (progress_from (k + 1) rs) ≡ verdict_from (k + 1) rs → verdict_of (advance k r (progress_from (k + 1) rs)) ≡ verdict_by k r (verdict_from (k + 1) rs)
+by_verdict : (k : ℕ) (r : Judged) (rs : List Judged) → verdict_of (progress_from (k + 1) rs) ≡ verdict_from (k + 1) rs
+    → verdict_of (advance k r (progress_from (k + 1) rs)) ≡ verdict_by k r (verdict_from (k + 1) rs)
 by_verdict k (Done None) rs again = again
 by_verdict k (Done (Some x)) rs again = refl
 by_verdict k (Wide l r) rs again = refl
@@ -53,38 +59,22 @@ pub verdict_reached : (k : ℕ) (rs : List Judged) → verdict_of (progress_from
 verdict_reached k [] = refl
 verdict_reached k (r ∷ rs) = by_verdict k r rs (verdict_reached (k + 1) rs)
 
--- the elements that are left begin with the one at hand
-pub split_at : {X Y : Type 0} (f : X → Y) (xs : List X) (i : ℕ) (x : X) → i < length xs → x ≡ slice_index_or xs i x → map f (drop i xs) ≡ f x ∷ map f (drop (i + 1) xs)
-split_at f [] i x h e = absurd (omega arith)
-split_at f (y ∷ xs) zero x h e = grind (arith, e)
-split_at f (y ∷ xs) (suc i) x h e = grind (arith, split_at f xs i x (omega arith) e)
-
-pub drop_next : {X : Type 0} (xs : List X) (i : ℕ) (x : X) → i < length xs → x ≡ slice_index_or xs i x → drop i xs ≡ x ∷ drop (i + 1) xs
-drop_next [] i x h e = absurd (omega arith)
-drop_next (y ∷ xs) zero x h e = grind (arith, e)
-drop_next (y ∷ xs) (suc i) x h e = grind (arith, drop_next xs i x (omega arith) e)
-
 -- what passes for all passes for the one at hand
-pub passes_at : {X Y : Type 0} (test : Y → Bool) (f : X → Y) (xs : List X) (i : ℕ) (x : X) → i < length xs → x ≡ slice_index_or xs i x → list_all test (map f xs) ≡ true → test (f x) ≡ true
+pub passes_at : {X Y : Type 0} (test : Y → Bool) (f : X → Y) (xs : List X) (i : ℕ) (x : X) → i < length xs → x ≡ slice_index_or xs i x
+    → list_all test (map f xs) ≡ true → test (f x) ≡ true
 passes_at test f [] i x h e a = absurd (omega arith)
-passes_at test f (y ∷ xs) zero x h e a = ap (λ z. test (f z)) e ∙ front (test (f y)) (list_all test (map f xs)) a
-  where
-    front : (t u : Bool) → t && u ≡ true → t ≡ true
-    front true u g = refl
-    front false u g = g
-passes_at test f (y ∷ xs) (suc i) x h e a = passes_at test f xs i x (omega arith) e (rest (test (f y)) (list_all test (map f xs)) a)
-  where
-    rest : (t u : Bool) → t && u ≡ true → u ≡ true
-    rest true u g = g
-    rest false u g = absurd (cc g)
+passes_at test f (y ∷ xs) zero x h e a = ap (λ z. test (f z)) e ∙ and_first (test (f y)) (list_all test (map f xs)) a
+passes_at test f (y ∷ xs) (suc i) x h e a = passes_at test f xs i x (omega arith) e (and_second (test (f y)) (list_all test (map f xs)) a)
 
 -- the outputs among variables are those of the first and those of the rest
-pub outputs_split : (f : OutputPair → Judged) (x : ℕ) (v : VarInfo) (vs rights : List VarInfo) → map f (output_pairs x (v ∷ vs) rights) ≡ map f (output_pairs x (v ∷ []) rights) ++ map f (output_pairs (x + 1) vs rights)
+pub outputs_split : (f : OutputPair → Judged) (x : ℕ) (v : VarInfo) (vs rights : List VarInfo)
+    → map f (output_pairs x (v ∷ vs) rights) ≡ map f (output_pairs x (v ∷ []) rights) ++ map f (output_pairs (x + 1) vs rights)
 outputs_split f x v vs rights = by_test (is_output v.role)
   where
     here : OutputPair
     here = record { left = x; sort = v.sort; right = position_from (λ u. bytes_eq u.name v.name) 0 rights }
 
-    by_test : (t : Bool) → map f (cond t (here ∷ output_pairs (x + 1) vs rights) (output_pairs (x + 1) vs rights)) ≡ map f (cond t (here ∷ []) []) ++ map f (output_pairs (x + 1) vs rights)
+    by_test : (t : Bool) → map f (cond t (here ∷ output_pairs (x + 1) vs rights) (output_pairs (x + 1) vs rights)) ≡ map f (cond t (here ∷ []) [])
+        ++ map f (output_pairs (x + 1) vs rights)
     by_test true = refl
     by_test false = refl

@@ -1,3 +1,3 @@
 pub mod Progress
-pub mod Outputs
+pub mod VectorOutputs
 pub mod View

@@ -1,7 +1,7 @@
 -- Obligations one after another.
 use Rattle.std.specs.Prelude.{ℕ, ◌+◌, List, [], ◌∷◌, Some, None}
 use Rattle.nf_terms.specs.Computed.{Done, Wide, Large}
-use Rattle.certificates.specs.Obligations.{Judged, Verdict, Yes, No, IsWide, IsLarge}
+use Rattle.cert_model.specs.Obligations.{Judged, Verdict, Yes, No, IsWide, IsLarge}
 
 -- all hold, and the next one has this number; or one stops the check
 pub data Progress : Type 0 where

@@ -2,12 +2,12 @@
 use Rattle.std.specs.Prelude.{ℕ, ◌+◌, ◌*◌, ◌≤◌, List, [], map, Option}
 use Rattle.fs_cut.specs.Paths.{Point, Path}
 use Rattle.fs_model.specs.Limits.{most_branches}
-use Rattle.bisimulation.specs.declared.mode.Mode.{Mode}
-use Rattle.bisimulation.specs.Tables.{Node}
+use Rattle.cert_bisimulation.specs.declared.mode.Mode.{Mode}
+use Rattle.cert_bisimulation.specs.Tables.{Node}
 use Rattle.sym_paths.specs.Execution.{Post}
 use Rattle.sym_facts.specs.Facts.{Fact, vector_of}
-use Rattle.certificates.specs.Obligations as obligations
-use Rattle.certificates.specs.View.{node_of}
+use Rattle.cert_model.specs.Obligations as obligations
+use Rattle.cert_model.specs.View.{node_of}
 use Rattle.cert_check.specs.Progress as progress
 use Rattle.cert_check.specs.declared.verdict.Verdict.{Verdict}
 use Rattle.cert_check.specs.declared.verdict.Verdict.TheVariants as code
@@ -32,32 +32,32 @@ NumberUpTo n (going.Held k) = k ≤ n
 NumberUpTo n (going.Stopped v) = Unit {0}
 
 -- the nodes of an index, in order
-abbrev pub nodes_in : NodeIndex → List (Node Fact)
-nodes_in i = map (λ e. node_of e.1.now) i.nodes.entries
+abbrev pub index_nodes : NodeIndex → List (Node Fact)
+index_nodes i = map (λ e. node_of e.1.now) i.nodes.entries
 
 -- what arrives at two points over a table, from a node
 abbrev pub reached_in : Table → Node Fact → Post → (left right : Point) → obligations.Judged
-reached_in t n post P Q = obligations.reaches (obligations.node_at (nodes_in t.nodes) P Q) (obligations.rank_falls n) post
+reached_in t n post P Q = obligations.reaches (obligations.node_at (index_nodes t.nodes) P Q) (obligations.rank_falls n) post
 
 -- a move over a table
 abbrev pub move_in : Table → Node Fact → (left right : Option Path) → obligations.Judged
-move_in t n left right = obligations.judge_move t.a.now t.b.now (nodes_in t.nodes) n left right
+move_in t n left right = obligations.judge_move t.a.now t.b.now (index_nodes t.nodes) n left right
 
 -- what a node owes over a table
 abbrev pub owed_in : Table → Node Fact → List obligations.Judged
-owed_in t n = obligations.owed_by t.a.now t.b.now (nodes_in t.nodes) n
+owed_in t n = obligations.owed_by t.a.now t.b.now (index_nodes t.nodes) n
 
 -- the moves of a node in a mode over a table, or its outputs
-abbrev pub moves_of : Mode → Table → Node Fact → List obligations.Judged
-moves_of m t n = obligations.moves_by m t.a.now t.b.now (nodes_in t.nodes) n
+abbrev pub owed_moves : Mode → Table → Node Fact → List obligations.Judged
+owed_moves m t n = obligations.moves_by m t.a.now t.b.now (index_nodes t.nodes) n
 
 -- the start fact's vector, without conditions
 abbrev pub start_post : Fact → Post
 start_post f = record { conditions = []; vector = vector_of f.positions }
 
 -- how many moves or outputs a node has at most, and what it owes
-abbrev pub most_moves : ℕ
-most_moves = most_branches * most_branches
+abbrev pub most_node_moves : ℕ
+most_node_moves = most_branches * most_branches
 
 abbrev pub most_owed : ℕ
-most_owed = 1 + most_moves
+most_owed = 1 + most_node_moves

@@ -1,4 +1,9 @@
 //! The checker of certificates: the obligations of a certificate in order, up to the first that does not hold.
+//!
+//! Promises: `verify` tells the verdict on a lawful certificate's obligations exactly, and `Yes` shows the same
+//! behaviour.
+//!
+//! Rules: `specs/Progress`, `specs/View`.
 #![tactic(auto)]
 
 mod lookup;

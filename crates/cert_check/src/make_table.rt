@@ -1,15 +1,15 @@
 //! The table of two machines and of a certificate, made.
 
 ghost use Rattle.std.specs.Prelude.{◌≡◌, map, IsTrue, IfOk};
-ghost use Rattle.certificates.specs.Lawful.{points_differ};
-ghost use Rattle.certificates.specs.View.{node_of};
-ghost use Rattle.cert_check.specs.View.{nodes_in};
+ghost use Rattle.cert_model.specs.Lawful.{points_differ};
+ghost use Rattle.cert_model.specs.View.{node_of};
+ghost use Rattle.cert_check.specs.View.{index_nodes};
 
 use crate::lookup::index_of;
 use crate::table::Table;
-use certificates::cert::Node;
+use cert_machine_pairs::covers::cover_of;
+use cert_model::cert::Node;
 use fs_ast::machine::Machine;
-use machine_pairs::covers::cover_of;
 use nf_terms::stop::NoMemory;
 use std::alloc::Global;
 
@@ -23,7 +23,7 @@ pub fn table_of<'a>(
     requires { IsTrue (points_differ (map node_of nodes.now)) }
     ensures left { IfOk result (λ t. t.a.now ≡ a.now) }
     ensures right { IfOk result (λ t. t.b.now ≡ b.now) }
-    ensures nodes { IfOk result (λ t. nodes_in t.nodes ≡ map node_of nodes.now) }
+    ensures nodes { IfOk result (λ t. index_nodes t.nodes ≡ map node_of nodes.now) }
 {
     let left = cover_of(alloc, a)?;
     let right = cover_of(alloc, b)?;

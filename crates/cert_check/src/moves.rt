@@ -1,6 +1,6 @@
 //! The moves of a node.
 
-ghost use Rattle.std.specs.Prelude.{◌≡◌, ◌+◌, ◌*◌, ◌<◌, ◌≤◌, ◌^◌, ◌∷◌, [], length, map, drop, option_map, IfOk, Some, None};
+ghost use Rattle.std.specs.Prelude.{◌≡◌, ◌+◌, ◌*◌, ◌<◌, ◌≤◌, ◌^◌, length, map, option_map, IfOk, Some, None};
 ghost use Rattle.std.specs.List.{flat_map};
 ghost use Rattle.fs_model.specs.Limits.{most_branches};
 ghost use Rattle.fs_cut.specs.View.{point_of, path_of};
@@ -8,17 +8,17 @@ ghost use Rattle.nf_terms.specs.Computed.{Answers, Done, after};
 ghost use Rattle.sym_paths.specs.Execution.{end_of};
 ghost use Rattle.sym_paths.specs.View.{post_in};
 ghost use Rattle.sym_facts.specs.Entailment.{entails as entailed};
-ghost use Rattle.certificates.specs.Obligations.{first_missing, same_alone, rank_falls};
-ghost use Rattle.certificates.specs.View.{node_of};
+ghost use Rattle.cert_model.specs.Obligations.{first_missing, same_alone, rank_falls};
+ghost use Rattle.cert_model.specs.View.{node_of};
 ghost use Rattle.cert_check.specs.Progress.{progress_from};
 ghost use Rattle.cert_check.specs.View.{progress_in, reached_in, move_in, NumberUpTo};
 
 use crate::lookup::node_at;
 use crate::progress::{Progress, advance};
 use crate::table::Table;
-use bisimulation::mode::Mode;
-use certificates::cert::Node;
-use certificates::reason::Reason;
+use cert_bisimulation::mode::Mode;
+use cert_model::cert::Node;
+use cert_model::reason::Reason;
 use fs_cut::cover::{Path, Point};
 use nf_refutation::refutation::is_refuted;
 use nf_terms::stop::{NfStop, NoMemory};
@@ -47,7 +47,8 @@ pub fn judge_target(
     target: &Node,
     falls: bool,
 ) -> Result<Option<Reason>, NfStop>
-    ensures { Answers result (after (entailed (post_in post.now) target.now.fact) (λ e. Done (first_missing e.equations e.literals falls))) }
+    ensures { Answers result
+        (after (entailed (post_in post.now) target.now.fact) (λ e. Done (first_missing e.equations e.literals falls))) }
 {
     let missing = entails(alloc, post, &target.fact)?;
     Ok(first_missing(
@@ -110,7 +111,9 @@ fn judge_move(
     left: Option<&Path>,
     right: Option<&Path>,
 ) -> Result<Option<Reason>, NfStop>
-    ensures { Answers result (move_in table.now (node_of node.now) (option_map (λ p. path_of p.now) left.entry) (option_map (λ p. path_of p.now) right.entry)) }
+    ensures { Answers result
+        (move_in table.now (node_of node.now) (option_map (λ p. path_of p.now) left.entry)
+        (option_map (λ p. path_of p.now) right.entry)) }
 {
     let post = arrive(alloc, table.a, table.b, &node.fact, left, right)?;
     if is_refuted(alloc, post.conds.as_slice())? {
@@ -132,7 +135,9 @@ pub fn left_moves(
 ) -> Result<Progress, NoMemory>
     requires few { length lefts.now ≤ most_branches }
     requires low { first < 2 ^ 31 }
-    ensures moves { IfOk result (λ p. progress_in p ≡ progress_from first (map (λ l. move_in table.now (node_of node.now) (Some l) None) (map path_of lefts.now))) }
+    ensures moves { IfOk result
+        (λ p. progress_in p ≡ progress_from first
+        (map (λ l. move_in table.now (node_of node.now) (Some l) None) (map path_of lefts.now))) }
     ensures bound { IfOk result (NumberUpTo (first + most_branches)) }
 {
     let mut number = first;
@@ -158,7 +163,10 @@ pub fn right_moves(
 ) -> Result<Progress, NoMemory>
     requires few { length rights.now ≤ most_branches }
     requires low { first < 2 ^ 31 }
-    ensures moves { IfOk result (λ p. progress_in p ≡ progress_from first (map (λ r. move_in table.now (node_of node.now) (option_map (λ l. path_of l.now) left.entry) (Some r)) (map path_of rights.now))) }
+    ensures moves { IfOk result
+        (λ p. progress_in p ≡ progress_from first
+        (map (λ r. move_in table.now (node_of node.now) (option_map (λ l. path_of l.now) left.entry) (Some r))
+        (map path_of rights.now))) }
     ensures bound { IfOk result (NumberUpTo (first + most_branches)) }
 {
     let mut number = first;
@@ -185,7 +193,10 @@ pub fn both_moves(
     requires few_left { length lefts.now ≤ most_branches }
     requires few_right { length rights.now ≤ most_branches }
     requires low { first < 2 ^ 30 }
-    ensures moves { IfOk result (λ p. progress_in p ≡ progress_from first (flat_map (λ l. map (λ r. move_in table.now (node_of node.now) (Some l) (Some r)) (map path_of rights.now)) (map path_of lefts.now))) }
+    ensures moves { IfOk result
+        (λ p. progress_in p ≡ progress_from first
+        (flat_map (λ l. map (λ r. move_in table.now (node_of node.now) (Some l) (Some r)) (map path_of rights.now))
+        (map path_of lefts.now))) }
     ensures bound { IfOk result (NumberUpTo (first + most_branches * most_branches)) }
 {
     let mut number = first;

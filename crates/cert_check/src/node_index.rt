@@ -2,14 +2,15 @@
 
 ghost use Rattle.std.specs.Prelude.{◌≡◌, map};
 ghost use Rattle.fs_cut.specs.View.{point_of};
-ghost use Rattle.machine_pairs.specs.Keys.{key_of};
+ghost use Rattle.cert_machine_pairs.specs.PointKeys.{key_of};
 
-use certificates::cert::Node;
+use cert_model::cert::Node;
 use indexmap::IndexMap;
 
 /// Nodes at different pairs of points, in order. A node is found in constant time.
 #[derive(Drop)]
 pub struct NodeIndex<'a> {
     pub nodes: IndexMap<(u64, u64), &'a Node>,
-    ghost keyed: { map (λ e. e.0) nodes.entries ≡ map (λ e. key_of (point_of e.1.now.left) (point_of e.1.now.right)) nodes.entries },
+    ghost keyed: { map (λ e. e.0) nodes.entries
+        ≡ map (λ e. key_of (point_of e.1.now.left) (point_of e.1.now.right)) nodes.entries },
 }

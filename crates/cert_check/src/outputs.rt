@@ -2,16 +2,16 @@
 
 ghost use Rattle.std.specs.Prelude.{◌≡◌, ◌+◌, ◌<◌, ◌≤◌, ◌^◌, ◌∷◌, [], length, map, IfOk};
 ghost use Rattle.fs_model.specs.Limits.{most_variables};
-ghost use Rattle.fs_pair.specs.Outputs.{output_pairs};
+ghost use Rattle.fs_pair.specs.PairedOutputs.{output_pairs};
 ghost use Rattle.nf_terms.specs.Computed.{Answers};
 ghost use Rattle.cert_check.specs.Progress.{progress_from};
-ghost use Rattle.cert_check.specs.Outputs.{output_over};
+ghost use Rattle.cert_check.specs.VectorOutputs.{output_over};
 ghost use Rattle.cert_check.specs.View.{progress_in, NumberUpTo};
 
 use crate::progress::{Progress, advance};
-use certificates::reason::Reason;
+use cert_machine_pairs::outputs::{is_output, number_of, same_forms};
+use cert_model::reason::Reason;
 use fs_model::parts::{Sort, VarInfo};
-use machine_pairs::outputs::{is_output, number_of, same_forms};
 use nf_subst::vector::Vector;
 use nf_terms::stop::{NfStop, NoMemory};
 use std::alloc::Global;
@@ -44,7 +44,8 @@ fn output_of(
 ) -> Result<Progress, NoMemory>
     requires few { length rights.now ≤ most_variables }
     requires low { first < 2 ^ 31 }
-    ensures output { IfOk result (λ p. progress_in p ≡ progress_from first (map (output_over v.now) (output_pairs left (variable.now ∷ []) rights.now))) }
+    ensures output { IfOk result
+        (λ p. progress_in p ≡ progress_from first (map (output_over v.now) (output_pairs left (variable.now ∷ []) rights.now))) }
     ensures bound { IfOk result (NumberUpTo (first + 1)) }
 {
     if !is_output(variable.role) {
@@ -67,7 +68,8 @@ pub fn outputs(
     requires few_left { length lefts.now ≤ most_variables }
     requires few_right { length rights.now ≤ most_variables }
     requires low { first < 2 ^ 30 }
-    ensures outputs { IfOk result (λ p. progress_in p ≡ progress_from first (map (output_over v.now) (output_pairs 0 lefts.now rights.now))) }
+    ensures outputs { IfOk result
+        (λ p. progress_in p ≡ progress_from first (map (output_over v.now) (output_pairs 0 lefts.now rights.now))) }
     ensures bound { IfOk result (NumberUpTo (first + most_variables)) }
 {
     let mut left = 0;

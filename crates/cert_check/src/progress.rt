@@ -2,12 +2,12 @@
 
 ghost use Rattle.std.specs.Prelude.{◌≡◌, ◌+◌, ◌<◌, ◌^◌, ◌∷◌, [], IfOk};
 ghost use Rattle.nf_terms.specs.Computed.{Answers};
-ghost use Rattle.certificates.specs.Obligations.{Judged};
+ghost use Rattle.cert_model.specs.Obligations.{Judged};
 ghost use Rattle.cert_check.specs.Progress.{progress_from, verdict_of};
 ghost use Rattle.cert_check.specs.View.{verdict_in, progress_in, NumberUpTo};
 
 use crate::verdict::Verdict;
-use certificates::reason::Reason;
+use cert_model::reason::Reason;
 use nf_terms::stop::{NfStop, NoMemory};
 
 /// All that were looked at hold, and the next one has this number; or one stops the check.

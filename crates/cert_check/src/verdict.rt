@@ -1,6 +1,6 @@
 //! What a checker answers.
 
-use certificates::reason::Reason;
+use cert_model::reason::Reason;
 
 /// What a checker answers. Obligations are numbered from 1.
 #[derive(Clone, Copy, Debug, PartialEq, Eq)]

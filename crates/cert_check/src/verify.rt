@@ -1,6 +1,6 @@
 //! The checker.
 
-ghost use Rattle.std.specs.Prelude.{◌≡◌, ◌+◌, ◌*◌, ◌<◌, ◌≤◌, ◌^◌, ◌∷◌, [], ◌&&◌, true, length, map, drop, IsTrue, IfOk, None};
+ghost use Rattle.std.specs.Prelude.{◌≡◌, ◌+◌, ◌*◌, ◌<◌, ◌≤◌, ◌^◌, ◌&&◌, true, length, map, IsTrue, IfOk, None};
 ghost use Rattle.std.specs.List.{flat_map, list_all};
 ghost use Rattle.fs_model.specs.Runs.{SameBehaviour};
 ghost use Rattle.fs_cut.specs.Paths.{Start, is_point};
@@ -9,15 +9,16 @@ ghost use Rattle.fs_pair.specs.Interfaces.{interface_fault};
 ghost use Rattle.fs_pair.specs.Positions.{positions};
 ghost use Rattle.nf_terms.specs.Computed.{Answers};
 ghost use Rattle.sym_paths.specs.View.{post_in};
-ghost use Rattle.sym_facts.specs.Facts.{vector_of};
 ghost use Rattle.sym_facts.specs.Starts.{start_fact as started};
-ghost use Rattle.bisimulation.specs.declared.mode.Mode.TheVariants.{Both, End};
-ghost use Rattle.certificates.specs.Lawful.{IsLawful, most_nodes};
-ghost use Rattle.certificates.specs.Obligations.{verdict as verdict_on, obligations, start_reaches, node_at as node_standing, is_done, mode_fits, judge_mode};
-ghost use Rattle.certificates.specs.View.{node_of};
+ghost use Rattle.cert_bisimulation.specs.declared.mode.Mode.TheVariants.{Both, End};
+ghost use Rattle.cert_model.specs.Lawful.{IsLawful, most_nodes};
+ghost use Rattle.cert_model.specs.Obligations.{verdict as verdict_on, obligations, start_reaches, node_at as node_standing};
+ghost use Rattle.cert_model.specs.Obligations.{is_done, mode_fits, judge_mode};
+ghost use Rattle.cert_model.specs.View.{node_of};
 ghost use Rattle.cert_check.specs.declared.verdict.Verdict.TheVariants.{Yes};
 ghost use Rattle.cert_check.specs.Progress.{progress_from};
-ghost use Rattle.cert_check.specs.View.{verdict_in, progress_in, nodes_in, owed_in, moves_of, start_post, most_moves, most_owed, NumberUpTo};
+ghost use Rattle.cert_check.specs.View.{verdict_in, progress_in, index_nodes, owed_in, owed_moves, start_post, most_node_moves};
+ghost use Rattle.cert_check.specs.View.{most_owed, NumberUpTo};
 
 use crate::lookup::node_at;
 use crate::make_table::table_of;
@@ -26,14 +27,14 @@ use crate::outputs::outputs;
 use crate::progress::{Progress, advance, verdict};
 use crate::table::Table;
 use crate::verdict::Verdict;
-use bisimulation::mode::Mode;
-use certificates::cert::{Cert, Node};
-use certificates::laws::obligations_give_same_behaviour;
-use certificates::reason::Reason;
+use cert_bisimulation::mode::Mode;
+use cert_machine_pairs::covers::paths;
+use cert_model::cert::{Cert, Node};
+use cert_model::laws::obligations_give_same_behaviour;
+use cert_model::reason::Reason;
 use fs_ast::machine::Machine;
 use fs_cut::cover::Point;
 use fs_pair::positions::Pairing;
-use machine_pairs::covers::paths;
 use nf_terms::stop::{NfStop, NoMemory};
 use std::alloc::Global;
 use sym_facts::start::start_fact;
@@ -52,7 +53,8 @@ fn post_of_start(alloc: Global, p: &Pairing) -> Result<Post, NoMemory>
 
 // Why the start fails: no node stands there, or its fact is not entailed by the start fact.
 fn judge_start(alloc: Global, table: &Table<'_>, p: &Pairing) -> Result<Option<Reason>, NfStop>
-    ensures { Answers result (start_reaches (node_standing (nodes_in table.now.nodes) Start Start) (start_post (started p.now))) }
+    ensures { Answers result
+        (start_reaches (node_standing (index_nodes table.now.nodes) Start Start) (start_post (started p.now))) }
 {
     let post = post_of_start(alloc, p)?;
     match node_at(&table.nodes, Point::Start, Point::Start) {
@@ -104,8 +106,8 @@ fn check_both(
     requires left { is_point table.now.a.now (point_of node.now.left) ≡ true }
     requires right { is_point table.now.b.now (point_of node.now.right) ≡ true }
     requires low { first < 2 ^ 30 }
-    ensures moves { IfOk result (λ p. progress_in p ≡ progress_from first (moves_of Both table.now (node_of node.now))) }
-    ensures bound { IfOk result (NumberUpTo (first + most_moves)) }
+    ensures moves { IfOk result (λ p. progress_in p ≡ progress_from first (owed_moves Both table.now (node_of node.now))) }
+    ensures bound { IfOk result (NumberUpTo (first + most_node_moves)) }
 {
     let lefts = paths(table.a, &table.left, node.left);
     let rights = paths(table.b, &table.right, node.right);
@@ -120,8 +122,8 @@ fn check_outputs(
     first: u32,
 ) -> Result<Progress, NoMemory>
     requires low { first < 2 ^ 30 }
-    ensures moves { IfOk result (λ p. progress_in p ≡ progress_from first (moves_of End table.now (node_of node.now))) }
-    ensures bound { IfOk result (NumberUpTo (first + most_moves)) }
+    ensures moves { IfOk result (λ p. progress_in p ≡ progress_from first (owed_moves End table.now (node_of node.now))) }
+    ensures bound { IfOk result (NumberUpTo (first + most_node_moves)) }
 {
     let vector = node.fact.vector(alloc)?;
     outputs(alloc, &vector, table.a.vars(), table.b.vars(), first)
@@ -137,8 +139,9 @@ fn check_moves(
     requires left { is_point table.now.a.now (point_of node.now.left) ≡ true }
     requires right { is_point table.now.b.now (point_of node.now.right) ≡ true }
     requires low { first < 2 ^ 30 }
-    ensures moves { IfOk result (λ p. progress_in p ≡ progress_from first (moves_of node.now.mode table.now (node_of node.now))) }
-    ensures bound { IfOk result (NumberUpTo (first + most_moves)) }
+    ensures moves { IfOk result
+        (λ p. progress_in p ≡ progress_from first (owed_moves node.now.mode table.now (node_of node.now))) }
+    ensures bound { IfOk result (NumberUpTo (first + most_node_moves)) }
 {
     match node.mode {
         Mode::Both => check_both(alloc, table, node, first),
@@ -161,7 +164,8 @@ fn check_node(
     node: &Node,
     first: u32,
 ) -> Result<Progress, NoMemory>
-    requires points { is_point table.now.a.now (point_of node.now.left) && is_point table.now.b.now (point_of node.now.right) ≡ true }
+    requires points { is_point table.now.a.now (point_of node.now.left)
+        && is_point table.now.b.now (point_of node.now.right) ≡ true }
     requires low { first + 1 < 2 ^ 30 }
     ensures owed { IfOk result (λ p. progress_in p ≡ progress_from first (owed_in table.now (node_of node.now))) }
     ensures bound { IfOk result (NumberUpTo (first + most_owed)) }
@@ -179,7 +183,8 @@ fn check_nodes(
     nodes: &[Node],
     first: u32,
 ) -> Result<Progress, NoMemory>
-    requires points { IsTrue (list_all (λ n. is_point table.now.a.now n.left && is_point table.now.b.now n.right) (map node_of nodes.now)) }
+    requires points { IsTrue
+        (list_all (λ n. is_point table.now.a.now n.left && is_point table.now.b.now n.right) (map node_of nodes.now)) }
     requires few { length nodes.now ≤ most_nodes }
     requires low { first ≤ 2 }
     ensures { IfOk result (λ p. progress_in p ≡ progress_from first (flat_map (owed_in table.now) (map node_of nodes.now))) }
@@ -201,10 +206,13 @@ fn check_all(
     p: &Pairing,
     nodes: &[Node],
 ) -> Result<Progress, NoMemory>
-    requires nodes { nodes_in table.now.nodes ≡ map node_of nodes.now }
-    requires points { IsTrue (list_all (λ n. is_point table.now.a.now n.left && is_point table.now.b.now n.right) (map node_of nodes.now)) }
+    requires nodes { index_nodes table.now.nodes ≡ map node_of nodes.now }
+    requires points { IsTrue
+        (list_all (λ n. is_point table.now.a.now n.left && is_point table.now.b.now n.right) (map node_of nodes.now)) }
     requires few { length nodes.now ≤ most_nodes }
-    ensures { IfOk result (λ progress. progress_in progress ≡ progress_from 1 (obligations table.now.a.now table.now.b.now (started p.now) (map node_of nodes.now))) }
+    ensures { IfOk result
+        (λ progress. progress_in progress ≡ progress_from 1
+        (obligations table.now.a.now table.now.b.now (started p.now) (map node_of nodes.now))) }
 {
     match advance(1, judge_start(alloc, table, p))? {
         Progress::Held(next) => check_nodes(alloc, table, nodes, next),
@@ -221,7 +229,8 @@ fn check<'m>(
     nodes: &'m [Node],
 ) -> Result<Progress, NoMemory>
     requires { IsLawful a.now b.now (map node_of nodes.now) }
-    ensures { IfOk result (λ progress. progress_in progress ≡ progress_from 1 (obligations a.now b.now (started p.now) (map node_of nodes.now))) }
+    ensures { IfOk result
+        (λ progress. progress_in progress ≡ progress_from 1 (obligations a.now b.now (started p.now) (map node_of nodes.now))) }
 {
     let table = table_of(alloc, a, b, nodes)?;
     check_all(alloc, &table, p, nodes)
@@ -246,7 +255,7 @@ pub fn verify(
     ensures verdict { IfOk result (λ v. verdict_in v ≡ verdict_on a.now b.now (started p.now) (map node_of c.now.nodes.items)) }
     ensures same { IfOk result (λ v. v ≡ Yes → SameBehaviour a.now b.now) }
 {
-    let _left = a.vars();
+    let _left = a.vars(); // These two calls tell the proof that both machines are sound.
     let _right = b.vars();
     obligations_give_same_behaviour();
     Ok(verdict(check(alloc, a, b, p, c.nodes.as_slice())?))

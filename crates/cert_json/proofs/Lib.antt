@@ -1,1 +1,5 @@
 mod Counts
+mod Turns
+mod TrimLaws
+mod ListLaws
+mod Files

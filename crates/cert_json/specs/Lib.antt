@@ -1,3 +1,5 @@
 pub mod Shape
+pub mod Trim
+pub mod Lists
 pub mod Refusals
-pub mod Written
+pub mod WrittenJson

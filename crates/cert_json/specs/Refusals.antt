@@ -1,7 +1,7 @@
 -- What bytes are as the JSON of a certificate, and why they are refused.
-use Rattle.std.specs.Prelude.{◌≡◌, ℕ, true, false, List, Some}
+use Rattle.std.specs.Prelude.{◌≡◌, ℕ, true, false, List}
 use Rattle.serde_json.specs.Data.{Data}
-use Rattle.json_files.specs.Json.{IsJson, IsNotJson}
+use Rattle.base_json_files.specs.Json.{IsJson, IsNotJson}
 use Rattle.cert_json.specs.declared.faults.FileError.{FileError}
 use Rattle.cert_json.specs.declared.faults.FileError.TheVariants.{NotJson, Shape, TooMany, NoMemory}
 use Rattle.cert_json.specs.Shape.{is_file, has_too_many}
@@ -26,8 +26,8 @@ pub record HasTooMany (bytes : List ℕ) : Type 0 where
   pub many : has_too_many value ≡ true
 
 -- why bytes are refused; out of memory may come at any time
-abbrev pub IsRefused : List ℕ → FileError → Type 0
-IsRefused bytes NotJson = IsNotJson bytes
-IsRefused bytes Shape = HasOtherShape bytes
-IsRefused bytes TooMany = HasTooMany bytes
-IsRefused bytes NoMemory = Unit {0}
+abbrev pub IsRefusedAsShape : List ℕ → FileError → Type 0
+IsRefusedAsShape bytes NotJson = IsNotJson bytes
+IsRefusedAsShape bytes Shape = HasOtherShape bytes
+IsRefusedAsShape bytes TooMany = HasTooMany bytes
+IsRefusedAsShape bytes NoMemory = Unit {0}

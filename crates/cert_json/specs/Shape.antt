@@ -1,17 +1,18 @@
 -- The form of a certificate as JSON.
-use Rattle.std.specs.Prelude.{ℕ, Bool, true, false, ◌&&◌, ◌||◌, ◌==◌, nat_le, nat_lt, List, Option, Some, None, option_and_then, is_some, codes}
+use Rattle.std.specs.Prelude.{ℕ, Bool, true, false, ◌&&◌, ◌||◌, ◌==◌, nat_le, nat_lt, List, Option, Some, None, option_and_then}
+use Rattle.std.specs.Prelude.{is_some, codes}
 use Rattle.std.specs.Str.{bytes_eq}
 use Rattle.serde_json.specs.Data.{Data, Items, no_items, item, Members, no_members, member}
 use Rattle.serde_json.specs.Events.{members_len, items_len}
 use Rattle.serde_json.specs.Find.{get, as_number, as_str, as_array, as_object, as_u64}
 
-abbrev pub count_of : Option Members → ℕ
-count_of None = 0
-count_of (Some ms) = members_len ms
+abbrev pub member_count_of : Option Members → ℕ
+member_count_of None = 0
+member_count_of (Some ms) = members_len ms
 
 -- whether a value is an object of so many members, or no object and so many are none
-abbrev pub has : ℕ → Data → Bool
-has n d = count_of (as_object d) == n
+abbrev pub has_members : ℕ → Data → Bool
+has_members n d = member_count_of (as_object d) == n
 
 abbrev pub is_text : Option Data → Bool
 is_text o = is_some (option_and_then as_str o)
@@ -46,18 +47,18 @@ abbrev pub is_within : ℕ → Option ℕ → Bool
 is_within limit None = false
 is_within limit (Some n) = nat_le n limit
 
-abbrev pub whole : Option Data → Option ℕ
-whole o = option_and_then as_u64 (option_and_then as_number o)
+abbrev pub whole_number_in : Option Data → Option ℕ
+whole_number_in o = option_and_then as_u64 (option_and_then as_number o)
 
 -- a node has these members and no others
 abbrev pub is_node : Data → Bool
 is_node d =
-    has 6 d
+    has_members 6 d
     && is_list_of_texts (option_and_then as_array (get (codes "conds") d))
     && is_map_of_texts (option_and_then as_object (get (codes "equations") d))
     && is_text (get (codes "left") d)
     && is_mode (option_and_then as_str (get (codes "mode") d))
-    && is_within 4096 (whole (get (codes "rank") d))
+    && is_within 4096 (whole_number_in (get (codes "rank") d))
     && is_text (get (codes "right") d)
 
 abbrev pub are_nodes : Items → Bool
@@ -75,7 +76,8 @@ is_format (Some n) = n == 1 || n == 2
 
 -- a file has these two members and no others
 abbrev pub is_file : Data → Bool
-is_file d = has 2 d && is_format (whole (get (codes "format") d)) && is_list_of_nodes (option_and_then as_array (get (codes "nodes") d))
+is_file d = has_members 2 d && is_format (whole_number_in (get (codes "format") d))
+    && is_list_of_nodes (option_and_then as_array (get (codes "nodes") d))
 
 -- whether there are more items than this
 abbrev pub has_more : ℕ → Option Items → Bool

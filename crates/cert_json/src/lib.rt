@@ -1,7 +1,17 @@
 //! Certificates as JSON: their form, and the values that they are written as.
+//!
+//! Promises: the JSON of a certificate has its form and keeps its limits, or why not.
+//!
+//! Rules: `specs/Shape`, `specs/Refusals`, `specs/WrittenJson`.
+//!
+//! Words:
+//! - format (of a certificate): 1 or 2, the value of `format`; where ports are named it is 2
 #![tactic(auto)]
 
 pub mod faults;
+mod numbers;
 pub mod reader;
 mod shape;
+mod short_list;
+mod trim;
 pub mod written;

@@ -2,22 +2,19 @@
 
 ghost use Rattle.std.specs.Prelude.{IfOk, IfErr};
 ghost use Rattle.serde_json.specs.View.{view};
-ghost use Rattle.cert_json.specs.Refusals.{IsFileOf, IsRefused};
+ghost use Rattle.cert_json.specs.Refusals.{IsFileOf, IsRefusedAsShape};
 
 use crate::faults::FileError;
 use crate::shape::{has_too_many, is_file};
-use json_files::{JsonError, read_json};
+use crate::trim::{Fault, read_trimmed};
+use base_json_files::{JsonError, read_json};
 use serde_json::Value;
 use std::alloc::Global;
 
-/// The JSON value of a certificate's bytes, in time linear in them.
-///
-/// `NotJson` comes exactly where the bytes are not UTF-8 text, or are not JSON as `serde_json` reads it; else `Shape`
-/// exactly where the value does not have the form of a certificate; else `TooMany` exactly where there are more than
-/// 4,096 nodes, or more than 64 conditions in a node. Of equal keys the last counts. `NoMemory` may come at any time.
-pub fn read_file(alloc: Global, bytes: &[u8]) -> Result<Value, FileError>
+// The JSON value of a certificate's bytes, with all that stands in it.
+fn read_whole(alloc: Global, bytes: &[u8]) -> Result<Value, FileError>
     ensures read { IfOk result (λ v. IsFileOf bytes.now (view v)) }
-    ensures refused { IfErr result (λ e. IsRefused bytes.now e) }
+    ensures refused { IfErr result (λ e. IsRefusedAsShape bytes.now e) }
 {
     let value = match read_json(alloc, bytes) {
         Ok(value) => value,
@@ -31,4 +28,35 @@ pub fn read_file(alloc: Global, bytes: &[u8]) -> Result<Value, FileError>
         return Err(FileError::TooMany);
     }
     Ok(value)
+}
+
+/// The JSON value of a certificate's bytes, in time linear in them.
+///
+/// `NotJson` comes exactly where the bytes are not UTF-8 text, or are not JSON as `serde_json` reads it; else `Shape`
+/// exactly where the value does not have the form of a certificate; else `TooMany` exactly where there are more than
+/// 4,096 nodes, or more than 64 conditions in a node. Of equal keys the last counts. `NoMemory` may come at any time.
+pub fn read_file(alloc: Global, bytes: &[u8]) -> Result<Value, FileError>
+    ensures read { IfOk result (λ v. IsFileOf bytes.now (view v)) }
+    ensures refused { IfErr result (λ e. IsRefusedAsShape bytes.now e) }
+{
+    let text = match simdutf8::compat::from_utf8(bytes) {
+        Ok(text) => text,
+        Err(_) => return Err(FileError::NotJson),
+    };
+    let (value, is_whole) = match read_trimmed(alloc, text) {
+        Ok(found) => found,
+        Err(Fault::NotJson) => return Err(FileError::NotJson),
+        Err(Fault::NoMemory) => return Err(FileError::NoMemory),
+    };
+    if !is_file(&value) {
+        return Err(FileError::Shape);
+    }
+    if has_too_many(&value) {
+        return Err(FileError::TooMany);
+    }
+    if is_whole {
+        return Ok(value);
+    }
+    drop(value);
+    read_whole(alloc, bytes)
 }

@@ -1,15 +1,18 @@
 //! The form of a certificate.
 
-ghost use Rattle.std.specs.Prelude.{◌≡◌, Option, option_map, option_and_then, is_some};
+ghost use Rattle.std.specs.Prelude.{◌≡◌, Option, option_map, option_and_then};
 ghost use Rattle.serde_json.specs.View.{view, items_view, members_view};
 ghost use Rattle.serde_json.specs.Find.{as_array, as_object, as_str};
-ghost use Rattle.cert_json.specs.Shape.{has, is_text, are_texts, name_texts, is_list_of_texts, is_map_of_texts, is_mode, is_within, whole, is_node, are_nodes, is_list_of_nodes, is_format, is_file, is_mode_name, has_more, has_many_conditions, some_has_many, some_of_file_has_many, has_too_many};
+ghost use Rattle.cert_json.specs.Shape.{has_members, is_text, are_texts, name_texts, is_list_of_texts, is_map_of_texts, is_mode};
+ghost use Rattle.cert_json.specs.Shape.{is_within, whole_number_in, is_node, are_nodes, is_list_of_nodes, is_format, is_file};
+ghost use Rattle.cert_json.specs.Shape.{is_mode_name, has_more, has_many_conditions, some_has_many, some_of_file_has_many};
+ghost use Rattle.cert_json.specs.Shape.{has_too_many};
 
 use serde_json::{Map, Value};
 
 #[tactic(auto, using(crate::proofs::Counts::counts))]
 fn has(value: &Value, n: usize) -> bool
-    ensures { result ≡ has n (view value.now) }
+    ensures { result ≡ has_members n (view value.now) }
 {
     match value.as_object() {
         Some(members) => members.len() == n,
@@ -91,7 +94,7 @@ fn is_mode(value: Option<&Value>) -> bool
 }
 
 fn is_rank(value: Option<&Value>) -> bool
-    ensures { result ≡ is_within 4096 (whole (option_map (λ v. view v.now) value.entry)) }
+    ensures { result ≡ is_within 4096 (whole_number_in (option_map (λ v. view v.now) value.entry)) }
 {
     match value {
         Some(value) => match value.as_u64() {
@@ -102,7 +105,8 @@ fn is_rank(value: Option<&Value>) -> bool
     }
 }
 
-fn is_node(value: &Value) -> bool
+/// Whether a value has the form of a node.
+pub fn is_node(value: &Value) -> bool
     ensures { result ≡ is_node (view value.now) }
 {
     has(value, 6)
@@ -138,7 +142,7 @@ fn is_list_of_nodes(value: Option<&Value>) -> bool
 }
 
 fn is_format(value: Option<&Value>) -> bool
-    ensures { result ≡ is_format (whole (option_map (λ v. view v.now) value.entry)) }
+    ensures { result ≡ is_format (whole_number_in (option_map (λ v. view v.now) value.entry)) }
 {
     match value {
         Some(value) => match value.as_u64() {

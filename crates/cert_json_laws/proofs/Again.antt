@@ -9,7 +9,8 @@ use Rattle.json.specs.Print.{IsNumber}
 use Rattle.json.proofs.Printed.Decimals.{IsNumber-decimal}
 use Rattle.json.proofs.Printed.Tokens.{tokens-print}
 use Rattle.json.proofs.Printed.Trees.{value-json_tokens, ArePrintable-json_tokens}
-use Rattle.serde_json.specs.Data.{Num, unsigned, negative, float, Data, null, boolean, number, string, array, object, Items, no_items, item, Members, no_members, member, put, depth, items_depth, members_depth}
+use Rattle.serde_json.specs.Data.{Num, unsigned, negative, float, Data, null, boolean, number, string, array, object, Items, no_items, item, Members}
+use Rattle.serde_json.specs.Data.{no_members, member, put, depth, items_depth, members_depth}
 use Rattle.serde_json.specs.Read.{number_of, of_json, of_items, of_members, read}
 use Rattle.serde_json.specs.Written.{number_text, outline, items_outline, members_outline, compact_text}
 use Rattle.serde_json.proofs.Numbers.{number_of-decimal}
@@ -36,7 +37,8 @@ before_it l no_members k d ms h = h.0
 before_it l (member x e done) k d ms h = before_it l done k d ms h.1
 
 -- a key behind those before it goes last
-goes_last : (done : Members) (k : List ℕ) (d : Data) (ms : Members) → KeysRise (joined done (member k d ms)) → put k d done ≡ joined done (member k d no_members)
+goes_last : (done : Members) (k : List ℕ) (d : Data) (ms : Members) → KeysRise (joined done (member k d ms))
+    → put k d done ≡ joined done (member k d no_members)
 goes_last no_members k d ms h = refl
 goes_last (member l e done) k d ms h =
     let above : slice_cmp nat_cmp k l ≡ Greater = turned l k Less (before_it l done k d ms h.0) in
@@ -60,7 +62,8 @@ mutual
 
   items_back : (ds : Items) → AreOrderly ds → of_items (items_outline ds) ≡ Some ds
   items_back no_items h = refl
-  items_back (item d ds) h = ap (option_and_then (λ x. option_map (item x) (of_items (items_outline ds)))) (back d h.0) ∙ ap (option_map (item d)) (items_back ds h.1)
+  items_back (item d ds) h = ap (option_and_then (λ x. option_map (item x) (of_items (items_outline ds)))) (back d h.0)
+      ∙ ap (option_map (item d)) (items_back ds h.1)
 
   members_back : (ms done : Members) → MembersAreOrderly ms → KeysRise (joined done ms) → of_members (members_outline ms) done ≡ Some (joined done ms)
   members_back no_members done h r = ap Some (sym (joined_none done))
@@ -111,5 +114,7 @@ mutual
 pub read_again : (d : Data) → IsOrderly d → depth d ≤ 127 → read (compact_text d) ≡ Some d
 read_again d h low =
     let j = outline d in
-    let lexed : tokens (compact_text d) ≡ tree.json_tokens j = ap tokens (sym (print-outline d)) ∙ tokens-print (tree.json_tokens j) (ArePrintable-json_tokens j (numbers d h)) in
-    ap (λ o. option_and_then of_json (option_and_then (λ p. json.if_last p.0 p.1) o)) (ap (json.value 127) (lexed ∙ sym (append-nil (tree.json_tokens j))) ∙ value-json_tokens j 127 [] (omega (arith, shallow d, low))) ∙ back d h
+    let lexed : tokens (compact_text d) ≡ tree.json_tokens j = ap tokens (sym (print-outline d))
+    ∙ tokens-print (tree.json_tokens j) (ArePrintable-json_tokens j (numbers d h)) in
+    ap (λ o. option_and_then of_json (option_and_then (λ p. json.if_last p.0 p.1) o))
+    (ap (json.value 127) (lexed ∙ sym (append-nil (tree.json_tokens j))) ∙ value-json_tokens j 127 [] (omega (arith, shallow d, low))) ∙ back d h

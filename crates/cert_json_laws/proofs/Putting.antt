@@ -14,7 +14,8 @@ before_more : (k l : List ℕ) (ms : Members) → slice_cmp nat_cmp k l ≡ Less
 before_more k l no_members h b = tt
 before_more k l (member x d ms) h b = (nat_list_cmp_total.trans k l x h b.0, before_more k l ms h b.1)
 
-before_put_at : (o : Ordering) (l k x : List ℕ) (d e : Data) (ms : Members) → slice_cmp nat_cmp l k ≡ Less → IsBefore l (member x e ms) → IsBefore l (put k d ms)
+before_put_at : (o : Ordering) (l k x : List ℕ) (d e : Data) (ms : Members) → slice_cmp nat_cmp l k ≡ Less → IsBefore l (member x e ms)
+    → IsBefore l (put k d ms)
     → IsBefore l (match_ordering o (member k d (member x e ms)) (member x d ms) (member x e (put k d ms)))
 before_put_at Less l k x d e ms h b later = (h, b)
 before_put_at Equal l k x d e ms h b later = b
@@ -34,7 +35,8 @@ pub rises : (k : List ℕ) (d : Data) (ms : Members) → KeysRise ms → KeysRis
 rises k d no_members r = (tt, tt)
 rises k d (member x e ms) r = rises_at (slice_cmp nat_cmp k x) k x d e ms refl r (rises k d ms r.1)
 
-orderly_at : (o : Ordering) (k x : List ℕ) (d e : Data) (ms : Members) → IsUtf8 k → IsOrderly d → MembersAreOrderly (member x e ms) → MembersAreOrderly (put k d ms)
+orderly_at : (o : Ordering) (k x : List ℕ) (d e : Data) (ms : Members) → IsUtf8 k → IsOrderly d → MembersAreOrderly (member x e ms)
+    → MembersAreOrderly (put k d ms)
     → MembersAreOrderly (match_ordering o (member k d (member x e ms)) (member x d ms) (member x e (put k d ms)))
 orderly_at Less k x d e ms u h r later = (u, h, r)
 orderly_at Equal k x d e ms u h r later = (r.0, h, r.2)

@@ -4,9 +4,10 @@ use Rattle.std.proofs.lemmas.Str.{IsUtf8-append, IsUtf8-nil, IsUtf8-from_ascii}
 use Rattle.std.proofs.lemmas.Fmt.{IsAscii-decimal}
 use Rattle.json.specs.Print.{quoted}
 use Rattle.json.proofs.Printed.Utf8.{IsUtf8-are_ascii, IsUtf8-quoted, IsUtf8-boolean}
-use Rattle.serde_json.specs.Data.{Num, unsigned, negative, float, Data, null, boolean, number, string, array, object, Items, no_items, item, Members, no_members, member, depth}
+use Rattle.serde_json.specs.Data.{Num, unsigned, negative, float, Data, null, boolean, number, string, array, object, Items, no_items, item, Members}
+use Rattle.serde_json.specs.Data.{no_members, member, depth}
 use Rattle.serde_json.specs.Written.{number_text, comma_if, compact_text, items_text, members_text}
-use Rattle.json_files.specs.Json.{IsJson}
+use Rattle.base_json_files.specs.Json.{IsJson}
 use Rattle.cert_json_laws.specs.Orderly.{IsCount, IsOrderly, AreOrderly, MembersAreOrderly}
 use Rattle.cert_json_laws.proofs.Again.{read_again}
 
@@ -30,7 +31,8 @@ mutual
 
   items_utf8 : (later : Bool) (ds : Items) → AreOrderly ds → IsUtf8 (items_text later ds)
   items_utf8 later no_items h = IsUtf8-are_ascii (93 ∷ []) refl
-  items_utf8 later (item d ds) h = IsUtf8-append (comma_if later) (compact_text d ++ items_text true ds) (comma_utf8 later) (IsUtf8-append (compact_text d) (items_text true ds) (value_utf8 d h.0) (items_utf8 true ds h.1))
+  items_utf8 later (item d ds) h = IsUtf8-append (comma_if later) (compact_text d ++ items_text true ds) (comma_utf8 later)
+      (IsUtf8-append (compact_text d) (items_text true ds) (value_utf8 d h.0) (items_utf8 true ds h.1))
 
   members_utf8 : (later : Bool) (ms : Members) → MembersAreOrderly ms → IsUtf8 (members_text later ms)
   members_utf8 later no_members h = IsUtf8-are_ascii (125 ∷ []) refl
@@ -38,7 +40,8 @@ mutual
       let rest = compact_text d ++ members_text true ms in
       IsUtf8-append (comma_if later) (quoted k ++ 58 ∷ rest) (comma_utf8 later)
       (IsUtf8-append (quoted k) (58 ∷ rest) (IsUtf8-quoted k h.0)
-      (IsUtf8-append (58 ∷ []) rest (IsUtf8-are_ascii (58 ∷ []) refl) (IsUtf8-append (compact_text d) (members_text true ms) (value_utf8 d h.1) (members_utf8 true ms h.2))))
+      (IsUtf8-append (58 ∷ []) rest (IsUtf8-are_ascii (58 ∷ []) refl)
+      (IsUtf8-append (compact_text d) (members_text true ms) (value_utf8 d h.1) (members_utf8 true ms h.2))))
 
 pub is_json : (d : Data) → IsOrderly d → depth d ≤ 127 → IsJson (compact_text d) d
 is_json d h low = record { text = value_utf8 d h; value = read_again d h low }

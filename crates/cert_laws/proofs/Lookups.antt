@@ -2,20 +2,16 @@
 use Rattle.std.proofs.Common.{◌≡◌, ℕ, zero, suc, ◌+◌, ◌≤◌, Bool, true, false, cond, ◌||◌, List, [], ◌∷◌, map, Some, refl, sym, ap, ◌∙◌, arith}
 use Rattle.std.specs.Prelude.{slice_get}
 use Rattle.std.specs.List.{list_all, list_any, count_by}
-use Rattle.std.proofs.lemmas.List.Recursion.{is_count_by}
-use Rattle.nf_terms.proofs.Tests.{and_left, and_right, or_left, or_right}
-use Rattle.fs_pair.proofs.Once.{many}
+use Rattle.std.proofs.lemmas.Bool.{or_left, or_right}
+use Rattle.base_lemmas.proofs.Booleans.{and_first, and_second}
+use Rattle.fs_pair.proofs.Once.{many, many_counts}
 
 -- what all pass, each one passes
-pub all_at : {X Y : Type 0} (test : Y → Bool) (f : X → Y) (xs : List X) (k : ℕ) (x : X) → list_all test (map f xs) ≡ true → slice_get xs k ≡ Some x → test (f x) ≡ true
+pub all_at : {X Y : Type 0} (test : Y → Bool) (f : X → Y) (xs : List X) (k : ℕ) (x : X) → list_all test (map f xs) ≡ true → slice_get xs k ≡ Some x
+    → test (f x) ≡ true
 all_at test f [] k x h e = absurd (cc e)
-all_at test f (y ∷ ys) zero x h e = let s : y ≡ x = cc e in ap (λ z. test (f z)) (sym s) ∙ and_left (test (f y)) (list_all test (map f ys)) h
-all_at test f (y ∷ ys) (suc k) x h e = all_at test f ys k x (and_right (test (f y)) (list_all test (map f ys)) h) e
-
-pub each_at : {X : Type 0} (test : X → Bool) (xs : List X) (k : ℕ) (x : X) → list_all test xs ≡ true → slice_get xs k ≡ Some x → test x ≡ true
-each_at test [] k x h e = absurd (cc e)
-each_at test (y ∷ ys) zero x h e = let s : y ≡ x = cc e in ap test (sym s) ∙ and_left (test y) (list_all test ys) h
-each_at test (y ∷ ys) (suc k) x h e = each_at test ys k x (and_right (test y) (list_all test ys) h) e
+all_at test f (y ∷ ys) zero x h e = let s : y ≡ x = cc e in ap (λ z. test (f z)) (sym s) ∙ and_first (test (f y)) (list_all test (map f ys)) h
+all_at test f (y ∷ ys) (suc k) x h e = all_at test f ys k x (and_second (test (f y)) (list_all test (map f ys)) h) e
 
 -- where one passes, some do
 pub any_at : {X : Type 0} (test : X → Bool) (xs : List X) (k : ℕ) (x : X) → slice_get xs k ≡ Some x → test x ≡ true → list_any test xs ≡ true
@@ -58,7 +54,8 @@ some_passes test (y ∷ ys) zero x e h =
     omega (arith, n)
 some_passes test (y ∷ ys) (suc k) x e h = omega (arith, some_passes test ys k x e h)
 
-alone_in : {X : Type 0} (test : X → Bool) (xs : List X) (j k : ℕ) (x y : X) → many test xs ≤ 1 → slice_get xs j ≡ Some x → test x ≡ true → slice_get xs k ≡ Some y → test y ≡ true → j ≡ k
+alone_in : {X : Type 0} (test : X → Bool) (xs : List X) (j k : ℕ) (x y : X) → many test xs ≤ 1 → slice_get xs j ≡ Some x → test x ≡ true
+    → slice_get xs k ≡ Some y → test y ≡ true → j ≡ k
 alone_in test [] j k x y n e h f g = absurd (cc e)
 alone_in test (z ∷ zs) zero zero x y n e h f g = refl
 alone_in test (z ∷ zs) zero (suc k) x y n e h f g =
@@ -73,13 +70,7 @@ alone_in test (z ∷ zs) (suc j) zero x y n e h f g =
     absurd (omega (arith, n, m, some_passes test zs j x e h))
 alone_in test (z ∷ zs) (suc j) (suc k) x y n e h f g = ap suc (alone_in test zs j k x y (omega (arith, n)) e h f g)
 
-many_counts : {X : Type 0} (test : X → Bool) (xs : List X) → many test xs ≡ count_by test xs
-many_counts test xs = is_count_by (many test) test refl (λ y ys. step (test y) (many test ys)) xs
-  where
-    step : (b : Bool) (n : ℕ) → cond b 1 0 + n ≡ cond b (1 + n) n
-    step true n = refl
-    step false n = omega arith
-
 -- where one passes alone, two places of it are one
-pub alone : {X : Type 0} (test : X → Bool) (xs : List X) (j k : ℕ) (x y : X) → count_by test xs ≡ 1 → slice_get xs j ≡ Some x → test x ≡ true → slice_get xs k ≡ Some y → test y ≡ true → j ≡ k
+pub alone : {X : Type 0} (test : X → Bool) (xs : List X) (j k : ℕ) (x y : X) → count_by test xs ≡ 1 → slice_get xs j ≡ Some x → test x ≡ true
+    → slice_get xs k ≡ Some y → test y ≡ true → j ≡ k
 alone test xs j k x y n e h f g = alone_in test xs j k x y (omega (arith, n, many_counts test xs)) e h f g

@@ -2,12 +2,12 @@
 use Rattle.std.specs.Prelude.{◌≡◌, ℕ, ◌+◌, List, ◌∷◌, ◌++◌, length, Some, None}
 use Rattle.std.specs.List.{AllByRecursion}
 use Rattle.nf_terms.specs.Computed.{Done, Wide, Large}
-use Rattle.certificates.specs.declared.reason.Reason.{Reason}
-use Rattle.certificates.specs.Obligations.{Judged}
+use Rattle.cert_model.specs.declared.reason.Reason.{Reason}
+use Rattle.cert_model.specs.Obligations.{Judged}
 
 -- an obligation holds
-abbrev pub Held : Judged → Type 0
-Held j = j ≡ Done None
+abbrev pub IsFulfilled : Judged → Type 0
+IsFulfilled j = j ≡ Done None
 
 -- an obligation fails for this reason
 abbrev pub FailsFor : Reason → Judged → Type 0
@@ -22,11 +22,11 @@ abbrev pub IsTooLarge : Judged → Type 0
 IsTooLarge j = (units : ℕ) × (depth : ℕ) × (j ≡ Large units depth)
 
 -- obligation number k, counted from 1, decides so, and all earlier ones hold
-pub record IsFirst (js : List Judged) (k : ℕ) (Decides : Judged → Type 0) : Type 0 where
+pub record IsDecidedFirst (js : List Judged) (k : ℕ) (Decides : Judged → Type 0) : Type 0 where
   pub earlier : List Judged
   pub decisive : Judged
   pub later : List Judged
   pub in_order : earlier ++ decisive ∷ later ≡ js
   pub number : length earlier + 1 ≡ k
-  pub hold : AllByRecursion Held earlier
+  pub hold : AllByRecursion IsFulfilled earlier
   pub decides : Decides decisive

@@ -1,5 +1,6 @@
 -- Tables of names.
-use Rattle.std.proofs.Common.{◌≡◌, ℕ, zero, suc, ◌+◌, ◌^◌, ◌<◌, ◌≤◌, Bool, true, false, cond, refl, ap, sym, ◌∙◌, subst, List, [], ◌∷◌, ◌++◌, length, take, get_or, Option, Some, None, arith}
+use Rattle.std.proofs.Common.{◌≡◌, ℕ, zero, suc, ◌+◌, ◌^◌, ◌<◌, ◌≤◌, Bool, true, false, cond, refl, ap, sym, ◌∙◌, subst, List, [], ◌∷◌, ◌++◌, length, take}
+use Rattle.std.proofs.Common.{get_or, Option, Some, None, arith}
 use Rattle.std.specs.Prelude.{map}
 use Rattle.std.specs.Option.{is_some}
 use Rattle.std.specs.Map.{lookup}
@@ -14,43 +15,50 @@ use Rattle.fs_rules.specs.Sound.{IsSound}
 use Rattle.fs_pair.specs.declared.positions.Position.{Position}
 use Rattle.fs_pair.specs.SidedVariables.{same_side}
 use Rattle.fs_pair.specs.Paired.{IsPairing}
-use Rattle.nf_terms.specs.declared.tree.Side.{Side}
-use Rattle.sym_facts.specs.Parts.{most_positions}
+use Rattle.fs_model.specs.declared.sides.Side.{Side}
+use Rattle.sym_facts.specs.FactParts.{most_positions}
 use Rattle.sym_facts.proofs.Kept.{few_positions}
-use Rattle.fs_rules.specs.Places.{found}
+use Rattle.fs_rules.specs.Places.{first_place}
 use Rattle.fs_rules.proofs.FirstFaults.{found_push}
 use Rattle.cert_text.specs.declared.table.NameTable.{NameTable}
-use Rattle.cert_text.specs.Names.{name_of, names_on}
-use Rattle.cert_text.specs.Tables.{number_in, HasFirst}
+use Rattle.cert_text.specs.CertificateNames.{name_of, names_on}
+use Rattle.cert_text.specs.NameTables.{name_number, HasFirst}
 
 bytes_sym : (x y : List ℕ) → bytes_eq x y ≡ bytes_eq y x
 bytes_sym x y = nat_list_eq_equiv.symm x y
 
 module _ {K : Type 0} (seen : K → List ℕ) where
   -- a name put behind those there
-  put_last : (es : List (K × ℕ)) (k : K) (v : ℕ) → is_some (lookup (λ e. bytes_eq (seen k) (seen e)) es) ≡ false → insert_entry (λ x y. bytes_eq (seen x) (seen y)) es k v ≡ es ++ (k, v) ∷ []
+  put_last : (es : List (K × ℕ)) (k : K) (v : ℕ) → is_some (lookup (λ e. bytes_eq (seen k) (seen e)) es) ≡ false
+      → insert_entry (λ x y. bytes_eq (seen x) (seen y)) es k v ≡ es ++ (k, v) ∷ []
   put_last [] k v e = refl
   put_last (x ∷ es) k v e = by_test (bytes_eq (seen k) (seen x.0)) (put_last es k v) e
     where
-      by_test : (t : Bool) → (is_some (lookup (λ e. bytes_eq (seen k) (seen e)) es) ≡ false → insert_entry (λ x y. bytes_eq (seen x) (seen y)) es k v ≡ es ++ (k, v) ∷ [])
+      by_test : (t : Bool)
+          → (is_some (lookup (λ e. bytes_eq (seen k) (seen e)) es) ≡ false → insert_entry (λ x y. bytes_eq (seen x) (seen y)) es k v ≡ es ++ (k, v) ∷ [])
           → is_some (cond {A = Option ℕ} t (Some x.1) (lookup (λ e. bytes_eq (seen k) (seen e)) es)) ≡ false
           → cond t ((x.0, v) ∷ es) (x ∷ insert_entry (λ x y. bytes_eq (seen x) (seen y)) es k v) ≡ x ∷ (es ++ (k, v) ∷ [])
       by_test true again f = absurd (cc f)
       by_test false again f = ap (λ t. x ∷ t) (again f)
 
   found_last : (es : List (K × ℕ)) (k : K) (v : ℕ) (x : List ℕ)
-      → lookup (λ e. bytes_eq x (seen e)) (es ++ (k, v) ∷ []) ≡ cond (is_some (lookup (λ e. bytes_eq x (seen e)) es)) (lookup (λ e. bytes_eq x (seen e)) es) (cond (bytes_eq (seen k) x) (Some v) None)
+      → lookup (λ e. bytes_eq x (seen e)) (es ++ (k, v) ∷ []) ≡ cond (is_some (lookup (λ e. bytes_eq x (seen e)) es)) (lookup (λ e. bytes_eq x (seen e)) es)
+      (cond (bytes_eq (seen k) x) (Some v) None)
   found_last [] k v x = ap (λ t. cond {A = Option ℕ} t (Some v) None) (bytes_sym x (seen k))
   found_last (e ∷ es) k v x = by_test (bytes_eq x (seen e.0)) (found_last es k v x)
     where
-      by_test : (t : Bool) → lookup (λ e. bytes_eq x (seen e)) (es ++ (k, v) ∷ []) ≡ cond (is_some (lookup (λ e. bytes_eq x (seen e)) es)) (lookup (λ e. bytes_eq x (seen e)) es) (cond (bytes_eq (seen k) x) (Some v) None)
+      by_test : (t : Bool) → lookup (λ e. bytes_eq x (seen e)) (es ++ (k, v) ∷ [])
+          ≡ cond (is_some (lookup (λ e. bytes_eq x (seen e)) es)) (lookup (λ e. bytes_eq x (seen e)) es) (cond (bytes_eq (seen k) x) (Some v) None)
           → cond {A = Option ℕ} t (Some e.1) (lookup (λ e. bytes_eq x (seen e)) (es ++ (k, v) ∷ []))
-          ≡ cond (is_some (cond {A = Option ℕ} t (Some e.1) (lookup (λ e. bytes_eq x (seen e)) es))) (cond {A = Option ℕ} t (Some e.1) (lookup (λ e. bytes_eq x (seen e)) es)) (cond (bytes_eq (seen k) x) (Some v) None)
+          ≡ cond (is_some (cond {A = Option ℕ} t (Some e.1) (lookup (λ e. bytes_eq x (seen e)) es)))
+          (cond {A = Option ℕ} t (Some e.1) (lookup (λ e. bytes_eq x (seen e)) es)) (cond (bytes_eq (seen k) x) (Some v) None)
       by_test true again = refl
       by_test false again = again
 
-  pub put_new : (es new : List (K × ℕ)) (k : K) (v : ℕ) → is_some (lookup (λ e. bytes_eq (seen k) (seen e)) es) ≡ false → new ≡ insert_entry (λ x y. bytes_eq (seen x) (seen y)) es k v → (x : List ℕ)
-      → lookup (λ e. bytes_eq x (seen e)) new ≡ cond (is_some (lookup (λ e. bytes_eq x (seen e)) es)) (lookup (λ e. bytes_eq x (seen e)) es) (cond (bytes_eq (seen k) x) (Some v) None)
+  pub put_new : (es new : List (K × ℕ)) (k : K) (v : ℕ) → is_some (lookup (λ e. bytes_eq (seen k) (seen e)) es) ≡ false
+      → new ≡ insert_entry (λ x y. bytes_eq (seen x) (seen y)) es k v → (x : List ℕ)
+      → lookup (λ e. bytes_eq x (seen e)) new ≡ cond (is_some (lookup (λ e. bytes_eq x (seen e)) es)) (lookup (λ e. bytes_eq x (seen e)) es)
+      (cond (bytes_eq (seen k) x) (Some v) None)
   put_new es new k v absent e x = ap (lookup (λ e. bytes_eq x (seen e))) (e ∙ put_last es k v absent) ∙ found_last es k v x
 
 -- one name more of a list
@@ -63,8 +71,10 @@ length_taken f [] (suc k) h = absurd (omega arith)
 length_taken f (x ∷ xs) (suc k) h = ap suc (length_taken f xs k (omega arith))
 
 -- the table of one name more
-pub first_more : {K : Type 0} (seen : K → List ℕ) (old new : NameTable) (names : List K) (k : ℕ) (d : K) → k < length names → HasFirst old (map seen (take k names))
-    → ((c : ℕ) (cs : List ℕ) → number_in new (c ∷ cs) ≡ cond (is_some (number_in old (c ∷ cs))) (number_in old (c ∷ cs)) (cond (bytes_eq (seen (get_or names k d)) (c ∷ cs)) (Some k) None))
+pub first_more : {K : Type 0} (seen : K → List ℕ) (old new : NameTable) (names : List K) (k : ℕ) (d : K) → k < length names
+    → HasFirst old (map seen (take k names))
+    → ((c : ℕ) (cs : List ℕ) → name_number new (c ∷ cs) ≡ cond (is_some (name_number old (c ∷ cs))) (name_number old (c ∷ cs))
+    (cond (bytes_eq (seen (get_or names k d)) (c ∷ cs)) (Some k) None))
     → HasFirst new (map seen (take (k + 1) names))
 first_more seen old new names k d low h put =
     let name : List ℕ = seen (get_or names k d) in
@@ -76,17 +86,21 @@ first_more seen old new names k d low h put =
       first = λ c cs.
           put c cs ∙ ap (λ o. cond (is_some o) o (cond (bytes_eq name (c ∷ cs)) (Some k) None)) (h.first c cs)
           ∙ sym
-          (ap (λ ns. found ns (c ∷ cs)) more ∙ found_push before name (c ∷ cs)
-          ∙ ap (λ j. cond (is_some (found before (c ∷ cs))) (found before (c ∷ cs)) (cond (bytes_eq name (c ∷ cs)) (Some j) None)) many);
+          (ap (λ ns. first_place ns (c ∷ cs)) more ∙ found_push before name (c ∷ cs)
+          ∙ ap (λ j. cond (is_some (first_place before (c ∷ cs))) (first_place before (c ∷ cs)) (cond (bytes_eq name (c ∷ cs)) (Some j) None)) many);
     }
 
 -- ---- few names
 
-pub few_states : {K : Type 0} (seen : K → List ℕ) (m : Fsmd) (names : List K) → IsSound m → map seen names ≡ map (λ q. q.name) m.states → length names ≤ most_states
-few_states seen m names h e = let n : length names ≡ length m.states = sym (length-map names seen) ∙ ap length e ∙ length-map m.states (λ (q : State). q.name) in omega (arith, n, h.few_states)
+pub few_states : {K : Type 0} (seen : K → List ℕ) (m : Fsmd) (names : List K) → IsSound m → map seen names ≡ map (λ q. q.name) m.states
+    → length names ≤ most_states
+few_states seen m names h e = let n : length names ≡ length m.states = sym (length-map names seen) ∙ ap length e
+    ∙ length-map m.states (λ (q : State). q.name) in omega (arith, n, h.few_states)
 
-pub few_names : {K : Type 0} (seen : K → List ℕ) (a b : Fsmd) (side : Side) (ps : List Position) (names : List K) → IsPairing ps → map seen names ≡ names_on a b side ps → length names < 2 ^ 32
+pub few_names : {K : Type 0} (seen : K → List ℕ) (a b : Fsmd) (side : Side) (ps : List Position) (names : List K) → IsPairing ps
+    → map seen names ≡ names_on a b side ps → length names < 2 ^ 32
 few_names seen a b side ps names h e =
-    let n : length names ≡ length ps = sym (length-map names seen) ∙ ap length e ∙ length-map ps (λ (p : Position). cond (same_side p.pos.side side) (name_of a b p.pos) []) in
+    let n : length names ≡ length ps = sym (length-map names seen) ∙ ap length e
+    ∙ length-map ps (λ (p : Position). cond (same_side p.pos.side side) (name_of a b p.pos) []) in
     let few : length ps ≤ most_positions = few_positions ps h in
     omega (arith, n, few)

@@ -6,26 +6,27 @@ use Rattle.serde_json.specs.Data.{Data}
 use Rattle.fs_model.specs.Machines.{Fsmd}
 use Rattle.fs_cut.specs.Paths.{Point, is_point}
 use Rattle.fs_pair.specs.Positions.{positions}
-use Rattle.bisimulation.specs.Tables.{Node}
+use Rattle.cert_bisimulation.specs.Tables.{Node}
 use Rattle.nf_terms.specs.declared.form.Nf.{Nf}
 use Rattle.nf_rel.specs.Literals.{NormalLiteral}
 use Rattle.sym_facts.specs.Facts.{Fact}
-use Rattle.sym_facts.specs.Parts.{fact_of, first_unsolved}
+use Rattle.sym_facts.specs.FactParts.{fact_of, first_unsolved}
 use Rattle.term_values.specs.declared.faults.TermError.{TermError}
 use Rattle.term_values.specs.declared.faults.TermError.TheVariants as term
 use Rattle.cert_json.specs.Refusals.{IsFileOf}
-use Rattle.cert_json.specs.Written.{NodeText}
+use Rattle.cert_json.specs.WrittenJson.{NodeText}
 use Rattle.cert_text.specs.declared.faults.CertError.{CertError}
 use Rattle.cert_text.specs.declared.faults.CertError.TheVariants as errors
 use Rattle.cert_text.specs.declared.faults.Stop.{Stop}
 use Rattle.cert_text.specs.declared.faults.Stop.TheVariants as stop
-use Rattle.cert_text.specs.Parts.{nodes_in, format_in}
-use Rattle.cert_text.specs.Names.{place_named, find_in, place_in, place_by_key}
-use Rattle.cert_text.specs.Answers.{error_of}
-use Rattle.cert_text.specs.Points.{after, point_named, known_point, cut_point, is_at, noted, States, points_read}
-use Rattle.cert_text.specs.Judged.{texts_by}
-use Rattle.cert_text.specs.Reading.{Terms, Context, text_read, known_place, sort_at, equation_read, equation_put, equations_read, unwritten, conditions_read, solved, node_fact, node_read, node_added, nodes_read}
-use Rattle.cert_text.specs.Refusals.{context_of, file_read, ComesTo, TellsNodes, BreaksFirst, IsRefused}
+use Rattle.cert_text.specs.JsonParts.{file_nodes, file_format}
+use Rattle.cert_text.specs.CertificateNames.{place_named, find_in, name_place, place_by_key}
+use Rattle.cert_text.specs.PartAnswers.{error_of}
+use Rattle.cert_text.specs.NodePointNames.{then_part, point_named, known_point, cut_point, node_is_at, noted, StateTables, points_read}
+use Rattle.cert_text.specs.TextFunctions.{texts_by}
+use Rattle.cert_text.specs.CertificateReading.{TermContext, Context, text_read, known_place, sort_at, equation_read, equation_put, equations_read, unwritten}
+use Rattle.cert_text.specs.CertificateReading.{conditions_read, solved_fact, node_fact, node_read, node_added, nodes_read}
+use Rattle.cert_text.specs.Refusals.{context_of, file_read, ComesTo, TellsNodes, BreaksFirst, IsRefusedAsCertificate}
 use Rattle.cert_text.proofs.Readings.{texts_are_read}
 
 -- whether a refusal may come of nodes: all but those of a whole file
@@ -48,7 +49,8 @@ abbrev passes : {X : Type 0} → Result X CertError → Bool
 passes (Ok x) = true
 passes (Err e) = is_of_nodes e
 
-passes_after : {X Y : Type 0} (y : Result X CertError) (next : X → Result Y CertError) → passes y ≡ true → ((x : X) → passes (next x) ≡ true) → passes (after y next) ≡ true
+passes_after : {X Y : Type 0} (y : Result X CertError) (next : X → Result Y CertError) → passes y ≡ true → ((x : X) → passes (next x) ≡ true)
+    → passes (then_part y next) ≡ true
 passes_after (Ok x) next h g = g x
 passes_after (Err e) next h g = h
 
@@ -66,13 +68,13 @@ cut_passes i m P = by_test (is_point m P)
     by_test false = refl
 
 noted_passes : (i : ℕ) (earlier : List (Node Fact)) (P Q : Point) → passes (noted i earlier P Q) ≡ true
-noted_passes i earlier P Q = by_test (list_any (is_at P Q) earlier)
+noted_passes i earlier P Q = by_test (list_any (node_is_at P Q) earlier)
   where
     by_test : (t : Bool) → passes (cond {A = Result (Point × Point) CertError} t (Err (errors.TwiceNode i)) (Ok (P, Q))) ≡ true
     by_test true = refl
     by_test false = refl
 
-points_pass : (i : ℕ) (s : States) (earlier : List (Node Fact)) (left right : List ℕ) → passes (points_read i s earlier left right) ≡ true
+points_pass : (i : ℕ) (s : StateTables) (earlier : List (Node Fact)) (left right : List ℕ) → passes (points_read i s earlier left right) ≡ true
 unfolding points_read
 points_pass i s earlier left right =
     passes_after (known_point i (point_named s.left left)) _ (known_passes i (point_named s.left left)) (λ P.
@@ -95,32 +97,36 @@ place_passes : (i : ℕ) (o : Option ℕ) → passes (known_place i o) ≡ true
 place_passes i None = refl
 place_passes i (Some k) = refl
 
-put_passes : (c : Terms) (i : ℕ) (fs : List (Option Nf)) (e : List ℕ × List ℕ) → passes (equation_put c i fs e) ≡ true
+put_passes : (c : TermContext) (i : ℕ) (fs : List (Option Nf)) (e : List ℕ × List ℕ) → passes (equation_put c i fs e) ≡ true
 put_passes c i fs e =
     passes_after (equation_read c i e) (λ x. Ok (set fs x.0 (Some x.1)))
-    (passes_after (known_place i (place_by_key (place_in c.place c.positions c.format) e.0)) _ (place_passes i (place_by_key (place_in c.place c.positions c.format) e.0)) (λ k.
+    (passes_after (known_place i (place_by_key (name_place c.place c.positions c.format) e.0)) _
+    (place_passes i (place_by_key (name_place c.place c.positions c.format) e.0)) (λ k.
     passes_after (text_read i (c.texts.term (sort_at c.positions k) e.1)) _ (text_passes i (c.texts.term (sort_at c.positions k) e.1)) (λ f. refl)))
     (λ x. refl)
 
-equations_pass : (c : Terms) (i : ℕ) (fs : List (Option Nf)) (es : List (List ℕ × List ℕ)) → passes (equations_read c i fs es) ≡ true
+equations_pass : (c : TermContext) (i : ℕ) (fs : List (Option Nf)) (es : List (List ℕ × List ℕ)) → passes (equations_read c i fs es) ≡ true
 equations_pass c i fs [] = refl
 equations_pass c i fs (e ∷ es) = passes_after (equation_put c i fs e) (λ gs. equations_read c i gs es) (put_passes c i fs e) (λ gs. equations_pass c i gs es)
 
-conditions_pass : (c : Terms) (i : ℕ) (ls : List NormalLiteral) (ts : List (List ℕ)) → passes (conditions_read c i ls ts) ≡ true
+conditions_pass : (c : TermContext) (i : ℕ) (ls : List NormalLiteral) (ts : List (List ℕ)) → passes (conditions_read c i ls ts) ≡ true
 conditions_pass c i ls [] = refl
-conditions_pass c i ls (t ∷ ts) = passes_after (text_read i (c.texts.condition t)) (λ l. conditions_read c i (ls ++ l ∷ []) ts) (text_passes i (c.texts.condition t)) (λ l. conditions_pass c i (ls ++ l ∷ []) ts)
+conditions_pass c i ls (t ∷ ts) = passes_after (text_read i (c.texts.condition t)) (λ l. conditions_read c i (ls ++ l ∷ []) ts)
+    (text_passes i (c.texts.condition t)) (λ l. conditions_pass c i (ls ++ l ∷ []) ts)
 
 -- ---- nodes
 
-solved_passes : (i : ℕ) (f : Fact) (o : Option ℕ) → passes (solved i f o) ≡ true
+solved_passes : (i : ℕ) (f : Fact) (o : Option ℕ) → passes (solved_fact i f o) ≡ true
 solved_passes i f None = refl
 solved_passes i f (Some k) = refl
 
-fact_passes : (c : Terms) (i : ℕ) (n : NodeText) → passes (node_fact c i n) ≡ true
+fact_passes : (c : TermContext) (i : ℕ) (n : NodeText) → passes (node_fact c i n) ≡ true
 unfolding node_fact
 fact_passes c i n =
-    passes_after (equations_read c i (map (unwritten c.format) c.positions) n.equations) _ (equations_pass c i (map (unwritten c.format) c.positions) n.equations) (λ fs.
-    passes_after (conditions_read c i [] n.conds) _ (conditions_pass c i [] n.conds) (λ ls. solved_passes i (fact_of c.positions fs ls) (first_unsolved (fact_of c.positions fs ls))))
+    passes_after (equations_read c i (map (unwritten c.format) c.positions) n.equations) _
+    (equations_pass c i (map (unwritten c.format) c.positions) n.equations) (λ fs.
+    passes_after (conditions_read c i [] n.conds) _ (conditions_pass c i [] n.conds)
+    (λ ls. solved_passes i (fact_of c.positions fs ls) (first_unsolved (fact_of c.positions fs ls))))
 
 node_passes : (c : Context) (i : ℕ) (earlier : List (Node Fact)) (n : NodeText) → passes (node_read c i earlier n) ≡ true
 unfolding node_read
@@ -131,7 +137,8 @@ node_passes c i earlier n =
 nodes_pass : (c : Context) (i : ℕ) (earlier : List (Node Fact)) (ns : List NodeText) → passes (nodes_read c i earlier ns) ≡ true
 nodes_pass c i earlier [] = refl
 nodes_pass c i earlier (n ∷ ns) =
-    passes_after (node_added c i earlier n) (λ ms. nodes_read c (i + 1) ms ns) (passes_after (node_read c i earlier n) (λ m. Ok (earlier ++ m ∷ [])) (node_passes c i earlier n) (λ m. refl)) (λ ms. nodes_pass c (i + 1) ms ns)
+    passes_after (node_added c i earlier n) (λ ms. nodes_read c (i + 1) ms ns)
+    (passes_after (node_read c i earlier n) (λ m. Ok (earlier ++ m ∷ [])) (node_passes c i earlier n) (λ m. refl)) (λ ms. nodes_pass c (i + 1) ms ns)
 
 -- ---- what a file comes to
 
@@ -140,11 +147,11 @@ no_truth e = cc
 
 comes_of_nodes : (a b : Fsmd) (d : Data) (e : CertError) → ComesTo a b d (Err e) → is_of_nodes e ≡ true
 comes_of_nodes a b d e h =
-    let r = texts_by (find_in (place_named a b (positions a b)) (positions a b) (format_in d)) in
-    let come : file_read a b d r ≡ Err e = h r (texts_are_read (find_in (place_named a b (positions a b)) (positions a b) (format_in d))) in
-    sym (ap passes come) ∙ nodes_pass (context_of a b (format_in d) r) 0 [] (nodes_in d)
+    let r = texts_by (find_in (place_named a b (positions a b)) (positions a b) (file_format d)) in
+    let come : file_read a b d r ≡ Err e = h r (texts_are_read (find_in (place_named a b (positions a b)) (positions a b) (file_format d))) in
+    sym (ap passes come) ∙ nodes_pass (context_of a b (file_format d) r) 0 [] (file_nodes d)
 
-breaks : (a b : Fsmd) (bytes : List ℕ) (e : CertError) → is_of_nodes e ≡ true → BreaksFirst a b bytes e → IsRefused a b bytes e
+breaks : (a b : Fsmd) (bytes : List ℕ) (e : CertError) → is_of_nodes e ≡ true → BreaksFirst a b bytes e → IsRefusedAsCertificate a b bytes e
 breaks a b bytes errors.NotJson t h = absurd (no_truth t)
 breaks a b bytes errors.Shape t h = absurd (no_truth t)
 breaks a b bytes errors.TooMany t h = absurd (no_truth t)
@@ -159,6 +166,7 @@ breaks a b bytes (errors.NumberTooBig i) t h = h
 breaks a b bytes (errors.BadTerm i) t h = h
 breaks a b bytes (errors.NotNormal i) t h = h
 
-pub nodes_refused : (a b : Fsmd) (bytes : List ℕ) (d : Data) (s : Stop) → IsFileOf bytes d → TellsNodes a b d (Err s) → IsRefused a b bytes (error_of s)
+pub nodes_refused : (a b : Fsmd) (bytes : List ℕ) (d : Data) (s : Stop) → IsFileOf bytes d → TellsNodes a b d (Err s)
+    → IsRefusedAsCertificate a b bytes (error_of s)
 nodes_refused a b bytes d (stop.Refused e) f h = breaks a b bytes e (comes_of_nodes a b d e h) (record { value = d; file = f; first = h })
 nodes_refused a b bytes d stop.NoMemory f h = tt

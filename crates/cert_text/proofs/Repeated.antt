@@ -10,8 +10,8 @@ use Rattle.nf_terms.specs.declared.form.Nf.{Nf}
 use Rattle.term_values.specs.declared.faults.TermError.{TermError}
 use Rattle.cert_text.specs.declared.names.Places.{Places}
 use Rattle.cert_text.specs.declared.repeats.ReadText.{ReadText}
-use Rattle.cert_text.specs.Judged.{texts_by}
-use Rattle.cert_text.specs.Reading.{text_read, sort_at}
+use Rattle.cert_text.specs.TextFunctions.{texts_by}
+use Rattle.cert_text.specs.CertificateReading.{text_read, sort_at}
 use Rattle.cert_text.specs.Repeats.{IsReadAs, last_at, AreLast}
 use Rattle.cert_text.specs.View.{find_of}
 use Rattle.cert_text.specs.Within.{FormWithin}
@@ -31,21 +31,25 @@ text_told : (i : ℕ) (x : Result Nf TermError) (f : Nf) → text_read i x ≡ O
 text_told i (Ok g) f e = let h : g ≡ f = cc e in ap Ok h
 text_told i (Err g) f e = absurd (cc e)
 
-pub read_as : (t : Places) (i k : ℕ) (s : Sort) (text : List ℕ) (f : Nf) → s ≡ sort_at t.positions.now k → text_read i ((texts_by (find_of t)).term s text) ≡ Ok f → sort_of_form f ≡ s → FormWithin (find_of t) f → IsReadAs t k text f
+pub read_as : (t : Places) (i k : ℕ) (s : Sort) (text : List ℕ) (f : Nf) → s ≡ sort_at t.positions.now k
+    → text_read i ((texts_by (find_of t)).term s text) ≡ Ok f → sort_of_form f ≡ s → FormWithin (find_of t) f → IsReadAs t k text f
 read_as t i k s text f is told sort within = record {
-  told = text_told i ((texts_by (find_of t)).term (sort_at t.positions.now k) text) f (subst (λ q. text_read i ((texts_by (find_of t)).term q text) ≡ Ok f) is told);
+  told = text_told i ((texts_by (find_of t)).term (sort_at t.positions.now k) text) f
+      (subst (λ q. text_read i ((texts_by (find_of t)).term q text) ≡ Ok f) is told);
   sort = sort ∙ is;
   within = within;
 }
 
 -- a text that is read now is the last one at its place
-pub read_now : (t : Places) (rs : List (Option ReadText)) (k : ℕ) (text : List ℕ) (f : Nf) (r : ReadText) → AreLast t rs → IsReadAs t k text f → string_bytes r.text ≡ text → r.form ≡ f → AreLast t (set rs k (Some r))
+pub read_now : (t : Places) (rs : List (Option ReadText)) (k : ℕ) (text : List ℕ) (f : Nf) (r : ReadText) → AreLast t rs → IsReadAs t k text f
+    → string_bytes r.text ≡ text → r.form ≡ f → AreLast t (set rs k (Some r))
 read_now t rs k text f r h p e g =
     let now = subst (λ x. IsReadAs t k x r.form) (sym e) (subst (IsReadAs t k text) (sym g) p) in
     record { count = length-set rs k (Some r) ∙ h.count; read = put_one (λ j q. IsReadAs t j (string_bytes q.text) q.form) rs k r h.read now }
 
 -- a text that was read last at a place is read again
-pub read_again : (t : Places) (rs : List (Option ReadText)) (k : ℕ) (r : ReadText) (text : List ℕ) (f : Nf) → AreLast t rs → last_at rs k ≡ Some r → bytes_eq (string_bytes r.text) text ≡ true → f ≡ r.form → IsReadAs t k text f
+pub read_again : (t : Places) (rs : List (Option ReadText)) (k : ℕ) (r : ReadText) (text : List ℕ) (f : Nf) → AreLast t rs → last_at rs k ≡ Some r
+    → bytes_eq (string_bytes r.text) text ≡ true → f ≡ r.form → IsReadAs t k text f
 read_again t rs k r text f h e b g =
     subst (IsReadAs t k text) (sym g) (subst (λ x. IsReadAs t k x r.form) (same_text (string_bytes r.text) text (sym b)) (h.read k r e))
 

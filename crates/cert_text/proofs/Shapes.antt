@@ -1,34 +1,32 @@
 -- What the form of a certificate says of its numbers.
-use Rattle.std.proofs.Common.{◌≡◌, ℕ, ◌≤◌, Bool, true, false, ◌&&◌, ◌||◌, Option, Some, None, refl, ap, List, length, arith}
+use Rattle.std.proofs.Common.{◌≡◌, ℕ, ◌≤◌, Bool, true, false, ◌&&◌, Option, Some, None, refl, ap, List, length, arith}
 use Rattle.std.specs.Prelude.{option_and_then, codes}
-use Rattle.std.proofs.lemmas.Bool.{leb-true, ltb-false}
+use Rattle.std.proofs.lemmas.Bool.{leb-true, ltb-false, or_parts}
+use Rattle.base_lemmas.proofs.Booleans.{and_first, and_second}
 use Rattle.serde_json.specs.Data.{Data, Items}
 use Rattle.serde_json.specs.Events.{items_len}
 use Rattle.serde_json.specs.View.{items_view}
 use Rattle.serde_json.specs.declared.value.Value.{Value}
 use Rattle.serde_json.proofs.Views.{items_len-items_view}
 use Rattle.serde_json.specs.Find.{get, as_str, as_array, as_object}
-use Rattle.nf_terms.proofs.Tests.{and_left, and_right}
-use Rattle.cert_json.specs.Shape.{has, is_list_of_texts, is_map_of_texts, is_text, is_mode, is_within, whole, is_node, is_format, are_nodes, is_list_of_nodes, is_file, has_more, has_many_conditions, some_has_many, some_of_file_has_many, has_too_many}
-use Rattle.cert_text.specs.Parts.{number_or_zero, number_at, items_or_none}
+use Rattle.cert_json.specs.Shape.{has_members, is_list_of_texts, is_map_of_texts, is_text, is_mode, is_within, whole_number_in, is_node, is_format, are_nodes}
+use Rattle.cert_json.specs.Shape.{is_list_of_nodes, is_file, has_more, has_many_conditions, some_has_many, some_of_file_has_many, has_too_many}
+use Rattle.cert_text.specs.JsonParts.{number_or_zero, json_number, items_or_none}
 
 low : (o : Option ℕ) → is_within 4096 o ≡ true → number_or_zero o ≤ 4096
 low None h = omega arith
 low (Some n) h = leb-true n 4096 h
 
 -- the rank of a node is low
-pub rank_low : (d : Data) → is_node d ≡ true → number_at (codes "rank") d ≤ 4096
+pub rank_low : (d : Data) → is_node d ≡ true → json_number (codes "rank") d ≤ 4096
 rank_low d h =
-    let rank : Bool = is_within 4096 (whole (get (codes "rank") d)) in
+    let rank : Bool = is_within 4096 (whole_number_in (get (codes "rank") d)) in
     let right : Bool = is_text (get (codes "right") d) in
     let front : Bool =
-    has 6 d && is_list_of_texts (option_and_then as_array (get (codes "conds") d)) && is_map_of_texts (option_and_then as_object (get (codes "equations") d)) && is_text (get (codes "left") d)
+    has_members 6 d && is_list_of_texts (option_and_then as_array (get (codes "conds") d))
+    && is_map_of_texts (option_and_then as_object (get (codes "equations") d)) && is_text (get (codes "left") d)
     && is_mode (option_and_then as_str (get (codes "mode") d)) in
-    low (whole (get (codes "rank") d)) (and_right front rank (and_left (front && rank) right h))
-
-neither : (a b : Bool) → (a || b) ≡ false → (a ≡ false) × (b ≡ false)
-neither true b e = absurd (cc e)
-neither false b e = (refl, e)
+    low (whole_number_in (get (codes "rank") d)) (and_second front rank (and_first (front && rank) right h))
 
 at_most : (limit : ℕ) (o : Option Items) → has_more limit o ≡ false → items_len (items_or_none o) ≤ limit
 at_most limit None h = omega arith
@@ -46,24 +44,29 @@ few_each (Some ds) h = h
 pub nodes_shaped : (d : Data) → is_file d ≡ true → are_nodes (items_or_none (option_and_then as_array (get (codes "nodes") d))) ≡ true
 nodes_shaped d h =
     let nodes : Option Items = option_and_then as_array (get (codes "nodes") d) in
-    shaped nodes (and_right (has 2 d && is_format (whole (get (codes "format") d))) (is_list_of_nodes nodes) h)
+    shaped nodes (and_second (has_members 2 d && is_format (whole_number_in (get (codes "format") d))) (is_list_of_nodes nodes) h)
 
 -- each has few conditions, and they are few
 pub conditions_few : (d : Data) → has_too_many d ≡ false → some_has_many (items_or_none (option_and_then as_array (get (codes "nodes") d))) ≡ false
 conditions_few d h =
     let nodes : Option Items = option_and_then as_array (get (codes "nodes") d) in
-    few_each nodes (neither (has_more 4096 nodes) (some_of_file_has_many nodes) h).1
+    few_each nodes (or_parts (has_more 4096 nodes) (some_of_file_has_many nodes) h).1
 
-pub nodes_few : (d : Data) (vs : List Value) → items_view vs ≡ items_or_none (option_and_then as_array (get (codes "nodes") d)) → has_too_many d ≡ false → length vs ≤ 4096
+pub nodes_few : (d : Data) (vs : List Value) → items_view vs ≡ items_or_none (option_and_then as_array (get (codes "nodes") d)) → has_too_many d ≡ false
+    → length vs ≤ 4096
 nodes_few d vs e h =
     let nodes : Option Items = option_and_then as_array (get (codes "nodes") d) in
-    let few : items_len (items_or_none nodes) ≤ 4096 = at_most 4096 nodes (neither (has_more 4096 nodes) (some_of_file_has_many nodes) h).0 in
+    let few : items_len (items_or_none nodes) ≤ 4096 = at_most 4096 nodes (or_parts (has_more 4096 nodes) (some_of_file_has_many nodes) h).0 in
     let many : items_len (items_view vs) ≡ items_len (items_or_none nodes) = ap items_len e in
     omega (arith, few, many, items_len-items_view vs)
 
-pub conds_few : (d : Data) (vs : List Value) → items_view vs ≡ items_or_none (option_and_then as_array (get (codes "conds") d)) → has_many_conditions d ≡ false → length vs ≤ 64
+pub conds_few : (d : Data) (vs : List Value) → items_view vs ≡ items_or_none (option_and_then as_array (get (codes "conds") d)) → has_many_conditions d ≡ false
+    → length vs ≤ 64
 conds_few d vs e h =
     let conds : Option Items = option_and_then as_array (get (codes "conds") d) in
     let few : items_len (items_or_none conds) ≤ 64 = at_most 64 conds h in
     let many : items_len (items_view vs) ≡ items_len (items_or_none conds) = ap items_len e in
     omega (arith, few, many, items_len-items_view vs)
+
+-- what is known of the nodes of a file
+pub ruleset file_shapes = (nodes_shaped, conditions_few, nodes_few)

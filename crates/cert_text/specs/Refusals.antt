@@ -3,35 +3,36 @@ use Rattle.std.specs.Prelude.{◌≡◌, ℕ, List, [], map, Result, Ok, Err}
 use Rattle.serde_json.specs.Data.{Data}
 use Rattle.fs_model.specs.Machines.{Fsmd}
 use Rattle.fs_pair.specs.Positions.{positions}
-use Rattle.bisimulation.specs.Tables.{Node}
+use Rattle.cert_bisimulation.specs.Tables.{Node}
 use Rattle.sym_facts.specs.Facts.{Fact}
-use Rattle.json_files.specs.Json.{IsNotJson}
+use Rattle.base_json_files.specs.Json.{IsNotJson}
 use Rattle.cert_json.specs.Refusals.{IsFileOf, HasOtherShape, HasTooMany}
 use Rattle.cert_text.specs.declared.faults.CertError.{CertError}
 use Rattle.cert_text.specs.declared.faults.CertError.TheVariants.{NotJson, Shape, TooMany, NoMemory}
 use Rattle.cert_text.specs.declared.faults.Stop.{Stop}
 use Rattle.cert_text.specs.declared.faults.Stop.TheVariants as stop
-use Rattle.certificates.specs.declared.cert.Cert.{Cert}
-use Rattle.certificates.specs.View.{node_of}
-use Rattle.cert_text.specs.Parts.{nodes_in, format_in}
-use Rattle.cert_text.specs.Names.{state_named, place_named, find_in}
-use Rattle.cert_text.specs.Texts.{Texts, AreRead}
-use Rattle.cert_text.specs.Reading.{Context, nodes_read}
+use Rattle.cert_model.specs.declared.cert.Cert.{Cert}
+use Rattle.cert_model.specs.View.{node_of}
+use Rattle.cert_text.specs.JsonParts.{file_nodes, file_format}
+use Rattle.cert_text.specs.CertificateNames.{state_named, place_named, find_in}
+use Rattle.cert_text.specs.TextReaders.{TextReader, AreRead}
+use Rattle.cert_text.specs.CertificateReading.{Context, nodes_read}
 
 -- a file of two machines is read against their states, their positions by name, its format and what texts stand for
-abbrev pub context_of : (a b : Fsmd) → (format : ℕ) → Texts → Context
+abbrev pub context_of : (a b : Fsmd) → (format : ℕ) → TextReader → Context
 context_of a b format r = record {
   states = record { a = a; b = b; left = state_named a; right = state_named b };
   terms = record { place = place_named a b (positions a b); positions = positions a b; format = format; texts = r };
 }
 
 -- what comes of the nodes of a file
-abbrev pub file_read : (a b : Fsmd) → Data → Texts → Result (List (Node Fact)) CertError
-file_read a b d r = nodes_read (context_of a b (format_in d) r) 0 [] (nodes_in d)
+abbrev pub file_read : (a b : Fsmd) → Data → TextReader → Result (List (Node Fact)) CertError
+file_read a b d r = nodes_read (context_of a b (file_format d) r) 0 [] (file_nodes d)
 
 -- the nodes of a file come to this, whatever functions say what its texts stand for
 abbrev pub ComesTo : (a b : Fsmd) → Data → Result (List (Node Fact)) CertError → Type 0
-ComesTo a b d y = (r : Texts) → AreRead (find_in (place_named a b (positions a b)) (positions a b) (format_in d)) r → file_read a b d r ≡ y
+ComesTo a b d y = (r : TextReader) → AreRead (find_in (place_named a b (positions a b)) (positions a b) (file_format d)) r
+    → file_read a b d r ≡ y
 
 -- an answer is what the nodes of a file come to, or memory was refused
 abbrev pub TellsNodes : (a b : Fsmd) → Data → Result Cert Stop → Type 0
@@ -52,9 +53,9 @@ pub record BreaksFirst (a b : Fsmd) (bytes : List ℕ) (e : CertError) : Type 0 
   pub first : ComesTo a b value (Err e)
 
 -- why bytes are refused; out of memory may come at any time
-abbrev pub IsRefused : (a b : Fsmd) → List ℕ → CertError → Type 0
-IsRefused a b bytes NotJson = IsNotJson bytes
-IsRefused a b bytes Shape = HasOtherShape bytes
-IsRefused a b bytes TooMany = HasTooMany bytes
-IsRefused a b bytes NoMemory = Unit {0}
-IsRefused a b bytes e = BreaksFirst a b bytes e
+abbrev pub IsRefusedAsCertificate : (a b : Fsmd) → List ℕ → CertError → Type 0
+IsRefusedAsCertificate a b bytes NotJson = IsNotJson bytes
+IsRefusedAsCertificate a b bytes Shape = HasOtherShape bytes
+IsRefusedAsCertificate a b bytes TooMany = HasTooMany bytes
+IsRefusedAsCertificate a b bytes NoMemory = Unit {0}
+IsRefusedAsCertificate a b bytes e = BreaksFirst a b bytes e

@@ -4,8 +4,8 @@ use Rattle.nf_terms.specs.Forms.{sort_of_form}
 use Rattle.nf_terms.specs.declared.form.Nf.{Nf}
 use Rattle.cert_text.specs.declared.names.Places.{Places}
 use Rattle.cert_text.specs.declared.repeats.ReadText.{ReadText}
-use Rattle.cert_text.specs.Judged.{texts_by}
-use Rattle.cert_text.specs.Reading.{sort_at}
+use Rattle.cert_text.specs.TextFunctions.{texts_by}
+use Rattle.cert_text.specs.CertificateReading.{sort_at}
 use Rattle.cert_text.specs.View.{find_of}
 use Rattle.cert_text.specs.Within.{FormWithin}
 

@@ -4,17 +4,17 @@ use Rattle.std.specs.List.{list_all, AllByRecursion}
 use Rattle.fs_model.specs.Machines.{Fsmd}
 use Rattle.fs_cut.specs.Paths.{is_point}
 use Rattle.fs_pair.specs.declared.positions.Position.{Position}
-use Rattle.bisimulation.specs.Tables.{Node}
-use Rattle.certificates.specs.Lawful.{most_rank, points_differ}
-use Rattle.nf_terms.specs.declared.tree.Side.{Side}
-use Rattle.nf_terms.specs.declared.tree.Pos.{Pos}
+use Rattle.cert_bisimulation.specs.Tables.{Node}
+use Rattle.cert_model.specs.Lawful.{most_rank, points_differ}
+use Rattle.fs_model.specs.declared.sides.Side.{Side}
+use Rattle.fs_model.specs.declared.sides.Pos.{Pos}
 use Rattle.nf_terms.specs.declared.symbols.Sort.{Sort as TermSort}
 use Rattle.nf_terms.specs.declared.form.Nf.{Nf}
 use Rattle.nf_rel.specs.Literals.{NormalLiteral}
 use Rattle.sym_facts.specs.Facts.{Fact, has_its_sort}
-use Rattle.sym_facts.specs.Parts.{with_equations, equation_within}
+use Rattle.sym_facts.specs.FactParts.{with_equations, equation_within}
 use Rattle.sym_facts.specs.Pairings.{is_position, form_within, literal_within, IsFactOf}
-use Rattle.term_values.specs.Names.{Find}
+use Rattle.term_values.specs.NameMeanings.{Find}
 
 -- all that names stand for passes a test
 abbrev pub AllFoundPass : Find → (Pos × TermSort → Bool) → Type 0

@@ -2,9 +2,9 @@
 
 ghost use Rattle.std.specs.Prelude.{◌≡◌, ℕ, List, IfOk};
 ghost use Rattle.fs_pair.specs.Positions.{positions};
-ghost use Rattle.cert_text.specs.Names.{state_named, place_named, find_in};
-ghost use Rattle.cert_text.specs.Tables.{number_in};
-ghost use Rattle.cert_text.specs.Judged.{texts_by};
+ghost use Rattle.cert_text.specs.CertificateNames.{state_named, place_named, find_in};
+ghost use Rattle.cert_text.specs.NameTables.{name_number};
+ghost use Rattle.cert_text.specs.TextFunctions.{texts_by};
 ghost use Rattle.cert_text.specs.Refusals.{context_of as context_of_machines};
 ghost use Rattle.cert_text.specs.View.{context_in};
 
@@ -30,7 +30,7 @@ pub struct Context<'a> {
 // The table of the states of a machine. The one refusal is out of memory.
 #[tactic(auto, using(crate::proofs::Contexts::states_found))]
 fn states_of<'a>(alloc: Global, m: &'a Machine) -> Result<NameTable<'a>, NoMemory>
-    ensures { IfOk result (λ t. (x : List ℕ) → number_in t x ≡ state_named m.now x) }
+    ensures { IfOk result (λ t. (x : List ℕ) → name_number t x ≡ state_named m.now x) }
 {
     let names = state_names(alloc, m)?;
     table_of(alloc, names.as_slice())
@@ -45,7 +45,7 @@ fn positions_of<'a>(
     side: Side,
     p: &Pairing,
 ) -> Result<NameTable<'a>, NoMemory>
-    ensures { IfOk result (λ t. (x : List ℕ) → number_in t x ≡ place_named a.now b.now p.now side x) }
+    ensures { IfOk result (λ t. (x : List ℕ) → name_number t x ≡ place_named a.now b.now p.now side x) }
 {
     p.holds();
     let names = names_on(alloc, a, b, side, p.positions())?;
@@ -62,7 +62,9 @@ pub fn context_of<'a>(
     format: u64,
 ) -> Result<Context<'a>, NoMemory>
     requires { p.now ≡ positions a.now b.now }
-    ensures same { IfOk result (λ c. context_in c ≡ context_of_machines a.now b.now format (texts_by (find_in (place_named a.now b.now (positions a.now b.now)) (positions a.now b.now) format))) }
+    ensures same { IfOk result
+        (λ c. context_in c ≡ context_of_machines a.now b.now format
+        (texts_by (find_in (place_named a.now b.now (positions a.now b.now)) (positions a.now b.now) format))) }
     ensures pairing { IfOk result (λ c. c.pairing.now ≡ c.places.positions.now) }
 {
     let left_states = states_of(alloc, a)?;

@@ -1,16 +1,17 @@
 //! The equations and the conditions of a node.
 
-ghost use Rattle.std.specs.Prelude.{◌≡◌, ◌<◌, [], Ok, Some, length, map, set, IsTrue, IfOk, OnOk};
+ghost use Rattle.std.specs.Prelude.{◌≡◌, ◌<◌, [], Ok, Some, length, map, IsTrue, IfOk, OnOk};
 ghost use Rattle.std.specs.List.{list_all, AllByRecursion};
 ghost use Rattle.serde_json.specs.View.{items_view, members_view};
 ghost use Rattle.nf_terms.specs.Forms.{sort_of_form};
 ghost use Rattle.nf_rel.specs.View.{literal_in};
 ghost use Rattle.sym_facts.specs.Facts.{may_be_kept};
-ghost use Rattle.cert_text.specs.Parts.{texts_of, named_texts_of};
-ghost use Rattle.cert_text.specs.Names.{place_in, place_by_key};
-ghost use Rattle.cert_text.specs.Answers.{Tells};
-ghost use Rattle.cert_text.specs.Points.{after};
-ghost use Rattle.cert_text.specs.Reading.{known_place as known, unwritten as unwritten_at, unwritten_of, sort_at as sort_of_place, equation_read, equation_put, equations_read, conditions_read};
+ghost use Rattle.cert_text.specs.JsonParts.{texts_of, named_texts_of};
+ghost use Rattle.cert_text.specs.CertificateNames.{name_place, place_by_key};
+ghost use Rattle.cert_text.specs.PartAnswers.{Tells};
+ghost use Rattle.cert_text.specs.CertificateReading.{known_place as known, unwritten as unwritten_at, unwritten_of};
+ghost use Rattle.cert_text.specs.CertificateReading.{sort_at as sort_of_place, equation_read, equation_put, equations_read};
+ghost use Rattle.cert_text.specs.CertificateReading.{conditions_read};
 ghost use Rattle.cert_text.specs.View.{place_in_tables, find_of, terms_in};
 ghost use Rattle.cert_text.specs.Repeats.{AreLast};
 ghost use Rattle.cert_text.specs.Within.{FormWithin, LiteralWithin, AreEquationsOf};
@@ -58,7 +59,8 @@ pub fn all_unwritten(
 
 // The place that a key of a node names.
 fn known_place(places: &Places<'_>, node: u32, key: &[u8]) -> Result<u32, Stop>
-    ensures told { Tells (λ k. k) result (known node (place_by_key (place_in (place_in_tables places.now) places.now.positions.now places.now.format) key.now)) }
+    ensures told { Tells (λ k. k) result
+        (known node (place_by_key (name_place (place_in_tables places.now) places.now.positions.now places.now.format) key.now)) }
     ensures in_range { IfOk result (λ k. k < length places.now.positions.now) }
 {
     match place_of_key(places, key) {
@@ -101,7 +103,8 @@ fn put_equation(
 ) -> Result<(), Stop>
     requires last { AreLast places.now last.old.items }
     requires forms { AreEquationsOf places.now.positions.now forms.old.items }
-    ensures told { Tells (λ _. forms.new.items) result (equation_put (terms_in places.now) node forms.old.items (key.now, text.now)) }
+    ensures told { Tells (λ _. forms.new.items) result
+        (equation_put (terms_in places.now) node forms.old.items (key.now, text.now)) }
     ensures kept { OnOk result (AreEquationsOf places.now.positions.now forms.new.items) }
     ensures last { OnOk result (AreLast places.now last.new.items) }
 {
@@ -121,7 +124,8 @@ pub fn put_equations(
 ) -> Result<(), Stop>
     requires last { AreLast places.now last.old.items }
     requires forms { AreEquationsOf places.now.positions.now forms.old.items }
-    ensures told { Tells (λ _. forms.new.items) result (equations_read (terms_in places.now) node forms.old.items (named_texts_of (members_view members.now.entries))) }
+    ensures told { Tells (λ _. forms.new.items) result
+        (equations_read (terms_in places.now) node forms.old.items (named_texts_of (members_view members.now.entries))) }
     ensures kept { OnOk result (AreEquationsOf places.now.positions.now forms.new.items) }
     ensures last { OnOk result (AreLast places.now last.new.items) }
 {
@@ -146,7 +150,8 @@ pub fn read_conditions(
     node: u32,
     items: &[Value],
 ) -> Result<Vec<NLit>, Stop>
-    ensures told { Tells (λ ls. map literal_in ls.items) result (conditions_read (terms_in places.now) node [] (texts_of (items_view items.now))) }
+    ensures told { Tells (λ ls. map literal_in ls.items) result
+        (conditions_read (terms_in places.now) node [] (texts_of (items_view items.now))) }
     ensures count { IfOk result (λ ls. length ls.items ≡ length items.now) }
     ensures kept { IfOk result (λ ls. IsTrue (list_all may_be_kept (map literal_in ls.items))) }
     ensures within { IfOk result (λ ls. AllByRecursion (LiteralWithin (find_of places.now)) (map literal_in ls.items)) }

@@ -3,13 +3,12 @@
 ghost use Rattle.std.specs.Prelude.{◌≡◌};
 ghost use Rattle.cert_text.specs.declared.faults.Stop.TheVariants as stops;
 
-use cert_json::faults::FileError;
 use nf_terms::stop::NoMemory;
 use std::alloc::{AllocError, AllocFailed};
 use thiserror::Error;
 
 /// Why the bytes of a certificate are refused. Nodes are numbered from 0.
-#[derive(Clone, Copy, Debug, PartialEq, Eq, Error)]
+#[derive(Clone, Copy, Debug, Error)]
 pub enum CertError {
     /// The bytes are not text, or not JSON.
     #[error("the certificate is not JSON")]
@@ -53,7 +52,7 @@ pub enum CertError {
 }
 
 /// A refusal, or out of memory.
-#[derive(Clone, Copy, Debug, PartialEq, Eq)]
+#[derive(Clone, Copy, Debug)]
 pub enum Stop {
     Refused(CertError),
     NoMemory,

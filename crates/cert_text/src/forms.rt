@@ -5,9 +5,9 @@ ghost use Rattle.nf_terms.specs.Forms.{sort_of_form};
 ghost use Rattle.nf_rel.specs.View.{literal_in};
 ghost use Rattle.sym_facts.specs.Facts.{may_be_kept};
 ghost use Rattle.nf_terms.specs.declared.symbols.Sort.TheVariants as sorts;
-ghost use Rattle.cert_text.specs.Judged.{texts_by};
-ghost use Rattle.cert_text.specs.Answers.{Tells, TellsText, stop_of};
-ghost use Rattle.cert_text.specs.Reading.{text_read};
+ghost use Rattle.cert_text.specs.TextFunctions.{texts_by};
+ghost use Rattle.cert_text.specs.PartAnswers.{Tells, TellsText, stop_of};
+ghost use Rattle.cert_text.specs.CertificateReading.{text_read};
 ghost use Rattle.cert_text.specs.Within.{FormWithin, LiteralWithin};
 
 use crate::faults::{CertError, Stop};
@@ -21,7 +21,7 @@ use term_values::names::Names;
 use term_values::reader::{read_arr, read_poly, read_seq};
 
 // The polynomial of a text as a form.
-#[tactic(auto, using(crate::proofs::Told::number_told, crate::proofs::Told::term_refused, crate::proofs::Symbols::polynomial_within))]
+#[tactic(auto, using(crate::proofs::Told::number_texts))]
 fn read_number<N: Names>(alloc: Global, names: &N, text: &[u8]) -> Result<Nf, TermError>
     ensures told { TellsText (λ f. f) result ((texts_by (N.find names.now)).term sorts.Scalar text.now) }
     ensures sort { IfOk result (λ f. sort_of_form f ≡ sorts.Scalar) }
@@ -31,7 +31,7 @@ fn read_number<N: Names>(alloc: Global, names: &N, text: &[u8]) -> Result<Nf, Te
 }
 
 // The array of a text as a form.
-#[tactic(auto, using(crate::proofs::Told::array_told, crate::proofs::Told::term_refused, crate::proofs::Symbols::array_within))]
+#[tactic(auto, using(crate::proofs::Told::array_texts))]
 fn read_array<N: Names>(alloc: Global, names: &N, text: &[u8]) -> Result<Nf, TermError>
     ensures told { TellsText (λ f. f) result ((texts_by (N.find names.now)).term sorts.Array text.now) }
     ensures sort { IfOk result (λ f. sort_of_form f ≡ sorts.Array) }
@@ -41,7 +41,7 @@ fn read_array<N: Names>(alloc: Global, names: &N, text: &[u8]) -> Result<Nf, Ter
 }
 
 // The list of a text as a form.
-#[tactic(auto, using(crate::proofs::Told::list_told, crate::proofs::Told::term_refused, crate::proofs::Symbols::list_within))]
+#[tactic(auto, using(crate::proofs::Told::list_texts))]
 fn read_list<N: Names>(alloc: Global, names: &N, text: &[u8]) -> Result<Nf, TermError>
     ensures told { TellsText (λ f. f) result ((texts_by (N.find names.now)).term sorts.List text.now) }
     ensures sort { IfOk result (λ f. sort_of_form f ≡ sorts.List) }
@@ -64,7 +64,7 @@ fn term_of<N: Names>(alloc: Global, names: &N, sort: Sort, text: &[u8]) -> Resul
 }
 
 // The literal that a text stands for.
-#[tactic(auto, using(crate::proofs::Told::condition_told, crate::proofs::Told::condition_refused, crate::proofs::Symbols::literal_is_within, crate::proofs::Symbols::literal_kept))]
+#[tactic(auto, using(crate::proofs::Told::condition_texts))]
 fn condition_of<N: Names>(alloc: Global, names: &N, text: &[u8]) -> Result<NLit, TermError>
     ensures told { TellsText literal_in result ((texts_by (N.find names.now)).condition text.now) }
     ensures kept { IfOk result (λ l. may_be_kept (literal_in l) ≡ true) }

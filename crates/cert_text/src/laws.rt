@@ -2,12 +2,12 @@
 
 ghost use Rattle.std.specs.Prelude.{◌≡◌, ℕ, List};
 ghost use Rattle.fs_model.specs.Machines.{Fsmd};
-ghost use Rattle.bisimulation.specs.Tables.{Node};
+ghost use Rattle.cert_bisimulation.specs.Tables.{Node};
 ghost use Rattle.sym_facts.specs.Facts.{Fact};
-ghost use Rattle.term_values.specs.Names.{Find};
-ghost use Rattle.cert_text.specs.Texts.{AreRead};
-ghost use Rattle.cert_text.specs.Judged.{texts_by};
-ghost use Rattle.cert_text.specs.Refusals.{SpellsNodes, IsRefused};
+ghost use Rattle.term_values.specs.NameMeanings.{Find};
+ghost use Rattle.cert_text.specs.TextReaders.{AreRead};
+ghost use Rattle.cert_text.specs.TextFunctions.{texts_by};
+ghost use Rattle.cert_text.specs.Refusals.{SpellsNodes, IsRefusedAsCertificate};
 ghost use Rattle.cert_text.specs.declared.faults.CertError.{CertError};
 ghost use Rattle.cert_text.specs.declared.faults.CertError.TheVariants as errors;
 
@@ -18,6 +18,8 @@ pub fn texts_are_read()
 
 /// Bytes spell at most one list of nodes. Where they spell one, they are refused for memory alone.
 pub fn certificates_are_read_in_one_way()
-    ensures same { (a b : Fsmd) → (bytes : List ℕ) → (ns ms : List (Node Fact)) → SpellsNodes a b bytes ns → SpellsNodes a b bytes ms → ns ≡ ms }
-    ensures taken { (a b : Fsmd) → (bytes : List ℕ) → (ns : List (Node Fact)) → (e : CertError) → SpellsNodes a b bytes ns → IsRefused a b bytes e → e ≡ errors.NoMemory }
+    ensures same { (a b : Fsmd) → (bytes : List ℕ) → (ns ms : List (Node Fact)) → SpellsNodes a b bytes ns
+        → SpellsNodes a b bytes ms → ns ≡ ms }
+    ensures taken { (a b : Fsmd) → (bytes : List ℕ) → (ns : List (Node Fact)) → (e : CertError) → SpellsNodes a b bytes ns
+        → IsRefusedAsCertificate a b bytes e → e ≡ errors.NoMemory }
 {}

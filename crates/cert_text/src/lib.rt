@@ -1,4 +1,12 @@
 //! The text of certificates.
+//!
+//! Promises: `read_cert`: the lawful certificate that bytes spell, or the first rule that is broken.
+//!
+//! Rules: `specs/JsonParts`, `specs/NodePointNames`, `specs/CertificateNames`, `specs/CertificateReading`,
+//! `specs/Refusals`, `specs/TextFunctions`, `specs/Repeats`.
+//!
+//! Words:
+//! - cutpoint (in `NotCutpoint`): a state that is a point: it has more than one branch, and is not the reset state
 #![tactic(auto)]
 
 mod context;

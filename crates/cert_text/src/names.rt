@@ -4,7 +4,8 @@ ghost use Rattle.std.specs.Prelude.{◌≡◌, ◌<◌, ◌≤◌, length, map, 
 ghost use Rattle.fs_model.specs.Limits.{most_states};
 ghost use Rattle.fs_pair.specs.Partners.{variables_on as variables_of};
 ghost use Rattle.sym_facts.specs.Facts.{sort_of_terms as sort_for_terms};
-ghost use Rattle.cert_text.specs.Names.{is_in_format as in_format, names_on as names_of, name_of, state_names as names_of_states, place_in, place_by_key, find_in};
+ghost use Rattle.cert_text.specs.CertificateNames.{is_in_format as in_format, names_on as names_of, name_of};
+ghost use Rattle.cert_text.specs.CertificateNames.{machine_state_names as names_of_states, name_place, place_by_key};
 ghost use Rattle.cert_text.specs.View.{place_in_tables};
 
 use crate::table::{NameTable, number_of};
@@ -48,7 +49,7 @@ pub fn is_in_format(format: u64, sort: Sort) -> bool
 
 // The place of a name of a side, in the format of the file.
 fn place_of(places: &Places<'_>, side: Side, name: &[u8]) -> Option<u32>
-    ensures same { result ≡ place_in (place_in_tables places.now) places.now.positions.now places.now.format side name.now }
+    ensures same { result ≡ name_place (place_in_tables places.now) places.now.positions.now places.now.format side name.now }
     ensures in_range { IfSome result (λ k. k < length places.now.positions.now) }
 {
     let place = place_named(places, side, name)?;
@@ -62,7 +63,8 @@ fn place_of(places: &Places<'_>, side: Side, name: &[u8]) -> Option<u32>
 
 /// The place that a key names.
 pub fn place_of_key(places: &Places<'_>, key: &[u8]) -> Option<u32>
-    ensures same { result ≡ place_by_key (place_in (place_in_tables places.now) places.now.positions.now places.now.format) key.now }
+    ensures same { result ≡ place_by_key
+        (name_place (place_in_tables places.now) places.now.positions.now places.now.format) key.now }
     ensures in_range { IfSome result (λ k. k < length places.now.positions.now) }
 {
     match key {

@@ -1,18 +1,19 @@
 //! Nodes.
 
-ghost use Rattle.std.specs.Prelude.{◌≡◌, ◌≤◌, ◌+◌, ◌++◌, ◌∷◌, [], true, false, Ok, codes, length, map, IsTrue, IfOk, OnOk};
+ghost use Rattle.std.specs.Prelude.{◌≡◌, ◌≤◌, ◌+◌, [], true, false, Ok, codes, length, map, IsTrue, IfOk, OnOk};
 ghost use Rattle.std.specs.List.{list_all, list_any, AllByRecursion};
 ghost use Rattle.serde_json.specs.View.{view, items_view};
 ghost use Rattle.nf_rel.specs.View.{literal_in};
 ghost use Rattle.sym_facts.specs.Facts.{may_be_kept, most_literals};
 ghost use Rattle.sym_facts.specs.Pairings.{IsFactOf};
 ghost use Rattle.cert_json.specs.Shape.{is_node, are_nodes, has_many_conditions, some_has_many};
-ghost use Rattle.certificates.specs.Lawful.{most_nodes, most_rank};
-ghost use Rattle.certificates.specs.View.{node_of};
-ghost use Rattle.cert_text.specs.Parts.{number_at as number_under, equations_in, node_text, node_texts};
-ghost use Rattle.cert_text.specs.Answers.{Tells};
-ghost use Rattle.cert_text.specs.Points.{after, is_at};
-ghost use Rattle.cert_text.specs.Reading.{mode_named as mode_of, unwritten, equations_read, fact_read, node_fact, node_read, node_added, nodes_read};
+ghost use Rattle.cert_model.specs.Lawful.{most_nodes, most_rank};
+ghost use Rattle.cert_model.specs.View.{node_of};
+ghost use Rattle.cert_text.specs.JsonParts.{json_number as number_under, equations_in, node_text_in, node_texts};
+ghost use Rattle.cert_text.specs.PartAnswers.{Tells};
+ghost use Rattle.cert_text.specs.NodePointNames.{node_is_at};
+ghost use Rattle.cert_text.specs.CertificateReading.{mode_named as mode_of, unwritten, equations_read, fact_read, node_fact};
+ghost use Rattle.cert_text.specs.CertificateReading.{node_read, node_added, nodes_read};
 ghost use Rattle.cert_text.specs.Repeats.{AreLast};
 ghost use Rattle.cert_text.specs.View.{find_of, terms_in, context_in};
 ghost use Rattle.cert_text.specs.Within.{LiteralWithin, AreEquationsOf, IsNodeOf, AreNodesOf};
@@ -23,8 +24,8 @@ use crate::faults::{CertError, Stop};
 use crate::parts::{items_at, members_at, number_at, text_at};
 use crate::points::read_points;
 use crate::repeats::{ReadText, none_read};
-use bisimulation::mode::Mode;
-use certificates::cert::Node;
+use cert_bisimulation::mode::Mode;
+use cert_model::cert::Node;
 use nf_rel::literals::NLit;
 use nf_terms::form::Nf;
 use serde_json::Value;
@@ -56,7 +57,9 @@ fn read_equations(
     last: &mut Vec<Option<ReadText>>,
 ) -> Result<Vec<Option<Nf>>, Stop>
     requires { AreLast c.now.places last.old.items }
-    ensures told { Tells (λ fs. fs.items) result (equations_read (terms_in c.now.places) node (map (unwritten c.now.places.format) c.now.places.positions.now) (equations_in (view value.now))) }
+    ensures told { Tells (λ fs. fs.items) result
+        (equations_read (terms_in c.now.places) node (map (unwritten c.now.places.format) c.now.places.positions.now)
+        (equations_in (view value.now))) }
     ensures kept { IfOk result (λ fs. AreEquationsOf c.now.places.positions.now fs.items) }
     ensures last { OnOk result (AreLast c.now.places last.new.items) }
 {
@@ -68,7 +71,7 @@ fn read_equations(
 }
 
 // The fact of these parts, where it is solved.
-#[tactic(auto, using(crate::proofs::Facts::counted, crate::proofs::Facts::sorted_in, crate::proofs::Facts::inside_in, crate::proofs::Facts::within_in))]
+#[tactic(auto, using(crate::proofs::Facts::fact_parts))]
 fn solved_fact(
     alloc: Global,
     c: &Context<'_>,
@@ -94,7 +97,7 @@ fn solved_fact(
 }
 
 // The fact of a node.
-#[tactic(auto, using(crate::proofs::Shapes::conds_few), unfolding(crate::specs::Reading::node_fact))]
+#[tactic(auto, using(crate::proofs::Shapes::conds_few), unfolding(crate::specs::CertificateReading::node_fact))]
 fn read_fact(
     alloc: Global,
     c: &Context<'_>,
@@ -105,7 +108,7 @@ fn read_fact(
     requires pairing { c.now.pairing.now ≡ c.now.places.positions.now }
     requires few { has_many_conditions (view value.now) ≡ false }
     requires last { AreLast c.now.places last.old.items }
-    ensures told { Tells (λ f. f) result (node_fact (terms_in c.now.places) node (node_text (view value.now))) }
+    ensures told { Tells (λ f. f) result (node_fact (terms_in c.now.places) node (node_text_in (view value.now))) }
     ensures of { IfOk result (λ f. IsFactOf c.now.places.positions.now f) }
     ensures last { OnOk result (AreLast c.now.places last.new.items) }
 {
@@ -125,7 +128,7 @@ fn rank_of(value: &Value) -> u32
 }
 
 // A node behind earlier ones.
-#[tactic(auto, unfolding(crate::specs::Reading::node_read))]
+#[tactic(auto, unfolding(crate::specs::CertificateReading::node_read))]
 fn read_node(
     alloc: Global,
     c: &Context<'_>,
@@ -138,8 +141,9 @@ fn read_node(
     requires shape { is_node (view value.now) ≡ true }
     requires few { has_many_conditions (view value.now) ≡ false }
     requires last { AreLast c.now.places last.old.items }
-    ensures told { Tells node_of result (node_read (context_in c.now) node (map node_of earlier.now) (node_text (view value.now))) }
-    ensures free { IfOk result (λ n. list_any (is_at (node_of n).left (node_of n).right) (map node_of earlier.now) ≡ false) }
+    ensures told { Tells node_of result
+        (node_read (context_in c.now) node (map node_of earlier.now) (node_text_in (view value.now))) }
+    ensures free { IfOk result (λ n. list_any (node_is_at (node_of n).left (node_of n).right) (map node_of earlier.now) ≡ false) }
     ensures of { IfOk result (λ n. IsNodeOf c.now.a.now c.now.b.now c.now.places.positions.now (node_of n)) }
     ensures last { OnOk result (AreLast c.now.places last.new.items) }
 {
@@ -173,8 +177,11 @@ fn push_node(
     requires shape { is_node (view value.now) ≡ true }
     requires few { has_many_conditions (view value.now) ≡ false }
     requires last { AreLast c.now.places last.old.items }
-    ensures told { Tells (λ _. map node_of nodes.new.items) result (node_added (context_in c.now) node (map node_of nodes.old.items) (node_text (view value.now))) }
-    ensures lawful { OnOk result (AreNodesOf c.now.a.now c.now.b.now c.now.places.positions.now (map node_of nodes.old.items) → AreNodesOf c.now.a.now c.now.b.now c.now.places.positions.now (map node_of nodes.new.items)) }
+    ensures told { Tells (λ _. map node_of nodes.new.items) result
+        (node_added (context_in c.now) node (map node_of nodes.old.items) (node_text_in (view value.now))) }
+    ensures lawful { OnOk result
+        (AreNodesOf c.now.a.now c.now.b.now c.now.places.positions.now (map node_of nodes.old.items)
+        → AreNodesOf c.now.a.now c.now.b.now c.now.places.positions.now (map node_of nodes.new.items)) }
     ensures count { OnOk result (length nodes.new.items ≡ length nodes.old.items + 1) }
     ensures last { OnOk result (AreLast c.now.places last.new.items) }
 {
@@ -196,8 +203,11 @@ fn push_value(
     requires shape { is_node (view value) ≡ true }
     requires few { has_many_conditions (view value) ≡ false }
     requires last { AreLast c.now.places last.old.items }
-    ensures told { Tells (λ _. map node_of nodes.new.items) result (node_added (context_in c.now) node (map node_of nodes.old.items) (node_text (view value))) }
-    ensures lawful { OnOk result (AreNodesOf c.now.a.now c.now.b.now c.now.places.positions.now (map node_of nodes.old.items) → AreNodesOf c.now.a.now c.now.b.now c.now.places.positions.now (map node_of nodes.new.items)) }
+    ensures told { Tells (λ _. map node_of nodes.new.items) result
+        (node_added (context_in c.now) node (map node_of nodes.old.items) (node_text_in (view value))) }
+    ensures lawful { OnOk result
+        (AreNodesOf c.now.a.now c.now.b.now c.now.places.positions.now (map node_of nodes.old.items)
+        → AreNodesOf c.now.a.now c.now.b.now c.now.places.positions.now (map node_of nodes.new.items)) }
     ensures count { OnOk result (length nodes.new.items ≡ length nodes.old.items + 1) }
     ensures last { OnOk result (AreLast c.now.places last.new.items) }
 {
@@ -206,13 +216,15 @@ fn push_value(
     pushed
 }
 
-/// The nodes of a file, in order. Each value is let go when its node is read, so that values and nodes are never all there at once.
+/// The nodes of a file, in order. Each value is let go when its node is read, so that values and nodes are never all there at
+/// once.
 pub fn read_nodes(alloc: Global, c: &Context<'_>, values: Vec<Value>) -> Result<Vec<Node>, Stop>
     requires pairing { c.now.pairing.now ≡ c.now.places.positions.now }
     requires shape { are_nodes (items_view values.items) ≡ true }
     requires few { some_has_many (items_view values.items) ≡ false }
     requires count { length values.items ≤ most_nodes }
-    ensures told { Tells (λ ns. map node_of ns.items) result (nodes_read (context_in c.now) 0 [] (node_texts (items_view values.items))) }
+    ensures told { Tells (λ ns. map node_of ns.items) result
+        (nodes_read (context_in c.now) 0 [] (node_texts (items_view values.items))) }
     ensures of { IfOk result (λ ns. AreNodesOf c.now.a.now c.now.b.now c.now.places.positions.now (map node_of ns.items)) }
     ensures count { IfOk result (λ ns. length ns.items ≡ length values.items) }
 {

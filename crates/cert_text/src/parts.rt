@@ -3,7 +3,8 @@
 ghost use Rattle.std.specs.Prelude.{◌≡◌, option_map, option_and_then};
 ghost use Rattle.serde_json.specs.Find.{get, as_array, as_object};
 ghost use Rattle.serde_json.specs.View.{view, items_view, members_view};
-ghost use Rattle.cert_text.specs.Parts.{text_of as text_in, text_at as text_under, number_at as number_under, items_or_none};
+ghost use Rattle.cert_text.specs.JsonParts.{text_of as text_in, text_at as text_under, json_number as number_under};
+ghost use Rattle.cert_text.specs.JsonParts.{items_or_none};
 
 use serde_json::{Map, Value};
 use std::alloc::Global;

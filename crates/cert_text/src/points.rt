@@ -5,23 +5,24 @@ ghost use Rattle.std.specs.List.{list_any};
 ghost use Rattle.fs_cut.specs.Paths.{is_point};
 ghost use Rattle.fs_cut.specs.Covers.{same_point as same};
 ghost use Rattle.fs_cut.specs.View.{point_of};
-ghost use Rattle.certificates.specs.View.{node_of};
-ghost use Rattle.cert_text.specs.Answers.{Tells};
-ghost use Rattle.cert_text.specs.Tables.{number_in};
-ghost use Rattle.cert_text.specs.Points.{point_named as named, known_point as known, cut_point as cut, is_at as stands_at, noted, points_read};
+ghost use Rattle.cert_model.specs.View.{node_of};
+ghost use Rattle.cert_text.specs.PartAnswers.{Tells};
+ghost use Rattle.cert_text.specs.NameTables.{name_number};
+ghost use Rattle.cert_text.specs.NodePointNames.{point_named as named, known_point as known, cut_point as cut};
+ghost use Rattle.cert_text.specs.NodePointNames.{node_is_at as stands_at, noted, points_read};
 ghost use Rattle.cert_text.specs.View.{states_in};
 
 use crate::context::Context;
 use crate::faults::{CertError, Stop};
 use crate::table::{NameTable, number_of};
-use certificates::cert::Node;
+use cert_model::cert::Node;
 use fs_ast::machine::Machine;
 use fs_cut::cover::Point;
 use fs_model::parts::StateId;
 
 // The point of a text, if there is one.
 fn point_named(states: &NameTable<'_>, text: &[u8]) -> Option<Point>
-    ensures { option_map point_of result ≡ named (number_in states.now) text.now }
+    ensures { option_map point_of result ≡ named (name_number states.now) text.now }
 {
     if text == b"start".as_slice() {
         return Some(Point::Start);
@@ -37,7 +38,7 @@ fn point_named(states: &NameTable<'_>, text: &[u8]) -> Option<Point>
 
 // The point of a text of a node.
 fn known_point(node: u32, states: &NameTable<'_>, text: &[u8]) -> Result<Point, Stop>
-    ensures { Tells point_of result (known node (named (number_in states.now) text.now)) }
+    ensures { Tells point_of result (known node (named (name_number states.now) text.now)) }
 {
     match point_named(states, text) {
         Some(point) => Ok(point),
@@ -109,7 +110,8 @@ fn free_points(
     left: Point,
     right: Point,
 ) -> Result<(Point, Point), Stop>
-    ensures told { Tells (λ P. (point_of P.0, point_of P.1)) result (noted node (map node_of earlier.now) (point_of left) (point_of right)) }
+    ensures told { Tells (λ P. (point_of P.0, point_of P.1)) result
+        (noted node (map node_of earlier.now) (point_of left) (point_of right)) }
     ensures free { IfOk result (λ P. list_any (stands_at (point_of P.0) (point_of P.1)) (map node_of earlier.now) ≡ false) }
     ensures same { IfOk result (λ P. P ≡ (left, right)) }
 {
@@ -120,7 +122,7 @@ fn free_points(
 }
 
 /// The points of a node behind earlier ones.
-#[tactic(auto, unfolding(crate::specs::Points::points_read))]
+#[tactic(auto, unfolding(crate::specs::NodePointNames::points_read))]
 pub fn read_points(
     c: &Context<'_>,
     node: u32,
@@ -128,7 +130,8 @@ pub fn read_points(
     left: &[u8],
     right: &[u8],
 ) -> Result<(Point, Point), Stop>
-    ensures told { Tells (λ P. (point_of P.0, point_of P.1)) result (points_read node (states_in c.now) (map node_of earlier.now) left.now right.now) }
+    ensures told { Tells (λ P. (point_of P.0, point_of P.1)) result
+        (points_read node (states_in c.now) (map node_of earlier.now) left.now right.now) }
     ensures free { IfOk result (λ P. list_any (stands_at (point_of P.0) (point_of P.1)) (map node_of earlier.now) ≡ false) }
     ensures left { IfOk result (λ P. is_point c.now.a.now (point_of P.0) ≡ true) }
     ensures right { IfOk result (λ P. is_point c.now.b.now (point_of P.1) ≡ true) }

@@ -3,11 +3,11 @@
 ghost use Rattle.std.specs.Prelude.{◌≡◌, true, false, map, IfOk, IfErr};
 ghost use Rattle.serde_json.specs.View.{view};
 ghost use Rattle.fs_pair.specs.Positions.{positions};
-ghost use Rattle.certificates.specs.Lawful.{IsLawful};
-ghost use Rattle.certificates.specs.View.{node_of};
+ghost use Rattle.cert_model.specs.Lawful.{IsLawful};
+ghost use Rattle.cert_model.specs.View.{node_of};
 ghost use Rattle.cert_json.specs.Shape.{is_file, has_too_many};
-ghost use Rattle.cert_text.specs.Refusals.{TellsNodes, SpellsNodes, IsRefused};
-ghost use Rattle.cert_text.specs.Answers.{error_of_file as error_from_file, error_of as error_from};
+ghost use Rattle.cert_text.specs.Refusals.{TellsNodes, SpellsNodes, IsRefusedAsCertificate};
+ghost use Rattle.cert_text.specs.PartAnswers.{error_of_file as error_from_file, error_of as error_from};
 
 use crate::context::context_of;
 use crate::faults::{CertError, Stop};
@@ -15,14 +15,14 @@ use crate::nodes::read_nodes;
 use crate::parts::{number_at, take_items};
 use cert_json::faults::FileError;
 use cert_json::reader::read_file;
-use certificates::cert::Cert;
+use cert_model::cert::Cert;
 use fs_ast::machine::Machine;
 use fs_pair::positions::Pairing;
 use serde_json::Value;
 use std::alloc::Global;
 
 // The certificate of a file, of which the nodes are taken out.
-#[tactic(auto, using(crate::proofs::Contexts::come_to, crate::proofs::Shapes::nodes_shaped, crate::proofs::Shapes::conditions_few, crate::proofs::Shapes::nodes_few, crate::proofs::LawfulNodes::lawful))]
+#[tactic(auto, using(crate::proofs::Contexts::come_to, crate::proofs::Shapes::file_shapes, crate::proofs::LawfulNodes::lawful))]
 fn read_value(
     alloc: Global,
     value: &mut Value,
@@ -84,7 +84,7 @@ pub fn read_cert(
     requires { p.now ≡ positions a.now b.now }
     ensures spelled { IfOk result (λ c. SpellsNodes a.now b.now bytes.now (map node_of c.nodes.items)) }
     ensures lawful { IfOk result (λ c. IsLawful a.now b.now (map node_of c.nodes.items)) }
-    ensures refused { IfErr result (λ e. IsRefused a.now b.now bytes.now e) }
+    ensures refused { IfErr result (λ e. IsRefusedAsCertificate a.now b.now bytes.now e) }
 {
     let mut value = match read_file(alloc, bytes) {
         Ok(value) => value,

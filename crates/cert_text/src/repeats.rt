@@ -2,9 +2,9 @@
 
 ghost use Rattle.std.specs.Prelude.{◌≡◌, ◌<◌, length, option_map, IfOk, IfSome, OnOk};
 ghost use Rattle.nf_terms.specs.Forms.{sort_of_form};
-ghost use Rattle.cert_text.specs.Answers.{Tells};
-ghost use Rattle.cert_text.specs.Judged.{texts_by};
-ghost use Rattle.cert_text.specs.Reading.{text_read, sort_at as sort_of_place};
+ghost use Rattle.cert_text.specs.PartAnswers.{Tells};
+ghost use Rattle.cert_text.specs.TextFunctions.{texts_by};
+ghost use Rattle.cert_text.specs.CertificateReading.{text_read, sort_at as sort_of_place};
 ghost use Rattle.cert_text.specs.Repeats.{IsReadAs, last_at, AreLast};
 ghost use Rattle.cert_text.specs.View.{find_of};
 ghost use Rattle.cert_text.specs.Within.{FormWithin};
@@ -112,7 +112,8 @@ pub fn read_at(
 ) -> Result<Nf, Stop>
     requires place { place < length places.now.positions.now }
     requires last { AreLast places.now last.old.items }
-    ensures told { Tells (λ f. f) result (text_read node ((texts_by (find_of places.now)).term (sort_of_place places.now.positions.now place) text.now)) }
+    ensures told { Tells (λ f. f) result
+        (text_read node ((texts_by (find_of places.now)).term (sort_of_place places.now.positions.now place) text.now)) }
     ensures sort { IfOk result (λ f. sort_of_form f ≡ sort_of_place places.now.positions.now place) }
     ensures within { IfOk result (FormWithin (find_of places.now)) }
     ensures last { OnOk result (AreLast places.now last.new.items) }

@@ -3,7 +3,7 @@
 ghost use Rattle.std.specs.Prelude.{◌≡◌, ◌<◌, ◌^◌, ◌∷◌, ℕ, List, cond, None, Some, length, map, IfOk, OnOk};
 ghost use Rattle.std.specs.Option.{is_some};
 ghost use Rattle.std.specs.Str.{bytes_eq};
-ghost use Rattle.cert_text.specs.Tables.{number_in, HasFirst};
+ghost use Rattle.cert_text.specs.NameTables.{name_number, HasFirst};
 
 use indexmap::IndexMap;
 use nf_terms::stop::NoMemory;
@@ -54,7 +54,7 @@ pub struct NameTable<'a> {
 
 /// The number of a name; the empty name has none.
 pub fn number_of(table: &NameTable<'_>, name: &[u8]) -> Option<u32>
-    ensures { result ≡ number_in table.now name.now }
+    ensures { result ≡ name_number table.now name.now }
 {
     if name.is_empty() {
         return None;
@@ -67,7 +67,9 @@ pub fn number_of(table: &NameTable<'_>, name: &[u8]) -> Option<u32>
 
 // Puts the number of a name that stands for the first time.
 fn put_first<'a>(table: &mut NameTable<'a>, name: &'a [u8], number: u32) -> Result<(), NoMemory>
-    ensures { OnOk result ((c : ℕ) → (cs : List ℕ) → number_in table.new (c ∷ cs) ≡ cond (is_some (number_in table.old (c ∷ cs))) (number_in table.old (c ∷ cs)) (cond (bytes_eq name.now (c ∷ cs)) (Some number) None)) }
+    ensures { OnOk result
+        ((c : ℕ) → (cs : List ℕ) → name_number table.new (c ∷ cs) ≡ cond (is_some (name_number table.old (c ∷ cs)))
+        (name_number table.old (c ∷ cs)) (cond (bytes_eq name.now (c ∷ cs)) (Some number) None)) }
 {
     let key = NameKey { bytes: name };
     if table.numbers.contains_key(&key) {

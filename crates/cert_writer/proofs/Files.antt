@@ -1,8 +1,10 @@
 -- What a certificate is written as has the form of one, and no float; its text reads as it.
 use Rattle.std.proofs.Common.{◌≡◌, ℕ, suc, ◌≤◌, Bool, true, false, cond, List, [], ◌∷◌, map, length, Some, IsUtf8, refl, ap, ◌∙◌, arith}
-use Rattle.std.specs.Prelude.{nat_le, nat_lt}
+use Rattle.std.specs.Prelude.{nat_le}
 use Rattle.std.specs.List.{list_all, list_any, AllByRecursion}
-use Rattle.std.proofs.lemmas.Bool.Decides.{nat_tests}
+use Rattle.std.proofs.lemmas.Bool.{and_from, le-ltb}
+use Rattle.base_lemmas.proofs.Booleans.{and_first, and_second}
+use Rattle.base_lemmas.proofs.Lists.{length_map}
 use Rattle.serde_json.specs.Data.{Data, depth, items_depth, members_depth}
 use Rattle.serde_json.specs.Events.{items_len}
 use Rattle.serde_json.specs.Read.{read}
@@ -10,18 +12,17 @@ use Rattle.serde_json.specs.Written.{has_float, items_have_float, members_have_f
 use Rattle.serde_json.proofs.OnLiterals.{serde_json_on_literals}
 use Rattle.fs_model.specs.Machines.{Fsmd}
 use Rattle.fs_pair.specs.declared.positions.Position.{Position}
-use Rattle.bisimulation.specs.declared.mode.Mode.{Mode}
-use Rattle.bisimulation.specs.declared.mode.Mode.TheVariants as mode
-use Rattle.bisimulation.specs.Tables.{Node}
-use Rattle.nf_terms.proofs.Tests.{and_left, and_right, and_both}
+use Rattle.cert_bisimulation.specs.declared.mode.Mode.{Mode}
+use Rattle.cert_bisimulation.specs.declared.mode.Mode.TheVariants as mode
+use Rattle.cert_bisimulation.specs.Tables.{Node}
 use Rattle.sym_facts.specs.Facts.{Fact}
-use Rattle.certificates.specs.Lawful.{IsLawful}
+use Rattle.cert_model.specs.Lawful.{IsLawful}
 use Rattle.cert_json.specs.Shape.{are_texts, name_texts, is_mode_name, is_node, are_nodes, is_format, is_file, has_many_conditions, some_has_many, has_too_many}
 use Rattle.cert_json.specs.Refusals.{IsFileOf}
-use Rattle.cert_json.specs.Written.{NodeText, texts, named_texts, node_data, nodes_data, file_data}
-use Rattle.cert_writer.specs.Names.{name_of, is_port}
-use Rattle.cert_writer.specs.Written.{literal_written, mode_written, node_written, format_of, file_written}
-use Rattle.cert_writer.specs.View.{IsKept}
+use Rattle.cert_json.specs.WrittenJson.{NodeText, texts, named_texts, node_data, nodes_data, file_data}
+use Rattle.cert_writer.specs.PositionNames.{name_of, is_port}
+use Rattle.cert_writer.specs.WrittenCertificates.{literal_bytes, mode_written, node_written, needed_format, file_written}
+use Rattle.cert_model.specs.Kept.{HasNormalFact}
 
 -- ---- no float
 
@@ -87,7 +88,8 @@ nodes_shape : (a b : Fsmd) (ns : List (Node Fact)) → list_all (λ n. nat_le n.
 nodes_shape a b [] h = refl
 nodes_shape a b (n ∷ ns) h =
     let rest = list_all (λ (k : Node Fact). nat_le k.rank 4096) ns in
-    and_both (is_node (node_data (node_written a b n))) (are_nodes (nodes_data (map (node_written a b) ns))) (node_shape (node_written a b n) (mode_shape n.mode) (and_left (nat_le n.rank 4096) rest h)) (nodes_shape a b ns (and_right (nat_le n.rank 4096) rest h))
+    and_from (is_node (node_data (node_written a b n))) (are_nodes (nodes_data (map (node_written a b) ns)))
+    (node_shape (node_written a b n) (mode_shape n.mode) (and_first (nat_le n.rank 4096) rest h)) (nodes_shape a b ns (and_second (nat_le n.rank 4096) rest h))
 
 format_shape : (t : Bool) → is_format (Some (cond t 2 1)) ≡ true
 format_shape true = refl
@@ -107,33 +109,31 @@ nodes_len : (ns : List NodeText) → items_len (nodes_data ns) ≡ length ns
 nodes_len [] = refl
 nodes_len (n ∷ ns) = ap suc (nodes_len ns)
 
-length_map : {X Y : Type 0} (f : X → Y) (xs : List X) → length (map f xs) ≡ length xs
-length_map f [] = refl
-length_map f (x ∷ xs) = ap suc (length_map f xs)
-
-not_above : (limit n : ℕ) → n ≤ limit → nat_lt limit n ≡ false
-not_above limit n h = grind (arith, nat_tests)
-
-node_few : (a b : Fsmd) (n : Node Fact) → IsKept n → has_many_conditions (node_data (node_written a b n)) ≡ false
+node_few : (a b : Fsmd) (n : Node Fact) → HasNormalFact n → has_many_conditions (node_data (node_written a b n)) ≡ false
 unfolding serde_json_on_literals
-node_few a b n k = let ss = (node_written a b n).conds in not_above 64 (items_len (texts ss)) (omega (arith, texts_len ss, length_map (literal_written (name_of a b)) n.fact.literals, k.fact.few))
+node_few a b n k = let ss = (node_written a b n).conds in
+    le-ltb 64 (items_len (texts ss)) (omega (arith, texts_len ss, length_map (literal_bytes (name_of a b)) n.fact.literals, k.fact.few))
 
-nodes_few : (a b : Fsmd) (ns : List (Node Fact)) → AllByRecursion IsKept ns → some_has_many (nodes_data (map (node_written a b) ns)) ≡ false
+nodes_few : (a b : Fsmd) (ns : List (Node Fact)) → AllByRecursion HasNormalFact ns → some_has_many (nodes_data (map (node_written a b) ns)) ≡ false
 nodes_few a b [] h = refl
 nodes_few a b (n ∷ ns) h = rw (node_few a b n h.0, nodes_few a b ns h.1) refl
 
-file_few : (a b : Fsmd) (ps : List Position) (ns : List (Node Fact)) → length ns ≤ 4096 → AllByRecursion IsKept ns → has_too_many (file_written a b ps ns) ≡ false
+file_few : (a b : Fsmd) (ps : List Position) (ns : List (Node Fact)) → length ns ≤ 4096 → AllByRecursion HasNormalFact ns
+    → has_too_many (file_written a b ps ns) ≡ false
 unfolding serde_json_on_literals
-file_few a b ps ns l h = let ds = map (node_written a b) ns in rw (not_above 4096 (items_len (nodes_data ds)) (omega (arith, nodes_len ds, length_map (node_written a b) ns, l)), nodes_few a b ns h) refl
+file_few a b ps ns l h = let ds = map (node_written a b) ns in
+    rw (le-ltb 4096 (items_len (nodes_data ds)) (omega (arith, nodes_len ds, length_map (node_written a b) ns, l)), nodes_few a b ns h) refl
 
 -- ---- the file
 
-pub text_is : (a b : Fsmd) (ps : List Position) (ns : List (Node Fact)) (bytes : List ℕ) (d : Data) → d ≡ file_written a b ps ns → (has_float d ≡ false → bytes ≡ compact_text d) → bytes ≡ compact_text (file_written a b ps ns)
-text_is a b ps ns bytes d e text = text (ap has_float e ∙ file_no_float (format_of ps) (map (node_written a b) ns)) ∙ ap compact_text e
+pub text_is : (a b : Fsmd) (ps : List Position) (ns : List (Node Fact)) (bytes : List ℕ) (d : Data) → d ≡ file_written a b ps ns
+    → (has_float d ≡ false → bytes ≡ compact_text d) → bytes ≡ compact_text (file_written a b ps ns)
+text_is a b ps ns bytes d e text = text (ap has_float e ∙ file_no_float (needed_format ps) (map (node_written a b) ns)) ∙ ap compact_text e
 
-pub is_file_of : (a b : Fsmd) (ps : List Position) (ns : List (Node Fact)) → IsLawful a b ns → AllByRecursion IsKept ns → (bytes : List ℕ) (d : Data) → d ≡ file_written a b ps ns → IsUtf8 bytes → (depth d ≤ 127 → read bytes ≡ Some d) → IsFileOf bytes (file_written a b ps ns)
+pub is_file_of : (a b : Fsmd) (ps : List Position) (ns : List (Node Fact)) → IsLawful a b ns → AllByRecursion HasNormalFact ns → (bytes : List ℕ) (d : Data)
+    → d ≡ file_written a b ps ns → IsUtf8 bytes → (depth d ≤ 127 → read bytes ≡ Some d) → IsFileOf bytes (file_written a b ps ns)
 is_file_of a b ps ns lawful kept bytes d e utf8 back = record {
-  json = record { text = utf8; value = back (omega (arith, ap depth e, file_flat (format_of ps) (map (node_written a b) ns))) ∙ ap Some e };
+  json = record { text = utf8; value = back (omega (arith, ap depth e, file_flat (needed_format ps) (map (node_written a b) ns))) ∙ ap Some e };
   shape = file_shape a b ps ns lawful.ranks;
   few = file_few a b ps ns lawful.few kept;
 }

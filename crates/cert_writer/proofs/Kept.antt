@@ -2,7 +2,7 @@
 use Rattle.std.proofs.Common.{◌≡◌, ℕ, suc, ◌+◌, ◌<◌, true, List, ◌∷◌, map, length, drop, get_or, sym, ap, ◌∙◌, subst, arith}
 use Rattle.std.specs.List.{list_all}
 use Rattle.std.proofs.Math.Seq.{drop-cons}
-use Rattle.nf_terms.proofs.Tests.{and_left, and_right}
+use Rattle.base_lemmas.proofs.Booleans.{and_first, and_second}
 use Rattle.nf_rel.specs.declared.literals.NLit.{NLit}
 use Rattle.nf_rel.specs.Literals.{NormalLiteral, True, False, Is}
 use Rattle.nf_rel.specs.View.{literal_in}
@@ -19,5 +19,7 @@ pub next_kept : (ls : List NLit) (k : ℕ) (l : NLit) → k < length ls → l �
 next_kept ls k l h e f =
     let n : suc k ≡ k + 1 = omega arith in
     let more : drop k ls ≡ l ∷ drop (k + 1) ls = drop-cons ls k l h ∙ ap (λ x. x ∷ drop (suc k) ls) (sym e) ∙ ap (λ j. l ∷ drop j ls) n in
-    let g : list_all may_be_kept (map literal_in (l ∷ drop (k + 1) ls)) ≡ true = subst (λ xs. list_all may_be_kept (map literal_in xs) ≡ true) more f in
-    (and_left (may_be_kept (literal_in l)) (list_all may_be_kept (map literal_in (drop (k + 1) ls))) g, and_right (may_be_kept (literal_in l)) (list_all may_be_kept (map literal_in (drop (k + 1) ls))) g)
+    let g : list_all may_be_kept (map literal_in (l ∷ drop (k + 1) ls)) ≡ true = subst (λ xs. list_all may_be_kept (map literal_in xs) ≡ true) more f in (
+      and_first (may_be_kept (literal_in l)) (list_all may_be_kept (map literal_in (drop (k + 1) ls))) g,
+      and_second (may_be_kept (literal_in l)) (list_all may_be_kept (map literal_in (drop (k + 1) ls))) g,
+    )

@@ -10,5 +10,7 @@ view_text : (s : String Global) → view (Text s) ≡ string (string_bytes s)
 view_text s = search (rules, the_lemmas)
 
 -- an insertion of a text puts it under its key
-pub text_put : (old new : List (String Global × Value)) (key text : String Global) → new ≡ insert_entry string_cmp old key (Text text) → members_view new ≡ put (string_bytes key) (string (string_bytes text)) (members_view old)
-text_put old new key text e = ap members_view e ∙ members_view-insert_entry old key (Text text) ∙ ap (λ d. put (string_bytes key) d (members_view old)) (view_text text)
+pub text_put : (old new : List (String Global × Value)) (key text : String Global) → new ≡ insert_entry string_cmp old key (Text text)
+    → members_view new ≡ put (string_bytes key) (string (string_bytes text)) (members_view old)
+text_put old new key text e = ap members_view e ∙ members_view-insert_entry old key (Text text)
+    ∙ ap (λ d. put (string_bytes key) d (members_view old)) (view_text text)

@@ -4,40 +4,48 @@ use Rattle.std.specs.Prelude.{nat_le, slice_get, IsTrue}
 use Rattle.std.specs.List.{list_all}
 use Rattle.std.proofs.lemmas.Bool.Decides.{nat_tests}
 use Rattle.std.proofs.lemmas.Str.{IsUtf8-from_ascii}
+use Rattle.std.proofs.lemmas.Bool.{or_left}
+use Rattle.base_lemmas.proofs.Booleans.{and_first, and_second}
 use Rattle.fs_model.specs.declared.parts.VarInfo.{VarInfo}
 use Rattle.fs_model.specs.Words.{is_name, is_word, is_word_byte, is_letter, is_reserved}
 use Rattle.fs_model.specs.Machines.{Fsmd}
-use Rattle.fs_ast.specs.Sound.{IsSound}
-use Rattle.nf_terms.specs.declared.tree.Pos.{Pos}
-use Rattle.nf_terms.specs.declared.tree.Side.{Side}
-use Rattle.nf_terms.specs.declared.tree.Side.TheVariants as sides
+use Rattle.fs_ast.specs.SoundMachines.{IsSound}
+use Rattle.fs_model.specs.declared.sides.Pos.{Pos}
+use Rattle.fs_model.specs.declared.sides.Side.{Side}
+use Rattle.fs_model.specs.declared.sides.Side.TheVariants as sides
 use Rattle.nf_terms.specs.declared.form.Nf.{Nf}
 use Rattle.nf_terms.specs.declared.form.Nf.TheVariants.{Num, Arr, Seq}
-use Rattle.nf_terms.proofs.Tests.{and_left, and_right, or_left}
 use Rattle.nf_rel.specs.Literals.{NormalLiteral}
 use Rattle.fs_pair.specs.Partners.{variables_on}
-use Rattle.term_text.specs.Texts.{symbol_text}
-use Rattle.term_writer.proofs.Plain.{is_plain, ArePlain, words_plain, symbol_plain, polynomial_text_plain, array_text_plain, list_text_plain, condition_text_plain}
-use Rattle.cert_writer.specs.Names.{name_or_empty, name_of}
-use Rattle.cert_writer.specs.Written.{form_written, literal_written}
+use Rattle.term_text.specs.TermTexts.{symbol_text}
+use Rattle.term_writer.proofs.Plain.{is_plain, ArePlain, words_plain, symbol_plain, polynomial_text_plain, array_text_plain, list_text_plain}
+use Rattle.term_writer.proofs.Plain.{condition_text_plain}
+use Rattle.cert_writer.specs.PositionNames.{name_or_empty, name_of}
+use Rattle.cert_writer.specs.WrittenCertificates.{form_written, literal_bytes}
 
 -- ---- names
 
 word_all : (x : List ℕ) → is_word x ≡ true → list_all is_word_byte x ≡ true
 word_all [] e = refl
-word_all (b ∷ bs) e = rw (or_left (is_letter b) _ (and_left (is_letter b) (list_all is_word_byte bs) e), and_right (is_letter b) (list_all is_word_byte bs) e) refl
+word_all (b ∷ bs) e = rw (
+  or_left (is_letter b) _ (and_first (is_letter b) (list_all is_word_byte bs) e),
+  and_second (is_letter b) (list_all is_word_byte bs) e,
+) refl
 
 pub name_plain : (x : List ℕ) → is_name x ≡ true → ArePlain x
-name_plain x e = words_plain x (word_all x (and_left (is_word x) (nat_le (length x) 32) (and_left (is_word x && nat_le (length x) 32) (not (is_reserved x)) e)))
+name_plain x e =
+    words_plain x (word_all x (and_first (is_word x) (nat_le (length x) 32) (and_first (is_word x && nat_le (length x) 32) (not (is_reserved x)) e)))
 
 pub name_short : (x : List ℕ) → is_name x ≡ true → length x ≤ 32
-name_short x e = let h = and_right (is_word x) (nat_le (length x) 32) (and_left (is_word x && nat_le (length x) 32) (not (is_reserved x)) e) in grind (arith, nat_tests)
+name_short x e = let h = and_second (is_word x) (nat_le (length x) 32) (and_first (is_word x && nat_le (length x) 32) (not (is_reserved x)) e) in
+    grind (arith, nat_tests)
 
 -- what holds of names and of the empty one holds of each variable's
-of_variables : (P : List ℕ → Type 0) → P [] → ((x : List ℕ) → is_name x ≡ true → P x) → (vs : List VarInfo) (k : ℕ) → list_all (λ v. is_name v.name) vs ≡ true → P (name_or_empty (slice_get vs k))
+of_variables : (P : List ℕ → Type 0) → P [] → ((x : List ℕ) → is_name x ≡ true → P x) → (vs : List VarInfo) (k : ℕ) → list_all (λ v. is_name v.name) vs ≡ true
+    → P (name_or_empty (slice_get vs k))
 of_variables P none some [] k e = none
-of_variables P none some (v ∷ vs) zero e = some v.name (and_left (is_name v.name) (list_all (λ (u : VarInfo). is_name u.name) vs) e)
-of_variables P none some (v ∷ vs) (suc k) e = of_variables P none some vs k (and_right (is_name v.name) (list_all (λ (u : VarInfo). is_name u.name) vs) e)
+of_variables P none some (v ∷ vs) zero e = some v.name (and_first (is_name v.name) (list_all (λ (u : VarInfo). is_name u.name) vs) e)
+of_variables P none some (v ∷ vs) (suc k) e = of_variables P none some vs k (and_second (is_name v.name) (list_all (λ (u : VarInfo). is_name u.name) vs) e)
 
 of_names : (P : List ℕ → Type 0) → P [] → ((x : List ℕ) → is_name x ≡ true → P x) → (a b : Fsmd) → IsSound a → IsSound b → (p : Pos) → P (name_of a b p)
 of_names P none some a b s t p = by_side p.side
@@ -62,7 +70,7 @@ form_plain a b s t (Seq l) = list_text_plain (name_of a b) (names_plain a b s t)
 pub key_plain : (a b : Fsmd) → IsSound a → IsSound b → (p : Pos) → ArePlain (symbol_text p.side (name_of a b p))
 key_plain a b s t p = symbol_plain p.side (name_of a b p) (names_plain a b s t p)
 
-pub literal_plain : (a b : Fsmd) → IsSound a → IsSound b → (l : NormalLiteral) → ArePlain (literal_written (name_of a b) l)
+pub literal_plain : (a b : Fsmd) → IsSound a → IsSound b → (l : NormalLiteral) → ArePlain (literal_bytes (name_of a b) l)
 literal_plain a b s t l = condition_text_plain (name_of a b) (names_plain a b s t) l
 
 -- ---- UTF-8
@@ -72,8 +80,8 @@ low b e = grind (arith, nat_tests)
 
 ascii : (bs : List ℕ) → ArePlain bs → (i : ℕ) → get_or bs i 0 < 128
 ascii [] e i = omega arith
-ascii (b ∷ bs) e zero = low b (and_left (is_plain b) (list_all is_plain bs) e)
-ascii (b ∷ bs) e (suc i) = ascii bs (and_right (is_plain b) (list_all is_plain bs) e) i
+ascii (b ∷ bs) e zero = low b (and_first (is_plain b) (list_all is_plain bs) e)
+ascii (b ∷ bs) e (suc i) = ascii bs (and_second (is_plain b) (list_all is_plain bs) e) i
 
 plain_utf8 : (bs xs : List ℕ) → bs ≡ xs → ArePlain xs → IsUtf8 bs
 plain_utf8 bs xs e h = IsUtf8-from_ascii bs (ascii bs (subst ArePlain (sym e) h))
@@ -88,5 +96,6 @@ form_utf8 a b s t f bs e = plain_utf8 bs _ e (form_plain a b s t f)
 pub symbol_utf8 : (a b : Fsmd) → IsSound a → IsSound b → (p : Pos) (old new : List ℕ) → old ≡ [] → new ≡ old ++ symbol_text p.side (name_of a b p) → IsUtf8 new
 symbol_utf8 a b s t p old new e f = plain_utf8 new _ (f ∙ ap (λ (xs : List ℕ). xs ++ symbol_text p.side (name_of a b p)) e) (key_plain a b s t p)
 
-pub literal_utf8 : (a b : Fsmd) → IsSound a → IsSound b → (l : NormalLiteral) (old new : List ℕ) → old ≡ [] → new ≡ old ++ literal_written (name_of a b) l → IsUtf8 new
-literal_utf8 a b s t l old new e f = plain_utf8 new _ (f ∙ ap (λ (xs : List ℕ). xs ++ literal_written (name_of a b) l) e) (literal_plain a b s t l)
+pub literal_utf8 : (a b : Fsmd) → IsSound a → IsSound b → (l : NormalLiteral) (old new : List ℕ) → old ≡ []
+    → new ≡ old ++ literal_bytes (name_of a b) l → IsUtf8 new
+literal_utf8 a b s t l old new e f = plain_utf8 new _ (f ∙ ap (λ (xs : List ℕ). xs ++ literal_bytes (name_of a b) l) e) (literal_plain a b s t l)

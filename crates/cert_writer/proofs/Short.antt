@@ -1,22 +1,23 @@
 -- Where each position has a short name, each symbol of a term has one; so forms and literals have short texts.
 use Rattle.std.proofs.Common.{ℕ, ◌+◌, ◌*◌, ◌≤◌, List, [], ◌∷◌, length, arith}
-use Rattle.nf_terms.specs.declared.tree.Pos.{Pos}
+use Rattle.std.proofs.lemmas.Bool.{and_parts}
+use Rattle.fs_model.specs.declared.sides.Pos.{Pos}
 use Rattle.nf_terms.specs.declared.tree.Base.{Base}
 use Rattle.nf_terms.specs.declared.tree.Base.TheVariants as bases
 use Rattle.nf_terms.specs.declared.tree.SeqBase.{SeqBase}
 use Rattle.nf_terms.specs.declared.tree.SeqBase.TheVariants as list_bases
 use Rattle.nf_terms.specs.declared.form.Nf.{Nf}
 use Rattle.nf_terms.specs.declared.form.Nf.TheVariants.{Num, Arr, Seq}
-use Rattle.nf_terms.specs.Terms as terms
+use Rattle.nf_terms.specs.NormalTerms as terms
 use Rattle.nf_terms.specs.Forms.{IsNormalForm, size_of_form}
 use Rattle.nf_terms.specs.Normal.{is_light, narrow_inside}
 use Rattle.nf_rel.specs.Literals.{NormalLiteral, True, False, Is}
 use Rattle.nf_rel.specs.NormalLiterals.{IsNormalLiteral, size_of_literal}
-use Rattle.term_writer.specs.Named.{IsShort, OfBase, OfAtom, OfMonomial, OfPolynomial, OfWrites, OfArray, OfListBase, OfItems, OfLiteral}
-use Rattle.term_writer.proofs.Bound.{both, polynomial_bound, array_bound}
+use Rattle.term_writer.specs.NamedSymbols.{IsShort, OfBase, OfAtom, OfMonomial, OfPolynomial, OfWrites, OfArray, OfListBase, OfItems, OfLiteral}
+use Rattle.term_writer.proofs.Bound.{polynomial_bound, array_bound}
 use Rattle.term_writer.proofs.ListTexts.{list_bound}
 use Rattle.term_writer.proofs.LiteralTexts.{literal_bound}
-use Rattle.cert_writer.specs.Written.{form_written, literal_written}
+use Rattle.cert_writer.specs.WrittenCertificates.{form_written, literal_bytes}
 
 module _ (name : Pos → List ℕ) (short : (p : Pos) → length (name p) ≤ 32) where
   base_short : (b : Base) → OfBase (IsShort name) b
@@ -59,9 +60,9 @@ module _ (name : Pos → List ℕ) (short : (p : Pos) → length (name p) ≤ 32
   literal_short (Is d k b) = polynomial_short d
 
   pub form_length : (f : Nf) → IsNormalForm f → length (form_written name f) ≤ 1 + 47 * size_of_form f
-  form_length (Num p) n = let l = both (is_light p) (narrow_inside p) n.narrow in polynomial_bound name p (polynomial_short p) l.0 l.1
+  form_length (Num p) n = let l = and_parts (is_light p) (narrow_inside p) n.narrow in polynomial_bound name p (polynomial_short p) l.0 l.1
   form_length (Arr a) n = omega (arith, array_bound name a (array_short a) n.narrow)
   form_length (Seq l) n = omega (arith, list_bound name l (list_base_short l.base, items_short l.items) n.items)
 
-  pub literal_length : (l : NormalLiteral) → IsNormalLiteral l → length (literal_written name l) + 3 ≤ 47 * size_of_literal l
+  pub literal_length : (l : NormalLiteral) → IsNormalLiteral l → length (literal_bytes name l) + 3 ≤ 47 * size_of_literal l
   literal_length l n = literal_bound name l (literal_short l) n

@@ -1,4 +1,4 @@
-pub mod Names
-pub mod Written
-pub mod Limits
+pub mod PositionNames
+pub mod WrittenCertificates
+pub mod CertificateLimits
 pub mod View

@@ -6,8 +6,8 @@ ghost use Rattle.serde_json.specs.Data.{array, string};
 ghost use Rattle.serde_json.specs.View.{view};
 ghost use Rattle.nf_rel.specs.View.{literal_in};
 ghost use Rattle.sym_facts.specs.Facts.{may_be_kept};
-ghost use Rattle.cert_json.specs.Written.{texts};
-ghost use Rattle.cert_writer.specs.Written.{literal_written};
+ghost use Rattle.cert_json.specs.WrittenJson.{texts};
+ghost use Rattle.cert_writer.specs.WrittenCertificates.{literal_bytes};
 ghost use Rattle.cert_writer.specs.View.{names_in};
 
 use crate::names::MachineNames;
@@ -22,7 +22,7 @@ use term_writer::writer::write_literal;
 #[tactic(auto, using(crate::proofs::Kept::not_true))]
 fn literal_text(alloc: Global, names: &MachineNames<'_>, literal: &NLit) -> Result<String, NoMemory>
     requires { may_be_kept (literal_in literal.now) ≡ true }
-    ensures { IfOk result (λ text. string_bytes text ≡ literal_written (names_in names.now) (literal_in literal.now)) }
+    ensures { IfOk result (λ text. string_bytes text ≡ literal_bytes (names_in names.now) (literal_in literal.now)) }
 {
     names.hold();
     let mut out = Vec::new(alloc);
@@ -33,7 +33,7 @@ fn literal_text(alloc: Global, names: &MachineNames<'_>, literal: &NLit) -> Resu
 // A literal that is not true.
 fn value_of(alloc: Global, names: &MachineNames<'_>, literal: &NLit) -> Result<Value, NoMemory>
     requires { may_be_kept (literal_in literal.now) ≡ true }
-    ensures { IfOk result (λ v. view v ≡ string (literal_written (names_in names.now) (literal_in literal.now))) }
+    ensures { IfOk result (λ v. view v ≡ string (literal_bytes (names_in names.now) (literal_in literal.now))) }
 {
     Ok(Value::String(literal_text(alloc, names, literal)?))
 }
@@ -45,7 +45,7 @@ pub fn conditions_value(
     literals: &[NLit],
 ) -> Result<Value, NoMemory>
     requires { IsTrue (list_all may_be_kept (map literal_in literals.now)) }
-    ensures { IfOk result (λ v. view v ≡ array (texts (map (literal_written (names_in names.now)) (map literal_in literals.now)))) }
+    ensures { IfOk result (λ v. view v ≡ array (texts (map (literal_bytes (names_in names.now)) (map literal_in literals.now)))) }
 {
     let mut out = Vec::new(alloc);
     for literal in literals {

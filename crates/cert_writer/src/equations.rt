@@ -6,9 +6,10 @@ ghost use Rattle.serde_json.specs.Data.{string, object, no_members, put as with_
 ghost use Rattle.serde_json.specs.View.{view, members_view};
 ghost use Rattle.nf_terms.specs.Forms.{IsNormalForm};
 ghost use Rattle.sym_facts.specs.View.{position_in};
-ghost use Rattle.term_text.specs.Texts.{symbol_text};
-ghost use Rattle.cert_writer.specs.Written.{form_written, with_equation, equations_written};
-ghost use Rattle.cert_writer.specs.View.{names_in, IsNormalEquation};
+ghost use Rattle.term_text.specs.TermTexts.{symbol_text};
+ghost use Rattle.cert_writer.specs.WrittenCertificates.{form_written, with_equation_member, equations_written};
+ghost use Rattle.cert_model.specs.Kept.{IsNormalEquation};
+ghost use Rattle.cert_writer.specs.View.{names_in};
 
 use crate::names::MachineNames;
 use crate::texts::text_of;
@@ -60,7 +61,9 @@ fn key_of(alloc: Global, names: &MachineNames<'_>, pos: Pos) -> Result<String, N
 // Puts a text under a key.
 #[tactic(auto, using(crate::proofs::Members::text_put))]
 fn put_text(members: &mut Map<String, Value>, key: String, text: String) -> Result<(), NoMemory>
-    ensures { OnOk result (members_view members.new.entries ≡ with_member (string_bytes key) (string (string_bytes text)) (members_view members.old.entries)) }
+    ensures { OnOk result
+        (members_view members.new.entries ≡ with_member (string_bytes key) (string (string_bytes text))
+        (members_view members.old.entries)) }
 {
     members.insert(key, Value::String(text))?;
     Ok(())
@@ -73,14 +76,16 @@ fn put_equation(
     members: &mut Map<String, Value>,
     position: &FactPosition,
 ) -> Result<(), NoMemory>
-    ensures put { OnOk result (members_view members.new.entries ≡ with_equation (names_in names.now) position.now.pos (position_in position.now).equation (members_view members.old.entries)) }
+    ensures put { OnOk result
+        (members_view members.new.entries ≡ with_equation_member (names_in names.now) position.now.pos
+        (position_in position.now).equation (members_view members.old.entries)) }
     ensures normal { OnOk result (IsNormalEquation (position_in position.now).equation) }
 {
     match &position.equation {
         None => Ok(()),
-        Some(form) => {
+        Some(shared) => {
             let key = key_of(alloc, names, position.pos)?;
-            let text = form_text(alloc, names, form)?;
+            let text = form_text(alloc, names, shared.form())?;
             put_text(members, key, text)
         }
     }
@@ -92,7 +97,8 @@ pub fn equations_value(
     names: &MachineNames<'_>,
     positions: &[FactPosition],
 ) -> Result<Value, NoMemory>
-    ensures written { IfOk result (λ v. view v ≡ object (equations_written (names_in names.now) no_members (map position_in positions.now))) }
+    ensures written { IfOk result
+        (λ v. view v ≡ object (equations_written (names_in names.now) no_members (map position_in positions.now))) }
     ensures normal { IfOk result (λ v. AllByRecursion (λ q. IsNormalEquation q.equation) (map position_in positions.now)) }
 {
     let mut members = Map::new(alloc);

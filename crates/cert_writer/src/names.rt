@@ -1,7 +1,7 @@
 //! The names of the positions of two machines.
 
 ghost use Rattle.std.specs.Prelude.{◌≡◌};
-ghost use Rattle.fs_ast.specs.Sound.{IsSound};
+ghost use Rattle.fs_ast.specs.SoundMachines.{IsSound};
 ghost use Rattle.fs_pair.specs.Partners.{variables_on as variables_of};
 
 use fs_ast::machine::Machine;
@@ -45,7 +45,7 @@ impl<'a> MachineNames<'a> {
         ensures left { IsSound self.now.a.now }
         ensures right { IsSound self.now.b.now }
     {
-        let _left = self.a.vars();
+        let _left = self.a.vars(); // These two calls tell the proof that both machines are sound.
         let _right = self.b.vars();
     }
 }

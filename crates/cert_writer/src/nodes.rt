@@ -6,17 +6,17 @@ ghost use Rattle.serde_json.specs.Data.{array};
 ghost use Rattle.serde_json.specs.View.{view};
 ghost use Rattle.fs_cut.specs.Paths.{is_point};
 ghost use Rattle.fs_cut.specs.View.{point_of};
-ghost use Rattle.certificates.specs.View.{node_of};
-ghost use Rattle.cert_json.specs.Written.{node_data, nodes_data};
-ghost use Rattle.cert_writer.specs.Written.{node_written};
-ghost use Rattle.cert_writer.specs.View.{IsKept};
+ghost use Rattle.cert_model.specs.View.{node_of};
+ghost use Rattle.cert_json.specs.WrittenJson.{node_data, nodes_data};
+ghost use Rattle.cert_writer.specs.WrittenCertificates.{node_written};
+ghost use Rattle.cert_model.specs.Kept.{HasNormalFact};
 
 use crate::conditions::conditions_value;
 use crate::equations::equations_value;
 use crate::names::MachineNames;
 use crate::points::{mode_text, point_text};
 use cert_json::written::node_value;
-use certificates::cert::Node;
+use cert_model::cert::Node;
 use nf_terms::stop::NoMemory;
 use serde_json::Value;
 use std::alloc::Global;
@@ -25,7 +25,7 @@ use std::alloc::Global;
 fn value_of(alloc: Global, names: &MachineNames<'_>, node: &Node) -> Result<Value, NoMemory>
     requires { IsTrue (is_point names.now.a.now (point_of node.now.left) && is_point names.now.b.now (point_of node.now.right)) }
     ensures written { IfOk result (λ v. view v ≡ node_data (node_written names.now.a.now names.now.b.now (node_of node.now))) }
-    ensures kept { IfOk result (λ v. IsKept (node_of node.now)) }
+    ensures kept { IfOk result (λ v. HasNormalFact (node_of node.now)) }
 {
     node.fact.holds();
     let conds = conditions_value(alloc, names, node.fact.conds())?;
@@ -50,9 +50,11 @@ pub fn nodes_value(
     names: &MachineNames<'_>,
     nodes: &[Node],
 ) -> Result<Value, NoMemory>
-    requires { IsTrue (list_all (λ n. is_point names.now.a.now n.left && is_point names.now.b.now n.right) (map node_of nodes.now)) }
-    ensures written { IfOk result (λ v. view v ≡ array (nodes_data (map (node_written names.now.a.now names.now.b.now) (map node_of nodes.now)))) }
-    ensures kept { IfOk result (λ v. AllByRecursion IsKept (map node_of nodes.now)) }
+    requires { IsTrue
+        (list_all (λ n. is_point names.now.a.now n.left && is_point names.now.b.now n.right) (map node_of nodes.now)) }
+    ensures written { IfOk result
+        (λ v. view v ≡ array (nodes_data (map (node_written names.now.a.now names.now.b.now) (map node_of nodes.now)))) }
+    ensures kept { IfOk result (λ v. AllByRecursion HasNormalFact (map node_of nodes.now)) }
 {
     let mut out = Vec::new(alloc);
     for node in nodes {

@@ -3,10 +3,10 @@
 ghost use Rattle.std.specs.Prelude.{◌≡◌, true};
 ghost use Rattle.fs_cut.specs.Paths.{is_point};
 ghost use Rattle.fs_cut.specs.View.{point_of};
-ghost use Rattle.cert_writer.specs.Written.{point_written, mode_written};
+ghost use Rattle.cert_writer.specs.WrittenCertificates.{point_written, mode_written};
 
 use crate::texts::name_text;
-use bisimulation::mode::Mode;
+use cert_bisimulation::mode::Mode;
 use fs_ast::machine::Machine;
 use fs_cut::cover::Point;
 

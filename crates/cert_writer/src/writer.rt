@@ -3,20 +3,20 @@
 ghost use Rattle.std.specs.Prelude.{◌≡◌, ◌≤◌, length, map, IfOk};
 ghost use Rattle.std.specs.List.{list_any, AllByRecursion};
 ghost use Rattle.serde_json.specs.View.{view};
-ghost use Rattle.fs_ast.specs.Sound.{IsSound};
+ghost use Rattle.fs_ast.specs.SoundMachines.{IsSound};
 ghost use Rattle.fs_pair.specs.Positions.{positions};
-ghost use Rattle.certificates.specs.Lawful.{IsLawful};
-ghost use Rattle.certificates.specs.View.{node_of};
+ghost use Rattle.cert_model.specs.Lawful.{IsLawful};
+ghost use Rattle.cert_model.specs.View.{node_of};
 ghost use Rattle.cert_json.specs.Refusals.{IsFileOf};
-ghost use Rattle.cert_writer.specs.Names.{is_port};
-ghost use Rattle.cert_writer.specs.Written.{format_of as format_by, file_written, certificate_text};
-ghost use Rattle.cert_writer.specs.Limits.{most_bytes};
-ghost use Rattle.cert_writer.specs.View.{IsKept};
+ghost use Rattle.cert_writer.specs.PositionNames.{is_port};
+ghost use Rattle.cert_writer.specs.WrittenCertificates.{needed_format as format_by, file_written, certificate_text};
+ghost use Rattle.cert_writer.specs.CertificateLimits.{most_bytes};
+ghost use Rattle.cert_model.specs.Kept.{HasNormalFact};
 
 use crate::names::MachineNames;
 use crate::nodes::nodes_value;
 use cert_json::written::file_value;
-use certificates::cert::Cert;
+use cert_model::cert::Cert;
 use fs_ast::machine::Machine;
 use fs_model::parts::Sort;
 use fs_pair::positions::{Pairing, Position};
@@ -53,7 +53,7 @@ fn value_of<'a>(
 ) -> Result<Value, NoMemory>
     requires { IsLawful a.now b.now (map node_of c.now.nodes.items) }
     ensures written { IfOk result (λ v. view v ≡ file_written a.now b.now p.now (map node_of c.now.nodes.items)) }
-    ensures kept { IfOk result (λ v. AllByRecursion IsKept (map node_of c.now.nodes.items)) }
+    ensures kept { IfOk result (λ v. AllByRecursion HasNormalFact (map node_of c.now.nodes.items)) }
     ensures left { IsSound a.now }
     ensures right { IsSound b.now }
 {
@@ -76,7 +76,8 @@ pub fn write_cert(
     requires paired { p.now ≡ positions a.now b.now }
     requires lawful { IsLawful a.now b.now (map node_of c.now.nodes.items) }
     ensures bytes { IfOk result (λ v. v.items ≡ certificate_text a.now b.now (map node_of c.now.nodes.items)) }
-    ensures file { IfOk result (λ v. IsFileOf v.items (file_written a.now b.now (positions a.now b.now) (map node_of c.now.nodes.items))) }
+    ensures file { IfOk result
+        (λ v. IsFileOf v.items (file_written a.now b.now (positions a.now b.now) (map node_of c.now.nodes.items))) }
     ensures short { IfOk result (λ v. length v.items ≤ most_bytes (map node_of c.now.nodes.items)) }
 {
     let value = value_of(alloc, c, a, b, p)?;

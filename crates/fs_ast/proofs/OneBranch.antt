@@ -1,16 +1,12 @@
 -- A state with one branch has one transition, which has no guard.
-use Rattle.std.proofs.Common.{◌≡◌, ℕ, ◌+◌, ◌≤◌, List, [], ◌∷◌, ◌++◌, length, ap, sym, refl, ◌∙◌, arith, Option, Some, None, Bool, true, false, length-append}
+use Rattle.std.proofs.Common.{◌≡◌, ℕ, ◌+◌, ◌≤◌, List, [], ◌∷◌, length, ap, sym, refl, ◌∙◌, arith, Option, Some, None, Bool, true, false}
 use Rattle.std.specs.Prelude.{not, ◌&&◌}
 use Rattle.std.specs.Option.{is_none}
-use Rattle.fs_model.proofs.Truth.{and_right}
-use Rattle.fs_model.specs.Terms.{Literal, Guard, Test, Not, And, Or, Transition}
-use Rattle.fs_model.specs.Trees.{Tree, Empty, Leaf, Node, Branch, tree_of_guard, tree_of_condition, tree_of_transitions, leaves, branches_of, count_leaves, negated}
-use Rattle.fs_ast.specs.Sound.{ends_open}
-
-pub length-leaves : (t : Tree) (way : List (Literal ℕ)) → length (leaves t way) ≡ count_leaves t
-length-leaves Empty way = refl
-length-leaves (Leaf assignments target) way = refl
-length-leaves (Node l y n) way = omega (arith, length-append (leaves y (way ++ l ∷ [])) (leaves n (way ++ negated l ∷ [])), length-leaves y (way ++ l ∷ []), length-leaves n (way ++ negated l ∷ []))
+use Rattle.base_lemmas.proofs.Booleans.{and_second}
+use Rattle.fs_model.specs.Terms.{Guard, Test, Not, And, Or, Transition}
+use Rattle.fs_model.specs.Trees.{Tree, Empty, Leaf, Branch, tree_of_guard, tree_of_condition, tree_of_transitions, leaves, branches_of, count_leaves}
+use Rattle.fs_ast.specs.SoundMachines.{ends_open}
+use Rattle.fs_ast.proofs.Leaves.{length_leaves}
 
 count-guard : (g : Guard ℕ) (y n : Tree) → count_leaves y + count_leaves n ≤ count_leaves (tree_of_guard g y n)
 count-guard (Test l) y n = omega arith
@@ -51,14 +47,15 @@ pub only_transition : (ls : List (Transition ℕ ℕ)) (b : Branch) → ends_ope
 only_transition [] b h e = absurd (cc)
 only_transition (l ∷ []) b h e =
     let g : l.guard ≡ None = open-guard l.guard h in
-    let f : branches_of (l ∷ []) ≡ record { literals = []; assignments = l.assignments; target = l.target } ∷ [] = ap (λ o. leaves (tree_of_condition o (Leaf l.assignments l.target) Empty) []) g in
+    let f : branches_of (l ∷ []) ≡ record { literals = []; assignments = l.assignments; target = l.target } ∷ [] =
+    ap (λ o. leaves (tree_of_condition o (Leaf l.assignments l.target) Empty) []) g in
     let same : record { literals = []; assignments = l.assignments; target = l.target } ≡ b = cc (sym f ∙ e) in
     record { line = l; alone = refl; unguarded = g; assignments = ap (λ x. x.assignments) same; target = ap (λ x. x.target) same }
 only_transition (l ∷ k ∷ rest) b h e =
     absurd (omega (
       arith,
       ap length e,
-      length-leaves (tree_of_transitions (l ∷ k ∷ rest)) [],
+      length_leaves (tree_of_transitions (l ∷ k ∷ rest)) [],
       count-guarded l.guard (Leaf l.assignments l.target) (tree_of_transitions (k ∷ rest)) (not-true (is_none l.guard) (ends_open (k ∷ rest)) h),
-      count-lines (k ∷ rest) (and_right (not (is_none l.guard)) (ends_open (k ∷ rest)) h),
+      count-lines (k ∷ rest) (and_second (not (is_none l.guard)) (ends_open (k ∷ rest)) h),
     ))

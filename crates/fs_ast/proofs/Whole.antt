@@ -3,6 +3,8 @@ use Rattle.std.proofs.Common.{◌≡◌, ℕ, zero, suc, ◌<◌, ◌≤◌, Boo
 use Rattle.std.specs.Prelude.{◌||◌, ◌==◌, nat_lt, Option, Some, None, Result, Ok, Err, IfOk, map, slice_get}
 use Rattle.std.specs.List.{list_all, flat_map, slice_index_or}
 use Rattle.std.specs.Option.{option_to_list}
+use Rattle.std.proofs.lemmas.Bool.{and_parts, ltb-true}
+use Rattle.base_lemmas.proofs.Lists.{element_at, length_map, map_map}
 use Rattle.fs_model.specs.declared.parts.VarInfo.{VarInfo}
 use Rattle.fs_model.specs.declared.parts.RawState.{RawState}
 use Rattle.fs_model.specs.Source.{SourceState, Source}
@@ -12,15 +14,15 @@ use Rattle.fs_model.specs.Trees.{branches_of}
 use Rattle.fs_rules.specs.declared.check.CheckRule.TheVariants.{EndlessLine}
 use Rattle.fs_rules.specs.declared.check.CheckFault.{CheckFault}
 use Rattle.fs_ast.specs.declared.resolve.State.{State as NumberedState}
-use Rattle.fs_rules.specs.Spelled.{variables_of, names_of, state_names, place, machine_of}
+use Rattle.fs_rules.specs.MachineOfParts.{variables_of, names_of, state_names, place, machine_of}
 use Rattle.fs_rules.specs.Sound.{first_transition_target, is_cutpoint, reaches_cutpoint}
 use Rattle.fs_rules.specs.Rules.{at_lines, branch_faults}
 use Rattle.fs_rules.specs.FirstFault.{sooner, earliest}
-use Rattle.fs_ast.specs.Resolved.{state_of, placed_of, placed_spelled, placed}
+use Rattle.fs_ast.specs.Resolved.{resolved_state, placed_of, placed_spelled, placed}
 use Rattle.fs_ast.specs.Shapes.{skeleton, forked_faults, endless_faults, LeadOn, IsFirstOfShapes}
 use Rattle.fs_rules.specs.Scoped.{IsScopeOf}
-use Rattle.fs_rules.proofs.Turns.{map_map, length_mapped, flat_map_map}
-use Rattle.fs_ast.proofs.Kept.{AreKept, count_variables, count_states, lead_on, both_true, below, get_there, no_state}
+use Rattle.fs_rules.proofs.Turns.{flat_map_map}
+use Rattle.fs_ast.proofs.Kept.{AreKept, count_variables, count_states, lead_on, no_state}
 
 -- ---- what was noted
 
@@ -41,7 +43,7 @@ pub few_stated : (p : Source) (vars : List VarInfo) (states : List RawState) →
 few_stated p vars states s k =
     let h = count_states p k in
     let e : length (map source_state_of states) ≡ length p.states = ap length s.stated in
-    let f : length (map source_state_of states) ≡ length states = length_mapped source_state_of states in
+    let f : length (map source_state_of states) ≡ length states = length_map source_state_of states in
     omega arith
 
 -- ---- states
@@ -52,23 +54,26 @@ if_ok (Err e) f h = tt
 
 pub placed_is : (p : Source) (vars : List VarInfo) (states : List SourceState) (resolved : List NumberedState) → IsScopeOf p vars states
     → map placed_of resolved ≡ map (placed_spelled (names_of vars) (state_names states)) p.states → map placed_of resolved ≡ placed p
-placed_is p vars states resolved s e = e ∙ ap₂ (λ (v : List VarInfo) (n : List SourceState). map (placed_spelled (names_of v) (state_names n)) p.states) s.vars s.stated
+placed_is p vars states resolved s e = e
+    ∙ ap₂ (λ (v : List VarInfo) (n : List SourceState). map (placed_spelled (names_of v) (state_names n)) p.states) s.vars s.stated
 
 pub placed_states : (p : Source) → map (λ s. s.1) (placed p) ≡ (machine_of p).states
 placed_states p = map_map (λ s. s.1) (placed_spelled (names_of (variables_of p.declarations)) (state_names p.states)) p.states
 
-pub states_are : (p : Source) (resolved : List NumberedState) → map placed_of resolved ≡ placed p → map state_of resolved ≡ (machine_of p).states
+pub states_are : (p : Source) (resolved : List NumberedState) → map placed_of resolved ≡ placed p → map resolved_state resolved ≡ (machine_of p).states
 states_are p resolved e = sym (map_map (λ s. s.1) placed_of resolved) ∙ ap (λ l. map (λ s. s.1) l) e ∙ placed_states p
 
 pub machine_is : (p : Source) (vars : List VarInfo) (states : List SourceState) (resolved : List NumberedState) (reset : ℕ) → IsScopeOf p vars states
-    → map placed_of resolved ≡ placed p → reset ≡ place (state_names p.states) p.reset → Path Fsmd (record { variables = vars; reset = reset; states = map state_of resolved }) (machine_of p)
+    → map placed_of resolved ≡ placed p → reset ≡ place (state_names p.states) p.reset
+    → Path Fsmd (record { variables = vars; reset = reset; states = map resolved_state resolved }) (machine_of p)
 machine_is p vars states resolved reset s e f = let t = states_are p resolved e in λ i. record { variables = s.vars i; reset = f i; states = t i }
 
 pub leads_placed : (p : Source) → AreKept p → LeadOn (placed p)
 leads_placed p k q h =
-    let count : length (placed p) ≡ length p.states = length_mapped (placed_spelled (names_of (variables_of p.declarations)) (state_names p.states)) p.states in
+    let count : length (placed p) ≡ length p.states = length_map (placed_spelled (names_of (variables_of p.declarations)) (state_names p.states)) p.states in
     let low = lead_on p k q (omega arith) in
-    let same : first_transition_target (transitions_of (skeleton (placed p) 0) q) ≡ first_transition_target (transitions_of (machine_of p) q) = ap (λ st. first_transition_target (slice_index_or st q no_state).lines) (placed_states p) in
+    let same : first_transition_target (transitions_of (skeleton (placed p) 0) q) ≡ first_transition_target (transitions_of (machine_of p) q) =
+    ap (λ st. first_transition_target (slice_index_or st q no_state).lines) (placed_states p) in
     omega arith
 
 -- ---- branches and endless lines
@@ -79,10 +84,12 @@ forked_is p = flat_map_map _ (placed_spelled (names_of (variables_of p.declarati
 none_endless : (ss : List (ℕ × State)) (qs : List ℕ) → list_all (λ q. nat_lt q (length ss)) qs ≡ true → endless_faults ss qs ≡ [] → length qs ≡ 0
 none_endless ss [] e f = refl
 none_endless ss (q ∷ qs) e f =
-    let b = both_true (nat_lt q (length ss)) (list_all (λ k. nat_lt k (length ss)) qs) e in
-    let low : q < length (map (λ (s : ℕ × State). s.0) ss) = let h = below q (length ss) b.0 in let c = length_mapped (λ (s : ℕ × State). s.0) ss in omega arith in
-    let n = get_there (map (λ (s : ℕ × State). s.0) ss) q low in
-    let g = ap (λ o. at_lines EndlessLine (option_to_list o ++ flat_map (λ k. option_to_list (slice_get (map (λ (s : ℕ × State). s.0) ss) k)) qs)) (sym n.1) ∙ f in
+    let b = and_parts (nat_lt q (length ss)) (list_all (λ k. nat_lt k (length ss)) qs) e in
+    let low : q < length (map (λ (s : ℕ × State). s.0) ss) = let h = ltb-true q (length ss) b.0 in
+    let c = length_map (λ (s : ℕ × State). s.0) ss in omega arith in
+    let n = element_at (map (λ (s : ℕ × State). s.0) ss) q low in
+    let g = ap (λ o. at_lines EndlessLine (option_to_list o ++ flat_map (λ k. option_to_list (slice_get (map (λ (s : ℕ × State). s.0) ss) k)) qs))
+    (sym n.1) ∙ f in
     absurd (cc)
 
 pub cut_same : (m n : Fsmd) → m.states ≡ n.states → m.reset ≡ n.reset → (q : ℕ) → is_cutpoint m q ≡ is_cutpoint n q
@@ -92,23 +99,27 @@ reach_same : (m n : Fsmd) → m.states ≡ n.states → m.reset ≡ n.reset → 
 reach_same m n e f zero q = cut_same m n e f q
 reach_same m n e f (suc k) q =
     ap₂ (λ (a b : Bool). a || b) (cut_same m n e f q)
-    (reach_same m n e f k (first_transition_target (transitions_of m q)) ∙ ap (λ st. reaches_cutpoint n k (first_transition_target (slice_index_or st q no_state).lines)) e)
+    (reach_same m n e f k (first_transition_target (transitions_of m q))
+    ∙ ap (λ st. reaches_cutpoint n k (first_transition_target (slice_index_or st q no_state).lines)) e)
 
-pub shapes_kept : (p : Source) (ss : List (ℕ × State)) (reset : ℕ) (first : Option CheckFault) → ss ≡ placed p → reset ≡ place (state_names p.states) p.reset → first ≡ None → IsFirstOfShapes ss reset first
+pub shapes_kept : (p : Source) (ss : List (ℕ × State)) (reset : ℕ) (first : Option CheckFault) → ss ≡ placed p → reset ≡ place (state_names p.states) p.reset
+    → first ≡ None → IsFirstOfShapes ss reset first
     → (branch_faults p ≡ []) × ((q : ℕ) → q < length p.states → reaches_cutpoint (machine_of p) (length p.states) q ≡ true)
 shapes_kept p ss reset first e f none late =
     let n = nothing_noted (earliest None (forked_faults ss)) (endless_faults ss late.endless) (sym late.is_first ∙ none) in
     let b = nothing_noted None (forked_faults ss) n.0 in
-    let count : length ss ≡ length p.states = ap length e ∙ length_mapped (placed_spelled (names_of (variables_of p.declarations)) (state_names p.states)) p.states in
+    let count : length ss ≡ length p.states = ap length e
+    ∙ length_map (placed_spelled (names_of (variables_of p.declarations)) (state_names p.states)) p.states in
     let st : (skeleton ss reset).states ≡ (machine_of p).states = ap (λ l. map (λ s. s.1) l) e ∙ placed_states p in (
       sym (ap forked_faults e ∙ forked_is p) ∙ b.1,
       λ q h. let low : q < length ss = omega arith in
-          ap (λ k. reaches_cutpoint (machine_of p) k q) (sym count) ∙ sym (reach_same (skeleton ss reset) (machine_of p) st f (length ss) q) ∙ late.ends (none_endless ss late.endless late.inside n.1) q low,
+          ap (λ k. reaches_cutpoint (machine_of p) k q) (sym count) ∙ sym (reach_same (skeleton ss reset) (machine_of p) st f (length ss) q)
+          ∙ late.ends (none_endless ss late.endless late.inside n.1) q low,
     )
 
 pub reset_low : (p : Source) (reset : ℕ) (resolved : List NumberedState) → reset < length p.states → map placed_of resolved ≡ placed p → reset < length resolved
 reset_low p reset resolved h f =
-    let a : length (map placed_of resolved) ≡ length resolved = length_mapped placed_of resolved in
-    let b : length (placed p) ≡ length p.states = length_mapped (placed_spelled (names_of (variables_of p.declarations)) (state_names p.states)) p.states in
+    let a : length (map placed_of resolved) ≡ length resolved = length_map placed_of resolved in
+    let b : length (placed p) ≡ length p.states = length_map (placed_spelled (names_of (variables_of p.declarations)) (state_names p.states)) p.states in
     let c : length (map placed_of resolved) ≡ length (placed p) = ap length f in
     omega arith

@@ -5,12 +5,12 @@ use Rattle.fs_model.specs.Terms.{Guard, Test, Not, And, Or}
 use Rattle.fs_model.specs.Trees.{Tree, Empty, Leaf, Node}
 use Rattle.fs_ast.specs.declared.trees.DecisionTree.{DecisionTree}
 use Rattle.fs_ast.specs.declared.trees.DecisionTree.TheVariants as trees
-use Rattle.fs_ast.specs.Resolved.{line_of}
+use Rattle.fs_ast.specs.Resolved.{resolved_line}
 
 -- the tree that a value of the code stands for
 abbrev pub tree_of : DecisionTree → Tree
 tree_of trees.Fail = Empty
-tree_of (trees.Leaf l) = Leaf (line_of l.now).assignments (line_of l.now).target
+tree_of (trees.Leaf l) = Leaf (resolved_line l.now).assignments (resolved_line l.now).target
 tree_of (trees.Test' l p on_yes q on_no) = Node (literal_of l.now) (tree_of on_yes) (tree_of on_no)
 
 -- the leaves of the tree of a guard, from those of its two subtrees
@@ -26,5 +26,5 @@ leaves_by_condition None on_yes on_no = on_yes
 leaves_by_condition (Some c) on_yes on_no = leaves_by c on_yes on_no
 
 -- a number of leaves, or 65 where there are more
-abbrev pub capped : ℕ → ℕ
-capped n = min n 65
+abbrev pub capped_leaves : ℕ → ℕ
+capped_leaves n = min n 65

@@ -1,10 +1,10 @@
-pub mod Spelled
-pub mod Sound
-pub mod Rules
+pub mod BuiltMachine
+pub mod SoundMachines
+pub mod MachineRules
 pub mod Resolved
 pub mod Forks
 pub mod Shapes
-pub mod Stored
+pub mod StoredBranches
 pub mod Built
-pub mod Open
+pub mod OpenBranches
 pub mod Branches

@@ -4,21 +4,25 @@ use Rattle.fs_model.specs.Terms.{Transition}
 use Rattle.fs_model.specs.Machines.{State}
 use Rattle.fs_model.specs.View.{guard_of, assignment_of}
 use Rattle.fs_model.specs.Source.{SourceState, Source}
-use Rattle.fs_rules.specs.Spelled.{variables_of, names_of, state_names, state_spelled}
+use Rattle.fs_rules.specs.MachineOfParts.{variables_of, names_of, state_names, state_spelled}
 use Rattle.fs_ast.specs.declared.resolve.Transition.{Transition as NumberedLine}
 use Rattle.fs_ast.specs.declared.resolve.State.{State as NumberedState}
 
 -- what a transition says
-abbrev pub line_of : NumberedLine → Transition ℕ ℕ
-line_of l = record { guard = option_map guard_of l.guard; target = l.target.0; assignments = map assignment_of l.assigns.items }
+abbrev pub resolved_line : NumberedLine → Transition ℕ ℕ
+resolved_line l = record {
+  guard = option_map guard_of l.guard;
+  target = l.target.0;
+  assignments = map assignment_of l.assigns.items;
+}
 
 -- what a state says
-abbrev pub state_of : NumberedState → State
-state_of s = record { name = s.name; lines = map line_of s.lines.items }
+abbrev pub resolved_state : NumberedState → State
+resolved_state s = record { name = s.name; lines = map resolved_line s.lines.items }
 
 -- a state and the line at which it stands
 abbrev pub placed_of : NumberedState → ℕ × State
-placed_of s = (s.line, state_of s)
+placed_of s = (s.line, resolved_state s)
 
 -- the same of a state of the text, over the places of names
 abbrev pub placed_spelled : List (List ℕ) → List (List ℕ) → SourceState → ℕ × State

@@ -13,7 +13,8 @@ use Rattle.fs_rules.specs.FirstFault.{earliest}
 
 -- the states of these, each with its line, that have too many branches
 abbrev pub forked_faults : List (ℕ × State) → List CheckFault
-forked_faults ss = flat_map (λ s. broken_where (nat_lt most_branches (count_leaves (tree_of_transitions s.1.lines))) TooManyBranches s.0) ss
+forked_faults ss =
+    flat_map (λ s. broken_where (nat_lt most_branches (count_leaves (tree_of_transitions s.1.lines))) TooManyBranches s.0) ss
 
 -- endless lines at states by their places
 abbrev pub endless_faults : List (ℕ × State) → List ℕ → List CheckFault

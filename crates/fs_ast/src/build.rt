@@ -4,8 +4,8 @@ ghost use Rattle.std.specs.Prelude.{◌≡◌, ◌<◌, [], IsTrue, IfOk, length
 ghost use Rattle.std.specs.Result.{OnOk, IfErr};
 ghost use Rattle.fs_model.specs.View.{source_of, source_state_of};
 ghost use Rattle.fs_model.specs.WellFormed.{is_well_formed};
-ghost use Rattle.fs_rules.specs.Spelled.{state_names, place, machine_of};
-ghost use Rattle.fs_rules.specs.Rules.{plain_faults, Broken, IsFirstBroken, IsLawful};
+ghost use Rattle.fs_rules.specs.MachineOfParts.{state_names, place, machine_of};
+ghost use Rattle.fs_rules.specs.Rules.{plain_faults, Broken, IsFirstBroken, BreaksNoRule};
 ghost use Rattle.fs_rules.specs.Scoped.{IsScopeOf};
 ghost use Rattle.fs_ast.specs.Built.{IfCheck};
 ghost use Rattle.fs_ast.specs.Resolved.{placed_of, placed};
@@ -21,7 +21,7 @@ use fs_rules::scope::Scope;
 use std::alloc::Global;
 
 /// Why no machine is built: a rule is broken, or memory was refused.
-#[derive(Clone, Copy, Debug, PartialEq, Eq)]
+#[derive(Clone, Copy, Debug)]
 pub enum BuildError {
     Check(CheckFault),
     NoMemory,
@@ -34,7 +34,7 @@ impl Machine {
     pub fn build(alloc: Global, parts: &Parts) -> Result<Machine, BuildError>
         requires { IsTrue (is_well_formed (source_of parts.now)) }
         ensures spelled { IfOk result (λ m. m ≡ machine_of (source_of parts.now)) }
-        ensures lawful { OnOk result (IsLawful (source_of parts.now)) }
+        ensures lawful { OnOk result (BreaksNoRule (source_of parts.now)) }
         ensures broken { IfErr result (λ e. IfCheck e (λ f. Broken (source_of parts.now) f)) }
         ensures first { IfErr result (λ e. IfCheck e (λ f. IsFirstBroken (source_of parts.now) f)) }
     {
@@ -54,7 +54,7 @@ fn build_checked(alloc: Global, scope: Scope, parts: &Parts) -> Result<Machine, 
     requires plain { plain_faults (source_of parts.now) ≡ [] }
     requires formed { IsTrue (is_well_formed (source_of parts.now)) }
     ensures spelled { IfOk result (λ m. m ≡ machine_of (source_of parts.now)) }
-    ensures lawful { OnOk result (IsLawful (source_of parts.now)) }
+    ensures lawful { OnOk result (BreaksNoRule (source_of parts.now)) }
     ensures first { IfErr result (λ e. IfCheck e (λ f. IsFirstBroken (source_of parts.now) f)) }
 {
     let Ok(states) = numbered_states(alloc, &scope, parts) else {

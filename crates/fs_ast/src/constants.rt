@@ -3,8 +3,9 @@
 ghost use Rattle.std.specs.Prelude.{◌≡◌, ◌++◌, map, IfOk};
 ghost use Rattle.std.specs.Result.{OnOk};
 ghost use Rattle.fs_model.specs.View.{term_of, guard_of, assignment_of};
-ghost use Rattle.fs_rules.specs.Sound.{numbers_in, numbers_in_guard, numbers_in_condition, numbers_in_assignment, numbers_in_assignments, numbers_in_transitions, numbers_in_states};
-ghost use Rattle.fs_ast.specs.Resolved.{line_of, state_of};
+ghost use Rattle.fs_rules.specs.Sound.{numbers_in, numbers_in_guard, numbers_in_condition, numbers_in_assignment};
+ghost use Rattle.fs_rules.specs.Sound.{numbers_in_assignments, numbers_in_transitions, numbers_in_states};
+ghost use Rattle.fs_ast.specs.Resolved.{resolved_line, resolved_state};
 
 use crate::resolve::{State, Transition};
 use fs_model::name::NoMemory;
@@ -13,7 +14,7 @@ use std::alloc::Global;
 
 /// The numbers of states.
 pub fn constants_of(alloc: Global, states: &[State]) -> Result<Vec<i128>, NoMemory>
-    ensures { IfOk result (λ out. out.items ≡ numbers_in_states (map state_of states.now)) }
+    ensures { IfOk result (λ out. out.items ≡ numbers_in_states (map resolved_state states.now)) }
 {
     let mut out = Vec::new(alloc);
     for state in states {
@@ -23,7 +24,7 @@ pub fn constants_of(alloc: Global, states: &[State]) -> Result<Vec<i128>, NoMemo
 }
 
 fn add_lines(out: &mut Vec<i128>, lines: &[Transition]) -> Result<(), NoMemory>
-    ensures { OnOk result (out.new.items ≡ out.old.items ++ numbers_in_transitions (map line_of lines.now)) }
+    ensures { OnOk result (out.new.items ≡ out.old.items ++ numbers_in_transitions (map resolved_line lines.now)) }
 {
     for line in lines {
         add_line(out, line)?;
@@ -32,7 +33,9 @@ fn add_lines(out: &mut Vec<i128>, lines: &[Transition]) -> Result<(), NoMemory>
 }
 
 fn add_line(out: &mut Vec<i128>, line: &Transition) -> Result<(), NoMemory>
-    ensures { OnOk result (out.new.items ≡ out.old.items ++ (numbers_in_condition (line_of line.now).guard ++ numbers_in_assignments (line_of line.now).assignments)) }
+    ensures { OnOk result
+        (out.new.items ≡ out.old.items
+        ++ (numbers_in_condition (resolved_line line.now).guard ++ numbers_in_assignments (resolved_line line.now).assignments)) }
 {
     if let Some(guard) = &line.guard {
         add_guard(out, guard)?;

@@ -2,7 +2,7 @@
 
 ghost use Rattle.std.specs.Prelude.{◌≡◌, map, option_map, IfOk};
 ghost use Rattle.fs_model.specs.View.{guard_of, assignment_of};
-ghost use Rattle.fs_ast.specs.Resolved.{line_of, state_of};
+ghost use Rattle.fs_ast.specs.Resolved.{resolved_line, resolved_state};
 
 use crate::resolve::{State, Transition};
 use fs_model::name::NoMemory;
@@ -54,7 +54,7 @@ pub fn copy_assigns(
 
 // Copies of transitions.
 fn copy_lines(alloc: Global, lines: &[Transition]) -> Result<Vec<Transition>, NoMemory>
-    ensures { IfOk result (λ out. map line_of out.items ≡ map line_of lines.now) }
+    ensures { IfOk result (λ out. map resolved_line out.items ≡ map resolved_line lines.now) }
 {
     let mut out = Vec::new(alloc);
     for line in lines {
@@ -71,7 +71,7 @@ fn copy_lines(alloc: Global, lines: &[Transition]) -> Result<Vec<Transition>, No
 
 /// Copies of states.
 pub fn copy_states(alloc: Global, states: &[State]) -> Result<Vec<State>, NoMemory>
-    ensures { IfOk result (λ out. map state_of out.items ≡ map state_of states.now) }
+    ensures { IfOk result (λ out. map resolved_state out.items ≡ map resolved_state states.now) }
 {
     let mut out = Vec::new(alloc);
     for state in states {

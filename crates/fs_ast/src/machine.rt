@@ -6,8 +6,8 @@ ghost use Rattle.fs_model.specs.Machines.{transitions_of};
 ghost use Rattle.fs_model.specs.Trees.{branches_of};
 ghost use Rattle.fs_model.specs.View.{branch_of};
 ghost use Rattle.fs_rules.specs.Sound.{IsSound, numbers_in_states};
-ghost use Rattle.fs_ast.specs.Resolved.{state_of};
-ghost use Rattle.fs_ast.specs.Stored.{name_of, KeepsTypes};
+ghost use Rattle.fs_ast.specs.Resolved.{resolved_state};
+ghost use Rattle.fs_ast.specs.StoredBranches.{state_name_of, KeepsTypes};
 ghost use Rattle.fs_model.specs.Words.{is_name};
 
 use crate::constants::constants_of;
@@ -34,16 +34,18 @@ impl Model for Machine {
     ghost use Rattle.fs_model.specs.Machines.{Fsmd};
     ghost use Rattle.fs_model.specs.Codes.{coded_fsmd};
     ghost use Rattle.fs_model.specs.View.{branch_of};
-    ghost use Rattle.fs_ast.specs.Resolved.{state_of};
-    ghost use Rattle.fs_ast.specs.Stored.{IsStored};
+    ghost use Rattle.fs_ast.specs.Resolved.{resolved_state};
+    ghost use Rattle.fs_ast.specs.StoredBranches.{IsStoredMachine};
 
     ghost Value = { Fsmd };
 
     ghost coded = { coded_fsmd };
 
-    ghost view = { λ m. record { variables = m.vars.items; reset = m.reset.0; states = map state_of m.states.items } };
+    ghost view = { λ m. record { variables = m.vars.items; reset = m.reset.0; states = map resolved_state m.states.items } };
 
-    ghost invariant = { λ m. IsStored (record { variables = m.vars.items; reset = m.reset.0; states = map state_of m.states.items }) (map (λ b. map branch_of b.items) m.branches.items) m.constants.items };
+    ghost invariant = { λ m. IsStoredMachine
+        (record { variables = m.vars.items; reset = m.reset.0; states = map resolved_state m.states.items })
+        (map (λ b. map branch_of b.items) m.branches.items) m.constants.items };
 }
 
 impl Machine {
@@ -66,7 +68,7 @@ impl Machine {
     /// The name of a state. States are numbered in order of the text. Takes no memory.
     pub fn state_name(&self, s: StateId) -> &Name
         requires { s.0 < length self.now.states }
-        ensures name { result.now ≡ name_of self.now s.0 }
+        ensures name { result.now ≡ state_name_of self.now s.0 }
         ensures sound { IsSound self.now }
     {
         &self.states[s.0 as usize].name
@@ -113,8 +115,10 @@ impl Machine {
         reset: StateId,
         states: Vec<State>,
     ) -> Result<Machine, NoMemory>
-        requires { KeepsTypes vars.items (map state_of states.items) → IsSound (record { variables = vars.items; reset = reset.0; states = map state_of states.items }) }
-        ensures { IfOk result (λ m. m ≡ record { variables = vars.items; reset = reset.0; states = map state_of states.items }) }
+        requires { KeepsTypes vars.items (map resolved_state states.items)
+            → IsSound (record { variables = vars.items; reset = reset.0; states = map resolved_state states.items }) }
+        ensures { IfOk result
+            (λ m. m ≡ record { variables = vars.items; reset = reset.0; states = map resolved_state states.items }) }
     {
         let branches = all_branches(alloc, states.as_slice())?;
         let constants = constants_of(alloc, states.as_slice())?;
@@ -133,7 +137,8 @@ impl Machine {
 
 // The branches of states.
 fn all_branches(alloc: Global, states: &[State]) -> Result<Vec<Vec<Branch>>, NoMemory>
-    ensures { IfOk result (λ out. map (λ b. map branch_of b.items) out.items ≡ map (λ s. branches_of s.lines) (map state_of states.now)) }
+    ensures { IfOk result
+        (λ out. map (λ b. map branch_of b.items) out.items ≡ map (λ s. branches_of s.lines) (map resolved_state states.now)) }
 {
     let mut out = Vec::new(alloc);
     for state in states {
@@ -147,16 +152,16 @@ fn see_variable_names(vars: &[VarInfo])
     ensures { list_all (λ v. is_name v.name) vars.now ≡ true }
 {
     for var in vars {
-        let _bytes = var.name.bytes();
+        let _bytes = var.name.bytes(); // The call tells the proof that the bytes are a name.
     }
 }
 
 // Reads each name, which is one by its type.
 fn see_state_names(states: &[State])
-    ensures { list_all (λ s. is_name s.name) (map state_of states.now) ≡ true }
+    ensures { list_all (λ s. is_name s.name) (map resolved_state states.now) ≡ true }
 {
     for state in states {
-        let _bytes = state.name.bytes();
+        let _bytes = state.name.bytes(); // The call tells the proof that the bytes are a name.
     }
 }
 
@@ -165,6 +170,6 @@ fn see_numbers(numbers: &[i128])
     ensures { list_all (λ n. int_lt n (pos (2 ^ 127))) numbers.now ≡ true }
 {
     for number in numbers {
-        let _number = *number;
+        let _number = *number; // The read tells the proof in which range the type keeps its numbers.
     }
 }

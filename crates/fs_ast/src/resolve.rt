@@ -3,10 +3,11 @@
 ghost use Rattle.std.specs.Prelude.{◌≡◌, ◌≤◌, length, map, option_map, IfOk};
 ghost use Rattle.fs_model.specs.Limits.{most_variables, most_states};
 ghost use Rattle.fs_model.specs.Renamed.{guard_over, assignment_over};
-ghost use Rattle.fs_model.specs.View.{named_guard, named_assignment, guard_of, assignment_of, source_transition_of, source_state_of};
-ghost use Rattle.fs_rules.specs.Spelled.{place, names_of, line_spelled};
+ghost use Rattle.fs_model.specs.View.{named_guard, named_assignment, guard_of, assignment_of, source_transition_of};
+ghost use Rattle.fs_model.specs.View.{source_state_of};
+ghost use Rattle.fs_rules.specs.MachineOfParts.{place, names_of, line_spelled};
 ghost use Rattle.fs_rules.specs.Places.{names_stated};
-ghost use Rattle.fs_ast.specs.Resolved.{line_of, placed_of, placed_spelled};
+ghost use Rattle.fs_ast.specs.Resolved.{resolved_line, placed_of, placed_spelled};
 
 use fs_model::copies::renamed_assignments;
 use fs_model::name::{Name, NoMemory};
@@ -38,7 +39,9 @@ fn condition(
     guard: &Option<Guard>,
 ) -> Result<Option<Guard<VarId>>, NoMemory>
     requires { length scope.now.vars.items ≤ most_variables }
-    ensures { IfOk result (λ g. option_map guard_of g ≡ option_map (guard_over (place (names_of scope.now.vars.items))) (option_map named_guard guard.now)) }
+    ensures { IfOk result
+        (λ g. option_map guard_of g ≡ option_map (guard_over (place (names_of scope.now.vars.items)))
+        (option_map named_guard guard.now)) }
 {
     match guard {
         None => Ok(None),
@@ -53,7 +56,9 @@ fn assignments(
     assigns: &[Assign<Name>],
 ) -> Result<Vec<Assign<VarId>>, NoMemory>
     requires { length scope.now.vars.items ≤ most_variables }
-    ensures { IfOk result (λ out. map assignment_of out.items ≡ map (assignment_over (place (names_of scope.now.vars.items))) (map named_assignment assigns.now)) }
+    ensures { IfOk result
+        (λ out. map assignment_of out.items ≡ map (assignment_over (place (names_of scope.now.vars.items)))
+        (map named_assignment assigns.now)) }
 {
     Ok(renamed_assignments(alloc, assigns, scope)?)
 }
@@ -62,7 +67,9 @@ fn assignments(
 fn numbered_line(alloc: Global, scope: &Scope, line: &RawLine) -> Result<Transition, NoMemory>
     requires variables { length scope.now.vars.items ≤ most_variables }
     requires states { length scope.now.states.now ≤ most_states }
-    ensures { IfOk result (λ l. line_of l ≡ line_spelled (names_of scope.now.vars.items) (names_stated scope.now.states.now) (source_transition_of line.now)) }
+    ensures { IfOk result
+        (λ l. resolved_line l ≡ line_spelled (names_of scope.now.vars.items) (names_stated scope.now.states.now)
+        (source_transition_of line.now)) }
 {
     let guard = condition(alloc, scope, &line.guard)?;
     let assigns = assignments(alloc, scope, &line.assigns)?;
@@ -81,7 +88,10 @@ fn numbered_lines(
 ) -> Result<Vec<Transition>, NoMemory>
     requires variables { length scope.now.vars.items ≤ most_variables }
     requires states { length scope.now.states.now ≤ most_states }
-    ensures { IfOk result (λ out. map line_of out.items ≡ map (line_spelled (names_of scope.now.vars.items) (names_stated scope.now.states.now)) (map source_transition_of lines.now)) }
+    ensures { IfOk result
+        (λ out. map resolved_line out.items
+        ≡ map (line_spelled (names_of scope.now.vars.items) (names_stated scope.now.states.now))
+        (map source_transition_of lines.now)) }
 {
     let mut out = Vec::new(alloc);
     for raw in lines {
@@ -94,7 +104,9 @@ fn numbered_lines(
 fn numbered_state(alloc: Global, scope: &Scope, state: &RawState) -> Result<State, NoMemory>
     requires variables { length scope.now.vars.items ≤ most_variables }
     requires states { length scope.now.states.now ≤ most_states }
-    ensures { IfOk result (λ s. placed_of s ≡ placed_spelled (names_of scope.now.vars.items) (names_stated scope.now.states.now) (source_state_of state.now)) }
+    ensures { IfOk result
+        (λ s. placed_of s ≡ placed_spelled (names_of scope.now.vars.items) (names_stated scope.now.states.now)
+        (source_state_of state.now)) }
 {
     let name = state.name.try_clone(alloc)?;
     let lines = numbered_lines(alloc, scope, &state.lines)?;
@@ -109,7 +121,9 @@ fn numbered_state(alloc: Global, scope: &Scope, state: &RawState) -> Result<Stat
 pub fn resolve(alloc: Global, scope: &Scope, states: &[RawState]) -> Result<Vec<State>, NoMemory>
     requires variables { length scope.now.vars.items ≤ most_variables }
     requires states { length scope.now.states.now ≤ most_states }
-    ensures { IfOk result (λ out. map placed_of out.items ≡ map (placed_spelled (names_of scope.now.vars.items) (names_stated scope.now.states.now)) (map source_state_of states.now)) }
+    ensures { IfOk result
+        (λ out. map placed_of out.items ≡ map (placed_spelled (names_of scope.now.vars.items) (names_stated scope.now.states.now))
+        (map source_state_of states.now)) }
 {
     let mut out = Vec::new(alloc);
     for raw in states {

@@ -3,8 +3,8 @@
 ghost use Rattle.std.specs.Prelude.{◌≡◌, ◌<◌, ◌||◌, ◌==◌, ℕ, [], ◌∷◌, length, map, nat_lt, IfOk};
 ghost use Rattle.fs_rules.specs.Sound.{first_transition_target, is_cutpoint};
 ghost use Rattle.fs_rules.specs.FirstFault.{earliest};
-ghost use Rattle.fs_ast.specs.Resolved.{line_of, state_of, placed_of};
-ghost use Rattle.fs_rules.specs.Walks.{is_cut};
+ghost use Rattle.fs_ast.specs.Resolved.{resolved_line, resolved_state, placed_of};
+ghost use Rattle.fs_rules.specs.TargetWalks.{is_cut};
 ghost use Rattle.fs_model.specs.Trees.{tree_of_transitions, count_leaves};
 ghost use Rattle.fs_ast.specs.Shapes.{forked_faults, endless_faults, skeleton, LeadOn, IsFirstOfShapes};
 
@@ -67,7 +67,7 @@ fn note_endless_at(states: &[State], place: usize, faults: &mut Faults)
 
 // Where the first transition of each state leads.
 fn first_targets(alloc: Global, states: &[State]) -> Result<Vec<usize>, NoMemory>
-    ensures { IfOk result (λ next. next.items ≡ map (λ s. first_transition_target (state_of s).lines) states.now) }
+    ensures { IfOk result (λ next. next.items ≡ map (λ s. first_transition_target (resolved_state s).lines) states.now) }
 {
     let mut next = Vec::new(alloc);
     for state in states {
@@ -78,7 +78,7 @@ fn first_targets(alloc: Global, states: &[State]) -> Result<Vec<usize>, NoMemory
 
 // Where the first of some transitions leads.
 fn first_transition_target(lines: &[Transition]) -> usize
-    ensures { result ≡ first_transition_target (map line_of lines.now) }
+    ensures { result ≡ first_transition_target (map resolved_line lines.now) }
 {
     match lines {
         [] => 0,
@@ -88,7 +88,7 @@ fn first_transition_target(lines: &[Transition]) -> usize
 
 // Whether a state at a place cuts paths.
 fn cuts(state: &State, place: usize, reset: usize) -> bool
-    ensures { result ≡ (place == reset || nat_lt 1 (count_leaves (tree_of_transitions (state_of state.now).lines))) }
+    ensures { result ≡ (place == reset || nat_lt 1 (count_leaves (tree_of_transitions (resolved_state state.now).lines))) }
 {
     place == reset || count_leaves(state.lines.as_slice()) > 1
 }
@@ -96,7 +96,9 @@ fn cuts(state: &State, place: usize, reset: usize) -> bool
 // Whether each state cuts paths: the reset state does, and each that has more than one branch.
 fn cutpoints(alloc: Global, states: &[State], reset: usize) -> Result<Vec<bool>, NoMemory>
     ensures count { IfOk result (λ cut. length cut.items ≡ length states.now) }
-    ensures cuts { IfOk result (λ cut. (q : ℕ) → q < length states.now → is_cut cut.items q ≡ is_cutpoint (skeleton (map placed_of states.now) reset) q) }
+    ensures cuts { IfOk result
+        (λ cut. (q : ℕ) → q < length states.now
+        → is_cut cut.items q ≡ is_cutpoint (skeleton (map placed_of states.now) reset) q) }
 {
     let mut cut = Vec::new(alloc);
     for (place, state) in states.iter().enumerate() {

@@ -5,9 +5,10 @@ ghost use Rattle.fs_model.specs.declared.parts.VarId.{VarId};
 ghost use Rattle.fs_model.specs.declared.parts.Lit.{Lit as LitOf};
 ghost use Rattle.std.specs.Result.{OnOk};
 ghost use Rattle.fs_model.specs.View.{literal_of, guard_of, branch_of};
-ghost use Rattle.fs_model.specs.Trees.{Leaf, Node, tree_of_guard, tree_of_transitions, opposite, leaves, branches_of, count_leaves};
-ghost use Rattle.fs_ast.specs.Resolved.{line_of};
-ghost use Rattle.fs_ast.specs.Forks.{tree_of, leaves_by, leaves_by_condition, capped};
+ghost use Rattle.fs_model.specs.Trees.{Leaf, tree_of_guard, tree_of_transitions, opposite, leaves, branches_of};
+ghost use Rattle.fs_model.specs.Trees.{count_leaves};
+ghost use Rattle.fs_ast.specs.Resolved.{resolved_line};
+ghost use Rattle.fs_ast.specs.Forks.{tree_of, leaves_by, leaves_by_condition, capped_leaves};
 
 use crate::copies::copy_assigns;
 use crate::resolve::Transition;
@@ -27,7 +28,7 @@ enum DecisionTree<'a> {
 
 /// How many leaves the tree of transitions has, or 65 where there are more.
 pub fn count_leaves(lines: &[Transition]) -> u32
-    ensures { result ≡ capped (count_leaves (tree_of_transitions (map line_of lines.now))) }
+    ensures { result ≡ capped_leaves (count_leaves (tree_of_transitions (map resolved_line lines.now))) }
 {
     let mut count = 0;
     for k in 0..lines.len() {
@@ -38,7 +39,7 @@ pub fn count_leaves(lines: &[Transition]) -> u32
 
 // How many leaves there are from one transition on.
 fn count_line(line: &Transition, rest: u32) -> u32
-    ensures { result ≡ capped (leaves_by_condition (line_of line.now).guard 1 rest) }
+    ensures { result ≡ capped_leaves (leaves_by_condition (resolved_line line.now).guard 1 rest) }
 {
     match &line.guard {
         None => 1,
@@ -49,7 +50,7 @@ fn count_line(line: &Transition, rest: u32) -> u32
 // How many leaves the tree of a guard has, from those of its two subtrees.
 #[tactic(auto, using(crate::proofs::Leaves::capped_yes, crate::proofs::Leaves::capped_no))]
 fn count_guard(guard: &Guard<VarId>, on_yes: u32, on_no: u32) -> u32
-    ensures { result ≡ capped (leaves_by (guard_of guard.now) on_yes on_no) }
+    ensures { result ≡ capped_leaves (leaves_by (guard_of guard.now) on_yes on_no) }
 {
     match guard {
         Guard::Lit(_) => on_yes.saturating_add(on_no).min(BRANCH_LIMIT + 1),
@@ -61,7 +62,7 @@ fn count_guard(guard: &Guard<VarId>, on_yes: u32, on_no: u32) -> u32
 
 /// The branches of the tree of transitions, yes before no.
 pub fn branches(alloc: Global, lines: &[Transition]) -> Result<Vec<Branch>, NoMemory>
-    ensures { IfOk result (λ out. map branch_of out.items ≡ branches_of (map line_of lines.now)) }
+    ensures { IfOk result (λ out. map branch_of out.items ≡ branches_of (map resolved_line lines.now)) }
 {
     let tree = tree_of_lines(alloc, lines)?;
     let mut way = Vec::new(alloc);
@@ -72,7 +73,7 @@ pub fn branches(alloc: Global, lines: &[Transition]) -> Result<Vec<Branch>, NoMe
 
 // The tree of transitions.
 fn tree_of_lines<'a>(alloc: Global, lines: &'a [Transition]) -> Result<DecisionTree<'a>, NoMemory>
-    ensures { IfOk result (λ tree. tree_of tree ≡ tree_of_transitions (map line_of lines.now)) }
+    ensures { IfOk result (λ tree. tree_of tree ≡ tree_of_transitions (map resolved_line lines.now)) }
 {
     match lines {
         [] => Ok(DecisionTree::Fail),
@@ -80,47 +81,40 @@ fn tree_of_lines<'a>(alloc: Global, lines: &'a [Transition]) -> Result<DecisionT
             let on_no = tree_of_lines(alloc, rest)?;
             match &first.guard {
                 None => Ok(DecisionTree::Leaf(first)),
-                Some(guard) => tree_of_guard(alloc, guard, &DecisionTree::Leaf(first), &on_no),
+                Some(guard) => tree_of_guard(alloc, guard, DecisionTree::Leaf(first), on_no),
             }
         }
     }
 }
 
-// The tree of a guard over two subtrees.
+// The tree of a guard over two subtrees. It takes them, and copies only what then stands in it twice: so its work is no more
+// than its size.
 fn tree_of_guard<'a>(
     alloc: Global,
     guard: &'a Guard<VarId>,
-    on_yes: &DecisionTree<'a>,
-    on_no: &DecisionTree<'a>,
+    on_yes: DecisionTree<'a>,
+    on_no: DecisionTree<'a>,
 ) -> Result<DecisionTree<'a>, NoMemory>
-    ensures { IfOk result (λ tree. tree_of tree ≡ tree_of_guard (guard_of guard.now) (tree_of on_yes.now) (tree_of on_no.now)) }
+    ensures { IfOk result
+        (λ tree. tree_of tree ≡ tree_of_guard (guard_of guard.now) (tree_of on_yes.entry) (tree_of on_no.entry)) }
 {
     match guard {
-        Guard::Lit(lit) => tree_of_literal(alloc, lit, on_yes, on_no),
+        Guard::Lit(lit) => {
+            let (on_yes, on_no) = both_boxed(alloc, on_yes, on_no)?;
+            Ok(DecisionTree::Test(lit, on_yes, on_no))
+        }
         Guard::Not(a) => tree_of_guard(alloc, a, on_no, on_yes),
         Guard::And(a, b) => {
-            let inner = tree_of_guard(alloc, b, on_yes, on_no)?;
-            tree_of_guard(alloc, a, &inner, on_no)
+            let again = copy_tree(alloc, &on_no)?;
+            let inner = tree_of_guard(alloc, b, on_yes, again)?;
+            tree_of_guard(alloc, a, inner, on_no)
         }
         Guard::Or(a, b) => {
-            let inner = tree_of_guard(alloc, b, on_yes, on_no)?;
-            tree_of_guard(alloc, a, on_yes, &inner)
+            let again = copy_tree(alloc, &on_yes)?;
+            let inner = tree_of_guard(alloc, b, again, on_no)?;
+            tree_of_guard(alloc, a, on_yes, inner)
         }
     }
-}
-
-// The tree of a literal over two subtrees.
-fn tree_of_literal<'a>(
-    alloc: Global,
-    lit: &'a Lit<VarId>,
-    on_yes: &DecisionTree<'a>,
-    on_no: &DecisionTree<'a>,
-) -> Result<DecisionTree<'a>, NoMemory>
-    ensures { IfOk result (λ tree. tree_of tree ≡ Node (literal_of lit.now) (tree_of on_yes.now) (tree_of on_no.now)) }
-{
-    let on_yes = copy_tree(alloc, on_yes)?;
-    let (on_yes, on_no) = both_boxed(alloc, on_yes, copy_tree(alloc, on_no)?)?;
-    Ok(DecisionTree::Test(lit, on_yes, on_no))
 }
 
 fn copy_tree<'a>(alloc: Global, tree: &DecisionTree<'a>) -> Result<DecisionTree<'a>, NoMemory>
@@ -144,7 +138,8 @@ fn walk(
     way: &mut Vec<Lit<VarId>>,
     out: &mut Vec<Branch>,
 ) -> Result<(), NoMemory>
-    ensures branches { OnOk result (map branch_of out.new.items ≡ map branch_of out.old.items ++ leaves (tree_of tree.now) (map literal_of way.old.items)) }
+    ensures branches { OnOk result
+        (map branch_of out.new.items ≡ map branch_of out.old.items ++ leaves (tree_of tree.now) (map literal_of way.old.items)) }
     ensures way { OnOk result (way.new.items ≡ way.old.items) }
 {
     match tree {
@@ -166,7 +161,8 @@ fn walk(
 
 // Turns the last literal of a way into its negation.
 fn negate_last(way: &mut Vec<Lit<VarId>>)
-    ensures { (front : List (LitOf VarId)) (last : LitOf VarId) → way.old.items ≡ front ++ last ∷ [] → way.new.items ≡ front ++ record { rel = opposite last.rel; left = last.left; right = last.right } ∷ [] }
+    ensures { (front : List (LitOf VarId)) (last : LitOf VarId) → way.old.items ≡ front ++ last ∷ []
+        → way.new.items ≡ front ++ record { rel = opposite last.rel; left = last.left; right = last.right } ∷ [] }
 {
     if let Some(mut last) = way.pop() {
         last.rel = last.rel.negated();
@@ -181,7 +177,9 @@ fn add_branch(
     line: &Transition,
     out: &mut Vec<Branch>,
 ) -> Result<(), NoMemory>
-    ensures { OnOk result (map branch_of out.new.items ≡ map branch_of out.old.items ++ leaves (Leaf (line_of line.now).assignments (line_of line.now).target) (map literal_of way.now)) }
+    ensures { OnOk result
+        (map branch_of out.new.items ≡ map branch_of out.old.items
+        ++ leaves (Leaf (resolved_line line.now).assignments (resolved_line line.now).target) (map literal_of way.now)) }
 {
     out.push(branch(alloc, way, line)?)?;
     Ok(())
@@ -189,7 +187,12 @@ fn add_branch(
 
 // The branch that takes a transition at the end of a way.
 fn branch(alloc: Global, way: &[Lit<VarId>], line: &Transition) -> Result<Branch, NoMemory>
-    ensures { IfOk result (λ b. branch_of b ≡ record { literals = map literal_of way.now; assignments = (line_of line.now).assignments; target = (line_of line.now).target }) }
+    ensures { IfOk result
+        (λ b. branch_of b ≡ record {
+          literals = map literal_of way.now;
+          assignments = (resolved_line line.now).assignments;
+          target = (resolved_line line.now).target;
+        }) }
 {
     Ok(Branch {
         lits: copy_way(alloc, way)?,

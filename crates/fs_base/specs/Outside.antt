@@ -6,22 +6,28 @@ use Rattle.fs_base.specs.declared.outside.StoreError.{StoreError}
 use Rattle.fs_base.specs.declared.outside.StoreError.TheVariants.{Failed as NotStored, NoMemory as NoRoom}
 
 -- what is told of a name: nothing is known, no file stands there, or a file of these bytes
-pub data Held : Type 0 where
-  Unknown : Held
-  Nothing : Held
-  Bytes : List ℕ → Held
+pub data FileKnowledge : Type 0 where
+  Unknown : FileKnowledge
+  Nothing : FileKnowledge
+  Bytes : List ℕ → FileKnowledge
 
--- what is told of files: what stands under each name, and how often each name failed to be read, and to be written
+-- what is told of files: what stands under each name, how often each name failed to be read, and to be written, and the names
+-- that were loaded so far, in order
 pub record FilesTold : Type 0 where
-  pub holds : List ℕ → Held
+  pub holds : List ℕ → FileKnowledge
   pub faults : List ℕ → ℕ
   pub store_faults : List ℕ → ℕ
+  pub loaded : Option (List (List ℕ))
 
 -- what is told of a sink: the bytes that it got, how often it failed, and how many bytes more have room
 pub record SinkTold : Type 0 where
   pub got : Option (List ℕ)
   pub faults : ℕ
   pub spare : Option ℕ
+
+-- the same of all else, where these names were loaded so far
+abbrev pub with_loaded : FilesTold → Option (List (List ℕ)) → FilesTold
+with_loaded told names = record told { loaded = names }
 
 -- the last value of a count
 abbrev pub last_count : ℕ
@@ -40,21 +46,21 @@ abbrev pub SameCounts : (List ℕ → ℕ) → (List ℕ → ℕ) → Type 0
 SameCounts old new = (name : List ℕ) → new name ≡ old name
 
 -- every name holds what it held
-abbrev pub SameHeld : (List ℕ → Held) → (List ℕ → Held) → Type 0
+abbrev pub SameHeld : (List ℕ → FileKnowledge) → (List ℕ → FileKnowledge) → Type 0
 SameHeld old new = (name : List ℕ) → new name ≡ old name
 
 -- every other name holds what it held
-abbrev pub OthersHeld : List ℕ → (List ℕ → Held) → (List ℕ → Held) → Type 0
+abbrev pub OthersHeld : List ℕ → (List ℕ → FileKnowledge) → (List ℕ → FileKnowledge) → Type 0
 OthersHeld name old new = (other : List ℕ) → other ≢ name → new other ≡ old other
 
 -- where it is told what a name holds, it is these bytes
-abbrev pub AreHeld : Held → List ℕ → Type 0
+abbrev pub AreHeld : FileKnowledge → List ℕ → Type 0
 AreHeld Unknown bytes = Unit {0}
 AreHeld Nothing bytes = ⊥
 AreHeld (Bytes held) bytes = bytes ≡ held
 
 -- where it is told what a name holds, it is more than so many bytes
-abbrev pub MoreAreHeld : Held → ℕ → Type 0
+abbrev pub MoreAreHeld : FileKnowledge → ℕ → Type 0
 MoreAreHeld Unknown limit = Unit {0}
 MoreAreHeld Nothing limit = ⊥
 MoreAreHeld (Bytes held) limit = limit < length held
@@ -78,10 +84,17 @@ WhereNoMemory P TooLong = Unit {0}
 WhereNoMemory P NoMemory = P
 
 -- what a name holds once bytes were stored under it: these bytes, where it is told
-abbrev pub held_after : Held → List ℕ → Held
+abbrev pub held_after : FileKnowledge → List ℕ → FileKnowledge
 held_after Unknown bytes = Unknown
 held_after Nothing bytes = Bytes bytes
 held_after (Bytes held) bytes = Bytes bytes
+
+-- where it is told which names were loaded so far, they are those of before, and behind them these, in order. What was not told
+-- is not told later
+abbrev pub AreLoaded : List (List ℕ) → (old new : Option (List (List ℕ))) → Type 0
+AreLoaded names old None = Unit {0}
+AreLoaded names None (Some new) = ⊥
+AreLoaded names (Some old) (Some new) = new ≡ old ++ names
 
 -- if the store failed, then P
 abbrev pub WhereNotStored : Type 0 → StoreError → Type 0

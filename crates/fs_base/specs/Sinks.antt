@@ -37,7 +37,8 @@ taken_next sink count = min (min count (slice_index_or sink.takes sink.next_call
 
 -- a call took these bytes
 abbrev pub after_taking : ScriptedSink → List ℕ → ScriptedSink
-after_taking sink bytes = record sink { bytes = sink.bytes ++ bytes; next_call = one_more sink.next_call; room = sink.room - length bytes }
+after_taking sink bytes =
+    record sink { bytes = sink.bytes ++ bytes; next_call = one_more sink.next_call; room = sink.room - length bytes }
 
 -- a call failed
 abbrev pub after_failed_put : ScriptedSink → ScriptedSink

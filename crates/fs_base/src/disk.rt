@@ -1,24 +1,25 @@
-//! Files and standard output of the system.
+//! Files of the system.
 ghost use Rattle.std.specs.Prelude.{◌≡◌, ◌+◌, ◌<◌, ◌≤◌, length, IfOk, IfSome};
 ghost use Rattle.std.specs.Result.{IfErr};
 ghost use Rattle.std.specs.Io.{ReadsAtMost};
 ghost use Rattle.std.specs.Io.KnownBytes.{ReadConsumes};
 ghost use Rattle.fs_base.specs.Outside.{LosesAtMost, WhereTooLong};
 
-use crate::outside::{Files, LoadError, Sink, SinkFailed, StoreError};
+use crate::outside::{Files, LoadError, StoreError};
+use crate::writers::write_whole;
 use std::alloc::Global;
 use std::fs::File;
-use std::io::{ErrorKind, Read, Write};
+use std::io::{ErrorKind, Read};
 use std::marker::Model;
-use std::{io, rt};
+use std::rt;
 
 // A file is read by parts of at most so many bytes.
 const PART: usize = 8192;
 
-// A read or a write that is interrupted is tried again, at most so many times in a row.
+// A read that is interrupted is tried again, at most so many times in a row.
 const TRIES: u32 = 1_000;
 
-/// The files of the system, seen as the count of their failures. What they hold is untold.
+/// The files of the system, seen as the count of their failures. What they hold is untold, and which were loaded.
 ///
 /// The one count, which stops at `u64::MAX`, is the count of both kinds of faults for every name.
 #[derive(Drop)]
@@ -101,23 +102,16 @@ fn part_of(left: u64) -> usize
     }
 }
 
-// Makes a file of exactly these bytes.
-fn write_file<R: rt::Files>(runtime: &R, name: &str, bytes: &[u8]) -> Result<(), StoreError> {
-    let mut file = match File::create(runtime, name) {
-        Ok(file) => file,
-        Err(error) if error.kind() == ErrorKind::OutOfMemory => return Err(StoreError::NoMemory),
-        Err(_) => return Err(StoreError::Failed),
-    };
-    match file.write_all(bytes) {
-        Ok(()) => Ok(()),
-        Err(_) => Err(StoreError::Failed),
-    }
-}
-
 impl<R: rt::Files> Files for DiskFiles<'_, R> {
+    ghost use Rattle.std.specs.Prelude.{None};
     ghost use Rattle.fs_base.specs.Outside.{Unknown};
 
-    ghost told = { λ failures. record { holds = λ name. Unknown; faults = λ name. failures; store_faults = λ name. failures } };
+    ghost told = { λ failures. record {
+      holds = λ name. Unknown;
+      faults = λ name. failures;
+      store_faults = λ name. failures;
+      loaded = None;
+    } };
 
     fn load(&mut self, alloc: Global, name: &str, limit: u64) -> Result<Vec<u8>, LoadError> {
         let loaded = match File::open(self.runtime, name) {
@@ -134,78 +128,14 @@ impl<R: rt::Files> Files for DiskFiles<'_, R> {
     /// `NoMemory` only where there is no memory to create the file, which then stands as before. A failure that comes later, for
     /// want of memory too, is `Failed`: the file may then hold any bytes.
     fn store(&mut self, _alloc: Global, name: &str, bytes: &[u8]) -> Result<(), StoreError> {
-        let stored = write_file(self.runtime, name, bytes);
+        let stored = match File::create(self.runtime, name) {
+            Ok(mut file) => write_whole(&mut file, bytes),
+            Err(error) if error.kind() == ErrorKind::OutOfMemory => Err(StoreError::NoMemory),
+            Err(_) => Err(StoreError::Failed),
+        };
         if matches!(stored, Err(StoreError::Failed)) {
             self.failures = self.failures.saturating_add(1);
         }
         stored
-    }
-}
-
-// Writes once, and again where the write was interrupted: how many bytes were taken, if any were.
-fn write_part<W: Write>(writer: &mut W, piece: &[u8]) -> Option<usize>
-    ensures within { IfSome result (λ taken. taken ≤ length piece.now) }
-    ensures some { IfSome result (λ taken. 0 < taken) }
-{
-    for _ in 0..TRIES {
-        match writer.write(piece) {
-            Ok(0) => return None,
-            Ok(taken) => return Some(taken),
-            Err(error) if error.kind() == ErrorKind::Interrupted => {}
-            Err(_) => return None,
-        }
-    }
-    None
-}
-
-/// Standard output, seen as the count of its failures. What it got, and the room that it has, are untold.
-///
-/// The count stops at `u64::MAX`.
-#[derive(Drop)]
-pub struct StdSink<'a, R: Print> {
-    runtime: &'a R,
-    failures: u64,
-}
-
-impl<'a, R: Print> Model for StdSink<'a, R> {
-    ghost use Rattle.std.specs.Prelude.{ℕ};
-
-    ghost Value = { ℕ };
-
-    ghost view = { λ sink. sink.failures };
-}
-
-impl<'a, R: Print> StdSink<'a, R> {
-    /// The standard output of this runtime. No put has failed.
-    pub fn new(runtime: &'a R) -> StdSink<'a, R>
-        ensures { result ≡ 0 }
-    {
-        StdSink {
-            runtime,
-            failures: 0,
-        }
-    }
-}
-
-impl<R: Print> Sink for StdSink<'_, R> {
-    ghost use Rattle.std.specs.Prelude.{None};
-
-    ghost told = { λ failures. record { got = None; faults = failures; spare = None } };
-
-    fn room(&self) -> Option<u64> {
-        None
-    }
-
-    fn put(&mut self, piece: &[u8]) -> Result<u64, SinkFailed> {
-        if piece.is_empty() {
-            return Ok(0);
-        }
-        match write_part(&mut io::writer(self.runtime), piece) {
-            Some(taken) => Ok(taken as u64),
-            None => {
-                self.failures = self.failures.saturating_add(1);
-                Err(SinkFailed)
-            }
-        }
     }
 }

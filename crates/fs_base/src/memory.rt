@@ -102,7 +102,12 @@ impl Model for MemFiles {
 
     ghost Value = { ScriptedFiles };
 
-    ghost view = { λ held. record { files = held.files.items; fails = held.fails.items; next_call = held.next_call; failures = held.failures } };
+    ghost view = { λ held. record {
+      files = held.files.items;
+      fails = held.fails.items;
+      next_call = held.next_call;
+      failures = held.failures;
+    } };
 }
 
 impl MemFiles {
@@ -157,13 +162,18 @@ impl MemFiles {
 }
 
 impl Files for MemFiles {
-    ghost use Rattle.std.specs.Prelude.{◌≡◌, ◌≤◌, true, length, Some, Err, IfOk, ◌↔◌};
+    ghost use Rattle.std.specs.Prelude.{◌≡◌, ◌≤◌, true, length, Some, None, Err, IfOk, ◌↔◌};
     ghost use Rattle.std.specs.Result.{IfErr};
     ghost use Rattle.fs_base.specs.Outside.{Rose, MoreAreHeld, WhereFailed, WhereTooLong, WhereNotStored};
     ghost use Rattle.fs_base.specs.Stored.{newest, held_or_nothing};
     ghost use Rattle.fs_base.specs.Memory.{fails_next, CannotLoad, after_load, after_store};
 
-    ghost told = { λ held. record { holds = λ name. held_or_nothing (newest held.files name); faults = λ name. held.failures; store_faults = λ name. held.failures } };
+    ghost told = { λ held. record {
+      holds = λ name. held_or_nothing (newest held.files name);
+      faults = λ name. held.failures;
+      store_faults = λ name. held.failures;
+      loaded = None;
+    } };
 
     fn load(&mut self, alloc: Global, name: &str, limit: u64) -> Result<Vec<u8>, LoadError>
         ensures bytes { IfOk result (λ bytes. newest self.old.files name.now ≡ Some bytes.items) }
@@ -253,12 +263,17 @@ impl CleanFiles {
 }
 
 impl Files for CleanFiles {
-    ghost use Rattle.std.specs.Prelude.{◌≡◌, ◌≤◌, ◌∷◌, length, IfOk, OnOk};
+    ghost use Rattle.std.specs.Prelude.{◌≡◌, ◌≤◌, ◌∷◌, length, None, IfOk, OnOk};
     ghost use Rattle.std.specs.Result.{IfErr, OnErr};
     ghost use Rattle.fs_base.specs.Outside.{AreHeld, MoreAreHeld, WhereFailed, WhereTooLong};
     ghost use Rattle.fs_base.specs.Stored.{newest, held_or_empty};
 
-    ghost told = { λ held. record { holds = λ name. held_or_empty (newest held name); faults = λ name. 0; store_faults = λ name. 0 } };
+    ghost told = { λ held. record {
+      holds = λ name. held_or_empty (newest held name);
+      faults = λ name. 0;
+      store_faults = λ name. 0;
+      loaded = None;
+    } };
 
     fn load(&mut self, alloc: Global, name: &str, limit: u64) -> Result<Vec<u8>, LoadError>
         ensures bytes { IfOk result (λ bytes. AreHeld (held_or_empty (newest self.old name.now)) bytes.items) }

@@ -1,7 +1,8 @@
 //! Sinks in memory. Each takes its memory before it is put to, by `reserve`.
 ghost use Rattle.std.specs.Prelude.{◌≡◌, ◌+◌, ◌<◌, ◌≤◌, [], ◌++◌, length, take, OnOk, IfOk, vec_len, vec_capacity};
 ghost use Rattle.std.specs.Result.{OnErr};
-ghost use Rattle.fs_base.specs.Sinks.{RoomySink, with_room, ScriptedSink, no_puts, with_room_scripted, taken_next, after_taking, after_failed_put};
+ghost use Rattle.fs_base.specs.Sinks.{RoomySink, with_room, ScriptedSink, no_puts, with_room_scripted, taken_next, after_taking};
+ghost use Rattle.fs_base.specs.Sinks.{after_failed_put};
 
 use crate::outside::{NoMemory, Sink, SinkFailed};
 use std::alloc::Global;
@@ -118,7 +119,13 @@ impl Model for MemSink {
 
     ghost Value = { ScriptedSink };
 
-    ghost view = { λ sink. record { bytes = sink.bytes.items; takes = sink.takes.items; next_call = sink.next_call; room = sink.room; failures = sink.failures } };
+    ghost view = { λ sink. record {
+      bytes = sink.bytes.items;
+      takes = sink.takes.items;
+      next_call = sink.next_call;
+      room = sink.room;
+      failures = sink.failures;
+    } };
 
     ghost invariant = { λ sink. vec_len sink.bytes + sink.room ≤ vec_capacity sink.bytes };
 }

@@ -2,13 +2,13 @@
 use Rattle.std.specs.Prelude.{ℕ, zero, suc, ◌==◌, Bool, true, false, cond, List, [], ◌∷◌, ◌++◌, map, length, filter}
 use Rattle.std.specs.List.{range_with_len, list_any}
 use Rattle.fs_model.specs.Machines.{Fsmd}
-use Rattle.fs_ast.specs.Sound.{branch_count, is_cutpoint}
+use Rattle.fs_ast.specs.SoundMachines.{branch_count, is_cutpoint}
 use Rattle.fs_cut.specs.Paths.{Point, Start, At, Done, Path, is_fork, end_at, target_of}
 
 -- from a state on, the states that are left by their one branch, at most n
-abbrev pub passed : Fsmd → ℕ → ℕ → List ℕ
-passed m zero q = []
-passed m (suc n) q = cond (is_cutpoint m q) [] (q ∷ passed m n (target_of m q 0))
+abbrev pub passed_states : Fsmd → ℕ → ℕ → List ℕ
+passed_states m zero q = []
+passed_states m (suc n) q = cond (is_cutpoint m q) [] (q ∷ passed_states m n (target_of m q 0))
 
 -- the state to which they lead
 abbrev pub reached : Fsmd → ℕ → ℕ → ℕ
@@ -19,7 +19,12 @@ reached m (suc n) q = cond (is_cutpoint m q) q (reached m n (target_of m q 0))
 abbrev pub path_by : Fsmd → Point → ℕ → ℕ → Path
 path_by m P q k =
     let first = target_of m q k in
-    record { from = P; branch = k; states = q ∷ passed m (length m.states) first; to = end_at m (reached m (length m.states) first) }
+    record {
+      from = P;
+      branch = k;
+      states = q ∷ passed_states m (length m.states) first;
+      to = end_at m (reached m (length m.states) first);
+    }
 
 -- the paths from a point by the branches of its state q, in order
 abbrev pub paths_by : Fsmd → Point → ℕ → List Path
@@ -36,16 +41,16 @@ abbrev pub points_of : Fsmd → List Point
 points_of m = Start ∷ (map At (filter (is_fork m) (range_with_len 0 (length m.states))) ++ Done ∷ [])
 
 -- a point with its paths
-pub record Entry : Type 0 where
+pub record PointPaths : Type 0 where
   pub point : Point
   pub paths : List Path
 
 -- points with what is listed for each
-abbrev pub entries : (Point → List Path) → List Point → List Entry
+abbrev pub entries : (Point → List Path) → List Point → List PointPaths
 entries f ps = map (λ P. record { point = P; paths = f P }) ps
 
 -- the cover of a machine
-abbrev pub cover_of : Fsmd → List Entry
+abbrev pub cover_of : Fsmd → List PointPaths
 cover_of m = entries (paths_of m) (points_of m)
 
 abbrev pub same_point : Point → Point → Bool
@@ -60,10 +65,10 @@ same_point Done (At r) = false
 same_point Done Done = true
 
 -- whether a point is listed
-abbrev pub has_point : List Entry → Point → Bool
+abbrev pub has_point : List PointPaths → Point → Bool
 has_point es P = list_any (λ e. same_point e.point P) es
 
 -- the paths that are listed for a point
-abbrev pub paths_from : List Entry → Point → List Path
+abbrev pub paths_from : List PointPaths → Point → List Path
 paths_from [] P = []
 paths_from (e ∷ es) P = cond (same_point e.point P) e.paths (paths_from es P)

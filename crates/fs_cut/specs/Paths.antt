@@ -5,7 +5,7 @@ use Rattle.fs_model.specs.Machines.{Fsmd, transitions_of}
 use Rattle.fs_model.specs.Stores.{Store}
 use Rattle.fs_model.specs.Meaning.{act_all}
 use Rattle.fs_model.specs.Trees.{Branch, branches_of, branch_holds}
-use Rattle.fs_ast.specs.Sound.{branch_count, is_cutpoint}
+use Rattle.fs_ast.specs.SoundMachines.{branch_count, is_cutpoint}
 
 -- the reset state as a run begins, a state with more than one branch, or the return to the reset state
 pub data Point : Type 0 where
@@ -62,26 +62,26 @@ pub record IsPath (m : Fsmd) (p : Path) : Type 0 where
   pub passes : Passes m (target_of m (state_of m p.from) p.branch) rest p.to
 
 -- a state with the number of the branch by which it is left
-pub record Step : Type 0 where
+pub record BranchStep : Type 0 where
   pub state : ℕ
   pub branch : ℕ
 
 -- the first state is left by that branch, each other one by its one branch
-abbrev pub steps_by : ℕ → List ℕ → List Step
+abbrev pub steps_by : ℕ → List ℕ → List BranchStep
 steps_by k [] = []
 steps_by k (q ∷ qs) = record { state = q; branch = k } ∷ map (λ r. record { state = r; branch = 0 }) qs
 
-abbrev pub steps_in : Path → List Step
+abbrev pub steps_in : Path → List BranchStep
 steps_in p = steps_by p.branch p.states
 
 -- the store after a step
-abbrev pub after : Fsmd → Step → Store → Store
-after m x s = act_all (branch_at m x.state x.branch).assignments s s
+abbrev pub store_after : Fsmd → BranchStep → Store → Store
+store_after m x s = act_all (branch_at m x.state x.branch).assignments s s
 
 -- the store after steps
-abbrev pub effect : Fsmd → List Step → Store → Store
-effect m [] s = s
-effect m (x ∷ xs) s = effect m xs (after m x s)
+abbrev pub store_after_steps : Fsmd → List BranchStep → Store → Store
+store_after_steps m [] s = s
+store_after_steps m (x ∷ xs) s = store_after_steps m xs (store_after m x s)
 
 -- whether a store takes a path: all literals of its branch hold
 abbrev pub takes : Fsmd → Path → Store → Bool

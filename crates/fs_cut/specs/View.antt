@@ -16,11 +16,11 @@ abbrev pub path_of : CodePath → Path
 path_of p = record { from = point_of p.from; branch = p.branch; states = map (λ s. s.0) p.states.items; to = point_of p.to }
 
 -- what is listed for a point, from the paths of the reset state and those of each state that is a point
-abbrev pub listed : List Path → List (List Path) → Point → List Path
-listed start forks Start = start
-listed start forks (At q) = slice_index_or forks q []
-listed start forks Done = []
+abbrev pub listed_paths : List Path → List (List Path) → Point → List Path
+listed_paths start forks Start = start
+listed_paths start forks (At q) = slice_index_or forks q []
+listed_paths start forks Done = []
 
 -- nothing is listed for what isn't among the points
 pub record ListsPoints (ps : List Point) (start : List Path) (forks : List (List Path)) : Type 0 where
-  pub no_other : (P : Point) → has_point (entries (listed start forks) ps) P ≡ false → listed start forks P ≡ []
+  pub no_other : (P : Point) → has_point (entries (listed_paths start forks) ps) P ≡ false → listed_paths start forks P ≡ []

@@ -3,13 +3,13 @@
 
 ghost use Rattle.std.specs.Prelude.{◌≡◌, map};
 ghost use Rattle.fs_cut.specs.Covers.{entries, paths_from};
-ghost use Rattle.fs_cut.specs.View.{point_of, path_of, listed, ListsPoints};
+ghost use Rattle.fs_cut.specs.View.{point_of, path_of, listed_paths, ListsPoints};
 
 use fs_model::parts::StateId;
 use std::marker::Model;
 
 /// Where runs are cut.
-#[derive(Clone, Copy, Debug, PartialEq, Eq)]
+#[derive(Clone, Copy, PartialEq, Eq)]
 pub enum Point {
     /// The reset state as a run begins.
     Start,
@@ -41,14 +41,16 @@ pub struct Cover {
 
 impl Model for Cover {
     ghost use Rattle.std.specs.Prelude.{List, map};
-    ghost use Rattle.fs_cut.specs.Covers.{Entry, entries};
-    ghost use Rattle.fs_cut.specs.View.{point_of, path_of, listed, ListsPoints};
+    ghost use Rattle.fs_cut.specs.Covers.{PointPaths, entries};
+    ghost use Rattle.fs_cut.specs.View.{point_of, path_of, listed_paths, ListsPoints};
 
-    ghost Value = { List Entry };
+    ghost Value = { List PointPaths };
 
-    ghost view = { λ c. entries (listed (map path_of c.start.items) (map (λ ps. map path_of ps.items) c.forks.items)) (map point_of c.points.items) };
+    ghost view = { λ c. entries (listed_paths (map path_of c.start.items) (map (λ ps. map path_of ps.items) c.forks.items))
+        (map point_of c.points.items) };
 
-    ghost invariant = { λ c. ListsPoints (map point_of c.points.items) (map path_of c.start.items) (map (λ ps. map path_of ps.items) c.forks.items) };
+    ghost invariant = { λ c. ListsPoints (map point_of c.points.items) (map path_of c.start.items)
+        (map (λ ps. map path_of ps.items) c.forks.items) };
 }
 
 impl Cover {
@@ -77,8 +79,10 @@ impl Cover {
 
     /// The cover of these points, with the paths of the reset state and those of each other state that is a point.
     pub(crate) fn of(points: Vec<Point>, start: Vec<Path>, forks: Vec<Vec<Path>>) -> Cover
-        requires { ListsPoints (map point_of points.items) (map path_of start.items) (map (λ ps. map path_of ps.items) forks.items) }
-        ensures { result ≡ entries (listed (map path_of start.items) (map (λ ps. map path_of ps.items) forks.items)) (map point_of points.items) }
+        requires { ListsPoints (map point_of points.items) (map path_of start.items)
+            (map (λ ps. map path_of ps.items) forks.items) }
+        ensures { result ≡ entries (listed_paths (map path_of start.items) (map (λ ps. map path_of ps.items) forks.items))
+            (map point_of points.items) }
     {
         Cover {
             points,

@@ -41,7 +41,8 @@ fn points(alloc: Global, m: &Machine) -> Result<Vec<Point>, NoMemory>
 // Adds the point of a state, if it has more than one branch and isn't the reset state.
 fn push_fork(m: &Machine, state: StateId, out: &mut Vec<Point>) -> Result<(), NoMemory>
     requires { state.0 < length m.now.states }
-    ensures { OnOk result (map point_of out.new.items ≡ map point_of out.old.items ++ cond (is_fork m.now state.0) (At state.0 ∷ []) []) }
+    ensures { OnOk result
+        (map point_of out.new.items ≡ map point_of out.old.items ++ cond (is_fork m.now state.0) (At state.0 ∷ []) []) }
 {
     if is_fork(m, state) {
         out.push(Point::At(state))?;
@@ -63,7 +64,9 @@ fn fork_paths(alloc: Global, m: &Machine, state: StateId) -> Result<Vec<Path>, N
 
 // The paths of each state that is a point, by its number.
 fn all_forks(alloc: Global, m: &Machine) -> Result<Vec<Vec<Path>>, NoMemory>
-    ensures { IfOk result (λ out. map (λ ps. map path_of ps.items) out.items ≡ map (λ q. cond (is_fork m.now q) (paths_of m.now (At q)) []) (range_with_len 0 (length m.now.states))) }
+    ensures { IfOk result
+        (λ out. map (λ ps. map path_of ps.items) out.items ≡ map (λ q. cond (is_fork m.now q) (paths_of m.now (At q)) [])
+        (range_with_len 0 (length m.now.states))) }
 {
     let mut out = Vec::new(alloc);
     for state in 0..m.state_count() {

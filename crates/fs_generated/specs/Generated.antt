@@ -27,18 +27,22 @@ abbrev pub declaration : Role → List (List ℕ) → Declaration
 declaration role names = record { line = 1; role = role; sort = Scalar; names = names }
 
 abbrev pub declarations : List Declaration
-declarations = declaration Input (codes "a" ∷ codes "b" ∷ []) ∷ declaration Output (codes "y" ∷ []) ∷ declaration Local (codes "i" ∷ codes "s" ∷ codes "t" ∷ []) ∷ []
+declarations = declaration Input (codes "a" ∷ codes "b" ∷ []) ∷ declaration Output (codes "y" ∷ [])
+    ∷ declaration Local (codes "i" ∷ codes "s" ∷ codes "t" ∷ []) ∷ []
 
 -- a transition to a state
 abbrev pub transition : Option (Guard (List ℕ)) → List ℕ → List (Assignment (List ℕ)) → SourceTransition
-transition guard target assignments = record { line = 1; content = record { guard = guard; target = target; assignments = assignments } }
+transition guard target assignments = record {
+  line = 1;
+  content = record { guard = guard; target = target; assignments = assignments };
+}
 
 abbrev pub state : List ℕ → List SourceTransition → SourceState
 state name lines = record { line = 1; name = name; lines = lines }
 
 -- a variable of one letter gets a value
-abbrev pub assigned : ℕ → Term (List ℕ) → Assignment (List ℕ)
-assigned letter value = Assign (letter ∷ []) value
+abbrev pub letter_assignment : ℕ → Term (List ℕ) → Assignment (List ℕ)
+letter_assignment letter value = Assign (letter ∷ []) value
 
 -- i > 0
 abbrev pub turns_are_left : Guard (List ℕ)
@@ -61,34 +65,35 @@ abbrev pub take_summand : ℕ → Assignment (List ℕ)
 take_summand k = Assign (codes "t") (summand k)
 
 -- goto h: i = a;
-abbrev pub entry : ℕ → SourceState
-entry k = state (entry_name k) (transition None (head_name k) (Assign (codes "i") (Variable (codes "a")) ∷ []) ∷ [])
+abbrev pub entry_state : ℕ → SourceState
+entry_state k = state (entry_name k) (transition None (head_name k) (Assign (codes "i") (Variable (codes "a")) ∷ []) ∷ [])
 
 -- a loop's head: where turns are left one is taken, else the next round begins
 abbrev pub head : ℕ → List ℕ → List (Assignment (List ℕ)) → SourceState
-head k target assignments = state (head_name k) (transition (Some turns_are_left) target assignments ∷ transition None (entry_name (k + 1)) [] ∷ [])
+head k target assignments = state (head_name k)
+    (transition (Some turns_are_left) target assignments ∷ transition None (entry_name (k + 1)) [] ∷ [])
 
 -- goto h: s = s + t, i = i - 1;
-abbrev pub body : ℕ → SourceState
-body k = state (body_name k) (transition None (head_name k) (add_to_sum (Variable (codes "t")) ∷ count_down ∷ []) ∷ [])
+abbrev pub body_state : ℕ → SourceState
+body_state k = state (body_name k) (transition None (head_name k) (add_to_sum (Variable (codes "t")) ∷ count_down ∷ []) ∷ [])
 
 -- goto p000: y = s;
-abbrev pub last : ℕ → SourceState
-last n = state (entry_name n) (transition None (entry_name 0) (Assign (codes "y") (Variable (codes "s")) ∷ []) ∷ [])
+abbrev pub last_state : ℕ → SourceState
+last_state n = state (entry_name n) (transition None (entry_name 0) (Assign (codes "y") (Variable (codes "s")) ∷ []) ∷ [])
 
 -- a round of each machine: a times, b + k is added to s
 abbrev pub left_round : ℕ → List SourceState
-left_round k = entry k ∷ head k (body_name k) (take_summand k ∷ []) ∷ body k ∷ []
+left_round k = entry_state k ∷ head k (body_name k) (take_summand k ∷ []) ∷ body_state k ∷ []
 
 abbrev pub right_round : ℕ → List SourceState
-right_round k = entry k ∷ head k (head_name k) (take_summand k ∷ add_to_sum (summand k) ∷ count_down ∷ []) ∷ []
+right_round k = entry_state k ∷ head k (head_name k) (take_summand k ∷ add_to_sum (summand k) ∷ count_down ∷ []) ∷ []
 
 -- the rounds from 0 to n - 1, and then the state that gives y the sum
-abbrev pub states : (ℕ → List SourceState) → ℕ → List SourceState
-states round n = flat_map round (range_with_len 0 n) ++ last n ∷ []
+abbrev pub generated_states : (ℕ → List SourceState) → ℕ → List SourceState
+generated_states round n = flat_map round (range_with_len 0 n) ++ last_state n ∷ []
 
 abbrev pub source : (ℕ → List SourceState) → ℕ → Source
-source round n = record { declarations = declarations; reset_line = 1; reset = entry_name 0; states = states round n }
+source round n = record { declarations = declarations; reset_line = 1; reset = entry_name 0; states = generated_states round n }
 
 -- the parts of the two machines of a size
 abbrev pub left_source : ℕ → Source

@@ -3,8 +3,8 @@
 ghost use Rattle.std.specs.Prelude.{◌≡◌, ◌≤◌, ◌∷◌, [], map, IfOk, IsTrue, codes};
 ghost use Rattle.fs_model.specs.View.{declaration_of, source_state_of, source_of};
 ghost use Rattle.fs_model.specs.WellFormed.{is_well_formed};
-ghost use Rattle.fs_rules.specs.Spelled.{machine_of};
-ghost use Rattle.fs_rules.specs.Rules.{IsLawful};
+ghost use Rattle.fs_rules.specs.MachineOfParts.{machine_of};
+ghost use Rattle.fs_rules.specs.Rules.{BreaksNoRule};
 ghost use Rattle.fs_generated.specs.Generated.{declaration, declarations, entry_name, source, left_source, right_source};
 ghost use Rattle.fs_generated.specs.Sides.{round_of};
 
@@ -41,7 +41,7 @@ fn machine(alloc: Global, side: Side, n: u32) -> Result<Machine, NoMemory>
 // The machine of parts that break no rule.
 fn built(alloc: Global, parts: &Parts) -> Result<Machine, NoMemory>
     requires formed { IsTrue (is_well_formed (source_of parts.now)) }
-    requires lawful { IsLawful (source_of parts.now) }
+    requires lawful { BreaksNoRule (source_of parts.now) }
     ensures { IfOk result (λ m. m ≡ machine_of (source_of parts.now)) }
 {
     match Machine::build(alloc, parts) {
@@ -53,7 +53,13 @@ fn built(alloc: Global, parts: &Parts) -> Result<Machine, NoMemory>
 
 // The parts with these states.
 fn parts(alloc: Global, states: Vec<RawState>) -> Result<Parts, NoMemory>
-    ensures { IfOk result (λ p. source_of p ≡ record { declarations = declarations; reset_line = 1; reset = entry_name 0; states = map source_state_of states.items }) }
+    ensures { IfOk result
+        (λ p. source_of p ≡ record {
+          declarations = declarations;
+          reset_line = 1;
+          reset = entry_name 0;
+          states = map source_state_of states.items;
+        }) }
 {
     let decls = declarations(alloc)?;
     Ok(Parts {

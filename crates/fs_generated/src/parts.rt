@@ -4,7 +4,8 @@ ghost use Rattle.std.specs.Prelude.{◌≡◌, ◌∷◌, [], true, map, IfOk, S
 ghost use Rattle.fs_model.specs.Words.{is_name};
 ghost use Rattle.fs_model.specs.Terms.{Variable, Sum};
 ghost use Rattle.fs_model.specs.View.{named_term, named_guard, named_assignment, source_transition_of};
-ghost use Rattle.fs_generated.specs.Generated.{assigned, transition, turns_are_left, summand, add_to_sum, count_down, take_summand};
+ghost use Rattle.fs_generated.specs.Generated.{letter_assignment, transition, turns_are_left, summand, add_to_sum, count_down};
+ghost use Rattle.fs_generated.specs.Generated.{take_summand};
 
 use crate::names::short_name;
 use fs_model::memory::boxed;
@@ -38,7 +39,7 @@ pub fn summand(alloc: Global, k: u32) -> Result<Expr<Name>, NoMemory>
 
 pub fn assign(alloc: Global, letter: u8, value: Expr<Name>) -> Result<Assign<Name>, NoMemory>
     requires { is_name (letter ∷ []) ≡ true }
-    ensures { IfOk result (λ a. named_assignment a ≡ assigned letter (named_term value)) }
+    ensures { IfOk result (λ a. named_assignment a ≡ letter_assignment letter (named_term value)) }
 {
     Ok(Assign::Set(short_name(alloc, letter)?, value))
 }
@@ -91,7 +92,8 @@ pub fn transition(target: Name, assigns: Vec<Assign<Name>>) -> RawLine
 
 // A transition that is taken where turns are left.
 pub fn turn(alloc: Global, target: Name, assigns: Vec<Assign<Name>>) -> Result<RawLine, NoMemory>
-    ensures { IfOk result (λ l. source_transition_of l ≡ transition (Some turns_are_left) target (map named_assignment assigns.items)) }
+    ensures { IfOk result
+        (λ l. source_transition_of l ≡ transition (Some turns_are_left) target (map named_assignment assigns.items)) }
 {
     Ok(RawLine {
         line: 1,

@@ -2,7 +2,8 @@
 
 ghost use Rattle.std.specs.Prelude.{◌≡◌, ◌<◌, ◌≤◌, ◌∷◌, [], map, IfOk};
 ghost use Rattle.fs_model.specs.View.{named_assignment, source_transition_of, source_state_of};
-ghost use Rattle.fs_generated.specs.Generated.{state, entry_name, head_name, body_name, summand, take_summand, add_to_sum, count_down, entry, head, body, last, states};
+ghost use Rattle.fs_generated.specs.Generated.{state, entry_name, head_name, body_name, summand, take_summand, add_to_sum};
+ghost use Rattle.fs_generated.specs.Generated.{count_down, entry_state, head, body_state, last_state, generated_states};
 ghost use Rattle.fs_generated.specs.Sides.{round_of};
 
 use crate::names::{body_name, entry_name, head_name};
@@ -32,7 +33,7 @@ fn state(name: Name, lines: Vec<RawLine>) -> RawState
 
 // The state with which a round begins.
 fn entry(alloc: Global, k: u32) -> Result<RawState, NoMemory>
-    ensures { IfOk result (λ s. source_state_of s ≡ entry k) }
+    ensures { IfOk result (λ s. source_state_of s ≡ entry_state k) }
 {
     let assigns = one(alloc, assign(alloc, b'i', variable(alloc, b'a')?)?)?;
     let target = head_name(alloc, k)?;
@@ -68,7 +69,8 @@ fn left_head(alloc: Global, k: u32) -> Result<RawState, NoMemory>
 // The right machine's head: a whole turn.
 fn right_head(alloc: Global, k: u32) -> Result<RawState, NoMemory>
     requires { k < 300 }
-    ensures { IfOk result (λ s. source_state_of s ≡ head k (head_name k) (take_summand k ∷ add_to_sum (summand k) ∷ count_down ∷ [])) }
+    ensures { IfOk result
+        (λ s. source_state_of s ≡ head k (head_name k) (take_summand k ∷ add_to_sum (summand k) ∷ count_down ∷ [])) }
 {
     let mut assigns = one(alloc, take_summand(alloc, k)?)?;
     assigns.push(add_to_sum(alloc, summand(alloc, k)?)?)?;
@@ -78,7 +80,7 @@ fn right_head(alloc: Global, k: u32) -> Result<RawState, NoMemory>
 
 // The body of the left machine's loop: the rest of a turn.
 fn body(alloc: Global, k: u32) -> Result<RawState, NoMemory>
-    ensures { IfOk result (λ s. source_state_of s ≡ body k) }
+    ensures { IfOk result (λ s. source_state_of s ≡ body_state k) }
 {
     let mut assigns = one(alloc, add_to_sum(alloc, variable(alloc, b't')?)?)?;
     assigns.push(count_down(alloc)?)?;
@@ -89,7 +91,7 @@ fn body(alloc: Global, k: u32) -> Result<RawState, NoMemory>
 
 // The state that returns.
 fn last(alloc: Global, n: u32) -> Result<RawState, NoMemory>
-    ensures { IfOk result (λ s. source_state_of s ≡ last n) }
+    ensures { IfOk result (λ s. source_state_of s ≡ last_state n) }
 {
     let assigns = one(alloc, assign(alloc, b'y', variable(alloc, b's')?)?)?;
     let target = entry_name(alloc, 0)?;
@@ -119,7 +121,7 @@ fn round(alloc: Global, side: Side, k: u32) -> Result<Vec<RawState>, NoMemory>
 // The states of all rounds, and the last one.
 pub fn states(alloc: Global, side: Side, n: u32) -> Result<Vec<RawState>, NoMemory>
     requires { n ≤ 300 }
-    ensures { IfOk result (λ out. map source_state_of out.items ≡ states (round_of side) n) }
+    ensures { IfOk result (λ out. map source_state_of out.items ≡ generated_states (round_of side) n) }
 {
     let mut out = Vec::new(alloc);
     for k in 0..n {

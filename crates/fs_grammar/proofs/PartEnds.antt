@@ -5,26 +5,30 @@ use Rattle.fs_model.specs.Terms.{Term, Guard, Variable, Negative, Test}
 use Rattle.fs_model.specs.Terms as terms
 use Rattle.fs_grammar.specs.declared.token.TokenKind.{TokenKind}
 use Rattle.fs_grammar.specs.declared.token.TokenKind.TheVariants.{OpenBracket, OpenBrace, Plus, Minus, Star, Slash, Percent, Bang, AndAnd}
-use Rattle.fs_grammar.specs.Ends.{IsNoSum, IsNoProduct, IsNoAnd, IsNoIndex, IsNoBrace}
-use Rattle.fs_grammar.specs.Grammar.{OpenTransition, scalar, UnitContext, negates, first_of_all, and_after, ConjunctionContext, first_of_any, or_after, FactorContext, first_factor, times, divides, remainder_of, negative, ProductContext, first_product, plus, minus, right, left, after_assignment_name, at_equals, at_unit, at_sum, after_conjunction, after_name, after_product, after_sum, factor_done, product_done, unit_done, conjunction_done, literal_done, step_guarded, step_conjunction, step_joined, step_sum, step_summed, step_product, step_multiplied, step_name, step, finish}
+use Rattle.fs_grammar.specs.PartEnds.{IsNoSum, IsNoProduct, IsNoAnd, IsNoIndex, IsNoBrace}
+use Rattle.fs_grammar.specs.Grammar.{OpenTransition, scalar, UnitContext, negates, first_of_all, and_after, ConjunctionContext, first_of_any, or_after}
+use Rattle.fs_grammar.specs.Grammar.{FactorContext, first_factor, times, divides, remainder_of, negative, ProductContext, first_product, plus, minus, right}
+use Rattle.fs_grammar.specs.Grammar.{left, after_assignment_name, at_equals, at_unit, at_sum, after_conjunction, after_name, after_product, after_sum}
+use Rattle.fs_grammar.specs.Grammar.{factor_done, product_done, unit_done, conjunction_done, literal_done, step_guarded, step_conjunction, step_joined}
+use Rattle.fs_grammar.specs.Grammar.{step_sum, step_summed, step_product, step_multiplied, step_name, step, finish_source}
 
 -- ---- a text may not end where a part has been read
 
-pub unit_stops : (u : Guard (List ℕ)) (k : UnitContext) → finish (unit_done u k) ≡ None
+pub unit_stops : (u : Guard (List ℕ)) (k : UnitContext) → finish_source (unit_done u k) ≡ None
 unit_stops u (negates k) = unit_stops (terms.Not u) k
 unit_stops u (first_of_all k) = refl
 unit_stops u (and_after c k) = refl
 
-pub conjunction_stops : (c : Guard (List ℕ)) (k : ConjunctionContext) → finish (conjunction_done c k) ≡ None
+pub conjunction_stops : (c : Guard (List ℕ)) (k : ConjunctionContext) → finish_source (conjunction_done c k) ≡ None
 conjunction_stops c (first_of_any k) = refl
 conjunction_stops c (or_after g k) = refl
 
-pub product_stops : (p : Term (List ℕ)) (k : ProductContext) → finish (product_done p k) ≡ None
+pub product_stops : (p : Term (List ℕ)) (k : ProductContext) → finish_source (product_done p k) ≡ None
 product_stops p (first_product k) = refl
 product_stops p (plus s k) = refl
 product_stops p (minus s k) = refl
 
-pub factor_stops : (f : Term (List ℕ)) (k : FactorContext) → finish (factor_done f k) ≡ None
+pub factor_stops : (f : Term (List ℕ)) (k : FactorContext) → finish_source (factor_done f k) ≡ None
 factor_stops f (first_factor k) = refl
 factor_stops f (times p k) = refl
 factor_stops f (divides p k) = refl
@@ -38,16 +42,19 @@ unit_joins n t u (negates k) = unit_joins n t (terms.Not u) k
 unit_joins n t u (first_of_all k) = refl
 unit_joins n t u (and_after c k) = refl
 
-sum_joins : (t : TokenKind) (r : Rel) (l s : Term (List ℕ)) (k : UnitContext) → IsNoSum (Some t) → step_sum t s (right r l k) ≡ step_joined t (literal_done r l s k)
+sum_joins : (t : TokenKind) (r : Rel) (l s : Term (List ℕ)) (k : UnitContext) → IsNoSum (Some t)
+    → step_sum t s (right r l k) ≡ step_joined t (literal_done r l s k)
 sum_joins Plus r l s k h = absurd h
 sum_joins Minus r l s k h = absurd h
 sum_joins _ r l s k h = refl
 
 -- a literal ends where its second sum does
-pub literal_steps : (n : ℕ) (t : TokenKind) (r : Rel) (l s : Term (List ℕ)) (k : UnitContext) → IsNoSum (Some t) → step (after_sum s (right r l k)) n t ≡ step (literal_done r l s k) n t
+pub literal_steps : (n : ℕ) (t : TokenKind) (r : Rel) (l s : Term (List ℕ)) (k : UnitContext) → IsNoSum (Some t)
+    → step (after_sum s (right r l k)) n t ≡ step (literal_done r l s k) n t
 literal_steps n t r l s k h = sum_joins t r l s k h ∙ sym (unit_joins n t (Test (record { relation = r; left = l; right = s })) k)
 
-conjunction_joins : (n : ℕ) (t : TokenKind) (c : Guard (List ℕ)) (k : ConjunctionContext) → step (conjunction_done c k) n t ≡ step_guarded t (conjunction_done c k)
+conjunction_joins : (n : ℕ) (t : TokenKind) (c : Guard (List ℕ)) (k : ConjunctionContext)
+    → step (conjunction_done c k) n t ≡ step_guarded t (conjunction_done c k)
 conjunction_joins n t c (first_of_any k) = refl
 conjunction_joins n t c (or_after g k) = refl
 
@@ -56,7 +63,8 @@ and_ends AndAnd c k h = absurd h
 and_ends _ c k h = refl
 
 -- a conjunction ends where it does not go on
-pub conjunction_steps : (n : ℕ) (t : TokenKind) (c : Guard (List ℕ)) (k : ConjunctionContext) → IsNoAnd (Some t) → step (after_conjunction c k) n t ≡ step (conjunction_done c k) n t
+pub conjunction_steps : (n : ℕ) (t : TokenKind) (c : Guard (List ℕ)) (k : ConjunctionContext) → IsNoAnd (Some t)
+    → step (after_conjunction c k) n t ≡ step (conjunction_done c k) n t
 conjunction_steps n t c k h = and_ends t c k h ∙ sym (conjunction_joins n t c k)
 
 -- ---- products and names
@@ -73,7 +81,8 @@ product_ends Percent p k h = absurd h
 product_ends _ p k h = refl
 
 -- a product ends where it does not go on
-pub product_steps : (n : ℕ) (t : TokenKind) (p : Term (List ℕ)) (k : ProductContext) → IsNoProduct (Some t) → step (after_product p k) n t ≡ step (product_done p k) n t
+pub product_steps : (n : ℕ) (t : TokenKind) (p : Term (List ℕ)) (k : ProductContext) → IsNoProduct (Some t)
+    → step (after_product p k) n t ≡ step (product_done p k) n t
 product_steps n t p k h = product_ends t p k h ∙ sym (product_joins n t p k)
 
 factor_joins : (n : ℕ) (t : TokenKind) (f : Term (List ℕ)) (k : FactorContext) → step (factor_done f k) n t ≡ step_multiplied t (factor_done f k)
@@ -88,11 +97,13 @@ name_ends OpenBracket x k h = absurd h
 name_ends _ x k h = refl
 
 -- a name without an index is a variable
-pub name_steps : (n : ℕ) (t : TokenKind) (x : List ℕ) (k : FactorContext) → IsNoIndex (Some t) → step (after_name x k) n t ≡ step (factor_done (Variable x) k) n t
+pub name_steps : (n : ℕ) (t : TokenKind) (x : List ℕ) (k : FactorContext) → IsNoIndex (Some t)
+    → step (after_name x k) n t ≡ step (factor_done (Variable x) k) n t
 name_steps n t x k h = name_ends t x k h ∙ sym (factor_joins n t (Variable x) k)
 
 -- a name without an index is a scalar that is assigned
-pub scalar_steps : (n : ℕ) (t : TokenKind) (o : OpenTransition) (x : List ℕ) → IsNoIndex (Some t) → step (after_assignment_name o x) n t ≡ step (at_equals o (scalar x)) n t
+pub scalar_steps : (n : ℕ) (t : TokenKind) (o : OpenTransition) (x : List ℕ) → IsNoIndex (Some t)
+    → step (after_assignment_name o x) n t ≡ step (at_equals o (scalar x)) n t
 scalar_steps n OpenBracket o x h = absurd h
 scalar_steps n _ o x h = refl
 

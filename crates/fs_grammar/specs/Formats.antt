@@ -12,9 +12,9 @@ format_of (pos (suc (suc zero))) = Some Two
 format_of _ = None
 
 -- the number of a format
-abbrev pub number_of : Format → ℤ
-number_of One = pos 1
-number_of Two = pos 2
+abbrev pub format_number : Format → ℤ
+format_number One = pos 1
+format_number Two = pos 2
 
 -- the words that can follow only in texts of format 2
 abbrev pub is_of_format_two : TokenKind → Bool

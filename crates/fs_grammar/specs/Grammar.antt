@@ -4,7 +4,8 @@ use Rattle.fs_model.specs.declared.parts.Rel.{Rel}
 use Rattle.fs_model.specs.declared.parts.Role.{Role}
 use Rattle.fs_model.specs.declared.parts.Role.TheVariants.{Output}
 use Rattle.fs_model.specs.declared.parts.Sort.TheVariants as sorts
-use Rattle.fs_model.specs.Terms.{Term, Variable, Read, Sum, Difference, Product, Quotient, Remainder, Negative, Guard, Test, Not, And, Or, Assignment, Assign, ArrayWrite}
+use Rattle.fs_model.specs.Terms.{Term, Variable, Read, Sum, Difference, Product, Quotient, Remainder, Negative, Guard, Test, Not}
+use Rattle.fs_model.specs.Terms.{And, Or, Assignment, Assign, ArrayWrite}
 use Rattle.fs_model.specs.Terms as terms
 use Rattle.fs_model.specs.Source.{Declaration, SourceTransition, SourceState, Source}
 use Rattle.fs_grammar.specs.declared.fault.TextKind.TheVariants.{Operators}
@@ -12,7 +13,11 @@ use Rattle.fs_grammar.specs.declared.fault.TextFault.{TextFault}
 use Rattle.fs_grammar.specs.declared.format.Format.{Format}
 use Rattle.fs_grammar.specs.declared.format.Format.TheVariants.{One, Two}
 use Rattle.fs_grammar.specs.declared.token.TokenKind.{TokenKind}
-use Rattle.fs_grammar.specs.declared.token.TokenKind.TheVariants.{Fsmd, Declare, Array, Reset, State, When, Goto, Emit, Port, Name, Number, Semicolon, Colon, Comma, Equals, OpenParen, CloseParen, OpenBracket, CloseBracket, OpenBrace, CloseBrace, Plus, Minus, Star, Slash, Percent, Bang, AndAnd, OrOr, Relation, End}
+use Rattle.fs_grammar.specs.declared.token.TokenKind.TheVariants.{Fsmd, Declare, Array, Reset, State, When, Goto, Emit, Port}
+use Rattle.fs_grammar.specs.declared.token.TokenKind.TheVariants.{Name, Number, Semicolon, Colon, Comma, Equals, OpenParen}
+use Rattle.fs_grammar.specs.declared.token.TokenKind.TheVariants.{CloseParen, OpenBracket, CloseBracket, OpenBrace, CloseBrace}
+use Rattle.fs_grammar.specs.declared.token.TokenKind.TheVariants.{Plus, Minus, Star, Slash, Percent, Bang, AndAnd, OrOr, Relation}
+use Rattle.fs_grammar.specs.declared.token.TokenKind.TheVariants.{End}
 use Rattle.fs_grammar.specs.declared.token.Token.{Token}
 use Rattle.fs_grammar.specs.Formats.{format_of}
 use Rattle.fs_grammar.specs.Tokens.{refusal, fault_at}
@@ -58,8 +63,8 @@ abbrev pub transition_read : OpenTransition → SourceTransition
 transition_read o = record { line = o.line; content = record { guard = o.guard; target = o.target; assignments = o.assignments } }
 
 -- its state with the transition that ends
-abbrev pub closed : OpenTransition → OpenState
-closed o = with_transitions o.state (transition_read o ∷ [])
+abbrev pub close_transition : OpenTransition → OpenState
+close_transition o = with_transitions o.state (transition_read o ∷ [])
 
 -- where a value goes: to a scalar, to an array at an index, or to a port
 pub data Destination : Type 0 where
@@ -68,10 +73,10 @@ pub data Destination : Type 0 where
   port : List ℕ → Destination
 
 -- a value is assigned or emitted
-abbrev pub assigned : Destination → Term (List ℕ) → Assignment (List ℕ)
-assigned (scalar x) e = Assign x e
-assigned (element x i) e = ArrayWrite x i e
-assigned (port x) e = terms.Emit x e
+abbrev pub destination_assignment : Destination → Term (List ℕ) → Assignment (List ℕ)
+destination_assignment (scalar x) e = Assign x e
+destination_assignment (element x i) e = ArrayWrite x i e
+destination_assignment (port x) e = terms.Emit x e
 
 -- ---- what is still expected
 
@@ -219,8 +224,8 @@ step_sum CloseParen s (parens k) = Some (factor_done s k)
 step_sum CloseBracket s (index x k) = Some (factor_done (Read x s) k)
 step_sum CloseBracket s (write_index o x) = Some (at_equals o (element x s))
 step_sum (Relation r) s (left k) = Some (at_sum (right r s k))
-step_sum Comma s (value o d) = Some (at_assignment (with_assignments o (assigned d s ∷ [])))
-step_sum Semicolon s (value o d) = Some (at_transition (closed (with_assignments o (assigned d s ∷ []))))
+step_sum Comma s (value o d) = Some (at_assignment (with_assignments o (destination_assignment d s ∷ [])))
+step_sum Semicolon s (value o d) = Some (at_transition (close_transition (with_assignments o (destination_assignment d s ∷ []))))
 step_sum t s (right r l k) = step_joined t (literal_done r l s k)
 step_sum _ s k = None
 
@@ -270,11 +275,13 @@ step at_format n _ = None
 step (at_semicolon f) n Semicolon = Some (at_declaration f [])
 step (at_semicolon f) n _ = None
 step (at_declaration f ds) n (Declare r) = Some (at_sort f ds n r)
-step (at_declaration f ds) n Port = in_format_two f (at_declared f ds (record { line = n; role = Output; sort = sorts.Port; names = [] }))
+step (at_declaration f ds) n Port =
+    in_format_two f (at_declared f ds (record { line = n; role = Output; sort = sorts.Port; names = [] }))
 step (at_declaration f ds) n Reset = Some (at_reset f ds n)
 step (at_declaration f ds) n _ = None
 step (at_sort f ds m r) n Array = Some (at_declared f ds (record { line = m; role = r; sort = sorts.Array; names = [] }))
-step (at_sort f ds m r) n (Name x) = Some (after_declared f ds (record { line = m; role = r; sort = sorts.Scalar; names = x ∷ [] }))
+step (at_sort f ds m r) n (Name x) =
+    Some (after_declared f ds (record { line = m; role = r; sort = sorts.Scalar; names = x ∷ [] }))
 step (at_sort f ds m r) n _ = None
 step (at_declared f ds d) n (Name x) = Some (after_declared f ds (with_names d (x ∷ [])))
 step (at_declared f ds d) n _ = None
@@ -287,7 +294,8 @@ step (after_reset f s) n Semicolon = Some (at_state f s)
 step (after_reset f s) n _ = None
 step (at_state f s) n State = Some (at_state_name f s n)
 step (at_state f s) n _ = None
-step (at_state_name f s m) n (Name x) = Some (after_state_name (record { format = f; source = s; state = record { line = m; name = x; lines = [] } }))
+step (at_state_name f s m) n (Name x) =
+    Some (after_state_name (record { format = f; source = s; state = record { line = m; name = x; lines = [] } }))
 step (at_state_name f s m) n _ = None
 step (after_state_name d) n Colon = Some (at_transition d)
 step (after_state_name d) n _ = None
@@ -295,7 +303,7 @@ step (at_transition d) n t = step_transition n t d
 step (at_target d m g) n (Name x) = Some (after_target (record { state = d; line = m; guard = g; target = x; assignments = [] }))
 step (at_target d m g) n _ = None
 step (after_target o) n Colon = Some (at_assignment o)
-step (after_target o) n Semicolon = Some (at_transition (closed o))
+step (after_target o) n Semicolon = Some (at_transition (close_transition o))
 step (after_target o) n _ = None
 step (at_assignment o) n (Name x) = Some (after_assignment_name o x)
 step (at_assignment o) n Emit = in_format_two o.state.format (at_port o)
@@ -316,22 +324,23 @@ step (after_product p k) n t = step_product t p k
 step (after_sum s k) n t = step_sum t s k
 
 -- the source, where a text may end here
-abbrev pub finish : ParseState → Option Source
-finish (at_state f s) = Some s
-finish (at_transition d) = Some (with_open_state d)
-finish _ = None
+abbrev pub finish_source : ParseState → Option Source
+finish_source (at_state f s) = Some s
+finish_source (at_transition d) = Some (with_open_state d)
+finish_source _ = None
 
 -- the source at the end, or the fault at a token that cannot follow
-abbrev pub stop : TokenKind → TextFault → Option Source → Result Source TextFault
-stop End f (Some s) = Ok s
-stop _ f _ = Err f
+abbrev pub stop_source : TokenKind → TextFault → Option Source → Result Source TextFault
+stop_source End f (Some s) = Ok s
+stop_source _ f _ = Err f
 
 -- a token that can follow is taken where it is not past the limit
-abbrev pub next : Token → Option ParseState → (ParseState → Result Source TextFault) → Option Source → Result Source TextFault
-next t (Some s) go end = cond t.past_limit (Err (fault_at t Operators)) (go s)
-next t None go end = stop t.kind (refusal (t ∷ [])) end
+abbrev pub take_token : Token → Option ParseState → (ParseState → Result Source TextFault) → Option Source
+    → Result Source TextFault
+take_token t (Some s) go end = cond t.past_limit (Err (fault_at t Operators)) (go s)
+take_token t None go end = stop_source t.kind (refusal (t ∷ [])) end
 
 -- what the tokens read as from a state on, or the first fault
 abbrev pub reading : List Token → ParseState → Result Source TextFault
 reading [] s = Err (refusal [])
-reading (t ∷ ts) s = next t (step s t.place.line t.kind) (reading ts) (finish s)
+reading (t ∷ ts) s = take_token t (step s t.place.line t.kind) (reading ts) (finish_source s)

@@ -2,4 +2,4 @@ pub mod Tokens
 pub mod Operators
 pub mod Formats
 pub mod Grammar
-pub mod Ends
+pub mod PartEnds

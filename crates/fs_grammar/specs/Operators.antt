@@ -1,7 +1,8 @@
 -- The tokens that the limit of guards and assignments counts, and those after which one begins.
 use Rattle.std.specs.Prelude.{Bool, true, false}
 use Rattle.fs_grammar.specs.declared.token.TokenKind.{TokenKind}
-use Rattle.fs_grammar.specs.declared.token.TokenKind.TheVariants.{When, Colon, Comma, OpenParen, OpenBracket, OpenBrace, Plus, Minus, Star, Slash, Percent, Bang, AndAnd, OrOr, Relation}
+use Rattle.fs_grammar.specs.declared.token.TokenKind.TheVariants.{When, Colon, Comma, OpenParen, OpenBracket, OpenBrace, Plus}
+use Rattle.fs_grammar.specs.declared.token.TokenKind.TheVariants.{Minus, Star, Slash, Percent, Bang, AndAnd, OrOr, Relation}
 
 -- the operators and opening brackets, of which a guard or an assignment has at most 128
 abbrev pub is_operator : TokenKind → Bool

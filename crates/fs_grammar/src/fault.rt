@@ -8,14 +8,14 @@ use std::alloc::{AllocError, AllocFailed};
 use thiserror::Error;
 
 /// A place in a text; lines and columns count from 1.
-#[derive(Clone, Copy, Debug, PartialEq, Eq)]
+#[derive(Clone, Copy)]
 pub struct TextPlace {
     pub line: u32,
     pub column: u32,
 }
 
 /// What is wrong at a place of a text.
-#[derive(Clone, Copy, Debug, PartialEq, Eq)]
+#[derive(Clone, Copy, Debug)]
 pub enum TextKind {
     /// A byte that begins no token.
     BadByte,
@@ -34,7 +34,7 @@ pub enum TextKind {
 }
 
 /// The first fault of a text; its line and column count from 1.
-#[derive(Clone, Copy, Debug, PartialEq, Eq)]
+#[derive(Clone, Copy, Debug)]
 pub struct TextFault {
     pub line: u32,
     pub column: u32,

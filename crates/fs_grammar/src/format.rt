@@ -1,10 +1,10 @@
 //! The formats of machine texts.
 
 ghost use Rattle.std.specs.Prelude.{◌≡◌};
-ghost use Rattle.fs_grammar.specs.Formats.{format_of, number_of};
+ghost use Rattle.fs_grammar.specs.Formats.{format_of, format_number};
 
 /// The format of a machine text, which the number after its first word says.
-#[derive(Clone, Copy, Debug, PartialEq, Eq)]
+#[derive(Clone, Copy)]
 pub enum Format {
     /// `fsmd 1;`: no ports are declared, and nothing is emitted.
     One,
@@ -26,7 +26,7 @@ impl Format {
 
     /// The number of the format, 1 or 2.
     pub fn number(self) -> i128
-        ensures { result ≡ number_of self }
+        ensures { result ≡ format_number self }
     {
         match self {
             Format::One => 1,

@@ -9,7 +9,7 @@ use fs_model::name::Name;
 use fs_model::parts::{Rel, Role};
 
 /// What is wrong with a token by itself.
-#[derive(Clone, Copy, Debug, PartialEq, Eq)]
+#[derive(Clone, Copy)]
 pub enum Flaw {
     /// A byte that begins no token.
     Byte,

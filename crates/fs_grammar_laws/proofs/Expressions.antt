@@ -6,16 +6,20 @@ use Rattle.fs_model.specs.Terms.{Assignment}
 use Rattle.fs_grammar.specs.declared.format.Format.{Format}
 use Rattle.fs_grammar.specs.declared.format.Format.TheVariants.{One, Two}
 use Rattle.fs_grammar.specs.declared.token.TokenKind.{TokenKind}
-use Rattle.fs_grammar.specs.declared.token.TokenKind.TheVariants.{Fsmd, Declare, Array, Reset, State, When, Goto, Port, Name, Number, Semicolon, Colon, Comma, Equals}
+use Rattle.fs_grammar.specs.declared.token.TokenKind.TheVariants.{Fsmd, Declare, Array, Reset, State, When, Goto, Port, Name, Number, Semicolon, Colon, Comma}
+use Rattle.fs_grammar.specs.declared.token.TokenKind.TheVariants.{Equals}
 use Rattle.fs_grammar.specs.declared.token.Token.{Token}
 use Rattle.fs_grammar.specs.Operators.{is_operator, starts_expression}
 use Rattle.fs_grammar.specs.Formats.{format_of}
-use Rattle.fs_grammar.specs.Grammar.{OpenState, ParseState, at_start, at_format, at_semicolon, at_declaration, at_sort, at_declared, after_declared, at_reset, after_reset, at_state, at_state_name, after_state_name, at_transition, at_target, after_target, at_assignment, at_port, after_assignment_name, at_equals, at_unit, after_conjunction, after_guard, at_factor, after_name, after_product, after_sum, in_format_two, step_format, step_transition, step}
+use Rattle.fs_grammar.specs.Grammar.{OpenState, ParseState, at_start, at_format, at_semicolon, at_declaration, at_sort, at_declared, after_declared, at_reset}
+use Rattle.fs_grammar.specs.Grammar.{after_reset, at_state, at_state_name, after_state_name, at_transition, at_target, after_target, at_assignment, at_port}
+use Rattle.fs_grammar.specs.Grammar.{after_assignment_name, at_equals, at_unit, after_conjunction, after_guard, at_factor, after_name, after_product, after_sum}
+use Rattle.fs_grammar.specs.Grammar.{in_format_two, step_format, step_transition, step}
 use Rattle.fs_grammar_laws.specs.Spelling.{Word, at, IsAssignment, assign, emit}
-use Rattle.fs_grammar_laws.specs.Walks.{words, walk}
+use Rattle.fs_grammar_laws.specs.WordWalks.{words, walk}
 use Rattle.fs_grammar_laws.specs.Beginnings as rules
 use Rattle.fs_grammar_laws.specs.Beginnings.{Begins, BeginsFile}
-use Rattle.fs_grammar_laws.specs.Expressions.{IsInExpression, in_guard, in_first, in_next, starts, IsSince, EndInExpression}
+use Rattle.fs_grammar_laws.specs.ExpressionEnds.{IsInExpression, in_guard, in_first, in_next, starts, IsSince, EndInExpression}
 use Rattle.fs_grammar_laws.specs.Faults.{word_of, CanFollow}
 use Rattle.fs_grammar_laws.proofs.Alternatives.{completed}
 use Rattle.fs_grammar_laws.proofs.Inside.{is_inside, IsInside, AreInside, joined, front, each, sum_inside, guard_inside, destination_inside}
@@ -95,19 +99,22 @@ first_true false true h j = absurd cc
 first_true false false h j = absurd cc
 
 -- what was read before an operator that can follow
-operator_at : (s : ParseState) (ws : List Word) (n : ℕ) (t : TokenKind) (o : Option ParseState) → step s n t ≡ o → walk ws at_start ≡ Some s → IsTrue (is_operator t) → IfSome o (λ r. IsTrue (is_in_expression s || not (is_operator t))) → (walk (ws ++ at n t ∷ []) at_start ≡ None → ⊥)
+operator_at : (s : ParseState) (ws : List Word) (n : ℕ) (t : TokenKind) (o : Option ParseState) → step s n t ≡ o → walk ws at_start ≡ Some s
+    → IsTrue (is_operator t) → IfSome o (λ r. IsTrue (is_in_expression s || not (is_operator t))) → (walk (ws ++ at n t ∷ []) at_start ≡ None → ⊥)
     → (part : List Word) × IsInExpression ws part
 operator_at s ws n t None e w i h go = absurd (go (walk_append ws (at n t ∷ []) at_start ∙ rw (w, e) refl))
 operator_at s ws n t (Some r) e w i h go =
     let k = within s ws (reached ws s at_start [] refl w) (first_true (is_in_expression s) (is_operator t) i h) in
     (k.part, k.is)
 
-operator_walks : (o : Option ParseState) (ws : List Word) (n : ℕ) (t : TokenKind) → walk ws at_start ≡ o → IsTrue (is_operator t) → BeginsFile (ws ++ at n t ∷ []) → (part : List Word) × IsInExpression ws part
+operator_walks : (o : Option ParseState) (ws : List Word) (n : ℕ) (t : TokenKind) → walk ws at_start ≡ o → IsTrue (is_operator t)
+    → BeginsFile (ws ++ at n t ∷ []) → (part : List Word) × IsInExpression ws part
 operator_walks None ws n t e i b = absurd (stuck (ws ++ at n t ∷ []) (walk_append ws (at n t ∷ []) at_start ∙ rw e refl) b)
 operator_walks (Some s) ws n t e i b = operator_at s ws n t (step s n t) refl e i (stands s n t) (λ w. stuck (ws ++ at n t ∷ []) w b)
 
 -- An operator that can follow words is behind a part of a guard or of an assignment.
-pub operator_stands : (ws : List Word) (n : ℕ) (t : TokenKind) → IsTrue (is_operator t) → BeginsFile (ws ++ at n t ∷ []) → (part : List Word) × IsInExpression ws part
+pub operator_stands : (ws : List Word) (n : ℕ) (t : TokenKind) → IsTrue (is_operator t) → BeginsFile (ws ++ at n t ∷ [])
+    → (part : List Word) × IsInExpression ws part
 operator_stands ws n t i b = operator_walks (walk ws at_start) ws n t refl i b
 
 -- ---- no guard and no assignment has a word after which one begins
@@ -128,7 +135,8 @@ none_starts : (ws : List Word) → AreInside ws → AllByRecursion StartsNone ws
 none_starts ws h = each IsInside StartsNone word_starts_none ws h
 
 assignment_starts : (f : Format) (x : Assignment (List ℕ)) (a : List Word) → IsAssignment f x a → AllByRecursion StartsNone a
-assignment_starts _ _ _ (assign f n {d} {e} {a} {b} p q) = joined StartsNone a (at n Equals ∷ b) (none_starts a (destination_inside d a p)) (refl, none_starts b (sum_inside e b q))
+assignment_starts _ _ _ (assign f n {d} {e} {a} {b} p q) = joined StartsNone a (at n Equals ∷ b) (none_starts a (destination_inside d a p))
+    (refl, none_starts b (sum_inside e b q))
 assignment_starts _ _ _ (emit n m x {e} {a} p) = (refl, (refl, none_starts a (sum_inside e a p)))
 
 guard_begun : (a : List Word) → Begins rules.guard a → AllByRecursion StartsNone a
@@ -140,14 +148,27 @@ assignment_begun f a b = let w = completed (rules.assignment f) a b in front Sta
 -- The part is what stands behind the last word after which a guard or an assignment begins.
 pub since : (ws part : List Word) → IsInExpression ws part → IsSince ws part
 since _ _ (in_guard before n {part} b) = record { before = before; word = at n When; is = refl; begins = refl; inside = guard_begun part b }
-since _ _ (in_first f before n m k x {part} b) = record { before = before ++ (at n Goto ∷ at m (Name x) ∷ []); word = at k Colon; is = simp append_assoc; begins = refl; inside = assignment_begun f part b }
-since _ _ (in_next f before n m k l x {a} {part} h b) = record { before = before ++ (at n Goto ∷ at m (Name x) ∷ at k Colon ∷ a); word = at l Comma; is = simp append_assoc; begins = refl; inside = assignment_begun f part b }
+since _ _ (in_first f before n m k x {part} b) = record {
+  before = before ++ (at n Goto ∷ at m (Name x) ∷ []);
+  word = at k Colon;
+  is = simp append_assoc;
+  begins = refl;
+  inside = assignment_begun f part b;
+}
+since _ _ (in_next f before n m k l x {a} {part} h b) = record {
+  before = before ++ (at n Goto ∷ at m (Name x) ∷ at k Colon ∷ a);
+  word = at l Comma;
+  is = simp append_assoc;
+  begins = refl;
+  inside = assignment_begun f part b;
+}
 
 not_inside : (y : List Word) (v : Word) (q : List Word) → starts v ≡ true → AllByRecursion StartsNone (y ++ v ∷ q) → ⊥
 not_inside [] v q h j = let n = j.0 in absurd cc
 not_inside (w ∷ y) v q h j = not_inside y v q h j.1
 
-one_cut : (x y : List Word) (u v : Word) (p q : List Word) → starts u ≡ true → starts v ≡ true → AllByRecursion StartsNone p → AllByRecursion StartsNone q → x ++ u ∷ p ≡ y ++ v ∷ q → p ≡ q
+one_cut : (x y : List Word) (u v : Word) (p q : List Word) → starts u ≡ true → starts v ≡ true → AllByRecursion StartsNone p → AllByRecursion StartsNone q
+    → x ++ u ∷ p ≡ y ++ v ∷ q → p ≡ q
 one_cut [] [] u v p q h j a b e = cc
 one_cut [] (w ∷ y) u v p q h j a b e =
     let tails : p ≡ y ++ v ∷ q = cc in

@@ -3,10 +3,13 @@ use Rattle.std.proofs.Common.{◌≡◌, ℕ, Bool, true, List, [], ◌∷◌, �
 use Rattle.std.specs.List.{AllByRecursion}
 use Rattle.fs_model.specs.Terms.{Term, Guard}
 use Rattle.fs_grammar.specs.declared.token.TokenKind.{TokenKind}
-use Rattle.fs_grammar.specs.declared.token.TokenKind.TheVariants.{Name, Number, CloseParen, CloseBracket, CloseBrace, Plus, Minus, Star, Slash, Percent, AndAnd, OrOr, Relation}
+use Rattle.fs_grammar.specs.declared.token.TokenKind.TheVariants.{Name, Number, CloseParen, CloseBracket, CloseBrace, Plus, Minus, Star, Slash, Percent, AndAnd}
+use Rattle.fs_grammar.specs.declared.token.TokenKind.TheVariants.{OrOr, Relation}
 use Rattle.fs_grammar.specs.Operators.{is_operator}
 use Rattle.fs_grammar.specs.Grammar.{Destination}
-use Rattle.fs_grammar_laws.specs.Spelling.{Word, at, IsFactor, number, variable, read, negative, group, IsProduct, factor, times, divides, remainder_of, IsSum, product, plus, minus, IsUnit, not as negated, braces, literal, IsConjunction, unit, and, IsGuard, conjunction, or, IsDestination, scalar_name, element_at}
+use Rattle.fs_grammar_laws.specs.Spelling.{Word, at, IsFactor, number, variable, read, negative, group, IsProduct, factor, times, divides, remainder_of, IsSum}
+use Rattle.fs_grammar_laws.specs.Spelling.{product, plus, minus, IsUnit, not as negated, braces, literal, IsConjunction, unit, and, IsGuard, conjunction, or}
+use Rattle.fs_grammar_laws.specs.Spelling.{IsDestination, scalar_name, element_at}
 
 -- a token of a sum or a guard
 abbrev pub is_inside : TokenKind → Bool

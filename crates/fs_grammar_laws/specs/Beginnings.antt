@@ -8,10 +8,15 @@ use Rattle.fs_model.specs.Source.{Declaration, SourceTransition, SourceState, So
 use Rattle.fs_grammar.specs.declared.format.Format.{Format}
 use Rattle.fs_grammar.specs.declared.format.Format.TheVariants.{Two}
 use Rattle.fs_grammar.specs.declared.token.TokenKind.{TokenKind}
-use Rattle.fs_grammar.specs.declared.token.TokenKind.TheVariants.{Fsmd, Declare, Array, Reset, State, When, Goto, Emit, Port, Name, Number, Semicolon, Colon, Comma, Equals, OpenParen, CloseParen, OpenBracket, CloseBracket, OpenBrace, CloseBrace, Plus, Minus, Star, Slash, Percent, Bang, AndAnd, OrOr, Relation}
-use Rattle.fs_grammar.specs.Formats.{number_of}
+use Rattle.fs_grammar.specs.declared.token.TokenKind.TheVariants.{Fsmd, Declare, Array, Reset, State, When, Goto, Emit, Port}
+use Rattle.fs_grammar.specs.declared.token.TokenKind.TheVariants.{Name, Number, Semicolon, Colon, Comma, Equals, OpenParen}
+use Rattle.fs_grammar.specs.declared.token.TokenKind.TheVariants.{CloseParen, OpenBracket, CloseBracket, OpenBrace, CloseBrace}
+use Rattle.fs_grammar.specs.declared.token.TokenKind.TheVariants.{Plus, Minus, Star, Slash, Percent, Bang, AndAnd, OrOr, Relation}
+use Rattle.fs_grammar.specs.Formats.{format_number}
 use Rattle.fs_grammar.specs.Grammar.{Destination}
-use Rattle.fs_grammar_laws.specs.Spelling.{Word, at, IsFactor, IsProduct, IsSum, IsUnit, IsConjunction, IsGuard, IsDestination, IsAssignment, AreAssignments, AreEffects, IsCondition, IsTransition, AreTransitions, IsState, AreStates, AreNames, IsKind, IsDeclaration, AreDeclarations, IsFile}
+use Rattle.fs_grammar_laws.specs.Spelling.{Word, at, IsFactor, IsProduct, IsSum, IsUnit, IsConjunction, IsGuard, IsDestination}
+use Rattle.fs_grammar_laws.specs.Spelling.{IsAssignment, AreAssignments, AreEffects, IsCondition, IsTransition, AreTransitions}
+use Rattle.fs_grammar_laws.specs.Spelling.{IsState, AreStates, AreNames, IsKind, IsDeclaration, AreDeclarations, IsFile}
 
 -- the rules of the grammar; some are other ones in texts of format 2
 pub data Rule : Type 0 where
@@ -84,12 +89,14 @@ pub data IsAlternative : Rule → List Part → Type 0 where
   always : IsAlternative condition (token Goto ∷ [])
   when : IsAlternative condition (token When ∷ rule guard ∷ token Goto ∷ [])
   -- transition = condition name effects ";"
-  one_transition : (f : Format) (x : List ℕ) → IsAlternative (transition f) (rule condition ∷ token (Name x) ∷ rule (effects f) ∷ token Semicolon ∷ [])
+  one_transition : (f : Format) (x : List ℕ)
+      → IsAlternative (transition f) (rule condition ∷ token (Name x) ∷ rule (effects f) ∷ token Semicolon ∷ [])
   -- transitions = { transition }
   no_transitions : (f : Format) → IsAlternative (transitions f) []
   more_transitions : (f : Format) → IsAlternative (transitions f) (rule (transitions f) ∷ rule (transition f) ∷ [])
   -- state = "state" name ":" transitions
-  one_state : (f : Format) (x : List ℕ) → IsAlternative (state f) (token State ∷ token (Name x) ∷ token Colon ∷ rule (transitions f) ∷ [])
+  one_state : (f : Format) (x : List ℕ)
+      → IsAlternative (state f) (token State ∷ token (Name x) ∷ token Colon ∷ rule (transitions f) ∷ [])
   -- states = { state }
   no_states : (f : Format) → IsAlternative (states f) []
   more_states : (f : Format) → IsAlternative (states f) (rule (states f) ∷ rule (state f) ∷ [])
@@ -106,36 +113,41 @@ pub data IsAlternative : Rule → List Part → Type 0 where
   no_declarations : (f : Format) → IsAlternative (declarations f) []
   more_declarations : (f : Format) → IsAlternative (declarations f) (rule (declarations f) ∷ rule (declaration f) ∷ [])
   -- file = "fsmd" format ";" declarations "reset" name ";" states, where the format is the number 1 or 2
-  one_file : (f : Format) (x : List ℕ) → IsAlternative file (token Fsmd ∷ token (Number (number_of f)) ∷ token Semicolon ∷ rule (declarations f) ∷ token Reset ∷ token (Name x) ∷ token Semicolon ∷ rule (states f) ∷ [])
+  one_file : (f : Format) (x : List ℕ)
+      → IsAlternative file
+      (token Fsmd ∷ token (Number (format_number f)) ∷ token Semicolon ∷ rule (declarations f) ∷ token Reset ∷ token (Name x)
+      ∷ token Semicolon ∷ rule (states f) ∷ [])
 
 -- words that a rule spells whole
-abbrev pub Spelled : Rule → List Word → Type 0
-Spelled factor ws = (f : Term (List ℕ)) × IsFactor f ws
-Spelled product ws = (p : Term (List ℕ)) × IsProduct p ws
-Spelled sum ws = (s : Term (List ℕ)) × IsSum s ws
-Spelled unit ws = (u : Guard (List ℕ)) × IsUnit u ws
-Spelled conjunction ws = (c : Guard (List ℕ)) × IsConjunction c ws
-Spelled guard ws = (g : Guard (List ℕ)) × IsGuard g ws
-Spelled destination ws = (d : Destination) × IsDestination d ws
-Spelled (assignment f) ws = (x : Assignment (List ℕ)) × IsAssignment f x ws
-Spelled (assignments f) ws = (xs : List (Assignment (List ℕ))) × AreAssignments f xs ws
-Spelled (effects f) ws = (xs : List (Assignment (List ℕ))) × AreEffects f xs ws
-Spelled condition ws = (n : ℕ) × (g : Option (Guard (List ℕ))) × IsCondition n g ws
-Spelled (transition f) ws = (l : SourceTransition) × IsTransition f l ws
-Spelled (transitions f) ws = (ls : List SourceTransition) × AreTransitions f ls ws
-Spelled (state f) ws = (s : SourceState) × IsState f s ws
-Spelled (states f) ws = (ss : List SourceState) × AreStates f ss ws
-Spelled names ws = (xs : List (List ℕ)) × AreNames xs ws
-Spelled (kind f) ws = (n : ℕ) × (r : Role) × (s : Sort) × IsKind f n r s ws
-Spelled (declaration f) ws = (d : Declaration) × IsDeclaration f d ws
-Spelled (declarations f) ws = (ds : List Declaration) × AreDeclarations f ds ws
-Spelled file ws = (f : Format) × (s : Source) × IsFile f s ws
+abbrev pub SpellsWhole : Rule → List Word → Type 0
+SpellsWhole factor ws = (f : Term (List ℕ)) × IsFactor f ws
+SpellsWhole product ws = (p : Term (List ℕ)) × IsProduct p ws
+SpellsWhole sum ws = (s : Term (List ℕ)) × IsSum s ws
+SpellsWhole unit ws = (u : Guard (List ℕ)) × IsUnit u ws
+SpellsWhole conjunction ws = (c : Guard (List ℕ)) × IsConjunction c ws
+SpellsWhole guard ws = (g : Guard (List ℕ)) × IsGuard g ws
+SpellsWhole destination ws = (d : Destination) × IsDestination d ws
+SpellsWhole (assignment f) ws = (x : Assignment (List ℕ)) × IsAssignment f x ws
+SpellsWhole (assignments f) ws = (xs : List (Assignment (List ℕ))) × AreAssignments f xs ws
+SpellsWhole (effects f) ws = (xs : List (Assignment (List ℕ))) × AreEffects f xs ws
+SpellsWhole condition ws = (n : ℕ) × (g : Option (Guard (List ℕ))) × IsCondition n g ws
+SpellsWhole (transition f) ws = (l : SourceTransition) × IsTransition f l ws
+SpellsWhole (transitions f) ws = (ls : List SourceTransition) × AreTransitions f ls ws
+SpellsWhole (state f) ws = (s : SourceState) × IsState f s ws
+SpellsWhole (states f) ws = (ss : List SourceState) × AreStates f ss ws
+SpellsWhole names ws = (xs : List (List ℕ)) × AreNames xs ws
+SpellsWhole (kind f) ws = (n : ℕ) × (r : Role) × (s : Sort) × IsKind f n r s ws
+SpellsWhole (declaration f) ws = (d : Declaration) × IsDeclaration f d ws
+SpellsWhole (declarations f) ws = (ds : List Declaration) × AreDeclarations f ds ws
+SpellsWhole file ws = (f : Format) × (s : Source) × IsFile f s ws
 
 -- whole spellings of all these parts in order
 pub data AreSpelled : List Part → List Word → Type 0 where
   no_part : AreSpelled [] []
-  token_first : (n : ℕ) (t : TokenKind) {ps : List Part} {ws : List Word} → AreSpelled ps ws → AreSpelled (token t ∷ ps) (at n t ∷ ws)
-  rule_first : (r : Rule) (a : List Word) {ps : List Part} {b : List Word} → Spelled r a → AreSpelled ps b → AreSpelled (rule r ∷ ps) (a ++ b)
+  token_first : (n : ℕ) (t : TokenKind) {ps : List Part} {ws : List Word} → AreSpelled ps ws
+      → AreSpelled (token t ∷ ps) (at n t ∷ ws)
+  rule_first : (r : Rule) (a : List Word) {ps : List Part} {b : List Word} → SpellsWhole r a → AreSpelled ps b
+      → AreSpelled (rule r ∷ ps) (a ++ b)
 
 mutual
   -- No words begin every rule. Others begin a rule where they begin the parts of one of its alternatives.
@@ -143,12 +155,15 @@ mutual
     nothing : (r : Rule) → Begins r []
     by_parts : (r : Rule) {ps : List Part} {ws : List Word} → IsAlternative r ps → BeginParts ps ws → Begins r ws
 
-  -- They are whole spellings of the first parts in order, perhaps of none, followed by nothing or by words that begin the next part.
+  -- They are whole spellings of the first parts in order, perhaps of none, followed by nothing or by words that begin the next
+  -- part.
   pub data BeginParts : List Part → List Word → Type 0 where
     by_nothing : (ps : List Part) → BeginParts ps []
     by_next : (r : Rule) (ps : List Part) {ws : List Word} → Begins r ws → BeginParts (rule r ∷ ps) ws
-    token_whole : (n : ℕ) (t : TokenKind) {ps : List Part} {ws : List Word} → BeginParts ps ws → BeginParts (token t ∷ ps) (at n t ∷ ws)
-    rule_whole : (r : Rule) (a : List Word) {ps : List Part} {b : List Word} → Spelled r a → BeginParts ps b → BeginParts (rule r ∷ ps) (a ++ b)
+    token_whole : (n : ℕ) (t : TokenKind) {ps : List Part} {ws : List Word} → BeginParts ps ws
+        → BeginParts (token t ∷ ps) (at n t ∷ ws)
+    rule_whole : (r : Rule) (a : List Word) {ps : List Part} {b : List Word} → SpellsWhole r a → BeginParts ps b
+        → BeginParts (rule r ∷ ps) (a ++ b)
 
 -- words that begin a file
 abbrev pub BeginsFile : List Word → Type 0

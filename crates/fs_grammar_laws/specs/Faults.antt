@@ -3,7 +3,8 @@ use Rattle.std.specs.Prelude.{◌≡◌, true, false, List, [], ◌∷◌, ◌++
 use Rattle.std.specs.List.{AllByRecursion}
 use Rattle.fs_model.specs.Source.{Source}
 use Rattle.fs_grammar.specs.declared.fault.TextKind.{TextKind}
-use Rattle.fs_grammar.specs.declared.fault.TextKind.TheVariants.{BadByte, BadWord, NumberTooBig, Unexpected, Operators, Nested, Ended}
+use Rattle.fs_grammar.specs.declared.fault.TextKind.TheVariants.{BadByte, BadWord, NumberTooBig, Unexpected, Operators, Nested}
+use Rattle.fs_grammar.specs.declared.fault.TextKind.TheVariants.{Ended}
 use Rattle.fs_grammar.specs.declared.fault.TextFault.{TextFault}
 use Rattle.fs_grammar.specs.declared.format.Format.{Format}
 use Rattle.fs_grammar.specs.declared.token.Flaw.TheVariants as flaws
@@ -11,7 +12,7 @@ use Rattle.fs_grammar.specs.declared.token.TokenKind.{TokenKind}
 use Rattle.fs_grammar.specs.declared.token.TokenKind.TheVariants.{Bad, End}
 use Rattle.fs_grammar.specs.declared.token.Token.{Token}
 use Rattle.fs_grammar_laws.specs.Spelling.{Word, at, IsFile}
-use Rattle.fs_grammar_laws.specs.Walks.{words}
+use Rattle.fs_grammar_laws.specs.WordWalks.{words}
 use Rattle.fs_grammar_laws.specs.Beginnings.{BeginsFile}
 
 -- a token without its column
@@ -72,7 +73,7 @@ IsLast End = Unit {0}
 IsLast _ = ⊥
 
 -- The last token is the end, or faulty by itself.
-pub record IsEnded (ts : List Token) : Type 0 where
+pub record AreEndedTokens (ts : List Token) : Type 0 where
   pub before : List Token
   pub token : Token
   pub parts : ts ≡ before ++ token ∷ []

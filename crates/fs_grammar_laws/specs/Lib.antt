@@ -1,5 +1,5 @@
 pub mod Spelling
-pub mod Walks
+pub mod WordWalks
 pub mod Beginnings
 pub mod Faults
-pub mod Expressions
+pub mod ExpressionEnds

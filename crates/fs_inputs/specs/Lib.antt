@@ -1,4 +1,4 @@
 pub mod Numbers
-pub mod Files
+pub mod InputMembers
 pub mod Steps
 pub mod Refusals

@@ -1,5 +1,6 @@
 -- Numbers as input files spell them.
-use Rattle.std.specs.Prelude.{ℕ, ◌+◌, ◌*◌, ◌-◌, ◌^◌, ◌==◌, ◌&&◌, ◌||◌, nat_lt, Bool, false, not, cond, ℤ, pos, negsuc, neg_ℤ, List, [], ◌∷◌, Option, Some, None, codes}
+use Rattle.std.specs.Prelude.{ℕ, ◌+◌, ◌*◌, ◌-◌, ◌^◌, ◌==◌, ◌&&◌, ◌||◌, nat_lt, Bool, false, not, cond, ℤ, pos, negsuc, neg_ℤ}
+use Rattle.std.specs.Prelude.{List, [], ◌∷◌, Option, Some, None, codes}
 use Rattle.std.specs.List.{fold, list_all}
 use Rattle.std.specs.Str.{bytes_eq}
 use Rattle.fs_model.specs.Words.{is_digit}
@@ -36,6 +37,6 @@ fits (pos n) = nat_lt n (2 ^ 127)
 fits (negsuc n) = nat_lt n (2 ^ 127)
 
 -- what is read where this number is spelled, or none is
-abbrev pub reading : Option ℤ → Reading
-reading None = NoNumber
-reading (Some z) = cond (fits z) (Number z) TooBig
+abbrev pub number_reading : Option ℤ → Reading
+number_reading None = NoNumber
+number_reading (Some z) = cond (fits z) (Number z) TooBig

@@ -6,17 +6,17 @@ ghost use Rattle.std.specs.Str.{bytes_eq};
 ghost use Rattle.serde_json.specs.View.{view, members_view};
 ghost use Rattle.serde_json.specs.Find.{as_object};
 ghost use Rattle.fs_runs.specs.InputValues.{inputs_of, input_values, signatures_of, input_signatures, sort_named, Serves};
-ghost use Rattle.fs_inputs.specs.Files.{first_fault, file_fault, fault_at, value_fault, inputs_in};
-ghost use Rattle.fs_inputs.specs.Steps.{place_of, IsGivenAt, Gives, inputs_over};
-ghost use Rattle.fs_inputs.specs.Refusals.{SpelledBy, Spells, IsRefused, IsOfFault};
+ghost use Rattle.fs_inputs.specs.InputMembers.{first_input_fault, input_file_fault, fault_of_input, input_value_fault, inputs_in};
+ghost use Rattle.fs_inputs.specs.Steps.{input_place, IsGivenAt, GivesMember, inputs_over};
+ghost use Rattle.fs_inputs.specs.Refusals.{ValueSpellsInputs, SpellsInputFile, IsRefusedAsInputs, IsOfInputFault};
 
 use crate::faults::{Fault, InputError};
 use crate::values::{value_fault, value_for};
+use base_json_files::{JsonError, read_json};
 use fs_ast::machine::Machine;
 use fs_model::parts::{Role, Sort, VarInfo};
 use fs_runs::inputs::Inputs;
 use fs_runs::memory::NoMemory;
-use json_files::{JsonError, read_json};
 use serde_json::{Map, Value};
 use std::alloc::Global;
 
@@ -29,7 +29,7 @@ fn is_named(var: &VarInfo, name: &[u8]) -> bool
 
 // The place of the input of a name, counted in order of declaration from 0, and its sort.
 fn input_at(m: &Machine, name: &[u8]) -> Option<(u32, Sort)>
-    ensures place { option_map (λ p. p.0) result ≡ place_of (input_signatures m.now.variables) name.now }
+    ensures place { option_map (λ p. p.0) result ≡ input_place (input_signatures m.now.variables) name.now }
     ensures sort { option_map (λ p. p.1) result ≡ sort_named (input_signatures m.now.variables) name.now }
 {
     let mut place = 0u32;
@@ -46,7 +46,7 @@ fn input_at(m: &Machine, name: &[u8]) -> Option<(u32, Sort)>
 
 // What is wrong with the value of a name, or with the name.
 fn fault_at(m: &Machine, name: &String, value: &Value) -> Option<Fault>
-    ensures { result ≡ fault_at (sort_named (input_signatures m.now.variables) (string_bytes name.now)) (view value.now) }
+    ensures { result ≡ fault_of_input (sort_named (input_signatures m.now.variables) (string_bytes name.now)) (view value.now) }
 {
     match input_at(m, name.as_bytes()) {
         Some((_, sort)) => value_fault(sort, value),
@@ -56,7 +56,8 @@ fn fault_at(m: &Machine, name: &String, value: &Value) -> Option<Fault>
 
 // The first name with a fault, in the order of the members.
 fn first_fault<'a>(m: &Machine, members: &'a Map<String, Value>) -> Option<(&'a String, Fault)>
-    ensures { option_map (λ p. (string_bytes p.0.now, p.1)) result ≡ first_fault (input_signatures m.now.variables) (members_view members.now.entries) }
+    ensures { option_map (λ p. (string_bytes p.0.now, p.1)) result
+        ≡ first_input_fault (input_signatures m.now.variables) (members_view members.now.entries) }
 {
     for (name, value) in members.iter() {
         if let Some(fault) = fault_at(m, name, value) {
@@ -68,7 +69,7 @@ fn first_fault<'a>(m: &Machine, members: &'a Map<String, Value>) -> Option<(&'a 
 
 // The refusal for a fault at a name.
 fn refusal(name: String, fault: Fault) -> InputError
-    ensures { IsOfFault (Some (string_bytes name, fault)) result }
+    ensures { IsOfInputFault (Some (string_bytes name, fault)) result }
 {
     match fault {
         Fault::Shape => InputError::Shape { name },
@@ -85,7 +86,7 @@ fn give_at(
     sort: Sort,
     value: &Value,
 ) -> Result<(), NoMemory>
-    requires fine { value_fault sort (view value.now) ≡ None }
+    requires fine { input_value_fault sort (view value.now) ≡ None }
     requires sort { option_map (λ f. f.1) (slice_get (signatures_of inputs.old) place) ≡ Some sort }
     ensures given { OnOk result (IsGivenAt (input_values inputs.old) (input_values inputs.new) place (view value.now)) }
     ensures signatures { signatures_of inputs.new ≡ signatures_of inputs.old }
@@ -103,8 +104,10 @@ fn give(
     value: &Value,
 ) -> Result<(), NoMemory>
     requires signatures { signatures_of inputs.old ≡ input_signatures m.now.variables }
-    requires fine { fault_at (sort_named (input_signatures m.now.variables) (string_bytes name.now)) (view value.now) ≡ None }
-    ensures given { OnOk result (Gives (string_bytes name.now) (view value.now) (inputs_of inputs.old) (inputs_of inputs.new)) }
+    requires fine { fault_of_input (sort_named (input_signatures m.now.variables) (string_bytes name.now))
+        (view value.now) ≡ None }
+    ensures given { OnOk result
+        (GivesMember (string_bytes name.now) (view value.now) (inputs_of inputs.old) (inputs_of inputs.new)) }
     ensures signatures { signatures_of inputs.new ≡ signatures_of inputs.old }
 {
     match input_at(m, name.as_bytes()) {
@@ -121,7 +124,7 @@ fn give_all(
     members: &Map<String, Value>,
 ) -> Result<(), NoMemory>
     requires signatures { signatures_of inputs.old ≡ input_signatures m.now.variables }
-    requires fine { first_fault (input_signatures m.now.variables) (members_view members.now.entries) ≡ None }
+    requires fine { first_input_fault (input_signatures m.now.variables) (members_view members.now.entries) ≡ None }
     ensures given { OnOk result (inputs_of inputs.new ≡ inputs_over (inputs_of inputs.old) (members_view members.now.entries)) }
     ensures signatures { signatures_of inputs.new ≡ signatures_of inputs.old }
 {
@@ -137,7 +140,7 @@ fn spelled_inputs(
     m: &Machine,
     members: &Map<String, Value>,
 ) -> Result<Inputs, NoMemory>
-    requires { first_fault (input_signatures m.now.variables) (members_view members.now.entries) ≡ None }
+    requires { first_input_fault (input_signatures m.now.variables) (members_view members.now.entries) ≡ None }
     ensures inputs { IfOk result (λ ins. inputs_of ins ≡ inputs_in (members_view members.now.entries)) }
     ensures signatures { IfOk result (λ ins. signatures_of ins ≡ input_signatures m.now.variables) }
     ensures serves { IfOk result (λ ins. Serves (signatures_of ins) m.now) }
@@ -149,10 +152,11 @@ fn spelled_inputs(
 
 // The inputs that a JSON value spells.
 fn read_object(alloc: Global, m: &Machine, value: &Value) -> Result<Inputs, InputError>
-    ensures spelled { IfOk result (λ ins. SpelledBy (input_signatures m.now.variables) (view value.now) (inputs_of ins)) }
+    ensures spelled { IfOk result (λ ins. ValueSpellsInputs (input_signatures m.now.variables) (view value.now) (inputs_of ins)) }
     ensures signatures { IfOk result (λ ins. signatures_of ins ≡ input_signatures m.now.variables) }
     ensures serves { IfOk result (λ ins. Serves (signatures_of ins) m.now) }
-    ensures refused { IfErr result (λ e. IsOfFault (file_fault (input_signatures m.now.variables) (as_object (view value.now))) e) }
+    ensures refused { IfErr result
+        (λ e. IsOfInputFault (input_file_fault (input_signatures m.now.variables) (as_object (view value.now))) e) }
 {
     let Some(members) = value.as_object() else {
         return Err(InputError::Shape {
@@ -175,8 +179,8 @@ fn read_object(alloc: Global, m: &Machine, value: &Value) -> Result<Inputs, Inpu
 /// and values are looked at), with `NumberTooBig` where a number of it lies outside 128 bits. Of equal
 /// names the last counts. `NoMemory` may come at any time.
 pub fn read_inputs(alloc: Global, bytes: &[u8], m: &Machine) -> Result<Inputs, InputError>
-    ensures spelled { IfOk result (λ ins. Spells (input_signatures m.now.variables) bytes.now (inputs_of ins)) }
-    ensures refused { IfErr result (λ e. IsRefused (input_signatures m.now.variables) bytes.now e) }
+    ensures spelled { IfOk result (λ ins. SpellsInputFile (input_signatures m.now.variables) bytes.now (inputs_of ins)) }
+    ensures refused { IfErr result (λ e. IsRefusedAsInputs (input_signatures m.now.variables) bytes.now e) }
     ensures signatures { IfOk result (λ ins. signatures_of ins ≡ input_signatures m.now.variables) }
     ensures serves { IfOk result (λ ins. Serves (signatures_of ins) m.now) }
 {

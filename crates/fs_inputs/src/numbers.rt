@@ -3,7 +3,7 @@
 ghost use Rattle.std.specs.Prelude.{◌≡◌, ◌≤◌, ◌^◌, pos, neg_ℤ, Some, SomeIff};
 ghost use Rattle.std.specs.List.{list_all};
 ghost use Rattle.fs_model.specs.Words.{is_digit};
-ghost use Rattle.fs_inputs.specs.Numbers.{decimal, is_positive, is_natural, number_in, reading};
+ghost use Rattle.fs_inputs.specs.Numbers.{decimal, is_positive, is_natural, number_in, number_reading};
 
 use fs_model::name::is_digit;
 
@@ -11,7 +11,7 @@ use fs_model::name::is_digit;
 const LEAST: u128 = 0x8000_0000_0000_0000_0000_0000_0000_0000;
 
 /// What a text or a value spells.
-#[derive(Clone, Copy, Debug, PartialEq, Eq)]
+#[derive(Clone, Copy)]
 pub enum Reading {
     NoNumber,
     /// A number outside 128 bits.
@@ -37,7 +37,7 @@ fn magnitude(bytes: &[u8]) -> Option<u128>
 }
 
 fn natural(bytes: &[u8]) -> Reading
-    ensures { result ≡ reading (Some (pos (decimal bytes.now))) }
+    ensures { result ≡ number_reading (Some (pos (decimal bytes.now))) }
 {
     match magnitude(bytes) {
         Some(n) => if n < LEAST {
@@ -50,7 +50,7 @@ fn natural(bytes: &[u8]) -> Reading
 }
 
 fn negative(bytes: &[u8]) -> Reading
-    ensures { result ≡ reading (Some (neg_ℤ (pos (decimal bytes.now)))) }
+    ensures { result ≡ number_reading (Some (neg_ℤ (pos (decimal bytes.now)))) }
 {
     match magnitude(bytes) {
         Some(n) => if n < LEAST {
@@ -88,7 +88,7 @@ fn is_natural(bytes: &[u8]) -> bool
 /// The number that a text spells: decimal digits without a needless zero, with a `-` before them where
 /// the number is below 0.
 pub fn read_number(bytes: &[u8]) -> Reading
-    ensures { result ≡ reading (number_in bytes.now) }
+    ensures { result ≡ number_reading (number_in bytes.now) }
 {
     match bytes {
         [] => Reading::NoNumber,
@@ -107,7 +107,7 @@ pub fn read_number(bytes: &[u8]) -> Reading
 
 impl Reading {
     ghost use Rattle.std.specs.Prelude.{◌≡◌, true};
-    ghost use Rattle.fs_inputs.specs.Steps.{is_number, is_any, is_within};
+    ghost use Rattle.fs_inputs.specs.Steps.{reads_number, is_any, is_reading_within};
     ghost use Rattle.fs_inputs.specs.declared.numbers.Reading.TheVariants as readings;
 
     /// Whether a number is spelled, in whatever range.
@@ -122,7 +122,7 @@ impl Reading {
 
     /// Whether no number outside 128 bits is spelled.
     pub fn is_within(self) -> bool
-        ensures { result ≡ is_within self }
+        ensures { result ≡ is_reading_within self }
     {
         match self {
             Reading::TooBig => false,
@@ -132,7 +132,7 @@ impl Reading {
 
     /// The number that was read.
     pub fn number(self) -> i128
-        requires { is_number self ≡ true }
+        requires { reads_number self ≡ true }
         ensures { self ≡ readings.Number result }
     {
         match self {

@@ -3,11 +3,12 @@
 ghost use Rattle.std.specs.Prelude.{◌≡◌, ◌&&◌, true, None, ℤ, IfOk, OnOk, string_bytes, is_some};
 ghost use Rattle.serde_json.specs.View.{view, members_view, number_view};
 ghost use Rattle.serde_json.specs.Find.{as_integer, as_object};
-ghost use Rattle.fs_runs.specs.Values.{entry, sort_of};
+ghost use Rattle.fs_runs.specs.Values.{entry_number, sort_of};
 ghost use Rattle.fs_model.specs.declared.parts.Sort.TheVariants.{Array};
-ghost use Rattle.fs_inputs.specs.Numbers.{number_in, reading};
-ghost use Rattle.fs_inputs.specs.Files.{number_of, are_numbers, fits_if_any, all_fit, value_fault, number_fault, array_fault, number_at, last, spells};
-ghost use Rattle.fs_inputs.specs.Steps.{Holds, Puts, is_number};
+ghost use Rattle.fs_inputs.specs.Numbers.{number_in, number_reading};
+ghost use Rattle.fs_inputs.specs.InputMembers.{whole_number_of, are_numbers, fits_if_any, all_fit, input_value_fault};
+ghost use Rattle.fs_inputs.specs.InputMembers.{number_fault, array_fault, input_number_or_zero, last_member_value, spells};
+ghost use Rattle.fs_inputs.specs.Steps.{HoldsValue, PutsEntry, reads_number};
 
 use crate::faults::Fault;
 use crate::numbers::{Reading, read_number};
@@ -18,7 +19,7 @@ use serde_json::{Map, Number, Value};
 use std::alloc::Global;
 
 fn read_whole(number: &Number) -> Reading
-    ensures { result ≡ reading (as_integer (number_view number.now)) }
+    ensures { result ≡ number_reading (as_integer (number_view number.now)) }
 {
     match number.as_i128() {
         Some(n) => Reading::Number(n),
@@ -28,7 +29,7 @@ fn read_whole(number: &Number) -> Reading
 
 // The number that a value spells.
 fn read_value(value: &Value) -> Reading
-    ensures { result ≡ reading (number_of (view value.now)) }
+    ensures { result ≡ number_reading (whole_number_of (view value.now)) }
 {
     if let Some(number) = value.as_number() {
         return read_whole(number);
@@ -41,7 +42,7 @@ fn read_value(value: &Value) -> Reading
 
 // What is wrong with a scalar's value.
 fn scalar_fault(value: &Value) -> Option<Fault>
-    ensures { result ≡ number_fault (number_of (view value.now)) }
+    ensures { result ≡ number_fault (whole_number_of (view value.now)) }
 {
     match read_value(value) {
         Reading::Number(_) => None,
@@ -53,7 +54,7 @@ fn scalar_fault(value: &Value) -> Option<Fault>
 // Whether a name and its value spell numbers.
 #[tactic(auto, using(crate::proofs::Readings::reads_any))]
 fn is_entry(name: &String, value: &Value) -> bool
-    ensures { result ≡ (is_some (number_in (string_bytes name.now)) && is_some (number_of (view value.now))) }
+    ensures { result ≡ (is_some (number_in (string_bytes name.now)) && is_some (whole_number_of (view value.now))) }
 {
     read_number(name.as_bytes()).is_any() && read_value(value).is_any()
 }
@@ -73,7 +74,7 @@ fn are_numbers(members: &Map<String, Value>) -> bool
 // Whether neither a name nor its value spells a number outside 128 bits.
 #[tactic(auto, using(crate::proofs::Readings::reads_within))]
 fn fits(name: &String, value: &Value) -> bool
-    ensures { result ≡ (fits_if_any (number_in (string_bytes name.now)) && fits_if_any (number_of (view value.now))) }
+    ensures { result ≡ (fits_if_any (number_in (string_bytes name.now)) && fits_if_any (whole_number_of (view value.now))) }
 {
     read_number(name.as_bytes()).is_within() && read_value(value).is_within()
 }
@@ -108,7 +109,7 @@ fn array_fault(value: &Value) -> Option<Fault>
 
 /// What is wrong with the value of an input of a sort. A port is no input.
 pub fn value_fault(sort: Sort, value: &Value) -> Option<Fault>
-    ensures { result ≡ value_fault sort (view value.now) }
+    ensures { result ≡ input_value_fault sort (view value.now) }
 {
     match sort {
         Sort::Scalar => scalar_fault(value),
@@ -119,9 +120,9 @@ pub fn value_fault(sort: Sort, value: &Value) -> Option<Fault>
 
 // Puts the number that a value spells at the index that its name spells.
 fn put(entries: &mut Entries, name: &String, value: &Value) -> Result<(), NoMemory>
-    requires index { is_number (reading (number_in (string_bytes name.now))) ≡ true }
-    requires number { is_number (reading (number_of (view value.now))) ≡ true }
-    ensures { OnOk result (Puts (string_bytes name.now) (view value.now) entries.old entries.new) }
+    requires index { reads_number (number_reading (number_in (string_bytes name.now))) ≡ true }
+    requires number { reads_number (number_reading (whole_number_of (view value.now))) ≡ true }
+    ensures { OnOk result (PutsEntry (string_bytes name.now) (view value.now) entries.old entries.new) }
 {
     let i = read_number(name.as_bytes()).number();
     let v = read_value(value).number();
@@ -132,7 +133,9 @@ fn put(entries: &mut Entries, name: &String, value: &Value) -> Result<(), NoMemo
 fn entries_of(alloc: Global, members: &Map<String, Value>) -> Result<Entries, NoMemory>
     requires numbers { are_numbers (members_view members.now.entries) ≡ true }
     requires size { all_fit (members_view members.now.entries) ≡ true }
-    ensures { IfOk result (λ e. (i : ℤ) → entry e i ≡ number_at (last (spells i) (members_view members.now.entries))) }
+    ensures { IfOk result
+        (λ e. (i : ℤ) → entry_number e i ≡ input_number_or_zero
+        (last_member_value (spells i) (members_view members.now.entries))) }
 {
     let mut entries = Entries::new(alloc);
     for (name, value) in members.iter() {
@@ -143,7 +146,7 @@ fn entries_of(alloc: Global, members: &Map<String, Value>) -> Result<Entries, No
 
 fn array_value(alloc: Global, value: &Value) -> Result<Held, NoMemory>
     requires { array_fault (as_object (view value.now)) ≡ None }
-    ensures holds { IfOk result (λ v. Holds v (view value.now)) }
+    ensures holds { IfOk result (λ v. HoldsValue v (view value.now)) }
     ensures sort { IfOk result (λ v. sort_of v ≡ Array) }
 {
     match value.as_object() {
@@ -154,8 +157,8 @@ fn array_value(alloc: Global, value: &Value) -> Result<Held, NoMemory>
 
 /// The value of an input of a sort.
 pub fn value_for(alloc: Global, sort: Sort, value: &Value) -> Result<Held, NoMemory>
-    requires { value_fault sort (view value.now) ≡ None }
-    ensures holds { IfOk result (λ v. Holds v (view value.now)) }
+    requires { input_value_fault sort (view value.now) ≡ None }
+    ensures holds { IfOk result (λ v. HoldsValue v (view value.now)) }
     ensures sort { IfOk result (λ v. sort_of v ≡ sort) }
 {
     match sort {

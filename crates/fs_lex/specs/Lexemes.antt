@@ -1,5 +1,6 @@
 -- What stands at the front of the bytes, and how many bytes it takes.
-use Rattle.std.specs.Prelude.{ℕ, ◌+◌, ◌*◌, ◌-◌, ◌^◌, pos, Bool, cond, not, ◌||◌, ◌==◌, nat_lt, Option, Some, None, List, [], ◌∷◌, take, codes}
+use Rattle.std.specs.Prelude.{ℕ, ◌+◌, ◌*◌, ◌-◌, ◌^◌, pos, Bool, cond, not, ◌||◌, ◌==◌, nat_lt, Option, Some, None, List, [], ◌∷◌}
+use Rattle.std.specs.Prelude.{take, codes}
 use Rattle.std.specs.List.{prefix_len, fold}
 use Rattle.std.specs.Str.{bytes_eq}
 use Rattle.fs_model.specs.Words.{is_letter, is_digit, is_word_byte, is_name}
@@ -8,7 +9,11 @@ use Rattle.fs_model.specs.declared.parts.Role.TheVariants.{Input, Output, Local}
 use Rattle.fs_grammar.specs.declared.token.Flaw.TheVariants.{Byte, Word}
 use Rattle.fs_grammar.specs.declared.token.Flaw.TheVariants as flaws
 use Rattle.fs_grammar.specs.declared.token.TokenKind.{TokenKind}
-use Rattle.fs_grammar.specs.declared.token.TokenKind.TheVariants.{Fsmd, Declare, Array, Reset, State, When, Goto, Start, Done, Emit, Port, Name, Number, Semicolon, Colon, Comma, Equals, OpenParen, CloseParen, OpenBracket, CloseBracket, OpenBrace, CloseBrace, Plus, Minus, Star, Slash, Percent, Bang, AndAnd, OrOr, Relation, Bad}
+use Rattle.fs_grammar.specs.declared.token.TokenKind.TheVariants.{Fsmd, Declare, Array, Reset, State, When, Goto, Start, Done}
+use Rattle.fs_grammar.specs.declared.token.TokenKind.TheVariants.{Emit, Port, Name, Number, Semicolon, Colon, Comma, Equals}
+use Rattle.fs_grammar.specs.declared.token.TokenKind.TheVariants.{OpenParen, CloseParen, OpenBracket, CloseBracket, OpenBrace}
+use Rattle.fs_grammar.specs.declared.token.TokenKind.TheVariants.{CloseBrace, Plus, Minus, Star, Slash, Percent, Bang, AndAnd}
+use Rattle.fs_grammar.specs.declared.token.TokenKind.TheVariants.{OrOr, Relation, Bad}
 use Rattle.fs_lex.specs.declared.lexemes.Lexeme.{Lexeme}
 use Rattle.fs_lex.specs.declared.lexemes.Lexeme.TheVariants.{Blank, Token}
 
@@ -43,8 +48,8 @@ name_or_bad bs (Some t) = t
 name_or_bad bs None = cond (is_name bs) (Name bs) (Bad Word)
 
 -- the token of a word
-abbrev pub word_of : List ℕ → TokenKind
-word_of bs = name_or_bad bs (keyword_of bs)
+abbrev pub word_token : List ℕ → TokenKind
+word_token bs = name_or_bad bs (keyword_of bs)
 
 -- a number with one digit more
 abbrev pub shifted : ℕ → ℕ → ℕ
@@ -55,8 +60,8 @@ abbrev pub decimal : List ℕ → ℕ
 decimal bs = fold shifted 0 bs
 
 -- the token of a run of digits
-unfoldable pub number_of : List ℕ → TokenKind
-number_of bs = cond (nat_lt (decimal bs) (2 ^ 127)) (Number (pos (decimal bs))) (Bad flaws.Number)
+unfoldable pub number_token : List ℕ → TokenKind
+number_token bs = cond (nat_lt (decimal bs) (2 ^ 127)) (Number (pos (decimal bs))) (Bad flaws.Number)
 
 -- a punctuation of two bytes
 abbrev pub double_punctuation : ℕ → ℕ → Option TokenKind
@@ -118,8 +123,9 @@ lexeme_of [] = Blank 0
 lexeme_of (b ∷ bs) =
     cond (is_space b) (Blank 1)
     (cond (b == 35) (Blank (prefix_len is_in_comment (b ∷ bs)))
-    (cond (is_letter b) (Token (word_of (take (prefix_len is_word_byte (b ∷ bs)) (b ∷ bs))) (prefix_len is_word_byte (b ∷ bs)))
-    (cond (is_digit b) (Token (number_of (take (prefix_len is_digit (b ∷ bs)) (b ∷ bs))) (prefix_len is_digit (b ∷ bs))) (punctuation_of (b ∷ bs)))))
+    (cond (is_letter b) (Token (word_token (take (prefix_len is_word_byte (b ∷ bs)) (b ∷ bs))) (prefix_len is_word_byte (b ∷ bs)))
+    (cond (is_digit b) (Token (number_token (take (prefix_len is_digit (b ∷ bs)) (b ∷ bs))) (prefix_len is_digit (b ∷ bs)))
+    (punctuation_of (b ∷ bs)))))
 
 -- how many bytes it takes
 abbrev pub size : Lexeme → ℕ

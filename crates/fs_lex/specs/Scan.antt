@@ -11,13 +11,13 @@ use Rattle.fs_lex.specs.declared.lexemes.Lexeme.TheVariants as lexemes
 use Rattle.fs_lex.specs.Lexemes.{lexeme_of}
 
 -- the place after a byte
-abbrev pub after : TextPlace → ℕ → TextPlace
-after p b = cond (b == 10) (record { line = p.line + 1; column = 1 }) (record { line = p.line; column = p.column + 1 })
+abbrev pub place_after_byte : TextPlace → ℕ → TextPlace
+place_after_byte p b = cond (b == 10) (record { line = p.line + 1; column = 1 }) (record { line = p.line; column = p.column + 1 })
 
 -- the place after some bytes
-abbrev pub moved : TextPlace → List ℕ → TextPlace
-moved p [] = p
-moved p (b ∷ bs) = moved (after p b) bs
+abbrev pub place_after_bytes : TextPlace → List ℕ → TextPlace
+place_after_bytes p [] = p
+place_after_bytes p (b ∷ bs) = place_after_bytes (place_after_byte p b) bs
 
 -- how many operators the guard or assignment has up to the token, where n stand before the token
 abbrev pub counted : TokenKind → ℕ → ℕ
@@ -32,15 +32,16 @@ is_bad (Bad flaw) = true
 is_bad _ = false
 
 -- blanks give no token, and nothing comes after a token that is bad
-abbrev pub emitted : Lexeme → TextPlace → ℕ → (ℕ → ℕ → List Token) → List Token
-emitted (lexemes.Blank n) p operators go = go (n - 1) operators
-emitted (lexemes.Token t n) p operators go = record { kind = t; past_limit = is_past_limit t operators; place = p } ∷ cond (is_bad t) [] (go (n - 1) (counted t operators))
+abbrev pub emit_token : Lexeme → TextPlace → ℕ → (ℕ → ℕ → List Token) → List Token
+emit_token (lexemes.Blank n) p operators go = go (n - 1) operators
+emit_token (lexemes.Token t n) p operators go = record { kind = t; past_limit = is_past_limit t operators; place = p }
+    ∷ cond (is_bad t) [] (go (n - 1) (counted t operators))
 
 -- the tokens from a place on, where skip bytes still belong to the token before
 abbrev pub scan : List ℕ → ℕ → TextPlace → ℕ → List Token
 scan [] skip p operators = record { kind = End; past_limit = false; place = p } ∷ []
-scan (b ∷ bs) (suc skip) p operators = scan bs skip (after p b) operators
-scan (b ∷ bs) zero p operators = emitted (lexeme_of (b ∷ bs)) p operators (λ skip n. scan bs skip (after p b) n)
+scan (b ∷ bs) (suc skip) p operators = scan bs skip (place_after_byte p b) operators
+scan (b ∷ bs) zero p operators = emit_token (lexeme_of (b ∷ bs)) p operators (λ skip n. scan bs skip (place_after_byte p b) n)
 
 -- the tokens of a text; the last is the end of the bytes, or bad
 abbrev pub tokens_of : List ℕ → List Token

@@ -6,7 +6,8 @@ ghost use Rattle.std.specs.Prelude.{◌≡◌, ◌<◌, ◌≤◌, ◌^◌, leng
 ghost use Rattle.std.specs.List.{prefix_len};
 ghost use Rattle.fs_model.specs.Words.{is_digit, is_word_byte};
 ghost use Rattle.fs_grammar.specs.Tokens.{MadeAs};
-ghost use Rattle.fs_lex.specs.Lexemes.{is_space, is_in_comment, keyword_of, word_of, decimal, number_of, double_punctuation, mark, operator, single_punctuation, punctuation_of, lexeme_of, size};
+ghost use Rattle.fs_lex.specs.Lexemes.{is_space, is_in_comment, keyword_of, word_token, decimal, number_token};
+ghost use Rattle.fs_lex.specs.Lexemes.{double_punctuation, mark, operator, single_punctuation, punctuation_of, lexeme_of, size};
 
 use fs_grammar::fault::ReadError;
 use fs_grammar::token::{Flaw, TokenKind};
@@ -95,7 +96,7 @@ fn keyword(bytes: &[u8]) -> Option<TokenKind>
 
 // The token of a word: reserved, a name, or bad where it is too long.
 fn word(alloc: Global, bytes: &[u8]) -> Result<TokenKind, ReadError>
-    ensures { MadeAs result (λ t. t ≡ word_of bytes.now) }
+    ensures { MadeAs result (λ t. t ≡ word_token bytes.now) }
 {
     if let Some(kind) = keyword(bytes) {
         return Ok(kind);
@@ -124,9 +125,9 @@ fn value(bytes: &[u8]) -> Option<u128>
 }
 
 // The token of a run of digits: a number, or bad where it is too large.
-#[tactic(auto, unfolding(crate::specs::Lexemes::number_of))]
+#[tactic(auto, unfolding(crate::specs::Lexemes::number_token))]
 fn number(bytes: &[u8]) -> TokenKind
-    ensures { result ≡ number_of bytes.now }
+    ensures { result ≡ number_token bytes.now }
 {
     match value(bytes) {
         Some(n) => TokenKind::Number(n as i128),

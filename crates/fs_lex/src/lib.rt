@@ -3,6 +3,10 @@
 //! Space, tab, CR and LF separate tokens; a comment runs from `#` to the end of its line. Words,
 //! numbers and punctuation are as long as they can be. `fs_lex_laws` says of the bytes alone what
 //! their tokens are.
+//!
+//! Promises: the tokens of bytes, with places and the mark of an operator too many.
+//!
+//! Rules: `specs/Lexemes`, `specs/Scan`.
 #![tactic(auto)]
 
 pub mod lexemes;

@@ -4,7 +4,7 @@ ghost use Rattle.std.specs.Prelude.{◌≡◌, ◌<◌, ◌≤◌, ◌+◌, ◌^
 ghost use Rattle.fs_model.specs.Limits.{most_text_bytes};
 ghost use Rattle.fs_grammar.specs.Tokens.{MadeAs};
 ghost use Rattle.fs_grammar.specs.Operators.{is_operator, starts_expression};
-ghost use Rattle.fs_lex.specs.Scan.{moved, counted, is_past_limit, is_bad, tokens_of};
+ghost use Rattle.fs_lex.specs.Scan.{place_after_bytes, counted, is_past_limit, is_bad, tokens_of};
 
 use crate::lexemes::{Lexeme, next_lexeme};
 use fs_grammar::fault::{ReadError, TextPlace};
@@ -74,7 +74,7 @@ fn moved(from: TextPlace, bytes: &[u8]) -> TextPlace
     requires line { from.line + length bytes.now < 2 ^ 32 }
     requires column { from.column + length bytes.now < 2 ^ 32 }
     requires some { 0 < from.column }
-    ensures is { result ≡ moved from bytes.now }
+    ensures is { result ≡ place_after_bytes from bytes.now }
     ensures line { result.line ≤ from.line + length bytes.now }
     ensures column { result.column ≤ from.column + length bytes.now }
     ensures some { 0 < result.column }

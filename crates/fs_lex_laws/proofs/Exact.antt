@@ -1,7 +1,7 @@
 -- Each kind of token stands exactly where its bytes say so.
 use Rattle.std.proofs.Common.{◌≡◌, ℕ, ◌<◌, ◌≤◌, ◌↔◌, List, [], ◌∷◌, ◌++◌, length, refl, sym, subst, ◌∙◌, arith}
 use Rattle.std.specs.Prelude.{pos, nat_lt, IsTrue, Some, is_some}
-use Rattle.std.proofs.lemmas.Bool.{ltb-true}
+use Rattle.std.proofs.lemmas.Bool.{ltb-true, and_parts}
 use Rattle.fs_model.specs.Limits.{most_name_bytes, most_number}
 use Rattle.fs_model.specs.Words.{is_word, is_name, is_reserved}
 use Rattle.fs_grammar.specs.declared.token.TokenKind.{TokenKind}
@@ -11,7 +11,7 @@ use Rattle.fs_lex_laws.specs.Vocabulary.{reserved_tokens, double_tokens, single_
 use Rattle.fs_lex_laws.specs.Tokenization.{BeginsNothing, StandsBefore}
 use Rattle.fs_lex_laws.proofs.Tables.{so_of_key}
 use Rattle.fs_lex_laws.proofs.Standing.{reserved_tells}
-use Rattle.fs_lex_laws.proofs.KindOf.{both_true, kind_spelled, name_spelled, long_spelled, reserved_spelled, number_spelled, large_spelled, punctuation_spelled}
+use Rattle.fs_lex_laws.proofs.KindOf.{kind_spelled, name_spelled, long_spelled, reserved_spelled, number_spelled, large_spelled, punctuation_spelled}
 use Rattle.fs_lex_laws.proofs.Unique.{one_token}
 
 word_has_bytes : (own : List ℕ) → IsTrue (is_word own) → 0 < length own
@@ -23,7 +23,7 @@ number_has_bytes [] h = absurd cc
 number_has_bytes (b ∷ bs) h = omega arith
 
 name_is_word : (own : List ℕ) → IsTrue (is_name own) → IsTrue (is_word own)
-name_is_word own n = (both_true (is_word own) _ (both_true _ _ n).0).0
+name_is_word own n = (and_parts (is_word own) _ (and_parts _ _ n).0).0
 
 pub reserved : (t u : TokenKind) (own rest : List ℕ) → StandsBefore t own rest → reserved_kind own ≡ Some u → t ≡ u
 reserved t u own rest h e =
@@ -40,7 +40,8 @@ pub words : (t : TokenKind) (own rest : List ℕ) → StandsBefore t own rest �
 words t own rest h w =
     (λ e. (subst (λ (u : TokenKind). StandsBefore u own rest) e h).1, λ l. sym (kind_spelled t own rest h (word_has_bytes own w)) ∙ long_spelled own w l)
 
-pub numbers : (t : TokenKind) (own rest : List ℕ) → StandsBefore t own rest → IsTrue (is_number own) → number_value own ≤ most_number → t ≡ Number (pos (number_value own))
+pub numbers : (t : TokenKind) (own rest : List ℕ) → StandsBefore t own rest → IsTrue (is_number own) → number_value own ≤ most_number
+    → t ≡ Number (pos (number_value own))
 numbers t own rest h n l = sym (kind_spelled t own rest h (number_has_bytes own n)) ∙ number_spelled own n l
 
 pub large : (t : TokenKind) (own rest : List ℕ) → StandsBefore t own rest → IsTrue (is_number own) → (t ≡ Bad flaws.Number) ↔ (most_number < number_value own)

@@ -1,7 +1,7 @@
 -- A token's kind is determined by its bytes.
 use Rattle.std.proofs.Common.{◌≡◌, ℕ, ◌^◌, ◌<◌, ◌≤◌, List, [], ◌∷◌, ◌++◌, length, refl, sym, ap, ◌∙◌, cond, inl, inr, arith}
 use Rattle.std.specs.Prelude.{pos, Bool, true, false, not, ◌&&◌, ◌||◌, ◌⊎◌, nat_le, nat_lt, IsTrue, Option, Some, None, is_some}
-use Rattle.std.proofs.lemmas.Bool.{not-true}
+use Rattle.std.proofs.lemmas.Bool.{not-true, and_parts}
 use Rattle.fs_model.specs.Limits.{most_number}
 use Rattle.fs_model.specs.Words.{is_letter, is_digit, is_word, is_name, is_reserved}
 use Rattle.fs_grammar.specs.declared.token.TokenKind.{TokenKind}
@@ -22,19 +22,23 @@ number_or_bad n = cond (nat_lt n (2 ^ 127)) (Number (pos n)) (Bad flaws.Number)
 
 -- the kind of a token with these bytes
 abbrev pub spelled : List ℕ → TokenKind
-spelled own = cond (is_word own) (name_or_bad own (reserved_kind own)) (cond (is_number own) (number_or_bad (number_value own)) (punctuation_or_bad (punctuation_kind own)))
+spelled own = cond (is_word own) (name_or_bad own (reserved_kind own))
+    (cond (is_number own) (number_or_bad (number_value own)) (punctuation_or_bad (punctuation_kind own)))
 
 word_spelled : (own : List ℕ) → is_word own ≡ true → spelled own ≡ name_or_bad own (reserved_kind own)
-word_spelled own e = ap (λ (b : Bool). cond b (name_or_bad own (reserved_kind own)) (cond (is_number own) (number_or_bad (number_value own)) (punctuation_or_bad (punctuation_kind own)))) e
+word_spelled own e =
+    ap
+    (λ (b : Bool). cond b (name_or_bad own (reserved_kind own))
+    (cond (is_number own) (number_or_bad (number_value own)) (punctuation_or_bad (punctuation_kind own)))) e
 
-other_spelled : (own : List ℕ) → is_word own ≡ false → spelled own ≡ cond (is_number own) (number_or_bad (number_value own)) (punctuation_or_bad (punctuation_kind own))
-other_spelled own e = ap (λ (b : Bool). cond b (name_or_bad own (reserved_kind own)) (cond (is_number own) (number_or_bad (number_value own)) (punctuation_or_bad (punctuation_kind own)))) e
+other_spelled : (own : List ℕ) → is_word own ≡ false
+    → spelled own ≡ cond (is_number own) (number_or_bad (number_value own)) (punctuation_or_bad (punctuation_kind own))
+other_spelled own e =
+    ap
+    (λ (b : Bool). cond b (name_or_bad own (reserved_kind own))
+    (cond (is_number own) (number_or_bad (number_value own)) (punctuation_or_bad (punctuation_kind own)))) e
 
 -- ---- words
-
-pub both_true : (a b : Bool) → (a && b) ≡ true → (a ≡ true) × (b ≡ true)
-both_true true b h = (refl, h)
-both_true false b h = absurd cc
 
 none_of : (o : Option TokenKind) → is_some o ≡ false → o ≡ None
 none_of (Some t) e = absurd cc
@@ -45,8 +49,8 @@ kind_of_word own o w e = word_spelled own w ∙ ap (name_or_bad own) e
 
 pub name_spelled : (own : List ℕ) → IsTrue (is_name own) → spelled own ≡ Name own
 name_spelled own n =
-    let two = both_true (is_word own && nat_le (length own) 32) (not (is_reserved own)) n in
-    let word = (both_true (is_word own) (nat_le (length own) 32) two.0).0 in
+    let two = and_parts (is_word own && nat_le (length own) 32) (not (is_reserved own)) n in
+    let word = (and_parts (is_word own) (nat_le (length own) 32) two.0).0 in
     let free : reserved_kind own ≡ None = none_of (reserved_kind own) (sym (reserved_tells own) ∙ not-true (is_reserved own) two.1) in
     kind_of_word own None word free ∙ ap (λ (b : Bool). cond b (Name own) (Bad flaws.Word)) n
 
@@ -58,7 +62,9 @@ long_spelled own w h =
     let free : reserved_kind own ≡ None =
     none_unless (reserved_kind own) (λ t q. not_both (length own) h (so_of_key (λ (k : List ℕ). nat_le (length k) 32) reserved_tokens own t refl q)) in
     let no_name : is_name own ≡ false =
-    false_unless (is_name own) (λ n. not_both (length own) h (both_true (is_word own) (nat_le (length own) 32) (both_true (is_word own && nat_le (length own) 32) (not (is_reserved own)) n).0).1) in
+    false_unless (is_name own)
+    (λ n. not_both (length own) h
+    (and_parts (is_word own) (nat_le (length own) 32) (and_parts (is_word own && nat_le (length own) 32) (not (is_reserved own)) n).0).1) in
     kind_of_word own None w free ∙ ap (λ (b : Bool). cond b (Name own) (Bad flaws.Word)) no_name
 
 pub reserved_spelled : (own : List ℕ) (t : TokenKind) → reserved_kind own ≡ Some t → spelled own ≡ t
@@ -76,11 +82,12 @@ number_no_word : (own : List ℕ) → is_number own ≡ true → is_word own ≡
 number_no_word [] e = refl
 number_no_word (d ∷ ds) e =
     false_unless (is_word (d ∷ ds)) (λ w.
-    let digit = (both_true (is_digit d) _ e).0 in
-    let two : true ≡ false = sym (both_true (is_letter d) _ w).0 ∙ digit_no_letter d digit in
+    let digit = (and_parts (is_digit d) _ e).0 in
+    let two : true ≡ false = sym (and_parts (is_letter d) _ w).0 ∙ digit_no_letter d digit in
     cc)
 
-kind_of_number : (own : List ℕ) (b : Bool) → IsTrue (is_number own) → nat_lt (number_value own) (2 ^ 127) ≡ b → spelled own ≡ cond b (Number (pos (number_value own))) (Bad flaws.Number)
+kind_of_number : (own : List ℕ) (b : Bool) → IsTrue (is_number own) → nat_lt (number_value own) (2 ^ 127) ≡ b
+    → spelled own ≡ cond b (Number (pos (number_value own))) (Bad flaws.Number)
 kind_of_number own b n e =
     other_spelled own (number_no_word own n) ∙ ap (λ (b : Bool). cond b (number_or_bad (number_value own)) (punctuation_or_bad (punctuation_kind own))) n
     ∙ ap (λ (b : Bool). cond b (Number (pos (number_value own))) (Bad flaws.Number)) e
@@ -103,7 +110,8 @@ pub punctuation_spelled : (own : List ℕ) (t : TokenKind) → punctuation_kind 
 punctuation_spelled own t e =
     let no_word = not-true (is_word own) (so_of_key (λ (k : List ℕ). not (is_word k)) (double_tokens ++ single_tokens) own t refl e) in
     let no_number = not-true (is_number own) (so_of_key (λ (k : List ℕ). not (is_number k)) (double_tokens ++ single_tokens) own t refl e) in
-    other_spelled own no_word ∙ ap (λ (b : Bool). cond b (number_or_bad (number_value own)) (punctuation_or_bad (punctuation_kind own))) no_number ∙ ap punctuation_or_bad e
+    other_spelled own no_word ∙ ap (λ (b : Bool). cond b (number_or_bad (number_value own)) (punctuation_or_bad (punctuation_kind own))) no_number
+    ∙ ap punctuation_or_bad e
 
 no_three : (a b : Bool) (o : Option TokenKind) → (a || b || is_some o) ≡ false → (a ≡ false) × (b ≡ false) × (o ≡ None)
 no_three true b o e = absurd cc
@@ -114,7 +122,8 @@ no_three false false None e = (refl, refl, refl)
 pub bad_spelled : (own : List ℕ) → is_lexeme own ≡ false → spelled own ≡ Bad flaws.Byte
 bad_spelled own e =
     let three = no_three (is_word own) (is_number own) (punctuation_kind own) e in
-    other_spelled own three.0 ∙ ap (λ (b : Bool). cond b (number_or_bad (number_value own)) (punctuation_or_bad (punctuation_kind own))) three.1 ∙ ap punctuation_or_bad three.2
+    other_spelled own three.0 ∙ ap (λ (b : Bool). cond b (number_or_bad (number_value own)) (punctuation_or_bad (punctuation_kind own))) three.1
+    ∙ ap punctuation_or_bad three.2
 
 -- ---- tokens
 

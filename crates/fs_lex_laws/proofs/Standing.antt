@@ -1,5 +1,6 @@
 -- What the front of the bytes is, said of the bytes.
-use Rattle.std.proofs.Common.{◌≡◌, ℕ, suc, ◌+◌, ◌*◌, ◌-◌, ◌^◌, ◌<◌, ◌≤◌, List, [], ◌∷◌, ◌++◌, length, take, drop, refl, sym, ap, subst, ◌∙◌, cond, inl, inr, arith}
+use Rattle.std.proofs.Common.{◌≡◌, ℕ, suc, ◌+◌, ◌*◌, ◌-◌, ◌^◌, ◌<◌, ◌≤◌, List, [], ◌∷◌, ◌++◌, length, take, drop, refl, sym, ap, subst, ◌∙◌, cond, inl, inr}
+use Rattle.std.proofs.Common.{arith}
 use native.Mathlib.Numerals.{unary_clauses}
 use Rattle.std.proofs.Math.Nat.{mul_comm}
 use Rattle.std.specs.Prelude.{pos, Bool, true, false, not, ◌&&◌, ◌||◌, ◌⊎◌, ◌==◌, nat_le, nat_lt, IsTrue, Option, Some, None, is_some, codes}
@@ -7,13 +8,18 @@ use Rattle.std.specs.List.{list_all, prefix_len, fold}
 use Rattle.std.specs.Map.{lookup}
 use Rattle.std.specs.Str.{bytes_eq}
 use Rattle.std.proofs.lemmas.Map.Made.{is_some-lookup}
+use Rattle.base_lemmas.proofs.Booleans.{and_false}
 use Rattle.fs_model.specs.declared.parts.Rel.TheVariants.{Lt, Gt}
 use Rattle.fs_model.specs.Limits.{most_number}
 use Rattle.fs_model.specs.Words.{is_letter, is_digit, is_word_byte, is_word, is_name, is_reserved}
+use Rattle.fs_model.proofs.Words.{digit_is_word_byte}
 use Rattle.fs_grammar.specs.declared.token.TokenKind.{TokenKind}
-use Rattle.fs_grammar.specs.declared.token.TokenKind.TheVariants.{Name, Number, Semicolon, Colon, Comma, Equals, OpenParen, CloseParen, OpenBracket, CloseBracket, OpenBrace, CloseBrace, Plus, Minus, Star, Slash, Percent, Bang, Relation, Bad, End}
+use Rattle.fs_grammar.specs.declared.token.TokenKind.TheVariants.{Name, Number, Semicolon, Colon, Comma, Equals, OpenParen, CloseParen, OpenBracket}
+use Rattle.fs_grammar.specs.declared.token.TokenKind.TheVariants.{CloseBracket, OpenBrace, CloseBrace, Plus, Minus, Star, Slash, Percent, Bang, Relation, Bad}
+use Rattle.fs_grammar.specs.declared.token.TokenKind.TheVariants.{End}
 use Rattle.fs_grammar.specs.declared.token.Flaw.TheVariants as flaws
-use Rattle.fs_lex.specs.Lexemes.{is_space, keyword_of, name_or_bad, word_of, shifted, decimal, number_of, double_punctuation, mark, operator, or_operator, single_punctuation}
+use Rattle.fs_lex.specs.Lexemes.{is_space, keyword_of, name_or_bad, word_token, shifted, decimal, number_token, double_punctuation, mark, operator, or_operator}
+use Rattle.fs_lex.specs.Lexemes.{single_punctuation}
 use Rattle.fs_lex_laws.specs.Vocabulary.{reserved_tokens, double_tokens, single_tokens, reserved_kind, punctuation_kind, is_number, number_value, is_lexeme}
 use Rattle.fs_lex_laws.specs.Tokenization.{IsLongest, StandsBefore}
 use Rattle.fs_lex_laws.proofs.Tables.{none_unless, lookup_left, lookup_right, other_length, so_of_key, so_of_token}
@@ -34,23 +40,14 @@ run_more : (p : ℕ → Bool) (b : ℕ) (bs : List ℕ) (t : Bool) → p b ≡ t
 run_more p b bs true e r =
     let n = prefix_len p bs in
     let one : suc n ≡ 1 + n = omega arith in
-    subst (IsRun p (b ∷ bs)) one (record { passes = ap (λ (x : Bool). x && list_all p (take n bs)) e ∙ r.passes; stops = r.stops; fits = omega (arith, r.fits) })
+    subst (IsRun p (b ∷ bs)) one
+    (record { passes = ap (λ (x : Bool). x && list_all p (take n bs)) e ∙ r.passes; stops = r.stops; fits = omega (arith, r.fits) })
 run_more p b bs false e r = record { passes = refl; stops = e; fits = omega arith }
 
 -- the longest front of bytes that pass is a run
 pub run : (p : ℕ → Bool) (bs : List ℕ) → IsRun p bs (prefix_len p bs)
 run p [] = record { passes = refl; stops = tt; fits = omega arith }
 run p (b ∷ bs) = run_more p b bs (p b) refl (run p bs)
-
--- a run whose first byte passes has this byte
-pub run_begins : (p : ℕ → Bool) (b : ℕ) (bs : List ℕ) → p b ≡ true → prefix_len p (b ∷ bs) ≡ suc (prefix_len p bs)
-run_begins p b bs e =
-    let one : 1 + prefix_len p bs ≡ suc (prefix_len p bs) = omega arith in
-    ap (λ (t : Bool). cond t (1 + prefix_len p bs) 0) e ∙ one
-
-pub and_false : (x : Bool) → (x && false) ≡ false
-and_false true = refl
-and_false false = refl
 
 -- bytes with one among them that fails
 fails : (p : ℕ → Bool) (xs : List ℕ) (c : ℕ) (more : List ℕ) → p c ≡ false → list_all p (xs ++ c ∷ more) ≡ false
@@ -87,15 +84,8 @@ second a b o e f = ap (λ (x : Bool). x || b || is_some o) e ∙ ap (λ (x : Boo
 third : (a b : Bool) (o : Option TokenKind) (t : TokenKind) → a ≡ false → b ≡ false → o ≡ Some t → IsTrue (a || b || is_some o)
 third a b o t e f g = ap (λ (x : Bool). x || b || is_some o) e ∙ ap (λ (x : Bool). x || is_some o) f ∙ ap is_some g
 
-or_true : (x : Bool) → (x || true) ≡ true
-or_true true = refl
-or_true false = refl
-
 letter_is_word_byte : (b : ℕ) → is_letter b ≡ true → is_word_byte b ≡ true
 letter_is_word_byte b e = ap (λ (x : Bool). x || is_digit b) e
-
-digit_is_word_byte : (b : ℕ) → is_digit b ≡ true → is_word_byte b ≡ true
-digit_is_word_byte b e = ap (λ (x : Bool). is_letter b || x) e ∙ or_true (is_letter b)
 
 pub letter_no_digit : (b : ℕ) → is_letter b ≡ true → is_digit b ≡ false
 letter_no_digit b e = grind (arith, e)
@@ -110,7 +100,8 @@ is_fixed (Bad flaw) = false
 is_fixed End = false
 is_fixed _ = true
 
-fixed_stands : (t : TokenKind) (own rest : List ℕ) → is_fixed t ≡ true → (reserved_kind own ≡ Some t) ⊎ (punctuation_kind own ≡ Some t) → IsLongest own rest → StandsBefore t own rest
+fixed_stands : (t : TokenKind) (own rest : List ℕ) → is_fixed t ≡ true → (reserved_kind own ≡ Some t) ⊎ (punctuation_kind own ≡ Some t) → IsLongest own rest
+    → StandsBefore t own rest
 fixed_stands (Name x) own rest f h l = absurd cc
 fixed_stands (Number n) own rest f h l = absurd cc
 fixed_stands (Bad flaw) own rest f h l = absurd cc
@@ -134,18 +125,21 @@ too_long false b c e f h = absurd cc
 above : (n : ℕ) → nat_le n 32 ≡ false → 32 < n
 above n e = grind (arith, e)
 
-name_stands : (own rest : List ℕ) (t : Bool) → is_name own ≡ t → IsTrue (is_word own) → is_reserved own ≡ false → IsLongest own rest → StandsBefore (cond t (Name own) (Bad flaws.Word)) own rest
+name_stands : (own rest : List ℕ) (t : Bool) → is_name own ≡ t → IsTrue (is_word own) → is_reserved own ≡ false → IsLongest own rest
+    → StandsBefore (cond t (Name own) (Bad flaws.Word)) own rest
 name_stands own rest true e w r l = (refl, e, l)
 name_stands own rest false e w r l = (w, above (length own) (too_long (is_word own) (nat_le (length own) 32) (is_reserved own) w r e), l)
 
 pub reserved_tells : (own : List ℕ) → is_reserved own ≡ is_some (reserved_kind own)
 reserved_tells own = sym (is_some-lookup (bytes_eq own) reserved_tokens)
 
-word_kind_stands : (own rest : List ℕ) (o : Option TokenKind) → reserved_kind own ≡ o → IsTrue (is_word own) → IsLongest own rest → StandsBefore (name_or_bad own o) own rest
+word_kind_stands : (own rest : List ℕ) (o : Option TokenKind) → reserved_kind own ≡ o → IsTrue (is_word own) → IsLongest own rest
+    → StandsBefore (name_or_bad own o) own rest
 word_kind_stands own rest (Some t) e w l = fixed_stands t own rest (reserved_is_fixed own t e) (inl e) l
 word_kind_stands own rest None e w l = name_stands own rest (is_name own) refl w (reserved_tells own ∙ ap is_some e) l
 
-pub word_stands : (b : ℕ) (ws rest : List ℕ) → is_letter b ≡ true → IsTrue (list_all is_word_byte ws) → StopsAt is_word_byte rest → StandsBefore (word_of (b ∷ ws)) (b ∷ ws) rest
+pub word_stands : (b : ℕ) (ws rest : List ℕ) → is_letter b ≡ true → IsTrue (list_all is_word_byte ws) → StopsAt is_word_byte rest
+    → StandsBefore (word_token (b ∷ ws)) (b ∷ ws) rest
 word_stands b ws rest e p s =
     let own = b ∷ ws in
     let w : IsTrue (is_word own) = ap (λ (x : Bool). x && list_all is_word_byte ws) e ∙ p in
@@ -170,17 +164,20 @@ digits_value : (n : ℕ) (ds : List ℕ) → fold shifted n ds ≡ n * 10 ^ leng
 digits_value n [] = omega arith
 digits_value n (d ∷ ds) =
     let power : 10 * 10 ^ length ds ≡ 10 ^ suc (length ds) = simp unary_clauses (mul_comm 10 (10 ^ length ds)) in
-    digits_value (shifted n d) ds ∙ grown n (d - 48) (10 ^ length ds) (number_value ds) ∙ ap (λ (p : ℕ). n * p + ((d - 48) * 10 ^ length ds + number_value ds)) power
+    digits_value (shifted n d) ds ∙ grown n (d - 48) (10 ^ length ds) (number_value ds)
+    ∙ ap (λ (p : ℕ). n * p + ((d - 48) * 10 ^ length ds + number_value ds)) power
 
 decimal_value : (ds : List ℕ) → decimal ds ≡ number_value ds
 decimal_value ds = digits_value 0 ds ∙ omega arith
 
-number_kind_stands : (own rest : List ℕ) (v : ℕ) (t : Bool) → nat_lt v (2 ^ 127) ≡ t → v ≡ number_value own → IsTrue (is_number own) → IsLongest own rest → StandsBefore (cond t (Number (pos v)) (Bad flaws.Number)) own rest
+number_kind_stands : (own rest : List ℕ) (v : ℕ) (t : Bool) → nat_lt v (2 ^ 127) ≡ t → v ≡ number_value own → IsTrue (is_number own) → IsLongest own rest
+    → StandsBefore (cond t (Number (pos v)) (Bad flaws.Number)) own rest
 number_kind_stands own rest v true e f n l = (n, ap pos f, subst (λ (x : ℕ). x ≤ most_number) f (grind (arith, e)), l)
 number_kind_stands own rest v false e f n l = (n, subst (λ (x : ℕ). most_number < x) f (grind (arith, e)), l)
 
-pub number_stands : (d : ℕ) (ds rest : List ℕ) → is_letter d ≡ false → is_digit d ≡ true → IsTrue (list_all is_digit ds) → StopsAt is_digit rest → StandsBefore (number_of (d ∷ ds)) (d ∷ ds) rest
-unfolding number_of
+pub number_stands : (d : ℕ) (ds rest : List ℕ) → is_letter d ≡ false → is_digit d ≡ true → IsTrue (list_all is_digit ds) → StopsAt is_digit rest
+    → StandsBefore (number_token (d ∷ ds)) (d ∷ ds) rest
+unfolding number_token
 number_stands d ds rest k e p s =
     let own = d ∷ ds in
     let n : IsTrue (is_number own) = ap (λ (x : Bool). x && list_all is_digit ds) e ∙ p in
@@ -191,7 +188,8 @@ number_stands d ds rest k e p s =
       no_longer = λ c more later q.
           let no_number : is_number (d ∷ (ds ++ c ∷ more)) ≡ false =
           ap (λ (x : Bool). is_digit d && x) (fails is_digit ds c more (stopped is_digit rest (more ++ later) c s q)) ∙ and_false (is_digit d) in
-          three (is_word (d ∷ (ds ++ c ∷ more))) (is_number (d ∷ (ds ++ c ∷ more))) (punctuation_kind (d ∷ (ds ++ c ∷ more))) (no_word (ds ++ c ∷ more)) no_number
+          three (is_word (d ∷ (ds ++ c ∷ more))) (is_number (d ∷ (ds ++ c ∷ more))) (punctuation_kind (d ∷ (ds ++ c ∷ more)))
+          (no_word (ds ++ c ∷ more)) no_number
           (no_punctuation d (ds ++ c ∷ more) (digit_is_word_byte d e));
     } in
     number_kind_stands own rest (decimal own) (nat_lt (decimal own) (2 ^ 127)) refl (decimal_value own) n longest_number
@@ -284,11 +282,13 @@ a_lexeme b bs t o e = third (is_word (b ∷ bs)) (is_number (b ∷ bs)) (punctua
 abbrev NoLonger : ℕ → List ℕ → Type 0
 NoLonger b rest = (c : ℕ) (more later : List ℕ) → rest ≡ c ∷ (more ++ later) → punctuation_kind (b ∷ c ∷ more) ≡ None
 
-none_begins : (b : ℕ) (rest : List ℕ) → IsOther b → punctuation_kind (b ∷ []) ≡ None → NoLonger b rest → (more later : List ℕ) → rest ≡ more ++ later → is_lexeme (b ∷ more) ≡ false
+none_begins : (b : ℕ) (rest : List ℕ) → IsOther b → punctuation_kind (b ∷ []) ≡ None → NoLonger b rest → (more later : List ℕ) → rest ≡ more ++ later
+    → is_lexeme (b ∷ more) ≡ false
 none_begins b rest o e f [] later q = no_lexeme b [] o e
 none_begins b rest o e f (c ∷ more) later q = no_lexeme b (c ∷ more) o (f c more later q)
 
-single_stands : (b : ℕ) (rest : List ℕ) (t : TokenKind) (k : Option TokenKind) → IsOther b → NoLonger b rest → punctuation_kind (b ∷ []) ≡ k → IsSame k t → StandsBefore t (b ∷ []) rest
+single_stands : (b : ℕ) (rest : List ℕ) (t : TokenKind) (k : Option TokenKind) → IsOther b → NoLonger b rest → punctuation_kind (b ∷ []) ≡ k → IsSame k t
+    → StandsBefore t (b ∷ []) rest
 single_stands b rest t (Some u) o f e same =
     let h : punctuation_kind (b ∷ []) ≡ Some t = e ∙ ap (λ (x : TokenKind). Some x) same in
     fixed_stands t (b ∷ []) rest (punctuation_is_fixed (b ∷ []) t h) (inr h)
@@ -300,7 +300,8 @@ single_stands b rest t None o f e same =
 no_more_bytes : (b : ℕ) → NoLonger b []
 no_more_bytes b c more later q = absurd cc
 
-none_longer : (b c : ℕ) (rest : List ℕ) → double_punctuation b c ≡ None → (d : ℕ) (more later : List ℕ) → c ∷ rest ≡ d ∷ (more ++ later) → punctuation_kind (b ∷ d ∷ more) ≡ None
+none_longer : (b c : ℕ) (rest : List ℕ) → double_punctuation b c ≡ None → (d : ℕ) (more later : List ℕ) → c ∷ rest ≡ d ∷ (more ++ later)
+    → punctuation_kind (b ∷ d ∷ more) ≡ None
 none_longer b c rest e d [] later q =
     let same : c ≡ d = cc in
     subst (λ (x : ℕ). punctuation_kind (b ∷ x ∷ []) ≡ None) same (two_bytes b c e)

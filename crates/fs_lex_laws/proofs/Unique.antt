@@ -1,8 +1,9 @@
 -- Bytes have one list of tokens.
-use Rattle.std.proofs.Common.{◌≡◌, ℕ, suc, ◌+◌, ◌<◌, List, [], ◌∷◌, ◌++◌, length, take, refl, sym, ap, ap₂, subst, ◌∙◌, cond, inl, inr, append_assoc, append-nil, arith, length-append}
+use Rattle.std.proofs.Common.{◌≡◌, ℕ, suc, ◌+◌, ◌<◌, List, [], ◌∷◌, ◌++◌, length, take, refl, sym, ap, ap₂, subst, ◌∙◌, cond, inl, inr, append_assoc}
+use Rattle.std.proofs.Common.{append-nil, arith, length-append}
 use Rattle.std.specs.Prelude.{Bool, true, false, ◌||◌, ◌⊎◌, ◌==◌, IsTrue, map}
 use Rattle.std.specs.List.{list_all}
-use Rattle.std.proofs.lemmas.Bool.{eqb-true}
+use Rattle.std.proofs.lemmas.Bool.{eqb-true, and_parts}
 use Rattle.std.proofs.Math.Seq.{take-append_seam}
 use Rattle.std.proofs.lemmas.List.{append_cancel_left}
 use Rattle.fs_grammar.specs.declared.fault.TextPlace.{TextPlace}
@@ -12,8 +13,9 @@ use Rattle.fs_grammar.specs.declared.token.Flaw.TheVariants as flaws
 use Rattle.fs_grammar.specs.declared.token.Token.{Token}
 use Rattle.fs_lex.specs.Lexemes.{is_space, is_in_comment}
 use Rattle.fs_lex_laws.specs.Vocabulary.{is_lexeme}
-use Rattle.fs_lex_laws.specs.Tokenization.{place_behind, IsLongest, BeginsNothing, StandsBefore, IsGap, nothing, blank, comment, IsLastGap, gap, open_comment, IsGapBefore, IsNext, ends_text, AreTokens, kind_and_place}
-use Rattle.fs_lex_laws.proofs.KindOf.{both_true, kind_spelled}
+use Rattle.fs_lex_laws.specs.Tokenization.{place_behind, IsLongest, BeginsNothing, StandsBefore, IsGap, nothing, blank, comment, IsLastGap, gap, open_comment}
+use Rattle.fs_lex_laws.specs.Tokenization.{IsGapBefore, IsNextToken, ends_text, AreTokens, kind_and_place}
+use Rattle.fs_lex_laws.proofs.KindOf.{kind_spelled}
 
 -- ---- a token's own bytes
 
@@ -43,8 +45,10 @@ longer_more x own rest other later l = record { byte = l.byte; more = l.more; is
 compared_more : (x y : ℕ) (own rest other later : List ℕ) → x ≡ y → (own ≡ other) ⊎ (IsLonger own rest other later ⊎ IsLonger other later own rest)
     → (x ∷ own ≡ y ∷ other) ⊎ (IsLonger (x ∷ own) rest (y ∷ other) later ⊎ IsLonger (y ∷ other) later (x ∷ own) rest)
 compared_more x y own rest other later e (inl h) = inl cc
-compared_more x y own rest other later e (inr (inl h)) = inr (inl (subst (λ (z : ℕ). IsLonger (x ∷ own) rest (z ∷ other) later) e (longer_more x own rest other later h)))
-compared_more x y own rest other later e (inr (inr h)) = inr (inr (subst (λ (z : ℕ). IsLonger (z ∷ other) later (x ∷ own) rest) e (longer_more x other later own rest h)))
+compared_more x y own rest other later e (inr (inl h)) =
+    inr (inl (subst (λ (z : ℕ). IsLonger (x ∷ own) rest (z ∷ other) later) e (longer_more x own rest other later h)))
+compared_more x y own rest other later e (inr (inr h)) =
+    inr (inr (subst (λ (z : ℕ). IsLonger (z ∷ other) later (x ∷ own) rest) e (longer_more x other later own rest h)))
 
 compared : (own rest other later : List ℕ) → own ++ rest ≡ other ++ later → (own ≡ other) ⊎ (IsLonger own rest other later ⊎ IsLonger other later own rest)
 compared [] rest [] later e = inl refl
@@ -79,7 +83,8 @@ no_longer own rest other later (inr (inl (b, e, n))) (inr (inl (c, f, m))) l = t
 no_longer own rest other later (inr (inl (b, e, n))) (inr (inr (f, m))) l = omega (arith, ap length (sym l.is ∙ f), length-append own (l.byte ∷ l.more))
 no_longer own rest other later (inr (inr (e, n))) s l = omega (arith, ap length (sym n ∙ l.left))
 
-same_compared : (own rest other later : List ℕ) → Stood own rest → Stood other later → (own ≡ other) ⊎ (IsLonger own rest other later ⊎ IsLonger other later own rest) → own ≡ other
+same_compared : (own rest other later : List ℕ) → Stood own rest → Stood other later
+    → (own ≡ other) ⊎ (IsLonger own rest other later ⊎ IsLonger other later own rest) → own ≡ other
 same_compared own rest other later a b (inl e) = e
 same_compared own rest other later a b (inr (inl l)) = absurd (no_longer own rest other later a b l)
 same_compared own rest other later a b (inr (inr l)) = absurd (no_longer other later own rest b a l)
@@ -104,14 +109,16 @@ own_bytes _ own rest h (inr (inr e)) = inr (lexeme_has_bytes own h.1.is)
 no_bytes : (t : TokenKind) (own rest : List ℕ) → StandsBefore t own rest → t ≡ End → own ≡ []
 no_bytes t own rest h e = (subst (λ (u : TokenKind). StandsBefore u own rest) e h).0
 
-one_kind : (t u : TokenKind) (own rest later : List ℕ) → StandsBefore t own rest → StandsBefore u own later → (t ≡ End) ⊎ (0 < length own) → (u ≡ End) ⊎ (0 < length own) → t ≡ u
+one_kind : (t u : TokenKind) (own rest later : List ℕ) → StandsBefore t own rest → StandsBefore u own later → (t ≡ End) ⊎ (0 < length own)
+    → (u ≡ End) ⊎ (0 < length own) → t ≡ u
 one_kind t u own rest later h j (inl e) (inl f) = e ∙ sym f
 one_kind t u own rest later h j (inl e) (inr l) = absurd (omega (arith, ap length (no_bytes t own rest h e)))
 one_kind t u own rest later h j (inr l) (inl f) = absurd (omega (arith, ap length (no_bytes u own later j f)))
 one_kind t u own rest later h j (inr l) (inr k) = sym (kind_spelled t own rest h l) ∙ kind_spelled u own later j k
 
 -- at one place one token stands
-pub one_token : (t u : TokenKind) (own rest other later : List ℕ) → StandsBefore t own rest → StandsBefore u other later → own ++ rest ≡ other ++ later → (t ≡ u) × (own ≡ other)
+pub one_token : (t u : TokenKind) (own rest other later : List ℕ) → StandsBefore t own rest → StandsBefore u other later → own ++ rest ≡ other ++ later
+    → (t ≡ u) × (own ≡ other)
 one_token t u own rest other later h j e =
     let same = same_own own rest other later (stood t own rest h) (stood u other later j) e in
     let here : StandsBefore u own later = subst (λ (xs : List ℕ). StandsBefore u xs later) (sym same) j in
@@ -128,18 +135,19 @@ gap_length false (b ∷ bs) = cond (is_space b) (1 + gap_length false bs) (cond 
 comment_length : (text bs : List ℕ) → IsTrue (list_all is_in_comment text) → gap_length true (text ++ 10 ∷ bs) ≡ suc (length text) + gap_length false bs
 comment_length [] bs h = omega arith
 comment_length (c ∷ text) bs h =
-    let two = both_true (is_in_comment c) (list_all is_in_comment text) h in
+    let two = and_parts (is_in_comment c) (list_all is_in_comment text) h in
     ap (λ (b : Bool). 1 + gap_length b (text ++ 10 ∷ bs)) two.0 ∙ omega (arith, comment_length text bs two.1)
 
 text_length : (text : List ℕ) → IsTrue (list_all is_in_comment text) → gap_length true text ≡ length text
 text_length [] h = refl
 text_length (c ∷ text) h =
-    let two = both_true (is_in_comment c) (list_all is_in_comment text) h in
+    let two = and_parts (is_in_comment c) (list_all is_in_comment text) h in
     ap (λ (b : Bool). 1 + gap_length b text) two.0 ∙ omega (arith, text_length text two.1)
 
 gap_passed : {g : List ℕ} (x : List ℕ) → IsGap g → gap_length false (g ++ x) ≡ length g + gap_length false x
 gap_passed x nothing = omega arith
-gap_passed x (blank b {bs} s g) = ap (λ (t : Bool). cond t (1 + gap_length false (bs ++ x)) (cond (b == 35) (1 + gap_length true (bs ++ x)) 0)) s ∙ omega (arith, gap_passed x g)
+gap_passed x (blank b {bs} s g) = ap (λ (t : Bool). cond t (1 + gap_length false (bs ++ x)) (cond (b == 35) (1 + gap_length true (bs ++ x)) 0)) s
+    ∙ omega (arith, gap_passed x g)
 gap_passed x (comment text {bs} s g) =
     let whole : (text ++ 10 ∷ bs) ++ x ≡ text ++ 10 ∷ (bs ++ x) = append_assoc text (10 ∷ bs) x in
     ap (λ (xs : List ℕ). 1 + gap_length true xs) whole ∙ omega (arith, comment_length text (bs ++ x) s, gap_passed x g, length-append text (10 ∷ bs))
@@ -159,7 +167,8 @@ IsSolid (b ∷ bs) = (is_space b ≡ false) × ((b == 35) ≡ false)
 
 solid_passed : (x : List ℕ) → IsSolid x → gap_length false x ≡ 0
 solid_passed [] h = refl
-solid_passed (b ∷ bs) h = ap (λ (t : Bool). cond t (1 + gap_length false bs) (cond (b == 35) (1 + gap_length true bs) 0)) h.0 ∙ ap (λ (t : Bool). cond t (1 + gap_length true bs) 0) h.1
+solid_passed (b ∷ bs) h = ap (λ (t : Bool). cond t (1 + gap_length false bs) (cond (b == 35) (1 + gap_length true bs) 0)) h.0
+    ∙ ap (λ (t : Bool). cond t (1 + gap_length true bs) 0) h.1
 
 four : (a b c d : Bool) → (a || b || c || d) ≡ true → (a ≡ true) ⊎ ((b ≡ true) ⊎ ((c ≡ true) ⊎ (d ≡ true)))
 four true b c d h = inl refl
@@ -203,23 +212,24 @@ token_passed End g own rest h s =
 token_passed t g own rest h s = gap_passed (own ++ rest) h ∙ omega (arith, solid_passed (own ++ rest) (solid_token own rest (stood t own rest s)))
 
 -- the bytes up to the next token
-gap_is : (front bytes : List ℕ) (t : Token) (n : IsNext front bytes t) → n.gap ≡ take (gap_length false bytes) bytes
+gap_is : (front bytes : List ℕ) (t : Token) (n : IsNextToken front bytes t) → n.gap ≡ take (gap_length false bytes) bytes
 gap_is front bytes t n =
     let passed : gap_length false bytes ≡ length n.gap = ap (gap_length false) n.bytes_are ∙ token_passed t.kind n.gap n.own n.rest n.between n.stands in
     sym (ap₂ take passed n.bytes_are ∙ take-append_seam n.gap (n.own ++ n.rest))
 
 -- ---- lists of tokens
 
-record IsSame (front bytes : List ℕ) (t u : Token) (n : IsNext front bytes t) (m : IsNext front bytes u) : Type 0 where
+record IsSame (front bytes : List ℕ) (t u : Token) (n : IsNextToken front bytes t) (m : IsNextToken front bytes u) : Type 0 where
   kind : t.kind ≡ u.kind
   place : t.place ≡ u.place
   behind : front ++ (n.gap ++ n.own) ≡ front ++ (m.gap ++ m.own)
   left : n.rest ≡ m.rest
 
-one_next : (front bytes : List ℕ) (t u : Token) (n : IsNext front bytes t) (m : IsNext front bytes u) → IsSame front bytes t u n m
+one_next : (front bytes : List ℕ) (t u : Token) (n : IsNextToken front bytes t) (m : IsNextToken front bytes u) → IsSame front bytes t u n m
 one_next front bytes t u n m =
     let gaps : n.gap ≡ m.gap = gap_is front bytes t n ∙ sym (gap_is front bytes u m) in
-    let here : n.gap ++ (n.own ++ n.rest) ≡ n.gap ++ (m.own ++ m.rest) = sym n.bytes_are ∙ m.bytes_are ∙ ap (λ (g : List ℕ). g ++ (m.own ++ m.rest)) (sym gaps) in
+    let here : n.gap ++ (n.own ++ n.rest) ≡ n.gap ++ (m.own ++ m.rest) = sym n.bytes_are ∙ m.bytes_are
+    ∙ ap (λ (g : List ℕ). g ++ (m.own ++ m.rest)) (sym gaps) in
     let behind : n.own ++ n.rest ≡ m.own ++ m.rest = append_cancel_left n.gap (n.own ++ n.rest) (m.own ++ m.rest) here in
     let same = one_token t.kind u.kind n.own n.rest m.own m.rest n.stands m.stands behind in
     let owned : n.own ++ n.rest ≡ n.own ++ m.rest = behind ∙ ap (λ (xs : List ℕ). xs ++ m.rest) (sym same.1) in
@@ -253,6 +263,7 @@ one_list (t ∷ w ∷ ts) (u ∷ []) front bytes h j =
 one_list (t ∷ w ∷ ts) (u ∷ v ∷ us) front bytes h j =
     let s = one_next front bytes t u h.0 j.0 in
     let others : AreTokens (front ++ (h.0.gap ++ h.0.own)) h.0.rest (v ∷ us) =
-    subst (λ (xs : List ℕ). AreTokens xs h.0.rest (v ∷ us)) (sym s.behind) (subst (λ (xs : List ℕ). AreTokens (front ++ (j.0.gap ++ j.0.own)) xs (v ∷ us)) (sym s.left) j.2) in
+    subst (λ (xs : List ℕ). AreTokens xs h.0.rest (v ∷ us)) (sym s.behind)
+    (subst (λ (xs : List ℕ). AreTokens (front ++ (j.0.gap ++ j.0.own)) xs (v ∷ us)) (sym s.left) j.2) in
     ap₂ (λ (k : TokenKind) (p : TextPlace). pair k p ∷ map kind_and_place (w ∷ ts)) s.kind s.place
     ∙ ap (λ l. kind_and_place u ∷ l) (one_list (w ∷ ts) (v ∷ us) (front ++ (h.0.gap ++ h.0.own)) h.0.rest h.2 others)

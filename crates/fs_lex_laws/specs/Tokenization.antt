@@ -1,5 +1,6 @@
 -- The tokens of a text, said of its bytes: where each stands, and what stands between them.
-use Rattle.std.specs.Prelude.{◌≡◌, ℕ, ◌+◌, ◌<◌, ◌≤◌, ◌==◌, pos, ◌⊎◌, Bool, true, false, not, IsTrue, Some, List, [], ◌∷◌, ◌++◌, length, reverse}
+use Rattle.std.specs.Prelude.{◌≡◌, ℕ, ◌+◌, ◌<◌, ◌≤◌, ◌==◌, pos, ◌⊎◌, Bool, true, false, not, IsTrue, Some, List, [], ◌∷◌, ◌++◌}
+use Rattle.std.specs.Prelude.{length, reverse}
 use Rattle.std.specs.List.{list_all, count_by, prefix_len}
 use Rattle.fs_model.specs.Limits.{most_name_bytes, most_number}
 use Rattle.fs_model.specs.Words.{is_word, is_name}
@@ -13,7 +14,10 @@ use Rattle.fs_lex_laws.specs.Vocabulary.{reserved_kind, punctuation_kind, is_num
 
 -- the place behind these bytes: its line is 1 plus the LFs among them, its column 1 plus the bytes after the last LF
 abbrev pub place_behind : List ℕ → TextPlace
-place_behind front = record { line = 1 + count_by (λ b. b == 10) front; column = 1 + prefix_len (λ b. not (b == 10)) (reverse front) }
+place_behind front = record {
+  line = 1 + count_by (λ b. b == 10) front;
+  column = 1 + prefix_len (λ b. not (b == 10)) (reverse front);
+}
 
 -- a lexeme that no more of the bytes behind it make longer
 pub record IsLongest (own rest : List ℕ) : Type 0 where
@@ -29,7 +33,8 @@ pub record BeginsNothing (b : ℕ) (rest : List ℕ) : Type 0 where
 -- a token of this kind stands before the rest, and these are its bytes
 abbrev pub StandsBefore : TokenKind → List ℕ → List ℕ → Type 0
 StandsBefore (Name x) own rest = (x ≡ own) × IsTrue (is_name own) × IsLongest own rest
-StandsBefore (Number n) own rest = IsTrue (is_number own) × (n ≡ pos (number_value own)) × (number_value own ≤ most_number) × IsLongest own rest
+StandsBefore (Number n) own rest = IsTrue (is_number own) × (n ≡ pos (number_value own)) × (number_value own ≤ most_number)
+    × IsLongest own rest
 StandsBefore (Bad flaws.Word) own rest = IsTrue (is_word own) × (most_name_bytes < length own) × IsLongest own rest
 StandsBefore (Bad flaws.Number) own rest = IsTrue (is_number own) × (most_number < number_value own) × IsLongest own rest
 StandsBefore (Bad flaws.Byte) own rest = (b : ℕ) × (own ≡ b ∷ []) × BeginsNothing b rest
@@ -53,7 +58,7 @@ IsGapBefore End bs = IsLastGap bs
 IsGapBefore _ bs = IsGap bs
 
 -- the next token of the bytes that stand behind the front
-pub record IsNext (front bytes : List ℕ) (t : Token) : Type 0 where
+pub record IsNextToken (front bytes : List ℕ) (t : Token) : Type 0 where
   pub gap : List ℕ
   pub own : List ℕ
   pub rest : List ℕ
@@ -71,11 +76,12 @@ ends_text _ = false
 -- the tokens of the bytes that stand behind the front
 abbrev pub AreTokens : List ℕ → List ℕ → List Token → Type 0
 AreTokens front bytes [] = ⊥
-AreTokens front bytes (t ∷ []) = IsNext front bytes t × IsTrue (ends_text t.kind)
-AreTokens front bytes (t ∷ u ∷ ts) = (n : IsNext front bytes t) × (ends_text t.kind ≡ false) × AreTokens (front ++ (n.gap ++ n.own)) n.rest (u ∷ ts)
+AreTokens front bytes (t ∷ []) = IsNextToken front bytes t × IsTrue (ends_text t.kind)
+AreTokens front bytes (t ∷ u ∷ ts) = (n : IsNextToken front bytes t) × (ends_text t.kind ≡ false)
+    × AreTokens (front ++ (n.gap ++ n.own)) n.rest (u ∷ ts)
 
 -- a token of the bytes: they are a front, its own bytes and a rest, and its place is behind the front
-pub record StandsIn (bytes : List ℕ) (t : Token) : Type 0 where
+pub record IsTokenIn (bytes : List ℕ) (t : Token) : Type 0 where
   pub front : List ℕ
   pub own : List ℕ
   pub rest : List ℕ

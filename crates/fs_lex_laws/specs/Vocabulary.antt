@@ -7,26 +7,35 @@ use Rattle.fs_model.specs.Words.{is_digit, is_word}
 use Rattle.fs_model.specs.declared.parts.Rel.TheVariants.{Eq, Ne, Lt, Le, Gt, Ge}
 use Rattle.fs_model.specs.declared.parts.Role.TheVariants.{Input, Output, Local}
 use Rattle.fs_grammar.specs.declared.token.TokenKind.{TokenKind}
-use Rattle.fs_grammar.specs.declared.token.TokenKind.TheVariants.{Fsmd, Declare, Array, Reset, State, When, Goto, Start, Done, Emit, Port, Semicolon, Colon, Comma, Equals, OpenParen, CloseParen, OpenBracket, CloseBracket, OpenBrace, CloseBrace, Plus, Minus, Star, Slash, Percent, Bang, AndAnd, OrOr, Relation}
+use Rattle.fs_grammar.specs.declared.token.TokenKind.TheVariants.{Fsmd, Declare, Array, Reset, State, When, Goto, Start, Done}
+use Rattle.fs_grammar.specs.declared.token.TokenKind.TheVariants.{Emit, Port, Semicolon, Colon, Comma, Equals, OpenParen}
+use Rattle.fs_grammar.specs.declared.token.TokenKind.TheVariants.{CloseParen, OpenBracket, CloseBracket, OpenBrace, CloseBrace}
+use Rattle.fs_grammar.specs.declared.token.TokenKind.TheVariants.{Plus, Minus, Star, Slash, Percent, Bang, AndAnd, OrOr, Relation}
 
 -- each reserved word with its token
 abbrev pub reserved_tokens : List (List ℕ × TokenKind)
 reserved_tokens =
-    (codes "fsmd", Fsmd) ∷ (codes "input", Declare Input) ∷ (codes "output", Declare Output) ∷ (codes "local", Declare Local) ∷ (codes "array", Array)
-    ∷ (codes "reset", Reset) ∷ (codes "state", State) ∷ (codes "when", When) ∷ (codes "goto", Goto) ∷ (codes "start", Start) ∷ (codes "done", Done)
+    (codes "fsmd", Fsmd) ∷ (codes "input", Declare Input) ∷ (codes "output", Declare Output) ∷ (codes "local", Declare Local)
+    ∷ (codes "array", Array)
+    ∷ (codes "reset", Reset) ∷ (codes "state", State) ∷ (codes "when", When) ∷ (codes "goto", Goto) ∷ (codes "start", Start)
+    ∷ (codes "done", Done)
     ∷ (codes "emit", Emit) ∷ (codes "port", Port) ∷ []
 
 -- the punctuation of two bytes
 abbrev pub double_tokens : List (List ℕ × TokenKind)
 double_tokens =
-    (codes "==", Relation Eq) ∷ (codes "!=", Relation Ne) ∷ (codes "<=", Relation Le) ∷ (codes ">=", Relation Ge) ∷ (codes "&&", AndAnd) ∷ (codes "||", OrOr) ∷ []
+    (codes "==", Relation Eq) ∷ (codes "!=", Relation Ne) ∷ (codes "<=", Relation Le) ∷ (codes ">=", Relation Ge)
+    ∷ (codes "&&", AndAnd) ∷ (codes "||", OrOr) ∷ []
 
 -- the punctuation of one byte
 abbrev pub single_tokens : List (List ℕ × TokenKind)
 single_tokens =
-    (codes ";", Semicolon) ∷ (codes ":", Colon) ∷ (codes ",", Comma) ∷ (codes "=", Equals) ∷ (codes "(", OpenParen) ∷ (codes ")", CloseParen)
-    ∷ (codes "[", OpenBracket) ∷ (codes "]", CloseBracket) ∷ (codes "{", OpenBrace) ∷ (codes "}", CloseBrace) ∷ (codes "+", Plus) ∷ (codes "-", Minus)
-    ∷ (codes "*", Star) ∷ (codes "/", Slash) ∷ (codes "%", Percent) ∷ (codes "!", Bang) ∷ (codes "<", Relation Lt) ∷ (codes ">", Relation Gt) ∷ []
+    (codes ";", Semicolon) ∷ (codes ":", Colon) ∷ (codes ",", Comma) ∷ (codes "=", Equals) ∷ (codes "(", OpenParen)
+    ∷ (codes ")", CloseParen)
+    ∷ (codes "[", OpenBracket) ∷ (codes "]", CloseBracket) ∷ (codes "{", OpenBrace) ∷ (codes "}", CloseBrace) ∷ (codes "+", Plus)
+    ∷ (codes "-", Minus)
+    ∷ (codes "*", Star) ∷ (codes "/", Slash) ∷ (codes "%", Percent) ∷ (codes "!", Bang) ∷ (codes "<", Relation Lt)
+    ∷ (codes ">", Relation Gt) ∷ []
 
 -- the token of a reserved word, and none of other bytes
 abbrev pub reserved_kind : List ℕ → Option TokenKind

@@ -8,7 +8,8 @@ use Rattle.fs_model.specs.declared.parts.Rel.TheVariants.{Eq, Ne, Lt, Le, Gt, Ge
 use Rattle.fs_model.specs.Terms.{Literal, Guard, Test, Not, And, Or, Transition}
 use Rattle.fs_model.specs.Stores.{Store}
 use Rattle.fs_model.specs.Meaning.{value, relates, literal_holds, holds, condition_holds, transition_taken}
-use Rattle.fs_model.specs.Trees.{Tree, Empty, Leaf, Node, Branch, literals_hold, Effect, tree_of_guard, tree_of_condition, tree_of_transitions, opposite, negated, leaves, branches_of, effects_open, effect_taken}
+use Rattle.fs_model.specs.Trees.{Tree, Empty, Leaf, Node, Branch, literals_hold, Effect, tree_of_guard, tree_of_condition, tree_of_transitions, opposite}
+use Rattle.fs_model.specs.Trees.{negated_literal, leaves, branches_of, effects_open, effect_taken}
 
 pub opposite_relates : (r : Rel) (a b : ℤ) → relates (opposite r) a b ≡ not (relates r a b)
 opposite_relates Eq a b = refl
@@ -19,7 +20,7 @@ opposite_relates Gt a b = refl
 opposite_relates Ge a b = grind arith
 
 -- a literal or its opposite holds, and not both
-pub opposite_holds : (l : Literal ℕ) (s : Store) → literal_holds (negated l) s ≡ not (literal_holds l s)
+pub opposite_holds : (l : Literal ℕ) (s : Store) → literal_holds (negated_literal l) s ≡ not (literal_holds l s)
 opposite_holds l s = opposite_relates l.relation (value l.left s) (value l.right s)
 
 -- what is done at the leaf that a store comes to
@@ -34,12 +35,14 @@ reached-guard (Not g) y n s = grind (arith, reached-guard g n y s)
 reached-guard (And a b) y n s = grind (arith, reached-guard a (tree_of_guard b y n) n s, reached-guard b y n s)
 reached-guard (Or a b) y n s = grind (arith, reached-guard a y (tree_of_guard b y n) s, reached-guard b y n s)
 
-reached-condition : (g : Option (Guard ℕ)) (y n : Tree) (s : Store) → reached (tree_of_condition g y n) s ≡ cond (condition_holds g s) (reached y s) (reached n s)
+reached-condition : (g : Option (Guard ℕ)) (y n : Tree) (s : Store)
+    → reached (tree_of_condition g y n) s ≡ cond (condition_holds g s) (reached y s) (reached n s)
 reached-condition None y n s = refl
 reached-condition (Some g) y n s = reached-guard g y n s
 
 effect_where : (b : Bool) (l : Transition ℕ ℕ) (o : Option (Transition ℕ ℕ))
-    → cond {A = Option Effect} b (Some (l.assignments, l.target)) (option_map (λ (k : Transition ℕ ℕ). (k.assignments, k.target)) o) ≡ option_map (λ (k : Transition ℕ ℕ). (k.assignments, k.target)) (cond b (Some l) o)
+    → cond {A = Option Effect} b (Some (l.assignments, l.target)) (option_map (λ (k : Transition ℕ ℕ). (k.assignments, k.target)) o)
+    ≡ option_map (λ (k : Transition ℕ ℕ). (k.assignments, k.target)) (cond b (Some l) o)
 effect_where true l o = refl
 effect_where false l o = refl
 
@@ -63,9 +66,10 @@ below : (t : Tree) (way : List (Literal ℕ)) (s : Store) → effects_open (leav
 below Empty way s = grind arith
 below (Leaf assignments target) way s = grind arith
 below (Node l y n) way s =
-    effects_open-append (leaves y (way ++ l ∷ [])) (leaves n (way ++ negated l ∷ [])) s
-    ∙ ap₂ (λ u v. u ++ v) (below y (way ++ l ∷ []) s) (below n (way ++ negated l ∷ []) s)
-    ∙ joined (literals_hold way s) (literal_holds l s) _ _ (reached y s) (reached n s) (list_all-append (λ k. literal_holds k s) way (l ∷ [])) (list_all-append (λ k. literal_holds k s) way (negated l ∷ []) ∙ ap (λ z. literals_hold way s && (z && true)) (opposite_holds l s))
+    effects_open-append (leaves y (way ++ l ∷ [])) (leaves n (way ++ negated_literal l ∷ [])) s
+    ∙ ap₂ (λ u v. u ++ v) (below y (way ++ l ∷ []) s) (below n (way ++ negated_literal l ∷ []) s)
+    ∙ joined (literals_hold way s) (literal_holds l s) _ _ (reached y s) (reached n s) (list_all-append (λ k. literal_holds k s) way (l ∷ []))
+    (list_all-append (λ k. literal_holds k s) way (negated_literal l ∷ []) ∙ ap (λ z. literals_hold way s && (z && true)) (opposite_holds l s))
 
 pub one_leaf_open : (ls : List (Transition ℕ ℕ)) (s : Store) → effects_open (branches_of ls) s ≡ option_to_list (effect_taken ls s)
 one_leaf_open ls s = below (tree_of_transitions ls) [] s ∙ ap option_to_list (reached-lines ls s)

@@ -1,7 +1,10 @@
-pub mod Truth
 pub mod Determined
 pub mod Behaviour
 pub mod Leaves
 pub mod Renamed
 pub mod Passing
 pub mod Ranges
+pub mod SameCopies
+pub mod Roles
+pub mod Stores
+pub mod Words

@@ -21,5 +21,7 @@ after_on m (suc k) (suc n) q s t a x = (
   λ r u st ne.
       let e : a.state ≡ r = same_state m q s a.state r a.store u a.step st in
       let f : a.store ≡ u = same_store m q s a.state r a.store u a.step st in
-      after_on m k n r u t (subst (λ z. AfterStep m r z (λ w v. ReachesReset m n w v t)) f (subst (λ z. AfterStep m z a.store (λ w v. ReachesReset m n w v t)) e a.after.1)) (x.1 r u st ne),
+      after_on m k n r u t
+      (subst (λ z. AfterStep m r z (λ w v. ReachesReset m n w v t)) f (subst (λ z. AfterStep m z a.store (λ w v. ReachesReset m n w v t)) e a.after.1))
+      (x.1 r u st ne),
 )

@@ -8,7 +8,8 @@ use Rattle.fs_model.specs.declared.parts.Guard.{Guard as DeclaredGuard}
 use Rattle.fs_model.specs.declared.parts.Guard.TheVariants as guards
 use Rattle.fs_model.specs.declared.parts.Assign.{Assign as DeclaredAssign}
 use Rattle.fs_model.specs.declared.parts.Assign.TheVariants as assigns
-use Rattle.fs_model.specs.Terms.{Term, Number, Variable, Read, Sum, Difference, Product, Quotient, Remainder, Negative, Literal, Guard, Test, Not, And, Or, Assignment, Assign, ArrayWrite, Emit}
+use Rattle.fs_model.specs.Terms.{Term, Number, Variable, Read, Sum, Difference, Product, Quotient, Remainder, Negative, Literal, Guard, Test, Not, And, Or}
+use Rattle.fs_model.specs.Terms.{Assignment, Assign, ArrayWrite, Emit}
 use Rattle.fs_model.specs.View.{term_by, literal_by, guard_by, assignment_by, term_of, literal_of, guard_of, assignment_of}
 use Rattle.fs_model.specs.Renamed.{term_over, literal_over, guard_over, assignment_over}
 
@@ -61,23 +62,29 @@ guard_over_over g f (Not c) = ap Not (guard_over_over g f c)
 guard_over_over g f (And a b) = ap₂ And (guard_over_over g f a) (guard_over_over g f b)
 guard_over_over g f (Or a b) = ap₂ Or (guard_over_over g f a) (guard_over_over g f b)
 
-pub assignment_over_over : {X Y Z : Type 0} (g : Y → Z) (f : X → Y) (a : Assignment X) → assignment_over g (assignment_over f a) ≡ assignment_over (λ x. g (f x)) a
+pub assignment_over_over : {X Y Z : Type 0} (g : Y → Z) (f : X → Y) (a : Assignment X)
+    → assignment_over g (assignment_over f a) ≡ assignment_over (λ x. g (f x)) a
 assignment_over_over g f (Assign x e) = ap (Assign (g (f x))) (term_over_over g f e)
 assignment_over_over g f (ArrayWrite x i e) = ap₂ (ArrayWrite (g (f x))) (term_over_over g f i) (term_over_over g f e)
 assignment_over_over g f (Emit x e) = ap (Emit (g (f x))) (term_over_over g f e)
 
 -- ---- what a copy whose variables were renamed is, seen by a function
 
-pub term_renamed : {V W X : Type 0} (f : V → W) (g : W → X) (e : Expr V) (copy : Expr W) → term_by (λ x. x) copy ≡ term_over f (term_by (λ x. x) e) → term_by g copy ≡ term_over (λ x. g (f x)) (term_by (λ x. x) e)
+pub term_renamed : {V W X : Type 0} (f : V → W) (g : W → X) (e : Expr V) (copy : Expr W) → term_by (λ x. x) copy ≡ term_over f (term_by (λ x. x) e)
+    → term_by g copy ≡ term_over (λ x. g (f x)) (term_by (λ x. x) e)
 term_renamed f g e copy h = term_by_over g copy ∙ ap (term_over g) h ∙ term_over_over g f (term_by (λ x. x) e)
 
-pub literal_renamed : {V W X : Type 0} (f : V → W) (g : W → X) (l : Lit V) (copy : Lit W) → literal_by (λ x. x) copy ≡ literal_over f (literal_by (λ x. x) l) → literal_by g copy ≡ literal_over (λ x. g (f x)) (literal_by (λ x. x) l)
+pub literal_renamed : {V W X : Type 0} (f : V → W) (g : W → X) (l : Lit V) (copy : Lit W) → literal_by (λ x. x) copy ≡ literal_over f (literal_by (λ x. x) l)
+    → literal_by g copy ≡ literal_over (λ x. g (f x)) (literal_by (λ x. x) l)
 literal_renamed f g l copy h = literal_by_over g copy ∙ ap (literal_over g) h ∙ literal_over_over g f (literal_by (λ x. x) l)
 
-pub guard_renamed : {V W X : Type 0} (f : V → W) (g : W → X) (c : DeclaredGuard V) (copy : DeclaredGuard W) → guard_by (λ x. x) copy ≡ guard_over f (guard_by (λ x. x) c) → guard_by g copy ≡ guard_over (λ x. g (f x)) (guard_by (λ x. x) c)
+pub guard_renamed : {V W X : Type 0} (f : V → W) (g : W → X) (c : DeclaredGuard V) (copy : DeclaredGuard W)
+    → guard_by (λ x. x) copy ≡ guard_over f (guard_by (λ x. x) c) → guard_by g copy ≡ guard_over (λ x. g (f x)) (guard_by (λ x. x) c)
 guard_renamed f g c copy h = guard_by_over g copy ∙ ap (guard_over g) h ∙ guard_over_over g f (guard_by (λ x. x) c)
 
-pub assignment_renamed : {V W X : Type 0} (f : V → W) (g : W → X) (a : DeclaredAssign V) (copy : DeclaredAssign W) → assignment_by (λ x. x) copy ≡ assignment_over f (assignment_by (λ x. x) a) → assignment_by g copy ≡ assignment_over (λ x. g (f x)) (assignment_by (λ x. x) a)
+pub assignment_renamed : {V W X : Type 0} (f : V → W) (g : W → X) (a : DeclaredAssign V) (copy : DeclaredAssign W)
+    → assignment_by (λ x. x) copy ≡ assignment_over f (assignment_by (λ x. x) a)
+    → assignment_by g copy ≡ assignment_over (λ x. g (f x)) (assignment_by (λ x. x) a)
 assignment_renamed f g a copy h = assignment_by_over g copy ∙ ap (assignment_over g) h ∙ assignment_over_over g f (assignment_by (λ x. x) a)
 
 -- ---- copies over the numbers of variables
@@ -91,5 +98,6 @@ literal_copied l copy h = literal_renamed (λ x. x) (λ (x : VarId). x.0) l copy
 pub guard_copied : (c copy : DeclaredGuard VarId) → guard_by (λ x. x) copy ≡ guard_over (λ x. x) (guard_by (λ x. x) c) → guard_of copy ≡ guard_of c
 guard_copied c copy h = guard_renamed (λ x. x) (λ (x : VarId). x.0) c copy h ∙ sym (guard_by_over (λ (x : VarId). x.0) c)
 
-pub assignment_copied : (a copy : DeclaredAssign VarId) → assignment_by (λ x. x) copy ≡ assignment_over (λ x. x) (assignment_by (λ x. x) a) → assignment_of copy ≡ assignment_of a
+pub assignment_copied : (a copy : DeclaredAssign VarId) → assignment_by (λ x. x) copy ≡ assignment_over (λ x. x) (assignment_by (λ x. x) a)
+    → assignment_of copy ≡ assignment_of a
 assignment_copied a copy h = assignment_renamed (λ x. x) (λ (x : VarId). x.0) a copy h ∙ sym (assignment_by_over (λ (x : VarId). x.0) a)

@@ -10,7 +10,8 @@ use Rattle.fs_model.specs.declared.parts.Role.TheVariants.{Input, Output, Local}
 use Rattle.fs_model.specs.declared.parts.Sort.{Sort}
 use Rattle.fs_model.specs.declared.parts.Sort.TheVariants.{Scalar, Array, Port}
 use Rattle.fs_model.specs.declared.parts.VarInfo.{VarInfo}
-use Rattle.fs_model.specs.Terms.{Term, Number, Variable, Read, Sum, Difference, Product, Quotient, Remainder, Negative, Literal, Guard, Test, Not, And, Or, Assignment, Assign, ArrayWrite, Emit, Transition}
+use Rattle.fs_model.specs.Terms.{Term, Number, Variable, Read, Sum, Difference, Product, Quotient, Remainder, Negative, Literal}
+use Rattle.fs_model.specs.Terms.{Guard, Test, Not, And, Or, Assignment, Assign, ArrayWrite, Emit, Transition}
 use Rattle.fs_model.specs.Machines.{State, Fsmd}
 use Rattle.fs_model.specs.Runs.{is_input, is_output, is_scalar, is_array}
 
@@ -26,16 +27,26 @@ rel_back r = elim r as (λ r. rel_at (rel_number r) ≡ r) [ Eq ↦ refl | Ne �
 
 -- a role and a sort by what they are and are not
 pub role_back : (r : Role) → cond (is_input r) Input (cond (is_output r) Output Local) ≡ r
-role_back r = elim r as (λ r. cond (is_input r) Input (cond (is_output r) Output Local) ≡ r) [ Input ↦ refl | Output ↦ refl | Local ↦ refl ]
+role_back r = elim r as (λ r. cond (is_input r) Input (cond (is_output r) Output Local) ≡ r) [
+  | Input ↦ refl
+  | Output ↦ refl
+  | Local ↦ refl
+]
 
 abbrev pub coded_role : Coded Role
-coded_role = code_by (Bool × Bool) (coded× coded_bool coded_bool) (λ r. (is_input r, is_output r)) (λ p. cond p.0 Input (cond p.1 Output Local)) role_back
+coded_role = code_by (Bool × Bool) (coded× coded_bool coded_bool) (λ r. (is_input r, is_output r))
+    (λ p. cond p.0 Input (cond p.1 Output Local)) role_back
 
 pub sort_back : (s : Sort) → cond (is_scalar s) Scalar (cond (is_array s) Array Port) ≡ s
-sort_back s = elim s as (λ s. cond (is_scalar s) Scalar (cond (is_array s) Array Port) ≡ s) [ Scalar ↦ refl | Array ↦ refl | Port ↦ refl ]
+sort_back s = elim s as (λ s. cond (is_scalar s) Scalar (cond (is_array s) Array Port) ≡ s) [
+  | Scalar ↦ refl
+  | Array ↦ refl
+  | Port ↦ refl
+]
 
 abbrev pub coded_sort : Coded Sort
-coded_sort = code_by (Bool × Bool) (coded× coded_bool coded_bool) (λ s. (is_scalar s, is_array s)) (λ p. cond p.0 Scalar (cond p.1 Array Port)) sort_back
+coded_sort = code_by (Bool × Bool) (coded× coded_bool coded_bool) (λ s. (is_scalar s, is_array s))
+    (λ p. cond p.0 Scalar (cond p.1 Array Port)) sort_back
 
 -- a tree of a kind, of which the number is the kind's, and two parts
 abbrev pub node : ℕ → Gv → Gv → Gv
@@ -68,8 +79,11 @@ code_term (Negative a) = node 8 (code_term a) gnil
 -- the term of a kind, by what its parts are as trees and as terms
 abbrev pub term_of_kind : ℕ → Gv → Term ℕ → Term ℕ → Term ℕ
 term_of_kind k a left right =
-    cond (k == 0) (Number (int_at a)) (cond (k == 1) (Variable (num a)) (cond (k == 2) (Read (num a) right) (cond (k == 3) (Sum left right)
-    (cond (k == 4) (Difference left right) (cond (k == 5) (Product left right) (cond (k == 6) (Quotient left right) (cond (k == 7) (Remainder left right) (Negative left))))))))
+    cond (k == 0) (Number (int_at a))
+    (cond (k == 1) (Variable (num a)) (cond (k == 2) (Read (num a) right) (cond (k == 3) (Sum left right)
+    (cond (k == 4) (Difference left right)
+    (cond (k == 5) (Product left right)
+    (cond (k == 6) (Quotient left right) (cond (k == 7) (Remainder left right) (Negative left))))))))
 
 abbrev pub term_at : Gv → Term ℕ
 term_at (gcons k (gcons a b)) = term_of_kind (num k) a (term_at a) (term_at b)
@@ -103,7 +117,8 @@ code_guard (And g h) = node 2 (code_guard g) (code_guard h)
 code_guard (Or g h) = node 3 (code_guard g) (code_guard h)
 
 abbrev pub guard_of_kind : ℕ → Gv → Guard ℕ → Guard ℕ → Guard ℕ
-guard_of_kind k a left right = cond (k == 0) (Test (literal_at a)) (cond (k == 1) (Not left) (cond (k == 2) (And left right) (Or left right)))
+guard_of_kind k a left right = cond (k == 0) (Test (literal_at a))
+    (cond (k == 1) (Not left) (cond (k == 2) (And left right) (Or left right)))
 
 abbrev pub guard_at : Gv → Guard ℕ
 guard_at (gcons k (gcons a b)) = guard_of_kind (num k) a (guard_at a) (guard_at b)
@@ -124,7 +139,8 @@ code_assignment (ArrayWrite x i e) = gcons (gnum 1) (node x (code_term i) (code_
 code_assignment (Emit x e) = gcons (gnum 2) (node x (code_term e) gnil)
 
 abbrev pub assignment_at : Gv → Assignment ℕ
-assignment_at (gcons k (gcons x (gcons a b))) = cond (num k == 0) (Assign (num x) (term_at a)) (cond (num k == 1) (ArrayWrite (num x) (term_at a) (term_at b)) (Emit (num x) (term_at a)))
+assignment_at (gcons k (gcons x (gcons a b))) = cond (num k == 0) (Assign (num x) (term_at a))
+    (cond (num k == 1) (ArrayWrite (num x) (term_at a) (term_at b)) (Emit (num x) (term_at a)))
 assignment_at none = Emit 0 (Variable 0)
 
 pub assignment_back : (a : Assignment ℕ) → assignment_at (code_assignment a) ≡ a
@@ -133,18 +149,26 @@ assignment_back (ArrayWrite x i e) = λ j. ArrayWrite x (term_back i j) (term_ba
 assignment_back (Emit x e) = ap (Emit x) (term_back e)
 
 abbrev pub coded_assignment : Coded (Assignment ℕ)
-coded_assignment = record { code = code_assignment; inj = λ x y e. sym (assignment_back x) ∙ ap assignment_at e ∙ assignment_back y }
+coded_assignment = record {
+  code = code_assignment;
+  inj = λ x y e. sym (assignment_back x) ∙ ap assignment_at e ∙ assignment_back y;
+}
 
 abbrev pub coded_transition : Coded (Transition ℕ ℕ)
 coded_transition =
-    code_by (Option (Guard ℕ) × (ℕ × List (Assignment ℕ))) (coded× (coded_option coded_guard) (coded× coded_ℕ (coded_list coded_assignment))) (λ l. (l.guard, (l.target, l.assignments))) (λ p. record { guard = p.0; target = p.1.0; assignments = p.1.1 }) (λ _. refl)
+    code_by (Option (Guard ℕ) × (ℕ × List (Assignment ℕ)))
+    (coded× (coded_option coded_guard) (coded× coded_ℕ (coded_list coded_assignment))) (λ l. (l.guard, (l.target, l.assignments)))
+    (λ p. record { guard = p.0; target = p.1.0; assignments = p.1.1 }) (λ _. refl)
 
 abbrev pub coded_state : Coded State
-coded_state = code_by (List ℕ × List (Transition ℕ ℕ)) (coded× (coded_list coded_ℕ) (coded_list coded_transition)) (λ s. (s.name, s.lines)) (λ p. record { name = p.0; lines = p.1 }) (λ _. refl)
+coded_state = code_by (List ℕ × List (Transition ℕ ℕ)) (coded× (coded_list coded_ℕ) (coded_list coded_transition))
+    (λ s. (s.name, s.lines)) (λ p. record { name = p.0; lines = p.1 }) (λ _. refl)
 
 abbrev pub coded_variable : Coded VarInfo
-coded_variable = code_by (List ℕ × (Role × Sort)) (coded× (coded_list coded_ℕ) (coded× coded_role coded_sort)) (λ v. (v.name, (v.role, v.sort))) (λ p. record { name = p.0; role = p.1.0; sort = p.1.1 }) (λ _. refl)
+coded_variable = code_by (List ℕ × (Role × Sort)) (coded× (coded_list coded_ℕ) (coded× coded_role coded_sort))
+    (λ v. (v.name, (v.role, v.sort))) (λ p. record { name = p.0; role = p.1.0; sort = p.1.1 }) (λ _. refl)
 
 abbrev pub coded_fsmd : Coded Fsmd
 coded_fsmd =
-    code_by (List VarInfo × (ℕ × List State)) (coded× (coded_list coded_variable) (coded× coded_ℕ (coded_list coded_state))) (λ m. (m.variables, (m.reset, m.states))) (λ p. record { variables = p.0; reset = p.1.0; states = p.1.1 }) (λ _. refl)
+    code_by (List VarInfo × (ℕ × List State)) (coded× (coded_list coded_variable) (coded× coded_ℕ (coded_list coded_state)))
+    (λ m. (m.variables, (m.reset, m.states))) (λ p. record { variables = p.0; reset = p.1.0; states = p.1.1 }) (λ _. refl)

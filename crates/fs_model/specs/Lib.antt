@@ -10,6 +10,6 @@ pub mod Meaning
 pub mod Runs
 pub mod Touched
 pub mod Trees
-pub mod Parts
+pub mod PartFolds
 pub mod Codes
 pub mod WellFormed

@@ -1,6 +1,7 @@
 -- Terms, guards, assignments and transitions over other variables and states.
 use Rattle.std.specs.Prelude.{map, option_map}
-use Rattle.fs_model.specs.Terms.{Term, Number, Variable, Read, Sum, Difference, Product, Quotient, Remainder, Negative, Literal, Guard, Test, Not, And, Or, Assignment, Assign, ArrayWrite, Emit, Transition}
+use Rattle.fs_model.specs.Terms.{Term, Number, Variable, Read, Sum, Difference, Product, Quotient, Remainder, Negative, Literal}
+use Rattle.fs_model.specs.Terms.{Guard, Test, Not, And, Or, Assignment, Assign, ArrayWrite, Emit, Transition}
 
 -- the same term, where f tells the variables
 abbrev pub term_over : {X Y : Type 0} → (X → Y) → Term X → Term Y
@@ -30,7 +31,11 @@ assignment_over f (Emit x e) = Emit (f x) (term_over f e)
 
 -- the same transition, where f tells the variables and g the states
 abbrev pub line_over : {X Y S T : Type 0} → (X → Y) → (S → T) → Transition X S → Transition Y T
-line_over f g l = record { guard = option_map (guard_over f) l.guard; target = g l.target; assignments = map (assignment_over f) l.assignments }
+line_over f g l = record {
+  guard = option_map (guard_over f) l.guard;
+  target = g l.target;
+  assignments = map (assignment_over f) l.assignments;
+}
 
 -- a term of the same operator between other operands
 abbrev pub between : {X Y : Type 0} → Term X → (a b : Term Y) → Term Y

@@ -1,5 +1,6 @@
 -- Steps and runs of a machine, and when two machines have the same behaviour.
-use Rattle.std.specs.Prelude.{◌≡◌, ◌≢◌, ℕ, zero, suc, ◌+◌, Bool, true, false, ◌&&◌, cond, ℤ, pos, List, [], ◌∷◌, Option, Some, None, slice_get}
+use Rattle.std.specs.Prelude.{◌≡◌, ◌≢◌, ℕ, zero, suc, ◌+◌, Bool, true, false, ◌&&◌, cond, ℤ, pos, List, [], ◌∷◌, Option, Some}
+use Rattle.std.specs.Prelude.{None, slice_get}
 use Rattle.std.specs.Str.{bytes_eq}
 use Rattle.fs_model.specs.declared.parts.Role.{Role}
 use Rattle.fs_model.specs.declared.parts.Role.TheVariants.{Input, Output}
@@ -68,7 +69,11 @@ first_array ins (Some v) i = cond (is_input v.role && is_array v.sort) (ins.arra
 
 -- the store of these variables in which a run starts: the inputs as given, each port empty, all else 0
 abbrev pub start_store : List VarInfo → Inputs → Store
-start_store vs ins = record { scalar = λ x. first_scalar ins (slice_get vs x); array = λ x i. first_array ins (slice_get vs x) i; port = λ x. [] }
+start_store vs ins = record {
+  scalar = λ x. first_scalar ins (slice_get vs x);
+  array = λ x i. first_array ins (slice_get vs x) i;
+  port = λ x. [];
+}
 
 abbrev pub start : Fsmd → Inputs → Store
 start m ins = start_store m.variables ins
@@ -88,7 +93,8 @@ is_output _ = false
 
 abbrev pub output_from : List VarInfo → ℕ → Store → List ℕ → Option Content
 output_from [] x s name = None
-output_from (v ∷ vs) x s name = cond (is_output v.role && bytes_eq v.name name) (Some (content v.sort x s)) (output_from vs (x + 1) s name)
+output_from (v ∷ vs) x s name = cond (is_output v.role && bytes_eq v.name name) (Some (content v.sort x s))
+    (output_from vs (x + 1) s name)
 
 -- what the output of a name holds, and nothing where the name is no output
 abbrev pub output : Fsmd → Store → List ℕ → Option Content

@@ -14,7 +14,11 @@ assigned s x v = record { scalar = λ y. cond (y == x) v (s.scalar y); array = s
 
 -- the store after a write to an array at an index
 abbrev pub written : Store → ℕ → ℤ → ℤ → Store
-written s x i v = record { scalar = s.scalar; array = λ y j. cond (y == x) (cond (int_eq i j) v (s.array y j)) (s.array y j); port = s.port }
+written s x i v = record {
+  scalar = s.scalar;
+  array = λ y j. cond (y == x) (cond (int_eq i j) v (s.array y j)) (s.array y j);
+  port = s.port;
+}
 
 -- the store after a number is emitted to a port
 abbrev pub emitted : Store → ℕ → ℤ → Store

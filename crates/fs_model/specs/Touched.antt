@@ -2,7 +2,8 @@
 -- and emitted expressions of the transition taken, and of all their parts.
 use Rattle.std.specs.Prelude.{◌≢◌, ℕ, zero, suc, cond, ℤ, FitsSigned, List, [], ◌∷◌, ◌++◌, Option, Some, None}
 use Rattle.std.specs.Int.{w128}
-use Rattle.fs_model.specs.Terms.{Term, Number, Variable, Read, Sum, Difference, Product, Quotient, Remainder, Negative, Guard, Test, Not, And, Or, Assignment, Assign, ArrayWrite, Emit, Transition}
+use Rattle.fs_model.specs.Terms.{Term, Number, Variable, Read, Sum, Difference, Product, Quotient, Remainder, Negative, Guard}
+use Rattle.fs_model.specs.Terms.{Test, Not, And, Or, Assignment, Assign, ArrayWrite, Emit, Transition}
 use Rattle.fs_model.specs.Machines.{Fsmd, transitions_of}
 use Rattle.fs_model.specs.Stores.{Store}
 use Rattle.fs_model.specs.Meaning.{value, holds, condition_holds}
@@ -43,7 +44,8 @@ touched_by_assignments (a ∷ rest) s = touched_by_assignment a s ++ touched_by_
 -- the guards up to the transition taken, and its assignments
 abbrev pub touched_by_transitions : List (Transition ℕ ℕ) → Store → List ℤ
 touched_by_transitions [] s = []
-touched_by_transitions (l ∷ ls) s = touched_by_condition l.guard s ++ cond (condition_holds l.guard s) (touched_by_assignments l.assignments s) (touched_by_transitions ls s)
+touched_by_transitions (l ∷ ls) s = touched_by_condition l.guard s
+    ++ cond (condition_holds l.guard s) (touched_by_assignments l.assignments s) (touched_by_transitions ls s)
 
 -- the numbers touched by the step from a state and a store
 abbrev pub touched : Fsmd → ℕ → Store → List ℤ
@@ -57,4 +59,5 @@ AllInRange (z ∷ zs) = FitsSigned w128 z × AllInRange zs
 -- from state q and store s, each number touched by the next n steps lies within 128 bits, up to the return to the reset state
 abbrev pub StaysInRange : Fsmd → ℕ → ℕ → Store → Type 0
 StaysInRange m zero q s = Unit {0}
-StaysInRange m (suc n) q s = AllInRange (touched m q s) × ((r : ℕ) (t : Store) → Step m q s r t → r ≢ m.reset → StaysInRange m n r t)
+StaysInRange m (suc n) q s = AllInRange (touched m q s)
+    × ((r : ℕ) (t : Store) → Step m q s r t → r ≢ m.reset → StaysInRange m n r t)

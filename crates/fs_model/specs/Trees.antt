@@ -36,8 +36,8 @@ opposite Ge = Lt
 opposite Le = Gt
 opposite Gt = Le
 
-abbrev pub negated : Literal ℕ → Literal ℕ
-negated l = record { relation = opposite l.relation; left = l.left; right = l.right }
+abbrev pub negated_literal : Literal ℕ → Literal ℕ
+negated_literal l = record { relation = opposite l.relation; left = l.left; right = l.right }
 
 -- a leaf, with the literals on its way in order
 pub record Branch : Type 0 where
@@ -49,7 +49,7 @@ pub record Branch : Type 0 where
 abbrev pub leaves : Tree → List (Literal ℕ) → List Branch
 leaves Empty way = []
 leaves (Leaf assignments target) way = record { literals = way; assignments = assignments; target = target } ∷ []
-leaves (Node l on_yes on_no) way = leaves on_yes (way ++ l ∷ []) ++ leaves on_no (way ++ negated l ∷ [])
+leaves (Node l on_yes on_no) way = leaves on_yes (way ++ l ∷ []) ++ leaves on_no (way ++ negated_literal l ∷ [])
 
 -- the branches of a state
 abbrev pub branches_of : List (Transition ℕ ℕ) → List Branch

@@ -13,7 +13,9 @@ use Rattle.fs_model.specs.declared.parts.RawLine.{RawLine}
 use Rattle.fs_model.specs.declared.parts.RawState.{RawState}
 use Rattle.fs_model.specs.declared.parts.Parts.{Parts}
 use Rattle.fs_model.specs.declared.parts.Branch.{Branch}
-use Rattle.fs_model.specs.Terms.{Term, Number, Variable, Read, Sum, Difference, Product, Quotient, Remainder, Negative, Literal, Guard, Test, Not, And, Or, Assignment, Assign as assigned, ArrayWrite as written, Emit as emitted}
+use Rattle.fs_model.specs.Terms.{Term, Number, Variable, Read, Sum, Difference, Product, Quotient, Remainder, Negative, Literal}
+use Rattle.fs_model.specs.Terms.{Guard, Test, Not, And, Or, Assignment, Assign as assigned, ArrayWrite as written}
+use Rattle.fs_model.specs.Terms.{Emit as emitted}
 use Rattle.fs_model.specs.Source.{Declaration, SourceTransition, SourceState, Source}
 use Rattle.fs_model.specs.Trees.{Branch as Leaf}
 
@@ -67,16 +69,32 @@ abbrev pub assignment_of : Assign VarId → Assignment ℕ
 assignment_of a = assignment_by (λ x. x.0) a
 
 abbrev pub branch_of : Branch → Leaf
-branch_of b = record { literals = map literal_of b.lits.items; assignments = map assignment_of b.assigns.items; target = b.target.0 }
+branch_of b = record {
+  literals = map literal_of b.lits.items;
+  assignments = map assignment_of b.assigns.items;
+  target = b.target.0;
+}
 
 abbrev pub declaration_of : Decl → Declaration
 declaration_of d = record { line = d.line; role = d.role; sort = d.sort; names = d.names.items }
 
 abbrev pub source_transition_of : RawLine → SourceTransition
-source_transition_of l = record { line = l.line; content = record { guard = option_map named_guard l.guard; target = l.target; assignments = map named_assignment l.assigns.items } }
+source_transition_of l = record {
+  line = l.line;
+  content = record {
+    guard = option_map named_guard l.guard;
+    target = l.target;
+    assignments = map named_assignment l.assigns.items;
+  };
+}
 
 abbrev pub source_state_of : RawState → SourceState
 source_state_of s = record { line = s.line; name = s.name; lines = map source_transition_of s.lines.items }
 
 abbrev pub source_of : Parts → Source
-source_of p = record { declarations = map declaration_of p.decls.items; reset_line = p.reset_line; reset = p.reset; states = map source_state_of p.states.items }
+source_of p = record {
+  declarations = map declaration_of p.decls.items;
+  reset_line = p.reset_line;
+  reset = p.reset;
+  states = map source_state_of p.states.items;
+}

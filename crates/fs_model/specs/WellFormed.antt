@@ -1,9 +1,12 @@
--- Parts that a text can spell: no number is negative, no declaration is empty, each port is an output, and no expression is too long.
-use Rattle.std.specs.Prelude.{ℕ, ◌+◌, nat_le, ◌==◌, Bool, true, false, not, ◌&&◌, ◌||◌, cond, pos, int_lt, length, Option, Some, None}
+-- Parts that a text can spell: no number is negative, no declaration is empty, each port is an output, and no expression is too
+-- long.
+use Rattle.std.specs.Prelude.{ℕ, ◌+◌, nat_le, ◌==◌, Bool, true, false, not, ◌&&◌, ◌||◌, cond, pos, int_lt, length, Option, Some}
+use Rattle.std.specs.Prelude.{None}
 use Rattle.std.specs.List.{list_all}
 use Rattle.fs_model.specs.Runs.{is_output, is_port}
 use Rattle.fs_model.specs.Limits.{most_operators}
-use Rattle.fs_model.specs.Terms.{Term, Number, Variable, Read, Sum, Difference, Product, Quotient, Remainder, Negative, Guard, Test, Not, And, Or, Assignment, Assign, ArrayWrite, Emit}
+use Rattle.fs_model.specs.Terms.{Term, Number, Variable, Read, Sum, Difference, Product, Quotient, Remainder, Negative, Guard}
+use Rattle.fs_model.specs.Terms.{Test, Not, And, Or, Assignment, Assign, ArrayWrite, Emit}
 use Rattle.fs_model.specs.Source.{Declaration, SourceTransition, SourceState, Source}
 
 -- made by + or - between two operands
@@ -40,16 +43,20 @@ operators_of_term (Variable x) = 0
 operators_of_term (Read x i) = 1 + operators_of_term i
 operators_of_term (Sum a b) = 1 + (operators_of_term a + (bracket (is_sum b) + operators_of_term b))
 operators_of_term (Difference a b) = 1 + (operators_of_term a + (bracket (is_sum b) + operators_of_term b))
-operators_of_term (Product a b) = 1 + ((bracket (is_sum a) + operators_of_term a) + (bracket (is_sum b || is_product b) + operators_of_term b))
-operators_of_term (Quotient a b) = 1 + ((bracket (is_sum a) + operators_of_term a) + (bracket (is_sum b || is_product b) + operators_of_term b))
-operators_of_term (Remainder a b) = 1 + ((bracket (is_sum a) + operators_of_term a) + (bracket (is_sum b || is_product b) + operators_of_term b))
+operators_of_term (Product a b) =
+    1 + ((bracket (is_sum a) + operators_of_term a) + (bracket (is_sum b || is_product b) + operators_of_term b))
+operators_of_term (Quotient a b) =
+    1 + ((bracket (is_sum a) + operators_of_term a) + (bracket (is_sum b || is_product b) + operators_of_term b))
+operators_of_term (Remainder a b) =
+    1 + ((bracket (is_sum a) + operators_of_term a) + (bracket (is_sum b || is_product b) + operators_of_term b))
 operators_of_term (Negative a) = 1 + (bracket (is_sum a || is_product a) + operators_of_term a)
 
 -- the same of a guard, with braces for brackets
 abbrev pub operators_of_guard : {X : Type 0} → Guard X → ℕ
 operators_of_guard (Test l) = 1 + (operators_of_term l.left + operators_of_term l.right)
 operators_of_guard (Not g) = 1 + (bracket (is_and g || is_or g) + operators_of_guard g)
-operators_of_guard (And a b) = 1 + ((bracket (is_or a) + operators_of_guard a) + (bracket (is_and b || is_or b) + operators_of_guard b))
+operators_of_guard (And a b) =
+    1 + ((bracket (is_or a) + operators_of_guard a) + (bracket (is_and b || is_or b) + operators_of_guard b))
 operators_of_guard (Or a b) = 1 + (operators_of_guard a + (bracket (is_or b) + operators_of_guard b))
 
 -- the same of an assignment

@@ -22,7 +22,8 @@ is_word (b ∷ bytes) = is_letter b && list_all is_word_byte bytes
 -- the words that are not names
 abbrev pub reserved_words : List (List ℕ)
 reserved_words =
-    codes "fsmd" ∷ codes "input" ∷ codes "output" ∷ codes "local" ∷ codes "array" ∷ codes "reset" ∷ codes "state" ∷ codes "when" ∷ codes "goto"
+    codes "fsmd" ∷ codes "input" ∷ codes "output" ∷ codes "local" ∷ codes "array" ∷ codes "reset" ∷ codes "state"
+    ∷ codes "when" ∷ codes "goto"
     ∷ codes "start" ∷ codes "done" ∷ codes "emit" ∷ codes "port" ∷ []
 
 abbrev pub is_reserved : List ℕ → Bool

@@ -1,8 +1,9 @@
 //! Copies of expressions, guards and assignments, with their variables renamed or not.
 
 ghost use Rattle.std.specs.Prelude.{◌≡◌, map, IfOk};
-ghost use Rattle.fs_model.specs.View.{term_by, literal_by, guard_by, assignment_by, term_of, literal_of, guard_of, assignment_of, declaration_of};
-ghost use Rattle.fs_model.specs.Trees.{negated};
+ghost use Rattle.fs_model.specs.View.{term_by, literal_by, guard_by, assignment_by, term_of, literal_of, guard_of, assignment_of};
+ghost use Rattle.fs_model.specs.View.{declaration_of};
+ghost use Rattle.fs_model.specs.Trees.{negated_literal};
 ghost use Rattle.fs_model.specs.Renamed.{term_over, literal_over, guard_over, assignment_over, between, joining};
 
 use crate::memory::{both_boxed, boxed};
@@ -53,7 +54,8 @@ impl Rename<Name> for Unrenamed {
 
 // The expression of the same operator between other operands.
 fn same_operator<V, W>(expr: &Expr<V>, left: Box<Expr<W>>, right: Box<Expr<W>>) -> Expr<W>
-    ensures { term_by (λ x. x) result ≡ between (term_by (λ x. x) expr.now) (term_by (λ x. x) left.value) (term_by (λ x. x) right.value) }
+    ensures { term_by (λ x. x) result ≡ between (term_by (λ x. x) expr.now) (term_by (λ x. x) left.value)
+        (term_by (λ x. x) right.value) }
 {
     match expr {
         Expr::Sub(..) => Expr::Sub(left, right),
@@ -66,7 +68,8 @@ fn same_operator<V, W>(expr: &Expr<V>, left: Box<Expr<W>>, right: Box<Expr<W>>) 
 
 // The guard of the same connective between other guards.
 fn same_connective<V, W>(guard: &Guard<V>, left: Box<Guard<W>>, right: Box<Guard<W>>) -> Guard<W>
-    ensures { guard_by (λ x. x) result ≡ joining (guard_by (λ x. x) guard.now) (guard_by (λ x. x) left.value) (guard_by (λ x. x) right.value) }
+    ensures { guard_by (λ x. x) result ≡ joining (guard_by (λ x. x) guard.now) (guard_by (λ x. x) left.value)
+        (guard_by (λ x. x) right.value) }
 {
     match guard {
         Guard::Or(..) => Guard::Or(left, right),
@@ -150,7 +153,8 @@ impl<V> Assign<V> {
     /// A copy with its variables renamed.
     pub fn renamed<R: Rename<V>>(&self, alloc: Global, by: &R) -> Result<Assign<R::To>, NoMemory>
         requires { R.can_rename by.now }
-        ensures { IfOk result (λ a. assignment_by (λ x. x) a ≡ assignment_over (R.renamed by.now) (assignment_by (λ x. x) self.now)) }
+        ensures { IfOk result
+            (λ a. assignment_by (λ x. x) a ≡ assignment_over (R.renamed by.now) (assignment_by (λ x. x) self.now)) }
     {
         match self {
             Assign::Set(x, value) => {
@@ -177,7 +181,9 @@ pub fn renamed_assignments<V, R: Rename<V>>(
     by: &R,
 ) -> Result<Vec<Assign<R::To>>, NoMemory>
     requires { R.can_rename by.now }
-    ensures { IfOk result (λ out. map (assignment_by (λ x. x)) out.items ≡ map (assignment_over (R.renamed by.now)) (map (assignment_by (λ x. x)) assigns.now)) }
+    ensures { IfOk result
+        (λ out. map (assignment_by (λ x. x)) out.items ≡ map (assignment_over (R.renamed by.now))
+        (map (assignment_by (λ x. x)) assigns.now)) }
 {
     let mut out = Vec::new(alloc);
     for assign in assigns {
@@ -207,7 +213,7 @@ impl Lit<VarId> {
 
     /// A literal that holds exactly when this one does not.
     pub fn negation(&self, alloc: Global) -> Result<Lit<VarId>, NoMemory>
-        ensures { IfOk result (λ l. literal_of l ≡ negated (literal_of self.now)) }
+        ensures { IfOk result (λ l. literal_of l ≡ negated_literal (literal_of self.now)) }
     {
         Ok(Lit {
             rel: self.rel.negated(),

@@ -6,8 +6,8 @@ ghost use Rattle.std.specs.Option.{option_to_list};
 ghost use Rattle.fs_model.specs.Terms.{Literal, Assignment, Transition};
 ghost use Rattle.fs_model.specs.Machines.{Fsmd};
 ghost use Rattle.fs_model.specs.Stores.{Store};
-ghost use Rattle.fs_model.specs.Trees.{branches_of, negated, effects_open, effect_taken};
-ghost use Rattle.fs_model.specs.Parts.{transition_passes, branch_passes};
+ghost use Rattle.fs_model.specs.Trees.{branches_of, negated_literal, effects_open, effect_taken};
+ghost use Rattle.fs_model.specs.PartFolds.{transition_passes, branch_passes};
 ghost use Rattle.fs_model.specs.Runs.{Step, FirstReturn, SameBehaviour};
 
 /// One step is determined: from a state and a store it leads to one state and one store.
@@ -39,12 +39,14 @@ pub fn same_behaviour_is_transitive()
 
 /// In each store the branches whose literals all hold are one, that of the transition taken, or none where none is taken.
 pub fn one_branch_is_open()
-    ensures { (lines : List (Transition ℕ ℕ)) (s : Store) → effects_open (branches_of lines) s ≡ option_to_list (effect_taken lines s) }
+    ensures { (lines : List (Transition ℕ ℕ)) (s : Store)
+        → effects_open (branches_of lines) s ≡ option_to_list (effect_taken lines s) }
 {}
 
 /// Tests that the literals, the assignments and the target of each transition pass are passed by those of
 /// each branch, where the test of literals doesn't tell a literal from its negation.
 pub fn branches_pass_as_transitions_do()
-    ensures { (T : Literal ℕ → Bool) (C : List (Assignment ℕ) → Bool) (S : ℕ → Bool) (lines : List (Transition ℕ ℕ)) → ((l : Literal ℕ) → T (negated l) ≡ T l)
+    ensures { (T : Literal ℕ → Bool) (C : List (Assignment ℕ) → Bool) (S : ℕ → Bool) (lines : List (Transition ℕ ℕ))
+        → ((l : Literal ℕ) → T (negated_literal l) ≡ T l)
         → list_all (transition_passes T C S) lines ≡ true → list_all (branch_passes T C S) (branches_of lines) ≡ true }
 {}

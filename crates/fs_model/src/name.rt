@@ -98,13 +98,14 @@ impl Model for Name {
 }
 
 /// Memory was refused.
-#[derive(Clone, Copy, Debug, PartialEq, Eq)]
+#[derive(Clone, Copy, Debug)]
 pub struct NoMemory;
 
 impl Name {
     /// The name of these bytes. `None` exactly when they are not a name.
     pub fn of(alloc: Global, bytes: &[u8]) -> Result<Option<Name>, NoMemory>
-        ensures { IfOk result (λ o. MatchOption o (is_name bytes.now ≡ false) (λ n. (n ≡ bytes.now) × IsTrue (is_name bytes.now))) }
+        ensures { IfOk result
+            (λ o. MatchOption o (is_name bytes.now ≡ false) (λ n. (n ≡ bytes.now) × IsTrue (is_name bytes.now))) }
     {
         if !is_name(bytes) {
             return Ok(None);

@@ -8,15 +8,15 @@ ghost use Rattle.fs_model.specs.Runs.{is_input, is_output, is_scalar, is_array, 
 use crate::name::Name;
 
 /// The number of a variable: its place among the variables of its machine, from 0.
-#[derive(Clone, Copy, Debug, PartialEq, Eq, PartialOrd, Ord)]
+#[derive(Clone, Copy, PartialEq, Eq)]
 pub struct VarId(pub u32);
 
 /// The number of a state: its place among the states of its machine, from 0.
-#[derive(Clone, Copy, Debug, PartialEq, Eq, PartialOrd, Ord)]
+#[derive(Clone, Copy, Debug, PartialEq, Eq)]
 pub struct StateId(pub u32);
 
 /// Whether a variable holds a number, a number at each index, or a list of emitted numbers.
-#[derive(Clone, Copy, Debug, PartialEq, Eq)]
+#[derive(Clone, Copy, PartialEq, Eq)]
 pub enum Sort {
     Scalar,
     Array,
@@ -47,7 +47,7 @@ impl Sort {
 }
 
 /// What a variable is for.
-#[derive(Clone, Copy, Debug, PartialEq, Eq)]
+#[derive(Clone, Copy, PartialEq, Eq)]
 pub enum Role {
     Input,
     Output,
@@ -71,7 +71,7 @@ impl Role {
 }
 
 /// A relation between two numbers.
-#[derive(Clone, Copy, Debug, PartialEq, Eq)]
+#[derive(Clone, Copy)]
 pub enum Rel {
     Eq,
     Ne,

@@ -3,8 +3,12 @@
 
 ghost use Rattle.std.specs.Prelude.{◌≡◌, ◌+◌, min, ◌||◌, map, option_map};
 ghost use Rattle.std.specs.List.{list_all};
-ghost use Rattle.fs_model.specs.View.{named_term, named_guard, named_assignment, declaration_of, source_transition_of, source_state_of, source_of};
-ghost use Rattle.fs_model.specs.WellFormed.{is_sum, is_product, is_and, is_or, bracket, operators_of_term, operators_of_guard, operators_of_assignment, is_natural_term, is_natural_guard, is_natural_assignment, is_well_formed_condition, is_well_formed_assignment, is_well_formed_transition, is_well_formed_state, is_well_formed_declaration, is_well_formed};
+ghost use Rattle.fs_model.specs.View.{named_term, named_guard, named_assignment, declaration_of, source_transition_of};
+ghost use Rattle.fs_model.specs.View.{source_state_of, source_of};
+ghost use Rattle.fs_model.specs.WellFormed.{is_sum, is_product, is_and, is_or, bracket, operators_of_term, operators_of_guard};
+ghost use Rattle.fs_model.specs.WellFormed.{operators_of_assignment, is_natural_term, is_natural_guard, is_natural_assignment};
+ghost use Rattle.fs_model.specs.WellFormed.{is_well_formed_condition, is_well_formed_assignment, is_well_formed_transition};
+ghost use Rattle.fs_model.specs.WellFormed.{is_well_formed_state, is_well_formed_declaration, is_well_formed};
 
 use crate::limits::OPERATOR_LIMIT;
 use crate::name::Name;
@@ -160,8 +164,8 @@ fn operator_count(expr: &Expr<Name>) -> u32
     }
 }
 
-// The same of a guard, with braces for brackets.
-fn operators_of_guard(guard: &Guard) -> u32
+/// The operators and opening braces and brackets of a guard's shortest text, as far as 32 bits go. Takes no memory.
+pub fn operators_of_guard(guard: &Guard) -> u32
     ensures { result ≡ min (operators_of_guard (named_guard guard.now)) 4294967295 }
 {
     match guard {
@@ -178,8 +182,8 @@ fn operators_of_guard(guard: &Guard) -> u32
     }
 }
 
-// The same of an assignment.
-fn operators_of_assign(assign: &Assign<Name>) -> u32
+/// The operators and opening brackets of an assignment's shortest text, as far as 32 bits go. Takes no memory.
+pub fn operators_of_assign(assign: &Assign<Name>) -> u32
     ensures { result ≡ min (operators_of_assignment (named_assignment assign.now)) 4294967295 }
 {
     match assign {

@@ -1,18 +1,20 @@
 -- The partner of a partner is the position itself.
-use Rattle.std.proofs.Common.{◌≡◌, ℕ, zero, suc, ◌+◌, ◌≤◌, ◌==◌, List, [], ◌∷◌, length, map, ap, sym, refl, ◌∙◌, subst, arith, Option, Some, Bool, true, false, cond}
+use Rattle.std.proofs.Common.{◌≡◌, ℕ, zero, suc, ◌+◌, ◌≤◌, ◌==◌, List, [], ◌∷◌, length, map, ap, sym, refl, ◌∙◌, subst, arith, Option, Some, Bool, true, false}
+use Rattle.std.proofs.Common.{cond}
 use Rattle.std.specs.Prelude.{not, slice_get}
 use Rattle.std.specs.List.{position_from}
 use Rattle.std.proofs.lemmas.Bool.Decides.{nat_tests}
+use Rattle.std.proofs.lemmas.Bool.{and_from, not-true}
+use Rattle.base_lemmas.proofs.Booleans.{and_first, and_second}
 use Rattle.fs_model.specs.declared.parts.VarInfo.{VarInfo}
 use Rattle.fs_model.specs.Machines.{Fsmd}
-use Rattle.fs_ast.specs.Sound.{IsSound, names_differ}
-use Rattle.nf_terms.specs.declared.tree.Side.{Side}
-use Rattle.nf_terms.specs.declared.tree.Side.TheVariants.{Left, Right}
+use Rattle.fs_ast.specs.SoundMachines.{IsSound, names_differ}
+use Rattle.fs_model.specs.declared.sides.Side.{Side}
+use Rattle.fs_model.specs.declared.sides.Side.TheVariants.{Left, Right}
 use Rattle.fs_pair.specs.declared.positions.Position.{Position}
 use Rattle.fs_pair.specs.SidedVariables.{SidedVariable, same_name_and_sort, all_sided_variables, same_side, is_partner}
 use Rattle.fs_pair.specs.Positions.{positions}
 use Rattle.fs_pair.specs.Partners.{variables_on}
-use Rattle.fs_model.proofs.Truth.{and_left, and_right, and_both, not_true}
 use Rattle.fs_pair.proofs.Tests.{same_side_self, third_side, same_name, same_back}
 use Rattle.fs_pair.proofs.Variables.{comes_from, position_found, stands_at}
 use Rattle.fs_pair.proofs.Once.{many, own_number, once}
@@ -29,7 +31,8 @@ at_least t (x ∷ xs) zero s e h =
     omega (arith, counts_one t x s i h)
 at_least t (x ∷ xs) (suc k) s e h = omega (arith, at_least t xs k s e h)
 
-one_place : (t : SidedVariable → Bool) (xs : List SidedVariable) (i k : ℕ) (s u : SidedVariable) → many t xs ≤ 1 → slice_get xs i ≡ Some s → t s ≡ true → slice_get xs k ≡ Some u → t u ≡ true → i ≡ k
+one_place : (t : SidedVariable → Bool) (xs : List SidedVariable) (i k : ℕ) (s u : SidedVariable) → many t xs ≤ 1 → slice_get xs i ≡ Some s → t s ≡ true
+    → slice_get xs k ≡ Some u → t u ≡ true → i ≡ k
 one_place t [] i k s u m e h f g = absurd (cc e)
 one_place t (x ∷ xs) zero zero s u m e h f g = refl
 one_place t (x ∷ xs) zero (suc k) s u m e h f g =
@@ -78,33 +81,43 @@ module _ (a b : Fsmd) (sound : IsSound a) (other : IsSound b) where
   in_range (u ∷ vs) (suc x) v e = omega (arith, in_range vs x v e)
 
   -- of two variables of one side and one name both are one
-  pub one_variable : (i k : ℕ) (u s : SidedVariable) → slice_get all i ≡ Some u → slice_get all k ≡ Some s → s.pos.side ≡ u.pos.side → s.variable.name ≡ u.variable.name → i ≡ k
+  pub one_variable : (i k : ℕ) (u s : SidedVariable) → slice_get all i ≡ Some u → slice_get all k ≡ Some s → s.pos.side ≡ u.pos.side
+      → s.variable.name ≡ u.variable.name → i ≡ k
   one_variable i k u s e f d n =
       let su : slice_get (variables_on u.pos.side a b) u.pos.var ≡ Some u.variable = stands_at a b i u e in
-      let ss : slice_get (variables_on u.pos.side a b) s.pos.var ≡ Some s.variable = subst (λ (z : Side). slice_get (variables_on z a b) s.pos.var ≡ Some s.variable) d (stands_at a b k s f) in
+      let ss : slice_get (variables_on u.pos.side a b) s.pos.var ≡ Some s.variable =
+      subst (λ (z : Side). slice_get (variables_on z a b) s.pos.var ≡ Some s.variable) d (stands_at a b k s f) in
       let x : u.pos.var ≡ s.pos.var = own_number (variables_on u.pos.side a b) u.pos.var s.pos.var u.variable s.variable (differ_on u.pos.side) su ss (sym n) in
       let same : (u.pos.var == s.pos.var) ≡ true = grind (arith, nat_tests) in
       let self : (s.pos.var == s.pos.var) ≡ true = grind (arith, nat_tests) in
       one_place (places.stands_at s.pos.side s.pos.var) all i k u s
       (omega (arith, once a b sound other s.pos.side s.pos.var (in_range (variables_on s.pos.side a b) s.pos.var s.variable (stands_at a b k s f))))
-      e (and_both (same_side u.pos.side s.pos.side) (u.pos.var == s.pos.var) (ap (λ (z : Side). same_side z s.pos.side) (sym d) ∙ same_side_self s.pos.side) same)
-      f (and_both (same_side s.pos.side s.pos.side) (s.pos.var == s.pos.var) (same_side_self s.pos.side) self)
+      e
+      (and_from (same_side u.pos.side s.pos.side) (u.pos.var == s.pos.var) (ap (λ (z : Side). same_side z s.pos.side) (sym d) ∙ same_side_self s.pos.side) same)
+      f (and_from (same_side s.pos.side s.pos.side) (s.pos.var == s.pos.var) (same_side_self s.pos.side) self)
 
   -- from a variable to the partner of its partner
-  returns_to : (k j : ℕ) (s t : SidedVariable) → slice_get all k ≡ Some s → slice_get all j ≡ Some t → is_partner s t ≡ true → position_from (is_partner t) 0 all ≡ Some k
+  returns_to : (k j : ℕ) (s t : SidedVariable) → slice_get all k ≡ Some s → slice_get all j ≡ Some t → is_partner s t ≡ true
+      → position_from (is_partner t) 0 all ≡ Some k
   returns_to k j s t e f p =
-      let apart : same_side s.pos.side t.pos.side ≡ false = not_true (same_side s.pos.side t.pos.side) (and_left (not (same_side s.pos.side t.pos.side)) (same_name_and_sort s.variable t.variable) p) in
-      let alike : same_name_and_sort s.variable t.variable ≡ true = and_right (not (same_side s.pos.side t.pos.side)) (same_name_and_sort s.variable t.variable) p in
-      let back : is_partner t s ≡ true = and_both (not (same_side t.pos.side s.pos.side)) (same_name_and_sort t.variable s.variable) (ap not (side_back s.pos.side t.pos.side apart)) (same_back s.variable t.variable alike) in
+      let apart : same_side s.pos.side t.pos.side ≡ false = not-true (same_side s.pos.side t.pos.side)
+      (and_first (not (same_side s.pos.side t.pos.side)) (same_name_and_sort s.variable t.variable) p) in
+      let alike : same_name_and_sort s.variable t.variable ≡ true =
+      and_second (not (same_side s.pos.side t.pos.side)) (same_name_and_sort s.variable t.variable) p in
+      let back : is_partner t s ≡ true = and_from (not (same_side t.pos.side s.pos.side)) (same_name_and_sort t.variable s.variable)
+      (ap not (side_back s.pos.side t.pos.side apart)) (same_back s.variable t.variable alike) in
       let n : 0 + k ≡ k = omega arith in
       first_place (is_partner t) all 0 k s e back
       (λ i u g q.
       one_variable i k u s g e
-      (third_side s.pos.side t.pos.side u.pos.side apart (not_true (same_side t.pos.side u.pos.side) (and_left (not (same_side t.pos.side u.pos.side)) (same_name_and_sort t.variable u.variable) q)))
-      (sym (same_name s.variable t.variable alike) ∙ sym (same_name t.variable u.variable (and_right (not (same_side t.pos.side u.pos.side)) (same_name_and_sort t.variable u.variable) q))))
+      (third_side s.pos.side t.pos.side u.pos.side apart
+      (not-true (same_side t.pos.side u.pos.side) (and_first (not (same_side t.pos.side u.pos.side)) (same_name_and_sort t.variable u.variable) q)))
+      (sym (same_name s.variable t.variable alike)
+      ∙ sym (same_name t.variable u.variable (and_second (not (same_side t.pos.side u.pos.side)) (same_name_and_sort t.variable u.variable) q))))
       ∙ ap Some n
 
-  pub mutual_partners : (k j : ℕ) (p q : Position) → slice_get (positions a b) k ≡ Some p → p.partner ≡ Some j → slice_get (positions a b) j ≡ Some q → q.partner ≡ Some k
+  pub mutual_partners : (k j : ℕ) (p q : Position) → slice_get (positions a b) k ≡ Some p → p.partner ≡ Some j → slice_get (positions a b) j ≡ Some q
+      → q.partner ≡ Some k
   mutual_partners k j p q e h g =
       let r = comes_from all all k p e in
       let w = comes_from all all j q g in

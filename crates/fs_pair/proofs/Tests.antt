@@ -1,24 +1,16 @@
 -- What tests of names, sorts and sides say.
-use Rattle.std.proofs.Common.{◌≡◌, sym, refl, ◌∙◌, ap, Bool, true, false, ℕ, List, Option, Some, None}
-use Rattle.std.specs.Option.{option_or}
+use Rattle.std.proofs.Common.{◌≡◌, sym, refl, ◌∙◌, ap, Bool, true, false}
 use Rattle.std.specs.Str.{bytes_eq}
 use Rattle.std.proofs.lemmas.Slice.Eq.{bytes_eq-Decides}
-use Rattle.fs_model.proofs.Truth.{and_left, and_right, and_both}
+use Rattle.std.proofs.lemmas.Bool.{and_from}
+use Rattle.base_lemmas.proofs.Booleans.{and_first, and_second}
 use Rattle.fs_model.specs.declared.parts.Sort.{Sort}
 use Rattle.fs_model.specs.declared.parts.Sort.TheVariants.{Scalar, Array, Port}
 use Rattle.fs_model.specs.declared.parts.VarInfo.{VarInfo}
-use Rattle.nf_terms.specs.declared.tree.Side.{Side}
-use Rattle.nf_terms.specs.declared.tree.Side.TheVariants.{Left, Right}
+use Rattle.fs_model.specs.declared.sides.Side.{Side}
+use Rattle.fs_model.specs.declared.sides.Side.TheVariants.{Left, Right}
 use Rattle.fs_pair.specs.Interfaces.{same_sort}
 use Rattle.fs_pair.specs.SidedVariables.{same_name_and_sort, same_side}
-
-pub left_none : (o p : Option (List ℕ)) → option_or o p ≡ None → o ≡ None
-left_none None p e = refl
-left_none (Some x) p e = absurd (cc e)
-
-pub right_none : (o p : Option (List ℕ)) → option_or o p ≡ None → p ≡ None
-right_none None p e = e
-right_none (Some x) p e = absurd (cc e)
 
 -- a test that is true only where another is, and the other way round
 pub as_often : (a b : Bool) → (a ≡ true → b ≡ true) → (b ≡ true → a ≡ true) → a ≡ b
@@ -37,7 +29,7 @@ same_sort_is Port Scalar e = absurd (cc e)
 same_sort_is Port Array e = absurd (cc e)
 same_sort_is Port Port e = refl
 
-same_sort_self : (s : Sort) → same_sort s s ≡ true
+pub same_sort_self : (s : Sort) → same_sort s s ≡ true
 same_sort_self Scalar = refl
 same_sort_self Array = refl
 same_sort_self Port = refl
@@ -62,13 +54,14 @@ third_side Right Left Right h g = refl
 third_side Right Right f h g = absurd (cc h)
 
 pub same_name : (v u : VarInfo) → same_name_and_sort v u ≡ true → u.name ≡ v.name
-same_name v u h = (bytes_eq-Decides u.name v.name).0 (and_left (bytes_eq u.name v.name) (same_sort u.sort v.sort) h)
+same_name v u h = (bytes_eq-Decides u.name v.name).0 (and_first (bytes_eq u.name v.name) (same_sort u.sort v.sort) h)
 
 pub same_sorts : (v u : VarInfo) → same_name_and_sort v u ≡ true → u.sort ≡ v.sort
-same_sorts v u h = same_sort_is u.sort v.sort (and_right (bytes_eq u.name v.name) (same_sort u.sort v.sort) h)
+same_sorts v u h = same_sort_is u.sort v.sort (and_second (bytes_eq u.name v.name) (same_sort u.sort v.sort) h)
 
 pub are_same : (v u : VarInfo) → u.name ≡ v.name → u.sort ≡ v.sort → same_name_and_sort v u ≡ true
-are_same v u n s = and_both (bytes_eq u.name v.name) (same_sort u.sort v.sort) ((bytes_eq-Decides u.name v.name).1 n) (ap (λ (t : Sort). same_sort t v.sort) s ∙ same_sort_self v.sort)
+are_same v u n s = and_from (bytes_eq u.name v.name) (same_sort u.sort v.sort) ((bytes_eq-Decides u.name v.name).1 n)
+    (ap (λ (t : Sort). same_sort t v.sort) s ∙ same_sort_self v.sort)
 
 pub same_back : (v u : VarInfo) → same_name_and_sort v u ≡ true → same_name_and_sort u v ≡ true
 same_back v u h = are_same u v (sym (same_name v u h)) (sym (same_sorts v u h))

@@ -3,15 +3,17 @@ use Rattle.std.proofs.Common.{◌≡◌, ℕ, zero, suc, ◌+◌, List, [], ◌�
 use Rattle.std.specs.Prelude.{not, slice_get}
 use Rattle.std.specs.List.{position_from, find, filter, AllByRecursion}
 use Rattle.std.specs.Option.{option_to_list}
+use Rattle.std.proofs.lemmas.Bool.{not-true}
+use Rattle.base_lemmas.proofs.Booleans.{and_first, and_second}
 use Rattle.fs_model.specs.declared.parts.VarInfo.{VarInfo}
 use Rattle.fs_model.specs.Machines.{Fsmd}
-use Rattle.nf_terms.specs.declared.tree.Side.{Side}
-use Rattle.nf_terms.specs.declared.tree.Side.TheVariants.{Left, Right}
+use Rattle.fs_model.specs.declared.sides.Side.{Side}
+use Rattle.fs_model.specs.declared.sides.Side.TheVariants.{Left, Right}
 use Rattle.fs_pair.specs.declared.positions.Position.{Position}
-use Rattle.fs_pair.specs.SidedVariables.{SidedVariable, sided_variables, same_name_and_sort, partner_among, with_partners, is_alone, all_sided_variables, same_side, is_partner}
+use Rattle.fs_pair.specs.SidedVariables.{SidedVariable, sided_variables, same_name_and_sort, partner_among, with_partners, is_alone, all_sided_variables}
+use Rattle.fs_pair.specs.SidedVariables.{same_side, is_partner}
 use Rattle.fs_pair.specs.Positions.{position_of, positions}
 use Rattle.fs_pair.specs.Partners.{variables_on, IsVariable, StandsForVariable, HasPartner}
-use Rattle.fs_model.proofs.Truth.{and_left, and_right, not_true}
 use Rattle.fs_pair.proofs.Tests.{same_name, same_sorts}
 
 -- ---- what holds of each
@@ -19,7 +21,8 @@ pub all_append : (P : SidedVariable → Type 0) (xs ys : List SidedVariable) →
 all_append P [] ys h g = g
 all_append P (x ∷ xs) ys h g = (h.0, all_append P xs ys h.1 g)
 
-pub all_found : (P : SidedVariable → Type 0) (test : SidedVariable → Bool) (xs : List SidedVariable) → AllByRecursion P xs → AllByRecursion P (option_to_list (find test xs))
+pub all_found : (P : SidedVariable → Type 0) (test : SidedVariable → Bool) (xs : List SidedVariable) → AllByRecursion P xs
+    → AllByRecursion P (option_to_list (find test xs))
 all_found P test [] h = tt
 all_found P test (x ∷ xs) h = by_test (test x) (all_found P test xs h.1)
   where
@@ -27,7 +30,8 @@ all_found P test (x ∷ xs) h = by_test (test x) (all_found P test xs h.1)
     by_test true r = (h.0, tt)
     by_test false r = r
 
-pub all_filtered : (P : SidedVariable → Type 0) (test : SidedVariable → Bool) (xs : List SidedVariable) → AllByRecursion P xs → AllByRecursion P (filter test xs)
+pub all_filtered : (P : SidedVariable → Type 0) (test : SidedVariable → Bool) (xs : List SidedVariable) → AllByRecursion P xs
+    → AllByRecursion P (filter test xs)
 all_filtered P test [] h = tt
 all_filtered P test (x ∷ xs) h = by_test (test x) (all_filtered P test xs h.1)
   where
@@ -35,16 +39,24 @@ all_filtered P test (x ∷ xs) h = by_test (test x) (all_filtered P test xs h.1)
     by_test true r = (h.0, r)
     by_test false r = r
 
-pub all_paired : (P : SidedVariable → Type 0) (ss others : List SidedVariable) → AllByRecursion P ss → AllByRecursion P others → AllByRecursion P (with_partners ss others)
+pub all_paired : (P : SidedVariable → Type 0) (ss others : List SidedVariable) → AllByRecursion P ss → AllByRecursion P others
+    → AllByRecursion P (with_partners ss others)
 all_paired P [] others h g = tt
-all_paired P (s ∷ ss) others h g =
-    (h.0, all_append P (option_to_list (partner_among others s.variable)) (with_partners ss others) (all_found P (λ t. same_name_and_sort s.variable t.variable) others g) (all_paired P ss others h.1 g))
+all_paired P (s ∷ ss) others h g = (
+  h.0,
+  all_append P (option_to_list (partner_among others s.variable)) (with_partners ss others)
+      (all_found P (λ t. same_name_and_sort s.variable t.variable) others g) (all_paired P ss others h.1 g),
+)
 
-pub all_numbered : (P : SidedVariable → Type 0) (d : Side) (x : ℕ) (vs : List VarInfo) → ((j : ℕ) (v : VarInfo) → slice_get vs j ≡ Some v → P (record { pos = record { side = d; var = x + j }; variable = v })) → AllByRecursion P (sided_variables d x vs)
+pub all_numbered : (P : SidedVariable → Type 0) (d : Side) (x : ℕ) (vs : List VarInfo)
+    → ((j : ℕ) (v : VarInfo) → slice_get vs j ≡ Some v → P (record { pos = record { side = d; var = x + j }; variable = v }))
+    → AllByRecursion P (sided_variables d x vs)
 all_numbered P d x [] h = tt
 all_numbered P d x (v ∷ vs) h = (
   subst (λ n. P (record { pos = record { side = d; var = n }; variable = v })) (omega arith) (h 0 v refl),
-  all_numbered P d (x + 1) vs (λ j u e. let k : x + suc j ≡ (x + 1) + j = omega arith in subst (λ n. P (record { pos = record { side = d; var = n }; variable = u })) k (h (suc j) u e)),
+  all_numbered P d (x + 1) vs
+      (λ j u e. let k : x + suc j ≡ (x + 1) + j = omega arith in
+      subst (λ n. P (record { pos = record { side = d; var = n }; variable = u })) k (h (suc j) u e)),
 )
 
 pub all_at : (P : SidedVariable → Type 0) (xs : List SidedVariable) (k : ℕ) (s : SidedVariable) → AllByRecursion P xs → slice_get xs k ≡ Some s → P s
@@ -64,7 +76,8 @@ pub position_found : (test : SidedVariable → Bool) (xs : List SidedVariable) (
 position_found test [] i k e = absurd (cc e)
 position_found test (x ∷ xs) i k e = by_test (test x) refl e (λ g. position_found test xs (i + 1) k g)
   where
-    by_test : (b : Bool) → test x ≡ b → cond b (Some i) (position_from test (i + 1) xs) ≡ Some k → (position_from test (i + 1) xs ≡ Some k → FoundAt test xs (i + 1) k) → FoundAt test (x ∷ xs) i k
+    by_test : (b : Bool) → test x ≡ b → cond b (Some i) (position_from test (i + 1) xs) ≡ Some k
+        → (position_from test (i + 1) xs ≡ Some k → FoundAt test xs (i + 1) k) → FoundAt test (x ∷ xs) i k
     by_test true t g again = let s : i ≡ k = cc g in record { place = 0; number = omega arith; found = x; at = refl; passes = t }
     by_test false t g again = let r = again g in record { place = suc r.place; number = omega (arith, r.number); found = r.found; at = r.at; passes = r.passes }
 
@@ -91,7 +104,8 @@ comes_from [] all k p e = absurd (cc e)
 comes_from (s ∷ ss) all zero p e = record { from = s; at = refl; is = cc e }
 comes_from (s ∷ ss) all (suc k) p e = let r = comes_from ss all k p e in record { from = r.from; at = r.at; is = r.is }
 
-pub goes_to : (ss all : List SidedVariable) (k : ℕ) (s : SidedVariable) → slice_get ss k ≡ Some s → slice_get (map (position_of all) ss) k ≡ Some (position_of all s)
+pub goes_to : (ss all : List SidedVariable) (k : ℕ) (s : SidedVariable) → slice_get ss k ≡ Some s
+    → slice_get (map (position_of all) ss) k ≡ Some (position_of all s)
 goes_to [] all k s e = absurd (cc e)
 goes_to (t ∷ ss) all zero s e = let i : t ≡ s = cc e in ap (λ (z : SidedVariable). Some (position_of all z)) i
 goes_to (t ∷ ss) all (suc k) s e = goes_to ss all k s e
@@ -107,8 +121,10 @@ module _ (a b : Fsmd) where
   all_stand =
       let ls = sided_variables Left 0 a.variables in
       let rs = sided_variables Right 0 b.variables in
-      let lefts : AllByRecursion Stands ls = all_numbered Stands Left 0 a.variables (λ j v e. subst (λ n. slice_get a.variables n ≡ Some v) (sym (zero-add j)) e) in
-      let rights : AllByRecursion Stands rs = all_numbered Stands Right 0 b.variables (λ j v e. subst (λ n. slice_get b.variables n ≡ Some v) (sym (zero-add j)) e) in
+      let lefts : AllByRecursion Stands ls = all_numbered Stands Left 0 a.variables
+      (λ j v e. subst (λ n. slice_get a.variables n ≡ Some v) (sym (zero-add j)) e) in
+      let rights : AllByRecursion Stands rs = all_numbered Stands Right 0 b.variables
+      (λ j v e. subst (λ n. slice_get b.variables n ≡ Some v) (sym (zero-add j)) e) in
       all_append Stands (with_partners ls rs) (filter (is_alone ls) rs) (all_paired Stands ls rs lefts rights) (all_filtered Stands (is_alone ls) rs rights)
 
   pub stands_at : (k : ℕ) (s : SidedVariable) → slice_get all_of k ≡ Some s → Stands s
@@ -132,7 +148,7 @@ module _ (a b : Fsmd) where
       let s = r.from in
       let f = first_found (is_partner s) all_of j (sym (ap (λ (q : Position). q.partner) r.is) ∙ h) in
       let t = f.found in
-      let alike = and_right (not (same_side s.pos.side t.pos.side)) (same_name_and_sort s.variable t.variable) f.passes in
+      let alike = and_second (not (same_side s.pos.side t.pos.side)) (same_name_and_sort s.variable t.variable) f.passes in
       record {
         variable = s.variable;
         is = is_variable s p (stands_at k s r.at) r.is;
@@ -140,7 +156,9 @@ module _ (a b : Fsmd) where
         at = goes_to all_of all_of j t f.at;
         other = t.variable;
         partner_is = is_variable t (position_of all_of t) (stands_at j t f.at) refl;
-        sides = ap (λ (q : Position). same_side q.pos.side t.pos.side) r.is ∙ not_true (same_side s.pos.side t.pos.side) (and_left (not (same_side s.pos.side t.pos.side)) (same_name_and_sort s.variable t.variable) f.passes);
+        sides = ap (λ (q : Position). same_side q.pos.side t.pos.side) r.is
+            ∙ not-true (same_side s.pos.side t.pos.side)
+            (and_first (not (same_side s.pos.side t.pos.side)) (same_name_and_sort s.variable t.variable) f.passes);
         name = same_name s.variable t.variable alike;
         sort = same_sorts s.variable t.variable alike ∙ sym (ap (λ (q : Position). q.sort) r.is);
       }

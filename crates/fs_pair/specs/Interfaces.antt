@@ -23,9 +23,9 @@ same_role Local Local = true
 same_role r q = false
 
 -- the first variable of a name
-abbrev pub named : List VarInfo → List ℕ → Option VarInfo
-named [] name = None
-named (v ∷ vs) name = cond (bytes_eq v.name name) (Some v) (named vs name)
+abbrev pub variable_named : List VarInfo → List ℕ → Option VarInfo
+variable_named [] name = None
+variable_named (v ∷ vs) name = cond (bytes_eq v.name name) (Some v) (variable_named vs name)
 
 -- whether two sorts are one
 abbrev pub same_sort : Sort → Sort → Bool
@@ -41,7 +41,7 @@ is_like v (Some u) = same_role v.role u.role && same_sort v.sort u.sort
 
 -- whether an input or output is absent from the others, or has another role or sort there
 abbrev pub lacks_match : List VarInfo → VarInfo → Bool
-lacks_match others v = is_interface v.role && not (is_like v (named others v.name))
+lacks_match others v = is_interface v.role && not (is_like v (variable_named others v.name))
 
 -- the name of the first input or output that has no match among the others
 abbrev pub first_unmatched : List VarInfo → List VarInfo → Option (List ℕ)

@@ -2,7 +2,7 @@ pub mod Interfaces
 pub mod SidedVariables
 pub mod View
 pub mod Positions
-pub mod Answers
-pub mod Outputs
+pub mod InterfaceRefusals
+pub mod PairedOutputs
 pub mod Partners
 pub mod Paired

@@ -3,9 +3,9 @@ use Rattle.std.specs.Prelude.{◌≡◌, ℕ, ◌<◌, ◌==◌, Bool, false, �
 use Rattle.std.specs.List.{range_with_len}
 use Rattle.fs_model.specs.declared.parts.VarInfo.{VarInfo}
 use Rattle.fs_model.specs.Machines.{Fsmd}
-use Rattle.nf_terms.specs.declared.tree.Side.{Side}
-use Rattle.nf_terms.specs.declared.tree.Side.TheVariants.{Left, Right}
-use Rattle.nf_terms.specs.declared.tree.Pos.{Pos}
+use Rattle.fs_model.specs.declared.sides.Side.{Side}
+use Rattle.fs_model.specs.declared.sides.Side.TheVariants.{Left, Right}
+use Rattle.fs_model.specs.declared.sides.Pos.{Pos}
 use Rattle.fs_pair.specs.declared.positions.Position.{Position}
 use Rattle.fs_pair.specs.SidedVariables.{same_side}
 use Rattle.fs_pair.specs.Positions.{positions}
@@ -16,12 +16,12 @@ variables_on Left a b = a.variables
 variables_on Right a b = b.variables
 
 -- whether it is variable x of a side
-abbrev pub is_at : Side → ℕ → Pos → Bool
-is_at side x p = same_side p.side side && (p.var == x)
+abbrev pub is_position_of : Side → ℕ → Pos → Bool
+is_position_of side x p = same_side p.side side && (p.var == x)
 
 -- the first n variables of a side, in order
-abbrev pub numbered : Side → ℕ → List Pos
-numbered side n = map (λ x. record { side = side; var = x }) (range_with_len 0 n)
+abbrev pub side_positions : Side → ℕ → List Pos
+side_positions side n = map (λ x. record { side = side; var = x }) (range_with_len 0 n)
 
 -- a position is a variable of its side, with its role and its sort
 pub record IsVariable (a b : Fsmd) (p : Position) (v : VarInfo) : Type 0 where

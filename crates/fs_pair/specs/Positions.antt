@@ -7,7 +7,12 @@ use Rattle.fs_pair.specs.SidedVariables.{SidedVariable, all_sided_variables, is_
 
 -- the position of a variable, with the place of its partner in the list
 abbrev pub position_of : List SidedVariable → SidedVariable → Position
-position_of ss s = record { pos = s.pos; role = s.variable.role; sort = s.variable.sort; partner = position_from (is_partner s) 0 ss }
+position_of ss s = record {
+  pos = s.pos;
+  role = s.variable.role;
+  sort = s.variable.sort;
+  partner = position_from (is_partner s) 0 ss;
+}
 
 -- the variables of two machines as positions, in order
 abbrev pub positions : Fsmd → Fsmd → List Position

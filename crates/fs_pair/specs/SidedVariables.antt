@@ -4,9 +4,9 @@ use Rattle.std.specs.List.{find, filter, list_any, flat_map}
 use Rattle.std.specs.Option.{option_to_list}
 use Rattle.std.specs.Str.{bytes_eq}
 use Rattle.fs_model.specs.declared.parts.VarInfo.{VarInfo}
-use Rattle.nf_terms.specs.declared.tree.Side.{Side}
-use Rattle.nf_terms.specs.declared.tree.Side.TheVariants.{Left, Right}
-use Rattle.nf_terms.specs.declared.tree.Pos.{Pos}
+use Rattle.fs_model.specs.declared.sides.Side.{Side}
+use Rattle.fs_model.specs.declared.sides.Side.TheVariants.{Left, Right}
+use Rattle.fs_model.specs.declared.sides.Pos.{Pos}
 use Rattle.fs_pair.specs.Interfaces.{same_sort}
 
 -- a variable and its position
@@ -37,7 +37,8 @@ is_alone others s = not (list_any (λ t. same_name_and_sort s.variable t.variabl
 
 -- the variables of the left side, each followed by its partner, then the others of the right side
 abbrev pub all_sided_variables : (left right : List VarInfo) → List SidedVariable
-all_sided_variables left right = with_partners (sided_variables Left 0 left) (sided_variables Right 0 right) ++ filter (is_alone (sided_variables Left 0 left)) (sided_variables Right 0 right)
+all_sided_variables left right = with_partners (sided_variables Left 0 left) (sided_variables Right 0 right)
+    ++ filter (is_alone (sided_variables Left 0 left)) (sided_variables Right 0 right)
 
 -- whether two sides are one
 abbrev pub same_side : Side → Side → Bool

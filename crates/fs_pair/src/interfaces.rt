@@ -1,7 +1,7 @@
 //! Whether two machines have the same inputs and outputs.
 
 ghost use Rattle.std.specs.Prelude.{◌≡◌, option_map};
-ghost use Rattle.fs_pair.specs.Interfaces.{is_interface, same_role, same_sort, named, lacks_match, first_unmatched};
+ghost use Rattle.fs_pair.specs.Interfaces.{is_interface, same_role, same_sort, variable_named, lacks_match, first_unmatched};
 
 use fs_model::name::Name;
 use fs_model::parts::{Role, Sort, VarInfo};
@@ -32,7 +32,7 @@ pub fn same_sort(left: Sort, right: Sort) -> bool
 
 /// The first variable of a name.
 pub fn named<'a>(vars: &'a [VarInfo], name: &Name) -> Option<&'a VarInfo>
-    ensures { option_map (λ v. v.now) result ≡ named vars.now name.now }
+    ensures { option_map (λ v. v.now) result ≡ variable_named vars.now name.now }
 {
     for variable in vars {
         if variable.name == *name {

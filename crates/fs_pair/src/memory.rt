@@ -3,7 +3,7 @@
 use std::alloc::AllocFailed;
 
 /// Out of memory.
-#[derive(Clone, Copy, Debug, PartialEq, Eq)]
+#[derive(Clone, Copy, Debug)]
 pub struct NoMemory;
 
 impl<T: Drop> From<AllocFailed<T>> for NoMemory {

@@ -8,7 +8,7 @@ ghost use Rattle.fs_pair.specs.SidedVariables.{same_side, is_partner};
 ghost use Rattle.fs_pair.specs.View.{sided_variable_of};
 ghost use Rattle.fs_pair.specs.Positions.{position_of, positions};
 ghost use Rattle.fs_pair.specs.Paired.{IsPairing};
-ghost use Rattle.fs_pair.specs.Answers.{TellsFault};
+ghost use Rattle.fs_pair.specs.InterfaceRefusals.{TellsFault};
 
 use crate::interfaces::first_unmatched;
 use crate::memory::NoMemory;
@@ -16,12 +16,13 @@ use crate::sided_variables::{Member, all_members, same_name_and_sort};
 use fs_ast::machine::Machine;
 use fs_model::name::Name;
 use fs_model::parts::{Role, Sort};
-use nf_terms::tree::{Pos, Side};
+use fs_model::sides::{Pos, Side};
 use std::alloc::Global;
 use std::marker::Model;
 
-/// A variable of one of two machines. `partner` is the member, in their list, of the other machine's variable of its name and sort.
-#[derive(Clone, Copy, Debug, PartialEq, Eq)]
+/// A variable of one of two machines. `partner` is the member, in their list, of the other machine's variable of its name and
+/// sort.
+#[derive(Clone, Copy)]
 pub struct Position {
     pub pos: Pos,
     pub role: Role,
@@ -52,7 +53,7 @@ impl Pairing {
     pub fn holds(&self)
         ensures { IsPairing self.now }
     {
-        let _positions = &self.positions;
+        let _positions = &self.positions; // The read tells the proof what the type promises of its values.
     }
 
     /// The variables of the left machine in order of declaration, each followed by the right
@@ -127,7 +128,8 @@ fn placed(members: &[Member<'_>], member: &Member<'_>) -> Position
 // The positions of members, in order.
 fn all_positions(alloc: Global, members: &[Member<'_>]) -> Result<Vec<Position>, NoMemory>
     requires { length members.now < 2 ^ 32 }
-    ensures { IfOk result (λ out. out.items ≡ map (position_of (map sided_variable_of members.now)) (map sided_variable_of members.now)) }
+    ensures { IfOk result
+        (λ out. out.items ≡ map (position_of (map sided_variable_of members.now)) (map sided_variable_of members.now)) }
 {
     let mut out = Vec::new(alloc);
     for member in members {

@@ -4,13 +4,14 @@ ghost use Rattle.std.specs.Prelude.{◌≡◌, ◌<◌, ◌≤◌, ◌+◌, ◌*
 ghost use Rattle.std.specs.List.{filter};
 ghost use Rattle.std.specs.Option.{option_to_list};
 ghost use Rattle.std.specs.Result.{OnOk};
-ghost use Rattle.fs_pair.specs.SidedVariables.{sided_variables, same_name_and_sort, partner_among, with_partners, is_alone, all_sided_variables};
+ghost use Rattle.fs_pair.specs.SidedVariables.{sided_variables, same_name_and_sort, partner_among, with_partners, is_alone};
+ghost use Rattle.fs_pair.specs.SidedVariables.{all_sided_variables};
 ghost use Rattle.fs_pair.specs.View.{sided_variable_of};
 
 use crate::interfaces::same_sort;
 use crate::memory::NoMemory;
 use fs_model::parts::VarInfo;
-use nf_terms::tree::{Pos, Side};
+use fs_model::sides::{Pos, Side};
 use std::alloc::Global;
 
 /// A variable and its position.
@@ -53,7 +54,9 @@ fn push_partner<'a>(
     variable: &VarInfo,
     others: &[Member<'a>],
 ) -> Result<(), NoMemory>
-    ensures { OnOk result (map sided_variable_of out.new.items ≡ map sided_variable_of out.old.items ++ option_to_list (partner_among (map sided_variable_of others.now) variable.now)) }
+    ensures { OnOk result
+        (map sided_variable_of out.new.items ≡ map sided_variable_of out.old.items
+        ++ option_to_list (partner_among (map sided_variable_of others.now) variable.now)) }
 {
     for other in others {
         if same_name_and_sort(variable, other.variable) {
@@ -70,7 +73,9 @@ fn push_pairs<'a>(
     members: &[Member<'a>],
     others: &[Member<'a>],
 ) -> Result<(), NoMemory>
-    ensures { OnOk result (map sided_variable_of out.new.items ≡ map sided_variable_of out.old.items ++ with_partners (map sided_variable_of members.now) (map sided_variable_of others.now)) }
+    ensures { OnOk result
+        (map sided_variable_of out.new.items ≡ map sided_variable_of out.old.items
+        ++ with_partners (map sided_variable_of members.now) (map sided_variable_of others.now)) }
 {
     for member in members {
         out.push(*member)?;
@@ -97,7 +102,9 @@ fn push_others<'a>(
     others: &[Member<'a>],
     members: &[Member<'a>],
 ) -> Result<(), NoMemory>
-    ensures { OnOk result (map sided_variable_of out.new.items ≡ map sided_variable_of out.old.items ++ filter (is_alone (map sided_variable_of others.now)) (map sided_variable_of members.now)) }
+    ensures { OnOk result
+        (map sided_variable_of out.new.items ≡ map sided_variable_of out.old.items
+        ++ filter (is_alone (map sided_variable_of others.now)) (map sided_variable_of members.now)) }
 {
     for member in members {
         if is_alone(others, member) {

@@ -7,3 +7,4 @@ pub mod Uses
 pub mod Noted
 pub mod Walks
 pub mod Rounds
+pub mod Unbroken

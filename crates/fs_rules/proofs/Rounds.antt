@@ -1,30 +1,30 @@
 -- Rounds: states that lead back to themselves and meet no cut.
-use Rattle.std.proofs.Common.{◌≡◌, ℕ, zero, suc, ◌+◌, ◌-◌, ◌<◌, Bool, true, false, List, [], ◌∷◌, ◌++◌, length, refl, sym, ◌∙◌, ap, ap₂, subst, inl, inr, ⊎_elim, arith, length-append}
-use Rattle.std.specs.Prelude.{◌⊎◌, ◌||◌, ◌==◌, cond, Option, Some, None, slice_index, nat_lt}
+use Rattle.std.proofs.Common.{◌≡◌, ℕ, zero, suc, ◌+◌, ◌-◌, ◌<◌, Bool, true, false, List, [], ◌∷◌, ◌++◌, length, refl, sym, ◌∙◌, ap, ap₂, subst, inl, inr}
+use Rattle.std.proofs.Common.{⊎_elim, arith, length-append}
+use Rattle.std.specs.Prelude.{◌⊎◌, ◌==◌, cond, Option, Some, None, slice_index, nat_lt}
 use Rattle.std.specs.Option.{is_some}
 use Rattle.std.specs.List.{slice_get}
-use Rattle.std.proofs.lemmas.Bool.{cases_eq}
-use Rattle.std.proofs.lemmas.Bool.Decides.{nat_tests}
+use Rattle.std.proofs.lemmas.Bool.{cases_eq, eqb-true}
 use Rattle.std.proofs.lemmas.List.Folds.{list_all-append}
 use Rattle.std.proofs.lemmas.Option.{slice_get_past, slice_get_within}
+use Rattle.base_lemmas.proofs.Booleans.{or_other}
+use Rattle.base_lemmas.proofs.Lists.{slice_get-front}
 use Rattle.fs_rules.specs.declared.uncut_cycles.Pass.{Pass}
 use Rattle.fs_rules.specs.declared.uncut_cycles.Verdict.{Verdict}
 use Rattle.fs_rules.specs.declared.uncut_cycles.Verdict.TheVariants.{Endless}
-use Rattle.fs_rules.specs.Walks.{walked, is_cut, reaches, IsRound, IsGraph, pass_at, may_pass, IsWalk, NeverEnds, AreSettled, judged, trail, closed}
-use Rattle.fs_rules.proofs.Walks.{walked_last, walked_at, walked_add, get_old, get_new, get_none, judged_never, closed_is, end_known, settle_ends, settle_told, closed_inside, and_both, some_pass, verdict_cases}
+use Rattle.fs_rules.specs.TargetWalks.{walked, is_cut, walk_reaches_cut, IsRound, IsTargetList, pass_at, may_pass, IsWalk, NeverEnds, AreSettledWalks, judged}
+use Rattle.fs_rules.specs.TargetWalks.{trail, round_of_walk}
+use Rattle.fs_rules.proofs.Walks.{walked_last, walked_at, walked_add, get_old, get_new, get_none, judged_never, closed_is, end_known, settle_ends, settle_told}
+use Rattle.fs_rules.proofs.Walks.{closed_inside, and_both, some_pass, verdict_cases}
 
 -- ---- items of lists
-
-pub get_front : {A : Type 0} (xs ys : List A) (k : ℕ) (x : A) → slice_get xs k ≡ Some x → slice_get (xs ++ ys) k ≡ Some x
-get_front [] ys k x e = absurd (cc)
-get_front (z ∷ xs) ys zero x e = e
-get_front (z ∷ xs) ys (suc k) x e = get_front xs ys k x e
 
 pub get_back : {A : Type 0} (xs ys : List A) (k : ℕ) (x : A) → slice_get ys k ≡ Some x → (j : ℕ) × (slice_get (xs ++ ys) j ≡ Some x)
 get_back [] ys k x e = (k, e)
 get_back (z ∷ xs) ys k x e = let r = get_back xs ys k x e in (suc r.0, r.1)
 
-pub get_either : {A : Type 0} (xs ys : List A) (k : ℕ) (x : A) → slice_get (xs ++ ys) k ≡ Some x → ((j : ℕ) × (slice_get xs j ≡ Some x)) ⊎ ((j : ℕ) × (slice_get ys j ≡ Some x))
+pub get_either : {A : Type 0} (xs ys : List A) (k : ℕ) (x : A) → slice_get (xs ++ ys) k ≡ Some x
+    → ((j : ℕ) × (slice_get xs j ≡ Some x)) ⊎ ((j : ℕ) × (slice_get ys j ≡ Some x))
 get_either [] ys k x e = inr (k, e)
 get_either (z ∷ xs) ys zero x e = inl (zero, e)
 get_either (z ∷ xs) ys (suc k) x e = ⊎_elim (λ l. inl (suc l.0, l.1)) (λ r. inr r) (get_either xs ys k x e)
@@ -41,7 +41,8 @@ trail_in next (suc n) (suc k) q x e = let r = trail_in next n k (slice_index nex
 
 -- ---- steps on a round
 
-step_back : (next : List ℕ) (q n : ℕ) → 0 < n → walked next n q ≡ q → (e f : ℕ) → f ≡ slice_index next e → (u : ℕ) × (walked next u e ≡ q) → (g : ℕ) → g ≡ f → (u : ℕ) × (walked next u g ≡ q)
+step_back : (next : List ℕ) (q n : ℕ) → 0 < n → walked next n q ≡ q → (e f : ℕ) → f ≡ slice_index next e → (u : ℕ) × (walked next u e ≡ q) → (g : ℕ) → g ≡ f
+    → (u : ℕ) × (walked next u g ≡ q)
 step_back next q zero some back e f is r g at = absurd (omega arith)
 step_back next q (suc n) some back e f is (zero, r) g at = (n, ap (walked next n) (at ∙ is ∙ ap (slice_index next) r) ∙ back)
 step_back next q (suc n) some back e f is (suc u, r) g at = (u, ap (walked next u) (at ∙ is) ∙ r)
@@ -49,9 +50,11 @@ step_back next q (suc n) some back e f is (suc u, r) g at = (u, ap (walked next 
 -- what leads back is led back to
 pub back_from : (next : List ℕ) (q length_ : ℕ) → 0 < length_ → walked next length_ q ≡ q → (t : ℕ) → (u : ℕ) × (walked next u (walked next t q) ≡ q)
 back_from next q n some back zero = (zero, refl)
-back_from next q n some back (suc t) = step_back next q n some back (walked next t q) (slice_index next (walked next t q)) refl (back_from next q n some back t) (walked next (suc t) q) (walked_last next t q)
+back_from next q n some back (suc t) = step_back next q n some back (walked next t q) (slice_index next (walked next t q)) refl (back_from next q n some back t)
+    (walked next (suc t) q) (walked_last next t q)
 
-around_step : (next : List ℕ) (q n : ℕ) → walked next n q ≡ q → (t i : ℕ) → i < n → walked next t q ≡ walked next i q → 0 < n → (k : ℕ) × ((k < n) × (walked next (suc t) q ≡ walked next k q))
+around_step : (next : List ℕ) (q n : ℕ) → walked next n q ≡ q → (t i : ℕ) → i < n → walked next t q ≡ walked next i q → 0 < n
+    → (k : ℕ) × ((k < n) × (walked next (suc t) q ≡ walked next k q))
 around_step next q n back t i h e some =
     let on : walked next (suc t) q ≡ walked next (suc i) q = walked_last next t q ∙ ap (slice_index next) e ∙ sym (walked_last next i q) in
     ⊎_elim (λ at. (zero, (some, on ∙ walked_at next (suc i) n q at ∙ back))) (λ apart. (suc i, (omega arith, on))) (cases_eq (suc i) n)
@@ -70,7 +73,8 @@ record Closes (next : List ℕ) (cut : List Bool) (start end steps walk : ℕ) (
   at : end ≡ walked next p.step start
   back : walked next (steps - p.step) end ≡ end
 
-closes : (next : List ℕ) (cut : List Bool) (start end steps : ℕ) (before after : List (Option Pass)) (vs : List Verdict) (found : List ℕ) (p : Pass) → AreSettled next cut before vs found → IsWalk next cut start (length vs) before after end steps
+closes : (next : List ℕ) (cut : List Bool) (start end steps : ℕ) (before after : List (Option Pass)) (vs : List Verdict) (found : List ℕ) (p : Pass)
+    → AreSettledWalks next cut before vs found → IsWalk next cut start (length vs) before after end steps
     → pass_at after end ≡ Some p → slice_get vs p.walk ≡ None → Closes next cut start end steps (length vs) after p
 closes next cut start end steps before after vs found p s w is none =
     ⊎_elim
@@ -79,23 +83,28 @@ closes next cut start end steps before after vs found p s w is none =
       own = new.0;
       step = new.1;
       at = new.2;
-      back = ap (walked next (steps - p.step)) new.2 ∙ walked_add next p.step (steps - p.step) start ∙ walked_at next (p.step + (steps - p.step)) steps start (omega (arith, new.1)) ∙ sym w.leads;
+      back = ap (walked next (steps - p.step)) new.2 ∙ walked_add next p.step (steps - p.step) start
+          ∙ walked_at next (p.step + (steps - p.step)) steps start (omega (arith, new.1)) ∙ sym w.leads;
     })
     (w.adds end p is)
 
 -- the places of such a round are those that the walk passed
-on_path : (next : List ℕ) (cut : List Bool) (start end steps walk : ℕ) (before after : List (Option Pass)) (p : Pass) → IsWalk next cut start walk before after end steps → Closes next cut start end steps walk after p
+on_path : (next : List ℕ) (cut : List Bool) (start end steps walk : ℕ) (before after : List (Option Pass)) (p : Pass)
+    → IsWalk next cut start walk before after end steps → Closes next cut start end steps walk after p
     → (i : ℕ) → i < steps - p.step → pass_at after (walked next i end) ≡ Some (record { walk = walk; step = p.step + i })
 on_path next cut start end steps walk before after p w c i h =
     ap (pass_at after) (ap (walked next i) c.at ∙ walked_add next p.step i start) ∙ w.path (p.step + i) (omega arith)
 
-settled_uncut : (next : List ℕ) (cut : List Bool) (start end steps : ℕ) (before after : List (Option Pass)) (vs : List Verdict) (found : List ℕ) → AreSettled next cut before vs found → IsWalk next cut start (length vs) before after end steps
+settled_uncut : (next : List ℕ) (cut : List Bool) (start end steps : ℕ) (before after : List (Option Pass)) (vs : List Verdict) (found : List ℕ)
+    → AreSettledWalks next cut before vs found → IsWalk next cut start (length vs) before after end steps
     → (q : ℕ) (p : Pass) → pass_at after q ≡ Some p → is_cut cut q ≡ false
 settled_uncut next cut start end steps before after vs found s w q p e = ⊎_elim (λ old. s.uncut q p old) (λ new. new.3) (w.adds q p e)
 
 -- each state of a closed round leads back to itself
-closed_round : (next : List ℕ) (cut : List Bool) (start end steps : ℕ) (before after : List (Option Pass)) (vs : List Verdict) (found : List ℕ) (p : Pass) → AreSettled next cut before vs found
-    → IsWalk next cut start (length vs) before after end steps → Closes next cut start end steps (length vs) after p → (j : ℕ) → IsRound next cut (walked next j end)
+closed_round : (next : List ℕ) (cut : List Bool) (start end steps : ℕ) (before after : List (Option Pass)) (vs : List Verdict) (found : List ℕ) (p : Pass)
+    → AreSettledWalks next cut before vs found
+    → IsWalk next cut start (length vs) before after end steps → Closes next cut start end steps (length vs) after p → (j : ℕ)
+    → IsRound next cut (walked next j end)
 closed_round next cut start end steps before after vs found p s w c j =
     let n = steps - p.step in
     let some : 0 < n = let h = c.step in omega arith in
@@ -106,23 +115,25 @@ closed_round next cut start end steps before after vs found p s w c j =
       uncut = λ m.
           let r = around next end n some c.back (j + m) in
           ap (is_cut cut) (walked_add next j m end ∙ r.1.1)
-          ∙ settled_uncut next cut start end steps before after vs found s w (walked next r.0 end) (record { walk = length vs; step = p.step + r.0 }) (on_path next cut start end steps (length vs) before after p w c r.0 r.1.0);
+          ∙ settled_uncut next cut start end steps before after vs found s w (walked next r.0 end) (record { walk = length vs; step = p.step + r.0 })
+          (on_path next cut start end steps (length vs) before after p w c r.0 r.1.0);
     }
 
-same_of : (a b : ℕ) → (a == b) ≡ true → a ≡ b
-same_of a b e = grind (arith, nat_tests)
-
-closed_if : (next : List ℕ) (own : Bool) (walk end steps k q : ℕ) (p : Pass) → (p.walk == walk) ≡ own → slice_get (cond own (trail next (steps - p.step) end) []) k ≡ Some q → (Some p ≡ Some p) × (p.walk ≡ walk) × (slice_get (trail next (steps - p.step) end) k ≡ Some q)
-closed_if next true walk end steps k q p e g = (refl, same_of p.walk walk e, g)
+closed_if : (next : List ℕ) (own : Bool) (walk end steps k q : ℕ) (p : Pass) → (p.walk == walk) ≡ own
+    → slice_get (cond own (trail next (steps - p.step) end) []) k ≡ Some q
+    → (Some p ≡ Some p) × (p.walk ≡ walk) × (slice_get (trail next (steps - p.step) end) k ≡ Some q)
+closed_if next true walk end steps k q p e g = (refl, eqb-true p.walk walk e, g)
 closed_if next false walk end steps k q p e g = absurd (cc)
 
 -- the pass at the end of a walk that closed a round
-closed_by : (next : List ℕ) (walk end steps k q : ℕ) (pass : Option Pass) → slice_get (closed next walk end steps pass) k ≡ Some q → (p : Pass) × ((pass ≡ Some p) × (p.walk ≡ walk) × (slice_get (trail next (steps - p.step) end) k ≡ Some q))
+closed_by : (next : List ℕ) (walk end steps k q : ℕ) (pass : Option Pass) → slice_get (round_of_walk next walk end steps pass) k ≡ Some q
+    → (p : Pass) × ((pass ≡ Some p) × (p.walk ≡ walk) × (slice_get (trail next (steps - p.step) end) k ≡ Some q))
 closed_by next walk end steps k q None e = absurd (cc)
 closed_by next walk end steps k q (Some p) e = (p, closed_if next (p.walk == walk) walk end steps k q p refl e)
 
-settle_rounds : (next : List ℕ) (cut : List Bool) (start end steps : ℕ) (before after : List (Option Pass)) (vs : List Verdict) (found : List ℕ) → AreSettled next cut before vs found → IsWalk next cut start (length vs) before after end steps
-    → (k q : ℕ) → slice_get (found ++ closed next (length vs) end steps (pass_at after end)) k ≡ Some q → IsRound next cut q
+settle_rounds : (next : List ℕ) (cut : List Bool) (start end steps : ℕ) (before after : List (Option Pass)) (vs : List Verdict) (found : List ℕ)
+    → AreSettledWalks next cut before vs found → IsWalk next cut start (length vs) before after end steps
+    → (k q : ℕ) → slice_get (found ++ round_of_walk next (length vs) end steps (pass_at after end)) k ≡ Some q → IsRound next cut q
 settle_rounds next cut start end steps before after vs found s w k q e =
     ⊎_elim (λ old. s.rounds old.0 q old.1)
     (λ new.
@@ -130,12 +141,14 @@ settle_rounds next cut start end steps before after vs found s w k q e =
     let c = closes next cut start end steps before after vs found b.0 s w b.1.0 (slice_get_past vs b.0.walk (omega (arith, b.1.1))) in
     let t = trail_in next (steps - b.0.step) new.0 end q b.1.2 in
     subst (IsRound next cut) (sym t.1) (closed_round next cut start end steps before after vs found b.0 s w c new.0))
-    (get_either found (closed next (length vs) end steps (pass_at after end)) k q e)
+    (get_either found (round_of_walk next (length vs) end steps (pass_at after end)) k q e)
 
 -- ---- walks without end
 
-settle_goes : (next : List ℕ) (cut : List Bool) (start end steps : ℕ) (before after : List (Option Pass)) (vs : List Verdict) (found : List ℕ) (v : Verdict) → AreSettled next cut before vs found → IsWalk next cut start (length vs) before after end steps
-    → may_pass cut after end ≡ false → v ≡ judged (is_cut cut end) (pass_at after end) steps vs → (q : ℕ) (p : Pass) → pass_at after q ≡ Some p → slice_get (vs ++ v ∷ []) p.walk ≡ Some Endless → NeverEnds after (vs ++ v ∷ []) (slice_index next q)
+settle_goes : (next : List ℕ) (cut : List Bool) (start end steps : ℕ) (before after : List (Option Pass)) (vs : List Verdict) (found : List ℕ) (v : Verdict)
+    → AreSettledWalks next cut before vs found → IsWalk next cut start (length vs) before after end steps
+    → may_pass cut after end ≡ false → v ≡ judged (is_cut cut end) (pass_at after end) steps vs → (q : ℕ) (p : Pass) → pass_at after q ≡ Some p
+    → slice_get (vs ++ v ∷ []) p.walk ≡ Some Endless → NeverEnds after (vs ++ v ∷ []) (slice_index next q)
 settle_goes next cut start end steps before after vs found v s w stop j q p e g =
     ⊎_elim
     (λ old.
@@ -153,32 +166,41 @@ settle_goes next cut start end steps before after vs found v s w stop j q p e g 
     let here : slice_index next q ≡ end = to ∙ walked_at next (suc p.step) steps start at ∙ sym w.leads in
     let is : pass_at after (slice_index next q) ≡ Some n.by = ap (pass_at after) here ∙ n.is in
     ⊎_elim
-    (λ none. let c = closes next cut start end steps before after vs found n.by s w n.is none in record { by = n.by; passes_it = is; endless = ap (slice_get (vs ++ v ∷ [])) c.own ∙ get_new vs v ∙ last })
+    (λ none. let c = closes next cut start end steps before after vs found n.by s w n.is none in
+    record { by = n.by; passes_it = is; endless = ap (slice_get (vs ++ v ∷ [])) c.own ∙ get_new vs v ∙ last })
     (λ never. record { by = n.by; passes_it = is; endless = get_old vs v n.by.walk (slice_get_within vs n.by.walk Endless never) ∙ never })
     n.there)
-    (λ apart. record { by = record { walk = length vs; step = suc p.step }; passes_it = ap (pass_at after) to ∙ w.path (suc p.step) (omega (arith, new.1)); endless = get_new vs v ∙ last })
+    (λ apart. record {
+      by = record { walk = length vs; step = suc p.step };
+      passes_it = ap (pass_at after) to ∙ w.path (suc p.step) (omega (arith, new.1));
+      endless = get_new vs v ∙ last;
+    })
     (cases_eq (suc p.step) steps))
     (w.adds q p e)
 
 -- from a state without end all states are without end
-pub all_go : (next : List ℕ) (cut : List Bool) (passes : List (Option Pass)) (vs : List Verdict) (found : List ℕ) → AreSettled next cut passes vs found → (t q : ℕ) → NeverEnds passes vs q → NeverEnds passes vs (walked next t q)
+pub all_go : (next : List ℕ) (cut : List Bool) (passes : List (Option Pass)) (vs : List Verdict) (found : List ℕ) → AreSettledWalks next cut passes vs found
+    → (t q : ℕ) → NeverEnds passes vs q → NeverEnds passes vs (walked next t q)
 all_go next cut passes vs found s zero q n = n
 all_go next cut passes vs found s (suc t) q n = all_go next cut passes vs found s t (slice_index next q) (s.goes q n.by n.passes_it n.endless)
 
-settle_found : (next : List ℕ) (cut : List Bool) (start end steps : ℕ) (before after : List (Option Pass)) (vs : List Verdict) (found : List ℕ) (v : Verdict) → AreSettled next cut before vs found → IsWalk next cut start (length vs) before after end steps
-    → may_pass cut after end ≡ false → v ≡ judged (is_cut cut end) (pass_at after end) steps vs → (q : ℕ) (p : Pass) → pass_at after q ≡ Some p → slice_get (vs ++ v ∷ []) p.walk ≡ Some Endless → IsRound next cut q
-    → (k : ℕ) × (slice_get (found ++ closed next (length vs) end steps (pass_at after end)) k ≡ Some q)
+settle_found : (next : List ℕ) (cut : List Bool) (start end steps : ℕ) (before after : List (Option Pass)) (vs : List Verdict) (found : List ℕ) (v : Verdict)
+    → AreSettledWalks next cut before vs found → IsWalk next cut start (length vs) before after end steps
+    → may_pass cut after end ≡ false → v ≡ judged (is_cut cut end) (pass_at after end) steps vs → (q : ℕ) (p : Pass) → pass_at after q ≡ Some p
+    → slice_get (vs ++ v ∷ []) p.walk ≡ Some Endless → IsRound next cut q
+    → (k : ℕ) × (slice_get (found ++ round_of_walk next (length vs) end steps (pass_at after end)) k ≡ Some q)
 settle_found next cut start end steps before after vs found v s w stop j q p e g r =
-    let more = closed next (length vs) end steps (pass_at after end) in
+    let more = round_of_walk next (length vs) end steps (pass_at after end) in
     ⊎_elim
     (λ old.
     let k = s.all q p old (sym (get_old vs v p.walk (s.known q p old)) ∙ g) r in
-    (k.0, get_front found more k.0 q k.1))
+    (k.0, slice_get-front found more k.0 q k.1))
     (λ new.
     let last : Some v ≡ Some Endless = sym (get_new vs v) ∙ ap (slice_get (vs ++ v ∷ [])) (sym new.0) ∙ g in
     let verdict : v ≡ Endless = cc in
     let n = judged_never (is_cut cut end) (pass_at after end) steps vs stop (sym j ∙ verdict) in
-    let ahead : end ≡ walked next (steps - p.step) q = w.leads ∙ walked_at next steps (p.step + (steps - p.step)) start (omega (arith, new.1)) ∙ sym (walked_add next p.step (steps - p.step) start) ∙ ap (walked next (steps - p.step)) (sym new.2) in
+    let ahead : end ≡ walked next (steps - p.step) q = w.leads ∙ walked_at next steps (p.step + (steps - p.step)) start (omega (arith, new.1))
+    ∙ sym (walked_add next p.step (steps - p.step) start) ∙ ap (walked next (steps - p.step)) (sym new.2) in
     let b = back_from next q r.steps r.some r.back (steps - p.step) in
     let back : walked next b.0 end ≡ q = ap (walked next b.0) ahead ∙ b.1 in
     ⊎_elim
@@ -187,7 +209,8 @@ settle_found next cut start end steps before after vs found v s w stop j q p e g
     let size = steps - n.by.step in
     let some : 0 < size = let h = c.step in omega arith in
     let a = around next end size some c.back b.0 in
-    let t : slice_get more a.0 ≡ Some q = ap (λ l. slice_get l a.0) (closed_is next (length vs) end steps (pass_at after end) n.by n.is c.own) ∙ trail_at next size a.0 end a.1.0 ∙ ap Some (sym a.1.1 ∙ back) in
+    let t : slice_get more a.0 ≡ Some q = ap (λ l. slice_get l a.0) (closed_is next (length vs) end steps (pass_at after end) n.by n.is c.own)
+    ∙ trail_at next size a.0 end a.1.0 ∙ ap Some (sym a.1.1 ∙ back) in
     get_back found more a.0 q t)
     (λ never.
     let there = end_known next cut start end steps before after vs n.by Endless w n.is never in
@@ -204,8 +227,9 @@ settle_found next cut start end steps before after vs found v s w stop j q p e g
 -- ---- the whole
 
 pub settle : (next : List ℕ) (cut : List Bool) (start end steps : ℕ) (before after : List (Option Pass)) (vs : List Verdict) (found : List ℕ) (v : Verdict)
-    → IsGraph next cut → AreSettled next cut before vs found → IsWalk next cut start (length vs) before after end steps → may_pass cut after end ≡ false → v ≡ judged (is_cut cut end) (pass_at after end) steps vs
-    → AreSettled next cut after (vs ++ v ∷ []) (found ++ closed next (length vs) end steps (pass_at after end))
+    → IsTargetList next cut → AreSettledWalks next cut before vs found → IsWalk next cut start (length vs) before after end steps
+    → may_pass cut after end ≡ false → v ≡ judged (is_cut cut end) (pass_at after end) steps vs
+    → AreSettledWalks next cut after (vs ++ v ∷ []) (found ++ round_of_walk next (length vs) end steps (pass_at after end))
 settle next cut start end steps before after vs found v g s w stop j =
     let long : length (vs ++ v ∷ []) ≡ length vs + 1 = length-append vs (v ∷ []) in
     record {
@@ -217,28 +241,31 @@ settle next cut start end steps before after vs found v g s w stop j =
       goes = settle_goes next cut start end steps before after vs found v s w stop j;
       rounds = settle_rounds next cut start end steps before after vs found s w;
       all = settle_found next cut start end steps before after vs found v s w stop j;
-      inside = list_all-append (λ q. nat_lt q (length next)) found (closed next (length vs) end steps (pass_at after end)) ∙ and_both s.inside (closed_inside next cut (length vs) end steps (pass_at after end) g w.within);
+      inside = list_all-append (λ q. nat_lt q (length next)) found (round_of_walk next (length vs) end steps (pass_at after end))
+          ∙ and_both s.inside (closed_inside next cut (length vs) end steps (pass_at after end) g w.within);
     }
 
-pub settle_all : (next : List ℕ) (cut : List Bool) (start end steps walk : ℕ) (before after : List (Option Pass)) (pass : Option Pass) (vs told : List Verdict) (found more : List ℕ) (v : Verdict)
-    → walk ≡ length vs → pass ≡ pass_at after end → IsGraph next cut → AreSettled next cut before vs found → IsWalk next cut start walk before after end steps → may_pass cut after end ≡ false → v ≡ judged (is_cut cut end) pass steps vs
-    → told ≡ vs ++ v ∷ [] → more ≡ found ++ closed next walk end steps pass → AreSettled next cut after told more
+pub settle_all : (next : List ℕ) (cut : List Bool) (start end steps walk : ℕ) (before after : List (Option Pass)) (pass : Option Pass) (vs told : List Verdict)
+    (found more : List ℕ) (v : Verdict)
+    → walk ≡ length vs → pass ≡ pass_at after end → IsTargetList next cut → AreSettledWalks next cut before vs found
+    → IsWalk next cut start walk before after end steps → may_pass cut after end ≡ false → v ≡ judged (is_cut cut end) pass steps vs
+    → told ≡ vs ++ v ∷ [] → more ≡ found ++ round_of_walk next walk end steps pass → AreSettledWalks next cut after told more
 settle_all next cut start end steps walk before after pass vs told found more v same at g s w stop j e f =
     let own : IsWalk next cut start (length vs) before after end steps = subst (λ k. IsWalk next cut start k before after end steps) same w in
     let all = settle next cut start end steps before after vs found v g s own stop (j ∙ ap (λ o. judged (is_cut cut end) o steps vs) at) in
-    let f' : more ≡ found ++ closed next (length vs) end steps (pass_at after end) = f ∙ ap₂ (λ (k : ℕ) (o : Option Pass). found ++ closed next k end steps o) same at in
-    subst (λ l. AreSettled next cut after l more) (sym e) (subst (λ l. AreSettled next cut after (vs ++ v ∷ []) l) (sym f') all)
+    let f' : more ≡ found ++ round_of_walk next (length vs) end steps (pass_at after end) = f
+    ∙ ap₂ (λ (k : ℕ) (o : Option Pass). found ++ round_of_walk next k end steps o) same at in
+    subst (λ l. AreSettledWalks next cut after l more) (sym e) (subst (λ l. AreSettledWalks next cut after (vs ++ v ∷ []) l) (sym f') all)
 
-or_other : (a b : Bool) → a ≡ false → (a || b) ≡ true → b ≡ true
-or_other true b e f = absurd (cc)
-or_other false b e f = f
-
-pub not_reached : (next : List ℕ) (cut : List Bool) (n q : ℕ) → reaches next cut n q ≡ true → ((k : ℕ) → is_cut cut (walked next k q) ≡ false) → ⊥
+pub not_reached : (next : List ℕ) (cut : List Bool) (n q : ℕ) → walk_reaches_cut next cut n q ≡ true → ((k : ℕ) → is_cut cut (walked next k q) ≡ false) → ⊥
 not_reached next cut zero q e f = let g : is_cut cut q ≡ false = f zero in cc
-not_reached next cut (suc n) q e f = not_reached next cut n (slice_index next q) (or_other (is_cut cut q) (reaches next cut n (slice_index next q)) (f zero) e) (λ k. f (suc k))
+not_reached next cut (suc n) q e f = not_reached next cut n (slice_index next q)
+    (or_other (is_cut cut q) (walk_reaches_cut next cut n (slice_index next q)) (f zero) e) (λ k. f (suc k))
 
 -- where all states were seen, each that leads back to itself was found
-pub all_found : (next : List ℕ) (cut : List Bool) (passes : List (Option Pass)) (vs : List Verdict) (found : List ℕ) → AreSettled next cut passes vs found → (q : ℕ) → (is_cut cut q ≡ true) ⊎ (is_some (pass_at passes q) ≡ true)
+pub all_found :
+    (next : List ℕ) (cut : List Bool) (passes : List (Option Pass)) (vs : List Verdict) (found : List ℕ) → AreSettledWalks next cut passes vs found
+    → (q : ℕ) → (is_cut cut q ≡ true) ⊎ (is_some (pass_at passes q) ≡ true)
     → IsRound next cut q → (k : ℕ) × (slice_get found k ≡ Some q)
 all_found next cut passes vs found s q seen r =
     ⊎_elim (λ at_cut. let g : is_cut cut q ≡ false = r.uncut zero in absurd (cc))

@@ -1,5 +1,6 @@
 -- Uses of two lists together.
-use Rattle.std.proofs.Common.{◌≡◌, ℕ, ◌+◌, ◌<◌, ◌≤◌, ◌==◌, length, get_or, take, drop, Bool, true, false, List, [], ◌∷◌, ◌++◌, refl, sym, ◌∙◌, ap, ap₂, append-nil, append_assoc, arith}
+use Rattle.std.proofs.Common.{◌≡◌, ℕ, ◌+◌, ◌<◌, ◌≤◌, ◌==◌, length, get_or, take, drop, Bool, true, false, List, [], ◌∷◌, ◌++◌, refl, sym, ◌∙◌, ap, ap₂}
+use Rattle.std.proofs.Common.{append-nil, append_assoc, arith}
 use Rattle.std.specs.Prelude.{not, ◌&&◌, ◌||◌, map}
 use Rattle.fs_model.specs.Terms.{Assignment, Assign, ArrayWrite, Emit}
 use Rattle.fs_model.specs.Renamed.{assignment_over}
@@ -7,10 +8,13 @@ use Rattle.fs_model.specs.Runs.{is_scalar, is_array, is_port}
 use Rattle.std.specs.List.{list_all, list_any}
 use Rattle.std.proofs.lemmas.List.{drop_all}
 use Rattle.std.proofs.lemmas.Bool.Decides.{nat_tests}
-use Rattle.fs_rules.proofs.Turns.{taken_map, left_map}
+use Rattle.fs_rules.proofs.Turns.{taken_map}
 use Rattle.std.proofs.lemmas.List.Folds.{list_all-append, list_any-append}
+use Rattle.base_lemmas.proofs.Booleans.{and_swap, not_or}
+use Rattle.base_lemmas.proofs.Lists.{map_drop_next}
 use Rattle.fs_model.specs.declared.parts.VarInfo.{VarInfo}
-use Rattle.fs_rules.specs.Sound.{other_sort_at, scalars_in_assignment, arrays_in_assignment, port_in, scalars_in_assignments, arrays_in_assignments, ports_in_assignments, emits_of, emit_count, occurs, assigned_in, all_differ}
+use Rattle.fs_rules.specs.Sound.{other_sort_at, scalars_in_assignment, arrays_in_assignment, port_in, scalars_in_assignments, arrays_in_assignments}
+use Rattle.fs_rules.specs.Sound.{ports_in_assignments, emits_of, emit_count, occurs, assigned_in, all_differ}
 use Rattle.fs_rules.specs.Rules.{is_known}
 use Rattle.fs_rules.specs.Uses.{uses_of, either_of}
 
@@ -26,12 +30,6 @@ or_both false true true d = refl
 or_both false true false d = refl
 or_both false false c d = refl
 
-and_swap : (a b c d : Bool) → ((a && b) && (c && d)) ≡ ((a && c) && (b && d))
-and_swap true true c d = refl
-and_swap true false true d = refl
-and_swap true false false d = refl
-and_swap false b c d = refl
-
 unknown_both : (a b c d e f : Bool) → (not (a && (b && c)) || not (d && (e && f))) ≡ not ((a && d) && ((b && e) && (c && f)))
 unknown_both a b c d e f = not_both a (b && c) d (e && f) ∙ ap (λ x. not ((a && d) && x)) (and_swap b c e f)
 
@@ -40,10 +38,16 @@ wrong_both a b c d e f = or_both a (b || c) d (e || f) ∙ ap (λ x. (a || d) ||
 
 pub either_uses : (vs : List VarInfo) (a b c d e f : List ℕ) → either_of (uses_of vs a b c) (uses_of vs d e f) ≡ uses_of vs (a ++ d) (b ++ e) (c ++ f)
 either_uses vs a b c d e f = λ k. record {
-  unknown = (unknown_both (list_all (is_known vs) a) (list_all (is_known vs) b) (list_all (is_known vs) c) (list_all (is_known vs) d) (list_all (is_known vs) e) (list_all (is_known vs) f)
-      ∙ ap₂ (λ (x y : Bool). not (x && y)) (sym (list_all-append (is_known vs) a d)) (ap₂ (λ (x y : Bool). x && y) (sym (list_all-append (is_known vs) b e)) (sym (list_all-append (is_known vs) c f)))) k;
-  wrong_sort = (wrong_both (list_any (other_sort_at is_scalar vs) a) (list_any (other_sort_at is_array vs) b) (list_any (other_sort_at is_port vs) c) (list_any (other_sort_at is_scalar vs) d) (list_any (other_sort_at is_array vs) e) (list_any (other_sort_at is_port vs) f)
-      ∙ ap₂ (λ (x y : Bool). x || y) (sym (list_any-append (other_sort_at is_scalar vs) a d)) (ap₂ (λ (x y : Bool). x || y) (sym (list_any-append (other_sort_at is_array vs) b e)) (sym (list_any-append (other_sort_at is_port vs) c f)))) k;
+  unknown =
+      (unknown_both (list_all (is_known vs) a) (list_all (is_known vs) b) (list_all (is_known vs) c) (list_all (is_known vs) d) (list_all (is_known vs) e)
+      (list_all (is_known vs) f)
+      ∙ ap₂ (λ (x y : Bool). not (x && y)) (sym (list_all-append (is_known vs) a d))
+      (ap₂ (λ (x y : Bool). x && y) (sym (list_all-append (is_known vs) b e)) (sym (list_all-append (is_known vs) c f)))) k;
+  wrong_sort =
+      (wrong_both (list_any (other_sort_at is_scalar vs) a) (list_any (other_sort_at is_array vs) b) (list_any (other_sort_at is_port vs) c)
+      (list_any (other_sort_at is_scalar vs) d) (list_any (other_sort_at is_array vs) e) (list_any (other_sort_at is_port vs) f)
+      ∙ ap₂ (λ (x y : Bool). x || y) (sym (list_any-append (other_sort_at is_scalar vs) a d))
+      (ap₂ (λ (x y : Bool). x || y) (sym (list_any-append (other_sort_at is_array vs) b e)) (sym (list_any-append (other_sort_at is_port vs) c f)))) k;
 }
 
 -- of terms, no port is used
@@ -58,11 +62,13 @@ either_port vs x d e = either_uses vs [] [] (x ∷ []) d e []
 
 scalars_push : (bs : List (Assignment ℕ)) (a : Assignment ℕ) → scalars_in_assignments (bs ++ a ∷ []) ≡ scalars_in_assignments bs ++ scalars_in_assignment a
 scalars_push [] a = append-nil (scalars_in_assignment a)
-scalars_push (b ∷ bs) a = ap (λ r. scalars_in_assignment b ++ r) (scalars_push bs a) ∙ sym (append_assoc (scalars_in_assignment b) (scalars_in_assignments bs) (scalars_in_assignment a))
+scalars_push (b ∷ bs) a = ap (λ r. scalars_in_assignment b ++ r) (scalars_push bs a)
+    ∙ sym (append_assoc (scalars_in_assignment b) (scalars_in_assignments bs) (scalars_in_assignment a))
 
 arrays_push : (bs : List (Assignment ℕ)) (a : Assignment ℕ) → arrays_in_assignments (bs ++ a ∷ []) ≡ arrays_in_assignments bs ++ arrays_in_assignment a
 arrays_push [] a = append-nil (arrays_in_assignment a)
-arrays_push (b ∷ bs) a = ap (λ r. arrays_in_assignment b ++ r) (arrays_push bs a) ∙ sym (append_assoc (arrays_in_assignment b) (arrays_in_assignments bs) (arrays_in_assignment a))
+arrays_push (b ∷ bs) a = ap (λ r. arrays_in_assignment b ++ r) (arrays_push bs a)
+    ∙ sym (append_assoc (arrays_in_assignment b) (arrays_in_assignments bs) (arrays_in_assignment a))
 
 ports_push : (bs : List (Assignment ℕ)) (a : Assignment ℕ) → ports_in_assignments (bs ++ a ∷ []) ≡ ports_in_assignments bs ++ port_in a
 ports_push [] a = append-nil (port_in a)
@@ -70,10 +76,12 @@ ports_push (b ∷ bs) a = ap (λ r. port_in b ++ r) (ports_push bs a) ∙ sym (a
 
 -- one more assignment
 pub uses_push : (vs : List VarInfo) (bs : List (Assignment ℕ)) (a : Assignment ℕ)
-    → either_of (uses_of vs (scalars_in_assignments bs) (arrays_in_assignments bs) (ports_in_assignments bs)) (uses_of vs (scalars_in_assignment a) (arrays_in_assignment a) (port_in a))
+    → either_of (uses_of vs (scalars_in_assignments bs) (arrays_in_assignments bs) (ports_in_assignments bs))
+    (uses_of vs (scalars_in_assignment a) (arrays_in_assignment a) (port_in a))
     ≡ uses_of vs (scalars_in_assignments (bs ++ a ∷ [])) (arrays_in_assignments (bs ++ a ∷ [])) (ports_in_assignments (bs ++ a ∷ []))
 uses_push vs bs a =
-    either_uses vs (scalars_in_assignments bs) (arrays_in_assignments bs) (ports_in_assignments bs) (scalars_in_assignment a) (arrays_in_assignment a) (port_in a)
+    either_uses vs (scalars_in_assignments bs) (arrays_in_assignments bs) (ports_in_assignments bs) (scalars_in_assignment a)
+    (arrays_in_assignment a) (port_in a)
     ∙ ap (λ x. uses_of vs x (arrays_in_assignments bs ++ arrays_in_assignment a) (ports_in_assignments bs ++ port_in a)) (sym (scalars_push bs a))
     ∙ ap₂ (uses_of vs (scalars_in_assignments (bs ++ a ∷ []))) (sym (arrays_push bs a)) (sym (ports_push bs a))
 
@@ -83,7 +91,8 @@ emits_push : (bs : List (Assignment (List ℕ))) (a : Assignment (List ℕ)) →
 emits_push [] a = omega arith
 emits_push (b ∷ bs) a = let h = emits_push bs a in omega arith
 
-pub emits_more : {T : Type 0} (over : T → Assignment (List ℕ)) (xs : List T) (i : ℕ) (x : T) → i < length xs → x ≡ get_or xs i x → emit_count (map over (take (i + 1) xs)) ≡ emit_count (map over (take i xs)) + emits_of (over x)
+pub emits_more : {T : Type 0} (over : T → Assignment (List ℕ)) (xs : List T) (i : ℕ) (x : T) → i < length xs → x ≡ get_or xs i x
+    → emit_count (map over (take (i + 1) xs)) ≡ emit_count (map over (take i xs)) + emits_of (over x)
 emits_more over xs i x h e = ap emit_count (taken_map over xs i x h e) ∙ emits_push (map over (take i xs)) (over x)
 
 one_over : {X Y : Type 0} (f : X → Y) (a : Assignment X) → emits_of (assignment_over f a) ≡ emits_of a
@@ -99,10 +108,6 @@ emits_over f (a ∷ bs) = ap₂ (λ (x y : ℕ). x + y) (one_over f a) (emits_ov
 abbrev pub are_new : (seen xs : List ℕ) → Bool
 are_new seen [] = true
 are_new seen (x ∷ xs) = not (occurs x seen) && are_new (seen ++ x ∷ []) xs
-
-not_or : (a b : Bool) → not (a || b) ≡ (not a && not b)
-not_or true b = refl
-not_or false b = refl
 
 step_new : (o r : Bool) → (o || false) ≡ false → (not o && r) ≡ r
 step_new true r h = cc
@@ -142,7 +147,8 @@ apart_push seen x (y ∷ xs) =
 new_is : (seen xs : List ℕ) → are_new seen xs ≡ (all_apart seen xs && all_differ xs)
 new_is seen [] = refl
 new_is seen (x ∷ xs) =
-    ap (λ r. not (occurs x seen) && r) (new_is (seen ++ x ∷ []) xs ∙ ap (λ a. a && all_differ xs) (apart_push seen x xs ∙ ap (λ b. all_apart seen xs && b) (apart_one x xs)))
+    ap (λ r. not (occurs x seen) && r)
+    (new_is (seen ++ x ∷ []) xs ∙ ap (λ a. a && all_differ xs) (apart_push seen x xs ∙ ap (λ b. all_apart seen xs && b) (apart_one x xs)))
     ∙ apart_cases (occurs x seen) false (all_apart seen xs) (not (occurs x xs)) (all_differ xs)
 
 apart_nil : (xs : List ℕ) → all_apart [] xs ≡ true
@@ -167,12 +173,14 @@ any_same : (p q : ℕ → Bool) → ((x : ℕ) → p x ≡ q x) → (xs : List �
 any_same p q h [] = refl
 any_same p q h (x ∷ xs) = ap₂ (λ (a b : Bool). a || b) (h x) (any_same p q h xs)
 
-none_again : (a : Assignment ℕ) (seen rest : List ℕ) → list_any (λ q. occurs q seen) (assigned_in (a ∷ [])) ≡ false → are_new seen (assigned_in (a ∷ []) ++ rest) ≡ are_new (seen ++ assigned_in (a ∷ [])) rest
+none_again : (a : Assignment ℕ) (seen rest : List ℕ) → list_any (λ q. occurs q seen) (assigned_in (a ∷ [])) ≡ false
+    → are_new seen (assigned_in (a ∷ []) ++ rest) ≡ are_new (seen ++ assigned_in (a ∷ [])) rest
 none_again (Assign x e) seen rest h = step_new (occurs x seen) (are_new (seen ++ x ∷ []) rest) h
 none_again (ArrayWrite x i e) seen rest h = ap (λ r. are_new r rest) (sym (append-nil seen))
 none_again (Emit x e) seen rest h = ap (λ r. are_new r rest) (sym (append-nil seen))
 
-some_again : (a : Assignment ℕ) (seen rest : List ℕ) → list_any (λ q. occurs q seen) (assigned_in (a ∷ [])) ≡ true → are_new seen (assigned_in (a ∷ []) ++ rest) ≡ false
+some_again : (a : Assignment ℕ) (seen rest : List ℕ) → list_any (λ q. occurs q seen) (assigned_in (a ∷ [])) ≡ true
+    → are_new seen (assigned_in (a ∷ []) ++ rest) ≡ false
 some_again (Assign x e) seen rest h = step_old (occurs x seen) (are_new (seen ++ x ∷ []) rest) h
 some_again (ArrayWrite x i e) seen rest h = cc
 some_again (Emit x e) seen rest h = cc
@@ -185,27 +193,34 @@ pub record SeenTo (T : Type 0) (over : T → Assignment ℕ) (xs : List T) (i : 
 pub seen_start : {T : Type 0} (over : T → Assignment ℕ) (xs : List T) (has : ℕ → Bool) → ((q : ℕ) → has q ≡ false) → SeenTo T over xs 0 has
 seen_start over xs has h = record { seen = h; rest = new_differ (assigned_in (map over xs)) }
 
-pub seen_more : {T : Type 0} (over : T → Assignment ℕ) (xs : List T) (i : ℕ) (x : T) → i < length xs → x ≡ get_or xs i x → (has more : ℕ → Bool) → SeenTo T over xs i has
+pub seen_more : {T : Type 0} (over : T → Assignment ℕ) (xs : List T) (i : ℕ) (x : T) → i < length xs → x ≡ get_or xs i x → (has more : ℕ → Bool)
+    → SeenTo T over xs i has
     → false ≡ list_any has (assigned_in (over x ∷ [])) → ((q : ℕ) → more q ≡ (has q || occurs q (assigned_in (over x ∷ [])))) → SeenTo T over xs (i + 1) more
 seen_more over xs i x h e has more s again put =
     let done = assigned_in (map over (take i xs)) in
     let one = assigned_in (over x ∷ []) in
-    let t : assigned_in (map over (take (i + 1) xs)) ≡ done ++ one = ap assigned_in (taken_map over xs i x h e) ∙ assigned_push (map over (take i xs)) (over x) in
-    let l : assigned_in (map over (drop i xs)) ≡ one ++ assigned_in (map over (drop (i + 1) xs)) = ap assigned_in (left_map over xs i x h e) ∙ one_in (over x) (map over (drop (i + 1) xs)) in
+    let t : assigned_in (map over (take (i + 1) xs)) ≡ done ++ one = ap assigned_in (taken_map over xs i x h e)
+    ∙ assigned_push (map over (take i xs)) (over x) in
+    let l : assigned_in (map over (drop i xs)) ≡ one ++ assigned_in (map over (drop (i + 1) xs)) = ap assigned_in (map_drop_next over xs i x h e)
+    ∙ one_in (over x) (map over (drop (i + 1) xs)) in
     let none : list_any (λ q. occurs q done) one ≡ false = sym (any_same has (λ q. occurs q done) s.seen one) ∙ sym again in
     record {
       seen = λ q. put q ∙ ap (λ b. b || occurs q one) (s.seen q) ∙ sym (list_any-append (λ y. y == q) done one) ∙ ap (occurs q) (sym t);
-      rest = ap (λ d. are_new d (assigned_in (map over (drop (i + 1) xs)))) t ∙ sym (none_again (over x) done (assigned_in (map over (drop (i + 1) xs))) none) ∙ ap (are_new done) (sym l) ∙ s.rest;
+      rest = ap (λ d. are_new d (assigned_in (map over (drop (i + 1) xs)))) t ∙ sym (none_again (over x) done (assigned_in (map over (drop (i + 1) xs))) none)
+          ∙ ap (are_new done) (sym l) ∙ s.rest;
     }
 
-pub seen_again : {T : Type 0} (over : T → Assignment ℕ) (xs : List T) (i : ℕ) (x : T) → i < length xs → x ≡ get_or xs i x → (has : ℕ → Bool) → SeenTo T over xs i has
+pub seen_again : {T : Type 0} (over : T → Assignment ℕ) (xs : List T) (i : ℕ) (x : T) → i < length xs → x ≡ get_or xs i x → (has : ℕ → Bool)
+    → SeenTo T over xs i has
     → true ≡ list_any has (assigned_in (over x ∷ [])) → all_differ (assigned_in (map over xs)) ≡ false
 seen_again over xs i x h e has s again =
     let done = assigned_in (map over (take i xs)) in
     let one = assigned_in (over x ∷ []) in
-    let l : assigned_in (map over (drop i xs)) ≡ one ++ assigned_in (map over (drop (i + 1) xs)) = ap assigned_in (left_map over xs i x h e) ∙ one_in (over x) (map over (drop (i + 1) xs)) in
+    let l : assigned_in (map over (drop i xs)) ≡ one ++ assigned_in (map over (drop (i + 1) xs)) = ap assigned_in (map_drop_next over xs i x h e)
+    ∙ one_in (over x) (map over (drop (i + 1) xs)) in
     let some : list_any (λ q. occurs q done) one ≡ true = sym (any_same has (λ q. occurs q done) s.seen one) ∙ sym again in
     sym s.rest ∙ ap (are_new done) l ∙ some_again (over x) done (assigned_in (map over (drop (i + 1) xs))) some
 
-pub seen_all : {T : Type 0} (over : T → Assignment ℕ) (xs : List T) (i : ℕ) (has : ℕ → Bool) → length xs ≤ i → SeenTo T over xs i has → all_differ (assigned_in (map over xs)) ≡ true
+pub seen_all : {T : Type 0} (over : T → Assignment ℕ) (xs : List T) (i : ℕ) (has : ℕ → Bool) → length xs ≤ i → SeenTo T over xs i has
+    → all_differ (assigned_in (map over xs)) ≡ true
 seen_all over xs i has h s = sym s.rest ∙ ap (λ r. are_new (assigned_in (map over (take i xs))) (assigned_in (map over r))) (drop_all i xs h)

@@ -1,6 +1,7 @@
 -- One walk, and what it settles.
-use Rattle.std.proofs.Common.{◌≡◌, ◌≢◌, ℕ, zero, suc, ◌+◌, ◌-◌, ◌<◌, ◌≤◌, Bool, true, false, List, [], ◌∷◌, ◌++◌, length, refl, sym, ◌∙◌, ap, ap₂, subst, inl, inr, arith, length-append, ⊎_elim, ◌^◌, eq-eqb}
-use Rattle.std.proofs.lemmas.Bool.{cases_eq}
+use Rattle.std.proofs.Common.{◌≡◌, ◌≢◌, ℕ, zero, suc, ◌+◌, ◌-◌, ◌<◌, ◌≤◌, Bool, true, false, List, [], ◌∷◌, ◌++◌, length, refl, sym, ◌∙◌, ap, ap₂, subst, inl}
+use Rattle.std.proofs.Common.{inr, arith, length-append, ⊎_elim, ◌^◌, eq-eqb}
+use Rattle.std.proofs.lemmas.Bool.{cases_eq, or_left, or_right}
 use Rattle.std.specs.Prelude.{◌⊎◌, ◌||◌, ◌&&◌, ◌==◌, not, cond, Option, Some, None, slice_index, nat_lt}
 use Rattle.std.specs.Option.{is_some}
 use Rattle.std.specs.List.{slice_get, list_all}
@@ -12,7 +13,8 @@ use Rattle.std.proofs.lemmas.Option.{slice_get_past, slice_get_within}
 use Rattle.fs_rules.specs.declared.uncut_cycles.Pass.{Pass}
 use Rattle.fs_rules.specs.declared.uncut_cycles.Verdict.{Verdict}
 use Rattle.fs_rules.specs.declared.uncut_cycles.Verdict.TheVariants.{Ends, Endless}
-use Rattle.fs_rules.specs.Walks.{walked, is_cut, reaches, IsGraph, pass_at, passed, may_pass, IsWalk, AreSettled, judged, judged_by, trail, closed}
+use Rattle.fs_rules.specs.TargetWalks.{walked, is_cut, walk_reaches_cut, IsTargetList, pass_at, pass_count, may_pass, IsWalk, AreSettledWalks, judged}
+use Rattle.fs_rules.specs.TargetWalks.{judged_by, trail, round_of_walk}
 
 -- ---- steps
 
@@ -27,14 +29,6 @@ pub walked_add : (next : List ℕ) (n m q : ℕ) → walked next m (walked next 
 walked_add next zero m q = walked_at next m (zero + m) q (omega arith)
 walked_add next (suc n) m q = walked_add next n m (slice_index next q) ∙ walked_at next (suc (n + m)) (suc n + m) q (omega arith)
 
-reaches_or : (c r : Bool) → r ≡ true → (c || r) ≡ true
-reaches_or true r e = refl
-reaches_or false r e = e
-
-or_left : (c r : Bool) → c ≡ true → (c || r) ≡ true
-or_left true r e = refl
-or_left false r e = absurd (cc)
-
 more_or : (c r s : Bool) → (r ≡ true → s ≡ true) → (c || r) ≡ true → (c || s) ≡ true
 more_or true r s f e = refl
 more_or false r s f e = f e
@@ -46,29 +40,33 @@ suc_left : (n m : ℕ) → suc (n + m) ≡ suc n + m
 suc_left n m = omega arith
 
 -- a state that leads to one from which a cut comes
-pub reaches_through : (next : List ℕ) (cut : List Bool) (n m q : ℕ) → reaches next cut m (walked next n q) ≡ true → reaches next cut (n + m) q ≡ true
-reaches_through next cut zero m q e = subst (λ k. reaches next cut k q ≡ true) (zero_left m) e
+pub reaches_through : (next : List ℕ) (cut : List Bool) (n m q : ℕ) → walk_reaches_cut next cut m (walked next n q) ≡ true
+    → walk_reaches_cut next cut (n + m) q ≡ true
+reaches_through next cut zero m q e = subst (λ k. walk_reaches_cut next cut k q ≡ true) (zero_left m) e
 reaches_through next cut (suc n) m q e =
-    subst (λ k. reaches next cut k q ≡ true) (suc_left n m) (reaches_or (is_cut cut q) (reaches next cut (n + m) (slice_index next q)) (reaches_through next cut n m (slice_index next q) e))
+    subst (λ k. walk_reaches_cut next cut k q ≡ true) (suc_left n m)
+    (or_right (is_cut cut q) (walk_reaches_cut next cut (n + m) (slice_index next q)) (reaches_through next cut n m (slice_index next q) e))
 
-pub reaches_more : (next : List ℕ) (cut : List Bool) (n q : ℕ) → reaches next cut n q ≡ true → reaches next cut (suc n) q ≡ true
-reaches_more next cut zero q e = or_left (is_cut cut q) (reaches next cut zero (slice_index next q)) e
-reaches_more next cut (suc n) q e = more_or (is_cut cut q) (reaches next cut n (slice_index next q)) (reaches next cut (suc n) (slice_index next q)) (reaches_more next cut n (slice_index next q)) e
+pub reaches_more : (next : List ℕ) (cut : List Bool) (n q : ℕ) → walk_reaches_cut next cut n q ≡ true → walk_reaches_cut next cut (suc n) q ≡ true
+reaches_more next cut zero q e = or_left (is_cut cut q) (walk_reaches_cut next cut zero (slice_index next q)) e
+reaches_more next cut (suc n) q e = more_or (is_cut cut q) (walk_reaches_cut next cut n (slice_index next q))
+    (walk_reaches_cut next cut (suc n) (slice_index next q)) (reaches_more next cut n (slice_index next q)) e
 
-pub reaches_longer : (next : List ℕ) (cut : List Bool) (k n q : ℕ) → reaches next cut n q ≡ true → reaches next cut (k + n) q ≡ true
-reaches_longer next cut zero n q e = subst (λ j. reaches next cut j q ≡ true) (zero_left n) e
-reaches_longer next cut (suc k) n q e = subst (λ j. reaches next cut j q ≡ true) (suc_left k n) (reaches_more next cut (k + n) q (reaches_longer next cut k n q e))
+pub reaches_longer : (next : List ℕ) (cut : List Bool) (k n q : ℕ) → walk_reaches_cut next cut n q ≡ true → walk_reaches_cut next cut (k + n) q ≡ true
+reaches_longer next cut zero n q e = subst (λ j. walk_reaches_cut next cut j q ≡ true) (zero_left n) e
+reaches_longer next cut (suc k) n q e = subst (λ j. walk_reaches_cut next cut j q ≡ true) (suc_left k n)
+    (reaches_more next cut (k + n) q (reaches_longer next cut k n q e))
 
-pub reaches_cut : (next : List ℕ) (cut : List Bool) (n q : ℕ) → is_cut cut q ≡ true → reaches next cut n q ≡ true
+pub reaches_cut : (next : List ℕ) (cut : List Bool) (n q : ℕ) → is_cut cut q ≡ true → walk_reaches_cut next cut n q ≡ true
 reaches_cut next cut zero q e = e
-reaches_cut next cut (suc n) q e = or_left (is_cut cut q) (reaches next cut n (slice_index next q)) e
+reaches_cut next cut (suc n) q e = or_left (is_cut cut q) (walk_reaches_cut next cut n (slice_index next q)) e
 
 -- ---- one more pass
 
 abbrev mark : Option Pass → ℕ
 mark x = cond (is_some x) 1 0
 
-pub passed_set : (xs : List (Option Pass)) (i : ℕ) (p : Pass) → i < length xs → pass_at xs i ≡ None → passed (set xs i (Some p)) ≡ passed xs + 1
+pub passed_set : (xs : List (Option Pass)) (i : ℕ) (p : Pass) → i < length xs → pass_at xs i ≡ None → pass_count (set xs i (Some p)) ≡ pass_count xs + 1
 passed_set xs i p h e =
     let s = sum_by-set mark xs i (Some p) None h in
     let none : mark (pass_at xs i) ≡ 0 = ap mark e in
@@ -83,8 +81,10 @@ put_other xs i q p o none there =
     let apart : q ≢ i = λ e. let same : pass_at xs q ≡ None = ap (pass_at xs) e ∙ none in cc in
     get_or-set_other xs i q (Some p) None apart ∙ there
 
-added_at : (next : List ℕ) (cut : List Bool) (start walk : ℕ) (after : List (Option Pass)) (end steps q : ℕ) (p : Pass) → end ≡ walked next steps start → is_cut cut end ≡ false → end < length after → q ≡ end
-    → pass_at (put_pass after end (record { walk = walk; step = steps })) q ≡ Some p → (p.walk ≡ walk) × (p.step < steps + 1) × (q ≡ walked next p.step start) × (is_cut cut q ≡ false)
+added_at : (next : List ℕ) (cut : List Bool) (start walk : ℕ) (after : List (Option Pass)) (end steps q : ℕ) (p : Pass) → end ≡ walked next steps start
+    → is_cut cut end ≡ false → end < length after → q ≡ end
+    → pass_at (put_pass after end (record { walk = walk; step = steps })) q ≡ Some p
+    → (p.walk ≡ walk) × (p.step < steps + 1) × (q ≡ walked next p.step start) × (is_cut cut q ≡ false)
 added_at next cut start walk after end steps q p leads uncut inside at e =
     let r : Pass = record { walk = walk; step = steps } in
     let there : pass_at (put_pass after end r) q ≡ Some r = ap (pass_at (put_pass after end r)) at ∙ get_or-set_same after end (Some r) None inside in
@@ -100,7 +100,8 @@ path_at next start walk after end steps k leads inside at =
     ∙ get_or-set_same after end (Some r) None inside
     ∙ ap (λ j. Some (record { walk = walk; step = j })) (sym at)
 
-pub walk_start : (next : List ℕ) (cut : List Bool) (start walk : ℕ) (before : List (Option Pass)) → start < length next → IsWalk next cut start walk before before start 0
+pub walk_start : (next : List ℕ) (cut : List Bool) (start walk : ℕ) (before : List (Option Pass)) → start < length next
+    → IsWalk next cut start walk before before start 0
 walk_start next cut start walk before h = record {
   same = refl;
   leads = refl;
@@ -111,7 +112,8 @@ walk_start next cut start walk before h = record {
   count = omega arith;
 }
 
-pub walk_more : (next : List ℕ) (cut : List Bool) (start walk : ℕ) (before after : List (Option Pass)) (end steps : ℕ) → IsGraph next cut → length before ≡ length next → IsWalk next cut start walk before after end steps
+pub walk_more : (next : List ℕ) (cut : List Bool) (start walk : ℕ) (before after : List (Option Pass)) (end steps : ℕ) → IsTargetList next cut
+    → length before ≡ length next → IsWalk next cut start walk before after end steps
     → is_cut cut end ≡ false → pass_at after end ≡ None
     → IsWalk next cut start walk before (put_pass after end (record { walk = walk; step = steps })) (slice_index next end) (steps + 1)
 walk_more next cut start walk before after end steps g same w uncut none =
@@ -122,9 +124,12 @@ walk_more next cut start walk before after end steps g same w uncut none =
       leads = ap (slice_index next) w.leads ∙ sym (walked_last next steps start) ∙ walked_at next (suc steps) (steps + 1) start (omega arith);
       within = g.leads end w.within;
       keeps = λ q p e. put_other after end q r p none (w.keeps q p e);
-      adds = λ q p e. ⊎_elim (λ at. inr (added_at next cut start walk after end steps q p w.leads uncut inside at e)) (λ apart. ⊎_elim (λ old. inl old) (λ new. inr (new.0, omega arith, new.2, new.3)) (w.adds q p (sym (get_or-set_other after end q (Some r) None apart) ∙ e))) (cases_eq q end);
-      path = λ k h. ⊎_elim (λ at. path_at next start walk after end steps k w.leads inside at) (λ apart. put_other after end (walked next k start) r (record { walk = walk; step = k }) none (w.path k (omega arith))) (cases_eq k steps);
-      count = let c : passed (put_pass after end r) ≡ passed after + 1 = passed_set after end r inside none in omega (arith, w.count);
+      adds = λ q p e. ⊎_elim (λ at. inr (added_at next cut start walk after end steps q p w.leads uncut inside at e))
+          (λ apart. ⊎_elim (λ old. inl old) (λ new. inr (new.0, omega arith, new.2, new.3))
+          (w.adds q p (sym (get_or-set_other after end q (Some r) None apart) ∙ e))) (cases_eq q end);
+      path = λ k h. ⊎_elim (λ at. path_at next start walk after end steps k w.leads inside at)
+          (λ apart. put_other after end (walked next k start) r (record { walk = walk; step = k }) none (w.path k (omega arith))) (cases_eq k steps);
+      count = let c : pass_count (put_pass after end r) ≡ pass_count after + 1 = passed_set after end r inside none in omega (arith, w.count);
     }
 
 -- ---- verdicts
@@ -151,12 +156,14 @@ record Through (pass : Option Pass) (steps total : ℕ) (vs : List Verdict) : Ty
   there : slice_get vs by.walk ≡ Some (Ends base)
   sum : total ≡ base - by.step + steps
 
-judged_by_ends : (o : Option Verdict) (p : Pass) (steps total : ℕ) (vs : List Verdict) → slice_get vs p.walk ≡ o → judged_by steps p o ≡ Ends total → Through (Some p) steps total vs
+judged_by_ends : (o : Option Verdict) (p : Pass) (steps total : ℕ) (vs : List Verdict) → slice_get vs p.walk ≡ o → judged_by steps p o ≡ Ends total
+    → Through (Some p) steps total vs
 judged_by_ends None p steps total vs at e = absurd (cc)
 judged_by_ends (Some Endless) p steps total vs at e = absurd (cc)
 judged_by_ends (Some (Ends base)) p steps total vs at e = record { by = p; base = base; is = refl; there = at; sum = cc }
 
-judged_ends : (c : Bool) (pass : Option Pass) (steps total : ℕ) (vs : List Verdict) → judged c pass steps vs ≡ Ends total → ((c ≡ true) × (total ≡ steps)) ⊎ Through pass steps total vs
+judged_ends : (c : Bool) (pass : Option Pass) (steps total : ℕ) (vs : List Verdict) → judged c pass steps vs ≡ Ends total
+    → ((c ≡ true) × (total ≡ steps)) ⊎ Through pass steps total vs
 judged_ends true pass steps total vs e = inl (refl, cc)
 judged_ends false None steps total vs e = absurd (cc)
 judged_ends false (Some p) steps total vs e = inr (judged_by_ends (slice_get vs p.walk) p steps total vs refl e)
@@ -172,7 +179,8 @@ judged_by_never None p steps vs at e = record { by = p; is = refl; there = inl a
 judged_by_never (Some Endless) p steps vs at e = record { by = p; is = refl; there = inr at }
 judged_by_never (Some (Ends base)) p steps vs at e = absurd (cc)
 
-pub judged_never : (c : Bool) (pass : Option Pass) (steps : ℕ) (vs : List Verdict) → (not c && not (is_some pass)) ≡ false → judged c pass steps vs ≡ Endless → Never pass vs
+pub judged_never : (c : Bool) (pass : Option Pass) (steps : ℕ) (vs : List Verdict) → (not c && not (is_some pass)) ≡ false → judged c pass steps vs ≡ Endless
+    → Never pass vs
 judged_never true pass steps vs stop e = absurd (cc)
 judged_never false None steps vs stop e = absurd (cc)
 judged_never false (Some p) steps vs stop e = judged_by_never (slice_get vs p.walk) p steps vs refl e
@@ -181,17 +189,22 @@ pub length_trail : (next : List ℕ) (n q : ℕ) → length (trail next n q) ≡
 length_trail next zero q = refl
 length_trail next (suc n) q = ap suc (length_trail next n (slice_index next q))
 
-pub closed_is : (next : List ℕ) (walk end steps : ℕ) (pass : Option Pass) (p : Pass) → pass ≡ Some p → p.walk ≡ walk → closed next walk end steps pass ≡ trail next (steps - p.step) end
-closed_is next walk end steps pass p is own = ap (closed next walk end steps) is ∙ ap (λ b. cond b (trail next (steps - p.step) end) []) (eq-eqb p.walk walk own)
+pub closed_is : (next : List ℕ) (walk end steps : ℕ) (pass : Option Pass) (p : Pass) → pass ≡ Some p → p.walk ≡ walk
+    → round_of_walk next walk end steps pass ≡ trail next (steps - p.step) end
+closed_is next walk end steps pass p is own = ap (round_of_walk next walk end steps) is
+    ∙ ap (λ b. cond b (trail next (steps - p.step) end) []) (eq-eqb p.walk walk own)
 
 -- a state passed on the way to an end from which a cut comes
-reach_new : (next : List ℕ) (cut : List Bool) (start end steps step q m : ℕ) → end ≡ walked next steps start → q ≡ walked next step start → step < steps → reaches next cut m end ≡ true → reaches next cut (steps - step + m) q ≡ true
+reach_new : (next : List ℕ) (cut : List Bool) (start end steps step q m : ℕ) → end ≡ walked next steps start → q ≡ walked next step start → step < steps
+    → walk_reaches_cut next cut m end ≡ true → walk_reaches_cut next cut (steps - step + m) q ≡ true
 reach_new next cut start end steps step q m ends at h r =
-    let way : walked next (steps - step) q ≡ end = ap (walked next (steps - step)) at ∙ walked_add next step (steps - step) start ∙ walked_at next (step + (steps - step)) steps start (omega arith) ∙ sym ends in
-    reaches_through next cut (steps - step) m q (ap (reaches next cut m) way ∙ r)
+    let way : walked next (steps - step) q ≡ end = ap (walked next (steps - step)) at ∙ walked_add next step (steps - step) start
+    ∙ walked_at next (step + (steps - step)) steps start (omega arith) ∙ sym ends in
+    reaches_through next cut (steps - step) m q (ap (walk_reaches_cut next cut m) way ∙ r)
 
 -- the pass at the end of a walk, where its walk has a verdict
-pub end_known : (next : List ℕ) (cut : List Bool) (start end steps : ℕ) (before after : List (Option Pass)) (vs : List Verdict) (p : Pass) (v : Verdict) → IsWalk next cut start (length vs) before after end steps
+pub end_known : (next : List ℕ) (cut : List Bool) (start end steps : ℕ) (before after : List (Option Pass)) (vs : List Verdict) (p : Pass) (v : Verdict)
+    → IsWalk next cut start (length vs) before after end steps
     → pass_at after end ≡ Some p → slice_get vs p.walk ≡ Some v → pass_at before end ≡ Some p
 end_known next cut start end steps before after vs p v w is there =
     ⊎_elim (λ old. old) (λ new. let past : slice_get vs p.walk ≡ None = slice_get_past vs p.walk (omega (arith, new.0)) in absurd (cc)) (w.adds end p is)
@@ -206,8 +219,10 @@ fill_sum : (n m : ℕ) → n ≤ m → m - n + n ≡ m
 fill_sum n m h = omega arith
 
 pub settle_ends : (next : List ℕ) (cut : List Bool) (start end steps : ℕ) (before after : List (Option Pass)) (vs : List Verdict) (found : List ℕ) (v : Verdict)
-    → AreSettled next cut before vs found → IsWalk next cut start (length vs) before after end steps → v ≡ judged (is_cut cut end) (pass_at after end) steps vs
-    → (q : ℕ) (p : Pass) (total : ℕ) → pass_at after q ≡ Some p → slice_get (vs ++ v ∷ []) p.walk ≡ Some (Ends total) → (p.step ≤ total) × (total ≤ passed after) × (reaches next cut (total - p.step) q ≡ true)
+    → AreSettledWalks next cut before vs found → IsWalk next cut start (length vs) before after end steps
+    → v ≡ judged (is_cut cut end) (pass_at after end) steps vs
+    → (q : ℕ) (p : Pass) (total : ℕ) → pass_at after q ≡ Some p → slice_get (vs ++ v ∷ []) p.walk ≡ Some (Ends total)
+    → (p.step ≤ total) × (total ≤ pass_count after) × (walk_reaches_cut next cut (total - p.step) q ≡ true)
 settle_ends next cut start end steps before after vs found v s w j q p total e g =
     ⊎_elim
     (λ old.
@@ -219,20 +234,27 @@ settle_ends next cut start end steps before after vs found v s w j q p total e g
     let verdict : v ≡ Ends total = cc in
     ⊎_elim
     (λ at_cut.
-    let r = reach_new next cut start end steps p.step q 0 w.leads new.2 new.1 at_cut.0 in
-    (omega (arith, at_cut.1, new.1), omega (arith, at_cut.1, w.count), subst (λ n. reaches next cut n q ≡ true) (cut_sum steps p.step total at_cut.1) r))
+    let r = reach_new next cut start end steps p.step q 0 w.leads new.2 new.1 at_cut.0 in (
+      omega (arith, at_cut.1, new.1),
+      omega (arith, at_cut.1, w.count),
+      subst (λ n. walk_reaches_cut next cut n q ≡ true) (cut_sum steps p.step total at_cut.1) r,
+    ))
     (λ t.
     let f = s.ends end t.by t.base (end_known next cut start end steps before after vs t.by (Ends t.base) w t.is t.there) t.there in
-    let r = reach_new next cut start end steps p.step q (t.base - t.by.step) w.leads new.2 new.1 f.2 in
-    (omega (arith, t.sum, new.1), omega (arith, t.sum, f.1, w.count), subst (λ n. reaches next cut n q ≡ true) (through_sum steps p.step total (t.base - t.by.step) new.1 t.sum) r))
+    let r = reach_new next cut start end steps p.step q (t.base - t.by.step) w.leads new.2 new.1 f.2 in (
+      omega (arith, t.sum, new.1),
+      omega (arith, t.sum, f.1, w.count),
+      subst (λ n. walk_reaches_cut next cut n q ≡ true) (through_sum steps p.step total (t.base - t.by.step) new.1 t.sum) r,
+    ))
     (judged_ends (is_cut cut end) (pass_at after end) steps total vs (sym j ∙ verdict)))
     (w.adds q p e)
 
 pub settle_told : (next : List ℕ) (cut : List Bool) (start end steps : ℕ) (before after : List (Option Pass)) (vs : List Verdict) (found : List ℕ) (v : Verdict)
-    → AreSettled next cut before vs found → IsWalk next cut start (length vs) before after end steps → may_pass cut after end ≡ false → v ≡ judged (is_cut cut end) (pass_at after end) steps vs
-    → (k : ℕ) → slice_get (vs ++ v ∷ []) k ≡ Some Endless → 0 < length (found ++ closed next (length vs) end steps (pass_at after end))
+    → AreSettledWalks next cut before vs found → IsWalk next cut start (length vs) before after end steps → may_pass cut after end ≡ false
+    → v ≡ judged (is_cut cut end) (pass_at after end) steps vs
+    → (k : ℕ) → slice_get (vs ++ v ∷ []) k ≡ Some Endless → 0 < length (found ++ round_of_walk next (length vs) end steps (pass_at after end))
 settle_told next cut start end steps before after vs found v s w stop j k g =
-    let more = closed next (length vs) end steps (pass_at after end) in
+    let more = round_of_walk next (length vs) end steps (pass_at after end) in
     let whole : length (found ++ more) ≡ length found + length more = length-append found more in
     let inside : k < length (vs ++ v ∷ []) = slice_get_within (vs ++ v ∷ []) k Endless g in
     let long : length (vs ++ v ∷ []) ≡ length vs + 1 = length-append vs (v ∷ []) in
@@ -246,7 +268,8 @@ settle_told next cut start end steps before after vs found v s w stop j k g =
     ⊎_elim
     (λ old. let h = s.known end n.by old in let past = get_none vs n.by.walk none in absurd (omega arith))
     (λ new.
-    let made : length more ≡ steps - n.by.step = ap length (closed_is next (length vs) end steps (pass_at after end) n.by n.is new.0) ∙ length_trail next (steps - n.by.step) end in
+    let made : length more ≡ steps - n.by.step = ap length (closed_is next (length vs) end steps (pass_at after end) n.by n.is new.0)
+    ∙ length_trail next (steps - n.by.step) end in
     omega (arith, new.1))
     (w.adds end n.by n.is))
     (λ never. let h = s.told n.by.walk never in omega arith)
@@ -261,35 +284,41 @@ cond_inside : (n : ℕ) (b : Bool) (qs : List ℕ) → list_all (λ k. nat_lt k 
 cond_inside n true qs e = e
 cond_inside n false qs e = refl
 
-trail_inside : (next : List ℕ) (cut : List Bool) (n q : ℕ) → IsGraph next cut → q < length next → list_all (λ k. nat_lt k (length next)) (trail next n q) ≡ true
+trail_inside : (next : List ℕ) (cut : List Bool) (n q : ℕ) → IsTargetList next cut → q < length next
+    → list_all (λ k. nat_lt k (length next)) (trail next n q) ≡ true
 trail_inside next cut zero q g h = refl
 trail_inside next cut (suc n) q g h = and_both (grind (arith, nat_tests)) (trail_inside next cut n (slice_index next q) g (g.leads q h))
 
-pub closed_inside : (next : List ℕ) (cut : List Bool) (walk end steps : ℕ) (pass : Option Pass) → IsGraph next cut → end < length next → list_all (λ k. nat_lt k (length next)) (closed next walk end steps pass) ≡ true
+pub closed_inside : (next : List ℕ) (cut : List Bool) (walk end steps : ℕ) (pass : Option Pass) → IsTargetList next cut → end < length next
+    → list_all (λ k. nat_lt k (length next)) (round_of_walk next walk end steps pass) ≡ true
 closed_inside next cut walk end steps None g h = refl
-closed_inside next cut walk end steps (Some p) g h = cond_inside (length next) (p.walk == walk) (trail next (steps - p.step) end) (trail_inside next cut (steps - p.step) end g h)
+closed_inside next cut walk end steps (Some p) g h = cond_inside (length next) (p.walk == walk) (trail next (steps - p.step) end)
+    (trail_inside next cut (steps - p.step) end g h)
 
 -- what is asked of the verdict before
 pub judge_safe : (next : List ℕ) (cut : List Bool) (start end steps : ℕ) (before after : List (Option Pass)) (vs : List Verdict) (found : List ℕ)
-    → AreSettled next cut before vs found → IsWalk next cut start (length vs) before after end steps → length after < 2 ^ 63
+    → AreSettledWalks next cut before vs found → IsWalk next cut start (length vs) before after end steps → length after < 2 ^ 63
     → (p : Pass) (total : ℕ) → pass_at after end ≡ Some p → slice_get vs p.walk ≡ Some (Ends total) → (p.step ≤ total) × (total + steps < 2 ^ 63)
 judge_safe next cut start end steps before after vs found s w small p total is there =
     let f = s.ends end p total (end_known next cut start end steps before after vs p (Ends total) w is there) there in
-    let most : passed after ≤ length after = count_by-le-length (λ x. is_some x) after in
+    let most : pass_count after ≤ length after = count_by-le-length (λ x. is_some x) after in
     (f.0, omega (arith, f.1, w.count))
 
 pub some_pass : (o : Option Pass) → is_some o ≡ true → (p : Pass) × (o ≡ Some p)
 some_pass None e = absurd (cc)
 some_pass (Some p) e = (p, refl)
 
-pub verdict_cases : (vs : List Verdict) (w : ℕ) (o : Option Verdict) → slice_get vs w ≡ o → w < length vs → (slice_get vs w ≡ Some Endless) ⊎ ((total : ℕ) × (slice_get vs w ≡ Some (Ends total)))
+pub verdict_cases : (vs : List Verdict) (w : ℕ) (o : Option Verdict) → slice_get vs w ≡ o → w < length vs
+    → (slice_get vs w ≡ Some Endless) ⊎ ((total : ℕ) × (slice_get vs w ≡ Some (Ends total)))
 verdict_cases vs w None e h = let past = get_none vs w e in absurd (omega arith)
 verdict_cases vs w (Some Endless) e h = inl e
 verdict_cases vs w (Some (Ends total)) e h = inr (total, e)
 
 -- where no state leads back to itself, a cut comes
-pub all_reach : (next : List ℕ) (cut : List Bool) (passes : List (Option Pass)) (vs : List Verdict) (found : List ℕ) → AreSettled next cut passes vs found → length found ≡ 0
-    → (q : ℕ) → (is_cut cut q ≡ true) ⊎ (is_some (pass_at passes q) ≡ true) → reaches next cut (length next) q ≡ true
+pub all_reach :
+    (next : List ℕ) (cut : List Bool) (passes : List (Option Pass)) (vs : List Verdict) (found : List ℕ) → AreSettledWalks next cut passes vs found
+    → length found ≡ 0
+    → (q : ℕ) → (is_cut cut q ≡ true) ⊎ (is_some (pass_at passes q) ≡ true) → walk_reaches_cut next cut (length next) q ≡ true
 all_reach next cut passes vs found s none q seen =
     ⊎_elim (reaches_cut next cut (length next) q)
     (λ some.
@@ -297,9 +326,10 @@ all_reach next cut passes vs found s none q seen =
     ⊎_elim (λ never. let h = s.told p.0.walk never in absurd (omega arith))
     (λ t.
     let f = s.ends q p.0 t.0 p.1 t.1 in
-    let most : passed passes ≤ length passes = count_by-le-length (λ x. is_some x) passes in
+    let most : pass_count passes ≤ length passes = count_by-le-length (λ x. is_some x) passes in
     let n = t.0 - p.0.step in
-    subst (λ k. reaches next cut k q ≡ true) (fill_sum n (length next) (omega (arith, f.1, s.same))) (reaches_longer next cut (length next - n) n q f.2))
+    subst (λ k. walk_reaches_cut next cut k q ≡ true) (fill_sum n (length next) (omega (arith, f.1, s.same)))
+    (reaches_longer next cut (length next - n) n q f.2))
     (verdict_cases vs p.0.walk (slice_get vs p.0.walk) refl (s.known q p.0 p.1)))
     seen
 
@@ -317,12 +347,14 @@ pub open_is : (cut : List Bool) (passes : List (Option Pass)) (q : ℕ) → may_
 open_is cut passes q e = open_both (is_cut cut q) (pass_at passes q) e
 
 -- a walk's start was seen
-pub start_seen : (next : List ℕ) (cut : List Bool) (start walk end steps : ℕ) (before after : List (Option Pass)) → IsWalk next cut start walk before after end steps → may_pass cut after end ≡ false
+pub start_seen : (next : List ℕ) (cut : List Bool) (start walk end steps : ℕ) (before after : List (Option Pass))
+    → IsWalk next cut start walk before after end steps → may_pass cut after end ≡ false
     → (is_cut cut start ≡ true) ⊎ (is_some (pass_at after start) ≡ true)
 start_seen next cut start walk end zero before after w stop =
     open_cases (is_cut cut start) (is_some (pass_at after start)) (ap (may_pass cut after) (sym w.leads) ∙ stop)
 start_seen next cut start walk end (suc steps) before after w stop = inr (ap is_some (w.path 0 (omega arith)))
 
-pub still_seen : (next : List ℕ) (cut : List Bool) (start walk end steps : ℕ) (before after : List (Option Pass)) → IsWalk next cut start walk before after end steps
+pub still_seen : (next : List ℕ) (cut : List Bool) (start walk end steps : ℕ) (before after : List (Option Pass))
+    → IsWalk next cut start walk before after end steps
     → (q : ℕ) → is_some (pass_at before q) ≡ true → is_some (pass_at after q) ≡ true
 still_seen next cut start walk end steps before after w q some = let p = some_pass (pass_at before q) some in ap is_some (w.keeps q p.0 p.1)

@@ -1,8 +1,8 @@
-pub mod Spelled
+pub mod MachineOfParts
 pub mod Sound
 pub mod Rules
 pub mod FirstFault
 pub mod Places
 pub mod Uses
-pub mod Walks
+pub mod TargetWalks
 pub mod Scoped

@@ -1,5 +1,6 @@
 -- The rules that the parts of a machine keep, and the line at which each is broken.
-use Rattle.std.specs.Prelude.{◌≡◌, ℕ, zero, suc, ◌<◌, ◌==◌, nat_lt, Bool, true, false, not, ◌&&◌, ◌||◌, cond, ◌⊎◌, Contains, List, [], ◌∷◌, ◌++◌, length, take, drop, map, Some, is_some, slice_get}
+use Rattle.std.specs.Prelude.{◌≡◌, ℕ, zero, suc, ◌<◌, ◌==◌, nat_lt, Bool, true, false, not, ◌&&◌, ◌||◌, cond, ◌⊎◌, Contains, List}
+use Rattle.std.specs.Prelude.{[], ◌∷◌, ◌++◌, length, take, drop, map, Some, is_some, slice_get}
 use Rattle.std.specs.List.{list_all, list_any, flat_map}
 use Rattle.std.specs.Str.{bytes_eq}
 use Rattle.fs_model.specs.declared.parts.VarInfo.{VarInfo}
@@ -8,12 +9,16 @@ use Rattle.fs_model.specs.Source.{Declaration, SourceTransition, SourceState, So
 use Rattle.fs_model.specs.Machines.{Fsmd, transitions_of}
 use Rattle.fs_model.specs.Trees.{tree_of_transitions, count_leaves}
 use Rattle.fs_rules.specs.declared.check.CheckRule.{CheckRule}
-use Rattle.fs_rules.specs.declared.check.CheckRule.TheVariants.{TwiceNamed, UnknownName, WrongSort, AssignInput, AssignedTwice, NoElse, AfterElse, TooManyBranches, EndlessLine, UnknownState, TooMany, TooManyEmits}
+use Rattle.fs_rules.specs.declared.check.CheckRule.TheVariants.{TwiceNamed, UnknownName, WrongSort, AssignInput, AssignedTwice}
+use Rattle.fs_rules.specs.declared.check.CheckRule.TheVariants.{NoElse, AfterElse, TooManyBranches, EndlessLine, UnknownState}
+use Rattle.fs_rules.specs.declared.check.CheckRule.TheVariants.{TooMany, TooManyEmits}
 use Rattle.fs_rules.specs.declared.check.CheckFault.{CheckFault}
-use Rattle.fs_rules.specs.Spelled.{variables_of, names_of, state_names, place, line_spelled, machine_of}
+use Rattle.fs_rules.specs.MachineOfParts.{variables_of, names_of, state_names, place, line_spelled, machine_of}
 use Rattle.fs_model.specs.Limits.{most_variables, most_states, most_branches, most_emits}
 use Rattle.fs_model.specs.Runs.{is_scalar, is_array, is_port}
-use Rattle.fs_rules.specs.Sound.{other_sort_at, input_at, all_differ, assigned_in, changed_by, scalars_in_condition, arrays_in_condition, scalars_in_assignments, arrays_in_assignments, ports_in_assignments, emit_count, is_cutpoint, first_transition_target}
+use Rattle.fs_rules.specs.Sound.{other_sort_at, input_at, all_differ, assigned_in, changed_by, scalars_in_condition}
+use Rattle.fs_rules.specs.Sound.{arrays_in_condition, scalars_in_assignments, arrays_in_assignments, ports_in_assignments}
+use Rattle.fs_rules.specs.Sound.{emit_count, is_cutpoint, first_transition_target}
 
 -- a rule at each of these lines
 abbrev pub at_lines : CheckRule → List ℕ → List CheckFault
@@ -33,7 +38,8 @@ declared_states ss = map (λ s. (s.line, s.name)) ss
 -- the lines at which a name stands that stood before
 abbrev pub repeated : List (List ℕ) → List (ℕ × List ℕ) → List ℕ
 repeated before [] = []
-repeated before (n ∷ ns) = cond (list_any (λ m. bytes_eq m n.1) before) (n.0 ∷ repeated (n.1 ∷ before) ns) (repeated (n.1 ∷ before) ns)
+repeated before (n ∷ ns) = cond (list_any (λ m. bytes_eq m n.1) before) (n.0 ∷ repeated (n.1 ∷ before) ns)
+    (repeated (n.1 ∷ before) ns)
 
 -- the line of the first that is past a limit
 abbrev pub past : ℕ → List (ℕ × List ℕ) → List ℕ
@@ -46,12 +52,14 @@ is_known vs x = nat_lt x (length vs)
 abbrev pub uses_unknown : List VarInfo → Transition ℕ ℕ → Bool
 uses_unknown vs l =
     not (list_all (is_known vs) (scalars_in_condition l.guard ++ scalars_in_assignments l.assignments)
-    && (list_all (is_known vs) (arrays_in_condition l.guard ++ arrays_in_assignments l.assignments) && list_all (is_known vs) (ports_in_assignments l.assignments)))
+    && (list_all (is_known vs) (arrays_in_condition l.guard ++ arrays_in_assignments l.assignments)
+    && list_all (is_known vs) (ports_in_assignments l.assignments)))
 
 abbrev pub uses_wrong_sort : List VarInfo → Transition ℕ ℕ → Bool
 uses_wrong_sort vs l =
     list_any (other_sort_at is_scalar vs) (scalars_in_condition l.guard ++ scalars_in_assignments l.assignments)
-    || (list_any (other_sort_at is_array vs) (arrays_in_condition l.guard ++ arrays_in_assignments l.assignments) || list_any (other_sort_at is_port vs) (ports_in_assignments l.assignments))
+    || (list_any (other_sort_at is_array vs) (arrays_in_condition l.guard ++ arrays_in_assignments l.assignments)
+    || list_any (other_sort_at is_port vs) (ports_in_assignments l.assignments))
 
 abbrev pub changes_input : List VarInfo → Transition ℕ ℕ → Bool
 changes_input vs l = list_any (λ a. input_at vs (changed_by a)) l.assignments
@@ -59,8 +67,10 @@ changes_input vs l = list_any (λ a. input_at vs (changed_by a)) l.assignments
 -- the rules of one transition, of which n is the line
 abbrev pub line_faults : List VarInfo → ℕ → ℕ → Transition ℕ ℕ → List CheckFault
 line_faults vs count n l =
-    broken_where (uses_unknown vs l) UnknownName n ++ (broken_where (uses_wrong_sort vs l) WrongSort n ++ (broken_where (changes_input vs l) AssignInput n
-    ++ (broken_where (not (all_differ (assigned_in l.assignments))) AssignedTwice n ++ (broken_where (not (nat_lt l.target count)) UnknownState n
+    broken_where (uses_unknown vs l) UnknownName n
+    ++ (broken_where (uses_wrong_sort vs l) WrongSort n ++ (broken_where (changes_input vs l) AssignInput n
+    ++ (broken_where (not (all_differ (assigned_in l.assignments))) AssignedTwice n
+    ++ (broken_where (not (nat_lt l.target count)) UnknownState n
     ++ broken_where (nat_lt most_emits (emit_count l.assignments)) TooManyEmits n))))
 
 -- no transition is there, or the last has a guard
@@ -78,13 +88,16 @@ abbrev pub lines_faults : List VarInfo → List (List ℕ) → List SourceTransi
 lines_faults vs ss ls = flat_map (λ l. line_faults vs (length ss) l.line (line_spelled (names_of vs) ss l)) ls
 
 abbrev pub state_faults : List VarInfo → List (List ℕ) → SourceState → List CheckFault
-state_faults vs ss s = broken_where (lacks_else s.lines) NoElse s.line ++ (at_lines AfterElse (after_else false s.lines) ++ lines_faults vs ss s.lines)
+state_faults vs ss s = broken_where (lacks_else s.lines) NoElse s.line
+    ++ (at_lines AfterElse (after_else false s.lines) ++ lines_faults vs ss s.lines)
 
 -- the broken rules, those on branches and on endless lines left out
 abbrev pub plain_faults : Source → List CheckFault
 plain_faults p =
-    at_lines TwiceNamed (repeated [] (declared_names p.declarations)) ++ (at_lines TooMany (past most_variables (declared_names p.declarations))
-    ++ (at_lines TwiceNamed (repeated [] (declared_states p.states)) ++ (at_lines TooMany (past most_states (declared_states p.states))
+    at_lines TwiceNamed (repeated [] (declared_names p.declarations))
+    ++ (at_lines TooMany (past most_variables (declared_names p.declarations))
+    ++ (at_lines TwiceNamed (repeated [] (declared_states p.states))
+    ++ (at_lines TooMany (past most_states (declared_states p.states))
     ++ (broken_where (not (nat_lt (place (state_names p.states) p.reset) (length p.states))) UnknownState p.reset_line
     ++ flat_map (state_faults (variables_of p.declarations) (state_names p.states)) p.states))))
 
@@ -93,7 +106,10 @@ abbrev pub branches_too_often : List (List ℕ) → List (List ℕ) → SourceSt
 branches_too_often vs ss s = nat_lt most_branches (count_leaves (tree_of_transitions (map (line_spelled vs ss) s.lines)))
 
 abbrev pub branch_faults : Source → List CheckFault
-branch_faults p = flat_map (λ s. broken_where (branches_too_often (names_of (variables_of p.declarations)) (state_names p.states) s) TooManyBranches s.line) p.states
+branch_faults p =
+    flat_map
+    (λ s. broken_where (branches_too_often (names_of (variables_of p.declarations)) (state_names p.states) s) TooManyBranches
+    s.line) p.states
 
 -- the state that n steps by first transitions lead to
 abbrev pub after_steps : Fsmd → ℕ → ℕ → ℕ
@@ -124,23 +140,23 @@ abbrev pub Broken : Source → CheckFault → Type 0
 Broken p f = Contains (plain_faults p) f ⊎ ((plain_faults p ≡ []) × BrokenShape p f)
 
 -- the place of a rule in the order of rules
-abbrev pub rank : CheckRule → ℕ
-rank TwiceNamed = 1
-rank UnknownName = 2
-rank WrongSort = 3
-rank AssignInput = 4
-rank AssignedTwice = 5
-rank NoElse = 6
-rank AfterElse = 7
-rank TooManyBranches = 8
-rank EndlessLine = 9
-rank UnknownState = 10
-rank TooMany = 11
-rank TooManyEmits = 12
+abbrev pub rule_rank : CheckRule → ℕ
+rule_rank TwiceNamed = 1
+rule_rank UnknownName = 2
+rule_rank WrongSort = 3
+rule_rank AssignInput = 4
+rule_rank AssignedTwice = 5
+rule_rank NoElse = 6
+rule_rank AfterElse = 7
+rule_rank TooManyBranches = 8
+rule_rank EndlessLine = 9
+rule_rank UnknownState = 10
+rule_rank TooMany = 11
+rule_rank TooManyEmits = 12
 
 -- the lesser line comes first, and of one line the lesser rule
 abbrev pub is_sooner : CheckFault → CheckFault → Bool
-is_sooner f g = nat_lt f.line g.line || (f.line == g.line && nat_lt (rank f.rule) (rank g.rule))
+is_sooner f g = nat_lt f.line g.line || (f.line == g.line && nat_lt (rule_rank f.rule) (rule_rank g.rule))
 
 -- the broken rule that is answered
 pub record IsFirstBroken (p : Source) (f : CheckFault) : Type 0 where
@@ -148,7 +164,7 @@ pub record IsFirstBroken (p : Source) (f : CheckFault) : Type 0 where
   pub first : (g : CheckFault) → Broken p g → is_sooner g f ≡ false
 
 -- no rule is broken
-pub record IsLawful (p : Source) : Type 0 where
+pub record BreaksNoRule (p : Source) : Type 0 where
   pub plain : plain_faults p ≡ []
   pub branches : branch_faults p ≡ []
   pub ends : (n : ℕ) → EndlessAt p n → ⊥

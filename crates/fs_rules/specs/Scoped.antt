@@ -5,7 +5,7 @@ use Rattle.fs_model.specs.Source.{SourceState, Source}
 use Rattle.fs_model.specs.Limits.{most_variables, most_states}
 use Rattle.fs_rules.specs.declared.check.CheckRule.TheVariants.{TwiceNamed, TooMany}
 use Rattle.fs_rules.specs.declared.check.CheckFault.{CheckFault}
-use Rattle.fs_rules.specs.Spelled.{variables_of}
+use Rattle.fs_rules.specs.MachineOfParts.{variables_of}
 use Rattle.fs_rules.specs.Rules.{at_lines, declared_names, declared_states, repeated, past}
 
 -- the variables and the states of parts
@@ -20,5 +20,7 @@ table_faults most ns = at_lines TwiceNamed (repeated [] ns) ++ at_lines TooMany 
 -- names that are declared again or past a limit
 abbrev pub name_faults : Source → List CheckFault
 name_faults p =
-    at_lines TwiceNamed (repeated [] (declared_names p.declarations)) ++ (at_lines TooMany (past most_variables (declared_names p.declarations))
-    ++ (at_lines TwiceNamed (repeated [] (declared_states p.states)) ++ at_lines TooMany (past most_states (declared_states p.states))))
+    at_lines TwiceNamed (repeated [] (declared_names p.declarations))
+    ++ (at_lines TooMany (past most_variables (declared_names p.declarations))
+    ++ (at_lines TwiceNamed (repeated [] (declared_states p.states))
+    ++ at_lines TooMany (past most_states (declared_states p.states))))

@@ -1,5 +1,6 @@
 -- What holds of each machine that was built: names, sorts and numbers right, and no way round without end.
-use Rattle.std.specs.Prelude.{◌≡◌, ℕ, zero, suc, ◌+◌, ◌^◌, ◌<◌, ◌≤◌, ◌==◌, nat_lt, Bool, true, false, not, ◌&&◌, ◌||◌, IsTrue, ℤ, pos, int_lt, List, [], ◌∷◌, ◌++◌, length, map, Option, Some, None, is_none, slice_get}
+use Rattle.std.specs.Prelude.{◌≡◌, ℕ, zero, suc, ◌+◌, ◌^◌, ◌<◌, ◌≤◌, ◌==◌, nat_lt, Bool, true, false, not, ◌&&◌, ◌||◌, IsTrue, ℤ}
+use Rattle.std.specs.Prelude.{pos, int_lt, List, [], ◌∷◌, ◌++◌, length, map, Option, Some, None, is_none, slice_get}
 use Rattle.std.specs.List.{list_all, list_any}
 use Rattle.std.specs.Str.{bytes_eq}
 use Rattle.fs_model.specs.declared.parts.Sort.{Sort}
@@ -10,9 +11,11 @@ use Rattle.fs_model.specs.Terms.{Term, Guard, Assignment, Assign, ArrayWrite, Em
 use Rattle.fs_model.specs.Machines.{State, Fsmd, transitions_of}
 use Rattle.fs_model.specs.Runs.{is_input, is_scalar, is_array, is_port}
 use Rattle.fs_model.specs.Trees.{branches_of}
-use Rattle.fs_model.specs.Parts.{scalars, arrays, numbers, uses_in, uses_in_guard, uses_in_condition, uses_in_assignment, uses_in_assignments, uses_in_transitions, uses_in_states}
+use Rattle.fs_model.specs.PartFolds.{scalars, arrays, numbers, uses_in, uses_in_guard, uses_in_condition, uses_in_assignment}
+use Rattle.fs_model.specs.PartFolds.{uses_in_assignments, uses_in_transitions, uses_in_states}
 
--- the variables that a part uses, in order of its text: scalars by their values and by assignments, arrays by their elements, and ports by emits
+-- the variables that a part uses, in order of its text: scalars by their values and by assignments, arrays by their elements, and
+-- ports by emits
 abbrev pub scalars_in : Term ℕ → List ℕ
 scalars_in t = uses_in scalars t
 
@@ -189,7 +192,8 @@ pub record IsSound (m : Fsmd) : Type 0 where
   pub states_named : IsTrue (list_all (λ s. is_name s.name) m.states)
   pub states_differ : IsTrue (names_differ (map (λ s. s.name) m.states))
   pub reset_in : m.reset < length m.states
-  pub transitions_sound : (q : ℕ) (l : Transition ℕ ℕ) (k : ℕ) → slice_get (transitions_of m q) k ≡ Some l → IsSoundTransition m.variables (length m.states) l
+  pub transitions_sound : (q : ℕ) (l : Transition ℕ ℕ) (k : ℕ) → slice_get (transitions_of m q) k ≡ Some l
+      → IsSoundTransition m.variables (length m.states) l
   pub open_last : (q : ℕ) → q < length m.states → IsTrue (ends_open (transitions_of m q))
   pub few_branches : (q : ℕ) → branch_count m q ≤ most_branches
   pub cut : (q : ℕ) → q < length m.states → IsTrue (reaches_cutpoint m (length m.states) q)

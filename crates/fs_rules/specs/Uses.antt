@@ -11,7 +11,8 @@ use Rattle.fs_rules.specs.Rules.{is_known}
 abbrev pub uses_of : List VarInfo → (scalars arrays ports : List ℕ) → Uses
 uses_of vs scalars arrays ports = record {
   unknown = not (list_all (is_known vs) scalars && (list_all (is_known vs) arrays && list_all (is_known vs) ports));
-  wrong_sort = list_any (other_sort_at is_scalar vs) scalars || (list_any (other_sort_at is_array vs) arrays || list_any (other_sort_at is_port vs) ports);
+  wrong_sort = list_any (other_sort_at is_scalar vs) scalars
+      || (list_any (other_sort_at is_array vs) arrays || list_any (other_sort_at is_port vs) ports);
 }
 
 -- what is wrong with either

@@ -18,7 +18,7 @@ pub enum CheckRule {
 }
 
 /// A broken rule, and the line of the text where it is broken, from 1.
-#[derive(Clone, Copy, Debug, PartialEq, Eq)]
+#[derive(Clone, Copy, Debug)]
 pub struct CheckFault {
     pub rule: CheckRule,
     pub line: u32,

@@ -5,7 +5,7 @@ ghost use Rattle.std.specs.Result.{OnOk};
 ghost use Rattle.fs_model.specs.View.{source_of, source_state_of};
 ghost use Rattle.fs_rules.specs.Rules.{plain_faults};
 ghost use Rattle.fs_rules.specs.FirstFault.{earliest};
-ghost use Rattle.fs_rules.specs.Places.{declared_of, names_in, IsTableOf};
+ghost use Rattle.fs_rules.specs.Places.{declared_of, declared_name_list, IsTableOf};
 ghost use Rattle.fs_rules.specs.Scoped.{IsScopeOf, name_faults, table_faults};
 
 use crate::check::{CheckFault, CheckRule};
@@ -26,7 +26,8 @@ pub struct Checked<'p> {
 
 /// What parts declare, and the first broken rule but for those on branches and on endless lines.
 pub fn check_parts(alloc: Global, parts: &Parts) -> Result<Checked<'_>, NoMemory>
-    ensures scope { IfOk result (λ c. IsScopeOf (source_of parts.now) c.scope.vars.items (map source_state_of c.scope.states.now)) }
+    ensures scope { IfOk result
+        (λ c. IsScopeOf (source_of parts.now) c.scope.vars.items (map source_state_of c.scope.states.now)) }
     ensures first { IfOk result (λ c. c.first ≡ earliest None (plain_faults (source_of parts.now))) }
 {
     let mut faults = Faults::new();
@@ -65,8 +66,9 @@ fn noted_table(
     most: usize,
     faults: &mut Faults,
 ) -> Result<NameTable, NoMemory>
-    ensures table { IfOk result (λ t. IsTableOf t (names_in (map declared_of declared.now))) }
-    ensures noted { OnOk result (faults.new.first ≡ earliest faults.old.first (table_faults most (map declared_of declared.now))) }
+    ensures table { IfOk result (λ t. IsTableOf t (declared_name_list (map declared_of declared.now))) }
+    ensures noted { OnOk result
+        (faults.new.first ≡ earliest faults.old.first (table_faults most (map declared_of declared.now))) }
 {
     let table = NameTable::of(alloc, declared, faults)?;
     note_past(declared, most, faults);

@@ -1,7 +1,7 @@
 //! The broken rule that is answered, while rules are looked at.
 
 ghost use Rattle.std.specs.Prelude.{◌≡◌, ◌||◌, ◌&&◌, ◌==◌, Some, None};
-ghost use Rattle.fs_rules.specs.Rules.{rank, is_sooner, broken_where};
+ghost use Rattle.fs_rules.specs.Rules.{rule_rank, is_sooner, broken_where};
 ghost use Rattle.fs_rules.specs.FirstFault.{sooner, earliest};
 
 use crate::check::{CheckFault, CheckRule};
@@ -14,7 +14,7 @@ pub struct Faults {
 
 // The place of a rule in the order of rules.
 fn rank(rule: CheckRule) -> u8
-    ensures { result ≡ rank rule }
+    ensures { result ≡ rule_rank rule }
 {
     match rule {
         CheckRule::TwiceNamed => 1,

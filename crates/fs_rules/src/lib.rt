@@ -1,4 +1,15 @@
 //! The rules that the parts of a machine keep, what the parts declare, and the first broken rule.
+//!
+//! Promises: the first broken rule of parts, and the numbers of names.
+//!
+//! Rules: `specs/Rules`, `specs/Sound`, `specs/MachineOfParts`.
+//!
+//! Words:
+//! - cutpoint (of a machine): the reset state, or a state with more than one branch
+//! - fault (of parts): the first broken rule, with its line
+//! - lawful (of parts): no rule is broken
+//! - rank (of a rule): its place in the order of rules
+//! - sound: what holds of each machine that was built
 #![tactic(auto)]
 
 pub mod check;

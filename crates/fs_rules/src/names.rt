@@ -4,11 +4,11 @@ ghost use Rattle.std.specs.Prelude.{◌≡◌, ◌≤◌, ℕ, List, [], length,
 ghost use Rattle.std.specs.Option.{is_some};
 ghost use Rattle.std.specs.Result.{OnOk};
 ghost use Rattle.std.specs.Str.{bytes_eq};
-ghost use Rattle.fs_rules.specs.Spelled.{place};
+ghost use Rattle.fs_rules.specs.MachineOfParts.{place};
 ghost use Rattle.fs_rules.specs.declared.check.CheckRule.TheVariants.{TwiceNamed, TooMany};
 ghost use Rattle.fs_rules.specs.Rules.{at_lines, broken_where, repeated, past};
 ghost use Rattle.fs_rules.specs.FirstFault.{earliest};
-ghost use Rattle.fs_rules.specs.Places.{declared_of, names_in, place_in, FindsFirst, IsTableOf};
+ghost use Rattle.fs_rules.specs.Places.{declared_of, declared_name_list, place_in, FindsFirst, IsTableOf};
 
 use crate::check::CheckRule;
 use crate::faults::Faults;
@@ -47,8 +47,9 @@ impl NameTable {
         declared: &[Declared],
         faults: &mut Faults,
     ) -> Result<NameTable, NoMemory>
-        ensures table { IfOk result (λ t. IsTableOf t (names_in (map declared_of declared.now))) }
-        ensures noted { OnOk result (faults.new.first ≡ earliest faults.old.first (at_lines TwiceNamed (repeated [] (map declared_of declared.now)))) }
+        ensures table { IfOk result (λ t. IsTableOf t (declared_name_list (map declared_of declared.now))) }
+        ensures noted { OnOk result
+            (faults.new.first ≡ earliest faults.old.first (at_lines TwiceNamed (repeated [] (map declared_of declared.now)))) }
     {
         let places = first_places(alloc, declared, faults)?;
         Ok(NameTable {
@@ -75,8 +76,9 @@ fn first_places(
     declared: &[Declared],
     faults: &mut Faults,
 ) -> Result<IndexMap<Name, usize>, NoMemory>
-    ensures finds { IfOk result (λ places. FindsFirst places.entries (names_in (map declared_of declared.now))) }
-    ensures noted { OnOk result (faults.new.first ≡ earliest faults.old.first (at_lines TwiceNamed (repeated [] (map declared_of declared.now)))) }
+    ensures finds { IfOk result (λ places. FindsFirst places.entries (declared_name_list (map declared_of declared.now))) }
+    ensures noted { OnOk result
+        (faults.new.first ≡ earliest faults.old.first (at_lines TwiceNamed (repeated [] (map declared_of declared.now)))) }
 {
     let mut places = IndexMap::new(alloc);
     for (place, entry) in declared.iter().enumerate() {
@@ -93,8 +95,12 @@ fn put_first(
     entry: &Declared,
     faults: &mut Faults,
 ) -> Result<(), NoMemory>
-    ensures put { OnOk result ((n : List ℕ) → place_in places.new.entries n ≡ cond (is_some (place_in places.old.entries n)) (place_in places.old.entries n) (cond (bytes_eq entry.now.name n) (Some place) None)) }
-    ensures noted { OnOk result (faults.new.first ≡ earliest faults.old.first (broken_where (is_some (place_in places.old.entries entry.now.name)) TwiceNamed entry.now.line)) }
+    ensures put { OnOk result
+        ((n : List ℕ) → place_in places.new.entries n ≡ cond (is_some (place_in places.old.entries n))
+        (place_in places.old.entries n) (cond (bytes_eq entry.now.name n) (Some place) None)) }
+    ensures noted { OnOk result
+        (faults.new.first ≡ earliest faults.old.first
+        (broken_where (is_some (place_in places.old.entries entry.now.name)) TwiceNamed entry.now.line)) }
 {
     if places.contains_key(&entry.name) {
         faults.note(CheckRule::TwiceNamed, entry.line);
@@ -106,7 +112,8 @@ fn put_first(
 
 // Puts the place of a name.
 fn put(places: &mut IndexMap<Name, usize>, name: Name, place: usize) -> Result<(), NoMemory>
-    ensures { OnOk result ((n : List ℕ) → place_in places.new.entries n ≡ cond (bytes_eq name n) (Some place) (place_in places.old.entries n)) }
+    ensures { OnOk result
+        ((n : List ℕ) → place_in places.new.entries n ≡ cond (bytes_eq name n) (Some place) (place_in places.old.entries n)) }
 {
     let _ = places.insert(name, place)?;
     Ok(())

@@ -8,8 +8,11 @@ ghost use Rattle.std.specs.BTreeSet.{contains};
 ghost use Rattle.fs_model.specs.View.{named_term, named_guard, named_assignment, source_transition_of, source_state_of};
 ghost use Rattle.fs_rules.specs.declared.check.CheckRule.TheVariants.{AfterElse};
 ghost use Rattle.fs_model.specs.Renamed.{term_over, guard_over, assignment_over};
-ghost use Rattle.fs_rules.specs.Spelled.{place, names_of, line_spelled};
-ghost use Rattle.fs_rules.specs.Sound.{scalars_in, arrays_in, scalars_in_guard, arrays_in_guard, scalars_in_condition, arrays_in_condition, scalars_in_assignment, arrays_in_assignment, scalars_in_assignments, arrays_in_assignments, port_in, ports_in_assignments, emits_of, emit_count, input_at, changed_by, assigned_in, all_differ, occurs};
+ghost use Rattle.fs_rules.specs.MachineOfParts.{place, names_of, line_spelled};
+ghost use Rattle.fs_rules.specs.Sound.{scalars_in, arrays_in, scalars_in_guard, arrays_in_guard, scalars_in_condition};
+ghost use Rattle.fs_rules.specs.Sound.{arrays_in_condition, scalars_in_assignment, arrays_in_assignment, scalars_in_assignments};
+ghost use Rattle.fs_rules.specs.Sound.{arrays_in_assignments, port_in, ports_in_assignments, emits_of, emit_count, input_at};
+ghost use Rattle.fs_rules.specs.Sound.{changed_by, assigned_in, all_differ, occurs};
 ghost use Rattle.fs_rules.specs.Rules.{at_lines, line_faults, lines_faults, lacks_else, after_else, state_faults, changes_input};
 ghost use Rattle.std.specs.List.{flat_map};
 ghost use Rattle.fs_rules.specs.FirstFault.{earliest};
@@ -94,7 +97,8 @@ impl Scope<'_> {
     // What is wrong with the uses of an expression.
     #[tactic(auto, using(crate::proofs::Uses::either_terms))]
     fn expr_uses(&self, expr: &Expr<Name>) -> Uses
-        ensures { let t = term_over (place (names_of self.now.vars.items)) (named_term expr.now) in result ≡ uses_of self.now.vars.items (scalars_in t) (arrays_in t) [] }
+        ensures { let t = term_over (place (names_of self.now.vars.items)) (named_term expr.now) in
+            result ≡ uses_of self.now.vars.items (scalars_in t) (arrays_in t) [] }
     {
         match expr {
             Expr::Num(_) => Uses {
@@ -115,7 +119,8 @@ impl Scope<'_> {
     // What is wrong with the uses of a guard.
     #[tactic(auto, using(crate::proofs::Uses::either_terms))]
     fn guard_uses(&self, guard: &Guard) -> Uses
-        ensures { let g = guard_over (place (names_of self.now.vars.items)) (named_guard guard.now) in result ≡ uses_of self.now.vars.items (scalars_in_guard g) (arrays_in_guard g) [] }
+        ensures { let g = guard_over (place (names_of self.now.vars.items)) (named_guard guard.now) in
+            result ≡ uses_of self.now.vars.items (scalars_in_guard g) (arrays_in_guard g) [] }
     {
         match guard {
             Guard::Lit(lit) => either(self.expr_uses(&lit.left), self.expr_uses(&lit.right)),
@@ -127,7 +132,8 @@ impl Scope<'_> {
     // What is wrong with the uses of an assignment.
     #[tactic(auto, using(crate::proofs::Uses::either_terms, crate::proofs::Uses::either_port))]
     fn assign_uses(&self, assign: &Assign<Name>) -> Uses
-        ensures { let a = assignment_over (place (names_of self.now.vars.items)) (named_assignment assign.now) in result ≡ uses_of self.now.vars.items (scalars_in_assignment a) (arrays_in_assignment a) (port_in a) }
+        ensures { let a = assignment_over (place (names_of self.now.vars.items)) (named_assignment assign.now) in
+            result ≡ uses_of self.now.vars.items (scalars_in_assignment a) (arrays_in_assignment a) (port_in a) }
     {
         match assign {
             Assign::Set(name, value) => either(self.scalar_use(name), self.expr_uses(value)),
@@ -141,7 +147,8 @@ impl Scope<'_> {
 
     // What is wrong with the uses of assignments.
     fn assigns_uses(&self, assigns: &[Assign<Name>]) -> Uses
-        ensures { let l = map (assignment_over (place (names_of self.now.vars.items))) (map named_assignment assigns.now) in result ≡ uses_of self.now.vars.items (scalars_in_assignments l) (arrays_in_assignments l) (ports_in_assignments l) }
+        ensures { let l = map (assignment_over (place (names_of self.now.vars.items))) (map named_assignment assigns.now) in
+            result ≡ uses_of self.now.vars.items (scalars_in_assignments l) (arrays_in_assignments l) (ports_in_assignments l) }
     {
         let mut uses = Uses {
             unknown: false,
@@ -156,8 +163,10 @@ impl Scope<'_> {
     // What is wrong with the uses of a transition.
     #[tactic(auto, using(crate::proofs::Uses::either_line))]
     fn line_uses(&self, line: &RawLine) -> Uses
-        ensures { let vs = self.now.vars.items in let l = line_spelled (names_of vs) (names_stated self.now.states.now) (source_transition_of line.now) in
-            result ≡ uses_of vs (scalars_in_condition l.guard ++ scalars_in_assignments l.assignments) (arrays_in_condition l.guard ++ arrays_in_assignments l.assignments) (ports_in_assignments l.assignments) }
+        ensures { let vs = self.now.vars.items in
+            let l = line_spelled (names_of vs) (names_stated self.now.states.now) (source_transition_of line.now) in
+            result ≡ uses_of vs (scalars_in_condition l.guard ++ scalars_in_assignments l.assignments)
+            (arrays_in_condition l.guard ++ arrays_in_assignments l.assignments) (ports_in_assignments l.assignments) }
     {
         let assigns = self.assigns_uses(&line.assigns);
         match &line.guard {
@@ -170,7 +179,8 @@ impl Scope<'_> {
 impl Scope<'_> {
     // Whether an assignment changes an input.
     fn changes_input(&self, assign: &Assign<Name>) -> bool
-        ensures { let a = assignment_over (place (names_of self.now.vars.items)) (named_assignment assign.now) in result ≡ input_at self.now.vars.items (changed_by a) }
+        ensures { let a = assignment_over (place (names_of self.now.vars.items)) (named_assignment assign.now) in
+            result ≡ input_at self.now.vars.items (changed_by a) }
     {
         let (Assign::Set(name, _) | Assign::Put(name, _, _) | Assign::Emit(name, _)) = assign;
         match self.variable(name) {
@@ -181,14 +191,19 @@ impl Scope<'_> {
 
     // Whether one of some assignments changes an input.
     fn some_changes_input(&self, assigns: &[Assign<Name>]) -> bool
-        ensures { result ≡ list_any (λ a. input_at self.now.vars.items (changed_by a)) (map (assignment_over (place (names_of self.now.vars.items))) (map named_assignment assigns.now)) }
+        ensures { result ≡ list_any (λ a. input_at self.now.vars.items (changed_by a))
+            (map (assignment_over (place (names_of self.now.vars.items))) (map named_assignment assigns.now)) }
     {
         assigns.iter().any(|assign| self.changes_input(assign))
     }
 
     // Whether a scalar is assigned twice.
     fn assigns_twice(&self, alloc: Global, assigns: &[Assign<Name>]) -> Result<bool, NoMemory>
-        ensures { IfOk result (λ twice. twice ≡ not (all_differ (assigned_in (map (assignment_over (place (names_of self.now.vars.items))) (map named_assignment assigns.now))))) }
+        ensures { IfOk result
+            (λ twice. twice
+            ≡ not
+            (all_differ
+            (assigned_in (map (assignment_over (place (names_of self.now.vars.items))) (map named_assignment assigns.now))))) }
     {
         let mut seen = BTreeSet::new(alloc);
         for assign in assigns {
@@ -205,8 +220,14 @@ impl Scope<'_> {
         assign: &Assign<Name>,
         seen: &mut BTreeSet<usize>,
     ) -> Result<bool, NoMemory>
-        ensures again { IfOk result (λ again. again ≡ list_any (contains nat_cmp seen.old) (assigned_in (assignment_over (place (names_of self.now.vars.items)) (named_assignment assign.now) ∷ []))) }
-        ensures seen { OnOk result ((q : ℕ) → contains nat_cmp seen.new q ≡ (contains nat_cmp seen.old q || occurs q (assigned_in (assignment_over (place (names_of self.now.vars.items)) (named_assignment assign.now) ∷ [])))) }
+        ensures again { IfOk result
+            (λ again. again ≡ list_any (contains nat_cmp seen.old)
+            (assigned_in (assignment_over (place (names_of self.now.vars.items)) (named_assignment assign.now) ∷ []))) }
+        ensures seen { OnOk result
+            ((q : ℕ) → contains nat_cmp seen.new q
+            ≡ (contains nat_cmp seen.old q
+            || occurs q
+            (assigned_in (assignment_over (place (names_of self.now.vars.items)) (named_assignment assign.now) ∷ [])))) }
     {
         match assign {
             Assign::Set(name, _) => add(seen, self.variable_place(name)),
@@ -217,7 +238,8 @@ impl Scope<'_> {
     // Notes each rule that a transition breaks.
     fn check_line(&self, alloc: Global, line: &RawLine, faults: &mut Faults) -> Result<(), NoMemory>
         ensures { OnOk result (faults.new.first ≡ earliest faults.old.first
-            (line_faults self.now.vars.items (length (names_stated self.now.states.now)) line.now.line (line_spelled (names_of self.now.vars.items) (names_stated self.now.states.now) (source_transition_of line.now)))) }
+            (line_faults self.now.vars.items (length (names_stated self.now.states.now)) line.now.line
+            (line_spelled (names_of self.now.vars.items) (names_stated self.now.states.now) (source_transition_of line.now)))) }
     {
         let uses = self.line_uses(line);
         let assigns = line.assigns.as_slice();
@@ -241,7 +263,9 @@ impl Scope<'_> {
         lines: &[RawLine],
         faults: &mut Faults,
     ) -> Result<(), NoMemory>
-        ensures { OnOk result (faults.new.first ≡ earliest faults.old.first (lines_faults self.now.vars.items (names_stated self.now.states.now) (map source_transition_of lines.now))) }
+        ensures { OnOk result
+            (faults.new.first ≡ earliest faults.old.first
+            (lines_faults self.now.vars.items (names_stated self.now.states.now) (map source_transition_of lines.now))) }
     {
         for line in lines {
             self.check_line(alloc, line, faults)?;
@@ -256,7 +280,9 @@ impl Scope<'_> {
         state: &RawState,
         faults: &mut Faults,
     ) -> Result<(), NoMemory>
-        ensures { OnOk result (faults.new.first ≡ earliest faults.old.first (state_faults self.now.vars.items (names_stated self.now.states.now) (source_state_of state.now))) }
+        ensures { OnOk result
+            (faults.new.first ≡ earliest faults.old.first
+            (state_faults self.now.vars.items (names_stated self.now.states.now) (source_state_of state.now))) }
     {
         let lines = state.lines.as_slice();
         faults.note_where(lacks_else(lines), CheckRule::NoElse, state.line);
@@ -271,7 +297,9 @@ impl Scope<'_> {
         states: &[RawState],
         faults: &mut Faults,
     ) -> Result<(), NoMemory>
-        ensures { OnOk result (faults.new.first ≡ earliest faults.old.first (flat_map (state_faults self.now.vars.items (names_stated self.now.states.now)) (map source_state_of states.now))) }
+        ensures { OnOk result
+            (faults.new.first ≡ earliest faults.old.first
+            (flat_map (state_faults self.now.vars.items (names_stated self.now.states.now)) (map source_state_of states.now))) }
     {
         for state in states {
             self.check_state(alloc, state, faults)?;
@@ -323,7 +351,8 @@ fn lacks_else(lines: &[RawLine]) -> bool
 
 // Notes each transition after one without guard.
 fn note_after_else(lines: &[RawLine], faults: &mut Faults)
-    ensures { faults.new.first ≡ earliest faults.old.first (at_lines AfterElse (after_else false (map source_transition_of lines.now))) }
+    ensures { faults.new.first ≡ earliest faults.old.first
+        (at_lines AfterElse (after_else false (map source_transition_of lines.now))) }
 {
     let mut seen = false;
     for line in lines {

@@ -5,7 +5,7 @@ ghost use Rattle.std.specs.Option.{option_copied};
 ghost use Rattle.std.specs.Result.{OnOk};
 ghost use Rattle.fs_model.specs.Limits.{most_variables, most_states};
 ghost use Rattle.fs_model.specs.View.{declaration_of, source_state_of};
-ghost use Rattle.fs_rules.specs.Spelled.{place, declared_by, variables_of, names_of};
+ghost use Rattle.fs_rules.specs.MachineOfParts.{place, declared_by, variables_of, names_of};
 ghost use Rattle.fs_rules.specs.Rules.{declared_names, declared_states};
 ghost use Rattle.fs_rules.specs.Places.{declared_of, names_stated, IsTableOf};
 
@@ -52,7 +52,8 @@ impl Scope<'_> {
 
     /// Whether a state has the name.
     pub fn knows_state(&self, name: &Name) -> bool
-        ensures { result ≡ nat_lt (place (names_stated self.now.states.now) name.now) (length (names_stated self.now.states.now)) }
+        ensures { result ≡ nat_lt (place (names_stated self.now.states.now) name.now)
+            (length (names_stated self.now.states.now)) }
     {
         self.state_place(name) < self.states.len()
     }
@@ -111,7 +112,9 @@ pub fn declare_variables(alloc: Global, decls: &[Decl]) -> Result<Variables, NoM
 // Adds the variables of one declaration.
 fn declare(alloc: Global, decl: &Decl, out: &mut Variables) -> Result<(), NoMemory>
     ensures vars { OnOk result (out.new.vars.items ≡ out.old.vars.items ++ declared_by (declaration_of decl.now)) }
-    ensures declared { OnOk result (map declared_of out.new.declared.items ≡ map declared_of out.old.declared.items ++ map (λ n. (decl.now.line, n)) decl.now.names.items) }
+    ensures declared { OnOk result
+        (map declared_of out.new.declared.items ≡ map declared_of out.old.declared.items
+        ++ map (λ n. (decl.now.line, n)) decl.now.names.items) }
 {
     for name in &decl.names {
         declare_one(alloc, decl, name, out)?;
@@ -121,8 +124,10 @@ fn declare(alloc: Global, decl: &Decl, out: &mut Variables) -> Result<(), NoMemo
 
 // Adds one variable of a declaration.
 fn declare_one(alloc: Global, decl: &Decl, name: &Name, out: &mut Variables) -> Result<(), NoMemory>
-    ensures vars { OnOk result (out.new.vars.items ≡ out.old.vars.items ++ record { name = name.now; role = decl.now.role; sort = decl.now.sort } ∷ []) }
-    ensures declared { OnOk result (map declared_of out.new.declared.items ≡ map declared_of out.old.declared.items ++ (decl.now.line, name.now) ∷ []) }
+    ensures vars { OnOk result
+        (out.new.vars.items ≡ out.old.vars.items ++ record { name = name.now; role = decl.now.role; sort = decl.now.sort } ∷ []) }
+    ensures declared { OnOk result
+        (map declared_of out.new.declared.items ≡ map declared_of out.old.declared.items ++ (decl.now.line, name.now) ∷ []) }
 {
     let var = VarInfo {
         name: name.try_clone(alloc)?,

@@ -1,10 +1,12 @@
 //! States that lead back to themselves with no cut between.
 
-ghost use Rattle.std.specs.Prelude.{◌≡◌, ℕ, ◌<◌, ◌≤◌, ◌+◌, ◌-◌, ◌^◌, ◌⊎◌, ◌++◌, [], ◌∷◌, length, Some, None, true, false, IfOk, slice_index, nat_lt};
+ghost use Rattle.std.specs.Prelude.{◌≡◌, ℕ, ◌<◌, ◌≤◌, ◌+◌, ◌-◌, ◌^◌, ◌⊎◌, ◌++◌, [], ◌∷◌, length, Some, None, true, false, IfOk};
+ghost use Rattle.std.specs.Prelude.{slice_index, nat_lt};
 ghost use Rattle.std.specs.List.{slice_get, list_all};
 ghost use Rattle.std.specs.Option.{is_some};
 ghost use Rattle.std.specs.Result.{OnOk};
-ghost use Rattle.fs_rules.specs.Walks.{is_cut, reaches, IsRound, IsGraph, pass_at, may_pass, judged, trail, closed, IsWalk, AreSettled};
+ghost use Rattle.fs_rules.specs.TargetWalks.{is_cut, walk_reaches_cut, IsRound, IsTargetList, pass_at, may_pass, judged, trail};
+ghost use Rattle.fs_rules.specs.TargetWalks.{round_of_walk, IsWalk, AreSettledWalks};
 ghost use Rattle.fs_rules.specs.declared.uncut_cycles.Pass.{Pass};
 ghost use Rattle.fs_rules.specs.declared.uncut_cycles.Verdict.TheVariants.{Ends};
 
@@ -42,11 +44,14 @@ struct Stop {
 
 /// The states that lead back to themselves with no cut between. Each step is by `next`.
 pub fn find_endless(alloc: Global, next: &[usize], cut: &[bool]) -> Result<Vec<usize>, NoMemory>
-    requires { IsGraph next.now cut.now }
+    requires { IsTargetList next.now cut.now }
     ensures inside { IfOk result (λ found. list_all (λ q. nat_lt q (length next.now)) found.items ≡ true) }
     ensures rounds { IfOk result (λ found. (k q : ℕ) → slice_get found.items k ≡ Some q → IsRound next.now cut.now q) }
-    ensures all { IfOk result (λ found. (q : ℕ) → q < length next.now → IsRound next.now cut.now q → (k : ℕ) × (slice_get found.items k ≡ Some q)) }
-    ensures reach { IfOk result (λ found. length found.items ≡ 0 → (q : ℕ) → q < length next.now → reaches next.now cut.now (length next.now) q ≡ true) }
+    ensures all { IfOk result
+        (λ found. (q : ℕ) → q < length next.now → IsRound next.now cut.now q → (k : ℕ) × (slice_get found.items k ≡ Some q)) }
+    ensures reach { IfOk result
+        (λ found. length found.items ≡ 0 → (q : ℕ) → q < length next.now
+        → walk_reaches_cut next.now cut.now (length next.now) q ≡ true) }
 {
     let mut walks = Walks {
         passes: none_passed(alloc, next.len())?,
@@ -73,12 +78,14 @@ fn none_passed(alloc: Global, count: usize) -> Result<Vec<Option<Pass>>, NoMemor
 
 // Walks from a state, and settles where that leads.
 fn visit(next: &[usize], cut: &[bool], start: usize, walks: &mut Walks) -> Result<(), NoMemory>
-    requires graph { IsGraph next.now cut.now }
+    requires graph { IsTargetList next.now cut.now }
     requires start { start < length next.now }
-    requires settled { AreSettled next.now cut.now walks.old.passes.items walks.old.verdicts.items walks.old.found.items }
-    ensures settled { OnOk result (AreSettled next.now cut.now walks.new.passes.items walks.new.verdicts.items walks.new.found.items) }
+    requires settled { AreSettledWalks next.now cut.now walks.old.passes.items walks.old.verdicts.items walks.old.found.items }
+    ensures settled { OnOk result
+        (AreSettledWalks next.now cut.now walks.new.passes.items walks.new.verdicts.items walks.new.found.items) }
     ensures seen { OnOk result ((is_cut cut.now start ≡ true) ⊎ (is_some (pass_at walks.new.passes.items start) ≡ true)) }
-    ensures keeps { OnOk result ((q : ℕ) → is_some (pass_at walks.old.passes.items q) ≡ true → is_some (pass_at walks.new.passes.items q) ≡ true) }
+    ensures keeps { OnOk result
+        ((q : ℕ) → is_some (pass_at walks.old.passes.items q) ≡ true → is_some (pass_at walks.new.passes.items q) ≡ true) }
 {
     let walk = walks.verdicts.len();
     let stop = take_walk(next, cut, start, walk, &mut walks.passes);
@@ -96,7 +103,7 @@ fn take_walk(
     walk: usize,
     passes: &mut Vec<Option<Pass>>,
 ) -> Stop
-    requires graph { IsGraph next.now cut.now }
+    requires graph { IsTargetList next.now cut.now }
     requires start { start < length next.now }
     requires same { length passes.old.items ≡ length next.now }
     ensures walk { IsWalk next.now cut.now start walk passes.old.items passes.new.items result.end result.steps }
@@ -123,7 +130,8 @@ fn may_pass(cut: &[bool], passes: &Vec<Option<Pass>>, state: usize) -> bool
 
 // What a walk comes to.
 fn judge(at_cut: bool, pass: Option<Pass>, steps: usize, verdicts: &[Verdict]) -> Verdict
-    requires { (p : Pass) (total : ℕ) → pass ≡ Some p → slice_get verdicts.now p.walk ≡ Some (Ends total) → (p.step ≤ total) × (total + steps < 2 ^ 63) }
+    requires { (p : Pass) (total : ℕ) → pass ≡ Some p → slice_get verdicts.now p.walk ≡ Some (Ends total)
+        → (p.step ≤ total) × (total + steps < 2 ^ 63) }
     ensures { result ≡ judged at_cut pass steps verdicts.now }
 {
     if at_cut {
@@ -148,7 +156,7 @@ fn add_round(
 ) -> Result<(), NoMemory>
     requires leads { (q : ℕ) → q < length next.now → slice_index next.now q < length next.now }
     requires end { stop.end < length next.now }
-    ensures { OnOk result (found.new.items ≡ found.old.items ++ closed next.now walk stop.end stop.steps pass) }
+    ensures { OnOk result (found.new.items ≡ found.old.items ++ round_of_walk next.now walk stop.end stop.steps pass) }
 {
     match pass {
         Some(pass) if pass.walk == walk => {

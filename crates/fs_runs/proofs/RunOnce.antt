@@ -8,7 +8,7 @@ use Rattle.fs_model.proofs.Determined.{goes_once}
 use Rattle.fs_model.proofs.Ranges.{stays_less, after_on}
 use Rattle.fs_runs.specs.declared.run.RunStop.TheVariants.{StepsOver, PastWide, NoMemory}
 use Rattle.fs_runs.specs.Outcomes.{RunsOn, LeavesRange}
-use Rattle.fs_runs.specs.Laws.{OneEnd, OneStop, EndOrStop}
+use Rattle.fs_runs.specs.StepLaws.{OneEnd, OneStop, EndOrStop}
 
 -- a run that returns stays in range behind the return
 pub goes_on : (m : Fsmd) (k n q : ℕ) (s t : Store) → FirstReturn m n q s t → StaysInRange m n q s → StaysInRange m k q s

@@ -5,8 +5,8 @@ use Rattle.fs_model.specs.Machines.{Fsmd}
 use Rattle.fs_model.specs.Stores.{Store}
 use Rattle.fs_model.specs.Runs.{Inputs, Step, ReachesReset, FirstReturn, Run, start, output}
 use Rattle.fs_model.specs.Touched.{touched, AllInRange, StaysInRange}
-use Rattle.std.specs.Prelude.{◌==◌, true, false, List, IfOk, Result, Ok, Err}
-use Rattle.std.proofs.lemmas.Bool.Decides.{nat_tests}
+use Rattle.std.specs.Prelude.{List, IfOk, Result, Ok, Err}
+use Rattle.base_lemmas.proofs.Numbers.{plus_suc}
 use Rattle.fs_runs.specs.declared.run.Ended.{Ended}
 use Rattle.fs_runs.specs.declared.run.RunStop.{RunStop}
 use Rattle.fs_runs.specs.Outcomes.{RunsOn, LeavesRange, told_by}
@@ -74,9 +74,6 @@ at_first m first from = record {
     zero_front : (n : ℕ) → n ≡ 0 + n
     zero_front n = omega arith
 
-moved : (k n : ℕ) → k + suc n ≡ k + 1 + n
-moved k n = omega arith
-
 none_more : (m : Fsmd) (k q r : ℕ) (s u : Store) (first : ℕ) (from : Store) → At m k q s first from → Step m q s r u → r ≢ m.reset
     → (n : ℕ) (t : Store) → n ≤ k + 1 → (n ≡ k + 1) ⊎ (n ≤ k) → ¬ FirstReturn m n first from t
 none_more m k q r s u first from a step h n t _ (inr low) g = a.none n t low g
@@ -90,19 +87,22 @@ split n k h = cases_split (cases_lt k n)
     cases_split (inr x) = inr x
 
 -- one more step that doesn't return
-pub at_next : (m : Fsmd) (k q r : ℕ) (s u : Store) (first : ℕ) (from : Store) → At m k q s first from → Step m q s r u → AllInRange (touched m q s) → r ≢ m.reset → At m (k + 1) r u first from
+pub at_next : (m : Fsmd) (k q r : ℕ) (s u : Store) (first : ℕ) (from : Store) → At m k q s first from → Step m q s r u → AllInRange (touched m q s)
+    → r ≢ m.reset → At m (k + 1) r u first from
 at_next m k q r s u first from a step range h = record {
-  goes = λ n t g. subst (λ z. FirstReturn m z first from t) (moved k n) (a.goes (suc n) t (step_goes m n q r s u t step h g));
+  goes = λ n t g. subst (λ z. FirstReturn m z first from t) (plus_suc k n) (a.goes (suc n) t (step_goes m n q r s u t step h g));
   none = λ n t low. none_more m k q r s u first from a step h n t low (split n k low);
-  range = λ n g. subst (λ z. StaysInRange m z first from) (moved k n) (a.range (suc n) (range_step m n q r s u step range g));
-  past = λ n g. range_rest m n q r s u step h (a.past (suc n) (subst (λ z. StaysInRange m z first from) (sym (moved k n)) g));
-  left = λ n t g. goes_step m n q r s u t step h (a.left (suc n) t (subst (λ z. FirstReturn m z first from t) (sym (moved k n)) g));
+  range = λ n g. subst (λ z. StaysInRange m z first from) (plus_suc k n) (a.range (suc n) (range_step m n q r s u step range g));
+  past = λ n g. range_rest m n q r s u step h (a.past (suc n) (subst (λ z. StaysInRange m z first from) (sym (plus_suc k n)) g));
+  left = λ n t g. goes_step m n q r s u t step h (a.left (suc n) t (subst (λ z. FirstReturn m z first from t) (sym (plus_suc k n)) g));
 }
 
-pub ended_goes : (m : Fsmd) (k q r : ℕ) (s u : Store) (first : ℕ) (from : Store) → At m k q s first from → Step m q s r u → r ≡ m.reset → FirstReturn m (k + 1) first from u
+pub ended_goes : (m : Fsmd) (k q r : ℕ) (s u : Store) (first : ℕ) (from : Store) → At m k q s first from → Step m q s r u → r ≡ m.reset
+    → FirstReturn m (k + 1) first from u
 ended_goes m k q r s u first from a step h = a.goes 1 u (step_returns m q r s u step h)
 
-pub ended_range : (m : Fsmd) (k q r : ℕ) (s u : Store) (first : ℕ) (from : Store) → At m k q s first from → Step m q s r u → AllInRange (touched m q s) → StaysInRange m (k + 1) first from
+pub ended_range : (m : Fsmd) (k q r : ℕ) (s u : Store) (first : ℕ) (from : Store) → At m k q s first from → Step m q s r u → AllInRange (touched m q s)
+    → StaysInRange m (k + 1) first from
 ended_range m k q r s u first from a step range = a.range 1 (range_last m q r s u step range)
 
 last_zero : (k : ℕ) → k + 0 ≡ k
@@ -111,7 +111,8 @@ last_zero k = omega arith
 less_one : (k : ℕ) → k + 0 ≡ k + 1 - 1
 less_one k = omega arith
 
-pub leaves_range : (m : Fsmd) (ins : Inputs) (limit k q : ℕ) (s : Store) → At m k q s m.reset (start m ins) → k < limit → ¬ AllInRange (touched m q s) → LeavesRange m ins limit (k + 1)
+pub leaves_range : (m : Fsmd) (ins : Inputs) (limit k q : ℕ) (s : Store) → At m k q s m.reset (start m ins) → k < limit → ¬ AllInRange (touched m q s)
+    → LeavesRange m ins limit (k + 1)
 leaves_range m ins limit k q s a h out = record {
   counted = omega arith;
   within = omega arith;
@@ -125,17 +126,13 @@ runs_on m ins limit k q s a e = subst (λ z. RunsOn m ins z) e (record {
   in_range = subst (λ z. StaysInRange m z m.reset (start m ins)) (last_zero k) (a.range 0 tt);
 })
 
-pub is_reset : (q r : ℕ) → (q == r) ≡ true → q ≡ r
-is_reset q r h = grind (arith, nat_tests)
-
-pub is_other : (q r : ℕ) → (q == r) ≡ false → q ≢ r
-is_other q r h = grind (arith, nat_tests)
-
 pub run_ended : (r : Result Ended RunStop) (m : Fsmd) (ins : Inputs) (n : ℕ) (end : Store) → FirstReturn m n m.reset (start m ins) end
-    → IfOk r (λ e. (name : List ℕ) → output m end name ≡ told_by m e.outputs.items name) → IfOk r (λ e. e.steps ≡ n) → IfOk r (λ e. Run m ins (told_by m e.outputs.items) e.steps)
+    → IfOk r (λ e. (name : List ℕ) → output m end name ≡ told_by m e.outputs.items name) → IfOk r (λ e. e.steps ≡ n)
+    → IfOk r (λ e. Run m ins (told_by m e.outputs.items) e.steps)
 run_ended (Ok e) m ins n end g outs steps = record { end = end; goes = subst (λ k. FirstReturn m k m.reset (start m ins) end) (sym steps) g; gives = outs }
 run_ended (Err e) m ins n end g outs steps = tt
 
-pub range_ended : (r : Result Ended RunStop) (m : Fsmd) (ins : Inputs) (n : ℕ) → StaysInRange m n m.reset (start m ins) → IfOk r (λ e. e.steps ≡ n) → IfOk r (λ e. StaysInRange m e.steps m.reset (start m ins))
+pub range_ended : (r : Result Ended RunStop) (m : Fsmd) (ins : Inputs) (n : ℕ) → StaysInRange m n m.reset (start m ins) → IfOk r (λ e. e.steps ≡ n)
+    → IfOk r (λ e. StaysInRange m e.steps m.reset (start m ins))
 range_ended (Ok e) m ins n g steps = subst (λ k. StaysInRange m k m.reset (start m ins)) (sym steps) g
 range_ended (Err e) m ins n g steps = tt

@@ -9,7 +9,7 @@ use Rattle.fs_model.specs.Runs.{Inputs, Content, Number, Entries, Emitted, is_in
 use Rattle.fs_runs.specs.declared.values.Value.{Value}
 use Rattle.fs_runs.specs.declared.inputs.Input.{Input}
 use Rattle.fs_runs.specs.declared.inputs.Inputs.{Inputs as InputValues}
-use Rattle.fs_runs.specs.Values.{number_in, entry_in, sort_of, content_of, zero_content}
+use Rattle.fs_runs.specs.Values.{value_number, entry_in, sort_of, content_of, zero_content}
 
 -- the value that is given for a name, the first of several
 abbrev pub value_named : List Input → List ℕ → Option Value
@@ -18,7 +18,10 @@ value_named (i ∷ rest) name = cond (bytes_eq i.name name) (Some i.value) (valu
 
 -- the number and the array of each name
 abbrev pub inputs_of : InputValues → Inputs
-inputs_of ins = record { scalar = λ name. number_in (value_named ins.items.items name); array = λ name i. entry_in (value_named ins.items.items name) i }
+inputs_of ins = record {
+  scalar = λ name. value_number (value_named ins.items.items name);
+  array = λ name i. entry_in (value_named ins.items.items name) i;
+}
 
 -- the values in order
 abbrev pub input_values : InputValues → List Value
@@ -46,7 +49,8 @@ sort_named (f ∷ rest) name = cond (bytes_eq f.0 name) (Some f.1) (sort_named r
 
 -- among names with sorts is each input of a machine, with its sort
 abbrev pub Serves : List Signature → Fsmd → Type 0
-Serves signatures m = (k : ℕ) (v : VarInfo) → slice_get m.variables k ≡ Some v → is_input v.role ≡ true → sort_named signatures v.name ≡ Some v.sort
+Serves signatures m = (k : ℕ) (v : VarInfo) → slice_get m.variables k ≡ Some v → is_input v.role ≡ true
+    → sort_named signatures v.name ≡ Some v.sort
 
 -- each value is 0, 0 at each index, or the empty list
 abbrev pub AllZero : List Input → Type 0

@@ -3,5 +3,5 @@ pub mod Reads
 pub mod Changes
 pub mod InputValues
 pub mod Outcomes
-pub mod Listing
-pub mod Laws
+pub mod EntryLists
+pub mod StepLaws

@@ -34,14 +34,14 @@ outs_of (v ∷ vars) [] = []
 outs_of (v ∷ vars) (w ∷ vs) = cond (is_output v.role) (content_of w ∷ outs_of vars vs) (outs_of vars vs)
 
 -- what contents in order say of names in order
-abbrev pub told : List (List ℕ) → List Content → Outputs
-told [] cs name = None
-told (n ∷ ns) [] name = None
-told (n ∷ ns) (c ∷ cs) name = cond (bytes_eq n name) (Some c) (told ns cs name)
+abbrev pub outputs_by_name : List (List ℕ) → List Content → Outputs
+outputs_by_name [] cs name = None
+outputs_by_name (n ∷ ns) [] name = None
+outputs_by_name (n ∷ ns) (c ∷ cs) name = cond (bytes_eq n name) (Some c) (outputs_by_name ns cs name)
 
 -- what the values of a machine's outputs say
 abbrev pub told_by : Fsmd → List Value → Outputs
-told_by m outs name = told (output_names m.variables) (map content_of outs) name
+told_by m outs name = outputs_by_name (output_names m.variables) (map content_of outs) name
 
 -- each of the names holds something
 abbrev pub HoldsEach : Outputs → List (List ℕ) → Type 0
@@ -72,7 +72,7 @@ IsStopped m ins limit (stops.PastWide step) = LeavesRange m ins limit step
 IsStopped m ins limit stops.NoMemory = Unit {0}
 
 -- the run itself is why it stopped: memory did not run out
-abbrev pub IsOfRun : RunStop → Type 0
-IsOfRun (stops.StepsOver n) = Unit {0}
-IsOfRun (stops.PastWide step) = Unit {0}
-IsOfRun stops.NoMemory = ⊥
+abbrev pub IsStopOfRun : RunStop → Type 0
+IsStopOfRun (stops.StepsOver n) = Unit {0}
+IsStopOfRun (stops.PastWide step) = Unit {0}
+IsStopOfRun stops.NoMemory = ⊥

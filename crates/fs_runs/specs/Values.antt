@@ -1,5 +1,6 @@
 -- What the values of the code say.
-use Rattle.std.specs.Prelude.{◌≡◌, ℕ, ◌+◌, nat_le, Bool, ℤ, pos, List, [], Option, Some, None, map, slice_get, vec_len, vec_capacity}
+use Rattle.std.specs.Prelude.{◌≡◌, ℕ, ◌+◌, nat_le, Bool, ℤ, pos, List, [], Option, Some, None, map, slice_get, vec_len}
+use Rattle.std.specs.Prelude.{vec_capacity}
 use Rattle.std.specs.Ordering.{int_cmp}
 use Rattle.std.specs.Option.{unwrap_or}
 use Rattle.std.specs.BTreeMap.{get}
@@ -16,8 +17,8 @@ use Rattle.fs_runs.specs.declared.numbers.Numbers.{Numbers}
 use Rattle.fs_runs.specs.declared.store.Store.{Store as Held}
 
 -- the number at an index: 0 where there is no entry
-abbrev pub entry : Entries → ℤ → ℤ
-entry e i = unwrap_or (get int_cmp e.map i) (pos 0)
+abbrev pub entry_number : Entries → ℤ → ℤ
+entry_number e i = unwrap_or (get int_cmp e.map i) (pos 0)
 
 -- the numbers of a list, in order
 abbrev pub numbers_of : Numbers → List ℤ
@@ -30,7 +31,7 @@ has_room l n = nat_le (vec_len l.items + n) (vec_capacity l.items)
 -- what a variable holds at the end of a run
 abbrev pub content_of : Value → Content
 content_of (Num n) = Number n
-content_of (Arr e) = Listed (entry e)
+content_of (Arr e) = Listed (entry_number e)
 content_of (values.List l) = Emitted (numbers_of l)
 
 abbrev pub sort_of : Value → Sort
@@ -45,27 +46,31 @@ zero_content Array = Listed (λ i. pos 0)
 zero_content Port = Emitted []
 
 -- a value as a number, as an array and as a list: 0 or nothing where it is of another sort, or there is none
-abbrev pub number_in : Option Value → ℤ
-number_in None = pos 0
-number_in (Some (Num n)) = n
-number_in (Some (Arr e)) = pos 0
-number_in (Some (values.List l)) = pos 0
+abbrev pub value_number : Option Value → ℤ
+value_number None = pos 0
+value_number (Some (Num n)) = n
+value_number (Some (Arr e)) = pos 0
+value_number (Some (values.List l)) = pos 0
 
 abbrev pub entry_in : Option Value → ℤ → ℤ
 entry_in None i = pos 0
 entry_in (Some (Num n)) i = pos 0
-entry_in (Some (Arr e)) i = entry e i
+entry_in (Some (Arr e)) i = entry_number e i
 entry_in (Some (values.List l)) i = pos 0
 
-abbrev pub list_in : Option Value → List ℤ
-list_in None = []
-list_in (Some (Num n)) = []
-list_in (Some (Arr e)) = []
-list_in (Some (values.List l)) = numbers_of l
+abbrev pub value_list : Option Value → List ℤ
+value_list None = []
+value_list (Some (Num n)) = []
+value_list (Some (Arr e)) = []
+value_list (Some (values.List l)) = numbers_of l
 
 -- the store that values stand for, one a variable
 abbrev pub store_from : List Value → Store
-store_from vs = record { scalar = λ x. number_in (slice_get vs x); array = λ x i. entry_in (slice_get vs x) i; port = λ x. list_in (slice_get vs x) }
+store_from vs = record {
+  scalar = λ x. value_number (slice_get vs x);
+  array = λ x i. entry_in (slice_get vs x) i;
+  port = λ x. value_list (slice_get vs x);
+}
 
 abbrev pub values_of : Held → List Value
 values_of h = h.values.items

@@ -15,7 +15,8 @@ use fs_model::parts::{Branch, Lit, VarId};
 
 // Whether a literal holds, and `None` exactly when a number of it lies outside 128 bits.
 fn literal_holds(lit: &Lit<VarId>, values: &[Value]) -> Option<bool>
-    ensures { SomeIff result (LiteralFits (literal_of lit.now) (store_from values.now)) (literal_holds (literal_of lit.now) (store_from values.now)) }
+    ensures { SomeIff result (LiteralFits (literal_of lit.now) (store_from values.now))
+        (literal_holds (literal_of lit.now) (store_from values.now)) }
 {
     let left = value_of(&lit.left, values)?;
     let right = value_of(&lit.right, values)?;
@@ -24,7 +25,8 @@ fn literal_holds(lit: &Lit<VarId>, values: &[Value]) -> Option<bool>
 
 // Whether all literals of a way hold. What comes after one that fails is not looked at.
 fn literals_hold(way: &[Lit<VarId>], values: &[Value]) -> Option<bool>
-    ensures { SomeIff result (AllInRange (touched_by_way (map literal_of way.now) (store_from values.now))) (literals_hold (map literal_of way.now) (store_from values.now)) }
+    ensures { SomeIff result (AllInRange (touched_by_way (map literal_of way.now) (store_from values.now)))
+        (literals_hold (map literal_of way.now) (store_from values.now)) }
 {
     for lit in way {
         if !literal_holds(lit, values)? {
@@ -38,7 +40,9 @@ fn literals_hold(way: &[Lit<VarId>], values: &[Value]) -> Option<bool>
 /// the way to it lies outside 128 bits.
 pub fn taken_branch<'a>(branches: &'a [Branch], values: &[Value]) -> Option<&'a Branch>
     requires { IsSome (taken_branch (map branch_of branches.now) (store_from values.now)) }
-    ensures { MatchOption result (¬ AllInRange (touched_by_branches (map branch_of branches.now) (store_from values.now))) (λ b. AllInRange (touched_by_branches (map branch_of branches.now) (store_from values.now)) × (taken_branch (map branch_of branches.now) (store_from values.now) ≡ Some (branch_of b.now))) }
+    ensures { MatchOption result (¬ AllInRange (touched_by_branches (map branch_of branches.now) (store_from values.now)))
+        (λ b. AllInRange (touched_by_branches (map branch_of branches.now) (store_from values.now))
+        × (taken_branch (map branch_of branches.now) (store_from values.now) ≡ Some (branch_of b.now))) }
 {
     for branch in branches {
         if literals_hold(branch.lits.as_slice(), values)? {

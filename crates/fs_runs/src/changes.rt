@@ -5,7 +5,9 @@ ghost use Rattle.std.specs.Option.{SomeIff};
 ghost use Rattle.std.specs.Result.{OnOk, OnErr};
 ghost use Rattle.fs_model.specs.View.{assignment_of};
 ghost use Rattle.fs_runs.specs.Values.{store_from, sort_of};
-ghost use Rattle.fs_runs.specs.Changes.{done_by, AssignmentFits, AssignmentsFit, changed, changed_all, suits, is_ready, is_array, is_list, room_in, room_for, AllSuit, AllReady, Alike, Puts, Appends, KeepsRoom, StaysReady};
+ghost use Rattle.fs_runs.specs.Changes.{change_by, AssignmentFits, AssignmentsFit, change_store, changed_all, suits};
+ghost use Rattle.fs_runs.specs.Changes.{is_ready_change, is_array_value, is_list, room_in, room_for, AllSuit, AllReady};
+ghost use Rattle.fs_runs.specs.Changes.{ReadsAlike, PutsAtIndex, Appends, KeepsRoom, StaysReady};
 ghost use Rattle.fs_runs.specs.Outcomes.{PastOnly};
 ghost use Rattle.fs_runs.specs.declared.changes.Change.{Change};
 
@@ -26,7 +28,8 @@ pub enum Change {
 
 // What an assignment changes, and `None` exactly when a number of it lies outside 128 bits.
 fn change_of(assign: &Assign<VarId>, values: &[Value]) -> Option<Change>
-    ensures { SomeIff result (AssignmentFits (store_from values.now) (assignment_of assign.now)) (done_by (store_from values.now) (assignment_of assign.now)) }
+    ensures { SomeIff result (AssignmentFits (store_from values.now) (assignment_of assign.now))
+        (change_by (store_from values.now) (assignment_of assign.now)) }
 {
     match assign {
         Assign::Set(x, e) => {
@@ -51,7 +54,7 @@ pub fn changes_of(
     assigns: &[Assign<VarId>],
     values: &[Value],
 ) -> Result<Vec<Change>, StepStop>
-    ensures changes { IfOk result (λ out. out.items ≡ map (done_by (store_from values.now)) (map assignment_of assigns.now)) }
+    ensures changes { IfOk result (λ out. out.items ≡ map (change_by (store_from values.now)) (map assignment_of assigns.now)) }
     ensures fit { OnOk result (AssignmentsFit (store_from values.now) (map assignment_of assigns.now)) }
     ensures past { IfErr result (λ e. PastOnly e (¬ AssignmentsFit (store_from values.now) (map assignment_of assigns.now))) }
 {
@@ -107,7 +110,7 @@ fn make_room(values: &mut [Value], changes: &[Change]) -> Result<(), NoMemory>
 // Makes room for one change of so many. What was ready stays so.
 fn make_room_for(values: &mut [Value], change: &Change, count: usize) -> Result<(), NoMemory>
     requires { IsTrue (suits values.old change.now) }
-    ensures room { OnOk result (IsTrue (is_ready count values.new change.now)) }
+    ensures room { OnOk result (IsTrue (is_ready_change count values.new change.now)) }
     ensures stays { StaysReady values.old values.new }
 {
     match change {
@@ -118,10 +121,10 @@ fn make_room_for(values: &mut [Value], change: &Change, count: usize) -> Result<
 }
 
 fn make_room_in(value: &mut Value, i: i128) -> Result<(), NoMemory>
-    requires { is_array (Some value.old) ≡ true }
+    requires { is_array_value (Some value.old) ≡ true }
     ensures room { OnOk result (room_in (Some value.new) i ≡ true) }
     ensures keeps { (n : ℕ) → KeepsRoom n n value.old value.new }
-    ensures same { Alike value.old value.new }
+    ensures same { ReadsAlike value.old value.new }
 {
     match value {
         Value::Arr(entries) => match entries.make_room(i) {
@@ -136,7 +139,7 @@ fn make_list_room(value: &mut Value, count: usize) -> Result<(), NoMemory>
     requires { is_list (Some value.old) ≡ true }
     ensures room { OnOk result (room_for (Some value.new) count ≡ true) }
     ensures keeps { (n : ℕ) → KeepsRoom n n value.old value.new }
-    ensures same { Alike value.old value.new }
+    ensures same { ReadsAlike value.old value.new }
 {
     match value {
         Value::List(numbers) => match numbers.make_room(count) {
@@ -160,9 +163,10 @@ fn write_all(values: &mut [Value], changes: &[Change])
 
 // Makes one change. What was ready as the last of more changes stays so.
 fn write(values: &mut [Value], change: &Change)
-    requires { IsTrue (is_ready 1 values.old change.now) }
-    ensures changed { store_from values.new ≡ changed (store_from values.old) change.now }
-    ensures keeps { (n : ℕ) (c : Change) → IsTrue (is_ready (suc n) values.old c) → IsTrue (is_ready n values.new c) }
+    requires { IsTrue (is_ready_change 1 values.old change.now) }
+    ensures changed { store_from values.new ≡ change_store (store_from values.old) change.now }
+    ensures keeps { (n : ℕ) (c : Change) → IsTrue (is_ready_change (suc n) values.old c)
+        → IsTrue (is_ready_change n values.new c) }
     ensures sorts { map sort_of values.new ≡ map sort_of values.old }
 {
     match change {
@@ -174,7 +178,7 @@ fn write(values: &mut [Value], change: &Change)
 
 fn write_in(value: &mut Value, i: i128, v: i128)
     requires { room_in (Some value.old) i ≡ true }
-    ensures put { Puts i v value.old value.new }
+    ensures put { PutsAtIndex i v value.old value.new }
     ensures keeps { (n : ℕ) → KeepsRoom (suc n) n value.old value.new }
 {
     match value {
@@ -217,7 +221,7 @@ fn sweep(values: &mut [Value], change: &Change)
 }
 
 fn sweep_in(value: &mut Value, i: i128)
-    ensures { Alike value.old value.new }
+    ensures { ReadsAlike value.old value.new }
 {
     match value {
         Value::Arr(entries) => entries.sweep(i),

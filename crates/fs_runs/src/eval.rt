@@ -4,16 +4,16 @@ ghost use Rattle.std.specs.Prelude.{◌≡◌, slice_get};
 ghost use Rattle.std.specs.Option.{SomeIff};
 ghost use Rattle.fs_model.specs.Meaning.{value};
 ghost use Rattle.fs_model.specs.View.{term_of};
-ghost use Rattle.fs_runs.specs.Values.{number_in, entry_in, store_from};
+ghost use Rattle.fs_runs.specs.Values.{value_number, entry_in, store_from};
 ghost use Rattle.fs_runs.specs.Reads.{EachFits};
 
 use crate::values::Value;
+use base_integers::{quotient, remainder};
 use fs_model::parts::{Expr, VarId};
-use integers::{quotient, remainder};
 
 // What a scalar holds.
 fn number(values: &[Value], x: VarId) -> i128
-    ensures { result ≡ number_in (slice_get values.now x.0) }
+    ensures { result ≡ value_number (slice_get values.now x.0) }
 {
     match values.get(x.0 as usize) {
         Some(Value::Num(n)) => *n,

@@ -5,7 +5,8 @@ ghost use Rattle.std.specs.Option.{option_map, option_copied};
 ghost use Rattle.std.specs.Result.{OnOk, OnErr};
 ghost use Rattle.fs_model.specs.Runs.{is_input, start};
 ghost use Rattle.fs_runs.specs.Values.{sort_of, content_of, store_of, IsStoreOf};
-ghost use Rattle.fs_runs.specs.InputValues.{value_named, input_values, inputs_of, signatures_of, input_signatures, sort_named, Serves, all_zero, first_content, is_given, signature, AllZero};
+ghost use Rattle.fs_runs.specs.InputValues.{value_named, input_values, inputs_of, signatures_of, input_signatures, sort_named};
+ghost use Rattle.fs_runs.specs.InputValues.{Serves, all_zero, first_content, is_given, signature, AllZero};
 
 use crate::memory::NoMemory;
 use crate::store::Store;
@@ -96,7 +97,8 @@ impl Inputs {
 // Copies of the values of inputs.
 fn copy_items(alloc: Global, items: &[Input]) -> Result<Vec<Input>, NoMemory>
     ensures signatures { IfOk result (λ out. map signature out.items ≡ map signature items.now) }
-    ensures contents { IfOk result (λ out. map content_of (map (λ i. i.value) out.items) ≡ map content_of (map (λ i. i.value) items.now)) }
+    ensures contents { IfOk result
+        (λ out. map content_of (map (λ i. i.value) out.items) ≡ map content_of (map (λ i. i.value) items.now)) }
 {
     let mut out = Vec::new(alloc);
     for item in items {
@@ -117,7 +119,8 @@ fn is_given(var: &VarInfo) -> bool
 // Adds a value of 0 for a variable that is an input.
 fn add_input(alloc: Global, items: &mut Vec<Input>, var: &VarInfo) -> Result<(), NoMemory>
     requires { AllZero items.old.items }
-    ensures signatures { OnOk result (map signature items.new.items ≡ map signature items.old.items ++ input_signatures (var.now ∷ [])) }
+    ensures signatures { OnOk result
+        (map signature items.new.items ≡ map signature items.old.items ++ input_signatures (var.now ∷ [])) }
     ensures zero { OnOk result (AllZero items.new.items) }
 {
     if !var.role.is_input() {

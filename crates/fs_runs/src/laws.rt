@@ -1,6 +1,6 @@
 //! Laws of steps and runs as the code takes them. The functions do nothing.
 
-ghost use Rattle.fs_runs.specs.Laws.{TouchedByBranches, OneEnd, OneStop, EndOrStop};
+ghost use Rattle.fs_runs.specs.StepLaws.{TouchedByBranches, OneEnd, OneStop, EndOrStop};
 
 /// Of a step from a state of a sound machine, each touched number lies within 128 bits exactly when
 /// each number does that is looked at on the branches up to the one taken, and each number of that

@@ -25,7 +25,7 @@ pub struct Ended {
 }
 
 /// Why a run has no end.
-#[derive(Clone, Copy, Debug, PartialEq, Eq)]
+#[derive(Clone, Copy, Debug)]
 pub enum RunStop {
     /// Within so many steps it does not return to the reset state.
     StepsOver { limit: u64 },
@@ -76,7 +76,8 @@ fn is_reset(m: &Machine, s: StateId) -> bool
 // The end of a run after so many steps.
 fn end_after(alloc: Global, m: &Machine, store: &Store, steps: u64) -> Result<Ended, RunStop>
     requires { IsStoreOf m.now store.now }
-    ensures outputs { IfOk result (λ e. (name : List ℕ) → output m.now (store_of store.now) name ≡ told_by m.now e.outputs.items name) }
+    ensures outputs { IfOk result
+        (λ e. (name : List ℕ) → output m.now (store_of store.now) name ≡ told_by m.now e.outputs.items name) }
     ensures count { IfOk result (λ e. length e.outputs.items ≡ length (output_names m.now.variables)) }
     ensures holds { IfOk result (λ e. HoldsEach (told_by m.now e.outputs.items) (output_names m.now.variables)) }
     ensures steps { IfOk result (λ e. e.steps ≡ steps) }
@@ -106,7 +107,8 @@ fn outputs(alloc: Global, m: &Machine, store: &Store) -> Result<Vec<Value>, NoMe
 
 // Adds a copy of what a variable holds that is an output.
 fn add_output(out: &mut Vec<Value>, var: &VarInfo, value: &Value) -> Result<(), NoMemory>
-    ensures { OnOk result (map content_of out.new.items ≡ map content_of out.old.items ++ outs_of (var.now ∷ []) (value.now ∷ [])) }
+    ensures { OnOk result
+        (map content_of out.new.items ≡ map content_of out.old.items ++ outs_of (var.now ∷ []) (value.now ∷ [])) }
 {
     if var.role.is_output() {
         out.push(value.try_clone()?)?;

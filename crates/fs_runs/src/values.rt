@@ -4,7 +4,7 @@ ghost use Rattle.std.specs.Prelude.{◌≡◌, true, is_some, ℤ, pos, cond, If
 ghost use Rattle.std.specs.Ordering.{int_eq, int_cmp};
 ghost use Rattle.std.specs.Result.{OnOk, OnErr};
 ghost use Rattle.std.specs.BTreeMap.{get};
-ghost use Rattle.fs_runs.specs.Values.{entry, content_of, sort_of, zero_content};
+ghost use Rattle.fs_runs.specs.Values.{entry_number, content_of, sort_of, zero_content};
 
 mod listing;
 
@@ -32,7 +32,7 @@ pub enum Value {
 impl Entries {
     /// No entries: 0 at each index. Takes no memory.
     pub fn new(alloc: Global) -> Entries
-        ensures { (i : ℤ) → entry result i ≡ pos 0 }
+        ensures { (i : ℤ) → entry_number result i ≡ pos 0 }
     {
         Entries {
             map: BTreeMap::new(alloc),
@@ -41,15 +41,15 @@ impl Entries {
 
     /// The number at an index. Takes no memory.
     pub fn get(&self, i: i128) -> i128
-        ensures { result ≡ entry self.now i }
+        ensures { result ≡ entry_number self.now i }
     {
         self.map.get(&i).copied().unwrap_or(0)
     }
 
     /// Puts a number at an index. A 0 takes the entry out, and takes no memory.
     pub fn set(&mut self, i: i128, v: i128) -> Result<(), NoMemory>
-        ensures set { OnOk result ((j : ℤ) → entry self.new j ≡ cond (int_eq i j) v (entry self.old j)) }
-        ensures unchanged { OnErr result ((j : ℤ) → entry self.new j ≡ entry self.old j) }
+        ensures set { OnOk result ((j : ℤ) → entry_number self.new j ≡ cond (int_eq i j) v (entry_number self.old j)) }
+        ensures unchanged { OnErr result ((j : ℤ) → entry_number self.new j ≡ entry_number self.old j) }
     {
         if v == 0 {
             let _ = self.map.remove(&i);
@@ -64,7 +64,7 @@ impl Entries {
     pub(crate) fn make_room(&mut self, i: i128) -> Result<(), NoMemory>
         ensures room { OnOk result (is_some (get int_cmp self.new.map i) ≡ true) }
         ensures keeps { (j : ℤ) → is_some (get int_cmp self.old.map j) ≡ true → is_some (get int_cmp self.new.map j) ≡ true }
-        ensures same { (j : ℤ) → entry self.new j ≡ entry self.old j }
+        ensures same { (j : ℤ) → entry_number self.new j ≡ entry_number self.old j }
     {
         if self.map.contains_key(&i) {
             return Ok(());
@@ -78,7 +78,7 @@ impl Entries {
     // Puts a number at an index at which there is room.
     pub(crate) fn put(&mut self, i: i128, v: i128)
         requires { is_some (get int_cmp self.old.map i) ≡ true }
-        ensures put { (j : ℤ) → entry self.new j ≡ cond (int_eq i j) v (entry self.old j) }
+        ensures put { (j : ℤ) → entry_number self.new j ≡ cond (int_eq i j) v (entry_number self.old j) }
         ensures keeps { (j : ℤ) → is_some (get int_cmp self.old.map j) ≡ true → is_some (get int_cmp self.new.map j) ≡ true }
     {
         match self.map.insert(i, v) {
@@ -89,7 +89,7 @@ impl Entries {
 
     // Takes out the entry at an index if it is 0.
     pub(crate) fn sweep(&mut self, i: i128)
-        ensures { (j : ℤ) → entry self.new j ≡ entry self.old j }
+        ensures { (j : ℤ) → entry_number self.new j ≡ entry_number self.old j }
     {
         if self.get(i) == 0 {
             let _ = self.map.remove(&i);
@@ -98,7 +98,7 @@ impl Entries {
 
     /// A copy.
     pub fn try_clone(&self) -> Result<Entries, NoMemory>
-        ensures { IfOk result (λ copy. entry copy ≡ entry self.now) }
+        ensures { IfOk result (λ copy. entry_number copy ≡ entry_number self.now) }
     {
         match self.map.clone() {
             Ok(map) => Ok(Entries { map }),

@@ -3,11 +3,11 @@ use Rattle.std.proofs.Common.{◌≡◌, ℕ, Bool, true, false, List, [], ◌�
 use Rattle.std.specs.Bool.{Decides}
 use Rattle.fs_model.specs.Runs.{Content, Number, Entries, Emitted}
 use Rattle.fs_runs.specs.declared.run.RunStop.TheVariants.{StepsOver, PastWide, NoMemory}
-use Rattle.fs_show.specs.Shown.{array_text, Shows}
+use Rattle.fs_show.specs.ContentTexts.{array_text, PrintsAs}
 use Rattle.fs_runs.specs.Outcomes.{Outputs}
-use Rattle.fs_show.specs.Items.{item_of, IsItem, AreItems, IsGiven, AreGiven, SameOutputs}
-use Rattle.fs_show.specs.Ends.{end_text, replay_text, counterexample_text}
-use Rattle.fs_show.specs.Laws.{OneContentText, OneEndText, OneStopText, OneReplayText, OneCounterexampleText}
+use Rattle.fs_show.specs.ItemTexts.{item_text, IsItem, AreItems, IsGiven, AreGiven, SameOutputs}
+use Rattle.fs_show.specs.EndTexts.{end_text, replay_text, counterexample_text}
+use Rattle.fs_show.specs.PrintingLaws.{OneContentText, OneEndText, OneStopText, OneReplayText, OneCounterexampleText}
 use Rattle.fs_show.proofs.Listed.{listing_once}
 
 pub content_once : OneContentText
@@ -18,7 +18,7 @@ content_once (Entries f) t u a b = a.spelled ∙ ap array_text (listing_once f a
 item_once : (outs : Outputs) (name t u : List ℕ) → IsItem outs name t → IsItem outs name u → t ≡ u
 item_once outs name t u a b =
     let e : a.content ≡ b.content = cc (a.held, b.held) in
-    a.spelled ∙ ap (item_of name) (content_once b.content a.text b.text (subst (λ c. Shows c a.text) e a.shown) b.shown) ∙ sym b.spelled
+    a.spelled ∙ ap (item_text name) (content_once b.content a.text b.text (subst (λ c. PrintsAs c a.text) e a.shown) b.shown) ∙ sym b.spelled
 
 pub items_once : (outs : Outputs) (names ts us : List (List ℕ)) → AreItems outs names ts → AreItems outs names us → ts ≡ us
 items_once outs [] [] [] a b = refl
@@ -48,10 +48,11 @@ replay_once names left right t u a b =
     let s : a.same ≡ b.same = decided_once (SameOutputs left right) a.same b.same a.decided b.decided in
     let l : a.lefts ≡ b.lefts = items_once left names a.lefts b.lefts a.are_lefts b.are_lefts in
     let r : a.rights ≡ b.rights = items_once right names a.rights b.rights a.are_rights b.are_rights in
-    a.spelled ∙ ap (λ x. replay_text x a.lefts a.rights) s ∙ ap (λ x. replay_text b.same x a.rights) l ∙ ap (λ x. replay_text b.same b.lefts x) r ∙ sym b.spelled
+    a.spelled ∙ ap (λ x. replay_text x a.lefts a.rights) s ∙ ap (λ x. replay_text b.same x a.rights) l ∙ ap (λ x. replay_text b.same b.lefts x) r
+    ∙ sym b.spelled
 
 given_once : (name : List ℕ) (content : Content) (t u : List ℕ) → IsGiven name content t → IsGiven name content u → t ≡ u
-given_once name content t u a b = a.spelled ∙ ap (item_of name) (content_once content a.text b.text a.shown b.shown) ∙ sym b.spelled
+given_once name content t u a b = a.spelled ∙ ap (item_text name) (content_once content a.text b.text a.shown b.shown) ∙ sym b.spelled
 
 inputs_once : (names : List (List ℕ)) (cs : List Content) (ts us : List (List ℕ)) → AreGiven names cs ts → AreGiven names cs us → ts ≡ us
 inputs_once [] [] [] [] a b = refl
@@ -68,4 +69,5 @@ counterexample_once inputs contents names left right t u a b =
     let g : a.items ≡ b.items = inputs_once inputs contents a.items b.items a.are_given b.are_given in
     let l : a.lefts ≡ b.lefts = items_once left names a.lefts b.lefts a.are_lefts b.are_lefts in
     let r : a.rights ≡ b.rights = items_once right names a.rights b.rights a.are_rights b.are_rights in
-    a.spelled ∙ ap (λ x. counterexample_text x a.lefts a.rights) g ∙ ap (λ x. counterexample_text b.items x a.rights) l ∙ ap (λ x. counterexample_text b.items b.lefts x) r ∙ sym b.spelled
+    a.spelled ∙ ap (λ x. counterexample_text x a.lefts a.rights) g ∙ ap (λ x. counterexample_text b.items x a.rights) l
+    ∙ ap (λ x. counterexample_text b.items b.lefts x) r ∙ sym b.spelled

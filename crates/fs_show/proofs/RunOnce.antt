@@ -4,17 +4,17 @@ use Rattle.fs_model.specs.Machines.{Fsmd}
 use Rattle.fs_model.specs.Runs.{Inputs}
 use Rattle.fs_runs.specs.declared.run.RunStop.{RunStop}
 use Rattle.fs_runs.specs.declared.run.RunStop.TheVariants.{StepsOver, PastWide, NoMemory}
-use Rattle.fs_runs.specs.Outcomes.{output_names, IsOfRun}
+use Rattle.fs_runs.specs.Outcomes.{output_names, IsStopOfRun}
 use Rattle.fs_runs.proofs.RunOnce.{one_end, one_stop, end_or_stop}
 use Rattle.fs_show.specs.declared.ends.Side.{Side}
 use Rattle.fs_show.specs.declared.ends.Side.TheVariants.{Only}
-use Rattle.fs_show.specs.Ends.{IsEndText, IsStopText}
-use Rattle.fs_show.specs.Runs.{EndsAs, StopsAs}
-use Rattle.fs_show.specs.Laws.{OneRunText}
+use Rattle.fs_show.specs.EndTexts.{IsEndText, IsStopText}
+use Rattle.fs_show.specs.RunTexts.{EndsAs, StopsAs}
+use Rattle.fs_show.specs.PrintingLaws.{OneRunText}
 use Rattle.fs_show.proofs.Once.{end_once, stop_once}
 
 -- a stop that has a text is of the run
-pub told_of_run : (side : Side) (stop : RunStop) (t : List ℕ) → IsStopText side stop t → IsOfRun stop
+pub told_of_run : (side : Side) (stop : RunStop) (t : List ℕ) → IsStopText side stop t → IsStopOfRun stop
 told_of_run side (StepsOver n) t told = tt
 told_of_run side (PastWide k) t told = tt
 told_of_run side NoMemory t told = told
@@ -22,7 +22,8 @@ told_of_run side NoMemory t told = told
 one_end_text : (m : Fsmd) (ins : Inputs) (limit : ℕ) (t u : List ℕ) → EndsAs m ins limit t → EndsAs m ins limit u → t ≡ u
 one_end_text m ins limit t u a b =
     let same = one_end m ins limit a.outs b.outs a.steps b.steps a.ends b.ends in
-    end_once (output_names m.variables) b.outs b.steps t u (subst (λ n. IsEndText (output_names m.variables) b.outs n t) same.1 (subst (λ o. IsEndText (output_names m.variables) o a.steps t) same.0 a.told)) b.told
+    end_once (output_names m.variables) b.outs b.steps t u
+    (subst (λ n. IsEndText (output_names m.variables) b.outs n t) same.1 (subst (λ o. IsEndText (output_names m.variables) o a.steps t) same.0 a.told)) b.told
 
 one_stop_text : (m : Fsmd) (ins : Inputs) (limit : ℕ) (t u : List ℕ) → StopsAs m ins limit t → StopsAs m ins limit u → t ≡ u
 one_stop_text m ins limit t u a b =

@@ -1,5 +1,5 @@
-pub mod Shown
-pub mod Items
-pub mod Ends
-pub mod Runs
-pub mod Laws
+pub mod ContentTexts
+pub mod ItemTexts
+pub mod EndTexts
+pub mod RunTexts
+pub mod PrintingLaws

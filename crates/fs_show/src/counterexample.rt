@@ -5,8 +5,8 @@ ghost use Rattle.fs_pair.specs.Interfaces.{interface_fault};
 ghost use Rattle.fs_runs.specs.Values.{content_of};
 ghost use Rattle.fs_runs.specs.InputValues.{input_values, signatures_of, input_signatures};
 ghost use Rattle.fs_runs.specs.Outcomes.{output_names, told_by, HoldsEach};
-ghost use Rattle.fs_show.specs.Items.{input_names};
-ghost use Rattle.fs_show.specs.Ends.{IsCounterexampleText, counterexample_text};
+ghost use Rattle.fs_show.specs.ItemTexts.{input_names};
+ghost use Rattle.fs_show.specs.EndTexts.{IsCounterexampleText, counterexample_text};
 
 use crate::ends::append_lines;
 use crate::items::{input_items, items};
@@ -33,7 +33,10 @@ pub fn counterexample_text(
     requires interfaces { interface_fault left.now right.now ≡ None }
     requires left_outputs { HoldsEach (told_by left.now left_end.now.outputs.items) (output_names left.now.variables) }
     requires right_outputs { HoldsEach (told_by right.now right_end.now.outputs.items) (output_names right.now.variables) }
-    ensures { IfOk result (λ text. IsCounterexampleText (input_names left.now.variables) (map content_of (input_values inputs.now)) (output_names left.now.variables) (told_by left.now left_end.now.outputs.items) (told_by right.now right_end.now.outputs.items) text.items) }
+    ensures { IfOk result
+        (λ text. IsCounterexampleText (input_names left.now.variables) (map content_of (input_values inputs.now))
+        (output_names left.now.variables) (told_by left.now left_end.now.outputs.items)
+        (told_by right.now right_end.now.outputs.items) text.items) }
 {
     let given = input_items(alloc, left, inputs)?;
     let lefts = items(alloc, left, left, left_end.outputs.as_slice())?;
@@ -47,7 +50,9 @@ fn joined_text(
     lefts: &[Vec<u8>],
     rights: &[Vec<u8>],
 ) -> Result<Vec<u8>, NoMemory>
-    ensures { IfOk result (λ text. text.items ≡ counterexample_text (map (λ i. i.items) given.now) (map (λ i. i.items) lefts.now) (map (λ i. i.items) rights.now)) }
+    ensures { IfOk result
+        (λ text. text.items ≡ counterexample_text (map (λ i. i.items) given.now) (map (λ i. i.items) lefts.now)
+        (map (λ i. i.items) rights.now)) }
 {
     let mut text = Vec::new(alloc);
     append(&mut text, b"counterexample\n".as_slice())?;

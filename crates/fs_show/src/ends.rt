@@ -4,7 +4,7 @@ ghost use Rattle.std.specs.Prelude.{◌≡◌, ◌++◌, map, IfOk, string_bytes
 ghost use Rattle.std.specs.Result.{OnOk};
 ghost use Rattle.std.specs.List.{flat_map};
 ghost use Rattle.fs_runs.specs.Outcomes.{output_names, told_by, HoldsEach};
-ghost use Rattle.fs_show.specs.Ends.{IsEndText, IsStopText, side_word, line_of};
+ghost use Rattle.fs_show.specs.EndTexts.{IsEndText, IsStopText, side_word, reply_line};
 
 use crate::items::items;
 use crate::memory::NoMemory;
@@ -14,7 +14,7 @@ use fs_runs::run::{Ended, RunStop};
 use std::alloc::{AllocError, Global};
 
 /// Which run a stop is of: the only one, or one of two.
-#[derive(Clone, Copy, Debug, PartialEq, Eq)]
+#[derive(Clone, Copy)]
 pub enum Side {
     Only,
     Left,
@@ -28,7 +28,8 @@ pub enum Side {
 /// of index, and a list as `[1, 2, -3]`.
 pub fn end_text(alloc: Global, m: &Machine, ended: &Ended) -> Result<Vec<u8>, NoMemory>
     requires outputs { HoldsEach (told_by m.now ended.now.outputs.items) (output_names m.now.variables) }
-    ensures text { IfOk result (λ text. IsEndText (output_names m.now.variables) (told_by m.now ended.now.outputs.items) ended.now.steps text.items) }
+    ensures text { IfOk result
+        (λ text. IsEndText (output_names m.now.variables) (told_by m.now ended.now.outputs.items) ended.now.steps text.items) }
 {
     let items = items(alloc, m, m, ended.outputs.as_slice())?;
     let mut text = first_line(alloc, ended.steps)?;
@@ -53,7 +54,7 @@ fn steps_line(alloc: Global, steps: u64) -> Result<String, AllocError>
 
 // Appends lines.
 pub(crate) fn append_lines(out: &mut Vec<u8>, items: &[Vec<u8>]) -> Result<(), NoMemory>
-    ensures { OnOk result (out.new.items ≡ out.old.items ++ flat_map line_of (map (λ i. i.items) items.now)) }
+    ensures { OnOk result (out.new.items ≡ out.old.items ++ flat_map reply_line (map (λ i. i.items) items.now)) }
 {
     for item in items {
         append(out, item.as_slice())?;
@@ -90,13 +91,17 @@ fn side_word(side: Side) -> &'static str
 }
 
 fn steps_over(alloc: Global, word: &str, limit: u64) -> Result<String, AllocError>
-    ensures { IfOk result (λ text. string_bytes text ≡ codes "undecided: " ++ (word.now ++ (codes "no return within " ++ (decimal limit ++ codes " steps\n")))) }
+    ensures { IfOk result
+        (λ text. string_bytes text ≡ codes "undecided: "
+        ++ (word.now ++ (codes "no return within " ++ (decimal limit ++ codes " steps\n")))) }
 {
     format!(in alloc; "undecided: {word}no return within {limit} steps\n")
 }
 
 fn past_wide(alloc: Global, word: &str, step: u64) -> Result<String, AllocError>
-    ensures { IfOk result (λ text. string_bytes text ≡ codes "undecided: " ++ (word.now ++ (codes "number past 128 bits at step " ++ (decimal step ++ codes "\n")))) }
+    ensures { IfOk result
+        (λ text. string_bytes text ≡ codes "undecided: "
+        ++ (word.now ++ (codes "number past 128 bits at step " ++ (decimal step ++ codes "\n")))) }
 {
     format!(in alloc; "undecided: {word}number past 128 bits at step {step}\n")
 }

@@ -5,8 +5,8 @@ ghost use Rattle.std.specs.Result.{OnOk};
 ghost use Rattle.fs_runs.specs.Values.{content_of};
 ghost use Rattle.fs_runs.specs.InputValues.{input_values, signatures_of, input_signatures};
 ghost use Rattle.fs_runs.specs.Outcomes.{output_names, told_by, HoldsEach};
-ghost use Rattle.fs_show.specs.Shown.{Shows};
-ghost use Rattle.fs_show.specs.Items.{AreGiven, AreItems, AddsItems, input_names, item_of};
+ghost use Rattle.fs_show.specs.ContentTexts.{PrintsAs};
+ghost use Rattle.fs_show.specs.ItemTexts.{AreGiven, AreItems, AddsItems, input_names, item_text};
 
 use crate::memory::NoMemory;
 use crate::shown::{append, push, value_text};
@@ -38,7 +38,8 @@ pub(crate) fn held<'a>(m: &Machine, outputs: &'a [Value], name: &Name) -> Option
 
 // The name of an input or output and what it holds.
 fn item(alloc: Global, name: &Name, value: &Value) -> Result<Vec<u8>, NoMemory>
-    ensures { IfOk result (λ item. (text : List ℕ) × Shows (content_of value.now) text × (item.items ≡ item_of name.now text)) }
+    ensures { IfOk result
+        (λ item. (text : List ℕ) × PrintsAs (content_of value.now) text × (item.items ≡ item_text name.now text)) }
 {
     let mut item = copied(alloc, name.bytes())?;
     append(&mut item, b" = ".as_slice())?;
@@ -63,7 +64,8 @@ pub(crate) fn items(
     outputs: &[Value],
 ) -> Result<Vec<Vec<u8>>, NoMemory>
     requires { HoldsEach (told_by m.now outputs.now) (output_names order.now.variables) }
-    ensures { IfOk result (λ items. AreItems (told_by m.now outputs.now) (output_names order.now.variables) (map (λ i. i.items) items.items)) }
+    ensures { IfOk result
+        (λ items. AreItems (told_by m.now outputs.now) (output_names order.now.variables) (map (λ i. i.items) items.items)) }
 {
     let mut items = Vec::new(alloc);
     for variable in order.vars() {
@@ -81,7 +83,9 @@ fn add_item(
     outputs: &[Value],
 ) -> Result<(), NoMemory>
     requires { HoldsEach (told_by m.now outputs.now) (output_names (variable.now ∷ [])) }
-    ensures { OnOk result (AddsItems (told_by m.now outputs.now) (output_names (variable.now ∷ [])) (map (λ i. i.items) items.old.items) (map (λ i. i.items) items.new.items)) }
+    ensures { OnOk result
+        (AddsItems (told_by m.now outputs.now) (output_names (variable.now ∷ [])) (map (λ i. i.items) items.old.items)
+        (map (λ i. i.items) items.new.items)) }
 {
     if !variable.role.is_output() {
         return Ok(());
@@ -99,7 +103,9 @@ pub(crate) fn input_items(
     inputs: &Inputs,
 ) -> Result<Vec<Vec<u8>>, NoMemory>
     requires { signatures_of inputs.now ≡ input_signatures m.now.variables }
-    ensures { IfOk result (λ items. AreGiven (input_names m.now.variables) (map content_of (input_values inputs.now)) (map (λ i. i.items) items.items)) }
+    ensures { IfOk result
+        (λ items. AreGiven (input_names m.now.variables) (map content_of (input_values inputs.now))
+        (map (λ i. i.items) items.items)) }
 {
     let mut items = Vec::new(alloc);
     let mut k: u32 = 0;

@@ -1,7 +1,8 @@
 //! Laws: each thing that prints has one text, and inputs serve machines with one interface. The
 //! functions do nothing.
 
-ghost use Rattle.fs_show.specs.Laws.{OneContentText, OneEndText, OneStopText, OneRunText, OneReplayText, OneCounterexampleText, InputsServeBoth};
+ghost use Rattle.fs_show.specs.PrintingLaws.{OneContentText, OneEndText, OneStopText, OneRunText, OneReplayText};
+ghost use Rattle.fs_show.specs.PrintingLaws.{OneCounterexampleText, InputsServeBoth};
 
 /// A content prints as one text.
 pub fn a_content_has_one_text()

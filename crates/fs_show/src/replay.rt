@@ -4,10 +4,10 @@ ghost use Rattle.std.specs.Prelude.{◌≡◌, ◌++◌, ◌∷◌, [], Option, 
 ghost use Rattle.std.specs.Bool.{Decides};
 ghost use Rattle.std.specs.Result.{OnOk};
 ghost use Rattle.fs_pair.specs.Interfaces.{interface_fault};
-ghost use Rattle.fs_runs.specs.Values.{content_of, entry, numbers_of};
+ghost use Rattle.fs_runs.specs.Values.{content_of, entry_number, numbers_of};
 ghost use Rattle.fs_runs.specs.Outcomes.{output_names, told_by, HoldsEach};
-ghost use Rattle.fs_show.specs.Items.{AgreeOn, SameOutputs};
-ghost use Rattle.fs_show.specs.Ends.{IsReplayText, replay_text, side_line, after_space, verdict_line};
+ghost use Rattle.fs_show.specs.ItemTexts.{AgreeOnNames, SameOutputs};
+ghost use Rattle.fs_show.specs.EndTexts.{IsReplayText, replay_text, side_line, after_space, verdict_line};
 
 use crate::items::{held, items};
 use crate::memory::NoMemory;
@@ -38,8 +38,12 @@ pub fn replay_text(
     requires interfaces { interface_fault left.now right.now ≡ None }
     requires left_outputs { HoldsEach (told_by left.now left_end.now.outputs.items) (output_names left.now.variables) }
     requires right_outputs { HoldsEach (told_by right.now right_end.now.outputs.items) (output_names right.now.variables) }
-    ensures same { IfOk result (λ r. Decides r.same (SameOutputs (told_by left.now left_end.now.outputs.items) (told_by right.now right_end.now.outputs.items))) }
-    ensures text { IfOk result (λ r. IsReplayText (output_names left.now.variables) (told_by left.now left_end.now.outputs.items) (told_by right.now right_end.now.outputs.items) r.text.items) }
+    ensures same { IfOk result
+        (λ r. Decides r.same
+        (SameOutputs (told_by left.now left_end.now.outputs.items) (told_by right.now right_end.now.outputs.items))) }
+    ensures text { IfOk result
+        (λ r. IsReplayText (output_names left.now.variables) (told_by left.now left_end.now.outputs.items)
+        (told_by right.now right_end.now.outputs.items) r.text.items) }
 {
     let same = same_outputs(alloc, left, left_end, right, right_end)?;
     let lefts = items(alloc, left, left, left_end.outputs.as_slice())?;
@@ -58,7 +62,9 @@ pub fn same_outputs(
     right_end: &Ended,
 ) -> Result<bool, NoMemory>
     requires { interface_fault left.now right.now ≡ None }
-    ensures { IfOk result (λ r. Decides r (SameOutputs (told_by left.now left_end.now.outputs.items) (told_by right.now right_end.now.outputs.items))) }
+    ensures { IfOk result
+        (λ r. Decides r
+        (SameOutputs (told_by left.now left_end.now.outputs.items) (told_by right.now right_end.now.outputs.items))) }
 {
     let lefts = left_end.outputs.as_slice();
     let rights = right_end.outputs.as_slice();
@@ -73,7 +79,9 @@ fn outputs_agree(
     right: &Machine,
     rights: &[Value],
 ) -> Result<bool, NoMemory>
-    ensures { IfOk result (λ r. Decides r (AgreeOn (told_by left.now lefts.now) (told_by right.now rights.now) (output_names left.now.variables))) }
+    ensures { IfOk result
+        (λ r. Decides r
+        (AgreeOnNames (told_by left.now lefts.now) (told_by right.now rights.now) (output_names left.now.variables))) }
 {
     for variable in left.vars() {
         if !same_output(alloc, variable, left, lefts, right, rights)? {
@@ -92,7 +100,9 @@ fn same_output(
     right: &Machine,
     rights: &[Value],
 ) -> Result<bool, NoMemory>
-    ensures { IfOk result (λ r. Decides r (AgreeOn (told_by left.now lefts.now) (told_by right.now rights.now) (output_names (variable.now ∷ [])))) }
+    ensures { IfOk result
+        (λ r. Decides r
+        (AgreeOnNames (told_by left.now lefts.now) (told_by right.now rights.now) (output_names (variable.now ∷ [])))) }
 {
     if !variable.role.is_output() {
         return Ok(true);
@@ -108,7 +118,8 @@ fn same_content(
     left: Option<&Value>,
     right: Option<&Value>,
 ) -> Result<bool, NoMemory>
-    ensures { IfOk result (λ r. Decides r (option_map (λ v. content_of v.now) left.entry ≡ option_map (λ v. content_of v.now) right.entry)) }
+    ensures { IfOk result
+        (λ r. Decides r (option_map (λ v. content_of v.now) left.entry ≡ option_map (λ v. content_of v.now) right.entry)) }
 {
     match (left, right) {
         (None, None) => Ok(true),
@@ -130,7 +141,7 @@ fn same_value(alloc: Global, left: &Value, right: &Value) -> Result<bool, NoMemo
 
 // Whether two arrays hold the same number at each index.
 fn same_entries(alloc: Global, left: &Entries, right: &Entries) -> Result<bool, NoMemory>
-    ensures { IfOk result (λ r. Decides r (entry left.now ≡ entry right.now)) }
+    ensures { IfOk result (λ r. Decides r (entry_number left.now ≡ entry_number right.now)) }
 {
     let lefts = left.list(alloc)?;
     let rights = right.list(alloc)?;

@@ -5,7 +5,7 @@ ghost use Rattle.std.specs.Result.{OnOk};
 ghost use Rattle.std.specs.List.{flat_map};
 ghost use Rattle.std.specs.Fmt.{signed_decimal};
 ghost use Rattle.fs_runs.specs.Values.{content_of};
-ghost use Rattle.fs_show.specs.Shown.{joined, entry_text, array_text, list_text, Shows};
+ghost use Rattle.fs_show.specs.ContentTexts.{join_texts, entry_text, array_text, numbers_text, PrintsAs};
 
 use crate::memory::NoMemory;
 use fs_runs::values::Value;
@@ -68,7 +68,7 @@ fn entry_texts(alloc: Global, entries: &[(i128, i128)]) -> Result<Vec<Vec<u8>>, 
 
 // Texts, joined by a comma and a space.
 pub(crate) fn joined(alloc: Global, items: &[Vec<u8>]) -> Result<Vec<u8>, NoMemory>
-    ensures { IfOk result (λ text. text.items ≡ joined (map (λ i. i.items) items.now)) }
+    ensures { IfOk result (λ text. text.items ≡ join_texts (map (λ i. i.items) items.now)) }
 {
     match items {
         [] => Ok(Vec::new(alloc)),
@@ -77,7 +77,7 @@ pub(crate) fn joined(alloc: Global, items: &[Vec<u8>]) -> Result<Vec<u8>, NoMemo
 }
 
 fn joined_behind(alloc: Global, first: &Vec<u8>, rest: &[Vec<u8>]) -> Result<Vec<u8>, NoMemory>
-    ensures { IfOk result (λ text. text.items ≡ joined (first.now.items ∷ map (λ i. i.items) rest.now)) }
+    ensures { IfOk result (λ text. text.items ≡ join_texts (first.now.items ∷ map (λ i. i.items) rest.now)) }
 {
     let mut text = Vec::new(alloc);
     append(&mut text, first.as_slice())?;
@@ -87,7 +87,8 @@ fn joined_behind(alloc: Global, first: &Vec<u8>, rest: &[Vec<u8>]) -> Result<Vec
 
 // Appends texts, each after a comma and a space.
 fn append_rest(out: &mut Vec<u8>, items: &[Vec<u8>]) -> Result<(), NoMemory>
-    ensures { OnOk result (out.new.items ≡ out.old.items ++ flat_map (λ item. codes ", " ++ item) (map (λ i. i.items) items.now)) }
+    ensures { OnOk result
+        (out.new.items ≡ out.old.items ++ flat_map (λ item. codes ", " ++ item) (map (λ i. i.items) items.now)) }
 {
     for item in items {
         append(out, b", ".as_slice())?;
@@ -128,7 +129,7 @@ fn number_texts(alloc: Global, numbers: &[i128]) -> Result<Vec<Vec<u8>>, NoMemor
 
 // Numbers between brackets.
 fn list_text(alloc: Global, numbers: &[i128]) -> Result<Vec<u8>, NoMemory>
-    ensures { IfOk result (λ text. text.items ≡ list_text numbers.now) }
+    ensures { IfOk result (λ text. text.items ≡ numbers_text numbers.now) }
 {
     let texts = number_texts(alloc, numbers)?;
     let text = joined(alloc, texts.as_slice())?;
@@ -138,7 +139,7 @@ fn list_text(alloc: Global, numbers: &[i128]) -> Result<Vec<u8>, NoMemory>
 // A value as text: a number in decimal, the entries of an array that are not 0, in increasing order of
 // index, or the numbers of a list in order.
 pub(crate) fn value_text(alloc: Global, value: &Value) -> Result<Vec<u8>, NoMemory>
-    ensures { IfOk result (λ text. Shows (content_of value.now) text.items) }
+    ensures { IfOk result (λ text. PrintsAs (content_of value.now) text.items) }
 {
     match value {
         Value::Num(number) => number_text(alloc, number),

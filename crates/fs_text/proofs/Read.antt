@@ -10,14 +10,14 @@ use Rattle.fs_grammar.specs.Tokens.{Gives}
 use Rattle.fs_lex.specs.Scan.{tokens_of}
 use Rattle.fs_grammar_laws.specs.Faults.{Spells, StopsAt}
 use Rattle.fs_grammar_laws.proofs.Exact.{read_is_spelled, fault_is_first}
-use Rattle.fs_lex_laws.specs.Tokenization.{StandsIn}
+use Rattle.fs_lex_laws.specs.Tokenization.{IsTokenIn}
 use Rattle.fs_text_laws.specs.Limit.{SpellWithin, StopWithin}
 use Rattle.fs_text_laws.proofs.Ended.{tokens_ended}
 use Rattle.fs_text_laws.proofs.Limit.{spelled_found, fault_stands}
 use Rattle.fs_text_laws.proofs.Read.{read_is_well_formed}
-use Rattle.fs_text_laws.specs.Texts.{TextSpells, TextStops}
+use Rattle.fs_text_laws.specs.MachineTexts.{TextSpells, TextStops}
 use Rattle.fs_text_laws.proofs.Texts as texts
-use Rattle.fs_text.specs.Spelled.{spelled, IfText}
+use Rattle.fs_text.specs.SourceOfText.{spelled, IfText}
 
 module _ {P : Type 0} (view : P → Source) (bytes : List ℕ) where
   pub spells : (r : Result P ReadError) → Gives view r (spelled bytes) → IfOk r (λ p. Spells (view p) (tokens_of bytes))
@@ -37,7 +37,8 @@ module _ {P : Type 0} (view : P → Source) (bytes : List ℕ) where
   within (Ok p) e = spelled_found bytes (view p) e
   within (Err e) h = tt
 
-  pub stops : (r : Result P ReadError) → Gives view r (spelled bytes) → IfErr r (λ e. IfText e (λ f. (s : StopWithin (tokens_of bytes) f) × StandsIn bytes s.token))
+  pub stops : (r : Result P ReadError) → Gives view r (spelled bytes)
+      → IfErr r (λ e. IfText e (λ f. (s : StopWithin (tokens_of bytes) f) × IsTokenIn bytes s.token))
   stops (Ok p) e = tt
   stops (Err (Text f)) e = fault_stands bytes f e
   stops (Err NoMemory) e = tt

@@ -1,4 +1,6 @@
 //! Machine texts, from their bytes to their parts.
+//!
+//! Promises: `read_parts`: the parts that bytes spell, or their first fault.
 #![tactic(auto)]
 
 ghost use Rattle.std.specs.Prelude.{◌≤◌, length, IsTrue, IfOk};
@@ -9,15 +11,15 @@ ghost use Rattle.fs_model.specs.WellFormed.{is_well_formed};
 ghost use Rattle.fs_grammar.specs.Tokens.{Gives};
 ghost use Rattle.fs_grammar_laws.specs.Faults.{Spells, StopsAt};
 ghost use Rattle.fs_lex.specs.Scan.{tokens_of};
-ghost use Rattle.fs_lex_laws.specs.Tokenization.{StandsIn};
+ghost use Rattle.fs_lex_laws.specs.Tokenization.{IsTokenIn};
 ghost use Rattle.fs_text_laws.specs.Limit.{SpellWithin, StopWithin};
-ghost use Rattle.fs_text_laws.specs.Texts.{TextSpells, TextStops};
-ghost use Rattle.fs_text.specs.Spelled.{spelled, IfText};
+ghost use Rattle.fs_text_laws.specs.MachineTexts.{TextSpells, TextStops};
+ghost use Rattle.fs_text.specs.SourceOfText.{spelled, IfText};
 
 use fs_grammar::fault::ReadError;
 use fs_lex::tokens;
 use fs_model::parts::Parts;
-use fs_parse::parse;
+use fs_text_parser::parse;
 use std::alloc::Global;
 
 /// The parts that the bytes spell, which are well formed; at most 1,048,576 bytes are read. `Text` comes
@@ -33,7 +35,7 @@ pub fn read_parts(alloc: Global, bytes: &[u8]) -> Result<Parts, ReadError>
     ensures text { IfOk result (λ p. TextSpells bytes.now (source_of p)) }
     ensures faulty { IfErr result (λ e. IfText e (TextStops bytes.now)) }
     ensures within { IfOk result (λ p. SpellWithin (tokens_of bytes.now) (source_of p)) }
-    ensures stops { IfErr result (λ e. IfText e (λ f. (s : StopWithin (tokens_of bytes.now) f) × StandsIn bytes.now s.token)) }
+    ensures stops { IfErr result (λ e. IfText e (λ f. (s : StopWithin (tokens_of bytes.now) f) × IsTokenIn bytes.now s.token)) }
 {
     let tokens = tokens(alloc, bytes)?;
     parse(alloc, &tokens)

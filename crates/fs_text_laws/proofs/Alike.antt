@@ -13,9 +13,9 @@ use Rattle.fs_grammar.specs.declared.token.Token.{Token}
 use Rattle.fs_grammar.specs.Operators.{is_operator, starts_expression}
 use Rattle.fs_grammar_laws.specs.Spelling.{Word, at, IsFile}
 use Rattle.fs_grammar_laws.specs.Beginnings.{BeginsFile}
-use Rattle.fs_grammar_laws.specs.Expressions.{IsInExpression}
+use Rattle.fs_grammar_laws.specs.ExpressionEnds.{IsInExpression}
 use Rattle.fs_grammar_laws.specs.Faults.{word_of, IsPlain, CanFollow}
-use Rattle.fs_grammar_laws.specs.Walks.{words}
+use Rattle.fs_grammar_laws.specs.WordWalks.{words}
 use Rattle.fs_lex_laws.specs.Tokenization.{kind_and_place}
 use Rattle.fs_text_laws.specs.Limit.{operator_count, IsOneTooMany, KeepLimit, SpellWithin, IsWrongWithin, StopWithin}
 
@@ -74,14 +74,23 @@ cut_alike [] t b (u ∷ us) h = record { before = []; token = u; behind = us; is
 cut_alike (v ∷ a) t b [] h = absurd h
 cut_alike (v ∷ a) t b (u ∷ us) h =
     let c = cut_alike a t b us h.1 in
-    record { before = u ∷ c.before; token = c.token; behind = c.behind; is = ap (λ (l : List Token). u ∷ l) c.is; first = (h.0, c.first); one = c.one; last = c.last }
+    record {
+      before = u ∷ c.before;
+      token = c.token;
+      behind = c.behind;
+      is = ap (λ (l : List Token). u ∷ l) c.is;
+      first = (h.0, c.first);
+      one = c.one;
+      last = c.last;
+    }
 
 cut_as : (ts a : List Token) (t : Token) (b us : List Token) → ts ≡ a ++ t ∷ b → AreAlike ts us → IsCutAlike a t b us
 cut_as ts a t b us e h = cut_alike a t b us (subst (λ (l : List Token). AreAlike l us) e h)
 
 -- ---- the limit
 
-inside_alike : (ts us : List Token) → AreAlike ts us → AllByRecursion (λ t. starts_expression t.kind ≡ false) ts → AllByRecursion (λ t. starts_expression t.kind ≡ false) us
+inside_alike : (ts us : List Token) → AreAlike ts us → AllByRecursion (λ t. starts_expression t.kind ≡ false) ts
+    → AllByRecursion (λ t. starts_expression t.kind ≡ false) us
 inside_alike [] [] h i = tt
 inside_alike [] (u ∷ us) h i = absurd h
 inside_alike (t ∷ ts) [] h i = absurd h
@@ -92,7 +101,8 @@ same_count [] [] h = refl
 same_count [] (u ∷ us) h = absurd h
 same_count (t ∷ ts) [] h = absurd h
 same_count (t ∷ ts) (u ∷ us) h =
-    sum_by-cons (λ (t : Token). cond (is_operator t.kind) 1 0) t ts ∙ ap₂ (λ (k : TokenKind) (n : ℕ). cond (is_operator k) 1 0 + n) h.0.kind (same_count ts us h.1)
+    sum_by-cons (λ (t : Token). cond (is_operator t.kind) 1 0) t ts
+    ∙ ap₂ (λ (k : TokenKind) (n : ℕ). cond (is_operator k) 1 0 + n) h.0.kind (same_count ts us h.1)
     ∙ sym (sum_by-cons (λ (t : Token). cond (is_operator t.kind) 1 0) u us)
 
 expression_alike : (ts us part q : List Token) → AreAlike ts us → AreAlike part q → IsInExpression (words ts) (words part) → IsInExpression (words us) (words q)

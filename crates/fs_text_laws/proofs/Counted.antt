@@ -12,7 +12,7 @@ use Rattle.fs_grammar.specs.declared.token.Token.{Token}
 use Rattle.fs_lex.specs.declared.lexemes.Lexeme.{Lexeme}
 use Rattle.fs_lex.specs.declared.lexemes.Lexeme.TheVariants as lexemes
 use Rattle.fs_lex.specs.Lexemes.{lexeme_of}
-use Rattle.fs_lex.specs.Scan.{after, scan, emitted, is_past_limit, is_bad, counted, tokens_of}
+use Rattle.fs_lex.specs.Scan.{place_after_byte, scan, emit_token, is_past_limit, is_bad, counted, tokens_of}
 use Rattle.fs_lex_laws.specs.Vocabulary.{number_value}
 use Rattle.fs_lex_laws.specs.Tokenization.{StandsBefore, ends_text, AreTokens}
 use Rattle.fs_lex_laws.proofs.Tokenized.{tokenized}
@@ -29,14 +29,15 @@ marked_unless : (b : Bool) (n : ℕ) (ts : List Token) → AreMarked n ts → Ar
 marked_unless true n ts h = tt
 marked_unless false n ts h = h
 
-emitted_marked : (x : Lexeme) (p : TextPlace) (n : ℕ) (go : ℕ → ℕ → List Token) → ((k m : ℕ) → AreMarked m (go k m)) → AreMarked n (emitted x p n go)
+emitted_marked : (x : Lexeme) (p : TextPlace) (n : ℕ) (go : ℕ → ℕ → List Token) → ((k m : ℕ) → AreMarked m (go k m)) → AreMarked n (emit_token x p n go)
 emitted_marked (lexemes.Blank k) p n go h = h (k - 1) n
 emitted_marked (lexemes.Token t k) p n go h = (refl, marked_unless (is_bad t) (counted t n) (go (k - 1) (counted t n)) (h (k - 1) (counted t n)))
 
 scan_marked : (bs : List ℕ) (skip : ℕ) (p : TextPlace) (n : ℕ) → AreMarked n (scan bs skip p n)
 scan_marked [] skip p n = (refl, tt)
-scan_marked (b ∷ bs) (suc skip) p n = scan_marked bs skip (after p b) n
-scan_marked (b ∷ bs) zero p n = emitted_marked (lexeme_of (b ∷ bs)) p n (λ k m. scan bs k (after p b) m) (λ k m. scan_marked bs k (after p b) m)
+scan_marked (b ∷ bs) (suc skip) p n = scan_marked bs skip (place_after_byte p b) n
+scan_marked (b ∷ bs) zero p n = emitted_marked (lexeme_of (b ∷ bs)) p n (λ k m. scan bs k (place_after_byte p b) m)
+    (λ k m. scan_marked bs k (place_after_byte p b) m)
 
 -- ---- each token is proper, and the last one alone ends the text
 
@@ -79,7 +80,8 @@ both_so n [] h j = tt
 both_so n (t ∷ ts) h j = (h.0, j.0, both_so (counted t.kind n) ts h.1 j.1)
 
 pub tokens_counted : (bytes : List ℕ) → AreCounted 0 (tokens_of bytes)
-tokens_counted bytes = both_so 0 (tokens_of bytes) (proper_each (tokens_of bytes) [] bytes (tokenized bytes)) (scan_marked bytes 0 (record { line = 1; column = 1 }) 0)
+tokens_counted bytes = both_so 0 (tokens_of bytes) (proper_each (tokens_of bytes) [] bytes (tokenized bytes))
+    (scan_marked bytes 0 (record { line = 1; column = 1 }) 0)
 
 -- a list that ends once, cut before its last token
 pub record IsCut (ts : List Token) : Type 0 where

@@ -14,15 +14,15 @@ use Rattle.fs_grammar.specs.Grammar.{ParseState, at_start, reading}
 use Rattle.fs_grammar.specs.Operators.{is_operator, starts_expression}
 use Rattle.fs_grammar_laws.specs.Spelling.{Word, IsFile}
 use Rattle.fs_grammar_laws.specs.Beginnings.{file, BeginsFile}
-use Rattle.fs_grammar_laws.specs.Expressions.{EndInExpression}
+use Rattle.fs_grammar_laws.specs.ExpressionEnds.{EndInExpression}
 use Rattle.fs_grammar_laws.specs.Faults.{word_of, AreClear, CanFollow, Spells, StopsAt, IsWrong}
-use Rattle.fs_grammar_laws.specs.Walks.{words, walk, on}
+use Rattle.fs_grammar_laws.specs.WordWalks.{words, walk, and_then}
 use Rattle.fs_grammar_laws.proofs.Beginning.{leads, walk_append, stuck}
 use Rattle.fs_grammar_laws.proofs.Alternatives.{front_begins}
-use Rattle.fs_grammar_laws.proofs.Exact.{read_is_spelled, spelled_is_read, fault_is_first, first_is_fault}
+use Rattle.fs_grammar_laws.proofs.Exact.{read_is_spelled, spelled_is_read, fault_is_first, first_is_fault, words_append}
 use Rattle.fs_grammar_laws.proofs.Expressions.{tokens_end}
 use Rattle.fs_lex.specs.Scan.{counted, is_past_limit, tokens_of}
-use Rattle.fs_lex_laws.specs.Tokenization.{StandsIn}
+use Rattle.fs_lex_laws.specs.Tokenization.{IsTokenIn}
 use Rattle.fs_lex_laws.proofs.Stood.{stands_in_text}
 use Rattle.fs_text_laws.specs.Limit.{operator_count, IsOneTooMany, KeepLimit, SpellWithin, IsWrongWithin, StopWithin}
 use Rattle.fs_text_laws.proofs.Counted.{AreCounted, tokens_counted}
@@ -42,7 +42,8 @@ count_more : (u : Token) (part : List Token) → operator_count (u ∷ part) ≡
 count_more u part = sum_by-cons (λ (t : Token). cond (is_operator t.kind) 1 0) u part
 
 -- what the scan has counted before a token of the part
-along : (part : List Token) (n : ℕ) (t : Token) (behind : List Token) → AreInside part → AreCounted n (part ++ t ∷ behind) → t.past_limit ≡ is_past_limit t.kind (n + operator_count part)
+along : (part : List Token) (n : ℕ) (t : Token) (behind : List Token) → AreInside part → AreCounted n (part ++ t ∷ behind)
+    → t.past_limit ≡ is_past_limit t.kind (n + operator_count part)
 along [] n t behind i c =
     let same : n ≡ n + 0 = omega arith in
     c.1 ∙ ap (λ (k : ℕ). is_past_limit t.kind k) same
@@ -55,17 +56,21 @@ from_start : (w : Token) (n : ℕ) → starts_expression w.kind ≡ true → cou
 from_start w n e = ap (λ (b : Bool). cond b 0 (cond (is_operator w.kind) (n + 1) n)) e
 
 -- what is counted behind the token after which a part begins
-since_start : (before : List Token) (w : Token) (rest : List Token) (n : ℕ) → starts_expression w.kind ≡ true → AreCounted n (before ++ w ∷ rest) → AreCounted 0 rest
+since_start : (before : List Token) (w : Token) (rest : List Token) (n : ℕ) → starts_expression w.kind ≡ true → AreCounted n (before ++ w ∷ rest)
+    → AreCounted 0 rest
 since_start [] w rest n e c = subst (λ (k : ℕ). AreCounted k rest) (from_start w n e) c.2
 since_start (u ∷ before) w rest n e c = since_start before w rest (counted u.kind n) e c.2
 
-counted_part : (ts : List Token) (part : List Token) (t : Token) (behind : List Token) (n : ℕ) → EndInExpression ts part → AreCounted n (ts ++ t ∷ behind) → AreCounted 0 (part ++ t ∷ behind)
+counted_part : (ts : List Token) (part : List Token) (t : Token) (behind : List Token) (n : ℕ) → EndInExpression ts part → AreCounted n (ts ++ t ∷ behind)
+    → AreCounted 0 (part ++ t ∷ behind)
 counted_part ts part t behind n e c =
-    let same : ts ++ t ∷ behind ≡ e.before ++ e.token ∷ (part ++ t ∷ behind) = ap (λ (l : List Token). l ++ t ∷ behind) e.is ∙ append_assoc e.before (e.token ∷ part) (t ∷ behind) in
+    let same : ts ++ t ∷ behind ≡ e.before ++ e.token ∷ (part ++ t ∷ behind) = ap (λ (l : List Token). l ++ t ∷ behind) e.is
+    ∙ append_assoc e.before (e.token ∷ part) (t ∷ behind) in
     since_start e.before e.token (part ++ t ∷ behind) n e.begins (subst (AreCounted n) same c)
 
 -- a token behind a part is marked exactly where it is an operator and the part has 128 at least
-pub marked : (ts : List Token) (part : List Token) (t : Token) (behind : List Token) (n : ℕ) → EndInExpression ts part → AreCounted n (ts ++ t ∷ behind) → t.past_limit ≡ is_past_limit t.kind (operator_count part)
+pub marked : (ts : List Token) (part : List Token) (t : Token) (behind : List Token) (n : ℕ) → EndInExpression ts part → AreCounted n (ts ++ t ∷ behind)
+    → t.past_limit ≡ is_past_limit t.kind (operator_count part)
 marked ts part t behind n e c =
     let zero_more : 0 + operator_count part ≡ operator_count part = omega arith in
     along part 0 t behind e.inside (counted_part ts part t behind n e c) ∙ ap (λ (k : ℕ). is_past_limit t.kind k) zero_more
@@ -89,7 +94,8 @@ clear_behind : (a b : List Token) → AreClear (a ++ b) → AreClear b
 clear_behind [] b h = h
 clear_behind (t ∷ a) b h = clear_behind a b h.1
 
-at_most : (ts : List Token) (part : List Token) (t : Token) (behind : List Token) (n : ℕ) → EndInExpression ts part → AreClear ts → AreCounted n (ts ++ t ∷ behind) → operator_count part ≤ 128
+at_most : (ts : List Token) (part : List Token) (t : Token) (behind : List Token) (n : ℕ) → EndInExpression ts part → AreClear ts
+    → AreCounted n (ts ++ t ∷ behind) → operator_count part ≤ 128
 at_most ts part t behind n e o c =
     let same : ts ≡ (e.before ++ e.token ∷ []) ++ part = e.is ∙ sym (append_assoc e.before (e.token ∷ []) part) in
     let clear : AreClear part = clear_behind (e.before ++ e.token ∷ []) part (subst AreClear same o) in
@@ -101,12 +107,14 @@ both_true : (a b : Bool) → (a && b) ≡ true → IsTrue a × IsTrue b
 both_true true b h = (refl, h)
 both_true false b h = absurd cc
 
-marked_counts : (ts : List Token) (t : Token) (behind : List Token) (n : ℕ) → AreCounted n (ts ++ t ∷ behind) → t.past_limit ≡ true → IsTrue (is_operator t.kind)
+marked_counts : (ts : List Token) (t : Token) (behind : List Token) (n : ℕ) → AreCounted n (ts ++ t ∷ behind) → t.past_limit ≡ true
+    → IsTrue (is_operator t.kind)
 marked_counts [] t behind n c h = (both_true (is_operator t.kind) (nat_le 128 n) (sym c.1 ∙ h)).0
 marked_counts (u ∷ ts) t behind n c h = marked_counts ts t behind (counted u.kind n) c.2 h
 
 -- the first marked token that can follow is one too many
-first_marked : (ts : List Token) (t : Token) (behind : List Token) (n : ℕ) → AreCounted n (ts ++ t ∷ behind) → AreClear ts → CanFollow (words ts) t → t.past_limit ≡ true → IsOneTooMany ts t
+first_marked : (ts : List Token) (t : Token) (behind : List Token) (n : ℕ) → AreCounted n (ts ++ t ∷ behind) → AreClear ts → CanFollow (words ts) t
+    → t.past_limit ≡ true → IsOneTooMany ts t
 first_marked ts t behind n c o f h =
     let i : IsTrue (is_operator t.kind) = marked_counts ts t behind n c h in
     let e : (part : List Token) × EndInExpression ts part = tokens_end ts t i f in
@@ -135,12 +143,8 @@ none_before before rest a b t n c o e x =
 
 -- ---- tokens that begin a file, none of them one too many, are not marked
 
-words_append : (a b : List Token) → words (a ++ b) ≡ words a ++ words b
-words_append [] b = refl
-words_append (t ∷ a) b = ap (λ (l : List Word). word_of t ∷ l) (words_append a b)
-
 front_walks : (o : Option ParseState) (a b : List Word) → walk a at_start ≡ o → BeginsFile (a ++ b) → BeginsFile a
-front_walks None a b e h = absurd (stuck (a ++ b) (walk_append a b at_start ∙ ap (λ (o : Option ParseState). on o (walk b)) e) h)
+front_walks None a b e h = absurd (stuck (a ++ b) (walk_append a b at_start ∙ ap (λ (o : Option ParseState). and_then o (walk b)) e) h)
 front_walks (Some s) a b e h = leads a s e
 
 front_of_file : (a b : List Word) → BeginsFile (a ++ b) → BeginsFile a
@@ -157,7 +161,8 @@ record IsFirstMark (ts : List Token) : Type 0 where
 
 one_more : (t : Token) (ts : List Token) → t.past_limit ≡ false → AreClear ts ⊎ IsFirstMark ts → AreClear (t ∷ ts) ⊎ IsFirstMark (t ∷ ts)
 one_more t ts e (inl h) = inl (e, h)
-one_more t ts e (inr m) = inr (record { before = t ∷ m.before; token = m.token; behind = m.behind; is = ap (λ (l : List Token). t ∷ l) m.is; clear = (e, m.clear); mark = m.mark })
+one_more t ts e (inr m) =
+    inr (record { before = t ∷ m.before; token = m.token; behind = m.behind; is = ap (λ (l : List Token). t ∷ l) m.is; clear = (e, m.clear); mark = m.mark })
 
 marks_or : (b : Bool) (t : Token) (ts : List Token) → t.past_limit ≡ b → AreClear ts ⊎ IsFirstMark ts → AreClear (t ∷ ts) ⊎ IsFirstMark (t ∷ ts)
 marks_or true t ts e h = inr (record { before = []; token = t; behind = ts; is = refl; clear = tt; mark = e })
@@ -167,10 +172,12 @@ clear_or_marked : (ts : List Token) → AreClear ts ⊎ IsFirstMark ts
 clear_or_marked [] = inl tt
 clear_or_marked (t ∷ ts) = marks_or t.past_limit t ts refl (clear_or_marked ts)
 
-clear_before : (before rest : List Token) → AreCounted 0 (before ++ rest) → BeginsFile (words before) → KeepLimit before → AreClear before ⊎ IsFirstMark before → AreClear before
+clear_before : (before rest : List Token) → AreCounted 0 (before ++ rest) → BeginsFile (words before) → KeepLimit before → AreClear before ⊎ IsFirstMark before
+    → AreClear before
 clear_before before rest c h first (inl o) = o
 clear_before before rest c h first (inr m) =
-    let counts : before ++ rest ≡ m.before ++ m.token ∷ (m.behind ++ rest) = ap (λ (l : List Token). l ++ rest) m.is ∙ append_assoc m.before (m.token ∷ m.behind) rest in
+    let counts : before ++ rest ≡ m.before ++ m.token ∷ (m.behind ++ rest) = ap (λ (l : List Token). l ++ rest) m.is
+    ∙ append_assoc m.before (m.token ∷ m.behind) rest in
     let spelled : words before ≡ (words m.before ++ word_of m.token ∷ []) ++ words m.behind =
     ap words m.is ∙ words_append m.before (m.token ∷ m.behind) ∙ sym (append_assoc (words m.before) (word_of m.token ∷ []) (words m.behind)) in
     let follows : CanFollow (words m.before) m.token = front_of_file (words m.before ++ word_of m.token ∷ []) (words m.behind) (subst BeginsFile spelled h) in
@@ -222,11 +229,13 @@ spelled_only bytes s p = spelled_is_read s (tokens_of bytes) (within_spelled (to
 
 -- ---- what is refused
 
-wrong_within : (k : TextKind) (before : List Token) (token : Token) (behind : List Token) → AreCounted 0 (before ++ token ∷ behind) → AreClear before → IsWrong k (words before) token → IsWrongWithin k before token
+wrong_within : (k : TextKind) (before : List Token) (token : Token) (behind : List Token) → AreCounted 0 (before ++ token ∷ behind) → AreClear before
+    → IsWrong k (words before) token → IsWrongWithin k before token
 wrong_within Operators before token behind c o w = (w.0, first_marked before token behind 0 c o w.0 w.1)
 wrong_within _ before token behind c o w = w
 
-within_wrong : (k : TextKind) (before : List Token) (token : Token) (behind : List Token) → AreCounted 0 (before ++ token ∷ behind) → IsWrongWithin k before token → IsWrong k (words before) token
+within_wrong : (k : TextKind) (before : List Token) (token : Token) (behind : List Token) → AreCounted 0 (before ++ token ∷ behind)
+    → IsWrongWithin k before token → IsWrong k (words before) token
 within_wrong Operators before token behind c w = (w.0, excess_marked before token behind 0 c w.1)
 within_wrong _ before token behind c w = w
 
@@ -266,15 +275,18 @@ fault_found bytes f e = stopped_within (tokens_of bytes) f (tokens_counted bytes
 pub fault_only : (bytes : List ℕ) (f : TextFault) → StopWithin (tokens_of bytes) f → reading (tokens_of bytes) at_start ≡ Err f
 fault_only bytes f s = first_is_fault (tokens_of bytes) f (within_stopped (tokens_of bytes) f (tokens_counted bytes) s)
 
-pub fault_stands : (bytes : List ℕ) (f : TextFault) → reading (tokens_of bytes) at_start ≡ Err f → (s : StopWithin (tokens_of bytes) f) × StandsIn bytes s.token
+pub fault_stands : (bytes : List ℕ) (f : TextFault) → reading (tokens_of bytes) at_start ≡ Err f
+    → (s : StopWithin (tokens_of bytes) f) × IsTokenIn bytes s.token
 fault_stands bytes f e =
     let s = fault_found bytes f e in
     (s, stands_in_text bytes s.before s.behind s.token s.parts)
 
 -- ---- the mark
 
-pub mark_counts : (bytes : List ℕ) (before behind part : List Token) (t : Token) → tokens_of bytes ≡ before ++ t ∷ behind → EndInExpression before part → t.past_limit ≡ (is_operator t.kind && nat_le 128 (operator_count part))
+pub mark_counts : (bytes : List ℕ) (before behind part : List Token) (t : Token) → tokens_of bytes ≡ before ++ t ∷ behind → EndInExpression before part
+    → t.past_limit ≡ (is_operator t.kind && nat_le 128 (operator_count part))
 mark_counts bytes before behind part t e x = marked before part t behind 0 x (subst (AreCounted 0) e (tokens_counted bytes))
 
-pub operators_alone : (bytes : List ℕ) (before behind : List Token) (t : Token) → tokens_of bytes ≡ before ++ t ∷ behind → IsTrue t.past_limit → IsTrue (is_operator t.kind)
+pub operators_alone : (bytes : List ℕ) (before behind : List Token) (t : Token) → tokens_of bytes ≡ before ++ t ∷ behind → IsTrue t.past_limit
+    → IsTrue (is_operator t.kind)
 operators_alone bytes before behind t e h = marked_counts before t behind 0 (subst (AreCounted 0) e (tokens_counted bytes)) h

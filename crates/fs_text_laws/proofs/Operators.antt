@@ -7,12 +7,22 @@ use Rattle.fs_model.specs.declared.parts.Sort.TheVariants as sorts
 use Rattle.fs_grammar.specs.declared.format.Format.{Format}
 use Rattle.fs_grammar.specs.declared.format.Format.TheVariants.{One, Two}
 use Rattle.fs_grammar.specs.Formats.{format_of}
-use Rattle.fs_model.specs.Terms.{Term, Variable, Read, Sum, Difference, Product, Quotient, Remainder, Negative, Guard, Test, Not, And, Or}
+use Rattle.fs_model.specs.Terms.{Term, Variable, Read, Negative, Guard, Test, Not}
 use Rattle.fs_model.specs.Terms as terms
 use Rattle.fs_model.specs.WellFormed.{is_sum, is_product, is_and, is_or, bracket, operators_of_term, operators_of_guard}
 use Rattle.fs_grammar.specs.declared.token.TokenKind.{TokenKind}
-use Rattle.fs_grammar.specs.declared.token.TokenKind.TheVariants.{Fsmd, Declare, Array, Reset, State, When, Goto, Emit, Port, Name, Number, Semicolon, Colon, Comma, Equals, OpenParen, CloseParen, OpenBracket, CloseBracket, OpenBrace, CloseBrace, Plus, Minus, Star, Slash, Percent, Bang, AndAnd, OrOr, Relation}
-use Rattle.fs_grammar.specs.Grammar.{ParseState, OpenState, Destination, scalar, element, port, UnitContext, ConjunctionContext, GuardContext, FactorContext, ProductContext, SumContext, negates, first_of_all, and_after, first_of_any, or_after, braces, transition_guard, first_factor, times, divides, remainder_of, negative, first_product, plus, minus, parens, index, left, right, write_index, value, at_start, at_format, at_semicolon, at_declaration, at_sort, at_declared, after_declared, at_reset, after_reset, at_state, at_state_name, after_state_name, at_transition, at_target, after_target, at_assignment, at_port, after_assignment_name, at_equals, at_unit, after_conjunction, after_guard, at_factor, after_name, after_product, after_sum, factor_done, product_done, unit_done, conjunction_done, literal_done, step_factor, step_unit, step_guard, step_guarded, step_conjunction, step_joined, step_sum, step_summed, step_product, step_multiplied, step_name, step_transition, step_format, in_format_two, step}
+use Rattle.fs_grammar.specs.declared.token.TokenKind.TheVariants.{Fsmd, Declare, Array, Reset, State, When, Goto, Emit, Port, Name, Number, Semicolon, Colon}
+use Rattle.fs_grammar.specs.declared.token.TokenKind.TheVariants.{Comma, Equals, OpenParen, CloseParen, OpenBracket, CloseBracket, OpenBrace, CloseBrace, Plus}
+use Rattle.fs_grammar.specs.declared.token.TokenKind.TheVariants.{Minus, Star, Slash, Percent, Bang, AndAnd, OrOr, Relation}
+use Rattle.fs_grammar.specs.Grammar.{ParseState, OpenState, Destination, scalar, element, port, UnitContext, ConjunctionContext, GuardContext, FactorContext}
+use Rattle.fs_grammar.specs.Grammar.{ProductContext, SumContext, negates, first_of_all, and_after, first_of_any, or_after, braces, transition_guard}
+use Rattle.fs_grammar.specs.Grammar.{first_factor, times, divides, remainder_of, negative, first_product, plus, minus, parens, index, left, right, write_index}
+use Rattle.fs_grammar.specs.Grammar.{value, at_start, at_format, at_semicolon, at_declaration, at_sort, at_declared, after_declared, at_reset, after_reset}
+use Rattle.fs_grammar.specs.Grammar.{at_state, at_state_name, after_state_name, at_transition, at_target, after_target, at_assignment, at_port}
+use Rattle.fs_grammar.specs.Grammar.{after_assignment_name, at_equals, at_unit, after_conjunction, after_guard, at_factor, after_name, after_product, after_sum}
+use Rattle.fs_grammar.specs.Grammar.{factor_done, product_done, unit_done, conjunction_done, literal_done, step_factor, step_unit, step_guard, step_guarded}
+use Rattle.fs_grammar.specs.Grammar.{step_conjunction, step_joined, step_sum, step_summed, step_product, step_multiplied, step_name, step_transition}
+use Rattle.fs_grammar.specs.Grammar.{step_format, in_format_two, step}
 use Rattle.fs_lex.specs.Scan.{counted}
 
 -- ---- the operators of a value that has been read, with a bracket where one is needed
@@ -85,15 +95,15 @@ operators_owed _ = 0
 
 -- ---- a part that ends gives its operators on
 
-at_most_one : (b : Bool) → bracket b ≤ 1
+pub at_most_one : (b : Bool) → bracket b ≤ 1
 at_most_one true = omega arith
 at_most_one false = omega arith
 
-bracket_less : (a b : Bool) → bracket b ≤ bracket (a || b)
+pub bracket_less : (a b : Bool) → bracket b ≤ bracket (a || b)
 bracket_less true b = at_most_one b
 bracket_less false b = omega arith
 
-bracket_less-left : (a b : Bool) → bracket a ≤ bracket (a || b)
+pub bracket_less-left : (a b : Bool) → bracket a ≤ bracket (a || b)
 bracket_less-left true b = omega arith
 bracket_less-left false b = grind arith
 
@@ -114,7 +124,8 @@ unit_ends (negates k) u = omega (arith, unit_ends k (Not u))
 unit_ends (first_of_all k) u = omega (arith, bracket_less (is_and u) (is_or u))
 unit_ends (and_after c k) u = omega arith
 
-pub conjunction_ends : (k : ConjunctionContext) (c : Guard (List ℕ)) → operators_owed (conjunction_done c k) ≤ operators_of_conjunction c + operators_for_conjunction k
+pub conjunction_ends : (k : ConjunctionContext) (c : Guard (List ℕ))
+    → operators_owed (conjunction_done c k) ≤ operators_of_conjunction c + operators_for_conjunction k
 conjunction_ends (first_of_any k) c = omega arith
 conjunction_ends (or_after g k) c = omega arith
 
@@ -135,7 +146,8 @@ unit_costs t k c h = factor_costs t (first_factor (first_product (left k))) c h
 braced : (g : Guard (List ℕ)) → operators_of_unit g ≤ 1 + operators_of_guard g
 braced g = omega (arith, at_most_one (is_and g || is_or g))
 
-guard_costs : (t : TokenKind) (g : Guard (List ℕ)) (k : GuardContext) (c : ℕ) → operators_of_guard g + operators_for_guard k ≤ c → IfSome (step_guard t g k) (λ s. operators_owed s ≤ counted t c)
+guard_costs : (t : TokenKind) (g : Guard (List ℕ)) (k : GuardContext) (c : ℕ) → operators_of_guard g + operators_for_guard k ≤ c
+    → IfSome (step_guard t g k) (λ s. operators_owed s ≤ counted t c)
 guard_costs OrOr g k c h = omega arith
 guard_costs CloseBrace g (braces k) c h = omega (arith, unit_ends k g, braced g)
 guard_costs Goto g (transition_guard d n) c h = omega arith
@@ -154,13 +166,15 @@ joined_costs : (t : TokenKind) (s : ParseState) (c : ℕ) → operators_owed s �
 joined_costs t (after_conjunction f k) c h = conjunction_costs t f k c h
 joined_costs t _ c h = tt
 
-pub literal_ends : (r : Rel) (a b : Term (List ℕ)) (k : UnitContext) → operators_owed (literal_done r a b k) ≤ 1 + (operators_of_term a + operators_of_term b) + operators_for_unit k
+pub literal_ends : (r : Rel) (a b : Term (List ℕ)) (k : UnitContext)
+    → operators_owed (literal_done r a b k) ≤ 1 + (operators_of_term a + operators_of_term b) + operators_for_unit k
 literal_ends r a b k = omega (arith, unit_ends k (Test (record { relation = r; left = a; right = b })))
 
 bracketed : (e : Term (List ℕ)) → operators_of_factor e ≤ 1 + operators_of_term e
 bracketed e = omega (arith, at_most_one (is_sum e || is_product e))
 
-sum_costs : (t : TokenKind) (e : Term (List ℕ)) (k : SumContext) (c : ℕ) → operators_of_term e + operators_for_sum k ≤ c → IfSome (step_sum t e k) (λ s. operators_owed s ≤ counted t c)
+sum_costs : (t : TokenKind) (e : Term (List ℕ)) (k : SumContext) (c : ℕ) → operators_of_term e + operators_for_sum k ≤ c
+    → IfSome (step_sum t e k) (λ s. operators_owed s ≤ counted t c)
 sum_costs Plus e k c h = omega arith
 sum_costs Minus e k c h = omega arith
 sum_costs CloseParen e (parens k) c h = omega (arith, factor_ends k e, bracketed e)
@@ -176,7 +190,8 @@ summed_costs : (t : TokenKind) (s : ParseState) (c : ℕ) → operators_owed s �
 summed_costs t (after_sum e k) c h = sum_costs t e k c h
 summed_costs t _ c h = tt
 
-product_costs : (t : TokenKind) (p : Term (List ℕ)) (k : ProductContext) (c : ℕ) → operators_of_product p + operators_for_product k ≤ c → IfSome (step_product t p k) (λ s. operators_owed s ≤ counted t c)
+product_costs : (t : TokenKind) (p : Term (List ℕ)) (k : ProductContext) (c : ℕ) → operators_of_product p + operators_for_product k ≤ c
+    → IfSome (step_product t p k) (λ s. operators_owed s ≤ counted t c)
 product_costs Star p k c h = omega arith
 product_costs Slash p k c h = omega arith
 product_costs Percent p k c h = omega arith
@@ -186,7 +201,8 @@ multiplied_costs : (t : TokenKind) (s : ParseState) (c : ℕ) → operators_owed
 multiplied_costs t (after_product p k) c h = product_costs t p k c h
 multiplied_costs t _ c h = tt
 
-name_costs : (t : TokenKind) (x : List ℕ) (k : FactorContext) (c : ℕ) → operators_for_factor k ≤ c → IfSome (step_name t x k) (λ s. operators_owed s ≤ counted t c)
+name_costs : (t : TokenKind) (x : List ℕ) (k : FactorContext) (c : ℕ) → operators_for_factor k ≤ c
+    → IfSome (step_name t x k) (λ s. operators_owed s ≤ counted t c)
 name_costs OpenBracket x k c h = omega arith
 name_costs t x k c h = multiplied_costs t (factor_done (Variable x) k) c (omega (arith, factor_ends k (Variable x)))
 

@@ -9,7 +9,7 @@ use Rattle.fs_grammar.specs.declared.token.TokenKind.{TokenKind}
 use Rattle.fs_grammar.specs.declared.token.TokenKind.TheVariants.{End}
 use Rattle.fs_grammar.specs.declared.token.Token.{Token}
 use Rattle.fs_grammar.specs.Tokens.{refusal, fault_at}
-use Rattle.fs_grammar.specs.Grammar.{ParseState, at_start, step, finish, stop, next, reading}
+use Rattle.fs_grammar.specs.Grammar.{ParseState, at_start, step, finish_source, stop_source, take_token, reading}
 use Rattle.fs_grammar.specs.Operators.{is_operator, starts_expression}
 use Rattle.fs_lex.specs.Scan.{counted, tokens_of}
 use Rattle.fs_text_laws.proofs.Operators.{operators_owed, step_costs}
@@ -24,7 +24,7 @@ counts_few true b n e h = omega arith
 counts_few false true n e h = grind (arith, e)
 counts_few false false n e h = h
 
-stop_fits : (t : TokenKind) (e : TextFault) (o : Option Source) (f : Source) → IfSome o IsSo → stop t e o ≡ Ok f → IsSo f
+stop_fits : (t : TokenKind) (e : TextFault) (o : Option Source) (f : Source) → IfSome o IsSo → stop_source t e o ≡ Ok f → IsSo f
 stop_fits End e (Some s) f h q =
     let same : s ≡ f = cc in
     subst IsSo same h
@@ -35,8 +35,9 @@ taken_fits : (b : Bool) (e : TextFault) (r : Result Source TextFault) (f : Sourc
 taken_fits true e r f h q = absurd cc
 taken_fits false e r f h q = h refl q
 
-next_fits : (t : Token) (o : Option ParseState) (go : ParseState → Result Source TextFault) (end : Option Source) (f : Source) → (t.past_limit ≡ false → IfSome o (λ s. go s ≡ Ok f → IsSo f)) → IfSome end IsSo
-    → next t o go end ≡ Ok f → IsSo f
+next_fits : (t : Token) (o : Option ParseState) (go : ParseState → Result Source TextFault) (end : Option Source) (f : Source)
+    → (t.past_limit ≡ false → IfSome o (λ s. go s ≡ Ok f → IsSo f)) → IfSome end IsSo
+    → take_token t o go end ≡ Ok f → IsSo f
 next_fits t (Some s) go end f h j q = taken_fits t.past_limit (fault_at t Operators) (go s) f h q
 next_fits t None go end f h j q = stop_fits t.kind (refusal (t ∷ [])) end f j q
 
@@ -45,10 +46,11 @@ with_both : (o : Option ParseState) (P Q R : ParseState → Type 0) → ((s : Pa
 with_both (Some s) P Q R h p q = h s p q
 with_both None P Q R h p q = tt
 
-pub reads_fit : (ts : List Token) (s : ParseState) (n : ℕ) (f : Source) → AreCounted n ts → IsFit s → operators_owed s ≤ n → n ≤ 128 → reading ts s ≡ Ok f → IsSo f
+pub reads_fit : (ts : List Token) (s : ParseState) (n : ℕ) (f : Source) → AreCounted n ts → IsFit s → operators_owed s ≤ n → n ≤ 128
+    → reading ts s ≡ Ok f → IsSo f
 reads_fit [] s n f c h b m q = absurd cc
 reads_fit (t ∷ ts) s n f c h b m q =
-    next_fits t (step s t.place.line t.kind) (reading ts) (finish s) f
+    next_fits t (step s t.place.line t.kind) (reading ts) (finish_source s) f
     (λ e. with_both (step s t.place.line t.kind) IsFit (λ u. operators_owed u ≤ counted t.kind n) (λ u. reading ts u ≡ Ok f → IsSo f)
     (λ u k j. reads_fit ts u (counted t.kind n) f c.2 k j (counts_few (starts_expression t.kind) (is_operator t.kind) n (sym c.1 ∙ e) m))
     (step_keeps s t.place.line t.kind c.0 h (omega arith)) (step_costs s t.place.line t.kind n b))

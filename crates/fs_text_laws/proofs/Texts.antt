@@ -9,7 +9,7 @@ use Rattle.fs_lex.specs.Scan.{tokens_of}
 use Rattle.fs_lex_laws.specs.Tokenization.{AreTokens}
 use Rattle.fs_lex_laws.proofs.Tokenized.{tokenized}
 use Rattle.fs_lex_laws.proofs.Unique.{one_list}
-use Rattle.fs_text_laws.specs.Texts.{TextSpells, TextStops}
+use Rattle.fs_text_laws.specs.MachineTexts.{TextSpells, TextStops}
 use Rattle.fs_text_laws.proofs.Alike.{AreAlike, alike, spell_alike, stop_alike}
 use Rattle.fs_text_laws.proofs.Limit.{spelled_found, spelled_only, fault_found, fault_only}
 
@@ -28,7 +28,8 @@ stops bytes f e = record { tokens = tokens_of bytes; are = tokenized bytes; stop
 pub refuses : (bytes : List ℕ) (f : TextFault) → TextStops bytes f → reading (tokens_of bytes) at_start ≡ Err f
 refuses bytes f t = fault_only bytes f (stop_alike t.tokens (tokens_of bytes) f (made_alike bytes t.tokens t.are) t.stop)
 
-settled : (bytes : List ℕ) (r : Result Source TextFault) → reading (tokens_of bytes) at_start ≡ r → ((s : Source) × TextSpells bytes s) ⊎ ((f : TextFault) × TextStops bytes f)
+settled : (bytes : List ℕ) (r : Result Source TextFault) → reading (tokens_of bytes) at_start ≡ r
+    → ((s : Source) × TextSpells bytes s) ⊎ ((f : TextFault) × TextStops bytes f)
 settled bytes (Ok s) e = inl (s, spells bytes s e)
 settled bytes (Err f) e = inr (f, stops bytes f e)
 

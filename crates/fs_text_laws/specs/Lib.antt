@@ -1,3 +1,3 @@
 pub mod Kinds
 pub mod Limit
-pub mod Texts
+pub mod MachineTexts

@@ -12,15 +12,16 @@ use Rattle.fs_grammar.specs.declared.token.Token.{Token}
 use Rattle.fs_grammar.specs.Operators.{is_operator}
 use Rattle.fs_grammar_laws.specs.Spelling.{IsFile}
 use Rattle.fs_grammar_laws.specs.Beginnings.{BeginsFile}
-use Rattle.fs_grammar_laws.specs.Expressions.{EndInExpression}
+use Rattle.fs_grammar_laws.specs.ExpressionEnds.{EndInExpression}
 use Rattle.fs_grammar_laws.specs.Faults.{CanFollow, IsWrong}
-use Rattle.fs_grammar_laws.specs.Walks.{words}
+use Rattle.fs_grammar_laws.specs.WordWalks.{words}
 
 -- how many of the tokens are operators or opening brackets
 abbrev pub operator_count : List Token → ℕ
 operator_count ts = count_by (λ t. is_operator t.kind) ts
 
--- An operator or opening bracket behind these tokens, which end in one guard or one assignment with as many of them as it may have.
+-- An operator or opening bracket behind these tokens, which end in one guard or one assignment with as many of them as it may
+-- have.
 pub record IsOneTooMany (before : List Token) (token : Token) : Type 0 where
   pub operator : IsTrue (is_operator token.kind)
   pub part : List Token

@@ -1,4 +1,8 @@
 //! Laws of machine texts: what bytes can read as. The functions do nothing.
+//!
+//! Promises: what bytes spell and where they are faulty, by the bytes and the grammar alone.
+//!
+//! Rules: `specs/Kinds`, `specs/Limit`, `specs/MachineTexts`.
 #![tactic(auto)]
 
 ghost use Rattle.std.specs.Prelude.{◌≡◌, ℕ, ◌&&◌, ◌⊎◌, ◌↔◌, nat_le, List, ◌∷◌, ◌++◌, Ok, Err, IsTrue};
@@ -9,12 +13,12 @@ ghost use Rattle.fs_grammar.specs.declared.fault.TextFault.{TextFault};
 ghost use Rattle.fs_grammar.specs.declared.token.Token.{Token};
 ghost use Rattle.fs_grammar.specs.Grammar.{at_start, reading};
 ghost use Rattle.fs_grammar.specs.Operators.{is_operator};
-ghost use Rattle.fs_grammar_laws.specs.Expressions.{EndInExpression};
+ghost use Rattle.fs_grammar_laws.specs.ExpressionEnds.{EndInExpression};
 ghost use Rattle.fs_lex.specs.Scan.{tokens_of};
-ghost use Rattle.fs_lex_laws.specs.Tokenization.{StandsIn};
+ghost use Rattle.fs_lex_laws.specs.Tokenization.{IsTokenIn};
 ghost use Rattle.fs_text_laws.specs.Kinds.{IsProper, end_once};
 ghost use Rattle.fs_text_laws.specs.Limit.{operator_count, SpellWithin, StopWithin};
-ghost use Rattle.fs_text_laws.specs.Texts.{TextSpells, TextStops};
+ghost use Rattle.fs_text_laws.specs.MachineTexts.{TextSpells, TextStops};
 
 /// What bytes read as is well formed: no number is negative, each declaration has a name, each port
 /// is an output, and each guard, assignment and emit has at most 128 operators and brackets that are
@@ -37,8 +41,10 @@ pub fn tokens_are_proper()
 /// An operator or opening bracket behind a part of one guard or one assignment is marked exactly
 /// where that part has at least 128 of them. Nothing else is marked.
 pub fn the_mark_counts_the_expression()
-    ensures counts { (bytes : List ℕ) (before behind part : List Token) (t : Token) → tokens_of bytes ≡ before ++ t ∷ behind → EndInExpression before part → t.past_limit ≡ (is_operator t.kind && nat_le 128 (operator_count part)) }
-    ensures alone { (bytes : List ℕ) (before behind : List Token) (t : Token) → tokens_of bytes ≡ before ++ t ∷ behind → IsTrue t.past_limit → IsTrue (is_operator t.kind) }
+    ensures counts { (bytes : List ℕ) (before behind part : List Token) (t : Token) → tokens_of bytes ≡ before ++ t ∷ behind
+        → EndInExpression before part → t.past_limit ≡ (is_operator t.kind && nat_le 128 (operator_count part)) }
+    ensures alone { (bytes : List ℕ) (before behind : List Token) (t : Token) → tokens_of bytes ≡ before ++ t ∷ behind
+        → IsTrue t.past_limit → IsTrue (is_operator t.kind) }
 {}
 
 /// A text reads as a source exactly where its tokens up to the end spell it and each guard and
@@ -51,14 +57,17 @@ pub fn what_is_read_is_spelled_within_the_limit()
 /// A text is refused exactly at its first token that is faulty by itself, cannot follow, or can and
 /// is the 129th operator or opening bracket of one guard or one assignment.
 pub fn the_fault_is_at_the_first_wrong_token_of_a_text()
-    ensures found { (bytes : List ℕ) (f : TextFault) → reading (tokens_of bytes) at_start ≡ Err f → StopWithin (tokens_of bytes) f }
-    ensures only { (bytes : List ℕ) (f : TextFault) → StopWithin (tokens_of bytes) f → reading (tokens_of bytes) at_start ≡ Err f }
+    ensures found { (bytes : List ℕ) (f : TextFault) → reading (tokens_of bytes) at_start ≡ Err f
+        → StopWithin (tokens_of bytes) f }
+    ensures only { (bytes : List ℕ) (f : TextFault) → StopWithin (tokens_of bytes) f
+        → reading (tokens_of bytes) at_start ≡ Err f }
 {}
 
 /// The place of a fault is that of the first byte of a token in the text, and of Ended the end of the
 /// bytes: its line is 1 plus the LFs before it, its column 1 plus the bytes after the last of these.
 pub fn a_fault_has_its_place_in_the_text()
-    ensures { (bytes : List ℕ) (f : TextFault) → reading (tokens_of bytes) at_start ≡ Err f → (s : StopWithin (tokens_of bytes) f) × StandsIn bytes s.token }
+    ensures { (bytes : List ℕ) (f : TextFault) → reading (tokens_of bytes) at_start ≡ Err f
+        → (s : StopWithin (tokens_of bytes) f) × IsTokenIn bytes s.token }
 {}
 
 /// A text is read exactly as what its bytes spell, and refused exactly where they are faulty.

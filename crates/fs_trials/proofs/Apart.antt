@@ -5,15 +5,15 @@ use Rattle.fs_model.specs.Machines.{Fsmd}
 use Rattle.fs_model.specs.Runs.{Inputs}
 use Rattle.fs_runs.specs.declared.run.Ended.{Ended}
 use Rattle.fs_runs.specs.declared.run.RunStop.{RunStop}
-use Rattle.fs_runs.specs.Outcomes.{IsStopped, IsOfRun, told_by}
+use Rattle.fs_runs.specs.Outcomes.{IsStopped, IsStopOfRun, told_by}
 use Rattle.fs_runs.proofs.RunOnce.{one_end, end_or_stop}
-use Rattle.fs_show.specs.Items.{SameOutputs}
+use Rattle.fs_show.specs.ItemTexts.{SameOutputs}
 use Rattle.fs_trials.specs.Pool.{pool_of}
 use Rattle.fs_trials.specs.Candidates.{candidate_inputs, stated_inputs}
 use Rattle.fs_trials.specs.Differences.{ShowsDifference, DiffersAt, IsEnd, HasNoEnd, AreApart}
 
 -- a run that was stopped has no end
-pub no_end : (m : Fsmd) (ins : Inputs) (limit : ℕ) (stop : RunStop) → IsStopped m ins limit stop → IsOfRun stop → HasNoEnd m ins limit
+pub no_end : (m : Fsmd) (ins : Inputs) (limit : ℕ) (stop : RunStop) → IsStopped m ins limit stop → IsStopOfRun stop → HasNoEnd m ins limit
 no_end m ins limit stop stopped of_run = λ outs steps ends. end_or_stop m ins limit outs steps stop ends stopped of_run
 
 pub left_has_none : (a b : Fsmd) (ins : Inputs) (limit : ℕ) → HasNoEnd a ins limit → ¬ ShowsDifference a b ins limit
@@ -23,14 +23,15 @@ pub right_has_none : (a b : Fsmd) (ins : Inputs) (limit : ℕ) → HasNoEnd b in
 right_has_none a b ins limit none d = none d.right d.right_steps d.right_ends
 
 -- runs that end with the same outputs show no difference
-pub same_shows_none : (a b : Fsmd) (ins : Inputs) (limit : ℕ) (left right : Ended) → IsEnd a ins limit left → IsEnd b ins limit right → SameOutputs (told_by a left.outputs.items) (told_by b right.outputs.items) → ¬ ShowsDifference a b ins limit
+pub same_shows_none : (a b : Fsmd) (ins : Inputs) (limit : ℕ) (left right : Ended) → IsEnd a ins limit left → IsEnd b ins limit right
+    → SameOutputs (told_by a left.outputs.items) (told_by b right.outputs.items) → ¬ ShowsDifference a b ins limit
 same_shows_none a b ins limit left right l r same d =
     let lefts = (one_end a ins limit d.left (told_by a left.outputs.items) d.left_steps left.steps d.left_ends l.ends).0 in
     let rights = (one_end b ins limit d.right (told_by b right.outputs.items) d.right_steps right.steps d.right_ends r.ends).0 in
     d.differ (λ name. ap (λ o. o name) lefts ∙ same name ∙ sym (ap (λ o. o name) rights))
 
 -- runs that are apart show a difference
-apart_shows : (a b : Fsmd) (ins : Inputs) (limit : ℕ) (left right : Ended) → AreApart a b ins limit left right → ShowsDifference a b ins limit
+pub apart_shows : (a b : Fsmd) (ins : Inputs) (limit : ℕ) (left right : Ended) → AreApart a b ins limit left right → ShowsDifference a b ins limit
 apart_shows a b ins limit left right d = record {
   left = told_by a left.outputs.items;
   right = told_by b right.outputs.items;
@@ -50,7 +51,8 @@ pub at_candidate : (a b : Fsmd) (limit j : ℕ) (ins : Inputs) → ins ≡ state
 at_candidate a b limit j ins e none = subst (λ x. ¬ ShowsDifference a b x limit) e none
 
 -- what inputs show, their candidate does
-pub shown_at : (a b : Fsmd) (limit j : ℕ) (ins : Inputs) (left right : Ended) → ins ≡ stated_inputs a b j → AreApart a b ins limit left right → DiffersAt a b limit j
+pub shown_at : (a b : Fsmd) (limit j : ℕ) (ins : Inputs) (left right : Ended) → ins ≡ stated_inputs a b j → AreApart a b ins limit left right
+    → DiffersAt a b limit j
 shown_at a b limit j ins left right e d = subst (λ x. ShowsDifference a b x limit) e (apart_shows a b ins limit left right d)
 
 pub one_more : (P : ℕ → Type 0) (j : ℕ) → ((i : ℕ) → i < j → P i) → P j → (i : ℕ) → i < j + 1 → P i

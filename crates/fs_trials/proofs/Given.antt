@@ -1,5 +1,6 @@
 -- What a candidate gives each input.
-use Rattle.std.proofs.Common.{◌≡◌, ◌≢◌, ℕ, zero, suc, ◌+◌, ◌<◌, ◌≤◌, Bool, true, false, cond, List, [], ◌∷◌, length, refl, sym, ◌∙◌, ap, subst, arith, inl, inr, add-zero}
+use Rattle.std.proofs.Common.{◌≡◌, ◌≢◌, ℕ, zero, suc, ◌+◌, ◌<◌, ◌≤◌, Bool, true, false, cond, List, [], ◌∷◌, length, refl, sym, ◌∙◌, ap, subst, arith, inl, inr}
+use Rattle.std.proofs.Common.{add-zero}
 use Rattle.std.specs.Prelude.{ℤ, pos, negsuc, Option, Some, None, map, slice_get, slice_set, nat_lt, option_map}
 use Rattle.std.specs.List.{filter}
 use Rattle.std.specs.Ordering.{int_eq}
@@ -7,6 +8,9 @@ use Rattle.std.specs.Str.{bytes_eq}
 use Rattle.std.proofs.lemmas.Bool.{cases_lt, false≢true}
 use Rattle.std.proofs.lemmas.Bool.Decides.{nat_tests, Decides-int_eq}
 use Rattle.std.proofs.lemmas.List.{map-set}
+use Rattle.std.proofs.lemmas.Option.{slice_get_within}
+use Rattle.base_lemmas.proofs.Lists.{slice_get-none, length_map}
+use Rattle.base_lemmas.proofs.Options.{none_from_map}
 use Rattle.fs_model.specs.declared.parts.Sort.{Sort}
 use Rattle.fs_model.specs.declared.parts.VarInfo.{VarInfo}
 use Rattle.fs_model.specs.Runs.{Content, Entries, is_input}
@@ -14,14 +18,14 @@ use Rattle.fs_runs.specs.declared.values.Value.{Value}
 use Rattle.fs_runs.specs.declared.values.Value.TheVariants as values
 use Rattle.fs_runs.specs.declared.inputs.Input.{Input}
 use Rattle.fs_runs.specs.declared.inputs.Inputs.{Inputs as InputValues}
-use Rattle.fs_runs.specs.Values.{content_of, number_in, entry_in}
+use Rattle.fs_runs.specs.Values.{content_of, value_number, entry_in}
 use Rattle.fs_runs.specs.InputValues.{Signature, input_signatures, signature, value_named, input_values, inputs_of, signatures_of}
-use Rattle.fs_runs.specs.Outcomes.{told}
+use Rattle.fs_runs.specs.Outcomes.{outputs_by_name}
 use Rattle.fs_trials.specs.Candidates.{Candidate, content_at, array_of, contents, number_told, array_told, inputs_told}
 
 -- ---- values by name and contents in order
 
-number_of_value : (v : Value) → number_in (Some v) ≡ number_told (Some (content_of v))
+number_of_value : (v : Value) → value_number (Some v) ≡ number_told (Some (content_of v))
 number_of_value (values.Num n) = refl
 number_of_value (values.Arr e) = refl
 number_of_value (values.List l) = refl
@@ -37,18 +41,22 @@ names_in items = map (λ (f : Signature). f.0) (map signature items)
 abbrev contents_in : List Input → List Content
 contents_in items = map content_of (map (λ (i : Input). i.value) items)
 
-numbers_told : (items : List Input) (name : List ℕ) → number_in (value_named items name) ≡ number_told (told (names_in items) (contents_in items) name)
+numbers_told : (items : List Input) (name : List ℕ)
+    → value_number (value_named items name) ≡ number_told (outputs_by_name (names_in items) (contents_in items) name)
 numbers_told [] name = refl
 numbers_told (x ∷ rest) name =
-    elim (bytes_eq x.name name) as (λ b. number_in (cond b (Some x.value) (value_named rest name)) ≡ number_told (cond b (Some (content_of x.value)) (told (names_in rest) (contents_in rest) name))) [
+    elim (bytes_eq x.name name) as (λ b. value_number (cond b (Some x.value) (value_named rest name))
+    ≡ number_told (cond b (Some (content_of x.value)) (outputs_by_name (names_in rest) (contents_in rest) name))) [
       | true ↦ number_of_value x.value
       | false ↦ numbers_told rest name
     ]
 
-arrays_told : (items : List Input) (name : List ℕ) (i : ℤ) → entry_in (value_named items name) i ≡ array_told (told (names_in items) (contents_in items) name) i
+arrays_told : (items : List Input) (name : List ℕ) (i : ℤ)
+    → entry_in (value_named items name) i ≡ array_told (outputs_by_name (names_in items) (contents_in items) name) i
 arrays_told [] name i = refl
 arrays_told (x ∷ rest) name i =
-    elim (bytes_eq x.name name) as (λ b. entry_in (cond b (Some x.value) (value_named rest name)) i ≡ array_told (cond b (Some (content_of x.value)) (told (names_in rest) (contents_in rest) name)) i) [
+    elim (bytes_eq x.name name) as (λ b. entry_in (cond b (Some x.value) (value_named rest name)) i
+    ≡ array_told (cond b (Some (content_of x.value)) (outputs_by_name (names_in rest) (contents_in rest) name)) i) [
       | true ↦ array_of_value x.value i
       | false ↦ arrays_told rest name i
     ]
@@ -57,7 +65,8 @@ as_told : (ins : InputValues) → inputs_of ins ≡ inputs_told (signatures_of i
 as_told ins = λ k. record { scalar = λ name. (numbers_told ins.items.items name) k; array = λ name i. (arrays_told ins.items.items name i) k }
 
 -- values with these contents are these inputs
-pub inputs_are : (ins : InputValues) (fs : List Signature) (cs : List Content) → signatures_of ins ≡ fs → map content_of (input_values ins) ≡ cs → inputs_of ins ≡ inputs_told fs cs
+pub inputs_are : (ins : InputValues) (fs : List Signature) (cs : List Content) → signatures_of ins ≡ fs → map content_of (input_values ins) ≡ cs
+    → inputs_of ins ≡ inputs_told fs cs
 inputs_are ins fs cs e f = as_told ins ∙ ap (λ gs. inputs_told gs (map content_of (input_values ins))) e ∙ ap (inputs_told fs) f
 
 -- ---- one input after another
@@ -66,7 +75,8 @@ inputs_are ins fs cs e f = as_told ins ∙ ap (λ gs. inputs_told gs (map conten
 abbrev pub AreGiven : Candidate → (k : ℕ) → List Content → List Signature → Type 0
 AreGiven g k cs fs = (i : ℕ) → i < k → slice_get cs i ≡ slice_get (contents g 0 fs) i
 
-contents_get : (g : Candidate) (m k : ℕ) (fs : List Signature) (f : Signature) → slice_get fs k ≡ Some f → slice_get (contents g m fs) k ≡ Some (content_at g (m + k) f.1)
+contents_get : (g : Candidate) (m k : ℕ) (fs : List Signature) (f : Signature) → slice_get fs k ≡ Some f
+    → slice_get (contents g m fs) k ≡ Some (content_at g (m + k) f.1)
 contents_get g m k [] f e = absurd (cc)
 contents_get g m zero (h ∷ fs) f e = let same : h ≡ f = cc in ap (λ x. Some (content_at g m x.1)) same ∙ ap (λ n. Some (content_at g n f.1)) (sym (add-zero m))
 contents_get g m (suc k) (h ∷ fs) f e =
@@ -77,12 +87,8 @@ contents_count : (g : Candidate) (m : ℕ) (fs : List Signature) → length (con
 contents_count g m [] = refl
 contents_count g m (f ∷ fs) = ap suc (contents_count g (m + 1) fs)
 
-length_mapped : {A B : Type 0} (f : A → B) (xs : List A) → length (map f xs) ≡ length xs
-length_mapped f [] = refl
-length_mapped f (x ∷ xs) = ap suc (length_mapped f xs)
-
 pub as_many : (items : List Input) → length (contents_in items) ≡ length (map signature items)
-as_many items = length_mapped content_of (map (λ (i : Input). i.value) items) ∙ length_mapped (λ (i : Input). i.value) items ∙ sym (length_mapped signature items)
+as_many items = length_map content_of (map (λ (i : Input). i.value) items) ∙ length_map (λ (i : Input). i.value) items ∙ sym (length_map signature items)
 
 get_set_here : {A : Type 0} (xs : List A) (k : ℕ) (x : A) → k < length xs → slice_get (slice_set xs k x) k ≡ Some x
 get_set_here [] k x h = absurd (omega arith)
@@ -99,23 +105,20 @@ there : {A B : Type 0} (f : A → B) (o : Option A) (y : B) → option_map f o �
 there f None y e = absurd (cc)
 there f (Some x) y e = let same : f x ≡ y = cc in (x, refl, same)
 
-get_low : {A : Type 0} (xs : List A) (k : ℕ) (x : A) → slice_get xs k ≡ Some x → k < length xs
-get_low [] k x e = absurd (cc)
-get_low (y ∷ xs) zero x e = omega arith
-get_low (y ∷ xs) (suc k) x e = let h = get_low xs k x e in omega arith
-
 -- one more input gets what the candidate gives it
-pub given_more : (g : Candidate) (k : ℕ) (old new : List Value) (fs : List Signature) (s : Sort) (v : Value) → length (map content_of old) ≡ length fs → option_map (λ (f : Signature). f.1) (slice_get fs k) ≡ Some s
+pub given_more : (g : Candidate) (k : ℕ) (old new : List Value) (fs : List Signature) (s : Sort) (v : Value) → length (map content_of old) ≡ length fs
+    → option_map (λ (f : Signature). f.1) (slice_get fs k) ≡ Some s
     → content_of v ≡ content_at g k s → new ≡ slice_set old k v → AreGiven g k (map content_of old) fs → AreGiven g (k + 1) (map content_of new) fs
 given_more g k old new fs s v count sort own put before i less =
     let cs = map content_of old in
     let f = there (λ (h : Signature). h.1) (slice_get fs k) s sort in
-    let low : k < length fs = get_low fs k f.0 f.1 in
+    let low : k < length fs = slice_get_within fs k f.0 f.1 in
     let all : map content_of new ≡ slice_set cs k (content_of v) = ap (map content_of) put ∙ map-set content_of old k v in
     let here : slice_get (slice_set cs k (content_of v)) k ≡ Some (content_of v) = get_set_here cs k (content_of v) (omega arith) in
     let wanted : slice_get (contents g 0 fs) k ≡ Some (content_at g (0 + k) f.0.1) = contents_get g 0 k fs f.0 f.1 in
     let zero_place : 0 + k ≡ k = omega arith in
-    let given_here : slice_get (contents g 0 fs) k ≡ Some (content_at g k s) = wanted ∙ ap (λ n. Some (content_at g n f.0.1)) zero_place ∙ ap (λ t. Some (content_at g k t)) f.2 in
+    let given_here : slice_get (contents g 0 fs) k ≡ Some (content_at g k s) = wanted ∙ ap (λ n. Some (content_at g n f.0.1)) zero_place
+    ∙ ap (λ t. Some (content_at g k t)) f.2 in
     ap (λ ds. slice_get ds i) all
     ∙ elim (cases_lt i k) as (λ _. slice_get (slice_set cs k (content_of v)) i ≡ slice_get (contents g 0 fs) i) [
       | inl earlier ↦ get_set_before cs k i (content_of v) earlier ∙ before i earlier
@@ -135,24 +138,17 @@ same_lists (x ∷ xs) (y ∷ ys) e each =
     cc
 
 -- all inputs have what the candidate gives them
-pub given_all : (g : Candidate) (k : ℕ) (cs : List Content) (fs : List Signature) → length cs ≡ length fs → length fs ≤ k → AreGiven g k cs fs → cs ≡ contents g 0 fs
+pub given_all : (g : Candidate) (k : ℕ) (cs : List Content) (fs : List Signature) → length cs ≡ length fs → length fs ≤ k → AreGiven g k cs fs
+    → cs ≡ contents g 0 fs
 given_all g k cs fs count all each = same_lists cs (contents g 0 fs) (count ∙ sym (contents_count g 0 fs)) (λ i h. each i (omega arith))
 
-none_there : {A B : Type 0} (f : A → B) (o : Option A) → option_map f o ≡ None → o ≡ None
-none_there f None e = refl
-none_there f (Some x) e = absurd (cc)
-
-got_none : {A : Type 0} (xs : List A) (k : ℕ) → slice_get xs k ≡ None → length xs ≤ k
-got_none [] k e = omega arith
-got_none (x ∷ xs) zero e = absurd (cc)
-got_none (x ∷ xs) (suc k) e = let h = got_none xs k e in omega arith
-
 pub past_all : (fs : List Signature) (k : ℕ) → option_map (λ (f : Signature). f.1) (slice_get fs k) ≡ None → length fs ≤ k
-past_all fs k e = got_none fs k (none_there (λ (f : Signature). f.1) (slice_get fs k) e)
+past_all fs k e = slice_get-none fs k (none_from_map (λ (f : Signature). f.1) (slice_get fs k) e)
 
 -- ---- arrays
 
-pub filled_more : (numbers : ℕ → ℤ) (k : ℕ) (v : ℤ) (old new : ℤ → ℤ) → v ≡ numbers k → ((x : ℤ) → new x ≡ cond (int_eq (pos k) x) v (old x)) → ((x : ℤ) → old x ≡ array_of numbers k x) → (x : ℤ) → new x ≡ array_of numbers (k + 1) x
+pub filled_more : (numbers : ℕ → ℤ) (k : ℕ) (v : ℤ) (old new : ℤ → ℤ) → v ≡ numbers k → ((x : ℤ) → new x ≡ cond (int_eq (pos k) x) v (old x))
+    → ((x : ℤ) → old x ≡ array_of numbers k x) → (x : ℤ) → new x ≡ array_of numbers (k + 1) x
 filled_more numbers k v old new e put before (negsuc i) = put (negsuc i) ∙ before (negsuc i)
 filled_more numbers k v old new e put before (pos i) =
     put (pos i)
@@ -196,5 +192,5 @@ variable_signature v = (v.name, v.sort)
 pub few_inputs : (vs : List VarInfo) → length (input_signatures vs) ≤ length vs
 few_inputs vs =
     let kept = few_kept (λ v. is_input v.role) vs in
-    let count : length (input_signatures vs) ≡ length (filter (λ v. is_input v.role) vs) = length_mapped variable_signature (filter (λ v. is_input v.role) vs) in
+    let count : length (input_signatures vs) ≡ length (filter (λ v. is_input v.role) vs) = length_map variable_signature (filter (λ v. is_input v.role) vs) in
     omega arith

@@ -7,7 +7,7 @@ use Rattle.fs_model.specs.declared.parts.Sort.TheVariants.{Scalar, Array, Port}
 use Rattle.fs_model.specs.Machines.{Fsmd}
 use Rattle.fs_model.specs.Runs.{Inputs, Content, Number, Entries, Emitted}
 use Rattle.fs_runs.specs.InputValues.{Signature, input_signatures}
-use Rattle.fs_runs.specs.Outcomes.{told}
+use Rattle.fs_runs.specs.Outcomes.{outputs_by_name}
 use Rattle.fs_trials.specs.Pool.{pool_of, further_values}
 
 -- a candidate: the number that index i of input k has, and how many indices of an array have one, from 0 on
@@ -56,13 +56,13 @@ array_of numbers count (pos i) = cond (nat_lt i count) (numbers i) (pos 0)
 array_of numbers count (negsuc i) = pos 0
 
 -- the array that a candidate gives input k
-abbrev pub array_at : Candidate → (k : ℕ) → ℤ → ℤ
-array_at c k = array_of (c.number k) c.filled
+abbrev pub candidate_array : Candidate → (k : ℕ) → ℤ → ℤ
+candidate_array c k = array_of (c.number k) c.filled
 
 -- what a candidate gives input k of a sort
 abbrev pub content_at : Candidate → (k : ℕ) → Sort → Content
 content_at c k Scalar = Number (c.number k 0)
-content_at c k Array = Entries (array_at c k)
+content_at c k Array = Entries (candidate_array c k)
 content_at c k Port = Emitted []
 
 -- what a candidate gives inputs in order, of which the first has number k
@@ -86,8 +86,8 @@ array_told (Some (Emitted zs)) i = pos 0
 -- the inputs that contents in order say of inputs in order
 abbrev pub inputs_told : List Signature → List Content → Inputs
 inputs_told fs cs = record {
-  scalar = λ name. number_told (told (map (λ f. f.0) fs) cs name);
-  array = λ name i. array_told (told (map (λ f. f.0) fs) cs name) i;
+  scalar = λ name. number_told (outputs_by_name (map (λ f. f.0) fs) cs name);
+  array = λ name i. array_told (outputs_by_name (map (λ f. f.0) fs) cs name) i;
 }
 
 -- what candidate j of a pool gives the inputs of a machine, in order of declaration

@@ -4,16 +4,16 @@ use Rattle.std.specs.Prelude.{List, [], ◌∷◌, ◌++◌, length, take}
 use Rattle.std.specs.List.{filter, flat_map, list_any}
 use Rattle.std.specs.Ordering.{int_eq}
 use Rattle.fs_model.specs.Machines.{Fsmd}
-use Rattle.fs_ast.specs.Sound.{numbers_in_states}
+use Rattle.fs_ast.specs.SoundMachines.{numbers_in_states}
 
 -- the most numbers of a pool
 abbrev pub most_values : ℕ
 most_values = 24
 
 -- a number of 128 bits
-abbrev pub fits : ℤ → Bool
-fits (pos n) = nat_lt n (2 ^ 127)
-fits (negsuc n) = nat_lt n (2 ^ 127)
+abbrev pub is_pool_number : ℤ → Bool
+is_pool_number (pos n) = nat_lt n (2 ^ 127)
+is_pool_number (negsuc n) = nat_lt n (2 ^ 127)
 
 -- the numbers with which each pool begins
 abbrev pub first_values : List ℤ
@@ -21,7 +21,7 @@ first_values = pos 0 ∷ pos 1 ∷ negsuc 0 ∷ pos 2 ∷ []
 
 -- a number with the one before it and the one after it, as far as they have 128 bits
 abbrev pub neighbours : ℤ → List ℤ
-neighbours c = filter fits ((c -ℤ pos 1) ∷ c ∷ (c +ℤ pos 1) ∷ [])
+neighbours c = filter is_pool_number ((c -ℤ pos 1) ∷ c ∷ (c +ℤ pos 1) ∷ [])
 
 -- each number once, at its first place
 abbrev pub distinct : List ℤ → List ℤ
@@ -55,9 +55,9 @@ abbrev pub further_values : List ℤ → List ℤ
 further_values pool = first_distinct most_further_values (fixed_values ++ pool)
 
 -- a number stands in a list
-abbrev pub is_in : ℤ → List ℤ → Bool
-is_in v vs = list_any (λ w. int_eq w v) vs
+abbrev pub is_in_pool : ℤ → List ℤ → Bool
+is_in_pool v vs = list_any (λ w. int_eq w v) vs
 
 -- a list with one more number, where it has room and the number is new
-abbrev pub grown : (room : ℕ) → List ℤ → ℤ → List ℤ
-grown room vs v = cond (nat_le room (length vs) || is_in v vs) vs (vs ++ v ∷ [])
+abbrev pub with_pool_number : (room : ℕ) → List ℤ → ℤ → List ℤ
+with_pool_number room vs v = cond (nat_le room (length vs) || is_in_pool v vs) vs (vs ++ v ∷ [])

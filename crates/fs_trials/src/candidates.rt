@@ -1,11 +1,11 @@
 //! Candidate inputs of two machines.
 
-ghost use Rattle.std.specs.Prelude.{◌≡◌, ◌^◌, ◌<◌, ◌≤◌, ℤ, length, map, IfOk};
-ghost use Rattle.fs_runs.specs.Values.{entry, content_of, sort_of};
+ghost use Rattle.std.specs.Prelude.{◌≡◌, ◌<◌, ◌≤◌, ℤ, length, map, IfOk};
+ghost use Rattle.fs_runs.specs.Values.{entry_number, content_of, sort_of};
 ghost use Rattle.fs_runs.specs.InputValues.{input_values, inputs_of, signatures_of, input_signatures, Serves};
 ghost use Rattle.fs_trials.specs.Pool.{most_values, pool_of, further_values};
 ghost use Rattle.fs_trials.specs.Candidates.{pool_count, candidate_count, pool_candidate, further_place, further_candidate};
-ghost use Rattle.fs_trials.specs.Candidates.{candidate, array_at, content_at, candidate_contents, candidate_inputs};
+ghost use Rattle.fs_trials.specs.Candidates.{candidate, candidate_array, content_at, candidate_contents, candidate_inputs};
 
 use crate::pool::{further_values, pool};
 use fs_ast::machine::Machine;
@@ -73,7 +73,8 @@ impl Candidates {
         requires { j < candidate_count self.now.pool.items }
         ensures signatures { IfOk result (λ ins. signatures_of ins ≡ input_signatures m.now.variables) }
         ensures serves { IfOk result (λ ins. Serves (signatures_of ins) m.now) }
-        ensures contents { IfOk result (λ ins. map content_of (input_values ins) ≡ candidate_contents self.now.pool.items j m.now) }
+        ensures contents { IfOk result
+            (λ ins. map content_of (input_values ins) ≡ candidate_contents self.now.pool.items j m.now) }
         ensures inputs { IfOk result (λ ins. inputs_of ins ≡ candidate_inputs self.now.pool.items j m.now) }
     {
         let mut inputs = Inputs::zero(alloc, m)?;
@@ -105,7 +106,7 @@ impl Candidates {
     fn array(&self, alloc: Global, j: u64, k: u64) -> Result<Entries, NoMemory>
         requires candidate { j < candidate_count self.now.pool.items }
         requires input { k < 128 }
-        ensures { IfOk result (λ e. (i : ℤ) → entry e i ≡ array_at (candidate self.now.pool.items j) k i) }
+        ensures { IfOk result (λ e. (i : ℤ) → entry_number e i ≡ candidate_array (candidate self.now.pool.items j) k i) }
     {
         let mut entries = Entries::new(alloc);
         for i in 0..self.filled(j) {

@@ -40,7 +40,8 @@ pub fn first_difference(
     ensures number { IfOk result (λ o. IfSome o (λ f. f.j < stated_count a.now b.now)) }
     ensures inputs { IfOk result (λ o. IfSome o (λ f. inputs_of f.inputs ≡ stated_inputs a.now b.now f.j)) }
     ensures signatures { IfOk result (λ o. IfSome o (λ f. signatures_of f.inputs ≡ input_signatures a.now.variables)) }
-    ensures contents { IfOk result (λ o. IfSome o (λ f. map content_of (input_values f.inputs) ≡ stated_contents a.now b.now f.j)) }
+    ensures contents { IfOk result
+        (λ o. IfSome o (λ f. map content_of (input_values f.inputs) ≡ stated_contents a.now b.now f.j)) }
     ensures ends { IfOk result (λ o. IfSome o (λ f. AreApart a.now b.now (inputs_of f.inputs) steps f.left f.right)) }
     ensures shows { IfOk result (λ o. IfSome o (λ f. DiffersAt a.now b.now steps f.j)) }
     ensures first { IfOk result (λ o. IfSome o (λ f. (i : ℕ) → i < f.j → ¬ DiffersAt a.now b.now steps i)) }
@@ -99,7 +100,8 @@ fn end_of(
 ) -> Result<Option<Ended>, NoMemory>
     requires steps { 1 ≤ steps }
     requires inputs { Serves (signatures_of inputs.now) m.now }
-    ensures { IfOk result (λ o. MatchOption o (HasNoEnd m.now (inputs_of inputs.now) steps) (IsEnd m.now (inputs_of inputs.now) steps)) }
+    ensures { IfOk result
+        (λ o. MatchOption o (HasNoEnd m.now (inputs_of inputs.now) steps) (IsEnd m.now (inputs_of inputs.now) steps)) }
 {
     match run(alloc, m, inputs, steps) {
         Ok(ended) => Ok(Some(ended)),

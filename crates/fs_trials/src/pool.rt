@@ -5,8 +5,8 @@ ghost use Rattle.std.specs.List.{fold, flat_map, filter, IsDistinct};
 ghost use Rattle.std.specs.Option.{option_to_list};
 ghost use Rattle.std.specs.Ordering.{int_eq};
 ghost use Rattle.std.specs.Result.{OnOk};
-ghost use Rattle.fs_trials.specs.Pool.{most_values, fits, first_values, neighbours, pool_of};
-ghost use Rattle.fs_trials.specs.Pool.{most_further_values, fixed_values, further_values, is_in, grown};
+ghost use Rattle.fs_trials.specs.Pool.{most_values, is_pool_number, first_values, neighbours, pool_of};
+ghost use Rattle.fs_trials.specs.Pool.{most_further_values, fixed_values, further_values, is_in_pool, with_pool_number};
 
 use fs_ast::machine::Machine;
 use fs_runs::memory::NoMemory;
@@ -58,14 +58,14 @@ fn is_full(list: &[i128], room: usize) -> bool
 }
 
 fn is_in(value: &i128, list: &[i128]) -> bool
-    ensures { result ≡ is_in value.now list.now }
+    ensures { result ≡ is_in_pool value.now list.now }
 {
     list.iter().any(|own| *own == *value)
 }
 
 // Adds a number that is not there, where there is room for one more.
 fn add(list: &mut Vec<i128>, value: &i128, room: usize) -> Result<(), NoMemory>
-    ensures { OnOk result (list.new.items ≡ grown room list.old.items value.now) }
+    ensures { OnOk result (list.new.items ≡ with_pool_number room list.old.items value.now) }
 {
     if is_full(list.as_slice(), room) || is_in(value, list.as_slice()) {
         return Ok(());
@@ -75,7 +75,7 @@ fn add(list: &mut Vec<i128>, value: &i128, room: usize) -> Result<(), NoMemory>
 }
 
 fn add_all(list: &mut Vec<i128>, values: &[i128], room: usize) -> Result<(), NoMemory>
-    ensures { OnOk result (list.new.items ≡ fold (grown room) list.old.items values.now) }
+    ensures { OnOk result (list.new.items ≡ fold (with_pool_number room) list.old.items values.now) }
 {
     for value in values {
         add(list, value, room)?;
@@ -85,7 +85,7 @@ fn add_all(list: &mut Vec<i128>, values: &[i128], room: usize) -> Result<(), NoM
 
 // Adds a number, if there is one.
 fn add_any(list: &mut Vec<i128>, value: Option<i128>, room: usize) -> Result<(), NoMemory>
-    ensures { OnOk result (list.new.items ≡ fold (grown room) list.old.items (option_to_list value)) }
+    ensures { OnOk result (list.new.items ≡ fold (with_pool_number room) list.old.items (option_to_list value)) }
 {
     match value {
         Some(value) => add(list, &value, room),
@@ -95,22 +95,22 @@ fn add_any(list: &mut Vec<i128>, value: Option<i128>, room: usize) -> Result<(),
 
 // The number before another, if it has 128 bits.
 fn before(c: &i128) -> Option<i128>
-    ensures number { option_to_list result ≡ filter fits ((c.now -ℤ pos 1) ∷ []) }
-    ensures own { fits c.now ≡ true }
+    ensures number { option_to_list result ≡ filter is_pool_number ((c.now -ℤ pos 1) ∷ []) }
+    ensures own { is_pool_number c.now ≡ true }
 {
     c.checked_sub(1)
 }
 
 // The number after another, if it has 128 bits.
 fn after(c: &i128) -> Option<i128>
-    ensures { option_to_list result ≡ filter fits ((c.now +ℤ pos 1) ∷ []) }
+    ensures { option_to_list result ≡ filter is_pool_number ((c.now +ℤ pos 1) ∷ []) }
 {
     c.checked_add(1)
 }
 
 // Adds a number with the numbers before and after it.
 fn add_around(list: &mut Vec<i128>, c: &i128, room: usize) -> Result<(), NoMemory>
-    ensures { OnOk result (list.new.items ≡ fold (grown room) list.old.items (neighbours c.now)) }
+    ensures { OnOk result (list.new.items ≡ fold (with_pool_number room) list.old.items (neighbours c.now)) }
 {
     add_any(list, before(c), room)?;
     add(list, c, room)?;
@@ -119,7 +119,7 @@ fn add_around(list: &mut Vec<i128>, c: &i128, room: usize) -> Result<(), NoMemor
 
 // Adds what constants give, up to the first at which there is no room.
 fn add_neighbours(list: &mut Vec<i128>, constants: &[i128], room: usize) -> Result<(), NoMemory>
-    ensures { OnOk result (list.new.items ≡ fold (grown room) list.old.items (flat_map neighbours constants.now)) }
+    ensures { OnOk result (list.new.items ≡ fold (with_pool_number room) list.old.items (flat_map neighbours constants.now)) }
 {
     for c in constants {
         if is_full(list.as_slice(), room) {

@@ -9,8 +9,9 @@ use Rattle.fs_grammar.specs.Grammar.{at_start, reading}
 use Rattle.fs_grammar.specs.declared.format.Format.TheVariants.{One, Two}
 use Rattle.fs_lex.specs.Scan.{tokens_of}
 use Rattle.fs_write.specs.Canonical.{line_text, state_text, declaration_text, head_text, canonical}
-use Rattle.fs_write.specs.Formats.{declares_ports, emits_in_transition, emits_in_state, has_ports, format_for}
-use Rattle.fs_write.specs.CanonicalLines.{declarations_from, lines_from, states_from, with_canonical_lines, declaration_at_line_0, transition_at_line_0, state_at_line_0, without_lines}
+use Rattle.fs_write.specs.NeededFormats.{declares_ports, emits_in_transition, emits_in_state, has_ports, format_for}
+use Rattle.fs_write.specs.CanonicalLines.{declarations_from, lines_from, states_from, with_canonical_lines, declaration_at_line_0, transition_at_line_0}
+use Rattle.fs_write.specs.CanonicalLines.{state_at_line_0, without_lines}
 use Rattle.fs_write.specs.Spellable.{is_spellable_transition, is_spellable_state, is_spellable_declaration, is_spellable}
 use Rattle.fs_write.proofs.WholeTexts.{reads_back}
 
@@ -20,7 +21,8 @@ same_lines n (l ∷ ls) = ap (λ (rest : List ℕ). line_text l ++ rest) (same_l
 
 same_states : (n : ℕ) (ss : List SourceState) → flat_map state_text (states_from n ss) ≡ flat_map state_text ss
 same_states n [] = refl
-same_states n (s ∷ ss) = ap₂ (λ (lines rest : List ℕ). (codes "state " ++ (s.name ++ (codes ":\n" ++ lines))) ++ rest) (same_lines (n + 1) s.lines) (same_states (n + 1 + length s.lines) ss)
+same_states n (s ∷ ss) = ap₂ (λ (lines rest : List ℕ). (codes "state " ++ (s.name ++ (codes ":\n" ++ lines))) ++ rest) (same_lines (n + 1) s.lines)
+    (same_states (n + 1 + length s.lines) ss)
 
 same_declarations : (n : ℕ) (ds : List Declaration) → flat_map declaration_text (declarations_from n ds) ≡ flat_map declaration_text ds
 same_declarations n [] = refl
@@ -43,7 +45,10 @@ same_ports s = ap₂ (λ a b. a || b) (ports_declared 2 s.declarations) (states_
 
 pub same_text : (s : Source) → canonical (with_canonical_lines s) ≡ canonical s
 same_text s =
-    ap (λ b. head_text (cond b Two One) ++ (flat_map declaration_text (declarations_from 2 s.declarations) ++ (codes "reset " ++ (s.reset ++ (codes ";\n" ++ flat_map state_text (states_from (2 + length s.declarations + 1) s.states)))))) (same_ports s)
+    ap
+    (λ b. head_text (cond b Two One)
+    ++ (flat_map declaration_text (declarations_from 2 s.declarations)
+    ++ (codes "reset " ++ (s.reset ++ (codes ";\n" ++ flat_map state_text (states_from (2 + length s.declarations + 1) s.states)))))) (same_ports s)
     ∙ ap₂ (λ (ds ss : List ℕ). head_text (format_for s) ++ (ds ++ (codes "reset " ++ (s.reset ++ (codes ";\n" ++ ss)))))
     (same_declarations 2 s.declarations) (same_states (2 + length s.declarations + 1) s.states)
 
@@ -83,7 +88,8 @@ lines_kept n (l ∷ ls) = ap (λ (rest : List SourceTransition). transition_at_l
 
 states_kept : (n : ℕ) (ss : List SourceState) → map state_at_line_0 (states_from n ss) ≡ map state_at_line_0 ss
 states_kept n [] = refl
-states_kept n (s ∷ ss) = ap₂ (λ (ls : List SourceTransition) (rest : List SourceState). record { line = 0; name = s.name; lines = ls } ∷ rest) (lines_kept (n + 1) s.lines) (states_kept (n + 1 + length s.lines) ss)
+states_kept n (s ∷ ss) = ap₂ (λ (ls : List SourceTransition) (rest : List SourceState). record { line = 0; name = s.name; lines = ls } ∷ rest)
+    (lines_kept (n + 1) s.lines) (states_kept (n + 1 + length s.lines) ss)
 
 declarations_kept : (n : ℕ) (ds : List Declaration) → map declaration_at_line_0 (declarations_from n ds) ≡ map declaration_at_line_0 ds
 declarations_kept n [] = refl
@@ -94,7 +100,8 @@ only_lines s =
     ap₂ (λ (ds : List Declaration) (ss : List SourceState). record { declarations = ds; reset_line = 0; reset = s.reset; states = ss })
     (declarations_kept 2 s.declarations) (states_kept (2 + length s.declarations + 1) s.states)
 
-pub one_meaning : (s t : Source) → is_well_formed s ≡ true → is_spellable s ≡ true → is_well_formed t ≡ true → is_spellable t ≡ true → canonical s ≡ canonical t → without_lines s ≡ without_lines t
+pub one_meaning : (s t : Source) → is_well_formed s ≡ true → is_spellable s ≡ true → is_well_formed t ≡ true → is_spellable t ≡ true → canonical s ≡ canonical t
+    → without_lines s ≡ without_lines t
 one_meaning s t a b c d e =
     let left : Result Source TextFault = Ok (with_canonical_lines s) in
     let right : Result Source TextFault = Ok (with_canonical_lines t) in

@@ -1,9 +1,15 @@
 -- A text without a bracket that it needs is the text of another term, or of another guard.
-use Rattle.std.proofs.Common.{◌≡◌, ℕ, ◌<◌, Bool, true, false, ◌||◌, cond, List, [], ◌++◌, length, codes, refl, sym, ap, subst, ◌∙◌, append-nil, append_assoc, length-append, arith}
+use Rattle.std.proofs.Common.{◌≡◌, ℕ, ◌<◌, Bool, true, false, ◌||◌, cond, List, [], ◌++◌, length, codes, refl, sym, ap, subst, ◌∙◌, append-nil, append_assoc}
+use Rattle.std.proofs.Common.{length-append, arith}
+use Rattle.std.proofs.lemmas.Bool.{or_right as or_right_true}
 use Rattle.fs_model.specs.Terms.{Term, Read, Sum, Difference, Product, Quotient, Remainder, Negative, Guard, Test, Not, And, Or}
 use Rattle.fs_model.specs.WellFormed.{is_sum, is_product, is_and, is_or}
-use Rattle.fs_write.specs.Canonical.{in_parens, in_braces, term_text, relation_text, guard_text}
-use Rattle.fs_write.specs.Bare.{BareTerm, sum_right, difference_right, product_left, product_right, quotient_left, quotient_right, remainder_left, remainder_right, under_minus, in_index, in_sum_left, in_sum_right, in_difference_left, in_difference_right, in_product_left, in_product_right, in_quotient_left, in_quotient_right, in_remainder_left, in_remainder_right, in_negative, BareGuard, under_not, and_left, and_right, or_right, in_test_left, in_test_right, in_not, in_and_left, in_and_right, in_or_left, in_or_right, IsTextOfAnother, IsTextOfAnotherGuard}
+use Rattle.fs_write.specs.Canonical.{in_parens, in_braces, infix_term_text, relation_text, guard_text}
+use Rattle.fs_write.specs.Bare.{BareTerm, sum_right, difference_right, product_left, product_right, quotient_left, quotient_right, remainder_left}
+use Rattle.fs_write.specs.Bare.{remainder_right, under_minus, in_index, in_sum_left, in_sum_right, in_difference_left, in_difference_right, in_product_left}
+use Rattle.fs_write.specs.Bare.{in_product_right, in_quotient_left, in_quotient_right, in_remainder_left, in_remainder_right, in_negative, BareGuard, under_not}
+use Rattle.fs_write.specs.Bare.{and_left, and_right, or_right, in_test_left, in_test_right, in_not, in_and_left, in_and_right, in_or_left, in_or_right}
+use Rattle.fs_write.specs.Bare.{IsTextOfAnother, IsTextOfAnotherGuard}
 
 -- ---- terms
 
@@ -13,9 +19,13 @@ added make (Sum c d) = Sum (added make c) d
 added make (Difference c d) = Difference (added make c) d
 added make t = make t
 
-added_text : (make : Term (List ℕ) → Term (List ℕ)) (before : List ℕ) → ((t : Term (List ℕ)) → is_sum t ≡ false → term_text (make t) ≡ before ++ term_text t) → (t : Term (List ℕ)) → term_text (added make t) ≡ before ++ term_text t
-added_text make before h (Sum c d) = ap (λ (w : List ℕ). w ++ (codes " + " ++ in_parens (is_sum d) (term_text d))) (added_text make before h c) ∙ append_assoc before (term_text c) _
-added_text make before h (Difference c d) = ap (λ (w : List ℕ). w ++ (codes " - " ++ in_parens (is_sum d) (term_text d))) (added_text make before h c) ∙ append_assoc before (term_text c) _
+added_text : (make : Term (List ℕ) → Term (List ℕ)) (before : List ℕ)
+    → ((t : Term (List ℕ)) → is_sum t ≡ false → infix_term_text (make t) ≡ before ++ infix_term_text t) → (t : Term (List ℕ))
+    → infix_term_text (added make t) ≡ before ++ infix_term_text t
+added_text make before h (Sum c d) = ap (λ (w : List ℕ). w ++ (codes " + " ++ in_parens (is_sum d) (infix_term_text d))) (added_text make before h c)
+    ∙ append_assoc before (infix_term_text c) _
+added_text make before h (Difference c d) = ap (λ (w : List ℕ). w ++ (codes " - " ++ in_parens (is_sum d) (infix_term_text d))) (added_text make before h c)
+    ∙ append_assoc before (infix_term_text c) _
 added_text make before h t = h t refl
 
 -- the term whose text is that of `a * t` without parentheses round t, where make t is `a * t`
@@ -27,7 +37,8 @@ hung make (Quotient c d) = Quotient (cond (is_sum c) (make c) (hung make c)) d
 hung make (Remainder c d) = Remainder (cond (is_sum c) (make c) (hung make c)) d
 hung make t = make t
 
-hung_no_sum : (make : Term (List ℕ) → Term (List ℕ)) → ((t : Term (List ℕ)) → is_sum (make t) ≡ false) → (t : Term (List ℕ)) → is_sum t ≡ false → is_sum (hung make t) ≡ false
+hung_no_sum : (make : Term (List ℕ) → Term (List ℕ)) → ((t : Term (List ℕ)) → is_sum (make t) ≡ false) → (t : Term (List ℕ)) → is_sum t ≡ false
+    → is_sum (hung make t) ≡ false
 hung_no_sum make n (Sum c d) h = absurd cc
 hung_no_sum make n (Difference c d) h = absurd cc
 hung_no_sum make n (Product c d) h = refl
@@ -36,33 +47,49 @@ hung_no_sum make n (Remainder c d) h = refl
 hung_no_sum make n t h = n t
 
 -- the left operand of a product keeps its parentheses
-kept : (before : List ℕ) (c x y : Term (List ℕ)) (b : Bool) → is_sum c ≡ b → is_sum x ≡ false → (is_sum c ≡ false → is_sum y ≡ false) → term_text x ≡ before ++ in_parens (is_sum c || is_product c) (term_text c) → term_text y ≡ before ++ term_text c
-    → in_parens (is_sum (cond b x y)) (term_text (cond b x y)) ≡ before ++ in_parens b (term_text c)
-kept before c x y true e n m p q = rw n (append-nil (term_text x) ∙ p ∙ rw e refl)
-kept before c x y false e n m p q = rw (m e) (append-nil (term_text y) ∙ q ∙ rw (append-nil (term_text c)) refl)
+kept : (before : List ℕ) (c x y : Term (List ℕ)) (b : Bool) → is_sum c ≡ b → is_sum x ≡ false → (is_sum c ≡ false → is_sum y ≡ false)
+    → infix_term_text x ≡ before ++ in_parens (is_sum c || is_product c) (infix_term_text c) → infix_term_text y ≡ before ++ infix_term_text c
+    → in_parens (is_sum (cond b x y)) (infix_term_text (cond b x y)) ≡ before ++ in_parens b (infix_term_text c)
+kept before c x y true e n m p q = rw n (append-nil (infix_term_text x) ∙ p ∙ rw e refl)
+kept before c x y false e n m p q = rw (m e) (append-nil (infix_term_text y) ∙ q ∙ rw (append-nil (infix_term_text c)) refl)
 
-hung_text : (make : Term (List ℕ) → Term (List ℕ)) (before : List ℕ) → ((t : Term (List ℕ)) → is_sum (make t) ≡ false) → ((t : Term (List ℕ)) → term_text (make t) ≡ before ++ in_parens (is_sum t || is_product t) (term_text t)) → (t : Term (List ℕ))
-    → term_text (hung make t) ≡ before ++ term_text t
-hung_text make before n h (Sum c d) = ap (λ (w : List ℕ). w ++ (codes " + " ++ in_parens (is_sum d) (term_text d))) (hung_text make before n h c) ∙ append_assoc before (term_text c) _
-hung_text make before n h (Difference c d) = ap (λ (w : List ℕ). w ++ (codes " - " ++ in_parens (is_sum d) (term_text d))) (hung_text make before n h c) ∙ append_assoc before (term_text c) _
+hung_text : (make : Term (List ℕ) → Term (List ℕ)) (before : List ℕ) → ((t : Term (List ℕ)) → is_sum (make t) ≡ false)
+    → ((t : Term (List ℕ)) → infix_term_text (make t) ≡ before ++ in_parens (is_sum t || is_product t) (infix_term_text t)) → (t : Term (List ℕ))
+    → infix_term_text (hung make t) ≡ before ++ infix_term_text t
+hung_text make before n h (Sum c d) = ap (λ (w : List ℕ). w ++ (codes " + " ++ in_parens (is_sum d) (infix_term_text d))) (hung_text make before n h c)
+    ∙ append_assoc before (infix_term_text c) _
+hung_text make before n h (Difference c d) = ap (λ (w : List ℕ). w ++ (codes " - " ++ in_parens (is_sum d) (infix_term_text d))) (hung_text make before n h c)
+    ∙ append_assoc before (infix_term_text c) _
 hung_text make before n h (Product c d) =
-    ap (λ (w : List ℕ). w ++ (codes " * " ++ in_parens (is_sum d || is_product d) (term_text d))) (kept before c (make c) (hung make c) (is_sum c) refl (n c) (hung_no_sum make n c) (h c) (hung_text make before n h c))
-    ∙ append_assoc before (in_parens (is_sum c) (term_text c)) _
+    ap (λ (w : List ℕ). w ++ (codes " * " ++ in_parens (is_sum d || is_product d) (infix_term_text d)))
+    (kept before c (make c) (hung make c) (is_sum c) refl (n c) (hung_no_sum make n c) (h c) (hung_text make before n h c))
+    ∙ append_assoc before (in_parens (is_sum c) (infix_term_text c)) _
 hung_text make before n h (Quotient c d) =
-    ap (λ (w : List ℕ). w ++ (codes " / " ++ in_parens (is_sum d || is_product d) (term_text d))) (kept before c (make c) (hung make c) (is_sum c) refl (n c) (hung_no_sum make n c) (h c) (hung_text make before n h c))
-    ∙ append_assoc before (in_parens (is_sum c) (term_text c)) _
+    ap (λ (w : List ℕ). w ++ (codes " / " ++ in_parens (is_sum d || is_product d) (infix_term_text d)))
+    (kept before c (make c) (hung make c) (is_sum c) refl (n c) (hung_no_sum make n c) (h c) (hung_text make before n h c))
+    ∙ append_assoc before (in_parens (is_sum c) (infix_term_text c)) _
 hung_text make before n h (Remainder c d) =
-    ap (λ (w : List ℕ). w ++ (codes " % " ++ in_parens (is_sum d || is_product d) (term_text d))) (kept before c (make c) (hung make c) (is_sum c) refl (n c) (hung_no_sum make n c) (h c) (hung_text make before n h c))
-    ∙ append_assoc before (in_parens (is_sum c) (term_text c)) _
-hung_text make before n h t = h t ∙ ap (λ (w : List ℕ). before ++ w) (append-nil (term_text t))
+    ap (λ (w : List ℕ). w ++ (codes " % " ++ in_parens (is_sum d || is_product d) (infix_term_text d)))
+    (kept before c (make c) (hung make c) (is_sum c) refl (n c) (hung_no_sum make n c) (h c) (hung_text make before n h c))
+    ∙ append_assoc before (in_parens (is_sum c) (infix_term_text c)) _
+hung_text make before n h t = h t ∙ ap (λ (w : List ℕ). before ++ w) (append-nil (infix_term_text t))
 
 -- the text of `a * b` without parentheses round the sum a, where make d is `d * b`
-split_left : (make : Term (List ℕ) → Term (List ℕ)) (after : List ℕ) → ((d : Term (List ℕ)) → is_sum (make d) ≡ false) → ((d : Term (List ℕ)) → term_text (make d) ≡ in_parens (is_sum d) (term_text d) ++ after) → (a : Term (List ℕ)) → is_sum a ≡ true
-    → (u : Term (List ℕ)) × (term_text u ≡ term_text a ++ after) × ((is_sum u || is_product u) ≡ true)
-split_left make after n h (Sum c d) e =
-    (Sum c (make d), rw n (ap (λ (w : List ℕ). term_text c ++ (codes " + " ++ w)) (append-nil (term_text (make d)) ∙ h d) ∙ sym (append_assoc (term_text c) (codes " + " ++ in_parens (is_sum d) (term_text d)) after)), refl)
-split_left make after n h (Difference c d) e =
-    (Difference c (make d), rw n (ap (λ (w : List ℕ). term_text c ++ (codes " - " ++ w)) (append-nil (term_text (make d)) ∙ h d) ∙ sym (append_assoc (term_text c) (codes " - " ++ in_parens (is_sum d) (term_text d)) after)), refl)
+split_left : (make : Term (List ℕ) → Term (List ℕ)) (after : List ℕ) → ((d : Term (List ℕ)) → is_sum (make d) ≡ false)
+    → ((d : Term (List ℕ)) → infix_term_text (make d) ≡ in_parens (is_sum d) (infix_term_text d) ++ after) → (a : Term (List ℕ)) → is_sum a ≡ true
+    → (u : Term (List ℕ)) × (infix_term_text u ≡ infix_term_text a ++ after) × ((is_sum u || is_product u) ≡ true)
+split_left make after n h (Sum c d) e = (
+  Sum c (make d),
+  rw n (ap (λ (w : List ℕ). infix_term_text c ++ (codes " + " ++ w)) (append-nil (infix_term_text (make d)) ∙ h d)
+      ∙ sym (append_assoc (infix_term_text c) (codes " + " ++ in_parens (is_sum d) (infix_term_text d)) after)),
+  refl,
+)
+split_left make after n h (Difference c d) e = (
+  Difference c (make d),
+  rw n (ap (λ (w : List ℕ). infix_term_text c ++ (codes " - " ++ w)) (append-nil (infix_term_text (make d)) ∙ h d)
+      ∙ sym (append_assoc (infix_term_text c) (codes " - " ++ in_parens (is_sum d) (infix_term_text d)) after)),
+  refl,
+)
 split_left make after n h _ e = absurd cc
 
 -- ---- another term with a shorter text
@@ -73,8 +100,8 @@ is_compound t = is_sum t || is_product t
 -- a term with the text w, which is shorter than that of t; a sum where t is one, and a sum or a product where t is one of these
 record Other (t : Term (List ℕ)) (w : List ℕ) : Type 0 where
   term : Term (List ℕ)
-  same : term_text term ≡ w
-  shorter : length w < length (term_text t)
+  same : infix_term_text term ≡ w
+  shorter : length w < length (infix_term_text t)
   sum : is_sum t ≡ true → is_sum term ≡ true
   compound : is_compound t ≡ true → is_compound term ≡ true
 
@@ -103,18 +130,24 @@ front_shorter v w rest h = simp length-append (omega arith)
 index_shorter : (x v w : List ℕ) → length v < length w → length (x ++ (codes "[" ++ (v ++ codes "]"))) < length (x ++ (codes "[" ++ (w ++ codes "]")))
 index_shorter x v w h = simp length-append (omega arith)
 
-added_is : (make : Term (List ℕ) → Term (List ℕ)) (a op : List ℕ) → ((t : Term (List ℕ)) → term_text (make t) ≡ a ++ (op ++ in_parens (is_sum t) (term_text t))) → (t : Term (List ℕ)) → term_text (added make t) ≡ a ++ (op ++ term_text t)
-added_is make a op h t = added_text make (a ++ op) (λ v e. h v ∙ rw (e, append-nil (term_text v)) (sym (append_assoc a op (term_text v)))) t ∙ append_assoc a op (term_text t)
+added_is : (make : Term (List ℕ) → Term (List ℕ)) (a op : List ℕ)
+    → ((t : Term (List ℕ)) → infix_term_text (make t) ≡ a ++ (op ++ in_parens (is_sum t) (infix_term_text t))) → (t : Term (List ℕ))
+    → infix_term_text (added make t) ≡ a ++ (op ++ infix_term_text t)
+added_is make a op h t = added_text make (a ++ op) (λ v e. h v ∙ rw (e, append-nil (infix_term_text v)) (sym (append_assoc a op (infix_term_text v)))) t
+    ∙ append_assoc a op (infix_term_text t)
 
 added_sum : (make : Term (List ℕ) → Term (List ℕ)) → ((t : Term (List ℕ)) → is_sum (make t) ≡ true) → (t : Term (List ℕ)) → is_sum (added make t) ≡ true
 added_sum make n (Sum c d) = refl
 added_sum make n (Difference c d) = refl
 added_sum make n t = n t
 
-hung_is : (make : Term (List ℕ) → Term (List ℕ)) (a op : List ℕ) → ((t : Term (List ℕ)) → is_sum (make t) ≡ false) → ((t : Term (List ℕ)) → term_text (make t) ≡ a ++ (op ++ in_parens (is_compound t) (term_text t))) → (t : Term (List ℕ)) → term_text (hung make t) ≡ a ++ (op ++ term_text t)
-hung_is make a op n h t = hung_text make (a ++ op) n (λ v. h v ∙ sym (append_assoc a op _)) t ∙ append_assoc a op (term_text t)
+hung_is : (make : Term (List ℕ) → Term (List ℕ)) (a op : List ℕ) → ((t : Term (List ℕ)) → is_sum (make t) ≡ false)
+    → ((t : Term (List ℕ)) → infix_term_text (make t) ≡ a ++ (op ++ in_parens (is_compound t) (infix_term_text t))) → (t : Term (List ℕ))
+    → infix_term_text (hung make t) ≡ a ++ (op ++ infix_term_text t)
+hung_is make a op n h t = hung_text make (a ++ op) n (λ v. h v ∙ sym (append_assoc a op _)) t ∙ append_assoc a op (infix_term_text t)
 
-hung_compound : (make : Term (List ℕ) → Term (List ℕ)) → ((t : Term (List ℕ)) → is_compound (make t) ≡ true) → (t : Term (List ℕ)) → is_compound (hung make t) ≡ true
+hung_compound : (make : Term (List ℕ) → Term (List ℕ)) → ((t : Term (List ℕ)) → is_compound (make t) ≡ true) → (t : Term (List ℕ))
+    → is_compound (hung make t) ≡ true
 hung_compound make n (Sum c d) = refl
 hung_compound make n (Difference c d) = refl
 hung_compound make n (Product c d) = refl
@@ -125,26 +158,34 @@ hung_compound make n t = n t
 -- ---- an operand changes
 
 -- on the right of a sum
-in_added : (make : Term (List ℕ) → Term (List ℕ)) (a op : List ℕ) → ((t : Term (List ℕ)) → term_text (make t) ≡ a ++ (op ++ in_parens (is_sum t) (term_text t))) → ((t : Term (List ℕ)) → is_sum (make t) ≡ true) → (b : Term (List ℕ)) (w : List ℕ) → Other b w → (k : Bool) → is_sum b ≡ k
-    → (u : Term (List ℕ)) × (term_text u ≡ a ++ (op ++ in_parens k w)) × (is_sum u ≡ true)
+in_added : (make : Term (List ℕ) → Term (List ℕ)) (a op : List ℕ)
+    → ((t : Term (List ℕ)) → infix_term_text (make t) ≡ a ++ (op ++ in_parens (is_sum t) (infix_term_text t))) → ((t : Term (List ℕ)) → is_sum (make t) ≡ true)
+    → (b : Term (List ℕ)) (w : List ℕ) → Other b w → (k : Bool) → is_sum b ≡ k
+    → (u : Term (List ℕ)) × (infix_term_text u ≡ a ++ (op ++ in_parens k w)) × (is_sum u ≡ true)
 in_added make a op h n b w o true e = (make o.term, h o.term ∙ rw (o.sum e, o.same) refl, n o.term)
 in_added make a op h n b w o false e = (added make o.term, added_is make a op h o.term ∙ rw (o.same, append-nil w) refl, added_sum make n o.term)
 
 -- on the right of a product, or under a minus
-in_hung : (make : Term (List ℕ) → Term (List ℕ)) (a op : List ℕ) → ((t : Term (List ℕ)) → is_sum (make t) ≡ false) → ((t : Term (List ℕ)) → term_text (make t) ≡ a ++ (op ++ in_parens (is_compound t) (term_text t))) → (b : Term (List ℕ)) (w : List ℕ) → Other b w → (k : Bool) → is_compound b ≡ k
-    → (u : Term (List ℕ)) × (term_text u ≡ a ++ (op ++ in_parens k w)) × (((t : Term (List ℕ)) → is_compound (make t) ≡ true) → is_compound u ≡ true)
+in_hung : (make : Term (List ℕ) → Term (List ℕ)) (a op : List ℕ) → ((t : Term (List ℕ)) → is_sum (make t) ≡ false)
+    → ((t : Term (List ℕ)) → infix_term_text (make t) ≡ a ++ (op ++ in_parens (is_compound t) (infix_term_text t))) → (b : Term (List ℕ)) (w : List ℕ)
+    → Other b w → (k : Bool) → is_compound b ≡ k
+    → (u : Term (List ℕ)) × (infix_term_text u ≡ a ++ (op ++ in_parens k w)) × (((t : Term (List ℕ)) → is_compound (make t) ≡ true) → is_compound u ≡ true)
 in_hung make a op n h b w o true e = (make o.term, h o.term ∙ rw (o.compound e, o.same) refl, λ c. c o.term)
 in_hung make a op n h b w o false e = (hung make o.term, hung_is make a op n h o.term ∙ rw (o.same, append-nil w) refl, λ c. hung_compound make c o.term)
 
 -- on the left of a product, where it has no parentheses
-in_bare_left : (make : Term (List ℕ) → Term (List ℕ)) (after : List ℕ) → ((d : Term (List ℕ)) → is_sum (make d) ≡ false) → ((d : Term (List ℕ)) → is_compound (make d) ≡ true) → ((d : Term (List ℕ)) → term_text (make d) ≡ in_parens (is_sum d) (term_text d) ++ after) → (v : Term (List ℕ)) (k : Bool) → is_sum v ≡ k
-    → (u : Term (List ℕ)) × (term_text u ≡ term_text v ++ after) × (is_compound u ≡ true)
+in_bare_left : (make : Term (List ℕ) → Term (List ℕ)) (after : List ℕ) → ((d : Term (List ℕ)) → is_sum (make d) ≡ false)
+    → ((d : Term (List ℕ)) → is_compound (make d) ≡ true) → ((d : Term (List ℕ)) → infix_term_text (make d) ≡ in_parens (is_sum d) (infix_term_text d) ++ after)
+    → (v : Term (List ℕ)) (k : Bool) → is_sum v ≡ k
+    → (u : Term (List ℕ)) × (infix_term_text u ≡ infix_term_text v ++ after) × (is_compound u ≡ true)
 in_bare_left make after n c h v true e = let s = split_left make after n h v e in (s.0, s.1, s.2)
-in_bare_left make after n c h v false e = (make v, h v ∙ rw (e, append-nil (term_text v)) refl, c v)
+in_bare_left make after n c h v false e = (make v, h v ∙ rw (e, append-nil (infix_term_text v)) refl, c v)
 
 -- on the left of a product
-in_left : (make : Term (List ℕ) → Term (List ℕ)) (after : List ℕ) → ((d : Term (List ℕ)) → is_sum (make d) ≡ false) → ((d : Term (List ℕ)) → is_compound (make d) ≡ true) → ((d : Term (List ℕ)) → term_text (make d) ≡ in_parens (is_sum d) (term_text d) ++ after) → (a : Term (List ℕ)) (w : List ℕ) → Other a w → (k : Bool) → is_sum a ≡ k
-    → (u : Term (List ℕ)) × (term_text u ≡ in_parens k w ++ after) × (is_compound u ≡ true)
+in_left : (make : Term (List ℕ) → Term (List ℕ)) (after : List ℕ) → ((d : Term (List ℕ)) → is_sum (make d) ≡ false)
+    → ((d : Term (List ℕ)) → is_compound (make d) ≡ true) → ((d : Term (List ℕ)) → infix_term_text (make d) ≡ in_parens (is_sum d) (infix_term_text d) ++ after)
+    → (a : Term (List ℕ)) (w : List ℕ) → Other a w → (k : Bool) → is_sum a ≡ k
+    → (u : Term (List ℕ)) × (infix_term_text u ≡ in_parens k w ++ after) × (is_compound u ≡ true)
 in_left make after n c h a w o true e = (make o.term, h o.term ∙ rw (o.sum e, o.same) refl, c o.term)
 in_left make after n c h a w o false e = let s = in_bare_left make after n c h o.term (is_sum o.term) refl in (s.0, s.1 ∙ rw (o.same, append-nil w) refl, s.2)
 
@@ -152,7 +193,7 @@ in_left make after n c h a w o false e = let s = in_bare_left make after n c h o
 
 -- a sum of two operands by this operator
 record Adds (make : Term (List ℕ) → Term (List ℕ) → Term (List ℕ)) (op : List ℕ) : Type 0 where
-  text : (a b : Term (List ℕ)) → term_text (make a b) ≡ term_text a ++ (op ++ in_parens (is_sum b) (term_text b))
+  text : (a b : Term (List ℕ)) → infix_term_text (make a b) ≡ infix_term_text a ++ (op ++ in_parens (is_sum b) (infix_term_text b))
   is : (a b : Term (List ℕ)) → is_sum (make a b) ≡ true
 
 sum_adds : Adds Sum (codes " + ")
@@ -161,38 +202,44 @@ sum_adds = record { text = λ a b. refl; is = λ a b. refl }
 difference_adds : Adds Difference (codes " - ")
 difference_adds = record { text = λ a b. refl; is = λ a b. refl }
 
-adds_right : (make : Term (List ℕ) → Term (List ℕ) → Term (List ℕ)) (op : List ℕ) → Adds make op → (a b : Term (List ℕ)) → is_sum b ≡ true → Other (make a b) (term_text a ++ (op ++ term_text b))
+adds_right : (make : Term (List ℕ) → Term (List ℕ) → Term (List ℕ)) (op : List ℕ) → Adds make op → (a b : Term (List ℕ)) → is_sum b ≡ true
+    → Other (make a b) (infix_term_text a ++ (op ++ infix_term_text b))
 adds_right make op f a b e = record {
   term = added (make a) b;
-  same = added_is (make a) (term_text a) op (f.text a) b;
-  shorter = subst (λ v. length (term_text a ++ (op ++ term_text b)) < length v) (sym (f.text a b)) (right_longer (term_text a) op (term_text b) (is_sum b) e);
+  same = added_is (make a) (infix_term_text a) op (f.text a) b;
+  shorter = subst (λ v. length (infix_term_text a ++ (op ++ infix_term_text b)) < length v) (sym (f.text a b))
+      (right_longer (infix_term_text a) op (infix_term_text b) (is_sum b) e);
   sum = λ h. added_sum (make a) (f.is a) b;
   compound = λ h. sum_compound _ (added_sum (make a) (f.is a) b);
 }
 
-in_adds_left : (make : Term (List ℕ) → Term (List ℕ) → Term (List ℕ)) (op : List ℕ) → Adds make op → (a b : Term (List ℕ)) (w : List ℕ) → Other a w → Other (make a b) (w ++ (op ++ in_parens (is_sum b) (term_text b)))
+in_adds_left : (make : Term (List ℕ) → Term (List ℕ) → Term (List ℕ)) (op : List ℕ) → Adds make op → (a b : Term (List ℕ)) (w : List ℕ) → Other a w
+    → Other (make a b) (w ++ (op ++ in_parens (is_sum b) (infix_term_text b)))
 in_adds_left make op f a b w o = record {
   term = make o.term b;
-  same = f.text o.term b ∙ ap (λ (v : List ℕ). v ++ (op ++ in_parens (is_sum b) (term_text b))) o.same;
-  shorter = subst (λ v. length (w ++ (op ++ in_parens (is_sum b) (term_text b))) < length v) (sym (f.text a b)) (front_shorter w (term_text a) _ o.shorter);
+  same = f.text o.term b ∙ ap (λ (v : List ℕ). v ++ (op ++ in_parens (is_sum b) (infix_term_text b))) o.same;
+  shorter = subst (λ v. length (w ++ (op ++ in_parens (is_sum b) (infix_term_text b))) < length v) (sym (f.text a b))
+      (front_shorter w (infix_term_text a) _ o.shorter);
   sum = λ h. f.is o.term b;
   compound = λ h. sum_compound _ (f.is o.term b);
 }
 
-in_adds_right : (make : Term (List ℕ) → Term (List ℕ) → Term (List ℕ)) (op : List ℕ) → Adds make op → (a b : Term (List ℕ)) (w : List ℕ) → Other b w → Other (make a b) (term_text a ++ (op ++ in_parens (is_sum b) w))
+in_adds_right : (make : Term (List ℕ) → Term (List ℕ) → Term (List ℕ)) (op : List ℕ) → Adds make op → (a b : Term (List ℕ)) (w : List ℕ) → Other b w
+    → Other (make a b) (infix_term_text a ++ (op ++ in_parens (is_sum b) w))
 in_adds_right make op f a b w o =
-    let s = in_added (make a) (term_text a) op (f.text a) (f.is a) b w o (is_sum b) refl in
+    let s = in_added (make a) (infix_term_text a) op (f.text a) (f.is a) b w o (is_sum b) refl in
     record {
       term = s.0;
       same = s.1;
-      shorter = subst (λ v. length (term_text a ++ (op ++ in_parens (is_sum b) w)) < length v) (sym (f.text a b)) (right_shorter (term_text a) op w (term_text b) (is_sum b) o.shorter);
+      shorter = subst (λ v. length (infix_term_text a ++ (op ++ in_parens (is_sum b) w)) < length v) (sym (f.text a b))
+          (right_shorter (infix_term_text a) op w (infix_term_text b) (is_sum b) o.shorter);
       sum = λ h. s.2;
       compound = λ h. sum_compound s.0 s.2;
     }
 
 -- a product, a quotient or a remainder of two operands by this operator
 record Multiplies (make : Term (List ℕ) → Term (List ℕ) → Term (List ℕ)) (op : List ℕ) : Type 0 where
-  text : (a b : Term (List ℕ)) → term_text (make a b) ≡ in_parens (is_sum a) (term_text a) ++ (op ++ in_parens (is_compound b) (term_text b))
+  text : (a b : Term (List ℕ)) → infix_term_text (make a b) ≡ in_parens (is_sum a) (infix_term_text a) ++ (op ++ in_parens (is_compound b) (infix_term_text b))
   no_sum : (a b : Term (List ℕ)) → is_sum (make a b) ≡ false
   is : (a b : Term (List ℕ)) → is_compound (make a b) ≡ true
 
@@ -208,49 +255,56 @@ remainder_multiplies = record { text = λ a b. refl; no_sum = λ a b. refl; is =
 never : (t u : Term (List ℕ)) → is_sum t ≡ false → is_sum t ≡ true → is_sum u ≡ true
 never t u e h = absurd cc
 
-multiplies_left : (make : Term (List ℕ) → Term (List ℕ) → Term (List ℕ)) (op : List ℕ) → Multiplies make op → (a b : Term (List ℕ)) → is_sum a ≡ true → Other (make a b) (term_text a ++ (op ++ in_parens (is_compound b) (term_text b)))
+multiplies_left : (make : Term (List ℕ) → Term (List ℕ) → Term (List ℕ)) (op : List ℕ) → Multiplies make op → (a b : Term (List ℕ)) → is_sum a ≡ true
+    → Other (make a b) (infix_term_text a ++ (op ++ in_parens (is_compound b) (infix_term_text b)))
 multiplies_left make op f a b e =
-    let after = op ++ in_parens (is_compound b) (term_text b) in
+    let after = op ++ in_parens (is_compound b) (infix_term_text b) in
     let s = split_left (λ v. make v b) after (λ v. f.no_sum v b) (λ v. f.text v b) a e in
     record {
       term = s.0;
       same = s.1;
-      shorter = subst (λ v. length (term_text a ++ after) < length v) (sym (f.text a b)) (left_longer (term_text a) after (is_sum a) e);
+      shorter = subst (λ v. length (infix_term_text a ++ after) < length v) (sym (f.text a b)) (left_longer (infix_term_text a) after (is_sum a) e);
       sum = never (make a b) s.0 (f.no_sum a b);
       compound = λ h. s.2;
     }
 
-multiplies_right : (make : Term (List ℕ) → Term (List ℕ) → Term (List ℕ)) (op : List ℕ) → Multiplies make op → (a b : Term (List ℕ)) → is_compound b ≡ true → Other (make a b) (in_parens (is_sum a) (term_text a) ++ (op ++ term_text b))
+multiplies_right : (make : Term (List ℕ) → Term (List ℕ) → Term (List ℕ)) (op : List ℕ) → Multiplies make op → (a b : Term (List ℕ)) → is_compound b ≡ true
+    → Other (make a b) (in_parens (is_sum a) (infix_term_text a) ++ (op ++ infix_term_text b))
 multiplies_right make op f a b e =
-    let before = in_parens (is_sum a) (term_text a) in
+    let before = in_parens (is_sum a) (infix_term_text a) in
     record {
       term = hung (make a) b;
       same = hung_is (make a) before op (f.no_sum a) (f.text a) b;
-      shorter = subst (λ v. length (before ++ (op ++ term_text b)) < length v) (sym (f.text a b)) (right_longer before op (term_text b) (is_compound b) e);
+      shorter = subst (λ v. length (before ++ (op ++ infix_term_text b)) < length v) (sym (f.text a b))
+          (right_longer before op (infix_term_text b) (is_compound b) e);
       sum = never (make a b) (hung (make a) b) (f.no_sum a b);
       compound = λ h. hung_compound (make a) (f.is a) b;
     }
 
-in_multiplies_left : (make : Term (List ℕ) → Term (List ℕ) → Term (List ℕ)) (op : List ℕ) → Multiplies make op → (a b : Term (List ℕ)) (w : List ℕ) → Other a w → Other (make a b) (in_parens (is_sum a) w ++ (op ++ in_parens (is_compound b) (term_text b)))
+in_multiplies_left : (make : Term (List ℕ) → Term (List ℕ) → Term (List ℕ)) (op : List ℕ) → Multiplies make op → (a b : Term (List ℕ)) (w : List ℕ) → Other a w
+    → Other (make a b) (in_parens (is_sum a) w ++ (op ++ in_parens (is_compound b) (infix_term_text b)))
 in_multiplies_left make op f a b w o =
-    let after = op ++ in_parens (is_compound b) (term_text b) in
+    let after = op ++ in_parens (is_compound b) (infix_term_text b) in
     let s = in_left (λ v. make v b) after (λ v. f.no_sum v b) (λ v. f.is v b) (λ v. f.text v b) a w o (is_sum a) refl in
     record {
       term = s.0;
       same = s.1;
-      shorter = subst (λ v. length (in_parens (is_sum a) w ++ after) < length v) (sym (f.text a b)) (left_shorter w (term_text a) after (is_sum a) o.shorter);
+      shorter = subst (λ v. length (in_parens (is_sum a) w ++ after) < length v) (sym (f.text a b))
+          (left_shorter w (infix_term_text a) after (is_sum a) o.shorter);
       sum = never (make a b) s.0 (f.no_sum a b);
       compound = λ h. s.2;
     }
 
-in_multiplies_right : (make : Term (List ℕ) → Term (List ℕ) → Term (List ℕ)) (op : List ℕ) → Multiplies make op → (a b : Term (List ℕ)) (w : List ℕ) → Other b w → Other (make a b) (in_parens (is_sum a) (term_text a) ++ (op ++ in_parens (is_compound b) w))
+in_multiplies_right : (make : Term (List ℕ) → Term (List ℕ) → Term (List ℕ)) (op : List ℕ) → Multiplies make op → (a b : Term (List ℕ)) (w : List ℕ) → Other b w
+    → Other (make a b) (in_parens (is_sum a) (infix_term_text a) ++ (op ++ in_parens (is_compound b) w))
 in_multiplies_right make op f a b w o =
-    let before = in_parens (is_sum a) (term_text a) in
+    let before = in_parens (is_sum a) (infix_term_text a) in
     let s = in_hung (make a) before op (f.no_sum a) (f.text a) b w o (is_compound b) refl in
     record {
       term = s.0;
       same = s.1;
-      shorter = subst (λ v. length (before ++ (op ++ in_parens (is_compound b) w)) < length v) (sym (f.text a b)) (right_shorter before op w (term_text b) (is_compound b) o.shorter);
+      shorter = subst (λ v. length (before ++ (op ++ in_parens (is_compound b) w)) < length v) (sym (f.text a b))
+          (right_shorter before op w (infix_term_text b) (is_compound b) o.shorter);
       sum = never (make a b) s.0 (f.no_sum a b);
       compound = λ h. s.2 (f.is a);
     }
@@ -277,29 +331,34 @@ bare _ _ (in_remainder_right a b w d) = in_multiplies_right Remainder _ remainde
 bare _ _ (under_minus a e) = record {
   term = hung (λ v. Negative v) a;
   same = hung_is (λ v. Negative v) [] (codes "-") (λ v. refl) (λ v. refl) a;
-  shorter = right_longer [] (codes "-") (term_text a) (is_sum a || is_product a) e;
+  shorter = right_longer [] (codes "-") (infix_term_text a) (is_sum a || is_product a) e;
   sum = λ h. absurd cc;
   compound = λ h. absurd cc;
 }
-bare _ _ (in_negative a w d) = let o = bare a w d in let s = in_hung (λ v. Negative v) [] (codes "-") (λ v. refl) (λ v. refl) a w o (is_compound a) refl in record {
-  term = s.0;
-  same = s.1;
-  shorter = right_shorter [] (codes "-") w (term_text a) (is_compound a) o.shorter;
-  sum = λ h. absurd cc;
-  compound = λ h. absurd cc;
-}
+bare _ _ (in_negative a w d) = let o = bare a w d in
+    let s = in_hung (λ v. Negative v) [] (codes "-") (λ v. refl) (λ v. refl) a w o (is_compound a) refl in record {
+      term = s.0;
+      same = s.1;
+      shorter = right_shorter [] (codes "-") w (infix_term_text a) (is_compound a) o.shorter;
+      sum = λ h. absurd cc;
+      compound = λ h. absurd cc;
+    }
 bare _ _ (in_index x a w d) = let o = bare a w d in record {
   term = Read x o.term;
   same = ap (λ (v : List ℕ). x ++ (codes "[" ++ (v ++ codes "]"))) o.same;
-  shorter = index_shorter x w (term_text a) o.shorter;
+  shorter = index_shorter x w (infix_term_text a) o.shorter;
   sum = λ h. absurd cc;
   compound = λ h. absurd cc;
 }
 
 pub bare_term : (t : Term (List ℕ)) (text : List ℕ) → BareTerm t text → IsTextOfAnother t text
 bare_term t text d =
-    let o = bare t text d in
-    (o.term, o.same, λ s. let same : length text ≡ length (term_text t) = ap length (sym o.same) ∙ ap (λ (v : Term (List ℕ)). length (term_text v)) s in omega (arith, o.shorter))
+    let o = bare t text d in (
+      o.term,
+      o.same,
+      λ s. let same : length text ≡ length (infix_term_text t) = ap length (sym o.same) ∙ ap (λ (v : Term (List ℕ)). length (infix_term_text v)) s in
+          omega (arith, o.shorter),
+    )
 
 -- ---- guards
 
@@ -311,8 +370,11 @@ abbrev joined_to : (Guard (List ℕ) → Guard (List ℕ)) → Guard (List ℕ) 
 joined_to make (Or c d) = Or (joined_to make c) d
 joined_to make g = make g
 
-joined_text : (make : Guard (List ℕ) → Guard (List ℕ)) (before : List ℕ) → ((g : Guard (List ℕ)) → is_or g ≡ false → guard_text (make g) ≡ before ++ guard_text g) → (g : Guard (List ℕ)) → guard_text (joined_to make g) ≡ before ++ guard_text g
-joined_text make before h (Or c d) = ap (λ (w : List ℕ). w ++ (codes " || " ++ in_braces (is_or d) (guard_text d))) (joined_text make before h c) ∙ append_assoc before (guard_text c) _
+joined_text : (make : Guard (List ℕ) → Guard (List ℕ)) (before : List ℕ)
+    → ((g : Guard (List ℕ)) → is_or g ≡ false → guard_text (make g) ≡ before ++ guard_text g) → (g : Guard (List ℕ))
+    → guard_text (joined_to make g) ≡ before ++ guard_text g
+joined_text make before h (Or c d) = ap (λ (w : List ℕ). w ++ (codes " || " ++ in_braces (is_or d) (guard_text d))) (joined_text make before h c)
+    ∙ append_assoc before (guard_text c) _
 joined_text make before h g = h g refl
 
 -- the guard whose text is that of `a && g` without braces round g, where make g is `a && g`
@@ -321,26 +383,28 @@ met make (Or c d) = Or (met make c) d
 met make (And c d) = And (cond (is_or c) (make c) (met make c)) d
 met make g = make g
 
-met_no_or : (make : Guard (List ℕ) → Guard (List ℕ)) → ((g : Guard (List ℕ)) → is_or (make g) ≡ false) → (g : Guard (List ℕ)) → is_or g ≡ false → is_or (met make g) ≡ false
+met_no_or : (make : Guard (List ℕ) → Guard (List ℕ)) → ((g : Guard (List ℕ)) → is_or (make g) ≡ false) → (g : Guard (List ℕ)) → is_or g ≡ false
+    → is_or (met make g) ≡ false
 met_no_or make n (Or c d) h = absurd cc
 met_no_or make n (And c d) h = refl
 met_no_or make n g h = n g
 
-or_right_true : (a b : Bool) → b ≡ true → (a || b) ≡ true
-or_right_true true b e = refl
-or_right_true false b e = e
-
 -- the left operand of a conjunction keeps its braces
-kept_guard : (before : List ℕ) (c x y : Guard (List ℕ)) (b : Bool) → is_or c ≡ b → is_or x ≡ false → (is_or c ≡ false → is_or y ≡ false) → guard_text x ≡ before ++ in_braces (is_and c || is_or c) (guard_text c) → guard_text y ≡ before ++ guard_text c
+kept_guard : (before : List ℕ) (c x y : Guard (List ℕ)) (b : Bool) → is_or c ≡ b → is_or x ≡ false → (is_or c ≡ false → is_or y ≡ false)
+    → guard_text x ≡ before ++ in_braces (is_and c || is_or c) (guard_text c) → guard_text y ≡ before ++ guard_text c
     → in_braces (is_or (cond b x y)) (guard_text (cond b x y)) ≡ before ++ in_braces b (guard_text c)
-kept_guard before c x y true e n m p q = let needed : (is_and c || is_or c) ≡ true = or_right_true (is_and c) (is_or c) e in rw n (append-nil (guard_text x) ∙ p ∙ rw needed refl)
+kept_guard before c x y true e n m p q = let needed : (is_and c || is_or c) ≡ true = or_right_true (is_and c) (is_or c) e in
+    rw n (append-nil (guard_text x) ∙ p ∙ rw needed refl)
 kept_guard before c x y false e n m p q = rw (m e) (append-nil (guard_text y) ∙ q ∙ rw (append-nil (guard_text c)) refl)
 
-met_text : (make : Guard (List ℕ) → Guard (List ℕ)) (before : List ℕ) → ((g : Guard (List ℕ)) → is_or (make g) ≡ false) → ((g : Guard (List ℕ)) → guard_text (make g) ≡ before ++ in_braces (is_and g || is_or g) (guard_text g)) → (g : Guard (List ℕ))
+met_text : (make : Guard (List ℕ) → Guard (List ℕ)) (before : List ℕ) → ((g : Guard (List ℕ)) → is_or (make g) ≡ false)
+    → ((g : Guard (List ℕ)) → guard_text (make g) ≡ before ++ in_braces (is_and g || is_or g) (guard_text g)) → (g : Guard (List ℕ))
     → guard_text (met make g) ≡ before ++ guard_text g
-met_text make before n h (Or c d) = ap (λ (w : List ℕ). w ++ (codes " || " ++ in_braces (is_or d) (guard_text d))) (met_text make before n h c) ∙ append_assoc before (guard_text c) _
+met_text make before n h (Or c d) = ap (λ (w : List ℕ). w ++ (codes " || " ++ in_braces (is_or d) (guard_text d))) (met_text make before n h c)
+    ∙ append_assoc before (guard_text c) _
 met_text make before n h (And c d) =
-    ap (λ (w : List ℕ). w ++ (codes " && " ++ in_braces (is_and d || is_or d) (guard_text d))) (kept_guard before c (make c) (met make c) (is_or c) refl (n c) (met_no_or make n c) (h c) (met_text make before n h c))
+    ap (λ (w : List ℕ). w ++ (codes " && " ++ in_braces (is_and d || is_or d) (guard_text d)))
+    (kept_guard before c (make c) (met make c) (is_or c) refl (n c) (met_no_or make n c) (h c) (met_text make before n h c))
     ∙ append_assoc before (in_braces (is_or c) (guard_text c)) _
 met_text make before n h g = h g ∙ ap (λ (w : List ℕ). before ++ w) (append-nil (guard_text g))
 
@@ -374,46 +438,63 @@ left_less v w rest false h = simp length-append (omega arith)
 test_shorter : (a op v w : List ℕ) → length v < length w → length (a ++ (op ++ v)) < length (a ++ (op ++ w))
 test_shorter a op v w h = simp length-append (omega arith)
 
-joined_is : (make : Guard (List ℕ) → Guard (List ℕ)) (a op : List ℕ) → ((g : Guard (List ℕ)) → guard_text (make g) ≡ a ++ (op ++ in_braces (is_or g) (guard_text g))) → (g : Guard (List ℕ)) → guard_text (joined_to make g) ≡ a ++ (op ++ guard_text g)
-joined_is make a op h g = joined_text make (a ++ op) (λ v e. h v ∙ rw (e, append-nil (guard_text v)) (sym (append_assoc a op (guard_text v)))) g ∙ append_assoc a op (guard_text g)
+joined_is : (make : Guard (List ℕ) → Guard (List ℕ)) (a op : List ℕ)
+    → ((g : Guard (List ℕ)) → guard_text (make g) ≡ a ++ (op ++ in_braces (is_or g) (guard_text g))) → (g : Guard (List ℕ))
+    → guard_text (joined_to make g) ≡ a ++ (op ++ guard_text g)
+joined_is make a op h g = joined_text make (a ++ op) (λ v e. h v ∙ rw (e, append-nil (guard_text v)) (sym (append_assoc a op (guard_text v)))) g
+    ∙ append_assoc a op (guard_text g)
 
 joined_or : (make : Guard (List ℕ) → Guard (List ℕ)) → ((g : Guard (List ℕ)) → is_or (make g) ≡ true) → (g : Guard (List ℕ)) → is_or (joined_to make g) ≡ true
 joined_or make n (Or c d) = refl
 joined_or make n g = n g
 
-met_is : (make : Guard (List ℕ) → Guard (List ℕ)) (a op : List ℕ) → ((g : Guard (List ℕ)) → is_or (make g) ≡ false) → ((g : Guard (List ℕ)) → guard_text (make g) ≡ a ++ (op ++ in_braces (is_joined g) (guard_text g))) → (g : Guard (List ℕ)) → guard_text (met make g) ≡ a ++ (op ++ guard_text g)
+met_is : (make : Guard (List ℕ) → Guard (List ℕ)) (a op : List ℕ) → ((g : Guard (List ℕ)) → is_or (make g) ≡ false)
+    → ((g : Guard (List ℕ)) → guard_text (make g) ≡ a ++ (op ++ in_braces (is_joined g) (guard_text g))) → (g : Guard (List ℕ))
+    → guard_text (met make g) ≡ a ++ (op ++ guard_text g)
 met_is make a op n h g = met_text make (a ++ op) n (λ v. h v ∙ sym (append_assoc a op _)) g ∙ append_assoc a op (guard_text g)
 
-met_joined : (make : Guard (List ℕ) → Guard (List ℕ)) → ((g : Guard (List ℕ)) → is_joined (make g) ≡ true) → (g : Guard (List ℕ)) → is_joined (met make g) ≡ true
+met_joined : (make : Guard (List ℕ) → Guard (List ℕ)) → ((g : Guard (List ℕ)) → is_joined (make g) ≡ true) → (g : Guard (List ℕ))
+    → is_joined (met make g) ≡ true
 met_joined make n (Or c d) = refl
 met_joined make n (And c d) = refl
 met_joined make n g = n g
 
 -- the text of `a && b` without braces round the Or a
-split_or : (a b : Guard (List ℕ)) → is_or a ≡ true → (u : Guard (List ℕ)) × (guard_text u ≡ guard_text a ++ (codes " && " ++ in_braces (is_joined b) (guard_text b))) × (is_joined u ≡ true)
-split_or (Or c d) b e =
-    (Or c (And d b), ap (λ (w : List ℕ). guard_text c ++ (codes " || " ++ w)) (append-nil (guard_text (And d b))) ∙ sym (append_assoc (guard_text c) (codes " || " ++ in_braces (is_or d) (guard_text d)) (codes " && " ++ in_braces (is_joined b) (guard_text b))), refl)
+split_or : (a b : Guard (List ℕ)) → is_or a ≡ true → (u : Guard (List ℕ))
+    × (guard_text u ≡ guard_text a ++ (codes " && " ++ in_braces (is_joined b) (guard_text b))) × (is_joined u ≡ true)
+split_or (Or c d) b e = (
+  Or c (And d b),
+  ap (λ (w : List ℕ). guard_text c ++ (codes " || " ++ w)) (append-nil (guard_text (And d b)))
+      ∙ sym (append_assoc (guard_text c) (codes " || " ++ in_braces (is_or d) (guard_text d)) (codes " && " ++ in_braces (is_joined b) (guard_text b))),
+  refl,
+)
 split_or _ b e = absurd cc
 
 -- on the right of an Or
-in_joined : (make : Guard (List ℕ) → Guard (List ℕ)) (a op : List ℕ) → ((g : Guard (List ℕ)) → guard_text (make g) ≡ a ++ (op ++ in_braces (is_or g) (guard_text g))) → ((g : Guard (List ℕ)) → is_or (make g) ≡ true) → (b : Guard (List ℕ)) (w : List ℕ) → OtherGuard b w → (k : Bool) → is_or b ≡ k
+in_joined : (make : Guard (List ℕ) → Guard (List ℕ)) (a op : List ℕ)
+    → ((g : Guard (List ℕ)) → guard_text (make g) ≡ a ++ (op ++ in_braces (is_or g) (guard_text g))) → ((g : Guard (List ℕ)) → is_or (make g) ≡ true)
+    → (b : Guard (List ℕ)) (w : List ℕ) → OtherGuard b w → (k : Bool) → is_or b ≡ k
     → (u : Guard (List ℕ)) × (guard_text u ≡ a ++ (op ++ in_braces k w)) × (is_or u ≡ true)
 in_joined make a op h n b w o true e = (make o.guard, h o.guard ∙ rw (o.disjunction e, o.same) refl, n o.guard)
 in_joined make a op h n b w o false e = (joined_to make o.guard, joined_is make a op h o.guard ∙ rw (o.same, append-nil w) refl, joined_or make n o.guard)
 
 -- on the right of an And, or under a Not
-in_met : (make : Guard (List ℕ) → Guard (List ℕ)) (a op : List ℕ) → ((g : Guard (List ℕ)) → is_or (make g) ≡ false) → ((g : Guard (List ℕ)) → guard_text (make g) ≡ a ++ (op ++ in_braces (is_joined g) (guard_text g))) → (b : Guard (List ℕ)) (w : List ℕ) → OtherGuard b w → (k : Bool) → is_joined b ≡ k
+in_met : (make : Guard (List ℕ) → Guard (List ℕ)) (a op : List ℕ) → ((g : Guard (List ℕ)) → is_or (make g) ≡ false)
+    → ((g : Guard (List ℕ)) → guard_text (make g) ≡ a ++ (op ++ in_braces (is_joined g) (guard_text g))) → (b : Guard (List ℕ)) (w : List ℕ) → OtherGuard b w
+    → (k : Bool) → is_joined b ≡ k
     → (u : Guard (List ℕ)) × (guard_text u ≡ a ++ (op ++ in_braces k w)) × (((g : Guard (List ℕ)) → is_joined (make g) ≡ true) → is_joined u ≡ true)
 in_met make a op n h b w o true e = (make o.guard, h o.guard ∙ rw (o.compound e, o.same) refl, λ c. c o.guard)
 in_met make a op n h b w o false e = (met make o.guard, met_is make a op n h o.guard ∙ rw (o.same, append-nil w) refl, λ c. met_joined make c o.guard)
 
 -- on the left of an And, where it has no braces
-in_bare_and : (v b : Guard (List ℕ)) (k : Bool) → is_or v ≡ k → (u : Guard (List ℕ)) × (guard_text u ≡ guard_text v ++ (codes " && " ++ in_braces (is_joined b) (guard_text b))) × (is_joined u ≡ true)
+in_bare_and : (v b : Guard (List ℕ)) (k : Bool) → is_or v ≡ k → (u : Guard (List ℕ))
+    × (guard_text u ≡ guard_text v ++ (codes " && " ++ in_braces (is_joined b) (guard_text b))) × (is_joined u ≡ true)
 in_bare_and v b true e = split_or v b e
 in_bare_and v b false e = (And v b, rw (e, append-nil (guard_text v)) refl, refl)
 
 -- on the left of an And
-in_and : (a b : Guard (List ℕ)) (w : List ℕ) → OtherGuard a w → (k : Bool) → is_or a ≡ k → (u : Guard (List ℕ)) × (guard_text u ≡ in_braces k w ++ (codes " && " ++ in_braces (is_joined b) (guard_text b))) × (is_joined u ≡ true)
+in_and : (a b : Guard (List ℕ)) (w : List ℕ) → OtherGuard a w → (k : Bool) → is_or a ≡ k
+    → (u : Guard (List ℕ)) × (guard_text u ≡ in_braces k w ++ (codes " && " ++ in_braces (is_joined b) (guard_text b))) × (is_joined u ≡ true)
 in_and a b w o true e = (And o.guard b, rw (o.disjunction e, o.same) refl, refl)
 in_and a b w o false e = let s = in_bare_and o.guard b (is_or o.guard) refl in (s.0, s.1 ∙ rw (o.same, append-nil w) refl, s.2)
 
@@ -425,13 +506,14 @@ bare_guard _ _ (under_not a e) = record {
   disjunction = λ h. absurd cc;
   compound = λ h. absurd cc;
 }
-bare_guard _ _ (in_not a w d) = let o = bare_guard a w d in let s = in_met (λ v. Not v) [] (codes "!") (λ v. refl) (λ v. refl) a w o (is_joined a) refl in record {
-  guard = s.0;
-  same = s.1;
-  shorter = right_less [] (codes "!") w (guard_text a) (is_joined a) o.shorter;
-  disjunction = λ h. absurd cc;
-  compound = λ h. absurd cc;
-}
+bare_guard _ _ (in_not a w d) = let o = bare_guard a w d in
+    let s = in_met (λ v. Not v) [] (codes "!") (λ v. refl) (λ v. refl) a w o (is_joined a) refl in record {
+      guard = s.0;
+      same = s.1;
+      shorter = right_less [] (codes "!") w (guard_text a) (is_joined a) o.shorter;
+      disjunction = λ h. absurd cc;
+      compound = λ h. absurd cc;
+    }
 bare_guard _ _ (and_left a b e) = let s = split_or a b e in record {
   guard = s.0;
   same = s.1;
@@ -453,13 +535,14 @@ bare_guard _ _ (in_and_left a b w d) = let o = bare_guard a w d in let s = in_an
   disjunction = λ h. absurd cc;
   compound = λ h. s.2;
 }
-bare_guard _ _ (in_and_right a b w d) = let o = bare_guard b w d in let s = in_met (λ v. And a v) (in_braces (is_or a) (guard_text a)) (codes " && ") (λ v. refl) (λ v. refl) b w o (is_joined b) refl in record {
-  guard = s.0;
-  same = s.1;
-  shorter = right_less (in_braces (is_or a) (guard_text a)) (codes " && ") w (guard_text b) (is_joined b) o.shorter;
-  disjunction = λ h. absurd cc;
-  compound = λ h. s.2 (λ v. refl);
-}
+bare_guard _ _ (in_and_right a b w d) = let o = bare_guard b w d in
+    let s = in_met (λ v. And a v) (in_braces (is_or a) (guard_text a)) (codes " && ") (λ v. refl) (λ v. refl) b w o (is_joined b) refl in record {
+      guard = s.0;
+      same = s.1;
+      shorter = right_less (in_braces (is_or a) (guard_text a)) (codes " && ") w (guard_text b) (is_joined b) o.shorter;
+      disjunction = λ h. absurd cc;
+      compound = λ h. s.2 (λ v. refl);
+    }
 bare_guard _ _ (or_right a b e) = record {
   guard = joined_to (λ v. Or a v) b;
   same = joined_is (λ v. Or a v) (guard_text a) (codes " || ") (λ v. refl) b;
@@ -474,29 +557,34 @@ bare_guard _ _ (in_or_left a b w d) = let o = bare_guard a w d in record {
   disjunction = λ h. refl;
   compound = λ h. refl;
 }
-bare_guard _ _ (in_or_right a b w d) = let o = bare_guard b w d in let s = in_joined (λ v. Or a v) (guard_text a) (codes " || ") (λ v. refl) (λ v. refl) b w o (is_or b) refl in record {
-  guard = s.0;
-  same = s.1;
-  shorter = right_less (guard_text a) (codes " || ") w (guard_text b) (is_or b) o.shorter;
-  disjunction = λ h. s.2;
-  compound = λ h. or_joined s.0 s.2;
-}
+bare_guard _ _ (in_or_right a b w d) = let o = bare_guard b w d in
+    let s = in_joined (λ v. Or a v) (guard_text a) (codes " || ") (λ v. refl) (λ v. refl) b w o (is_or b) refl in record {
+      guard = s.0;
+      same = s.1;
+      shorter = right_less (guard_text a) (codes " || ") w (guard_text b) (is_or b) o.shorter;
+      disjunction = λ h. s.2;
+      compound = λ h. or_joined s.0 s.2;
+    }
 bare_guard _ _ (in_test_left r a b w d) = let o = bare a w d in record {
   guard = Test (record { relation = r; left = o.term; right = b });
-  same = ap (λ (v : List ℕ). v ++ (relation_text r ++ term_text b)) o.same;
-  shorter = front_shorter w (term_text a) _ o.shorter;
+  same = ap (λ (v : List ℕ). v ++ (relation_text r ++ infix_term_text b)) o.same;
+  shorter = front_shorter w (infix_term_text a) _ o.shorter;
   disjunction = λ h. absurd cc;
   compound = λ h. absurd cc;
 }
 bare_guard _ _ (in_test_right r a b w d) = let o = bare b w d in record {
   guard = Test (record { relation = r; left = a; right = o.term });
-  same = ap (λ (v : List ℕ). term_text a ++ (relation_text r ++ v)) o.same;
-  shorter = test_shorter (term_text a) (relation_text r) w (term_text b) o.shorter;
+  same = ap (λ (v : List ℕ). infix_term_text a ++ (relation_text r ++ v)) o.same;
+  shorter = test_shorter (infix_term_text a) (relation_text r) w (infix_term_text b) o.shorter;
   disjunction = λ h. absurd cc;
   compound = λ h. absurd cc;
 }
 
 pub bare_condition : (g : Guard (List ℕ)) (text : List ℕ) → BareGuard g text → IsTextOfAnotherGuard g text
 bare_condition g text d =
-    let o = bare_guard g text d in
-    (o.guard, o.same, λ s. let same : length text ≡ length (guard_text g) = ap length (sym o.same) ∙ ap (λ (v : Guard (List ℕ)). length (guard_text v)) s in omega (arith, o.shorter))
+    let o = bare_guard g text d in (
+      o.guard,
+      o.same,
+      λ s. let same : length text ≡ length (guard_text g) = ap length (sym o.same) ∙ ap (λ (v : Guard (List ℕ)). length (guard_text v)) s in
+          omega (arith, o.shorter),
+    )

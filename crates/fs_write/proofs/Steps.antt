@@ -30,10 +30,12 @@ pub under : (n free : ℕ) → n + free ≤ 128 → 0 < free → nat_le 128 n �
 under n free h g = grind (arith, nat_tests)
 
 -- a token that can follow and is not past the limit is taken
-pub took : (w : TokenKind) (past_limit : Bool) (p : TextPlace) (ts : List Token) (s n : ParseState) (r : Result Source TextFault) → past_limit ≡ false → step s p.line w ≡ Some n → reading ts n ≡ r → reading (record { kind = w; past_limit = past_limit; place = p } ∷ ts) s ≡ r
+pub took : (w : TokenKind) (past_limit : Bool) (p : TextPlace) (ts : List Token) (s n : ParseState) (r : Result Source TextFault) → past_limit ≡ false
+    → step s p.line w ≡ Some n → reading ts n ≡ r → reading (record { kind = w; past_limit = past_limit; place = p } ∷ ts) s ≡ r
 took w past_limit p ts s n r e f h = rw (f, e) h
 
-pub joined : {line free : ℕ} {s : ParseState} {r : Result Source TextFault} (a b rest : List ℕ) → Reads line free (a ++ (b ++ rest)) s r → Reads line free ((a ++ b) ++ rest) s r
+pub joined : {line free : ℕ} {s : ParseState} {r : Result Source TextFault} (a b rest : List ℕ) → Reads line free (a ++ (b ++ rest)) s r
+    → Reads line free ((a ++ b) ++ rest) s r
 joined {line} {free} {s} {r} a b rest h = subst (λ (l : List ℕ). Reads line free l s r) (sym (append_assoc a b rest)) h
 
 -- the token can be taken where so many operators are free, and leaves so many
@@ -70,9 +72,11 @@ pub space_reads : {line free : ℕ} {s : ParseState} {r : Result Source TextFaul
 space_reads rest d = record { so = λ column n g. d.so (column + 1) n g }
 
 -- fewer operators need be free
-pub weaker : {line : ℕ} {s : ParseState} {r : Result Source TextFault} (rest : List ℕ) (few many : ℕ) → few ≤ many → Reads line few rest s r → Reads line many rest s r
+pub weaker : {line : ℕ} {s : ParseState} {r : Result Source TextFault} (rest : List ℕ) (few many : ℕ) → few ≤ many → Reads line few rest s r
+    → Reads line many rest s r
 weaker rest few many h d = record { so = λ column n g. d.so column n (omega arith) }
 
 -- a line ends
-pub newline_reads : {line free : ℕ} {s : ParseState} {r : Result Source TextFault} (rest : List ℕ) → Reads (line + 1) free rest s r → Reads line free (10 ∷ rest) s r
+pub newline_reads : {line free : ℕ} {s : ParseState} {r : Result Source TextFault} (rest : List ℕ) → Reads (line + 1) free rest s r
+    → Reads line free (10 ∷ rest) s r
 newline_reads rest d = record { so = λ column n g. d.so 1 n g }

@@ -8,12 +8,13 @@ use Rattle.fs_model.specs.declared.parts.Role.{Role}
 use Rattle.fs_model.specs.declared.parts.Role.TheVariants.{Input, Output, Local}
 use Rattle.fs_model.specs.declared.parts.Sort.{Sort}
 use Rattle.fs_model.specs.declared.parts.Sort.TheVariants as sorts
-use Rattle.fs_model.specs.Terms.{Term, Number, Variable, Read, Sum, Difference, Product, Quotient, Remainder, Negative, Guard, Test, Not, And, Or, Assignment, Assign, ArrayWrite, Emit}
+use Rattle.fs_model.specs.Terms.{Term, Number, Variable, Read, Sum, Difference, Product, Quotient, Remainder, Negative, Guard}
+use Rattle.fs_model.specs.Terms.{Test, Not, And, Or, Assignment, Assign, ArrayWrite, Emit}
 use Rattle.fs_model.specs.Source.{Declaration, SourceTransition, SourceState, Source}
 use Rattle.fs_model.specs.WellFormed.{is_sum, is_product, is_and, is_or}
 use Rattle.fs_grammar.specs.declared.format.Format.{Format}
 use Rattle.fs_grammar.specs.declared.format.Format.TheVariants.{One, Two}
-use Rattle.fs_write.specs.Formats.{format_for}
+use Rattle.fs_write.specs.NeededFormats.{format_for}
 
 -- a bracket that stands only where it is needed
 abbrev pub bracket_text : Bool → List ℕ → List ℕ
@@ -37,16 +38,19 @@ operator_text (Remainder a b) = codes " % "
 operator_text _ = []
 
 -- a term, with a space on each side of an operator between two operands
-abbrev pub term_text : Term (List ℕ) → List ℕ
-term_text (Number n) = signed_decimal n
-term_text (Variable x) = x
-term_text (Read x i) = x ++ (codes "[" ++ (term_text i ++ codes "]"))
-term_text (Sum a b) = term_text a ++ (codes " + " ++ in_parens (is_sum b) (term_text b))
-term_text (Difference a b) = term_text a ++ (codes " - " ++ in_parens (is_sum b) (term_text b))
-term_text (Product a b) = in_parens (is_sum a) (term_text a) ++ (codes " * " ++ in_parens (is_sum b || is_product b) (term_text b))
-term_text (Quotient a b) = in_parens (is_sum a) (term_text a) ++ (codes " / " ++ in_parens (is_sum b || is_product b) (term_text b))
-term_text (Remainder a b) = in_parens (is_sum a) (term_text a) ++ (codes " % " ++ in_parens (is_sum b || is_product b) (term_text b))
-term_text (Negative a) = codes "-" ++ in_parens (is_sum a || is_product a) (term_text a)
+abbrev pub infix_term_text : Term (List ℕ) → List ℕ
+infix_term_text (Number n) = signed_decimal n
+infix_term_text (Variable x) = x
+infix_term_text (Read x i) = x ++ (codes "[" ++ (infix_term_text i ++ codes "]"))
+infix_term_text (Sum a b) = infix_term_text a ++ (codes " + " ++ in_parens (is_sum b) (infix_term_text b))
+infix_term_text (Difference a b) = infix_term_text a ++ (codes " - " ++ in_parens (is_sum b) (infix_term_text b))
+infix_term_text (Product a b) = in_parens (is_sum a) (infix_term_text a)
+    ++ (codes " * " ++ in_parens (is_sum b || is_product b) (infix_term_text b))
+infix_term_text (Quotient a b) = in_parens (is_sum a) (infix_term_text a)
+    ++ (codes " / " ++ in_parens (is_sum b || is_product b) (infix_term_text b))
+infix_term_text (Remainder a b) = in_parens (is_sum a) (infix_term_text a)
+    ++ (codes " % " ++ in_parens (is_sum b || is_product b) (infix_term_text b))
+infix_term_text (Negative a) = codes "-" ++ in_parens (is_sum a || is_product a) (infix_term_text a)
 
 -- a relation, with a space on each side
 abbrev pub relation_text : Rel → List ℕ
@@ -59,39 +63,41 @@ relation_text Ge = codes " >= "
 
 -- a guard
 abbrev pub guard_text : Guard (List ℕ) → List ℕ
-guard_text (Test l) = term_text l.left ++ (relation_text l.relation ++ term_text l.right)
+guard_text (Test l) = infix_term_text l.left ++ (relation_text l.relation ++ infix_term_text l.right)
 guard_text (Not g) = codes "!" ++ in_braces (is_and g || is_or g) (guard_text g)
 guard_text (And a b) = in_braces (is_or a) (guard_text a) ++ (codes " && " ++ in_braces (is_and b || is_or b) (guard_text b))
 guard_text (Or a b) = guard_text a ++ (codes " || " ++ in_braces (is_or b) (guard_text b))
 
 -- an assignment to a scalar, or to an array at an index, or an emit to a port
 abbrev pub assignment_text : Assignment (List ℕ) → List ℕ
-assignment_text (Assign x e) = x ++ (codes " = " ++ term_text e)
-assignment_text (ArrayWrite x i e) = x ++ (codes "[" ++ (term_text i ++ (codes "] = " ++ term_text e)))
-assignment_text (Emit x e) = codes "emit " ++ (x ++ (codes " " ++ term_text e))
+assignment_text (Assign x e) = x ++ (codes " = " ++ infix_term_text e)
+assignment_text (ArrayWrite x i e) = x ++ (codes "[" ++ (infix_term_text i ++ (codes "] = " ++ infix_term_text e)))
+assignment_text (Emit x e) = codes "emit " ++ (x ++ (codes " " ++ infix_term_text e))
 
 -- a text that is not the first of a list
 abbrev pub after_comma : List ℕ → List ℕ
 after_comma text = codes ", " ++ text
 
 -- texts with commas between them
-abbrev pub listed : List (List ℕ) → List ℕ
-listed [] = []
-listed (text ∷ texts) = text ++ flat_map after_comma texts
+abbrev pub comma_list : List (List ℕ) → List ℕ
+comma_list [] = []
+comma_list (text ∷ texts) = text ++ flat_map after_comma texts
 
 -- the end of a transition, up to its semicolon
 abbrev pub assignments_text : List (Assignment (List ℕ)) → List ℕ
 assignments_text [] = []
-assignments_text (a ∷ assignments) = codes ": " ++ listed (map assignment_text (a ∷ assignments))
+assignments_text (a ∷ assignments) = codes ": " ++ comma_list (map assignment_text (a ∷ assignments))
 
 -- what stands before goto
-abbrev pub condition_text : Option (Guard (List ℕ)) → List ℕ
-condition_text None = []
-condition_text (Some g) = codes "when " ++ (guard_text g ++ codes " ")
+abbrev pub when_text : Option (Guard (List ℕ)) → List ℕ
+when_text None = []
+when_text (Some g) = codes "when " ++ (guard_text g ++ codes " ")
 
 -- a transition, on a line of its own that begins with two spaces
 abbrev pub line_text : SourceTransition → List ℕ
-line_text l = codes "  " ++ (condition_text l.content.guard ++ (codes "goto " ++ (l.content.target ++ (assignments_text l.content.assignments ++ codes ";\n"))))
+line_text l = codes "  "
+    ++ (when_text l.content.guard
+    ++ (codes "goto " ++ (l.content.target ++ (assignments_text l.content.assignments ++ codes ";\n"))))
 
 -- a state's name on a line of its own, and its transitions
 abbrev pub state_text : SourceState → List ℕ
@@ -104,14 +110,14 @@ role_text Output = codes "output "
 role_text Local = codes "local "
 
 -- the words before the names of a declaration
-abbrev pub kind_text : Role → Sort → List ℕ
-kind_text role sorts.Scalar = role_text role
-kind_text role sorts.Array = role_text role ++ codes "array "
-kind_text role sorts.Port = codes "port "
+abbrev pub declaration_words : Role → Sort → List ℕ
+declaration_words role sorts.Scalar = role_text role
+declaration_words role sorts.Array = role_text role ++ codes "array "
+declaration_words role sorts.Port = codes "port "
 
 -- a declaration, on a line of its own
 abbrev pub declaration_text : Declaration → List ℕ
-declaration_text d = kind_text d.role d.sort ++ (listed d.names ++ codes ";\n")
+declaration_text d = declaration_words d.role d.sort ++ (comma_list d.names ++ codes ";\n")
 
 -- the head of a text
 abbrev pub head_text : Format → List ℕ
@@ -120,4 +126,6 @@ head_text Two = codes "fsmd 2;\n"
 
 -- the text of a machine's parts, in format 2 exactly where they have ports
 abbrev pub canonical : Source → List ℕ
-canonical s = head_text (format_for s) ++ (flat_map declaration_text s.declarations ++ (codes "reset " ++ (s.reset ++ (codes ";\n" ++ flat_map state_text s.states))))
+canonical s = head_text (format_for s)
+    ++ (flat_map declaration_text s.declarations
+    ++ (codes "reset " ++ (s.reset ++ (codes ";\n" ++ flat_map state_text s.states))))

@@ -15,7 +15,8 @@ lines_from n (l ∷ ls) = record { line = n; content = l.content } ∷ lines_fro
 -- states from line n on, each with its transitions on the lines after it
 abbrev pub states_from : ℕ → List SourceState → List SourceState
 states_from n [] = []
-states_from n (s ∷ ss) = record { line = n; name = s.name; lines = lines_from (n + 1) s.lines } ∷ states_from (n + 1 + length s.lines) ss
+states_from n (s ∷ ss) = record { line = n; name = s.name; lines = lines_from (n + 1) s.lines }
+    ∷ states_from (n + 1 + length s.lines) ss
 
 -- line 1 is the head; the declarations, the reset state and the states come after it
 abbrev pub with_canonical_lines : Source → Source
@@ -37,4 +38,9 @@ state_at_line_0 s = record { line = 0; name = s.name; lines = map transition_at_
 
 -- parts with every line set to 0: two parts that agree here are the same but for lines
 abbrev pub without_lines : Source → Source
-without_lines s = record { declarations = map declaration_at_line_0 s.declarations; reset_line = 0; reset = s.reset; states = map state_at_line_0 s.states }
+without_lines s = record {
+  declarations = map declaration_at_line_0 s.declarations;
+  reset_line = 0;
+  reset = s.reset;
+  states = map state_at_line_0 s.states;
+}

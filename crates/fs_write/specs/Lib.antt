@@ -1,4 +1,4 @@
-pub mod Formats
+pub mod NeededFormats
 pub mod Canonical
 pub mod Spellable
 pub mod CanonicalLines

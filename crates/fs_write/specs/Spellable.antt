@@ -2,7 +2,8 @@
 use Rattle.std.specs.Prelude.{ℕ, ◌^◌, Bool, true, ◌&&◌, pos, int_lt, Option, Some, None, List}
 use Rattle.std.specs.List.{list_all}
 use Rattle.fs_model.specs.Words.{is_name}
-use Rattle.fs_model.specs.Terms.{Term, Number, Variable, Read, Sum, Difference, Product, Quotient, Remainder, Negative, Guard, Test, Not, And, Or, Assignment, Assign, ArrayWrite, Emit}
+use Rattle.fs_model.specs.Terms.{Term, Number, Variable, Read, Sum, Difference, Product, Quotient, Remainder, Negative, Guard}
+use Rattle.fs_model.specs.Terms.{Test, Not, And, Or, Assignment, Assign, ArrayWrite, Emit}
 use Rattle.fs_model.specs.Source.{Declaration, SourceTransition, SourceState, Source}
 
 -- each name is a name, and no number is above 2^127 - 1
@@ -37,7 +38,8 @@ is_spellable_condition (Some g) = is_spellable_guard g
 
 -- the same of a transition
 abbrev pub is_spellable_transition : SourceTransition → Bool
-is_spellable_transition l = is_spellable_condition l.content.guard && (is_name l.content.target && list_all is_spellable_assignment l.content.assignments)
+is_spellable_transition l = is_spellable_condition l.content.guard
+    && (is_name l.content.target && list_all is_spellable_assignment l.content.assignments)
 
 -- the same of a state
 abbrev pub is_spellable_state : SourceState → Bool

@@ -3,7 +3,7 @@
 ghost use Rattle.std.specs.Prelude.{◌≡◌, map};
 ghost use Rattle.std.specs.List.{list_any};
 ghost use Rattle.fs_model.specs.View.{named_assignment, declaration_of, source_transition_of, source_state_of, source_of};
-ghost use Rattle.fs_write.specs.Formats.{declares_ports, is_emit, emits_in_transition, emits_in_state, format_for};
+ghost use Rattle.fs_write.specs.NeededFormats.{declares_ports, is_emit, emits_in_transition, emits_in_state, format_for};
 
 use fs_grammar::format::Format;
 use fs_model::name::Name;

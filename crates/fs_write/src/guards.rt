@@ -2,7 +2,7 @@
 
 ghost use Rattle.std.specs.Prelude.{◌≡◌, ◌++◌, ◌||◌, IsTrue, OnOk, option_map};
 ghost use Rattle.fs_model.specs.View.{named_guard};
-ghost use Rattle.fs_write.specs.Canonical.{relation_text, guard_text, condition_text};
+ghost use Rattle.fs_write.specs.Canonical.{relation_text, guard_text, when_text};
 ghost use Rattle.fs_write.specs.Spellable.{is_spellable_guard, is_spellable_condition};
 
 use crate::terms::{write_bracket, write_expr};
@@ -63,7 +63,7 @@ fn write_guard(out: &mut Vec<u8>, guard: &Guard) -> Result<(), AllocError>
 
 /// Writes what stands before the target of a transition: its guard, or nothing.
 pub fn write_condition(out: &mut Vec<u8>, guard: &Option<Guard>) -> Result<(), AllocError>
-    ensures text { OnOk result (out.new.items ≡ out.old.items ++ condition_text (option_map named_guard guard.now)) }
+    ensures text { OnOk result (out.new.items ≡ out.old.items ++ when_text (option_map named_guard guard.now)) }
     ensures words { OnOk result (IsTrue (is_spellable_condition (option_map named_guard guard.now))) }
 {
     let Some(guard) = guard else {

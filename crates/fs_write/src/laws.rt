@@ -14,7 +14,8 @@ ghost use Rattle.fs_write.specs.CanonicalLines.{with_canonical_lines, without_li
 /// What is written is read back: the canonical text of parts that a text can spell reads as these
 /// parts, each with its line in that text.
 pub fn what_is_written_is_read_back()
-    ensures { (s : Source) → IsTrue (is_well_formed s) → IsTrue (is_spellable s) → reading (tokens_of (canonical s)) at_start ≡ Ok (with_canonical_lines s) }
+    ensures { (s : Source) → IsTrue (is_well_formed s) → IsTrue (is_spellable s)
+        → reading (tokens_of (canonical s)) at_start ≡ Ok (with_canonical_lines s) }
 {}
 
 /// The parts that are read back are the ones that were written, but for lines.
@@ -24,7 +25,8 @@ pub fn only_lines_change()
 
 /// Parts with the same canonical text are the same but for lines.
 pub fn a_text_has_one_meaning()
-    ensures { (s t : Source) → IsTrue (is_well_formed s) → IsTrue (is_spellable s) → IsTrue (is_well_formed t) → IsTrue (is_spellable t) → canonical s ≡ canonical t → without_lines s ≡ without_lines t }
+    ensures { (s t : Source) → IsTrue (is_well_formed s) → IsTrue (is_spellable s) → IsTrue (is_well_formed t)
+        → IsTrue (is_spellable t) → canonical s ≡ canonical t → without_lines s ≡ without_lines t }
 {}
 
 /// What was read back can be written, and that gives the same text again.

@@ -3,6 +3,13 @@
 //! The text has a line for the head with the format, each declaration, the reset state, each state and each
 //! transition, and parentheses and braces only where leaving them out would change the parts. The
 //! definitions stand in `specs/`.
+//!
+//! Promises: `write_parts`: the canonical text, and that it reads as the parts.
+//!
+//! Rules: `specs/Canonical`, `specs/CanonicalLines`, `src/laws`.
+//!
+//! Words:
+//! - canonical text: the one text that `fmt` writes of a machine
 #![tactic(auto)]
 
 ghost use Rattle.std.specs.Prelude.{◌≡◌, IsTrue, IfOk, Ok};
@@ -23,7 +30,7 @@ use fs_model::parts::Parts;
 use std::alloc::Global;
 
 /// Out of memory.
-#[derive(Clone, Copy, Debug, PartialEq, Eq)]
+#[derive(Clone, Copy, Debug)]
 pub struct NoMemory;
 
 /// The canonical text of parts that a text can spell, in format 2 exactly where they declare ports or
@@ -31,7 +38,8 @@ pub struct NoMemory;
 pub fn write_parts(alloc: Global, parts: &Parts) -> Result<Vec<u8>, NoMemory>
     requires { IsTrue (is_well_formed (source_of parts.now)) }
     ensures text { IfOk result (λ bytes. bytes.items ≡ canonical (source_of parts.now)) }
-    ensures reads_back { IfOk result (λ bytes. reading (tokens_of bytes.items) at_start ≡ Ok (with_canonical_lines (source_of parts.now))) }
+    ensures reads_back { IfOk result
+        (λ bytes. reading (tokens_of bytes.items) at_start ≡ Ok (with_canonical_lines (source_of parts.now))) }
 {
     let mut out = Vec::new(alloc);
     match states::write_source(&mut out, parts) {

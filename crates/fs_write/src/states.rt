@@ -4,8 +4,10 @@ ghost use Rattle.std.specs.Prelude.{◌≡◌, ◌++◌, IsTrue, OnOk, codes, ma
 ghost use Rattle.std.specs.List.{flat_map, list_all};
 ghost use Rattle.fs_model.specs.Words.{is_name};
 ghost use Rattle.fs_model.specs.View.{named_assignment, declaration_of, source_transition_of, source_state_of, source_of};
-ghost use Rattle.fs_write.specs.Canonical.{listed, after_comma, assignment_text, assignments_text, line_text, state_text, role_text, kind_text, declaration_text, head_text, canonical};
-ghost use Rattle.fs_write.specs.Spellable.{is_spellable_assignment, is_spellable_transition, is_spellable_state, is_spellable_declaration, is_spellable};
+ghost use Rattle.fs_write.specs.Canonical.{comma_list, after_comma, assignment_text, assignments_text, line_text, state_text};
+ghost use Rattle.fs_write.specs.Canonical.{role_text, declaration_words, declaration_text, head_text, canonical};
+ghost use Rattle.fs_write.specs.Spellable.{is_spellable_assignment, is_spellable_transition, is_spellable_state};
+ghost use Rattle.fs_write.specs.Spellable.{is_spellable_declaration, is_spellable};
 
 use crate::formats::format_for;
 use crate::guards::write_condition;
@@ -49,7 +51,8 @@ fn write_comma(out: &mut Vec<u8>) -> Result<(), AllocError>
 
 // Writes the assignments after the first one.
 fn write_more_assigns(out: &mut Vec<u8>, assigns: &[Assign<Name>]) -> Result<(), AllocError>
-    ensures text { OnOk result (out.new.items ≡ out.old.items ++ flat_map after_comma (map assignment_text (map named_assignment assigns.now))) }
+    ensures text { OnOk result
+        (out.new.items ≡ out.old.items ++ flat_map after_comma (map assignment_text (map named_assignment assigns.now))) }
     ensures words { OnOk result (IsTrue (list_all is_spellable_assignment (map named_assignment assigns.now))) }
 {
     for assign in assigns {
@@ -129,7 +132,7 @@ fn write_more_names(out: &mut Vec<u8>, names: &[Name]) -> Result<(), AllocError>
 }
 
 fn write_names(out: &mut Vec<u8>, names: &[Name]) -> Result<(), AllocError>
-    ensures text { OnOk result (out.new.items ≡ out.old.items ++ listed names.now) }
+    ensures text { OnOk result (out.new.items ≡ out.old.items ++ comma_list names.now) }
     ensures words { OnOk result (IsTrue (list_all is_name names.now)) }
 {
     match names {
@@ -153,7 +156,7 @@ fn role_word(role: Role) -> &'static [u8]
 
 // Writes the words before the names of a declaration.
 fn write_kind(out: &mut Vec<u8>, role: Role, sort: Sort) -> Result<(), AllocError>
-    ensures { OnOk result (out.new.items ≡ out.old.items ++ kind_text role sort) }
+    ensures { OnOk result (out.new.items ≡ out.old.items ++ declaration_words role sort) }
 {
     match sort {
         Sort::Scalar => out.extend_from_slice(role_word(role)),

@@ -3,7 +3,7 @@
 ghost use Rattle.std.specs.Prelude.{◌≡◌, ◌++◌, ◌^◌, ◌<ℤ◌, pos, IsTrue, OnOk};
 ghost use Rattle.std.specs.Fmt.{signed_decimal};
 ghost use Rattle.fs_model.specs.View.{named_term};
-ghost use Rattle.fs_write.specs.Canonical.{bracket_text, operator_text, term_text};
+ghost use Rattle.fs_write.specs.Canonical.{bracket_text, operator_text, infix_term_text};
 ghost use Rattle.fs_write.specs.Spellable.{is_spellable_term};
 
 use fs_model::name::Name;
@@ -46,7 +46,7 @@ fn operator(expr: &Expr<Name>) -> &'static [u8]
 
 /// Writes an expression.
 pub fn write_expr(out: &mut Vec<u8>, expr: &Expr<Name>) -> Result<(), AllocError>
-    ensures text { OnOk result (out.new.items ≡ out.old.items ++ term_text (named_term expr.now)) }
+    ensures text { OnOk result (out.new.items ≡ out.old.items ++ infix_term_text (named_term expr.now)) }
     ensures words { OnOk result (IsTrue (is_spellable_term (named_term expr.now))) }
 {
     match expr {

@@ -1,6 +1,8 @@
-//! Shows machines, searches and certificates: `machine A` is a machine as a graph in DOT, `pair A B` the table of the search of two
-//! machines, `why A B` tells what led to the answer of `check`, `certificate A B C` what a certificate owes, by number, and `inputs A B`
-//! is the file of inputs that show a difference.
+//! Shows machines, searches and certificates: `machine A` is a machine as a graph in DOT, `pair A B` the table of the search of
+//! two machines, `why A B` tells what led to the answer of `check`, `certificate A B C` what a certificate owes, by number, and
+//! `inputs A B` is the file of inputs that show a difference.
+//!
+//! Promises: one call of `run_program`.
 #![tactic(auto)]
 
 use show_tool::program::run_program;

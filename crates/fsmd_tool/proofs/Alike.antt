@@ -1,13 +1,13 @@
 -- What a call tells of two machines that are alike.
 use Rattle.std.proofs.Common.{◌≡◌, inl, inr}
 use Rattle.std.specs.Prelude.{IsTrue}
-use Rattle.command_answers.specs.declared.answer.Status.TheVariants.{Fine, Differ, Undecided, NoMemory}
-use Rattle.command_answers.specs.Words.{compares, step_limit}
-use Rattle.pair_answers.proofs.Alike.{closes_where_same, has_limit, no_counterexample}
+use Rattle.fsmd_replies.specs.declared.answer.Status.TheVariants.{Fine, Differ, Undecided, NoMemory}
+use Rattle.fsmd_replies.specs.AskedFiles.{compares, step_limit}
+use Rattle.fsmd_pair_answers.proofs.Alike.{closes_where_same, has_limit, no_counterexample}
 use Rattle.fsmd_tool.specs.Calls.{Call}
-use Rattle.fsmd_tool.specs.Puts.{Put}
+use Rattle.fsmd_tool.specs.SinkReplies.{Put}
 use Rattle.fsmd_tool.specs.Correct.{Answered}
-use Rattle.fsmd_tool.specs.Alike.{AnswersPair, Closes, Stops, TellsOfAlike}
+use Rattle.fsmd_tool.specs.AlikeCalls.{AnswersPair, Closes, Stops, TellsOfAlike}
 use Rattle.fsmd_tool.proofs.Says.{says_same, says_differ, says_undecided}
 
 module _ (g : Call) (p : Put) (a : Answered g p) (t : IsTrue (compares g.asked)) where

@@ -1,46 +1,49 @@
 -- Where a call ends with a fault, a file, the store of the certificate or the sink failed.
 use Rattle.std.proofs.Common.{◌≡◌, ◌∙◌, ℕ, zero, suc, false, ◌+◌, ◌*◌, ◌<◌, ◌≤◌, List, [], ◌∷◌, length, Option, Some, None, sym, ap, subst, arith}
 use Rattle.std.specs.Prelude.{is_some}
-use Rattle.command_words.specs.Words.{Asked, Check, Verify, Run, Replay, Fmt, Cuts, Generate, Compile, Schedule, Bind, Shrink, Chain}
-use Rattle.fs_base.specs.Outside.{Held}
+use Rattle.fsmd_words.specs.AskedWords.{Asked, Check, Verify, Run, Replay, Fmt, Cuts, Generate, Compile, Schedule, Bind, Shrink, Chain}
+use Rattle.fs_base.specs.Outside.{FileKnowledge}
 use Rattle.fs_model.specs.Machines.{Fsmd}
 use Rattle.fs_model.specs.Runs.{Inputs}
 use Rattle.fs_model.specs.Source.{Source}
-use Rattle.fs_rules.specs.Spelled.{machine_of}
+use Rattle.fs_rules.specs.MachineOfParts.{machine_of}
 use Rattle.fs_write.specs.Canonical.{canonical}
-use Rattle.path_text.specs.Paths.{paths_text}
-use Rattle.bisimulation.specs.Tables.{Node}
+use Rattle.fs_path_text.specs.PathTexts.{paths_text}
+use Rattle.cert_bisimulation.specs.Tables.{Node}
 use Rattle.sym_facts.specs.Facts.{Fact}
-use Rattle.program_laws.specs.Programs.{Program}
-use Rattle.unit_counts.specs.Counts.{Units}
-use Rattle.synthesis_answers.specs.Bindings.{Binding}
-use Rattle.command_answers.specs.declared.answer.Operand.{Operand}
-use Rattle.command_answers.specs.declared.answer.Status.TheVariants as statuses
-use Rattle.command_answers.specs.declared.answer.Answer.{Answer}
-use Rattle.command_answers.specs.declared.answer.Answer.TheVariants.{Usage, Text}
-use Rattle.command_answers.specs.Statuses.{status_of, certificate_in}
-use Rattle.command_answers.specs.Words.{operand, in_links, files_of, cert_of, generated_steps}
-use Rattle.command_answers.specs.Texts.{SpellsParts, SpellsMachine}
-use Rattle.command_answers.specs.Readings.{Content, Unreadable, Reading}
-use Rattle.command_answers.specs.Refusals.{RefusesMachine, RefusesPair, RefusesCertificate, SpellsCertificate}
-use Rattle.command_answers.specs.InputFiles.{HasInputFault, RefusesInputs, SpellsInputs}
-use Rattle.command_answers.specs.Programs.{RefusesProgram, SpellsProgram, IsOfProgram}
-use Rattle.command_answers.specs.Schedules.{HaveUnitFault, RefusesUnits, SpellUnits, IsOfSchedule}
-use Rattle.command_answers.specs.Bindings.{HasBindingFault, RefusesBinding, SpellsBinding, IsOfBinding}
-use Rattle.command_answers.specs.Pairs.{IsOfPair, IsOfLoops, left_of, right_of}
-use Rattle.command_answers.specs.Verdicts.{IsJudged, verdict_on}
-use Rattle.command_answers.specs.Runs.{IsOfRun}
-use Rattle.command_answers.specs.Replays.{IsOfReplay}
-use Rattle.command_answers.specs.Shrinks.{IsOfShrink}
-use Rattle.command_answers.specs.Links.{AtLink, links_in, links_of, IsOfChain}
-use Rattle.command_answers.specs.Follows.{Ends, Opens, Refused, Spelled, Pairs, Other, Alike, Judges, Fails, Holds, OpensMachine, OpensInputs, OpensCertificate, OpensUnits, OpensBinding, OpensPair, OpensLink, OpensLinks, FollowsFrom}
+use Rattle.hls_program_laws.specs.Programs.{Program}
+use Rattle.hls_unit_counts.specs.Counts.{Units}
+use Rattle.fsmd_synthesis_answers.specs.BindingAnswers.{Binding}
+use Rattle.fsmd_replies.specs.declared.answer.Operand.{Operand}
+use Rattle.fsmd_replies.specs.declared.answer.Status.TheVariants as statuses
+use Rattle.fsmd_replies.specs.declared.answer.Answer.{Answer}
+use Rattle.fsmd_replies.specs.declared.answer.Answer.TheVariants.{Usage, Text}
+use Rattle.fsmd_replies.specs.Statuses.{status_of, certificate_in}
+use Rattle.fsmd_replies.specs.AskedFiles.{operand, in_links, files_of, cert_of, generated_steps}
+use Rattle.fsmd_answers.specs.MachineFiles.{SpellsParts, SpellsMachine}
+use Rattle.fsmd_answers.specs.Readings.{FileContent, Unreadable, Reading}
+use Rattle.fsmd_answers.specs.Refusals.{RefusesMachine, RefusesPair, RefusesCertificate, SpellsCertificate}
+use Rattle.fsmd_answers.specs.InputFiles.{HasInputFault, RefusesInputs, SpellsInputs}
+use Rattle.fsmd_answers.specs.ProgramFiles.{RefusesProgram, SpellsProgram, IsOfProgram}
+use Rattle.fsmd_answers.specs.ScheduleFiles.{HaveUnitFault, RefusesUnits, SpellUnits, IsOfSchedule}
+use Rattle.fsmd_answers.specs.BindingFiles.{HasBindingFault, RefusesBinding, SpellsBinding, IsOfBinding}
+use Rattle.fsmd_answers.specs.MachinePairAnswers.{IsOfPair, IsOfLoops, left_of, right_of}
+use Rattle.fsmd_answers.specs.Verdicts.{IsJudged, verdict_on}
+use Rattle.fsmd_answers.specs.RunAnswers.{IsOfRun}
+use Rattle.fsmd_answers.specs.Replays.{IsOfReplay}
+use Rattle.fsmd_answers.specs.Shrinks.{IsOfShrink}
+use Rattle.fsmd_answers.specs.Links.{AtLink, links_in, links_of, IsOfChain}
+use Rattle.fsmd_answers.specs.Follows.{Ends, Opens, Refused, Spelled, ComparesPairs, Other, Alike, Judges, Fails, Holds, OpensMachine, OpensInputs}
+use Rattle.fsmd_answers.specs.Follows.{OpensCertificate, OpensUnits, OpensBinding, OpensPair, OpensLink, OpensLinks, FollowsFrom}
 use Rattle.fsmd_tool.specs.Calls.{Call, held, FailedToRead, MayBeRead, MayRead, IsCorrectFrom}
-use Rattle.fsmd_tool.specs.Puts.{Put, IsPut, Whole, Cut}
-use Rattle.fsmd_tool.specs.Stores.{stores, Entry, entry_of, to_store}
+use Rattle.fsmd_tool.specs.SinkReplies.{Put, IsPut, Whole, Cut}
+use Rattle.fsmd_tool.specs.CertificateStores.{stores, StoreEntry, stored_entry_of, to_store}
 use Rattle.fsmd_tool.specs.Correct.{IsCorrectAnswer, IsDone, Kept, Stored, Unstored, Answered}
 use Rattle.fsmd_tool.specs.Clauses.{HasCause, FileFailed, CertificateUnstored, SinkFailed}
 use Rattle.fsmd_tool.proofs.Linked.{judges, certificates, nexts}
-use Rattle.fsmd_tool.proofs.Statuses.{HasStatus, machine_fault, program_fault, keys_fault, certificate_fault, pair_fault, link_status, usage_fault, text_fault, of_pair_fault, run_fault, replay_fault, shrink_fault, chain_fault, compile_fault, schedule_fault, binding_fault, judged_fault}
+use Rattle.fsmd_tool.proofs.Statuses.{HasStatus, machine_fault, program_fault, keys_fault, certificate_fault, pair_fault, link_status, usage_fault, text_fault}
+use Rattle.fsmd_tool.proofs.Statuses.{of_pair_fault, run_fault, replay_fault, shrink_fault, chain_fault, compile_fault, schedule_fault, binding_fault}
+use Rattle.fsmd_tool.proofs.Statuses.{judged_fault}
 
 -- ---- files one after another
 
@@ -50,12 +53,12 @@ record OneFailed (g : Call) (files : ℕ) : Type 0 where
   within : file < files
   failed : FailedToRead g (operand file)
 
-faulted : (k : Held) (F : Type 0) (c : Content) → MayBeRead k F c → c ≡ Unreadable → F
+faulted : (k : FileKnowledge) (F : Type 0) (c : FileContent) → MayBeRead k F c → c ≡ Unreadable → F
 faulted k F c m e = subst (λ d. MayBeRead k F d) e m
 
 module _ (g : Call) (files : ℕ) (x : Answer) where
-  module _ (T : Type 0) (R : Operand → Content → Answer → Type 0) (S : T → List ℕ → Type 0) (P : T → (file : ℕ) → Reading → Answer → Type 0) (n : ℕ) where
-    opens_by : (r : Reading) → n < files → ((c : Content) → R (operand n) c x → c ≡ Unreadable)
+  module _ (T : Type 0) (R : Operand → FileContent → Answer → Type 0) (S : T → List ℕ → Type 0) (P : T → (file : ℕ) → Reading → Answer → Type 0) (n : ℕ) where
+    opens_by : (r : Reading) → n < files → ((c : FileContent) → R (operand n) c x → c ≡ Unreadable)
         → ((v : T) → IsCorrectFrom (P v) (n + 1) g x → OneFailed g files) → MayRead g n r → Opens T R S P n r x → OneFailed g files
     opens_by [] within own behind may o = absurd o
     opens_by (c ∷ rest) within own behind may (Refused p e) =
@@ -63,7 +66,7 @@ module _ (g : Call) (files : ℕ) (x : Answer) where
     opens_by (c ∷ rest) within own behind may (Spelled v h p) = behind v (record { reading = rest; may_be_read = may.1; follows = p })
 
     -- the next file failed, or one behind it
-    opens : n < files → ((c : Content) → R (operand n) c x → c ≡ Unreadable) → ((v : T) → IsCorrectFrom (P v) (n + 1) g x → OneFailed g files)
+    opens : n < files → ((c : FileContent) → R (operand n) c x → c ≡ Unreadable) → ((v : T) → IsCorrectFrom (P v) (n + 1) g x → OneFailed g files)
         → IsCorrectFrom (Opens T R S P) n g x → OneFailed g files
     opens within own behind c = opens_by c.reading within own behind c.may_be_read c.follows
 
@@ -77,11 +80,11 @@ module _ (g : Call) (files : ℕ) (x : Answer) where
 
   -- two machines have the same inputs and outputs
   module _ (a b : Fsmd) (R : Answer → Type 0) (P : (file : ℕ) → Reading → Answer → Type 0) (n : ℕ) where
-    pairs_by : (r : Reading) → (R x → ⊥) → (IsCorrectFrom P n g x → OneFailed g files) → MayRead g n r → Pairs a b R P n r x → OneFailed g files
+    pairs_by : (r : Reading) → (R x → ⊥) → (IsCorrectFrom P n g x → OneFailed g files) → MayRead g n r → ComparesPairs a b R P n r x → OneFailed g files
     pairs_by r never behind may (Other p e) = absurd (never p)
     pairs_by r never behind may (Alike e p) = behind (record { reading = r; may_be_read = may; follows = p })
 
-    pairs : (R x → ⊥) → (IsCorrectFrom P n g x → OneFailed g files) → IsCorrectFrom (Pairs a b R P) n g x → OneFailed g files
+    pairs : (R x → ⊥) → (IsCorrectFrom P n g x → OneFailed g files) → IsCorrectFrom (ComparesPairs a b R P) n g x → OneFailed g files
     pairs never behind c = pairs_by c.reading never behind c.may_be_read c.follows
 
   -- the status is of a fault
@@ -103,8 +106,8 @@ module _ (g : Call) (files : ℕ) (x : Answer) where
     pair : (P : (a b : Fsmd) → (file : ℕ) → Reading → Answer → Type 0) → 1 < files → ((a b : Fsmd) → IsCorrectFrom (P a b) 2 g x → OneFailed g files)
         → IsCorrectFrom (OpensPair P) 0 g x → OneFailed g files
     pair P within behind c =
-        machine (λ a. OpensMachine (λ b. Pairs a b (RefusesPair a b) (P a b))) 0 (omega (arith, within))
-        (λ a d. machine (λ b. Pairs a b (RefusesPair a b) (P a b)) 1 within
+        machine (λ a. OpensMachine (λ b. ComparesPairs a b (RefusesPair a b) (P a b))) 0 (omega (arith, within))
+        (λ a d. machine (λ b. ComparesPairs a b (RefusesPair a b) (P a b)) 1 within
         (λ b e. pairs a b (RefusesPair a b) (P a b) 2 (λ p. pair_fault a b x p s) (behind a b) e) d) c
 
     -- ---- chains
@@ -143,7 +146,7 @@ two_a_link [] = omega arith
 two_a_link (c ∷ []) = omega arith
 two_a_link (c ∷ m ∷ words) = omega (arith, two_a_link words)
 
-enough : (files : List (List ℕ)) → 1 + 2 * links_of files ≤ length (files_of (Some (Chain files)))
+pub enough : (files : List (List ℕ)) → 1 + 2 * links_of files ≤ length (files_of (Some (Chain files)))
 enough [] = omega arith
 enough (m ∷ words) = omega (arith, two_a_link words)
 
@@ -199,10 +202,10 @@ put_cause : (g : Call) (p : Put) (x : Answer) (reply : List ℕ) → IsCorrectAn
 put_cause g p x reply c e (Whole w) = file_cause g p x c (sym w.status ∙ e)
 put_cause g p x reply c e (Cut w) = SinkFailed w.failed
 
-pub entry_named : (cert text : Option (List ℕ)) (x : Entry) → entry_of cert text ≡ Some x → cert ≡ Some x.name
+pub entry_named : (cert text : Option (List ℕ)) (x : StoreEntry) → stored_entry_of cert text ≡ Some x → cert ≡ Some x.name
 entry_named None text x e = absurd (cc)
 entry_named (Some name) None x e = absurd (cc)
-entry_named (Some name) (Some bytes) x e = let same : record { name = name; bytes = bytes } ≡ x = cc in ap (λ (z : Entry). Some z.name) same
+entry_named (Some name) (Some bytes) x e = let same : record { name = name; bytes = bytes } ≡ x = cc in ap (λ (z : StoreEntry). Some z.name) same
 
 done_cause : (g : Call) (p : Put) (x : Answer) → IsCorrectAnswer g x → p.status ≡ statuses.Fault
     → (reply : List ℕ) → IsDone (to_store g.asked x) reply (status_of x) (stores g.before g.now) p → HasCause g p

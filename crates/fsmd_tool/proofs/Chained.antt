@@ -2,29 +2,30 @@
 use Rattle.std.proofs.Common.{◌≡◌, true, ℕ, zero, suc, ◌+◌, List, ◌++◌, Option, Some, None, refl, ap, subst, codes, decimal, arith}
 use Rattle.std.specs.Prelude.{IsTrue}
 use Rattle.std.proofs.lemmas.Bool.{false≢true}
-use Rattle.command_words.specs.Words.{Asked, Chain}
+use Rattle.fsmd_words.specs.AskedWords.{Asked, Chain}
 use Rattle.fs_model.specs.Machines.{Fsmd}
 use Rattle.fs_pair.specs.Interfaces.{interface_fault}
-use Rattle.bisimulation.specs.Tables.{Node}
+use Rattle.cert_bisimulation.specs.Tables.{Node}
 use Rattle.sym_facts.specs.Facts.{Fact}
-use Rattle.certificates.specs.Obligations.{Yes}
-use Rattle.command_answers.specs.declared.answer.Status.TheVariants as statuses
-use Rattle.command_answers.specs.declared.answer.Answer.{Answer}
-use Rattle.command_answers.specs.Statuses.{status_of}
-use Rattle.command_answers.specs.Words.{operand}
-use Rattle.command_answers.specs.Texts.{SpellsMachine}
-use Rattle.command_answers.specs.Readings.{Reading}
-use Rattle.command_answers.specs.Refusals.{RefusesMachine, RefusesPair, RefusesCertificate, SpellsCertificate}
-use Rattle.command_answers.specs.Verdicts.{IsJudged, verdict_on}
-use Rattle.command_answers.specs.Links.{AtLink, links_of, IsOfChain}
-use Rattle.command_answers.specs.Replies.{lines_of}
-use Rattle.command_answers.specs.Follows.{Judges, Fails, Holds, OpensMachine, OpensLink, OpensLinks, FollowsFrom}
+use Rattle.cert_model.specs.Obligations.{Yes}
+use Rattle.fsmd_replies.specs.declared.answer.Status.TheVariants as statuses
+use Rattle.fsmd_replies.specs.declared.answer.Answer.{Answer}
+use Rattle.fsmd_replies.specs.Statuses.{status_of}
+use Rattle.fsmd_replies.specs.AskedFiles.{operand}
+use Rattle.fsmd_answers.specs.MachineFiles.{SpellsMachine}
+use Rattle.fsmd_answers.specs.Readings.{Reading}
+use Rattle.fsmd_answers.specs.Refusals.{RefusesMachine, RefusesPair, RefusesCertificate, SpellsCertificate}
+use Rattle.fsmd_answers.specs.Verdicts.{IsJudged, verdict_on}
+use Rattle.fsmd_answers.specs.Links.{AtLink, links_of, IsOfChain}
+use Rattle.fsmd_replies.specs.Replies.{lines_of}
+use Rattle.fsmd_answers.specs.Follows.{Judges, Fails, Holds, OpensMachine, OpensLink, OpensLinks, FollowsFrom}
 use Rattle.fsmd_tool.specs.Asking.{is_chain}
 use Rattle.fsmd_tool.specs.Calls.{Call, held, MayHold, MayRead, IsCorrectFrom}
-use Rattle.fsmd_tool.specs.Puts.{Put}
+use Rattle.fsmd_tool.specs.SinkReplies.{Put}
 use Rattle.fsmd_tool.specs.Correct.{Answered}
 use Rattle.fsmd_tool.specs.Clauses.{LinksHold, IsChained}
-use Rattle.fsmd_tool.proofs.Statuses.{HasStatus, is_refusal, not_refused, machine_refuses, pair_refuses, certificate_refuses, link_refuses, link_status, judged_yes}
+use Rattle.fsmd_tool.proofs.Statuses.{HasStatus, is_refusal, not_refused, machine_refuses, pair_refuses, certificate_refuses, link_refuses, link_status}
+use Rattle.fsmd_tool.proofs.Statuses.{judged_yes}
 use Rattle.fsmd_tool.proofs.Linked.{judges, certificates, nexts}
 use Rattle.fsmd_tool.proofs.Found.{open_next, end_of, alike_of}
 use Rattle.fsmd_tool.proofs.Says.{well, put_lines}

@@ -2,31 +2,31 @@
 use Rattle.std.proofs.Common.{◌≡◌, ◌+◌, ℕ, false, List, [], ◌∷◌, Option, Some, None, refl, sym, subst}
 use Rattle.std.specs.Prelude.{IsTrue, is_some}
 use Rattle.std.proofs.lemmas.Bool.{false≢true}
-use Rattle.command_words.specs.Words.{Asked, Check, Verify, Generate}
-use Rattle.fs_base.specs.Outside.{Held}
+use Rattle.fsmd_words.specs.AskedWords.{Asked, Check, Verify, Generate}
+use Rattle.fs_base.specs.Outside.{FileKnowledge}
 use Rattle.fs_model.specs.Machines.{Fsmd}
 use Rattle.fs_pair.specs.Interfaces.{interface_fault}
-use Rattle.bisimulation.specs.Tables.{Node}
+use Rattle.cert_bisimulation.specs.Tables.{Node}
 use Rattle.sym_facts.specs.Facts.{Fact}
-use Rattle.command_answers.specs.declared.answer.Operand.{Operand}
-use Rattle.command_answers.specs.declared.answer.Status.{Status}
-use Rattle.command_answers.specs.declared.answer.Answer.{Answer}
-use Rattle.command_answers.specs.Words.{operand, compares, is_check, is_verify, cert_of, step_limit}
-use Rattle.command_answers.specs.Texts.{SpellsMachine}
-use Rattle.command_answers.specs.Readings.{Content, Readable, Unreadable, OfBytes, Reading}
-use Rattle.command_answers.specs.Refusals.{RefusesMachine, RefusesPair, RefusesCertificate, SpellsCertificate}
-use Rattle.command_answers.specs.Pairs.{IsOfPair, left_of, right_of}
-use Rattle.command_answers.specs.Verdicts.{IsJudged}
-use Rattle.command_answers.specs.Follows.{Ends, Opens, Refused, Spelled, Pairs, Other, Alike, OpensMachine, OpensCertificate, OpensPair, FollowsFrom}
-use Rattle.command_answers.proofs.Loops.{loops_alike}
+use Rattle.fsmd_replies.specs.declared.answer.Operand.{Operand}
+use Rattle.fsmd_replies.specs.declared.answer.Status.{Status}
+use Rattle.fsmd_replies.specs.declared.answer.Answer.{Answer}
+use Rattle.fsmd_replies.specs.AskedFiles.{operand, compares, is_check, is_verify, cert_of, step_limit}
+use Rattle.fsmd_answers.specs.MachineFiles.{SpellsMachine}
+use Rattle.fsmd_answers.specs.Readings.{FileContent, Readable, Unreadable, OfBytes, Reading}
+use Rattle.fsmd_answers.specs.Refusals.{RefusesMachine, RefusesPair, RefusesCertificate, SpellsCertificate}
+use Rattle.fsmd_answers.specs.MachinePairAnswers.{IsOfPair, left_of, right_of}
+use Rattle.fsmd_answers.specs.Verdicts.{IsJudged}
+use Rattle.fsmd_answers.specs.Follows.{Ends, Opens, Refused, Spelled, ComparesPairs, Other, Alike, OpensMachine, OpensCertificate, OpensPair, FollowsFrom}
+use Rattle.fsmd_answers.proofs.Loops.{loops_alike}
 use Rattle.fsmd_tool.specs.Calls.{Call, held, FailedToRead, MayBeRead, MayHold, MayRead, IsCorrectFrom}
 use Rattle.fsmd_tool.specs.Correct.{IsCorrectAnswer}
-use Rattle.fsmd_tool.specs.Clauses.{ArePaired, OfFiles, OfLoops}
+use Rattle.fsmd_tool.specs.Equivalent.{ArePairedMachines, OfFiles, OfLoops}
 use Rattle.fsmd_tool.proofs.Statuses.{HasStatus, is_refusal, not_refused, machine_refuses, pair_refuses, certificate_refuses}
 
 -- ---- files one after another
 
-may_hold : (k : Held) (F : Type 0) (c : Content) (P : List ℕ → Type 0) → MayBeRead k F c → OfBytes c P → MayHold k P
+may_hold : (k : FileKnowledge) (F : Type 0) (c : FileContent) (P : List ℕ → Type 0) → MayBeRead k F c → OfBytes c P → MayHold k P
 may_hold k F (Readable bytes) P m h = record { bytes = bytes; may = m; meet = h }
 may_hold k F Unreadable P m h = absurd h
 
@@ -36,9 +36,10 @@ pub record Opened (T : Type 0) (S : T → List ℕ → Type 0) (P : T → (file 
   pub spells : MayHold (held g (operand n)) (S value)
   pub rest : IsCorrectFrom (P value) (n + 1) g x
 
-module _ (T : Type 0) (R : Operand → Content → Answer → Type 0) (S : T → List ℕ → Type 0) (P : T → (file : ℕ) → Reading → Answer → Type 0) (n : ℕ) (g : Call)
+module _ (T : Type 0) (R : Operand → FileContent → Answer → Type 0) (S : T → List ℕ → Type 0) (P : T → (file : ℕ) → Reading → Answer → Type 0)
+    (n : ℕ) (g : Call)
     (x : Answer) where
-  opened : (r : Reading) → ((c : Content) → R (operand n) c x → ⊥) → MayRead g n r → Opens T R S P n r x → Opened T S P n g x
+  opened : (r : Reading) → ((c : FileContent) → R (operand n) c x → ⊥) → MayRead g n r → Opens T R S P n r x → Opened T S P n g x
   opened [] never may o = absurd o
   opened (c ∷ rest) never may (Refused p e) = absurd (never c p)
   opened (c ∷ rest) never may (Spelled v h p) = record {
@@ -48,7 +49,7 @@ module _ (T : Type 0) (R : Operand → Content → Answer → Type 0) (S : T →
   }
 
   -- the next file is not refused
-  pub open_next : ((c : Content) → R (operand n) c x → ⊥) → IsCorrectFrom (Opens T R S P) n g x → Opened T S P n g x
+  pub open_next : ((c : FileContent) → R (operand n) c x → ⊥) → IsCorrectFrom (Opens T R S P) n g x → Opened T S P n g x
   open_next never c = opened c.reading never c.may_be_read c.follows
 
 -- no file more is opened
@@ -65,11 +66,11 @@ pub record HaveTheSame (a b : Fsmd) (P : (file : ℕ) → Reading → Answer →
   pub rest : IsCorrectFrom P n g x
 
 module _ (a b : Fsmd) (R : Answer → Type 0) (P : (file : ℕ) → Reading → Answer → Type 0) (n : ℕ) (g : Call) (x : Answer) where
-  have_the_same : (r : Reading) → (R x → ⊥) → MayRead g n r → Pairs a b R P n r x → HaveTheSame a b P n g x
+  have_the_same : (r : Reading) → (R x → ⊥) → MayRead g n r → ComparesPairs a b R P n r x → HaveTheSame a b P n g x
   have_the_same r never may (Other p e) = absurd (never p)
   have_the_same r never may (Alike e p) = record { alike = e; rest = record { reading = r; may_be_read = may; follows = p } }
 
-  pub alike_of : (R x → ⊥) → IsCorrectFrom (Pairs a b R P) n g x → HaveTheSame a b P n g x
+  pub alike_of : (R x → ⊥) → IsCorrectFrom (ComparesPairs a b R P) n g x → HaveTheSame a b P n g x
   alike_of never c = have_the_same c.reading never c.may_be_read c.follows
 
 -- ---- two files of machines
@@ -85,13 +86,13 @@ pub record OfPair (P : (a b : Fsmd) → (file : ℕ) → Reading → Answer → 
 
 module _ (P : (a b : Fsmd) → (file : ℕ) → Reading → Answer → Type 0) (g : Call) (s : Status) (x : Answer) (away : is_refusal s ≡ false) (e : HasStatus s x)
   where
-    no_machine : (n : ℕ) (c : Content) → RefusesMachine (operand n) c x → ⊥
+    no_machine : (n : ℕ) (c : FileContent) → RefusesMachine (operand n) c x → ⊥
     no_machine n c p = not_refused s x away (machine_refuses (operand n) c x p) e
 
     pub of_pair : IsCorrectFrom (OpensPair P) 0 g x → OfPair P g x
     of_pair c =
-        let a = open_next Fsmd RefusesMachine SpellsMachine (λ v. OpensMachine (λ w. Pairs v w (RefusesPair v w) (P v w))) 0 g x (no_machine 0) c in
-        let b = open_next Fsmd RefusesMachine SpellsMachine (λ w. Pairs a.value w (RefusesPair a.value w) (P a.value w)) 1 g x (no_machine 1) a.rest in
+        let a = open_next Fsmd RefusesMachine SpellsMachine (λ v. OpensMachine (λ w. ComparesPairs v w (RefusesPair v w) (P v w))) 0 g x (no_machine 0) c in
+        let b = open_next Fsmd RefusesMachine SpellsMachine (λ w. ComparesPairs a.value w (RefusesPair a.value w) (P a.value w)) 1 g x (no_machine 1) a.rest in
         let k = alike_of a.value b.value (RefusesPair a.value b.value) (P a.value b.value) 2 g x
         (λ p. not_refused s x away (pair_refuses a.value b.value x p) e) b.rest in
         record { left = a.value; right = b.value; first = a.spells; second = b.spells; alike = k.alike; rest = k.rest }
@@ -101,7 +102,7 @@ module _ (P : (a b : Fsmd) → (file : ℕ) → Reading → Answer → Type 0) (
 pub record Compared (g : Call) (x : Answer) : Type 0 where
   pub left : Fsmd
   pub right : Fsmd
-  pub paired : ArePaired g left right
+  pub paired : ArePairedMachines g left right
   pub answer : IsOfPair (step_limit g.asked) (is_some (cert_of g.asked)) left right x
 
 module _ (g : Call) (s : Status) (x : Answer) (away : is_refusal s ≡ false) (e : HasStatus s x) where

@@ -1,17 +1,18 @@
 -- What holds of a call holds of it where it began before, or where it ends later.
 use Rattle.std.proofs.Common.{◌≡◌, ◌≤◌, ◌<◌, ◌+◌, ◌⊎◌, ◌∙◌, ℕ, List, [], ◌∷◌, Option, refl, subst, inl, inr, arith}
 use Rattle.std.specs.Prelude.{Result}
-use Rattle.command_words.specs.Words.{Asked}
-use Rattle.fs_base.specs.Outside.{Held, FilesTold, Rose, NoneFell, SameHeld, OthersHeld, AreHeld, held_after, last_count}
-use Rattle.command_answers.specs.declared.answer.Status.{Status}
-use Rattle.command_answers.specs.declared.answer.Answer.{Answer}
-use Rattle.command_answers.specs.declared.answer.Operand.{Operand}
-use Rattle.command_answers.specs.declared.refused.Refused.{Refused as Refusal}
-use Rattle.command_answers.specs.Words.{operand, word_of}
-use Rattle.command_answers.specs.Readings.{Content, Readable, Unreadable, Reading}
+use Rattle.fsmd_words.specs.AskedWords.{Asked}
+use Rattle.fs_base.specs.Outside.{FileKnowledge, FilesTold, Rose, NoneFell, SameHeld, OthersHeld, AreHeld, held_after, last_count}
+use Rattle.fsmd_replies.specs.declared.answer.Status.{Status}
+use Rattle.fsmd_replies.specs.declared.answer.Answer.{Answer}
+use Rattle.fsmd_replies.specs.declared.answer.Operand.{Operand}
+use Rattle.fsmd_answers.specs.declared.refused.Refused.{Refused as Refusal}
+use Rattle.fsmd_replies.specs.AskedFiles.{operand, file_word_of}
+use Rattle.fsmd_answers.specs.Readings.{FileContent, Readable, Unreadable, Reading}
 use Rattle.fsmd_tool.specs.Calls.{Call, call, OnlyRead, held, FailedToRead, MayBeRead, MayHold, MayRead, IsCorrectFrom, AnswersBy}
-use Rattle.fsmd_tool.specs.Puts.{Put}
-use Rattle.fsmd_tool.specs.Stores.{stores, IsKept, IsStored, IsUnstored, Entry, Leaves, LeftAlone, LeftStored, LeftUnstored, NotStored, Untouched, Failed}
+use Rattle.fsmd_tool.specs.SinkReplies.{Put}
+use Rattle.fsmd_tool.specs.CertificateStores.{stores, IsUnchangedStore, IsStoredUnder, IsUnstored, StoreEntry, Leaves, LeftAlone, LeftStored, LeftUnstored}
+use Rattle.fsmd_tool.specs.CertificateStores.{NotStored, Untouched, Failed}
 use Rattle.fsmd_tool.specs.Correct.{IsDone, Kept, Stored, Unstored}
 use Rattle.fsmd_tool.proofs.FromFiles.{answers_map}
 
@@ -36,15 +37,16 @@ rose_since a b c h (inr last) = inr last
 -- ---- what may have been read
 
 -- what is known, and that it failed to be read, may be said of a file at another time
-may_kept : (h k : Held) (F G : Type 0) → h ≡ k → (F → G) → (c : Content) → MayBeRead h F c → MayBeRead k G c
+may_kept : (h k : FileKnowledge) (F G : Type 0) → h ≡ k → (F → G) → (c : FileContent) → MayBeRead h F c → MayBeRead k G c
 may_kept h k F G e f (Readable bytes) m = subst (λ o. AreHeld o bytes) e m
 may_kept h k F G e f Unreadable m = f m
 
-pub hold_kept : (h k : Held) (P : List ℕ → Type 0) → h ≡ k → MayHold h P → MayHold k P
+pub hold_kept : (h k : FileKnowledge) (P : List ℕ → Type 0) → h ≡ k → MayHold h P → MayHold k P
 hold_kept h k P e m = record { bytes = m.bytes; may = subst (λ o. AreHeld o m.bytes) e m.may; meet = m.meet }
 
 -- in another call the same may have been read, where that is so of each file
-module _ (g k : Call) (each : (file : Operand) (c : Content) → MayBeRead (held g file) (FailedToRead g file) c → MayBeRead (held k file) (FailedToRead k file)
+module _ (g k : Call)
+    (each : (file : Operand) (c : FileContent) → MayBeRead (held g file) (FailedToRead g file) c → MayBeRead (held k file) (FailedToRead k file)
     c) where
   pub read_map : (n : ℕ) (r : Reading) → MayRead g n r → MayRead k n r
   read_map n [] m = tt
@@ -55,12 +57,13 @@ module _ (g k : Call) (each : (file : Operand) (c : Content) → MayBeRead (held
 
 -- in a call that began before, where files were only read until then
 module _ (o : Option Asked) (old mid now : FilesTold) (read : OnlyRead old mid) where
-  each_since : (file : Operand) (c : Content) → MayBeRead (held (call o mid now) file) (FailedToRead (call o mid now) file) c
+  pub each_since : (file : Operand) (c : FileContent) → MayBeRead (held (call o mid now) file) (FailedToRead (call o mid now) file) c
       → MayBeRead (held (call o old now) file) (FailedToRead (call o old now) file) c
   each_since file c m =
-      may_kept (mid.holds (word_of o file)) (old.holds (word_of o file)) (FailedToRead (call o mid now) file) (FailedToRead (call o old now) file)
-      (read.unchanged (word_of o file))
-      (λ rose. rose_since (old.faults (word_of o file)) (mid.faults (word_of o file)) (now.faults (word_of o file)) (read.counts (word_of o file)) rose) c m
+      may_kept (mid.holds (file_word_of o file)) (old.holds (file_word_of o file)) (FailedToRead (call o mid now) file) (FailedToRead (call o old now) file)
+      (read.unchanged (file_word_of o file))
+      (λ rose. rose_since (old.faults (file_word_of o file)) (mid.faults (file_word_of o file)) (now.faults (file_word_of o file))
+      (read.counts (file_word_of o file)) rose) c m
 
   pub correct_since : (P : (file : ℕ) → Reading → Answer → Type 0) (n : ℕ) (x : Answer) → IsCorrectFrom P n (call o mid now) x
       → IsCorrectFrom P n (call o old now) x
@@ -72,12 +75,13 @@ module _ (o : Option Asked) (old mid now : FilesTold) (read : OnlyRead old mid) 
 
 -- in a call that ends later, where no count of faults falls
 module _ (o : Option Asked) (old mid now : FilesTold) (begin : NoneFell old.faults mid.faults) (end : NoneFell mid.faults now.faults) where
-  each_until : (file : Operand) (c : Content) → MayBeRead (held (call o old mid) file) (FailedToRead (call o old mid) file) c
+  pub each_until : (file : Operand) (c : FileContent) → MayBeRead (held (call o old mid) file) (FailedToRead (call o old mid) file) c
       → MayBeRead (held (call o old now) file) (FailedToRead (call o old now) file) c
   each_until file c m =
-      may_kept (old.holds (word_of o file)) (old.holds (word_of o file)) (FailedToRead (call o old mid) file) (FailedToRead (call o old now) file) refl
-      (λ rose. rose_until (old.faults (word_of o file)) (mid.faults (word_of o file)) (now.faults (word_of o file)) (begin (word_of o file))
-      (end (word_of o file)) rose) c m
+      may_kept (old.holds (file_word_of o file)) (old.holds (file_word_of o file)) (FailedToRead (call o old mid) file)
+      (FailedToRead (call o old now) file) refl
+      (λ rose. rose_until (old.faults (file_word_of o file)) (mid.faults (file_word_of o file)) (now.faults (file_word_of o file)) (begin (file_word_of o file))
+      (end (file_word_of o file)) rose) c m
 
   pub correct_until : (P : (file : ℕ) → Reading → Answer → Type 0) (n : ℕ) (x : Answer) → IsCorrectFrom P n (call o old mid) x
       → IsCorrectFrom P n (call o old now) x
@@ -85,13 +89,14 @@ module _ (o : Option Asked) (old mid now : FilesTold) (begin : NoneFell old.faul
 
 -- ---- what was stored
 
-others_since : (name : List ℕ) (old mid now : List ℕ → Held) → SameHeld old mid → OthersHeld name mid now → OthersHeld name old now
+others_since : (name : List ℕ) (old mid now : List ℕ → FileKnowledge) → SameHeld old mid → OthersHeld name mid now → OthersHeld name old now
 others_since name old mid now same o = λ other away. o other away ∙ same other
 
-kept_since : (old mid now : FilesTold) → OnlyRead old mid → IsKept (stores mid now) → IsKept (stores old now)
+kept_since : (old mid now : FilesTold) → OnlyRead old mid → IsUnchangedStore (stores mid now) → IsUnchangedStore (stores old now)
 kept_since old mid now r k = λ name. k name ∙ r.unchanged name
 
-stored_since : (name bytes : List ℕ) (old mid now : FilesTold) → OnlyRead old mid → IsStored name bytes (stores mid now) → IsStored name bytes (stores old now)
+stored_since : (name bytes : List ℕ) (old mid now : FilesTold) → OnlyRead old mid → IsStoredUnder name bytes (stores mid now)
+    → IsStoredUnder name bytes (stores old now)
 stored_since name bytes old mid now r s =
     record {
       stored = subst (λ k. now.holds name ≡ held_after k bytes) (r.unchanged name) s.stored;
@@ -105,17 +110,17 @@ unstored_since name old mid now r s = record {
 }
 
 -- what was held until the store
-pub done_since : (e : Option Entry) (reply : List ℕ) (meant : Status) (old mid now : FilesTold) (p : Put) → OnlyRead old mid
+pub done_since : (e : Option StoreEntry) (reply : List ℕ) (meant : Status) (old mid now : FilesTold) (p : Put) → OnlyRead old mid
     → IsDone e reply meant (stores mid now) p → IsDone e reply meant (stores old now) p
 done_since e reply meant old mid now p r (Kept none k put) = Kept none (kept_since old mid now r k) put
 done_since e reply meant old mid now p r (Stored x is s put) = Stored x is (stored_since x.name x.bytes old mid now r s) put
 done_since e reply meant old mid now p r (Unstored x is u put) = Unstored x is (unstored_since x.name old mid now r u) put
 
-pub not_stored_since : (e : Option Entry) (old mid now : FilesTold) → OnlyRead old mid → NotStored e (stores mid now) → NotStored e (stores old now)
+pub not_stored_since : (e : Option StoreEntry) (old mid now : FilesTold) → OnlyRead old mid → NotStored e (stores mid now) → NotStored e (stores old now)
 not_stored_since e old mid now r (Untouched k) = Untouched (kept_since old mid now r k)
 not_stored_since e old mid now r (Failed x is u) = Failed x is (unstored_since x.name old mid now r u)
 
-pub leaves_since : (e : Option Entry) (old mid now : FilesTold) → OnlyRead old mid → Leaves e (stores mid now) → Leaves e (stores old now)
+pub leaves_since : (e : Option StoreEntry) (old mid now : FilesTold) → OnlyRead old mid → Leaves e (stores mid now) → Leaves e (stores old now)
 leaves_since e old mid now r (LeftAlone k) = LeftAlone (kept_since old mid now r k)
 leaves_since e old mid now r (LeftStored x is s) = LeftStored x is (stored_since x.name x.bytes old mid now r s)
 leaves_since e old mid now r (LeftUnstored x is u) = LeftUnstored x is (unstored_since x.name old mid now r u)

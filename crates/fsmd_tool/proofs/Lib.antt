@@ -1,5 +1,7 @@
 pub mod FromFiles
 pub mod Later
+pub mod Loads
+pub mod InOrder
 pub mod Linked
 pub mod Statuses
 pub mod Found
@@ -10,3 +12,4 @@ pub mod Chained
 pub mod Causes
 pub mod Putting
 pub mod Alike
+pub mod Running

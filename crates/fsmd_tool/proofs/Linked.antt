@@ -3,33 +3,35 @@ use Rattle.std.proofs.Common.{◌≡◌, ◌≢◌, ◌∙◌, ℕ, zero, suc, �
 use Rattle.std.specs.Prelude.{Result, Ok, Err, IfOk, OnOk, None}
 use Rattle.std.proofs.lemmas.List.{length-map}
 use Rattle.std.specs.Result.{IfErr}
-use Rattle.command_words.specs.Words.{Asked}
+use Rattle.fsmd_words.specs.AskedWords.{Asked}
 use Rattle.fs_base.specs.Outside.{FilesTold}
 use Rattle.fs_model.specs.Machines.{Fsmd}
 use Rattle.fs_pair.specs.Interfaces.{interface_fault}
-use Rattle.bisimulation.specs.Tables.{Node}
+use Rattle.cert_bisimulation.specs.Tables.{Node}
 use Rattle.sym_facts.specs.Facts.{Fact}
-use Rattle.certificates.specs.Obligations.{Yes}
+use Rattle.cert_model.specs.Obligations.{Yes}
 use Rattle.hls_shrink.specs.Chains.{ChainEnds}
-use Rattle.command_answers.specs.declared.answer.Answer.{Answer}
-use Rattle.command_answers.specs.declared.answer.Answer.TheVariants.{Link}
-use Rattle.command_answers.specs.declared.refused.Refused.{Refused as Refusal}
-use Rattle.command_answers.specs.declared.refused.Refused.TheVariants.{Answered}
-use Rattle.command_answers.specs.Statuses.{status_of}
-use Rattle.command_answers.specs.Words.{operand}
-use Rattle.command_answers.specs.Texts.{SpellsMachine}
-use Rattle.command_answers.specs.Readings.{Reading}
-use Rattle.command_answers.specs.Refusals.{RefusesMachine, RefusesPair, RefusesCertificate, SpellsCertificate}
-use Rattle.command_answers.specs.Refusing.{WhereAnswered}
-use Rattle.command_answers.specs.Verdicts.{IsJudged, verdict_on}
-use Rattle.command_answers.specs.Links.{AtLink, link_lines, links_in, links_of, IsOfChain}
-use Rattle.command_answers.specs.Follows.{Opens, Pairs, Judges, Fails, Holds, OpensCertificate, OpensLink, OpensLinks}
-use Rattle.command_answers.proofs.Maps.{answer_map, err_map}
-use Rattle.fsmd_tool.specs.Calls.{Call, call, OnlyRead, held, MayHold, IsCorrectFrom}
-use Rattle.fsmd_tool.specs.Loading.{Gives, NothingFollows, RefusesNext, RefusesLink}
+use Rattle.fsmd_replies.specs.declared.answer.Answer.{Answer}
+use Rattle.fsmd_replies.specs.declared.answer.Answer.TheVariants.{Link}
+use Rattle.fsmd_answers.specs.declared.refused.Refused.{Refused as Refusal}
+use Rattle.fsmd_answers.specs.declared.refused.Refused.TheVariants.{Answered}
+use Rattle.fsmd_replies.specs.Statuses.{status_of}
+use Rattle.fsmd_replies.specs.AskedFiles.{operand}
+use Rattle.fsmd_answers.specs.MachineFiles.{SpellsMachine}
+use Rattle.fsmd_answers.specs.Readings.{Readable, Reading}
+use Rattle.fsmd_answers.specs.Refusals.{RefusesMachine, RefusesPair, RefusesCertificate, SpellsCertificate}
+use Rattle.fsmd_answers.specs.Refusing.{WhereAnswered}
+use Rattle.fsmd_answers.specs.Verdicts.{IsJudged, verdict_on}
+use Rattle.fsmd_answers.specs.Links.{AtLink, link_lines, links_in, links_of, IsOfChain}
+use Rattle.fsmd_answers.specs.Follows.{Opens, Refused, Spelled, ComparesPairs, Alike, Judges, Fails, Holds, OpensCertificate, OpensLink, OpensLinks}
+use Rattle.fsmd_answers.proofs.Maps.{answer_map, err_map}
+use Rattle.fsmd_tool.specs.Calls.{Call, call, OnlyRead, LoadsFrom, LoadsAtMost, held, MayHold, IsCorrectFrom, IsCorrectInOrder}
+use Rattle.fsmd_tool.specs.Loading.{GivesContent, NothingFollows, RefusesNext, RefusesLink}
 use Rattle.fsmd_tool.specs.Clauses.{LinkHolds}
-use Rattle.fsmd_tool.proofs.FromFiles.{ended, refused, spelled, alike, opens_map, pairs_map}
-use Rattle.fsmd_tool.proofs.Later.{correct_since}
+use Rattle.fsmd_tool.proofs.FromFiles.{opens_map, pairs_map}
+use Rattle.fsmd_tool.proofs.Later.{read_map, each_since}
+use Rattle.fsmd_tool.proofs.Loads.{loads_none, loads_on, at_most, at_most_on, fewer}
+use Rattle.fsmd_tool.proofs.InOrder.{ended_in_order}
 
 -- ---- the files of a link
 
@@ -43,35 +45,49 @@ certificates o k last next P = Opens (List (Node Fact)) (λ f c. AtLink o k (Ref
     (judges o k last next P)
 
 abbrev pub nexts : Option Asked → (k : ℕ) → (last : Fsmd) → (P : Fsmd → (file : ℕ) → Reading → Answer → Type 0) → Fsmd → (file : ℕ) → Reading → Answer → Type 0
-nexts o k last P next = Pairs last next (AtLink o k (RefusesPair last next)) (certificates o k last next (P next))
+nexts o k last P next = ComparesPairs last next (AtLink o k (RefusesPair last next)) (certificates o k last next (P next))
 
 abbrev refused_nexts : (last next : Fsmd) → (file : ℕ) → Reading → Answer → Type 0
-refused_nexts last next = Pairs last next (RefusesPair last next) (OpensCertificate last next (λ nodes. NothingFollows))
+refused_nexts last next = ComparesPairs last next (RefusesPair last next) (OpensCertificate last next (λ nodes. NothingFollows))
 
 -- a refusal of the next machine is one of the link
 pub next_refused : (last : Fsmd) (n : ℕ) (r : Reading) (x : Answer) → RefusesNext last n r x → RefusesLink last n r x
 next_refused last n r x h =
-    opens_map Fsmd RefusesMachine RefusesMachine SpellsMachine (λ b. Pairs last b (RefusesPair last b) NothingFollows) (refused_nexts last) x x (λ f c p. p)
+    opens_map Fsmd RefusesMachine RefusesMachine SpellsMachine (λ b. ComparesPairs last b (RefusesPair last b) NothingFollows)
+    (refused_nexts last) x x (λ f c p. p)
     (λ b. pairs_map last b (RefusesPair last b) (RefusesPair last b) NothingFollows (OpensCertificate last b (λ nodes. NothingFollows)) x x (λ p. p)
     (λ m q p. absurd p)) n r h
 
-pub next_refused_as : (last : Fsmd) (n : ℕ) (g : Call) (e : Refusal) → WhereAnswered (IsCorrectFrom (RefusesNext last) n g) e
-    → WhereAnswered (IsCorrectFrom (RefusesLink last) n g) e
+pub next_refused_as : (last : Fsmd) (n : ℕ) (g : Call) (e : Refusal) → WhereAnswered (IsCorrectInOrder (RefusesNext last) n g) e
+    → WhereAnswered (IsCorrectInOrder (RefusesLink last) n g) e
 next_refused_as last n g e w =
-    answer_map (IsCorrectFrom (RefusesNext last) n g) (IsCorrectFrom (RefusesLink last) n g)
-    (λ x c. record { reading = c.reading; may_be_read = c.may_be_read; follows = next_refused last n c.reading x c.follows }) e w
+    answer_map (IsCorrectInOrder (RefusesNext last) n g) (IsCorrectInOrder (RefusesLink last) n g)
+    (λ x d. record {
+      correct = record {
+        reading = d.correct.reading;
+        may_be_read = d.correct.may_be_read;
+        follows = next_refused last n d.correct.reading x d.correct.follows;
+      };
+      loads = d.loads;
+    }) e w
 
 -- and so is a refusal of the certificate, which was loaded behind the machine
 pub certificate_refused : (o : Option Asked) (old mid now : FilesTold) (last next : Fsmd) (n : ℕ) (e : Refusal) → OnlyRead old mid
+    → LoadsFrom o n 1 old mid → LoadsFrom o (n + 1) 1 mid now
     → MayHold (held (call o old now) (operand n)) (SpellsMachine next) → interface_fault last next ≡ None
-    → WhereAnswered (Gives (call o mid now) (operand (n + 1)) (RefusesCertificate last next (operand (n + 1)))) e
-    → WhereAnswered (IsCorrectFrom (RefusesLink last) n (call o old now)) e
-certificate_refused o old mid now last next n e read machine same w =
-    answer_map (Gives (call o mid now) (operand (n + 1)) (RefusesCertificate last next (operand (n + 1)))) (IsCorrectFrom (RefusesLink last) n (call o old now))
-    (λ x m. spelled Fsmd RefusesMachine SpellsMachine (refused_nexts last) n (call o old now) next x machine
-    (alike last next (RefusesPair last next) (OpensCertificate last next (λ nodes. NothingFollows)) (n + 1) (call o old now) x same
-    (correct_since o old mid now read (OpensCertificate last next (λ nodes. NothingFollows)) (n + 1) x
-    (refused (List (Node Fact)) (RefusesCertificate last next) (SpellsCertificate last next) (λ nodes. NothingFollows) (n + 1) (call o mid now) x m)))) e w
+    → WhereAnswered (GivesContent (call o mid now) (operand (n + 1)) (RefusesCertificate last next (operand (n + 1)))) e
+    → WhereAnswered (IsCorrectInOrder (RefusesLink last) n (call o old now)) e
+certificate_refused o old mid now last next n e read first second machine same w =
+    answer_map (GivesContent (call o mid now) (operand (n + 1)) (RefusesCertificate last next (operand (n + 1))))
+    (IsCorrectInOrder (RefusesLink last) n (call o old now))
+    (λ x m. record {
+      correct = record {
+        reading = Readable machine.bytes ∷ m.content ∷ [];
+        may_be_read = (machine.may, (each_since o old mid now read (operand (n + 1)) m.content m.may, tt));
+        follows = Spelled next machine.meet (Alike same (Refused m.meets refl));
+      };
+      loads = loads_on o n 1 1 (n + 1) 2 old mid now refl (omega arith) first second;
+    }) e w
 
 -- a refusal of the files of a link, told as that of the link
 module _ (o : Option Asked) (k : ℕ) (last : Fsmd) (P : Fsmd → (file : ℕ) → Reading → Answer → Type 0) (stop x : Answer)
@@ -90,41 +106,55 @@ module _ (o : Option Asked) (k : ℕ) (last : Fsmd) (P : Fsmd → (file : ℕ) �
       (λ f c e. at (RefusesCertificate last b f c) e) (λ v j s e. absurd e) i q p)) n r h
 
 pub link_refused : (o : Option Asked) (k : ℕ) (last : Fsmd) (P : Fsmd → (file : ℕ) → Reading → Answer → Type 0) (n : ℕ) (g : Call) (e told : Refusal)
-    → WhereAnswered (IsCorrectFrom (RefusesLink last) n g) e → WhereAnswered (AtLink o k (λ stop. e ≡ Answered stop)) told
-    → WhereAnswered (IsCorrectFrom (OpensLink o k last P) n g) told
+    → WhereAnswered (IsCorrectInOrder (RefusesLink last) n g) e → WhereAnswered (AtLink o k (λ stop. e ≡ Answered stop)) told
+    → WhereAnswered (IsCorrectInOrder (OpensLink o k last P) n g) told
 link_refused o k last P n g e told h t =
-    answer_map (AtLink o k (λ stop. e ≡ Answered stop)) (IsCorrectFrom (OpensLink o k last P) n g)
+    answer_map (AtLink o k (λ stop. e ≡ Answered stop)) (IsCorrectInOrder (OpensLink o k last P) n g)
     (λ x l.
-    let c : IsCorrectFrom (RefusesLink last) n g l.stop = subst (WhereAnswered (IsCorrectFrom (RefusesLink last) n g)) l.meets h in
-    record { reading = c.reading; may_be_read = c.may_be_read; follows = told_at_link o k last P l.stop x l.is n c.reading c.follows }) told t
+    let d : IsCorrectInOrder (RefusesLink last) n g l.stop = subst (WhereAnswered (IsCorrectInOrder (RefusesLink last) n g)) l.meets h in
+    record {
+      correct = record {
+        reading = d.correct.reading;
+        may_be_read = d.correct.may_be_read;
+        follows = told_at_link o k last P l.stop x l.is n d.correct.reading d.correct.follows;
+      };
+      loads = d.loads;
+    }) told t
 
 -- ---- a link
 
--- both files of a link, where its certificate is judged
-module _ (o : Option Asked) (k : ℕ) (last : Fsmd) (P : Fsmd → (file : ℕ) → Reading → Answer → Type 0) (n : ℕ) (g : Call) (next : Fsmd)
-    (nodes : List (Node Fact))
-    (machine : MayHold (held g (operand n)) (SpellsMachine next)) (same : interface_fault last next ≡ None)
-    (cert : MayHold (held g (operand (n + 1))) (SpellsCertificate last next nodes)) where
-  pub link_judged : (x : Answer) → IsCorrectFrom (Judges o k last next nodes (P next)) (n + 1 + 1) g x → IsCorrectFrom (OpensLink o k last P) n g x
-  link_judged x c =
-      spelled Fsmd (λ f d. AtLink o k (RefusesMachine f d)) SpellsMachine (nexts o k last P) n g next x machine
-      (alike last next (AtLink o k (RefusesPair last next)) (certificates o k last next (P next)) (n + 1) g x same
-      (spelled (List (Node Fact)) (λ f d. AtLink o k (RefusesCertificate last next f d)) (SpellsCertificate last next) (judges o k last next (P next)) (n + 1)
-      g nodes x cert c))
+-- both files of a link were loaded, and the verdict on its certificate is not yes
+pub link_fails : (o : Option Asked) (k : ℕ) (last : Fsmd) (P : Fsmd → (file : ℕ) → Reading → Answer → Type 0) (n : ℕ) (g : Call) (next : Fsmd)
+    (nodes : List (Node Fact)) → MayHold (held g (operand n)) (SpellsMachine next) → interface_fault last next ≡ None
+    → MayHold (held g (operand (n + 1))) (SpellsCertificate last next nodes) → LoadsFrom g.asked n 2 g.before g.now → (x : Answer)
+    → (verdict_on last next nodes ≢ Yes) × AtLink o k (IsJudged last next nodes) x → IsCorrectInOrder (OpensLink o k last P) n g x
+link_fails o k last P n g next nodes machine same cert both x h = record {
+  correct = record {
+    reading = Readable machine.bytes ∷ Readable cert.bytes ∷ [];
+    may_be_read = (machine.may, (cert.may, tt));
+    follows = Spelled next machine.meet (Alike same (Spelled nodes cert.meet (Fails h.0 h.1 refl)));
+  };
+  loads = both;
+}
 
-  -- its verdict is not yes
-  pub link_fails : (x : Answer) → (verdict_on last next nodes ≢ Yes) × AtLink o k (IsJudged last next nodes) x → IsCorrectFrom (OpensLink o k last P) n g x
-  link_fails x h = link_judged x (record { reading = []; may_be_read = tt; follows = Fails h.0 h.1 refl })
-
--- the link holds
-pub link_holds : (o : Option Asked) (k : ℕ) (last : Fsmd) (P : Fsmd → (file : ℕ) → Reading → Answer → Type 0) (n : ℕ) (g : Call) (Q : Fsmd → Type 0)
-    (h : LinkHolds g n last Q) (x : Answer)
-    → IsCorrectFrom (P h.next) (n + 2) g x → IsCorrectFrom (OpensLink o k last P) n g x
-link_holds o k last P n g Q h x c =
-    let two : n + 2 ≡ n + 1 + 1 = omega arith in
-    let d : IsCorrectFrom (P h.next) (n + 1 + 1) g x = subst (λ i. IsCorrectFrom (P h.next) i g x) two c in
-    link_judged o k last P n g h.next h.nodes h.machine h.alike h.certificate x
-    (record { reading = d.reading; may_be_read = d.may_be_read; follows = Holds h.hold d.follows })
+-- both files of a link were loaded, the link holds, and then what is behind it was loaded
+pub link_holds : (o asked : Option Asked) (k : ℕ) (last : Fsmd) (P : Fsmd → (file : ℕ) → Reading → Answer → Type 0) (n : ℕ) (old mid now : FilesTold)
+    (Q : Fsmd → Type 0) (h : LinkHolds (call o old mid) n last Q) (x : Answer) → OnlyRead old mid → LoadsFrom o n 2 old mid
+    → IsCorrectInOrder (P h.next) (n + 1 + 1) (call o mid now) x → IsCorrectInOrder (OpensLink asked k last P) n (call o old now) x
+link_holds o asked k last P n old mid now Q h x read both c = record {
+  correct = record {
+    reading = Readable h.machine.bytes ∷ Readable h.certificate.bytes ∷ c.correct.reading;
+    may_be_read = (
+      h.machine.may,
+      (
+        h.certificate.may,
+        read_map (call o mid now) (call o old now) (each_since o old mid now read) (n + 1 + 1) c.correct.reading c.correct.may_be_read,
+      ),
+    );
+    follows = Spelled h.next h.machine.meet (Alike h.alike (Spelled h.nodes h.certificate.meet (Holds h.hold c.correct.follows)));
+  };
+  loads = loads_on o n 2 (length c.correct.reading) (n + 1 + 1) (suc (suc (length c.correct.reading))) old mid now (omega arith) (omega arith) both c.loads;
+}
 
 -- a chain with one machine more has one link more that holds
 pub link_made : {E : Type 0} (n : ℕ) (g : Call) (last loaded next : Fsmd) (nodes : List (Node Fact)) → loaded ≡ last
@@ -145,16 +175,16 @@ link_made n g last loaded next nodes e machine same cert (Err x) hold is = tt
 -- and a chain that is given none has a link that fails
 pub link_unmade : {T : Type 0} (o : Option Asked) (k n : ℕ) (g : Call) (last loaded next : Fsmd) (nodes : List (Node Fact)) → loaded ≡ last
     → MayHold (held g (operand n)) (SpellsMachine next) → interface_fault loaded next ≡ None
-    → MayHold (held g (operand (n + 1))) (SpellsCertificate loaded next nodes) → (r : Result T Refusal)
+    → MayHold (held g (operand (n + 1))) (SpellsCertificate loaded next nodes) → LoadsFrom g.asked n 2 g.before g.now → (r : Result T Refusal)
     → IfErr r (WhereAnswered (λ x. (verdict_on last next nodes ≢ Yes) × AtLink o k (IsJudged last next nodes) x))
-    → IfErr r (WhereAnswered (IsCorrectFrom (OpensLink o k last (λ b. NothingFollows)) n g))
-link_unmade o k n g last loaded next nodes e machine same cert r h =
+    → IfErr r (WhereAnswered (IsCorrectInOrder (OpensLink o k last (λ b. NothingFollows)) n g))
+link_unmade o k n g last loaded next nodes e machine same cert both r h =
     let alike_too = subst (λ v. interface_fault v next ≡ None) e same in
     let certificate = subst (λ v. MayHold (held g (operand (n + 1))) (SpellsCertificate v next nodes)) e cert in
     let P : Answer → Type 0 = λ x. (verdict_on last next nodes ≢ Yes) × AtLink o k (IsJudged last next nodes) x in
-    let Q : Answer → Type 0 = IsCorrectFrom (OpensLink o k last (λ b. NothingFollows)) n g in
+    let Q : Answer → Type 0 = IsCorrectInOrder (OpensLink o k last (λ b. NothingFollows)) n g in
     err_map (WhereAnswered P) (WhereAnswered Q) (λ t w. answer_map P Q
-    (λ x f. link_fails o k last (λ b. NothingFollows) n g next nodes machine alike_too certificate x f) t w) r h
+    (λ x f. link_fails o k last (λ b. NothingFollows) n g next nodes machine alike_too certificate both x f) t w) r h
 
 -- what follows of a link whatever follows behind it
 judges_map : (o : Option Asked) (k : ℕ) (a b : Fsmd) (nodes : List (Node Fact)) (P : (file : ℕ) → Reading → Answer → Type 0) (n : ℕ) (r : Reading) (x : Answer)
@@ -175,15 +205,16 @@ link_map o k last P x n r h =
 
 -- ---- the links of a chain, one after another
 
--- of the links of a chain behind a machine so many hold: what follows from the files behind these, in a call that begins there,
--- follows from all
+-- of the links of a chain behind a machine so many hold, and their files were loaded: what follows from the files behind these, in
+-- a call that begins there, follows from all
 pub record LinksLead (o : Option Asked) (m : Fsmd) (links : ℕ) (old : FilesTold) (first last : Fsmd) (have : ℕ) (mid : FilesTold) : Type 0 where
   pub left : ℕ
   pub count : have + left ≡ links
   pub begin : first ≡ m
   pub read : OnlyRead old mid
-  pub leads : (now : FilesTold) (x : Answer) → IsCorrectFrom (OpensLinks o m last have left) (2 * have + 1) (call o mid now) x
-      → IsCorrectFrom (OpensLinks o m m 0 links) 1 (call o old now) x
+  pub loads : LoadsFrom o 1 (2 * have) old mid
+  pub leads : (now : FilesTold) (x : Answer) → IsCorrectInOrder (OpensLinks o m last have left) (2 * have + 1) (call o mid now) x
+      → IsCorrectInOrder (OpensLinks o m m 0 links) 1 (call o old now) x
 
 read_none : (old : FilesTold) → OnlyRead old old
 read_none old = record { counts = λ name. omega arith; store_counts = λ name. omega arith; unchanged = λ name. refl }
@@ -196,81 +227,95 @@ read_both old mid now r s = record {
 }
 
 module _ (o : Option Asked) (m : Fsmd) (links : ℕ) (old : FilesTold) where
+  -- what follows behind the links that hold follows from all
+  abbrev leads_from : (last : Fsmd) (have left : ℕ) (mid : FilesTold) → Type 0
+  leads_from last have left mid = (now : FilesTold) (x : Answer) → IsCorrectInOrder (OpensLinks o m last have left) (2 * have + 1) (call o mid now) x
+      → IsCorrectInOrder (OpensLinks o m m 0 links) 1 (call o old now) x
+
   pub links_begin : (first last : Fsmd) → first ≡ m → last ≡ m → LinksLead o m links old first last 0 old
   links_begin first last e f = record {
     left = links;
     count = omega arith;
     begin = e;
     read = read_none old;
-    leads = λ now x c. subst (λ v. IsCorrectFrom (OpensLinks o m v 0 links) 1 (call o old now) x) f c;
+    loads = loads_none o 1 old;
+    leads = λ now x c. subst (λ v. IsCorrectInOrder (OpensLinks o m v 0 links) 1 (call o old now) x) f c;
   }
 
   module _ (first last : Fsmd) (have : ℕ) (mid : FilesTold) where
     -- one link more holds
-    leads_on : (left : ℕ) → have + left ≡ links → have < links → first ≡ m → OnlyRead old mid
-        → ((now : FilesTold) (x : Answer) → IsCorrectFrom (OpensLinks o m last have left) (2 * have + 1) (call o mid now) x → IsCorrectFrom
-        (OpensLinks o m m 0 links) 1 (call o old now) x)
+    leads_on : (left : ℕ) → have + left ≡ links → have < links → first ≡ m → OnlyRead old mid → LoadsFrom o 1 (2 * have) old mid
+        → leads_from last have left mid
         → (new : FilesTold) (begin end : Fsmd) → begin ≡ first → LinkHolds (call o mid new) (2 * have + 1) last (λ b. b ≡ end) → OnlyRead mid new
+        → LoadsFrom o (2 * have + 1) 2 mid new
         → LinksLead o m links old begin end (have + 1) new
-    leads_on zero e more same read leads new begin end f h r = absurd (omega (arith, e, more))
-    leads_on (suc left) e more same read leads new begin end f h r = record {
+    leads_on zero e more same read loads leads new begin end f h r both = absurd (omega (arith, e, more))
+    leads_on (suc left) e more same read loads leads new begin end f h r both = record {
       left = left;
       count = omega (arith, e);
       begin = f ∙ same;
       read = read_both old mid new read r;
+      loads = loads_on o 1 (2 * have) 2 (2 * have + 1) (2 * (have + 1)) old mid new (omega arith) (omega arith) loads both;
       leads = λ now x c.
-          let files : 2 * (have + 1) + 1 ≡ 2 * have + 1 + 2 = omega arith in
-          let held_now : LinkHolds (call o mid now) (2 * have + 1) last (λ b. b ≡ end) =
-          record { next = h.next; nodes = h.nodes; machine = h.machine; alike = h.alike; certificate = h.certificate; hold = h.hold; rest = h.rest } in
-          let here : IsCorrectFrom (OpensLinks o m end (have + 1) left) (2 * have + 1 + 2) (call o new now) x =
-          subst (λ i. IsCorrectFrom (OpensLinks o m end (have + 1) left) i (call o new now) x) files c in
-          let from : IsCorrectFrom (OpensLinks o m h.next (have + 1) left) (2 * have + 1 + 2) (call o new now) x =
-          subst (λ v. IsCorrectFrom (OpensLinks o m v (have + 1) left) (2 * have + 1 + 2) (call o new now) x) (sym h.rest) here in
-          leads now x (link_holds o (have + 1) last (λ b. OpensLinks o m b (have + 1) left) (2 * have + 1) (call o mid now) (λ b. b ≡ end) held_now x
-          (correct_since o mid new now r (OpensLinks o m h.next (have + 1) left) (2 * have + 1 + 2) x from));
+          let files : 2 * (have + 1) + 1 ≡ 2 * have + 1 + 1 + 1 = omega arith in
+          let here : IsCorrectInOrder (OpensLinks o m end (have + 1) left) (2 * have + 1 + 1 + 1) (call o new now) x =
+          subst (λ i. IsCorrectInOrder (OpensLinks o m end (have + 1) left) i (call o new now) x) files c in
+          let from : IsCorrectInOrder (OpensLinks o m h.next (have + 1) left) (2 * have + 1 + 1 + 1) (call o new now) x =
+          subst (λ v. IsCorrectInOrder (OpensLinks o m v (have + 1) left) (2 * have + 1 + 1 + 1) (call o new now) x) (sym h.rest) here in
+          leads now x (link_holds o o (have + 1) last (λ b. OpensLinks o m b (have + 1) left) (2 * have + 1) mid new now (λ b. b ≡ end) h x r both from);
     }
 
     pub links_next : LinksLead o m links old first last have mid → have < links → (new : FilesTold) (begin end : Fsmd) → begin ≡ first
-        → LinkHolds (call o mid new) (2 * have + 1) last (λ b. b ≡ end) → OnlyRead mid new
+        → LinkHolds (call o mid new) (2 * have + 1) last (λ b. b ≡ end) → OnlyRead mid new → LoadsFrom o (2 * have + 1) 2 mid new
         → LinksLead o m links old begin end (have + 1) new
-    links_next h more new begin end f k r = leads_on h.left h.count more h.begin h.read h.leads new begin end f k r
+    links_next h more new begin end f k r both = leads_on h.left h.count more h.begin h.read h.loads h.leads new begin end f k r both
 
     -- the next link has an answer of its own
-    stops_at : (left : ℕ) → have + left ≡ links → have < links
-        → ((now : FilesTold) (x : Answer) → IsCorrectFrom (OpensLinks o m last have left) (2 * have + 1) (call o mid now) x → IsCorrectFrom
-        (OpensLinks o m m 0 links) 1 (call o old now) x)
-        → (now : FilesTold) (x : Answer) → IsCorrectFrom (OpensLink o (have + 1) last (λ b. NothingFollows)) (2 * have + 1) (call o mid now) x
-        → IsCorrectFrom (OpensLinks o m m 0 links) 1 (call o old now) x
-    stops_at zero e more leads now x c = absurd (omega (arith, e, more))
-    stops_at (suc left) e more leads now x c =
+    stops_at : (left : ℕ) → have + left ≡ links → have < links → leads_from last have left mid
+        → (now : FilesTold) (x : Answer) → IsCorrectInOrder (OpensLink o (have + 1) last (λ b. NothingFollows)) (2 * have + 1) (call o mid now) x
+        → IsCorrectInOrder (OpensLinks o m m 0 links) 1 (call o old now) x
+    stops_at zero e more leads now x d = absurd (omega (arith, e, more))
+    stops_at (suc left) e more leads now x d =
         leads now x (record {
-          reading = c.reading;
-          may_be_read = c.may_be_read;
-          follows = link_map o (have + 1) last (λ b. OpensLinks o m b (have + 1) left) x
-              (2 * have + 1) c.reading c.follows;
+          correct = record {
+            reading = d.correct.reading;
+            may_be_read = d.correct.may_be_read;
+            follows = link_map o (have + 1) last (λ b. OpensLinks o m b (have + 1) left) x
+                (2 * have + 1) d.correct.reading d.correct.follows;
+          };
+          loads = d.loads;
         })
 
     pub links_stop : LinksLead o m links old first last have mid → have < links → (now : FilesTold) (e : Refusal)
-        → WhereAnswered (IsCorrectFrom (OpensLink o (have + 1) last (λ b. NothingFollows)) (2 * have + 1) (call o mid now)) e
-        → WhereAnswered (IsCorrectFrom (OpensLinks o m m 0 links) 1 (call o old now)) e
+        → WhereAnswered (IsCorrectInOrder (OpensLink o (have + 1) last (λ b. NothingFollows)) (2 * have + 1) (call o mid now)) e
+        → WhereAnswered (IsCorrectInOrder (OpensLinks o m m 0 links) 1 (call o old now)) e
     links_stop h more now e w =
-        answer_map (IsCorrectFrom (OpensLink o (have + 1) last (λ b. NothingFollows)) (2 * have + 1) (call o mid now))
-        (IsCorrectFrom (OpensLinks o m m 0 links) 1 (call o old now))
+        answer_map (IsCorrectInOrder (OpensLink o (have + 1) last (λ b. NothingFollows)) (2 * have + 1) (call o mid now))
+        (IsCorrectInOrder (OpensLinks o m m 0 links) 1 (call o old now))
         (λ x c. stops_at h.left h.count more h.leads now x c) e w
 
     -- no link is left
-    ends_at : (left : ℕ) → have + left ≡ links → have ≡ links
-        → ((now : FilesTold) (x : Answer) → IsCorrectFrom (OpensLinks o m last have left) (2 * have + 1) (call o mid now) x → IsCorrectFrom
-        (OpensLinks o m m 0 links) 1 (call o old now) x)
-        → (x : Answer) → IsOfChain m last have x → IsCorrectFrom (OpensLinks o m m 0 links) 1 (call o old mid) x
-    ends_at zero e all leads x p = leads mid x (ended (IsOfChain m last have) (2 * have + 1) (call o mid mid) x p)
+    ends_at : (left : ℕ) → have + left ≡ links → have ≡ links → leads_from last have left mid
+        → (x : Answer) → IsOfChain m last have x → IsCorrectInOrder (OpensLinks o m m 0 links) 1 (call o old mid) x
+    ends_at zero e all leads x p = leads mid x (ended_in_order (IsOfChain m last have) (2 * have + 1) o mid x p)
     ends_at (suc left) e all leads x p = absurd (omega (arith, e, all))
 
     pub links_end : LinksLead o m links old first last have mid → have ≡ links → (x : Answer) → IsOfChain first last links x
-        → IsCorrectFrom (OpensLinks o m m 0 links) 1 (call o old mid) x
+        → IsCorrectInOrder (OpensLinks o m m 0 links) 1 (call o old mid) x
     links_end h all x p =
         let own : IsOfChain m last links x = subst (λ v. IsOfChain v last links x) h.begin p in
         ends_at h.left h.count all h.leads x (subst (λ i. IsOfChain m last i x) (sym all) own)
+
+    -- of the files of all links at most those of the links that hold were loaded
+    pub links_most : LinksLead o m links old first last have mid → LoadsAtMost o 1 (2 * links) old mid
+    links_most h = at_most o 1 (2 * have) (2 * links) old mid (omega (arith, h.count)) h.loads
+
+    -- and some of the next one
+    pub links_most_on : LinksLead o m links old first last have mid → have < links → (new : FilesTold) → LoadsAtMost o (2 * have + 1) 2 mid new
+        → LoadsAtMost o 1 (2 * links) old new
+    links_most_on h more new l =
+        fewer o 1 (2 * (have + 1)) (2 * links) old new (omega (arith, more))
+        (at_most_on o 1 (2 * have) 2 (2 * have + 1) (2 * (have + 1)) old mid new (omega arith) (omega arith) h.loads l)
 
 -- ---- how many links there are
 

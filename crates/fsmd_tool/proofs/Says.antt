@@ -2,43 +2,45 @@
 use Rattle.std.proofs.Common.{◌≡◌, ◌∙◌, ℕ, Bool, true, false, List, ◌++◌, Option, Some, None, refl, sym, ap, subst, length, codes}
 use Rattle.std.specs.Prelude.{IsTrue, is_some}
 use Rattle.std.proofs.lemmas.Bool.{false≢true}
-use Rattle.command_words.specs.Words.{Asked, Check, Verify}
+use Rattle.fsmd_words.specs.AskedWords.{Asked, Check, Verify}
 use Rattle.fs_base.specs.Outside.{appended}
 use Rattle.fs_model.specs.Machines.{Fsmd}
-use Rattle.bisimulation.specs.Tables.{Node}
+use Rattle.cert_bisimulation.specs.Tables.{Node}
 use Rattle.sym_facts.specs.Facts.{Fact}
-use Rattle.cert_writer.specs.Written.{certificate_text}
-use Rattle.pair_answers.specs.Answers.{IsCounterexample, IsUndecided}
-use Rattle.command_answers.specs.declared.answer.Status.{Status}
-use Rattle.command_answers.specs.declared.answer.Status.TheVariants as statuses
-use Rattle.command_answers.specs.declared.answer.Answer.{Answer}
-use Rattle.command_answers.specs.declared.answer.Answer.TheVariants.{Equivalent, Text, Differs, Undecided}
-use Rattle.command_answers.specs.Statuses.{status_of, certificate_in}
-use Rattle.command_answers.specs.Words.{compares, is_verify, cert_of, step_limit}
-use Rattle.command_answers.specs.Lines.{HasLines}
-use Rattle.command_answers.specs.Pairs.{AreSame, IsOfPair, Same, Apart, Open, kept}
-use Rattle.command_answers.specs.Verdicts.{verdict_on, answer_to}
-use Rattle.command_answers.specs.Replies.{opening, lines_of, reply, equivalent_text, unstored_reply}
+use Rattle.cert_writer.specs.WrittenCertificates.{certificate_text}
+use Rattle.fsmd_pair_answers.specs.PairAnswers.{IsCounterexample, IsUndecided}
+use Rattle.fsmd_replies.specs.declared.answer.Status.{Status}
+use Rattle.fsmd_replies.specs.declared.answer.Status.TheVariants as statuses
+use Rattle.fsmd_replies.specs.declared.answer.Answer.{Answer}
+use Rattle.fsmd_replies.specs.declared.answer.Answer.TheVariants.{Equivalent, Text, Differs, Undecided}
+use Rattle.fsmd_replies.specs.Statuses.{status_of, certificate_in}
+use Rattle.fsmd_replies.specs.AskedFiles.{compares, is_verify, cert_of, step_limit}
+use Rattle.fsmd_answers.specs.LineAnswers.{HasLines}
+use Rattle.fsmd_answers.specs.MachinePairAnswers.{AreSame, IsOfPair, Same, Apart, Open, kept}
+use Rattle.fsmd_answers.specs.Verdicts.{verdict_on, answer_to}
+use Rattle.fsmd_replies.specs.Replies.{opening, lines_of, reply, equivalent_text, unstored_reply}
 use Rattle.fsmd_tool.specs.Calls.{Call}
-use Rattle.fsmd_tool.specs.Puts.{Put, IsPut, Whole, Cut}
-use Rattle.fsmd_tool.specs.Stores.{Stores, stores, IsStored, Entry, entry, entry_of, to_store, Leaves, LeftAlone, LeftStored, LeftUnstored}
+use Rattle.fsmd_tool.specs.SinkReplies.{Put, IsPut, Whole, Cut}
+use Rattle.fsmd_tool.specs.CertificateStores.{StoreState, stores, IsStoredUnder, StoreEntry, stored_entry, stored_entry_of, to_store, Leaves, LeftAlone}
+use Rattle.fsmd_tool.specs.CertificateStores.{LeftStored, LeftUnstored}
 use Rattle.fsmd_tool.specs.Correct.{IsCorrectAnswer, IsDone, Kept, Stored, Unstored, Answered}
-use Rattle.fsmd_tool.specs.Clauses.{HasPut, ArePaired, SaysSame, SaysDiffer, SaysUndecided, IsChecked, KeepsFiles, AllKept, CertificateStored, CertificateFailed}
+use Rattle.fsmd_tool.specs.Equivalent.{HasPut, ArePairedMachines, AreEquivalent}
+use Rattle.fsmd_tool.specs.Clauses.{SaysSame, SaysDiffer, SaysUndecided, IsChecked, KeepsFiles, AllKept, CertificateStored, CertificateFailed}
 use Rattle.fsmd_tool.proofs.Statuses.{HasStatus, moved, is_refusal, judged_yes}
 use Rattle.fsmd_tool.proofs.Found.{compared, checked}
 
 -- ---- what was put with a status that is none of a fault
 
-pub record IsWell (e : Option Entry) (reply : List ℕ) (meant s : Status) (st : Stores) (p : Put) : Type 0 where
+pub record IsWell (e : Option StoreEntry) (reply : List ℕ) (meant s : Status) (st : StoreState) (p : Put) : Type 0 where
   pub meant_is : meant ≡ s
   pub got : p.got_now ≡ appended p.got_before reply
-  pub stored : (x : Entry) → e ≡ Some x → IsStored x.name x.bytes st
+  pub stored : (x : StoreEntry) → e ≡ Some x → IsStoredUnder x.name x.bytes st
 
 cut_not : (s : Status) → is_refusal s ≡ false → statuses.Fault ≡ s → ⊥
 cut_not s away e = false≢true (sym away ∙ ap is_refusal (sym e))
 
-put_well : (e : Option Entry) (reply : List ℕ) (meant s : Status) (st : Stores) (p : Put) → is_refusal s ≡ false → p.status ≡ s
-    → ((x : Entry) → e ≡ Some x → IsStored x.name x.bytes st) → IsPut reply meant p → IsWell e reply meant s st p
+put_well : (e : Option StoreEntry) (reply : List ℕ) (meant s : Status) (st : StoreState) (p : Put) → is_refusal s ≡ false → p.status ≡ s
+    → ((x : StoreEntry) → e ≡ Some x → IsStoredUnder x.name x.bytes st) → IsPut reply meant p → IsWell e reply meant s st p
 put_well e reply meant s st p away is h (Whole w) = record { meant_is = sym w.status ∙ is; got = w.got; stored = h }
 put_well e reply meant s st p away is h (Cut w) = absurd (cut_not s away (sym w.status ∙ is))
 
@@ -46,13 +48,15 @@ unstored_not : (reply : List ℕ) (s : Status) (p : Put) → is_refusal s ≡ fa
 unstored_not reply s p away is (Whole w) = cut_not s away (sym w.status ∙ is)
 unstored_not reply s p away is (Cut w) = cut_not s away (sym w.status ∙ is)
 
-only_entry : (e : Option Entry) (x : Entry) (st : Stores) → e ≡ Some x → IsStored x.name x.bytes st → (y : Entry) → e ≡ Some y → IsStored y.name y.bytes st
-only_entry e x st is s y other = let same : Some x ≡ Some y = sym is ∙ other in let one : x ≡ y = cc in subst (λ z. IsStored z.name z.bytes st) one s
+only_entry : (e : Option StoreEntry) (x : StoreEntry) (st : StoreState) → e ≡ Some x → IsStoredUnder x.name x.bytes st → (y : StoreEntry) → e ≡ Some y
+    → IsStoredUnder y.name y.bytes st
+only_entry e x st is s y other = let same : Some x ≡ Some y = sym is ∙ other in let one : x ≡ y = cc in subst (λ z. IsStoredUnder z.name z.bytes st) one s
 
-no_entry : (e : Option Entry) (st : Stores) → e ≡ None → (y : Entry) → e ≡ Some y → IsStored y.name y.bytes st
+no_entry : (e : Option StoreEntry) (st : StoreState) → e ≡ None → (y : StoreEntry) → e ≡ Some y → IsStoredUnder y.name y.bytes st
 no_entry e st none y some = absurd (let bad : None ≡ Some y = sym none ∙ some in cc)
 
-done_well : (e : Option Entry) (reply : List ℕ) (meant s : Status) (st : Stores) (p : Put) → is_refusal s ≡ false → p.status ≡ s → IsDone e reply meant st p
+done_well : (e : Option StoreEntry) (reply : List ℕ) (meant s : Status) (st : StoreState) (p : Put) → is_refusal s ≡ false → p.status ≡ s
+    → IsDone e reply meant st p
     → IsWell e reply meant s st p
 done_well e reply meant s st p away is (Kept none k put) = put_well e reply meant s st p away is (no_entry e st none) put
 done_well e reply meant s st p away is (Stored x some k put) = put_well e reply meant s st p away is (only_entry e x st some k) put
@@ -88,7 +92,7 @@ undecided limit keeps a b x (Open l) s = l
 
 -- what is to be stored of an equivalent answer
 stores_text : (o : Option Asked) (x : Answer) (nodes : ℕ) (text name : List ℕ) → x ≡ Equivalent nodes (kept (is_some (cert_of o)) text)
-    → cert_of o ≡ Some name → to_store o x ≡ Some (entry name text)
+    → cert_of o ≡ Some name → to_store o x ≡ Some (stored_entry name text)
 stores_text o x nodes text name is e = rw (is, e) refl
 
 pub put_lines : (g : Call) (p : Put) (x : Answer) (lines : List ℕ) → p.got_now ≡ appended p.got_before (reply x g.asked) → lines_of x g.asked ≡ lines
@@ -109,9 +113,19 @@ says_same g p a e t =
       holds = k.same.shows.certificate;
       same = k.same.same;
       put = put_lines g p a.answer (equivalent_text (length k.nodes)) w.got (ap (λ x. lines_of x g.asked) k.is);
-      stored = λ name named. w.stored (entry name (certificate_text c.left c.right k.nodes))
+      stored = λ name named. w.stored (stored_entry name (certificate_text c.left c.right k.nodes))
           (stores_text g.asked a.answer (length k.nodes) (certificate_text c.left c.right k.nodes) name k.is named);
     }
+
+pub are_equivalent : (g : Call) (p : Put) → Answered g p → p.status ≡ statuses.Fine → IsTrue (compares g.asked) → AreEquivalent g p
+are_equivalent g p a e t = let s = says_same g p a e t in record {
+  left = s.left;
+  right = s.right;
+  paired = s.paired;
+  same = s.same;
+  nodes = length s.nodes;
+  put = s.put;
+}
 
 pub says_differ : (g : Call) (p : Put) → Answered g p → p.status ≡ statuses.Differ → IsTrue (compares g.asked) → SaysDiffer g p
 says_differ g p a e t =
@@ -174,14 +188,14 @@ with_certificate : (x : Answer) (text : List ℕ) → certificate_in x ≡ Some 
 with_certificate (Equivalent nodes cert) text e = refl
 with_certificate _ text e = cc
 
-record IsEntry (cert text : Option (List ℕ)) (x : Entry) : Type 0 where
+record IsEntry (cert text : Option (List ℕ)) (x : StoreEntry) : Type 0 where
   named : cert ≡ Some x.name
   told : text ≡ Some x.bytes
 
-is_entry : (cert text : Option (List ℕ)) (x : Entry) → entry_of cert text ≡ Some x → IsEntry cert text x
+is_entry : (cert text : Option (List ℕ)) (x : StoreEntry) → stored_entry_of cert text ≡ Some x → IsEntry cert text x
 is_entry None text x e = absurd (cc)
 is_entry (Some name) None x e = absurd (cc)
-is_entry (Some name) (Some bytes) x e = let same : entry name bytes ≡ x =
+is_entry (Some name) (Some bytes) x e = let same : stored_entry name bytes ≡ x =
     cc in record { named = ap (λ z. Some z.name) same; told = ap (λ z. Some z.bytes) same }
 
 named_compares : (o : Option Asked) (name : List ℕ) → cert_of o ≡ Some name → IsTrue (compares o)
@@ -189,11 +203,11 @@ named_compares (Some (Check left right cert steps)) name e = refl
 named_compares _ name e = absurd (cc)
 
 -- what is to be stored is the text of a certificate that shows that the machines have the same behaviour
-record IsOfSearch (g : Call) (x : Entry) : Type 0 where
+record IsOfSearch (g : Call) (x : StoreEntry) : Type 0 where
   named : cert_of g.asked ≡ Some x.name
   left : Fsmd
   right : Fsmd
-  paired : ArePaired g left right
+  paired : ArePairedMachines g left right
   nodes : List (Node Fact)
   same : AreSame left right nodes
   text : x.bytes ≡ certificate_text left right nodes
@@ -202,7 +216,7 @@ kept_text : (keeps : Bool) (text bytes : List ℕ) → kept keeps text ≡ Some 
 kept_text true text bytes e = cc
 kept_text false text bytes e = absurd (cc)
 
-of_search : (g : Call) (y : Answer) (x : Entry) → IsCorrectAnswer g y → to_store g.asked y ≡ Some x → IsOfSearch g x
+of_search : (g : Call) (y : Answer) (x : StoreEntry) → IsCorrectAnswer g y → to_store g.asked y ≡ Some x → IsOfSearch g x
 of_search g y x c e =
     let i = is_entry (cert_of g.asked) (certificate_in y) x e in
     let f = with_certificate y x.bytes i.told in
@@ -222,5 +236,5 @@ pub keeps_files : (g : Call) (y : Answer) → IsCorrectAnswer g y → Leaves (to
 keeps_files g y c (LeftAlone k) = AllKept k
 keeps_files g y c (LeftStored x e h) = let o =
     of_search g y x c e in CertificateStored x.name o.named o.left o.right o.paired o.nodes o.same.shows
-    (subst (λ t. IsStored x.name t (stores g.before g.now)) o.text h)
+    (subst (λ t. IsStoredUnder x.name t (stores g.before g.now)) o.text h)
 keeps_files g y c (LeftUnstored x e h) = let o = of_search g y x c e in CertificateFailed x.name o.named o.left o.right o.paired o.nodes o.same.shows h

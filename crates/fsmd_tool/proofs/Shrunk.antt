@@ -2,25 +2,25 @@
 use Rattle.std.proofs.Common.{◌≡◌, ℕ, List, Option, Some, refl, ap}
 use Rattle.std.specs.Prelude.{IsTrue}
 use Rattle.std.proofs.lemmas.Bool.{false≢true}
-use Rattle.command_words.specs.Words.{Asked, Shrink}
+use Rattle.fsmd_words.specs.AskedWords.{Asked, Shrink}
 use Rattle.fs_model.specs.Machines.{Fsmd}
 use Rattle.fs_model.specs.Runs.{Inputs, Content}
 use Rattle.fs_trials.specs.Differences.{ShowsDifference}
-use Rattle.hls_shrink.specs.Shrunk.{Shows, EndsIn}
+use Rattle.hls_shrink.specs.Shrunk.{ShowDifference, EndsIn}
 use Rattle.hls_shrink.specs.Given.{given_contents}
-use Rattle.command_answers.specs.declared.answer.Status.TheVariants as statuses
-use Rattle.command_answers.specs.declared.answer.Answer.{Answer}
-use Rattle.command_answers.specs.declared.answer.Answer.TheVariants.{Differs}
-use Rattle.command_answers.specs.Lines.{HasLines}
-use Rattle.command_answers.specs.Words.{operand, shrink_limit}
-use Rattle.command_answers.specs.InputFiles.{HasInputFault, RefusesInputs, SpellsInputs}
-use Rattle.command_answers.specs.Replays.{IsOfReplay, LeftStopped, RightStopped, Agreed, Differed}
-use Rattle.command_answers.specs.Shrinks.{IsSmallText, IsOfShrink, Smaller, Replayed}
-use Rattle.command_answers.specs.Replies.{lines_of}
-use Rattle.command_answers.specs.Follows.{Ends, OpensInputs, OpensPair, FollowsFrom}
+use Rattle.fsmd_replies.specs.declared.answer.Status.TheVariants as statuses
+use Rattle.fsmd_replies.specs.declared.answer.Answer.{Answer}
+use Rattle.fsmd_replies.specs.declared.answer.Answer.TheVariants.{Differs}
+use Rattle.fsmd_answers.specs.LineAnswers.{HasLines}
+use Rattle.fsmd_replies.specs.AskedFiles.{operand, shrink_limit}
+use Rattle.fsmd_answers.specs.InputFiles.{HasInputFault, RefusesInputs, SpellsInputs}
+use Rattle.fsmd_answers.specs.Replays.{IsOfReplay, LeftStopped, RightStopped, Agreed, Differed}
+use Rattle.fsmd_answers.specs.Shrinks.{IsSmallText, IsOfShrink, Smaller, Replayed}
+use Rattle.fsmd_replies.specs.Replies.{lines_of}
+use Rattle.fsmd_answers.specs.Follows.{Ends, OpensInputs, OpensPair, FollowsFrom}
 use Rattle.fsmd_tool.specs.Asking.{is_shrink}
 use Rattle.fsmd_tool.specs.Calls.{Call, IsCorrectFrom}
-use Rattle.fsmd_tool.specs.Puts.{Put}
+use Rattle.fsmd_tool.specs.SinkReplies.{Put}
 use Rattle.fsmd_tool.specs.Correct.{Answered}
 use Rattle.fsmd_tool.specs.Clauses.{IsShrunk}
 use Rattle.fsmd_tool.proofs.Statuses.{HasStatus, moved, not_refused, keys_refuse}
@@ -42,7 +42,7 @@ replay_differs limit a b ins x (Differed p q e t l) s =
 record Small (limit : ℕ) (a b : Fsmd) (ins : Inputs) (x : Answer) : Type 0 where
   shows : ShowsDifference a b ins limit
   end : List Content
-  ends : EndsIn (Shows a b limit) (given_contents a ins) end
+  ends : EndsIn (ShowDifference a b limit) (given_contents a ins) end
   told : HasLines (IsSmallText limit a b end) Differs x
 
 small : (limit : ℕ) (a b : Fsmd) (ins : Inputs) (x : Answer) → IsOfShrink limit a b ins x → HasStatus statuses.Differ x → Small limit a b ins x

@@ -1,34 +1,34 @@
 -- Which statuses an answer has.
 use Rattle.std.proofs.Common.{◌≡◌, ◌∙◌, ℕ, Bool, true, false, List, Option, refl, sym, ap}
 use Rattle.std.proofs.lemmas.Bool.{false≢true}
-use Rattle.command_words.specs.Words.{Asked}
+use Rattle.fsmd_words.specs.AskedWords.{Asked}
 use Rattle.fs_model.specs.Machines.{Fsmd}
 use Rattle.fs_model.specs.Runs.{Inputs}
 use Rattle.fs_model.specs.Source.{Source}
-use Rattle.unit_counts.specs.Counts.{Units}
-use Rattle.certificates.specs.Obligations.{Verdict, Yes, No, IsWide, IsLarge}
-use Rattle.command_answers.specs.declared.answer.Operand.{Operand}
-use Rattle.command_answers.specs.declared.answer.Status.{Status}
-use Rattle.command_answers.specs.declared.answer.Status.TheVariants as statuses
-use Rattle.command_answers.specs.declared.answer.KeyFault.{KeyFault}
-use Rattle.command_answers.specs.declared.answer.Answer.{Answer}
-use Rattle.command_answers.specs.declared.answer.Answer.TheVariants.{Usage, Text}
-use Rattle.command_answers.specs.Statuses.{status_of}
-use Rattle.command_answers.specs.Readings.{Content, Unreadable}
-use Rattle.command_answers.specs.Unread.{IsUnread, Failed, Long}
-use Rattle.command_answers.specs.Keys.{RefusesKeys, UnreadKeys, ByJson, ByKey}
-use Rattle.command_answers.specs.Refusals.{RefusesMachine, Unread, ByText, ByRule, RefusesPair, RefusesCertificate, UnreadCertificate, ByCertificate}
-use Rattle.program_laws.specs.Programs.{Program}
-use Rattle.command_answers.specs.Programs.{RefusesProgram, UnreadProgram, ProgramByText, ProgramByRule, IsOfProgram}
-use Rattle.command_answers.specs.Schedules.{IsOfSchedule, IsOver, InRows}
-use Rattle.synthesis_answers.specs.Bindings.{Binding}
-use Rattle.command_answers.specs.Bindings.{IsOfBinding, IsBound, Loses}
-use Rattle.command_answers.specs.Pairs.{IsOfPair, Same, Apart, Open}
-use Rattle.command_answers.specs.Verdicts.{answer_to}
-use Rattle.command_answers.specs.Runs.{IsOfRun, Ended, Stopped}
-use Rattle.command_answers.specs.Replays.{IsOfReplay, LeftStopped, RightStopped, Agreed, Differed}
-use Rattle.command_answers.specs.Shrinks.{IsOfShrink, Smaller, Replayed}
-use Rattle.command_answers.specs.Links.{AtLink, IsOfChain}
+use Rattle.hls_unit_counts.specs.Counts.{Units}
+use Rattle.cert_model.specs.Obligations.{Verdict, Yes, No, IsWide, IsLarge}
+use Rattle.fsmd_replies.specs.declared.answer.Operand.{Operand}
+use Rattle.fsmd_replies.specs.declared.answer.Status.{Status}
+use Rattle.fsmd_replies.specs.declared.answer.Status.TheVariants as statuses
+use Rattle.fsmd_replies.specs.declared.answer.KeyFault.{KeyFault}
+use Rattle.fsmd_replies.specs.declared.answer.Answer.{Answer}
+use Rattle.fsmd_replies.specs.declared.answer.Answer.TheVariants.{Usage, Text}
+use Rattle.fsmd_replies.specs.Statuses.{status_of}
+use Rattle.fsmd_answers.specs.Readings.{FileContent, Unreadable}
+use Rattle.fsmd_answers.specs.Unread.{IsUnread, Failed, Long}
+use Rattle.fsmd_answers.specs.JsonKeys.{RefusesKeys, UnreadKeys, ByJson, ByKey}
+use Rattle.fsmd_answers.specs.Refusals.{RefusesMachine, Unread, ByText, ByRule, RefusesPair, RefusesCertificate, UnreadCertificate, ByCertificate}
+use Rattle.hls_program_laws.specs.Programs.{Program}
+use Rattle.fsmd_answers.specs.ProgramFiles.{RefusesProgram, UnreadProgram, ProgramByText, ProgramByRule, IsOfProgram}
+use Rattle.fsmd_answers.specs.ScheduleFiles.{IsOfSchedule, IsOver, InRows}
+use Rattle.fsmd_synthesis_answers.specs.BindingAnswers.{Binding}
+use Rattle.fsmd_answers.specs.BindingFiles.{IsOfBinding, IsBound, Loses}
+use Rattle.fsmd_answers.specs.MachinePairAnswers.{IsOfPair, Same, Apart, Open}
+use Rattle.fsmd_answers.specs.Verdicts.{answer_to}
+use Rattle.fsmd_answers.specs.RunAnswers.{IsOfRun, Ended, Stopped}
+use Rattle.fsmd_answers.specs.Replays.{IsOfReplay, LeftStopped, RightStopped, Agreed, Differed}
+use Rattle.fsmd_answers.specs.Shrinks.{IsOfShrink, Smaller, Replayed}
+use Rattle.fsmd_answers.specs.Links.{AtLink, IsOfChain}
 
 abbrev pub HasStatus : Status → Answer → Type 0
 HasStatus s x = status_of x ≡ s
@@ -49,11 +49,11 @@ not_refused s x away refused e = false≢true (sym away ∙ ap is_refusal (sym e
 
 -- ---- refused files
 
-pub unread_refuses : (limit : ℕ) (file : Operand) (c : Content) (x : Answer) → IsUnread limit file c x → is_refusal (status_of x) ≡ true
+pub unread_refuses : (limit : ℕ) (file : Operand) (c : FileContent) (x : Answer) → IsUnread limit file c x → is_refusal (status_of x) ≡ true
 unread_refuses limit file c x (Failed u e) = ap (λ y. is_refusal (status_of y)) e
 unread_refuses limit file c x (Long u e) = ap (λ y. is_refusal (status_of y)) e
 
-pub machine_refuses : (file : Operand) (c : Content) (x : Answer) → RefusesMachine file c x → is_refusal (status_of x) ≡ true
+pub machine_refuses : (file : Operand) (c : FileContent) (x : Answer) → RefusesMachine file c x → is_refusal (status_of x) ≡ true
 machine_refuses file c x (Unread u) = unread_refuses _ file c x u
 machine_refuses file c x (ByText f t e) = ap (λ y. is_refusal (status_of y)) e
 machine_refuses file c x (ByRule f t e) = ap (λ y. is_refusal (status_of y)) e
@@ -61,44 +61,45 @@ machine_refuses file c x (ByRule f t e) = ap (λ y. is_refusal (status_of y)) e
 pub pair_refuses : (a b : Fsmd) (x : Answer) → RefusesPair a b x → is_refusal (status_of x) ≡ true
 pair_refuses a b x l = ap (λ y. is_refusal (status_of y)) l.is
 
-pub program_refuses : (file : Operand) (c : Content) (x : Answer) → RefusesProgram file c x → is_refusal (status_of x) ≡ true
+pub program_refuses : (file : Operand) (c : FileContent) (x : Answer) → RefusesProgram file c x → is_refusal (status_of x) ≡ true
 program_refuses file c x (UnreadProgram u) = unread_refuses _ file c x u
 program_refuses file c x (ProgramByText f t e) = ap (λ y. is_refusal (status_of y)) e
 program_refuses file c x (ProgramByRule f t e) = ap (λ y. is_refusal (status_of y)) e
 
-pub keys_refuse : (F : KeyFault → (key bytes : List ℕ) → Type 0) (file : Operand) (c : Content) (x : Answer) → RefusesKeys F file c x
+pub keys_refuse : (F : KeyFault → (key bytes : List ℕ) → Type 0) (file : Operand) (c : FileContent) (x : Answer) → RefusesKeys F file c x
     → is_refusal (status_of x) ≡ true
 keys_refuse F file c x (UnreadKeys u) = unread_refuses _ file c x u
 keys_refuse F file c x (ByJson t e) = ap (λ y. is_refusal (status_of y)) e
 keys_refuse F file c x (ByKey f k t e) = ap (λ y. is_refusal (status_of y)) e
 
-pub certificate_refuses : (a b : Fsmd) (file : Operand) (c : Content) (x : Answer) → RefusesCertificate a b file c x → is_refusal (status_of x) ≡ true
+pub certificate_refuses : (a b : Fsmd) (file : Operand) (c : FileContent) (x : Answer) → RefusesCertificate a b file c x → is_refusal (status_of x) ≡ true
 certificate_refuses a b file c x (UnreadCertificate u) = unread_refuses _ file c x u
 certificate_refuses a b file c x (ByCertificate f t e) = ap (λ y. is_refusal (status_of y)) e
 
 -- where the status is of a fault, the file could not be read
 
-unread_fault : (limit : ℕ) (file : Operand) (c : Content) (x : Answer) → IsUnread limit file c x → HasStatus statuses.Fault x → c ≡ Unreadable
+unread_fault : (limit : ℕ) (file : Operand) (c : FileContent) (x : Answer) → IsUnread limit file c x → HasStatus statuses.Fault x → c ≡ Unreadable
 unread_fault limit file c x (Failed u e) s = u
 unread_fault limit file c x (Long u e) s = absurd (let h : statuses.BadInput ≡ statuses.Fault = moved statuses.Fault statuses.BadInput x _ e refl s in cc)
 
-pub machine_fault : (file : Operand) (c : Content) (x : Answer) → RefusesMachine file c x → HasStatus statuses.Fault x → c ≡ Unreadable
+pub machine_fault : (file : Operand) (c : FileContent) (x : Answer) → RefusesMachine file c x → HasStatus statuses.Fault x → c ≡ Unreadable
 machine_fault file c x (Unread u) s = unread_fault _ file c x u s
 machine_fault file c x (ByText f t e) s = absurd (let h : statuses.BadInput ≡ statuses.Fault = moved statuses.Fault statuses.BadInput x _ e refl s in cc)
 machine_fault file c x (ByRule f t e) s = absurd (let h : statuses.BadInput ≡ statuses.Fault = moved statuses.Fault statuses.BadInput x _ e refl s in cc)
 
-pub program_fault : (file : Operand) (c : Content) (x : Answer) → RefusesProgram file c x → HasStatus statuses.Fault x → c ≡ Unreadable
+pub program_fault : (file : Operand) (c : FileContent) (x : Answer) → RefusesProgram file c x → HasStatus statuses.Fault x → c ≡ Unreadable
 program_fault file c x (UnreadProgram u) s = unread_fault _ file c x u s
 program_fault file c x (ProgramByText f t e) s = absurd (let h : statuses.BadInput ≡ statuses.Fault = moved statuses.Fault statuses.BadInput x _ e refl s in cc)
 program_fault file c x (ProgramByRule f t e) s = absurd (let h : statuses.BadInput ≡ statuses.Fault = moved statuses.Fault statuses.BadInput x _ e refl s in cc)
 
-pub keys_fault : (F : KeyFault → (key bytes : List ℕ) → Type 0) (file : Operand) (c : Content) (x : Answer) → RefusesKeys F file c x
+pub keys_fault : (F : KeyFault → (key bytes : List ℕ) → Type 0) (file : Operand) (c : FileContent) (x : Answer) → RefusesKeys F file c x
     → HasStatus statuses.Fault x → c ≡ Unreadable
 keys_fault F file c x (UnreadKeys u) s = unread_fault _ file c x u s
 keys_fault F file c x (ByJson t e) s = absurd (let h : statuses.BadInput ≡ statuses.Fault = moved statuses.Fault statuses.BadInput x _ e refl s in cc)
 keys_fault F file c x (ByKey f k t e) s = absurd (let h : statuses.BadInput ≡ statuses.Fault = moved statuses.Fault statuses.BadInput x _ e refl s in cc)
 
-pub certificate_fault : (a b : Fsmd) (file : Operand) (c : Content) (x : Answer) → RefusesCertificate a b file c x → HasStatus statuses.Fault x → c ≡ Unreadable
+pub certificate_fault : (a b : Fsmd) (file : Operand) (c : FileContent) (x : Answer) → RefusesCertificate a b file c x → HasStatus statuses.Fault x
+    → c ≡ Unreadable
 certificate_fault a b file c x (UnreadCertificate u) s = unread_fault _ file c x u s
 certificate_fault a b file c x (ByCertificate f t e) s =
     absurd (let h : statuses.BadInput ≡ statuses.Fault = moved statuses.Fault statuses.BadInput x _ e refl s in cc)

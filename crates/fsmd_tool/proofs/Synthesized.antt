@@ -2,29 +2,29 @@
 use Rattle.std.proofs.Common.{◌≡◌, Option, Some, refl, ap}
 use Rattle.std.specs.Prelude.{IsTrue}
 use Rattle.std.proofs.lemmas.Bool.{false≢true}
-use Rattle.command_words.specs.Words.{Asked, Compile, Schedule, Bind}
+use Rattle.fsmd_words.specs.AskedWords.{Asked, Compile, Schedule, Bind}
 use Rattle.fs_model.specs.Source.{Source}
-use Rattle.fs_rules.specs.Spelled.{machine_of}
-use Rattle.unit_counts.specs.Counts.{Units}
-use Rattle.program_laws.specs.Programs.{Program}
-use Rattle.command_answers.specs.declared.answer.Status.TheVariants as statuses
-use Rattle.command_answers.specs.declared.answer.Answer.{Answer}
-use Rattle.command_answers.specs.declared.answer.Answer.TheVariants.{Text}
-use Rattle.command_answers.specs.Lines.{HasLines}
-use Rattle.command_answers.specs.Words.{operand}
-use Rattle.command_answers.specs.Texts.{SpellsParts}
-use Rattle.command_answers.specs.Refusals.{RefusesMachine}
-use Rattle.command_answers.specs.Programs.{RefusesProgram, SpellsProgram, IsOfProgram}
-use Rattle.command_answers.specs.Schedules.{HaveUnitFault, RefusesUnits, SpellUnits, IsOfSchedule, IsOver, InRows}
-use Rattle.synthesis_answers.specs.Programs.{IsCompiledText}
-use Rattle.synthesis_answers.specs.Schedules.{IsScheduleText}
-use Rattle.synthesis_answers.specs.Bindings.{Binding, IsBoundText}
-use Rattle.command_answers.specs.Bindings.{HasBindingFault, RefusesBinding, SpellsBinding, IsOfBinding, IsBound, Loses}
-use Rattle.command_answers.specs.Replies.{lines_of}
-use Rattle.command_answers.specs.Follows.{Ends, OpensParts, OpensProgram, OpensUnits, OpensBinding, FollowsFrom}
+use Rattle.fs_rules.specs.MachineOfParts.{machine_of}
+use Rattle.hls_unit_counts.specs.Counts.{Units}
+use Rattle.hls_program_laws.specs.Programs.{Program}
+use Rattle.fsmd_replies.specs.declared.answer.Status.TheVariants as statuses
+use Rattle.fsmd_replies.specs.declared.answer.Answer.{Answer}
+use Rattle.fsmd_replies.specs.declared.answer.Answer.TheVariants.{Text}
+use Rattle.fsmd_answers.specs.LineAnswers.{HasLines}
+use Rattle.fsmd_replies.specs.AskedFiles.{operand}
+use Rattle.fsmd_answers.specs.MachineFiles.{SpellsParts}
+use Rattle.fsmd_answers.specs.Refusals.{RefusesMachine}
+use Rattle.fsmd_answers.specs.ProgramFiles.{RefusesProgram, SpellsProgram, IsOfProgram}
+use Rattle.fsmd_answers.specs.ScheduleFiles.{HaveUnitFault, RefusesUnits, SpellUnits, IsOfSchedule, IsOver, InRows}
+use Rattle.fsmd_synthesis_answers.specs.ProgramAnswers.{IsCompiledText}
+use Rattle.fsmd_synthesis_answers.specs.ScheduleAnswers.{IsScheduleText}
+use Rattle.fsmd_synthesis_answers.specs.BindingAnswers.{Binding, IsBoundText}
+use Rattle.fsmd_answers.specs.BindingFiles.{HasBindingFault, RefusesBinding, SpellsBinding, IsOfBinding, IsBound, Loses}
+use Rattle.fsmd_replies.specs.Replies.{lines_of}
+use Rattle.fsmd_answers.specs.Follows.{Ends, OpensParts, OpensProgram, OpensUnits, OpensBinding, FollowsFrom}
 use Rattle.fsmd_tool.specs.Asking.{is_compile, is_schedule, is_bind}
 use Rattle.fsmd_tool.specs.Calls.{Call, IsCorrectFrom}
-use Rattle.fsmd_tool.specs.Puts.{Put}
+use Rattle.fsmd_tool.specs.SinkReplies.{Put}
 use Rattle.fsmd_tool.specs.Correct.{Answered}
 use Rattle.fsmd_tool.specs.Clauses.{IsCompiled, IsInRows, IsInRegisters}
 use Rattle.fsmd_tool.proofs.Statuses.{HasStatus, moved, not_refused, machine_refuses, program_refuses, keys_refuse}

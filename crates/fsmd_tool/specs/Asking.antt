@@ -1,19 +1,19 @@
 -- What the words of a call ask.
 use Rattle.std.specs.Prelude.{Bool, true, false, List, Option, Some, String, string_bytes, map, IsTrue}
-use Rattle.command_words.specs.Words.{Asked, asked_of, Compile, Schedule, Bind, Shrink, Chain}
-use Rattle.command_answers.specs.Words.{compares, is_verify}
+use Rattle.fsmd_words.specs.AskedWords.{Asked, asked_of, Compile, Schedule, Bind, Shrink, Chain}
+use Rattle.fsmd_replies.specs.AskedFiles.{compares, is_verify}
 
 -- what these words ask
-abbrev pub asked_in : {A : Type 0} → List (String A) → Option Asked
-asked_in words = asked_of (map string_bytes words)
+abbrev pub asked_by_words : {A : Type 0} → List (String A) → Option Asked
+asked_by_words words = asked_of (map string_bytes words)
 
 -- the words ask to compare two machines, of files or generated
 abbrev pub AskToCompare : {A : Type 0} → List (String A) → Type 0
-AskToCompare words = IsTrue (compares (asked_in words))
+AskToCompare words = IsTrue (compares (asked_by_words words))
 
 -- the words ask to check a certificate
 abbrev pub AskToVerify : {A : Type 0} → List (String A) → Type 0
-AskToVerify words = IsTrue (is_verify (asked_in words))
+AskToVerify words = IsTrue (is_verify (asked_by_words words))
 
 -- a program is to be compiled
 abbrev pub is_compile : Option Asked → Bool
@@ -42,20 +42,20 @@ is_chain _ = false
 
 -- the words ask to compile a program
 abbrev pub AskToCompile : {A : Type 0} → List (String A) → Type 0
-AskToCompile words = IsTrue (is_compile (asked_in words))
+AskToCompile words = IsTrue (is_compile (asked_by_words words))
 
 -- the words ask to schedule a machine
 abbrev pub AskToSchedule : {A : Type 0} → List (String A) → Type 0
-AskToSchedule words = IsTrue (is_schedule (asked_in words))
+AskToSchedule words = IsTrue (is_schedule (asked_by_words words))
 
 -- the words ask to bind a machine
 abbrev pub AskToBind : {A : Type 0} → List (String A) → Type 0
-AskToBind words = IsTrue (is_bind (asked_in words))
+AskToBind words = IsTrue (is_bind (asked_by_words words))
 
 -- the words ask to make inputs small
 abbrev pub AskToShrink : {A : Type 0} → List (String A) → Type 0
-AskToShrink words = IsTrue (is_shrink (asked_in words))
+AskToShrink words = IsTrue (is_shrink (asked_by_words words))
 
 -- the words ask to check a chain
 abbrev pub AskToChain : {A : Type 0} → List (String A) → Type 0
-AskToChain words = IsTrue (is_chain (asked_in words))
+AskToChain words = IsTrue (is_chain (asked_by_words words))

@@ -1,58 +1,42 @@
 -- What the status of a call tells of its files and of what was put.
-use Rattle.std.specs.Prelude.{◌≡◌, ◌<◌, ℕ, zero, suc, ◌+◌, IsTrue, List, ◌++◌, length, Some, None, codes, decimal}
-use Rattle.command_words.specs.Words.{Generate, Chain}
+use Rattle.std.specs.Prelude.{◌≡◌, ◌<◌, ℕ, zero, suc, ◌+◌, List, ◌++◌, length, Some, None, codes, decimal}
+use Rattle.fsmd_words.specs.AskedWords.{Chain}
 use Rattle.fs_base.specs.Outside.{Rose, appended}
 use Rattle.fs_model.specs.Machines.{Fsmd}
 use Rattle.fs_model.specs.Runs.{Inputs, Content, SameBehaviour}
 use Rattle.fs_model.specs.Source.{Source}
-use Rattle.fs_rules.specs.Spelled.{machine_of}
+use Rattle.fs_rules.specs.MachineOfParts.{machine_of}
 use Rattle.fs_pair.specs.Interfaces.{interface_fault}
 use Rattle.fs_trials.specs.Differences.{ShowsDifference}
-use Rattle.hls_shrink.specs.Shrunk.{Shows, EndsIn}
+use Rattle.hls_shrink.specs.Shrunk.{ShowDifference, EndsIn}
 use Rattle.hls_shrink.specs.Given.{given_contents}
-use Rattle.bisimulation.specs.Tables.{Node}
+use Rattle.cert_bisimulation.specs.Tables.{Node}
 use Rattle.sym_facts.specs.Facts.{Fact}
-use Rattle.certificates.specs.Obligations.{Yes}
-use Rattle.cert_writer.specs.Written.{certificate_text}
-use Rattle.search.specs.Answers.{machines}
+use Rattle.cert_model.specs.Obligations.{Yes}
+use Rattle.cert_writer.specs.WrittenCertificates.{certificate_text}
+use Rattle.search.specs.SearchOutcomes.{machines}
 use Rattle.search_laws.specs.Certificates.{IsCertificate}
-use Rattle.pair_answers.specs.Answers.{ShowsSame, IsCounterexample, IsUndecided}
-use Rattle.command_answers.specs.Words.{operand, files_of, cert_of, is_check, step_limit, shrink_limit}
-use Rattle.program_laws.specs.Programs.{Program}
-use Rattle.unit_counts.specs.Counts.{Units}
-use Rattle.synthesis_answers.specs.Programs.{IsCompiledText}
-use Rattle.synthesis_answers.specs.Schedules.{IsScheduleText}
-use Rattle.synthesis_answers.specs.Bindings.{Binding, IsBoundText}
-use Rattle.command_answers.specs.Texts.{SpellsParts, SpellsMachine}
-use Rattle.command_answers.specs.Programs.{SpellsProgram}
-use Rattle.command_answers.specs.Schedules.{SpellUnits}
-use Rattle.command_answers.specs.Bindings.{SpellsBinding}
-use Rattle.command_answers.specs.Refusals.{SpellsCertificate}
-use Rattle.command_answers.specs.Pairs.{left_of, right_of}
-use Rattle.command_answers.specs.InputFiles.{SpellsInputs}
-use Rattle.command_answers.specs.Shrinks.{IsSmallText}
-use Rattle.command_answers.specs.Links.{links_of}
-use Rattle.command_answers.specs.Verdicts.{verdict_on}
-use Rattle.command_answers.specs.Replies.{opening, equivalent_text}
+use Rattle.fsmd_pair_answers.specs.PairAnswers.{ShowsSame, IsCounterexample, IsUndecided}
+use Rattle.fsmd_replies.specs.AskedFiles.{operand, files_of, cert_of, step_limit, shrink_limit}
+use Rattle.hls_program_laws.specs.Programs.{Program}
+use Rattle.hls_unit_counts.specs.Counts.{Units}
+use Rattle.fsmd_synthesis_answers.specs.ProgramAnswers.{IsCompiledText}
+use Rattle.fsmd_synthesis_answers.specs.ScheduleAnswers.{IsScheduleText}
+use Rattle.fsmd_synthesis_answers.specs.BindingAnswers.{Binding, IsBoundText}
+use Rattle.fsmd_answers.specs.MachineFiles.{SpellsParts, SpellsMachine}
+use Rattle.fsmd_answers.specs.ProgramFiles.{SpellsProgram}
+use Rattle.fsmd_answers.specs.ScheduleFiles.{SpellUnits}
+use Rattle.fsmd_answers.specs.BindingFiles.{SpellsBinding}
+use Rattle.fsmd_answers.specs.Refusals.{SpellsCertificate}
+use Rattle.fsmd_answers.specs.InputFiles.{SpellsInputs}
+use Rattle.fsmd_answers.specs.Shrinks.{IsSmallText}
+use Rattle.fsmd_answers.specs.Links.{links_of}
+use Rattle.fsmd_answers.specs.Verdicts.{verdict_on}
+use Rattle.fsmd_replies.specs.Replies.{equivalent_text}
 use Rattle.fsmd_tool.specs.Calls.{Call, held, FailedToRead, MayHold}
-use Rattle.fsmd_tool.specs.Puts.{Put}
-use Rattle.fsmd_tool.specs.Stores.{stores, IsKept, IsStored, IsUnstored}
-
--- two machines are compared: those that the first two files of a check spell, each where it is known what it holds, or those of
--- so many loops
-pub data AreCompared (g : Call) (a b : Fsmd) : Type 0 where
-  OfFiles : IsTrue (is_check g.asked) → MayHold (held g (operand 0)) (SpellsMachine a) → MayHold (held g (operand 1)) (SpellsMachine b)
-      → AreCompared g a b
-  OfLoops : (loops : ℕ) → g.asked ≡ Some (Generate loops) → a ≡ left_of loops → b ≡ right_of loops → AreCompared g a b
-
--- machines with the same inputs and outputs are compared
-pub record ArePaired (g : Call) (a b : Fsmd) : Type 0 where
-  pub compared : AreCompared g a b
-  pub alike : interface_fault a b ≡ None
-
--- this was put, behind the line with which each reply begins
-abbrev pub HasPut : Call → Put → List ℕ → Type 0
-HasPut g p lines = p.got_now ≡ appended p.got_before (opening g.asked ++ lines)
+use Rattle.fsmd_tool.specs.SinkReplies.{Put}
+use Rattle.fsmd_tool.specs.Equivalent.{ArePairedMachines, HasPut}
+use Rattle.fsmd_tool.specs.CertificateStores.{stores, IsUnchangedStore, IsStoredUnder, IsUnstored}
 
 -- a certificate shows that the machines have the same behaviour: that of a closed search, or one that was found beyond a search
 -- that is left open, and judged. It holds: it is lawful, within the limits, and all its obligations hold. Its number of nodes was
@@ -60,19 +44,20 @@ HasPut g p lines = p.got_now ≡ appended p.got_before (opening g.asked ++ lines
 pub record SaysSame (g : Call) (p : Put) : Type 0 where
   pub left : Fsmd
   pub right : Fsmd
-  pub paired : ArePaired g left right
+  pub paired : ArePairedMachines g left right
   pub nodes : List (Node Fact)
   pub shows : ShowsSame (machines left right) nodes
   pub holds : IsCertificate (machines left right) nodes
   pub same : SameBehaviour left right
   pub put : HasPut g p (equivalent_text (length nodes))
-  pub stored : (name : List ℕ) → cert_of g.asked ≡ Some name → IsStored name (certificate_text left right nodes) (stores g.before g.now)
+  pub stored : (name : List ℕ) → cert_of g.asked ≡ Some name
+      → IsStoredUnder name (certificate_text left right nodes) (stores g.before g.now)
 
 -- runs of the machines from the first stated candidate that shows a difference end with other outputs, which was put
 pub record SaysDiffer (g : Call) (p : Put) : Type 0 where
   pub left : Fsmd
   pub right : Fsmd
-  pub paired : ArePaired g left right
+  pub paired : ArePairedMachines g left right
   pub lines : List ℕ
   pub shows : IsCounterexample (step_limit g.asked) left right lines
   pub put : HasPut g p lines
@@ -81,7 +66,7 @@ pub record SaysDiffer (g : Call) (p : Put) : Type 0 where
 pub record SaysUndecided (g : Call) (p : Put) : Type 0 where
   pub left : Fsmd
   pub right : Fsmd
-  pub paired : ArePaired g left right
+  pub paired : ArePairedMachines g left right
   pub lines : List ℕ
   pub is_undecided : IsUndecided (step_limit g.asked) left right lines
   pub put : HasPut g p lines
@@ -143,7 +128,7 @@ pub record IsShrunk (g : Call) (p : Put) : Type 0 where
   pub third : MayHold (held g (operand 2)) (SpellsInputs left inputs)
   pub alike : interface_fault left right ≡ None
   pub shows : ShowsDifference left right inputs (shrink_limit g.asked)
-  pub ends : EndsIn (Shows left right (shrink_limit g.asked)) (given_contents left inputs) end
+  pub ends : EndsIn (ShowDifference left right (shrink_limit g.asked)) (given_contents left inputs) end
   pub told : IsSmallText (shrink_limit g.asked) left right end lines
   pub put : HasPut g p lines
 
@@ -179,14 +164,17 @@ pub record IsChained (g : Call) (p : Put) : Type 0 where
 -- no file was changed but the one for a certificate, and that only where one shows that the machines that are compared have the
 -- same behaviour: it was stored, or that failed
 pub data KeepsFiles (g : Call) : Type 0 where
-  AllKept : IsKept (stores g.before g.now) → KeepsFiles g
-  CertificateStored : (name : List ℕ) → cert_of g.asked ≡ Some name → (a b : Fsmd) → ArePaired g a b → (nodes : List (Node Fact)) → ShowsSame (machines a b) nodes
-      → IsStored name (certificate_text a b nodes) (stores g.before g.now) → KeepsFiles g
-  CertificateFailed : (name : List ℕ) → cert_of g.asked ≡ Some name → (a b : Fsmd) → ArePaired g a b → (nodes : List (Node Fact)) → ShowsSame (machines a b) nodes
+  AllKept : IsUnchangedStore (stores g.before g.now) → KeepsFiles g
+  CertificateStored : (name : List ℕ) → cert_of g.asked ≡ Some name → (a b : Fsmd) → ArePairedMachines g a b
+      → (nodes : List (Node Fact)) → ShowsSame (machines a b) nodes
+      → IsStoredUnder name (certificate_text a b nodes) (stores g.before g.now) → KeepsFiles g
+  CertificateFailed : (name : List ℕ) → cert_of g.asked ≡ Some name → (a b : Fsmd) → ArePairedMachines g a b
+      → (nodes : List (Node Fact)) → ShowsSame (machines a b) nodes
       → IsUnstored name (stores g.before g.now) → KeepsFiles g
 
 -- a file that is named to be read failed to be read, the certificate failed to be stored, or the sink failed
 pub data HasCause (g : Call) (p : Put) : Type 0 where
   FileFailed : (file : ℕ) → file < length (files_of g.asked) → FailedToRead g (operand file) → HasCause g p
-  CertificateUnstored : (name : List ℕ) → cert_of g.asked ≡ Some name → Rose (g.before.store_faults name) (g.now.store_faults name) → HasCause g p
+  CertificateUnstored : (name : List ℕ) → cert_of g.asked ≡ Some name
+      → Rose (g.before.store_faults name) (g.now.store_faults name) → HasCause g p
   SinkFailed : Rose p.faults_before p.faults_now → HasCause g p

@@ -1,8 +1,10 @@
 pub mod Asking
 pub mod Calls
-pub mod Puts
-pub mod Stores
+pub mod SinkReplies
+pub mod CertificateStores
 pub mod Loading
 pub mod Correct
+pub mod Equivalent
 pub mod Clauses
-pub mod Alike
+pub mod AlikeCalls
+pub mod Running

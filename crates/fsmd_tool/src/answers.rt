@@ -1,33 +1,33 @@
 //! What each command answers, from its files.
 
 ghost use Rattle.std.specs.Prelude.{◌≡◌, None, ◌≤◌, Some};
-ghost use Rattle.command_words.specs.Words.{asked};
+ghost use Rattle.fsmd_words.specs.AskedWords.{asked};
 ghost use Rattle.fs_pair.specs.Interfaces.{interface_fault};
 ghost use Rattle.fs_pair.specs.Positions.{positions};
 ghost use Rattle.fs_write.specs.Canonical.{canonical};
-ghost use Rattle.path_text.specs.Paths.{paths_text};
-ghost use Rattle.command_answers.specs.declared.answer.Answer.TheVariants.{Text};
-ghost use Rattle.command_answers.specs.Pairs.{IsOfPair};
-ghost use Rattle.command_answers.specs.Verdicts.{IsJudged};
-ghost use Rattle.command_answers.specs.Runs.{IsOfRun};
-ghost use Rattle.command_answers.specs.Replays.{IsOfReplay};
-ghost use Rattle.command_answers.specs.Follows.{Ends, OpensPair, OpensMachine, OpensParts, OpensInputs, OpensCertificate};
-ghost use Rattle.fsmd_tool.specs.Calls.{call, OnlyRead, IsCorrectFrom, AnswersBy};
+ghost use Rattle.fs_path_text.specs.PathTexts.{paths_text};
+ghost use Rattle.fsmd_replies.specs.declared.answer.Answer.TheVariants.{Text};
+ghost use Rattle.fsmd_answers.specs.MachinePairAnswers.{IsOfPair};
+ghost use Rattle.fsmd_answers.specs.Verdicts.{IsJudged};
+ghost use Rattle.fsmd_answers.specs.RunAnswers.{IsOfRun};
+ghost use Rattle.fsmd_answers.specs.Replays.{IsOfReplay};
+ghost use Rattle.fsmd_answers.specs.Follows.{Ends, OpensPair, OpensMachine, OpensParts, OpensInputs, OpensCertificate};
+ghost use Rattle.fsmd_tool.specs.Calls.{call, OnlyRead, LoadsAtMost, IsCorrectInOrder, AnswersBy};
 
 use crate::load::{load, load_certificate, load_inputs, load_machine};
 use crate::pair::{Pair, load_pair};
-use command_answers::answer::{Answer, Lines, Operand};
-use command_answers::compare::compare;
-use command_answers::judge::judge;
-use command_answers::reading::Loaded;
-use command_answers::refused::Refused;
-use command_answers::runs::{replay_machines, run_machine};
-use command_words::asking::Ask;
 use fs_ast::machine::Machine;
 use fs_base::outside::Files;
 use fs_pair::positions::Pairing;
+use fs_path_text::paths::list_paths;
 use fs_write::write_parts;
-use path_text::paths::list_paths;
+use fsmd_answers::compare::compare;
+use fsmd_answers::judge::judge;
+use fsmd_answers::reading::Loaded;
+use fsmd_answers::refused::Refused;
+use fsmd_answers::runs::{replay_machines, run_machine};
+use fsmd_replies::answer::{Answer, Lines, Operand};
+use fsmd_words::asking::Ask;
 use std::alloc::Global;
 
 /// What `check` answers: what two machines get, of runs of at most so many steps, with the text of the certificate where `keeps`
@@ -40,9 +40,10 @@ pub fn check<F: Files>(
     files: &mut F,
 ) -> Result<Answer, Refused>
     requires { 1 ≤ steps }
-    ensures answers { AnswersBy (IsCorrectFrom (OpensPair (λ a b. Ends (IsOfPair steps keeps a b))) 0
+    ensures answers { AnswersBy (IsCorrectInOrder (OpensPair (λ a b. Ends (IsOfPair steps keeps a b))) 0
         (call (Some (asked ask.now)) (F.told files.old) (F.told files.new))) result }
     ensures only_read { OnlyRead (F.told files.old) (F.told files.new) }
+    ensures at_most { LoadsAtMost (Some (asked ask.now)) 0 2 (F.told files.old) (F.told files.new) }
 {
     let Pair {
         left,
@@ -63,9 +64,11 @@ fn verify_from<F: Files>(
 ) -> Result<Answer, Refused>
     requires paired { pairing.now ≡ positions left.now right.now }
     requires alike { interface_fault left.now right.now ≡ None }
-    ensures answers { AnswersBy (IsCorrectFrom (OpensCertificate left.now right.now (λ nodes. Ends (IsJudged left.now right.now nodes)))
+    ensures answers { AnswersBy
+        (IsCorrectInOrder (OpensCertificate left.now right.now (λ nodes. Ends (IsJudged left.now right.now nodes)))
         2 (call (Some (asked ask.now)) (F.told files.old) (F.told files.new))) result }
     ensures only_read { OnlyRead (F.told files.old) (F.told files.new) }
+    ensures at_most { LoadsAtMost (Some (asked ask.now)) 2 1 (F.told files.old) (F.told files.new) }
 {
     let cert = load_certificate(alloc, Operand(2), ask, left, right, pairing, files)?;
     Ok(judge(alloc, left, right, pairing, &cert)?)
@@ -73,9 +76,10 @@ fn verify_from<F: Files>(
 
 /// What `verify` answers: whether a certificate shows that two machines have the same behaviour.
 pub fn verify_files<F: Files>(alloc: Global, ask: &Ask, files: &mut F) -> Result<Answer, Refused>
-    ensures answers { AnswersBy (IsCorrectFrom (OpensPair (λ a b. OpensCertificate a b (λ nodes. Ends (IsJudged a b nodes)))) 0
+    ensures answers { AnswersBy (IsCorrectInOrder (OpensPair (λ a b. OpensCertificate a b (λ nodes. Ends (IsJudged a b nodes)))) 0
         (call (Some (asked ask.now)) (F.told files.old) (F.told files.new))) result }
     ensures only_read { OnlyRead (F.told files.old) (F.told files.new) }
+    ensures at_most { LoadsAtMost (Some (asked ask.now)) 0 3 (F.told files.old) (F.told files.new) }
 {
     let Pair {
         left,
@@ -87,9 +91,10 @@ pub fn verify_files<F: Files>(alloc: Global, ask: &Ask, files: &mut F) -> Result
 
 /// What `fmt` answers: the canonical text of a machine.
 pub fn format_text<F: Files>(alloc: Global, ask: &Ask, files: &mut F) -> Result<Answer, Refused>
-    ensures answers { AnswersBy (IsCorrectFrom (OpensParts (λ parts. Ends (λ answer. answer ≡ Text (canonical parts)))) 0
+    ensures answers { AnswersBy (IsCorrectInOrder (OpensParts (λ parts. Ends (λ answer. answer ≡ Text (canonical parts)))) 0
         (call (Some (asked ask.now)) (F.told files.old) (F.told files.new))) result }
     ensures only_read { OnlyRead (F.told files.old) (F.told files.new) }
+    ensures at_most { LoadsAtMost (Some (asked ask.now)) 0 1 (F.told files.old) (F.told files.new) }
 {
     let Loaded { parts, .. } = load(alloc, Operand(0), ask, files)?;
     match write_parts(alloc, &parts) {
@@ -102,9 +107,10 @@ pub fn format_text<F: Files>(alloc: Global, ask: &Ask, files: &mut F) -> Result<
 
 /// What `cuts` answers: the paths of a machine.
 pub fn cut_paths<F: Files>(alloc: Global, ask: &Ask, files: &mut F) -> Result<Answer, Refused>
-    ensures answers { AnswersBy (IsCorrectFrom (OpensMachine (λ m. Ends (λ answer. answer ≡ Text (paths_text m)))) 0
+    ensures answers { AnswersBy (IsCorrectInOrder (OpensMachine (λ m. Ends (λ answer. answer ≡ Text (paths_text m)))) 0
         (call (Some (asked ask.now)) (F.told files.old) (F.told files.new))) result }
     ensures only_read { OnlyRead (F.told files.old) (F.told files.new) }
+    ensures at_most { LoadsAtMost (Some (asked ask.now)) 0 1 (F.told files.old) (F.told files.new) }
 {
     let machine = load_machine(alloc, Operand(0), ask, files)?;
     let lines = Lines::of(list_paths(alloc, &machine)?);
@@ -120,9 +126,10 @@ fn run_from<F: Files>(
     files: &mut F,
 ) -> Result<Answer, Refused>
     requires { 1 ≤ steps }
-    ensures answers { AnswersBy (IsCorrectFrom (OpensInputs machine.now (λ ins. Ends (IsOfRun steps machine.now ins))) 1
+    ensures answers { AnswersBy (IsCorrectInOrder (OpensInputs machine.now (λ ins. Ends (IsOfRun steps machine.now ins))) 1
         (call (Some (asked ask.now)) (F.told files.old) (F.told files.new))) result }
     ensures only_read { OnlyRead (F.told files.old) (F.told files.new) }
+    ensures at_most { LoadsAtMost (Some (asked ask.now)) 1 1 (F.told files.old) (F.told files.new) }
 {
     let inputs = load_inputs(alloc, Operand(1), ask, machine, files)?;
     Ok(run_machine(alloc, machine, &inputs, steps)?)
@@ -136,9 +143,10 @@ pub fn run_files<F: Files>(
     files: &mut F,
 ) -> Result<Answer, Refused>
     requires { 1 ≤ steps }
-    ensures answers { AnswersBy (IsCorrectFrom (OpensMachine (λ m. OpensInputs m (λ ins. Ends (IsOfRun steps m ins)))) 0
+    ensures answers { AnswersBy (IsCorrectInOrder (OpensMachine (λ m. OpensInputs m (λ ins. Ends (IsOfRun steps m ins)))) 0
         (call (Some (asked ask.now)) (F.told files.old) (F.told files.new))) result }
     ensures only_read { OnlyRead (F.told files.old) (F.told files.new) }
+    ensures at_most { LoadsAtMost (Some (asked ask.now)) 0 2 (F.told files.old) (F.told files.new) }
 {
     let machine = load_machine(alloc, Operand(0), ask, files)?;
     run_from(alloc, ask, &machine, steps, files)
@@ -155,9 +163,10 @@ fn replay_from<F: Files>(
 ) -> Result<Answer, Refused>
     requires alike { interface_fault left.now right.now ≡ None }
     requires steps { 1 ≤ steps }
-    ensures answers { AnswersBy (IsCorrectFrom (OpensInputs left.now (λ ins. Ends (IsOfReplay steps left.now right.now ins))) 2
+    ensures answers { AnswersBy (IsCorrectInOrder (OpensInputs left.now (λ ins. Ends (IsOfReplay steps left.now right.now ins))) 2
         (call (Some (asked ask.now)) (F.told files.old) (F.told files.new))) result }
     ensures only_read { OnlyRead (F.told files.old) (F.told files.new) }
+    ensures at_most { LoadsAtMost (Some (asked ask.now)) 2 1 (F.told files.old) (F.told files.new) }
 {
     let inputs = load_inputs(alloc, Operand(2), ask, left, files)?;
     Ok(replay_machines(alloc, left, right, &inputs, steps)?)
@@ -171,9 +180,10 @@ pub fn replay_files<F: Files>(
     files: &mut F,
 ) -> Result<Answer, Refused>
     requires { 1 ≤ steps }
-    ensures answers { AnswersBy (IsCorrectFrom (OpensPair (λ a b. OpensInputs a (λ ins. Ends (IsOfReplay steps a b ins)))) 0
+    ensures answers { AnswersBy (IsCorrectInOrder (OpensPair (λ a b. OpensInputs a (λ ins. Ends (IsOfReplay steps a b ins)))) 0
         (call (Some (asked ask.now)) (F.told files.old) (F.told files.new))) result }
     ensures only_read { OnlyRead (F.told files.old) (F.told files.new) }
+    ensures at_most { LoadsAtMost (Some (asked ask.now)) 0 3 (F.told files.old) (F.told files.new) }
 {
     let Pair { left, right, .. } = load_pair(alloc, ask, files)?;
     replay_from(alloc, ask, &left, &right, steps, files)

@@ -1,32 +1,32 @@
 //! What `chain` answers, from its files, link by link. Between links two machines are kept; a link takes the next one, a
 //! certificate, and copies of two machines for the line of its verdict.
 
-ghost use Rattle.std.specs.Prelude.{◌≡◌, ◌+◌, ◌*◌, ◌<◌, ◌≤◌, length, map, string_bytes, IfOk, None, Some};
+ghost use Rattle.std.specs.Prelude.{◌≡◌, ◌+◌, ◌*◌, ◌<◌, ◌≤◌, length, map, string_bytes, IfOk, OnOk, None, Some};
 ghost use Rattle.std.specs.Result.{IfErr};
-ghost use Rattle.command_words.specs.Words.{asked};
+ghost use Rattle.fsmd_words.specs.AskedWords.{asked};
 ghost use Rattle.fs_pair.specs.Interfaces.{interface_fault};
 ghost use Rattle.fs_pair.specs.Positions.{positions};
-ghost use Rattle.certificates.specs.View.{node_of};
-ghost use Rattle.command_answers.specs.Words.{operand, word_of};
-ghost use Rattle.command_answers.specs.Texts.{SpellsMachine};
-ghost use Rattle.command_answers.specs.Refusals.{SpellsCertificate};
-ghost use Rattle.command_answers.specs.Refusing.{WhereAnswered};
-ghost use Rattle.command_answers.specs.Links.{links_of};
-ghost use Rattle.command_answers.specs.Follows.{OpensMachine, OpensLink, OpensLinks};
-ghost use Rattle.fsmd_tool.specs.Calls.{call, OnlyRead, MayHold, IsCorrectFrom, AnswersBy};
+ghost use Rattle.cert_model.specs.View.{node_of};
+ghost use Rattle.fsmd_replies.specs.AskedFiles.{operand, file_word_of};
+ghost use Rattle.fsmd_answers.specs.MachineFiles.{SpellsMachine};
+ghost use Rattle.fsmd_answers.specs.Refusals.{SpellsCertificate};
+ghost use Rattle.fsmd_answers.specs.Refusing.{WhereAnswered};
+ghost use Rattle.fsmd_answers.specs.Links.{links_of};
+ghost use Rattle.fsmd_answers.specs.Follows.{OpensMachine, OpensLink, OpensLinks};
+ghost use Rattle.fsmd_tool.specs.Calls.{call, OnlyRead, LoadsFrom, LoadsAtMost, MayHold, IsCorrectInOrder, AnswersBy};
 ghost use Rattle.fsmd_tool.specs.Loading.{NothingFollows, RefusesLink};
 ghost use Rattle.fsmd_tool.specs.Clauses.{LinkHolds};
 
 use crate::load::{load_certificate, load_machine};
 use crate::pair::{Next, load_next};
-use certificates::cert::Cert;
-use command_answers::answer::{Answer, Operand};
-use command_answers::links::{add_link, at_link, chain_answer};
-use command_answers::refused::Refused;
-use command_words::asking::Ask;
+use cert_model::cert::Cert;
 use fs_ast::machine::Machine;
 use fs_base::outside::Files;
 use fs_pair::positions::Pairing;
+use fsmd_answers::links::{add_link, at_link, chain_answer};
+use fsmd_answers::refused::Refused;
+use fsmd_replies::answer::{Answer, Operand};
+use fsmd_words::asking::Ask;
 use hls_shrink::Chain;
 use std::alloc::{AllocError, Global};
 
@@ -48,16 +48,18 @@ fn load_link<F: Files>(
     files: &mut F,
 ) -> Result<Link, Refused>
     requires { file < 128 }
-    ensures spells { IfOk result (λ l. MayHold ((F.told files.old).holds (word_of (Some (asked ask.now)) (operand file)))
+    ensures spells { IfOk result (λ l. MayHold ((F.told files.old).holds (file_word_of (Some (asked ask.now)) (operand file)))
         (SpellsMachine l.machine)) }
     ensures alike { IfOk result (λ l. interface_fault last.now l.machine ≡ None) }
     ensures paired { IfOk result (λ l. l.pairing ≡ positions last.now l.machine) }
     ensures certificate { IfOk result (λ l. MayHold
-        ((F.told files.old).holds (word_of (Some (asked ask.now)) (operand (file + 1))))
+        ((F.told files.old).holds (file_word_of (Some (asked ask.now)) (operand (file + 1))))
         (SpellsCertificate last.now l.machine (map node_of l.cert.nodes.items))) }
-    ensures refused { IfErr result (WhereAnswered (IsCorrectFrom (RefusesLink last.now) file
+    ensures refused { IfErr result (WhereAnswered (IsCorrectInOrder (RefusesLink last.now) file
         (call (Some (asked ask.now)) (F.told files.old) (F.told files.new)))) }
     ensures only_read { OnlyRead (F.told files.old) (F.told files.new) }
+    ensures loads { OnOk result (LoadsFrom (Some (asked ask.now)) file 2 (F.told files.old) (F.told files.new)) }
+    ensures at_most { LoadsAtMost (Some (asked ask.now)) file 2 (F.told files.old) (F.told files.new) }
 {
     let Next { machine, pairing } = load_next(alloc, Operand(file), ask, last, files)?;
     let cert = load_certificate(
@@ -89,10 +91,12 @@ fn add_next<F: Files>(
     ensures first { IfOk result (λ longer. longer.first ≡ chain.first) }
     ensures holds { IfOk result (λ longer. LinkHolds (call (Some (asked ask.now)) (F.told files.old) (F.told files.new))
         (2 * held + 1) chain.last (λ next. next ≡ longer.last)) }
-    ensures refused { IfErr result (WhereAnswered (IsCorrectFrom
+    ensures refused { IfErr result (WhereAnswered (IsCorrectInOrder
         (OpensLink (Some (asked ask.now)) (held + 1) chain.last (λ _. NothingFollows)) (2 * held + 1)
         (call (Some (asked ask.now)) (F.told files.old) (F.told files.new)))) }
     ensures only_read { OnlyRead (F.told files.old) (F.told files.new) }
+    ensures loads { OnOk result (LoadsFrom (Some (asked ask.now)) (2 * held + 1) 2 (F.told files.old) (F.told files.new)) }
+    ensures at_most { LoadsAtMost (Some (asked ask.now)) (2 * held + 1) 2 (F.told files.old) (F.told files.new) }
 {
     let link = match load_link(alloc, 2 * held + 1, ask, chain.last(), files) {
         Ok(link) => link,
@@ -126,9 +130,10 @@ fn links_from<F: Files>(
     files: &mut F,
 ) -> Result<Answer, Refused>
     requires { links ≤ 64 }
-    ensures answers { AnswersBy (IsCorrectFrom (OpensLinks (Some (asked ask.now)) first first 0 links) 1
+    ensures answers { AnswersBy (IsCorrectInOrder (OpensLinks (Some (asked ask.now)) first first 0 links) 1
         (call (Some (asked ask.now)) (F.told files.old) (F.told files.new))) result }
     ensures only_read { OnlyRead (F.told files.old) (F.told files.new) }
+    ensures at_most { LoadsAtMost (Some (asked ask.now)) 1 (2 * links) (F.told files.old) (F.told files.new) }
 {
     let mut chain = chain_of(alloc, first)?;
     for held in 0..links {
@@ -155,10 +160,12 @@ pub fn chain_files<F: Files>(
     files: &mut F,
 ) -> Result<Answer, Refused>
     requires { length words.now ≤ 129 }
-    ensures answers { AnswersBy (IsCorrectFrom
+    ensures answers { AnswersBy (IsCorrectInOrder
         (OpensMachine (λ m. OpensLinks (Some (asked ask.now)) m m 0 (links_of (map string_bytes words.now)))) 0
         (call (Some (asked ask.now)) (F.told files.old) (F.told files.new))) result }
     ensures only_read { OnlyRead (F.told files.old) (F.told files.new) }
+    ensures at_most { LoadsAtMost (Some (asked ask.now)) 0 (1 + 2 * links_of (map string_bytes words.now))
+        (F.told files.old) (F.told files.new) }
 {
     let first = load_machine(alloc, Operand(0), ask, files)?;
     links_from(alloc, ask, first, link_count(words), files)

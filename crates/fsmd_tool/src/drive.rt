@@ -3,34 +3,40 @@
 ghost use Rattle.std.specs.Prelude.{◌≡◌, ◌≤◌, Some, IfOk};
 ghost use Rattle.std.specs.Result.{OnErr};
 ghost use Rattle.fs_base.specs.Outside.{NoneFell};
-ghost use Rattle.command_words.specs.Words.{IsWithinLimits, asked};
-ghost use Rattle.command_answers.specs.declared.answer.Status.TheVariants.{Fine, Differ, Undecided, Fault};
-ghost use Rattle.fsmd_tool.specs.Asking.{asked_in, AskToCompare, AskToVerify, AskToCompile, AskToSchedule, AskToBind, AskToShrink, AskToChain};
-ghost use Rattle.fsmd_tool.specs.Calls.{call, OnlyRead, AnswersBy};
-ghost use Rattle.fsmd_tool.specs.Puts.{put};
-ghost use Rattle.fsmd_tool.specs.Stores.{stores, IsUnwritten};
-ghost use Rattle.fsmd_tool.specs.Correct.{IsCorrectAnswer, Answered, Outcome};
-ghost use Rattle.fsmd_tool.specs.Alike.{AnswersPair, TellsOfAlike};
-ghost use Rattle.fsmd_tool.specs.Clauses.{SaysSame, SaysDiffer, SaysUndecided, IsChecked, IsCompiled, IsInRows, IsInRegisters, KeepsFiles, HasCause, IsShrunk, IsChained};
+ghost use Rattle.fsmd_words.specs.AskedWords.{IsWithinLimits, asked};
+ghost use Rattle.fsmd_replies.specs.declared.answer.Status.TheVariants.{Fine, Differ, Undecided, Fault};
+ghost use Rattle.fsmd_answers.specs.Follows.{FollowsFrom};
+ghost use Rattle.fsmd_tool.specs.Asking.{asked_by_words, AskToCompare, AskToVerify, AskToCompile, AskToSchedule, AskToBind};
+ghost use Rattle.fsmd_tool.specs.Asking.{AskToShrink, AskToChain};
+ghost use Rattle.fsmd_tool.specs.Calls.{call, OnlyRead, LoadsNamed, IsCorrectInOrder, AnswersBy};
+ghost use Rattle.fsmd_tool.specs.SinkReplies.{put};
+ghost use Rattle.fsmd_tool.specs.CertificateStores.{stores, IsUnwritten};
+ghost use Rattle.fsmd_tool.specs.Correct.{Answered, Outcome};
+ghost use Rattle.fsmd_tool.specs.AlikeCalls.{AnswersPair, TellsOfAlike};
+ghost use Rattle.fsmd_tool.specs.Equivalent.{AreEquivalent};
+ghost use Rattle.fsmd_tool.specs.Clauses.{SaysSame, SaysDiffer, SaysUndecided, IsChecked, IsCompiled, IsInRows, IsInRegisters};
+ghost use Rattle.fsmd_tool.specs.Clauses.{KeepsFiles, HasCause, IsShrunk, IsChained};
 
 use crate::answers::{check, cut_paths, format_text, replay_files, run_files, verify_files};
 use crate::chain::chain_files;
 use crate::put::{put_answer, put_usage};
 use crate::shrink::shrink_files;
 use crate::synthesis::{bind_files, compile_file, schedule_files};
-use command_answers::answer::{Answer, Status};
-use command_answers::generated::compare_generated;
-use command_answers::refused::Refused;
-use command_words::asking::{Ask, AskError};
-use command_words::words::ask;
 use fs_base::outside::{Files, Sink};
+use fsmd_answers::generated::compare_generated;
+use fsmd_answers::refused::Refused;
+use fsmd_replies::answer::{Answer, Status};
+use fsmd_words::asking::{Ask, AskError};
+use fsmd_words::words::ask;
 use std::alloc::{AllocError, Global};
 
 // What a command answers.
 fn answer_command<F: Files>(alloc: Global, ask: &Ask, files: &mut F) -> Result<Answer, Refused>
     requires { IsWithinLimits (asked ask.now) }
-    ensures answers { AnswersBy (IsCorrectAnswer (call (Some (asked ask.now)) (F.told files.old) (F.told files.new))) result }
+    ensures answers { AnswersBy (IsCorrectInOrder (FollowsFrom (Some (asked ask.now))) 0
+        (call (Some (asked ask.now)) (F.told files.old) (F.told files.new))) result }
     ensures only_read { OnlyRead (F.told files.old) (F.told files.new) }
+    ensures loads { LoadsNamed (call (Some (asked ask.now)) (F.told files.old) (F.told files.new)) }
 {
     match ask {
         Ask::Check { cert, steps, .. } => check(alloc, ask, *steps, cert.is_some(), files),
@@ -51,8 +57,10 @@ fn answer_command<F: Files>(alloc: Global, ask: &Ask, files: &mut F) -> Result<A
 // What is answered to what is asked.
 fn answer<F: Files>(alloc: Global, ask: &Ask, files: &mut F) -> Result<Answer, AllocError>
     requires { IsWithinLimits (asked ask.now) }
-    ensures correct { IfOk result (IsCorrectAnswer (call (Some (asked ask.now)) (F.told files.old) (F.told files.new))) }
+    ensures correct { IfOk result (IsCorrectInOrder (FollowsFrom (Some (asked ask.now))) 0
+        (call (Some (asked ask.now)) (F.told files.old) (F.told files.new))) }
     ensures only_read { OnlyRead (F.told files.old) (F.told files.new) }
+    ensures loads { LoadsNamed (call (Some (asked ask.now)) (F.told files.old) (F.told files.new)) }
 {
     match answer_command(alloc, ask, files) {
         Ok(answer) => Ok(answer),
@@ -69,13 +77,16 @@ fn put_asked<F: Files, S: Sink>(
     out: &mut S,
 ) -> Result<Status, AllocError>
     requires { IsWithinLimits (asked ask.now) }
-    ensures answered { IfOk result (λ status. Answered (call (Some (asked ask.now)) (F.told files.old) (F.told files.new)) (put status (S.told out.old) (S.told out.new))) }
+    ensures answered { IfOk result
+        (λ status. Answered (call (Some (asked ask.now)) (F.told files.old) (F.told files.new))
+        (put status (S.told out.old) (S.told out.new))) }
     ensures err { OnErr result ((S.told out.new).got ≡ (S.told out.old).got) }
     ensures unwritten { OnErr result (IsUnwritten (Some (asked ask.now)) (stores (F.told files.old) (F.told files.new))) }
     ensures counts { NoneFell (F.told files.old).faults (F.told files.new).faults }
     ensures store_counts { NoneFell (F.told files.old).store_faults (F.told files.new).store_faults }
     ensures sink_counts { (S.told out.old).faults ≤ (S.told out.new).faults }
     ensures unchanged { KeepsFiles (call (Some (asked ask.now)) (F.told files.old) (F.told files.new)) }
+    ensures loads { LoadsNamed (call (Some (asked ask.now)) (F.told files.old) (F.told files.new)) }
 {
     let answer = answer(alloc, ask, files)?;
     put_answer(alloc, &answer, ask, files, out)
@@ -88,13 +99,16 @@ fn put_reply<F: Files, S: Sink>(
     files: &mut F,
     out: &mut S,
 ) -> Result<Status, AllocError>
-    ensures answered { IfOk result (λ status. Answered (call (asked_in words.now) (F.told files.old) (F.told files.new)) (put status (S.told out.old) (S.told out.new))) }
+    ensures answered { IfOk result
+        (λ status. Answered (call (asked_by_words words.now) (F.told files.old) (F.told files.new))
+        (put status (S.told out.old) (S.told out.new))) }
     ensures err { OnErr result ((S.told out.new).got ≡ (S.told out.old).got) }
-    ensures unwritten { OnErr result (IsUnwritten (asked_in words.now) (stores (F.told files.old) (F.told files.new))) }
+    ensures unwritten { OnErr result (IsUnwritten (asked_by_words words.now) (stores (F.told files.old) (F.told files.new))) }
     ensures counts { NoneFell (F.told files.old).faults (F.told files.new).faults }
     ensures store_counts { NoneFell (F.told files.old).store_faults (F.told files.new).store_faults }
     ensures sink_counts { (S.told out.old).faults ≤ (S.told out.new).faults }
-    ensures unchanged { KeepsFiles (call (asked_in words.now) (F.told files.old) (F.told files.new)) }
+    ensures unchanged { KeepsFiles (call (asked_by_words words.now) (F.told files.old) (F.told files.new)) }
+    ensures loads { LoadsNamed (call (asked_by_words words.now) (F.told files.old) (F.told files.new)) }
 {
     match ask(alloc, words) {
         Ok(ask) => put_asked(alloc, &ask, files, out),
@@ -117,24 +131,48 @@ pub fn drive<F: Files, S: Sink>(
     files: &mut F,
     out: &mut S,
 ) -> Status
-    ensures outcome { Outcome (call (asked_in words.now) (F.told files.old) (F.told files.new)) (put result (S.told out.old) (S.told out.new)) }
-    ensures equivalent { result ≡ Fine → AskToCompare words.now → SaysSame (call (asked_in words.now) (F.told files.old) (F.told files.new)) (put result (S.told out.old) (S.told out.new)) }
-    ensures differ { result ≡ Differ → AskToCompare words.now → SaysDiffer (call (asked_in words.now) (F.told files.old) (F.told files.new)) (put result (S.told out.old) (S.told out.new)) }
-    ensures undecided { result ≡ Undecided → AskToCompare words.now → SaysUndecided (call (asked_in words.now) (F.told files.old) (F.told files.new)) (put result (S.told out.old) (S.told out.new)) }
-    ensures alike { AnswersPair result → AskToCompare words.now → TellsOfAlike (call (asked_in words.now) (F.told files.old) (F.told files.new)) (put result (S.told out.old) (S.told out.new)) }
-    ensures checked { result ≡ Fine → AskToVerify words.now → IsChecked (call (asked_in words.now) (F.told files.old) (F.told files.new)) (put result (S.told out.old) (S.told out.new)) }
-    ensures compiled { result ≡ Fine → AskToCompile words.now → IsCompiled (call (asked_in words.now) (F.told files.old) (F.told files.new)) (put result (S.told out.old) (S.told out.new)) }
-    ensures in_rows { result ≡ Fine → AskToSchedule words.now → IsInRows (call (asked_in words.now) (F.told files.old) (F.told files.new)) (put result (S.told out.old) (S.told out.new)) }
-    ensures in_registers { result ≡ Fine → AskToBind words.now → IsInRegisters (call (asked_in words.now) (F.told files.old) (F.told files.new)) (put result (S.told out.old) (S.told out.new)) }
+    ensures outcome { Outcome (call (asked_by_words words.now) (F.told files.old) (F.told files.new))
+        (put result (S.told out.old) (S.told out.new)) }
+    ensures same_behaviour { result ≡ Fine → AskToCompare words.now
+        → AreEquivalent (call (asked_by_words words.now) (F.told files.old) (F.told files.new))
+        (put result (S.told out.old) (S.told out.new)) }
+    ensures equivalent { result ≡ Fine → AskToCompare words.now
+        → SaysSame (call (asked_by_words words.now) (F.told files.old) (F.told files.new))
+        (put result (S.told out.old) (S.told out.new)) }
+    ensures differ { result ≡ Differ → AskToCompare words.now
+        → SaysDiffer (call (asked_by_words words.now) (F.told files.old) (F.told files.new))
+        (put result (S.told out.old) (S.told out.new)) }
+    ensures undecided { result ≡ Undecided → AskToCompare words.now
+        → SaysUndecided (call (asked_by_words words.now) (F.told files.old) (F.told files.new))
+        (put result (S.told out.old) (S.told out.new)) }
+    ensures alike { AnswersPair result → AskToCompare words.now
+        → TellsOfAlike (call (asked_by_words words.now) (F.told files.old) (F.told files.new))
+        (put result (S.told out.old) (S.told out.new)) }
+    ensures checked { result ≡ Fine → AskToVerify words.now
+        → IsChecked (call (asked_by_words words.now) (F.told files.old) (F.told files.new))
+        (put result (S.told out.old) (S.told out.new)) }
+    ensures compiled { result ≡ Fine → AskToCompile words.now
+        → IsCompiled (call (asked_by_words words.now) (F.told files.old) (F.told files.new))
+        (put result (S.told out.old) (S.told out.new)) }
+    ensures in_rows { result ≡ Fine → AskToSchedule words.now
+        → IsInRows (call (asked_by_words words.now) (F.told files.old) (F.told files.new))
+        (put result (S.told out.old) (S.told out.new)) }
+    ensures in_registers { result ≡ Fine → AskToBind words.now
+        → IsInRegisters (call (asked_by_words words.now) (F.told files.old) (F.told files.new))
+        (put result (S.told out.old) (S.told out.new)) }
     ensures shrunk { result ≡ Differ → AskToShrink words.now
-        → IsShrunk (call (asked_in words.now) (F.told files.old) (F.told files.new)) (put result (S.told out.old) (S.told out.new)) }
+        → IsShrunk (call (asked_by_words words.now) (F.told files.old) (F.told files.new))
+        (put result (S.told out.old) (S.told out.new)) }
     ensures chained { result ≡ Fine → AskToChain words.now
-        → IsChained (call (asked_in words.now) (F.told files.old) (F.told files.new)) (put result (S.told out.old) (S.told out.new)) }
-    ensures fault { result ≡ Fault → HasCause (call (asked_in words.now) (F.told files.old) (F.told files.new)) (put result (S.told out.old) (S.told out.new)) }
+        → IsChained (call (asked_by_words words.now) (F.told files.old) (F.told files.new))
+        (put result (S.told out.old) (S.told out.new)) }
+    ensures fault { result ≡ Fault → HasCause (call (asked_by_words words.now) (F.told files.old) (F.told files.new))
+        (put result (S.told out.old) (S.told out.new)) }
     ensures counts { NoneFell (F.told files.old).faults (F.told files.new).faults }
     ensures store_counts { NoneFell (F.told files.old).store_faults (F.told files.new).store_faults }
     ensures sink_counts { (S.told out.old).faults ≤ (S.told out.new).faults }
-    ensures unchanged { KeepsFiles (call (asked_in words.now) (F.told files.old) (F.told files.new)) }
+    ensures unchanged { KeepsFiles (call (asked_by_words words.now) (F.told files.old) (F.told files.new)) }
+    ensures loads { LoadsNamed (call (asked_by_words words.now) (F.told files.old) (F.told files.new)) }
 {
     match put_reply(alloc, words, files, out) {
         Ok(status) => status,

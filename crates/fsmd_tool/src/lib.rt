@@ -1,4 +1,13 @@
 //! The commands of `fsmd`: their files in order, what is put, and what is stored.
+//!
+//! Promises: `drive`: all that is promised of a call; `run_words` and `run_program`: the program as a whole.
+//!
+//! Rules: `specs/Equivalent`, `specs/Correct`, `specs/Clauses`, `specs/Running`, `specs/Asking`, `specs/Calls`,
+//! `specs/CertificateStores`.
+//!
+//! Words:
+//! - correct answer: an answer that the words and the files call for
+//! - outcome (of a call): a correct answer was put, or there was no memory
 #![tactic(auto)]
 
 mod answers;
@@ -11,4 +20,4 @@ pub mod put;
 mod shrink;
 mod synthesis;
 
-pub use command_answers::answer;
+pub use fsmd_replies::answer;

@@ -1,24 +1,24 @@
 //! Loads the files of machines with the same inputs and outputs.
 
-ghost use Rattle.std.specs.Prelude.{◌≡◌, IfOk, Some, None};
+ghost use Rattle.std.specs.Prelude.{◌≡◌, IfOk, OnOk, Some, None};
 ghost use Rattle.std.specs.Result.{IfErr};
-ghost use Rattle.command_words.specs.Words.{asked};
+ghost use Rattle.fsmd_words.specs.AskedWords.{asked};
 ghost use Rattle.fs_pair.specs.Interfaces.{interface_fault};
 ghost use Rattle.fs_pair.specs.Positions.{positions};
-ghost use Rattle.command_answers.specs.Words.{operand, word_of};
-ghost use Rattle.command_answers.specs.Texts.{SpellsMachine};
-ghost use Rattle.command_answers.specs.Refusals.{RefusesPair};
-ghost use Rattle.command_answers.specs.Refusing.{WhereAnswered};
-ghost use Rattle.fsmd_tool.specs.Calls.{call, OnlyRead, MayHold, IsCorrectFrom};
+ghost use Rattle.fsmd_replies.specs.AskedFiles.{operand, file_word_of};
+ghost use Rattle.fsmd_answers.specs.MachineFiles.{SpellsMachine};
+ghost use Rattle.fsmd_answers.specs.Refusals.{RefusesPair};
+ghost use Rattle.fsmd_answers.specs.Refusing.{WhereAnswered};
+ghost use Rattle.fsmd_tool.specs.Calls.{call, OnlyRead, LoadsFrom, LoadsAtMost, MayHold, IsCorrectInOrder};
 ghost use Rattle.fsmd_tool.specs.Loading.{RefusesNext, RefusesBoth};
 
 use crate::load::load_machine;
-use command_answers::answer::{Answer, Operand};
-use command_answers::refused::Refused;
-use command_words::asking::Ask;
 use fs_ast::machine::Machine;
 use fs_base::outside::Files;
 use fs_pair::positions::{FaceError, Pairing, same_interface};
+use fsmd_answers::refused::Refused;
+use fsmd_replies::answer::{Answer, Operand};
+use fsmd_words::asking::Ask;
 use std::alloc::Global;
 
 /// The machine that a file spells, with the same inputs and outputs as one before it, and the positions of both.
@@ -58,13 +58,15 @@ pub fn load_next<F: Files>(
     left: &Machine,
     files: &mut F,
 ) -> Result<Next, Refused>
-    ensures spells { IfOk result (λ n. MayHold ((F.told files.old).holds (word_of (Some (asked ask.now)) file))
+    ensures spells { IfOk result (λ n. MayHold ((F.told files.old).holds (file_word_of (Some (asked ask.now)) file))
         (SpellsMachine n.machine)) }
     ensures alike { IfOk result (λ n. interface_fault left.now n.machine ≡ None) }
     ensures paired { IfOk result (λ n. n.pairing ≡ positions left.now n.machine) }
-    ensures refused { IfErr result (WhereAnswered (IsCorrectFrom (RefusesNext left.now) file.0
+    ensures refused { IfErr result (WhereAnswered (IsCorrectInOrder (RefusesNext left.now) file.0
         (call (Some (asked ask.now)) (F.told files.old) (F.told files.new)))) }
     ensures only_read { OnlyRead (F.told files.old) (F.told files.new) }
+    ensures loads { LoadsFrom (Some (asked ask.now)) file.0 1 (F.told files.old) (F.told files.new) }
+    ensures at_most { LoadsAtMost (Some (asked ask.now)) file.0 1 (F.told files.old) (F.told files.new) }
 {
     let machine = load_machine(alloc, file, ask, files)?;
     let pairing = pairing_of(alloc, left, &machine)?;
@@ -74,15 +76,17 @@ pub fn load_next<F: Files>(
 /// Loads the first two files of a call, the first one first, or answers the first refusal: of a file, and then that the machines
 /// have other inputs or outputs.
 pub fn load_pair<F: Files>(alloc: Global, ask: &Ask, files: &mut F) -> Result<Pair, Refused>
-    ensures left { IfOk result (λ p. MayHold ((F.told files.old).holds (word_of (Some (asked ask.now)) (operand 0)))
+    ensures left { IfOk result (λ p. MayHold ((F.told files.old).holds (file_word_of (Some (asked ask.now)) (operand 0)))
         (SpellsMachine p.left)) }
-    ensures right { IfOk result (λ p. MayHold ((F.told files.old).holds (word_of (Some (asked ask.now)) (operand 1)))
+    ensures right { IfOk result (λ p. MayHold ((F.told files.old).holds (file_word_of (Some (asked ask.now)) (operand 1)))
         (SpellsMachine p.right)) }
     ensures alike { IfOk result (λ p. interface_fault p.left p.right ≡ None) }
     ensures paired { IfOk result (λ p. p.pairing ≡ positions p.left p.right) }
-    ensures refused { IfErr result (WhereAnswered (IsCorrectFrom RefusesBoth 0
+    ensures refused { IfErr result (WhereAnswered (IsCorrectInOrder RefusesBoth 0
         (call (Some (asked ask.now)) (F.told files.old) (F.told files.new)))) }
     ensures only_read { OnlyRead (F.told files.old) (F.told files.new) }
+    ensures loads { OnOk result (LoadsFrom (Some (asked ask.now)) 0 2 (F.told files.old) (F.told files.new)) }
+    ensures at_most { LoadsAtMost (Some (asked ask.now)) 0 2 (F.told files.old) (F.told files.new) }
 {
     let left = load_machine(alloc, Operand(0), ask, files)?;
     let Next { machine, pairing } = load_next(alloc, Operand(1), ask, &left, files)?;

@@ -2,22 +2,22 @@
 
 ghost use Rattle.std.specs.Prelude.{◌≡◌, ◌≤◌, IfOk, IsTrue, Some, None, length, option_map};
 ghost use Rattle.std.specs.Result.{OnErr};
-ghost use Rattle.command_words.specs.Words.{asked};
+ghost use Rattle.fsmd_words.specs.AskedWords.{asked};
 ghost use Rattle.fs_base.specs.Outside.{HasRoom, NoneFell};
-ghost use Rattle.command_answers.specs.declared.answer.Answer.TheVariants.{Usage};
-ghost use Rattle.command_answers.specs.declared.answer.Status.TheVariants.{Fault};
-ghost use Rattle.command_answers.specs.Statuses.{status_of};
-ghost use Rattle.command_answers.specs.Replies.{reply, unstored_reply};
-ghost use Rattle.fsmd_tool.specs.Puts.{IsPut, put};
-ghost use Rattle.fsmd_tool.specs.Stores.{stores, entry, to_store, Leaves, NotStored};
+ghost use Rattle.fsmd_replies.specs.declared.answer.Answer.TheVariants.{Usage};
+ghost use Rattle.fsmd_replies.specs.declared.answer.Status.TheVariants.{Fault};
+ghost use Rattle.fsmd_replies.specs.Statuses.{status_of};
+ghost use Rattle.fsmd_replies.specs.Replies.{reply, unstored_reply};
+ghost use Rattle.fsmd_tool.specs.SinkReplies.{IsPut, put};
+ghost use Rattle.fsmd_tool.specs.CertificateStores.{stores, stored_entry, to_store, Leaves, NotStored};
 ghost use Rattle.fsmd_tool.specs.Correct.{IsDone, IsDoneFor};
 
-use command_answers::answer::{Answer, Status};
-use command_answers::reply::{USAGE, reply, unstored_reply};
-use command_answers::words::cert_word;
-use command_words::asking::Ask;
 use fs_base::outside::{Files, Sink, StoreError};
 use fs_base::put_all::put_all;
+use fsmd_replies::answer::{Answer, Status};
+use fsmd_replies::reply::{USAGE, reply, unstored_reply};
+use fsmd_replies::words::cert_word;
+use fsmd_words::asking::Ask;
 use std::alloc::{AllocError, Global};
 
 // Whether so many bytes have room, where it is told how many have.
@@ -61,7 +61,8 @@ fn put_whole<S: Sink>(reply: &[u8], meant: Status, out: &mut S) -> Result<Status
 ///
 /// The error is out of memory: the line is longer than the sink has room; then nothing was put.
 pub fn put_usage<S: Sink>(out: &mut S) -> Result<Status, AllocError>
-    ensures ok { IfOk result (λ status. IsPut (reply Usage None) (status_of Usage) (put status (S.told out.old) (S.told out.new))) }
+    ensures ok { IfOk result
+        (λ status. IsPut (reply Usage None) (status_of Usage) (put status (S.told out.old) (S.told out.new))) }
     ensures err { OnErr result ((S.told out.new).got ≡ (S.told out.old).got) }
     ensures sink_counts { (S.told out.old).faults ≤ (S.told out.new).faults }
 {
@@ -87,7 +88,8 @@ struct Entry<'a> {
 
 // What is to be stored of an answer to what is asked: its certificate, under the word for it.
 fn to_store<'a>(answer: &'a Answer, ask: &'a Ask) -> Option<Entry<'a>>
-    ensures { option_map (λ e. entry e.name.now e.bytes.now) result ≡ to_store (Some (asked ask.entry.now)) answer.entry.now }
+    ensures { option_map (λ e. stored_entry e.name.now e.bytes.now) result
+        ≡ to_store (Some (asked ask.entry.now)) answer.entry.now }
 {
     match (cert_word(ask), answer.certificate()) {
         (Some(name), Some(bytes)) => Some(Entry { name, bytes }),
@@ -105,12 +107,17 @@ fn put_stored<F: Files, S: Sink>(
     out: &mut S,
 ) -> Result<Status, AllocError>
     requires { HasRoom (S.told out.old).spare (length reply.now) }
-    ensures ok { IfOk result (λ status. IsDone (Some (entry item.now.name.now item.now.bytes.now)) reply.now meant (stores (F.told files.old) (F.told files.new)) (put status (S.told out.old) (S.told out.new))) }
+    ensures ok { IfOk result
+        (λ status. IsDone (Some (stored_entry item.now.name.now item.now.bytes.now)) reply.now meant
+        (stores (F.told files.old) (F.told files.new)) (put status (S.told out.old) (S.told out.new))) }
     ensures err { OnErr result ((S.told out.new).got ≡ (S.told out.old).got) }
-    ensures leaves { Leaves (Some (entry item.now.name.now item.now.bytes.now)) (stores (F.told files.old) (F.told files.new)) }
-    ensures unstored { OnErr result (NotStored (Some (entry item.now.name.now item.now.bytes.now)) (stores (F.told files.old) (F.told files.new))) }
+    ensures leaves { Leaves (Some (stored_entry item.now.name.now item.now.bytes.now))
+        (stores (F.told files.old) (F.told files.new)) }
+    ensures unstored { OnErr result
+        (NotStored (Some (stored_entry item.now.name.now item.now.bytes.now)) (stores (F.told files.old) (F.told files.new))) }
     ensures counts { NoneFell (F.told files.old).faults (F.told files.new).faults }
     ensures store_counts { NoneFell (F.told files.old).store_faults (F.told files.new).store_faults }
+    ensures loaded { (F.told files.new).loaded ≡ (F.told files.old).loaded }
     ensures sink_counts { (S.told out.old).faults ≤ (S.told out.new).faults }
 {
     match files.store(alloc, item.name, item.bytes) {
@@ -120,8 +127,8 @@ fn put_stored<F: Files, S: Sink>(
     }
 }
 
-/// Stores the certificate of an answer, where it has one and a file for it is named, and then puts the reply to what is asked; gives
-/// the answer's status, or `Fault` where the certificate could not be stored, which is put in the reply's place, or where
+/// Stores the certificate of an answer, where it has one and a file for it is named, and then puts the reply to what is asked;
+/// gives the answer's status, or `Fault` where the certificate could not be stored, which is put in the reply's place, or where
 /// the sink failed.
 ///
 /// The error is out of memory, also where the reply is longer than the sink has room; then nothing was put, and nothing
@@ -133,12 +140,16 @@ pub fn put_answer<F: Files, S: Sink>(
     files: &mut F,
     out: &mut S,
 ) -> Result<Status, AllocError>
-    ensures ok { IfOk result (λ status. IsDoneFor (Some (asked ask.now)) answer.now (stores (F.told files.old) (F.told files.new)) (put status (S.told out.old) (S.told out.new))) }
+    ensures ok { IfOk result
+        (λ status. IsDoneFor (Some (asked ask.now)) answer.now (stores (F.told files.old) (F.told files.new))
+        (put status (S.told out.old) (S.told out.new))) }
     ensures err { OnErr result ((S.told out.new).got ≡ (S.told out.old).got) }
     ensures leaves { Leaves (to_store (Some (asked ask.now)) answer.now) (stores (F.told files.old) (F.told files.new)) }
-    ensures unstored { OnErr result (NotStored (to_store (Some (asked ask.now)) answer.now) (stores (F.told files.old) (F.told files.new))) }
+    ensures unstored { OnErr result
+        (NotStored (to_store (Some (asked ask.now)) answer.now) (stores (F.told files.old) (F.told files.new))) }
     ensures counts { NoneFell (F.told files.old).faults (F.told files.new).faults }
     ensures store_counts { NoneFell (F.told files.old).store_faults (F.told files.new).store_faults }
+    ensures loaded { (F.told files.new).loaded ≡ (F.told files.old).loaded }
     ensures sink_counts { (S.told out.old).faults ≤ (S.told out.new).faults }
 {
     let bytes = reply(alloc, answer, ask)?;

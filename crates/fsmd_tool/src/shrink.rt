@@ -1,20 +1,20 @@
 //! What `shrink` answers, from its files.
 
 ghost use Rattle.std.specs.Prelude.{◌≡◌, ◌≤◌, IsTrue, None, Some};
-ghost use Rattle.command_words.specs.Words.{asked};
+ghost use Rattle.fsmd_words.specs.AskedWords.{asked};
 ghost use Rattle.fs_pair.specs.Interfaces.{interface_fault};
 ghost use Rattle.hls_shrink.specs.Given.{has_no_input_port};
-ghost use Rattle.command_answers.specs.Shrinks.{IsOfShrink};
-ghost use Rattle.command_answers.specs.Follows.{Ends, OpensPair, OpensInputs};
-ghost use Rattle.fsmd_tool.specs.Calls.{call, OnlyRead, IsCorrectFrom, AnswersBy};
+ghost use Rattle.fsmd_answers.specs.Shrinks.{IsOfShrink};
+ghost use Rattle.fsmd_answers.specs.Follows.{Ends, OpensPair, OpensInputs};
+ghost use Rattle.fsmd_tool.specs.Calls.{call, OnlyRead, LoadsAtMost, IsCorrectInOrder, AnswersBy};
 
 use crate::load::load_inputs;
 use crate::pair::{Pair, load_pair};
-use command_answers::answer::{Answer, Operand};
-use command_answers::refused::Refused;
-use command_answers::shrinks::shrink_inputs;
-use command_words::asking::Ask;
 use fs_base::outside::Files;
+use fsmd_answers::refused::Refused;
+use fsmd_answers::shrinks::shrink_inputs;
+use fsmd_replies::answer::{Answer, Operand};
+use fsmd_words::asking::Ask;
 use std::alloc::Global;
 
 // What two machines with the same interface answer to the file of inputs that are to be made small.
@@ -28,10 +28,11 @@ fn shrink_from<F: Files>(
     requires ports { IsTrue (has_no_input_port pair.now.left) }
     requires alike { interface_fault pair.now.left pair.now.right ≡ None }
     requires steps { 1 ≤ steps }
-    ensures answers { AnswersBy (IsCorrectFrom
+    ensures answers { AnswersBy (IsCorrectInOrder
         (OpensInputs pair.now.left (λ ins. Ends (IsOfShrink steps pair.now.left pair.now.right ins))) 2
         (call (Some (asked ask.now)) (F.told files.old) (F.told files.new))) result }
     ensures only_read { OnlyRead (F.told files.old) (F.told files.new) }
+    ensures at_most { LoadsAtMost (Some (asked ask.now)) 2 1 (F.told files.old) (F.told files.new) }
 {
     let Pair {
         left,
@@ -51,9 +52,10 @@ pub fn shrink_files<F: Files>(
     files: &mut F,
 ) -> Result<Answer, Refused>
     requires { 1 ≤ steps }
-    ensures answers { AnswersBy (IsCorrectFrom (OpensPair (λ a b. OpensInputs a (λ ins. Ends (IsOfShrink steps a b ins)))) 0
+    ensures answers { AnswersBy (IsCorrectInOrder (OpensPair (λ a b. OpensInputs a (λ ins. Ends (IsOfShrink steps a b ins)))) 0
         (call (Some (asked ask.now)) (F.told files.old) (F.told files.new))) result }
     ensures only_read { OnlyRead (F.told files.old) (F.told files.new) }
+    ensures at_most { LoadsAtMost (Some (asked ask.now)) 0 3 (F.told files.old) (F.told files.new) }
 {
     let pair = load_pair(alloc, ask, files)?;
     shrink_from(alloc, ask, &pair, steps, files)

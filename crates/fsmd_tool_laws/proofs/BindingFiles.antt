@@ -9,46 +9,51 @@ use Rattle.std.specs.Cmp.Lexicographic.{slice_cmp, nat_list_cmp_total}
 use Rattle.std.specs.Str.{bytes_eq}
 use Rattle.std.proofs.lemmas.Bool.Decides.{nat_tests}
 use Rattle.std.proofs.lemmas.Slice.Eq.{bytes_eq-Decides}
+use Rattle.std.proofs.lemmas.Bool.{or_right}
+use Rattle.std.proofs.lemmas.Option.{same_Some}
+use Rattle.base_lemmas.proofs.Lists.{bytes_eq-true}
 use Rattle.serde_json.specs.Data.{Data}
 use Rattle.serde_json.specs.Find.{as_object}
 use Rattle.fs_model.specs.declared.parts.VarInfo.{VarInfo}
 use Rattle.fs_model.specs.Machines.{Fsmd}
 use Rattle.fs_model.specs.Source.{Source}
-use Rattle.fs_model.proofs.Truth.{or_right}
-use Rattle.fs_rules.specs.Spelled.{machine_of}
+use Rattle.fs_rules.specs.MachineOfParts.{machine_of}
 use Rattle.fs_write.specs.Canonical.{canonical}
-use Rattle.binding_laws.specs.Bindings.{AreRegisters, bound_parts}
-use Rattle.binding_laws.specs.Conflicts.{Conflict, IsTwice, IsFirstConflict, is_before}
+use Rattle.hls_binding_laws.specs.Bindings.{AreRegisters, bound_parts}
+use Rattle.hls_binding_laws.specs.Conflicts.{Conflict, IsTwice, IsFirstConflict, conflict_is_before}
 use Rattle.hls_bind.specs.declared.faults.Fault.{Fault}
-use Rattle.json_files.proofs.Once.{one_value}
-use Rattle.hls_bind.specs.Files.{GivenBy, Gives, IsFaulty, file_fault, binding_from}
+use Rattle.base_json_files.proofs.Once.{one_value}
+use Rattle.hls_bind.specs.BindingMembers.{GivenBy, GivesBinding, HasFaultyBinding, binding_file_fault, binding_from}
 use Rattle.hls_bind.specs.Results.{IsBoundParts}
-use Rattle.command_answers.specs.declared.answer.Answer.{Answer}
-use Rattle.command_answers.specs.declared.answer.Answer.TheVariants.{Text, Differs}
-use Rattle.synthesis_answers.specs.Bindings.{Binding, conflict_text}
-use Rattle.command_answers.specs.Bindings.{binding_fault, HasBindingFault, SpellsBinding, RefusesBinding, IsOfBinding, IsBound, Loses}
-use Rattle.fsmd_tool_laws.proofs.Contents.{some_same, some_none, OpensInOneWay}
+use Rattle.fsmd_replies.specs.declared.answer.Answer.{Answer}
+use Rattle.fsmd_replies.specs.declared.answer.Answer.TheVariants.{Text, Differs}
+use Rattle.fsmd_synthesis_answers.specs.BindingAnswers.{Binding, conflict_text}
+use Rattle.fsmd_answers.specs.BindingFiles.{binding_fault, HasBindingFault, SpellsBinding, RefusesBinding, IsOfBinding, IsBound, Loses}
+use Rattle.fsmd_tool_laws.proofs.Contents.{some_none, OpensInOneWay}
 use Rattle.fsmd_tool_laws.proofs.Keys.{AreOneThing, keys_open}
 
 -- ---- files
 
 given_once : (vs : List VarInfo) (d : Data) (x y : Binding) → GivenBy vs d x → GivenBy vs d y → x ≡ y
-given_once vs d x y p q = p.binding ∙ ap (binding_from 0 vs) (some_same p.members q.members (sym p.object ∙ q.object)) ∙ sym q.binding
+given_once vs d x y p q = p.binding ∙ ap (binding_from 0 vs) (same_Some p.members q.members (sym p.object ∙ q.object)) ∙ sym q.binding
 
-gives_once : (vs : List VarInfo) (bytes : List ℕ) (x y : Binding) → Gives vs bytes x → Gives vs bytes y → x ≡ y
+gives_once : (vs : List VarInfo) (bytes : List ℕ) (x y : Binding) → GivesBinding vs bytes x → GivesBinding vs bytes y → x ≡ y
 gives_once vs bytes x y p q = given_once vs q.value x y (subst (λ d. GivenBy vs d x) (one_value bytes p.value q.value p.json q.json) p.given) q.given
 
-faulty_once : (vs : List VarInfo) (bytes n k : List ℕ) (f g : Fault) → IsFaulty vs bytes n f → IsFaulty vs bytes k g → Path (List ℕ × Fault) (n, f) (k, g)
+faulty_once : (vs : List VarInfo) (bytes n k : List ℕ) (f g : Fault) → HasFaultyBinding vs bytes n f → HasFaultyBinding vs bytes k g
+    → Path (List ℕ × Fault) (n, f) (k, g)
 faulty_once vs bytes n k f g p q =
     let value : p.value ≡ q.value = one_value bytes p.value q.value p.json q.json in
-    let first : Path (Option (List ℕ × Fault)) (Some (n, f)) (Some (k, g)) = sym p.first ∙ ap (λ d. file_fault vs (as_object d)) value ∙ q.first in
-    some_same (n, f) (k, g) first
+    let first : Path (Option (List ℕ × Fault)) (Some (n, f)) (Some (k, g)) = sym p.first ∙ ap (λ d. binding_file_fault vs (as_object d)) value ∙ q.first in
+    same_Some (n, f) (k, g) first
 
-faultless : (vs : List VarInfo) (d : Data) (b : Binding) (name : List ℕ) (f : Fault) → GivenBy vs d b → file_fault vs (as_object d) ≡ Some (name, f) → ⊥
-faultless vs d b name f p e = some_none (name, f) (file_fault vs (as_object d)) e (ap (file_fault vs) p.object ∙ p.faultless)
+faultless : (vs : List VarInfo) (d : Data) (b : Binding) (name : List ℕ) (f : Fault) → GivenBy vs d b → binding_file_fault vs (as_object d) ≡ Some (name, f) → ⊥
+faultless vs d b name f p e = some_none (name, f) (binding_file_fault vs (as_object d)) e (ap (binding_file_fault vs) p.object ∙ p.faultless)
 
-given_or_faulty : (vs : List VarInfo) (bytes : List ℕ) (b : Binding) (name : List ℕ) (f : Fault) → Gives vs bytes b → IsFaulty vs bytes name f → ⊥
-given_or_faulty vs bytes b name f p q = faultless vs q.value b name f (subst (λ d. GivenBy vs d b) (one_value bytes p.value q.value p.json q.json) p.given) q.first
+given_or_faulty : (vs : List VarInfo) (bytes : List ℕ) (b : Binding) (name : List ℕ) (f : Fault) → GivesBinding vs bytes b
+    → HasFaultyBinding vs bytes name f → ⊥
+given_or_faulty vs bytes b name f p q = faultless vs q.value b name f
+    (subst (λ d. GivenBy vs d b) (one_value bytes p.value q.value p.json q.json) p.given) q.first
 
 -- bytes are one thing as a binding of a machine
 bindings_are_one : (m : Fsmd) → AreOneThing Binding (HasBindingFault m) (SpellsBinding m)
@@ -80,37 +85,39 @@ not_below x h = let a = nat_list_cmp_total.antisymm x x in cc
 not_both : (x y : List ℕ) → slice_cmp nat_cmp x y ≡ Less → slice_cmp nat_cmp y x ≡ Less → ⊥
 not_both x y g h = let a = nat_list_cmp_total.antisymm x y in cc
 
-same_name : (m n : List ℕ) → bytes_eq m n ≡ true → m ≡ n
-same_name m n e = (bytes_eq-Decides m n).0 e
-
 first_among : (n : List ℕ) (ns : List (List ℕ)) → is_among n (n ∷ ns) ≡ true
 first_among n ns = ap (λ b. b || is_among n ns) ((bytes_eq-Decides n n).1 refl)
 
 -- a name that is among others is the first of them, or among the rest
-split_by : (R : Type 0) (n m : List ℕ) (ms : List (List ℕ)) (t : Bool) → bytes_eq m n ≡ t → (t || is_among n ms) ≡ true → (m ≡ n → R) → (is_among n ms ≡ true → R) → R
-split_by R n m ms true e h f g = f (same_name m n e)
+split_by : (R : Type 0) (n m : List ℕ) (ms : List (List ℕ)) (t : Bool) → bytes_eq m n ≡ t → (t || is_among n ms) ≡ true → (m ≡ n → R)
+    → (is_among n ms ≡ true → R) → R
+split_by R n m ms true e h f g = f (bytes_eq-true m n e)
 split_by R n m ms false e h f g = g h
 
 split : (R : Type 0) (n m : List ℕ) (ms : List (List ℕ)) → is_among n (m ∷ ms) ≡ true → (m ≡ n → R) → (is_among n ms ≡ true → R) → R
 split R n m ms h f g = split_by R n m ms (bytes_eq m n) refl h f g
 
-below_all : (x : List ℕ) (ys : List (List ℕ)) → AllByRecursion (λ y. slice_cmp nat_cmp x y ≡ Less) ys → (n : List ℕ) → is_among n ys ≡ true → slice_cmp nat_cmp x n ≡ Less
+below_all : (x : List ℕ) (ys : List (List ℕ)) → AllByRecursion (λ y. slice_cmp nat_cmp x y ≡ Less) ys → (n : List ℕ) → is_among n ys ≡ true
+    → slice_cmp nat_cmp x n ≡ Less
 below_all x [] h n t = absurd (cc t)
 below_all x (y ∷ ys) h n t = split (slice_cmp nat_cmp x n ≡ Less) n y ys t (λ e. subst (λ z. slice_cmp nat_cmp x z ≡ Less) e h.0) (λ u. below_all x ys h.1 n u)
 
-same_heads : (x y : List ℕ) (xs ys : List (List ℕ)) → AllByRecursion (λ z. slice_cmp nat_cmp x z ≡ Less) xs → AllByRecursion (λ z. slice_cmp nat_cmp y z ≡ Less) ys → is_among x (y ∷ ys) ≡ true → is_among y (x ∷ xs) ≡ true → x ≡ y
+same_heads : (x y : List ℕ) (xs ys : List (List ℕ)) → AllByRecursion (λ z. slice_cmp nat_cmp x z ≡ Less) xs
+    → AllByRecursion (λ z. slice_cmp nat_cmp y z ≡ Less) ys → is_among x (y ∷ ys) ≡ true → is_among y (x ∷ xs) ≡ true → x ≡ y
 same_heads x y xs ys p q f g =
     split (x ≡ y) x y ys f (λ e. sym e)
     (λ u. split (x ≡ y) y x xs g (λ e. e) (λ v. absurd (not_both x y (below_all x xs p y v) (below_all y ys q x u))))
 
 -- what is behind the first of one list is behind that of the other
-behind : (x y : List ℕ) (xs ys : List (List ℕ)) → x ≡ y → AllByRecursion (λ z. slice_cmp nat_cmp x z ≡ Less) xs → ((n : List ℕ) → is_among n (x ∷ xs) ≡ true → is_among n (y ∷ ys) ≡ true) → (n : List ℕ) → is_among n xs ≡ true → is_among n ys ≡ true
+behind : (x y : List ℕ) (xs ys : List (List ℕ)) → x ≡ y → AllByRecursion (λ z. slice_cmp nat_cmp x z ≡ Less) xs
+    → ((n : List ℕ) → is_among n (x ∷ xs) ≡ true → is_among n (y ∷ ys) ≡ true) → (n : List ℕ) → is_among n xs ≡ true → is_among n ys ≡ true
 behind x y xs ys e p f n h =
     split (is_among n ys ≡ true) n y ys (f n (or_right (bytes_eq x n) (is_among n xs) h))
     (λ g. absurd (not_below x (subst (λ z. slice_cmp nat_cmp x z ≡ Less) (sym (e ∙ g)) (below_all x xs p n h))))
     (λ u. u)
 
-sorted_once : (xs ys : List (List ℕ)) → IsStrictlySortedBy (slice_cmp nat_cmp) xs → IsStrictlySortedBy (slice_cmp nat_cmp) ys → ((n : List ℕ) → is_among n xs ≡ true → is_among n ys ≡ true) → ((n : List ℕ) → is_among n ys ≡ true → is_among n xs ≡ true) → xs ≡ ys
+sorted_once : (xs ys : List (List ℕ)) → IsStrictlySortedBy (slice_cmp nat_cmp) xs → IsStrictlySortedBy (slice_cmp nat_cmp) ys
+    → ((n : List ℕ) → is_among n xs ≡ true → is_among n ys ≡ true) → ((n : List ℕ) → is_among n ys ≡ true → is_among n xs ≡ true) → xs ≡ ys
 unfolding IsStrictlySortedBy
 sorted_once [] [] s t f g = refl
 sorted_once [] (y ∷ ys) s t f g = absurd (let h = g y (first_among y ys) in cc h)
@@ -141,7 +148,7 @@ level_right a b t u e f = grind (arith, nat_tests)
 last_same : (a b : ℕ) → nat_lt a b ≡ false → nat_lt b a ≡ false → a ≡ b
 last_same a b e f = grind (arith, nat_tests)
 
-conflict_once : (c d : Conflict) → is_before c d ≡ false → is_before d c ≡ false → c ≡ d
+conflict_once : (c d : Conflict) → conflict_is_before c d ≡ false → conflict_is_before d c ≡ false → c ≡ d
 conflict_once c d e f =
     let l = level_left c.state d.state _ _ e f in
     let r = level_right c.state d.state _ _ e f in
@@ -161,7 +168,8 @@ twice_once true false P f g h k = absurd (k refl (f refl))
 twice_once false true P f g h k = absurd (g refl (h refl))
 twice_once false false P f g h k = refl
 
-first_once : (b : Binding) (m : Fsmd) (c d : Conflict) (t u : Bool) → IsFirstConflict b m c t → IsFirstConflict b m d u → conflict_text m c t ≡ conflict_text m d u
+first_once : (b : Binding) (m : Fsmd) (c d : Conflict) (t u : Bool) → IsFirstConflict b m c t → IsFirstConflict b m d u
+    → conflict_text m c t ≡ conflict_text m d u
 first_once b m c d t u p q =
     let same = conflict_once c d (q.first c p.conflict) (p.first d q.conflict) in
     let r : IsFirstConflict b m d t = subst (λ k. IsFirstConflict b m k t) same p in

@@ -4,27 +4,28 @@ use Rattle.std.specs.Prelude.{◌≢◌, Err}
 use Rattle.serde_json.specs.Data.{Data}
 use Rattle.fs_model.specs.Machines.{Fsmd}
 use Rattle.fs_pair.specs.Positions.{positions}
-use Rattle.bisimulation.specs.Tables.{Node}
+use Rattle.cert_bisimulation.specs.Tables.{Node}
 use Rattle.sym_facts.specs.Facts.{Fact}
-use Rattle.term_values.specs.Names.{Find}
-use Rattle.json_files.specs.Json.{IsJson, IsNotJson}
-use Rattle.json_files.proofs.Once.{one_value}
+use Rattle.term_values.specs.NameMeanings.{Find}
+use Rattle.base_json_files.specs.Json.{IsJson, IsNotJson}
+use Rattle.base_json_files.proofs.Once.{one_value}
 use Rattle.cert_json.specs.Refusals.{HasOtherShape, HasTooMany}
 use Rattle.cert_json.specs.Shape.{is_file, has_too_many}
-use Rattle.cert_writer.specs.Limits.{most_certificate_bytes}
+use Rattle.cert_writer.specs.CertificateLimits.{most_certificate_bytes}
 use Rattle.cert_text.specs.declared.faults.CertError.{CertError}
-use Rattle.cert_text.specs.declared.faults.CertError.TheVariants.{NotJson, Shape, UnknownState, NotCutpoint, UnknownName, SortOf, NotSolved, TwiceNode, NumberTooBig, TooMany, NoMemory, BadTerm, NotNormal}
-use Rattle.cert_text.specs.Parts.{format_in}
-use Rattle.cert_text.specs.Names.{place_named, find_in}
-use Rattle.cert_text.specs.Texts.{AreRead}
-use Rattle.cert_text.specs.Judged.{texts_by}
-use Rattle.cert_text.specs.Refusals.{file_read, SpellsNodes, BreaksFirst, IsRefused}
-use Rattle.command_answers.specs.declared.answer.Operand.{Operand}
-use Rattle.command_answers.specs.declared.answer.Answer.{Answer}
-use Rattle.command_answers.specs.declared.answer.Answer.TheVariants.{CertRefused}
-use Rattle.command_answers.specs.Readings.{Content, OfBytes}
-use Rattle.command_answers.specs.Unread.{IsUnread}
-use Rattle.command_answers.specs.Refusals.{SpellsCertificate, HasCertFault, RefusesCertificate, UnreadCertificate, ByCertificate}
+use Rattle.cert_text.specs.declared.faults.CertError.TheVariants.{NotJson, Shape, UnknownState, NotCutpoint, UnknownName, SortOf, NotSolved, TwiceNode}
+use Rattle.cert_text.specs.declared.faults.CertError.TheVariants.{NumberTooBig, TooMany, NoMemory, BadTerm, NotNormal}
+use Rattle.cert_text.specs.JsonParts.{file_format}
+use Rattle.cert_text.specs.CertificateNames.{place_named, find_in}
+use Rattle.cert_text.specs.TextReaders.{AreRead}
+use Rattle.cert_text.specs.TextFunctions.{texts_by}
+use Rattle.cert_text.specs.Refusals.{file_read, SpellsNodes, BreaksFirst, IsRefusedAsCertificate}
+use Rattle.fsmd_replies.specs.declared.answer.Operand.{Operand}
+use Rattle.fsmd_replies.specs.declared.answer.Answer.{Answer}
+use Rattle.fsmd_replies.specs.declared.answer.Answer.TheVariants.{CertRefused}
+use Rattle.fsmd_answers.specs.Readings.{FileContent, OfBytes}
+use Rattle.fsmd_answers.specs.Unread.{IsUnread}
+use Rattle.fsmd_answers.specs.Refusals.{SpellsCertificate, HasCertFault, RefusesCertificate, UnreadCertificate, ByCertificate}
 use Rattle.fsmd_tool_laws.proofs.Contents.{of_both, OpensInOneWay}
 use Rattle.fsmd_tool_laws.proofs.Texts.{few_not_many}
 use Rattle.fsmd_tool_laws.proofs.Files.{unread_once, unread_or}
@@ -32,11 +33,13 @@ use Rattle.fsmd_tool_laws.proofs.Files.{unread_once, unread_or}
 -- the laws of reading: bytes spell one list of nodes and are then taken, and there are functions that say what texts stand for
 pub record ReadInOneWay : Type 0 where
   pub same : (a b : Fsmd) → (bytes : List ℕ) → (ns ms : List (Node Fact)) → SpellsNodes a b bytes ns → SpellsNodes a b bytes ms → ns ≡ ms
-  pub taken : (a b : Fsmd) → (bytes : List ℕ) → (ns : List (Node Fact)) → (e : CertError) → SpellsNodes a b bytes ns → IsRefused a b bytes e → e ≡ NoMemory
+  pub taken : (a b : Fsmd) → (bytes : List ℕ) → (ns : List (Node Fact)) → (e : CertError) → SpellsNodes a b bytes ns
+      → IsRefusedAsCertificate a b bytes e → e ≡ NoMemory
   pub texts : (find : Find) → AreRead find (texts_by find)
 
 pub in_one_way : ((a b : Fsmd) → (bytes : List ℕ) → (ns ms : List (Node Fact)) → SpellsNodes a b bytes ns → SpellsNodes a b bytes ms → ns ≡ ms)
-    → ((a b : Fsmd) → (bytes : List ℕ) → (ns : List (Node Fact)) → (e : CertError) → SpellsNodes a b bytes ns → IsRefused a b bytes e → e ≡ NoMemory)
+    → ((a b : Fsmd) → (bytes : List ℕ) → (ns : List (Node Fact)) → (e : CertError) → SpellsNodes a b bytes ns → IsRefusedAsCertificate a b bytes e
+    → e ≡ NoMemory)
     → ((find : Find) → AreRead find (texts_by find)) → ReadInOneWay
 in_one_way same taken texts = record { same = same; taken = taken; texts = texts }
 
@@ -49,7 +52,7 @@ data Ground (a b : Fsmd) (bytes : List ℕ) (e : CertError) : Type 0 where
   OfCount : HasTooMany bytes → e ≡ TooMany → Ground a b bytes e
   OfNodes : BreaksFirst a b bytes e → Ground a b bytes e
 
-ground : (a b : Fsmd) (bytes : List ℕ) (e : CertError) → e ≢ NoMemory → IsRefused a b bytes e → Ground a b bytes e
+ground : (a b : Fsmd) (bytes : List ℕ) (e : CertError) → e ≢ NoMemory → IsRefusedAsCertificate a b bytes e → Ground a b bytes e
 ground a b bytes NotJson told g = OfText g refl
 ground a b bytes Shape told g = OfShape g refl
 ground a b bytes TooMany told g = OfCount g refl
@@ -72,7 +75,7 @@ not_many bytes d p q e =
     let f : has_too_many p.value ≡ false = ap has_too_many (one_value bytes p.value d p.json q) ∙ e in let g : true ≡ false = sym p.many ∙ f in cc
 
 abbrev find_for : (a b : Fsmd) → Data → Find
-find_for a b d = find_in (place_named a b (positions a b)) (positions a b) (format_in d)
+find_for a b d = find_in (place_named a b (positions a b)) (positions a b) (file_format d)
 
 err_same : (e f : CertError) → Path (Result (List (Node Fact)) CertError) (Err e) (Err f) → e ≡ f
 err_same e f h = cc
@@ -115,11 +118,11 @@ spells_no_cert_fault w a b bytes n e p q = q.told (w.taken a b bytes n e p.spell
 
 -- ---- refusals
 
-fault_read : (a b : Fsmd) (file : Operand) (c : Content) (e : CertError) (x : Answer) → OfBytes c (HasCertFault a b e)
+fault_read : (a b : Fsmd) (file : Operand) (c : FileContent) (e : CertError) (x : Answer) → OfBytes c (HasCertFault a b e)
     → IsUnread most_certificate_bytes file c x → ⊥
 fault_read a b file c e x t u = unread_or most_certificate_bytes file c (HasCertFault a b e) x (λ v p l. few_not_many _ most_certificate_bytes p.few l) t u
 
-refused_once : (w : ReadInOneWay) → (a b : Fsmd) (file : Operand) (c : Content) (x y : Answer) → RefusesCertificate a b file c x
+refused_once : (w : ReadInOneWay) → (a b : Fsmd) (file : Operand) (c : FileContent) (x y : Answer) → RefusesCertificate a b file c x
     → RefusesCertificate a b file c y → x ≡ y
 refused_once w a b file c x y (UnreadCertificate u) (UnreadCertificate v) = unread_once most_certificate_bytes file c x y u v
 refused_once w a b file c x y (UnreadCertificate u) (ByCertificate e t h) = absurd (fault_read a b file c e x t u)
@@ -127,7 +130,8 @@ refused_once w a b file c x y (ByCertificate e t h) (UnreadCertificate u) = absu
 refused_once w a b file c x y (ByCertificate e t h) (ByCertificate f s k) =
     h ∙ ap (CertRefused file) (of_both c (HasCertFault a b e) (HasCertFault a b f) (e ≡ f) (λ v p q. cert_fault_once w a b v e f p q) t s) ∙ sym k
 
-spelled_or_refused : (w : ReadInOneWay) → (a b : Fsmd) (file : Operand) (c : Content) (n : List (Node Fact)) (x : Answer) → OfBytes c (SpellsCertificate a b n)
+spelled_or_refused : (w : ReadInOneWay) → (a b : Fsmd) (file : Operand) (c : FileContent) (n : List (Node Fact)) (x : Answer)
+    → OfBytes c (SpellsCertificate a b n)
     → RefusesCertificate a b file c x → ⊥
 spelled_or_refused w a b file c n x s (UnreadCertificate u) =
     unread_or most_certificate_bytes file c (SpellsCertificate a b n) x (λ v p l. few_not_many _ most_certificate_bytes p.few l) s u

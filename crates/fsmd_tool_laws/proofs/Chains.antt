@@ -1,25 +1,27 @@
 -- Chains are answered: where all links are known to hold, and where one is known to fail.
 use Rattle.std.proofs.Common.{◌≡◌, ℕ, zero, suc, ◌+◌, ◌*◌, ◌<◌, List, Option, Some, sym, subst, arith}
 use Rattle.std.specs.Prelude.{◌≢◌}
-use Rattle.command_words.specs.Words.{Asked, Chain}
+use Rattle.base_lemmas.proofs.Numbers.{below_suc}
+use Rattle.fsmd_words.specs.AskedWords.{Asked, Chain}
 use Rattle.fs_model.specs.Machines.{Fsmd}
-use Rattle.bisimulation.specs.Tables.{Node}
+use Rattle.cert_bisimulation.specs.Tables.{Node}
 use Rattle.sym_facts.specs.Facts.{Fact}
-use Rattle.certificates.specs.Obligations.{Yes}
-use Rattle.command_answers.specs.declared.answer.Answer.{Answer}
-use Rattle.command_answers.specs.Texts.{SpellsMachine}
-use Rattle.command_answers.specs.Readings.{Reading}
-use Rattle.command_answers.specs.Refusals.{RefusesMachine, RefusesPair, RefusesCertificate, SpellsCertificate}
-use Rattle.command_answers.specs.Verdicts.{IsJudged, verdict_on}
-use Rattle.command_answers.specs.Links.{AtLink, links_of, IsOfChain}
-use Rattle.command_answers.specs.Follows.{Judges, Fails, Holds, OpensLinks}
+use Rattle.cert_model.specs.Obligations.{Yes}
+use Rattle.fsmd_replies.specs.declared.answer.Answer.{Answer}
+use Rattle.fsmd_answers.specs.MachineFiles.{SpellsMachine}
+use Rattle.fsmd_answers.specs.Readings.{Reading}
+use Rattle.fsmd_answers.specs.Refusals.{RefusesMachine, RefusesPair, RefusesCertificate, SpellsCertificate}
+use Rattle.fsmd_answers.specs.Verdicts.{IsJudged, verdict_on}
+use Rattle.fsmd_answers.specs.Links.{AtLink, links_of, IsOfChain}
+use Rattle.fsmd_answers.specs.Follows.{Judges, Fails, Holds, OpensLinks}
 use Rattle.fsmd_tool.specs.Calls.{Call, IsCorrectFrom}
 use Rattle.fsmd_tool.specs.Correct.{IsCorrectAnswer}
+use Rattle.fsmd_tool.proofs.Found.{end_of}
 use Rattle.fsmd_tool_laws.specs.Settled.{IsKnown, SpellLink, AreKnownToHold}
 use Rattle.fsmd_tool_laws.proofs.Files.{machine_opens}
 use Rattle.fsmd_tool_laws.proofs.Certificates.{ReadInOneWay, certificate_opens}
 use Rattle.fsmd_tool_laws.proofs.Following.{Rule, other_or_alike, at_link, BehindCertificate, BehindPair, BehindMachine, OpensLinkWith}
-use Rattle.fsmd_tool_laws.proofs.Known.{ended, opened, alike}
+use Rattle.fsmd_tool_laws.proofs.Known.{opened, alike}
 use Rattle.fsmd_tool_laws.proofs.Correct.{asked_so}
 
 -- ---- one link
@@ -69,7 +71,7 @@ behind w o link last P g file x next nodes k passes p =
 
 -- ---- all links hold
 
-none_left : (n : ℕ) → n ≡ n + zero
+pub none_left : (n : ℕ) → n ≡ n + zero
 none_left n = omega arith
 
 one_less : (n k : ℕ) → n + 1 + k ≡ n + suc k
@@ -79,7 +81,7 @@ all_hold : (w : ReadInOneWay) → (o : Option Asked) (g : Call) (x : Answer) (fi
     → AreKnownToHold g file left last end → IsCorrectFrom (OpensLinks o first last held left) file g x
     → IsOfChain first end (held + left) x
 all_hold w o g x first held zero file last end k p =
-    subst (λ n. IsOfChain first end n x) (none_left held) (subst (λ m. IsOfChain first m held x) k (ended (IsOfChain first last held) file g x p))
+    subst (λ n. IsOfChain first end n x) (none_left held) (subst (λ m. IsOfChain first m held x) k (end_of (IsOfChain first last held) file g x p))
 all_hold w o g x first held (suc left) file last end k p =
     subst (λ n. IsOfChain first end n x) (one_less held left)
     (all_hold w o g x first (held + 1) left (file + 2) k.next end k.rest
@@ -119,9 +121,6 @@ next_link n k = omega arith
 pub not_below : (n : ℕ) → n < zero → ⊥
 not_below n h = omega arith
 
-pub one_below : (n k : ℕ) → suc n < suc k → n < k
-one_below n k h = omega arith
-
 -- the link behind those that hold is spelled from file k on, and not all obligations of its certificate hold
 module _ (w : ReadInOneWay) (o : Option Asked) (g : Call) (x : Answer) (first last next : Fsmd) (nodes : List (Node Fact)) (k : ℕ)
     (link : SpellLink g k last next nodes) (stops : verdict_on last next nodes ≢ Yes) where
@@ -142,7 +141,7 @@ module _ (w : ReadInOneWay) (o : Option Asked) (g : Call) (x : Answer) (first la
       (fails_here held file P (none_held k file e) (subst (λ m. IsCorrectFrom (OpensLinkWith o (held + 1) m P) file g x) l p))
   one_fails held (suc known) (suc left) file so_far below e l p =
       subst (λ n. AtLink o n (IsJudged last next nodes) x) (next_link held known)
-      (one_fails (held + 1) known left (file + 2) l.next (one_below known left below) (one_held k file known e) l.rest
+      (one_fails (held + 1) known left (file + 2) l.next (below_suc known left below) (one_held k file known e) l.rest
       (behind w o (held + 1) so_far (λ m. OpensLinks o first m (held + 1) left) g file x l.next l.nodes l.spelled l.holds p))
 
 pub odd_file : (n : ℕ) → 2 * n + 1 ≡ 1 + 2 * n

@@ -1,38 +1,39 @@
 -- At most one answer is correct, and machines are answered.
 use Rattle.std.proofs.Common.{◌≡◌, ℕ, suc, ◌+◌, ◌<◌, List, [], ◌∷◌, length, Option, Some, true, false, ◌∙◌, ap, subst, arith}
 use Rattle.std.specs.Prelude.{is_some, codes}
-use Rattle.command_words.specs.Words.{Asked, Check, Verify, Run, Replay, Fmt, Cuts, Generate, Compile, Schedule, Bind, Shrink}
+use Rattle.fsmd_words.specs.AskedWords.{Asked, Check, Verify, Run, Replay, Fmt, Cuts, Generate, Compile, Schedule, Bind, Shrink}
 use Rattle.fs_model.specs.Machines.{Fsmd}
 use Rattle.fs_model.specs.Runs.{Inputs}
 use Rattle.fs_model.specs.Source.{Source}
-use Rattle.fs_rules.specs.Spelled.{machine_of}
+use Rattle.fs_rules.specs.MachineOfParts.{machine_of}
 use Rattle.fs_write.specs.Canonical.{canonical}
-use Rattle.path_text.specs.Paths.{paths_text}
-use Rattle.program_laws.specs.Programs.{Program}
-use Rattle.unit_counts.specs.Counts.{Units}
-use Rattle.bisimulation.specs.Tables.{Node}
+use Rattle.fs_path_text.specs.PathTexts.{paths_text}
+use Rattle.hls_program_laws.specs.Programs.{Program}
+use Rattle.hls_unit_counts.specs.Counts.{Units}
+use Rattle.cert_bisimulation.specs.Tables.{Node}
 use Rattle.sym_facts.specs.Facts.{Fact}
-use Rattle.search.specs.Answers.{machines}
+use Rattle.search.specs.SearchOutcomes.{machines}
 use Rattle.search_laws.specs.Certificates.{IsCertificate}
-use Rattle.synthesis_answers.specs.Bindings.{Binding}
-use Rattle.command_answers.specs.declared.answer.Answer.{Answer}
-use Rattle.command_answers.specs.declared.answer.Answer.TheVariants.{Text}
-use Rattle.command_answers.specs.Words.{operand, cert_of, is_check, is_verify, compares, step_limit}
-use Rattle.command_answers.specs.Texts.{SpellsParts, SpellsMachine}
-use Rattle.command_answers.specs.Readings.{Reading}
-use Rattle.command_answers.specs.Refusals.{RefusesMachine, RefusesCertificate, SpellsCertificate}
-use Rattle.command_answers.specs.InputFiles.{SpellsInputs, RefusesInputs}
-use Rattle.command_answers.specs.Programs.{RefusesProgram, SpellsProgram, IsOfProgram}
-use Rattle.command_answers.specs.Schedules.{RefusesUnits, SpellUnits, IsOfSchedule}
-use Rattle.command_answers.specs.Bindings.{RefusesBinding, SpellsBinding, IsOfBinding}
-use Rattle.command_answers.specs.Pairs.{IsOfPair, IsOfLoops}
-use Rattle.command_answers.specs.Verdicts.{IsJudged, answer_to}
-use Rattle.command_answers.specs.Runs.{IsOfRun}
-use Rattle.command_answers.specs.Replays.{IsOfReplay}
-use Rattle.command_answers.specs.Shrinks.{IsOfShrink}
-use Rattle.command_answers.specs.Follows.{Ends, OpensInputs, OpensCertificate, OpensUnits, OpensBinding, FollowsFrom}
+use Rattle.fsmd_synthesis_answers.specs.BindingAnswers.{Binding}
+use Rattle.fsmd_replies.specs.declared.answer.Answer.{Answer}
+use Rattle.fsmd_replies.specs.declared.answer.Answer.TheVariants.{Text}
+use Rattle.fsmd_replies.specs.AskedFiles.{operand, cert_of, is_check, is_verify, compares, step_limit}
+use Rattle.fsmd_answers.specs.MachineFiles.{SpellsParts, SpellsMachine}
+use Rattle.fsmd_answers.specs.Readings.{Reading}
+use Rattle.fsmd_answers.specs.Refusals.{RefusesMachine, RefusesCertificate, SpellsCertificate}
+use Rattle.fsmd_answers.specs.InputFiles.{SpellsInputs, RefusesInputs}
+use Rattle.fsmd_answers.specs.ProgramFiles.{RefusesProgram, SpellsProgram, IsOfProgram}
+use Rattle.fsmd_answers.specs.ScheduleFiles.{RefusesUnits, SpellUnits, IsOfSchedule}
+use Rattle.fsmd_answers.specs.BindingFiles.{RefusesBinding, SpellsBinding, IsOfBinding}
+use Rattle.fsmd_answers.specs.MachinePairAnswers.{IsOfPair, IsOfLoops}
+use Rattle.fsmd_answers.specs.Verdicts.{IsJudged, answer_to}
+use Rattle.fsmd_answers.specs.RunAnswers.{IsOfRun}
+use Rattle.fsmd_answers.specs.Replays.{IsOfReplay}
+use Rattle.fsmd_answers.specs.Shrinks.{IsOfShrink}
+use Rattle.fsmd_answers.specs.Follows.{Ends, OpensInputs, OpensCertificate, OpensUnits, OpensBinding, FollowsFrom}
 use Rattle.fsmd_tool.specs.Calls.{Call, held, FailedToRead, MayRead, IsCorrectFrom}
 use Rattle.fsmd_tool.specs.Correct.{IsCorrectAnswer}
+use Rattle.fsmd_tool.proofs.Found.{end_of}
 use Rattle.fsmd_tool_laws.specs.Agreement.{Agree}
 use Rattle.fsmd_tool_laws.specs.Settled.{IsSettled, AreSettled, IsKnown, SpellPair}
 use Rattle.fsmd_tool_laws.specs.OneAnswer.{SaySame}
@@ -43,7 +44,7 @@ use Rattle.fsmd_tool_laws.proofs.BindingFiles.{binding_opens}
 use Rattle.fsmd_tool_laws.proofs.ProgramFiles.{program_opens}
 use Rattle.fsmd_tool_laws.proofs.Certificates.{ReadInOneWay, certificate_opens}
 use Rattle.fsmd_tool_laws.proofs.Following.{follows_one, uncompared_one}
-use Rattle.fsmd_tool_laws.proofs.Known.{settled_same, ended, opened, paired}
+use Rattle.fsmd_tool_laws.proofs.Known.{settled_same, opened, paired}
 
 -- ---- what is settled was read in one way
 
@@ -86,7 +87,7 @@ not_true e = cc
 check_answered : (o : Option Asked) (g : Call) (x : Answer) (a b : Fsmd) → SpellPair g a b → is_check o ≡ true → IsCorrectFrom (FollowsFrom o) 0 g x
     → IsOfPair (step_limit o) (is_some (cert_of o)) a b x
 check_answered (Some (Check left right cert steps)) g x a b k e p =
-    ended (IsOfPair steps (is_some cert) a b) 2 g x (paired (λ m n. Ends (IsOfPair steps (is_some cert) m n)) g a b x k p)
+    end_of (IsOfPair steps (is_some cert) a b) 2 g x (paired (λ m n. Ends (IsOfPair steps (is_some cert) m n)) g a b x k p)
 check_answered o g x a b k e p = absurd (not_true e)
 
 pub machines_checked : (g : Call) (x : Answer) (a b : Fsmd) → is_check g.asked ≡ true → SpellPair g a b → IsCorrectAnswer g x
@@ -97,7 +98,7 @@ verify_answered : (w : ReadInOneWay) → (o : Option Asked) (g : Call) (x : Answ
     → IsKnown g 2 (SpellsCertificate a b nodes) → is_verify o ≡ true → IsCorrectFrom (FollowsFrom o) 0 g x
     → IsJudged a b nodes x
 verify_answered w (Some (Verify left right cert)) g x a b nodes k n e p =
-    ended (IsJudged a b nodes) 3 g x
+    end_of (IsJudged a b nodes) 3 g x
     (opened (List (Node Fact)) (RefusesCertificate a b) (SpellsCertificate a b) (certificate_opens w a b) (λ c. Ends (IsJudged a b c)) g 2 nodes x n
     (paired (λ l r. OpensCertificate l r (λ c. Ends (IsJudged l r c))) g a b x k p))
 verify_answered w o g x a b nodes k n e p = absurd (not_true e)
@@ -111,12 +112,12 @@ pub asked_so : (g : Call) (x : Answer) (o : Option Asked) → g.asked ≡ o → 
 asked_so g x o e p = subst (λ q. IsCorrectFrom (FollowsFrom q) 0 g x) e p
 
 pub loops_answered : (g : Call) (x : Answer) (loops : ℕ) → g.asked ≡ Some (Generate loops) → IsCorrectAnswer g x → IsOfLoops loops x
-loops_answered g x loops e p = ended (IsOfLoops loops) 0 g x (asked_so g x (Some (Generate loops)) e p)
+loops_answered g x loops e p = end_of (IsOfLoops loops) 0 g x (asked_so g x (Some (Generate loops)) e p)
 
 inputs_answered : (m : Fsmd) (P : Inputs → Answer → Type 0) (g : Call) (file : ℕ) (ins : Inputs) (x : Answer) → IsKnown g file (SpellsInputs m ins)
     → IsCorrectFrom (OpensInputs m (λ i. Ends (P i))) file g x → P ins x
 inputs_answered m P g file ins x k p =
-    ended (P ins) (file + 1) g x (opened Inputs (RefusesInputs m) (SpellsInputs m) (inputs_open m) (λ i. Ends (P i)) g file ins x k p)
+    end_of (P ins) (file + 1) g x (opened Inputs (RefusesInputs m) (SpellsInputs m) (inputs_open m) (λ i. Ends (P i)) g file ins x k p)
 
 pub run_answered : (g : Call) (x : Answer) (machine inputs : List ℕ) (steps : ℕ) (m : Fsmd) (ins : Inputs) → g.asked ≡ Some (Run machine inputs steps)
     → IsKnown g 0 (SpellsMachine m) → IsKnown g 1 (SpellsInputs m ins) → IsCorrectAnswer g x
@@ -145,26 +146,26 @@ shrink_answered g x left right inputs steps a b ins e k i p =
 pub fmt_answered : (g : Call) (x : Answer) (machine : List ℕ) (parts : Source) → g.asked ≡ Some (Fmt machine) → IsKnown g 0 (SpellsParts parts)
     → IsCorrectAnswer g x → x ≡ Text (canonical parts)
 fmt_answered g x machine parts e k p =
-    ended (λ y. y ≡ Text (canonical parts)) 1 g x
+    end_of (λ y. y ≡ Text (canonical parts)) 1 g x
     (opened Source RefusesMachine SpellsParts parts_open (λ s. Ends (λ y. y ≡ Text (canonical s))) g 0 parts x k (asked_so g x (Some (Fmt machine)) e p))
 
 pub cuts_answered : (g : Call) (x : Answer) (machine : List ℕ) (m : Fsmd) → g.asked ≡ Some (Cuts machine) → IsKnown g 0 (SpellsMachine m) → IsCorrectAnswer g x
     → x ≡ Text (paths_text m)
 cuts_answered g x machine m e k p =
-    ended (λ y. y ≡ Text (paths_text m)) 1 g x
+    end_of (λ y. y ≡ Text (paths_text m)) 1 g x
     (opened Fsmd RefusesMachine SpellsMachine machine_opens (λ n. Ends (λ y. y ≡ Text (paths_text n))) g 0 m x k (asked_so g x (Some (Cuts machine)) e p))
 
 pub compile_answered : (g : Call) (x : Answer) (file : List ℕ) (program : Program) → g.asked ≡ Some (Compile file) → IsKnown g 0 (SpellsProgram program)
     → IsCorrectAnswer g x → IsOfProgram program x
 compile_answered g x file program e k p =
-    ended (IsOfProgram program) 1 g x
+    end_of (IsOfProgram program) 1 g x
     (opened Program RefusesProgram SpellsProgram program_opens (λ q. Ends (IsOfProgram q)) g 0 program x k (asked_so g x (Some (Compile file)) e p))
 
 pub schedule_answered : (g : Call) (x : Answer) (machine counts : List ℕ) (parts : Source) (units : Units) → g.asked ≡ Some (Schedule machine counts)
     → IsKnown g 0 (SpellsParts parts) → IsKnown g 1 (SpellUnits units) → IsCorrectAnswer g x
     → IsOfSchedule parts units x
 schedule_answered g x machine counts parts units e k u p =
-    ended (IsOfSchedule parts units) 2 g x
+    end_of (IsOfSchedule parts units) 2 g x
     (opened Units RefusesUnits SpellUnits units_open (λ c. Ends (IsOfSchedule parts c)) g 1 units x u
     (opened Source RefusesMachine SpellsParts parts_open (λ s. OpensUnits (λ c. Ends (IsOfSchedule s c))) g 0 parts x k
     (asked_so g x (Some (Schedule machine counts)) e p)))
@@ -174,7 +175,7 @@ pub bind_answered : (g : Call) (x : Answer) (machine registers : List ℕ) (part
     → IsOfBinding parts b x
 bind_answered g x machine registers parts b e k u p =
     let m = machine_of parts in
-    ended (IsOfBinding parts b) 2 g x
+    end_of (IsOfBinding parts b) 2 g x
     (opened Binding (RefusesBinding m) (SpellsBinding m) (binding_opens m) (λ c. Ends (IsOfBinding parts c)) g 1 b x u
     (opened Source RefusesMachine SpellsParts parts_open (λ s. OpensBinding (machine_of s) (λ c. Ends (IsOfBinding s c))) g 0 parts x k
     (asked_so g x (Some (Bind machine registers)) e p)))

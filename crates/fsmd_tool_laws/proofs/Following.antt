@@ -1,41 +1,44 @@
 -- At most one answer follows from files one after another, and from readings that agree and are then one.
-use Rattle.std.proofs.Common.{◌≡◌, ℕ, zero, suc, ◌+◌, List, [], ◌∷◌, Option, Some, None, Bool, true, false, refl, sym, ◌∙◌, ap, subst}
+use Rattle.std.proofs.Common.{◌≡◌, ℕ, zero, suc, ◌+◌, List, [], ◌∷◌, Option, Some, None, true, false, refl, sym, ◌∙◌, ap, subst}
 use Rattle.std.specs.Prelude.{is_some}
-use Rattle.command_words.specs.Words.{Asked, Check, Verify, Run, Replay, Fmt, Cuts, Generate, Compile, Schedule, Bind, Shrink, Chain}
+use Rattle.std.proofs.lemmas.Option.{same_Some}
+use Rattle.base_lemmas.proofs.Booleans.{true_and_false}
+use Rattle.fsmd_words.specs.AskedWords.{Asked, Check, Verify, Run, Replay, Fmt, Cuts, Generate, Compile, Schedule, Bind, Shrink, Chain}
 use Rattle.fs_model.specs.Machines.{Fsmd}
 use Rattle.fs_model.specs.Runs.{Inputs}
 use Rattle.fs_model.specs.Source.{Source}
-use Rattle.fs_rules.specs.Spelled.{machine_of}
+use Rattle.fs_rules.specs.MachineOfParts.{machine_of}
 use Rattle.fs_pair.specs.Interfaces.{interface_fault}
 use Rattle.fs_write.specs.Canonical.{canonical}
-use Rattle.path_text.specs.Paths.{paths_text}
-use Rattle.program_laws.specs.Programs.{Program}
-use Rattle.unit_counts.specs.Counts.{Units}
-use Rattle.synthesis_answers.specs.Bindings.{Binding}
-use Rattle.bisimulation.specs.Tables.{Node}
+use Rattle.fs_path_text.specs.PathTexts.{paths_text}
+use Rattle.hls_program_laws.specs.Programs.{Program}
+use Rattle.hls_unit_counts.specs.Counts.{Units}
+use Rattle.fsmd_synthesis_answers.specs.BindingAnswers.{Binding}
+use Rattle.cert_bisimulation.specs.Tables.{Node}
 use Rattle.sym_facts.specs.Facts.{Fact}
-use Rattle.command_answers.specs.declared.answer.Operand.{Operand}
-use Rattle.command_answers.specs.declared.answer.Answer.{Answer}
-use Rattle.command_answers.specs.declared.answer.Answer.TheVariants.{Usage, Text, Link, Interfaces}
-use Rattle.command_answers.specs.Words.{operand, is_check, compares, generated_steps}
-use Rattle.command_answers.specs.Statuses.{status_of}
-use Rattle.command_answers.specs.Texts.{SpellsParts, SpellsMachine}
-use Rattle.command_answers.specs.Readings.{Content, OfBytes, Reading}
-use Rattle.command_answers.specs.Refusals.{RefusesMachine, RefusesPair, RefusesCertificate, SpellsCertificate}
-use Rattle.command_answers.specs.InputFiles.{SpellsInputs, RefusesInputs}
-use Rattle.command_answers.specs.Programs.{RefusesProgram, SpellsProgram, IsOfProgram}
-use Rattle.command_answers.specs.Schedules.{RefusesUnits, SpellUnits, IsOfSchedule}
-use Rattle.command_answers.specs.Bindings.{RefusesBinding, SpellsBinding, IsOfBinding}
-use Rattle.command_answers.specs.Pairs.{IsOfPair, IsOfLoops, left_of, right_of}
-use Rattle.command_answers.specs.Verdicts.{IsJudged}
-use Rattle.command_answers.specs.Runs.{IsOfRun}
-use Rattle.command_answers.specs.Replays.{IsOfReplay}
-use Rattle.command_answers.specs.Shrinks.{IsOfShrink}
-use Rattle.command_answers.specs.Links.{AtLink, link_lines, links_of, IsOfChain}
-use Rattle.command_answers.specs.Follows.{Ends, OpensWith, Refused, Spelled, Opens, OpensMachine, OpensInputs, OpensCertificate, OpensUnits, OpensBinding, Pairs, Other, Alike, OpensPair, Judges, Fails, Holds, OpensLinks, FollowsFrom}
+use Rattle.fsmd_replies.specs.declared.answer.Operand.{Operand}
+use Rattle.fsmd_replies.specs.declared.answer.Answer.{Answer}
+use Rattle.fsmd_replies.specs.declared.answer.Answer.TheVariants.{Usage, Text, Link, Interfaces}
+use Rattle.fsmd_replies.specs.AskedFiles.{operand, is_check, compares, generated_steps}
+use Rattle.fsmd_replies.specs.Statuses.{status_of}
+use Rattle.fsmd_answers.specs.MachineFiles.{SpellsParts, SpellsMachine}
+use Rattle.fsmd_answers.specs.Readings.{FileContent, OfBytes, Reading}
+use Rattle.fsmd_answers.specs.Refusals.{RefusesMachine, RefusesPair, RefusesCertificate, SpellsCertificate}
+use Rattle.fsmd_answers.specs.InputFiles.{SpellsInputs, RefusesInputs}
+use Rattle.fsmd_answers.specs.ProgramFiles.{RefusesProgram, SpellsProgram, IsOfProgram}
+use Rattle.fsmd_answers.specs.ScheduleFiles.{RefusesUnits, SpellUnits, IsOfSchedule}
+use Rattle.fsmd_answers.specs.BindingFiles.{RefusesBinding, SpellsBinding, IsOfBinding}
+use Rattle.fsmd_answers.specs.MachinePairAnswers.{IsOfPair, IsOfLoops, left_of, right_of}
+use Rattle.fsmd_answers.specs.Verdicts.{IsJudged}
+use Rattle.fsmd_answers.specs.RunAnswers.{IsOfRun}
+use Rattle.fsmd_answers.specs.Replays.{IsOfReplay}
+use Rattle.fsmd_answers.specs.Shrinks.{IsOfShrink}
+use Rattle.fsmd_answers.specs.Links.{AtLink, link_lines, links_of, IsOfChain}
+use Rattle.fsmd_answers.specs.Follows.{Ends, OpensWith, Refused, Spelled, Opens, OpensMachine, OpensInputs, OpensCertificate, OpensUnits, OpensBinding}
+use Rattle.fsmd_answers.specs.Follows.{ComparesPairs, Other, Alike, OpensPair, Judges, Fails, Holds, OpensLinks, FollowsFrom}
 use Rattle.fsmd_tool_laws.specs.Agreement.{Agree}
-use Rattle.fsmd_tool_laws.specs.OneAnswer.{AreCompared, OfFiles, OfLoops, SaySame, One, OfPair}
-use Rattle.fsmd_tool_laws.proofs.Contents.{some_same, some_none, OpensInOneWay, one_spelled}
+use Rattle.fsmd_tool_laws.specs.OneAnswer.{AreComparedIn, OfFiles, OfLoops, SaySame, One, OfPair}
+use Rattle.fsmd_tool_laws.proofs.Contents.{some_none, OpensInOneWay, one_spelled}
 use Rattle.fsmd_tool_laws.proofs.Files.{machine_opens, parts_open}
 use Rattle.fsmd_tool_laws.proofs.Inputs.{inputs_open}
 use Rattle.fsmd_tool_laws.proofs.UnitFiles.{units_open, schedule_once}
@@ -80,10 +83,10 @@ ends_by Say P once file [] [] x y a p q = (refl, once x y p q)
 ends_by Say P once file [] (d ∷ s) x y a p q = absurd q
 ends_by Say P once file (c ∷ r) s x y a p q = absurd p
 
-module _ (T : Type 0) (R : Operand → Content → Answer → Type 0) (S : T → List ℕ → Type 0) (o : OpensInOneWay T R S) (Say : Said) (same : IsSaidOfOne Say)
+module _ (T : Type 0) (R : Operand → FileContent → Answer → Type 0) (S : T → List ℕ → Type 0) (o : OpensInOneWay T R S) (Say : Said) (same : IsSaidOfOne Say)
     (P : T → Rule)
-    (once : (v : T) (c : Content) → OfBytes c (S v) → IsOneBy (λ s. Say (c ∷ s)) (P v)) where
-  opened_by : (file : ℕ) (c : Content) (r s : Reading) (x y : Answer) → Agree r s → OpensWith T R S P file c r x → OpensWith T R S P file c s y
+    (once : (v : T) (c : FileContent) → OfBytes c (S v) → IsOneBy (λ s. Say (c ∷ s)) (P v)) where
+  opened_by : (file : ℕ) (c : FileContent) (r s : Reading) (x y : Answer) → Agree r s → OpensWith T R S P file c r x → OpensWith T R S P file c s y
       → (r ≡ s) × Say (c ∷ s) x y
   opened_by file c r s x y a (Refused p e) (Refused q h) = (e ∙ sym h, same (c ∷ s) x y (o.one_refusal (operand file) c x y p q))
   opened_by file c r s x y a (Refused p e) (Spelled w k q) = absurd (o.not_both (operand file) c w x k p)
@@ -99,14 +102,14 @@ module _ (T : Type 0) (R : Operand → Content → Answer → Type 0) (S : T →
       (ap (λ k. k ∷ r) a.0 ∙ ap (λ u. d ∷ u) t.0, t.1)
 
 pairs_by : (Say : Said) → IsSaidOfOne Say → (a b : Fsmd) (R : Answer → Type 0) (P : Rule) → ((x y : Answer) → R x → R y → x ≡ y)
-    → ((x : Answer) → R x → interface_fault a b ≡ None → ⊥) → IsOneBy Say P → IsOneBy Say (Pairs a b R P)
+    → ((x : Answer) → R x → interface_fault a b ≡ None → ⊥) → IsOneBy Say P → IsOneBy Say (ComparesPairs a b R P)
 pairs_by Say same a b R P once apart one file r s x y g (Other p e) (Other q h) = (e ∙ sym h, same s x y (once x y p q))
 pairs_by Say same a b R P once apart one file r s x y g (Other p e) (Alike i q) = absurd (apart x p i)
 pairs_by Say same a b R P once apart one file r s x y g (Alike i p) (Other q h) = absurd (apart y q i)
 pairs_by Say same a b R P once apart one file r s x y g (Alike i p) (Alike j q) = one file r s x y g p q
 
 interfaces_once : (a b : Fsmd) (x y : Answer) → RefusesPair a b x → RefusesPair a b y → x ≡ y
-interfaces_once a b x y l k = l.is ∙ ap Interfaces (some_same l.lines k.lines (sym l.holds ∙ k.holds)) ∙ sym k.is
+interfaces_once a b x y l k = l.is ∙ ap Interfaces (same_Some l.lines k.lines (sym l.holds ∙ k.holds)) ∙ sym k.is
 
 pub other_or_alike : (a b : Fsmd) (x : Answer) → RefusesPair a b x → interface_fault a b ≡ None → ⊥
 other_or_alike a b x l i = some_none l.lines (interface_fault a b) l.holds i
@@ -116,15 +119,16 @@ other_or_alike a b x l i = some_none l.lines (interface_fault a b) l.holds i
 pub ends : (P : Answer → Type 0) → ((x y : Answer) → P x → P y → x ≡ y) → IsOne (Ends P)
 ends P once = ends_by AreEqual P once
 
-pub opens : (T : Type 0) (R : Operand → Content → Answer → Type 0) (S : T → List ℕ → Type 0) → OpensInOneWay T R S → (P : T → Rule) → ((v : T) → IsOne (P v))
+pub opens : (T : Type 0) (R : Operand → FileContent → Answer → Type 0) (S : T → List ℕ → Type 0) → OpensInOneWay T R S → (P : T → Rule)
+    → ((v : T) → IsOne (P v))
     → IsOne (Opens T R S P)
 opens T R S o P one = opens_by T R S o AreEqual (λ s x y e. e) P (λ v c l. one v)
 
 -- what follows behind two machines with the same inputs and outputs
 pair : (P : Fsmd → Fsmd → Rule) → ((a b : Fsmd) → IsOne (P a b)) → IsOne (OpensPair P)
 pair P one =
-    opens Fsmd RefusesMachine SpellsMachine machine_opens (λ a. OpensMachine (λ b. Pairs a b (RefusesPair a b) (P a b))) (λ a.
-    opens Fsmd RefusesMachine SpellsMachine machine_opens (λ b. Pairs a b (RefusesPair a b) (P a b)) (λ b.
+    opens Fsmd RefusesMachine SpellsMachine machine_opens (λ a. OpensMachine (λ b. ComparesPairs a b (RefusesPair a b) (P a b))) (λ a.
+    opens Fsmd RefusesMachine SpellsMachine machine_opens (λ b. ComparesPairs a b (RefusesPair a b) (P a b)) (λ b.
     pairs_by AreEqual (λ s x y e. e) a b (RefusesPair a b) (P a b) (interfaces_once a b) (other_or_alike a b) (one a b)))
 
 inputs : (m : Fsmd) (P : Inputs → Answer → Type 0) → ((ins : Inputs) (x y : Answer) → P ins x → P ins y → x ≡ y) → IsOne (OpensInputs m (λ ins. Ends (P ins)))
@@ -140,7 +144,7 @@ at_link_once : (o : Option Asked) (link : ℕ) (P : Answer → Type 0) → ((x y
 at_link_once o link P once x y p q = p.is ∙ ap (λ stop. Link (status_of stop) (link_lines o link stop)) (once p.stop q.stop p.meets q.meets) ∙ sym q.is
 
 -- what is one thing is so where its refusals are told as those of a link
-pub at_link : (o : Option Asked) (link : ℕ) (T : Type 0) (R : Operand → Content → Answer → Type 0) (S : T → List ℕ → Type 0) → OpensInOneWay T R S
+pub at_link : (o : Option Asked) (link : ℕ) (T : Type 0) (R : Operand → FileContent → Answer → Type 0) (S : T → List ℕ → Type 0) → OpensInOneWay T R S
     → OpensInOneWay T (λ f c. AtLink o link (R f c)) S
 at_link o link T R S i = record {
   one_refusal = λ f c x y p q. at_link_once o link (R f c) (i.one_refusal f c) x y p q;
@@ -163,7 +167,7 @@ BehindPair o link last next P =
     Opens (List (Node Fact)) (λ f c. AtLink o link (RefusesCertificate last next f c)) (SpellsCertificate last next) (BehindCertificate o link last next P)
 
 abbrev pub BehindMachine : Option Asked → (link : ℕ) → (last : Fsmd) → (P : Fsmd → Rule) → Fsmd → Rule
-BehindMachine o link last P next = Pairs last next (AtLink o link (RefusesPair last next)) (BehindPair o link last next P)
+BehindMachine o link last P next = ComparesPairs last next (AtLink o link (RefusesPair last next)) (BehindPair o link last next P)
 
 abbrev pub OpensLinkWith : Option Asked → (link : ℕ) → (last : Fsmd) → (P : Fsmd → Rule) → Rule
 OpensLinkWith o link last P = Opens Fsmd (λ f c. AtLink o link (RefusesMachine f c)) SpellsMachine (BehindMachine o link last P)
@@ -192,8 +196,9 @@ check : (left right : List ℕ) (cert : Option (List ℕ)) (steps : ℕ)
 check left right cert steps =
     let Say : Said = SaySame (Some (Check left right cert steps)) in
     let P : Fsmd → Fsmd → Rule = λ a b. Ends (IsOfPair steps (is_some cert) a b) in
-    opens_by Fsmd RefusesMachine SpellsMachine machine_opens Say (λ s x y e. One e) (λ a. OpensMachine (λ b. Pairs a b (RefusesPair a b) (P a b))) (λ a c l.
-    opens_by Fsmd RefusesMachine SpellsMachine machine_opens (λ s. Say (c ∷ s)) (λ s x y e. One e) (λ b. Pairs a b (RefusesPair a b) (P a b)) (λ b d k.
+    opens_by Fsmd RefusesMachine SpellsMachine machine_opens Say (λ s x y e. One e)
+    (λ a. OpensMachine (λ b. ComparesPairs a b (RefusesPair a b) (P a b))) (λ a c l.
+    opens_by Fsmd RefusesMachine SpellsMachine machine_opens (λ s. Say (c ∷ s)) (λ s x y e. One e) (λ b. ComparesPairs a b (RefusesPair a b) (P a b)) (λ b d k.
     pairs_by (λ s. Say (c ∷ d ∷ s)) (λ s x y e. One e) a b (RefusesPair a b) (P a b) (interfaces_once a b) (other_or_alike a b)
     (ends_by (λ s. Say (c ∷ d ∷ s)) (IsOfPair steps (is_some cert) a b)
     (λ x y p q. OfPair a b (OfFiles refl (l, k)) (pair_once steps (is_some cert) a b x y p q)))))
@@ -277,13 +282,10 @@ check_compares (Some (Check left right cert steps)) e = refl
 check_compares (Some (Generate loops)) e = refl
 check_compares o e = e
 
-compared_compares : (o : Option Asked) (r : Reading) (a b : Fsmd) → AreCompared o r a b → compares o ≡ true
+compared_compares : (o : Option Asked) (r : Reading) (a b : Fsmd) → AreComparedIn o r a b → compares o ≡ true
 compared_compares o r a b (OfFiles checks c) = check_compares o checks
 compared_compares o r a b (OfLoops loops is left right) = ap compares is
 
-true_false : (b : Bool) → b ≡ true → b ≡ false → ⊥
-true_false b e f = let g : true ≡ false = sym e ∙ f in cc
-
 pub uncompared_one : (o : Option Asked) (r : Reading) (x y : Answer) → compares o ≡ false → SaySame o r x y → x ≡ y
 uncompared_one o r x y e (One h) = h
-uncompared_one o r x y e (OfPair a b c p) = absurd (true_false (compares o) (compared_compares o r a b c) e)
+uncompared_one o r x y e (OfPair a b c p) = absurd (true_and_false (compares o) (compared_compares o r a b c) e)

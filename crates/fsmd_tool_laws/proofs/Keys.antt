@@ -1,13 +1,13 @@
 -- The file of keys and values is refused in one way, and not where it spells a value.
 use Rattle.std.proofs.Common.{◌≡◌, ◌≤◌, ℕ, List, length, sym, ◌∙◌, ap}
 use Rattle.fs_model.specs.Limits.{most_text_bytes}
-use Rattle.command_answers.specs.declared.answer.Operand.{Operand}
-use Rattle.command_answers.specs.declared.answer.KeyFault.{KeyFault}
-use Rattle.command_answers.specs.declared.answer.Answer.{Answer}
-use Rattle.command_answers.specs.declared.answer.Answer.TheVariants.{KeyRefused}
-use Rattle.command_answers.specs.Readings.{Content, OfBytes}
-use Rattle.command_answers.specs.Unread.{IsUnread}
-use Rattle.command_answers.specs.Keys.{AreNotJson, RefusesKeys, UnreadKeys, ByJson, ByKey}
+use Rattle.fsmd_replies.specs.declared.answer.Operand.{Operand}
+use Rattle.fsmd_replies.specs.declared.answer.KeyFault.{KeyFault}
+use Rattle.fsmd_replies.specs.declared.answer.Answer.{Answer}
+use Rattle.fsmd_replies.specs.declared.answer.Answer.TheVariants.{KeyRefused}
+use Rattle.fsmd_answers.specs.Readings.{FileContent, OfBytes}
+use Rattle.fsmd_answers.specs.Unread.{IsUnread}
+use Rattle.fsmd_answers.specs.JsonKeys.{AreNotJson, RefusesKeys, UnreadKeys, ByJson, ByKey}
 use Rattle.fsmd_tool_laws.proofs.Contents.{of_both, OpensInOneWay}
 use Rattle.fsmd_tool_laws.proofs.Texts.{few_not_many}
 use Rattle.fsmd_tool_laws.proofs.Files.{unread_once, unread_or}
@@ -26,21 +26,21 @@ pub record AreOneThing (T : Type 0) (F : KeyFault → (key bytes : List ℕ) →
 -- ---- refusals
 
 without_read : (T : Type 0) (F : KeyFault → (key bytes : List ℕ) → Type 0) (S : T → List ℕ → Type 0) → AreOneThing T F S
-    → (file : Operand) (c : Content) (x : Answer) → OfBytes c AreNotJson → IsUnread most_text_bytes file c x → ⊥
+    → (file : Operand) (c : FileContent) (x : Answer) → OfBytes c AreNotJson → IsUnread most_text_bytes file c x → ⊥
 without_read T F S o file c x t u = unread_or most_text_bytes file c AreNotJson x (λ b p l. few_not_many (length b) most_text_bytes (o.few_without b p) l) t u
 
 faulty_read : (T : Type 0) (F : KeyFault → (key bytes : List ℕ) → Type 0) (S : T → List ℕ → Type 0) → AreOneThing T F S
-    → (file : Operand) (c : Content) (f : KeyFault) (k : List ℕ) (x : Answer) → OfBytes c (F f k)
+    → (file : Operand) (c : FileContent) (f : KeyFault) (k : List ℕ) (x : Answer) → OfBytes c (F f k)
     → IsUnread most_text_bytes file c x → ⊥
 faulty_read T F S o file c f k x t u =
     unread_or most_text_bytes file c (F f k) x (λ b p l. few_not_many (length b) most_text_bytes (o.few_faulty b f k p) l) t u
 
 without_or : (T : Type 0) (F : KeyFault → (key bytes : List ℕ) → Type 0) (S : T → List ℕ → Type 0) → AreOneThing T F S
-    → (c : Content) (f : KeyFault) (k : List ℕ) → OfBytes c AreNotJson → OfBytes c (F f k) → ⊥
+    → (c : FileContent) (f : KeyFault) (k : List ℕ) → OfBytes c AreNotJson → OfBytes c (F f k) → ⊥
 without_or T F S o c f k t s = of_both c AreNotJson (F f k) ⊥ (λ b p q. o.without_or_faulty b f k p q) t s
 
 refused_once : (T : Type 0) (F : KeyFault → (key bytes : List ℕ) → Type 0) (S : T → List ℕ → Type 0) → AreOneThing T F S
-    → (file : Operand) (c : Content) (x y : Answer) → RefusesKeys F file c x → RefusesKeys F file c y → x ≡ y
+    → (file : Operand) (c : FileContent) (x y : Answer) → RefusesKeys F file c x → RefusesKeys F file c y → x ≡ y
 refused_once T F S o file c x y (UnreadKeys u) (UnreadKeys v) = unread_once most_text_bytes file c x y u v
 refused_once T F S o file c x y (UnreadKeys u) (ByJson t e) = absurd (without_read T F S o file c x t u)
 refused_once T F S o file c x y (UnreadKeys u) (ByKey f k t e) = absurd (faulty_read T F S o file c f k x t u)
@@ -55,7 +55,7 @@ refused_once T F S o file c x y (ByKey f k t e) (ByKey g j s h) =
     e ∙ ap (λ r. KeyRefused file r.0 r.1) same ∙ sym h
 
 spelled_or_refused : (T : Type 0) (F : KeyFault → (key bytes : List ℕ) → Type 0) (S : T → List ℕ → Type 0) → AreOneThing T F S
-    → (file : Operand) (c : Content) (v : T) (x : Answer) → OfBytes c (S v) → RefusesKeys F file c x → ⊥
+    → (file : Operand) (c : FileContent) (v : T) (x : Answer) → OfBytes c (S v) → RefusesKeys F file c x → ⊥
 spelled_or_refused T F S o file c v x i (UnreadKeys u) =
     unread_or most_text_bytes file c (S v) x (λ b p l. few_not_many (length b) most_text_bytes (o.few_spelled b v p) l) i u
 spelled_or_refused T F S o file c v x i (ByJson t e) = of_both c AreNotJson (S v) ⊥ (λ b p q. o.without_or_spelled b v p q) t i

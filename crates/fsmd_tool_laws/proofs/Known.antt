@@ -1,15 +1,15 @@
 -- What is known of files settles what was read of them, and what follows from it.
 use Rattle.std.proofs.Common.{◌≡◌, ℕ, ◌+◌, List, [], ◌∷◌, None, refl, sym, ◌∙◌, ap, subst}
-use Rattle.fs_base.specs.Outside.{Held, Unknown, Nothing, Bytes}
+use Rattle.fs_base.specs.Outside.{FileKnowledge, Unknown, Nothing, Bytes}
 use Rattle.fs_model.specs.Machines.{Fsmd}
 use Rattle.fs_pair.specs.Interfaces.{interface_fault}
-use Rattle.command_answers.specs.declared.answer.Operand.{Operand}
-use Rattle.command_answers.specs.declared.answer.Answer.{Answer}
-use Rattle.command_answers.specs.Words.{operand}
-use Rattle.command_answers.specs.Texts.{SpellsMachine}
-use Rattle.command_answers.specs.Readings.{Content, Readable, Unreadable, OfBytes, Reading}
-use Rattle.command_answers.specs.Refusals.{RefusesMachine, RefusesPair}
-use Rattle.command_answers.specs.Follows.{Ends, OpensWith, Refused, Spelled, Opens, OpensMachine, Pairs, Other, Alike, OpensPair}
+use Rattle.fsmd_replies.specs.declared.answer.Operand.{Operand}
+use Rattle.fsmd_replies.specs.declared.answer.Answer.{Answer}
+use Rattle.fsmd_replies.specs.AskedFiles.{operand}
+use Rattle.fsmd_answers.specs.MachineFiles.{SpellsMachine}
+use Rattle.fsmd_answers.specs.Readings.{FileContent, Readable, Unreadable, OfBytes, Reading}
+use Rattle.fsmd_answers.specs.Refusals.{RefusesMachine, RefusesPair}
+use Rattle.fsmd_answers.specs.Follows.{Ends, OpensWith, Refused, Spelled, Opens, OpensMachine, ComparesPairs, Other, Alike, OpensPair}
 use Rattle.fsmd_tool.specs.Calls.{Call, held, FailedToRead, MayBeRead, MayRead, IsCorrectFrom}
 use Rattle.fsmd_tool_laws.specs.Settled.{Settles, IsSettled, IsKnown, SpellPair, read_of}
 use Rattle.fsmd_tool_laws.proofs.Contents.{OpensInOneWay, one_spelled}
@@ -18,7 +18,7 @@ use Rattle.fsmd_tool_laws.proofs.Following.{Rule, other_or_alike}
 
 -- ---- what is settled was read in one way
 
-pub settled_same : (k : Held) (F : Type 0) (c d : Content) → Settles k F → MayBeRead k F c → MayBeRead k F d → c ≡ d
+pub settled_same : (k : FileKnowledge) (F : Type 0) (c d : FileContent) → Settles k F → MayBeRead k F c → MayBeRead k F d → c ≡ d
 settled_same Unknown F c d s m n = absurd s
 settled_same Nothing F (Readable b) d s m n = absurd m
 settled_same Nothing F Unreadable (Readable b) s m n = absurd n
@@ -27,7 +27,7 @@ settled_same (Bytes b) F Unreadable d s m n = absurd (s m)
 settled_same (Bytes b) F (Readable x) Unreadable s m n = absurd (s n)
 settled_same (Bytes b) F (Readable x) (Readable y) s m n = ap Readable (m ∙ sym n)
 
-pub settled_read : (k : Held) (F : Type 0) (c : Content) → Settles k F → MayBeRead k F c → c ≡ read_of k
+pub settled_read : (k : FileKnowledge) (F : Type 0) (c : FileContent) → Settles k F → MayBeRead k F c → c ≡ read_of k
 settled_read Unknown F c s m = absurd s
 settled_read Nothing F (Readable b) s m = absurd m
 settled_read Nothing F Unreadable s m = refl
@@ -41,7 +41,8 @@ known_settled g file P k = subst (λ h. Settles h (FailedToRead g (operand file)
 pub known_meets : (g : Call) (file : ℕ) (P : List ℕ → Type 0) → IsKnown g file P → OfBytes (read_of (held g (operand file))) P
 known_meets g file P k = subst (λ h. OfBytes (read_of h) P) (sym k.known) k.meet
 
-known_read : (g : Call) (file : ℕ) (P : List ℕ → Type 0) (c : Content) → IsKnown g file P → MayBeRead (held g (operand file)) (FailedToRead g (operand file)) c
+known_read : (g : Call) (file : ℕ) (P : List ℕ → Type 0) (c : FileContent) → IsKnown g file P
+    → MayBeRead (held g (operand file)) (FailedToRead g (operand file)) c
     → OfBytes c P
 known_read g file P c k m =
     subst (λ d. OfBytes d P) (sym (settled_read (held g (operand file)) (FailedToRead g (operand file)) c (known_settled g file P k) m))
@@ -53,12 +54,10 @@ ended_of : (P : Answer → Type 0) (file : ℕ) (r : Reading) (x : Answer) → E
 ended_of P file [] x p = p
 ended_of P file (c ∷ r) x p = absurd p
 
-pub ended : (P : Answer → Type 0) (file : ℕ) (g : Call) (x : Answer) → IsCorrectFrom (Ends P) file g x → P x
-ended P file g x p = ended_of P file p.reading x p.follows
-
-module _ (T : Type 0) (R : Operand → Content → Answer → Type 0) (S : T → List ℕ → Type 0) (o : OpensInOneWay T R S) (P : T → Rule) (g : Call) (file : ℕ) (v : T)
+module _ (T : Type 0) (R : Operand → FileContent → Answer → Type 0) (S : T → List ℕ → Type 0) (o : OpensInOneWay T R S) (P : T → Rule) (g : Call)
+    (file : ℕ) (v : T)
     (x : Answer) where
-  spelled_of : (c : Content) (r : Reading) → OfBytes c (S v) → MayRead g (file + 1) r → OpensWith T R S P file c r x → IsCorrectFrom (P v) (file + 1) g x
+  spelled_of : (c : FileContent) (r : Reading) → OfBytes c (S v) → MayRead g (file + 1) r → OpensWith T R S P file c r x → IsCorrectFrom (P v) (file + 1) g x
   spelled_of c r s m (Refused p e) = absurd (o.not_both (operand file) c v x s p)
   spelled_of c r s m (Spelled w l p) = record { reading = r; may_be_read = m; follows = subst (λ u. P u (file + 1) r x) (one_spelled T R S o c w v l s) p }
 
@@ -71,21 +70,21 @@ module _ (T : Type 0) (R : Operand → Content → Answer → Type 0) (S : T →
   opened k p = opened_of p.reading k p.may_be_read p.follows
 
 alike_of : (a b : Fsmd) (R : Answer → Type 0) (P : Rule) (file : ℕ) (r : Reading) (x : Answer) → ((y : Answer) → R y → interface_fault a b ≡ None → ⊥)
-    → interface_fault a b ≡ None → Pairs a b R P file r x → P file r x
+    → interface_fault a b ≡ None → ComparesPairs a b R P file r x → P file r x
 alike_of a b R P file r x apart i (Other p e) = absurd (apart x p i)
 alike_of a b R P file r x apart i (Alike j p) = p
 
 -- what follows from two machines with the same inputs and outputs
 pub alike : (a b : Fsmd) (R : Answer → Type 0) (P : Rule) (file : ℕ) (g : Call) (x : Answer) → ((y : Answer) → R y → interface_fault a b ≡ None → ⊥)
-    → interface_fault a b ≡ None → IsCorrectFrom (Pairs a b R P) file g x
+    → interface_fault a b ≡ None → IsCorrectFrom (ComparesPairs a b R P) file g x
     → IsCorrectFrom P file g x
 alike a b R P file g x apart i p = record { reading = p.reading; may_be_read = p.may_be_read; follows = alike_of a b R P file p.reading x apart i p.follows }
 
 -- what follows from two files that are known to spell such machines
 pub paired : (P : Fsmd → Fsmd → Rule) (g : Call) (a b : Fsmd) (x : Answer) → SpellPair g a b → IsCorrectFrom (OpensPair P) 0 g x → IsCorrectFrom (P a b) 2 g x
 paired P g a b x k p =
-    let left : IsCorrectFrom (OpensMachine (λ n. Pairs a n (RefusesPair a n) (P a n))) 1 g x =
-    opened Fsmd RefusesMachine SpellsMachine machine_opens (λ m. OpensMachine (λ n. Pairs m n (RefusesPair m n) (P m n))) g 0 a x k.left p in
-    let right : IsCorrectFrom (Pairs a b (RefusesPair a b) (P a b)) 2 g x =
-    opened Fsmd RefusesMachine SpellsMachine machine_opens (λ n. Pairs a n (RefusesPair a n) (P a n)) g 1 b x k.right left in
+    let left : IsCorrectFrom (OpensMachine (λ n. ComparesPairs a n (RefusesPair a n) (P a n))) 1 g x =
+    opened Fsmd RefusesMachine SpellsMachine machine_opens (λ m. OpensMachine (λ n. ComparesPairs m n (RefusesPair m n) (P m n))) g 0 a x k.left p in
+    let right : IsCorrectFrom (ComparesPairs a b (RefusesPair a b) (P a b)) 2 g x =
+    opened Fsmd RefusesMachine SpellsMachine machine_opens (λ n. ComparesPairs a n (RefusesPair a n) (P a n)) g 1 b x k.right left in
     alike a b (RefusesPair a b) (P a b) 2 g x (other_or_alike a b) k.alike right

@@ -21,3 +21,4 @@ pub mod Settling
 pub mod Stopped
 pub mod Outcomes
 pub mod AlikePairs
+pub mod FirstRefusals

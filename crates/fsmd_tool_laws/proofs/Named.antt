@@ -1,36 +1,37 @@
 -- No file is opened that is not named.
 use Rattle.std.proofs.Common.{◌≡◌, ℕ, suc, ◌+◌, ◌≤◌, List, [], ◌∷◌, length, Option, Some, None, ap, arith}
 use Rattle.std.specs.Prelude.{is_some}
-use Rattle.command_words.specs.Words.{Asked, Check, Verify, Run, Replay, Fmt, Cuts, Generate, Compile, Schedule, Bind, Shrink, Chain}
+use Rattle.fsmd_words.specs.AskedWords.{Asked, Check, Verify, Run, Replay, Fmt, Cuts, Generate, Compile, Schedule, Bind, Shrink, Chain}
 use Rattle.fs_model.specs.Machines.{Fsmd}
 use Rattle.fs_model.specs.Source.{Source}
 use Rattle.fs_model.specs.Runs.{Inputs}
-use Rattle.fs_rules.specs.Spelled.{machine_of}
+use Rattle.fs_rules.specs.MachineOfParts.{machine_of}
 use Rattle.fs_write.specs.Canonical.{canonical}
-use Rattle.path_text.specs.Paths.{paths_text}
-use Rattle.program_laws.specs.Programs.{Program}
-use Rattle.unit_counts.specs.Counts.{Units}
-use Rattle.synthesis_answers.specs.Bindings.{Binding}
-use Rattle.bisimulation.specs.Tables.{Node}
+use Rattle.fs_path_text.specs.PathTexts.{paths_text}
+use Rattle.hls_program_laws.specs.Programs.{Program}
+use Rattle.hls_unit_counts.specs.Counts.{Units}
+use Rattle.fsmd_synthesis_answers.specs.BindingAnswers.{Binding}
+use Rattle.cert_bisimulation.specs.Tables.{Node}
 use Rattle.sym_facts.specs.Facts.{Fact}
-use Rattle.command_answers.specs.declared.answer.Operand.{Operand}
-use Rattle.command_answers.specs.declared.answer.Answer.{Answer}
-use Rattle.command_answers.specs.declared.answer.Answer.TheVariants.{Usage, Text}
-use Rattle.command_answers.specs.Words.{in_links, files_of}
-use Rattle.command_answers.specs.Texts.{SpellsParts, SpellsMachine}
-use Rattle.command_answers.specs.Readings.{Content, Reading}
-use Rattle.command_answers.specs.Refusals.{RefusesMachine, RefusesPair, RefusesCertificate, SpellsCertificate}
-use Rattle.command_answers.specs.InputFiles.{SpellsInputs, RefusesInputs}
-use Rattle.command_answers.specs.Programs.{RefusesProgram, SpellsProgram, IsOfProgram}
-use Rattle.command_answers.specs.Schedules.{RefusesUnits, SpellUnits, IsOfSchedule}
-use Rattle.command_answers.specs.Bindings.{RefusesBinding, SpellsBinding, IsOfBinding}
-use Rattle.command_answers.specs.Pairs.{IsOfPair, IsOfLoops}
-use Rattle.command_answers.specs.Verdicts.{IsJudged}
-use Rattle.command_answers.specs.Runs.{IsOfRun}
-use Rattle.command_answers.specs.Replays.{IsOfReplay}
-use Rattle.command_answers.specs.Shrinks.{IsOfShrink}
-use Rattle.command_answers.specs.Links.{AtLink, links_in, IsOfChain}
-use Rattle.command_answers.specs.Follows.{Ends, OpensWith, Refused, Spelled, Opens, OpensMachine, OpensInputs, OpensCertificate, OpensUnits, OpensBinding, Pairs, Other, Alike, OpensPair, Judges, Fails, Holds, OpensLinks, FollowsFrom}
+use Rattle.fsmd_replies.specs.declared.answer.Operand.{Operand}
+use Rattle.fsmd_replies.specs.declared.answer.Answer.{Answer}
+use Rattle.fsmd_replies.specs.declared.answer.Answer.TheVariants.{Usage, Text}
+use Rattle.fsmd_replies.specs.AskedFiles.{in_links, files_of}
+use Rattle.fsmd_answers.specs.MachineFiles.{SpellsParts, SpellsMachine}
+use Rattle.fsmd_answers.specs.Readings.{FileContent, Reading}
+use Rattle.fsmd_answers.specs.Refusals.{RefusesMachine, RefusesPair, RefusesCertificate, SpellsCertificate}
+use Rattle.fsmd_answers.specs.InputFiles.{SpellsInputs, RefusesInputs}
+use Rattle.fsmd_answers.specs.ProgramFiles.{RefusesProgram, SpellsProgram, IsOfProgram}
+use Rattle.fsmd_answers.specs.ScheduleFiles.{RefusesUnits, SpellUnits, IsOfSchedule}
+use Rattle.fsmd_answers.specs.BindingFiles.{RefusesBinding, SpellsBinding, IsOfBinding}
+use Rattle.fsmd_answers.specs.MachinePairAnswers.{IsOfPair, IsOfLoops}
+use Rattle.fsmd_answers.specs.Verdicts.{IsJudged}
+use Rattle.fsmd_answers.specs.RunAnswers.{IsOfRun}
+use Rattle.fsmd_answers.specs.Replays.{IsOfReplay}
+use Rattle.fsmd_answers.specs.Shrinks.{IsOfShrink}
+use Rattle.fsmd_answers.specs.Links.{AtLink, links_in, IsOfChain}
+use Rattle.fsmd_answers.specs.Follows.{Ends, OpensWith, Refused, Spelled, Opens, OpensMachine, OpensInputs, OpensCertificate, OpensUnits, OpensBinding}
+use Rattle.fsmd_answers.specs.Follows.{ComparesPairs, Other, Alike, OpensPair, Judges, Fails, Holds, OpensLinks, FollowsFrom}
 use Rattle.fsmd_tool_laws.proofs.Following.{Rule, BehindCertificate, BehindPair, BehindMachine}
 
 -- an answer follows by P from at most so many files
@@ -51,8 +52,8 @@ pub ends : (n : ℕ) (P : Answer → Type 0) → IsWithin n (Ends P)
 ends n P file [] x p = few n
 ends n P file (c ∷ r) x p = absurd p
 
-module _ (T : Type 0) (R : Operand → Content → Answer → Type 0) (S : T → List ℕ → Type 0) (P : T → Rule) (n : ℕ) (within : (v : T) → IsWithin n (P v)) where
-  opened : (file : ℕ) (c : Content) (r : Reading) (x : Answer) → OpensWith T R S P file c r x → length r ≤ n
+module _ (T : Type 0) (R : Operand → FileContent → Answer → Type 0) (S : T → List ℕ → Type 0) (P : T → Rule) (n : ℕ) (within : (v : T) → IsWithin n (P v)) where
+  opened : (file : ℕ) (c : FileContent) (r : Reading) (x : Answer) → OpensWith T R S P file c r x → length r ≤ n
   opened file c r x (Refused p e) = at_end r n e
   opened file c r x (Spelled v l p) = within v (file + 1) r x p
 
@@ -60,7 +61,7 @@ module _ (T : Type 0) (R : Operand → Content → Answer → Type 0) (S : T →
   opens file [] x p = absurd p
   opens file (c ∷ r) x p = one_more (length r) n (opened file c r x p)
 
-pairs : (a b : Fsmd) (R : Answer → Type 0) (P : Rule) (n : ℕ) → IsWithin n P → IsWithin n (Pairs a b R P)
+pairs : (a b : Fsmd) (R : Answer → Type 0) (P : Rule) (n : ℕ) → IsWithin n P → IsWithin n (ComparesPairs a b R P)
 pairs a b R P n within file r x (Other p e) = at_end r n e
 pairs a b R P n within file r x (Alike i p) = within file r x p
 
@@ -70,8 +71,8 @@ judges o link a b nodes P n within file r x (Holds v p) = within file r x p
 
 pair : (P : Fsmd → Fsmd → Rule) (n : ℕ) → ((a b : Fsmd) → IsWithin n (P a b)) → IsWithin (suc (suc n)) (OpensPair P)
 pair P n within =
-    opens Fsmd RefusesMachine SpellsMachine (λ a. OpensMachine (λ b. Pairs a b (RefusesPair a b) (P a b))) (suc n) (λ a.
-    opens Fsmd RefusesMachine SpellsMachine (λ b. Pairs a b (RefusesPair a b) (P a b)) n (λ b.
+    opens Fsmd RefusesMachine SpellsMachine (λ a. OpensMachine (λ b. ComparesPairs a b (RefusesPair a b) (P a b))) (suc n) (λ a.
+    opens Fsmd RefusesMachine SpellsMachine (λ b. ComparesPairs a b (RefusesPair a b) (P a b)) n (λ b.
     pairs a b (RefusesPair a b) (P a b) n (within a b)))
 
 inputs : (m : Fsmd) (P : Inputs → Answer → Type 0) → IsWithin 1 (OpensInputs m (λ ins. Ends (P ins)))

@@ -1,40 +1,42 @@
--- Two machines get one answer, but for the cycle that it names, and for what is found beyond a search that is left open.
+-- Two machines get one answer, but for what is found beyond a search that is left open.
 use Rattle.std.proofs.Common.{◌≡◌, ⊎_elim, ℕ, ◌<◌, length, Bool, sym, ◌∙◌, ap}
 use Rattle.fs_model.specs.Machines.{Fsmd}
 use Rattle.fs_trials.specs.Candidates.{stated_count}
 use Rattle.fs_trials.specs.Differences.{DiffersAt}
-use Rattle.cert_writer.specs.Written.{certificate_text}
-use Rattle.search.specs.Answers.{machines}
-use Rattle.pair_answers.specs.Answers.{IsLeftOpen, IsUndecided}
-use Rattle.pair_answers.proofs.Behaviour.{same_show_nothing, one_counterexample}
-use Rattle.pair_answers.proofs.Once.{Nodes, one_or_beyond, only_beyond, one_line, not_open}
-use Rattle.command_answers.specs.declared.answer.Answer.{Answer}
-use Rattle.command_answers.specs.declared.answer.Answer.TheVariants.{Equivalent, Differs, Undecided}
-use Rattle.command_answers.specs.declared.answer.Status.TheVariants.{Differ}
-use Rattle.command_answers.specs.Statuses.{status_of}
-use Rattle.command_answers.specs.Lines.{HasLines}
-use Rattle.command_answers.specs.Pairs.{AreSame, IsOfPair, Same, Apart, Open, kept}
-use Rattle.fsmd_tool_laws.specs.OneAnswer.{IsBeyond, Found, NoneFound, AreOne, Equal, NameCycles, GoBeyond}
+use Rattle.cert_writer.specs.WrittenCertificates.{certificate_text}
+use Rattle.search.specs.SearchOutcomes.{machines}
+use Rattle.fsmd_pair_answers.specs.PairAnswers.{IsLeftOpen, IsUndecided}
+use Rattle.fsmd_pair_answers.proofs.Behaviour.{same_show_nothing, one_counterexample}
+use Rattle.fsmd_pair_answers.proofs.Once.{Nodes, one_or_beyond, only_beyond, one_line, not_open}
+use Rattle.fsmd_replies.specs.declared.answer.Answer.{Answer}
+use Rattle.fsmd_replies.specs.declared.answer.Answer.TheVariants.{Equivalent, Differs, Undecided}
+use Rattle.fsmd_replies.specs.declared.answer.Status.TheVariants.{Differ}
+use Rattle.fsmd_replies.specs.Statuses.{status_of}
+use Rattle.fsmd_answers.specs.LineAnswers.{HasLines}
+use Rattle.fsmd_answers.specs.MachinePairAnswers.{AreSame, IsOfPair, Same, Apart, Open, kept}
+use Rattle.fsmd_tool_laws.specs.OneAnswer.{IsBeyond, Found, NoneFound, AreOne, Equal, GoBeyond}
 
-open_once : (limit : ℕ) (a b : Fsmd) (x y : Answer) → HasLines (IsUndecided limit a b) Undecided x → HasLines (IsUndecided limit a b) Undecided y → AreOne a b x y
-open_once limit a b x y p q =
-    ⊎_elim (λ e. Equal (p.is ∙ ap Undecided e ∙ sym q.is))
-    (λ c. NameCycles (record { lines = p.lines; holds = c.0; is = p.is }) (record { lines = q.lines; holds = c.1; is = q.is }))
-    (one_line (machines a b) p.lines q.lines p.holds.obstacle q.holds.obstacle)
+open_once : (limit : ℕ) (a b : Fsmd) (x y : Answer) → HasLines (IsUndecided limit a b) Undecided x → HasLines (IsUndecided limit a b) Undecided y
+    → AreOne a b x y
+open_once limit a b x y p q = Equal (p.is ∙ ap Undecided (one_line (machines a b) p.lines q.lines p.holds.obstacle q.holds.obstacle) ∙ sym q.is)
 
 -- an answer that is left undecided
 left_undecided : (limit : ℕ) (a b : Fsmd) (x : Answer) → HasLines (IsUndecided limit a b) Undecided x → IsBeyond a b x
 left_undecided limit a b x p = NoneFound (record { lines = p.lines; holds = p.holds.obstacle; is = p.is })
 
-certificates_once : (keeps : Bool) (a b : Fsmd) (n k : Nodes) (x y : Answer) → AreSame a b n → AreSame a b k → x ≡ Equivalent (length n) (kept keeps (certificate_text a b n)) → y ≡ Equivalent (length k) (kept keeps (certificate_text a b k)) → AreOne a b x y
+certificates_once : (keeps : Bool) (a b : Fsmd) (n k : Nodes) (x y : Answer) → AreSame a b n → AreSame a b k
+    → x ≡ Equivalent (length n) (kept keeps (certificate_text a b n)) → y ≡ Equivalent (length k) (kept keeps (certificate_text a b k)) → AreOne a b x y
 certificates_once keeps a b n k x y p q e f =
     ⊎_elim (λ s. Equal (e ∙ ap (λ (v : Nodes). Equivalent (length v) (kept keeps (certificate_text a b v))) s ∙ sym f))
     (λ c. GoBeyond c.0.left_open (Found n c.0 keeps e) (Found k c.1 keeps f))
     (one_or_beyond (machines a b) n k p.shows q.shows)
 
 -- a certificate beside a line is found beyond the search
-beyond_once : (limit : ℕ) (keeps : Bool) (a b : Fsmd) (n : Nodes) (x y : Answer) → AreSame a b n → x ≡ Equivalent (length n) (kept keeps (certificate_text a b n)) → HasLines (IsUndecided limit a b) Undecided y → IsLeftOpen (machines a b) × IsBeyond a b x × IsBeyond a b y
-beyond_once limit keeps a b n x y p e q = let c = only_beyond (machines a b) n q.lines p.shows q.holds.obstacle in (c.left_open, Found n c keeps e, left_undecided limit a b y q)
+beyond_once : (limit : ℕ) (keeps : Bool) (a b : Fsmd) (n : Nodes) (x y : Answer) → AreSame a b n
+    → x ≡ Equivalent (length n) (kept keeps (certificate_text a b n)) → HasLines (IsUndecided limit a b) Undecided y
+    → IsLeftOpen (machines a b) × IsBeyond a b x × IsBeyond a b y
+beyond_once limit keeps a b n x y p e q = let c = only_beyond (machines a b) n q.lines p.shows q.holds.obstacle in
+    (c.left_open, Found n c keeps e, left_undecided limit a b y q)
 
 pub pair_once : (limit : ℕ) (keeps : Bool) (a b : Fsmd) (x y : Answer) → IsOfPair limit keeps a b x → IsOfPair limit keeps a b y → AreOne a b x y
 pair_once limit keeps a b x y (Same n p e) (Same k q f) = certificates_once keeps a b n k x y p q e f
@@ -48,7 +50,8 @@ pair_once limit keeps a b x y (Open p) (Apart q) = absurd (not_open limit a b q.
 pair_once limit keeps a b x y (Open p) (Open q) = open_once limit a b x y p q
 
 -- where a candidate shows a difference, the answer is one
-pub difference_told : (limit : ℕ) (keeps : Bool) (a b : Fsmd) (x : Answer) (j : ℕ) → j < stated_count a b → DiffersAt a b limit j → IsOfPair limit keeps a b x → status_of x ≡ Differ
+pub difference_told : (limit : ℕ) (keeps : Bool) (a b : Fsmd) (x : Answer) (j : ℕ) → j < stated_count a b → DiffersAt a b limit j → IsOfPair limit keeps a b x
+    → status_of x ≡ Differ
 difference_told limit keeps a b x j among shows (Same n p e) = absurd (same_show_nothing limit a b j p.same shows)
 difference_told limit keeps a b x j among shows (Apart p) = ap status_of p.is
 difference_told limit keeps a b x j among shows (Open p) = absurd (p.holds.none_differ.none j among shows)

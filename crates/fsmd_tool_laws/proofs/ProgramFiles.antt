@@ -3,15 +3,16 @@ use Rattle.std.proofs.Common.{◌≡◌, ℕ, List, length, sym, ◌∙◌, ap, 
 use Rattle.fs_model.specs.Limits.{most_text_bytes}
 use Rattle.fs_grammar.specs.declared.fault.TextFault.{TextFault}
 use Rattle.fs_rules.specs.declared.check.CheckFault.{CheckFault}
-use Rattle.fs_rules.specs.Rules.{IsLawful, IsFirstBroken}
-use Rattle.program_laws.specs.Programs.{Program}
-use Rattle.program_laws.specs.Compiled.{parts_of}
-use Rattle.program_grammar.proofs.Texts.{one_program, one_fault, not_both}
-use Rattle.command_answers.specs.declared.answer.Operand.{Operand}
-use Rattle.command_answers.specs.declared.answer.Answer.{Answer}
-use Rattle.command_answers.specs.declared.answer.Answer.TheVariants.{Text, TextRefused, CheckRefused}
-use Rattle.command_answers.specs.Readings.{Content, OfBytes}
-use Rattle.command_answers.specs.Programs.{SpellsProgram, IsOfProgram, HasProgramFault, BreaksRule, RefusesProgram, UnreadProgram, ProgramByText, ProgramByRule}
+use Rattle.fs_rules.specs.Rules.{BreaksNoRule, IsFirstBroken}
+use Rattle.hls_program_laws.specs.Programs.{Program}
+use Rattle.hls_program_laws.specs.Compiled.{parts_of}
+use Rattle.hls_program_grammar.proofs.Texts.{one_program, one_fault, not_both}
+use Rattle.fsmd_replies.specs.declared.answer.Operand.{Operand}
+use Rattle.fsmd_replies.specs.declared.answer.Answer.{Answer}
+use Rattle.fsmd_replies.specs.declared.answer.Answer.TheVariants.{Text, TextRefused, CheckRefused}
+use Rattle.fsmd_answers.specs.Readings.{FileContent, OfBytes}
+use Rattle.fsmd_answers.specs.ProgramFiles.{SpellsProgram, IsOfProgram, HasProgramFault, BreaksRule, RefusesProgram, UnreadProgram, ProgramByText}
+use Rattle.fsmd_answers.specs.ProgramFiles.{ProgramByRule}
 use Rattle.fsmd_tool_laws.proofs.Contents.{of_both, OpensInOneWay}
 use Rattle.fsmd_tool_laws.proofs.Texts.{few_not_many, first_broken_once, lawful_unbroken}
 use Rattle.fsmd_tool_laws.proofs.Files.{unread_once, unread_or}
@@ -35,9 +36,9 @@ program_or_text bytes p f s q = not_both bytes p f s.spells q.stops
 
 program_or_rule : (bytes : List ℕ) (p : Program) (f : CheckFault) → SpellsProgram p bytes → BreaksRule f bytes → ⊥
 program_or_rule bytes p f s q =
-    lawful_unbroken (parts_of q.program) f (subst (λ k. IsLawful (parts_of k)) (one_program bytes p q.program s.spells q.spells) s.lawful) q.broken
+    lawful_unbroken (parts_of q.program) f (subst (λ k. BreaksNoRule (parts_of k)) (one_program bytes p q.program s.spells q.spells) s.lawful) q.broken
 
-refused_once : (file : Operand) (c : Content) (x y : Answer) → RefusesProgram file c x → RefusesProgram file c y → x ≡ y
+refused_once : (file : Operand) (c : FileContent) (x y : Answer) → RefusesProgram file c x → RefusesProgram file c y → x ≡ y
 refused_once file c x y (UnreadProgram u) (UnreadProgram v) = unread_once most_text_bytes file c x y u v
 refused_once file c x y (UnreadProgram u) (ProgramByText f t e) =
     absurd (unread_or most_text_bytes file c (HasProgramFault f) x (λ b p l. few_not_many (length b) most_text_bytes p.few l) t u)
@@ -56,7 +57,7 @@ refused_once file c x y (ProgramByRule f t e) (ProgramByText g s h) =
 refused_once file c x y (ProgramByRule f t e) (ProgramByRule g s h) =
     e ∙ ap (λ i. CheckRefused file i) (of_both c (BreaksRule f) (BreaksRule g) (f ≡ g) (λ b p q. rule_once b f g p q) t s) ∙ sym h
 
-spelled_or_refused : (file : Operand) (c : Content) (p : Program) (x : Answer) → OfBytes c (SpellsProgram p) → RefusesProgram file c x → ⊥
+spelled_or_refused : (file : Operand) (c : FileContent) (p : Program) (x : Answer) → OfBytes c (SpellsProgram p) → RefusesProgram file c x → ⊥
 spelled_or_refused file c p x h (UnreadProgram u) =
     unread_or most_text_bytes file c (SpellsProgram p) x (λ b s l. few_not_many (length b) most_text_bytes s.few l) h u
 spelled_or_refused file c p x h (ProgramByText f s e) = of_both c (SpellsProgram p) (HasProgramFault f) ⊥ (λ b t q. program_or_text b p f t q) h s

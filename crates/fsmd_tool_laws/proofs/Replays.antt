@@ -4,13 +4,13 @@ use Rattle.fs_model.specs.Machines.{Fsmd}
 use Rattle.fs_model.specs.Runs.{Inputs}
 use Rattle.fs_runs.specs.Outcomes.{Outputs, output_names}
 use Rattle.fs_show.specs.declared.ends.Side.TheVariants as sides
-use Rattle.fs_show.specs.Items.{SameOutputs}
-use Rattle.fs_show.specs.Ends.{IsReplayText}
+use Rattle.fs_show.specs.ItemTexts.{SameOutputs}
+use Rattle.fs_show.specs.EndTexts.{IsReplayText}
 use Rattle.fs_show.proofs.Once.{replay_once}
-use Rattle.command_answers.specs.declared.answer.Answer.{Answer}
-use Rattle.command_answers.specs.declared.answer.Answer.TheVariants.{Text, Differs}
-use Rattle.command_answers.specs.Lines.{HasLines}
-use Rattle.command_answers.specs.Replays.{BothEnd, IsOfReplay, LeftStopped, RightStopped, Agreed, Differed}
+use Rattle.fsmd_replies.specs.declared.answer.Answer.{Answer}
+use Rattle.fsmd_replies.specs.declared.answer.Answer.TheVariants.{Text, Differs}
+use Rattle.fsmd_answers.specs.LineAnswers.{HasLines}
+use Rattle.fsmd_answers.specs.Replays.{BothEnd, IsOfReplay, LeftStopped, RightStopped, Agreed, Differed}
 use Rattle.fsmd_tool_laws.proofs.Runs.{stops_once, not_stopped, ends_same}
 
 -- the answer to two runs that ended
@@ -52,7 +52,9 @@ replay_answer_once limit a b ins x y (LeftStopped s p t) (Agreed l r e c d) = ab
 replay_answer_once limit a b ins x y (LeftStopped s p t) (Differed l r e c d) = absurd (not_stopped limit a ins l e.left_steps sides.Left s x e.left_ends p t)
 replay_answer_once limit a b ins x y (RightStopped o n e s p t) (LeftStopped r q u) = absurd (not_stopped limit a ins o n sides.Left r y e q u)
 replay_answer_once limit a b ins x y (RightStopped o n e s p t) (RightStopped k m f r q u) = stops_once limit b ins sides.Right s r x y p q t u
-replay_answer_once limit a b ins x y (RightStopped o n e s p t) (Agreed l r f c d) = absurd (not_stopped limit b ins r f.right_steps sides.Right s x f.right_ends p t)
-replay_answer_once limit a b ins x y (RightStopped o n e s p t) (Differed l r f c d) = absurd (not_stopped limit b ins r f.right_steps sides.Right s x f.right_ends p t)
+replay_answer_once limit a b ins x y (RightStopped o n e s p t) (Agreed l r f c d) =
+    absurd (not_stopped limit b ins r f.right_steps sides.Right s x f.right_ends p t)
+replay_answer_once limit a b ins x y (RightStopped o n e s p t) (Differed l r f c d) =
+    absurd (not_stopped limit b ins r f.right_steps sides.Right s x f.right_ends p t)
 replay_answer_once limit a b ins x y (Agreed l r e s t) q = ended_once limit a b ins x y (record { left = l; right = r; ends = e; compares = Same s t }) q
 replay_answer_once limit a b ins x y (Differed l r e s t) q = ended_once limit a b ins x y (record { left = l; right = r; ends = e; compares = Other s t }) q

@@ -7,16 +7,17 @@ use Rattle.fs_runs.specs.Outcomes.{Outputs, output_names, EndsWith, IsStopped}
 use Rattle.fs_runs.proofs.RunOnce.{one_end, one_stop, end_or_stop}
 use Rattle.fs_show.specs.declared.ends.Side.{Side}
 use Rattle.fs_show.specs.declared.ends.Side.TheVariants.{Only}
-use Rattle.fs_show.specs.Ends.{IsEndText, IsStopText}
+use Rattle.fs_show.specs.EndTexts.{IsEndText, IsStopText}
 use Rattle.fs_show.proofs.Once.{end_once, stop_once}
 use Rattle.fs_show.proofs.RunOnce.{told_of_run}
-use Rattle.command_answers.specs.declared.answer.Answer.{Answer}
-use Rattle.command_answers.specs.declared.answer.Answer.TheVariants.{Text, Undecided}
-use Rattle.command_answers.specs.Lines.{HasLines}
-use Rattle.command_answers.specs.Runs.{IsOfStop, IsOfRun, Ended, Stopped}
+use Rattle.fsmd_replies.specs.declared.answer.Answer.{Answer}
+use Rattle.fsmd_replies.specs.declared.answer.Answer.TheVariants.{Text, Undecided}
+use Rattle.fsmd_answers.specs.LineAnswers.{HasLines}
+use Rattle.fsmd_answers.specs.RunAnswers.{IsOfStop, IsOfRun, Ended, Stopped}
 
 -- the answers of stops of one run are one
-pub stops_once : (limit : ℕ) (m : Fsmd) (ins : Inputs) (side : Side) (s r : RunStop) (x y : Answer) → IsStopped m ins limit s → IsStopped m ins limit r → IsOfStop side s x → IsOfStop side r y → x ≡ y
+pub stops_once : (limit : ℕ) (m : Fsmd) (ins : Inputs) (side : Side) (s r : RunStop) (x y : Answer) → IsStopped m ins limit s → IsStopped m ins limit r
+    → IsOfStop side s x → IsOfStop side r y → x ≡ y
 stops_once limit m ins side s r x y a b p q =
     let same : s ≡ r = one_stop m ins limit s r a b (told_of_run side s p.lines p.holds) (told_of_run side r q.lines q.holds) in
     p.is ∙ ap Undecided (stop_once side r p.lines q.lines (subst (λ z. IsStopText side z p.lines) same p.holds) q.holds) ∙ sym q.is
@@ -32,7 +33,8 @@ ends_once limit m ins o p n k x y a b s t =
     let here : IsEndText names p k s.lines = subst (λ c. IsEndText names p c s.lines) same.1 (subst (λ w. IsEndText names w n s.lines) same.0 s.holds) in
     s.is ∙ ap Text (end_once names p k s.lines t.lines here t.holds) ∙ sym t.is
 
-pub not_stopped : (limit : ℕ) (m : Fsmd) (ins : Inputs) (outs : Outputs) (steps : ℕ) (side : Side) (stop : RunStop) (x : Answer) → EndsWith m ins limit outs steps → IsStopped m ins limit stop → IsOfStop side stop x → ⊥
+pub not_stopped : (limit : ℕ) (m : Fsmd) (ins : Inputs) (outs : Outputs) (steps : ℕ) (side : Side) (stop : RunStop) (x : Answer)
+    → EndsWith m ins limit outs steps → IsStopped m ins limit stop → IsOfStop side stop x → ⊥
 not_stopped limit m ins outs steps side stop x a b p = end_or_stop m ins limit outs steps stop a b (told_of_run side stop p.lines p.holds)
 
 pub run_answer_once : (limit : ℕ) (m : Fsmd) (ins : Inputs) (x y : Answer) → IsOfRun limit m ins x → IsOfRun limit m ins y → x ≡ y

@@ -4,17 +4,17 @@ use Rattle.fs_model.specs.Machines.{Fsmd}
 use Rattle.fs_model.specs.Runs.{Inputs, Content}
 use Rattle.fs_runs.specs.InputValues.{input_signatures}
 use Rattle.fs_runs.specs.Outcomes.{Outputs, output_names}
-use Rattle.fs_show.specs.Items.{input_names}
-use Rattle.fs_show.specs.Ends.{IsCounterexampleText}
+use Rattle.fs_show.specs.ItemTexts.{input_names}
+use Rattle.fs_show.specs.EndTexts.{IsCounterexampleText}
 use Rattle.fs_show.proofs.Once.{counterexample_once}
 use Rattle.fs_trials.specs.Candidates.{inputs_told}
-use Rattle.hls_shrink.specs.Shrunk.{Shows}
+use Rattle.hls_shrink.specs.Shrunk.{ShowDifference}
 use Rattle.hls_shrink.specs.Given.{given_contents}
 use Rattle.hls_shrink.proofs.Unique.{end_once}
-use Rattle.command_answers.specs.declared.answer.Answer.{Answer}
-use Rattle.command_answers.specs.declared.answer.Answer.TheVariants.{Differs}
-use Rattle.command_answers.specs.Lines.{HasLines}
-use Rattle.command_answers.specs.Shrinks.{IsSmallText, IsOfShrink, Smaller, Replayed}
+use Rattle.fsmd_replies.specs.declared.answer.Answer.{Answer}
+use Rattle.fsmd_replies.specs.declared.answer.Answer.TheVariants.{Differs}
+use Rattle.fsmd_answers.specs.LineAnswers.{HasLines}
+use Rattle.fsmd_answers.specs.Shrinks.{IsSmallText, IsOfShrink, Smaller, Replayed}
 use Rattle.fsmd_tool_laws.proofs.Runs.{ends_same}
 use Rattle.fsmd_tool_laws.proofs.Replays.{replay_answer_once}
 
@@ -39,7 +39,7 @@ small_once limit a b cs x y p q = p.is ∙ ap Differs (told_once limit a b cs p.
 
 pub shrink_answer_once : (limit : ℕ) (a b : Fsmd) (ins : Inputs) (x y : Answer) → IsOfShrink limit a b ins x → IsOfShrink limit a b ins y → x ≡ y
 shrink_answer_once limit a b ins x y (Smaller d e r p) (Smaller f h s q) =
-    let same : e ≡ h = end_once (Shows a b limit) (given_contents a ins) e h r s in
+    let same : e ≡ h = end_once (ShowDifference a b limit) (given_contents a ins) e h r s in
     small_once limit a b h x y (subst (λ cs. HasLines (IsSmallText limit a b cs) Differs x) same p) q
 shrink_answer_once limit a b ins x y (Smaller d e r p) (Replayed n q) = absurd (n d)
 shrink_answer_once limit a b ins x y (Replayed n p) (Smaller d e r q) = absurd (n d)

@@ -1,19 +1,21 @@
 -- A file is one thing: it spells one machine, or has one fault, or is too long.
 use Rattle.std.proofs.Common.{◌≡◌, ℕ, ◌<◌, ◌≤◌, Bool, false, List, [], ◌∷◌, length, sym, ◌∙◌, ap, subst, ⊎_elim, arith, refl}
-use Rattle.std.specs.Prelude.{◌&&◌, ◌||◌, ◌==◌, nat_lt, Contains}
+use Rattle.std.specs.Prelude.{◌&&◌, ◌||◌, ◌==◌, nat_lt}
 use Rattle.std.specs.List.{slice_index_or}
 use Rattle.std.proofs.lemmas.Bool.Decides.{nat_tests}
+use Rattle.base_lemmas.proofs.Lists.{nothing_in_none}
 use Rattle.fs_model.specs.Source.{Source}
 use Rattle.fs_model.specs.Machines.{Fsmd}
 use Rattle.fs_grammar.specs.declared.fault.TextFault.{TextFault}
 use Rattle.fs_rules.specs.declared.check.CheckRule.{CheckRule}
-use Rattle.fs_rules.specs.declared.check.CheckRule.TheVariants.{TwiceNamed, UnknownName, WrongSort, AssignInput, AssignedTwice, NoElse, AfterElse, TooManyBranches, EndlessLine, UnknownState, TooMany, TooManyEmits}
+use Rattle.fs_rules.specs.declared.check.CheckRule.TheVariants.{TwiceNamed, UnknownName, WrongSort, AssignInput, AssignedTwice, NoElse, AfterElse}
+use Rattle.fs_rules.specs.declared.check.CheckRule.TheVariants.{TooManyBranches, EndlessLine, UnknownState, TooMany, TooManyEmits}
 use Rattle.fs_rules.specs.declared.check.CheckFault.{CheckFault}
-use Rattle.fs_ast.specs.Spelled.{machine_of}
-use Rattle.fs_ast.specs.Rules.{rank, is_sooner, plain_faults, branch_faults, IsFirstBroken, IsLawful}
+use Rattle.fs_ast.specs.BuiltMachine.{machine_of}
+use Rattle.fs_ast.specs.MachineRules.{rule_rank, is_sooner, plain_faults, branch_faults, IsFirstBroken, BreaksNoRule}
 use Rattle.fs_model.specs.Limits.{most_text_bytes}
 use Rattle.fs_text_laws.proofs.Texts.{one_source, one_fault, not_both}
-use Rattle.command_answers.specs.Texts.{SpellsParts, SpellsMachine, IsTooLong, HasTextFault, HasCheckFault}
+use Rattle.fsmd_answers.specs.MachineFiles.{SpellsParts, SpellsMachine, IsTooLong, HasTextFault, HasCheckFault}
 
 -- ---- the broken rule that is answered is one
 
@@ -28,9 +30,12 @@ lex_ranks a r b s e f = grind (arith, nat_tests)
 
 -- the rule of a rank
 abbrev rule_at : ℕ → CheckRule
-rule_at n = slice_index_or (TooMany ∷ TwiceNamed ∷ UnknownName ∷ WrongSort ∷ AssignInput ∷ AssignedTwice ∷ NoElse ∷ AfterElse ∷ TooManyBranches ∷ EndlessLine ∷ UnknownState ∷ TooMany ∷ TooManyEmits ∷ []) n TooMany
+rule_at n =
+    slice_index_or
+    (TooMany ∷ TwiceNamed ∷ UnknownName ∷ WrongSort ∷ AssignInput ∷ AssignedTwice ∷ NoElse ∷ AfterElse ∷ TooManyBranches ∷ EndlessLine ∷ UnknownState ∷ TooMany
+    ∷ TooManyEmits ∷ []) n TooMany
 
-rule_back : (r : CheckRule) → rule_at (rank r) ≡ r
+rule_back : (r : CheckRule) → rule_at (rule_rank r) ≡ r
 rule_back TwiceNamed = refl
 rule_back UnknownName = refl
 rule_back WrongSort = refl
@@ -44,7 +49,7 @@ rule_back UnknownState = refl
 rule_back TooMany = refl
 rule_back TooManyEmits = refl
 
-rank_same : (r s : CheckRule) → rank r ≡ rank s → r ≡ s
+rank_same : (r s : CheckRule) → rule_rank r ≡ rule_rank s → r ≡ s
 rank_same r s e = sym (rule_back r) ∙ ap rule_at e ∙ rule_back s
 
 fault_same : (f g : CheckFault) → f.rule ≡ g.rule → f.line ≡ g.line → f ≡ g
@@ -54,14 +59,13 @@ pub first_broken_once : (p : Source) (f g : CheckFault) → IsFirstBroken p f �
 first_broken_once p f g s t =
     let e : is_sooner g f ≡ false = s.first g t.broken in
     let h : is_sooner f g ≡ false = t.first f s.broken in
-    fault_same f g (rank_same f.rule g.rule (lex_ranks f.line (rank f.rule) g.line (rank g.rule) h e)) (lex_lines f.line (rank f.rule) g.line (rank g.rule) h e)
+    fault_same f g (rank_same f.rule g.rule (lex_ranks f.line (rule_rank f.rule) g.line (rule_rank g.rule) h e))
+    (lex_lines f.line (rule_rank f.rule) g.line (rule_rank g.rule) h e)
 
-nothing_there : {A : Type 0} (xs : List A) (x : A) → xs ≡ [] → Contains xs x → ⊥
-nothing_there xs x e c = let h : c.0 < length xs = c.1 in let n : length xs ≡ 0 = ap length e in omega arith
-
-pub lawful_unbroken : (p : Source) (f : CheckFault) → IsLawful p → IsFirstBroken p f → ⊥
+pub lawful_unbroken : (p : Source) (f : CheckFault) → BreaksNoRule p → IsFirstBroken p f → ⊥
 lawful_unbroken p f l b =
-    ⊎_elim (λ c. nothing_there (plain_faults p) f l.plain c) (λ late. ⊎_elim (λ c. nothing_there (branch_faults p) f l.branches c) (λ e. l.ends f.line e.1) late.1) b.broken
+    ⊎_elim (λ c. nothing_in_none (plain_faults p) f l.plain c)
+    (λ late. ⊎_elim (λ c. nothing_in_none (branch_faults p) f l.branches c) (λ e. l.ends f.line e.1) late.1) b.broken
 
 -- ---- one machine, one fault, and not both
 
@@ -78,7 +82,8 @@ pub text_fault_once : (bytes : List ℕ) (f g : TextFault) → HasTextFault f by
 text_fault_once bytes f g s t = one_fault bytes f g s.stops t.stops
 
 pub check_fault_once : (bytes : List ℕ) (f g : CheckFault) → HasCheckFault f bytes → HasCheckFault g bytes → f ≡ g
-check_fault_once bytes f g s t = first_broken_once t.parts f g (subst (λ p. IsFirstBroken p f) (one_source bytes s.parts t.parts s.spells t.spells) s.broken) t.broken
+check_fault_once bytes f g s t = first_broken_once t.parts f g
+    (subst (λ p. IsFirstBroken p f) (one_source bytes s.parts t.parts s.spells t.spells) s.broken) t.broken
 
 pub text_or_check : (bytes : List ℕ) (f : TextFault) (g : CheckFault) → HasTextFault f bytes → HasCheckFault g bytes → ⊥
 text_or_check bytes f g s t = not_both bytes t.parts f t.spells s.stops
@@ -87,7 +92,8 @@ pub spells_no_text_fault : (bytes : List ℕ) (m : Fsmd) (f : TextFault) → Spe
 spells_no_text_fault bytes m f s t = not_both bytes s.parts f s.spells.spells t.stops
 
 pub spells_no_check_fault : (bytes : List ℕ) (m : Fsmd) (f : CheckFault) → SpellsMachine m bytes → HasCheckFault f bytes → ⊥
-spells_no_check_fault bytes m f s t = lawful_unbroken t.parts f (subst IsLawful (one_source bytes s.parts t.parts s.spells.spells t.spells) s.spells.lawful) t.broken
+spells_no_check_fault bytes m f s t = lawful_unbroken t.parts f
+    (subst BreaksNoRule (one_source bytes s.parts t.parts s.spells.spells t.spells) s.spells.lawful) t.broken
 
 pub long_spells_none : (bytes : List ℕ) (m : Fsmd) → SpellsMachine m bytes → IsTooLong most_text_bytes bytes → ⊥
 long_spells_none bytes m s long = few_not_many (length bytes) most_text_bytes s.spells.few long

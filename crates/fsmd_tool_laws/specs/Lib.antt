@@ -1,5 +1,6 @@
 pub mod Agreement
 pub mod OneAnswer
 pub mod Settled
-pub mod Outcomes
-pub mod Alike
+pub mod CallOutcomes
+pub mod AlikeAnswers
+pub mod FirstRefusals

@@ -1,25 +1,25 @@
 -- When what was read of the files of a call is settled.
 use Rattle.std.specs.Prelude.{◌≡◌, ◌<◌, ◌≤◌, ℕ, zero, suc, ◌+◌, List, [], ◌∷◌, length, None}
-use Rattle.fs_base.specs.Outside.{Held, Unknown, Nothing, Bytes}
+use Rattle.fs_base.specs.Outside.{FileKnowledge, Unknown, Nothing, Bytes}
 use Rattle.fs_model.specs.Machines.{Fsmd}
 use Rattle.fs_pair.specs.Interfaces.{interface_fault}
-use Rattle.bisimulation.specs.Tables.{Node}
+use Rattle.cert_bisimulation.specs.Tables.{Node}
 use Rattle.sym_facts.specs.Facts.{Fact}
-use Rattle.certificates.specs.Obligations.{Yes}
-use Rattle.command_answers.specs.declared.answer.Answer.{Answer}
-use Rattle.command_answers.specs.Words.{operand}
-use Rattle.command_answers.specs.Texts.{SpellsMachine}
-use Rattle.command_answers.specs.Readings.{Content, Readable, Unreadable, Reading}
-use Rattle.command_answers.specs.Refusals.{RefusesMachine, SpellsCertificate}
-use Rattle.command_answers.specs.Verdicts.{verdict_on}
-use Rattle.command_answers.specs.Follows.{Follows}
+use Rattle.cert_model.specs.Obligations.{Yes}
+use Rattle.fsmd_replies.specs.declared.answer.Answer.{Answer}
+use Rattle.fsmd_replies.specs.AskedFiles.{operand}
+use Rattle.fsmd_answers.specs.MachineFiles.{SpellsMachine}
+use Rattle.fsmd_answers.specs.Readings.{FileContent, Readable, Unreadable, Reading}
+use Rattle.fsmd_answers.specs.Refusals.{RefusesMachine, SpellsCertificate}
+use Rattle.fsmd_answers.specs.Verdicts.{verdict_on}
+use Rattle.fsmd_answers.specs.Follows.{Follows}
 use Rattle.fsmd_tool.specs.Calls.{Call, held, FailedToRead}
 use Rattle.fsmd_tool_laws.specs.Agreement.{Agree}
 
 -- ---- files that are settled
 
 -- it is known that there is no file; or it is known what bytes the file has, and it did not fail to be read
-abbrev pub Settles : Held → (Failed : Type 0) → Type 0
+abbrev pub Settles : FileKnowledge → (Failed : Type 0) → Type 0
 Settles Unknown Failed = ⊥
 Settles Nothing Failed = Unit {0}
 Settles (Bytes bytes) Failed = Failed → ⊥
@@ -70,7 +70,7 @@ AreKnownToHold g file (suc links) last end = IsKnownToHold g file last (λ next.
 -- ---- files that are settled up to the one that is refused
 
 -- what is read of a file of which this is known, where it is settled
-abbrev pub read_of : Held → Content
+abbrev pub read_of : FileKnowledge → FileContent
 read_of Unknown = Unreadable
 read_of Nothing = Unreadable
 read_of (Bytes bytes) = Readable bytes
@@ -81,7 +81,7 @@ read_from g file zero = []
 read_from g file (suc count) = read_of (held g (operand file)) ∷ read_from g (file + 1) count
 
 -- it is settled what is read of the file of a number, and as that of a machine it is refused
-pub record IsRefused (g : Call) (file : ℕ) : Type 0 where
+pub record IsRefusedAsMachine (g : Call) (file : ℕ) : Type 0 where
   pub settled : IsSettled g file
   pub answer : Answer
   pub refuses : RefusesMachine (operand file) (read_of (held g (operand file))) answer

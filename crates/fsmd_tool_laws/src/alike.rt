@@ -1,18 +1,18 @@
 //! The law of alike machines, over the definitions alone. The function does nothing.
 
 ghost use Rattle.std.specs.Prelude.{◌≡◌, ℕ, true, false, Some, is_some};
-ghost use Rattle.command_words.specs.Words.{Generate};
+ghost use Rattle.fsmd_words.specs.AskedWords.{Generate};
 ghost use Rattle.fs_model.specs.Machines.{Fsmd};
 ghost use Rattle.alike_searches.specs.Where.{WhereAlike};
-ghost use Rattle.command_answers.specs.Words.{cert_of, is_check};
-ghost use Rattle.command_answers.specs.Texts.{SpellsMachine};
-ghost use Rattle.command_answers.specs.Pairs.{left_of, right_of};
+ghost use Rattle.fsmd_replies.specs.AskedFiles.{cert_of, is_check};
+ghost use Rattle.fsmd_answers.specs.MachineFiles.{SpellsMachine};
+ghost use Rattle.fsmd_answers.specs.MachinePairAnswers.{left_of, right_of};
 ghost use Rattle.fsmd_tool.specs.Calls.{Call};
-ghost use Rattle.fsmd_tool.specs.Puts.{Put};
+ghost use Rattle.fsmd_tool.specs.SinkReplies.{Put};
 ghost use Rattle.fsmd_tool.specs.Correct.{Outcome};
 ghost use Rattle.fsmd_tool_laws.specs.Settled.{IsKnown};
-ghost use Rattle.fsmd_tool_laws.specs.Outcomes.{NothingFailed, EndsBy};
-ghost use Rattle.fsmd_tool_laws.specs.Alike.{IsClosedOrLimit};
+ghost use Rattle.fsmd_tool_laws.specs.CallOutcomes.{NothingFailed, EndsBy};
+ghost use Rattle.fsmd_tool_laws.specs.AlikeAnswers.{IsClosedOrLimitAnswer};
 
 /// Alike machines get the answer of a search that closes, or the line of a limit that stops it, or there was no memory, where
 /// neither the sink failed nor the store of the certificate: never a refusal, a difference or another obstacle. So it is of
@@ -20,7 +20,8 @@ ghost use Rattle.fsmd_tool_laws.specs.Alike.{IsClosedOrLimit};
 pub fn alike_machines_get_their_answers()
     ensures check { (g : Call) (p : Put) (a b : Fsmd) → is_check g.asked ≡ true → IsKnown g 0 (SpellsMachine a)
         → IsKnown g 1 (SpellsMachine b) → NothingFailed g p → Outcome g p
-        → WhereAlike a b (EndsBy (IsClosedOrLimit (is_some (cert_of g.asked)) a b) g p) }
+        → WhereAlike a b (EndsBy (IsClosedOrLimitAnswer (is_some (cert_of g.asked)) a b) g p) }
     ensures generate { (g : Call) (p : Put) (loops : ℕ) → g.asked ≡ Some (Generate loops) → NothingFailed g p → Outcome g p
-        → WhereAlike (left_of loops) (right_of loops) (EndsBy (IsClosedOrLimit false (left_of loops) (right_of loops)) g p) }
+        → WhereAlike (left_of loops) (right_of loops)
+        (EndsBy (IsClosedOrLimitAnswer false (left_of loops) (right_of loops)) g p) }
 {}

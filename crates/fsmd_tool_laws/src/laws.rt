@@ -1,58 +1,58 @@
 //! Laws of files and answers, over the definitions alone. The functions do nothing: those that they call are laws.
 
 ghost use Rattle.std.specs.Prelude.{◌≡◌, ◌≢◌, ◌+◌, ◌*◌, ◌<◌, ◌≤◌, ℕ, Bool, IsTrue, List, length};
-ghost use Rattle.std.specs.Prelude.{Option, Some, None, true, false, is_some, codes};
-ghost use Rattle.command_words.specs.Words.{Asked, Run, Replay, Fmt, Cuts, Generate, Compile, Schedule, Bind, Shrink, Chain};
+ghost use Rattle.std.specs.Prelude.{Option, Some, true, false, is_some, codes};
+ghost use Rattle.fsmd_words.specs.AskedWords.{Asked, Run, Replay, Fmt, Cuts, Generate, Compile, Schedule, Bind, Shrink, Chain};
 ghost use Rattle.fs_model.specs.Limits.{most_text_bytes};
 ghost use Rattle.fs_model.specs.Machines.{Fsmd};
 ghost use Rattle.fs_model.specs.Runs.{Inputs};
 ghost use Rattle.fs_model.specs.Source.{Source};
-ghost use Rattle.fs_rules.specs.Spelled.{machine_of};
+ghost use Rattle.fs_rules.specs.MachineOfParts.{machine_of};
 ghost use Rattle.fs_grammar.specs.declared.fault.TextFault.{TextFault};
 ghost use Rattle.fs_rules.specs.declared.check.CheckFault.{CheckFault};
 ghost use Rattle.fs_write.specs.Canonical.{canonical};
-ghost use Rattle.path_text.specs.Paths.{paths_text};
+ghost use Rattle.fs_path_text.specs.PathTexts.{paths_text};
 ghost use Rattle.fs_pair.specs.Interfaces.{interface_fault};
 ghost use Rattle.fs_trials.specs.Candidates.{stated_count};
 ghost use Rattle.fs_trials.specs.Differences.{DiffersAt};
-ghost use Rattle.bisimulation.specs.Tables.{Node};
+ghost use Rattle.cert_bisimulation.specs.Tables.{Node};
 ghost use Rattle.sym_facts.specs.Facts.{Fact};
-ghost use Rattle.certificates.specs.Obligations.{Yes};
+ghost use Rattle.cert_model.specs.Obligations.{Yes};
 ghost use Rattle.cert_text.specs.declared.faults.CertError.{CertError};
-ghost use Rattle.cert_writer.specs.Written.{certificate_text};
-ghost use Rattle.search.specs.Answers.{machines, IsClosedWith};
+ghost use Rattle.cert_writer.specs.WrittenCertificates.{certificate_text};
+ghost use Rattle.search.specs.SearchOutcomes.{machines, IsClosedWith};
 ghost use Rattle.search_laws.specs.Certificates.{IsCertificate};
-ghost use Rattle.pair_answers.specs.Answers.{ShowsSame};
-ghost use Rattle.program_laws.specs.Programs.{Program};
-ghost use Rattle.unit_counts.specs.Counts.{Units};
-ghost use Rattle.synthesis_answers.specs.Bindings.{Binding};
-ghost use Rattle.command_answers.specs.declared.answer.Status.TheVariants.{Differ};
-ghost use Rattle.command_answers.specs.declared.answer.Answer.{Answer};
-ghost use Rattle.command_answers.specs.declared.answer.Answer.TheVariants.{Text};
-ghost use Rattle.command_answers.specs.Statuses.{status_of};
-ghost use Rattle.command_answers.specs.Words.{files_of, cert_of, is_check, is_verify, compares, step_limit};
-ghost use Rattle.command_answers.specs.Texts.{SpellsParts, SpellsMachine, IsTooLong, HasTextFault, HasCheckFault};
-ghost use Rattle.command_answers.specs.Readings.{Reading};
-ghost use Rattle.command_answers.specs.Refusals.{SpellsCertificate, HasCertFault};
-ghost use Rattle.command_answers.specs.InputFiles.{SpellsInputs};
-ghost use Rattle.command_answers.specs.Programs.{SpellsProgram, IsOfProgram};
-ghost use Rattle.command_answers.specs.Schedules.{SpellUnits, IsOfSchedule};
-ghost use Rattle.command_answers.specs.Bindings.{SpellsBinding, IsOfBinding};
-ghost use Rattle.command_answers.specs.Pairs.{IsOfPair, IsOfLoops};
-ghost use Rattle.command_answers.specs.Verdicts.{IsJudged, verdict_on};
-ghost use Rattle.command_answers.specs.Runs.{IsOfRun};
-ghost use Rattle.command_answers.specs.Replays.{IsOfReplay};
-ghost use Rattle.command_answers.specs.Shrinks.{IsOfShrink};
-ghost use Rattle.command_answers.specs.Links.{AtLink, links_of, IsOfChain};
-ghost use Rattle.command_answers.specs.Follows.{Follows};
+ghost use Rattle.fsmd_pair_answers.specs.PairAnswers.{ShowsSame};
+ghost use Rattle.hls_program_laws.specs.Programs.{Program};
+ghost use Rattle.hls_unit_counts.specs.Counts.{Units};
+ghost use Rattle.fsmd_synthesis_answers.specs.BindingAnswers.{Binding};
+ghost use Rattle.fsmd_replies.specs.declared.answer.Status.TheVariants.{Differ};
+ghost use Rattle.fsmd_replies.specs.declared.answer.Answer.{Answer};
+ghost use Rattle.fsmd_replies.specs.declared.answer.Answer.TheVariants.{Text};
+ghost use Rattle.fsmd_replies.specs.Statuses.{status_of};
+ghost use Rattle.fsmd_replies.specs.AskedFiles.{files_of, cert_of, is_check, is_verify, compares, step_limit};
+ghost use Rattle.fsmd_answers.specs.MachineFiles.{SpellsParts, SpellsMachine, IsTooLong, HasTextFault, HasCheckFault};
+ghost use Rattle.fsmd_answers.specs.Readings.{Reading};
+ghost use Rattle.fsmd_answers.specs.Refusals.{SpellsCertificate, HasCertFault};
+ghost use Rattle.fsmd_answers.specs.InputFiles.{SpellsInputs};
+ghost use Rattle.fsmd_answers.specs.ProgramFiles.{SpellsProgram, IsOfProgram};
+ghost use Rattle.fsmd_answers.specs.ScheduleFiles.{SpellUnits, IsOfSchedule};
+ghost use Rattle.fsmd_answers.specs.BindingFiles.{SpellsBinding, IsOfBinding};
+ghost use Rattle.fsmd_answers.specs.MachinePairAnswers.{IsOfPair, IsOfLoops};
+ghost use Rattle.fsmd_answers.specs.Verdicts.{IsJudged, verdict_on};
+ghost use Rattle.fsmd_answers.specs.RunAnswers.{IsOfRun};
+ghost use Rattle.fsmd_answers.specs.Replays.{IsOfReplay};
+ghost use Rattle.fsmd_answers.specs.Shrinks.{IsOfShrink};
+ghost use Rattle.fsmd_answers.specs.Links.{AtLink, links_of, IsOfChain};
+ghost use Rattle.fsmd_answers.specs.Follows.{Follows};
 ghost use Rattle.fsmd_tool.specs.Calls.{Call};
-ghost use Rattle.fsmd_tool.specs.Puts.{Put};
+ghost use Rattle.fsmd_tool.specs.SinkReplies.{Put};
 ghost use Rattle.fsmd_tool.specs.Correct.{IsCorrectAnswer, Outcome};
 ghost use Rattle.fsmd_tool_laws.specs.Agreement.{Agree};
 ghost use Rattle.fsmd_tool_laws.specs.Settled.{IsSettled, AreSettled, IsKnown, SpellPair, SpellLink, AreKnownToHold};
-ghost use Rattle.fsmd_tool_laws.specs.Settled.{read_from, IsRefused, AreSettledUpToRefused};
+ghost use Rattle.fsmd_tool_laws.specs.Settled.{read_from, IsRefusedAsMachine, AreSettledUpToRefused};
 ghost use Rattle.fsmd_tool_laws.specs.OneAnswer.{AreOne, SaySame};
-ghost use Rattle.fsmd_tool_laws.specs.Outcomes.{NothingFailed, is_of_comparison, EndsBy};
+ghost use Rattle.fsmd_tool_laws.specs.CallOutcomes.{NothingFailed, is_of_comparison, EndsBy};
 
 use cert_text::laws::{certificates_are_read_in_one_way, texts_are_read};
 use search_laws::laws::{
@@ -60,8 +60,8 @@ use search_laws::laws::{
     written_certificates_that_hold_are_read,
 };
 
-/// Two machines get at most one answer, but for the cycle that its line names, and but for what may be answered where no stated
-/// candidate shows a difference and the search is left open: any certificate that holds, or the line of the obstacle.
+/// Two machines get at most one answer, but for what may be answered where no stated candidate shows a difference and the search
+/// is left open: any certificate that holds, or the line of the obstacle.
 pub fn two_machines_get_one_answer()
     ensures { (limit : ℕ) (keeps : Bool) (a b : Fsmd) (x y : Answer) → IsOfPair limit keeps a b x → IsOfPair limit keeps a b y
         → AreOne a b x y }
@@ -106,9 +106,8 @@ pub fn a_file_spells_one_certificate()
 }
 
 /// At most one answer follows from what was read of the files, where two readings agree on each file that both opened; and then
-/// both are one reading. So it is for a file that fails to be read, too. Of machines that are compared two lines may each name
-/// another cycle; and where no stated candidate shows a difference and the search is left open, each answer may be any
-/// certificate that holds, or the line of the obstacle.
+/// both are one reading. So it is for a file that fails to be read, too. Of machines that are compared, where no stated candidate
+/// shows a difference and the search is left open, each answer may be any certificate that holds, or the line of the obstacle.
 pub fn one_answer_follows()
     ensures compared { (o : Option Asked) (r s : Reading) (x y : Answer) → Agree r s → Follows o r x → Follows o s y
         → SaySame o s x y }
@@ -158,8 +157,8 @@ pub fn files_are_settled_up_to_the_refused_one()
     ensures all { (g : Call) → ((file : ℕ) → file < length (files_of g.asked) → IsSettled g file) → AreSettledUpToRefused g }
     ensures answered { (g : Call) (count : ℕ) (x : Answer) → ((file : ℕ) → file < count → IsSettled g file)
         → Follows g.asked (read_from g 0 count) x → AreSettledUpToRefused g }
-    ensures first { (g : Call) → IsRefused g 0 → AreSettledUpToRefused g }
-    ensures second { (g : Call) → IsSettled g 0 → IsRefused g 1 → AreSettledUpToRefused g }
+    ensures first { (g : Call) → IsRefusedAsMachine g 0 → AreSettledUpToRefused g }
+    ensures second { (g : Call) → IsSettled g 0 → IsRefusedAsMachine g 1 → AreSettledUpToRefused g }
     ensures others { (g : Call) (a b : Fsmd) → IsKnown g 0 (SpellsMachine a) → IsKnown g 1 (SpellsMachine b) → (name : List ℕ)
         → interface_fault a b ≡ Some name → AreSettledUpToRefused g }
     ensures link { (g : Call) (words : List (List ℕ)) (known : ℕ) (first last next : Fsmd) (nodes : List (Node Fact))
@@ -174,9 +173,10 @@ pub fn files_are_settled_up_to_the_refused_one()
 /// Machines that are spelled and have the same inputs and outputs are answered, and not refused. Two that are compared are
 /// equivalent, have a counterexample, or are undecided by an obstacle. A certificate of theirs that is spelled is judged: by its
 /// verdict, which is yes, no or undecided. Inputs that are spelled are run from, by one machine, or by two, and are made small.
-/// The answer to `fmt` is the canonical text of the machine, and that to `cuts` the list of its paths. A program whose parts break
-/// no rule is answered by their canonical text; parts that are spelled are answered under unit counts, and by a binding. A chain
-/// whose links hold is answered by the number of its machines, and else by the verdict on its first link that does not hold.
+/// The answer to `fmt` is the canonical text of the machine, and that to `cuts` the list of its paths. A program whose parts
+/// break no rule is answered by their canonical text; parts that are spelled are answered under unit counts, and by a binding. A
+/// chain whose links hold is answered by the number of its machines, and else by the verdict on its first link that does not
+/// hold.
 pub fn machines_are_answered()
     ensures check { (g : Call) (x : Answer) (a b : Fsmd) → is_check g.asked ≡ true → SpellPair g a b → IsCorrectAnswer g x
         → IsOfPair (step_limit g.asked) (is_some (cert_of g.asked)) a b x }

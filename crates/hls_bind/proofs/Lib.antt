@@ -5,3 +5,4 @@ pub mod Given
 pub mod Loops
 pub mod Yes
 pub mod Ordered
+pub mod Apart

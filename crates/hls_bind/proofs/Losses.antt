@@ -1,63 +1,52 @@
 -- The conflict that is found is the first, and where none is found there is none.
-use Rattle.std.proofs.Common.{◌≡◌, ℕ, zero, suc, ◌+◌, ◌<◌, ◌≤◌, List, [], ◌∷◌, length, ap, ap₂, sym, refl, ◌∙◌, subst, inl, inr, ◌⊎◌, arith, Bool, true, false, cond, Option, Some, None}
+use Rattle.std.proofs.Common.{◌≡◌, ℕ, zero, suc, ◌+◌, ◌<◌, ◌≤◌, List, [], ◌∷◌, length, ap, ap₂, sym, refl, ◌∙◌, subst, inl, inr, ◌⊎◌, arith, Bool, true, false}
+use Rattle.std.proofs.Common.{cond, Option, Some, None}
 use Rattle.std.specs.Prelude.{◌≢◌, ◌==◌, ◌&&◌, ◌||◌, not, nat_lt, option_map, slice_get}
 use Rattle.std.specs.List.{list_all}
 use Rattle.std.specs.Option.{option_or}
 use Rattle.std.specs.Str.{bytes_eq}
 use Rattle.std.proofs.lemmas.Slice.Eq.{bytes_eq-Decides}
 use Rattle.std.proofs.lemmas.Bool.Decides.{nat_tests}
-use Rattle.fs_model.proofs.Truth.{and_left, and_right, and_both, or_right, not_true}
 use Rattle.fs_model.specs.Machines.{Fsmd}
 use Rattle.fs_rules.specs.Sound.{IsSound, branch_count, assigned_in}
 use Rattle.fs_cut.specs.Paths.{branch_at, target_of}
 use Rattle.fs_cut.proofs.Branches.{target_in}
-use Rattle.binding_laws.specs.Liveness.{writes, IsLive}
-use Rattle.fs_model.specs.declared.parts.VarInfo.{VarInfo}
+use Rattle.hls_binding_laws.specs.Liveness.{writes, IsLive}
 use Rattle.std.proofs.lemmas.Option.{slice_get_within}
-use Rattle.binding_laws.specs.Bindings.{register, is_rising, is_scalar_local, IsBindingOf}
+use Rattle.std.proofs.lemmas.Bool.{or_cases, or_left, and_from, or_right, false_from_ne_true, not-true, eqb-false, eqb-true, ltb-true}
+use Rattle.base_lemmas.proofs.Booleans.{and_first, and_second}
+use Rattle.base_lemmas.proofs.Numbers.{eqb_self}
+use Rattle.base_lemmas.proofs.Options.{none_from_map}
+use Rattle.hls_binding_laws.specs.Bindings.{register, is_rising, IsBindingOf}
 use Rattle.hls_bind.specs.Results.{IsVerdict}
-use Rattle.binding_laws.specs.Conflicts.{Conflict, IsShared, IsTwice, IsConflict, is_before, IsFirstConflict}
-use Rattle.variable_sets.specs.declared.VariableSet.{VariableSet}
-use Rattle.live_sets.specs.Flows.{has_at}
+use Rattle.hls_binding_laws.specs.Conflicts.{Conflict, IsShared, IsTwice, IsConflict, conflict_is_before, IsFirstConflict}
+use Rattle.hls_binding_laws.proofs.Variables.{some_there}
+use Rattle.fs_variable_sets.specs.declared.VariableSet.{VariableSet}
+use Rattle.fs_variable_sets.specs.Flows.{has_at}
 use Rattle.hls_bind.specs.Live.{HasLive}
-use Rattle.hls_bind.specs.Lost.{Pair, is_lost, lost_with, lost_by, written_at, live_after, found, conflict_at, conflict_in, first_from, first_conflict}
-use Rattle.hls_bind.proofs.Listed.{members, same_number, other_number}
+use Rattle.hls_bind.specs.Lost.{Pair, is_lost, lost_with, lost_by, written_at, live_after, doubled_conflict, conflict_at, conflict_in, first_from}
+use Rattle.hls_bind.specs.Lost.{first_conflict}
+use Rattle.hls_bind.proofs.Listed.{members}
 use Rattle.hls_bind.proofs.Alive.{is_there}
 
 -- ---- tests
-pub low_is : (x y : ℕ) → nat_lt x y ≡ true → x < y
-low_is x y h = grind (arith, nat_tests)
-
-refuted : (t : Bool) → (t ≡ true → ⊥) → t ≡ false
-refuted true h = absurd (h refl)
-refuted false h = refl
-
-same_is : (x : ℕ) → (x == x) ≡ true
-same_is x = grind (arith, nat_tests)
-
-equal_is : (x y : ℕ) → x ≡ y → (x == y) ≡ true
-equal_is x y h = grind (arith, nat_tests)
-
-or_cases : (a b : Bool) → (a || b) ≡ true → (a ≡ true) ⊎ (b ≡ true)
-or_cases true b h = inl refl
-or_cases false b h = inr h
-
-or_first : (a b : Bool) → a ≡ true → (a || b) ≡ true
-or_first a b h = ap (λ c. c || b) h
 
 -- ---- entries of a binding that rises
 
-above_by : (n : ℕ) (d : ℕ × List ℕ) (es : List (ℕ × List ℕ)) (x : ℕ) (r : List ℕ) (t : Bool) → (d.0 == x) ≡ t → list_all (λ c. nat_lt n c.0) (d ∷ es) ≡ true → cond t (Some d.1) (register es x) ≡ Some r
+above_by : (n : ℕ) (d : ℕ × List ℕ) (es : List (ℕ × List ℕ)) (x : ℕ) (r : List ℕ) (t : Bool) → (d.0 == x) ≡ t → list_all (λ c. nat_lt n c.0) (d ∷ es) ≡ true
+    → cond t (Some d.1) (register es x) ≡ Some r
     → (list_all (λ c. nat_lt n c.0) es ≡ true → register es x ≡ Some r → n < x) → n < x
-above_by n d es x r true e h i next = let same = same_number d.0 x e in let low = low_is n d.0 (and_left (nat_lt n d.0) (list_all (λ c. nat_lt n c.0) es) h) in omega (arith, same, low)
-above_by n d es x r false e h i next = next (and_right (nat_lt n d.0) (list_all (λ c. nat_lt n c.0) es) h) i
+above_by n d es x r true e h i next = let same = eqb-true d.0 x e in let low = ltb-true n d.0 (and_first (nat_lt n d.0) (list_all (λ c. nat_lt n c.0) es) h) in
+    omega (arith, same, low)
+above_by n d es x r false e h i next = next (and_second (nat_lt n d.0) (list_all (λ c. nat_lt n c.0) es) h) i
 
 above : (n : ℕ) (es : List (ℕ × List ℕ)) (x : ℕ) (r : List ℕ) → list_all (λ d. nat_lt n d.0) es ≡ true → register es x ≡ Some r → n < x
 above n [] x r h e = absurd (cc e)
 above n (d ∷ es) x r h e = above_by n d es x r (d.0 == x) refl h e (above n es x r)
 
 -- what stands behind an entry is found behind it
-pub behind : (d : ℕ × List ℕ) (es : List (ℕ × List ℕ)) (x : ℕ) (r : List ℕ) → list_all (λ c. nat_lt d.0 c.0) es ≡ true → register es x ≡ Some r → register (d ∷ es) x ≡ Some r
+pub behind : (d : ℕ × List ℕ) (es : List (ℕ × List ℕ)) (x : ℕ) (r : List ℕ) → list_all (λ c. nat_lt d.0 c.0) es ≡ true → register es x ≡ Some r
+    → register (d ∷ es) x ≡ Some r
 behind d es x r h e =
     let low = above d.0 es x r h e in
     let other : (d.0 == x) ≡ false = grind (arith, nat_tests, low) in
@@ -68,15 +57,17 @@ record IsHead (d : ℕ × List ℕ) (x : ℕ) (r : List ℕ) : Type 0 where
   number : d.0 ≡ x
   name : d.1 ≡ r
 
-entry_cases_by : (d : ℕ × List ℕ) (es : List (ℕ × List ℕ)) (x : ℕ) (r : List ℕ) (t : Bool) → (d.0 == x) ≡ t → cond t (Some d.1) (register es x) ≡ Some r → IsHead d x r ⊎ (register es x ≡ Some r)
-entry_cases_by d es x r true e h = inl (record { number = same_number d.0 x e; name = cc h })
+entry_cases_by :
+    (d : ℕ × List ℕ) (es : List (ℕ × List ℕ)) (x : ℕ) (r : List ℕ) (t : Bool) → (d.0 == x) ≡ t → cond t (Some d.1) (register es x) ≡ Some r
+    → IsHead d x r ⊎ (register es x ≡ Some r)
+entry_cases_by d es x r true e h = inl (record { number = eqb-true d.0 x e; name = cc h })
 entry_cases_by d es x r false e h = inr h
 
 entry_cases : (d : ℕ × List ℕ) (es : List (ℕ × List ℕ)) (x : ℕ) (r : List ℕ) → register (d ∷ es) x ≡ Some r → IsHead d x r ⊎ (register es x ≡ Some r)
 entry_cases d es x r h = entry_cases_by d es x r (d.0 == x) refl h
 
 pub head_entry : (d : ℕ × List ℕ) (es : List (ℕ × List ℕ)) → register (d ∷ es) d.0 ≡ Some d.1
-head_entry d es = ap (λ t. cond t (Some d.1) (register es d.0)) (same_is d.0)
+head_entry d es = ap (λ t. cond t (Some d.1) (register es d.0)) (eqb_self d.0)
 
 module _ (w l : ℕ → Bool) where
   -- ---- the other local
@@ -95,7 +86,8 @@ module _ (w l : ℕ → Bool) where
   one_lost one d x r h i = ap₂ (λ (n : ℕ) (s : List ℕ). is_lost w l one (n, s)) h.number h.name ∙ i
 
   other_by : (one d : ℕ × List ℕ) (es : List (ℕ × List ℕ)) (p : Pair) (t : Bool) → is_lost w l one d ≡ t → list_all (λ c. nat_lt d.0 c.0) es ≡ true
-      → cond t (Some (record { written = one.0; other = d.0; twice = w d.0 })) (lost_with w l one es) ≡ Some p → (lost_with w l one es ≡ Some p → IsFirstOther one es p) → IsFirstOther one (d ∷ es) p
+      → cond t (Some (record { written = one.0; other = d.0; twice = w d.0 })) (lost_with w l one es) ≡ Some p
+      → (lost_with w l one es ≡ Some p → IsFirstOther one es p) → IsFirstOther one (d ∷ es) p
   other_by one d es p true e h i next =
       let same : record { written = one.0; other = d.0; twice = w d.0 } ≡ p = cc i in
       subst (λ (q : Pair). IsFirstOther one (d ∷ es) q) same (record {
@@ -125,10 +117,13 @@ module _ (w l : ℕ → Bool) where
 
   first_other : (one : ℕ × List ℕ) (es : List (ℕ × List ℕ)) (p : Pair) → is_rising es ≡ true → lost_with w l one es ≡ Some p → IsFirstOther one es p
   first_other one [] p h e = absurd (cc e)
-  first_other one (d ∷ es) p h e = other_by one d es p (is_lost w l one d) refl (and_left (list_all (λ c. nat_lt d.0 c.0) es) (is_rising es) h) e (first_other one es p (and_right (list_all (λ c. nat_lt d.0 c.0) es) (is_rising es) h))
+  first_other one (d ∷ es) p h e = other_by one d es p (is_lost w l one d) refl (and_first (list_all (λ c. nat_lt d.0 c.0) es) (is_rising es) h) e
+      (first_other one es p (and_second (list_all (λ c. nat_lt d.0 c.0) es) (is_rising es) h))
 
-  none_by : (one d : ℕ × List ℕ) (es : List (ℕ × List ℕ)) (t : Bool) → is_lost w l one d ≡ t → cond t (Some (record { written = one.0; other = d.0; twice = w d.0 })) (lost_with w l one es) ≡ None
-      → (y : ℕ) (s : List ℕ) → register (d ∷ es) y ≡ Some s → Loses one y s → (lost_with w l one es ≡ None → (z : ℕ) (q : List ℕ) → register es z ≡ Some q → Loses one z q → ⊥) → ⊥
+  none_by : (one d : ℕ × List ℕ) (es : List (ℕ × List ℕ)) (t : Bool) → is_lost w l one d ≡ t
+      → cond t (Some (record { written = one.0; other = d.0; twice = w d.0 })) (lost_with w l one es) ≡ None
+      → (y : ℕ) (s : List ℕ) → register (d ∷ es) y ≡ Some s → Loses one y s
+      → (lost_with w l one es ≡ None → (z : ℕ) (q : List ℕ) → register es z ≡ Some q → Loses one z q → ⊥) → ⊥
   none_by one d es true e h y s at lost next = cc h
   none_by one d es false e h y s at lost next = elim (entry_cases d es y s at) [
     | inl head ↦ (let g : is_lost w l one d ≡ true = one_lost one d y s head lost in cc (e, g))
@@ -151,7 +146,8 @@ module _ (w l : ℕ → Bool) where
     abbrev of_one : ℕ × List ℕ → Option Pair
     of_one d = cond (w d.0) (lost_with w l d all) None
 
-    none_of_one : (d : ℕ × List ℕ) (x : ℕ) (r : List ℕ) → IsHead d x r → of_one d ≡ None → w x ≡ true → (y : ℕ) (s : List ℕ) → register all y ≡ Some s → Loses (x, r) y s → ⊥
+    none_of_one : (d : ℕ × List ℕ) (x : ℕ) (r : List ℕ) → IsHead d x r → of_one d ≡ None → w x ≡ true → (y : ℕ) (s : List ℕ) → register all y ≡ Some s
+        → Loses (x, r) y s → ⊥
     none_of_one d x r head e h y s at lost =
         let none : of_one (x, r) ≡ None = ap₂ (λ (n : ℕ) (q : List ℕ). of_one (n, q)) (sym head.number) (sym head.name) ∙ e in
         no_other (x, r) all (sym (ap (λ t. cond t (lost_with w l (x, r) all) None) h) ∙ none) y s at lost
@@ -160,7 +156,8 @@ module _ (w l : ℕ → Bool) where
     some_of_one d p true e h = (refl, first_other d all p rising h)
     some_of_one d p false e h = absurd (cc h)
 
-    pair_by : (d : ℕ × List ℕ) (es : List (ℕ × List ℕ)) (p : Pair) (o : Option Pair) → of_one d ≡ o → list_all (λ c. nat_lt d.0 c.0) es ≡ true → option_or o (lost_by w l all es) ≡ Some p → (lost_by w l all es ≡ Some p → IsFirstPair es p) → IsFirstPair (d ∷ es) p
+    pair_by : (d : ℕ × List ℕ) (es : List (ℕ × List ℕ)) (p : Pair) (o : Option Pair) → of_one d ≡ o → list_all (λ c. nat_lt d.0 c.0) es ≡ true
+        → option_or o (lost_by w l all es) ≡ Some p → (lost_by w l all es ≡ Some p → IsFirstPair es p) → IsFirstPair (d ∷ es) p
     pair_by d es p (Some q) e h i next =
         let same : q ≡ p = cc i in
         let x = some_of_one d p (w d.0) refl (e ∙ ap (λ (c : Pair). Some c) same) in
@@ -190,19 +187,24 @@ module _ (w l : ℕ → Bool) where
 
     first_pair : (es : List (ℕ × List ℕ)) (p : Pair) → is_rising es ≡ true → lost_by w l all es ≡ Some p → IsFirstPair es p
     first_pair [] p h e = absurd (cc e)
-    first_pair (d ∷ es) p h e = pair_by d es p (of_one d) refl (and_left (list_all (λ c. nat_lt d.0 c.0) es) (is_rising es) h) e (first_pair es p (and_right (list_all (λ c. nat_lt d.0 c.0) es) (is_rising es) h))
+    first_pair (d ∷ es) p h e = pair_by d es p (of_one d) refl (and_first (list_all (λ c. nat_lt d.0 c.0) es) (is_rising es) h) e
+        (first_pair es p (and_second (list_all (λ c. nat_lt d.0 c.0) es) (is_rising es) h))
 
-    no_pair_by : (d : ℕ × List ℕ) (es : List (ℕ × List ℕ)) (o : Option Pair) → of_one d ≡ o → option_or o (lost_by w l all es) ≡ None → (x : ℕ) (r : List ℕ) → register (d ∷ es) x ≡ Some r → w x ≡ true → (y : ℕ) (s : List ℕ) → register all y ≡ Some s
-        → Loses (x, r) y s → (lost_by w l all es ≡ None → (z : ℕ) (q : List ℕ) → register es z ≡ Some q → w z ≡ true → (v : ℕ) (u : List ℕ) → register all v ≡ Some u → Loses (z, q) v u → ⊥) → ⊥
-    no_pair_by d es (Some q) o e x r at written y s there lost next = cc e
-    no_pair_by d es None o e x r at written y s there lost next = elim (entry_cases d es x r at) [
-      | inl head ↦ none_of_one d x r head o written y s there lost
-      | inr later ↦ next e x r later written y s there lost
+    no_pair_by : (d : ℕ × List ℕ) (es : List (ℕ × List ℕ)) (o : Option Pair) → of_one d ≡ o → option_or o (lost_by w l all es) ≡ None → (x : ℕ) (r : List ℕ)
+        → register (d ∷ es) x ≡ Some r → w x ≡ true → (y : ℕ) (s : List ℕ) → register all y ≡ Some s
+        → Loses (x, r) y s
+        → (lost_by w l all es ≡ None → (z : ℕ) (q : List ℕ) → register es z ≡ Some q → w z ≡ true → (v : ℕ) (u : List ℕ) → register all v ≡ Some u
+        → Loses (z, q) v u → ⊥) → ⊥
+    no_pair_by d es (Some q) o e x r at written y s some_there lost next = cc e
+    no_pair_by d es None o e x r at written y s some_there lost next = elim (entry_cases d es x r at) [
+      | inl head ↦ none_of_one d x r head o written y s some_there lost
+      | inr later ↦ next e x r later written y s some_there lost
     ]
 
-    no_pair : (es : List (ℕ × List ℕ)) → lost_by w l all es ≡ None → (x : ℕ) (r : List ℕ) → register es x ≡ Some r → w x ≡ true → (y : ℕ) (s : List ℕ) → register all y ≡ Some s → Loses (x, r) y s → ⊥
-    no_pair [] e x r at written y s there lost = cc at
-    no_pair (d ∷ es) e x r at written y s there lost = no_pair_by d es (of_one d) refl e x r at written y s there lost (no_pair es)
+    no_pair : (es : List (ℕ × List ℕ)) → lost_by w l all es ≡ None → (x : ℕ) (r : List ℕ) → register es x ≡ Some r → w x ≡ true → (y : ℕ) (s : List ℕ)
+        → register all y ≡ Some s → Loses (x, r) y s → ⊥
+    no_pair [] e x r at written y s some_there lost = cc at
+    no_pair (d ∷ es) e x r at written y s some_there lost = no_pair_by d es (of_one d) refl e x r at written y s some_there lost (no_pair es)
 
 -- ---- the first of several numbers
 module _ {A : Type 0} (f : ℕ → Option A) where
@@ -216,18 +218,19 @@ module _ {A : Type 0} (f : ℕ → Option A) where
   none_there : (k n : ℕ) (o : Option A) → f k ≡ o → option_or o (first_from f (suc k) n) ≡ None → (i : ℕ) (t : Bool) → (i == k) ≡ t → k ≤ i → i < k + suc n
       → (first_from f (suc k) n ≡ None → (j : ℕ) → suc k ≤ j → j < suc k + n → f j ≡ None) → f i ≡ None
   none_there k n (Some a) o e i t g h j next = absurd (cc e)
-  none_there k n None o e i true g h j next = ap f (same_number i k g) ∙ o
-  none_there k n None o e i false g h j next = let apart = other_number i k g in next e i (omega (arith, h, apart)) (omega (arith, j))
+  none_there k n None o e i true g h j next = ap f (eqb-true i k g) ∙ o
+  none_there k n None o e i false g h j next = let apart = eqb-false i k g in next e i (omega (arith, h, apart)) (omega (arith, j))
 
   none_from : (k n : ℕ) → first_from f k n ≡ None → (i : ℕ) → k ≤ i → i < k + n → f i ≡ None
   none_from k zero e i h j = absurd (omega (arith, h, j))
   none_from k (suc n) e i h j = none_there k n (f k) refl e i (i == k) refl h j (none_from (suc k) n)
 
   early : (k i place : ℕ) → f k ≡ None → k ≤ i → i < place → (t : Bool) → (i == k) ≡ t → ((j : ℕ) → suc k ≤ j → j < place → f j ≡ None) → f i ≡ None
-  early k i place o h j true g before = ap f (same_number i k g) ∙ o
-  early k i place o h j false g before = let apart = other_number i k g in before i (omega (arith, h, apart)) j
+  early k i place o h j true g before = ap f (eqb-true i k g) ∙ o
+  early k i place o h j false g before = let apart = eqb-false i k g in before i (omega (arith, h, apart)) j
 
-  first_there : (k n : ℕ) (a : A) (o : Option A) → f k ≡ o → option_or o (first_from f (suc k) n) ≡ Some a → (first_from f (suc k) n ≡ Some a → IsFirstOf (suc k) n a) → IsFirstOf k (suc n) a
+  first_there : (k n : ℕ) (a : A) (o : Option A) → f k ≡ o → option_or o (first_from f (suc k) n) ≡ Some a
+      → (first_from f (suc k) n ≡ Some a → IsFirstOf (suc k) n a) → IsFirstOf k (suc n) a
   first_there k n a (Some b) o e next = record { place = k; low = omega arith; high = omega arith; is = o ∙ e; before = λ i h j. absurd (omega (arith, h, j)) }
   first_there k n a None o e next =
       let x = next e in
@@ -247,12 +250,9 @@ some_mapped : {A B : Type 0} (g : A → B) (o : Option A) (b : B) → option_map
 some_mapped g None b h = absurd (cc h)
 some_mapped g (Some a) b h = (a, (refl, cc h))
 
-none_mapped : {A B : Type 0} (g : A → B) (o : Option A) → option_map g o ≡ None → o ≡ None
-none_mapped g None h = refl
-none_mapped g (Some a) h = absurd (cc h)
-
 -- ---- the conflict of a machine
-module _ (b : List (ℕ × List ℕ)) (m : Fsmd) (sets : List VariableSet) (sound : IsSound m) (rising : is_rising b ≡ true) (low : (x : ℕ) (r : List ℕ) → register b x ≡ Some r → x < 128) (count : length sets ≡ length m.states) (has : HasLive m sets) where
+module _ (b : List (ℕ × List ℕ)) (m : Fsmd) (sets : List VariableSet) (sound : IsSound m) (rising : is_rising b ≡ true)
+    (low : (x : ℕ) (r : List ℕ) → register b x ≡ Some r → x < 128) (count : length sets ≡ length m.states) (has : HasLive m sets) where
   abbrev W : ℕ → ℕ → ℕ → Bool
   W q k = written_at m q k
 
@@ -273,11 +273,11 @@ module _ (b : List (ℕ × List ℕ)) (m : Fsmd) (sets : List VariableSet) (soun
   live_by : (q k x : ℕ) (t : Bool) → (target_of m q k == m.reset) ≡ t → k < branch_count m q → x < 128 → after t q k x ≡ true → IsLiveAfter q k x
   live_by q k x true e h i j = absurd (cc j)
   live_by q k x false e h i j =
-      let there = target_in m sound q k h in
-      record { goes_on = other_number (target_of m q k) m.reset e; live = has.sound (target_of m q k) x (omega (arith, there, count)) i j }
+      let some_there = target_in m sound q k h in
+      record { goes_on = eqb-false (target_of m q k) m.reset e; live = has.sound (target_of m q k) x (omega (arith, some_there, count)) i j }
 
   live_is : (q k x : ℕ) (t : Bool) → (target_of m q k == m.reset) ≡ t → x < 128 → IsLiveAfter q k x → after t q k x ≡ true
-  live_is q k x true e i l = absurd (l.goes_on (same_number (target_of m q k) m.reset e))
+  live_is q k x true e i l = absurd (l.goes_on (eqb-true (target_of m q k) m.reset e))
   live_is q k x false e i l = has.complete (target_of m q k) x i l.live
 
   -- what a test of two entries says
@@ -294,20 +294,20 @@ module _ (b : List (ℕ × List ℕ)) (m : Fsmd) (sets : List VariableSet) (soun
 
   loss : (q k x y : ℕ) (r s : List ℕ) → is_lost (W q k) (L q k) (x, r) (y, s) ≡ true → IsLoss q k x y r s
   loss q k x y r s h =
-      let rest = and_right (not (y == x)) ((W q k y || L q k y) && bytes_eq s r) h in
-      let apart = other_number y x (not_true (y == x) (and_left (not (y == x)) ((W q k y || L q k y) && bytes_eq s r) h)) in
+      let rest = and_second (not (y == x)) ((W q k y || L q k y) && bytes_eq s r) h in
+      let apart = eqb-false y x (not-true (y == x) (and_first (not (y == x)) ((W q k y || L q k y) && bytes_eq s r) h)) in
       record {
         apart = λ e. apart (sym e);
-        lost = or_cases (W q k y) (L q k y) (and_left (W q k y || L q k y) (bytes_eq s r) rest);
-        same = same_names r s (and_right (W q k y || L q k y) (bytes_eq s r) rest);
+        lost = or_cases (W q k y) (L q k y) (and_first (W q k y || L q k y) (bytes_eq s r) rest);
+        same = same_names r s (and_second (W q k y || L q k y) (bytes_eq s r) rest);
       }
 
   apart_is : (x y : ℕ) → x ≢ y → not (y == x) ≡ true
-  apart_is x y h = ap not (refuted (y == x) (λ e. h (sym (same_number y x e))))
+  apart_is x y h = ap not (false_from_ne_true (y == x) (λ e. h (sym (eqb-true y x e))))
 
   is_loss : (q k x y : ℕ) (r s : List ℕ) → x ≢ y → (W q k y || L q k y) ≡ true → s ≡ r → is_lost (W q k) (L q k) (x, r) (y, s) ≡ true
   is_loss q k x y r s a l e =
-      and_both (not (y == x)) ((W q k y || L q k y) && bytes_eq s r) (apart_is x y a) (and_both (W q k y || L q k y) (bytes_eq s r) l (own_name r s e))
+      and_from (not (y == x)) ((W q k y || L q k y) && bytes_eq s r) (apart_is x y a) (and_from (W q k y || L q k y) (bytes_eq s r) l (own_name r s e))
 
   -- a conflict loses the other local
   shared_of : (c : Conflict) → IsConflict b m c → IsShared b m c
@@ -317,12 +317,14 @@ module _ (b : List (ℕ × List ℕ)) (m : Fsmd) (sets : List VariableSet) (soun
   other_lost : (c : Conflict) → IsConflict b m c → (W c.state c.branch c.other || L c.state c.branch c.other) ≡ true
   other_lost c (inl t) =
       let i = low c.other t.shared.shared t.shared.other_in in
-      or_first (W c.state c.branch c.other) (L c.state c.branch c.other) (written_is c.state c.branch c.other i ∙ t.both)
+      or_left (W c.state c.branch c.other) (L c.state c.branch c.other) (written_is c.state c.branch c.other i ∙ t.both)
   other_lost c (inr d) =
       let i = low c.other d.shared.shared d.shared.other_in in
-      or_right (W c.state c.branch c.other) (L c.state c.branch c.other) (live_is c.state c.branch c.other (target_of m c.state c.branch == m.reset) refl i (record { goes_on = d.goes_on; live = d.live }))
+      or_right (W c.state c.branch c.other) (L c.state c.branch c.other)
+      (live_is c.state c.branch c.other (target_of m c.state c.branch == m.reset) refl i (record { goes_on = d.goes_on; live = d.live }))
 
-  conflict_lost : (c : Conflict) (h : IsConflict b m c) → is_lost (W c.state c.branch) (L c.state c.branch) (c.written, (shared_of c h).shared) (c.other, (shared_of c h).shared) ≡ true
+  conflict_lost : (c : Conflict) (h : IsConflict b m c)
+      → is_lost (W c.state c.branch) (L c.state c.branch) (c.written, (shared_of c h).shared) (c.other, (shared_of c h).shared) ≡ true
   conflict_lost c h = let s = shared_of c h in is_loss c.state c.branch c.written c.other s.shared s.shared s.differ (other_lost c h) refl
 
   conflict_writes : (c : Conflict) (h : IsConflict b m c) → W c.state c.branch c.written ≡ true
@@ -332,10 +334,11 @@ module _ (b : List (ℕ × List ℕ)) (m : Fsmd) (sets : List VariableSet) (soun
   none_at : (c : Conflict) → IsConflict b m c → lost_by (W c.state c.branch) (L c.state c.branch) b b ≡ None → ⊥
   none_at c h e =
       let s = shared_of c h in
-      no_pair (W c.state c.branch) (L c.state c.branch) b rising b e c.written s.shared s.written_in (conflict_writes c h) c.other s.shared s.other_in (conflict_lost c h)
+      no_pair (W c.state c.branch) (L c.state c.branch) b rising b e c.written s.shared s.written_in (conflict_writes c h) c.other s.shared s.other_in
+      (conflict_lost c h)
 
   none_at_branch : (c : Conflict) → IsConflict b m c → conflict_at b m sets c.state c.branch ≡ None → ⊥
-  none_at_branch c h e = none_at c h (none_mapped (found c.state c.branch) (lost_by (W c.state c.branch) (L c.state c.branch) b b) e)
+  none_at_branch c h e = none_at c h (none_from_map (doubled_conflict c.state c.branch) (lost_by (W c.state c.branch) (L c.state c.branch) b b) e)
 
   none_at_state : (c : Conflict) → IsConflict b m c → conflict_in b m sets c.state ≡ None → ⊥
   none_at_state c h e =
@@ -345,8 +348,8 @@ module _ (b : List (ℕ × List ℕ)) (m : Fsmd) (sets : List VariableSet) (soun
   pub no_conflict : first_conflict b m sets ≡ None → (c : Conflict) → IsConflict b m c → ⊥
   no_conflict e c h =
       let s = shared_of c h in
-      let there = is_there m c.state c.branch s.numbered in
-      none_at_state c h (none_from (conflict_in b m sets) 0 (length m.states) e c.state (omega arith) (omega (arith, there)))
+      let some_there = is_there m c.state c.branch s.numbered in
+      none_at_state c h (none_from (conflict_in b m sets) 0 (length m.states) e c.state (omega arith) (omega (arith, some_there)))
 
   -- ---- the one that is found
   record IsFound (q k : ℕ) (p : Pair) : Type 0 where
@@ -390,11 +393,12 @@ module _ (b : List (ℕ × List ℕ)) (m : Fsmd) (sets : List VariableSet) (soun
     -- ---- none comes before it
     module _ (d : Conflict) (h : IsConflict b m d) where
       no_state : nat_lt d.state q ≡ false
-      no_state = refuted (nat_lt d.state q) (λ e. none_at_state d h (at.states d.state (low_is d.state q e)))
+      no_state = false_from_ne_true (nat_lt d.state q) (λ e. none_at_state d h (at.states d.state (ltb-true d.state q e)))
 
       no_branch_before : (d.state == q) ≡ true → nat_lt d.branch k ≡ false
       no_branch_before e =
-          refuted (nat_lt d.branch k) (λ i. none_at_branch d h (ap (λ z. conflict_at b m sets z d.branch) (same_number d.state q e) ∙ at.branches d.branch (low_is d.branch k i)))
+          false_from_ne_true (nat_lt d.branch k)
+          (λ i. none_at_branch d h (ap (λ z. conflict_at b m sets z d.branch) (eqb-true d.state q e) ∙ at.branches d.branch (ltb-true d.branch k i)))
 
       abbrev s : IsShared b m d
       s = shared_of d h
@@ -409,14 +413,16 @@ module _ (b : List (ℕ × List ℕ)) (m : Fsmd) (sets : List VariableSet) (soun
       lost_here e f = moved (λ i j. is_lost (W i j) (L i j) (d.written, s.shared) (d.other, s.shared) ≡ true) e f (conflict_lost d h)
 
       no_written : d.state ≡ q → d.branch ≡ k → nat_lt d.written p.written ≡ false
-      no_written e f = refuted (nat_lt d.written p.written) (λ i. x.first d.written s.shared s.written_in (writes_here e f) (low_is d.written p.written i) d.other s.shared s.other_in (lost_here e f))
+      no_written e f = false_from_ne_true (nat_lt d.written p.written)
+          (λ i. x.first d.written s.shared s.written_in (writes_here e f) (ltb-true d.written p.written i) d.other s.shared s.other_in (lost_here e f))
 
       no_other_before : d.state ≡ q → d.branch ≡ k → d.written ≡ p.written → nat_lt d.other p.other ≡ false
       no_other_before e f g =
           let same : Some s.shared ≡ Some x.name = sym s.written_in ∙ ap (register b) g ∙ x.entry in
           let name : s.shared ≡ x.name = cc same in
-          let lost : is_lost (W q k) (L q k) (p.written, x.name) (d.other, s.shared) ≡ true = ap₂ (λ (i : ℕ) (r : List ℕ). is_lost (W q k) (L q k) (i, r) (d.other, s.shared)) (sym g) (sym name) ∙ lost_here e f in
-          refuted (nat_lt d.other p.other) (λ i. x.other.first d.other s.shared s.other_in lost (low_is d.other p.other i))
+          let lost : is_lost (W q k) (L q k) (p.written, x.name) (d.other, s.shared) ≡ true =
+          ap₂ (λ (i : ℕ) (r : List ℕ). is_lost (W q k) (L q k) (i, r) (d.other, s.shared)) (sym g) (sym name) ∙ lost_here e f in
+          false_from_ne_true (nat_lt d.other p.other) (λ i. x.other.first d.other s.shared s.other_in lost (ltb-true d.other p.other i))
 
       -- none of the tests in order holds
       next_fails : (a e r : Bool) → a ≡ false → (e ≡ true → r ≡ false) → (a || (e && r)) ≡ false
@@ -428,12 +434,12 @@ module _ (b : List (ℕ × List ℕ)) (m : Fsmd) (sets : List VariableSet) (soun
       and_fails true r i = i refl
       and_fails false r i = refl
 
-      not_before : is_before d c ≡ false
+      not_before : conflict_is_before d c ≡ false
       not_before =
           next_fails (nat_lt d.state q) (d.state == q) _ no_state (λ e.
           next_fails (nat_lt d.branch k) (d.branch == k) _ (no_branch_before e) (λ f.
-          next_fails (nat_lt d.written p.written) (d.written == p.written) _ (no_written (same_number d.state q e) (same_number d.branch k f)) (λ g.
-          no_other_before (same_number d.state q e) (same_number d.branch k f) (same_number d.written p.written g))))
+          next_fails (nat_lt d.written p.written) (d.written == p.written) _ (no_written (eqb-true d.state q e) (eqb-true d.branch k f)) (λ g.
+          no_other_before (eqb-true d.state q e) (eqb-true d.branch k f) (eqb-true d.written p.written g))))
 
     is_first : IsFirstConflict b m c p.twice
     is_first = record {
@@ -447,7 +453,7 @@ module _ (b : List (ℕ × List ℕ)) (m : Fsmd) (sets : List VariableSet) (soun
   found_first a e =
       let s = first_is (conflict_in b m sets) 0 (length m.states) a e in
       let t = first_is (conflict_at b m sets s.place) 0 (branch_count m s.place) a s.is in
-      let g = some_mapped (found s.place t.place) (lost_by (W s.place t.place) (L s.place t.place) b b) a t.is in
+      let g = some_mapped (doubled_conflict s.place t.place) (lost_by (W s.place t.place) (L s.place t.place) b b) a t.is in
       let at : IsFound s.place t.place g.0 = record {
         numbered = let h = t.high in omega (arith, h);
         pair = first_pair (W s.place t.place) (L s.place t.place) b rising b g.0 rising g.1.0;
@@ -460,17 +466,15 @@ module _ (b : List (ℕ × List ℕ)) (m : Fsmd) (sets : List VariableSet) (soun
   verdict None e = record { none = no_conflict (sym e) }
   verdict (Some a) e = found_first a (sym e)
 
-there : (o : Option VarInfo) → is_scalar_local o ≡ true → (v : VarInfo) × (o ≡ Some v)
-there None h = absurd (cc h)
-there (Some v) h = (v, refl)
-
 -- the locals of a binding have low numbers
 pub all_low : (m : Fsmd) (b : List (ℕ × List ℕ)) → IsSound m → IsBindingOf m.variables b → (x : ℕ) (r : List ℕ) → register b x ≡ Some r → x < 128
 all_low m b sound binds x r e =
-    let v = there (slice_get m.variables x) (binds.locals x r e) in
+    let v = some_there (slice_get m.variables x) (binds.locals x r e) in
     let low = slice_get_within m.variables x v.0 v.1 in
     let few = sound.few_variables in
     omega (arith, low, few)
 
-pub verdict_of : (m : Fsmd) (b es : List (ℕ × List ℕ)) (sets : List VariableSet) (o : Option (Conflict × Bool)) → es ≡ b → IsSound m → is_rising b ≡ true → IsBindingOf m.variables b → length sets ≡ length m.states → HasLive m sets → o ≡ first_conflict es m sets → IsVerdict b m o
-verdict_of m b es sets o e sound rising binds count has h = verdict b m sets sound rising (all_low m b sound binds) count has o (h ∙ ap (λ ds. first_conflict ds m sets) e)
+pub verdict_of : (m : Fsmd) (b es : List (ℕ × List ℕ)) (sets : List VariableSet) (o : Option (Conflict × Bool)) → es ≡ b → IsSound m → is_rising b ≡ true
+    → IsBindingOf m.variables b → length sets ≡ length m.states → HasLive m sets → o ≡ first_conflict es m sets → IsVerdict b m o
+verdict_of m b es sets o e sound rising binds count has h =
+    verdict b m sets sound rising (all_low m b sound binds) count has o (h ∙ ap (λ ds. first_conflict ds m sets) e)

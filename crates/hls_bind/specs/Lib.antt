@@ -1,6 +1,7 @@
-pub mod Entries
-pub mod Files
-pub mod Flows
+pub mod BindingEntries
+pub mod BindingMembers
+pub mod BranchFlows
 pub mod Live
 pub mod Lost
 pub mod Results
+pub mod Shared

@@ -1,14 +1,15 @@
 -- The first branch that loses a local, looked for in order.
-use Rattle.std.specs.Prelude.{ℕ, zero, suc, ◌==◌, Bool, false, not, ◌&&◌, ◌||◌, cond, List, [], ◌∷◌, length, Option, Some, None, option_map}
+use Rattle.std.specs.Prelude.{ℕ, zero, suc, ◌==◌, Bool, false, not, ◌&&◌, ◌||◌, cond, List, [], ◌∷◌, length, Option, Some, None}
+use Rattle.std.specs.Prelude.{option_map}
 use Rattle.std.specs.Option.{option_or}
 use Rattle.std.specs.Str.{bytes_eq}
 use Rattle.fs_model.specs.Machines.{Fsmd}
 use Rattle.fs_rules.specs.Sound.{assigned_in, branch_count}
 use Rattle.fs_cut.specs.Paths.{branch_at, target_of}
-use Rattle.variable_sets.specs.declared.VariableSet.{VariableSet}
-use Rattle.live_sets.specs.Flows.{has_at}
-use Rattle.binding_laws.specs.Conflicts.{Conflict}
-use Rattle.hls_bind.specs.Flows.{low}
+use Rattle.fs_variable_sets.specs.declared.VariableSet.{VariableSet}
+use Rattle.fs_variable_sets.specs.Flows.{has_at}
+use Rattle.hls_binding_laws.specs.Conflicts.{Conflict}
+use Rattle.hls_bind.specs.BranchFlows.{low}
 
 -- two locals of which a branch loses the other by writing the first, and whether it writes both
 pub record Pair : Type 0 where
@@ -23,7 +24,8 @@ is_lost writes live one other = not (other.0 == one.0) && ((writes other.0 || li
 -- the first local that is lost as one is written
 abbrev pub lost_with : (writes live : ℕ → Bool) → ℕ × List ℕ → List (ℕ × List ℕ) → Option Pair
 lost_with writes live one [] = None
-lost_with writes live one (e ∷ es) = cond (is_lost writes live one e) (Some (record { written = one.0; other = e.0; twice = writes e.0 })) (lost_with writes live one es)
+lost_with writes live one (e ∷ es) = cond (is_lost writes live one e)
+    (Some (record { written = one.0; other = e.0; twice = writes e.0 })) (lost_with writes live one es)
 
 -- the first pair, where the written one is among these
 abbrev pub lost_by : (writes live : ℕ → Bool) → (all these : List (ℕ × List ℕ)) → Option Pair
@@ -39,11 +41,11 @@ abbrev pub live_after : Fsmd → List VariableSet → ℕ → ℕ → ℕ → Bo
 live_after m sets q k = cond (target_of m q k == m.reset) (λ x. false) (has_at sets (target_of m q k))
 
 -- a conflict, and whether it is twice
-abbrev pub found : ℕ → ℕ → Pair → Conflict × Bool
-found q k p = (record { state = q; branch = k; written = p.written; other = p.other }, p.twice)
+abbrev pub doubled_conflict : ℕ → ℕ → Pair → Conflict × Bool
+doubled_conflict q k p = (record { state = q; branch = k; written = p.written; other = p.other }, p.twice)
 
 abbrev pub conflict_at : List (ℕ × List ℕ) → Fsmd → List VariableSet → ℕ → ℕ → Option (Conflict × Bool)
-conflict_at b m sets q k = option_map (found q k) (lost_by (written_at m q k) (live_after m sets q k) b b)
+conflict_at b m sets q k = option_map (doubled_conflict q k) (lost_by (written_at m q k) (live_after m sets q k) b b)
 
 -- the first answer for n numbers from k on
 abbrev pub first_from : {A : Type 0} → (ℕ → Option A) → ℕ → ℕ → Option A

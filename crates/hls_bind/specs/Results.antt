@@ -5,17 +5,17 @@ use Rattle.fs_model.specs.Runs.{SameBehaviour}
 use Rattle.fs_model.specs.Source.{Source}
 use Rattle.fs_model.specs.View.{source_of}
 use Rattle.fs_model.specs.WellFormed.{is_well_formed}
-use Rattle.fs_rules.specs.Spelled.{machine_of}
-use Rattle.fs_rules.specs.Rules.{IsLawful}
-use Rattle.binding_laws.specs.Bindings.{AreRegisters, bound_parts}
-use Rattle.binding_laws.specs.Conflicts.{Conflict, IsConflict, IsFirstConflict}
+use Rattle.fs_rules.specs.MachineOfParts.{machine_of}
+use Rattle.fs_rules.specs.Rules.{BreaksNoRule}
+use Rattle.hls_binding_laws.specs.Bindings.{AreRegisters, bound_parts}
+use Rattle.hls_binding_laws.specs.Conflicts.{Conflict, IsConflict, IsFirstConflict}
 use Rattle.hls_bind.specs.declared.outcome.Bound.{Bound}
 use Rattle.hls_bind.specs.declared.outcome.Bound.TheVariants.{Yes, No}
 
 -- the machine was built of the parts
 pub record IsBuiltOf (p : Source) (m : Fsmd) : Type 0 where
   pub formed : IsTrue (is_well_formed p)
-  pub lawful : IsLawful p
+  pub lawful : BreaksNoRule p
   pub spelled : m ≡ machine_of p
 
 -- the parts with each bound local replaced by its register
@@ -42,4 +42,5 @@ pub record IsYes (p : Source) (m : Fsmd) (b : List (ℕ × List ℕ)) (q : Sourc
 -- the answer is right
 abbrev pub IsRight : Source → Fsmd → List (ℕ × List ℕ) → Bound → Type 0
 IsRight p m b (Yes parts machine) = IsYes p m b (source_of parts) machine
-IsRight p m b (No state branch written other twice) = IsFirstConflict b m (record { state = state.0; branch = branch; written = written.0; other = other.0 }) twice
+IsRight p m b (No state branch written other twice) =
+    IsFirstConflict b m (record { state = state.0; branch = branch; written = written.0; other = other.0 }) twice

@@ -3,9 +3,9 @@
 ghost use Rattle.std.specs.Prelude.{◌≡◌, ◌++◌, true, map, filter, IfOk};
 ghost use Rattle.std.specs.Result.{OnOk};
 ghost use Rattle.fs_model.specs.View.{declaration_of};
-ghost use Rattle.fs_ast.specs.Spelled.{names_of};
-ghost use Rattle.binding_laws.specs.Bindings.{is_rising, AreRegisters, stays, without, remaining, of_registers};
-ghost use Rattle.hls_bind.specs.Entries.{entry_of};
+ghost use Rattle.fs_ast.specs.BuiltMachine.{names_of};
+ghost use Rattle.hls_binding_laws.specs.Bindings.{is_rising, AreRegisters, stays, without, remaining, of_registers};
+ghost use Rattle.hls_bind.specs.BindingEntries.{binding_entry};
 
 use crate::binding::BoundLocal;
 use crate::renaming::{Registers, place, register_at};
@@ -15,14 +15,16 @@ use std::alloc::Global;
 
 // Whether a name stays declared.
 fn stays(registers: &Registers, name: &Name) -> bool
-    ensures { result ≡ stays (map entry_of registers.now.entries.now) (names_of registers.now.vars.now) name.now }
+    ensures { result ≡ stays (map binding_entry registers.now.entries.now) (names_of registers.now.vars.now) name.now }
 {
     register_at(registers.entries, place(registers.vars, name)).is_none()
 }
 
 // Copies of the names that stay declared.
 fn names_left(alloc: Global, registers: &Registers, names: &[Name]) -> Result<Vec<Name>, NoMemory>
-    ensures { IfOk result (λ out. out.items ≡ filter (stays (map entry_of registers.now.entries.now) (names_of registers.now.vars.now)) names.now) }
+    ensures { IfOk result
+        (λ out. out.items ≡ filter
+        (stays (map binding_entry registers.now.entries.now) (names_of registers.now.vars.now)) names.now) }
 {
     let mut out = Vec::new(alloc);
     for name in names {
@@ -35,7 +37,9 @@ fn names_left(alloc: Global, registers: &Registers, names: &[Name]) -> Result<Ve
 
 // A declaration without bound locals.
 fn without(alloc: Global, registers: &Registers, decl: &Decl) -> Result<Decl, NoMemory>
-    ensures { IfOk result (λ d. declaration_of d ≡ without (map entry_of registers.now.entries.now) (names_of registers.now.vars.now) (declaration_of decl.now)) }
+    ensures { IfOk result
+        (λ d. declaration_of d ≡ without (map binding_entry registers.now.entries.now) (names_of registers.now.vars.now)
+        (declaration_of decl.now)) }
 {
     Ok(Decl {
         line: decl.line,
@@ -51,7 +55,9 @@ pub fn remaining(
     registers: &Registers,
     decls: &[Decl],
 ) -> Result<Vec<Decl>, NoMemory>
-    ensures { IfOk result (λ out. map declaration_of out.items ≡ remaining (map entry_of registers.now.entries.now) (names_of registers.now.vars.now) (map declaration_of decls.now)) }
+    ensures { IfOk result
+        (λ out. map declaration_of out.items ≡ remaining (map binding_entry registers.now.entries.now)
+        (names_of registers.now.vars.now) (map declaration_of decls.now)) }
 {
     let mut out = Vec::new(alloc);
     for decl in decls {
@@ -76,8 +82,8 @@ fn all_registers(alloc: Global, entries: &[BoundLocal]) -> Result<Vec<Name>, NoM
 
 /// The registers of a binding, each once, in the order of their bytes.
 pub fn registers_of(alloc: Global, entries: &[BoundLocal]) -> Result<Vec<Name>, NoMemory>
-    requires { is_rising (map entry_of entries.now) ≡ true }
-    ensures { IfOk result (λ out. AreRegisters (map entry_of entries.now) out.items) }
+    requires { is_rising (map binding_entry entries.now) ≡ true }
+    ensures { IfOk result (λ out. AreRegisters (map binding_entry entries.now) out.items) }
 {
     let mut out = all_registers(alloc, entries)?;
     out.sort_unstable();
@@ -91,7 +97,8 @@ pub fn declare_registers(
     line: u32,
     registers: Vec<Name>,
 ) -> Result<(), NoMemory>
-    ensures { OnOk result (map declaration_of decls.new.items ≡ map declaration_of decls.old.items ++ of_registers line registers.items) }
+    ensures { OnOk result
+        (map declaration_of decls.new.items ≡ map declaration_of decls.old.items ++ of_registers line registers.items) }
 {
     if registers.len() != 0 {
         decls.push(Decl {

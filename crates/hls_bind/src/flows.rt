@@ -4,24 +4,24 @@ ghost use Rattle.std.specs.Prelude.{◌≡◌, ◌<◌, ◌++◌, length, map, I
 ghost use Rattle.std.specs.List.{flat_map};
 ghost use Rattle.std.specs.Result.{OnOk};
 ghost use Rattle.fs_model.specs.View.{term_of, literal_of, assignment_of, branch_of};
-ghost use Rattle.fs_model.specs.Parts.{scalars, uses_in_literal};
+ghost use Rattle.fs_model.specs.PartFolds.{scalars, uses_in_literal};
 ghost use Rattle.fs_rules.specs.Sound.{scalars_in, assigned_in};
-ghost use Rattle.variable_sets.specs.Sets.{has, also_all};
-ghost use Rattle.binding_laws.specs.Liveness.{read_by_assignment};
-ghost use Rattle.hls_bind.specs.Flows.{low, transfer_of, transfer_by, transfers_at, transfers_below};
+ghost use Rattle.fs_variable_sets.specs.Sets.{has_variable, also_all};
+ghost use Rattle.hls_binding_laws.specs.Liveness.{read_by_assignment};
+ghost use Rattle.hls_bind.specs.BranchFlows.{low, transfer_of, transfer_by, transfers_at, transfers_below};
 ghost use Rattle.hls_bind.specs.Live.{HasLive};
 
 use fs_ast::machine::Machine;
 use fs_model::name::NoMemory;
 use fs_model::parts::{Assign, Branch, Expr, Lit, StateId, VarId};
-use live_sets::flows::{Flow, live_sets};
+use fs_variable_sets::VariableSet;
+use fs_variable_sets::flows::{Flow, live_sets};
 use std::alloc::Global;
-use variable_sets::VariableSet;
 
 // A set and the scalars that an expression reads.
-#[tactic(auto, using(variable_sets::proofs::Members::also_joined))]
+#[tactic(auto, using(fs_variable_sets::proofs::Members::also_joined))]
 fn with_read(set: VariableSet, expr: &Expr<VarId>) -> VariableSet
-    ensures { has result ≡ also_all (scalars_in (term_of expr.now)) (has set) }
+    ensures { has_variable result ≡ also_all (scalars_in (term_of expr.now)) (has_variable set) }
 {
     match expr {
         Expr::Num(_) => set,
@@ -34,17 +34,17 @@ fn with_read(set: VariableSet, expr: &Expr<VarId>) -> VariableSet
 }
 
 // A set and the scalars that a literal reads.
-#[tactic(auto, using(variable_sets::proofs::Members::also_joined))]
+#[tactic(auto, using(fs_variable_sets::proofs::Members::also_joined))]
 fn with_literal(set: VariableSet, lit: &Lit<VarId>) -> VariableSet
-    ensures { has result ≡ also_all (uses_in_literal scalars (literal_of lit.now)) (has set) }
+    ensures { has_variable result ≡ also_all (uses_in_literal scalars (literal_of lit.now)) (has_variable set) }
 {
     with_read(with_read(set, &lit.left), &lit.right)
 }
 
 // A set and the scalars that an assignment reads.
-#[tactic(auto, using(variable_sets::proofs::Members::also_joined))]
+#[tactic(auto, using(fs_variable_sets::proofs::Members::also_joined))]
 fn with_assignment(set: VariableSet, assign: &Assign<VarId>) -> VariableSet
-    ensures { has result ≡ also_all (read_by_assignment (assignment_of assign.now)) (has set) }
+    ensures { has_variable result ≡ also_all (read_by_assignment (assignment_of assign.now)) (has_variable set) }
 {
     match assign {
         Assign::Set(_, value) | Assign::Emit(_, value) => with_read(set, value),
@@ -54,7 +54,7 @@ fn with_assignment(set: VariableSet, assign: &Assign<VarId>) -> VariableSet
 
 // The scalars that literals read.
 fn read_by_literals(lits: &[Lit<VarId>]) -> VariableSet
-    ensures { has result ≡ low (flat_map (uses_in_literal scalars) (map literal_of lits.now)) }
+    ensures { has_variable result ≡ low (flat_map (uses_in_literal scalars) (map literal_of lits.now)) }
 {
     let mut set = VariableSet::empty();
     for lit in lits {
@@ -65,7 +65,7 @@ fn read_by_literals(lits: &[Lit<VarId>]) -> VariableSet
 
 // A set and the scalars that assignments read.
 fn with_assignments(set: VariableSet, assigns: &[Assign<VarId>]) -> VariableSet
-    ensures { has result ≡ also_all (flat_map read_by_assignment (map assignment_of assigns.now)) (has set) }
+    ensures { has_variable result ≡ also_all (flat_map read_by_assignment (map assignment_of assigns.now)) (has_variable set) }
 {
     let mut set = set;
     for assign in assigns {
@@ -76,7 +76,7 @@ fn with_assignments(set: VariableSet, assigns: &[Assign<VarId>]) -> VariableSet
 
 /// The scalars that a branch assigns.
 pub fn assigned(branch: &Branch) -> VariableSet
-    ensures { has result ≡ low (assigned_in (branch_of branch.now).assignments) }
+    ensures { has_variable result ≡ low (assigned_in (branch_of branch.now).assignments) }
 {
     let mut set = VariableSet::empty();
     for assign in &branch.assigns {
@@ -101,7 +101,9 @@ fn flow(from: u32, branch: &Branch) -> Flow
 
 // Adds what branches of a state do.
 fn add_flows(flows: &mut Vec<Flow>, from: u32, branches: &[Branch]) -> Result<(), NoMemory>
-    ensures { OnOk result (map transfer_of flows.new.items ≡ map transfer_of flows.old.items ++ map (transfer_by from) (map branch_of branches.now)) }
+    ensures { OnOk result
+        (map transfer_of flows.new.items ≡ map transfer_of flows.old.items
+        ++ map (transfer_by from) (map branch_of branches.now)) }
 {
     for branch in branches {
         flows.push(flow(from, branch))?;

@@ -3,9 +3,9 @@
 ghost use Rattle.std.specs.Prelude.{◌≡◌, ◌++◌, map, IfOk};
 ghost use Rattle.std.specs.Option.{option_map};
 ghost use Rattle.fs_model.specs.View.{source_of, declaration_of};
-ghost use Rattle.fs_rules.specs.Spelled.{machine_of, names_of, variables_of};
-ghost use Rattle.binding_laws.specs.Bindings.{IsBindingOf, remaining, of_registers, bound_parts};
-ghost use Rattle.hls_bind.specs.Entries.{entry_of, conflict_of};
+ghost use Rattle.fs_rules.specs.MachineOfParts.{machine_of, names_of, variables_of};
+ghost use Rattle.hls_binding_laws.specs.Bindings.{IsBindingOf, remaining, of_registers, bound_parts};
+ghost use Rattle.hls_bind.specs.BindingEntries.{binding_entry, conflict_of};
 ghost use Rattle.hls_bind.specs.Results.{IsBuiltOf, IsBoundParts, HasNoConflict, IsVerdict, IsRight};
 
 use crate::binding::Binding;
@@ -14,9 +14,9 @@ use crate::declarations::{declare_registers, registers_of, remaining};
 use crate::flows::live_at_states;
 use crate::renaming::{Registers, renamed_states};
 use fs_ast::machine::Machine;
+use fs_ast_laws::lawful_machines::build_lawful;
 use fs_model::name::{Name, NoMemory};
 use fs_model::parts::{Decl, Parts, StateId, VarId};
-use lawful_machines::build_lawful;
 use std::alloc::Global;
 
 /// What comes of binding locals to registers.
@@ -45,8 +45,9 @@ fn conflict(alloc: Global, m: &Machine, b: &Binding) -> Result<Option<Conflict>,
     ensures { IfOk result (λ o. IsVerdict b.now m.now (option_map conflict_of o)) }
 {
     let live = live_at_states(alloc, m)?;
-    let _vars = m.vars();
-    Ok(first_conflict(m, b.entries(), live.as_slice()))
+    let _vars = m.vars(); // The call tells the proof that the machine is sound.
+    let found = first_conflict(alloc, m, b.entries(), live.as_slice())?;
+    Ok(found)
 }
 
 // The declarations without bound locals, and one of the registers.
@@ -56,7 +57,9 @@ fn declarations(
     parts: &Parts,
     names: Vec<Name>,
 ) -> Result<Vec<Decl>, NoMemory>
-    ensures { IfOk result (λ ds. map declaration_of ds.items ≡ remaining (map entry_of registers.now.entries.now) (names_of registers.now.vars.now) (source_of parts.now).declarations ++ of_registers parts.now.reset_line names.items) }
+    ensures { IfOk result
+        (λ ds. map declaration_of ds.items ≡ remaining (map binding_entry registers.now.entries.now)
+        (names_of registers.now.vars.now) (source_of parts.now).declarations ++ of_registers parts.now.reset_line names.items) }
 {
     let mut decls = remaining(alloc, registers, &parts.decls)?;
     declare_registers(&mut decls, parts.reset_line, names)?;
@@ -71,7 +74,8 @@ fn parts_with(
     names: Vec<Name>,
 ) -> Result<Parts, NoMemory>
     requires { registers.now.vars.now ≡ variables_of (source_of parts.now).declarations }
-    ensures { IfOk result (λ p. source_of p ≡ bound_parts (map entry_of registers.now.entries.now) names.items (source_of parts.now)) }
+    ensures { IfOk result
+        (λ p. source_of p ≡ bound_parts (map binding_entry registers.now.entries.now) names.items (source_of parts.now)) }
 {
     let decls = declarations(alloc, registers, parts, names)?;
     let states = renamed_states(alloc, registers, &parts.states)?;
@@ -103,7 +107,7 @@ fn with_registers(alloc: Global, parts: &Parts, m: &Machine, b: &Binding) -> Res
     requires free { HasNoConflict b.now m.now }
     ensures { IfOk result (λ r. IsRight (source_of parts.now) m.now b.now r) }
 {
-    let _vars = m.vars();
+    let _vars = m.vars(); // The call tells the proof that the machine is sound.
     let new_parts = bound_parts(alloc, parts, m, b)?;
     let machine = build_lawful(alloc, &new_parts)?;
     Ok(Bound::Yes {

@@ -7,16 +7,18 @@ ghost use Rattle.serde_json.specs.View.{view, members_view};
 ghost use Rattle.serde_json.specs.Find.{as_object, as_str};
 ghost use Rattle.fs_model.specs.Words.{is_name};
 ghost use Rattle.fs_model.specs.Limits.{most_variables};
-ghost use Rattle.binding_laws.specs.Bindings.{is_scalar_local, IsBindingOf};
-ghost use Rattle.hls_bind.specs.Entries.{entry_of};
-ghost use Rattle.hls_bind.specs.Files.{is_taken, names_local, register_fault, fault_at, first_fault, file_fault, register_given, entry_at, binding_from, GivenBy, Gives, IsRefused, IsOfFault};
+ghost use Rattle.hls_binding_laws.specs.Bindings.{is_scalar_local, IsBindingOf};
+ghost use Rattle.hls_bind.specs.BindingEntries.{binding_entry};
+ghost use Rattle.hls_bind.specs.BindingMembers.{is_taken, names_local, register_fault, fault_of_binding, first_binding_fault};
+ghost use Rattle.hls_bind.specs.BindingMembers.{binding_file_fault, register_given, entry_at, binding_from, GivenBy};
+ghost use Rattle.hls_bind.specs.BindingMembers.{GivesBinding, IsRefusedAsBinding, IsOfBindingFault};
 
 use crate::binding::{Binding, BoundLocal};
 use crate::faults::{BindError, Fault};
+use base_json_files::{JsonError, read_json};
 use fs_ast::machine::Machine;
 use fs_model::name::{Name, NoMemory, is_name};
 use fs_model::parts::{Role, VarId, VarInfo};
-use json_files::{JsonError, read_json};
 use serde_json::{Map, Value};
 use std::alloc::Global;
 
@@ -71,7 +73,7 @@ fn register_fault(vars: &[VarInfo], value: &Value) -> Option<Fault>
 
 // What is wrong with a name and its value.
 fn fault_at(vars: &[VarInfo], name: &String, value: &Value) -> Option<Fault>
-    ensures { result ≡ fault_at vars.now (string_bytes name.now) (view value.now) }
+    ensures { result ≡ fault_of_binding vars.now (string_bytes name.now) (view value.now) }
 {
     if names_local(vars, name.as_bytes()) {
         register_fault(vars, value)
@@ -82,7 +84,8 @@ fn fault_at(vars: &[VarInfo], name: &String, value: &Value) -> Option<Fault>
 
 // The first name with a fault, in the order of the members.
 fn first_fault<'a>(vars: &[VarInfo], members: &'a Map<String, Value>) -> Option<(&'a String, Fault)>
-    ensures { option_map (λ p. (string_bytes p.0.now, p.1)) result ≡ first_fault vars.now (members_view members.now.entries) }
+    ensures { option_map (λ p. (string_bytes p.0.now, p.1)) result
+        ≡ first_binding_fault vars.now (members_view members.now.entries) }
 {
     for (name, value) in members.iter() {
         if let Some(fault) = fault_at(vars, name, value) {
@@ -94,7 +97,7 @@ fn first_fault<'a>(vars: &[VarInfo], members: &'a Map<String, Value>) -> Option<
 
 // The refusal for a fault at a name.
 fn refusal(name: String, fault: Fault) -> BindError
-    ensures { IsOfFault (Some (string_bytes name, fault)) result }
+    ensures { IsOfBindingFault (Some (string_bytes name, fault)) result }
 {
     match fault {
         Fault::Unknown => BindError::UnknownName { name },
@@ -124,7 +127,9 @@ fn add_entry(
     register: Option<&str>,
 ) -> Result<(), NoMemory>
     requires { IfSome register (λ r. is_name r.now ≡ true) }
-    ensures { OnOk result (map entry_of entries.new.items ≡ map entry_of entries.old.items ++ entry_at local.0 (option_map (λ r. r.now) register.entry)) }
+    ensures { OnOk result
+        (map binding_entry entries.new.items ≡ map binding_entry entries.old.items
+        ++ entry_at local.0 (option_map (λ r. r.now) register.entry)) }
 {
     if let Some(text) = register {
         if let Some(register) = Name::of(alloc, text.as_bytes())? {
@@ -142,9 +147,10 @@ fn entries_of(
     vars: &[VarInfo],
     members: &Map<String, Value>,
 ) -> Result<Vec<BoundLocal>, NoMemory>
-    requires fine { first_fault vars.now (members_view members.now.entries) ≡ None }
+    requires fine { first_binding_fault vars.now (members_view members.now.entries) ≡ None }
     requires few { length vars.now ≤ most_variables }
-    ensures { IfOk result (λ entries. map entry_of entries.items ≡ binding_from 0 vars.now (members_view members.now.entries)) }
+    ensures { IfOk result
+        (λ entries. map binding_entry entries.items ≡ binding_from 0 vars.now (members_view members.now.entries)) }
 {
     let mut entries = Vec::new(alloc);
     for k in 0..vars.len() {
@@ -156,7 +162,7 @@ fn entries_of(
 
 // The binding that an object without fault gives.
 fn binding_of(alloc: Global, m: &Machine, members: &Map<String, Value>) -> Result<Binding, NoMemory>
-    requires { first_fault m.now.variables (members_view members.now.entries) ≡ None }
+    requires { first_binding_fault m.now.variables (members_view members.now.entries) ≡ None }
     ensures given { IfOk result (λ b. b ≡ binding_from 0 m.now.variables (members_view members.now.entries)) }
     ensures of_machine { IfOk result (λ b. IsBindingOf m.now.variables b) }
 {
@@ -168,7 +174,7 @@ fn binding_of(alloc: Global, m: &Machine, members: &Map<String, Value>) -> Resul
 fn read_object(alloc: Global, m: &Machine, value: &Value) -> Result<Binding, BindError>
     ensures given { IfOk result (λ b. GivenBy m.now.variables (view value.now) b) }
     ensures of_machine { IfOk result (λ b. IsBindingOf m.now.variables b) }
-    ensures refused { IfErr result (λ e. IsOfFault (file_fault m.now.variables (as_object (view value.now))) e) }
+    ensures refused { IfErr result (λ e. IsOfBindingFault (binding_file_fault m.now.variables (as_object (view value.now))) e) }
 {
     let Some(members) = value.as_object() else {
         return Err(BindError::Shape {
@@ -189,9 +195,9 @@ fn read_object(alloc: Global, m: &Machine, value: &Value) -> Result<Binding, Bin
 /// is no string, with `BadName` where the string is no name of a machine text of at most 32 bytes, with `Taken` where it
 /// is the name of a variable. Of equal names the last counts. `NoMemory` may come at any time.
 pub fn read_binding(alloc: Global, bytes: &[u8], m: &Machine) -> Result<Binding, BindError>
-    ensures gives { IfOk result (λ b. Gives m.now.variables bytes.now b) }
+    ensures gives { IfOk result (λ b. GivesBinding m.now.variables bytes.now b) }
     ensures of_machine { IfOk result (λ b. IsBindingOf m.now.variables b) }
-    ensures refused { IfErr result (λ e. IsRefused m.now.variables bytes.now e) }
+    ensures refused { IfErr result (λ e. IsRefusedAsBinding m.now.variables bytes.now e) }
 {
     let value = match read_json(alloc, bytes) {
         Ok(value) => value,

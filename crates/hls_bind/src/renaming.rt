@@ -3,9 +3,9 @@
 ghost use Rattle.std.specs.Prelude.{◌≡◌, map, option_map, IfOk};
 ghost use Rattle.fs_model.specs.Renamed.{guard_over, assignment_over};
 ghost use Rattle.fs_model.specs.View.{named_guard, named_assignment, source_transition_of, source_state_of};
-ghost use Rattle.fs_ast.specs.Spelled.{place, names_of};
-ghost use Rattle.binding_laws.specs.Bindings.{register, renamed, transition_renamed, state_renamed};
-ghost use Rattle.hls_bind.specs.Entries.{entry_of, name_for};
+ghost use Rattle.fs_ast.specs.BuiltMachine.{place, names_of};
+ghost use Rattle.hls_binding_laws.specs.Bindings.{register, renamed, transition_renamed, state_renamed};
+ghost use Rattle.hls_bind.specs.BindingEntries.{binding_entry, name_for};
 
 use crate::binding::BoundLocal;
 use fs_model::copies::{Rename, renamed_assignments};
@@ -36,7 +36,7 @@ pub fn place(vars: &[VarInfo], name: &Name) -> usize
 
 /// The register of the local of a number, if it has one.
 pub fn register_at(entries: &[BoundLocal], place: usize) -> Option<&Name>
-    ensures { option_map (λ n. n.now) result ≡ register (map entry_of entries.now) place }
+    ensures { option_map (λ n. n.now) result ≡ register (map binding_entry entries.now) place }
 {
     for entry in entries {
         if entry.local.0 as usize == place {
@@ -66,7 +66,8 @@ fn renamed_condition(
     registers: &Registers,
     guard: &Option<Guard>,
 ) -> Result<Option<Guard>, NoMemory>
-    ensures { IfOk result (λ g. option_map named_guard g ≡ option_map (guard_over (name_for registers.now)) (option_map named_guard guard.now)) }
+    ensures { IfOk result
+        (λ g. option_map named_guard g ≡ option_map (guard_over (name_for registers.now)) (option_map named_guard guard.now)) }
 {
     match guard {
         None => Ok(None),
@@ -79,13 +80,16 @@ fn assignments_of(
     registers: &Registers,
     assigns: &[Assign<Name>],
 ) -> Result<Vec<Assign<Name>>, NoMemory>
-    ensures { IfOk result (λ out. map named_assignment out.items ≡ map (assignment_over (name_for registers.now)) (map named_assignment assigns.now)) }
+    ensures { IfOk result
+        (λ out. map named_assignment out.items ≡ map (assignment_over (name_for registers.now))
+        (map named_assignment assigns.now)) }
 {
     Ok(renamed_assignments(alloc, assigns, registers)?)
 }
 
 fn renamed_line(alloc: Global, registers: &Registers, line: &RawLine) -> Result<RawLine, NoMemory>
-    ensures { IfOk result (λ l. source_transition_of l ≡ transition_renamed (name_for registers.now) (source_transition_of line.now)) }
+    ensures { IfOk result
+        (λ l. source_transition_of l ≡ transition_renamed (name_for registers.now) (source_transition_of line.now)) }
 {
     let guard = renamed_condition(alloc, registers, &line.guard)?;
     let assigns = assignments_of(alloc, registers, &line.assigns)?;
@@ -102,7 +106,9 @@ fn renamed_lines(
     registers: &Registers,
     lines: &[RawLine],
 ) -> Result<Vec<RawLine>, NoMemory>
-    ensures { IfOk result (λ out. map source_transition_of out.items ≡ map (transition_renamed (name_for registers.now)) (map source_transition_of lines.now)) }
+    ensures { IfOk result
+        (λ out. map source_transition_of out.items ≡ map (transition_renamed (name_for registers.now))
+        (map source_transition_of lines.now)) }
 {
     let mut out = Vec::new(alloc);
     for line in lines {
@@ -133,7 +139,8 @@ pub fn renamed_states(
     registers: &Registers,
     states: &[RawState],
 ) -> Result<Vec<RawState>, NoMemory>
-    ensures { IfOk result (λ out. map source_state_of out.items ≡ map (state_renamed (name_for registers.now)) (map source_state_of states.now)) }
+    ensures { IfOk result
+        (λ out. map source_state_of out.items ≡ map (state_renamed (name_for registers.now)) (map source_state_of states.now)) }
 {
     let mut out = Vec::new(alloc);
     for state in states {

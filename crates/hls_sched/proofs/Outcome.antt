@@ -3,43 +3,51 @@ use Rattle.std.proofs.Common.{◌≡◌, ℕ, ◌+◌, ◌<◌, ◌≤◌, List,
 use Rattle.std.specs.List.{All}
 use Rattle.std.proofs.lemmas.List.{get_or-map}
 use Rattle.std.proofs.lemmas.List.Elements.{All-filter, All-map, filter_passes}
+use Rattle.base_lemmas.proofs.Lists.{length_map}
 use Rattle.fs_model.specs.Source.{Source}
 use Rattle.fs_model.specs.Machines.{Fsmd}
 use Rattle.fs_model.specs.Runs.{SameBehaviour}
 use Rattle.fs_rules.specs.Sound.{IsSound}
-use Rattle.fs_rules.proofs.Turns.{length_mapped}
-use Rattle.line_machines.specs.Lines.{all_states, is_first, firsts}
-use Rattle.line_machines.specs.Replaced.{MoveOver}
-use Rattle.line_machines.proofs.Among.{range_within}
-use Rattle.line_machines.proofs.Trails.{member}
-use Rattle.line_fills.specs.Units.{Units}
-use Rattle.line_fills.specs.Heights.{chain_of}
-use Rattle.line_fills.proofs.Chains.{no_shorter}
-use Rattle.line_schedules.specs.Schedules.{IsWithin, schedule_of}
-use Rattle.line_schedules.proofs.Schedules.{no_longer, at_least_chain, chain_where_ample, behaves}
-use Rattle.line_schedules.proofs.Within.{stays_within}
-use Rattle.scheduled_sources.specs.Rows.{named_moves, found}
-use Rattle.scheduled_sources.specs.Sources.{source_by_rows, scheduled_source}
+use Rattle.hls_line_machines.specs.StraightLines.{all_states, is_first_of_line, firsts}
+use Rattle.hls_line_machines.specs.Replaced.{MoveOver}
+use Rattle.hls_line_machines.proofs.Among.{range_within}
+use Rattle.hls_line_machines.proofs.Trails.{member}
+use Rattle.hls_line_machines.proofs.NewLines.{has_rows, is_first, name_kept}
+use Rattle.hls_line_rows.specs.ItemUnits.{Units}
+use Rattle.hls_line_rows.specs.Heights.{chain_of}
+use Rattle.hls_line_rows.proofs.Chains.{no_shorter}
+use Rattle.hls_line_schedules.specs.Schedules.{IsWithin, rows_by, schedule_of}
+use Rattle.hls_line_schedules.proofs.Schedules.{no_longer, at_least_chain, chain_where_ample, keeps_stores, behaves}
+use Rattle.hls_line_schedules.proofs.Within.{stays_within}
+use Rattle.hls_line_schedules.specs.SourceRows.{named_moves, first_done}
+use Rattle.hls_line_schedules.specs.Sources.{source_by_rows, scheduled_source}
 use Rattle.hls_sched.specs.declared.scheduling.LineReport.{LineReport}
 use Rattle.hls_sched.specs.Reports.{report_of, report_at, reports, KeepsLengths}
 
 all_of : {X Z : Type 0} (P : Z → Type 0) (f : X → Z) (xs : List X) (zs : List Z) → map f xs ≡ zs → All P zs → All (λ x. P (f x)) xs
 all_of P f xs zs e h k d low =
-    let count : length zs ≡ length xs = ap length (sym e) ∙ length_mapped f xs in
+    let count : length zs ≡ length xs = ap length (sym e) ∙ length_map f xs in
     subst P (ap (λ l. get_or l k (f d)) (sym e) ∙ get_or-map f xs k d (f d) low) (h k (f d) (omega (arith, count, low)))
 
 -- the parts with the moves of all lines
-pub parts_are : (units : Units) (p out : Source) (m : Fsmd) (ms : List (MoveOver (List ℕ))) → out ≡ source_by_rows p m (found ms) → ms ≡ named_moves units p m → out ≡ scheduled_source units p m
-parts_are units p out m ms e h = e ∙ ap (λ (xs : List (MoveOver (List ℕ))). source_by_rows p m (found xs)) h
+pub parts_are : (units : Units) (p out : Source) (m : Fsmd) (ms : List (MoveOver (List ℕ))) → out ≡ source_by_rows p m (first_done ms)
+    → ms ≡ named_moves units p m → out ≡ scheduled_source units p m
+parts_are units p out m ms e h = e ∙ ap (λ (xs : List (MoveOver (List ℕ))). source_by_rows p m (first_done xs)) h
 
-first_of_line : (m : Fsmd) (k d : ℕ) → k < length (firsts m) → (get_or (firsts m) k d < length m.states) × (is_first m (get_or (firsts m) k d) ≡ true)
+first_of_line : (m : Fsmd) (k d : ℕ) → k < length (firsts m) → (get_or (firsts m) k d < length m.states) × (is_first_of_line m (get_or (firsts m) k d) ≡ true)
 first_of_line m k d low =
-    let inside : All (λ (q : ℕ). q < length m.states) (all_states m) = λ i z h. (let w : get_or (all_states m) i z < 0 + length m.states = range_within 0 (length m.states) (get_or (all_states m) i z) (member (all_states m) i z h) in omega (arith, w)) in
-    (All-filter (is_first m) (λ (q : ℕ). q < length m.states) (all_states m) inside k d low, filter_passes (is_first m) (all_states m) k d low)
+    let inside : All (λ (q : ℕ). q < length m.states) (all_states m) =
+    λ i z h.
+    (let w : get_or (all_states m) i z < 0 + length m.states = range_within 0 (length m.states) (get_or (all_states m) i z) (member (all_states m) i z h) in
+    omega (arith, w)) in
+    (All-filter (is_first_of_line m) (λ (q : ℕ). q < length m.states) (all_states m) inside k d low, filter_passes (is_first_of_line m) (all_states m) k d low)
 
 module _ (units : Units) (m : Fsmd) (sound : IsSound m) (within : IsWithin units m) where
-  keeps_lengths : (q : ℕ) → q < length m.states → is_first m q ≡ true → KeepsLengths units m (report_at units m q)
+  keeps_lengths : (q : ℕ) → q < length m.states → is_first_of_line m q ≡ true → KeepsLengths units m (report_at units m q)
   keeps_lengths q h e = record {
+    name = name_kept m sound (rows_by units m) (keeps_stores m units sound within) q h e;
+    begins = is_first m sound (rows_by units m) (keeps_stores m units sound within) q h e;
+    length_now = has_rows m sound (rows_by units m) (keeps_stores m units sound within) q h e;
     no_longer = no_longer m units sound within q h e;
     no_shorter = at_least_chain m units sound within q h e;
     least = λ ps n same valid below. subst (λ z. chain_of z ≤ n) same (no_shorter ps n valid below);
@@ -47,10 +55,12 @@ module _ (units : Units) (m : Fsmd) (sound : IsSound m) (within : IsWithin units
   }
 
   -- each line keeps its lengths
-  pub lines_keep_lengths : (lines : List LineReport) → map report_of lines ≡ reports units m → All (λ (r : LineReport). KeepsLengths units m (report_of r)) lines
+  pub lines_keep_lengths : (lines : List LineReport) → map report_of lines ≡ reports units m
+      → All (λ (r : LineReport). KeepsLengths units m (report_of r)) lines
   lines_keep_lengths lines e =
       all_of (KeepsLengths units m) report_of lines (reports units m) e
-      (All-map (KeepsLengths units m) (report_at units m) (firsts m) (λ k d low. (let w = first_of_line m k d low in keeps_lengths (get_or (firsts m) k d) w.0 w.1)))
+      (All-map (KeepsLengths units m) (report_at units m) (firsts m)
+      (λ k d low. (let w = first_of_line m k d low in keeps_lengths (get_or (firsts m) k d) w.0 w.1)))
 
   pub new_behaves : (k : Fsmd) → k ≡ schedule_of units m → SameBehaviour m k
   new_behaves k e = subst (λ (z : Fsmd). SameBehaviour m z) (sym e) (behaves m units sound within)

@@ -1,3 +1,3 @@
-pub mod Moves
-pub mod Lines
+pub mod RowMoves
+pub mod CodeLines
 pub mod Reports

@@ -1,4 +1,9 @@
-//! List scheduling of the straight lines of a machine under a number of units.
+//! List scheduling of the straight lines of a machine under unit counts.
+//!
+//! Promises: `schedule`: the scheduled parts and their machine, which behaves as before and is within the units, with a
+//! report of each straight line; or the first transition that uses too much.
+//!
+//! Rules: `specs/Reports`, `specs/CodeLines`, `specs/RowMoves`.
 #![tactic(auto)]
 
 mod moves;
@@ -6,5 +11,5 @@ mod parts;
 mod plans;
 pub mod scheduling;
 
+pub use hls_unit_counts::{Unit, UnitError, Units, read_units};
 pub use scheduling::{LineReport, SchedError, Scheduled, schedule};
-pub use unit_counts::{Unit, UnitError, Units, read_units};

@@ -4,17 +4,17 @@ ghost use Rattle.std.specs.Prelude.{◌≡◌, ℕ, ◌<◌, ◌≤◌, ◌++◌
 ghost use Rattle.std.specs.List.{All};
 ghost use Rattle.std.specs.Result.{OnOk};
 ghost use Rattle.fs_model.specs.Source.{Source};
-ghost use Rattle.line_fills.specs.Filling.{is_in};
-ghost use Rattle.line_machines.specs.Replaced.{moves};
-ghost use Rattle.line_filling.specs.Plans.{filled_in};
-ghost use Rattle.line_filling.specs.Waiting.{rows_in};
-ghost use Rattle.scheduled_sources.specs.Rows.{row_of, rows_in_line};
-ghost use Rattle.hls_sched.specs.Moves.{joined_items, move_of, target_of_row, row_in_state, IsMoveAmong, IsPlanFor};
+ghost use Rattle.hls_line_rows.specs.Filling.{is_in};
+ghost use Rattle.hls_line_machines.specs.Replaced.{moves};
+ghost use Rattle.hls_line_filling.specs.Plans.{filled_in};
+ghost use Rattle.hls_line_filling.specs.WaitingItems.{rows_in};
+ghost use Rattle.hls_line_schedules.specs.SourceRows.{row_of, rows_in_line};
+ghost use Rattle.hls_sched.specs.RowMoves.{joined_items, move_of, target_of_row, row_in_state, IsMoveAmong, IsPlanFor};
 
 use fs_model::name::NoMemory;
 use fs_model::parts::StateId;
-use line_filling::plan::Plan;
-use line_tracing::lines::Line;
+use hls_line_filling::plan::Plan;
+use hls_line_tracing::lines::Line;
 use std::alloc::Global;
 
 /// What a state does by a row of its line: the states whose items it does, in their order in the line, and the
@@ -37,8 +37,11 @@ fn is_in_row(plan: &Plan, item: usize, row: u32) -> bool
 // The states of the items in a row, in their order in the line.
 fn items_in_row(alloc: Global, line: &Line, plan: &Plan, row: u32) -> Result<Vec<StateId>, NoMemory>
     requires { IsPlanFor (length line.now.states.items) plan.now }
-    ensures items { IfOk result (λ out. (p : Source) → joined_items p out.items ≡ row_of p (map (λ q. q.0) line.now.states.items) (filled_in plan.now) row) }
-    ensures among { IfOk result (λ out. (count : ℕ) → All (λ q. q.0 < count) line.now.states.items → All (λ q. q.0 < count) out.items) }
+    ensures items { IfOk result
+        (λ out. (p : Source) → joined_items p out.items ≡ row_of p (map (λ q. q.0) line.now.states.items)
+        (filled_in plan.now) row) }
+    ensures among { IfOk result
+        (λ out. (count : ℕ) → All (λ q. q.0 < count) line.now.states.items → All (λ q. q.0 < count) out.items) }
 {
     let mut out = Vec::new(alloc);
     for item in 0..line.states.len() {
@@ -66,8 +69,11 @@ fn after_row(line: &Line, count: u32, row: u32) -> StateId
 fn row_in_state(alloc: Global, line: &Line, plan: &Plan, row: u32) -> Result<Move, NoMemory>
     requires plan { IsPlanFor (length line.now.states.items) plan.now }
     requires in_range { row < plan.now.count }
-    ensures row { IfOk result (λ x. (p : Source) → move_of p x ≡ row_in_state p line.now.exit.0 (map (λ q. q.0) line.now.states.items) (filled_in plan.now) row) }
-    ensures among { IfOk result (λ x. (count : ℕ) → All (λ q. q.0 < count) line.now.states.items → line.now.exit.0 < count → IsMoveAmong count x) }
+    ensures row { IfOk result
+        (λ x. (p : Source) → move_of p x ≡ row_in_state p line.now.exit.0 (map (λ q. q.0) line.now.states.items)
+        (filled_in plan.now) row) }
+    ensures among { IfOk result
+        (λ x. (count : ℕ) → All (λ q. q.0 < count) line.now.states.items → line.now.exit.0 < count → IsMoveAmong count x) }
 {
     let items = items_in_row(alloc, line, plan, row)?;
     Ok(Move {
@@ -85,8 +91,13 @@ pub fn add_moves(
     out: &mut Vec<Move>,
 ) -> Result<(), NoMemory>
     requires plan { IsPlanFor (length line.now.states.items) plan.now }
-    ensures moves { OnOk result ((p : Source) → map (move_of p) out.new.items ≡ map (move_of p) out.old.items ++ moves line.now.exit.0 (map (λ q. q.0) line.now.states.items) (rows_in_line p (map (λ q. q.0) line.now.states.items) (filled_in plan.now))) }
-    ensures among { OnOk result ((count : ℕ) → All (λ q. q.0 < count) line.now.states.items → line.now.exit.0 < count → All (IsMoveAmong count) out.old.items → All (IsMoveAmong count) out.new.items) }
+    ensures moves { OnOk result
+        ((p : Source) → map (move_of p) out.new.items ≡ map (move_of p) out.old.items
+        ++ moves line.now.exit.0 (map (λ q. q.0) line.now.states.items)
+        (rows_in_line p (map (λ q. q.0) line.now.states.items) (filled_in plan.now))) }
+    ensures among { OnOk result
+        ((count : ℕ) → All (λ q. q.0 < count) line.now.states.items → line.now.exit.0 < count
+        → All (IsMoveAmong count) out.old.items → All (IsMoveAmong count) out.new.items) }
 {
     for row in 0..plan.count {
         out.push(row_in_state(alloc, line, plan, row)?)?;

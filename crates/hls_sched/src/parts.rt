@@ -5,22 +5,22 @@ ghost use Rattle.std.specs.List.{All};
 ghost use Rattle.std.specs.Result.{OnOk};
 ghost use Rattle.fs_model.specs.Source.{Source};
 ghost use Rattle.fs_model.specs.View.{named_assignment, source_state_of, source_of};
-ghost use Rattle.scheduled_sources.specs.Rows.{first_assignments, found};
-ghost use Rattle.scheduled_sources.specs.Sources.{moved, states_by, source_by_rows};
-ghost use Rattle.hls_sched.specs.Moves.{joined_items, done_by, move_of, IsMoveAmong};
+ghost use Rattle.hls_line_schedules.specs.SourceRows.{first_assignments, first_done};
+ghost use Rattle.hls_line_schedules.specs.Sources.{state_with_row, states_by, source_by_rows};
+ghost use Rattle.hls_sched.specs.RowMoves.{joined_items, done_by, move_of, IsMoveAmong};
 
 use crate::moves::Move;
 use fs_ast::machine::Machine;
+use fs_model::assignment_copies::add_assignments;
 use fs_model::name::{Name, NoMemory};
 use fs_model::parts::{Assign, Parts, RawLine, RawState, StateId};
-use line_tracing::lines::is_straight;
-use part_copies::assignments::add_assignments;
-use part_copies::states::{copied_declarations, copied_state};
+use fs_model::state_copies::{copied_declarations, copied_state};
+use hls_line_tracing::lines::is_straight;
 use std::alloc::Global;
 
 // The move of a state, where there is one.
 fn move_of_state(moves: &[Move], state: StateId) -> Option<&Move>
-    ensures found { (p : Source) → option_map (λ x. done_by p x.now) result ≡ found (map (move_of p) moves.now) state.0 }
+    ensures found { (p : Source) → option_map (λ x. done_by p x.now) result ≡ first_done (map (move_of p) moves.now) state.0 }
     ensures among { (count : ℕ) → All (IsMoveAmong count) moves.now → IfSome result (λ x. IsMoveAmong count x.now) }
 {
     for one in moves {
@@ -33,7 +33,9 @@ fn move_of_state(moves: &[Move], state: StateId) -> Option<&Move>
 
 // Adds copies of the assignments of a state's first transition.
 fn add_item(alloc: Global, state: &RawState, out: &mut Vec<Assign<Name>>) -> Result<(), NoMemory>
-    ensures { OnOk result (map named_assignment out.new.items ≡ map named_assignment out.old.items ++ first_assignments (source_state_of state.now).lines) }
+    ensures { OnOk result
+        (map named_assignment out.new.items ≡ map named_assignment out.old.items
+        ++ first_assignments (source_state_of state.now).lines) }
 {
     if let Some(line) = state.lines.first() {
         add_assignments(alloc, &line.assigns, out)?;
@@ -65,7 +67,9 @@ fn moved_state(
     by: &Move,
 ) -> Result<RawState, NoMemory>
     requires { IsMoveAmong (length parts.now.states.items) by.now }
-    ensures { IfOk result (λ out. source_state_of out ≡ moved (source_of parts.now) (source_state_of state.now) (done_by (source_of parts.now) by.now)) }
+    ensures { IfOk result
+        (λ out. source_state_of out ≡ state_with_row (source_of parts.now) (source_state_of state.now)
+        (done_by (source_of parts.now) by.now)) }
 {
     let name = state.name.try_clone(alloc)?;
     let target = parts.states[by.target.0 as usize].name.try_clone(alloc)?;
@@ -96,7 +100,9 @@ fn add_state(
     requires moves { All (IsMoveAmong (length parts.now.states.items)) moves.now }
     requires machine { length m.now.states ≡ length parts.now.states.items }
     requires state { state.0 < length parts.now.states.items }
-    ensures { OnOk result (map source_state_of out.new.items ≡ map source_state_of out.old.items ++ states_by (source_of parts.now) m.now (found (map (move_of (source_of parts.now)) moves.now)) state.0) }
+    ensures { OnOk result
+        (map source_state_of out.new.items ≡ map source_state_of out.old.items
+        ++ states_by (source_of parts.now) m.now (first_done (map (move_of (source_of parts.now)) moves.now)) state.0) }
 {
     let old = &parts.states[state.0 as usize];
     match move_of_state(moves, state) {
@@ -117,7 +123,9 @@ fn moved_states(
 ) -> Result<Vec<RawState>, NoMemory>
     requires moves { All (IsMoveAmong (length parts.now.states.items)) moves.now }
     requires machine { length m.now.states ≡ length parts.now.states.items }
-    ensures { IfOk result (λ out. map source_state_of out.items ≡ (source_by_rows (source_of parts.now) m.now (found (map (move_of (source_of parts.now)) moves.now))).states) }
+    ensures { IfOk result
+        (λ out. map source_state_of out.items
+        ≡ (source_by_rows (source_of parts.now) m.now (first_done (map (move_of (source_of parts.now)) moves.now))).states) }
 {
     let mut out = Vec::new(alloc);
     for q in 0..m.state_count() {
@@ -136,7 +144,9 @@ pub fn moved_parts(
 ) -> Result<Parts, NoMemory>
     requires moves { All (IsMoveAmong (length parts.now.states.items)) moves.now }
     requires machine { length m.now.states ≡ length parts.now.states.items }
-    ensures { IfOk result (λ out. source_of out ≡ source_by_rows (source_of parts.now) m.now (found (map (move_of (source_of parts.now)) moves.now))) }
+    ensures { IfOk result
+        (λ out. source_of out ≡ source_by_rows (source_of parts.now) m.now
+        (first_done (map (move_of (source_of parts.now)) moves.now))) }
 {
     let states = moved_states(alloc, parts, m, moves)?;
     let decls = copied_declarations(alloc, &parts.decls)?;

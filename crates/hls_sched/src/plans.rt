@@ -2,29 +2,29 @@
 
 ghost use Rattle.std.specs.Prelude.{◌≡◌, ◌<◌, length, map, IfOk};
 ghost use Rattle.std.specs.List.{All};
-ghost use Rattle.line_machines.specs.Lines.{item_of, items_at};
-ghost use Rattle.unit_counts.specs.declared.units.Unit.{Unit as Kind};
-ghost use Rattle.line_fills.specs.Units.{used_by, units_in};
-ghost use Rattle.line_fills.specs.Heights.{chain_of};
-ghost use Rattle.line_fills.specs.Filling.{graph_of, filling};
-ghost use Rattle.line_schedules.specs.Schedules.{IsWithin};
-ghost use Rattle.line_filling.specs.Sets.{sets_of, sets_from, none_changed};
-ghost use Rattle.line_filling.specs.Profiles.{uses_in, capped};
-ghost use Rattle.line_filling.specs.Plans.{filled_in};
-ghost use Rattle.hls_sched.specs.Moves.{IsPlanFor};
-ghost use Rattle.hls_sched.specs.Lines.{IsLineFrom};
+ghost use Rattle.hls_line_machines.specs.StraightLines.{item_of, items_at};
+ghost use Rattle.hls_unit_counts.specs.declared.units.Unit.{Unit as Kind};
+ghost use Rattle.hls_line_rows.specs.ItemUnits.{used_by, units_in};
+ghost use Rattle.hls_line_rows.specs.Heights.{chain_of};
+ghost use Rattle.hls_line_rows.specs.Filling.{graph_of, filling};
+ghost use Rattle.hls_line_schedules.specs.Schedules.{IsWithin};
+ghost use Rattle.hls_line_filling.specs.EffectSets.{sets_of, sets_from, none_changed};
+ghost use Rattle.hls_line_filling.specs.Profiles.{units_of_uses, capped};
+ghost use Rattle.hls_line_filling.specs.Plans.{filled_in};
+ghost use Rattle.hls_sched.specs.RowMoves.{IsPlanFor};
+ghost use Rattle.hls_sched.specs.CodeLines.{IsLineFrom};
 
 use fs_ast::machine::Machine;
 use fs_model::name::NoMemory;
 use fs_model::parts::StateId;
-use line_filling::effects::Effects;
-use line_filling::plan::{Plan, make_plan};
-use line_filling::uses::{Uses, uses_of};
-use line_tracing::lines::{Line, item};
+use hls_line_filling::effects::Effects;
+use hls_line_filling::plan::{Plan, make_plan};
+use hls_line_filling::uses::{Uses, uses_of};
+use hls_line_tracing::lines::{Line, item};
+use hls_unit_counts::Units;
+use hls_unit_limits::laws::items_within_the_units_are_counted;
+use hls_unit_limits::over::see_counts;
 use std::alloc::Global;
-use unit_counts::Units;
-use unit_limits::laws::items_within_the_units_are_counted;
-use unit_limits::over::see_counts;
 
 // The effects of items, in their order.
 fn all_effects(alloc: Global, m: &Machine, states: &[StateId]) -> Result<Vec<Effects>, NoMemory>
@@ -41,7 +41,9 @@ fn all_effects(alloc: Global, m: &Machine, states: &[StateId]) -> Result<Vec<Eff
 // The units that items use, in their order.
 fn all_uses(alloc: Global, m: &Machine, states: &[StateId]) -> Result<Vec<Uses>, NoMemory>
     requires { All (λ q. q.0 < length m.now.states) states.now }
-    ensures { IfOk result (λ out. (kind : Kind) → map (λ u. uses_in u kind) out.items ≡ map (λ q. capped (used_by (item_of m.now q.0) kind)) states.now) }
+    ensures { IfOk result
+        (λ out. (kind : Kind) → map (λ u. units_of_uses u kind) out.items
+        ≡ map (λ q. capped (used_by (item_of m.now q.0) kind)) states.now) }
 {
     let mut out = Vec::new(alloc);
     for state in states {
@@ -64,7 +66,7 @@ pub fn plan_line(
     ensures chain { IfOk result (λ p. p.chain ≡ chain_of (items_at m.now first.0)) }
     ensures plan { IfOk result (λ p. IsPlanFor (length line.now.states.items) p) }
 {
-    let _vars = m.vars();
+    let _vars = m.vars(); // The call tells the proof that the machine is sound.
     see_counts(units);
     items_within_the_units_are_counted();
     let effects = all_effects(alloc, m, &line.states)?;

@@ -7,35 +7,37 @@ ghost use Rattle.fs_model.specs.Runs.{SameBehaviour};
 ghost use Rattle.fs_model.specs.Source.{Source};
 ghost use Rattle.fs_model.specs.View.{source_of};
 ghost use Rattle.fs_model.specs.WellFormed.{is_well_formed};
-ghost use Rattle.fs_rules.specs.Spelled.{machine_of};
-ghost use Rattle.fs_rules.specs.Rules.{IsLawful};
-ghost use Rattle.line_fills.specs.Units.{units_in};
-ghost use Rattle.line_schedules.specs.Schedules.{IsWithin, schedule_of};
-ghost use Rattle.scheduled_sources.specs.Rows.{named_moves};
-ghost use Rattle.scheduled_sources.specs.Sources.{scheduled_source};
-ghost use Rattle.unit_limits.specs.Over.{over_in};
-ghost use Rattle.hls_sched.specs.Moves.{move_of, IsMoveAmong};
-ghost use Rattle.hls_sched.specs.Lines.{IsLineFrom, moves_from};
-ghost use Rattle.hls_sched.specs.Reports.{report_of, report_at, reports, KeepsLengths, IsRefused};
+ghost use Rattle.fs_rules.specs.MachineOfParts.{machine_of};
+ghost use Rattle.fs_rules.specs.Rules.{BreaksNoRule};
+ghost use Rattle.hls_line_rows.specs.ItemUnits.{units_in};
+ghost use Rattle.hls_line_schedules.specs.Schedules.{IsWithin, schedule_of};
+ghost use Rattle.hls_line_schedules.specs.SourceRows.{named_moves};
+ghost use Rattle.hls_line_schedules.specs.Sources.{scheduled_source};
+ghost use Rattle.hls_unit_limits.specs.Over.{over_in};
+ghost use Rattle.hls_sched.specs.RowMoves.{move_of, IsMoveAmong};
+ghost use Rattle.hls_sched.specs.CodeLines.{IsLineFrom, moves_from};
+ghost use Rattle.hls_sched.specs.Reports.{report_of, report_at, reports, KeepsLengths, IsNotScheduled};
 ghost use Rattle.hls_sched.specs.declared.scheduling.SchedError.TheVariants as errors;
 
 use crate::moves::{Move, add_moves};
 use crate::parts::moved_parts;
 use crate::plans::plan_line;
 use fs_ast::machine::Machine;
+use fs_ast_laws::lawful_machines::build_lawful;
 use fs_model::name::NoMemory;
 use fs_model::parts::{Parts, StateId};
-use lawful_machines::build_lawful;
-use line_tracing::arrivals::count_arrivals;
-use line_tracing::lines::{Line, firsts, trace_line};
-use scheduled_sources::laws::{a_scheduled_text_is_lawful, a_scheduled_text_spells_the_schedule};
+use hls_line_schedules::source_laws::{
+    a_scheduled_text_is_lawful, a_scheduled_text_spells_the_schedule,
+};
+use hls_line_tracing::arrivals::count_arrivals;
+use hls_line_tracing::lines::{Line, firsts, trace_line};
+use hls_unit_counts::{Unit, Units};
+use hls_unit_limits::laws::machines_within_the_units;
+use hls_unit_limits::over::over_in;
 use std::alloc::Global;
-use unit_counts::{Unit, Units};
-use unit_limits::laws::machines_within_the_units;
-use unit_limits::over::over_in;
 
 /// A line: its first state, its length, how many rows it has now, and its chain.
-#[derive(Clone, Copy, Debug, PartialEq, Eq)]
+#[derive(Clone, Copy)]
 pub struct LineReport {
     pub first: StateId,
     pub before: u32,
@@ -53,7 +55,7 @@ pub struct Scheduled {
 }
 
 /// Why a machine is not scheduled.
-#[derive(Clone, Copy, Debug, PartialEq, Eq)]
+#[derive(Clone, Copy, Debug)]
 pub enum SchedError {
     /// A transition of the state uses more of the unit than is given.
     Over { state: StateId, unit: Unit },
@@ -89,10 +91,12 @@ fn schedule_line(
     requires line { IsLineFrom m.now first.0 line.now }
     requires among { All (IsMoveAmong (length m.now.states)) out.now.items }
     ensures report { IfOk result (λ r. report_of r ≡ report_at (units_in units.now) m.now first.0) }
-    ensures moves { OnOk result ((p : Source) → map (move_of p) out.new.items ≡ map (move_of p) out.old.items ++ moves_from (units_in units.now) p m.now first.0) }
+    ensures moves { OnOk result
+        ((p : Source) → map (move_of p) out.new.items ≡ map (move_of p) out.old.items
+        ++ moves_from (units_in units.now) p m.now first.0) }
     ensures among { OnOk result (All (IsMoveAmong (length m.now.states)) out.new.items) }
 {
-    let _vars = m.vars();
+    let _vars = m.vars(); // The call tells the proof that the machine is sound.
     let plan = plan_line(alloc, m, first, line, units)?;
     add_moves(alloc, line, &plan, out)?;
     Ok(LineReport {
@@ -157,7 +161,7 @@ pub fn schedule(
     requires built { m.now ≡ machine_of (source_of parts.now) }
     ensures parts { IfOk result (λ s. source_of s.parts ≡ scheduled_source (units_in units.now) (source_of parts.now) m.now) }
     ensures formed { IfOk result (λ s. IsTrue (is_well_formed (source_of s.parts))) }
-    ensures lawful { IfOk result (λ s. IsLawful (source_of s.parts)) }
+    ensures lawful { IfOk result (λ s. BreaksNoRule (source_of s.parts)) }
     ensures spelled { IfOk result (λ s. s.machine ≡ machine_of (source_of s.parts)) }
     ensures machine { IfOk result (λ s. s.machine ≡ schedule_of (units_in units.now) m.now) }
     ensures behaves { IfOk result (λ s. SameBehaviour m.now s.machine) }
@@ -165,9 +169,9 @@ pub fn schedule(
     ensures lines { IfOk result (λ s. map report_of s.lines.items ≡ reports (units_in units.now) m.now) }
     ensures lengths { IfOk result (λ s. All (λ r. KeepsLengths (units_in units.now) m.now (report_of r)) s.lines.items) }
     ensures fits { OnOk result (over_in (units_in units.now) m.now ≡ None) }
-    ensures refused { IfErr result (λ e. IsRefused (units_in units.now) m.now e) }
+    ensures refused { IfErr result (λ e. IsNotScheduled (units_in units.now) m.now e) }
 {
-    let _vars = m.vars();
+    let _vars = m.vars(); // The call tells the proof that the machine is sound.
     if let Some((state, unit)) = over_in(m, units) {
         return Err(SchedError::Over { state, unit });
     }

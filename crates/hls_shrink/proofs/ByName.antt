@@ -3,10 +3,11 @@ use Rattle.std.proofs.Common.{◌≡◌, ℕ, zero, suc, ◌==◌, Bool, true, f
 use Rattle.std.specs.Prelude.{not, ◌&&◌, ◌||◌, Some, map, filter, slice_get}
 use Rattle.std.specs.List.{list_all, list_any, AllByRecursion}
 use Rattle.std.specs.Str.{bytes_eq}
-use Rattle.std.proofs.lemmas.Bool.{false≢true}
+use Rattle.std.proofs.lemmas.Bool.{and_from, not-true}
 use Rattle.std.proofs.lemmas.List.Folds.{list_all-append}
 use Rattle.std.proofs.lemmas.Slice.Eq.{bytes_eq-Decides}
-use Rattle.fs_model.proofs.Truth.{and_left, and_right, and_both, neither_left, neither_right, not_true}
+use Rattle.base_lemmas.proofs.Booleans.{and_first, and_second, neither_first, neither_second}
+use Rattle.base_lemmas.proofs.Lists.{bytes_eq-false_turned}
 use Rattle.fs_model.specs.declared.parts.Role.{Role}
 use Rattle.fs_model.specs.declared.parts.Role.TheVariants as roles
 use Rattle.fs_model.specs.declared.parts.Sort.{Sort}
@@ -15,14 +16,14 @@ use Rattle.fs_model.specs.declared.parts.VarInfo.{VarInfo}
 use Rattle.fs_model.specs.Runs.{Content, is_input, is_output, is_port}
 use Rattle.fs_model.specs.Source.{Declaration}
 use Rattle.fs_model.specs.WellFormed.{is_well_formed_declaration, is_well_formed_state}
-use Rattle.fs_ast.specs.Sound.{names_differ}
-use Rattle.fs_ast.specs.Spelled.{declared_by, variables_of}
+use Rattle.fs_ast.specs.SoundMachines.{names_differ}
+use Rattle.fs_ast.specs.BuiltMachine.{declared_by, variables_of}
 use Rattle.fs_runs.specs.declared.inputs.Input.{Input}
 use Rattle.fs_runs.specs.declared.inputs.Inputs.{Inputs}
 use Rattle.fs_runs.specs.Values.{content_of, sort_of}
 use Rattle.fs_runs.specs.InputValues.{Signature, signature, value_named, inputs_of, is_given, first_content}
 use Rattle.fs_runs.proofs.InputValues.{begins_given}
-use Rattle.hls_shrink.specs.Laws.{GivenByName, NoInputPorts}
+use Rattle.hls_shrink.specs.ReductionLaws.{GivenByName, NoInputPorts}
 
 abbrev names : List VarInfo → List (List ℕ)
 names vs = map (λ (v : VarInfo). v.name) vs
@@ -45,16 +46,16 @@ is_no_input_port v = not (is_input v.role && is_port v.sort)
 -- ---- the names of inputs differ
 
 not_first : (n m : List ℕ) (ms : List (List ℕ)) → is_among n (m ∷ ms) ≡ false → bytes_eq m n ≡ false
-not_first n m ms h = neither_left (bytes_eq m n) (is_among n ms) h
+not_first n m ms h = neither_first (bytes_eq m n) (is_among n ms) h
 
 not_later : (n m : List ℕ) (ms : List (List ℕ)) → is_among n (m ∷ ms) ≡ false → is_among n ms ≡ false
-not_later n m ms h = neither_right (bytes_eq m n) (is_among n ms) h
+not_later n m ms h = neither_second (bytes_eq m n) (is_among n ms) h
 
 first_alone : (n : List ℕ) (ns : List (List ℕ)) → names_differ (n ∷ ns) ≡ true → is_among n ns ≡ false
-first_alone n ns d = not_true (is_among n ns) (and_left (not (is_among n ns)) (names_differ ns) d)
+first_alone n ns d = not-true (is_among n ns) (and_first (not (is_among n ns)) (names_differ ns) d)
 
 others_differ : (n : List ℕ) (ns : List (List ℕ)) → names_differ (n ∷ ns) ≡ true → names_differ ns ≡ true
-others_differ n ns d = and_right (not (is_among n ns)) (names_differ ns) d
+others_differ n ns d = and_second (not (is_among n ns)) (names_differ ns) d
 
 kept_among : (b : Bool) (n : List ℕ) (v : VarInfo) (vs : List VarInfo) → bytes_eq v.name n ≡ false → is_among n (names vs) ≡ false
     → is_among n (names (cond b (v ∷ vs) vs)) ≡ false
@@ -69,7 +70,7 @@ none_among n (v ∷ vs) h =
 
 kept_differ : (b : Bool) (v : VarInfo) (vs : List VarInfo) → is_among v.name (names vs) ≡ false → names_differ (names vs) ≡ true
     → names_differ (names (cond b (v ∷ vs) vs)) ≡ true
-kept_differ true v vs alone rest = and_both (not (is_among v.name (names vs))) (names_differ (names vs)) (ap not alone) rest
+kept_differ true v vs alone rest = and_from (not (is_among v.name (names vs))) (names_differ (names vs)) (ap not alone) rest
 kept_differ false v vs alone rest = rest
 
 inputs_differ : (vs : List VarInfo) → names_differ (names vs) ≡ true → names_differ (names (inputs_among vs)) ≡ true
@@ -92,13 +93,6 @@ same_names items vs e = sym (names_signed items) ∙ ap (map (λ (f : Signature)
 
 -- ---- so each value is that of its name
 
-flip_no : (a b : List ℕ) → bytes_eq a b ≡ false → bytes_eq b a ≡ false
-flip_no a b h = decided (bytes_eq b a) refl
-  where
-    decided : (c : Bool) → bytes_eq b a ≡ c → bytes_eq b a ≡ false
-    decided false e = e
-    decided true e = let back : bytes_eq a b ≡ true = (bytes_eq-Decides a b).1 (sym ((bytes_eq-Decides b a).0 e)) in absurd (false≢true (sym h ∙ back))
-
 other_name : (n : List ℕ) (items : List Input) (k : ℕ) (i : Input) → is_among n (names_given items) ≡ false → slice_get items k ≡ Some i
     → bytes_eq i.name n ≡ false
 other_name n [] k i h e = absurd (cc)
@@ -117,7 +111,7 @@ value_there (x ∷ items) zero i d e =
     subst (λ (y : Input). value_named (x ∷ items) y.name ≡ Some y.value) same here
 value_there (x ∷ items) (suc k) i d e =
     let other = other_name x.name items k i (first_alone x.name (names_given items) d) e in
-    ap (λ b. cond b (Some x.value) (value_named items i.name)) (flip_no i.name x.name other)
+    ap (λ b. cond b (Some x.value) (value_named items i.name)) (bytes_eq-false_turned i.name x.name other)
     ∙ value_there items k i (others_differ x.name (names_given items) d) e
 
 -- ---- and what it says is given by name
@@ -128,14 +122,14 @@ AreGiven vs = AllByRecursion (λ (v : VarInfo). is_given v ≡ true) vs
 one_given : (b : Bool) (v : VarInfo) (vs : List VarInfo) → is_input v.role ≡ b → is_no_input_port v ≡ true → AreGiven vs → AreGiven (cond b (v ∷ vs) vs)
 one_given true v vs e here rest =
     let no_port : not (is_port v.sort) ≡ true = ap (λ b. not (b && is_port v.sort)) (sym e) ∙ here in
-    (and_both (is_input v.role) (not (is_port v.sort)) e no_port, rest)
+    (and_from (is_input v.role) (not (is_port v.sort)) e no_port, rest)
 one_given false v vs e here rest = rest
 
 all_given : (vs : List VarInfo) → list_all is_no_input_port vs ≡ true → AreGiven (inputs_among vs)
 all_given [] h = tt
 all_given (v ∷ vs) h =
-    let here = and_left (is_no_input_port v) (list_all is_no_input_port vs) h in
-    let rest = all_given vs (and_right (is_no_input_port v) (list_all is_no_input_port vs) h) in
+    let here = and_first (is_no_input_port v) (list_all is_no_input_port vs) h in
+    let rest = all_given vs (and_second (is_no_input_port v) (list_all is_no_input_port vs) h) in
     one_given (is_input v.role) v (inputs_among vs) refl here rest
 
 -- each of these has the value of its name among all
@@ -182,18 +176,18 @@ one_declaration : (r : Role) (s : Sort) (ns : List (List ℕ)) → not (is_input
     → list_all is_no_input_port (map (variable_of r s) ns) ≡ true
 one_declaration r s [] h = refl
 one_declaration r s (n ∷ ns) h =
-    and_both (not (is_input r && is_port s)) (list_all is_no_input_port (map (variable_of r s) ns)) h (one_declaration r s ns h)
+    and_from (not (is_input r && is_port s)) (list_all is_no_input_port (map (variable_of r s) ns)) h (one_declaration r s ns h)
 
 all_declarations : (ds : List Declaration) → list_all is_well_formed_declaration ds ≡ true → list_all is_no_input_port (variables_of ds) ≡ true
 all_declarations [] h = refl
 all_declarations (d ∷ ds) h =
-    let formed = and_left (is_well_formed_declaration d) (list_all is_well_formed_declaration ds) h in
-    let output = and_right (not (length d.names == 0)) (not (is_port d.sort) || is_output d.role) formed in
+    let formed = and_first (is_well_formed_declaration d) (list_all is_well_formed_declaration ds) h in
+    let output = and_second (not (length d.names == 0)) (not (is_port d.sort) || is_output d.role) formed in
     let here : list_all is_no_input_port (declared_by d) ≡ true = one_declaration d.role d.sort d.names (port_is_output d.role d.sort output) in
-    let rest = all_declarations ds (and_right (is_well_formed_declaration d) (list_all is_well_formed_declaration ds) h) in
+    let rest = all_declarations ds (and_second (is_well_formed_declaration d) (list_all is_well_formed_declaration ds) h) in
     list_all-append is_no_input_port (declared_by d) (variables_of ds)
-    ∙ and_both (list_all is_no_input_port (declared_by d)) (list_all is_no_input_port (variables_of ds)) here rest
+    ∙ and_from (list_all is_no_input_port (declared_by d)) (list_all is_no_input_port (variables_of ds)) here rest
 
 pub no_input_ports : NoInputPorts
 no_input_ports p h =
-    all_declarations p.declarations (and_left (list_all is_well_formed_declaration p.declarations) (list_all is_well_formed_state p.states) h)
+    all_declarations p.declarations (and_first (list_all is_well_formed_declaration p.declarations) (list_all is_well_formed_state p.states) h)

@@ -3,7 +3,7 @@ use Rattle.std.proofs.Common.{◌≡◌, ℕ, zero, suc, ◌+◌, ◌≤◌, Lis
 use Rattle.std.specs.Prelude.{Some, slice_get}
 use Rattle.fs_model.specs.Runs.{Content}
 use Rattle.hls_shrink.specs.declared.entries.Entry.{Entry}
-use Rattle.hls_shrink.specs.Entries.{AreEntries}
+use Rattle.hls_shrink.specs.InputEntries.{AreEntries}
 use Rattle.hls_shrink.specs.Growth.{AddsEntries}
 
 -- with the entries of the inputs that are left, a list has those of all
@@ -21,10 +21,13 @@ drop_past [] (suc k) h = refl
 drop_past (x ∷ xs) zero h = absurd (omega arith)
 drop_past (x ∷ xs) (suc k) h = drop_past xs k (omega arith)
 
-pub awaits_next : (cs : List Content) (k : ℕ) (c : Content) (old new : List Entry) → slice_get cs k ≡ Some c → AddsEntries k c old new → Awaits cs k old → Awaits cs (k + 1) new
+pub awaits_next : (cs : List Content) (k : ℕ) (c : Content) (old new : List Entry) → slice_get cs k ≡ Some c → AddsEntries k c old new → Awaits cs k old
+    → Awaits cs (k + 1) new
 awaits_next cs k c old new there adds before rest h =
-    let all : AreEntries k (c ∷ drop (k + 1) cs) (adds.own ++ rest) = record { own = adds.own; others = rest; of_first = adds.are; of_others = h; all = refl } in
-    let whole : AreEntries 0 cs (old ++ (adds.own ++ rest)) = before (adds.own ++ rest) (subst (λ xs. AreEntries k xs (adds.own ++ rest)) (sym (drop_there cs k c there)) all) in
+    let all : AreEntries k (c ∷ drop (k + 1) cs) (adds.own ++ rest) =
+    record { own = adds.own; others = rest; of_first = adds.are; of_others = h; all = refl } in
+    let whole : AreEntries 0 cs (old ++ (adds.own ++ rest)) = before (adds.own ++ rest)
+    (subst (λ xs. AreEntries k xs (adds.own ++ rest)) (sym (drop_there cs k c there)) all) in
     subst (λ es. AreEntries 0 cs es) (sym (append_assoc old adds.own rest) ∙ ap (λ es. es ++ rest) (sym adds.all)) whole
 
 pub awaits_none : (cs : List Content) (k : ℕ) (list : List Entry) → length cs ≤ k → Awaits cs k list → AreEntries 0 cs list

@@ -10,11 +10,11 @@ use Rattle.std.specs.Map.{keys_of}
 use Rattle.std.proofs.lemmas.Bool.{false≢true}
 use Rattle.std.proofs.lemmas.Bool.Decides.{Decides-int_eq}
 use Rattle.fs_model.specs.Runs.{Content, Number, Entries, Emitted}
-use Rattle.fs_runs.specs.Listing.{number_at, IsListing}
+use Rattle.fs_runs.specs.EntryLists.{listed_number, IsListing}
 use Rattle.fs_runs.proofs.Listings.{none_away, away_behind}
 use Rattle.hls_shrink.specs.declared.entries.Entry.{Entry}
-use Rattle.hls_shrink.specs.Entries.{at_input, number_entries, AreArrayEntries, AreEntriesOf, AreEntries}
-use Rattle.hls_shrink.specs.Reductions.{content_with, changed}
+use Rattle.hls_shrink.specs.InputEntries.{at_input, number_entries, AreArrayEntries, AreEntriesOf, AreEntries}
+use Rattle.hls_shrink.specs.Reductions.{content_with, with_number_at}
 
 abbrev Pair : Type 0
 Pair = ℤ × ℤ
@@ -55,9 +55,10 @@ record Replaces (i z : ℤ) (old new : List Pair) : Type 1 where
   keys : (P : ℤ → Type 0) → AllByRecursion P (keys_of old) → AllByRecursion P (keys_of new)
   rising : Rising old → Rising new
   not_zero : NoZero old → NoZero new
-  says : Rising old → (x : ℤ) → number_at new x ≡ cond (int_eq i x) z (number_at old x)
+  says : Rising old → (x : ℤ) → listed_number new x ≡ cond (int_eq i x) z (listed_number old x)
 
-keys_behind : (P : ℤ → Type 0) (xs old new : List Pair) → (AllByRecursion P (keys_of old) → AllByRecursion P (keys_of new)) → AllByRecursion P (keys_of (xs ++ old)) → AllByRecursion P (keys_of (xs ++ new))
+keys_behind : (P : ℤ → Type 0) (xs old new : List Pair) → (AllByRecursion P (keys_of old) → AllByRecursion P (keys_of new))
+    → AllByRecursion P (keys_of (xs ++ old)) → AllByRecursion P (keys_of (xs ++ new))
 keys_behind P [] old new f h = f h
 keys_behind P (x ∷ xs) old new f h = (h.0, keys_behind P xs old new f h.1)
 
@@ -68,7 +69,8 @@ last_behind P (x ∷ xs) old h = last_behind P xs old h.1
 rising_behind : (i z : ℤ) (xs old new : List Pair) → Replaces i z old new → Rising (xs ++ old) → Rising (xs ++ new)
 unfolding IsStrictlySortedBy
 rising_behind i z [] old new r h = r.rising h
-rising_behind i z (x ∷ xs) old new r h = (keys_behind (λ y. int_cmp x.0 y ≡ Less) xs old new (r.keys (λ y. int_cmp x.0 y ≡ Less)) h.0, rising_behind i z xs old new r h.1)
+rising_behind i z (x ∷ xs) old new r h =
+    (keys_behind (λ y. int_cmp x.0 y ≡ Less) xs old new (r.keys (λ y. int_cmp x.0 y ≡ Less)) h.0, rising_behind i z xs old new r h.1)
 
 not_zero_behind : (i z : ℤ) (xs old new : List Pair) → Replaces i z old new → NoZero (xs ++ old) → NoZero (xs ++ new)
 not_zero_behind i z [] old new r h = r.not_zero h
@@ -95,12 +97,13 @@ less_differs a b h =
       | false ↦ λ f. refl
     ] refl
 
-says_behind : (i z : ℤ) (xs old new : List Pair) → Replaces i z old new → Rising (xs ++ old) → (x : ℤ) → number_at (xs ++ new) x ≡ cond (int_eq i x) z (number_at (xs ++ old) x)
+says_behind : (i z : ℤ) (xs old new : List Pair) → Replaces i z old new → Rising (xs ++ old) → (x : ℤ)
+    → listed_number (xs ++ new) x ≡ cond (int_eq i x) z (listed_number (xs ++ old) x)
 unfolding IsStrictlySortedBy
 says_behind i z [] old new r h x = r.says h x
 says_behind i z (e ∷ xs) old new r h x =
     let below : int_cmp e.0 i ≡ Less = r.has (λ y. int_cmp e.0 y ≡ Less) (last_behind (λ y. int_cmp e.0 y ≡ Less) xs old h.0) in
-    elim (int_eq x e.0) as (λ b. int_eq x e.0 ≡ b → number_at (e ∷ (xs ++ new)) x ≡ cond (int_eq i x) z (number_at (e ∷ (xs ++ old)) x)) [
+    elim (int_eq x e.0) as (λ b. int_eq x e.0 ≡ b → listed_number (e ∷ (xs ++ new)) x ≡ cond (int_eq i x) z (listed_number (e ∷ (xs ++ old)) x)) [
       | true ↦ λ q.
           let here : x ≡ e.0 = (Decides-int_eq x e.0).0 q in
           let other : int_eq i x ≡ false = ap (int_eq i) here ∙ less_differs e.0 i below in
@@ -116,7 +119,7 @@ replaced i z n ys other = record {
   rising = λ h. h;
   not_zero = λ h. (other, h.1);
   says = λ h x.
-      elim (int_eq x i) as (λ b. int_eq x i ≡ b → number_at ((i, n) ∷ ys) x ≡ cond (int_eq i x) n (number_at ((i, z) ∷ ys) x)) [
+      elim (int_eq x i) as (λ b. int_eq x i ≡ b → listed_number ((i, n) ∷ ys) x ≡ cond (int_eq i x) n (listed_number ((i, z) ∷ ys) x)) [
         | true ↦ λ q. rw q (rw (int_eq_swapped x i true q) refl)
         | false ↦ λ q. rw q (rw (int_eq_swapped x i false q) refl)
       ] refl;
@@ -131,7 +134,7 @@ left_out i z ys = record {
   rising = λ h. h.1;
   not_zero = λ h. h.1;
   says = λ h x.
-      elim (int_eq x i) as (λ b. int_eq x i ≡ b → number_at ys x ≡ cond (int_eq i x) (pos 0) (number_at ((i, z) ∷ ys) x)) [
+      elim (int_eq x i) as (λ b. int_eq x i ≡ b → listed_number ys x ≡ cond (int_eq i x) (pos 0) (listed_number ((i, z) ∷ ys) x)) [
         | true ↦ λ q.
             let here : x ≡ i = (Decides-int_eq x i).0 q in
             rw (int_eq_swapped x i true q) (none_away x ys (away_behind x i ys here h.0))
@@ -155,7 +158,8 @@ record LowerListing (f : ℤ → ℤ) (bound : ℕ) : Type 0 where
   lists : IsListing f listing
   less : array_size listing < bound
 
-lower_listing : (f : ℤ → ℤ) (i z n : ℤ) (xs ys : List Pair) → IsListing f (xs ++ (i, z) ∷ ys) → unsigned_abs n < unsigned_abs z → LowerListing (put f i n) (array_size (xs ++ (i, z) ∷ ys))
+lower_listing : (f : ℤ → ℤ) (i z n : ℤ) (xs ys : List Pair) → IsListing f (xs ++ (i, z) ∷ ys) → unsigned_abs n < unsigned_abs z
+    → LowerListing (put f i n) (array_size (xs ++ (i, z) ∷ ys))
 lower_listing f i z n xs ys h low =
     let before = array_size_joined xs ((i, z) ∷ ys) in
     elim (int_eq n (pos 0)) as (λ b. int_eq n (pos 0) ≡ b → LowerListing (put f i n) (array_size (xs ++ (i, z) ∷ ys))) [
@@ -227,11 +231,16 @@ record IsNumberEntry (k : ℕ) (z : ℤ) (e : Entry) : Type 0 where
   own : e.number ≡ z
   not_zero : z ≢ pos 0
 
-number_entry : (k : ℕ) (z : ℤ) (b : Bool) (xs : List Entry) (e : Entry) (ys : List Entry) → int_eq z (pos 0) ≡ b → cond b [] (at_input k (pos 0, z) ∷ []) ≡ xs ++ e ∷ ys → IsNumberEntry k z e
+number_entry : (k : ℕ) (z : ℤ) (b : Bool) (xs : List Entry) (e : Entry) (ys : List Entry) → int_eq z (pos 0) ≡ b
+    → cond b [] (at_input k (pos 0, z) ∷ []) ≡ xs ++ e ∷ ys → IsNumberEntry k z e
 number_entry k z true xs e ys t q = absurd (no_entry xs e ys q)
 number_entry k z false [] e ys t q =
     let same : at_input k (pos 0, z) ≡ e = cc in
-    record { here = ap (λ (x : Entry). x.input) (sym same); own = ap (λ (x : Entry). x.number) (sym same); not_zero = λ none. false≢true (sym t ∙ (Decides-int_eq z (pos 0)).1 none) }
+    record {
+      here = ap (λ (x : Entry). x.input) (sym same);
+      own = ap (λ (x : Entry). x.number) (sym same);
+      not_zero = λ none. false≢true (sym t ∙ (Decides-int_eq z (pos 0)).1 none);
+    }
 number_entry k z false (x ∷ xs) e ys t q = let rest : [] ≡ xs ++ e ∷ ys = cc in absurd (no_entry xs e ys rest)
 
 -- the place of an entry in a listing
@@ -255,7 +264,8 @@ not_zero_at : (xs : List Pair) (p : Pair) (ys : List Pair) → NoZero (xs ++ p �
 not_zero_at [] p ys h = h.0
 not_zero_at (x ∷ xs) p ys h = not_zero_at xs p ys h.1
 
-lower_array : (k : ℕ) (f : ℤ → ℤ) (own : List Entry) (e : Entry) (n : ℤ) (a : AreArrayEntries k f own) → ListedAt k a.listing e → IsNearer n e.number → LowerOf k (Entries f) e n (size own)
+lower_array : (k : ℕ) (f : ℤ → ℤ) (own : List Entry) (e : Entry) (n : ℤ) (a : AreArrayEntries k f own) → ListedAt k a.listing e → IsNearer n e.number
+    → LowerOf k (Entries f) e n (size own)
 lower_array k f own e n a at low =
     let p = at.pair in
     let index : p.0 ≡ e.index = ap (λ (x : Entry). x.index) at.is in
@@ -276,7 +286,8 @@ lower_array k f own e n a at low =
 whole_size : (own xs : List Entry) (e : Entry) (ys : List Entry) → own ≡ xs ++ e ∷ ys → unsigned_abs e.number ≤ size own
 whole_size own xs e ys q = let all : size own ≡ size xs + size (e ∷ ys) = ap size q ∙ size_joined xs (e ∷ ys) in omega arith
 
-lower_of : (k : ℕ) (c : Content) (own xs : List Entry) (e : Entry) (ys : List Entry) (n : ℤ) → AreEntriesOf k c own → own ≡ xs ++ e ∷ ys → IsNearer n e.number → LowerOf k c e n (size own)
+lower_of : (k : ℕ) (c : Content) (own xs : List Entry) (e : Entry) (ys : List Entry) (n : ℤ) → AreEntriesOf k c own → own ≡ xs ++ e ∷ ys → IsNearer n e.number
+    → LowerOf k c e n (size own)
 lower_of k (Number z) own xs e ys n are q low =
     let own_entry = number_entry k z (int_eq z (pos 0)) xs e ys refl (sym are ∙ q) in
     let near : unsigned_abs n < unsigned_abs e.number = low (λ none. own_entry.not_zero (sym own_entry.own ∙ none)) in
@@ -293,10 +304,11 @@ record Lower (k : ℕ) (cs : List Content) (e : Entry) (n : ℤ) (bound : ℕ) :
   m : ℕ
   place : e.input ≡ k + m
   lowered : List Entry
-  are : AreEntries k (changed cs m e.index n) lowered
+  are : AreEntries k (with_number_at cs m e.index n) lowered
   less : size lowered < bound
 
-lower : (k : ℕ) (cs : List Content) (es xs : List Entry) (e : Entry) (ys : List Entry) (n : ℤ) → AreEntries k cs es → es ≡ xs ++ e ∷ ys → IsNearer n e.number → Lower k cs e n (size es)
+lower : (k : ℕ) (cs : List Content) (es xs : List Entry) (e : Entry) (ys : List Entry) (n : ℤ) → AreEntries k cs es → es ≡ xs ++ e ∷ ys → IsNearer n e.number
+    → Lower k cs e n (size es)
 lower k [] es xs e ys n are q low = absurd (no_entry xs e ys (sym are ∙ q))
 lower k (c ∷ cs) es xs e ys n are q low =
     let count : size es ≡ size are.own + size are.others = ap size are.all ∙ size_joined are.own are.others in
@@ -330,11 +342,12 @@ lower k (c ∷ cs) es xs e ys n are q low =
 -- the entries of all inputs with another number where an entry is
 pub record LowerEntries (cs : List Content) (e : Entry) (n : ℤ) (bound : ℕ) : Type 0 where
   pub lowered : List Entry
-  pub are : AreEntries 0 (changed cs e.input e.index n) lowered
+  pub are : AreEntries 0 (with_number_at cs e.input e.index n) lowered
   pub less : size lowered < bound
 
-pub lower_entries : (cs : List Content) (es xs : List Entry) (e : Entry) (ys : List Entry) (n : ℤ) → AreEntries 0 cs es → es ≡ xs ++ e ∷ ys → IsNearer n e.number → LowerEntries cs e n (size es)
+pub lower_entries : (cs : List Content) (es xs : List Entry) (e : Entry) (ys : List Entry) (n : ℤ) → AreEntries 0 cs es → es ≡ xs ++ e ∷ ys
+    → IsNearer n e.number → LowerEntries cs e n (size es)
 lower_entries cs es xs e ys n are q low =
     let l = lower 0 cs es xs e ys n are q low in
     let place : l.m ≡ e.input = omega (arith, l.place) in
-    record { lowered = l.lowered; are = subst (λ m. AreEntries 0 (changed cs m e.index n) l.lowered) place l.are; less = l.less }
+    record { lowered = l.lowered; are = subst (λ m. AreEntries 0 (with_number_at cs m e.index n) l.lowered) place l.are; less = l.less }

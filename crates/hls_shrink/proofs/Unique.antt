@@ -1,12 +1,13 @@
 -- The chain of first reductions has one end, and each of its steps lowers the sum of the absolute values.
-use Rattle.std.proofs.Common.{◌≡◌, ℕ, zero, suc, ◌+◌, ◌<◌, Bool, true, false, cond, ℤ, pos, negsuc, List, [], ◌∷◌, ◌++◌, refl, sym, ◌∙◌, ap, subst, arith, inl, inr}
+use Rattle.std.proofs.Common.{◌≡◌, ℕ, zero, suc, ◌+◌, ◌<◌, Bool, true, false, cond, ℤ, pos, negsuc, List, [], ◌∷◌, ◌++◌, refl, sym, ◌∙◌, ap, subst, arith, inl}
+use Rattle.std.proofs.Common.{inr}
 use Rattle.std.specs.Prelude.{unsigned_abs, int_div, neg_ℤ, map, ◌⊎◌, ◌/◌}
 use Rattle.std.proofs.Math.Nat.{div-mul-le_self}
 use Rattle.std.proofs.lemmas.Bool.Decides.{nat_tests}
 use Rattle.fs_model.specs.Runs.{Content, Number, Entries, Emitted}
 use Rattle.fs_show.proofs.Listed.{listing_once}
 use Rattle.hls_shrink.specs.declared.entries.Entry.{Entry}
-use Rattle.hls_shrink.specs.Entries.{at_input, AreEntriesOf, AreEntries}
+use Rattle.hls_shrink.specs.InputEntries.{at_input, AreEntriesOf, AreEntries}
 use Rattle.hls_shrink.specs.Reductions.{is_beyond_one, contents_with, reductions_at, reductions}
 use Rattle.hls_shrink.specs.Shrunk.{IsFirst, IsFirstReduction, IsLeast, EndsAfter, EndsIn}
 use Rattle.hls_shrink.proofs.First.{first_once, first_or_none}
@@ -91,7 +92,8 @@ record ReducedAt (cs : List Content) (e : Entry) (r : List Content) : Type 0 whe
   nearer : IsNearer number e.number
   made : r ≡ contents_with cs e number
 
-reduced_half : (P : List Content → Type 0) (cs : List Content) (e : Entry) (r : List Content) (b : Bool) → is_beyond_one e.number ≡ b → IsFirst P (map (contents_with cs e) (cond b (int_div e.number (pos 2) ∷ []) [])) r → ReducedAt cs e r
+reduced_half : (P : List Content → Type 0) (cs : List Content) (e : Entry) (r : List Content) (b : Bool) → is_beyond_one e.number ≡ b
+    → IsFirst P (map (contents_with cs e) (cond b (int_div e.number (pos 2) ∷ []) [])) r → ReducedAt cs e r
 reduced_half P cs e r true t (inl a) = record { number = int_div e.number (pos 2); nearer = λ _. half_nearer e.number t; made = sym a.1 }
 reduced_half P cs e r true t (inr b) = absurd b.1
 reduced_half P cs e r false t h = absurd h
@@ -127,7 +129,8 @@ reduced P cs (e ∷ es) r h =
     ]
 
 -- the first reduction of contents has a lower sum
-pub smaller : (P : List Content → Type 0) (cs next : List Content) (es fs : List Entry) → AreEntries 0 cs es → IsFirst P (reductions cs es) next → AreEntries 0 next fs → size fs < size es
+pub smaller : (P : List Content → Type 0) (cs next : List Content) (es fs : List Entry) → AreEntries 0 cs es → IsFirst P (reductions cs es) next
+    → AreEntries 0 next fs → size fs < size es
 smaller P cs next es fs are first those =
     let r = reduced P cs es next first in
     let l = lower_entries cs es r.before r.entry r.after r.at.number are r.split r.at.nearer in

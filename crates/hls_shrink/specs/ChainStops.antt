@@ -2,10 +2,10 @@
 use Rattle.std.specs.Prelude.{◌≡◌, ◌≢◌, List}
 use Rattle.fs_model.specs.Machines.{Fsmd}
 use Rattle.fs_pair.specs.Positions.{positions}
-use Rattle.bisimulation.specs.Tables.{Node}
+use Rattle.cert_bisimulation.specs.Tables.{Node}
 use Rattle.sym_facts.specs.Facts.{Fact}
 use Rattle.sym_facts.specs.Starts.{start_fact}
-use Rattle.certificates.specs.Obligations.{Verdict, Yes, verdict}
+use Rattle.cert_model.specs.Obligations.{Verdict, Yes, verdict}
 use Rattle.cert_check.specs.View.{verdict_in}
 use Rattle.hls_shrink.specs.declared.chain.ChainStop.{ChainStop}
 use Rattle.hls_shrink.specs.declared.chain.ChainStop.TheVariants as stops

@@ -2,7 +2,7 @@
 use Rattle.std.specs.Prelude.{◌≡◌, ℕ, List, ◌++◌}
 use Rattle.fs_model.specs.Runs.{Content}
 use Rattle.hls_shrink.specs.declared.entries.Entry.{Entry}
-use Rattle.hls_shrink.specs.Entries.{AreEntriesOf}
+use Rattle.hls_shrink.specs.InputEntries.{AreEntriesOf}
 
 -- the entries of what an input is given are appended
 pub record AddsEntries (input : ℕ) (c : Content) (old new : List Entry) : Type 0 where

@@ -1,8 +1,8 @@
 pub mod ChainStops
 pub mod Chains
-pub mod Entries
+pub mod InputEntries
 pub mod Given
 pub mod Growth
-pub mod Laws
+pub mod ReductionLaws
 pub mod Reductions
 pub mod Shrunk

@@ -20,14 +20,14 @@ content_with (Entries f) index number = Entries (λ i. cond (int_eq index i) num
 content_with (Emitted zs) index number = Emitted zs
 
 -- contents with another number at an index of an input
-abbrev pub changed : List Content → (input : ℕ) → (index number : ℤ) → List Content
-changed [] input index number = []
-changed (c ∷ cs) zero index number = content_with c index number ∷ cs
-changed (c ∷ cs) (suc input) index number = c ∷ changed cs input index number
+abbrev pub with_number_at : List Content → (input : ℕ) → (index number : ℤ) → List Content
+with_number_at [] input index number = []
+with_number_at (c ∷ cs) zero index number = content_with c index number ∷ cs
+with_number_at (c ∷ cs) (suc input) index number = c ∷ with_number_at cs input index number
 
 -- contents with another number where an entry is
 abbrev pub contents_with : List Content → Entry → (number : ℤ) → List Content
-contents_with cs e number = changed cs e.input e.index number
+contents_with cs e number = with_number_at cs e.input e.index number
 
 -- the reductions of contents at an entry, in order
 abbrev pub reductions_at : List Content → Entry → List (List Content)

@@ -8,12 +8,12 @@ use Rattle.fs_trials.specs.Candidates.{inputs_told}
 use Rattle.fs_trials.specs.Differences.{ShowsDifference, AreApart}
 use Rattle.hls_shrink.specs.declared.entries.Entry.{Entry}
 use Rattle.hls_shrink.specs.declared.shrinking.Small.{Small}
-use Rattle.hls_shrink.specs.Entries.{AreEntries}
+use Rattle.hls_shrink.specs.InputEntries.{AreEntries}
 use Rattle.hls_shrink.specs.Reductions.{reductions}
 
 -- what the left machine's inputs are given in order shows a difference
-abbrev pub Shows : Fsmd → Fsmd → (limit : ℕ) → List Content → Type 0
-Shows a b limit cs = ShowsDifference a b (inputs_told (input_signatures a.variables) cs) limit
+abbrev pub ShowDifference : Fsmd → Fsmd → (limit : ℕ) → List Content → Type 0
+ShowDifference a b limit cs = ShowsDifference a b (inputs_told (input_signatures a.variables) cs) limit
 
 -- x is the first of a list with P
 abbrev pub IsFirst : (P : List Content → Type 0) → List (List Content) → List Content → Type 0
@@ -37,7 +37,7 @@ pub record IsLeast (P : List Content → Type 0) (cs : List Content) : Type 0 wh
   pub none : NoneHas P (reductions cs entries)
 
 -- contents from which a step leads on
-pub record LeadsOn (Step Rest : List Content → Type 0) : Type 0 where
+pub record StepLeadsOn (Step Rest : List Content → Type 0) : Type 0 where
   pub next : List Content
   pub step : Step next
   pub rest : Rest next
@@ -45,7 +45,7 @@ pub record LeadsOn (Step Rest : List Content → Type 0) : Type 0 where
 -- so many first reductions with P lead from contents to an end, and no reduction of it has P
 abbrev pub EndsAfter : (P : List Content → Type 0) → ℕ → (cs end : List Content) → Type 0
 EndsAfter P zero cs end = (cs ≡ end) × IsLeast P end
-EndsAfter P (suc n) cs end = LeadsOn (IsFirstReduction P cs) (λ next. EndsAfter P n next end)
+EndsAfter P (suc n) cs end = StepLeadsOn (IsFirstReduction P cs) (λ next. EndsAfter P n next end)
 
 -- the chain of first reductions with P ends there
 pub record EndsIn (P : List Content → Type 0) (cs end : List Content) : Type 0 where

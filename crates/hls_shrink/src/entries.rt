@@ -4,7 +4,7 @@ ghost use Rattle.std.specs.Prelude.{◌≡◌, ◌++◌, map, IfOk};
 ghost use Rattle.std.specs.Result.{OnOk};
 ghost use Rattle.fs_runs.specs.Values.{content_of, sort_of};
 ghost use Rattle.fs_runs.specs.InputValues.{signatures_of, input_signatures, Serves};
-ghost use Rattle.hls_shrink.specs.Entries.{contents_in, AreEntries, at_input, number_entries};
+ghost use Rattle.hls_shrink.specs.InputEntries.{contents_in, AreEntries, at_input, number_entries};
 ghost use Rattle.hls_shrink.specs.Growth.{AddsEntries};
 ghost use Rattle.hls_shrink.specs.Reductions.{content_with, contents_with};
 
@@ -97,7 +97,7 @@ pub fn with_number(
     ensures serves { IfOk result (λ ins. Serves (signatures_of ins) m.now) }
     ensures contents { IfOk result (λ ins. contents_in ins ≡ contents_with (contents_in inputs.now) entry.now number.now) }
 {
-    let _vars = m.vars();
+    let _vars = m.vars(); // The call tells the proof that the machine is sound.
     let mut copy = inputs.try_clone(alloc)?;
     if inputs.sort(entry.input).is_none() {
         return Ok(copy);

@@ -1,6 +1,6 @@
 //! Laws of the chain of first reductions, and of what inputs are given. The functions do nothing.
 
-ghost use Rattle.hls_shrink.specs.Laws.{OneList, OneEnd, EndIsLeast, GivenByName, NoInputPorts};
+ghost use Rattle.hls_shrink.specs.ReductionLaws.{OneList, OneChainEnd, EndIsLeast, GivenByName, NoInputPorts};
 
 /// What inputs are given has one list of entries.
 pub fn inputs_have_one_list_of_entries()
@@ -9,7 +9,7 @@ pub fn inputs_have_one_list_of_entries()
 
 /// The chain of first reductions from inputs that show a difference has one end.
 pub fn a_chain_of_first_reductions_has_one_end()
-    ensures { OneEnd }
+    ensures { OneChainEnd }
 {}
 
 /// No reduction of the end of a chain of first reductions shows a difference.

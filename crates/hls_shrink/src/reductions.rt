@@ -3,9 +3,9 @@
 ghost use Rattle.std.specs.Prelude.{◌≡◌, ◌≤◌, int_div, pos, IfOk, IfSome, None};
 ghost use Rattle.fs_pair.specs.Interfaces.{interface_fault};
 ghost use Rattle.fs_runs.specs.InputValues.{signatures_of, input_signatures};
-ghost use Rattle.hls_shrink.specs.Entries.{contents_in};
+ghost use Rattle.hls_shrink.specs.InputEntries.{contents_in};
 ghost use Rattle.hls_shrink.specs.Reductions.{contents_with, reductions_at, reductions, is_beyond_one};
-ghost use Rattle.hls_shrink.specs.Shrunk.{Shows, IsFirst, NoneHas, IsSmall};
+ghost use Rattle.hls_shrink.specs.Shrunk.{ShowDifference, IsFirst, NoneHas, IsSmall};
 
 use crate::entries::{Entry, with_number};
 use crate::shrinking::Small;
@@ -27,9 +27,13 @@ pub fn first_reduction(
     requires steps { 1 ≤ steps }
     requires interfaces { interface_fault a.now b.now ≡ None }
     requires inputs { signatures_of inputs.now ≡ input_signatures a.now.variables }
-    ensures some { IfOk result (λ o. IfSome o (λ s. IsFirst (Shows a.now b.now steps) (reductions (contents_in inputs.now) entries.now) (contents_in s.inputs))) }
+    ensures some { IfOk result
+        (λ o. IfSome o
+        (λ s. IsFirst (ShowDifference a.now b.now steps) (reductions (contents_in inputs.now) entries.now)
+        (contents_in s.inputs))) }
     ensures small { IfOk result (λ o. IfSome o (λ s. IsSmall a.now b.now steps s)) }
-    ensures none { IfOk result (λ o. o ≡ None → NoneHas (Shows a.now b.now steps) (reductions (contents_in inputs.now) entries.now)) }
+    ensures none { IfOk result
+        (λ o. o ≡ None → NoneHas (ShowDifference a.now b.now steps) (reductions (contents_in inputs.now) entries.now)) }
 {
     for entry in entries {
         if let Some(small) = reduced(alloc, a, b, inputs, entry, steps)? {
@@ -51,9 +55,13 @@ fn reduced(
     requires steps { 1 ≤ steps }
     requires interfaces { interface_fault a.now b.now ≡ None }
     requires inputs { signatures_of inputs.now ≡ input_signatures a.now.variables }
-    ensures some { IfOk result (λ o. IfSome o (λ s. IsFirst (Shows a.now b.now steps) (reductions_at (contents_in inputs.now) entry.now) (contents_in s.inputs))) }
+    ensures some { IfOk result
+        (λ o. IfSome o
+        (λ s. IsFirst (ShowDifference a.now b.now steps) (reductions_at (contents_in inputs.now) entry.now)
+        (contents_in s.inputs))) }
     ensures small { IfOk result (λ o. IfSome o (λ s. IsSmall a.now b.now steps s)) }
-    ensures none { IfOk result (λ o. o ≡ None → NoneHas (Shows a.now b.now steps) (reductions_at (contents_in inputs.now) entry.now)) }
+    ensures none { IfOk result
+        (λ o. o ≡ None → NoneHas (ShowDifference a.now b.now steps) (reductions_at (contents_in inputs.now) entry.now)) }
 {
     if let Some(small) = tried(alloc, a, b, inputs, entry, &0, steps)? {
         return Ok(Some(small));
@@ -91,9 +99,11 @@ fn tried(
     requires steps { 1 ≤ steps }
     requires interfaces { interface_fault a.now b.now ≡ None }
     requires inputs { signatures_of inputs.now ≡ input_signatures a.now.variables }
-    ensures contents { IfOk result (λ o. IfSome o (λ s. contents_in s.inputs ≡ contents_with (contents_in inputs.now) entry.now number.now)) }
+    ensures contents { IfOk result
+        (λ o. IfSome o (λ s. contents_in s.inputs ≡ contents_with (contents_in inputs.now) entry.now number.now)) }
     ensures small { IfOk result (λ o. IfSome o (λ s. IsSmall a.now b.now steps s)) }
-    ensures none { IfOk result (λ o. o ≡ None → ¬ Shows a.now b.now steps (contents_with (contents_in inputs.now) entry.now number.now)) }
+    ensures none { IfOk result
+        (λ o. o ≡ None → ¬ ShowDifference a.now b.now steps (contents_with (contents_in inputs.now) entry.now number.now)) }
 {
     let changed = with_number(alloc, a, inputs, entry, number)?;
     match differing_ends(alloc, a, b, &changed, steps)? {

@@ -4,8 +4,8 @@ ghost use Rattle.std.specs.Prelude.{◌≡◌, ◌≤◌, IfOk, None};
 ghost use Rattle.fs_pair.specs.Interfaces.{interface_fault};
 ghost use Rattle.fs_runs.specs.InputValues.{signatures_of, input_signatures, inputs_of};
 ghost use Rattle.fs_trials.specs.Differences.{ShowsDifference, AreApart};
-ghost use Rattle.hls_shrink.specs.Entries.{contents_in};
-ghost use Rattle.hls_shrink.specs.Shrunk.{Shows, IsLeast, IsSmall, EndsIn};
+ghost use Rattle.hls_shrink.specs.InputEntries.{contents_in};
+ghost use Rattle.hls_shrink.specs.Shrunk.{ShowDifference, IsLeast, IsSmall, EndsIn};
 
 use crate::entries::entries;
 use crate::reductions::first_reduction;
@@ -47,8 +47,8 @@ pub fn shrink(
     requires inputs { signatures_of inputs.now ≡ input_signatures a.now.variables }
     requires shows { ShowsDifference a.now b.now (inputs_of inputs.now) steps }
     ensures signatures { IfOk result (λ s. signatures_of s.inputs ≡ input_signatures a.now.variables) }
-    ensures end { IfOk result (λ s. EndsIn (Shows a.now b.now steps) (contents_in inputs.now) (contents_in s.inputs)) }
-    ensures least { IfOk result (λ s. IsLeast (Shows a.now b.now steps) (contents_in s.inputs)) }
+    ensures end { IfOk result (λ s. EndsIn (ShowDifference a.now b.now steps) (contents_in inputs.now) (contents_in s.inputs)) }
+    ensures least { IfOk result (λ s. IsLeast (ShowDifference a.now b.now steps) (contents_in s.inputs)) }
     ensures shows { IfOk result (λ s. ShowsDifference a.now b.now (inputs_of s.inputs) steps) }
     ensures ends { IfOk result (λ s. AreApart a.now b.now (inputs_of s.inputs) steps s.left s.right) }
 {
@@ -76,7 +76,7 @@ fn started(
     ensures contents { IfOk result (λ s. contents_in s.inputs ≡ contents_in inputs.now) }
     ensures small { IfOk result (λ s. IsSmall a.now b.now steps s) }
 {
-    let _vars = a.vars();
+    let _vars = a.vars(); // The call tells the proof that the machine is sound.
     let copy = inputs.try_clone(alloc)?;
     match differing_ends(alloc, a, b, &copy, steps)? {
         Some((left, right)) => Ok(Small {

@@ -1,14 +1,14 @@
 -- New atoms.
 use Rattle.std.proofs.Common.{◌≡◌, ◌<◌, ◌^◌, ◌≤◌, ℤ, Bool, true, false, ◌&&◌, not, unsigned_abs, arith, ap, ◌∙◌, Option, None, Some, MatchOption}
-use Rattle.std.proofs.lemmas.Bool.{leb-true}
-use Rattle.nf_terms.specs.Terms.{Polynomial, Quotient, Remainder, One, Times, Zero, Plus}
+use Rattle.std.proofs.lemmas.Bool.{leb-true, and_from}
+use Rattle.base_lemmas.proofs.Booleans.{and_first}
+use Rattle.nf_terms.specs.NormalTerms.{Polynomial, Quotient, Remainder, One, Times, Zero, Plus}
 use Rattle.nf_terms.specs.Measures.{weight_of}
 use Rattle.nf_terms.specs.Normal.{IsNormal, ordered, is_constant, constant_part, is_light, narrow_inside}
-use Rattle.nf_terms.specs.Limits.{weight_limit}
-use Rattle.nf_terms.proofs.Tests.{and_left, and_both}
+use Rattle.nf_terms.specs.TermLimits.{weight_limit}
 use Rattle.nf_terms.specs.Normal.{constant_sum}
 use Rattle.nf_sums.proofs.Constants.{constant_is}
-use Rattle.nf_arrays.specs.Atoms.{IsNewAtom}
+use Rattle.nf_arrays.specs.NewAtoms.{IsNewAtom}
 
 pub constant_light : (p : Polynomial) → unsigned_abs (constant_part p) ≤ weight_of p
 constant_light Zero = omega arith
@@ -17,14 +17,21 @@ constant_light (Plus (Times a m) c p) = omega (arith, constant_light p)
 
 -- the number that a normal polynomial is
 pub constant_number : (p : Polynomial) (c : ℤ) → IsNormal p → c ≡ constant_part p → unsigned_abs c < 2 ^ 127
-constant_number p c n e = omega (arith, constant_light p, ap unsigned_abs e, leb-true (weight_of p) weight_limit (and_left (is_light p) (narrow_inside p) n.narrow))
+constant_number p c n e = omega (
+  arith,
+  constant_light p,
+  ap unsigned_abs e,
+  leb-true (weight_of p) weight_limit (and_first (is_light p) (narrow_inside p) n.narrow),
+)
 
 -- the number that a normal polynomial is: the sum of its constants
-pub number_sum : (p : Polynomial) (o : Option ℤ) → IsNormal p → MatchOption o (is_constant p ≡ false) (λ c. (is_constant p ≡ true) × (c ≡ constant_part p)) → MatchOption o (is_constant p ≡ false) (λ c. c ≡ constant_sum p)
+pub number_sum : (p : Polynomial) (o : Option ℤ) → IsNormal p → MatchOption o (is_constant p ≡ false) (λ c. (is_constant p ≡ true) × (c ≡ constant_part p))
+    → MatchOption o (is_constant p ≡ false) (λ c. c ≡ constant_sum p)
 number_sum p None n h = h
 number_sum p (Some c) n h = h.1 ∙ constant_is p n.ordered
 
-pub number_small : (p : Polynomial) (o : Option ℤ) → IsNormal p → MatchOption o (is_constant p ≡ false) (λ c. (is_constant p ≡ true) × (c ≡ constant_part p)) → MatchOption o (is_constant p ≡ false) (λ c. unsigned_abs c < 2 ^ 127)
+pub number_small : (p : Polynomial) (o : Option ℤ) → IsNormal p → MatchOption o (is_constant p ≡ false) (λ c. (is_constant p ≡ true) × (c ≡ constant_part p))
+    → MatchOption o (is_constant p ≡ false) (λ c. unsigned_abs c < 2 ^ 127)
 number_small p None n h = h
 number_small p (Some c) n h = constant_number p c n h.1
 
@@ -36,7 +43,7 @@ and_deep false b c d p q = cc
 module _ (p q : Polynomial) (m : IsNormal p) (n : IsNormal q) (h : is_constant p && is_constant q ≡ false) where
   pub new_quotient : IsNewAtom (Quotient p q)
   new_quotient = record {
-    in_order = and_both (ordered p && ordered q) (not (is_constant p && is_constant q)) (and_both (ordered p) (ordered q) m.ordered n.ordered) (ap not h);
+    in_order = and_from (ordered p && ordered q) (not (is_constant p && is_constant q)) (and_from (ordered p) (ordered q) m.ordered n.ordered) (ap not h);
     narrow = and_deep (is_light p) (narrow_inside p) (is_light q) (narrow_inside q) m.narrow n.narrow;
     size = omega (arith, m.small, n.small);
     depth = omega (arith, m.shallow, n.shallow);
@@ -44,7 +51,7 @@ module _ (p q : Polynomial) (m : IsNormal p) (n : IsNormal q) (h : is_constant p
 
   pub new_remainder : IsNewAtom (Remainder p q)
   new_remainder = record {
-    in_order = and_both (ordered p && ordered q) (not (is_constant p && is_constant q)) (and_both (ordered p) (ordered q) m.ordered n.ordered) (ap not h);
+    in_order = and_from (ordered p && ordered q) (not (is_constant p && is_constant q)) (and_from (ordered p) (ordered q) m.ordered n.ordered) (ap not h);
     narrow = and_deep (is_light p) (narrow_inside p) (is_light q) (narrow_inside q) m.narrow n.narrow;
     size = omega (arith, m.small, n.small);
     depth = omega (arith, m.shallow, n.shallow);

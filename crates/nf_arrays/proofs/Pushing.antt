@@ -1,11 +1,11 @@
 -- Lists with one more item.
-use Rattle.std.proofs.Common.{◌≡◌, ◌+◌, ℤ, max, List, [], ◌∷◌, ◌++◌, map, append_assoc, arith, refl, ap, sym, ◌∙◌}
-use Rattle.nf_terms.specs.Terms.{Polynomial}
+use Rattle.std.proofs.Common.{◌≡◌, ◌+◌, max, List, [], ◌∷◌, ◌++◌, map, append_assoc, arith, refl, ap, sym, ◌∙◌}
+use Rattle.nf_terms.specs.NormalTerms.{Polynomial}
 use Rattle.nf_terms.specs.Measures.{size_of, depth_of}
-use Rattle.nf_terms.specs.Normal.{IsNormal}
-use Rattle.nf_terms.specs.Meaning.{Valuation, value_of, items_of_base, items_in}
-use Rattle.nf_terms.specs.Lists.{ListTerm, size_of_items, size_of_list, depth_of_items, depth_of_list, AreNormal}
+use Rattle.nf_terms.specs.TermMeaning.{Valuation, value_of, items_of_base, items_in}
+use Rattle.nf_terms.specs.Lists.{ListTerm, size_of_items, size_of_list, depth_of_items, depth_of_list}
 use Rattle.nf_terms.specs.Computed.{Done}
+use Rattle.nf_terms.proofs.Items.{pushed_normal}
 use Rattle.nf_sums.proofs.Values.{small_is}
 use Rattle.nf_arrays.specs.Pushes.{with_last_item, pushed}
 
@@ -17,11 +17,7 @@ pub depth-more : (ps : List Polynomial) (p : Polynomial) → depth_of_items (ps 
 depth-more [] p = omega arith
 depth-more (q ∷ ps) p = omega (arith, depth-more ps p)
 
-pub normal-more : (ps : List Polynomial) (p : Polynomial) → AreNormal ps → IsNormal p → AreNormal (ps ++ p ∷ [])
-normal-more [] p h n = (n, tt)
-normal-more (q ∷ ps) p h n = (h.0, normal-more ps p h.1 n)
-
-pub ruleset pushing = (size-more, depth-more, normal-more)
+pub ruleset pushing = (size-more, depth-more, pushed_normal)
 
 values_more : (w : Valuation) (ps : List Polynomial) (p : Polynomial) → map (value_of w) (ps ++ p ∷ []) ≡ map (value_of w) ps ++ value_of w p ∷ []
 values_more w [] p = refl

@@ -2,7 +2,7 @@
 use Rattle.std.proofs.Common.{◌≡◌, ◌+◌, ◌≤◌, ◌&&◌, not, arith, subst, Bool, true, false, cond, List, [], ◌∷◌, ◌++◌, map, refl, ap, sym, ◌∙◌}
 use Rattle.std.proofs.Common.{append_assoc}
 use Rattle.std.proofs.lemmas.List.{append-nil}
-use Rattle.nf_terms.specs.Terms.{Polynomial, ArrayTerm, Writes, base_of, writes_over, Read, Over, NoWrites, Write, writes_of}
+use Rattle.nf_terms.specs.NormalTerms.{Polynomial, ArrayTerm, Writes, base_of, writes_over, Read, Over, NoWrites, Write, writes_of}
 use Rattle.nf_terms.specs.Order.{same_polynomial}
 use Rattle.nf_terms.specs.Measures.{size_of, size_of_writes}
 use Rattle.nf_terms.specs.Normal.{IsNormal, IsNormalArray, ordered, ordered_writes, stays_read, differ_by_constant, constant_part, last_index}
@@ -15,7 +15,7 @@ use Rattle.nf_terms.specs.Tidied.{goes_after}
 use Rattle.nf_terms.specs.declared.tree.Base.{Base}
 use Rattle.nf_terms.specs.declared.tree.Base.TheVariants as starts
 use Rattle.nf_terms.specs.Computed.{Done}
-use Rattle.nf_arrays.specs.Atoms.{new_atom}
+use Rattle.nf_arrays.specs.NewAtoms.{new_atom}
 use Rattle.nf_arrays.proofs.Tidy.{tidy_write, last_normal, prefix_normal}
 use Rattle.nf_terms.specs.View.{polynomial_in, write_in}
 use Rattle.nf_terms.specs.declared.tree.PolyTree.{PolyTree}
@@ -25,7 +25,8 @@ use Rattle.nf_arrays.specs.Writes.{written_last, are_apart, stop_at, prefix_for,
 abbrev pub writes_in : List (PolyTree × PolyTree) → Writes
 writes_in l = writes_of (map write_in l)
 
-pub writes_in-last : (l : List (PolyTree × PolyTree)) (x : PolyTree × PolyTree) → writes_in (l ++ x ∷ []) ≡ written_last (writes_in l) (write_in x).0 (write_in x).1
+pub writes_in-last : (l : List (PolyTree × PolyTree)) (x : PolyTree × PolyTree)
+    → writes_in (l ++ x ∷ []) ≡ written_last (writes_in l) (write_in x).0 (write_in x).1
 writes_in-last [] x = refl
 writes_in-last (y ∷ l) x = ap (Write (write_in y).0 (write_in y).1) (writes_in-last l x)
 
@@ -33,11 +34,13 @@ stop_before : (i k w : Polynomial) (ws : Writes) (j v : Polynomial) → stop_at 
 stop_before i k w NoWrites j v = refl
 stop_before i k w (Write h x ws) j v = refl
 
-pub prefix-last : (i : Polynomial) (ws : Writes) (j v : Polynomial) → prefix_for i (written_last ws j v) ≡ cond (are_apart j i) (prefix_for i ws) (written_last ws j v)
+pub prefix-last : (i : Polynomial) (ws : Writes) (j v : Polynomial)
+    → prefix_for i (written_last ws j v) ≡ cond (are_apart j i) (prefix_for i ws) (written_last ws j v)
 prefix-last i NoWrites j v = refl
 prefix-last i (Write k w ws) j v = ap (stop_at i k w) (prefix-last i ws j v) ∙ by_test (are_apart j i)
   where
-    by_test : (t : Bool) → stop_at i k w (cond t (prefix_for i ws) (written_last ws j v)) ≡ cond t (stop_at i k w (prefix_for i ws)) (Write k w (written_last ws j v))
+    by_test : (t : Bool) → stop_at i k w (cond t (prefix_for i ws) (written_last ws j v))
+        ≡ cond t (stop_at i k w (prefix_for i ws)) (Write k w (written_last ws j v))
     by_test true = refl
     by_test false = stop_before i k w ws j v
 
@@ -46,13 +49,18 @@ module _ (i : Polynomial) (l e : List (PolyTree × PolyTree)) (x : PolyTree × P
   last_is = ap writes_in q ∙ writes_in-last e x
 
   pub passes : are_apart (polynomial_in x.0) i ≡ true → prefix_for i (writes_in e) ≡ prefix_for i (writes_in l)
-  passes h = sym (ap (prefix_for i) last_is ∙ prefix-last i (writes_in e) (polynomial_in x.0) (polynomial_in x.1) ∙ ap (λ t. cond t (prefix_for i (writes_in e)) (written_last (writes_in e) (polynomial_in x.0) (polynomial_in x.1))) h)
+  passes h =
+      sym (ap (prefix_for i) last_is ∙ prefix-last i (writes_in e) (polynomial_in x.0) (polynomial_in x.1)
+      ∙ ap (λ t. cond t (prefix_for i (writes_in e)) (written_last (writes_in e) (polynomial_in x.0) (polynomial_in x.1))) h)
 
   pub stops : are_apart (polynomial_in x.0) i ≡ false → writes_in l ≡ prefix_for i (writes_in l)
-  stops h = sym (ap (prefix_for i) last_is ∙ prefix-last i (writes_in e) (polynomial_in x.0) (polynomial_in x.1) ∙ ap (λ t. cond t (prefix_for i (writes_in e)) (written_last (writes_in e) (polynomial_in x.0) (polynomial_in x.1))) h ∙ sym last_is)
+  stops h =
+      sym (ap (prefix_for i) last_is ∙ prefix-last i (writes_in e) (polynomial_in x.0) (polynomial_in x.1)
+      ∙ ap (λ t. cond t (prefix_for i (writes_in e)) (written_last (writes_in e) (polynomial_in x.0) (polynomial_in x.1))) h ∙ sym last_is)
 
 -- a list that ends with a write holds it last
-read_last : (b : Base) (ws : Writes) (j v i : Polynomial) → read_here (Over b (written_last ws j v)) i ≡ cond (same_polynomial j i) (Done v) (new_atom (Read (Over b (written_last ws j v)) i))
+read_last : (b : Base) (ws : Writes) (j v i : Polynomial)
+    → read_here (Over b (written_last ws j v)) i ≡ cond (same_polynomial j i) (Done v) (new_atom (Read (Over b (written_last ws j v)) i))
 read_last b ws j v i = by_base b ws
   where
     last_of : (k : Polynomial) (ws : Writes) → last_index k (written_last ws j v) ≡ j
@@ -63,11 +71,14 @@ read_last b ws j v i = by_base b ws
     value_of_last w NoWrites = refl
     value_of_last w (Write h x ws) = value_of_last x ws
 
-    by_base : (b : Base) (ws : Writes) → read_here (Over b (written_last ws j v)) i ≡ cond (same_polynomial j i) (Done v) (new_atom (Read (Over b (written_last ws j v)) i))
+    by_base : (b : Base) (ws : Writes) → read_here (Over b (written_last ws j v)) i
+        ≡ cond (same_polynomial j i) (Done v) (new_atom (Read (Over b (written_last ws j v)) i))
     by_base starts.Zero NoWrites = refl
     by_base (starts.Sym p) NoWrites = refl
-    by_base starts.Zero (Write k w ws) = λ t. cond (same_polynomial (last_of k ws t) i) (Done (value_of_last w ws t)) (new_atom (Read (Over starts.Zero (Write k w (written_last ws j v))) i))
-    by_base (starts.Sym p) (Write k w ws) = λ t. cond (same_polynomial (last_of k ws t) i) (Done (value_of_last w ws t)) (new_atom (Read (Over (starts.Sym p) (Write k w (written_last ws j v))) i))
+    by_base starts.Zero (Write k w ws) = λ t. cond (same_polynomial (last_of k ws t) i) (Done (value_of_last w ws t))
+        (new_atom (Read (Over starts.Zero (Write k w (written_last ws j v))) i))
+    by_base (starts.Sym p) (Write k w ws) = λ t. cond (same_polynomial (last_of k ws t) i) (Done (value_of_last w ws t))
+        (new_atom (Read (Over (starts.Sym p) (Write k w (written_last ws j v))) i))
 
 stays_last : (b : Base) (ws : Writes) (j v i : Polynomial) → stays_read (Over b (written_last ws j v)) i ≡ not (differ_by_constant j i)
 stays_last b ws j v i = by_base b ws
@@ -105,7 +116,9 @@ prefix_shorter i (Write j v ws) = by_rest (prefix_for i ws) (prefix_shorter i ws
     by_rest (Write k w ps) h = omega arith
 
 -- the index of a write among tidy writes is in order
-pub index_at : (e d : List (PolyTree × PolyTree)) (x : PolyTree × PolyTree) → ordered_writes (writes_in (e ++ x ∷ d)) ≡ true → ordered (polynomial_in x.0) ≡ true
+pub index_at :
+    (e d : List (PolyTree × PolyTree)) (x : PolyTree × PolyTree) → ordered_writes (writes_in (e ++ x ∷ d)) ≡ true
+    → ordered (polynomial_in x.0) ≡ true
 index_at [] d x o = (tidy_write (polynomial_in x.0) (polynomial_in x.1) (writes_in d) o).index
 index_at (y ∷ e) d x o = index_at e d x (tidy_write (polynomial_in y.0) (polynomial_in y.1) (writes_in (e ++ x ∷ d)) o).rest
 
@@ -134,18 +147,22 @@ last_ordered NoWrites j v o = (tidy_write j v NoWrites o).index
 last_ordered (Write k w ws) j v o = last_ordered ws j v (tidy_write k w (written_last ws j v) o).rest
 
 -- ordered indices that differ by a constant and are not the same have other constants
-sums_differ : (j i : Polynomial) → ordered j ≡ true → ordered i ≡ true → differ_by_constant j i ≡ true → same_polynomial j i ≡ false → int_eq (constant_sum j) (constant_sum i) ≡ false
+sums_differ : (j i : Polynomial) → ordered j ≡ true → ordered i ≡ true → differ_by_constant j i ≡ true → same_polynomial j i ≡ false
+    → int_eq (constant_sum j) (constant_sum i) ≡ false
 sums_differ j i o p d s = by_value (int_eq (constant_sum j) (constant_sum i)) refl
   where
     by_value : (t : Bool) → int_eq (constant_sum j) (constant_sum i) ≡ t → t ≡ false
-    by_value true e = absurd (let f : same_polynomial j i ≡ true = same_of_equal j i (equal_by_sums j i o p d ((signed_Decides (constant_sum j) (constant_sum i)).0 e)) in let h : true ≡ false = sym f ∙ s in cc)
+    by_value true e =
+        absurd (let f : same_polynomial j i ≡ true = same_of_equal j i (equal_by_sums j i o p d ((signed_Decides (constant_sum j) (constant_sum i)).0 e)) in
+        let h : true ≡ false = sym f ∙ s in cc)
     by_value false e = refl
 
 -- equal constants are of ordered indices that are the same, if they differ by a constant
 pub apart_by_same : (j i : Polynomial) → ordered j ≡ true → ordered i ≡ true → differ_by_constant j i && not (same_polynomial j i) ≡ are_apart j i
 apart_by_same j i o p = by_values (differ_by_constant j i) refl (same_polynomial j i) refl
   where
-    by_values : (d : Bool) → differ_by_constant j i ≡ d → (s : Bool) → same_polynomial j i ≡ s → d && not s ≡ d && not (int_eq (constant_sum j) (constant_sum i))
+    by_values : (d : Bool) → differ_by_constant j i ≡ d → (s : Bool) → same_polynomial j i ≡ s
+        → d && not s ≡ d && not (int_eq (constant_sum j) (constant_sum i))
     by_values true d true s = ap not (sym ((signed_Decides (constant_sum j) (constant_sum i)).1 (ap constant_sum (equal_of_same j i s))))
     by_values true d false s = ap not (sym (sums_differ j i o p d s))
     by_values false d t s = refl
@@ -157,13 +174,16 @@ module _ (i : Polynomial) (l e : List (PolyTree × PolyTree)) (x : PolyTree × P
     where
       by_value : (t : Bool) → are_apart (polynomial_in x.0) i ≡ t → t ≡ false
       by_value true h =
-          absurd (let a = passes i l e x q h in let b = ap size_of_writes (a ∙ s ∙ last_is i l e x q) in let c = prefix_shorter i (writes_in e) in too_long (writes_in e) b c)
+          absurd (let a = passes i l e x q h in let b = ap size_of_writes (a ∙ s ∙ last_is i l e x q) in let c = prefix_shorter i (writes_in e) in
+          too_long (writes_in e) b c)
         where
-          more : (b : Writes) → size_of_writes (written_last b (polynomial_in x.0) (polynomial_in x.1)) ≡ size_of_writes b + (1 + size_of (polynomial_in x.0) + size_of (polynomial_in x.1))
+          more : (b : Writes) → size_of_writes (written_last b (polynomial_in x.0) (polynomial_in x.1)) ≡ size_of_writes b
+              + (1 + size_of (polynomial_in x.0) + size_of (polynomial_in x.1))
           more NoWrites = omega arith
           more (Write k w b) = omega (arith, more b)
 
-          too_long : (b : Writes) → size_of_writes (prefix_for i b) ≡ size_of_writes (written_last b (polynomial_in x.0) (polynomial_in x.1)) → size_of_writes (prefix_for i b) ≤ size_of_writes b → ⊥
+          too_long : (b : Writes) → size_of_writes (prefix_for i b) ≡ size_of_writes (written_last b (polynomial_in x.0) (polynomial_in x.1))
+              → size_of_writes (prefix_for i b) ≤ size_of_writes b → ⊥
           too_long b f g = omega (arith, more b)
       by_value false h = refl
 
@@ -181,11 +201,15 @@ module _ (i : Polynomial) (l e : List (PolyTree × PolyTree)) (x : PolyTree × P
   pub index_ordered : ordered_writes (writes_in l) ≡ true → ordered (polynomial_in x.0) ≡ true
   index_ordered o = last_ordered (writes_in e) (polynomial_in x.0) (polynomial_in x.1) (ap ordered_writes (sym (last_is i l e x q)) ∙ o)
 
-  pub stays_other : prefix_for i (writes_in l) ≡ writes_in l → ordered_writes (writes_in l) ≡ true → ordered i ≡ true → same_polynomial (polynomial_in x.0) i ≡ false → stays_read (Over base (writes_in l)) i ≡ true
-  stays_other s o p h = ap (λ t. stays_read (Over base t) i) (last_is i l e x q) ∙ stays_last base (writes_in e) (polynomial_in x.0) (polynomial_in x.1) i ∙ by_value (differ_by_constant (polynomial_in x.0) i) refl
+  pub stays_other : prefix_for i (writes_in l) ≡ writes_in l → ordered_writes (writes_in l) ≡ true → ordered i ≡ true
+      → same_polynomial (polynomial_in x.0) i ≡ false → stays_read (Over base (writes_in l)) i ≡ true
+  stays_other s o p h = ap (λ t. stays_read (Over base t) i) (last_is i l e x q) ∙ stays_last base (writes_in e) (polynomial_in x.0) (polynomial_in x.1) i
+      ∙ by_value (differ_by_constant (polynomial_in x.0) i) refl
     where
       by_value : (t : Bool) → differ_by_constant (polynomial_in x.0) i ≡ t → not t ≡ true
-      by_value true g = absurd (let a : (true && not false) ≡ false = (λ k. sym g k && not (sym (sums_differ (polynomial_in x.0) i (index_ordered o) p g h) k)) ∙ stopped s in cc)
+      by_value true g =
+          absurd (let a : (true && not false) ≡ false = (λ k. sym g k && not (sym (sums_differ (polynomial_in x.0) i (index_ordered o) p g h) k))
+          ∙ stopped s in cc)
       by_value false g = refl
 
   pub value_normal : IsNormalArray (Over base (writes_in l)) → IsNormal (polynomial_in x.1)
@@ -220,5 +244,6 @@ module _ (a : ArrayTerm) (i : Polynomial) (b : Base) (ws ps : Writes) (e : b ≡
       by_parts (Over b ws) = refl
 
 -- ordered indices by their constant parts
-pub after_by_parts : (i j : Polynomial) → ordered i ≡ true → ordered j ≡ true → differ_by_constant i j && int_lt (constant_part j) (constant_part i) ≡ goes_after i j
+pub after_by_parts : (i j : Polynomial) → ordered i ≡ true → ordered j ≡ true
+    → differ_by_constant i j && int_lt (constant_part j) (constant_part i) ≡ goes_after i j
 after_by_parts i j o p = λ k. differ_by_constant i j && int_lt (constant_is j p k) (constant_is i o k)

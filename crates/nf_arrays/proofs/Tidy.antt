@@ -1,12 +1,14 @@
 -- Tidy writes, write by write, and the beginnings of tidy writes.
 use Rattle.std.proofs.Common.{◌≡◌, ◌≤◌, Bool, true, false, ◌&&◌, ◌||◌, not, cond, arith, refl}
-use Rattle.nf_terms.specs.Terms.{Polynomial, ArrayTerm, Writes, Read, Over, NoWrites, Write}
+use Rattle.std.proofs.lemmas.Bool.{and_from}
+use Rattle.base_lemmas.proofs.Booleans.{and_first, and_second, not_or_second}
+use Rattle.nf_terms.specs.NormalTerms.{Polynomial, ArrayTerm, Writes, Read, Over, NoWrites, Write}
 use Rattle.nf_terms.specs.Order.{same_polynomial}
 use Rattle.nf_terms.specs.Measures.{size_of_writes, depth_of_writes}
-use Rattle.nf_terms.specs.Normal.{IsNormal, IsNormalArray, ordered, ordered_writes, ordered_array, is_written, write_rises, is_light, narrow_inside, narrow_writes, narrow_array, stays_read}
+use Rattle.nf_terms.specs.Normal.{IsNormal, IsNormalArray, ordered, ordered_writes, ordered_array, is_written, write_rises, is_light, narrow_inside}
+use Rattle.nf_terms.specs.Normal.{narrow_writes, narrow_array, stays_read}
 use Rattle.nf_terms.specs.declared.tree.Base.{Base}
-use Rattle.nf_terms.proofs.Tests.{and_left, and_right, and_both}
-use Rattle.nf_arrays.specs.Atoms.{IsNewAtom}
+use Rattle.nf_arrays.specs.NewAtoms.{IsNewAtom}
 use Rattle.nf_arrays.specs.Writes.{written_last, are_apart, stop_at, prefix_for}
 
 -- a write before others is tidy
@@ -23,10 +25,16 @@ tidy_write i v ws o =
     let b = ordered v in
     let n = not (is_written i ws) in
     let r = write_rises i ws in
-    let h : a && b && n && r ≡ true = and_left (a && b && n && r) (ordered_writes ws) o in
-    let k : a && b && n ≡ true = and_left (a && b && n) r h in
-    let m : a && b ≡ true = and_left (a && b) n k in
-    record { index = and_left a b m; value = and_right a b m; once = and_right (a && b) n k; rises = and_right (a && b && n) r h; rest = and_right (a && b && n && r) (ordered_writes ws) o }
+    let h : a && b && n && r ≡ true = and_first (a && b && n && r) (ordered_writes ws) o in
+    let k : a && b && n ≡ true = and_first (a && b && n) r h in
+    let m : a && b ≡ true = and_first (a && b) n k in
+    record {
+      index = and_first a b m;
+      value = and_second a b m;
+      once = and_second (a && b) n k;
+      rises = and_second (a && b && n) r h;
+      rest = and_second (a && b && n && r) (ordered_writes ws) o;
+    }
 
 pub tidy_again : (i v : Polynomial) (ws : Writes) → IsTidyWrite i v ws → ordered_writes (Write i v ws) ≡ true
 tidy_again i v ws t =
@@ -34,7 +42,7 @@ tidy_again i v ws t =
     let b = ordered v in
     let n = not (is_written i ws) in
     let r = write_rises i ws in
-    and_both (a && b && n && r) (ordered_writes ws) (and_both (a && b && n) r (and_both (a && b) n (and_both a b t.index t.value) t.once) t.rises) t.rest
+    and_from (a && b && n && r) (ordered_writes ws) (and_from (a && b && n) r (and_from (a && b) n (and_from a b t.index t.value) t.once) t.rises) t.rest
 
 -- the polynomials of a write are within the limit of weight
 pub record IsNarrowWrite (i v : Polynomial) (ws : Writes) : Type 0 where
@@ -48,9 +56,13 @@ narrow_write i v ws o =
     let b = narrow_inside i in
     let d = is_light v in
     let e = narrow_inside v in
-    let h : a && b && d && e ≡ true = and_left (a && b && d && e) (narrow_writes ws) o in
-    let k : a && b && d ≡ true = and_left (a && b && d) e h in
-    record { index = and_left (a && b) d k; value = and_both d e (and_right (a && b) d k) (and_right (a && b && d) e h); rest = and_right (a && b && d && e) (narrow_writes ws) o }
+    let h : a && b && d && e ≡ true = and_first (a && b && d && e) (narrow_writes ws) o in
+    let k : a && b && d ≡ true = and_first (a && b && d) e h in
+    record {
+      index = and_first (a && b) d k;
+      value = and_from d e (and_second (a && b) d k) (and_second (a && b && d) e h);
+      rest = and_second (a && b && d && e) (narrow_writes ws) o;
+    }
 
 pub narrow_again : (i v : Polynomial) (ws : Writes) → IsNarrowWrite i v ws → narrow_writes (Write i v ws) ≡ true
 narrow_again i v ws t =
@@ -58,7 +70,8 @@ narrow_again i v ws t =
     let b = narrow_inside i in
     let d = is_light v in
     let e = narrow_inside v in
-    and_both (a && b && d && e) (narrow_writes ws) (and_both (a && b && d) e (and_both (a && b) d t.index (and_left d e t.value)) (and_right d e t.value)) t.rest
+    and_from (a && b && d && e) (narrow_writes ws)
+    (and_from (a && b && d) e (and_from (a && b) d t.index (and_first d e t.value)) (and_second d e t.value)) t.rest
 
 -- ---- beginnings
 
@@ -74,21 +87,20 @@ module _ (P : Writes → Type 0) (i j v : Polynomial) where
 module _ (i : Polynomial) where
   prefix_size : (ws : Writes) → size_of_writes (prefix_for i ws) ≤ size_of_writes ws
   prefix_size NoWrites = omega arith
-  prefix_size (Write j v ws) = stop_cases (λ ps. size_of_writes ps ≤ size_of_writes (Write j v ws)) i j v (prefix_for i ws) (omega arith) (omega (arith, prefix_size ws))
+  prefix_size (Write j v ws) = stop_cases (λ ps. size_of_writes ps ≤ size_of_writes (Write j v ws)) i j v (prefix_for i ws) (omega arith)
+      (omega (arith, prefix_size ws))
 
   prefix_depth : (ws : Writes) → depth_of_writes (prefix_for i ws) ≤ depth_of_writes ws
   prefix_depth NoWrites = omega arith
-  prefix_depth (Write j v ws) = stop_cases (λ ps. depth_of_writes ps ≤ depth_of_writes (Write j v ws)) i j v (prefix_for i ws) (omega arith) (omega (arith, prefix_depth ws))
+  prefix_depth (Write j v ws) = stop_cases (λ ps. depth_of_writes ps ≤ depth_of_writes (Write j v ws)) i j v (prefix_for i ws) (omega arith)
+      (omega (arith, prefix_depth ws))
 
   prefix_narrow : (ws : Writes) → narrow_writes ws ≡ true → narrow_writes (prefix_for i ws) ≡ true
   prefix_narrow NoWrites h = refl
   prefix_narrow (Write j v ws) h =
       let t = narrow_write j v ws h in
-      stop_cases (λ ps. narrow_writes ps ≡ true) i j v (prefix_for i ws) refl (narrow_again j v (prefix_for i ws) (record { index = t.index; value = t.value; rest = prefix_narrow ws t.rest }))
-
-  not_or : (a b : Bool) → not (a || b) ≡ true → not b ≡ true
-  not_or true b e = cc
-  not_or false b e = e
+      stop_cases (λ ps. narrow_writes ps ≡ true) i j v (prefix_for i ws) refl
+      (narrow_again j v (prefix_for i ws) (record { index = t.index; value = t.value; rest = prefix_narrow ws t.rest }))
 
   same_or : (a b c : Bool) → not (a || b) ≡ true → not c ≡ true → not (a || c) ≡ true
   same_or true b c e f = cc
@@ -98,7 +110,8 @@ module _ (i : Polynomial) where
   prefix_once k NoWrites h = refl
   prefix_once k (Write j v ws) h =
       stop_cases (λ ps. not (is_written k ps) ≡ true) i j v (prefix_for i ws) refl
-      (same_or (same_polynomial k j) (is_written k ws) (is_written k (prefix_for i ws)) h (prefix_once k ws (not_or (same_polynomial k j) (is_written k ws) h)))
+      (same_or (same_polynomial k j) (is_written k ws) (is_written k (prefix_for i ws)) h
+      (prefix_once k ws (not_or_second (same_polynomial k j) (is_written k ws) h)))
 
   prefix_rises : (k : Polynomial) (ws : Writes) → write_rises k ws ≡ true → write_rises k (prefix_for i ws) ≡ true
   prefix_rises k NoWrites h = refl
@@ -109,7 +122,8 @@ module _ (i : Polynomial) where
   prefix_ordered (Write j v ws) h =
       let t = tidy_write j v ws h in
       stop_cases (λ ps. ordered_writes ps ≡ true) i j v (prefix_for i ws) refl
-      (tidy_again j v (prefix_for i ws) (record { index = t.index; value = t.value; once = prefix_once j ws t.once; rises = prefix_rises j ws t.rises; rest = prefix_ordered ws t.rest }))
+      (tidy_again j v (prefix_for i ws)
+      (record { index = t.index; value = t.value; once = prefix_once j ws t.once; rises = prefix_rises j ws t.rises; rest = prefix_ordered ws t.rest }))
 
   -- the array that a read goes into is normal
   pub prefix_normal : (b : Base) (ws : Writes) → IsNormalArray (Over b ws) → IsNormalArray (Over b (prefix_for i ws))
@@ -138,7 +152,7 @@ last_normal b (Write k w ws) j v n = last_normal b ws j v (record {
 -- a read that stays one is a new atom
 pub new_read : (a : ArrayTerm) (i : Polynomial) → IsNormalArray a → IsNormal i → stays_read a i ≡ true → IsNewAtom (Read a i)
 new_read a i n m s = record {
-  in_order = and_both (ordered_array a && ordered i) (stays_read a i) (and_both (ordered_array a) (ordered i) n.ordered m.ordered) s;
+  in_order = and_from (ordered_array a && ordered i) (stays_read a i) (and_from (ordered_array a) (ordered i) n.ordered m.ordered) s;
   narrow = and_deep (narrow_array a) (is_light i) (narrow_inside i) n.narrow m.narrow;
   size = omega (arith, n.small, m.small);
   depth = omega (arith, n.shallow, m.shallow);

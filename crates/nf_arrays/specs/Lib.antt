@@ -1,3 +1,3 @@
-pub mod Atoms
+pub mod NewAtoms
 pub mod Writes
 pub mod Pushes

@@ -1,7 +1,7 @@
 -- What a write and a read compute.
 use Rattle.std.specs.Prelude.{◌+◌, Bool, true, ◌&&◌, not, cond}
 use Rattle.std.specs.Ordering.{int_eq}
-use Rattle.nf_terms.specs.Terms.{Polynomial, ArrayTerm, Writes, Read, Zero, Over, NoWrites, Write}
+use Rattle.nf_terms.specs.NormalTerms.{Polynomial, ArrayTerm, Writes, Read, Zero, Over, NoWrites, Write}
 use Rattle.nf_terms.specs.Order.{same_polynomial}
 use Rattle.nf_terms.specs.Measures.{size_of, size_of_array, depth_of_array}
 use Rattle.nf_terms.specs.Normal.{differ_by_constant, ordered, last_index}
@@ -9,7 +9,7 @@ use Rattle.nf_terms.specs.declared.tree.Base.TheVariants as base
 use Rattle.nf_terms.specs.Computed.{Computed, Done, if_small}
 use Rattle.nf_terms.specs.Normal.{constant_sum}
 use Rattle.nf_terms.specs.Tidied.{tidied}
-use Rattle.nf_arrays.specs.Atoms.{new_atom}
+use Rattle.nf_arrays.specs.NewAtoms.{new_atom}
 
 -- one more write behind the others
 abbrev pub written_last : Writes → Polynomial → Polynomial → Writes
@@ -21,8 +21,9 @@ abbrev pub with_last_write : ArrayTerm → Polynomial → Polynomial → ArrayTe
 with_last_write (Over b ws) i v = Over b (written_last ws i v)
 
 -- an array after the value v is written at the index i
-abbrev pub written : ArrayTerm → (i v : Polynomial) → Computed ArrayTerm
-written a i v = if_small (size_of_array a + 1 + size_of i + size_of v) (depth_of_array (tidied (with_last_write a i v))) (tidied (with_last_write a i v))
+abbrev pub write_array : ArrayTerm → (i v : Polynomial) → Computed ArrayTerm
+write_array a i v = if_small (size_of_array a + 1 + size_of i + size_of v) (depth_of_array (tidied (with_last_write a i v)))
+    (tidied (with_last_write a i v))
 
 -- whether two indices differ by a constant that is not 0
 abbrev pub are_apart : Polynomial → Polynomial → Bool
@@ -47,7 +48,8 @@ last_value v (Write j w ws) = last_value w ws
 abbrev pub read_here : ArrayTerm → Polynomial → Computed Polynomial
 read_here (Over base.Zero NoWrites) i = Done Zero
 read_here (Over (base.Sym p) NoWrites) i = new_atom (Read (Over (base.Sym p) NoWrites) i)
-read_here (Over b (Write j v ws)) i = cond (same_polynomial (last_index j ws) i) (Done (last_value v ws)) (new_atom (Read (Over b (Write j v ws)) i))
+read_here (Over b (Write j v ws)) i = cond (same_polynomial (last_index j ws) i) (Done (last_value v ws))
+    (new_atom (Read (Over b (Write j v ws)) i))
 
 -- the element at i of a tidy array
 abbrev pub read_at : ArrayTerm → Polynomial → Computed Polynomial

@@ -3,7 +3,7 @@
 ghost use Rattle.std.specs.Prelude.{◌≡◌, IfOk};
 ghost use Rattle.nf_terms.specs.View.{atom_in, polynomial_in};
 ghost use Rattle.nf_terms.specs.Computed.{Answers};
-ghost use Rattle.nf_arrays.specs.Atoms.{new_atom as new_atom_of, polynomial_of_atom, IsNewAtom};
+ghost use Rattle.nf_arrays.specs.NewAtoms.{new_atom as new_atom_of, polynomial_of_atom, IsNewAtom};
 
 use nf_terms::limits::{DEPTH_LIMIT, SIZE_LIMIT};
 use nf_terms::measures::{depth_of_atom, size_of_atom};

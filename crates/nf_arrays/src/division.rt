@@ -1,15 +1,15 @@
 //! Quotients and remainders.
 
 ghost use Rattle.std.specs.Prelude.{◌≡◌, ◌^◌, ◌<◌, true, false, unsigned_abs, MatchOption};
-ghost use Rattle.integers.specs.Division.{quotient as quotient_in, remainder as remainder_in};
-ghost use Rattle.nf_terms.specs.Terms.{polynomial_of_number};
+ghost use Rattle.base_integers.specs.Division.{quotient as quotient_in, remainder as remainder_in};
+ghost use Rattle.nf_terms.specs.NormalTerms.{polynomial_of_number};
 ghost use Rattle.nf_terms.specs.Normal.{is_constant};
 ghost use Rattle.nf_terms.specs.Computed.{Answers, Done};
 ghost use Rattle.nf_terms.specs.Normal.{constant_sum};
-ghost use Rattle.nf_arrays.specs.Atoms.{divided, remainder_of};
+ghost use Rattle.nf_arrays.specs.NewAtoms.{divided, remainder_of};
 
 use crate::atoms::new_atom;
-use integers::{quotient, remainder};
+use base_integers::{quotient, remainder};
 use nf_sums::sums::constant_of;
 use nf_terms::poly::Poly;
 use nf_terms::stop::NfStop;
@@ -22,7 +22,7 @@ fn number_of(p: &Poly) -> Option<i128>
     ensures number { MatchOption result (is_constant p.now ≡ false) (λ c. c ≡ constant_sum p.now) }
     ensures small { MatchOption result (is_constant p.now ≡ false) (λ c. unsigned_abs c < 2 ^ 127) }
 {
-    let _size = p.size();
+    let _size = p.size(); // The call tells the proof that the form is normal.
     constant_of(p)
 }
 
@@ -45,7 +45,7 @@ fn folded_quotient(alloc: Global, c: &i128, d: &i128) -> Result<Poly, NfStop>
 pub fn div(alloc: Global, l: &Poly, r: &Poly) -> Result<Poly, NfStop>
     ensures { Answers result (divided l.now r.now) }
 {
-    let _sizes = (l.size(), r.size());
+    let _sizes = (l.size(), r.size()); // The calls tell the proof that both forms are normal.
     if let Some(c) = number_of(l) {
         if let Some(d) = number_of(r) {
             return folded_quotient(alloc, &c, &d);
@@ -72,7 +72,7 @@ fn folded_remainder(alloc: Global, c: &i128, d: &i128) -> Result<Poly, NfStop>
 pub fn rem(alloc: Global, l: &Poly, r: &Poly) -> Result<Poly, NfStop>
     ensures { Answers result (remainder_of l.now r.now) }
 {
-    let _sizes = (l.size(), r.size());
+    let _sizes = (l.size(), r.size()); // The calls tell the proof that both forms are normal.
     if let Some(c) = number_of(l) {
         if let Some(d) = number_of(r) {
             return folded_remainder(alloc, &c, &d);

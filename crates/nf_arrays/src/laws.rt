@@ -1,16 +1,16 @@
 //! Laws of arrays and of division. The functions do nothing.
 
 ghost use Rattle.std.specs.Prelude.{◌≡◌, ◌++◌, ◌∷◌, [], ℤ};
-ghost use Rattle.integers.specs.Division.{quotient, remainder};
-ghost use Rattle.nf_terms.specs.Terms.{Polynomial, ArrayTerm};
-ghost use Rattle.nf_terms.specs.Meaning.{Valuation, value_of, contents, items_in, written as stored};
+ghost use Rattle.base_integers.specs.Division.{quotient, remainder};
+ghost use Rattle.nf_terms.specs.NormalTerms.{Polynomial, ArrayTerm};
+ghost use Rattle.nf_terms.specs.TermMeaning.{Valuation, value_of, contents, items_in, contents_after_write as stored};
 ghost use Rattle.nf_terms.specs.Lists.{ListTerm};
-ghost use Rattle.nf_terms.specs.Normal.{IsNormal, IsNormalArray};
+ghost use Rattle.nf_terms.specs.Normal.{IsNormalArray};
 ghost use Rattle.nf_terms.specs.Computed.{Done};
 ghost use Rattle.nf_terms.specs.Tidied.{tidied};
-ghost use Rattle.nf_arrays.specs.Atoms.{divided, remainder_of};
+ghost use Rattle.nf_arrays.specs.NewAtoms.{divided, remainder_of};
 ghost use Rattle.nf_arrays.specs.Pushes.{pushed};
-ghost use Rattle.nf_arrays.specs.Writes.{read_at, written};
+ghost use Rattle.nf_arrays.specs.Writes.{read_at, write_array};
 
 /// A law, with nothing to run: McCarthy's two equations hold of what an array holds after a write.
 pub fn mccarthys_equations_hold()
@@ -20,8 +20,10 @@ pub fn mccarthys_equations_hold()
 
 /// A law, with nothing to run: a read is what the array holds at the index, and a write is the array with the value there.
 pub fn reads_and_writes_keep_the_meaning()
-    ensures read { (w : Valuation) (a : ArrayTerm) (i r : Polynomial) → read_at a i ≡ Done r → value_of w r ≡ contents w a (value_of w i) }
-    ensures write { (w : Valuation) (a b : ArrayTerm) (i v : Polynomial) → written a i v ≡ Done b → contents w b ≡ stored (contents w a) (value_of w i) (value_of w v) }
+    ensures read { (w : Valuation) (a : ArrayTerm) (i r : Polynomial) → read_at a i ≡ Done r
+        → value_of w r ≡ contents w a (value_of w i) }
+    ensures write { (w : Valuation) (a b : ArrayTerm) (i v : Polynomial) → write_array a i v ≡ Done b
+        → contents w b ≡ stored (contents w a) (value_of w i) (value_of w v) }
 {}
 
 /// A law, with nothing to run: a tidied array holds what the array holds.
@@ -31,16 +33,20 @@ pub fn tidied_arrays_keep_the_meaning()
 
 /// A law, with nothing to run: quotients and remainders are those of the values.
 pub fn divisions_keep_the_meaning()
-    ensures quotient { (w : Valuation) (p q r : Polynomial) → divided p q ≡ Done r → value_of w r ≡ quotient (value_of w p) (value_of w q) }
-    ensures remainder { (w : Valuation) (p q r : Polynomial) → remainder_of p q ≡ Done r → value_of w r ≡ remainder (value_of w p) (value_of w q) }
+    ensures quotient { (w : Valuation) (p q r : Polynomial) → divided p q ≡ Done r
+        → value_of w r ≡ quotient (value_of w p) (value_of w q) }
+    ensures remainder { (w : Valuation) (p q r : Polynomial) → remainder_of p q ≡ Done r
+        → value_of w r ≡ remainder (value_of w p) (value_of w q) }
 {}
 
-/// A law, with nothing to run: a tidy array is its own tidied form, so that normal arrays with the same tidied form are equal.
+/// A law, with nothing to run: a normal array is its own tidied form, so that normal arrays with the same tidied form are equal.
 pub fn normal_arrays_are_unique()
-    ensures { (a b : ArrayTerm) → IsNormalArray a → IsNormalArray b → tidied a ≡ tidied b → a ≡ b }
+    ensures tidied { (a : ArrayTerm) → IsNormalArray a → tidied a ≡ a }
+    ensures equal { (a b : ArrayTerm) → IsNormalArray a → IsNormalArray b → tidied a ≡ tidied b → a ≡ b }
 {}
 
 /// A law, with nothing to run: a push is the list with the value behind.
 pub fn pushes_keep_the_meaning()
-    ensures { (w : Valuation) (l m : ListTerm) (p : Polynomial) → pushed l p ≡ Done m → items_in w m ≡ items_in w l ++ value_of w p ∷ [] }
+    ensures { (w : Valuation) (l m : ListTerm) (p : Polynomial) → pushed l p ≡ Done m
+        → items_in w m ≡ items_in w l ++ value_of w p ∷ [] }
 {}

@@ -1,4 +1,8 @@
 //! Reads, writes, quotients and remainders of normal forms.
+//!
+//! Promises: reads, writes, quotients, remainders and pushes, each as a function with its first event.
+//!
+//! Rules: `specs/Writes`, `specs/NewAtoms`, `specs/Pushes`.
 #![tactic(auto)]
 
 mod atoms;

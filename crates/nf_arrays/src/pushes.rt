@@ -1,8 +1,6 @@
 //! Pushes onto lists.
 
-ghost use Rattle.std.specs.Prelude.{◌≡◌, ◌+◌, ◌-◌, ◌^◌, ◌++◌, ◌∷◌, [], min, max, IfOk};
-ghost use Rattle.nf_terms.specs.Measures.{depth_of};
-ghost use Rattle.nf_terms.specs.Lists.{depth_of_items};
+ghost use Rattle.std.specs.Prelude.{◌≡◌, ◌+◌, ◌-◌, ◌++◌, ◌∷◌, [], max, IfOk};
 ghost use Rattle.nf_terms.specs.Computed.{Answers};
 ghost use Rattle.nf_arrays.specs.Pushes.{pushed};
 

@@ -1,12 +1,12 @@
 //! Reads of arrays.
 
 ghost use Rattle.std.specs.Prelude.{◌≡◌, map, IfOk, IsTrue};
-ghost use Rattle.nf_terms.specs.Terms.{writes_of, Over, Read};
+ghost use Rattle.nf_terms.specs.NormalTerms.{writes_of, Over, Read};
 ghost use Rattle.nf_terms.specs.View.{polynomial_in, write_in};
 ghost use Rattle.nf_terms.specs.Order.{same_polynomial};
 ghost use Rattle.nf_terms.specs.Normal.{IsNormalArray, ordered, ordered_writes, stays_read};
 ghost use Rattle.nf_terms.specs.Computed.{Answers};
-ghost use Rattle.nf_arrays.specs.Atoms.{new_atom as new_atom_of};
+ghost use Rattle.nf_arrays.specs.NewAtoms.{new_atom as new_atom_of};
 ghost use Rattle.nf_arrays.specs.Writes.{are_apart, prefix_for, read_here, read_at};
 
 use crate::atoms::new_atom;
@@ -77,7 +77,7 @@ fn read_atom(
     requires stays { IsTrue (stays_read (Over base (writes_of (map write_in writes.now))) i.now) }
     ensures { Answers result (new_atom_of (Read (Over base (writes_of (map write_in writes.now))) i.now)) }
 {
-    let _size = i.size();
+    let _size = i.size(); // The call tells the proof that the form is normal.
     let writes = copied(alloc, writes)?;
     let array = Box::new(alloc, ArrTree { base, writes })?;
     let index = Box::new(alloc, i.tree().try_clone(alloc)?)?;
@@ -95,7 +95,7 @@ fn read_stopped(
     requires stops { prefix_for i.now (writes_of (map write_in writes.now)) ≡ writes_of (map write_in writes.now) }
     ensures { Answers result (read_here (Over base (writes_of (map write_in writes.now))) i.now) }
 {
-    let _size = i.size();
+    let _size = i.size(); // The call tells the proof that the form is normal.
     match writes.split_last() {
         None => match base {
             Base::Zero => Ok(Poly::number(alloc, 0)?),
@@ -122,7 +122,7 @@ fn read_stopped(
 pub fn read(alloc: Global, a: &Arr, i: &Poly) -> Result<Poly, NfStop>
     ensures { Answers result (read_at a.now i.now) }
 {
-    let _size = i.size();
+    let _size = i.size(); // The call tells the proof that the form is normal.
     let base = a.base();
     read_stopped(alloc, base, stopping(a.writes(), i.tree()), i)
 }

@@ -1,12 +1,12 @@
 //! Writes of arrays.
 
 ghost use Rattle.std.specs.Prelude.{◌≡◌, ◌≤◌, ◌++◌, ◌∷◌, map, take, drop, length, OnOk, IfOk, IsTrue};
-ghost use Rattle.nf_terms.specs.Terms.{Polynomial, Over, writes_of};
+ghost use Rattle.nf_terms.specs.NormalTerms.{Polynomial, Over, writes_of};
 ghost use Rattle.nf_terms.specs.View.{polynomial_in, array_in, write_in};
 ghost use Rattle.nf_terms.specs.Normal.{ordered, ordered_writes};
 ghost use Rattle.nf_terms.specs.Computed.{Answers};
 ghost use Rattle.nf_terms.specs.Tidied.{goes_after, with_write, rising_stretches, last_writes, tidied};
-ghost use Rattle.nf_arrays.specs.Writes.{written_last, with_last_write, indices_ordered, written};
+ghost use Rattle.nf_arrays.specs.Writes.{written_last, with_last_write, indices_ordered, write_array};
 
 use crate::reads::is_same;
 use nf_terms::arr::Arr;
@@ -33,7 +33,9 @@ fn place_of(writes: &[(PolyTree, PolyTree)], index: &PolyTree) -> usize
     requires indices { IsTrue (indices_ordered (writes_of (map write_in writes.now))) }
     requires index { IsTrue (ordered (polynomial_in index.now)) }
     ensures within { result ≤ length writes.now }
-    ensures placed { (v : Polynomial) → with_write (polynomial_in index.now) v (writes_of (map write_in writes.now)) ≡ writes_of (map write_in (take result writes.now) ++ (polynomial_in index.now, v) ∷ map write_in (drop result writes.now)) }
+    ensures placed { (v : Polynomial) → with_write (polynomial_in index.now) v (writes_of (map write_in writes.now))
+        ≡ writes_of
+        (map write_in (take result writes.now) ++ (polynomial_in index.now, v) ∷ map write_in (drop result writes.now)) }
 {
     for (place, (other, _value)) in writes.iter().enumerate() {
         if !is_after(index, other) {
@@ -52,7 +54,9 @@ fn place_write(
 ) -> Result<(), NoMemory>
     requires indices { IsTrue (indices_ordered (writes_of (map write_in out.old.items))) }
     requires index { IsTrue (ordered (polynomial_in index.now)) }
-    ensures { OnOk result (writes_of (map write_in out.new.items) ≡ with_write (polynomial_in index.now) (polynomial_in value.now) (writes_of (map write_in out.old.items))) }
+    ensures { OnOk result
+        (writes_of (map write_in out.new.items) ≡ with_write (polynomial_in index.now) (polynomial_in value.now)
+        (writes_of (map write_in out.old.items))) }
 {
     let place = place_of(out, index);
     let copy = (index.try_clone(alloc)?, value.try_clone(alloc)?);
@@ -69,7 +73,9 @@ fn tidied_with(
 ) -> Result<Vec<(PolyTree, PolyTree)>, NoMemory>
     requires tidy { IsTrue (ordered_writes (writes_of (map write_in writes.now))) }
     requires index { IsTrue (ordered (polynomial_in index.now)) }
-    ensures { IfOk result (λ v. writes_of (map write_in v.items) ≡ rising_stretches (last_writes (written_last (writes_of (map write_in writes.now)) (polynomial_in index.now) (polynomial_in value.now)))) }
+    ensures { IfOk result
+        (λ v. writes_of (map write_in v.items) ≡ rising_stretches
+        (last_writes (written_last (writes_of (map write_in writes.now)) (polynomial_in index.now) (polynomial_in value.now)))) }
 {
     let mut out = Vec::new(alloc);
     out.push((index.try_clone(alloc)?, value.try_clone(alloc)?))?;
@@ -106,7 +112,7 @@ fn written_tree(alloc: Global, a: &Arr, i: &Poly, v: &Poly) -> Result<ArrTree, N
 /// which is carried with depth 0, or else where the depth of the result is past 64. `Wide` never comes. `NoMemory` comes
 /// when memory runs out.
 pub fn write(alloc: Global, a: &Arr, i: &Poly, v: &Poly) -> Result<Arr, NfStop>
-    ensures { Answers result (written a.now i.now v.now) }
+    ensures { Answers result (write_array a.now i.now v.now) }
 {
     let units = a.size() + 1 + i.size() + v.size();
     if units > SIZE_LIMIT {

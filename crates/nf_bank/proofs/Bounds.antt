@@ -1,6 +1,6 @@
 -- Bounds of lists.
 use Rattle.std.proofs.Common.{◌≡◌, ℕ, zero, suc, ◌<◌, ◌≤◌, max, List, [], ◌∷◌, ◌++◌, length, get_or, arith, ap}
-use Rattle.nf_bank.specs.Spelled.{bound_over}
+use Rattle.nf_bank.specs.AtomNumbers.{bound_over}
 
 pub max_left : (a b n : ℕ) → max a b ≤ n → a ≤ n
 max_left a b n h = omega arith
@@ -21,4 +21,5 @@ module _ {T : Type 0} (bound : T → ℕ) where
   pub bound_push : (xs : List T) (x : T) (n : ℕ) → bound_over bound xs ≤ n → bound x ≤ n → bound_over bound (xs ++ x ∷ []) ≤ n
   bound_push [] x n g h = max_both (bound x) 0 n h (omega arith)
   bound_push (y ∷ ys) x n g h =
-      max_both (bound y) (bound_over bound (ys ++ x ∷ [])) n (max_left (bound y) (bound_over bound ys) n g) (bound_push ys x n (max_right (bound y) (bound_over bound ys) n g) h)
+      max_both (bound y) (bound_over bound (ys ++ x ∷ [])) n (max_left (bound y) (bound_over bound ys) n g)
+      (bound_push ys x n (max_right (bound y) (bound_over bound ys) n g) h)

@@ -2,8 +2,8 @@
 use Rattle.std.proofs.Common.{◌≡◌, Bool, true, false, cond, List, [], ◌∷◌, ◌++◌, length, take, append_assoc, ap, sym, subst, ◌∙◌}
 use Rattle.std.proofs.lemmas.List.{append-nil}
 use Rattle.std.proofs.Math.Seq.{take-append_seam}
-use Rattle.nf_terms.specs.Terms.{Atom}
-use Rattle.nf_bank.specs.Atoms.{holds, with_one, IsFront}
+use Rattle.nf_terms.specs.NormalTerms.{Atom}
+use Rattle.nf_bank.specs.Atoms.{holds_atom, with_one, IsFront}
 
 pub front_same : (a b : List Atom) → b ≡ a → IsFront a b
 front_same a b e = record { rest = []; split = e ∙ sym (append-nil a) }
@@ -12,7 +12,7 @@ pub front_trans : (a b c : List Atom) → IsFront a b → IsFront b c → IsFron
 front_trans a b c f g = record { rest = f.rest ++ g.rest; split = g.split ∙ ap (λ t. t ++ g.rest) f.split ∙ append_assoc a f.rest g.rest }
 
 pub front_one : (a : List Atom) (x : Atom) (b : List Atom) → b ≡ with_one x a → IsFront a b
-front_one a x b e = subst (IsFront a) (sym e) (by_value (holds x a))
+front_one a x b e = subst (IsFront a) (sym e) (by_value (holds_atom x a))
   where
     by_value : (t : Bool) → IsFront a (cond t a (a ++ x ∷ []))
     by_value true = record { rest = []; split = sym (append-nil a) }

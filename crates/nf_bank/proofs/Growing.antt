@@ -1,13 +1,15 @@
 -- What numbers stand for stays as atoms are put behind, and differs where the numbers do.
 use Rattle.std.proofs.Common.{◌≡◌, ℕ, ◌≤◌, max, ℤ, Some, List, [], ◌∷◌, ◌++◌, length, map, arith, refl, ap, sym, ◌∙◌}
 use Rattle.std.proofs.lemmas.List.{get_or_append_left, length-append}
-use Rattle.nf_terms.specs.Terms.{Atom, Monomial, Polynomial, ArrayTerm, Read, Quotient, Remainder, Over, monomial_of, polynomial_of, writes_of}
+use Rattle.nf_terms.specs.NormalTerms.{Atom, Monomial, Polynomial, ArrayTerm, Read, Quotient, Remainder, Over, monomial_of, polynomial_of, writes_of}
 use Rattle.nf_bank.specs.declared.node.Term.{Term}
 use Rattle.nf_bank.specs.declared.node.Array.{Array}
 use Rattle.nf_bank.specs.declared.node.Node.{Node}
 use Rattle.nf_bank.specs.declared.node.Node.TheVariants as node
-use Rattle.nf_bank.specs.Atoms.{place_of, IsBank, IsFront}
-use Rattle.nf_bank.specs.Spelled.{bound_over, bound_of_number, bound_of_term, bound_of_sum, bound_of_write, bound_of_array, bound_of_node, past_end, numbered, term_over, sum_over, write_over, array_over, atom_over, Spells, SpellsSum, SpellsArray, SpellsAtom}
+use Rattle.nf_bank.specs.Atoms.{atom_place, IsBank, IsFront}
+use Rattle.nf_bank.specs.AtomNumbers.{bound_over, bound_of_number, bound_of_term, bound_of_sum, bound_of_write, bound_of_array, bound_of_node, past_end}
+use Rattle.nf_bank.specs.AtomNumbers.{atom_of_number, scaled_monomial_over, sum_over, write_over, array_over, atom_over, SpellsOverAtoms, SpellsSum}
+use Rattle.nf_bank.specs.AtomNumbers.{SpellsArray, SpellsAtom}
 use Rattle.nf_bank.proofs.Bounds.{max_left, max_right, max_both}
 use Rattle.nf_bank.proofs.Places.{one_place, at_place}
 
@@ -19,20 +21,24 @@ Grows {N} bound over = (atoms rest : List Atom) (n : N) → bound n ≤ length a
 list_grows : {N V : Type 0} (bound : N → ℕ) (over : List Atom → N → V) → Grows bound over → Grows (bound_over bound) (λ atoms. map (over atoms))
 list_grows bound over g atoms rest [] h = refl
 list_grows bound over g atoms rest (n ∷ ns) h =
-    λ k. g atoms rest n (max_left (bound n) (bound_over bound ns) (length atoms) h) k ∷ list_grows bound over g atoms rest ns (max_right (bound n) (bound_over bound ns) (length atoms) h) k
+    λ k. g atoms rest n (max_left (bound n) (bound_over bound ns) (length atoms) h) k
+    ∷ list_grows bound over g atoms rest ns (max_right (bound n) (bound_over bound ns) (length atoms) h) k
 
-pub numbers_grow : Grows bound_of_number numbered
+pub numbers_grow : Grows bound_of_number atom_of_number
 numbers_grow atoms rest i h = get_or_append_left atoms rest past_end i.0 (omega arith)
 
-pub terms_grow : Grows bound_of_term term_over
-terms_grow atoms rest t h = λ k. (monomial_of (list_grows bound_of_number numbered numbers_grow atoms rest t.atoms h k), t.coefficient)
+pub terms_grow : Grows bound_of_term scaled_monomial_over
+terms_grow atoms rest t h = λ k. (monomial_of (list_grows bound_of_number atom_of_number numbers_grow atoms rest t.atoms h k), t.coefficient)
 
 pub sums_grow : Grows bound_of_sum sum_over
-sums_grow atoms rest s h = ap polynomial_of (list_grows bound_of_term term_over terms_grow atoms rest s h)
+sums_grow atoms rest s h = ap polynomial_of (list_grows bound_of_term scaled_monomial_over terms_grow atoms rest s h)
 
 pub writes_grow : Grows bound_of_write write_over
 writes_grow atoms rest w h =
-    λ k. (sums_grow atoms rest w.index (max_left (bound_of_sum w.index) (bound_of_sum w.value) (length atoms) h) k, sums_grow atoms rest w.value (max_right (bound_of_sum w.index) (bound_of_sum w.value) (length atoms) h) k)
+    λ k. (
+      sums_grow atoms rest w.index (max_left (bound_of_sum w.index) (bound_of_sum w.value) (length atoms) h) k,
+      sums_grow atoms rest w.value (max_right (bound_of_sum w.index) (bound_of_sum w.value) (length atoms) h) k,
+    )
 
 pub arrays_grow : Grows bound_of_array array_over
 arrays_grow atoms rest a h = λ k. Over a.base (writes_of (list_grows bound_of_write write_over writes_grow atoms rest a.writes h k))
@@ -40,11 +46,14 @@ arrays_grow atoms rest a h = λ k. Over a.base (writes_of (list_grows bound_of_w
 pub nodes_grow : Grows bound_of_node atom_over
 nodes_grow atoms rest (node.Sym p) h = refl
 nodes_grow atoms rest (node.Read a i) h =
-    λ k. Read (arrays_grow atoms rest a (max_left (bound_of_array a) (bound_of_sum i) (length atoms) h) k) (sums_grow atoms rest i (max_right (bound_of_array a) (bound_of_sum i) (length atoms) h) k)
+    λ k. Read (arrays_grow atoms rest a (max_left (bound_of_array a) (bound_of_sum i) (length atoms) h) k)
+    (sums_grow atoms rest i (max_right (bound_of_array a) (bound_of_sum i) (length atoms) h) k)
 nodes_grow atoms rest (node.Div p q) h =
-    λ k. Quotient (sums_grow atoms rest p (max_left (bound_of_sum p) (bound_of_sum q) (length atoms) h) k) (sums_grow atoms rest q (max_right (bound_of_sum p) (bound_of_sum q) (length atoms) h) k)
+    λ k. Quotient (sums_grow atoms rest p (max_left (bound_of_sum p) (bound_of_sum q) (length atoms) h) k)
+    (sums_grow atoms rest q (max_right (bound_of_sum p) (bound_of_sum q) (length atoms) h) k)
 nodes_grow atoms rest (node.Rem p q) h =
-    λ k. Remainder (sums_grow atoms rest p (max_left (bound_of_sum p) (bound_of_sum q) (length atoms) h) k) (sums_grow atoms rest q (max_right (bound_of_sum p) (bound_of_sum q) (length atoms) h) k)
+    λ k. Remainder (sums_grow atoms rest p (max_left (bound_of_sum p) (bound_of_sum q) (length atoms) h) k)
+    (sums_grow atoms rest q (max_right (bound_of_sum p) (bound_of_sum q) (length atoms) h) k)
 
 pub front_length : (atoms whole : List Atom) → IsFront atoms whole → length atoms ≤ length whole
 front_length atoms whole f = omega (arith, ap length f.split, length-append atoms f.rest)
@@ -54,11 +63,13 @@ module _ {N V : Type 0} (bound : N → ℕ) (over : List Atom → N → V) (g : 
   pub front_stays : (atoms whole : List Atom) (n : N) → IsFront atoms whole → bound n ≤ length atoms → over whole n ≡ over atoms n
   front_stays atoms whole n f h = ap (λ l. over l n) f.split ∙ g atoms f.rest n h
 
-  pub spells_more : (atoms whole : List Atom) (n : N) (v : V) → IsFront atoms whole → Spells bound over atoms n v → Spells bound over whole n v
+  pub spells_more : (atoms whole : List Atom) (n : N) (v : V) → IsFront atoms whole → SpellsOverAtoms bound over atoms n v
+      → SpellsOverAtoms bound over whole n v
   spells_more atoms whole n v f s = record { within = omega (arith, s.within, front_length atoms whole f); is = front_stays atoms whole n f s.within ∙ s.is }
 
   -- a list of what spells something
-  pub spells_list : (atoms whole : List Atom) (ns : List N) (vs : List V) → IsFront atoms whole → Spells (bound_over bound) (λ l. map (over l)) atoms ns vs → Spells (bound_over bound) (λ l. map (over l)) whole ns vs
+  pub spells_list : (atoms whole : List Atom) (ns : List N) (vs : List V) → IsFront atoms whole
+      → SpellsOverAtoms (bound_over bound) (λ l. map (over l)) atoms ns vs → SpellsOverAtoms (bound_over bound) (λ l. map (over l)) whole ns vs
   spells_list atoms whole ns vs f s = record {
     within = omega (arith, s.within, front_length atoms whole f);
     is = ap (λ l. map (over l) ns) f.split ∙ list_grows bound over g atoms f.rest ns s.within ∙ s.is;
@@ -66,17 +77,20 @@ module _ {N V : Type 0} (bound : N → ℕ) (over : List Atom → N → V) (g : 
 
 -- ---- nodes of numbers that spell their parts
 
-pub read_spelled : (first atoms : List Atom) (a : Array) (i : List Term) (b : ArrayTerm) (p : Polynomial) → IsFront first atoms → SpellsArray first a b → SpellsSum atoms i p → SpellsAtom atoms (node.Read a i) (Read b p)
+pub read_spelled : (first atoms : List Atom) (a : Array) (i : List Term) (b : ArrayTerm) (p : Polynomial) → IsFront first atoms → SpellsArray first a b
+    → SpellsSum atoms i p → SpellsAtom atoms (node.Read a i) (Read b p)
 read_spelled first atoms a i b p f s t =
     let r = spells_more bound_of_array array_over arrays_grow first atoms a b f s in
     record { within = max_both (bound_of_array a) (bound_of_sum i) (length atoms) r.within t.within; is = λ k. Read (r.is k) (t.is k) }
 
-pub quotient_spelled : (first atoms : List Atom) (s t : List Term) (p q : Polynomial) → IsFront first atoms → SpellsSum first s p → SpellsSum atoms t q → SpellsAtom atoms (node.Div s t) (Quotient p q)
+pub quotient_spelled : (first atoms : List Atom) (s t : List Term) (p q : Polynomial) → IsFront first atoms → SpellsSum first s p → SpellsSum atoms t q
+    → SpellsAtom atoms (node.Div s t) (Quotient p q)
 quotient_spelled first atoms s t p q f u v =
     let r = spells_more bound_of_sum sum_over sums_grow first atoms s p f u in
     record { within = max_both (bound_of_sum s) (bound_of_sum t) (length atoms) r.within v.within; is = λ k. Quotient (r.is k) (v.is k) }
 
-pub remainder_spelled : (first atoms : List Atom) (s t : List Term) (p q : Polynomial) → IsFront first atoms → SpellsSum first s p → SpellsSum atoms t q → SpellsAtom atoms (node.Rem s t) (Remainder p q)
+pub remainder_spelled : (first atoms : List Atom) (s t : List Term) (p q : Polynomial) → IsFront first atoms → SpellsSum first s p → SpellsSum atoms t q
+    → SpellsAtom atoms (node.Rem s t) (Remainder p q)
 remainder_spelled first atoms s t p q f u v =
     let r = spells_more bound_of_sum sum_over sums_grow first atoms s p f u in
     record { within = max_both (bound_of_sum s) (bound_of_sum t) (length atoms) r.within v.within; is = λ k. Remainder (r.is k) (v.is k) }
@@ -113,40 +127,47 @@ module _ (atoms : List Atom) (bank : IsBank atoms) where
       let x : over atoms m ≡ over atoms n = cc in
       let y : map (over atoms) ms ≡ map (over atoms) ns = cc in
       let u = t m n (max_left (bound m) (bound_over bound ms) (length atoms) g) (max_left (bound n) (bound_over bound ns) (length atoms) h) x in
-      let v = list_tells bound over t ms ns (max_right (bound m) (bound_over bound ms) (length atoms) g) (max_right (bound n) (bound_over bound ns) (length atoms) h) y in
+      let v = list_tells bound over t ms ns (max_right (bound m) (bound_over bound ms) (length atoms) g)
+      (max_right (bound n) (bound_over bound ns) (length atoms) h) y in
       λ k. u k ∷ v k
 
-  numbers_tell : Tells bound_of_number numbered
+  numbers_tell : Tells bound_of_number atom_of_number
   numbers_tell i j g h e =
-      let a = one_place atoms (numbered atoms i) i.0 bank (at_place atoms i.0 (numbered atoms i) refl (omega arith)) in
-      let b = one_place atoms (numbered atoms j) j.0 bank (at_place atoms j.0 (numbered atoms j) refl (omega arith)) in
-      let f : Some i.0 ≡ Some j.0 = sym a ∙ ap (λ x. place_of x atoms) e ∙ b in
+      let a = one_place atoms (atom_of_number atoms i) i.0 bank (at_place atoms i.0 (atom_of_number atoms i) refl (omega arith)) in
+      let b = one_place atoms (atom_of_number atoms j) j.0 bank (at_place atoms j.0 (atom_of_number atoms j) refl (omega arith)) in
+      let f : Some i.0 ≡ Some j.0 = sym a ∙ ap (λ x. atom_place x atoms) e ∙ b in
       let n : i.0 ≡ j.0 = cc in
       λ k. record { 0 = n k }
 
-  terms_tell : Tells bound_of_term term_over
+  terms_tell : Tells bound_of_term scaled_monomial_over
   terms_tell s t g h e =
-      let a = list_tells bound_of_number numbered numbers_tell s.atoms t.atoms g h (monomial_inj (map (numbered atoms) s.atoms) (map (numbered atoms) t.atoms) (ap (λ x. x.0) e)) in
+      let a = list_tells bound_of_number atom_of_number numbers_tell s.atoms t.atoms g h
+      (monomial_inj (map (atom_of_number atoms) s.atoms) (map (atom_of_number atoms) t.atoms) (ap (λ x. x.0) e)) in
       λ k. record { atoms = a k; coefficient = (e k).1 }
 
   sums_tell : Tells bound_of_sum sum_over
-  sums_tell s t g h e = list_tells bound_of_term term_over terms_tell s t g h (polynomial_inj (map (term_over atoms) s) (map (term_over atoms) t) e)
+  sums_tell s t g h e = list_tells bound_of_term scaled_monomial_over terms_tell s t g h
+      (polynomial_inj (map (scaled_monomial_over atoms) s) (map (scaled_monomial_over atoms) t) e)
 
   writes_tell : Tells bound_of_write write_over
   writes_tell w x g h e =
       let n = length atoms in
-      let i = sums_tell w.index x.index (max_left (bound_of_sum w.index) (bound_of_sum w.value) n g) (max_left (bound_of_sum x.index) (bound_of_sum x.value) n h) (ap (λ y. y.0) e) in
-      let v = sums_tell w.value x.value (max_right (bound_of_sum w.index) (bound_of_sum w.value) n g) (max_right (bound_of_sum x.index) (bound_of_sum x.value) n h) (ap (λ y. y.1) e) in
+      let i = sums_tell w.index x.index (max_left (bound_of_sum w.index) (bound_of_sum w.value) n g)
+      (max_left (bound_of_sum x.index) (bound_of_sum x.value) n h) (ap (λ y. y.0) e) in
+      let v = sums_tell w.value x.value (max_right (bound_of_sum w.index) (bound_of_sum w.value) n g)
+      (max_right (bound_of_sum x.index) (bound_of_sum x.value) n h) (ap (λ y. y.1) e) in
       λ k. record { index = i k; value = v k }
 
   arrays_tell : Tells bound_of_array array_over
   arrays_tell a b g h e =
       let f : a.base ≡ b.base = cc in
       let ws : writes_of (map (write_over atoms) a.writes) ≡ writes_of (map (write_over atoms) b.writes) = cc in
-      let w = list_tells bound_of_write write_over writes_tell a.writes b.writes g h (writes_inj (map (write_over atoms) a.writes) (map (write_over atoms) b.writes) ws) in
+      let w = list_tells bound_of_write write_over writes_tell a.writes b.writes g h
+      (writes_inj (map (write_over atoms) a.writes) (map (write_over atoms) b.writes) ws) in
       λ k. record { base = f k; writes = w k }
 
-  sums_both : (p q r s : List Term) → max (bound_of_sum p) (bound_of_sum q) ≤ length atoms → max (bound_of_sum r) (bound_of_sum s) ≤ length atoms → sum_over atoms p ≡ sum_over atoms r → sum_over atoms q ≡ sum_over atoms s → (p ≡ r) × (q ≡ s)
+  sums_both : (p q r s : List Term) → max (bound_of_sum p) (bound_of_sum q) ≤ length atoms → max (bound_of_sum r) (bound_of_sum s) ≤ length atoms
+      → sum_over atoms p ≡ sum_over atoms r → sum_over atoms q ≡ sum_over atoms s → (p ≡ r) × (q ≡ s)
   sums_both p q r s g h e f =
       let n = length atoms in (
         sums_tell p r (max_left (bound_of_sum p) (bound_of_sum q) n g) (max_left (bound_of_sum r) (bound_of_sum s) n h) e,

@@ -1,18 +1,20 @@
 -- Nodes and their atoms: a node is there exactly where its atom is.
-use Rattle.std.proofs.Common.{◌≡◌, ℕ, zero, suc, ◌+◌, ◌<◌, ◌≤◌, Bool, true, false, ◌||◌, cond, Some, List, [], ◌∷◌, ◌++◌, length, take, get_or, append_assoc, arith, refl, ap, sym, subst, ◌∙◌, if◌then◌else◌}
+use Rattle.std.proofs.Common.{◌≡◌, ℕ, zero, suc, ◌+◌, ◌<◌, ◌≤◌, Bool, true, false, ◌||◌, cond, Some, List, [], ◌∷◌, ◌++◌, length, take, get_or, append_assoc}
+use Rattle.std.proofs.Common.{arith, refl, ap, sym, subst, ◌∙◌, if◌then◌else◌}
 use Rattle.std.proofs.lemmas.List.{append-nil, length_push}
 use Rattle.std.proofs.lemmas.List.Folds.{list_any-append}
 use Rattle.std.proofs.Math.Seq.{take-append_seam}
 use Rattle.std.proofs.lemmas.List.Quantifiers.{position-Some}
 use Rattle.std.specs.List.{list_any, position, slice_get}
-use Rattle.nf_terms.specs.Terms.{Atom}
+use Rattle.base_lemmas.proofs.Booleans.{or_false}
+use Rattle.nf_terms.specs.NormalTerms.{Atom}
 use Rattle.nf_terms.specs.Order.{same_atom}
 use Rattle.nf_bank.specs.declared.node.Node.{Node}
 use Rattle.nf_bank.specs.Nodes.{same_node}
 use Rattle.nf_bank.specs.Equal.{nodes_decide}
-use Rattle.nf_bank.specs.Atoms.{holds, with_one, place_of, IsBank, IsFront}
-use Rattle.nf_bank.specs.Spelled.{bound_of_node, atom_at, atom_over}
-use Rattle.nf_bank.specs.Graphs.{grown, atoms_of, AreBelow, IsGraph}
+use Rattle.nf_bank.specs.Atoms.{holds_atom, with_one, atom_place, IsBank, IsFront}
+use Rattle.nf_bank.specs.AtomNumbers.{bound_of_node, atom_at, atom_over}
+use Rattle.nf_bank.specs.AtomGraphs.{grown, atoms_of, AreBelow, IsAtomGraph}
 use Rattle.nf_bank.proofs.Fronts.{front_one}
 use Rattle.nf_bank.proofs.Places.{equal_atoms, own_atom, one_place, bank_one, bank_taken, found_at}
 use Rattle.nf_bank.proofs.Growing.{nodes_grow, nodes_tell, front_length, front_stays}
@@ -44,7 +46,8 @@ pub next_below : (atoms : List Atom) (a : Atom) (ns : List Node) → AreBelow (l
 next_below atoms a ns b = subst (λ k. AreBelow k ns) (sym (length_push atoms a)) b
 
 -- the atom that stands at the place of a node
-placed_along : (atoms : List Atom) (ns : List Node) (k : ℕ) (n : Node) → AreBelow (length atoms) ns → slice_get ns k ≡ Some n → slice_get (grown atoms ns) (length atoms + k) ≡ Some (atom_over (grown atoms ns) n)
+placed_along : (atoms : List Atom) (ns : List Node) (k : ℕ) (n : Node) → AreBelow (length atoms) ns → slice_get ns k ≡ Some n
+    → slice_get (grown atoms ns) (length atoms + k) ≡ Some (atom_over (grown atoms ns) n)
 placed_along atoms [] k n b e = cc
 placed_along atoms (m ∷ ns) zero n b e =
     let q : m ≡ n = cc in
@@ -67,7 +70,7 @@ placed_along atoms (m ∷ ns) (suc k) n b e =
     lengths : {l : ℕ} → l ≡ length atoms + 1 → l + k ≡ length atoms + suc k
     lengths h = omega arith
 
-placed : (ns : List Node) (k : ℕ) (n : Node) → IsGraph ns → slice_get ns k ≡ Some n → slice_get (atoms_of ns) k ≡ Some (atom_over (atoms_of ns) n)
+placed : (ns : List Node) (k : ℕ) (n : Node) → IsAtomGraph ns → slice_get ns k ≡ Some n → slice_get (atoms_of ns) k ≡ Some (atom_over (atoms_of ns) n)
 placed ns k n g e = subst (λ j. slice_get (atoms_of ns) j ≡ Some (atom_over (atoms_of ns) n)) (plus k) (placed_along [] ns k n g.below e)
   where
     plus : (k : ℕ) → 0 + k ≡ k
@@ -79,17 +82,19 @@ below_along k (m ∷ ns) zero n b e = let q : bound_of_node m ≡ bound_of_node 
 below_along k (m ∷ ns) (suc j) n b e = omega (arith, below_along (k + 1) ns j n b.1 e)
 
 -- a node of a graph: its numbers are smaller, and its atom stands at its place
-pub node_within : (ns : List Node) (k : ℕ) (n : Node) → IsGraph ns → slice_get ns k ≡ Some n → bound_of_node n ≤ k
+pub node_within : (ns : List Node) (k : ℕ) (n : Node) → IsAtomGraph ns → slice_get ns k ≡ Some n → bound_of_node n ≤ k
 node_within ns k n g e = omega (arith, below_along 0 ns k n g.below e)
 
-pub node_there : (ns : List Node) (atoms : List Atom) (k : ℕ) (n : Node) → atoms_of ns ≡ atoms → IsGraph ns → slice_get ns k ≡ Some n → atom_over atoms n ≡ atom_at atoms k
+pub node_there : (ns : List Node) (atoms : List Atom) (k : ℕ) (n : Node) → atoms_of ns ≡ atoms → IsAtomGraph ns → slice_get ns k ≡ Some n
+    → atom_over atoms n ≡ atom_at atoms k
 node_there ns atoms k n w g e =
     let p = one_place (atoms_of ns) (atom_over (atoms_of ns) n) k g.different (placed ns k n g e) in
     subst (λ l. atom_over l n ≡ atom_at l k) w (sym (found_at (atoms_of ns) k (atom_over (atoms_of ns) n) p).1)
 
 -- ---- a node is there exactly where its atom is
 
-same_both : (atoms : List Atom) → IsBank atoms → (m n : Node) → bound_of_node m ≤ length atoms → bound_of_node n ≤ length atoms → same_atom (atom_over atoms m) (atom_over atoms n) ≡ same_node m n
+same_both : (atoms : List Atom) → IsBank atoms → (m n : Node) → bound_of_node m ≤ length atoms → bound_of_node n ≤ length atoms
+    → same_atom (atom_over atoms m) (atom_over atoms n) ≡ same_node m n
 same_both atoms u m n g h = by_values (same_atom (atom_over atoms m) (atom_over atoms n)) (same_node m n) refl refl
   where
     by_values : (s t : Bool) → same_atom (atom_over atoms m) (atom_over atoms n) ≡ s → same_node m n ≡ t → s ≡ t
@@ -98,50 +103,50 @@ same_both atoms u m n g h = by_values (same_atom (atom_over atoms m) (atom_over 
     by_values false true e f = sym e ∙ own_atom (atom_over atoms m) (atom_over atoms n) (ap (atom_over atoms) ((nodes_decide m n).0 f))
     by_values false false e f = refl
 
-or_end : (x : Bool) → x || false ≡ x
-or_end true = refl
-or_end false = refl
-
 or_deep : (x y z : Bool) → x || y || z ≡ x || (y || z)
 or_deep true y z = refl
 or_deep false y z = refl
 
-pub holds_push : (a b : Atom) (atoms : List Atom) → holds a (atoms ++ b ∷ []) ≡ holds a atoms || same_atom a b
-holds_push a b atoms = list_any-append (same_atom a) atoms (b ∷ []) ∙ ap (λ x. holds a atoms || x) (or_end (same_atom a b))
+pub holds_push : (a b : Atom) (atoms : List Atom) → holds_atom a (atoms ++ b ∷ []) ≡ holds_atom a atoms || same_atom a b
+holds_push a b atoms = list_any-append (same_atom a) atoms (b ∷ []) ∙ ap (λ x. holds_atom a atoms || x) (or_false (same_atom a b))
 
 module _ (n : Node) where
   held_along : (atoms : List Atom) (ns : List Node) → AreBelow (length atoms) ns → IsBank (grown atoms ns) → bound_of_node n ≤ length (grown atoms ns)
-      → holds (atom_over (grown atoms ns) n) (grown atoms ns) ≡ holds (atom_over (grown atoms ns) n) atoms || list_any (same_node n) ns
-  held_along atoms [] b u h = sym (or_end (holds (atom_over atoms n) atoms))
+      → holds_atom (atom_over (grown atoms ns) n) (grown atoms ns) ≡ holds_atom (atom_over (grown atoms ns) n) atoms || list_any (same_node n) ns
+  held_along atoms [] b u h = sym (or_false (holds_atom (atom_over atoms n) atoms))
   held_along atoms (m ∷ ns) b u h =
       let next = atoms ++ atom_over atoms m ∷ [] in
       let whole = grown next ns in
       let a = atom_over whole n in
       let f = grown_front atoms (m ∷ ns) in
       let kept : atom_over whole m ≡ atom_over atoms m = node_stays atoms whole m f b.0 in
-      let s : same_atom a (atom_over atoms m) ≡ same_node n m = ap (same_atom a) (sym kept) ∙ same_both whole u n m h (omega (arith, b.0, front_length atoms whole f)) in
+      let s : same_atom a (atom_over atoms m) ≡ same_node n m = ap (same_atom a) (sym kept)
+      ∙ same_both whole u n m h (omega (arith, b.0, front_length atoms whole f)) in
       held_along next ns (next_below atoms (atom_over atoms m) ns b.1) u h
-      ∙ ap (λ x. x || list_any (same_node n) ns) (holds_push a (atom_over atoms m) atoms ∙ ap (λ x. holds a atoms || x) s)
-      ∙ or_deep (holds a atoms) (same_node n m) (list_any (same_node n) ns)
+      ∙ ap (λ x. x || list_any (same_node n) ns) (holds_push a (atom_over atoms m) atoms ∙ ap (λ x. holds_atom a atoms || x) s)
+      ∙ or_deep (holds_atom a atoms) (same_node n m) (list_any (same_node n) ns)
 
-  pub held : (ns : List Node) → IsGraph ns → bound_of_node n ≤ length (atoms_of ns) → holds (atom_over (atoms_of ns) n) (atoms_of ns) ≡ list_any (same_node n) ns
+  pub held : (ns : List Node) → IsAtomGraph ns → bound_of_node n ≤ length (atoms_of ns)
+      → holds_atom (atom_over (atoms_of ns) n) (atoms_of ns) ≡ list_any (same_node n) ns
   held ns g h = held_along [] ns g.below g.different h
 
 -- where a node is found, and where it is not
-pub node_found : (ns : List Node) (atoms : List Atom) (n : Node) (k : ℕ) → atoms_of ns ≡ atoms → IsGraph ns → bound_of_node n ≤ length atoms → Some k ≡ position (same_node n) ns → place_of (atom_over atoms n) atoms ≡ Some k
+pub node_found : (ns : List Node) (atoms : List Atom) (n : Node) (k : ℕ) → atoms_of ns ≡ atoms → IsAtomGraph ns → bound_of_node n ≤ length atoms
+    → Some k ≡ position (same_node n) ns → atom_place (atom_over atoms n) atoms ≡ Some k
 node_found ns atoms n k w g h e =
     let f = position-Some (same_node n) ns k n (sym e) in
     let q : n ≡ get_or ns k n = (nodes_decide n (get_or ns k n)).0 f.1 in
     let s : slice_get ns k ≡ Some n = item_there ns k n f.0 ∙ ap Some (sym q) in
-    subst (λ l. place_of (atom_over l n) l ≡ Some k) w (one_place (atoms_of ns) (atom_over (atoms_of ns) n) k g.different (placed ns k n g s))
+    subst (λ l. atom_place (atom_over l n) l ≡ Some k) w (one_place (atoms_of ns) (atom_over (atoms_of ns) n) k g.different (placed ns k n g s))
   where
     item_there : (ns : List Node) (k : ℕ) (d : Node) → k < length ns → slice_get ns k ≡ Some (get_or ns k d)
     item_there [] k d h = absurd (omega arith)
     item_there (m ∷ ns) zero d h = refl
     item_there (m ∷ ns) (suc k) d h = item_there ns k d (omega arith)
 
-pub node_absent : (ns : List Node) (atoms : List Atom) (n : Node) → atoms_of ns ≡ atoms → IsGraph ns → bound_of_node n ≤ length atoms → list_any (same_node n) ns ≡ false → holds (atom_over atoms n) atoms ≡ false
-node_absent ns atoms n w g h e = subst (λ l. holds (atom_over l n) l ≡ false) w (held n ns g (omega (arith, h, ap length w)) ∙ e)
+pub node_absent : (ns : List Node) (atoms : List Atom) (n : Node) → atoms_of ns ≡ atoms → IsAtomGraph ns → bound_of_node n ≤ length atoms
+    → list_any (same_node n) ns ≡ false → holds_atom (atom_over atoms n) atoms ≡ false
+node_absent ns atoms n w g h e = subst (λ l. holds_atom (atom_over l n) l ≡ false) w (held n ns g (omega (arith, h, ap length w)) ∙ e)
 
 below-last : (k : ℕ) (ns : List Node) (n : Node) → AreBelow k ns → bound_of_node n ≤ k + length ns → AreBelow k (ns ++ n ∷ [])
 below-last k [] n b h = (omega arith, tt)
@@ -149,7 +154,8 @@ below-last k (m ∷ ns) n b h = (b.0, below-last (k + 1) ns n b.1 (omega arith))
 
 -- ---- a node is put
 
-module _ (ns new : List Node) (n : Node) (atoms : List Atom) (w : atoms_of ns ≡ atoms) (g : IsGraph ns) (h : bound_of_node n ≤ length atoms) (e : new ≡ (if list_any (same_node n) ns then ns else ns ++ n ∷ [])) where
+module _ (ns new : List Node) (n : Node) (atoms : List Atom) (w : atoms_of ns ≡ atoms) (g : IsAtomGraph ns) (h : bound_of_node n ≤ length atoms)
+    (e : new ≡ (if list_any (same_node n) ns then ns else ns ++ n ∷ [])) where
   within : bound_of_node n ≤ length (atoms_of ns)
   within = omega (arith, h, ap length w)
 
@@ -167,7 +173,7 @@ module _ (ns new : List Node) (n : Node) (atoms : List Atom) (w : atoms_of ns �
       (λ q. grown-last [] ns n ∙ sym (ap (λ t. cond t (atoms_of ns) (atoms_of ns ++ atom_over (atoms_of ns) n ∷ [])) (held n ns g within ∙ q)))
       ∙ ap (λ l. with_one (atom_over l n) l) w
 
-  pub graph_kept : IsGraph new
+  pub graph_kept : IsAtomGraph new
   graph_kept = record {
     below = by_held (AreBelow 0) (λ q. g.below) (λ q. below-last 0 ns n g.below (omega (arith, within, length-grown [] ns)));
     different = subst IsBank (sym node_kept) (bank_one (atom_over atoms n) atoms (subst IsBank w g.different));
@@ -176,11 +182,11 @@ module _ (ns new : List Node) (n : Node) (atoms : List Atom) (w : atoms_of ns �
   pub front_kept : IsFront atoms (atoms_of new)
   front_kept = front_one atoms (atom_over atoms n) (atoms_of new) node_kept
 
-  pub place_kept : (k : ℕ) (m : Node) → slice_get new k ≡ Some m → same_node n m ≡ true → place_of (atom_over atoms n) (atoms_of new) ≡ Some k
+  pub place_kept : (k : ℕ) (m : Node) → slice_get new k ≡ Some m → same_node n m ≡ true → atom_place (atom_over atoms n) (atoms_of new) ≡ Some k
   place_kept k m s q =
       let i : slice_get new k ≡ Some n = s ∙ ap Some (sym ((nodes_decide n m).0 q)) in
       let p = one_place (atoms_of new) (atom_over (atoms_of new) n) k graph_kept.different (placed new k n graph_kept i) in
-      ap (λ a. place_of a (atoms_of new)) (sym (node_stays atoms (atoms_of new) n front_kept h)) ∙ p
+      ap (λ a. atom_place a (atoms_of new)) (sym (node_stays atoms (atoms_of new) n front_kept h)) ∙ p
 
 -- ---- the first nodes
 
@@ -204,7 +210,8 @@ grown_taken atoms (suc i) [] = sym (all_taken atoms (length atoms + suc i) (omeg
     all_taken (a ∷ l) zero h = absurd (omega arith)
     all_taken (a ∷ l) (suc k) h = ap (λ t. a ∷ t) (all_taken l k (omega arith))
 grown_taken atoms (suc i) (n ∷ ns) =
-    grown_taken (atoms ++ atom_over atoms n ∷ []) i ns ∙ ap (λ k. take k (grown (atoms ++ atom_over atoms n ∷ []) ns)) (lengths (length_push atoms (atom_over atoms n)))
+    grown_taken (atoms ++ atom_over atoms n ∷ []) i ns ∙ ap (λ k. take k (grown (atoms ++ atom_over atoms n ∷ []) ns))
+    (lengths (length_push atoms (atom_over atoms n)))
   where
     lengths : {l : ℕ} → l ≡ length atoms + 1 → l + i ≡ length atoms + suc i
     lengths h = omega arith
@@ -215,5 +222,5 @@ atoms_taken i ns = grown_taken [] i ns ∙ ap (λ k. take k (atoms_of ns)) (plus
     plus : (k : ℕ) → 0 + k ≡ k
     plus k = omega arith
 
-pub graph_taken : (i : ℕ) (ns : List Node) → IsGraph ns → IsGraph (take i ns)
+pub graph_taken : (i : ℕ) (ns : List Node) → IsAtomGraph ns → IsAtomGraph (take i ns)
 graph_taken i ns g = record { below = below_taken 0 i ns g.below; different = subst IsBank (sym (atoms_taken i ns)) (bank_taken i (atoms_of ns) g.different) }

@@ -1,19 +1,21 @@
 -- Loops that gather numbers: what they spell so far, and what is left.
 use Rattle.std.proofs.Common.{◌≡◌, ℕ, ◌+◌, ◌<◌, ◌≤◌, ℤ, true, ◌&&◌, Some, List, [], ◌∷◌, ◌++◌, length, map, take, drop, get_or, arith, ap, sym, subst, ◌∙◌}
-use Rattle.std.proofs.lemmas.List.{map_push, map_more, take_all, drop_more}
-use Rattle.nf_terms.specs.Terms.{Atom, Monomial, Polynomial, ArrayTerm, Over, monomial_of, polynomial_of, writes_of}
+use Rattle.std.proofs.lemmas.List.{map_push, map_more, take_all}
+use Rattle.std.proofs.lemmas.Bool.{and_from}
+use Rattle.base_lemmas.proofs.Lists.{drop_next}
+use Rattle.nf_terms.specs.NormalTerms.{Atom, Monomial, Polynomial, ArrayTerm, Over, monomial_of, polynomial_of, writes_of}
 use Rattle.nf_terms.specs.View.{atom_in, monomial_in, polynomial_in, term_in, write_in}
 use Rattle.nf_terms.specs.declared.tree.Atom.{Atom as AtomTree}
 use Rattle.nf_terms.specs.declared.tree.MonoTree.{MonoTree}
 use Rattle.nf_terms.specs.declared.tree.PolyTree.{PolyTree}
 use Rattle.nf_terms.specs.declared.tree.Base.{Base}
-use Rattle.nf_terms.proofs.Tests.{and_both}
 use Rattle.nf_bank.specs.declared.node.AtomId.{AtomId}
 use Rattle.nf_bank.specs.declared.node.Term.{Term}
 use Rattle.nf_bank.specs.declared.node.Write.{Write}
-use Rattle.nf_bank.specs.Atoms.{holds, place_of, IsFront}
-use Rattle.nf_bank.specs.Held.{holds_monomial, holds_terms, holds_writes}
-use Rattle.nf_bank.specs.Spelled.{bound_over, bound_of_number, bound_of_term, bound_of_write, bound_of_sum, numbered, term_over, sum_over, write_over, Spells, SpellsMonomial, SpellsSum, SpellsArray}
+use Rattle.nf_bank.specs.Atoms.{holds_atom, atom_place, IsFront}
+use Rattle.nf_bank.specs.HeldAtoms.{holds_monomial, holds_terms, holds_writes}
+use Rattle.nf_bank.specs.AtomNumbers.{bound_over, bound_of_number, bound_of_term, bound_of_write, bound_of_sum, atom_of_number, scaled_monomial_over, sum_over}
+use Rattle.nf_bank.specs.AtomNumbers.{write_over, SpellsOverAtoms, SpellsMonomial, SpellsSum, SpellsArray}
 use Rattle.nf_bank.proofs.Bounds.{bound_push, max_both}
 use Rattle.nf_bank.proofs.Places.{found_at}
 use Rattle.nf_bank.proofs.Growing.{Grows, sums_grow, spells_list, spells_more}
@@ -22,10 +24,11 @@ use Rattle.nf_bank.proofs.Closed.{monomial_held, sum_held}
 module _ {N V T : Type 0} (bound : N → ℕ) (over : List Atom → N → V) (seen : T → V) where
   -- numbers spell the first items of a list
   abbrev pub SpellsFirst : List Atom → List N → List T → ℕ → Type 0
-  SpellsFirst atoms ns items k = Spells (bound_over bound) (λ l. map (over l)) atoms ns (map seen (take k items))
+  SpellsFirst atoms ns items k = SpellsOverAtoms (bound_over bound) (λ l. map (over l)) atoms ns (map seen (take k items))
 
   -- one item more is spelled
-  pub one_more : Grows bound over → (atoms whole : List Atom) (ns : List N) (items : List T) (k : ℕ) (n : N) (x : T) → SpellsFirst atoms ns items k → IsFront atoms whole → k < length items → x ≡ get_or items k x → Spells bound over whole n (seen x)
+  pub one_more : Grows bound over → (atoms whole : List Atom) (ns : List N) (items : List T) (k : ℕ) (n : N) (x : T) → SpellsFirst atoms ns items k
+      → IsFront atoms whole → k < length items → x ≡ get_or items k x → SpellsOverAtoms bound over whole n (seen x)
       → SpellsFirst whole (ns ++ n ∷ []) items (k + 1)
   one_more g atoms whole ns items k n x s f h e t =
       let r = spells_list bound over g atoms whole ns (map seen (take k items)) f s in
@@ -34,23 +37,30 @@ module _ {N V T : Type 0} (bound : N → ℕ) (over : List Atom → N → V) (se
         is = map_push (over whole) ns n ∙ (λ j. r.is j ++ t.is j ∷ []) ∙ ap (λ y. map seen (take k items) ++ seen y ∷ []) e ∙ sym (map_more seen items k x h);
       }
 
-  all_spelled : (atoms : List Atom) (ns new : List N) (items : List T) (k : ℕ) → SpellsFirst atoms ns items k → length items ≤ k → new ≡ ns → Spells (bound_over bound) (λ l. map (over l)) atoms new (map seen items)
+  all_spelled : (atoms : List Atom) (ns new : List N) (items : List T) (k : ℕ) → SpellsFirst atoms ns items k → length items ≤ k → new ≡ ns
+      → SpellsOverAtoms (bound_over bound) (λ l. map (over l)) atoms new (map seen items)
   all_spelled atoms ns new items k s h e =
-      subst (λ l. Spells (bound_over bound) (λ a. map (over a)) atoms l (map seen items)) (sym e) (subst (λ l. Spells (bound_over bound) (λ a. map (over a)) atoms ns (map seen l)) (take_all k items h) s)
+      subst (λ l. SpellsOverAtoms (bound_over bound) (λ a. map (over a)) atoms l (map seen items)) (sym e)
+      (subst (λ l. SpellsOverAtoms (bound_over bound) (λ a. map (over a)) atoms ns (map seen l)) (take_all k items h) s)
 
 -- ---- what is gathered in all
 
-pub monomial_spelled : (atoms : List Atom) (ids new : List AtomId) (items : List AtomTree) (k : ℕ) (m : Monomial) → SpellsFirst bound_of_number numbered atom_in atoms ids items k → length items ≤ k → new ≡ ids → monomial_of (map atom_in items) ≡ m → SpellsMonomial atoms new m
+pub monomial_spelled : (atoms : List Atom) (ids new : List AtomId) (items : List AtomTree) (k : ℕ) (m : Monomial)
+    → SpellsFirst bound_of_number atom_of_number atom_in atoms ids items k → length items ≤ k → new ≡ ids → monomial_of (map atom_in items) ≡ m
+    → SpellsMonomial atoms new m
 monomial_spelled atoms ids new items k m s h e w =
-    let r = all_spelled bound_of_number numbered atom_in atoms ids new items k s h e in
+    let r = all_spelled bound_of_number atom_of_number atom_in atoms ids new items k s h e in
     record { within = r.within; is = ap monomial_of r.is ∙ w }
 
-pub sum_spelled : (atoms : List Atom) (terms new : List Term) (items : List (MonoTree × ℤ)) (k : ℕ) (p : Polynomial) → SpellsFirst bound_of_term term_over term_in atoms terms items k → length items ≤ k → new ≡ terms → polynomial_of (map term_in items) ≡ p → SpellsSum atoms new p
+pub sum_spelled : (atoms : List Atom) (terms new : List Term) (items : List (MonoTree × ℤ)) (k : ℕ) (p : Polynomial)
+    → SpellsFirst bound_of_term scaled_monomial_over term_in atoms terms items k → length items ≤ k → new ≡ terms → polynomial_of (map term_in items) ≡ p
+    → SpellsSum atoms new p
 sum_spelled atoms terms new items k p s h e w =
-    let r = all_spelled bound_of_term term_over term_in atoms terms new items k s h e in
+    let r = all_spelled bound_of_term scaled_monomial_over term_in atoms terms new items k s h e in
     record { within = r.within; is = ap polynomial_of r.is ∙ w }
 
-pub array_spelled : (atoms : List Atom) (b : Base) (writes new : List Write) (items : List (PolyTree × PolyTree)) (k : ℕ) (a : ArrayTerm) → SpellsFirst bound_of_write write_over write_in atoms writes items k → length items ≤ k → new ≡ writes → Over b (writes_of (map write_in items)) ≡ a
+pub array_spelled : (atoms : List Atom) (b : Base) (writes new : List Write) (items : List (PolyTree × PolyTree)) (k : ℕ) (a : ArrayTerm)
+    → SpellsFirst bound_of_write write_over write_in atoms writes items k → length items ≤ k → new ≡ writes → Over b (writes_of (map write_in items)) ≡ a
     → SpellsArray atoms (record { base = b; writes = new }) a
 array_spelled atoms b writes new items k a s h e w =
     let r = all_spelled bound_of_write write_over write_in atoms writes new items k s h e in
@@ -58,40 +68,45 @@ array_spelled atoms b writes new items k a s h e w =
 
 -- ---- one item
 
-pub number_spells : (atoms : List Atom) (i : AtomId) (a : Atom) → place_of a atoms ≡ Some i.0 → Spells bound_of_number numbered atoms i a
+pub number_spells : (atoms : List Atom) (i : AtomId) (a : Atom) → atom_place a atoms ≡ Some i.0 → SpellsOverAtoms bound_of_number atom_of_number atoms i a
 number_spells atoms i a e = let f = found_at atoms i.0 a e in record { within = omega (arith, f.0); is = f.1 }
 
-pub term_spells : (atoms : List Atom) (t : Term) (ids : List AtomId) (x : MonoTree × ℤ) → ◌≡◌ {A = Term} t (record { atoms = ids; coefficient = x.1 }) → SpellsMonomial atoms ids (monomial_in x.0) → Spells bound_of_term term_over atoms t (term_in x)
-term_spells atoms t ids x e s = subst (λ u. Spells bound_of_term term_over atoms u (term_in x)) (sym e) (record { within = s.within; is = λ k. (s.is k, x.1) })
+pub term_spells : (atoms : List Atom) (t : Term) (ids : List AtomId) (x : MonoTree × ℤ) → ◌≡◌ {A = Term} t (record { atoms = ids; coefficient = x.1 })
+    → SpellsMonomial atoms ids (monomial_in x.0) → SpellsOverAtoms bound_of_term scaled_monomial_over atoms t (term_in x)
+term_spells atoms t ids x e s = subst (λ u. SpellsOverAtoms bound_of_term scaled_monomial_over atoms u (term_in x)) (sym e)
+    (record { within = s.within; is = λ k. (s.is k, x.1) })
 
-pub write_spells : (first atoms : List Atom) (i v : List Term) (x : PolyTree × PolyTree) → IsFront first atoms → SpellsSum first i (polynomial_in x.0) → SpellsSum atoms v (polynomial_in x.1) → Spells bound_of_write write_over atoms (record { index = i; value = v }) (write_in x)
+pub write_spells : (first atoms : List Atom) (i v : List Term) (x : PolyTree × PolyTree) → IsFront first atoms → SpellsSum first i (polynomial_in x.0)
+    → SpellsSum atoms v (polynomial_in x.1) → SpellsOverAtoms bound_of_write write_over atoms (record { index = i; value = v }) (write_in x)
 write_spells first atoms i v x f s t =
     let r = spells_more bound_of_sum sum_over sums_grow first atoms i (polynomial_in x.0) f s in
     record { within = max_both (bound_of_sum i) (bound_of_sum v) (length atoms) r.within t.within; is = λ k. (r.is k, t.is k) }
 
 -- ---- what is left, where an item is there
 
-next : {T : Type 0} (items : List T) (k : ℕ) (x : T) → k < length items → x ≡ get_or items k x → drop k items ≡ x ∷ drop (k + 1) items
-next items k x h e = drop_more items k x h ∙ ap (λ y. y ∷ drop (k + 1) items) (sym e)
-
 module _ (atoms : List Atom) where
-  pub monomial_there : (items : List AtomTree) (k : ℕ) (x : AtomTree) → k < length items → x ≡ get_or items k x → holds (atom_in x) atoms ≡ true
+  pub monomial_there : (items : List AtomTree) (k : ℕ) (x : AtomTree) → k < length items → x ≡ get_or items k x → holds_atom (atom_in x) atoms ≡ true
       → holds_monomial (monomial_of (map atom_in (drop (k + 1) items))) atoms ≡ holds_monomial (monomial_of (map atom_in (drop k items))) atoms
   monomial_there items k x h e t =
-      sym (ap (λ l. holds_monomial (monomial_of (map atom_in l)) atoms) (next items k x h e) ∙ ap (λ b. b && holds_monomial (monomial_of (map atom_in (drop (k + 1) items))) atoms) t)
+      sym (ap (λ l. holds_monomial (monomial_of (map atom_in l)) atoms) (drop_next items k x h e)
+      ∙ ap (λ b. b && holds_monomial (monomial_of (map atom_in (drop (k + 1) items))) atoms) t)
 
-  pub sum_there : (items : List (MonoTree × ℤ)) (k : ℕ) (x : MonoTree × ℤ) (ids : List AtomId) → k < length items → x ≡ get_or items k x → SpellsMonomial atoms ids (monomial_in x.0)
+  pub sum_there : (items : List (MonoTree × ℤ)) (k : ℕ) (x : MonoTree × ℤ) (ids : List AtomId) → k < length items → x ≡ get_or items k x
+      → SpellsMonomial atoms ids (monomial_in x.0)
       → holds_terms (polynomial_of (map term_in (drop (k + 1) items))) atoms ≡ holds_terms (polynomial_of (map term_in (drop k items))) atoms
   sum_there items k x ids h e s =
       let t = subst (λ m. holds_monomial m atoms ≡ true) s.is (monomial_held atoms ids s.within) in
-      sym (ap (λ l. holds_terms (polynomial_of (map term_in l)) atoms) (next items k x h e) ∙ ap (λ b. b && holds_terms (polynomial_of (map term_in (drop (k + 1) items))) atoms) t)
+      sym (ap (λ l. holds_terms (polynomial_of (map term_in l)) atoms) (drop_next items k x h e)
+      ∙ ap (λ b. b && holds_terms (polynomial_of (map term_in (drop (k + 1) items))) atoms) t)
 
-  pub writes_there : (items : List (PolyTree × PolyTree)) (k : ℕ) (x : PolyTree × PolyTree) (i v : List Term) → k < length items → x ≡ get_or items k x → SpellsSum atoms i (polynomial_in x.0) → SpellsSum atoms v (polynomial_in x.1)
+  pub writes_there : (items : List (PolyTree × PolyTree)) (k : ℕ) (x : PolyTree × PolyTree) (i v : List Term) → k < length items → x ≡ get_or items k x
+      → SpellsSum atoms i (polynomial_in x.0) → SpellsSum atoms v (polynomial_in x.1)
       → holds_writes (writes_of (map write_in (drop (k + 1) items))) atoms ≡ holds_writes (writes_of (map write_in (drop k items))) atoms
   writes_there items k x i v h e s t =
       let f = subst (λ p. holds_terms p atoms ≡ true) s.is (sum_held atoms i s.within) in
       let g = subst (λ p. holds_terms p atoms ≡ true) t.is (sum_held atoms v t.within) in
       sym
-      (ap (λ l. holds_writes (writes_of (map write_in l)) atoms) (next items k x h e)
-      ∙ ap (λ b. b && holds_writes (writes_of (map write_in (drop (k + 1) items))) atoms) (and_both (holds_terms (polynomial_in x.0) atoms) (holds_terms (polynomial_in x.1) atoms) f g)
+      (ap (λ l. holds_writes (writes_of (map write_in l)) atoms) (drop_next items k x h e)
+      ∙ ap (λ b. b && holds_writes (writes_of (map write_in (drop (k + 1) items))) atoms)
+      (and_from (holds_terms (polynomial_in x.0) atoms) (holds_terms (polynomial_in x.1) atoms) f g)
       )

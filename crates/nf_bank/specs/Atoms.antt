@@ -2,29 +2,32 @@
 use Rattle.std.specs.Prelude.{◌≡◌, ℕ, cond, not, IsTrue, Bool, Option, List, [], ◌∷◌, ◌++◌}
 use Rattle.std.specs.List.{list_any, position}
 use Rattle.std.specs.Coded.{Coded, coded_list}
-use Rattle.nf_terms.specs.Terms.{Atom, Monomial, Polynomial, ArrayTerm, Writes, Symbol, Read, Quotient, Remainder, One, Times, Zero, Plus, Over, NoWrites, Write}
+use Rattle.nf_terms.specs.NormalTerms.{Atom, Monomial, Polynomial, ArrayTerm, Writes, Symbol, Read, Quotient, Remainder, One}
+use Rattle.nf_terms.specs.NormalTerms.{Times, Zero, Plus, Over, NoWrites, Write}
 use Rattle.nf_terms.specs.Order.{same_atom}
 use Rattle.nf_terms.specs.Codes.{coded_atom}
 
 -- whether an atom is in a list
-abbrev pub holds : Atom → List Atom → Bool
-holds a kept = list_any (same_atom a) kept
+abbrev pub holds_atom : Atom → List Atom → Bool
+holds_atom a kept = list_any (same_atom a) kept
 
 -- the place of an atom in a list
-abbrev pub place_of : Atom → List Atom → Option ℕ
-place_of a kept = position (same_atom a) kept
+abbrev pub atom_place : Atom → List Atom → Option ℕ
+atom_place a kept = position (same_atom a) kept
 
 -- a list with an atom last, unless it has it
 abbrev pub with_one : Atom → List Atom → List Atom
-with_one a kept = cond (holds a kept) kept (kept ++ a ∷ [])
+with_one a kept = cond (holds_atom a kept) kept (kept ++ a ∷ [])
 
 abbrev mutual
   -- a list with an atom, unless it has it: first the atoms in it, then the atom
   pub with_atom : Atom → List Atom → List Atom
   with_atom (Symbol p) kept = with_one (Symbol p) kept
-  with_atom (Read a i) kept = cond (holds (Read a i) kept) kept (with_one (Read a i) (with_terms i (with_array a kept)))
-  with_atom (Quotient p q) kept = cond (holds (Quotient p q) kept) kept (with_one (Quotient p q) (with_terms q (with_terms p kept)))
-  with_atom (Remainder p q) kept = cond (holds (Remainder p q) kept) kept (with_one (Remainder p q) (with_terms q (with_terms p kept)))
+  with_atom (Read a i) kept = cond (holds_atom (Read a i) kept) kept (with_one (Read a i) (with_terms i (with_array a kept)))
+  with_atom (Quotient p q) kept = cond (holds_atom (Quotient p q) kept) kept
+      (with_one (Quotient p q) (with_terms q (with_terms p kept)))
+  with_atom (Remainder p q) kept = cond (holds_atom (Remainder p q) kept) kept
+      (with_one (Remainder p q) (with_terms q (with_terms p kept)))
 
   -- the same of each atom of a monomial
   pub with_monomial : Monomial → List Atom → List Atom
@@ -55,7 +58,7 @@ with_inner (Remainder p q) kept = with_terms q (with_terms p kept)
 -- no atom stands twice
 abbrev pub AreDifferent : List Atom → Type 0
 AreDifferent [] = Unit {0}
-AreDifferent (a ∷ rest) = IsTrue (not (holds a rest)) × AreDifferent rest
+AreDifferent (a ∷ rest) = IsTrue (not (holds_atom a rest)) × AreDifferent rest
 
 -- what holds of a bank
 pub record IsBank (atoms : List Atom) : Type 0 where

@@ -6,9 +6,9 @@ use Rattle.std.specs.Bool.{Decides}
 use Rattle.std.specs.Cmp.{signed_Decides, IsPartialEquivalence, IsEquivalence, partial_equiv_from_equiv}
 use Rattle.std.specs.Cmp.Lexicographic.{pointwise, pointwise_decides}
 use Rattle.nf_terms.specs.Mentions.{same_side, same_pos}
-use Rattle.nf_terms.specs.declared.tree.Side.{Side}
-use Rattle.nf_terms.specs.declared.tree.Side.TheVariants.{Left, Right}
-use Rattle.nf_terms.specs.declared.tree.Pos.{Pos}
+use Rattle.fs_model.specs.declared.sides.Side.{Side}
+use Rattle.fs_model.specs.declared.sides.Side.TheVariants.{Left, Right}
+use Rattle.fs_model.specs.declared.sides.Pos.{Pos}
 use Rattle.nf_terms.specs.declared.tree.Base.{Base}
 use Rattle.nf_terms.specs.declared.tree.Base.TheVariants as base
 use Rattle.nf_bank.specs.declared.node.AtomId.{AtomId}
@@ -32,7 +32,8 @@ sides_decide Right Left = ((λ e. cc e), (λ e. cc e))
 sides_decide Right Right = ((λ _. refl), (λ _. refl))
 
 pos_decide : (p q : Pos) → Decides (same_pos p q) (p ≡ q)
-pos_decide p q = both (sides_decide p.side q.side) (eqb-true p.var q.var, eq-eqb p.var q.var) (λ e f k. record { side = e k; var = f k }) (ap (λ x. x.side)) (ap (λ x. x.var))
+pos_decide p q = both (sides_decide p.side q.side) (eqb-true p.var q.var, eq-eqb p.var q.var)
+    (λ e f k. record { side = e k; var = f k }) (ap (λ x. x.side)) (ap (λ x. x.var))
 
 bases_decide : (a b : Base) → Decides (same_base a b) (a ≡ b)
 bases_decide base.Zero base.Zero = ((λ _. refl), (λ _. refl))
@@ -44,16 +45,19 @@ numbers_decide : (i j : AtomId) → Decides (same_number i j) (i ≡ j)
 numbers_decide i j = ((λ e k. record { 0 = eqb-true i.0 j.0 e k }), (λ e. eq-eqb i.0 j.0 (ap (λ x. x.0) e)))
 
 terms_decide : (s t : Term) → Decides (same_term s t) (s ≡ t)
-terms_decide s t = both (pointwise_decides numbers_decide s.atoms t.atoms) (signed_Decides s.coefficient t.coefficient) (λ e f k. record { atoms = e k; coefficient = f k }) (ap (λ x. x.atoms)) (ap (λ x. x.coefficient))
+terms_decide s t = both (pointwise_decides numbers_decide s.atoms t.atoms) (signed_Decides s.coefficient t.coefficient)
+    (λ e f k. record { atoms = e k; coefficient = f k }) (ap (λ x. x.atoms)) (ap (λ x. x.coefficient))
 
 sums_decide : (s t : List Term) → Decides (pointwise same_term s t) (s ≡ t)
 sums_decide s t = pointwise_decides terms_decide s t
 
 writes_decide : (w x : Write) → Decides (same_write w x) (w ≡ x)
-writes_decide w x = both (sums_decide w.index x.index) (sums_decide w.value x.value) (λ e f k. record { index = e k; value = f k }) (ap (λ y. y.index)) (ap (λ y. y.value))
+writes_decide w x = both (sums_decide w.index x.index) (sums_decide w.value x.value)
+    (λ e f k. record { index = e k; value = f k }) (ap (λ y. y.index)) (ap (λ y. y.value))
 
 arrays_decide : (a b : Array) → Decides (same_array a b) (a ≡ b)
-arrays_decide a b = both (bases_decide a.base b.base) (pointwise_decides writes_decide a.writes b.writes) (λ e f k. record { base = e k; writes = f k }) (ap (λ x. x.base)) (ap (λ x. x.writes))
+arrays_decide a b = both (bases_decide a.base b.base) (pointwise_decides writes_decide a.writes b.writes)
+    (λ e f k. record { base = e k; writes = f k }) (ap (λ x. x.base)) (ap (λ x. x.writes))
 
 -- nodes are the same exactly where they are equal
 pub nodes_decide : (m n : Node) → Decides (same_node m n) (m ≡ n)
@@ -62,17 +66,20 @@ nodes_decide (node.Sym p) (node.Read b j) = ((λ e. cc e), (λ e. cc e))
 nodes_decide (node.Sym p) (node.Div r s) = ((λ e. cc e), (λ e. cc e))
 nodes_decide (node.Sym p) (node.Rem r s) = ((λ e. cc e), (λ e. cc e))
 nodes_decide (node.Read a i) (node.Sym q) = ((λ e. cc e), (λ e. cc e))
-nodes_decide (node.Read a i) (node.Read b j) = both (arrays_decide a b) (sums_decide i j) (λ e f k. node.Read (e k) (f k)) (λ e. cc e) (λ e. cc e)
+nodes_decide (node.Read a i) (node.Read b j) = both (arrays_decide a b) (sums_decide i j) (λ e f k. node.Read (e k) (f k))
+    (λ e. cc e) (λ e. cc e)
 nodes_decide (node.Read a i) (node.Div r s) = ((λ e. cc e), (λ e. cc e))
 nodes_decide (node.Read a i) (node.Rem r s) = ((λ e. cc e), (λ e. cc e))
 nodes_decide (node.Div p q) (node.Sym u) = ((λ e. cc e), (λ e. cc e))
 nodes_decide (node.Div p q) (node.Read b j) = ((λ e. cc e), (λ e. cc e))
-nodes_decide (node.Div p q) (node.Div r s) = both (sums_decide p r) (sums_decide q s) (λ e f k. node.Div (e k) (f k)) (λ e. cc e) (λ e. cc e)
+nodes_decide (node.Div p q) (node.Div r s) = both (sums_decide p r) (sums_decide q s) (λ e f k. node.Div (e k) (f k))
+    (λ e. cc e) (λ e. cc e)
 nodes_decide (node.Div p q) (node.Rem r s) = ((λ e. cc e), (λ e. cc e))
 nodes_decide (node.Rem p q) (node.Sym u) = ((λ e. cc e), (λ e. cc e))
 nodes_decide (node.Rem p q) (node.Read b j) = ((λ e. cc e), (λ e. cc e))
 nodes_decide (node.Rem p q) (node.Div r s) = ((λ e. cc e), (λ e. cc e))
-nodes_decide (node.Rem p q) (node.Rem r s) = both (sums_decide p r) (sums_decide q s) (λ e f k. node.Rem (e k) (f k)) (λ e. cc e) (λ e. cc e)
+nodes_decide (node.Rem p q) (node.Rem r s) = both (sums_decide p r) (sums_decide q s) (λ e f k. node.Rem (e k) (f k))
+    (λ e. cc e) (λ e. cc e)
 
 same_turned : (m n : Node) → same_node m n ≡ same_node n m
 same_turned m n = by_values (same_node m n) (same_node n m) refl refl
@@ -84,7 +91,11 @@ same_turned m n = by_values (same_node m n) (same_node n m) refl refl
     by_values false false e f = refl
 
 pub nodes_same : IsEquivalence same_node
-nodes_same = record { refl = λ m. (nodes_decide m m).1 refl; symm = same_turned; congr = λ m n o e. ap (λ x. same_node x o) ((nodes_decide m n).0 e) }
+nodes_same = record {
+  refl = λ m. (nodes_decide m m).1 refl;
+  symm = same_turned;
+  congr = λ m n o e. ap (λ x. same_node x o) ((nodes_decide m n).0 e);
+}
 
 pub nodes_partly : IsPartialEquivalence same_node
 nodes_partly = partial_equiv_from_equiv nodes_same

@@ -1,6 +1,6 @@
 pub mod Atoms
-pub mod Held
+pub mod HeldAtoms
 pub mod Nodes
 pub mod Equal
-pub mod Spelled
-pub mod Graphs
+pub mod AtomNumbers
+pub mod AtomGraphs

@@ -1,10 +1,11 @@
 //! Atoms, each once, by their numbers.
 
-ghost use Rattle.std.specs.Prelude.{◌≡◌, ◌<◌, ◌≤◌, [], length, take, slice_get, false, Some, None, Option, MatchOption, is_some, IfOk, OnOk, OnErr};
+ghost use Rattle.std.specs.Prelude.{◌≡◌, ◌<◌, ◌≤◌, [], length, take, slice_get, false, Some, None, Option, MatchOption, is_some};
+ghost use Rattle.std.specs.Prelude.{IfOk, OnOk, OnErr};
 ghost use Rattle.nf_terms.specs.View.{atom_in};
-ghost use Rattle.nf_bank.specs.Atoms.{holds as holds_atom, place_of, with_one, with_atom, IsBank, IsFront};
-ghost use Rattle.nf_bank.specs.Held.{IsClosed};
-ghost use Rattle.nf_bank.specs.Spelled.{bound_of_node, numbered, atom_over};
+ghost use Rattle.nf_bank.specs.Atoms.{holds_atom as holds_atom, atom_place, with_one, with_atom, IsBank, IsFront};
+ghost use Rattle.nf_bank.specs.HeldAtoms.{IsClosedUnderAtoms};
+ghost use Rattle.nf_bank.specs.AtomNumbers.{bound_of_node, atom_of_number, atom_over};
 
 use crate::lookup::{Missing, find_atom};
 pub use crate::node::AtomId;
@@ -26,9 +27,9 @@ pub struct Bank {
 
 impl Model for Bank {
     ghost use Rattle.std.specs.Prelude.{List};
-    ghost use Rattle.nf_terms.specs.Terms.{Atom};
+    ghost use Rattle.nf_terms.specs.NormalTerms.{Atom};
     ghost use Rattle.nf_bank.specs.Atoms.{coded_atoms};
-    ghost use Rattle.nf_bank.specs.Graphs.{atoms_of, IsGraph};
+    ghost use Rattle.nf_bank.specs.AtomGraphs.{atoms_of, IsAtomGraph};
 
     ghost Value = { List Atom };
 
@@ -36,7 +37,7 @@ impl Model for Bank {
 
     ghost view = { λ b. atoms_of b.nodes.keys };
 
-    ghost invariant = { λ b. IsGraph b.nodes.keys };
+    ghost invariant = { λ b. IsAtomGraph b.nodes.keys };
 }
 
 impl Bank {
@@ -59,7 +60,9 @@ impl Bank {
 
     /// The number of an atom, if it is there. The one refusal is out of memory.
     pub fn find(&self, alloc: Global, a: &Atom) -> Result<Option<AtomId>, NoMemory>
-        ensures place { IfOk result (λ found. MatchOption found (place_of (atom_in a.now) self.now ≡ None) (λ id. place_of (atom_in a.now) self.now ≡ Some id.0)) }
+        ensures place { IfOk result
+            (λ found. MatchOption found (atom_place (atom_in a.now) self.now ≡ None)
+            (λ id. atom_place (atom_in a.now) self.now ≡ Some id.0)) }
         ensures there { IfOk result (λ found. is_some found ≡ holds_atom (atom_in a.now) self.now) }
     {
         match find_atom(alloc, self, a) {
@@ -75,7 +78,7 @@ impl Bank {
     #[tactic(auto, using(crate::proofs::Fronts::cut_back))]
     pub fn put(&mut self, alloc: Global, a: &Atom) -> Result<AtomId, NoMemory>
         ensures kept { OnOk result (self.new ≡ with_atom (atom_in a.now) self.old) }
-        ensures place { IfOk result (λ id. place_of (atom_in a.now) self.new ≡ Some id.0) }
+        ensures place { IfOk result (λ id. atom_place (atom_in a.now) self.new ≡ Some id.0) }
         ensures front { IsFront self.old self.new }
         ensures refused { OnErr result (self.new ≡ self.old) }
     {
@@ -98,10 +101,11 @@ impl Bank {
         atom_tree(alloc, self, id)
     }
 
-    /// The node of a number: over the bank's atoms it is the atom of the number, and the numbers in it are smaller. Takes no memory.
+    /// The node of a number: over the bank's atoms it is the atom of the number, and the numbers in it are smaller. Takes no
+    /// memory.
     pub fn node(&self, id: AtomId) -> &Node
         requires { id.0 < length self.now }
-        ensures atom { atom_over self.now result.now ≡ numbered self.now id }
+        ensures atom { atom_over self.now result.now ≡ atom_of_number self.now id }
         ensures within { bound_of_node result.now ≤ id.0 }
     {
         match self.nodes.get_index(id.0 as usize) {
@@ -119,15 +123,16 @@ impl Bank {
 
     // With each atom the atoms in it are there; nothing runs.
     pub(crate) fn see_closed(&self)
-        ensures { IsClosed self.now }
+        ensures { IsClosedUnderAtoms self.now }
     {
-        let _nodes = &self.nodes;
+        let _nodes = &self.nodes; // The read tells the proof what the type promises of its values.
     }
 
     // The number of the atom of a node, if it is there.
     pub(crate) fn find_node(&self, node: &Node) -> Option<AtomId>
         requires { bound_of_node node.now ≤ length self.now }
-        ensures { MatchOption result (holds_atom (atom_over self.now node.now) self.now ≡ false) (λ id. place_of (atom_over self.now node.now) self.now ≡ Some id.0) }
+        ensures { MatchOption result (holds_atom (atom_over self.now node.now) self.now ≡ false)
+            (λ id. atom_place (atom_over self.now node.now) self.now ≡ Some id.0) }
     {
         match self.nodes.get_index_of(node) {
             Some(place) => Some(AtomId(place as u64)),
@@ -139,7 +144,7 @@ impl Bank {
     pub(crate) fn put_node(&mut self, node: Node) -> Result<AtomId, NoMemory>
         requires { bound_of_node node ≤ length self.old }
         ensures kept { OnOk result (self.new ≡ with_one (atom_over self.old node) self.old) }
-        ensures place { IfOk result (λ id. place_of (atom_over self.old node) self.new ≡ Some id.0) }
+        ensures place { IfOk result (λ id. atom_place (atom_over self.old node) self.new ≡ Some id.0) }
         ensures front { IsFront self.old self.new }
     {
         let (place, _added) = self.nodes.insert_full(node)?;

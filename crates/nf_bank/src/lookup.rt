@@ -2,9 +2,9 @@
 
 ghost use Rattle.std.specs.Prelude.{◌≡◌, false, Some, IfOk, IfErr};
 ghost use Rattle.nf_terms.specs.View.{atom_in, monomial_in, polynomial_in, array_in};
-ghost use Rattle.nf_bank.specs.Atoms.{holds as holds_atom, place_of};
-ghost use Rattle.nf_bank.specs.Held.{holds_inner, holds_monomial, holds_terms, holds_array};
-ghost use Rattle.nf_bank.specs.Spelled.{SpellsMonomial, SpellsSum, SpellsArray, SpellsAtom};
+ghost use Rattle.nf_bank.specs.Atoms.{holds_atom as holds_atom, atom_place};
+ghost use Rattle.nf_bank.specs.HeldAtoms.{holds_inner, holds_monomial, holds_terms, holds_array};
+ghost use Rattle.nf_bank.specs.AtomNumbers.{SpellsMonomial, SpellsSum, SpellsArray, SpellsAtom};
 
 use crate::bank::Bank;
 use crate::items::Items;
@@ -35,7 +35,7 @@ impl<T: Drop> From<AllocFailed<T>> for Missing {
 #[cycle(lookup)]
 #[tactic(auto, using(crate::proofs::Closed::inner_absent))]
 pub(crate) fn find_atom(alloc: Global, bank: &Bank, atom: &Atom) -> Result<AtomId, Missing>
-    ensures place { IfOk result (λ id. place_of (atom_in atom.now) bank.now ≡ Some id.0) }
+    ensures place { IfOk result (λ id. atom_place (atom_in atom.now) bank.now ≡ Some id.0) }
     ensures absent { IfErr result (λ missing. missing ≡ Missing.Absent → holds_atom (atom_in atom.now) bank.now ≡ false) }
 {
     bank.see_closed();

@@ -7,7 +7,7 @@ use nf_terms::tree::{Base, Pos};
 use std::hash::Hash;
 
 /// The number of an atom of a bank.
-#[derive(Clone, Copy, Debug, PartialEq, Eq, Hash)]
+#[derive(Clone, Copy, PartialEq, Eq, Hash)]
 pub struct AtomId(pub u64);
 
 /// A monomial by the numbers of its atoms, with its coefficient.

@@ -2,8 +2,8 @@
 
 ghost use Rattle.std.specs.Prelude.{◌≡◌, Some, IfOk, OnOk};
 ghost use Rattle.nf_terms.specs.View.{atom_in, monomial_in, polynomial_in, array_in};
-ghost use Rattle.nf_bank.specs.Atoms.{place_of, with_atom, with_inner, with_monomial, with_terms, with_array, IsFront};
-ghost use Rattle.nf_bank.specs.Spelled.{SpellsMonomial, SpellsSum, SpellsArray, SpellsAtom};
+ghost use Rattle.nf_bank.specs.Atoms.{atom_place, with_atom, with_inner, with_monomial, with_terms, with_array, IsFront};
+ghost use Rattle.nf_bank.specs.AtomNumbers.{SpellsMonomial, SpellsSum, SpellsArray, SpellsAtom};
 
 use crate::bank::Bank;
 use crate::items::Items;
@@ -17,7 +17,7 @@ use std::alloc::Global;
 #[tactic(auto, using(crate::proofs::Closed::atom_put))]
 pub(crate) fn put_atom(alloc: Global, bank: &mut Bank, atom: &Atom) -> Result<AtomId, NoMemory>
     ensures kept { OnOk result (bank.new ≡ with_atom (atom_in atom.now) bank.old) }
-    ensures place { IfOk result (λ id. place_of (atom_in atom.now) bank.new ≡ Some id.0) }
+    ensures place { IfOk result (λ id. atom_place (atom_in atom.now) bank.new ≡ Some id.0) }
     ensures front { IsFront bank.old bank.new }
 {
     bank.see_closed();

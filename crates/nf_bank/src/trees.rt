@@ -2,7 +2,8 @@
 
 ghost use Rattle.std.specs.Prelude.{◌≡◌, ◌<◌, ◌≤◌, length, IfOk};
 ghost use Rattle.nf_terms.specs.View.{atom_in, monomial_in, polynomial_in, array_in};
-ghost use Rattle.nf_bank.specs.Spelled.{bound_over, bound_of_number, bound_of_sum, bound_of_array, numbered, monomial_over, sum_over, array_over};
+ghost use Rattle.nf_bank.specs.AtomNumbers.{bound_over, bound_of_number, bound_of_sum, bound_of_array, atom_of_number};
+ghost use Rattle.nf_bank.specs.AtomNumbers.{monomial_over, sum_over, array_over};
 
 use crate::bank::Bank;
 use crate::node::{Array, AtomId, Node, Term};
@@ -14,7 +15,7 @@ use std::alloc::Global;
 #[cycle(trees)]
 pub(crate) fn atom_tree(alloc: Global, bank: &Bank, id: AtomId) -> Result<Atom, NoMemory>
     requires { id.0 < length bank.now }
-    ensures { IfOk result (λ a. atom_in a ≡ numbered bank.now id) }
+    ensures { IfOk result (λ a. atom_in a ≡ atom_of_number bank.now id) }
 {
     match bank.node(id) {
         Node::Sym(p) => Ok(Atom::Sym(*p)),

@@ -8,11 +8,11 @@ use Rattle.std.specs.Borrow.{Bor}
 use Rattle.std.specs.BTreeMap.{BTreeMap}
 use Rattle.std.specs.BTreeSet.{BTreeSet}
 use Rattle.std.proofs.lemmas.Int.{ints}
-use Rattle.nf_terms.specs.Terms.{Polynomial}
+use Rattle.nf_sums.proofs.Constants.{equal_of_same}
+use Rattle.nf_terms.specs.NormalTerms.{Polynomial}
 use Rattle.nf_terms.specs.Order.{cmp_polynomial, same_polynomial}
 use Rattle.nf_terms.specs.Comparison.{polynomials_equal}
 use Rattle.nf_rel.proofs.Floors.{lt_true, lt_false, is_lt, not_lt}
-use Rattle.nf_rel.proofs.Truth.{same_is}
 use Rattle.nf_refutation.specs.BoundTables.{bound_in, has_number, is_below, is_above, Tightens, AddsNumber}
 
 -- ---- bounds
@@ -69,8 +69,9 @@ module _ (is_beyond : ℤ → Option ℤ → Bool) (compares : Compares is_beyon
   pub tightens_needless : (m : BTreeMap (Bor Polynomial) ℤ) → is_beyond b (bound_in m e) ≡ true → Tightens is_beyond m m e b
   tightens_needless m h = λ d a. by_test d a (same_polynomial d e) refl
     where
-      by_test : (d : Polynomial) (a : ℤ) (t : Bool) → same_polynomial d e ≡ t → is_beyond a (bound_in m d) ≡ (t && is_beyond a (Some b)) || is_beyond a (bound_in m d)
-      by_test d a true s = compares.needless a b (bound_in m d) (ap (λ p. is_beyond b (bound_in m p)) (same_is d e s) ∙ h)
+      by_test : (d : Polynomial) (a : ℤ) (t : Bool) → same_polynomial d e ≡ t
+          → is_beyond a (bound_in m d) ≡ (t && is_beyond a (Some b)) || is_beyond a (bound_in m d)
+      by_test d a true s = compares.needless a b (bound_in m d) (ap (λ p. is_beyond b (bound_in m p)) (equal_of_same d e s) ∙ h)
       by_test d a false s = refl
 
   -- any other bound takes the place of the known one
@@ -81,8 +82,10 @@ module _ (is_beyond : ℤ → Option ℤ → Bool) (compares : Compares is_beyon
       put : (d : Polynomial) (t : Bool) → same_polynomial d e ≡ t → bound_in new d ≡ cond t (Some b) (bound_in old d)
       put d t s = u d ∙ ap (λ c. cond c (Some b) (bound_in old d)) (polynomials_equal.symm e d ∙ s)
 
-      by_test : (d : Polynomial) (a : ℤ) (t : Bool) → same_polynomial d e ≡ t → is_beyond a (bound_in new d) ≡ (t && is_beyond a (Some b)) || is_beyond a (bound_in old d)
-      by_test d a true s = ap (is_beyond a) (put d true s) ∙ compares.better a b (bound_in old d) (ap (λ p. is_beyond b (bound_in old p)) (same_is d e s) ∙ h)
+      by_test : (d : Polynomial) (a : ℤ) (t : Bool) → same_polynomial d e ≡ t
+          → is_beyond a (bound_in new d) ≡ (t && is_beyond a (Some b)) || is_beyond a (bound_in old d)
+      by_test d a true s = ap (is_beyond a) (put d true s) ∙ compares.better a b (bound_in old d)
+          (ap (λ p. is_beyond b (bound_in old p)) (equal_of_same d e s) ∙ h)
       by_test d a false s = ap (is_beyond a) (put d false s)
 
 -- ---- sets of numbers
@@ -112,7 +115,8 @@ if_or true u = refl
 if_or false u = refl
 
 pub number_added : (old new : BTreeSet (ℤ × Bor Polynomial)) (e : Polynomial) (b : ℤ)
-    → ((d : Polynomial) (a : ℤ) → has_number new d a ≡ cond (is_eq (ordering_then (int_cmp b a) (cmp_polynomial e d))) true (has_number old d a)) → AddsNumber old new e b
+    → ((d : Polynomial) (a : ℤ) → has_number new d a ≡ cond (is_eq (ordering_then (int_cmp b a) (cmp_polynomial e d))) true (has_number old d a))
+    → AddsNumber old new e b
 number_added old new e b u = λ d a.
     u d a
     ∙ if_or (is_eq (ordering_then (int_cmp b a) (cmp_polynomial e d))) (has_number old d a)

@@ -6,7 +6,7 @@ use Rattle.std.specs.List.{list_any}
 use Rattle.std.specs.Map.{lookup}
 use Rattle.std.specs.BTreeMap.{BTreeMap}
 use Rattle.std.specs.BTreeSet.{BTreeSet}
-use Rattle.nf_terms.specs.Terms.{Polynomial}
+use Rattle.nf_terms.specs.NormalTerms.{Polynomial}
 use Rattle.nf_terms.specs.Order.{cmp_polynomial, same_polynomial}
 use Rattle.nf_rel.specs.Literals.{NormalLiteral, meets_along, meets_all}
 use Rattle.nf_refutation.specs.declared.bound_table.BoundTable.{BoundTable}
@@ -30,16 +30,19 @@ is_above a None = false
 is_above a (Some b) = int_lt b a
 
 -- whether a number of a direction is within the bounds of a table and not left out
-abbrev pub leaves : BoundTable → Polynomial → ℤ → Bool
-leaves t d v = not (is_below v (bound_in t.lower d)) && not (is_above v (bound_in t.upper d)) && not (has_number t.left_out d v)
+abbrev pub leaves_number : BoundTable → Polynomial → ℤ → Bool
+leaves_number t d v = not (is_below v (bound_in t.lower d)) && not (is_above v (bound_in t.upper d))
+    && not (has_number t.left_out d v)
 
 -- what a table leaves is what meets all literals of a list
-abbrev pub IsTableOf : BoundTable → List NormalLiteral → Type 0
-IsTableOf t ls = (d : Polynomial) (v : ℤ) → leaves t d v ≡ meets_all d v ls
+abbrev pub IsBoundTableOf : BoundTable → List NormalLiteral → Type 0
+IsBoundTableOf t ls = (d : Polynomial) (v : ℤ) → leaves_number t d v ≡ meets_all d v ls
 
--- a direction has one bound more, the others are as before, and a number is beyond the bounds of a direction where it is beyond one of them
+-- a direction has one bound more, the others are as before, and a number is beyond the bounds of a direction where it is beyond
+-- one of them
 abbrev pub Tightens : (is_beyond : ℤ → Option ℤ → Bool) → (old new : BTreeMap (Bor Polynomial) ℤ) → Polynomial → ℤ → Type 0
-Tightens is_beyond old new e b = (d : Polynomial) (a : ℤ) → is_beyond a (bound_in new d) ≡ (same_polynomial d e && is_beyond a (Some b)) || is_beyond a (bound_in old d)
+Tightens is_beyond old new e b = (d : Polynomial) (a : ℤ)
+    → is_beyond a (bound_in new d) ≡ (same_polynomial d e && is_beyond a (Some b)) || is_beyond a (bound_in old d)
 
 -- one number of a direction more
 abbrev pub AddsNumber : (old new : BTreeSet (ℤ × Bor Polynomial)) → Polynomial → ℤ → Type 0
@@ -47,4 +50,4 @@ AddsNumber old new e b = (d : Polynomial) (a : ℤ) → has_number new d a ≡ (
 
 -- one literal more
 abbrev pub AddsLiteral : (old new : BoundTable) → NormalLiteral → Type 0
-AddsLiteral old new l = (d : Polynomial) (v : ℤ) → leaves new d v ≡ meets_along d v l && leaves old d v
+AddsLiteral old new l = (d : Polynomial) (v : ℤ) → leaves_number new d v ≡ meets_along d v l && leaves_number old d v

@@ -3,10 +3,11 @@
 ghost use Rattle.std.specs.Prelude.{◌≡◌, ◌↔◌, ◌≤ℤ◌, IsTrue, ℤ, true, false, map, List, OnOk, IfOk};
 ghost use Rattle.std.specs.List.{list_any};
 ghost use Rattle.std.specs.Option.{option_copied};
-ghost use Rattle.nf_terms.specs.Terms.{Polynomial};
+ghost use Rattle.nf_terms.specs.NormalTerms.{Polynomial};
 ghost use Rattle.nf_rel.specs.Literals.{NormalLiteral, is_refuted_at};
 ghost use Rattle.nf_rel.specs.View.{literal_in};
-ghost use Rattle.nf_refutation.specs.BoundTables.{bound_in, is_below, is_above, has_number, leaves, IsTableOf, Tightens, AddsNumber, AddsLiteral};
+ghost use Rattle.nf_refutation.specs.BoundTables.{bound_in, is_below, is_above, has_number, leaves_number, IsBoundTableOf};
+ghost use Rattle.nf_refutation.specs.BoundTables.{Tightens, AddsNumber, AddsLiteral};
 
 use nf_rel::kind::Kind;
 use nf_rel::literals::{Bound, NLit};
@@ -104,7 +105,7 @@ fn add_number<'a>(
 impl<'a> BoundTable<'a> {
     // No bound of any direction. It takes no memory.
     fn new(alloc: Global) -> BoundTable<'a>
-        ensures { (d : Polynomial) (v : ℤ) → leaves result d v ≡ true }
+        ensures { (d : Polynomial) (v : ℤ) → leaves_number result d v ≡ true }
     {
         BoundTable {
             lower: BTreeMap::new(alloc),
@@ -142,7 +143,7 @@ impl<'a> BoundTable<'a> {
 
     /// The bounds of a list of literals. The one refusal is out of memory.
     pub(crate) fn of(alloc: Global, list: &'a [NLit]) -> Result<BoundTable<'a>, NoMemory>
-        ensures { IfOk result (λ table. IsTableOf table (map literal_in list.now)) }
+        ensures { IfOk result (λ table. IsBoundTableOf table (map literal_in list.now)) }
     {
         let mut table = BoundTable::new(alloc);
         for literal in list {
@@ -170,7 +171,7 @@ impl<'a> BoundTable<'a> {
 
     // Whether no number of a direction is left.
     fn leaves_none(&self, dir: &'a Poly) -> bool
-        ensures { IsTrue result ↔ ((v : ℤ) → leaves self.now dir.now v ≡ false) }
+        ensures { IsTrue result ↔ ((v : ℤ) → leaves_number self.now dir.now v ≡ false) }
     {
         match bound_in(&self.lower, dir) {
             None => false,
@@ -183,7 +184,7 @@ impl<'a> BoundTable<'a> {
 
     // Whether a literal is False, or no number of its direction is left.
     fn refutes(&self, literal: &'a NLit) -> bool
-        ensures { (ls : List NormalLiteral) → IsTableOf self.now ls → result ≡ is_refuted_at ls (literal_in literal.now) }
+        ensures { (ls : List NormalLiteral) → IsBoundTableOf self.now ls → result ≡ is_refuted_at ls (literal_in literal.now) }
     {
         match literal {
             NLit::True => false,
@@ -194,7 +195,8 @@ impl<'a> BoundTable<'a> {
 
     /// Whether one of some literals is False, or no number of its direction is left.
     pub(crate) fn refutes_any(&self, list: &'a [NLit]) -> bool
-        ensures { (ls : List NormalLiteral) → IsTableOf self.now ls → result ≡ list_any (is_refuted_at ls) (map literal_in list.now) }
+        ensures { (ls : List NormalLiteral) → IsBoundTableOf self.now ls
+            → result ≡ list_any (is_refuted_at ls) (map literal_in list.now) }
     {
         for literal in list {
             if self.refutes(literal) {

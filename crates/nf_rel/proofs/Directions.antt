@@ -1,5 +1,5 @@
 -- A direction is normal, and its bound is in range.
-use Rattle.std.proofs.Common.{◌≡◌, ℕ, zero, suc, ◌+◌, ◌/◌, ◌%◌, ◌≤◌, ℤ, pos, negsuc, ◌+ℤ◌, ◌*ℤ◌, neg_ℤ, Bool, true, false, arith, refl, ap, sym, subst, ◌∙◌}
+use Rattle.std.proofs.Common.{◌≡◌, ℕ, zero, suc, ◌+◌, ◌/◌, ◌%◌, ◌≤◌, ℤ, pos, negsuc, ◌*ℤ◌, Bool, true, false, arith, refl, ap, sym, subst, ◌∙◌}
 use Rattle.std.specs.Prelude.{◌≢◌, int_div, unsigned_abs}
 use Rattle.std.proofs.lemmas.Int.{ints}
 use Rattle.std.proofs.lemmas.Nat.Gcd.{le_of_dvd}
@@ -7,49 +7,42 @@ use Rattle.std.proofs.Math.Nat.{div-le_self}
 use Rattle.std.specs.Int.{int_div_euclid}
 use Rattle.std.specs.Ordering.{int_eq}
 use Rattle.std.specs.Cmp.{signed_Decides}
-use Rattle.nf_terms.specs.Terms.{Polynomial, One, Times, Zero, Plus}
+use Rattle.base_lemmas.proofs.Integers.{unsigned_abs-add, unsigned_abs-neg}
+use Rattle.nf_terms.specs.NormalTerms.{Polynomial, One, Times, Zero, Plus}
 use Rattle.nf_terms.specs.Measures.{weight_of}
-use Rattle.nf_terms.specs.Normal.{IsNormal, ordered, part_with_atoms, constant_part}
+use Rattle.nf_terms.specs.Normal.{IsNormal, ordered, part_with_atoms}
 use Rattle.nf_terms.specs.Reduced.{Reduces, Ended, Kept}
 use Rattle.nf_terms.proofs.Simple.{light}
-use Rattle.nf_terms.proofs.Partings.{ordered_term, last_one}
+use Rattle.nf_terms.proofs.Partings.{ordered_term}
 use Rattle.nf_terms.proofs.Reducing.{reduced_normal, part_normal}
 use Rattle.nf_terms.specs.Normal.{constant_sum}
-use Rattle.nf_terms.specs.Limits.{weight_limit}
+use Rattle.nf_terms.specs.TermLimits.{weight_limit}
 use Rattle.nf_rel.specs.Gcd.{gcd}
-use Rattle.nf_rel.specs.Literals.{common_divisor, divided, signed, begins_positive, Form, form_holds, truth, bounded, bounded_by, literal_form}
+use Rattle.nf_rel.specs.Literals.{common_divisor, divide_coefficients, signed_number, begins_positive, Form, form_holds, truth, bounded, bounded_by}
+use Rattle.nf_rel.specs.Literals.{literal_form}
 use Rattle.nf_rel.proofs.CommonDivisors.{gcd_is, AllMultiples, all_multiples, exact}
-
-pub constant_is : (p : Polynomial) → ordered p ≡ true → constant_part p ≡ constant_sum p
-constant_is Zero o = refl
-constant_is (Plus One c p) o = let z = ap constant_sum (last_one c p o) in omega (arith, ints, z)
-constant_is (Plus (Times a m) c p) o = constant_is p (ordered_term (Times a m) c p o).rest
-
-less_abs : (c d : ℤ) → unsigned_abs (c +ℤ d) ≤ unsigned_abs c + unsigned_abs d
-less_abs c d = omega (arith, ints)
 
 -- the weight is shared
 pub weights_shared : (p : Polynomial) → weight_of (part_with_atoms p) + unsigned_abs (constant_sum p) ≤ weight_of p
 weights_shared Zero = omega arith
-weights_shared (Plus One c p) = omega (arith, weights_shared p, less_abs c (constant_sum p))
+weights_shared (Plus One c p) = omega (arith, weights_shared p, unsigned_abs-add c (constant_sum p))
 weights_shared (Plus (Times a m) c p) = omega (arith, weights_shared p)
 
 -- ---- division
-pub abs_neg : (c : ℤ) → unsigned_abs (neg_ℤ c) ≡ unsigned_abs c
-abs_neg c = omega (arith, ints)
 
-small_quotient : (b : Bool) (n : ℕ) (c : ℤ) → unsigned_abs (int_div c (signed b (pos (suc n)))) ≤ unsigned_abs c
+small_quotient : (b : Bool) (n : ℕ) (c : ℤ) → unsigned_abs (int_div c (signed_number b (pos (suc n)))) ≤ unsigned_abs c
 small_quotient true n (pos a) = div-le_self a (suc n)
-small_quotient true n (negsuc a) = omega (arith, abs_neg (pos (suc a / suc n)), div-le_self (suc a) (suc n))
-small_quotient false n (pos a) = omega (arith, abs_neg (pos (a / suc n)), div-le_self a (suc n))
+small_quotient true n (negsuc a) = omega (arith, unsigned_abs-neg (pos (suc a / suc n)), div-le_self (suc a) (suc n))
+small_quotient false n (pos a) = omega (arith, unsigned_abs-neg (pos (a / suc n)), div-le_self a (suc n))
 small_quotient false n (negsuc a) = div-le_self (suc a) (suc n)
 
-pub still_nonzero : (b : Bool) (n : ℕ) (c : ℤ) → unsigned_abs c % suc n ≡ 0 → int_eq c (pos 0) ≡ false → int_eq (int_div c (signed b (pos (suc n)))) (pos 0) ≡ false
-still_nonzero b n c d h = by_test (int_eq (int_div c (signed b (pos (suc n)))) (pos 0)) refl
+pub still_nonzero : (b : Bool) (n : ℕ) (c : ℤ) → unsigned_abs c % suc n ≡ 0 → int_eq c (pos 0) ≡ false
+    → int_eq (int_div c (signed_number b (pos (suc n)))) (pos 0) ≡ false
+still_nonzero b n c d h = by_test (int_eq (int_div c (signed_number b (pos (suc n)))) (pos 0)) refl
   where
-    by_test : (t : Bool) → int_eq (int_div c (signed b (pos (suc n)))) (pos 0) ≡ t → t ≡ false
+    by_test : (t : Bool) → int_eq (int_div c (signed_number b (pos (suc n)))) (pos 0) ≡ t → t ≡ false
     by_test true e =
-        let s = signed b (pos (suc n)) in
+        let s = signed_number b (pos (suc n)) in
         let z : int_div c s ≡ pos 0 = (signed_Decides (int_div c s) (pos 0)).0 e in
         let c0 : c ≡ pos 0 = sym (exact b n c d) ∙ ap (λ x. s *ℤ x) z ∙ times_zero s in
         sym ((signed_Decides c (pos 0)).1 c0) ∙ h
@@ -58,19 +51,21 @@ still_nonzero b n c d h = by_test (int_eq (int_div c (signed b (pos (suc n)))) (
         times_zero x = omega (arith, ints)
     by_test false e = refl
 
-divided_reduces : (b : Bool) (n : ℕ) (q : Polynomial) → AllMultiples (suc n) q → ordered q ≡ true → Reduces q (divided q (signed b (pos (suc n))))
+divided_reduces : (b : Bool) (n : ℕ) (q : Polynomial) → AllMultiples (suc n) q → ordered q ≡ true
+    → Reduces q (divide_coefficients q (signed_number b (pos (suc n))))
 divided_reduces b n Zero d o = Ended
 divided_reduces b n (Plus m c q) d o =
-    let k = int_div c (signed b (pos (suc n))) in
+    let k = int_div c (signed_number b (pos (suc n))) in
     let t = ordered_term m c q o in
     let nonzero : k ≢ pos 0 = λ z. let f : true ≡ false = sym ((signed_Decides k (pos 0)).1 z) ∙ still_nonzero b n c d.0 t.nonzero in cc f in
     Kept nonzero (small_quotient b n c) (divided_reduces b n q d.1 t.rest)
 
-pub direction_normal : (p : Polynomial) (b : Bool) (n : ℕ) → IsNormal p → common_divisor (part_with_atoms p) ≡ suc n → IsNormal (divided (part_with_atoms p) (signed b (pos (suc n))))
+pub direction_normal : (p : Polynomial) (b : Bool) (n : ℕ) → IsNormal p → common_divisor (part_with_atoms p) ≡ suc n
+    → IsNormal (divide_coefficients (part_with_atoms p) (signed_number b (pos (suc n))))
 direction_normal p b n h e =
     let q = part_with_atoms p in
     let d : AllMultiples (suc n) q = subst (λ g. AllMultiples g q) e (all_multiples q) in
-    reduced_normal q (divided q (signed b (pos (suc n)))) (part_normal p h) (divided_reduces b n q d (part_normal p h).ordered)
+    reduced_normal q (divide_coefficients q (signed_number b (pos (suc n)))) (part_normal p h) (divided_reduces b n q d (part_normal p h).ordered)
 
 -- ---- numbers in range
 gcd_small : (a b : ℕ) → gcd a b ≤ a + b
@@ -96,23 +91,29 @@ pub divisor_fits : (p : Polynomial) (g : ℕ) → IsNormal p → g ≡ common_di
 divisor_fits p g h e =
     omega (arith, light p h, weights_shared p, divisor_small (part_with_atoms p), e)
 
-pub by_normal : (p : Polynomial) (b : Bool) (g : ℕ) (d : ℤ) → IsNormal p → g ≡ common_divisor (part_with_atoms p) → g ≢ 0 → d ≡ signed b (pos g) → IsNormal (divided (part_with_atoms p) d)
+pub by_normal : (p : Polynomial) (b : Bool) (g : ℕ) (d : ℤ) → IsNormal p → g ≡ common_divisor (part_with_atoms p) → g ≢ 0 → d ≡ signed_number b (pos g)
+    → IsNormal (divide_coefficients (part_with_atoms p) d)
 by_normal p b zero d h e z s = absurd (z refl)
-by_normal p b (suc n) d h e z s = subst (λ x. IsNormal (divided (part_with_atoms p) x)) (sym s) (direction_normal p b n h (sym e))
+by_normal p b (suc n) d h e z s = subst (λ x. IsNormal (divide_coefficients (part_with_atoms p) x)) (sym s) (direction_normal p b n h (sym e))
 
 -- the literal of a form, by the divisor
 pub none_by : (f : Form) (p : Polynomial) → common_divisor (part_with_atoms p) ≡ 0 → literal_form f p ≡ truth (form_holds f (constant_sum p))
 none_by f p e = ap (λ g. bounded_by f (part_with_atoms p) g (constant_sum p)) e
 
-by_divisor : (f : Form) (q : Polynomial) (g : ℕ) (c : ℤ) → g ≢ 0 → bounded_by f q g c ≡ bounded f (begins_positive q) (divided q (signed (begins_positive q) (pos g))) g c
+by_divisor : (f : Form) (q : Polynomial) (g : ℕ) (c : ℤ) → g ≢ 0
+    → bounded_by f q g c ≡ bounded f (begins_positive q) (divide_coefficients q (signed_number (begins_positive q) (pos g))) g c
 by_divisor f q zero c h = absurd (h refl)
 by_divisor f q (suc n) c h = refl
 
 pub some_by : (f : Form) (p : Polynomial) → common_divisor (part_with_atoms p) ≢ 0
-    → literal_form f p ≡ bounded f (begins_positive (part_with_atoms p)) (divided (part_with_atoms p) (signed (begins_positive (part_with_atoms p)) (pos (common_divisor (part_with_atoms p))))) (common_divisor (part_with_atoms p)) (constant_sum p)
+    → literal_form f p ≡ bounded f (begins_positive (part_with_atoms p))
+    (divide_coefficients (part_with_atoms p) (signed_number (begins_positive (part_with_atoms p)) (pos (common_divisor (part_with_atoms p)))))
+    (common_divisor (part_with_atoms p)) (constant_sum p)
 some_by f p h = by_divisor f (part_with_atoms p) (common_divisor (part_with_atoms p)) (constant_sum p) h
 
 -- the same of what a call answers, for the polynomial t of its terms
-pub terms_normal : (p t r : Polynomial) (b : Bool) (g : ℤ) (by : ℤ) → IsNormal p → t ≡ p → g ≡ pos (common_divisor (part_with_atoms p)) → common_divisor (part_with_atoms p) ≢ 0 → by ≡ signed b g → r ≡ divided (part_with_atoms t) by → IsNormal r
+pub terms_normal : (p t r : Polynomial) (b : Bool) (g : ℤ) (by : ℤ) → IsNormal p → t ≡ p → g ≡ pos (common_divisor (part_with_atoms p))
+    → common_divisor (part_with_atoms p) ≢ 0 → by ≡ signed_number b g → r ≡ divide_coefficients (part_with_atoms t) by → IsNormal r
 terms_normal p t r b g by h e d z s k =
-    subst IsNormal (sym (k ∙ ap (λ x. divided (part_with_atoms x) by) e)) (by_normal p b (common_divisor (part_with_atoms p)) by h refl z (s ∙ ap (signed b) d))
+    subst IsNormal (sym (k ∙ ap (λ x. divide_coefficients (part_with_atoms x) by) e))
+    (by_normal p b (common_divisor (part_with_atoms p)) by h refl z (s ∙ ap (signed_number b) d))

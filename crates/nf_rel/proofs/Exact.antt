@@ -4,11 +4,12 @@ use Rattle.std.specs.Prelude.{not, ◌&&◌, ◌||◌}
 use Rattle.std.proofs.lemmas.Int.{ints}
 use Rattle.std.specs.List.{list_any}
 use Rattle.std.specs.Ordering.{int_eq, is_eq}
-use Rattle.std.specs.Cmp.{signed_Decides}
-use Rattle.nf_terms.specs.Terms.{Polynomial}
+use Rattle.std.proofs.lemmas.Bool.{or_left, or_right, not-false, not-true}
+use Rattle.base_lemmas.proofs.Booleans.{and_first, and_second}
+use Rattle.base_lemmas.proofs.Integers.{int_eq-true}
+use Rattle.nf_terms.specs.NormalTerms.{Polynomial}
 use Rattle.nf_terms.specs.Order.{same_polynomial}
 use Rattle.nf_terms.specs.TermKeys.{polynomial_same}
-use Rattle.nf_terms.proofs.Tests.{and_left, and_right, or_left, or_right, not_true}
 use Rattle.nf_rel.specs.declared.kind.Kind.{Kind}
 use Rattle.nf_rel.specs.declared.kind.Kind.TheVariants.{Ge, Le, Eq, Ne}
 use Rattle.nf_rel.specs.Literals.{NormalLiteral, True, False, Is, meets, meets_along, meets_all, numbers_near, is_refuted_along}
@@ -23,32 +24,25 @@ along_own d k a v h = sym (ap (λ t. not t || meets k v a) (same_self d)) ∙ h
 pub own_along : (d : Polynomial) (k : Kind) (a v : ℤ) → meets_along d v (Is d k a) ≡ meets k v a
 own_along d k a v = ap (λ t. not t || meets k v a) (same_self d)
 
-not_false : (b : Bool) → not b ≡ false → b ≡ true
-not_false true e = refl
-not_false false e = sym e
-
-pub eq_true : (a b : ℤ) → int_eq a b ≡ true → a ≡ b
-eq_true a b e = (signed_Decides a b).0 e
-
 pub not_eq : (a b : ℤ) → (a ≡ b → ⊥) → int_eq a b ≡ false
 not_eq a b f = by_test (int_eq a b) refl
   where
     by_test : (t : Bool) → int_eq a b ≡ t → t ≡ false
-    by_test true e = absurd (f (eq_true a b e))
+    by_test true e = absurd (f (int_eq-true a b e))
     by_test false e = refl
 
 -- ---- where a walk down or up stops
 stops_down : (k : Kind) (v b : ℤ) → meets k v b ≡ true → meets k (v -ℤ pos 1) b ≡ false → (v ≡ b) ⊎ (v ≡ b +ℤ pos 1)
-stops_down Ge v b h n = inl (let x = lt_false v b (not_true _ h) in let y = lt_true (v -ℤ pos 1) b (not_false _ n) in omega (arith, ints))
-stops_down Le v b h n = absurd (let x = lt_false b v (not_true _ h) in let y = lt_true b (v -ℤ pos 1) (not_false _ n) in omega (arith, ints))
-stops_down Eq v b h n = inl (eq_true v b h)
-stops_down Ne v b h n = inr (let x = eq_true (v -ℤ pos 1) b (not_false _ n) in omega (arith, ints, x))
+stops_down Ge v b h n = inl (let x = lt_false v b (not-true _ h) in let y = lt_true (v -ℤ pos 1) b (not-false _ n) in omega (arith, ints))
+stops_down Le v b h n = absurd (let x = lt_false b v (not-true _ h) in let y = lt_true b (v -ℤ pos 1) (not-false _ n) in omega (arith, ints))
+stops_down Eq v b h n = inl (int_eq-true v b h)
+stops_down Ne v b h n = inr (let x = int_eq-true (v -ℤ pos 1) b (not-false _ n) in omega (arith, ints, x))
 
 stops_up : (k : Kind) (v b : ℤ) → meets k v b ≡ true → meets k (v +ℤ pos 1) b ≡ false → (v ≡ b) ⊎ (v ≡ b -ℤ pos 1)
-stops_up Ge v b h n = absurd (let x = lt_false v b (not_true _ h) in let y = lt_true (v +ℤ pos 1) b (not_false _ n) in omega (arith, ints))
-stops_up Le v b h n = inl (let x = lt_false b v (not_true _ h) in let y = lt_true b (v +ℤ pos 1) (not_false _ n) in omega (arith, ints))
-stops_up Eq v b h n = inl (eq_true v b h)
-stops_up Ne v b h n = inr (let x = eq_true (v +ℤ pos 1) b (not_false _ n) in omega (arith, ints, x))
+stops_up Ge v b h n = absurd (let x = lt_false v b (not-true _ h) in let y = lt_true (v +ℤ pos 1) b (not-false _ n) in omega (arith, ints))
+stops_up Le v b h n = inl (let x = lt_false b v (not-true _ h) in let y = lt_true b (v +ℤ pos 1) (not-false _ n) in omega (arith, ints))
+stops_up Eq v b h n = inl (int_eq-true v b h)
+stops_up Ne v b h n = inr (let x = int_eq-true (v +ℤ pos 1) b (not-false _ n) in omega (arith, ints, x))
 
 module _ (d : Polynomial) (p : ℤ → Bool) where
   pub zero_near : (ls : List NormalLiteral) → p (pos 0) ≡ true → list_any p (numbers_near ls) ≡ true
@@ -63,27 +57,32 @@ module _ (d : Polynomial) (p : ℤ → Bool) where
   next_bound : (ls : List NormalLiteral) (e : Polynomial) (k : Kind) (b v : ℤ) → p v ≡ true → v ≡ b +ℤ pos 1 → list_any p (numbers_near (Is e k b ∷ ls)) ≡ true
   next_bound ls e k b v h q = or_right (p (b -ℤ pos 1)) _ (or_right (p b) _ (or_left (p (b +ℤ pos 1)) _ (sym (ap p q) ∙ h)))
 
-  before_bound : (ls : List NormalLiteral) (e : Polynomial) (k : Kind) (b v : ℤ) → p v ≡ true → v ≡ b -ℤ pos 1 → list_any p (numbers_near (Is e k b ∷ ls)) ≡ true
+  before_bound : (ls : List NormalLiteral) (e : Polynomial) (k : Kind) (b v : ℤ) → p v ≡ true → v ≡ b -ℤ pos 1
+      → list_any p (numbers_near (Is e k b ∷ ls)) ≡ true
   before_bound ls e k b v h q = or_left (p (b -ℤ pos 1)) _ (sym (ap p q) ∙ h)
 
-  further : (ls : List NormalLiteral) (e : Polynomial) (k : Kind) (b : ℤ) → list_any p (numbers_near ls) ≡ true → list_any p (numbers_near (Is e k b ∷ ls)) ≡ true
+  further : (ls : List NormalLiteral) (e : Polynomial) (k : Kind) (b : ℤ) → list_any p (numbers_near ls) ≡ true
+      → list_any p (numbers_near (Is e k b ∷ ls)) ≡ true
   further ls e k b h = or_right (p (b -ℤ pos 1)) _ (or_right (p b) _ (or_right (p (b +ℤ pos 1)) _ h))
 
   -- the literal at which the next number down fails
-  near_down : (v : ℤ) (ls : List NormalLiteral) → p v ≡ true → meets_all d v ls ≡ true → meets_all d (v -ℤ pos 1) ls ≡ false → list_any p (numbers_near ls) ≡ true
+  near_down : (v : ℤ) (ls : List NormalLiteral) → p v ≡ true → meets_all d v ls ≡ true → meets_all d (v -ℤ pos 1) ls ≡ false
+      → list_any p (numbers_near ls) ≡ true
   near_down v [] h m n = absurd (cc n)
   near_down v (True ∷ ls) h m n = near_down v ls h m n
   near_down v (False ∷ ls) h m n = near_down v ls h m n
   near_down v (Is e k b ∷ ls) h m n = by_test (same_polynomial d e) m n (λ x y. near_down v ls h x y)
     where
       by_next : (t : Bool) → meets k (v -ℤ pos 1) b ≡ t → meets k v b && meets_all d v ls ≡ true → t && meets_all d (v -ℤ pos 1) ls ≡ false
-          → (meets_all d v ls ≡ true → meets_all d (v -ℤ pos 1) ls ≡ false → list_any p (numbers_near ls) ≡ true) → list_any p (numbers_near (Is e k b ∷ ls)) ≡ true
-      by_next true s x y again = further ls e k b (again (and_right (meets k v b) (meets_all d v ls) x) y)
+          → (meets_all d v ls ≡ true → meets_all d (v -ℤ pos 1) ls ≡ false → list_any p (numbers_near ls) ≡ true)
+          → list_any p (numbers_near (Is e k b ∷ ls)) ≡ true
+      by_next true s x y again = further ls e k b (again (and_second (meets k v b) (meets_all d v ls) x) y)
       by_next false s x y again =
-          elim (stops_down k v b (and_left (meets k v b) (meets_all d v ls) x) s) [ inl q ↦ at_bound ls e k b v h q | inr q ↦ next_bound ls e k b v h q ]
+          elim (stops_down k v b (and_first (meets k v b) (meets_all d v ls) x) s) [ inl q ↦ at_bound ls e k b v h q | inr q ↦ next_bound ls e k b v h q ]
 
       by_test : (t : Bool) → (not t || meets k v b) && meets_all d v ls ≡ true → (not t || meets k (v -ℤ pos 1) b) && meets_all d (v -ℤ pos 1) ls ≡ false
-          → (meets_all d v ls ≡ true → meets_all d (v -ℤ pos 1) ls ≡ false → list_any p (numbers_near ls) ≡ true) → list_any p (numbers_near (Is e k b ∷ ls)) ≡ true
+          → (meets_all d v ls ≡ true → meets_all d (v -ℤ pos 1) ls ≡ false → list_any p (numbers_near ls) ≡ true)
+          → list_any p (numbers_near (Is e k b ∷ ls)) ≡ true
       by_test true x y again = by_next (meets k (v -ℤ pos 1) b) refl x y again
       by_test false x y again = further ls e k b (again x y)
 
@@ -94,13 +93,15 @@ module _ (d : Polynomial) (p : ℤ → Bool) where
   near_up v (Is e k b ∷ ls) h m n = by_test (same_polynomial d e) m n (λ x y. near_up v ls h x y)
     where
       by_next : (t : Bool) → meets k (v +ℤ pos 1) b ≡ t → meets k v b && meets_all d v ls ≡ true → t && meets_all d (v +ℤ pos 1) ls ≡ false
-          → (meets_all d v ls ≡ true → meets_all d (v +ℤ pos 1) ls ≡ false → list_any p (numbers_near ls) ≡ true) → list_any p (numbers_near (Is e k b ∷ ls)) ≡ true
-      by_next true s x y again = further ls e k b (again (and_right (meets k v b) (meets_all d v ls) x) y)
+          → (meets_all d v ls ≡ true → meets_all d (v +ℤ pos 1) ls ≡ false → list_any p (numbers_near ls) ≡ true)
+          → list_any p (numbers_near (Is e k b ∷ ls)) ≡ true
+      by_next true s x y again = further ls e k b (again (and_second (meets k v b) (meets_all d v ls) x) y)
       by_next false s x y again =
-          elim (stops_up k v b (and_left (meets k v b) (meets_all d v ls) x) s) [ inl q ↦ at_bound ls e k b v h q | inr q ↦ before_bound ls e k b v h q ]
+          elim (stops_up k v b (and_first (meets k v b) (meets_all d v ls) x) s) [ inl q ↦ at_bound ls e k b v h q | inr q ↦ before_bound ls e k b v h q ]
 
       by_test : (t : Bool) → (not t || meets k v b) && meets_all d v ls ≡ true → (not t || meets k (v +ℤ pos 1) b) && meets_all d (v +ℤ pos 1) ls ≡ false
-          → (meets_all d v ls ≡ true → meets_all d (v +ℤ pos 1) ls ≡ false → list_any p (numbers_near ls) ≡ true) → list_any p (numbers_near (Is e k b ∷ ls)) ≡ true
+          → (meets_all d v ls ≡ true → meets_all d (v +ℤ pos 1) ls ≡ false → list_any p (numbers_near ls) ≡ true)
+          → list_any p (numbers_near (Is e k b ∷ ls)) ≡ true
       by_test true x y again = by_next (meets k (v +ℤ pos 1) b) refl x y again
       by_test false x y again = further ls e k b (again x y)
 

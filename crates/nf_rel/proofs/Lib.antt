@@ -2,6 +2,7 @@ pub mod Floors
 pub mod CommonDivisors
 pub mod Exact
 pub mod Truth
+pub mod CommonNumbers
 pub mod Clashing
 pub mod Sides
 pub mod Values

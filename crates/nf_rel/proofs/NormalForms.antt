@@ -1,33 +1,36 @@
 -- What `literal` gives is in normal form.
-use Rattle.std.proofs.Common.{◌≡◌, ℕ, zero, suc, ◌+◌, ◌*◌, ◌/◌, ◌%◌, ◌-◌, ◌^◌, ◌==◌, ◌≤◌, ℤ, pos, negsuc, neg_ℤ, cond, Bool, true, false, ◌&&◌, not, arith, refl, ap, sym, subst, ◌∙◌}
+use Rattle.std.proofs.Common.{◌≡◌, ℕ, zero, suc, ◌+◌, ◌*◌, ◌/◌, ◌%◌, ◌-◌, ◌^◌, ◌==◌, ◌≤◌, ℤ, pos, negsuc, neg_ℤ, cond, Bool, true, false, ◌&&◌, not, arith}
+use Rattle.std.proofs.Common.{refl, ap, sym, subst, ◌∙◌}
 use Rattle.std.specs.Prelude.{int_div, int_lt, unsigned_abs, nat_le}
 use Rattle.std.specs.Int.{◌∣◌, int_div_euclid, int_rem_euclid}
 use Rattle.std.specs.Ordering.{int_eq}
 use Rattle.std.specs.Cmp.{signed_Decides}
 use Rattle.std.proofs.lemmas.Int.{ints}
-use Rattle.std.proofs.lemmas.Bool.{le-leb, eq-eqb}
+use Rattle.std.proofs.lemmas.Bool.{le-leb, eq-eqb, and_from}
 use Rattle.std.proofs.lemmas.Nat.Gcd.{dvd_refl, dvd-zero, dvd_trans}
 use Rattle.std.proofs.Math.Nat.{mul-dvd-mul_left, dvd_of_mul-dvd-mul_left, eq-one_of_dvd-one}
-use Rattle.nf_terms.specs.Terms.{Polynomial, One, Times, Zero, Plus}
+use Rattle.base_lemmas.proofs.Integers.{unsigned_abs-neg}
+use Rattle.nf_terms.specs.NormalTerms.{Polynomial, One, Times, Zero, Plus}
 use Rattle.nf_terms.specs.Measures.{size_of, depth_of}
-use Rattle.nf_terms.specs.Limits.{weight_limit, size_limit, depth_limit}
+use Rattle.nf_terms.specs.TermLimits.{weight_limit, size_limit, depth_limit}
 use Rattle.nf_terms.specs.Normal.{IsNormal, has_atoms, ordered, narrow, part_with_atoms, constant_sum}
-use Rattle.nf_terms.proofs.Tests.{and_both}
 use Rattle.nf_rel.specs.declared.kind.Kind.{Kind}
 use Rattle.nf_rel.specs.declared.kind.Kind.TheVariants.{Ge, Le, Eq, Ne}
 use Rattle.nf_terms.proofs.Partings.{ordered_term}
 use Rattle.nf_terms.proofs.Reducing.{part_normal}
-use Rattle.nf_rel.specs.Literals.{NormalLiteral, True, False, Is, truth, common_divisor, divided, begins_positive, signed, Form, AtLeastZero, IsZero, IsNotZero, form_holds, bounded, bounded_by, literal_form}
-use Rattle.nf_rel.specs.NormalLiterals.{is_normal, lacks_constant, is_primitive, is_inner, IsNormalLiteral}
+use Rattle.nf_rel.specs.Literals.{NormalLiteral, True, False, Is, truth, common_divisor, divide_coefficients, begins_positive, signed_number, Form, AtLeastZero}
+use Rattle.nf_rel.specs.Literals.{IsZero, IsNotZero, form_holds, bounded, bounded_by, literal_form}
+use Rattle.nf_rel.specs.NormalLiterals.{is_normal, lacks_constant, is_primitive, is_inner_number, IsNormalLiteral}
 use Rattle.nf_rel.proofs.Floors.{lt_true, is_lt, not_lt}
 use Rattle.nf_rel.proofs.CommonDivisors.{gcd_is, AllMultiples, all_multiples}
-use Rattle.nf_rel.proofs.Directions.{abs_neg, still_nonzero, direction_normal, floor_small, constant_small}
+use Rattle.nf_rel.proofs.Directions.{still_nonzero, direction_normal, floor_small, constant_small}
 
 pub normal_is : (p : Polynomial) → IsNormal p → is_normal p ≡ true
 normal_is p n =
-    and_both (ordered p && nat_le (size_of p) size_limit && nat_le (depth_of p) depth_limit) (narrow p)
-    (and_both (ordered p && nat_le (size_of p) size_limit) (nat_le (depth_of p) depth_limit)
-    (and_both (ordered p) (nat_le (size_of p) size_limit) n.ordered (le-leb (size_of p) size_limit n.small)) (le-leb (depth_of p) depth_limit n.shallow)) n.narrow
+    and_from (ordered p && nat_le (size_of p) size_limit && nat_le (depth_of p) depth_limit) (narrow p)
+    (and_from (ordered p && nat_le (size_of p) size_limit) (nat_le (depth_of p) depth_limit)
+    (and_from (ordered p) (nat_le (size_of p) size_limit) n.ordered (le-leb (size_of p) size_limit n.small)) (le-leb (depth_of p) depth_limit n.shallow))
+    n.narrow
 
 -- ---- directions
 part_lacks : (p : Polynomial) → lacks_constant (part_with_atoms p) ≡ true
@@ -35,7 +38,7 @@ part_lacks Zero = refl
 part_lacks (Plus One c p) = part_lacks p
 part_lacks (Plus (Times a m) c p) = part_lacks p
 
-lacks_divided : (q : Polynomial) (d : ℤ) → lacks_constant (divided q d) ≡ lacks_constant q
+lacks_divided : (q : Polynomial) (d : ℤ) → lacks_constant (divide_coefficients q d) ≡ lacks_constant q
 lacks_divided Zero d = refl
 lacks_divided (Plus m c q) d = ap (λ b. has_atoms m && b) (lacks_divided q d)
 
@@ -44,24 +47,26 @@ part_again Zero e = refl
 part_again (Plus One c p) e = absurd (cc e)
 part_again (Plus (Times a m) c p) e = ap (Plus (Times a m) c) (part_again p e)
 
-abs_exact : (b : Bool) (n : ℕ) (c : ℤ) → unsigned_abs c % suc n ≡ 0 → suc n * unsigned_abs (int_div c (signed b (pos (suc n)))) ≡ unsigned_abs c
+abs_exact : (b : Bool) (n : ℕ) (c : ℤ) → unsigned_abs c % suc n ≡ 0 → suc n * unsigned_abs (int_div c (signed_number b (pos (suc n)))) ≡ unsigned_abs c
 abs_exact true n (pos a) e = omega (arith, ints)
-abs_exact true n (negsuc a) e = ap (λ x. suc n * x) (abs_neg (pos (suc a / suc n))) ∙ omega (arith, e)
-abs_exact false n (pos a) e = ap (λ x. suc n * x) (abs_neg (pos (a / suc n))) ∙ omega (arith, e)
+abs_exact true n (negsuc a) e = ap (λ x. suc n * x) (unsigned_abs-neg (pos (suc a / suc n))) ∙ omega (arith, e)
+abs_exact false n (pos a) e = ap (λ x. suc n * x) (unsigned_abs-neg (pos (a / suc n))) ∙ omega (arith, e)
 abs_exact false n (negsuc a) e = omega (arith, ints)
 
 -- what divides the quotients, times the divisor, divides the coefficients
-scaled : (b : Bool) (n e : ℕ) (q : Polynomial) → AllMultiples (suc n) q → e ∣ common_divisor (divided q (signed b (pos (suc n)))) → suc n * e ∣ common_divisor q
+scaled : (b : Bool) (n e : ℕ) (q : Polynomial) → AllMultiples (suc n) q → e ∣ common_divisor (divide_coefficients q (signed_number b (pos (suc n))))
+    → suc n * e ∣ common_divisor q
 scaled b n e Zero m d = dvd-zero (suc n * e)
 scaled b n e (Plus k c q) m d =
-    let s = signed b (pos (suc n)) in
-    let g = gcd_is (unsigned_abs (int_div c s)) (common_divisor (divided q s)) in
+    let s = signed_number b (pos (suc n)) in
+    let g = gcd_is (unsigned_abs (int_div c s)) (common_divisor (divide_coefficients q s)) in
     let first : suc n * e ∣ unsigned_abs c = subst (λ x. suc n * e ∣ x) (abs_exact b n c m.0) (mul-dvd-mul_left e (suc n) (dvd_trans e d g.0)) in
     (gcd_is (unsigned_abs c) (common_divisor q)).2 (suc n * e) first (scaled b n e q m.1 (dvd_trans e d g.1))
 
-no_divisor_left : (b : Bool) (n : ℕ) (q : Polynomial) → AllMultiples (suc n) q → common_divisor q ≡ suc n → common_divisor (divided q (signed b (pos (suc n)))) ≡ 1
+no_divisor_left : (b : Bool) (n : ℕ) (q : Polynomial) → AllMultiples (suc n) q → common_divisor q ≡ suc n
+    → common_divisor (divide_coefficients q (signed_number b (pos (suc n)))) ≡ 1
 no_divisor_left b n q m e =
-    let g = common_divisor (divided q (signed b (pos (suc n)))) in
+    let g = common_divisor (divide_coefficients q (signed_number b (pos (suc n)))) in
     let d : suc n * g ∣ suc n * 1 = subst (λ x. suc n * g ∣ x) (omega (arith, e)) (scaled b n g q m (dvd_refl g)) in
     eq-one_of_dvd-one (dvd_of_mul-dvd-mul_left g (omega arith) d)
 
@@ -69,7 +74,8 @@ positive : (k : ℕ) → int_eq (pos k) (pos 0) ≡ false → int_lt (pos 0) (po
 positive zero h = absurd (cc h)
 positive (suc k) h = is_lt (pos 0) (pos (suc k)) (omega (arith, ints))
 
-by_sign : (n : ℕ) (c : ℤ) (b : Bool) → int_lt (pos 0) c ≡ b → int_eq (int_div c (signed b (pos (suc n)))) (pos 0) ≡ false → int_lt (pos 0) (int_div c (signed b (pos (suc n)))) ≡ true
+by_sign : (n : ℕ) (c : ℤ) (b : Bool) → int_lt (pos 0) c ≡ b → int_eq (int_div c (signed_number b (pos (suc n)))) (pos 0) ≡ false
+    → int_lt (pos 0) (int_div c (signed_number b (pos (suc n)))) ≡ true
 by_sign n (pos a) true h e = positive (a / suc n) e
 by_sign n (pos zero) false h e =
     let z : 0 / suc n ≡ 0 = omega arith in
@@ -79,28 +85,31 @@ by_sign n (pos (suc a)) false h e = let k : true ≡ false = sym (is_lt (pos 0) 
 by_sign n (negsuc a) true h e = absurd (let k = lt_true (pos 0) (negsuc a) h in omega (arith, ints))
 by_sign n (negsuc a) false h e = positive (suc a / suc n) e
 
-divided_begins : (n : ℕ) (q : Polynomial) → AllMultiples (suc n) q → ordered q ≡ true → begins_positive (divided q (signed (begins_positive q) (pos (suc n)))) ≡ true
+divided_begins : (n : ℕ) (q : Polynomial) → AllMultiples (suc n) q → ordered q ≡ true
+    → begins_positive (divide_coefficients q (signed_number (begins_positive q) (pos (suc n)))) ≡ true
 divided_begins n Zero m o = refl
 divided_begins n (Plus k c q) m o = by_sign n c (int_lt (pos 0) c) refl (still_nonzero (int_lt (pos 0) c) n c m.0 (ordered_term k c q o).nonzero)
 
-direction_primitive : (p : Polynomial) (n : ℕ) → IsNormal p → common_divisor (part_with_atoms p) ≡ suc n → is_primitive (divided (part_with_atoms p) (signed (begins_positive (part_with_atoms p)) (pos (suc n)))) ≡ true
+direction_primitive : (p : Polynomial) (n : ℕ) → IsNormal p → common_divisor (part_with_atoms p) ≡ suc n
+    → is_primitive (divide_coefficients (part_with_atoms p) (signed_number (begins_positive (part_with_atoms p)) (pos (suc n)))) ≡ true
 direction_primitive p n h e =
     let q = part_with_atoms p in
     let b = begins_positive q in
-    let d = divided q (signed b (pos (suc n))) in
+    let d = divide_coefficients q (signed_number b (pos (suc n))) in
     let m : AllMultiples (suc n) q = subst (λ g. AllMultiples g q) e (all_multiples q) in
-    and_both (lacks_constant d && (common_divisor d == 1)) (begins_positive d)
-    (and_both (lacks_constant d) (common_divisor d == 1) (lacks_divided q (signed b (pos (suc n))) ∙ part_lacks p) (eq-eqb (common_divisor d) 1 (no_divisor_left b n q m e)))
+    and_from (lacks_constant d && (common_divisor d == 1)) (begins_positive d)
+    (and_from (lacks_constant d) (common_divisor d == 1) (lacks_divided q (signed_number b (pos (suc n))) ∙ part_lacks p)
+    (eq-eqb (common_divisor d) 1 (no_divisor_left b n q m e)))
     (divided_begins n q m (part_normal p h).ordered)
 
 -- ---- bounds
-inner_is : (z : ℤ) → unsigned_abs z + 1 ≤ weight_limit → is_inner z ≡ true
+inner_is : (z : ℤ) → unsigned_abs z + 1 ≤ weight_limit → is_inner_number z ≡ true
 inner_is z h =
-    and_both _ _ (ap not (not_lt z (negsuc (2 ^ 127 - 3)) (omega (arith, ints)))) (ap not (not_lt (pos (2 ^ 127 - 2)) z (omega (arith, ints))))
+    and_from _ _ (ap not (not_lt z (negsuc (2 ^ 127 - 3)) (omega (arith, ints)))) (ap not (not_lt (pos (2 ^ 127 - 2)) z (omega (arith, ints))))
 
-signed_small : (b : Bool) (z : ℤ) → unsigned_abs z + 1 ≤ weight_limit → is_inner (signed b (neg_ℤ z)) ≡ true
-signed_small true z h = inner_is (neg_ℤ z) (omega (arith, abs_neg z))
-signed_small false z h = inner_is (neg_ℤ (neg_ℤ z)) (omega (arith, abs_neg z, abs_neg (neg_ℤ z)))
+signed_small : (b : Bool) (z : ℤ) → unsigned_abs z + 1 ≤ weight_limit → is_inner_number (signed_number b (neg_ℤ z)) ≡ true
+signed_small true z h = inner_is (neg_ℤ z) (omega (arith, unsigned_abs-neg z))
+signed_small false z h = inner_is (neg_ℤ (neg_ℤ z)) (omega (arith, unsigned_abs-neg z, unsigned_abs-neg (neg_ℤ z)))
 
 -- ---- the literal
 module _ (d : Polynomial) (n : ℕ) (c : ℤ) (normal : is_normal d ≡ true) (primitive : is_primitive d ≡ true) (small : unsigned_abs c + 1 ≤ weight_limit) where
@@ -110,8 +119,8 @@ module _ (d : Polynomial) (n : ℕ) (c : ℤ) (normal : is_normal d ≡ true) (p
   floor : unsigned_abs (int_div_euclid c (pos (suc n))) + 1 ≤ weight_limit
   floor = omega (arith, floor_small c n, small)
 
-  with_bound : (k : Kind) (z : ℤ) → is_inner z ≡ true → IsNormalLiteral (Is d k z)
-  with_bound k z i = and_both (is_normal d && is_primitive d) (is_inner z) (and_both (is_normal d) (is_primitive d) normal primitive) i
+  with_bound : (k : Kind) (z : ℤ) → is_inner_number z ≡ true → IsNormalLiteral (Is d k z)
+  with_bound k z i = and_from (is_normal d && is_primitive d) (is_inner_number z) (and_from (is_normal d) (is_primitive d) normal primitive) i
 
   by_rest : (t : Bool) (l m : NormalLiteral) → IsNormalLiteral l → IsNormalLiteral m → IsNormalLiteral (cond t l m)
   by_rest true l m x y = x
@@ -120,20 +129,24 @@ module _ (d : Polynomial) (n : ℕ) (c : ℤ) (normal : is_normal d ≡ true) (p
   bounded_normal : (form : Form) (b : Bool) → IsNormalLiteral (bounded form b d (suc n) c)
   bounded_normal AtLeastZero true = with_bound Ge (neg_ℤ f) (signed_small true f floor)
   bounded_normal AtLeastZero false = with_bound Le f (inner_is f floor)
-  bounded_normal IsZero b = by_rest (int_eq (int_rem_euclid c (pos (suc n))) (pos 0)) (Is d Eq (signed b (neg_ℤ f))) False (with_bound Eq (signed b (neg_ℤ f)) (signed_small b f floor)) refl
-  bounded_normal IsNotZero b = by_rest (int_eq (int_rem_euclid c (pos (suc n))) (pos 0)) (Is d Ne (signed b (neg_ℤ f))) True (with_bound Ne (signed b (neg_ℤ f)) (signed_small b f floor)) refl
+  bounded_normal IsZero b = by_rest (int_eq (int_rem_euclid c (pos (suc n))) (pos 0))
+      (Is d Eq (signed_number b (neg_ℤ f))) False (with_bound Eq (signed_number b (neg_ℤ f)) (signed_small b f floor)) refl
+  bounded_normal IsNotZero b = by_rest (int_eq (int_rem_euclid c (pos (suc n))) (pos 0))
+      (Is d Ne (signed_number b (neg_ℤ f))) True (with_bound Ne (signed_number b (neg_ℤ f)) (signed_small b f floor)) refl
 
 truth_normal : (b : Bool) → IsNormalLiteral (truth b)
 truth_normal true = refl
 truth_normal false = refl
 
-by_divisor : (form : Form) (p : Polynomial) → IsNormal p → (g : ℕ) → common_divisor (part_with_atoms p) ≡ g → IsNormalLiteral (bounded_by form (part_with_atoms p) g (constant_sum p))
+by_divisor : (form : Form) (p : Polynomial) → IsNormal p → (g : ℕ) → common_divisor (part_with_atoms p) ≡ g
+    → IsNormalLiteral (bounded_by form (part_with_atoms p) g (constant_sum p))
 by_divisor form p h zero e = truth_normal (form_holds form (constant_sum p))
 by_divisor form p h (suc n) e =
     let q = part_with_atoms p in
     let b = begins_positive q in
-    let d = divided q (signed b (pos (suc n))) in
-    bounded_normal d n (constant_sum p) (normal_is d (direction_normal p b n h e)) (direction_primitive p n h e) (constant_small p h (λ z. let k : suc n ≡ 0 = sym e ∙ z in absurd (cc k))) form b
+    let d = divide_coefficients q (signed_number b (pos (suc n))) in
+    bounded_normal d n (constant_sum p) (normal_is d (direction_normal p b n h e)) (direction_primitive p n h e)
+    (constant_small p h (λ z. let k : suc n ≡ 0 = sym e ∙ z in absurd (cc k))) form b
 
 pub form_normal : (form : Form) (p : Polynomial) → IsNormal p → IsNormalLiteral (literal_form form p)
 form_normal form p h = by_divisor form p h (common_divisor (part_with_atoms p)) refl

@@ -1,34 +1,34 @@
 -- Laws of literals in normal form.
 use Rattle.std.proofs.Common.{◌≡◌, ℕ, ◌+◌, ◌==◌, ℤ, pos, Bool, true, false, ◌&&◌, ◌||◌, cond, List, [], ◌∷◌, Option, None, Some, arith, refl, ap, subst, ◌∙◌}
-use Rattle.std.specs.Prelude.{nat_le, option_map}
+use Rattle.std.specs.Prelude.{nat_le}
 use Rattle.std.specs.List.{list_any, position_from}
 use Rattle.std.specs.Option.{is_some, option_or}
 use Rattle.std.specs.Ordering.{int_eq, is_eq}
 use Rattle.std.specs.Cmp.{signed_Decides}
 use Rattle.std.proofs.lemmas.Int.{ints}
-use Rattle.std.proofs.lemmas.Bool.{leb-true}
+use Rattle.std.proofs.lemmas.Bool.{leb-true, and_from}
+use Rattle.base_lemmas.proofs.Booleans.{and_first, and_second}
 use Rattle.fs_model.specs.declared.parts.Rel.{Rel}
 use Rattle.fs_model.specs.declared.parts.Rel.TheVariants as rel
-use Rattle.nf_terms.specs.Terms.{Polynomial}
+use Rattle.nf_terms.specs.NormalTerms.{Polynomial}
 use Rattle.nf_terms.specs.Order.{same_polynomial}
 use Rattle.nf_terms.specs.Measures.{size_of, depth_of}
-use Rattle.nf_terms.specs.Limits.{size_limit, depth_limit}
+use Rattle.nf_terms.specs.TermLimits.{size_limit, depth_limit}
 use Rattle.nf_terms.specs.Normal.{IsNormal, ordered, narrow}
 use Rattle.nf_terms.specs.RawSums.{raw_negation, raw_difference, IsNormalFormOf}
 use Rattle.nf_terms.specs.Computed.{Done, IfDone, after}
 use Rattle.nf_terms.specs.TermKeys.{polynomial_same}
-use Rattle.nf_terms.proofs.Tests.{and_left, and_right, and_both}
 use Rattle.nf_terms.proofs.Simple.{number_normal}
 use Rattle.nf_sums.specs.Operations.{subtracted}
 use Rattle.nf_sums.proofs.Exact.{subtracted_form}
 use Rattle.nf_sums.proofs.Forms.{negation_normal}
 use Rattle.nf_sums.proofs.Values.{goes_done}
+use Rattle.nf_sums.proofs.Constants.{equal_of_same}
 use Rattle.nf_rel.specs.declared.kind.Kind.{Kind}
 use Rattle.nf_rel.specs.declared.kind.Kind.TheVariants.{Ge, Le, Eq, Ne}
 use Rattle.nf_rel.specs.Literals.{NormalLiteral, True, False, Is, Form, AtLeastZero, IsZero, IsNotZero, literal_form, one, against_zero, literal, negate}
-use Rattle.nf_rel.specs.NormalLiterals.{is_normal, is_primitive, is_inner, IsNormalLiteral, direction_of, rank, same_literal}
+use Rattle.nf_rel.specs.NormalLiterals.{is_normal, is_primitive, is_inner_number, IsNormalLiteral, direction_of, kind_rank, same_literal}
 use Rattle.nf_rel.proofs.NormalForms.{form_normal}
-use Rattle.nf_rel.proofs.Truth.{same_is}
 
 -- ---- what `literal` gives
 one_normal : IsNormal one
@@ -36,7 +36,8 @@ one_normal = number_normal (pos 1) (omega arith)
 
 difference_normal : (p q s : Polynomial) → IsNormal p → IsNormal q → subtracted p q ≡ Done s → IsNormal s
 difference_normal p q s m n e =
-    let f : IfDone (Done s) (λ x. IsNormalFormOf x (raw_difference p q)) = subst (λ c. IfDone c (λ x. IsNormalFormOf x (raw_difference p q))) e (subtracted_form p q m n) in
+    let f : IfDone (Done s) (λ x. IsNormalFormOf x (raw_difference p q)) =
+    subst (λ c. IfDone c (λ x. IsNormalFormOf x (raw_difference p q))) e (subtracted_form p q m n) in
     f.normal
 
 done_form : (f : Form) (p : Polynomial) (n : NormalLiteral) → IsNormal p → Done (literal_form f p) ≡ Done n → IsNormalLiteral n
@@ -62,14 +63,14 @@ literal_normal relation l r n hl hr e =
 
 pub direction_is_normal : (d : Polynomial) (k : Kind) (b : ℤ) → IsNormalLiteral (Is d k b) → IsNormal d
 direction_is_normal d k b e =
-    let n = and_left (is_normal d) (is_primitive d) (and_left (is_normal d && is_primitive d) (is_inner b) e) in
-    let c = and_left (ordered d && nat_le (size_of d) size_limit && nat_le (depth_of d) depth_limit) (narrow d) n in
-    let a = and_left (ordered d && nat_le (size_of d) size_limit) (nat_le (depth_of d) depth_limit) c in
+    let n = and_first (is_normal d) (is_primitive d) (and_first (is_normal d && is_primitive d) (is_inner_number b) e) in
+    let c = and_first (ordered d && nat_le (size_of d) size_limit && nat_le (depth_of d) depth_limit) (narrow d) n in
+    let a = and_first (ordered d && nat_le (size_of d) size_limit) (nat_le (depth_of d) depth_limit) c in
     record {
-      ordered = and_left (ordered d) (nat_le (size_of d) size_limit) a;
-      small = leb-true (size_of d) size_limit (and_right (ordered d) (nat_le (size_of d) size_limit) a);
-      shallow = leb-true (depth_of d) depth_limit (and_right (ordered d && nat_le (size_of d) size_limit) (nat_le (depth_of d) depth_limit) c);
-      narrow = and_right (ordered d && nat_le (size_of d) size_limit && nat_le (depth_of d) depth_limit) (narrow d) n;
+      ordered = and_first (ordered d) (nat_le (size_of d) size_limit) a;
+      small = leb-true (size_of d) size_limit (and_second (ordered d) (nat_le (size_of d) size_limit) a);
+      shallow = leb-true (depth_of d) depth_limit (and_second (ordered d && nat_le (size_of d) size_limit) (nat_le (depth_of d) depth_limit) c);
+      narrow = and_second (ordered d && nat_le (size_of d) size_limit && nat_le (depth_of d) depth_limit) (narrow d) n;
     }
 
 -- ---- negation
@@ -90,7 +91,7 @@ negate_again (Is d Eq b) = refl
 negate_again (Is d Ne b) = refl
 
 -- ---- sameness
-same_kind : (k j : Kind) → (rank k == rank j) ≡ true → k ≡ j
+same_kind : (k j : Kind) → (kind_rank k == kind_rank j) ≡ true → k ≡ j
 same_kind Ge Ge e = refl
 same_kind Ge Le e = absurd (cc e)
 same_kind Ge Eq e = absurd (cc e)
@@ -108,7 +109,7 @@ same_kind Ne Le e = absurd (cc e)
 same_kind Ne Eq e = absurd (cc e)
 same_kind Ne Ne e = refl
 
-own_kind : (k : Kind) → (rank k == rank k) ≡ true
+own_kind : (k : Kind) → (kind_rank k == kind_rank k) ≡ true
 own_kind Ge = refl
 own_kind Le = refl
 own_kind Eq = refl
@@ -124,31 +125,29 @@ literals_equal False (Is f j c) e = absurd (cc e)
 literals_equal (Is d k b) True e = absurd (cc e)
 literals_equal (Is d k b) False e = absurd (cc e)
 literals_equal (Is d k b) (Is f j c) e =
-    let a = and_left ((rank k == rank j) && int_eq b c) (same_polynomial d f) e in
-    let x : k ≡ j = same_kind k j (and_left (rank k == rank j) (int_eq b c) a) in
-    let y : b ≡ c = (signed_Decides b c).0 (and_right (rank k == rank j) (int_eq b c) a) in
-    let z : d ≡ f = same_is d f (and_right ((rank k == rank j) && int_eq b c) (same_polynomial d f) e) in
+    let a = and_first ((kind_rank k == kind_rank j) && int_eq b c) (same_polynomial d f) e in
+    let x : k ≡ j = same_kind k j (and_first (kind_rank k == kind_rank j) (int_eq b c) a) in
+    let y : b ≡ c = (signed_Decides b c).0 (and_second (kind_rank k == kind_rank j) (int_eq b c) a) in
+    let z : d ≡ f = equal_of_same d f (and_second ((kind_rank k == kind_rank j) && int_eq b c) (same_polynomial d f) e) in
     ap (λ p. Is p k b) z ∙ ap (λ t. Is f t b) x ∙ ap (Is f j) y
 
 pub literal_same : (l : NormalLiteral) → same_literal l l ≡ true
 literal_same True = refl
 literal_same False = refl
 literal_same (Is d k b) =
-    and_both ((rank k == rank k) && int_eq b b) (same_polynomial d d) (and_both (rank k == rank k) (int_eq b b) (own_kind k) ((signed_Decides b b).1 refl)) (ap is_eq (polynomial_same d d refl))
+    and_from ((kind_rank k == kind_rank k) && int_eq b b) (same_polynomial d d)
+    (and_from (kind_rank k == kind_rank k) (int_eq b b) (own_kind k) ((signed_Decides b b).1 refl)) (ap is_eq (polynomial_same d d refl))
 
 -- ---- clashes
 pub some_or : {T : Type 0} (a b : Option T) → is_some (option_or a b) ≡ is_some a || is_some b
 some_or None b = refl
 some_or (Some x) b = refl
 
-pub some_map : {S T : Type 0} (f : S → T) (a : Option S) → is_some (option_map f a) ≡ is_some a
-some_map f None = refl
-some_map f (Some x) = refl
-
 pub some_place : {T : Type 0} (test : T → Bool) (i : ℕ) (xs : List T) → is_some (position_from test i xs) ≡ list_any test xs
 some_place test i [] = refl
 some_place test i (x ∷ xs) = by_test (test x) (some_place test (i + 1) xs)
   where
-    by_test : (t : Bool) → is_some (position_from test (i + 1) xs) ≡ list_any test xs → is_some (cond t (Some i) (position_from test (i + 1) xs)) ≡ t || list_any test xs
+    by_test : (t : Bool) → is_some (position_from test (i + 1) xs) ≡ list_any test xs
+        → is_some (cond t (Some i) (position_from test (i + 1) xs)) ≡ t || list_any test xs
     by_test true e = refl
     by_test false e = e

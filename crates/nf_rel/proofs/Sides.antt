@@ -2,15 +2,17 @@
 use Rattle.std.proofs.Common.{◌≡◌, ℤ, pos, ◌+ℤ◌, ◌-ℤ◌, ◌≤ℤ◌, ◌<ℤ◌, cond, Bool, true, false, arith, refl, ap, sym, subst, ◌∙◌, List, [], ◌∷◌, Option, None, Some}
 use Rattle.std.specs.Prelude.{not, ◌&&◌, ◌||◌, ◌↔◌, IsTrue, int_lt}
 use Rattle.std.proofs.lemmas.Int.{ints}
-use Rattle.nf_terms.specs.Terms.{Polynomial}
+use Rattle.std.proofs.lemmas.Bool.{and_from, not-true}
+use Rattle.base_lemmas.proofs.Booleans.{and_first, and_second}
+use Rattle.base_lemmas.proofs.Integers.{int_eq-true}
+use Rattle.nf_terms.specs.NormalTerms.{Polynomial}
 use Rattle.nf_terms.specs.Order.{same_polynomial}
-use Rattle.nf_terms.proofs.Tests.{and_left, and_right, and_both, not_true}
 use Rattle.nf_rel.specs.declared.kind.Kind.{Kind}
 use Rattle.nf_rel.specs.declared.kind.Kind.TheVariants.{Ge, Le, Eq, Ne}
 use Rattle.nf_rel.specs.Bounds.{lower_of, upper_of, lower_along, upper_along, greater, less, greatest_lower, least_upper}
 use Rattle.nf_rel.specs.Literals.{NormalLiteral, True, False, Is, meets, meets_along, meets_all, is_refuted_along}
 use Rattle.nf_rel.proofs.Floors.{lt_true, lt_false, not_lt}
-use Rattle.nf_rel.proofs.Exact.{eq_true, not_eq, same_self, own_along, met_open, refuted_none, none_refuted}
+use Rattle.nf_rel.proofs.Exact.{not_eq, same_self, own_along, met_open, refuted_none, none_refuted}
 
 -- a number is not below a lower bound, and not above an upper one
 abbrev pub NotBelow : ℤ → Option ℤ → Type 0
@@ -22,15 +24,15 @@ NotAbove v None = Unit {0}
 NotAbove v (Some b) = v ≤ℤ b
 
 lower_met : (k : Kind) (v b : ℤ) → meets k v b ≡ true → NotBelow v (lower_of k b)
-lower_met Ge v b h = lt_false v b (not_true _ h)
+lower_met Ge v b h = lt_false v b (not-true _ h)
 lower_met Le v b h = tt
-lower_met Eq v b h = let x = eq_true v b h in omega (arith, ints, x)
+lower_met Eq v b h = let x = int_eq-true v b h in omega (arith, ints, x)
 lower_met Ne v b h = tt
 
 upper_met : (k : Kind) (v b : ℤ) → meets k v b ≡ true → NotAbove v (upper_of k b)
 upper_met Ge v b h = tt
-upper_met Le v b h = lt_false b v (not_true _ h)
-upper_met Eq v b h = let x = eq_true v b h in omega (arith, ints, x)
+upper_met Le v b h = lt_false b v (not-true _ h)
+upper_met Eq v b h = let x = int_eq-true v b h in omega (arith, ints, x)
 upper_met Ne v b h = tt
 
 lower_literal : (d : Polynomial) (v : ℤ) (l : NormalLiteral) → meets_along d v l ≡ true → NotBelow v (lower_along d l)
@@ -70,19 +72,21 @@ less_met v (Some a) (Some b) h i = by_test (int_lt b a)
     by_test false = h
 
 -- what meets all literals of a direction lies between its bounds
-pub lower_holds : (d : Polynomial) (v : ℤ) (known : Option ℤ) (ls : List NormalLiteral) → NotBelow v known → meets_all d v ls ≡ true → NotBelow v (greatest_lower d known ls)
+pub lower_holds : (d : Polynomial) (v : ℤ) (known : Option ℤ) (ls : List NormalLiteral) → NotBelow v known → meets_all d v ls ≡ true
+    → NotBelow v (greatest_lower d known ls)
 lower_holds d v known [] k h = k
 lower_holds d v known (l ∷ ls) k h =
     lower_holds d v (greater known (lower_along d l)) ls
-    (greater_met v known (lower_along d l) k (lower_literal d v l (and_left (meets_along d v l) (meets_all d v ls) h)))
-    (and_right (meets_along d v l) (meets_all d v ls) h)
+    (greater_met v known (lower_along d l) k (lower_literal d v l (and_first (meets_along d v l) (meets_all d v ls) h)))
+    (and_second (meets_along d v l) (meets_all d v ls) h)
 
-pub upper_holds : (d : Polynomial) (v : ℤ) (known : Option ℤ) (ls : List NormalLiteral) → NotAbove v known → meets_all d v ls ≡ true → NotAbove v (least_upper d known ls)
+pub upper_holds : (d : Polynomial) (v : ℤ) (known : Option ℤ) (ls : List NormalLiteral) → NotAbove v known → meets_all d v ls ≡ true
+    → NotAbove v (least_upper d known ls)
 upper_holds d v known [] k h = k
 upper_holds d v known (l ∷ ls) k h =
     upper_holds d v (less known (upper_along d l)) ls
-    (less_met v known (upper_along d l) k (upper_literal d v l (and_left (meets_along d v l) (meets_all d v ls) h)))
-    (and_right (meets_along d v l) (meets_all d v ls) h)
+    (less_met v known (upper_along d l) k (upper_literal d v l (and_first (meets_along d v l) (meets_all d v ls) h)))
+    (and_second (meets_along d v l) (meets_all d v ls) h)
 
 -- ---- where a side is open
 no_greater : (x y : Option ℤ) → greater x y ≡ None → (x ≡ None) × (y ≡ None)
@@ -151,11 +155,13 @@ open_below d known (Is f k b ∷ ls) e =
     by_test : (o : OpenBelow d ls) → lower_along d (Is f k b) ≡ None → (t : Bool) → int_lt b o.least ≡ t → OpenBelow d (Is f k b ∷ ls)
     by_test o n true q = record {
       least = b;
-      meets = λ v h. and_both (meets_along d v (Is f k b)) (meets_all d v ls) (below_literal d f k v b n h) (o.meets v (let x = lt_true b o.least q in omega (arith, ints)));
+      meets = λ v h. and_from (meets_along d v (Is f k b)) (meets_all d v ls) (below_literal d f k v b n h)
+          (o.meets v (let x = lt_true b o.least q in omega (arith, ints)));
     }
     by_test o n false q = record {
       least = o.least;
-      meets = λ v h. and_both (meets_along d v (Is f k b)) (meets_all d v ls) (below_literal d f k v b n (let x = lt_false b o.least q in omega (arith, ints))) (o.meets v h);
+      meets = λ v h. and_from (meets_along d v (Is f k b)) (meets_all d v ls)
+          (below_literal d f k v b n (let x = lt_false b o.least q in omega (arith, ints))) (o.meets v h);
     }
 
 open_above : (d : Polynomial) (known : Option ℤ) (ls : List NormalLiteral) → least_upper d known ls ≡ None → OpenAbove d ls
@@ -170,15 +176,18 @@ open_above d known (Is f k b ∷ ls) e =
     by_test : (o : OpenAbove d ls) → upper_along d (Is f k b) ≡ None → (t : Bool) → int_lt o.greatest b ≡ t → OpenAbove d (Is f k b ∷ ls)
     by_test o n true q = record {
       greatest = b;
-      meets = λ v h. and_both (meets_along d v (Is f k b)) (meets_all d v ls) (above_literal d f k v b n h) (o.meets v (let x = lt_true o.greatest b q in omega (arith, ints)));
+      meets = λ v h. and_from (meets_along d v (Is f k b)) (meets_all d v ls) (above_literal d f k v b n h)
+          (o.meets v (let x = lt_true o.greatest b q in omega (arith, ints)));
     }
     by_test o n false q = record {
       greatest = o.greatest;
-      meets = λ v h. and_both (meets_along d v (Is f k b)) (meets_all d v ls) (above_literal d f k v b n (let x = lt_false o.greatest b q in omega (arith, ints))) (o.meets v h);
+      meets = λ v h. and_from (meets_along d v (Is f k b)) (meets_all d v ls)
+          (above_literal d f k v b n (let x = lt_false o.greatest b q in omega (arith, ints))) (o.meets v h);
     }
 
 -- a walk from number to number goes one on
-pub walked : (p : ℤ → Bool) (b : Bool) (low number next : ℤ) → next ≡ number +ℤ pos 1 → ((v : ℤ) → low ≤ℤ v → v <ℤ number → p v ≡ b) → p number ≡ b → (v : ℤ) → low ≤ℤ v → v <ℤ next → p v ≡ b
+pub walked : (p : ℤ → Bool) (b : Bool) (low number next : ℤ) → next ≡ number +ℤ pos 1 → ((v : ℤ) → low ≤ℤ v → v <ℤ number → p v ≡ b) → p number ≡ b → (v : ℤ)
+    → low ≤ℤ v → v <ℤ next → p v ≡ b
 walked p b low number next e before here v l h = by_test (int_lt v number) refl
   where
     by_test : (t : Bool) → int_lt v number ≡ t → p v ≡ b
@@ -210,7 +219,8 @@ module _ (d : Polynomial) (k : Kind) (a : ℤ) (ls : List NormalLiteral) where
   pub met_beside : (v : ℤ) → meets_all d v all ≡ meets k v a && meets_all d v ls
   met_beside v = ap (λ t. t && meets_all d v ls) (own_along d k a v)
 
-  some_between : (low high : ℤ) → greatest_lower d (lower_of k a) ls ≡ Some low → least_upper d (upper_of k a) ls ≡ Some high → (v : ℤ) → meets_all d v all ≡ true → (low ≤ℤ v) × (v ≤ℤ high)
+  some_between : (low high : ℤ) → greatest_lower d (lower_of k a) ls ≡ Some low → least_upper d (upper_of k a) ls ≡ Some high → (v : ℤ)
+      → meets_all d v all ≡ true → (low ≤ℤ v) × (v ≤ℤ high)
   some_between low high e f v h = (
     subst (NotBelow v) (sym lower_beside ∙ e) (lower_holds d v None all tt h),
     subst (NotAbove v) (sym upper_beside ∙ f) (upper_holds d v None all tt h),

@@ -1,14 +1,15 @@
 -- Literals in normal form.
-use Rattle.std.specs.Prelude.{ℕ, zero, suc, Bool, true, false, not, ◌&&◌, ◌||◌, cond, ℤ, pos, ◌+ℤ◌, ◌-ℤ◌, neg_ℤ, int_lt, int_div, unsigned_abs, List, [], ◌∷◌}
+use Rattle.std.specs.Prelude.{ℕ, zero, suc, Bool, true, false, not, ◌&&◌, ◌||◌, cond, ℤ, pos, ◌+ℤ◌, ◌-ℤ◌, neg_ℤ, int_lt, int_div}
+use Rattle.std.specs.Prelude.{unsigned_abs, List, [], ◌∷◌}
 use Rattle.std.specs.Int.{int_div_euclid, int_rem_euclid}
 use Rattle.std.specs.Ordering.{int_eq}
 use Rattle.std.specs.List.{list_any, list_all}
 use Rattle.fs_model.specs.declared.parts.Rel.{Rel}
 use Rattle.fs_model.specs.declared.parts.Rel.TheVariants as rel
-use Rattle.nf_terms.specs.Terms.{Polynomial, Zero, Plus, polynomial_of_number}
+use Rattle.nf_terms.specs.NormalTerms.{Polynomial, Zero, Plus, polynomial_of_number}
 use Rattle.nf_terms.specs.Order.{same_polynomial}
 use Rattle.nf_terms.specs.Normal.{part_with_atoms, constant_sum}
-use Rattle.nf_terms.specs.Meaning.{Valuation, value_of}
+use Rattle.nf_terms.specs.TermMeaning.{Valuation, value_of}
 use Rattle.nf_terms.specs.RawSums.{raw_negation}
 use Rattle.nf_terms.specs.Computed.{Computed, Done, after}
 use Rattle.nf_sums.specs.Operations.{subtracted}
@@ -48,18 +49,18 @@ common_divisor Zero = 0
 common_divisor (Plus m c p) = gcd (unsigned_abs c) (common_divisor p)
 
 -- each coefficient divided
-abbrev pub divided : Polynomial → ℤ → Polynomial
-divided Zero d = Zero
-divided (Plus m c p) d = Plus m (int_div c d) (divided p d)
+abbrev pub divide_coefficients : Polynomial → ℤ → Polynomial
+divide_coefficients Zero d = Zero
+divide_coefficients (Plus m c p) d = Plus m (int_div c d) (divide_coefficients p d)
 
 abbrev pub begins_positive : Polynomial → Bool
 begins_positive Zero = true
 begins_positive (Plus m c p) = int_lt (pos 0) c
 
 -- a number as it is, or negated
-abbrev pub signed : Bool → ℤ → ℤ
-signed true z = z
-signed false z = neg_ℤ z
+abbrev pub signed_number : Bool → ℤ → ℤ
+signed_number true z = z
+signed_number false z = neg_ℤ z
 
 -- how a polynomial is compared with 0
 pub data Form : Type 0 where
@@ -76,12 +77,15 @@ form_holds IsNotZero z = not (int_eq z (pos 0))
 abbrev pub bounded : Form → (positive : Bool) → Polynomial → (g : ℕ) → (c : ℤ) → NormalLiteral
 bounded AtLeastZero true d g c = Is d Ge (neg_ℤ (int_div_euclid c (pos g)))
 bounded AtLeastZero false d g c = Is d Le (int_div_euclid c (pos g))
-bounded IsZero positive d g c = cond (int_eq (int_rem_euclid c (pos g)) (pos 0)) (Is d Eq (signed positive (neg_ℤ (int_div_euclid c (pos g))))) False
-bounded IsNotZero positive d g c = cond (int_eq (int_rem_euclid c (pos g)) (pos 0)) (Is d Ne (signed positive (neg_ℤ (int_div_euclid c (pos g))))) True
+bounded IsZero positive d g c = cond (int_eq (int_rem_euclid c (pos g)) (pos 0))
+    (Is d Eq (signed_number positive (neg_ℤ (int_div_euclid c (pos g))))) False
+bounded IsNotZero positive d g c = cond (int_eq (int_rem_euclid c (pos g)) (pos 0))
+    (Is d Ne (signed_number positive (neg_ℤ (int_div_euclid c (pos g))))) True
 
 abbrev pub bounded_by : Form → Polynomial → (g : ℕ) → (c : ℤ) → NormalLiteral
 bounded_by f q zero c = truth (form_holds f c)
-bounded_by f q (suc n) c = bounded f (begins_positive q) (divided q (signed (begins_positive q) (pos (suc n)))) (suc n) c
+bounded_by f q (suc n) c = bounded f (begins_positive q)
+    (divide_coefficients q (signed_number (begins_positive q) (pos (suc n)))) (suc n) c
 
 -- the literal of a polynomial that is compared with 0
 abbrev pub literal_form : Form → Polynomial → NormalLiteral

@@ -1,10 +1,10 @@
 -- Which literals are in normal form, when two are the same, and how large they are.
 use Rattle.std.specs.Prelude.{◌≡◌, ℕ, ◌+◌, ◌==◌, nat_le, ℤ, neg_ℤ, Bool, true, false, ◌&&◌, Option, None, Some}
 use Rattle.std.specs.Ordering.{int_eq}
-use Rattle.nf_terms.specs.Terms.{Polynomial, Zero, Plus}
+use Rattle.nf_terms.specs.NormalTerms.{Polynomial, Zero, Plus}
 use Rattle.nf_terms.specs.Order.{same_polynomial}
 use Rattle.nf_terms.specs.Measures.{size_of, depth_of}
-use Rattle.nf_terms.specs.Limits.{size_limit, depth_limit}
+use Rattle.nf_terms.specs.TermLimits.{size_limit, depth_limit}
 use Rattle.nf_terms.specs.Normal.{has_atoms, ordered, narrow}
 use Rattle.nf_rel.specs.declared.kind.Kind.{Kind}
 use Rattle.nf_rel.specs.declared.kind.Kind.TheVariants.{Ge, Le, Eq, Ne}
@@ -20,19 +20,20 @@ abbrev pub lacks_constant : Polynomial → Bool
 lacks_constant Zero = true
 lacks_constant (Plus m c p) = has_atoms m && lacks_constant p
 
--- whether there is no constant part, the greatest common divisor of the coefficients is 1 (so that 0 is none), and the first one is positive
+-- whether there is no constant part, the greatest common divisor of the coefficients is 1 (so that 0 is none), and the first one
+-- is positive
 abbrev pub is_primitive : Polynomial → Bool
 is_primitive d = lacks_constant d && (common_divisor d == 1) && begins_positive d
 
 -- whether a number lies between -(2^127 - 2) and 2^127 - 2
-abbrev pub is_inner : ℤ → Bool
-is_inner b = within (neg_ℤ below_most) below_most b
+abbrev pub is_inner_number : ℤ → Bool
+is_inner_number b = within (neg_ℤ below_most) below_most b
 
 -- whether a literal is in normal form
 abbrev pub is_normal_literal : NormalLiteral → Bool
 is_normal_literal True = true
 is_normal_literal False = true
-is_normal_literal (Is d k b) = is_normal d && is_primitive d && is_inner b
+is_normal_literal (Is d k b) = is_normal d && is_primitive d && is_inner_number b
 
 abbrev pub IsNormalLiteral : NormalLiteral → Type 0
 IsNormalLiteral l = is_normal_literal l ≡ true
@@ -43,11 +44,11 @@ direction_of True = None
 direction_of False = None
 direction_of (Is d k b) = Some d
 
-abbrev pub rank : Kind → ℕ
-rank Ge = 0
-rank Le = 1
-rank Eq = 2
-rank Ne = 3
+abbrev pub kind_rank : Kind → ℕ
+kind_rank Ge = 0
+kind_rank Le = 1
+kind_rank Eq = 2
+kind_rank Ne = 3
 
 -- whether two literals are the same
 abbrev pub same_literal : NormalLiteral → NormalLiteral → Bool
@@ -59,7 +60,7 @@ same_literal False False = true
 same_literal False (Is e j c) = false
 same_literal (Is d k b) True = false
 same_literal (Is d k b) False = false
-same_literal (Is d k b) (Is e j c) = (rank k == rank j) && int_eq b c && same_polynomial d e
+same_literal (Is d k b) (Is e j c) = (kind_rank k == kind_rank j) && int_eq b c && same_polynomial d e
 
 -- 1, and the direction's size
 abbrev pub size_of_literal : NormalLiteral → ℕ

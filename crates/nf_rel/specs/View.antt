@@ -14,9 +14,9 @@ literal_in code.False = False
 literal_in (code.Is b) = Is b.dir b.kind b.bound
 
 -- an answer with a literal
-abbrev pub literal_of : Result NLit NfStop → Result NormalLiteral NfStop
-literal_of (Ok l) = Ok (literal_in l)
-literal_of (Err stop) = Err stop
+abbrev pub normal_literal_of : Result NLit NfStop → Result NormalLiteral NfStop
+normal_literal_of (Ok l) = Ok (literal_in l)
+normal_literal_of (Err stop) = Err stop
 
 -- how a polynomial is compared with 0
 abbrev pub form_in : CodeForm → Form

@@ -1,13 +1,13 @@
 //! The common divisor of coefficients.
 
-ghost use Rattle.std.specs.Prelude.{◌≡◌, ◌≢◌, ◌≤◌, map, pos, neg_ℤ, IfOk, OnOk, ◌++◌, ◌∷◌, [], int_div, unsigned_abs};
-ghost use Rattle.nf_terms.specs.Terms.{polynomial_of};
+ghost use Rattle.std.specs.Prelude.{◌≡◌, ◌≢◌, ◌≤◌, map, pos, IfOk, OnOk, ◌++◌, ◌∷◌, [], int_div, unsigned_abs};
+ghost use Rattle.nf_terms.specs.NormalTerms.{polynomial_of};
 ghost use Rattle.nf_terms.specs.View.{monomial_in, term_in};
 ghost use Rattle.nf_terms.specs.Measures.{weight_of};
 ghost use Rattle.nf_terms.specs.Normal.{part_with_atoms};
-ghost use Rattle.nf_terms.specs.Limits.{weight_limit};
+ghost use Rattle.nf_terms.specs.TermLimits.{weight_limit};
 ghost use Rattle.nf_rel.specs.Gcd.{gcd};
-ghost use Rattle.nf_rel.specs.Literals.{common_divisor, divided};
+ghost use Rattle.nf_rel.specs.Literals.{common_divisor, divide_coefficients};
 
 use nf_terms::constants::has_atoms;
 use nf_terms::stop::NoMemory;
@@ -54,7 +54,8 @@ fn push_divided(
 ) -> Result<(), NoMemory>
     requires nonzero { by.now ≢ pos 0 }
     requires small { unsigned_abs coefficient.now ≤ weight_limit }
-    ensures { OnOk result (map term_in out.new.items ≡ map term_in out.old.items ++ (monomial_in mono.now, int_div coefficient.now by.now) ∷ []) }
+    ensures { OnOk result
+        (map term_in out.new.items ≡ map term_in out.old.items ++ (monomial_in mono.now, int_div coefficient.now by.now) ∷ []) }
 {
     let quotient = *coefficient / *by;
     out.push((mono.try_clone(alloc)?, quotient))?;
@@ -70,7 +71,9 @@ pub fn divided(
 ) -> Result<Vec<(MonoTree, i128)>, NoMemory>
     requires nonzero { by.now ≢ pos 0 }
     requires small { weight_of (polynomial_of (map term_in terms.now)) ≤ weight_limit }
-    ensures { IfOk result (λ out. polynomial_of (map term_in out.items) ≡ divided (part_with_atoms (polynomial_of (map term_in terms.now))) by.now) }
+    ensures { IfOk result
+        (λ out. polynomial_of (map term_in out.items) ≡ divide_coefficients
+        (part_with_atoms (polynomial_of (map term_in terms.now))) by.now) }
 {
     let mut out = Vec::new(alloc);
     for (mono, coefficient) in terms {

@@ -153,7 +153,9 @@ fn meets_beside(dir: &Poly, k: Kind, bound: &i128, list: &[NLit], number: &i128)
 
 // Whether no number from one to another meets a bound of a direction and all literals of it.
 fn none_between(dir: &Poly, k: Kind, bound: &i128, list: &[NLit], low: &i128, high: &i128) -> bool
-    ensures { IsTrue result ↔ ((v : ℤ) → low.now ≤ℤ v → v ≤ℤ high.now → meets k v bound.now && meets_all dir.now v (map literal_in list.now) ≡ false) }
+    ensures { IsTrue result
+        ↔ ((v : ℤ) → low.now ≤ℤ v → v ≤ℤ high.now → meets k v bound.now
+        && meets_all dir.now v (map literal_in list.now) ≡ false) }
 {
     if *high < *low {
         return true;

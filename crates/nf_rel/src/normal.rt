@@ -1,7 +1,7 @@
 //! Which literals are in normal form.
 
 ghost use Rattle.std.specs.Prelude.{◌≡◌};
-ghost use Rattle.nf_rel.specs.NormalLiterals.{is_normal, is_inner, is_normal_literal};
+ghost use Rattle.nf_rel.specs.NormalLiterals.{is_normal, is_inner_number, is_normal_literal};
 ghost use Rattle.nf_rel.specs.View.{literal_in};
 ghost use Rattle.std.specs.Prelude.{true};
 
@@ -14,7 +14,7 @@ const BOUND_LIMIT: i128 = i128::MAX - 1;
 
 /// Whether a number lies between -(2^127 - 2) and 2^127 - 2.
 pub fn is_inner(bound: &i128) -> bool
-    ensures { result ≡ is_inner bound.now }
+    ensures { result ≡ is_inner_number bound.now }
 {
     -BOUND_LIMIT <= *bound && *bound <= BOUND_LIMIT
 }

@@ -1,15 +1,17 @@
 //! The literal of a relation between two polynomials.
 
 ghost use Rattle.std.specs.Prelude.{◌≡◌, ◌≢◌, ◌≤◌, ◌+◌, map, pos, IfOk, unsigned_abs};
-ghost use Rattle.nf_terms.specs.Terms.{polynomial_of};
+ghost use Rattle.nf_terms.specs.NormalTerms.{polynomial_of};
 ghost use Rattle.nf_terms.specs.View.{term_in};
 ghost use Rattle.nf_terms.specs.Normal.{IsNormal, part_with_atoms, constant_sum};
-ghost use Rattle.nf_terms.specs.Limits.{weight_limit};
+ghost use Rattle.nf_terms.specs.TermLimits.{weight_limit};
 ghost use Rattle.nf_terms.specs.Computed.{Answers, Done, after};
 ghost use Rattle.nf_sums.specs.Operations.{subtracted};
-ghost use Rattle.nf_rel.specs.Literals.{AtLeastZero, truth, form_holds, signed, bounded, divided as divided_form, common_divisor, literal_form, literal as literal_by, against_zero, one as one_form};
+ghost use Rattle.nf_rel.specs.Literals.{AtLeastZero, truth, form_holds, signed_number, bounded};
+ghost use Rattle.nf_rel.specs.Literals.{divide_coefficients as divided_form, common_divisor, literal_form, literal as literal_by};
+ghost use Rattle.nf_rel.specs.Literals.{against_zero, one as one_form};
 ghost use Rattle.nf_rel.specs.NormalLiterals.{IsNormalLiteral};
-ghost use Rattle.nf_rel.specs.View.{literal_in, literal_of, form_in};
+ghost use Rattle.nf_rel.specs.View.{literal_in, normal_literal_of, form_in};
 
 use crate::divisors::{divided, divisor};
 use crate::kind::Kind;
@@ -46,7 +48,7 @@ fn truth(form: Form, number: &i128) -> NLit
 // A number as it is, or negated.
 fn signed(positive: bool, number: &i128) -> i128
     requires { unsigned_abs number.now ≤ weight_limit }
-    ensures { result ≡ signed positive number.now }
+    ensures { result ≡ signed_number positive number.now }
 {
     if positive { *number } else { -*number }
 }
@@ -112,7 +114,7 @@ fn divisor_of(p: &Poly) -> i128
 }
 
 // The constant part, which is below the limit where there is a divisor.
-#[tactic(auto, using(crate::proofs::Directions::constant_is, crate::proofs::Directions::constant_small))]
+#[tactic(auto, using(nf_sums::proofs::Constants::constant_is, crate::proofs::Directions::constant_small))]
 fn constant_in(p: &Poly) -> i128
     ensures sum { result ≡ constant_sum p.now }
     ensures small { common_divisor (part_with_atoms p.now) ≢ 0 → unsigned_abs result + 1 ≤ weight_limit }
@@ -135,7 +137,8 @@ fn direction(alloc: Global, p: &Poly, positive: bool, divisor: &i128) -> Result<
     requires divisor { divisor.now ≡ pos (common_divisor (part_with_atoms p.now)) }
     requires some { common_divisor (part_with_atoms p.now) ≢ 0 }
     requires small { unsigned_abs divisor.now ≤ weight_limit }
-    ensures { IfOk result (λ d. d ≡ divided_form (part_with_atoms p.now) (signed positive (pos (common_divisor (part_with_atoms p.now))))) }
+    ensures { IfOk result
+        (λ d. d ≡ divided_form (part_with_atoms p.now) (signed_number positive (pos (common_divisor (part_with_atoms p.now))))) }
 {
     let by = signed(positive, divisor);
     let monos = divided(alloc, p.monos(), &by)?;
@@ -169,7 +172,8 @@ fn literal_form(alloc: Global, form: Form, p: &Poly) -> Result<NLit, NoMemory>
 
 // The literal of a polynomial less 1, at least 0.
 fn above_zero(alloc: Global, p: &Poly) -> Result<NLit, NfStop>
-    ensures literal { Answers (literal_of result) (after (subtracted p.now one_form) (λ q. Done (literal_form AtLeastZero q))) }
+    ensures literal { Answers (normal_literal_of result)
+        (after (subtracted p.now one_form) (λ q. Done (literal_form AtLeastZero q))) }
     ensures normal { IfOk result (λ l. IsNormalLiteral (literal_in l)) }
 {
     let one = Poly::number(alloc, 1)?;
@@ -179,7 +183,7 @@ fn above_zero(alloc: Global, p: &Poly) -> Result<NLit, NfStop>
 
 // The literal of a relation between a difference and 0.
 fn against_zero(alloc: Global, relation: Rel, p: &Poly) -> Result<NLit, NfStop>
-    ensures literal { Answers (literal_of result) (against_zero relation p.now) }
+    ensures literal { Answers (normal_literal_of result) (against_zero relation p.now) }
     ensures normal { IfOk result (λ l. IsNormalLiteral (literal_in l)) }
 {
     match relation {
@@ -203,7 +207,7 @@ fn against_zero(alloc: Global, relation: Rel, p: &Poly) -> Result<NLit, NfStop>
 /// `Wide` and `Large` come exactly where they come first for the difference, or for what is left of it less 1, and
 /// `NoMemory` where memory is refused.
 pub fn literal(alloc: Global, relation: Rel, l: &Poly, r: &Poly) -> Result<NLit, NfStop>
-    ensures literal { Answers (literal_of result) (literal_by relation l.now r.now) }
+    ensures literal { Answers (normal_literal_of result) (literal_by relation l.now r.now) }
     ensures normal { IfOk result (λ l. IsNormalLiteral (literal_in l)) }
 {
     let difference = sub(alloc, l, r)?;

@@ -1,7 +1,7 @@
 //! Which polynomials are directions.
 
 ghost use Rattle.std.specs.Prelude.{◌≡◌, map};
-ghost use Rattle.nf_terms.specs.Terms.{polynomial_of};
+ghost use Rattle.nf_terms.specs.NormalTerms.{polynomial_of};
 ghost use Rattle.nf_terms.specs.View.{term_in};
 ghost use Rattle.nf_terms.specs.Normal.{part_with_atoms};
 ghost use Rattle.nf_rel.specs.Literals.{begins_positive};

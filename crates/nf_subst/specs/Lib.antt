@@ -1,5 +1,5 @@
 pub mod Vectors
-pub mod Places
+pub mod VectorPlaces
 pub mod Substitution
 pub mod Keeping
 pub mod SamePlaces

@@ -1,16 +1,16 @@
 -- Places that are the same are equal.
 use Rattle.std.specs.Prelude.{◌≡◌, Bool, true, false, ◌&&◌, ◌==◌}
 use Rattle.std.proofs.Common.{refl, ap, sym, ◌∙◌}
-use Rattle.std.proofs.lemmas.Bool.{eqb-true, eq-eqb}
+use Rattle.std.proofs.lemmas.Bool.{eqb-true, eq-eqb, and_from}
 use Rattle.std.specs.Bool.{Decides}
 use Rattle.std.specs.Cmp.{IsPartialEquivalence, IsEquivalence}
+use Rattle.base_lemmas.proofs.Booleans.{and_first, and_second}
 use Rattle.nf_terms.specs.Mentions.{same_side, same_pos}
-use Rattle.nf_terms.specs.declared.tree.Side.{Side}
-use Rattle.nf_terms.specs.declared.tree.Side.TheVariants.{Left, Right}
-use Rattle.nf_terms.specs.declared.tree.Pos.{Pos}
+use Rattle.fs_model.specs.declared.sides.Side.{Side}
+use Rattle.fs_model.specs.declared.sides.Side.TheVariants.{Left, Right}
+use Rattle.fs_model.specs.declared.sides.Pos.{Pos}
 use Rattle.nf_terms.specs.declared.symbols.Sort.{Sort}
 use Rattle.nf_terms.specs.declared.symbols.Sort.TheVariants as sort
-use Rattle.nf_terms.proofs.Tests.{and_left, and_right, and_both}
 use Rattle.nf_subst.specs.Vectors.{same_sort}
 use Rattle.nf_subst.specs.declared.place.Place.{Place}
 
@@ -29,10 +29,13 @@ own_side Left = refl
 own_side Right = refl
 
 pub pos_equal : (a b : Pos) → same_pos a b ≡ true → a ≡ b
-pos_equal a b e = λ k. record { side = sides_equal a.side b.side (and_left (same_side a.side b.side) (a.var == b.var) e) k; var = eqb-true a.var b.var (and_right (same_side a.side b.side) (a.var == b.var) e) k }
+pos_equal a b e = λ k. record {
+  side = sides_equal a.side b.side (and_first (same_side a.side b.side) (a.var == b.var) e) k;
+  var = eqb-true a.var b.var (and_second (same_side a.side b.side) (a.var == b.var) e) k;
+}
 
 pub own_pos : (p : Pos) → same_pos p p ≡ true
-own_pos p = and_both (same_side p.side p.side) (p.var == p.var) (own_side p.side) (eq-eqb p.var p.var refl)
+own_pos p = and_from (same_side p.side p.side) (p.var == p.var) (own_side p.side) (eq-eqb p.var p.var refl)
 
 pub sorts_equal : (a b : Sort) → same_sort a b ≡ true → a ≡ b
 sorts_equal sort.Scalar sort.Scalar e = refl
@@ -51,10 +54,13 @@ own_sort sort.Array = refl
 own_sort sort.List = refl
 
 pub places_equal : (a b : Place) → same_place a b ≡ true → a ≡ b
-places_equal a b e = λ k. record { pos = pos_equal a.pos b.pos (and_left (same_pos a.pos b.pos) (same_sort a.sort b.sort) e) k; sort = sorts_equal a.sort b.sort (and_right (same_pos a.pos b.pos) (same_sort a.sort b.sort) e) k }
+places_equal a b e = λ k. record {
+  pos = pos_equal a.pos b.pos (and_first (same_pos a.pos b.pos) (same_sort a.sort b.sort) e) k;
+  sort = sorts_equal a.sort b.sort (and_second (same_pos a.pos b.pos) (same_sort a.sort b.sort) e) k;
+}
 
 own_place : (a : Place) → same_place a a ≡ true
-own_place a = and_both (same_pos a.pos a.pos) (same_sort a.sort a.sort) (own_pos a.pos) (own_sort a.sort)
+own_place a = and_from (same_pos a.pos a.pos) (same_sort a.sort a.sort) (own_pos a.pos) (own_sort a.sort)
 
 same_turned : (a b : Place) → same_place a b ≡ same_place b a
 same_turned a b = by_values (same_place a b) (same_place b a) refl refl

@@ -1,12 +1,12 @@
 -- Vectors: normal forms for positions.
 use Rattle.std.specs.Prelude.{Bool, true, false, ◌&&◌, is_some, cond, Option, Some, None, List, [], ◌∷◌}
 use Rattle.std.specs.Option.{option_or}
-use Rattle.nf_terms.specs.Terms.{Polynomial, ArrayTerm, polynomial_of_symbol, bare_array}
+use Rattle.nf_terms.specs.NormalTerms.{Polynomial, ArrayTerm, polynomial_of_symbol, bare_array}
 use Rattle.nf_terms.specs.Lists.{ListTerm, bare_list}
 use Rattle.nf_terms.specs.Mentions.{same_pos}
-use Rattle.nf_terms.specs.Meaning.{Valuation, value_of, contents, items_in}
+use Rattle.nf_terms.specs.TermMeaning.{Valuation, value_of, contents, items_in}
 use Rattle.nf_terms.specs.Forms.{IsNormalForm, sort_of_form}
-use Rattle.nf_terms.specs.declared.tree.Pos.{Pos}
+use Rattle.fs_model.specs.declared.sides.Pos.{Pos}
 use Rattle.nf_terms.specs.declared.tree.Base.{Base}
 use Rattle.nf_terms.specs.declared.tree.Base.TheVariants as base
 use Rattle.nf_terms.specs.declared.tree.SeqBase.{SeqBase}
@@ -29,13 +29,13 @@ same_sort sort.List sort.Array = false
 same_sort sort.List sort.List = true
 
 -- whether an entry has a form of this sort for the position
-abbrev pub is_at : Sort → Pos → Pos × Nf → Bool
-is_at s p e = same_pos p e.0 && same_sort s (sort_of_form e.1)
+abbrev pub is_entry_at : Sort → Pos → Pos × Nf → Bool
+is_entry_at s p e = same_pos p e.0 && same_sort s (sort_of_form e.1)
 
 -- the form of this sort that a vector has for a position
 abbrev pub form_at : Sort → Pos → List (Pos × Nf) → Option Nf
 form_at s p [] = None
-form_at s p (e ∷ v) = cond (is_at s p e) (Some e.1) (form_at s p v)
+form_at s p (e ∷ v) = cond (is_entry_at s p e) (Some e.1) (form_at s p v)
 
 -- the number of a form, or else
 abbrev pub number_or : Polynomial → Option Nf → Polynomial
@@ -62,8 +62,8 @@ list_or default (Some (Seq l)) = l
 abbrev pub number_at : List (Pos × Nf) → Pos → Polynomial
 number_at v p = number_or (polynomial_of_symbol p) (form_at sort.Scalar p v)
 
-abbrev pub array_at : List (Pos × Nf) → Pos → ArrayTerm
-array_at v p = array_or (bare_array (base.Sym p)) (form_at sort.Array p v)
+abbrev pub array_form : List (Pos × Nf) → Pos → ArrayTerm
+array_form v p = array_or (bare_array (base.Sym p)) (form_at sort.Array p v)
 
 abbrev pub list_at : List (Pos × Nf) → Pos → ListTerm
 list_at v p = list_or (bare_list (list.Sym p)) (form_at sort.List p v)
@@ -71,7 +71,7 @@ list_at v p = list_or (bare_list (list.Sym p)) (form_at sort.List p v)
 -- the array of a base, and the list of one
 abbrev pub array_of_base : List (Pos × Nf) → Base → ArrayTerm
 array_of_base v base.Zero = bare_array base.Zero
-array_of_base v (base.Sym p) = array_at v p
+array_of_base v (base.Sym p) = array_form v p
 
 abbrev pub list_of_base : List (Pos × Nf) → SeqBase → ListTerm
 list_of_base v list.Empty = bare_list list.Empty
@@ -79,12 +79,16 @@ list_of_base v (list.Sym p) = list_at v p
 
 -- the pair of stores that a vector means in a pair of stores
 abbrev pub meaning : List (Pos × Nf) → Valuation → Valuation
-meaning v w = record { scalar = λ p. value_of w (number_at v p); array = λ p. contents w (array_at v p); list = λ p. items_in w (list_at v p) }
+meaning v w = record {
+  scalar = λ p. value_of w (number_at v p);
+  array = λ p. contents w (array_form v p);
+  list = λ p. items_in w (list_at v p);
+}
 
 -- the vector with this form for a position: in the place of its form of the same sort, or last
 abbrev pub with_form : Pos → Nf → List (Pos × Nf) → List (Pos × Nf)
 with_form p f [] = (p, f) ∷ []
-with_form p f (e ∷ v) = cond (is_at (sort_of_form f) p e) ((e.0, f) ∷ v) (e ∷ with_form p f v)
+with_form p f (e ∷ v) = cond (is_entry_at (sort_of_form f) p e) ((e.0, f) ∷ v) (e ∷ with_form p f v)
 
 -- the form of a position: its number, else its array, else its list
 abbrev pub form_of : Pos → List (Pos × Nf) → Option Nf

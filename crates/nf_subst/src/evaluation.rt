@@ -1,9 +1,10 @@
 //! The substituted values of terms that are given by numbers.
 
-ghost use Rattle.std.specs.Prelude.{◌≡◌, ◌<◌, ◌≤◌, length};
+ghost use Rattle.std.specs.Prelude.{◌<◌, ◌≤◌, length};
 ghost use Rattle.nf_terms.specs.Computed.{Answers, after};
 ghost use Rattle.nf_sums.specs.Operations.{number as number_of};
-ghost use Rattle.nf_bank.specs.Spelled.{bound_of_term, bound_of_sum, bound_of_array, bound_of_node, numbered, monomial_over, sum_over, array_over, atom_over};
+ghost use Rattle.nf_bank.specs.AtomNumbers.{bound_of_term, bound_of_sum, bound_of_array, bound_of_node, atom_of_number};
+ghost use Rattle.nf_bank.specs.AtomNumbers.{monomial_over, sum_over, array_over, atom_over};
 ghost use Rattle.nf_subst.specs.Substitution.{atom_substituted, atoms_substituted, substituted, array_substituted};
 ghost use Rattle.nf_subst.specs.Keeping.{AreValues};
 
@@ -33,7 +34,7 @@ fn number_value(
 ) -> Result<Poly, NfStop>
     requires within { id.0 < length bank.now }
     requires known { AreValues vector.now bank.now memo.old }
-    ensures answers { Answers result (atom_substituted vector.now (numbered bank.now id)) }
+    ensures answers { Answers result (atom_substituted vector.now (atom_of_number bank.now id)) }
     ensures known { AreValues vector.now bank.now memo.new }
 {
     if let Some(value) = memo.get(alloc, id)? {
@@ -90,7 +91,8 @@ fn term_value(
 ) -> Result<Poly, NfStop>
     requires within { bound_of_term term.now ≤ length bank.now }
     requires known { AreValues vector.now bank.now memo.old }
-    ensures answers { Answers result (after (number_of term.now.coefficient) (atoms_substituted vector.now (monomial_over bank.now term.now.atoms))) }
+    ensures answers { Answers result
+        (after (number_of term.now.coefficient) (atoms_substituted vector.now (monomial_over bank.now term.now.atoms))) }
     ensures known { AreValues vector.now bank.now memo.new }
 {
     let mut so_far = number(alloc, &term.coefficient)?;

@@ -1,7 +1,7 @@
 //! The values of atoms by their numbers.
 
 ghost use Rattle.std.specs.Prelude.{◌≡◌, ◌≢◌, ◌<◌, ℕ, [], Some, length, take, option_map, IfOk, OnOk, OnErr};
-ghost use Rattle.nf_subst.specs.Keeping.{value_at};
+ghost use Rattle.nf_subst.specs.Keeping.{known_value};
 
 use nf_bank::node::AtomId;
 use nf_terms::poly::Poly;
@@ -18,7 +18,7 @@ pub(crate) struct Memo {
 impl Model for Memo {
     ghost use Rattle.std.specs.Prelude.{List, Option};
     ghost use Rattle.std.specs.Coded.{coded_list, coded_option};
-    ghost use Rattle.nf_terms.specs.Terms.{Polynomial};
+    ghost use Rattle.nf_terms.specs.NormalTerms.{Polynomial};
     ghost use Rattle.nf_terms.specs.Codes.{coded_polynomial};
 
     ghost Value = { List (Option Polynomial) };
@@ -40,7 +40,7 @@ impl Memo {
 
     // The value of a number.
     fn known(&self, id: AtomId) -> Option<&Poly>
-        ensures { option_map (λ p. p.now) result ≡ value_at self.now id.0 }
+        ensures { option_map (λ p. p.now) result ≡ known_value self.now id.0 }
     {
         match self.by_number.get(id.0 as usize) {
             Some(value) => value.as_ref(),
@@ -50,7 +50,7 @@ impl Memo {
 
     /// A copy of the value of a number, if it is known. The one refusal is out of memory.
     pub(crate) fn get(&self, alloc: Global, id: AtomId) -> Result<Option<Poly>, NoMemory>
-        ensures { IfOk result (λ value. value ≡ value_at self.now id.0) }
+        ensures { IfOk result (λ value. value ≡ known_value self.now id.0) }
     {
         match self.known(id) {
             Some(value) => Ok(Some(value.try_clone(alloc)?)),
@@ -62,7 +62,7 @@ impl Memo {
     #[tactic(auto, using(crate::proofs::Known::none_more))]
     fn make_room(&mut self, id: AtomId) -> Result<(), NoMemory>
         ensures room { OnOk result (id.0 < length self.new) }
-        ensures same { (k : ℕ) → value_at self.new k ≡ value_at self.old k }
+        ensures same { (k : ℕ) → known_value self.new k ≡ known_value self.old k }
     {
         while self.by_number.len() as u64 <= id.0 {
             self.by_number.push(None)?;
@@ -72,9 +72,9 @@ impl Memo {
 
     /// Keeps a copy of the value of a number. The one refusal is out of memory.
     pub(crate) fn keep(&mut self, alloc: Global, id: AtomId, value: &Poly) -> Result<(), NoMemory>
-        ensures kept { OnOk result (value_at self.new id.0 ≡ Some value.now) }
-        ensures others { (k : ℕ) → k ≢ id.0 → value_at self.new k ≡ value_at self.old k }
-        ensures refused { OnErr result ((k : ℕ) → value_at self.new k ≡ value_at self.old k) }
+        ensures kept { OnOk result (known_value self.new id.0 ≡ Some value.now) }
+        ensures others { (k : ℕ) → k ≢ id.0 → known_value self.new k ≡ known_value self.old k }
+        ensures refused { OnErr result ((k : ℕ) → known_value self.new k ≡ known_value self.old k) }
     {
         let copy = value.try_clone(alloc)?;
         self.make_room(id)?;

@@ -1,10 +1,10 @@
 //! Substitution of a vector in normal forms: each different atom is substituted once.
 
 ghost use Rattle.std.specs.Prelude.{◌≡◌, ◌≤◌, [], length, take, IfOk, OnOk, OnErr};
-ghost use Rattle.nf_terms.specs.Meaning.{Valuation, value_of, contents, items_in};
+ghost use Rattle.nf_terms.specs.TermMeaning.{Valuation, value_of, contents, items_in};
 ghost use Rattle.nf_terms.specs.View.{polynomial_in, array_in};
 ghost use Rattle.nf_terms.specs.Computed.{Answers};
-ghost use Rattle.nf_bank.specs.Spelled.{bound_of_sum, bound_of_array, sum_over, array_over, SpellsSum, SpellsArray};
+ghost use Rattle.nf_bank.specs.AtomNumbers.{bound_of_sum, bound_of_array, sum_over, array_over, SpellsSum, SpellsArray};
 ghost use Rattle.nf_subst.specs.Vectors.{list_of_base, meaning};
 ghost use Rattle.nf_subst.specs.Substitution.{substituted, array_substituted, items_substituted, list_substituted};
 ghost use Rattle.nf_subst.specs.Keeping.{with_terms, with_array, with_items, IsFront};
@@ -34,9 +34,9 @@ pub struct Subst<'v> {
 }
 
 impl<'v> Model for Subst<'v> {
-    ghost use Rattle.nf_subst.specs.Keeping.{Kept, AreValues, coded_kept};
+    ghost use Rattle.nf_subst.specs.Keeping.{VectorWithAtoms, AreValues, coded_kept};
 
-    ghost Value = { Kept };
+    ghost Value = { VectorWithAtoms };
 
     ghost coded = { coded_kept };
 
@@ -177,7 +177,8 @@ impl<'v> Subst<'v> {
     /// A polynomial with the vector's forms in place of its symbols.
     ///
     /// `Wide` and `Large` come exactly at the first operation that is not narrow, or narrow and not small, in the order of the
-    /// monomials, in each the atoms, and in each its parts. `NoMemory` comes when memory runs out. After a refusal nothing more is kept.
+    /// monomials, in each the atoms, and in each its parts. `NoMemory` comes when memory runs out. After a refusal nothing more
+    /// is kept.
     #[tactic(auto, using(nf_bank::proofs::Fronts::cut_back))]
     pub fn poly(&mut self, alloc: Global, p: &Poly) -> Result<Poly, NfStop>
         ensures answers { Answers result (substituted self.old.vector p.now) }
@@ -196,7 +197,8 @@ impl<'v> Subst<'v> {
     /// An array with the vector's forms in place of its symbols.
     ///
     /// `Wide` and `Large` come exactly at the first operation that is not narrow, or narrow and not small, in the order of the
-    /// writes, in each the index, the value and the write. `NoMemory` comes when memory runs out. After a refusal nothing more is kept.
+    /// writes, in each the index, the value and the write. `NoMemory` comes when memory runs out. After a refusal nothing more is
+    /// kept.
     #[tactic(auto, using(nf_bank::proofs::Fronts::cut_back))]
     pub fn arr(&mut self, alloc: Global, a: &Arr) -> Result<Arr, NfStop>
         ensures answers { Answers result (array_substituted self.old.vector a.now) }

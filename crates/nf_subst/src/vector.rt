@@ -1,10 +1,12 @@
 //! Vectors: normal forms for positions.
 
 ghost use Rattle.std.specs.Prelude.{◌≡◌, [], Some, option_map, IsTrue, IfOk, OnOk, OnErr};
-ghost use Rattle.nf_subst.specs.Vectors.{form_at, form_of, has_form, number_at, array_at, list_at, array_of_base, list_of_base, with_form, AreNormalForms};
+ghost use Rattle.nf_subst.specs.Vectors.{form_at, form_of, has_form, number_at, array_form, list_at, array_of_base, list_of_base};
+ghost use Rattle.nf_subst.specs.Vectors.{with_form, AreNormalForms};
 
 use crate::copies::copied;
 use crate::place::Place;
+use crate::shared_form::SharedForm;
 use indexmap::IndexMap;
 use nf_terms::arr::Arr;
 use nf_terms::form::Nf;
@@ -19,20 +21,20 @@ use std::marker::Model;
 /// Normal forms for positions, at most one of each sort for a position. A form is found in constant time.
 #[derive(Drop)]
 pub struct Vector {
-    forms: IndexMap<Place, Nf>,
+    forms: IndexMap<Place, SharedForm>,
 }
 
 impl Model for Vector {
     ghost use Rattle.std.specs.Prelude.{List, map};
-    ghost use Rattle.nf_terms.specs.declared.tree.Pos.{Pos};
+    ghost use Rattle.fs_model.specs.declared.sides.Pos.{Pos};
     ghost use Rattle.nf_terms.specs.declared.form.Nf.{Nf};
-    ghost use Rattle.nf_subst.specs.Places.{coded_vector, entry_of, ArePlaced};
+    ghost use Rattle.nf_subst.specs.VectorPlaces.{coded_vector, position_entry, ArePlaced};
 
     ghost Value = { List (Pos × Nf) };
 
     ghost coded = { coded_vector };
 
-    ghost view = { λ v. map entry_of v.forms.entries };
+    ghost view = { λ v. map position_entry v.forms.entries };
 
     ghost invariant = { λ v. ArePlaced v.forms.entries };
 }
@@ -47,7 +49,7 @@ impl Vector {
         }
     }
 
-    /// A copy. The one refusal is out of memory.
+    /// A copy, which shares the forms. The one refusal is out of memory.
     pub fn try_clone(&self, alloc: Global) -> Result<Vector, NoMemory>
         ensures { IfOk result (λ copy. copy ≡ self.now) }
     {
@@ -60,18 +62,32 @@ impl Vector {
     pub fn holds(&self)
         ensures { AreNormalForms self.now }
     {
-        let _forms = &self.forms;
+        let _forms = &self.forms; // The read tells the proof what the type promises of its values.
+    }
+
+    // The allocator.
+    fn allocator(&self) -> Global {
+        *self.forms.allocator()
     }
 
     /// Gives a position this form, in the place of its form of the same sort, and leaves the other positions.
     ///
     /// The one refusal is out of memory, and leaves the vector unchanged.
-    #[tactic(auto, using(crate::proofs::Entries::put_placed, crate::proofs::Entries::put_seen))]
     pub fn put(&mut self, p: Pos, value: Nf) -> Result<(), NoMemory>
         ensures put { OnOk result (self.new ≡ with_form p value self.old) }
         ensures refused { OnErr result (self.new ≡ self.old) }
     {
-        let _size = value.size();
+        let shared = SharedForm::of(self.allocator(), value)?;
+        self.put_shared(p, shared)?;
+        Ok(())
+    }
+
+    /// As `put`, of a form that is shared.
+    #[tactic(auto, using(crate::proofs::Entries::put_placed, crate::proofs::Entries::put_seen))]
+    pub fn put_shared(&mut self, p: Pos, value: SharedForm) -> Result<(), NoMemory>
+        ensures put { OnOk result (self.new ≡ with_form p value self.old) }
+        ensures refused { OnErr result (self.new ≡ self.old) }
+    {
         let place = Place {
             pos: p,
             sort: value.sort(),
@@ -80,12 +96,22 @@ impl Vector {
         Ok(())
     }
 
-    /// The form of this sort for a position.
-    pub fn form(&self, sort: Sort, p: Pos) -> Option<&Nf>
+    /// The form of this sort for a position, as it is shared.
+    pub fn shared_form(&self, sort: Sort, p: Pos) -> Option<&SharedForm>
         ensures { option_map (λ f. f.now) result ≡ form_at sort p self.now }
     {
         let place = Place { pos: p, sort };
         self.forms.get(&place)
+    }
+
+    /// The form of this sort for a position.
+    pub fn form(&self, sort: Sort, p: Pos) -> Option<&Nf>
+        ensures { option_map (λ f. f.now) result ≡ form_at sort p self.now }
+    {
+        match self.shared_form(sort, p) {
+            Some(shared) => Some(shared.form()),
+            None => None,
+        }
     }
 
     /// The form of a position that has one: its number, else its array, else its list.
@@ -117,7 +143,7 @@ impl Vector {
 
     /// A copy of the array of a position, or the position's symbol. The one refusal is out of memory.
     pub fn array(&self, alloc: Global, p: &Pos) -> Result<Arr, NoMemory>
-        ensures { IfOk result (λ a. a ≡ array_at self.now p.now) }
+        ensures { IfOk result (λ a. a ≡ array_form self.now p.now) }
     {
         match self.form(Sort::Array, *p) {
             Some(Nf::Arr(array)) => array.try_clone(alloc),

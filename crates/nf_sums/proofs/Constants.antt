@@ -1,10 +1,9 @@
 -- The constant part of a polynomial in order, and polynomials that differ by a constant.
 use Rattle.std.proofs.Common.{◌≡◌, Bool, true, false, refl, ap, sym, ◌∙◌, arith}
 use Rattle.std.proofs.lemmas.Int.{ints}
-use Rattle.std.specs.declared.cmp.Ordering.{Ordering}
-use Rattle.std.specs.declared.cmp.Ordering.TheVariants.{Less, Equal, Greater}
 use Rattle.std.specs.Ordering.{is_eq}
-use Rattle.nf_terms.specs.Terms.{Polynomial, One, Times, Zero, Plus, polynomial_of_number}
+use Rattle.base_lemmas.proofs.Orderings.{is_eq-true}
+use Rattle.nf_terms.specs.NormalTerms.{Polynomial, One, Times, Zero, Plus, polynomial_of_number}
 use Rattle.nf_terms.specs.Order.{cmp_polynomial, same_polynomial}
 use Rattle.nf_terms.specs.TermKeys.{polynomial_ties, polynomial_same}
 use Rattle.nf_terms.specs.Normal.{ordered, part_with_atoms, constant_part, differ_by_constant}
@@ -13,14 +12,9 @@ use Rattle.nf_terms.specs.Normal.{constant_sum}
 pub use Rattle.nf_terms.proofs.Partings.{last_one, parted}
 use Rattle.nf_terms.proofs.Partings.{ordered_term}
 
-tie : (r : Ordering) → is_eq r ≡ true → r ≡ Equal
-tie Less e = cc
-tie Equal e = refl
-tie Greater e = cc
-
 -- polynomials that are the same are equal
 pub equal_of_same : (p q : Polynomial) → same_polynomial p q ≡ true → p ≡ q
-equal_of_same p q e = polynomial_ties p q (tie (cmp_polynomial p q) e)
+equal_of_same p q e = polynomial_ties p q (is_eq-true (cmp_polynomial p q) e)
 
 pub same_of_equal : (p q : Polynomial) → p ≡ q → same_polynomial p q ≡ true
 same_of_equal p q e = ap is_eq (polynomial_same p q e)

@@ -1,28 +1,28 @@
 -- Ordered sums and products are normal forms.
-use Rattle.std.proofs.Common.{◌≡◌, ◌+◌, ◌*◌, ◌≤◌, ℤ, pos, ◌+ℤ◌, ◌*ℤ◌, neg_ℤ, Bool, true, false, ◌&&◌, unsigned_abs, arith, refl, ap, sym, subst, ◌∙◌}
+use Rattle.std.proofs.Common.{◌≡◌, ◌+◌, ◌*◌, ◌≤◌, ℤ, pos, ◌+ℤ◌, ◌*ℤ◌, neg_ℤ, Bool, true, false, ◌&&◌, arith, refl, ap, sym, subst, ◌∙◌}
 use Rattle.std.proofs.lemmas.Int.{ints}
-use Rattle.std.proofs.lemmas.Bool.{le-leb}
+use Rattle.std.proofs.lemmas.Bool.{le-leb, and_from}
 use Rattle.std.specs.Ordering.{int_eq}
 use Rattle.std.specs.Cmp.{signed_Decides}
-use Rattle.nf_terms.specs.Terms.{Polynomial, Zero, Plus}
+use Rattle.base_lemmas.proofs.Integers.{unsigned_abs-neg}
+use Rattle.nf_terms.specs.NormalTerms.{Polynomial, Zero, Plus}
 use Rattle.nf_terms.specs.Measures.{size_of, weight_of, depth_of}
-use Rattle.nf_terms.specs.Meaning.{Valuation, value_of, value_of_monomial}
-use Rattle.nf_terms.specs.Limits.{size_limit, weight_limit}
+use Rattle.nf_terms.specs.TermMeaning.{Valuation, value_of, value_of_monomial}
+use Rattle.nf_terms.specs.TermLimits.{size_limit, weight_limit}
 use Rattle.nf_terms.specs.Normal.{IsNormal, ordered, monomial_rises, is_light, narrow_inside, narrow_monomial}
 use Rattle.nf_terms.specs.RawSums.{raw_sum, raw_negation, raw_difference, raw_product, IsNormalFormOf}
-use Rattle.nf_sums.specs.OrderedSums.{worth_of, fits, IsOrderedSum, IsOrderedProduct}
-use Rattle.nf_terms.proofs.Tests.{and_both}
+use Rattle.nf_sums.specs.OrderedSums.{worth_of, polynomial_fits, IsOrderedSum, IsOrderedProduct}
 use Rattle.nf_sums.proofs.Worth.{worth-sum, worth-negation, value_worth, total_worth, one_for, value-product}
 use Rattle.nf_sums.proofs.Bags.{bag_ignores, value_ignores}
 use Rattle.nf_sums.proofs.Within.{narrow_of, shallow_of, normal_fits}
 
 -- an ordered polynomial within the limits is normal
-normal_of : (s : Polynomial) → ordered s ≡ true → size_of s ≤ size_limit → weight_of s ≤ weight_limit → fits s ≡ true → IsNormal s
+normal_of : (s : Polynomial) → ordered s ≡ true → size_of s ≤ size_limit → weight_of s ≤ weight_limit → polynomial_fits s ≡ true → IsNormal s
 normal_of s o n w f = record {
   ordered = o;
   small = n;
   shallow = shallow_of s f;
-  narrow = and_both (is_light s) (narrow_inside s) (le-leb (weight_of s) weight_limit w) (narrow_of s f);
+  narrow = and_from (is_light s) (narrow_inside s) (le-leb (weight_of s) weight_limit w) (narrow_of s f);
 }
 
 module _ (p q s : Polynomial) (m : IsNormal p) (n : IsNormal q) where
@@ -39,7 +39,8 @@ module _ (p q s : Polynomial) (m : IsNormal p) (n : IsNormal q) where
   }
 
 pub sum_value : (p q s : Polynomial) → IsOrderedSum p q s → (w : Valuation) → value_of w s ≡ value_of w p +ℤ value_of w q
-sum_value p q s h w = value_worth w s ∙ h.worth (value_of_monomial w) ∙ ap (λ z. z +ℤ worth_of (value_of_monomial w) q) (sym (value_worth w p)) ∙ ap (λ z. value_of w p +ℤ z) (sym (value_worth w q))
+sum_value p q s h w = value_worth w s ∙ h.worth (value_of_monomial w) ∙ ap (λ z. z +ℤ worth_of (value_of_monomial w) q) (sym (value_worth w p))
+    ∙ ap (λ z. value_of w p +ℤ z) (sym (value_worth w q))
 
 pub product_value : (p q s : Polynomial) → IsOrderedProduct p q s → (w : Valuation) → value_of w s ≡ value_of w p *ℤ value_of w q
 product_value p q s h w = value_worth w s ∙ h.worth (value_of_monomial w) (value_ignores w) ∙ sym (value_worth w (raw_product p q)) ∙ value-product w p q
@@ -47,16 +48,13 @@ product_value p q s h w = value_worth w s ∙ h.worth (value_of_monomial w) (val
 pub negation_value : (w : Valuation) (p : Polynomial) → value_of w (raw_negation p) ≡ neg_ℤ (value_of w p)
 negation_value w p = value_worth w (raw_negation p) ∙ worth-negation (value_of_monomial w) p ∙ ap neg_ℤ (sym (value_worth w p))
 
-abs_neg : (c : ℤ) → unsigned_abs (neg_ℤ c) ≡ unsigned_abs c
-abs_neg c = omega (arith, ints)
-
 pub negation_size : (p : Polynomial) → size_of (raw_negation p) ≡ size_of p
 negation_size Zero = refl
 negation_size (Plus m c p) = omega (arith, negation_size p)
 
 pub negation_weight : (p : Polynomial) → weight_of (raw_negation p) ≡ weight_of p
 negation_weight Zero = refl
-negation_weight (Plus m c p) = omega (arith, negation_weight p, abs_neg c)
+negation_weight (Plus m c p) = omega (arith, negation_weight p, unsigned_abs-neg c)
 
 negation_depth : (p : Polynomial) → depth_of (raw_negation p) ≡ depth_of p
 negation_depth Zero = refl
@@ -95,7 +93,9 @@ negation_normal p n = record {
   ordered = negation_ordered p ∙ n.ordered;
   small = omega (arith, n.small, negation_size p);
   shallow = omega (arith, n.shallow, negation_depth p);
-  narrow = (let a : weight_of (raw_negation p) ≡ weight_of p = negation_weight p in let b : narrow_inside (raw_negation p) ≡ narrow_inside p = negation_inside p in let c : is_light p && narrow_inside p ≡ true = n.narrow in cc);
+  narrow =
+      (let a : weight_of (raw_negation p) ≡ weight_of p = negation_weight p in let b : narrow_inside (raw_negation p) ≡ narrow_inside p = negation_inside p in
+      let c : is_light p && narrow_inside p ≡ true = n.narrow in cc);
 }
 
 pub negation_form : (p : Polynomial) → IsNormal p → IsNormalFormOf (raw_negation p) (raw_negation p)
@@ -109,6 +109,8 @@ pub same_product : (x y s p q t : Polynomial) → x ≡ p → y ≡ q → t ≡ 
 same_product x y s p q t e f g h = subst (λ a. IsOrderedProduct a q t) e (subst (λ b. IsOrderedProduct x b t) f (subst (λ c. IsOrderedProduct x y c) (sym g) h))
 
 -- the merge of p and the negation of q is the form of their difference
-pub difference_form : (x y s p q : Polynomial) {t : Polynomial} → IsNormal p → IsNormal q → x ≡ p → y ≡ q → t ≡ s → IsOrderedSum x (raw_negation y) s → weight_of p + weight_of q ≤ weight_limit → size_of p + size_of q ≤ size_limit → IsNormalFormOf t (raw_difference p q)
+pub difference_form : (x y s p q : Polynomial) {t : Polynomial} → IsNormal p → IsNormal q → x ≡ p → y ≡ q → t ≡ s → IsOrderedSum x (raw_negation y) s
+    → weight_of p + weight_of q ≤ weight_limit → size_of p + size_of q ≤ size_limit → IsNormalFormOf t (raw_difference p q)
 difference_form x y s p q {t} m n e f g h w k =
-    sum_form p (raw_negation q) t m (negation_normal q n) (same_sum x (raw_negation y) s p (raw_negation q) t e (ap raw_negation f) g h) (omega (arith, w, negation_weight q)) (omega (arith, k, negation_size q))
+    sum_form p (raw_negation q) t m (negation_normal q n) (same_sum x (raw_negation y) s p (raw_negation q) t e (ap raw_negation f) g h)
+    (omega (arith, w, negation_weight q)) (omega (arith, k, negation_size q))

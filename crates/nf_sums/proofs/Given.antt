@@ -1,6 +1,6 @@
 -- What the operations give is the same as the raw sum.
 use Rattle.std.proofs.Common.{◌≡◌, true}
-use Rattle.nf_terms.specs.Terms.{Polynomial}
+use Rattle.nf_terms.specs.NormalTerms.{Polynomial}
 use Rattle.nf_terms.specs.Computed.{Computed, Done, Wide, Large, IfDone}
 use Rattle.nf_terms.specs.Normal.{IsNormal}
 use Rattle.nf_terms.specs.RawSums.{raw_sum, raw_negation, raw_difference, raw_product, IsNormalFormOf}
@@ -28,7 +28,9 @@ module _ (p q : Polynomial) (m : IsNormal p) (n : IsNormal q) where
   sum_given = if_done (raw_sum p q) (atoms_of_sum p q (atoms_of_normal p m) (atoms_of_normal q n)) (added p q) (added_form p q m n)
 
   pub difference_given : IfDone (subtracted p q) (λ s. IsFormOf s (raw_difference p q))
-  difference_given = if_done (raw_difference p q) (atoms_of_sum p (raw_negation q) (atoms_of_normal p m) (atoms_of_normal (raw_negation q) (negation_normal q n))) (subtracted p q) (subtracted_form p q m n)
+  difference_given = if_done (raw_difference p q)
+      (atoms_of_sum p (raw_negation q) (atoms_of_normal p m) (atoms_of_normal (raw_negation q) (negation_normal q n))) (subtracted p q)
+      (subtracted_form p q m n)
 
   pub product_given : IfDone (multiplied p q) (λ s. IsFormOf s (raw_product p q))
   product_given = if_done (raw_product p q) (atoms_of_product p q (atoms_of_normal p m) (atoms_of_normal q n)) (multiplied p q) (multiplied_form p q m n)

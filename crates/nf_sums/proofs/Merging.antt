@@ -1,29 +1,27 @@
 -- The merge of two ordered lists of terms.
-use Rattle.std.proofs.Common.{◌≡◌, ◌+◌, ◌≤◌, ℤ, pos, ◌+ℤ◌, ◌*ℤ◌, Bool, true, false, ◌&&◌, not, cond, unsigned_abs, List, [], ◌∷◌, ◌++◌, arith, refl, ap, sym, subst, ◌∙◌}
+use Rattle.std.proofs.Common.{◌≡◌, ◌+◌, ◌≤◌, ℤ, pos, ◌+ℤ◌, ◌*ℤ◌, Bool, true, false, ◌&&◌, not, cond, List, [], ◌∷◌, ◌++◌, arith, refl, ap, sym, subst, ◌∙◌}
 use Rattle.std.proofs.lemmas.Int.{ints}
 use Rattle.std.proofs.lemmas.List.{append-nil}
 use Rattle.std.specs.Ordering.{int_eq, is_lt}
 use Rattle.std.specs.Cmp.{signed_Decides}
-use Rattle.std.specs.declared.cmp.Ordering.{Ordering}
-use Rattle.std.specs.declared.cmp.Ordering.TheVariants.{Less, Equal, Greater}
-use Rattle.nf_terms.specs.Terms.{Monomial, polynomial_of}
+use Rattle.std.specs.declared.cmp.Ordering.TheVariants.{Equal}
+use Rattle.std.proofs.lemmas.Bool.{and_from}
+use Rattle.base_lemmas.proofs.Booleans.{and_first, and_second}
+use Rattle.base_lemmas.proofs.Orderings.{is_lt-true}
+use Rattle.base_lemmas.proofs.Integers.{unsigned_abs-add}
+use Rattle.nf_terms.specs.NormalTerms.{Monomial, polynomial_of}
 use Rattle.nf_terms.specs.Order.{cmp_monomial}
 use Rattle.nf_terms.specs.TermKeys.{monomial_ties}
 use Rattle.nf_terms.specs.Comparison.{monomials_total}
 use Rattle.nf_terms.specs.Normal.{ordered, ordered_monomial}
 use Rattle.nf_sums.specs.OrderedSums.{fits_monomial, IsOrderedSum, term_unless_zero}
-use Rattle.nf_terms.proofs.Tests.{and_left, and_right, and_both}
 use Rattle.nf_sums.proofs.Sorted.{follows, good_of, sorted_move, sorted_insert, sorted_drop, sorted_change, back_of}
-use Rattle.nf_sums.proofs.Terms.{Rises, rises_of, ordered_of, good_term, before_term, term_worth, term_size, term_weight, terms_fit, term_worth-append, term_size-append, term_weight-append, terms_fit-append}
-use Rattle.integers.proofs.Ring.{add-mul_z}
-
-less_of : (r : Ordering) → is_lt r ≡ true → r ≡ Less
-less_of Less e = refl
-less_of Equal e = cc
-less_of Greater e = cc
+use Rattle.nf_sums.proofs.Terms.{Rises, rises_of, ordered_of, good_term, before_term, term_worth, term_size, term_weight, terms_fit, term_worth-append}
+use Rattle.nf_sums.proofs.Terms.{term_size-append, term_weight-append, terms_fit-append}
+use Rattle.base_integers.proofs.Ring.{add-mul_z}
 
 before_trans : (r s t : Monomial × ℤ) → before_term r s ≡ true → before_term s t ≡ true → before_term r t ≡ true
-before_trans r s t p q = ap is_lt (monomials_total.trans r.0 s.0 t.0 (less_of _ p) (less_of _ q))
+before_trans r s t p q = ap is_lt (monomials_total.trans r.0 s.0 t.0 (is_lt-true _ p) (is_lt-true _ q))
 
 -- a merge on its way: what is out, and what is left of both sides
 pub record Merging (l r out a b : List (Monomial × ℤ)) : Type 0 where
@@ -35,7 +33,14 @@ pub record Merging (l r out a b : List (Monomial × ℤ)) : Type 0 where
   pub inside : terms_fit l ≡ true → terms_fit r ≡ true → terms_fit out && (terms_fit a && terms_fit b) ≡ true
 
 pub started : (l r : List (Monomial × ℤ)) → ordered (polynomial_of l) ≡ true → ordered (polynomial_of r) ≡ true → Merging l r [] l r
-started l r p q = record { left = rises_of l p; right = rises_of r q; worth = λ f. omega (arith, ints); size = omega arith; weight = omega arith; inside = λ a b. cc }
+started l r p q = record {
+  left = rises_of l p;
+  right = rises_of r q;
+  worth = λ f. omega (arith, ints);
+  size = omega arith;
+  weight = omega arith;
+  inside = λ a b. cc;
+}
 
 pub finished : (l r out : List (Monomial × ℤ)) → Merging l r out [] [] → IsOrderedSum (polynomial_of l) (polynomial_of r) (polynomial_of out)
 finished l r out m = record {
@@ -43,11 +48,8 @@ finished l r out m = record {
   worth = λ f. omega (arith, ints, m.worth f);
   size = omega (arith, m.size);
   weight = omega (arith, m.weight);
-  inside = λ p q. and_left (terms_fit out) true (m.inside p q);
+  inside = λ p q. and_first (terms_fit out) true (m.inside p q);
 }
-
-abs_add : (c d : ℤ) → unsigned_abs (c +ℤ d) ≤ unsigned_abs c + unsigned_abs d
-abs_add c d = omega (arith, ints)
 
 -- fits, x going from the second to the first
 fit_left : (o x a b : Bool) → o && (x && a && b) ≡ true → o && (x && true) && (a && b) ≡ true
@@ -79,17 +81,20 @@ module _ (l r out : List (Monomial × ℤ)) where
     worth = λ g. omega (arith, ints, m.worth g, term_worth-append g out (x ∷ []));
     size = omega (arith, m.size, term_size-append out (x ∷ []));
     weight = omega (arith, m.weight, term_weight-append out (x ∷ []));
-    inside = λ p q. ap (λ t. t && (terms_fit a && terms_fit b)) (terms_fit-append out (x ∷ [])) ∙ fit_left (terms_fit out) (fits_monomial x.0) (terms_fit a) (terms_fit b) (m.inside p q);
+    inside = λ p q. ap (λ t. t && (terms_fit a && terms_fit b)) (terms_fit-append out (x ∷ []))
+        ∙ fit_left (terms_fit out) (fits_monomial x.0) (terms_fit a) (terms_fit b) (m.inside p q);
   }
 
-  pub merge_right : (x : Monomial × ℤ) (a b : List (Monomial × ℤ)) → Merging l r out a (x ∷ b) → follows before_term x a ≡ true → Merging l r (out ++ x ∷ []) a b
+  pub merge_right : (x : Monomial × ℤ) (a b : List (Monomial × ℤ)) → Merging l r out a (x ∷ b) → follows before_term x a ≡ true
+      → Merging l r (out ++ x ∷ []) a b
   merge_right x a b m f = record {
     left = record { rises = sorted_insert good_term before_term out x b a m.right.rises m.left.rises f };
     right = record { rises = sorted_move good_term before_term out x b m.right.rises };
     worth = λ g. omega (arith, ints, m.worth g, term_worth-append g out (x ∷ []));
     size = omega (arith, m.size, term_size-append out (x ∷ []));
     weight = omega (arith, m.weight, term_weight-append out (x ∷ []));
-    inside = λ p q. ap (λ t. t && (terms_fit a && terms_fit b)) (terms_fit-append out (x ∷ [])) ∙ fit_right (terms_fit out) (terms_fit a) (fits_monomial x.0) (terms_fit b) (m.inside p q);
+    inside = λ p q. ap (λ t. t && (terms_fit a && terms_fit b)) (terms_fit-append out (x ∷ []))
+        ∙ fit_right (terms_fit out) (terms_fit a) (fits_monomial x.0) (terms_fit b) (m.inside p q);
   }
 
   module _ (n : Monomial) (c d : ℤ) (a b : List (Monomial × ℤ)) (m : Merging l r out ((n, c) ∷ a) ((n, d) ∷ b)) where
@@ -105,19 +110,29 @@ module _ (l r out : List (Monomial × ℤ)) where
 
     pub merge_both : not (int_eq (c +ℤ d) (pos 0)) ≡ true → Merging l r (out ++ (n, c +ℤ d) ∷ []) a b
     merge_both e = record {
-      left = record { rises = sorted_move good_term before_term out (n, c +ℤ d) a (sorted_change good_term before_term (n, c) (n, c +ℤ d) good (λ z. refl) (λ z. refl) out a m.left.rises) };
-      right = record { rises = sorted_move good_term before_term out (n, c +ℤ d) b (sorted_change good_term before_term (n, d) (n, c +ℤ d) good (λ z. refl) (λ z. refl) out b m.right.rises) };
+      left = record {
+        rises = sorted_move good_term before_term out (n, c +ℤ d) a
+            (sorted_change good_term before_term (n, c) (n, c +ℤ d) good (λ z. refl) (λ z. refl) out a m.left.rises);
+      };
+      right = record {
+        rises = sorted_move good_term before_term out (n, c +ℤ d) b
+            (sorted_change good_term before_term (n, d) (n, c +ℤ d) good (λ z. refl) (λ z. refl) out b m.right.rises);
+      };
       worth = λ g. omega (arith, ints, m.worth g, add-mul_z c d (g n), term_worth-append g out ((n, c +ℤ d) ∷ []));
       size = omega (arith, m.size, term_size-append out ((n, c +ℤ d) ∷ []));
-      weight = omega (arith, m.weight, term_weight-append out ((n, c +ℤ d) ∷ []), abs_add c d);
-      inside = λ p q. ap (λ t. t && (terms_fit a && terms_fit b)) (terms_fit-append out ((n, c +ℤ d) ∷ [])) ∙ fit_both (terms_fit out) (fits_monomial n) (terms_fit a) (terms_fit b) (m.inside p q);
+      weight = omega (arith, m.weight, term_weight-append out ((n, c +ℤ d) ∷ []), unsigned_abs-add c d);
+      inside = λ p q. ap (λ t. t && (terms_fit a && terms_fit b)) (terms_fit-append out ((n, c +ℤ d) ∷ []))
+          ∙ fit_both (terms_fit out) (fits_monomial n) (terms_fit a) (terms_fit b) (m.inside p q);
     }
       where
         good : good_term (n, c +ℤ d) ≡ true
-        good = and_both (not (int_eq (c +ℤ d) (pos 0))) (ordered_monomial n) e (and_right (not (int_eq c (pos 0))) (ordered_monomial n) (good_of good_term before_term (n, c) a (back_of good_term before_term out ((n, c) ∷ a) m.left.rises)))
+        good = and_from (not (int_eq (c +ℤ d) (pos 0))) (ordered_monomial n) e
+            (and_second (not (int_eq c (pos 0))) (ordered_monomial n)
+            (good_of good_term before_term (n, c) a (back_of good_term before_term out ((n, c) ∷ a) m.left.rises)))
 
   -- the first terms are of one monomial
-  pub merge_equal : (x y : Monomial) (c d : ℤ) (a b out' : List (Monomial × ℤ)) → Merging l r out ((x, c) ∷ a) ((y, d) ∷ b) → cmp_monomial x y ≡ Equal → out' ≡ out ++ term_unless_zero x (c +ℤ d) → Merging l r out' a b
+  pub merge_equal : (x y : Monomial) (c d : ℤ) (a b out' : List (Monomial × ℤ)) → Merging l r out ((x, c) ∷ a) ((y, d) ∷ b) → cmp_monomial x y ≡ Equal
+      → out' ≡ out ++ term_unless_zero x (c +ℤ d) → Merging l r out' a b
   merge_equal x y c d a b out' m e o = by_value (int_eq (c +ℤ d) (pos 0)) refl o
     where
       heads : Merging l r out ((x, c) ∷ a) ((x, d) ∷ b)

@@ -1,12 +1,13 @@
 -- Normal forms rise, whatever their atoms are, and atoms are the same exactly where they settle alike.
 use Rattle.std.proofs.Common.{◌≡◌, ℤ, pos, ◌+ℤ◌, true, ◌&&◌, not, refl, ap, sym, ◌∙◌}
 use Rattle.std.specs.Ordering.{int_eq, is_le, is_lt}
-use Rattle.nf_terms.specs.Terms.{Atom, Monomial, Polynomial, Symbol, Read, Quotient, Remainder, One, Times, Zero, Plus}
+use Rattle.std.proofs.lemmas.Bool.{and_from}
+use Rattle.base_lemmas.proofs.Booleans.{and_first, and_second, by_test}
+use Rattle.nf_terms.specs.NormalTerms.{Atom, Monomial, Polynomial, Symbol, Read, Quotient, Remainder, One, Times, Zero, Plus}
 use Rattle.nf_terms.specs.Order.{cmp_atom, cmp_monomial}
 use Rattle.nf_terms.specs.Normal.{atom_rises, monomial_rises}
 use Rattle.nf_terms.specs.RawSums.{total}
-use Rattle.nf_terms.proofs.Tests.{and_left, and_right, and_both, by_test}
-use Rattle.nf_sums.specs.Forms.{with_atom, sorted_monomial, plus, with_term, normal_form}
+use Rattle.nf_sums.specs.RawSumForms.{with_atom, sorted_monomial, plus, with_term, normal_form}
 use Rattle.nf_sums.specs.Sameness.{settled_atom, settled, settled_array, SameSum, SameAtom}
 use Rattle.nf_sums.proofs.Sorting.{atom_before, rises_with_atom}
 use Rattle.nf_sums.proofs.Collecting.{by_cases, worth-form, turned, FirstRises, rises_with}
@@ -19,8 +20,11 @@ use Rattle.nf_sums.proofs.Unique.{risen_monomial, risen, unique}
 with_atom_risen : (a : Atom) (m : Monomial) → risen_monomial m ≡ true → risen_monomial (with_atom a m) ≡ true
 with_atom_risen a One o = refl
 with_atom_risen a (Times b m) o =
-    by_test (λ n. risen_monomial n ≡ true) (Times a (Times b m)) (Times b (with_atom a m)) (is_le (cmp_atom a b)) (λ t. and_both (atom_rises a (Times b m)) (risen_monomial (Times b m)) t o)
-    (λ t. and_both (atom_rises b (with_atom a m)) (risen_monomial (with_atom a m)) (rises_with_atom b a m (atom_before a b t) (and_left (atom_rises b m) (risen_monomial m) o)) (with_atom_risen a m (and_right (atom_rises b m) (risen_monomial m) o)))
+    by_test (λ n. risen_monomial n ≡ true) (Times a (Times b m)) (Times b (with_atom a m)) (is_le (cmp_atom a b))
+    (λ t. and_from (atom_rises a (Times b m)) (risen_monomial (Times b m)) t o)
+    (λ t. and_from (atom_rises b (with_atom a m)) (risen_monomial (with_atom a m))
+    (rises_with_atom b a m (atom_before a b t) (and_first (atom_rises b m) (risen_monomial m) o))
+    (with_atom_risen a m (and_second (atom_rises b m) (risen_monomial m) o)))
 
 sorted_risen : (m : Monomial) → risen_monomial (sorted_monomial m) ≡ true
 sorted_risen One = refl
@@ -36,13 +40,20 @@ record IsRisenTerm (m : Monomial) (c : ℤ) (p : Polynomial) : Type 0 where
 risen_term : (m : Monomial) (c : ℤ) (p : Polynomial) → risen (Plus m c p) ≡ true → IsRisenTerm m c p
 risen_term m c p o =
     let z = not (int_eq c (pos 0)) in
-    let a : z && risen_monomial m && monomial_rises m p ≡ true = and_left (z && risen_monomial m && monomial_rises m p) (risen p) o in
-    let b : z && risen_monomial m ≡ true = and_left (z && risen_monomial m) (monomial_rises m p) a in
-    record { nonzero = and_left z (risen_monomial m) b; first = and_right z (risen_monomial m) b; rises = and_right (z && risen_monomial m) (monomial_rises m p) a; rest = and_right (z && risen_monomial m && monomial_rises m p) (risen p) o }
+    let a : z && risen_monomial m && monomial_rises m p ≡ true = and_first (z && risen_monomial m && monomial_rises m p) (risen p) o in
+    let b : z && risen_monomial m ≡ true = and_first (z && risen_monomial m) (monomial_rises m p) a in
+    record {
+      nonzero = and_first z (risen_monomial m) b;
+      first = and_second z (risen_monomial m) b;
+      rises = and_second (z && risen_monomial m) (monomial_rises m p) a;
+      rest = and_second (z && risen_monomial m && monomial_rises m p) (risen p) o;
+    }
 
-term_risen : (m : Monomial) (c : ℤ) (p : Polynomial) → not (int_eq c (pos 0)) ≡ true → risen_monomial m ≡ true → monomial_rises m p ≡ true → risen p ≡ true → risen (Plus m c p) ≡ true
+term_risen : (m : Monomial) (c : ℤ) (p : Polynomial) → not (int_eq c (pos 0)) ≡ true → risen_monomial m ≡ true → monomial_rises m p ≡ true → risen p ≡ true
+    → risen (Plus m c p) ≡ true
 term_risen m c p z o r q =
-    and_both (not (int_eq c (pos 0)) && risen_monomial m && monomial_rises m p) (risen p) (and_both (not (int_eq c (pos 0)) && risen_monomial m) (monomial_rises m p) (and_both (not (int_eq c (pos 0))) (risen_monomial m) z o) r) q
+    and_from (not (int_eq c (pos 0)) && risen_monomial m && monomial_rises m p) (risen p)
+    (and_from (not (int_eq c (pos 0)) && risen_monomial m) (monomial_rises m p) (and_from (not (int_eq c (pos 0))) (risen_monomial m) z o) r) q
 
 plus_risen : (m : Monomial) (c : ℤ) (p : Polynomial) → risen_monomial m ≡ true → monomial_rises m p ≡ true → risen p ≡ true → risen (plus m c p) ≡ true
 plus_risen m c p o r q = by_test (λ t. risen t ≡ true) p (Plus m c p) (int_eq c (pos 0)) (λ e. q) (λ e. term_risen m c p (ap not e) o r q)
@@ -55,7 +66,8 @@ with_term_risen : (m : Monomial) (c : ℤ) (p : Polynomial) → risen_monomial m
 with_term_risen m c Zero o q = plus_risen m c Zero o refl refl
 with_term_risen m c (Plus n d p) o q =
     let t = risen_term n d p q in
-    by_cases (λ t. risen t ≡ true) (plus m c (Plus n d p)) (plus n (c +ℤ d) p) (Plus n d (with_term m c p)) (cmp_monomial m n) (λ e. plus_risen m c (Plus n d p) o (ap is_lt e) q) (λ e. plus_risen n (c +ℤ d) p t.first t.rises t.rest)
+    by_cases (λ t. risen t ≡ true) (plus m c (Plus n d p)) (plus n (c +ℤ d) p) (Plus n d (with_term m c p)) (cmp_monomial m n)
+    (λ e. plus_risen m c (Plus n d p) o (ap is_lt e) q) (λ e. plus_risen n (c +ℤ d) p t.first t.rises t.rest)
     (λ e. term_risen n d (with_term m c p) t.nonzero t.first (rises_with n m c p (turned m n e) (first_of p t.rest) t.rises) (with_term_risen m c p o t.rest))
 
 form_risen : (p : Polynomial) → risen (normal_form p) ≡ true
@@ -68,7 +80,8 @@ form_totals : (bag : Monomial) (p : Polynomial) → total bag (normal_form p) �
 form_totals bag p = total_worth bag (normal_form p) ∙ worth-form (one_for bag) (bag_ignores bag) p ∙ sym (total_worth bag p)
 
 pub sums_settle : (p q : Polynomial) → SameSum p q → normal_form (settled p) ≡ normal_form (settled q)
-sums_settle p q s = unique (normal_form (settled p)) (normal_form (settled q)) (form_risen (settled p)) (form_risen (settled q)) (record { totals = λ bag. form_totals bag (settled p) ∙ s.totals bag ∙ sym (form_totals bag (settled q)) })
+sums_settle p q s = unique (normal_form (settled p)) (normal_form (settled q)) (form_risen (settled p)) (form_risen (settled q))
+    (record { totals = λ bag. form_totals bag (settled p) ∙ s.totals bag ∙ sym (form_totals bag (settled q)) })
 
 pub sums_same : (p q : Polynomial) → normal_form (settled p) ≡ normal_form (settled q) → SameSum p q
 sums_same p q e = record { totals = λ bag. sym (form_totals bag (settled p)) ∙ ap (total bag) e ∙ form_totals bag (settled q) }

@@ -1,14 +1,14 @@
 -- Lists of terms, as polynomials.
 use Rattle.std.proofs.Common.{◌≡◌, ℕ, ◌+◌, ℤ, pos, ◌+ℤ◌, Bool, true, false, ◌&&◌, not, List, [], ◌∷◌, ◌++◌, map, arith, refl, ap, sym, ◌∙◌}
 use Rattle.std.specs.Ordering.{is_lt, int_eq}
-use Rattle.nf_terms.specs.Terms.{Monomial, Polynomial, Zero, Plus, polynomial_of}
+use Rattle.nf_terms.specs.NormalTerms.{Monomial, Polynomial, Zero, Plus, polynomial_of}
 use Rattle.nf_terms.specs.View.{term_in}
 use Rattle.nf_terms.specs.declared.tree.MonoTree.{MonoTree}
 use Rattle.nf_terms.specs.Order.{cmp_monomial}
 use Rattle.nf_terms.specs.Measures.{size_of, weight_of}
 use Rattle.nf_terms.specs.Normal.{ordered, ordered_monomial}
 use Rattle.nf_terms.specs.RawSums.{raw_sum}
-use Rattle.nf_sums.specs.OrderedSums.{worth_of, fits, fits_monomial}
+use Rattle.nf_sums.specs.OrderedSums.{worth_of, polynomial_fits, fits_monomial}
 use Rattle.nf_sums.proofs.Worth.{worth-sum}
 use Rattle.nf_sums.proofs.Sorted.{sorted, Sorted}
 
@@ -54,9 +54,9 @@ and_deep : (a b c : Bool) → a && (b && c) ≡ a && b && c
 and_deep true b c = refl
 and_deep false b c = refl
 
-pub fits-sum : (p q : Polynomial) → fits (raw_sum p q) ≡ fits p && fits q
+pub fits-sum : (p q : Polynomial) → polynomial_fits (raw_sum p q) ≡ polynomial_fits p && polynomial_fits q
 fits-sum Zero q = refl
-fits-sum (Plus m c p) q = ap (λ b. fits_monomial m && b) (fits-sum p q) ∙ and_deep (fits_monomial m) (fits p) (fits q)
+fits-sum (Plus m c p) q = ap (λ b. fits_monomial m && b) (fits-sum p q) ∙ and_deep (fits_monomial m) (polynomial_fits p) (polynomial_fits q)
 
 abbrev pub term_worth : (Monomial → ℤ) → List (Monomial × ℤ) → ℤ
 term_worth f ts = worth_of f (polynomial_of ts)
@@ -68,7 +68,7 @@ abbrev pub term_weight : List (Monomial × ℤ) → ℕ
 term_weight ts = weight_of (polynomial_of ts)
 
 abbrev pub terms_fit : List (Monomial × ℤ) → Bool
-terms_fit ts = fits (polynomial_of ts)
+terms_fit ts = polynomial_fits (polynomial_of ts)
 
 pub term_worth-append : (f : Monomial → ℤ) (ss ts : List (Monomial × ℤ)) → term_worth f (ss ++ ts) ≡ term_worth f ss +ℤ term_worth f ts
 term_worth-append f ss ts = ap (worth_of f) (polynomial_of-append ss ts) ∙ worth-sum f (polynomial_of ss) (polynomial_of ts)
@@ -80,4 +80,4 @@ pub term_weight-append : (ss ts : List (Monomial × ℤ)) → term_weight (ss ++
 term_weight-append ss ts = ap weight_of (polynomial_of-append ss ts) ∙ weight-sum (polynomial_of ss) (polynomial_of ts)
 
 pub terms_fit-append : (ss ts : List (Monomial × ℤ)) → terms_fit (ss ++ ts) ≡ terms_fit ss && terms_fit ts
-terms_fit-append ss ts = ap fits (polynomial_of-append ss ts) ∙ fits-sum (polynomial_of ss) (polynomial_of ts)
+terms_fit-append ss ts = ap polynomial_fits (polynomial_of-append ss ts) ∙ fits-sum (polynomial_of ss) (polynomial_of ts)

@@ -1,18 +1,20 @@
 -- Normal polynomials that are the same raw sum are equal.
 use Rattle.std.proofs.Common.{◌≡◌, ℕ, zero, suc, ◌+◌, ◌<◌, ◌==◌, ℤ, pos, ◌+ℤ◌, Bool, true, false, ◌&&◌, not, cond, arith, refl, ap, sym, subst, ◌∙◌}
 use Rattle.std.proofs.lemmas.Int.{ints}
-use Rattle.std.proofs.lemmas.Bool.{eqb-true, eq-eqb}
+use Rattle.std.proofs.lemmas.Bool.{eqb-true, and_from}
 use Rattle.std.specs.declared.cmp.Ordering.{Ordering}
 use Rattle.std.specs.declared.cmp.Ordering.TheVariants.{Less, Equal, Greater}
 use Rattle.std.specs.Ordering.{int_eq, is_lt, is_le, is_eq, ordering_reverse}
 use Rattle.std.specs.Cmp.{signed_Decides}
-use Rattle.nf_terms.specs.Terms.{Atom, Monomial, Polynomial, One, Times, Zero, Plus}
+use Rattle.base_lemmas.proofs.Booleans.{and_first, and_second}
+use Rattle.base_lemmas.proofs.Orderings.{is_eq-true, is_lt-true}
+use Rattle.base_lemmas.proofs.Numbers.{eqb_self}
+use Rattle.nf_terms.specs.NormalTerms.{Atom, Monomial, Polynomial, One, Times, Zero, Plus}
 use Rattle.nf_terms.specs.Order.{cmp_atom, cmp_monomial, same_atom}
 use Rattle.nf_terms.specs.TermKeys.{atom_ties, atom_same, monomial_ties, monomial_same}
 use Rattle.nf_terms.specs.Comparison.{atoms_total, monomials_total}
 use Rattle.nf_terms.specs.Normal.{IsNormal, ordered, ordered_atom, ordered_monomial, atom_rises, monomial_rises}
 use Rattle.nf_terms.specs.RawSums.{occurrences, as_often, same_bag, total, SameTotals}
-use Rattle.nf_terms.proofs.Tests.{and_left, and_right, and_both}
 use Rattle.nf_terms.proofs.Partings.{ordered_term}
 
 -- ---- sums that rise: in order, but for what is inside their atoms
@@ -32,21 +34,19 @@ risen (Plus m c p) = not (int_eq c (pos 0)) && risen_monomial m && monomial_rise
 same_self : (a : Atom) → same_atom a a ≡ true
 same_self a = ap is_eq (atom_same a a refl)
 
-tie : (r : Ordering) → is_eq r ≡ true → r ≡ Equal
-tie Less e = cc
-tie Equal e = refl
-tie Greater e = cc
-
 -- where an atom stands in k, it stands as often in both
 often_at : (k m n : Monomial) (x : Atom) → as_often k m n ≡ true → 0 < occurrences x k → occurrences x m ≡ occurrences x n
 often_at One m n x e h = absurd (omega arith)
 often_at (Times a k) m n x e h = by_test (λ f g. often_at k m n x f g) (same_atom x a) refl
   where
-    by_test : (as_often k m n ≡ true → 0 < occurrences x k → occurrences x m ≡ occurrences x n) → (b : Bool) → same_atom x a ≡ b → occurrences x m ≡ occurrences x n
+    by_test : (as_often k m n ≡ true → 0 < occurrences x k → occurrences x m ≡ occurrences x n) → (b : Bool) → same_atom x a ≡ b
+        → occurrences x m ≡ occurrences x n
     by_test again true f =
-        let s : x ≡ a = atom_ties x a (tie (cmp_atom x a) f) in
-        subst (λ y. occurrences y m ≡ occurrences y n) (sym s) (eqb-true (occurrences a m) (occurrences a n) (and_left (occurrences a m == occurrences a n) (as_often k m n) e))
-    by_test again false f = again (and_right (occurrences a m == occurrences a n) (as_often k m n) e) (let g : occurrences x (Times a k) ≡ 0 + occurrences x k = ap (λ b. cond b 1 0 + occurrences x k) f in omega arith)
+        let s : x ≡ a = atom_ties x a (is_eq-true (cmp_atom x a) f) in
+        subst (λ y. occurrences y m ≡ occurrences y n) (sym s)
+        (eqb-true (occurrences a m) (occurrences a n) (and_first (occurrences a m == occurrences a n) (as_often k m n) e))
+    by_test again false f = again (and_second (occurrences a m == occurrences a n) (as_often k m n) e)
+        (let g : occurrences x (Times a k) ≡ 0 + occurrences x k = ap (λ b. cond b 1 0 + occurrences x k) f in omega arith)
 
 pub record SameAtoms (m n : Monomial) : Type 0 where
   pub counts : (x : Atom) → occurrences x m ≡ occurrences x n
@@ -56,14 +56,14 @@ same_atoms m n e = record { counts = λ x. by_count x (occurrences x m) refl (oc
   where
     by_count : (x : Atom) (i : ℕ) → occurrences x m ≡ i → (j : ℕ) → occurrences x n ≡ j → occurrences x m ≡ occurrences x n
     by_count x zero f zero g = f ∙ sym g
-    by_count x zero f (suc j) g = often_at n m n x (and_right (as_often m m n) (as_often n m n) e) (omega arith)
-    by_count x (suc i) f j g = often_at m m n x (and_left (as_often m m n) (as_often n m n) e) (omega arith)
+    by_count x zero f (suc j) g = often_at n m n x (and_second (as_often m m n) (as_often n m n) e) (omega arith)
+    by_count x (suc i) f j g = often_at m m n x (and_first (as_often m m n) (as_often n m n) e) (omega arith)
 
 rest_ordered : (a : Atom) (m : Monomial) → risen_monomial (Times a m) ≡ true → risen_monomial m ≡ true
-rest_ordered a m o = and_right (atom_rises a m) (risen_monomial m) o
+rest_ordered a m o = and_second (atom_rises a m) (risen_monomial m) o
 
 rises : (a : Atom) (m : Monomial) → risen_monomial (Times a m) ≡ true → atom_rises a m ≡ true
-rises a m o = and_left (atom_rises a m) (risen_monomial m) o
+rises a m o = and_first (atom_rises a m) (risen_monomial m) o
 
 less_through : (a b c : Atom) → cmp_atom a b ≡ Less → is_le (cmp_atom b c) ≡ true → cmp_atom a c ≡ Less
 less_through a b c e f = by_order (cmp_atom b c) refl
@@ -111,10 +111,8 @@ bags_equal m n o p e = same_monomials m n o p (same_atoms m n e)
 
 often_self : (k m : Monomial) → as_often k m m ≡ true
 often_self One m = refl
-often_self (Times a k) m = let e : (occurrences a m == occurrences a m) ≡ true = eqb_self (occurrences a m) in let f : as_often k m m ≡ true = often_self k m in cc
-  where
-    eqb_self : (n : ℕ) → (n == n) ≡ true
-    eqb_self n = eq-eqb n n refl
+often_self (Times a k) m = let e : (occurrences a m == occurrences a m) ≡ true = eqb_self (occurrences a m) in
+    let f : as_often k m m ≡ true = often_self k m in cc
 
 bag_self : (m : Monomial) → same_bag m m ≡ true
 bag_self m = let e : as_often m m m ≡ true = often_self m m in cc
@@ -123,27 +121,25 @@ bag_self m = let e : as_often m m m ≡ true = often_self m m in cc
 
 module _ (m : Monomial) (c : ℤ) (p : Polynomial) (o : risen (Plus m c p) ≡ true) where
   good : not (int_eq c (pos 0)) && risen_monomial m ≡ true
-  good = and_left (not (int_eq c (pos 0)) && risen_monomial m) (monomial_rises m p) (and_left (not (int_eq c (pos 0)) && risen_monomial m && monomial_rises m p) (risen p) o)
+  good = and_first (not (int_eq c (pos 0)) && risen_monomial m) (monomial_rises m p)
+      (and_first (not (int_eq c (pos 0)) && risen_monomial m && monomial_rises m p) (risen p) o)
 
   no_zero : not (int_eq c (pos 0)) ≡ true
-  no_zero = and_left (not (int_eq c (pos 0))) (risen_monomial m) good
+  no_zero = and_first (not (int_eq c (pos 0))) (risen_monomial m) good
 
   first_ordered : risen_monomial m ≡ true
-  first_ordered = and_right (not (int_eq c (pos 0))) (risen_monomial m) good
+  first_ordered = and_second (not (int_eq c (pos 0))) (risen_monomial m) good
 
   first_rises : monomial_rises m p ≡ true
-  first_rises = and_right (not (int_eq c (pos 0)) && risen_monomial m) (monomial_rises m p) (and_left (not (int_eq c (pos 0)) && risen_monomial m && monomial_rises m p) (risen p) o)
+  first_rises = and_second (not (int_eq c (pos 0)) && risen_monomial m) (monomial_rises m p)
+      (and_first (not (int_eq c (pos 0)) && risen_monomial m && monomial_rises m p) (risen p) o)
 
   tail_ordered : risen p ≡ true
-  tail_ordered = and_right (not (int_eq c (pos 0)) && risen_monomial m && monomial_rises m p) (risen p) o
+  tail_ordered = and_second (not (int_eq c (pos 0)) && risen_monomial m && monomial_rises m p) (risen p) o
 
   zero_not : c ≡ pos 0 → ⊥
-  zero_not e = let t : int_eq c (pos 0) ≡ true = (signed_Decides c (pos 0)).1 e in let n : not (int_eq c (pos 0)) ≡ true = no_zero in let f : not true ≡ true = sym (ap not t) ∙ n in cc
-
-less_of : (r : Ordering) → is_lt r ≡ true → r ≡ Less
-less_of Less e = refl
-less_of Equal e = cc
-less_of Greater e = cc
+  zero_not e = let t : int_eq c (pos 0) ≡ true = (signed_Decides c (pos 0)).1 e in let n : not (int_eq c (pos 0)) ≡ true = no_zero in
+      let f : not true ≡ true = sym (ap not t) ∙ n in cc
 
 not_same : (m n : Monomial) → risen_monomial m ≡ true → risen_monomial n ≡ true → cmp_monomial m n ≡ Less → same_bag m n ≡ false
 not_same m n o p e = by_test (same_bag m n) refl
@@ -156,14 +152,14 @@ not_same m n o p e = by_test (same_bag m n) refl
 beyond : (m : Monomial) (p : Polynomial) → risen_monomial m ≡ true → monomial_rises m p ≡ true → risen p ≡ true → total m p ≡ pos 0
 beyond m Zero o r q = refl
 beyond m (Plus n d p) o r q =
-    let e : cmp_monomial m n ≡ Less = less_of (cmp_monomial m n) r in
+    let e : cmp_monomial m n ≡ Less = is_lt-true (cmp_monomial m n) r in
     let h : total m p ≡ pos 0 = beyond m p o (onward p (first_rises n d p q)) (tail_ordered n d p q) in
     let g : total m (Plus n d p) ≡ pos 0 +ℤ total m p = ap (λ b. cond b d (pos 0) +ℤ total m p) (not_same m n o (first_ordered n d p q) e) in
     omega (arith, ints)
   where
     onward : (p : Polynomial) → monomial_rises n p ≡ true → monomial_rises m p ≡ true
     onward Zero s = refl
-    onward (Plus k e p) s = ap is_lt (monomials_total.trans m n k (less_of (cmp_monomial m n) r) (less_of (cmp_monomial n k) s))
+    onward (Plus k e p) s = ap is_lt (monomials_total.trans m n k (is_lt-true (cmp_monomial m n) r) (is_lt-true (cmp_monomial n k) s))
 
 -- the first monomial has its coefficient as its total
 first_total : (m : Monomial) (c : ℤ) (p : Polynomial) → risen (Plus m c p) ≡ true → total m (Plus m c p) ≡ c
@@ -187,7 +183,9 @@ unique (Plus m c p) (Plus n d q) o r s = by_order (λ t. unique p q (tail_ordere
     by_order again Equal e =
         let f : m ≡ n = monomial_ties m n e in
         let g : c ≡ d = sym (first_total m c p o) ∙ s.totals m ∙ ap (λ k. total k (Plus n d q)) f ∙ first_total n d q r in
-        let t : SameTotals p q = record { totals = λ bag. cancel bag (s.totals bag ∙ ap (λ k. total bag (Plus k d q)) (sym f) ∙ ap (λ z. total bag (Plus m z q)) (sym g)) } in
+        let t : SameTotals p q = record {
+          totals = λ bag. cancel bag (s.totals bag ∙ ap (λ k. total bag (Plus k d q)) (sym f) ∙ ap (λ z. total bag (Plus m z q)) (sym g));
+        } in
         let h : p ≡ q = again t in
         cc
       where
@@ -197,16 +195,18 @@ unique (Plus m c p) (Plus n d q) o r s = by_order (λ t. unique p q (tail_ordere
 risen_atoms : (m : Monomial) → ordered_monomial m ≡ true → risen_monomial m ≡ true
 risen_atoms One o = refl
 risen_atoms (Times a m) o =
-    and_both (atom_rises a m) (risen_monomial m) (and_right (ordered_atom a) (atom_rises a m) (and_left (ordered_atom a && atom_rises a m) (ordered_monomial m) o))
-    (risen_atoms m (and_right (ordered_atom a && atom_rises a m) (ordered_monomial m) o))
+    and_from (atom_rises a m) (risen_monomial m)
+    (and_second (ordered_atom a) (atom_rises a m) (and_first (ordered_atom a && atom_rises a m) (ordered_monomial m) o))
+    (risen_atoms m (and_second (ordered_atom a && atom_rises a m) (ordered_monomial m) o))
 
 -- sums in order rise
 risen_of : (p : Polynomial) → ordered p ≡ true → risen p ≡ true
 risen_of Zero o = refl
 risen_of (Plus m c p) o =
     let t = ordered_term m c p o in
-    and_both (not (int_eq c (pos 0)) && risen_monomial m && monomial_rises m p) (risen p)
-    (and_both (not (int_eq c (pos 0)) && risen_monomial m) (monomial_rises m p) (and_both (not (int_eq c (pos 0))) (risen_monomial m) (ap not t.nonzero) (risen_atoms m t.first)) t.rises) (risen_of p t.rest)
+    and_from (not (int_eq c (pos 0)) && risen_monomial m && monomial_rises m p) (risen p)
+    (and_from (not (int_eq c (pos 0)) && risen_monomial m) (monomial_rises m p)
+    (and_from (not (int_eq c (pos 0))) (risen_monomial m) (ap not t.nonzero) (risen_atoms m t.first)) t.rises) (risen_of p t.rest)
 
 pub normal_forms_equal : (p q : Polynomial) → IsNormal p → IsNormal q → SameTotals p q → p ≡ q
 normal_forms_equal p q m n s = unique p q (risen_of p m.ordered) (risen_of q n.ordered) s

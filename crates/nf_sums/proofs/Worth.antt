@@ -1,11 +1,12 @@
 -- What raw sums and products are worth.
 use Rattle.std.proofs.Common.{◌≡◌, ℤ, pos, ◌+ℤ◌, ◌*ℤ◌, neg_ℤ, Bool, true, false, cond, arith, refl, ap, sym, ◌∙◌}
 use Rattle.std.proofs.lemmas.Int.{ints}
-use Rattle.nf_terms.specs.Terms.{Monomial, Polynomial, One, Times, Zero, Plus}
-use Rattle.nf_terms.specs.Meaning.{Valuation, value_of_atom, value_of_monomial, value_of}
-use Rattle.nf_terms.specs.RawSums.{raw_sum, raw_negation, raw_difference, joined, raw_multiple, raw_product, same_bag, total}
+use Rattle.nf_terms.specs.NormalTerms.{Monomial, Polynomial, One, Times, Zero, Plus}
+use Rattle.nf_terms.specs.TermMeaning.{Valuation, value_of_atom, value_of_monomial, value_of}
+use Rattle.nf_terms.specs.RawSums.{raw_sum, raw_negation, raw_difference, monomial_product, raw_multiple, raw_product, same_bag, total}
+use Rattle.nf_terms.proofs.Partings.{value-sum}
 use Rattle.nf_sums.specs.OrderedSums.{worth_of}
-use Rattle.integers.proofs.Ring.{add-mul_z, mul-add_z, neg-mul_z, mul_assoc_z, mul_mul_z, one-mul_z}
+use Rattle.base_integers.proofs.Ring.{add-mul_z, mul-add_z, neg-mul_z, mul_assoc_z, mul_mul_z, one-mul_z}
 use lib.IntN.{zero-*ℤ, *ℤ-zero}
 
 pub worth-sum : (f : Monomial → ℤ) (p q : Polynomial) → worth_of f (raw_sum p q) ≡ worth_of f p +ℤ worth_of f q
@@ -19,21 +20,38 @@ worth-negation f (Plus m c p) = omega (arith, ints, worth-negation f p, neg-mul_
 pub worth-difference : (f : Monomial → ℤ) (p q : Polynomial) → worth_of f (raw_difference p q) ≡ worth_of f p +ℤ worth_of f (raw_negation q)
 worth-difference f p q = worth-sum f p (raw_negation q)
 
-worth-multiple : (f : Monomial → ℤ) (m : Monomial) (c : ℤ) (p q : Polynomial) → worth_of f (raw_multiple m c (raw_sum p q)) ≡ worth_of f (raw_multiple m c p) +ℤ worth_of f (raw_multiple m c q)
+worth-multiple : (f : Monomial → ℤ) (m : Monomial) (c : ℤ) (p q : Polynomial)
+    → worth_of f (raw_multiple m c (raw_sum p q)) ≡ worth_of f (raw_multiple m c p) +ℤ worth_of f (raw_multiple m c q)
 worth-multiple f m c Zero q = omega (arith, ints)
 worth-multiple f m c (Plus n d p) q = omega (arith, ints, worth-multiple f m c p q)
 
 -- the product with a sum on the left
-pub worth-product_left : (f : Monomial → ℤ) (p q r : Polynomial) → worth_of f (raw_product (raw_sum p q) r) ≡ worth_of f (raw_product p r) +ℤ worth_of f (raw_product q r)
+pub worth-product_left : (f : Monomial → ℤ) (p q r : Polynomial)
+    → worth_of f (raw_product (raw_sum p q) r) ≡ worth_of f (raw_product p r) +ℤ worth_of f (raw_product q r)
 worth-product_left f Zero q r = omega (arith, ints)
 worth-product_left f (Plus m c p) q r =
-    omega (arith, ints, worth-product_left f p q r, worth-sum f (raw_multiple m c r) (raw_product (raw_sum p q) r), worth-sum f (raw_multiple m c r) (raw_product p r))
+    omega (
+      arith,
+      ints,
+      worth-product_left f p q r,
+      worth-sum f (raw_multiple m c r) (raw_product (raw_sum p q) r),
+      worth-sum f (raw_multiple m c r) (raw_product p r),
+    )
 
 -- the product with a sum on the right
-pub worth-product_right : (f : Monomial → ℤ) (p q r : Polynomial) → worth_of f (raw_product p (raw_sum q r)) ≡ worth_of f (raw_product p q) +ℤ worth_of f (raw_product p r)
+pub worth-product_right : (f : Monomial → ℤ) (p q r : Polynomial)
+    → worth_of f (raw_product p (raw_sum q r)) ≡ worth_of f (raw_product p q) +ℤ worth_of f (raw_product p r)
 worth-product_right f Zero q r = omega (arith, ints)
 worth-product_right f (Plus m c p) q r =
-    omega (arith, ints, worth-product_right f p q r, worth-multiple f m c q r, worth-sum f (raw_multiple m c (raw_sum q r)) (raw_product p (raw_sum q r)), worth-sum f (raw_multiple m c q) (raw_product p q), worth-sum f (raw_multiple m c r) (raw_product p r))
+    omega (
+      arith,
+      ints,
+      worth-product_right f p q r,
+      worth-multiple f m c q r,
+      worth-sum f (raw_multiple m c (raw_sum q r)) (raw_product p (raw_sum q r)),
+      worth-sum f (raw_multiple m c q) (raw_product p q),
+      worth-sum f (raw_multiple m c r) (raw_product p r),
+    )
 
 -- the value is the worth where each monomial is worth its value
 pub value_worth : (w : Valuation) (p : Polynomial) → value_of w p ≡ worth_of (value_of_monomial w) p
@@ -53,14 +71,10 @@ total_worth bag (Plus m c p) = omega (arith, ints, total_worth bag p, chosen (sa
     chosen true c = omega (arith, ints)
     chosen false c = omega (arith, ints)
 
-pub value-joined : (w : Valuation) (m n : Monomial) → value_of_monomial w (joined m n) ≡ value_of_monomial w m *ℤ value_of_monomial w n
+pub value-joined : (w : Valuation) (m n : Monomial) → value_of_monomial w (monomial_product m n) ≡ value_of_monomial w m *ℤ value_of_monomial w n
 value-joined w One n = sym (one-mul_z (value_of_monomial w n))
 value-joined w (Times a m) n =
     ap (λ z. value_of_atom w a *ℤ z) (value-joined w m n) ∙ sym (mul_assoc_z (value_of_atom w a) (value_of_monomial w m) (value_of_monomial w n))
-
-value-sum : (w : Valuation) (p q : Polynomial) → value_of w (raw_sum p q) ≡ value_of w p +ℤ value_of w q
-value-sum w Zero q = omega (arith, ints)
-value-sum w (Plus m c p) q = omega (arith, ints, value-sum w p q)
 
 value-multiple : (w : Valuation) (m : Monomial) (c : ℤ) (q : Polynomial) → value_of w (raw_multiple m c q) ≡ c *ℤ value_of_monomial w m *ℤ value_of w q
 value-multiple w m c Zero = sym (*ℤ-zero (c *ℤ value_of_monomial w m))
@@ -72,4 +86,11 @@ value-multiple w m c (Plus n d q) =
 pub value-product : (w : Valuation) (p q : Polynomial) → value_of w (raw_product p q) ≡ value_of w p *ℤ value_of w q
 value-product w Zero q = sym (zero-*ℤ (value_of w q))
 value-product w (Plus m c p) q =
-    omega (arith, ints, value-sum w (raw_multiple m c q) (raw_product p q), value-multiple w m c q, value-product w p q, add-mul_z (c *ℤ value_of_monomial w m) (value_of w p) (value_of w q))
+    omega (
+      arith,
+      ints,
+      value-sum w (raw_multiple m c q) (raw_product p q),
+      value-multiple w m c q,
+      value-product w p q,
+      add-mul_z (c *ℤ value_of_monomial w m) (value_of w p) (value_of w q),
+    )

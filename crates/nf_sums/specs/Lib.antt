@@ -1,4 +1,4 @@
-pub mod Forms
+pub mod RawSumForms
 pub mod Operations
 pub mod Accumulators
 pub mod OrderedSums

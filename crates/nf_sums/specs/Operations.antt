@@ -1,10 +1,10 @@
 -- What the operations on normal polynomials give.
 use Rattle.std.specs.Prelude.{ℕ, ◌+◌, ◌*◌, ℤ, unsigned_abs}
-use Rattle.nf_terms.specs.Terms.{Polynomial, polynomial_of_number}
+use Rattle.nf_terms.specs.NormalTerms.{Polynomial, polynomial_of_number}
 use Rattle.nf_terms.specs.Measures.{size_of, depth_of, weight_of}
 use Rattle.nf_terms.specs.Computed.{Computed, Done, if_small, if_narrow}
 use Rattle.nf_terms.specs.RawSums.{raw_sum, raw_difference, raw_negation, raw_product}
-use Rattle.nf_sums.specs.Forms.{normal_form}
+use Rattle.nf_sums.specs.RawSumForms.{normal_form}
 
 -- whether an operation of this weight and raw size, on sides of these weights, is narrow and small
 abbrev pub checked : (left right weight units : ℕ) → Computed (Unit {0})
@@ -12,7 +12,8 @@ checked left right weight units = if_narrow left right weight (if_small units 0 
 
 -- the normal form of a raw sum, where an operation on p and q of this weight and raw size is narrow and small
 abbrev pub operation : (p q : Polynomial) → (weight units : ℕ) → Polynomial → Computed Polynomial
-operation p q weight units raw = if_narrow (weight_of p) (weight_of q) weight (if_small units (depth_of (normal_form raw)) (normal_form raw))
+operation p q weight units raw = if_narrow (weight_of p) (weight_of q) weight
+    (if_small units (depth_of (normal_form raw)) (normal_form raw))
 
 abbrev pub added : Polynomial → Polynomial → Computed Polynomial
 added p q = operation p q (weight_of p + weight_of q) (size_of p + size_of q) (raw_sum p q)

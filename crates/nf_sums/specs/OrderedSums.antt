@@ -1,14 +1,15 @@
 -- Ordered polynomials that are sums and products.
-use Rattle.std.specs.Prelude.{◌≡◌, ◌+◌, ◌*◌, ◌≤◌, ℤ, pos, ◌+ℤ◌, ◌*ℤ◌, Bool, true, ◌&&◌, cond, nat_le, IsTrue, List, [], ◌∷◌, Option, Some, None}
+use Rattle.std.specs.Prelude.{◌≡◌, ◌+◌, ◌*◌, ◌≤◌, ℤ, pos, ◌+ℤ◌, ◌*ℤ◌, Bool, true, ◌&&◌, cond, nat_le, IsTrue, List, [], ◌∷◌}
+use Rattle.std.specs.Prelude.{Option, Some, None}
 use Rattle.std.specs.declared.cmp.Ordering.{Ordering}
 use Rattle.std.specs.declared.cmp.Ordering.TheVariants.{Less, Greater}
 use Rattle.std.specs.Ordering.{int_eq}
-use Rattle.nf_terms.specs.Terms.{Atom, Monomial, Polynomial, One, Times, Zero, Plus}
+use Rattle.nf_terms.specs.NormalTerms.{Atom, Monomial, Polynomial, One, Times, Zero, Plus}
 use Rattle.nf_terms.specs.Order.{cmp_monomial}
 use Rattle.nf_terms.specs.Measures.{size_of, weight_of, depth_of_atom}
-use Rattle.nf_terms.specs.Limits.{depth_limit}
+use Rattle.nf_terms.specs.TermLimits.{depth_limit}
 use Rattle.nf_terms.specs.Normal.{ordered, ordered_monomial, narrow_atom}
-use Rattle.nf_terms.specs.RawSums.{joined, raw_product}
+use Rattle.nf_terms.specs.RawSums.{monomial_product, raw_product}
 
 -- what a polynomial is worth where f says what each monomial is worth
 abbrev pub worth_of : (Monomial → ℤ) → Polynomial → ℤ
@@ -17,7 +18,8 @@ worth_of f (Plus m c p) = c *ℤ f m +ℤ worth_of f p
 
 -- f gives the same where two neighbouring atoms change places
 pub record IgnoresOrder (f : Monomial → ℤ) : Type 0 where
-  pub swapped : (k : Monomial) (a b : Atom) (m : Monomial) → f (joined k (Times a (Times b m))) ≡ f (joined k (Times b (Times a m)))
+  pub swapped : (k : Monomial) (a b : Atom) (m : Monomial)
+      → f (monomial_product k (Times a (Times b m))) ≡ f (monomial_product k (Times b (Times a m)))
 
 -- whether what is inside an atom is within the limits of weight and depth
 abbrev pub fits_atom : Atom → Bool
@@ -29,14 +31,14 @@ fits_monomial One = true
 fits_monomial (Times a m) = fits_atom a && fits_monomial m
 
 -- the same of each monomial of a polynomial
-abbrev pub fits : Polynomial → Bool
-fits Zero = true
-fits (Plus m c p) = fits_monomial m && fits p
+abbrev pub polynomial_fits : Polynomial → Bool
+polynomial_fits Zero = true
+polynomial_fits (Plus m c p) = fits_monomial m && polynomial_fits p
 
 -- m is in order, with the atoms of l and r
 pub record IsOrderedJoin (l r m : Monomial) : Type 0 where
   pub in_order : IsTrue (ordered_monomial m)
-  pub same : (f : Monomial → ℤ) → IgnoresOrder f → f m ≡ f (joined l r)
+  pub same : (f : Monomial → ℤ) → IgnoresOrder f → f m ≡ f (monomial_product l r)
 
 -- p is in order, worth what l and r are together, and no larger
 pub record IsOrderedSum (l r p : Polynomial) : Type 0 where
@@ -44,7 +46,7 @@ pub record IsOrderedSum (l r p : Polynomial) : Type 0 where
   pub worth : (f : Monomial → ℤ) → worth_of f p ≡ worth_of f l +ℤ worth_of f r
   pub size : size_of p ≤ size_of l + size_of r
   pub weight : weight_of p ≤ weight_of l + weight_of r
-  pub inside : IsTrue (fits l) → IsTrue (fits r) → IsTrue (fits p)
+  pub inside : IsTrue (polynomial_fits l) → IsTrue (polynomial_fits r) → IsTrue (polynomial_fits p)
 
 -- p is in order, worth what the product of l and r is, and no larger
 pub record IsOrderedProduct (l r p : Polynomial) : Type 0 where
@@ -52,7 +54,7 @@ pub record IsOrderedProduct (l r p : Polynomial) : Type 0 where
   pub worth : (f : Monomial → ℤ) → IgnoresOrder f → worth_of f p ≡ worth_of f (raw_product l r)
   pub size : size_of p ≤ size_of l * size_of r
   pub weight : weight_of p ≤ weight_of l * weight_of r
-  pub inside : IsTrue (fits l) → IsTrue (fits r) → IsTrue (fits p)
+  pub inside : IsTrue (polynomial_fits l) → IsTrue (polynomial_fits r) → IsTrue (polynomial_fits p)
 
 -- a monomial with its coefficient, or nothing where that is 0
 abbrev pub term_unless_zero : Monomial → ℤ → List (Monomial × ℤ)

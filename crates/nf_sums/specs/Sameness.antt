@@ -1,11 +1,12 @@
 -- When terms are the same, in whatever order they are written.
 use Rattle.std.specs.Prelude.{◌≡◌, List, [], ◌∷◌}
-use Rattle.nf_terms.specs.Terms.{Atom, Monomial, Polynomial, ArrayTerm, Writes, Symbol, Read, Quotient, Remainder, One, Times, Zero, Plus, Over, NoWrites, Write}
+use Rattle.nf_terms.specs.NormalTerms.{Atom, Monomial, Polynomial, ArrayTerm, Writes, Symbol, Read, Quotient, Remainder, One}
+use Rattle.nf_terms.specs.NormalTerms.{Times, Zero, Plus, Over, NoWrites, Write}
 use Rattle.nf_terms.specs.Lists.{ListTerm}
 use Rattle.nf_terms.specs.Normal.{IsNormal}
 use Rattle.nf_terms.specs.RawSums.{total}
 use Rattle.nf_terms.specs.Tidied.{tidied}
-use Rattle.nf_sums.specs.Forms.{normal_form}
+use Rattle.nf_sums.specs.RawSumForms.{normal_form}
 
 abbrev mutual
   -- an atom, with the normal forms of its parts

@@ -1,17 +1,19 @@
 //! Sums that grow.
 
-ghost use Rattle.std.specs.Prelude.{◌≡◌, ◌+◌, ◌^◌, ◌≤◌, ◌<◌, ◌+ℤ◌, pos, true, map, take, drop, length, unsigned_abs, IfOk, IsTrue};
+ghost use Rattle.std.specs.Prelude.{◌≡◌, ◌+◌, ◌^◌, ◌≤◌, ◌<◌, ◌+ℤ◌, pos, true, map, take, drop, length, unsigned_abs, IfOk};
+ghost use Rattle.std.specs.Prelude.{IsTrue};
 ghost use Rattle.std.specs.Ordering.{int_eq};
-ghost use Rattle.nf_terms.specs.Terms.{Zero, Plus, polynomial_of};
+ghost use Rattle.nf_terms.specs.NormalTerms.{Zero, Plus, polynomial_of};
 ghost use Rattle.nf_terms.specs.View.{monomial_in, term_in};
 ghost use Rattle.nf_terms.specs.Measures.{size_of, size_of_monomial, weight_of};
-ghost use Rattle.nf_terms.specs.Limits.{weight_limit, size_limit};
+ghost use Rattle.nf_terms.specs.TermLimits.{weight_limit, size_limit};
 ghost use Rattle.nf_terms.specs.Normal.{IsNormal, ordered};
 ghost use Rattle.nf_terms.specs.RawSums.{raw_sum, IsNormalFormOf};
 ghost use Rattle.nf_terms.specs.Computed.{Answers};
 ghost use Rattle.nf_sums.specs.Operations.{added};
-ghost use Rattle.nf_sums.specs.Forms.{with_term, with_terms};
-ghost use Rattle.nf_sums.specs.Accumulators.{stand_before, begins_behind, begins_with, coefficient_of, with_first, with_more, IsMeasured};
+ghost use Rattle.nf_sums.specs.RawSumForms.{with_term, with_terms};
+ghost use Rattle.nf_sums.specs.Accumulators.{stand_before, begins_behind, begins_with, coefficient_of, with_first, with_more};
+ghost use Rattle.nf_sums.specs.Accumulators.{IsMeasured};
 
 use crate::limits::check_limits;
 use nf_terms::measures::size_of_mono;
@@ -81,7 +83,9 @@ fn put_at(
     requires within { place ≤ length sum.terms.items }
     requires small { sum.size + (1 + size_of_monomial (monomial_in mono.now)) ≤ size_limit }
     requires narrow { sum.weight + unsigned_abs coefficient.now ≤ weight_limit }
-    ensures sum { IfOk result (λ s. polynomial_of (map term_in s.terms.items) ≡ raw_sum (polynomial_of (map term_in (take place sum.terms.items))) (Plus (monomial_in mono.now) coefficient.now (polynomial_of (map term_in (drop place sum.terms.items))))) }
+    ensures sum { IfOk result
+        (λ s. polynomial_of (map term_in s.terms.items) ≡ raw_sum (polynomial_of (map term_in (take place sum.terms.items)))
+        (Plus (monomial_in mono.now) coefficient.now (polynomial_of (map term_in (drop place sum.terms.items))))) }
     ensures size { IfOk result (λ s. s.size ≡ sum.size + (1 + size_of_monomial (monomial_in mono.now))) }
     ensures weight { IfOk result (λ s. s.weight ≡ sum.weight + unsigned_abs coefficient.now) }
 {
@@ -124,7 +128,8 @@ fn is_zero(number: &i128) -> bool
 // A coefficient in place of the one at a place; the monomial goes where it is 0.
 fn replace_at(terms: &mut Vec<(MonoTree, i128)>, place: usize, total: &i128)
     requires { place < length terms.old.items }
-    ensures { polynomial_of (map term_in terms.new.items) ≡ raw_sum (polynomial_of (map term_in (take place terms.old.items))) (with_first total.now (polynomial_of (map term_in (drop place terms.old.items)))) }
+    ensures { polynomial_of (map term_in terms.new.items) ≡ raw_sum (polynomial_of (map term_in (take place terms.old.items)))
+        (with_first total.now (polynomial_of (map term_in (drop place terms.old.items)))) }
 {
     if is_zero(total) {
         terms.remove(place);
@@ -139,7 +144,9 @@ fn size_with(terms: &[(MonoTree, i128)], place: usize, coefficient: &i128, size:
     requires within { place < length terms.now }
     requires measured { size ≡ size_of (polynomial_of (map term_in terms.now)) }
     requires small { size ≤ size_limit }
-    ensures { result ≡ size_of (raw_sum (polynomial_of (map term_in (take place terms.now))) (with_first coefficient.now (polynomial_of (map term_in (drop place terms.now))))) }
+    ensures { result ≡ size_of
+        (raw_sum (polynomial_of (map term_in (take place terms.now)))
+        (with_first coefficient.now (polynomial_of (map term_in (drop place terms.now))))) }
 {
     if !is_zero(coefficient) {
         return size;
@@ -154,7 +161,9 @@ fn weight_with(terms: &[(MonoTree, i128)], place: usize, coefficient: &i128, wei
     requires within { place < length terms.now }
     requires measured { weight ≡ weight_of (polynomial_of (map term_in terms.now)) }
     requires narrow { weight ≤ weight_limit }
-    ensures { result ≡ weight_of (raw_sum (polynomial_of (map term_in (take place terms.now))) (with_first coefficient.now (polynomial_of (map term_in (drop place terms.now))))) }
+    ensures { result ≡ weight_of
+        (raw_sum (polynomial_of (map term_in (take place terms.now)))
+        (with_first coefficient.now (polynomial_of (map term_in (drop place terms.now))))) }
 {
     let (_mono, old) = &terms[place];
     weight - weight_of_term(old) + weight_of_term(coefficient)
@@ -165,7 +174,9 @@ fn add_at(sum: Measured, place: usize, more: &i128) -> Measured
     requires within { place < length sum.terms.items }
     requires measured { IsMeasured (polynomial_of (map term_in sum.terms.items)) sum.size sum.weight }
     requires narrow { sum.weight + unsigned_abs more.now ≤ weight_limit }
-    ensures sum { polynomial_of (map term_in result.terms.items) ≡ raw_sum (polynomial_of (map term_in (take place sum.terms.items))) (with_more more.now (polynomial_of (map term_in (drop place sum.terms.items)))) }
+    ensures sum { polynomial_of (map term_in result.terms.items)
+        ≡ raw_sum (polynomial_of (map term_in (take place sum.terms.items)))
+        (with_more more.now (polynomial_of (map term_in (drop place sum.terms.items)))) }
     ensures size { result.size ≡ size_of (polynomial_of (map term_in result.terms.items)) }
     ensures weight { result.weight ≡ weight_of (polynomial_of (map term_in result.terms.items)) }
 {
@@ -192,7 +203,9 @@ fn with_one(
     requires term { IsNormal (Plus (monomial_in mono.now) coefficient.now Zero) }
     requires small { sum.size + (1 + size_of_monomial (monomial_in mono.now)) ≤ size_limit }
     requires narrow { sum.weight + unsigned_abs coefficient.now ≤ weight_limit }
-    ensures sum { IfOk result (λ s. polynomial_of (map term_in s.terms.items) ≡ with_term (monomial_in mono.now) coefficient.now (polynomial_of (map term_in sum.terms.items))) }
+    ensures sum { IfOk result
+        (λ s. polynomial_of (map term_in s.terms.items) ≡ with_term (monomial_in mono.now) coefficient.now
+        (polynomial_of (map term_in sum.terms.items))) }
     ensures measured { IfOk result (λ s. IsMeasured (polynomial_of (map term_in s.terms.items)) s.size s.weight) }
 {
     let place = place_of(&sum.terms, mono);
@@ -212,7 +225,9 @@ fn with_all(
     requires terms { IsNormal (polynomial_of (map term_in terms.now)) }
     requires small { start.size + size_of (polynomial_of (map term_in terms.now)) ≤ size_limit }
     requires narrow { start.weight + weight_of (polynomial_of (map term_in terms.now)) ≤ weight_limit }
-    ensures sum { IfOk result (λ s. polynomial_of (map term_in s.terms.items) ≡ with_terms (polynomial_of (map term_in start.terms.items)) (polynomial_of (map term_in terms.now))) }
+    ensures sum { IfOk result
+        (λ s. polynomial_of (map term_in s.terms.items) ≡ with_terms (polynomial_of (map term_in start.terms.items))
+        (polynomial_of (map term_in terms.now))) }
     ensures measured { IfOk result (λ s. IsMeasured (polynomial_of (map term_in s.terms.items)) s.size s.weight) }
 {
     let mut sum = start;
@@ -230,7 +245,7 @@ pub struct Accumulator {
 
 impl Model for Accumulator {
     ghost use Rattle.std.specs.Prelude.{map};
-    ghost use Rattle.nf_terms.specs.Terms.{Polynomial, polynomial_of};
+    ghost use Rattle.nf_terms.specs.NormalTerms.{Polynomial, polynomial_of};
     ghost use Rattle.nf_terms.specs.Codes.{coded_polynomial};
     ghost use Rattle.nf_terms.specs.View.{term_in};
     ghost use Rattle.nf_sums.specs.Accumulators.{IsMeasured};

@@ -1,7 +1,7 @@
 //! Products of ordered monomials.
 
 ghost use Rattle.std.specs.Prelude.{map, IfOk, IsTrue};
-ghost use Rattle.nf_terms.specs.Terms.{monomial_of};
+ghost use Rattle.nf_terms.specs.NormalTerms.{monomial_of};
 ghost use Rattle.nf_terms.specs.View.{atom_in, monomial_in};
 ghost use Rattle.nf_terms.specs.Normal.{ordered_monomial};
 ghost use Rattle.nf_sums.specs.OrderedSums.{IsOrderedJoin};
@@ -16,7 +16,9 @@ use std::alloc::Global;
 fn merged_atoms(alloc: Global, l: &[Atom], r: &[Atom]) -> Result<Vec<Atom>, NoMemory>
     requires left { IsTrue (ordered_monomial (monomial_of (map atom_in l.now))) }
     requires right { IsTrue (ordered_monomial (monomial_of (map atom_in r.now))) }
-    ensures { IfOk result (λ v. IsOrderedJoin (monomial_of (map atom_in l.now)) (monomial_of (map atom_in r.now)) (monomial_of (map atom_in v.items))) }
+    ensures { IfOk result
+        (λ v. IsOrderedJoin (monomial_of (map atom_in l.now)) (monomial_of (map atom_in r.now))
+        (monomial_of (map atom_in v.items))) }
 {
     let mut out = Vec::new(alloc);
     let mut i = 0;

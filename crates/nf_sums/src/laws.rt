@@ -1,15 +1,15 @@
 //! Laws of sums. The functions do nothing.
 
 ghost use Rattle.std.specs.Prelude.{◌≡◌, ℤ, ◌+ℤ◌, ◌-ℤ◌, ◌*ℤ◌, neg_ℤ};
-ghost use Rattle.nf_terms.specs.Terms.{Atom as AtomTerm, Polynomial, ArrayTerm};
+ghost use Rattle.nf_terms.specs.NormalTerms.{Atom as AtomTerm, Polynomial, ArrayTerm};
 ghost use Rattle.nf_terms.specs.Computed.{IfDone};
-ghost use Rattle.nf_terms.specs.Meaning.{value_of};
+ghost use Rattle.nf_terms.specs.TermMeaning.{value_of};
 ghost use Rattle.nf_terms.specs.Means.{IsNumberOf};
 ghost use Rattle.nf_terms.specs.Lists.{ListTerm, IsNormalList};
 ghost use Rattle.nf_terms.specs.Normal.{IsNormal, IsNormalArray};
-ghost use Rattle.nf_terms.specs.Parts.{HasNormalParts};
+ghost use Rattle.nf_terms.specs.TermParts.{HasNormalParts};
 ghost use Rattle.nf_terms.specs.RawSums.{raw_sum, raw_difference, raw_product, raw_negation};
-ghost use Rattle.nf_sums.specs.Forms.{normal_form};
+ghost use Rattle.nf_sums.specs.RawSumForms.{normal_form};
 ghost use Rattle.nf_sums.specs.Sameness.{settled, settled_atom, IsFormOf, SameSum, SameArray, SameAtom, SameList};
 ghost use Rattle.nf_sums.specs.Operations.{added, subtracted, multiplied, negated, number};
 
@@ -36,7 +36,8 @@ pub fn same_terms_settle_alike()
 #[tactic(auto, using(crate::proofs::Given::given))]
 pub fn operations_give_normal_forms()
     ensures sum { (p q : Polynomial) → IsNormal p → IsNormal q → IfDone (added p q) (λ s. IsFormOf s (raw_sum p q)) }
-    ensures difference { (p q : Polynomial) → IsNormal p → IsNormal q → IfDone (subtracted p q) (λ s. IsFormOf s (raw_difference p q)) }
+    ensures difference { (p q : Polynomial) → IsNormal p → IsNormal q
+        → IfDone (subtracted p q) (λ s. IsFormOf s (raw_difference p q)) }
     ensures product { (p q : Polynomial) → IsNormal p → IsNormal q → IfDone (multiplied p q) (λ s. IsFormOf s (raw_product p q)) }
     ensures negation { (p : Polynomial) → IsNormal p → IsFormOf (negated p) (raw_negation p) }
 {}
@@ -44,9 +45,12 @@ pub fn operations_give_normal_forms()
 /// What the operations give means what was asked, in every pair of stores.
 #[tactic(auto, using(crate::proofs::Exact::meanings))]
 pub fn operations_keep_the_meaning()
-    ensures sum { (p q : Polynomial) → IsNormal p → IsNormal q → IfDone (added p q) (IsNumberOf (λ w. value_of w p +ℤ value_of w q)) }
-    ensures difference { (p q : Polynomial) → IsNormal p → IsNormal q → IfDone (subtracted p q) (IsNumberOf (λ w. value_of w p -ℤ value_of w q)) }
-    ensures product { (p q : Polynomial) → IsNormal p → IsNormal q → IfDone (multiplied p q) (IsNumberOf (λ w. value_of w p *ℤ value_of w q)) }
+    ensures sum { (p q : Polynomial) → IsNormal p → IsNormal q
+        → IfDone (added p q) (IsNumberOf (λ w. value_of w p +ℤ value_of w q)) }
+    ensures difference { (p q : Polynomial) → IsNormal p → IsNormal q
+        → IfDone (subtracted p q) (IsNumberOf (λ w. value_of w p -ℤ value_of w q)) }
+    ensures product { (p q : Polynomial) → IsNormal p → IsNormal q
+        → IfDone (multiplied p q) (IsNumberOf (λ w. value_of w p *ℤ value_of w q)) }
     ensures negation { (p : Polynomial) → IsNormal p → IsNumberOf (λ w. neg_ℤ (value_of w p)) (negated p) }
     ensures number { (c : ℤ) → IfDone (number c) (IsNumberOf (λ w. c)) }
 {}

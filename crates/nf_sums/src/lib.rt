@@ -1,4 +1,12 @@
 //! Sums and products of normal forms.
+//!
+//! Promises: sums, differences, products and negation, each as a function with its first event; an accumulator that
+//! takes one monomial at a time.
+//!
+//! Rules: `specs/RawSumForms`, `specs/Operations`, `specs/Sameness`, `specs/Accumulators`.
+//!
+//! Words:
+//! - settled (of a term): its arrays are tidied and its indices, values and operands in normal form
 #![tactic(auto)]
 
 pub mod accumulator;

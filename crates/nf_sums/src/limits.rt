@@ -2,7 +2,7 @@
 
 ghost use Rattle.std.specs.Prelude.{◌≤◌, OnOk};
 ghost use Rattle.nf_terms.specs.Computed.{Answers};
-ghost use Rattle.nf_terms.specs.Limits.{weight_limit, size_limit};
+ghost use Rattle.nf_terms.specs.TermLimits.{weight_limit, size_limit};
 ghost use Rattle.nf_sums.specs.Operations.{checked};
 
 use nf_terms::limits::{SIZE_LIMIT, WEIGHT_LIMIT};

@@ -1,12 +1,12 @@
 //! Merges of ordered lists of terms.
 
 ghost use Rattle.std.specs.Prelude.{◌≡◌, ◌+ℤ◌, neg_ℤ, ◌++◌, ◌∷◌, [], map, OnOk, IfOk, IsTrue, ◌+◌, ◌≤◌, unsigned_abs};
-ghost use Rattle.nf_terms.specs.Terms.{polynomial_of};
+ghost use Rattle.nf_terms.specs.NormalTerms.{polynomial_of};
 ghost use Rattle.nf_terms.specs.View.{monomial_in, term_in};
 ghost use Rattle.nf_terms.specs.Measures.{weight_of};
-ghost use Rattle.nf_terms.specs.Limits.{weight_limit};
+ghost use Rattle.nf_terms.specs.TermLimits.{weight_limit};
 ghost use Rattle.nf_terms.specs.Normal.{ordered};
-ghost use Rattle.nf_sums.specs.Signs.{by_sign, signed};
+ghost use Rattle.nf_sums.specs.Signs.{by_sign, signed_polynomial};
 ghost use Rattle.nf_sums.specs.OrderedSums.{IsOrderedSum, term_unless_zero};
 
 use crate::negation::push_negated;
@@ -33,7 +33,9 @@ fn push_sum(
     second: &i128,
 ) -> Result<(), NoMemory>
     requires { unsigned_abs first.now + unsigned_abs second.now ≤ weight_limit }
-    ensures { OnOk result (map term_in out.new.items ≡ map term_in out.old.items ++ term_unless_zero (monomial_in mono.now) (first.now +ℤ second.now)) }
+    ensures { OnOk result
+        (map term_in out.new.items ≡ map term_in out.old.items
+        ++ term_unless_zero (monomial_in mono.now) (first.now +ℤ second.now)) }
 {
     let sum = *first + *second;
     if sum == 0 {
@@ -51,7 +53,9 @@ fn push_difference(
     second: &i128,
 ) -> Result<(), NoMemory>
     requires { unsigned_abs first.now + unsigned_abs second.now ≤ weight_limit }
-    ensures { OnOk result (map term_in out.new.items ≡ map term_in out.old.items ++ term_unless_zero (monomial_in mono.now) (first.now +ℤ neg_ℤ second.now)) }
+    ensures { OnOk result
+        (map term_in out.new.items ≡ map term_in out.old.items
+        ++ term_unless_zero (monomial_in mono.now) (first.now +ℤ neg_ℤ second.now)) }
 {
     let difference = *first - *second;
     if difference == 0 {
@@ -69,7 +73,8 @@ fn push_signed(
     sign: Sign,
 ) -> Result<(), NoMemory>
     requires { unsigned_abs coefficient.now ≤ weight_limit }
-    ensures { OnOk result (map term_in out.new.items ≡ map term_in out.old.items ++ (monomial_in mono.now, by_sign sign coefficient.now) ∷ []) }
+    ensures { OnOk result
+        (map term_in out.new.items ≡ map term_in out.old.items ++ (monomial_in mono.now, by_sign sign coefficient.now) ∷ []) }
 {
     match sign {
         Sign::Plus => push_term_copy(alloc, out, mono, coefficient),
@@ -87,7 +92,9 @@ fn push_both(
     sign: Sign,
 ) -> Result<(), NoMemory>
     requires { unsigned_abs first.now + unsigned_abs second.now ≤ weight_limit }
-    ensures { OnOk result (map term_in out.new.items ≡ map term_in out.old.items ++ term_unless_zero (monomial_in mono.now) (first.now +ℤ by_sign sign second.now)) }
+    ensures { OnOk result
+        (map term_in out.new.items ≡ map term_in out.old.items
+        ++ term_unless_zero (monomial_in mono.now) (first.now +ℤ by_sign sign second.now)) }
 {
     match sign {
         Sign::Plus => push_sum(alloc, out, mono, first, second),
@@ -105,8 +112,11 @@ pub fn merged(
 ) -> Result<Vec<(MonoTree, i128)>, NoMemory>
     requires left { IsTrue (ordered (polynomial_of (map term_in l.now))) }
     requires right { IsTrue (ordered (polynomial_of (map term_in r.now))) }
-    requires narrow { weight_of (polynomial_of (map term_in l.now)) + weight_of (polynomial_of (map term_in r.now)) ≤ weight_limit }
-    ensures { IfOk result (λ v. IsOrderedSum (polynomial_of (map term_in l.now)) (signed sign (polynomial_of (map term_in r.now))) (polynomial_of (map term_in v.items))) }
+    requires narrow { weight_of (polynomial_of (map term_in l.now)) + weight_of (polynomial_of (map term_in r.now))
+        ≤ weight_limit }
+    ensures { IfOk result
+        (λ v. IsOrderedSum (polynomial_of (map term_in l.now)) (signed_polynomial sign (polynomial_of (map term_in r.now)))
+        (polynomial_of (map term_in v.items))) }
 {
     let mut out = Vec::new(alloc);
     let mut i = 0;

@@ -1,10 +1,10 @@
 //! Negations of lists of terms.
 
 ghost use Rattle.std.specs.Prelude.{◌≡◌, ◌++◌, ◌∷◌, [], ◌≤◌, neg_ℤ, map, OnOk, IfOk, unsigned_abs};
-ghost use Rattle.nf_terms.specs.Terms.{polynomial_of};
+ghost use Rattle.nf_terms.specs.NormalTerms.{polynomial_of};
 ghost use Rattle.nf_terms.specs.View.{monomial_in, term_in};
 ghost use Rattle.nf_terms.specs.Measures.{weight_of};
-ghost use Rattle.nf_terms.specs.Limits.{weight_limit};
+ghost use Rattle.nf_terms.specs.TermLimits.{weight_limit};
 ghost use Rattle.nf_terms.specs.RawSums.{raw_negation};
 
 use nf_terms::copies::push_term_copy;
@@ -20,7 +20,8 @@ pub fn push_negated(
     coefficient: &i128,
 ) -> Result<(), NoMemory>
     requires { unsigned_abs coefficient.now ≤ weight_limit }
-    ensures { OnOk result (map term_in out.new.items ≡ map term_in out.old.items ++ (monomial_in mono.now, neg_ℤ coefficient.now) ∷ []) }
+    ensures { OnOk result
+        (map term_in out.new.items ≡ map term_in out.old.items ++ (monomial_in mono.now, neg_ℤ coefficient.now) ∷ []) }
 {
     let negated = -*coefficient;
     push_term_copy(alloc, out, mono, &negated)

@@ -1,10 +1,10 @@
 //! Merges of ordered lists of terms that are given away: their monomials are moved.
 
 ghost use Rattle.std.specs.Prelude.{◌≡◌, ◌+ℤ◌, ◌++◌, map, take, drop, length, OnOk, IfOk, IsTrue, ◌+◌, ◌≤◌, ◌<◌, unsigned_abs};
-ghost use Rattle.nf_terms.specs.Terms.{polynomial_of};
+ghost use Rattle.nf_terms.specs.NormalTerms.{polynomial_of};
 ghost use Rattle.nf_terms.specs.View.{monomial_in, term_in};
 ghost use Rattle.nf_terms.specs.Measures.{weight_of};
-ghost use Rattle.nf_terms.specs.Limits.{weight_limit};
+ghost use Rattle.nf_terms.specs.TermLimits.{weight_limit};
 ghost use Rattle.nf_terms.specs.Normal.{ordered};
 ghost use Rattle.nf_sums.specs.OrderedSums.{IsOrderedSum, term_unless_zero, first_order, joined_firsts};
 
@@ -57,7 +57,8 @@ fn push_sum(
     second: &i128,
 ) -> Result<(), NoMemory>
     requires { unsigned_abs first.now + unsigned_abs second.now ≤ weight_limit }
-    ensures { OnOk result (map term_in out.new.items ≡ map term_in out.old.items ++ term_unless_zero (monomial_in mono) (first.now +ℤ second.now)) }
+    ensures { OnOk result
+        (map term_in out.new.items ≡ map term_in out.old.items ++ term_unless_zero (monomial_in mono) (first.now +ℤ second.now)) }
 {
     let sum = *first + *second;
     if sum == 0 {
@@ -74,8 +75,11 @@ fn join_firsts(
 ) -> Result<(), NoMemory>
     requires left { 0 < length left.old.items }
     requires right { 0 < length right.old.items }
-    requires narrow { weight_of (polynomial_of (map term_in left.old.items)) + weight_of (polynomial_of (map term_in right.old.items)) ≤ weight_limit }
-    ensures joined { OnOk result (map term_in out.new.items ≡ map term_in out.old.items ++ joined_firsts (polynomial_of (map term_in left.old.items)) (polynomial_of (map term_in right.old.items))) }
+    requires narrow { weight_of (polynomial_of (map term_in left.old.items))
+        + weight_of (polynomial_of (map term_in right.old.items)) ≤ weight_limit }
+    ensures joined { OnOk result
+        (map term_in out.new.items ≡ map term_in out.old.items
+        ++ joined_firsts (polynomial_of (map term_in left.old.items)) (polynomial_of (map term_in right.old.items))) }
     ensures left { left.new.items ≡ drop 1 left.old.items }
     ensures right { right.new.items ≡ drop 1 right.old.items }
 {
@@ -96,8 +100,11 @@ pub fn merged_owned(
 ) -> Result<Vec<(MonoTree, i128)>, NoMemory>
     requires left { IsTrue (ordered (polynomial_of (map term_in l.items))) }
     requires right { IsTrue (ordered (polynomial_of (map term_in r.items))) }
-    requires narrow { weight_of (polynomial_of (map term_in l.items)) + weight_of (polynomial_of (map term_in r.items)) ≤ weight_limit }
-    ensures { IfOk result (λ v. IsOrderedSum (polynomial_of (map term_in l.items)) (polynomial_of (map term_in r.items)) (polynomial_of (map term_in v.items))) }
+    requires narrow { weight_of (polynomial_of (map term_in l.items)) + weight_of (polynomial_of (map term_in r.items))
+        ≤ weight_limit }
+    ensures { IfOk result
+        (λ v. IsOrderedSum (polynomial_of (map term_in l.items)) (polynomial_of (map term_in r.items))
+        (polynomial_of (map term_in v.items))) }
 {
     let mut left = VecDeque::from(l);
     let mut right = VecDeque::from(r);

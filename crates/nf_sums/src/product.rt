@@ -1,10 +1,10 @@
 //! Products of ordered lists of terms.
 
 ghost use Rattle.std.specs.Prelude.{◌≡◌, ◌*ℤ◌, ◌+◌, ◌*◌, ◌≤◌, ◌++◌, ◌∷◌, [], map, OnOk, IfOk, IsTrue, unsigned_abs, length};
-ghost use Rattle.nf_terms.specs.Terms.{polynomial_of};
+ghost use Rattle.nf_terms.specs.NormalTerms.{polynomial_of};
 ghost use Rattle.nf_terms.specs.View.{monomial_in, term_in};
 ghost use Rattle.nf_terms.specs.Measures.{weight_of};
-ghost use Rattle.nf_terms.specs.Limits.{weight_limit};
+ghost use Rattle.nf_terms.specs.TermLimits.{weight_limit};
 ghost use Rattle.nf_terms.specs.Normal.{ordered};
 ghost use Rattle.nf_sums.specs.OrderedSums.{IsOrderedProduct};
 
@@ -23,7 +23,8 @@ fn push_product(
     second: &i128,
 ) -> Result<(), NoMemory>
     requires { unsigned_abs first.now * unsigned_abs second.now ≤ weight_limit }
-    ensures { OnOk result (map term_in out.new.items ≡ map term_in out.old.items ++ (monomial_in mono, first.now *ℤ second.now) ∷ []) }
+    ensures { OnOk result
+        (map term_in out.new.items ≡ map term_in out.old.items ++ (monomial_in mono, first.now *ℤ second.now) ∷ []) }
 {
     let product = *first * *second;
     push_term(out, mono, &product)
@@ -37,10 +38,13 @@ fn single(
 ) -> Result<Vec<(MonoTree, i128)>, NoMemory>
     requires left { IsTrue (ordered (polynomial_of (map term_in l.now))) }
     requires right { IsTrue (ordered (polynomial_of (map term_in r.now))) }
-    requires narrow { weight_of (polynomial_of (map term_in l.now)) * weight_of (polynomial_of (map term_in r.now)) ≤ weight_limit }
+    requires narrow { weight_of (polynomial_of (map term_in l.now)) * weight_of (polynomial_of (map term_in r.now))
+        ≤ weight_limit }
     requires left_short { length l.now ≤ 1 }
     requires right_short { length r.now ≤ 1 }
-    ensures { IfOk result (λ v. IsOrderedProduct (polynomial_of (map term_in l.now)) (polynomial_of (map term_in r.now)) (polynomial_of (map term_in v.items))) }
+    ensures { IfOk result
+        (λ v. IsOrderedProduct (polynomial_of (map term_in l.now)) (polynomial_of (map term_in r.now))
+        (polynomial_of (map term_in v.items))) }
 {
     let mut out = Vec::new(alloc);
     let Some((mono, coefficient)) = l.first() else {
@@ -63,8 +67,11 @@ pub fn multiplied(
 ) -> Result<Vec<(MonoTree, i128)>, NoMemory>
     requires left { IsTrue (ordered (polynomial_of (map term_in l.now))) }
     requires right { IsTrue (ordered (polynomial_of (map term_in r.now))) }
-    requires narrow { weight_of (polynomial_of (map term_in l.now)) * weight_of (polynomial_of (map term_in r.now)) ≤ weight_limit }
-    ensures { IfOk result (λ v. IsOrderedProduct (polynomial_of (map term_in l.now)) (polynomial_of (map term_in r.now)) (polynomial_of (map term_in v.items))) }
+    requires narrow { weight_of (polynomial_of (map term_in l.now)) * weight_of (polynomial_of (map term_in r.now))
+        ≤ weight_limit }
+    ensures { IfOk result
+        (λ v. IsOrderedProduct (polynomial_of (map term_in l.now)) (polynomial_of (map term_in r.now))
+        (polynomial_of (map term_in v.items))) }
 {
     if l.len() > 1 {
         let (front, back) = l.split_at(l.len() / 2);

@@ -1,14 +1,15 @@
 //! Sums and products of normal polynomials.
 
 ghost use Rattle.std.specs.Prelude.{◌≡◌, ◌+◌, ◌*◌, ◌≤◌, true, false, map, IfOk, MatchOption};
-ghost use Rattle.nf_terms.specs.Terms.{polynomial_of};
+ghost use Rattle.nf_terms.specs.NormalTerms.{polynomial_of};
 ghost use Rattle.nf_terms.specs.View.{term_in};
 ghost use Rattle.nf_terms.specs.Measures.{size_of, weight_of};
-ghost use Rattle.nf_terms.specs.Limits.{weight_limit, size_limit};
+ghost use Rattle.nf_terms.specs.TermLimits.{weight_limit, size_limit};
 ghost use Rattle.nf_terms.specs.Computed.{Answers};
 ghost use Rattle.nf_terms.specs.Normal.{IsNormal, constant_part as constant_of_polynomial, is_constant as constant};
 ghost use Rattle.nf_terms.specs.RawSums.{raw_sum, raw_difference, raw_product, IsNormalFormOf};
-ghost use Rattle.nf_sums.specs.Operations.{added, subtracted, multiplied as product_of, negated as negated_of, number as number_of};
+ghost use Rattle.nf_sums.specs.Operations.{added, subtracted, multiplied as product_of, negated as negated_of};
+ghost use Rattle.nf_sums.specs.Operations.{number as number_of};
 
 use crate::limits::check_limits;
 use crate::merge::{Sign, merged};

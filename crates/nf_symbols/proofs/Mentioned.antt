@@ -3,34 +3,35 @@ use Rattle.std.proofs.Common.{◌≡◌, Bool, true, false, ◌||◌, ◌&&◌, 
 use Rattle.std.specs.Prelude.{not}
 use Rattle.std.specs.List.{list_all}
 use Rattle.std.proofs.lemmas.List.Folds.{list_all-append}
-use Rattle.nf_terms.specs.Terms.{Atom, Monomial, Polynomial, ArrayTerm, Writes, Symbol, Read, Quotient, Remainder, One, Times, Zero, Plus, Over, NoWrites, Write}
+use Rattle.base_lemmas.proofs.Booleans.{not_or}
+use Rattle.nf_terms.specs.NormalTerms.{Atom, Monomial, Polynomial, ArrayTerm, Writes, Symbol, Read, Quotient, Remainder, One, Times, Zero, Plus, Over, NoWrites}
+use Rattle.nf_terms.specs.NormalTerms.{Write}
 use Rattle.nf_terms.specs.Lists.{mentions_items, mentions_list_base}
 use Rattle.nf_terms.specs.Forms.{mentions_form}
 use Rattle.nf_terms.specs.Mentions.{same_pos, mentions_base, mentions_atom, mentions_monomial, mentions, mentions_writes, mentions_array}
-use Rattle.nf_terms.specs.Symbols.{symbols_of_base, symbols_of_atom, symbols_of_monomial, symbols_of, symbols_of_writes, symbols_of_array, symbols_of_list_base, symbols_of_items, symbols_of_form}
+use Rattle.nf_terms.specs.Symbols.{symbols_of_base, symbols_of_atom, symbols_of_monomial, symbols_of, symbols_of_writes, symbols_of_array, symbols_of_list_base}
+use Rattle.nf_terms.specs.Symbols.{symbols_of_items, symbols_of_form}
 use Rattle.nf_terms.specs.declared.symbols.Sort.{Sort}
-use Rattle.nf_terms.specs.declared.tree.Pos.{Pos}
+use Rattle.fs_model.specs.declared.sides.Pos.{Pos}
 use Rattle.nf_terms.specs.declared.tree.Base.{Base}
 use Rattle.nf_terms.specs.declared.tree.Base.TheVariants as base
 use Rattle.nf_terms.specs.declared.tree.SeqBase.{SeqBase}
 use Rattle.nf_terms.specs.declared.tree.SeqBase.TheVariants as list
 use Rattle.nf_terms.specs.declared.form.Nf.{Nf}
 use Rattle.nf_terms.specs.declared.form.Nf.TheVariants.{Num, Arr, Seq}
-use Rattle.nf_symbols.specs.Tests.{is_other}
-
-neither : (a b : Bool) → not (a || b) ≡ (not a && not b)
-neither true b = refl
-neither false b = refl
+use Rattle.nf_symbols.specs.SymbolTests.{is_other}
 
 alone : (b : Bool) → not b ≡ (not b && true)
 alone true = refl
 alone false = refl
 
 module _ (p : Pos) where
-  both : (a b : Bool) (xs ys : List (Pos × Sort)) → not a ≡ list_all (is_other p) xs → not b ≡ list_all (is_other p) ys → not (a || b) ≡ list_all (is_other p) (xs ++ ys)
-  both a b xs ys h g = neither a b ∙ ap₂ (λ x y. x && y) h g ∙ sym (list_all-append (is_other p) xs ys)
+  both : (a b : Bool) (xs ys : List (Pos × Sort)) → not a ≡ list_all (is_other p) xs → not b ≡ list_all (is_other p) ys
+      → not (a || b) ≡ list_all (is_other p) (xs ++ ys)
+  both a b xs ys h g = not_or a b ∙ ap₂ (λ x y. x && y) h g ∙ sym (list_all-append (is_other p) xs ys)
 
-  three : (a b c : Bool) (xs ys zs : List (Pos × Sort)) → not a ≡ list_all (is_other p) xs → not b ≡ list_all (is_other p) ys → not c ≡ list_all (is_other p) zs → not (a || b || c) ≡ list_all (is_other p) (xs ++ (ys ++ zs))
+  three : (a b c : Bool) (xs ys zs : List (Pos × Sort)) → not a ≡ list_all (is_other p) xs → not b ≡ list_all (is_other p) ys → not c ≡ list_all (is_other p) zs
+      → not (a || b || c) ≡ list_all (is_other p) (xs ++ (ys ++ zs))
   three a b c xs ys zs h g k = regrouped a b c ∙ both a (b || c) xs (ys ++ zs) h (both b c ys zs g k)
     where
       regrouped : (a b c : Bool) → not (a || b || c) ≡ not (a || (b || c))
@@ -58,7 +59,8 @@ module _ (p : Pos) where
 
     writes_other : (ws : Writes) → not (mentions_writes p ws) ≡ list_all (is_other p) (symbols_of_writes ws)
     writes_other NoWrites = refl
-    writes_other (Write i v ws) = three (mentions p i) (mentions p v) (mentions_writes p ws) (symbols_of i) (symbols_of v) (symbols_of_writes ws) (number_other i) (number_other v) (writes_other ws)
+    writes_other (Write i v ws) = three (mentions p i) (mentions p v) (mentions_writes p ws) (symbols_of i) (symbols_of v) (symbols_of_writes ws)
+        (number_other i) (number_other v) (writes_other ws)
 
     array_other : (a : ArrayTerm) → not (mentions_array p a) ≡ list_all (is_other p) (symbols_of_array a)
     array_other (Over b ws) = both (mentions_base p b) (mentions_writes p ws) (symbols_of_base b) (symbols_of_writes ws) (base_other b) (writes_other ws)
@@ -74,4 +76,5 @@ module _ (p : Pos) where
   pub form_other : (f : Nf) → not (mentions_form p f) ≡ list_all (is_other p) (symbols_of_form f)
   form_other (Num q) = number_other q
   form_other (Arr a) = array_other a
-  form_other (Seq l) = both (mentions_list_base p l.base) (mentions_items p l.items) (symbols_of_list_base l.base) (symbols_of_items l.items) (list_base_other l.base) (items_other l.items)
+  form_other (Seq l) = both (mentions_list_base p l.base) (mentions_items p l.items) (symbols_of_list_base l.base) (symbols_of_items l.items)
+      (list_base_other l.base) (items_other l.items)

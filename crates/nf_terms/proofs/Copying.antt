@@ -1,7 +1,7 @@
 -- Lists of terms that are copied with a change.
 use Rattle.std.proofs.Common.{◌≡◌, ℕ, ◌≤◌, ℤ, cond, Bool, true, false, List, [], ◌∷◌, ◌++◌, map, length, drop, refl, ap, sym, subst, ◌∙◌}
 use Rattle.std.proofs.lemmas.List.{drop_all, append-nil}
-use Rattle.nf_terms.specs.Terms.{Monomial, polynomial_of, Plus}
+use Rattle.nf_terms.specs.NormalTerms.{Monomial, polynomial_of, Plus}
 use Rattle.nf_terms.specs.View.{term_in, monomial_in}
 use Rattle.nf_terms.specs.Normal.{has_atoms, part_with_atoms}
 use Rattle.nf_terms.specs.Reduced.{with_coefficients}
@@ -17,11 +17,14 @@ kept_of : (l : List (MonoTree × ℤ)) → polynomial_of (kept l) ≡ part_with_
 kept_of [] = refl
 kept_of (t ∷ l) = by_value (kept_of l) (has_atoms (monomial_in t.0)) ∙ sym (part_step (monomial_in t.0) t.1 (polynomial_of (map term_in l)))
   where
-    by_value : polynomial_of (kept l) ≡ part_with_atoms (polynomial_of (map term_in l)) → (b : Bool) → polynomial_of (cond b (term_in t ∷ kept l) (kept l)) ≡ cond b (Plus (monomial_in t.0) t.1 (part_with_atoms (polynomial_of (map term_in l)))) (part_with_atoms (polynomial_of (map term_in l)))
+    by_value : polynomial_of (kept l) ≡ part_with_atoms (polynomial_of (map term_in l)) → (b : Bool)
+        → polynomial_of (cond b (term_in t ∷ kept l) (kept l)) ≡ cond b (Plus (monomial_in t.0) t.1 (part_with_atoms (polynomial_of (map term_in l))))
+        (part_with_atoms (polynomial_of (map term_in l)))
     by_value e true = ap (Plus (monomial_in t.0) t.1) e
     by_value e false = e
 
-pub kept_all : (l out : List (MonoTree × ℤ)) (i : ℕ) → map term_in out ++ kept (drop i l) ≡ kept l → length l ≤ i → polynomial_of (map term_in out) ≡ part_with_atoms (polynomial_of (map term_in l))
+pub kept_all : (l out : List (MonoTree × ℤ)) (i : ℕ) → map term_in out ++ kept (drop i l) ≡ kept l → length l ≤ i
+    → polynomial_of (map term_in out) ≡ part_with_atoms (polynomial_of (map term_in l))
 kept_all l out i e h =
     let f : map term_in out ++ [] ≡ kept l = subst (λ d. map term_in out ++ kept d ≡ kept l) (drop_all i l h) e in
     ap polynomial_of (sym (append-nil (map term_in out)) ∙ f) ∙ kept_of l
@@ -34,7 +37,8 @@ other_of : (f : ℤ → ℤ) (l : List (MonoTree × ℤ)) → polynomial_of (map
 other_of f [] = refl
 other_of f (t ∷ l) = ap (Plus (monomial_in t.0) (f t.1)) (other_of f l)
 
-pub other_all : (f : ℤ → ℤ) (l out : List (MonoTree × ℤ)) (i : ℕ) → map term_in out ++ map (other f) (drop i l) ≡ map (other f) l → length l ≤ i → polynomial_of (map term_in out) ≡ with_coefficients f (polynomial_of (map term_in l))
+pub other_all : (f : ℤ → ℤ) (l out : List (MonoTree × ℤ)) (i : ℕ) → map term_in out ++ map (other f) (drop i l) ≡ map (other f) l → length l ≤ i
+    → polynomial_of (map term_in out) ≡ with_coefficients f (polynomial_of (map term_in l))
 other_all f l out i e h =
     let g : map term_in out ++ [] ≡ map (other f) l = subst (λ d. map term_in out ++ map (other f) d ≡ map (other f) l) (drop_all i l h) e in
     ap polynomial_of (sym (append-nil (map term_in out)) ∙ g) ∙ other_of f l

@@ -1,4 +1,3 @@
-pub mod Tests
 pub mod Orders
 pub mod Partings
 pub mod Reducing
@@ -11,3 +10,4 @@ pub mod Parts
 pub mod Simple
 pub mod Items
 pub mod Steps
+pub mod Computed

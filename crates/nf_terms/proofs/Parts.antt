@@ -5,15 +5,12 @@ use Rattle.std.proofs.lemmas.Int.{fits_signed_from_abs}
 use Rattle.std.specs.Prelude.{pos, FitsSigned}
 use Rattle.std.specs.Int.{w128}
 use Rattle.std.specs.Ordering.{int_eq}
-use Rattle.nf_terms.specs.Terms.{Monomial, Polynomial, Plus}
+use Rattle.base_lemmas.proofs.Booleans.{and_second}
+use Rattle.nf_terms.specs.NormalTerms.{Monomial, Polynomial, Plus}
 use Rattle.nf_terms.specs.Measures.{weight_of}
 use Rattle.nf_terms.specs.Normal.{IsNormal, ordered, ordered_monomial, monomial_rises, is_light, narrow_inside, narrow_monomial}
-use Rattle.nf_terms.specs.Limits.{weight_limit}
+use Rattle.nf_terms.specs.TermLimits.{weight_limit}
 use Rattle.nf_terms.proofs.Simple.{light}
-
-and_right : (a b : Bool) → IsTrue (a && b) → IsTrue b
-and_right true b e = e
-and_right false b e = cc
 
 -- a coefficient of a normal polynomial lies in i128
 pub coefficient_fits : (m : Monomial) (c : ℤ) (p : Polynomial) → IsNormal (Plus m c p) → FitsSigned w128 c
@@ -29,8 +26,9 @@ both_true false b e f = cc
 -- what follows the first monomial of a normal polynomial is normal
 pub rest_normal : (m : Monomial) (c : ℤ) (p : Polynomial) → IsNormal (Plus m c p) → IsNormal p
 rest_normal m c p n = record {
-  ordered = and_right (not (int_eq c (pos 0)) && ordered_monomial m && monomial_rises m p) (ordered p) n.ordered;
+  ordered = and_second (not (int_eq c (pos 0)) && ordered_monomial m && monomial_rises m p) (ordered p) n.ordered;
   small = omega (arith, n.small);
   shallow = omega (arith, n.shallow);
-  narrow = both_true (is_light p) (narrow_inside p) (light_is p (omega (arith, light (Plus m c p) n))) (and_right (narrow_monomial m) _ (and_right (is_light (Plus m c p)) _ n.narrow));
+  narrow = both_true (is_light p) (narrow_inside p) (light_is p (omega (arith, light (Plus m c p) n)))
+      (and_second (narrow_monomial m) _ (and_second (is_light (Plus m c p)) _ n.narrow));
 }

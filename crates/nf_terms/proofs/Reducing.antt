@@ -1,39 +1,30 @@
 -- What is reduced stays normal.
-use Rattle.std.proofs.Common.{◌≡◌, ◌≤◌, ℤ, pos, Bool, true, false, refl, sym, ◌∙◌, arith}
-use Rattle.std.specs.Prelude.{◌≢◌}
-use Rattle.std.proofs.lemmas.Bool.{le-leb}
-use Rattle.std.specs.Cmp.{signed_Decides}
-use Rattle.std.specs.Ordering.{int_eq}
-use Rattle.nf_terms.specs.Terms.{Monomial, Polynomial, One, Times, Zero, Plus}
+use Rattle.std.proofs.Common.{◌≡◌, ◌≤◌, ℤ, true, refl, arith}
+use Rattle.std.proofs.lemmas.Bool.{le-leb, and_from}
+use Rattle.base_lemmas.proofs.Booleans.{and_first, and_second}
+use Rattle.base_lemmas.proofs.Orderings.{is_lt-true}
+use Rattle.base_lemmas.proofs.Integers.{int_eq_zero-false, not_zero}
+use Rattle.nf_terms.specs.NormalTerms.{Monomial, Polynomial, One, Times, Zero, Plus}
 use Rattle.nf_terms.specs.Order.{cmp_monomial}
 use Rattle.nf_terms.specs.Measures.{size_of, depth_of, weight_of}
-use Rattle.nf_terms.specs.Limits.{weight_limit}
+use Rattle.nf_terms.specs.TermLimits.{weight_limit}
 use Rattle.nf_terms.specs.Normal.{IsNormal, ordered, monomial_rises, is_light, narrow_inside, narrow_monomial, part_with_atoms}
 use Rattle.nf_terms.specs.Reduced.{Reduces, Ended, Dropped, Kept, with_coefficients, AllowsChange}
 use Rattle.nf_terms.proofs.Simple.{light}
-use Rattle.nf_terms.proofs.Tests.{and_left, and_right, and_both}
-use Rattle.nf_terms.proofs.Partings.{ordered_term, term_ordered, less_of, rises_through}
-
-not_zero : (d : ℤ) → d ≢ pos 0 → int_eq d (pos 0) ≡ false
-not_zero d n = by_value (int_eq d (pos 0)) refl
-  where
-    by_value : (t : Bool) → int_eq d (pos 0) ≡ t → t ≡ false
-    by_value true e = absurd (n ((signed_Decides d (pos 0)).0 e))
-    by_value false e = refl
-
-zero_not : (c : ℤ) → int_eq c (pos 0) ≡ false → c ≢ pos 0
-zero_not c f e = let t : int_eq c (pos 0) ≡ true = (signed_Decides c (pos 0)).1 e in let g : true ≡ false = sym t ∙ f in cc
+use Rattle.nf_terms.proofs.Partings.{ordered_term, term_ordered, rises_through}
 
 rises_reduced : (k : Monomial) {p q : Polynomial} → Reduces p q → ordered p ≡ true → monomial_rises k p ≡ true → monomial_rises k q ≡ true
 rises_reduced k Ended o r = refl
-rises_reduced k (Dropped {m = m} {c = c} {p = p} s) o r = let t = ordered_term m c p o in rises_reduced k s t.rest (rises_through k m p (less_of (cmp_monomial k m) r) t.rises)
+rises_reduced k (Dropped {m = m} {c = c} {p = p} s) o r = let t = ordered_term m c p o in
+    rises_reduced k s t.rest (rises_through k m p (is_lt-true (cmp_monomial k m) r) t.rises)
 rises_reduced k (Kept n h s) o r = r
 
 ordered_reduced : {p q : Polynomial} → Reduces p q → ordered p ≡ true → ordered q ≡ true
 ordered_reduced Ended o = refl
 ordered_reduced (Dropped {m = m} {c = c} {p = p} s) o = ordered_reduced s (ordered_term m c p o).rest
 ordered_reduced (Kept {m = m} {c = c} {d = d} {p = p} {q = q} n h s) o =
-    let t = ordered_term m c p o in term_ordered m d q (record { nonzero = not_zero d n; first = t.first; rises = rises_reduced m s t.rest t.rises; rest = ordered_reduced s t.rest })
+    let t = ordered_term m c p o in
+    term_ordered m d q (record { nonzero = int_eq_zero-false d n; first = t.first; rises = rises_reduced m s t.rest t.rises; rest = ordered_reduced s t.rest })
 
 size_reduced : {p q : Polynomial} → Reduces p q → size_of q ≤ size_of p
 size_reduced Ended = omega arith
@@ -52,9 +43,10 @@ weight_reduced (Kept n h s) = omega (arith, weight_reduced s, h)
 
 inside_reduced : {p q : Polynomial} → Reduces p q → narrow_inside p ≡ true → narrow_inside q ≡ true
 inside_reduced Ended e = refl
-inside_reduced (Dropped {m = m} {p = p} s) e = inside_reduced s (and_right (narrow_monomial m) (narrow_inside p) e)
+inside_reduced (Dropped {m = m} {p = p} s) e = inside_reduced s (and_second (narrow_monomial m) (narrow_inside p) e)
 inside_reduced (Kept {m = m} {p = p} {q = q} n h s) e =
-    and_both (narrow_monomial m) (narrow_inside q) (and_left (narrow_monomial m) (narrow_inside p) e) (inside_reduced s (and_right (narrow_monomial m) (narrow_inside p) e))
+    and_from (narrow_monomial m) (narrow_inside q) (and_first (narrow_monomial m) (narrow_inside p) e)
+    (inside_reduced s (and_second (narrow_monomial m) (narrow_inside p) e))
 
 -- a normal sum with fewer monomials, or with other coefficients that are no larger, is normal
 pub reduced_normal : (p q : Polynomial) → IsNormal p → Reduces p q → IsNormal q
@@ -62,14 +54,15 @@ reduced_normal p q n s = record {
   ordered = ordered_reduced s n.ordered;
   small = omega (arith, n.small, size_reduced s);
   shallow = omega (arith, n.shallow, depth_reduced s);
-  narrow = and_both (is_light q) (narrow_inside q) (le-leb (weight_of q) weight_limit (omega (arith, light p n, weight_reduced s))) (inside_reduced s (and_right (is_light p) (narrow_inside p) n.narrow));
+  narrow = and_from (is_light q) (narrow_inside q) (le-leb (weight_of q) weight_limit (omega (arith, light p n, weight_reduced s)))
+      (inside_reduced s (and_second (is_light p) (narrow_inside p) n.narrow));
 }
 
 -- an ordered sum is reduced to its part with atoms
 pub part_reduces : (p : Polynomial) → ordered p ≡ true → Reduces p (part_with_atoms p)
 part_reduces Zero o = Ended
 part_reduces (Plus One c p) o = Dropped (part_reduces p (ordered_term One c p o).rest)
-part_reduces (Plus (Times a m) c p) o = let t = ordered_term (Times a m) c p o in Kept (zero_not c t.nonzero) (omega arith) (part_reduces p t.rest)
+part_reduces (Plus (Times a m) c p) o = let t = ordered_term (Times a m) c p o in Kept (not_zero c t.nonzero) (omega arith) (part_reduces p t.rest)
 
 pub change_reduces : (May : ℤ → Type 0) (f : ℤ → ℤ) (p : Polynomial) → AllowsChange May f p → Reduces p (with_coefficients f p)
 change_reduces May f Zero h = Ended

@@ -3,11 +3,11 @@ use Rattle.std.proofs.Common.{◌≡◌, ◌+◌, ◌≤◌, ℤ, pos, unsigned_
 use Rattle.std.proofs.lemmas.Bool.{le-leb}
 use Rattle.std.specs.Ordering.{int_eq}
 use Rattle.std.proofs.lemmas.Bool.Decides.{nat_tests}
-use Rattle.nf_terms.specs.Terms.{Polynomial, One, Zero, Plus, polynomial_of_symbol, polynomial_of_number, bare_array}
+use Rattle.nf_terms.specs.NormalTerms.{Polynomial, One, Zero, Plus, polynomial_of_symbol, polynomial_of_number, bare_array}
 use Rattle.nf_terms.specs.Measures.{weight_of}
 use Rattle.nf_terms.specs.Normal.{IsNormal, IsNormalArray, is_light, narrow_inside}
-use Rattle.nf_terms.specs.Limits.{weight_limit}
-use Rattle.nf_terms.specs.declared.tree.Pos.{Pos}
+use Rattle.nf_terms.specs.TermLimits.{weight_limit}
+use Rattle.fs_model.specs.declared.sides.Pos.{Pos}
 use Rattle.nf_terms.specs.declared.tree.Base.{Base}
 
 -- a normal polynomial is within the limit of weight
@@ -28,7 +28,12 @@ number_normal c h = by_value (int_eq c (pos 0)) refl
   where
     by_value : (t : Bool) → int_eq c (pos 0) ≡ t → IsNormal (cond t Zero (Plus One c Zero))
     by_value true e = zero_normal
-    by_value false e = record { ordered = ap (λ b. not b && true && true && true) e; small = omega arith; shallow = omega arith; narrow = ap (λ b. b && true) (le-leb (unsigned_abs c + 0) weight_limit (omega arith)) }
+    by_value false e = record {
+      ordered = ap (λ b. not b && true && true && true) e;
+      small = omega arith;
+      shallow = omega arith;
+      narrow = ap (λ b. b && true) (le-leb (unsigned_abs c + 0) weight_limit (omega arith));
+    }
 
 pub bare_normal : (b : Base) → IsNormalArray (bare_array b)
 bare_normal b = record { ordered = refl; small = omega arith; shallow = omega arith; narrow = refl }

@@ -2,7 +2,7 @@
 use Rattle.std.proofs.Common.{◌≡◌, ℤ, true, ◌&&◌, ◌==◌, not, cond, refl, List, [], ◌∷◌, length, map, arith, ap, ◌∙◌}
 use Rattle.std.proofs.lemmas.List.{length-map}
 use Rattle.std.proofs.lemmas.Bool.Decides.{nat_tests}
-use Rattle.nf_terms.specs.Terms.{Atom, Monomial, Polynomial, One, Times, Zero, Plus, monomial_of, polynomial_of}
+use Rattle.nf_terms.specs.NormalTerms.{Atom, Monomial, Polynomial, One, Times, Zero, Plus, monomial_of, polynomial_of}
 use Rattle.nf_terms.specs.Normal.{has_atoms, begins_with_atoms, part_with_atoms, constant_part, is_constant}
 use Rattle.nf_terms.specs.Order.{same_polynomial}
 use Rattle.nf_terms.specs.View.{atom_in, monomial_in, term_in}
@@ -29,11 +29,13 @@ pub has_atoms_in : (m : MonoTree) → has_atoms (monomial_in m) ≡ not (length 
 has_atoms_in m = ap has_atoms (monomial_in-is m) ∙ has_atoms-monomial_of (map atom_in m.atoms.items) ∙ simp length-map
 
 -- where the rest begins with atoms, nothing is left beside constants exactly where nothing is left
-pub nothing_left : (ts : List (MonoTree × ℤ)) → begins_with_atoms (polynomial_of (map term_in ts)) ≡ true → (length ts == 0) ≡ same_polynomial Zero (part_with_atoms (polynomial_of (map term_in ts)))
+pub nothing_left : (ts : List (MonoTree × ℤ)) → begins_with_atoms (polynomial_of (map term_in ts)) ≡ true
+    → (length ts == 0) ≡ same_polynomial Zero (part_with_atoms (polynomial_of (map term_in ts)))
 nothing_left [] e = refl
 nothing_left (t ∷ ts) e = none_left (monomial_in t.0) e
   where
-    none_left : (m : Monomial) → has_atoms m ≡ true → (length (t ∷ ts) == 0) ≡ same_polynomial Zero (part_with_atoms (Plus m t.1 (polynomial_of (map term_in ts))))
+    none_left : (m : Monomial) → has_atoms m ≡ true
+        → (length (t ∷ ts) == 0) ≡ same_polynomial Zero (part_with_atoms (Plus m t.1 (polynomial_of (map term_in ts))))
     none_left One e = cc
     none_left (Times a m) e = grind (arith, nat_tests)
 

@@ -2,13 +2,13 @@
 use Rattle.std.specs.Prelude.{◌≡◌, ℕ, ℤ, pos, negsuc, Bool, true, false, Option, Some, None, List, refl}
 use Rattle.std.specs.Coded.{Coded, code_by, coded×, coded_ℕ, coded_bool, coded_list, coded_option}
 use base.Stored.{Gv, gnil, gnum, gcons}
-use Rattle.nf_terms.specs.Terms.{Atom, Polynomial, ArrayTerm}
+use Rattle.nf_terms.specs.NormalTerms.{Atom, Polynomial, ArrayTerm}
 use Rattle.nf_terms.specs.Lists.{ListTerm}
 use Rattle.nf_terms.specs.Keys.{Key, Leaf, Node}
 use Rattle.nf_terms.specs.TermKeys.{key_atom, key_polynomial, key_array, inj_atom, inj_polynomial, inj_array}
-use Rattle.nf_terms.specs.declared.tree.Side.{Side}
-use Rattle.nf_terms.specs.declared.tree.Side.TheVariants.{Left, Right}
-use Rattle.nf_terms.specs.declared.tree.Pos.{Pos}
+use Rattle.fs_model.specs.declared.sides.Side.{Side}
+use Rattle.fs_model.specs.declared.sides.Side.TheVariants.{Left, Right}
+use Rattle.fs_model.specs.declared.sides.Pos.{Pos}
 use Rattle.nf_terms.specs.declared.tree.SeqBase.{SeqBase}
 use Rattle.nf_terms.specs.declared.tree.SeqBase.TheVariants as list
 
@@ -59,31 +59,34 @@ abbrev is_left : Side → Bool
 is_left Left = true
 is_left Right = false
 
-abbrev side_of : Bool → Side
-side_of true = Left
-side_of false = Right
+abbrev coded_side : Bool → Side
+coded_side true = Left
+coded_side false = Right
 
-pub side_again : (s : Side) → side_of (is_left s) ≡ s
+pub side_again : (s : Side) → coded_side (is_left s) ≡ s
 side_again Left = refl
 side_again Right = refl
 
 -- a position: its side and its number
 abbrev pub coded_pos : Coded Pos
-coded_pos = code_by (Bool × ℕ) (coded× coded_bool coded_ℕ) (λ p. (is_left p.side, p.var)) (λ t. record { side = side_of t.0; var = t.1 }) (λ p. λ k. record { side = side_again p.side k; var = p.var })
+coded_pos = code_by (Bool × ℕ) (coded× coded_bool coded_ℕ) (λ p. (is_left p.side, p.var))
+    (λ t. record { side = coded_side t.0; var = t.1 }) (λ p. λ k. record { side = side_again p.side k; var = p.var })
 
-abbrev place_of : SeqBase → Option Pos
-place_of list.Empty = None
-place_of (list.Sym p) = Some p
+abbrev list_position : SeqBase → Option Pos
+list_position list.Empty = None
+list_position (list.Sym p) = Some p
 
 abbrev base_at : Option Pos → SeqBase
 base_at None = list.Empty
 base_at (Some p) = list.Sym p
 
-pub base_again : (b : SeqBase) → base_at (place_of b) ≡ b
+pub base_again : (b : SeqBase) → base_at (list_position b) ≡ b
 base_again list.Empty = refl
 base_again (list.Sym p) = refl
 
 -- a list term: its base and its items
 abbrev pub coded_list_term : Coded ListTerm
 coded_list_term =
-    code_by (Option Pos × List Polynomial) (coded× (coded_option coded_pos) (coded_list coded_polynomial)) (λ l. (place_of l.base, l.items)) (λ t. record { base = base_at t.0; items = t.1 }) (λ l. λ k. record { base = base_again l.base k; items = l.items })
+    code_by (Option Pos × List Polynomial) (coded× (coded_option coded_pos) (coded_list coded_polynomial))
+    (λ l. (list_position l.base, l.items)) (λ t. record { base = base_at t.0; items = t.1 })
+    (λ l. λ k. record { base = base_again l.base k; items = l.items })

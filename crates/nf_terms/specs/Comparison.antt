@@ -3,13 +3,16 @@ use Rattle.std.proofs.Common.{◌≡◌, Some, refl, ap, sym, ◌∙◌}
 use Rattle.std.specs.declared.cmp.Ordering.{Ordering}
 use Rattle.std.specs.declared.cmp.Ordering.TheVariants.{Equal}
 use Rattle.std.specs.Ordering.{eq_by_cmp, ordering_reverse}
-use Rattle.std.specs.Cmp.{IsTotalOrder, IsPartialOrder, IsEquivalence, IsPartialEquivalence, partial_order_from_agreeing_total, partial_equiv_from_equiv, eq_by_cmp_equiv}
+use Rattle.std.specs.Cmp.{IsTotalOrder, IsPartialOrder, IsEquivalence, IsPartialEquivalence, partial_order_from_agreeing_total}
+use Rattle.std.specs.Cmp.{partial_equiv_from_equiv, eq_by_cmp_equiv}
 use Rattle.nf_terms.specs.Order.{cmp_atom, cmp_monomial, cmp_polynomial, cmp_array}
 use Rattle.nf_terms.specs.Keys.{Key, cmp_key, key_reverse, key_trans}
-use Rattle.nf_terms.specs.TermKeys.{key_atom, key_monomial, key_polynomial, key_array, atom_by_key, monomial_by_key, polynomial_by_key, array_by_key, atom_ties, monomial_ties, polynomial_ties, array_ties}
+use Rattle.nf_terms.specs.TermKeys.{key_atom, key_monomial, key_polynomial, key_array, atom_by_key, monomial_by_key}
+use Rattle.nf_terms.specs.TermKeys.{polynomial_by_key, array_by_key, atom_ties, monomial_ties, polynomial_ties, array_ties}
 
 -- an order by keys is total, where what ties is the same
-pub keyed : {T : Type 0} (cmp : T → T → Ordering) (key : T → Key) → ((x y : T) → cmp x y ≡ cmp_key (key x) (key y)) → ((x y : T) → cmp x y ≡ Equal → x ≡ y) → IsTotalOrder cmp
+pub keyed : {T : Type 0} (cmp : T → T → Ordering) (key : T → Key) → ((x y : T) → cmp x y ≡ cmp_key (key x) (key y))
+    → ((x y : T) → cmp x y ≡ Equal → x ≡ y) → IsTotalOrder cmp
 keyed cmp key same ties = record {
   antisymm = λ x y. same x y ∙ key_reverse (key x) (key y) ∙ ap ordering_reverse (sym (same y x));
   trans = λ x y z p q. same x z ∙ key_trans (key x) (key y) (key z) (sym (same x y) ∙ p) (sym (same y z) ∙ q);

@@ -1,10 +1,11 @@
 -- What an operation gives: a term, or the event that it is past a limit.
 use Rattle.std.specs.Prelude.{◌≡◌, ℕ, nat_le, cond, Result, Ok, Err}
-use Rattle.nf_terms.specs.Limits.{weight_limit, size_limit, depth_limit}
+use Rattle.nf_terms.specs.TermLimits.{weight_limit, size_limit, depth_limit}
 use Rattle.nf_terms.specs.declared.stop.NfStop.{NfStop}
 use Rattle.nf_terms.specs.declared.stop.NfStop.TheVariants as stop
 
--- a term; the weights of the two sides of an operation that is not narrow; or, of one that is narrow and not small, the raw size and the depth
+-- a term; the weights of the two sides of an operation that is not narrow; or, of one that is narrow and not small, the raw size
+-- and the depth
 pub data Computed (T : Type 0) : Type 0 where
   Done : T → Computed T
   Wide : (left right : ℕ) → Computed T
@@ -29,9 +30,11 @@ Answers (Err (stop.Wide left right)) c = c ≡ Wide left right
 Answers (Err (stop.Large units depth)) c = c ≡ Large units depth
 Answers (Err stop.NoMemory) c = Unit {0}
 
--- a term of this raw size and depth where it is small: the size is looked at before the depth, which counts as 0 where the size is past its limit
+-- a term of this raw size and depth where it is small: the size is looked at before the depth, which counts as 0 where the size
+-- is past its limit
 abbrev pub if_small : {T : Type 0} → (units depth : ℕ) → T → Computed T
-if_small units depth t = cond (nat_le units size_limit) (cond (nat_le depth depth_limit) (Done t) (Large units depth)) (Large units 0)
+if_small units depth t = cond (nat_le units size_limit) (cond (nat_le depth depth_limit) (Done t) (Large units depth))
+    (Large units 0)
 
 -- an operation of this weight on sides of these weights, where it is narrow
 abbrev pub if_narrow : {T : Type 0} → (left right weight : ℕ) → Computed T → Computed T

@@ -2,7 +2,7 @@
 use Rattle.std.specs.Prelude.{◌≡◌, ◌⊎◌, refl}
 use Rattle.std.proofs.Common.{inl, inr}
 use Rattle.std.specs.Coded.{Coded, code_by, coded⊎}
-use Rattle.nf_terms.specs.Terms.{Polynomial, ArrayTerm}
+use Rattle.nf_terms.specs.NormalTerms.{Polynomial, ArrayTerm}
 use Rattle.nf_terms.specs.Lists.{ListTerm}
 use Rattle.nf_terms.specs.Codes.{coded_polynomial, coded_array, coded_list_term}
 use Rattle.nf_terms.specs.declared.form.Nf.{Nf}
@@ -25,4 +25,5 @@ form_again (form.Seq l) = refl
 
 -- a normal form: a polynomial, an array or a list
 abbrev pub coded_form : Coded Nf
-coded_form = code_by (Polynomial ⊎ (ArrayTerm ⊎ ListTerm)) (coded⊎ coded_polynomial (coded⊎ coded_array coded_list_term)) parts_of_form form_of_parts form_again
+coded_form = code_by (Polynomial ⊎ (ArrayTerm ⊎ ListTerm))
+    (coded⊎ coded_polynomial (coded⊎ coded_array coded_list_term)) parts_of_form form_of_parts form_again

@@ -48,7 +48,8 @@ key_reverse (Leaf x) (Leaf y) = int_cmp_total.antisymm x y
 key_reverse (Leaf x) (Node c d) = refl
 key_reverse (Node a b) (Leaf y) = refl
 key_reverse (Node a b) (Node c d) =
-    ap (λ r. ordering_then r (cmp_key b d)) (key_reverse a c) ∙ ap (ordering_then (ordering_reverse (cmp_key c a))) (key_reverse b d) ∙ then_reverse (cmp_key c a) (cmp_key d b)
+    ap (λ r. ordering_then r (cmp_key b d)) (key_reverse a c)
+    ∙ ap (ordering_then (ordering_reverse (cmp_key c a))) (key_reverse b d) ∙ then_reverse (cmp_key c a) (cmp_key d b)
 
 pub key_trans : (x y z : Key) → cmp_key x y ≡ Less → cmp_key y z ≡ Less → cmp_key x z ≡ Less
 key_trans (Leaf x) (Leaf y) (Leaf z) p q = int_cmp_total.trans x y z p q
@@ -59,9 +60,11 @@ key_trans (Node a b) (Leaf y) (Leaf z) p q = cc
 key_trans (Node a b) (Leaf y) (Node e f) p q = cc
 key_trans (Node a b) (Node c d) (Leaf z) p q = cc
 key_trans (Node a b) (Node c d) (Node e f) p q =
-    split (cmp_key a c) (cmp_key c e) (key_trans a c e) (λ h. ap (λ k. cmp_key k e) (key_ties a c h)) (λ h. ap (cmp_key a) (sym (key_ties c e h))) (key_trans b d f) p q
+    split (cmp_key a c) (cmp_key c e) (key_trans a c e) (λ h. ap (λ k. cmp_key k e) (key_ties a c h))
+    (λ h. ap (cmp_key a) (sym (key_ties c e h))) (key_trans b d f) p q
   where
-    split : (r s : Ordering) {t u v w : Ordering} → (r ≡ Less → s ≡ Less → t ≡ Less) → (r ≡ Equal → t ≡ s) → (s ≡ Equal → t ≡ r) → (u ≡ Less → v ≡ Less → w ≡ Less) → ordering_then r u ≡ Less → ordering_then s v ≡ Less → ordering_then t w ≡ Less
+    split : (r s : Ordering) {t u v w : Ordering} → (r ≡ Less → s ≡ Less → t ≡ Less) → (r ≡ Equal → t ≡ s) → (s ≡ Equal → t ≡ r)
+        → (u ≡ Less → v ≡ Less → w ≡ Less) → ordering_then r u ≡ Less → ordering_then s v ≡ Less → ordering_then t w ≡ Less
     split Less Less {t} {u} {v} {w} f g h k p q = ap (λ o. ordering_then o w) (f refl refl)
     split Less Equal {t} {u} {v} {w} f g h k p q = ap (λ o. ordering_then o w) (h refl)
     split Less Greater f g h k p q = cc

@@ -2,8 +2,9 @@
 use Rattle.std.proofs.Common.{◌≡◌, pos, Some, List, [], ◌∷◌, refl, ap, sym, ◌∙◌}
 use Rattle.std.specs.declared.cmp.Ordering.TheVariants.{Equal}
 use Rattle.std.specs.Ordering.{eq_by_cmp}
-use Rattle.std.specs.Cmp.{IsTotalOrder, IsPartialOrder, IsEquivalence, IsPartialEquivalence, partial_order_from_agreeing_total, partial_equiv_from_equiv, eq_by_cmp_equiv}
-use Rattle.nf_terms.specs.Terms.{Polynomial}
+use Rattle.std.specs.Cmp.{IsTotalOrder, IsPartialOrder, IsEquivalence, IsPartialEquivalence, partial_order_from_agreeing_total}
+use Rattle.std.specs.Cmp.{partial_equiv_from_equiv, eq_by_cmp_equiv}
+use Rattle.nf_terms.specs.NormalTerms.{Polynomial}
 use Rattle.nf_terms.specs.Lists.{ListTerm, cmp_list_base, cmp_items, cmp_list}
 use Rattle.nf_terms.specs.Keys.{Key, Leaf, Node, cmp_key, key_ties}
 use Rattle.nf_terms.specs.TermKeys.{key_pos, key_polynomial, inj_pos, inj_polynomial, both, pos_by_key, polynomial_by_key}
@@ -38,7 +39,8 @@ inj_items (p ∷ ps) [] e = cc
 inj_items (p ∷ ps) (q ∷ qs) e = let h : p ≡ q = inj_polynomial p q (cc) in let t : ps ≡ qs = inj_items ps qs (cc) in cc
 
 inj_list : (x y : ListTerm) → key_list x ≡ key_list y → x ≡ y
-inj_list x y e = let b : x.base ≡ y.base = inj_base x.base y.base (cc) in let i : x.items ≡ y.items = inj_items x.items y.items (cc) in (λ k. record { base = b k; items = i k })
+inj_list x y e = let b : x.base ≡ y.base = inj_base x.base y.base (cc) in
+    let i : x.items ≡ y.items = inj_items x.items y.items (cc) in (λ k. record { base = b k; items = i k })
 
 base_by_key : (x y : SeqBase) → cmp_list_base x y ≡ cmp_key (key_base x) (key_base y)
 base_by_key base.Empty base.Empty = refl

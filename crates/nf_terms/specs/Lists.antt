@@ -3,13 +3,13 @@ use Rattle.std.specs.Prelude.{ℕ, ◌+◌, ◌≤◌, max, Bool, false, ◌||�
 use Rattle.std.specs.declared.cmp.Ordering.{Ordering}
 use Rattle.std.specs.declared.cmp.Ordering.TheVariants.{Less, Equal, Greater}
 use Rattle.std.specs.Ordering.{ordering_then}
-use Rattle.nf_terms.specs.Terms.{Polynomial}
-use Rattle.nf_terms.specs.Limits.{size_limit, depth_limit}
+use Rattle.nf_terms.specs.NormalTerms.{Polynomial}
+use Rattle.nf_terms.specs.TermLimits.{size_limit, depth_limit}
 use Rattle.nf_terms.specs.Order.{cmp_pos, cmp_polynomial}
 use Rattle.nf_terms.specs.Measures.{size_of, depth_of}
 use Rattle.nf_terms.specs.Mentions.{same_pos, mentions}
 use Rattle.nf_terms.specs.Normal.{IsNormal}
-use Rattle.nf_terms.specs.declared.tree.Pos.{Pos}
+use Rattle.fs_model.specs.declared.sides.Pos.{Pos}
 use Rattle.nf_terms.specs.declared.tree.SeqBase.{SeqBase}
 use Rattle.nf_terms.specs.declared.tree.SeqBase.TheVariants as base
 
@@ -73,12 +73,12 @@ abbrev pub cmp_list : ListTerm → ListTerm → Ordering
 cmp_list l m = ordering_then (cmp_list_base l.base m.base) (cmp_items l.items m.items)
 
 -- each item is normal
-abbrev pub AreNormal : List Polynomial → Type 0
-AreNormal [] = Unit {0}
-AreNormal (p ∷ ps) = IsNormal p × AreNormal ps
+abbrev pub AreNormalItems : List Polynomial → Type 0
+AreNormalItems [] = Unit {0}
+AreNormalItems (p ∷ ps) = IsNormal p × AreNormalItems ps
 
 -- a list is normal and within the limits in all its parts
 pub record IsNormalList (l : ListTerm) : Type 0 where
-  pub items : AreNormal l.items
+  pub items : AreNormalItems l.items
   pub small : size_of_list l ≤ size_limit
   pub shallow : depth_of_list l ≤ depth_limit

@@ -1,8 +1,8 @@
 -- Normal terms that mean something.
 use Rattle.std.specs.Prelude.{◌≡◌, ℤ, List}
-use Rattle.nf_terms.specs.Terms.{Polynomial, ArrayTerm}
+use Rattle.nf_terms.specs.NormalTerms.{Polynomial, ArrayTerm}
 use Rattle.nf_terms.specs.Lists.{ListTerm, IsNormalList}
-use Rattle.nf_terms.specs.Meaning.{Valuation, value_of, contents, items_in}
+use Rattle.nf_terms.specs.TermMeaning.{Valuation, value_of, contents, items_in}
 use Rattle.nf_terms.specs.Normal.{IsNormal, IsNormalArray}
 
 -- a normal polynomial of this value

@@ -1,6 +1,7 @@
 -- The size, the depth and the weight of a term.
 use Rattle.std.specs.Prelude.{unsigned_abs, ℕ, ◌+◌, max}
-use Rattle.nf_terms.specs.Terms.{Atom, Monomial, Polynomial, ArrayTerm, Writes, Symbol, Read, Quotient, Remainder, One, Times, Zero, Plus, Over, NoWrites, Write}
+use Rattle.nf_terms.specs.NormalTerms.{Atom, Monomial, Polynomial, ArrayTerm, Writes, Symbol, Read, Quotient, Remainder, One}
+use Rattle.nf_terms.specs.NormalTerms.{Times, Zero, Plus, Over, NoWrites, Write}
 
 abbrev mutual
   -- 1 for an atom, and its parts

@@ -3,10 +3,11 @@ use Rattle.std.specs.Prelude.{ℕ, ◌+◌, Bool}
 use Rattle.std.specs.declared.cmp.Ordering.{Ordering}
 use Rattle.std.specs.declared.cmp.Ordering.TheVariants.{Less, Equal, Greater}
 use Rattle.std.specs.Ordering.{nat_cmp, int_cmp, ordering_then, is_eq}
-use Rattle.nf_terms.specs.Terms.{Atom, Monomial, Polynomial, ArrayTerm, Writes, Symbol, Read, Quotient, Remainder, One, Times, Zero, Plus, Over, NoWrites, Write}
-use Rattle.nf_terms.specs.declared.tree.Side.{Side}
-use Rattle.nf_terms.specs.declared.tree.Side.TheVariants.{Left, Right}
-use Rattle.nf_terms.specs.declared.tree.Pos.{Pos}
+use Rattle.nf_terms.specs.NormalTerms.{Atom, Monomial, Polynomial, ArrayTerm, Writes, Symbol, Read, Quotient, Remainder, One}
+use Rattle.nf_terms.specs.NormalTerms.{Times, Zero, Plus, Over, NoWrites, Write}
+use Rattle.fs_model.specs.declared.sides.Side.{Side}
+use Rattle.fs_model.specs.declared.sides.Side.TheVariants.{Left, Right}
+use Rattle.fs_model.specs.declared.sides.Pos.{Pos}
 use Rattle.nf_terms.specs.declared.tree.Base.{Base}
 use Rattle.nf_terms.specs.declared.tree.Base.TheVariants as base
 
@@ -66,7 +67,8 @@ abbrev mutual
   cmp_polynomial Zero (Plus n d q) = Less
   cmp_polynomial (Plus m c p) Zero = Greater
   cmp_polynomial (Plus m c p) (Plus n d q) =
-      ordering_then (ordering_then (nat_cmp (degree n) (degree m)) (cmp_atoms m n)) (ordering_then (int_cmp c d) (cmp_polynomial p q))
+      ordering_then (ordering_then (nat_cmp (degree n) (degree m)) (cmp_atoms m n))
+      (ordering_then (int_cmp c d) (cmp_polynomial p q))
 
   -- write by write, each index before its value, a beginning of the other first
   pub cmp_writes : Writes → Writes → Ordering

@@ -1,6 +1,6 @@
 -- Raw sums: polynomials whose monomials stand in any order and may be repeated.
 use Rattle.std.specs.Prelude.{◌≡◌, ℕ, ◌+◌, ◌==◌, ℤ, pos, ◌+ℤ◌, ◌*ℤ◌, neg_ℤ, Bool, true, ◌&&◌, cond}
-use Rattle.nf_terms.specs.Terms.{Atom, Monomial, Polynomial, One, Times, Zero, Plus}
+use Rattle.nf_terms.specs.NormalTerms.{Atom, Monomial, Polynomial, One, Times, Zero, Plus}
 use Rattle.nf_terms.specs.Order.{same_atom}
 use Rattle.nf_terms.specs.Normal.{IsNormal}
 
@@ -19,14 +19,14 @@ abbrev pub raw_difference : Polynomial → Polynomial → Polynomial
 raw_difference p q = raw_sum p (raw_negation q)
 
 -- the atoms of both
-abbrev pub joined : Monomial → Monomial → Monomial
-joined One n = n
-joined (Times a m) n = Times a (joined m n)
+abbrev pub monomial_product : Monomial → Monomial → Monomial
+monomial_product One n = n
+monomial_product (Times a m) n = Times a (monomial_product m n)
 
 -- one monomial with its coefficient times each of a polynomial
 abbrev pub raw_multiple : Monomial → ℤ → Polynomial → Polynomial
 raw_multiple m c Zero = Zero
-raw_multiple m c (Plus n d q) = Plus (joined m n) (c *ℤ d) (raw_multiple m c q)
+raw_multiple m c (Plus n d q) = Plus (monomial_product m n) (c *ℤ d) (raw_multiple m c q)
 
 -- all pairwise products
 abbrev pub raw_product : Polynomial → Polynomial → Polynomial

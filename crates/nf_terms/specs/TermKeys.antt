@@ -4,12 +4,14 @@ use Rattle.std.proofs.lemmas.Bool.Decides.{nat_tests}
 use Rattle.std.specs.declared.cmp.Ordering.{Ordering}
 use Rattle.std.specs.declared.cmp.Ordering.TheVariants.{Less, Equal, Greater}
 use Rattle.std.specs.Ordering.{int_cmp, nat_cmp, ordering_then, ordering_reverse}
-use Rattle.nf_terms.specs.Terms.{Atom, Monomial, Polynomial, ArrayTerm, Writes, Symbol, Read, Quotient, Remainder, One, Times, Zero, Plus, Over, NoWrites, Write}
-use Rattle.nf_terms.specs.Order.{degree, cmp_side, cmp_pos, cmp_base, cmp_atom, cmp_atoms, cmp_monomial, cmp_polynomial, cmp_writes, cmp_array}
+use Rattle.nf_terms.specs.NormalTerms.{Atom, Monomial, Polynomial, ArrayTerm, Writes, Symbol, Read, Quotient, Remainder, One}
+use Rattle.nf_terms.specs.NormalTerms.{Times, Zero, Plus, Over, NoWrites, Write}
+use Rattle.nf_terms.specs.Order.{degree, cmp_side, cmp_pos, cmp_base, cmp_atom, cmp_atoms, cmp_monomial, cmp_polynomial}
+use Rattle.nf_terms.specs.Order.{cmp_writes, cmp_array}
 use Rattle.nf_terms.specs.Keys.{Key, Leaf, Node, cmp_key, key_ties, key_reverse, key_trans}
-use Rattle.nf_terms.specs.declared.tree.Side.{Side}
-use Rattle.nf_terms.specs.declared.tree.Side.TheVariants.{Left, Right}
-use Rattle.nf_terms.specs.declared.tree.Pos.{Pos}
+use Rattle.fs_model.specs.declared.sides.Side.{Side}
+use Rattle.fs_model.specs.declared.sides.Side.TheVariants.{Left, Right}
+use Rattle.fs_model.specs.declared.sides.Pos.{Pos}
 use Rattle.nf_terms.specs.declared.tree.Base.{Base}
 use Rattle.nf_terms.specs.declared.tree.Base.TheVariants as starts
 
@@ -66,7 +68,8 @@ inj_side Right Left e = cc
 inj_side Right Right e = refl
 
 pub inj_pos : (x y : Pos) → key_pos x ≡ key_pos y → x ≡ y
-inj_pos x y e = let es : x.side ≡ y.side = inj_side x.side y.side (cc) in let ev : x.var ≡ y.var = cc in (λ i. record { side = es i; var = ev i })
+inj_pos x y e = let es : x.side ≡ y.side = inj_side x.side y.side (cc) in let ev : x.var ≡ y.var = cc in
+    (λ i. record { side = es i; var = ev i })
 
 inj_base : (x y : Base) → key_base x ≡ key_base y → x ≡ y
 inj_base starts.Zero starts.Zero e = refl
@@ -81,35 +84,41 @@ mutual
   inj_atom (Symbol x0) (Quotient y0 y1) e = cc
   inj_atom (Symbol x0) (Remainder y0 y1) e = cc
   inj_atom (Read x0 x1) (Symbol y0) e = cc
-  inj_atom (Read x0 x1) (Read y0 y1) e = let e0 : x0 ≡ y0 = inj_array x0 y0 (cc) in let e1 : x1 ≡ y1 = inj_polynomial x1 y1 (cc) in cc
+  inj_atom (Read x0 x1) (Read y0 y1) e = let e0 : x0 ≡ y0 = inj_array x0 y0 (cc) in
+      let e1 : x1 ≡ y1 = inj_polynomial x1 y1 (cc) in cc
   inj_atom (Read x0 x1) (Quotient y0 y1) e = cc
   inj_atom (Read x0 x1) (Remainder y0 y1) e = cc
   inj_atom (Quotient x0 x1) (Symbol y0) e = cc
   inj_atom (Quotient x0 x1) (Read y0 y1) e = cc
-  inj_atom (Quotient x0 x1) (Quotient y0 y1) e = let e0 : x0 ≡ y0 = inj_polynomial x0 y0 (cc) in let e1 : x1 ≡ y1 = inj_polynomial x1 y1 (cc) in cc
+  inj_atom (Quotient x0 x1) (Quotient y0 y1) e = let e0 : x0 ≡ y0 = inj_polynomial x0 y0 (cc) in
+      let e1 : x1 ≡ y1 = inj_polynomial x1 y1 (cc) in cc
   inj_atom (Quotient x0 x1) (Remainder y0 y1) e = cc
   inj_atom (Remainder x0 x1) (Symbol y0) e = cc
   inj_atom (Remainder x0 x1) (Read y0 y1) e = cc
   inj_atom (Remainder x0 x1) (Quotient y0 y1) e = cc
-  inj_atom (Remainder x0 x1) (Remainder y0 y1) e = let e0 : x0 ≡ y0 = inj_polynomial x0 y0 (cc) in let e1 : x1 ≡ y1 = inj_polynomial x1 y1 (cc) in cc
+  inj_atom (Remainder x0 x1) (Remainder y0 y1) e = let e0 : x0 ≡ y0 = inj_polynomial x0 y0 (cc) in
+      let e1 : x1 ≡ y1 = inj_polynomial x1 y1 (cc) in cc
 
   pub inj_atoms : (x y : Monomial) → key_atoms x ≡ key_atoms y → x ≡ y
   inj_atoms One One e = refl
   inj_atoms One (Times y0 y1) e = cc
   inj_atoms (Times x0 x1) One e = cc
-  inj_atoms (Times x0 x1) (Times y0 y1) e = let e0 : x0 ≡ y0 = inj_atom x0 y0 (cc) in let e1 : x1 ≡ y1 = inj_atoms x1 y1 (cc) in cc
+  inj_atoms (Times x0 x1) (Times y0 y1) e = let e0 : x0 ≡ y0 = inj_atom x0 y0 (cc) in
+      let e1 : x1 ≡ y1 = inj_atoms x1 y1 (cc) in cc
 
   pub inj_polynomial : (x y : Polynomial) → key_polynomial x ≡ key_polynomial y → x ≡ y
   inj_polynomial Zero Zero e = refl
   inj_polynomial Zero (Plus y0 y1 y2) e = cc
   inj_polynomial (Plus x0 x1 x2) Zero e = cc
-  inj_polynomial (Plus x0 x1 x2) (Plus y0 y1 y2) e = let e0 : x0 ≡ y0 = inj_atoms x0 y0 (cc) in let e1 : x1 ≡ y1 = cc in let e2 : x2 ≡ y2 = inj_polynomial x2 y2 (cc) in cc
+  inj_polynomial (Plus x0 x1 x2) (Plus y0 y1 y2) e = let e0 : x0 ≡ y0 = inj_atoms x0 y0 (cc) in let e1 : x1 ≡ y1 = cc in
+      let e2 : x2 ≡ y2 = inj_polynomial x2 y2 (cc) in cc
 
   pub inj_writes : (x y : Writes) → key_writes x ≡ key_writes y → x ≡ y
   inj_writes NoWrites NoWrites e = refl
   inj_writes NoWrites (Write y0 y1 y2) e = cc
   inj_writes (Write x0 x1 x2) NoWrites e = cc
-  inj_writes (Write x0 x1 x2) (Write y0 y1 y2) e = let e0 : x0 ≡ y0 = inj_polynomial x0 y0 (cc) in let e1 : x1 ≡ y1 = inj_polynomial x1 y1 (cc) in let e2 : x2 ≡ y2 = inj_writes x2 y2 (cc) in cc
+  inj_writes (Write x0 x1 x2) (Write y0 y1 y2) e = let e0 : x0 ≡ y0 = inj_polynomial x0 y0 (cc) in
+      let e1 : x1 ≡ y1 = inj_polynomial x1 y1 (cc) in let e2 : x2 ≡ y2 = inj_writes x2 y2 (cc) in cc
 
   pub inj_array : (x y : ArrayTerm) → key_array x ≡ key_array y → x ≡ y
   inj_array (Over x0 x1) (Over y0 y1) e = let e0 : x0 ≡ y0 = inj_base x0 y0 (cc) in let e1 : x1 ≡ y1 = inj_writes x1 y1 (cc) in cc
@@ -173,7 +182,8 @@ mutual
   polynomial_by_key Zero (Plus n d q) = refl
   polynomial_by_key (Plus m c p) Zero = refl
   polynomial_by_key (Plus m c p) (Plus n d q) =
-      both (both (degree_by_key (degree m) (degree n)) (atoms_by_key m n)) (ap (ordering_then (int_cmp c d)) (polynomial_by_key p q))
+      both (both (degree_by_key (degree m) (degree n)) (atoms_by_key m n))
+      (ap (ordering_then (int_cmp c d)) (polynomial_by_key p q))
 
   pub writes_by_key : (x y : Writes) → cmp_writes x y ≡ cmp_key (key_writes x) (key_writes y)
   writes_by_key NoWrites NoWrites = refl
@@ -203,7 +213,9 @@ pub atom_same : (x y : Atom) → x ≡ y → cmp_atom x y ≡ Equal
 atom_same x y e = subst (λ z. cmp_atom x z ≡ Equal) e (atom_by_key x x ∙ own_key (key_atom x))
 
 pub monomial_ties : (x y : Monomial) → cmp_monomial x y ≡ Equal → x ≡ y
-monomial_ties x y e = inj_atoms x y (let k : key_monomial x ≡ key_monomial y = key_ties (key_monomial x) (key_monomial y) (sym (monomial_by_key x y) ∙ e) in cc)
+monomial_ties x y e =
+    inj_atoms x y
+    (let k : key_monomial x ≡ key_monomial y = key_ties (key_monomial x) (key_monomial y) (sym (monomial_by_key x y) ∙ e) in cc)
 
 pub monomial_same : (x y : Monomial) → x ≡ y → cmp_monomial x y ≡ Equal
 monomial_same x y e = subst (λ z. cmp_monomial x z ≡ Equal) e (monomial_by_key x x ∙ own_key (key_monomial x))
@@ -225,13 +237,16 @@ pub atom_reverse : (x y : Atom) → cmp_atom x y ≡ ordering_reverse (cmp_atom 
 atom_reverse x y = atom_by_key x y ∙ key_reverse (key_atom x) (key_atom y) ∙ ap ordering_reverse (sym (atom_by_key y x))
 
 pub atom_trans : (x y z : Atom) → cmp_atom x y ≡ Less → cmp_atom y z ≡ Less → cmp_atom x z ≡ Less
-atom_trans x y z p q = atom_by_key x z ∙ key_trans (key_atom x) (key_atom y) (key_atom z) (sym (atom_by_key x y) ∙ p) (sym (atom_by_key y z) ∙ q)
+atom_trans x y z p q = atom_by_key x z ∙ key_trans (key_atom x) (key_atom y) (key_atom z) (sym (atom_by_key x y) ∙ p)
+    (sym (atom_by_key y z) ∙ q)
 
 pub monomial_reverse : (x y : Monomial) → cmp_monomial x y ≡ ordering_reverse (cmp_monomial y x)
-monomial_reverse x y = monomial_by_key x y ∙ key_reverse (key_monomial x) (key_monomial y) ∙ ap ordering_reverse (sym (monomial_by_key y x))
+monomial_reverse x y = monomial_by_key x y ∙ key_reverse (key_monomial x) (key_monomial y)
+    ∙ ap ordering_reverse (sym (monomial_by_key y x))
 
 pub monomial_trans : (x y z : Monomial) → cmp_monomial x y ≡ Less → cmp_monomial y z ≡ Less → cmp_monomial x z ≡ Less
-monomial_trans x y z p q = monomial_by_key x z ∙ key_trans (key_monomial x) (key_monomial y) (key_monomial z) (sym (monomial_by_key x y) ∙ p) (sym (monomial_by_key y z) ∙ q)
+monomial_trans x y z p q = monomial_by_key x z
+    ∙ key_trans (key_monomial x) (key_monomial y) (key_monomial z) (sym (monomial_by_key x y) ∙ p) (sym (monomial_by_key y z) ∙ q)
 
 -- terms are the same exactly where they tie
 pub ruleset ties = (atom_ties, atom_same, monomial_ties, monomial_same, polynomial_ties, polynomial_same, array_ties, array_same)

@@ -1,6 +1,7 @@
 -- The term that a tree holds.
 use Rattle.std.specs.Prelude.{ℤ}
-use Rattle.nf_terms.specs.Terms.{Atom, Monomial, Polynomial, ArrayTerm, Symbol, Read, Quotient, Remainder, Over, monomial_of, polynomial_of, writes_of}
+use Rattle.nf_terms.specs.NormalTerms.{Atom, Monomial, Polynomial, ArrayTerm, Symbol, Read, Quotient, Remainder, Over}
+use Rattle.nf_terms.specs.NormalTerms.{monomial_of, polynomial_of, writes_of}
 use Rattle.nf_terms.specs.declared.tree.Atom.{Atom as AtomTree}
 use Rattle.nf_terms.specs.declared.tree.MonoTree.{MonoTree}
 use Rattle.nf_terms.specs.declared.tree.PolyTree.{PolyTree}

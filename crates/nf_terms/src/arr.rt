@@ -1,7 +1,7 @@
 //! Normal arrays.
 
 ghost use Rattle.std.specs.Prelude.{◌≡◌, map, IfOk, MatchOption};
-ghost use Rattle.nf_terms.specs.Terms.{Over, writes_of, writes_over, base_of, bare_array};
+ghost use Rattle.nf_terms.specs.NormalTerms.{writes_of, writes_over, base_of, bare_array};
 ghost use Rattle.nf_terms.specs.View.{array_in, write_in};
 ghost use Rattle.nf_terms.specs.Measures.{size_of_array, depth_of_array};
 ghost use Rattle.nf_terms.specs.Mentions.{mentions_array};
@@ -26,7 +26,7 @@ pub struct Arr {
 }
 
 impl Model for Arr {
-    ghost use Rattle.nf_terms.specs.Terms.{ArrayTerm};
+    ghost use Rattle.nf_terms.specs.NormalTerms.{ArrayTerm};
     ghost use Rattle.nf_terms.specs.Codes.{coded_array};
     ghost use Rattle.nf_terms.specs.View.{array_in};
     ghost use Rattle.nf_terms.specs.Normal.{IsNormalArray};

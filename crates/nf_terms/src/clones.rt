@@ -40,7 +40,7 @@ impl MonoTree {
     pub fn try_clone(&self, alloc: Global) -> Result<MonoTree, NoMemory>
         ensures { IfOk result (λ copy. monomial_in copy ≡ monomial_in self.now) }
     {
-        let mut atoms = Vec::new(alloc);
+        let mut atoms = Vec::with_capacity(alloc, self.atoms.len())?;
         for atom in &self.atoms {
             atoms.push(atom.try_clone(alloc)?)?;
         }
@@ -54,7 +54,7 @@ impl PolyTree {
     pub fn try_clone(&self, alloc: Global) -> Result<PolyTree, NoMemory>
         ensures { IfOk result (λ copy. polynomial_in copy ≡ polynomial_in self.now) }
     {
-        let mut monos = Vec::new(alloc);
+        let mut monos = Vec::with_capacity(alloc, self.monos.len())?;
         for (mono, coefficient) in &self.monos {
             monos.push((mono.try_clone(alloc)?, *coefficient))?;
         }
@@ -68,7 +68,7 @@ impl ArrTree {
     pub fn try_clone(&self, alloc: Global) -> Result<ArrTree, NoMemory>
         ensures { IfOk result (λ copy. array_in copy ≡ array_in self.now) }
     {
-        let mut writes = Vec::new(alloc);
+        let mut writes = Vec::with_capacity(alloc, self.writes.len())?;
         for (index, value) in &self.writes {
             writes.push((index.try_clone(alloc)?, value.try_clone(alloc)?))?;
         }

@@ -1,7 +1,7 @@
 //! Sums with other coefficients.
 
 ghost use Rattle.std.specs.Prelude.{◌≡◌, ◌++◌, ◌∷◌, [], ℤ, map, IfOk, OnOk};
-ghost use Rattle.nf_terms.specs.Terms.{polynomial_of};
+ghost use Rattle.nf_terms.specs.NormalTerms.{polynomial_of};
 ghost use Rattle.nf_terms.specs.View.{monomial_in, term_in};
 ghost use Rattle.nf_terms.specs.Normal.{IsNormal, part_with_atoms as with_atoms_only};
 ghost use Rattle.nf_terms.specs.Reduced.{with_coefficients as changed_sum, AllowsChange};
@@ -68,7 +68,9 @@ fn push_changed<C: Change>(
     change: &C,
 ) -> Result<(), NoMemory>
     requires { C.may_change change.now coefficient.now }
-    ensures { OnOk result (map term_in out.new.items ≡ map term_in out.old.items ++ (monomial_in mono.now, C.changed change.now coefficient.now) ∷ []) }
+    ensures { OnOk result
+        (map term_in out.new.items ≡ map term_in out.old.items
+        ++ (monomial_in mono.now, C.changed change.now coefficient.now) ∷ []) }
 {
     let other = change.change(coefficient);
     push_term(out, mono.try_clone(alloc)?, &other)
@@ -81,7 +83,8 @@ fn copy_changed<C: Change>(
     change: &C,
 ) -> Result<Vec<(MonoTree, i128)>, NoMemory>
     requires { AllowsChange (C.may_change change.now) (C.changed change.now) (polynomial_of (map term_in terms.now)) }
-    ensures { IfOk result (λ v. polynomial_of (map term_in v.items) ≡ changed_sum (C.changed change.now) (polynomial_of (map term_in terms.now))) }
+    ensures { IfOk result
+        (λ v. polynomial_of (map term_in v.items) ≡ changed_sum (C.changed change.now) (polynomial_of (map term_in terms.now))) }
 {
     let mut out = Vec::new(alloc);
     for (mono, coefficient) in terms {

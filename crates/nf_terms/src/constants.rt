@@ -1,9 +1,10 @@
 //! The constant part of a polynomial, and what stands beside it.
 
 ghost use Rattle.std.specs.Prelude.{◌≡◌, map, true};
-ghost use Rattle.nf_terms.specs.Terms.{polynomial_of};
+ghost use Rattle.nf_terms.specs.NormalTerms.{polynomial_of};
 ghost use Rattle.nf_terms.specs.View.{monomial_in, polynomial_in, term_in};
-ghost use Rattle.nf_terms.specs.Normal.{has_atoms as with_atoms, begins_with_atoms, part_with_atoms, constant_part as constant_of, is_constant as constant, differ_by_constant};
+ghost use Rattle.nf_terms.specs.Normal.{has_atoms as with_atoms, begins_with_atoms, part_with_atoms};
+ghost use Rattle.nf_terms.specs.Normal.{constant_part as constant_of, is_constant as constant, differ_by_constant};
 
 use crate::order::compare_monos;
 use crate::tree::{MonoTree, PolyTree};
@@ -46,7 +47,8 @@ pub fn constant_part(poly: &PolyTree) -> i128
 /// The monomials from the first one with atoms.
 #[tactic(auto, using(crate::proofs::Steps::constants))]
 fn skip_constants(terms: &[(MonoTree, i128)]) -> &[(MonoTree, i128)]
-    ensures same { part_with_atoms (polynomial_of (map term_in result.now)) ≡ part_with_atoms (polynomial_of (map term_in terms.now)) }
+    ensures same { part_with_atoms (polynomial_of (map term_in result.now))
+        ≡ part_with_atoms (polynomial_of (map term_in terms.now)) }
     ensures begins { begins_with_atoms (polynomial_of (map term_in result.now)) ≡ true }
 {
     for (place, (mono, _coefficient)) in terms.iter().enumerate() {

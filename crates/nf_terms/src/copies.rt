@@ -41,7 +41,8 @@ pub fn push_term_copy(
     mono: &MonoTree,
     coefficient: &i128,
 ) -> Result<(), NoMemory>
-    ensures { OnOk result (map term_in out.new.items ≡ map term_in out.old.items ++ (monomial_in mono.now, coefficient.now) ∷ []) }
+    ensures { OnOk result
+        (map term_in out.new.items ≡ map term_in out.old.items ++ (monomial_in mono.now, coefficient.now) ∷ []) }
 {
     push_term(out, mono.try_clone(alloc)?, coefficient)
 }

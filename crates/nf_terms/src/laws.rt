@@ -3,15 +3,16 @@
 ghost use Rattle.std.specs.Prelude.{◌≡◌, ◌+ℤ◌};
 ghost use Rattle.std.specs.declared.cmp.Ordering.TheVariants.{Equal};
 ghost use Rattle.std.specs.Cmp.{IsTotalOrder};
-ghost use Rattle.nf_terms.specs.Terms.{Atom as AtomTerm, Monomial, Polynomial, ArrayTerm, Writes, Over, polynomial_of_number};
+ghost use Rattle.nf_terms.specs.NormalTerms.{Atom as AtomTerm, Monomial, Polynomial, ArrayTerm, Writes, Over};
+ghost use Rattle.nf_terms.specs.NormalTerms.{polynomial_of_number};
 ghost use Rattle.nf_terms.specs.Lists.{ListTerm, cmp_list};
 ghost use Rattle.nf_terms.specs.Order.{cmp_atom, cmp_monomial, cmp_polynomial, cmp_array};
-ghost use Rattle.nf_terms.specs.Meaning.{Valuation, value_of, contents, items_in};
+ghost use Rattle.nf_terms.specs.TermMeaning.{Valuation, value_of, contents, items_in};
 ghost use Rattle.nf_terms.specs.Mentions.{mentions, mentions_array};
 ghost use Rattle.nf_terms.specs.Lists.{mentions_list};
-ghost use Rattle.nf_terms.specs.Agreement.{AgreeOn};
+ghost use Rattle.nf_terms.specs.ValuationAgreement.{AgreeOn};
 ghost use Rattle.nf_terms.specs.Normal.{IsNormal, IsNormalArray, part_with_atoms, constant_part};
-ghost use Rattle.nf_terms.specs.Parts.{MonomialsHaveNormalParts, WritesAreNormal};
+ghost use Rattle.nf_terms.specs.TermParts.{MonomialsHaveNormalParts, WritesAreNormal};
 ghost use Rattle.nf_terms.specs.RawSums.{raw_sum};
 ghost use Rattle.nf_terms.specs.Reduced.{Reduces};
 ghost use Rattle.nf_terms.specs.declared.tree.Base.{Base as ArrayBase};
@@ -55,7 +56,8 @@ pub fn parts_are_normal()
 #[tactic(auto, using(crate::proofs::Partings::partings))]
 pub fn sums_have_a_constant_part()
     ensures terms { (p : Polynomial) → IsNormal p → p ≡ raw_sum (part_with_atoms p) (polynomial_of_number (constant_part p)) }
-    ensures values { (w : Valuation) (p : Polynomial) → IsNormal p → value_of w p ≡ value_of w (part_with_atoms p) +ℤ constant_part p }
+    ensures values { (w : Valuation) (p : Polynomial) → IsNormal p
+        → value_of w p ≡ value_of w (part_with_atoms p) +ℤ constant_part p }
 {}
 
 /// A normal sum with fewer monomials, or with other coefficients that are not 0 and no larger, is normal.

@@ -2,7 +2,10 @@
 
 ghost use Rattle.std.specs.Prelude.{◌≡◌, ◌-◌, ◌^◌, min};
 ghost use Rattle.nf_terms.specs.View.{atom_in, monomial_in, polynomial_in, array_in};
-ghost use Rattle.nf_terms.specs.Measures.{size_of_atom as atom_size, size_of_monomial as monomial_size, size_of as polynomial_size, size_of_array as array_size, depth_of_atom as atom_depth, depth_of_monomial as monomial_depth, depth_of as polynomial_depth, depth_of_array as array_depth, weight_of as polynomial_weight};
+ghost use Rattle.nf_terms.specs.Measures.{size_of_atom as atom_size, size_of_monomial as monomial_size};
+ghost use Rattle.nf_terms.specs.Measures.{size_of as polynomial_size, size_of_array as array_size, depth_of_atom as atom_depth};
+ghost use Rattle.nf_terms.specs.Measures.{depth_of_monomial as monomial_depth, depth_of as polynomial_depth};
+ghost use Rattle.nf_terms.specs.Measures.{depth_of_array as array_depth, weight_of as polynomial_weight};
 
 use crate::tree::{ArrTree, Atom, MonoTree, PolyTree};
 

@@ -2,7 +2,8 @@
 
 ghost use Rattle.std.specs.Prelude.{◌≡◌};
 ghost use Rattle.nf_terms.specs.View.{atom_in, monomial_in, polynomial_in, array_in};
-ghost use Rattle.nf_terms.specs.Order.{cmp_side, cmp_pos, cmp_base, cmp_atom, cmp_monomial, cmp_polynomial, cmp_array, same_atom, same_polynomial};
+ghost use Rattle.nf_terms.specs.Order.{cmp_side, cmp_pos, cmp_base, cmp_atom, cmp_monomial, cmp_polynomial, cmp_array, same_atom};
+ghost use Rattle.nf_terms.specs.Order.{same_polynomial};
 
 use crate::tree::{ArrTree, Atom, Base, MonoTree, PolyTree, Pos, Side};
 use std::cmp::Ordering;

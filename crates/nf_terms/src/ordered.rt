@@ -1,9 +1,10 @@
 //! Whether a tree is in order: whether it is normal, but for its limits.
 
 ghost use Rattle.std.specs.Prelude.{◌≡◌, map};
-ghost use Rattle.nf_terms.specs.Terms.{writes_of};
+ghost use Rattle.nf_terms.specs.NormalTerms.{writes_of};
 ghost use Rattle.nf_terms.specs.View.{atom_in, monomial_in, polynomial_in, array_in, write_in};
-ghost use Rattle.nf_terms.specs.Normal.{is_written as written, write_rises as rises, stays_read as stays, ordered_atom, ordered_monomial, ordered, ordered_array};
+ghost use Rattle.nf_terms.specs.Normal.{is_written as written, write_rises as rises, stays_read as stays, ordered_atom};
+ghost use Rattle.nf_terms.specs.Normal.{ordered_monomial, ordered, ordered_array};
 
 use crate::constants::{constant_part, differs_by_constant, is_constant};
 use crate::order::{compare_atoms, compare_monos, compare_polys};

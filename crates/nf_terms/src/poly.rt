@@ -1,7 +1,7 @@
 //! Normal polynomials.
 
 ghost use Rattle.std.specs.Prelude.{◌≡◌, ◌≢◌, ◌^◌, pos, neg_ℤ, map, IfOk, MatchOption};
-ghost use Rattle.nf_terms.specs.Terms.{polynomial_of, polynomial_of_symbol, polynomial_of_number};
+ghost use Rattle.nf_terms.specs.NormalTerms.{polynomial_of, polynomial_of_symbol, polynomial_of_number};
 ghost use Rattle.nf_terms.specs.View.{polynomial_in, term_in};
 ghost use Rattle.nf_terms.specs.Measures.{size_of, depth_of, weight_of};
 ghost use Rattle.nf_terms.specs.Mentions.{mentions as mentions_of};
@@ -26,7 +26,7 @@ pub struct Poly {
 }
 
 impl Model for Poly {
-    ghost use Rattle.nf_terms.specs.Terms.{Polynomial};
+    ghost use Rattle.nf_terms.specs.NormalTerms.{Polynomial};
     ghost use Rattle.nf_terms.specs.Codes.{coded_polynomial};
     ghost use Rattle.nf_terms.specs.View.{polynomial_in};
     ghost use Rattle.nf_terms.specs.Normal.{IsNormal};

@@ -1,8 +1,8 @@
 //! Normal lists.
 
-ghost use Rattle.std.specs.Prelude.{◌≡◌, ◌+◌, ◌-◌, ◌^◌, ◌≤◌, min, IfOk, OnOk, MatchOption, ◌++◌};
-ghost use Rattle.nf_terms.specs.Limits.{size_limit, depth_limit};
-ghost use Rattle.nf_terms.specs.Lists.{bare_list, size_of_items, size_of_list, depth_of_items, depth_of_list, mentions_items, mentions_list_base, mentions_list, cmp_list_base, cmp_items, AreNormal, IsNormalList};
+ghost use Rattle.std.specs.Prelude.{◌≡◌, ◌+◌, ◌-◌, ◌^◌, min, IfOk, OnOk, MatchOption, ◌++◌};
+ghost use Rattle.nf_terms.specs.Lists.{bare_list, size_of_items, size_of_list, depth_of_items, depth_of_list, mentions_items};
+ghost use Rattle.nf_terms.specs.Lists.{mentions_list_base, mentions_list, cmp_list_base, cmp_items, AreNormalItems, IsNormalList};
 ghost use Rattle.nf_terms.specs.Symbols.{symbols_of_list_base, symbols_of_items, symbols_of_list};
 
 use crate::limits::{DEPTH_LIMIT, SIZE_LIMIT};
@@ -60,7 +60,7 @@ fn depth_of(items: &[Poly]) -> u32
 // Items are normal.
 #[tactic(auto, using(crate::proofs::Items::one_more))]
 fn see_normal(items: &[Poly])
-    ensures { AreNormal items.now }
+    ensures { AreNormalItems items.now }
 {
     for item in items {
         let _ = item.size();
@@ -71,7 +71,7 @@ fn see_normal(items: &[Poly])
 fn copied(alloc: Global, items: &[Poly]) -> Result<Vec<Poly>, NoMemory>
     ensures { IfOk result (λ v. v.items ≡ items.now) }
 {
-    let mut out = Vec::new(alloc);
+    let mut out = Vec::with_capacity(alloc, items.len())?;
     for item in items {
         out.push(item.try_clone(alloc)?)?;
     }
@@ -164,7 +164,8 @@ impl Seq {
     ///
     /// `None` comes exactly where the list is past a limit of size or depth.
     pub fn of(base: SeqBase, items: Vec<Poly>) -> Option<Seq>
-        ensures { MatchOption result (¬ IsNormalList (record { base = base; items = items.items })) (λ s. s ≡ record { base = base; items = items.items }) }
+        ensures { MatchOption result (¬ IsNormalList (record { base = base; items = items.items }))
+            (λ s. s ≡ record { base = base; items = items.items }) }
     {
         see_normal(&items);
         if size_of(&items) <= SIZE_LIMIT && depth_of(&items) <= DEPTH_LIMIT {

@@ -6,7 +6,7 @@ ghost use Rattle.nf_terms.specs.declared.stop.NfStop.TheVariants.{NoMemory as Ou
 use std::alloc::{AllocError, AllocFailed};
 
 /// Memory was refused.
-#[derive(Clone, Copy, Debug, PartialEq, Eq)]
+#[derive(Clone, Copy, Debug)]
 pub struct NoMemory;
 
 /// Why an operation on normal forms gives none.
@@ -14,7 +14,8 @@ pub struct NoMemory;
 pub enum NfStop {
     /// The operation's weight is past 2^127 - 1: the weights of its two sides.
     Wide { left: u128, right: u128 },
-    /// The result's size is past 4,096 or its depth past 64: the raw size, and the depth where the size is within the limit, else 0.
+    /// The result's size is past 4,096 or its depth past 64: the raw size, and the depth where the size is within the limit, else
+    /// 0.
     Large { units: u64, depth: u32 },
     /// Memory was refused.
     NoMemory,

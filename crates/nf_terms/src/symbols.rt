@@ -8,7 +8,7 @@ use crate::stop::NoMemory;
 use crate::tree::{ArrTree, Atom, Base, MonoTree, PolyTree, Pos};
 
 /// In which sort a symbol is used.
-#[derive(Clone, Copy, Debug, PartialEq, Eq, Hash)]
+#[derive(Clone, Copy, PartialEq, Eq, Hash)]
 pub enum Sort {
     Scalar,
     Array,

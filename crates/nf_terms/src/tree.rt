@@ -1,28 +1,16 @@
 //! Trees of terms, which need not be normal.
 
-/// One of the two sides.
-#[derive(Clone, Copy, Debug, PartialEq, Eq, PartialOrd, Ord, Hash, Drop)]
-pub enum Side {
-    Left,
-    Right,
-}
-
-/// A position: a variable of a side, by its number.
-#[derive(Clone, Copy, Debug, PartialEq, Eq, PartialOrd, Ord, Hash)]
-pub struct Pos {
-    pub side: Side,
-    pub var: u32,
-}
+pub use fs_model::sides::{Pos, Side};
 
 /// What the writes of an array begin from: 0 everywhere, or a symbol.
-#[derive(Clone, Copy, Debug, PartialEq, Eq, PartialOrd, Ord, Hash)]
+#[derive(Clone, Copy, PartialEq, Eq, Hash)]
 pub enum Base {
     Zero,
     Sym(Pos),
 }
 
 /// What the items of a list stand behind: nothing, or a symbol.
-#[derive(Clone, Copy, Debug, PartialEq, Eq, Hash)]
+#[derive(Clone, Copy, PartialEq, Eq, Hash)]
 pub enum SeqBase {
     Empty,
     Sym(Pos),

@@ -1,64 +1,40 @@
 -- What of a fact a post entails is true of what its vector means.
-use Rattle.std.proofs.Common.{◌≡◌, ℤ, cond, Bool, true, false, refl, ap, ap₂, sym, ◌∙◌, List, Option, Some, None}
-use Rattle.std.specs.Prelude.{nat_le, unsigned_abs}
-use Rattle.std.specs.declared.cmp.Ordering.{Ordering}
-use Rattle.std.specs.declared.cmp.Ordering.TheVariants.{Less, Equal, Greater}
-use Rattle.std.specs.Ordering.{is_eq}
+use Rattle.std.proofs.Common.{◌≡◌, Bool, true, ap, ap₂, sym, ◌∙◌, List, Option, Some, None}
+use Rattle.base_lemmas.proofs.Orderings.{is_eq-true}
 use Rattle.fs_model.specs.Meaning.{relates}
-use Rattle.nf_terms.specs.Limits.{weight_limit}
-use Rattle.nf_terms.specs.Terms.{Polynomial, polynomial_of_number}
 use Rattle.nf_terms.specs.Order.{cmp_polynomial, cmp_array}
 use Rattle.nf_terms.specs.Lists.{cmp_list}
 use Rattle.nf_terms.specs.TermKeys.{polynomial_ties, array_ties}
 use Rattle.nf_terms.specs.ListComparison.{list_ties}
 use Rattle.nf_terms.specs.Forms.{same_form}
-use Rattle.nf_terms.specs.Meaning.{Valuation, value_of, contents, items_in}
-use Rattle.nf_terms.specs.Computed.{Computed, Done, Wide, after}
-use Rattle.nf_terms.specs.declared.tree.Pos.{Pos}
+use Rattle.nf_terms.specs.TermMeaning.{Valuation, value_of, contents, items_in}
+use Rattle.nf_terms.specs.Computed.{Done, after}
+use Rattle.fs_model.specs.declared.sides.Pos.{Pos}
 use Rattle.nf_terms.specs.declared.form.Nf.{Nf}
 use Rattle.nf_terms.specs.declared.form.Nf.TheVariants.{Num, Arr, Seq}
 use Rattle.nf_sums.specs.Operations.{number}
-use Rattle.nf_sums.proofs.Values.{goes_done, number_value}
-use Rattle.nf_subst.specs.Vectors.{number_at, array_at, list_at, meaning}
+use Rattle.nf_sums.proofs.Values.{goes_done}
+use Rattle.nf_subst.specs.Vectors.{number_at, array_form, list_at, meaning}
 use Rattle.nf_subst.specs.Substitution.{substituted, array_substituted, list_substituted}
-use Rattle.nf_subst.proofs.Values.{substituted_value, array_value, list_value}
-use Rattle.nf_rel.specs.declared.kind.Kind.{Kind}
-use Rattle.nf_rel.specs.declared.kind.Kind.TheVariants.{Ge, Le, Eq, Ne}
-use Rattle.nf_rel.specs.Literals.{NormalLiteral, True, False, Is, meets, is_true_in, all_true_in, literal, is_implied}
+use Rattle.nf_subst.proofs.Values.{substituted_value, array_value, list_value, number_is}
+use Rattle.nf_rel.specs.Literals.{NormalLiteral, True, False, Is, is_true_in, all_true_in, literal, is_implied}
 use Rattle.nf_rel.proofs.Values.{literal_means}
 use Rattle.nf_rel.proofs.Truth.{implied_true}
 use Rattle.sym_paths.specs.Execution.{Post}
 use Rattle.sym_facts.specs.Facts.{EquationHolds}
 use Rattle.sym_facts.specs.Entailment.{form_substituted, form_like, equation_met, relation_of, literal_substituted, literal_met}
-
-tie : (r : Ordering) → is_eq r ≡ true → r ≡ Equal
-tie Less e = absurd (cc e)
-tie Equal e = refl
-tie Greater e = absurd (cc e)
+use Rattle.sym_facts.proofs.Entailing.{related}
 
 pub forms_equal : (f g : Nf) → same_form f g ≡ true → f ≡ g
-forms_equal (Num p) (Num q) e = ap Num (polynomial_ties p q (tie (cmp_polynomial p q) e))
+forms_equal (Num p) (Num q) e = ap Num (polynomial_ties p q (is_eq-true (cmp_polynomial p q) e))
 forms_equal (Num p) (Arr b) e = absurd (cc e)
 forms_equal (Num p) (Seq m) e = absurd (cc e)
 forms_equal (Arr a) (Num q) e = absurd (cc e)
-forms_equal (Arr a) (Arr b) e = ap Arr (array_ties a b (tie (cmp_array a b) e))
+forms_equal (Arr a) (Arr b) e = ap Arr (array_ties a b (is_eq-true (cmp_array a b) e))
 forms_equal (Arr a) (Seq m) e = absurd (cc e)
 forms_equal (Seq l) (Num q) e = absurd (cc e)
 forms_equal (Seq l) (Arr b) e = absurd (cc e)
-forms_equal (Seq l) (Seq m) e = ap Seq (list_ties l m (tie (cmp_list l m) e))
-
-number_is : (w : Valuation) (c : ℤ) (r : Polynomial) → number c ≡ Done r → value_of w r ≡ c
-number_is w c r e = by_test (nat_le (unsigned_abs c) weight_limit) e
-  where
-    by_test : (t : Bool) → cond {A = Computed Polynomial} t (Done (polynomial_of_number c)) (Wide (unsigned_abs c) 0) ≡ Done r → value_of w r ≡ c
-    by_test true g = let k : polynomial_of_number c ≡ r = cc g in sym (ap (value_of w) k) ∙ number_value w c
-    by_test false g = absurd (cc g)
-
-related : (k : Kind) (v b : ℤ) → relates (relation_of k) v b ≡ meets k v b
-related Ge v b = refl
-related Le v b = refl
-related Eq v b = refl
-related Ne v b = refl
+forms_equal (Seq l) (Seq m) e = ap Seq (list_ties l m (is_eq-true (cmp_list l m) e))
 
 module _ (w : Valuation) (v : List (Pos × Nf)) where
   -- a position that has what its equation's form gives, substituted
@@ -72,8 +48,8 @@ module _ (w : Valuation) (v : List (Pos × Nf)) where
   arriving_holds p (Arr a) g e h =
       let s = goes_done (array_substituted v a) (λ b. Done (Arr b)) g e in
       let i : Arr s.middle ≡ g = cc s.next in
-      let k : Arr (array_at v p) ≡ Arr s.middle = h ∙ sym i in
-      let j : array_at v p ≡ s.middle = cc k in
+      let k : Arr (array_form v p) ≡ Arr s.middle = h ∙ sym i in
+      let j : array_form v p ≡ s.middle = cc k in
       ap (contents w) j ∙ array_value w v a s.middle s.first
   arriving_holds p (Seq l) g e h =
       let s = goes_done (list_substituted v l) (λ m. Done (Seq m)) g e in
@@ -99,7 +75,8 @@ module _ (w : Valuation) (v : List (Pos × Nf)) where
       ∙ ap₂ (relates (relation_of k)) (substituted_value w v d s.middle s.first) (number_is w b t.middle t.first)
       ∙ related k (value_of (meaning v w) d) b
 
-pub one_literal_true : (w : Valuation) (post : Post) (l : NormalLiteral) (b : Bool) → all_true_in w post.conditions ≡ true → literal_met post l ≡ Done b → b ≡ true → is_true_in (meaning post.vector w) l ≡ true
+pub one_literal_true : (w : Valuation) (post : Post) (l : NormalLiteral) (b : Bool) → all_true_in w post.conditions ≡ true → literal_met post l ≡ Done b
+    → b ≡ true → is_true_in (meaning post.vector w) l ≡ true
 one_literal_true w post l b c e h =
     let u = goes_done (literal_substituted post.vector l) (λ m. Done (is_implied post.conditions m)) b e in
     let i : is_implied post.conditions u.middle ≡ true = (let z : is_implied post.conditions u.middle ≡ b = cc u.next in z ∙ h) in

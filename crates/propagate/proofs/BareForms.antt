@@ -1,6 +1,6 @@
 -- What is longer than a symbol is no symbol alone.
 use Rattle.std.proofs.Common.{◌≡◌, ◌≤◌, refl, arith, ℤ, List, [], ◌∷◌, length, map, None}
-use Rattle.nf_terms.specs.Terms.{ArrayTerm, Over, NoWrites, Write, monomial_of, polynomial_of, writes_of, writes_over}
+use Rattle.nf_terms.specs.NormalTerms.{ArrayTerm, Over, NoWrites, Write, monomial_of, polynomial_of, writes_of, writes_over}
 use Rattle.nf_terms.specs.View.{atom_in, term_in, write_in}
 use Rattle.nf_terms.specs.declared.tree.Atom.{Atom}
 use Rattle.nf_terms.specs.declared.tree.MonoTree.{MonoTree}

@@ -1,8 +1,9 @@
 -- The literals that a rebased fact keeps may be kept.
 use Rattle.std.proofs.Common.{◌≡◌, ℕ, zero, suc, Bool, true, false, cond, refl, ap, List, [], ◌∷◌, ◌++◌, map, take}
-use Rattle.std.specs.Prelude.{not, ◌||◌}
+use Rattle.std.specs.Prelude.{not}
 use Rattle.std.specs.List.{list_all, list_any}
-use Rattle.nf_terms.proofs.Tests.{and_left, and_right, and_both}
+use Rattle.std.proofs.lemmas.Bool.{and_from}
+use Rattle.base_lemmas.proofs.Booleans.{and_first, and_second, neither_first}
 use Rattle.nf_rel.specs.Literals.{NormalLiteral, True}
 use Rattle.nf_rel.specs.NormalLiterals.{is_normal_literal, same_literal}
 use Rattle.nf_rel.specs.View.{literal_in}
@@ -11,19 +12,19 @@ use Rattle.sym_facts.specs.Facts.{may_be_kept, most_literals}
 use Rattle.propagate.specs.Rebases.{is_needless, with_needed}
 use Rattle.propagate.proofs.Rebased.{last_passes, taken_pass}
 
-neither : (a b : Bool) → a || b ≡ false → a ≡ false
-neither true b h = absurd (cc h)
-neither false b h = refl
-
-needed_kept : (before ls : List NormalLiteral) → list_all may_be_kept before ≡ true → list_all is_normal_literal ls ≡ true → list_all may_be_kept (with_needed before ls) ≡ true
+needed_kept : (before ls : List NormalLiteral) → list_all may_be_kept before ≡ true → list_all is_normal_literal ls ≡ true
+    → list_all may_be_kept (with_needed before ls) ≡ true
 needed_kept before [] h g = h
 needed_kept before (l ∷ ls) h g =
-    needed_kept (cond (is_needless before l) before (before ++ l ∷ [])) ls (by_test (is_needless before l) refl) (and_right (is_normal_literal l) (list_all is_normal_literal ls) g)
+    needed_kept (cond (is_needless before l) before (before ++ l ∷ [])) ls (by_test (is_needless before l) refl)
+    (and_second (is_normal_literal l) (list_all is_normal_literal ls) g)
   where
     by_test : (b : Bool) → is_needless before l ≡ b → list_all may_be_kept (cond b before (before ++ l ∷ [])) ≡ true
     by_test true e = h
     by_test false e =
-        last_passes may_be_kept before l h (and_both (not (same_literal l True)) (is_normal_literal l) (ap not (neither (same_literal l True) (list_any (same_literal l) before) e)) (and_left (is_normal_literal l) (list_all is_normal_literal ls) g))
+        last_passes may_be_kept before l h
+        (and_from (not (same_literal l True)) (is_normal_literal l) (ap not (neither_first (same_literal l True) (list_any (same_literal l) before) e))
+        (and_first (is_normal_literal l) (list_all is_normal_literal ls) g))
 
 pub first_kept : (ls : List NormalLiteral) → list_all is_normal_literal ls ≡ true → list_all may_be_kept (take most_literals (with_needed [] ls)) ≡ true
 first_kept ls h = taken_pass may_be_kept most_literals (with_needed [] ls) (needed_kept [] ls refl h)

@@ -4,15 +4,15 @@ use Rattle.std.specs.List.{list_all}
 use Rattle.fs_pair.specs.declared.positions.Position.{Position}
 use Rattle.fs_pair.specs.Paired.{IsPairing}
 use Rattle.nf_terms.specs.Computed.{Computed, Done, after}
-use Rattle.nf_terms.specs.declared.tree.Pos.{Pos}
+use Rattle.fs_model.specs.declared.sides.Pos.{Pos}
 use Rattle.nf_terms.specs.declared.form.Nf.{Nf}
 use Rattle.nf_rel.specs.Literals.{NormalLiteral}
 use Rattle.sym_paths.specs.Execution.{Post}
 use Rattle.sym_facts.specs.Facts.{FactPosition, Fact, may_be_kept}
-use Rattle.sym_facts.specs.Parts.{IsKept}
+use Rattle.sym_facts.specs.FactParts.{IsKept}
 use Rattle.propagate.specs.declared.rebases.Marked.{Marked}
-use Rattle.propagate.specs.Rebases.{Held, rebase}
-use Rattle.propagate.specs.RebaseSteps.{first_from, second_from, third_from, conditions_kept, rebased_by}
+use Rattle.propagate.specs.Rebases.{RebaseState, rebase}
+use Rattle.propagate.specs.RebaseSteps.{first_pass_from, second_from, third_from, conditions_kept, rebased_by}
 use Rattle.propagate.proofs.RebaseTurns.{rebase_in_turn}
 use Rattle.propagate.proofs.Paired.{rebase_paired}
 use Rattle.propagate.proofs.Solved.{rebase_solved}
@@ -30,10 +30,10 @@ module _ (post : Post) (ps : List Position) where
   abbrev with_literals : List (Pos × Nf) → List FactPosition → Computed Fact
   with_literals ms qs = after (conditions_kept ms post.conditions) (λ ls. made qs ls)
 
-  abbrev with_positions : Held → Computed Fact
+  abbrev with_positions : RebaseState → Computed Fact
   with_positions h = after (third_from post.vector h.meanings ps h.free []) (λ qs. with_literals h.meanings qs)
 
-  abbrev second_of : List Marked → List (Pos × Nf) → Computed Held
+  abbrev second_of : List Marked → List (Pos × Nf) → Computed RebaseState
   second_of xs ms = second_from post.vector (map (λ m. m.position) xs) (map (λ m. m.is_free) xs) ms
 
   abbrev third_of : List Marked → List (Pos × Nf) → Computed (List FactPosition)
@@ -49,17 +49,21 @@ module _ (post : Post) (ps : List Position) where
   AfterThird qs ms ls = after (conditions_kept ms ls) (λ ks. made qs ks) ≡ rebase post ps
 
   pub first_done : (given : List Position) (none ms : List (Pos × Nf)) (xs : List Marked) → given ≡ ps → none ≡ [] → map (λ m. m.position) xs ≡ given
-      → first_from post.vector given none ≡ record { free = map (λ m. m.is_free) xs; meanings = ms } → AfterFirst xs ms
+      → first_pass_from post.vector given none ≡ record { free = map (λ m. m.is_free) xs; meanings = ms } → AfterFirst xs ms
   first_done given none ms xs g n p e =
       ap (λ qs. after (second_from post.vector qs (map (λ m. m.is_free) xs) ms) (λ h. with_positions h)) (p ∙ g)
-      ∙ ap (rebased_by post ps) (sym e ∙ ap (λ qs. first_from post.vector qs none) g ∙ ap (first_from post.vector ps) n) ∙ rebase_in_turn post ps
+      ∙ ap (rebased_by post ps) (sym e ∙ ap (λ qs. first_pass_from post.vector qs none) g ∙ ap (first_pass_from post.vector ps) n) ∙ rebase_in_turn post ps
 
-  pub second_done : (ms ns : List (Pos × Nf)) (xs ys : List Marked) → AfterFirst xs ms → map (λ m. m.position) ys ≡ ps → second_of xs ms ≡ Done (record { free = map (λ m. m.is_free) ys; meanings = ns }) → AfterSecond ys ns
+  pub second_done : (ms ns : List (Pos × Nf)) (xs ys : List Marked) → AfterFirst xs ms → map (λ m. m.position) ys ≡ ps
+      → second_of xs ms ≡ Done (record { free = map (λ m. m.is_free) ys; meanings = ns }) → AfterSecond ys ns
   second_done ms ns xs ys a p e =
-      ap (λ qs. after (third_from post.vector ns qs (map (λ m. m.is_free) ys) []) (λ rs. with_literals ns rs)) p ∙ ap (λ c. after c (λ h. with_positions h)) (sym e) ∙ a
+      ap (λ qs. after (third_from post.vector ns qs (map (λ m. m.is_free) ys) []) (λ rs. with_literals ns rs)) p
+      ∙ ap (λ c. after c (λ h. with_positions h)) (sym e) ∙ a
 
-  pub third_done : (ms : List (Pos × Nf)) (xs : List Marked) (qs : List FactPosition) (ls : List NormalLiteral) → AfterSecond xs ms → third_of xs ms ≡ Done qs → ls ≡ post.conditions → AfterThird qs ms ls
+  pub third_done : (ms : List (Pos × Nf)) (xs : List Marked) (qs : List FactPosition) (ls : List NormalLiteral) → AfterSecond xs ms → third_of xs ms ≡ Done qs
+      → ls ≡ post.conditions → AfterThird qs ms ls
   third_done ms xs qs ls a e l = ap (λ ks. after (conditions_kept ms ks) (λ js. made qs js)) l ∙ ap (λ c. after c (λ rs. with_literals ms rs)) (sym e) ∙ a
 
-  pub all_done : (ms : List (Pos × Nf)) (qs : List FactPosition) (ls ks : List NormalLiteral) → AfterThird qs ms ls → conditions_kept ms ls ≡ Done ks → rebase post ps ≡ made qs ks
+  pub all_done : (ms : List (Pos × Nf)) (qs : List FactPosition) (ls ks : List NormalLiteral) → AfterThird qs ms ls → conditions_kept ms ls ≡ Done ks
+      → rebase post ps ≡ made qs ks
   all_done ms qs ls ks a e = sym a ∙ ap (λ c. after c (λ js. made qs js)) e

@@ -1,5 +1,6 @@
 -- The rebased fact holds where the post leads.
-use Rattle.std.proofs.Common.{◌≡◌, ℕ, zero, suc, ℤ, pos, ◌+ℤ◌, ◌-ℤ◌, ◌*ℤ◌, neg_ℤ, cond, Bool, true, false, arith, refl, ap, sym, subst, ◌∙◌, List, [], ◌∷◌, ◌++◌, take, Option, Some, None}
+use Rattle.std.proofs.Common.{◌≡◌, ℕ, zero, suc, ℤ, pos, ◌+ℤ◌, ◌-ℤ◌, ◌*ℤ◌, neg_ℤ, cond, Bool, true, false, arith, refl, ap, sym, subst, ◌∙◌, List, [], ◌∷◌}
+use Rattle.std.proofs.Common.{◌++◌, take, Option, Some, None}
 use Rattle.std.specs.Prelude.{is_some, filter}
 use Rattle.std.specs.Option.{option_map}
 use Rattle.std.specs.List.{list_all}
@@ -7,37 +8,42 @@ use Rattle.std.proofs.lemmas.Int.{ints}
 use Rattle.std.proofs.lemmas.List.{append-nil}
 use Rattle.std.specs.Ordering.{int_eq}
 use Rattle.std.specs.Cmp.{signed_Decides}
+use Rattle.std.proofs.lemmas.Bool.{and_from}
+use Rattle.base_lemmas.proofs.Booleans.{and_first, and_second}
 use Rattle.fs_model.specs.declared.parts.Sort.{Sort}
 use Rattle.fs_model.specs.declared.parts.Sort.TheVariants as sort
 use Rattle.fs_pair.specs.declared.positions.Position.{Position}
-use Rattle.nf_terms.specs.Terms.{Atom, Monomial, Polynomial, ArrayTerm, Symbol, Read, Quotient, Remainder, One, Times, Zero, Plus, Over, NoWrites, Write, polynomial_of_symbol, bare_array}
+use Rattle.nf_terms.specs.NormalTerms.{Atom, Monomial, Polynomial, ArrayTerm, Symbol, Read, Quotient, Remainder, One, Times, Zero, Plus, Over, NoWrites, Write}
+use Rattle.nf_terms.specs.NormalTerms.{polynomial_of_symbol, bare_array}
 use Rattle.nf_terms.specs.Forms.{same_form}
-use Rattle.nf_terms.specs.Meaning.{Valuation, value_of, value_of_atom, value_of_monomial, contents, contents_of_base, items_of_base, items_in}
+use Rattle.nf_terms.specs.TermMeaning.{Valuation, value_of, value_of_atom, value_of_monomial, contents, contents_of_base, items_of_base, items_in}
 use Rattle.nf_terms.specs.Computed.{Computed, Done, after}
 use Rattle.nf_terms.specs.declared.symbols.Sort.TheVariants as term
-use Rattle.nf_terms.specs.declared.tree.Pos.{Pos}
+use Rattle.fs_model.specs.declared.sides.Pos.{Pos}
 use Rattle.nf_terms.specs.declared.tree.Base.{Base}
 use Rattle.nf_terms.specs.declared.tree.Base.TheVariants as base
 use Rattle.nf_terms.specs.declared.tree.SeqBase.{SeqBase}
 use Rattle.nf_terms.specs.declared.tree.SeqBase.TheVariants as list
 use Rattle.nf_terms.specs.declared.form.Nf.{Nf}
 use Rattle.nf_terms.specs.declared.form.Nf.TheVariants.{Num, Arr, Seq}
-use Rattle.nf_terms.proofs.Tests.{and_left, and_right, and_both}
 use Rattle.nf_sums.specs.Operations.{added, subtracted}
 use Rattle.nf_sums.proofs.Values.{goes_done, added_value, subtracted_value}
-use Rattle.nf_subst.specs.Vectors.{form_at, number_or, array_or, list_or, number_at, array_at, list_at, meaning}
+use Rattle.nf_subst.specs.Vectors.{form_at, number_or, array_or, list_or, number_at, array_form, list_at, meaning}
 use Rattle.nf_subst.specs.Substitution.{substituted, array_substituted, list_substituted}
 use Rattle.nf_subst.proofs.Values.{substituted_value, array_value, list_value}
-use Rattle.nf_symbols.specs.Tests.{AgreeAt}
+use Rattle.nf_symbols.specs.SymbolTests.{AgreeAt}
 use Rattle.nf_symbols.proofs.Agreement.{value_same, array_same, list_same}
 use Rattle.nf_rel.specs.Literals.{NormalLiteral, True, False, Is, meets, is_true_in, all_true_in}
 use Rattle.sym_paths.specs.Sequences.{each}
 use Rattle.sym_paths.specs.Execution.{Post}
 use Rattle.sym_facts.specs.Facts.{FactPosition, Fact, EquationHolds, HoldsIn, own_symbol, most_literals}
 use Rattle.sym_facts.specs.Entailment.{form_substituted, literal_substituted}
-use Rattle.propagate.specs.Rebases.{value_at, is_held, number_held, form_held, literal_held, lone_atom, lone_symbol, bare_number, bare_base, symbol_of_array, bare_list_base, symbol_of_list, bare_symbol, Held, first_pass, Split, with_more, split_by, split_at, split, less_rest, Solution, solution, solved, second_pass, number_tied_to, number_tied, form_tied, tied, equation_found, third_pass, is_needless, with_needed, conditions_over, rebase}
+use Rattle.sym_facts.proofs.FactVectors.{symbol_value}
+use Rattle.propagate.specs.Rebases.{value_at, is_held, number_held, form_held, literal_held, lone_atom, lone_symbol, bare_number, bare_base, symbol_of_array}
+use Rattle.propagate.specs.Rebases.{bare_list_base, symbol_of_list, bare_symbol, RebaseState, first_pass, Split, with_more_of_split, split_by, split_at, split}
+use Rattle.propagate.specs.Rebases.{less_rest, Solution, solution, solved, second_pass, number_tied_to, number_tied, form_tied, tied, equation_found}
+use Rattle.propagate.specs.Rebases.{third_pass, is_needless, with_needed, conditions_over, rebase}
 use Rattle.propagate.proofs.Arriving.{forms_equal, literal_truth}
-use Rattle.propagate.proofs.Joined.{symbol_value}
 use Rattle.propagate.proofs.Passes.{AllForms, none_all, sort_found, AllPass, first_all, second_all, third_all, none_asked, free_asked, equations_hold}
 
 -- ---- symbols alone
@@ -73,7 +79,8 @@ bare_list_base_value : (w : Valuation) (b : SeqBase) (s : Pos) → bare_list_bas
 bare_list_base_value w list.Empty s e = absurd (cc e)
 bare_list_base_value w (list.Sym p) s e = let k : p ≡ s = cc e in ap w.list k
 
-bare_list_value : (w : Valuation) (b : SeqBase) (ps : List Polynomial) (s : Pos) → symbol_of_list b ps ≡ Some s → items_in w (record { base = b; items = ps }) ≡ w.list s
+bare_list_value : (w : Valuation) (b : SeqBase) (ps : List Polynomial) (s : Pos) → symbol_of_list b ps ≡ Some s
+    → items_in w (record { base = b; items = ps }) ≡ w.list s
 bare_list_value w b [] s e = append-nil (items_of_base w b) ∙ bare_list_base_value w b s e
 bare_list_value w b (p ∷ ps) s e = absurd (cc e)
 
@@ -85,14 +92,16 @@ signed_z false z = neg_ℤ z
 abbrev SplitOf : Valuation → Polynomial → Split → Type 0
 SplitOf w p x = value_of w p ≡ signed_z x.positive (w.scalar x.symbol) +ℤ value_of w x.rest
 
-split_more : (w : Valuation) (m : Monomial) (c : ℤ) (p : Polynomial) (o : Option Split) (x : Split) → ((y : Split) → o ≡ Some y → SplitOf w p y) → option_map (with_more m c) o ≡ Some x → SplitOf w (Plus m c p) x
+split_more : (w : Valuation) (m : Monomial) (c : ℤ) (p : Polynomial) (o : Option Split) (x : Split) → ((y : Split) → o ≡ Some y → SplitOf w p y)
+    → option_map (with_more_of_split m c) o ≡ Some x → SplitOf w (Plus m c p) x
 split_more w m c p None x h e = absurd (cc e)
 split_more w m c p (Some y) x h e =
-    let k : with_more m c y ≡ x = cc e in
+    let k : with_more_of_split m c y ≡ x = cc e in
     let i : value_of w p ≡ signed_z y.positive (w.scalar y.symbol) +ℤ value_of w y.rest = h y refl in
     subst (SplitOf w (Plus m c p)) k (omega (arith, ints, i))
 
-split_here : (w : Valuation) (m : Monomial) (c : ℤ) (p : Polynomial) (s : Pos) (later : Option Split) (x : Split) → lone_symbol m ≡ Some s → (later ≡ Some x → SplitOf w (Plus m c p) x)
+split_here : (w : Valuation) (m : Monomial) (c : ℤ) (p : Polynomial) (s : Pos) (later : Option Split) (x : Split) → lone_symbol m ≡ Some s
+    → (later ≡ Some x → SplitOf w (Plus m c p) x)
     → (b one minus : Bool) → int_eq c (pos 1) ≡ one → int_eq c (neg_ℤ (pos 1)) ≡ minus → split_by b one minus s p later ≡ Some x → SplitOf w (Plus m c p) x
 split_here w m c p s later x l next true one minus h g e = next e
 split_here w m c p s later x l next false true minus h g e =
@@ -106,7 +115,8 @@ split_here w m c p s later x l next false false true h g e =
     let z : c ≡ neg_ℤ (pos 1) = (signed_Decides c (neg_ℤ (pos 1))).0 g in
     subst (SplitOf w (Plus m c p)) k (minus_one w m c p s z l)
   where
-    minus_one : (w : Valuation) (m : Monomial) (c : ℤ) (p : Polynomial) (s : Pos) → c ≡ neg_ℤ (pos 1) → lone_symbol m ≡ Some s → c *ℤ value_of_monomial w m +ℤ value_of w p ≡ neg_ℤ (w.scalar s) +ℤ value_of w p
+    minus_one : (w : Valuation) (m : Monomial) (c : ℤ) (p : Polynomial) (s : Pos) → c ≡ neg_ℤ (pos 1) → lone_symbol m ≡ Some s
+        → c *ℤ value_of_monomial w m +ℤ value_of w p ≡ neg_ℤ (w.scalar s) +ℤ value_of w p
     minus_one w m c p s z l = omega (arith, ints, ap (λ t. t *ℤ value_of_monomial w m) z, lone_value w m s l)
 split_here w m c p s later x l next false false false h g e = next e
 
@@ -114,10 +124,11 @@ split_value : (w : Valuation) (ms : List (Pos × Nf)) (p : Polynomial) (x : Spli
 split_value w ms Zero x e = absurd (cc e)
 split_value w ms (Plus m c p) x e = by_symbol (lone_symbol m) refl (λ g. split_more w m c p (split ms p) x (λ y i. split_value w ms p y i) g) e
   where
-    by_symbol : (o : Option Pos) → lone_symbol m ≡ o → (option_map (with_more m c) (split ms p) ≡ Some x → SplitOf w (Plus m c p) x)
-        → split_at ms c o p (option_map (with_more m c) (split ms p)) ≡ Some x → SplitOf w (Plus m c p) x
+    by_symbol : (o : Option Pos) → lone_symbol m ≡ o → (option_map (with_more_of_split m c) (split ms p) ≡ Some x → SplitOf w (Plus m c p) x)
+        → split_at ms c o p (option_map (with_more_of_split m c) (split ms p)) ≡ Some x → SplitOf w (Plus m c p) x
     by_symbol None l next g = next g
-    by_symbol (Some s) l next g = split_here w m c p s (option_map (with_more m c) (split ms p)) x l next (is_held ms (s, term.Scalar)) (int_eq c (pos 1)) (int_eq c (neg_ℤ (pos 1))) refl refl g
+    by_symbol (Some s) l next g = split_here w m c p s (option_map (with_more_of_split m c) (split ms p)) x l next (is_held ms (s, term.Scalar))
+        (int_eq c (pos 1)) (int_eq c (neg_ℤ (pos 1))) refl refl g
 
 -- ---- the new meanings: each means, where the post leads, what its symbol holds
 module _ (w : Valuation) (v : List (Pos × Nf)) where
@@ -133,53 +144,67 @@ module _ (w : Valuation) (v : List (Pos × Nf)) where
     lists = λ q e. lists q (form_at term.List q ms) refl e;
   }
     where
-      numbers : (q : Pos) (o : Option Nf) → form_at term.Scalar q ms ≡ o → is_some o ≡ true → value_of (meaning v w) (number_or (polynomial_of_symbol q) o) ≡ w.scalar q
+      numbers :
+          (q : Pos) (o : Option Nf) → form_at term.Scalar q ms ≡ o → is_some o ≡ true
+          → value_of (meaning v w) (number_or (polynomial_of_symbol q) o) ≡ w.scalar q
       numbers q None e g = absurd (cc g)
       numbers q (Some (Num p)) e g = h.at term.Scalar q (Num p) e
       numbers q (Some (Arr a)) e g = absurd (cc (sort_found term.Scalar q ms (Arr a) e))
       numbers q (Some (Seq l)) e g = absurd (cc (sort_found term.Scalar q ms (Seq l) e))
 
-      arrays : (q : Pos) (o : Option Nf) → form_at term.Array q ms ≡ o → is_some o ≡ true → contents (meaning v w) (array_or (bare_array (base.Sym q)) o) ≡ w.array q
+      arrays : (q : Pos) (o : Option Nf) → form_at term.Array q ms ≡ o → is_some o ≡ true
+          → contents (meaning v w) (array_or (bare_array (base.Sym q)) o) ≡ w.array q
       arrays q None e g = absurd (cc g)
       arrays q (Some (Num p)) e g = absurd (cc (sort_found term.Array q ms (Num p) e))
       arrays q (Some (Arr a)) e g = h.at term.Array q (Arr a) e
       arrays q (Some (Seq l)) e g = absurd (cc (sort_found term.Array q ms (Seq l) e))
 
-      lists : (q : Pos) (o : Option Nf) → form_at term.List q ms ≡ o → is_some o ≡ true → items_in (meaning v w) (list_or (record { base = list.Sym q; items = [] }) o) ≡ w.list q
+      lists : (q : Pos) (o : Option Nf) → form_at term.List q ms ≡ o → is_some o ≡ true
+          → items_in (meaning v w) (list_or (record { base = list.Sym q; items = [] }) o) ≡ w.list q
       lists q None e g = absurd (cc g)
       lists q (Some (Num p)) e g = absurd (cc (sort_found term.List q ms (Num p) e))
       lists q (Some (Arr a)) e g = absurd (cc (sort_found term.List q ms (Arr a) e))
       lists q (Some (Seq l)) e g = h.at term.List q (Seq l) e
 
   -- a number of held symbols, substituted
-  number_kept : (ms : List (Pos × Nf)) (p r : Polynomial) → AllForms Means ms → number_held ms p ≡ true → substituted ms p ≡ Done r → value_of (meaning v w) r ≡ value_of w p
+  number_kept : (ms : List (Pos × Nf)) (p r : Polynomial) → AllForms Means ms → number_held ms p ≡ true → substituted ms p ≡ Done r
+      → value_of (meaning v w) r ≡ value_of w p
   number_kept ms p r h i e = substituted_value (meaning v w) ms p r e ∙ value_same (is_held ms) (meaning ms (meaning v w)) w (agree ms h) p i
 
   bare_means : (s : Sort) (p x : Pos) → Unit {0} → bare_symbol (value_at v s p) ≡ Some x → Means x (own_symbol s p)
   bare_means sort.Scalar p x h e = symbol_value (meaning v w) p ∙ bare_value w (number_at v p) x e
-  bare_means sort.Array p x h e = bare_array_value w (array_at v p) x e
+  bare_means sort.Array p x h e = bare_array_value w (array_form v p) x e
   bare_means sort.Port p x h e = append-nil ((meaning v w).list p) ∙ bare_list_value w (list_at v p).base (list_at v p).items x e
 
-  split_symbol : (positive : Bool) (p : Pos) (s x : ℤ) (rest z : Polynomial) → (meaning v w).scalar p ≡ signed_z positive s +ℤ x → value_of (meaning v w) rest ≡ x → less_rest positive p rest ≡ Done z → value_of (meaning v w) z ≡ s
-  split_symbol true p s x rest z h e g = omega (arith, ints, h, e, subtracted_value (meaning v w) (polynomial_of_symbol p) rest z g, symbol_value (meaning v w) p)
-  split_symbol false p s x rest z h e g = omega (arith, ints, h, e, subtracted_value (meaning v w) rest (polynomial_of_symbol p) z g, symbol_value (meaning v w) p)
+  split_symbol : (positive : Bool) (p : Pos) (s x : ℤ) (rest z : Polynomial) → (meaning v w).scalar p ≡ signed_z positive s +ℤ x
+      → value_of (meaning v w) rest ≡ x → less_rest positive p rest ≡ Done z → value_of (meaning v w) z ≡ s
+  split_symbol true p s x rest z h e g =
+      omega (arith, ints, h, e, subtracted_value (meaning v w) (polynomial_of_symbol p) rest z g, symbol_value (meaning v w) p)
+  split_symbol false p s x rest z h e g =
+      omega (arith, ints, h, e, subtracted_value (meaning v w) rest (polynomial_of_symbol p) z g, symbol_value (meaning v w) p)
 
-  split_means : (ms : List (Pos × Nf)) (p : Pos) (y : Solution) → Unit {0} → AllForms Means ms → solved false v ms sort.Scalar p ≡ Done (Some y) → Means y.symbol (Num y.meaning)
+  split_means : (ms : List (Pos × Nf)) (p : Pos) (y : Solution) → Unit {0} → AllForms Means ms → solved false v ms sort.Scalar p ≡ Done (Some y)
+      → Means y.symbol (Num y.meaning)
   split_means ms p y u h e = by_split (split ms (number_at v p)) refl e
     where
       by_split : (o : Option Split) → split ms (number_at v p) ≡ o → solution ms p o ≡ Done (Some y) → value_of (meaning v w) y.meaning ≡ w.scalar y.symbol
       by_split None s g = absurd (cc g)
       by_split (Some x) s g = by_test (number_held ms x.rest) refl g
         where
-          by_test : (b : Bool) → number_held ms x.rest ≡ b
-              → cond {A = Computed (Option Solution)} b (after (substituted ms x.rest) (λ r. after (less_rest x.positive p r) (λ t. Done (Some (record { symbol = x.symbol; meaning = t }))))) (Done None) ≡ Done (Some y) → value_of (meaning v w) y.meaning ≡ w.scalar y.symbol
+          by_test :
+              (b : Bool) → number_held ms x.rest ≡ b
+              → cond {A = Computed (Option Solution)} b
+              (after (substituted ms x.rest) (λ r. after (less_rest x.positive p r) (λ t. Done (Some (record { symbol = x.symbol; meaning = t }))))) (Done None)
+              ≡ Done (Some y) → value_of (meaning v w) y.meaning ≡ w.scalar y.symbol
           by_test true i k =
-              let a = goes_done (substituted ms x.rest) (λ r. after (less_rest x.positive p r) (λ t. Done (Some (record { symbol = x.symbol; meaning = t })))) (Some y) k in
+              let a = goes_done (substituted ms x.rest)
+              (λ r. after (less_rest x.positive p r) (λ t. Done (Some (record { symbol = x.symbol; meaning = t })))) (Some y) k in
               let b = goes_done (less_rest x.positive p a.middle) (λ t. Done (Some (record { symbol = x.symbol; meaning = t }))) (Some y) a.next in
               let z : Solution = record { symbol = x.symbol; meaning = b.middle } in
               let c : z ≡ y = cc b.next in
               subst (λ (z : Solution). value_of (meaning v w) z.meaning ≡ w.scalar z.symbol) c
-              (split_symbol x.positive p (w.scalar x.symbol) (value_of w x.rest) a.middle b.middle (split_value w ms (number_at v p) x s) (number_kept ms x.rest a.middle h i a.first) b.first)
+              (split_symbol x.positive p (w.scalar x.symbol) (value_of w x.rest) a.middle b.middle (split_value w ms (number_at v p) x s)
+              (number_kept ms x.rest a.middle h i a.first) b.first)
           by_test false i k = absurd (cc k)
 
   -- ---- the equations
@@ -193,11 +218,14 @@ module _ (w : Valuation) (v : List (Pos × Nf)) where
         by_sort sort.Array q g next = next g
         by_sort sort.Port q g next = next g
         by_sort sort.Scalar q g next =
-            let s = goes_done (subtracted (number_at v p) (number_at v q)) (λ d. cond (number_held ms d) (after (substituted ms d) (λ c. after (added (polynomial_of_symbol q) c) (λ r. Done (Some (Num r))))) (number_tied v ms (number_at v p) qs)) (Some x) g in
+            let s = goes_done (subtracted (number_at v p) (number_at v q))
+            (λ d. cond (number_held ms d) (after (substituted ms d) (λ c. after (added (polynomial_of_symbol q) c) (λ r. Done (Some (Num r)))))
+            (number_tied v ms (number_at v p) qs)) (Some x) g in
             by_test s.middle s.first (number_held ms s.middle) refl s.next
           where
             by_test : (d : Polynomial) → subtracted (number_at v p) (number_at v q) ≡ Done d → (b : Bool) → number_held ms d ≡ b
-                → cond {A = Computed (Option Nf)} b (after (substituted ms d) (λ c. after (added (polynomial_of_symbol q) c) (λ r. Done (Some (Num r))))) (number_tied v ms (number_at v p) qs) ≡ Done (Some x)
+                → cond {A = Computed (Option Nf)} b (after (substituted ms d) (λ c. after (added (polynomial_of_symbol q) c) (λ r. Done (Some (Num r)))))
+                (number_tied v ms (number_at v p) qs) ≡ Done (Some x)
                 → EquationHolds (meaning v w) p (Some x)
             by_test d hd true i k =
                 let a = goes_done (substituted ms d) (λ c. after (added (polynomial_of_symbol q) c) (λ r. Done (Some (Num r)))) (Some x) k in
@@ -205,7 +233,9 @@ module _ (w : Valuation) (v : List (Pos × Nf)) where
                 let j : Num b.middle ≡ x = cc b.next in
                 let n = meaning v w in
                 subst (λ z. EquationHolds (meaning v w) p (Some z)) j
-                (sum_of (value_of w (number_at v p)) (value_of w (number_at v q)) (value_of w d) (value_of n a.middle) (value_of n (polynomial_of_symbol q)) (value_of n b.middle) (subtracted_value w (number_at v p) (number_at v q) d hd) (number_kept ms d a.middle good i a.first) (added_value n (polynomial_of_symbol q) a.middle b.middle b.first) (symbol_value n q))
+                (sum_of (value_of w (number_at v p)) (value_of w (number_at v q)) (value_of w d) (value_of n a.middle) (value_of n (polynomial_of_symbol q))
+                (value_of n b.middle) (subtracted_value w (number_at v p) (number_at v q) d hd) (number_kept ms d a.middle good i a.first)
+                (added_value n (polynomial_of_symbol q) a.middle b.middle b.first) (symbol_value n q))
               where
                 sum_of : (p q d a s r : ℤ) → d ≡ p -ℤ q → a ≡ d → r ≡ s +ℤ a → s ≡ q → p ≡ r
                 sum_of p q d a s r i j k l = omega (arith, ints)
@@ -217,7 +247,7 @@ module _ (w : Valuation) (v : List (Pos × Nf)) where
         let k : number_at v p ≡ number_at v q = cc e in
         let i : (meaning v w).scalar p ≡ (meaning v w).scalar q = ap (value_of w) k in
         i ∙ sym (symbol_value (meaning v w) q)
-    same_value sort.Array sort.Array p q e = let k : array_at v p ≡ array_at v q = cc e in ap (contents w) k
+    same_value sort.Array sort.Array p q e = let k : array_form v p ≡ array_form v q = cc e in ap (contents w) k
     same_value sort.Port sort.Port p q e =
         let k : list_at v p ≡ list_at v q = cc e in
         let i : (meaning v w).list p ≡ (meaning v w).list q = ap (items_in w) k in
@@ -233,7 +263,8 @@ module _ (w : Valuation) (v : List (Pos × Nf)) where
     form_tied_holds s p [] x e = absurd (cc e)
     form_tied_holds s p (q ∷ qs) x e = by_test (same_form (value_at v s p) (value_at v q.sort q.pos)) refl e (λ g. form_tied_holds s p qs x g)
       where
-        by_test : (b : Bool) → same_form (value_at v s p) (value_at v q.sort q.pos) ≡ b → cond b (Some (own_symbol q.sort q.pos)) (form_tied v (value_at v s p) qs) ≡ Some x
+        by_test : (b : Bool) → same_form (value_at v s p) (value_at v q.sort q.pos) ≡ b
+            → cond b (Some (own_symbol q.sort q.pos)) (form_tied v (value_at v s p) qs) ≡ Some x
             → (form_tied v (value_at v s p) qs ≡ Some x → EquationHolds (meaning v w) p (Some x)) → EquationHolds (meaning v w) p (Some x)
         by_test true i g next =
             let k : own_symbol q.sort q.pos ≡ x = cc g in
@@ -242,28 +273,36 @@ module _ (w : Valuation) (v : List (Pos × Nf)) where
 
     tied_holds : (s : Sort) (p : Pos) (qs : List Position) (x : Nf) → tied v ms (value_at v s p) qs ≡ Done (Some x) → EquationHolds (meaning v w) p (Some x)
     tied_holds sort.Scalar p qs x e = number_tied_holds p qs x e
-    tied_holds sort.Array p qs x e = form_tied_holds sort.Array p qs x (let k : form_tied v (Arr (array_at v p)) qs ≡ Some x = cc e in k)
+    tied_holds sort.Array p qs x e = form_tied_holds sort.Array p qs x (let k : form_tied v (Arr (array_form v p)) qs ≡ Some x = cc e in k)
     tied_holds sort.Port p qs x e = form_tied_holds sort.Port p qs x (let k : form_tied v (Seq (list_at v p)) qs ≡ Some x = cc e in k)
 
     -- a value of held symbols, substituted
-    held_holds : (s : Sort) (p : Pos) (x : Nf) → form_held ms (value_at v s p) ≡ true → form_substituted ms (value_at v s p) ≡ Done x → EquationHolds (meaning v w) p (Some x)
+    held_holds : (s : Sort) (p : Pos) (x : Nf) → form_held ms (value_at v s p) ≡ true → form_substituted ms (value_at v s p) ≡ Done x
+        → EquationHolds (meaning v w) p (Some x)
     held_holds sort.Scalar p x h e =
         let s = goes_done (substituted ms (number_at v p)) (λ q. Done (Num q)) x e in
         let k : Num s.middle ≡ x = cc s.next in
         subst (λ z. EquationHolds (meaning v w) p (Some z)) k (sym (number_kept ms (number_at v p) s.middle good h s.first))
     held_holds sort.Array p x h e =
-        let s = goes_done (array_substituted ms (array_at v p)) (λ q. Done (Arr q)) x e in
+        let s = goes_done (array_substituted ms (array_form v p)) (λ q. Done (Arr q)) x e in
         let k : Arr s.middle ≡ x = cc s.next in
-        subst (λ z. EquationHolds (meaning v w) p (Some z)) k (sym (array_value (meaning v w) ms (array_at v p) s.middle s.first ∙ array_same (is_held ms) (meaning ms (meaning v w)) w (agree ms good) (array_at v p) h))
+        subst (λ z. EquationHolds (meaning v w) p (Some z)) k
+        (sym
+        (array_value (meaning v w) ms (array_form v p) s.middle s.first
+        ∙ array_same (is_held ms) (meaning ms (meaning v w)) w (agree ms good) (array_form v p) h))
     held_holds sort.Port p x h e =
         let s = goes_done (list_substituted ms (list_at v p)) (λ q. Done (Seq q)) x e in
         let k : Seq s.middle ≡ x = cc s.next in
-        subst (λ z. EquationHolds (meaning v w) p (Some z)) k (sym (list_value (meaning v w) ms (list_at v p) s.middle s.first ∙ list_same (is_held ms) (meaning ms (meaning v w)) w (agree ms good) (list_at v p) h))
+        subst (λ z. EquationHolds (meaning v w) p (Some z)) k
+        (sym (list_value (meaning v w) ms (list_at v p) s.middle s.first ∙ list_same (is_held ms) (meaning ms (meaning v w)) w (agree ms good) (list_at v p) h))
 
-    found_holds : (s : Sort) (p : Pos) (qs : List Position) (x : Nf) → AllPass (λ s z. Unit {0}) qs → equation_found v ms (value_at v s p) qs ≡ Done (Some x) → EquationHolds (meaning v w) p (Some x)
+    found_holds : (s : Sort) (p : Pos) (qs : List Position) (x : Nf) → AllPass (λ s z. Unit {0}) qs → equation_found v ms (value_at v s p) qs ≡ Done (Some x)
+        → EquationHolds (meaning v w) p (Some x)
     found_holds s p qs x u e = by_test (form_held ms (value_at v s p)) refl e
       where
-        by_test : (b : Bool) → form_held ms (value_at v s p) ≡ b → cond {A = Computed (Option Nf)} b (after (form_substituted ms (value_at v s p)) (λ r. Done (Some r))) (tied v ms (value_at v s p) qs) ≡ Done (Some x) → EquationHolds (meaning v w) p (Some x)
+        by_test : (b : Bool) → form_held ms (value_at v s p) ≡ b
+            → cond {A = Computed (Option Nf)} b (after (form_substituted ms (value_at v s p)) (λ r. Done (Some r))) (tied v ms (value_at v s p) qs)
+            ≡ Done (Some x) → EquationHolds (meaning v w) p (Some x)
         by_test true i g =
             let a = goes_done (form_substituted ms (value_at v s p)) (λ r. Done (Some r)) (Some x) g in
             let k : a.middle ≡ x = cc a.next in
@@ -281,38 +320,44 @@ module _ (w : Valuation) (v : List (Pos × Nf)) where
 
     conditions_hold : (ls rs : List NormalLiteral) → all_true_in w ls ≡ true → conditions_over ms ls ≡ Done rs → all_true_in (meaning v w) rs ≡ true
     conditions_hold [] rs h e = let k : [] ≡ rs = cc e in subst (λ z. all_true_in (meaning v w) z ≡ true) k refl
-    conditions_hold (l ∷ ls) rs h e = by_test (literal_held ms l) refl e (λ qs g. conditions_hold ls qs (and_right (is_true_in w l) (all_true_in w ls) h) g)
+    conditions_hold (l ∷ ls) rs h e = by_test (literal_held ms l) refl e (λ qs g. conditions_hold ls qs (and_second (is_true_in w l) (all_true_in w ls) h) g)
       where
-        by_test : (b : Bool) → literal_held ms l ≡ b → each (literal_substituted ms) (cond b (l ∷ filter (literal_held ms) ls) (filter (literal_held ms) ls)) ≡ Done rs
+        by_test : (b : Bool) → literal_held ms l ≡ b
+            → each (literal_substituted ms) (cond b (l ∷ filter (literal_held ms) ls) (filter (literal_held ms) ls)) ≡ Done rs
             → ((qs : List NormalLiteral) → conditions_over ms ls ≡ Done qs → all_true_in (meaning v w) qs ≡ true) → all_true_in (meaning v w) rs ≡ true
         by_test true i g next =
             let a = goes_done (literal_substituted ms l) (λ m. after (conditions_over ms ls) (λ rest. Done (m ∷ rest))) rs g in
             let b = goes_done (conditions_over ms ls) (λ rest. Done (a.middle ∷ rest)) rs a.next in
             let k : a.middle ∷ b.middle ≡ rs = cc b.next in
-            subst (λ z. all_true_in (meaning v w) z ≡ true) k (and_both _ _ (literal_kept l a.middle i a.first ∙ and_left (is_true_in w l) (all_true_in w ls) h) (next b.middle b.first))
+            subst (λ z. all_true_in (meaning v w) z ≡ true) k
+            (and_from _ _ (literal_kept l a.middle i a.first ∙ and_first (is_true_in w l) (all_true_in w ls) h) (next b.middle b.first))
         by_test false i g next = next rs g
 
 -- ---- the literals that are needed
-pub last_passes : (test : NormalLiteral → Bool) (ls : List NormalLiteral) (l : NormalLiteral) → list_all test ls ≡ true → test l ≡ true → list_all test (ls ++ l ∷ []) ≡ true
-last_passes test [] l h g = and_both (test l) true g refl
-last_passes test (m ∷ ls) l h g = and_both (test m) (list_all test (ls ++ l ∷ [])) (and_left (test m) (list_all test ls) h) (last_passes test ls l (and_right (test m) (list_all test ls) h) g)
+pub last_passes : (test : NormalLiteral → Bool) (ls : List NormalLiteral) (l : NormalLiteral) → list_all test ls ≡ true → test l ≡ true
+    → list_all test (ls ++ l ∷ []) ≡ true
+last_passes test [] l h g = and_from (test l) true g refl
+last_passes test (m ∷ ls) l h g = and_from (test m) (list_all test (ls ++ l ∷ [])) (and_first (test m) (list_all test ls) h)
+    (last_passes test ls l (and_second (test m) (list_all test ls) h) g)
 
-pub needed_pass : (test : NormalLiteral → Bool) (before ls : List NormalLiteral) → list_all test before ≡ true → list_all test ls ≡ true → list_all test (with_needed before ls) ≡ true
+pub needed_pass : (test : NormalLiteral → Bool) (before ls : List NormalLiteral) → list_all test before ≡ true → list_all test ls ≡ true
+    → list_all test (with_needed before ls) ≡ true
 needed_pass test before [] h g = h
-needed_pass test before (l ∷ ls) h g = needed_pass test (cond (is_needless before l) before (before ++ l ∷ [])) ls (by_test (is_needless before l)) (and_right (test l) (list_all test ls) g)
+needed_pass test before (l ∷ ls) h g = needed_pass test (cond (is_needless before l) before (before ++ l ∷ [])) ls (by_test (is_needless before l))
+    (and_second (test l) (list_all test ls) g)
   where
     by_test : (b : Bool) → list_all test (cond b before (before ++ l ∷ [])) ≡ true
     by_test true = h
-    by_test false = last_passes test before l h (and_left (test l) (list_all test ls) g)
+    by_test false = last_passes test before l h (and_first (test l) (list_all test ls) g)
 
 pub taken_pass : (test : NormalLiteral → Bool) (n : ℕ) (ls : List NormalLiteral) → list_all test ls ≡ true → list_all test (take n ls) ≡ true
 taken_pass test zero ls h = refl
 taken_pass test (suc n) [] h = refl
-taken_pass test (suc n) (l ∷ ls) h = and_both _ _ (and_left (test l) (list_all test ls) h) (taken_pass test n ls (and_right (test l) (list_all test ls) h))
+taken_pass test (suc n) (l ∷ ls) h = and_from _ _ (and_first (test l) (list_all test ls) h) (taken_pass test n ls (and_second (test l) (list_all test ls) h))
 
 -- ---- what a rebase goes through
 pub record Rebasing (post : Post) (ps : List Position) (f : Fact) : Type 0 where
-  pub held : Held
+  pub held : RebaseState
   pub positions : List FactPosition
   pub literals : List NormalLiteral
   pub second : second_pass post.vector ps (first_pass post.vector ps []).free (first_pass post.vector ps []).meanings ≡ Done held
@@ -324,19 +369,38 @@ pub rebasing : (post : Post) (ps : List Position) (f : Fact) → rebase post ps 
 rebasing post ps f e =
     let v = post.vector in
     let one = first_pass v ps [] in
-    let a = goes_done (second_pass v ps one.free one.meanings) (λ h. after (third_pass v h.meanings ps h.free []) (λ qs. after (conditions_over h.meanings post.conditions) (λ ls. Done (record { positions = qs; literals = take most_literals (with_needed [] ls) })))) f e in
-    let b = goes_done (third_pass v a.middle.meanings ps a.middle.free []) (λ qs. after (conditions_over a.middle.meanings post.conditions) (λ ls. Done (record { positions = qs; literals = take most_literals (with_needed [] ls) }))) f a.next in
-    let d = goes_done (conditions_over a.middle.meanings post.conditions) (λ ls. Done (record { positions = b.middle; literals = take most_literals (with_needed [] ls) })) f b.next in
-    record { held = a.middle; positions = b.middle; literals = d.middle; second = a.first; third = b.first; conditions = d.first; whole = (let k : record { positions = b.middle; literals = take most_literals (with_needed [] d.middle) } ≡ f = cc d.next in k) }
+    let a = goes_done (second_pass v ps one.free one.meanings)
+    (λ h. after (third_pass v h.meanings ps h.free [])
+    (λ qs. after (conditions_over h.meanings post.conditions) (λ ls. Done (record { positions = qs; literals = take most_literals (with_needed [] ls) })))) f e
+    in
+    let b = goes_done (third_pass v a.middle.meanings ps a.middle.free [])
+    (λ qs. after (conditions_over a.middle.meanings post.conditions)
+    (λ ls. Done (record { positions = qs; literals = take most_literals (with_needed [] ls) }))) f a.next in
+    let d = goes_done (conditions_over a.middle.meanings post.conditions)
+    (λ ls. Done (record { positions = b.middle; literals = take most_literals (with_needed [] ls) })) f b.next in
+    record {
+      held = a.middle;
+      positions = b.middle;
+      literals = d.middle;
+      second = a.first;
+      third = b.first;
+      conditions = d.first;
+      whole = (let k : record { positions = b.middle; literals = take most_literals (with_needed [] d.middle) } ≡ f = cc d.next in k);
+    }
 
-pub rebase_of_post : (w : Valuation) (post : Post) (ps : List Position) (f : Fact) → rebase post ps ≡ Done f → all_true_in w post.conditions ≡ true → HoldsIn (meaning post.vector w) f
+pub rebase_of_post : (w : Valuation) (post : Post) (ps : List Position) (f : Fact) → rebase post ps ≡ Done f → all_true_in w post.conditions ≡ true
+    → HoldsIn (meaning post.vector w) f
 rebase_of_post w post ps f e c =
     let v = post.vector in
     let r = rebasing post ps f e in
-    let one = first_all v (Means w v) (λ s z. Unit {0}) (bare_means w v) (split_means w v) ps [] (none_all (Means w v)) (none_asked ps (first_pass v ps []).free) in
-    let two = second_all v (Means w v) (λ s z. Unit {0}) (bare_means w v) (split_means w v) ps (first_pass v ps []).free (first_pass v ps []).meanings r.held one r.second (none_asked ps r.held.free) in
-    let three = third_all v r.held.meanings (λ s z. Unit {0}) (EquationHolds (meaning v w)) (found_holds w v r.held.meanings two.0) (λ p. tt) ps r.held.free [] r.positions tt r.third (free_asked r.positions) in
+    let one = first_all v (Means w v) (λ s z. Unit {0}) (bare_means w v) (split_means w v) ps [] (none_all (Means w v))
+    (none_asked ps (first_pass v ps []).free) in
+    let two = second_all v (Means w v) (λ s z. Unit {0}) (bare_means w v) (split_means w v) ps (first_pass v ps []).free
+    (first_pass v ps []).meanings r.held one r.second (none_asked ps r.held.free) in
+    let three = third_all v r.held.meanings (λ s z. Unit {0}) (EquationHolds (meaning v w)) (found_holds w v r.held.meanings two.0)
+    (λ p. tt) ps r.held.free [] r.positions tt r.third (free_asked r.positions) in
     subst (HoldsIn (meaning v w)) r.whole (record {
       equations = equations_hold (meaning v w) r.positions three.0;
-      literals = taken_pass (is_true_in (meaning v w)) most_literals (with_needed [] r.literals) (needed_pass (is_true_in (meaning v w)) [] r.literals refl (conditions_hold w v r.held.meanings two.0 post.conditions r.literals c r.conditions));
+      literals = taken_pass (is_true_in (meaning v w)) most_literals (with_needed [] r.literals)
+          (needed_pass (is_true_in (meaning v w)) [] r.literals refl (conditions_hold w v r.held.meanings two.0 post.conditions r.literals c r.conditions));
     })

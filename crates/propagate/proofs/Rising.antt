@@ -2,6 +2,7 @@
 use Rattle.std.proofs.Common.{◌≡◌, ℕ, ◌+◌, ◌≤◌, ◌<◌, ◌==◌, Bool, true, false, cond, refl, sym, ap, subst, ◌∙◌, arith, List, [], ◌∷◌}
 use Rattle.std.specs.Prelude.{◌||◌}
 use Rattle.std.proofs.lemmas.Bool.Decides.{nat_tests}
+use Rattle.std.proofs.lemmas.Bool.{or_from, eqb-true}
 use Rattle.nf_terms.specs.Computed.{Done, after}
 use Rattle.nf_sums.proofs.Values.{goes_done}
 use Rattle.sym_paths.specs.Execution.{Post}
@@ -9,7 +10,7 @@ use Rattle.sym_paths.specs.Sequences.{each}
 use Rattle.sym_facts.specs.Facts.{Fact}
 use Rattle.sym_facts.specs.Entailment.{Missing, entails, equation_met, literal_met, false_places}
 use Rattle.propagate.specs.Joins.{is_among}
-use Rattle.propagate.specs.JoinSteps.{is_first, left_behind}
+use Rattle.propagate.specs.JoinSteps.{is_first_place, left_behind}
 
 -- each place is above those before it, and none is below k
 abbrev pub Rises : ℕ → List ℕ → Type 0
@@ -19,26 +20,18 @@ Rises k (j ∷ js) = k ≤ j × Rises (j + 1) js
 -- ---- a place and the first that is left
 none_below : (i k : ℕ) (js : List ℕ) → i < k → Rises k js → is_among i js ≡ false
 none_below i k [] h r = refl
-none_below i k (j ∷ js) h r = neither (j == i) (is_among i js) (other i j (omega (arith, h, r.0))) (none_below i (j + 1) js (omega (arith, h, r.0)) r.1)
+none_below i k (j ∷ js) h r = or_from (j == i) (is_among i js) (other i j (omega (arith, h, r.0))) (none_below i (j + 1) js (omega (arith, h, r.0)) r.1)
   where
-    neither : (a b : Bool) → a ≡ false → b ≡ false → a || b ≡ false
-    neither true b e f = absurd (cc e)
-    neither false b e f = f
-
     other : (i j : ℕ) → i < j → (j == i) ≡ false
     other i j h = grind (arith, nat_tests)
 
-first_tells : (k : ℕ) (js : List ℕ) → Rises k js → is_first k js ≡ is_among k js
+first_tells : (k : ℕ) (js : List ℕ) → Rises k js → is_first_place k js ≡ is_among k js
 first_tells k [] r = refl
 first_tells k (j ∷ js) r = by_test (j == k) (none_below k (j + 1) js (omega (arith, r.0)) r.1)
   where
     by_test : (b : Bool) → is_among k js ≡ false → b ≡ b || is_among k js
     by_test true e = refl
     by_test false e = sym e
-
--- a place is the next one or lies further on
-same_number : (j k : ℕ) → (j == k) ≡ true → j ≡ k
-same_number j k e = grind (arith, nat_tests)
 
 another : (j k : ℕ) → (j == k) ≡ false → k ≤ j → k + 1 ≤ j
 another j k e h = grind (arith, nat_tests)
@@ -48,7 +41,7 @@ rises_behind k [] r = tt
 rises_behind k (j ∷ js) r = by_test (j == k) refl
   where
     by_test : (b : Bool) → (j == k) ≡ b → Rises (k + 1) (cond b js (j ∷ js))
-    by_test true e = subst (λ z. Rises (z + 1) js) (same_number j k e) r.1
+    by_test true e = subst (λ z. Rises (z + 1) js) (eqb-true j k e) r.1
     by_test false e = (another j k e r.0, r.1)
 
 among_behind : (i k : ℕ) (js : List ℕ) → k < i → is_among i (left_behind k js) ≡ is_among i js
@@ -70,7 +63,7 @@ pub record AreLeft (k : ℕ) (left all : List ℕ) : Type 0 where
 pub all_left : (js : List ℕ) → Rises 0 js → AreLeft 0 js js
 all_left js r = record { rise = r; same = λ i h. refl }
 
-pub tells_among : (k : ℕ) (left all : List ℕ) → AreLeft k left all → is_first k left ≡ is_among k all
+pub tells_among : (k : ℕ) (left all : List ℕ) → AreLeft k left all → is_first_place k left ≡ is_among k all
 tells_among k left all a = first_tells k left a.rise ∙ a.same k (omega arith)
 
 pub goes_on : (k : ℕ) (left all : List ℕ) → AreLeft k left all → AreLeft (k + 1) (left_behind k left) all
@@ -88,7 +81,9 @@ falses_rise k (false ∷ bs) = (omega arith, falses_rise (k + 1) bs)
 
 pub missing_rise : (f : Fact) (post : Post) (missing : Missing) → entails post f ≡ Done missing → Rises 0 missing.equations × Rises 0 missing.literals
 missing_rise f post missing e =
-    let a = goes_done (each (λ p. equation_met post.vector p.pos p.equation) f.positions) (λ es. after (each (λ l. literal_met post l) f.literals) (λ ls. Done (record { equations = false_places 0 es; literals = false_places 0 ls }))) missing e in
-    let b = goes_done (each (λ l. literal_met post l) f.literals) (λ ls. Done (record { equations = false_places 0 a.middle; literals = false_places 0 ls })) missing a.next in
+    let a = goes_done (each (λ p. equation_met post.vector p.pos p.equation) f.positions)
+    (λ es. after (each (λ l. literal_met post l) f.literals) (λ ls. Done (record { equations = false_places 0 es; literals = false_places 0 ls }))) missing e in
+    let b = goes_done (each (λ l. literal_met post l) f.literals)
+    (λ ls. Done (record { equations = false_places 0 a.middle; literals = false_places 0 ls })) missing a.next in
     let m : record { equations = false_places 0 a.middle; literals = false_places 0 b.middle } ≡ missing = cc b.next in
     subst (λ (z : Missing). Rises 0 z.equations × Rises 0 z.literals) m (falses_rise 0 a.middle, falses_rise 0 b.middle)

@@ -2,22 +2,23 @@
 use Rattle.std.proofs.Common.{◌≡◌, ℕ, ◌+◌, Bool, true, false, refl, sym, subst, ap, ap₂, ◌∙◌, List, [], ◌∷◌, map, Option, Some, None}
 use Rattle.std.specs.Prelude.{◌&&◌, ◌||◌, not, is_none}
 use Rattle.std.specs.List.{list_all, list_any}
+use Rattle.std.proofs.lemmas.Bool.{or_from, and_from, or_right, not-true}
+use Rattle.base_lemmas.proofs.Booleans.{and_first, and_second, neither_first, neither_second}
 use Rattle.fs_pair.specs.declared.positions.Position.{Position}
 use Rattle.nf_terms.specs.Mentions.{same_pos}
 use Rattle.nf_terms.specs.Computed.{Computed, Done, after}
-use Rattle.nf_terms.specs.declared.tree.Pos.{Pos}
+use Rattle.fs_model.specs.declared.sides.Pos.{Pos}
 use Rattle.nf_terms.specs.declared.form.Nf.{Nf}
-use Rattle.nf_terms.proofs.Tests.{and_left, and_right, and_both, not_true}
 use Rattle.nf_sums.proofs.Values.{goes_done}
 use Rattle.nf_subst.specs.SamePlaces.{pos_equal, own_pos}
-use Rattle.nf_symbols.specs.Tests.{is_other}
+use Rattle.nf_symbols.specs.SymbolTests.{is_other}
 use Rattle.nf_symbols.proofs.Mentioned.{number_other, form_other}
 use Rattle.nf_rel.specs.Literals.{NormalLiteral, True, False, Is}
 use Rattle.sym_paths.specs.Execution.{Post}
 use Rattle.sym_facts.specs.Facts.{FactPosition, Fact, equation_mentions, literal_mentions, is_mentioned, is_unsolved, is_solved}
 use Rattle.sym_facts.specs.Entailment.{Missing}
 use Rattle.sym_facts.specs.Pairings.{literal_within}
-use Rattle.sym_facts.specs.Parts.{equation_within, all_differ}
+use Rattle.sym_facts.specs.FactParts.{equation_within, are_distinct_positions}
 use Rattle.propagate.specs.Joins.{Freed, tied, with_equation, freed_with, position_joined, is_among, positions_joined, join}
 use Rattle.propagate.specs.Rebases.{rebase}
 use Rattle.propagate.proofs.Passes.{FreePass, AllEquations}
@@ -47,59 +48,57 @@ literal_other p True = refl
 literal_other p False = refl
 literal_other p (Is d k b) = number_other p d
 
-or_false : (a b : Bool) → a ≡ false → b ≡ false → a || b ≡ false
-or_false true b h g = absurd (cc h)
-or_false false b h g = g
-
-or_left_false : (a b : Bool) → a || b ≡ false → a ≡ false
-or_left_false true b h = absurd (cc h)
-or_left_false false b h = refl
-
-or_right_false : (a b : Bool) → a || b ≡ false → b ≡ false
-or_right_false true b h = absurd (cc h)
-or_right_false false b h = h
-
-or_second : (a b : Bool) → b ≡ true → a || b ≡ true
-or_second true b h = refl
-or_second false b h = h
-
 -- ---- what is not mentioned, both ways
-none_in_equations : (p : Pos) (qs : List FactPosition) → AllEquations (λ q o. equation_within (is_other p) o ≡ true) qs → list_any (λ q. equation_mentions p q.equation) qs ≡ false
+none_in_equations : (p : Pos) (qs : List FactPosition) → AllEquations (λ q o. equation_within (is_other p) o ≡ true) qs
+    → list_any (λ q. equation_mentions p q.equation) qs ≡ false
 none_in_equations p [] h = refl
-none_in_equations p (q ∷ qs) h = or_false (equation_mentions p q.equation) (list_any (λ q. equation_mentions p q.equation) qs) (not_true (equation_mentions p q.equation) (equation_other p q.equation ∙ h.0)) (none_in_equations p qs h.1)
+none_in_equations p (q ∷ qs) h = or_from (equation_mentions p q.equation) (list_any (λ q. equation_mentions p q.equation) qs)
+    (not-true (equation_mentions p q.equation) (equation_other p q.equation ∙ h.0)) (none_in_equations p qs h.1)
 
 none_in_literals : (p : Pos) (ls : List NormalLiteral) → list_all (literal_within (is_other p)) ls ≡ true → list_any (literal_mentions p) ls ≡ false
 none_in_literals p [] h = refl
 none_in_literals p (l ∷ ls) h =
-    or_false (literal_mentions p l) (list_any (literal_mentions p) ls) (not_true (literal_mentions p l) (literal_other p l ∙ and_left (literal_within (is_other p) l) (list_all (literal_within (is_other p)) ls) h)) (none_in_literals p ls (and_right (literal_within (is_other p) l) (list_all (literal_within (is_other p)) ls) h))
+    or_from (literal_mentions p l) (list_any (literal_mentions p) ls)
+    (not-true (literal_mentions p l) (literal_other p l ∙ and_first (literal_within (is_other p) l) (list_all (literal_within (is_other p)) ls) h))
+    (none_in_literals p ls (and_second (literal_within (is_other p) l) (list_all (literal_within (is_other p)) ls) h))
 
 unmentioned : (p : Pos) (f : Fact) → Without p f → is_mentioned f p ≡ false
-unmentioned p f h = or_false (list_any (λ q. equation_mentions p q.equation) f.positions) (list_any (literal_mentions p) f.literals) (none_in_equations p f.positions h.equations) (none_in_literals p f.literals h.literals)
+unmentioned p f h = or_from (list_any (λ q. equation_mentions p q.equation) f.positions) (list_any (literal_mentions p) f.literals)
+    (none_in_equations p f.positions h.equations) (none_in_literals p f.literals h.literals)
 
-equations_without : (p : Pos) (qs : List FactPosition) → list_any (λ q. equation_mentions p q.equation) qs ≡ false → AllEquations (λ q o. equation_within (is_other p) o ≡ true) qs
+equations_without : (p : Pos) (qs : List FactPosition) → list_any (λ q. equation_mentions p q.equation) qs ≡ false
+    → AllEquations (λ q o. equation_within (is_other p) o ≡ true) qs
 equations_without p [] h = tt
-equations_without p (q ∷ qs) h =
-    (sym (equation_other p q.equation) ∙ ap not (or_left_false (equation_mentions p q.equation) (list_any (λ q. equation_mentions p q.equation) qs) h), equations_without p qs (or_right_false (equation_mentions p q.equation) (list_any (λ q. equation_mentions p q.equation) qs) h))
+equations_without p (q ∷ qs) h = (
+  sym (equation_other p q.equation) ∙ ap not (neither_first (equation_mentions p q.equation) (list_any (λ q. equation_mentions p q.equation) qs) h),
+  equations_without p qs (neither_second (equation_mentions p q.equation) (list_any (λ q. equation_mentions p q.equation) qs) h),
+)
 
 literals_without : (p : Pos) (ls : List NormalLiteral) → list_any (literal_mentions p) ls ≡ false → list_all (literal_within (is_other p)) ls ≡ true
 literals_without p [] h = refl
 literals_without p (l ∷ ls) h =
-    and_both _ _ (sym (literal_other p l) ∙ ap not (or_left_false (literal_mentions p l) (list_any (literal_mentions p) ls) h)) (literals_without p ls (or_right_false (literal_mentions p l) (list_any (literal_mentions p) ls) h))
+    and_from _ _ (sym (literal_other p l) ∙ ap not (neither_first (literal_mentions p l) (list_any (literal_mentions p) ls) h))
+    (literals_without p ls (neither_second (literal_mentions p l) (list_any (literal_mentions p) ls) h))
 
 without : (p : Pos) (f : Fact) → is_mentioned f p ≡ false → Without p f
 without p f h = record {
-  equations = equations_without p f.positions (or_left_false (list_any (λ q. equation_mentions p q.equation) f.positions) (list_any (literal_mentions p) f.literals) h);
-  literals = literals_without p f.literals (or_right_false (list_any (λ q. equation_mentions p q.equation) f.positions) (list_any (literal_mentions p) f.literals) h);
+  equations = equations_without p f.positions
+      (neither_first (list_any (λ q. equation_mentions p q.equation) f.positions) (list_any (literal_mentions p) f.literals) h);
+  literals = literals_without p f.literals
+      (neither_second (list_any (λ q. equation_mentions p q.equation) f.positions) (list_any (literal_mentions p) f.literals) h);
 }
 
 -- in a solved fact a position with an equation is not mentioned
-solved_unmentioned : (f : Fact) (p : Pos) (qs : List FactPosition) → list_all (λ q. not (is_unsolved f q)) qs ≡ true → has_equation p qs ≡ true → is_mentioned f p ≡ false
+solved_unmentioned : (f : Fact) (p : Pos) (qs : List FactPosition) → list_all (λ q. not (is_unsolved f q)) qs ≡ true → has_equation p qs ≡ true
+    → is_mentioned f p ≡ false
 solved_unmentioned f p [] h g = absurd (cc g)
 solved_unmentioned f p (q ∷ qs) h g =
-    by_test (not (is_none q.equation)) (same_pos p q.pos) refl (and_left (not (is_unsolved f q)) (list_all (λ q. not (is_unsolved f q)) qs) h) g (λ i. solved_unmentioned f p qs (and_right (not (is_unsolved f q)) (list_all (λ q. not (is_unsolved f q)) qs) h) i)
+    by_test (not (is_none q.equation)) (same_pos p q.pos) refl (and_first (not (is_unsolved f q)) (list_all (λ q. not (is_unsolved f q)) qs) h) g
+    (λ i. solved_unmentioned f p qs (and_second (not (is_unsolved f q)) (list_all (λ q. not (is_unsolved f q)) qs) h) i)
   where
-    by_test : (a b : Bool) → same_pos p q.pos ≡ b → not (a && is_mentioned f q.pos) ≡ true → (a && b) || has_equation p qs ≡ true → (has_equation p qs ≡ true → is_mentioned f p ≡ false) → is_mentioned f p ≡ false
-    by_test true true e s i next = ap (is_mentioned f) (pos_equal p q.pos e) ∙ not_true (is_mentioned f q.pos) s
+    by_test : (a b : Bool) → same_pos p q.pos ≡ b → not (a && is_mentioned f q.pos) ≡ true → (a && b) || has_equation p qs ≡ true
+        → (has_equation p qs ≡ true → is_mentioned f p ≡ false) → is_mentioned f p ≡ false
+    by_test true true e s i next = ap (is_mentioned f) (pos_equal p q.pos e) ∙ not-true (is_mentioned f q.pos) s
     by_test true false e s i next = next i
     by_test false b e s i next = next i
 
@@ -111,7 +110,8 @@ other_than p q qs h g = by_test (same_pos p q) refl
     has_place [] h = absurd (cc h)
     has_place (r ∷ rs) h = by_tests (not (is_none r.equation)) (same_pos p r.pos) h (λ i. has_place rs i)
       where
-        by_tests : (a b : Bool) → (a && b) || has_equation p rs ≡ true → (has_equation p rs ≡ true → list_any (same_pos p) (places rs) ≡ true) → b || list_any (same_pos p) (places rs) ≡ true
+        by_tests : (a b : Bool) → (a && b) || has_equation p rs ≡ true → (has_equation p rs ≡ true → list_any (same_pos p) (places rs) ≡ true)
+            → b || list_any (same_pos p) (places rs) ≡ true
         by_tests a true i next = refl
         by_tests true false i next = next i
         by_tests false false i next = next i
@@ -128,15 +128,21 @@ Other p q = not (same_pos p q) ≡ true
 
 others : (p : Pos) (qs : List FactPosition) → list_any (same_pos p) (places qs) ≡ false → FreePass (λ s q. Other p q) qs
 others p [] h = tt
-others p (q ∷ qs) h = ((λ e. ap not (or_left_false (same_pos p q.pos) (list_any (same_pos p) (places qs)) h)), others p qs (or_right_false (same_pos p q.pos) (list_any (same_pos p) (places qs)) h))
+others p (q ∷ qs) h = (
+  (λ e. ap not (neither_first (same_pos p q.pos) (list_any (same_pos p) (places qs)) h)),
+  others p qs (neither_second (same_pos p q.pos) (list_any (same_pos p) (places qs)) h),
+)
 
-free_others : (p : Pos) (qs : List FactPosition) → all_differ (places qs) ≡ true → has_equation p qs ≡ true → FreePass (λ s q. Other p q) qs
+free_others : (p : Pos) (qs : List FactPosition) → are_distinct_positions (places qs) ≡ true → has_equation p qs ≡ true → FreePass (λ s q. Other p q) qs
 free_others p [] d h = tt
 free_others p (q ∷ qs) d h =
-    let fresh = not_true (list_any (same_pos q.pos) (places qs)) (and_left (not (list_any (same_pos q.pos) (places qs))) (all_differ (places qs)) d) in
-    by_test q.equation (same_pos p q.pos) refl h fresh (λ i. free_others p qs (and_right (not (list_any (same_pos q.pos) (places qs))) (all_differ (places qs)) d) i)
+    let fresh = not-true (list_any (same_pos q.pos) (places qs))
+    (and_first (not (list_any (same_pos q.pos) (places qs))) (are_distinct_positions (places qs)) d) in
+    by_test q.equation (same_pos p q.pos) refl h fresh
+    (λ i. free_others p qs (and_second (not (list_any (same_pos q.pos) (places qs))) (are_distinct_positions (places qs)) d) i)
   where
-    by_test : (o : Option Nf) (b : Bool) → same_pos p q.pos ≡ b → (not (is_none o) && b) || has_equation p qs ≡ true → list_any (same_pos q.pos) (places qs) ≡ false → (has_equation p qs ≡ true → FreePass (λ s q. Other p q) qs)
+    by_test : (o : Option Nf) (b : Bool) → same_pos p q.pos ≡ b → (not (is_none o) && b) || has_equation p qs ≡ true
+        → list_any (same_pos q.pos) (places qs) ≡ false → (has_equation p qs ≡ true → FreePass (λ s q. Other p q) qs)
         → (o ≡ None → Other p q.pos) × FreePass (λ s q. Other p q) qs
     by_test None b e i fresh next = ((λ n. ap not (other_than p q.pos qs i fresh)), next i)
     by_test (Some f) true e i fresh next =
@@ -145,10 +151,12 @@ free_others p (q ∷ qs) d h =
     by_test (Some f) false e i fresh next = ((λ n. absurd (cc n)), next i)
 
 -- a fact is solved where its symbols are its free positions
-all_solved : (f : Fact) → ((p : Pos) → has_equation p f.positions ≡ true → is_mentioned f p ≡ false) → (qs : List FactPosition) → ((p : Pos) → has_equation p qs ≡ true → has_equation p f.positions ≡ true) → list_all (λ q. not (is_unsolved f q)) qs ≡ true
+all_solved : (f : Fact) → ((p : Pos) → has_equation p f.positions ≡ true → is_mentioned f p ≡ false) → (qs : List FactPosition)
+    → ((p : Pos) → has_equation p qs ≡ true → has_equation p f.positions ≡ true) → list_all (λ q. not (is_unsolved f q)) qs ≡ true
 all_solved f h [] g = refl
 all_solved f h (q ∷ qs) g =
-    and_both (not (is_unsolved f q)) (list_all (λ q. not (is_unsolved f q)) qs) (by_equation (is_none q.equation) refl) (all_solved f h qs (λ p i. g p (or_second (not (is_none q.equation) && same_pos p q.pos) (has_equation p qs) i)))
+    and_from (not (is_unsolved f q)) (list_all (λ q. not (is_unsolved f q)) qs) (by_equation (is_none q.equation) refl)
+    (all_solved f h qs (λ p i. g p (or_right (not (is_none q.equation) && same_pos p q.pos) (has_equation p qs) i)))
   where
     by_equation : (b : Bool) → is_none q.equation ≡ b → not (not b && is_mentioned f q.pos) ≡ true
     by_equation true e = refl
@@ -156,10 +164,12 @@ all_solved f h (q ∷ qs) g =
         let i : has_equation q.pos (q ∷ qs) ≡ true = ap₂ (λ x y. (not x && y) || has_equation q.pos qs) e (own_pos q.pos) in
         ap not (h q.pos (g q.pos i))
 
-solved_by : (f : Fact) → all_differ (places f.positions) ≡ true → ((p : Pos) → has_equation p f.positions ≡ true → FreePass (λ s q. Other p q) f.positions → Without p f) → is_solved f ≡ true
+solved_by : (f : Fact) → are_distinct_positions (places f.positions) ≡ true
+    → ((p : Pos) → has_equation p f.positions ≡ true → FreePass (λ s q. Other p q) f.positions → Without p f) → is_solved f ≡ true
 solved_by f d h = all_solved f (λ p i. unmentioned p f (h p i (free_others p f.positions d i))) f.positions (λ p i. i)
 
-pub rebase_solved : (post : Post) (ps : List Position) (f : Fact) → rebase post ps ≡ Done f → all_differ (places f.positions) ≡ true → is_solved f ≡ true
+pub rebase_solved : (post : Post) (ps : List Position) (f : Fact) → rebase post ps ≡ Done f → are_distinct_positions (places f.positions) ≡ true
+    → is_solved f ≡ true
 rebase_solved post ps f e d = solved_by f d (λ p i m. let r = rebase_within (is_other p) post ps f e m in record { equations = r.0; literals = r.1 })
 
 -- ---- the positions of a join are the old ones, and each that has an equation had one
@@ -169,7 +179,10 @@ Shape [] (q ∷ qs) = ⊥
 Shape (p ∷ ps) [] = ⊥
 Shape (p ∷ ps) (q ∷ qs) = ((q.pos ≡ p.pos) × (q.sort ≡ p.sort) × (p.equation ≡ None → q.equation ≡ None)) × Shape ps qs
 
-shape_step : (v : List (Pos × Nf)) (b : Bool) (p : FactPosition) (o : Option Nf) → p.equation ≡ o → (fs : List Freed) (later : List Freed → Computed (List FactPosition)) (ps qs : List FactPosition) → ((gs : List Freed) (rs : List FactPosition) → later gs ≡ Done rs → Shape ps rs)
+shape_step :
+    (v : List (Pos × Nf)) (b : Bool) (p : FactPosition) (o : Option Nf) → p.equation ≡ o
+    → (fs : List Freed) (later : List Freed → Computed (List FactPosition)) (ps qs : List FactPosition)
+    → ((gs : List Freed) (rs : List FactPosition) → later gs ≡ Done rs → Shape ps rs)
     → position_joined v b p o fs later ≡ Done qs → Shape (p ∷ ps) qs
 shape_step v false p o s fs later ps qs next e =
     let t = goes_done (later fs) (λ rest. Done (p ∷ rest)) qs e in
@@ -185,9 +198,11 @@ shape_step v true p (Some f) s fs later ps qs next e =
     let k : with_equation p i.middle ∷ t.middle ≡ qs = cc t.next in
     subst (Shape (p ∷ ps)) k ((refl, refl, λ n. absurd (let m : Some f ≡ None = sym s ∙ n in cc m)), next (freed_with p.pos f i.middle fs) t.middle t.first)
 
-shape_of : (v : List (Pos × Nf)) (k : ℕ) (missing : List ℕ) (fs : List Freed) (ps qs : List FactPosition) → positions_joined v k missing fs ps ≡ Done qs → Shape ps qs
+shape_of : (v : List (Pos × Nf)) (k : ℕ) (missing : List ℕ) (fs : List Freed) (ps qs : List FactPosition)
+    → positions_joined v k missing fs ps ≡ Done qs → Shape ps qs
 shape_of v k missing fs [] qs e = let s : [] ≡ qs = cc e in subst (Shape []) s tt
-shape_of v k missing fs (p ∷ ps) qs e = shape_step v (is_among k missing) p p.equation refl fs (λ gs. positions_joined v (k + 1) missing gs ps) ps qs (λ gs rs i. shape_of v (k + 1) missing gs ps rs i) e
+shape_of v k missing fs (p ∷ ps) qs e = shape_step v (is_among k missing) p p.equation refl fs (λ gs. positions_joined v (k + 1) missing gs ps) ps qs
+    (λ gs rs i. shape_of v (k + 1) missing gs ps rs i) e
 
 pub join_shape : (old new : Fact) (post : Post) (missing : Missing) → join old post missing ≡ Done new → Shape old.positions new.positions
 join_shape old new post missing e =
@@ -200,7 +215,7 @@ same_places p [] (q ∷ qs) h = absurd h
 same_places p (r ∷ ps) [] h = absurd h
 same_places p (r ∷ ps) (q ∷ qs) h = ap₂ (λ x y. same_pos p x || y) h.0.0 (same_places p ps qs h.1)
 
-still_differ : (ps qs : List FactPosition) → Shape ps qs → all_differ (places qs) ≡ all_differ (places ps)
+still_differ : (ps qs : List FactPosition) → Shape ps qs → are_distinct_positions (places qs) ≡ are_distinct_positions (places ps)
 still_differ [] [] h = refl
 still_differ [] (q ∷ qs) h = absurd h
 still_differ (r ∷ ps) [] h = absurd h
@@ -211,9 +226,11 @@ had_equation : (p : Pos) (ps qs : List FactPosition) → Shape ps qs → has_equ
 had_equation p [] [] h e = e
 had_equation p [] (q ∷ qs) h e = absurd h
 had_equation p (r ∷ ps) [] h e = absurd h
-had_equation p (r ∷ ps) (q ∷ qs) h e = by_tests r.equation q.equation h.0.2 (same_pos p q.pos) (same_pos p r.pos) (ap (same_pos p) h.0.0) e (λ i. had_equation p ps qs h.1 i)
+had_equation p (r ∷ ps) (q ∷ qs) h e = by_tests r.equation q.equation h.0.2 (same_pos p q.pos) (same_pos p r.pos)
+    (ap (same_pos p) h.0.0) e (λ i. had_equation p ps qs h.1 i)
   where
-    by_tests : (o n : Option Nf) → (o ≡ None → n ≡ None) → (b c : Bool) → b ≡ c → (not (is_none n) && b) || has_equation p qs ≡ true → (has_equation p qs ≡ true → has_equation p ps ≡ true) → (not (is_none o) && c) || has_equation p ps ≡ true
+    by_tests : (o n : Option Nf) → (o ≡ None → n ≡ None) → (b c : Bool) → b ≡ c → (not (is_none n) && b) || has_equation p qs ≡ true
+        → (has_equation p qs ≡ true → has_equation p ps ≡ true) → (not (is_none o) && c) || has_equation p ps ≡ true
     by_tests None None f b c s i next = next i
     by_tests None (Some x) f b c s i next = absurd (cc (f refl))
     by_tests (Some y) n f b true s i next = refl
@@ -229,7 +246,8 @@ own_others p (q ∷ qs) = (one q.pos q.equation, own_others p qs)
     one q None = tt
     one q (Some f) = λ h. h
 
-pub join_solved : (old new : Fact) (post : Post) (missing : Missing) → join old post missing ≡ Done new → all_differ (places old.positions) ≡ true → is_solved old ≡ true → is_solved new ≡ true
+pub join_solved : (old new : Fact) (post : Post) (missing : Missing) → join old post missing ≡ Done new → are_distinct_positions (places old.positions) ≡ true
+    → is_solved old ≡ true → is_solved new ≡ true
 join_solved old new post missing e d h =
     let s = join_shape old new post missing e in
     solved_by new (still_differ old.positions new.positions s ∙ d) (λ p i m.

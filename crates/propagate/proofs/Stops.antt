@@ -5,7 +5,8 @@ use Rattle.nf_terms.specs.Computed.{Computed, Answers, after}
 use Rattle.nf_terms.specs.declared.stop.NfStop.{NfStop}
 use Rattle.nf_terms.specs.declared.stop.NfStop.TheVariants as stop
 
-pub stopped : {S T : Type 0} (r : Result T NfStop) (s : NfStop) (c : Computed S) (next : S → Computed T) → IsErrAnd r (λ e. e ≡ s) → Answers {T = S} (Err s) c → Answers r (after c next)
+pub stopped : {S T : Type 0} (r : Result T NfStop) (s : NfStop) (c : Computed S) (next : S → Computed T) → IsErrAnd r (λ e. e ≡ s) → Answers {T = S} (Err s) c
+    → Answers r (after c next)
 stopped (Ok x) s c next e h = absurd e
 stopped {S} {T} (Err t) s c next e h = subst (λ z. Answers {T = T} (Err z) (after c next)) (sym e) (by_stop s h)
   where

@@ -2,18 +2,18 @@
 use Rattle.std.proofs.Common.{◌≡◌, ◌≤◌, true, refl, ap, sym, ◌∙◌, arith, List, [], ◌∷◌, length, map, Option, Some, None}
 use Rattle.std.specs.List.{list_all}
 use Rattle.std.proofs.lemmas.List.{length-map}
+use Rattle.std.proofs.lemmas.Bool.{and_from}
 use Rattle.fs_model.specs.declared.parts.Sort.{Sort}
 use Rattle.fs_pair.specs.declared.positions.Position.{Position}
 use Rattle.fs_pair.specs.Paired.{IsPairing}
 use Rattle.nf_terms.specs.Forms.{sort_of_form}
-use Rattle.nf_terms.specs.declared.tree.Pos.{Pos}
+use Rattle.fs_model.specs.declared.sides.Pos.{Pos}
 use Rattle.nf_terms.specs.declared.form.Nf.{Nf}
-use Rattle.nf_terms.proofs.Tests.{and_both}
 use Rattle.nf_subst.specs.Vectors.{same_sort}
 use Rattle.nf_subst.specs.SamePlaces.{own_sort}
 use Rattle.sym_facts.specs.Facts.{FactPosition, Fact, sort_of_terms, form_or_symbol, vector_of, has_its_sort, is_solved, may_be_kept, most_literals}
 use Rattle.sym_facts.specs.Pairings.{IsFactOf}
-use Rattle.sym_facts.specs.Parts.{all_differ, IsKept}
+use Rattle.sym_facts.specs.FactParts.{are_distinct_positions, IsKept}
 use Rattle.sym_facts.proofs.Kept.{all_positions_differ, few_positions}
 use Rattle.sym_facts.proofs.Vectors.{positions_again}
 
@@ -21,7 +21,9 @@ pub sort_kept : (s : Sort) (p : Pos) (o : Option Nf) → sort_of_form (form_or_s
 sort_kept s p None e = refl
 sort_kept s p (Some f) e = ap (same_sort (sort_of_terms s)) e ∙ own_sort (sort_of_terms s)
 
-pub sorts_kept : (ps : List Position) (qs : List FactPosition) → map (λ q. q.sort) qs ≡ map (λ p. p.sort) ps → map (λ e. sort_of_form e.1) (vector_of qs) ≡ map (λ p. sort_of_terms p.sort) ps → list_all (λ q. has_its_sort q.sort q.equation) qs ≡ true
+pub sorts_kept :
+    (ps : List Position) (qs : List FactPosition) → map (λ q. q.sort) qs ≡ map (λ p. p.sort) ps
+    → map (λ e. sort_of_form e.1) (vector_of qs) ≡ map (λ p. sort_of_terms p.sort) ps → list_all (λ q. has_its_sort q.sort q.equation) qs ≡ true
 sorts_kept ps [] s f = refl
 sorts_kept [] (q ∷ qs) s f = absurd (cc s)
 sorts_kept (p ∷ ps) (q ∷ qs) s f =
@@ -29,12 +31,14 @@ sorts_kept (p ∷ ps) (q ∷ qs) s f =
     let others : map (λ q. q.sort) qs ≡ map (λ p. p.sort) ps = cc s in
     let form : sort_of_form (form_or_symbol q.sort q.pos q.equation) ≡ sort_of_terms p.sort = cc f in
     let forms : map (λ e. sort_of_form e.1) (vector_of qs) ≡ map (λ p. sort_of_terms p.sort) ps = cc f in
-    and_both _ _ (sort_kept q.sort q.pos q.equation (form ∙ ap sort_of_terms (sym mine))) (sorts_kept ps qs others forms)
+    and_from _ _ (sort_kept q.sort q.pos q.equation (form ∙ ap sort_of_terms (sym mine))) (sorts_kept ps qs others forms)
 
-pub whole_fact : (ps : List Position) (f : Fact) → IsPairing ps → IsFactOf ps f → (all_differ (map (λ q. q.pos) f.positions) ≡ true → is_solved f ≡ true) → length f.literals ≤ most_literals → list_all may_be_kept f.literals ≡ true → IsKept f
+pub whole_fact : (ps : List Position) (f : Fact) → IsPairing ps → IsFactOf ps f
+    → (are_distinct_positions (map (λ q. q.pos) f.positions) ≡ true → is_solved f ≡ true) → length f.literals ≤ most_literals
+    → list_all may_be_kept f.literals ≡ true → IsKept f
 whole_fact ps f p h solved few kept =
     let same : map (λ q. q.pos) f.positions ≡ map (λ p. p.pos) ps = sym (positions_again f.positions) ∙ h.vector.positions in
-    let differ : all_differ (map (λ q. q.pos) f.positions) ≡ true = ap all_differ same ∙ all_positions_differ ps p in
+    let differ : are_distinct_positions (map (λ q. q.pos) f.positions) ≡ true = ap are_distinct_positions same ∙ all_positions_differ ps p in
     record {
       fact = record { sorts = sorts_kept ps f.positions h.sorts h.vector.sorts; solved = solved differ; few = few; literals = kept };
       differ = differ;

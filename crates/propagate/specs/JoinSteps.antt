@@ -1,8 +1,8 @@
 -- A join as it is made, one position and one freed position after the other.
 use Rattle.std.specs.Prelude.{ℕ, ◌+◌, ◌==◌, Bool, true, false, cond, List, [], ◌∷◌, Option, Some, None}
-use Rattle.nf_terms.specs.Terms.{Polynomial}
+use Rattle.nf_terms.specs.NormalTerms.{Polynomial}
 use Rattle.nf_terms.specs.Computed.{Computed, Done, after}
-use Rattle.nf_terms.specs.declared.tree.Pos.{Pos}
+use Rattle.fs_model.specs.declared.sides.Pos.{Pos}
 use Rattle.nf_terms.specs.declared.form.Nf.{Nf}
 use Rattle.nf_rel.specs.Literals.{NormalLiteral}
 use Rattle.sym_facts.specs.Facts.{FactPosition}
@@ -31,9 +31,9 @@ freed_after true p None new fs = fs
 freed_after true p (Some t) new fs = freed_with p t new fs
 
 -- whether a place is the first of those that are left
-abbrev pub is_first : ℕ → List ℕ → Bool
-is_first k [] = false
-is_first k (j ∷ js) = j == k
+abbrev pub is_first_place : ℕ → List ℕ → Bool
+is_first_place k [] = false
+is_first_place k (j ∷ js) = j == k
 
 -- those that are left behind a place
 abbrev pub left_behind : ℕ → List ℕ → List ℕ
@@ -44,9 +44,12 @@ left_behind k (j ∷ js) = cond (j == k) js (j ∷ js)
 abbrev pub joined_from : List (Pos × Nf) → ℕ → (left : List ℕ) → List Freed → List FactPosition → Computed (List FactPosition)
 joined_from v k left fs [] = Done []
 joined_from v k left fs (p ∷ ps) =
-    after (equation_joined v (is_first k left) p.pos p.equation fs) (λ o. after (joined_from v (k + 1) (left_behind k left) (freed_after (is_first k left) p.pos p.equation o fs) ps) (λ rest. Done (with_equation p o ∷ rest)))
+    after (equation_joined v (is_first_place k left) p.pos p.equation fs)
+    (λ o. after (joined_from v (k + 1) (left_behind k left) (freed_after (is_first_place k left) p.pos p.equation o fs) ps)
+    (λ rest. Done (with_equation p o ∷ rest)))
 
 -- the literals from index k on, where these indices are left
 abbrev pub literals_from : ℕ → (left : List ℕ) → List NormalLiteral → List NormalLiteral
 literals_from k left [] = []
-literals_from k left (l ∷ ls) = cond (is_first k left) (literals_from (k + 1) (left_behind k left) ls) (l ∷ literals_from (k + 1) (left_behind k left) ls)
+literals_from k left (l ∷ ls) = cond (is_first_place k left) (literals_from (k + 1) (left_behind k left) ls)
+    (l ∷ literals_from (k + 1) (left_behind k left) ls)

@@ -1,12 +1,12 @@
 -- The join of a fact with a post.
 use Rattle.std.specs.Prelude.{ℕ, ◌+◌, ◌==◌, Bool, true, false, ◌&&◌, cond, List, [], ◌∷◌, ◌++◌, Option, Some, None}
 use Rattle.std.specs.List.{list_any}
-use Rattle.nf_terms.specs.Terms.{Polynomial, polynomial_of_symbol, bare_array}
+use Rattle.nf_terms.specs.NormalTerms.{Polynomial, polynomial_of_symbol, bare_array}
 use Rattle.nf_terms.specs.Lists.{bare_list}
 use Rattle.nf_terms.specs.Order.{same_polynomial}
 use Rattle.nf_terms.specs.Forms.{same_form}
 use Rattle.nf_terms.specs.Computed.{Computed, Done, after}
-use Rattle.nf_terms.specs.declared.tree.Pos.{Pos}
+use Rattle.fs_model.specs.declared.sides.Pos.{Pos}
 use Rattle.nf_terms.specs.declared.tree.Base.TheVariants as base
 use Rattle.nf_terms.specs.declared.tree.SeqBase.TheVariants as list
 use Rattle.nf_terms.specs.declared.form.Nf.{Nf}
@@ -30,7 +30,8 @@ symbol_like p (Num q) = Num (polynomial_of_symbol p)
 symbol_like p (Arr a) = Arr (bare_array (base.Sym p))
 symbol_like p (Seq l) = Seq (bare_list (list.Sym p))
 
--- the number p with the form t is tied to q: q's symbol and the difference of the forms, where the arriving numbers differ as that does
+-- the number p with the form t is tied to q: q's symbol and the difference of the forms, where the arriving numbers differ as
+-- that does
 abbrev pub number_tied_to : List (Pos × Nf) → Pos → Polynomial → Pos → Nf → (later : Computed (Option Nf)) → Computed (Option Nf)
 number_tied_to v p t q (Num u) later =
     after (subtracted t u) (λ d. after (subtracted (number_at v p) (number_at v q)) (λ e. after (substituted v d) (λ s.
@@ -65,7 +66,8 @@ freed_with p t None fs = fs ++ record { pos = p; old = t } ∷ []
 freed_with p t (Some r) fs = fs
 
 -- an equation that holds stays; where it fails its position is tied, or freed
-abbrev pub position_joined : List (Pos × Nf) → (fails : Bool) → FactPosition → Option Nf → List Freed → (later : List Freed → Computed (List FactPosition)) → Computed (List FactPosition)
+abbrev pub position_joined : List (Pos × Nf) → (fails : Bool) → FactPosition → Option Nf → List Freed
+    → (later : List Freed → Computed (List FactPosition)) → Computed (List FactPosition)
 position_joined v false p o fs later = after (later fs) (λ rest. Done (p ∷ rest))
 position_joined v true p None fs later = after (later fs) (λ rest. Done (p ∷ rest))
 position_joined v true p (Some t) fs later =
@@ -75,16 +77,20 @@ abbrev pub is_among : ℕ → List ℕ → Bool
 is_among k ks = list_any (λ j. j == k) ks
 
 -- the positions from place k on
-abbrev pub positions_joined : List (Pos × Nf) → ℕ → (missing : List ℕ) → List Freed → List FactPosition → Computed (List FactPosition)
+abbrev pub positions_joined : List (Pos × Nf) → ℕ → (missing : List ℕ) → List Freed → List FactPosition
+    → Computed (List FactPosition)
 positions_joined v k missing fs [] = Done []
-positions_joined v k missing fs (p ∷ ps) = position_joined v (is_among k missing) p p.equation fs (λ gs. positions_joined v (k + 1) missing gs ps)
+positions_joined v k missing fs (p ∷ ps) = position_joined v (is_among k missing) p p.equation fs
+    (λ gs. positions_joined v (k + 1) missing gs ps)
 
 -- the literals that are not missing, from index k on
 abbrev pub literals_kept : ℕ → (missing : List ℕ) → List NormalLiteral → List NormalLiteral
 literals_kept k missing [] = []
-literals_kept k missing (l ∷ ls) = cond (is_among k missing) (literals_kept (k + 1) missing ls) (l ∷ literals_kept (k + 1) missing ls)
+literals_kept k missing (l ∷ ls) = cond (is_among k missing) (literals_kept (k + 1) missing ls)
+    (l ∷ literals_kept (k + 1) missing ls)
 
 -- the fact without what the post does not entail
 abbrev pub join : Fact → Post → Missing → Computed Fact
 join old post missing =
-    after (positions_joined post.vector 0 missing.equations [] old.positions) (λ ps. Done (record { positions = ps; literals = literals_kept 0 missing.literals old.literals }))
+    after (positions_joined post.vector 0 missing.equations [] old.positions)
+    (λ ps. Done (record { positions = ps; literals = literals_kept 0 missing.literals old.literals }))

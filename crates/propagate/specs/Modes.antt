@@ -4,11 +4,11 @@ use Rattle.fs_model.specs.Machines.{Fsmd}
 use Rattle.fs_cut.specs.Paths.{Point, Path}
 use Rattle.fs_cut.specs.Paths as paths
 use Rattle.fs_cut.specs.Covers.{paths_of, same_point}
-use Rattle.bisimulation.specs.declared.mode.Mode.{Mode}
-use Rattle.bisimulation.specs.declared.mode.Mode.TheVariants.{Both, Left, Right, End}
+use Rattle.cert_bisimulation.specs.declared.mode.Mode.{Mode}
+use Rattle.cert_bisimulation.specs.declared.mode.Mode.TheVariants.{Both, Left, Right, End}
 use Rattle.nf_terms.specs.Computed.{Computed, Done, Wide, Large, after}
-use Rattle.nf_terms.specs.declared.tree.Side.{Side}
-use Rattle.nf_terms.specs.declared.tree.Side.TheVariants as side
+use Rattle.fs_model.specs.declared.sides.Side.{Side}
+use Rattle.fs_model.specs.declared.sides.Side.TheVariants as side
 use Rattle.nf_rel.specs.Literals.{is_refuted}
 use Rattle.sym_paths.specs.Execution.{conditions}
 use Rattle.sym_facts.specs.Facts.{Fact, vector_of}
@@ -32,17 +32,18 @@ on_path d k (Wide left right) = WideAt d k left right
 on_path d k (Large units depth) = LargeAt d k units depth
 
 -- whether a path is not refuted under a fact: its conditions over the fact's vector, behind the fact's literals
-abbrev pub is_open : Fsmd → Side → Fact → Path → Computed Bool
-is_open m d f p = after (conditions m p d (vector_of f.positions)) (λ ls. Done (not (is_refuted (f.literals ++ ls))))
+abbrev pub is_open_path : Fsmd → Side → Fact → Path → Computed Bool
+is_open_path m d f p = after (conditions m p d (vector_of f.positions)) (λ ls. Done (not (is_refuted (f.literals ++ ls))))
 
 -- one more where a path is not refuted
-abbrev pub counted : ℕ → Bool → ℕ
-counted n more = cond more (n + 1) n
+abbrev pub count_open : ℕ → Bool → ℕ
+count_open n more = cond more (n + 1) n
 
 -- how many paths of a side are not refuted under a fact, beside those that are counted so far
 abbrev pub count_from : Fsmd → Side → Fact → List Path → ℕ → Traced ℕ
 count_from m d f [] n = Found n
-count_from m d f (p ∷ ps) n = followed (on_path d p.branch (is_open m d f p)) (λ more. count_from m d f ps (counted n more))
+count_from m d f (p ∷ ps) n = followed (on_path d p.branch (is_open_path m d f p))
+    (λ more. count_from m d f ps (count_open n more))
 
 -- a machine that has one way on at most moves alone where the other has more
 abbrev pub mode_of_counts : (left right : ℕ) → Mode
@@ -59,4 +60,5 @@ mode_by false false f = f
 abbrev pub mode_of : (a b : Fsmd) → Fact → (left right : Point) → Traced Mode
 mode_of a b f P Q =
     mode_by (same_point P paths.Done) (same_point Q paths.Done)
-    (followed (count_from a side.Left f (paths_of a P) 0) (λ n. followed (count_from b side.Right f (paths_of b Q) 0) (λ k. Found (mode_of_counts n k))))
+    (followed (count_from a side.Left f (paths_of a P) 0)
+    (λ n. followed (count_from b side.Right f (paths_of b Q) 0) (λ k. Found (mode_of_counts n k))))

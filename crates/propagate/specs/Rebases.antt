@@ -1,16 +1,18 @@
 -- The rebase of a post: the fact whose symbols are the values where the post leads.
-use Rattle.std.specs.Prelude.{Bool, true, false, ◌||◌, cond, is_some, ℤ, pos, neg_ℤ, take, filter, List, [], ◌∷◌, ◌++◌, Option, Some, None}
+use Rattle.std.specs.Prelude.{Bool, true, false, ◌||◌, cond, is_some, ℤ, pos, neg_ℤ, take, filter, List, [], ◌∷◌, ◌++◌, Option}
+use Rattle.std.specs.Prelude.{Some, None}
 use Rattle.std.specs.Option.{option_map}
 use Rattle.std.specs.List.{list_all, list_any}
 use Rattle.std.specs.Ordering.{int_eq}
 use Rattle.fs_model.specs.declared.parts.Sort.{Sort}
 use Rattle.fs_model.specs.declared.parts.Sort.TheVariants as sort
 use Rattle.fs_pair.specs.declared.positions.Position.{Position}
-use Rattle.nf_terms.specs.Terms.{Atom, Monomial, Polynomial, ArrayTerm, Symbol, Read, Quotient, Remainder, One, Times, Zero, Plus, Over, NoWrites, Write, polynomial_of_symbol}
+use Rattle.nf_terms.specs.NormalTerms.{Atom, Monomial, Polynomial, ArrayTerm, Symbol, Read, Quotient, Remainder, One, Times, Zero}
+use Rattle.nf_terms.specs.NormalTerms.{Plus, Over, NoWrites, Write, polynomial_of_symbol}
 use Rattle.nf_terms.specs.Forms.{same_form}
 use Rattle.nf_terms.specs.Symbols.{symbols_of}
 use Rattle.nf_terms.specs.Computed.{Computed, Done, after}
-use Rattle.nf_terms.specs.declared.tree.Pos.{Pos}
+use Rattle.fs_model.specs.declared.sides.Pos.{Pos}
 use Rattle.nf_terms.specs.declared.tree.Base.{Base}
 use Rattle.nf_terms.specs.declared.tree.Base.TheVariants as base
 use Rattle.nf_terms.specs.declared.tree.SeqBase.{SeqBase}
@@ -20,7 +22,7 @@ use Rattle.nf_terms.specs.declared.symbols.Sort.TheVariants as term
 use Rattle.nf_terms.specs.declared.form.Nf.{Nf}
 use Rattle.nf_terms.specs.declared.form.Nf.TheVariants.{Num, Arr, Seq}
 use Rattle.nf_sums.specs.Operations.{added, subtracted}
-use Rattle.nf_subst.specs.Vectors.{form_at, number_at, array_at, list_at, with_form}
+use Rattle.nf_subst.specs.Vectors.{form_at, number_at, array_form, list_at, with_form}
 use Rattle.nf_subst.specs.Substitution.{substituted}
 use Rattle.nf_rel.specs.Literals.{NormalLiteral, True}
 use Rattle.nf_rel.specs.NormalLiterals.{same_literal}
@@ -33,7 +35,7 @@ use Rattle.sym_facts.specs.Pairings.{form_within, literal_within}
 -- what a vector has at a position of a sort
 abbrev pub value_at : List (Pos × Nf) → Sort → Pos → Nf
 value_at v sort.Scalar p = Num (number_at v p)
-value_at v sort.Array p = Arr (array_at v p)
+value_at v sort.Array p = Arr (array_form v p)
 value_at v sort.Port p = Seq (list_at v p)
 
 -- whether a symbol is held: a new meaning stands for it
@@ -91,12 +93,12 @@ bare_symbol (Seq l) = symbol_of_list l.base l.items
 
 -- ---- the first pass: a position whose value is a symbol that is not held holds it
 -- which positions are free so far, and the new meanings
-pub record Held : Type 0 where
+pub record RebaseState : Type 0 where
   pub free : List Bool
   pub meanings : List (Pos × Nf)
 
-abbrev pub marked : Bool → Held → Held
-marked b h = record { free = b ∷ h.free; meanings = h.meanings }
+abbrev pub with_mark : Bool → RebaseState → RebaseState
+with_mark b h = record { free = b ∷ h.free; meanings = h.meanings }
 
 -- the symbol that is not held and that the value of a position is
 abbrev pub unheld : List (Pos × Nf) → TermSort → Option Pos → Option Pos
@@ -107,11 +109,11 @@ abbrev pub symbol_found : (v ms : List (Pos × Nf)) → Sort → Pos → Option 
 symbol_found v ms s p = unheld ms (sort_of_terms s) (bare_symbol (value_at v s p))
 
 -- a position that has found a symbol is free, and its own symbol is the new meaning
-abbrev pub first_by : Option Pos → Sort → Pos → List (Pos × Nf) → (later : List (Pos × Nf) → Held) → Held
-first_by None s p ms later = marked false (later ms)
-first_by (Some x) s p ms later = marked true (later (with_form x (own_symbol s p) ms))
+abbrev pub first_by : Option Pos → Sort → Pos → List (Pos × Nf) → (later : List (Pos × Nf) → RebaseState) → RebaseState
+first_by None s p ms later = with_mark false (later ms)
+first_by (Some x) s p ms later = with_mark true (later (with_form x (own_symbol s p) ms))
 
-abbrev pub first_pass : List (Pos × Nf) → List Position → List (Pos × Nf) → Held
+abbrev pub first_pass : List (Pos × Nf) → List Position → List (Pos × Nf) → RebaseState
 first_pass v [] ms = record { free = []; meanings = ms }
 first_pass v (p ∷ ps) ms = first_by (symbol_found v ms p.sort p.pos) p.sort p.pos ms (λ ns. first_pass v ps ns)
 
@@ -121,8 +123,8 @@ pub record Split : Type 0 where
   pub positive : Bool
   pub rest : Polynomial
 
-abbrev pub with_more : Monomial → ℤ → Split → Split
-with_more m c x = record { symbol = x.symbol; positive = x.positive; rest = Plus m c x.rest }
+abbrev pub with_more_of_split : Monomial → ℤ → Split → Split
+with_more_of_split m c x = record { symbol = x.symbol; positive = x.positive; rest = Plus m c x.rest }
 
 abbrev pub split_by : (held is_one is_minus : Bool) → Pos → Polynomial → (later : Option Split) → Option Split
 split_by true one minus s p later = later
@@ -137,7 +139,7 @@ split_at ms c (Some s) p later = split_by (is_held ms (s, term.Scalar)) (int_eq 
 -- the first symbol alone that is not held, with the coefficient 1 or -1, and the rest
 abbrev pub split : List (Pos × Nf) → Polynomial → Option Split
 split ms Zero = None
-split ms (Plus m c p) = split_at ms c (lone_symbol m) p (option_map (with_more m c) (split ms p))
+split ms (Plus m c p) = split_at ms c (lone_symbol m) p (option_map (with_more_of_split m c) (split ms p))
 
 -- the position's symbol less the rest, or the rest less it
 abbrev pub less_rest : (positive : Bool) → Pos → Polynomial → Computed Polynomial
@@ -153,7 +155,9 @@ pub record Solution : Type 0 where
 abbrev pub solution : List (Pos × Nf) → Pos → Option Split → Computed (Option Solution)
 solution ms p None = Done None
 solution ms p (Some x) =
-    cond (number_held ms x.rest) (after (substituted ms x.rest) (λ r. after (less_rest x.positive p r) (λ t. Done (Some (record { symbol = x.symbol; meaning = t }))))) (Done None)
+    cond (number_held ms x.rest)
+    (after (substituted ms x.rest)
+    (λ r. after (less_rest x.positive p r) (λ t. Done (Some (record { symbol = x.symbol; meaning = t }))))) (Done None)
 
 abbrev pub solved : (free : Bool) → (v ms : List (Pos × Nf)) → Sort → Pos → Computed (Option Solution)
 solved true v ms s p = Done None
@@ -161,20 +165,24 @@ solved false v ms sort.Scalar p = solution ms p (split ms (number_at v p))
 solved false v ms sort.Array p = Done None
 solved false v ms sort.Port p = Done None
 
-abbrev pub second_by : (free : Bool) → Option Solution → List (Pos × Nf) → (later : List (Pos × Nf) → Computed Held) → Computed Held
-second_by free None ms later = after (later ms) (λ h. Done (marked free h))
-second_by free (Some x) ms later = after (later (with_form x.symbol (Num x.meaning) ms)) (λ h. Done (marked true h))
+abbrev pub second_by : (free : Bool) → Option Solution → List (Pos × Nf) → (later : List (Pos × Nf) → Computed RebaseState)
+    → Computed RebaseState
+second_by free None ms later = after (later ms) (λ h. Done (with_mark free h))
+second_by free (Some x) ms later = after (later (with_form x.symbol (Num x.meaning) ms)) (λ h. Done (with_mark true h))
 
-abbrev pub second_pass : List (Pos × Nf) → List Position → List Bool → List (Pos × Nf) → Computed Held
+abbrev pub second_pass : List (Pos × Nf) → List Position → List Bool → List (Pos × Nf) → Computed RebaseState
 second_pass v [] bs ms = Done (record { free = []; meanings = ms })
 second_pass v (p ∷ ps) [] ms = Done (record { free = []; meanings = ms })
 second_pass v (p ∷ ps) (b ∷ bs) ms = after (solved b v ms p.sort p.pos) (λ o. second_by b o ms (λ ns. second_pass v ps bs ns))
 
 -- ---- the third pass: each other position gets its value over held symbols, is tied, or is freed
 -- a number is tied to the first number freed in this pass from which it differs by held symbols alone
-abbrev pub number_tied_to : (v ms : List (Pos × Nf)) → Polynomial → Sort → Pos → (later : Computed (Option Nf)) → Computed (Option Nf)
+abbrev pub number_tied_to : (v ms : List (Pos × Nf)) → Polynomial → Sort → Pos → (later : Computed (Option Nf))
+    → Computed (Option Nf)
 number_tied_to v ms t sort.Scalar q later =
-    after (subtracted t (number_at v q)) (λ d. cond (number_held ms d) (after (substituted ms d) (λ e. after (added (polynomial_of_symbol q) e) (λ r. Done (Some (Num r))))) later)
+    after (subtracted t (number_at v q))
+    (λ d. cond (number_held ms d)
+    (after (substituted ms d) (λ e. after (added (polynomial_of_symbol q) e) (λ r. Done (Some (Num r))))) later)
 number_tied_to v ms t sort.Array q later = later
 number_tied_to v ms t sort.Port q later = later
 
@@ -204,12 +212,15 @@ freed_with p (Some r) qs = qs
 abbrev pub with_equation : Position → Option Nf → FactPosition
 with_equation p o = record { pos = p.pos; sort = p.sort; equation = o }
 
-abbrev pub third_by : (free : Bool) → (v ms : List (Pos × Nf)) → Position → List Position → (later : List Position → Computed (List FactPosition)) → Computed (List FactPosition)
+abbrev pub third_by : (free : Bool) → (v ms : List (Pos × Nf)) → Position → List Position
+    → (later : List Position → Computed (List FactPosition)) → Computed (List FactPosition)
 third_by true v ms p qs later = after (later qs) (λ rest. Done (with_equation p None ∷ rest))
 third_by false v ms p qs later =
-    after (equation_found v ms (value_at v p.sort p.pos) qs) (λ o. after (later (freed_with p o qs)) (λ rest. Done (with_equation p o ∷ rest)))
+    after (equation_found v ms (value_at v p.sort p.pos) qs)
+    (λ o. after (later (freed_with p o qs)) (λ rest. Done (with_equation p o ∷ rest)))
 
-abbrev pub third_pass : (v ms : List (Pos × Nf)) → List Position → List Bool → (freed : List Position) → Computed (List FactPosition)
+abbrev pub third_pass : (v ms : List (Pos × Nf)) → List Position → List Bool → (freed : List Position)
+    → Computed (List FactPosition)
 third_pass v ms [] bs qs = Done []
 third_pass v ms (p ∷ ps) [] qs = Done []
 third_pass v ms (p ∷ ps) (b ∷ bs) qs = third_by b v ms p qs (λ gs. third_pass v ms ps bs gs)
@@ -231,5 +242,6 @@ conditions_over ms ls = each (literal_substituted ms) (filter (literal_held ms) 
 abbrev pub rebase : Post → List Position → Computed Fact
 rebase post ps =
     let first = first_pass post.vector ps [] in
-    after (second_pass post.vector ps first.free first.meanings) (λ h. after (third_pass post.vector h.meanings ps h.free []) (λ qs. after (conditions_over h.meanings post.conditions) (λ ls.
+    after (second_pass post.vector ps first.free first.meanings)
+    (λ h. after (third_pass post.vector h.meanings ps h.free []) (λ qs. after (conditions_over h.meanings post.conditions) (λ ls.
     Done (record { positions = qs; literals = take most_literals (with_needed [] ls) }))))

@@ -2,7 +2,7 @@
 
 ghost use Rattle.std.specs.Prelude.{◌≡◌, [], ◌∷◌};
 ghost use Rattle.nf_terms.specs.View.{atom_in, monomial_in};
-ghost use Rattle.nf_terms.specs.Terms.{polynomial_of};
+ghost use Rattle.nf_terms.specs.NormalTerms.{polynomial_of};
 ghost use Rattle.propagate.specs.Rebases.{lone_atom, lone_symbol, bare_number, symbol_of_array, symbol_of_list, bare_symbol};
 
 use nf_terms::arr::Arr;

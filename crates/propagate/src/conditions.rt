@@ -56,7 +56,8 @@ fn conditions_over(
     conditions: &[NLit],
 ) -> Result<Vec<NLit>, NfStop>
     requires { s.old.vector ≡ meanings.now }
-    ensures answers { Answers (told (λ ls. map literal_in ls.items) result) (conditions_over meanings.now (map literal_in conditions.now)) }
+    ensures answers { Answers (told (λ ls. map literal_in ls.items) result)
+        (conditions_over meanings.now (map literal_in conditions.now)) }
     ensures normal { IfOk result (λ ls. list_all is_normal_literal (map literal_in ls.items) ≡ true) }
 {
     let mut out = Vec::new(alloc);
@@ -91,7 +92,8 @@ pub fn conditions_kept(
     conditions: &[NLit],
 ) -> Result<Vec<NLit>, NfStop>
     requires { s.old.vector ≡ meanings.now }
-    ensures answers { Answers (told (λ ls. map literal_in ls.items) result) (conditions_kept meanings.now (map literal_in conditions.now)) }
+    ensures answers { Answers (told (λ ls. map literal_in ls.items) result)
+        (conditions_kept meanings.now (map literal_in conditions.now)) }
     ensures kept { IfOk result (λ ls. IsTrue (list_all may_be_kept (map literal_in ls.items))) }
 {
     let over = conditions_over(alloc, s, meanings, conditions)?;

@@ -6,28 +6,29 @@ ghost use Rattle.nf_rel.specs.View.{literal_in};
 ghost use Rattle.sym_paths.specs.View.{told, post_in};
 ghost use Rattle.sym_facts.specs.Entailment.{entails};
 ghost use Rattle.sym_facts.specs.Pairings.{IsFactOf};
-ghost use Rattle.sym_facts.specs.Parts.{most_positions};
+ghost use Rattle.sym_facts.specs.FactParts.{most_positions};
 ghost use Rattle.sym_facts.specs.View.{position_in, missing_in};
 ghost use Rattle.propagate.specs.Joins.{tied, freed_with, join as joined};
-ghost use Rattle.propagate.specs.JoinSteps.{equation_joined, freed_after, is_first, left_behind, joined_from, literals_from};
+ghost use Rattle.propagate.specs.JoinSteps.{equation_joined, freed_after, is_first_place, left_behind, joined_from};
+ghost use Rattle.propagate.specs.JoinSteps.{literals_from};
 ghost use Rattle.propagate.specs.View.{freed_in};
 
 use crate::ties::{Freed, tied};
 use fs_pair::positions::Pairing;
 use nf_rel::literals::NLit;
+use nf_subst::shared_form::SharedForm;
 use nf_subst::subst::Subst;
 use nf_subst::vector::Vector;
-use nf_terms::form::Nf;
 use nf_terms::stop::{NfStop, NoMemory};
 use nf_terms::tree::Pos;
 use std::alloc::Global;
 use sym_facts::entailment::Entail;
-use sym_facts::fact::{Fact, FactPosition};
+use sym_facts::fact::{Fact, FactPosition, copied_equation};
 use sym_paths::execution::Post;
 
 // Whether a place is the first of those that are left.
 fn is_first(place: u32, left: &[u32]) -> bool
-    ensures { result ≡ is_first place left.now }
+    ensures { result ≡ is_first_place place left.now }
 {
     match left {
         [] => false,
@@ -46,34 +47,25 @@ fn left_behind(place: u32, left: &[u32]) -> &[u32]
     }
 }
 
-// The equation of a position, as it was. The one refusal is out of memory.
-fn copied_equation(alloc: Global, equation: &Option<Nf>) -> Result<Option<Nf>, NoMemory>
-    ensures { IfOk result (λ o. o ≡ equation.now) }
-{
-    match equation {
-        Some(form) => Ok(Some(form.try_clone(alloc)?)),
-        None => Ok(None),
-    }
-}
-
 // The equation of a position whose equation fails: a tie, or else none, and then the position is freed.
 fn tied_or_freed<'a>(
     alloc: Global,
     s: &mut Subst<'_>,
     v: &Vector,
     pos: Pos,
-    old: &'a Nf,
+    old: &'a SharedForm,
     freed: &mut Vec<Freed<'a>>,
-) -> Result<Option<Nf>, NfStop>
+) -> Result<Option<SharedForm>, NfStop>
     requires { s.old.vector ≡ v.now }
     ensures answers { Answers result (tied v.now pos old.now (map freed_in freed.old.items)) }
     ensures freed { IfOk result (λ o. map freed_in freed.new.items ≡ freed_with pos old.now o (map freed_in freed.old.items)) }
     ensures vector { s.new.vector ≡ s.old.vector }
 {
-    if let Some(tie) = tied(alloc, s, v, &pos, old, freed.as_slice())? {
-        return Ok(Some(tie));
+    let form = old.form();
+    if let Some(tie) = tied(alloc, s, v, &pos, form, freed.as_slice())? {
+        return Ok(Some(SharedForm::of(alloc, tie)?));
     }
-    freed.push(Freed { pos, old })?;
+    freed.push(Freed { pos, old: form })?;
     Ok(None)
 }
 
@@ -85,14 +77,18 @@ fn equation_joined<'a>(
     fails: bool,
     position: &'a FactPosition,
     freed: &mut Vec<Freed<'a>>,
-) -> Result<Option<Nf>, NfStop>
+) -> Result<Option<SharedForm>, NfStop>
     requires { s.old.vector ≡ v.now }
-    ensures answers { Answers result (equation_joined v.now fails (position_in position.now).pos (position_in position.now).equation (map freed_in freed.old.items)) }
-    ensures freed { IfOk result (λ o. map freed_in freed.new.items ≡ freed_after fails (position_in position.now).pos (position_in position.now).equation o (map freed_in freed.old.items)) }
+    ensures answers { Answers result
+        (equation_joined v.now fails (position_in position.now).pos (position_in position.now).equation
+        (map freed_in freed.old.items)) }
+    ensures freed { IfOk result
+        (λ o. map freed_in freed.new.items ≡ freed_after fails (position_in position.now).pos
+        (position_in position.now).equation o (map freed_in freed.old.items)) }
     ensures vector { s.new.vector ≡ s.old.vector }
 {
     if !fails {
-        return Ok(copied_equation(alloc, &position.equation)?);
+        return Ok(copied_equation(&position.equation)?);
     }
     match &position.equation {
         Some(old) => tied_or_freed(alloc, s, v, position.pos, old, freed),
@@ -110,7 +106,8 @@ fn positions_joined(
 ) -> Result<Vec<FactPosition>, NfStop>
     requires vector { s.old.vector ≡ v.now }
     requires few { length positions.now ≤ most_positions }
-    ensures { Answers (told (λ out. map position_in out.items) result) (joined_from v.now 0 missing.now [] (map position_in positions.now)) }
+    ensures { Answers (told (λ out. map position_in out.items) result)
+        (joined_from v.now 0 missing.now [] (map position_in positions.now)) }
 {
     let mut freed = Vec::new(alloc);
     let mut left = missing;
@@ -144,13 +141,14 @@ fn literals_kept(alloc: Global, missing: &[u32], literals: &[NLit]) -> Result<Ve
     Ok(out)
 }
 
-/// A fact of the two machines without what a post does not entail. Of the positions whose equations fail, in order, a number is tied to
-/// the first one freed before from which the arriving number differs as its form differed from that one's, an array or a list to the first
-/// one freed before that has the same form and the same arriving form, and any other is freed. Literals that are not implied go.
+/// A fact of the two machines without what a post does not entail. Of the positions whose equations fail, in order, a number is
+/// tied to the first one freed before from which the arriving number differs as its form differed from that one's, an array or a
+/// list to the first one freed before that has the same form and the same arriving form, and any other is freed. Literals that
+/// are not implied go.
 ///
-/// `Wide` and `Large` come exactly at the first operation that is not narrow, or narrow and not small: for each number and each freed
-/// one in turn the difference of the forms, that of the arriving numbers, and the substitution of the first; then the sum where they agree.
-/// `NoMemory`: out of memory.
+/// `Wide` and `Large` come exactly at the first operation that is not narrow, or narrow and not small: for each number and each
+/// freed one in turn the difference of the forms, that of the arriving numbers, and the substitution of the first; then the sum
+/// where they agree. `NoMemory`: out of memory.
 pub fn join(
     alloc: Global,
     old: &Fact,

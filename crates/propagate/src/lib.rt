@@ -1,4 +1,16 @@
 //! Which machines move at a node, and the facts that a path carries on.
+//!
+//! Promises: the mode of a node, exactly, with the path of the first event; `rebase` and `join`, exactly; joined facts
+//! hold where the old fact holds and where the post leads, are solved and say less; rebased facts hold where the post
+//! leads, are solved and of the positions.
+//!
+//! Rules: `specs/Modes`, `specs/Joins`, `specs/Rebases`, `src/laws`.
+//!
+//! Words:
+//! - held (of a symbol): a new meaning stands for it
+//! - join: a fact without what a post does not entail
+//! - rebase: the fact of a post at a new node
+//! - tie: an equation of one freed position by another
 #![tactic(auto)]
 
 mod bare_symbols;

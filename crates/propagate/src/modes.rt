@@ -7,10 +7,10 @@ ghost use Rattle.fs_cut.specs.Covers.{cover_of, same_point};
 ghost use Rattle.fs_cut.specs.View.{point_of, path_of};
 ghost use Rattle.nf_terms.specs.Computed.{Answers};
 ghost use Rattle.sym_facts.specs.Facts.{vector_of};
-ghost use Rattle.propagate.specs.Modes.{is_open as is_open_under, count_from, mode_of_counts as mode_of_numbers, mode_of};
+ghost use Rattle.propagate.specs.Modes.{is_open_path as is_open_under, count_from, mode_of_counts as mode_of_numbers, mode_of};
 ghost use Rattle.propagate.specs.View.{Traces};
 
-use bisimulation::mode::Mode;
+use cert_bisimulation::mode::Mode;
 use fs_ast::machine::Machine;
 use fs_cut::cover::{Cover, Path, Point};
 use nf_refutation::refutation::is_refuted;
@@ -23,7 +23,7 @@ use sym_paths::execution::conditions;
 
 /// Why a mode is not found: the stop of the conditions of the path by this branch of this side's point. Where memory
 /// was refused the side and the branch say nothing.
-#[derive(Clone, Copy, Debug, PartialEq, Eq)]
+#[derive(Clone, Copy)]
 pub struct ModeStop {
     pub stop: NfStop,
     pub side: Side,
@@ -109,11 +109,11 @@ fn is_done(p: Point) -> bool
     matches!(p, Point::Done)
 }
 
-/// The mode of two points under a fact: a machine that is done does not move, and where one of the two has at most one path that is
-/// not refuted under the fact and the other has more, the one moves alone. Else both move.
+/// The mode of two points under a fact: a machine that is done does not move, and where one of the two has at most one path that
+/// is not refuted under the fact and the other has more, the one moves alone. Else both move.
 ///
-/// A stop comes exactly at the first operation that is not narrow, or narrow and not small, in the conditions of the left paths in order
-/// of branches, and then of the right ones; it names the path. `NoMemory`: out of memory.
+/// A stop comes exactly at the first operation that is not narrow, or narrow and not small, in the conditions of the left paths
+/// in order of branches, and then of the right ones; it names the path. `NoMemory`: out of memory.
 #[tactic(auto, using(fs_cut::proofs::Listed::paths_listed))]
 pub fn mode(
     alloc: Global,

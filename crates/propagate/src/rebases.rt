@@ -5,7 +5,8 @@ ghost use Rattle.nf_terms.specs.Computed.{Answers};
 ghost use Rattle.sym_paths.specs.View.{told, post_in};
 ghost use Rattle.sym_facts.specs.View.{position_in};
 ghost use Rattle.propagate.specs.Rebases.{symbol_found, rebase as rebased};
-ghost use Rattle.propagate.specs.RebaseSteps.{with_found, first_from, second_turn, second_from, equation_given, freed_after, third_from};
+ghost use Rattle.propagate.specs.RebaseSteps.{with_found, first_pass_from, second_turn, second_from, equation_given, freed_after};
+ghost use Rattle.propagate.specs.RebaseSteps.{third_from};
 
 use crate::bare_symbols::bare_symbol;
 use crate::conditions::conditions_kept;
@@ -14,6 +15,7 @@ use crate::held_symbols::is_held;
 use crate::solutions::solved;
 use crate::values::{sort_of_terms, value_at};
 use fs_pair::positions::{Pairing, Position};
+use nf_subst::shared_form::SharedForm;
 use nf_subst::subst::Subst;
 use nf_subst::vector::Vector;
 use nf_terms::form::Nf;
@@ -60,7 +62,9 @@ fn holds_symbol(
     p: &Position,
 ) -> Result<bool, NoMemory>
     ensures free { IfOk result (λ b. b ≡ is_some (symbol_found v.now meanings.old p.now.sort p.now.pos)) }
-    ensures meanings { IfOk result (λ b. meanings.new ≡ with_found (symbol_found v.now meanings.old p.now.sort p.now.pos) p.now.sort p.now.pos meanings.old) }
+    ensures meanings { IfOk result
+        (λ b. meanings.new ≡ with_found (symbol_found v.now meanings.old p.now.sort p.now.pos) p.now.sort p.now.pos
+        meanings.old) }
 {
     match symbol_found(alloc, v, meanings, p)? {
         Some(x) => {
@@ -79,7 +83,11 @@ fn first_pass(
     positions: &[Position],
 ) -> Result<Vec<Marked>, NoMemory>
     ensures positions { IfOk result (λ out. map (λ m. m.position) out.items ≡ positions.now) }
-    ensures held { IfOk result (λ out. first_from v.now positions.now meanings.old ≡ record { free = map (λ m. m.is_free) out.items; meanings = meanings.new }) }
+    ensures held { IfOk result
+        (λ out. first_pass_from v.now positions.now meanings.old ≡ record {
+          free = map (λ m. m.is_free) out.items;
+          meanings = meanings.new;
+        }) }
 {
     let mut out = Vec::new(alloc);
     for p in positions {
@@ -99,7 +107,8 @@ fn holds_solution(
     meanings: &mut Vector,
     marked: &Marked,
 ) -> Result<bool, NfStop>
-    ensures { Answers (told (λ b. record { is_free = b; meanings = meanings.new }) result) (second_turn marked.now.is_free v.now meanings.old marked.now.position.sort marked.now.position.pos) }
+    ensures { Answers (told (λ b. record { is_free = b; meanings = meanings.new }) result)
+        (second_turn marked.now.is_free v.now meanings.old marked.now.position.sort marked.now.position.pos) }
 {
     let position = marked.position;
     match solved(
@@ -126,7 +135,8 @@ fn second_pass(
     positions: &[Marked],
 ) -> Result<Vec<Marked>, NfStop>
     ensures positions { IfOk result (λ out. map (λ m. m.position) out.items ≡ map (λ m. m.position) positions.now) }
-    ensures held { Answers (told (λ out. record { free = map (λ m. m.is_free) out.items; meanings = meanings.new }) result) (second_from v.now (map (λ m. m.position) positions.now) (map (λ m. m.is_free) positions.now) meanings.old) }
+    ensures held { Answers (told (λ out. record { free = map (λ m. m.is_free) out.items; meanings = meanings.new }) result)
+        (second_from v.now (map (λ m. m.position) positions.now) (map (λ m. m.is_free) positions.now) meanings.old) }
 {
     let mut out = Vec::new(alloc);
     for marked in positions {
@@ -147,7 +157,7 @@ fn equation_given(
     meanings: &Vector,
     marked: &Marked,
     freed: &mut Vec<Position>,
-) -> Result<Option<Nf>, NfStop>
+) -> Result<Option<SharedForm>, NfStop>
     requires { s.old.vector ≡ meanings.now }
     ensures answers { Answers result (equation_given marked.now.is_free v.now meanings.now marked.now.position freed.old.items) }
     ensures freed { IfOk result (λ o. freed.new.items ≡ freed_after marked.now.is_free marked.now.position o freed.old.items) }
@@ -159,7 +169,7 @@ fn equation_given(
     let position = marked.position;
     let value = value_at(alloc, v, position.sort, &position.pos)?;
     if let Some(equation) = equation_found(alloc, s, v, meanings, &value, freed.as_slice())? {
-        return Ok(Some(equation));
+        return Ok(Some(SharedForm::of(alloc, equation)?));
     }
     freed.push(position)?;
     Ok(None)
@@ -174,7 +184,8 @@ fn third_pass(
     positions: &[Marked],
 ) -> Result<Vec<FactPosition>, NfStop>
     requires { s.old.vector ≡ meanings.now }
-    ensures answers { Answers (told (λ out. map position_in out.items) result) (third_from v.now meanings.now (map (λ m. m.position) positions.now) (map (λ m. m.is_free) positions.now) []) }
+    ensures answers { Answers (told (λ out. map position_in out.items) result)
+        (third_from v.now meanings.now (map (λ m. m.position) positions.now) (map (λ m. m.is_free) positions.now) []) }
     ensures vector { s.new.vector ≡ s.old.vector }
 {
     let mut freed = Vec::new(alloc);
@@ -190,14 +201,14 @@ fn third_pass(
     Ok(out)
 }
 
-/// The fact whose symbols are the values where a post leads. In each pass the positions are taken in order. First a position whose
-/// value is a symbol that no position holds yet holds it and is free. Then a number that is such a symbol, or its negation, and
-/// symbols that are held, holds that symbol. Each other position gets its value over the held symbols as its equation, or else the
-/// first position freed here from which it differs by held symbols alone, or else is free. The literals are the first 64 conditions whose
-/// symbols are all held, over the held symbols, without those that are true and without repeats.
+/// The fact whose symbols are the values where a post leads. In each pass the positions are taken in order. First a position
+/// whose value is a symbol that no position holds yet holds it and is free. Then a number that is such a symbol, or its negation,
+/// and symbols that are held, holds that symbol. Each other position gets its value over the held symbols as its equation, or
+/// else the first position freed here from which it differs by held symbols alone, or else is free. The literals are the first 64
+/// conditions whose symbols are all held, over the held symbols, without those that are true and without repeats.
 ///
-/// `Wide` and `Large` come exactly at the first operation that is not narrow, or narrow and not small: those of the second pass come
-/// first, then those of the third, then those of the conditions. `NoMemory`: out of memory.
+/// `Wide` and `Large` come exactly at the first operation that is not narrow, or narrow and not small: those of the second pass
+/// come first, then those of the third, then those of the conditions. `NoMemory`: out of memory.
 pub fn rebase(alloc: Global, post: &Post, p: &Pairing) -> Result<Fact, NfStop>
     ensures { Answers result (rebased (post_in post.now) p.now) }
 {

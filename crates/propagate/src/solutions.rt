@@ -1,6 +1,6 @@
 //! New meanings of symbols that numbers are split into.
 
-ghost use Rattle.std.specs.Prelude.{◌≡◌, Some, option_map};
+ghost use Rattle.std.specs.Prelude.{Some, option_map};
 ghost use Rattle.nf_terms.specs.Computed.{Answers};
 ghost use Rattle.sym_paths.specs.View.{told};
 ghost use Rattle.propagate.specs.Rebases.{split, less_rest, solution, solved};
@@ -73,8 +73,8 @@ fn number_solved(
 
 /// The symbol that a position can hold, with its new meaning, where the position is not free and is a number.
 ///
-/// `Wide` and `Large` come exactly at the first operation that is not narrow, or narrow and not small: the substitution in the rest,
-/// and then the difference. `NoMemory`: out of memory.
+/// `Wide` and `Large` come exactly at the first operation that is not narrow, or narrow and not small: the substitution in the
+/// rest, and then the difference. `NoMemory`: out of memory.
 pub fn solved(
     alloc: Global,
     is_free: bool,

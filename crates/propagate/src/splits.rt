@@ -1,7 +1,7 @@
 //! Numbers that are a symbol, as it is or negated, and a rest.
 
 ghost use Rattle.std.specs.Prelude.{◌≡◌, ◌+◌, ◌<◌, ◌++◌, length, map, option_map, take, drop, IfOk, OnOk};
-ghost use Rattle.nf_terms.specs.Terms.{polynomial_of};
+ghost use Rattle.nf_terms.specs.NormalTerms.{polynomial_of};
 ghost use Rattle.nf_terms.specs.Normal.{IsNormal};
 ghost use Rattle.nf_terms.specs.View.{monomial_in, term_in};
 ghost use Rattle.propagate.specs.Rebases.{split};
@@ -82,7 +82,8 @@ fn from_terms(monos: Vec<(MonoTree, i128)>) -> Poly
 fn without(alloc: Global, terms: &[(MonoTree, i128)], place: usize) -> Result<Poly, NoMemory>
     requires within { place < length terms.now }
     requires normal { IsNormal (polynomial_of (map term_in terms.now)) }
-    ensures { IfOk result (λ p. p ≡ polynomial_of (map term_in (take place terms.now) ++ map term_in (drop (place + 1) terms.now))) }
+    ensures { IfOk result
+        (λ p. p ≡ polynomial_of (map term_in (take place terms.now) ++ map term_in (drop (place + 1) terms.now))) }
 {
     let mut monos = Vec::new(alloc);
     push_terms(alloc, &mut monos, &terms[..place])?;
@@ -90,7 +91,8 @@ fn without(alloc: Global, terms: &[(MonoTree, i128)], place: usize) -> Result<Po
     Ok(from_terms(monos))
 }
 
-/// The first symbol alone of a number that is not held, with the coefficient 1 or -1, and the rest. The one refusal is out of memory.
+/// The first symbol alone of a number that is not held, with the coefficient 1 or -1, and the rest. The one refusal is out of
+/// memory.
 pub fn split_off(alloc: Global, meanings: &Vector, number: &Poly) -> Result<Option<Split>, NoMemory>
     ensures { IfOk result (λ o. option_map split_in o ≡ split meanings.now number.now) }
 {

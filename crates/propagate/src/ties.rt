@@ -73,7 +73,8 @@ fn tied_to(
     other: &Freed<'_>,
 ) -> Result<Option<Nf>, NfStop>
     requires { s.old.vector ≡ v.now }
-    ensures answers { Answers result (number_tied_to v.now p.now number.now (freed_in other.now).pos (freed_in other.now).old (Done None)) }
+    ensures answers { Answers result
+        (number_tied_to v.now p.now number.now (freed_in other.now).pos (freed_in other.now).old (Done None)) }
     ensures vector { s.new.vector ≡ s.old.vector }
 {
     match other.old {

@@ -1,15 +1,15 @@
 -- The two ways in which a search ends: with a certificate, or with an obstacle.
 use Rattle.std.proofs.Common.{◌≡◌, ℕ, ◌+◌, ◌*◌, ◌≤◌, arith, List, length, map, None}
 use Rattle.std.specs.List.{AllByRecursion}
-use Rattle.fs_ast.specs.Sound.{IsSound}
+use Rattle.fs_ast.specs.SoundMachines.{IsSound}
 use Rattle.fs_pair.specs.Interfaces.{interface_fault}
-use Rattle.bisimulation.specs.Tables.{Node as CertificateNode}
+use Rattle.cert_bisimulation.specs.Tables.{Node as CertificateNode}
 use Rattle.sym_facts.specs.Facts.{Fact, most_literals}
 use Rattle.sym_facts.specs.Pairings.{IsFactOf}
-use Rattle.certificates.specs.Lawful.{most_nodes}
-use Rattle.normal_certificates.specs.Kept.{AreNormal}
+use Rattle.cert_model.specs.Lawful.{most_nodes}
+use Rattle.cert_model.specs.Kept.{AreNormal}
 use Rattle.search_tables.specs.declared.moves.Move.{Move}
-use Rattle.search_tables.specs.Tables.{Machines, Table, positions_of}
+use Rattle.search_tables.specs.SearchTables.{MachinePair, Table, positions_of}
 use Rattle.search_tables.specs.Next.{IsClosed}
 use Rattle.search_tables.specs.Legal.{Makes, stuck}
 use Rattle.search_tables.specs.Obstacles.{Obstacle, StandsIn}
@@ -19,11 +19,13 @@ use Rattle.search_tables.proofs.Lawful.{lawful}
 use Rattle.search_tables.proofs.Certified.{certified}
 use Rattle.search_tables.proofs.Bounded.{legal_short}
 use Rattle.search_closing.specs.Closings.{HasCertificate}
-use Rattle.search.specs.Answers.{IsClosedWith, most_positions, most_moves, StopsAt}
+use Rattle.search.specs.SearchOutcomes.{IsClosedWith, most_positions, most_legal_moves, StopsAtObstacle}
 use Rattle.search.proofs.FewPositions.{few_positions}
 
-pub closes : (m : Machines) (moves : List Move) (T : Table) (nodes : List (CertificateNode Fact)) → IsSound m.left → IsSound m.right → interface_fault m.left m.right ≡ None → Makes m moves T
-    → AllByRecursion (λ n. IsFactOf (positions_of m) n.fact) T → IsClosed m T → stuck m T ≡ None → HasCertificate m T nodes → AreNormal nodes → IsClosedWith m nodes
+pub closes : (m : MachinePair) (moves : List Move) (T : Table) (nodes : List (CertificateNode Fact)) → IsSound m.left → IsSound m.right
+    → interface_fault m.left m.right ≡ None → Makes m moves T
+    → AllByRecursion (λ n. IsFactOf (positions_of m) n.fact) T → IsClosed m T → stuck m T ≡ None → HasCertificate m T nodes → AreNormal nodes
+    → IsClosedWith m nodes
 closes m moves T nodes left right matched makes facts closed none h normal = record {
   left_sound = left;
   right_sound = right;
@@ -41,10 +43,11 @@ closes m moves T nodes left right matched makes facts closed none h normal = rec
 }
 
 -- of so few positions there are so few moves
-low : (n k : ℕ) → n ≤ most_nodes * (k + most_literals + 1) → k ≤ most_positions → n ≤ most_moves
+low : (n k : ℕ) → n ≤ most_nodes * (k + most_literals + 1) → k ≤ most_positions → n ≤ most_legal_moves
 low n k h p = omega (arith, h, p)
 
-pub stops : (m : Machines) (moves : List Move) (T : Table) (points : List Points) (o : Obstacle) → IsSound m.left → IsSound m.right → Makes m moves T → map points_at T ≡ points → StandsIn m T o → StopsAt m moves points o
+pub stops : (m : MachinePair) (moves : List Move) (T : Table) (points : List Points) (o : Obstacle) → IsSound m.left → IsSound m.right → Makes m moves T
+    → map points_at T ≡ points → StandsIn m T o → StopsAtObstacle m moves points o
 stops m moves T points o left right makes e h = record {
   left_sound = left;
   right_sound = right;

@@ -10,15 +10,15 @@ ghost use Rattle.search_tables.specs.Next.{IsClosed};
 ghost use Rattle.search_tables.specs.Legal.{Makes, stuck};
 ghost use Rattle.search_tables.specs.View.{table_in, points_in, points_at};
 ghost use Rattle.alike_searches.specs.Where.{WhereAlike};
-ghost use Rattle.search_worklist.specs.Ends.{IsEnded};
-ghost use Rattle.search.specs.Answers.{machines, Answers, ClosesOrMeetsLimit};
+ghost use Rattle.search_worklist.specs.SearchEnds.{IsEnded};
+ghost use Rattle.search.specs.SearchOutcomes.{machines, IsSearchOutcome, ClosesOrMeetsLimit};
 
+use cert_machine_pairs::covers::cover_of;
+use cert_model::kept::certificates_are_normal;
 use fs_ast::machine::Machine;
 use fs_cut::cover::Cover;
 use fs_pair::positions::Pairing;
-use machine_pairs::covers::cover_of;
 use nf_terms::stop::NoMemory;
-use normal_certificates::kept::certificates_are_normal;
 use search_closing::closing::{Closing, close};
 use search_tables::moves::Move;
 use search_tables::nodes::{NodePoints, TableNode};
@@ -60,9 +60,9 @@ fn close_table(
     requires closed { IsClosed (machines a.now b.now) (table_in nodes.items) }
     requires none_differ { stuck (machines a.now b.now) (table_in nodes.items) ≡ None }
     requires points { map points_at (table_in nodes.items) ≡ map points_in points.items }
-    ensures { IfOk result (Answers (machines a.now b.now)) }
+    ensures { IfOk result (IsSearchOutcome (machines a.now b.now)) }
 {
-    let _left = a.vars();
+    let _left = a.vars(); // These two calls tell the proof that both machines are sound.
     let _right = b.vars();
     match close(alloc, a, b, ca, cb, nodes)? {
         Closing::Certified(cert) => {
@@ -91,9 +91,9 @@ fn conclude(
     requires left_cover { ca.now ≡ cover_of a.now }
     requires right_cover { cb.now ≡ cover_of b.now }
     requires ended { IsEnded (machines a.now b.now) ended }
-    ensures { IfOk result (Answers (machines a.now b.now)) }
+    ensures { IfOk result (IsSearchOutcome (machines a.now b.now)) }
 {
-    let _left = a.vars();
+    let _left = a.vars(); // These two calls tell the proof that both machines are sound.
     let _right = b.vars();
     let Ended { nodes, moves, end } = ended;
     let points = points_of(alloc, nodes.as_slice())?;
@@ -119,16 +119,16 @@ fn conclude(
 /// Searches for a certificate that two machines with the same interface have the same behaviour: makes nodes, beginning with both
 /// starts, and moves from them, up to the first obstacle, or to a table in which no move makes a difference any more.
 ///
-/// `Closed` carries the certificate of that table: it is lawful, its facts are in normal form, and all its obligations hold. `Stuck` comes where both machines are done
-/// and a left output differs, and is looked at first; `Spin` where the table is closed and one machine alone moves in a cycle; `Wide` and
-/// `Large` at the first operation that is not narrow, or narrow and not small; `Exhausted` where a move would make node 4,097 or a table
-/// of more than 4,000,000 units. An obstacle comes after at most 1,314,816 moves. Machines that differ only in the names of their
-/// states and in how straight lines are cut into states are alike: of these there is no `Stuck` and no `Spin`. The one refusal is
-/// out of memory.
+/// `Closed` carries the certificate of that table: it is lawful, its facts are in normal form, and all its obligations hold.
+/// `Stuck` comes where both machines are done and a left output differs, and is looked at first; `Spin` where the table is closed
+/// and one machine alone moves in a cycle; `Wide` and `Large` at the first operation that is not narrow, or narrow and not small;
+/// `Exhausted` where a move would make node 4,097 or a table of more than 4,000,000 units. An obstacle comes after at most
+/// 1,314,816 moves. Machines that differ only in the names of their states and in how straight lines are cut into states are
+/// alike: of these there is no `Stuck` and no `Spin`. The one refusal is out of memory.
 pub fn search(alloc: Global, a: &Machine, b: &Machine, p: &Pairing) -> Result<Outcome, NoMemory>
     requires paired { p.now ≡ positions a.now b.now }
     requires interface { interface_fault a.now b.now ≡ None }
-    ensures answers { IfOk result (Answers (machines a.now b.now)) }
+    ensures answers { IfOk result (IsSearchOutcome (machines a.now b.now)) }
     ensures alike { IfOk result (λ outcome. WhereAlike a.now b.now (ClosesOrMeetsLimit outcome)) }
 {
     let ca = cover_of(alloc, a)?;

@@ -2,22 +2,22 @@
 use Rattle.std.proofs.Common.{◌≡◌, ℕ, ap, sym, subst, ◌∙◌, List, [], ◌∷◌, length, map}
 use Rattle.std.specs.Prelude.{Result, Ok, Err, IfOk}
 use Rattle.std.specs.List.{AllByRecursion}
-use Rattle.bisimulation.specs.declared.mode.Mode.{Mode}
-use Rattle.bisimulation.specs.Tables.{Node as CertificateNode}
+use Rattle.cert_bisimulation.specs.declared.mode.Mode.{Mode}
+use Rattle.cert_bisimulation.specs.Tables.{Node as CertificateNode}
 use Rattle.nf_terms.specs.declared.stop.NoMemory.{NoMemory}
 use Rattle.sym_facts.specs.Facts.{Fact}
 use Rattle.propagate.specs.Modes.{Traced, Found}
-use Rattle.certificates.specs.View.{node_of}
-use Rattle.search_ranks.specs.Graphs.{IsCycle, AreRanks}
+use Rattle.cert_model.specs.View.{node_of}
+use Rattle.search_ranks.specs.Graphs.{IsCycle, BeginsLeast, AreRanks}
 use Rattle.search_ranks.specs.Walks.{IsRanking}
 use Rattle.search_ranks.specs.declared.ranking.Ranking.{Ranking}
 use Rattle.search_ranks.specs.declared.ranking.Ranking.TheVariants as rankings
-use Rattle.search_tables.specs.Tables.{Machines, Table}
+use Rattle.search_tables.specs.SearchTables.{MachinePair, Table}
 use Rattle.search_tables.specs.Next.{mode_at}
 use Rattle.search_tables.specs.LoneMoves.{lone_moves, Spins}
 use Rattle.search_tables.specs.Certifying.{table_node, Certifies}
-use Rattle.search_closing.specs.Closings.{Gives, HasCount, IsMadeOf, ClosesBy}
-use Rattle.search_closing.specs.Modes.{AreModes, cycle_side}
+use Rattle.search_closing.specs.Closings.{GivesClosing, HasCount, IsMadeOf, ClosesBy}
+use Rattle.search_closing.specs.ClosedModes.{AreModes, cycle_side}
 use Rattle.search_closing.specs.declared.closing.Closing.{Closing}
 use Rattle.search_closing.specs.declared.closing.Closing.TheVariants as closings
 use Rattle.search_closing.proofs.Sides.{spins}
@@ -25,18 +25,21 @@ use Rattle.search_closing.proofs.Sides.{spins}
 abbrev found : Mode → Traced Mode
 found x = Found x
 
-each_found : (m : Machines) (cs : List (CertificateNode Fact)) → map found (map (λ c. c.mode) cs) ≡ map (mode_at m) (map table_node cs) → AllByRecursion (λ c. mode_at m (table_node c) ≡ Found c.mode) cs
+each_found : (m : MachinePair) (cs : List (CertificateNode Fact)) → map found (map (λ c. c.mode) cs) ≡ map (mode_at m) (map table_node cs)
+    → AllByRecursion (λ c. mode_at m (table_node c) ≡ Found c.mode) cs
 each_found m [] e = tt
 each_found m (c ∷ cs) e = (cc e, each_found m cs (cc e))
 
-certified : (m : Machines) (T : Table) (modes : List Mode) (ranks : List ℕ) (cs : List (CertificateNode Fact)) → AreModes m T modes → IsMadeOf T modes ranks cs → Certifies m T ranks cs
+certified : (m : MachinePair) (T : Table) (modes : List Mode) (ranks : List ℕ) (cs : List (CertificateNode Fact)) → AreModes m T modes
+    → IsMadeOf T modes ranks cs → Certifies m T ranks cs
 certified m T modes ranks cs e h = record {
   nodes = h.nodes_are;
   modes = each_found m cs (ap (map found) h.modes_are ∙ e ∙ ap (map (mode_at m)) (sym h.nodes_are));
   ranks_are = h.ranks_are;
 }
 
-pub gives : (m : Machines) (T : Table) (modes : List Mode) (r : Ranking) (E : List (List ℕ)) (c : Closing) → AreModes m T modes → E ≡ lone_moves m T → IsRanking E r → ClosesBy T modes r c → Gives m T c
+pub gives : (m : MachinePair) (T : Table) (modes : List Mode) (r : Ranking) (E : List (List ℕ)) (c : Closing) → AreModes m T modes → E ≡ lone_moves m T
+    → IsRanking E r → ClosesBy T modes r c → GivesClosing m T c
 gives m T modes (rankings.Ranks ranks) E (closings.Certified cert) a e h b = record {
   ranks = ranks.items;
   are_ranks = subst (λ F. AreRanks F ranks.items) e h.0;
@@ -44,7 +47,8 @@ gives m T modes (rankings.Ranks ranks) E (closings.Certified cert) a e h b = rec
   certifies = certified m T modes ranks.items (map node_of cert.nodes.items) a b;
 }
 gives m T modes (rankings.Cycle cycle) E (closings.Spins side nodes) a e h b =
-    let s : Spins m T (cycle_side modes cycle.items) cycle.items = spins m T modes cycle.items a (subst (λ F. IsCycle F cycle.items) e h) in
+    let s : Spins m T (cycle_side modes cycle.items) cycle.items =
+    spins m T modes cycle.items a (subst (λ F. IsCycle F cycle.items) e h.0) (subst (λ F. BeginsLeast F cycle.items) e h.1) in
     subst (λ d. Spins m T d nodes.items) (sym b.0) (subst (λ ks. Spins m T (cycle_side modes cycle.items) ks) (sym b.1) s)
 gives m T modes (rankings.Ranks ranks) E (closings.Spins side nodes) a e h b = absurd b
 gives m T modes (rankings.Cycle cycle) E (closings.Certified cert) a e h b = absurd b
@@ -55,6 +59,7 @@ counted n E (rankings.Ranks ranks) e h = h.0.count ∙ e
 counted n E (rankings.Cycle cycle) e h = tt
 
 -- what an answer gives
-pub answered : (m : Machines) (T : Table) (modes : List Mode) (r : Ranking) (E : List (List ℕ)) (result : Result Closing NoMemory) → AreModes m T modes → E ≡ lone_moves m T → IsRanking E r → IfOk result (λ c. ClosesBy T modes r c) → IfOk result (Gives m T)
+pub answered : (m : MachinePair) (T : Table) (modes : List Mode) (r : Ranking) (E : List (List ℕ)) (result : Result Closing NoMemory) → AreModes m T modes
+    → E ≡ lone_moves m T → IsRanking E r → IfOk result (λ c. ClosesBy T modes r c) → IfOk result (GivesClosing m T)
 answered m T modes r E (Ok c) a e h b = gives m T modes r E c a e h b
 answered m T modes r E (Err z) a e h b = tt

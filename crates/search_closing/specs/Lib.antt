@@ -1,5 +1,5 @@
 pub mod Closings
-pub mod Places
-pub mod Modes
+pub mod NodePlaces
+pub mod ClosedModes
 pub mod View
-pub mod Moves
+pub mod LoneSideMoves

@@ -1,12 +1,12 @@
 //! The nodes of a certificate.
 
 ghost use Rattle.std.specs.Prelude.{◌≡◌, length, map, IfOk};
-ghost use Rattle.certificates.specs.View.{node_of};
+ghost use Rattle.cert_model.specs.View.{node_of};
 ghost use Rattle.search_tables.specs.Certifying.{table_node};
 ghost use Rattle.search_tables.specs.View.{table_in};
 
-use bisimulation::mode::Mode;
-use certificates::cert::Node;
+use cert_bisimulation::mode::Mode;
+use cert_model::cert::Node;
 use nf_terms::stop::NoMemory;
 use search_tables::nodes::TableNode;
 use std::alloc::Global;

@@ -1,18 +1,15 @@
 //! What a closed table gives.
 
-ghost use Rattle.std.specs.Prelude.{◌≡◌, None, length, IfOk};
-ghost use Rattle.std.specs.List.{AllByRecursion};
+ghost use Rattle.std.specs.Prelude.{◌≡◌, length, IfOk};
 ghost use Rattle.fs_cut.specs.Covers.{cover_of};
-ghost use Rattle.fs_pair.specs.Positions.{positions};
-ghost use Rattle.sym_facts.specs.Pairings.{IsFactOf};
 ghost use Rattle.search_tables.specs.Next.{IsClosed};
-ghost use Rattle.search_tables.specs.WellFormed.{IsWellFormed};
+ghost use Rattle.search_tables.specs.TableInvariants.{IsWellFormed};
 ghost use Rattle.search_tables.specs.View.{table_in};
 ghost use Rattle.search_ranks.specs.Walks.{lists_in, InRange, IsRanking};
 ghost use Rattle.search_tables.specs.LoneMoves.{lone_moves as graph_of};
-ghost use Rattle.search_closing.specs.Closings.{Gives, HasCount, ClosesBy};
-ghost use Rattle.search_closing.specs.Modes.{AreModes};
-ghost use Rattle.search_closing.specs.View.{machines_in};
+ghost use Rattle.search_closing.specs.Closings.{GivesClosing, HasCount, ClosesBy};
+ghost use Rattle.search_closing.specs.ClosedModes.{AreModes};
+ghost use Rattle.search_closing.specs.View.{covered_machines};
 
 use crate::certify::certify;
 use crate::covered::Covered;
@@ -20,8 +17,8 @@ use crate::lone::lone_moves;
 use crate::modes::{cycle_side, modes_of};
 use crate::node_table::NodeTable;
 use crate::places::places_of;
-use bisimulation::mode::Mode;
-use certificates::cert::Cert;
+use cert_bisimulation::mode::Mode;
+use cert_model::cert::Cert;
 use fs_ast::machine::Machine;
 use fs_cut::cover::Cover;
 use nf_terms::stop::NoMemory;
@@ -36,7 +33,8 @@ use std::alloc::Global;
 pub enum Closing {
     /// Its certificate.
     Certified(Cert),
-    /// Nodes that follow one another by moves of this side alone, the last leading back to the first.
+    /// Nodes that follow one another by moves of this side alone, the last leading back to the first, which is the least node on
+    /// any such cycle of either side.
     Spins { side: Side, cycle: Vec<u32> },
 }
 
@@ -47,10 +45,10 @@ fn lone_graph<'t>(
     nodes: &'t [TableNode],
     modes: &'t [Mode],
 ) -> Result<Vec<Vec<u32>>, NoMemory>
-    requires formed { IsWellFormed (machines_in machines.now) (table_in nodes.now) }
-    requires closed { IsClosed (machines_in machines.now) (table_in nodes.now) }
-    requires modes { AreModes (machines_in machines.now) (table_in nodes.now) modes.now }
-    ensures edges { IfOk result (λ edges. lists_in edges.items ≡ graph_of (machines_in machines.now) (table_in nodes.now)) }
+    requires formed { IsWellFormed (covered_machines machines.now) (table_in nodes.now) }
+    requires closed { IsClosed (covered_machines machines.now) (table_in nodes.now) }
+    requires modes { AreModes (covered_machines machines.now) (table_in nodes.now) modes.now }
+    ensures edges { IfOk result (λ edges. lists_in edges.items ≡ graph_of (covered_machines machines.now) (table_in nodes.now)) }
     ensures range { IfOk result (λ edges. InRange (lists_in edges.items)) }
 {
     let places = places_of(alloc, nodes)?;
@@ -63,7 +61,7 @@ fn lone_graph<'t>(
     lone_moves(alloc, &table)
 }
 
-// The ranks of a graph, or a cycle of it. The one refusal is out of memory.
+// The ranks of a graph, or its cycle that begins at the least node on any. The one refusal is out of memory.
 fn rank(alloc: Global, edges: &[Vec<u32>]) -> Result<Ranking, NoMemory>
     requires { InRange (lists_in edges.now) }
     ensures { IfOk result (IsRanking (lists_in edges.now)) }
@@ -97,8 +95,9 @@ fn close_by(
     }
 }
 
-/// The certificate of a closed table, whose nodes are the table's, each with its mode and the length of the longest chain of moves of one
-/// machine alone from it; or a cycle of such moves. The one refusal is out of memory.
+/// The certificate of a closed table, whose nodes are the table's, each with its mode and the length of the longest chain of
+/// moves of one machine alone from it; or the cycle of such moves that begins at the least node on any. The one refusal is out of
+/// memory.
 pub fn close(
     alloc: Global,
     a: &Machine,
@@ -111,7 +110,7 @@ pub fn close(
     requires right_cover { cb.now ≡ cover_of b.now }
     requires well_formed { IsWellFormed (record { left = a.now; right = b.now }) (table_in nodes.items) }
     requires closed { IsClosed (record { left = a.now; right = b.now }) (table_in nodes.items) }
-    ensures { IfOk result (Gives (record { left = a.now; right = b.now }) (table_in nodes.items)) }
+    ensures { IfOk result (GivesClosing (record { left = a.now; right = b.now }) (table_in nodes.items)) }
 {
     let machines = Covered::of(a, b, ca, cb);
     let modes = modes_of(alloc, &machines, nodes.as_slice())?;

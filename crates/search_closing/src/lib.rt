@@ -1,4 +1,8 @@
 //! The certificate of a closed table, or a cycle in which one machine moves alone.
+//!
+//! Promises: `close`: a closed table's certificate, or a cycle of lone moves.
+//!
+//! Rules: `specs/Closings`.
 #![tactic(auto)]
 
 pub(crate) mod certify;

@@ -1,6 +1,6 @@
 //! Where the moves lead by which one machine moves alone.
 
-ghost use Rattle.std.specs.Prelude.{◌≡◌, ◌≤◌, ◌++◌, ◌∷◌, [], ◌&&◌, true, length, map, IsTrue, IfOk, OnOk};
+ghost use Rattle.std.specs.Prelude.{◌≡◌, ◌≤◌, ◌++◌, ◌&&◌, true, length, map, IsTrue, IfOk, OnOk};
 ghost use Rattle.fs_model.specs.Limits.{most_branches};
 ghost use Rattle.fs_cut.specs.Paths.{is_point};
 ghost use Rattle.fs_cut.specs.View.{point_of, path_of};
@@ -9,21 +9,21 @@ ghost use Rattle.nf_rel.specs.Literals.{is_refuted as refuted};
 ghost use Rattle.sym_paths.specs.Execution.{end_of};
 ghost use Rattle.sym_paths.specs.View.{told, post_in};
 ghost use Rattle.propagate.specs.Modes.{Found};
-ghost use Rattle.certificates.specs.Obligations.{same_alone};
+ghost use Rattle.cert_model.specs.Obligations.{same_alone};
 ghost use Rattle.search_ranks.specs.Walks.{lists_in};
-ghost use Rattle.search_tables.specs.Tables.{Keeps, target_of, effect};
+ghost use Rattle.search_tables.specs.SearchTables.{Keeps, node_target, effect};
 ghost use Rattle.search_tables.specs.Next.{mode_at, paths_in, IsClosed};
 ghost use Rattle.search_tables.specs.LoneMoves.{lone_mode, if_alone, lone_targets as targets_by, lone_in, lone_moves as graph_of};
 ghost use Rattle.search_tables.specs.View.{table_in, table_node_in};
-ghost use Rattle.search_closing.specs.Moves.{alone, arrival, Keep, lone_target as target_by, AreShort};
-ghost use Rattle.search_closing.specs.View.{machines_in, as_list};
+ghost use Rattle.search_closing.specs.LoneSideMoves.{lone_path, arrival, Keep, lone_move_target as target_by, AreShort};
+ghost use Rattle.search_closing.specs.View.{covered_machines, as_list};
 
 use crate::covered::Covered;
 use crate::node_table::NodeTable;
 use crate::places::place_of;
-use bisimulation::mode::Mode;
+use cert_bisimulation::mode::Mode;
+use cert_machine_pairs::covers::paths;
 use fs_cut::cover::{Path, Point};
-use machine_pairs::covers::paths;
 use nf_refutation::refutation::is_refuted;
 use nf_terms::stop::{NfStop, NoMemory};
 use nf_terms::tree::Side;
@@ -44,7 +44,8 @@ fn moves_alone(side: Side, mode: Mode) -> bool
 
 // The number of the node at two points, where a side moves alone from there.
 fn alone_at(table: &NodeTable<'_>, side: Side, left: Point, right: Point) -> Option<u32>
-    ensures { as_list result ≡ if_alone (machines_in table.now.machines.now) (lone_mode side) (target_of (table_in table.now.nodes.now) (point_of left) (point_of right)) }
+    ensures { as_list result ≡ if_alone (covered_machines table.now.machines.now) (lone_mode side)
+        (node_target (table_in table.now.nodes.now) (point_of left) (point_of right)) }
 {
     let place = place_of(&table.places, left, right)?;
     if moves_alone(side, table.modes[place]) {
@@ -56,8 +57,8 @@ fn alone_at(table: &NodeTable<'_>, side: Side, left: Point, right: Point) -> Opt
 
 // The points to which a side moves alone.
 fn ends(node: &TableNode, side: Side, path: &Path) -> (Point, Point)
-    ensures left { point_of result.0 ≡ end_of (point_of node.now.left) (alone side (path_of path.now)).left }
-    ensures right { point_of result.1 ≡ end_of (point_of node.now.right) (alone side (path_of path.now)).right }
+    ensures left { point_of result.0 ≡ end_of (point_of node.now.left) (lone_path side (path_of path.now)).left }
+    ensures right { point_of result.1 ≡ end_of (point_of node.now.right) (lone_path side (path_of path.now)).right }
 {
     match side {
         Side::Left => (path.to, node.right),
@@ -73,7 +74,8 @@ fn arrive_alone(
     side: Side,
     path: &Path,
 ) -> Result<Post, NfStop>
-    ensures { Answers (told post_in result) (arrival (machines_in m.now) (table_node_in node.now) (alone side (path_of path.now))) }
+    ensures { Answers (told post_in result)
+        (arrival (covered_machines m.now) (table_node_in node.now) (lone_path side (path_of path.now))) }
 {
     match side {
         Side::Left => arrive(alloc, m.a, m.b, &node.fact, Some(path), None),
@@ -89,7 +91,9 @@ fn is_refuted_alone(
     side: Side,
     path: &Path,
 ) -> Result<bool, NfStop>
-    ensures { Answers result (after (arrival (machines_in m.now) (table_node_in node.now) (alone side (path_of path.now))) (λ post. Done (refuted post.conditions))) }
+    ensures { Answers result
+        (after (arrival (covered_machines m.now) (table_node_in node.now) (lone_path side (path_of path.now)))
+        (λ post. Done (refuted post.conditions))) }
 {
     let post = arrive_alone(alloc, m, node, side, path)?;
     Ok(is_refuted(alloc, post.conds.as_slice())?)
@@ -103,8 +107,11 @@ fn lone_target(
     side: Side,
     path: &Path,
 ) -> Result<Option<u32>, NoMemory>
-    requires { effect (machines_in table.now.machines.now) (table_in table.now.nodes.now) (table_node_in node.now) (alone side (path_of path.now)) ≡ Keeps }
-    ensures { IfOk result (λ target. as_list target ≡ target_by (machines_in table.now.machines.now) (table_in table.now.nodes.now) (table_node_in node.now) (lone_mode side) (alone side (path_of path.now))) }
+    requires { effect (covered_machines table.now.machines.now) (table_in table.now.nodes.now) (table_node_in node.now)
+        (lone_path side (path_of path.now)) ≡ Keeps }
+    ensures { IfOk result
+        (λ target. as_list target ≡ target_by (covered_machines table.now.machines.now) (table_in table.now.nodes.now)
+        (table_node_in node.now) (lone_mode side) (lone_path side (path_of path.now))) }
 {
     let (left, right) = ends(node, side, path);
     let Some(number) = alone_at(table, side, left, right) else {
@@ -136,8 +143,11 @@ fn lone_targets(
     side: Side,
     paths: &[Path],
 ) -> Result<Vec<u32>, NoMemory>
-    requires { Keep (machines_in table.now.machines.now) (table_in table.now.nodes.now) (table_node_in node.now) (map (alone side) (map path_of paths.now)) }
-    ensures targets { IfOk result (λ out. out.items ≡ targets_by (machines_in table.now.machines.now) (table_in table.now.nodes.now) (table_node_in node.now) (lone_mode side) (map (alone side) (map path_of paths.now))) }
+    requires { Keep (covered_machines table.now.machines.now) (table_in table.now.nodes.now) (table_node_in node.now)
+        (map (lone_path side) (map path_of paths.now)) }
+    ensures targets { IfOk result
+        (λ out. out.items ≡ targets_by (covered_machines table.now.machines.now) (table_in table.now.nodes.now)
+        (table_node_in node.now) (lone_mode side) (map (lone_path side) (map path_of paths.now))) }
     ensures few { IfOk result (λ out. length out.items ≤ length paths.now) }
 {
     let mut out = Vec::new(alloc);
@@ -147,17 +157,23 @@ fn lone_targets(
     Ok(out)
 }
 
-// Where a node leads in a mode in which one machine moves alone, if that moves alone from there too. The one refusal is out of memory.
+// Where a node leads in a mode in which one machine moves alone, if that moves alone from there too. The one refusal is out of
+// memory.
 fn targets_at(
     alloc: Global,
     table: &NodeTable<'_>,
     node: &TableNode,
     mode: Mode,
 ) -> Result<Vec<u32>, NoMemory>
-    requires points { IsTrue (is_point table.now.machines.now.a.now (point_of node.now.left) && is_point table.now.machines.now.b.now (point_of node.now.right)) }
-    requires mode { mode_at (machines_in table.now.machines.now) (table_node_in node.now) ≡ Found mode }
-    requires keep { Keep (machines_in table.now.machines.now) (table_in table.now.nodes.now) (table_node_in node.now) (paths_in (machines_in table.now.machines.now) (table_node_in node.now) mode) }
-    ensures targets { IfOk result (λ out. out.items ≡ lone_in (machines_in table.now.machines.now) (table_in table.now.nodes.now) (table_node_in node.now) (mode_at (machines_in table.now.machines.now) (table_node_in node.now))) }
+    requires points { IsTrue
+        (is_point table.now.machines.now.a.now (point_of node.now.left)
+        && is_point table.now.machines.now.b.now (point_of node.now.right)) }
+    requires mode { mode_at (covered_machines table.now.machines.now) (table_node_in node.now) ≡ Found mode }
+    requires keep { Keep (covered_machines table.now.machines.now) (table_in table.now.nodes.now) (table_node_in node.now)
+        (paths_in (covered_machines table.now.machines.now) (table_node_in node.now) mode) }
+    ensures targets { IfOk result
+        (λ out. out.items ≡ lone_in (covered_machines table.now.machines.now) (table_in table.now.nodes.now)
+        (table_node_in node.now) (mode_at (covered_machines table.now.machines.now) (table_node_in node.now))) }
     ensures few { IfOk result (λ out. length out.items ≤ most_branches) }
 {
     let m = table.machines;
@@ -174,11 +190,12 @@ fn targets_at(
     }
 }
 
-/// For each node of a closed table where the moves lead by which one machine moves alone, there and at the target. The one refusal is
-/// out of memory.
+/// For each node of a closed table where the moves lead by which one machine moves alone, there and at the target. The one
+/// refusal is out of memory.
 pub(crate) fn lone_moves(alloc: Global, table: &NodeTable<'_>) -> Result<Vec<Vec<u32>>, NoMemory>
-    requires { IsClosed (machines_in table.now.machines.now) (table_in table.now.nodes.now) }
-    ensures edges { IfOk result (λ out. lists_in out.items ≡ graph_of (machines_in table.now.machines.now) (table_in table.now.nodes.now)) }
+    requires { IsClosed (covered_machines table.now.machines.now) (table_in table.now.nodes.now) }
+    ensures edges { IfOk result
+        (λ out. lists_in out.items ≡ graph_of (covered_machines table.now.machines.now) (table_in table.now.nodes.now)) }
     ensures short { IfOk result (λ out. AreShort (lists_in out.items)) }
 {
     let mut out = Vec::new(alloc);

@@ -5,13 +5,13 @@ ghost use Rattle.fs_cut.specs.Paths.{is_point};
 ghost use Rattle.fs_cut.specs.View.{point_of};
 ghost use Rattle.propagate.specs.Modes.{Found};
 ghost use Rattle.search_tables.specs.Next.{mode_at, IsClosed};
-ghost use Rattle.search_tables.specs.WellFormed.{IsWellFormed};
+ghost use Rattle.search_tables.specs.TableInvariants.{IsWellFormed};
 ghost use Rattle.search_tables.specs.View.{table_in, table_node_in};
-ghost use Rattle.search_closing.specs.Modes.{IsFound, AreModes, cycle_side};
-ghost use Rattle.search_closing.specs.View.{machines_in};
+ghost use Rattle.search_closing.specs.ClosedModes.{IsWithoutEvent, AreModes, cycle_side};
+ghost use Rattle.search_closing.specs.View.{covered_machines};
 
 use crate::covered::Covered;
-use bisimulation::mode::Mode;
+use cert_bisimulation::mode::Mode;
 use nf_terms::stop::{NfStop, NoMemory};
 use nf_terms::tree::Side;
 use propagate::modes::mode;
@@ -21,8 +21,8 @@ use std::alloc::Global;
 // The mode of a node at which it is found. The one refusal is out of memory.
 fn mode_of(alloc: Global, m: &Covered<'_>, node: &TableNode) -> Result<Mode, NoMemory>
     requires points { IsTrue (is_point m.now.a.now (point_of node.now.left) && is_point m.now.b.now (point_of node.now.right)) }
-    requires found { IsFound (mode_at (machines_in m.now) (table_node_in node.now)) }
-    ensures { IfOk result (λ x. mode_at (machines_in m.now) (table_node_in node.now) ≡ Found x) }
+    requires found { IsWithoutEvent (mode_at (covered_machines m.now) (table_node_in node.now)) }
+    ensures { IfOk result (λ x. mode_at (covered_machines m.now) (table_node_in node.now) ≡ Found x) }
 {
     match mode(
         alloc, m.a, m.b, m.left, m.right, &node.fact, node.left, node.right,
@@ -41,9 +41,9 @@ pub(crate) fn modes_of(
     m: &Covered<'_>,
     nodes: &[TableNode],
 ) -> Result<Vec<Mode>, NoMemory>
-    requires formed { IsWellFormed (machines_in m.now) (table_in nodes.now) }
-    requires closed { IsClosed (machines_in m.now) (table_in nodes.now) }
-    ensures { IfOk result (λ modes. AreModes (machines_in m.now) (table_in nodes.now) modes.items) }
+    requires formed { IsWellFormed (covered_machines m.now) (table_in nodes.now) }
+    requires closed { IsClosed (covered_machines m.now) (table_in nodes.now) }
+    ensures { IfOk result (λ modes. AreModes (covered_machines m.now) (table_in nodes.now) modes.items) }
 {
     let mut out = Vec::new(alloc);
     for node in nodes {

@@ -1,14 +1,14 @@
 //! The nodes of a table of two machines, with their modes and their places.
 
 ghost use Rattle.std.specs.Prelude.{◌≡◌};
-ghost use Rattle.search_tables.specs.WellFormed.{IsWellFormed};
+ghost use Rattle.search_tables.specs.TableInvariants.{IsWellFormed};
 ghost use Rattle.search_tables.specs.View.{table_in};
-ghost use Rattle.search_closing.specs.Places.{keys_in};
-ghost use Rattle.search_closing.specs.Modes.{AreModes};
-ghost use Rattle.search_closing.specs.View.{machines_in};
+ghost use Rattle.search_closing.specs.NodePlaces.{keys_in};
+ghost use Rattle.search_closing.specs.ClosedModes.{AreModes};
+ghost use Rattle.search_closing.specs.View.{covered_machines};
 
 use crate::covered::Covered;
-use bisimulation::mode::Mode;
+use cert_bisimulation::mode::Mode;
 use indexmap::IndexSet;
 use search_tables::nodes::TableNode;
 
@@ -19,7 +19,7 @@ pub(crate) struct NodeTable<'a> {
     pub(crate) nodes: &'a [TableNode],
     pub(crate) modes: &'a [Mode],
     pub(crate) places: IndexSet<(u64, u64)>,
-    ghost formed: { IsWellFormed (machines_in machines.now) (table_in nodes.now) },
-    ghost modes_are: { AreModes (machines_in machines.now) (table_in nodes.now) modes.now },
+    ghost formed: { IsWellFormed (covered_machines machines.now) (table_in nodes.now) },
+    ghost modes_are: { AreModes (covered_machines machines.now) (table_in nodes.now) modes.now },
     ghost places_are: { places.keys ≡ keys_in (table_in nodes.now) },
 }

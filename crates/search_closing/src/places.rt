@@ -2,14 +2,14 @@
 
 ghost use Rattle.std.specs.Prelude.{◌≡◌, IsTrue, IfOk};
 ghost use Rattle.fs_cut.specs.View.{point_of};
-ghost use Rattle.search_tables.specs.Tables.{Table};
-ghost use Rattle.search_tables.specs.WellFormed.{nodes_differ};
+ghost use Rattle.search_tables.specs.SearchTables.{Table};
+ghost use Rattle.search_tables.specs.TableInvariants.{nodes_differ};
 ghost use Rattle.search_tables.specs.View.{table_in};
-ghost use Rattle.search_closing.specs.Places.{keys_in, StandsAt};
+ghost use Rattle.search_closing.specs.NodePlaces.{keys_in, NodeStandsAt};
 
+use cert_machine_pairs::keys::key_of;
 use fs_cut::cover::Point;
 use indexmap::IndexSet;
-use machine_pairs::keys::key_of;
 use nf_terms::stop::NoMemory;
 use search_tables::nodes::TableNode;
 use std::alloc::Global;
@@ -31,7 +31,7 @@ pub(crate) fn places_of(
 
 /// The place of the node at two points, if there is one.
 pub(crate) fn place_of(places: &IndexSet<(u64, u64)>, left: Point, right: Point) -> Option<usize>
-    ensures { (T : Table) → places.now.keys ≡ keys_in T → StandsAt T (point_of left) (point_of right) result }
+    ensures { (T : Table) → places.now.keys ≡ keys_in T → NodeStandsAt T (point_of left) (point_of right) result }
 {
     places.get_index_of(&key_of(left, right))
 }

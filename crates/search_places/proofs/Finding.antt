@@ -1,24 +1,25 @@
 -- Where a pair of points stands among the nodes, and what an insertion there does.
-use Rattle.std.proofs.Common.{◌≡◌, ℕ, suc, ◌+◌, ◌⊎◌, inl, inr, refl, sym, ◌∙◌, ap, subst, arith, Bool, true, false, cond, List, [], ◌∷◌, ◌++◌, length, Vec, Global}
+use Rattle.std.proofs.Common.{◌≡◌, ℕ, suc, ◌+◌, ◌⊎◌, inl, inr, refl, sym, ◌∙◌, ap, subst, arith, Bool, true, false, cond, List, [], ◌∷◌, ◌++◌, length, Vec}
+use Rattle.std.proofs.Common.{Global}
 use Rattle.std.proofs.lemmas.Bool.Decides.{nat_tests}
 use Rattle.std.proofs.lemmas.Option.{slice_get_within}
 use Rattle.std.proofs.lemmas.List.{length-map, map-append, map-set}
 use Rattle.std.specs.Prelude.{not, nat_lt, Option, Some, None, slice_get, slice_set, position}
 use Rattle.std.specs.List.{prefix_len}
 use Rattle.std.specs.Map.{keys_of, lookup}
+use Rattle.base_lemmas.proofs.Lists.{slice_get-of_map}
 use Rattle.indexmap.specs.IndexMap.{insert_entry}
 use Rattle.fs_cut.specs.View.{point_of}
 use Rattle.sym_facts.specs.Facts.{Fact}
-use Rattle.search_tables.specs.Tables.{Node, Unknown, Known, target_from}
+use Rattle.search_tables.specs.SearchTables.{SearchNode, Unknown, Known, target_from}
 use Rattle.search_places.specs.declared.pairs.PointPair.{PointPair}
 use Rattle.search_places.specs.declared.entry.Item.{Item}
 use Rattle.search_places.specs.declared.entry.Entry.{Entry}
 use Rattle.search_places.specs.Pairs.{same_pair}
-use Rattle.search_places.specs.Lines.{line_of, lines_in, table_of}
-use Rattle.search_places.specs.Changes.{StandsAt, fresh, Puts}
-use Rattle.search_ranks.proofs.Lists.{get_map}
+use Rattle.search_places.specs.NodeLines.{line_of_node, lines_in, table_of}
+use Rattle.search_places.specs.NodeChanges.{StandsAt, fresh, PutsNode}
 
-abbrev nodes : List (PointPair × Entry) → List Node
+abbrev nodes : List (PointPair × Entry) → List SearchNode
 nodes es = table_of (lines_in es)
 
 -- how many keys come before a pair
@@ -37,7 +38,7 @@ record Present (p : PointPair) (i : ℕ) (es : List (PointPair × Entry)) : Type
   place : ℕ
   entry : PointPair × Entry
   is_in : slice_get es place ≡ Some entry
-  target : target_from (point_of p.left) (point_of p.right) i (nodes es) ≡ Known (i + place) (line_of entry).node
+  target : target_from (point_of p.left) (point_of p.right) i (nodes es) ≡ Known (i + place) (line_of_node entry).node
   number : before p es ≡ place
   found : lookup (same_pair p) es ≡ Some entry.1
   set : (v : Entry) → insert_entry same_pair es p v ≡ slice_set es place (entry.0, v)
@@ -53,7 +54,8 @@ seek p i (e ∷ es) = by_test (same_pair p e.0) refl (seek p (i + 1) es)
           place = 0;
           entry = e;
           is_in = refl;
-          target = ap (λ b. cond b (Known i (line_of e).node) (target_from (point_of p.left) (point_of p.right) (i + 1) (nodes es))) t ∙ ap (λ j. Known j (line_of e).node) at;
+          target = ap (λ b. cond b (Known i (line_of_node e).node) (target_from (point_of p.left) (point_of p.right) (i + 1) (nodes es))) t
+              ∙ ap (λ j. Known j (line_of_node e).node) at;
           number = ap (λ b. cond (not b) (1 + before p es) 0) t;
           found = ap (λ b. cond b (Some e.1) (lookup (same_pair p) es)) t;
           set = λ v. ap (λ b. cond b ((e.0, v) ∷ es) (e ∷ insert_entry same_pair es p v)) t;
@@ -61,7 +63,7 @@ seek p i (e ∷ es) = by_test (same_pair p e.0) refl (seek p (i + 1) es)
     by_test false t (inl a) =
         let many : 1 + before p es ≡ length (e ∷ es) = omega (arith, a.number) in
         inl (record {
-          target = ap (λ b. cond b (Known i (line_of e).node) (target_from (point_of p.left) (point_of p.right) (i + 1) (nodes es))) t ∙ a.target;
+          target = ap (λ b. cond b (Known i (line_of_node e).node) (target_from (point_of p.left) (point_of p.right) (i + 1) (nodes es))) t ∙ a.target;
           number = ap (λ b. cond (not b) (1 + before p es) 0) t ∙ many;
           none = ap (λ b. cond b (Some e.1) (lookup (same_pair p) es)) t ∙ a.none;
           last = λ v. ap (λ b. cond b ((e.0, v) ∷ es) (e ∷ insert_entry same_pair es p v)) t ∙ ap (λ xs. e ∷ xs) (a.last v);
@@ -73,14 +75,16 @@ seek p i (e ∷ es) = by_test (same_pair p e.0) refl (seek p (i + 1) es)
           place = suc s.place;
           entry = s.entry;
           is_in = s.is_in;
-          target = ap (λ b. cond b (Known i (line_of e).node) (target_from (point_of p.left) (point_of p.right) (i + 1) (nodes es))) t ∙ s.target ∙ ap (λ j. Known j (line_of s.entry).node) at;
+          target = ap (λ b. cond b (Known i (line_of_node e).node) (target_from (point_of p.left) (point_of p.right) (i + 1) (nodes es))) t ∙ s.target
+              ∙ ap (λ j. Known j (line_of_node s.entry).node) at;
           number = ap (λ b. cond (not b) (1 + before p es) 0) t ∙ many;
           found = ap (λ b. cond b (Some e.1) (lookup (same_pair p) es)) t ∙ s.found;
           set = λ v. ap (λ b. cond b ((e.0, v) ∷ es) (e ∷ insert_entry same_pair es p v)) t ∙ ap (λ xs. e ∷ xs) (s.set v);
         })
 
 -- a pair that is looked up
-pub stands : (p : PointPair) (es : List (PointPair × Entry)) (o : Option ℕ) → o ≡ position (same_pair p) (keys_of es) → StandsAt (lines_in es) (point_of p.left) (point_of p.right) o
+pub stands : (p : PointPair) (es : List (PointPair × Entry)) (o : Option ℕ) → o ≡ position (same_pair p) (keys_of es)
+    → StandsAt (lines_in es) (point_of p.left) (point_of p.right) o
 stands p es o h = by_case (seek p 0 es)
   where
     many : length (keys_of es) ≡ length es
@@ -97,28 +101,33 @@ stands p es o h = by_case (seek p 0 es)
         let test : nat_lt (before p es) (length (keys_of es)) ≡ true = grind (arith, nat_tests, many) in
         let at : 0 + s.place ≡ s.place = omega arith in
         subst (StandsAt (lines_in es) (point_of p.left) (point_of p.right)) (sym (h ∙ ap (λ b. cond b (Some (before p es)) None) test ∙ ap Some s.number))
-        (line_of s.entry, get_map line_of es s.place s.entry s.is_in, s.target ∙ ap (λ j. Known j (line_of s.entry).node) at)
+        (line_of_node s.entry, slice_get-of_map line_of_node es s.place s.entry s.is_in, s.target ∙ ap (λ j. Known j (line_of_node s.entry).node) at)
 
 -- a pair that is put where no node stands
-pub puts_last : (p : PointPair) (f : Fact) (a : Vec Item Global) (es es' : List (PointPair × Entry)) (k : ℕ) (ys : List Item) → es' ≡ insert_entry same_pair es p (record { fact = f; moves = None; arrivals = a }) → a.items ≡ [] → k ≡ before p es → lookup (same_pair p) es ≡ None → ys ≡ [] → Puts (lines_in es) (lines_in es') (point_of p.left) (point_of p.right) f k ys
+pub puts_last : (p : PointPair) (f : Fact) (a : Vec Item Global) (es es' : List (PointPair × Entry)) (k : ℕ) (ys : List Item)
+    → es' ≡ insert_entry same_pair es p (record { fact = f; moves = None; arrivals = a }) → a.items ≡ [] → k ≡ before p es → lookup (same_pair p) es ≡ None
+    → ys ≡ [] → PutsNode (lines_in es) (lines_in es') (point_of p.left) (point_of p.right) f k ys
 puts_last p f a es es' k ys e none n o y = by_case (seek p 0 es)
   where
-    by_case : Absent p 0 es ⊎ Present p 0 es → Puts (lines_in es) (lines_in es') (point_of p.left) (point_of p.right) f k ys
+    by_case : Absent p 0 es ⊎ Present p 0 es → PutsNode (lines_in es) (lines_in es') (point_of p.left) (point_of p.right) f k ys
     by_case (inl s) =
         let v : Entry = record { fact = f; moves = None; arrivals = a } in
         inl (record {
           target = s.target;
-          number = n ∙ s.number ∙ sym (length-map es line_of);
-          last = ap lines_in (e ∙ s.last v) ∙ map-append line_of es ((p, v) ∷ []) ∙ ap (λ (bs : List Item). lines_in es ++ (record { node = (line_of (p, v)).node; moves = None; arrivals = bs }) ∷ []) none;
+          number = n ∙ s.number ∙ sym (length-map es line_of_node);
+          last = ap lines_in (e ∙ s.last v) ∙ map-append line_of_node es ((p, v) ∷ [])
+              ∙ ap (λ (bs : List Item). lines_in es ++ (record { node = (line_of_node (p, v)).node; moves = None; arrivals = bs }) ∷ []) none;
           none = y;
         })
     by_case (inr s) = absurd (let a = s.found in cc)
 
 -- a pair that is put where a node stands
-pub puts_again : (p : PointPair) (f : Fact) (a : Vec Item Global) (es es' : List (PointPair × Entry)) (k : ℕ) (old : Entry) → es' ≡ insert_entry same_pair es p (record { fact = f; moves = None; arrivals = a }) → a.items ≡ [] → k ≡ before p es → lookup (same_pair p) es ≡ Some old → Puts (lines_in es) (lines_in es') (point_of p.left) (point_of p.right) f k old.arrivals.items
+pub puts_again : (p : PointPair) (f : Fact) (a : Vec Item Global) (es es' : List (PointPair × Entry)) (k : ℕ) (old : Entry)
+    → es' ≡ insert_entry same_pair es p (record { fact = f; moves = None; arrivals = a }) → a.items ≡ [] → k ≡ before p es → lookup (same_pair p) es ≡ Some old
+    → PutsNode (lines_in es) (lines_in es') (point_of p.left) (point_of p.right) f k old.arrivals.items
 puts_again p f a es es' k old e none n o = by_case (seek p 0 es)
   where
-    by_case : Absent p 0 es ⊎ Present p 0 es → Puts (lines_in es) (lines_in es') (point_of p.left) (point_of p.right) f k old.arrivals.items
+    by_case : Absent p 0 es ⊎ Present p 0 es → PutsNode (lines_in es) (lines_in es') (point_of p.left) (point_of p.right) f k old.arrivals.items
     by_case (inl s) = absurd (let a = s.none in cc)
     by_case (inr s) =
         let v : Entry = record { fact = f; moves = None; arrivals = a } in
@@ -126,10 +135,12 @@ puts_again p f a es es' k old e none n o = by_case (seek p 0 es)
         let at : s.place ≡ k = sym (n ∙ s.number) in
         let from : 0 + s.place ≡ k = omega (arith, at) in
         inr (record {
-          old = line_of s.entry;
-          is_in = subst (λ j. slice_get (lines_in es) j ≡ Some (line_of s.entry)) at (get_map line_of es s.place s.entry s.is_in);
-          target = s.target ∙ ap (λ j. Known j (line_of s.entry).node) from;
-          set = ap lines_in (e ∙ s.set v) ∙ map-set line_of es s.place (s.entry.0, v) ∙ ap (λ (bs : List Item). slice_set (lines_in es) s.place (record { node = (line_of (s.entry.0, v)).node; moves = None; arrivals = bs })) none
-              ∙ ap (λ j. slice_set (lines_in es) j (fresh (line_of s.entry).node.left (line_of s.entry).node.right f)) at;
+          old = line_of_node s.entry;
+          is_in = subst (λ j. slice_get (lines_in es) j ≡ Some (line_of_node s.entry)) at (slice_get-of_map line_of_node es s.place s.entry s.is_in);
+          target = s.target ∙ ap (λ j. Known j (line_of_node s.entry).node) from;
+          set = ap lines_in (e ∙ s.set v) ∙ map-set line_of_node es s.place (s.entry.0, v)
+              ∙ ap (λ (bs : List Item). slice_set (lines_in es) s.place (record { node = (line_of_node (s.entry.0, v)).node; moves = None; arrivals = bs }))
+              none
+              ∙ ap (λ j. slice_set (lines_in es) j (fresh (line_of_node s.entry).node.left (line_of_node s.entry).node.right f)) at;
           woken = ap (λ (b : Entry). b.arrivals.items) same;
         })

@@ -5,9 +5,11 @@ use Rattle.std.proofs.lemmas.Bool.Decides.{nat_tests}
 use Rattle.std.specs.declared.cmp.Ordering.{Ordering}
 use Rattle.std.specs.declared.cmp.Ordering.TheVariants.{Less, Equal, Greater}
 use Rattle.std.specs.Ordering.{nat_cmp, ordering_then, is_gt, is_eq}
+use Rattle.std.proofs.lemmas.Bool.{false_from_ne_true}
+use Rattle.base_lemmas.proofs.Orderings.{is_eq-true}
 use Rattle.search_places.specs.declared.entry.Item.{Item}
-use Rattle.search_places.specs.Lines.{item}
-use Rattle.search_places.specs.Order.{item_cmp, IsLeast, Adds, Drops, AddsMoves}
+use Rattle.search_places.specs.NodeLines.{item}
+use Rattle.search_places.specs.ItemOrder.{item_cmp, IsLeastWaiting, Adds, Drops, AddsMoves}
 use Rattle.search_ranks.proofs.Lists.{same_or_not}
 
 cmp_greater : (x y : ℕ) → y < x → nat_cmp x y ≡ Greater
@@ -35,20 +37,15 @@ same_item x y h =
 itself : (x : Item) → item_cmp x x ≡ Equal
 itself x = ap (λ o. ordering_then o (nat_cmp x.place x.place)) (cmp_same x.node) ∙ cmp_same x.place
 
-is_equal : (o : Ordering) → is_eq o ≡ true → o ≡ Equal
-is_equal Less h = cc
-is_equal Equal h = refl
-is_equal Greater h = cc
-
-not_true : (b : Bool) → (b ≡ true → ⊥) → b ≡ false
-not_true true h = absurd (h refl)
-not_true false h = refl
-
 -- a lower bound is the least
-pub least_of : (f : Item → Bool) (x : Item) → ((y : Item) → f y ≡ true → is_gt (item_cmp x y) ≡ false) → IsLeast f x.node x.place
+pub least_of : (f : Item → Bool) (x : Item) → ((y : Item) → f y ≡ true → is_gt (item_cmp x y) ≡ false) → IsLeastWaiting f x.node x.place
 least_of f x h = record {
-  of_earlier = λ j q lt. not_true (f (item j q)) (λ t. let g : item_cmp x (item j q) ≡ Greater = ap (λ o. ordering_then o (nat_cmp x.place q)) (cmp_greater x.node j lt) in let n = h (item j q) t in (cc (ap is_gt g, n)));
-  of_same = λ q lt. not_true (f (item x.node q)) (λ t. let g : item_cmp x (item x.node q) ≡ Greater = ap (λ o. ordering_then o (nat_cmp x.place q)) (cmp_same x.node) ∙ cmp_greater x.place q lt in let n = h (item x.node q) t in (cc (ap is_gt g, n)));
+  of_earlier = λ j q lt. false_from_ne_true (f (item j q))
+      (λ t. let g : item_cmp x (item j q) ≡ Greater = ap (λ o. ordering_then o (nat_cmp x.place q)) (cmp_greater x.node j lt) in let n = h (item j q) t in
+      (cc (ap is_gt g, n)));
+  of_same = λ q lt. false_from_ne_true (f (item x.node q))
+      (λ t. let g : item_cmp x (item x.node q) ≡ Greater = ap (λ o. ordering_then o (nat_cmp x.place q)) (cmp_same x.node) ∙ cmp_greater x.place q lt in
+      let n = h (item x.node q) t in (cc (ap is_gt g, n)));
 }
 
 cond_true : (b c : Bool) → c ≡ true → cond b true c ≡ true
@@ -62,7 +59,7 @@ adds_by f g x h = record {
   only = λ y t. only_by x y (f y) (is_eq (item_cmp x y)) refl (sym (h y) ∙ t);
 } where
   only_by : (x y : Item) (c b : Bool) → is_eq (item_cmp x y) ≡ b → cond b true c ≡ true → (c ≡ true) ⊎ (x ≡ y)
-  only_by x y c true e t = inr (same_item x y (is_equal (item_cmp x y) e))
+  only_by x y c true e t = inr (same_item x y (is_eq-true (item_cmp x y) e))
   only_by x y c false e t = inl t
 
 pub drops_by : (f g : Item → Bool) (x : Item) → ((y : Item) → g y ≡ cond (is_eq (item_cmp x y)) false (f y)) → Drops f g x
@@ -72,7 +69,7 @@ drops_by f g x h = record {
   only = λ y t. only_by (f y) (is_eq (item_cmp x y)) (sym (h y) ∙ t);
 } where
   stay_by : (y : Item) (b : Bool) → is_eq (item_cmp x y) ≡ b → x ≢ y → g y ≡ cond b false (f y) → f y ≡ true → g y ≡ true
-  stay_by y true e d k t = absurd (d (same_item x y (is_equal (item_cmp x y) e)))
+  stay_by y true e d k t = absurd (d (same_item x y (is_eq-true (item_cmp x y) e)))
   stay_by y false e d k t = k ∙ t
 
   only_by : (c b : Bool) → cond b false c ≡ true → c ≡ true

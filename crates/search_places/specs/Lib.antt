@@ -1,6 +1,6 @@
 pub mod Pairs
-pub mod Lines
-pub mod Changes
-pub mod Order
+pub mod NodeLines
+pub mod NodeChanges
+pub mod ItemOrder
 pub mod View
 pub mod Moves

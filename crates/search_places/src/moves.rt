@@ -3,9 +3,9 @@
 ghost use Rattle.std.specs.Prelude.{◌≡◌, ◌≤◌, ◌++◌, map, option_map, length, OnOk, IfOk};
 ghost use Rattle.fs_model.specs.Limits.{most_branches};
 ghost use Rattle.fs_cut.specs.View.{path_of};
-ghost use Rattle.search_places.specs.Moves.{rights_beside, lefts_alone, pairs, moves_by, path_in, most_moves};
+ghost use Rattle.search_places.specs.Moves.{rights_beside, lefts_alone, pairs, moves_in_mode, path_in, most_moves};
 
-use bisimulation::mode::Mode;
+use cert_bisimulation::mode::Mode;
 use fs_cut::cover::Path;
 use nf_terms::stop::NoMemory;
 use search_tables::moves::Move;
@@ -67,7 +67,8 @@ fn push_moves(
     rights: &[Path],
     mode: Mode,
 ) -> Result<(), NoMemory>
-    ensures { OnOk result (out.new.items ≡ out.old.items ++ moves_by node (map path_of lefts.now) (map path_of rights.now) mode) }
+    ensures { OnOk result
+        (out.new.items ≡ out.old.items ++ moves_in_mode node (map path_of lefts.now) (map path_of rights.now) mode) }
 {
     match mode {
         Mode::Both => push_pairs(out, node, lefts, rights),
@@ -77,8 +78,8 @@ fn push_moves(
     }
 }
 
-/// The moves of a node in a mode by these paths of its points, in order of the left branch and then of the right one: at most 4,096. The
-/// one refusal is out of memory.
+/// The moves of a node in a mode by these paths of its points, in order of the left branch and then of the right one: at most
+/// 4,096. The one refusal is out of memory.
 pub fn moves(
     alloc: Global,
     node: u32,
@@ -88,7 +89,7 @@ pub fn moves(
 ) -> Result<Vec<Move>, NoMemory>
     requires few_left { length lefts.now ≤ most_branches }
     requires few_right { length rights.now ≤ most_branches }
-    ensures moves { IfOk result (λ out. out.items ≡ moves_by node (map path_of lefts.now) (map path_of rights.now) mode) }
+    ensures moves { IfOk result (λ out. out.items ≡ moves_in_mode node (map path_of lefts.now) (map path_of rights.now) mode) }
     ensures few { IfOk result (λ out. length out.items ≤ most_moves) }
 {
     let mut out = Vec::new(alloc);

@@ -4,8 +4,8 @@ ghost use Rattle.std.specs.Prelude.{◌≡◌, ◌<◌, Some, slice_get, IfOk, O
 ghost use Rattle.fs_cut.specs.View.{point_of};
 ghost use Rattle.indexmap.specs.IndexMap.{index_map_len};
 ghost use Rattle.search_tables.specs.View.{table_in};
-ghost use Rattle.search_places.specs.Lines.{lines_in, table_of};
-ghost use Rattle.search_places.specs.Changes.{StandsAt, Puts, SetsMoves, ListsArrival};
+ghost use Rattle.search_places.specs.NodeLines.{lines_in, table_of};
+ghost use Rattle.search_places.specs.NodeChanges.{StandsAt, PutsNode, SetsMoves, ListsArrival};
 ghost use Rattle.search_places.specs.View.{standing_in};
 
 use crate::entry::{Entry, Item};
@@ -53,8 +53,8 @@ pub fn node_at(nodes: &IndexMap<PointPair, Entry>, number: usize) -> Standing<'_
     }
 }
 
-/// Gives the node at two points this fact. Its moves are not known then, and nothing arrives at it. Where there is no such node it is
-/// put last. The one refusal is out of memory.
+/// Gives the node at two points this fact. Its moves are not known then, and nothing arrives at it. Where there is no such node
+/// it is put last. The one refusal is out of memory.
 pub fn put(
     alloc: Global,
     nodes: &mut IndexMap<PointPair, Entry>,
@@ -62,7 +62,9 @@ pub fn put(
     right: Point,
     fact: Fact,
 ) -> Result<Made, NoMemory>
-    ensures { IfOk result (λ p. Puts (lines_in nodes.old.entries) (lines_in nodes.new.entries) (point_of left) (point_of right) fact p.number p.arrivals.items) }
+    ensures { IfOk result
+        (λ p. PutsNode (lines_in nodes.old.entries) (lines_in nodes.new.entries) (point_of left)
+        (point_of right) fact p.number p.arrivals.items) }
 {
     let fresh = Entry {
         fact,

@@ -3,7 +3,7 @@
 ghost use Rattle.std.specs.Prelude.{◌≡◌, ◌+◌, ◌≤◌, ◌<◌, true, false, IfNone, IfSome, OnOk};
 ghost use Rattle.std.specs.BTreeSet.{btree_set_len};
 ghost use Rattle.search_places.specs.declared.entry.Item.{Item as PlainItem};
-ghost use Rattle.search_places.specs.Order.{waits, IsLeast, Adds, AddsMoves, AddsAll, Drops};
+ghost use Rattle.search_places.specs.ItemOrder.{waits, IsLeastWaiting, Adds, AddsMoves, AddsAll, Drops};
 
 use crate::entry::Item;
 use nf_terms::stop::NoMemory;
@@ -13,7 +13,7 @@ use std::collections::BTreeSet;
 pub fn least(waiting: &BTreeSet<Item>) -> Option<Item>
     ensures none { IfNone result ((y : PlainItem) → waits waiting.now y ≡ false) }
     ensures waits { IfSome result (λ y. waits waiting.now y ≡ true) }
-    ensures least { IfSome result (λ y. IsLeast (waits waiting.now) y.node y.place) }
+    ensures least { IfSome result (λ y. IsLeastWaiting (waits waiting.now) y.node y.place) }
 {
     match waiting.first() {
         Some(item) => Some(*item),

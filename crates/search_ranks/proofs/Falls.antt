@@ -8,7 +8,7 @@ below ranks [] p j g = cc
 below ranks (a ∷ js) zero j g = let e : a ≡ j = cc in subst (λ k. slice_index ranks k < above ranks (a ∷ js)) e (omega arith)
 below ranks (a ∷ js) (suc p) j g = let h = below ranks js p j g in omega arith
 
-edge_falls : (E : List (List ℕ)) (ranks : List ℕ) (i j : ℕ) → AreRanks E ranks → HasEdge E i j → slice_index ranks j < slice_index ranks i
+pub edge_falls : (E : List (List ℕ)) (ranks : List ℕ) (i j : ℕ) → AreRanks E ranks → HasEdge E i j → slice_index ranks j < slice_index ranks i
 edge_falls E ranks i j a h = let r = a.each i h.targets h.from in let b = below ranks h.targets h.place j h.is_in in omega (arith, r, b)
 
 falls : (E : List (List ℕ)) (ranks : List ℕ) (x : ℕ) (xs : List ℕ) (z : ℕ) → AreRanks E ranks → Follow E (x ∷ xs) z → slice_index ranks z < slice_index ranks x

@@ -4,3 +4,5 @@ pub mod Stacks
 pub mod Steps
 pub mod Roots
 pub mod Falls
+pub mod Longest
+pub mod WayBack

@@ -2,18 +2,19 @@
 use Rattle.std.proofs.Common.{◌≡◌, ℕ, suc, ◌+◌, ◌≤◌, max, inl, inr, refl, sym, ◌∙◌, ap, subst, arith, List, [], ◌∷◌, take}
 use Rattle.std.proofs.lemmas.List.{length-set}
 use Rattle.std.proofs.lemmas.List.Sums.{sum_by-set}
-use Rattle.std.proofs.lemmas.Option.{get_or_from_slice_get}
+use Rattle.std.proofs.lemmas.Option.{get_or_from_slice_get, slice_get_within}
 use Rattle.std.specs.List.{AllByRecursion}
 use Rattle.std.specs.Prelude.{◌≢◌, Some, slice_get, slice_set, slice_index}
+use Rattle.base_lemmas.proofs.Lists.{slice_get-of_map}
 use Rattle.search_ranks.specs.Graphs.{above}
 use Rattle.search_ranks.specs.declared.marks.Mark.{Mark}
 use Rattle.search_ranks.specs.declared.marks.Mark.TheVariants.{New, Open, Ranked}
 use Rattle.search_ranks.specs.declared.marks.Frame.{Frame}
 use Rattle.search_ranks.specs.Walks.{rank_of, ranks_in, one_if_ranked, ranked, IsRanked, AreRight, Looks, Extends}
-use Rattle.search_ranks.proofs.Lists.{set_same, set_other, get_map, get_within, same_or_not}
+use Rattle.search_ranks.proofs.Lists.{set_same, set_other, same_or_not}
 
 pub rank_at : (M : List Mark) (j r : ℕ) → slice_get M j ≡ Some (Ranked r) → slice_index (ranks_in M) j ≡ r
-rank_at M j r g = get_or_from_slice_get (ranks_in M) j r 0 (get_map rank_of M j (Ranked r) g)
+rank_at M j r g = get_or_from_slice_get (ranks_in M) j r 0 (slice_get-of_map rank_of M j (Ranked r) g)
 
 pub ranked_on : (M M' : List Mark) (js : List ℕ) → Extends M M' → AllByRecursion (IsRanked M) js → AllByRecursion (IsRanked M') js
 ranked_on M M' [] e h = tt
@@ -36,8 +37,10 @@ extends_set M i old new g d = record {
   ];
 }
 
-pub ranked_set : (M : List Mark) (i : ℕ) (old new : Mark) → slice_get M i ≡ Some old → ranked (slice_set M i new) + one_if_ranked old ≡ ranked M + one_if_ranked new
-ranked_set M i old new g = subst (λ o. ranked (slice_set M i new) + one_if_ranked o ≡ ranked M + one_if_ranked new) (get_or_from_slice_get M i old old g) (sum_by-set one_if_ranked M i new old (get_within M i old g))
+pub ranked_set : (M : List Mark) (i : ℕ) (old new : Mark) → slice_get M i ≡ Some old
+    → ranked (slice_set M i new) + one_if_ranked old ≡ ranked M + one_if_ranked new
+ranked_set M i old new g = subst (λ o. ranked (slice_set M i new) + one_if_ranked o ≡ ranked M + one_if_ranked new) (get_or_from_slice_get M i old old g)
+    (sum_by-set one_if_ranked M i new old (slice_get_within M i old g))
 
 pub looks_on : (E : List (List ℕ)) (M M' : List Mark) (f : Frame) → Extends M M' → ranked M ≤ ranked M' → Looks E M f → Looks E M' f
 looks_on E M M' f e le l = record {
@@ -50,7 +53,8 @@ looks_on E M M' f e le l = record {
 }
 
 -- an open node gets its rank
-pub right_ranked : (E : List (List ℕ)) (M : List Mark) (i d r : ℕ) (js : List ℕ) → AreRight E M → slice_get M i ≡ Some (Open d) → slice_get E i ≡ Some js → AllByRecursion (IsRanked M) js → r ≡ above (ranks_in M) js → r ≤ ranked M → AreRight E (slice_set M i (Ranked r))
+pub right_ranked : (E : List (List ℕ)) (M : List Mark) (i d r : ℕ) (js : List ℕ) → AreRight E M → slice_get M i ≡ Some (Open d) → slice_get E i ≡ Some js
+    → AllByRecursion (IsRanked M) js → r ≡ above (ranks_in M) js → r ≤ ranked M → AreRight E (slice_set M i (Ranked r))
 right_ranked E M i d r js right g h all e low =
     let M' = slice_set M i (Ranked r) in
     let ext : Extends M M' = extends_set M i (Open d) (Ranked r) g (λ q z. cc) in
@@ -58,7 +62,9 @@ right_ranked E M i d r js right g h all e low =
     record {
       count = length-set M i (Ranked r) ∙ right.count;
       targets = λ j q ks a b. elim (same_or_not j i) [
-        | inl s ↦ (let t : js ≡ ks = (let u = subst (λ z. slice_get E z ≡ Some ks) s b in cc) in ranked_on M M' ks ext (subst (λ z. AllByRecursion (IsRanked M) z) t all))
+        | inl s ↦
+            (let t : js ≡ ks = (let u = subst (λ z. slice_get E z ≡ Some ks) s b in cc) in
+            ranked_on M M' ks ext (subst (λ z. AllByRecursion (IsRanked M) z) t all))
         | inr n ↦ (let u = sym (set_other M i j (Ranked r) n) ∙ a in ranked_on M M' ks ext (right.targets j q ks u b))
       ];
       rank = λ j q ks a b. elim (same_or_not j i) [
@@ -91,9 +97,11 @@ right_opened E M i d right g =
       rank = λ j q ks a b. right.rank j q ks (back j q a) b ∙ above_on M M' ks ext (right.targets j q ks (back j q a) b);
       low = λ j q a. (let z = right.low j q (back j q a) in omega (arith, z, more));
     } where
-      open_other : (M : List Mark) (i j d q : ℕ) → slice_get M i ≡ Some New → slice_get (slice_set M i (Open d)) j ≡ Some (Ranked q) → slice_get M j ≡ Some (Ranked q)
+      open_other : (M : List Mark) (i j d q : ℕ) → slice_get M i ≡ Some New → slice_get (slice_set M i (Open d)) j ≡ Some (Ranked q)
+          → slice_get M j ≡ Some (Ranked q)
       open_other M i j d q g a = elim (same_or_not j i) [
-        | inl s ↦ absurd (let v : slice_get (slice_set M i (Open d)) i ≡ Some (Ranked q) = subst (λ z. slice_get (slice_set M i (Open d)) z ≡ Some (Ranked q)) s a in
+        | inl s ↦
+            absurd (let v : slice_get (slice_set M i (Open d)) i ≡ Some (Ranked q) = subst (λ z. slice_get (slice_set M i (Open d)) z ≡ Some (Ranked q)) s a in
             let x : slice_get (slice_set M i (Open d)) i ≡ Some (Open d) = set_same M i New (Open d) g in cc)
         | inr n ↦ sym (set_other M i j (Open d) n) ∙ a
       ]

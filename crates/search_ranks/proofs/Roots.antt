@@ -2,11 +2,12 @@
 use Rattle.std.proofs.Common.{◌≡◌, ℕ, zero, suc, ◌+◌, ◌≤◌, inl, inr, refl, sym, ◌∙◌, subst, arith, List, [], ◌∷◌, length, map}
 use Rattle.std.proofs.lemmas.List.{length-map}
 use Rattle.std.specs.Prelude.{Some, slice_get, slice_index}
+use Rattle.std.proofs.lemmas.Option.{slice_get_within}
 use Rattle.search_ranks.specs.Graphs.{AreRanks}
 use Rattle.search_ranks.specs.declared.marks.Mark.{Mark}
 use Rattle.search_ranks.specs.declared.marks.Mark.TheVariants.{New, Open, Ranked}
 use Rattle.search_ranks.specs.Walks.{rank_of, ranks_in, IsRanked, AreRight, InRange, NoneOpen, Visited, AreRanked}
-use Rattle.search_ranks.proofs.Lists.{get_within, same_or_not}
+use Rattle.search_ranks.proofs.Lists.{same_or_not}
 use Rattle.search_ranks.proofs.Marking.{rank_at}
 use Rattle.search_ranks.proofs.Steps.{rank_low}
 
@@ -44,11 +45,12 @@ low_by (Open d ∷ M) n h zero = omega arith
 low_by (Ranked r ∷ M) n h zero = h 0 r refl
 low_by (m ∷ M) n h (suc i) = low_by M n (λ j r g. h (suc j) r g) i
 
-pub all_ranked : (E : List (List ℕ)) (M : List Mark) (n : ℕ) (ranks : List ℕ) → InRange E → AreRight E M → AreRanked M n → length E ≤ n → ranks ≡ ranks_in M → AreRanks E ranks × ((i : ℕ) → slice_index ranks i ≤ 4096)
+pub all_ranked : (E : List (List ℕ)) (M : List Mark) (n : ℕ) (ranks : List ℕ) → InRange E → AreRight E M → AreRanked M n → length E ≤ n → ranks ≡ ranks_in M
+    → AreRanks E ranks × ((i : ℕ) → slice_index ranks i ≤ 4096)
 all_ranked E M n ranks range right all le e =
     let are : AreRanks E (ranks_in M) = record {
       count = length-map M rank_of ∙ right.count;
-      each = λ i js g. let w = get_within E i js g in let r = all.each i (omega arith) in rank_at M i r.rank r.mark ∙ right.rank i r.rank js r.mark g;
+      each = λ i js g. let w = slice_get_within E i js g in let r = all.each i (omega arith) in rank_at M i r.rank r.mark ∙ right.rank i r.rank js r.mark g;
     } in
     let low : (i : ℕ) → slice_index (ranks_in M) i ≤ 4096 = low_by M 4096 (λ i r g. let z = rank_low E M i r range right g in omega (arith, z)) in
     subst (λ rs. AreRanks E rs × ((i : ℕ) → slice_index rs i ≤ 4096)) (sym e) (are, low)

@@ -3,12 +3,14 @@ use Rattle.std.proofs.Common.{◌≡◌, ℕ, zero, suc, ◌+◌, ◌-◌, max, 
 use Rattle.std.proofs.lemmas.List.{length-append}
 use Rattle.std.specs.List.{AllByRecursion}
 use Rattle.std.specs.Prelude.{Some, slice_get, slice_set, slice_index}
+use Rattle.std.proofs.lemmas.Option.{slice_get_within}
+use Rattle.base_lemmas.proofs.Lists.{slice_get-front}
 use Rattle.search_ranks.specs.Graphs.{HasEdge, Follow, IsCycle, above}
 use Rattle.search_ranks.specs.declared.marks.Mark.{Mark}
 use Rattle.search_ranks.specs.declared.marks.Mark.TheVariants.{New, Open, Ranked}
 use Rattle.search_ranks.specs.declared.marks.Frame.{Frame}
 use Rattle.search_ranks.specs.Walks.{ranks_in, ranked, IsRanked, AreRight, Looks, IsStack, Extends, new_work}
-use Rattle.search_ranks.proofs.Lists.{set_same, set_other, get_front, get_last, get_snoc, get_within, same_or_not}
+use Rattle.search_ranks.proofs.Lists.{set_same, set_other, get_last, get_snoc, same_or_not}
 use Rattle.search_ranks.proofs.Marking.{rank_at, extends_set, ranked_set, looks_on}
 
 abbrev pub frame : ℕ → ℕ → ℕ → Frame
@@ -30,11 +32,12 @@ above_snoc ranks [] j = omega arith
 above_snoc ranks (a ∷ js) j = let h = above_snoc ranks js j in omega arith
 
 -- one target more was looked at
-pub looks_more : (E : List (List ℕ)) (M : List Mark) (f : Frame) (l : Looks E M f) (j r : ℕ) → AreRight E M → slice_get l.targets f.next ≡ Some j → slice_get M j ≡ Some (Ranked r) → Looks E M (frame f.node (f.next + 1) (max f.best (r + 1)))
+pub looks_more : (E : List (List ℕ)) (M : List Mark) (f : Frame) (l : Looks E M f) (j r : ℕ) → AreRight E M → slice_get l.targets f.next ≡ Some j
+    → slice_get M j ≡ Some (Ranked r) → Looks E M (frame f.node (f.next + 1) (max f.best (r + 1)))
 looks_more E M f l j r right g h =
     let t = take_more l.targets f.next j g in
     let low = right.low j r h in
-    let w = get_within l.targets f.next j g in
+    let w = slice_get_within l.targets f.next j g in
     let a = above_snoc (ranks_in M) (take f.next l.targets) j in
     let b = rank_at M j r h in
     record {
@@ -47,32 +50,34 @@ looks_more E M f l j r right g h =
     }
 
 -- the top of the stack is replaced by a frame of the same node
-pub stack_top : (E : List (List ℕ)) (M : List Mark) (B : List Frame) (t u : Frame) → u.node ≡ t.node → Looks E M u → IsStack E M (B ++ t ∷ []) → IsStack E M (B ++ u ∷ [])
+pub stack_top : (E : List (List ℕ)) (M : List Mark) (B : List Frame) (t u : Frame) → u.node ≡ t.node → Looks E M u → IsStack E M (B ++ t ∷ [])
+    → IsStack E M (B ++ u ∷ [])
 stack_top E M B t u n look s =
     let last = get_last B t in
     record {
-      looks = λ d f g. elim (get_snoc B u d f g) [ inl h ↦ s.looks d f (get_front B (t ∷ []) d f h) | inr h ↦ subst (Looks E M) h.1 look ];
+      looks = λ d f g. elim (get_snoc B u d f g) [ inl h ↦ s.looks d f (slice_get-front B (t ∷ []) d f h) | inr h ↦ subst (Looks E M) h.1 look ];
       marked = λ d f g. elim (get_snoc B u d f g) [
-        | inl h ↦ s.marked d f (get_front B (t ∷ []) d f h)
+        | inl h ↦ s.marked d f (slice_get-front B (t ∷ []) d f h)
         | inr h ↦ (let e : t.node ≡ f.node = sym n ∙ ap (λ (x : Frame). x.node) h.1 in
             subst (λ i. slice_get M i ≡ Some (Open d)) e (subst (λ k. slice_get M t.node ≡ Some (Open k)) (sym h.0) (s.marked (length B) t last)))
       ];
       node_at = λ i d g. let o = s.node_at i d g in elim (get_snoc B t d o.0 o.1) [
-        | inl h ↦ (o.0, get_front B (u ∷ []) d o.0 h, o.2)
+        | inl h ↦ (o.0, slice_get-front B (u ∷ []) d o.0 h, o.2)
         | inr h ↦ (u, subst (λ k. slice_get (B ++ u ∷ []) k ≡ Some u) (sym h.0) (get_last B u), n ∙ ap (λ (x : Frame). x.node) h.1 ∙ o.2)
       ];
       steps = λ d f g a b. elim (get_snoc B u d f a) [
         | inl h ↦ elim (get_snoc B u (suc d) g b) [
-          | inl k ↦ s.steps d f g (get_front B (t ∷ []) d f h) (get_front B (t ∷ []) (suc d) g k)
+          | inl k ↦ s.steps d f g (slice_get-front B (t ∷ []) d f h) (slice_get-front B (t ∷ []) (suc d) g k)
           | inr k ↦ (let e : t.node ≡ g.node = sym n ∙ ap (λ (x : Frame). x.node) k.1 in
-              subst (HasEdge E f.node) e (s.steps d f t (get_front B (t ∷ []) d f h) (subst (λ z. slice_get (B ++ t ∷ []) z ≡ Some t) (sym k.0) last)))
+              subst (HasEdge E f.node) e (s.steps d f t (slice_get-front B (t ∷ []) d f h) (subst (λ z. slice_get (B ++ t ∷ []) z ≡ Some t) (sym k.0) last)))
         ]
-        | inr h ↦ absurd (let w = get_within (B ++ u ∷ []) (suc d) g b in let z = length-append B (u ∷ []) in omega (arith, h.0))
+        | inr h ↦ absurd (let w = slice_get_within (B ++ u ∷ []) (suc d) g b in let z = length-append B (u ∷ []) in omega (arith, h.0))
       ];
     }
 
 -- a new node is put on the stack
-pub stack_push : (E : List (List ℕ)) (M : List Mark) (S : List Frame) (j : ℕ) (js : List ℕ) → slice_get M j ≡ Some New → slice_get E j ≡ Some js → ((d : ℕ) (f : Frame) → slice_get S d ≡ Some f → suc d ≡ length S → HasEdge E f.node j) → IsStack E M S
+pub stack_push : (E : List (List ℕ)) (M : List Mark) (S : List Frame) (j : ℕ) (js : List ℕ) → slice_get M j ≡ Some New → slice_get E j ≡ Some js
+    → ((d : ℕ) (f : Frame) → slice_get S d ≡ Some f → suc d ≡ length S → HasEdge E f.node j) → IsStack E M S
     → IsStack E (slice_set M j (Open (length S))) (S ++ frame j 0 0 ∷ [])
 stack_push E M S j js g h last s =
     let M' = slice_set M j (Open (length S)) in
@@ -93,45 +98,53 @@ stack_push E M S j js g h last s =
         | inl e ↦ (let x : slice_get M' j ≡ Some (Open d) = subst (λ k. slice_get M' k ≡ Some (Open d)) e a in
             let y : length S ≡ d = cc in
             (u, subst (λ k. slice_get (S ++ u ∷ []) k ≡ Some u) y (get_last S u), sym e))
-        | inr n ↦ (let o = s.node_at i d (sym (set_other M j i (Open (length S)) n) ∙ a) in (o.0, get_front S (u ∷ []) d o.0 o.1, o.2))
+        | inr n ↦ (let o = s.node_at i d (sym (set_other M j i (Open (length S)) n) ∙ a) in (o.0, slice_get-front S (u ∷ []) d o.0 o.1, o.2))
       ];
       steps = λ d f k a b. elim (get_snoc S u d f a) [
         | inl x ↦ elim (get_snoc S u (suc d) k b) [
           | inl y ↦ s.steps d f k x y
           | inr y ↦ subst (HasEdge E f.node) (ap (λ (z : Frame). z.node) y.1) (last d f x y.0)
         ]
-        | inr x ↦ absurd (let w = get_within (S ++ u ∷ []) (suc d) k b in let z = length-append S (u ∷ []) in omega (arith, x.0))
+        | inr x ↦ absurd (let w = slice_get_within (S ++ u ∷ []) (suc d) k b in let z = length-append S (u ∷ []) in omega (arith, x.0))
       ];
     }
 
 -- the top of the stack gets its rank
-pub stack_pop : (E : List (List ℕ)) (M : List Mark) (B : List Frame) (t : Frame) (r : ℕ) → IsStack E M (B ++ t ∷ []) → IsStack E (slice_set M t.node (Ranked r)) B
+pub stack_pop : (E : List (List ℕ)) (M : List Mark) (B : List Frame) (t : Frame) (r : ℕ) → IsStack E M (B ++ t ∷ [])
+    → IsStack E (slice_set M t.node (Ranked r)) B
 stack_pop E M B t r s =
     let M' = slice_set M t.node (Ranked r) in
     let top = s.marked (length B) t (get_last B t) in
     let ext : Extends M M' = extends_set M t.node (Open (length B)) (Ranked r) top (λ q z. cc) in
     let more : ranked M' ≡ ranked M + 1 = (let x = ranked_set M t.node (Open (length B)) (Ranked r) top in omega (arith, x)) in
     record {
-      looks = λ d f a. looks_on E M M' f ext (omega (arith, more)) (s.looks d f (get_front B (t ∷ []) d f a));
+      looks = λ d f a. looks_on E M M' f ext (omega (arith, more)) (s.looks d f (slice_get-front B (t ∷ []) d f a));
       marked = λ d f a.
-          let m = s.marked d f (get_front B (t ∷ []) d f a) in
-          let w = get_within B d f a in
-          set_other M t.node f.node (Ranked r) (λ e. (let x : slice_get M t.node ≡ Some (Open d) = subst (λ i. slice_get M i ≡ Some (Open d)) e m in let y : d ≡ length B = cc in omega (arith, y))) ∙ m;
+          let m = s.marked d f (slice_get-front B (t ∷ []) d f a) in
+          let w = slice_get_within B d f a in
+          set_other M t.node f.node (Ranked r)
+          (λ e. (let x : slice_get M t.node ≡ Some (Open d) = subst (λ i. slice_get M i ≡ Some (Open d)) e m in let y : d ≡ length B = cc in omega (arith, y)))
+          ∙ m;
       node_at = λ i d a. elim (same_or_not i t.node) [
-        | inl e ↦ absurd (let x : slice_get M' t.node ≡ Some (Open d) = subst (λ k. slice_get M' k ≡ Some (Open d)) e a in let y = set_same M t.node (Open (length B)) (Ranked r) top in cc)
+        | inl e ↦
+            absurd (let x : slice_get M' t.node ≡ Some (Open d) = subst (λ k. slice_get M' k ≡ Some (Open d)) e a in
+            let y = set_same M t.node (Open (length B)) (Ranked r) top in cc)
         | inr n ↦ (let o = s.node_at i d (sym (set_other M t.node i (Ranked r) n) ∙ a) in elim (get_snoc B t d o.0 o.1) [
           | inl x ↦ (o.0, x, o.2)
           | inr x ↦ absurd (n (sym (ap (λ (z : Frame). z.node) x.1 ∙ o.2)))
         ])
       ];
-      steps = λ d f g a b. s.steps d f g (get_front B (t ∷ []) d f a) (get_front B (t ∷ []) (suc d) g b);
+      steps = λ d f g a b. s.steps d f g (slice_get-front B (t ∷ []) d f a) (slice_get-front B (t ∷ []) (suc d) g b);
     }
 
 -- ---- a cycle
-follow_all : (E : List (List ℕ)) (L : List Frame) (z : ℕ) → ((d : ℕ) (f g : Frame) → slice_get L d ≡ Some f → slice_get L (suc d) ≡ Some g → HasEdge E f.node g.node) → ((d : ℕ) (f : Frame) → slice_get L d ≡ Some f → suc d ≡ length L → HasEdge E f.node z) → Follow E (map (λ f. f.node) L) z
+follow_all : (E : List (List ℕ)) (L : List Frame) (z : ℕ)
+    → ((d : ℕ) (f g : Frame) → slice_get L d ≡ Some f → slice_get L (suc d) ≡ Some g → HasEdge E f.node g.node)
+    → ((d : ℕ) (f : Frame) → slice_get L d ≡ Some f → suc d ≡ length L → HasEdge E f.node z) → Follow E (map (λ f. f.node) L) z
 follow_all E [] z steps last = tt
 follow_all E (f ∷ []) z steps last = (last 0 f refl refl, tt)
-follow_all E (f ∷ g ∷ L) z steps last = (steps 0 f g refl refl, follow_all E (g ∷ L) z (λ d a b x y. steps (suc d) a b x y) (λ d a x y. last (suc d) a x (ap suc y)))
+follow_all E (f ∷ g ∷ L) z steps last =
+    (steps 0 f g refl refl, follow_all E (g ∷ L) z (λ d a b x y. steps (suc d) a b x y) (λ d a x y. last (suc d) a x (ap suc y)))
 
 get_drop : {A : Type 0} (d k : ℕ) (S : List A) → slice_get (drop d S) k ≡ slice_get S (d + k)
 get_drop zero k S = let e : k ≡ 0 + k = omega arith in ap (slice_get S) e
@@ -148,21 +161,26 @@ length_drop zero S = omega arith
 length_drop (suc d) [] = omega arith
 length_drop (suc d) (a ∷ S) = let h = length_drop d S in omega arith
 
-cycle_by : (E : List (List ℕ)) (L rest : List Frame) (f : Frame) (j : ℕ) → L ≡ f ∷ rest → f.node ≡ j → Follow E (map (λ f. f.node) L) j → IsCycle E (map (λ f. f.node) L)
+cycle_by : (E : List (List ℕ)) (L rest : List Frame) (f : Frame) (j : ℕ) → L ≡ f ∷ rest → f.node ≡ j → Follow E (map (λ f. f.node) L) j
+    → IsCycle E (map (λ f. f.node) L)
 cycle_by E L rest f j e n h =
-    subst (λ K. IsCycle E (map (λ f. f.node) K)) (sym e) (subst (Follow E (f.node ∷ map (λ f. f.node) rest)) (sym n) (subst (λ K. Follow E (map (λ f. f.node) K) j) e h))
+    subst (λ K. IsCycle E (map (λ f. f.node) K)) (sym e)
+    (subst (Follow E (f.node ∷ map (λ f. f.node) rest)) (sym n) (subst (λ K. Follow E (map (λ f. f.node) K) j) e h))
 
 -- an edge from the top to an open node closes a cycle
-pub cycle_at : (E : List (List ℕ)) (M : List Mark) (S : List Frame) (j d : ℕ) → IsStack E M S → slice_get M j ≡ Some (Open d) → ((d : ℕ) (f : Frame) → slice_get S d ≡ Some f → suc d ≡ length S → HasEdge E f.node j) → IsCycle E (map (λ f. f.node) (drop d S))
+pub cycle_at : (E : List (List ℕ)) (M : List Mark) (S : List Frame) (j d : ℕ) → IsStack E M S → slice_get M j ≡ Some (Open d)
+    → ((d : ℕ) (f : Frame) → slice_get S d ≡ Some f → suc d ≡ length S → HasEdge E f.node j) → IsCycle E (map (λ f. f.node) (drop d S))
 cycle_at E M S j d s o last =
     let n = s.node_at j d o in
     cycle_by E (drop d S) (drop (suc d) S) n.0 j (drop_head d S n.0 n.1) n.2
     (follow_all E (drop d S) j
-    (λ k f g a b. s.steps (d + k) f g (sym (get_drop d k S) ∙ a) (let e : d + suc k ≡ suc (d + k) = omega arith in subst (λ z. slice_get S z ≡ Some g) e (sym (get_drop d (suc k) S) ∙ b)))
+    (λ k f g a b. s.steps (d + k) f g (sym (get_drop d k S) ∙ a)
+    (let e : d + suc k ≡ suc (d + k) = omega arith in subst (λ z. slice_get S z ≡ Some g) e (sym (get_drop d (suc k) S) ∙ b)))
     (λ k f a b. last (d + k) f (sym (get_drop d k S) ∙ a) (let x = length_drop d S in omega (arith, x, b))))
 
 -- ---- less work
-pub open_work : (E : List (List ℕ)) (M : List Mark) (i d : ℕ) (js : List ℕ) → slice_get E i ≡ Some js → slice_get M i ≡ Some New → new_work E (slice_set M i (Open d)) + (length js + 2) ≡ new_work E M
+pub open_work : (E : List (List ℕ)) (M : List Mark) (i d : ℕ) (js : List ℕ) → slice_get E i ≡ Some js → slice_get M i ≡ Some New
+    → new_work E (slice_set M i (Open d)) + (length js + 2) ≡ new_work E M
 open_work [] M i d js e g = cc
 open_work (a ∷ E) [] i d js e g = cc
 open_work (a ∷ E) (New ∷ M) zero d js e g = let s : a ≡ js = cc in let l = ap length s in omega (arith, l)

@@ -1,18 +1,21 @@
 -- Turns of the walk.
-use Rattle.std.proofs.Common.{◌≡◌, ℕ, zero, suc, ◌+◌, ◌-◌, ◌<◌, ◌≤◌, max, inl, inr, refl, sym, ◌∙◌, ap, subst, arith, List, [], ◌∷◌, ◌++◌, length, take, drop, get_or}
+use Rattle.std.proofs.Common.{◌≡◌, ℕ, zero, suc, ◌+◌, ◌-◌, ◌<◌, ◌≤◌, max, inl, inr, refl, sym, ◌∙◌, ap, subst, arith, List, [], ◌∷◌, ◌++◌, length, take, drop}
+use Rattle.std.proofs.Common.{get_or}
 use Rattle.std.proofs.lemmas.List.Sums.{sum_by-append, sum_by-cons}
 use Rattle.std.proofs.lemmas.List.{length-append}
-use Rattle.std.proofs.lemmas.Option.{get_or_from_slice_get, slice_get-get_or}
+use Rattle.std.proofs.lemmas.Option.{get_or_from_slice_get, slice_get-get_or, slice_get_within}
 use Rattle.std.specs.List.{AllByRecursion, slice_index_or}
 use Rattle.std.specs.Prelude.{Some, slice_get, slice_set, sum_by}
 use Rattle.search_ranks.specs.Graphs.{HasEdge, IsCycle, above}
 use Rattle.search_ranks.specs.declared.marks.Mark.{Mark}
 use Rattle.search_ranks.specs.declared.marks.Mark.TheVariants.{New, Open, Ranked}
 use Rattle.search_ranks.specs.declared.marks.Frame.{Frame}
-use Rattle.search_ranks.specs.Walks.{ranks_in, one_if_ranked, ranked, IsRanked, AreRight, Looks, IsStack, Extends, frame_work, walk_work, InRange, Walked, IsUnderWay, NoneOpen, nodes_in}
-use Rattle.search_ranks.proofs.Lists.{set_same, set_other, same_or_not, get_last, get_snoc, get_within}
+use Rattle.search_ranks.specs.Walks.{ranks_in, one_if_ranked, ranked, IsRanked, AreRight, Looks, IsStack, Extends, frame_work, walk_work, InRange, Walked}
+use Rattle.search_ranks.specs.Walks.{IsUnderWay, NoneOpen, frame_nodes}
+use Rattle.search_ranks.proofs.Lists.{set_same, set_other, same_or_not, get_last, get_snoc}
 use Rattle.search_ranks.proofs.Marking.{extends_set, right_ranked, right_opened}
 use Rattle.search_ranks.proofs.Stacks.{frame, looks_more, stack_top, stack_push, stack_pop, cycle_at, open_work, rank_work}
+use Rattle.search_ranks.proofs.WayBack.{one_target}
 
 frame_is : (E : List (List ℕ)) (f : Frame) (js : List ℕ) → slice_get E f.node ≡ Some js → frame_work E f ≡ (length js - f.next) + 1
 frame_is E f js g = ap (λ xs. (length xs - f.next) + 1) (get_or_from_slice_get E f.node js [] g)
@@ -22,9 +25,6 @@ sum_snoc E B t =
     let a = sum_by-append (frame_work E) B (t ∷ []) in
     let b = sum_by-cons (frame_work E) t [] in
     omega (arith, a, b)
-
-same_targets : (E : List (List ℕ)) (i : ℕ) (js ks : List ℕ) → slice_get E i ≡ Some js → slice_get E i ≡ Some ks → js ≡ ks
-same_targets E i js ks a b = cc
 
 extends_same : (M : List Mark) → Extends M M
 extends_same M = record { kept = λ j r g. g }
@@ -53,24 +53,27 @@ take_all [] (suc n) le = refl
 take_all (x ∷ xs) zero le = absurd (omega arith)
 take_all (x ∷ xs) (suc n) le = ap (λ ys. x ∷ ys) (take_all xs n (omega arith))
 
-module _ (E : List (List ℕ)) (M : List Mark) (B : List Frame) (t : Frame) (js : List ℕ) (right : AreRight E M) (s : IsStack E M (B ++ t ∷ [])) (from : slice_get E t.node ≡ Some js) where
+module _ (E : List (List ℕ)) (M : List Mark) (B : List Frame) (t : Frame) (js : List ℕ) (right : AreRight E M) (s : IsStack E M (B ++ t ∷ []))
+    (from : slice_get E t.node ≡ Some js) where
   look : Looks E M t
   look = s.looks (length B) t (get_last B t)
 
   targets_are : look.targets ≡ js
-  targets_are = same_targets E t.node look.targets js look.from from
+  targets_are = one_target E t.node look.targets js look.from from
 
-  edge_from : (j : ℕ) → slice_get js t.next ≡ Some j → (d : ℕ) (f : Frame) → slice_get (B ++ t ∷ []) d ≡ Some f → suc d ≡ length (B ++ t ∷ []) → HasEdge E f.node j
+  edge_from : (j : ℕ) → slice_get js t.next ≡ Some j → (d : ℕ) (f : Frame) → slice_get (B ++ t ∷ []) d ≡ Some f → suc d ≡ length (B ++ t ∷ [])
+      → HasEdge E f.node j
   edge_from j g d f a b = elim (get_snoc B t d f a) [
-    | inl h ↦ absurd (let w = get_within B d f h in let z = length-append B (t ∷ []) in omega (arith, b))
+    | inl h ↦ absurd (let w = slice_get_within B d f h in let z = length-append B (t ∷ []) in omega (arith, b))
     | inr h ↦ subst (λ (x : Frame). HasEdge E x.node j) h.1 (record { targets = js; from = from; place = t.next; is_in = g })
   ]
 
-  pub step_ranked : (j r : ℕ) → slice_get js t.next ≡ Some j → slice_get M j ≡ Some (Ranked r) → Walked E M M (B ++ frame t.node (t.next + 1) (max t.best (r + 1)) ∷ []) (walk_work E M (B ++ t ∷ []))
+  pub step_ranked : (j r : ℕ) → slice_get js t.next ≡ Some j → slice_get M j ≡ Some (Ranked r)
+      → Walked E M M (B ++ frame t.node (t.next + 1) (max t.best (r + 1)) ∷ []) (walk_work E M (B ++ t ∷ []))
   step_ranked j r g h =
       let u = frame t.node (t.next + 1) (max t.best (r + 1)) in
       let g' : slice_get look.targets t.next ≡ Some j = subst (λ xs. slice_get xs t.next ≡ Some j) (sym targets_are) g in
-      let w = get_within js t.next j g in
+      let w = slice_get_within js t.next j g in
       record {
         right = right;
         stack = stack_top E M B t u refl (looks_more E M t look j r right g' h) s;
@@ -79,7 +82,8 @@ module _ (E : List (List ℕ)) (M : List Mark) (B : List Frame) (t : Frame) (js 
         less = omega (arith, sum_snoc E B t, sum_snoc E B u, frame_is E t js from, frame_is E u js from, w);
       }
 
-  pub step_new : (j : ℕ) → InRange E → slice_get js t.next ≡ Some j → slice_get M j ≡ Some New → Walked E M (slice_set M j (Open (length (B ++ t ∷ [])))) ((B ++ t ∷ []) ++ frame j 0 0 ∷ []) (walk_work E M (B ++ t ∷ []))
+  pub step_new : (j : ℕ) → InRange E → slice_get js t.next ≡ Some j → slice_get M j ≡ Some New
+      → Walked E M (slice_set M j (Open (length (B ++ t ∷ [])))) ((B ++ t ∷ []) ++ frame j 0 0 ∷ []) (walk_work E M (B ++ t ∷ []))
   step_new j range g h =
       let S = B ++ t ∷ [] in
       let u = frame j 0 0 in
@@ -98,7 +102,8 @@ module _ (E : List (List ℕ)) (M : List Mark) (B : List Frame) (t : Frame) (js 
       let top = s.marked (length B) t (get_last B t) in
       let all : take t.next look.targets ≡ js = take_whole t.next look.targets js targets_are le in
       record {
-        right = right_ranked E M t.node (length B) t.best js right top from (subst (λ xs. AllByRecursion (IsRanked M) xs) all look.done) (look.best ∙ ap (above (ranks_in M)) all) look.low;
+        right = right_ranked E M t.node (length B) t.best js right top from (subst (λ xs. AllByRecursion (IsRanked M) xs) all look.done)
+            (look.best ∙ ap (above (ranks_in M)) all) look.low;
         stack = stack_pop E M B t t.best s;
         extends = extends_set M t.node (Open (length B)) (Ranked t.best) top (λ q z. cc);
         under_way = λ i u. ranked_way M i t.node (length B) t.best top u;
@@ -107,11 +112,11 @@ module _ (E : List (List ℕ)) (M : List Mark) (B : List Frame) (t : Frame) (js 
         take_whole : (n : ℕ) (xs ys : List ℕ) → xs ≡ ys → length ys ≤ n → take n xs ≡ ys
         take_whole n xs ys e le = ap (take n) e ∙ take_all ys n le
 
-  pub step_open : (j d : ℕ) → slice_get js t.next ≡ Some j → slice_get M j ≡ Some (Open d) → IsCycle E (nodes_in (drop d (B ++ t ∷ [])))
+  pub step_open : (j d : ℕ) → slice_get js t.next ≡ Some j → slice_get M j ≡ Some (Open d) → IsCycle E (frame_nodes (drop d (B ++ t ∷ [])))
   step_open j d g h = cycle_at E M (B ++ t ∷ []) j d s h (edge_from j g)
 
 pub node_in : (E : List (List ℕ)) (M : List Mark) (B : List Frame) (t : Frame) → IsStack E M (B ++ t ∷ []) → t.node < length E
-node_in E M B t s = let l = s.looks (length B) t (get_last B t) in get_within E t.node l.targets l.from
+node_in E M B t s = let l = s.looks (length B) t (get_last B t) in slice_get_within E t.node l.targets l.from
 
 at_most : (m : Mark) → one_if_ranked m ≤ 1
 at_most New = omega arith
@@ -135,9 +140,15 @@ pub extends_more : (M N O : List Mark) → Extends M N → Extends N O → Exten
 extends_more M N O a b = record { kept = λ j r g. b.kept j r (a.kept j r g) }
 
 -- a visit begins
-pub begins : (E : List (List ℕ)) (M : List Mark) (S : List Frame) (root : ℕ) → AreRight E M → NoneOpen M → slice_get M root ≡ Some New → S ≡ frame root 0 0 ∷ [] → IsStack E (slice_set M root (Open 0)) S
+pub begins : (E : List (List ℕ)) (M : List Mark) (S : List Frame) (root : ℕ) → AreRight E M → NoneOpen M → slice_get M root ≡ Some New → S ≡ frame root 0 0 ∷ []
+    → IsStack E (slice_set M root (Open 0)) S
 begins E M S root right none new e =
     let js = slice_index_or E root [] in
-    let low : root < length E = (let w = get_within M root New new in omega (arith, w, right.count)) in
-    let empty : IsStack E M [] = record { looks = λ d f g. absurd (cc); marked = λ d f g. absurd (cc); node_at = λ i d g. absurd (none i d g); steps = λ d f g a b. absurd (cc) } in
+    let low : root < length E = (let w = slice_get_within M root New new in omega (arith, w, right.count)) in
+    let empty : IsStack E M [] = record {
+      looks = λ d f g. absurd (cc);
+      marked = λ d f g. absurd (cc);
+      node_at = λ i d g. absurd (none i d g);
+      steps = λ d f g a b. absurd (cc);
+    } in
     subst (λ z. IsStack E (slice_set M root (Open 0)) z) (sym e) (stack_push E M [] root js new (slice_get-get_or E root [] low) (λ d f a b. absurd (cc)) empty)

@@ -1,8 +1,9 @@
 -- A walk in depth, and what is known of it.
-use Rattle.std.specs.Prelude.{◌≡◌, ℕ, suc, ◌+◌, ◌-◌, ◌<◌, ◌≤◌, List, [], ◌∷◌, length, map, take, drop, Vec, Option, Some, None, slice_get, slice_index, sum_by, ◌⊎◌}
+use Rattle.std.specs.Prelude.{◌≡◌, ℕ, suc, ◌+◌, ◌-◌, ◌<◌, ◌≤◌, List, [], ◌∷◌, length, map, take, drop, Vec, Option, Some, None}
+use Rattle.std.specs.Prelude.{slice_get, slice_index, sum_by, ◌⊎◌}
 use Rattle.std.specs.Global.{Global}
 use Rattle.std.specs.List.{AllByRecursion, slice_index_or}
-use Rattle.search_ranks.specs.Graphs.{HasEdge, IsCycle, above, AreRanks}
+use Rattle.search_ranks.specs.Graphs.{HasEdge, IsCycle, BeginsLeast, above, AreRanks}
 use Rattle.search_ranks.specs.declared.marks.Mark.{Mark}
 use Rattle.search_ranks.specs.declared.marks.Mark.TheVariants.{New, Open, Ranked}
 use Rattle.search_ranks.specs.declared.marks.Frame.{Frame}
@@ -33,7 +34,8 @@ pub record IsRanked (M : List Mark) (j : ℕ) : Type 0 where
 -- each rank is one more than the greatest of its targets', and less than their number
 pub record AreRight (E : List (List ℕ)) (M : List Mark) : Type 0 where
   pub count : length M ≡ length E
-  pub targets : (i r : ℕ) (js : List ℕ) → slice_get M i ≡ Some (Ranked r) → slice_get E i ≡ Some js → AllByRecursion (IsRanked M) js
+  pub targets : (i r : ℕ) (js : List ℕ) → slice_get M i ≡ Some (Ranked r) → slice_get E i ≡ Some js
+      → AllByRecursion (IsRanked M) js
   pub rank : (i r : ℕ) (js : List ℕ) → slice_get M i ≡ Some (Ranked r) → slice_get E i ≡ Some js → r ≡ above (ranks_in M) js
   pub low : (i r : ℕ) → slice_get M i ≡ Some (Ranked r) → r < ranked M
 
@@ -89,13 +91,13 @@ pub record Walked (E : List (List ℕ)) (M M' : List Mark) (S' : List Frame) (w 
   pub under_way : (i : ℕ) → IsUnderWay M i → IsUnderWay M' i
   pub less : walk_work E M' S' < w
 
-abbrev pub nodes_in : List Frame → List ℕ
-nodes_in S = map (λ f. f.node) S
+abbrev pub frame_nodes : List Frame → List ℕ
+frame_nodes S = map (λ f. f.node) S
 
 -- a turn finds a cycle, which the stack holds from a place on, or leaves less to do
-abbrev pub Turns : List (List ℕ) → List Mark → List Mark → List Frame → ℕ → Option ℕ → Type 0
-Turns E M M' S' w None = Walked E M M' S' w
-Turns E M M' S' w (Some d) = IsCycle E (nodes_in (drop d S'))
+abbrev pub StepsWalk : List (List ℕ) → List Mark → List Mark → List Frame → ℕ → Option ℕ → Type 0
+StepsWalk E M M' S' w None = Walked E M M' S' w
+StepsWalk E M M' S' w (Some d) = IsCycle E (frame_nodes (drop d S'))
 
 abbrev pub lists_in : List (Vec ℕ Global) → List (List ℕ)
 lists_in es = map (λ v. v.items) es
@@ -115,10 +117,10 @@ abbrev pub Visits : List (List ℕ) → List Mark → List Mark → ℕ → Opti
 Visits E M M' root None = Visited E M M' root
 Visits E M M' root (Some cycle) = IsCycle E cycle.items
 
--- the lengths of the longest chains, or a cycle
+-- the lengths of the longest chains, or the cycle that begins at the least node on any
 abbrev pub IsRanking : List (List ℕ) → Ranking → Type 0
 IsRanking E (Ranks v) = AreRanks E v.items × ((i : ℕ) → slice_index v.items i ≤ 4096)
-IsRanking E (Cycle v) = IsCycle E v.items
+IsRanking E (Cycle v) = IsCycle E v.items × BeginsLeast E v.items
 
 -- the nodes below one have their rank
 pub record AreRanked (M : List Mark) (n : ℕ) : Type 0 where

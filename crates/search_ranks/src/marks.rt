@@ -1,7 +1,7 @@
-//! Marks of nodes and frames of the stack of a depth-first search.
+//! Marks of nodes and frames of the stacks of depth-first searches.
 
 /// How far a node has come: it is new, stands on the stack at this place, or has its rank.
-#[derive(Clone, Copy, Debug, PartialEq, Eq)]
+#[derive(Clone, Copy)]
 pub(crate) enum Mark {
     New,
     Open(usize),
@@ -9,9 +9,16 @@ pub(crate) enum Mark {
 }
 
 /// A node on the stack: its targets before `next` have ranks, and `best` is one more than the greatest of these.
-#[derive(Clone, Copy, Debug, PartialEq, Eq)]
+#[derive(Clone, Copy)]
 pub(crate) struct Frame {
     pub(crate) node: u32,
     pub(crate) next: usize,
     pub(crate) best: u32,
+}
+
+/// A node on a path: its targets before `next` were looked at.
+#[derive(Clone, Copy, Debug, PartialEq, Eq)]
+pub(crate) struct Step {
+    pub(crate) node: u32,
+    pub(crate) next: usize,
 }

@@ -1,8 +1,12 @@
 //! Depth-first search: each node gets its rank once its targets have theirs, or an edge leads back to the stack.
 
-ghost use Rattle.std.specs.Prelude.{◌≡◌, ℕ, List, ◌+◌, ◌<◌, ◌≤◌, ◌++◌, ◌∷◌, [], Some, None, length, drop, IfNone, IfSome, IfOk, OnOk, slice_get, map};
-ghost use Rattle.search_ranks.specs.Walks.{AreRight, IsStack, InRange, NoneOpen, Turns, Visits, IsRanking, lists_in, nodes_in, rank_of, ranks_in, walk_work};
+ghost use Rattle.std.specs.Prelude.{◌≡◌, ℕ, List, ◌+◌, ◌<◌, ◌≤◌, ◌++◌, ◌∷◌, [], Some, None, length, drop, IfNone, IfSome, IfOk};
+ghost use Rattle.std.specs.Prelude.{OnOk, slice_get, map};
+ghost use Rattle.search_ranks.specs.Graphs.{IsCycle, BeginsLeast};
+ghost use Rattle.search_ranks.specs.Walks.{AreRight, IsStack, InRange, NoneOpen, StepsWalk, Visits, IsRanking, lists_in};
+ghost use Rattle.search_ranks.specs.Walks.{frame_nodes, rank_of, ranks_in, walk_work};
 
+use crate::least::least_cycle;
 use crate::marks::{Frame, Mark};
 use crate::memory::NoMemory;
 use crate::ranking::Ranking;
@@ -16,11 +20,12 @@ fn push(stack: &mut Vec<Frame>, frame: Frame) -> Result<(), NoMemory>
     Ok(())
 }
 
-// The target of this number, if the node has one.
-fn target(edges: &[Vec<u32>], node: u32, number: usize) -> Option<u32>
+/// The target of this number, if the node has one.
+pub(crate) fn target(edges: &[Vec<u32>], node: u32, number: usize) -> Option<u32>
     requires { node < length edges.now }
     ensures none { IfNone result ((js : List ℕ) → slice_get (lists_in edges.now) node ≡ Some js → length js ≤ number) }
-    ensures some { IfSome result (λ j. (js : List ℕ) × (slice_get (lists_in edges.now) node ≡ Some js) × (slice_get js number ≡ Some j)) }
+    ensures some { IfSome result
+        (λ j. (js : List ℕ) × (slice_get (lists_in edges.now) node ≡ Some js) × (slice_get js number ≡ Some j)) }
 {
     edges[node as usize].get(number).copied()
 }
@@ -35,7 +40,9 @@ fn turn(
     requires range { InRange (lists_in edges.now) }
     requires right { AreRight (lists_in edges.now) marks.old.items }
     requires stack { IsStack (lists_in edges.now) marks.old.items (stack.old.items ++ top ∷ []) }
-    ensures { IfOk result (Turns (lists_in edges.now) marks.old.items marks.new.items stack.new.items (walk_work (lists_in edges.now) marks.old.items (stack.old.items ++ top ∷ []))) }
+    ensures { IfOk result
+        (StepsWalk (lists_in edges.now) marks.old.items marks.new.items stack.new.items
+        (walk_work (lists_in edges.now) marks.old.items (stack.old.items ++ top ∷ []))) }
 {
     match target(edges, top.node, top.next) {
         None => {
@@ -89,7 +96,7 @@ fn tail(stack: &[Frame], place: usize) -> &[Frame]
 
 // The nodes of frames.
 fn nodes(alloc: Global, frames: &[Frame]) -> Result<Vec<u32>, NoMemory>
-    ensures { IfOk result (λ v. v.items ≡ nodes_in frames.now) }
+    ensures { IfOk result (λ v. v.items ≡ frame_nodes frames.now) }
 {
     Ok(frames.iter().map(|frame| frame.node).collect(alloc)?)
 }
@@ -175,9 +182,23 @@ fn ranks_in(alloc: Global, marks: &[Mark]) -> Result<Vec<u32>, NoMemory>
     Ok(marks.iter().map(|mark| rank_of(*mark)).collect(alloc)?)
 }
 
-/// For each node the length of the longest chain of edges from it, or nodes that follow one another with the last leading to the first.
-/// The edges are a list of targets for each node: at most 4,096 nodes, at most 4,096 targets for each, and each target a node. Takes
-/// time linear in the number of nodes and edges.
+// The cycle that begins at the least node on any, where there is a cycle.
+#[tactic(auto, using(crate::proofs::WayBack::some_cycle))]
+fn least(alloc: Global, edges: &[Vec<u32>], cycle: Vec<u32>) -> Result<Vec<u32>, NoMemory>
+    requires range { InRange (lists_in edges.now) }
+    requires cycle { IsCycle (lists_in edges.now) cycle.items }
+    ensures { IfOk result (λ v. IsCycle (lists_in edges.now) v.items × BeginsLeast (lists_in edges.now) v.items) }
+{
+    match least_cycle(alloc, edges)? {
+        Some(least) => Ok(least),
+        None => unreachable!(),
+    }
+}
+
+/// For each node the length of the longest chain of edges from it; or, where there is a cycle, nodes that follow one another with
+/// the last leading to the first, of which the first is the least node that lies on any cycle. The edges are a list of targets
+/// for each node: at most 4,096 nodes, at most 4,096 targets for each, and each target a node. Ranks take time linear in the
+/// number of nodes and edges; so does a cycle for each node up to its first.
 ///
 /// `Cycle` comes exactly where there are no ranks. `NoMemory`: out of memory.
 pub fn rank_all(alloc: Global, edges: &[Vec<u32>]) -> Result<Ranking, NoMemory>
@@ -187,7 +208,7 @@ pub fn rank_all(alloc: Global, edges: &[Vec<u32>]) -> Result<Ranking, NoMemory>
     let mut marks = new_marks(alloc, edges)?;
     'roots: for root in 0..edges.len() {
         match rank_root(alloc, edges, &mut marks, root as u32)? {
-            Some(cycle) => return Ok(Ranking::Cycle(cycle)),
+            Some(cycle) => return Ok(Ranking::Cycle(least(alloc, edges, cycle)?)),
             None => {}
         }
     }

@@ -1,32 +1,35 @@
 -- The certificate of a closed table meets all its obligations.
 use Rattle.std.proofs.Common.{◌≡◌, ℕ, zero, suc, ◌+◌, refl, ap, sym, subst, ◌∙◌, arith, Bool, true, false, cond, List, [], ◌∷◌, map, Option, Some, None}
 use Rattle.std.specs.Prelude.{slice_get}
-use Rattle.std.specs.Option.{option_map, option_or}
+use Rattle.std.specs.Option.{option_map}
 use Rattle.std.specs.List.{AllByRecursion}
-use Rattle.fs_ast.specs.Sound.{IsSound}
+use Rattle.base_lemmas.proofs.Options.{option_or_parts}
+use Rattle.base_lemmas.proofs.Quantifiers.{each_at}
+use Rattle.fs_ast.specs.SoundMachines.{IsSound}
 use Rattle.fs_cut.specs.Paths.{Start}
 use Rattle.fs_cut.specs.Covers.{paths_of}
 use Rattle.fs_pair.specs.Interfaces.{interface_fault}
-use Rattle.fs_pair.specs.Outputs.{OutputPair, output_pairs}
-use Rattle.bisimulation.specs.declared.mode.Mode.{Mode}
-use Rattle.bisimulation.specs.declared.mode.Mode.TheVariants.{Both, Left, Right, End}
-use Rattle.bisimulation.specs.Tables.{Node as CertificateNode}
+use Rattle.fs_pair.specs.PairedOutputs.{OutputPair, output_pairs}
+use Rattle.cert_bisimulation.specs.declared.mode.Mode.{Mode}
+use Rattle.cert_bisimulation.specs.declared.mode.Mode.TheVariants.{Both, Left, Right, End}
+use Rattle.cert_bisimulation.specs.Tables.{Node as CertificateNode}
 use Rattle.nf_terms.specs.Computed.{Done, after}
 use Rattle.sym_paths.specs.Execution.{Post}
 use Rattle.sym_facts.specs.Facts.{Fact, vector_of}
 use Rattle.sym_facts.specs.Entailment.{entails}
 use Rattle.sym_facts.specs.Starts.{start_fact}
 use Rattle.propagate.specs.Modes.{Found}
-use Rattle.certificates.specs.declared.reason.Reason.TheVariants as reason
-use Rattle.certificates.specs.Obligations.{Judged, node_at, first_missing, start_reaches, judge_move, mode_fits, same_forms, judge_output, moves_by, owed_by, obligations, Yes, verdict_by, verdict_from, verdict}
+use Rattle.cert_model.specs.declared.reason.Reason.TheVariants as reason
+use Rattle.cert_model.specs.Obligations.{Judged, node_at, first_missing, start_reaches, judge_move, mode_fits, same_forms, judge_output, moves_by, owed_by}
+use Rattle.cert_model.specs.Obligations.{obligations, Yes, verdict_by, verdict_from, verdict}
 use Rattle.search_ranks.specs.Graphs.{above, AreRanks}
 use Rattle.search_tables.specs.declared.moves.Move.{Move}
-use Rattle.search_tables.specs.Tables.{Machines, positions_of, Node, Table, is_at, start_node, Keeps, effect}
-use Rattle.search_tables.specs.Next.{mode_at, paths_in, Nothing, next}
+use Rattle.search_tables.specs.SearchTables.{MachinePair, positions_of, SearchNode, Table, is_at, start_node, Keeps, effect}
+use Rattle.search_tables.specs.Next.{mode_at, paths_in, Nothing, next_move}
 use Rattle.search_tables.specs.Legal.{Difference, first_differing, output_at, difference_at, stuck_from, stuck, Makes}
 use Rattle.search_tables.specs.LoneMoves.{lone_targets, lone_in, lone_from, lone_moves}
 use Rattle.search_tables.specs.Certifying.{table_node, Certifies}
-use Rattle.search_tables.proofs.Lists.{all_in, one_of, all_maps, all_flat, all_flats}
+use Rattle.search_tables.proofs.Lists.{all_in, all_maps, all_flat, all_flats}
 use Rattle.search_tables.proofs.Closing.{quiet}
 use Rattle.search_tables.proofs.Fitting.{mode_is_fit}
 use Rattle.search_tables.proofs.Judging.{moves_hold, rank_at}
@@ -40,44 +43,46 @@ yes_where_held : (k : ℕ) (rs : List Judged) → AllByRecursion Held rs → ver
 yes_where_held k [] h = refl
 yes_where_held k (r ∷ rs) h = ap (λ z. verdict_by k z (verdict_from (k + 1) rs)) h.0 ∙ yes_where_held (k + 1) rs h.1
 
-mapped_at : (cs : List (CertificateNode Fact)) (k : ℕ) (c : CertificateNode Fact) → slice_get cs k ≡ Some c → slice_get (map table_node cs) k ≡ Some (table_node c)
+mapped_at : (cs : List (CertificateNode Fact)) (k : ℕ) (c : CertificateNode Fact) → slice_get cs k ≡ Some c
+    → slice_get (map table_node cs) k ≡ Some (table_node c)
 mapped_at [] k c e = absurd (cc e)
 mapped_at (d ∷ cs) zero c e = let i : d ≡ c = cc e in ap (λ z. Some (table_node z)) i
 mapped_at (d ∷ cs) (suc k) c e = mapped_at cs k c e
 
-lone_at : (m : Machines) (T : Table) (ns : List Node) (k : ℕ) (n : Node) → slice_get ns k ≡ Some n → slice_get (lone_from m T ns) k ≡ Some (lone_in m T n (mode_at m n))
+lone_at : (m : MachinePair) (T : Table) (ns : List SearchNode) (k : ℕ) (n : SearchNode) → slice_get ns k ≡ Some n
+    → slice_get (lone_from m T ns) k ≡ Some (lone_in m T n (mode_at m n))
 lone_at m T [] k n e = absurd (cc e)
 lone_at m T (a ∷ ns) zero n e = let i : a ≡ n = cc e in ap (λ z. Some (lone_in m T z (mode_at m z))) i
 lone_at m T (a ∷ ns) (suc k) n e = lone_at m T ns k n e
 
 -- ---- outputs
-either_none : (a b : Option Difference) → option_or a b ≡ None → (a ≡ None) × (b ≡ None)
-either_none None b e = (refl, e)
-either_none (Some x) b e = absurd (cc e)
 
 abbrev difference : ℕ → ℕ → Difference
 difference i x = record { node = i; output = x }
 
-none_stuck : (m : Machines) (ns : List Node) (i k : ℕ) (n : Node) → stuck_from m i ns ≡ None → slice_get ns k ≡ Some n → output_at m n ≡ None
+none_stuck : (m : MachinePair) (ns : List SearchNode) (i k : ℕ) (n : SearchNode) → stuck_from m i ns ≡ None → slice_get ns k ≡ Some n → output_at m n ≡ None
 none_stuck m [] i k n e g = absurd (cc g)
-none_stuck m (a ∷ ns) i zero n e g = let s : a ≡ n = cc g in ap (output_at m) (sym s) ∙ not_mapped (output_at m a) (either_none (difference_at m i a) (stuck_from m (i + 1) ns) e).0
+none_stuck m (a ∷ ns) i zero n e g = let s : a ≡ n = cc g in ap (output_at m) (sym s)
+    ∙ not_mapped (output_at m a) (option_or_parts (difference_at m i a) (stuck_from m (i + 1) ns) e).0
   where
     not_mapped : (o : Option ℕ) → option_map (λ x. difference i x) o ≡ None → o ≡ None
     not_mapped None h = refl
     not_mapped (Some x) h = absurd (cc h)
-none_stuck m (a ∷ ns) i (suc k) n e g = none_stuck m ns (i + 1) k n (either_none (difference_at m i a) (stuck_from m (i + 1) ns) e).1 g
+none_stuck m (a ∷ ns) i (suc k) n e g = none_stuck m ns (i + 1) k n (option_or_parts (difference_at m i a) (stuck_from m (i + 1) ns) e).1 g
 
-outputs_hold : (c : CertificateNode Fact) (os : List OutputPair) → first_differing (vector_of c.fact.positions) os ≡ None → AllByRecursion Held (map (judge_output c) os)
+outputs_hold : (c : CertificateNode Fact) (os : List OutputPair) → first_differing (vector_of c.fact.positions) os ≡ None
+    → AllByRecursion Held (map (judge_output c) os)
 outputs_hold c [] h = tt
 outputs_hold c (o ∷ os) h =
     let s = by_test (same_forms (vector_of c.fact.positions) o.sort o.left o.right) h in
     (ap (λ b. Done (cond b None (Some (reason.Output o.left)))) s.0, outputs_hold c os s.1)
   where
-    by_test : (b : Bool) → cond b (first_differing (vector_of c.fact.positions) os) (Some o.left) ≡ None → (b ≡ true) × (first_differing (vector_of c.fact.positions) os ≡ None)
+    by_test : (b : Bool) → cond b (first_differing (vector_of c.fact.positions) os) (Some o.left) ≡ None
+        → (b ≡ true) × (first_differing (vector_of c.fact.positions) os ≡ None)
     by_test true e = (refl, e)
     by_test false e = absurd (cc e)
 
-module _ (m : Machines) (cs : List (CertificateNode Fact)) (modes : AllByRecursion (λ c. mode_at m (table_node c) ≡ Found c.mode) cs) where
+module _ (m : MachinePair) (cs : List (CertificateNode Fact)) (modes : AllByRecursion (λ c. mode_at m (table_node c) ≡ Found c.mode) cs) where
   abbrev T : Table
   T = map table_node cs
 
@@ -85,48 +90,67 @@ module _ (m : Machines) (cs : List (CertificateNode Fact)) (modes : AllByRecursi
   ranks = map (λ c. c.rank) cs
 
   -- ---- a node
-  by_mode : (c : CertificateNode Fact) (x : Mode) → mode_fits x c.left c.right ≡ true → output_at m (table_node c) ≡ None → AllByRecursion (λ y. judge_move m.left m.right cs c y.left y.right ≡ Done None) (paths_in m (table_node c) x) → AllByRecursion Held (moves_by x m.left m.right cs c)
+  by_mode : (c : CertificateNode Fact) (x : Mode) → mode_fits x c.left c.right ≡ true → output_at m (table_node c) ≡ None
+      → AllByRecursion (λ y. judge_move m.left m.right cs c y.left y.right ≡ Done None) (paths_in m (table_node c) x)
+      → AllByRecursion Held (moves_by x m.left m.right cs c)
   by_mode c Both fits outputs h =
-      all_flats (λ y. judge_move m.left m.right cs c y.left y.right ≡ Done None) Held (λ p. map (λ q. record { left = Some p; right = Some q }) (paths_of m.right c.right)) (λ p. map (λ q. judge_move m.left m.right cs c (Some p) (Some q)) (paths_of m.right c.right)) (paths_of m.left c.left)
-      (λ p g. all_maps (λ y. judge_move m.left m.right cs c y.left y.right ≡ Done None) Held (λ q. record { left = Some p; right = Some q }) (λ q. judge_move m.left m.right cs c (Some p) (Some q)) (paths_of m.right c.right) (λ q e. e) g) h
-  by_mode c Left fits outputs h = all_maps (λ y. judge_move m.left m.right cs c y.left y.right ≡ Done None) Held (λ p. record { left = Some p; right = None }) (λ p. judge_move m.left m.right cs c (Some p) None) (paths_of m.left c.left) (λ p e. e) h
-  by_mode c Right fits outputs h = all_maps (λ y. judge_move m.left m.right cs c y.left y.right ≡ Done None) Held (λ q. record { left = None; right = Some q }) (λ q. judge_move m.left m.right cs c None (Some q)) (paths_of m.right c.right) (λ q e. e) h
+      all_flats (λ y. judge_move m.left m.right cs c y.left y.right ≡ Done None) Held
+      (λ p. map (λ q. record { left = Some p; right = Some q }) (paths_of m.right c.right))
+      (λ p. map (λ q. judge_move m.left m.right cs c (Some p) (Some q)) (paths_of m.right c.right)) (paths_of m.left c.left)
+      (λ p g. all_maps (λ y. judge_move m.left m.right cs c y.left y.right ≡ Done None) Held (λ q. record { left = Some p; right = Some q })
+      (λ q. judge_move m.left m.right cs c (Some p) (Some q)) (paths_of m.right c.right) (λ q e. e) g) h
+  by_mode c Left fits outputs h = all_maps (λ y. judge_move m.left m.right cs c y.left y.right ≡ Done None) Held (λ p. record { left = Some p; right = None })
+      (λ p. judge_move m.left m.right cs c (Some p) None) (paths_of m.left c.left) (λ p e. e) h
+  by_mode c Right fits outputs h = all_maps (λ y. judge_move m.left m.right cs c y.left y.right ≡ Done None) Held (λ q. record { left = None; right = Some q })
+      (λ q. judge_move m.left m.right cs c None (Some q)) (paths_of m.right c.right) (λ q e. e) h
   by_mode c End fits outputs h =
-      outputs_hold c (output_pairs 0 m.left.variables m.right.variables) (sym (ap (λ b. cond b (first_differing (vector_of c.fact.positions) (output_pairs 0 m.left.variables m.right.variables)) None) fits) ∙ outputs)
+      outputs_hold c (output_pairs 0 m.left.variables m.right.variables)
+      (sym (ap (λ b. cond b (first_differing (vector_of c.fact.positions) (output_pairs 0 m.left.variables m.right.variables)) None) fits) ∙ outputs)
 
-  node_holds : next m T ≡ Nothing → stuck m T ≡ None → AreRanks (lone_moves m T) ranks → (k : ℕ) (c : CertificateNode Fact) → slice_get cs k ≡ Some c → AllByRecursion Held (owed_by m.left m.right cs c)
+  node_holds : next_move m T ≡ Nothing → stuck m T ≡ None → AreRanks (lone_moves m T) ranks → (k : ℕ) (c : CertificateNode Fact) → slice_get cs k ≡ Some c
+      → AllByRecursion Held (owed_by m.left m.right cs c)
   node_holds closed free are k c e =
       let g = mapped_at cs k c e in
-      let mode : mode_at m (table_node c) ≡ Found c.mode = one_of (λ d. mode_at m (table_node d) ≡ Found d.mode) cs k c modes e in
+      let mode : mode_at m (table_node c) ≡ Found c.mode = each_at (λ d. mode_at m (table_node d) ≡ Found d.mode) cs k c modes e in
       let fits = mode_is_fit m.left m.right c.fact c.left c.right c.mode mode in
       let q = quiet m T k (table_node c) closed g in
       let found : Found q.mode ≡ Found c.mode = sym q.found ∙ mode in
       let same : q.mode ≡ c.mode = cc found in
       let rank : c.rank ≡ above ranks (lone_targets m T (table_node c) c.mode (paths_in m (table_node c) c.mode)) =
-      sym (rank_at cs k c e) ∙ are.each k (lone_in m T (table_node c) (mode_at m (table_node c))) (lone_at m T T k (table_node c) g) ∙ ap (λ z. above ranks (lone_in m T (table_node c) z)) mode in (
+      sym (rank_at cs k c e) ∙ are.each k (lone_in m T (table_node c) (mode_at m (table_node c))) (lone_at m T T k (table_node c) g)
+      ∙ ap (λ z. above ranks (lone_in m T (table_node c) z)) mode in (
         ap (λ b. Done (cond b None (Some reason.Mode))) fits,
         by_mode c c.mode fits (none_stuck m T 0 k (table_node c) free g)
-            (moves_hold m cs modes c (paths_in m (table_node c) c.mode) (subst (λ x. AllByRecursion (λ y. effect m T (table_node c) y ≡ Keeps) (paths_in m (table_node c) x)) same q.keep) (omega (arith, rank))),
+            (moves_hold m cs modes c (paths_in m (table_node c) c.mode)
+            (subst (λ x. AllByRecursion (λ y. effect m T (table_node c) y ≡ Keeps) (paths_in m (table_node c) x)) same q.keep) (omega (arith, rank))),
       )
 
   -- ---- the start
-  start_held : (rest : List Node) → IsSound m.left → interface_fault m.left m.right ≡ None → (ds : List (CertificateNode Fact)) → map table_node ds ≡ start_node m ∷ rest → Held (start_reaches (node_at ds Start Start) (record { conditions = []; vector = vector_of (start_fact (positions_of m)).positions }))
+  start_held : (rest : List SearchNode) → IsSound m.left → interface_fault m.left m.right ≡ None → (ds : List (CertificateNode Fact))
+      → map table_node ds ≡ start_node m ∷ rest
+      → Held (start_reaches (node_at ds Start Start) (record { conditions = []; vector = vector_of (start_fact (positions_of m)).positions }))
   start_held rest sound matched [] e = absurd (cc e)
   start_held rest sound matched (d ∷ ds) e =
       let same : table_node d ≡ start_node m = cc e in
       let post : Post = record { conditions = []; vector = vector_of (start_fact (positions_of m)).positions } in
-      let first : node_at (d ∷ ds) Start Start ≡ Some d = ap (λ (n : Node). cond (is_at Start Start n) (Some d) (node_at ds Start Start)) same in
-      let entailed : entails post d.fact ≡ Done (record { equations = []; literals = [] }) = ap (λ (n : Node). entails post n.fact) same ∙ entails_itself m.left m.right sound matched in
+      let first : node_at (d ∷ ds) Start Start ≡ Some d = ap (λ (n : SearchNode). cond (is_at Start Start n) (Some d) (node_at ds Start Start)) same in
+      let entailed : entails post d.fact ≡ Done (record { equations = []; literals = [] }) = ap (λ (n : SearchNode). entails post n.fact) same
+      ∙ entails_itself m.left m.right sound matched in
       ap (λ o. start_reaches o post) first ∙ ap (λ z. after z (λ x. Done (first_missing x.equations x.literals true))) entailed
 
-  all_held : (rest : List Node) → IsSound m.left → interface_fault m.left m.right ≡ None → T ≡ start_node m ∷ rest → next m T ≡ Nothing → stuck m T ≡ None → AreRanks (lone_moves m T) ranks → verdict m.left m.right (start_fact (positions_of m)) cs ≡ Yes
+  all_held : (rest : List SearchNode) → IsSound m.left → interface_fault m.left m.right ≡ None → T ≡ start_node m ∷ rest → next_move m T ≡ Nothing
+      → stuck m T ≡ None → AreRanks (lone_moves m T) ranks → verdict m.left m.right (start_fact (positions_of m)) cs ≡ Yes
   all_held rest sound matched begins closed free are =
-      yes_where_held 1 (obligations m.left m.right (start_fact (positions_of m)) cs)
-      (start_held rest sound matched cs begins, all_flat Held (owed_by m.left m.right cs) cs (all_in (λ c. AllByRecursion Held (owed_by m.left m.right cs c)) cs (node_holds closed free are)))
+      yes_where_held 1 (obligations m.left m.right (start_fact (positions_of m)) cs) (
+        start_held rest sound matched cs begins,
+        all_flat Held (owed_by m.left m.right cs) cs (all_in (λ c. AllByRecursion Held (owed_by m.left m.right cs c)) cs (node_holds closed free are)),
+      )
 
-pub certified : (m : Machines) → IsSound m.left → interface_fault m.left m.right ≡ None → (moves : List Move) (T : Table) (ranks : List ℕ) (cs : List (CertificateNode Fact)) → Makes m moves T → next m T ≡ Nothing → stuck m T ≡ None → AreRanks (lone_moves m T) ranks → Certifies m T ranks cs → verdict m.left m.right (start_fact (positions_of m)) cs ≡ Yes
+pub certified : (m : MachinePair) → IsSound m.left → interface_fault m.left m.right ≡ None
+    → (moves : List Move) (T : Table) (ranks : List ℕ) (cs : List (CertificateNode Fact)) → Makes m moves T → next_move m T ≡ Nothing → stuck m T ≡ None
+    → AreRanks (lone_moves m T) ranks → Certifies m T ranks cs → verdict m.left m.right (start_fact (positions_of m)) cs ≡ Yes
 certified m sound matched moves T ranks cs makes closed free are h =
     let s = begins_with_start m moves T makes in
     let t = sym h.nodes in
-    all_held m cs h.modes s.0 sound matched (h.nodes ∙ s.1) (subst (λ U. next m U ≡ Nothing) t closed) (subst (λ U. stuck m U ≡ None) t free)
+    all_held m cs h.modes s.0 sound matched (h.nodes ∙ s.1) (subst (λ U. next_move m U ≡ Nothing) t closed) (subst (λ U. stuck m U ≡ None) t free)
     (subst (λ rs. AreRanks (lone_moves m (map table_node cs)) rs) (sym h.ranks_are) (subst (λ U. AreRanks (lone_moves m U) ranks) t are))

@@ -4,22 +4,22 @@ use Rattle.std.proofs.lemmas.Bool.Decides.{nat_tests}
 use Rattle.std.proofs.lemmas.List.{length-map}
 use Rattle.std.specs.Prelude.{not, ◌&&◌, ◌||◌, nat_le, slice_index}
 use Rattle.std.specs.List.{list_all, list_any, AllByRecursion}
+use Rattle.std.proofs.lemmas.Bool.{and_from}
 use Rattle.fs_cut.specs.Paths.{is_point}
 use Rattle.fs_cut.specs.Covers.{same_point}
-use Rattle.bisimulation.specs.Tables.{Node as CertificateNode}
-use Rattle.nf_terms.proofs.Tests.{and_both}
+use Rattle.cert_bisimulation.specs.Tables.{Node as CertificateNode}
 use Rattle.sym_facts.specs.Facts.{Fact}
 use Rattle.sym_facts.specs.Pairings.{IsFactOf}
-use Rattle.certificates.specs.Lawful.{most_rank, points_differ, IsLawful}
-use Rattle.search_tables.specs.Tables.{Machines, positions_of, Node, Table}
-use Rattle.search_tables.specs.WellFormed.{nodes_differ, IsWellFormed}
+use Rattle.cert_model.specs.Lawful.{most_rank, points_differ, IsLawful}
+use Rattle.search_tables.specs.SearchTables.{MachinePair, positions_of, SearchNode, Table}
+use Rattle.search_tables.specs.TableInvariants.{nodes_differ, IsWellFormed}
 use Rattle.search_tables.specs.Certifying.{table_node, Certifies}
 
-all_again : (f : Node → Bool) (cs : List (CertificateNode Fact)) → list_all (λ c. f (table_node c)) cs ≡ list_all f (map table_node cs)
+all_again : (f : SearchNode → Bool) (cs : List (CertificateNode Fact)) → list_all (λ c. f (table_node c)) cs ≡ list_all f (map table_node cs)
 all_again f [] = refl
 all_again f (c ∷ cs) = ap (λ b. f (table_node c) && b) (all_again f cs)
 
-any_again : (f : Node → Bool) (cs : List (CertificateNode Fact)) → list_any (λ c. f (table_node c)) cs ≡ list_any f (map table_node cs)
+any_again : (f : SearchNode → Bool) (cs : List (CertificateNode Fact)) → list_any (λ c. f (table_node c)) cs ≡ list_any f (map table_node cs)
 any_again f [] = refl
 any_again f (c ∷ cs) = ap (λ b. f (table_node c) || b) (any_again f cs)
 
@@ -27,18 +27,22 @@ differ_again : (cs : List (CertificateNode Fact)) → points_differ cs ≡ nodes
 differ_again [] = refl
 differ_again (c ∷ cs) = ap₂ (λ b d. not b && d) (any_again (λ k. same_point c.left k.left && same_point c.right k.right) cs) (differ_again cs)
 
-ranks_low : (cs : List (CertificateNode Fact)) → ((i : ℕ) → slice_index (map (λ c. c.rank) cs) i ≤ most_rank) → list_all (λ c. nat_le c.rank most_rank) cs ≡ true
+ranks_low : (cs : List (CertificateNode Fact)) → ((i : ℕ) → slice_index (map (λ c. c.rank) cs) i ≤ most_rank)
+    → list_all (λ c. nat_le c.rank most_rank) cs ≡ true
 ranks_low [] h = refl
 ranks_low (c ∷ cs) h =
     let low : c.rank ≤ most_rank = h 0 in
     let test : nat_le c.rank most_rank ≡ true = grind (arith, nat_tests) in
-    and_both (nat_le c.rank most_rank) (list_all (λ d. nat_le d.rank most_rank) cs) test (ranks_low cs (λ i. h (suc i)))
+    and_from (nat_le c.rank most_rank) (list_all (λ d. nat_le d.rank most_rank) cs) test (ranks_low cs (λ i. h (suc i)))
 
-facts_again : (P : Fact → Type 0) (cs : List (CertificateNode Fact)) → AllByRecursion (λ (n : Node). P n.fact) (map table_node cs) → AllByRecursion (λ (c : CertificateNode Fact). P c.fact) cs
+facts_again : (P : Fact → Type 0) (cs : List (CertificateNode Fact)) → AllByRecursion (λ (n : SearchNode). P n.fact) (map table_node cs)
+    → AllByRecursion (λ (c : CertificateNode Fact). P c.fact) cs
 facts_again P [] h = tt
 facts_again P (c ∷ cs) h = (h.0, facts_again P cs h.1)
 
-pub lawful : (m : Machines) (T : Table) (ranks : List ℕ) (cs : List (CertificateNode Fact)) → IsWellFormed m T → AllByRecursion (λ n. IsFactOf (positions_of m) n.fact) T → ((i : ℕ) → slice_index ranks i ≤ most_rank) → Certifies m T ranks cs → IsLawful m.left m.right cs
+pub lawful : (m : MachinePair) (T : Table) (ranks : List ℕ) (cs : List (CertificateNode Fact)) → IsWellFormed m T
+    → AllByRecursion (λ n. IsFactOf (positions_of m) n.fact) T → ((i : ℕ) → slice_index ranks i ≤ most_rank) → Certifies m T ranks cs
+    → IsLawful m.left m.right cs
 lawful m T ranks cs w facts low h =
     let v : IsWellFormed m (map table_node cs) = subst (IsWellFormed m) (sym h.nodes) w in
     record {
@@ -46,5 +50,5 @@ lawful m T ranks cs w facts low h =
       points = all_again (λ n. is_point m.left n.left && is_point m.right n.right) cs ∙ v.points;
       differ = differ_again cs ∙ v.differ;
       ranks = ranks_low cs (subst (λ rs. (i : ℕ) → slice_index rs i ≤ most_rank) (sym h.ranks_are) low);
-      facts = facts_again (IsFactOf (positions_of m)) cs (subst (AllByRecursion (λ (n : Node). IsFactOf (positions_of m) n.fact)) (sym h.nodes) facts);
+      facts = facts_again (IsFactOf (positions_of m)) cs (subst (AllByRecursion (λ (n : SearchNode). IsFactOf (positions_of m) n.fact)) (sym h.nodes) facts);
     }

@@ -12,3 +12,4 @@ pub mod Forming
 pub mod Lawful
 pub mod Ending
 pub mod Bounded
+pub mod OneSpin

@@ -2,17 +2,17 @@
 use Rattle.std.proofs.Common.{◌≡◌, ℕ, suc, ◌+◌, refl, ap, ◌∙◌, arith, Bool, true, false, cond, List, [], ◌∷◌, map, Some}
 use Rattle.std.specs.Prelude.{slice_get}
 use Rattle.fs_cut.specs.Paths.{Point}
-use Rattle.bisimulation.specs.Tables.{Node as CertificateNode}
+use Rattle.cert_bisimulation.specs.Tables.{Node as CertificateNode}
 use Rattle.sym_facts.specs.Facts.{Fact}
-use Rattle.certificates.specs.Obligations.{node_at}
-use Rattle.search_tables.specs.Tables.{Node, Known, target_from, is_at}
+use Rattle.cert_model.specs.Obligations.{node_at}
+use Rattle.search_tables.specs.SearchTables.{SearchNode, Known, target_from, is_at}
 use Rattle.search_tables.specs.Certifying.{table_node}
 
-pub known_same : (j k : ℕ) (a n : Node) → Known j a ≡ Known k n → (j ≡ k) × (a ≡ n)
+pub known_same : (j k : ℕ) (a n : SearchNode) → Known j a ≡ Known k n → (j ≡ k) × (a ≡ n)
 known_same j k a n e = (cc e, cc e)
 
 -- the first node at two points, by its number
-pub record Stands (cs : List (CertificateNode Fact)) (P Q : Point) (i k : ℕ) (t : Node) : Type 0 where
+pub record Stands (cs : List (CertificateNode Fact)) (P Q : Point) (i k : ℕ) (t : SearchNode) : Type 0 where
   pub place : ℕ
   pub number : k ≡ i + place
   pub node : CertificateNode Fact
@@ -20,14 +20,23 @@ pub record Stands (cs : List (CertificateNode Fact)) (P Q : Point) (i k : ℕ) (
   pub same : table_node node ≡ t
   pub first : node_at cs P Q ≡ Some node
 
-pub standing : (P Q : Point) (i : ℕ) (cs : List (CertificateNode Fact)) (k : ℕ) (t : Node) → target_from P Q i (map table_node cs) ≡ Known k t → Stands cs P Q i k t
+pub standing : (P Q : Point) (i : ℕ) (cs : List (CertificateNode Fact)) (k : ℕ) (t : SearchNode) → target_from P Q i (map table_node cs) ≡ Known k t
+    → Stands cs P Q i k t
 standing P Q i [] k t e = absurd (cc e)
 standing P Q i (c ∷ cs) k t e = by_test (is_at P Q (table_node c)) refl e (λ g. standing P Q (i + 1) cs k t g)
   where
-    by_test : (b : Bool) → is_at P Q (table_node c) ≡ b → cond b (Known i (table_node c)) (target_from P Q (i + 1) (map table_node cs)) ≡ Known k t → (target_from P Q (i + 1) (map table_node cs) ≡ Known k t → Stands cs P Q (i + 1) k t) → Stands (c ∷ cs) P Q i k t
+    by_test : (b : Bool) → is_at P Q (table_node c) ≡ b → cond b (Known i (table_node c)) (target_from P Q (i + 1) (map table_node cs)) ≡ Known k t
+        → (target_from P Q (i + 1) (map table_node cs) ≡ Known k t → Stands cs P Q (i + 1) k t) → Stands (c ∷ cs) P Q i k t
     by_test true h g again =
         let s = known_same i k (table_node c) t g in
         record { place = 0; number = omega (arith, s.0); node = c; is_in = refl; same = s.1; first = ap (λ b. cond b (Some c) (node_at cs P Q)) h }
     by_test false h g again =
         let s = again g in
-        record { place = suc s.place; number = omega (arith, s.number); node = s.node; is_in = s.is_in; same = s.same; first = ap (λ b. cond b (Some c) (node_at cs P Q)) h ∙ s.first }
+        record {
+          place = suc s.place;
+          number = omega (arith, s.number);
+          node = s.node;
+          is_in = s.is_in;
+          same = s.same;
+          first = ap (λ b. cond b (Some c) (node_at cs P Q)) h ∙ s.first;
+        }

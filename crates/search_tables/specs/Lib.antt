@@ -1,8 +1,8 @@
-pub mod Tables
+pub mod SearchTables
 pub mod Next
 pub mod Legal
 pub mod LoneMoves
-pub mod WellFormed
+pub mod TableInvariants
 pub mod Certifying
 pub mod Obstacles
 pub mod View

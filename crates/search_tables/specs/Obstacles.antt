@@ -1,10 +1,10 @@
 -- Obstacles: where a legal list of moves ends without a certificate.
 use Rattle.std.specs.Prelude.{◌≡◌, ℕ, List, Some, None}
-use Rattle.nf_terms.specs.declared.tree.Side.{Side}
+use Rattle.fs_model.specs.declared.sides.Side.{Side}
 use Rattle.search_tables.specs.declared.moves.Move.{Move}
 use Rattle.search_tables.specs.declared.outcome.Budget.{Budget}
-use Rattle.search_tables.specs.Tables.{Machines, Table, TooWide, TooLarge}
-use Rattle.search_tables.specs.Next.{Stop, Excess, next, IsClosed}
+use Rattle.search_tables.specs.SearchTables.{MachinePair, Table, TooWide, TooLarge}
+use Rattle.search_tables.specs.Next.{Stop, Excess, next_move, IsClosed}
 use Rattle.search_tables.specs.Legal.{stuck, Makes}
 use Rattle.search_tables.specs.LoneMoves.{Spins}
 
@@ -16,15 +16,15 @@ pub data Obstacle : Type 0 where
   Exhausted : Move → Budget → Obstacle
 
 -- what a table has that no certificate is made of. All but the first need that no outputs differ
-abbrev pub StandsIn : Machines → Table → Obstacle → Type 0
+abbrev pub StandsIn : MachinePair → Table → Obstacle → Type 0
 StandsIn m T (Stuck node output) = stuck m T ≡ Some (record { node = node; output = output })
 StandsIn m T (Spin d cycle) = (stuck m T ≡ None) × IsClosed m T × Spins m T d cycle
-StandsIn m T (Wide at) = (stuck m T ≡ None) × (left : ℕ) × (right : ℕ) × (next m T ≡ Stop at (TooWide left right))
-StandsIn m T (Large at) = (stuck m T ≡ None) × (units : ℕ) × (depth : ℕ) × (next m T ≡ Stop at (TooLarge units depth))
-StandsIn m T (Exhausted at what) = (stuck m T ≡ None) × (next m T ≡ Excess at what)
+StandsIn m T (Wide at) = (stuck m T ≡ None) × (left : ℕ) × (right : ℕ) × (next_move m T ≡ Stop at (TooWide left right))
+StandsIn m T (Large at) = (stuck m T ≡ None) × (units : ℕ) × (depth : ℕ) × (next_move m T ≡ Stop at (TooLarge units depth))
+StandsIn m T (Exhausted at what) = (stuck m T ≡ None) × (next_move m T ≡ Excess at what)
 
 -- a legal list of moves makes a table with this obstacle
-pub record IsObstacle (m : Machines) (moves : List Move) (o : Obstacle) : Type 0 where
+pub record IsObstacle (m : MachinePair) (moves : List Move) (o : Obstacle) : Type 0 where
   pub table : Table
   pub makes : Makes m moves table
   pub stands : StandsIn m table o

@@ -4,7 +4,7 @@ use Rattle.fs_cut.specs.Paths.{Point}
 use Rattle.fs_cut.specs.View.{point_of}
 use Rattle.search_tables.specs.declared.nodes.NodePoints.{NodePoints}
 use Rattle.search_tables.specs.declared.nodes.TableNode.{TableNode}
-use Rattle.search_tables.specs.Tables.{Node, Table}
+use Rattle.search_tables.specs.SearchTables.{SearchNode, Table}
 
 -- the points of a node of a table
 pub record Points : Type 0 where
@@ -14,10 +14,10 @@ pub record Points : Type 0 where
 abbrev pub points_in : NodePoints → Points
 points_in n = record { left = point_of n.left; right = point_of n.right }
 
-abbrev pub points_at : Node → Points
+abbrev pub points_at : SearchNode → Points
 points_at n = record { left = n.left; right = n.right }
 
-abbrev pub table_node_in : TableNode → Node
+abbrev pub table_node_in : TableNode → SearchNode
 table_node_in n = record { left = point_of n.left; right = point_of n.right; fact = n.fact }
 
 -- the table of these nodes

@@ -1,5 +1,22 @@
-//! The table of a search for a certificate: what a move does to it, what is next, legal lists of moves, the certificate of a closed
-//! table, and obstacles.
+//! The table of a search for a certificate: what a move does to it, what is next, legal lists of moves, the certificate of a
+//! closed table, and obstacles.
+//!
+//! Promises: what is next in a table, legal lists, obstacles; a closed table's certificate meets all obligations.
+//!
+//! Rules: `specs/SearchTables`, `specs/Next`, `specs/Legal`, `specs/Obstacles`, `src/laws`.
+//!
+//! Words:
+//! - budget: the most nodes and units of a table
+//! - closed (of a table): nothing is next
+//! - effect (of a move): what it does to a table
+//! - legal list: moves of which each is next and changes the table
+//! - lone move: a move by which one machine moves alone, to a node from which the same machine moves alone
+//! - move (of a search): one path of each side that moves, from a node
+//! - next: the first event, excess or change, looking from the first node
+//! - obstacle: why a legal list of moves ends without a certificate
+//! - outcome (of a search): a certificate, or an obstacle with the moves that lead to it
+//! - table (of a search): its nodes, at most one at a pair of points
+//! - well formed (of a table): at most 4,096 nodes, each at two points, no two at the same
 #![tactic(auto)]
 
 pub mod laws;

@@ -1,7 +1,7 @@
 //! Moves of a search.
 
 /// One path of each side that moves, from a node of the table: the numbers of their branches.
-#[derive(Clone, Copy, Debug, PartialEq, Eq, PartialOrd, Ord)]
+#[derive(Clone, Copy)]
 pub struct Move {
     pub node: u32,
     pub left: Option<u32>,

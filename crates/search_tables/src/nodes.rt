@@ -4,7 +4,7 @@ use fs_cut::cover::Point;
 use sym_facts::fact::Fact;
 
 /// The pair of points of a node.
-#[derive(Clone, Copy, Debug, PartialEq, Eq)]
+#[derive(Clone, Copy)]
 pub struct NodePoints {
     pub left: Point,
     pub right: Point,

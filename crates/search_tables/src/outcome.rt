@@ -2,11 +2,11 @@
 
 use crate::moves::Move;
 use crate::nodes::NodePoints;
-use certificates::cert::Cert;
+use cert_model::cert::Cert;
 use nf_terms::tree::Side;
 
 /// What a table is held to.
-#[derive(Clone, Copy, Debug, PartialEq, Eq)]
+#[derive(Clone, Copy)]
 pub enum Budget {
     /// 4,096 nodes.
     Nodes,

@@ -8,15 +8,15 @@ use Rattle.std.specs.BTreeMap.{is_at}
 use Rattle.std.specs.BTreeSet.{BTreeSet}
 use Rattle.fs_cut.specs.Paths.{Point}
 use Rattle.sym_facts.specs.Facts.{Fact}
-use Rattle.search_tables.specs.Tables.{Machines, units}
+use Rattle.search_tables.specs.SearchTables.{MachinePair, units}
 use Rattle.search_places.specs.declared.entry.Item.{Item}
 use Rattle.search_places.specs.declared.pairs.PointPair.{PointPair}
 use Rattle.search_places.specs.declared.entry.Entry.{Entry}
-use Rattle.search_places.specs.Lines.{Line, node, item, lines_in, table_of}
-use Rattle.search_places.specs.Changes.{fresh, PutsLast, PutsAgain, Puts}
-use Rattle.search_places.specs.Order.{item_cmp, waits, Adds, AddsAll}
+use Rattle.search_places.specs.NodeLines.{Line, node_with_fact, item, lines_in, table_of}
+use Rattle.search_places.specs.NodeChanges.{fresh, PutsLast, PutsAgain, PutsNode}
+use Rattle.search_places.specs.ItemOrder.{item_cmp, waits, Adds, AddsAll}
 use Rattle.search_ranks.proofs.Lists.{get_snoc, set_same, set_other, same_or_not}
-use Rattle.search_worklist.specs.Puts.{put_by, put, number_by, number_at}
+use Rattle.search_worklist.specs.NodeUpdates.{put_by, put_fact, number_by, node_number}
 use Rattle.search_worklist.specs.Waiting.{Arrives}
 use Rattle.search_worklist.specs.States.{Ready}
 use Rattle.search_worklist.proofs.Keeping.{node_added, fact_changed}
@@ -27,13 +27,14 @@ node_of_item x y e = ap (λ (z : Item). z.node) e
 
 -- ---- a node is made
 module _ (ls ls' : List Line) (P Q : Point) (f : Fact) (k : ℕ) (ys : List Item) (p : PutsLast ls ls' P Q f k ys) where
-  pub last_table : table_of ls' ≡ put (table_of ls) P Q f
+  pub last_table : table_of ls' ≡ put_fact (table_of ls) P Q f
   last_table = ap table_of p.last ∙ map-append (λ (l : Line). l.node) ls (fresh P Q f ∷ []) ∙ sym (ap (put_by (table_of ls) P Q f) p.target)
 
-  pub last_number : k ≡ number_at (table_of ls) P Q
+  pub last_number : k ≡ node_number (table_of ls) P Q
   last_number = p.number ∙ sym (length-map ls (λ (l : Line). l.node)) ∙ sym (ap (number_by (table_of ls)) p.target)
 
-  module _ (m : Machines) (w w1 w2 : BTreeSet Item) (n n' : ℕ) (ready : Ready m ls w n) (adds : Adds (waits w) (waits w1) (item k 0)) (all : AddsAll (waits w1) (waits w2) ys) (sized : n' ≡ units (put (table_of ls) P Q f)) where
+  module _ (m : MachinePair) (w w1 w2 : BTreeSet Item) (n n' : ℕ) (ready : Ready m ls w n) (adds : Adds (waits w) (waits w1) (item k 0))
+      (all : AddsAll (waits w1) (waits w2) ys) (sized : n' ≡ units (put_fact (table_of ls) P Q f)) where
     longer : length (ls ++ fresh P Q f ∷ []) ≡ length ls + 1
     longer = length-append ls (fresh P Q f ∷ [])
 
@@ -67,7 +68,8 @@ module _ (ls ls' : List Line) (P Q : Point) (f : Fact) (k : ℕ) (ys : List Item
 
     pub last_ready : Ready m ls' w2 n'
     last_ready = subst (λ z. Ready m z w2 n') (sym p.last) (record {
-      waiting = node_added m ls (waits w) (waits w2) ready.waiting (fresh P Q f) (λ y h. all.stay y (adds.stay y h)) (subst (λ j. waits w2 (item j 0) ≡ true) p.number (all.stay (item k 0) adds.fresh)) in_added;
+      waiting = node_added m ls (waits w) (waits w2) ready.waiting (fresh P Q f) (λ y h. all.stay y (adds.stay y h))
+          (subst (λ j. waits w2 (item j 0) ≡ true) p.number (all.stay (item k 0) adds.fresh)) in_added;
       unfound = added_unfound;
       listed = added_listed;
       sized = sized ∙ sym (ap units (sym (ap table_of p.last) ∙ last_table));
@@ -75,17 +77,20 @@ module _ (ls ls' : List Line) (P Q : Point) (f : Fact) (k : ℕ) (ys : List Item
 
 -- ---- a node gets another fact
 module _ (ls ls' : List Line) (P Q : Point) (f : Fact) (k : ℕ) (ys : List Item) (p : PutsAgain ls ls' P Q f k ys) where
-  pub again_table : table_of ls' ≡ put (table_of ls) P Q f
-  again_table = ap table_of p.set ∙ map-set (λ (l : Line). l.node) ls k (fresh p.old.node.left p.old.node.right f) ∙ sym (ap (put_by (table_of ls) P Q f) p.target)
+  pub again_table : table_of ls' ≡ put_fact (table_of ls) P Q f
+  again_table = ap table_of p.set ∙ map-set (λ (l : Line). l.node) ls k (fresh p.old.node.left p.old.node.right f)
+      ∙ sym (ap (put_by (table_of ls) P Q f) p.target)
 
-  pub again_number : k ≡ number_at (table_of ls) P Q
+  pub again_number : k ≡ node_number (table_of ls) P Q
   again_number = sym (ap (number_by (table_of ls)) p.target)
 
-  module _ (m : Machines) (w w1 w2 : BTreeSet Item) (n n' : ℕ) (ready : Ready m ls w n) (adds : Adds (waits w) (waits w1) (item k 0)) (all : AddsAll (waits w1) (waits w2) ys) (sized : n' ≡ units (put (table_of ls) P Q f)) where
+  module _ (m : MachinePair) (w w1 w2 : BTreeSet Item) (n n' : ℕ) (ready : Ready m ls w n) (adds : Adds (waits w) (waits w1) (item k 0))
+      (all : AddsAll (waits w1) (waits w2) ys) (sized : n' ≡ units (put_fact (table_of ls) P Q f)) where
     woken : (y : Item) → Arrives ls k y → waits w2 y ≡ true
     woken y a =
         let e : a.line ≡ p.old = (let b = a.is_in in let c = p.is_in in cc) in
-        all.fresh a.place y (subst (λ (b : List Item). slice_get b a.place ≡ Some y) (sym p.woken) (subst (λ (b : Line). slice_get b.arrivals a.place ≡ Some y) e a.listed))
+        all.fresh a.place y
+        (subst (λ (b : List Item). slice_get b a.place ≡ Some y) (sym p.woken) (subst (λ (b : Line). slice_get b.arrivals a.place ≡ Some y) e a.listed))
 
     -- an item that waits waited before, or is the node, or arrived there
     before_again : (y : Item) → waits w2 y ≡ true → (waits w y ≡ true) ⊎ ((item k 0 ≡ y) ⊎ Arrives ls k y)
@@ -103,7 +108,8 @@ module _ (ls ls' : List Line) (P Q : Point) (f : Fact) (k : ℕ) (ys : List Item
       ]
     ]
 
-    again_unfound : (i : ℕ) (l : Line) → slice_get (slice_set ls k (fresh p.old.node.left p.old.node.right f)) i ≡ Some l → waits w2 (item i 0) ≡ true → l.moves ≡ None
+    again_unfound : (i : ℕ) (l : Line) → slice_get (slice_set ls k (fresh p.old.node.left p.old.node.right f)) i ≡ Some l → waits w2 (item i 0) ≡ true
+        → l.moves ≡ None
     again_unfound i l g h =
         let new : Line = fresh p.old.node.left p.old.node.right f in
         elim (same_or_not i k) [
@@ -120,7 +126,8 @@ module _ (ls ls' : List Line) (P Q : Point) (f : Fact) (k : ℕ) (ys : List Item
           ]
         ]
 
-    again_listed : (j : ℕ) (y : Item) → Arrives (slice_set ls k (fresh p.old.node.left p.old.node.right f)) j y → (y.node < length (slice_set ls k (fresh p.old.node.left p.old.node.right f))) × (y.place ≢ 0)
+    again_listed : (j : ℕ) (y : Item) → Arrives (slice_set ls k (fresh p.old.node.left p.old.node.right f)) j y
+        → (y.node < length (slice_set ls k (fresh p.old.node.left p.old.node.right f))) × (y.place ≢ 0)
     again_listed j y a =
         let new : Line = fresh p.old.node.left p.old.node.right f in
         let r = ready.listed j y (arrives_back ls k p.old new j y p.is_in (λ i z. absurd (cc)) a) in
@@ -130,7 +137,8 @@ module _ (ls ls' : List Line) (P Q : Point) (f : Fact) (k : ℕ) (ys : List Item
     again_ready =
         let new : Line = fresh p.old.node.left p.old.node.right f in
         subst (λ z. Ready m z w2 n') (sym p.set) (record {
-          waiting = fact_changed m ls (waits w) (waits w2) ready.waiting k p.old new p.is_in refl refl (λ y h. all.stay y (adds.stay y h)) (all.stay (item k 0) adds.fresh) woken
+          waiting = fact_changed m ls (waits w) (waits w2) ready.waiting k p.old new p.is_in refl refl (λ y h. all.stay y (adds.stay y h))
+              (all.stay (item k 0) adds.fresh) woken
               (λ i q h. subst (λ z. i < z) (sym (length-set ls k new)) (in_ls i q h));
           unfound = again_unfound;
           listed = again_listed;
@@ -138,33 +146,40 @@ module _ (ls ls' : List Line) (P Q : Point) (f : Fact) (k : ℕ) (ys : List Item
         })
 
 -- ---- either
-pub put_table : (ls ls' : List Line) (P Q : Point) (f : Fact) (k : ℕ) (ys : List Item) → Puts ls ls' P Q f k ys → table_of ls' ≡ put (table_of ls) P Q f
+pub put_table : (ls ls' : List Line) (P Q : Point) (f : Fact) (k : ℕ) (ys : List Item) → PutsNode ls ls' P Q f k ys
+    → table_of ls' ≡ put_fact (table_of ls) P Q f
 put_table ls ls' P Q f k ys p = elim p [ inl a ↦ last_table ls ls' P Q f k ys a | inr a ↦ again_table ls ls' P Q f k ys a ]
 
-pub put_number : (ls ls' : List Line) (P Q : Point) (f : Fact) (k : ℕ) (ys : List Item) → Puts ls ls' P Q f k ys → k ≡ number_at (table_of ls) P Q
+pub put_number : (ls ls' : List Line) (P Q : Point) (f : Fact) (k : ℕ) (ys : List Item) → PutsNode ls ls' P Q f k ys → k ≡ node_number (table_of ls) P Q
 put_number ls ls' P Q f k ys p = elim p [ inl a ↦ last_number ls ls' P Q f k ys a | inr a ↦ again_number ls ls' P Q f k ys a ]
 
-pub put_ready : (ls ls' : List Line) (P Q : Point) (f : Fact) (k : ℕ) (ys : List Item) → Puts ls ls' P Q f k ys → (m : Machines) (w w1 w2 : BTreeSet Item) (n n' : ℕ) → Adds (waits w) (waits w1) (item k 0) → AddsAll (waits w1) (waits w2) ys → n' ≡ units (put (table_of ls) P Q f) → Ready m ls w n → Ready m ls' w2 n'
+pub put_ready : (ls ls' : List Line) (P Q : Point) (f : Fact) (k : ℕ) (ys : List Item) → PutsNode ls ls' P Q f k ys
+    → (m : MachinePair) (w w1 w2 : BTreeSet Item) (n n' : ℕ) → Adds (waits w) (waits w1) (item k 0) → AddsAll (waits w1) (waits w2) ys
+    → n' ≡ units (put_fact (table_of ls) P Q f) → Ready m ls w n → Ready m ls' w2 n'
 put_ready ls ls' P Q f k ys p m w w1 w2 n n' adds all sized ready = elim p [
   | inl a ↦ last_ready ls ls' P Q f k ys a m w w1 w2 n n' ready adds all sized
   | inr a ↦ again_ready ls ls' P Q f k ys a m w w1 w2 n n' ready adds all sized
 ]
 
 -- the number of the node that changes is small, where the table stays within its budget
-pub put_small : (ls ls' : List Line) (P Q : Point) (f : Fact) (k : ℕ) (ys : List Item) (most : ℕ) → Puts ls ls' P Q f k ys → length (put (table_of ls) P Q f) ≤ most → k < most
+pub put_small : (ls ls' : List Line) (P Q : Point) (f : Fact) (k : ℕ) (ys : List Item) (most : ℕ) → PutsNode ls ls' P Q f k ys
+    → length (put_fact (table_of ls) P Q f) ≤ most → k < most
 put_small ls ls' P Q f k ys most p h = elim p [
   | inl a ↦ (let n = a.number in
-      let e : length (put (table_of ls) P Q f) ≡ length (table_of ls ++ node P Q f ∷ []) = ap (λ t. length (put_by (table_of ls) P Q f t)) a.target in
-      omega (arith, e, length-append (table_of ls) (node P Q f ∷ []), length-map ls (λ (l : Line). l.node)))
+      let e : length (put_fact (table_of ls) P Q f) ≡ length (table_of ls ++ node_with_fact P Q f ∷ []) =
+      ap (λ t. length (put_by (table_of ls) P Q f t)) a.target in
+      omega (arith, e, length-append (table_of ls) (node_with_fact P Q f ∷ []), length-map ls (λ (l : Line). l.node)))
   | inr a ↦ (let lt = slice_get_within ls k a.old a.is_in in
-      let e : length (put (table_of ls) P Q f) ≡ length (slice_set (table_of ls) k (node a.old.node.left a.old.node.right f)) = ap (λ t. length (put_by (table_of ls) P Q f t)) a.target in
-      omega (arith, e, length-set (table_of ls) k (node a.old.node.left a.old.node.right f), length-map ls (λ (l : Line). l.node)))
+      let e : length (put_fact (table_of ls) P Q f) ≡ length (slice_set (table_of ls) k (node_with_fact a.old.node.left a.old.node.right f)) =
+      ap (λ t. length (put_by (table_of ls) P Q f t)) a.target in
+      omega (arith, e, length-set (table_of ls) k (node_with_fact a.old.node.left a.old.node.right f), length-map ls (λ (l : Line). l.node)))
 ]
 
 -- nothing is kept of no node
-pub empty_ready : (m : Machines) (es : List (PointPair × Entry)) (w : BTreeSet Item) → es ≡ [] → w.keys ≡ [] → Ready m (lines_in es) w 0
+pub empty_ready : (m : MachinePair) (es : List (PointPair × Entry)) (w : BTreeSet Item) → es ≡ [] → w.keys ≡ [] → Ready m (lines_in es) w 0
 empty_ready m es w e h =
-    let none : (y : Item) → waits w y ≡ true → ⊥ = λ y t. (let a : list_any (is_at (item_cmp y)) [] ≡ true = subst (λ ks. list_any (is_at (item_cmp y)) ks ≡ true) h t in cc) in
+    let none : (y : Item) → waits w y ≡ true → ⊥ =
+    λ y t. (let a : list_any (is_at (item_cmp y)) [] ≡ true = subst (λ ks. list_any (is_at (item_cmp y)) ks ≡ true) h t in cc) in
     subst (λ z. Ready m (lines_in z) w 0) (sym e) (record {
       waiting = record { rests = λ i l g f. absurd (cc g); in_table = λ i p t. absurd (none (item i p) t) };
       unfound = λ i l g t. absurd (none (item i 0) t);

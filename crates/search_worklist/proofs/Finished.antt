@@ -4,27 +4,28 @@ use Rattle.std.proofs.lemmas.List.{length-map}
 use Rattle.std.proofs.lemmas.Option.{slice_get_within}
 use Rattle.std.specs.Prelude.{◌≢◌, slice_get, slice_set, sum_by, Result}
 use Rattle.std.specs.BTreeSet.{BTreeSet, btree_set_len}
+use Rattle.base_lemmas.proofs.Lists.{slice_get-of_map}
 use Rattle.fs_cut.specs.Paths.{Point}
-use Rattle.bisimulation.specs.declared.mode.Mode.{Mode}
+use Rattle.cert_bisimulation.specs.declared.mode.Mode.{Mode}
 use Rattle.nf_terms.specs.declared.stop.NfStop.{NfStop}
 use Rattle.sym_paths.specs.Execution.{Post, end_of}
 use Rattle.search_tables.specs.declared.moves.Move.{Move}
-use Rattle.search_tables.specs.Tables.{Machines, Node, units, target_of, Paths}
+use Rattle.search_tables.specs.SearchTables.{MachinePair, SearchNode, units, node_target, PathPair}
 use Rattle.search_tables.specs.Next.{paths_in, move_by}
 use Rattle.search_tables.proofs.Forming.{known_in}
 use Rattle.search_places.specs.declared.entry.Item.{Item}
-use Rattle.search_places.specs.Lines.{Line, item, line_of, table_of}
-use Rattle.search_places.specs.Changes.{ListsArrival}
-use Rattle.search_places.specs.Order.{waits, IsLeast, Drops}
-use Rattle.search_ranks.proofs.Lists.{get_snoc, get_map, get_map_back, set_same, set_other, same_or_not}
+use Rattle.search_places.specs.NodeLines.{Line, item, line_of_node, table_of}
+use Rattle.search_places.specs.NodeChanges.{ListsArrival}
+use Rattle.search_places.specs.ItemOrder.{waits, IsLeastWaiting, Drops}
+use Rattle.search_ranks.proofs.Lists.{get_snoc, get_map_back, set_same, set_other, same_or_not}
 use Rattle.search_worklist.specs.declared.state.State.{State}
 use Rattle.search_worklist.specs.declared.trial.Trial.{Trial}
 use Rattle.search_worklist.specs.declared.trial.Trial.TheVariants as tried
 use Rattle.search_places.specs.Moves.{paths_at}
 use Rattle.search_worklist.specs.Trials.{Tries, TriesAt}
 use Rattle.search_worklist.specs.Turns.{IsTurned, IsMoveAt, NoMoveAt}
-use Rattle.search_worklist.specs.Waiting.{IsEntailed, Arrives, IsSettled, IsWaiting}
-use Rattle.search_worklist.specs.States.{lines, Ready, IsReady, weight, work_of}
+use Rattle.search_worklist.specs.Waiting.{IsEntailed, Arrives, IsSettledMove, IsWaiting}
+use Rattle.search_worklist.specs.States.{lines, Ready, IsReady, line_weight, work_of}
 use Rattle.search_places.proofs.Moved.{again}
 use Rattle.search_worklist.proofs.Keeping.{Lists, lists_none, lists_one, lists_this, move_done}
 use Rattle.search_worklist.proofs.Found.{weight_set, apart}
@@ -35,15 +36,18 @@ more_arrivals l y = record { node = l.node; moves = l.moves; arrivals = l.arriva
 -- the item is listed as arriving, or nothing is
 pub record MayList (ls ls' : List Line) (y : Item) : Type 0 where
   pub lists : Lists ls ls'
-  pub weights : sum_by weight ls' ≡ sum_by weight ls
+  pub weights : sum_by line_weight ls' ≡ sum_by line_weight ls
   pub back : (j : ℕ) (z : Item) → Arrives ls' j z → Arrives ls j z ⊎ (y ≡ z)
 
 pub lists_nothing : (ls : List Line) (y : Item) → MayList ls ls y
 lists_nothing ls y = record { lists = lists_none ls; weights = refl; back = λ j z a. inl a }
 
-listed_by : (ls : List Line) (k : ℕ) (old : Line) (x : Item) (j : ℕ) (y : Item) → slice_get ls k ≡ Some old → Arrives (slice_set ls k (more_arrivals old x)) j y → Arrives ls j y ⊎ (x ≡ y)
+listed_by : (ls : List Line) (k : ℕ) (old : Line) (x : Item) (j : ℕ) (y : Item) → slice_get ls k ≡ Some old → Arrives (slice_set ls k (more_arrivals old x)) j y
+    → Arrives ls j y ⊎ (x ≡ y)
 listed_by ls k old x j y g a = elim (same_or_not j k) [
-  | inl e ↦ (let i : slice_get (slice_set ls k (more_arrivals old x)) k ≡ Some a.line = subst (λ z. slice_get (slice_set ls k (more_arrivals old x)) z ≡ Some a.line) e a.is_in in
+  | inl e ↦
+      (let i : slice_get (slice_set ls k (more_arrivals old x)) k ≡ Some a.line =
+      subst (λ z. slice_get (slice_set ls k (more_arrivals old x)) z ≡ Some a.line) e a.is_in in
       let b : slice_get (slice_set ls k (more_arrivals old x)) k ≡ Some (more_arrivals old x) = set_same ls k old (more_arrivals old x) g in
       let s : a.line ≡ more_arrivals old x = cc in
       elim (get_snoc old.arrivals x a.place y (subst (λ (z : Line). slice_get z.arrivals a.place ≡ Some y) s a.listed)) [
@@ -61,9 +65,11 @@ lists_arrival ls ls' k y h =
       back = λ j z a. listed_by ls k h.old y j z h.is_in a;
     })
 
-module _ (m : Machines) (ls ls' : List Line) (w w2 : BTreeSet Item) (n : ℕ) (ready : Ready m ls w n) (y : Item) (p : ℕ) (at : y.place ≡ suc p) (waited : waits w y ≡ true) (more : MayList ls ls' y)
+module _ (m : MachinePair) (ls ls' : List Line) (w w2 : BTreeSet Item) (n : ℕ) (ready : Ready m ls w n) (y : Item) (p : ℕ) (at : y.place ≡ suc p)
+    (waited : waits w y ≡ true) (more : MayList ls ls' y)
     (drops : Drops (waits w) (waits w2) y) (fewer : btree_set_len w2 < btree_set_len w)
-    (settles : (l : Line) (mode : Mode) (x : Paths) → slice_get ls y.node ≡ Some l → l.moves ≡ Some (map (move_by y.node) (paths_in m l.node mode)) → slice_get (paths_in m l.node mode) p ≡ Some x → IsSettled m ls' l.node x (item y.node (suc p))) where
+    (settles : (l : Line) (mode : Mode) (x : PathPair) → slice_get ls y.node ≡ Some l → l.moves ≡ Some (map (move_by y.node) (paths_in m l.node mode))
+    → slice_get (paths_in m l.node mode) p ≡ Some x → IsSettledMove m ls' l.node x (item y.node (suc p))) where
   is_item : y ≡ item y.node (suc p)
   is_item = λ k. record { node = y.node; place = at k }
 
@@ -79,7 +85,10 @@ module _ (m : Machines) (ls ls' : List Line) (w w2 : BTreeSet Item) (n : ℕ) (r
     unfound = λ j l g h. let k = more.lists.lines j l g in sym k.3 ∙ ready.unfound j k.0 k.1 (drops.only (item j 0) h);
     listed = λ j z a. elim (more.back j z a) [
       | inl b ↦ (let r = ready.listed j z b in (subst (λ c. z.node < c) (sym more.lists.count) r.0, r.1))
-      | inr e ↦ (subst (λ (b : Item). b.node < length ls') e (subst (λ c. y.node < c) (sym more.lists.count) (ready.waiting.in_table y.node y.place waited)), (λ b. (let q : suc p ≡ 0 = sym at ∙ ap (λ (u : Item). u.place) e ∙ b in cc)))
+      | inr e ↦ (
+        subst (λ (b : Item). b.node < length ls') e (subst (λ c. y.node < c) (sym more.lists.count) (ready.waiting.in_table y.node y.place waited)),
+        (λ b. (let q : suc p ≡ 0 = sym at ∙ ap (λ (u : Item). u.place) e ∙ b in cc)),
+      )
     ];
     sized = ready.sized ∙ ap units (sym more.lists.same);
   }
@@ -92,46 +101,53 @@ module _ (m : Machines) (ls ls' : List Line) (w w2 : BTreeSet Item) (n : ℕ) (r
 same_moves : (t l : Line) (xs ys : List Move) → t ≡ l → t.moves ≡ Some xs → l.moves ≡ Some ys → xs ≡ ys
 same_moves t l xs ys e g h = let k = ap (λ (q : Line). q.moves) e in cc
 
-same_paths : (m : Machines) (i : ℕ) (n : Node) (mode : Mode) (p : ℕ) (x y : Paths) (at : Move) → slice_get (paths_in m n mode) p ≡ Some x → slice_get (paths_in m n mode) p ≡ Some y → move_by i y ≡ at → (move_by i x ≡ at) × (paths_at m n at ≡ x)
+same_paths : (m : MachinePair) (i : ℕ) (n : SearchNode) (mode : Mode) (p : ℕ) (x y : PathPair) (at : Move) → slice_get (paths_in m n mode) p ≡ Some x
+    → slice_get (paths_in m n mode) p ≡ Some y → move_by i y ≡ at → (move_by i x ≡ at) × (paths_at m n at ≡ x)
 same_paths m i n mode p x y at g h e =
     let same : y ≡ x = cc in
     let is : move_by i x ≡ at = sym (ap (move_by i) same) ∙ e in
     (is, ap (paths_at m n) (sym is) ∙ again m i n mode p x g)
 
-chosen : (m : Machines) (ls : List Line) (y : Item) (at : Move) (t : IsMoveAt ls y at) (l : Line) (mode : Mode) (x : Paths) (p : ℕ) → y.place ≡ suc p → slice_get ls y.node ≡ Some l → l.moves ≡ Some (map (move_by y.node) (paths_in m l.node mode)) → slice_get (paths_in m l.node mode) p ≡ Some x
+chosen : (m : MachinePair) (ls : List Line) (y : Item) (at : Move) (t : IsMoveAt ls y at) (l : Line) (mode : Mode) (x : PathPair) (p : ℕ) → y.place ≡ suc p
+    → slice_get ls y.node ≡ Some l → l.moves ≡ Some (map (move_by y.node) (paths_in m l.node mode)) → slice_get (paths_in m l.node mode) p ≡ Some x
     → (move_by y.node x ≡ at) × (paths_at m l.node at ≡ x)
 chosen m ls y at t l mode x p e g h z =
     let line : t.line ≡ l = (let a = t.is_in in cc) in
     let known = same_moves t.line l t.moves (map (move_by y.node) (paths_in m l.node mode)) line t.known h in
     let number : t.number ≡ p = (let a = t.place in omega (arith, a, e)) in
-    let b = get_map_back (move_by y.node) (paths_in m l.node mode) p at (subst (λ xs. slice_get xs p ≡ Some at) known (subst (λ i. slice_get t.moves i ≡ Some at) number t.listed)) in
+    let b = get_map_back (move_by y.node) (paths_in m l.node mode) p at
+    (subst (λ xs. slice_get xs p ≡ Some at) known (subst (λ i. slice_get t.moves i ≡ Some at) number t.listed)) in
     same_paths m y.node l.node mode p x b.0 at z b.1 b.2
 
 -- what settles an item, for each way in which its move may be named
-abbrev pub Settles : (m : Machines) (ls ls' : List Line) (y : Item) (p : ℕ) → Type 0
-Settles m ls ls' y p = (l : Line) (mode : Mode) (x : Paths) → slice_get ls y.node ≡ Some l → l.moves ≡ Some (map (move_by y.node) (paths_in m l.node mode)) → slice_get (paths_in m l.node mode) p ≡ Some x → IsSettled m ls' l.node x (item y.node (suc p))
+abbrev pub Settles : (m : MachinePair) (ls ls' : List Line) (y : Item) (p : ℕ) → Type 0
+Settles m ls ls' y p = (l : Line) (mode : Mode) (x : PathPair) → slice_get ls y.node ≡ Some l → l.moves ≡ Some (map (move_by y.node) (paths_in m l.node mode))
+    → slice_get (paths_in m l.node mode) p ≡ Some x → IsSettledMove m ls' l.node x (item y.node (suc p))
 
-pub none_settles : (m : Machines) (ls : List Line) (y : Item) (p : ℕ) → y.place ≡ suc p → NoMoveAt ls y → Settles m ls ls y p
+pub none_settles : (m : MachinePair) (ls : List Line) (y : Item) (p : ℕ) → y.place ≡ suc p → NoMoveAt ls y → Settles m ls ls y p
 none_settles m ls y p e none l mode x g h z =
     let gone = none l (map (move_by y.node) (paths_in m l.node mode)) p g h e in
-    let there = get_map (move_by y.node) (paths_in m l.node mode) p x z in
+    let there = slice_get-of_map (move_by y.node) (paths_in m l.node mode) p x z in
     absurd (cc)
 
 -- the line of the move that was tried, and its paths
-pub same_line : (m : Machines) (ls : List Line) (y : Item) (at : Move) (r : Result Trial NfStop) (l : Line) (x : Paths) (a : TriesAt m ls at r) → slice_get ls y.node ≡ Some l → move_by y.node x ≡ at → paths_at m l.node at ≡ x → Tries m (table_of ls) l.node x r
+pub same_line : (m : MachinePair) (ls : List Line) (y : Item) (at : Move) (r : Result Trial NfStop) (l : Line) (x : PathPair) (a : TriesAt m ls at r)
+    → slice_get ls y.node ≡ Some l → move_by y.node x ≡ at → paths_at m l.node at ≡ x → Tries m (table_of ls) l.node x r
 same_line m ls y at r l x a g is paths =
     let node : at.node ≡ y.node = sym (ap (λ (z : Move). z.node) is) in
     let there : slice_get ls y.node ≡ Some a.line = subst (λ i. slice_get ls i ≡ Some a.line) node a.is_in in
     let line : a.line ≡ l = cc in
     subst (λ z. Tries m (table_of ls) l.node z r) paths (subst (λ (z : Line). Tries m (table_of ls) z.node (paths_at m z.node at) r) line a.tries)
 
-pub refuted_settles : (m : Machines) (ls : List Line) (y : Item) (at : Move) (t : IsMoveAt ls y at) (p : ℕ) → y.place ≡ suc p → TriesAt m ls at (Ok tried.Refuted) → Settles m ls ls y p
+pub refuted_settles : (m : MachinePair) (ls : List Line) (y : Item) (at : Move) (t : IsMoveAt ls y at) (p : ℕ) → y.place ≡ suc p
+    → TriesAt m ls at (Ok tried.Refuted) → Settles m ls ls y p
 refuted_settles m ls y at t p e a l mode x g h z =
     let c = chosen m ls y at t l mode x p e g h z in
     let r = same_line m ls y at (Ok tried.Refuted) l x a g c.0 c.1 in
     record { post = r.0; valued = r.1; holds = inl r.2 }
 
-pub entailed_settles : (m : Machines) (ls ls' : List Line) (y : Item) (at : Move) (t : IsMoveAt ls y at) (p k : ℕ) → y.place ≡ suc p → TriesAt m ls at (Ok (tried.Entailed k)) → ListsArrival ls ls' k y → Settles m ls ls' y p
+pub entailed_settles : (m : MachinePair) (ls ls' : List Line) (y : Item) (at : Move) (t : IsMoveAt ls y at) (p k : ℕ) → y.place ≡ suc p
+    → TriesAt m ls at (Ok (tried.Entailed k)) → ListsArrival ls ls' k y → Settles m ls ls' y p
 entailed_settles m ls ls' y at t p k place a h l mode x g known z =
     let c = chosen m ls y at t l mode x p place g known z in
     let r = same_line m ls y at (Ok (tried.Entailed k)) l x a g c.0 c.1 in
@@ -147,7 +163,13 @@ entailed_settles m ls ls' y at t p k place a h l mode x g known z =
       holds = inr (record {
         is_open = r.2.0;
         number = k;
-        entailed = record { node = e.node; target = ap (λ T. target_of T P Q) same ∙ e.target; missing = e.missing; compared = e.compared; nothing = e.nothing };
+        entailed = record {
+          node = e.node;
+          target = ap (λ T. node_target T P Q) same ∙ e.target;
+          missing = e.missing;
+          compared = e.compared;
+          nothing = e.nothing;
+        };
         arrives = subst (λ b. Arrives ls' k b) is here;
       });
     }
@@ -159,27 +181,31 @@ target_within ls P Q post k e =
     let h = slice_get_within (table_of ls) j.0 e.node j.2 in
     omega (arith, j.1, h, length-map ls (λ (l : Line). l.node))
 
-pub entailed_within : (m : Machines) (s : State) (at : Move) (k : ℕ) → TriesAt m (lines s) at (Ok (tried.Entailed k)) → k < length s.entries.entries
+pub entailed_within : (m : MachinePair) (s : State) (at : Move) (k : ℕ) → TriesAt m (lines s) at (Ok (tried.Entailed k)) → k < length s.entries.entries
 entailed_within m s at k a =
     let n = a.line.node in
     let x = paths_at m n at in
     let t = a.tries in
-    omega (arith, target_within (lines s) (end_of n.left x.left) (end_of n.right x.right) t.0 k t.2.1, length-map s.entries.entries line_of)
+    omega (arith, target_within (lines s) (end_of n.left x.left) (end_of n.right x.right) t.0 k t.2.1, length-map s.entries.entries line_of_node)
 
 -- a turn that ends an item
 pub place_before : (n : ℕ) → n ≢ 0 → (p : ℕ) × (n ≡ suc p)
 place_before zero h = absurd (h refl)
 place_before (suc p) h = (p, refl)
 
-pub done_turned : (m : Machines) (s t : State) (y : Item) (p : ℕ) → IsReady m s → t.units ≡ s.units → y.place ≡ suc p → waits s.waiting y ≡ true → MayList (lines s) (lines t) y → Drops (waits s.waiting) (waits t.waiting) y → btree_set_len t.waiting < btree_set_len s.waiting → Settles m (lines s) (lines t) y p → IsTurned m s t None
+pub done_turned : (m : MachinePair) (s t : State) (y : Item) (p : ℕ) → IsReady m s → t.units ≡ s.units → y.place ≡ suc p → waits s.waiting y ≡ true
+    → MayList (lines s) (lines t) y → Drops (waits s.waiting) (waits t.waiting) y → btree_set_len t.waiting < btree_set_len s.waiting
+    → Settles m (lines s) (lines t) y p → IsTurned m s t None
 done_turned m s t y p ready units at waited more drops fewer settles = record {
-  ready = subst (Ready m (lines t) t.waiting) (sym units) (done_ready m (lines s) (lines t) s.waiting t.waiting s.units ready y p at waited more drops fewer settles);
+  ready = subst (Ready m (lines t) t.waiting) (sym units)
+      (done_ready m (lines s) (lines t) s.waiting t.waiting s.units ready y p at waited more drops fewer settles);
   same = more.lists.same;
   finds = done_work m (lines s) (lines t) s.waiting t.waiting s.units ready y p at waited more drops fewer settles;
 }
 
 -- the move of an item is of the item's node
-pub move_within : (m : Machines) (s : State) (y : Item) (at : Move) → IsReady m s → IsLeast (waits s.waiting) y.node y.place → IsMoveAt (lines s) y at → at.node < length (lines s)
+pub move_within : (m : MachinePair) (s : State) (y : Item) (at : Move) → IsReady m s → IsLeastWaiting (waits s.waiting) y.node y.place → IsMoveAt (lines s) y at
+    → at.node < length (lines s)
 move_within m s y at ready least t =
     let first : 0 < y.place = (let e = t.place in omega (arith, e)) in
     let r = ready.waiting.rests y.node t.line t.is_in (least.of_same 0 first) in

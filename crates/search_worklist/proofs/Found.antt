@@ -6,21 +6,21 @@ use Rattle.std.proofs.lemmas.Option.{slice_get_within, get_or_from_slice_get}
 use Rattle.std.proofs.Math.Seq.{map-set_same}
 use Rattle.std.specs.Prelude.{◌≢◌, is_none, Option, slice_get, slice_set, sum_by}
 use Rattle.std.specs.BTreeSet.{BTreeSet, btree_set_len}
-use Rattle.bisimulation.specs.declared.mode.Mode.{Mode}
+use Rattle.cert_bisimulation.specs.declared.mode.Mode.{Mode}
 use Rattle.propagate.specs.Modes.{Found}
 use Rattle.search_tables.specs.declared.moves.Move.{Move}
-use Rattle.search_tables.specs.Tables.{Machines, units}
+use Rattle.search_tables.specs.SearchTables.{MachinePair, units}
 use Rattle.search_tables.specs.Next.{mode_at, paths_in, move_by}
 use Rattle.search_places.specs.declared.entry.Item.{Item}
-use Rattle.search_places.specs.Lines.{Line, item, table_of}
-use Rattle.search_places.specs.Changes.{SetsMoves}
-use Rattle.search_places.specs.Order.{waits, AddsMoves, Drops}
+use Rattle.search_places.specs.NodeLines.{Line, item, table_of}
+use Rattle.search_places.specs.NodeChanges.{SetsMoves}
+use Rattle.search_places.specs.ItemOrder.{waits, AddsMoves, Drops}
 use Rattle.search_ranks.proofs.Lists.{set_same, set_other, same_or_not}
 use Rattle.search_worklist.specs.declared.state.State.{State}
 use Rattle.search_places.specs.Moves.{most_moves}
 use Rattle.search_worklist.specs.Turns.{IsTurned}
 use Rattle.search_worklist.specs.Waiting.{Arrives, IsWaiting}
-use Rattle.search_worklist.specs.States.{lines, Ready, IsReady, weight, work_of}
+use Rattle.search_worklist.specs.States.{lines, Ready, IsReady, line_weight, work_of}
 use Rattle.search_worklist.proofs.Keeping.{mode_found}
 
 abbrev found_line : Line → List Move → Line
@@ -29,14 +29,17 @@ found_line l xs = record { node = l.node; moves = Some xs; arrivals = l.arrivals
 same_nodes : (ls : List Line) (k : ℕ) (old new : Line) → slice_get ls k ≡ Some old → new.node ≡ old.node → table_of (slice_set ls k new) ≡ table_of ls
 same_nodes ls k old new g n = map-set_same (λ (l : Line). l.node) ls k new old (n ∙ sym (ap (λ (l : Line). l.node) (get_or_from_slice_get ls k old old g)))
 
-pub weight_set : (ls : List Line) (k : ℕ) (old new : Line) → slice_get ls k ≡ Some old → sum_by weight (slice_set ls k new) + weight old ≡ sum_by weight ls + weight new
-weight_set ls k old new g = subst (λ l. sum_by weight (slice_set ls k new) + weight l ≡ sum_by weight ls + weight new) (get_or_from_slice_get ls k old old g) (sum_by-set weight ls k new old (slice_get_within ls k old g))
+pub weight_set : (ls : List Line) (k : ℕ) (old new : Line) → slice_get ls k ≡ Some old
+    → sum_by line_weight (slice_set ls k new) + line_weight old ≡ sum_by line_weight ls + line_weight new
+weight_set ls k old new g = subst (λ l. sum_by line_weight (slice_set ls k new) + line_weight l ≡ sum_by line_weight ls + line_weight new)
+    (get_or_from_slice_get ls k old old g) (sum_by-set line_weight ls k new old (slice_get_within ls k old g))
 
 pub apart : (i p j q : ℕ) → ((i ≡ j) × (p ≡ q) → ⊥) → item j q ≢ item i p
 apart i p j q d e = d (sym (ap (λ (z : Item). z.node) e), sym (ap (λ (z : Item). z.place) e))
 
 -- what arrives after a change arrived before it
-pub arrives_back : (ls : List Line) (k : ℕ) (old new : Line) (j : ℕ) (y : Item) → slice_get ls k ≡ Some old → ((p : ℕ) → slice_get new.arrivals p ≡ Some y → slice_get old.arrivals p ≡ Some y) → Arrives (slice_set ls k new) j y → Arrives ls j y
+pub arrives_back : (ls : List Line) (k : ℕ) (old new : Line) (j : ℕ) (y : Item) → slice_get ls k ≡ Some old
+    → ((p : ℕ) → slice_get new.arrivals p ≡ Some y → slice_get old.arrivals p ≡ Some y) → Arrives (slice_set ls k new) j y → Arrives ls j y
 arrives_back ls k old new j y g h a = elim (same_or_not j k) [
   | inl e ↦ (let i : slice_get (slice_set ls k new) k ≡ Some a.line = subst (λ z. slice_get (slice_set ls k new) z ≡ Some a.line) e a.is_in in
       let b : slice_get (slice_set ls k new) k ≡ Some new = set_same ls k old new g in
@@ -45,8 +48,9 @@ arrives_back ls k old new j y g h a = elim (same_or_not j k) [
   | inr d ↦ record { line = a.line; is_in = sym (set_other ls k j new d) ∙ a.is_in; place = a.place; listed = a.listed }
 ]
 
-module _ (m : Machines) (ls ls' : List Line) (w w1 w2 : BTreeSet Item) (n : ℕ) (ready : Ready m ls w n) (k : ℕ) (l : Line) (mode : Mode) (xs : List Move)
-    (is_in : slice_get ls k ≡ Some l) (found : mode_at m l.node ≡ Found mode) (listed : xs ≡ map (move_by k) (paths_in m l.node mode)) (few : length xs ≤ most_moves)
+module _ (m : MachinePair) (ls ls' : List Line) (w w1 w2 : BTreeSet Item) (n : ℕ) (ready : Ready m ls w n) (k : ℕ) (l : Line) (mode : Mode) (xs : List Move)
+    (is_in : slice_get ls k ≡ Some l) (found : mode_at m l.node ≡ Found mode) (listed : xs ≡ map (move_by k) (paths_in m l.node mode))
+    (few : length xs ≤ most_moves)
     (waited : waits w (item k 0) ≡ true) (adds : AddsMoves (waits w) (waits w1) k (length xs)) (more : btree_set_len w1 ≤ btree_set_len w + length xs)
     (drops : Drops (waits w1) (waits w2) (item k 0)) (fewer : btree_set_len w2 < btree_set_len w1) (sets : SetsMoves ls ls' k xs) where
   set_here : ls' ≡ slice_set ls k (found_line l xs)
@@ -70,7 +74,8 @@ module _ (m : Machines) (ls ls' : List Line) (w w1 w2 : BTreeSet Item) (n : ℕ)
   found_none : (i : ℕ) (z : Line) → slice_get (slice_set ls k (found_line l xs)) i ≡ Some z → waits w2 (item i 0) ≡ true → z.moves ≡ None
   found_none i z g h = elim (same_or_not i k) [
     | inl e ↦ absurd (let a : waits w2 (item k 0) ≡ true = subst (λ j. waits w2 (item j 0) ≡ true) e h in let b = drops.gone in cc)
-    | inr d ↦ ready.unfound i z (sym (set_other ls k i (found_line l xs) d) ∙ g) (elim (adds.only (item i 0) (drops.only (item i 0) h)) [ inl a ↦ a | inr a ↦ absurd (d a.0) ])
+    | inr d ↦ ready.unfound i z (sym (set_other ls k i (found_line l xs) d) ∙ g)
+        (elim (adds.only (item i 0) (drops.only (item i 0) h)) [ inl a ↦ a | inr a ↦ absurd (d a.0) ])
   ]
 
   found_ready : Ready m ls' w2 n
@@ -86,15 +91,19 @@ module _ (m : Machines) (ls ls' : List Line) (w w1 w2 : BTreeSet Item) (n : ℕ)
 
   found_work : work_of ls' w2 < work_of ls w
   found_work =
-      let h : weight l ≡ 4097 = ap (λ (o : Option (List Move)). cond (is_none o) 4097 0) (ready.unfound k l is_in waited) in
+      let h : line_weight l ≡ 4097 = ap (λ (o : Option (List Move)). cond (is_none o) 4097 0) (ready.unfound k l is_in waited) in
       let s = weight_set ls k l (found_line l xs) is_in in
-      let e : sum_by weight ls' ≡ sum_by weight (slice_set ls k (found_line l xs)) = ap (sum_by weight) set_here in
+      let e : sum_by line_weight ls' ≡ sum_by line_weight (slice_set ls k (found_line l xs)) = ap (sum_by line_weight) set_here in
       omega (arith, h, s, e, more, fewer, few)
 
-pub found_turned : (m : Machines) (s t : State) (w : BTreeSet Item) (k : ℕ) (l : Line) (mode : Mode) (xs : List Move) → IsReady m s → t.units ≡ s.units → slice_get (lines s) k ≡ Some l → mode_at m l.node ≡ Found mode → xs ≡ map (move_by k) (paths_in m l.node mode) → length xs ≤ most_moves → waits s.waiting (item k 0) ≡ true
-    → AddsMoves (waits s.waiting) (waits w) k (length xs) → btree_set_len w ≤ btree_set_len s.waiting + length xs → Drops (waits w) (waits t.waiting) (item k 0) → btree_set_len t.waiting < btree_set_len w → SetsMoves (lines s) (lines t) k xs → IsTurned m s t None
+pub found_turned : (m : MachinePair) (s t : State) (w : BTreeSet Item) (k : ℕ) (l : Line) (mode : Mode) (xs : List Move) → IsReady m s → t.units ≡ s.units
+    → slice_get (lines s) k ≡ Some l → mode_at m l.node ≡ Found mode → xs ≡ map (move_by k) (paths_in m l.node mode) → length xs ≤ most_moves
+    → waits s.waiting (item k 0) ≡ true
+    → AddsMoves (waits s.waiting) (waits w) k (length xs) → btree_set_len w ≤ btree_set_len s.waiting + length xs → Drops (waits w) (waits t.waiting) (item k 0)
+    → btree_set_len t.waiting < btree_set_len w → SetsMoves (lines s) (lines t) k xs → IsTurned m s t None
 found_turned m s t w k l mode xs ready units is_in found listed few waited adds more drops fewer sets = record {
-  ready = subst (Ready m (lines t) t.waiting) (sym units) (found_ready m (lines s) (lines t) s.waiting w t.waiting s.units ready k l mode xs is_in found listed few waited adds more drops fewer sets);
+  ready = subst (Ready m (lines t) t.waiting) (sym units)
+      (found_ready m (lines s) (lines t) s.waiting w t.waiting s.units ready k l mode xs is_in found listed few waited adds more drops fewer sets);
   same = found_table m (lines s) (lines t) s.waiting w t.waiting s.units ready k l mode xs is_in found listed few waited adds more drops fewer sets;
   finds = found_work m (lines s) (lines t) s.waiting w t.waiting s.units ready k l mode xs is_in found listed few waited adds more drops fewer sets;
 }

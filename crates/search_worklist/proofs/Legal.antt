@@ -1,88 +1,94 @@
 -- Legal lists of moves, one move longer.
-use Rattle.std.proofs.Common.{◌≡◌, ℕ, zero, suc, ◌+◌, ◌-◌, ◌*◌, ◌<◌, ◌≤◌, refl, sym, ◌∙◌, ap, subst, arith, Bool, true, List, [], ◌∷◌, ◌++◌, length, Some, None, Ok, Err, Vec, Global}
+use Rattle.std.proofs.Common.{◌≡◌, ℕ, zero, suc, ◌+◌, ◌-◌, ◌*◌, ◌<◌, ◌≤◌, refl, sym, ◌∙◌, ap, subst, arith, Bool, true, List, [], ◌∷◌, ◌++◌, length, Some, None}
+use Rattle.std.proofs.Common.{Ok, Err, Vec, Global}
 use Rattle.std.proofs.lemmas.List.{length-append, length-map}
 use Rattle.std.proofs.lemmas.Option.{slice_get_within}
 use Rattle.std.specs.Prelude.{◌&&◌, slice_get, Result, IfOk}
 use Rattle.std.specs.List.{list_all}
-use Rattle.fs_ast.specs.Sound.{IsSound}
+use Rattle.base_lemmas.proofs.Booleans.{and_first, and_second}
+use Rattle.base_lemmas.proofs.Quantifiers.{each_at}
+use Rattle.base_lemmas.proofs.Lists.{slice_get-of_map}
+use Rattle.fs_ast.specs.SoundMachines.{IsSound}
 use Rattle.fs_cut.specs.Paths.{is_point}
-use Rattle.nf_terms.proofs.Tests.{and_left, and_right}
 use Rattle.sym_facts.specs.Facts.{most_literals}
 use Rattle.sym_facts.specs.Pairings.{IsFactOf}
 use Rattle.sym_facts.proofs.StartSolved.{of_the_pairing}
-use Rattle.certificates.specs.Lawful.{most_nodes}
+use Rattle.cert_model.specs.Lawful.{most_nodes}
 use Rattle.search_tables.specs.declared.moves.Move.{Move}
-use Rattle.search_tables.specs.Tables.{Machines, positions_of, Node, Table, first_table}
-use Rattle.search_tables.specs.Next.{Change, next}
-use Rattle.search_tables.specs.Legal.{stuck, Lead, Makes}
-use Rattle.search_tables.proofs.Lists.{one_of}
+use Rattle.search_tables.specs.SearchTables.{MachinePair, positions_of, SearchNode, Table, first_table}
+use Rattle.search_tables.specs.Next.{Change, next_move}
+use Rattle.search_tables.specs.Legal.{stuck, MovesLead, Makes}
 use Rattle.search_tables.proofs.Forming.{well_formed}
 use Rattle.search_tables.proofs.Bounded.{legal_short}
 use Rattle.search_tables.specs.View.{table_in}
 use Rattle.search_places.specs.declared.pairs.PointPair.{PointPair}
 use Rattle.search_places.specs.declared.entry.Entry.{Entry}
-use Rattle.search_places.specs.Lines.{Line, line_of, lines_in, table_of}
-use Rattle.search_ranks.proofs.Lists.{get_map}
+use Rattle.search_places.specs.NodeLines.{Line, line_of_node, lines_in, table_of}
 use Rattle.search_worklist.specs.declared.ends.End.{End}
 use Rattle.search_worklist.specs.declared.ends.Ended.{Ended}
-use Rattle.search_worklist.specs.Ends.{EndsSo, IsEnded}
+use Rattle.search_worklist.specs.SearchEnds.{EndsSo, IsEnded}
 use Rattle.search_worklist.specs.Endings.{IsEndedWith}
 use Rattle.search_worklist.specs.States.{IsMade}
 use Rattle.search_worklist.proofs.Facts.{AreOf, legal_facts}
 
-lead_more : (m : Machines) (xs : List Move) (S T U : Table) (x : Move) → Lead m S xs T → stuck m T ≡ None → next m T ≡ Change x U → Lead m S (xs ++ x ∷ []) U
-lead_more m [] S T U x h s n = (U, subst (λ V. stuck m V ≡ None) (sym h) s, subst (λ V. next m V ≡ Change x U) (sym h) n, refl)
+lead_more : (m : MachinePair) (xs : List Move) (S T U : Table) (x : Move) → MovesLead m S xs T → stuck m T ≡ None → next_move m T ≡ Change x U
+    → MovesLead m S (xs ++ x ∷ []) U
+lead_more m [] S T U x h s n = (U, subst (λ V. stuck m V ≡ None) (sym h) s, subst (λ V. next_move m V ≡ Change x U) (sym h) n, refl)
 lead_more m (y ∷ ys) S T U x h s n = (h.0, h.1, h.2, lead_more m ys h.0 T U x h.3 s n)
 
-pub makes_none : (m : Machines) (xs : List Move) (T : Table) → xs ≡ [] → T ≡ first_table m → Makes m xs T
+pub makes_none : (m : MachinePair) (xs : List Move) (T : Table) → xs ≡ [] → T ≡ first_table m → Makes m xs T
 makes_none m xs T e f = subst (λ ys. Makes m ys T) (sym e) (record { lead = sym f })
 
-pub makes_more : (m : Machines) (xs ys : List Move) (x : Move) (T U V : Table) → Makes m xs T → stuck m T ≡ None → next m T ≡ Change x U → ys ≡ xs ++ x ∷ [] → V ≡ U → Makes m ys V
-makes_more m xs ys x T U V h s n e f = subst (λ zs. Makes m zs V) (sym e) (subst (λ W. Makes m (xs ++ x ∷ []) W) (sym f) (record { lead = lead_more m xs (first_table m) T U x h.lead s n }))
+pub makes_more : (m : MachinePair) (xs ys : List Move) (x : Move) (T U V : Table) → Makes m xs T → stuck m T ≡ None → next_move m T ≡ Change x U
+    → ys ≡ xs ++ x ∷ [] → V ≡ U → Makes m ys V
+makes_more m xs ys x T U V h s n e f = subst (λ zs. Makes m zs V) (sym e)
+    (subst (λ W. Makes m (xs ++ x ∷ []) W) (sym f) (record { lead = lead_more m xs (first_table m) T U x h.lead s n }))
 
-pub facts_of : (m : Machines) (xs : List Move) (T : Table) → Makes m xs T → AreOf (positions_of m) T
+pub facts_of : (m : MachinePair) (xs : List Move) (T : Table) → Makes m xs T → AreOf (positions_of m) T
 facts_of m xs T h = legal_facts m (of_the_pairing m.left m.right) xs T h
 
-pub made : (m : Machines) (xs : List Move) (T : Table) → IsSound m.left → IsSound m.right → Makes m xs T → stuck m T ≡ None → IsMade m T
+pub made : (m : MachinePair) (xs : List Move) (T : Table) → IsSound m.left → IsSound m.right → Makes m xs T → stuck m T ≡ None → IsMade m T
 made m xs T l r h s = record { formed = well_formed m l r xs T h; facts = facts_of m xs T h; agrees = s }
 
 -- how many moves are left at most
-abbrev pub moves_left : Machines → List Move → ℕ
+abbrev pub moves_left : MachinePair → List Move → ℕ
 moves_left m xs = most_nodes * (length (positions_of m) + most_literals + 1) - length xs
 
-pub fewer_left : (m : Machines) (xs ys : List Move) (x : Move) (T : Table) → ys ≡ xs ++ x ∷ [] → Makes m ys T → moves_left m ys < moves_left m xs
-fewer_left m xs ys x T e h = over (most_nodes * (length (positions_of m) + most_literals + 1)) (length xs) (length ys) (ap length e ∙ length-append xs (x ∷ [])) (legal_short m ys T h)
+pub fewer_left : (m : MachinePair) (xs ys : List Move) (x : Move) (T : Table) → ys ≡ xs ++ x ∷ [] → Makes m ys T → moves_left m ys < moves_left m xs
+fewer_left m xs ys x T e h = over (most_nodes * (length (positions_of m) + most_literals + 1)) (length xs) (length ys) (ap length e ∙ length-append xs (x ∷ []))
+    (legal_short m ys T h)
   where
     over : (n a b : ℕ) → b ≡ a + 1 → b ≤ n → n - b < n - a
     over n a b e h = omega (arith, e, h)
 
 -- ---- what is known of a node of such a table
-all_at : (f : Node → Bool) (ns : List Node) (k : ℕ) (n : Node) → list_all f ns ≡ true → slice_get ns k ≡ Some n → f n ≡ true
+all_at : (f : SearchNode → Bool) (ns : List SearchNode) (k : ℕ) (n : SearchNode) → list_all f ns ≡ true → slice_get ns k ≡ Some n → f n ≡ true
 all_at f [] k n h e = absurd (cc e)
-all_at f (a ∷ ns) zero n h e = let s : a ≡ n = cc e in ap f (sym s) ∙ and_left (f a) (list_all f ns) h
-all_at f (a ∷ ns) (suc k) n h e = all_at f ns k n (and_right (f a) (list_all f ns) h) e
+all_at f (a ∷ ns) zero n h e = let s : a ≡ n = cc e in ap f (sym s) ∙ and_first (f a) (list_all f ns) h
+all_at f (a ∷ ns) (suc k) n h e = all_at f ns k n (and_second (f a) (list_all f ns) h) e
 
-module _ (m : Machines) (ls : List Line) (h : IsMade m (table_of ls)) (k : ℕ) (l : Line) (g : slice_get ls k ≡ Some l) where
+module _ (m : MachinePair) (ls : List Line) (h : IsMade m (table_of ls)) (k : ℕ) (l : Line) (g : slice_get ls k ≡ Some l) where
   pub node_in : slice_get (table_of ls) k ≡ Some l.node
-  node_in = get_map (λ (z : Line). z.node) ls k l g
+  node_in = slice_get-of_map (λ (z : Line). z.node) ls k l g
 
   at_points : is_point m.left l.node.left && is_point m.right l.node.right ≡ true
-  at_points = all_at (λ (n : Node). is_point m.left n.left && is_point m.right n.right) (table_of ls) k l.node h.formed.points node_in
+  at_points = all_at (λ (n : SearchNode). is_point m.left n.left && is_point m.right n.right) (table_of ls) k l.node h.formed.points node_in
 
   pub left_point : is_point m.left l.node.left ≡ true
-  left_point = and_left (is_point m.left l.node.left) (is_point m.right l.node.right) at_points
+  left_point = and_first (is_point m.left l.node.left) (is_point m.right l.node.right) at_points
 
   pub right_point : is_point m.right l.node.right ≡ true
-  right_point = and_right (is_point m.left l.node.left) (is_point m.right l.node.right) at_points
+  right_point = and_second (is_point m.left l.node.left) (is_point m.right l.node.right) at_points
 
   pub fact_of : IsFactOf (positions_of m) l.node.fact
-  fact_of = one_of (λ (n : Node). IsFactOf (positions_of m) n.fact) (table_of ls) k l.node h.facts node_in
+  fact_of = each_at (λ (n : SearchNode). IsFactOf (positions_of m) n.fact) (table_of ls) k l.node h.facts node_in
 
 -- ---- the end of a search
-pub number_in : (es : List (PointPair × Entry)) (k : ℕ) (n : Node) → slice_get (table_of (lines_in es)) k ≡ Some n → k < length es
-number_in es k n g = omega (arith, slice_get_within (table_of (lines_in es)) k n g, length-map (lines_in es) (λ (l : Line). l.node), length-map es line_of)
+pub number_in : (es : List (PointPair × Entry)) (k : ℕ) (n : SearchNode) → slice_get (table_of (lines_in es)) k ≡ Some n → k < length es
+number_in es k n g = omega (arith, slice_get_within (table_of (lines_in es)) k n g, length-map (lines_in es) (λ (l : Line). l.node), length-map es line_of_node)
 
-pub ends_with : (m : Machines) (T : Table) (xs : Vec Move Global) (x : End) (e : Ended) → Makes m xs.items T → EndsSo m T x → IsEndedWith T xs x e → IsEnded m e
+pub ends_with : (m : MachinePair) (T : Table) (xs : Vec Move Global) (x : End) (e : Ended) → Makes m xs.items T → EndsSo m T x
+    → IsEndedWith T xs x e → IsEnded m e
 ends_with m T xs x e h s w =
     let items = ap (λ (v : Vec Move Global). v.items) w.moves in
     record {

@@ -1,9 +1,9 @@
-pub mod Ends
+pub mod SearchEnds
 pub mod View
-pub mod Puts
+pub mod NodeUpdates
 pub mod Waiting
 pub mod States
 pub mod Trials
 pub mod Turns
-pub mod Outputs
+pub mod DifferingOutputs
 pub mod Endings

@@ -1,35 +1,35 @@
 -- Turns of a search, each at the least item that waits.
 use Rattle.std.specs.Prelude.{◌≡◌, ℕ, suc, ◌<◌, List, Option, Some, None, slice_get}
-use Rattle.bisimulation.specs.declared.mode.Mode.{Mode}
+use Rattle.cert_bisimulation.specs.declared.mode.Mode.{Mode}
 use Rattle.nf_terms.specs.declared.stop.NfStop.{NfStop}
 use Rattle.nf_terms.specs.declared.stop.NfStop.TheVariants as stop
 use Rattle.propagate.specs.Modes.{Found}
 use Rattle.search_tables.specs.declared.moves.Move.{Move}
-use Rattle.search_tables.specs.Tables.{Machines, Table, units}
-use Rattle.search_tables.specs.Next.{mode_at, Change, next}
+use Rattle.search_tables.specs.SearchTables.{MachinePair, Table, units}
+use Rattle.search_tables.specs.Next.{mode_at, Change, next_move}
 use Rattle.search_places.specs.declared.entry.Item.{Item}
-use Rattle.search_places.specs.Lines.{Line}
+use Rattle.search_places.specs.NodeLines.{Line}
 use Rattle.search_worklist.specs.declared.ends.End.{End}
 use Rattle.search_worklist.specs.declared.ends.End.TheVariants as end
 use Rattle.search_worklist.specs.declared.state.State.{State}
 use Rattle.search_worklist.specs.declared.turns.Step.{Step}
 use Rattle.search_worklist.specs.declared.turns.Step.TheVariants as step
-use Rattle.search_worklist.specs.Ends.{EndsSo}
-use Rattle.search_worklist.specs.Puts.{changed}
+use Rattle.search_worklist.specs.SearchEnds.{EndsSo}
+use Rattle.search_worklist.specs.NodeUpdates.{change_table}
 use Rattle.search_worklist.specs.States.{table, IsReady, work}
 
 -- a step is what is next, in a table in which no outputs differ
-abbrev pub IsNext : Machines → Table → Step → Type 0
+abbrev pub IsNext : MachinePair → Table → Step → Type 0
 IsNext m T (step.Ends end) = EndsSo m T end
-IsNext m T (step.Changes at c) = (next m T ≡ Change at (changed T c)) × (c.units ≡ units (changed T c))
+IsNext m T (step.Changes at c) = (next_move m T ≡ Change at (change_table T c)) × (c.units ≡ units (change_table T c))
 
 -- a turn finds what is next, or leaves less to do
-abbrev pub FindsNext : Machines → State → State → Option Step → Type 0
+abbrev pub FindsNext : MachinePair → State → State → Option Step → Type 0
 FindsNext m s t None = work t < work s
 FindsNext m s t (Some x) = IsNext m (table s) x
 
 -- a turn that keeps the table
-pub record IsTurned (m : Machines) (s t : State) (o : Option Step) : Type 0 where
+pub record IsTurned (m : MachinePair) (s t : State) (o : Option Step) : Type 0 where
   pub ready : IsReady m t
   pub same : table t ≡ table s
   pub finds : FindsNext m s t o
@@ -41,7 +41,7 @@ IsEndAt at (stop.Large units depth) e = e ≡ end.Large at
 IsEndAt at stop.NoMemory e = ⊥
 
 -- node i has this mode
-pub record ModeFound (m : Machines) (ls : List Line) (i : ℕ) (x : Mode) : Type 0 where
+pub record ModeFound (m : MachinePair) (ls : List Line) (i : ℕ) (x : Mode) : Type 0 where
   pub line : Line
   pub is_in : slice_get ls i ≡ Some line
   pub found : mode_at m line.node ≡ Found x
@@ -58,4 +58,5 @@ pub record IsMoveAt (ls : List Line) (y : Item) (at : Move) : Type 0 where
 
 -- an item has no move in the mode of its node
 abbrev pub NoMoveAt : List Line → Item → Type 0
-NoMoveAt ls y = (l : Line) (xs : List Move) (p : ℕ) → slice_get ls y.node ≡ Some l → l.moves ≡ Some xs → y.place ≡ suc p → slice_get xs p ≡ None
+NoMoveAt ls y = (l : Line) (xs : List Move) (p : ℕ) → slice_get ls y.node ≡ Some l → l.moves ≡ Some xs → y.place ≡ suc p
+    → slice_get xs p ≡ None

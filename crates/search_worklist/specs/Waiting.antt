@@ -1,7 +1,7 @@
 -- What is known of a table of which some items wait.
 use Rattle.std.specs.Prelude.{◌≡◌, ℕ, suc, ◌<◌, Bool, true, false, List, length, map, Option, Some, slice_get, ◌⊎◌}
 use Rattle.fs_cut.specs.Paths.{Point}
-use Rattle.bisimulation.specs.declared.mode.Mode.{Mode}
+use Rattle.cert_bisimulation.specs.declared.mode.Mode.{Mode}
 use Rattle.nf_terms.specs.Computed.{Computed, Done}
 use Rattle.nf_rel.specs.Literals.{is_refuted}
 use Rattle.sym_paths.specs.Execution.{Post, arrive, end_of}
@@ -9,19 +9,19 @@ use Rattle.sym_facts.specs.Facts.{vector_of}
 use Rattle.sym_facts.specs.Entailment.{Missing, entails, is_nothing}
 use Rattle.propagate.specs.Modes.{Found}
 use Rattle.search_tables.specs.declared.moves.Move.{Move}
-use Rattle.search_tables.specs.Tables.{Machines, Node, Table, Known, target_of, Paths}
+use Rattle.search_tables.specs.SearchTables.{MachinePair, SearchNode, Table, Known, node_target, PathPair}
 use Rattle.search_tables.specs.Next.{mode_at, paths_in, move_by}
 use Rattle.search_places.specs.declared.entry.Item.{Item}
-use Rattle.search_places.specs.Lines.{Line, item, table_of}
+use Rattle.search_places.specs.NodeLines.{Line, item, table_of}
 
 -- what arrives by paths from a node
-abbrev pub arrival : Machines → Node → Paths → Computed Post
+abbrev pub arrival : MachinePair → SearchNode → PathPair → Computed Post
 arrival m n x = arrive m.left m.right n.fact.literals (vector_of n.fact.positions) x.left x.right
 
 -- the first node at two points is node k, and its fact is entailed
 pub record IsEntailed (T : Table) (P Q : Point) (post : Post) (k : ℕ) : Type 0 where
-  pub node : Node
-  pub target : target_of T P Q ≡ Known k node
+  pub node : SearchNode
+  pub target : node_target T P Q ≡ Known k node
   pub missing : Missing
   pub compared : entails post node.fact ≡ Done missing
   pub nothing : is_nothing missing ≡ true
@@ -41,19 +41,21 @@ pub record ArrivesAt (ls : List Line) (P Q : Point) (post : Post) (y : Item) : T
   pub arrives : Arrives ls number y
 
 -- a move keeps the table: what arrives is refuted, or entails the fact of its target, where its item is listed
-pub record IsSettled (m : Machines) (ls : List Line) (n : Node) (x : Paths) (y : Item) : Type 0 where
+pub record IsSettledMove (m : MachinePair) (ls : List Line) (n : SearchNode) (x : PathPair) (y : Item) : Type 0 where
   pub post : Post
   pub valued : arrival m n x ≡ Done post
   pub holds : (is_refuted post.conditions ≡ true) ⊎ ArrivesAt ls (end_of n.left x.left) (end_of n.right x.right) post y
 
 -- the mode of node i is found, and each of its moves waits or is settled
-pub record Rests (m : Machines) (ls : List Line) (waits : Item → Bool) (i : ℕ) (n : Node) (moves : Option (List Move)) : Type 0 where
+pub record Rests (m : MachinePair) (ls : List Line) (waits : Item → Bool) (i : ℕ) (n : SearchNode)
+    (moves : Option (List Move)) : Type 0 where
   pub mode : Mode
   pub found : mode_at m n ≡ Found mode
   pub listed : moves ≡ Some (map (move_by i) (paths_in m n mode))
-  pub each : (p : ℕ) (x : Paths) → slice_get (paths_in m n mode) p ≡ Some x → (waits (item i (suc p)) ≡ true) ⊎ IsSettled m ls n x (item i (suc p))
+  pub each : (p : ℕ) (x : PathPair) → slice_get (paths_in m n mode) p ≡ Some x
+      → (waits (item i (suc p)) ≡ true) ⊎ IsSettledMove m ls n x (item i (suc p))
 
 -- each node waits or rests, and what waits is of nodes
-pub record IsWaiting (m : Machines) (ls : List Line) (waits : Item → Bool) : Type 0 where
+pub record IsWaiting (m : MachinePair) (ls : List Line) (waits : Item → Bool) : Type 0 where
   pub rests : (i : ℕ) (l : Line) → slice_get ls i ≡ Some l → waits (item i 0) ≡ false → Rests m ls waits i l.node l.moves
   pub in_table : (i p : ℕ) → waits (item i p) ≡ true → i < length ls

@@ -5,7 +5,7 @@ use search_tables::nodes::TableNode;
 use search_tables::outcome::Budget;
 
 /// Why no further move is made.
-#[derive(Clone, Copy, Debug, PartialEq, Eq)]
+#[derive(Clone, Copy)]
 pub enum End {
     /// No move makes a difference, and no outputs differ.
     Closed,

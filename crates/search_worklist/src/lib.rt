@@ -1,4 +1,8 @@
 //! The moves of a search, up to the first obstacle or to a closed table.
+//!
+//! Promises: `run`: the moves of a search, each the next one, and how they end.
+//!
+//! Rules: `specs/Waiting`, `specs/SearchEnds`.
 #![tactic(auto)]
 
 pub mod ends;

@@ -1,11 +1,11 @@
 //! Makes the moves of a search.
 
-ghost use Rattle.std.specs.Prelude.{◌≡◌, ◌<◌, None, length, IfOk};
+ghost use Rattle.std.specs.Prelude.{◌≡◌, ◌<◌, None, IfOk};
 ghost use Rattle.fs_cut.specs.Covers.{cover_of};
 ghost use Rattle.fs_pair.specs.Interfaces.{interface_fault};
 ghost use Rattle.fs_pair.specs.Positions.{positions};
 ghost use Rattle.search_worklist.specs.Endings.{IsEndedWith};
-ghost use Rattle.search_worklist.specs.Ends.{IsEnded};
+ghost use Rattle.search_worklist.specs.SearchEnds.{IsEnded};
 ghost use Rattle.search_worklist.specs.States.{table as table_now};
 ghost use Rattle.search_worklist.specs.View.{machines_in};
 
@@ -37,7 +37,7 @@ fn ended(alloc: Global, state: State, moves: Vec<Move>, end: End) -> Result<Ende
 fn make_moves(alloc: Global, m: &Sides<'_>) -> Result<Ended, NoMemory>
     ensures { IfOk result (IsEnded (machines_in m.now)) }
 {
-    let _left = m.left.vars();
+    let _left = m.left.vars(); // These two calls tell the proof that both machines are sound.
     let _right = m.right.vars();
     let mut state = begin(alloc, m)?;
     let mut moves = Vec::new(alloc);
@@ -83,8 +83,8 @@ fn run_sides<'a>(
     make_moves(alloc, &sides)
 }
 
-/// Makes a table from the start node by the moves that are next, up to the first obstacle or until nothing is next. The one refusal is
-/// out of memory.
+/// Makes a table from the start node by the moves that are next, up to the first obstacle or until nothing is next. The one
+/// refusal is out of memory.
 pub fn run(
     alloc: Global,
     a: &Machine,

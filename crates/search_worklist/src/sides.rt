@@ -7,10 +7,10 @@ ghost use Rattle.fs_cut.specs.Covers.{cover_of, paths_of};
 ghost use Rattle.fs_cut.specs.View.{point_of, path_of};
 ghost use Rattle.fs_pair.specs.Positions.{positions};
 
+use cert_machine_pairs::covers::paths;
 use fs_ast::machine::Machine;
 use fs_cut::cover::{Cover, Path, Point};
 use fs_pair::positions::Pairing;
-use machine_pairs::covers::paths;
 
 /// The two machines, each with its cover, and their pairing.
 #[derive(Drop)]

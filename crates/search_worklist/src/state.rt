@@ -2,9 +2,9 @@
 
 ghost use Rattle.std.specs.Prelude.{◌≡◌, ◌≤◌, length, IfOk, OnOk};
 ghost use Rattle.fs_cut.specs.View.{point_of};
-ghost use Rattle.certificates.specs.Lawful.{most_nodes};
-ghost use Rattle.search_tables.specs.Tables.{Machines, units, first_table};
-ghost use Rattle.search_worklist.specs.Puts.{number_at, changed};
+ghost use Rattle.cert_model.specs.Lawful.{most_nodes};
+ghost use Rattle.search_tables.specs.SearchTables.{MachinePair, units, first_table};
+ghost use Rattle.search_worklist.specs.NodeUpdates.{node_number, change_table};
 ghost use Rattle.search_worklist.specs.States.{table, IsReady};
 ghost use Rattle.search_worklist.specs.View.{machines_in};
 
@@ -29,14 +29,14 @@ pub struct State {
     pub units: u64,
 }
 
-/// Makes a change. The node then waits, and so does what arrived at it before. Answers the node's number. The one refusal is out of
-/// memory, and the state is of no use then.
+/// Makes a change. The node then waits, and so does what arrived at it before. Answers the node's number. The one refusal is out
+/// of memory, and the state is of no use then.
 pub fn make(alloc: Global, state: &mut State, change: Change) -> Result<usize, NoMemory>
-    requires few { length (changed (table state.old) change) ≤ most_nodes }
-    requires sized { change.units ≡ units (changed (table state.old) change) }
-    ensures ready { (m : Machines) → IsReady m state.old → OnOk result (IsReady m state.new) }
-    ensures table { OnOk result (table state.new ≡ changed (table state.old) change) }
-    ensures number { IfOk result (λ k. k ≡ number_at (table state.old) (point_of change.left) (point_of change.right)) }
+    requires few { length (change_table (table state.old) change) ≤ most_nodes }
+    requires sized { change.units ≡ units (change_table (table state.old) change) }
+    ensures ready { (m : MachinePair) → IsReady m state.old → OnOk result (IsReady m state.new) }
+    ensures table { OnOk result (table state.new ≡ change_table (table state.old) change) }
+    ensures number { IfOk result (λ k. k ≡ node_number (table state.old) (point_of change.left) (point_of change.right)) }
 {
     let put = put(
         alloc,

@@ -8,10 +8,11 @@ ghost use Rattle.sym_paths.specs.View.{post_in};
 ghost use Rattle.sym_facts.specs.Facts.{size_of_fact};
 ghost use Rattle.sym_facts.specs.Entailment.{is_nothing as nothing};
 ghost use Rattle.sym_facts.specs.View.{missing_in};
-ghost use Rattle.search_tables.specs.Tables.{Table, units, most_units, within_units, target_of, looked_up, positions_of};
-ghost use Rattle.search_places.specs.Changes.{StandsAt};
-ghost use Rattle.search_worklist.specs.Puts.{put};
-ghost use Rattle.search_worklist.specs.Trials.{GivesChange, TellsChange, Tells, TriesAt};
+ghost use Rattle.search_tables.specs.SearchTables.{Table, units, most_units, within_units, node_target, look_up_target};
+ghost use Rattle.search_tables.specs.SearchTables.{positions_of};
+ghost use Rattle.search_places.specs.NodeChanges.{StandsAt};
+ghost use Rattle.search_worklist.specs.NodeUpdates.{put_fact};
+ghost use Rattle.search_worklist.specs.Trials.{GivesChange, TellsChange, TellsTrial, TriesAt};
 ghost use Rattle.search_worklist.specs.States.{lines, table, IsMade};
 ghost use Rattle.search_worklist.specs.View.{machines_in};
 
@@ -50,7 +51,8 @@ fn units_with(rest: u64, more: u64) -> Option<u64>
 
 // Gives the node at two points a fact, beside so many units of the other nodes.
 fn changed(rest: u64, left: Point, right: Point, fact: Fact) -> Trial
-    ensures { (T : Table) → rest + size_of_fact fact ≡ units (put T (point_of left) (point_of right) fact) → GivesChange T (within_units (put T (point_of left) (point_of right) fact)) result }
+    ensures { (T : Table) → rest + size_of_fact fact ≡ units (put_fact T (point_of left) (point_of right) fact)
+        → GivesChange T (within_units (put_fact T (point_of left) (point_of right) fact)) result }
 {
     match units_with(rest, fact.size()) {
         Some(units) => Trial::Changes(Change {
@@ -81,7 +83,9 @@ fn try_new(
 ) -> Result<Trial, NfStop>
     requires absent { StandsAt (lines state.now) (point_of left) (point_of right) None }
     requires sized { state.now.units ≡ units (table state.now) }
-    ensures { TellsChange (table state.now) (looked_up (positions_of (machines_in m.now)) (table state.now) (point_of left) (point_of right) (post_in post.now) (target_of (table state.now) (point_of left) (point_of right))) result }
+    ensures { TellsChange (table state.now)
+        (look_up_target (positions_of (machines_in m.now)) (table state.now) (point_of left) (point_of right) (post_in post.now)
+        (node_target (table state.now) (point_of left) (point_of right))) result }
 {
     if state.entries.len() >= NODE_LIMIT {
         return Ok(Trial::Exceeds(Budget::Nodes));
@@ -104,7 +108,9 @@ fn try_known(
     requires is_open { refuted (post_in post.now).conditions ≡ false }
     requires sized { state.now.units ≡ units (table state.now) }
     requires made { IsMade (machines_in m.now) (table state.now) }
-    ensures { Tells (table state.now) (point_of left) (point_of right) (post_in post.now) (looked_up (positions_of (machines_in m.now)) (table state.now) (point_of left) (point_of right) (post_in post.now) (target_of (table state.now) (point_of left) (point_of right))) result }
+    ensures { TellsTrial (table state.now) (point_of left) (point_of right) (post_in post.now)
+        (look_up_target (positions_of (machines_in m.now)) (table state.now) (point_of left) (point_of right) (post_in post.now)
+        (node_target (table state.now) (point_of left) (point_of right))) result }
 {
     let target = node_at(&state.entries, number).entry;
     let miss = entails(alloc, post, &target.fact)?;
@@ -127,7 +133,9 @@ fn try_arrival(
     requires is_open { refuted (post_in post.now).conditions ≡ false }
     requires sized { state.now.units ≡ units (table state.now) }
     requires made { IsMade (machines_in m.now) (table state.now) }
-    ensures { Tells (table state.now) (point_of left) (point_of right) (post_in post.now) (looked_up (positions_of (machines_in m.now)) (table state.now) (point_of left) (point_of right) (post_in post.now) (target_of (table state.now) (point_of left) (point_of right))) result }
+    ensures { TellsTrial (table state.now) (point_of left) (point_of right) (post_in post.now)
+        (look_up_target (positions_of (machines_in m.now)) (table state.now) (point_of left) (point_of right) (post_in post.now)
+        (node_target (table state.now) (point_of left) (point_of right))) result }
 {
     match find(&state.entries, left, right) {
         Some(number) => try_known(alloc, m, state, left, right, number, post),
@@ -147,8 +155,8 @@ fn end_of(point: Point, path: Option<&Path>) -> Point
 
 /// What a move of a node does to the table.
 ///
-/// `Wide` and `Large` come exactly at the first operation that is not narrow, or narrow and not small: those of the paths come first,
-/// then those of the comparison with the target's fact, and then those that make a fact. `NoMemory`: out of memory.
+/// `Wide` and `Large` come exactly at the first operation that is not narrow, or narrow and not small: those of the paths come
+/// first, then those of the comparison with the target's fact, and then those that make a fact. `NoMemory`: out of memory.
 pub fn try_move(alloc: Global, m: &Sides<'_>, state: &State, at: Move) -> Result<Trial, NfStop>
     requires node { at.node < length (lines state.now) }
     requires sized { state.now.units ≡ units (table state.now) }

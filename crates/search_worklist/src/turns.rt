@@ -2,8 +2,8 @@
 
 ghost use Rattle.std.specs.Prelude.{◌≡◌, ◌<◌, ◌≢◌, true, None, length, IfNone, IfSome, IfOk, OnOk};
 ghost use Rattle.search_tables.specs.Next.{path_at as one_path};
-ghost use Rattle.search_places.specs.Lines.{item as plain_item};
-ghost use Rattle.search_places.specs.Order.{waits, IsLeast};
+ghost use Rattle.search_places.specs.NodeLines.{item as plain_item};
+ghost use Rattle.search_places.specs.ItemOrder.{waits, IsLeastWaiting};
 ghost use Rattle.search_worklist.specs.States.{lines, table, IsReady, IsMade};
 ghost use Rattle.search_worklist.specs.Turns.{IsNext, IsTurned, IsEndAt, ModeFound, IsMoveAt, NoMoveAt};
 ghost use Rattle.search_worklist.specs.View.{machines_in};
@@ -13,10 +13,10 @@ use crate::sides::{Sides, left_paths, right_paths};
 use crate::state::State;
 use crate::trial::{Change, Trial};
 use crate::trials::try_move;
-use bisimulation::mode::Mode;
+use cert_bisimulation::mode::Mode;
 use nf_terms::stop::{NfStop, NoMemory};
 use nf_terms::tree::Side;
-use propagate::modes::{ModeStop, mode};
+use propagate::modes::mode;
 use search_places::entry::Item;
 use search_places::moves::moves;
 use search_places::nodes::{list_arrival, node_at, set_moves};
@@ -93,7 +93,7 @@ fn find_mode(
 ) -> Result<Option<Step>, NoMemory>
     requires ready { IsReady (machines_in m.now) state.old }
     requires made { IsMade (machines_in m.now) (table state.old) }
-    requires least { IsLeast (waits state.old.waiting) node 0 }
+    requires least { IsLeastWaiting (waits state.old.waiting) node 0 }
     requires waits { waits state.old.waiting (plain_item node 0) ≡ true }
     ensures { IfOk result (IsTurned (machines_in m.now) state.old state.new) }
 {
@@ -138,7 +138,7 @@ fn try_item(
 ) -> Result<Option<Step>, NoMemory>
     requires ready { IsReady (machines_in m.now) state.old }
     requires made { IsMade (machines_in m.now) (table state.old) }
-    requires least { IsLeast (waits state.old.waiting) item.node item.place }
+    requires least { IsLeastWaiting (waits state.old.waiting) item.node item.place }
     requires waits { waits state.old.waiting item ≡ true }
     requires place { item.place ≢ 0 }
     ensures { IfOk result (IsTurned (machines_in m.now) state.old state.new) }
@@ -175,7 +175,7 @@ fn turn(
 ) -> Result<Option<Step>, NoMemory>
     requires ready { IsReady (machines_in m.now) state.old }
     requires made { IsMade (machines_in m.now) (table state.old) }
-    requires least { IsLeast (waits state.old.waiting) item.node item.place }
+    requires least { IsLeastWaiting (waits state.old.waiting) item.node item.place }
     requires waits { waits state.old.waiting item ≡ true }
     ensures { IfOk result (IsTurned (machines_in m.now) state.old state.new) }
 {

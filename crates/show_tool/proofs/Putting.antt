@@ -4,28 +4,29 @@ use Rattle.std.specs.Prelude.{Result, Ok, Err, IfOk, IfSome, cond, codes}
 use Rattle.std.specs.Str.{bytes_eq}
 use Rattle.clap.specs.Words.{Kinds, Row, Text, fault_of, subcommand_of}
 use Rattle.fs_base.specs.Outside.{FilesTold, NoneFell}
-use Rattle.command_answers.specs.declared.answer.Status.{Status}
-use Rattle.command_answers.specs.declared.answer.Answer.{Answer}
-use Rattle.command_answers.specs.Statuses.{status_of, certificate_in}
-use Rattle.command_answers.specs.Words.{cert_of}
-use Rattle.command_answers.specs.Replies.{reply}
+use Rattle.fsmd_replies.specs.declared.answer.Status.{Status}
+use Rattle.fsmd_replies.specs.declared.answer.Answer.{Answer}
+use Rattle.fsmd_replies.specs.Statuses.{status_of, certificate_in}
+use Rattle.fsmd_replies.specs.AskedFiles.{cert_of}
+use Rattle.fsmd_replies.specs.Replies.{reply}
 use Rattle.fsmd_tool.specs.Calls.{call, OnlyRead, IsCorrectFrom}
-use Rattle.fsmd_tool.specs.Puts.{Put, IsPut}
-use Rattle.fsmd_tool.specs.Stores.{Stores, stores, IsKept, Entry, entry_of, to_store, Leaves, LeftAlone, LeftStored, LeftUnstored}
+use Rattle.fsmd_tool.specs.SinkReplies.{Put, IsPut}
+use Rattle.fsmd_tool.specs.CertificateStores.{StoreState, stores, IsUnchangedStore, StoreEntry, stored_entry_of, to_store, Leaves, LeftAlone, LeftStored}
+use Rattle.fsmd_tool.specs.CertificateStores.{LeftUnstored}
 use Rattle.fsmd_tool.specs.Correct.{IsDone, IsDoneFor, Kept, Stored, Unstored}
 use Rattle.fsmd_tool.proofs.Later.{correct_until, leaves_since}
-use Rattle.show_words.specs.CommandLine.{command_line}
-use Rattle.show_words.specs.Words.{Shown, shown_by, shown_in, shown_of, where_taken}
+use Rattle.show_words.specs.ViewCommandLine.{view_command_line}
+use Rattle.show_words.specs.ViewWords.{ShownView, shown_by, shown_in, shown_of, where_taken}
 use Rattle.show_words.proofs.Named.{asked_is}
 use Rattle.show_tool.specs.Views.{ShownFrom}
-use Rattle.show_tool.specs.Shows.{IsShown, PutsOf}
+use Rattle.show_tool.specs.ViewCalls.{IsShown, PutsOf}
 
 -- ---- no view names a file for a certificate
 
-abbrev NamesNone : Shown → Type 0
+abbrev NamesNone : ShownView → Type 0
 NamesNone s = cert_of (Some s.asked) ≡ None
 
-either : (b : Bool) (s : Shown) (rest : Option Shown) → NamesNone s → IfSome rest NamesNone → IfSome (cond b (Some s) rest) NamesNone
+either : (b : Bool) (s : ShownView) (rest : Option ShownView) → NamesNone s → IfSome rest NamesNone → IfSome (cond b (Some s) rest) NamesNone
 either true s rest here there = here
 either false s rest here there = there
 
@@ -41,33 +42,35 @@ none_in : (o : Option (Text × List Row)) → IfSome (shown_in o) NamesNone
 none_in None = tt
 none_in (Some p) = none_by p.0 p.1
 
-none_taken : (kinds : Kinds) (o : Option Shown) → IfSome o NamesNone → IfSome (where_taken kinds o) NamesNone
+none_taken : (kinds : Kinds) (o : Option ShownView) → IfSome o NamesNone → IfSome (where_taken kinds o) NamesNone
 none_taken [] o h = h
 none_taken (k ∷ ks) o h = tt
 
-pub no_certificate : (words : List Text) (s : Shown) → shown_of words ≡ Some s → cert_of (Some s.asked) ≡ None
+pub no_certificate : (words : List Text) (s : ShownView) → shown_of words ≡ Some s → cert_of (Some s.asked) ≡ None
 no_certificate words s e =
-    subst (λ (o : Option Shown). IfSome o NamesNone) (sym (asked_is words) ∙ e)
-    (none_taken (fault_of command_line words) (shown_in (subcommand_of command_line words)) (none_in (subcommand_of command_line words)))
+    subst (λ (o : Option ShownView). IfSome o NamesNone) (sym (asked_is words) ∙ e)
+    (none_taken (fault_of view_command_line words) (shown_in (subcommand_of view_command_line words)) (none_in (subcommand_of view_command_line words)))
 
 -- ---- what is put
 
-nothing_stored : (s : Shown) (answer : Answer) → cert_of (Some s.asked) ≡ None → to_store (Some s.asked) answer ≡ None
-nothing_stored s answer e = ap (λ o. entry_of o (certificate_in answer)) e
+nothing_stored : (s : ShownView) (answer : Answer) → cert_of (Some s.asked) ≡ None → to_store (Some s.asked) answer ≡ None
+nothing_stored s answer e = ap (λ o. stored_entry_of o (certificate_in answer)) e
 
-put_alone : (e : Option Entry) (r : List ℕ) (meant : Status) (s : Stores) (p : Put) → e ≡ None → IsDone e r meant s p → IsPut r meant p
+put_alone : (e : Option StoreEntry) (r : List ℕ) (meant : Status) (s : StoreState) (p : Put) → e ≡ None → IsDone e r meant s p → IsPut r meant p
 put_alone e r meant s p none (Kept same k put) = put
 put_alone e r meant s p none (Stored x is stored put) = absurd (let bad : Some x ≡ None = sym is ∙ none in cc)
 put_alone e r meant s p none (Unstored x is stored put) = absurd (let bad : Some x ≡ None = sym is ∙ none in cc)
 
-kept_alone : (e : Option Entry) (s : Stores) → e ≡ None → Leaves e s → IsKept s
+kept_alone : (e : Option StoreEntry) (s : StoreState) → e ≡ None → Leaves e s → IsUnchangedStore s
 kept_alone e s none (LeftAlone k) = k
 kept_alone e s none (LeftStored x is stored) = absurd (let bad : Some x ≡ None = sym is ∙ none in cc)
 kept_alone e s none (LeftUnstored x is stored) = absurd (let bad : Some x ≡ None = sym is ∙ none in cc)
 
 -- what was put of an answer, over files that were loaded before
-pub shown : {E : Type 0} (s : Shown) (old mid now : FilesTold) (answer : Answer) (r : Result Status E) (p : Status → Put) → cert_of (Some s.asked) ≡ None → OnlyRead old mid
-    → NoneFell mid.faults now.faults → IsCorrectFrom (ShownFrom s.view) 0 (call (Some s.asked) old mid) answer → IfOk r (λ t. IsDoneFor (Some s.asked) answer (stores mid now) (p t))
+pub shown : {E : Type 0} (s : ShownView) (old mid now : FilesTold) (answer : Answer) (r : Result Status E) (p : Status → Put) → cert_of (Some s.asked) ≡ None
+    → OnlyRead old mid
+    → NoneFell mid.faults now.faults → IsCorrectFrom (ShownFrom s.view) 0 (call (Some s.asked) old mid) answer
+    → IfOk r (λ t. IsDoneFor (Some s.asked) answer (stores mid now) (p t))
     → IfOk r (λ t. IsShown s old now (p t))
 shown s old mid now answer (Ok t) p none read fell correct done = record {
   answer = answer;
@@ -76,10 +79,13 @@ shown s old mid now answer (Ok t) p none read fell correct done = record {
 }
 shown s old mid now answer (Err x) p none read fell correct done = tt
 
-pub kept : (s : Shown) (old mid now : FilesTold) (answer : Answer) → cert_of (Some s.asked) ≡ None → OnlyRead old mid → Leaves (to_store (Some s.asked) answer) (stores mid now) → IsKept (stores old now)
+pub kept : (s : ShownView) (old mid now : FilesTold) (answer : Answer) → cert_of (Some s.asked) ≡ None → OnlyRead old mid
+    → Leaves (to_store (Some s.asked) answer) (stores mid now) → IsUnchangedStore (stores old now)
 kept s old mid now answer none read leaves =
-    kept_alone (to_store (Some s.asked) answer) (stores old now) (nothing_stored s answer none) (leaves_since (to_store (Some s.asked) answer) old mid now read leaves)
+    kept_alone (to_store (Some s.asked) answer) (stores old now) (nothing_stored s answer none)
+    (leaves_since (to_store (Some s.asked) answer) old mid now read leaves)
 
 -- what is asked by words
-pub to_words : {E : Type 0} (s : Shown) (w : Option Shown) (old now : FilesTold) (r : Result Status E) (p : Status → Put) → w ≡ Some s → IfOk r (λ t. IsShown s old now (p t)) → IfOk r (λ t. PutsOf w old now (p t))
+pub to_words : {E : Type 0} (s : ShownView) (w : Option ShownView) (old now : FilesTold) (r : Result Status E) (p : Status → Put) → w ≡ Some s
+    → IfOk r (λ t. IsShown s old now (p t)) → IfOk r (λ t. PutsOf w old now (p t))
 to_words s w old now r p e h = subst (λ v. IfOk r (λ t. PutsOf v old now (p t))) (sym e) h

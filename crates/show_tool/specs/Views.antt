@@ -1,25 +1,25 @@
 -- Which answer each view gives.
-use Rattle.std.specs.Prelude.{◌≡◌, ℕ, false, List, ◌++◌, length, map}
+use Rattle.std.specs.Prelude.{◌≡◌, ℕ, false, List, ◌++◌, length}
 use Rattle.fs_model.specs.Machines.{Fsmd}
-use Rattle.bisimulation.specs.Tables.{Node}
+use Rattle.cert_bisimulation.specs.Tables.{Node}
 use Rattle.sym_facts.specs.Facts.{Fact}
-use Rattle.search.specs.Answers.{machines}
-use Rattle.pair_answers.specs.declared.answer.PairAnswer.{PairAnswer}
-use Rattle.pair_answers.specs.declared.answer.PairAnswer.TheVariants as pairs
-use Rattle.machine_pictures.specs.Pictures.{picture_of}
-use Rattle.search_views.specs.declared.why.Explanation.{Explanation}
-use Rattle.search_views.specs.Why.{IsExplanation}
-use Rattle.search_views.specs.Pictures.{IsPicture}
-use Rattle.inputs_text.specs.Files.{ShowsDifferenceOf}
-use Rattle.search_views.specs.Demands.{obligation_lines}
-use Rattle.command_answers.specs.declared.answer.Answer.{Answer}
-use Rattle.command_answers.specs.declared.answer.Answer.TheVariants.{Text, Differs, Undecided}
-use Rattle.command_answers.specs.Lines.{HasLines}
-use Rattle.command_answers.specs.Replies.{equivalent_text}
-use Rattle.command_answers.specs.Pairs.{IsOfPair}
-use Rattle.command_answers.specs.Verdicts.{IsJudged}
-use Rattle.command_answers.specs.Readings.{Reading}
-use Rattle.command_answers.specs.Follows.{Ends, OpensMachine, OpensPair, OpensCertificate}
+use Rattle.search.specs.SearchOutcomes.{machines}
+use Rattle.fsmd_pair_answers.specs.declared.answer.PairAnswer.{PairAnswer}
+use Rattle.fsmd_pair_answers.specs.declared.answer.PairAnswer.TheVariants as pairs
+use Rattle.show_machine_pictures.specs.Pictures.{picture_of}
+use Rattle.show_search_views.specs.declared.why.Explanation.{Explanation}
+use Rattle.show_search_views.specs.Why.{IsExplanation}
+use Rattle.show_search_views.specs.SearchPictures.{IsPicture}
+use Rattle.show_inputs_text.specs.InputTexts.{ShowsDifferenceOf}
+use Rattle.show_search_views.specs.Demands.{obligation_lines}
+use Rattle.fsmd_replies.specs.declared.answer.Answer.{Answer}
+use Rattle.fsmd_replies.specs.declared.answer.Answer.TheVariants.{Text, Differs, Undecided}
+use Rattle.fsmd_answers.specs.LineAnswers.{HasLines}
+use Rattle.fsmd_replies.specs.Replies.{equivalent_text}
+use Rattle.fsmd_answers.specs.MachinePairAnswers.{IsOfPair}
+use Rattle.fsmd_answers.specs.Verdicts.{IsJudged}
+use Rattle.fsmd_answers.specs.Readings.{Reading}
+use Rattle.fsmd_answers.specs.Follows.{Ends, OpensMachine, OpensPair, OpensCertificate}
 use Rattle.show_words.specs.declared.asking.View.{View}
 use Rattle.show_words.specs.declared.asking.View.TheVariants.{Machine, Pair, Why, Certificate, Inputs}
 

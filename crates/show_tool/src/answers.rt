@@ -3,25 +3,24 @@
 ghost use Rattle.std.specs.Prelude.{◌≡◌, ◌++◌, IfOk, None, false, map, string_bytes};
 ghost use Rattle.fs_pair.specs.Interfaces.{interface_fault};
 ghost use Rattle.fs_pair.specs.Positions.{positions};
-ghost use Rattle.certificates.specs.Lawful.{IsLawful};
-ghost use Rattle.certificates.specs.View.{node_of};
-ghost use Rattle.search.specs.Answers.{machines};
-ghost use Rattle.search_views.specs.Demands.{obligation_lines};
-ghost use Rattle.command_answers.specs.Pairs.{IsOfPair};
-ghost use Rattle.command_answers.specs.Replies.{equivalent_text};
+ghost use Rattle.cert_model.specs.Lawful.{IsLawful};
+ghost use Rattle.cert_model.specs.View.{node_of};
+ghost use Rattle.show_search_views.specs.Demands.{obligation_lines};
+ghost use Rattle.fsmd_answers.specs.MachinePairAnswers.{IsOfPair};
+ghost use Rattle.fsmd_replies.specs.Replies.{equivalent_text};
 ghost use Rattle.show_tool.specs.Views.{answer_behind, behind, IsOfPicture, IsOfWhy, IsOfInputs, IsOfCertificate};
 
-use certificates::cert::Cert;
-use command_answers::answer::{Answer, Lines};
-use command_answers::compare::compare;
-use command_answers::judge::judge;
+use cert_model::cert::Cert;
 use fs_ast::machine::Machine;
 use fs_pair::positions::Pairing;
-use inputs_text::differing::differing_inputs;
-use pair_answers::answer::PairAnswer;
-use search_views::obligations::obligation_lines;
-use search_views::pictures::search_picture;
-use search_views::why::{Explanation, explain};
+use fsmd_answers::compare::compare;
+use fsmd_answers::judge::judge;
+use fsmd_pair_answers::answer::PairAnswer;
+use fsmd_replies::answer::{Answer, Lines};
+use show_inputs_text::differing::differing_inputs;
+use show_search_views::obligations::obligation_lines;
+use show_search_views::pictures::search_picture;
+use show_search_views::why::{Explanation, explain};
 use std::alloc::{AllocError, Global};
 
 // The most steps of a run from a candidate, where `check` is told none.

@@ -3,21 +3,21 @@
 ghost use Rattle.std.specs.Prelude.{◌≡◌, ◌≤◌, None, Some, IfOk};
 ghost use Rattle.std.specs.Result.{OnErr};
 ghost use Rattle.fs_base.specs.Outside.{NoneFell};
-ghost use Rattle.command_answers.specs.Words.{cert_of};
+ghost use Rattle.fsmd_replies.specs.AskedFiles.{cert_of};
 ghost use Rattle.fsmd_tool.specs.Calls.{call, OnlyRead, IsCorrectFrom};
-ghost use Rattle.fsmd_tool.specs.Puts.{put};
-ghost use Rattle.fsmd_tool.specs.Stores.{stores, IsKept};
-ghost use Rattle.show_words.specs.Words.{shown};
+ghost use Rattle.fsmd_tool.specs.SinkReplies.{put};
+ghost use Rattle.fsmd_tool.specs.CertificateStores.{stores, IsUnchangedStore};
+ghost use Rattle.show_words.specs.ViewWords.{shown};
 ghost use Rattle.show_tool.specs.Views.{ShownFrom};
-ghost use Rattle.show_tool.specs.Shows.{shown_in, IsShown, Outcome, PutsOf};
+ghost use Rattle.show_tool.specs.ViewCalls.{shown_by_words, IsShown, ViewOutcome, PutsOf};
 
 use crate::put::put_usage;
 use crate::views::answer_view;
-use command_answers::answer::{Answer, Status};
-use command_answers::refused::Refused;
-use command_words::asking::AskError;
 use fs_base::outside::{Files, Sink};
+use fsmd_answers::refused::Refused;
+use fsmd_replies::answer::{Answer, Status};
 use fsmd_tool::put::put_answer;
+use fsmd_words::asking::AskError;
 use show_words::asking::Show;
 use show_words::words::show;
 use std::alloc::{AllocError, Global};
@@ -46,7 +46,7 @@ fn put_shown<F: Files, S: Sink>(
     ensures shown { IfOk result (λ status. IsShown (shown show.now) (F.told files.old) (F.told files.new)
         (put status (S.told out.old) (S.told out.new))) }
     ensures err { OnErr result ((S.told out.new).got ≡ (S.told out.old).got) }
-    ensures kept { IsKept (stores (F.told files.old) (F.told files.new)) }
+    ensures kept { IsUnchangedStore (stores (F.told files.old) (F.told files.new)) }
     ensures counts { NoneFell (F.told files.old).faults (F.told files.new).faults }
     ensures sink_counts { (S.told out.old).faults ≤ (S.told out.new).faults }
 {
@@ -61,10 +61,10 @@ fn put_reply<F: Files, S: Sink>(
     files: &mut F,
     out: &mut S,
 ) -> Result<Status, AllocError>
-    ensures shown { IfOk result (λ status. PutsOf (shown_in words.now) (F.told files.old) (F.told files.new)
+    ensures shown { IfOk result (λ status. PutsOf (shown_by_words words.now) (F.told files.old) (F.told files.new)
         (put status (S.told out.old) (S.told out.new))) }
     ensures err { OnErr result ((S.told out.new).got ≡ (S.told out.old).got) }
-    ensures kept { IsKept (stores (F.told files.old) (F.told files.new)) }
+    ensures kept { IsUnchangedStore (stores (F.told files.old) (F.told files.new)) }
     ensures counts { NoneFell (F.told files.old).faults (F.told files.new).faults }
     ensures sink_counts { (S.told out.old).faults ≤ (S.told out.new).faults }
 {
@@ -86,9 +86,9 @@ pub fn drive_show<F: Files, S: Sink>(
     files: &mut F,
     out: &mut S,
 ) -> Status
-    ensures outcome { Outcome (shown_in words.now) (F.told files.old) (F.told files.new)
+    ensures outcome { ViewOutcome (shown_by_words words.now) (F.told files.old) (F.told files.new)
         (put result (S.told out.old) (S.told out.new)) }
-    ensures kept { IsKept (stores (F.told files.old) (F.told files.new)) }
+    ensures kept { IsUnchangedStore (stores (F.told files.old) (F.told files.new)) }
     ensures counts { NoneFell (F.told files.old).faults (F.told files.new).faults }
     ensures sink_counts { (S.told out.old).faults ≤ (S.told out.new).faults }
 {

@@ -2,11 +2,12 @@
 //! `drive_show`.
 
 ghost use Rattle.std.specs.Prelude.{◌≡◌, ◌⊎◌};
-ghost use Rattle.command_answers.specs.declared.answer.Status.TheVariants.{NoMemory, Fault};
+ghost use Rattle.fsmd_replies.specs.declared.answer.Status.TheVariants.{NoMemory, Fault};
 
 use crate::drive::drive_show;
-use command_answers::answer::Status;
-use fs_base::disk::{DiskFiles, StdSink};
+use fs_base::disk::DiskFiles;
+use fs_base::writers::WriterSink;
+use fsmd_replies::answer::Status;
 use std::rt::Runtime;
 use std::{env, io};
 
@@ -33,7 +34,7 @@ pub fn run_program<R: Runtime + AllocGlobal>(rt: &R) -> Status {
             rt.alloc(),
             words.as_slice(),
             &mut DiskFiles::new(rt),
-            &mut StdSink::new(rt),
+            &mut WriterSink::new(io::writer(rt)),
         ),
         Err(error) => status_without_words(&error),
     }

@@ -3,13 +3,13 @@
 ghost use Rattle.std.specs.Prelude.{◌≡◌, ◌≤◌, IfOk, IsTrue};
 ghost use Rattle.std.specs.Result.{OnErr};
 ghost use Rattle.fs_base.specs.Outside.{HasRoom};
-ghost use Rattle.command_answers.specs.declared.answer.Status.TheVariants.{Usage};
-ghost use Rattle.fsmd_tool.specs.Puts.{IsPut, put};
-ghost use Rattle.show_tool.specs.Shows.{usage_text};
+ghost use Rattle.fsmd_replies.specs.declared.answer.Status.TheVariants.{Usage};
+ghost use Rattle.fsmd_tool.specs.SinkReplies.{IsPut, put};
+ghost use Rattle.show_tool.specs.ViewCalls.{usage_text};
 
-use command_answers::answer::Status;
 use fs_base::outside::Sink;
 use fs_base::put_all::put_all;
+use fsmd_replies::answer::Status;
 use std::alloc::AllocError;
 
 const USAGE: &str =

@@ -1,26 +1,26 @@
 //! What each view answers, from its files.
 
 ghost use Rattle.std.specs.Prelude.{◌≡◌, None, Some};
-ghost use Rattle.command_words.specs.Words.{asked};
+ghost use Rattle.fsmd_words.specs.AskedWords.{asked};
 ghost use Rattle.fs_pair.specs.Interfaces.{interface_fault};
 ghost use Rattle.fs_pair.specs.Positions.{positions};
-ghost use Rattle.machine_pictures.specs.Pictures.{picture_of};
-ghost use Rattle.command_answers.specs.declared.answer.Answer.TheVariants.{Text};
-ghost use Rattle.command_answers.specs.Follows.{Ends, OpensPair, OpensMachine, OpensCertificate};
+ghost use Rattle.show_machine_pictures.specs.Pictures.{picture_of};
+ghost use Rattle.fsmd_replies.specs.declared.answer.Answer.TheVariants.{Text};
+ghost use Rattle.fsmd_answers.specs.Follows.{Ends, OpensPair, OpensMachine, OpensCertificate};
 ghost use Rattle.fsmd_tool.specs.Calls.{call, OnlyRead, IsCorrectFrom, AnswersBy};
-ghost use Rattle.show_words.specs.Words.{shown};
+ghost use Rattle.show_words.specs.ViewWords.{shown};
 ghost use Rattle.show_tool.specs.Views.{IsOfPicture, IsOfWhy, IsOfInputs, IsOfCertificate, ShownFrom};
 
 use crate::answers::{certificate_of, differing_machines, picture_machines, why_machines};
-use command_answers::answer::{Answer, Lines, Operand};
-use command_answers::refused::Refused;
-use command_words::asking::Ask;
 use fs_ast::machine::Machine;
 use fs_base::outside::Files;
 use fs_pair::positions::Pairing;
+use fsmd_answers::refused::Refused;
+use fsmd_replies::answer::{Answer, Lines, Operand};
 use fsmd_tool::load::{load_certificate, load_machine};
 use fsmd_tool::pair::{Pair, load_pair};
-use machine_pictures::pictures::picture_of;
+use fsmd_words::asking::Ask;
+use show_machine_pictures::pictures::picture_of;
 use show_words::asking::{Show, View};
 use std::alloc::Global;
 

@@ -1,4 +1,1 @@
-mod Added
-mod Matches
 pub mod Named
-mod Plain

@@ -1,3 +1,3 @@
-pub mod CommandLine
-pub mod Words
-pub mod Examples
+pub mod ViewCommandLine
+pub mod ViewWords
+pub mod ViewExamples

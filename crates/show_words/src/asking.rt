@@ -1,9 +1,9 @@
 //! What is asked to be shown.
 
-use command_words::asking::Ask;
+use fsmd_words::asking::Ask;
 
 /// What is shown.
-#[derive(Clone, Copy, Debug, PartialEq, Eq)]
+#[derive(Clone, Copy)]
 pub enum View {
     /// `machine A`: the picture of a machine.
     Machine,

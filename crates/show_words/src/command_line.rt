@@ -3,7 +3,7 @@
 ghost use Rattle.std.specs.Prelude.{◌≡◌, IfOk, IsOkAnd, false};
 ghost use Rattle.clap.specs.Words.{app_of, shape_of, with_subcommand};
 ghost use Rattle.clap.specs.declared.builder.command.Command.TheViews.{out-Command};
-ghost use Rattle.show_words.specs.CommandLine.{alone, command_line, program_alone};
+ghost use Rattle.show_words.specs.ViewCommandLine.{view_command_alone, view_command_line, view_program_alone};
 
 use crate::commands::{certificate, machine, pair};
 use clap::Command;
@@ -11,7 +11,7 @@ use std::alloc::{AllocError, Global};
 
 // The command line before its commands are added.
 fn program<'a>(alloc: Global) -> Command<'a>
-    ensures { app_of result ≡ alone program_alone }
+    ensures { app_of result ≡ view_command_alone view_program_alone }
 {
     Command::new(alloc, "fsmd_show")
         .no_binary_name(true)
@@ -33,7 +33,7 @@ fn with_command<'a>(
 
 /// The whole command line: the words after the program's name.
 pub fn command_line<'a>(alloc: Global) -> Result<Command<'a>, AllocError>
-    ensures { IfOk result (λ command. app_of command ≡ command_line) }
+    ensures { IfOk result (λ command. app_of command ≡ view_command_line) }
 {
     let line = with_command(program(alloc), machine(alloc))?;
     let line = with_command(line, pair(alloc, "pair"))?;

@@ -2,21 +2,21 @@
 
 ghost use Rattle.std.specs.Prelude.{List, IsSome};
 ghost use Rattle.clap.specs.Words.{Text};
-ghost use Rattle.show_words.specs.Examples.{PlainWordsAreFiles, RefusedExamples};
-ghost use Rattle.show_words.specs.Words.{AreTaken, shown_of};
+ghost use Rattle.show_words.specs.ViewExamples.{PlainWordsAreViewFiles, RefusedViewExamples};
+ghost use Rattle.show_words.specs.ViewWords.{AreTakenAsView, shown_of};
 
 /// Words ask to see something exactly where they are taken.
 pub fn taken_words_show()
-    ensures taken { (words : List Text) → AreTaken words → IsSome (shown_of words) }
-    ensures refused { (words : List Text) → IsSome (shown_of words) → AreTaken words }
+    ensures taken { (words : List Text) → AreTakenAsView words → IsSome (shown_of words) }
+    ensures refused { (words : List Text) → IsSome (shown_of words) → AreTakenAsView words }
 {}
 
 /// Words that begin with no hyphen are the files of a view, in their order.
 pub fn plain_words_are_files()
-    ensures { PlainWordsAreFiles }
+    ensures { PlainWordsAreViewFiles }
 {}
 
 /// Examples of words that are refused, and why.
 pub fn examples_are_refused()
-    ensures { RefusedExamples }
+    ensures { RefusedViewExamples }
 {}

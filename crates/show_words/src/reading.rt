@@ -2,17 +2,17 @@
 
 ghost use Rattle.std.specs.Prelude.{◌≡◌, IfOk, IfErr, Some, None};
 ghost use Rattle.clap.specs.Words.{found_of, rows_of};
-ghost use Rattle.command_words.specs.declared.asking.AskError.TheVariants.{Usage};
-ghost use Rattle.show_words.specs.Words.{certificate_of, machine_of, pair_of, shown, shown_by};
+ghost use Rattle.fsmd_words.specs.declared.asking.AskError.TheVariants.{Usage};
+ghost use Rattle.show_words.specs.ViewWords.{certificate_of, machine_view_of, pair_view_of, shown, shown_by};
 
 use crate::asking::{Show, View};
 use crate::matched::word;
 use clap::ArgMatches;
-use command_words::asking::{Ask, AskError};
+use fsmd_words::asking::{Ask, AskError};
 use std::alloc::{AllocError, Global};
 
 fn machine(alloc: Global, found: &ArgMatches) -> Result<Show, AllocError>
-    ensures { IfOk result (λ show. shown show ≡ machine_of (rows_of (found_of found.now))) }
+    ensures { IfOk result (λ show. shown show ≡ machine_view_of (rows_of (found_of found.now))) }
 {
     let ask = Ask::Fmt {
         machine: word(alloc, found, "machine")?,
@@ -25,7 +25,7 @@ fn machine(alloc: Global, found: &ArgMatches) -> Result<Show, AllocError>
 
 // A view of two machines, of which `check` is asked.
 fn pair(alloc: Global, view: View, found: &ArgMatches) -> Result<Show, AllocError>
-    ensures { IfOk result (λ show. shown show ≡ pair_of view (rows_of (found_of found.now))) }
+    ensures { IfOk result (λ show. shown show ≡ pair_view_of view (rows_of (found_of found.now))) }
 {
     let ask = Ask::Check {
         left: word(alloc, found, "left")?,

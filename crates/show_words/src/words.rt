@@ -1,14 +1,14 @@
 //! The words of the command line.
 
 ghost use Rattle.std.specs.Prelude.{◌≡◌, IfOk, IfErr, None, Some, map, string_bytes};
-ghost use Rattle.command_words.specs.declared.asking.AskError.TheVariants as errors;
-ghost use Rattle.show_words.specs.Words.{shown, shown_of};
+ghost use Rattle.fsmd_words.specs.declared.asking.AskError.TheVariants as errors;
+ghost use Rattle.show_words.specs.ViewWords.{shown, shown_of};
 
 use crate::asking::Show;
 use crate::command_line::command_line;
 use crate::reading::read;
 use clap::error::ErrorKind;
-use command_words::asking::AskError;
+use fsmd_words::asking::AskError;
 use std::alloc::Global;
 
 /// What the words after the program's name ask to see.

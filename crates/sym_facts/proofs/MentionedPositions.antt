@@ -1,24 +1,27 @@
 -- The positions that a fact mentions are those of its symbols.
-use Rattle.std.proofs.Common.{◌≡◌, ℕ, ◌+◌, ◌<◌, ◌≤◌, ◌==◌, Bool, true, false, not, ◌&&◌, ◌||◌, cond, refl, ap, ap₂, sym, ◌∙◌, List, [], ◌∷◌, ◌++◌, length, set, get_or, Option, Some, None, arith}
+use Rattle.std.proofs.Common.{◌≡◌, ℕ, ◌+◌, ◌<◌, ◌≤◌, ◌==◌, Bool, true, false, not, ◌&&◌, ◌||◌, cond, refl, ap, ap₂, sym, ◌∙◌, List, [], ◌∷◌, ◌++◌, length, set}
+use Rattle.std.proofs.Common.{get_or, Option, Some, None, arith}
 use Rattle.std.specs.Prelude.{is_none, slice_index_or}
 use Rattle.std.specs.List.{list_all, list_any, position_from}
 use Rattle.std.proofs.lemmas.Bool.{eqb-true, eqb-false}
 use Rattle.std.proofs.lemmas.Grind.{get_or-set_at}
 use Rattle.std.proofs.lemmas.List.{length-set, get_or-set_other, length-replicate, get_or-replicate}
 use Rattle.std.proofs.lemmas.List.Folds.{list_all-append}
+use Rattle.base_lemmas.proofs.Booleans.{or_false, or_true}
 use Rattle.nf_terms.specs.Forms.{mentions_form}
 use Rattle.nf_terms.specs.Mentions.{same_side, same_pos, mentions}
 use Rattle.nf_terms.specs.declared.symbols.Sort.{Sort}
-use Rattle.nf_terms.specs.declared.tree.Pos.{Pos}
-use Rattle.nf_terms.specs.declared.tree.Side.{Side}
-use Rattle.nf_terms.specs.declared.tree.Side.TheVariants.{Left, Right}
+use Rattle.fs_model.specs.declared.sides.Pos.{Pos}
+use Rattle.fs_model.specs.declared.sides.Side.{Side}
+use Rattle.fs_model.specs.declared.sides.Side.TheVariants.{Left, Right}
 use Rattle.nf_terms.specs.declared.form.Nf.{Nf}
-use Rattle.nf_symbols.specs.Tests.{is_other}
+use Rattle.nf_symbols.specs.SymbolTests.{is_other}
 use Rattle.nf_symbols.proofs.Mentioned.{form_other, number_other}
 use Rattle.nf_rel.specs.Literals.{NormalLiteral, True, False, Is}
 use Rattle.sym_facts.specs.Facts.{FactPosition, Fact, equation_mentions, literal_mentions, is_mentioned, is_unsolved}
-use Rattle.sym_facts.specs.Parts.{first_unsolved}
-use Rattle.sym_facts.specs.PositionSets.{PositionSet, on_side, has, empty_set, with_number, with_position, with_symbols, symbols_of_equation, symbols_of_equations, symbols_of_literal, symbols_of_literals, bound_of, mentioned_below, is_unsolved_in}
+use Rattle.sym_facts.specs.FactParts.{first_unsolved}
+use Rattle.sym_facts.specs.PositionSets.{PositionSet, on_side, has_position, empty_set, with_number, with_position, with_symbols, symbols_of_equation}
+use Rattle.sym_facts.specs.PositionSets.{symbols_of_equations, symbols_of_literal, symbols_of_literals, bound_of, mentioned_below, is_unsolved_in}
 
 -- the positions of two lists of symbols, those of one after those of the other
 pub joined : (s : PositionSet) (xs ys : List (Pos × Sort)) → with_symbols s (xs ++ ys) ≡ with_symbols (with_symbols s xs) ys
@@ -26,16 +29,9 @@ joined s [] ys = refl
 joined s (x ∷ xs) ys = joined (with_position s x.0) xs ys
 
 -- the positions of two parts, added one after the other
-pub added : (old middle new : PositionSet) (xs ys all : List (Pos × Sort)) → all ≡ xs ++ ys → middle ≡ with_symbols old xs → new ≡ with_symbols middle ys → new ≡ with_symbols old all
+pub added : (old middle new : PositionSet) (xs ys all : List (Pos × Sort)) → all ≡ xs ++ ys → middle ≡ with_symbols old xs → new ≡ with_symbols middle ys
+    → new ≡ with_symbols old all
 added old middle new xs ys all whole e f = f ∙ ap (λ s. with_symbols s ys) e ∙ sym (joined old xs ys) ∙ ap (with_symbols old) (sym whole)
-
-or_false : (b : Bool) → b || false ≡ b
-or_false true = refl
-or_false false = refl
-
-or_true : (b : Bool) → b || true ≡ true
-or_true true = refl
-or_true false = refl
 
 twice : (b : Bool) → not (not b) ≡ b
 twice true = refl
@@ -59,7 +55,8 @@ number_more xs k j h = by_test (j == k) refl
     by_test true e = let same : j ≡ k = eqb-true j k e in get_or-set_at xs k j true false same (omega (arith, h, same)) ∙ sym (or_true (get_or xs j false))
     by_test false e = get_or-set_other xs k j true false (eqb-false j k e) ∙ sym (or_false (get_or xs j false))
 
-side_more : (s : PositionSet) (d e : Side) (k j : ℕ) → j < length (on_side e s) → slice_index_or (on_side e (with_number s d k)) j false ≡ (slice_index_or (on_side e s) j false || (same_side e d && (j == k)))
+side_more : (s : PositionSet) (d e : Side) (k j : ℕ) → j < length (on_side e s)
+    → slice_index_or (on_side e (with_number s d k)) j false ≡ (slice_index_or (on_side e s) j false || (same_side e d && (j == k)))
 side_more s Left Left k j h = number_more s.left k j h
 side_more s Left Right k j h = sym (or_false (get_or s.right j false))
 side_more s Right Left k j h = sym (or_false (get_or s.left j false))
@@ -73,13 +70,14 @@ same_bound s Right Right k = length-set s.right k true
 
 -- ---- the positions of symbols
 
-symbols_more : (s : PositionSet) (xs : List (Pos × Sort)) (p : Pos) → p.var < length (on_side p.side s) → has (with_symbols s xs) p ≡ (has s p || not (list_all (is_other p) xs))
-symbols_more s [] p h = sym (or_false (has s p))
+symbols_more : (s : PositionSet) (xs : List (Pos × Sort)) (p : Pos) → p.var < length (on_side p.side s)
+    → has_position (with_symbols s xs) p ≡ (has_position s p || not (list_all (is_other p) xs))
+symbols_more s [] p h = sym (or_false (has_position s p))
 symbols_more s (x ∷ xs) p h =
     let within : p.var < length (on_side p.side (with_position s x.0)) = omega (arith, h, same_bound s x.0.side p.side x.0.var) in
     symbols_more (with_position s x.0) xs p within
     ∙ ap (λ b. b || not (list_all (is_other p) xs)) (side_more s x.0.side p.side x.0.var p.var h)
-    ∙ regrouped (has s p) (same_pos p x.0) (list_all (is_other p) xs)
+    ∙ regrouped (has_position s p) (same_pos p x.0) (list_all (is_other p) xs)
 
 symbols_bound : (s : PositionSet) (xs : List (Pos × Sort)) (e : Side) → length (on_side e (with_symbols s xs)) ≡ length (on_side e s)
 symbols_bound s [] e = refl
@@ -104,7 +102,8 @@ equations_are p [] = refl
 equations_are p (q ∷ qs) =
     let here = list_all (is_other p) (symbols_of_equation q.equation) in
     let others = list_all (is_other p) (symbols_of_equations qs) in
-    ap not (list_all-append (is_other p) (symbols_of_equation q.equation) (symbols_of_equations qs)) ∙ either here others ∙ ap₂ (λ a b. a || b) (equation_is p q.equation) (equations_are p qs)
+    ap not (list_all-append (is_other p) (symbols_of_equation q.equation) (symbols_of_equations qs)) ∙ either here others
+    ∙ ap₂ (λ a b. a || b) (equation_is p q.equation) (equations_are p qs)
 
 literal_is : (p : Pos) (l : NormalLiteral) → not (list_all (is_other p) (symbols_of_literal l)) ≡ literal_mentions p l
 literal_is p True = refl
@@ -116,9 +115,10 @@ literals_are p [] = refl
 literals_are p (l ∷ ls) =
     let here = list_all (is_other p) (symbols_of_literal l) in
     let others = list_all (is_other p) (symbols_of_literals ls) in
-    ap not (list_all-append (is_other p) (symbols_of_literal l) (symbols_of_literals ls)) ∙ either here others ∙ ap₂ (λ a b. a || b) (literal_is p l) (literals_are p ls)
+    ap not (list_all-append (is_other p) (symbols_of_literal l) (symbols_of_literals ls)) ∙ either here others
+    ∙ ap₂ (λ a b. a || b) (literal_is p l) (literals_are p ls)
 
-mentioned : (f : Fact) (bound : ℕ) (p : Pos) → p.var < bound → has (mentioned_below bound f) p ≡ is_mentioned f p
+mentioned : (f : Fact) (bound : ℕ) (p : Pos) → p.var < bound → has_position (mentioned_below bound f) p ≡ is_mentioned f p
 mentioned f bound p h =
     let xs = symbols_of_equations f.positions in
     let ys = symbols_of_literals f.literals in
@@ -126,12 +126,15 @@ mentioned f bound p h =
     let within : p.var < length (on_side p.side none) = omega (arith, h, empty_bound bound p.side) in
     let still : p.var < length (on_side p.side (with_symbols none xs)) = omega (arith, within, symbols_bound none xs p.side) in
     symbols_more (with_symbols none xs) ys p still
-    ∙ ap₂ (λ a b. a || b) (symbols_more none xs p within ∙ ap₂ (λ a b. a || b) (none_in_empty bound p.side p.var h) (equations_are p f.positions)) (literals_are p f.literals)
+    ∙ ap₂ (λ a b. a || b) (symbols_more none xs p within ∙ ap₂ (λ a b. a || b) (none_in_empty bound p.side p.var h) (equations_are p f.positions))
+    (literals_are p f.literals)
 
-same_first : (f : Fact) (bound k : ℕ) (qs : List FactPosition) → bound_of qs ≤ bound → position_from (is_unsolved_in (mentioned_below bound f)) k qs ≡ position_from (is_unsolved f) k qs
+same_first : (f : Fact) (bound k : ℕ) (qs : List FactPosition) → bound_of qs ≤ bound
+    → position_from (is_unsolved_in (mentioned_below bound f)) k qs ≡ position_from (is_unsolved f) k qs
 same_first f bound k [] h = refl
 same_first f bound k (q ∷ qs) h =
-    ap₂ (λ b o. cond {A = Option ℕ} (not (is_none q.equation) && b) (Some k) o) (mentioned f bound q.pos (omega (arith, h))) (same_first f bound (k + 1) qs (omega (arith, h)))
+    ap₂ (λ b o. cond {A = Option ℕ} (not (is_none q.equation) && b) (Some k) o) (mentioned f bound q.pos (omega (arith, h)))
+    (same_first f bound (k + 1) qs (omega (arith, h)))
 
 -- the first position that is unsolved by the positions that a fact mentions is the fact's
 pub first_is : (f : Fact) → position_from (is_unsolved_in (mentioned_below (bound_of f.positions) f)) 0 f.positions ≡ first_unsolved f

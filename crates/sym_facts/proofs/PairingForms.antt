@@ -1,23 +1,24 @@
 -- What is substituted has the symbols of the vector's forms.
 use Rattle.std.proofs.Common.{◌≡◌, Bool, true, false, cond, refl, ap, sym, ◌∙◌, List, [], ◌∷◌, Option, Some, None}
 use Rattle.std.specs.List.{list_all}
-use Rattle.nf_terms.specs.Terms.{polynomial_of_symbol, bare_array}
+use Rattle.std.proofs.lemmas.Bool.{and_from}
+use Rattle.base_lemmas.proofs.Booleans.{and_first, and_second}
+use Rattle.nf_terms.specs.NormalTerms.{polynomial_of_symbol, bare_array}
 use Rattle.nf_terms.specs.Lists.{bare_list}
 use Rattle.nf_terms.specs.Symbols.{symbols_of, symbols_of_array, symbols_of_list}
 use Rattle.nf_terms.specs.Computed.{Done, after}
 use Rattle.nf_terms.specs.declared.symbols.Sort.{Sort}
 use Rattle.nf_terms.specs.declared.symbols.Sort.TheVariants as sort
-use Rattle.nf_terms.specs.declared.tree.Pos.{Pos}
+use Rattle.fs_model.specs.declared.sides.Pos.{Pos}
 use Rattle.nf_terms.specs.declared.tree.Base.TheVariants as base
 use Rattle.nf_terms.specs.declared.tree.SeqBase.TheVariants as list
 use Rattle.nf_terms.specs.declared.form.Nf.{Nf}
 use Rattle.nf_terms.specs.declared.form.Nf.TheVariants.{Num, Arr, Seq}
-use Rattle.nf_terms.proofs.Tests.{and_left, and_right, and_both}
 use Rattle.nf_sums.specs.Operations.{number}
 use Rattle.nf_sums.proofs.Values.{goes_done}
-use Rattle.nf_subst.specs.Vectors.{is_at, form_at, number_or, array_or, list_or}
+use Rattle.nf_subst.specs.Vectors.{is_entry_at, form_at, number_or, array_or, list_or}
 use Rattle.nf_subst.specs.Substitution.{substituted, array_substituted, list_substituted}
-use Rattle.nf_symbols.specs.Tests.{LeadsTo}
+use Rattle.nf_symbols.specs.SymbolTests.{LeadsTo}
 use Rattle.nf_symbols.proofs.Results.{number_done_within}
 use Rattle.nf_symbols.proofs.Substituted.{polynomial_over, array_term_over, list_over}
 use Rattle.nf_rel.specs.Literals.{NormalLiteral, True, False, Is, literal}
@@ -34,14 +35,14 @@ module _ (test : Pos × Sort → Bool) where
 
   found_in : (s : Sort) (p : Pos) (v : List (Pos × Nf)) → list_all (λ e. form_within test e.1) v ≡ true → FoundIn (form_at s p v)
   found_in s p [] h = tt
-  found_in s p (e ∷ v) h = by_test (is_at s p e) (found_in s p v (and_right (form_within test e.1) (list_all (λ x. form_within test x.1) v) h))
+  found_in s p (e ∷ v) h = by_test (is_entry_at s p e) (found_in s p v (and_second (form_within test e.1) (list_all (λ x. form_within test x.1) v) h))
     where
       by_test : (b : Bool) → FoundIn (form_at s p v) → FoundIn (cond b (Some e.1) (form_at s p v))
-      by_test true i = and_left (form_within test e.1) (list_all (λ x. form_within test x.1) v) h
+      by_test true i = and_first (form_within test e.1) (list_all (λ x. form_within test x.1) v) h
       by_test false i = i
 
   own_in : (p : Pos) (s : Sort) → test (p, s) ≡ true → list_all test ((p, s) ∷ []) ≡ true
-  own_in p s h = and_both (test (p, s)) true h refl
+  own_in p s h = and_from (test (p, s)) true h refl
 
   number_in : (p : Pos) (o : Option Nf) → test (p, sort.Scalar) ≡ true → FoundIn o → list_all test (symbols_of (number_or (polynomial_of_symbol p) o)) ≡ true
   number_in p None h i = own_in p sort.Scalar h
@@ -49,7 +50,8 @@ module _ (test : Pos × Sort → Bool) where
   number_in p (Some (Arr a)) h i = own_in p sort.Scalar h
   number_in p (Some (Seq l)) h i = own_in p sort.Scalar h
 
-  array_in : (p : Pos) (o : Option Nf) → test (p, sort.Array) ≡ true → FoundIn o → list_all test (symbols_of_array (array_or (bare_array (base.Sym p)) o)) ≡ true
+  array_in : (p : Pos) (o : Option Nf) → test (p, sort.Array) ≡ true → FoundIn o
+      → list_all test (symbols_of_array (array_or (bare_array (base.Sym p)) o)) ≡ true
   array_in p None h i = own_in p sort.Array h
   array_in p (Some (Num q)) h i = own_in p sort.Array h
   array_in p (Some (Arr a)) h i = i

@@ -2,12 +2,13 @@
 use Rattle.std.proofs.Common.{◌≡◌, ℕ, zero, suc, List, [], ◌∷◌, map, ap, ap₂, sym, refl, ◌∙◌, arith, Some, None, Bool, true, false}
 use Rattle.std.specs.Prelude.{not, ◌&&◌, ◌||◌, is_none, slice_get}
 use Rattle.std.specs.List.{list_all, list_any}
+use Rattle.std.proofs.lemmas.Bool.{or_from, or_left, and_from, or_right}
 use Rattle.fs_model.specs.declared.parts.Role.{Role}
 use Rattle.fs_model.specs.declared.parts.Role.TheVariants.{Input, Output, Local}
 use Rattle.fs_model.specs.declared.parts.Sort.{Sort}
 use Rattle.fs_model.specs.declared.parts.Sort.TheVariants.{Scalar, Array, Port}
 use Rattle.fs_model.specs.Machines.{Fsmd}
-use Rattle.fs_ast.specs.Sound.{IsSound}
+use Rattle.fs_ast.specs.SoundMachines.{IsSound}
 use Rattle.fs_pair.specs.declared.positions.Position.{Position}
 use Rattle.fs_pair.specs.Interfaces.{interface_fault}
 use Rattle.fs_pair.specs.Positions.{positions}
@@ -17,10 +18,9 @@ use Rattle.nf_terms.specs.Mentions.{same_pos}
 use Rattle.nf_terms.specs.Forms.{mentions_form, sort_of_form}
 use Rattle.nf_terms.specs.declared.form.Nf.{Nf}
 use Rattle.nf_terms.specs.declared.symbols.Sort.{Sort as TermSort}
-use Rattle.nf_terms.specs.declared.tree.Pos.{Pos}
-use Rattle.nf_terms.specs.declared.tree.Side.{Side}
-use Rattle.nf_terms.specs.declared.tree.Side.TheVariants as side
-use Rattle.nf_terms.proofs.Tests.{and_both, or_left, or_right}
+use Rattle.fs_model.specs.declared.sides.Pos.{Pos}
+use Rattle.fs_model.specs.declared.sides.Side.{Side}
+use Rattle.fs_model.specs.declared.sides.Side.TheVariants as side
 use Rattle.nf_subst.specs.Vectors.{same_sort}
 use Rattle.nf_subst.specs.SamePlaces.{pos_equal, own_pos, own_sort}
 use Rattle.sym_facts.specs.Facts.{sort_of_terms, own_symbol, form_or_symbol, vector_of, equation_mentions, is_mentioned, is_unsolved, has_its_sort, IsFact}
@@ -29,17 +29,15 @@ use Rattle.sym_facts.specs.Starts.{zero_of, start_form, partner_in, start_positi
 use Rattle.sym_facts.proofs.StartHolds.{left_side, partner_is_input, by_form}
 
 -- ---- lists
-all_mapped : {X : Type 0} (f : Position → X) (test : X → Bool) (ps : List Position) → ((k : ℕ) (p : Position) → slice_get ps k ≡ Some p → test (f p) ≡ true) → list_all test (map f ps) ≡ true
+all_mapped : {X : Type 0} (f : Position → X) (test : X → Bool) (ps : List Position) → ((k : ℕ) (p : Position) → slice_get ps k ≡ Some p → test (f p) ≡ true)
+    → list_all test (map f ps) ≡ true
 all_mapped f test [] h = refl
-all_mapped f test (p ∷ ps) h = and_both _ _ (h 0 p refl) (all_mapped f test ps (λ k q e. h (suc k) q e))
+all_mapped f test (p ∷ ps) h = and_from _ _ (h 0 p refl) (all_mapped f test ps (λ k q e. h (suc k) q e))
 
-none_mapped : {X : Type 0} (f : Position → X) (test : X → Bool) (ps : List Position) → ((k : ℕ) (p : Position) → slice_get ps k ≡ Some p → test (f p) ≡ false) → list_any test (map f ps) ≡ false
+none_mapped : {X : Type 0} (f : Position → X) (test : X → Bool) (ps : List Position) → ((k : ℕ) (p : Position) → slice_get ps k ≡ Some p → test (f p) ≡ false)
+    → list_any test (map f ps) ≡ false
 none_mapped f test [] h = refl
-none_mapped f test (p ∷ ps) h = neither (test (f p)) (list_any test (map f ps)) (h 0 p refl) (none_mapped f test ps (λ k q e. h (suc k) q e))
-  where
-    neither : (x y : Bool) → x ≡ false → y ≡ false → x || y ≡ false
-    neither true y e g = absurd (cc e)
-    neither false y e g = g
+none_mapped f test (p ∷ ps) h = or_from (test (f p)) (list_any test (map f ps)) (h 0 p refl) (none_mapped f test ps (λ k q e. h (suc k) q e))
 
 mapped_twice : {X Y Z : Type 0} (f : X → Y) (g : Y → Z) (xs : List X) → map g (map f xs) ≡ map (λ x. g (f x)) xs
 mapped_twice f g [] = refl
@@ -50,7 +48,7 @@ same_mapped f g [] h = refl
 same_mapped f g (p ∷ ps) h = ap₂ (λ x l. x ∷ l) (h 0 p refl) (same_mapped f g ps (λ k q e. h (suc k) q e))
 
 -- ---- forms of a sort
-own_sort_of : (s : Sort) (p : Pos) → sort_of_form (own_symbol s p) ≡ sort_of_terms s
+pub own_sort_of : (s : Sort) (p : Pos) → sort_of_form (own_symbol s p) ≡ sort_of_terms s
 own_sort_of Scalar p = refl
 own_sort_of Array p = refl
 own_sort_of Port p = refl
@@ -68,10 +66,10 @@ zero_within test Scalar = refl
 zero_within test Array = refl
 zero_within test Port = refl
 
-symbol_within : (test : Pos × TermSort → Bool) (s : Sort) (p : Pos) → test (p, sort_of_terms s) ≡ true → form_within test (own_symbol s p) ≡ true
-symbol_within test Scalar p h = and_both _ true h refl
-symbol_within test Array p h = and_both _ true h refl
-symbol_within test Port p h = and_both _ true h refl
+pub symbol_within : (test : Pos × TermSort → Bool) (s : Sort) (p : Pos) → test (p, sort_of_terms s) ≡ true → form_within test (own_symbol s p) ≡ true
+symbol_within test Scalar p h = and_from _ true h refl
+symbol_within test Array p h = and_from _ true h refl
+symbol_within test Port p h = and_from _ true h refl
 
 zero_mentions : (p : Pos) (s : Sort) → mentions_form p (zero_of s) ≡ false
 zero_mentions p Scalar = refl
@@ -90,25 +88,30 @@ listed (q ∷ ps) zero p s e h =
     let i : q ≡ p = cc e in
     let same : sort_of_terms q.sort ≡ sort_of_terms s = ap sort_of_terms (ap (λ (z : Position). z.sort) i ∙ h) in
     let here : same_pos q.pos p.pos && same_sort (sort_of_terms q.sort) (sort_of_terms s) ≡ true =
-    and_both (same_pos q.pos p.pos) (same_sort (sort_of_terms q.sort) (sort_of_terms s)) (ap (λ (z : Position). same_pos z.pos p.pos) i ∙ own_pos p.pos) (ap (λ z. same_sort z (sort_of_terms s)) same ∙ own_sort (sort_of_terms s)) in
+    and_from (same_pos q.pos p.pos) (same_sort (sort_of_terms q.sort) (sort_of_terms s)) (ap (λ (z : Position). same_pos z.pos p.pos) i ∙ own_pos p.pos)
+    (ap (λ z. same_sort z (sort_of_terms s)) same ∙ own_sort (sort_of_terms s)) in
     or_left (same_pos q.pos p.pos && same_sort (sort_of_terms q.sort) (sort_of_terms s)) (is_position ps (p.pos, sort_of_terms s)) here
-listed (q ∷ ps) (suc k) p s e h = or_right (same_pos q.pos p.pos && same_sort (sort_of_terms q.sort) (sort_of_terms s)) (is_position ps (p.pos, sort_of_terms s)) (listed ps k p s e h)
+listed (q ∷ ps) (suc k) p s e h = or_right (same_pos q.pos p.pos && same_sort (sort_of_terms q.sort) (sort_of_terms s))
+    (is_position ps (p.pos, sort_of_terms s)) (listed ps k p s e h)
 
 module _ (a b : Fsmd) where
   -- the start form is of its position's sort, and of symbols of the pairing
   sorted : (k : ℕ) (p : Position) → slice_get (positions a b) k ≡ Some p → has_its_sort p.sort (start_position (positions a b) p).equation ≡ true
-  sorted k p e = by_form a b (λ o. has_its_sort p.sort o ≡ true) k p e refl (λ r. of_its_sort p.sort (zero_of p.sort) (zero_sort_of p.sort)) (λ j h r d. of_its_sort p.sort (own_symbol p.sort h.partner.pos) (own_sort_of p.sort h.partner.pos))
+  sorted k p e = by_form a b (λ o. has_its_sort p.sort o ≡ true) k p e refl (λ r. of_its_sort p.sort (zero_of p.sort) (zero_sort_of p.sort))
+      (λ j h r d. of_its_sort p.sort (own_symbol p.sort h.partner.pos) (own_sort_of p.sort h.partner.pos))
 
   abbrev form_of : Position → Nf
   form_of p = form_or_symbol p.sort p.pos (start_position (positions a b) p).equation
 
   sort_of : (k : ℕ) (p : Position) → slice_get (positions a b) k ≡ Some p → sort_of_form (form_of p) ≡ sort_of_terms p.sort
-  sort_of k p e = by_form a b (λ o. sort_of_form (form_or_symbol p.sort p.pos o) ≡ sort_of_terms p.sort) k p e (own_sort_of p.sort p.pos) (λ r. zero_sort_of p.sort) (λ j h r d. own_sort_of p.sort h.partner.pos)
+  sort_of k p e = by_form a b (λ o. sort_of_form (form_or_symbol p.sort p.pos o) ≡ sort_of_terms p.sort) k p e (own_sort_of p.sort p.pos)
+      (λ r. zero_sort_of p.sort) (λ j h r d. own_sort_of p.sort h.partner.pos)
 
   within : (k : ℕ) (p : Position) → slice_get (positions a b) k ≡ Some p → form_within (is_position (positions a b)) (form_of p) ≡ true
   within k p e =
       by_form a b (λ o. form_within (is_position (positions a b)) (form_or_symbol p.sort p.pos o) ≡ true) k p e
-      (symbol_within (is_position (positions a b)) p.sort p.pos (listed (positions a b) k p p.sort e refl)) (λ r. zero_within (is_position (positions a b)) p.sort)
+      (symbol_within (is_position (positions a b)) p.sort p.pos (listed (positions a b) k p p.sort e refl))
+      (λ r. zero_within (is_position (positions a b)) p.sort)
       (λ j h r d. symbol_within (is_position (positions a b)) p.sort h.partner.pos (listed (positions a b) j h.partner p.sort h.at h.sort))
 
   vector_is : vector_of (start_fact (positions a b)).positions ≡ map (λ p. (p.pos, form_of p)) (positions a b)
@@ -129,7 +132,8 @@ module _ (a b : Fsmd) where
 
   module _ (sound : IsSound a) (matched : interface_fault a b ≡ None) where
     -- the partner of a right input is no other position than a left input
-    apart : (k : ℕ) (q : Position) → slice_get (positions a b) k ≡ Some q → (q.role ≡ Input → q.pos.side ≡ side.Left → ⊥) → (p : Position) (j : ℕ) (h : HasPartner a b p j) → p.role ≡ Input → p.pos.side ≡ side.Right → same_pos q.pos h.partner.pos ≡ false
+    apart : (k : ℕ) (q : Position) → slice_get (positions a b) k ≡ Some q → (q.role ≡ Input → q.pos.side ≡ side.Left → ⊥)
+        → (p : Position) (j : ℕ) (h : HasPartner a b p j) → p.role ≡ Input → p.pos.side ≡ side.Right → same_pos q.pos h.partner.pos ≡ false
     apart k q e n p j h r d = by_test (same_pos q.pos h.partner.pos) refl
       where
         by_test : (t : Bool) → same_pos q.pos h.partner.pos ≡ t → t ≡ false
@@ -142,23 +146,30 @@ module _ (a b : Fsmd) where
             absurd (n role (ap (λ (z : Pos). z.side) i ∙ left_side p.pos.side h.partner.pos.side d h.sides))
         by_test false g = refl
 
-    not_mentioned : (k : ℕ) (q : Position) → slice_get (positions a b) k ≡ Some q → (q.role ≡ Input → q.pos.side ≡ side.Left → ⊥) → is_mentioned (start_fact (positions a b)) q.pos ≡ false
+    not_mentioned : (k : ℕ) (q : Position) → slice_get (positions a b) k ≡ Some q → (q.role ≡ Input → q.pos.side ≡ side.Left → ⊥)
+        → is_mentioned (start_fact (positions a b)) q.pos ≡ false
     not_mentioned k q e n =
         ap (λ t. t || false) (none_mapped (start_position (positions a b)) (λ z. equation_mentions q.pos z.equation) (positions a b)
-        (λ i p g. by_form a b (λ o. equation_mentions q.pos o ≡ false) i p g refl (λ r. zero_mentions q.pos p.sort) (λ j h r d. symbol_mentions q.pos h.partner.pos p.sort (apart k q e n p j h r d))))
+        (λ i p g. by_form a b (λ o. equation_mentions q.pos o ≡ false) i p g refl (λ r. zero_mentions q.pos p.sort)
+        (λ j h r d. symbol_mentions q.pos h.partner.pos p.sort (apart k q e n p j h r d))))
 
-    solved_at : (k : ℕ) (q : Position) → slice_get (positions a b) k ≡ Some q → not (is_unsolved (start_fact (positions a b)) (start_position (positions a b) q)) ≡ true
+    solved_at : (k : ℕ) (q : Position) → slice_get (positions a b) k ≡ Some q
+        → not (is_unsolved (start_fact (positions a b)) (start_position (positions a b) q)) ≡ true
     solved_at k q e = by_role q.role refl q.pos.side refl
       where
         none_of : (x m : Bool) → m ≡ false → not (x && m) ≡ true
         none_of true m h = ap not h
         none_of false m h = refl
 
-        by_role : (r : Role) → q.role ≡ r → (d : Side) → q.pos.side ≡ d → not (not (is_none (start_form r d q.sort (partner_in (positions a b) q.partner))) && is_mentioned (start_fact (positions a b)) q.pos) ≡ true
+        by_role : (r : Role) → q.role ≡ r → (d : Side) → q.pos.side ≡ d
+            → not (not (is_none (start_form r d q.sort (partner_in (positions a b) q.partner))) && is_mentioned (start_fact (positions a b)) q.pos) ≡ true
         by_role Input r side.Left d = refl
-        by_role Input r side.Right d = none_of (not (is_none (start_form Input side.Right q.sort (partner_in (positions a b) q.partner)))) (is_mentioned (start_fact (positions a b)) q.pos) (not_mentioned k q e (λ i l. let x : side.Left ≡ side.Right = sym l ∙ d in cc x))
-        by_role Output r s d = none_of true (is_mentioned (start_fact (positions a b)) q.pos) (not_mentioned k q e (λ i l. let x : Input ≡ Output = sym i ∙ r in cc x))
-        by_role Local r s d = none_of true (is_mentioned (start_fact (positions a b)) q.pos) (not_mentioned k q e (λ i l. let x : Input ≡ Local = sym i ∙ r in cc x))
+        by_role Input r side.Right d = none_of (not (is_none (start_form Input side.Right q.sort (partner_in (positions a b) q.partner))))
+            (is_mentioned (start_fact (positions a b)) q.pos) (not_mentioned k q e (λ i l. let x : side.Left ≡ side.Right = sym l ∙ d in cc x))
+        by_role Output r s d = none_of true (is_mentioned (start_fact (positions a b)) q.pos)
+            (not_mentioned k q e (λ i l. let x : Input ≡ Output = sym i ∙ r in cc x))
+        by_role Local r s d = none_of true (is_mentioned (start_fact (positions a b)) q.pos)
+            (not_mentioned k q e (λ i l. let x : Input ≡ Local = sym i ∙ r in cc x))
 
     solved_fact : IsFact (start_fact (positions a b))
     solved_fact = record {

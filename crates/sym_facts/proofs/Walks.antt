@@ -1,10 +1,12 @@
 -- Walks along the positions of a fact.
-use Rattle.std.proofs.Common.{◌≡◌, ℕ, zero, suc, ◌+◌, ◌<◌, List, [], ◌∷◌, ◌++◌, append-nil, length, map, drop, refl, ap, sym, ◌∙◌, arith, Bool, true, false, cond, Option, Some, None}
+use Rattle.std.proofs.Common.{◌≡◌, ℕ, ◌+◌, ◌<◌, List, [], ◌∷◌, ◌++◌, append-nil, length, map, drop, refl, ap, sym, ◌∙◌, arith, Bool, true, false, cond, Option}
+use Rattle.std.proofs.Common.{Some}
 use Rattle.std.specs.List.{position_from, slice_index_or}
+use Rattle.base_lemmas.proofs.Lists.{drop_next}
 use Rattle.fs_pair.specs.declared.positions.Position.{Position}
 use Rattle.nf_terms.specs.declared.form.Nf.{Nf}
 use Rattle.sym_facts.specs.Facts.{FactPosition}
-use Rattle.sym_facts.specs.Parts.{with_equations}
+use Rattle.sym_facts.specs.FactParts.{with_equations}
 use Rattle.sym_facts.specs.View.{position_in}
 use Rattle.sym_facts.specs.declared.fact.FactPosition.{FactPosition as CodePosition}
 
@@ -14,18 +16,14 @@ no_equations (p ∷ ps) [] e = refl
 no_equations (p ∷ ps) (f ∷ fs) e = absurd (omega (arith, e))
 
 -- nothing is left to be placed
-pub placed_all : (done whole : List FactPosition) (ps : List Position) (fs : List (Option Nf)) (n : ℕ) → done ++ with_equations ps fs ≡ whole → n ≡ length fs → n ≡ 0 → done ≡ whole
+pub placed_all : (done whole : List FactPosition) (ps : List Position) (fs : List (Option Nf)) (n : ℕ) → done ++ with_equations ps fs ≡ whole → n ≡ length fs
+    → n ≡ 0 → done ≡ whole
 placed_all done whole ps fs n e m z = sym (append-nil done) ∙ ap (λ l. done ++ l) (sym (no_equations ps fs (sym m ∙ z))) ∙ e
 
--- what is left of a list begins with its item
-pub at_place : {X : Type 0} (xs : List X) (k : ℕ) (x : X) → k < length xs → x ≡ slice_index_or xs k x → drop k xs ≡ x ∷ drop (k + 1) xs
-at_place [] k x h e = absurd (omega arith)
-at_place (y ∷ xs) zero x h e = grind (arith, e)
-at_place (y ∷ xs) (suc k) x h e = grind (arith, at_place xs k x (omega arith) e)
-
-module _ (test : FactPosition → Bool) (xs : List CodePosition) (k : ℕ) (x : CodePosition) (whole : Option ℕ) (h : k < length xs) (e : x ≡ slice_index_or xs k x) (i : position_from test k (map position_in (drop k xs)) ≡ whole) where
+module _ (test : FactPosition → Bool) (xs : List CodePosition) (k : ℕ) (x : CodePosition) (whole : Option ℕ) (h : k < length xs) (e : x ≡ slice_index_or xs k x)
+    (i : position_from test k (map position_in (drop k xs)) ≡ whole) where
   one : cond (test (position_in x)) (Some k) (position_from test (k + 1) (map position_in (drop (k + 1) xs))) ≡ whole
-  one = sym (ap (λ l. position_from test k (map position_in l)) (at_place xs k x h e)) ∙ i
+  one = sym (ap (λ l. position_from test k (map position_in l)) (drop_next xs k x h e)) ∙ i
 
   pub passes_here : test (position_in x) ≡ true → Some k ≡ whole
   passes_here t = sym (ap (λ b. cond {A = Option ℕ} b (Some k) (position_from test (k + 1) (map position_in (drop (k + 1) xs)))) t) ∙ one

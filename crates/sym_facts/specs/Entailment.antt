@@ -1,22 +1,21 @@
 -- What a post entails.
-use Rattle.std.specs.Prelude.{ℕ, ◌+◌, ◌==◌, ◌&&◌, Bool, true, cond, List, [], ◌∷◌, length, Option, Some, None, is_none}
+use Rattle.std.specs.Prelude.{ℕ, ◌+◌, ◌==◌, ◌&&◌, Bool, true, cond, List, [], ◌∷◌, length, Option, Some, None}
 use Rattle.fs_model.specs.declared.parts.Rel.{Rel}
 use Rattle.fs_model.specs.declared.parts.Rel.TheVariants as rel
-use Rattle.nf_terms.specs.Terms.{polynomial_of_number}
 use Rattle.nf_terms.specs.Forms.{same_form}
 use Rattle.nf_terms.specs.Computed.{Computed, Done, after}
-use Rattle.nf_terms.specs.declared.tree.Pos.{Pos}
+use Rattle.fs_model.specs.declared.sides.Pos.{Pos}
 use Rattle.nf_terms.specs.declared.form.Nf.{Nf}
 use Rattle.nf_terms.specs.declared.form.Nf.TheVariants.{Num, Arr, Seq}
 use Rattle.nf_sums.specs.Operations.{number}
-use Rattle.nf_subst.specs.Vectors.{number_at, array_at, list_at}
+use Rattle.nf_subst.specs.Vectors.{number_at, array_form, list_at}
 use Rattle.nf_subst.specs.Substitution.{substituted, array_substituted, list_substituted}
 use Rattle.nf_rel.specs.declared.kind.Kind.{Kind}
 use Rattle.nf_rel.specs.declared.kind.Kind.TheVariants.{Ge, Le, Eq, Ne}
 use Rattle.nf_rel.specs.Literals.{NormalLiteral, True, False, Is, literal, is_implied}
 use Rattle.sym_paths.specs.Sequences.{each}
 use Rattle.sym_paths.specs.Execution.{Post}
-use Rattle.sym_facts.specs.Facts.{FactPosition, Fact}
+use Rattle.sym_facts.specs.Facts.{Fact}
 
 -- a form with the vector's forms in place of its symbols
 abbrev pub form_substituted : List (Pos × Nf) → Nf → Computed Nf
@@ -27,7 +26,7 @@ form_substituted v (Seq l) = after (list_substituted v l) (λ m. Done (Seq m))
 -- what a vector has at a position, of the sort of a form
 abbrev pub form_like : List (Pos × Nf) → Pos → Nf → Nf
 form_like v p (Num q) = Num (number_at v p)
-form_like v p (Arr a) = Arr (array_at v p)
+form_like v p (Arr a) = Arr (array_form v p)
 form_like v p (Seq l) = Seq (list_at v p)
 
 -- whether the arriving form of a position is its equation's, substituted
@@ -64,7 +63,8 @@ pub record Missing : Type 0 where
 -- what of a fact a post does not entail: positions before literals, each in order
 abbrev pub entails : Post → Fact → Computed Missing
 entails post f =
-    after (each (λ p. equation_met post.vector p.pos p.equation) f.positions) (λ es. after (each (λ l. literal_met post l) f.literals) (λ ls.
+    after (each (λ p. equation_met post.vector p.pos p.equation) f.positions)
+    (λ es. after (each (λ l. literal_met post l) f.literals) (λ ls.
     Done (record { equations = false_places 0 es; literals = false_places 0 ls })))
 
 abbrev pub is_nothing : Missing → Bool

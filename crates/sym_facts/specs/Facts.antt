@@ -1,17 +1,18 @@
 -- Facts on a pair of stores.
-use Rattle.std.specs.Prelude.{◌≡◌, ℕ, ◌≤◌, ◌+◌, Bool, true, false, not, ◌&&◌, ◌||◌, cond, IsTrue, is_none, List, [], ◌∷◌, length, map, Option, Some, None}
+use Rattle.std.specs.Prelude.{◌≡◌, ℕ, ◌≤◌, ◌+◌, Bool, true, false, not, ◌&&◌, ◌||◌, IsTrue, is_none, List, [], ◌∷◌, length, map}
+use Rattle.std.specs.Prelude.{Option, Some, None}
 use Rattle.std.specs.List.{list_all, list_any}
 use Rattle.fs_model.specs.declared.parts.Sort.{Sort}
 use Rattle.fs_model.specs.declared.parts.Sort.TheVariants as sort
 use Rattle.fs_model.specs.Stores.{Store}
-use Rattle.nf_terms.specs.Terms.{polynomial_of_symbol, bare_array}
+use Rattle.nf_terms.specs.NormalTerms.{polynomial_of_symbol, bare_array}
 use Rattle.nf_terms.specs.Lists.{bare_list}
 use Rattle.nf_terms.specs.Mentions.{mentions}
 use Rattle.nf_terms.specs.Forms.{mentions_form, size_of_form, sort_of_form}
-use Rattle.nf_terms.specs.Meaning.{Valuation, value_of, contents, items_in}
+use Rattle.nf_terms.specs.TermMeaning.{Valuation, value_of, contents, items_in}
 use Rattle.nf_terms.specs.declared.symbols.Sort.{Sort as TermSort}
 use Rattle.nf_terms.specs.declared.symbols.Sort.TheVariants as term
-use Rattle.nf_terms.specs.declared.tree.Pos.{Pos}
+use Rattle.fs_model.specs.declared.sides.Pos.{Pos}
 use Rattle.nf_terms.specs.declared.tree.Base.TheVariants as base
 use Rattle.nf_terms.specs.declared.tree.SeqBase.TheVariants as list
 use Rattle.nf_terms.specs.declared.form.Nf.{Nf}
@@ -19,7 +20,7 @@ use Rattle.nf_terms.specs.declared.form.Nf.TheVariants.{Num, Arr, Seq}
 use Rattle.nf_subst.specs.Vectors.{same_sort}
 use Rattle.nf_rel.specs.Literals.{NormalLiteral, True, False, Is, all_true_in}
 use Rattle.nf_rel.specs.NormalLiterals.{is_normal_literal, same_literal, size_of_literal}
-use Rattle.sym_paths.specs.Stores.{pair}
+use Rattle.sym_paths.specs.ValuationStores.{pair}
 
 -- a position, with an equation or free
 pub record FactPosition : Type 0 where
@@ -121,7 +122,8 @@ most_literals = 64
 abbrev pub may_be_kept : NormalLiteral → Bool
 may_be_kept l = not (same_literal l True) && is_normal_literal l
 
--- what holds of each fact: its equations are of their positions' sorts, it is solved, and it has few literals, none of them True and each in normal form
+-- what holds of each fact: its equations are of their positions' sorts, it is solved, and it has few literals, none of them True
+-- and each in normal form
 pub record IsFact (f : Fact) : Type 0 where
   pub sorts : IsTrue (list_all (λ q. has_its_sort q.sort q.equation) f.positions)
   pub solved : IsTrue (is_solved f)

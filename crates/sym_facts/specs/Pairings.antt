@@ -1,18 +1,17 @@
 -- What is of a pairing: its positions, each used in its sort.
-use Rattle.std.specs.Prelude.{◌≡◌, ◌≤◌, Bool, ◌&&◌, IsTrue, true, List, [], ◌∷◌, length, map}
+use Rattle.std.specs.Prelude.{◌≡◌, Bool, ◌&&◌, IsTrue, true, List, map}
 use Rattle.std.specs.List.{list_all, list_any}
 use Rattle.fs_pair.specs.declared.positions.Position.{Position}
-use Rattle.nf_terms.specs.Terms.{Polynomial}
 use Rattle.nf_terms.specs.Mentions.{same_pos}
 use Rattle.nf_terms.specs.Symbols.{symbols_of, symbols_of_form}
 use Rattle.nf_terms.specs.declared.symbols.Sort.{Sort as TermSort}
-use Rattle.nf_terms.specs.declared.tree.Pos.{Pos}
+use Rattle.fs_model.specs.declared.sides.Pos.{Pos}
 use Rattle.nf_terms.specs.declared.form.Nf.{Nf}
 use Rattle.nf_terms.specs.Forms.{sort_of_form}
 use Rattle.nf_subst.specs.Vectors.{same_sort}
 use Rattle.nf_rel.specs.Literals.{NormalLiteral, True, False, Is}
 use Rattle.sym_paths.specs.Execution.{Post}
-use Rattle.sym_facts.specs.Facts.{FactPosition, Fact, sort_of_terms, equation_mentions, has_its_sort, is_solved, vector_of}
+use Rattle.sym_facts.specs.Facts.{Fact, sort_of_terms, vector_of}
 
 -- whether a symbol is a position and is used in its sort
 abbrev pub is_position : List Position → Pos × TermSort → Bool

@@ -1,10 +1,11 @@
 -- Sets of positions with numbers below a bound, and the positions that a fact mentions.
-use Rattle.std.specs.Prelude.{ℕ, ◌+◌, max, Bool, true, false, not, ◌&&◌, is_none, List, [], ◌∷◌, ◌++◌, set, replicate, slice_index_or, Option, Some, None}
+use Rattle.std.specs.Prelude.{ℕ, ◌+◌, max, Bool, true, false, not, ◌&&◌, is_none, List, [], ◌∷◌, ◌++◌, set, replicate}
+use Rattle.std.specs.Prelude.{slice_index_or, Option, Some, None}
 use Rattle.nf_terms.specs.Symbols.{symbols_of, symbols_of_form}
 use Rattle.nf_terms.specs.declared.symbols.Sort.{Sort}
-use Rattle.nf_terms.specs.declared.tree.Pos.{Pos}
-use Rattle.nf_terms.specs.declared.tree.Side.{Side}
-use Rattle.nf_terms.specs.declared.tree.Side.TheVariants.{Left, Right}
+use Rattle.fs_model.specs.declared.sides.Pos.{Pos}
+use Rattle.fs_model.specs.declared.sides.Side.{Side}
+use Rattle.fs_model.specs.declared.sides.Side.TheVariants.{Left, Right}
 use Rattle.nf_terms.specs.declared.form.Nf.{Nf}
 use Rattle.nf_rel.specs.Literals.{NormalLiteral, True, False, Is}
 use Rattle.sym_facts.specs.Facts.{FactPosition, Fact}
@@ -19,8 +20,8 @@ on_side Left s = s.left
 on_side Right s = s.right
 
 -- whether a position is in a set
-abbrev pub has : PositionSet → Pos → Bool
-has s p = slice_index_or (on_side p.side s) p.var false
+abbrev pub has_position : PositionSet → Pos → Bool
+has_position s p = slice_index_or (on_side p.side s) p.var false
 
 abbrev pub empty_set : (bound : ℕ) → PositionSet
 empty_set bound = record { left = replicate bound false; right = replicate bound false }
@@ -63,8 +64,9 @@ bound_of (q ∷ qs) = max (q.pos.var + 1) (bound_of qs)
 
 -- the positions below a bound that a fact mentions
 abbrev pub mentioned_below : ℕ → Fact → PositionSet
-mentioned_below bound f = with_symbols (with_symbols (empty_set bound) (symbols_of_equations f.positions)) (symbols_of_literals f.literals)
+mentioned_below bound f = with_symbols (with_symbols (empty_set bound) (symbols_of_equations f.positions))
+    (symbols_of_literals f.literals)
 
 -- whether a position that has an equation is in a set
 abbrev pub is_unsolved_in : PositionSet → FactPosition → Bool
-is_unsolved_in s q = not (is_none q.equation) && has s q.pos
+is_unsolved_in s q = not (is_none q.equation) && has_position s q.pos

@@ -5,11 +5,11 @@ use Rattle.fs_model.specs.declared.parts.Role.TheVariants.{Input, Output, Local}
 use Rattle.fs_model.specs.declared.parts.Sort.{Sort}
 use Rattle.fs_model.specs.declared.parts.Sort.TheVariants as sort
 use Rattle.fs_pair.specs.declared.positions.Position.{Position}
-use Rattle.nf_terms.specs.Terms.{Zero, bare_array}
+use Rattle.nf_terms.specs.NormalTerms.{Zero, bare_array}
 use Rattle.nf_terms.specs.Lists.{bare_list}
-use Rattle.nf_terms.specs.declared.tree.Pos.{Pos}
-use Rattle.nf_terms.specs.declared.tree.Side.{Side}
-use Rattle.nf_terms.specs.declared.tree.Side.TheVariants as side
+use Rattle.fs_model.specs.declared.sides.Pos.{Pos}
+use Rattle.fs_model.specs.declared.sides.Side.{Side}
+use Rattle.fs_model.specs.declared.sides.Side.TheVariants as side
 use Rattle.nf_terms.specs.declared.tree.Base.TheVariants as base
 use Rattle.nf_terms.specs.declared.tree.SeqBase.TheVariants as list
 use Rattle.nf_terms.specs.declared.form.Nf.{Nf}
@@ -37,7 +37,11 @@ partner_in ps None = None
 partner_in ps (Some k) = option_map (λ p. p.pos) (slice_get ps k)
 
 abbrev pub start_position : List Position → Position → FactPosition
-start_position ps p = record { pos = p.pos; sort = p.sort; equation = start_form p.role p.pos.side p.sort (partner_in ps p.partner) }
+start_position ps p = record {
+  pos = p.pos;
+  sort = p.sort;
+  equation = start_form p.role p.pos.side p.sort (partner_in ps p.partner);
+}
 
 abbrev pub start_fact : List Position → Fact
 start_fact ps = record { positions = map (start_position ps) ps; literals = [] }

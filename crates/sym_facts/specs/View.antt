@@ -1,12 +1,12 @@
 -- The facts and answers of src/ as plain data.
-use Rattle.std.specs.Prelude.{◌≡◌, Option, Some, None, Result, Ok, Err}
+use Rattle.std.specs.Prelude.{◌≡◌, Some, None, Result, Ok, Err}
 use Rattle.sym_facts.specs.declared.fact.FactPosition.{FactPosition as CodePosition}
 use Rattle.sym_facts.specs.declared.fact.FactError.{FactError}
 use Rattle.sym_facts.specs.declared.fact.FactError.TheVariants as error
 use Rattle.sym_facts.specs.declared.entailment.Entail.{Entail}
 use Rattle.sym_facts.specs.declared.position_set.PositionSet.{PositionSet as CodeSet}
 use Rattle.sym_facts.specs.Facts.{FactPosition, Fact}
-use Rattle.sym_facts.specs.Parts.{first_unsolved}
+use Rattle.sym_facts.specs.FactParts.{first_unsolved}
 use Rattle.sym_facts.specs.Entailment.{Missing}
 use Rattle.sym_facts.specs.PositionSets.{PositionSet}
 

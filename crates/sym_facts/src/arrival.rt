@@ -26,7 +26,8 @@ fn advance_if(
     side: Side,
     v: &mut Vector,
 ) -> Result<Vec<NLit>, NfStop>
-    ensures { Answers (told (λ ls. record { conditions = map literal_in ls.items; vector = v.new }) result) (execute_if m.now (option_map (λ p. path_of p.now) path.entry) side v.old) }
+    ensures { Answers (told (λ ls. record { conditions = map literal_in ls.items; vector = v.new }) result)
+        (execute_if m.now (option_map (λ p. path_of p.now) path.entry) side v.old) }
 {
     match path {
         Some(path) => advance(alloc, m, path, side, v),
@@ -34,11 +35,11 @@ fn advance_if(
     }
 }
 
-/// What arrives where a fact holds and the left machine `a` takes one path and the right machine `b` another; a side without a path
-/// stays. The conditions are the fact's, the left path's and the right path's.
+/// What arrives where a fact holds and the left machine `a` takes one path and the right machine `b` another; a side without a
+/// path stays. The conditions are the fact's, the left path's and the right path's.
 ///
-/// `Wide` and `Large` come exactly at the first operation that is not narrow, or narrow and not small: those of the left path come
-/// first, in the order of `execute`, and then those of the right one. `NoMemory`: out of memory.
+/// `Wide` and `Large` come exactly at the first operation that is not narrow, or narrow and not small: those of the left path
+/// come first, in the order of `execute`, and then those of the right one. `NoMemory`: out of memory.
 pub fn arrive(
     alloc: Global,
     a: &Machine,
@@ -47,7 +48,9 @@ pub fn arrive(
     left: Option<&Path>,
     right: Option<&Path>,
 ) -> Result<Post, NfStop>
-    ensures { Answers (told post_in result) (arrived a.now b.now fact.now.literals (vector_of fact.now.positions) (option_map (λ p. path_of p.now) left.entry) (option_map (λ p. path_of p.now) right.entry)) }
+    ensures { Answers (told post_in result)
+        (arrived a.now b.now fact.now.literals (vector_of fact.now.positions) (option_map (λ p. path_of p.now) left.entry)
+        (option_map (λ p. path_of p.now) right.entry)) }
 {
     let mut vector = fact.vector(alloc)?;
     let mut conds = copied_literals(alloc, fact.conds())?;

@@ -6,7 +6,9 @@ ghost use Rattle.nf_rel.specs.NormalLiterals.{IsNormalLiteral};
 ghost use Rattle.nf_rel.specs.View.{literal_in};
 ghost use Rattle.sym_paths.specs.Sequences.{each};
 ghost use Rattle.sym_paths.specs.View.{told, post_in};
-ghost use Rattle.sym_facts.specs.Entailment.{form_substituted, form_like as like, equation_met as equation_is_met, relation_of as relation, literal_substituted, literal_met as literal_is_met, false_places as places_of_false, entails as entailed};
+ghost use Rattle.sym_facts.specs.Entailment.{form_substituted, form_like as like, equation_met as equation_is_met};
+ghost use Rattle.sym_facts.specs.Entailment.{relation_of as relation, literal_substituted, literal_met as literal_is_met};
+ghost use Rattle.sym_facts.specs.Entailment.{false_places as places_of_false, entails as entailed};
 ghost use Rattle.sym_facts.specs.View.{position_in, missing_in};
 
 use crate::fact::{Fact, FactPosition};
@@ -15,6 +17,7 @@ use nf_rel::clashes::implied;
 use nf_rel::kind::Kind;
 use nf_rel::literals::NLit;
 use nf_rel::normalize::literal;
+use nf_subst::shared_form::SharedForm;
 use nf_subst::subst::Subst;
 use nf_subst::vector::Vector;
 use nf_sums::sums::number;
@@ -57,11 +60,18 @@ pub fn form_like(alloc: Global, v: &Vector, p: &Pos, form: &Nf) -> Result<Nf, No
 }
 
 // Whether the arriving form of a position is the one substituted.
-fn form_met(alloc: Global, s: &mut Subst, v: &Vector, p: &Pos, form: &Nf) -> Result<bool, NfStop>
+fn form_met(
+    alloc: Global,
+    s: &mut Subst,
+    v: &Vector,
+    p: &Pos,
+    shared: &SharedForm,
+) -> Result<bool, NfStop>
     requires { s.old.vector ≡ v.now }
-    ensures answers { Answers result (equation_is_met v.now p.now (Some form.now)) }
+    ensures answers { Answers result (equation_is_met v.now p.now (Some shared.now)) }
     ensures vector { s.new.vector ≡ s.old.vector }
 {
+    let form = shared.form();
     let value = substitute(alloc, s, form)?;
     let arriving = form_like(alloc, v, p, form)?;
     Ok(arriving.is_same(&value))
@@ -92,7 +102,8 @@ fn equations_met(
     positions: &[FactPosition],
 ) -> Result<Vec<bool>, NfStop>
     requires { s.old.vector ≡ v.now }
-    ensures answers { Answers (told (λ bs. bs.items) result) (each (λ p. equation_is_met v.now p.pos p.equation) (map position_in positions.now)) }
+    ensures answers { Answers (told (λ bs. bs.items) result)
+        (each (λ p. equation_is_met v.now p.pos p.equation) (map position_in positions.now)) }
     ensures many { IfOk result (λ bs. length bs.items ≡ length positions.now) }
     ensures vector { s.new.vector ≡ s.old.vector }
 {
@@ -152,7 +163,8 @@ fn literals_met(
     literals: &[NLit],
 ) -> Result<Vec<bool>, NfStop>
     requires { s.old.vector ≡ (post_in post.now).vector }
-    ensures answers { Answers (told (λ bs. bs.items) result) (each (λ l. literal_is_met (post_in post.now) l) (map literal_in literals.now)) }
+    ensures answers { Answers (told (λ bs. bs.items) result)
+        (each (λ l. literal_is_met (post_in post.now) l) (map literal_in literals.now)) }
     ensures many { IfOk result (λ bs. length bs.items ≡ length literals.now) }
     ensures vector { s.new.vector ≡ s.old.vector }
 {
@@ -171,7 +183,8 @@ fn fact_equations_met(
     target: &Fact,
 ) -> Result<Vec<bool>, NfStop>
     requires { s.old.vector ≡ (post_in post.now).vector }
-    ensures answers { Answers (told (λ bs. bs.items) result) (each (λ p. equation_is_met (post_in post.now).vector p.pos p.equation) target.now.positions) }
+    ensures answers { Answers (told (λ bs. bs.items) result)
+        (each (λ p. equation_is_met (post_in post.now).vector p.pos p.equation) target.now.positions) }
     ensures few { IfOk result (λ bs. length bs.items < 2 ^ 32) }
     ensures vector { s.new.vector ≡ s.old.vector }
 {
@@ -186,7 +199,8 @@ fn fact_literals_met(
     target: &Fact,
 ) -> Result<Vec<bool>, NfStop>
     requires { s.old.vector ≡ (post_in post.now).vector }
-    ensures answers { Answers (told (λ bs. bs.items) result) (each (λ l. literal_is_met (post_in post.now) l) target.now.literals) }
+    ensures answers { Answers (told (λ bs. bs.items) result)
+        (each (λ l. literal_is_met (post_in post.now) l) target.now.literals) }
     ensures few { IfOk result (λ bs. length bs.items < 2 ^ 32) }
 {
     literals_met(alloc, s, post, target.conds())
@@ -206,9 +220,9 @@ fn false_places(alloc: Global, members: &[bool]) -> Result<Vec<u32>, NoMemory>
     Ok(out)
 }
 
-/// The equations and literals of a fact that a post does not entail. An equation is entailed where the arriving form of its position is
-/// the same as the equation's with the arriving vector substituted, and a literal where it is implied by the arriving conditions with the
-/// arriving vector substituted in it. Each different atom is substituted once.
+/// The equations and literals of a fact that a post does not entail. An equation is entailed where the arriving form of its
+/// position is the same as the equation's with the arriving vector substituted, and a literal where it is implied by the arriving
+/// conditions with the arriving vector substituted in it. Each different atom is substituted once.
 ///
 /// `Wide` and `Large` come exactly at the first operation that is not narrow, or narrow and not small: those of equations come
 /// first, in the order of positions, and then those of literals. `NoMemory`: out of memory.

@@ -2,17 +2,21 @@
 
 ghost use Rattle.std.specs.Prelude.{◌≡◌, ◌≤◌, ◌+◌, ◌*◌, IsTrue, IfOk, length, map, option_map};
 ghost use Rattle.std.specs.List.{list_all};
-ghost use Rattle.nf_terms.specs.Limits.{size_limit};
+ghost use Rattle.nf_terms.specs.TermLimits.{size_limit};
 ghost use Rattle.nf_rel.specs.View.{literal_in};
-ghost use Rattle.sym_facts.specs.Facts.{IsFact, has_its_sort, may_be_kept, most_literals, size_of_fact, size_of_equation as equation_size, size_of_equations as equations_size, size_of_literals as literals_size, own_symbol as symbol_of, form_or_symbol, vector_of};
+ghost use Rattle.sym_facts.specs.Facts.{IsFact, has_its_sort, may_be_kept, most_literals, size_of_fact};
+ghost use Rattle.sym_facts.specs.Facts.{size_of_equation as equation_size, size_of_equations as equations_size};
+ghost use Rattle.sym_facts.specs.Facts.{size_of_literals as literals_size, own_symbol as symbol_of, form_or_symbol, vector_of};
 ghost use Rattle.sym_facts.specs.Pairings.{IsFactOf, is_position, literal_within};
-ghost use Rattle.sym_facts.specs.Parts.{with_equations as positions_with, fact_of, equation_within, equation_at, all_differ, most_positions, IsKept};
+ghost use Rattle.sym_facts.specs.FactParts.{with_equations as positions_with, fact_of, equation_within, equation_at};
+ghost use Rattle.sym_facts.specs.FactParts.{are_distinct_positions, most_positions, IsKept};
 ghost use Rattle.sym_facts.specs.View.{TellsSolved, position_in};
 
 use crate::parts::{first_unsolved, with_equations};
 use fs_model::parts::Sort;
 use fs_pair::positions::Pairing;
 use nf_rel::literals::NLit;
+use nf_subst::shared_form::SharedForm;
 use nf_subst::vector::Vector;
 use nf_terms::arr::Arr;
 use nf_terms::form::Nf;
@@ -28,7 +32,19 @@ use std::marker::Model;
 pub struct FactPosition {
     pub pos: Pos,
     pub sort: Sort,
-    pub equation: Option<Nf>,
+    pub equation: Option<SharedForm>,
+}
+
+impl FactPosition {
+    /// The form of its equation.
+    pub fn form(&self) -> Option<&Nf>
+        ensures { option_map (λ f. f.now) result ≡ (position_in self.now).equation }
+    {
+        match &self.equation {
+            Some(shared) => Some(shared.form()),
+            None => None,
+        }
+    }
 }
 
 /// For each position of two machines a normal form or none, and at most 64 literals. It is solved: no position that
@@ -43,7 +59,7 @@ impl Model for Fact {
     ghost use Rattle.std.specs.Prelude.{map};
     ghost use Rattle.nf_rel.specs.View.{literal_in};
     ghost use Rattle.sym_facts.specs.Facts.{Fact as PlainFact};
-    ghost use Rattle.sym_facts.specs.Parts.{IsKept};
+    ghost use Rattle.sym_facts.specs.FactParts.{IsKept};
     ghost use Rattle.sym_facts.specs.View.{position_in};
     ghost use Rattle.sym_facts.specs.Codes.{coded_fact};
 
@@ -53,11 +69,12 @@ impl Model for Fact {
 
     ghost view = { λ f. record { positions = map position_in f.positions.items; literals = map literal_in f.conds.items } };
 
-    ghost invariant = { λ f. IsKept (record { positions = map position_in f.positions.items; literals = map literal_in f.conds.items }) };
+    ghost invariant = { λ f. IsKept
+        (record { positions = map position_in f.positions.items; literals = map literal_in f.conds.items }) };
 }
 
 /// Why parts make no fact.
-#[derive(Clone, Copy, Debug, PartialEq, Eq)]
+#[derive(Clone, Copy, Debug)]
 pub enum FactError {
     /// A position that has a normal form is mentioned in one or in a literal: the place of the first such.
     NotSolved { place: u32 },
@@ -78,8 +95,8 @@ impl From<NoMemory> for FactError {
 impl Fact {
     /// The fact of these parts: one entry a position, and the literals.
     ///
-    /// `NotSolved` comes exactly where a position that has a normal form is mentioned in one or in a literal, and tells the first such
-    /// place. `NoMemory`: out of memory.
+    /// `NotSolved` comes exactly where a position that has a normal form is mentioned in one or in a literal, and tells the first
+    /// such place. `NoMemory`: out of memory.
     #[tactic(auto, using(crate::proofs::Kept::parts))]
     pub fn new(
         alloc: Global,
@@ -117,7 +134,7 @@ impl Fact {
     pub fn holds(&self)
         ensures { IsFact self.now }
     {
-        let _positions = &self.positions;
+        let _positions = &self.positions; // The read tells the proof what the type promises of its values.
     }
 
     /// The normal form of a position by its place among the positions. None where it is free, or where there is no such position.
@@ -125,7 +142,7 @@ impl Fact {
         ensures { option_map (λ f. f.now) result ≡ equation_at place self.now.positions }
     {
         match self.positions.get(place as usize) {
-            Some(position) => position.equation.as_ref(),
+            Some(position) => position.form(),
             None => None,
         }
     }
@@ -161,7 +178,7 @@ impl Fact {
         1 + size_of_equations(self.positions.as_slice()) + size_of_literals(self.conds.as_slice())
     }
 
-    /// A copy. The one refusal is out of memory.
+    /// A copy, which shares the forms of the equations. The one refusal is out of memory.
     pub fn try_clone(&self, alloc: Global) -> Result<Fact, NoMemory>
         ensures { IfOk result (λ copy. copy ≡ self.now) }
     {
@@ -178,7 +195,7 @@ fn size_of_equation(position: &FactPosition) -> u64
     ensures small { result ≤ size_limit }
 {
     match &position.equation {
-        Some(form) => form.size(),
+        Some(shared) => shared.form().size(),
         None => 0,
     }
 }
@@ -220,40 +237,46 @@ pub fn own_symbol(alloc: Global, sort: Sort, p: Pos) -> Result<Nf, NoMemory>
 }
 
 // The form of a position: that of its equation, or its own symbol.
-fn form_at(alloc: Global, position: &FactPosition) -> Result<Nf, NoMemory>
+fn form_at(alloc: Global, position: &FactPosition) -> Result<SharedForm, NoMemory>
     ensures { IfOk result (λ f. f ≡ form_or_symbol position.now.sort position.now.pos (position_in position.now).equation) }
 {
     match &position.equation {
-        Some(form) => form.try_clone(alloc),
-        None => own_symbol(alloc, position.sort, position.pos),
+        Some(form) => form.try_clone(),
+        None => SharedForm::of(alloc, own_symbol(alloc, position.sort, position.pos)?),
     }
 }
 
 // The vector of positions that differ.
 #[tactic(auto, using(crate::proofs::Vectors::put_last))]
 fn vector_with(alloc: Global, positions: &[FactPosition]) -> Result<Vector, NoMemory>
-    requires { IsTrue (all_differ (map (λ p. p.pos) (map position_in positions.now))) }
+    requires { IsTrue (are_distinct_positions (map (λ p. p.pos) (map position_in positions.now))) }
     ensures { IfOk result (λ v. v ≡ vector_of (map position_in positions.now)) }
 {
     let mut v = Vector::new(alloc);
     for position in positions {
-        v.put(position.pos, form_at(alloc, position)?)?;
+        v.put_shared(position.pos, form_at(alloc, position)?)?;
     }
     Ok(v)
 }
 
-// A copy of a position.
-fn copied_position(alloc: Global, position: &FactPosition) -> Result<FactPosition, NoMemory>
+/// An equation with one owner more of its form. The one refusal is out of memory.
+pub fn copied_equation(equation: &Option<SharedForm>) -> Result<Option<SharedForm>, NoMemory>
+    ensures { IfOk result (λ copy. copy ≡ equation.now) }
+{
+    match equation {
+        Some(form) => Ok(Some(form.try_clone()?)),
+        None => Ok(None),
+    }
+}
+
+// A copy of a position, which shares its form.
+fn copied_position(position: &FactPosition) -> Result<FactPosition, NoMemory>
     ensures { IfOk result (λ copy. position_in copy ≡ position_in position.now) }
 {
-    let equation = match &position.equation {
-        Some(form) => Some(form.try_clone(alloc)?),
-        None => None,
-    };
     Ok(FactPosition {
         pos: position.pos,
         sort: position.sort,
-        equation,
+        equation: copied_equation(&position.equation)?,
     })
 }
 
@@ -266,7 +289,7 @@ fn copied_positions(
 {
     let mut out = Vec::new(alloc);
     for position in positions {
-        out.push(copied_position(alloc, position)?)?;
+        out.push(copied_position(position)?)?;
     }
     Ok(out)
 }

@@ -4,8 +4,9 @@ ghost use Rattle.std.specs.Prelude.{◌≡◌, ◌<◌, ◌^◌, IfOk, length, m
 ghost use Rattle.std.specs.List.{position_from};
 ghost use Rattle.nf_rel.specs.View.{literal_in};
 ghost use Rattle.sym_facts.specs.Facts.{is_unsolved as unsolved};
-ghost use Rattle.sym_facts.specs.Parts.{with_equations as positions_with};
-ghost use Rattle.sym_facts.specs.PositionSets.{with_symbols, symbols_of_equation, symbols_of_equations, symbols_of_literal, symbols_of_literals, bound_of as bound, mentioned_below, is_unsolved_in};
+ghost use Rattle.sym_facts.specs.FactParts.{with_equations as positions_with};
+ghost use Rattle.sym_facts.specs.PositionSets.{with_symbols, symbols_of_equation, symbols_of_equations, symbols_of_literal};
+ghost use Rattle.sym_facts.specs.PositionSets.{symbols_of_literals, bound_of as bound, mentioned_below, is_unsolved_in};
 ghost use Rattle.sym_facts.specs.View.{position_in, set_in};
 
 use crate::fact::FactPosition;
@@ -13,9 +14,35 @@ use crate::mentioned::{add_form, add_number};
 use crate::position_set::PositionSet;
 use fs_pair::positions::Position;
 use nf_rel::literals::NLit;
+use nf_subst::shared_form::SharedForm;
 use nf_terms::form::Nf;
 use nf_terms::stop::NoMemory;
 use std::alloc::Global;
+
+/// An equation whose form has one owner. The one refusal is out of memory.
+pub fn shared_equation(alloc: Global, equation: Option<Nf>) -> Result<Option<SharedForm>, NoMemory>
+    ensures { IfOk result (λ shared. shared ≡ equation) }
+{
+    match equation {
+        Some(form) => Ok(Some(SharedForm::of(alloc, form)?)),
+        None => Ok(None),
+    }
+}
+
+// A position with its equation, or free.
+fn with_equation(
+    alloc: Global,
+    p: &Position,
+    equation: Option<Nf>,
+) -> Result<FactPosition, NoMemory>
+    ensures { IfOk result (λ q. position_in q ≡ record { pos = p.now.pos; sort = p.now.sort; equation = equation }) }
+{
+    Ok(FactPosition {
+        pos: p.pos,
+        sort: p.sort,
+        equation: shared_equation(alloc, equation)?,
+    })
+}
 
 /// Each position with its equation, or free.
 #[tactic(auto, using(crate::proofs::Walks::placed_all))]
@@ -30,11 +57,7 @@ pub fn with_equations(
     let mut rest = equations.into_iter();
     for p in positions {
         match rest.next() {
-            Some(equation) => out.push(FactPosition {
-                pos: p.pos,
-                sort: p.sort,
-                equation,
-            })?,
+            Some(equation) => out.push(with_equation(alloc, p, equation)?)?,
             None => return Ok(out),
         }
     }
@@ -54,10 +77,11 @@ fn bound_of(positions: &[FactPosition]) -> usize
 
 // Adds the positions that an equation mentions.
 fn add_equation(mentioned: &mut PositionSet, position: &FactPosition)
-    ensures { set_in mentioned.new ≡ with_symbols (set_in mentioned.old) (symbols_of_equation (position_in position.now).equation) }
+    ensures { set_in mentioned.new ≡ with_symbols (set_in mentioned.old)
+        (symbols_of_equation (position_in position.now).equation) }
 {
     match &position.equation {
-        Some(form) => add_form(mentioned, form),
+        Some(shared) => add_form(mentioned, shared.form()),
         None => {}
     }
 }
@@ -98,7 +122,9 @@ fn mentioned_in(
     positions: &[FactPosition],
     literals: &[NLit],
 ) -> Result<PositionSet, NoMemory>
-    ensures { IfOk result (λ s. set_in s ≡ mentioned_below (bound (map position_in positions.now)) (record { positions = map position_in positions.now; literals = map literal_in literals.now })) }
+    ensures { IfOk result
+        (λ s. set_in s ≡ mentioned_below (bound (map position_in positions.now))
+        (record { positions = map position_in positions.now; literals = map literal_in literals.now })) }
 {
     let mut mentioned = PositionSet::new(alloc, bound_of(positions))?;
     add_equations(&mut mentioned, positions);
@@ -133,7 +159,10 @@ pub fn first_unsolved(
     literals: &[NLit],
 ) -> Result<Option<u32>, NoMemory>
     requires { length positions.now < 2 ^ 32 }
-    ensures { IfOk result (λ first. first ≡ position_from (unsolved (record { positions = map position_in positions.now; literals = map literal_in literals.now })) 0 (map position_in positions.now)) }
+    ensures { IfOk result
+        (λ first. first ≡ position_from
+        (unsolved (record { positions = map position_in positions.now; literals = map literal_in literals.now })) 0
+        (map position_in positions.now)) }
 {
     let mentioned = mentioned_in(alloc, positions, literals)?;
     Ok(first_unsolved_in(&mentioned, positions))

@@ -1,7 +1,7 @@
 //! Sets of positions.
 
 ghost use Rattle.std.specs.Prelude.{◌≡◌, true, false, set, slice_index_or, IfOk};
-ghost use Rattle.sym_facts.specs.PositionSets.{has, empty_set, with_position};
+ghost use Rattle.sym_facts.specs.PositionSets.{has_position, empty_set, with_position};
 ghost use Rattle.sym_facts.specs.View.{set_in};
 
 use nf_terms::stop::NoMemory;
@@ -48,7 +48,7 @@ impl PositionSet {
 
     /// Whether a position is in the set.
     pub fn contains(&self, p: Pos) -> bool
-        ensures { result ≡ has (set_in self.now) p }
+        ensures { result ≡ has_position (set_in self.now) p }
     {
         match p.side {
             Side::Left => holds(&self.left, p.var),

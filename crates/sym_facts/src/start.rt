@@ -2,10 +2,12 @@
 
 ghost use Rattle.std.specs.Prelude.{◌≡◌, map, option_map, IfOk};
 ghost use Rattle.sym_facts.specs.Facts.{own_symbol as symbol_of};
-ghost use Rattle.sym_facts.specs.Starts.{zero_of, start_form as started_form, partner_in, start_position as started_position, start_fact as started};
+ghost use Rattle.sym_facts.specs.Starts.{zero_of, start_form as started_form, partner_in, start_position as started_position};
+ghost use Rattle.sym_facts.specs.Starts.{start_fact as started};
 ghost use Rattle.sym_facts.specs.View.{position_in};
 
 use crate::fact::{Fact, FactPosition, own_symbol};
+use crate::parts::shared_equation;
 use fs_model::parts::{Role, Sort};
 use fs_pair::positions::{Pairing, Position};
 use nf_terms::arr::Arr;
@@ -68,7 +70,7 @@ fn start_position(
     Ok(FactPosition {
         pos: p.pos,
         sort: p.sort,
-        equation: start_form(alloc, positions, p)?,
+        equation: shared_equation(alloc, start_form(alloc, positions, p)?)?,
     })
 }
 
@@ -83,8 +85,8 @@ fn start_positions(alloc: Global, positions: &[Position]) -> Result<Vec<FactPosi
     Ok(out)
 }
 
-/// The fact on the start stores of two machines: a left input is free and the right one of its name is equal to it, and every other
-/// scalar is 0, every other array 0 everywhere, and every port empty. The one refusal is out of memory.
+/// The fact on the start stores of two machines: a left input is free and the right one of its name is equal to it, and every
+/// other scalar is 0, every other array 0 everywhere, and every port empty. The one refusal is out of memory.
 #[tactic(auto, using(crate::proofs::Kept::start_kept))]
 pub fn start_fact(alloc: Global, p: &Pairing) -> Result<Fact, NoMemory>
     ensures { IfOk result (λ f. f ≡ started p.now) }

@@ -1,37 +1,29 @@
 -- Expressions and literals over a vector mean what they mean in the store that it means.
-use Rattle.std.proofs.Common.{◌≡◌, ℕ, ap, ap₂, sym, ◌∙◌, List, [], ◌∷◌, ◌+ℤ◌, ◌-ℤ◌, ◌*ℤ◌, neg_ℤ, ℤ, Bool, true, false, cond}
-use Rattle.std.specs.Prelude.{◌&&◌, nat_le, unsigned_abs}
+use Rattle.std.proofs.Common.{◌≡◌, ℕ, ap, ap₂, sym, ◌∙◌, List, [], ◌∷◌, ◌+ℤ◌, ◌-ℤ◌, ◌*ℤ◌, neg_ℤ}
+use Rattle.std.specs.Prelude.{◌&&◌}
 use Rattle.std.specs.List.{list_all}
-use Rattle.integers.specs.Division.{quotient, remainder}
+use Rattle.base_integers.specs.Division.{quotient, remainder}
 use Rattle.fs_model.specs.Terms.{Term, Number, Variable, Read, Sum, Difference, Product, Quotient, Remainder, Negative, Literal}
 use Rattle.fs_model.specs.Meaning.{value, relates, literal_holds}
-use Rattle.nf_terms.specs.Terms.{Polynomial, polynomial_of_number}
-use Rattle.nf_terms.specs.Limits.{weight_limit}
-use Rattle.nf_terms.specs.Meaning.{Valuation, value_of, contents}
-use Rattle.nf_terms.specs.Computed.{Computed, Done, Wide, after}
-use Rattle.nf_terms.specs.declared.tree.Side.{Side}
-use Rattle.nf_terms.specs.declared.tree.Pos.{Pos}
+use Rattle.nf_terms.specs.NormalTerms.{Polynomial}
+use Rattle.nf_terms.specs.TermMeaning.{Valuation, value_of, contents}
+use Rattle.nf_terms.specs.Computed.{Computed, Done, after}
+use Rattle.fs_model.specs.declared.sides.Side.{Side}
+use Rattle.fs_model.specs.declared.sides.Pos.{Pos}
 use Rattle.nf_terms.specs.declared.form.Nf.{Nf}
-use Rattle.nf_sums.specs.Operations.{added, subtracted, multiplied, negated, number}
+use Rattle.nf_sums.specs.Operations.{added, subtracted, multiplied, negated}
 use Rattle.nf_sums.proofs.Forms.{negation_value}
-use Rattle.nf_sums.proofs.Values.{goes_done, added_value, subtracted_value, multiplied_value, number_value}
-use Rattle.nf_arrays.specs.Atoms.{divided, remainder_of}
+use Rattle.nf_sums.proofs.Values.{goes_done, added_value, subtracted_value, multiplied_value}
+use Rattle.nf_arrays.specs.NewAtoms.{divided, remainder_of}
 use Rattle.nf_arrays.specs.Writes.{read_at}
 use Rattle.nf_arrays.proofs.Values.{read_value, quotient_value, remainder_value}
-use Rattle.nf_subst.specs.Vectors.{number_at, array_at, meaning}
+use Rattle.nf_subst.specs.Vectors.{number_at, array_form, meaning}
+use Rattle.nf_subst.proofs.Values.{number_is}
 use Rattle.nf_rel.specs.Literals.{NormalLiteral, is_true_in, literal}
 use Rattle.nf_rel.proofs.Values.{literal_means}
-use Rattle.sym_paths.specs.Stores.{at, store_on}
+use Rattle.sym_paths.specs.ValuationStores.{at, store_on}
 use Rattle.sym_paths.specs.Sequences.{each}
 use Rattle.sym_paths.specs.Evaluation.{evaluate, evaluate_literal}
-
--- a number that is narrow is itself
-pub number_is : (w : Valuation) (c : ℤ) (r : Polynomial) → number c ≡ Done r → value_of w r ≡ c
-number_is w c r e = by_test (nat_le (unsigned_abs c) weight_limit) e
-  where
-    by_test : (t : Bool) → cond {A = Computed Polynomial} t (Done (polynomial_of_number c)) (Wide (unsigned_abs c) 0) ≡ Done r → value_of w r ≡ c
-    by_test true g = let k : polynomial_of_number c ≡ r = cc g in sym (ap (value_of w) k) ∙ number_value w c
-    by_test false g = absurd (cc g)
 
 -- what two operands give in turn
 pub record Operands (side : Side) (v : List (Pos × Nf)) (a b : Term ℕ) (f : Polynomial → Polynomial → Computed Polynomial) (r : Polynomial) : Type 0 where
@@ -53,8 +45,8 @@ module _ (w : Valuation) (side : Side) (v : List (Pos × Nf)) where
   evaluated (Number n) r e = number_is w n r e
   evaluated (Variable x) r e = let k : number_at v (at side x) ≡ r = cc e in sym (ap (value_of w) k)
   evaluated (Read x i) r e =
-      let s = goes_done (evaluate side v i) (λ j. read_at (array_at v (at side x)) j) r e in
-      read_value w (array_at v (at side x)) s.middle r s.next ∙ ap (contents w (array_at v (at side x))) (evaluated i s.middle s.first)
+      let s = goes_done (evaluate side v i) (λ j. read_at (array_form v (at side x)) j) r e in
+      read_value w (array_form v (at side x)) s.middle r s.next ∙ ap (contents w (array_form v (at side x))) (evaluated i s.middle s.first)
   evaluated (Sum a b) r e =
       let o = operands side v a b (λ p q. added p q) r e in
       added_value w o.left o.right r o.done ∙ ap₂ (λ x y. x +ℤ y) (evaluated a o.left o.left_done) (evaluated b o.right o.right_done)
@@ -81,7 +73,8 @@ module _ (w : Valuation) (side : Side) (v : List (Pos × Nf)) where
       let t = goes_done (evaluate side v l.right) (λ q. literal l.relation s.middle q) n s.next in
       literal_means l.relation s.middle t.middle n w t.next ∙ ap₂ (relates l.relation) (evaluated l.left s.middle s.first) (evaluated l.right t.middle t.first)
 
-  pub literals_evaluated : (ls : List (Literal ℕ)) (ns : List NormalLiteral) → each (λ l. evaluate_literal side v l) ls ≡ Done ns → list_all (is_true_in w) ns ≡ list_all (λ l. literal_holds l (store_on side (meaning v w))) ls
+  pub literals_evaluated : (ls : List (Literal ℕ)) (ns : List NormalLiteral) → each (λ l. evaluate_literal side v l) ls ≡ Done ns
+      → list_all (is_true_in w) ns ≡ list_all (λ l. literal_holds l (store_on side (meaning v w))) ls
   literals_evaluated [] ns e = let k : [] ≡ ns = cc e in sym (ap (list_all (is_true_in w)) k)
   literals_evaluated (l ∷ ls) ns e =
       let s = goes_done (evaluate_literal side v l) (λ y. after (each (λ k. evaluate_literal side v k) ls) (λ ys. Done (y ∷ ys))) ns e in

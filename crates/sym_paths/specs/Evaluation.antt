@@ -1,26 +1,27 @@
 -- Expressions and assignments over a vector.
 use Rattle.std.specs.Prelude.{ℕ, List, [], ◌∷◌}
-use Rattle.fs_model.specs.Terms.{Term, Number, Variable, Read, Sum, Difference, Product, Quotient, Remainder, Negative, Literal, Assignment, Assign, ArrayWrite, Emit}
-use Rattle.nf_terms.specs.Terms.{Polynomial}
+use Rattle.fs_model.specs.Terms.{Term, Number, Variable, Read, Sum, Difference, Product, Quotient, Remainder, Negative, Literal}
+use Rattle.fs_model.specs.Terms.{Assignment, Assign, ArrayWrite, Emit}
+use Rattle.nf_terms.specs.NormalTerms.{Polynomial}
 use Rattle.nf_terms.specs.Computed.{Computed, Done, after}
-use Rattle.nf_terms.specs.declared.tree.Side.{Side}
-use Rattle.nf_terms.specs.declared.tree.Pos.{Pos}
+use Rattle.fs_model.specs.declared.sides.Side.{Side}
+use Rattle.fs_model.specs.declared.sides.Pos.{Pos}
 use Rattle.nf_terms.specs.declared.form.Nf.{Nf}
 use Rattle.nf_terms.specs.declared.form.Nf.TheVariants.{Num, Arr, Seq}
 use Rattle.nf_sums.specs.Operations.{added, subtracted, multiplied, negated, number}
-use Rattle.nf_arrays.specs.Atoms.{divided, remainder_of}
-use Rattle.nf_arrays.specs.Writes.{written, read_at}
+use Rattle.nf_arrays.specs.NewAtoms.{divided, remainder_of}
+use Rattle.nf_arrays.specs.Writes.{write_array, read_at}
 use Rattle.nf_arrays.specs.Pushes.{pushed}
-use Rattle.nf_subst.specs.Vectors.{number_at, array_at, list_at, with_form}
+use Rattle.nf_subst.specs.Vectors.{number_at, array_form, list_at, with_form}
 use Rattle.nf_rel.specs.Literals.{NormalLiteral, literal}
-use Rattle.sym_paths.specs.Stores.{at}
+use Rattle.sym_paths.specs.ValuationStores.{at}
 use Rattle.sym_paths.specs.Sequences.{each}
 
 -- the left operand, the right operand, and then the operation; of a read the index; a variable is its vector's value
 abbrev pub evaluate : Side → List (Pos × Nf) → Term ℕ → Computed Polynomial
 evaluate side v (Number n) = number n
 evaluate side v (Variable x) = Done (number_at v (at side x))
-evaluate side v (Read x i) = after (evaluate side v i) (λ j. read_at (array_at v (at side x)) j)
+evaluate side v (Read x i) = after (evaluate side v i) (λ j. read_at (array_form v (at side x)) j)
 evaluate side v (Sum a b) = after (evaluate side v a) (λ p. after (evaluate side v b) (λ q. added p q))
 evaluate side v (Difference a b) = after (evaluate side v a) (λ p. after (evaluate side v b) (λ q. subtracted p q))
 evaluate side v (Product a b) = after (evaluate side v a) (λ p. after (evaluate side v b) (λ q. multiplied p q))
@@ -39,12 +40,13 @@ pub data Change : Type 0 where
 
 abbrev pub evaluate_assignment : Side → List (Pos × Nf) → Assignment ℕ → Computed Change
 evaluate_assignment side v (Assign x e) = after (evaluate side v e) (λ p. Done (SetTo x p))
-evaluate_assignment side v (ArrayWrite x i e) = after (evaluate side v i) (λ j. after (evaluate side v e) (λ p. Done (PutAt x j p)))
+evaluate_assignment side v (ArrayWrite x i e) = after (evaluate side v i)
+    (λ j. after (evaluate side v e) (λ p. Done (PutAt x j p)))
 evaluate_assignment side v (Emit x e) = after (evaluate side v e) (λ p. Done (PushTo x p))
 
 abbrev pub change : Side → Change → List (Pos × Nf) → Computed (List (Pos × Nf))
 change side (SetTo x p) v = Done (with_form (at side x) (Num p) v)
-change side (PutAt x j p) v = after (written (array_at v (at side x)) j p) (λ a. Done (with_form (at side x) (Arr a) v))
+change side (PutAt x j p) v = after (write_array (array_form v (at side x)) j p) (λ a. Done (with_form (at side x) (Arr a) v))
 change side (PushTo x p) v = after (pushed (list_at v (at side x)) p) (λ l. Done (with_form (at side x) (Seq l) v))
 
 abbrev pub change_all : Side → List Change → List (Pos × Nf) → Computed (List (Pos × Nf))

@@ -1,4 +1,4 @@
-pub mod Stores
+pub mod ValuationStores
 pub mod Sequences
 pub mod Evaluation
 pub mod Execution

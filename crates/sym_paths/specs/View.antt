@@ -1,8 +1,6 @@
 -- Posts of src/ as plain data.
-use Rattle.std.specs.Prelude.{List, map, Result, Ok, Err}
+use Rattle.std.specs.Prelude.{map, Result, Ok, Err}
 use Rattle.nf_terms.specs.declared.stop.NfStop.{NfStop}
-use Rattle.nf_rel.specs.declared.literals.NLit.{NLit}
-use Rattle.nf_rel.specs.Literals.{NormalLiteral}
 use Rattle.nf_rel.specs.View.{literal_in}
 use Rattle.sym_paths.specs.declared.execution.Post.{Post as CodePost}
 use Rattle.sym_paths.specs.Execution.{Post}

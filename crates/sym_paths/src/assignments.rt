@@ -1,10 +1,11 @@
 //! Assignments over a vector: all are evaluated over the vector before, and then done in order.
 
-ghost use Rattle.std.specs.Prelude.{◌≡◌, map};
+ghost use Rattle.std.specs.Prelude.{map};
 ghost use Rattle.fs_model.specs.View.{assignment_of};
 ghost use Rattle.nf_terms.specs.Computed.{Answers};
 ghost use Rattle.sym_paths.specs.Sequences.{each};
-ghost use Rattle.sym_paths.specs.Evaluation.{evaluate_assignment as evaluated_assignment, change as changed, change_all as changed_all, act_over as acted, PutAt, PushTo};
+ghost use Rattle.sym_paths.specs.Evaluation.{evaluate_assignment as evaluated_assignment, change as changed};
+ghost use Rattle.sym_paths.specs.Evaluation.{change_all as changed_all, act_over as acted, PutAt, PushTo};
 ghost use Rattle.sym_paths.specs.View.{told, change_in};
 
 use crate::evaluation::{at, evaluate};
@@ -61,7 +62,8 @@ fn evaluate_assignments(
     v: &Vector,
     assignments: &[Assign<VarId>],
 ) -> Result<Vec<Change>, NfStop>
-    ensures { Answers (told (λ cs. map change_in cs.items) result) (each (λ a. evaluated_assignment side v.now a) (map assignment_of assignments.now)) }
+    ensures { Answers (told (λ cs. map change_in cs.items) result)
+        (each (λ a. evaluated_assignment side v.now a) (map assignment_of assignments.now)) }
 {
     let mut out = Vec::new(alloc);
     for assignment in assignments {

@@ -1,10 +1,10 @@
 //! Expressions over a vector.
 
 ghost use Rattle.std.specs.Prelude.{◌≡◌, map};
-ghost use Rattle.fs_model.specs.View.{term_of, literal_of, assignment_of};
+ghost use Rattle.fs_model.specs.View.{term_of, literal_of};
 ghost use Rattle.nf_terms.specs.Computed.{Answers};
 ghost use Rattle.nf_rel.specs.View.{literal_in};
-ghost use Rattle.sym_paths.specs.Stores.{at as position_of};
+ghost use Rattle.sym_paths.specs.ValuationStores.{at as position_of};
 ghost use Rattle.sym_paths.specs.Sequences.{each};
 ghost use Rattle.sym_paths.specs.Evaluation.{evaluate as evaluated, evaluate_literal as evaluated_literal};
 ghost use Rattle.sym_paths.specs.View.{told};
@@ -93,7 +93,8 @@ pub(crate) fn evaluate_literals(
     v: &Vector,
     literals: &[Lit<VarId>],
 ) -> Result<Vec<NLit>, NfStop>
-    ensures { Answers (told (λ ls. map literal_in ls.items) result) (each (λ l. evaluated_literal side v.now l) (map literal_of literals.now)) }
+    ensures { Answers (told (λ ls. map literal_in ls.items) result)
+        (each (λ l. evaluated_literal side v.now l) (map literal_of literals.now)) }
 {
     let mut out = Vec::new(alloc);
     for literal in literals {

@@ -105,11 +105,13 @@ pub fn conditions(
     evaluate_literals(alloc, side, v, literals)
 }
 
-/// The literals of a path's branch over a vector, which then becomes the vector after the path. Nothing is copied but what changes.
+/// The literals of a path's branch over a vector, which then becomes the vector after the path. Nothing is copied but what
+/// changes.
 ///
 /// `Wide` and `Large` come exactly at the first operation that is not narrow, or narrow and not small: those of the literals come
 /// first, then those of the steps in order, in each step all right sides and indices over the vector before it, and then the
-/// writes and the emitted numbers in the order listed. `NoMemory`: out of memory. After a refusal the vector is that of some step on the way.
+/// writes and the emitted numbers in the order listed. `NoMemory`: out of memory. After a refusal the vector is that of some step
+/// on the way.
 pub fn advance(
     alloc: Global,
     m: &Machine,
@@ -117,7 +119,8 @@ pub fn advance(
     side: Side,
     v: &mut Vector,
 ) -> Result<Vec<NLit>, NfStop>
-    ensures { Answers (told (λ ls. record { conditions = map literal_in ls.items; vector = v.new }) result) (executed m.now (path_of path.now) side v.old) }
+    ensures { Answers (told (λ ls. record { conditions = map literal_in ls.items; vector = v.new }) result)
+        (executed m.now (path_of path.now) side v.old) }
 {
     let conds = conditions(alloc, m, path, side, v)?;
     take_steps(alloc, m, path, side, v)?;

@@ -1,6 +1,8 @@
 -- How many brackets are open at once.
 use Rattle.std.specs.Prelude.{ℕ, ◌+◌, ◌-◌, ◌==◌, ◌||◌, max, Bool, cond, List, [], ◌∷◌}
-use Rattle.term_text.specs.Texts.{ListTerm, EmptyList, BareList, Pushed, Term, polynomial, array, list, Atom, Monomial, Sum, Polynomial, ArrayTerm, Symbol, Read, Quotient, Remainder, Number, One, Times, Positive, Negative, Plus, Minus, Zero, Of, ZeroArray, Bare, Written}
+use Rattle.term_text.specs.TermTexts.{ListSyntax, EmptyList, BareList, Pushed, TermSyntax, polynomial, array, list, Atom}
+use Rattle.term_text.specs.TermTexts.{Monomial, Sum, Polynomial, ArrayTerm, Symbol, Read, Quotient, Remainder, Number, One, Times}
+use Rattle.term_text.specs.TermTexts.{Positive, Negative, Plus, Minus, Zero, Of, ZeroArray, Bare, Written}
 
 abbrev pub opens : ℕ → Bool
 opens b = b == 40 || b == 91 || b == 123
@@ -9,13 +11,13 @@ abbrev pub closes : ℕ → Bool
 closes b = b == 41 || b == 93 || b == 125
 
 -- how many are open after a byte
-abbrev pub after : ℕ → ℕ → ℕ
-after n b = cond (opens b) (n + 1) (cond (closes b) (n - 1) n)
+abbrev pub open_after : ℕ → ℕ → ℕ
+open_after n b = cond (opens b) (n + 1) (cond (closes b) (n - 1) n)
 
 -- the most that are open from here on, where n are open now
 abbrev pub most_open : ℕ → List ℕ → ℕ
 most_open n [] = n
-most_open n (b ∷ bs) = max n (most_open (after n b) bs)
+most_open n (b ∷ bs) = max n (most_open (open_after n b) bs)
 
 -- how many brackets are opened in all
 abbrev pub openings : List ℕ → ℕ
@@ -49,12 +51,12 @@ abbrev mutual
   array_depth (Bare s x) = 0
   array_depth (Written a i v) = max (array_depth a) (1 + max (polynomial_depth i) (polynomial_depth v))
 
-abbrev pub list_depth : ListTerm → ℕ
+abbrev pub list_depth : ListSyntax → ℕ
 list_depth EmptyList = 0
 list_depth (BareList s x) = 0
 list_depth (Pushed l p) = max (list_depth l) (1 + polynomial_depth p)
 
-abbrev pub term_depth : Term → ℕ
+abbrev pub term_depth : TermSyntax → ℕ
 term_depth (polynomial p) = polynomial_depth p
 term_depth (array a) = array_depth a
 term_depth (list l) = list_depth l

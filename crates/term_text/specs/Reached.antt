@@ -1,9 +1,15 @@
 -- What the bytes before a state are: the text of what has been read, and of what it is for.
 use Rattle.std.specs.Prelude.{◌≡◌, ℕ, Bool, true, ◌&&◌, List, [], ◌∷◌, ◌++◌, codes}
 use Rattle.fs_model.specs.Words.{is_word}
-use Rattle.term_text.specs.Texts.{Term, term_text, symbol_text, monomial_text, sum_text, polynomial_text, array_text, list_text}
-use Rattle.term_text.specs.Spelled.{is_number, is_symbol_name, monomial_spelled, sum_spelled, polynomial_spelled, array_spelled, list_spelled, term_spelled}
-use Rattle.term_text.specs.Machine.{ForPolynomial, ForArray, ForMonomial, ForAtom, ForSymbol, in_atom, in_array, in_list, whole_polynomial, whole_array, read_of, dividend, divisor, modulend, modulus, index, place, value, item, positive, negative, plus, minus, first, times, Owed, expect, at_polynomial, at_monomial, at_atom, at_array, at_list, at_symbol, at_sign, in_number, in_symbol, after_list, after_symbol, after_array, after_monomial, after_sum, after_polynomial}
+use Rattle.term_text.specs.TermTexts.{TermSyntax, term_text, symbol_text, monomial_text, sum_text, polynomial_text, array_text}
+use Rattle.term_text.specs.TermTexts.{list_text}
+use Rattle.term_text.specs.SpellableTerms.{is_number_text, is_symbol_name, monomial_spelled, sum_spelled, polynomial_spelled}
+use Rattle.term_text.specs.SpellableTerms.{array_spelled, list_spelled, term_spelled}
+use Rattle.term_text.specs.Machine.{ForPolynomial, ForArray, ForMonomial, ForAtom, ForSymbol, in_atom, in_array, in_list}
+use Rattle.term_text.specs.Machine.{whole_polynomial, whole_array, read_of, dividend, divisor, modulend, modulus, index, place}
+use Rattle.term_text.specs.Machine.{value, item, positive, negative, plus, minus, first, times, Owed, expect, at_polynomial}
+use Rattle.term_text.specs.Machine.{at_monomial, at_atom, at_array, at_list, at_symbol, at_sign, in_number, in_symbol, after_list}
+use Rattle.term_text.specs.Machine.{after_symbol, after_array, after_monomial, after_sum, after_polynomial}
 
 abbrev mutual
   pub before_polynomial : ForPolynomial → List ℕ
@@ -82,14 +88,15 @@ Reached at_list bs = ReadSoFar true [] bs
 Reached (at_symbol s f) bs = ReadSoFar (fine_symbol f) (before_symbol f ++ symbol_text s []) bs
 Reached (in_symbol s x f) bs = ReadSoFar (fine_symbol f && is_word x) (before_symbol f ++ symbol_text s x) bs
 Reached (after_symbol s x f) bs = ReadSoFar (fine_symbol f && is_symbol_name x) (before_symbol f ++ symbol_text s x) bs
-Reached (in_number ds k) bs = ReadSoFar (fine_monomial k && is_number ds) (before_monomial k ++ ds) bs
+Reached (in_number ds k) bs = ReadSoFar (fine_monomial k && is_number_text ds) (before_monomial k ++ ds) bs
 Reached (after_array a k) bs = ReadSoFar (fine_array k && array_spelled a) (before_array k ++ array_text a) bs
 Reached (after_list l) bs = ReadSoFar (list_spelled l) (list_text l) bs
 Reached (after_monomial m k) bs = ReadSoFar (fine_monomial k && monomial_spelled m) (before_monomial k ++ monomial_text m) bs
 Reached (after_sum s k) bs = ReadSoFar (fine_polynomial k && sum_spelled s) (before_polynomial k ++ sum_text s) bs
 Reached (at_sign s k) bs = ReadSoFar (fine_polynomial k && sum_spelled s) (before_polynomial k ++ (sum_text s ++ codes " ")) bs
-Reached (after_polynomial p k) bs = ReadSoFar (fine_polynomial k && polynomial_spelled p) (before_polynomial k ++ polynomial_text p) bs
+Reached (after_polynomial p k) bs = ReadSoFar (fine_polynomial k && polynomial_spelled p)
+    (before_polynomial k ++ polynomial_text p) bs
 
 -- the bytes are the text of what is read in the end
-abbrev pub SpellsTerm : List ℕ → Term → Type 0
+abbrev pub SpellsTerm : List ℕ → TermSyntax → Type 0
 SpellsTerm bs t = ReadSoFar (term_spelled t) (term_text t) bs

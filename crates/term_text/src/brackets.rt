@@ -1,8 +1,8 @@
 //! How many brackets are open at once.
 
 ghost use Rattle.std.specs.Prelude.{◌≡◌, ◌<◌, ◌^◌, nat_le};
-ghost use Rattle.nf_terms.specs.Limits.{depth_limit};
-ghost use Rattle.term_text.specs.Brackets.{opens, closes, after, most_open, openings};
+ghost use Rattle.nf_terms.specs.TermLimits.{depth_limit};
+ghost use Rattle.term_text.specs.Brackets.{opens, closes, open_after, most_open, openings};
 
 use nf_terms::limits::DEPTH_LIMIT;
 
@@ -21,7 +21,7 @@ fn closes(b: u8) -> bool
 // How many are open after a byte.
 fn after(now: usize, b: u8) -> usize
     requires { now < 2 ^ 63 }
-    ensures { result ≡ after now b }
+    ensures { result ≡ open_after now b }
 {
     if opens(b) {
         now + 1

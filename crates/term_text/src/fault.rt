@@ -6,7 +6,7 @@ ghost use Rattle.term_text.specs.declared.fault.ReadError.TheVariants as errors;
 use std::alloc::{AllocError, AllocFailed};
 
 /// Why a term could not be read.
-#[derive(Clone, Copy, Debug, PartialEq, Eq)]
+#[derive(Clone, Copy, Debug)]
 pub enum ReadError {
     /// The bytes spell no term of the sort that is wanted.
     BadTerm,

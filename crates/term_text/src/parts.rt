@@ -1,9 +1,12 @@
 //! Making the parts of written terms.
 
 ghost use Rattle.std.specs.Prelude.{◌≡◌, ◌<◌, map, length};
-ghost use Rattle.term_text.specs.Machine.{MadeAs};
-ghost use Rattle.term_text.specs.Texts.{Monomial, ArrayTerm, ListTerm, One, Times, Read, Quotient, Remainder, Written, Pushed};
-ghost use Rattle.term_text.specs.View.{atom_in, head_in, monomial_in, polynomial_in, array_in, term_in, write_in, times_all, written_all, pushed_all, sum_of, first_sum, more_sum};
+ghost use Rattle.term_text.specs.Machine.{TermMadeAs};
+ghost use Rattle.term_text.specs.TermTexts.{Monomial, ArrayTerm, ListSyntax, One, Times, Read, Quotient, Remainder, Written};
+ghost use Rattle.term_text.specs.TermTexts.{Pushed};
+ghost use Rattle.term_text.specs.View.{written_atom_in, head_in, written_monomial_in, written_polynomial_in, written_array_in};
+ghost use Rattle.term_text.specs.View.{written_term_in, written_write_in, times_all, written_all, pushed_all, sum_of, first_sum};
+ghost use Rattle.term_text.specs.View.{more_sum};
 
 use crate::fault::ReadError;
 use crate::tree::{WrittenArray, WrittenAtom, WrittenHead, WrittenMonomial, WrittenPolynomial};
@@ -11,7 +14,7 @@ use std::alloc::Global;
 
 /// The head of an atom.
 pub fn one<'a>(first: WrittenAtom<'a>) -> WrittenHead<'a>
-    ensures { head_in result ≡ One (atom_in first.entry) }
+    ensures { head_in result ≡ One (written_atom_in first.entry) }
 {
     WrittenHead::One(first)
 }
@@ -22,7 +25,8 @@ pub fn make_read<'a>(
     array: WrittenArray<'a>,
     index: WrittenPolynomial<'a>,
 ) -> Result<WrittenAtom<'a>, ReadError>
-    ensures { MadeAs result (λ a. atom_in a ≡ Read (array_in array.entry) (polynomial_in index.entry)) }
+    ensures { TermMadeAs result
+        (λ a. written_atom_in a ≡ Read (written_array_in array.entry) (written_polynomial_in index.entry)) }
 {
     Ok(WrittenAtom::Read(Box::new(alloc, array)?, Box::new(alloc, index)?))
 }
@@ -33,7 +37,8 @@ pub fn make_quotient<'a>(
     left: WrittenPolynomial<'a>,
     right: WrittenPolynomial<'a>,
 ) -> Result<WrittenAtom<'a>, ReadError>
-    ensures { MadeAs result (λ a. atom_in a ≡ Quotient (polynomial_in left.entry) (polynomial_in right.entry)) }
+    ensures { TermMadeAs result
+        (λ a. written_atom_in a ≡ Quotient (written_polynomial_in left.entry) (written_polynomial_in right.entry)) }
 {
     Ok(WrittenAtom::Quotient(Box::new(alloc, left)?, Box::new(alloc, right)?))
 }
@@ -44,7 +49,8 @@ pub fn make_remainder<'a>(
     left: WrittenPolynomial<'a>,
     right: WrittenPolynomial<'a>,
 ) -> Result<WrittenAtom<'a>, ReadError>
-    ensures { MadeAs result (λ a. atom_in a ≡ Remainder (polynomial_in left.entry) (polynomial_in right.entry)) }
+    ensures { TermMadeAs result
+        (λ a. written_atom_in a ≡ Remainder (written_polynomial_in left.entry) (written_polynomial_in right.entry)) }
 {
     Ok(WrittenAtom::Remainder(Box::new(alloc, left)?, Box::new(alloc, right)?))
 }
@@ -55,7 +61,9 @@ pub fn push_atom<'a>(
     atoms: &mut Vec<WrittenAtom<'a>>,
     next: WrittenAtom<'a>,
 ) -> Result<(), ReadError>
-    ensures { MadeAs result (λ _. (m : Monomial) → times_all m (map atom_in atoms.new.items) ≡ Times (times_all m (map atom_in atoms.old.items)) (atom_in next.entry)) }
+    ensures { TermMadeAs result
+        (λ _. (m : Monomial) → times_all m (map written_atom_in atoms.new.items)
+        ≡ Times (times_all m (map written_atom_in atoms.old.items)) (written_atom_in next.entry)) }
 {
     Ok(atoms.push(next)?)
 }
@@ -68,8 +76,10 @@ pub fn push_monomial<'a>(
     next: WrittenMonomial<'a>,
 ) -> Result<(), ReadError>
     requires { 0 < length monomials.old.items }
-    ensures sum { MadeAs result (λ _. sum_of (map term_in monomials.new.items) ≡ more_sum (sum_of (map term_in monomials.old.items)) (minus, monomial_in next.entry)) }
-    ensures some { MadeAs result (λ _. 0 < length monomials.new.items) }
+    ensures sum { TermMadeAs result
+        (λ _. sum_of (map written_term_in monomials.new.items) ≡ more_sum (sum_of (map written_term_in monomials.old.items))
+        (minus, written_monomial_in next.entry)) }
+    ensures some { TermMadeAs result (λ _. 0 < length monomials.new.items) }
 {
     Ok(monomials.push((minus, next))?)
 }
@@ -81,7 +91,10 @@ pub fn push_write<'a>(
     index: WrittenPolynomial<'a>,
     value: WrittenPolynomial<'a>,
 ) -> Result<(), ReadError>
-    ensures { MadeAs result (λ _. (a : ArrayTerm) → written_all a (map write_in writes.new.items) ≡ Written (written_all a (map write_in writes.old.items)) (polynomial_in index.entry) (polynomial_in value.entry)) }
+    ensures { TermMadeAs result
+        (λ _. (a : ArrayTerm) → written_all a (map written_write_in writes.new.items)
+        ≡ Written (written_all a (map written_write_in writes.old.items)) (written_polynomial_in index.entry)
+        (written_polynomial_in value.entry)) }
 {
     Ok(writes.push((index, value))?)
 }
@@ -92,8 +105,9 @@ pub fn first_of<'a>(
     minus: bool,
     first: WrittenMonomial<'a>,
 ) -> Result<Vec<(bool, WrittenMonomial<'a>)>, ReadError>
-    ensures sum { MadeAs result (λ monomials. sum_of (map term_in monomials.items) ≡ first_sum (minus, monomial_in first.entry)) }
-    ensures some { MadeAs result (λ monomials. 0 < length monomials.items) }
+    ensures sum { TermMadeAs result
+        (λ monomials. sum_of (map written_term_in monomials.items) ≡ first_sum (minus, written_monomial_in first.entry)) }
+    ensures some { TermMadeAs result (λ monomials. 0 < length monomials.items) }
 {
     let mut monomials = Vec::new(alloc);
     monomials.push((minus, first))?;
@@ -106,7 +120,9 @@ pub fn push_item<'a>(
     items: &mut Vec<WrittenPolynomial<'a>>,
     next: WrittenPolynomial<'a>,
 ) -> Result<(), ReadError>
-    ensures { MadeAs result (λ _. (l : ListTerm) → pushed_all l (map polynomial_in items.new.items) ≡ Pushed (pushed_all l (map polynomial_in items.old.items)) (polynomial_in next.entry)) }
+    ensures { TermMadeAs result
+        (λ _. (l : ListSyntax) → pushed_all l (map written_polynomial_in items.new.items)
+        ≡ Pushed (pushed_all l (map written_polynomial_in items.old.items)) (written_polynomial_in next.entry)) }
 {
     Ok(items.push(next)?)
 }

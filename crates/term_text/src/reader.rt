@@ -1,10 +1,11 @@
 //! Reading a whole text.
 
-ghost use Rattle.std.specs.Prelude.{◌≡◌, true, IfOk};
-ghost use Rattle.term_text.specs.Machine.{MadeAs, IsRead, Goes, reading, in_array, in_list, whole_polynomial, whole_array, at_polynomial, at_array, at_list, at_symbol, after_array, after_list};
-ghost use Rattle.term_text.specs.Texts.{Polynomial, ArrayTerm, ListTerm, polynomial, array, list};
-ghost use Rattle.term_text.specs.Spelled.{Spells};
-ghost use Rattle.term_text.specs.View.{polynomial_in, array_in, list_in, base_in, list_base_in};
+ghost use Rattle.std.specs.Prelude.{◌≡◌, IfOk};
+ghost use Rattle.term_text.specs.Machine.{TermMadeAs, IsRead, Goes, term_reading, in_array, in_list, whole_polynomial};
+ghost use Rattle.term_text.specs.Machine.{whole_array, at_polynomial, at_array, at_list, at_symbol, after_array, after_list};
+ghost use Rattle.term_text.specs.TermTexts.{Polynomial, ArrayTerm, ListSyntax, polynomial, array, list};
+ghost use Rattle.term_text.specs.SpellableTerms.{SpellsTermText};
+ghost use Rattle.term_text.specs.View.{written_polynomial_in, written_array_in, written_list_in, base_in, list_base_in};
 
 use crate::brackets::is_shallow;
 use crate::fault::ReadError;
@@ -18,7 +19,7 @@ use std::alloc::Global;
 
 // The polynomial that all bytes are read as.
 fn whole_polynomial<'a>(alloc: Global, bytes: &'a [u8]) -> Result<WrittenPolynomial<'a>, ReadError>
-    ensures { IsRead (at_polynomial whole_polynomial) (λ t. polynomial (polynomial_in t)) result bytes.now }
+    ensures { IsRead (at_polynomial whole_polynomial) (λ t. polynomial (written_polynomial_in t)) result bytes.now }
 {
     let (made, rest) = polynomial(alloc, bytes)?;
     match rest {
@@ -30,7 +31,8 @@ fn whole_polynomial<'a>(alloc: Global, bytes: &'a [u8]) -> Result<WrittenPolynom
 // The symbol that an array begins with.
 #[tactic(auto, using(crate::proofs::Steps::array_base))]
 fn symbol_base<'a>(side: Side, bytes: &'a [u8]) -> Result<(WrittenBase<'a>, &'a [u8]), ReadError>
-    ensures { Goes result (reading bytes.now (at_symbol side in_array)) (λ x. reading x.1.now (after_array (base_in x.0) whole_array)) }
+    ensures { Goes result (term_reading bytes.now (at_symbol side in_array))
+        (λ x. term_reading x.1.now (after_array (base_in x.0) whole_array)) }
 {
     let (name, rest) = word(bytes)?;
     Ok((WrittenBase::Symbol(side, name), rest))
@@ -38,7 +40,7 @@ fn symbol_base<'a>(side: Side, bytes: &'a [u8]) -> Result<(WrittenBase<'a>, &'a 
 
 // What an array begins with, and what follows it.
 fn array_base<'a>(bytes: &'a [u8]) -> Result<(WrittenBase<'a>, &'a [u8]), ReadError>
-    ensures { Goes result (reading bytes.now at_array) (λ x. reading x.1.now (after_array (base_in x.0) whole_array)) }
+    ensures { Goes result (term_reading bytes.now at_array) (λ x. term_reading x.1.now (after_array (base_in x.0) whole_array)) }
 {
     match bytes {
         [b'L', rest @ ..] => symbol_base(Side::Left, expect(rest, b'.')?),
@@ -56,7 +58,7 @@ fn array_base<'a>(bytes: &'a [u8]) -> Result<(WrittenBase<'a>, &'a [u8]), ReadEr
 // The array that all bytes are read as.
 #[tactic(auto, using(crate::proofs::Steps::array_not_ended))]
 fn whole_array<'a>(alloc: Global, bytes: &'a [u8]) -> Result<WrittenArray<'a>, ReadError>
-    ensures { IsRead at_array (λ t. array (array_in t)) result bytes.now }
+    ensures { IsRead at_array (λ t. array (written_array_in t)) result bytes.now }
 {
     let (base, rest) = array_base(bytes)?;
     let (made, rest) = writes(alloc, base, rest)?;
@@ -72,7 +74,8 @@ fn symbol_list_base<'a>(
     side: Side,
     bytes: &'a [u8],
 ) -> Result<(WrittenListBase<'a>, &'a [u8]), ReadError>
-    ensures { Goes result (reading bytes.now (at_symbol side in_list)) (λ x. reading x.1.now (after_list (list_base_in x.0))) }
+    ensures { Goes result (term_reading bytes.now (at_symbol side in_list))
+        (λ x. term_reading x.1.now (after_list (list_base_in x.0))) }
 {
     let (name, rest) = word(bytes)?;
     Ok((WrittenListBase::Symbol(side, name), rest))
@@ -80,7 +83,7 @@ fn symbol_list_base<'a>(
 
 // What a list begins with, and what follows it.
 fn list_base<'a>(bytes: &'a [u8]) -> Result<(WrittenListBase<'a>, &'a [u8]), ReadError>
-    ensures { Goes result (reading bytes.now at_list) (λ x. reading x.1.now (after_list (list_base_in x.0))) }
+    ensures { Goes result (term_reading bytes.now at_list) (λ x. term_reading x.1.now (after_list (list_base_in x.0))) }
 {
     match bytes {
         [b'L', rest @ ..] => symbol_list_base(Side::Left, expect(rest, b'.')?),
@@ -101,7 +104,7 @@ fn items<'a>(
     base: WrittenListBase<'a>,
     bytes: &'a [u8],
 ) -> Result<WrittenList<'a>, ReadError>
-    ensures { IsRead (after_list (list_base_in base.entry)) (λ t. list (list_in t)) result bytes.now }
+    ensures { IsRead (after_list (list_base_in base.entry)) (λ t. list (written_list_in t)) result bytes.now }
 {
     let mut items = Vec::new(alloc);
     let mut rest = bytes;
@@ -121,7 +124,7 @@ fn items<'a>(
 
 // The list that all bytes are read as.
 fn whole_list<'a>(alloc: Global, bytes: &'a [u8]) -> Result<WrittenList<'a>, ReadError>
-    ensures { IsRead at_list (λ t. list (list_in t)) result bytes.now }
+    ensures { IsRead at_list (λ t. list (written_list_in t)) result bytes.now }
 {
     let (base, rest) = list_base(bytes)?;
     items(alloc, base, rest)
@@ -134,8 +137,9 @@ pub fn read_polynomial<'a>(
     alloc: Global,
     bytes: &'a [u8],
 ) -> Result<WrittenPolynomial<'a>, ReadError>
-    ensures found { IfOk result (λ t. Spells bytes.now (polynomial (polynomial_in t))) }
-    ensures only { (p : Polynomial) → Spells bytes.now (polynomial p) → MadeAs result (λ t. polynomial_in t ≡ p) }
+    ensures found { IfOk result (λ t. SpellsTermText bytes.now (polynomial (written_polynomial_in t))) }
+    ensures only { (p : Polynomial) → SpellsTermText bytes.now (polynomial p)
+        → TermMadeAs result (λ t. written_polynomial_in t ≡ p) }
 {
     if !is_shallow(bytes) {
         return Err(ReadError::BadTerm);
@@ -147,8 +151,8 @@ pub fn read_polynomial<'a>(
 ///
 /// `BadTerm` comes exactly where they spell none, or more than 64 brackets are open at once. `NoMemory` may come at any time.
 pub fn read_array<'a>(alloc: Global, bytes: &'a [u8]) -> Result<WrittenArray<'a>, ReadError>
-    ensures found { IfOk result (λ t. Spells bytes.now (array (array_in t))) }
-    ensures only { (a : ArrayTerm) → Spells bytes.now (array a) → MadeAs result (λ t. array_in t ≡ a) }
+    ensures found { IfOk result (λ t. SpellsTermText bytes.now (array (written_array_in t))) }
+    ensures only { (a : ArrayTerm) → SpellsTermText bytes.now (array a) → TermMadeAs result (λ t. written_array_in t ≡ a) }
 {
     if !is_shallow(bytes) {
         return Err(ReadError::BadTerm);
@@ -160,8 +164,8 @@ pub fn read_array<'a>(alloc: Global, bytes: &'a [u8]) -> Result<WrittenArray<'a>
 ///
 /// `BadTerm` comes exactly where they spell none, or more than 64 brackets are open at once. `NoMemory` may come at any time.
 pub fn read_list<'a>(alloc: Global, bytes: &'a [u8]) -> Result<WrittenList<'a>, ReadError>
-    ensures found { IfOk result (λ t. Spells bytes.now (list (list_in t))) }
-    ensures only { (l : ListTerm) → Spells bytes.now (list l) → MadeAs result (λ t. list_in t ≡ l) }
+    ensures found { IfOk result (λ t. SpellsTermText bytes.now (list (written_list_in t))) }
+    ensures only { (l : ListSyntax) → SpellsTermText bytes.now (list l) → TermMadeAs result (λ t. written_list_in t ≡ l) }
 {
     if !is_shallow(bytes) {
         return Err(ReadError::BadTerm);

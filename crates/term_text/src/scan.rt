@@ -1,18 +1,19 @@
 //! Single bytes, words and numbers.
 
-ghost use Rattle.std.specs.Prelude.{◌≡◌, ◌++◌, ◌<◌, ◌≤◌, ℕ, true, List, length, take, drop, IfOk, IsTrue};
+ghost use Rattle.std.specs.Prelude.{◌≡◌, ◌<◌, ◌≤◌, true, List, length, IfOk};
 ghost use Rattle.std.specs.List.{prefix_len};
 ghost use Rattle.fs_model.specs.Words.{is_digit, is_letter, is_word_byte, is_reserved};
-ghost use Rattle.nf_terms.specs.declared.tree.Side.{Side};
-ghost use Rattle.term_text.specs.Machine.{Owed, ForMonomial, ForSymbol, reading, begins, Goes, expect, at_monomial, after_monomial, at_symbol, after_symbol};
-ghost use Rattle.term_text.specs.Texts.{Number};
+ghost use Rattle.fs_model.specs.declared.sides.Side.{Side};
+ghost use Rattle.term_text.specs.Machine.{Owed, ForMonomial, ForSymbol, term_reading, begins, Goes, expect, at_monomial};
+ghost use Rattle.term_text.specs.Machine.{after_monomial, at_symbol, after_symbol};
+ghost use Rattle.term_text.specs.TermTexts.{Number};
 
 use crate::fault::ReadError;
 use fs_model::name::{is_digit, is_letter, is_reserved, is_word_byte};
 
 /// Takes one byte, which must come.
 pub fn expect(bytes: &[u8], b: u8) -> Result<&[u8], ReadError>
-    ensures goes { (s : Owed) → Goes result (reading bytes.now (expect b s)) (λ r. reading r.now s) }
+    ensures goes { (s : Owed) → Goes result (term_reading bytes.now (expect b s)) (λ r. term_reading r.now s) }
     ensures shorter { IfOk result (λ r. length r.now < length bytes.now) }
 {
     match bytes {
@@ -43,7 +44,8 @@ fn word_len(bytes: &[u8]) -> usize
 #[tactic(auto, using(crate::proofs::Steps::number_starts))]
 pub fn number(bytes: &[u8]) -> Result<(&[u8], &[u8]), ReadError>
     requires { begins is_digit bytes.now ≡ true }
-    ensures goes { (k : ForMonomial) → Goes result (reading bytes.now (at_monomial k)) (λ x. reading x.1.now (after_monomial (Number x.0.now) k)) }
+    ensures goes { (k : ForMonomial) → Goes result (term_reading bytes.now (at_monomial k))
+        (λ x. term_reading x.1.now (after_monomial (Number x.0.now) k)) }
     ensures shorter { IfOk result (λ x. length x.1.now < length bytes.now) }
 {
     match bytes {
@@ -70,7 +72,8 @@ fn begins_with_letter(bytes: &[u8]) -> bool
 /// A name and what follows it.
 #[tactic(auto, using(crate::proofs::Steps::symbol_taken, crate::proofs::Steps::symbol_reserved, crate::proofs::Steps::no_symbol))]
 pub fn word(bytes: &[u8]) -> Result<(&[u8], &[u8]), ReadError>
-    ensures symbol { (s : Side) (f : ForSymbol) → Goes result (reading bytes.now (at_symbol s f)) (λ x. reading x.1.now (after_symbol s x.0.now f)) }
+    ensures symbol { (s : Side) (f : ForSymbol)
+        → Goes result (term_reading bytes.now (at_symbol s f)) (λ x. term_reading x.1.now (after_symbol s x.0.now f)) }
     ensures shorter { IfOk result (λ x. length x.1.now < length bytes.now) }
 {
     if !begins_with_letter(bytes) {

@@ -2,8 +2,11 @@
 
 ghost use Rattle.std.specs.Prelude.{◌≡◌, ◌==◌, ◌||◌, ◌<◌, length, IfOk};
 ghost use Rattle.fs_model.specs.Words.{is_digit};
-ghost use Rattle.term_text.specs.Machine.{Owed, ForPolynomial, ForArray, ForAtom, reading, begins, Goes, EndsWrites, IsNoArray, at_polynomial, at_monomial, at_sign, after_array, after_list, after_polynomial, atom_done, joined, read_of, dividend, divisor, modulend, modulus, index, place, value, item};
-ghost use Rattle.term_text.specs.Texts.{Sum, Polynomial, ArrayTerm, ListTerm, Read, Quotient, Remainder, Written, Pushed};
+ghost use Rattle.term_text.specs.Machine.{ForPolynomial, ForArray, ForAtom, term_reading, begins, Goes, EndsWrites, IsNoArray};
+ghost use Rattle.term_text.specs.Machine.{at_polynomial, at_monomial, at_sign, after_array, after_list, after_polynomial};
+ghost use Rattle.term_text.specs.Machine.{atom_done, monomial_of_sum, read_of, dividend, divisor, modulend, modulus, index};
+ghost use Rattle.term_text.specs.Machine.{place, value, item};
+ghost use Rattle.term_text.specs.TermTexts.{Sum, Polynomial, ArrayTerm, ListSyntax, Read, Quotient, Remainder, Written, Pushed};
 
 use crate::fault::ReadError;
 use crate::scan::expect;
@@ -11,8 +14,12 @@ use fs_model::name::is_digit;
 
 /// Takes `, `, between the two sides of a division.
 pub fn comma(bytes: &[u8]) -> Result<&[u8], ReadError>
-    ensures quotient { (p : Polynomial) (k : ForAtom) → Goes result (reading bytes.now (after_polynomial p (dividend k))) (λ r. reading r.now (at_polynomial (divisor p k))) }
-    ensures remainder { (p : Polynomial) (k : ForAtom) → Goes result (reading bytes.now (after_polynomial p (modulend k))) (λ r. reading r.now (at_polynomial (modulus p k))) }
+    ensures quotient { (p : Polynomial) (k : ForAtom)
+        → Goes result (term_reading bytes.now (after_polynomial p (dividend k)))
+        (λ r. term_reading r.now (at_polynomial (divisor p k))) }
+    ensures remainder { (p : Polynomial) (k : ForAtom)
+        → Goes result (term_reading bytes.now (after_polynomial p (modulend k)))
+        (λ r. term_reading r.now (at_polynomial (modulus p k))) }
     ensures shorter { IfOk result (λ r. length r.now < length bytes.now) }
 {
     match bytes {
@@ -23,7 +30,9 @@ pub fn comma(bytes: &[u8]) -> Result<&[u8], ReadError>
 
 /// Takes `: `, between the index and the value of a write.
 pub fn colon(bytes: &[u8]) -> Result<&[u8], ReadError>
-    ensures goes { (p : Polynomial) (a : ArrayTerm) (k : ForArray) → Goes result (reading bytes.now (after_polynomial p (place a k))) (λ r. reading r.now (at_polynomial (value a p k))) }
+    ensures goes { (p : Polynomial) (a : ArrayTerm) (k : ForArray)
+        → Goes result (term_reading bytes.now (after_polynomial p (place a k)))
+        (λ r. term_reading r.now (at_polynomial (value a p k))) }
     ensures shorter { IfOk result (λ r. length r.now < length bytes.now) }
 {
     match bytes {
@@ -34,8 +43,12 @@ pub fn colon(bytes: &[u8]) -> Result<&[u8], ReadError>
 
 /// Takes `)`, the end of a division.
 pub fn close_paren(bytes: &[u8]) -> Result<&[u8], ReadError>
-    ensures quotient { (l p : Polynomial) (k : ForAtom) → Goes result (reading bytes.now (after_polynomial p (divisor l k))) (λ r. reading r.now (atom_done (Quotient l p) k)) }
-    ensures remainder { (l p : Polynomial) (k : ForAtom) → Goes result (reading bytes.now (after_polynomial p (modulus l k))) (λ r. reading r.now (atom_done (Remainder l p) k)) }
+    ensures quotient { (l p : Polynomial) (k : ForAtom)
+        → Goes result (term_reading bytes.now (after_polynomial p (divisor l k)))
+        (λ r. term_reading r.now (atom_done (Quotient l p) k)) }
+    ensures remainder { (l p : Polynomial) (k : ForAtom)
+        → Goes result (term_reading bytes.now (after_polynomial p (modulus l k)))
+        (λ r. term_reading r.now (atom_done (Remainder l p) k)) }
     ensures shorter { IfOk result (λ r. length r.now < length bytes.now) }
 {
     match bytes {
@@ -46,7 +59,9 @@ pub fn close_paren(bytes: &[u8]) -> Result<&[u8], ReadError>
 
 /// Takes `]`, the end of a read.
 pub fn close_bracket(bytes: &[u8]) -> Result<&[u8], ReadError>
-    ensures goes { (p : Polynomial) (a : ArrayTerm) (k : ForAtom) → Goes result (reading bytes.now (after_polynomial p (index a k))) (λ r. reading r.now (atom_done (Read a p) k)) }
+    ensures goes { (p : Polynomial) (a : ArrayTerm) (k : ForAtom)
+        → Goes result (term_reading bytes.now (after_polynomial p (index a k)))
+        (λ r. term_reading r.now (atom_done (Read a p) k)) }
     ensures shorter { IfOk result (λ r. length r.now < length bytes.now) }
 {
     match bytes {
@@ -57,8 +72,11 @@ pub fn close_bracket(bytes: &[u8]) -> Result<&[u8], ReadError>
 
 /// Takes `}`, the end of a write or of an item.
 pub fn close_brace(bytes: &[u8]) -> Result<&[u8], ReadError>
-    ensures write { (i p : Polynomial) (a : ArrayTerm) (k : ForArray) → Goes result (reading bytes.now (after_polynomial p (value a i k))) (λ r. reading r.now (after_array (Written a i p) k)) }
-    ensures item { (p : Polynomial) (l : ListTerm) → Goes result (reading bytes.now (after_polynomial p (item l))) (λ r. reading r.now (after_list (Pushed l p))) }
+    ensures write { (i p : Polynomial) (a : ArrayTerm) (k : ForArray)
+        → Goes result (term_reading bytes.now (after_polynomial p (value a i k)))
+        (λ r. term_reading r.now (after_array (Written a i p) k)) }
+    ensures item { (p : Polynomial) (l : ListSyntax)
+        → Goes result (term_reading bytes.now (after_polynomial p (item l))) (λ r. term_reading r.now (after_list (Pushed l p))) }
     ensures shorter { IfOk result (λ r. length r.now < length bytes.now) }
 {
     match bytes {
@@ -70,7 +88,8 @@ pub fn close_brace(bytes: &[u8]) -> Result<&[u8], ReadError>
 /// Takes `[`, after an array that is read.
 pub fn open_bracket(bytes: &[u8]) -> Result<&[u8], ReadError>
     requires { EndsWrites bytes.now }
-    ensures goes { (a : ArrayTerm) (k : ForAtom) → Goes result (reading bytes.now (after_array a (read_of k))) (λ r. reading r.now (at_polynomial (index a k))) }
+    ensures goes { (a : ArrayTerm) (k : ForAtom)
+        → Goes result (term_reading bytes.now (after_array a (read_of k))) (λ r. term_reading r.now (at_polynomial (index a k))) }
     ensures shorter { IfOk result (λ r. length r.now < length bytes.now) }
 {
     match bytes {
@@ -81,7 +100,8 @@ pub fn open_bracket(bytes: &[u8]) -> Result<&[u8], ReadError>
 
 /// Takes `+ ` or `- `: whether it is the latter.
 pub fn sign(bytes: &[u8]) -> Result<(bool, &[u8]), ReadError>
-    ensures goes { (s : Sum) (k : ForPolynomial) → Goes result (reading bytes.now (at_sign s k)) (λ x. reading x.1.now (at_monomial (joined x.0 s k))) }
+    ensures goes { (s : Sum) (k : ForPolynomial)
+        → Goes result (term_reading bytes.now (at_sign s k)) (λ x. term_reading x.1.now (at_monomial (monomial_of_sum x.0 s k))) }
     ensures shorter { IfOk result (λ x. length x.1.now < length bytes.now) }
 {
     match bytes {

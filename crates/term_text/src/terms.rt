@@ -1,9 +1,13 @@
 //! Terms, by descent.
 
-ghost use Rattle.std.specs.Prelude.{◌≡◌, ◌<◌, ◌≤◌, map, length, IfOk};
-ghost use Rattle.term_text.specs.Machine.{ForPolynomial, ForArray, ForMonomial, ForAtom, in_atom, reading, Goes, EndsWrites, EndsMonomial, EndsSum, at_polynomial, at_monomial, at_atom, at_symbol, at_sign, after_array, after_monomial, after_sum, after_polynomial, atom_done, monomial_done, signed, joined, read_of, dividend, modulend};
-ghost use Rattle.term_text.specs.Texts.{Sum};
-ghost use Rattle.term_text.specs.View.{atom_in, head_in, monomial_in, polynomial_in, array_in, base_in, term_in, sum_of, more_sum};
+ghost use Rattle.std.specs.Prelude.{◌<◌, ◌≤◌, map, length, IfOk};
+ghost use Rattle.term_text.specs.Machine.{ForPolynomial, ForArray, ForMonomial, ForAtom, in_atom, term_reading, Goes, EndsWrites};
+ghost use Rattle.term_text.specs.Machine.{EndsMonomial, EndsTermSum, at_polynomial, at_monomial, at_atom, at_symbol, at_sign};
+ghost use Rattle.term_text.specs.Machine.{after_array, after_monomial, after_sum, after_polynomial, atom_done, monomial_done};
+ghost use Rattle.term_text.specs.Machine.{first_monomial_for, read_of, dividend, modulend};
+ghost use Rattle.term_text.specs.TermTexts.{Sum};
+ghost use Rattle.term_text.specs.View.{written_atom_in, head_in, written_monomial_in, written_polynomial_in, written_array_in};
+ghost use Rattle.term_text.specs.View.{base_in, written_term_in, sum_of, more_sum};
 
 use crate::fault::ReadError;
 use crate::parts::{
@@ -22,7 +26,8 @@ use std::alloc::Global;
 
 #[cycle(terms)]
 fn atom<'a>(alloc: Global, bytes: &'a [u8]) -> Result<(WrittenAtom<'a>, &'a [u8]), ReadError>
-    ensures goes { (k : ForAtom) → Goes result (reading bytes.now (at_atom k)) (λ x. reading x.1.now (atom_done (atom_in x.0) k)) }
+    ensures goes { (k : ForAtom) → Goes result (term_reading bytes.now (at_atom k))
+        (λ x. term_reading x.1.now (atom_done (written_atom_in x.0) k)) }
     ensures shorter { IfOk result (λ x. length x.1.now < length bytes.now) }
 {
     match bytes {
@@ -64,7 +69,8 @@ fn symbol<'a>(
     side: Side,
     bytes: &'a [u8],
 ) -> Result<(WrittenAtom<'a>, &'a [u8]), ReadError>
-    ensures goes { (k : ForAtom) → Goes result (reading bytes.now (at_symbol side (in_atom k))) (λ x. reading x.1.now (atom_done (atom_in x.0) k)) }
+    ensures goes { (k : ForAtom) → Goes result (term_reading bytes.now (at_symbol side (in_atom k)))
+        (λ x. term_reading x.1.now (atom_done (written_atom_in x.0) k)) }
     ensures shorter { IfOk result (λ x. length x.1.now < length bytes.now) }
 {
     let (name, rest) = word(bytes)?;
@@ -82,7 +88,8 @@ fn read<'a>(
     base: WrittenBase<'a>,
     bytes: &'a [u8],
 ) -> Result<(WrittenAtom<'a>, &'a [u8]), ReadError>
-    ensures goes { (k : ForAtom) → Goes result (reading bytes.now (after_array (base_in base.entry) (read_of k))) (λ x. reading x.1.now (atom_done (atom_in x.0) k)) }
+    ensures goes { (k : ForAtom) → Goes result (term_reading bytes.now (after_array (base_in base.entry) (read_of k)))
+        (λ x. term_reading x.1.now (atom_done (written_atom_in x.0) k)) }
     ensures shorter { IfOk result (λ x. length x.1.now < length bytes.now) }
 {
     let (array, rest) = writes(alloc, base, bytes)?;
@@ -100,7 +107,8 @@ pub fn writes<'a>(
     base: WrittenBase<'a>,
     bytes: &'a [u8],
 ) -> Result<(WrittenArray<'a>, &'a [u8]), ReadError>
-    ensures goes { (k : ForArray) → Goes result (reading bytes.now (after_array (base_in base.entry) k)) (λ x. reading x.1.now (after_array (array_in x.0) k)) }
+    ensures goes { (k : ForArray) → Goes result (term_reading bytes.now (after_array (base_in base.entry) k))
+        (λ x. term_reading x.1.now (after_array (written_array_in x.0) k)) }
     ensures shorter { IfOk result (λ x. length x.1.now ≤ length bytes.now) }
     ensures ends { IfOk result (λ x. EndsWrites x.1.now) }
 {
@@ -123,7 +131,8 @@ pub fn writes<'a>(
 
 #[cycle(terms)]
 fn quotient<'a>(alloc: Global, bytes: &'a [u8]) -> Result<(WrittenAtom<'a>, &'a [u8]), ReadError>
-    ensures goes { (k : ForAtom) → Goes result (reading bytes.now (at_polynomial (dividend k))) (λ x. reading x.1.now (atom_done (atom_in x.0) k)) }
+    ensures goes { (k : ForAtom) → Goes result (term_reading bytes.now (at_polynomial (dividend k)))
+        (λ x. term_reading x.1.now (atom_done (written_atom_in x.0) k)) }
     ensures shorter { IfOk result (λ x. length x.1.now < length bytes.now) }
 {
     let (left, rest) = polynomial(alloc, bytes)?;
@@ -136,7 +145,8 @@ fn quotient<'a>(alloc: Global, bytes: &'a [u8]) -> Result<(WrittenAtom<'a>, &'a 
 
 #[cycle(terms)]
 fn remainder<'a>(alloc: Global, bytes: &'a [u8]) -> Result<(WrittenAtom<'a>, &'a [u8]), ReadError>
-    ensures goes { (k : ForAtom) → Goes result (reading bytes.now (at_polynomial (modulend k))) (λ x. reading x.1.now (atom_done (atom_in x.0) k)) }
+    ensures goes { (k : ForAtom) → Goes result (term_reading bytes.now (at_polynomial (modulend k)))
+        (λ x. term_reading x.1.now (atom_done (written_atom_in x.0) k)) }
     ensures shorter { IfOk result (λ x. length x.1.now < length bytes.now) }
 {
     let (left, rest) = polynomial(alloc, bytes)?;
@@ -151,7 +161,8 @@ fn remainder<'a>(alloc: Global, bytes: &'a [u8]) -> Result<(WrittenAtom<'a>, &'a
 #[cycle(terms)]
 #[tactic(auto, using(crate::proofs::Steps::monomial_starts))]
 fn head<'a>(alloc: Global, bytes: &'a [u8]) -> Result<(WrittenHead<'a>, &'a [u8]), ReadError>
-    ensures goes { (k : ForMonomial) → Goes result (reading bytes.now (at_monomial k)) (λ x. reading x.1.now (after_monomial (head_in x.0) k)) }
+    ensures goes { (k : ForMonomial) → Goes result (term_reading bytes.now (at_monomial k))
+        (λ x. term_reading x.1.now (after_monomial (head_in x.0) k)) }
     ensures shorter { IfOk result (λ x. length x.1.now < length bytes.now) }
 {
     if begins_with_digit(bytes) {
@@ -166,7 +177,8 @@ fn head<'a>(alloc: Global, bytes: &'a [u8]) -> Result<(WrittenHead<'a>, &'a [u8]
 // The atoms of a monomial.
 #[cycle(terms)]
 fn factors<'a>(alloc: Global, bytes: &'a [u8]) -> Result<(WrittenMonomial<'a>, &'a [u8]), ReadError>
-    ensures goes { (k : ForMonomial) → Goes result (reading bytes.now (at_monomial k)) (λ x. reading x.1.now (after_monomial (monomial_in x.0) k)) }
+    ensures goes { (k : ForMonomial) → Goes result (term_reading bytes.now (at_monomial k))
+        (λ x. term_reading x.1.now (after_monomial (written_monomial_in x.0) k)) }
     ensures shorter { IfOk result (λ x. length x.1.now < length bytes.now) }
     ensures ends { IfOk result (λ x. EndsMonomial x.1.now) }
 {
@@ -190,7 +202,8 @@ fn monomial<'a>(
     alloc: Global,
     bytes: &'a [u8],
 ) -> Result<(WrittenMonomial<'a>, &'a [u8]), ReadError>
-    ensures goes { (k : ForMonomial) → Goes result (reading bytes.now (at_monomial k)) (λ x. reading x.1.now (monomial_done (monomial_in x.0) k)) }
+    ensures goes { (k : ForMonomial) → Goes result (term_reading bytes.now (at_monomial k))
+        (λ x. term_reading x.1.now (monomial_done (written_monomial_in x.0) k)) }
     ensures shorter { IfOk result (λ x. length x.1.now < length bytes.now) }
 {
     let (made, rest) = factors(alloc, bytes)?;
@@ -204,7 +217,9 @@ fn further<'a>(
     alloc: Global,
     bytes: &'a [u8],
 ) -> Result<(bool, WrittenMonomial<'a>, &'a [u8]), ReadError>
-    ensures goes { (s : Sum) (k : ForPolynomial) → Goes result (reading bytes.now (at_sign s k)) (λ x. reading x.2.now (after_sum (more_sum s (x.0, monomial_in x.1)) k)) }
+    ensures goes { (s : Sum) (k : ForPolynomial)
+        → Goes result (term_reading bytes.now (at_sign s k))
+        (λ x. term_reading x.2.now (after_sum (more_sum s (x.0, written_monomial_in x.1)) k)) }
     ensures shorter { IfOk result (λ x. length x.2.now < length bytes.now) }
 {
     let (minus, rest) = sign(bytes)?;
@@ -220,10 +235,11 @@ fn monomials<'a>(
     minus: bool,
     bytes: &'a [u8],
 ) -> Result<(Vec<(bool, WrittenMonomial<'a>)>, &'a [u8]), ReadError>
-    ensures goes { (k : ForPolynomial) → Goes result (reading bytes.now (at_monomial (signed minus k))) (λ x. reading x.1.now (after_sum (sum_of (map term_in x.0.items)) k)) }
+    ensures goes { (k : ForPolynomial) → Goes result (term_reading bytes.now (at_monomial (first_monomial_for minus k)))
+        (λ x. term_reading x.1.now (after_sum (sum_of (map written_term_in x.0.items)) k)) }
     ensures some { IfOk result (λ x. 0 < length x.0.items) }
     ensures shorter { IfOk result (λ x. length x.1.now < length bytes.now) }
-    ensures ends { IfOk result (λ x. EndsSum x.1.now) }
+    ensures ends { IfOk result (λ x. EndsTermSum x.1.now) }
 {
     let (first, mut rest) = monomial(alloc, bytes)?;
     let mut monomials = first_of(alloc, minus, first)?;
@@ -246,7 +262,8 @@ fn sum<'a>(
     minus: bool,
     bytes: &'a [u8],
 ) -> Result<(WrittenPolynomial<'a>, &'a [u8]), ReadError>
-    ensures goes { (k : ForPolynomial) → Goes result (reading bytes.now (at_monomial (signed minus k))) (λ x. reading x.1.now (after_polynomial (polynomial_in x.0) k)) }
+    ensures goes { (k : ForPolynomial) → Goes result (term_reading bytes.now (at_monomial (first_monomial_for minus k)))
+        (λ x. term_reading x.1.now (after_polynomial (written_polynomial_in x.0) k)) }
     ensures shorter { IfOk result (λ x. length x.1.now < length bytes.now) }
 {
     let (monomials, rest) = monomials(alloc, minus, bytes)?;
@@ -260,7 +277,8 @@ pub fn polynomial<'a>(
     alloc: Global,
     bytes: &'a [u8],
 ) -> Result<(WrittenPolynomial<'a>, &'a [u8]), ReadError>
-    ensures goes { (k : ForPolynomial) → Goes result (reading bytes.now (at_polynomial k)) (λ x. reading x.1.now (after_polynomial (polynomial_in x.0) k)) }
+    ensures goes { (k : ForPolynomial) → Goes result (term_reading bytes.now (at_polynomial k))
+        (λ x. term_reading x.1.now (after_polynomial (written_polynomial_in x.0) k)) }
     ensures shorter { IfOk result (λ x. length x.1.now < length bytes.now) }
 {
     if !begins_with_zero_or_minus(bytes) {

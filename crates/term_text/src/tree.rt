@@ -36,7 +36,7 @@ pub struct WrittenPolynomial<'a> {
 }
 
 /// What an array's writes begin from: `zero`, or a symbol.
-#[derive(Clone, Copy, Debug)]
+#[derive(Clone, Copy)]
 pub enum WrittenBase<'a> {
     Zero,
     Symbol(Side, &'a [u8]),
@@ -51,7 +51,7 @@ pub struct WrittenArray<'a> {
 }
 
 /// What a list's items stand behind: `none`, or a symbol.
-#[derive(Clone, Copy, Debug)]
+#[derive(Clone, Copy)]
 pub enum WrittenListBase<'a> {
     Empty,
     Symbol(Side, &'a [u8]),

@@ -1,20 +1,23 @@
 -- A test of what a list makes is the test of its parts, and its value is made of theirs.
 use Rattle.std.proofs.Common.{◌≡◌, ℕ, Bool, true, false, ◌&&◌, List, [], ◌∷◌, map, refl, sym, ap, ◌∙◌}
-use Rattle.nf_terms.specs.Terms as terms
+use Rattle.nf_terms.specs.NormalTerms as terms
 use Rattle.term_text.specs.declared.tree.WrittenBase.{WrittenBase}
 use Rattle.term_text.specs.declared.tree.WrittenBase.TheVariants as bases
 use Rattle.term_text.specs.declared.tree.WrittenList.{WrittenList}
 use Rattle.term_text.specs.declared.tree.WrittenListBase.{WrittenListBase}
 use Rattle.term_text.specs.declared.tree.WrittenListBase.TheVariants as list_bases
-use Rattle.term_text.specs.Texts.{Atom, Monomial, Sum, Polynomial, ArrayTerm, ListTerm, Times, Written, Pushed}
+use Rattle.term_text.specs.TermTexts.{Atom, Monomial, Sum, Polynomial, ArrayTerm, ListSyntax, Times, Written, Pushed}
 use Rattle.term_text.specs.declared.tree.WrittenMonomial.{WrittenMonomial, out-WrittenMonomial}
 use Rattle.term_text.specs.declared.tree.WrittenPolynomial.{WrittenPolynomial, out-WrittenPolynomial}
 use Rattle.term_text.specs.declared.tree.WrittenArray.{WrittenArray, out-WrittenArray}
 use Rattle.term_text.specs.declared.tree.WrittenAtom.TheFolds.{fold_out-WrittenMonomial, fold_out-WrittenPolynomial, fold_out-WrittenArray}
-use Rattle.term_text.specs.View.{atom_step, head_step, array_step, monomial_step, polynomial_step, atom_in, head_in, monomial_in, polynomial_in, array_in, term_in, write_in, times_all, first_sum, more_sum, sum_all, polynomial_all, written_all, pushed_all, base_in, list_base_in, list_in}
+use Rattle.term_text.specs.View.{written_atom_step, head_step, array_step, monomial_step, polynomial_step, written_atom_in, head_in, written_monomial_in}
+use Rattle.term_text.specs.View.{written_polynomial_in, written_array_in, written_term_in, written_write_in, times_all, first_sum, more_sum, sum_all}
+use Rattle.term_text.specs.View.{polynomial_all, written_all, pushed_all, base_in, list_base_in, written_list_in}
 use Rattle.term_values.specs.Checks.{Test, atom_passes, monomial_passes, sum_passes, polynomial_passes, array_passes, list_passes, factor_passes}
-use Rattle.term_values.specs.Values.{Reading, coefficient, atom_value, atoms_of, sum_value, polynomial_value, array_value, list_base, items_of, list_value}
-use Rattle.term_values.specs.Parts.{follows, stands, atoms_pass, monomials_pass, writes_pass, items_pass, term_value, write_value, base_value}
+use Rattle.term_values.specs.TermValues.{Interpretation, coefficient, atom_value, atoms_of, sum_value, polynomial_value, array_value, list_base, list_items}
+use Rattle.term_values.specs.TermValues.{list_value}
+use Rattle.term_values.specs.ListParts.{has_first_atom, stands, atoms_pass, monomials_pass, writes_pass, items_pass, term_value, write_value, base_value}
 
 and_assoc : (a b c : Bool) → ((a && b) && c) ≡ (a && (b && c))
 and_assoc true b c = refl
@@ -33,9 +36,11 @@ regrouped true true c d h e = rw e (ap (λ x. x && d) (sym (and_nil c)))
 regrouped true false c d h e = refl
 regrouped false b c d h e = refl
 
-atoms_all : (t : Test) (m : Monomial) (xs : List Atom) → monomial_passes t (times_all m xs) ≡ ((monomial_passes t m && stands t m (follows xs)) && atoms_pass t xs)
+atoms_all : (t : Test) (m : Monomial) (xs : List Atom)
+    → monomial_passes t (times_all m xs) ≡ ((monomial_passes t m && stands t m (has_first_atom xs)) && atoms_pass t xs)
 atoms_all t m [] = and_nil (monomial_passes t m) ∙ and_nil (monomial_passes t m && true)
-atoms_all t m (a ∷ xs) = atoms_all t (Times m a) xs ∙ regrouped (monomial_passes t m) (factor_passes t m) (atom_passes t a) (atoms_pass t xs) (stands t (Times m a) (follows xs)) (later_atoms t m a (follows xs))
+atoms_all t m (a ∷ xs) = atoms_all t (Times m a) xs ∙ regrouped (monomial_passes t m) (factor_passes t m) (atom_passes t a) (atoms_pass t xs)
+    (stands t (Times m a) (has_first_atom xs)) (later_atoms t m a (has_first_atom xs))
 
 first_passes : (t : Test) (m : Bool × Monomial) → sum_passes t (first_sum m) ≡ monomial_passes t m.1
 first_passes t (true, m) = refl
@@ -47,7 +52,8 @@ more_passes t s (false, m) = refl
 
 sums_all : (t : Test) (s : Sum) (ms : List (Bool × Monomial)) → sum_passes t (sum_all s ms) ≡ (sum_passes t s && monomials_pass t ms)
 sums_all t s [] = and_nil (sum_passes t s)
-sums_all t s (m ∷ ms) = sums_all t (more_sum s m) ms ∙ ap (λ b. b && monomials_pass t ms) (more_passes t s m) ∙ and_assoc (sum_passes t s) (monomial_passes t m.1) (monomials_pass t ms)
+sums_all t s (m ∷ ms) = sums_all t (more_sum s m) ms ∙ ap (λ b. b && monomials_pass t ms) (more_passes t s m)
+    ∙ and_assoc (sum_passes t s) (monomial_passes t m.1) (monomials_pass t ms)
 
 monomials_all : (t : Test) (ms : List (Bool × Monomial)) → polynomial_passes t (polynomial_all ms) ≡ monomials_pass t ms
 monomials_all t [] = refl
@@ -56,24 +62,35 @@ monomials_all t (m ∷ ms) = sums_all t (first_sum m) ms ∙ ap (λ b. b && mono
 writes_all : (t : Test) (a : ArrayTerm) (ws : List (Polynomial × Polynomial)) → array_passes t (written_all a ws) ≡ (array_passes t a && writes_pass t ws)
 writes_all t a [] = and_nil (array_passes t a)
 writes_all t a (w ∷ ws) =
-    writes_all t (Written a w.0 w.1) ws ∙ ap (λ b. b && writes_pass t ws) (and_assoc (array_passes t a) (polynomial_passes t w.0) (polynomial_passes t w.1)) ∙ and_assoc (array_passes t a) (polynomial_passes t w.0 && polynomial_passes t w.1) (writes_pass t ws)
+    writes_all t (Written a w.0 w.1) ws ∙ ap (λ b. b && writes_pass t ws) (and_assoc (array_passes t a) (polynomial_passes t w.0) (polynomial_passes t w.1))
+    ∙ and_assoc (array_passes t a) (polynomial_passes t w.0 && polynomial_passes t w.1) (writes_pass t ws)
 
-pub items_all : (t : Test) (l : ListTerm) (ps : List Polynomial) → list_passes t (pushed_all l ps) ≡ (list_passes t l && items_pass t ps)
+pub items_all : (t : Test) (l : ListSyntax) (ps : List Polynomial) → list_passes t (pushed_all l ps) ≡ (list_passes t l && items_pass t ps)
 items_all t l [] = and_nil (list_passes t l)
 items_all t l (p ∷ ps) = items_all t (Pushed l p) ps ∙ and_assoc (list_passes t l) (polynomial_passes t p) (items_pass t ps)
 
 -- ---- the same of trees
 
-pub monomial_tree : (t : Test) (m : WrittenMonomial) → monomial_passes t (monomial_in m) ≡ ((monomial_passes t (head_in (out-WrittenMonomial m).head) && stands t (head_in (out-WrittenMonomial m).head) (follows (map atom_in (out-WrittenMonomial m).atoms.items))) && atoms_pass t (map atom_in (out-WrittenMonomial m).atoms.items))
-monomial_tree t m = ap (monomial_passes t) (fold_out-WrittenMonomial Atom Monomial ArrayTerm Monomial Polynomial atom_step head_step array_step monomial_step polynomial_step m) ∙ atoms_all t (head_in (out-WrittenMonomial m).head) (map atom_in (out-WrittenMonomial m).atoms.items)
+pub monomial_tree : (t : Test) (m : WrittenMonomial)
+    → monomial_passes t (written_monomial_in m)
+    ≡ ((monomial_passes t (head_in (out-WrittenMonomial m).head) && stands t (head_in (out-WrittenMonomial m).head)
+    (has_first_atom (map written_atom_in (out-WrittenMonomial m).atoms.items))) && atoms_pass t (map written_atom_in (out-WrittenMonomial m).atoms.items))
+monomial_tree t m = ap (monomial_passes t)
+    (fold_out-WrittenMonomial Atom Monomial ArrayTerm Monomial Polynomial written_atom_step head_step array_step monomial_step polynomial_step m)
+    ∙ atoms_all t (head_in (out-WrittenMonomial m).head) (map written_atom_in (out-WrittenMonomial m).atoms.items)
 
-pub polynomial_tree : (t : Test) (p : WrittenPolynomial) → polynomial_passes t (polynomial_in p) ≡ monomials_pass t (map term_in (out-WrittenPolynomial p).monomials.items)
-polynomial_tree t p = ap (polynomial_passes t) (fold_out-WrittenPolynomial Atom Monomial ArrayTerm Monomial Polynomial atom_step head_step array_step monomial_step polynomial_step p) ∙ monomials_all t (map term_in (out-WrittenPolynomial p).monomials.items)
+pub polynomial_tree : (t : Test) (p : WrittenPolynomial)
+    → polynomial_passes t (written_polynomial_in p) ≡ monomials_pass t (map written_term_in (out-WrittenPolynomial p).monomials.items)
+polynomial_tree t p = ap (polynomial_passes t)
+    (fold_out-WrittenPolynomial Atom Monomial ArrayTerm Monomial Polynomial written_atom_step head_step array_step monomial_step polynomial_step p)
+    ∙ monomials_all t (map written_term_in (out-WrittenPolynomial p).monomials.items)
 
-pub array_tree : (t : Test) (a : WrittenArray) → array_passes t (array_in a) ≡ (array_passes t (base_in (out-WrittenArray a).base) && writes_pass t (map write_in (out-WrittenArray a).writes.items))
+pub array_tree : (t : Test) (a : WrittenArray) → array_passes t (written_array_in a)
+    ≡ (array_passes t (base_in (out-WrittenArray a).base) && writes_pass t (map written_write_in (out-WrittenArray a).writes.items))
 array_tree t a =
-    ap (array_passes t) (fold_out-WrittenArray Atom Monomial ArrayTerm Monomial Polynomial atom_step head_step array_step monomial_step polynomial_step a)
-    ∙ writes_all t (base_in (out-WrittenArray a).base) (map write_in (out-WrittenArray a).writes.items)
+    ap (array_passes t)
+    (fold_out-WrittenArray Atom Monomial ArrayTerm Monomial Polynomial written_atom_step head_step array_step monomial_step polynomial_step a)
+    ∙ writes_all t (base_in (out-WrittenArray a).base) (map written_write_in (out-WrittenArray a).writes.items)
 
 -- ---- values
 
@@ -81,62 +98,87 @@ coefficient_all : (number : List ℕ → ℕ) (m : Monomial) (xs : List Atom) �
 coefficient_all number m [] = refl
 coefficient_all number m (a ∷ xs) = coefficient_all number (Times m a) xs
 
-pub coefficient_tree : (number : List ℕ → ℕ) (m : WrittenMonomial) → coefficient number (monomial_in m) ≡ coefficient number (head_in (out-WrittenMonomial m).head)
-coefficient_tree number m = ap (coefficient number) (fold_out-WrittenMonomial Atom Monomial ArrayTerm Monomial Polynomial atom_step head_step array_step monomial_step polynomial_step m) ∙ coefficient_all number (head_in (out-WrittenMonomial m).head) (map atom_in (out-WrittenMonomial m).atoms.items)
+pub coefficient_tree : (number : List ℕ → ℕ) (m : WrittenMonomial)
+    → coefficient number (written_monomial_in m) ≡ coefficient number (head_in (out-WrittenMonomial m).head)
+coefficient_tree number m = ap (coefficient number)
+    (fold_out-WrittenMonomial Atom Monomial ArrayTerm Monomial Polynomial written_atom_step head_step array_step monomial_step polynomial_step m)
+    ∙ coefficient_all number (head_in (out-WrittenMonomial m).head) (map written_atom_in (out-WrittenMonomial m).atoms.items)
 
-atoms_value : (r : Reading) (m : Monomial) (xs : List Atom) → atoms_of r (times_all m xs) terms.One ≡ atoms_of r m (terms.monomial_of (map (atom_value r) xs))
+atoms_value : (r : Interpretation) (m : Monomial) (xs : List Atom)
+    → atoms_of r (times_all m xs) terms.One ≡ atoms_of r m (terms.monomial_of (map (atom_value r) xs))
 atoms_value r m [] = refl
 atoms_value r m (a ∷ xs) = atoms_value r (Times m a) xs
 
-pub monomial_is : (r : Reading) (m : WrittenMonomial) → atoms_of r (monomial_in m) terms.One ≡ atoms_of r (head_in (out-WrittenMonomial m).head) (terms.monomial_of (map (atom_value r) (map atom_in (out-WrittenMonomial m).atoms.items)))
-monomial_is r m = ap (λ w. atoms_of r w terms.One) (fold_out-WrittenMonomial Atom Monomial ArrayTerm Monomial Polynomial atom_step head_step array_step monomial_step polynomial_step m) ∙ atoms_value r (head_in (out-WrittenMonomial m).head) (map atom_in (out-WrittenMonomial m).atoms.items)
+pub monomial_is : (r : Interpretation) (m : WrittenMonomial)
+    → atoms_of r (written_monomial_in m) terms.One ≡ atoms_of r (head_in (out-WrittenMonomial m).head)
+    (terms.monomial_of (map (atom_value r) (map written_atom_in (out-WrittenMonomial m).atoms.items)))
+monomial_is r m = ap (λ w. atoms_of r w terms.One)
+    (fold_out-WrittenMonomial Atom Monomial ArrayTerm Monomial Polynomial written_atom_step head_step array_step monomial_step polynomial_step m)
+    ∙ atoms_value r (head_in (out-WrittenMonomial m).head) (map written_atom_in (out-WrittenMonomial m).atoms.items)
 
-first_value : (r : Reading) (t : Bool × Monomial) (rest : terms.Polynomial) → sum_value r (first_sum t) rest ≡ terms.Plus (term_value r t).0 (term_value r t).1 rest
+first_value : (r : Interpretation) (t : Bool × Monomial) (rest : terms.Polynomial)
+    → sum_value r (first_sum t) rest ≡ terms.Plus (term_value r t).0 (term_value r t).1 rest
 first_value r (true, m) rest = refl
 first_value r (false, m) rest = refl
 
-more_value : (r : Reading) (s : Sum) (t : Bool × Monomial) (rest : terms.Polynomial) → sum_value r (more_sum s t) rest ≡ sum_value r s (terms.Plus (term_value r t).0 (term_value r t).1 rest)
+more_value : (r : Interpretation) (s : Sum) (t : Bool × Monomial) (rest : terms.Polynomial)
+    → sum_value r (more_sum s t) rest ≡ sum_value r s (terms.Plus (term_value r t).0 (term_value r t).1 rest)
 more_value r s (true, m) rest = refl
 more_value r s (false, m) rest = refl
 
-sums_value : (r : Reading) (s : Sum) (ts : List (Bool × Monomial)) → sum_value r (sum_all s ts) terms.Zero ≡ sum_value r s (terms.polynomial_of (map (term_value r) ts))
+sums_value : (r : Interpretation) (s : Sum) (ts : List (Bool × Monomial))
+    → sum_value r (sum_all s ts) terms.Zero ≡ sum_value r s (terms.polynomial_of (map (term_value r) ts))
 sums_value r s [] = refl
 sums_value r s (t ∷ ts) = sums_value r (more_sum s t) ts ∙ more_value r s t (terms.polynomial_of (map (term_value r) ts))
 
-terms_value : (r : Reading) (ts : List (Bool × Monomial)) → polynomial_value r (polynomial_all ts) ≡ terms.polynomial_of (map (term_value r) ts)
+terms_value : (r : Interpretation) (ts : List (Bool × Monomial)) → polynomial_value r (polynomial_all ts) ≡ terms.polynomial_of (map (term_value r) ts)
 terms_value r [] = refl
 terms_value r (t ∷ ts) = sums_value r (first_sum t) ts ∙ first_value r t (terms.polynomial_of (map (term_value r) ts))
 
-pub polynomial_is : (r : Reading) (p : WrittenPolynomial) → polynomial_value r (polynomial_in p) ≡ terms.polynomial_of (map (term_value r) (map term_in (out-WrittenPolynomial p).monomials.items))
-polynomial_is r p = ap (polynomial_value r) (fold_out-WrittenPolynomial Atom Monomial ArrayTerm Monomial Polynomial atom_step head_step array_step monomial_step polynomial_step p) ∙ terms_value r (map term_in (out-WrittenPolynomial p).monomials.items)
+pub polynomial_is : (r : Interpretation) (p : WrittenPolynomial)
+    → polynomial_value r (written_polynomial_in p) ≡ terms.polynomial_of (map (term_value r) (map written_term_in (out-WrittenPolynomial p).monomials.items))
+polynomial_is r p = ap (polynomial_value r)
+    (fold_out-WrittenPolynomial Atom Monomial ArrayTerm Monomial Polynomial written_atom_step head_step array_step monomial_step polynomial_step p)
+    ∙ terms_value r (map written_term_in (out-WrittenPolynomial p).monomials.items)
 
-writes_value : (r : Reading) (a : ArrayTerm) (ws : List (Polynomial × Polynomial)) → array_value r (written_all a ws) terms.NoWrites ≡ array_value r a (terms.writes_of (map (write_value r) ws))
+writes_value : (r : Interpretation) (a : ArrayTerm) (ws : List (Polynomial × Polynomial))
+    → array_value r (written_all a ws) terms.NoWrites ≡ array_value r a (terms.writes_of (map (write_value r) ws))
 writes_value r a [] = refl
 writes_value r a (w ∷ ws) = writes_value r (Written a w.0 w.1) ws
 
-base_is : (r : Reading) (b : WrittenBase) (ws : terms.Writes) → array_value r (base_in b) ws ≡ terms.Over (base_value r (base_in b)) ws
+base_is : (r : Interpretation) (b : WrittenBase) (ws : terms.Writes) → array_value r (base_in b) ws ≡ terms.Over (base_value r (base_in b)) ws
 base_is r bases.Zero ws = refl
 base_is r (bases.Symbol s x) ws = refl
 
-pub array_is : (r : Reading) (a : WrittenArray) → array_value r (array_in a) terms.NoWrites ≡ terms.Over (base_value r (base_in (out-WrittenArray a).base)) (terms.writes_of (map (write_value r) (map write_in (out-WrittenArray a).writes.items)))
+pub array_is : (r : Interpretation) (a : WrittenArray)
+    → array_value r (written_array_in a) terms.NoWrites ≡ terms.Over (base_value r (base_in (out-WrittenArray a).base))
+    (terms.writes_of (map (write_value r) (map written_write_in (out-WrittenArray a).writes.items)))
 array_is r a =
-    ap (λ w. array_value r w terms.NoWrites) (fold_out-WrittenArray Atom Monomial ArrayTerm Monomial Polynomial atom_step head_step array_step monomial_step polynomial_step a)
-    ∙ writes_value r (base_in (out-WrittenArray a).base) (map write_in (out-WrittenArray a).writes.items) ∙ base_is r (out-WrittenArray a).base (terms.writes_of (map (write_value r) (map write_in (out-WrittenArray a).writes.items)))
+    ap (λ w. array_value r w terms.NoWrites)
+    (fold_out-WrittenArray Atom Monomial ArrayTerm Monomial Polynomial written_atom_step head_step array_step monomial_step polynomial_step a)
+    ∙ writes_value r (base_in (out-WrittenArray a).base) (map written_write_in (out-WrittenArray a).writes.items)
+    ∙ base_is r (out-WrittenArray a).base (terms.writes_of (map (write_value r) (map written_write_in (out-WrittenArray a).writes.items)))
 
-list_base_all : (r : Reading) (l : ListTerm) (ps : List Polynomial) → list_base r (pushed_all l ps) ≡ list_base r l
+list_base_all : (r : Interpretation) (l : ListSyntax) (ps : List Polynomial) → list_base r (pushed_all l ps) ≡ list_base r l
 list_base_all r l [] = refl
 list_base_all r l (p ∷ ps) = list_base_all r (Pushed l p) ps
 
-items_all_of : (r : Reading) (l : ListTerm) (ps : List Polynomial) → items_of r (pushed_all l ps) [] ≡ items_of r l (map (polynomial_value r) ps)
+items_all_of : (r : Interpretation) (l : ListSyntax) (ps : List Polynomial) → list_items r (pushed_all l ps) [] ≡ list_items r l (map (polynomial_value r) ps)
 items_all_of r l [] = refl
 items_all_of r l (p ∷ ps) = items_all_of r (Pushed l p) ps
 
-no_items_of : (r : Reading) (b : WrittenListBase) (rest : List terms.Polynomial) → items_of r (list_base_in b) rest ≡ rest
+no_items_of : (r : Interpretation) (b : WrittenListBase) (rest : List terms.Polynomial) → list_items r (list_base_in b) rest ≡ rest
 no_items_of r list_bases.Empty rest = refl
 no_items_of r (list_bases.Symbol s x) rest = refl
 
-pub list_is : (r : Reading) (l : WrittenList) → list_value r (list_in l) ≡ record { base = list_base r (list_base_in l.base); items = map (polynomial_value r) (map polynomial_in l.items.items) }
+pub list_is : (r : Interpretation) (l : WrittenList)
+    → list_value r (written_list_in l) ≡ record {
+      base = list_base r (list_base_in l.base);
+      items = map (polynomial_value r) (map written_polynomial_in l.items.items);
+    }
 list_is r l = λ k. record {
-  base = list_base_all r (list_base_in l.base) (map polynomial_in l.items.items) k;
-  items = (items_all_of r (list_base_in l.base) (map polynomial_in l.items.items) ∙ no_items_of r l.base (map (polynomial_value r) (map polynomial_in l.items.items))) k;
+  base = list_base_all r (list_base_in l.base) (map written_polynomial_in l.items.items) k;
+  items =
+      (items_all_of r (list_base_in l.base) (map written_polynomial_in l.items.items)
+      ∙ no_items_of r l.base (map (polynomial_value r) (map written_polynomial_in l.items.items))) k;
 }

@@ -2,17 +2,18 @@
 use Rattle.std.proofs.Common.{◌≡◌, ℕ, Bool, true, false, List, Option, Some, None, Result, Ok, Err, refl, sym, ap, ◌∙◌}
 use Rattle.std.specs.Prelude.{IfOk, IfErr}
 use Rattle.std.specs.Option.{option_or}
-use Rattle.nf_terms.specs.Terms as terms
+use Rattle.nf_terms.specs.NormalTerms as terms
 use Rattle.nf_terms.specs.Lists as lists
-use Rattle.term_text.specs.Texts.{Term, Polynomial, ArrayTerm, ListTerm, polynomial, array, list}
-use Rattle.term_text.specs.Spelled.{Spells}
+use Rattle.term_text.specs.TermTexts.{TermSyntax, Polynomial, ArrayTerm, ListSyntax, polynomial, array, list}
+use Rattle.term_text.specs.SpellableTerms.{SpellsTermText}
 use Rattle.term_values.specs.declared.faults.TermError.{TermError}
 use Rattle.term_values.specs.declared.faults.TermError.TheVariants.{BadTerm, NumberTooBig, UnknownName, SortOf, NotNormal, NoMemory}
-use Rattle.term_values.specs.Names.{Find}
-use Rattle.term_values.specs.Values.{within_limit, exact, polynomial_value, array_value, list_value}
+use Rattle.term_values.specs.NameMeanings.{Find}
+use Rattle.term_values.specs.TermValues.{within_limit, exact, polynomial_value, array_value, list_value}
 use Rattle.term_values.specs.Checks.{Test, numbers_fit}
 use Rattle.nf_rel.specs.NormalLiterals.{is_normal}
-use Rattle.term_values.specs.Faults.{is_normal_array, is_normal_list, sort_of_term, term_passes, stands_normal, unless, fault_by, term_fault, IsPolynomialOf, IsArrayOf, IsListOf, IsRefused, IsJudged}
+use Rattle.term_values.specs.TermFaults.{is_normal_array, is_normal_list, sort_of_term, term_passes, stands_normal, unless, fault_by, term_fault}
+use Rattle.term_values.specs.TermFaults.{IsPolynomialOf, ReadsAsArray, ReadsAsList, IsRefusedAsTerm, IsJudgedText}
 use Rattle.term_values.proofs.Exact.{polynomial_exact, array_exact, list_exact}
 
 some_is_none : (e : TermError) → Some e ≡ None → ⊥
@@ -27,7 +28,7 @@ pub fits : (passes : Test → Bool) (find : Find) → fault_by passes find ≡ N
 fits passes find e = fits_by (passes numbers_fit) _ e
 
 -- what stands for the value within the limit stands for the exact one
-exactly : (find : Find) (t : Term) → term_passes numbers_fit t ≡ true → stands_normal (within_limit find) t ≡ stands_normal (exact find) t
+exactly : (find : Find) (t : TermSyntax) → term_passes numbers_fit t ≡ true → stands_normal (within_limit find) t ≡ stands_normal (exact find) t
 exactly find (polynomial p) e = ap is_normal (polynomial_exact find p e)
 exactly find (array a) e = ap is_normal_array (array_exact find a terms.NoWrites e)
 exactly find (list l) e = ap is_normal_list (list_exact find l e)
@@ -39,15 +40,21 @@ pub not_normal_by : (b : Bool) (o : Option TermError) → o ≡ None → b ≡ f
 not_normal_by b o e f = rw (e, f) refl
 
 -- a term without fault
-faultless : (find : Find) (t : Term) → fault_by (λ test. term_passes test t) find ≡ None → stands_normal (within_limit find) t ≡ true → term_fault find t ≡ None
-faultless find t e f = faultless_by (stands_normal (exact find) t) (fault_by (λ test. term_passes test t) find) e (sym (exactly find t (fits (λ test. term_passes test t) find e)) ∙ f)
+faultless : (find : Find) (t : TermSyntax) → fault_by (λ test. term_passes test t) find ≡ None → stands_normal (within_limit find) t ≡ true
+    → term_fault find t ≡ None
+faultless find t e f = faultless_by (stands_normal (exact find) t) (fault_by (λ test. term_passes test t) find) e
+    (sym (exactly find t (fits (λ test. term_passes test t) find e)) ∙ f)
 
 -- a term that isn't normal, and has no other fault
-not_normal : (find : Find) (t : Term) → fault_by (λ test. term_passes test t) find ≡ None → stands_normal (within_limit find) t ≡ false → term_fault find t ≡ Some NotNormal
-not_normal find t e f = not_normal_by (stands_normal (exact find) t) (fault_by (λ test. term_passes test t) find) e (sym (exactly find t (fits (λ test. term_passes test t) find e)) ∙ f)
+not_normal : (find : Find) (t : TermSyntax) → fault_by (λ test. term_passes test t) find ≡ None → stands_normal (within_limit find) t ≡ false
+    → term_fault find t ≡ Some NotNormal
+not_normal find t e f = not_normal_by (stands_normal (exact find) t) (fault_by (λ test. term_passes test t) find) e
+    (sym (exactly find t (fits (λ test. term_passes test t) find e)) ∙ f)
 
 -- the refusal of what has no fault before it is brought to normal form
-pub judged_refused : {X : Type 0} (find : Find) (bytes : List ℕ) (t : Term) (value : X) (r : Result X TermError) → Spells bytes t → fault_by (λ test. term_passes test t) find ≡ None → IsJudged r (stands_normal (within_limit find) t) value → IfErr r (IsRefused find (sort_of_term t) bytes)
+pub judged_refused : {X : Type 0} (find : Find) (bytes : List ℕ) (t : TermSyntax) (value : X) (r : Result X TermError) → SpellsTermText bytes t
+    → fault_by (λ test. term_passes test t) find ≡ None → IsJudgedText r (stands_normal (within_limit find) t) value
+    → IfErr r (IsRefusedAsTerm find (sort_of_term t) bytes)
 judged_refused find bytes t value (Ok x) s e j = tt
 judged_refused find bytes t value (Err BadTerm) s e j = absurd j
 judged_refused find bytes t value (Err NumberTooBig) s e j = absurd j
@@ -56,8 +63,9 @@ judged_refused find bytes t value (Err SortOf) s e j = absurd j
 judged_refused find bytes t value (Err NotNormal) s e j = record { term = t; sort_is = refl; spells = s; first = not_normal find t e j }
 judged_refused find bytes t value (Err NoMemory) s e j = tt
 
-pub polynomial_read : (find : Find) (bytes : List ℕ) (w : Polynomial) (r : Result terms.Polynomial TermError) → Spells bytes (polynomial w) → fault_by (λ test. term_passes test (polynomial w)) find ≡ None
-    → IsJudged r (stands_normal (within_limit find) (polynomial w)) (polynomial_value (within_limit find) w) → IfOk r (IsPolynomialOf find bytes)
+pub polynomial_read : (find : Find) (bytes : List ℕ) (w : Polynomial) (r : Result terms.Polynomial TermError) → SpellsTermText bytes (polynomial w)
+    → fault_by (λ test. term_passes test (polynomial w)) find ≡ None
+    → IsJudgedText r (stands_normal (within_limit find) (polynomial w)) (polynomial_value (within_limit find) w) → IfOk r (IsPolynomialOf find bytes)
 polynomial_read find bytes w (Ok p) s e j = record {
   written = w;
   stands = record { spells = s; faultless = faultless find (polynomial w) e j.1 };
@@ -65,8 +73,9 @@ polynomial_read find bytes w (Ok p) s e j = record {
 }
 polynomial_read find bytes w (Err d) s e j = tt
 
-pub array_read : (find : Find) (bytes : List ℕ) (w : ArrayTerm) (r : Result terms.ArrayTerm TermError) → Spells bytes (array w) → fault_by (λ test. term_passes test (array w)) find ≡ None
-    → IsJudged r (stands_normal (within_limit find) (array w)) (array_value (within_limit find) w terms.NoWrites) → IfOk r (IsArrayOf find bytes)
+pub array_read : (find : Find) (bytes : List ℕ) (w : ArrayTerm) (r : Result terms.ArrayTerm TermError) → SpellsTermText bytes (array w)
+    → fault_by (λ test. term_passes test (array w)) find ≡ None
+    → IsJudgedText r (stands_normal (within_limit find) (array w)) (array_value (within_limit find) w terms.NoWrites) → IfOk r (ReadsAsArray find bytes)
 array_read find bytes w (Ok a) s e j = record {
   written = w;
   stands = record { spells = s; faultless = faultless find (array w) e j.1 };
@@ -74,8 +83,9 @@ array_read find bytes w (Ok a) s e j = record {
 }
 array_read find bytes w (Err d) s e j = tt
 
-pub list_read : (find : Find) (bytes : List ℕ) (w : ListTerm) (r : Result lists.ListTerm TermError) → Spells bytes (list w) → fault_by (λ test. term_passes test (list w)) find ≡ None
-    → IsJudged r (stands_normal (within_limit find) (list w)) (list_value (within_limit find) w) → IfOk r (IsListOf find bytes)
+pub list_read : (find : Find) (bytes : List ℕ) (w : ListSyntax) (r : Result lists.ListTerm TermError) → SpellsTermText bytes (list w)
+    → fault_by (λ test. term_passes test (list w)) find ≡ None
+    → IsJudgedText r (stands_normal (within_limit find) (list w)) (list_value (within_limit find) w) → IfOk r (ReadsAsList find bytes)
 list_read find bytes w (Ok l) s e j = record {
   written = w;
   stands = record { spells = s; faultless = faultless find (list w) e j.1 };

@@ -2,7 +2,7 @@
 use Rattle.std.proofs.Common.{◌≡◌, ℕ, suc, ◌+◌, ◌-◌, ◌^◌, ◌<◌, ◌≤◌, min, List, [], ◌∷◌, length, get_or, drop, arith, drop-cons}
 use Rattle.std.specs.List.{fold}
 use Rattle.std.proofs.Math.ListN.{drop_of_length-le}
-use Rattle.term_values.specs.Numbers.{shifted}
+use Rattle.term_values.specs.DigitNumbers.{shifted}
 
 grows : (n : ℕ) (bs : List ℕ) → n ≤ fold shifted n bs
 grows n [] = omega arith
@@ -14,7 +14,8 @@ stops n m [] e = e
 stops n m (b ∷ bs) e = stops (shifted n b) (shifted m b) bs (omega (arith, e))
 
 -- one digit more
-pub digit_more : (n i d : ℕ) (bs : List ℕ) → i < length bs → min (fold shifted (min (shifted n (get_or bs i d)) (2 ^ 128 - 1)) (drop (i + 1) bs)) (2 ^ 128 - 1) ≡ min (fold shifted n (drop i bs)) (2 ^ 128 - 1)
+pub digit_more : (n i d : ℕ) (bs : List ℕ) → i < length bs
+    → min (fold shifted (min (shifted n (get_or bs i d)) (2 ^ 128 - 1)) (drop (i + 1) bs)) (2 ^ 128 - 1) ≡ min (fold shifted n (drop i bs)) (2 ^ 128 - 1)
 digit_more n i d bs h =
     let s : suc i ≡ i + 1 = omega arith in
     let b = get_or bs i d in

@@ -1,13 +1,15 @@
 -- A test of each number and each name of a written term.
 use Rattle.std.specs.Prelude.{ℕ, Bool, true, not, ◌&&◌, nat_le, List, is_some, codes}
 use Rattle.std.specs.Str.{bytes_eq}
-use Rattle.nf_terms.specs.Limits.{weight_limit}
-use Rattle.nf_terms.specs.declared.tree.Side.{Side}
+use Rattle.nf_terms.specs.TermLimits.{weight_limit}
+use Rattle.fs_model.specs.declared.sides.Side.{Side}
 use Rattle.nf_terms.specs.declared.symbols.Sort.{Sort}
 use Rattle.nf_terms.specs.declared.symbols.Sort.TheVariants as sort
-use Rattle.term_text.specs.Texts.{Atom, Monomial, Sum, Polynomial, ArrayTerm, ListTerm, Symbol, Read, Quotient, Remainder, Number, One, Times, Positive, Negative, Plus, Minus, Zero, Of, ZeroArray, Bare, Written, EmptyList, BareList, Pushed}
-use Rattle.term_values.specs.Numbers.{number_of}
-use Rattle.term_values.specs.Names.{Find, has_sort}
+use Rattle.term_text.specs.TermTexts.{Atom, Monomial, Sum, Polynomial, ArrayTerm, ListSyntax, Symbol, Read, Quotient, Remainder}
+use Rattle.term_text.specs.TermTexts.{Number, One, Times, Positive, Negative, Plus, Minus, Zero, Of, ZeroArray, Bare, Written}
+use Rattle.term_text.specs.TermTexts.{EmptyList, BareList, Pushed}
+use Rattle.term_values.specs.DigitNumbers.{digits_number}
+use Rattle.term_values.specs.NameMeanings.{Find, name_has_sort}
 
 -- of a number, of a number before an atom, and of a name where a sort is needed
 pub record Test : Type 0 where
@@ -48,7 +50,7 @@ abbrev mutual
   array_passes t (Bare s x) = t.name sort.Array s x
   array_passes t (Written a i v) = array_passes t a && polynomial_passes t i && polynomial_passes t v
 
-abbrev pub list_passes : Test → ListTerm → Bool
+abbrev pub list_passes : Test → ListSyntax → Bool
 list_passes t EmptyList = true
 list_passes t (BareList s x) = t.name sort.List s x
 list_passes t (Pushed l p) = list_passes t l && polynomial_passes t p
@@ -61,7 +63,7 @@ any_name wanted s x = true
 
 -- each number is at most 2^127 - 1
 abbrev pub numbers_fit : Test
-numbers_fit = record { number = λ ds. nat_le (number_of ds) weight_limit; factor = any_digits; name = any_name }
+numbers_fit = record { number = λ ds. nat_le (digits_number ds) weight_limit; factor = any_digits; name = any_name }
 
 -- each name stands for a position
 abbrev pub names_known : Find → Test
@@ -69,7 +71,7 @@ names_known find = record { number = any_digits; factor = any_digits; name = λ 
 
 -- each name stands for a position of the sort that is needed
 abbrev pub sorts_fit : Find → Test
-sorts_fit find = record { number = any_digits; factor = any_digits; name = λ wanted s x. has_sort wanted (find s x) }
+sorts_fit find = record { number = any_digits; factor = any_digits; name = λ wanted s x. name_has_sort wanted (find s x) }
 
 -- no 1 stands before an atom
 abbrev pub ones_left_out : Test

@@ -1,8 +1,8 @@
-pub mod Numbers
-pub mod Names
-pub mod Values
+pub mod DigitNumbers
+pub mod NameMeanings
+pub mod TermValues
 pub mod Checks
-pub mod Parts
+pub mod ListParts
 pub mod Conditions
-pub mod Faults
-pub mod Terms
+pub mod TermFaults
+pub mod TermTests

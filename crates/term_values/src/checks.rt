@@ -1,9 +1,11 @@
 //! A test of each number and each name of a written term.
 
 ghost use Rattle.std.specs.Prelude.{◌≡◌, map};
-ghost use Rattle.term_values.specs.Parts.{follows, stands};
-ghost use Rattle.term_text.specs.View.{atom_in, head_in, monomial_in, polynomial_in, array_in, list_in, base_in, list_base_in};
-ghost use Rattle.term_values.specs.Checks.{atom_passes, monomial_passes, polynomial_passes, array_passes, list_passes, factor_passes};
+ghost use Rattle.term_values.specs.ListParts.{has_first_atom, stands};
+ghost use Rattle.term_text.specs.View.{written_atom_in, head_in, written_monomial_in, written_polynomial_in, written_array_in};
+ghost use Rattle.term_text.specs.View.{written_list_in, base_in, list_base_in};
+ghost use Rattle.term_values.specs.Checks.{atom_passes, monomial_passes, polynomial_passes, array_passes, list_passes};
+ghost use Rattle.term_values.specs.Checks.{factor_passes};
 
 use nf_terms::symbols::Sort;
 use nf_terms::tree::Side;
@@ -32,7 +34,7 @@ pub trait Check {
 
 #[cycle(checks)]
 fn atom_passes<C: Check>(check: &C, atom: &WrittenAtom<'_>) -> bool
-    ensures { result ≡ atom_passes (C.test check.now) (atom_in atom.now) }
+    ensures { result ≡ atom_passes (C.test check.now) (written_atom_in atom.now) }
 {
     match atom {
         WrittenAtom::Symbol(side, name) => check.name(Sort::Scalar, *side, name),
@@ -66,7 +68,7 @@ fn stands<C: Check>(check: &C, head: &WrittenHead<'_>, followed: bool) -> bool
 }
 
 fn has_more(atoms: &[WrittenAtom<'_>]) -> bool
-    ensures { result ≡ follows (map atom_in atoms.now) }
+    ensures { result ≡ has_first_atom (map written_atom_in atoms.now) }
 {
     match atoms {
         [] => false,
@@ -87,7 +89,7 @@ fn head_passes<C: Check>(check: &C, head: &WrittenHead<'_>) -> bool
 #[cycle(checks)]
 #[tactic(auto, using(crate::proofs::Lists::monomial_tree))]
 fn monomial_passes<C: Check>(check: &C, monomial: &WrittenMonomial<'_>) -> bool
-    ensures { result ≡ monomial_passes (C.test check.now) (monomial_in monomial.now) }
+    ensures { result ≡ monomial_passes (C.test check.now) (written_monomial_in monomial.now) }
 {
     if !head_passes(check, &monomial.head) {
         return false;
@@ -107,7 +109,7 @@ fn monomial_passes<C: Check>(check: &C, monomial: &WrittenMonomial<'_>) -> bool
 #[cycle(checks)]
 #[tactic(auto, using(crate::proofs::Lists::polynomial_tree))]
 pub fn polynomial_passes<C: Check>(check: &C, polynomial: &WrittenPolynomial<'_>) -> bool
-    ensures { result ≡ polynomial_passes (C.test check.now) (polynomial_in polynomial.now) }
+    ensures { result ≡ polynomial_passes (C.test check.now) (written_polynomial_in polynomial.now) }
 {
     for (_minus, monomial) in &polynomial.monomials {
         if !monomial_passes(check, monomial) {
@@ -130,7 +132,7 @@ fn base_passes<C: Check>(check: &C, base: &WrittenBase<'_>) -> bool
 #[cycle(checks)]
 #[tactic(auto, using(crate::proofs::Lists::array_tree))]
 pub fn array_passes<C: Check>(check: &C, array: &WrittenArray<'_>) -> bool
-    ensures { result ≡ array_passes (C.test check.now) (array_in array.now) }
+    ensures { result ≡ array_passes (C.test check.now) (written_array_in array.now) }
 {
     if !base_passes(check, &array.base) {
         return false;
@@ -155,7 +157,7 @@ fn list_base_passes<C: Check>(check: &C, base: &WrittenListBase<'_>) -> bool
 /// Whether each number and each name of a list passes.
 #[tactic(auto, using(crate::proofs::Lists::items_all))]
 pub fn list_passes<C: Check>(check: &C, list: &WrittenList<'_>) -> bool
-    ensures { result ≡ list_passes (C.test check.now) (list_in list.now) }
+    ensures { result ≡ list_passes (C.test check.now) (written_list_in list.now) }
 {
     if !list_base_passes(check, &list.base) {
         return false;

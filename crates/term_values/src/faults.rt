@@ -1,25 +1,23 @@
 //! Why the text of a term is refused.
 
-ghost use Rattle.std.specs.Prelude.{◌≡◌, Bool};
+ghost use Rattle.std.specs.Prelude.{◌≡◌};
 ghost use Rattle.term_values.specs.declared.faults.TermError.TheVariants as errors;
-ghost use Rattle.term_values.specs.Names.{Find};
-ghost use Rattle.term_values.specs.Checks.{Test};
-ghost use Rattle.condition_text.specs.View.{integer_in, condition_in};
-ghost use Rattle.term_values.specs.Conditions.{integer_passes, condition_passes};
-ghost use Rattle.term_values.specs.Faults.{of_reading, fault_by};
-ghost use Rattle.term_values.specs.Terms.{written_passes};
+ghost use Rattle.term_condition_text.specs.View.{integer_in, condition_in};
+ghost use Rattle.term_values.specs.Conditions.{integer_passes, written_condition_passes};
+ghost use Rattle.term_values.specs.TermFaults.{of_reading, fault_by};
+ghost use Rattle.term_values.specs.TermTests.{written_passes};
 
 use crate::checks::{Check, array_passes, list_passes, polynomial_passes};
 use crate::names::Names;
 use crate::tests::{Faultless, NamesKnown, NumbersFit, OnesLeftOut, SortsFit};
-use condition_text::condition::{WrittenCondition, WrittenInteger};
 use nf_terms::stop::NoMemory;
 use std::alloc::AllocFailed;
+use term_condition_text::condition::{WrittenCondition, WrittenInteger};
 use term_text::fault::ReadError;
 use term_text::tree::{WrittenArray, WrittenList, WrittenPolynomial};
 
 /// Why the text of a term is refused.
-#[derive(Clone, Copy, Debug, PartialEq, Eq)]
+#[derive(Clone, Copy, Debug)]
 pub enum TermError {
     /// The bytes spell no term of the sort that is wanted, or more than 64 brackets are open at once.
     BadTerm,
@@ -36,7 +34,7 @@ pub enum TermError {
 }
 
 impl From<ReadError> for TermError {
-    ghost use Rattle.term_values.specs.Faults.{of_reading};
+    ghost use Rattle.term_values.specs.TermFaults.{of_reading};
 
     ghost from_gives = { λ d e. e ≡ of_reading d };
 
@@ -84,7 +82,7 @@ fn integer_passes<C: Check>(check: &C, integer: &WrittenInteger<'_>) -> bool
 }
 
 fn condition_passes<C: Check>(check: &C, condition: &WrittenCondition<'_>) -> bool
-    ensures { result ≡ condition_passes (C.test check.now) (condition_in condition.now) }
+    ensures { result ≡ written_condition_passes (C.test check.now) (condition_in condition.now) }
 {
     match condition {
         WrittenCondition::False => true,

@@ -4,24 +4,24 @@ ghost use Rattle.std.specs.Prelude.{◌≡◌, IfOk, IfErr};
 ghost use Rattle.nf_rel.specs.Literals as literals;
 ghost use Rattle.nf_rel.specs.NormalLiterals.{is_normal_literal};
 ghost use Rattle.nf_rel.specs.View.{literal_in};
-ghost use Rattle.condition_text.specs.View.{integer_in, condition_in};
-ghost use Rattle.term_values.specs.Numbers.{clipped};
-ghost use Rattle.term_values.specs.Values.{within_limit};
+ghost use Rattle.term_condition_text.specs.View.{integer_in, condition_in};
+ghost use Rattle.term_values.specs.DigitNumbers.{clipped};
+ghost use Rattle.term_values.specs.TermValues.{within_limit};
 ghost use Rattle.term_values.specs.Conditions.{integer_value, condition_value};
-ghost use Rattle.term_values.specs.Faults.{IsJudgedAs, IsLiteralOf, IsRefusedCondition};
+ghost use Rattle.term_values.specs.TermFaults.{IsJudgedAs, IsLiteralOf, IsRefusedCondition};
 
 use crate::faults::{TermError, WrittenTerm, fault};
 use crate::names::Names;
 use crate::numbers::clipped;
 use crate::reader::normal_polynomial;
-use condition_text::condition::{WrittenCondition, WrittenInteger};
-use condition_text::reader::read_condition;
 use nf_rel::kind::Kind;
 use nf_rel::literals::{Bound, NLit};
 use nf_rel::normal::is_inner;
 use nf_rel::primitive::is_primitive;
 use nf_terms::poly::Poly;
 use std::alloc::Global;
+use term_condition_text::condition::{WrittenCondition, WrittenInteger};
+use term_condition_text::reader::read_condition;
 
 // The number that is written.
 fn integer(written: &WrittenInteger<'_>) -> i128
@@ -35,7 +35,7 @@ fn integer(written: &WrittenInteger<'_>) -> i128
 }
 
 // The literal of a direction and a bound, where it is in normal form.
-#[tactic(auto, using(crate::proofs::LiteralForms::inner_in_range, crate::proofs::LiteralForms::literal_normal, crate::proofs::LiteralForms::outer_bound, crate::proofs::LiteralForms::no_direction))]
+#[tactic(auto, using(crate::proofs::LiteralForms::literal_forms))]
 fn bounded(dir: Poly, kind: Kind, bound: &i128) -> Result<NLit, TermError>
     ensures { IsJudgedAs literal_in result (is_normal_literal (literals.Is dir kind bound.now)) (literals.Is dir kind bound.now) }
 {
@@ -60,7 +60,9 @@ fn normal_literal<N: Names>(
     names: &N,
     written: &WrittenCondition<'_>,
 ) -> Result<NLit, TermError>
-    ensures { IsJudgedAs literal_in result (is_normal_literal (condition_value (within_limit (N.find names.now)) (condition_in written.now))) (condition_value (within_limit (N.find names.now)) (condition_in written.now)) }
+    ensures { IsJudgedAs literal_in result
+        (is_normal_literal (condition_value (within_limit (N.find names.now)) (condition_in written.now)))
+        (condition_value (within_limit (N.find names.now)) (condition_in written.now)) }
 {
     match written {
         WrittenCondition::False => Ok(NLit::False),

@@ -1,7 +1,7 @@
 //! What names stand for.
 
 ghost use Rattle.std.specs.Prelude.{◌≡◌, is_some};
-ghost use Rattle.term_values.specs.Names.{position, has_sort, same_sort};
+ghost use Rattle.term_values.specs.NameMeanings.{position, name_has_sort, same_sort};
 
 use nf_terms::symbols::Sort;
 use nf_terms::tree::{Pos, Side};
@@ -9,7 +9,7 @@ use nf_terms::tree::{Pos, Side};
 /// The positions that the names of the two sides stand for.
 pub trait Names {
     ghost use Rattle.std.specs.Prelude.{◌≡◌};
-    ghost use Rattle.term_values.specs.Names.{Find};
+    ghost use Rattle.term_values.specs.NameMeanings.{Find};
 
     /// The position of each name, and its sort.
     ghost find: { Self → Find };
@@ -60,7 +60,7 @@ fn same_sort(wanted: Sort, sort: Sort) -> bool
 
 /// Whether a name stands for a position of this sort.
 pub fn has_sort<N: Names>(names: &N, wanted: Sort, side: Side, name: &[u8]) -> bool
-    ensures { result ≡ has_sort wanted (N.find names.now side name.now) }
+    ensures { result ≡ name_has_sort wanted (N.find names.now side name.now) }
 {
     match names.find(side, name) {
         Some((_, sort)) => same_sort(wanted, sort),

@@ -1,8 +1,8 @@
 //! The numbers that digits spell.
 
 ghost use Rattle.std.specs.Prelude.{◌≡◌, ◌-◌, ◌^◌, min, nat_le, pos, unsigned_abs};
-ghost use Rattle.nf_terms.specs.Limits.{weight_limit};
-ghost use Rattle.term_values.specs.Numbers.{shifted, number_of, clipped};
+ghost use Rattle.nf_terms.specs.TermLimits.{weight_limit};
+ghost use Rattle.term_values.specs.DigitNumbers.{shifted, digits_number, clipped};
 
 use nf_terms::limits::WEIGHT_LIMIT;
 
@@ -18,7 +18,7 @@ fn shifted(number: u128, digit: u8) -> u128
 // The number of digits, or the greatest u128 where it is greater.
 #[tactic(auto, using(crate::proofs::Saturated::digit_more, crate::proofs::Saturated::whole))]
 fn saturated(digits: &[u8]) -> u128
-    ensures { result ≡ min (number_of digits.now) (2 ^ 128 - 1) }
+    ensures { result ≡ min (digits_number digits.now) (2 ^ 128 - 1) }
 {
     let mut number = 0u128;
     for digit in digits {
@@ -29,7 +29,7 @@ fn saturated(digits: &[u8]) -> u128
 
 /// Whether the number of digits is at most 2^127 - 1.
 pub fn fits(digits: &[u8]) -> bool
-    ensures { result ≡ nat_le (number_of digits.now) weight_limit }
+    ensures { result ≡ nat_le (digits_number digits.now) weight_limit }
 {
     saturated(digits) <= WEIGHT_LIMIT
 }

@@ -1,12 +1,13 @@
 //! From the text of a term to its normal form.
 
-ghost use Rattle.std.specs.Prelude.{◌≡◌, map, IfOk, IfErr};
-ghost use Rattle.nf_terms.specs.Terms as terms;
+ghost use Rattle.std.specs.Prelude.{map, IfOk, IfErr};
+ghost use Rattle.nf_terms.specs.NormalTerms as terms;
 ghost use Rattle.nf_terms.specs.declared.symbols.Sort.TheVariants as sort;
 ghost use Rattle.nf_rel.specs.NormalLiterals.{is_normal};
 ghost use Rattle.term_text.specs.View as text;
-ghost use Rattle.term_values.specs.Values.{within_limit, polynomial_value, array_value, list_value};
-ghost use Rattle.term_values.specs.Faults.{is_normal_array, are_normal, is_normal_list, IsJudged, IsJudgedAs, IsPolynomialOf, IsArrayOf, IsListOf, IsRefused};
+ghost use Rattle.term_values.specs.TermValues.{within_limit, polynomial_value, array_value, list_value};
+ghost use Rattle.term_values.specs.TermFaults.{is_normal_array, are_normal, is_normal_list, IsJudgedText, IsJudgedAs};
+ghost use Rattle.term_values.specs.TermFaults.{IsPolynomialOf, ReadsAsArray, ReadsAsList, IsRefusedAsTerm};
 
 use crate::faults::{TermError, WrittenTerm, fault};
 use crate::names::Names;
@@ -25,7 +26,9 @@ pub(crate) fn normal_polynomial<N: Names>(
     names: &N,
     written: &WrittenPolynomial<'_>,
 ) -> Result<Poly, TermError>
-    ensures { IsJudged result (is_normal (polynomial_value (within_limit (N.find names.now)) (text.polynomial_in written.now))) (polynomial_value (within_limit (N.find names.now)) (text.polynomial_in written.now)) }
+    ensures { IsJudgedText result
+        (is_normal (polynomial_value (within_limit (N.find names.now)) (text.written_polynomial_in written.now)))
+        (polynomial_value (within_limit (N.find names.now)) (text.written_polynomial_in written.now)) }
 {
     let tree = polynomial_tree(alloc, names, written)?;
     match Poly::of(tree) {
@@ -44,7 +47,9 @@ fn normal_array<N: Names>(
     names: &N,
     written: &WrittenArray<'_>,
 ) -> Result<Arr, TermError>
-    ensures { IsJudged result (is_normal_array (array_value (within_limit (N.find names.now)) (text.array_in written.now) terms.NoWrites)) (array_value (within_limit (N.find names.now)) (text.array_in written.now) terms.NoWrites) }
+    ensures { IsJudgedText result
+        (is_normal_array (array_value (within_limit (N.find names.now)) (text.written_array_in written.now) terms.NoWrites))
+        (array_value (within_limit (N.find names.now)) (text.written_array_in written.now) terms.NoWrites) }
 {
     let tree = array_tree(alloc, names, written)?;
     match Arr::of(tree) {
@@ -62,7 +67,9 @@ fn normal_items<N: Names>(
     names: &N,
     written: &[WrittenPolynomial<'_>],
 ) -> Result<Vec<Poly>, TermError>
-    ensures { IsJudgedAs (λ v. v.items) result (are_normal (map (polynomial_value (within_limit (N.find names.now))) (map text.polynomial_in written.now))) (map (polynomial_value (within_limit (N.find names.now))) (map text.polynomial_in written.now)) }
+    ensures { IsJudgedAs (λ v. v.items) result
+        (are_normal (map (polynomial_value (within_limit (N.find names.now))) (map text.written_polynomial_in written.now)))
+        (map (polynomial_value (within_limit (N.find names.now))) (map text.written_polynomial_in written.now)) }
 {
     let mut items = Vec::new(alloc);
     for item in written {
@@ -78,7 +85,9 @@ fn normal_list<N: Names>(
     names: &N,
     written: &WrittenList<'_>,
 ) -> Result<Seq, TermError>
-    ensures { IsJudged result (is_normal_list (list_value (within_limit (N.find names.now)) (text.list_in written.now))) (list_value (within_limit (N.find names.now)) (text.list_in written.now)) }
+    ensures { IsJudgedText result
+        (is_normal_list (list_value (within_limit (N.find names.now)) (text.written_list_in written.now)))
+        (list_value (within_limit (N.find names.now)) (text.written_list_in written.now)) }
 {
     let items = normal_items(alloc, names, &written.items)?;
     let base = list_base_tree(names, &written.base);
@@ -99,7 +108,7 @@ fn normal_list<N: Names>(
 /// atom, or the polynomial is not normal or past a limit. `NoMemory` may come at any time.
 pub fn read_poly<N: Names>(alloc: Global, names: &N, bytes: &[u8]) -> Result<Poly, TermError>
     ensures read { IfOk result (λ p. IsPolynomialOf (N.find names.now) bytes.now p) }
-    ensures refused { IfErr result (λ e. IsRefused (N.find names.now) sort.Scalar bytes.now e) }
+    ensures refused { IfErr result (λ e. IsRefusedAsTerm (N.find names.now) sort.Scalar bytes.now e) }
 {
     let written = read_polynomial(alloc, bytes)?;
     if let Some(fault) = fault(names, WrittenTerm::Polynomial(&written)) {
@@ -112,8 +121,8 @@ pub fn read_poly<N: Names>(alloc: Global, names: &N, bytes: &[u8]) -> Result<Pol
 ///
 /// What is refused is as for `read_poly`, of arrays.
 pub fn read_arr<N: Names>(alloc: Global, names: &N, bytes: &[u8]) -> Result<Arr, TermError>
-    ensures read { IfOk result (λ a. IsArrayOf (N.find names.now) bytes.now a) }
-    ensures refused { IfErr result (λ e. IsRefused (N.find names.now) sort.Array bytes.now e) }
+    ensures read { IfOk result (λ a. ReadsAsArray (N.find names.now) bytes.now a) }
+    ensures refused { IfErr result (λ e. IsRefusedAsTerm (N.find names.now) sort.Array bytes.now e) }
 {
     let written = read_array(alloc, bytes)?;
     if let Some(fault) = fault(names, WrittenTerm::Array(&written)) {
@@ -126,8 +135,8 @@ pub fn read_arr<N: Names>(alloc: Global, names: &N, bytes: &[u8]) -> Result<Arr,
 ///
 /// What is refused is as for `read_poly`, of lists.
 pub fn read_seq<N: Names>(alloc: Global, names: &N, bytes: &[u8]) -> Result<Seq, TermError>
-    ensures read { IfOk result (λ l. IsListOf (N.find names.now) bytes.now l) }
-    ensures refused { IfErr result (λ e. IsRefused (N.find names.now) sort.List bytes.now e) }
+    ensures read { IfOk result (λ l. ReadsAsList (N.find names.now) bytes.now l) }
+    ensures refused { IfErr result (λ e. IsRefusedAsTerm (N.find names.now) sort.List bytes.now e) }
 {
     let written = read_list(alloc, bytes)?;
     if let Some(fault) = fault(names, WrittenTerm::List(&written)) {

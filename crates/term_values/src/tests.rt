@@ -1,6 +1,5 @@
 //! The tests of written terms.
 
-ghost use Rattle.std.specs.Prelude.{◌≡◌, Bool};
 ghost use Rattle.term_values.specs.Checks.{numbers_fit, names_known, sorts_fit, ones_left_out};
 
 use crate::checks::Check;

@@ -1,12 +1,13 @@
 //! From written terms to trees of terms.
 
 ghost use Rattle.std.specs.Prelude.{◌≡◌, ◌++◌, map, pos, List, IfOk, unsigned_abs};
-ghost use Rattle.nf_terms.specs.Terms as terms;
+ghost use Rattle.nf_terms.specs.NormalTerms as terms;
 ghost use Rattle.nf_terms.specs.View as view;
 ghost use Rattle.term_text.specs.View as text;
-ghost use Rattle.term_values.specs.Numbers.{clipped};
-ghost use Rattle.term_values.specs.Values.{within_limit, coefficient, atom_value, atoms_of, polynomial_value, array_value, list_base};
-ghost use Rattle.term_values.specs.Parts.{under_sign, base_value};
+ghost use Rattle.term_values.specs.DigitNumbers.{clipped};
+ghost use Rattle.term_values.specs.TermValues.{within_limit, coefficient, atom_value, atoms_of, polynomial_value, array_value};
+ghost use Rattle.term_values.specs.TermValues.{list_base};
+ghost use Rattle.term_values.specs.ListParts.{under_sign, base_value};
 
 use crate::names::{Names, position};
 use crate::numbers::clipped;
@@ -33,7 +34,7 @@ fn head_number(head: &WrittenHead<'_>) -> i128
 // The coefficient of a monomial under its sign.
 #[tactic(auto, using(crate::proofs::Lists::coefficient_tree))]
 fn signed_number(minus: bool, monomial: &WrittenMonomial<'_>) -> i128
-    ensures { result ≡ under_sign minus (coefficient clipped (text.monomial_in monomial.now)) }
+    ensures { result ≡ under_sign minus (coefficient clipped (text.written_monomial_in monomial.now)) }
 {
     let number = head_number(&monomial.head);
     if minus { -number } else { number }
@@ -41,7 +42,7 @@ fn signed_number(minus: bool, monomial: &WrittenMonomial<'_>) -> i128
 
 #[cycle(trees)]
 fn atom_tree<N: Names>(alloc: Global, names: &N, atom: &WrittenAtom<'_>) -> Result<Atom, NoMemory>
-    ensures { IfOk result (λ a. view.atom_in a ≡ atom_value (within_limit (N.find names.now)) (text.atom_in atom.now)) }
+    ensures { IfOk result (λ a. view.atom_in a ≡ atom_value (within_limit (N.find names.now)) (text.written_atom_in atom.now)) }
 {
     match atom {
         WrittenAtom::Symbol(side, name) => Ok(Atom::Sym(position(names, *side, name))),
@@ -70,7 +71,9 @@ fn head_atoms<N: Names>(
     names: &N,
     head: &WrittenHead<'_>,
 ) -> Result<Vec<Atom>, NoMemory>
-    ensures { IfOk result (λ v. (rest : List terms.Atom) → terms.monomial_of (map view.atom_in v.items ++ rest) ≡ atoms_of (within_limit (N.find names.now)) (text.head_in head.now) (terms.monomial_of rest)) }
+    ensures { IfOk result
+        (λ v. (rest : List terms.Atom) → terms.monomial_of (map view.atom_in v.items ++ rest)
+        ≡ atoms_of (within_limit (N.find names.now)) (text.head_in head.now) (terms.monomial_of rest)) }
 {
     let mut atoms = Vec::new(alloc);
     match head {
@@ -87,7 +90,8 @@ fn monomial_tree<N: Names>(
     names: &N,
     monomial: &WrittenMonomial<'_>,
 ) -> Result<MonoTree, NoMemory>
-    ensures { IfOk result (λ m. view.monomial_in m ≡ atoms_of (within_limit (N.find names.now)) (text.monomial_in monomial.now) terms.One) }
+    ensures { IfOk result
+        (λ m. view.monomial_in m ≡ atoms_of (within_limit (N.find names.now)) (text.written_monomial_in monomial.now) terms.One) }
 {
     let mut atoms = head_atoms(alloc, names, &monomial.head)?;
     for atom in &monomial.atoms {
@@ -104,7 +108,9 @@ pub fn polynomial_tree<N: Names>(
     names: &N,
     polynomial: &WrittenPolynomial<'_>,
 ) -> Result<PolyTree, NoMemory>
-    ensures { IfOk result (λ p. view.polynomial_in p ≡ polynomial_value (within_limit (N.find names.now)) (text.polynomial_in polynomial.now)) }
+    ensures { IfOk result
+        (λ p. view.polynomial_in p ≡ polynomial_value (within_limit (N.find names.now))
+        (text.written_polynomial_in polynomial.now)) }
 {
     let mut monos = Vec::new(alloc);
     for (minus, monomial) in &polynomial.monomials {
@@ -131,7 +137,8 @@ pub fn array_tree<N: Names>(
     names: &N,
     array: &WrittenArray<'_>,
 ) -> Result<ArrTree, NoMemory>
-    ensures { IfOk result (λ a. view.array_in a ≡ array_value (within_limit (N.find names.now)) (text.array_in array.now) terms.NoWrites) }
+    ensures { IfOk result
+        (λ a. view.array_in a ≡ array_value (within_limit (N.find names.now)) (text.written_array_in array.now) terms.NoWrites) }
 {
     let mut writes = Vec::new(alloc);
     for (index, value) in &array.writes {

@@ -2,16 +2,17 @@
 use Rattle.std.proofs.Common.{◌≡◌, ℕ, ◌≤◌, ◌==◌, max, ℤ, pos, negsuc, Bool, true, false, cond, List, [], decimal, refl, sym, ap, ◌∙◌, append-nil, arith, nat_le}
 use Rattle.std.specs.Prelude.{unsigned_abs}
 use Rattle.std.proofs.lemmas.Bool.Decides.{nat_tests}
-use Rattle.nf_terms.specs.declared.tree.Pos.{Pos}
+use Rattle.fs_model.specs.declared.sides.Pos.{Pos}
 use Rattle.nf_terms.specs.declared.tree.Base.TheVariants as bases
-use Rattle.nf_terms.specs.Terms as terms
+use Rattle.nf_terms.specs.NormalTerms as terms
 use Rattle.nf_terms.specs.Measures.{depth_of_atom, depth_of_monomial, depth_of, depth_of_writes, depth_of_array}
-use Rattle.term_text.specs.Texts.{Atom, Monomial, Sum, Polynomial, ArrayTerm, Number, One, Times, ZeroArray, Bare, Written, polynomial_text, array_text}
-use Rattle.term_text.specs.Spelled.{polynomial_spelled, array_spelled}
+use Rattle.term_text.specs.TermTexts.{Atom, Monomial, Sum, Polynomial, ArrayTerm, Number, One, Times, ZeroArray, Bare, Written, polynomial_text, array_text}
+use Rattle.term_text.specs.SpellableTerms.{polynomial_spelled, array_spelled}
 use Rattle.term_text.specs.Brackets.{most_open, atom_depth, monomial_depth, sum_depth, polynomial_depth, array_depth}
 use Rattle.term_text.proofs.Depths.{term_open}
-use Rattle.term_text.specs.Texts as text
-use Rattle.term_writer.specs.Written.{begun, continued, atom_written, times_written, monomial_written, sum_written, polynomial_written, writes_written, array_written}
+use Rattle.term_text.specs.TermTexts as text
+use Rattle.term_writer.specs.WrittenTerms.{begun, continued, atom_written, times_written, monomial_written, sum_written, polynomial_written, writes_written}
+use Rattle.term_writer.specs.WrittenTerms.{array_written}
 
 head_depth : (b : Bool) (ds : List ℕ) (a : Atom) → monomial_depth (cond b (One a) (Times (Number ds) a)) ≡ atom_depth a
 head_depth true ds a = refl
@@ -32,14 +33,20 @@ mutual
   atom_deep name (terms.Quotient a b) = omega (arith, polynomial_deep name a, polynomial_deep name b)
   atom_deep name (terms.Remainder a b) = omega (arith, polynomial_deep name a, polynomial_deep name b)
 
-  times_deep : (name : Pos → List ℕ) (w : Monomial) (m : terms.Monomial) → monomial_depth (times_written name w m) ≡ max (monomial_depth w) (depth_of_monomial m)
+  times_deep : (name : Pos → List ℕ) (w : Monomial) (m : terms.Monomial)
+      → monomial_depth (times_written name w m) ≡ max (monomial_depth w) (depth_of_monomial m)
   times_deep name w terms.One = omega arith
   times_deep name w (terms.Times a m) = omega (arith, times_deep name (Times w (atom_written name a)) m, atom_deep name a)
 
   monomial_deep : (name : Pos → List ℕ) (n : ℕ) (m : terms.Monomial) → monomial_depth (monomial_written name n m) ≡ depth_of_monomial m
   monomial_deep name n terms.One = refl
   monomial_deep name n (terms.Times a m) =
-      omega (arith, times_deep name (cond (n == 1) (One (atom_written name a)) (Times (Number (decimal n)) (atom_written name a))) m, head_depth (n == 1) (decimal n) (atom_written name a), atom_deep name a)
+      omega (
+        arith,
+        times_deep name (cond (n == 1) (One (atom_written name a)) (Times (Number (decimal n)) (atom_written name a))) m,
+        head_depth (n == 1) (decimal n) (atom_written name a),
+        atom_deep name a,
+      )
 
   sum_deep : (name : Pos → List ℕ) (s : Sum) (p : terms.Polynomial) → sum_depth (sum_written name s p) ≡ max (sum_depth s) (depth_of p)
   sum_deep name s terms.Zero = omega arith
@@ -55,7 +62,8 @@ mutual
 
   writes_deep : (name : Pos → List ℕ) (w : ArrayTerm) (ws : terms.Writes) → array_depth (writes_written name w ws) ≡ max (array_depth w) (depth_of_writes ws)
   writes_deep name w terms.NoWrites = omega arith
-  writes_deep name w (terms.Write i v ws) = omega (arith, writes_deep name (Written w (polynomial_written name i) (polynomial_written name v)) ws, polynomial_deep name i, polynomial_deep name v)
+  writes_deep name w (terms.Write i v ws) =
+      omega (arith, writes_deep name (Written w (polynomial_written name i) (polynomial_written name v)) ws, polynomial_deep name i, polynomial_deep name v)
 
   pub array_deep : (name : Pos → List ℕ) (a : terms.ArrayTerm) → array_depth (array_written name a) ≡ depth_of_array a
   array_deep name (terms.Over bases.Zero ws) = omega (arith, writes_deep name ZeroArray ws)
@@ -64,14 +72,18 @@ mutual
 pub shallow_by : (n m : ℕ) → n ≡ m → m ≤ 64 → nat_le n 64 ≡ true
 shallow_by n m e h = grind (arith, nat_tests)
 
-pub shallow : (name : Pos → List ℕ) (p : terms.Polynomial) → polynomial_spelled (polynomial_written name p) ≡ true → depth_of p ≤ 64 → nat_le (most_open 0 (polynomial_text (polynomial_written name p))) 64 ≡ true
+pub shallow : (name : Pos → List ℕ) (p : terms.Polynomial) → polynomial_spelled (polynomial_written name p) ≡ true → depth_of p ≤ 64
+    → nat_le (most_open 0 (polynomial_text (polynomial_written name p))) 64 ≡ true
 shallow name p e h =
     let t = polynomial_text (polynomial_written name p) in
-    let whole : most_open 0 t ≡ depth_of p = ap (most_open 0) (sym (append-nil t)) ∙ omega (arith, term_open (text.polynomial (polynomial_written name p)) 0 [] e, polynomial_deep name p) in
+    let whole : most_open 0 t ≡ depth_of p = ap (most_open 0) (sym (append-nil t))
+    ∙ omega (arith, term_open (text.polynomial (polynomial_written name p)) 0 [] e, polynomial_deep name p) in
     shallow_by (most_open 0 t) (depth_of p) whole h
 
-pub shallow_array : (name : Pos → List ℕ) (a : terms.ArrayTerm) → array_spelled (array_written name a) ≡ true → depth_of_array a ≤ 64 → nat_le (most_open 0 (array_text (array_written name a))) 64 ≡ true
+pub shallow_array : (name : Pos → List ℕ) (a : terms.ArrayTerm) → array_spelled (array_written name a) ≡ true → depth_of_array a ≤ 64
+    → nat_le (most_open 0 (array_text (array_written name a))) 64 ≡ true
 shallow_array name a e h =
     let t = array_text (array_written name a) in
-    let whole : most_open 0 t ≡ depth_of_array a = ap (most_open 0) (sym (append-nil t)) ∙ omega (arith, term_open (text.array (array_written name a)) 0 [] e, array_deep name a) in
+    let whole : most_open 0 t ≡ depth_of_array a = ap (most_open 0) (sym (append-nil t))
+    ∙ omega (arith, term_open (text.array (array_written name a)) 0 [] e, array_deep name a) in
     shallow_by (most_open 0 t) (depth_of_array a) whole h

@@ -1,28 +1,30 @@
 -- The bytes of written terms are plain, where those of names are: ASCII from the space on, no quotation mark and no backslash.
-use Rattle.std.proofs.Common.{◌≡◌, ℕ, zero, suc, ◌+◌, ◌<◌, ◌==◌, ◌/◌, ◌%◌, ℤ, pos, negsuc, Bool, true, false, not, cond, ◌&&◌, List, [], ◌∷◌, ◌++◌, codes, decimal, refl, subst, sym, arith}
+use Rattle.std.proofs.Common.{◌≡◌, ℕ, zero, suc, ◌+◌, ◌<◌, ◌==◌, ◌/◌, ◌%◌, ℤ, pos, negsuc, Bool, true, false, not, cond, ◌&&◌, List, [], ◌∷◌, ◌++◌, codes}
+use Rattle.std.proofs.Common.{decimal, refl, subst, sym, arith}
 use Rattle.std.specs.Prelude.{nat_le, unsigned_abs}
 use Rattle.std.specs.Fmt.{digits, digits_onto, digit_glyph}
 use Rattle.std.specs.List.{list_all}
 use Rattle.std.proofs.lemmas.Bool.Decides.{nat_tests}
+use Rattle.std.proofs.lemmas.Bool.{and_parts, and_from}
 use Rattle.fs_model.specs.Words.{is_word_byte}
-use Rattle.nf_terms.specs.declared.tree.Pos.{Pos}
-use Rattle.nf_terms.specs.declared.tree.Side.{Side}
-use Rattle.nf_terms.specs.declared.tree.Side.TheVariants as sides
+use Rattle.fs_model.specs.declared.sides.Pos.{Pos}
+use Rattle.fs_model.specs.declared.sides.Side.{Side}
+use Rattle.fs_model.specs.declared.sides.Side.TheVariants as sides
 use Rattle.nf_terms.specs.declared.tree.Base.{Base}
 use Rattle.nf_terms.specs.declared.tree.Base.TheVariants as bases
 use Rattle.nf_terms.specs.declared.tree.SeqBase.{SeqBase}
 use Rattle.nf_terms.specs.declared.tree.SeqBase.TheVariants as list_bases
-use Rattle.nf_terms.specs.Terms as terms
+use Rattle.nf_terms.specs.NormalTerms as terms
 use Rattle.nf_terms.specs.Lists as lists
 use Rattle.nf_rel.specs.declared.kind.Kind.{Kind}
 use Rattle.nf_rel.specs.declared.kind.Kind.TheVariants.{Ge, Le, Eq, Ne}
 use Rattle.nf_rel.specs.Literals.{NormalLiteral, True, False, Is}
-use Rattle.term_text.specs.Texts.{symbol_text, polynomial_text, array_text, list_text}
-use Rattle.condition_text.specs.Texts.{integer_text, kind_text, condition_text}
-use Rattle.term_writer.specs.Written.{polynomial_written, array_written, list_written, integer_written, literal_written}
-use Rattle.term_writer.specs.Direct.{factor, sign, separator, head_direct, base_direct, atom_direct, atoms_direct, terms_direct, polynomial_direct, writes_direct, array_direct, list_base_direct, items_direct}
+use Rattle.term_text.specs.TermTexts.{symbol_text, polynomial_text, array_text, list_text}
+use Rattle.term_condition_text.specs.ConditionTexts.{integer_text, kind_text, condition_text}
+use Rattle.term_writer.specs.WrittenTerms.{polynomial_written, array_written, list_written, integer_written, literal_written}
+use Rattle.term_writer.specs.Direct.{factor, sign, separator, head_direct, base_direct, atom_direct, atoms_direct, terms_direct, polynomial_direct}
+use Rattle.term_writer.specs.Direct.{writes_direct, array_direct, list_base_direct, items_direct}
 use Rattle.term_writer.proofs.Directly.{polynomial_same, array_same, list_same}
-use Rattle.term_writer.proofs.Bound.{both}
 
 abbrev pub is_plain : ℕ → Bool
 is_plain b = nat_le 32 b && nat_le b 126 && not (b == 34) && not (b == 92)
@@ -33,16 +35,15 @@ ArePlain bs = list_all is_plain bs ≡ true
 pub word_plain : (b : ℕ) → is_word_byte b ≡ true → is_plain b ≡ true
 word_plain b e = grind (arith, nat_tests)
 
-and : (a b : Bool) → a ≡ true → b ≡ true → (a && b) ≡ true
-and a b e f = rw (e, f) refl
-
 pub words_plain : (bs : List ℕ) → list_all is_word_byte bs ≡ true → ArePlain bs
 words_plain [] e = refl
-words_plain (b ∷ bs) e = let p = both (is_word_byte b) (list_all is_word_byte bs) e in and (is_plain b) (list_all is_plain bs) (word_plain b p.0) (words_plain bs p.1)
+words_plain (b ∷ bs) e = let p = and_parts (is_word_byte b) (list_all is_word_byte bs) e in
+    and_from (is_plain b) (list_all is_plain bs) (word_plain b p.0) (words_plain bs p.1)
 
 pub together : (xs ys : List ℕ) → ArePlain xs → ArePlain ys → ArePlain (xs ++ ys)
 together [] ys e f = f
-together (x ∷ xs) ys e f = let p = both (is_plain x) (list_all is_plain xs) e in and (is_plain x) (list_all is_plain (xs ++ ys)) p.0 (together xs ys p.1 f)
+together (x ∷ xs) ys e f = let p = and_parts (is_plain x) (list_all is_plain xs) e in
+    and_from (is_plain x) (list_all is_plain (xs ++ ys)) p.0 (together xs ys p.1 f)
 
 digit_plain : (n : ℕ) → n < 10 → is_plain (48 + n) ≡ true
 digit_plain n h = grind (arith, nat_tests)
@@ -58,7 +59,7 @@ digits_plain : (k n : ℕ) (acc : List ℕ) → ArePlain acc → ArePlain (digit
 digits_plain zero n acc e = e
 digits_plain (suc k) n acc e =
     let d = digit_glyph false (n % 10) in
-    let more : ArePlain (d ∷ acc) = and (is_plain d) (list_all is_plain acc) (glyph_plain n) e in
+    let more : ArePlain (d ∷ acc) = and_from (is_plain d) (list_all is_plain acc) (glyph_plain n) e in
     either (n / 10 == 0) (d ∷ acc) (digits_onto k 10 false (n / 10) (d ∷ acc)) more (digits_plain k (n / 10) (d ∷ acc) more)
 
 pub decimal_plain : (n : ℕ) → ArePlain (decimal n)
@@ -101,8 +102,10 @@ kind_plain Ne = refl
 between : (xs ys zs : List ℕ) → ArePlain xs → ArePlain ys → ArePlain zs → ArePlain (xs ++ (ys ++ zs))
 between xs ys zs e f g = together xs (ys ++ zs) e (together ys zs f g)
 
-signed_plain : (is_first : Bool) (c : ℤ) (m : terms.Monomial) (atoms rest : List ℕ) → ArePlain atoms → ArePlain rest → ArePlain (sign is_first c ++ ((head_direct (unsigned_abs c) m ++ atoms) ++ rest))
-signed_plain is_first c m atoms rest e f = between (sign is_first c) (head_direct (unsigned_abs c) m ++ atoms) rest (sign_plain is_first c) (together (head_direct (unsigned_abs c) m) atoms (head_plain (unsigned_abs c) m) e) f
+signed_plain : (is_first : Bool) (c : ℤ) (m : terms.Monomial) (atoms rest : List ℕ) → ArePlain atoms → ArePlain rest
+    → ArePlain (sign is_first c ++ ((head_direct (unsigned_abs c) m ++ atoms) ++ rest))
+signed_plain is_first c m atoms rest e f = between (sign is_first c) (head_direct (unsigned_abs c) m ++ atoms) rest (sign_plain is_first c)
+    (together (head_direct (unsigned_abs c) m) atoms (head_plain (unsigned_abs c) m) e) f
 
 operands_plain : (xs ys zs : List ℕ) → ArePlain xs → ArePlain ys → ArePlain zs → ArePlain (xs ++ (ys ++ (codes ", " ++ (zs ++ codes ")"))))
 operands_plain xs ys zs e f g = between xs ys _ e f (between (codes ", ") zs (codes ")") refl g refl)
@@ -115,21 +118,27 @@ module _ (name : Pos → List ℕ) (plain : (p : Pos) → ArePlain (name p)) whe
   mutual
     atom_plain : (a : terms.Atom) → ArePlain (atom_direct name a)
     atom_plain (terms.Symbol p) = symbol_plain p.side (name p) (plain p)
-    atom_plain (terms.Read a i) = together (array_direct name a) _ (array_plain a) (between (codes "[") (polynomial_direct name i) (codes "]") refl (polynomial_plain i) refl)
-    atom_plain (terms.Quotient a b) = operands_plain (codes "div(") (polynomial_direct name a) (polynomial_direct name b) refl (polynomial_plain a) (polynomial_plain b)
-    atom_plain (terms.Remainder a b) = operands_plain (codes "rem(") (polynomial_direct name a) (polynomial_direct name b) refl (polynomial_plain a) (polynomial_plain b)
+    atom_plain (terms.Read a i) = together (array_direct name a) _ (array_plain a)
+        (between (codes "[") (polynomial_direct name i) (codes "]") refl (polynomial_plain i) refl)
+    atom_plain (terms.Quotient a b) = operands_plain (codes "div(") (polynomial_direct name a) (polynomial_direct name b) refl (polynomial_plain a)
+        (polynomial_plain b)
+    atom_plain (terms.Remainder a b) = operands_plain (codes "rem(") (polynomial_direct name a) (polynomial_direct name b) refl (polynomial_plain a)
+        (polynomial_plain b)
 
     atoms_plain : (is_first : Bool) (m : terms.Monomial) → ArePlain (atoms_direct name is_first m)
     atoms_plain is_first terms.One = refl
-    atoms_plain is_first (terms.Times a m) = between (separator is_first) (atom_direct name a) (atoms_direct name false m) (separator_plain is_first) (atom_plain a) (atoms_plain false m)
+    atoms_plain is_first (terms.Times a m) = between (separator is_first) (atom_direct name a) (atoms_direct name false m) (separator_plain is_first)
+        (atom_plain a) (atoms_plain false m)
 
     terms_plain : (is_first : Bool) (p : terms.Polynomial) → ArePlain (terms_direct name is_first p)
     terms_plain is_first terms.Zero = refl
-    terms_plain is_first (terms.Plus m c p) = signed_plain is_first c m (atoms_direct name true m) (terms_direct name false p) (atoms_plain true m) (terms_plain false p)
+    terms_plain is_first (terms.Plus m c p) = signed_plain is_first c m (atoms_direct name true m) (terms_direct name false p) (atoms_plain true m)
+        (terms_plain false p)
 
     polynomial_plain : (p : terms.Polynomial) → ArePlain (polynomial_direct name p)
     polynomial_plain terms.Zero = refl
-    polynomial_plain (terms.Plus m c p) = signed_plain true c m (atoms_direct name true m) (terms_direct name false p) (atoms_plain true m) (terms_plain false p)
+    polynomial_plain (terms.Plus m c p) = signed_plain true c m (atoms_direct name true m) (terms_direct name false p) (atoms_plain true m)
+        (terms_plain false p)
 
     writes_plain : (ws : terms.Writes) → ArePlain (writes_direct name ws)
     writes_plain terms.NoWrites = refl
@@ -146,7 +155,8 @@ module _ (name : Pos → List ℕ) (plain : (p : Pos) → ArePlain (name p)) whe
 
   items_plain : (ps : List terms.Polynomial) → ArePlain (items_direct name ps)
   items_plain [] = refl
-  items_plain (p ∷ ps) = between (codes "{") (polynomial_direct name p) _ refl (polynomial_plain p) (together (codes "}") (items_direct name ps) refl (items_plain ps))
+  items_plain (p ∷ ps) = between (codes "{") (polynomial_direct name p) _ refl (polynomial_plain p)
+      (together (codes "}") (items_direct name ps) refl (items_plain ps))
 
   pub polynomial_text_plain : (p : terms.Polynomial) → ArePlain (polynomial_text (polynomial_written name p))
   polynomial_text_plain p = subst ArePlain (sym (polynomial_same name p)) (polynomial_plain p)
@@ -155,9 +165,11 @@ module _ (name : Pos → List ℕ) (plain : (p : Pos) → ArePlain (name p)) whe
   array_text_plain a = subst ArePlain (sym (array_same name a)) (array_plain a)
 
   pub list_text_plain : (l : lists.ListTerm) → ArePlain (list_text (list_written name l))
-  list_text_plain l = subst ArePlain (sym (list_same name l)) (together (list_base_direct name l.base) (items_direct name l.items) (list_base_plain l.base) (items_plain l.items))
+  list_text_plain l = subst ArePlain (sym (list_same name l))
+      (together (list_base_direct name l.base) (items_direct name l.items) (list_base_plain l.base) (items_plain l.items))
 
   pub condition_text_plain : (l : NormalLiteral) → ArePlain (condition_text (literal_written name l))
   condition_text_plain True = refl
   condition_text_plain False = refl
-  condition_text_plain (Is d k b) = between (polynomial_text (polynomial_written name d)) (kind_text k) (integer_text (integer_written b)) (polynomial_text_plain d) (kind_plain k) (integer_plain b)
+  condition_text_plain (Is d k b) = between (polynomial_text (polynomial_written name d)) (kind_text k) (integer_text (integer_written b))
+      (polynomial_text_plain d) (kind_plain k) (integer_plain b)

@@ -1,12 +1,13 @@
 -- The text of a normal term from its front on, as it is put out.
 use Rattle.std.specs.Prelude.{ℕ, ◌==◌, Bool, true, false, ℤ, pos, negsuc, unsigned_abs, cond, List, [], ◌∷◌, ◌++◌, codes, decimal}
-use Rattle.nf_terms.specs.declared.tree.Pos.{Pos}
+use Rattle.fs_model.specs.declared.sides.Pos.{Pos}
 use Rattle.nf_terms.specs.declared.tree.Base.{Base}
 use Rattle.nf_terms.specs.declared.tree.Base.TheVariants as bases
 use Rattle.nf_terms.specs.declared.tree.SeqBase.{SeqBase}
 use Rattle.nf_terms.specs.declared.tree.SeqBase.TheVariants as list_bases
-use Rattle.nf_terms.specs.Terms.{Atom, Monomial, Polynomial, ArrayTerm, Writes, Symbol, Read, Quotient, Remainder, One, Times, Zero, Plus, Over, NoWrites, Write}
-use Rattle.term_text.specs.Texts.{symbol_text}
+use Rattle.nf_terms.specs.NormalTerms.{Atom, Monomial, Polynomial, ArrayTerm, Writes, Symbol, Read, Quotient, Remainder, One}
+use Rattle.nf_terms.specs.NormalTerms.{Times, Zero, Plus, Over, NoWrites, Write}
+use Rattle.term_text.specs.TermTexts.{symbol_text}
 
 -- a coefficient before an atom
 abbrev pub factor : ℕ → List ℕ
@@ -41,8 +42,10 @@ abbrev mutual
   pub atom_direct : (Pos → List ℕ) → Atom → List ℕ
   atom_direct name (Symbol p) = symbol_text p.side (name p)
   atom_direct name (Read a i) = array_direct name a ++ (codes "[" ++ (polynomial_direct name i ++ codes "]"))
-  atom_direct name (Quotient a b) = codes "div(" ++ (polynomial_direct name a ++ (codes ", " ++ (polynomial_direct name b ++ codes ")")))
-  atom_direct name (Remainder a b) = codes "rem(" ++ (polynomial_direct name a ++ (codes ", " ++ (polynomial_direct name b ++ codes ")")))
+  atom_direct name (Quotient a b) = codes "div("
+      ++ (polynomial_direct name a ++ (codes ", " ++ (polynomial_direct name b ++ codes ")")))
+  atom_direct name (Remainder a b) = codes "rem("
+      ++ (polynomial_direct name a ++ (codes ", " ++ (polynomial_direct name b ++ codes ")")))
 
   -- atoms, from the first one or from a later one
   pub atoms_direct : (Pos → List ℕ) → Bool → Monomial → List ℕ
@@ -52,15 +55,18 @@ abbrev mutual
   -- monomials, from the first one or from a later one
   pub terms_direct : (Pos → List ℕ) → Bool → Polynomial → List ℕ
   terms_direct name is_first Zero = []
-  terms_direct name is_first (Plus m c p) = sign is_first c ++ ((head_direct (unsigned_abs c) m ++ atoms_direct name true m) ++ terms_direct name false p)
+  terms_direct name is_first (Plus m c p) = sign is_first c
+      ++ ((head_direct (unsigned_abs c) m ++ atoms_direct name true m) ++ terms_direct name false p)
 
   pub polynomial_direct : (Pos → List ℕ) → Polynomial → List ℕ
   polynomial_direct name Zero = codes "0"
-  polynomial_direct name (Plus m c p) = sign true c ++ ((head_direct (unsigned_abs c) m ++ atoms_direct name true m) ++ terms_direct name false p)
+  polynomial_direct name (Plus m c p) = sign true c
+      ++ ((head_direct (unsigned_abs c) m ++ atoms_direct name true m) ++ terms_direct name false p)
 
   pub writes_direct : (Pos → List ℕ) → Writes → List ℕ
   writes_direct name NoWrites = []
-  writes_direct name (Write i v ws) = codes "{" ++ (polynomial_direct name i ++ (codes ": " ++ (polynomial_direct name v ++ (codes "}" ++ writes_direct name ws))))
+  writes_direct name (Write i v ws) = codes "{"
+      ++ (polynomial_direct name i ++ (codes ": " ++ (polynomial_direct name v ++ (codes "}" ++ writes_direct name ws))))
 
   pub array_direct : (Pos → List ℕ) → ArrayTerm → List ℕ
   array_direct name (Over b ws) = base_direct name b ++ writes_direct name ws

@@ -1,3 +1,3 @@
-pub mod Written
+pub mod WrittenTerms
 pub mod Direct
-pub mod Named
+pub mod NamedSymbols

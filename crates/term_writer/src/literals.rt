@@ -1,9 +1,9 @@
 //! Writing numbers under their signs.
 
 ghost use Rattle.std.specs.Prelude.{◌≡◌, ◌++◌, OnOk, true, decimal, unsigned_abs};
-ghost use Rattle.condition_text.specs.Texts.{integer_text, kind_text};
+ghost use Rattle.term_condition_text.specs.ConditionTexts.{integer_text, kind_text};
 ghost use Rattle.term_writer.specs.Direct.{sign};
-ghost use Rattle.term_writer.specs.Written.{integer_written};
+ghost use Rattle.term_writer.specs.WrittenTerms.{integer_written};
 
 use crate::numbers::{put, put_number, put_sign};
 use nf_rel::kind::Kind;

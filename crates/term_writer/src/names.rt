@@ -5,7 +5,7 @@ use nf_terms::tree::Pos;
 /// The names of positions on their sides.
 pub trait PositionNames {
     ghost use Rattle.std.specs.Prelude.{◌≡◌, ℕ, List};
-    ghost use Rattle.nf_terms.specs.declared.tree.Pos.{Pos};
+    ghost use Rattle.fs_model.specs.declared.sides.Pos.{Pos};
 
     /// The name of each position.
     ghost name: { Self → Pos → List ℕ };

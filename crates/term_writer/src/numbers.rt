@@ -1,7 +1,7 @@
 //! Writing numbers and signs.
 
 ghost use Rattle.std.specs.Prelude.{◌≡◌, ◌++◌, decimal, OnOk};
-ghost use Rattle.term_text.specs.Texts.{symbol_text};
+ghost use Rattle.term_text.specs.TermTexts.{symbol_text};
 ghost use Rattle.term_writer.specs.Direct.{factor, sign, separator};
 
 use itoa::Buffer;

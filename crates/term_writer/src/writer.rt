@@ -3,9 +3,10 @@
 ghost use Rattle.std.specs.Prelude.{◌≡◌, ◌≢◌, ◌++◌, OnOk};
 ghost use Rattle.nf_rel.specs.Literals as literals;
 ghost use Rattle.nf_rel.specs.View.{literal_in};
-ghost use Rattle.term_text.specs.Texts.{symbol_text, polynomial_text, array_text, list_text};
-ghost use Rattle.condition_text.specs.Texts.{condition_text, kind_text, integer_text};
-ghost use Rattle.term_writer.specs.Written.{polynomial_written, array_written, list_written, literal_written, integer_written};
+ghost use Rattle.term_text.specs.TermTexts.{symbol_text, polynomial_text, array_text, list_text};
+ghost use Rattle.term_condition_text.specs.ConditionTexts.{condition_text, kind_text, integer_text};
+ghost use Rattle.term_writer.specs.WrittenTerms.{polynomial_written, array_written, list_written, literal_written};
+ghost use Rattle.term_writer.specs.WrittenTerms.{integer_written};
 ghost use Rattle.term_writer.specs.Direct.{polynomial_direct, list_base_direct, items_direct};
 
 use crate::literals::{put_integer, put_kind};
@@ -33,7 +34,8 @@ pub fn write_poly<N: PositionNames>(
     names: &N,
     polynomial: &Poly,
 ) -> Result<(), NoMemory>
-    ensures { OnOk result (out.new.items ≡ out.old.items ++ polynomial_text (polynomial_written (N.name names.now) polynomial.now)) }
+    ensures { OnOk result
+        (out.new.items ≡ out.old.items ++ polynomial_text (polynomial_written (N.name names.now) polynomial.now)) }
 {
     put_polynomial(out, names, polynomial.tree())
 }
@@ -80,7 +82,9 @@ fn put_list<N: PositionNames>(
     base: SeqBase,
     items: &[Poly],
 ) -> Result<(), NoMemory>
-    ensures { OnOk result (out.new.items ≡ out.old.items ++ (list_base_direct (N.name names.now) base ++ items_direct (N.name names.now) items.now)) }
+    ensures { OnOk result
+        (out.new.items ≡ out.old.items
+        ++ (list_base_direct (N.name names.now) base ++ items_direct (N.name names.now) items.now)) }
 {
     put_list_base(out, names, base)?;
     put_items(out, names, items)
@@ -96,7 +100,10 @@ pub fn write_seq<N: PositionNames>(out: &mut Vec<u8>, names: &N, list: &Seq) -> 
 
 // A direction against a bound.
 fn put_bound<N: PositionNames>(out: &mut Vec<u8>, names: &N, bound: &Bound) -> Result<(), NoMemory>
-    ensures { OnOk result (out.new.items ≡ out.old.items ++ (polynomial_direct (N.name names.now) bound.now.dir ++ (kind_text bound.now.kind ++ integer_text (integer_written bound.now.bound)))) }
+    ensures { OnOk result
+        (out.new.items ≡ out.old.items
+        ++ (polynomial_direct (N.name names.now) bound.now.dir
+        ++ (kind_text bound.now.kind ++ integer_text (integer_written bound.now.bound)))) }
 {
     put_polynomial(out, names, bound.dir.tree())?;
     put_kind(out, bound.kind)?;
@@ -111,7 +118,8 @@ pub fn write_literal<N: PositionNames>(
     literal: &NLit,
 ) -> Result<(), NoMemory>
     requires { literal_in literal.now ≢ literals.True }
-    ensures { OnOk result (out.new.items ≡ out.old.items ++ condition_text (literal_written (N.name names.now) (literal_in literal.now))) }
+    ensures { OnOk result
+        (out.new.items ≡ out.old.items ++ condition_text (literal_written (N.name names.now) (literal_in literal.now))) }
 {
     match literal {
         NLit::True => unreachable!(),

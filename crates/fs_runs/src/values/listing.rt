@@ -3,8 +3,8 @@
 ghost use Rattle.std.specs.Prelude.{◌≡◌, ◌++◌, ◌∷◌, [], not, pos, IfOk};
 ghost use Rattle.std.specs.Ordering.{int_eq};
 ghost use Rattle.std.specs.Result.{OnOk};
-ghost use Rattle.fs_runs.specs.Values.{entry};
-ghost use Rattle.fs_runs.specs.Listing.{IsListing};
+ghost use Rattle.fs_runs.specs.Values.{entry_number};
+ghost use Rattle.fs_runs.specs.EntryLists.{IsListing};
 
 use crate::memory::NoMemory;
 use crate::values::Entries;
@@ -13,7 +13,7 @@ use std::alloc::Global;
 impl Entries {
     /// The entries that are not 0, each with its index, in increasing order of index.
     pub fn list(&self, alloc: Global) -> Result<Vec<(i128, i128)>, NoMemory>
-        ensures listing { IfOk result (λ es. IsListing (entry self.now) es.items) }
+        ensures listing { IfOk result (λ es. IsListing (entry_number self.now) es.items) }
     {
         let mut list = Vec::new(alloc);
         for (index, number) in self.map.iter() {

@@ -8,4 +8,5 @@ pub returns-clause-values : goal.returns-clause-values
 returns-clause-values c = λ a b v ps even couples. even_values a b v even ps couples
 
 pub returns-clause-vector : goal.returns-clause-vector
-returns-clause-vector c = λ a b f sound_a sound_b same e h even. even_vector a b sound_a sound_b f.positions (subst (AreCouples a b) (sym e) (positions_couple a b sound_b same)) (λ x v g. subst (Among x) (sym e) (positions_among a b sound_b same x v g)) h even
+returns-clause-vector c = λ a b f sound_a sound_b same e h even. even_vector a b sound_a sound_b f.positions
+    (subst (AreCouples a b) (sym e) (positions_couple a b sound_b same)) (λ x v g. subst (Among x) (sym e) (positions_among a b sound_b same x v g)) h even

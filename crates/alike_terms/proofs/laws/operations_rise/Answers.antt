@@ -1,5 +1,6 @@
 use Rattle.alike_terms.proofs.RisenForms.{negation_risen}
-use Rattle.alike_terms.proofs.RisenOperations.{number_rises, sum_rises, difference_rises, product_rises, quotient_rises, remainder_rises, read_rises, write_rises}
+use Rattle.alike_terms.proofs.RisenOperations.{number_rises, sum_rises, difference_rises, product_rises, quotient_rises, remainder_rises, read_rises}
+use Rattle.alike_terms.proofs.RisenOperations.{write_rises}
 use Rattle.alike_terms.proofs.laws.operations_rise.Goals as goal
 
 pub returns : goal.returns

@@ -1,7 +1,7 @@
 use Rattle.std.proofs.Common.{◌≡◌, ◌+◌, ◌≤◌, map, drop}
 use Rattle.std.specs.Prelude.{Some, None}
 use Rattle.fs_cut.specs.View.{path_of}
-use Rattle.certificates.specs.View.{node_of}
+use Rattle.cert_model.specs.View.{node_of}
 use Rattle.cert_check.specs.Progress.{progress_from}
 use Rattle.cert_check.specs.View.{move_in}
 use Rattle.cert_check.proofs.moves.left_moves.Given as goal

@@ -1,10 +1,11 @@
 use Rattle.std.proofs.Common.{◌+◌, ◌≤◌, ◌∷◌, [], map, drop, option_map, ap, subst, arith}
 use Rattle.std.specs.Prelude.{Some}
+use Rattle.base_lemmas.proofs.Lists.{map_drop_next}
 use Rattle.fs_cut.specs.Paths.{Path}
 use Rattle.fs_cut.specs.View.{path_of}
-use Rattle.certificates.specs.View.{node_of}
+use Rattle.cert_model.specs.View.{node_of}
 use Rattle.cert_check.specs.View.{move_in, progress_in, verdict_in, NumberUpTo}
-use Rattle.cert_check.proofs.Steps.{split_at, left_held, left_stop}
+use Rattle.cert_check.proofs.Steps.{left_held, left_stop}
 use Rattle.cert_check.proofs.moves.right_moves.Goals as goal
 
 pub returns-in-Stopped-clause-moves : goal.returns-in-Stopped-clause-moves
@@ -12,8 +13,10 @@ returns-in-Stopped-clause-moves c =
     let judged = λ (p : Path). move_in c.args.table.now (node_of c.args.node.now) (option_map (λ q. path_of q.now) c.args.left) (Some p) in
     let all = c.args.rights.now in
     let i = c.loop-right.right-index in
-    left_stop c.loop-right.number (verdict_in c.in-Stopped.verdict) (judged (path_of c.right-item.result) ∷ []) (map judged (map path_of (drop (i + 1) all))) (map judged (map path_of (drop i all))) (map judged (map path_of all)) c.args.first (progress_in c.in_ok-next.field-0)
-    (ap (map judged) (split_at path_of all i c.right-item.result c.loop-right-test.true c.right-item.is)) (ap progress_in c.in-Stopped.is) (c.in_ok-next.ensures.next _ c.judge_move.ensures) c.loop-right.invariant.rest
+    left_stop c.loop-right.number (verdict_in c.in-Stopped.verdict) (judged (path_of c.right-item.result) ∷ []) (map judged (map path_of (drop (i + 1) all)))
+    (map judged (map path_of (drop i all))) (map judged (map path_of all)) c.args.first (progress_in c.in_ok-next.field-0)
+    (ap (map judged) (map_drop_next path_of all i c.right-item.result c.loop-right-test.true c.right-item.is)) (ap progress_in c.in-Stopped.is)
+    (c.in_ok-next.ensures.next _ c.judge_move.ensures) c.loop-right.invariant.rest
 
 pub loop-right-preserved : goal.loop-right-preserved
 loop-right-preserved c =
@@ -23,6 +26,8 @@ loop-right-preserved c =
     let b : c.in-Held.next ≤ c.loop-right.number + 1 = subst (NumberUpTo (c.loop-right.number + 1)) c.in-Held.is c.in_ok-next.ensures.bound in
     record {
       low = omega (arith, c.loop-right.invariant.low, b);
-      rest = left_held c.loop-right.number c.in-Held.next (judged (path_of c.right-item.result) ∷ []) (map judged (map path_of (drop (i + 1) all))) (map judged (map path_of (drop i all))) (map judged (map path_of all)) c.args.first (progress_in c.in_ok-next.field-0)
-          (ap (map judged) (split_at path_of all i c.right-item.result c.loop-right-test.true c.right-item.is)) (ap progress_in c.in-Held.is) (c.in_ok-next.ensures.next _ c.judge_move.ensures) c.loop-right.invariant.rest;
+      rest = left_held c.loop-right.number c.in-Held.next (judged (path_of c.right-item.result) ∷ []) (map judged (map path_of (drop (i + 1) all)))
+          (map judged (map path_of (drop i all))) (map judged (map path_of all)) c.args.first (progress_in c.in_ok-next.field-0)
+          (ap (map judged) (map_drop_next path_of all i c.right-item.result c.loop-right-test.true c.right-item.is)) (ap progress_in c.in-Held.is)
+          (c.in_ok-next.ensures.next _ c.judge_move.ensures) c.loop-right.invariant.rest;
     }

@@ -1,7 +1,7 @@
 use Rattle.std.proofs.Common.{◌≡◌, ◌+◌, ◌≤◌, map, drop}
-use Rattle.fs_pair.specs.Outputs.{output_pairs}
+use Rattle.fs_pair.specs.PairedOutputs.{output_pairs}
 use Rattle.cert_check.specs.Progress.{progress_from}
-use Rattle.cert_check.specs.Outputs.{output_over}
+use Rattle.cert_check.specs.VectorOutputs.{output_over}
 use Rattle.cert_check.proofs.outputs.outputs.Given as goal
 
 abbrev pub invariant-loop-variable : goal.invariant-loop-variable

@@ -1,6 +1,6 @@
 use Rattle.std.proofs.Common.{◌≡◌, ◌+◌, ◌*◌, ◌≤◌, map, drop}
 use Rattle.std.specs.List.{flat_map}
-use Rattle.certificates.specs.View.{node_of}
+use Rattle.cert_model.specs.View.{node_of}
 use Rattle.cert_check.specs.Progress.{progress_from}
 use Rattle.cert_check.specs.View.{owed_in, most_owed}
 use Rattle.cert_check.proofs.verify.check_nodes.Given as goal

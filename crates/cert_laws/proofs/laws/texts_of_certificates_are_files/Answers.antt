@@ -1,6 +1,6 @@
 use Rattle.std.proofs.Common.{refl}
 use Rattle.fs_pair.specs.Positions.{positions}
-use Rattle.cert_writer.specs.Written.{certificate_text}
+use Rattle.cert_writer.specs.WrittenCertificates.{certificate_text}
 use Rattle.cert_writer.proofs.Lengths.{file_bound}
 use Rattle.cert_laws.proofs.WrittenFiles.{written_file}
 use Rattle.cert_laws.proofs.laws.texts_of_certificates_are_files.Goals as goal

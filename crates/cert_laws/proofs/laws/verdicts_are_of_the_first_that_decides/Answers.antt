@@ -1,4 +1,4 @@
-use Rattle.certificates.specs.Obligations.{obligations}
+use Rattle.cert_model.specs.Obligations.{obligations}
 use Rattle.cert_laws.proofs.Deciding.{yes_where_held, no_where_first, wide_where_first, large_where_first}
 use Rattle.cert_laws.proofs.laws.verdicts_are_of_the_first_that_decides.Goals as goal
 

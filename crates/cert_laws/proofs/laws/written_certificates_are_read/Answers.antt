@@ -1,4 +1,4 @@
-use Rattle.cert_writer.specs.Names.{name_of}
+use Rattle.cert_writer.specs.PositionNames.{name_of}
 use Rattle.cert_laws.proofs.Places.{find}
 use Rattle.cert_laws.proofs.Nodes.{written_nodes}
 use Rattle.cert_laws.proofs.laws.written_certificates_are_read.Goals as goal

@@ -5,5 +5,6 @@ use Rattle.cert_text.proofs.context.positions_of.Goals as goal
 
 pub table_of-requires : goal.table_of-requires
 table_of-requires c =
-    let few = few_names (λ n. n.now) c.args.a.now c.args.b.now c.args.side c.positions.result.now c.in_ok-names.names.items (subst IsPairing (sym c.positions.ensures) c.holds.ensures) c.in_ok-names.ensures in
+    let few = few_names (λ n. n.now) c.args.a.now c.args.b.now c.args.side c.positions.result.now c.in_ok-names.names.items
+    (subst IsPairing (sym c.positions.ensures) c.holds.ensures) c.in_ok-names.ensures in
     omega (arith, few, ap length c.as_slice.ensures.value)

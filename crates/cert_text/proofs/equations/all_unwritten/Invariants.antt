@@ -1,5 +1,5 @@
 use Rattle.std.proofs.Common.{◌≡◌, ◌++◌, map, drop}
-use Rattle.cert_text.specs.Reading.{unwritten}
+use Rattle.cert_text.specs.CertificateReading.{unwritten}
 use Rattle.cert_text.proofs.equations.all_unwritten.Given as goal
 
 abbrev pub invariant-loop-position : goal.invariant-loop-position

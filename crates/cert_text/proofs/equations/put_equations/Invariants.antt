@@ -1,7 +1,7 @@
 use Rattle.std.proofs.Common.{◌≡◌}
 use Rattle.serde_json.specs.View.{members_view}
-use Rattle.cert_text.specs.Parts.{named_texts_of}
-use Rattle.cert_text.specs.Reading.{equations_read}
+use Rattle.cert_text.specs.JsonParts.{named_texts_of}
+use Rattle.cert_text.specs.CertificateReading.{equations_read}
 use Rattle.cert_text.specs.View.{terms_in}
 use Rattle.cert_text.specs.Repeats.{AreLast}
 use Rattle.cert_text.specs.Within.{AreEquationsOf}
@@ -9,7 +9,8 @@ use Rattle.cert_text.proofs.equations.put_equations.Given as goal
 
 abbrev pub invariant-loop-key : goal.invariant-loop-key
 invariant-loop-key l = record {
-  rest : equations_read (terms_in l.places) l.node l.forms.items (named_texts_of (members_view l.key-iterator)) ≡ equations_read (terms_in l.places) l.node l.initial.forms.items (named_texts_of (members_view l.members.entries));
+  rest : equations_read (terms_in l.places) l.node l.forms.items (named_texts_of (members_view l.key-iterator))
+      ≡ equations_read (terms_in l.places) l.node l.initial.forms.items (named_texts_of (members_view l.members.entries));
   kept : AreEquationsOf l.places.positions.now l.forms.items;
   last : AreLast l.places l.last.items;
 }

@@ -3,15 +3,16 @@ use Rattle.std.specs.List.{list_all, AllByRecursion}
 use Rattle.serde_json.specs.View.{items_view}
 use Rattle.nf_rel.specs.View.{literal_in}
 use Rattle.sym_facts.specs.Facts.{may_be_kept}
-use Rattle.cert_text.specs.Parts.{texts_of}
-use Rattle.cert_text.specs.Reading.{conditions_read}
+use Rattle.cert_text.specs.JsonParts.{texts_of}
+use Rattle.cert_text.specs.CertificateReading.{conditions_read}
 use Rattle.cert_text.specs.View.{find_of, terms_in}
 use Rattle.cert_text.specs.Within.{LiteralWithin}
 use Rattle.cert_text.proofs.equations.read_conditions.Given as goal
 
 abbrev pub invariant-loop-item : goal.invariant-loop-item
 invariant-loop-item l = record {
-  rest : conditions_read (terms_in l.places) l.node (map literal_in l.out.items) (texts_of (items_view (drop l.item-index l.items))) ≡ conditions_read (terms_in l.places) l.node [] (texts_of (items_view l.items));
+  rest : conditions_read (terms_in l.places) l.node (map literal_in l.out.items) (texts_of (items_view (drop l.item-index l.items)))
+      ≡ conditions_read (terms_in l.places) l.node [] (texts_of (items_view l.items));
   count : length l.out.items ≡ l.item-index;
   kept : list_all may_be_kept (map literal_in l.out.items) ≡ true;
   within : AllByRecursion (LiteralWithin (find_of l.places)) (map literal_in l.out.items);

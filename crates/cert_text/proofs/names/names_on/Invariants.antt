@@ -1,5 +1,5 @@
 use Rattle.std.proofs.Common.{◌≡◌, ◌++◌, map, drop}
-use Rattle.cert_text.specs.Names.{names_on}
+use Rattle.cert_text.specs.CertificateNames.{names_on}
 use Rattle.cert_text.proofs.names.names_on.Given as goal
 
 abbrev pub invariant-loop-position : goal.invariant-loop-position

@@ -1,17 +1,19 @@
 use Rattle.std.proofs.Common.{rules, suc, ◌≡◌, ◌+◌, Err, ap, ◌∙◌, map, length, arith}
 use Rattle.serde_json.specs.View.{items_view}
-use Rattle.certificates.specs.View.{node_of}
-use Rattle.cert_text.specs.Parts.{node_texts}
-use Rattle.cert_text.specs.Reading.{nodes_read}
+use Rattle.cert_model.specs.View.{node_of}
+use Rattle.cert_text.specs.JsonParts.{node_texts}
+use Rattle.cert_text.specs.CertificateReading.{nodes_read}
 use Rattle.cert_text.specs.View.{context_in}
 use Rattle.cert_text.proofs.NodeLists.{next_shaped, next_few, others_shaped, others_few, nodes_stop, nodes_more}
 use Rattle.cert_text.proofs.nodes.read_nodes.Goals as goal
 
 pub push_value-requires-clause-shape : goal.push_value-requires-clause-shape
-push_value-requires-clause-shape c = next_shaped c.loop-value.rest.rest.items c.next.new.self.rest.items c.in-Some.value c.in-Some.ensures.cases.0 c.loop-value.invariant.shape
+push_value-requires-clause-shape c =
+    next_shaped c.loop-value.rest.rest.items c.next.new.self.rest.items c.in-Some.value c.in-Some.ensures.cases.0 c.loop-value.invariant.shape
 
 pub push_value-requires-clause-few : goal.push_value-requires-clause-few
-push_value-requires-clause-few c = next_few c.loop-value.rest.rest.items c.next.new.self.rest.items c.in-Some.value c.in-Some.ensures.cases.0 c.loop-value.invariant.few
+push_value-requires-clause-few c = next_few c.loop-value.rest.rest.items c.next.new.self.rest.items c.in-Some.value c.in-Some.ensures.cases.0
+    c.loop-value.invariant.few
 
 pub returns-in_err-push_value-clause-told : goal.returns-in_err-push_value-clause-told
 returns-in_err-push_value-clause-told c =
@@ -21,7 +23,9 @@ returns-in_err-push_value-clause-told c =
     let left = c.loop-value.rest.rest.items in
     let n : c.len.result ≡ length c.loop-value.nodes.items = search rules in
     let kept = ap (λ k. nodes_read C k earlier (node_texts (items_view left))) n ∙ c.loop-value.invariant.told in
-    rw o (nodes_stop C c.args.values.items left c.next.new.self.rest.items c.len.result earlier c.in-Some.value c.in-Some.ensures.cases.0 kept c.in_err-push_value.field-0.0 c.in_err-push_value.ensures.told)
+    rw o
+    (nodes_stop C c.args.values.items left c.next.new.self.rest.items c.len.result earlier c.in-Some.value c.in-Some.ensures.cases.0 kept
+    c.in_err-push_value.field-0.0 c.in_err-push_value.ensures.told)
 
 pub loop-value-preserved : goal.loop-value-preserved
 loop-value-preserved c =

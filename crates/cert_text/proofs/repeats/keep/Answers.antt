@@ -7,4 +7,5 @@ pub returns : goal.returns
 returns c =
     let text : string_bytes c.in_ok-from_str.field-0 ≡ c.args.text.now = search rules in
     let copied : c.in_ok-copy.copy ≡ c.args.form.now = search rules in
-    read_now c.args.places.now c.args.last.now.items c.args.place c.args.text.now c.args.form.now (record { text = c.in_ok-from_str.field-0; form = c.in_ok-copy.copy }) c.requires.last c.requires.read text copied
+    read_now c.args.places.now c.args.last.now.items c.args.place c.args.text.now c.args.form.now
+    (record { text = c.in_ok-from_str.field-0; form = c.in_ok-copy.copy }) c.requires.last c.requires.read text copied

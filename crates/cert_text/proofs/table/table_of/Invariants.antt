@@ -1,5 +1,5 @@
 use Rattle.std.proofs.Common.{map, take}
-use Rattle.cert_text.specs.Tables.{HasFirst}
+use Rattle.cert_text.specs.NameTables.{HasFirst}
 use Rattle.cert_text.proofs.table.table_of.Given as goal
 
 abbrev pub invariant-loop-number : goal.invariant-loop-number

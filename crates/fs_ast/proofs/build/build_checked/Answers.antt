@@ -5,7 +5,7 @@ use Rattle.fs_rules.specs.Sound.{IsSound}
 use Rattle.fs_ast.specs.Resolved.{placed_of}
 use Rattle.fs_ast.specs.Shapes.{LeadOn}
 use Rattle.fs_model.specs.Machines.{Fsmd}
-use Rattle.fs_ast.specs.Stored.{KeepsTypes}
+use Rattle.fs_ast.specs.StoredBranches.{KeepsTypes}
 use Rattle.fs_ast.proofs.Kept.{all_kept, sound, lawful}
 use Rattle.fs_ast.proofs.Naturals.{right}
 use Rattle.fs_ast.proofs.FirstBroken.{shapes_first}
@@ -20,27 +20,33 @@ check_shapes-requires-clause-leads c =
 pub check_shapes-requires-clause-reset : goal.check_shapes-requires-clause-reset
 check_shapes-requires-clause-reset c =
     let p = source_of c.args.parts.now in
-    reset_low p c.reset_state-reset.result.0 c.as_slice.result.now c.reset_state-reset.ensures.within (ap (map placed_of) c.as_slice.ensures.value ∙ c.in-Ok.ensures)
+    reset_low p c.reset_state-reset.result.0 c.as_slice.result.now c.reset_state-reset.ensures.within
+    (ap (map placed_of) c.as_slice.ensures.value ∙ c.in-Ok.ensures)
 
 pub of-requires : goal.of-requires
 of-requires c =
     let p = source_of c.args.parts.now in
     let reset = c.reset_state-reset in
-    let late = shapes_kept p _ reset.result.0 _ (ap (map placed_of) c.as_slice.ensures.value ∙ c.in-Ok.ensures) reset.ensures.number c.in-Ok-None.field-0-is c.in-Ok-None.ensures in
+    let late = shapes_kept p _ reset.result.0 _ (ap (map placed_of) c.as_slice.ensures.value ∙ c.in-Ok.ensures) reset.ensures.number c.in-Ok-None.field-0-is
+    c.in-Ok-None.ensures in
     let is = machine_is p c.args.scope.vars.items _ c.in-Ok.states.items reset.result.0 c.requires.scope c.in-Ok.ensures reset.ensures.number in
-    λ kept. subst IsSound (sym is) (sound p (all_kept p c.requires.plain) late.0 late.1 (right p c.requires.formed (subst (λ (m : Fsmd). KeepsTypes m.variables m.states) is kept)))
+    λ kept. subst IsSound (sym is)
+    (sound p (all_kept p c.requires.plain) late.0 late.1 (right p c.requires.formed (subst (λ (m : Fsmd). KeepsTypes m.variables m.states) is kept)))
 
 pub returns-in-Ok-of-clause-spelled : goal.returns-in-Ok-of-clause-spelled
 returns-in-Ok-of-clause-spelled c =
-    c.in-Ok-of.ensures ∙ machine_is (source_of c.args.parts.now) c.args.scope.vars.items _ c.in-Ok.states.items c.reset_state-reset.result.0 c.requires.scope c.in-Ok.ensures c.reset_state-reset.ensures.number
+    c.in-Ok-of.ensures ∙ machine_is (source_of c.args.parts.now) c.args.scope.vars.items _ c.in-Ok.states.items c.reset_state-reset.result.0 c.requires.scope
+    c.in-Ok.ensures c.reset_state-reset.ensures.number
 
 pub returns-in-Ok-of-clause-lawful : goal.returns-in-Ok-of-clause-lawful
 returns-in-Ok-of-clause-lawful c =
     let p = source_of c.args.parts.now in
-    let late = shapes_kept p _ _ _ (ap (map placed_of) c.as_slice.ensures.value ∙ c.in-Ok.ensures) c.reset_state-reset.ensures.number c.in-Ok-None.field-0-is c.in-Ok-None.ensures in
+    let late = shapes_kept p _ _ _ (ap (map placed_of) c.as_slice.ensures.value ∙ c.in-Ok.ensures) c.reset_state-reset.ensures.number c.in-Ok-None.field-0-is
+    c.in-Ok-None.ensures in
     lawful p c.requires.plain late.0 late.1
 
 pub returns-in-Ok-Some-clause-first : goal.returns-in-Ok-Some-clause-first
 returns-in-Ok-Some-clause-first c =
-    shapes_first (source_of c.args.parts.now) _ c.reset_state-reset.result.0 c.in-Ok-Some.field-0 c.in-Ok-Some.fault c.requires.plain (ap (map placed_of) c.as_slice.ensures.value ∙ c.in-Ok.ensures) c.reset_state-reset.ensures.number
+    shapes_first (source_of c.args.parts.now) _ c.reset_state-reset.result.0 c.in-Ok-Some.field-0 c.in-Ok-Some.fault c.requires.plain
+    (ap (map placed_of) c.as_slice.ensures.value ∙ c.in-Ok.ensures) c.reset_state-reset.ensures.number
     c.in-Ok-Some.field-0-is c.in-Ok-Some.ensures

@@ -1,7 +1,7 @@
 use Rattle.std.proofs.Common.{◌∙◌, ap}
 use Rattle.std.specs.Prelude.{map}
 use Rattle.fs_model.specs.View.{source_of, source_state_of}
-use Rattle.fs_rules.specs.Spelled.{names_of}
+use Rattle.fs_rules.specs.MachineOfParts.{names_of}
 use Rattle.fs_rules.specs.Places.{names_stated}
 use Rattle.fs_ast.specs.Resolved.{placed_spelled}
 use Rattle.fs_ast.proofs.Kept.{all_kept}
@@ -18,5 +18,6 @@ pub returns : goal.returns
 returns c =
     let vs = c.args.scope.now.vars.items in
     if_ok c.resolve.result
-    (λ out e. placed_is (source_of c.args.parts.now) vs _ out.items c.requires.scope (e ∙ ap (λ l. map (placed_spelled (names_of vs) (names_stated c.args.scope.now.states.now)) (map source_state_of l)) c.deref.ensures.value))
+    (λ out e. placed_is (source_of c.args.parts.now) vs _ out.items c.requires.scope
+    (e ∙ ap (λ l. map (placed_spelled (names_of vs) (names_stated c.args.scope.now.states.now)) (map source_state_of l)) c.deref.ensures.value))
     c.resolve.ensures

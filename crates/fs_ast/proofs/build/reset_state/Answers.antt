@@ -1,6 +1,6 @@
 use Rattle.std.proofs.Common.{◌∙◌, ◌<◌, ap, sym, subst, length}
 use Rattle.fs_model.specs.View.{source_of}
-use Rattle.fs_rules.specs.Spelled.{state_names, place}
+use Rattle.fs_rules.specs.MachineOfParts.{state_names, place}
 use Rattle.fs_ast.proofs.Kept.{all_kept}
 use Rattle.fs_ast.proofs.Whole.{few_stated}
 use Rattle.fs_ast.proofs.build.reset_state.Goals as goal
@@ -12,4 +12,5 @@ pub returns-clause-number : goal.returns-clause-number
 returns-clause-number c = c.state_id.ensures ∙ ap (λ ss. place (state_names ss) (source_of c.args.parts.now).reset) c.requires.scope.stated
 
 pub returns-clause-within : goal.returns-clause-within
-returns-clause-within c = let p = source_of c.args.parts.now in subst (λ n. n < length p.states) (sym (returns-clause-number c)) (all_kept p c.requires.plain).reset
+returns-clause-within c = let p = source_of c.args.parts.now in
+    subst (λ n. n < length p.states) (sym (returns-clause-number c)) (all_kept p c.requires.plain).reset

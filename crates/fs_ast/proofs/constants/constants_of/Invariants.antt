@@ -1,8 +1,8 @@
 use Rattle.std.proofs.Common.{◌≡◌, take}
 use Rattle.std.specs.Prelude.{map}
 use Rattle.fs_rules.specs.Sound.{numbers_in_states}
-use Rattle.fs_ast.specs.Resolved.{state_of}
+use Rattle.fs_ast.specs.Resolved.{resolved_state}
 use Rattle.fs_ast.proofs.constants.constants_of.Given as goal
 
 abbrev pub invariant-loop-state : goal.invariant-loop-state
-invariant-loop-state l = l.out.items ≡ numbers_in_states (map state_of (take l.state-index l.states))
+invariant-loop-state l = l.out.items ≡ numbers_in_states (map resolved_state (take l.state-index l.states))

@@ -1,10 +1,11 @@
 use Rattle.std.proofs.Common.{◌≡◌, take}
 use Rattle.std.specs.Prelude.{map}
 use Rattle.fs_model.specs.View.{source_transition_of}
-use Rattle.fs_rules.specs.Spelled.{names_of, line_spelled}
+use Rattle.fs_rules.specs.MachineOfParts.{names_of, line_spelled}
 use Rattle.fs_rules.specs.Places.{names_stated}
-use Rattle.fs_ast.specs.Resolved.{line_of}
+use Rattle.fs_ast.specs.Resolved.{resolved_line}
 use Rattle.fs_ast.proofs.resolve.numbered_lines.Given as goal
 
 abbrev pub invariant-loop-raw : goal.invariant-loop-raw
-invariant-loop-raw l = map line_of l.out.items ≡ map (line_spelled (names_of l.scope.vars.items) (names_stated l.scope.states.now)) (map source_transition_of (take l.raw-index l.lines))
+invariant-loop-raw l = map resolved_line l.out.items ≡ map (line_spelled (names_of l.scope.vars.items) (names_stated l.scope.states.now))
+    (map source_transition_of (take l.raw-index l.lines))

@@ -2,7 +2,7 @@ use Rattle.std.proofs.Common.{◌≡◌, ℕ, ◌<◌, length}
 use Rattle.std.specs.Prelude.{map}
 use Rattle.fs_rules.specs.Sound.{is_cutpoint}
 use Rattle.fs_ast.specs.Resolved.{placed_of}
-use Rattle.fs_rules.specs.Walks.{is_cut}
+use Rattle.fs_rules.specs.TargetWalks.{is_cut}
 use Rattle.fs_ast.specs.Shapes.{skeleton}
 use Rattle.fs_ast.proofs.shape_rules.cutpoints.Given as goal
 

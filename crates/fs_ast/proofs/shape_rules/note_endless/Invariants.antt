@@ -6,4 +6,5 @@ use Rattle.fs_ast.specs.Shapes.{endless_faults}
 use Rattle.fs_ast.proofs.shape_rules.note_endless.Given as goal
 
 abbrev pub invariant-loop-place : goal.invariant-loop-place
-invariant-loop-place l = earliest l.faults.first (endless_faults (map placed_of l.states) (drop l.place-index l.endless)) ≡ earliest l.initial.faults.first (endless_faults (map placed_of l.states) l.endless)
+invariant-loop-place l = earliest l.faults.first (endless_faults (map placed_of l.states) (drop l.place-index l.endless))
+    ≡ earliest l.initial.faults.first (endless_faults (map placed_of l.states) l.endless)

@@ -6,4 +6,5 @@ use Rattle.fs_ast.specs.Shapes.{forked_faults}
 use Rattle.fs_ast.proofs.shape_rules.note_forked.Given as goal
 
 abbrev pub invariant-loop-state : goal.invariant-loop-state
-invariant-loop-state l = earliest l.faults.first (forked_faults (map placed_of (drop l.state-index l.states))) ≡ earliest l.initial.faults.first (forked_faults (map placed_of l.states))
+invariant-loop-state l = earliest l.faults.first (forked_faults (map placed_of (drop l.state-index l.states)))
+    ≡ earliest l.initial.faults.first (forked_faults (map placed_of l.states))

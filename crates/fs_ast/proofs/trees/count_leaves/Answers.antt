@@ -1,9 +1,9 @@
 use Rattle.std.proofs.Common.{◌≡◌, ◌∙◌, ◌+◌, ◌-◌, ◌<◌, ◌∷◌, sym, ap, drop, length, arith}
 use Rattle.std.specs.Prelude.{map, ℕ}
+use Rattle.base_lemmas.proofs.Lists.{map_drop_next}
 use Rattle.fs_model.specs.Trees.{tree_of_transitions, count_leaves}
-use Rattle.fs_ast.specs.Resolved.{line_of}
-use Rattle.fs_ast.specs.Forks.{capped}
-use Rattle.fs_rules.proofs.Turns.{left_map}
+use Rattle.fs_ast.specs.Resolved.{resolved_line}
+use Rattle.fs_ast.specs.Forks.{capped_leaves}
 use Rattle.fs_ast.proofs.Leaves.{count_more}
 use Rattle.fs_ast.proofs.trees.count_leaves.Goals as goal
 
@@ -18,6 +18,7 @@ loop-k-preserved c =
     let within : i < n = omega arith in
     let after : n - k ≡ i + 1 = omega arith in
     let before : i ≡ n - (k + 1) = omega arith in
-    count_more (line_of x) (map line_of (drop (n - k) xs)) c.loop-k.count c.count_line-count.result c.loop-k.invariant c.count_line-count.ensures
-    ∙ ap (λ ls. capped (count_leaves (tree_of_transitions ls)))
-    (ap (λ j. line_of x ∷ map line_of (drop j xs)) after ∙ sym (left_map line_of xs i x within c.index-lines-lines.is) ∙ ap (λ j. map line_of (drop j xs)) before)
+    count_more (resolved_line x) (map resolved_line (drop (n - k) xs)) c.loop-k.count c.count_line-count.result c.loop-k.invariant c.count_line-count.ensures
+    ∙ ap (λ ls. capped_leaves (count_leaves (tree_of_transitions ls)))
+    (ap (λ j. resolved_line x ∷ map resolved_line (drop j xs)) after ∙ sym (map_drop_next resolved_line xs i x within c.index-lines-lines.is)
+    ∙ ap (λ j. map resolved_line (drop j xs)) before)

@@ -27,7 +27,9 @@ within bytes i n h k = omega (arith, length-drop i bytes, rw take_rest at k)
 pub loop-sent-preserved : goal.loop-sent-preserved
 loop-sent-preserved g c = record {
   within = within _ _ _ c.loop-sent.invariant.within c.in-Ok.ensures.within;
-  got = next_piece (g.S.Sink.told c.args.sink.now).got (g.S.Sink.told c.loop-sent.sink).got (g.S.Sink.told c.put.new.self).got c.args.bytes.now c.loop-sent.sent c.in-Ok.taken c.loop-sent.invariant.got c.in-Ok.ensures.got;
-  spare = less_spare (g.S.Sink.told c.args.sink.now).spare (g.S.Sink.told c.loop-sent.sink).spare (g.S.Sink.told c.put.new.self).spare c.loop-sent.sent c.in-Ok.taken c.loop-sent.invariant.spare c.in-Ok.ensures.spare;
+  got = next_piece (g.S.Sink.told c.args.sink.now).got (g.S.Sink.told c.loop-sent.sink).got
+      (g.S.Sink.told c.put.new.self).got c.args.bytes.now c.loop-sent.sent c.in-Ok.taken c.loop-sent.invariant.got c.in-Ok.ensures.got;
+  spare = less_spare (g.S.Sink.told c.args.sink.now).spare (g.S.Sink.told c.loop-sent.sink).spare
+      (g.S.Sink.told c.put.new.self).spare c.loop-sent.sent c.in-Ok.taken c.loop-sent.invariant.spare c.in-Ok.ensures.spare;
   counts = omega (arith, c.loop-sent.invariant.counts, c.in-Ok.ensures.counts);
 }

@@ -13,5 +13,6 @@ loop-state-preserved c =
     let low : k < n = omega (arith, c.loop-state-test.true, c.loop-state.invariant.all) in
     record {
       all = c.loop-state.invariant.all;
-      done = more (λ (ps : Vec CodePath Global). map path_of ps.items) c.loop-state.out.items c.push.new.self.items _ (paths_at m k) _ _ c.in_ok-push.ensures.items c.in_ok-fork_paths.ensures (range_map_step (paths_at m) k n low) ∙ c.loop-state.invariant.done;
+      done = more (λ (ps : Vec CodePath Global). map path_of ps.items) c.loop-state.out.items c.push.new.self.items _
+          (paths_at m k) _ _ c.in_ok-push.ensures.items c.in_ok-fork_paths.ensures (range_map_step (paths_at m) k n low) ∙ c.loop-state.invariant.done;
     }

@@ -7,7 +7,8 @@ use Rattle.fs_cut.proofs.make_cover.cover.Goals as goal
 
 pub of-requires : goal.of-requires
 of-requires c =
-    lists_points c.args.m.now (map path_of c.in_ok-start.start.items) (map (λ ps. map path_of ps.items) c.in_ok-forks.forks.items) (map point_of c.in_ok-points.points.items) c.in_ok-forks.ensures c.in_ok-points.ensures
+    lists_points c.args.m.now (map path_of c.in_ok-start.start.items) (map (λ ps. map path_of ps.items) c.in_ok-forks.forks.items)
+    (map point_of c.in_ok-points.points.items) c.in_ok-forks.ensures c.in_ok-points.ensures
 
 pub returns : goal.returns
 returns c =

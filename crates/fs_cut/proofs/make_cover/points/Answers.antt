@@ -8,5 +8,6 @@ loop-state-preserved c =
     let low : c.loop-state.state < length c.args.m.now.states = omega (arith, c.loop-state-test.true, c.loop-state.invariant.all) in
     record {
       all = c.loop-state.invariant.all;
-      done = points_more c.args.m.now (map point_of c.loop-state.out.items) (map point_of c.push_fork.new.out.items) _ _ low c.in_ok-push_fork.ensures ∙ c.loop-state.invariant.done;
+      done = points_more c.args.m.now (map point_of c.loop-state.out.items) (map point_of c.push_fork.new.out.items) _ _ low c.in_ok-push_fork.ensures
+          ∙ c.loop-state.invariant.done;
     }

@@ -8,7 +8,9 @@ pub bounds-branches-0-2 : goal.bounds-branches-0-2
 bounds-branches-0-2 c = has_first c.args.m.now c.args.state.0 c.branches.result.now c.branches.ensures.sound c.requires c.branches.ensures.branches
 
 pub returns-clause-target : goal.returns-clause-target
-returns-clause-target c = first_target_at c.args.m.now c.args.state.0 c.branches.result.now c.index-branches-0.result c.branches.ensures.sound c.requires c.branches.ensures.branches
+returns-clause-target c = first_target_at c.args.m.now c.args.state.0 c.branches.result.now c.index-branches-0.result c.branches.ensures.sound c.requires
+    c.branches.ensures.branches
 
 pub returns-clause-in_range : goal.returns-clause-in_range
-returns-clause-in_range c = first_target_is_in c.args.m.now c.args.state.0 c.branches.result.now c.index-branches-0.result c.branches.ensures.sound c.requires c.branches.ensures.branches
+returns-clause-in_range c = first_target_is_in c.args.m.now c.args.state.0 c.branches.result.now c.index-branches-0.result c.branches.ensures.sound c.requires
+    c.branches.ensures.branches

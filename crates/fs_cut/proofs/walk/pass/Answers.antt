@@ -1,7 +1,7 @@
 use Rattle.std.proofs.Common.{◌≡◌, ◌-◌, ◌<◌, ◌∙◌, sym, refl, arith, length, map, true, false}
 use Rattle.fs_model.specs.declared.parts.StateId.{StateId}
-use Rattle.fs_ast.specs.Sound.{is_cutpoint}
-use Rattle.fs_cut.specs.Covers.{passed}
+use Rattle.fs_ast.specs.SoundMachines.{is_cutpoint}
+use Rattle.fs_cut.specs.Covers.{passed_states}
 use Rattle.fs_cut.proofs.Loops.{more, passed_more, reached_more, passed_none, reached_here, all_passed}
 use Rattle.fs_cut.proofs.walk.pass.Goals as goal
 
@@ -10,7 +10,8 @@ returns-then-is_cutpoint-clause-passed c =
     let m = c.args.m.now in
     let left = length m.states - c.states.counter in
     let cut : is_cutpoint m c.states.at.0 ≡ true = sym c.is_cutpoint.ensures ∙ c.if-is_cutpoint.true in
-    all_passed (map (λ (s : StateId). s.0) c.states.left.items) _ (passed m left c.states.at.0) (passed_none m left c.states.at.0 cut) c.states.invariant.left
+    all_passed (map (λ (s : StateId). s.0) c.states.left.items) _ (passed_states m left c.states.at.0)
+    (passed_none m left c.states.at.0 cut) c.states.invariant.left
 
 pub returns-then-is_cutpoint-clause-reached : goal.returns-then-is_cutpoint-clause-reached
 returns-then-is_cutpoint-clause-reached c =
@@ -30,6 +31,7 @@ states-preserved c =
     record {
       all = c.states.invariant.all;
       within = c.first_target-at.ensures.in_range;
-      left = more (λ (s : StateId). s.0) c.states.left.items c.push.new.self.items c.states.at q _ _ c.in_ok-push.ensures.items refl (passed_more m n k q t low cut c.first_target-at.ensures.target) ∙ c.states.invariant.left;
+      left = more (λ (s : StateId). s.0) c.states.left.items c.push.new.self.items c.states.at q _ _ c.in_ok-push.ensures.items refl
+          (passed_more m n k q t low cut c.first_target-at.ensures.target) ∙ c.states.invariant.left;
       to = sym (reached_more m n k q t low cut c.first_target-at.ensures.target) ∙ c.states.invariant.to;
     }

@@ -1,5 +1,5 @@
 use Rattle.std.proofs.Common.{◌<◌, ◌∙◌, arith}
-use Rattle.fs_ast.specs.Sound.{branch_count}
+use Rattle.fs_ast.specs.SoundMachines.{branch_count}
 use Rattle.fs_cut.specs.Covers.{path_by}
 use Rattle.fs_cut.specs.View.{point_of, path_of}
 use Rattle.fs_cut.proofs.Loops.{more, range_map_step}
@@ -14,5 +14,6 @@ loop-branch-preserved c =
     let low : k < branch_count m q = omega (arith, c.loop-branch-test.true, c.loop-branch.invariant.all) in
     record {
       all = c.loop-branch.invariant.all;
-      done = more path_of c.loop-branch.out.items c.push.new.self.items c.in_ok-path.field-0 (f k) _ _ c.in_ok-push.ensures.items c.in_ok-path.ensures (range_map_step f k (branch_count m q) low) ∙ c.loop-branch.invariant.done;
+      done = more path_of c.loop-branch.out.items c.push.new.self.items c.in_ok-path.field-0 (f k) _ _ c.in_ok-push.ensures.items c.in_ok-path.ensures
+          (range_map_step f k (branch_count m q) low) ∙ c.loop-branch.invariant.done;
     }

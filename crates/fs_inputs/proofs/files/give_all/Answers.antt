@@ -8,16 +8,20 @@ use Rattle.fs_inputs.proofs.files.give_all.Goals as goal
 pub give-requires-clause-fine : goal.give-requires-clause-fine
 give-requires-clause-fine c =
     let s = c.in-Some.ensures.steps in
-    (first_fine (input_signatures c.args.m.now.variables) (string_bytes c.in-Some.name.now) (view c.in-Some.value.now) (members_view c.next.new.self) (rw s at c.loop-name.invariant.fine)).0
+    (first_fine (input_signatures c.args.m.now.variables) (string_bytes c.in-Some.name.now) (view c.in-Some.value.now) (members_view c.next.new.self)
+    (rw s at c.loop-name.invariant.fine)).0
 
 pub loop-name-preserved : goal.loop-name-preserved
 loop-name-preserved c =
     let l = c.loop-name in
     let s = c.in-Some.ensures.steps in
     record {
-      fine = (first_fine (input_signatures c.args.m.now.variables) (string_bytes c.in-Some.name.now) (view c.in-Some.value.now) (members_view c.next.new.self) (rw s at l.invariant.fine)).1;
+      fine =
+          (first_fine (input_signatures c.args.m.now.variables) (string_bytes c.in-Some.name.now) (view c.in-Some.value.now) (members_view c.next.new.self)
+          (rw s at l.invariant.fine)).1;
       signatures = c.in_ok-give.ensures.signatures ∙ l.invariant.signatures;
-      given = inputs_step (string_bytes c.in-Some.name.now) (view c.in-Some.value.now) (members_view c.next.new.self) (inputs_of l.inputs) (inputs_of c.give.new.inputs) c.in_ok-give.ensures.given
+      given = inputs_step (string_bytes c.in-Some.name.now) (view c.in-Some.value.now) (members_view c.next.new.self) (inputs_of l.inputs)
+          (inputs_of c.give.new.inputs) c.in_ok-give.ensures.given
           ∙ (ap (λ it. inputs_over (inputs_of l.inputs) (members_view it)) (sym s) ∙ l.invariant.given);
     }
 

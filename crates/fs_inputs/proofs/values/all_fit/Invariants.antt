@@ -1,6 +1,6 @@
 use Rattle.std.proofs.Common.{◌≡◌}
 use Rattle.serde_json.specs.View.{members_view}
-use Rattle.fs_inputs.specs.Files.{all_fit}
+use Rattle.fs_inputs.specs.InputMembers.{all_fit}
 use Rattle.fs_inputs.proofs.values.all_fit.Given as goal
 
 abbrev pub invariant-loop-name : goal.invariant-loop-name

@@ -18,5 +18,17 @@ each-preserved c =
     let front : c.split_at-in-Token.result.0.now ≡ take n rest = c.split_at-in-Token.ensures.front in
     let back : c.split_at-in-Token.result.1.now ≡ drop n rest = c.split_at-in-Token.ensures.back in
     let len : length c.split_at-in-Token.result.1.now + n ≡ length rest = c.split_at-in-Token.ensures.back_len in
-    let front_len : length c.split_at-in-Token.result.0.now ≡ n = c.split_at-in-Token.ensures.front_len in
-    (rw (c.in_ok-push-in-Token.ensures.items, c.is_past_limit-past_limit.ensures, c.counted-operators.ensures.is, c.moved-place-in-Token.ensures.is, front, back) g, omega arith, omega arith, omega arith, omega arith)
+    let front_len : length c.split_at-in-Token.result.0.now ≡ n = c.split_at-in-Token.ensures.front_len in (
+      rw (
+        c.in_ok-push-in-Token.ensures.items,
+        c.is_past_limit-past_limit.ensures,
+        c.counted-operators.ensures.is,
+        c.moved-place-in-Token.ensures.is,
+        front,
+        back,
+      ) g,
+      omega arith,
+      omega arith,
+      omega arith,
+      omega arith,
+    )

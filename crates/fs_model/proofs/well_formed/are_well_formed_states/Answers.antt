@@ -8,5 +8,6 @@ use Rattle.fs_model.proofs.well_formed.are_well_formed_states.Goals as goal
 
 pub returns : goal.returns
 returns c =
-    all_from_yields_List (λ x. is_well_formed_state (source_state_of x)) _ _ _ c.all.ensures.ran (YieldsList-from_slice c.args.states.now cc) (λ x b q k. search (rules, tests))
+    all_from_yields_List (λ x. is_well_formed_state (source_state_of x)) _ _ _ c.all.ensures.ran (YieldsList-from_slice c.args.states.now cc)
+    (λ x b q k. search (rules, tests))
     ∙ sym (list_all-map is_well_formed_state source_state_of c.args.states.now)

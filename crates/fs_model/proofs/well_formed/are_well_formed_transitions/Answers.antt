@@ -8,5 +8,6 @@ use Rattle.fs_model.proofs.well_formed.are_well_formed_transitions.Goals as goal
 
 pub returns : goal.returns
 returns c =
-    all_from_yields_List (λ x. is_well_formed_transition (source_transition_of x)) _ _ _ c.all.ensures.ran (YieldsList-from_slice c.args.lines.now cc) (λ x b q k. search (rules, tests))
+    all_from_yields_List (λ x. is_well_formed_transition (source_transition_of x)) _ _ _ c.all.ensures.ran (YieldsList-from_slice c.args.lines.now cc)
+    (λ x b q k. search (rules, tests))
     ∙ sym (list_all-map is_well_formed_transition source_transition_of c.args.lines.now)

@@ -5,7 +5,7 @@ use Rattle.fs_model.specs.declared.parts.VarInfo.{VarInfo}
 use Rattle.fs_model.specs.View.{source_of, source_state_of}
 use Rattle.fs_model.specs.Source.{SourceState}
 use Rattle.fs_rules.specs.declared.check.CheckRule.TheVariants.{TwiceNamed, TooMany, UnknownState}
-use Rattle.fs_rules.specs.Spelled.{variables_of, state_names, place}
+use Rattle.fs_rules.specs.MachineOfParts.{variables_of, state_names, place}
 use Rattle.fs_model.specs.Limits.{most_variables, most_states}
 use Rattle.fs_rules.specs.Rules.{at_lines, broken_where, declared_names, declared_states, repeated, past, state_faults}
 use Rattle.fs_rules.specs.FirstFault.{earliest}
@@ -25,10 +25,12 @@ returns-clause-first c =
     let one = c.declare.new.faults.first in
     let two = c.note_where.new.self.first in
     plain_noted None one two c.check_states.new.faults.first
-    (at_lines TwiceNamed (repeated [] ds)) (at_lines TooMany (past most_variables ds)) (at_lines TwiceNamed (repeated [] ss)) (at_lines TooMany (past most_states ss))
+    (at_lines TwiceNamed (repeated [] ds)) (at_lines TooMany (past most_variables ds)) (at_lines TwiceNamed (repeated [] ss))
+    (at_lines TooMany (past most_states ss))
     (broken_where (not there) UnknownState p.reset_line) (flat_map (state_faults (variables_of p.declarations) (state_names p.states)) p.states)
     (c.in_ok-scope.ensures.noted ∙ ap (λ k. earliest k (name_faults p)) c.new-faults.ensures)
-    (c.note_where.ensures ∙ ap (λ b. earliest one (broken_where (not b) UnknownState p.reset_line)) (c.knows_state-no_reset.ensures ∙ reset_known p vars states s))
+    (c.note_where.ensures ∙ ap (λ b. earliest one (broken_where (not b) UnknownState p.reset_line))
+    (c.knows_state-no_reset.ensures ∙ reset_known p vars states s))
     (c.in_ok-check_states.ensures
     ∙ ap (λ l. earliest two (flat_map (state_faults vars (state_names states)) (map source_state_of l))) c.as_slice.ensures.value
     ∙ ap₂ (λ (v : List VarInfo) (n : List SourceState). earliest two (flat_map (state_faults v (state_names n)) p.states)) s.vars s.stated)

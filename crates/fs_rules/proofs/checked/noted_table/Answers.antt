@@ -11,4 +11,5 @@ pub returns-clause-noted : goal.returns-clause-noted
 returns-clause-noted c =
     let ns = map declared_of c.args.declared.now in
     let late = at_lines TooMany (past c.args.most ns) in
-    c.note_past.ensures ∙ ap (λ k. earliest k late) c.in_ok-table.ensures.noted ∙ sym (earliest-append c.args.faults.now.first (at_lines TwiceNamed (repeated [] ns)) late)
+    c.note_past.ensures ∙ ap (λ k. earliest k late) c.in_ok-table.ensures.noted
+    ∙ sym (earliest-append c.args.faults.now.first (at_lines TwiceNamed (repeated [] ns)) late)

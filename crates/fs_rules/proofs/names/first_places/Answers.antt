@@ -4,7 +4,7 @@ use Rattle.std.proofs.lemmas.List.{take_all, drop_all}
 use Rattle.fs_rules.specs.declared.check.CheckRule.TheVariants.{TwiceNamed}
 use Rattle.fs_rules.specs.Rules.{at_lines}
 use Rattle.fs_rules.specs.FirstFault.{earliest}
-use Rattle.fs_rules.specs.Places.{declared_of, names_in, place_in, FindsFirst}
+use Rattle.fs_rules.specs.Places.{declared_of, declared_name_list, place_in, FindsFirst}
 use Rattle.fs_rules.proofs.FirstFaults.{repeats_is, repeats, index_finds, index_noted}
 use Rattle.fs_rules.proofs.names.first_places.Goals as goal
 
@@ -16,8 +16,10 @@ loop-place-preserved c =
     let ds = c.args.declared.now in
     let x = c.index-declared-place.result in
     rw add-one record {
-      finds = index_finds ds c.loop-place.place x c.loop-place-test.true c.index-declared-place.is _ _ c.loop-place.invariant.finds c.in_ok-put_first.ensures.put;
-      noted = index_noted ds c.loop-place.place x c.loop-place-test.true c.index-declared-place.is _ _ _ _ c.loop-place.invariant.finds c.in_ok-put_first.ensures.noted c.loop-place.invariant.noted;
+      finds = index_finds ds c.loop-place.place x c.loop-place-test.true c.index-declared-place.is _ _ c.loop-place.invariant.finds
+          c.in_ok-put_first.ensures.put;
+      noted = index_noted ds c.loop-place.place x c.loop-place-test.true c.index-declared-place.is _ _ _ _ c.loop-place.invariant.finds
+          c.in_ok-put_first.ensures.noted c.loop-place.invariant.noted;
     }
 
 pub returns-clause-noted : goal.returns-clause-noted
@@ -26,10 +28,11 @@ returns-clause-noted c =
     let i = c.loop-place.place in
     let all : drop i ds ≡ [] = drop_all i ds c.loop-place-test.false in
     let known = c.loop-place.faults.first in
-    sym (ap (λ r. earliest known (at_lines TwiceNamed (repeats (names_in (map declared_of (take i ds))) (map declared_of r)))) all)
+    sym (ap (λ r. earliest known (at_lines TwiceNamed (repeats (declared_name_list (map declared_of (take i ds))) (map declared_of r)))) all)
     ∙ c.loop-place.invariant.noted
     ∙ ap (λ r. earliest c.args.faults.now.first (at_lines TwiceNamed r)) (repeats_is [] [] (λ n. refl) (map declared_of ds))
 
 pub returns-clause-finds : goal.returns-clause-finds
 returns-clause-finds c =
-    subst (λ ns. FindsFirst c.loop-place.places.entries (names_in (map declared_of ns))) (take_all c.loop-place.place c.args.declared.now c.loop-place-test.false) c.loop-place.invariant.finds
+    subst (λ ns. FindsFirst c.loop-place.places.entries (declared_name_list (map declared_of ns)))
+    (take_all c.loop-place.place c.args.declared.now c.loop-place-test.false) c.loop-place.invariant.finds

@@ -6,4 +6,6 @@ use Rattle.fs_rules.proofs.names.put_first.Goals as goal
 
 pub returns-clause-put : goal.returns-clause-put
 returns-clause-put c =
-    on_ok c.put.result (put_new c.in_ok-name.name c.args.entry.now.name c.in_ok-name.ensures (place_in c.args.places.now.entries) (place_in c.put.new.places.entries) c.args.place (search (rules, tests))) c.put.ensures
+    on_ok c.put.result
+    (put_new c.in_ok-name.name c.args.entry.now.name c.in_ok-name.ensures (place_in c.args.places.now.entries)
+    (place_in c.put.new.places.entries) c.args.place (search (rules, tests))) c.put.ensures

@@ -10,6 +10,8 @@ loop-name-preserved c =
     let x = c.name-item.result in
     let done = c.in_ok-declare_one.ensures in
     record {
-      vars = put_done (λ n. record { name = n; role = d.role; sort = d.sort }) c.deref-name-items.result.now c.loop-name.name-index x c.loop-name-test.true c.name-item.is c.args.out.now.vars.items _ _ _ refl done.vars c.loop-name.invariant.vars;
-      declared = put_done (λ n. (d.line, n)) c.deref-name-items.result.now c.loop-name.name-index x c.loop-name-test.true c.name-item.is (map declared_of c.args.out.now.declared.items) _ _ _ refl done.declared c.loop-name.invariant.declared;
+      vars = put_done (λ n. record { name = n; role = d.role; sort = d.sort }) c.deref-name-items.result.now c.loop-name.name-index x c.loop-name-test.true
+          c.name-item.is c.args.out.now.vars.items _ _ _ refl done.vars c.loop-name.invariant.vars;
+      declared = put_done (λ n. (d.line, n)) c.deref-name-items.result.now c.loop-name.name-index x c.loop-name-test.true c.name-item.is
+          (map declared_of c.args.out.now.declared.items) _ _ _ refl done.declared c.loop-name.invariant.declared;
     }

@@ -1,7 +1,7 @@
 use Rattle.std.proofs.Common.{◌≡◌, take}
 use Rattle.std.specs.Prelude.{map}
 use Rattle.fs_model.specs.View.{declaration_of}
-use Rattle.fs_rules.specs.Spelled.{variables_of}
+use Rattle.fs_rules.specs.MachineOfParts.{variables_of}
 use Rattle.fs_rules.specs.Rules.{declared_names}
 use Rattle.fs_rules.specs.Places.{declared_of}
 use Rattle.fs_rules.proofs.scope.declare_variables.Given as goal

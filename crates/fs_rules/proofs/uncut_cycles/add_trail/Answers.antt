@@ -1,6 +1,6 @@
 use Rattle.std.proofs.Common.{◌≡◌, ◌∙◌, ◌-◌, ◌+◌, ◌<◌, ◌++◌, ◌∷◌, [], suc, sym, ap, append_assoc, arith}
 use Rattle.std.specs.Prelude.{slice_index}
-use Rattle.fs_rules.specs.Walks.{trail}
+use Rattle.fs_rules.specs.TargetWalks.{trail}
 use Rattle.fs_rules.proofs.uncut_cycles.add_trail.Goals as goal
 
 pub trail-preserved : goal.trail-preserved
@@ -14,5 +14,6 @@ trail-preserved c =
     let more : n - k ≡ suc (n - (k + 1)) = omega arith in
     record {
       within = c.requires.leads q c.trail.invariant.within;
-      made = ap (λ r. r ++ rest) c.in_ok-push.ensures ∙ append_assoc c.trail.found.items (q ∷ []) rest ∙ ap (λ j. c.trail.found.items ++ trail next j q) (sym more) ∙ c.trail.invariant.made;
+      made = ap (λ r. r ++ rest) c.in_ok-push.ensures ∙ append_assoc c.trail.found.items (q ∷ []) rest
+          ∙ ap (λ j. c.trail.found.items ++ trail next j q) (sym more) ∙ c.trail.invariant.made;
     }

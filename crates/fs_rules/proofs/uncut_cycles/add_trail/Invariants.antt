@@ -1,5 +1,5 @@
 use Rattle.std.proofs.Common.{◌≡◌, ◌-◌, ◌<◌, ◌++◌, length}
-use Rattle.fs_rules.specs.Walks.{trail}
+use Rattle.fs_rules.specs.TargetWalks.{trail}
 use Rattle.fs_rules.proofs.uncut_cycles.add_trail.Given as goal
 
 abbrev pub invariant-trail : goal.invariant-trail

@@ -11,5 +11,6 @@ returns c =
       inside = s.inside;
       rounds = s.rounds;
       all = λ q h r. all_found c.args.next.now c.args.cut.now w.passes.items w.verdicts.items w.found.items s q (c.loop-start.invariant.seen q (omega arith)) r;
-      reach = λ none q h. all_reach c.args.next.now c.args.cut.now w.passes.items w.verdicts.items w.found.items s none q (c.loop-start.invariant.seen q (omega arith));
+      reach = λ none q h. all_reach c.args.next.now c.args.cut.now w.passes.items w.verdicts.items w.found.items s none q
+          (c.loop-start.invariant.seen q (omega arith));
     }

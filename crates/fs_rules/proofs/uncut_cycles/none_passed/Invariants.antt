@@ -1,6 +1,6 @@
 use Rattle.std.proofs.Common.{◌≡◌, ℕ, length}
 use Rattle.std.specs.Prelude.{None}
-use Rattle.fs_rules.specs.Walks.{pass_at}
+use Rattle.fs_rules.specs.TargetWalks.{pass_at}
 use Rattle.fs_rules.proofs.uncut_cycles.none_passed.Given as goal
 
 abbrev pub invariant-none : goal.invariant-none

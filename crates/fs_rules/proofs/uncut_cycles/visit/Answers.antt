@@ -2,7 +2,7 @@ use Rattle.std.proofs.Common.{◌≡◌, ◌∙◌, ◌<◌, ◌^◌, length, sy
 use Rattle.std.specs.Prelude.{None}
 use Rattle.std.specs.List.{slice_get}
 use Rattle.std.proofs.lemmas.List.{get_or_read}
-use Rattle.fs_rules.specs.Walks.{is_cut, pass_at, judged, IsWalk}
+use Rattle.fs_rules.specs.TargetWalks.{is_cut, pass_at, judged, IsWalk}
 use Rattle.fs_rules.proofs.Walks.{judge_safe}
 use Rattle.fs_rules.proofs.Rounds.{settle_all}
 use Rattle.fs_rules.proofs.Results.{on_ok}
@@ -22,14 +22,21 @@ judge-verdict-requires c =
     let inside : stop.end < length after.items = omega (arith, walk.within, walk.same, c.requires.settled.same) in
     let small : length after.items < 2 ^ 63 = omega (arith, after.ok, after.small) in
     let at : c.index-pass.result.now ≡ pass_at after.items stop.end = get_or_read after.items _ _ inside c.index-pass.ensures None in
-    λ p total is there. judge_safe next cut c.args.start stop.end stop.steps w.passes.items after.items vs w.found.items c.requires.settled own small p total (sym at ∙ is) (ap (λ l. slice_get l p.walk) (sym c.as_slice.ensures.value) ∙ there)
+    λ p total is there. judge_safe next cut c.args.start stop.end stop.steps w.passes.items after.items vs w.found.items c.requires.settled own small p total
+    (sym at ∙ is) (ap (λ l. slice_get l p.walk) (sym c.as_slice.ensures.value) ∙ there)
 
 pub returns-clause-settled : goal.returns-clause-settled
 returns-clause-settled c =
     let w = c.args.walks.now in
     let stop = c.take_walk-stop.result in
     let number : c.len-walk.result ≡ length w.verdicts.items = omega (arith, c.len-walk.ensures, w.verdicts.ok) in
-    let inside : stop.end < length c.take_walk-stop.new.passes.items = omega (arith, c.take_walk-stop.ensures.walk.within, c.take_walk-stop.ensures.walk.same, c.requires.settled.same) in
+    let inside : stop.end < length c.take_walk-stop.new.passes.items =
+    omega (arith, c.take_walk-stop.ensures.walk.within, c.take_walk-stop.ensures.walk.same, c.requires.settled.same) in
     on_ok c.push.result
-    (λ e. settle_all c.args.next.now c.args.cut.now c.args.start stop.end stop.steps c.len-walk.result w.passes.items c.take_walk-stop.new.passes.items c.index-pass.result.now w.verdicts.items _ w.found.items _ c.judge-verdict.result number (get_or_read c.take_walk-stop.new.passes.items _ _ inside c.index-pass.ensures None) c.requires.graph c.requires.settled c.take_walk-stop.ensures.walk c.take_walk-stop.ensures.stops (c.judge-verdict.ensures ∙ ap (judged (is_cut c.args.cut.now stop.end) c.index-pass.result.now stop.steps) c.as_slice.ensures.value) e c.in_ok-add_round.ensures)
+    (λ e. settle_all c.args.next.now c.args.cut.now c.args.start stop.end stop.steps c.len-walk.result w.passes.items c.take_walk-stop.new.passes.items
+    c.index-pass.result.now w.verdicts.items _ w.found.items _ c.judge-verdict.result number
+    (get_or_read c.take_walk-stop.new.passes.items _ _ inside c.index-pass.ensures None) c.requires.graph c.requires.settled c.take_walk-stop.ensures.walk
+    c.take_walk-stop.ensures.stops
+    (c.judge-verdict.ensures ∙ ap (judged (is_cut c.args.cut.now stop.end) c.index-pass.result.now stop.steps) c.as_slice.ensures.value) e
+    c.in_ok-add_round.ensures)
     c.push.ensures

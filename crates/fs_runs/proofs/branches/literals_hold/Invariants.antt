@@ -9,7 +9,9 @@ use Rattle.fs_runs.proofs.branches.literals_hold.Given as goal
 
 abbrev pub invariant-loop-lit : goal.invariant-loop-lit
 invariant-loop-lit l = record {
-  there : AllInRange (touched_by_way (map literal_of (drop l.lit-index l.way)) (store_from l.values)) → AllInRange (touched_by_way (map literal_of l.way) (store_from l.values));
-  back : AllInRange (touched_by_way (map literal_of l.way) (store_from l.values)) → AllInRange (touched_by_way (map literal_of (drop l.lit-index l.way)) (store_from l.values));
+  there : AllInRange (touched_by_way (map literal_of (drop l.lit-index l.way)) (store_from l.values))
+      → AllInRange (touched_by_way (map literal_of l.way) (store_from l.values));
+  back : AllInRange (touched_by_way (map literal_of l.way) (store_from l.values))
+      → AllInRange (touched_by_way (map literal_of (drop l.lit-index l.way)) (store_from l.values));
   hold : literals_hold (map literal_of (drop l.lit-index l.way)) (store_from l.values) ≡ literals_hold (map literal_of l.way) (store_from l.values);
 }

@@ -1,19 +1,20 @@
 use Rattle.std.proofs.Common.{◌≡◌, true, false, sym, ◌∙◌}
+use Rattle.base_lemmas.proofs.Lists.{map_drop_next}
 use Rattle.fs_model.specs.View.{branch_of}
 use Rattle.fs_runs.specs.Values.{store_from}
 use Rattle.fs_model.specs.Trees.{literals_hold}
-use Rattle.fs_runs.proofs.Tries.{branch_in_front, branch_there, branch_back, branch_ends, open_more, open_here, left_mapped}
+use Rattle.fs_runs.proofs.Tries.{branch_in_front, branch_there, branch_back, branch_ends, open_more, open_here}
 use Rattle.fs_runs.proofs.branches.taken_branch.Goals as goal
 
 pub returns-in_err-literals_hold : goal.returns-in_err-literals_hold
 returns-in_err-literals_hold c =
-    let parts = left_mapped branch_of c.args.branches.now c.loop-branch.branch-index c.branch-item.result c.loop-branch-test.true c.branch-item.is in
+    let parts = map_drop_next branch_of c.args.branches.now c.loop-branch.branch-index c.branch-item.result c.loop-branch-test.true c.branch-item.is in
     let no = rw c.as_slice.ensures.value at c.in_err-literals_hold.ensures in
     rw c.from_residual.ensures (λ p. no (branch_in_front _ _ _ (store_from c.args.values.now) parts (c.loop-branch.invariant.back p)))
 
 pub loop-branch-preserved : goal.loop-branch-preserved
 loop-branch-preserved c =
-    let parts = left_mapped branch_of c.args.branches.now c.loop-branch.branch-index c.branch-item.result c.loop-branch-test.true c.branch-item.is in
+    let parts = map_drop_next branch_of c.args.branches.now c.loop-branch.branch-index c.branch-item.result c.loop-branch-test.true c.branch-item.is in
     let held = rw c.as_slice.ensures.value at c.in_ok-literals_hold.ensures in
     let h : literals_hold (branch_of c.branch-item.result).literals (store_from c.args.values.now) ≡ false = sym held.1 ∙ c.if-branch.false in
     record {
@@ -24,7 +25,7 @@ loop-branch-preserved c =
 
 pub returns-then-branch : goal.returns-then-branch
 returns-then-branch c =
-    let parts = left_mapped branch_of c.args.branches.now c.loop-branch.branch-index c.branch-item.result c.loop-branch-test.true c.branch-item.is in
+    let parts = map_drop_next branch_of c.args.branches.now c.loop-branch.branch-index c.branch-item.result c.loop-branch-test.true c.branch-item.is in
     let held = rw c.as_slice.ensures.value at c.in_ok-literals_hold.ensures in
     let h : literals_hold (branch_of c.branch-item.result).literals (store_from c.args.values.now) ≡ true = sym held.1 ∙ c.if-branch.true in
     (c.loop-branch.invariant.there (branch_ends _ _ _ _ parts h held.0), sym c.loop-branch.invariant.first ∙ open_here _ _ _ _ parts h)

@@ -8,7 +8,9 @@ use Rattle.fs_runs.proofs.branches.taken_branch.Given as goal
 
 abbrev pub invariant-loop-branch : goal.invariant-loop-branch
 invariant-loop-branch l = record {
-  there : AllInRange (touched_by_branches (map branch_of (drop l.branch-index l.branches)) (store_from l.values)) → AllInRange (touched_by_branches (map branch_of l.branches) (store_from l.values));
-  back : AllInRange (touched_by_branches (map branch_of l.branches) (store_from l.values)) → AllInRange (touched_by_branches (map branch_of (drop l.branch-index l.branches)) (store_from l.values));
+  there : AllInRange (touched_by_branches (map branch_of (drop l.branch-index l.branches)) (store_from l.values))
+      → AllInRange (touched_by_branches (map branch_of l.branches) (store_from l.values));
+  back : AllInRange (touched_by_branches (map branch_of l.branches) (store_from l.values))
+      → AllInRange (touched_by_branches (map branch_of (drop l.branch-index l.branches)) (store_from l.values));
   first : taken_branch (map branch_of (drop l.branch-index l.branches)) (store_from l.values) ≡ taken_branch (map branch_of l.branches) (store_from l.values);
 }

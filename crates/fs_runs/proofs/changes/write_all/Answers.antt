@@ -4,7 +4,7 @@ use Rattle.std.specs.List.{list_all}
 use Rattle.fs_runs.specs.declared.changes.Change.{Change}
 use Rattle.fs_runs.specs.declared.changes.Change.TheVariants.{Set}
 use Rattle.fs_runs.specs.Values.{store_from}
-use Rattle.fs_runs.specs.Changes.{changed_all, is_ready}
+use Rattle.fs_runs.specs.Changes.{changed_all, is_ready_change}
 use Rattle.fs_runs.proofs.Slots.{left_cons, ready_first, ready_rest}
 use Rattle.fs_runs.proofs.changes.write_all.Goals as goal
 
@@ -14,7 +14,8 @@ write-requires c =
     let i = c.loop-change.change-index in
     let old = c.loop-change.values in
     let parts = left_cons cs i (Set 0 (pos 0)) c.loop-change-test.true in
-    ready_first old (get_or cs i (Set 0 (pos 0))) (drop (i + 1) cs) (subst (λ (l : List Change). list_all (is_ready (length l) old) l ≡ true) parts c.loop-change.invariant.ready)
+    ready_first old (get_or cs i (Set 0 (pos 0))) (drop (i + 1) cs)
+    (subst (λ (l : List Change). list_all (is_ready_change (length l) old) l ≡ true) parts c.loop-change.invariant.ready)
 
 pub loop-change-preserved : goal.loop-change-preserved
 loop-change-preserved c =
@@ -24,7 +25,9 @@ loop-change-preserved c =
     let new = c.write.new.values in
     let parts = left_cons cs i (Set 0 (pos 0)) c.loop-change-test.true in
     record {
-      changed = ap (λ s. changed_all s (drop (i + 1) cs)) c.write.ensures.changed ∙ sym (ap (changed_all (store_from old)) parts) ∙ c.loop-change.invariant.changed;
+      changed = ap (λ s. changed_all s (drop (i + 1) cs)) c.write.ensures.changed ∙ sym (ap (changed_all (store_from old)) parts)
+          ∙ c.loop-change.invariant.changed;
       sorts = c.write.ensures.sorts ∙ c.loop-change.invariant.sorts;
-      ready = ready_rest old new (get_or cs i (Set 0 (pos 0))) (drop (i + 1) cs) c.write.ensures.keeps (subst (λ (l : List Change). list_all (is_ready (length l) old) l ≡ true) parts c.loop-change.invariant.ready);
+      ready = ready_rest old new (get_or cs i (Set 0 (pos 0))) (drop (i + 1) cs) c.write.ensures.keeps
+          (subst (λ (l : List Change). list_all (is_ready_change (length l) old) l ≡ true) parts c.loop-change.invariant.ready);
     }

@@ -4,4 +4,5 @@ use Rattle.fs_runs.proofs.InputValues.{zero_more}
 use Rattle.fs_runs.proofs.inputs.add_input.Goals as goal
 
 pub returns-clause-zero : goal.returns-clause-zero
-returns-clause-zero c = rw c.in_ok-push.ensures.items (zero_more c.args.items.now.items _ c.requires (c.zero.ensures.content ∙ ap zero_content (sym c.zero.ensures.sort)))
+returns-clause-zero c = rw c.in_ok-push.ensures.items
+    (zero_more c.args.items.now.items _ c.requires (c.zero.ensures.content ∙ ap zero_content (sym c.zero.ensures.sort)))

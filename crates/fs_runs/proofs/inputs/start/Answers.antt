@@ -9,4 +9,5 @@ pub returns-clause-start : goal.returns-clause-start
 returns-clause-start c =
     let vars = c.vars-var-items.result.now in
     starts c.args.m.now (inputs_of c.args.inputs.now) c.loop-var.values.items
-    (c.loop-var.invariant.contents ∙ ap (map (first_content (inputs_of c.args.inputs.now))) (take_all c.loop-var.var-index vars c.loop-var-test.false ∙ c.vars-var-items.ensures.vars))
+    (c.loop-var.invariant.contents ∙ ap (map (first_content (inputs_of c.args.inputs.now)))
+    (take_all c.loop-var.var-index vars c.loop-var-test.false ∙ c.vars-var-items.ensures.vars))

@@ -5,7 +5,7 @@ use Rattle.fs_model.specs.declared.parts.VarInfo.{VarInfo}
 use Rattle.fs_model.specs.Runs.{Content}
 use Rattle.fs_runs.specs.declared.values.Value.{Value}
 use Rattle.fs_runs.specs.Values.{content_of, sort_of, store_of, values_of}
-use Rattle.fs_runs.specs.Outcomes.{output_names, outs_of, told, told_by}
+use Rattle.fs_runs.specs.Outcomes.{output_names, outs_of, outputs_by_name, told_by}
 use Rattle.fs_runs.proofs.Outs.{told_all, as_long, outs_count, outs_next, outs_done, holds_each}
 use Rattle.fs_runs.proofs.run.outputs.Goals as goal
 
@@ -28,7 +28,7 @@ returns-clause-told c = λ name.
     let vs = c.as_slice-values.result.now in
     let all = outs_done vars vs c.loop-k.k (map content_of c.loop-k.out.items) c.loop-k-test.false c.loop-k.invariant in
     let whole = rw (c.vars-vars.ensures.vars, c.as_slice-values.ensures.value) at all in
-    told_all c.args.m.now (values_of c.args.store.now) name c.requires ∙ ap (λ o. told (output_names c.args.m.now.variables) o name) (sym whole)
+    told_all c.args.m.now (values_of c.args.store.now) name c.requires ∙ ap (λ o. outputs_by_name (output_names c.args.m.now.variables) o name) (sym whole)
 
 pub returns-clause-count : goal.returns-clause-count
 returns-clause-count c =
@@ -36,7 +36,8 @@ returns-clause-count c =
     let vs = c.as_slice-values.result.now in
     let all = outs_done vars vs c.loop-k.k (map content_of c.loop-k.out.items) c.loop-k-test.false c.loop-k.invariant in
     let whole = rw (c.vars-vars.ensures.vars, c.as_slice-values.ensures.value) at all in
-    sym (length-map c.loop-k.out.items content_of) ∙ ap (λ (cs : List Content). length cs) whole ∙ outs_count c.args.m.now.variables (values_of c.args.store.now) c.requires
+    sym (length-map c.loop-k.out.items content_of) ∙ ap (λ (cs : List Content). length cs) whole
+    ∙ outs_count c.args.m.now.variables (values_of c.args.store.now) c.requires
 
 pub returns-clause-holds : goal.returns-clause-holds
 returns-clause-holds c = holds_each c.args.m.now (store_of c.args.store.now) (told_by c.args.m.now c.loop-k.out.items) (returns-clause-told c)

@@ -9,13 +9,15 @@ use Rattle.fs_runs.proofs.Steps.{takes, one_open, is_open, past_taken}
 use Rattle.fs_runs.proofs.step.step.Goals as goal
 
 pub taken_branch-requires : goal.taken_branch-requires
-taken_branch-requires c = rw (c.branches.ensures.branches, c.as_slice.ensures.value) (is_open c.args.m.now c.args.s.0 (store_from (values_of c.args.store.now)) c.branches.ensures.sound c.requires.state)
+taken_branch-requires c = rw (c.branches.ensures.branches, c.as_slice.ensures.value)
+    (is_open c.args.m.now c.args.s.0 (store_from (values_of c.args.store.now)) c.branches.ensures.sound c.requires.state)
 
 pub returns-in_default-clause-past : goal.returns-in_default-clause-past
 returns-in_default-clause-past c =
     let s = store_from (values_of c.args.store.now) in
     let no = rw (c.branches.ensures.branches, c.as_slice.ensures.value) at c.in_default.ensures in
-    let t = takes c.args.m.now c.args.s.0 s _ c.branches.ensures.sound c.requires.state (one_open c.args.m.now c.args.s.0 s c.branches.ensures.sound c.requires.state) in
+    let t = takes c.args.m.now c.args.s.0 s _ c.branches.ensures.sound c.requires.state
+    (one_open c.args.m.now c.args.s.0 s c.branches.ensures.sound c.requires.state) in
     λ p. no (t.touched_there p).0
 
 pub returns-in_err-changes-clause-past : goal.returns-in_err-changes-clause-past
@@ -24,7 +26,9 @@ returns-in_err-changes-clause-past c =
     let o = rw (c.branches.ensures.branches, c.as_slice.ensures.value) at c.in-Some.ensures in
     let t = takes c.args.m.now c.args.s.0 s (branch_of c.in-Some.branch.now) c.branches.ensures.sound c.requires.state o.1 in
     let p = err_from_is_err_and c.from_residual.result c.from_residual.ensures.1 in
-    rw (p.1, p.2) (past_taken _ c.args.m.now c.args.s.0 s (branch_of c.in-Some.branch.now) t (rw (c.as_slice-2.ensures.value, c.as_slice-3.ensures.value) at c.in_err-changes.ensures.past))
+    rw (p.1, p.2)
+    (past_taken _ c.args.m.now c.args.s.0 s (branch_of c.in-Some.branch.now) t
+    (rw (c.as_slice-2.ensures.value, c.as_slice-3.ensures.value) at c.in_err-changes.ensures.past))
 
 pub change_all-requires : goal.change_all-requires
 change_all-requires c =
@@ -42,7 +46,8 @@ returns-in-Ok-clause-step c =
     let made = rw (c.as_slice-2.ensures.value, c.as_slice-3.ensures.value) at c.in_ok-changes.ensures.changes in
     let done = rw (c.as_mut_slice.ensures.value, c.as_slice-4.ensures.value, made) at c.in-Ok.ensures.changed in
     let long : length c.change_all.new.values ≡ c.args.store.now.values.len = search rules in
-    subst (λ vs. Step c.args.m.now c.args.s.0 s c.in-Some.branch.now.target.0 (store_from vs)) (sym (with_items_is c.args.store.now.values c.change_all.new.values long))
+    subst (λ vs. Step c.args.m.now c.args.s.0 s c.in-Some.branch.now.target.0 (store_from vs))
+    (sym (with_items_is c.args.store.now.values c.change_all.new.values long))
     (subst (λ u. Step c.args.m.now c.args.s.0 s c.in-Some.branch.now.target.0 u) (sym done) t.step)
 
 pub returns-in-Ok-clause-target : goal.returns-in-Ok-clause-target

@@ -1,8 +1,8 @@
 use Rattle.std.proofs.Common.{◌∙◌, ap, sym, subst}
 use Rattle.std.specs.Prelude.{map}
 use Rattle.fs_runs.specs.Outcomes.{output_names, told_by, HoldsEach}
-use Rattle.fs_show.specs.Items.{AreItems}
-use Rattle.fs_show.specs.Ends.{counterexample_text}
+use Rattle.fs_show.specs.ItemTexts.{AreItems}
+use Rattle.fs_show.specs.EndTexts.{counterexample_text}
 use Rattle.fs_show.proofs.Interfaces.{holds_there}
 use Rattle.fs_show.proofs.Told.{is_text}
 use Rattle.fs_show.proofs.counterexample.counterexample_text.Goals as goal
@@ -23,7 +23,8 @@ returns c =
     is_text c.joined_text.result _ _ _ _ _ items lefts rights _ c.in_ok-given.ensures
     (subst (λ vs. AreItems (told_by a vs) ns lefts) c.as_slice.ensures.value c.in_ok-lefts.ensures)
     (subst (λ vs. AreItems (told_by b vs) ns rights) c.as_slice-2.ensures.value c.in_ok-rights.ensures)
-    (ap (λ xs. counterexample_text (map (λ i. i.items) xs) (map (λ i. i.items) c.as_slice-4.result.now) (map (λ i. i.items) c.as_slice-5.result.now)) c.as_slice-3.ensures.value
+    (ap (λ xs. counterexample_text (map (λ i. i.items) xs) (map (λ i. i.items) c.as_slice-4.result.now) (map (λ i. i.items) c.as_slice-5.result.now))
+    c.as_slice-3.ensures.value
     ∙ ap (λ xs. counterexample_text items (map (λ i. i.items) xs) (map (λ i. i.items) c.as_slice-5.result.now)) c.as_slice-4.ensures.value
     ∙ ap (λ xs. counterexample_text items lefts (map (λ i. i.items) xs)) c.as_slice-5.ensures.value)
     c.joined_text.ensures

@@ -1,7 +1,7 @@
 use Rattle.std.proofs.Common.{take, drop}
 use Rattle.std.specs.Prelude.{map}
 use Rattle.fs_runs.specs.Outcomes.{output_names, told_by, HoldsEach}
-use Rattle.fs_show.specs.Items.{AreItems}
+use Rattle.fs_show.specs.ItemTexts.{AreItems}
 use Rattle.fs_show.proofs.items.items.Given as goal
 
 abbrev pub invariant-loop-variable : goal.invariant-loop-variable

@@ -1,8 +1,8 @@
 use Rattle.std.proofs.Common.{◌∙◌, ap, sym, subst}
 use Rattle.std.specs.Prelude.{map}
 use Rattle.fs_runs.specs.Outcomes.{output_names, told_by, HoldsEach}
-use Rattle.fs_show.specs.Items.{AreItems}
-use Rattle.fs_show.specs.Ends.{replay_text}
+use Rattle.fs_show.specs.ItemTexts.{AreItems}
+use Rattle.fs_show.specs.EndTexts.{replay_text}
 use Rattle.fs_show.proofs.Interfaces.{holds_there}
 use Rattle.fs_show.proofs.replay.replay_text.Goals as goal
 

@@ -4,7 +4,7 @@ use Rattle.std.specs.Bool.{Decides}
 use Rattle.std.proofs.lemmas.Bool.Decides.{Decides-like}
 use Rattle.fs_runs.specs.declared.values.Value.{Value}
 use Rattle.fs_runs.specs.Outcomes.{output_names, told_by}
-use Rattle.fs_show.specs.Items.{AgreeOn, SameOutputs}
+use Rattle.fs_show.specs.ItemTexts.{AgreeOnNames, SameOutputs}
 use Rattle.fs_show.proofs.Interfaces.{same_everywhere, each_same}
 use Rattle.fs_show.proofs.replay.same_outputs.Goals as goal
 
@@ -21,6 +21,8 @@ returns c =
     let vs = c.args.right_end.now.outputs.items in
     let ns = output_names a.variables in
     let result = c.outputs_agree.result in
-    decided result (AgreeOn (told_by a us) (told_by b vs) ns) (SameOutputs (told_by a us) (told_by b vs)) (same_everywhere a b us vs c.requires) (each_same (told_by a us) (told_by b vs) ns)
-    (subst (λ (ws : List Value). IfOk result (λ r. Decides r (AgreeOn (told_by a us) (told_by b ws) ns))) c.as_slice-rights.ensures.value
-    (subst (λ (ws : List Value). IfOk result (λ r. Decides r (AgreeOn (told_by a ws) (told_by b c.as_slice-rights.result.now) ns))) c.as_slice-lefts.ensures.value c.outputs_agree.ensures))
+    decided result (AgreeOnNames (told_by a us) (told_by b vs) ns) (SameOutputs (told_by a us) (told_by b vs)) (same_everywhere a b us vs c.requires)
+    (each_same (told_by a us) (told_by b vs) ns)
+    (subst (λ (ws : List Value). IfOk result (λ r. Decides r (AgreeOnNames (told_by a us) (told_by b ws) ns))) c.as_slice-rights.ensures.value
+    (subst (λ (ws : List Value). IfOk result (λ r. Decides r (AgreeOnNames (told_by a ws) (told_by b c.as_slice-rights.result.now) ns)))
+    c.as_slice-lefts.ensures.value c.outputs_agree.ensures))

@@ -1,6 +1,6 @@
 use Rattle.std.proofs.Common.{◌≡◌, ◌++◌, drop}
 use Rattle.std.specs.Prelude.{map}
-use Rattle.fs_show.specs.Shown.{entry_text}
+use Rattle.fs_show.specs.ContentTexts.{entry_text}
 use Rattle.fs_show.proofs.shown.entry_texts.Given as goal
 
 abbrev pub invariant-loop-entry : goal.invariant-loop-entry

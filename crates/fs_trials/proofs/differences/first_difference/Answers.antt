@@ -7,7 +7,8 @@ use Rattle.fs_trials.proofs.Apart.{stated_here, at_candidate, shown_at, one_more
 use Rattle.fs_trials.proofs.differences.first_difference.Goals as goal
 
 pub differing_ends-requires-clause-right : goal.differing_ends-requires-clause-right
-differing_ends-requires-clause-right c = serves_both c.args.a.now c.args.b.now (signatures_of c.in_ok-inputs.inputs) c.requires.interfaces c.in_ok-inputs.ensures.signatures
+differing_ends-requires-clause-right c = serves_both c.args.a.now c.args.b.now
+    (signatures_of c.in_ok-inputs.inputs) c.requires.interfaces c.in_ok-inputs.ensures.signatures
 
 pub loop-j-preserved : goal.loop-j-preserved
 loop-j-preserved c =
@@ -15,11 +16,14 @@ loop-j-preserved c =
     let b = c.args.b.now in
     let ins = inputs_of c.in_ok-inputs.inputs in
     one_more (λ i. ¬ DiffersAt a b c.args.steps i) c.loop-j.j c.loop-j.invariant
-    (at_candidate a b c.args.steps c.loop-j.j ins (stated_here a b c.loop-j.j c.in_ok-candidates.candidates.pool.items ins c.in_ok-inputs.ensures.inputs c.in_ok-candidates.ensures) (c.in_ok-left.ensures.none c.in_default.is))
+    (at_candidate a b c.args.steps c.loop-j.j ins
+    (stated_here a b c.loop-j.j c.in_ok-candidates.candidates.pool.items ins c.in_ok-inputs.ensures.inputs c.in_ok-candidates.ensures)
+    (c.in_ok-left.ensures.none c.in_default.is))
 
 pub returns-in-Some-clause-inputs : goal.returns-in-Some-clause-inputs
 returns-in-Some-clause-inputs c =
-    stated_here c.args.a.now c.args.b.now c.loop-j.j c.in_ok-candidates.candidates.pool.items (inputs_of c.in_ok-inputs.inputs) c.in_ok-inputs.ensures.inputs c.in_ok-candidates.ensures
+    stated_here c.args.a.now c.args.b.now c.loop-j.j c.in_ok-candidates.candidates.pool.items
+    (inputs_of c.in_ok-inputs.inputs) c.in_ok-inputs.ensures.inputs c.in_ok-candidates.ensures
 
 pub returns-in-Some-clause-contents : goal.returns-in-Some-clause-contents
 returns-in-Some-clause-contents c =

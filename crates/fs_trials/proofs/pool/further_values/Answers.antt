@@ -9,7 +9,8 @@ use Rattle.fs_trials.proofs.pool.further_values.Goals as goal
 pub returns-clause-exact : goal.returns-clause-exact
 returns-clause-exact c =
     let own : c.as_slice.result.now ≡ fixed_values = search rules in
-    further_grown c.args.pool.now c.in_ok-values.values.items c.add_all.new.list.items (c.in_ok-values.ensures.items_if_clones_equal (λ x y e. e) ∙ own) c.in_ok-add_all.ensures
+    further_grown c.args.pool.now c.in_ok-values.values.items c.add_all.new.list.items
+    (c.in_ok-values.ensures.items_if_clones_equal (λ x y e. e) ∙ own) c.in_ok-add_all.ensures
 
 pub returns-clause-begins : goal.returns-clause-begins
 returns-clause-begins c = ap (take 17) (returns-clause-exact c) ∙ further_begins c.args.pool.now

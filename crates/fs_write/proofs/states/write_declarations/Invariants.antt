@@ -7,5 +7,6 @@ use Rattle.fs_write.proofs.states.write_declarations.Given as goal
 
 abbrev pub invariant-loop-decl : goal.invariant-loop-decl
 invariant-loop-decl l =
-    (l.out.items ++ flat_map declaration_text (map declaration_of (drop l.decl-index l.decls)) ≡ l.fn.out.items ++ flat_map declaration_text (map declaration_of l.decls))
+    (l.out.items ++ flat_map declaration_text (map declaration_of (drop l.decl-index l.decls)) ≡ l.fn.out.items
+    ++ flat_map declaration_text (map declaration_of l.decls))
     × IsTrue (list_all is_spellable_declaration (map declaration_of (take l.decl-index l.decls)))

@@ -7,5 +7,6 @@ use Rattle.fs_write.proofs.states.write_lines.Given as goal
 
 abbrev pub invariant-loop-line : goal.invariant-loop-line
 invariant-loop-line l =
-    (l.out.items ++ flat_map line_text (map source_transition_of (drop l.line-index l.lines)) ≡ l.fn.out.items ++ flat_map line_text (map source_transition_of l.lines))
+    (l.out.items ++ flat_map line_text (map source_transition_of (drop l.line-index l.lines)) ≡ l.fn.out.items
+    ++ flat_map line_text (map source_transition_of l.lines))
     × IsTrue (list_all is_spellable_transition (map source_transition_of (take l.line-index l.lines)))

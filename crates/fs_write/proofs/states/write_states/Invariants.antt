@@ -7,5 +7,6 @@ use Rattle.fs_write.proofs.states.write_states.Given as goal
 
 abbrev pub invariant-loop-state : goal.invariant-loop-state
 invariant-loop-state l =
-    (l.out.items ++ flat_map state_text (map source_state_of (drop l.state-index l.states)) ≡ l.fn.out.items ++ flat_map state_text (map source_state_of l.states))
+    (l.out.items ++ flat_map state_text (map source_state_of (drop l.state-index l.states)) ≡ l.fn.out.items
+    ++ flat_map state_text (map source_state_of l.states))
     × IsTrue (list_all is_spellable_state (map source_state_of (take l.state-index l.states)))

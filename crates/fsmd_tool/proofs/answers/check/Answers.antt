@@ -1,23 +1,25 @@
 use Rattle.std.proofs.Common.{rules, Some}
-use Rattle.command_words.specs.Words.{asked}
-use Rattle.command_answers.specs.Refusing.{WhereAnswered}
-use Rattle.fsmd_tool.specs.Calls.{call, IsCorrectFrom}
+use Rattle.fsmd_words.specs.AskedWords.{asked}
+use Rattle.fsmd_answers.specs.Refusing.{WhereAnswered}
+use Rattle.fsmd_tool.specs.Calls.{call, IsCorrectInOrder}
 use Rattle.std.specs.Prelude.{Ok}
-use Rattle.command_answers.specs.Pairs.{IsOfPair}
-use Rattle.command_answers.specs.Follows.{Ends, OpensPair}
-use Rattle.fsmd_tool.proofs.FromFiles.{ended, pair_refused, pair_spelled}
+use Rattle.fsmd_answers.specs.MachinePairAnswers.{IsOfPair}
+use Rattle.fsmd_answers.specs.Follows.{Ends, OpensPair}
+use Rattle.fsmd_tool.proofs.InOrder.{ended_in_order, both_refused_in_order, both_in_order}
 use Rattle.fsmd_tool.proofs.answers.check.Goals as goal
 
 pub returns-in_err-left-clause-answers : goal.returns-in_err-left-clause-answers
 returns-in_err-left-clause-answers g c =
-    let h : WhereAnswered (IsCorrectFrom (OpensPair (λ a b. Ends (IsOfPair c.args.steps c.args.keeps a b))) 0
+    let h : WhereAnswered (IsCorrectInOrder (OpensPair (λ a b. Ends (IsOfPair c.args.steps c.args.keeps a b))) 0
     (call (Some (asked c.args.ask.now)) (g.F.Files.told c.args.files.now) (g.F.Files.told c.load_pair.new.files))) c.in_err-left.field-0.0 =
-    pair_refused (λ a b. Ends (IsOfPair c.args.steps c.args.keeps a b)) _ _ c.in_err-left.ensures.refused in
+    both_refused_in_order (λ a b. Ends (IsOfPair c.args.steps c.args.keeps a b)) _ _ c.in_err-left.ensures.refused in
     search rules
 
 pub returns-clause-answers : goal.returns-clause-answers
 returns-clause-answers g c =
-    pair_spelled (λ a b. Ends (IsOfPair c.args.steps c.args.keeps a b))
-    _ c.in_ok-left.field-0.left c.in_ok-left.field-0.right c.in_ok-left.ensures.left c.in_ok-left.ensures.right c.in_ok-left.ensures.alike
+    both_in_order (λ a b. Ends (IsOfPair c.args.steps c.args.keeps a b))
+    _ _ _ (g.F.Files.told c.load_pair.new.files) c.load_pair.ensures.only_read c.in_ok-left.ensures.loads c.in_ok-left.field-0.left c.in_ok-left.field-0.right
+    c.in_ok-left.ensures.left c.in_ok-left.ensures.right c.in_ok-left.ensures.alike
     (Ok c.in_ok-compare.field-0)
-    (ended (IsOfPair c.args.steps c.args.keeps c.in_ok-left.field-0.left c.in_ok-left.field-0.right) 2 _ c.in_ok-compare.field-0 c.in_ok-compare.ensures)
+    (ended_in_order (IsOfPair c.args.steps c.args.keeps c.in_ok-left.field-0.left c.in_ok-left.field-0.right) 2 _ _ c.in_ok-compare.field-0
+    c.in_ok-compare.ensures)

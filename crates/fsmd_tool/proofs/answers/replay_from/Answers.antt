@@ -1,29 +1,30 @@
 use Rattle.std.proofs.Common.{rules, Some}
-use Rattle.command_words.specs.Words.{asked}
-use Rattle.command_answers.specs.Refusing.{WhereAnswered}
-use Rattle.fsmd_tool.specs.Calls.{call, IsCorrectFrom}
+use Rattle.fsmd_words.specs.AskedWords.{asked}
+use Rattle.fsmd_answers.specs.Refusing.{WhereAnswered}
+use Rattle.fsmd_tool.specs.Calls.{call, IsCorrectInOrder}
 use Rattle.fs_model.specs.Runs.{Inputs}
 use Rattle.fs_runs.specs.InputValues.{inputs_of}
 use Rattle.fs_show.proofs.Serving.{serves_both}
-use Rattle.command_answers.specs.InputFiles.{RefusesInputs, SpellsInputs}
-use Rattle.command_answers.specs.Replays.{IsOfReplay}
-use Rattle.command_answers.specs.Follows.{Ends, OpensInputs}
-use Rattle.fsmd_tool.proofs.FromFiles.{refused_as, spelled_last}
+use Rattle.fsmd_answers.specs.InputFiles.{RefusesInputs, SpellsInputs}
+use Rattle.fsmd_answers.specs.Replays.{IsOfReplay}
+use Rattle.fsmd_answers.specs.Follows.{Ends, OpensInputs}
+use Rattle.fsmd_tool.proofs.InOrder.{refused_in_order, last_in_order}
 use Rattle.fsmd_tool.proofs.answers.replay_from.Goals as goal
 
 pub returns-in_err-inputs-clause-answers : goal.returns-in_err-inputs-clause-answers
 returns-in_err-inputs-clause-answers g c =
-    let h : WhereAnswered (IsCorrectFrom (OpensInputs c.args.left.now
+    let h : WhereAnswered (IsCorrectInOrder (OpensInputs c.args.left.now
     (λ v. Ends (IsOfReplay c.args.steps c.args.left.now c.args.right.now v))) 2
     (call (Some (asked c.args.ask.now)) (g.F.Files.told c.args.files.now) (g.F.Files.told c.load_inputs.new.files))) c.in_err-inputs.field-0.0 =
-    refused_as Inputs (RefusesInputs c.args.left.now) (SpellsInputs c.args.left.now) (λ v. Ends (IsOfReplay c.args.steps c.args.left.now c.args.right.now v))
-    2 _ _ c.in_err-inputs.ensures.refused in
+    refused_in_order Inputs (RefusesInputs c.args.left.now) (SpellsInputs c.args.left.now) (λ v. Ends
+    (IsOfReplay c.args.steps c.args.left.now c.args.right.now v))
+    2 _ _ c.load_inputs.ensures.loads c.in_err-inputs.ensures.refused in
     search rules
 
 pub returns-clause-answers : goal.returns-clause-answers
-returns-clause-answers g c = spelled_last Inputs (RefusesInputs c.args.left.now) (SpellsInputs c.args.left.now)
+returns-clause-answers g c = last_in_order Inputs (RefusesInputs c.args.left.now) (SpellsInputs c.args.left.now)
     (IsOfReplay c.args.steps c.args.left.now c.args.right.now) 2 _ (inputs_of c.in_ok-inputs.inputs)
-    c.in_ok-replay_machines.field-0 c.in_ok-inputs.ensures.spells c.in_ok-replay_machines.ensures
+    c.in_ok-replay_machines.field-0 c.load_inputs.ensures.loads c.in_ok-inputs.ensures.spells c.in_ok-replay_machines.ensures
 
 pub replay_machines-requires-clause-right_inputs : goal.replay_machines-requires-clause-right_inputs
 replay_machines-requires-clause-right_inputs g c = serves_both c.args.left.now c.args.right.now _ c.requires.alike c.in_ok-inputs.ensures.signatures

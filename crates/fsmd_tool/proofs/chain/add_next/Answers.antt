@@ -1,7 +1,7 @@
 use Rattle.std.proofs.Common.{◌+◌, ◌*◌, Some}
 use Rattle.std.specs.Prelude.{map}
-use Rattle.command_words.specs.Words.{asked}
-use Rattle.certificates.specs.View.{node_of}
+use Rattle.fsmd_words.specs.AskedWords.{asked}
+use Rattle.cert_model.specs.View.{node_of}
 use Rattle.fsmd_tool.specs.Loading.{NothingFollows}
 use Rattle.fsmd_tool.proofs.Linked.{link_refused, link_made, link_unmade}
 use Rattle.fsmd_tool.proofs.chain.add_next.Goals as goal
@@ -31,4 +31,4 @@ pub returns-clause-refused : goal.returns-clause-refused
 returns-clause-refused g c =
     link_unmade (Some (asked c.args.ask.now)) (c.args.held + 1) (2 * c.args.held + 1) _ c.args.chain.last c.last.result.now c.in-Ok.link.machine
     (map node_of c.in-Ok.link.cert.nodes.items) c.last.ensures.last c.in-Ok.ensures.spells c.in-Ok.ensures.alike c.in-Ok.ensures.certificate
-    c.add_link.result c.add_link.ensures.fails
+    c.in-Ok.ensures.loads c.add_link.result c.add_link.ensures.fails

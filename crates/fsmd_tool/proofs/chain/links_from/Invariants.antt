@@ -1,5 +1,5 @@
 use Rattle.std.proofs.Common.{Some}
-use Rattle.command_words.specs.Words.{asked}
+use Rattle.fsmd_words.specs.AskedWords.{asked}
 use Rattle.fsmd_tool.proofs.Linked.{LinksLead}
 use Rattle.fsmd_tool.proofs.chain.links_from.Given as goal
 

@@ -1,13 +1,16 @@
 use Rattle.std.proofs.Common.{◌≡◌, refl}
-use Rattle.command_answers.specs.declared.answer.Status.TheVariants.{NoMemory, Fine, Differ, Undecided, Fault}
+use Rattle.fsmd_replies.specs.declared.answer.Status.TheVariants.{NoMemory, Fine, Differ, Undecided, Fault}
 use Rattle.fsmd_tool.specs.Correct.{Starves}
 use Rattle.fsmd_tool.proofs.Alike.{tells_of_alike, no_memory_of_pair}
-use Rattle.fsmd_tool.proofs.Says.{says_same, says_differ, says_undecided, is_checked}
+use Rattle.fsmd_tool.proofs.Says.{are_equivalent, says_same, says_differ, says_undecided, is_checked}
 use Rattle.fsmd_tool.proofs.Synthesized.{is_compiled, is_in_rows, is_in_registers}
 use Rattle.fsmd_tool.proofs.Shrunk.{is_shrunk}
 use Rattle.fsmd_tool.proofs.Chained.{is_chained}
 use Rattle.fsmd_tool.proofs.Causes.{has_cause}
 use Rattle.fsmd_tool.proofs.drive.drive.Goals as goal
+
+pub returns-in-Ok-clause-same_behaviour : goal.returns-in-Ok-clause-same_behaviour
+returns-in-Ok-clause-same_behaviour g c = are_equivalent _ _ c.in-Ok.ensures.answered
 
 pub returns-in-Ok-clause-equivalent : goal.returns-in-Ok-clause-equivalent
 returns-in-Ok-clause-equivalent g c = says_same _ _ c.in-Ok.ensures.answered
@@ -44,6 +47,9 @@ returns-in-Ok-clause-fault g c = has_cause _ _ c.in-Ok.ensures.answered
 
 pub returns-in-Err-clause-outcome : goal.returns-in-Err-clause-outcome
 returns-in-Err-clause-outcome g c = Starves (record { status = refl; got = c.in-Err.ensures.err; files = c.in-Err.ensures.unwritten })
+
+pub returns-in-Err-clause-same_behaviour : goal.returns-in-Err-clause-same_behaviour
+returns-in-Err-clause-same_behaviour g c = λ e t. absurd (let h : NoMemory ≡ Fine = e in cc)
 
 pub returns-in-Err-clause-equivalent : goal.returns-in-Err-clause-equivalent
 returns-in-Err-clause-equivalent g c = λ e t. absurd (let h : NoMemory ≡ Fine = e in cc)

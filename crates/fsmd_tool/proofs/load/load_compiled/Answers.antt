@@ -1,6 +1,6 @@
 use Rattle.std.proofs.Common.{sym, subst}
 use Rattle.fs_base.specs.Outside.{AreHeld}
-use Rattle.command_answers.specs.Programs.{RefusesProgram}
+use Rattle.fsmd_answers.specs.ProgramFiles.{RefusesProgram}
 use Rattle.fsmd_tool.proofs.FromFiles.{bytes_given, compiled_held}
 use Rattle.fsmd_tool.proofs.load.load_compiled.Goals as goal
 

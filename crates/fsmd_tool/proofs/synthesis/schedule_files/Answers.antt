@@ -1,30 +1,33 @@
-use Rattle.std.proofs.Common.{rules, Some}
-use Rattle.command_words.specs.Words.{asked}
-use Rattle.command_answers.specs.Refusing.{WhereAnswered}
-use Rattle.fsmd_tool.specs.Calls.{call, IsCorrectFrom}
+use Rattle.std.proofs.Common.{rules, Some, refl, arith}
+use Rattle.fsmd_words.specs.AskedWords.{asked}
+use Rattle.fsmd_answers.specs.Refusing.{WhereAnswered}
+use Rattle.fsmd_tool.specs.Calls.{call, IsCorrectInOrder}
 use Rattle.fs_model.specs.Source.{Source}
 use Rattle.fs_model.specs.View.{source_of}
-use Rattle.command_answers.specs.Texts.{SpellsParts}
-use Rattle.command_answers.specs.Refusals.{RefusesMachine}
-use Rattle.command_answers.specs.Schedules.{IsOfSchedule}
-use Rattle.command_answers.specs.Follows.{Ends, OpensUnits, OpensParts}
-use Rattle.fsmd_tool.proofs.FromFiles.{parts_held, refused_as, spelled_as}
-use Rattle.fsmd_tool.proofs.Later.{answers_since}
+use Rattle.fsmd_answers.specs.MachineFiles.{SpellsParts}
+use Rattle.fsmd_answers.specs.Refusals.{RefusesMachine}
+use Rattle.fsmd_answers.specs.ScheduleFiles.{IsOfSchedule}
+use Rattle.fsmd_answers.specs.Follows.{Ends, OpensUnits, OpensParts}
+use Rattle.fsmd_tool.proofs.FromFiles.{parts_held}
+use Rattle.fsmd_tool.proofs.Loads.{fewer, at_most_on}
+use Rattle.fsmd_tool.proofs.InOrder.{refused_in_order, spelled_in_order}
 use Rattle.fsmd_tool.proofs.synthesis.schedule_files.Goals as goal
 
 pub returns-in_err-loaded-clause-answers : goal.returns-in_err-loaded-clause-answers
 returns-in_err-loaded-clause-answers g c =
-    let h : WhereAnswered (IsCorrectFrom (OpensParts (λ parts. OpensUnits (λ counts. Ends (IsOfSchedule parts counts)))) 0
+    let h : WhereAnswered (IsCorrectInOrder (OpensParts (λ parts. OpensUnits (λ counts. Ends (IsOfSchedule parts counts)))) 0
     (call (Some (asked c.args.ask.now)) (g.F.Files.told c.args.files.now) (g.F.Files.told c.load.new.files))) c.in_err-loaded.field-0.0 =
-    refused_as Source RefusesMachine SpellsParts (λ parts. OpensUnits (λ counts. Ends (IsOfSchedule parts counts))) 0 _ _ c.in_err-loaded.ensures.refused in
+    refused_in_order Source RefusesMachine SpellsParts (λ parts. OpensUnits (λ counts. Ends (IsOfSchedule parts counts))) 0 _ _ c.load.ensures.loads
+    c.in_err-loaded.ensures.refused in
     search rules
 
 pub returns-clause-answers : goal.returns-clause-answers
 returns-clause-answers g c =
     let v = source_of c.in_ok-loaded.loaded.parts in
-    spelled_as Source RefusesMachine SpellsParts (λ parts. OpensUnits (λ counts. Ends (IsOfSchedule parts counts))) 0 _ v
+    spelled_in_order Source RefusesMachine SpellsParts (λ parts. OpensUnits (λ counts. Ends (IsOfSchedule parts counts))) 0 _ _ _
+    (g.F.Files.told c.schedule_from.new.files) c.load.ensures.only_read c.load.ensures.loads v
     (parts_held _ _ _ c.in_ok-loaded.ensures.loaded) c.schedule_from.result
-    (answers_since _ _ _ _ c.load.ensures.only_read _ 1 c.schedule_from.result c.schedule_from.ensures.answers)
+    c.schedule_from.ensures.answers
 
 pub schedule_from-requires : goal.schedule_from-requires
 schedule_from-requires g c = record {
@@ -32,3 +35,10 @@ schedule_from-requires g c = record {
   lawful = c.in_ok-loaded.ensures.loaded.meet.spells.lawful;
   spelled = c.in_ok-loaded.ensures.loaded.meet.machine;
 }
+
+pub returns-in_err-loaded-clause-at_most : goal.returns-in_err-loaded-clause-at_most
+returns-in_err-loaded-clause-at_most g c = fewer _ 0 1 2 _ _ (omega arith) c.load.ensures.at_most
+
+pub returns-clause-at_most : goal.returns-clause-at_most
+returns-clause-at_most g c =
+    at_most_on _ 0 1 1 1 2 _ _ _ (omega arith) (omega arith) c.load.ensures.loads c.schedule_from.ensures.at_most

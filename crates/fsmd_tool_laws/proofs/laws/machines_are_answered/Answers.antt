@@ -1,4 +1,5 @@
-use Rattle.fsmd_tool_laws.proofs.Correct.{machines_checked, certificate_judged, loops_answered, run_answered, replay_answered, shrink_answered, fmt_answered, cuts_answered, compile_answered, schedule_answered, bind_answered}
+use Rattle.fsmd_tool_laws.proofs.Correct.{machines_checked, certificate_judged, loops_answered, run_answered, replay_answered, shrink_answered, fmt_answered}
+use Rattle.fsmd_tool_laws.proofs.Correct.{cuts_answered, compile_answered, schedule_answered, bind_answered}
 use Rattle.fsmd_tool_laws.proofs.Chains.{chain_answered, chain_stopped}
 use Rattle.fsmd_tool_laws.proofs.Certificates.{in_one_way}
 use Rattle.fsmd_tool_laws.proofs.laws.machines_are_answered.Goals as goal

@@ -1,18 +1,19 @@
 use Rattle.std.specs.Prelude.{◌≡◌, ◌+◌, is_some}
 use Rattle.fs_write.specs.Canonical.{canonical}
-use Rattle.path_text.specs.Paths.{paths_text}
-use Rattle.command_answers.specs.declared.answer.Answer.TheVariants.{Text}
-use Rattle.command_answers.specs.Words.{cert_of, step_limit}
-use Rattle.command_answers.specs.Pairs.{IsOfPair, IsOfLoops}
-use Rattle.command_answers.specs.Verdicts.{IsJudged}
-use Rattle.command_answers.specs.Runs.{IsOfRun}
-use Rattle.command_answers.specs.Replays.{IsOfReplay}
-use Rattle.command_answers.specs.Shrinks.{IsOfShrink}
-use Rattle.command_answers.specs.Links.{AtLink, links_of, IsOfChain}
-use Rattle.command_answers.specs.Programs.{IsOfProgram}
-use Rattle.command_answers.specs.Schedules.{IsOfSchedule}
-use Rattle.command_answers.specs.Bindings.{IsOfBinding}
-use Rattle.fsmd_tool_laws.proofs.Correct.{machines_checked, certificate_judged, loops_answered, run_answered, replay_answered, shrink_answered, fmt_answered, cuts_answered, compile_answered, schedule_answered, bind_answered}
+use Rattle.fs_path_text.specs.PathTexts.{paths_text}
+use Rattle.fsmd_replies.specs.declared.answer.Answer.TheVariants.{Text}
+use Rattle.fsmd_replies.specs.AskedFiles.{cert_of, step_limit}
+use Rattle.fsmd_answers.specs.MachinePairAnswers.{IsOfPair, IsOfLoops}
+use Rattle.fsmd_answers.specs.Verdicts.{IsJudged}
+use Rattle.fsmd_answers.specs.RunAnswers.{IsOfRun}
+use Rattle.fsmd_answers.specs.Replays.{IsOfReplay}
+use Rattle.fsmd_answers.specs.Shrinks.{IsOfShrink}
+use Rattle.fsmd_answers.specs.Links.{AtLink, links_of, IsOfChain}
+use Rattle.fsmd_answers.specs.ProgramFiles.{IsOfProgram}
+use Rattle.fsmd_answers.specs.ScheduleFiles.{IsOfSchedule}
+use Rattle.fsmd_answers.specs.BindingFiles.{IsOfBinding}
+use Rattle.fsmd_tool_laws.proofs.Correct.{machines_checked, certificate_judged, loops_answered, run_answered, replay_answered, shrink_answered, fmt_answered}
+use Rattle.fsmd_tool_laws.proofs.Correct.{cuts_answered, compile_answered, schedule_answered, bind_answered}
 use Rattle.fsmd_tool_laws.proofs.Chains.{chain_answered, chain_stopped}
 use Rattle.fsmd_tool_laws.proofs.Certificates.{in_one_way}
 use Rattle.fsmd_tool_laws.proofs.Outcomes.{ends_by}

@@ -1,9 +1,13 @@
 use Rattle.std.proofs.Common.{◌≡◌, drop}
-use Rattle.std.specs.Prelude.{map}
-use Rattle.variable_sets.specs.Sets.{has}
-use Rattle.hls_bind.specs.Entries.{entry_of}
+use Rattle.std.specs.Prelude.{map, length}
+use Rattle.fs_variable_sets.specs.Sets.{has_variable}
+use Rattle.hls_bind.specs.BindingEntries.{binding_entry}
 use Rattle.hls_bind.specs.Lost.{lost_by}
 use Rattle.hls_bind.proofs.conflicts.lost_by.Given as goal
 
-abbrev pub invariant-loop-one : goal.invariant-loop-one
-invariant-loop-one l = lost_by (has l.writes) (has l.live) (map entry_of l.all) (map entry_of (drop l.one-index l.all)) ≡ lost_by (has l.writes) (has l.live) (map entry_of l.all) (map entry_of l.all)
+abbrev pub invariant-loop-k : goal.invariant-loop-k
+invariant-loop-k l = record {
+  all : l.k-end ≡ length l.all.entries.now;
+  left : lost_by (has_variable l.writes) (has_variable l.live) (map binding_entry l.all.entries.now) (map binding_entry (drop l.k l.all.entries.now))
+      ≡ lost_by (has_variable l.writes) (has_variable l.live) (map binding_entry l.all.entries.now) (map binding_entry l.all.entries.now);
+}

@@ -1,9 +1,9 @@
 use Rattle.std.proofs.Common.{◌≡◌, take}
 use Rattle.std.specs.Prelude.{map, filter}
-use Rattle.fs_rules.specs.Spelled.{names_of}
-use Rattle.binding_laws.specs.Bindings.{stays}
-use Rattle.hls_bind.specs.Entries.{entry_of}
+use Rattle.fs_rules.specs.MachineOfParts.{names_of}
+use Rattle.hls_binding_laws.specs.Bindings.{stays}
+use Rattle.hls_bind.specs.BindingEntries.{binding_entry}
 use Rattle.hls_bind.proofs.declarations.names_left.Given as goal
 
 abbrev pub invariant-loop-name : goal.invariant-loop-name
-invariant-loop-name l = l.out.items ≡ filter (stays (map entry_of l.registers.entries.now) (names_of l.registers.vars.now)) (take l.name-index l.names)
+invariant-loop-name l = l.out.items ≡ filter (stays (map binding_entry l.registers.entries.now) (names_of l.registers.vars.now)) (take l.name-index l.names)

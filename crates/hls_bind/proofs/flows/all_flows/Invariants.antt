@@ -1,5 +1,5 @@
 use Rattle.std.proofs.Common.{◌≡◌, ◌++◌, ◌-◌, length, map}
-use Rattle.hls_bind.specs.Flows.{transfer_of, transfers_below}
+use Rattle.hls_bind.specs.BranchFlows.{transfer_of, transfers_below}
 use Rattle.hls_bind.proofs.flows.all_flows.Given as goal
 
 abbrev pub invariant-loop-k : goal.invariant-loop-k

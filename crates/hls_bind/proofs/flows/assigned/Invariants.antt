@@ -2,9 +2,10 @@ use Rattle.std.proofs.Common.{◌≡◌, drop}
 use Rattle.std.specs.Prelude.{map}
 use Rattle.fs_model.specs.View.{assignment_of}
 use Rattle.fs_rules.specs.Sound.{assigned_in}
-use Rattle.variable_sets.specs.Sets.{has, also_all}
-use Rattle.hls_bind.specs.Flows.{low}
+use Rattle.fs_variable_sets.specs.Sets.{has_variable, also_all}
+use Rattle.hls_bind.specs.BranchFlows.{low}
 use Rattle.hls_bind.proofs.flows.assigned.Given as goal
 
 abbrev pub invariant-loop-assign : goal.invariant-loop-assign
-invariant-loop-assign l = also_all (assigned_in (map assignment_of (drop l.assign-index l.branch.assigns.items))) (has l.set) ≡ low (assigned_in (map assignment_of l.branch.assigns.items))
+invariant-loop-assign l = also_all (assigned_in (map assignment_of (drop l.assign-index l.branch.assigns.items))) (has_variable l.set)
+    ≡ low (assigned_in (map assignment_of l.branch.assigns.items))

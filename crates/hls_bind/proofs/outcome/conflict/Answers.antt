@@ -1,11 +1,14 @@
 use Rattle.std.proofs.Common.{◌∙◌, ap}
 use Rattle.std.specs.Prelude.{map}
 use Rattle.std.specs.Option.{option_map}
-use Rattle.hls_bind.specs.Entries.{entry_of, conflict_of}
+use Rattle.hls_bind.specs.BindingEntries.{binding_entry, conflict_of}
 use Rattle.hls_bind.specs.Lost.{first_conflict}
 use Rattle.hls_bind.proofs.Losses.{verdict_of}
 use Rattle.hls_bind.proofs.outcome.conflict.Goals as goal
 
 pub returns : goal.returns
 returns c =
-    verdict_of c.args.m.now c.args.b.now (map entry_of c.entries.result.now) c.in_ok-live.live.items (option_map conflict_of c.first_conflict.result) c.entries.ensures.entries c.vars-vars.ensures.sound c.entries.ensures.rising c.requires c.in_ok-live.ensures.count c.in_ok-live.ensures.live (c.first_conflict.ensures ∙ ap (first_conflict (map entry_of c.entries.result.now) c.args.m.now) c.as_slice.ensures.value)
+    verdict_of c.args.m.now c.args.b.now (map binding_entry c.entries.result.now) c.in_ok-live.live.items
+    (option_map conflict_of c.in_ok-found.found) c.entries.ensures.entries c.vars-vars.ensures.sound c.entries.ensures.rising c.requires
+    c.in_ok-live.ensures.count c.in_ok-live.ensures.live
+    (c.in_ok-found.ensures ∙ ap (first_conflict (map binding_entry c.entries.result.now) c.args.m.now) c.as_slice.ensures.value)

@@ -1,5 +1,5 @@
 use Rattle.std.proofs.Common.{◌≡◌, drop}
-use Rattle.hls_bind.specs.Files.{names_local}
+use Rattle.hls_bind.specs.BindingMembers.{names_local}
 use Rattle.hls_bind.proofs.reader.names_local.Given as goal
 
 abbrev pub invariant-loop-var : goal.invariant-loop-var

@@ -1,6 +1,6 @@
 use Rattle.std.proofs.Common.{◌≡◌}
 use Rattle.serde_json.specs.View.{members_view}
-use Rattle.hls_bind.specs.Files.{register_given}
+use Rattle.hls_bind.specs.BindingMembers.{register_given}
 use Rattle.hls_bind.proofs.reader.register_given.Given as goal
 
 abbrev pub invariant-loop-name : goal.invariant-loop-name

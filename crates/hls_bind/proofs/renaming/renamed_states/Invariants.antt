@@ -1,8 +1,8 @@
 use Rattle.std.proofs.Common.{◌≡◌, take}
 use Rattle.std.specs.Prelude.{map}
 use Rattle.fs_model.specs.View.{source_state_of}
-use Rattle.binding_laws.specs.Bindings.{state_renamed}
-use Rattle.hls_bind.specs.Entries.{name_for}
+use Rattle.hls_binding_laws.specs.Bindings.{state_renamed}
+use Rattle.hls_bind.specs.BindingEntries.{name_for}
 use Rattle.hls_bind.proofs.renaming.renamed_states.Given as goal
 
 abbrev pub invariant-loop-state : goal.invariant-loop-state

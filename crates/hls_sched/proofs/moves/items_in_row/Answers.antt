@@ -1,5 +1,5 @@
 use Rattle.std.proofs.Common.{◌≡◌, ◌<◌, ◌++◌, ◌∷◌, [], ◌∙◌, sym, arith, rules, length, get_or}
-use Rattle.line_filling.specs.Waiting.{rows_in}
+use Rattle.hls_line_filling.specs.WaitingItems.{rows_in}
 use Rattle.hls_sched.proofs.Rows.{row_takes, row_skips, among_more}
 use Rattle.hls_sched.proofs.moves.items_in_row.Goals.{then-is_in_row+in_ok-push, else-is_in_row}
 use Rattle.hls_sched.proofs.moves.items_in_row.Goals as goal
@@ -16,13 +16,16 @@ loop-item-preserved c =
           let own : w.index.result.now ≡ get_or c.args.line.now.states.items c.loop-item.item w.index.result.now = search rules in
           let put : c.if-is_in_row.out.items ≡ c.loop-item.out.items ++ w.index.result.now ∷ [] = cc (w.out-is, w.in_ok-push.ensures.items) in
           record {
-            items = λ p. row_takes p states rows c.args.row c.args.plan.now.count item q c.loop-item.out.items c.if-is_in_row.out.items _ low own (c.requires.placed item low) (sym c.is_in_row.ensures ∙ w.if-is_in_row.true) put (c.loop-item.invariant.items p);
-            among = λ count all. among_more count states c.loop-item.out.items c.if-is_in_row.out.items item q low own put all (c.loop-item.invariant.among count all);
+            items = λ p. row_takes p states rows c.args.row c.args.plan.now.count item q c.loop-item.out.items c.if-is_in_row.out.items _ low own
+                (c.requires.placed item low) (sym c.is_in_row.ensures ∙ w.if-is_in_row.true) put (c.loop-item.invariant.items p);
+            among = λ count all. among_more count states c.loop-item.out.items c.if-is_in_row.out.items item q low own put all
+                (c.loop-item.invariant.among count all);
           })
       | else-is_in_row w ↦ (
           let same : c.if-is_in_row.out.items ≡ c.loop-item.out.items = cc w.out-is in
           record {
-            items = λ p. row_skips p states rows c.args.row c.args.plan.now.count item c.loop-item.out.items c.if-is_in_row.out.items _ low (c.requires.placed item low) (sym c.is_in_row.ensures ∙ w.if-is_in_row.false) same (c.loop-item.invariant.items p);
+            items = λ p. row_skips p states rows c.args.row c.args.plan.now.count item c.loop-item.out.items c.if-is_in_row.out.items _ low
+                (c.requires.placed item low) (sym c.is_in_row.ensures ∙ w.if-is_in_row.false) same (c.loop-item.invariant.items p);
             among = λ count all. rw same (c.loop-item.invariant.among count all);
           })
     ]

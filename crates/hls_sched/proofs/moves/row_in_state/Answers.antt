@@ -5,5 +5,6 @@ use Rattle.hls_sched.proofs.moves.row_in_state.Goals as goal
 pub returns-clause-among : goal.returns-clause-among
 returns-clause-among c = λ count all out. record {
   items = c.in_ok-items.ensures.among count all;
-  target = subst (λ z. z < count) (sym c.after_row.ensures) (target_among count c.args.line.now.exit.0 c.args.line.now.states.items c.args.plan.now.count c.args.row c.requires.plan.no_more all out);
+  target = subst (λ z. z < count) (sym c.after_row.ensures)
+      (target_among count c.args.line.now.exit.0 c.args.line.now.states.items c.args.plan.now.count c.args.row c.requires.plan.no_more all out);
 }

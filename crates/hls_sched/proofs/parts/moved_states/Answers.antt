@@ -1,13 +1,14 @@
 use Rattle.std.proofs.Common.{arith, length, map}
 use Rattle.fs_model.specs.View.{source_of}
-use Rattle.scheduled_sources.specs.Rows.{found}
-use Rattle.scheduled_sources.specs.Sources.{states_by}
-use Rattle.hls_sched.specs.Moves.{move_of}
+use Rattle.hls_line_schedules.specs.SourceRows.{first_done}
+use Rattle.hls_line_schedules.specs.Sources.{states_by}
+use Rattle.hls_sched.specs.RowMoves.{move_of}
 use Rattle.hls_sched.proofs.ByStates.{states_more}
 use Rattle.hls_sched.proofs.parts.moved_states.Goals as goal
 
 pub loop-q-preserved : goal.loop-q-preserved
 loop-q-preserved c =
     let p = source_of c.args.parts.now in
-    states_more (states_by p c.args.m.now (found (map (move_of p) c.args.moves.now))) (length c.args.m.now.states) c.loop-q.q c.loop-q.out.items c.add_state.new.out.items _
+    states_more (states_by p c.args.m.now (first_done (map (move_of p) c.args.moves.now)))
+    (length c.args.m.now.states) c.loop-q.q c.loop-q.out.items c.add_state.new.out.items _
     (omega (arith, c.loop-q-test.true, c.state_count-q-end.ensures.count)) c.in_ok-add_state.ensures c.loop-q.invariant

@@ -1,13 +1,14 @@
 use Rattle.std.proofs.Common.{◌≡◌, ◌-◌, ◌++◌, length, map}
 use Rattle.std.specs.List.{range_with_len, flat_map}
 use Rattle.fs_model.specs.View.{source_state_of, source_of}
-use Rattle.line_machines.specs.Lines.{all_states}
-use Rattle.scheduled_sources.specs.Rows.{found}
-use Rattle.scheduled_sources.specs.Sources.{states_by}
-use Rattle.hls_sched.specs.Moves.{move_of}
+use Rattle.hls_line_machines.specs.StraightLines.{all_states}
+use Rattle.hls_line_schedules.specs.SourceRows.{first_done}
+use Rattle.hls_line_schedules.specs.Sources.{states_by}
+use Rattle.hls_sched.specs.RowMoves.{move_of}
 use Rattle.hls_sched.proofs.parts.moved_states.Given as goal
 
 abbrev pub invariant-loop-q : goal.invariant-loop-q
 invariant-loop-q l =
-    map source_state_of l.out.items ++ flat_map (states_by (source_of l.parts) l.m (found (map (move_of (source_of l.parts)) l.moves))) (range_with_len l.q (length l.m.states - l.q))
-    ≡ flat_map (states_by (source_of l.parts) l.m (found (map (move_of (source_of l.parts)) l.moves))) (all_states l.m)
+    map source_state_of l.out.items ++ flat_map (states_by (source_of l.parts) l.m (first_done (map (move_of (source_of l.parts)) l.moves)))
+    (range_with_len l.q (length l.m.states - l.q))
+    ≡ flat_map (states_by (source_of l.parts) l.m (first_done (map (move_of (source_of l.parts)) l.moves))) (all_states l.m)

@@ -1,5 +1,5 @@
 use Rattle.std.proofs.Common.{◌≡◌, arith, rules, length}
-use Rattle.line_fills.specs.Units.{units_in}
+use Rattle.hls_line_rows.specs.ItemUnits.{units_in}
 use Rattle.hls_sched.proofs.Gathered.{report_is}
 use Rattle.hls_sched.proofs.scheduling.schedule_line.Goals as goal
 
@@ -9,7 +9,8 @@ overflow_cast-result c = omega (arith, c.len.ensures, c.requires.line.few, c.var
 pub returns-clause-report : goal.returns-clause-report
 returns-clause-report c =
     let count : c.len.result ≡ length c.args.line.now.states.items = search rules in
-    report_is c.args.m.now (units_in c.args.units.now) c.args.first.0 c.len.result c.args.line.now.states.items c.in_ok-plan.plan c.vars-vars.ensures.sound c.requires.within count c.requires.line.states c.in_ok-plan.ensures.rows c.in_ok-plan.ensures.chain
+    report_is c.args.m.now (units_in c.args.units.now) c.args.first.0 c.len.result c.args.line.now.states.items c.in_ok-plan.plan c.vars-vars.ensures.sound
+    c.requires.within count c.requires.line.states c.in_ok-plan.ensures.rows c.in_ok-plan.ensures.chain
 
 pub returns-clause-among : goal.returns-clause-among
 returns-clause-among c = c.in_ok-add_moves.ensures.among (length c.args.m.now.states) c.requires.line.inside c.requires.line.leads c.requires.among

@@ -1,9 +1,9 @@
 use Rattle.std.proofs.Common.{◌≡◌, take, map, length}
 use Rattle.std.specs.List.{All, flat_map}
 use Rattle.fs_model.specs.Source.{Source}
-use Rattle.line_fills.specs.Units.{units_in}
-use Rattle.hls_sched.specs.Moves.{move_of, IsMoveAmong}
-use Rattle.hls_sched.specs.Lines.{moves_from}
+use Rattle.hls_line_rows.specs.ItemUnits.{units_in}
+use Rattle.hls_sched.specs.RowMoves.{move_of, IsMoveAmong}
+use Rattle.hls_sched.specs.CodeLines.{moves_from}
 use Rattle.hls_sched.specs.Reports.{report_of, report_at}
 use Rattle.hls_sched.proofs.scheduling.schedule_lines.Given as goal
 

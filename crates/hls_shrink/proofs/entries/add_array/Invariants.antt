@@ -1,5 +1,5 @@
 use Rattle.std.proofs.Common.{◌≡◌, ◌++◌, map, drop}
-use Rattle.hls_shrink.specs.Entries.{at_input}
+use Rattle.hls_shrink.specs.InputEntries.{at_input}
 use Rattle.hls_shrink.proofs.entries.add_array.Given as goal
 
 abbrev pub invariant-loop-index : goal.invariant-loop-index

@@ -3,7 +3,7 @@ use Rattle.std.specs.Option.{is_none}
 use Rattle.fs_runs.specs.Values.{content_of}
 use Rattle.fs_runs.specs.InputValues.{input_signatures}
 use Rattle.fs_trials.proofs.Given.{few_inputs}
-use Rattle.hls_shrink.specs.Entries.{contents_in}
+use Rattle.hls_shrink.specs.InputEntries.{contents_in}
 use Rattle.hls_shrink.proofs.Changed.{as_many, none_left, some_left, content_there}
 use Rattle.hls_shrink.proofs.Listed.{awaits_next, awaits_none}
 use Rattle.hls_shrink.proofs.entries.entries.Goals as goal
@@ -22,7 +22,8 @@ get-requires c =
 pub loop-k-preserved : goal.loop-k-preserved
 loop-k-preserved c =
     let ins = c.args.inputs.now in
-    awaits_next (contents_in ins) c.loop-k.k (content_of c.get.result.now) c.loop-k.list.items c.add_entries.new.list.items (content_there ins c.loop-k.k c.get.result.now c.get.ensures) c.in_ok-add_entries.ensures c.loop-k.invariant
+    awaits_next (contents_in ins) c.loop-k.k (content_of c.get.result.now) c.loop-k.list.items c.add_entries.new.list.items
+    (content_there ins c.loop-k.k c.get.result.now c.get.ensures) c.in_ok-add_entries.ensures c.loop-k.invariant
 
 pub returns : goal.returns
 returns c =

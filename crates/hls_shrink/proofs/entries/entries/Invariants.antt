@@ -1,4 +1,4 @@
-use Rattle.hls_shrink.specs.Entries.{contents_in}
+use Rattle.hls_shrink.specs.InputEntries.{contents_in}
 use Rattle.hls_shrink.proofs.Listed.{Awaits}
 use Rattle.hls_shrink.proofs.entries.entries.Given as goal
 

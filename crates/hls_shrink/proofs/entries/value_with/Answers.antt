@@ -3,7 +3,7 @@ use Rattle.std.specs.Prelude.{FitsSigned}
 use Rattle.std.specs.Int.{w128}
 use Rattle.std.specs.Ordering.{int_eq}
 use Rattle.std.proofs.lemmas.Int.{to_z-of_z}
-use Rattle.fs_runs.specs.Values.{entry, content_of}
+use Rattle.fs_runs.specs.Values.{entry_number, content_of}
 use Rattle.fs_trials.proofs.Given.{entries_are}
 use Rattle.hls_shrink.specs.Reductions.{content_with}
 use Rattle.hls_shrink.proofs.entries.value_with.Goals as goal
@@ -15,5 +15,6 @@ returns-in_ok-set-in-Arr-clause-content c =
     let one : FitsSigned w128 index = search rules in
     let two : FitsSigned w128 number = search rules in
     let put = simp to_z-of_z at c.in_ok-set-in-Arr.ensures.set in
-    entries_are (entry c.set.new.self) (λ i. cond (int_eq index i) number (entry c.in-Arr.numbers i)) (λ i. put i ∙ ap (λ f. cond (int_eq index i) number (f i)) c.in_ok-own-in-Arr.ensures)
+    entries_are (entry_number c.set.new.self) (λ i. cond (int_eq index i) number (entry_number c.in-Arr.numbers i))
+    (λ i. put i ∙ ap (λ f. cond (int_eq index i) number (f i)) c.in_ok-own-in-Arr.ensures)
     ∙ ap (λ v. content_with (content_of v) index number) (sym c.in-Arr.is)

@@ -3,8 +3,8 @@ use Rattle.std.specs.Prelude.{Some, option_map, slice_get}
 use Rattle.std.specs.Option.{is_none}
 use Rattle.fs_runs.specs.Values.{content_of}
 use Rattle.fs_runs.specs.InputValues.{Signature, input_values}
-use Rattle.hls_shrink.specs.Entries.{contents_in}
-use Rattle.hls_shrink.specs.Reductions.{changed}
+use Rattle.hls_shrink.specs.InputEntries.{contents_in}
+use Rattle.hls_shrink.specs.Reductions.{with_number_at}
 use Rattle.hls_shrink.proofs.Changed.{serve_own, none_left, some_left, content_there, sort_there, changed_past, changed_is}
 use Rattle.hls_shrink.proofs.entries.with_number.Goals as goal
 
@@ -16,7 +16,8 @@ returns-then-is_none-clause-contents c =
     let ins = c.args.inputs.now in
     let e = c.args.entry.now in
     let gone : is_none c.sort.result ≡ true = search rules in
-    c.in_ok-copy.ensures.contents ∙ sym (changed_past (contents_in ins) e.input e.index c.args.number.now (none_left ins e.input c.sort.result c.sort.ensures gone))
+    c.in_ok-copy.ensures.contents
+    ∙ sym (changed_past (contents_in ins) e.input e.index c.args.number.now (none_left ins e.input c.sort.result c.sort.ensures gone))
 
 pub get-requires : goal.get-requires
 get-requires c =
@@ -27,7 +28,8 @@ pub set-requires : goal.set-requires
 set-requires c =
     let ins = c.args.inputs.now in
     let k = c.args.entry.now.input in
-    ap (λ fs. option_map (λ (f : Signature). f.1) (slice_get fs k)) c.in_ok-copy.ensures.signatures ∙ sort_there ins k c.get.result.now c.get.ensures ∙ ap Some (sym c.in_ok-value.ensures.sort)
+    ap (λ fs. option_map (λ (f : Signature). f.1) (slice_get fs k)) c.in_ok-copy.ensures.signatures ∙ sort_there ins k c.get.result.now c.get.ensures
+    ∙ ap Some (sym c.in_ok-value.ensures.sort)
 
 pub returns-clause-contents : goal.returns-clause-contents
 returns-clause-contents c =
@@ -35,9 +37,12 @@ returns-clause-contents c =
     let copy = c.in_ok-copy.copy in
     let e = c.args.entry.now in
     let n = c.args.number.now in
-    let there : slice_get (contents_in copy) e.input ≡ Some (content_of c.get.result.now) = ap (λ cs. slice_get cs e.input) c.in_ok-copy.ensures.contents ∙ content_there ins e.input c.get.result.now c.get.ensures in
-    changed_is (input_values copy) (input_values c.set.new.self) e.input c.in_ok-value.value (content_of c.get.result.now) e.index n there c.in_ok-value.ensures.content c.in_ok-set.ensures.values
-    ∙ ap (λ cs. changed cs e.input e.index n) c.in_ok-copy.ensures.contents
+    let there : slice_get (contents_in copy) e.input ≡ Some (content_of c.get.result.now) = ap (λ cs. slice_get cs e.input) c.in_ok-copy.ensures.contents
+    ∙ content_there ins e.input c.get.result.now c.get.ensures in
+    changed_is (input_values copy) (input_values c.set.new.self) e.input c.in_ok-value.value
+    (content_of c.get.result.now) e.index n there c.in_ok-value.ensures.content c.in_ok-set.ensures.values
+    ∙ ap (λ cs. with_number_at cs e.input e.index n) c.in_ok-copy.ensures.contents
 
 pub returns-clause-serves : goal.returns-clause-serves
-returns-clause-serves c = serve_own c.args.m.now c.set.new.self c.vars-vars.ensures.sound (c.set.ensures.signatures ∙ c.in_ok-copy.ensures.signatures ∙ c.requires)
+returns-clause-serves c = serve_own c.args.m.now c.set.new.self c.vars-vars.ensures.sound
+    (c.set.ensures.signatures ∙ c.in_ok-copy.ensures.signatures ∙ c.requires)

@@ -1,7 +1,7 @@
 use Rattle.std.proofs.Common.{List}
 use Rattle.fs_model.specs.Runs.{Content}
-use Rattle.hls_shrink.specs.Entries.{contents_in, AreEntries}
-use Rattle.hls_shrink.specs.Shrunk.{Shows, IsSmall, EndsIn}
+use Rattle.hls_shrink.specs.InputEntries.{contents_in, AreEntries}
+use Rattle.hls_shrink.specs.Shrunk.{ShowDifference, IsSmall, EndsIn}
 use Rattle.hls_shrink.proofs.Lowered.{size}
 use Rattle.hls_shrink.proofs.shrinking.shrink.Given as goal
 
@@ -10,7 +10,8 @@ abbrev pub invariant-loop-list : goal.invariant-loop-list
 invariant-loop-list l = record {
   listed : AreEntries 0 (contents_in l.small.inputs) l.list.items;
   small : IsSmall l.a l.b l.steps l.small;
-  onward : (end : List Content) → EndsIn (Shows l.a l.b l.steps) (contents_in l.small.inputs) end → EndsIn (Shows l.a l.b l.steps) (contents_in l.inputs) end;
+  onward : (end : List Content) → EndsIn (ShowDifference l.a l.b l.steps) (contents_in l.small.inputs) end
+      → EndsIn (ShowDifference l.a l.b l.steps) (contents_in l.inputs) end;
 }
 
 abbrev pub decreases-loop-list : goal.decreases-loop-list

@@ -8,16 +8,25 @@ use Rattle.nf_arrays.proofs.reads.read_stopped.Goals as goal
 
 pub from_normal-requires : goal.from_normal-requires
 from_normal-requires c =
-    subst IsNormal (sym c.in_ok-try_clone-in-Some.ensures) (value_normal c.args.i.now c.args.writes.now c.in-Some._earlier.now c.in-Some.field-0-0.now c.in-Some.ensures.cases.0 c.args.base c.requires.normal)
+    subst IsNormal (sym c.in_ok-try_clone-in-Some.ensures)
+    (value_normal c.args.i.now c.args.writes.now c.in-Some._earlier.now c.in-Some.field-0-0.now c.in-Some.ensures.cases.0 c.args.base c.requires.normal)
 
 pub returns-then-is_same : goal.returns-then-is_same
 returns-then-is_same c =
-    read_same c.args.i.now c.args.writes.now c.in-Some._earlier.now c.in-Some.field-0-0.now c.in-Some.ensures.cases.0 c.args.base (sym (c.is_same.ensures ∙ ap (same_polynomial (polynomial_in c.in-Some.field-0-0.now.0)) c.tree.ensures.same) ∙ c.if-is_same.true) ∙ ap Done (sym (c.from_normal.ensures ∙ c.in_ok-try_clone-in-Some.ensures))
+    read_same c.args.i.now c.args.writes.now c.in-Some._earlier.now c.in-Some.field-0-0.now c.in-Some.ensures.cases.0 c.args.base
+    (sym (c.is_same.ensures ∙ ap (same_polynomial (polynomial_in c.in-Some.field-0-0.now.0)) c.tree.ensures.same) ∙ c.if-is_same.true)
+    ∙ ap Done (sym (c.from_normal.ensures ∙ c.in_ok-try_clone-in-Some.ensures))
 
 pub read_atom-requires-in-Some-clause-stays : goal.read_atom-requires-in-Some-clause-stays
 read_atom-requires-in-Some-clause-stays c =
-    stays_other c.args.i.now c.args.writes.now c.in-Some._earlier.now c.in-Some.field-0-0.now c.in-Some.ensures.cases.0 c.args.base c.requires.stops c.requires.normal.ordered c.size-size.ensures.normal.ordered (sym (c.is_same.ensures ∙ ap (same_polynomial (polynomial_in c.in-Some.field-0-0.now.0)) c.tree.ensures.same) ∙ c.if-is_same.false)
+    stays_other c.args.i.now c.args.writes.now c.in-Some._earlier.now c.in-Some.field-0-0.now c.in-Some.ensures.cases.0 c.args.base c.requires.stops
+    c.requires.normal.ordered c.size-size.ensures.normal.ordered
+    (sym (c.is_same.ensures ∙ ap (same_polynomial (polynomial_in c.in-Some.field-0-0.now.0)) c.tree.ensures.same) ∙ c.if-is_same.false)
 
 pub returns-else-is_same : goal.returns-else-is_same
 returns-else-is_same c =
-    subst (Answers c.read_atom-in-Some.result) (sym (read_other c.args.i.now c.args.writes.now c.in-Some._earlier.now c.in-Some.field-0-0.now c.in-Some.ensures.cases.0 c.args.base (sym (c.is_same.ensures ∙ ap (same_polynomial (polynomial_in c.in-Some.field-0-0.now.0)) c.tree.ensures.same) ∙ c.if-is_same.false))) c.read_atom-in-Some.ensures
+    subst (Answers c.read_atom-in-Some.result)
+    (sym
+    (read_other c.args.i.now c.args.writes.now c.in-Some._earlier.now c.in-Some.field-0-0.now c.in-Some.ensures.cases.0 c.args.base
+    (sym (c.is_same.ensures ∙ ap (same_polynomial (polynomial_in c.in-Some.field-0-0.now.0)) c.tree.ensures.same) ∙ c.if-is_same.false)))
+    c.read_atom-in-Some.ensures

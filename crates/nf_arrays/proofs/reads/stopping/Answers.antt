@@ -7,10 +7,13 @@ pub back-init : goal.back-init
 back-init c = none_passed (polynomial_in c.args.i.now) c.args.writes.now
 
 pub apart-requires-clause-left : goal.apart-requires-clause-left
-apart-requires-clause-left c = back_ordered (polynomial_in c.args.i.now) c.args.writes.now c.back.rest.now c.in-Some.earlier.now c.in-Some.field-0-0.now c.back.invariant c.in-Some.ensures.cases.0 c.requires.tidy
+apart-requires-clause-left c = back_ordered (polynomial_in c.args.i.now) c.args.writes.now c.back.rest.now c.in-Some.earlier.now c.in-Some.field-0-0.now
+    c.back.invariant c.in-Some.ensures.cases.0 c.requires.tidy
 
 pub back-preserved : goal.back-preserved
-back-preserved c = one_passed (polynomial_in c.args.i.now) c.args.writes.now c.back.rest.now c.in-Some.earlier.now c.in-Some.field-0-0.now c.back.invariant c.in-Some.ensures.cases.0 (sym c.apart.ensures ∙ c.if-not-apart.false)
+back-preserved c = one_passed (polynomial_in c.args.i.now) c.args.writes.now c.back.rest.now c.in-Some.earlier.now c.in-Some.field-0-0.now c.back.invariant
+    c.in-Some.ensures.cases.0 (sym c.apart.ensures ∙ c.if-not-apart.false)
 
 pub returns-then-not-apart : goal.returns-then-not-apart
-returns-then-not-apart c = stops (polynomial_in c.args.i.now) c.back.rest.now c.in-Some.earlier.now c.in-Some.field-0-0.now c.in-Some.ensures.cases.0 (sym c.apart.ensures ∙ c.if-not-apart.true) ∙ c.back.invariant.same
+returns-then-not-apart c = stops (polynomial_in c.args.i.now) c.back.rest.now c.in-Some.earlier.now c.in-Some.field-0-0.now c.in-Some.ensures.cases.0
+    (sym c.apart.ensures ∙ c.if-not-apart.true) ∙ c.back.invariant.same

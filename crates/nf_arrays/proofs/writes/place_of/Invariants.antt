@@ -1,5 +1,5 @@
 use Rattle.std.proofs.Common.{◌≡◌, map, take, drop}
-use Rattle.nf_terms.specs.Terms.{Polynomial}
+use Rattle.nf_terms.specs.NormalTerms.{Polynomial}
 use Rattle.nf_terms.specs.View.{polynomial_in, write_in}
 use Rattle.nf_terms.specs.Tidied.{with_write}
 use Rattle.nf_arrays.proofs.Inserting.{followed}
@@ -8,4 +8,5 @@ use Rattle.nf_arrays.proofs.writes.place_of.Given as goal
 
 abbrev pub invariant-loop-place : goal.invariant-loop-place
 invariant-loop-place l =
-    (v : Polynomial) → with_write (polynomial_in l.index) v (writes_in l.writes) ≡ followed (map write_in (take l.place l.writes)) (with_write (polynomial_in l.index) v (writes_in (drop l.place l.writes)))
+    (v : Polynomial) → with_write (polynomial_in l.index) v (writes_in l.writes)
+    ≡ followed (map write_in (take l.place l.writes)) (with_write (polynomial_in l.index) v (writes_in (drop l.place l.writes)))

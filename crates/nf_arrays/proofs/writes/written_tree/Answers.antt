@@ -9,4 +9,5 @@ pub returns : goal.returns
 returns c =
     c.array_of.ensures
     ∙ write_whole c.args.a.now c.args.i.now c.args.v.now _ _ _ c.base-base.ensures.same c.writes.ensures.same
-    (c.in_ok-writes.ensures ∙ (λ k. rising_stretches (last_writes (written_last (writes_in c.writes.result.now) (c.tree.ensures.same k) (c.tree-2.ensures.same k)))))
+    (c.in_ok-writes.ensures
+    ∙ (λ k. rising_stretches (last_writes (written_last (writes_in c.writes.result.now) (c.tree.ensures.same k) (c.tree-2.ensures.same k)))))

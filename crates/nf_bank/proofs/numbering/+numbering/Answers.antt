@@ -1,13 +1,14 @@
 use Rattle.std.proofs.Common.{◌≡◌, arith, ap, sym, subst, ◌∙◌}
 use Rattle.std.proofs.lemmas.Grind.{common_steps}
-use Rattle.nf_terms.specs.Terms.{Atom, Monomial, Polynomial, ArrayTerm, Read, Quotient, Remainder}
+use Rattle.nf_terms.specs.NormalTerms.{Atom, Monomial, Polynomial, ArrayTerm, Read, Quotient, Remainder}
 use Rattle.nf_terms.specs.declared.tree.Atom.TheFolds.{fold-roll-Atom}
 use Rattle.nf_terms.specs.declared.tree.Atom.TheVariants.{rolls-Read, rolls-Div, rolls-Rem}
 use Rattle.nf_terms.specs.declared.tree.Atom.TheOpen as open_tree
 use Rattle.nf_terms.specs.View.{atom_step, arr_step, mono_step, poly_step, atom_in, monomial_in, polynomial_in, array_in, term_in, write_in}
 use Rattle.nf_terms.specs.declared.tree.ArrTree.{out-ArrTree}
 use Rattle.nf_bank.specs.declared.node.Node.TheVariants as node
-use Rattle.nf_bank.specs.Spelled.{SpellsSum, SpellsArray, SpellsAtom, bound_of_number, bound_of_term, bound_of_write, numbered, term_over, write_over}
+use Rattle.nf_bank.specs.AtomNumbers.{SpellsSum, SpellsArray, SpellsAtom, bound_of_number, bound_of_term, bound_of_write, atom_of_number, scaled_monomial_over}
+use Rattle.nf_bank.specs.AtomNumbers.{write_over}
 use Rattle.nf_bank.proofs.Fronts.{front_trans}
 use Rattle.nf_bank.proofs.Growing.{numbers_grow, terms_grow, writes_grow, read_spelled, quotient_spelled, remainder_spelled}
 use Rattle.nf_bank.proofs.Turns.{one_more, monomial_spelled, sum_spelled, array_spelled, number_spells, term_spells, write_spells}
@@ -20,12 +21,15 @@ put_mono-loop-atom-preserved t c =
     record {
       kept = grind (arith, common_steps);
       whole = c.loop-atom.invariant.whole;
-      spelled = rw c.in_ok-push.ensures.items (one_more bound_of_number numbered atom_in numbers_grow c.loop-atom.bank c.put_atom.new.bank c.loop-atom.ids.items c.deref-atom-items.result.now c.loop-atom.atom-index c.in_ok-id.id x c.loop-atom.invariant.spelled c.in_ok-id.ensures.front c.loop-atom-test.true c.atom-item.is s);
+      spelled = rw c.in_ok-push.ensures.items
+          (one_more bound_of_number atom_of_number atom_in numbers_grow c.loop-atom.bank c.put_atom.new.bank c.loop-atom.ids.items c.deref-atom-items.result.now
+          c.loop-atom.atom-index c.in_ok-id.id x c.loop-atom.invariant.spelled c.in_ok-id.ensures.front c.loop-atom-test.true c.atom-item.is s);
       front = front_trans _ _ _ c.loop-atom.invariant.front c.in_ok-id.ensures.front;
     }
 
 pub put_mono-returns-clause-spelled : goal.put_mono-returns-clause-spelled
-put_mono-returns-clause-spelled t c = monomial_spelled c.loop-atom.bank c.loop-atom.ids.items c.new.result c.deref-atom-items.result.now c.loop-atom.atom-index (monomial_in c.args.mono.now) c.loop-atom.invariant.spelled c.loop-atom-test.false c.new.ensures c.loop-atom.invariant.whole
+put_mono-returns-clause-spelled t c = monomial_spelled c.loop-atom.bank c.loop-atom.ids.items c.new.result c.deref-atom-items.result.now c.loop-atom.atom-index
+    (monomial_in c.args.mono.now) c.loop-atom.invariant.spelled c.loop-atom-test.false c.new.ensures c.loop-atom.invariant.whole
 
 pub put_sum-loop-mono-preserved : goal.put_sum-loop-mono-preserved
 put_sum-loop-mono-preserved t c =
@@ -34,30 +38,38 @@ put_sum-loop-mono-preserved t c =
     record {
       kept = grind (arith, common_steps);
       whole = c.loop-mono.invariant.whole;
-      spelled = rw c.in_ok-push.ensures.items (one_more bound_of_term term_over term_in terms_grow c.loop-mono.bank c.put_mono.new.bank c.loop-mono.terms.items c.deref-mono-items.result.now c.loop-mono.mono-index c.new.result x c.loop-mono.invariant.spelled c.in_ok-atoms.ensures.front c.loop-mono-test.true c.loop-mono-item.is s);
+      spelled = rw c.in_ok-push.ensures.items
+          (one_more bound_of_term scaled_monomial_over term_in terms_grow c.loop-mono.bank c.put_mono.new.bank c.loop-mono.terms.items
+          c.deref-mono-items.result.now c.loop-mono.mono-index c.new.result x c.loop-mono.invariant.spelled c.in_ok-atoms.ensures.front c.loop-mono-test.true
+          c.loop-mono-item.is s);
       front = front_trans _ _ _ c.loop-mono.invariant.front c.in_ok-atoms.ensures.front;
     }
 
 pub put_sum-returns-clause-spelled : goal.put_sum-returns-clause-spelled
-put_sum-returns-clause-spelled t c = sum_spelled c.loop-mono.bank c.loop-mono.terms.items c.new-2.result c.deref-mono-items.result.now c.loop-mono.mono-index (polynomial_in c.args.sum.now) c.loop-mono.invariant.spelled c.loop-mono-test.false c.new-2.ensures c.loop-mono.invariant.whole
+put_sum-returns-clause-spelled t c = sum_spelled c.loop-mono.bank c.loop-mono.terms.items c.new-2.result c.deref-mono-items.result.now c.loop-mono.mono-index
+    (polynomial_in c.args.sum.now) c.loop-mono.invariant.spelled c.loop-mono-test.false c.new-2.ensures c.loop-mono.invariant.whole
 
 pub put_array-loop-index-preserved : goal.put_array-loop-index-preserved
 put_array-loop-index-preserved t c =
     let x = c.loop-index-item.result in
     let f = c.in_ok-index.ensures.front in
     let g = c.in_ok-value.ensures.front in
-    let s = write_spells c.put_sum.new.bank c.put_sum-in-loop-index.new.bank c.in_ok-index.index c.in_ok-value.value x g c.in_ok-index.ensures.spelled c.in_ok-value.ensures.spelled in
+    let s = write_spells c.put_sum.new.bank c.put_sum-in-loop-index.new.bank c.in_ok-index.index c.in_ok-value.value x g c.in_ok-index.ensures.spelled
+    c.in_ok-value.ensures.spelled in
     let h = front_trans c.loop-index.bank c.put_sum.new.bank c.put_sum-in-loop-index.new.bank f g in
     record {
       kept = grind (arith, common_steps);
       whole = c.loop-index.invariant.whole;
-      spelled = rw c.in_ok-push.ensures.items (one_more bound_of_write write_over write_in writes_grow c.loop-index.bank c.put_sum-in-loop-index.new.bank c.loop-index.writes.items c.deref-index-items.result.now c.loop-index.index-index _ x c.loop-index.invariant.spelled h c.loop-index-test.true c.loop-index-item.is s);
+      spelled = rw c.in_ok-push.ensures.items
+          (one_more bound_of_write write_over write_in writes_grow c.loop-index.bank c.put_sum-in-loop-index.new.bank c.loop-index.writes.items
+          c.deref-index-items.result.now c.loop-index.index-index _ x c.loop-index.invariant.spelled h c.loop-index-test.true c.loop-index-item.is s);
       front = front_trans _ _ _ c.loop-index.invariant.front h;
     }
 
 pub put_array-returns-clause-spelled : goal.put_array-returns-clause-spelled
 put_array-returns-clause-spelled t c =
-    array_spelled c.loop-index.bank (out-ArrTree c.args.array.now).base c.loop-index.writes.items c.new.result c.deref-index-items.result.now c.loop-index.index-index (array_in c.args.array.now) c.loop-index.invariant.spelled c.loop-index-test.false c.new.ensures c.loop-index.invariant.whole
+    array_spelled c.loop-index.bank (out-ArrTree c.args.array.now).base c.loop-index.writes.items c.new.result c.deref-index-items.result.now
+    c.loop-index.index-index (array_in c.args.array.now) c.loop-index.invariant.spelled c.loop-index-test.false c.new.ensures c.loop-index.invariant.whole
 
 pub put_inner-returns-in_ok-index-in-Read-clause-spelled : goal.put_inner-returns-in_ok-index-in-Read-clause-spelled
 put_inner-returns-in_ok-index-in-Read-clause-spelled t c =
@@ -66,9 +78,11 @@ put_inner-returns-in_ok-index-in-Read-clause-spelled t c =
     let s = subst (λ x. SpellsArray c.put_array.new.bank a (array_in x)) c.deref.ensures c.in_ok-array-in-Read.ensures.spelled in
     let u = subst (λ x. SpellsSum c.put_sum.new.bank i (polynomial_in x)) c.deref-in-Read.ensures c.in_ok-index-in-Read.ensures.spelled in
     let e : atom_in c.args.atom.now ≡ Read (array_in c.in-Read.array.value) (polynomial_in c.in-Read.index.value) =
-    ap atom_in (c.in-Read.is ∙ sym (rolls-Read c.in-Read.array c.in-Read.index)) ∙ fold-roll-Atom Atom ArrayTerm Monomial Polynomial atom_step arr_step mono_step poly_step (open_tree.Read c.in-Read.array c.in-Read.index) in
+    ap atom_in (c.in-Read.is ∙ sym (rolls-Read c.in-Read.array c.in-Read.index))
+    ∙ fold-roll-Atom Atom ArrayTerm Monomial Polynomial atom_step arr_step mono_step poly_step (open_tree.Read c.in-Read.array c.in-Read.index) in
     subst (SpellsAtom c.put_sum.new.bank (node.Read a i)) (sym e)
-    (read_spelled c.put_array.new.bank c.put_sum.new.bank a i (array_in c.in-Read.array.value) (polynomial_in c.in-Read.index.value) c.in_ok-index-in-Read.ensures.front s u)
+    (read_spelled c.put_array.new.bank c.put_sum.new.bank a i (array_in c.in-Read.array.value)
+    (polynomial_in c.in-Read.index.value) c.in_ok-index-in-Read.ensures.front s u)
 
 pub put_inner-returns-in_ok-right-in-Div-clause-spelled : goal.put_inner-returns-in_ok-right-in-Div-clause-spelled
 put_inner-returns-in_ok-right-in-Div-clause-spelled t c =
@@ -77,9 +91,11 @@ put_inner-returns-in_ok-right-in-Div-clause-spelled t c =
     let s = subst (λ x. SpellsSum c.put_sum-in-Div.new.bank l (polynomial_in x)) c.deref-in-Div.ensures c.in_ok-left-in-Div.ensures.spelled in
     let u = subst (λ x. SpellsSum c.put_sum-in-Div-2.new.bank r (polynomial_in x)) c.deref-in-Div-2.ensures c.in_ok-right-in-Div.ensures.spelled in
     let e : atom_in c.args.atom.now ≡ Quotient (polynomial_in c.in-Div.left.value) (polynomial_in c.in-Div.right.value) =
-    ap atom_in (c.in-Div.is ∙ sym (rolls-Div c.in-Div.left c.in-Div.right)) ∙ fold-roll-Atom Atom ArrayTerm Monomial Polynomial atom_step arr_step mono_step poly_step (open_tree.Div c.in-Div.left c.in-Div.right) in
+    ap atom_in (c.in-Div.is ∙ sym (rolls-Div c.in-Div.left c.in-Div.right))
+    ∙ fold-roll-Atom Atom ArrayTerm Monomial Polynomial atom_step arr_step mono_step poly_step (open_tree.Div c.in-Div.left c.in-Div.right) in
     subst (SpellsAtom c.put_sum-in-Div-2.new.bank (node.Div l r)) (sym e)
-    (quotient_spelled c.put_sum-in-Div.new.bank c.put_sum-in-Div-2.new.bank l r (polynomial_in c.in-Div.left.value) (polynomial_in c.in-Div.right.value) c.in_ok-right-in-Div.ensures.front s u)
+    (quotient_spelled c.put_sum-in-Div.new.bank c.put_sum-in-Div-2.new.bank l r (polynomial_in c.in-Div.left.value)
+    (polynomial_in c.in-Div.right.value) c.in_ok-right-in-Div.ensures.front s u)
 
 pub put_inner-returns-in_ok-right-in-Rem-clause-spelled : goal.put_inner-returns-in_ok-right-in-Rem-clause-spelled
 put_inner-returns-in_ok-right-in-Rem-clause-spelled t c =
@@ -88,6 +104,8 @@ put_inner-returns-in_ok-right-in-Rem-clause-spelled t c =
     let s = subst (λ x. SpellsSum c.put_sum-in-Rem.new.bank l (polynomial_in x)) c.deref-in-Rem.ensures c.in_ok-left-in-Rem.ensures.spelled in
     let u = subst (λ x. SpellsSum c.put_sum-in-Rem-2.new.bank r (polynomial_in x)) c.deref-in-Rem-2.ensures c.in_ok-right-in-Rem.ensures.spelled in
     let e : atom_in c.args.atom.now ≡ Remainder (polynomial_in c.in-Rem.left.value) (polynomial_in c.in-Rem.right.value) =
-    ap atom_in (c.in-Rem.is ∙ sym (rolls-Rem c.in-Rem.left c.in-Rem.right)) ∙ fold-roll-Atom Atom ArrayTerm Monomial Polynomial atom_step arr_step mono_step poly_step (open_tree.Rem c.in-Rem.left c.in-Rem.right) in
+    ap atom_in (c.in-Rem.is ∙ sym (rolls-Rem c.in-Rem.left c.in-Rem.right))
+    ∙ fold-roll-Atom Atom ArrayTerm Monomial Polynomial atom_step arr_step mono_step poly_step (open_tree.Rem c.in-Rem.left c.in-Rem.right) in
     subst (SpellsAtom c.put_sum-in-Rem-2.new.bank (node.Rem l r)) (sym e)
-    (remainder_spelled c.put_sum-in-Rem.new.bank c.put_sum-in-Rem-2.new.bank l r (polynomial_in c.in-Rem.left.value) (polynomial_in c.in-Rem.right.value) c.in_ok-right-in-Rem.ensures.front s u)
+    (remainder_spelled c.put_sum-in-Rem.new.bank c.put_sum-in-Rem-2.new.bank l r (polynomial_in c.in-Rem.left.value)
+    (polynomial_in c.in-Rem.right.value) c.in_ok-right-in-Rem.ensures.front s u)

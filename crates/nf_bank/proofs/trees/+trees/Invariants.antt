@@ -1,7 +1,8 @@
 use Rattle.std.proofs.Common.{◌≡◌, ◌+◌, ◌*◌, ◌++◌, map, drop}
-use Rattle.nf_terms.specs.Terms.{monomial_of, polynomial_of, writes_of}
+use Rattle.nf_terms.specs.NormalTerms.{monomial_of, polynomial_of, writes_of}
 use Rattle.nf_terms.specs.View.{atom_in, term_in, write_in}
-use Rattle.nf_bank.specs.Spelled.{bound_over, bound_of_number, bound_of_sum, bound_of_array, numbered, term_over, write_over, monomial_over, sum_over}
+use Rattle.nf_bank.specs.AtomNumbers.{bound_over, bound_of_number, bound_of_sum, bound_of_array, atom_of_number, scaled_monomial_over, write_over}
+use Rattle.nf_bank.specs.AtomNumbers.{monomial_over, sum_over}
 use Rattle.nf_bank.proofs.trees.+trees.Given as goal
 
 abbrev pub decreases-atom_tree : goal.decreases-atom_tree
@@ -17,10 +18,12 @@ abbrev pub decreases-array_tree : goal.decreases-array_tree
 decreases-array_tree l = 4 * bound_of_array l.array.now + 2
 
 abbrev pub invariant-mono_tree-loop-id : goal.invariant-mono_tree-loop-id
-invariant-mono_tree-loop-id l = monomial_of (map atom_in l.atoms.items ++ map (numbered l.bank) (drop l.id-index l.ids)) ≡ monomial_over l.bank l.ids
+invariant-mono_tree-loop-id l = monomial_of (map atom_in l.atoms.items ++ map (atom_of_number l.bank) (drop l.id-index l.ids)) ≡ monomial_over l.bank l.ids
 
 abbrev pub invariant-sum_tree-loop-term : goal.invariant-sum_tree-loop-term
-invariant-sum_tree-loop-term l = polynomial_of (map term_in l.monos.items ++ map (term_over l.bank) (drop l.term-index l.terms)) ≡ sum_over l.bank l.terms
+invariant-sum_tree-loop-term l = polynomial_of (map term_in l.monos.items ++ map (scaled_monomial_over l.bank) (drop l.term-index l.terms))
+    ≡ sum_over l.bank l.terms
 
 abbrev pub invariant-array_tree-loop-write : goal.invariant-array_tree-loop-write
-invariant-array_tree-loop-write l = writes_of (map write_in l.writes.items ++ map (write_over l.bank) (drop l.write-index l.write-items)) ≡ writes_of (map (write_over l.bank) l.write-items)
+invariant-array_tree-loop-write l = writes_of (map write_in l.writes.items ++ map (write_over l.bank) (drop l.write-index l.write-items))
+    ≡ writes_of (map (write_over l.bank) l.write-items)

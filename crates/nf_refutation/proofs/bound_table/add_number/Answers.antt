@@ -14,4 +14,5 @@ returns c =
     let s = c.args.numbers.now in
     let f : FitsSigned w128 b = search rules in
     number_added s c.insert.new.self e b
-    (λ d a. c.in_ok-insert.ensures.updates.0 (a, record { ref_ptr = (0, 0); now = d }) ∙ ap (λ (z : ℤ). cond (is_eq (ordering_then (int_cmp z a) (cmp_polynomial e d))) true (has_number s d a)) (to_z-of_z w128 b f))
+    (λ d a. c.in_ok-insert.ensures.updates.0 (a, record { ref_ptr = (0, 0); now = d })
+    ∙ ap (λ (z : ℤ). cond (is_eq (ordering_then (int_cmp z a) (cmp_polynomial e d))) true (has_number s d a)) (to_z-of_z w128 b f))

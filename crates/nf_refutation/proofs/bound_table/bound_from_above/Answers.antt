@@ -7,7 +7,8 @@ use Rattle.nf_refutation.proofs.Additions.{above_compares, tightens_needless, ti
 use Rattle.nf_refutation.proofs.bound_table.bound_from_above.Goals as goal
 
 pub returns-then-is_above : goal.returns-then-is_above
-returns-then-is_above c = tightens_needless is_above above_compares c.args.dir.now c.args.bound.now c.args.upper.now (sym c.is_above.ensures ∙ c.if-is_above.true)
+returns-then-is_above c = tightens_needless is_above above_compares c.args.dir.now c.args.bound.now c.args.upper.now
+    (sym c.is_above.ensures ∙ c.if-is_above.true)
 
 pub returns : goal.returns
 returns c =
@@ -16,4 +17,5 @@ returns c =
     let m = c.args.upper.now in
     let f : FitsSigned w128 b = search rules in
     tightens_better is_above above_compares e b m c.insert.new.self (sym c.is_above.ensures ∙ c.if-is_above.false)
-    (λ d. c.in_ok-insert.ensures.updates.0 (record { ref_ptr = (0, 0); now = d }) ∙ ap (λ (z : ℤ). cond (same_polynomial e d) (Some z) (bound_in m d)) (to_z-of_z w128 b f))
+    (λ d. c.in_ok-insert.ensures.updates.0 (record { ref_ptr = (0, 0); now = d })
+    ∙ ap (λ (z : ℤ). cond (same_polynomial e d) (Some z) (bound_in m d)) (to_z-of_z w128 b f))

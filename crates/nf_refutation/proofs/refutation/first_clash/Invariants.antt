@@ -8,4 +8,5 @@ abbrev pub decreases-loop-place : goal.decreases-loop-place
 decreases-loop-place l = length l.list - l.place
 
 abbrev pub invariant-loop-place : goal.invariant-loop-place
-invariant-loop-place l = position_from (clash (literal_in l.l)) l.place (map literal_in (drop l.place l.list)) ≡ position_from (clash (literal_in l.l)) l.first (map literal_in (drop l.first l.list))
+invariant-loop-place l = position_from (clash (literal_in l.l)) l.place (map literal_in (drop l.place l.list))
+    ≡ position_from (clash (literal_in l.l)) l.first (map literal_in (drop l.first l.list))

@@ -17,4 +17,5 @@ pub returns-else-has_false : goal.returns-else-has_false
 returns-else-has_false c =
     let b = c.in-Is.bound in
     c.negation_refuted.ensures
-    ∙ bound_implied (map literal_in c.args.list.now) (literal_in c.args.l.now) b.dir b.kind b.bound (ap literal_in c.in-Is.is) (sym c.has_false-in-Is.ensures ∙ c.if-has_false.false)
+    ∙ bound_implied (map literal_in c.args.list.now) (literal_in c.args.l.now) b.dir b.kind b.bound (ap literal_in c.in-Is.is)
+    (sym c.has_false-in-Is.ensures ∙ c.if-has_false.false)

@@ -8,4 +8,5 @@ push_divided-requires-clause-small c =
     omega (arith, weight_at c.args.terms.now c.loop-mono.mono-index c.loop-mono-item.result c.loop-mono-test.true c.loop-mono-item.is, c.requires.small)
 
 pub returns : goal.returns
-returns c = divided_all c.args.by.now c.args.terms.now c.loop-mono.out.items c.loop-mono.mono-index c.loop-mono.invariant (omega (arith, c.loop-mono-test.false))
+returns c = divided_all c.args.by.now c.args.terms.now c.loop-mono.out.items c.loop-mono.mono-index c.loop-mono.invariant
+    (omega (arith, c.loop-mono-test.false))

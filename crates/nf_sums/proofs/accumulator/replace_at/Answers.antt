@@ -13,4 +13,5 @@ pub returns-else-is_zero : goal.returns-else-is_zero
 returns-else-is_zero c =
     let f : FitsSigned w128 c.args.total.now = search rules in
     ap (λ z. terms_in (set c.args.terms.now.items c.args.place (c.index_mut.result.now.0, z))) (to_z-of_z w128 c.args.total.now f)
-    ∙ changed_at c.args.place c.args.terms.now.items c.index_mut.result.now c.args.total.now c.requires c.index_mut.ensures.value (sym c.is_zero.ensures ∙ c.if-is_zero.false)
+    ∙ changed_at c.args.place c.args.terms.now.items c.index_mut.result.now c.args.total.now c.requires c.index_mut.ensures.value
+    (sym c.is_zero.ensures ∙ c.if-is_zero.false)

@@ -5,7 +5,8 @@ use Rattle.nf_sums.proofs.Placed.{coefficient_at, fits_more}
 use Rattle.nf_sums.proofs.accumulator.total_at.Goals as goal
 
 pub together-requires : goal.together-requires
-together-requires c = fits_more c.args.terms.now c.args.place c.index-terms-place.result c.args.more.now c.requires.within c.index-terms-place.is c.requires.narrow
+together-requires c = fits_more c.args.terms.now c.args.place c.index-terms-place.result c.args.more.now c.requires.within c.index-terms-place.is
+    c.requires.narrow
 
 pub returns : goal.returns
 returns c =

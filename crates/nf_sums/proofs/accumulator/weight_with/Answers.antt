@@ -6,4 +6,8 @@ use Rattle.nf_sums.proofs.accumulator.weight_with.Goals as goal
 pub returns : goal.returns
 returns c =
     let x = c.index-terms-place.result in
-    omega (arith, weight_at c.args.terms.now c.args.place x c.requires.within c.index-terms-place.is, weight_changes c.args.terms.now c.args.place x c.args.coefficient.now c.requires.within c.index-terms-place.is)
+    omega (
+      arith,
+      weight_at c.args.terms.now c.args.place x c.requires.within c.index-terms-place.is,
+      weight_changes c.args.terms.now c.args.place x c.args.coefficient.now c.requires.within c.index-terms-place.is,
+    )

@@ -1,6 +1,6 @@
 use Rattle.std.proofs.Common.{◌+◌, drop, arith}
 use Rattle.nf_terms.specs.View.{monomial_in}
-use Rattle.nf_sums.specs.Forms.{with_terms}
+use Rattle.nf_sums.specs.RawSumForms.{with_terms}
 use Rattle.nf_sums.proofs.Terms.{terms_in}
 use Rattle.nf_sums.proofs.Grown.{grown, at_term}
 use Rattle.nf_sums.proofs.accumulator.with_all.Goals as goal
@@ -14,4 +14,5 @@ loop-mono-preserved c =
     let next = c.in_ok-sum.sum in
     let whole = with_terms (terms_in c.args.start.terms.items) (terms_in ts) in
     grown (terms_in sum.terms.items) sum.size sum.weight (monomial_in x.0) x.1 (terms_in (drop (i + 1) ts)) whole
-    (at_term ts i (terms_in sum.terms.items) sum.size sum.weight whole c.loop-mono.invariant x (omega (arith, c.loop-mono-test.true)) c.loop-mono-item.is) (terms_in next.terms.items) next.size next.weight c.in_ok-sum.ensures.sum c.in_ok-sum.ensures.measured
+    (at_term ts i (terms_in sum.terms.items) sum.size sum.weight whole c.loop-mono.invariant x (omega (arith, c.loop-mono-test.true)) c.loop-mono-item.is)
+    (terms_in next.terms.items) next.size next.weight c.in_ok-sum.ensures.sum c.in_ok-sum.ensures.measured

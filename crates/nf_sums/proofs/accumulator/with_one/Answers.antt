@@ -10,35 +10,50 @@ returns-then-not-stands_at-clause-sum c =
     let l = c.args.sum.terms.items in
     let k = c.place_of-place.result in
     let m = monomial_in c.args.mono.now in
-    let before : stand_before m (terms_in (take k l)) ≡ true = subst (λ x. stand_before m (terms_in (take k x)) ≡ true) c.deref.ensures.value c.place_of-place.ensures.before in
-    let behind : begins_behind m (terms_in (drop k l)) ≡ true = subst (λ x. begins_behind m (terms_in (drop k x)) ≡ true) c.deref.ensures.value c.place_of-place.ensures.behind in
-    let new : begins_with m (terms_in (drop k l)) ≡ false = subst (λ x. begins_with m (terms_in (drop k x)) ≡ false) c.deref-2.ensures.value (sym c.stands_at.ensures ∙ c.if-not-stands_at.true) in
-    new_is l c.args.sum.size c.args.sum.weight k m c.args.coefficient.now c.requires.measured c.requires.term c.requires.small c.requires.narrow before (terms_in c.in_ok-put_at.field-0.terms.items) behind new c.in_ok-put_at.ensures.sum
+    let before : stand_before m (terms_in (take k l)) ≡ true =
+    subst (λ x. stand_before m (terms_in (take k x)) ≡ true) c.deref.ensures.value c.place_of-place.ensures.before in
+    let behind : begins_behind m (terms_in (drop k l)) ≡ true =
+    subst (λ x. begins_behind m (terms_in (drop k x)) ≡ true) c.deref.ensures.value c.place_of-place.ensures.behind in
+    let new : begins_with m (terms_in (drop k l)) ≡ false =
+    subst (λ x. begins_with m (terms_in (drop k x)) ≡ false) c.deref-2.ensures.value (sym c.stands_at.ensures ∙ c.if-not-stands_at.true) in
+    new_is l c.args.sum.size c.args.sum.weight k m c.args.coefficient.now c.requires.measured c.requires.term c.requires.small c.requires.narrow before
+    (terms_in c.in_ok-put_at.field-0.terms.items) behind new c.in_ok-put_at.ensures.sum
 
 pub returns-then-not-stands_at-clause-measured : goal.returns-then-not-stands_at-clause-measured
 returns-then-not-stands_at-clause-measured c =
     let l = c.args.sum.terms.items in
     let k = c.place_of-place.result in
     let m = monomial_in c.args.mono.now in
-    let before : stand_before m (terms_in (take k l)) ≡ true = subst (λ x. stand_before m (terms_in (take k x)) ≡ true) c.deref.ensures.value c.place_of-place.ensures.before in
-    let behind : begins_behind m (terms_in (drop k l)) ≡ true = subst (λ x. begins_behind m (terms_in (drop k x)) ≡ true) c.deref.ensures.value c.place_of-place.ensures.behind in
-    let new : begins_with m (terms_in (drop k l)) ≡ false = subst (λ x. begins_with m (terms_in (drop k x)) ≡ false) c.deref-2.ensures.value (sym c.stands_at.ensures ∙ c.if-not-stands_at.true) in
-    new_measured l c.args.sum.size c.args.sum.weight k m c.args.coefficient.now c.requires.measured c.requires.term c.requires.small c.requires.narrow before (terms_in c.in_ok-put_at.field-0.terms.items) behind new c.in_ok-put_at.ensures.sum c.in_ok-put_at.field-0.size c.in_ok-put_at.field-0.weight c.in_ok-put_at.ensures.size c.in_ok-put_at.ensures.weight
+    let before : stand_before m (terms_in (take k l)) ≡ true =
+    subst (λ x. stand_before m (terms_in (take k x)) ≡ true) c.deref.ensures.value c.place_of-place.ensures.before in
+    let behind : begins_behind m (terms_in (drop k l)) ≡ true =
+    subst (λ x. begins_behind m (terms_in (drop k x)) ≡ true) c.deref.ensures.value c.place_of-place.ensures.behind in
+    let new : begins_with m (terms_in (drop k l)) ≡ false =
+    subst (λ x. begins_with m (terms_in (drop k x)) ≡ false) c.deref-2.ensures.value (sym c.stands_at.ensures ∙ c.if-not-stands_at.true) in
+    new_measured l c.args.sum.size c.args.sum.weight k m c.args.coefficient.now c.requires.measured c.requires.term c.requires.small c.requires.narrow before
+    (terms_in c.in_ok-put_at.field-0.terms.items) behind new c.in_ok-put_at.ensures.sum c.in_ok-put_at.field-0.size c.in_ok-put_at.field-0.weight
+    c.in_ok-put_at.ensures.size c.in_ok-put_at.ensures.weight
 
 pub returns-clause-sum : goal.returns-clause-sum
 returns-clause-sum c =
     let l = c.args.sum.terms.items in
     let k = c.place_of-place.result in
     let m = monomial_in c.args.mono.now in
-    let before : stand_before m (terms_in (take k l)) ≡ true = subst (λ x. stand_before m (terms_in (take k x)) ≡ true) c.deref.ensures.value c.place_of-place.ensures.before in
-    let old : begins_with m (terms_in (drop k l)) ≡ true = subst (λ x. begins_with m (terms_in (drop k x)) ≡ true) c.deref-2.ensures.value (sym c.stands_at.ensures ∙ c.if-not-stands_at.false) in
-    old_is l c.args.sum.size c.args.sum.weight k m c.args.coefficient.now c.requires.measured c.requires.term c.requires.small c.requires.narrow before (terms_in c.add_at.result.terms.items) old c.add_at.ensures.sum
+    let before : stand_before m (terms_in (take k l)) ≡ true =
+    subst (λ x. stand_before m (terms_in (take k x)) ≡ true) c.deref.ensures.value c.place_of-place.ensures.before in
+    let old : begins_with m (terms_in (drop k l)) ≡ true =
+    subst (λ x. begins_with m (terms_in (drop k x)) ≡ true) c.deref-2.ensures.value (sym c.stands_at.ensures ∙ c.if-not-stands_at.false) in
+    old_is l c.args.sum.size c.args.sum.weight k m c.args.coefficient.now c.requires.measured c.requires.term c.requires.small c.requires.narrow before
+    (terms_in c.add_at.result.terms.items) old c.add_at.ensures.sum
 
 pub returns-clause-measured : goal.returns-clause-measured
 returns-clause-measured c =
     let l = c.args.sum.terms.items in
     let k = c.place_of-place.result in
     let m = monomial_in c.args.mono.now in
-    let before : stand_before m (terms_in (take k l)) ≡ true = subst (λ x. stand_before m (terms_in (take k x)) ≡ true) c.deref.ensures.value c.place_of-place.ensures.before in
-    let old : begins_with m (terms_in (drop k l)) ≡ true = subst (λ x. begins_with m (terms_in (drop k x)) ≡ true) c.deref-2.ensures.value (sym c.stands_at.ensures ∙ c.if-not-stands_at.false) in
-    old_measured l c.args.sum.size c.args.sum.weight k m c.args.coefficient.now c.requires.measured c.requires.term c.requires.small c.requires.narrow before (terms_in c.add_at.result.terms.items) old c.add_at.ensures.sum c.add_at.result.size c.add_at.result.weight c.add_at.ensures.size c.add_at.ensures.weight
+    let before : stand_before m (terms_in (take k l)) ≡ true =
+    subst (λ x. stand_before m (terms_in (take k x)) ≡ true) c.deref.ensures.value c.place_of-place.ensures.before in
+    let old : begins_with m (terms_in (drop k l)) ≡ true =
+    subst (λ x. begins_with m (terms_in (drop k x)) ≡ true) c.deref-2.ensures.value (sym c.stands_at.ensures ∙ c.if-not-stands_at.false) in
+    old_measured l c.args.sum.size c.args.sum.weight k m c.args.coefficient.now c.requires.measured c.requires.term c.requires.small c.requires.narrow before
+    (terms_in c.add_at.result.terms.items) old c.add_at.ensures.sum c.add_at.result.size c.add_at.result.weight c.add_at.ensures.size c.add_at.ensures.weight

@@ -14,4 +14,5 @@ returns-in-None-front-2 c = first_left c.args.left.now.items c.args.right.now.it
 pub returns-in-Some-front-2 : goal.returns-in-Some-front-2
 returns-in-Some-front-2 c =
     ap Some c.compare_monos.ensures
-    ∙ first_both c.args.left.now.items c.args.right.now.items c.in-Some.field-0.now c.in-Some-front-2.field-0.now c.in-Some.ensures.item.3.0 c.in-Some.ensures.item.1 c.in-Some-front-2.ensures.item.3.0 c.in-Some-front-2.ensures.item.1
+    ∙ first_both c.args.left.now.items c.args.right.now.items c.in-Some.field-0.now c.in-Some-front-2.field-0.now c.in-Some.ensures.item.3.0
+    c.in-Some.ensures.item.1 c.in-Some-front-2.ensures.item.3.0 c.in-Some-front-2.ensures.item.1

@@ -1,6 +1,6 @@
 use Rattle.std.proofs.Common.{◌+◌, ◌≤◌, rules}
 use Rattle.nf_terms.specs.Measures.{size_of, weight_of}
-use Rattle.nf_terms.specs.Limits.{size_limit, weight_limit}
+use Rattle.nf_terms.specs.TermLimits.{size_limit, weight_limit}
 use Rattle.nf_sums.proofs.Exact.{sum_gives}
 use Rattle.nf_sums.proofs.sums.add.Goals as goal
 

@@ -1,5 +1,5 @@
 use Rattle.std.proofs.Common.{◌≡◌, map, drop}
-use Rattle.nf_terms.specs.Terms.{polynomial_of}
+use Rattle.nf_terms.specs.NormalTerms.{polynomial_of}
 use Rattle.nf_terms.specs.View.{polynomial_in, term_in}
 use Rattle.nf_terms.specs.Normal.{constant_part}
 use Rattle.nf_terms.proofs.constants.constant_part.Given as goal

@@ -1,6 +1,6 @@
 use Rattle.std.proofs.Common.{map, ◌≤◌, length, arith, ap, sym, ◌∙◌}
 use Rattle.std.proofs.lemmas.List.{drop_all}
-use Rattle.nf_terms.specs.Terms.{polynomial_of}
+use Rattle.nf_terms.specs.NormalTerms.{polynomial_of}
 use Rattle.nf_terms.specs.View.{term_in}
 use Rattle.nf_terms.specs.Order.{same_polynomial}
 use Rattle.nf_terms.specs.Normal.{part_with_atoms}
@@ -13,5 +13,6 @@ returns c =
     let over : length c.deref-mono-items.result.now ≤ c.loop-mono.mono-index = omega (arith, c.loop-mono-test.false) in
     c.is_empty.ensures
     ∙ nothing_left c.loop-mono.rest.now c.loop-mono.invariant.0
-    ∙ ap (λ ts. same_polynomial (part_with_atoms (polynomial_of (map term_in ts))) (part_with_atoms (polynomial_of (map term_in c.loop-mono.rest.now)))) (sym (drop_all c.loop-mono.mono-index c.deref-mono-items.result.now over))
+    ∙ ap (λ ts. same_polynomial (part_with_atoms (polynomial_of (map term_in ts))) (part_with_atoms (polynomial_of (map term_in c.loop-mono.rest.now))))
+    (sym (drop_all c.loop-mono.mono-index c.deref-mono-items.result.now over))
     ∙ c.loop-mono.invariant.1

@@ -1,5 +1,5 @@
 use Rattle.std.proofs.Common.{◌≡◌, map, drop}
-use Rattle.nf_terms.specs.Terms.{monomial_of, polynomial_of, writes_of}
+use Rattle.nf_terms.specs.NormalTerms.{monomial_of, polynomial_of, writes_of}
 use Rattle.nf_terms.specs.View.{atom_in, polynomial_in, monomial_in, array_in, term_in, write_in}
 use Rattle.nf_terms.specs.Order.{cmp_atoms, cmp_monomial, cmp_polynomial, cmp_writes, cmp_array}
 use Rattle.nf_terms.specs.declared.tree.PolyTree.{out-PolyTree}
@@ -8,12 +8,15 @@ use Rattle.nf_terms.proofs.order.+orders.Given as goal
 
 abbrev pub invariant-compare_arrs-loop-n : goal.invariant-compare_arrs-loop-n
 invariant-compare_arrs-loop-n l =
-    cmp_writes (writes_of (map write_in (drop l.n (out-ArrTree l.l).writes.items))) (writes_of (map write_in (drop l.n (out-ArrTree l.r).writes.items))) ≡ cmp_array (array_in l.l) (array_in l.r)
+    cmp_writes (writes_of (map write_in (drop l.n (out-ArrTree l.l).writes.items))) (writes_of (map write_in (drop l.n (out-ArrTree l.r).writes.items)))
+    ≡ cmp_array (array_in l.l) (array_in l.r)
 
 abbrev pub invariant-compare_monos-loop-i : goal.invariant-compare_monos-loop-i
 invariant-compare_monos-loop-i l =
-    cmp_atoms (monomial_of (map atom_in (drop l.i l.l.atoms.items))) (monomial_of (map atom_in (drop l.i l.r.atoms.items))) ≡ cmp_monomial (monomial_in l.l) (monomial_in l.r)
+    cmp_atoms (monomial_of (map atom_in (drop l.i l.l.atoms.items))) (monomial_of (map atom_in (drop l.i l.r.atoms.items)))
+    ≡ cmp_monomial (monomial_in l.l) (monomial_in l.r)
 
 abbrev pub invariant-compare_polys-loop-i : goal.invariant-compare_polys-loop-i
 invariant-compare_polys-loop-i l =
-    cmp_polynomial (polynomial_of (map term_in (drop l.i (out-PolyTree l.l).monos.items))) (polynomial_of (map term_in (drop l.i (out-PolyTree l.r).monos.items))) ≡ cmp_polynomial (polynomial_in l.l) (polynomial_in l.r)
+    cmp_polynomial (polynomial_of (map term_in (drop l.i (out-PolyTree l.l).monos.items)))
+    (polynomial_of (map term_in (drop l.i (out-PolyTree l.r).monos.items))) ≡ cmp_polynomial (polynomial_in l.l) (polynomial_in l.r)

@@ -1,5 +1,5 @@
 use Rattle.std.proofs.Common.{◌≡◌, ◌++◌, map, drop}
-use Rattle.nf_terms.specs.Terms.{monomial_of, polynomial_of, writes_of, Over}
+use Rattle.nf_terms.specs.NormalTerms.{monomial_of, polynomial_of, writes_of, Over}
 use Rattle.nf_terms.specs.View.{atom_in, polynomial_in, monomial_in, array_in, term_in, write_in}
 use Rattle.nf_terms.specs.declared.tree.ArrTree.{out-ArrTree}
 use Rattle.nf_terms.proofs.tree.+clones.Given as goal

@@ -1,5 +1,5 @@
 use Rattle.std.proofs.Common.{ap, sym, ◌∙◌, map}
-use Rattle.nf_terms.specs.Terms.{monomial_of}
+use Rattle.nf_terms.specs.NormalTerms.{monomial_of}
 use Rattle.nf_terms.specs.View.{atom_in}
 use Rattle.nf_terms.proofs.Degrees.{monomial_in-is}
 use Rattle.propagate.specs.Rebases.{lone_symbol}
@@ -7,4 +7,5 @@ use Rattle.propagate.proofs.BareForms.{two_atoms}
 use Rattle.propagate.proofs.bare_symbols.lone_symbol.Goals as goal
 
 pub returns-in-len2-up : goal.returns-in-len2-up
-returns-in-len2-up c = two_atoms c.as_slice.result.now c.in-len2-up.len_at_least ∙ ap (λ xs. lone_symbol (monomial_of (map atom_in xs))) c.as_slice.ensures.value ∙ ap lone_symbol (sym (monomial_in-is c.args.mono.now))
+returns-in-len2-up c = two_atoms c.as_slice.result.now c.in-len2-up.len_at_least
+    ∙ ap (λ xs. lone_symbol (monomial_of (map atom_in xs))) c.as_slice.ensures.value ∙ ap lone_symbol (sym (monomial_in-is c.args.mono.now))

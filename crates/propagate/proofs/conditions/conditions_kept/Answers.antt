@@ -12,12 +12,14 @@ pub returns-clause-answers : goal.returns-clause-answers
 returns-clause-answers c =
     let over = map literal_in c.in_ok-over.over.items in
     let e : map literal_in c.truncate.new.self.items ≡ take most_literals (with_needed [] over) =
-    ap (map literal_in) c.truncate.ensures.items ∙ first_read most_literals c.in_ok-out.out.items ∙ ap (take most_literals) (c.in_ok-out.ensures ∙ ap (λ ls. with_needed [] (map literal_in ls)) c.as_slice.ensures.value) in
+    ap (map literal_in) c.truncate.ensures.items ∙ first_read most_literals c.in_ok-out.out.items
+    ∙ ap (take most_literals) (c.in_ok-out.ensures ∙ ap (λ ls. with_needed [] (map literal_in ls)) c.as_slice.ensures.value) in
     ap (λ d. after d (λ ls. Done (take most_literals (with_needed [] ls)))) c.in_ok-over.ensures.answers ∙ ap Done (sym e)
 
 pub returns-clause-kept : goal.returns-clause-kept
 returns-clause-kept c =
     let over = map literal_in c.in_ok-over.over.items in
     let e : map literal_in c.truncate.new.self.items ≡ take most_literals (with_needed [] over) =
-    ap (map literal_in) c.truncate.ensures.items ∙ first_read most_literals c.in_ok-out.out.items ∙ ap (take most_literals) (c.in_ok-out.ensures ∙ ap (λ ls. with_needed [] (map literal_in ls)) c.as_slice.ensures.value) in
+    ap (map literal_in) c.truncate.ensures.items ∙ first_read most_literals c.in_ok-out.out.items
+    ∙ ap (take most_literals) (c.in_ok-out.ensures ∙ ap (λ ls. with_needed [] (map literal_in ls)) c.as_slice.ensures.value) in
     subst (λ ls. list_all may_be_kept ls ≡ true) (sym e) (first_kept over c.in_ok-over.ensures.normal)

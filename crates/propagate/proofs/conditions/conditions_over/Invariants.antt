@@ -10,5 +10,6 @@ abbrev pub invariant-loop-condition : goal.invariant-loop-condition
 invariant-loop-condition l = record {
   vector : l.s.vector ≡ l.initial.s.vector;
   normal : list_all is_normal_literal (map literal_in l.out.items) ≡ true;
-  rest : followed (map literal_in l.out.items) (conditions_over l.meanings (map literal_in (drop l.condition-index l.conditions))) ≡ conditions_over l.meanings (map literal_in l.conditions);
+  rest : followed (map literal_in l.out.items) (conditions_over l.meanings (map literal_in (drop l.condition-index l.conditions)))
+      ≡ conditions_over l.meanings (map literal_in l.conditions);
 }

@@ -18,7 +18,8 @@ of-requires c =
     let known = map literal_in c.conds.result.now in
     let qs = map position_in c.in_ok-positions.positions.items in
     let ls = map literal_in c.in_ok-conds.conds.items in
-    let joined = joined_with old post missing given qs known ls c.requires.missing c.positions.ensures.same (ap (λ m. joined_from post.vector 0 m [] given) (sym c.as_slice.ensures.value) ∙ c.in_ok-positions.ensures) c.conds.ensures.same
+    let joined = joined_with old post missing given qs known ls c.requires.missing c.positions.ensures.same
+    (ap (λ m. joined_from post.vector 0 m [] given) (sym c.as_slice.ensures.value) ∙ c.in_ok-positions.ensures) c.conds.ensures.same
     (c.in_ok-conds.ensures ∙ ap (λ m. literals_from 0 m known) c.as_slice-2.ensures.value) in
     join_kept c.args.p.now old (record { positions = qs; literals = ls }) post missing joined c.holds.ensures c.requires.pairing c.holds-2.ensures
 
@@ -28,9 +29,11 @@ returns-in_err-positions c =
     let post = post_in c.args.post.now in
     let missing = missing_in c.args.miss.now in
     let given = map position_in c.positions.result.now in
-    let k : after (joined_from post.vector 0 c.as_slice.result.now [] given) (λ qs. made (literals_from 0 missing.literals old.literals) qs) ≡ join old post missing =
+    let k : after (joined_from post.vector 0 c.as_slice.result.now [] given) (λ qs. made (literals_from 0 missing.literals old.literals) qs)
+    ≡ join old post missing =
     ap (λ m. after (joined_from post.vector 0 m [] given) (λ qs. made (literals_from 0 missing.literals old.literals) qs)) c.as_slice.ensures.value
-    ∙ ap (λ ps. after (joined_from post.vector 0 missing.equations [] ps) (λ qs. made (literals_from 0 missing.literals old.literals) qs)) c.positions.ensures.same
+    ∙ ap (λ ps. after (joined_from post.vector 0 missing.equations [] ps) (λ qs. made (literals_from 0 missing.literals old.literals) qs))
+    c.positions.ensures.same
     ∙ join_in_turn old post missing c.requires.missing in
     subst (λ z. Answers c.from_residual.result z) k (search rules)
 
@@ -43,5 +46,6 @@ returns c =
     let known = map literal_in c.conds.result.now in
     let qs = map position_in c.in_ok-positions.positions.items in
     let ls = map literal_in c.in_ok-conds.conds.items in
-    joined_with old post missing given qs known ls c.requires.missing c.positions.ensures.same (ap (λ m. joined_from post.vector 0 m [] given) (sym c.as_slice.ensures.value) ∙ c.in_ok-positions.ensures) c.conds.ensures.same
+    joined_with old post missing given qs known ls c.requires.missing c.positions.ensures.same
+    (ap (λ m. joined_from post.vector 0 m [] given) (sym c.as_slice.ensures.value) ∙ c.in_ok-positions.ensures) c.conds.ensures.same
     (c.in_ok-conds.ensures ∙ ap (λ m. literals_from 0 m known) c.as_slice-2.ensures.value) ∙ ap Done (sym c.of.ensures)

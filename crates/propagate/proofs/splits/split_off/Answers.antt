@@ -10,7 +10,9 @@ returns-in-Some c =
     let ms = c.args.meanings.now in
     let ts = c.monos-terms.result.now in
     ap (λ p. Some (record { symbol = c.in-Some.found.symbol; positive = c.in-Some.found.positive; rest = p })) c.in_ok-without.ensures
-    ∙ sym (split_here ms (map term_in (take c.loop-place.place ts)) c.index-terms-place.result c.loop-place.place ts c.in-Some.found c.loop-place-test.true c.index-terms-place.is c.in-Some.ensures)
+    ∙ sym
+    (split_here ms (map term_in (take c.loop-place.place ts)) c.index-terms-place.result c.loop-place.place ts c.in-Some.found c.loop-place-test.true
+    c.index-terms-place.is c.in-Some.ensures)
     ∙ c.loop-place.invariant ∙ splits_in_turn ms (map term_in ts) ∙ ap (split ms) c.monos-terms.ensures.same
 
 pub returns : goal.returns

@@ -1,5 +1,5 @@
 use Rattle.std.proofs.Common.{ap, sym, subst, ◌∙◌}
-use Rattle.nf_terms.specs.Terms.{polynomial_of}
+use Rattle.nf_terms.specs.NormalTerms.{polynomial_of}
 use Rattle.nf_terms.specs.Normal.{IsNormal}
 use Rattle.nf_terms.specs.View.{term_in}
 use Rattle.propagate.proofs.Without.{rest_normal, without_place}
@@ -11,4 +11,5 @@ from_terms-requires c =
     subst (λ xs. IsNormal (polynomial_of xs)) (sym e) (rest_normal c.args.place c.args.terms.now c.requires.within c.requires.normal)
 
 pub returns : goal.returns
-returns c = c.from_terms.ensures ∙ ap polynomial_of (without_place term_in c.args.place c.args.terms.now c.new-monos.ensures.items c.in_ok-push_terms.ensures c.in_ok-push_terms-2.ensures)
+returns c = c.from_terms.ensures
+    ∙ ap polynomial_of (without_place term_in c.args.place c.args.terms.now c.new-monos.ensures.items c.in_ok-push_terms.ensures c.in_ok-push_terms-2.ensures)

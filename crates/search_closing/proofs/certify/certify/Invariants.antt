@@ -1,5 +1,5 @@
 use Rattle.std.proofs.Common.{◌≡◌, ◌+◌, ◌++◌, length, map, drop}
-use Rattle.certificates.specs.View.{node_of}
+use Rattle.cert_model.specs.View.{node_of}
 use Rattle.search_tables.specs.Certifying.{table_node}
 use Rattle.search_tables.specs.View.{table_in}
 use Rattle.search_closing.proofs.certify.certify.Given as goal

@@ -1,5 +1,5 @@
 use Rattle.std.proofs.Common.{sym, subst, ◌∙◌, map}
-use Rattle.certificates.specs.View.{node_of}
+use Rattle.cert_model.specs.View.{node_of}
 use Rattle.search_tables.specs.View.{table_in}
 use Rattle.search_closing.specs.Closings.{IsMadeOf, ClosesBy}
 use Rattle.search_closing.specs.declared.closing.Closing.TheVariants.{Certified}
@@ -12,4 +12,5 @@ returns-in_ok-nodes-in-Ranks c =
       modes_are = c.in_ok-nodes-in-Ranks.ensures.modes;
       ranks_are = c.in_ok-nodes-in-Ranks.ensures.ranks ∙ c.as_slice-in-Ranks.ensures.value;
     } in
-    subst (λ r. ClosesBy (table_in c.args.nodes.items) c.args.modes.now r (Certified (record { nodes = c.in_ok-nodes-in-Ranks.nodes }))) (sym c.in-Ranks.is) made
+    subst (λ r. ClosesBy (table_in c.args.nodes.items) c.args.modes.now r (Certified (record { nodes = c.in_ok-nodes-in-Ranks.nodes })))
+    (sym c.in-Ranks.is) made

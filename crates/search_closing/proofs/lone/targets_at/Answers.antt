@@ -1,16 +1,16 @@
 use Rattle.std.proofs.Common.{inl, inr, ap, sym, ◌∙◌}
-use Rattle.bisimulation.specs.declared.mode.Mode.TheVariants.{Both}
+use Rattle.cert_bisimulation.specs.declared.mode.Mode.TheVariants.{Both}
 use Rattle.propagate.specs.Modes.{Found}
 use Rattle.search_tables.specs.Next.{paths_in}
 use Rattle.search_tables.specs.LoneMoves.{lone_in}
 use Rattle.search_tables.specs.View.{table_in, table_node_in}
-use Rattle.search_closing.specs.View.{machines_in}
+use Rattle.search_closing.specs.View.{covered_machines}
 use Rattle.search_closing.proofs.Targets.{none_by_both}
 use Rattle.search_closing.proofs.lone.targets_at.Goals as goal
 
 pub returns-in-Both-clause-targets : goal.returns-in-Both-clause-targets
 returns-in-Both-clause-targets c =
-    let m = machines_in c.args.table.now.machines.now in
+    let m = covered_machines c.args.table.now.machines.now in
     let T = table_in c.args.table.now.nodes.now in
     let n = table_node_in c.args.node.now in
     elim c.in-Both.is [

@@ -1,6 +1,6 @@
 use Rattle.std.proofs.Common.{◌≡◌, take}
 use Rattle.search_tables.specs.View.{table_in}
-use Rattle.search_closing.specs.Places.{keys_in}
+use Rattle.search_closing.specs.NodePlaces.{keys_in}
 use Rattle.search_closing.proofs.places.places_of.Given as goal
 
 abbrev pub invariant-loop-node : goal.invariant-loop-node

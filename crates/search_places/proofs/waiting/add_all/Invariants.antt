@@ -1,5 +1,5 @@
 use Rattle.std.proofs.Common.{take}
-use Rattle.search_places.specs.Order.{waits, AddsAll}
+use Rattle.search_places.specs.ItemOrder.{waits, AddsAll}
 use Rattle.search_places.proofs.waiting.add_all.Given as goal
 
 abbrev pub invariant-loop-item : goal.invariant-loop-item

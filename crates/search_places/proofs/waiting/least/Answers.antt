@@ -1,4 +1,4 @@
-use Rattle.search_places.specs.Order.{waits}
+use Rattle.search_places.specs.ItemOrder.{waits}
 use Rattle.search_places.proofs.Orders.{least_of}
 use Rattle.search_places.proofs.waiting.least.Goals as goal
 

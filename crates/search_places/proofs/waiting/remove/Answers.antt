@@ -1,4 +1,4 @@
-use Rattle.search_places.specs.Order.{waits}
+use Rattle.search_places.specs.ItemOrder.{waits}
 use Rattle.search_places.proofs.Orders.{drops_by}
 use Rattle.search_places.proofs.waiting.remove.Goals as goal
 

@@ -1,6 +1,6 @@
 use Rattle.std.proofs.Common.{◌≡◌, ◌∷◌, ◌++◌, [], ap, subst, ◌∙◌, inl}
 use Rattle.search_ranks.specs.declared.marks.Mark.TheVariants.{New, Open}
-use Rattle.search_ranks.specs.Walks.{lists_in, Turns, Walked, walk_work}
+use Rattle.search_ranks.specs.Walks.{lists_in, StepsWalk, Walked, walk_work}
 use Rattle.search_ranks.proofs.Lists.{set_same}
 use Rattle.search_ranks.proofs.Marking.{extends_set, right_opened}
 use Rattle.search_ranks.proofs.Stacks.{frame}
@@ -23,7 +23,9 @@ pub walk-preserved : goal.walk-preserved
 walk-preserved c =
     let E = lists_in c.args.edges.now in
     let M = c.walk.marks.items in
-    let w : Walked E M c.turn.new.marks.items c.turn.new.stack.items (walk_work E M (c.pop.new.self.items ++ c.in-Some.top ∷ [])) = subst (Turns E M c.turn.new.marks.items c.turn.new.stack.items (walk_work E M (c.pop.new.self.items ++ c.in-Some.top ∷ []))) c.in-None-2.is c.in_ok-place-in-Some.ensures in
+    let w : Walked E M c.turn.new.marks.items c.turn.new.stack.items (walk_work E M (c.pop.new.self.items ++ c.in-Some.top ∷ [])) =
+    subst (StepsWalk E M c.turn.new.marks.items c.turn.new.stack.items (walk_work E M (c.pop.new.self.items ++ c.in-Some.top ∷ []))) c.in-None-2.is
+    c.in_ok-place-in-Some.ensures in
     record {
       right = w.right;
       stack = w.stack;

@@ -1,5 +1,5 @@
 use Rattle.std.proofs.Common.{◌≡◌, drop}
-use Rattle.fs_pair.specs.Outputs.{output_pairs}
+use Rattle.fs_pair.specs.PairedOutputs.{output_pairs}
 use Rattle.search_tables.specs.Legal.{first_differing}
 use Rattle.search_worklist.proofs.outputs.first_differing.Given as goal
 

@@ -1,12 +1,12 @@
 use Rattle.std.proofs.Common.{◌<◌, ◌≤◌, ◌++◌, ◌∷◌, [], length, ap, refl, sym, ◌∙◌, subst, arith}
 use Rattle.std.proofs.lemmas.Option.{slice_get_within}
-use Rattle.certificates.specs.Lawful.{most_nodes}
+use Rattle.cert_model.specs.Lawful.{most_nodes}
 use Rattle.search_tables.specs.Legal.{Makes}
 use Rattle.search_tables.proofs.Forming.{well_formed}
 use Rattle.fs_cut.specs.View.{point_of}
-use Rattle.search_worklist.specs.Ends.{EndsSo}
-use Rattle.search_worklist.specs.Outputs.{OutputAt}
-use Rattle.search_worklist.specs.Puts.{number_at, changed}
+use Rattle.search_worklist.specs.SearchEnds.{EndsSo}
+use Rattle.search_worklist.specs.DifferingOutputs.{OutputAt}
+use Rattle.search_worklist.specs.NodeUpdates.{node_number, change_table}
 use Rattle.search_worklist.specs.States.{table}
 use Rattle.search_worklist.specs.Turns.{IsNext}
 use Rattle.search_worklist.specs.View.{machines_in}
@@ -26,7 +26,8 @@ output_at-requires c = number_in c.moves.state.entries.entries c.moves.changed c
 
 pub overflow_cast-node : goal.overflow_cast-node
 overflow_cast-node c =
-    let w = well_formed (machines_in c.args.m.now) c.vars-left.ensures.sound c.vars-right.ensures.sound c.moves.moves.items (table c.moves.state) c.moves.invariant.makes in
+    let w = well_formed (machines_in c.args.m.now) c.vars-left.ensures.sound c.vars-right.ensures.sound c.moves.moves.items
+    (table c.moves.state) c.moves.invariant.makes in
     let lt = slice_get_within (table c.moves.state) c.moves.changed c.moves.invariant.differs.node c.moves.invariant.differs.is_in in
     let small : c.moves.changed < 4096 = omega (arith, lt, w.few) in
     omega (arith, small)
@@ -42,7 +43,8 @@ pub next-requires-clause-made : goal.next-requires-clause-made
 next-requires-clause-made c =
     let m = machines_in c.args.m.now in
     let T = table c.moves.state in
-    made m c.moves.moves.items T c.vars-left.ensures.sound c.vars-right.ensures.sound c.moves.invariant.makes (none_differs m T c.moves.changed c.moves.invariant.differs (subst (OutputAt m T c.moves.changed) c.in-None.is c.in_ok-var.ensures))
+    made m c.moves.moves.items T c.vars-left.ensures.sound c.vars-right.ensures.sound c.moves.invariant.makes
+    (none_differs m T c.moves.changed c.moves.invariant.differs (subst (OutputAt m T c.moves.changed) c.in-None.is c.in_ok-var.ensures))
 
 pub returns-in-Ends : goal.returns-in-Ends
 returns-in-Ends c =
@@ -50,7 +52,8 @@ returns-in-Ends c =
     let same = c.in_ok-end-in-None.ensures.same in
     let n = subst (IsNext m (table c.moves.state)) c.in-Ends.is c.in_ok-end-in-None.ensures.next in
     if_ok c.ended-in-Ends.result
-    (λ e h. ends_with m (table c.next.new.state) c.moves.moves c.in-Ends.end e (subst (Makes m c.moves.moves.items) (sym same) c.moves.invariant.makes) (subst (λ T. EndsSo m T c.in-Ends.end) (sym same) n) h) c.ended-in-Ends.ensures
+    (λ e h. ends_with m (table c.next.new.state) c.moves.moves c.in-Ends.end e (subst (Makes m c.moves.moves.items) (sym same) c.moves.invariant.makes)
+    (subst (λ T. EndsSo m T c.in-Ends.end) (sym same) n) h) c.ended-in-Ends.ensures
 
 pub make-requires-clause-few : goal.make-requires-clause-few
 make-requires-clause-few c =
@@ -59,9 +62,11 @@ make-requires-clause-few c =
     let same = c.in_ok-end-in-None.ensures.same in
     let free = none_differs m T c.moves.changed c.moves.invariant.differs (subst (OutputAt m T c.moves.changed) c.in-None.is c.in_ok-var.ensures) in
     let n = subst (IsNext m T) c.in-Changes.is c.in_ok-end-in-None.ensures.next in
-    let h = makes_more m c.moves.moves.items (c.moves.moves.items ++ c.in-Changes.at ∷ []) c.in-Changes.at T (changed T c.in-Changes.change) (changed T c.in-Changes.change) c.moves.invariant.makes free n.0 refl refl in
-    let w = well_formed m c.vars-left.ensures.sound c.vars-right.ensures.sound (c.moves.moves.items ++ c.in-Changes.at ∷ []) (changed T c.in-Changes.change) h in
-    subst (λ U. length (changed U c.in-Changes.change) ≤ most_nodes) (sym same) w.few
+    let h = makes_more m c.moves.moves.items (c.moves.moves.items ++ c.in-Changes.at ∷ []) c.in-Changes.at T (change_table T c.in-Changes.change)
+    (change_table T c.in-Changes.change) c.moves.invariant.makes free n.0 refl refl in
+    let w = well_formed m c.vars-left.ensures.sound c.vars-right.ensures.sound (c.moves.moves.items ++ c.in-Changes.at ∷ [])
+    (change_table T c.in-Changes.change) h in
+    subst (λ U. length (change_table U c.in-Changes.change) ≤ most_nodes) (sym same) w.few
 
 pub moves-smaller : goal.moves-smaller
 moves-smaller c =
@@ -69,9 +74,10 @@ moves-smaller c =
     let T = table c.moves.state in
     let free = none_differs m T c.moves.changed c.moves.invariant.differs (subst (OutputAt m T c.moves.changed) c.in-None.is c.in_ok-var.ensures) in
     let n = subst (IsNext m T) c.in-Changes.is c.in_ok-end-in-None.ensures.next in
-    let made_table = c.in_ok-changed-in-Changes.ensures.table ∙ ap (λ U. changed U c.in-Changes.change) c.in_ok-end-in-None.ensures.same in
+    let made_table = c.in_ok-changed-in-Changes.ensures.table ∙ ap (λ U. change_table U c.in-Changes.change) c.in_ok-end-in-None.ensures.same in
     fewer_left m c.moves.moves.items c.push.new.self.items c.in-Changes.at (table c.make.new.state) c.in_ok-push-in-Changes.ensures.items
-    (makes_more m c.moves.moves.items c.push.new.self.items c.in-Changes.at T (changed T c.in-Changes.change) (table c.make.new.state) c.moves.invariant.makes free n.0 c.in_ok-push-in-Changes.ensures.items made_table)
+    (makes_more m c.moves.moves.items c.push.new.self.items c.in-Changes.at T (change_table T c.in-Changes.change)
+    (table c.make.new.state) c.moves.invariant.makes free n.0 c.in_ok-push-in-Changes.ensures.items made_table)
 
 pub moves-preserved : goal.moves-preserved
 moves-preserved c =
@@ -81,10 +87,13 @@ moves-preserved c =
     let same = c.in_ok-end-in-None.ensures.same in
     let free = none_differs m T c.moves.changed c.moves.invariant.differs (subst (OutputAt m T c.moves.changed) c.in-None.is c.in_ok-var.ensures) in
     let n = subst (IsNext m T) c.in-Changes.is c.in_ok-end-in-None.ensures.next in
-    let made_table = c.in_ok-changed-in-Changes.ensures.table ∙ ap (λ U. changed U x) same in
-    let number = c.in_ok-changed-in-Changes.ensures.number ∙ ap (λ U. number_at U (point_of x.left) (point_of x.right)) same in
+    let made_table = c.in_ok-changed-in-Changes.ensures.table ∙ ap (λ U. change_table U x) same in
+    let number = c.in_ok-changed-in-Changes.ensures.number ∙ ap (λ U. node_number U (point_of x.left) (point_of x.right)) same in
     record {
       ready = c.in_ok-changed-in-Changes.ensures.ready m c.in_ok-end-in-None.ensures.ready;
-      makes = makes_more m c.moves.moves.items c.push.new.self.items c.in-Changes.at T (changed T x) (table c.make.new.state) c.moves.invariant.makes free n.0 c.in_ok-push-in-Changes.ensures.items made_table;
-      differs = subst (DiffersAlone m (table c.make.new.state)) (sym number) (subst (λ U. DiffersAlone m U (number_at T (point_of x.left) (point_of x.right))) (sym made_table) (put_differs m T (point_of x.left) (point_of x.right) x.fact free));
+      makes = makes_more m c.moves.moves.items c.push.new.self.items c.in-Changes.at T (change_table T x)
+          (table c.make.new.state) c.moves.invariant.makes free n.0 c.in_ok-push-in-Changes.ensures.items made_table;
+      differs = subst (DiffersAlone m (table c.make.new.state)) (sym number)
+          (subst (λ U. DiffersAlone m U (node_number T (point_of x.left) (point_of x.right))) (sym made_table)
+          (put_differs m T (point_of x.left) (point_of x.right) x.fact free));
     }

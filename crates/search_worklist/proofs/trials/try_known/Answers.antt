@@ -3,10 +3,10 @@ use Rattle.fs_cut.specs.View.{point_of}
 use Rattle.sym_paths.specs.View.{post_in}
 use Rattle.sym_facts.specs.Pairings.{IsFactOf}
 use Rattle.sym_facts.specs.View.{missing_in}
-use Rattle.search_tables.specs.Tables.{positions_of, Known, target_of, within_units}
-use Rattle.search_places.specs.Lines.{Line}
+use Rattle.search_tables.specs.SearchTables.{positions_of, Known, node_target, within_units}
+use Rattle.search_places.specs.NodeLines.{Line}
 use Rattle.search_places.specs.View.{standing_in}
-use Rattle.search_worklist.specs.Puts.{put}
+use Rattle.search_worklist.specs.NodeUpdates.{put_fact}
 use Rattle.search_worklist.specs.States.{lines, table}
 use Rattle.search_worklist.specs.View.{machines_in}
 use Rattle.search_worklist.proofs.Legal.{node_in, fact_of}
@@ -17,13 +17,22 @@ pub returns-then-is_nothing : goal.returns-then-is_nothing
 returns-then-is_nothing c =
     let l = standing_in c.node_at.result in
     let s = c.requires.stands in
-    let same : s.0 ≡ l = (let a = s.1 in let b = c.node_at.ensures in cc) in
-    (c.requires.is_open, record { node = l.node; target = s.2 ∙ ap (λ (z : Line). Known c.args.number z.node) same; missing = missing_in c.in_ok-miss.miss; compared = c.in_ok-miss.ensures; nothing = sym c.if-is_nothing.ensures })
+    let same : s.0 ≡ l = (let a = s.1 in let b = c.node_at.ensures in cc) in (
+      c.requires.is_open,
+      record {
+        node = l.node;
+        target = s.2 ∙ ap (λ (z : Line). Known c.args.number z.node) same;
+        missing = missing_in c.in_ok-miss.miss;
+        compared = c.in_ok-miss.ensures;
+        nothing = sym c.if-is_nothing.ensures;
+      },
+    )
 
 pub join-requires-clause-pairing : goal.join-requires-clause-pairing
 join-requires-clause-pairing c =
     let p : c.args.m.now.pairing.now ≡ positions_of (machines_in c.args.m.now) = search rules in
-    subst (λ ps. IsFactOf ps c.node_at.result.entry.now.fact) (sym p) (fact_of (machines_in c.args.m.now) (lines c.args.state.now) c.requires.made c.args.number (standing_in c.node_at.result) c.node_at.ensures)
+    subst (λ ps. IsFactOf ps c.node_at.result.entry.now.fact) (sym p)
+    (fact_of (machines_in c.args.m.now) (lines c.args.state.now) c.requires.made c.args.number (standing_in c.node_at.result) c.node_at.ensures)
 
 pub overflow_sub-state : goal.overflow_sub-state
 overflow_sub-state c =
@@ -41,7 +50,8 @@ returns c =
     let l = standing_in c.node_at.result in
     let s = c.requires.stands in
     let same : s.0 ≡ l = (let a = s.1 in let b = c.node_at.ensures in cc) in
-    let there : target_of T P Q ≡ Known c.args.number l.node = s.2 ∙ ap (λ (z : Line). Known c.args.number z.node) same in
-    gives_change T P Q post (effect_there ps T P Q post) (within_units (put T P Q f)) c.changed.result
-    (join_gives ps T P Q post c.args.number l.node there (missing_in c.in_ok-miss.miss) c.in_ok-miss.ensures (sym c.if-is_nothing.ensures) f c.in_ok-fact.ensures)
+    let there : node_target T P Q ≡ Known c.args.number l.node = s.2 ∙ ap (λ (z : Line). Known c.args.number z.node) same in
+    gives_change T P Q post (effect_there ps T P Q post) (within_units (put_fact T P Q f)) c.changed.result
+    (join_gives ps T P Q post c.args.number l.node there (missing_in c.in_ok-miss.miss) c.in_ok-miss.ensures
+    (sym c.if-is_nothing.ensures) f c.in_ok-fact.ensures)
     (c.changed.ensures T (put_known_units ps T P Q post c.args.number l.node there f c.args.state.now.units c.size.result c.requires.sized c.size.ensures))

@@ -2,9 +2,9 @@ use Rattle.std.proofs.Common.{◌≡◌, ◌+◌, ◌≤◌, length, rules, ap�
 use Rattle.std.specs.BTreeSet.{btree_set_len}
 use Rattle.propagate.specs.Modes.{Found}
 use Rattle.search_tables.specs.Next.{mode_at}
-use Rattle.search_places.specs.Lines.{Line}
-use Rattle.search_places.specs.Moves.{moves_by}
-use Rattle.search_places.specs.Order.{waits, AddsMoves}
+use Rattle.search_places.specs.NodeLines.{Line}
+use Rattle.search_places.specs.Moves.{moves_in_mode}
+use Rattle.search_places.specs.ItemOrder.{waits, AddsMoves}
 use Rattle.search_places.specs.View.{standing_in}
 use Rattle.search_worklist.specs.States.{lines}
 use Rattle.search_worklist.specs.View.{machines_in}
@@ -14,10 +14,12 @@ use Rattle.search_worklist.proofs.Found.{found_turned}
 use Rattle.search_worklist.proofs.turns.list_moves.Goals as goal
 
 pub left_paths-lefts-requires : goal.left_paths-lefts-requires
-left_paths-lefts-requires c = left_point (machines_in c.args.m.now) (lines c.args.state.now) c.requires.made c.args.node (standing_in c.node_at.result) c.node_at.ensures
+left_paths-lefts-requires c = left_point (machines_in c.args.m.now) (lines c.args.state.now) c.requires.made c.args.node
+    (standing_in c.node_at.result) c.node_at.ensures
 
 pub right_paths-rights-requires : goal.right_paths-rights-requires
-right_paths-rights-requires c = right_point (machines_in c.args.m.now) (lines c.args.state.now) c.requires.made c.args.node (standing_in c.node_at.result) c.node_at.ensures
+right_paths-rights-requires c = right_point (machines_in c.args.m.now) (lines c.args.state.now) c.requires.made c.args.node
+    (standing_in c.node_at.result) c.node_at.ensures
 
 pub returns : goal.returns
 returns c =
@@ -27,7 +29,10 @@ returns c =
     let t = c.requires.found in
     let same : t.line ≡ l = (let a = t.is_in in let b = c.node_at.ensures in cc) in
     let many : c.len.result ≡ length xs = search rules in
-    found_turned m c.args.state.now _ c.add_moves.new.waiting c.args.node l c.args.mode xs c.requires.ready refl c.node_at.ensures (subst (λ (z : Line). mode_at m z.node ≡ Found c.args.mode) same t.found)
-    (c.in_ok-moves.ensures.moves ∙ ap₂ (λ ps qs. moves_by c.args.node ps qs c.args.mode) c.left_paths-lefts.ensures.paths c.right_paths-rights.ensures.paths ∙ sym (moves_are m c.args.node l.node c.args.mode)) c.in_ok-moves.ensures.few c.requires.waits
+    found_turned m c.args.state.now _ c.add_moves.new.waiting c.args.node l c.args.mode xs c.requires.ready refl c.node_at.ensures
+    (subst (λ (z : Line). mode_at m z.node ≡ Found c.args.mode) same t.found)
+    (c.in_ok-moves.ensures.moves ∙ ap₂ (λ ps qs. moves_in_mode c.args.node ps qs c.args.mode) c.left_paths-lefts.ensures.paths
+    c.right_paths-rights.ensures.paths ∙ sym (moves_are m c.args.node l.node c.args.mode)) c.in_ok-moves.ensures.few c.requires.waits
     (subst (λ n. AddsMoves (waits c.args.state.now.waiting) (waits c.add_moves.new.waiting) c.args.node n) many c.in_ok-add_moves.ensures.added)
-    (subst (λ n. btree_set_len c.add_moves.new.waiting ≤ btree_set_len c.args.state.now.waiting + n) many c.in_ok-add_moves.ensures.many) c.remove.ensures.dropped c.remove.ensures.fewer c.set_moves.ensures
+    (subst (λ n. btree_set_len c.add_moves.new.waiting ≤ btree_set_len c.args.state.now.waiting + n) many c.in_ok-add_moves.ensures.many)
+    c.remove.ensures.dropped c.remove.ensures.fewer c.set_moves.ensures

@@ -1,8 +1,8 @@
 use Rattle.std.proofs.Common.{subst}
-use Rattle.search_places.specs.Lines.{item}
-use Rattle.search_places.specs.Order.{waits}
+use Rattle.search_places.specs.NodeLines.{item}
+use Rattle.search_places.specs.ItemOrder.{waits}
 use Rattle.search_worklist.specs.declared.ends.End.TheVariants.{Closed}
-use Rattle.search_worklist.specs.Ends.{EndsSo}
+use Rattle.search_worklist.specs.SearchEnds.{EndsSo}
 use Rattle.search_worklist.specs.States.{lines}
 use Rattle.search_worklist.specs.View.{machines_in}
 use Rattle.search_worklist.proofs.Least.{none_waits}
@@ -12,4 +12,5 @@ pub returns-in-None-clause-next : goal.returns-in-None-clause-next
 returns-in-None-clause-next c =
     let m = machines_in c.args.m.now in
     let s = c.turns.state in
-    subst (λ T. EndsSo m T Closed) c.turns.invariant.same (none_waits m (lines s) (waits s.waiting) c.turns.invariant.ready.waiting (λ j q. c.in-None.ensures.none (item j q)), c.turns.invariant.made.agrees)
+    subst (λ T. EndsSo m T Closed) c.turns.invariant.same
+    (none_waits m (lines s) (waits s.waiting) c.turns.invariant.ready.waiting (λ j q. c.in-None.ensures.none (item j q)), c.turns.invariant.made.agrees)

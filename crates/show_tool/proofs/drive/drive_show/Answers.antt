@@ -1,5 +1,5 @@
 use Rattle.std.proofs.Common.{refl}
-use Rattle.show_tool.specs.Shows.{Starves}
+use Rattle.show_tool.specs.ViewCalls.{Starves}
 use Rattle.show_tool.proofs.drive.drive_show.Goals as goal
 
 pub returns-in-Err-clause-outcome : goal.returns-in-Err-clause-outcome

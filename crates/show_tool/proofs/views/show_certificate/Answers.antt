@@ -1,9 +1,10 @@
 use Rattle.std.proofs.Common.{rules, Some}
-use Rattle.command_words.specs.Words.{asked}
-use Rattle.command_answers.specs.Refusing.{WhereAnswered}
+use Rattle.fsmd_words.specs.AskedWords.{asked}
+use Rattle.fsmd_answers.specs.Refusing.{WhereAnswered}
 use Rattle.fsmd_tool.specs.Calls.{call, IsCorrectFrom}
-use Rattle.command_answers.specs.Follows.{Ends, OpensPair, OpensCertificate}
+use Rattle.fsmd_answers.specs.Follows.{Ends, OpensPair, OpensCertificate}
 use Rattle.fsmd_tool.proofs.FromFiles.{pair_refused, pair_spelled}
+use Rattle.fsmd_tool.proofs.InOrder.{correct_of}
 use Rattle.fsmd_tool.proofs.Later.{answers_since}
 use Rattle.show_tool.specs.Views.{IsOfCertificate}
 use Rattle.show_tool.proofs.views.show_certificate.Goals as goal
@@ -12,7 +13,7 @@ pub returns-in_err-left-clause-answers : goal.returns-in_err-left-clause-answers
 returns-in_err-left-clause-answers g c =
     let h : WhereAnswered (IsCorrectFrom (OpensPair (λ a b. OpensCertificate a b (λ nodes. Ends (IsOfCertificate a b nodes)))) 0
     (call (Some (asked c.args.ask.now)) (g.F.Files.told c.args.files.now) (g.F.Files.told c.load_pair.new.files))) c.in_err-left.field-0.0 =
-    pair_refused (λ a b. OpensCertificate a b (λ nodes. Ends (IsOfCertificate a b nodes))) _ _ c.in_err-left.ensures.refused in
+    pair_refused (λ a b. OpensCertificate a b (λ nodes. Ends (IsOfCertificate a b nodes))) _ _ (correct_of _ _ _ _ c.in_err-left.ensures.refused) in
     search rules
 
 pub returns-clause-answers : goal.returns-clause-answers

@@ -1,13 +1,13 @@
 use Rattle.std.proofs.Common.{◌≡◌, ◌∙◌, rules, ap, Some}
-use Rattle.command_words.specs.Words.{asked}
-use Rattle.command_answers.specs.Refusing.{WhereAnswered}
+use Rattle.fsmd_words.specs.AskedWords.{asked}
+use Rattle.fsmd_answers.specs.Refusing.{WhereAnswered}
 use Rattle.fsmd_tool.specs.Calls.{call, IsCorrectFrom}
 use Rattle.fs_model.specs.Machines.{Fsmd}
-use Rattle.machine_pictures.specs.Pictures.{picture_of}
-use Rattle.command_answers.specs.declared.answer.Answer.TheVariants.{Text}
-use Rattle.command_answers.specs.Texts.{SpellsMachine}
-use Rattle.command_answers.specs.Refusals.{RefusesMachine}
-use Rattle.command_answers.specs.Follows.{Ends, OpensMachine}
+use Rattle.show_machine_pictures.specs.Pictures.{picture_of}
+use Rattle.fsmd_replies.specs.declared.answer.Answer.TheVariants.{Text}
+use Rattle.fsmd_answers.specs.MachineFiles.{SpellsMachine}
+use Rattle.fsmd_answers.specs.Refusals.{RefusesMachine}
+use Rattle.fsmd_answers.specs.Follows.{Ends, OpensMachine}
 use Rattle.fsmd_tool.proofs.FromFiles.{refused_as, spelled_last}
 use Rattle.show_tool.proofs.views.show_machine.Goals as goal
 

@@ -28,7 +28,8 @@ returns-clause-none c = λ _.
     let line = c.in_ok-command.ensures in
     let no_memory_left : kind_of c.in-Err.error ≡ OutOfMemory → ⊥ = search rules in
     refused_asks words (λ taken.
-    elim (subst (λ (kinds : Kinds). HasKind kinds c.in-Err.error) (ap (λ (a : App). fault_of a words) line ∙ taken) (c.in-Err.ensures.kinds (ap is_simple_and_free line))) [
+    elim (subst (λ (kinds : Kinds). HasKind kinds c.in-Err.error) (ap (λ (a : App). fault_of a words) line ∙ taken)
+    (c.in-Err.ensures.kinds (ap is_simple_and_free line))) [
       | inl memory ↦ no_memory_left memory
       | inr among ↦ among
     ])

@@ -9,5 +9,6 @@ abbrev pub invariant-loop-position : goal.invariant-loop-position
 invariant-loop-position l = record {
   vector : l.s.vector ≡ l.initial.s.vector;
   many : length l.out.items ≡ l.position-index;
-  rest : followed l.out.items (each (λ p. equation_met l.v p.pos p.equation) (map position_in (drop l.position-index l.positions))) ≡ each (λ p. equation_met l.v p.pos p.equation) (map position_in l.positions);
+  rest : followed l.out.items (each (λ p. equation_met l.v p.pos p.equation) (map position_in (drop l.position-index l.positions)))
+      ≡ each (λ p. equation_met l.v p.pos p.equation) (map position_in l.positions);
 }

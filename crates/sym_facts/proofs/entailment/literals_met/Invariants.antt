@@ -10,5 +10,6 @@ abbrev pub invariant-loop-literal : goal.invariant-loop-literal
 invariant-loop-literal l = record {
   vector : l.s.vector ≡ l.initial.s.vector;
   many : length l.out.items ≡ l.literal-index;
-  rest : followed l.out.items (each (λ x. literal_met (post_in l.post) x) (map literal_in (drop l.literal-index l.literals))) ≡ each (λ x. literal_met (post_in l.post) x) (map literal_in l.literals);
+  rest : followed l.out.items (each (λ x. literal_met (post_in l.post) x) (map literal_in (drop l.literal-index l.literals)))
+      ≡ each (λ x. literal_met (post_in l.post) x) (map literal_in l.literals);
 }

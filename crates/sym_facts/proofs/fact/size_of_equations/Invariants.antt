@@ -1,5 +1,5 @@
-use Rattle.std.proofs.Common.{◌≡◌, ◌≤◌, ◌+◌, ◌*◌, map, take, drop}
-use Rattle.nf_terms.specs.Limits.{size_limit}
+use Rattle.std.proofs.Common.{◌≡◌, ◌≤◌, ◌+◌, ◌*◌, map, drop}
+use Rattle.nf_terms.specs.TermLimits.{size_limit}
 use Rattle.sym_facts.specs.Facts.{size_of_equations}
 use Rattle.sym_facts.specs.View.{position_in}
 use Rattle.sym_facts.proofs.fact.size_of_equations.Given as goal

@@ -5,4 +5,5 @@ use Rattle.sym_facts.proofs.parts.add_equations.Given as goal
 
 abbrev pub invariant-loop-position : goal.invariant-loop-position
 invariant-loop-position l =
-    with_symbols (set_in l.mentioned) (symbols_of_equations (map position_in (drop l.position-index l.positions))) ≡ with_symbols (set_in l.initial.mentioned) (symbols_of_equations (map position_in l.positions))
+    with_symbols (set_in l.mentioned) (symbols_of_equations (map position_in (drop l.position-index l.positions)))
+    ≡ with_symbols (set_in l.initial.mentioned) (symbols_of_equations (map position_in l.positions))

@@ -6,4 +6,5 @@ use Rattle.sym_facts.proofs.parts.add_literals.Given as goal
 
 abbrev pub invariant-loop-literal : goal.invariant-loop-literal
 invariant-loop-literal l =
-    with_symbols (set_in l.mentioned) (symbols_of_literals (map literal_in (drop l.literal-index l.literals))) ≡ with_symbols (set_in l.initial.mentioned) (symbols_of_literals (map literal_in l.literals))
+    with_symbols (set_in l.mentioned) (symbols_of_literals (map literal_in (drop l.literal-index l.literals)))
+    ≡ with_symbols (set_in l.initial.mentioned) (symbols_of_literals (map literal_in l.literals))

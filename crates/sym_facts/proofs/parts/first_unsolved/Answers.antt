@@ -9,4 +9,5 @@ use Rattle.sym_facts.proofs.parts.first_unsolved.Goals as goal
 pub returns : goal.returns
 returns c =
     let qs = map position_in c.args.positions.now in
-    c.first_unsolved_in.ensures ∙ ap (λ s. position_from (is_unsolved_in s) 0 qs) c.in_ok-mentioned.ensures ∙ first_is (record { positions = qs; literals = map literal_in c.args.literals.now })
+    c.first_unsolved_in.ensures ∙ ap (λ s. position_from (is_unsolved_in s) 0 qs) c.in_ok-mentioned.ensures
+    ∙ first_is (record { positions = qs; literals = map literal_in c.args.literals.now })

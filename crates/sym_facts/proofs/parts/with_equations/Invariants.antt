@@ -1,6 +1,6 @@
 use Rattle.std.proofs.Common.{◌≡◌, ◌++◌, length, drop, map}
 use Rattle.std.specs.Vec.Iter.{into_iter_len}
-use Rattle.sym_facts.specs.Parts.{with_equations}
+use Rattle.sym_facts.specs.FactParts.{with_equations}
 use Rattle.sym_facts.specs.View.{position_in}
 use Rattle.sym_facts.proofs.parts.with_equations.Given as goal
 

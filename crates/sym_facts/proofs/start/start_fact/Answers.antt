@@ -1,4 +1,4 @@
-use Rattle.std.proofs.Common.{◌≡◌, map, ap, ◌∙◌}
+use Rattle.std.proofs.Common.{map, ap, ◌∙◌}
 use Rattle.nf_rel.specs.View.{literal_in}
 use Rattle.sym_facts.specs.Starts.{start_position}
 use Rattle.sym_facts.specs.View.{position_in}

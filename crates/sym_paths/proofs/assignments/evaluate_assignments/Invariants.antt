@@ -8,5 +8,6 @@ use Rattle.sym_paths.proofs.assignments.evaluate_assignments.Given as goal
 
 abbrev pub invariant-loop-assignment : goal.invariant-loop-assignment
 invariant-loop-assignment l = record {
-  rest : followed (map change_in l.out.items) (each (λ x. evaluate_assignment l.side l.v x) (map assignment_of (drop l.assignment-index l.assignments))) ≡ each (λ x. evaluate_assignment l.side l.v x) (map assignment_of l.assignments);
+  rest : followed (map change_in l.out.items) (each (λ x. evaluate_assignment l.side l.v x) (map assignment_of (drop l.assignment-index l.assignments)))
+      ≡ each (λ x. evaluate_assignment l.side l.v x) (map assignment_of l.assignments);
 }

@@ -8,5 +8,6 @@ use Rattle.sym_paths.proofs.evaluation.evaluate_literals.Given as goal
 
 abbrev pub invariant-loop-literal : goal.invariant-loop-literal
 invariant-loop-literal l = record {
-  rest : followed (map literal_in l.out.items) (each (λ x. evaluate_literal l.side l.v x) (map literal_of (drop l.literal-index l.literals))) ≡ each (λ x. evaluate_literal l.side l.v x) (map literal_of l.literals);
+  rest : followed (map literal_in l.out.items) (each (λ x. evaluate_literal l.side l.v x) (map literal_of (drop l.literal-index l.literals)))
+      ≡ each (λ x. evaluate_literal l.side l.v x) (map literal_of l.literals);
 }

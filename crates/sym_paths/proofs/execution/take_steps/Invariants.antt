@@ -6,5 +6,6 @@ use Rattle.sym_paths.proofs.execution.take_steps.Given as goal
 
 abbrev pub invariant-loop-state : goal.invariant-loop-state
 invariant-loop-state l = record {
-  rest : steps_over l.m l.side (steps_by l.number (map (λ s. s.0) (drop l.state-index l.path.states.items))) l.v ≡ steps_over l.m l.side (steps_in (path_of l.path)) l.initial.v;
+  rest : steps_over l.m l.side (steps_by l.number (map (λ s. s.0) (drop l.state-index l.path.states.items))) l.v
+      ≡ steps_over l.m l.side (steps_in (path_of l.path)) l.initial.v;
 }

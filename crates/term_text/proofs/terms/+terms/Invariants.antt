@@ -1,6 +1,6 @@
 use Rattle.std.proofs.Common.{◌≡◌, ◌<◌, ◌≤◌, length, map, ◌+◌, ◌*◌}
-use Rattle.term_text.specs.Machine.{ForPolynomial, ForArray, ForMonomial, reading, at_monomial, after_monomial, after_sum, after_array, signed}
-use Rattle.term_text.specs.View.{times_all, written_all, sum_of, atom_in, head_in, term_in, write_in, base_in}
+use Rattle.term_text.specs.Machine.{ForPolynomial, ForArray, ForMonomial, term_reading, at_monomial, after_monomial, after_sum, after_array, first_monomial_for}
+use Rattle.term_text.specs.View.{times_all, written_all, sum_of, written_atom_in, head_in, written_term_in, written_write_in, base_in}
 use Rattle.term_text.proofs.terms.+terms.Given as goal
 
 abbrev pub decreases-atom : goal.decreases-atom
@@ -43,19 +43,25 @@ abbrev pub decreases-remainder : goal.decreases-remainder
 decreases-remainder l = 8 * length l.bytes.now + 7
 
 abbrev pub invariant-factors-loop-rest : goal.invariant-factors-loop-rest
-invariant-factors-loop-rest l = ((k : ForMonomial) → reading l.bytes (at_monomial k) ≡ reading l.rest (after_monomial (times_all (head_in l.head) (map atom_in l.atoms.items)) k)) × (length l.rest < length l.bytes)
+invariant-factors-loop-rest l =
+    ((k : ForMonomial) → term_reading l.bytes (at_monomial k) ≡ term_reading l.rest
+    (after_monomial (times_all (head_in l.head) (map written_atom_in l.atoms.items)) k)) × (length l.rest < length l.bytes)
 
 abbrev pub decreases-factors-loop-rest : goal.decreases-factors-loop-rest
 decreases-factors-loop-rest l = length l.rest
 
 abbrev pub invariant-monomials-loop-rest : goal.invariant-monomials-loop-rest
-invariant-monomials-loop-rest l = ((k : ForPolynomial) → reading l.bytes (at_monomial (signed l.minus k)) ≡ reading l.rest (after_sum (sum_of (map term_in l.monomials.items)) k)) × (length l.rest < length l.bytes) × (0 < length l.monomials.items)
+invariant-monomials-loop-rest l =
+    ((k : ForPolynomial) → term_reading l.bytes (at_monomial (first_monomial_for l.minus k))
+    ≡ term_reading l.rest (after_sum (sum_of (map written_term_in l.monomials.items)) k)) × (length l.rest < length l.bytes) × (0 < length l.monomials.items)
 
 abbrev pub decreases-monomials-loop-rest : goal.decreases-monomials-loop-rest
 decreases-monomials-loop-rest l = length l.rest
 
 abbrev pub invariant-writes-loop-rest : goal.invariant-writes-loop-rest
-invariant-writes-loop-rest l = ((k : ForArray) → reading l.bytes (after_array (base_in l.base) k) ≡ reading l.rest (after_array (written_all (base_in l.base) (map write_in l.writes.items)) k)) × (length l.rest ≤ length l.bytes)
+invariant-writes-loop-rest l =
+    ((k : ForArray) → term_reading l.bytes (after_array (base_in l.base) k)
+    ≡ term_reading l.rest (after_array (written_all (base_in l.base) (map written_write_in l.writes.items)) k)) × (length l.rest ≤ length l.bytes)
 
 abbrev pub decreases-writes-loop-rest : goal.decreases-writes-loop-rest
 decreases-writes-loop-rest l = length l.rest

@@ -3,7 +3,7 @@ use Rattle.std.specs.Prelude.{map}
 use Rattle.fs_model.specs.Machines.{State, transitions_of}
 use Rattle.fs_model.specs.Trees.{branches_of}
 use Rattle.fs_model.specs.View.{branch_of}
-use Rattle.fs_ast.specs.Resolved.{state_of}
+use Rattle.fs_ast.specs.Resolved.{resolved_state}
 use Rattle.fs_ast.proofs.Numbers.{same_at}
 use Rattle.fs_ast.proofs.Kept.{no_state}
 use Rattle.fs_ast.proofs.machine.Machine.branches.Goals as goal
@@ -12,8 +12,9 @@ pub returns-clause-branches : goal.returns-clause-branches
 returns-clause-branches c =
     let m = c.self.inside in
     let q = c.args.s.0 in
-    let states = map state_of m.states.items in
+    let states = map resolved_state m.states.items in
     let low : q < length states = subst (λ x. q < length x.states) (sym c.self.view_is) c.requires in
     ap (map branch_of) c.as_slice.ensures.value
-    ∙ same_at (λ b. map branch_of b.items) (λ (s : State). branches_of s.lines) m.branches.items states c.self.invariant.branched q c.index.result.now no_state low c.index.ensures
+    ∙ same_at (λ b. map branch_of b.items) (λ (s : State). branches_of s.lines) m.branches.items states c.self.invariant.branched q c.index.result.now no_state
+    low c.index.ensures
     ∙ ap (λ x. branches_of (transitions_of x q)) c.self.view_is

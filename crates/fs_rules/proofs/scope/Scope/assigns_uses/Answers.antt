@@ -2,7 +2,7 @@ use Rattle.std.proofs.Common.{◌∙◌, sym, ap, ap₂, take}
 use Rattle.std.specs.Prelude.{map}
 use Rattle.fs_model.specs.View.{named_assignment}
 use Rattle.fs_model.specs.Renamed.{assignment_over}
-use Rattle.fs_rules.specs.Spelled.{place, names_of}
+use Rattle.fs_rules.specs.MachineOfParts.{place, names_of}
 use Rattle.fs_rules.specs.Sound.{scalars_in_assignments, arrays_in_assignments, ports_in_assignments}
 use Rattle.fs_rules.specs.Uses.{uses_of, either_of}
 use Rattle.fs_rules.proofs.Turns.{taken_twice}
@@ -19,4 +19,6 @@ loop-assign-preserved c =
     c.either-uses.ensures
     ∙ ap₂ either_of c.loop-assign.invariant c.assign_uses.ensures
     ∙ uses_push vs (map over (map named_assignment (take i xs))) (over (named_assignment x))
-    ∙ sym (ap (λ l. uses_of vs (scalars_in_assignments l) (arrays_in_assignments l) (ports_in_assignments l)) (taken_twice over named_assignment xs i x c.loop-assign-test.true c.assign-item.is))
+    ∙ sym
+    (ap (λ l. uses_of vs (scalars_in_assignments l) (arrays_in_assignments l) (ports_in_assignments l))
+    (taken_twice over named_assignment xs i x c.loop-assign-test.true c.assign-item.is))

@@ -8,4 +8,5 @@ use Rattle.fs_rules.proofs.scope.Scope.check_states.Goals as goal
 
 pub loop-state-preserved : goal.loop-state-preserved
 loop-state-preserved c =
-    left_flat earliest earliest-append source_state_of (state_faults c.args.self.now.vars.items (names_stated c.args.self.now.states.now)) c.args.states.now c.loop-state.state-index c.state-item.result c.loop-state-test.true c.state-item.is _ _ _ c.in_ok-check_state.ensures c.loop-state.invariant
+    left_flat earliest earliest-append source_state_of (state_faults c.args.self.now.vars.items (names_stated c.args.self.now.states.now)) c.args.states.now
+    c.loop-state.state-index c.state-item.result c.loop-state-test.true c.state-item.is _ _ _ c.in_ok-check_state.ensures c.loop-state.invariant

@@ -1,6 +1,6 @@
 use Rattle.std.proofs.Common.{◌≡◌, ◌++◌}
 use Rattle.std.specs.List.{filter}
-use Rattle.fs_runs.specs.Listing.{is_not_zero}
+use Rattle.fs_runs.specs.EntryLists.{is_not_zero}
 use Rattle.fs_runs.proofs.values.Entries.list.Given as goal
 
 -- what is listed, and what is left to list, are the entries that are not 0

@@ -8,7 +8,8 @@ unreachable-requires c =
     let f : false ≡ true = c.in-None.ensures.found.1 h in cc
 
 pub returns-clause-atom : goal.returns-clause-atom
-returns-clause-atom c = node_there c.self.inside.nodes.keys c.args.self.now c.args.id.0 c.in-Some.node.now c.self.view_is c.self.invariant (sym c.in-Some.ensures.key)
+returns-clause-atom c = node_there c.self.inside.nodes.keys c.args.self.now c.args.id.0 c.in-Some.node.now c.self.view_is c.self.invariant
+    (sym c.in-Some.ensures.key)
 
 pub returns-clause-within : goal.returns-clause-within
 returns-clause-within c = node_within c.self.inside.nodes.keys c.args.id.0 c.in-Some.node.now c.self.invariant (sym c.in-Some.ensures.key)

@@ -6,8 +6,11 @@ use Rattle.nf_refutation.specs.BoundTables.{has_number}
 use Rattle.nf_refutation.proofs.bound_table.BoundTable.leaves_out.Goals as goal
 
 pub returns-then-not-has_number : goal.returns-then-not-has_number
-returns-then-not-has_number c =
-    (λ e. absurd (cc e), λ f. sym c.if-not-has_number.true ∙ c.has_number.ensures ∙ f (to_z w128 c.loop-number.number-bits) c.loop-number.invariant.above c.loop-number.invariant.below)
+returns-then-not-has_number c = (
+  λ e. absurd (cc e),
+  λ f. sym c.if-not-has_number.true ∙ c.has_number.ensures
+      ∙ f (to_z w128 c.loop-number.number-bits) c.loop-number.invariant.above c.loop-number.invariant.below,
+)
 
 pub loop-number-preserved : goal.loop-number-preserved
 loop-number-preserved c =
@@ -19,5 +22,6 @@ loop-number-preserved c =
     record {
       above = omega (arith, ints, e, above);
       below = omega (arith, ints, e, test);
-      all = walked (λ v. has_number c.args.self.now.left_out c.args.dir.now v) true c.args.low.now n (to_z w128 (of_z w128 (n +ℤ pos 1))) e c.loop-number.invariant.all (sym c.has_number.ensures ∙ c.if-not-has_number.false);
+      all = walked (λ v. has_number c.args.self.now.left_out c.args.dir.now v) true c.args.low.now n
+          (to_z w128 (of_z w128 (n +ℤ pos 1))) e c.loop-number.invariant.all (sym c.has_number.ensures ∙ c.if-not-has_number.false);
     }

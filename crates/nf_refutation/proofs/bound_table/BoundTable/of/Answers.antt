@@ -10,7 +10,8 @@ pub loop-literal-preserved : goal.loop-literal-preserved
 loop-literal-preserved c =
     let i = c.loop-literal.literal-index in
     let list = c.args.list.now in
-    gathers_more c.loop-literal.table c.add_literal.new.self (literal_in c.literal-item.result) (map literal_in (drop (i + 1) list)) (map literal_in (drop i list)) (map literal_in list)
+    gathers_more c.loop-literal.table c.add_literal.new.self (literal_in c.literal-item.result) (map literal_in (drop (i + 1) list))
+    (map literal_in (drop i list)) (map literal_in list)
     c.in_ok-add_literal.ensures (one_more list i c.literal-item.result c.loop-literal-test.true c.literal-item.is) c.loop-literal.invariant
 
 pub returns : goal.returns

@@ -1,6 +1,0 @@
-use Rattle.bisimulation.specs.Tests.{Tests, AllTrue}
-use Rattle.bisimulation.proofs.Nodes.{same_behaviour}
-use Rattle.bisimulation.proofs.laws.nodes_lead_runs.Goals as goal
-
-pub returns : goal.returns
-returns c = same_behaviour Tests AllTrue

@@ -1,0 +1,16 @@
+//! The method of nodes: a table of nodes, whose facts lead from node to node, shows that two machines
+//! have the same behaviour. What facts are is left open.
+//!
+//! Promises: machines for which a table of nodes leads on have the same behaviour, whatever facts are.
+//!
+//! Rules: `specs/Tables`, `src/laws`.
+//!
+//! Words:
+//! - mode: which machines move from a node
+//! - node (of a table): a pair of points with a fact, a mode and a rank
+//! - rank (of a node): a bound on the moves of one machine alone
+//! - table (of nodes): nodes whose facts lead from node to node
+#![tactic(auto)]
+
+pub mod laws;
+pub mod mode;

@@ -1,0 +1,137 @@
+-- Lists of values that grow at their end, and what is kept of them.
+use Rattle.std.proofs.Common.{◌≡◌, ℕ, zero, suc, ◌<◌, ◌≤◌, List, [], ◌∷◌, ◌++◌, length, Bool, true, false, ◌&&◌, ◌||◌, nat_lt, Option, Some, None, Ordering}
+use Rattle.std.proofs.Common.{Less, Equal, Greater, nat_cmp, refl, sym, ap, ◌∙◌, arith}
+use Rattle.std.specs.Prelude.{is_some}
+use Rattle.std.specs.Cmp.Lexicographic.{slice_cmp}
+use Rattle.std.specs.Ordering.{match_ordering}
+use Rattle.std.proofs.lemmas.Bool.{and_parts, ltb-true, ltb-false, lt-ltb, le-ltb, false≢true}
+use Rattle.base_lemmas.proofs.Booleans.{and_true}
+use Rattle.json.specs.Token.{Token}
+use Rattle.json.specs.Json.{parse_map}
+use Rattle.serde_json.specs.Data.{Data, Items, no_items, item, Members, no_members, member, put}
+use Rattle.serde_json.specs.Events.{items_len}
+use Rattle.serde_json.specs.Find.{as_str}
+use Rattle.serde_json.specs.View.{view, items_view}
+use Rattle.serde_json.specs.declared.value.Value.{Value}
+use Rattle.serde_json.proofs.Views.{items_len-items_view}
+use Rattle.cert_json.specs.Shape.{are_texts, is_node, are_nodes}
+use Rattle.cert_json.specs.Trim.{first_items, short_items, trim, trim_items, trim_members}
+use Rattle.cert_json.specs.Lists.{join_items, add_item, add_below, most_items}
+use Rattle.cert_json.proofs.TrimLaws.{node_no_text}
+
+-- ---- lists that grow
+
+pub join-no_items : (ds : Items) → join_items ds no_items ≡ ds
+join-no_items no_items = refl
+join-no_items (item d ds) = ap (item d) (join-no_items ds)
+
+join-add_item : (ds : Items) (d : Data) (rest : Items) → join_items ds (item d rest) ≡ join_items (add_item ds d) rest
+join-add_item no_items d rest = refl
+join-add_item (item e ds) d rest = ap (item e) (join-add_item ds d rest)
+
+pub none_before : (r : Option (Items × List Token)) → r ≡ parse_map (join_items no_items) r
+none_before None = refl
+none_before (Some p) = refl
+
+pub one_more_item : (ds : Items) (d : Data) (r : Option (Items × List Token))
+    → parse_map (join_items ds) (parse_map (item d) r) ≡ parse_map (join_items (add_item ds d)) r
+one_more_item ds d None = refl
+one_more_item ds d (Some p) = ap (λ es. Some (es, p.1)) (join-add_item ds d p.0)
+
+pub items_view-push : (vs : List Value) (v : Value) → items_view (vs ++ v ∷ []) ≡ add_item (items_view vs) (view v)
+items_view-push [] v = refl
+items_view-push (w ∷ vs) v = ap (item (view w)) (items_view-push vs v)
+
+pub trim-add_item : (ds : Items) (d : Data) → trim_items (add_item ds d) ≡ add_item (trim_items ds) (trim d)
+trim-add_item no_items d = refl
+trim-add_item (item e ds) d = ap (item (trim e)) (trim-add_item ds d)
+
+trim-choice : (o : Ordering) (a b c : Members) → trim_members (match_ordering o a b c) ≡ match_ordering o (trim_members a) (trim_members b) (trim_members c)
+trim-choice Less a b c = refl
+trim-choice Equal a b c = refl
+trim-choice Greater a b c = refl
+
+pub trim-put : (k : List ℕ) (d : Data) (ms : Members) → trim_members (put k d ms) ≡ put k (trim d) (trim_members ms)
+trim-put k d no_members = refl
+trim-put k d (member l e ms) = trim-choice (slice_cmp nat_cmp k l) (member k d (member l e ms)) (member l d ms) (member l e (put k d ms)) ∙ rw (trim-put k d ms)
+
+-- ---- texts and nodes behind others
+
+and_swap : (a b c : Bool) → (a && (b && c)) ≡ ((a && b) && c)
+and_swap true b c = refl
+and_swap false b c = refl
+
+are_texts-add_item : (ds : Items) (d : Data) → are_texts (add_item ds d) ≡ (are_texts ds && is_some (as_str d))
+are_texts-add_item no_items d = and_true (is_some (as_str d))
+are_texts-add_item (item e ds) d = ap (λ b. is_some (as_str e) && b) (are_texts-add_item ds d)
+    ∙ and_swap (is_some (as_str e)) (are_texts ds) (is_some (as_str d))
+
+are_nodes-add_item : (ds : Items) (d : Data) → are_nodes (add_item ds d) ≡ (are_nodes ds && is_node d)
+are_nodes-add_item no_items d = and_true (is_node d)
+are_nodes-add_item (item e ds) d = ap (λ b. is_node e && b) (are_nodes-add_item ds d) ∙ and_swap (is_node e) (are_nodes ds) (is_node d)
+
+-- ---- the first items of a list that grows
+
+below_next : (n : ℕ) (e : Data) (ds : Items) (d : Data) (b : Bool) → nat_lt (items_len ds) n ≡ b → item e (add_below n ds d) ≡ add_below (suc n) (item e ds) d
+below_next n e ds d true h = let more : nat_lt (items_len (item e ds)) (suc n) ≡ true =
+    lt-ltb (items_len (item e ds)) (suc n) (omega (arith, ltb-true (items_len ds) n h)) in rw (h, more)
+below_next n e ds d false h = let more : nat_lt (items_len (item e ds)) (suc n) ≡ false =
+    le-ltb (items_len (item e ds)) (suc n) (omega (arith, ltb-false (items_len ds) n h)) in rw (h, more)
+
+none_first : (n : ℕ) → first_items n no_items ≡ no_items
+none_first zero = refl
+none_first (suc n) = refl
+
+first-add_item : (n : ℕ) (ds : Items) (d : Data) → first_items n (add_item ds d) ≡ add_below n (first_items n ds) d
+first-add_item zero ds d = refl
+first-add_item (suc n) no_items d = let some : nat_lt 0 (suc n) ≡ true = lt-ltb 0 (suc n) (omega arith) in rw some (ap (item d) (none_first n))
+first-add_item (suc n) (item e ds) d = ap (item e) (first-add_item n ds d) ∙ below_next n e (first_items n ds) d (nat_lt (items_len (first_items n ds)) n) refl
+
+none_are : (ds : Items) → are_texts ds ≡ true → are_nodes ds ≡ true → ds ≡ no_items
+none_are no_items e f = refl
+none_are (item d ds) e f =
+    let text = and_parts (is_some (as_str d)) (are_texts ds) e in
+    let node = and_parts (is_node d) (are_nodes ds) f in
+    absurd (false≢true (ap is_some (sym (node_no_text d node.0)) ∙ text.0))
+
+-- what is kept of one item more
+kept_texts : (ds : Items) (d : Data) → are_texts ds ≡ true → are_texts (add_item ds d) ≡ true → add_below 65 (short_items ds) d ≡ short_items (add_item ds d)
+kept_texts ds d e f = rw (e, f) (sym (first-add_item 65 ds d))
+
+kept_nodes : (ds : Items) (d : Data) (b : Bool) → are_texts ds ≡ b → are_texts (add_item ds d) ≡ false → are_nodes ds ≡ true → are_nodes (add_item ds d) ≡ true
+    → add_below 4097 (short_items ds) d ≡ short_items (add_item ds d)
+kept_nodes ds d false e f g h = rw (e, f, g, h) (sym (first-add_item 4097 ds d))
+kept_nodes ds d true e f g h = let none = none_are ds e g in rw (f, h, none) (sym (first-add_item 4097 no_items d))
+
+kept_at : (ds : Items) (d : Data) (texts nodes : Bool) → are_texts (add_item ds d) ≡ texts → are_nodes (add_item ds d) ≡ nodes → (texts || nodes) ≡ true
+    → add_below (most_items texts) (short_items ds) d ≡ short_items (add_item ds d)
+kept_at ds d true nodes e f some = kept_texts ds d (and_parts (are_texts ds) (is_some (as_str d)) (sym (are_texts-add_item ds d) ∙ e)).0 e
+kept_at ds d false true e f some = kept_nodes ds d (are_texts ds) refl e (and_parts (are_nodes ds) (is_node d) (sym (are_nodes-add_item ds d) ∙ f)).0 f
+kept_at ds d false false e f some = absurd (cc some)
+
+pub texts_on : (ds : Items) (d : Data) (old new : Bool) → old ≡ are_texts ds → new ≡ (old && is_some (as_str d)) → new ≡ are_texts (add_item ds d)
+texts_on ds d old new e f = f ∙ ap (λ b. b && is_some (as_str d)) e ∙ sym (are_texts-add_item ds d)
+
+pub nodes_on : (ds : Items) (d : Data) (old new : Bool) → old ≡ are_nodes ds → new ≡ (old && is_node d) → new ≡ are_nodes (add_item ds d)
+nodes_on ds d old new e f = f ∙ ap (λ b. b && is_node d) e ∙ sym (are_nodes-add_item ds d)
+
+-- one item more is kept
+pub kept_below : (ds : Items) (d : Data) (texts nodes : Bool) (before after : Items) → texts ≡ are_texts (add_item ds d) → nodes ≡ are_nodes (add_item ds d)
+    → (texts || nodes) ≡ true → before ≡ short_items ds
+    → after ≡ add_below (most_items texts) before d → after ≡ short_items (add_item ds d)
+kept_below ds d texts nodes before after e f some is more = more ∙ ap (λ es. add_below (most_items texts) es d) is
+    ∙ kept_at ds d texts nodes (sym e) (sym f) some
+
+-- nothing is kept
+pub none_kept : (ds : Items) (texts nodes : Bool) → texts ≡ are_texts ds → nodes ≡ are_nodes ds → (texts || nodes) ≡ false → no_items ≡ short_items ds
+none_kept ds true nodes e f none = absurd (cc none)
+none_kept ds false true e f none = absurd (cc none)
+none_kept ds false false e f none = rw (← e, ← f)
+
+-- ---- a value behind others
+
+pub more_below : (vs : List Value) (v : Value) (most : ℕ) → length vs < most → items_view (vs ++ v ∷ []) ≡ add_below most (items_view vs) (view v)
+more_below vs v most h = items_view-push vs v ∙ rw (lt-ltb (items_len (items_view vs)) most (omega (arith, items_len-items_view vs, h)))
+
+pub none_below : (vs : List Value) (v : Value) (most : ℕ) → most ≤ length vs → items_view vs ≡ add_below most (items_view vs) (view v)
+none_below vs v most h = rw (le-ltb (items_len (items_view vs)) most (omega (arith, items_len-items_view vs, h)))

@@ -1,0 +1,31 @@
+-- Lists of values that grow at their end.
+use Rattle.std.specs.Prelude.{◌≡◌, ℕ, Bool, true, false, nat_lt, if◌then◌else◌}
+use Rattle.serde_json.specs.Data.{Data, Items, no_items, item}
+use Rattle.serde_json.specs.Events.{items_len}
+use Rattle.serde_json.specs.View.{items_view}
+use Rattle.cert_json.specs.Shape.{are_texts, are_nodes}
+use Rattle.cert_json.specs.Trim.{short_items}
+use Rattle.cert_json.specs.declared.short_list.ShortList.{ShortList}
+
+-- items with further ones behind them
+abbrev pub join_items : Items → Items → Items
+join_items no_items rest = rest
+join_items (item d ds) rest = item d (join_items ds rest)
+
+abbrev pub add_item : Items → Data → Items
+add_item ds d = join_items ds (item d no_items)
+
+-- one item more, where there are fewer than so many
+abbrev pub add_below : ℕ → Items → Data → Items
+add_below most ds d = if nat_lt (items_len ds) most then add_item ds d else ds
+
+-- how many items are kept of a list
+abbrev pub most_items : Bool → ℕ
+most_items true = 65
+most_items false = 4097
+
+-- what is kept of these items
+pub record IsShort (ds : Items) (l : ShortList) : Type 0 where
+  pub texts : l.all_texts ≡ are_texts ds
+  pub nodes : l.all_nodes ≡ are_nodes ds
+  pub items : items_view l.items.items ≡ short_items ds

@@ -1,0 +1,5 @@
+pub mod Obligations
+pub mod Lawful
+pub mod View
+pub mod Kept
+pub mod Sizes

@@ -1,0 +1,20 @@
+//! Certificates of the same behaviour as data, what each owes, the law that they show it, and what their types promise: facts
+//! whose equations and literals are in normal form.
+//!
+//! Promises: what a certificate owes, by number; where all holds, the machines have the same behaviour; the facts of
+//! each certificate are in normal form.
+//!
+//! Rules: `specs/Obligations`, `specs/Lawful`, `src/laws`, `specs/Kept`.
+//!
+//! Words:
+//! - certificate: nodes at pairs of points that show the same behaviour
+//! - lawful (of a certificate): at most 4,096 nodes at different pairs of points, with ranks of at most 4,096 and facts
+//!   of the pairing
+//! - obligation: what a certificate owes, by number
+//! - verdict: what a checker says of a certificate
+#![tactic(auto)]
+
+pub mod cert;
+pub mod kept;
+pub mod laws;
+pub mod reason;

@@ -1,3 +1,0 @@
-pub mod Obligations
-pub mod Lawful
-pub mod View

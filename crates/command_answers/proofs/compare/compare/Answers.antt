@@ -1,5 +1,0 @@
-use Rattle.command_answers.proofs.Maps.{ok_map}
-use Rattle.command_answers.proofs.compare.compare.Goals as goal
-
-pub returns-in-Ok-Equivalent : goal.returns-in-Ok-Equivalent
-returns-in-Ok-Equivalent c = ok_map _ _ (λ x h. h c.args.steps) c.equivalent.result c.equivalent.ensures

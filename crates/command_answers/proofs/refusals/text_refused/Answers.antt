@@ -1,5 +1,0 @@
-use Rattle.std.proofs.Common.{rules, sym}
-use Rattle.command_answers.proofs.refusals.text_refused.Goals as goal
-
-pub returns : goal.returns
-returns c = rw (sym c.kind_name-kind.ensures) (search rules)

@@ -1,6 +1,0 @@
-pub mod Reached
-pub mod Sound
-pub mod Beginning
-pub mod Complete
-pub mod Exact
-pub mod Called

@@ -1,3 +1,0 @@
-pub mod Operators
-pub mod Inside
-pub mod Hosts

@@ -1,0 +1,3 @@
+pub mod TermOperators
+pub mod Inside
+pub mod Hosts

@@ -1,0 +1,58 @@
+//! Copies of states and declarations.
+
+ghost use Rattle.std.specs.Prelude.{◌≡◌, map, IfOk};
+ghost use Rattle.fs_model.specs.View.{source_transition_of, source_state_of, declaration_of};
+
+use crate::assignment_copies::{copied_assignments, copied_condition};
+use crate::name::NoMemory;
+use crate::parts::{Decl, RawLine, RawState};
+use std::alloc::Global;
+
+/// A copy of a transition.
+pub fn copied_line(alloc: Global, line: &RawLine) -> Result<RawLine, NoMemory>
+    ensures { IfOk result (λ l. source_transition_of l ≡ source_transition_of line.now) }
+{
+    let guard = copied_condition(alloc, &line.guard)?;
+    let assigns = copied_assignments(alloc, &line.assigns)?;
+    Ok(RawLine {
+        line: line.line,
+        guard,
+        target: line.target.try_clone(alloc)?,
+        assigns,
+    })
+}
+
+/// Copies of transitions.
+pub fn copied_lines(alloc: Global, lines: &[RawLine]) -> Result<Vec<RawLine>, NoMemory>
+    ensures { IfOk result (λ out. map source_transition_of out.items ≡ map source_transition_of lines.now) }
+{
+    let mut out = Vec::new(alloc);
+    for line in lines {
+        out.push(copied_line(alloc, line)?)?;
+    }
+    Ok(out)
+}
+
+/// A copy of a state.
+pub fn copied_state(alloc: Global, state: &RawState) -> Result<RawState, NoMemory>
+    ensures { IfOk result (λ s. source_state_of s ≡ source_state_of state.now) }
+{
+    let name = state.name.try_clone(alloc)?;
+    let lines = copied_lines(alloc, &state.lines)?;
+    Ok(RawState {
+        line: state.line,
+        name,
+        lines,
+    })
+}
+
+/// Copies of declarations.
+pub fn copied_declarations(alloc: Global, decls: &[Decl]) -> Result<Vec<Decl>, NoMemory>
+    ensures { IfOk result (λ out. map declaration_of out.items ≡ map declaration_of decls.now) }
+{
+    let mut out = Vec::new(alloc);
+    for decl in decls {
+        out.push(decl.try_clone(alloc)?)?;
+    }
+    Ok(out)
+}

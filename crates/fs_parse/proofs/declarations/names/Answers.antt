@@ -1,9 +1,0 @@
-use Rattle.fs_grammar.specs.Grammar.{reading, with_names}
-use Rattle.declaration_text.specs.Declaring.{at_name}
-use Rattle.declaration_text.proofs.Hosted.{carried_whole}
-use Rattle.fs_parse.proofs.Declared.{placed, behind, hosts}
-use Rattle.fs_parse.proofs.declarations.names.Goals as goal
-
-pub returns-clause-goes : goal.returns-clause-goes
-returns-clause-goes c =
-    λ f ds d. carried_whole reading (placed f ds) (behind f ds) (hosts f ds) c.names.result c.args.tokens.now (at_name d) (λ x. (with_names d x.0.items, x.1.now)) (c.names.ensures.goes d)

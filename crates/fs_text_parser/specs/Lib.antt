@@ -1,0 +1,2 @@
+pub mod DeclarationStarts
+pub mod Destinations

@@ -1,0 +1,91 @@
+//! Further candidates.
+
+use crate::first::first_found;
+use fs_runs::values::Value;
+use fs_text_machines::reading::machine;
+use fs_trials::candidates::Candidates;
+use std::alloc::Global;
+use std::test::Fail;
+
+// The pool of two of these has 10 numbers, so that further candidates come from number 100 on. Further numbers are 0 to 10,
+// 12, 16, -1, -2, -3, -5, 99, 100 and 101.
+const CONSTANTS: &str = "fsmd 1; input a, b; input array m; output y; reset s0;
+state s0: when a > 100 goto s0: y = b + 7; goto s0: y = m[a];";
+
+// After n turns y is the n-th power of two.
+const POWERS: &str = "fsmd 1; input n; local i, r; output y; reset s0;
+state s0: goto s1: i = 0, r = 1;
+state s1: when i < n goto s1: i = i + 1, r = r + r; goto s0: y = r;";
+
+// After n turns y is the number of regions into which lines between n + 1 points of a circle divide it: 1, 2, 4, 8, 16, 31 ..
+const REGIONS: &str = "fsmd 1; input n; local i, r, d, e, f; output y; reset q0;
+state q0: goto q1: i = 0, r = 1, d = 1, e = 1, f = 1;
+state q1: when i < n goto q1: i = i + 1, r = r + d, d = d + e, e = e + f, f = f + 1; goto q0: y = r;";
+
+// What further candidate j gives index i of input k of a machine. A number has index 0 alone.
+fn given(alloc: Global, text: &str, j: u64, k: u32, i: i128) -> Result<Option<i128>, Fail> {
+    let m = machine(alloc, text)?;
+    let Ok(candidates) = Candidates::of(alloc, &m, &m) else {
+        return Err("no memory".into());
+    };
+    if j >= 256 {
+        return Ok(None);
+    }
+    let number = candidates.count() - 256 + j;
+    let Ok(inputs) = candidates.inputs(alloc, number, &m) else {
+        return Err("no memory".into());
+    };
+    if inputs.sort(k).is_none() {
+        return Ok(None);
+    }
+    match inputs.get(k) {
+        Value::Num(n) => Ok(Some(*n)),
+        Value::Arr(entries) => Ok(Some(entries.get(i))),
+        Value::List(_) => Ok(None),
+    }
+}
+
+// The first, one in the middle and the last, each at two scalars and at places of an array.
+#[test]
+fn numbers_of_further_candidates(rt: HostRuntime) -> Result<(), Fail> {
+    let alloc = rt.alloc();
+    for (j, k, i, number) in [
+        (0, 0, 0, 99),
+        (0, 1, 0, 8),
+        (0, 2, 0, 101),
+        (0, 2, 1, 4),
+        (0, 2, 31, -2),
+        (0, 2, 32, 0),
+        (0, 2, -1, 0),
+        (7, 0, 0, 8),
+        (7, 1, 0, 16),
+        (7, 2, 3, 101),
+        (7, 2, 15, 12),
+        (7, 2, 16, 8),
+        (255, 0, 0, -3),
+        (255, 1, 0, 2),
+        (255, 2, 0, 9),
+        (255, 2, 31, 100),
+        (255, 2, 32, 0),
+    ] {
+        assert_eq!(rt;
+            given(alloc, CONSTANTS, j, k, i)?,
+            Some(number),
+            "candidate {j}, input {k}, index {i}"
+        );
+    }
+    Ok(())
+}
+
+// A loop must turn five times before the two differ. The pool is 0, 1, -1 and 2, so its 16 candidates show nothing: the second
+// of the further ones gives 6.
+#[test]
+fn only_a_further_candidate_differs(rt: HostRuntime) -> Result<(), Fail> {
+    let alloc = rt.alloc();
+    let (left, right) = (machine(alloc, POWERS)?, machine(alloc, REGIONS)?);
+    let found = first_found(alloc, &left, &right)?.ok_or("none differs")?;
+    assert_eq!(rt; found.j, 17);
+    assert!(rt; found.inputs.sort(0).is_some());
+    assert!(rt; matches!(found.inputs.get(0), Value::Num(6)));
+    Ok(())
+}

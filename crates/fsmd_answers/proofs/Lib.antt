@@ -1,0 +1,9 @@
+pub mod ByBytes
+pub mod Ends
+pub mod LinkAnswers
+pub mod Loops
+pub mod Maps
+pub mod Pairs
+pub mod Ports
+pub mod ProgramAnswers
+pub mod SmallAnswers

@@ -1,0 +1,19 @@
+-- What the bytes of a file give, or why no answer was found.
+use Rattle.std.specs.Prelude.{◌≡◌, ℕ, List}
+use Rattle.fs_model.specs.Source.{Source}
+use Rattle.fs_model.specs.Machines.{Fsmd}
+use Rattle.fs_ast.specs.BuiltMachine.{machine_of}
+use Rattle.fsmd_replies.specs.declared.answer.Answer.{Answer}
+use Rattle.fsmd_answers.specs.declared.refused.Refused.{Refused as Refusal}
+use Rattle.fsmd_answers.specs.declared.refused.Refused.TheVariants.{Answered, NoMemory}
+use Rattle.fsmd_answers.specs.MachineFiles.{SpellsParts}
+
+-- if there is an answer, then P of it
+abbrev pub WhereAnswered : (Answer → Type 0) → Refusal → Type 0
+WhereAnswered P (Answered answer) = P answer
+WhereAnswered P NoMemory = Unit {0}
+
+-- these parts and this machine are what the bytes spell
+pub record IsLoaded (parts : Source) (m : Fsmd) (bytes : List ℕ) : Type 0 where
+  pub spells : SpellsParts parts bytes
+  pub machine : m ≡ machine_of parts

@@ -1,0 +1,2 @@
+pub mod PairAnswers
+pub mod PairAnswerLaws

@@ -1,0 +1,14 @@
+//! What two machines get.
+
+use cert_model::cert::Cert;
+
+/// What two machines with the same inputs and outputs get.
+#[derive(Drop)]
+pub enum PairAnswer {
+    /// They have the same behaviour: all obligations of the certificate hold.
+    Equivalent { cert: Cert },
+    /// Lines of inputs from which two runs ended with other outputs.
+    Counterexample { lines: Vec<u8> },
+    /// The line of an obstacle.
+    Undecided { lines: Vec<u8> },
+}

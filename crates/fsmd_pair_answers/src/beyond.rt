@@ -1,0 +1,67 @@
+//! Certificates that are found beyond the search, and judged.
+
+ghost use Rattle.std.specs.Prelude.{◌≡◌, None, map, IsTrue, IfOk, MatchOption};
+ghost use Rattle.fs_pair.specs.Interfaces.{interface_fault};
+ghost use Rattle.fs_pair.specs.Positions.{positions};
+ghost use Rattle.sym_facts.specs.Starts.{start_fact};
+ghost use Rattle.cert_model.specs.Lawful.{IsLawful};
+ghost use Rattle.cert_model.specs.Obligations.{Yes, verdict};
+ghost use Rattle.cert_model.specs.View.{node_of};
+ghost use Rattle.search.specs.SearchOutcomes.{machines};
+ghost use Rattle.search_laws.specs.Certificates.{IsCertificate};
+
+use cert_check::verdict::Verdict;
+use cert_check::verify::verify;
+use cert_model::cert::Cert;
+use cert_model::kept::certificates_are_normal;
+use fs_ast::machine::Machine;
+use fs_pair::positions::Pairing;
+use nf_terms::stop::NoMemory;
+use search_strengthening::strengthening::strengthen;
+use std::alloc::Global;
+
+// Whether the checker says yes: all obligations of the certificate hold. The one refusal is out of memory.
+fn passes(
+    alloc: Global,
+    a: &Machine,
+    b: &Machine,
+    p: &Pairing,
+    cert: &Cert,
+) -> Result<bool, NoMemory>
+    requires paired { p.now ≡ positions a.now b.now }
+    requires interface { interface_fault a.now b.now ≡ None }
+    requires lawful { IsLawful a.now b.now (map node_of cert.now.nodes.items) }
+    ensures { IfOk result
+        (λ passes. IsTrue passes → verdict a.now b.now (start_fact (positions a.now b.now))
+        (map node_of cert.now.nodes.items) ≡ Yes) }
+{
+    match verify(alloc, a, b, p, cert)? {
+        Verdict::Yes => Ok(true),
+        Verdict::No { .. } | Verdict::Wide { .. } | Verdict::Large { .. } => Ok(false),
+    }
+}
+
+/// A certificate of two machines by a second search, where the checker says yes to it. The one refusal is out of memory.
+pub fn find_beyond(
+    alloc: Global,
+    a: &Machine,
+    b: &Machine,
+    p: &Pairing,
+) -> Result<Option<Cert>, NoMemory>
+    requires paired { p.now ≡ positions a.now b.now }
+    requires interface { interface_fault a.now b.now ≡ None }
+    ensures { IfOk result
+        (λ found. MatchOption found (Unit {0}) (λ cert. IsCertificate (machines a.now b.now) (map node_of cert.nodes.items))) }
+{
+    let _left = a.vars(); // These two calls tell the proof that both machines are sound.
+    let _right = b.vars();
+    let Some(cert) = strengthen(alloc, a, b, p)? else {
+        return Ok(None);
+    };
+    certificates_are_normal(&cert);
+    if passes(alloc, a, b, p, &cert)? {
+        Ok(Some(cert))
+    } else {
+        Ok(None)
+    }
+}

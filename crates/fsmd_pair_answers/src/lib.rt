@@ -1,0 +1,19 @@
+//! What two machines with the same inputs and outputs get: a certificate that they have the same behaviour, a counterexample, or
+//! what keeps them undecided.
+//!
+//! Promises: `compare`: what two machines get, with the lines that are put.
+//!
+//! Rules: `specs/PairAnswers`, `src/laws`.
+//!
+//! Words:
+//! - counterexample: the first candidate that shows a difference, with both ends
+//! - left open: of a search: a legal list of moves stops where outputs differ, or where one machine moves alone in a
+//!   cycle; else it closes, or a limit stops it
+#![tactic(auto)]
+
+pub mod answer;
+mod beyond;
+mod candidates;
+pub mod compare;
+pub mod laws;
+mod obstacles;

@@ -1,0 +1,19 @@
+//! The words of replies: what each answer puts, and the names of faults, obstacles and reasons.
+//!
+//! Promises: the bytes of each answer, its status, and the words that name the files of a command.
+//!
+//! Rules: `specs/Replies`, `specs/Statuses`, `specs/AskedFiles`, `specs/ObstacleTexts`, `specs/Reasons`.
+//!
+//! Words:
+//! - answer: what a command says to what was read, before it is text
+//! - fault (at a key): what is wrong at the first such key of a file of inputs, unit counts or a binding
+#![tactic(auto)]
+
+pub mod answer;
+pub mod obstacles;
+pub mod reason;
+mod refusals;
+pub mod reply;
+mod texts;
+pub mod variables;
+pub mod words;

@@ -1,0 +1,93 @@
+//! The words that name the files of a command.
+
+ghost use Rattle.std.specs.Prelude.{◌≡◌, ℕ, List, [], length, map, get_or, Some, option_map, string_bytes};
+ghost use Rattle.fsmd_words.specs.AskedWords.{asked};
+ghost use Rattle.fsmd_replies.specs.AskedFiles.{in_chain, file_word_of, cert_of};
+
+use crate::answer::Operand;
+use fsmd_words::asking::Ask;
+
+/// The word that names a file of what is asked, or no text where there is no such file. Takes no memory.
+pub fn word_of(ask: &Ask, file: Operand) -> &str
+    ensures { result.now ≡ file_word_of (Some (asked ask.now)) file }
+{
+    let number = file.0;
+    match ask {
+        Ask::Check { left, right, .. } => word_at(&[left.as_str(), right.as_str()], number),
+        Ask::Verify { left, right, cert } => {
+            word_at(&[left.as_str(), right.as_str(), cert.as_str()], number)
+        }
+        Ask::Run {
+            machine,
+            inputs,
+            ..
+        } => word_at(&[machine.as_str(), inputs.as_str()], number),
+        Ask::Replay {
+            left,
+            right,
+            inputs,
+            ..
+        }
+        | Ask::Shrink {
+            left,
+            right,
+            inputs,
+            ..
+        } => word_at(&[left.as_str(), right.as_str(), inputs.as_str()], number),
+        Ask::Fmt { machine } | Ask::Cuts { machine } => word_at(&[machine.as_str()], number),
+        Ask::Generate { .. } => "",
+        Ask::Compile { program } => word_at(&[program.as_str()], number),
+        Ask::Schedule { machine, units } => word_at(&[machine.as_str(), units.as_str()], number),
+        Ask::Bind { machine, binding } => word_at(&[machine.as_str(), binding.as_str()], number),
+        Ask::Chain { files } => chain_word(files.as_slice(), number),
+    }
+}
+
+// The word of a number, from 0, or no text where there is none.
+fn word_at<'a>(words: &[&'a str], number: u32) -> &'a str
+    ensures { result.now ≡ get_or (map (λ word. word.now) words.now) number [] }
+{
+    match words.get(number as usize) {
+        Some(word) => *word,
+        None => "",
+    }
+}
+
+// The word for a file of a chain, by its number in the order of work, or no text where there is none.
+fn chain_word(words: &[String], number: u32) -> &str
+    ensures { result.now ≡ get_or (in_chain (map string_bytes words.now)) number [] }
+{
+    match words.get(place_in_chain(number as usize, words.len())) {
+        Some(word) => word.as_str(),
+        None => "",
+    }
+}
+
+// The place, among so many words of a chain, of the word for a file by its number in the order of work. Of each link the
+// word for the certificate stands before that for the machine, which is read first.
+fn place_in_chain(number: usize, count: usize) -> usize
+    ensures { (words : List (List ℕ)) → length words ≡ count → get_or words result [] ≡ get_or (in_chain words) number [] }
+{
+    if number == 0 || number >= count {
+        number
+    } else if number % 2 == 0 {
+        number - 1
+    } else if number + 1 < count {
+        number + 1
+    } else {
+        number
+    }
+}
+
+/// The word that names the file for a certificate, if there is one. Takes no memory.
+pub fn cert_word(ask: &Ask) -> Option<&str>
+    ensures { option_map (λ word. word.now) result ≡ cert_of (Some (asked ask.now)) }
+{
+    match ask {
+        Ask::Check {
+            cert: Some(word),
+            ..
+        } => Some(word.as_str()),
+        _ => None,
+    }
+}

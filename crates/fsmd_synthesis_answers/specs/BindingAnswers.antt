@@ -1,0 +1,49 @@
+-- What a machine gets by a binding of its locals to registers.
+use Rattle.std.specs.Prelude.{◌≡◌, ℕ, Bool, List, ◌++◌, cond, codes, decimal}
+use Rattle.fs_model.specs.Machines.{Fsmd}
+use Rattle.fs_model.specs.Source.{Source}
+use Rattle.fs_rules.specs.MachineOfParts.{machine_of}
+use Rattle.fs_rules.specs.Rules.{BreaksNoRule}
+use Rattle.fs_ast.specs.StoredBranches.{state_name_of}
+use Rattle.fs_text_laws.specs.MachineTexts.{TextSpells}
+use Rattle.fs_write.specs.Canonical.{canonical}
+use Rattle.hls_binding_laws.specs.Conflicts.{Conflict, IsFirstConflict}
+use Rattle.hls_bind.specs.Results.{IsYes}
+use Rattle.fsmd_synthesis_answers.specs.declared.bindings.BindingAnswer.{BindingAnswer}
+use Rattle.fsmd_synthesis_answers.specs.declared.bindings.BindingAnswer.TheVariants.{Bound, Lost}
+use Rattle.fsmd_replies.specs.Variables.{variable_name}
+
+-- locals by their numbers, each with the name of its register
+abbrev pub Binding : Type 0
+Binding = List (ℕ × List ℕ)
+
+-- the line of a branch that loses a local by writing another, or writes both
+abbrev pub conflict_text : Fsmd → Conflict → Bool → List ℕ
+conflict_text m c twice =
+    codes "no: "
+    ++ (state_name_of m c.state ++ (codes "." ++ (decimal c.branch ++ (codes " writes " ++ (variable_name m.variables c.written
+    ++ (cond twice (codes " and ") (codes " over ") ++ (variable_name m.variables c.other ++ codes "\n")))))))
+
+-- no branch loses a local, and this is the canonical text of the parts with registers, whose machine behaves as before; what it
+-- spells breaks no rule, and its machine is that one
+pub record IsBoundText (p : Source) (b : Binding) (text : List ℕ) : Type 0 where
+  pub bound : Source
+  pub machine : Fsmd
+  pub yes : IsYes p (machine_of p) b bound machine
+  pub is : text ≡ canonical bound
+  pub spelled : Source
+  pub spells : TextSpells text spelled
+  pub lawful : BreaksNoRule spelled
+  pub same_machine : machine_of spelled ≡ machine
+
+-- the line of the first branch that loses a local
+pub record IsConflictLine (p : Source) (b : Binding) (line : List ℕ) : Type 0 where
+  pub conflict : Conflict
+  pub twice : Bool
+  pub first : IsFirstConflict b (machine_of p) conflict twice
+  pub is : line ≡ conflict_text (machine_of p) conflict twice
+
+-- the answer is right
+abbrev pub IsRightOf : Source → Binding → BindingAnswer → Type 0
+IsRightOf p b (Bound text) = IsBoundText p b text.items
+IsRightOf p b (Lost line) = IsConflictLine p b line.items

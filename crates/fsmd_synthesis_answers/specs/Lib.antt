@@ -1,0 +1,3 @@
+pub mod ProgramAnswers
+pub mod ScheduleAnswers
+pub mod BindingAnswers

@@ -1,0 +1,6 @@
+use Rattle.std.proofs.Common.{refl}
+use Rattle.fsmd_tool.proofs.Running.{ends_so}
+use Rattle.fsmd_tool.proofs.program.run_program.Goals as goal
+
+pub returns : goal.returns
+returns g c = ends_so (λ all. all.items) c.words.result _ _ _ c.run_words.result c.run_words.ensures.driven c.run_words.ensures.without refl

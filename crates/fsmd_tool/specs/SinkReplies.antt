@@ -1,0 +1,41 @@
+-- What a sink got of a reply.
+use Rattle.std.specs.Prelude.{◌≡◌, ℕ, ◌<◌, List, length, take, Option}
+use Rattle.fs_base.specs.Outside.{SinkTold, Rose, appended}
+use Rattle.fsmd_replies.specs.declared.answer.Status.{Status}
+use Rattle.fsmd_replies.specs.declared.answer.Status.TheVariants.{Fault}
+
+-- a status, and what a sink got and how often it had failed before and at the end
+pub record Put : Type 0 where
+  pub status : Status
+  pub got_before : Option (List ℕ)
+  pub got_now : Option (List ℕ)
+  pub faults_before : ℕ
+  pub faults_now : ℕ
+
+-- the same, by what is told of the sink before and now
+abbrev pub put : Status → (before now : SinkTold) → Put
+put status before now = record {
+  status = status;
+  got_before = before.got;
+  got_now = now.got;
+  faults_before = before.faults;
+  faults_now = now.faults;
+}
+
+-- the sink got the whole reply
+pub record IsWhole (reply : List ℕ) (meant : Status) (p : Put) : Type 0 where
+  pub status : p.status ≡ meant
+  pub got : p.got_now ≡ appended p.got_before reply
+
+-- the sink failed, and got a prefix of the reply
+pub record IsPartialPut (reply : List ℕ) (p : Put) : Type 0 where
+  pub sent : ℕ
+  pub status : p.status ≡ Fault
+  pub failed : Rose p.faults_before p.faults_now
+  pub front : sent < length reply
+  pub got : p.got_now ≡ appended p.got_before (take sent reply)
+
+-- the reply was put whole with its status, or cut
+pub data IsPut (reply : List ℕ) (meant : Status) (p : Put) : Type 0 where
+  Whole : IsWhole reply meant p → IsPut reply meant p
+  Cut : IsPartialPut reply p → IsPut reply meant p

@@ -1,0 +1,5 @@
+pub mod EffectSets
+pub mod Profiles
+pub mod KnownHeights
+pub mod WaitingItems
+pub mod Plans

@@ -1,0 +1,4 @@
+pub mod StraightLines
+pub mod Replaced
+pub mod Selected
+pub mod Scheduled

@@ -1,0 +1,11 @@
+pub mod Exchange
+pub mod Rows
+pub mod Once
+pub mod Emits
+pub mod Chains
+pub mod Fills
+pub mod Placings
+pub mod Lists
+pub mod Tight
+pub mod GreatestWalks
+pub mod ListScheduled

@@ -1,0 +1,19 @@
+//! Straight lines in rows: the edges between their items, what a valid placing keeps, and the filling of rows.
+//!
+//! Promises: the edges between the items of a straight line; a valid placing keeps the store; what items use, their
+//! heights and the chain; the filling of rows under unit counts is a valid placing.
+//!
+//! Rules: `specs/Items`, `specs/Placings`, `src/placing_laws`, `specs/ItemUnits`, `specs/Heights`, `specs/Filling`,
+//! `src/filling_laws`.
+//!
+//! Words:
+//! - chain (of a straight line): one more than the greatest number of strict edges on a walk over its items
+//! - filling: rows that are filled one after another, each by the items of greatest height that may stand there
+//! - height: the greatest number of strict edges on a walk from an item
+//! - item (of a straight line): the assignments of one of its transitions
+//! - placing: a row for each item; valid where it is less on strict edges and not greater on weak ones
+//! - row: the items that a placing puts into one step, as one
+#![tactic(auto)]
+
+pub mod filling_laws;
+pub mod placing_laws;

@@ -1,0 +1,10 @@
+pub mod Schedules
+pub mod Within
+pub mod Lists
+pub mod Found
+pub mod Putting
+pub mod Named
+pub mod Spelling
+pub mod Passing
+pub mod Formed
+pub mod Lawful

@@ -1,0 +1,50 @@
+-- What stands at the front of the tokens of a program.
+use Rattle.std.specs.Prelude.{ℕ, nat_lt, Bool, true, false, cond, Option, Some, None, List, [], ◌∷◌, Result, Ok, Err}
+use Rattle.fs_model.specs.declared.parts.Role.{Role}
+use Rattle.fs_model.specs.Terms.{Term}
+use Rattle.fs_grammar.specs.declared.fault.TextKind.TheVariants.{Nested}
+use Rattle.fs_grammar.specs.declared.fault.TextFault.{TextFault}
+use Rattle.fs_grammar.specs.declared.token.TokenKind.{TokenKind}
+use Rattle.fs_grammar.specs.declared.token.TokenKind.TheVariants.{If, While, Declare, OpenBrace, CloseBrace}
+use Rattle.fs_grammar.specs.declared.token.Token.{Token}
+use Rattle.fs_grammar.specs.Tokens.{kind_at, accepted, refusal, fault_at, ◌>>=◌}
+use Rattle.fs_grammar.specs.Grammar.{Destination, scalar, element}
+use Rattle.hls_program_laws.specs.WellFormedPrograms.{most_depth}
+
+abbrev pub role_in : Option TokenKind → Option Role
+role_in (Some (Declare r)) = Some r
+role_in _ = None
+
+-- the role with which a declaration begins before these tokens, if one begins
+abbrev pub role_at : List Token → Option Role
+role_at ts = role_in (kind_at ts)
+
+-- a token with which a block ends
+abbrev pub ends_block : Option TokenKind → Bool
+ends_block (Some CloseBrace) = true
+ends_block _ = false
+
+-- a token with which no choice, no loop and no end of a block begins
+abbrev pub IsNoKeyword : Option TokenKind → Type 0
+IsNoKeyword (Some If) = ⊥
+IsNoKeyword (Some While) = ⊥
+IsNoKeyword (Some CloseBrace) = ⊥
+IsNoKeyword _ = Unit {0}
+
+-- a name with an index, or without one
+abbrev pub destination : List ℕ → Option (Term (List ℕ)) → Destination
+destination x None = scalar x
+destination x (Some i) = element x i
+
+-- the fault of a brace that opens a block too deep in others
+abbrev pub nested : List Token → TextFault
+nested [] = record { line = 0; column = 0; kind = Nested }
+nested (t ∷ ts) = fault_at t Nested
+
+abbrev pub opened_by : ℕ → List Token → Option TokenKind → Result (List Token) TextFault
+opened_by depth ts (Some OpenBrace) = accepted ts >>= λ r. cond (nat_lt most_depth depth) (Err (nested ts)) (Ok r)
+opened_by depth ts _ = Err (refusal ts)
+
+-- the tokens behind the brace that opens a block within so many others
+abbrev pub opened : ℕ → List Token → Result (List Token) TextFault
+opened depth ts = opened_by depth ts (kind_at ts)

@@ -1,0 +1,271 @@
+//! The statements and blocks of a program, by descent.
+
+ghost use Rattle.std.specs.Prelude.{◌≡◌, ◌<◌, ◌≤◌, ◌+◌, List, ℕ, suc, false, Some, None, length, IfOk};
+ghost use Rattle.std.specs.Result.{OnOk};
+ghost use Rattle.fs_model.specs.Terms as terms;
+ghost use Rattle.fs_model.specs.Source.{Declaration};
+ghost use Rattle.fs_model.specs.View.{named_guard, named_assignment};
+ghost use Rattle.fs_grammar.specs.declared.fault.ReadError.TheVariants.{Text};
+ghost use Rattle.fs_grammar.specs.declared.token.TokenKind.TheVariants as kinds;
+ghost use Rattle.fs_grammar.specs.Tokens.{Gives, ParsesOn, kind_at, line_at};
+ghost use Rattle.fs_expression_text.specs.Inside.{at_guard, guard_alone, whole_guard};
+ghost use Rattle.hls_program_laws.specs.Programs.{Do, If, While, End, join_blocks};
+ghost use Rattle.hls_program_laws.specs.WellFormedPrograms.{most_depth};
+ghost use Rattle.hls_program_parts.specs.View.{block_of_statement, block_of};
+ghost use Rattle.hls_program_grammar.specs.ProgramGrammar.{Open, Named, depth_of, for_if, for_while, program_reading};
+ghost use Rattle.hls_program_grammar.specs.ProgramGrammar.{at_declaration, at_block, at_statement, inside, after, after_yes};
+ghost use Rattle.hls_program_grammar.specs.ProgramGrammar.{at_no, at_end, close_block};
+ghost use Rattle.hls_program_text.specs.Fronts.{role_at, ends_block, IsNoKeyword, nested, opened};
+
+use crate::assignments::assignment;
+use crate::expressions::guard;
+use fs_grammar::fault::{ReadError, TextFault, TextKind};
+use fs_grammar::token::{Token, TokenKind, accept, front, line_of, refuse};
+use fs_model::name::Name;
+use fs_model::parts::{Assign, Guard};
+use hls_program_parts::program::Stmt;
+use hls_program_parts::well_formed::DEPTH_LIMIT;
+use std::alloc::Global;
+
+// The fault of a brace that opens a block too deep in others.
+fn nested(tokens: &[Token]) -> ReadError
+    ensures { result ≡ Text (nested tokens.now) }
+{
+    let (line, column) = match tokens {
+        [] => (0, 0),
+        [first, ..] => (first.place.line, first.place.column),
+    };
+    ReadError::Text(TextFault {
+        line,
+        column,
+        kind: TextKind::Nested,
+    })
+}
+
+// The brace that opens a block within so many others.
+fn open_brace(depth: u32, tokens: &[Token]) -> Result<&[Token], ReadError>
+    ensures gives { Gives (λ r. r.now) result (opened depth tokens.now) }
+    ensures shorter { IfOk result (λ r. length r.now < length tokens.now) }
+    ensures shallow { OnOk result (depth ≤ most_depth) }
+{
+    match front(tokens) {
+        Some(TokenKind::OpenBrace) => {
+            let rest = accept(tokens)?;
+            if depth > DEPTH_LIMIT {
+                return Err(nested(tokens));
+            }
+            Ok(rest)
+        }
+        _ => Err(refuse(tokens)),
+    }
+}
+
+// The brace that closes a block.
+#[tactic(auto, using(crate::proofs::Readings::block_closed))]
+fn close_brace(tokens: &[Token]) -> Result<&[Token], ReadError>
+    requires { kind_at tokens.now ≡ Some kinds.CloseBrace }
+    ensures goes { (o : Open) (b : Named)
+        → ParsesOn result (program_reading tokens.now (at_statement o b)) (λ r. program_reading r.now (close_block o b)) }
+    ensures shorter { IfOk result (λ r. length r.now < length tokens.now) }
+{
+    accept(tokens)
+}
+
+fn ends_block(tokens: &[Token]) -> bool
+    ensures { result ≡ ends_block (kind_at tokens.now) }
+{
+    matches!(front(tokens), Some(TokenKind::CloseBrace))
+}
+
+fn assigned(line: u32, assign: Assign<Name>) -> Stmt
+    ensures { block_of_statement result ≡ Do line (named_assignment assign) End }
+{
+    Stmt::Do { line, assign }
+}
+
+fn chosen(line: u32, guard: Guard, yes: Vec<Stmt>, no: Vec<Stmt>) -> Stmt
+    ensures { block_of_statement result ≡ If line (named_guard guard) (block_of yes.items) (block_of no.items) End }
+{
+    Stmt::If {
+        line,
+        guard,
+        yes,
+        no,
+    }
+}
+
+fn repeated(line: u32, guard: Guard, body: Vec<Stmt>) -> Stmt
+    ensures { block_of_statement result ≡ While line (named_guard guard) (block_of body.items) End }
+{
+    Stmt::While { line, guard, body }
+}
+
+// The word `if`.
+#[tactic(auto, using(crate::proofs::Readings::if_taken))]
+fn if_word(tokens: &[Token]) -> Result<&[Token], ReadError>
+    requires { kind_at tokens.now ≡ Some kinds.If }
+    ensures goes { (o : Open) (b : Named)
+        → ParsesOn result (program_reading tokens.now (at_statement o b))
+        (λ r. program_reading r.now (inside (for_if o b (line_at tokens.now)) (at_guard guard_alone))) }
+    ensures shorter { IfOk result (λ r. length r.now < length tokens.now) }
+{
+    accept(tokens)
+}
+
+// The word `while`.
+#[tactic(auto, using(crate::proofs::Readings::while_taken))]
+fn while_word(tokens: &[Token]) -> Result<&[Token], ReadError>
+    requires { kind_at tokens.now ≡ Some kinds.While }
+    ensures goes { (o : Open) (b : Named)
+        → ParsesOn result (program_reading tokens.now (at_statement o b))
+        (λ r. program_reading r.now (inside (for_while o b (line_at tokens.now)) (at_guard guard_alone))) }
+    ensures shorter { IfOk result (λ r. length r.now < length tokens.now) }
+{
+    accept(tokens)
+}
+
+// The word `else`.
+fn else_word(tokens: &[Token]) -> Result<&[Token], ReadError>
+    requires { kind_at tokens.now ≡ Some kinds.Else }
+    ensures goes { (o : Open) (b : Named) (n : ℕ) (g : terms.Guard (List ℕ)) (y : Named)
+        → ParsesOn result (program_reading tokens.now (after_yes o b n g y)) (λ r. program_reading r.now (at_no o b n g y)) }
+    ensures shorter { IfOk result (λ r. length r.now < length tokens.now) }
+{
+    accept(tokens)
+}
+
+/// A block within so many others, and the tokens after it. An `Err` is the first fault, or out of memory.
+#[cycle(blocks)]
+#[tactic(auto, using(crate::proofs::Readings::openings))]
+pub fn block(
+    alloc: Global,
+    depth: u32,
+    tokens: &[Token],
+) -> Result<(Vec<Stmt>, &[Token]), ReadError>
+    ensures yes { (o : Open) (b : Named) (n : ℕ) (g : terms.Guard (List ℕ)) → suc (depth_of o) ≡ depth
+        → ParsesOn result (program_reading tokens.now (after (for_if o b n) (whole_guard g)))
+        (λ x. program_reading x.1.now (after_yes o b n g (block_of x.0.items))) }
+    ensures no { (o : Open) (b : Named) (n : ℕ) (g : terms.Guard (List ℕ)) (y : Named) → suc (depth_of o) ≡ depth
+        → ParsesOn result (program_reading tokens.now (at_no o b n g y))
+        (λ x. program_reading x.1.now (at_statement o (join_blocks b (If n g y (block_of x.0.items) End)))) }
+    ensures body { (o : Open) (b : Named) (n : ℕ) (g : terms.Guard (List ℕ)) → suc (depth_of o) ≡ depth
+        → ParsesOn result (program_reading tokens.now (after (for_while o b n) (whole_guard g)))
+        (λ x. program_reading x.1.now (at_statement o (join_blocks b (While n g (block_of x.0.items) End)))) }
+    ensures outermost { (ds : List Declaration) → depth ≡ 0 → role_at tokens.now ≡ None
+        → ParsesOn result (program_reading tokens.now (at_declaration ds))
+        (λ x. program_reading x.1.now (at_end (record { declarations = ds; body = block_of x.0.items }))) }
+    ensures shorter { IfOk result (λ x. length x.1.now < length tokens.now) }
+{
+    let rest = open_brace(depth, tokens)?;
+    statements(alloc, depth, rest)
+}
+
+// Statements up to the brace that closes their block, after the one that opens it.
+#[cycle(blocks)]
+#[tactic(auto, using(crate::proofs::Readings::block_begins, crate::proofs::Readings::joined_last))]
+fn statements(
+    alloc: Global,
+    depth: u32,
+    tokens: &[Token],
+) -> Result<(Vec<Stmt>, &[Token]), ReadError>
+    requires { depth ≤ most_depth }
+    ensures goes { (o : Open) → depth_of o ≡ depth
+        → ParsesOn result (program_reading tokens.now (at_block o))
+        (λ x. program_reading x.1.now (close_block o (block_of x.0.items))) }
+    ensures shorter { IfOk result (λ x. length x.1.now < length tokens.now) }
+{
+    let mut all = Vec::new(alloc);
+    let mut rest = tokens;
+    'each: while !ends_block(rest) {
+        let (one, after) = statement(alloc, depth, rest)?;
+        all.push(one)?;
+        rest = after;
+    }
+    let rest = close_brace(rest)?;
+    Ok((all, rest))
+}
+
+#[cycle(blocks)]
+fn statement(alloc: Global, depth: u32, tokens: &[Token]) -> Result<(Stmt, &[Token]), ReadError>
+    requires goes_on { ends_block (kind_at tokens.now) ≡ false }
+    requires shallow { depth ≤ most_depth }
+    ensures goes { (o : Open) (b : Named) → depth_of o ≡ depth
+        → ParsesOn result (program_reading tokens.now (at_statement o b))
+        (λ x. program_reading x.1.now (at_statement o (join_blocks b (block_of_statement x.0)))) }
+    ensures shorter { IfOk result (λ x. length x.1.now < length tokens.now) }
+{
+    match front(tokens) {
+        Some(TokenKind::If) => choice(alloc, depth, tokens),
+        Some(TokenKind::While) => repetition(alloc, depth, tokens),
+        _ => assigning(alloc, tokens),
+    }
+}
+
+// A statement that is an assignment.
+fn assigning(alloc: Global, tokens: &[Token]) -> Result<(Stmt, &[Token]), ReadError>
+    requires { IsNoKeyword (kind_at tokens.now) }
+    ensures goes { (o : Open) (b : Named)
+        → ParsesOn result (program_reading tokens.now (at_statement o b))
+        (λ x. program_reading x.1.now (at_statement o (join_blocks b (block_of_statement x.0)))) }
+    ensures shorter { IfOk result (λ x. length x.1.now < length tokens.now) }
+{
+    let line = line_of(tokens);
+    let (assign, rest) = assignment(alloc, tokens)?;
+    Ok((assigned(line, assign), rest))
+}
+
+#[cycle(blocks)]
+fn choice(alloc: Global, depth: u32, tokens: &[Token]) -> Result<(Stmt, &[Token]), ReadError>
+    requires word { kind_at tokens.now ≡ Some kinds.If }
+    requires shallow { depth ≤ most_depth }
+    ensures goes { (o : Open) (b : Named) → depth_of o ≡ depth
+        → ParsesOn result (program_reading tokens.now (at_statement o b))
+        (λ x. program_reading x.1.now (at_statement o (join_blocks b (block_of_statement x.0)))) }
+    ensures shorter { IfOk result (λ x. length x.1.now < length tokens.now) }
+{
+    let line = line_of(tokens);
+    let rest = if_word(tokens)?;
+    let (guard, rest) = guard(alloc, rest)?;
+    let (yes, rest) = block(alloc, depth + 1, rest)?;
+    let (no, rest) = otherwise(alloc, depth, rest)?;
+    Ok((chosen(line, guard, yes, no), rest))
+}
+
+// The second block of a choice: the one behind `else`, or none.
+#[cycle(blocks)]
+#[tactic(auto, using(crate::proofs::Readings::no_else))]
+fn otherwise(
+    alloc: Global,
+    depth: u32,
+    tokens: &[Token],
+) -> Result<(Vec<Stmt>, &[Token]), ReadError>
+    requires { depth ≤ most_depth }
+    ensures goes { (o : Open) (b : Named) (n : ℕ) (g : terms.Guard (List ℕ)) (y : Named) → depth_of o ≡ depth
+        → ParsesOn result (program_reading tokens.now (after_yes o b n g y))
+        (λ x. program_reading x.1.now (at_statement o (join_blocks b (If n g y (block_of x.0.items) End)))) }
+    ensures shorter { IfOk result (λ x. length x.1.now ≤ length tokens.now) }
+{
+    match front(tokens) {
+        Some(TokenKind::Else) => {
+            let rest = else_word(tokens)?;
+            block(alloc, depth + 1, rest)
+        }
+        _ => Ok((Vec::new(alloc), tokens)),
+    }
+}
+
+#[cycle(blocks)]
+fn repetition(alloc: Global, depth: u32, tokens: &[Token]) -> Result<(Stmt, &[Token]), ReadError>
+    requires word { kind_at tokens.now ≡ Some kinds.While }
+    requires shallow { depth ≤ most_depth }
+    ensures goes { (o : Open) (b : Named) → depth_of o ≡ depth
+        → ParsesOn result (program_reading tokens.now (at_statement o b))
+        (λ x. program_reading x.1.now (at_statement o (join_blocks b (block_of_statement x.0)))) }
+    ensures shorter { IfOk result (λ x. length x.1.now < length tokens.now) }
+{
+    let line = line_of(tokens);
+    let rest = while_word(tokens)?;
+    let (guard, rest) = guard(alloc, rest)?;
+    let (body, rest) = block(alloc, depth + 1, rest)?;
+    Ok((repeated(line, guard, body), rest))
+}

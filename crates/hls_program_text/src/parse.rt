@@ -1,0 +1,57 @@
+//! A program, from its tokens.
+
+ghost use Rattle.std.specs.Prelude.{◌<◌, []};
+ghost use Rattle.fs_grammar.specs.Tokens.{Gives, ParsesOn};
+ghost use Rattle.hls_program_laws.specs.Programs as plain;
+ghost use Rattle.hls_program_parts.specs.View.{program_of};
+ghost use Rattle.hls_program_grammar.specs.ProgramGrammar.{program_reading, at_prog, after_prog, at_declaration, at_end};
+
+use crate::blocks::block;
+use crate::declarations::declarations;
+use fs_grammar::fault::ReadError;
+use fs_grammar::token::{Token, TokenKind, accept, front, refuse};
+use hls_program_parts::program::Program;
+use std::alloc::Global;
+
+// The word `prog`.
+fn first_word(tokens: &[Token]) -> Result<&[Token], ReadError>
+    ensures { ParsesOn result (program_reading tokens.now at_prog) (λ r. program_reading r.now after_prog) }
+{
+    match front(tokens) {
+        Some(TokenKind::Prog) => accept(tokens),
+        _ => Err(refuse(tokens)),
+    }
+}
+
+// The semicolon behind it.
+fn head_end(tokens: &[Token]) -> Result<&[Token], ReadError>
+    ensures { ParsesOn result (program_reading tokens.now after_prog) (λ r. program_reading r.now (at_declaration [])) }
+{
+    match front(tokens) {
+        Some(TokenKind::Semicolon) => accept(tokens),
+        _ => Err(refuse(tokens)),
+    }
+}
+
+// The end of a program.
+fn end(tokens: &[Token]) -> Result<(), ReadError>
+    ensures { (p : plain.Program) → Gives (λ u. p) result (program_reading tokens.now (at_end p)) }
+{
+    match front(tokens) {
+        Some(TokenKind::End) => Ok(()),
+        _ => Err(refuse(tokens)),
+    }
+}
+
+/// The program that the tokens spell. `Text` is the fault at the first token that can follow in no program, is past the
+/// limit, or opens a block too deep in others; `NoMemory`: out of memory.
+pub fn parse(alloc: Global, tokens: &[Token]) -> Result<Program, ReadError>
+    ensures { Gives program_of result (program_reading tokens.now at_prog) }
+{
+    let rest = first_word(tokens)?;
+    let rest = head_end(rest)?;
+    let (decls, rest) = declarations(alloc, rest)?;
+    let (body, rest) = block(alloc, 0, rest)?;
+    end(rest)?;
+    Ok(Program { decls, body })
+}

@@ -1,0 +1,46 @@
+-- The rows of lines in the code, as moves over the names of parts.
+use Rattle.std.specs.Prelude.{◌≡◌, ℕ, ◌+◌, ◌<◌, ◌≤◌, nat_lt, true, cond, List, map, length, slice_index}
+use Rattle.std.specs.List.{All, flat_map}
+use Rattle.fs_model.specs.declared.parts.StateId.{StateId}
+use Rattle.fs_model.specs.Terms.{Assignment}
+use Rattle.fs_model.specs.Source.{Source}
+use Rattle.hls_line_rows.specs.Filling.{Filled, is_before}
+use Rattle.hls_line_machines.specs.Replaced.{MoveOver}
+use Rattle.hls_line_filling.specs.declared.plan.Plan.{Plan}
+use Rattle.hls_line_filling.specs.WaitingItems.{rows_in}
+use Rattle.hls_line_schedules.specs.SourceRows.{named_item, row_of, Done}
+use Rattle.hls_sched.specs.declared.moves.Move.{Move}
+
+-- the items of states, one after another
+abbrev pub joined_items : Source → List StateId → List (Assignment (List ℕ))
+joined_items p states = flat_map (named_item p) (map (λ q. q.0) states)
+
+-- what a move does: the assignments of its items, and the state that comes after
+abbrev pub done_by : Source → Move → Done
+done_by p x = (joined_items p x.items.items, x.target.0)
+
+abbrev pub move_of : Source → Move → MoveOver (List ℕ)
+move_of p x = record { state = x.state.0; assignments = joined_items p x.items.items; target = x.target.0 }
+
+-- a move among so many states
+pub record IsMoveAmong (count : ℕ) (x : Move) : Type 0 where
+  pub items : All (λ q. q.0 < count) x.items.items
+  pub target : x.target.0 < count
+
+-- a plan for so many items: each has a row, and there are no more rows than items
+pub record IsPlanFor (count : ℕ) (p : Plan) : Type 0 where
+  pub items : length p.rows.items ≡ count
+  pub placed : (j : ℕ) → j < count → is_before p.count (rows_in p.rows.items j) ≡ true
+  pub no_more : p.count ≤ count
+
+-- the row of a number of a line that leads to a state, in the state where it stands: it leads to the state of the next row,
+-- where there is one, else out of the line
+abbrev pub target_of_row : ℕ → List ℕ → ℕ → ℕ → ℕ
+target_of_row exit qs count k = cond (nat_lt (k + 1) count) (slice_index qs (k + 1)) exit
+
+abbrev pub row_in_state : Source → ℕ → List ℕ → Filled → ℕ → MoveOver (List ℕ)
+row_in_state p exit qs f k = record {
+  state = slice_index qs k;
+  assignments = row_of p qs f k;
+  target = target_of_row exit qs f.count k;
+}

@@ -1,0 +1,5 @@
+//! Worked examples of programs that are compiled.
+
+mod compiled;
+mod nested;
+mod programs;

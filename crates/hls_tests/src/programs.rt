@@ -1,0 +1,5 @@
+//! Worked examples of programs that are read.
+
+mod answers;
+mod limits;
+mod readings;

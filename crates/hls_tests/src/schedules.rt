@@ -1,0 +1,4 @@
+//! Worked examples of scheduled machines.
+
+mod machines;
+mod schedules;

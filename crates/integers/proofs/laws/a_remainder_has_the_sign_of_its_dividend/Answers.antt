@@ -1,8 +1,0 @@
-use Rattle.integers.proofs.Divided.{above, below}
-use Rattle.integers.proofs.laws.a_remainder_has_the_sign_of_its_dividend.Goals as goal
-
-pub returns-clause-above : goal.returns-clause-above
-returns-clause-above c = above
-
-pub returns-clause-below : goal.returns-clause-below
-returns-clause-below c = below

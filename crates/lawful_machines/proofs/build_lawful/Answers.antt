@@ -1,7 +1,0 @@
-use Rattle.fs_model.specs.View.{source_of}
-use Rattle.lawful_machines.proofs.Unbroken.{unbroken}
-use Rattle.lawful_machines.proofs.build_lawful.Goals as goal
-
-pub unreachable-requires : goal.unreachable-requires
-unreachable-requires c =
-    unbroken (source_of c.args.parts.now) c.in-Err-Check.field-0-0 c.requires.lawful (rw c.in-Err-Check.field-0-is at c.in-Err-Check.ensures.broken)

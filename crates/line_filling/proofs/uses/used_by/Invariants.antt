@@ -1,9 +1,0 @@
-use Rattle.std.proofs.Common.{◌≡◌, ◌+◌, ◌≤◌, map, drop}
-use Rattle.fs_model.specs.View.{assignment_of}
-use Rattle.line_fills.specs.Units.{used_by}
-use Rattle.line_filling.specs.Profiles.{capped}
-use Rattle.line_filling.proofs.uses.used_by.Given as goal
-
-abbrev pub invariant-loop-assign : goal.invariant-loop-assign
-invariant-loop-assign l =
-    (capped (l.used + used_by (map assignment_of (drop l.assign-index l.assigns)) l.kind) ≡ capped (used_by (map assignment_of l.assigns) l.kind)) × (l.used ≤ 18446744073709551615)

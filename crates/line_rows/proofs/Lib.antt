@@ -1,4 +1,0 @@
-pub mod Exchange
-pub mod Rows
-pub mod Once
-pub mod Emits

@@ -1,5 +1,0 @@
-use Rattle.pair_answers.proofs.Behaviour.{same_show_nothing}
-use Rattle.pair_answers.proofs.laws.same_behaviour_shows_no_difference.Goals as goal
-
-pub returns : goal.returns
-returns c = same_show_nothing

@@ -1,5 +1,0 @@
-use Rattle.pair_answers.proofs.Once.{one_answer}
-use Rattle.pair_answers.proofs.laws.two_machines_have_one_answer.Goals as goal
-
-pub returns : goal.returns
-returns c = one_answer

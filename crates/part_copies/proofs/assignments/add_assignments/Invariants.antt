@@ -1,7 +1,0 @@
-use Rattle.std.proofs.Common.{◌≡◌, ◌++◌, take}
-use Rattle.std.specs.Prelude.{map}
-use Rattle.fs_model.specs.View.{named_assignment}
-use Rattle.part_copies.proofs.assignments.add_assignments.Given as goal
-
-abbrev pub invariant-loop-assign : goal.invariant-loop-assign
-invariant-loop-assign l = map named_assignment l.out.items ≡ map named_assignment l.initial.out.items ++ map named_assignment (take l.assign-index l.assigns)

@@ -1,4 +1,0 @@
-//! Points and paths of a machine as text.
-#![tactic(auto)]
-
-pub mod paths;

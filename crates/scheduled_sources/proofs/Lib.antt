@@ -1,8 +1,0 @@
-pub mod Lists
-pub mod Found
-pub mod Putting
-pub mod Named
-pub mod Spelling
-pub mod Passing
-pub mod Formed
-pub mod Lawful

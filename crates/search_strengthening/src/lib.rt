@@ -1,0 +1,18 @@
+//! A second search for a certificate that two machines have the same behaviour, for pairs that the first one leaves undecided.
+//!
+//! Promises: `strengthen`: a lawful certificate of at most 4,000,000 units, or none.
+//!
+//! Rules: `src/strengthening`.
+#![tactic(auto)]
+
+mod assembling;
+mod flags;
+mod modes;
+mod moves;
+mod nodes;
+mod outputs;
+mod ranks;
+mod sides;
+mod state;
+mod steps;
+pub mod strengthening;

@@ -1,0 +1,243 @@
+//! Which machines move at a node.
+
+use crate::flags::{Flags, flags_at, keep};
+use crate::nodes::{NodeMove, SearchNode, Settled};
+use crate::sides::{Covered, Sides};
+use crate::state::{State, clear};
+use cert_bisimulation::mode::Mode;
+use fs_cut::cover::{Path, Point};
+use nf_refutation::refutation::is_refuted;
+use nf_subst::vector::Vector;
+use nf_terms::stop::NoMemory;
+use nf_terms::tree::Side;
+use search_strengthening_terms::stop::{Stop, unless_stopped};
+use search_strengthening_terms::work::Work;
+use std::alloc::Global;
+use sym_facts::fact::{Fact, copied_literals};
+use sym_paths::execution::conditions;
+
+// The units of work of the conditions of a path.
+const PATH_UNITS: u64 = 8;
+
+// Whether a path is not refuted under a fact with this vector. `Bound` comes where its conditions meet a limit.
+fn is_open(
+    alloc: Global,
+    work: &mut Work,
+    machine: &Covered<'_>,
+    side: Side,
+    fact: &Fact,
+    v: &Vector,
+    path: &Path,
+) -> Result<bool, Stop> {
+    work.spend(fact.conds().len() as u64)?;
+    work.spend(PATH_UNITS)?;
+    let Some(mut more) = unless_stopped(conditions(alloc, machine.machine, path, side, v))? else {
+        return Err(Stop::Bound);
+    };
+    let mut literals = copied_literals(alloc, fact.conds())?;
+    literals.append(&mut more)?;
+    Ok(!is_refuted(alloc, literals.as_slice())?)
+}
+
+// Whether more than one path of a point is not refuted under a fact with this vector.
+fn has_many(
+    alloc: Global,
+    work: &mut Work,
+    machine: &Covered<'_>,
+    side: Side,
+    fact: &Fact,
+    v: &Vector,
+    point: Point,
+) -> Result<bool, Stop> {
+    let mut open = 0u32;
+    for path in machine.cover.from(point) {
+        if is_open(alloc, work, machine, side, fact, v, path)? {
+            open = open.saturating_add(1);
+        }
+    }
+    Ok(open > 1)
+}
+
+// A side alone moves where the other one has more ways on; where neither has, and one is at the head of a loop, the other one
+// moves alone.
+fn mode_by(flags: Flags, left_head: bool, right_head: bool) -> Mode {
+    if flags.many_left != flags.many_right {
+        return if flags.many_left {
+            Mode::Right
+        } else {
+            Mode::Left
+        };
+    }
+    if !flags.many_left && left_head != right_head {
+        return if left_head { Mode::Right } else { Mode::Left };
+    }
+    Mode::Both
+}
+
+// What is kept of the points of a node, with what its fact shows of them.
+fn flags_of(
+    alloc: Global,
+    sides: &Sides<'_>,
+    work: &mut Work,
+    all: &[Flags],
+    node: &SearchNode,
+) -> Result<Flags, Stop> {
+    let mut flags = flags_at(all, node.left, node.right);
+    let v = node.fact.vector(alloc)?;
+    if !flags.many_left {
+        flags.many_left = has_many(
+            alloc,
+            work,
+            &sides.left,
+            Side::Left,
+            &node.fact,
+            &v,
+            node.left,
+        )?;
+    }
+    if !flags.many_right {
+        flags.many_right = has_many(
+            alloc,
+            work,
+            &sides.right,
+            Side::Right,
+            &node.fact,
+            &v,
+            node.right,
+        )?;
+    }
+    Ok(flags)
+}
+
+// The move of one path of each side that moves.
+fn open_move(left: Option<usize>, right: Option<usize>) -> NodeMove {
+    NodeMove {
+        left,
+        right,
+        settled: Settled::Open,
+    }
+}
+
+// Adds the moves of a left path with each right one.
+fn push_pairs(moves: &mut Vec<NodeMove>, left: usize, rights: usize) -> Result<(), NoMemory> {
+    for right in 0..rights {
+        moves.push(open_move(Some(left), Some(right)))?;
+    }
+    Ok(())
+}
+
+// The moves of each left path with each right one.
+fn pairs(alloc: Global, lefts: usize, rights: usize) -> Result<Vec<NodeMove>, NoMemory> {
+    let mut moves = Vec::new(alloc);
+    for left in 0..lefts {
+        push_pairs(&mut moves, left, rights)?;
+    }
+    Ok(moves)
+}
+
+// The moves of left paths alone.
+fn left_moves(alloc: Global, lefts: usize) -> Result<Vec<NodeMove>, NoMemory> {
+    let mut moves = Vec::new(alloc);
+    for left in 0..lefts {
+        moves.push(open_move(Some(left), None))?;
+    }
+    Ok(moves)
+}
+
+// The moves of right paths alone.
+fn right_moves(alloc: Global, rights: usize) -> Result<Vec<NodeMove>, NoMemory> {
+    let mut moves = Vec::new(alloc);
+    for right in 0..rights {
+        moves.push(open_move(None, Some(right)))?;
+    }
+    Ok(moves)
+}
+
+// The moves of two points in a mode.
+fn moves_in(
+    alloc: Global,
+    sides: &Sides<'_>,
+    mode: Mode,
+    left: Point,
+    right: Point,
+) -> Result<Vec<NodeMove>, NoMemory> {
+    let lefts = sides.left.cover.from(left).len();
+    let rights = sides.right.cover.from(right).len();
+    match mode {
+        Mode::Both => pairs(alloc, lefts, rights),
+        Mode::Left => left_moves(alloc, lefts),
+        Mode::Right => right_moves(alloc, rights),
+        Mode::End => Ok(Vec::new(alloc)),
+    }
+}
+
+// Whether a machine is done at a point.
+fn is_done(point: Point) -> bool {
+    matches!(point, Point::Done)
+}
+
+// The mode of the node at a place. Keeps what its fact shows of its points.
+fn mode_at(
+    alloc: Global,
+    sides: &Sides<'_>,
+    state: &mut State,
+    place: usize,
+) -> Result<Mode, Stop> {
+    let Some(node) = state.nodes.get(place) else {
+        return Ok(Mode::End);
+    };
+    match (is_done(node.left), is_done(node.right)) {
+        (true, true) => return Ok(Mode::End),
+        (true, false) => return Ok(Mode::Right),
+        (false, true) => return Ok(Mode::Left),
+        (false, false) => {}
+    }
+    let (left, right) = (node.left, node.right);
+    let flags = flags_of(alloc, sides, &mut state.work, state.flags.as_slice(), node)?;
+    keep(&mut state.flags, flags)?;
+    Ok(mode_by(
+        flags,
+        sides.left.order.is_head(left),
+        sides.right.order.is_head(right),
+    ))
+}
+
+// Gives the node at a place its mode and the moves of that mode.
+fn set_moves(nodes: &mut [SearchNode], place: usize, mode: Mode, moves: Vec<NodeMove>) {
+    if let Some(node) = nodes.get_mut(place) {
+        node.mode = Some(mode);
+        node.moves = moves;
+    }
+}
+
+/// Sees that the node at a place has its mode and its moves. Where the mode is another one than its points had since the table
+/// was last cleared, clears the table. Answers whether it did.
+pub fn see_mode(
+    alloc: Global,
+    sides: &Sides<'_>,
+    state: &mut State,
+    place: usize,
+) -> Result<bool, Stop> {
+    let mode = mode_at(alloc, sides, state, place)?;
+    let Some(node) = state.nodes.get(place) else {
+        return Ok(false);
+    };
+    let (left, right) = (node.left, node.right);
+    let mut flags = flags_at(state.flags.as_slice(), left, right);
+    match flags.mode {
+        Some(old) => {
+            if old != mode {
+                clear(state)?;
+                return Ok(true);
+            }
+        }
+        None => {
+            flags.mode = Some(mode);
+            keep(&mut state.flags, flags)?;
+        }
+    }
+    let moves = moves_in(alloc, sides, mode, left, right)?;
+    state.work.spend(moves.len() as u64)?;
+    set_moves(&mut state.nodes, place, mode, moves);
+    Ok(false)
+}

@@ -1,0 +1,202 @@
+//! Moves, tried.
+
+use crate::nodes::{NodeMove, SearchNode, Settled, find, find_version};
+use crate::sides::{Covered, Sides};
+use crate::state::{State, add, change_fact};
+use fs_cut::cover::{Path, Point};
+use nf_refutation::refutation::is_refuted;
+use search_strengthening_claims::claims::claims_before;
+use search_strengthening_claims::facts::fact_of;
+use search_strengthening_claims::weeding::weed;
+use search_strengthening_terms::stop::{Stop, unless_stopped};
+use search_strengthening_terms::work::Work;
+use std::alloc::Global;
+use sym_facts::arrival::arrive;
+use sym_facts::entailment::entails;
+use sym_paths::execution::Post;
+
+// The units of work of a state on a path.
+const STATE_UNITS: u64 = 32;
+
+/// What a step does.
+#[derive(Clone, Copy)]
+pub enum Step {
+    /// It keeps the table.
+    Keeps,
+    /// It adds the node at this place, or weakens it.
+    Changes { place: usize },
+    /// It clears the table.
+    Clears,
+}
+
+// A path of a point by its number.
+fn path_by<'c>(machine: &'c Covered<'_>, point: Point, number: Option<usize>) -> Option<&'c Path> {
+    machine.cover.from(point).get(number?)
+}
+
+// The point to which a side comes.
+fn end_of(from: Point, path: Option<&Path>) -> Point {
+    match path {
+        Some(path) => path.to,
+        None => from,
+    }
+}
+
+// Whether a move is settled: its arrival is refuted, or entailed a fact that is still in the table.
+fn is_settled(nodes: &[SearchNode], tried: NodeMove) -> bool {
+    match tried.settled {
+        Settled::Open => false,
+        Settled::Refuted => true,
+        Settled::Held { version } => find_version(nodes, version).is_some(),
+    }
+}
+
+// Notes what is known of a move.
+fn settle(nodes: &mut [SearchNode], place: usize, number: usize, settled: Settled) {
+    if let Some(node) = nodes.get_mut(place) {
+        if let Some(tried) = node.moves.get_mut(number) {
+            tried.settled = settled;
+        }
+    }
+}
+
+// The units of work of a path: those of so many states.
+fn units_of_path(path: Option<&Path>) -> u64 {
+    match path {
+        Some(path) => (path.states.len() as u64).saturating_mul(STATE_UNITS),
+        None => 0,
+    }
+}
+
+// What arrives by a move, and at which points. `Bound` comes where an operation meets a limit.
+fn arrival(
+    alloc: Global,
+    sides: &Sides<'_>,
+    work: &mut Work,
+    node: &SearchNode,
+    tried: NodeMove,
+) -> Result<(Post, Point, Point), Stop> {
+    let left = path_by(&sides.left, node.left, tried.left);
+    let right = path_by(&sides.right, node.right, tried.right);
+    work.spend(node.units)?;
+    work.spend(units_of_path(left))?;
+    work.spend(units_of_path(right))?;
+    let (a, b) = (sides.left.machine, sides.right.machine);
+    match unless_stopped(arrive(alloc, a, b, &node.fact, left, right))? {
+        Some(post) => Ok((post, end_of(node.left, left), end_of(node.right, right))),
+        None => Err(Stop::Bound),
+    }
+}
+
+// Adds the node at which a post arrives first.
+fn add_target(
+    alloc: Global,
+    sides: &Sides<'_>,
+    state: &mut State,
+    post: &Post,
+    left: Point,
+    right: Point,
+) -> Result<Step, Stop> {
+    let universe = &sides.universe;
+    let p = sides.pairing;
+    let mut claims = claims_before(alloc, universe, post, p)?;
+    let count = p.positions().len();
+    weed(alloc, &mut state.work, universe, count, &mut claims, post)?;
+    let fact = fact_of(alloc, &mut state.work, universe, p, &claims)?;
+    let place = add(alloc, sides, state, left, right, claims, fact)?;
+    Ok(Step::Changes { place })
+}
+
+// Weakens the node at a place so that a post entails its fact. `Bound` comes where the post leaves the claims as they are,
+// though it does not entail the fact that was made of them.
+fn weaken(
+    alloc: Global,
+    sides: &Sides<'_>,
+    state: &mut State,
+    post: &Post,
+    place: usize,
+) -> Result<Step, Stop> {
+    let universe = &sides.universe;
+    let p = sides.pairing;
+    let Some(node) = state.nodes.get_mut(place) else {
+        return Ok(Step::Keeps);
+    };
+    let count = p.positions().len();
+    if !weed(
+        alloc,
+        &mut state.work,
+        universe,
+        count,
+        &mut node.claims,
+        post,
+    )? {
+        return Err(Stop::Bound);
+    }
+    let fact = fact_of(alloc, &mut state.work, universe, p, &node.claims)?;
+    change_fact(state, place, fact)?;
+    Ok(Step::Changes { place })
+}
+
+// Whether a post entails the fact of a node. `Bound` comes where an operation meets a limit.
+fn is_entailed(
+    alloc: Global,
+    work: &mut Work,
+    post: &Post,
+    node: &SearchNode,
+) -> Result<bool, Stop> {
+    work.spend(node.units)?;
+    match unless_stopped(entails(alloc, post, &node.fact))? {
+        Some(missing) => Ok(missing.equations.is_empty() && missing.conds.is_empty()),
+        None => Err(Stop::Bound),
+    }
+}
+
+// What a move does whose post is not refuted.
+fn meet(
+    alloc: Global,
+    sides: &Sides<'_>,
+    state: &mut State,
+    post: &Post,
+    from: (usize, usize),
+    left: Point,
+    right: Point,
+) -> Result<Step, Stop> {
+    let Some(target) = find(state.nodes.as_slice(), left, right) else {
+        return add_target(alloc, sides, state, post, left, right);
+    };
+    let Some(node) = state.nodes.get(target) else {
+        return Ok(Step::Keeps);
+    };
+    let version = node.version;
+    if !is_entailed(alloc, &mut state.work, post, node)? {
+        return weaken(alloc, sides, state, post, target);
+    }
+    settle(&mut state.nodes, from.0, from.1, Settled::Held { version });
+    Ok(Step::Keeps)
+}
+
+/// Tries a move of the node at a place, unless it is settled.
+pub fn try_move(
+    alloc: Global,
+    sides: &Sides<'_>,
+    state: &mut State,
+    place: usize,
+    number: usize,
+) -> Result<Step, Stop> {
+    state.work.spend(1)?;
+    let Some(node) = state.nodes.get(place) else {
+        return Ok(Step::Keeps);
+    };
+    let Some(tried) = node.moves.get(number) else {
+        return Ok(Step::Keeps);
+    };
+    if is_settled(state.nodes.as_slice(), *tried) {
+        return Ok(Step::Keeps);
+    }
+    let (post, left, right) = arrival(alloc, sides, &mut state.work, node, *tried)?;
+    if is_refuted(alloc, post.conds.as_slice())? {
+        settle(&mut state.nodes, place, number, Settled::Refuted);
+        return Ok(Step::Keeps);
+    }
+    meet(alloc, sides, state, &post, (place, number), left, right)
+}

@@ -1,0 +1,67 @@
+//! Whether outputs differ at the end.
+
+ghost use Rattle.std.specs.Prelude.{◌≤◌, length};
+ghost use Rattle.fs_model.specs.Limits.{most_variables};
+
+use crate::nodes::SearchNode;
+use crate::sides::Sides;
+use cert_machine_pairs::outputs::{is_output, number_of, same_forms};
+use fs_cut::cover::Point;
+use fs_model::parts::VarInfo;
+use nf_subst::vector::Vector;
+use nf_terms::stop::NoMemory;
+use std::alloc::Global;
+
+// Whether a left variable is an output that has another form than the right variable of its name.
+fn differs(
+    alloc: Global,
+    v: &Vector,
+    variable: &VarInfo,
+    left: u32,
+    rights: &[VarInfo],
+) -> Result<bool, NoMemory>
+    requires { length rights.now ≤ most_variables }
+{
+    if !is_output(variable.role) {
+        return Ok(false);
+    }
+    let right = number_of(rights, &variable.name);
+    Ok(!same_forms(alloc, v, variable.sort, left, right)?)
+}
+
+// Whether an output has another form than the right variable of its name.
+fn some_differs(
+    alloc: Global,
+    v: &Vector,
+    lefts: &[VarInfo],
+    rights: &[VarInfo],
+) -> Result<bool, NoMemory>
+    requires few_left { length lefts.now ≤ most_variables }
+    requires few_right { length rights.now ≤ most_variables }
+{
+    for (left, variable) in lefts.iter().enumerate() {
+        if differs(alloc, v, variable, left as u32, rights)? {
+            return Ok(true);
+        }
+    }
+    Ok(false)
+}
+
+/// Whether both machines are done at a node, and an output has another form than the right variable of its name. The one
+/// refusal is out of memory.
+pub fn outputs_differ(
+    alloc: Global,
+    sides: &Sides<'_>,
+    node: &SearchNode,
+) -> Result<bool, NoMemory> {
+    if !matches!(node.left, Point::Done) || !matches!(node.right, Point::Done) {
+        return Ok(false);
+    }
+    let v = node.fact.vector(alloc)?;
+    some_differs(
+        alloc,
+        &v,
+        sides.left.machine.vars(),
+        sides.right.machine.vars(),
+    )
+}

@@ -1,0 +1,93 @@
+//! The steps of a search.
+
+use crate::modes::see_mode;
+use crate::moves::{Step, try_move};
+use crate::outputs::outputs_differ;
+use crate::sides::Sides;
+use crate::state::{CHANGE_LIMIT, CLEARING_LIMIT, State};
+use search_strengthening_terms::stop::Stop;
+use std::alloc::Global;
+
+// The first move of a node that does not keep the table.
+fn first_move(
+    alloc: Global,
+    sides: &Sides<'_>,
+    state: &mut State,
+    place: usize,
+    count: usize,
+) -> Result<Step, Stop> {
+    for number in 0..count {
+        match try_move(alloc, sides, state, place, number)? {
+            Step::Keeps => {}
+            other => return Ok(other),
+        }
+    }
+    Ok(Step::Keeps)
+}
+
+// How many moves the node at a place has, where its mode is known.
+fn move_count(state: &State, place: usize) -> Option<usize> {
+    let node = state.nodes.get(place)?;
+    match node.mode {
+        Some(_) => Some(node.moves.len()),
+        None => None,
+    }
+}
+
+// The first step at a node that does not keep the table.
+fn step_at(
+    alloc: Global,
+    sides: &Sides<'_>,
+    state: &mut State,
+    place: usize,
+) -> Result<Step, Stop> {
+    if move_count(state, place).is_none() && see_mode(alloc, sides, state, place)? {
+        return Ok(Step::Clears);
+    }
+    match move_count(state, place) {
+        Some(count) => first_move(alloc, sides, state, place, count),
+        None => Ok(Step::Keeps),
+    }
+}
+
+// The first step that does not keep the table, by nodes in order and then by moves.
+fn first_step(alloc: Global, sides: &Sides<'_>, state: &mut State) -> Result<Step, Stop> {
+    for place in 0..state.nodes.len() {
+        match step_at(alloc, sides, state, place)? {
+            Step::Keeps => {}
+            other => return Ok(other),
+        }
+    }
+    Ok(Step::Keeps)
+}
+
+// Gives up where outputs differ at the node at a place.
+fn check_outputs(
+    alloc: Global,
+    sides: &Sides<'_>,
+    state: &State,
+    place: usize,
+) -> Result<(), Stop> {
+    match state.nodes.get(place) {
+        Some(node) => {
+            if outputs_differ(alloc, sides, node)? {
+                Err(Stop::Bound)
+            } else {
+                Ok(())
+            }
+        }
+        None => Ok(()),
+    }
+}
+
+/// Makes steps until none changes the table. `Bound` comes where a bound is reached or outputs differ.
+pub fn make_steps(alloc: Global, sides: &Sides<'_>, state: &mut State) -> Result<(), Stop> {
+    for _ in 0..CHANGE_LIMIT + CLEARING_LIMIT {
+        match first_step(alloc, sides, state)? {
+            Step::Keeps => return Ok(()),
+            Step::Changes { place } => check_outputs(alloc, sides, state, place)?,
+            Step::Clears => {}
+        }
+    }
+    Err(Stop::Bound)
+}

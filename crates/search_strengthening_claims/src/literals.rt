@@ -1,0 +1,91 @@
+//! The literals of claims over free positions.
+
+use crate::tested_facts::LITERAL_LIMIT;
+use nf_rel::clashes::implied;
+use nf_rel::literals::NLit;
+use nf_subst::subst::Subst;
+use nf_subst::vector::Vector;
+use nf_terms::stop::NoMemory;
+use search_strengthening_terms::stop::{Stop, unless_stopped};
+use search_strengthening_terms::work::Work;
+use std::alloc::Global;
+use sym_facts::entailment::substitute_literal;
+
+// Adds a literal over free positions, unless it is true or false, or meets a limit.
+fn push_value(
+    alloc: Global,
+    work: &mut Work,
+    s: &mut Subst<'_>,
+    out: &mut Vec<NLit>,
+    literal: &NLit,
+) -> Result<(), Stop> {
+    work.spend(literal.size())?;
+    if let Some(value) = unless_stopped(substitute_literal(alloc, s, literal))? {
+        if matches!(value, NLit::Is(_)) {
+            work.spend(value.size())?;
+            out.push(value)?;
+        }
+    }
+    Ok(())
+}
+
+// The literals over free positions that are not true or false.
+fn all_values(
+    alloc: Global,
+    work: &mut Work,
+    values: &Vector,
+    literals: &[NLit],
+) -> Result<Vec<NLit>, Stop> {
+    let mut s = Subst::new(alloc, values);
+    let mut out = Vec::new(alloc);
+    for literal in literals {
+        push_value(alloc, work, &mut s, &mut out, literal)?;
+    }
+    Ok(out)
+}
+
+// Whether one literal of a list implies another one; of two that imply each other only the first one counts.
+fn makes_needless(literals: &[NLit], other: usize, place: usize) -> bool {
+    let (Some(l), Some(m)) = (literals.get(other), literals.get(place)) else {
+        return false;
+    };
+    let (Some(by), Some(back)) = (literals.get(other..=other), literals.get(place..=place)) else {
+        return false;
+    };
+    implied(by, m) && (other < place || !implied(back, l))
+}
+
+// Whether another literal of a list implies the one at a place.
+fn is_needless(literals: &[NLit], place: usize) -> bool {
+    for other in 0..literals.len() {
+        if other != place && makes_needless(literals, other, place) {
+            return true;
+        }
+    }
+    false
+}
+
+// The first 64 literals that no other one implies.
+fn needed(alloc: Global, literals: &[NLit]) -> Result<Vec<NLit>, NoMemory> {
+    let mut out = Vec::new(alloc);
+    for (place, literal) in literals.iter().enumerate() {
+        if out.len() < LITERAL_LIMIT && !is_needless(literals, place) {
+            out.push(literal.try_clone(alloc)?)?;
+        }
+    }
+    Ok(out)
+}
+
+/// The literals over free positions: those that are true or false or meet a limit are left out, and so are those that another
+/// one implies, and all behind the first 64. `Bound` comes where too little work is left.
+pub fn literals_over(
+    alloc: Global,
+    work: &mut Work,
+    values: &Vector,
+    literals: &[NLit],
+) -> Result<Vec<NLit>, Stop> {
+    let all = all_values(alloc, work, values, literals)?;
+    let count = all.len() as u64;
+    work.spend(count.saturating_mul(count) / 4)?;
+    Ok(needed(alloc, all.as_slice())?)
+}

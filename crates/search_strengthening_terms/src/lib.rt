@@ -1,0 +1,17 @@
+//! What a second search compares at each pair of points: the terms and the literals of two machines, the points in an order by
+//! loops, and how much work is left.
+//!
+//! Promises: what a second search compares; calls are safe and end, and no more is promised.
+//!
+//! Words:
+//! - head (of a loop): the first point of a strongly connected component that is entered from outside
+//! - universe: the terms and literals that may hold between two machines
+#![tactic(auto)]
+
+pub mod collection;
+pub mod order;
+pub mod point_sets;
+pub mod stop;
+mod subterms;
+pub mod universe;
+pub mod work;

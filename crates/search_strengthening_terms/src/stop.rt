@@ -1,0 +1,40 @@
+//! Why a search is broken off.
+
+use nf_terms::stop::{NfStop, NoMemory};
+use std::alloc::{AllocError, AllocFailed};
+
+/// Why a search is broken off.
+#[derive(Clone, Copy, Debug)]
+pub enum Stop {
+    /// A bound of its work is reached.
+    Bound,
+    /// Memory was refused.
+    NoMemory,
+}
+
+impl From<NoMemory> for Stop {
+    fn from(_refused: NoMemory) -> Stop {
+        Stop::NoMemory
+    }
+}
+
+impl From<AllocError> for Stop {
+    fn from(_refused: AllocError) -> Stop {
+        Stop::NoMemory
+    }
+}
+
+impl<T: Drop> From<AllocFailed<T>> for Stop {
+    fn from(_refused: AllocFailed<T>) -> Stop {
+        Stop::NoMemory
+    }
+}
+
+/// What an operation on normal forms gives, or none where it is not narrow, or not small. The one refusal is out of memory.
+pub fn unless_stopped<T: Drop>(outcome: Result<T, NfStop>) -> Result<Option<T>, NoMemory> {
+    match outcome {
+        Ok(value) => Ok(Some(value)),
+        Err(NfStop::NoMemory) => Err(NoMemory),
+        Err(NfStop::Wide { .. } | NfStop::Large { .. }) => Ok(None),
+    }
+}

@@ -1,0 +1,11 @@
+use Rattle.std.proofs.Common.{◌≡◌, ◌++◌, map, drop}
+use Rattle.std.specs.List.{flat_map}
+use Rattle.nf_rel.specs.View.{literal_in}
+use Rattle.show_fact_text.specs.FactLines.{condition_line}
+use Rattle.show_fact_text.specs.View.{side_names_in}
+use Rattle.show_fact_text.proofs.lines.write_conditions.Given as goal
+
+abbrev pub invariant-loop-literal : goal.invariant-loop-literal
+invariant-loop-literal l =
+    l.out.items ++ flat_map (condition_line l.before (side_names_in l.names)) (map literal_in (drop l.literal-index l.literals)) ≡ l.fn.out.items
+    ++ flat_map (condition_line l.before (side_names_in l.names)) (map literal_in l.literals)

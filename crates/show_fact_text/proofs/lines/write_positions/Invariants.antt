@@ -1,0 +1,11 @@
+use Rattle.std.proofs.Common.{◌≡◌, ◌++◌, map, drop}
+use Rattle.std.specs.List.{flat_map}
+use Rattle.sym_facts.specs.View.{position_in}
+use Rattle.show_fact_text.specs.FactLines.{position_line}
+use Rattle.show_fact_text.specs.View.{side_names_in}
+use Rattle.show_fact_text.proofs.lines.write_positions.Given as goal
+
+abbrev pub invariant-loop-position : goal.invariant-loop-position
+invariant-loop-position l =
+    l.out.items ++ flat_map (position_line l.before (side_names_in l.names)) (map position_in (drop l.position-index l.positions)) ≡ l.fn.out.items
+    ++ flat_map (position_line l.before (side_names_in l.names)) (map position_in l.positions)

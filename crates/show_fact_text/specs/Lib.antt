@@ -1,0 +1,2 @@
+pub mod FactLines
+pub mod View

@@ -1,0 +1,41 @@
+//! The texts of points and of modes.
+
+ghost use Rattle.std.specs.Prelude.{◌≡◌, ◌++◌, OnOk};
+ghost use Rattle.fs_cut.specs.View.{point_of};
+ghost use Rattle.cert_writer.specs.WrittenCertificates.{mode_written};
+ghost use Rattle.search.specs.SearchOutcomes.{machines};
+ghost use Rattle.show_search_views.specs.MoveLines.{points_text};
+
+use cert_bisimulation::mode::Mode;
+use fs_ast::machine::Machine;
+use fs_cut::cover::Point;
+use fs_path_text::paths::point_text;
+use nf_terms::stop::NoMemory;
+
+/// Adds two points. The one refusal is out of memory.
+pub fn write_points(
+    out: &mut Vec<u8>,
+    a: &Machine,
+    b: &Machine,
+    left: Point,
+    right: Point,
+) -> Result<(), NoMemory>
+    ensures { OnOk result (out.new.items ≡ out.old.items ++ points_text (machines a.now b.now) (point_of left) (point_of right)) }
+{
+    out.extend_from_slice(point_text(a, left))?;
+    out.extend_from_slice(b" | ")?;
+    out.extend_from_slice(point_text(b, right))?;
+    Ok(())
+}
+
+/// The word of a mode, as certificates have it.
+pub fn mode_text(mode: Mode) -> &'static [u8]
+    ensures { result.now ≡ mode_written mode }
+{
+    match mode {
+        Mode::Both => b"both",
+        Mode::Left => b"left",
+        Mode::Right => b"right",
+        Mode::End => b"end",
+    }
+}

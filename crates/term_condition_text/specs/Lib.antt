@@ -1,0 +1,3 @@
+pub mod ConditionTexts
+pub mod ConditionParts
+pub mod View

@@ -1,5 +1,0 @@
-//! Machines of texts, for the worked examples of the crates above, and the texts that several of these share.
-#![tactic(auto)]
-
-pub mod reading;
-pub mod samples;
