@@ -7,7 +7,7 @@ root=$(cd "$(dirname "$0")/.." && pwd)
 . "$root/bin/common.sh"
 folder=$(mktemp -d)
 trap 'rm -rf "$folder"' EXIT
-takes=(fs_model nf_terms nf_sums nf_arrays nf_subst nf_rel nf_refutation)
+takes=(fs_model nf_terms nf_sums nf_arrays nf_substitution nf_rel nf_refutation)
 read_crates
 copy_crates "$folder" "${takes[@]}"
 mkdir -p "$folder/crates/terms_bench/src"

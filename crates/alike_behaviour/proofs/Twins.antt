@@ -4,6 +4,7 @@ use Rattle.std.proofs.Common.{None, map, inl, inr, zero-add}
 use Rattle.std.specs.Prelude.{◌⊎◌, ◌&&◌, slice_get, option_map}
 use Rattle.std.specs.Ordering.{int_eq}
 use Rattle.std.proofs.lemmas.Option.{slice_get-map}
+use Rattle.fs_rules.specs.SoundParts.{IsSound, branch_count}
 use Rattle.base_integers.specs.Division.{quotient, remainder}
 use Rattle.fs_model.specs.declared.parts.Sort.{Sort}
 use Rattle.fs_model.specs.declared.parts.Sort.TheVariants as sort
@@ -14,7 +15,6 @@ use Rattle.fs_model.specs.Stores.{Store}
 use Rattle.fs_model.specs.Meaning.{value, relates}
 use Rattle.fs_model.specs.Runs.{Inputs, Number, Entries, Emitted, first_scalar, first_array, start, content, output, SameBehaviour}
 use Rattle.fs_model.specs.Trees.{literals_hold}
-use Rattle.fs_ast.specs.SoundMachines.{IsSound, branch_count}
 use Rattle.fs_cut.specs.Paths.{Point, Start, Done, Path, IsPath, is_point, state_of, steps_in, store_after_steps, takes}
 use Rattle.fs_cut.specs.Covers.{path_by}
 use Rattle.fs_cut.proofs.Listed.{path_is}
@@ -23,7 +23,7 @@ use Rattle.cert_bisimulation.specs.declared.mode.Mode.TheVariants.{Both, End}
 use Rattle.cert_bisimulation.specs.Tables.{Node, Stands, Owes, LeadsOn}
 use Rattle.cert_bisimulation.proofs.Nodes.{same_behaviour}
 use Rattle.alike_behaviour.specs.PathExpressions.{Expression, Constant, Initial, Element, Plus, Minus, Times, Over, Rest, Opposite, ArrayExpression}
-use Rattle.alike_behaviour.specs.PathExpressions.{InitialArray, Stored, ListExpression, InitialList, Pushed, initial, expressed}
+use Rattle.alike_behaviour.specs.PathExpressions.{InitialArray, Stored, ListExpression, InitialList, Pushed, initial, expression_of_term}
 use Rattle.alike_behaviour.specs.ExpressionSameness.{AreTwins, Same, SameArray, SameListExpression, SameLiterals}
 use Rattle.alike_behaviour.specs.Alike.{ArePaired, literals_of, left_after, AlikePaths, AlikePoints, Alike}
 use Rattle.alike_behaviour.specs.ExpressionValues.{value_in, array_in, list_in}
@@ -67,9 +67,9 @@ module _ (a b : Fsmd) where
     same_literals [] ms e = sym (ap (λ r. literals_hold r u) e)
     same_literals (l ∷ ls) ms (m, rest, e, r, g, k, w) =
         let x : value l.left s ≡ value m.left u = sym (expressed_value s initial s (at_start s) l.left)
-        ∙ same_value (expressed initial l.left) (expressed initial m.left) g ∙ expressed_value u initial u (at_start u) m.left in
+        ∙ same_value (expression_of_term initial l.left) (expression_of_term initial m.left) g ∙ expressed_value u initial u (at_start u) m.left in
         let y : value l.right s ≡ value m.right u = sym (expressed_value s initial s (at_start s) l.right)
-        ∙ same_value (expressed initial l.right) (expressed initial m.right) k ∙ expressed_value u initial u (at_start u) m.right in
+        ∙ same_value (expression_of_term initial l.right) (expression_of_term initial m.right) k ∙ expressed_value u initial u (at_start u) m.right in
         (λ j. relates (r j) (x j) (y j) && same_literals ls rest w j) ∙ sym (ap (λ z. literals_hold z u) e)
 
     takes_alike : (K : List (Point × Point)) (p q : Path) → AlikePaths a b K p q → takes a p s ≡ takes b q u

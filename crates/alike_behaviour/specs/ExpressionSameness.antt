@@ -7,7 +7,7 @@ use Rattle.fs_model.specs.Terms.{Literal}
 use Rattle.fs_model.specs.Machines.{Fsmd}
 use Rattle.alike_behaviour.specs.PathExpressions.{Expression, Constant, Initial, Element, Plus, Minus, Times, Over, Rest}
 use Rattle.alike_behaviour.specs.PathExpressions.{Opposite, ArrayExpression, InitialArray, Stored, ListExpression, InitialList}
-use Rattle.alike_behaviour.specs.PathExpressions.{Pushed, ExpressionVector, initial, expressed}
+use Rattle.alike_behaviour.specs.PathExpressions.{Pushed, ExpressionVector, initial, expression_of_term}
 
 -- a variable of each machine, of one name, one role and this sort
 pub record AreTwins (a b : Fsmd) (sort : Sort) (x y : ℕ) : Type 0 where
@@ -44,8 +44,8 @@ abbrev pub SameLiterals : (a b : Fsmd) → List (Literal ℕ) → List (Literal 
 SameLiterals a b [] ms = ms ≡ []
 SameLiterals a b (l ∷ ls) ms =
     (m : Literal ℕ) × (rest : List (Literal ℕ)) × (ms ≡ m ∷ rest) × (l.relation ≡ m.relation)
-    × Same a b (expressed initial l.left) (expressed initial m.left)
-    × Same a b (expressed initial l.right) (expressed initial m.right) × SameLiterals a b ls rest
+    × Same a b (expression_of_term initial l.left) (expression_of_term initial m.left)
+    × Same a b (expression_of_term initial l.right) (expression_of_term initial m.right) × SameLiterals a b ls rest
 
 -- the same is left under each name
 pub record SameLeft (a b : Fsmd) (s t : ExpressionVector) : Type 0 where

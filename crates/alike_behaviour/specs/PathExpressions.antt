@@ -38,39 +38,39 @@ abbrev pub initial : ExpressionVector
 initial = record { scalar = Initial; array = InitialArray; port = InitialList }
 
 -- a term with its expression for each variable
-abbrev pub expressed : ExpressionVector → Term ℕ → Expression
-expressed s (Number n) = Constant n
-expressed s (Variable x) = s.scalar x
-expressed s (Read x i) = Element (s.array x) (expressed s i)
-expressed s (Sum a b) = Plus (expressed s a) (expressed s b)
-expressed s (Difference a b) = Minus (expressed s a) (expressed s b)
-expressed s (Product a b) = Times (expressed s a) (expressed s b)
-expressed s (Quotient a b) = Over (expressed s a) (expressed s b)
-expressed s (Remainder a b) = Rest (expressed s a) (expressed s b)
-expressed s (Negative a) = Opposite (expressed s a)
+abbrev pub expression_of_term : ExpressionVector → Term ℕ → Expression
+expression_of_term s (Number n) = Constant n
+expression_of_term s (Variable x) = s.scalar x
+expression_of_term s (Read x i) = Element (s.array x) (expression_of_term s i)
+expression_of_term s (Sum a b) = Plus (expression_of_term s a) (expression_of_term s b)
+expression_of_term s (Difference a b) = Minus (expression_of_term s a) (expression_of_term s b)
+expression_of_term s (Product a b) = Times (expression_of_term s a) (expression_of_term s b)
+expression_of_term s (Quotient a b) = Over (expression_of_term s a) (expression_of_term s b)
+expression_of_term s (Remainder a b) = Rest (expression_of_term s a) (expression_of_term s b)
+expression_of_term s (Negative a) = Opposite (expression_of_term s a)
 
 -- what an assignment leaves, with its terms over what stood before the step
-abbrev pub acted : Assignment ℕ → (before : ExpressionVector) → ExpressionVector → ExpressionVector
-acted (Assign x e) before s = record {
-  scalar = λ y. cond (y == x) (expressed before e) (s.scalar y);
+abbrev pub expressions_after : Assignment ℕ → (before : ExpressionVector) → ExpressionVector → ExpressionVector
+expressions_after (Assign x e) before s = record {
+  scalar = λ y. cond (y == x) (expression_of_term before e) (s.scalar y);
   array = s.array;
   port = s.port;
 }
-acted (ArrayWrite x i e) before s =
+expressions_after (ArrayWrite x i e) before s =
     record {
       scalar = s.scalar;
-      array = λ y. cond (y == x) (Stored (s.array y) (expressed before i) (expressed before e)) (s.array y);
+      array = λ y. cond (y == x) (Stored (s.array y) (expression_of_term before i) (expression_of_term before e)) (s.array y);
       port = s.port;
     }
-acted (Emit x e) before s = record {
+expressions_after (Emit x e) before s = record {
   scalar = s.scalar;
   array = s.array;
-  port = λ y. cond (y == x) (Pushed (s.port y) (expressed before e)) (s.port y);
+  port = λ y. cond (y == x) (Pushed (s.port y) (expression_of_term before e)) (s.port y);
 }
 
 abbrev pub acted_all : List (Assignment ℕ) → (before : ExpressionVector) → ExpressionVector → ExpressionVector
 acted_all [] before s = s
-acted_all (a ∷ rest) before s = acted_all rest before (acted a before s)
+acted_all (a ∷ rest) before s = acted_all rest before (expressions_after a before s)
 
 -- what steps leave
 abbrev pub left_by : Fsmd → List BranchStep → ExpressionVector → ExpressionVector

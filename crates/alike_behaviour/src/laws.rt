@@ -1,10 +1,10 @@
 //! Laws of machines that are alike, over the definitions alone. The functions do nothing.
 
 ghost use Rattle.std.specs.Prelude.{◌≡◌, List};
+ghost use Rattle.fs_rules.specs.SoundParts.{IsSound};
 ghost use Rattle.fs_model.specs.Machines.{Fsmd};
 ghost use Rattle.fs_model.specs.Runs.{SameBehaviour};
 ghost use Rattle.fs_model.specs.Stores.{Store};
-ghost use Rattle.fs_ast.specs.SoundMachines.{IsSound};
 ghost use Rattle.fs_cut.specs.Paths.{Point, Path, steps_in, store_after_steps};
 ghost use Rattle.alike_behaviour.specs.Alike.{Alike, left_after};
 ghost use Rattle.alike_behaviour.specs.ExpressionValues.{value_in, array_in, list_in};

@@ -12,7 +12,8 @@ use Rattle.sym_paths.specs.Execution.{Post}
 use Rattle.sym_facts.specs.Facts.{FactPosition, Fact, form_or_symbol, has_its_sort}
 use Rattle.sym_facts.specs.Entailment.{form_like, equation_met, literal_met, false_places, Missing, entails}
 use Rattle.propagate.specs.Rebases.{value_at}
-use Rattle.propagate.specs.Joins.{Freed, symbol_like, tied, with_equation, freed_with, position_joined, is_among, positions_joined, literals_kept, join}
+use Rattle.propagate.specs.Joins.{Freed, symbol_like, tied_equation, with_equation, freed_with, position_joined, is_among, positions_joined, literals_kept}
+use Rattle.propagate.specs.Joins.{join}
 use Rattle.alike_terms.specs.Risen.{IsRisenVector}
 use Rattle.alike_facts.specs.EvenFacts.{places_of, AreEvenValues, AreEvenPositions, IsEvenFact}
 use Rattle.alike_facts.proofs.Ties.{value_like, symbol_of_sort, tied_alike, tied_to_freed}
@@ -42,16 +43,16 @@ module _ (v : List (Pos × Nf)) where
   -- the second one, after the first one was tied or freed
   second_tied : (p q : FactPosition) (t : Nf) (fs : List Freed) (r : Option Nf) (later : List Freed → Computed (List FactPosition))
       (middle ps : List FactPosition) → IsLater later → form_like v p.pos t ≡ form_like v q.pos t → has_its_sort p.sort (Some t) ≡ true
-      → tied v p.pos t fs ≡ Done r → position_joined v true q (Some t) (freed_with p.pos t r fs) later ≡ Done middle → with_equation p r ∷ middle ≡ ps
+      → tied_equation v p.pos t fs ≡ Done r → position_joined v true q (Some t) (freed_with p.pos t r fs) later ≡ Done middle → with_equation p r ∷ middle ≡ ps
       → AreEvenPositions ps
   second_tied p q t fs (Some z) later middle ps next e f g h w =
-      let u = goes_done (tied v q.pos t fs) (λ r. after (later (freed_with q.pos t r fs)) (λ rest. Done (with_equation q r ∷ rest))) middle h in
+      let u = goes_done (tied_equation v q.pos t fs) (λ r. after (later (freed_with q.pos t r fs)) (λ rest. Done (with_equation q r ∷ rest))) middle h in
       let n : Some z ≡ u.middle = same_Done (Some z) u.middle (sym g ∙ tied_alike v p.pos q.pos t fs e ∙ u.first) in
       put_both (with_equation p (Some z)) (with_equation q (Some z)) fs later middle ps next refl
       (ap (λ r. after (later (freed_with q.pos t r fs)) (λ rest. Done (with_equation q r ∷ rest))) n ∙ u.next) w
   second_tied p q t fs None later middle ps next e f g h w =
       let gs = fs ++ record { pos = p.pos; old = t } ∷ [] in
-      let u = goes_done (tied v q.pos t gs) (λ r. after (later (freed_with q.pos t r gs)) (λ rest. Done (with_equation q r ∷ rest))) middle h in
+      let u = goes_done (tied_equation v q.pos t gs) (λ r. after (later (freed_with q.pos t r gs)) (λ rest. Done (with_equation q r ∷ rest))) middle h in
       let n : u.middle ≡ Some (symbol_like p.pos t) = tied_to_freed v p.pos q.pos t fs u.middle e g u.first in
       put_both (with_equation p None) (with_equation q (Some (symbol_like p.pos t))) gs later middle ps next (ap Some (symbol_of_sort p.sort p.pos t f))
       (ap (λ r. after (later (freed_with q.pos t r gs)) (λ rest. Done (with_equation q r ∷ rest))) (sym n) ∙ u.next) w
@@ -72,7 +73,7 @@ module _ (v : List (Pos × Nf)) where
   couple_joined p q (Some x) i c e f h true true t fs later next ps g =
       let same : form_like v p.pos x ≡ form_like v q.pos x = value_like v p.sort p.pos x f ∙ e
       ∙ sym (value_like v q.sort q.pos x (ap (λ z. has_its_sort z (Some x)) (sym c) ∙ f)) in
-      let s = goes_done (tied v p.pos x fs)
+      let s = goes_done (tied_equation v p.pos x fs)
       (λ r. after (position_joined v true q (Some x) (freed_with p.pos x r fs) later) (λ rest. Done (with_equation p r ∷ rest))) ps g in
       let u = goes_done (position_joined v true q (Some x) (freed_with p.pos x s.middle fs) later) (λ rest. Done (with_equation p s.middle ∷ rest)) ps s.next in
       second_tied p q x fs s.middle later u.middle ps next same f s.first u.first (same_Done (with_equation p s.middle ∷ u.middle) ps u.next)

@@ -10,14 +10,15 @@ use Rattle.fs_model.specs.declared.sides.Pos.{Pos}
 use Rattle.nf_terms.specs.declared.form.Nf.{Nf}
 use Rattle.nf_terms.specs.declared.form.Nf.TheVariants.{Num}
 use Rattle.nf_terms.proofs.Computed.{same_Done}
-use Rattle.nf_sums.specs.Operations.{added, subtracted}
+use Rattle.nf_sums.specs.Operations.{normal_sum, normal_difference}
 use Rattle.nf_sums.proofs.Values.{goes_done}
-use Rattle.nf_subst.specs.Vectors.{number_at}
-use Rattle.nf_subst.specs.Substitution.{substituted}
+use Rattle.nf_substitution.specs.Vectors.{number_at}
+use Rattle.nf_substitution.specs.Substitution.{polynomial_substituted}
 use Rattle.sym_paths.specs.Execution.{Post}
 use Rattle.sym_facts.specs.Facts.{FactPosition, Fact, own_symbol, form_or_symbol, most_literals}
 use Rattle.sym_facts.specs.Entailment.{form_substituted}
-use Rattle.propagate.specs.Rebases.{value_at, number_held, form_held, first_pass, second_pass, number_tied_to, number_tied, form_tied, tied, equation_found}
+use Rattle.propagate.specs.Rebases.{value_at, number_held, form_held, first_pass, second_pass, number_tied_to, number_tied, form_tied, rebase_tied_equation}
+use Rattle.propagate.specs.Rebases.{equation_found}
 use Rattle.propagate.specs.Rebases.{freed_with, with_equation, third_by, third_pass, with_needed, conditions_over, rebase}
 use Rattle.alike_terms.proofs.RisenSubstitutions.{self_difference}
 use Rattle.alike_facts.specs.EvenFacts.{AreEvenValues, AreEvenPositions, IsEvenFact}
@@ -34,16 +35,18 @@ module _ (v ms : List (Pos × Nf)) where
 
   number_passes : (t : Polynomial) (s : Sort) (q : Pos) (l : Computed (Option Nf)) → number_tied_to v ms t s q l ≡ Done None → PassesOn t s q l
   number_passes t sort.Scalar q l e =
-      let a = goes_done (subtracted t (number_at v q))
-      (λ d. cond (number_held ms d) (after (substituted ms d) (λ e. after (added (polynomial_of_symbol q) e) (λ r. Done (Some (Num r))))) l) None e in
+      let a = goes_done (normal_difference t (number_at v q))
+      (λ d. cond (number_held ms d) (after (polynomial_substituted ms d) (λ e. after (normal_sum (polynomial_of_symbol q) e) (λ r. Done (Some (Num r))))) l)
+      None e in
       by_test a.middle (number_held ms a.middle) refl a.first a.next
     where
-      by_test : (d : Polynomial) (b : Bool) → number_held ms d ≡ b → subtracted t (number_at v q) ≡ Done d
-          → cond {A = Computed (Option Nf)} b (after (substituted ms d) (λ e. after (added (polynomial_of_symbol q) e) (λ r. Done (Some (Num r))))) l
+      by_test : (d : Polynomial) (b : Bool) → number_held ms d ≡ b → normal_difference t (number_at v q) ≡ Done d
+          → cond {A = Computed (Option Nf)} b
+          (after (polynomial_substituted ms d) (λ e. after (normal_sum (polynomial_of_symbol q) e) (λ r. Done (Some (Num r))))) l
           ≡ Done None → PassesOn t sort.Scalar q l
       by_test d true h i w =
-          let x = goes_done (substituted ms d) (λ e. after (added (polynomial_of_symbol q) e) (λ r. Done (Some (Num r)))) None w in
-          let y = goes_done (added (polynomial_of_symbol q) x.middle) (λ r. Done (Some (Num r))) None x.next in
+          let x = goes_done (polynomial_substituted ms d) (λ e. after (normal_sum (polynomial_of_symbol q) e) (λ r. Done (Some (Num r)))) None w in
+          let y = goes_done (normal_sum (polynomial_of_symbol q) x.middle) (λ r. Done (Some (Num r))) None x.next in
           absurd (let n : Some (Num y.middle) ≡ None = same_Done (Some (Num y.middle)) None y.next in cc n)
       by_test d false h i w =
           record {
@@ -51,9 +54,10 @@ module _ (v ms : List (Pos × Nf)) where
                 λ m.
                 (λ n. after (i n)
                 (λ d. cond {A = Computed (Option Nf)} (number_held ms d)
-                (after (substituted ms d) (λ e. after (added (polynomial_of_symbol q) e) (λ r. Done (Some (Num r))))) m))
+                (after (polynomial_substituted ms d) (λ e. after (normal_sum (polynomial_of_symbol q) e) (λ r. Done (Some (Num r))))) m))
                 ∙ ap
-                (λ b. cond {A = Computed (Option Nf)} b (after (substituted ms d) (λ e. after (added (polynomial_of_symbol q) e) (λ r. Done (Some (Num r))))) m)
+                (λ b. cond {A = Computed (Option Nf)} b
+                (after (polynomial_substituted ms d) (λ e. after (normal_sum (polynomial_of_symbol q) e) (λ r. Done (Some (Num r))))) m)
                 h;
             later = w;
           }
@@ -80,23 +84,24 @@ module _ (v ms : List (Pos × Nf)) where
 
   number_self : (p : Pos) (r : Option Nf) → number_tied_to v ms (number_at v p) sort.Scalar p (Done None) ≡ Done r → r ≡ Some (Num (polynomial_of_symbol p))
   number_self p r e =
-      let a = goes_done (subtracted (number_at v p) (number_at v p))
-      (λ d. cond (number_held ms d) (after (substituted ms d) (λ e. after (added (polynomial_of_symbol p) e) (λ r. Done (Some (Num r))))) (Done None)) r e in
+      let a = goes_done (normal_difference (number_at v p) (number_at v p))
+      (λ d. cond (number_held ms d) (after (polynomial_substituted ms d) (λ e. after (normal_sum (polynomial_of_symbol p) e) (λ r. Done (Some (Num r)))))
+      (Done None)) r e in
       let d : a.middle ≡ Zero = self_difference (number_at v p) a.middle a.first in
-      let k : after (added (polynomial_of_symbol p) Zero) (λ r. Done (Some (Num r))) ≡ Done r =
+      let k : after (normal_sum (polynomial_of_symbol p) Zero) (λ r. Done (Some (Num r))) ≡ Done r =
       sym
       (ap
       (λ x. cond {A = Computed (Option Nf)} (number_held ms x)
-      (after (substituted ms x) (λ e. after (added (polynomial_of_symbol p) e) (λ r. Done (Some (Num r))))) (Done None)) d) ∙ a.next in
-      let m = goes_done (added (polynomial_of_symbol p) Zero) (λ r. Done (Some (Num r))) r k in
+      (after (polynomial_substituted ms x) (λ e. after (normal_sum (polynomial_of_symbol p) e) (λ r. Done (Some (Num r))))) (Done None)) d) ∙ a.next in
+      let m = goes_done (normal_sum (polynomial_of_symbol p) Zero) (λ r. Done (Some (Num r))) r k in
       sym (same_Done (Some (Num m.middle)) r m.next) ∙ ap (λ z. Some (Num z)) (symbol_more p m.middle m.first)
 
   form_self : (p : Position) (t : Nf) → t ≡ value_at v p.sort p.pos → form_tied v t (p ∷ []) ≡ Some (own_symbol p.sort p.pos)
   form_self p t e = ap (λ b. cond {A = Option Nf} b (Some (own_symbol p.sort p.pos)) None) (same_of_equal t (value_at v p.sort p.pos) e)
 
   -- where the value of a position is not tied, it is tied to the position once that is freed
-  tied_to_freed : (p : Position) (s : Sort) → p.sort ≡ s → (qs : List Position) (r : Option Nf) → tied v ms (value_at v s p.pos) qs ≡ Done None
-      → tied v ms (value_at v s p.pos) (qs ++ p ∷ []) ≡ Done r → r ≡ Some (own_symbol s p.pos)
+  tied_to_freed : (p : Position) (s : Sort) → p.sort ≡ s → (qs : List Position) (r : Option Nf) → rebase_tied_equation v ms (value_at v s p.pos) qs ≡ Done None
+      → rebase_tied_equation v ms (value_at v s p.pos) (qs ++ p ∷ []) ≡ Done r → r ≡ Some (own_symbol s p.pos)
   tied_to_freed p sort.Scalar c qs r g h =
       number_self p.pos r
       (ap (λ z. number_tied_to v ms (number_at v p.pos) z p.pos (Done None)) (sym c) ∙ sym (number_more (number_at v p.pos) qs (p ∷ []) g) ∙ h)
@@ -118,7 +123,9 @@ module _ (v ms : List (Pos × Nf)) where
       let b = f.gives ms (extends_self ms) in
       let k : after (form_substituted ms (value_at v s p)) (λ u. Done (Some u)) ≡ Done r =
       sym
-      (ap (λ z. cond {A = Computed (Option Nf)} z (after (form_substituted ms (value_at v s p)) (λ u. Done (Some u))) (tied v ms (value_at v s p) qs)) b.held)
+      (ap
+      (λ z. cond {A = Computed (Option Nf)} z (after (form_substituted ms (value_at v s p)) (λ u. Done (Some u)))
+      (rebase_tied_equation v ms (value_at v s p) qs)) b.held)
       ∙ g in
       let t = goes_done (form_substituted ms (value_at v s p)) (λ u. Done (Some u)) r k in
       sym (same_Done (Some t.middle) r t.next) ∙ ap Some (b.back t.middle t.first)
@@ -129,9 +136,9 @@ module _ (v ms : List (Pos × Nf)) where
   after_freed p qs r g h = by_test (form_held ms (value_at v p.sort p.pos)) g h
     where
       by_test : (b : Bool) → cond {A = Computed (Option Nf)} b (after (form_substituted ms (value_at v p.sort p.pos)) (λ u. Done (Some u)))
-          (tied v ms (value_at v p.sort p.pos) qs) ≡ Done None
+          (rebase_tied_equation v ms (value_at v p.sort p.pos) qs) ≡ Done None
           → cond {A = Computed (Option Nf)} b (after (form_substituted ms (value_at v p.sort p.pos)) (λ u. Done (Some u)))
-          (tied v ms (value_at v p.sort p.pos) (qs ++ p ∷ [])) ≡ Done r → r ≡ Some (own_symbol p.sort p.pos)
+          (rebase_tied_equation v ms (value_at v p.sort p.pos) (qs ++ p ∷ [])) ≡ Done r → r ≡ Some (own_symbol p.sort p.pos)
       by_test true i j =
           let t = goes_done (form_substituted ms (value_at v p.sort p.pos)) (λ u. Done (Some u)) None i in
           absurd (let c : Some t.middle ≡ None = same_Done (Some t.middle) None t.next in cc c)

@@ -4,11 +4,11 @@ use Rattle.std.specs.Prelude.{◌&&◌, ◌⊎◌, slice_get}
 use Rattle.std.specs.List.{list_all}
 use Rattle.std.proofs.lemmas.Bool.{eqb-true, and_from, eqb-false}
 use Rattle.base_lemmas.proofs.Booleans.{and_first, and_second}
+use Rattle.fs_rules.specs.SoundParts.{IsSound}
 use Rattle.fs_model.specs.declared.parts.Sort.{Sort}
 use Rattle.fs_model.specs.declared.parts.Sort.TheVariants as sort
 use Rattle.fs_model.specs.declared.parts.VarInfo.{VarInfo}
 use Rattle.fs_model.specs.Machines.{Fsmd}
-use Rattle.fs_ast.specs.SoundMachines.{IsSound}
 use Rattle.nf_terms.specs.NormalTerms.{Polynomial, ArrayTerm}
 use Rattle.nf_terms.specs.Lists.{ListTerm}
 use Rattle.nf_terms.specs.Forms.{sort_of_form}
@@ -18,8 +18,9 @@ use Rattle.fs_model.specs.declared.sides.Side.TheVariants.{Left, Right}
 use Rattle.fs_model.specs.declared.sides.Pos.{Pos}
 use Rattle.nf_terms.specs.declared.form.Nf.{Nf}
 use Rattle.nf_terms.specs.declared.form.Nf.TheVariants.{Num, Arr, Seq}
-use Rattle.nf_subst.specs.Vectors.{same_sort, form_at, number_or, array_or, list_or}
-use Rattle.nf_subst.specs.SamePlaces.{own_pos}
+use Rattle.nf_terms.specs.TermSorts.{same_term_sort}
+use Rattle.nf_substitution.specs.Vectors.{form_at, number_or, array_or, list_or}
+use Rattle.nf_substitution.specs.SamePlaces.{own_pos}
 use Rattle.sym_paths.specs.ValuationStores.{at}
 use Rattle.sym_facts.specs.Facts.{FactPosition, sort_of_terms, own_symbol, form_or_symbol, vector_of, has_its_sort}
 use Rattle.propagate.specs.Rebases.{value_at}
@@ -46,11 +47,11 @@ module _ (a b : Fsmd) (v : List (Pos × Nf)) (even : IsEven a b v) where
 -- ---- forms that a vector has
 
 passed : (s : TermSort) (p : Pos) (e : Pos × Nf) (v : List (Pos × Nf)) → same_pos p e.0 ≡ false → form_at s p (e ∷ v) ≡ form_at s p v
-passed s p e v h = ap (λ b. cond {A = Option Nf} (b && same_sort s (sort_of_form e.1)) (Some e.1) (form_at s p v)) h
+passed s p e v h = ap (λ b. cond {A = Option Nf} (b && same_term_sort s (sort_of_form e.1)) (Some e.1) (form_at s p v)) h
 
-first_has : (s : TermSort) (p : Pos) (e : Pos × Nf) (v : List (Pos × Nf)) → same_pos p e.0 ≡ true → same_sort s (sort_of_form e.1) ≡ true
+first_has : (s : TermSort) (p : Pos) (e : Pos × Nf) (v : List (Pos × Nf)) → same_pos p e.0 ≡ true → same_term_sort s (sort_of_form e.1) ≡ true
     → form_at s p (e ∷ v) ≡ Some e.1
-first_has s p e v h g = ap (λ b. cond {A = Option Nf} b (Some e.1) (form_at s p v)) (and_from (same_pos p e.0) (same_sort s (sort_of_form e.1)) h g)
+first_has s p e v h g = ap (λ b. cond {A = Option Nf} b (Some e.1) (form_at s p v)) (and_from (same_pos p e.0) (same_term_sort s (sort_of_form e.1)) h g)
 
 symbol_sorted : (s : Sort) (p : Pos) → has_its_sort s (Some (own_symbol s p)) ≡ true
 symbol_sorted sort.Scalar p = refl

@@ -17,13 +17,14 @@ use Rattle.fs_model.specs.declared.sides.Pos.{Pos}
 use Rattle.nf_terms.specs.declared.tree.Base.{Base}
 use Rattle.nf_terms.specs.declared.tree.Base.TheVariants as base
 use Rattle.nf_terms.specs.declared.form.Nf.{Nf}
-use Rattle.nf_sums.specs.Operations.{added, multiplied, number}
-use Rattle.nf_arrays.specs.NewAtoms.{divided, remainder_of}
+use Rattle.nf_terms.specs.TermSorts.{same_term_sort}
+use Rattle.nf_sums.specs.Operations.{normal_sum, normal_product, number}
+use Rattle.nf_arrays.specs.NewAtoms.{quotient_of, remainder_of}
 use Rattle.nf_arrays.specs.Writes.{write_array, read_at}
-use Rattle.nf_subst.specs.Vectors.{same_sort, form_at, with_form, number_or, array_or, array_of_base}
-use Rattle.nf_subst.specs.SamePlaces.{pos_equal, sorts_equal, own_pos, own_sort}
-use Rattle.nf_subst.specs.Substitution.{atom_substituted, atoms_substituted, terms_substituted, writes_substituted, array_substituted}
-use Rattle.nf_subst.proofs.Entries.{form_put}
+use Rattle.nf_substitution.specs.Vectors.{form_at, with_form, number_or, array_or, array_of_base}
+use Rattle.nf_substitution.specs.SamePlaces.{pos_equal, sorts_equal, own_pos, own_sort}
+use Rattle.nf_substitution.specs.Substitution.{atom_substituted, atoms_substituted, terms_substituted, writes_substituted, array_substituted}
+use Rattle.nf_substitution.proofs.Entries.{form_put}
 use Rattle.propagate.specs.Rebases.{is_held}
 
 -- ---- tests of joined lists
@@ -62,19 +63,19 @@ all_held ms fs e (x ∷ xs) h =
 -- a meaning for a symbol that is not held
 module _ (ms : List (Pos × Nf)) (x : Pos) (f : Nf) where
   pub put_extends : is_held ms (x, sort_of_form f) ≡ false → Extends ms (with_form x f ms)
-  put_extends fresh = record { kept = λ q s h. by_test q s h (same_pos q x && same_sort s (sort_of_form f)) refl ∙ sym (form_put ms x q f s) }
+  put_extends fresh = record { kept = λ q s h. by_test q s h (same_pos q x && same_term_sort s (sort_of_form f)) refl ∙ sym (form_put ms x q f s) }
     where
-      by_test : (q : Pos) (s : TermSort) → is_held ms (q, s) ≡ true → (b : Bool) → same_pos q x && same_sort s (sort_of_form f) ≡ b
+      by_test : (q : Pos) (s : TermSort) → is_held ms (q, s) ≡ true → (b : Bool) → same_pos q x && same_term_sort s (sort_of_form f) ≡ b
           → form_at s q ms ≡ cond {A = Option Nf} b (Some f) (form_at s q ms)
       by_test q s h true e =
-          let i : q ≡ x = pos_equal q x (and_first (same_pos q x) (same_sort s (sort_of_form f)) e) in
-          let j : s ≡ sort_of_form f = sorts_equal s (sort_of_form f) (and_second (same_pos q x) (same_sort s (sort_of_form f)) e) in
+          let i : q ≡ x = pos_equal q x (and_first (same_pos q x) (same_term_sort s (sort_of_form f)) e) in
+          let j : s ≡ sort_of_form f = sorts_equal s (sort_of_form f) (and_second (same_pos q x) (same_term_sort s (sort_of_form f)) e) in
           absurd (let c : true ≡ false = sym h ∙ (λ k. is_held ms (i k, j k)) ∙ fresh in cc c)
       by_test q s h false e = refl
 
   pub put_there : form_at (sort_of_form f) x (with_form x f ms) ≡ Some f
   put_there = form_put ms x x f (sort_of_form f) ∙ ap (λ b. cond {A = Option Nf} b (Some f) (form_at (sort_of_form f) x ms))
-      (and_from (same_pos x x) (same_sort (sort_of_form f) (sort_of_form f)) (own_pos x) (own_sort (sort_of_form f)))
+      (and_from (same_pos x x) (same_term_sort (sort_of_form f) (sort_of_form f)) (own_pos x) (own_sort (sort_of_form f)))
 
 -- ---- a substitution sees the symbols of its term alone
 
@@ -90,7 +91,7 @@ module _ (v w : List (Pos × Nf)) (n : Pos × TermSort → Bool) (agree : (q : P
         λ k. after (array_again b (all_left n (symbols_of_array b) (symbols_of i) h) k)
         (λ x. after (terms_again i (all_right n (symbols_of_array b) (symbols_of i) h) Zero k) (λ j. read_at x j))
     atom_again (Quotient p q) h = λ k. after (terms_again p (all_left n (symbols_of p) (symbols_of q) h) Zero k)
-        (λ x. after (terms_again q (all_right n (symbols_of p) (symbols_of q) h) Zero k) (λ y. divided x y))
+        (λ x. after (terms_again q (all_right n (symbols_of p) (symbols_of q) h) Zero k) (λ y. quotient_of x y))
     atom_again (Remainder p q) h = λ k. after (terms_again p (all_left n (symbols_of p) (symbols_of q) h) Zero k)
         (λ x. after (terms_again q (all_right n (symbols_of p) (symbols_of q) h) Zero k) (λ y. remainder_of x y))
 
@@ -98,13 +99,13 @@ module _ (v w : List (Pos × Nf)) (n : Pos × TermSort → Bool) (agree : (q : P
     atoms_again One h z = refl
     atoms_again (Times t m) h z =
         λ k. after (atom_again t (all_left n (symbols_of_atom t) (symbols_of_monomial m) h) k)
-        (λ f. after (multiplied z f) (λ p. atoms_again m (all_right n (symbols_of_atom t) (symbols_of_monomial m) h) p k))
+        (λ f. after (normal_product z f) (λ p. atoms_again m (all_right n (symbols_of_atom t) (symbols_of_monomial m) h) p k))
 
     pub terms_again : (p : Polynomial) → list_all n (symbols_of p) ≡ true → (z : Polynomial) → terms_substituted v p z ≡ terms_substituted w p z
     terms_again Zero h z = refl
     terms_again (Plus m c p) h z =
         λ k. after (after (number c) (λ x. atoms_again m (all_left n (symbols_of_monomial m) (symbols_of p) h) x k))
-        (λ t. after (added z t) (λ s. terms_again p (all_right n (symbols_of_monomial m) (symbols_of p) h) s k))
+        (λ t. after (normal_sum z t) (λ s. terms_again p (all_right n (symbols_of_monomial m) (symbols_of p) h) s k))
 
     writes_again : (ws : Writes) → list_all n (symbols_of_writes ws) ≡ true → (b : ArrayTerm) → writes_substituted v ws b ≡ writes_substituted w ws b
     writes_again NoWrites h b = refl

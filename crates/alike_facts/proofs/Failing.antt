@@ -15,8 +15,8 @@ use Rattle.nf_terms.specs.declared.form.Nf.{Nf}
 use Rattle.nf_terms.specs.declared.form.Nf.TheVariants.{Num, Arr, Seq}
 use Rattle.nf_terms.proofs.Computed.{same_Done}
 use Rattle.nf_sums.proofs.Values.{goes_done}
-use Rattle.nf_subst.specs.Vectors.{array_form, list_at}
-use Rattle.nf_subst.specs.Substitution.{substituted}
+use Rattle.nf_substitution.specs.Vectors.{array_form, list_at}
+use Rattle.nf_substitution.specs.Substitution.{polynomial_substituted}
 use Rattle.sym_paths.specs.Sequences.{each}
 use Rattle.sym_facts.specs.Facts.{FactPosition, own_symbol, form_or_symbol, has_its_sort}
 use Rattle.sym_facts.specs.Entailment.{form_substituted, form_like, equation_met, false_places}
@@ -64,7 +64,7 @@ module _ (v : List (Pos × Nf)) (risen : IsRisenVector v) where
   -- the symbol of a position, substituted, is what stands at it
   symbol_met : (s : Sort) (p : Pos) (r : Nf) → form_substituted v (own_symbol s p) ≡ Done r → r ≡ value_at v s p
   symbol_met sort.Scalar p r e =
-      let t = goes_done (substituted v (polynomial_of_symbol p)) (λ q. Done (Num q)) r e in
+      let t = goes_done (polynomial_substituted v (polynomial_of_symbol p)) (λ q. Done (Num q)) r e in
       sym (same_Done (Num t.middle) r t.next) ∙ ap Num (symbol_substituted v p t.middle (risen.numbers p) t.first)
   symbol_met sort.Array p r e = sym (same_Done (Arr (array_form v p)) r e)
   symbol_met sort.Port p r e = sym (same_Done (Seq (list_at v p)) r e)

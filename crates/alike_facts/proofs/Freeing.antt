@@ -22,14 +22,15 @@ use Rattle.nf_terms.specs.declared.form.Nf.{Nf}
 use Rattle.nf_terms.specs.declared.form.Nf.TheVariants.{Num, Arr, Seq}
 use Rattle.nf_terms.proofs.Computed.{same_Done}
 use Rattle.nf_sums.proofs.Values.{goes_done}
-use Rattle.nf_subst.specs.Vectors.{form_at, with_form, number_or, array_or, list_or, number_at, array_form, list_at}
-use Rattle.nf_subst.specs.Substitution.{substituted}
+use Rattle.nf_substitution.specs.Vectors.{form_at, with_form, number_or, array_or, list_or, number_at, array_form, list_at}
+use Rattle.nf_substitution.specs.Substitution.{polynomial_substituted}
 use Rattle.sym_facts.specs.Facts.{sort_of_terms, own_symbol}
 use Rattle.sym_facts.specs.Entailment.{form_substituted}
 use Rattle.sym_facts.proofs.StartSolved.{own_sort_of}
 use Rattle.propagate.specs.Rebases.{value_at, is_held, number_held, form_held, lone_symbol, bare_number, bare_base, symbol_of_array, symbol_of_list}
-use Rattle.propagate.specs.Rebases.{bare_symbol, RebaseState, with_mark, unheld, symbol_found, first_by, first_pass, Split, split, less_rest, Solution}
-use Rattle.propagate.specs.Rebases.{solution, solved, second_by, second_pass}
+use Rattle.propagate.specs.Rebases.{bare_symbol, RebaseState, with_mark, unheld_symbol, symbol_found, first_by, first_pass, Split, split_off_symbol, less_rest}
+use Rattle.propagate.specs.Rebases.{Solution}
+use Rattle.propagate.specs.Rebases.{solution, second_pass_solution, second_by, second_pass}
 use Rattle.alike_terms.specs.Risen.{is_risen}
 use Rattle.alike_terms.proofs.SubstitutedWorth.{symbol_substituted}
 use Rattle.alike_facts.specs.EvenFacts.{AreEvenValues}
@@ -80,7 +81,7 @@ value_of_form fs sort.Port x p e = ap (λ o. Seq (list_or (bare_list (list.Sym x
 symbol_gives : (fs : List (Pos × Nf)) (s : Sort) (x p : Pos) (u : Nf) → value_at fs s x ≡ own_symbol s p → form_substituted fs (own_symbol s x) ≡ Done u
     → u ≡ own_symbol s p
 symbol_gives fs sort.Scalar x p u e g =
-    let t = goes_done (substituted fs (polynomial_of_symbol x)) (λ q. Done (Num q)) u g in
+    let t = goes_done (polynomial_substituted fs (polynomial_of_symbol x)) (λ q. Done (Num q)) u g in
     let n : number_at fs x ≡ polynomial_of_symbol p = cc e in
     let r : is_risen (number_at fs x) ≡ true = subst (λ z. is_risen z ≡ true) (sym n) refl in
     sym (same_Done (Num t.middle) u t.next) ∙ ap Num (symbol_substituted fs x t.middle r t.first) ∙ e
@@ -130,7 +131,7 @@ module _ (v : List (Pos × Nf)) where
     freed : IsFreed v (with_form x (own_symbol s p) ms) s p
     now : is_held (with_form x (own_symbol s p) ms) (x, sort_of_terms s) ≡ true
 
-  fresh_of : (ms : List (Pos × Nf)) (s : TermSort) (o : Option Pos) (x : Pos) → unheld ms s o ≡ Some x → (o ≡ Some x) × (is_held ms (x, s) ≡ false)
+  fresh_of : (ms : List (Pos × Nf)) (s : TermSort) (o : Option Pos) (x : Pos) → unheld_symbol ms s o ≡ Some x → (o ≡ Some x) × (is_held ms (x, s) ≡ false)
   fresh_of ms s None x e = absurd (cc e)
   fresh_of ms s (Some y) x e = by_test (is_held ms (y, s)) refl e
     where
@@ -161,7 +162,7 @@ module _ (v : List (Pos × Nf)) where
 
   -- positions of one sort and one value find alike
   found_alike : (ms : List (Pos × Nf)) (s r : Sort) (p q : Pos) → s ≡ r → value_at v s p ≡ value_at v r q → symbol_found v ms s p ≡ symbol_found v ms r q
-  found_alike ms s r p q c e = λ k. unheld ms (sort_of_terms (c k)) (bare_symbol (e k))
+  found_alike ms s r p q c e = λ k. unheld_symbol ms (sort_of_terms (c k)) (bare_symbol (e k))
 
   -- after the first one has found its symbol, the second one finds none
   found_none : (ms : List (Pos × Nf)) (s r : Sort) (p q x : Pos) → s ≡ r → value_at v s p ≡ value_at v r q → symbol_found v ms s p ≡ Some x
@@ -169,7 +170,7 @@ module _ (v : List (Pos × Nf)) where
   found_none ms s r p q x c e g =
       let f = fresh_of ms (sort_of_terms s) (bare_symbol (value_at v s p)) x g in
       let ns = with_form x (own_symbol s p) ms in
-      sym (found_alike ns s r p q c e) ∙ ap (unheld ns (sort_of_terms s)) f.0 ∙ ap (λ b. cond {A = Option Pos} b None (Some x)) (finds ms s p x g).now
+      sym (found_alike ns s r p q c e) ∙ ap (unheld_symbol ns (sort_of_terms s)) f.0 ∙ ap (λ b. cond {A = Option Pos} b None (Some x)) (finds ms s p x g).now
 
   first_marks : (ps : List Position) → AreEvenValues v (map place ps) → (ms : List (Pos × Nf)) → AreMarked v ps (first_pass v ps ms) ms
   first_marks [] e ms = record { marks = tt; grows = extends_self ms }
@@ -202,17 +203,19 @@ module _ (v : List (Pos × Nf)) where
     grows : Extends ms (with_form x.symbol (Num x.meaning) ms)
     freed : IsFreed v (with_form x.symbol (Num x.meaning) ms) s p
 
-  solution_freed : (ms : List (Pos × Nf)) (p : Pos) (o : Option Split) (x : Solution) → split ms (number_at v p) ≡ o → solution ms p o ≡ Done (Some x)
+  solution_freed : (ms : List (Pos × Nf)) (p : Pos) (o : Option Split) (x : Solution) → split_off_symbol ms (number_at v p) ≡ o
+      → solution ms p o ≡ Done (Some x)
       → Solves ms sort.Scalar p x
   solution_freed ms p None x s g = absurd (cc g)
   solution_freed ms p (Some y) x s g = by_test (number_held ms y.rest) refl g
     where
       by_test : (b : Bool) → number_held ms y.rest ≡ b
           → cond {A = Computed (Option Solution)} b
-          (after (substituted ms y.rest) (λ r. after (less_rest y.positive p r) (λ t. Done (Some (record { symbol = y.symbol; meaning = t }))))) (Done None)
+          (after (polynomial_substituted ms y.rest) (λ r. after (less_rest y.positive p r) (λ t. Done (Some (record { symbol = y.symbol; meaning = t })))))
+          (Done None)
           ≡ Done (Some x) → Solves ms sort.Scalar p x
       by_test true i k =
-          let a = goes_done (substituted ms y.rest)
+          let a = goes_done (polynomial_substituted ms y.rest)
           (λ r. after (less_rest y.positive p r) (λ t. Done (Some (record { symbol = y.symbol; meaning = t })))) (Some x) k in
           let b = goes_done (less_rest y.positive p a.middle) (λ t. Done (Some (record { symbol = y.symbol; meaning = t }))) (Some x) a.next in
           let c : record { symbol = y.symbol; meaning = b.middle } ≡ x =
@@ -222,7 +225,7 @@ module _ (v : List (Pos × Nf)) where
           some_is : (m n : Solution) → Some m ≡ Some n → m ≡ n
           some_is m n e = cc e
 
-          solving : (r m : Polynomial) → number_held ms y.rest ≡ true → substituted ms y.rest ≡ Done r → less_rest y.positive p r ≡ Done m
+          solving : (r m : Polynomial) → number_held ms y.rest ≡ true → polynomial_substituted ms y.rest ≡ Done r → less_rest y.positive p r ≡ Done m
               → Solves ms sort.Scalar p (record { symbol = y.symbol; meaning = m })
           solving r m i e l =
               let f = split_from ms (number_at v p) y s in
@@ -237,7 +240,7 @@ module _ (v : List (Pos × Nf)) where
                       let ext = extends_on ms ns fs grown g in
                       record {
                         held = f.whole (is_held fs) (all_held ms fs ext (symbols_of y.rest) i) (ap is_some at);
-                        back = λ u h. let t = goes_done (substituted fs (number_at v p)) (λ q. Done (Num q)) u h in
+                        back = λ u h. let t = goes_done (polynomial_substituted fs (number_at v p)) (λ q. Done (Num q)) u h in
                             sym (same_Done (Num t.middle) u t.next)
                             ∙ ap Num
                             (solved_back ms fs (number_at v p) y p r m t.middle s i e l ext (ap (number_or (polynomial_of_symbol y.symbol)) at) t.first);
@@ -246,8 +249,8 @@ module _ (v : List (Pos × Nf)) where
               }
       by_test false i k = absurd (let d : None ≡ Some x = same_Done None (Some x) k in cc d)
 
-  solved_freed : (ms : List (Pos × Nf)) (s : Sort) (p : Pos) (x : Solution) → solved false v ms s p ≡ Done (Some x) → Solves ms s p x
-  solved_freed ms sort.Scalar p x g = solution_freed ms p (split ms (number_at v p)) x refl g
+  solved_freed : (ms : List (Pos × Nf)) (s : Sort) (p : Pos) (x : Solution) → second_pass_solution false v ms s p ≡ Done (Some x) → Solves ms s p x
+  solved_freed ms sort.Scalar p x g = solution_freed ms p (split_off_symbol ms (number_at v p)) x refl g
   solved_freed ms sort.Array p x g = absurd (let d : None ≡ Some x = same_Done None (Some x) g in cc d)
   solved_freed ms sort.Port p x g = absurd (let d : None ≡ Some x = same_Done None (Some x) g in cc d)
 
@@ -256,13 +259,13 @@ module _ (v : List (Pos × Nf)) where
   solution_none ms p q (Some x) e = by_test (number_held ms x.rest) e
     where
       by_test : (b : Bool) → cond {A = Computed (Option Solution)} b
-          (after (substituted ms x.rest) (λ r. after (less_rest x.positive p r) (λ t. Done (Some (record { symbol = x.symbol; meaning = t })))))
+          (after (polynomial_substituted ms x.rest) (λ r. after (less_rest x.positive p r) (λ t. Done (Some (record { symbol = x.symbol; meaning = t })))))
           (Done None) ≡ Done None
           → cond {A = Computed (Option Solution)} b
-          (after (substituted ms x.rest) (λ r. after (less_rest x.positive q r) (λ t. Done (Some (record { symbol = x.symbol; meaning = t })))))
+          (after (polynomial_substituted ms x.rest) (λ r. after (less_rest x.positive q r) (λ t. Done (Some (record { symbol = x.symbol; meaning = t })))))
           (Done None) ≡ Done None
       by_test true k =
-          let a = goes_done (substituted ms x.rest)
+          let a = goes_done (polynomial_substituted ms x.rest)
           (λ r. after (less_rest x.positive p r) (λ t. Done (Some (record { symbol = x.symbol; meaning = t })))) None k in
           let b = goes_done (less_rest x.positive p a.middle) (λ t. Done (Some (record { symbol = x.symbol; meaning = t }))) None a.next in
           absurd
@@ -273,15 +276,16 @@ module _ (v : List (Pos × Nf)) where
   number_of_value : (p q : Pos) → value_at v sort.Scalar p ≡ value_at v sort.Scalar q → number_at v p ≡ number_at v q
   number_of_value p q e = cc e
 
-  solved_none : (ms : List (Pos × Nf)) (s : Sort) (p q : Pos) → value_at v s p ≡ value_at v s q → solved false v ms s p ≡ Done None
-      → solved false v ms s q ≡ Done None
-  solved_none ms sort.Scalar p q e h = ap (λ t. solution ms q (split ms t)) (sym (number_of_value p q e)) ∙ solution_none ms p q (split ms (number_at v p)) h
+  solved_none : (ms : List (Pos × Nf)) (s : Sort) (p q : Pos) → value_at v s p ≡ value_at v s q → second_pass_solution false v ms s p ≡ Done None
+      → second_pass_solution false v ms s q ≡ Done None
+  solved_none ms sort.Scalar p q e h = ap (λ t. solution ms q (split_off_symbol ms t)) (sym (number_of_value p q e))
+      ∙ solution_none ms p q (split_off_symbol ms (number_at v p)) h
   solved_none ms sort.Array p q e h = refl
   solved_none ms sort.Port p q e h = refl
 
   -- after the first one is free, the second one is not solved
-  stuck : (ms : List (Pos × Nf)) (s : Sort) (p q : Pos) → value_at v s p ≡ value_at v s q → IsFreed v ms s p → solved false v ms s q ≡ Done None
-  stuck ms sort.Scalar p q e f = ap (λ t. solution ms q (split ms t)) (sym (number_of_value p q e))
+  stuck : (ms : List (Pos × Nf)) (s : Sort) (p q : Pos) → value_at v s p ≡ value_at v s q → IsFreed v ms s p → second_pass_solution false v ms s q ≡ Done None
+  stuck ms sort.Scalar p q e f = ap (λ t. solution ms q (split_off_symbol ms t)) (sym (number_of_value p q e))
       ∙ ap (solution ms q) (split_none ms (number_at v p) (f.gives ms (extends_self ms)).held)
   stuck ms sort.Array p q e f = refl
   stuck ms sort.Port p q e f = refl
@@ -292,7 +296,8 @@ module _ (v : List (Pos × Nf)) where
     whole : with_mark false rest ≡ h
 
   second_stays : (ns : List (Pos × Nf)) (q : Position) (later : List (Pos × Nf) → Computed RebaseState) (h : RebaseState)
-      → solved false v ns q.sort q.pos ≡ Done None → after (solved false v ns q.sort q.pos) (λ o. second_by false o ns later) ≡ Done h → SecondStays later ns h
+      → second_pass_solution false v ns q.sort q.pos ≡ Done None
+      → after (second_pass_solution false v ns q.sort q.pos) (λ o. second_by false o ns later) ≡ Done h → SecondStays later ns h
   second_stays ns q later h e g =
       let k : after (later ns) (λ x. Done (with_mark false x)) ≡ Done h = sym (ap (λ z. after z (λ o. second_by false o ns later)) e) ∙ g in
       let s = goes_done (later ns) (λ x. Done (with_mark false x)) h k in
@@ -322,35 +327,36 @@ module _ (v : List (Pos × Nf)) where
   second_marks (p ∷ q ∷ ps) e (b ∷ true ∷ bs) ms h (d, f, m) g = absurd (cc d)
   second_marks (p ∷ q ∷ ps) (c, e, es) (true ∷ false ∷ bs) ms h (d, f, m) g =
       let equal : value_at v q.sort p.pos ≡ value_at v q.sort q.pos = ap (λ z. value_at v z p.pos) (sym c) ∙ e in
-      let s = goes_done (after (solved false v ms q.sort q.pos) (λ o. second_by false o ms (λ ns. second_pass v ps bs ns)))
+      let s = goes_done (after (second_pass_solution false v ms q.sort q.pos) (λ o. second_by false o ms (λ ns. second_pass v ps bs ns)))
       (λ x. Done (with_mark true x)) h g in
       let r = second_stays ms q (λ ns. second_pass v ps bs ns) s.middle
       (stuck ms q.sort p.pos q.pos equal (subst (λ z. IsFreed v ms z p.pos) c (f refl))) s.first in
       couple_marked p q ps true ms ms r.rest s.middle h r.whole (same_Done (with_mark true s.middle) h s.next)
       (extends_self ms) f (second_marks ps es bs ms r.rest m r.given)
   second_marks (p ∷ q ∷ ps) (c, e, es) (false ∷ false ∷ bs) ms h (d, f, m) g =
-      let a = goes_done (solved false v ms p.sort p.pos)
-      (λ o. second_by false o ms (λ ns. after (solved false v ns q.sort q.pos) (λ o. second_by false o ns (λ ns. second_pass v ps bs ns)))) h g in
+      let a = goes_done (second_pass_solution false v ms p.sort p.pos)
+      (λ o. second_by false o ms (λ ns. after (second_pass_solution false v ns q.sort q.pos) (λ o. second_by false o ns (λ ns. second_pass v ps bs ns)))) h g in
       by_solution (λ ns x k i. second_marks ps es bs ns x (marks_later ps bs ms ns k m) i) a.middle a.first a.next
     where
       equal : value_at v q.sort p.pos ≡ value_at v q.sort q.pos
       equal = ap (λ z. value_at v z p.pos) (sym c) ∙ e
 
       by_solution : ((ns : List (Pos × Nf)) (x : RebaseState) → Extends ms ns → second_pass v ps bs ns ≡ Done x → AreMarked v ps x ns) → (o : Option Solution)
-          → solved false v ms p.sort p.pos ≡ Done o
-          → second_by false o ms (λ ns. after (solved false v ns q.sort q.pos) (λ o. second_by false o ns (λ ns. second_pass v ps bs ns))) ≡ Done h
+          → second_pass_solution false v ms p.sort p.pos ≡ Done o
+          → second_by false o ms (λ ns. after (second_pass_solution false v ns q.sort q.pos) (λ o. second_by false o ns (λ ns. second_pass v ps bs ns)))
+          ≡ Done h
           → AreMarked v (p ∷ q ∷ ps) h ms
       by_solution again None i k =
-          let s = goes_done (after (solved false v ms q.sort q.pos) (λ o. second_by false o ms (λ ns. second_pass v ps bs ns)))
+          let s = goes_done (after (second_pass_solution false v ms q.sort q.pos) (λ o. second_by false o ms (λ ns. second_pass v ps bs ns)))
           (λ x. Done (with_mark false x)) h k in
           let r = second_stays ms q (λ ns. second_pass v ps bs ns) s.middle
-          (solved_none ms q.sort p.pos q.pos equal (ap (λ z. solved false v ms z p.pos) (sym c) ∙ i)) s.first in
+          (solved_none ms q.sort p.pos q.pos equal (ap (λ z. second_pass_solution false v ms z p.pos) (sym c) ∙ i)) s.first in
           couple_marked p q ps false ms ms r.rest s.middle h r.whole (same_Done (with_mark false s.middle) h s.next) (extends_self ms)
           (λ t. absurd (let z : false ≡ true = t in cc z)) (again ms r.rest (extends_self ms) r.given)
       by_solution again (Some x) i k =
           let ns = with_form x.symbol (Num x.meaning) ms in
           let w = solved_freed ms p.sort p.pos x i in
-          let s = goes_done (after (solved false v ns q.sort q.pos) (λ o. second_by false o ns (λ ks. second_pass v ps bs ks)))
+          let s = goes_done (after (second_pass_solution false v ns q.sort q.pos) (λ o. second_by false o ns (λ ks. second_pass v ps bs ks)))
           (λ y. Done (with_mark true y)) h k in
           let r = second_stays ns q (λ ks. second_pass v ps bs ks) s.middle
           (stuck ns q.sort p.pos q.pos equal (subst (λ z. IsFreed v ns z p.pos) c w.freed)) s.first in

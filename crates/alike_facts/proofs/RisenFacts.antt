@@ -20,17 +20,20 @@ use Rattle.nf_terms.specs.declared.tree.Base.TheVariants as base
 use Rattle.nf_terms.specs.declared.form.Nf.{Nf}
 use Rattle.nf_terms.specs.declared.form.Nf.TheVariants.{Num, Arr, Seq}
 use Rattle.nf_terms.proofs.Computed.{same_Done}
-use Rattle.nf_sums.specs.Operations.{added, subtracted}
+use Rattle.nf_terms.specs.TermSorts.{same_term_sort}
+use Rattle.nf_sums.specs.Operations.{normal_sum, normal_difference}
 use Rattle.nf_sums.proofs.Values.{goes_done}
-use Rattle.nf_subst.specs.Vectors.{same_sort, is_entry_at, form_at, with_form, number_or, array_or, number_at}
-use Rattle.nf_subst.specs.Substitution.{substituted, array_substituted, list_substituted}
-use Rattle.nf_subst.proofs.Entries.{form_put}
+use Rattle.nf_substitution.specs.Vectors.{is_entry_at, form_at, with_form, number_or, array_or, number_at}
+use Rattle.nf_substitution.specs.Substitution.{polynomial_substituted, array_substituted, list_substituted}
+use Rattle.nf_substitution.proofs.Entries.{form_put}
 use Rattle.sym_paths.specs.Execution.{Post}
 use Rattle.sym_facts.specs.Facts.{FactPosition, Fact, own_symbol, form_or_symbol, vector_of, most_literals}
 use Rattle.sym_facts.specs.Entailment.{form_substituted, Missing}
 use Rattle.sym_facts.specs.Starts.{zero_of, start_form, partner_in, start_position, start_fact}
-use Rattle.propagate.specs.Rebases.{value_at, number_held, form_held, RebaseState, with_mark, symbol_found, first_by, first_pass, Split, split, less_rest}
-use Rattle.propagate.specs.Rebases.{Solution, solution, solved, second_by, second_pass, number_tied_to, number_tied, form_tied, tied, equation_found}
+use Rattle.propagate.specs.Rebases.{value_at, number_held, form_held, RebaseState, with_mark, symbol_found, first_by, first_pass, Split, split_off_symbol}
+use Rattle.propagate.specs.Rebases.{less_rest}
+use Rattle.propagate.specs.Rebases.{Solution, solution, second_pass_solution, second_by, second_pass, number_tied_to, number_tied, form_tied}
+use Rattle.propagate.specs.Rebases.{rebase_tied_equation, equation_found}
 use Rattle.propagate.specs.Rebases.{freed_with, with_equation, third_pass, with_needed, conditions_over, rebase}
 use Rattle.propagate.specs.Joins as joins
 use Rattle.propagate.specs.Joins.{Freed, symbol_like, is_alike, position_joined, is_among, positions_joined, literals_kept, join}
@@ -54,7 +57,7 @@ none_rise : AllRise []
 none_rise = record { at = λ s q f e. absurd (let c : None ≡ Some f = e in cc c) }
 
 put_rises : (ms : List (Pos × Nf)) (x : Pos) (f : Nf) → AllRise ms → IsRisenForm f → AllRise (with_form x f ms)
-put_rises ms x f h r = record { at = λ s q g e. by_test s q g (same_pos q x && same_sort s (sort_of_form f)) (sym (form_put ms x q f s) ∙ e) }
+put_rises ms x f h r = record { at = λ s q g e. by_test s q g (same_pos q x && same_term_sort s (sort_of_form f)) (sym (form_put ms x q f s) ∙ e) }
   where
     by_test : (s : TermSort) (q : Pos) (g : Nf) (b : Bool) → cond {A = Option Nf} b (Some f) (form_at s q ms) ≡ Some g → IsRisenForm g
     by_test s q g true e = let k : f ≡ g = cc e in subst IsRisenForm k r
@@ -134,10 +137,11 @@ module _ (v : List (Pos × Nf)) where
     where
       by_test :
           (b : Bool) → cond {A = Computed (Option Solution)} b
-          (after (substituted ms y.rest) (λ r. after (less_rest y.positive p r) (λ t. Done (Some (record { symbol = y.symbol; meaning = t }))))) (Done None)
+          (after (polynomial_substituted ms y.rest) (λ r. after (less_rest y.positive p r) (λ t. Done (Some (record { symbol = y.symbol; meaning = t })))))
+          (Done None)
           ≡ Done (Some x) → is_risen x.meaning ≡ true
       by_test true k =
-          let a = goes_done (substituted ms y.rest)
+          let a = goes_done (polynomial_substituted ms y.rest)
           (λ r. after (less_rest y.positive p r) (λ t. Done (Some (record { symbol = y.symbol; meaning = t })))) (Some x) k in
           let b = goes_done (less_rest y.positive p a.middle) (λ t. Done (Some (record { symbol = y.symbol; meaning = t }))) (Some x) a.next in
           let s : Some (record { symbol = y.symbol; meaning = b.middle }) ≡ Some x =
@@ -146,9 +150,10 @@ module _ (v : List (Pos × Nf)) where
           subst (λ (z : Solution). is_risen z.meaning ≡ true) c (less_rises y.positive p a.middle b.middle b.first)
       by_test false k = absurd (let c : None ≡ Some x = same_Done None (Some x) k in cc c)
 
-  solved_rises : (b : Bool) (ms : List (Pos × Nf)) (s : Sort) (p : Pos) (x : Solution) → solved b v ms s p ≡ Done (Some x) → is_risen x.meaning ≡ true
+  solved_rises : (b : Bool) (ms : List (Pos × Nf)) (s : Sort) (p : Pos) (x : Solution) → second_pass_solution b v ms s p ≡ Done (Some x)
+      → is_risen x.meaning ≡ true
   solved_rises true ms s p x e = absurd (let c : None ≡ Some x = same_Done None (Some x) e in cc c)
-  solved_rises false ms sort.Scalar p x e = solution_rises ms p (split ms (number_at v p)) x e
+  solved_rises false ms sort.Scalar p x e = solution_rises ms p (split_off_symbol ms (number_at v p)) x e
   solved_rises false ms sort.Array p x e = absurd (let c : None ≡ Some x = same_Done None (Some x) e in cc c)
   solved_rises false ms sort.Port p x e = absurd (let c : None ≡ Some x = same_Done None (Some x) e in cc c)
 
@@ -157,10 +162,10 @@ module _ (v : List (Pos × Nf)) where
   second_rises [] bs ms h r e = subst (λ (z : RebaseState). AllRise z.meanings) (same_Done (record { free = []; meanings = ms }) h e) r
   second_rises (p ∷ ps) [] ms h r e = subst (λ (z : RebaseState). AllRise z.meanings) (same_Done (record { free = []; meanings = ms }) h e) r
   second_rises (p ∷ ps) (b ∷ bs) ms h r e =
-      let s = goes_done (solved b v ms p.sort p.pos) (λ o. second_by b o ms (λ ns. second_pass v ps bs ns)) h e in
+      let s = goes_done (second_pass_solution b v ms p.sort p.pos) (λ o. second_by b o ms (λ ns. second_pass v ps bs ns)) h e in
       by_solution s.middle s.first s.next (λ ns x i g. second_rises ps bs ns x i g)
     where
-      by_solution : (o : Option Solution) → solved b v ms p.sort p.pos ≡ Done o → second_by b o ms (λ ns. second_pass v ps bs ns) ≡ Done h
+      by_solution : (o : Option Solution) → second_pass_solution b v ms p.sort p.pos ≡ Done o → second_by b o ms (λ ns. second_pass v ps bs ns) ≡ Done h
           → ((ns : List (Pos × Nf)) (x : RebaseState) → AllRise ns → second_pass v ps bs ns ≡ Done x → AllRise x.meanings) → AllRise h.meanings
       by_solution None i g again =
           let t = goes_done (second_pass v ps bs ms) (λ h. Done (with_mark b h)) h g in
@@ -176,7 +181,7 @@ module _ (v : List (Pos × Nf)) where
   module _ (ms : List (Pos × Nf)) (risen : IsRisenVector ms) where
     form_rises : (t r : Nf) → form_substituted ms t ≡ Done r → IsRisenForm r
     form_rises (Num p) r e =
-        let s = goes_done (substituted ms p) (λ q. Done (Num q)) r e in
+        let s = goes_done (polynomial_substituted ms p) (λ q. Done (Num q)) r e in
         subst IsRisenForm (same_Done (Num s.middle) r s.next) (substituted_rises ms p s.middle s.first)
     form_rises (Arr a) r e =
         let s = goes_done (array_substituted ms a) (λ b. Done (Arr b)) r e in
@@ -188,16 +193,18 @@ module _ (v : List (Pos × Nf)) where
     number_to_rises : (t : Polynomial) (s : Sort) (q : Pos) (l : Computed (Option Nf)) (o : Option Nf) → (l ≡ Done o → IsRisenEquation o)
         → number_tied_to v ms t s q l ≡ Done o → IsRisenEquation o
     number_to_rises t sort.Scalar q l o next e =
-        let a = goes_done (subtracted t (number_at v q))
-        (λ d. cond (number_held ms d) (after (substituted ms d) (λ e. after (added (polynomial_of_symbol q) e) (λ r. Done (Some (Num r))))) l) o e in
+        let a = goes_done (normal_difference t (number_at v q))
+        (λ d. cond (number_held ms d) (after (polynomial_substituted ms d) (λ e. after (normal_sum (polynomial_of_symbol q) e) (λ r. Done (Some (Num r))))) l) o
+        e in
         by_test a.middle (number_held ms a.middle) a.next
       where
         by_test : (d : Polynomial) (b : Bool)
-            → cond {A = Computed (Option Nf)} b (after (substituted ms d) (λ e. after (added (polynomial_of_symbol q) e) (λ r. Done (Some (Num r))))) l ≡ Done o
+            → cond {A = Computed (Option Nf)} b
+            (after (polynomial_substituted ms d) (λ e. after (normal_sum (polynomial_of_symbol q) e) (λ r. Done (Some (Num r))))) l ≡ Done o
             → IsRisenEquation o
         by_test d true k =
-            let x = goes_done (substituted ms d) (λ e. after (added (polynomial_of_symbol q) e) (λ r. Done (Some (Num r)))) o k in
-            let y = goes_done (added (polynomial_of_symbol q) x.middle) (λ r. Done (Some (Num r))) o x.next in
+            let x = goes_done (polynomial_substituted ms d) (λ e. after (normal_sum (polynomial_of_symbol q) e) (λ r. Done (Some (Num r)))) o k in
+            let y = goes_done (normal_sum (polynomial_of_symbol q) x.middle) (λ r. Done (Some (Num r))) o x.next in
             subst IsRisenEquation (same_Done (Some (Num y.middle)) o y.next) (sum_rises (polynomial_of_symbol q) x.middle y.middle y.first)
         by_test d false k = next k
     number_to_rises t sort.Array q l o next e = next e
@@ -215,7 +222,7 @@ module _ (v : List (Pos × Nf)) where
         by_test true next = own_rises q.sort q.pos
         by_test false next = next
 
-    tied_rises : (t : Nf) (qs : List Position) (o : Option Nf) → tied v ms t qs ≡ Done o → IsRisenEquation o
+    tied_rises : (t : Nf) (qs : List Position) (o : Option Nf) → rebase_tied_equation v ms t qs ≡ Done o → IsRisenEquation o
     tied_rises (Num t) qs o e = number_tied_rises t qs o e
     tied_rises (Arr a) qs o e = subst IsRisenEquation (same_Done (form_tied v (Arr a) qs) o e) (form_tied_rises (Arr a) qs)
     tied_rises (Seq l) qs o e = subst IsRisenEquation (same_Done (form_tied v (Seq l) qs) o e) (form_tied_rises (Seq l) qs)
@@ -223,7 +230,7 @@ module _ (v : List (Pos × Nf)) where
     found_rises : (t : Nf) (qs : List Position) (o : Option Nf) → equation_found v ms t qs ≡ Done o → IsRisenEquation o
     found_rises t qs o e = by_test (form_held ms t) e
       where
-        by_test : (b : Bool) → cond {A = Computed (Option Nf)} b (after (form_substituted ms t) (λ r. Done (Some r))) (tied v ms t qs) ≡ Done o
+        by_test : (b : Bool) → cond {A = Computed (Option Nf)} b (after (form_substituted ms t) (λ r. Done (Some r))) (rebase_tied_equation v ms t qs) ≡ Done o
             → IsRisenEquation o
         by_test true k =
             let s = goes_done (form_substituted ms t) (λ r. Done (Some r)) o k in
@@ -272,20 +279,23 @@ module _ (v : List (Pos × Nf)) where
   join_to_rises : (p : Pos) (t : Polynomial) (q : Pos) (x : Nf) (l : Computed (Option Nf)) (o : Option Nf) → (l ≡ Done o → IsRisenEquation o)
       → joins.number_tied_to v p t q x l ≡ Done o → IsRisenEquation o
   join_to_rises p t q (Num u) l o next e =
-      let a = goes_done (subtracted t u)
-      (λ d. after (subtracted (number_at v p) (number_at v q))
-      (λ c. after (substituted v d) (λ s. cond (same_polynomial c s) (after (added (polynomial_of_symbol q) d) (λ r. Done (Some (Num r)))) l))) o e in
-      let b = goes_done (subtracted (number_at v p) (number_at v q))
-      (λ c. after (substituted v a.middle) (λ s. cond (same_polynomial c s) (after (added (polynomial_of_symbol q) a.middle) (λ r. Done (Some (Num r)))) l)) o
+      let a = goes_done (normal_difference t u)
+      (λ d. after (normal_difference (number_at v p) (number_at v q))
+      (λ c. after (polynomial_substituted v d) (λ s. cond (same_polynomial c s) (after (normal_sum (polynomial_of_symbol q) d) (λ r. Done (Some (Num r)))) l)))
+      o e in
+      let b = goes_done (normal_difference (number_at v p) (number_at v q))
+      (λ c. after (polynomial_substituted v a.middle)
+      (λ s. cond (same_polynomial c s) (after (normal_sum (polynomial_of_symbol q) a.middle) (λ r. Done (Some (Num r)))) l)) o
       a.next in
-      let c = goes_done (substituted v a.middle)
-      (λ s. cond (same_polynomial b.middle s) (after (added (polynomial_of_symbol q) a.middle) (λ r. Done (Some (Num r)))) l) o b.next in
+      let c = goes_done (polynomial_substituted v a.middle)
+      (λ s. cond (same_polynomial b.middle s) (after (normal_sum (polynomial_of_symbol q) a.middle) (λ r. Done (Some (Num r)))) l) o b.next in
       by_test a.middle (same_polynomial b.middle c.middle) c.next
     where
-      by_test : (d : Polynomial) (z : Bool) → cond {A = Computed (Option Nf)} z (after (added (polynomial_of_symbol q) d) (λ r. Done (Some (Num r)))) l ≡ Done o
+      by_test : (d : Polynomial) (z : Bool)
+          → cond {A = Computed (Option Nf)} z (after (normal_sum (polynomial_of_symbol q) d) (λ r. Done (Some (Num r)))) l ≡ Done o
           → IsRisenEquation o
       by_test d true k =
-          let y = goes_done (added (polynomial_of_symbol q) d) (λ r. Done (Some (Num r))) o k in
+          let y = goes_done (normal_sum (polynomial_of_symbol q) d) (λ r. Done (Some (Num r))) o k in
           subst IsRisenEquation (same_Done (Some (Num y.middle)) o y.next) (sum_rises (polynomial_of_symbol q) d y.middle y.first)
       by_test d false k = next k
   join_to_rises p t q (Arr a) l o next e = next e
@@ -303,7 +313,7 @@ module _ (v : List (Pos × Nf)) where
       by_test true next = like_rises f.pos t
       by_test false next = next
 
-  join_tied_rises : (p : Pos) (t : Nf) (fs : List Freed) (o : Option Nf) → joins.tied v p t fs ≡ Done o → IsRisenEquation o
+  join_tied_rises : (p : Pos) (t : Nf) (fs : List Freed) (o : Option Nf) → joins.tied_equation v p t fs ≡ Done o → IsRisenEquation o
   join_tied_rises p (Num t) fs o e = join_number_rises p t fs o e
   join_tied_rises p (Arr a) fs o e = subst IsRisenEquation (same_Done (joins.form_tied v p (Arr a) fs) o e) (join_form_rises p (Arr a) fs)
   join_tied_rises p (Seq l) fs o e = subst IsRisenEquation (same_Done (joins.form_tied v p (Seq l) fs) o e) (join_form_rises p (Seq l) fs)
@@ -319,7 +329,8 @@ module _ (v : List (Pos × Nf)) where
       let s = goes_done (later fs) (λ rest. Done (p ∷ rest)) qs e in
       subst AreRisenPositions (same_Done (p ∷ s.middle) qs s.next) (h, next fs s.middle s.first)
   position_rises true p (Some t) h fs later next qs e =
-      let s = goes_done (joins.tied v p.pos t fs) (λ r. after (later (joins.freed_with p.pos t r fs)) (λ rest. Done (joins.with_equation p r ∷ rest))) qs e in
+      let s = goes_done (joins.tied_equation v p.pos t fs)
+      (λ r. after (later (joins.freed_with p.pos t r fs)) (λ rest. Done (joins.with_equation p r ∷ rest))) qs e in
       let u = goes_done (later (joins.freed_with p.pos t s.middle fs)) (λ rest. Done (joins.with_equation p s.middle ∷ rest)) qs s.next in
       subst AreRisenPositions (same_Done (joins.with_equation p s.middle ∷ u.middle) qs u.next)
       (join_tied_rises p.pos t fs s.middle s.first, next (joins.freed_with p.pos t s.middle fs) u.middle u.first)

@@ -16,11 +16,11 @@ use Rattle.fs_model.specs.declared.sides.Pos.{Pos}
 use Rattle.nf_terms.specs.declared.form.Nf.{Nf}
 use Rattle.nf_terms.proofs.Computed.{same_Done}
 use Rattle.nf_sums.specs.OrderedSums.{worth_of, IgnoresOrder}
-use Rattle.nf_sums.specs.Operations.{added, number}
+use Rattle.nf_sums.specs.Operations.{normal_sum, number}
 use Rattle.nf_sums.proofs.Values.{goes_done}
-use Rattle.nf_subst.specs.Vectors.{number_at}
-use Rattle.nf_subst.specs.Substitution.{atoms_substituted, terms_substituted, substituted}
-use Rattle.propagate.specs.Rebases.{is_held, number_held, lone_atom, lone_symbol, Split, with_more_of_split, split_by, split_at, split, less_rest}
+use Rattle.nf_substitution.specs.Vectors.{number_at}
+use Rattle.nf_substitution.specs.Substitution.{atoms_substituted, terms_substituted, polynomial_substituted}
+use Rattle.propagate.specs.Rebases.{is_held, number_held, lone_atom, lone_symbol, Split, with_more_of_split, split_by, split_at, split_off_symbol, less_rest}
 use Rattle.alike_terms.proofs.RisenForms.{settled_by_worth}
 use Rattle.alike_terms.proofs.RisenSubstitutions.{substituted_rises}
 use Rattle.alike_terms.proofs.SubstitutedWorth.{sum_worth, difference_worth, unit_worth, shift}
@@ -65,13 +65,13 @@ module _ (ms : List (Pos × Nf)) where
             (f.whole n (all_right n (symbols_of_monomial m) (symbols_of y.rest) i) g);
       })
 
-  pub split_from : (p : Polynomial) (x : Split) → split ms p ≡ Some x → SplitFrom ms p x
+  pub split_from : (p : Polynomial) (x : Split) → split_off_symbol ms p ≡ Some x → SplitFrom ms p x
   split_from Zero x e = absurd (cc e)
-  split_from (Plus m c p) x e = by_symbol (lone_symbol m) refl (λ g. from_more m c p (split ms p) x (λ y i. split_from p y i) g) e
+  split_from (Plus m c p) x e = by_symbol (lone_symbol m) refl (λ g. from_more m c p (split_off_symbol ms p) x (λ y i. split_from p y i) g) e
     where
-      by_tests : (s : Pos) → lone_symbol m ≡ Some s → (option_map (with_more_of_split m c) (split ms p) ≡ Some x → SplitFrom ms (Plus m c p) x)
+      by_tests : (s : Pos) → lone_symbol m ≡ Some s → (option_map (with_more_of_split m c) (split_off_symbol ms p) ≡ Some x → SplitFrom ms (Plus m c p) x)
           → (b one minus : Bool) → is_held ms (s, term.Scalar) ≡ b
-          → split_by b one minus s p (option_map (with_more_of_split m c) (split ms p)) ≡ Some x → SplitFrom ms (Plus m c p) x
+          → split_by b one minus s p (option_map (with_more_of_split m c) (split_off_symbol ms p)) ≡ Some x → SplitFrom ms (Plus m c p) x
       by_tests s l next true one minus f i = next i
       by_tests s l next false true minus f i = let k : record { symbol = s; positive = true; rest = p } ≡ x = cc i in
           subst (SplitFrom ms (Plus m c p)) k (from_here m c p s true (lone_is m s l) f)
@@ -79,24 +79,24 @@ module _ (ms : List (Pos × Nf)) where
           subst (SplitFrom ms (Plus m c p)) k (from_here m c p s false (lone_is m s l) f)
       by_tests s l next false false false f i = next i
 
-      by_symbol : (o : Option Pos) → lone_symbol m ≡ o → (option_map (with_more_of_split m c) (split ms p) ≡ Some x → SplitFrom ms (Plus m c p) x)
-          → split_at ms c o p (option_map (with_more_of_split m c) (split ms p)) ≡ Some x → SplitFrom ms (Plus m c p) x
+      by_symbol : (o : Option Pos) → lone_symbol m ≡ o → (option_map (with_more_of_split m c) (split_off_symbol ms p) ≡ Some x → SplitFrom ms (Plus m c p) x)
+          → split_at ms c o p (option_map (with_more_of_split m c) (split_off_symbol ms p)) ≡ Some x → SplitFrom ms (Plus m c p) x
       by_symbol None l next g = next g
       by_symbol (Some s) l next g = by_tests s l next (is_held ms (s, term.Scalar)) (int_eq c (pos 1)) (int_eq c (neg_ℤ (pos 1))) refl g
 
   -- where all symbols are held, nothing is split off
-  pub split_none : (p : Polynomial) → list_all (is_held ms) (symbols_of p) ≡ true → split ms p ≡ None
+  pub split_none : (p : Polynomial) → list_all (is_held ms) (symbols_of p) ≡ true → split_off_symbol ms p ≡ None
   split_none Zero h = refl
   split_none (Plus m c p) h =
       by_symbol (ap (option_map (with_more_of_split m c)) (split_none p (all_right (is_held ms) (symbols_of_monomial m) (symbols_of p) h))) (lone_symbol m) refl
     where
-      by_symbol : option_map (with_more_of_split m c) (split ms p) ≡ None → (o : Option Pos) → lone_symbol m ≡ o
-          → split_at ms c o p (option_map (with_more_of_split m c) (split ms p)) ≡ None
+      by_symbol : option_map (with_more_of_split m c) (split_off_symbol ms p) ≡ None → (o : Option Pos) → lone_symbol m ≡ o
+          → split_at ms c o p (option_map (with_more_of_split m c) (split_off_symbol ms p)) ≡ None
       by_symbol rest None l = rest
       by_symbol rest (Some s) l =
           let g : is_held ms (s, term.Scalar) && true ≡ true = sym (ap (λ z. list_all (is_held ms) (symbols_of_monomial z)) (lone_is m s l))
           ∙ all_left (is_held ms) (symbols_of_monomial m) (symbols_of p) h in
-          ap (λ b. split_by b (int_eq c (pos 1)) (int_eq c (neg_ℤ (pos 1))) s p (option_map (with_more_of_split m c) (split ms p)))
+          ap (λ b. split_by b (int_eq c (pos 1)) (int_eq c (neg_ℤ (pos 1))) s p (option_map (with_more_of_split m c) (split_off_symbol ms p)))
           (and_first (is_held ms (s, term.Scalar)) true g) ∙ rest
 
 -- ---- worth
@@ -114,11 +114,11 @@ module _ (f : Monomial → ℤ) (ig : IgnoresOrder f) (ms v : List (Pos × Nf)) 
   more : (m : Monomial) (c : ℤ) (p : Polynomial) (x : Split) → Claim p x → Claim (Plus m c p) (with_more_of_split m c x)
   more m c p x h z y u r e g =
       let term = after (number c) (λ n. atoms_substituted v m n) in
-      let a = goes_done term (λ q. after (added z q) (λ t. terms_substituted v p t)) u e in
-      let b = goes_done (added z a.middle) (λ t. terms_substituted v p t) u a.next in
-      let i = goes_done term (λ q. after (added y q) (λ t. terms_substituted v x.rest t)) r g in
+      let a = goes_done term (λ q. after (normal_sum z q) (λ t. terms_substituted v p t)) u e in
+      let b = goes_done (normal_sum z a.middle) (λ t. terms_substituted v p t) u a.next in
+      let i = goes_done term (λ q. after (normal_sum y q) (λ t. terms_substituted v x.rest t)) r g in
       let same : i.middle ≡ a.middle = same_Done i.middle a.middle (sym i.first ∙ a.first) in
-      let j = goes_done (added y i.middle) (λ t. terms_substituted v x.rest t) r i.next in
+      let j = goes_done (normal_sum y i.middle) (λ t. terms_substituted v x.rest t) r i.next in
       omega (
         arith,
         ints,
@@ -131,8 +131,8 @@ module _ (f : Monomial → ℤ) (ig : IgnoresOrder f) (ms v : List (Pos × Nf)) 
   here : (positive : Bool) (m : Monomial) (c d : ℤ) (p : Polynomial) (s : Pos) → m ≡ Times (Symbol s) One → c ≡ d → ((k : ℤ) → d *ℤ k ≡ signed_z positive k)
       → Claim (Plus m c p) (record { symbol = s; positive = positive; rest = p })
   here positive m c d p s l k w z y u r e g =
-      let a = goes_done (after (number c) (λ n. atoms_substituted v m n)) (λ q. after (added z q) (λ t. terms_substituted v p t)) u e in
-      let b = goes_done (added z a.middle) (λ t. terms_substituted v p t) u a.next in
+      let a = goes_done (after (number c) (λ n. atoms_substituted v m n)) (λ q. after (normal_sum z q) (λ t. terms_substituted v p t)) u e in
+      let b = goes_done (normal_sum z a.middle) (λ t. terms_substituted v p t) u a.next in
       let one : after (number d) (λ n. atoms_substituted v (Times (Symbol s) One) n) ≡ Done a.middle =
       sym (ap₂ (λ x q. after (number x) (λ n. atoms_substituted v q n)) k l) ∙ a.first in
       omega (
@@ -148,13 +148,14 @@ module _ (f : Monomial → ℤ) (ig : IgnoresOrder f) (ms v : List (Pos × Nf)) 
   mapped m c p None x h e = absurd (cc e)
   mapped m c p (Some y) x h e = let k : with_more_of_split m c y ≡ x = cc e in subst (Claim (Plus m c p)) k (more m c p y (h y refl))
 
-  split_worth : (p : Polynomial) (x : Split) → split ms p ≡ Some x → Claim p x
+  split_worth : (p : Polynomial) (x : Split) → split_off_symbol ms p ≡ Some x → Claim p x
   split_worth Zero x e = absurd (cc e)
-  split_worth (Plus m c p) x e = by_symbol (lone_symbol m) refl (λ g. mapped m c p (split ms p) x (λ y i. split_worth p y i) g) e
+  split_worth (Plus m c p) x e = by_symbol (lone_symbol m) refl (λ g. mapped m c p (split_off_symbol ms p) x (λ y i. split_worth p y i) g) e
     where
-      by_tests : (s : Pos) → lone_symbol m ≡ Some s → (option_map (with_more_of_split m c) (split ms p) ≡ Some x → Claim (Plus m c p) x) → (b one minus : Bool)
+      by_tests : (s : Pos) → lone_symbol m ≡ Some s → (option_map (with_more_of_split m c) (split_off_symbol ms p) ≡ Some x → Claim (Plus m c p) x)
+          → (b one minus : Bool)
           → int_eq c (pos 1) ≡ one → int_eq c (neg_ℤ (pos 1)) ≡ minus
-          → split_by b one minus s p (option_map (with_more_of_split m c) (split ms p)) ≡ Some x → Claim (Plus m c p) x
+          → split_by b one minus s p (option_map (with_more_of_split m c) (split_off_symbol ms p)) ≡ Some x → Claim (Plus m c p) x
       by_tests s l next true one minus h g i = next i
       by_tests s l next false true minus h g i =
           let k : record { symbol = s; positive = true; rest = p } ≡ x = cc i in
@@ -164,8 +165,8 @@ module _ (f : Monomial → ℤ) (ig : IgnoresOrder f) (ms v : List (Pos × Nf)) 
           subst (Claim (Plus m c p)) k (here false m c (neg_ℤ (pos 1)) p s (lone_is m s l) ((signed_Decides c (neg_ℤ (pos 1))).0 g) (λ z. omega (arith, ints)))
       by_tests s l next false false false h g i = next i
 
-      by_symbol : (o : Option Pos) → lone_symbol m ≡ o → (option_map (with_more_of_split m c) (split ms p) ≡ Some x → Claim (Plus m c p) x)
-          → split_at ms c o p (option_map (with_more_of_split m c) (split ms p)) ≡ Some x → Claim (Plus m c p) x
+      by_symbol : (o : Option Pos) → lone_symbol m ≡ o → (option_map (with_more_of_split m c) (split_off_symbol ms p) ≡ Some x → Claim (Plus m c p) x)
+          → split_at ms c o p (option_map (with_more_of_split m c) (split_off_symbol ms p)) ≡ Some x → Claim (Plus m c p) x
       by_symbol None l next g = next g
       by_symbol (Some s) l next g = by_tests s l next (is_held ms (s, term.Scalar)) (int_eq c (pos 1)) (int_eq c (neg_ℤ (pos 1))) refl refl g
 
@@ -175,14 +176,15 @@ less_worth f ig true p r m e = omega (arith, ints, difference_worth f ig (polyno
 less_worth f ig false p r m e = omega (arith, ints, difference_worth f ig r (polynomial_of_symbol p) m e)
 
 -- what was solved for a symbol gives back the symbol of its position, whatever is held later
-pub solved_back : (ms fs : List (Pos × Nf)) (t : Polynomial) (x : Split) (p : Pos) (r m u : Polynomial) → split ms t ≡ Some x → number_held ms x.rest ≡ true
-    → substituted ms x.rest ≡ Done r → less_rest x.positive p r ≡ Done m → Extends ms fs
-    → number_at fs x.symbol ≡ m → substituted fs t ≡ Done u → u ≡ polynomial_of_symbol p
+pub solved_back : (ms fs : List (Pos × Nf)) (t : Polynomial) (x : Split) (p : Pos) (r m u : Polynomial) → split_off_symbol ms t ≡ Some x
+    → number_held ms x.rest ≡ true
+    → polynomial_substituted ms x.rest ≡ Done r → less_rest x.positive p r ≡ Done m → Extends ms fs
+    → number_at fs x.symbol ≡ m → polynomial_substituted fs t ≡ Done u → u ≡ polynomial_of_symbol p
 solved_back ms fs t x p r m u s h e l ext n g =
-    let rest : substituted fs x.rest ≡ Done r = sym (terms_again ms fs (is_held ms) ext.kept x.rest h Zero) ∙ e in
+    let rest : polynomial_substituted fs x.rest ≡ Done r = sym (terms_again ms fs (is_held ms) ext.kept x.rest h Zero) ∙ e in
     settled_by_worth u (polynomial_of_symbol p) (substituted_rises fs t u g) refl (λ f ig. worth f ig rest)
   where
-    worth : (f : Monomial → ℤ) → IgnoresOrder f → substituted fs x.rest ≡ Done r → worth_of f u ≡ worth_of f (polynomial_of_symbol p)
+    worth : (f : Monomial → ℤ) → IgnoresOrder f → polynomial_substituted fs x.rest ≡ Done r → worth_of f u ≡ worth_of f (polynomial_of_symbol p)
     worth f ig rest =
         let k : signed_z x.positive (worth_of f (number_at fs x.symbol)) ≡ signed_z x.positive (worth_of f m) =
         ap (λ z. signed_z x.positive (worth_of f z)) n in

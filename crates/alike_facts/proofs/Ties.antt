@@ -18,14 +18,14 @@ use Rattle.fs_model.specs.declared.sides.Pos.{Pos}
 use Rattle.nf_terms.specs.declared.form.Nf.{Nf}
 use Rattle.nf_terms.specs.declared.form.Nf.TheVariants.{Num, Arr, Seq}
 use Rattle.nf_terms.proofs.Computed.{same_Done}
-use Rattle.nf_sums.specs.Operations.{added, subtracted}
+use Rattle.nf_sums.specs.Operations.{normal_sum, normal_difference}
 use Rattle.nf_sums.proofs.Values.{goes_done}
-use Rattle.nf_subst.specs.Vectors.{number_at}
-use Rattle.nf_subst.specs.Substitution.{substituted}
+use Rattle.nf_substitution.specs.Vectors.{number_at}
+use Rattle.nf_substitution.specs.Substitution.{polynomial_substituted}
 use Rattle.sym_facts.specs.Facts.{own_symbol, has_its_sort}
 use Rattle.sym_facts.specs.Entailment.{form_like}
 use Rattle.propagate.specs.Rebases.{value_at}
-use Rattle.propagate.specs.Joins.{Freed, symbol_like, number_tied_to, number_tied, is_alike, form_tied, tied}
+use Rattle.propagate.specs.Joins.{Freed, symbol_like, number_tied_to, number_tied, is_alike, form_tied, tied_equation}
 use Rattle.alike_terms.proofs.Computing.{sum_is}
 use Rattle.alike_terms.proofs.RisenSubstitutions.{self_difference}
 
@@ -72,7 +72,7 @@ symbol_of_sort sort.Port p (Seq l) e = refl
 
 -- ---- a symbol and nothing
 
-pub symbol_more : (p : Pos) (r : Polynomial) → added (polynomial_of_symbol p) Zero ≡ Done r → r ≡ polynomial_of_symbol p
+pub symbol_more : (p : Pos) (r : Polynomial) → normal_sum (polynomial_of_symbol p) Zero ≡ Done r → r ≡ polynomial_of_symbol p
 symbol_more p r e = sym (sum_is (polynomial_of_symbol p) Zero r e)
 
 -- ---- positions with the same values are tied alike
@@ -86,10 +86,10 @@ module _ (v : List (Pos × Nf)) where
   number_alike p q t e (f ∷ fs) = by_form f.old (number_alike p q t e fs)
     where
       by_form : (o : Nf) {l m : Computed (Option Nf)} → l ≡ m → number_tied_to v p t f.pos o l ≡ number_tied_to v q t f.pos o m
-      by_form (Num u) g = λ k. after (subtracted t u)
-          (λ d. after (subtracted (e k) (number_at v f.pos))
-          (λ c. after (substituted v d)
-          (λ s. cond {A = Computed (Option Nf)} (same_polynomial c s) (after (added (polynomial_of_symbol f.pos) d) (λ r. Done (Some (Num r)))) (g k))))
+      by_form (Num u) g = λ k. after (normal_difference t u)
+          (λ d. after (normal_difference (e k) (number_at v f.pos))
+          (λ c. after (polynomial_substituted v d)
+          (λ s. cond {A = Computed (Option Nf)} (same_polynomial c s) (after (normal_sum (polynomial_of_symbol f.pos) d) (λ r. Done (Some (Num r)))) (g k))))
       by_form (Arr a) g = g
       by_form (Seq l) g = g
 
@@ -98,7 +98,7 @@ module _ (v : List (Pos × Nf)) where
   form_alike p q t e (f ∷ fs) = λ k. cond {A = Option Nf} (same_form t f.old && same_form (e k) (form_like v f.pos f.old)) (Some (symbol_like f.pos t))
       (form_alike p q t e fs k)
 
-  pub tied_alike : (p q : Pos) (t : Nf) (fs : List Freed) → form_like v p t ≡ form_like v q t → tied v p t fs ≡ tied v q t fs
+  pub tied_alike : (p q : Pos) (t : Nf) (fs : List Freed) → form_like v p t ≡ form_like v q t → tied_equation v p t fs ≡ tied_equation v q t fs
   tied_alike p q (Num t) fs e = number_alike p q t (number_of_like p q t e) fs
   tied_alike p q (Arr a) fs e = ap Done (form_alike p q (Arr a) e fs)
   tied_alike p q (Seq l) fs e = ap Done (form_alike p q (Seq l) e fs)
@@ -111,35 +111,39 @@ module _ (v : List (Pos × Nf)) where
 
   number_passes : (p : Pos) (t : Polynomial) (q : Pos) (o : Nf) (l : Computed (Option Nf)) → number_tied_to v p t q o l ≡ Done None → PassesOn p t q o l
   number_passes p t q (Num u) l e =
-      let a = goes_done (subtracted t u)
-      (λ d. after (subtracted (number_at v p) (number_at v q))
-      (λ c. after (substituted v d) (λ s. cond (same_polynomial c s) (after (added (polynomial_of_symbol q) d) (λ r. Done (Some (Num r)))) l))) None e in
-      let b = goes_done (subtracted (number_at v p) (number_at v q))
-      (λ c. after (substituted v a.middle) (λ s. cond (same_polynomial c s) (after (added (polynomial_of_symbol q) a.middle) (λ r. Done (Some (Num r)))) l))
+      let a = goes_done (normal_difference t u)
+      (λ d. after (normal_difference (number_at v p) (number_at v q))
+      (λ c. after (polynomial_substituted v d) (λ s. cond (same_polynomial c s) (after (normal_sum (polynomial_of_symbol q) d) (λ r. Done (Some (Num r)))) l)))
+      None e in
+      let b = goes_done (normal_difference (number_at v p) (number_at v q))
+      (λ c. after (polynomial_substituted v a.middle)
+      (λ s. cond (same_polynomial c s) (after (normal_sum (polynomial_of_symbol q) a.middle) (λ r. Done (Some (Num r)))) l))
       None a.next in
-      let c = goes_done (substituted v a.middle)
-      (λ s. cond (same_polynomial b.middle s) (after (added (polynomial_of_symbol q) a.middle) (λ r. Done (Some (Num r)))) l) None b.next in
+      let c = goes_done (polynomial_substituted v a.middle)
+      (λ s. cond (same_polynomial b.middle s) (after (normal_sum (polynomial_of_symbol q) a.middle) (λ r. Done (Some (Num r)))) l) None b.next in
       by_test a.middle b.middle c.middle (same_polynomial b.middle c.middle) refl a.first b.first c.first c.next
     where
-      by_test : (d g s : Polynomial) (z : Bool) → same_polynomial g s ≡ z → subtracted t u ≡ Done d → subtracted (number_at v p) (number_at v q) ≡ Done g
-          → substituted v d ≡ Done s
-          → cond {A = Computed (Option Nf)} z (after (added (polynomial_of_symbol q) d) (λ r. Done (Some (Num r)))) l ≡ Done None → PassesOn p t q (Num u) l
-      by_test d g s true h i j k w = let r = goes_done (added (polynomial_of_symbol q) d) (λ r. Done (Some (Num r))) None w in
+      by_test : (d g s : Polynomial) (z : Bool) → same_polynomial g s ≡ z → normal_difference t u ≡ Done d
+          → normal_difference (number_at v p) (number_at v q) ≡ Done g
+          → polynomial_substituted v d ≡ Done s
+          → cond {A = Computed (Option Nf)} z (after (normal_sum (polynomial_of_symbol q) d) (λ r. Done (Some (Num r)))) l ≡ Done None
+          → PassesOn p t q (Num u) l
+      by_test d g s true h i j k w = let r = goes_done (normal_sum (polynomial_of_symbol q) d) (λ r. Done (Some (Num r))) None w in
           absurd (let n : Some (Num r.middle) ≡ None = cc r.next in cc n)
       by_test d g s false h i j k w =
           record {
             passes =
                 λ m.
                 (λ n. after (i n)
-                (λ d. after (subtracted (number_at v p) (number_at v q))
-                (λ c. after (substituted v d)
-                (λ s. cond {A = Computed (Option Nf)} (same_polynomial c s) (after (added (polynomial_of_symbol q) d) (λ r. Done (Some (Num r)))) m))))
+                (λ d. after (normal_difference (number_at v p) (number_at v q))
+                (λ c. after (polynomial_substituted v d)
+                (λ s. cond {A = Computed (Option Nf)} (same_polynomial c s) (after (normal_sum (polynomial_of_symbol q) d) (λ r. Done (Some (Num r)))) m))))
                 ∙ (λ n. after (j n)
-                (λ c. after (substituted v d)
-                (λ s. cond {A = Computed (Option Nf)} (same_polynomial c s) (after (added (polynomial_of_symbol q) d) (λ r. Done (Some (Num r)))) m)))
+                (λ c. after (polynomial_substituted v d)
+                (λ s. cond {A = Computed (Option Nf)} (same_polynomial c s) (after (normal_sum (polynomial_of_symbol q) d) (λ r. Done (Some (Num r)))) m)))
                 ∙ (λ n. after (k n)
-                (λ s. cond {A = Computed (Option Nf)} (same_polynomial g s) (after (added (polynomial_of_symbol q) d) (λ r. Done (Some (Num r)))) m))
-                ∙ ap (λ y. cond {A = Computed (Option Nf)} y (after (added (polynomial_of_symbol q) d) (λ r. Done (Some (Num r)))) m) h;
+                (λ s. cond {A = Computed (Option Nf)} (same_polynomial g s) (after (normal_sum (polynomial_of_symbol q) d) (λ r. Done (Some (Num r)))) m))
+                ∙ ap (λ y. cond {A = Computed (Option Nf)} y (after (normal_sum (polynomial_of_symbol q) d) (λ r. Done (Some (Num r)))) m) h;
             later = w;
           }
   number_passes p t q (Arr a) l e = record { passes = λ m. refl; later = e }
@@ -166,21 +170,22 @@ module _ (v : List (Pos × Nf)) where
   number_self : (p : Pos) (t : Polynomial) (r : Option Nf) → number_tied v p t (record { pos = p; old = Num t } ∷ []) ≡ Done r
       → r ≡ Some (Num (polynomial_of_symbol p))
   number_self p t r e =
-      let a = goes_done (subtracted t t)
-      (λ d. after (subtracted (number_at v p) (number_at v p))
-      (λ c. after (substituted v d) (λ s. cond (same_polynomial c s) (after (added (polynomial_of_symbol p) d) (λ r. Done (Some (Num r)))) (Done None)))) r e in
-      let b = goes_done (subtracted (number_at v p) (number_at v p))
-      (λ c. after (substituted v a.middle)
-      (λ s. cond (same_polynomial c s) (after (added (polynomial_of_symbol p) a.middle) (λ r. Done (Some (Num r)))) (Done None))) r a.next in
+      let a = goes_done (normal_difference t t)
+      (λ d. after (normal_difference (number_at v p) (number_at v p))
+      (λ c. after (polynomial_substituted v d)
+      (λ s. cond (same_polynomial c s) (after (normal_sum (polynomial_of_symbol p) d) (λ r. Done (Some (Num r)))) (Done None)))) r e in
+      let b = goes_done (normal_difference (number_at v p) (number_at v p))
+      (λ c. after (polynomial_substituted v a.middle)
+      (λ s. cond (same_polynomial c s) (after (normal_sum (polynomial_of_symbol p) a.middle) (λ r. Done (Some (Num r)))) (Done None))) r a.next in
       let d : a.middle ≡ Zero = self_difference t a.middle a.first in
       let c : b.middle ≡ Zero = self_difference (number_at v p) b.middle b.first in
-      let k : after (added (polynomial_of_symbol p) Zero) (λ r. Done (Some (Num r))) ≡ Done r =
+      let k : after (normal_sum (polynomial_of_symbol p) Zero) (λ r. Done (Some (Num r))) ≡ Done r =
       sym
       (ap₂
-      (λ x y. after (substituted v x)
-      (λ s. cond {A = Computed (Option Nf)} (same_polynomial y s) (after (added (polynomial_of_symbol p) x) (λ r. Done (Some (Num r)))) (Done None))) d c)
+      (λ x y. after (polynomial_substituted v x)
+      (λ s. cond {A = Computed (Option Nf)} (same_polynomial y s) (after (normal_sum (polynomial_of_symbol p) x) (λ r. Done (Some (Num r)))) (Done None))) d c)
       ∙ b.next in
-      let m = goes_done (added (polynomial_of_symbol p) Zero) (λ r. Done (Some (Num r))) r k in
+      let m = goes_done (normal_sum (polynomial_of_symbol p) Zero) (λ r. Done (Some (Num r))) r k in
       sym (same_Done (Some (Num m.middle)) r m.next) ∙ ap (λ z. Some (Num z)) (symbol_more p m.middle m.first)
 
   form_tied_self : (p : Pos) (t : Nf) → form_tied v p t (record { pos = p; old = t } ∷ []) ≡ Some (symbol_like p t)
@@ -188,8 +193,8 @@ module _ (v : List (Pos × Nf)) where
       (and_from (same_form t t) (same_form (form_like v p t) (form_like v p t)) (form_self t) (form_self (form_like v p t)))
 
   -- where a position is not tied and is freed, one with its values is tied to it
-  pub tied_to_freed : (p q : Pos) (t : Nf) (fs : List Freed) (r : Option Nf) → form_like v p t ≡ form_like v q t → tied v p t fs ≡ Done None
-      → tied v q t (fs ++ record { pos = p; old = t } ∷ []) ≡ Done r → r ≡ Some (symbol_like p t)
+  pub tied_to_freed : (p q : Pos) (t : Nf) (fs : List Freed) (r : Option Nf) → form_like v p t ≡ form_like v q t → tied_equation v p t fs ≡ Done None
+      → tied_equation v q t (fs ++ record { pos = p; old = t } ∷ []) ≡ Done r → r ≡ Some (symbol_like p t)
   tied_to_freed p q (Num t) fs r e g h =
       number_self p t r
       (sym (number_more p t fs (record { pos = p; old = Num t } ∷ []) g) ∙ tied_alike p q (Num t) (fs ++ record { pos = p; old = Num t } ∷ []) e ∙ h)

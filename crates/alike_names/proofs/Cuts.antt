@@ -5,12 +5,11 @@ use Rattle.std.specs.List.{list_all, slice_index_or}
 use Rattle.fs_model.specs.Limits.{most_branches}
 use Rattle.fs_model.specs.Terms.{Term, Variable, Sum, Difference, Product, Assignment, Assign, Transition}
 use Rattle.fs_model.specs.Machines.{transitions_of}
-use Rattle.fs_rules.specs.Sound.{IsSoundTransition}
-use Rattle.fs_ast.specs.SoundMachines.{IsSound, branch_count, ends_open, reaches_cutpoint}
+use Rattle.fs_rules.specs.SoundParts.{IsSoundTransition, IsSound, branch_count, ends_open, reaches_cutpoint}
 use Rattle.fs_ast.specs.Branches.{is_sound_assignment}
 use Rattle.fs_cut.specs.Paths.{Point, Start, At, Done, Path, IsPath, state_of}
 use Rattle.fs_cut.proofs.Listed.{path_unique}
-use Rattle.alike_behaviour.specs.PathExpressions.{Expression, Initial, InitialArray, InitialList, initial, expressed, acted_all}
+use Rattle.alike_behaviour.specs.PathExpressions.{Expression, Initial, InitialArray, InitialList, initial, expression_of_term, acted_all}
 use Rattle.alike_behaviour.specs.ExpressionSameness.{SameLeft}
 use Rattle.alike_behaviour.specs.Alike.{AlikePaths, AlikePoints, Alike, literals_of, left_after}
 use Rattle.alike_names.specs.SplitStates.{their_variables, difference, sum, product, product_at_once, goto, choice, in_one_step, in_two_steps, their_pairs}
@@ -188,7 +187,8 @@ minus = Difference (Variable 0) (Variable 1)
 -- the second step overwrites t
 both_steps : left_after in_one_step (first_path [] 1) ≡ left_after in_two_steps (first_path (1 ∷ []) 2)
 both_steps = λ j. record {
-  scalar = λ y. overwritten (y == 3) (expressed initial (Product plus minus)) (expressed initial plus) (cond (y == 4) (expressed initial minus) (Initial y)) j;
+  scalar = λ y. overwritten (y == 3) (expression_of_term initial (Product plus minus)) (expression_of_term initial plus)
+      (cond (y == 4) (expression_of_term initial minus) (Initial y)) j;
   array = InitialArray;
   port = InitialList;
 }

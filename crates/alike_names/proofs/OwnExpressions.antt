@@ -12,10 +12,11 @@ use Rattle.fs_model.specs.Terms.{Emit}
 use Rattle.fs_model.specs.Machines.{Fsmd}
 use Rattle.fs_model.specs.Runs.{is_scalar, is_array, is_port}
 use Rattle.fs_model.specs.PartFolds.{scalars, arrays, numbers, uses_in, uses_in_literal}
-use Rattle.fs_rules.specs.Sound.{has_sort, scalar_at, array_at, port_at, input_at, is_text_number, scalars_in_assignment, arrays_in_assignment, port_in}
-use Rattle.fs_rules.specs.Sound.{numbers_in_assignment, changed_by}
+use Rattle.fs_rules.specs.SoundParts.{has_sort, scalar_at, array_at, port_at, input_at, is_text_number, scalars_in_assignment, arrays_in_assignment, port_in}
+use Rattle.fs_rules.specs.SoundParts.{numbers_in_assignment, changed_by}
 use Rattle.fs_ast.specs.Branches.{is_sound_literal, is_sound_assignment}
-use Rattle.alike_behaviour.specs.PathExpressions.{Expression, ArrayExpression, Stored, ListExpression, Pushed, ExpressionVector, initial, expressed, acted}
+use Rattle.alike_behaviour.specs.PathExpressions.{Expression, ArrayExpression, Stored, ListExpression, Pushed, ExpressionVector, initial, expression_of_term}
+use Rattle.alike_behaviour.specs.PathExpressions.{expressions_after}
 use Rattle.alike_behaviour.specs.PathExpressions.{acted_all}
 use Rattle.alike_behaviour.specs.ExpressionSameness.{AreTwins, Same, SameArray, SameListExpression, SameLiterals}
 
@@ -66,7 +67,7 @@ module _ (a b : Fsmd) (same : a.variables ≡ b.variables) where
 
   module _ (s : ExpressionVector) (own : AreOwn s) where
     abbrev OwnTerm : Term ℕ → Type 0
-    OwnTerm t = Same a b (expressed s t) (expressed s t)
+    OwnTerm t = Same a b (expression_of_term s t) (expression_of_term s t)
 
     own_operands : (c d : Term ℕ) → list_all (scalar_at a.variables) (uses_in scalars c ++ uses_in scalars d) ≡ true
         → list_all (array_at a.variables) (uses_in arrays c ++ uses_in arrays d) ≡ true
@@ -82,16 +83,24 @@ module _ (a b : Fsmd) (same : a.variables ≡ b.variables) where
     own_term (Number n) h g = refl
     own_term (Variable x) h g = own.scalar x (and_first (scalar_at a.variables x) true h)
     own_term (Read x i) h g =
-        let used = list_all (array_at a.variables) (uses_in arrays i) in
-        (s.array x, expressed s i, refl, own.array x (and_first (array_at a.variables x) used g), own_term i h (and_second (array_at a.variables x) used g))
-    own_term (Sum c d) h g = let r = own_operands c d h g (λ p q. own_term c p q) (λ p q. own_term d p q) in (expressed s c, expressed s d, refl, r.0, r.1)
+        let used = list_all (array_at a.variables) (uses_in arrays i) in (
+          s.array x,
+          expression_of_term s i,
+          refl,
+          own.array x (and_first (array_at a.variables x) used g),
+          own_term i h (and_second (array_at a.variables x) used g),
+        )
+    own_term (Sum c d) h g = let r = own_operands c d h g (λ p q. own_term c p q) (λ p q. own_term d p q) in
+        (expression_of_term s c, expression_of_term s d, refl, r.0, r.1)
     own_term (Difference c d) h g = let r = own_operands c d h g (λ p q. own_term c p q) (λ p q. own_term d p q) in
-        (expressed s c, expressed s d, refl, r.0, r.1)
-    own_term (Product c d) h g = let r = own_operands c d h g (λ p q. own_term c p q) (λ p q. own_term d p q) in (expressed s c, expressed s d, refl, r.0, r.1)
-    own_term (Quotient c d) h g = let r = own_operands c d h g (λ p q. own_term c p q) (λ p q. own_term d p q) in (expressed s c, expressed s d, refl, r.0, r.1)
+        (expression_of_term s c, expression_of_term s d, refl, r.0, r.1)
+    own_term (Product c d) h g = let r = own_operands c d h g (λ p q. own_term c p q) (λ p q. own_term d p q) in
+        (expression_of_term s c, expression_of_term s d, refl, r.0, r.1)
+    own_term (Quotient c d) h g = let r = own_operands c d h g (λ p q. own_term c p q) (λ p q. own_term d p q) in
+        (expression_of_term s c, expression_of_term s d, refl, r.0, r.1)
     own_term (Remainder c d) h g = let r = own_operands c d h g (λ p q. own_term c p q) (λ p q. own_term d p q) in
-        (expressed s c, expressed s d, refl, r.0, r.1)
-    own_term (Negative c) h g = (expressed s c, refl, own_term c h g)
+        (expression_of_term s c, expression_of_term s d, refl, r.0, r.1)
+    own_term (Negative c) h g = (expression_of_term s c, refl, own_term c h g)
 
   -- ---- assignments
 
@@ -119,12 +128,12 @@ module _ (a b : Fsmd) (same : a.variables ≡ b.variables) where
       record { scalars_fit = and_first p (q && r) h; arrays_fit = and_first q r (and_second p (q && r) h) }
 
   module _ (before s : ExpressionVector) (own : AreOwn before) (done : AreOwn s) where
-    own_acted : (x : Assignment ℕ) → Fits x → AreOwn (acted x before s)
+    own_acted : (x : Assignment ℕ) → Fits x → AreOwn (expressions_after x before s)
     own_acted (Assign x e) f =
         let used = list_all (scalar_at a.variables) (uses_in scalars e) in
         let value = own_term before own e (and_second (scalar_at a.variables x) used f.scalars_fit) f.arrays_fit in
         record {
-          scalar = λ y h. either_scalar (y == x) (expressed before e) (s.scalar y) value (done.scalar y h);
+          scalar = λ y h. either_scalar (y == x) (expression_of_term before e) (s.scalar y) value (done.scalar y h);
           array = done.array;
           port = done.port;
         }
@@ -132,8 +141,8 @@ module _ (a b : Fsmd) (same : a.variables ≡ b.variables) where
         let used = list_all (array_at a.variables) (uses_in arrays i ++ uses_in arrays e) in
         let r = own_operands before own i e f.scalars_fit (and_second (array_at a.variables x) used f.arrays_fit) (own_term before own i)
         (own_term before own e) in
-        let index = expressed before i in
-        let value = expressed before e in
+        let index = expression_of_term before i in
+        let value = expression_of_term before e in
         record {
           scalar = done.scalar;
           array = λ y h. either_array (y == x) (Stored (s.array y) index value) (s.array y) (s.array y, index, value, refl, done.array y h, r.0, r.1)
@@ -141,7 +150,7 @@ module _ (a b : Fsmd) (same : a.variables ≡ b.variables) where
           port = done.port;
         }
     own_acted (Emit x e) f =
-        let value = expressed before e in
+        let value = expression_of_term before e in
         let own_value = own_term before own e f.scalars_fit f.arrays_fit in
         record {
           scalar = done.scalar;
@@ -155,12 +164,13 @@ module _ (a b : Fsmd) (same : a.variables ≡ b.variables) where
   own_all (x ∷ xs) before s own done h =
       let sound = is_sound_assignment a.variables x in
       let rest = list_all (is_sound_assignment a.variables) xs in
-      own_all xs before (acted x before s) own (own_acted before s own done x (fits x (and_first sound rest h))) (and_second sound rest h)
+      own_all xs before (expressions_after x before s) own (own_acted before s own done x (fits x (and_first sound rest h))) (and_second sound rest h)
 
   -- ---- literals
 
   own_literal : (l : Literal ℕ) → is_sound_literal a.variables l ≡ true
-      → Same a b (expressed initial l.left) (expressed initial l.left) × Same a b (expressed initial l.right) (expressed initial l.right)
+      → Same a b (expression_of_term initial l.left) (expression_of_term initial l.left)
+      × Same a b (expression_of_term initial l.right) (expression_of_term initial l.right)
   own_literal l h =
       let p = list_all (scalar_at a.variables) (uses_in_literal scalars l) in
       let q = list_all (array_at a.variables) (uses_in_literal arrays l) in

@@ -2,10 +2,10 @@
 use Rattle.std.proofs.Common.{◌≡◌, ℕ, zero, suc, ◌<◌, ◌==◌, refl, ap, ap₂, sym, subst, ◌∙◌, true, cond, List, [], ◌∷◌, length, Some}
 use Rattle.std.specs.Prelude.{◌&&◌, ◌||◌, not, nat_lt, slice_get}
 use Rattle.std.specs.List.{list_all, slice_index_or}
+use Rattle.fs_rules.specs.SoundParts.{IsSound, branch_count, is_cutpoint}
 use Rattle.fs_model.specs.Machines.{Fsmd, transitions_of}
 use Rattle.fs_model.specs.Terms.{Transition}
 use Rattle.fs_model.specs.Trees.{Branch, branches_of}
-use Rattle.fs_ast.specs.SoundMachines.{IsSound, branch_count, is_cutpoint}
 use Rattle.fs_ast.specs.Branches.{is_sound_literal, is_sound_assignment}
 use Rattle.fs_ast.proofs.Lifted.{branch_sound}
 use Rattle.fs_cut.specs.Paths.{Point, Start, At, Done, Path, IsPath, is_point, is_fork, state_of, end_at, branch_at, target_of, Passes, BranchStep}

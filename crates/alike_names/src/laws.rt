@@ -1,7 +1,7 @@
 //! Laws of names and of cuts, over the definitions alone. The functions do nothing.
 
+ghost use Rattle.fs_rules.specs.SoundParts.{IsSound};
 ghost use Rattle.fs_model.specs.Machines.{Fsmd};
-ghost use Rattle.fs_ast.specs.SoundMachines.{IsSound};
 ghost use Rattle.alike_behaviour.specs.Alike.{Alike};
 ghost use Rattle.alike_names.specs.RenamedStates.{DifferInNames, own_pairs};
 ghost use Rattle.alike_names.specs.SplitStates.{in_one_step, in_two_steps, their_pairs};

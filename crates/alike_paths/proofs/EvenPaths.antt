@@ -19,13 +19,14 @@ use Rattle.nf_terms.specs.declared.tree.SeqBase.TheVariants as list
 use Rattle.nf_terms.specs.declared.form.Nf.{Nf}
 use Rattle.nf_terms.specs.declared.form.Nf.TheVariants.{Num, Arr, Seq}
 use Rattle.nf_terms.proofs.Computed.{same_Done}
-use Rattle.nf_sums.specs.Operations.{added, subtracted, multiplied, negated}
+use Rattle.nf_terms.specs.TermSorts.{same_term_sort}
+use Rattle.nf_sums.specs.Operations.{normal_sum, normal_difference, normal_product, normal_negation}
 use Rattle.nf_sums.proofs.Values.{goes_done}
-use Rattle.nf_arrays.specs.NewAtoms.{divided, remainder_of}
+use Rattle.nf_arrays.specs.NewAtoms.{quotient_of, remainder_of}
 use Rattle.nf_arrays.specs.Writes.{write_array, read_at}
-use Rattle.nf_arrays.specs.Pushes.{pushed}
-use Rattle.nf_subst.specs.Vectors.{same_sort, form_at, with_form, number_or, array_or, list_or, number_at, array_form, list_at}
-use Rattle.nf_subst.proofs.Entries.{form_put}
+use Rattle.nf_arrays.specs.Pushes.{list_with_item}
+use Rattle.nf_substitution.specs.Vectors.{form_at, with_form, number_or, array_or, list_or, number_at, array_form, list_at}
+use Rattle.nf_substitution.proofs.Entries.{form_put}
 use Rattle.nf_rel.specs.Literals.{NormalLiteral, literal}
 use Rattle.sym_paths.specs.ValuationStores.{at, other}
 use Rattle.sym_paths.specs.Sequences.{each}
@@ -33,7 +34,7 @@ use Rattle.sym_paths.specs.Evaluation.{evaluate, evaluate_literal, Change, SetTo
 use Rattle.sym_paths.specs.Execution.{Post, conditions, steps_over, execute, arrive}
 use Rattle.sym_paths.proofs.Changes.{other_at}
 use Rattle.alike_behaviour.specs.PathExpressions.{Expression, Constant, Initial, Element, Plus, Minus, Times, Over, Rest, Opposite, ArrayExpression}
-use Rattle.alike_behaviour.specs.PathExpressions.{InitialArray, Stored, ListExpression, InitialList, Pushed, initial, expressed}
+use Rattle.alike_behaviour.specs.PathExpressions.{InitialArray, Stored, ListExpression, InitialList, Pushed, initial, expression_of_term}
 use Rattle.alike_behaviour.specs.ExpressionSameness.{AreTwins, Same, SameArray, SameListExpression, SameLiterals}
 use Rattle.alike_behaviour.specs.Alike.{literals_of, left_after, AlikePaths}
 use Rattle.alike_paths.specs.Evenness.{IsEven}
@@ -57,7 +58,7 @@ module _ (side : Side) where
     where
       elsewhere : (y : ℕ) (s : Sort) → form_at s (at (other side) y) (with_form (at side x) f v) ≡ form_at s (at (other side) y) v
       elsewhere y s = form_put v (at side x) (at (other side) y) f s
-          ∙ ap (λ t. cond {A = Option Nf} (t && same_sort s (sort_of_form f)) (Some f) (form_at s (at (other side) y) v)) (other_at side x y)
+          ∙ ap (λ t. cond {A = Option Nf} (t && same_term_sort s (sort_of_form f)) (Some f) (form_at s (at (other side) y) v)) (other_at side x y)
 
   none_stays : (v u : List (Pos × Nf)) → v ≡ u → Stays (other side) v u
   none_stays v u e = subst (Stays (other side) v) e (record { numbers = λ x. refl; arrays = λ x. refl; lists = λ x. refl })
@@ -71,7 +72,7 @@ module _ (side : Side) where
       let s = goes_done (write_array (array_form v (at side x)) j p) (λ a. Done (with_form (at side x) (Arr a) v)) u e in
       subst (Stays (other side) v) (same_Done (with_form (at side x) (Arr s.middle) v) u s.next) (put_stays v x (Arr s.middle))
   change_stays v u (PushTo x p) e =
-      let s = goes_done (pushed (list_at v (at side x)) p) (λ l. Done (with_form (at side x) (Seq l) v)) u e in
+      let s = goes_done (list_with_item (list_at v (at side x)) p) (λ l. Done (with_form (at side x) (Seq l) v)) u e in
       subst (Stays (other side) v) (same_Done (with_form (at side x) (Seq s.middle) v) u s.next) (put_stays v x (Seq s.middle))
 
   changes_stay : (cs : List Change) (v u : List (Pos × Nf)) → change_all side cs v ≡ Done u → Stays (other side) v u
@@ -116,17 +117,18 @@ module _ (a b : Fsmd) where
       same_term (Initial x) z (y, e, t) = ap Done (h.numbers x y t) ∙ sym (ap (term_of l) e)
       same_term (Element c i) z (d, j, e, g, w) = ap₂ (λ o r. after o (λ p. after r (λ q. read_at p q))) (same_array_term c d g) (same_term i j w)
           ∙ sym (ap (term_of l) e)
-      same_term (Plus x y) z (c, d, e, g, w) = both (term_of k x) (term_of l c) added (term_of k y) (term_of l d) (same_term x c g) (same_term y d w)
+      same_term (Plus x y) z (c, d, e, g, w) = both (term_of k x) (term_of l c) normal_sum (term_of k y) (term_of l d) (same_term x c g) (same_term y d w)
           ∙ sym (ap (term_of l) e)
-      same_term (Minus x y) z (c, d, e, g, w) = both (term_of k x) (term_of l c) subtracted (term_of k y) (term_of l d) (same_term x c g) (same_term y d w)
+      same_term (Minus x y) z (c, d, e, g, w) = both (term_of k x) (term_of l c) normal_difference (term_of k y) (term_of l d) (same_term x c g)
+          (same_term y d w)
           ∙ sym (ap (term_of l) e)
-      same_term (Times x y) z (c, d, e, g, w) = both (term_of k x) (term_of l c) multiplied (term_of k y) (term_of l d) (same_term x c g) (same_term y d w)
+      same_term (Times x y) z (c, d, e, g, w) = both (term_of k x) (term_of l c) normal_product (term_of k y) (term_of l d) (same_term x c g) (same_term y d w)
           ∙ sym (ap (term_of l) e)
-      same_term (Over x y) z (c, d, e, g, w) = both (term_of k x) (term_of l c) divided (term_of k y) (term_of l d) (same_term x c g) (same_term y d w)
+      same_term (Over x y) z (c, d, e, g, w) = both (term_of k x) (term_of l c) quotient_of (term_of k y) (term_of l d) (same_term x c g) (same_term y d w)
           ∙ sym (ap (term_of l) e)
       same_term (Rest x y) z (c, d, e, g, w) = both (term_of k x) (term_of l c) remainder_of (term_of k y) (term_of l d) (same_term x c g) (same_term y d w)
           ∙ sym (ap (term_of l) e)
-      same_term (Opposite x) z (c, e, g) = ap (λ o. after o (λ p. Done (negated p))) (same_term x c g) ∙ sym (ap (term_of l) e)
+      same_term (Opposite x) z (c, e, g) = ap (λ o. after o (λ p. Done (normal_negation p))) (same_term x c g) ∙ sym (ap (term_of l) e)
 
       same_array_term : (x z : ArrayExpression) → SameArray a b x z → array_term_of k x ≡ array_term_of l z
       same_array_term (InitialArray x) z (y, e, t) = ap Done (h.arrays x y t) ∙ sym (ap (array_term_of l) e)
@@ -136,7 +138,7 @@ module _ (a b : Fsmd) where
 
     same_list_term : (x z : ListExpression) → SameListExpression a b x z → list_term_of k x ≡ list_term_of l z
     same_list_term (InitialList x) z (y, e, t) = ap Done (h.lists x y t) ∙ sym (ap (list_term_of l) e)
-    same_list_term (Pushed x v) z (m, w, e, g, p) = (λ r. after (same_list_term x m g r) (λ n. after (same_term v w p r) (λ t. pushed n t)))
+    same_list_term (Pushed x v) z (m, w, e, g, p) = (λ r. after (same_list_term x m g r) (λ n. after (same_term v w p r) (λ t. list_with_item n t)))
         ∙ sym (ap (list_term_of l) e)
 
   -- ---- conditions
@@ -145,8 +147,9 @@ module _ (a b : Fsmd) where
     start_terms : SameTerms a b (terms_of Left v) (terms_of Right v)
     start_terms = record { numbers = even.numbers; arrays = even.arrays; lists = even.lists }
 
-    same_value : (x z : Term ℕ) → Same a b (expressed initial x) (expressed initial z) → evaluate Left v x ≡ evaluate Right v z
-    same_value x z h = initial_term Left v x ∙ same_term (terms_of Left v) (terms_of Right v) start_terms (expressed initial x) (expressed initial z) h
+    same_value : (x z : Term ℕ) → Same a b (expression_of_term initial x) (expression_of_term initial z) → evaluate Left v x ≡ evaluate Right v z
+    same_value x z h = initial_term Left v x ∙ same_term (terms_of Left v) (terms_of Right v) start_terms (expression_of_term initial x)
+        (expression_of_term initial z) h
         ∙ sym (initial_term Right v z)
 
     same_literals : (ls ms : List (Literal ℕ)) → SameLiterals a b ls ms → each (λ l. evaluate_literal Left v l) ls ≡ each (λ l. evaluate_literal Right v l) ms

@@ -19,20 +19,22 @@ use Rattle.nf_terms.specs.declared.tree.SeqBase.TheVariants as list
 use Rattle.nf_terms.specs.declared.form.Nf.{Nf}
 use Rattle.nf_terms.specs.declared.form.Nf.TheVariants.{Num, Arr, Seq}
 use Rattle.nf_terms.proofs.Computed.{same_Done}
-use Rattle.nf_sums.specs.Operations.{added, subtracted, multiplied, negated, number}
+use Rattle.nf_terms.specs.TermSorts.{same_term_sort}
+use Rattle.nf_sums.specs.Operations.{normal_sum, normal_difference, normal_product, normal_negation, number}
 use Rattle.nf_sums.proofs.Values.{goes_done}
-use Rattle.nf_arrays.specs.NewAtoms.{divided, remainder_of}
+use Rattle.nf_arrays.specs.NewAtoms.{quotient_of, remainder_of}
 use Rattle.nf_arrays.specs.Writes.{write_array, read_at}
-use Rattle.nf_arrays.specs.Pushes.{pushed}
-use Rattle.nf_subst.specs.Vectors.{same_sort, form_at, with_form, number_or, array_or, list_or, number_at, array_form, list_at}
-use Rattle.nf_subst.proofs.Entries.{form_put}
+use Rattle.nf_arrays.specs.Pushes.{list_with_item}
+use Rattle.nf_substitution.specs.Vectors.{form_at, with_form, number_or, array_or, list_or, number_at, array_form, list_at}
+use Rattle.nf_substitution.proofs.Entries.{form_put}
 use Rattle.sym_paths.specs.ValuationStores.{at}
 use Rattle.sym_paths.specs.Sequences.{each}
 use Rattle.sym_paths.specs.Evaluation.{evaluate, Change, SetTo, PutAt, PushTo, evaluate_assignment, change, change_all, act_over}
 use Rattle.sym_paths.specs.Execution.{steps_over}
 use Rattle.sym_paths.proofs.Changes.{same_at}
 use Rattle.alike_behaviour.specs.PathExpressions.{Expression, Constant, Initial, Element, Plus, Minus, Times, Over, Rest, Opposite, ArrayExpression}
-use Rattle.alike_behaviour.specs.PathExpressions.{InitialArray, Stored, ListExpression, InitialList, Pushed, ExpressionVector, initial, expressed, acted}
+use Rattle.alike_behaviour.specs.PathExpressions.{InitialArray, Stored, ListExpression, InitialList, Pushed, ExpressionVector, initial, expression_of_term}
+use Rattle.alike_behaviour.specs.PathExpressions.{expressions_after}
 use Rattle.alike_behaviour.specs.PathExpressions.{acted_all, left_by}
 
 -- what stands at each variable of a side
@@ -50,12 +52,12 @@ abbrev mutual
   term_of k (Constant n) = number n
   term_of k (Initial x) = Done (k.number x)
   term_of k (Element a i) = after (array_term_of k a) (λ b. after (term_of k i) (λ j. read_at b j))
-  term_of k (Plus a b) = after (term_of k a) (λ p. after (term_of k b) (λ q. added p q))
-  term_of k (Minus a b) = after (term_of k a) (λ p. after (term_of k b) (λ q. subtracted p q))
-  term_of k (Times a b) = after (term_of k a) (λ p. after (term_of k b) (λ q. multiplied p q))
-  term_of k (Over a b) = after (term_of k a) (λ p. after (term_of k b) (λ q. divided p q))
+  term_of k (Plus a b) = after (term_of k a) (λ p. after (term_of k b) (λ q. normal_sum p q))
+  term_of k (Minus a b) = after (term_of k a) (λ p. after (term_of k b) (λ q. normal_difference p q))
+  term_of k (Times a b) = after (term_of k a) (λ p. after (term_of k b) (λ q. normal_product p q))
+  term_of k (Over a b) = after (term_of k a) (λ p. after (term_of k b) (λ q. quotient_of p q))
   term_of k (Rest a b) = after (term_of k a) (λ p. after (term_of k b) (λ q. remainder_of p q))
-  term_of k (Opposite a) = after (term_of k a) (λ p. Done (negated p))
+  term_of k (Opposite a) = after (term_of k a) (λ p. Done (normal_negation p))
 
   pub array_term_of : Terms → ArrayExpression → Computed ArrayTerm
   array_term_of k (InitialArray x) = Done (k.array x)
@@ -63,7 +65,7 @@ abbrev mutual
 
 abbrev pub list_term_of : Terms → ListExpression → Computed ListTerm
 list_term_of k (InitialList x) = Done (k.list x)
-list_term_of k (Pushed l e) = after (list_term_of k l) (λ m. after (term_of k e) (λ p. pushed m p))
+list_term_of k (Pushed l e) = after (list_term_of k l) (λ m. after (term_of k e) (λ p. list_with_item m p))
 
 -- over the terms k at the start, each expression is computed to what the vector u has
 pub record Shows (k : Terms) (s : ExpressionVector) (side : Side) (u : List (Pos × Nf)) : Type 0 where
@@ -85,41 +87,41 @@ two o o' f r r' y g h e =
 
 module _ (k : Terms) (side : Side) where
   expressed_term : (s : ExpressionVector) (u : List (Pos × Nf)) → Shows k s side u → (e : Term ℕ) (p : Polynomial) → evaluate side u e ≡ Done p
-      → term_of k (expressed s e) ≡ Done p
+      → term_of k (expression_of_term s e) ≡ Done p
   expressed_term s u h (Number n) p e = e
   expressed_term s u h (Variable x) p e = h.numbers x ∙ e
   expressed_term s u h (Read x i) p e =
       let t = goes_done (evaluate side u i) (λ j. read_at (array_form u (at side x)) j) p e in
-      after_done (array_term_of k (s.array x)) (λ b. after (term_of k (expressed s i)) (λ j. read_at b j)) (array_form u (at side x)) p (h.arrays x)
-      (after_done (term_of k (expressed s i)) (λ j. read_at (array_form u (at side x)) j) t.middle p (expressed_term s u h i t.middle t.first) t.next)
-  expressed_term s u h (Sum a b) p e = two (evaluate side u a) (term_of k (expressed s a)) added (evaluate side u b)
-      (term_of k (expressed s b)) p (expressed_term s u h a) (expressed_term s u h b) e
-  expressed_term s u h (Difference a b) p e = two (evaluate side u a) (term_of k (expressed s a)) subtracted (evaluate side u b)
-      (term_of k (expressed s b)) p (expressed_term s u h a) (expressed_term s u h b) e
-  expressed_term s u h (Product a b) p e = two (evaluate side u a) (term_of k (expressed s a)) multiplied (evaluate side u b)
-      (term_of k (expressed s b)) p (expressed_term s u h a) (expressed_term s u h b) e
-  expressed_term s u h (Quotient a b) p e = two (evaluate side u a) (term_of k (expressed s a)) divided (evaluate side u b)
-      (term_of k (expressed s b)) p (expressed_term s u h a) (expressed_term s u h b) e
-  expressed_term s u h (Remainder a b) p e = two (evaluate side u a) (term_of k (expressed s a)) remainder_of (evaluate side u b)
-      (term_of k (expressed s b)) p (expressed_term s u h a) (expressed_term s u h b) e
+      after_done (array_term_of k (s.array x)) (λ b. after (term_of k (expression_of_term s i)) (λ j. read_at b j)) (array_form u (at side x)) p (h.arrays x)
+      (after_done (term_of k (expression_of_term s i)) (λ j. read_at (array_form u (at side x)) j) t.middle p (expressed_term s u h i t.middle t.first) t.next)
+  expressed_term s u h (Sum a b) p e = two (evaluate side u a) (term_of k (expression_of_term s a)) normal_sum (evaluate side u b)
+      (term_of k (expression_of_term s b)) p (expressed_term s u h a) (expressed_term s u h b) e
+  expressed_term s u h (Difference a b) p e = two (evaluate side u a) (term_of k (expression_of_term s a)) normal_difference (evaluate side u b)
+      (term_of k (expression_of_term s b)) p (expressed_term s u h a) (expressed_term s u h b) e
+  expressed_term s u h (Product a b) p e = two (evaluate side u a) (term_of k (expression_of_term s a)) normal_product (evaluate side u b)
+      (term_of k (expression_of_term s b)) p (expressed_term s u h a) (expressed_term s u h b) e
+  expressed_term s u h (Quotient a b) p e = two (evaluate side u a) (term_of k (expression_of_term s a)) quotient_of (evaluate side u b)
+      (term_of k (expression_of_term s b)) p (expressed_term s u h a) (expressed_term s u h b) e
+  expressed_term s u h (Remainder a b) p e = two (evaluate side u a) (term_of k (expression_of_term s a)) remainder_of (evaluate side u b)
+      (term_of k (expression_of_term s b)) p (expressed_term s u h a) (expressed_term s u h b) e
   expressed_term s u h (Negative a) p e =
-      let t = goes_done (evaluate side u a) (λ q. Done (negated q)) p e in
-      after_done (term_of k (expressed s a)) (λ q. Done (negated q)) t.middle p (expressed_term s u h a t.middle t.first) t.next
+      let t = goes_done (evaluate side u a) (λ q. Done (normal_negation q)) p e in
+      after_done (term_of k (expression_of_term s a)) (λ q. Done (normal_negation q)) t.middle p (expressed_term s u h a t.middle t.first) t.next
 
   -- ---- a form that is put
 
-  kept : (u : List (Pos × Nf)) (x y : ℕ) (f : Nf) (σ : Sort) → same_sort σ (sort_of_form f) ≡ false
+  kept : (u : List (Pos × Nf)) (x y : ℕ) (f : Nf) (σ : Sort) → same_term_sort σ (sort_of_form f) ≡ false
       → form_at σ (at side y) (with_form (at side x) f u) ≡ form_at σ (at side y) u
-  kept u x y f σ e = form_put u (at side x) (at side y) f σ ∙ by_test (same_pos (at side y) (at side x)) (same_sort σ (sort_of_form f)) e
+  kept u x y f σ e = form_put u (at side x) (at side y) f σ ∙ by_test (same_pos (at side y) (at side x)) (same_term_sort σ (sort_of_form f)) e
     where
       by_test : (c d : Bool) → d ≡ false → cond {A = Option Nf} (c && d) (Some f) (form_at σ (at side y) u) ≡ form_at σ (at side y) u
       by_test true d h = ap (λ z. cond {A = Option Nf} z (Some f) (form_at σ (at side y) u)) h
       by_test false d h = refl
 
   put_at : (u : List (Pos × Nf)) (x y : ℕ) (f : Nf) (σ : Sort)
-      → form_at σ (at side y) (with_form (at side x) f u) ≡ cond ((y == x) && same_sort σ (sort_of_form f)) (Some f) (form_at σ (at side y) u)
+      → form_at σ (at side y) (with_form (at side x) f u) ≡ cond ((y == x) && same_term_sort σ (sort_of_form f)) (Some f) (form_at σ (at side y) u)
   put_at u x y f σ = form_put u (at side x) (at side y) f σ
-      ∙ ap (λ t. cond {A = Option Nf} (t && same_sort σ (sort_of_form f)) (Some f) (form_at σ (at side y) u)) (same_at side x y)
+      ∙ ap (λ t. cond {A = Option Nf} (t && same_term_sort σ (sort_of_form f)) (Some f) (form_at σ (at side y) u)) (same_at side x y)
 
   abbrev number_in : ℕ → Option Nf → Polynomial
   number_in y o = number_or (polynomial_of_symbol (at side y)) o
@@ -182,37 +184,39 @@ module _ (k : Terms) (side : Side) where
 
   module _ (before : ExpressionVector) (v : List (Pos × Nf)) (b : Shows k before side v) where
     assignment_shows : (s : ExpressionVector) (u next : List (Pos × Nf)) → Shows k s side u → (x : Assignment ℕ) (c : Change)
-        → evaluate_assignment side v x ≡ Done c → change side c u ≡ Done next → Shows k (acted x before s) side next
+        → evaluate_assignment side v x ≡ Done c → change side c u ≡ Done next → Shows k (expressions_after x before s) side next
     assignment_shows s u next h (Assign x e) c g i =
         let r = goes_done (evaluate side v e) (λ p. Done (SetTo x p)) c g in
         let i' : change side (SetTo x r.middle) u ≡ Done next = ap (λ z. change side z u) (same_Done (SetTo x r.middle) c r.next) ∙ i in
-        subst (Shows k (acted (Assign x e) before s) side) (same_Done (with_form (at side x) (Num r.middle) u) next i')
-        (set_shows s u h x (expressed before e) r.middle (expressed_term before v b e r.middle r.first))
+        subst (Shows k (expressions_after (Assign x e) before s) side) (same_Done (with_form (at side x) (Num r.middle) u) next i')
+        (set_shows s u h x (expression_of_term before e) r.middle (expressed_term before v b e r.middle r.first))
     assignment_shows s u next h (ArrayWrite x i e) c g j =
         let r = goes_done (evaluate side v i) (λ m. after (evaluate side v e) (λ p. Done (PutAt x m p))) c g in
         let t = goes_done (evaluate side v e) (λ p. Done (PutAt x r.middle p)) c r.next in
         let j' : change side (PutAt x r.middle t.middle) u ≡ Done next = ap (λ z. change side z u) (same_Done (PutAt x r.middle t.middle) c t.next) ∙ j in
         let d = goes_done (write_array (array_form u (at side x)) r.middle t.middle) (λ a. Done (with_form (at side x) (Arr a) u)) next j' in
-        let computed : array_term_of k (Stored (s.array x) (expressed before i) (expressed before e)) ≡ Done d.middle =
+        let computed : array_term_of k (Stored (s.array x) (expression_of_term before i) (expression_of_term before e)) ≡ Done d.middle =
         after_done (array_term_of k (s.array x))
-        (λ a. after (term_of k (expressed before i)) (λ m. after (term_of k (expressed before e)) (λ p. write_array a m p)))
+        (λ a. after (term_of k (expression_of_term before i)) (λ m. after (term_of k (expression_of_term before e)) (λ p. write_array a m p)))
         (array_form u (at side x)) d.middle (h.arrays x)
-        (after_done (term_of k (expressed before i)) (λ m. after (term_of k (expressed before e)) (λ p. write_array (array_form u (at side x)) m p)) r.middle
+        (after_done (term_of k (expression_of_term before i))
+        (λ m. after (term_of k (expression_of_term before e)) (λ p. write_array (array_form u (at side x)) m p)) r.middle
         d.middle (expressed_term before v b i r.middle r.first)
-        (after_done (term_of k (expressed before e)) (λ p. write_array (array_form u (at side x)) r.middle p) t.middle d.middle
+        (after_done (term_of k (expression_of_term before e)) (λ p. write_array (array_form u (at side x)) r.middle p) t.middle d.middle
         (expressed_term before v b e t.middle t.first) d.first)) in
-        subst (Shows k (acted (ArrayWrite x i e) before s) side) (same_Done (with_form (at side x) (Arr d.middle) u) next d.next)
-        (put_shows s u h x (expressed before i) (expressed before e) d.middle computed)
+        subst (Shows k (expressions_after (ArrayWrite x i e) before s) side) (same_Done (with_form (at side x) (Arr d.middle) u) next d.next)
+        (put_shows s u h x (expression_of_term before i) (expression_of_term before e) d.middle computed)
     assignment_shows s u next h (Emit x e) c g i =
         let r = goes_done (evaluate side v e) (λ p. Done (PushTo x p)) c g in
         let i' : change side (PushTo x r.middle) u ≡ Done next = ap (λ z. change side z u) (same_Done (PushTo x r.middle) c r.next) ∙ i in
-        let d = goes_done (pushed (list_at u (at side x)) r.middle) (λ l. Done (with_form (at side x) (Seq l) u)) next i' in
-        let computed : list_term_of k (Pushed (s.port x) (expressed before e)) ≡ Done d.middle =
-        after_done (list_term_of k (s.port x)) (λ l. after (term_of k (expressed before e)) (λ p. pushed l p)) (list_at u (at side x)) d.middle (h.lists x)
-        (after_done (term_of k (expressed before e)) (λ p. pushed (list_at u (at side x)) p) r.middle d.middle
+        let d = goes_done (list_with_item (list_at u (at side x)) r.middle) (λ l. Done (with_form (at side x) (Seq l) u)) next i' in
+        let computed : list_term_of k (Pushed (s.port x) (expression_of_term before e)) ≡ Done d.middle =
+        after_done (list_term_of k (s.port x)) (λ l. after (term_of k (expression_of_term before e)) (λ p. list_with_item l p))
+        (list_at u (at side x)) d.middle (h.lists x)
+        (after_done (term_of k (expression_of_term before e)) (λ p. list_with_item (list_at u (at side x)) p) r.middle d.middle
         (expressed_term before v b e r.middle r.first) d.first) in
-        subst (Shows k (acted (Emit x e) before s) side) (same_Done (with_form (at side x) (Seq d.middle) u) next d.next)
-        (push_shows s u h x (expressed before e) d.middle computed)
+        subst (Shows k (expressions_after (Emit x e) before s) side) (same_Done (with_form (at side x) (Seq d.middle) u) next d.next)
+        (push_shows s u h x (expression_of_term before e) d.middle computed)
 
     assignments_show : (xs : List (Assignment ℕ)) (cs : List Change) (s : ExpressionVector) (u next : List (Pos × Nf)) → Shows k s side u
         → each (λ x. evaluate_assignment side v x) xs ≡ Done cs → change_all side cs u ≡ Done next → Shows k (acted_all xs before s) side next
@@ -224,7 +228,7 @@ module _ (k : Terms) (side : Side) where
         let t = goes_done (each (λ z. evaluate_assignment side v z) xs) (λ ys. Done (r.middle ∷ ys)) cs r.next in
         let i' : change_all side (r.middle ∷ t.middle) u ≡ Done next = ap (λ z. change_all side z u) (same_Done (r.middle ∷ t.middle) cs t.next) ∙ i in
         let d = goes_done (change side r.middle u) (λ z. change_all side t.middle z) next i' in
-        assignments_show xs t.middle (acted x before s) d.middle next (assignment_shows s u d.middle h x r.middle r.first d.first) t.first d.next
+        assignments_show xs t.middle (expressions_after x before s) d.middle next (assignment_shows s u d.middle h x r.middle r.first d.first) t.first d.next
 
   steps_show : (m : Fsmd) (xs : List BranchStep) (s : ExpressionVector) (v u : List (Pos × Nf)) → Shows k s side v → steps_over m side xs v ≡ Done u
       → Shows k (left_by m xs s) side u
@@ -241,13 +245,13 @@ pub left_shows : (m : Fsmd) (side : Side) (xs : List BranchStep) (v u : List (Po
 left_shows m side xs v u e = steps_show (terms_of side v) side m xs initial v u (record { numbers = λ x. refl; arrays = λ x. refl; lists = λ x. refl }) e
 
 -- a term over a vector is that of its expression
-pub initial_term : (side : Side) (v : List (Pos × Nf)) (e : Term ℕ) → evaluate side v e ≡ term_of (terms_of side v) (expressed initial e)
+pub initial_term : (side : Side) (v : List (Pos × Nf)) (e : Term ℕ) → evaluate side v e ≡ term_of (terms_of side v) (expression_of_term initial e)
 initial_term side v (Number n) = refl
 initial_term side v (Variable x) = refl
 initial_term side v (Read x i) = ap (λ o. after o (λ j. read_at (array_form v (at side x)) j)) (initial_term side v i)
-initial_term side v (Sum a b) = ap₂ (λ z y. after z (λ p. after y (λ q. added p q))) (initial_term side v a) (initial_term side v b)
-initial_term side v (Difference a b) = ap₂ (λ z y. after z (λ p. after y (λ q. subtracted p q))) (initial_term side v a) (initial_term side v b)
-initial_term side v (Product a b) = ap₂ (λ z y. after z (λ p. after y (λ q. multiplied p q))) (initial_term side v a) (initial_term side v b)
-initial_term side v (Quotient a b) = ap₂ (λ z y. after z (λ p. after y (λ q. divided p q))) (initial_term side v a) (initial_term side v b)
+initial_term side v (Sum a b) = ap₂ (λ z y. after z (λ p. after y (λ q. normal_sum p q))) (initial_term side v a) (initial_term side v b)
+initial_term side v (Difference a b) = ap₂ (λ z y. after z (λ p. after y (λ q. normal_difference p q))) (initial_term side v a) (initial_term side v b)
+initial_term side v (Product a b) = ap₂ (λ z y. after z (λ p. after y (λ q. normal_product p q))) (initial_term side v a) (initial_term side v b)
+initial_term side v (Quotient a b) = ap₂ (λ z y. after z (λ p. after y (λ q. quotient_of p q))) (initial_term side v a) (initial_term side v b)
 initial_term side v (Remainder a b) = ap₂ (λ z y. after z (λ p. after y (λ q. remainder_of p q))) (initial_term side v a) (initial_term side v b)
-initial_term side v (Negative a) = ap (λ o. after o (λ p. Done (negated p))) (initial_term side v a)
+initial_term side v (Negative a) = ap (λ o. after o (λ p. Done (normal_negation p))) (initial_term side v a)

@@ -1,9 +1,9 @@
 -- What arrives by paths of other numbers has conditions that clash.
 use Rattle.std.proofs.Common.{◌≡◌, ℕ, zero, suc, ap, sym, ◌∙◌, subst, List, [], ◌∷◌, ◌++◌, Some}
 use Rattle.std.specs.Prelude.{◌≢◌, slice_get}
+use Rattle.fs_rules.specs.SoundParts.{IsSound}
 use Rattle.fs_model.specs.Terms.{Term, Literal}
 use Rattle.fs_model.specs.Machines.{Fsmd}
-use Rattle.fs_ast.specs.SoundMachines.{IsSound}
 use Rattle.fs_cut.specs.Paths.{Point, Path, IsPath, state_of, branch_at, steps_in}
 use Rattle.nf_terms.specs.Computed.{Done, after}
 use Rattle.fs_model.specs.declared.sides.Side.{Side}
@@ -16,7 +16,7 @@ use Rattle.nf_rel.specs.Literals.{NormalLiteral, literal}
 use Rattle.sym_paths.specs.Sequences.{each}
 use Rattle.sym_paths.specs.Evaluation.{evaluate, evaluate_literal}
 use Rattle.sym_paths.specs.Execution.{Post, conditions, steps_over, execute, arrive}
-use Rattle.alike_behaviour.specs.PathExpressions.{initial, expressed}
+use Rattle.alike_behaviour.specs.PathExpressions.{initial, expression_of_term}
 use Rattle.alike_behaviour.specs.Alike.{AlikePoints}
 use Rattle.alike_paths.specs.Evenness.{IsEven}
 use Rattle.alike_paths.specs.Clashes.{SomeClash}
@@ -31,7 +31,7 @@ module _ (side : Side) (v u : List (Pos × Nf)) (h : Stays side v u) where
   same_terms = λ k. record { number = λ x. h.numbers x k; array = λ x. h.arrays x k; list = λ x. h.lists x k }
 
   value_stays : (e : Term ℕ) → evaluate side u e ≡ evaluate side v e
-  value_stays e = initial_term side u e ∙ ap (λ t. term_of t (expressed initial e)) same_terms ∙ sym (initial_term side v e)
+  value_stays e = initial_term side u e ∙ ap (λ t. term_of t (expression_of_term initial e)) same_terms ∙ sym (initial_term side v e)
 
   literal_stays : (l : Literal ℕ) → evaluate_literal side u l ≡ evaluate_literal side v l
   literal_stays l = λ k. after (value_stays l.left k) (λ p. after (value_stays l.right k) (λ q. literal l.relation p q))

@@ -5,7 +5,7 @@ use Rattle.fs_model.specs.Machines.{Fsmd}
 use Rattle.fs_model.specs.declared.sides.Side.TheVariants.{Left, Right}
 use Rattle.fs_model.specs.declared.sides.Pos.{Pos}
 use Rattle.nf_terms.specs.declared.form.Nf.{Nf}
-use Rattle.nf_subst.specs.Vectors.{number_at, array_form, list_at}
+use Rattle.nf_substitution.specs.Vectors.{number_at, array_form, list_at}
 use Rattle.sym_paths.specs.ValuationStores.{at}
 use Rattle.alike_behaviour.specs.ExpressionSameness.{AreTwins}
 

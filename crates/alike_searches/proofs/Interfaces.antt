@@ -4,11 +4,11 @@ use Rattle.std.specs.Prelude.{not, ◌&&◌, slice_get}
 use Rattle.std.specs.Option.{option_or}
 use Rattle.std.specs.Str.{bytes_eq}
 use Rattle.std.proofs.lemmas.Slice.Eq.{bytes_eq-Decides}
+use Rattle.fs_rules.specs.SoundParts.{names_differ}
 use Rattle.fs_model.specs.declared.parts.Role.{Role}
 use Rattle.fs_model.specs.declared.parts.Role.TheVariants.{Input, Output, Local}
 use Rattle.fs_model.specs.declared.parts.VarInfo.{VarInfo}
 use Rattle.fs_model.specs.Machines.{Fsmd}
-use Rattle.fs_ast.specs.SoundMachines.{names_differ}
 use Rattle.fs_pair.specs.Interfaces.{is_interface, same_role, same_sort, variable_named, is_like, lacks_match, first_unmatched, interface_fault}
 use Rattle.fs_pair.proofs.Tests.{same_sort_self}
 use Rattle.alike_behaviour.specs.Alike.{DeclareTheSame}

@@ -4,7 +4,7 @@ use Rattle.std.specs.Prelude.{◌⊎◌}
 use Rattle.std.specs.List.{AllByRecursion}
 use Rattle.std.specs.Option.{option_map, option_or}
 use Rattle.base_lemmas.proofs.Quantifiers.{each_at}
-use Rattle.fs_ast.specs.SoundMachines.{IsSound}
+use Rattle.fs_rules.specs.SoundParts.{IsSound}
 use Rattle.fs_cut.specs.Paths.{Point, Done}
 use Rattle.fs_pair.specs.PairedOutputs.{OutputPair, output_pairs}
 use Rattle.cert_bisimulation.specs.declared.mode.Mode.TheVariants.{Both, End}

@@ -3,8 +3,8 @@ use Rattle.std.proofs.Common.{◌≡◌, ℕ, zero, suc, ap, sym, subst, ◌∙�
 use Rattle.std.specs.Prelude.{◌≢◌, slice_set}
 use Rattle.std.specs.List.{AllByRecursion}
 use Rattle.base_lemmas.proofs.Quantifiers.{each_weaker, each_append, each_at}
+use Rattle.fs_rules.specs.SoundParts.{IsSound}
 use Rattle.fs_model.specs.Machines.{Fsmd}
-use Rattle.fs_ast.specs.SoundMachines.{IsSound}
 use Rattle.fs_cut.specs.Paths.{Point, Path}
 use Rattle.fs_cut.specs.Paths as cut
 use Rattle.fs_model.specs.declared.parts.Sort.{Sort}

@@ -2,8 +2,8 @@
 use Rattle.std.proofs.Common.{◌≡◌, ℕ, zero, suc, ◌+◌, ◌<◌, ◌≤◌, arith, refl, ap, ap₂, sym, subst, ◌∙◌, List, ◌++◌, map, Bool, true, false, cond}
 use Rattle.std.specs.Prelude.{◌≢◌, not, nat_le}
 use Rattle.std.specs.List.{range_with_len}
+use Rattle.fs_rules.specs.SoundParts.{IsSound, branch_count}
 use Rattle.fs_model.specs.Machines.{Fsmd}
-use Rattle.fs_ast.specs.SoundMachines.{IsSound, branch_count}
 use Rattle.fs_cut.specs.Paths.{Point, Start, At, Done, state_of}
 use Rattle.fs_cut.specs.Covers.{path_by, paths_of, same_point}
 use Rattle.fs_cut.proofs.Listed.{path_is, paths_are}
@@ -15,7 +15,7 @@ use Rattle.fs_model.specs.declared.sides.Side.{Side}
 use Rattle.fs_model.specs.declared.sides.Side.TheVariants as side
 use Rattle.nf_rel.specs.Literals.{is_refuted}
 use Rattle.sym_facts.specs.Facts.{Fact, vector_of}
-use Rattle.propagate.specs.Modes.{Traced, Found, WideAt, LargeAt, followed, on_path, is_open_path, count_open, count_from, mode_of_counts, mode_by, mode_of}
+use Rattle.propagate.specs.Modes.{Traced, Found, WideAt, LargeAt, traced_then, on_path, is_open_path, count_open, count_from, mode_of_counts, mode_by, mode_of}
 use Rattle.alike_behaviour.specs.Alike.{AlikePoints}
 use Rattle.alike_paths.specs.Evenness.{IsEven}
 use Rattle.alike_paths.proofs.EvenPaths.{same_conditions}
@@ -26,7 +26,7 @@ record Goes {S T : Type 0} (o : Traced S) (f : S → Traced T) (y : T) : Type 0 
   first : o ≡ Found middle
   next : f middle ≡ Found y
 
-goes_found : {S T : Type 0} (o : Traced S) (f : S → Traced T) (y : T) → followed o f ≡ Found y → Goes o f y
+goes_found : {S T : Type 0} (o : Traced S) (f : S → Traced T) (y : T) → traced_then o f ≡ Found y → Goes o f y
 goes_found (Found x) f y e = record { middle = x; first = refl; next = e }
 goes_found (WideAt d k l r) f y e = absurd (cc e)
 goes_found (LargeAt d k u n) f y e = absurd (cc e)
@@ -83,15 +83,16 @@ module _ (a b : Fsmd) (sound_a : IsSound a) (sound_b : IsSound b) (K : List (Poi
 
   pub both_move : (mode : Mode) → mode_of a b f P Q ≡ Found mode → mode ≡ Both
   both_move mode e =
-      let e' : followed (count_from a side.Left f (paths_of a P) 0)
-      (λ n. followed (count_from b side.Right f (paths_of b Q) 0) (λ k. Found (mode_of_counts n k))) ≡ Found mode =
+      let e' : traced_then (count_from a side.Left f (paths_of a P) 0)
+      (λ n. traced_then (count_from b side.Right f (paths_of b Q) 0) (λ k. Found (mode_of_counts n k))) ≡ Found mode =
       sym
       (ap₂
       (λ x y. mode_by x y
-      (followed (count_from a side.Left f (paths_of a P) 0) (λ n. followed (count_from b side.Right f (paths_of b Q) 0) (λ k. Found (mode_of_counts n k)))))
+      (traced_then (count_from a side.Left f (paths_of a P) 0)
+      (λ n. traced_then (count_from b side.Right f (paths_of b Q) 0) (λ k. Found (mode_of_counts n k)))))
       (not_done P w.left_goes) (not_done Q w.right_goes)) ∙ e in
       let s = goes_found (count_from a side.Left f (paths_of a P) 0)
-      (λ n. followed (count_from b side.Right f (paths_of b Q) 0) (λ k. Found (mode_of_counts n k))) mode e' in
+      (λ n. traced_then (count_from b side.Right f (paths_of b Q) 0) (λ k. Found (mode_of_counts n k))) mode e' in
       let t = goes_found (count_from b side.Right f (paths_of b Q) 0) (λ k. Found (mode_of_counts s.middle k)) mode s.next in
       let n = branch_count a (state_of a P) in
       let l : count_from a side.Left f (map (path_by a P (state_of a P)) (range_with_len 0 n)) 0 ≡ Found s.middle =

@@ -18,12 +18,12 @@ use Rattle.nf_terms.specs.Computed.{Done}
 use Rattle.nf_terms.specs.Normal.{part_with_atoms, constant_sum}
 use Rattle.nf_terms.specs.RawSums.{raw_negation, raw_difference}
 use Rattle.nf_terms.proofs.Computed.{same_Done}
-use Rattle.nf_sums.specs.Operations.{subtracted}
+use Rattle.nf_sums.specs.Operations.{normal_difference}
 use Rattle.nf_sums.proofs.Values.{goes_done}
 use Rattle.nf_rel.specs.Gcd.{gcd}
 use Rattle.nf_rel.specs.declared.kind.Kind.TheVariants.{Eq, Ne}
 use Rattle.nf_rel.specs.Literals.{NormalLiteral, True, False, Is, truth, common_divisor, divide_coefficients, begins_positive, signed_number, AtLeastZero}
-use Rattle.nf_rel.specs.Literals.{IsZero, IsNotZero, bounded, bounded_by, literal_form, one, against_zero, literal, clash}
+use Rattle.nf_rel.specs.Literals.{IsZero, IsNotZero, bounded_literal, bounded_by, literal_form, one, against_zero, literal, clash}
 use Rattle.nf_rel.proofs.Floors.{floor_of, lt_false}
 use Rattle.nf_rel.proofs.Exact.{same_self}
 use Rattle.alike_terms.specs.Risen.{is_risen}
@@ -123,23 +123,23 @@ least_or_less (Plus m z p) (suc n) c o e = by_sign (int_lt (pos 0) z) refl
         swapped : (a b : ℤ) → int_lt a (neg_ℤ b) ≡ true → int_lt b (neg_ℤ a) ≡ true
         swapped a b h = grind (arith, ints)
 
-    positive : Clash (bounded AtLeastZero true (divide_coefficients (Plus m z p) (pos (suc n))) (suc n) c)
-        (bounded AtLeastZero false (divide_coefficients (raw_negation (Plus m z p)) (neg_ℤ (pos (suc n)))) (suc n) (neg_ℤ c -ℤ pos 1))
+    positive : Clash (bounded_literal AtLeastZero true (divide_coefficients (Plus m z p) (pos (suc n))) (suc n) c)
+        (bounded_literal AtLeastZero false (divide_coefficients (raw_negation (Plus m z p)) (neg_ℤ (pos (suc n)))) (suc n) (neg_ℤ c -ℤ pos 1))
     positive =
         subst
-        (λ d. Clash (bounded AtLeastZero true (divide_coefficients (Plus m z p) (pos (suc n))) (suc n) c)
-        (bounded AtLeastZero false d (suc n) (neg_ℤ c -ℤ pos 1))) (sym (divided_both (Plus m z p) n))
+        (λ d. Clash (bounded_literal AtLeastZero true (divide_coefficients (Plus m z p) (pos (suc n))) (suc n) c)
+        (bounded_literal AtLeastZero false d (suc n) (neg_ℤ c -ℤ pos 1))) (sym (divided_both (Plus m z p) n))
         (record {
           forth = one_direction (divide_coefficients (Plus m z p) (pos (suc n))) _ apart;
           back = one_direction (divide_coefficients (Plus m z p) (pos (suc n))) _ apart;
         })
 
-    negative : Clash (bounded AtLeastZero false (divide_coefficients (Plus m z p) (neg_ℤ (pos (suc n)))) (suc n) c)
-        (bounded AtLeastZero true (divide_coefficients (raw_negation (Plus m z p)) (pos (suc n))) (suc n) (neg_ℤ c -ℤ pos 1))
+    negative : Clash (bounded_literal AtLeastZero false (divide_coefficients (Plus m z p) (neg_ℤ (pos (suc n)))) (suc n) c)
+        (bounded_literal AtLeastZero true (divide_coefficients (raw_negation (Plus m z p)) (pos (suc n))) (suc n) (neg_ℤ c -ℤ pos 1))
     negative =
         subst
-        (λ d. Clash (bounded AtLeastZero false (divide_coefficients (Plus m z p) (neg_ℤ (pos (suc n)))) (suc n) c)
-        (bounded AtLeastZero true d (suc n) (neg_ℤ c -ℤ pos 1))) (sym (divided_one (Plus m z p) n))
+        (λ d. Clash (bounded_literal AtLeastZero false (divide_coefficients (Plus m z p) (neg_ℤ (pos (suc n)))) (suc n) c)
+        (bounded_literal AtLeastZero true d (suc n) (neg_ℤ c -ℤ pos 1))) (sym (divided_one (Plus m z p) n))
         (record {
           forth = one_direction (divide_coefficients (Plus m z p) (neg_ℤ (pos (suc n)))) _ apart';
           back = one_direction (divide_coefficients (Plus m z p) (neg_ℤ (pos (suc n)))) _ apart';
@@ -149,19 +149,19 @@ least_or_less (Plus m z p) (suc n) c o e = by_sign (int_lt (pos 0) z) refl
         (bounded_by AtLeastZero (raw_negation (Plus m z p)) (suc n) (neg_ℤ c -ℤ pos 1))
     by_sign true h =
         subst
-        (λ b. Clash (bounded AtLeastZero b (divide_coefficients (Plus m z p) (signed_number b (pos (suc n)))) (suc n) c)
+        (λ b. Clash (bounded_literal AtLeastZero b (divide_coefficients (Plus m z p) (signed_number b (pos (suc n)))) (suc n) c)
         (bounded_by AtLeastZero (raw_negation (Plus m z p)) (suc n) (neg_ℤ c -ℤ pos 1))) (sym h)
         (subst
-        (λ b. Clash (bounded AtLeastZero true (divide_coefficients (Plus m z p) (pos (suc n))) (suc n) c)
-        (bounded AtLeastZero b (divide_coefficients (raw_negation (Plus m z p)) (signed_number b (pos (suc n)))) (suc n) (neg_ℤ c -ℤ pos 1)))
+        (λ b. Clash (bounded_literal AtLeastZero true (divide_coefficients (Plus m z p) (pos (suc n))) (suc n) c)
+        (bounded_literal AtLeastZero b (divide_coefficients (raw_negation (Plus m z p)) (signed_number b (pos (suc n)))) (suc n) (neg_ℤ c -ℤ pos 1)))
         (sym (turns z true (risen_term m z p o).nonzero h)) positive)
     by_sign false h =
         subst
-        (λ b. Clash (bounded AtLeastZero b (divide_coefficients (Plus m z p) (signed_number b (pos (suc n)))) (suc n) c)
+        (λ b. Clash (bounded_literal AtLeastZero b (divide_coefficients (Plus m z p) (signed_number b (pos (suc n)))) (suc n) c)
         (bounded_by AtLeastZero (raw_negation (Plus m z p)) (suc n) (neg_ℤ c -ℤ pos 1))) (sym h)
         (subst
-        (λ b. Clash (bounded AtLeastZero false (divide_coefficients (Plus m z p) (neg_ℤ (pos (suc n)))) (suc n) c)
-        (bounded AtLeastZero b (divide_coefficients (raw_negation (Plus m z p)) (signed_number b (pos (suc n)))) (suc n) (neg_ℤ c -ℤ pos 1)))
+        (λ b. Clash (bounded_literal AtLeastZero false (divide_coefficients (Plus m z p) (neg_ℤ (pos (suc n)))) (suc n) c)
+        (bounded_literal AtLeastZero b (divide_coefficients (raw_negation (Plus m z p)) (signed_number b (pos (suc n)))) (suc n) (neg_ℤ c -ℤ pos 1)))
         (sym (turns z false (risen_term m z p o).nonzero h)) negative)
 
 -- a sum that rises at least 0, and minus it and minus 1 at least 0
@@ -187,7 +187,7 @@ turned m n b = record { forth = b.back; back = b.forth }
 
 -- the literals of a sum that rises and of minus it and minus 1, which is computed
 module _ (e : Polynomial) (o : is_risen e ≡ true) where
-  lower : (n : NormalLiteral) (r : Polynomial) → subtracted (raw_negation e) one ≡ Done r → literal_form AtLeastZero r ≡ n
+  lower : (n : NormalLiteral) (r : Polynomial) → normal_difference (raw_negation e) one ≡ Done r → literal_form AtLeastZero r ≡ n
       → Clash (literal_form AtLeastZero e) n
   lower n r g h =
       subst (Clash (literal_form AtLeastZero e)) h
@@ -202,26 +202,26 @@ against_clash d o rel.Ne m n e g =
     clash_of m n (literal_form IsNotZero d) (literal_form IsZero d) (same_Done _ _ e) (same_Done _ _ g)
     (turned _ _ (equal_or_not (part_with_atoms d) (common_divisor (part_with_atoms d)) (constant_sum d)))
 against_clash d o rel.Ge m n e g =
-    let s = goes_done (subtracted (raw_negation d) one) (λ q. Done (literal_form AtLeastZero q)) n g in
+    let s = goes_done (normal_difference (raw_negation d) one) (λ q. Done (literal_form AtLeastZero q)) n g in
     subst (λ z. Clash z n) (same_Done (literal_form AtLeastZero d) m e) (lower d o n s.middle s.first (same_Done _ _ s.next))
 against_clash d o rel.Lt m n e g =
-    let s = goes_done (subtracted (raw_negation d) one) (λ q. Done (literal_form AtLeastZero q)) m e in
+    let s = goes_done (normal_difference (raw_negation d) one) (λ q. Done (literal_form AtLeastZero q)) m e in
     turned n m (subst (λ z. Clash z m) (same_Done (literal_form AtLeastZero d) n g) (lower d o m s.middle s.first (same_Done _ _ s.next)))
 against_clash d o rel.Le m n e g =
-    let s = goes_done (subtracted d one) (λ q. Done (literal_form AtLeastZero q)) n g in
+    let s = goes_done (normal_difference d one) (λ q. Done (literal_form AtLeastZero q)) n g in
     subst (λ z. Clash z n) (same_Done (literal_form AtLeastZero (raw_negation d)) m e)
-    (lower (raw_negation d) (negation_risen d o) n s.middle (ap (λ z. subtracted z one) (negation_twice d) ∙ s.first) (same_Done _ _ s.next))
+    (lower (raw_negation d) (negation_risen d o) n s.middle (ap (λ z. normal_difference z one) (negation_twice d) ∙ s.first) (same_Done _ _ s.next))
 against_clash d o rel.Gt m n e g =
-    let s = goes_done (subtracted d one) (λ q. Done (literal_form AtLeastZero q)) m e in
+    let s = goes_done (normal_difference d one) (λ q. Done (literal_form AtLeastZero q)) m e in
     turned n m
     (subst (λ z. Clash z m) (same_Done (literal_form AtLeastZero (raw_negation d)) n g)
-    (lower (raw_negation d) (negation_risen d o) m s.middle (ap (λ z. subtracted z one) (negation_twice d) ∙ s.first) (same_Done _ _ s.next)))
+    (lower (raw_negation d) (negation_risen d o) m s.middle (ap (λ z. normal_difference z one) (negation_twice d) ∙ s.first) (same_Done _ _ s.next)))
 
 pub opposites_clash : (relation : Rel) (p q : Polynomial) (m n : NormalLiteral) → literal relation p q ≡ Done m → literal (opposite relation) p q ≡ Done n
     → clash m n ≡ true
 opposites_clash relation p q m n e g =
-    let s = goes_done (subtracted p q) (against_zero relation) m e in
-    let t = goes_done (subtracted p q) (against_zero (opposite relation)) n g in
+    let s = goes_done (normal_difference p q) (against_zero relation) m e in
+    let t = goes_done (normal_difference p q) (against_zero (opposite relation)) n g in
     let k : s.middle ≡ t.middle = same_Done s.middle t.middle (sym s.first ∙ t.first) in
     let d : is_risen s.middle ≡ true = subst (λ z. is_risen z ≡ true) (difference_is p q s.middle s.first) (form_risen (raw_difference p q)) in
     (against_clash s.middle d relation m n s.next (ap (against_zero (opposite relation)) k ∙ t.next)).forth

@@ -8,13 +8,13 @@ use Rattle.nf_terms.specs.Order.{same_polynomial}
 use Rattle.nf_terms.specs.Measures.{size_of, depth_of, size_of_array, depth_of_array}
 use Rattle.nf_terms.specs.Normal.{is_constant, constant_sum, is_written, last_index}
 use Rattle.nf_terms.specs.RawSums.{raw_sum, raw_difference, raw_product}
-use Rattle.nf_terms.specs.Tidied.{last_writes, goes_after, with_write, rising_stretches, tidied}
+use Rattle.nf_terms.specs.Tidied.{last_writes, goes_after, with_write, rising_stretches, tidy_array}
 use Rattle.nf_terms.specs.Computed.{Computed, Done}
 use Rattle.nf_terms.specs.declared.tree.Base.{Base}
 use Rattle.nf_terms.specs.declared.tree.Base.TheVariants as base
-use Rattle.nf_sums.specs.Operations.{added, subtracted, multiplied, number}
+use Rattle.nf_sums.specs.Operations.{normal_sum, normal_difference, normal_product, number}
 use Rattle.nf_sums.proofs.Values.{small_is}
-use Rattle.nf_arrays.specs.NewAtoms.{polynomial_of_atom, new_atom, divided, remainder_of}
+use Rattle.nf_arrays.specs.NewAtoms.{polynomial_of_atom, new_atom, quotient_of, remainder_of}
 use Rattle.nf_arrays.specs.Writes.{written_last, with_last_write, write_array, are_apart, stop_at, prefix_for, last_value, read_here, read_at}
 use Rattle.alike_terms.specs.Risen.{is_risen, values_rise, is_risen_array}
 use Rattle.alike_terms.proofs.RisenForms.{form_risen, number_risen}
@@ -23,13 +23,13 @@ use Rattle.alike_terms.proofs.Computing.{sum_is, difference_is, product_is, numb
 -- ---- sums
 
 module _ (p q r : Polynomial) where
-  pub sum_rises : added p q ≡ Done r → is_risen r ≡ true
+  pub sum_rises : normal_sum p q ≡ Done r → is_risen r ≡ true
   sum_rises e = subst (λ z. is_risen z ≡ true) (sum_is p q r e) (form_risen (raw_sum p q))
 
-  pub difference_rises : subtracted p q ≡ Done r → is_risen r ≡ true
+  pub difference_rises : normal_difference p q ≡ Done r → is_risen r ≡ true
   difference_rises e = subst (λ z. is_risen z ≡ true) (difference_is p q r e) (form_risen (raw_difference p q))
 
-  pub product_rises : multiplied p q ≡ Done r → is_risen r ≡ true
+  pub product_rises : normal_product p q ≡ Done r → is_risen r ≡ true
   product_rises e = subst (λ z. is_risen z ≡ true) (product_is p q r e) (form_risen (raw_product p q))
 
 pub number_rises : (c : ℤ) (r : Polynomial) → number c ≡ Done r → is_risen r ≡ true
@@ -49,7 +49,7 @@ number_or_atom true c a r e =
     subst (λ z. is_risen z ≡ true) k (number_risen c)
 number_or_atom false c a r e = atom_rises_alone a r e
 
-pub quotient_rises : (p q r : Polynomial) → divided p q ≡ Done r → is_risen r ≡ true
+pub quotient_rises : (p q r : Polynomial) → quotient_of p q ≡ Done r → is_risen r ≡ true
 quotient_rises p q r e = number_or_atom (is_constant p && is_constant q) (quotient (constant_sum p) (constant_sum q)) (Quotient p q) r e
 
 pub remainder_rises : (p q r : Polynomial) → remainder_of p q ≡ Done r → is_risen r ≡ true
@@ -118,11 +118,12 @@ stretches_rise NoWrites h = refl
 stretches_rise (Write i v ws) h = placed_rises i v (rising_stretches ws) (and_first (is_risen v) (values_rise ws) h)
     (stretches_rise ws (and_second (is_risen v) (values_rise ws) h))
 
-tidied_rises : (a : ArrayTerm) (i v : Polynomial) → is_risen_array a ≡ true → is_risen v ≡ true → is_risen_array (tidied (with_last_write a i v)) ≡ true
+tidied_rises : (a : ArrayTerm) (i v : Polynomial) → is_risen_array a ≡ true → is_risen v ≡ true → is_risen_array (tidy_array (with_last_write a i v)) ≡ true
 tidied_rises (Over b ws) i v h g = stretches_rise (last_writes (written_last ws i v)) (last_writes_rise (written_last ws i v) (one_more_rises ws i v h g))
 
 pub write_rises : (a b : ArrayTerm) (i v : Polynomial) → is_risen_array a ≡ true → is_risen v ≡ true → write_array a i v ≡ Done b → is_risen_array b ≡ true
 write_rises a b i v h g e =
-    let k : tidied (with_last_write a i v) ≡ b = small_is (size_of_array a + 1 + size_of i + size_of v) (depth_of_array (tidied (with_last_write a i v)))
-    (tidied (with_last_write a i v)) b e in
+    let k : tidy_array (with_last_write a i v) ≡ b = small_is (size_of_array a + 1 + size_of i + size_of v)
+    (depth_of_array (tidy_array (with_last_write a i v)))
+    (tidy_array (with_last_write a i v)) b e in
     subst (λ z. is_risen_array z ≡ true) k (tidied_rises a i v h g)

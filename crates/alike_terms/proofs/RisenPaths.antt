@@ -15,13 +15,13 @@ use Rattle.nf_terms.specs.declared.tree.Base.TheVariants as base
 use Rattle.nf_terms.specs.declared.form.Nf.{Nf}
 use Rattle.nf_terms.specs.declared.form.Nf.TheVariants.{Num, Arr, Seq}
 use Rattle.nf_terms.proofs.Computed.{same_Done}
-use Rattle.nf_sums.specs.Operations.{added, subtracted, multiplied, negated}
+use Rattle.nf_sums.specs.Operations.{normal_sum, normal_difference, normal_product, normal_negation}
 use Rattle.nf_sums.proofs.Values.{goes_done}
-use Rattle.nf_arrays.specs.NewAtoms.{divided, remainder_of}
+use Rattle.nf_arrays.specs.NewAtoms.{quotient_of, remainder_of}
 use Rattle.nf_arrays.specs.Writes.{write_array, read_at}
-use Rattle.nf_arrays.specs.Pushes.{pushed}
-use Rattle.nf_subst.specs.Vectors.{number_or, array_or, number_at, array_form, list_at, form_at, with_form}
-use Rattle.nf_subst.proofs.Entries.{form_put}
+use Rattle.nf_arrays.specs.Pushes.{list_with_item}
+use Rattle.nf_substitution.specs.Vectors.{number_or, array_or, number_at, array_form, list_at, form_at, with_form}
+use Rattle.nf_substitution.proofs.Entries.{form_put}
 use Rattle.nf_rel.specs.Literals.{NormalLiteral}
 use Rattle.sym_paths.specs.ValuationStores.{at}
 use Rattle.sym_paths.specs.Sequences.{each}
@@ -47,14 +47,14 @@ module _ (side : Side) (v : List (Pos × Nf)) (h : IsRisenVector v) where
   value_rises (Read x i) r e =
       let s = goes_done (evaluate side v i) (λ j. read_at (array_form v (at side x)) j) r e in
       read_rises (array_form v (at side x)) s.middle r (h.arrays (at side x)) s.next
-  value_rises (Sum a b) r e = let t = last_of (evaluate side v a) (evaluate side v b) added r e in sum_rises t.0 t.1 r t.2
-  value_rises (Difference a b) r e = let t = last_of (evaluate side v a) (evaluate side v b) subtracted r e in difference_rises t.0 t.1 r t.2
-  value_rises (Product a b) r e = let t = last_of (evaluate side v a) (evaluate side v b) multiplied r e in product_rises t.0 t.1 r t.2
-  value_rises (Quotient a b) r e = let t = last_of (evaluate side v a) (evaluate side v b) divided r e in quotient_rises t.0 t.1 r t.2
+  value_rises (Sum a b) r e = let t = last_of (evaluate side v a) (evaluate side v b) normal_sum r e in sum_rises t.0 t.1 r t.2
+  value_rises (Difference a b) r e = let t = last_of (evaluate side v a) (evaluate side v b) normal_difference r e in difference_rises t.0 t.1 r t.2
+  value_rises (Product a b) r e = let t = last_of (evaluate side v a) (evaluate side v b) normal_product r e in product_rises t.0 t.1 r t.2
+  value_rises (Quotient a b) r e = let t = last_of (evaluate side v a) (evaluate side v b) quotient_of r e in quotient_rises t.0 t.1 r t.2
   value_rises (Remainder a b) r e = let t = last_of (evaluate side v a) (evaluate side v b) remainder_of r e in remainder_rises t.0 t.1 r t.2
   value_rises (Negative a) r e =
-      let s = goes_done (evaluate side v a) (λ p. Done (negated p)) r e in
-      subst (λ z. is_risen z ≡ true) (same_Done (negated s.middle) r s.next) (negation_risen s.middle (value_rises a s.middle s.first))
+      let s = goes_done (evaluate side v a) (λ p. Done (normal_negation p)) r e in
+      subst (λ z. is_risen z ≡ true) (same_Done (normal_negation s.middle) r s.next) (negation_risen s.middle (value_rises a s.middle s.first))
 
 -- ---- vectors with a new form
 
@@ -139,7 +139,7 @@ module _ (side : Side) where
       subst IsRisenVector (same_Done (with_form (at side x) (Arr s.middle) v) u s.next)
       (with_array_rises v h (at side x) s.middle (write_rises (array_form v (at side x)) s.middle i p (h.arrays (at side x)) r s.first))
   change_rises v u (PushTo x p) h r e =
-      let s = goes_done (pushed (list_at v (at side x)) p) (λ l. Done (with_form (at side x) (Seq l) v)) u e in
+      let s = goes_done (list_with_item (list_at v (at side x)) p) (λ l. Done (with_form (at side x) (Seq l) v)) u e in
       subst IsRisenVector (same_Done (with_form (at side x) (Seq s.middle) v) u s.next) (with_list_rises v h (at side x) s.middle)
 
   changes_rise : (cs : List Change) (v u : List (Pos × Nf)) → IsRisenVector v → AreRisen cs → change_all side cs v ≡ Done u → IsRisenVector u

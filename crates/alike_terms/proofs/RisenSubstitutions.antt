@@ -10,13 +10,13 @@ use Rattle.nf_terms.specs.declared.tree.Base.TheVariants as base
 use Rattle.nf_terms.specs.declared.form.Nf.{Nf}
 use Rattle.nf_terms.proofs.Computed.{same_Done}
 use Rattle.nf_sums.specs.OrderedSums.{worth_of}
-use Rattle.nf_sums.specs.Operations.{added, subtracted, number}
+use Rattle.nf_sums.specs.Operations.{normal_sum, normal_difference, number}
 use Rattle.nf_sums.proofs.Collecting.{worth-form}
 use Rattle.nf_sums.proofs.Worth.{worth-negation, worth-difference}
 use Rattle.nf_sums.proofs.Values.{goes_done}
 use Rattle.nf_arrays.specs.Writes.{write_array}
-use Rattle.nf_subst.specs.Vectors.{array_of_base}
-use Rattle.nf_subst.specs.Substitution.{atoms_substituted, terms_substituted, writes_substituted, array_substituted, substituted}
+use Rattle.nf_substitution.specs.Vectors.{array_of_base}
+use Rattle.nf_substitution.specs.Substitution.{atoms_substituted, terms_substituted, writes_substituted, array_substituted, polynomial_substituted}
 use Rattle.alike_terms.specs.Risen.{is_risen, is_risen_array, IsRisenVector}
 use Rattle.alike_terms.proofs.RisenForms.{settled_by_worth}
 use Rattle.alike_terms.proofs.Computing.{difference_is}
@@ -25,11 +25,11 @@ use Rattle.alike_terms.proofs.RisenOperations.{sum_rises, difference_rises, writ
 terms_rise : (v : List (Pos × Nf)) (p so_far r : Polynomial) → is_risen so_far ≡ true → terms_substituted v p so_far ≡ Done r → is_risen r ≡ true
 terms_rise v Zero so_far r h e = subst (λ z. is_risen z ≡ true) (same_Done so_far r e) h
 terms_rise v (Plus m c p) so_far r h e =
-    let s = goes_done (after (number c) (λ n. atoms_substituted v m n)) (λ t. after (added so_far t) (λ u. terms_substituted v p u)) r e in
-    let t = goes_done (added so_far s.middle) (λ u. terms_substituted v p u) r s.next in
+    let s = goes_done (after (number c) (λ n. atoms_substituted v m n)) (λ t. after (normal_sum so_far t) (λ u. terms_substituted v p u)) r e in
+    let t = goes_done (normal_sum so_far s.middle) (λ u. terms_substituted v p u) r s.next in
     terms_rise v p t.middle r (sum_rises so_far s.middle t.middle t.first) t.next
 
-pub substituted_rises : (v : List (Pos × Nf)) (p r : Polynomial) → substituted v p ≡ Done r → is_risen r ≡ true
+pub substituted_rises : (v : List (Pos × Nf)) (p r : Polynomial) → polynomial_substituted v p ≡ Done r → is_risen r ≡ true
 substituted_rises v p r e = terms_rise v p Zero r refl e
 
 writes_rise : (v : List (Pos × Nf)) (ws : Writes) (so_far b : ArrayTerm) → is_risen_array so_far ≡ true → writes_substituted v ws so_far ≡ Done b
@@ -51,7 +51,7 @@ array_rises v (Over b ws) c h e = writes_rise v ws (array_of_base v b) c (by_bas
 
 -- ---- terms that cancel
 
-pub self_difference : (t r : Polynomial) → subtracted t t ≡ Done r → r ≡ Zero
+pub self_difference : (t r : Polynomial) → normal_difference t t ≡ Done r → r ≡ Zero
 self_difference t r e =
     settled_by_worth r Zero (difference_rises t t r e) refl
     (λ f h. sym (ap (worth_of f) (difference_is t t r e)) ∙ worth-form f h (raw_difference t t)

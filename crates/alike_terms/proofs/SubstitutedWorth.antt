@@ -12,22 +12,22 @@ use Rattle.fs_model.specs.declared.sides.Pos.{Pos}
 use Rattle.nf_terms.specs.declared.form.Nf.{Nf}
 use Rattle.nf_terms.proofs.Computed.{same_Done}
 use Rattle.nf_sums.specs.OrderedSums.{worth_of, IgnoresOrder}
-use Rattle.nf_sums.specs.Operations.{added, subtracted, multiplied, number}
+use Rattle.nf_sums.specs.Operations.{normal_sum, normal_difference, normal_product, number}
 use Rattle.nf_sums.proofs.Collecting.{worth-form}
 use Rattle.nf_sums.proofs.Worth.{worth-sum, worth-negation, worth-difference}
 use Rattle.nf_sums.proofs.Values.{goes_done}
-use Rattle.nf_subst.specs.Vectors.{number_at}
-use Rattle.nf_subst.specs.Substitution.{atoms_substituted, terms_substituted, substituted}
+use Rattle.nf_substitution.specs.Vectors.{number_at}
+use Rattle.nf_substitution.specs.Substitution.{atoms_substituted, terms_substituted, polynomial_substituted}
 use Rattle.alike_terms.specs.Risen.{is_risen}
 use Rattle.alike_terms.proofs.RisenForms.{settled_by_worth}
 use Rattle.alike_terms.proofs.Computing.{sum_is, difference_is, product_is, number_is}
 use Rattle.alike_terms.proofs.RisenSubstitutions.{substituted_rises}
 
 module _ (f : Monomial → ℤ) (h : IgnoresOrder f) where
-  pub sum_worth : (p q r : Polynomial) → added p q ≡ Done r → worth_of f r ≡ worth_of f p +ℤ worth_of f q
+  pub sum_worth : (p q r : Polynomial) → normal_sum p q ≡ Done r → worth_of f r ≡ worth_of f p +ℤ worth_of f q
   sum_worth p q r e = sym (ap (worth_of f) (sum_is p q r e)) ∙ worth-form f h (raw_sum p q) ∙ worth-sum f p q
 
-  pub difference_worth : (p q r : Polynomial) → subtracted p q ≡ Done r → worth_of f r ≡ worth_of f p -ℤ worth_of f q
+  pub difference_worth : (p q r : Polynomial) → normal_difference p q ≡ Done r → worth_of f r ≡ worth_of f p -ℤ worth_of f q
   difference_worth p q r e = sym (ap (worth_of f) (difference_is p q r e)) ∙ worth-form f h (raw_difference p q)
       ∙ omega (arith, ints, worth-difference f p q, worth-negation f q)
 
@@ -47,7 +47,7 @@ module _ (f : Monomial → ℤ) (h : IgnoresOrder f) where
         → worth_of f r ≡ c *ℤ worth_of f (number_at v s)
     unit_worth s c r e =
         let n = goes_done (number c) (λ n. atoms_substituted v (Times (Symbol s) One) n) r e in
-        let t = goes_done (multiplied n.middle (number_at v s)) (λ z. Done z) r n.next in
+        let t = goes_done (normal_product n.middle (number_at v s)) (λ z. Done z) r n.next in
         sym (ap (worth_of f) (product_is n.middle (number_at v s) t.middle t.first ∙ same_Done t.middle r t.next))
         ∙ worth-form f h (raw_product n.middle (number_at v s))
         ∙ sym (ap (λ z. worth_of f (raw_product z (number_at v s))) (number_is c n.middle n.first)) ∙ scaled_worth c (number_at v s)
@@ -58,10 +58,10 @@ module _ (f : Monomial → ℤ) (h : IgnoresOrder f) where
     shift Zero z y u w e g = omega (arith, ints, ap (worth_of f) (same_Done z u e), ap (worth_of f) (same_Done y w g))
     shift (Plus m c p) z y u w e g =
         let term = after (number c) (λ n. atoms_substituted v m n) in
-        let a = goes_done term (λ q. after (added z q) (λ r. terms_substituted v p r)) u e in
-        let b = goes_done (added z a.middle) (λ r. terms_substituted v p r) u a.next in
-        let i = goes_done term (λ q. after (added y q) (λ r. terms_substituted v p r)) w g in
-        let j = goes_done (added y i.middle) (λ r. terms_substituted v p r) w i.next in
+        let a = goes_done term (λ q. after (normal_sum z q) (λ r. terms_substituted v p r)) u e in
+        let b = goes_done (normal_sum z a.middle) (λ r. terms_substituted v p r) u a.next in
+        let i = goes_done term (λ q. after (normal_sum y q) (λ r. terms_substituted v p r)) w g in
+        let j = goes_done (normal_sum y i.middle) (λ r. terms_substituted v p r) w i.next in
         let same : i.middle ≡ a.middle = same_Done i.middle a.middle (sym i.first ∙ a.first) in
         omega (
           arith,
@@ -72,13 +72,14 @@ module _ (f : Monomial → ℤ) (h : IgnoresOrder f) where
           ap (worth_of f) same,
         )
 
-    symbol_worth : (s : Pos) (r : Polynomial) → substituted v (polynomial_of_symbol s) ≡ Done r → worth_of f r ≡ worth_of f (number_at v s)
+    symbol_worth : (s : Pos) (r : Polynomial) → polynomial_substituted v (polynomial_of_symbol s) ≡ Done r → worth_of f r ≡ worth_of f (number_at v s)
     symbol_worth s r e =
-        let a = goes_done (after (number (pos 1)) (λ n. atoms_substituted v (Times (Symbol s) One) n)) (λ q. after (added Zero q) (λ z. Done z)) r e in
-        let b = goes_done (added Zero a.middle) (λ z. Done z) r a.next in
+        let a = goes_done (after (number (pos 1)) (λ n. atoms_substituted v (Times (Symbol s) One) n)) (λ q. after (normal_sum Zero q) (λ z. Done z)) r e in
+        let b = goes_done (normal_sum Zero a.middle) (λ z. Done z) r a.next in
         omega (arith, ints, ap (worth_of f) (same_Done b.middle r b.next), sum_worth Zero a.middle b.middle b.first, unit_worth s (pos 1) a.middle a.first)
 
 -- a symbol that is substituted gives the number that the vector has for it
-pub symbol_substituted : (v : List (Pos × Nf)) (p : Pos) (r : Polynomial) → is_risen (number_at v p) ≡ true → substituted v (polynomial_of_symbol p) ≡ Done r
+pub symbol_substituted : (v : List (Pos × Nf)) (p : Pos) (r : Polynomial) → is_risen (number_at v p) ≡ true
+    → polynomial_substituted v (polynomial_of_symbol p) ≡ Done r
     → r ≡ number_at v p
 symbol_substituted v p r o e = settled_by_worth r (number_at v p) (substituted_rises v (polynomial_of_symbol p) r e) o (λ f h. symbol_worth f h v p r e)

@@ -5,7 +5,7 @@ use Rattle.nf_terms.specs.NormalTerms.{Monomial, Polynomial, Writes, ArrayTerm, 
 use Rattle.nf_terms.specs.Normal.{atom_rises, monomial_rises}
 use Rattle.fs_model.specs.declared.sides.Pos.{Pos}
 use Rattle.nf_terms.specs.declared.form.Nf.{Nf}
-use Rattle.nf_subst.specs.Vectors.{number_at, array_form}
+use Rattle.nf_substitution.specs.Vectors.{number_at, array_form}
 
 -- whether no atom stands behind a later one
 abbrev pub atoms_rise : Monomial → Bool

@@ -9,11 +9,11 @@ ghost use Rattle.nf_terms.specs.NormalTerms.{Polynomial, ArrayTerm, Zero, polyno
 ghost use Rattle.nf_terms.specs.Computed.{Done};
 ghost use Rattle.fs_model.specs.declared.sides.Pos.{Pos};
 ghost use Rattle.nf_terms.specs.declared.form.Nf.{Nf};
-ghost use Rattle.nf_sums.specs.Operations.{added, subtracted, multiplied, negated, number};
-ghost use Rattle.nf_arrays.specs.NewAtoms.{divided, remainder_of};
+ghost use Rattle.nf_sums.specs.Operations.{normal_sum, normal_difference, normal_product, normal_negation, number};
+ghost use Rattle.nf_arrays.specs.NewAtoms.{quotient_of, remainder_of};
 ghost use Rattle.nf_arrays.specs.Writes.{write_array, read_at};
-ghost use Rattle.nf_subst.specs.Vectors.{number_at};
-ghost use Rattle.nf_subst.specs.Substitution.{substituted, array_substituted};
+ghost use Rattle.nf_substitution.specs.Vectors.{number_at};
+ghost use Rattle.nf_substitution.specs.Substitution.{polynomial_substituted, array_substituted};
 ghost use Rattle.nf_rel.specs.Literals.{NormalLiteral, literal, clash};
 ghost use Rattle.sym_paths.specs.Execution.{Post, arrive};
 ghost use Rattle.alike_terms.specs.Risen.{is_risen, is_risen_array, IsRisenVector};
@@ -27,12 +27,12 @@ pub fn opposite_literals_clash()
 /// What an operation gives rises, whatever its operands are; a negation, a read and a write keep what rises.
 pub fn operations_rise()
     ensures number { (c : ℤ) (r : Polynomial) → number c ≡ Done r → is_risen r ≡ true }
-    ensures sum { (p q r : Polynomial) → added p q ≡ Done r → is_risen r ≡ true }
-    ensures difference { (p q r : Polynomial) → subtracted p q ≡ Done r → is_risen r ≡ true }
-    ensures product { (p q r : Polynomial) → multiplied p q ≡ Done r → is_risen r ≡ true }
-    ensures quotient { (p q r : Polynomial) → divided p q ≡ Done r → is_risen r ≡ true }
+    ensures sum { (p q r : Polynomial) → normal_sum p q ≡ Done r → is_risen r ≡ true }
+    ensures difference { (p q r : Polynomial) → normal_difference p q ≡ Done r → is_risen r ≡ true }
+    ensures product { (p q r : Polynomial) → normal_product p q ≡ Done r → is_risen r ≡ true }
+    ensures quotient { (p q r : Polynomial) → quotient_of p q ≡ Done r → is_risen r ≡ true }
     ensures remainder { (p q r : Polynomial) → remainder_of p q ≡ Done r → is_risen r ≡ true }
-    ensures negation { (p : Polynomial) → is_risen p ≡ true → is_risen (negated p) ≡ true }
+    ensures negation { (p : Polynomial) → is_risen p ≡ true → is_risen (normal_negation p) ≡ true }
     ensures read { (a : ArrayTerm) (i r : Polynomial) → is_risen_array a ≡ true → read_at a i ≡ Done r → is_risen r ≡ true }
     ensures write { (a b : ArrayTerm) (i v : Polynomial) → is_risen_array a ≡ true → is_risen v ≡ true
         → write_array a i v ≡ Done b → is_risen_array b ≡ true }
@@ -40,7 +40,7 @@ pub fn operations_rise()
 
 /// What a substitution gives rises, and where the numbers of a vector rise, so do those that arrive.
 pub fn vectors_rise()
-    ensures number { (v : List (Pos × Nf)) (p r : Polynomial) → substituted v p ≡ Done r → is_risen r ≡ true }
+    ensures number { (v : List (Pos × Nf)) (p r : Polynomial) → polynomial_substituted v p ≡ Done r → is_risen r ≡ true }
     ensures array { (v : List (Pos × Nf)) (a b : ArrayTerm) → IsRisenVector v → array_substituted v a ≡ Done b
         → is_risen_array b ≡ true }
     ensures arrival { (a b : Fsmd) (ls : List NormalLiteral) (v : List (Pos × Nf)) (left right : Option Path) (post : Post)
@@ -49,7 +49,7 @@ pub fn vectors_rise()
 
 /// A term less itself is 0, and a symbol that is substituted gives the number that the vector has for it.
 pub fn terms_cancel()
-    ensures difference { (t r : Polynomial) → subtracted t t ≡ Done r → r ≡ Zero }
+    ensures difference { (t r : Polynomial) → normal_difference t t ≡ Done r → r ≡ Zero }
     ensures symbol { (v : List (Pos × Nf)) (p : Pos) (r : Polynomial) → is_risen (number_at v p) ≡ true
-        → substituted v (polynomial_of_symbol p) ≡ Done r → r ≡ number_at v p }
+        → polynomial_substituted v (polynomial_of_symbol p) ≡ Done r → r ≡ number_at v p }
 {}

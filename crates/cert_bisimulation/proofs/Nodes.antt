@@ -1,10 +1,10 @@
 -- The nodes of a table lead either machine's run.
 use Rattle.std.proofs.Common.{◌≡◌, ℕ, suc, ◌+◌, ◌<◌, sym, refl, ◌∙◌, ap, subst, arith, Bool, true, false, List, Option, Some, length}
 use Rattle.std.specs.Prelude.{◌≢◌, slice_get}
+use Rattle.fs_rules.specs.SoundParts.{IsSound}
 use Rattle.fs_model.specs.Machines.{Fsmd}
 use Rattle.fs_model.specs.Stores.{Store}
 use Rattle.fs_model.specs.Runs.{Inputs, Content, start, output, Run, SameBehaviour}
-use Rattle.fs_ast.specs.SoundMachines.{IsSound}
 use Rattle.fs_cut.specs.Paths.{Point, Start, Done, Path, IsPath, steps_in, store_after_steps, takes}
 use Rattle.fs_cut.specs.Cuts.{Remains, TakenFrom}
 use Rattle.fs_cut.proofs.Legs.{path_down, path_up, path_exists}

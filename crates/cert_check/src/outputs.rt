@@ -12,7 +12,7 @@ use crate::progress::{Progress, advance};
 use cert_machine_pairs::outputs::{is_output, number_of, same_forms};
 use cert_model::reason::Reason;
 use fs_model::parts::{Sort, VarInfo};
-use nf_subst::vector::Vector;
+use nf_substitution::vector::Vector;
 use nf_terms::stop::{NfStop, NoMemory};
 use std::alloc::Global;
 

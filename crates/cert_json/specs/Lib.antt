@@ -1,5 +1,6 @@
-pub mod Shape
-pub mod Trim
+pub mod JsonTexts
 pub mod Lists
 pub mod Refusals
+pub mod Shape
+pub mod Trim
 pub mod WrittenJson

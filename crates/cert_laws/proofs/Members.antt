@@ -5,12 +5,13 @@ use Rattle.std.specs.List.{AllByRecursion}
 use Rattle.std.specs.Ordering.{nat_cmp, match_ordering}
 use Rattle.std.specs.Cmp.Lexicographic.{slice_cmp}
 use Rattle.std.proofs.lemmas.Map.Lookups.{exact_bytes}
+use Rattle.cert_json.specs.JsonTexts.{named_texts_of}
 use Rattle.serde_json.specs.Data.{Data, string, Members, no_members, member, put}
 use Rattle.fs_model.specs.declared.sides.Pos.{Pos}
 use Rattle.nf_terms.specs.declared.form.Nf.{Nf}
 use Rattle.sym_facts.specs.Facts.{FactPosition}
 use Rattle.term_text.specs.TermTexts.{symbol_text}
-use Rattle.cert_writer.specs.WrittenCertificates.{form_written, with_equation_member, equations_written, named_texts_of}
+use Rattle.cert_writer.specs.WrittenCertificates.{form_written, with_equation_member, equations_written}
 
 -- one of the texts has a name that passes
 abbrev pub HasName : (List ℕ → Type 0) → List (List ℕ × List ℕ) → Type 0

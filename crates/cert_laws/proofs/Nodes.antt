@@ -4,11 +4,12 @@ use Rattle.std.proofs.Common.{◌∙◌}
 use Rattle.std.specs.List.{list_all, list_any, AllByRecursion}
 use Rattle.std.proofs.lemmas.Bool.{or_parts, not-true}
 use Rattle.base_lemmas.proofs.Booleans.{and_first, and_second}
+use Rattle.fs_rules.specs.SoundParts.{IsSound}
 use Rattle.fs_model.specs.Machines.{Fsmd}
-use Rattle.fs_ast.specs.SoundMachines.{IsSound}
 use Rattle.fs_cut.specs.Paths.{is_point}
 use Rattle.fs_cut.specs.Covers.{same_point}
 use Rattle.fs_pair.specs.Positions.{positions}
+use Rattle.fs_pair.specs.Partners.{position_name}
 use Rattle.cert_bisimulation.specs.declared.mode.Mode.{Mode}
 use Rattle.cert_bisimulation.specs.declared.mode.Mode.TheVariants as mode
 use Rattle.cert_bisimulation.specs.Tables.{Node}
@@ -17,14 +18,13 @@ use Rattle.sym_facts.specs.Pairings.{IsFactOf}
 use Rattle.cert_model.specs.Lawful.{IsLawful, points_differ}
 use Rattle.cert_json.specs.Refusals.{IsFileOf}
 use Rattle.cert_json.specs.WrittenJson.{NodeText}
-use Rattle.cert_writer.specs.PositionNames.{name_of}
 use Rattle.cert_writer.specs.WrittenCertificates.{needed_format, mode_written, node_written, file_written}
 use Rattle.cert_text.specs.CertificateNames.{place_named, find_in}
 use Rattle.cert_text.specs.JsonParts.{file_nodes}
 use Rattle.cert_text.specs.NodePointNames.{then_part, node_is_at}
 use Rattle.cert_text.specs.CertificateReading.{Context, mode_named, node_fact, node_read, nodes_read}
 use Rattle.cert_text.specs.Refusals.{context_of, SpellsNodes}
-use Rattle.cert_text.specs.TextReaders.{TextReader, AreRead}
+use Rattle.cert_text.specs.TextMeanings.{TextMeanings, AreRead}
 use Rattle.cert_model.specs.Kept.{AreNormal, HasNormalFact}
 use Rattle.cert_laws.proofs.FactTexts.{fact_again}
 use Rattle.cert_laws.proofs.FileTexts.{nodes_of_file, format_of_file}
@@ -54,8 +54,8 @@ free_before (e ∷ es) n ns h =
     ap (λ t. t || list_any (node_is_at n.left n.right) es) (fails_at test es n ns none)
     ∙ free_before es n ns (and_second (not (list_any test (es ++ n ∷ ns))) (points_differ (es ++ n ∷ ns)) h)
 
-module _ (a b : Fsmd) (left : IsSound a) (right : IsSound b) (laws : TextLaws (name_of a b) (find a b left right)) where
-  module _ (r : TextReader) (read : AreRead (find a b left right) r) where
+module _ (a b : Fsmd) (left : IsSound a) (right : IsSound b) (laws : TextLaws (position_name a b) (find a b left right)) where
+  module _ (r : TextMeanings) (read : AreRead (find a b left right) r) where
     abbrev context : Context
     context = context_of a b (needed_format (positions a b)) r
 

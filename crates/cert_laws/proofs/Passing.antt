@@ -17,7 +17,8 @@ use Rattle.term_text.specs.TermTexts.{Atom, Monomial, Sum, ArrayTerm, ListSyntax
 use Rattle.term_values.specs.Checks.{Test, factor_passes, atom_passes, monomial_passes, sum_passes, polynomial_passes, array_passes, list_passes}
 use Rattle.term_values.specs.Conditions.{integer_passes}
 use Rattle.term_writer.specs.NamedSymbols.{OfAtom, OfMonomial, OfPolynomial, OfWrites, OfArray, OfListBase, OfItems, OfList}
-use Rattle.term_writer.specs.WrittenTerms.{begun, continued, atom_written, times_written, monomial_written, sum_written, polynomial_written, writes_written}
+use Rattle.term_writer.specs.WrittenTerms.{sum_of_term, sum_with_term, atom_written, times_written, monomial_written, sum_written, polynomial_written}
+use Rattle.term_writer.specs.WrittenTerms.{writes_written}
 use Rattle.term_writer.specs.WrittenTerms.{array_written, items_written, list_base_written, list_written, integer_written}
 use Rattle.term_writer.proofs.Bound.{light_is}
 
@@ -35,11 +36,11 @@ module _ (name : Pos → List ℕ) (t : Test) (P : Sort → Pos → Type 0) (nam
   not_one : (n : ℕ) → (n == 1) ≡ false → n ≢ 1
   not_one n e f = let g : (n == 1) ≡ true = eq-eqb n 1 f in absurd (cc (e, g))
 
-  begun_passes : (c : ℤ) (m : Monomial) → monomial_passes t m ≡ true → sum_passes t (begun c m) ≡ true
+  begun_passes : (c : ℤ) (m : Monomial) → monomial_passes t m ≡ true → sum_passes t (sum_of_term c m) ≡ true
   begun_passes (pos n) m e = e
   begun_passes (negsuc n) m e = e
 
-  continued_passes : (s : Sum) (c : ℤ) (m : Monomial) → sum_passes t s ≡ true → monomial_passes t m ≡ true → sum_passes t (continued s c m) ≡ true
+  continued_passes : (s : Sum) (c : ℤ) (m : Monomial) → sum_passes t s ≡ true → monomial_passes t m ≡ true → sum_passes t (sum_with_term s c m) ≡ true
   continued_passes s (pos n) m e f = and_from (sum_passes t s) (monomial_passes t m) e f
   continued_passes s (negsuc n) m e f = and_from (sum_passes t s) (monomial_passes t m) e f
 
@@ -88,7 +89,7 @@ module _ (name : Pos → List ℕ) (t : Test) (P : Sort → Pos → Type 0) (nam
     sum_passed s (terms.Plus m c p) h f l e =
         let q = and_parts (narrow_monomial m) (narrow_inside p) e in
         let w = monomial_written name (unsigned_abs c) m in
-        sum_passed (continued s c w) p h.1 (continued_passes s c w f (monomial_passed (unsigned_abs c) m h.0 (omega (arith, l)) q.0)) (omega (arith, l)) q.1
+        sum_passed (sum_with_term s c w) p h.1 (continued_passes s c w f (monomial_passed (unsigned_abs c) m h.0 (omega (arith, l)) q.0)) (omega (arith, l)) q.1
 
     pub polynomial_passed : (p : terms.Polynomial) → OfPolynomial P p → is_light p ≡ true → narrow_inside p ≡ true
         → polynomial_passes t (polynomial_written name p) ≡ true
@@ -97,7 +98,7 @@ module _ (name : Pos → List ℕ) (t : Test) (P : Sort → Pos → Type 0) (nam
         let q = and_parts (narrow_monomial m) (narrow_inside p) e in
         let k = light_is (terms.Plus m c p) l in
         let w = monomial_written name (unsigned_abs c) m in
-        sum_passed (begun c w) p h.1 (begun_passes c w (monomial_passed (unsigned_abs c) m h.0 (omega (arith, k)) q.0)) (omega (arith, k)) q.1
+        sum_passed (sum_of_term c w) p h.1 (begun_passes c w (monomial_passed (unsigned_abs c) m h.0 (omega (arith, k)) q.0)) (omega (arith, k)) q.1
 
     writes_passed : (w : ArrayTerm) (ws : terms.Writes) → OfWrites P ws → array_passes t w ≡ true → narrow_writes ws ≡ true
         → array_passes t (writes_written name w ws) ≡ true

@@ -15,13 +15,11 @@ use Rattle.fs_model.specs.declared.parts.Sort.TheVariants as sort
 use Rattle.fs_model.specs.declared.parts.VarInfo.{VarInfo}
 use Rattle.fs_model.specs.Machines.{Fsmd}
 use Rattle.fs_model.specs.Words.{is_word, is_name, is_reserved}
-use Rattle.fs_rules.specs.Sound.{names_differ}
+use Rattle.fs_rules.specs.SoundParts.{names_differ, IsSound}
 use Rattle.fs_rules.specs.Places.{first_place}
-use Rattle.fs_ast.specs.SoundMachines.{IsSound}
 use Rattle.fs_pair.specs.declared.positions.Position.{Position}
-use Rattle.fs_pair.specs.SidedVariables.{same_side}
 use Rattle.fs_pair.specs.Positions.{positions}
-use Rattle.fs_pair.specs.Partners.{variables_on, is_position_of}
+use Rattle.fs_pair.specs.Partners.{variables_on, is_position_of, position_name}
 use Rattle.fs_pair.proofs.Once.{names_of, own_number, position_once}
 use Rattle.fs_pair.proofs.Tests.{same_side_self, same_side_is}
 use Rattle.fs_pair.proofs.Variables.{stands_for}
@@ -29,17 +27,18 @@ use Rattle.nf_terms.specs.Mentions.{same_pos}
 use Rattle.fs_model.specs.declared.sides.Side.{Side}
 use Rattle.fs_model.specs.declared.sides.Side.TheVariants.{Left, Right}
 use Rattle.fs_model.specs.declared.sides.Pos.{Pos}
+use Rattle.fs_model.specs.Sides.{same_side}
+use Rattle.fs_model.specs.Runs.{is_port}
+use Rattle.fs_model.specs.VariableNames.{name_or_nothing}
 use Rattle.nf_terms.specs.declared.symbols.Sort.{Sort as TermSort}
-use Rattle.nf_subst.specs.Vectors.{same_sort}
-use Rattle.nf_subst.specs.SamePlaces.{pos_equal, sorts_equal}
+use Rattle.nf_terms.specs.TermSorts.{same_term_sort}
+use Rattle.nf_substitution.specs.SamePlaces.{pos_equal, sorts_equal}
 use Rattle.sym_facts.specs.Facts.{sort_of_terms}
 use Rattle.sym_facts.specs.Pairings.{is_position}
 use Rattle.term_text.specs.TermTexts.{symbol_text}
 use Rattle.term_values.specs.NameMeanings.{Find}
 use Rattle.term_writer.specs.NamedSymbols.{IsNamed}
-use Rattle.cert_writer.specs.PositionNames as written
 use Rattle.cert_writer.specs.WrittenCertificates.{needed_format}
-use Rattle.cert_text.specs.CertificateNames as read
 use Rattle.cert_text.specs.CertificateNames.{names_on, place_named, is_in_format, place_within, name_place, sorted_position, find_in, place_by_key}
 use Rattle.cert_laws.proofs.Lookups.{any_at, passing, alone}
 
@@ -59,10 +58,10 @@ found_at (n ∷ ns) (suc k) x e only = by_test (bytes_eq n x) refl (found_at ns 
 -- ---- names
 
 -- the reader and the writer name a position alike
-pub same_name : (a b : Fsmd) (p : Pos) → read.name_of a b p ≡ written.name_of a b p
+pub same_name : (a b : Fsmd) (p : Pos) → position_name a b p ≡ position_name a b p
 same_name a b p = by_variable (slice_get (variables_on p.side a b) p.var)
   where
-    by_variable : (o : Option VarInfo) → read.name_or_empty o ≡ written.name_or_empty o
+    by_variable : (o : Option VarInfo) → name_or_nothing o ≡ name_or_nothing o
     by_variable None = refl
     by_variable (Some v) = refl
 
@@ -80,7 +79,7 @@ short n e = grind (arith, nat_tests)
 
 -- ---- the format
 
-ports_counted : (s : Sort) (t : Bool) → (written.is_port s ≡ true → t ≡ true) → is_in_format (cond t 2 1) s ≡ true
+ports_counted : (s : Sort) (t : Bool) → (is_port s ≡ true → t ≡ true) → is_in_format (cond t 2 1) s ≡ true
 ports_counted sort.Scalar t h = refl
 ports_counted sort.Array t h = refl
 ports_counted sort.Port true h = refl
@@ -88,7 +87,7 @@ ports_counted sort.Port false h = let e = h refl in absurd (cc e)
 
 -- in the format that is written each position is one
 pub in_format : (ps : List Position) (k : ℕ) (p : Position) → slice_get ps k ≡ Some p → is_in_format (needed_format ps) p.sort ≡ true
-in_format ps k p e = ports_counted p.sort (list_any (λ q. written.is_port q.sort) ps) (λ h. any_at (λ q. written.is_port q.sort) ps k p e h)
+in_format ps k p e = ports_counted p.sort (list_any (λ q. is_port q.sort) ps) (λ h. any_at (λ q. is_port q.sort) ps k p e h)
 
 module _ (a b : Fsmd) (left : IsSound a) (right : IsSound b) where
   abbrev all : List Position
@@ -103,21 +102,21 @@ module _ (a b : Fsmd) (left : IsSound a) (right : IsSound b) where
   named_on Right = right.variables_named
 
   -- the name of a position is one
-  pub name_there : (k : ℕ) (p : Position) → slice_get all k ≡ Some p → is_name (read.name_of a b p.pos) ≡ true
+  pub name_there : (k : ℕ) (p : Position) → slice_get all k ≡ Some p → is_name (position_name a b p.pos) ≡ true
   name_there k p e =
       let s = stands_for a b k p e in
-      ap (λ o. is_name (read.name_or_empty o)) s.is.is ∙ list_all_at (λ v. is_name v.name)
+      ap (λ o. is_name (name_or_nothing o)) s.is.is ∙ list_all_at (λ v. is_name v.name)
       (variables_on p.pos.side a b) p.pos.var s.variable (named_on p.pos.side) s.is.is
 
   -- positions of one side and one name have one place
   one_place : (j k : ℕ) (q p : Position) → slice_get all j ≡ Some q → slice_get all k ≡ Some p → q.pos.side ≡ p.pos.side
-      → read.name_of a b q.pos ≡ read.name_of a b p.pos → j ≡ k
+      → position_name a b q.pos ≡ position_name a b p.pos → j ≡ k
   one_place j k q p e f s n =
       let u = stands_for a b j q e in
       let v = stands_for a b k p f in
       let there : slice_get (variables_on p.pos.side a b) q.pos.var ≡ Some u.variable =
       subst (λ d. slice_get (variables_on d a b) q.pos.var ≡ Some u.variable) s u.is.is in
-      let names : u.variable.name ≡ v.variable.name = sym (ap read.name_or_empty u.is.is) ∙ n ∙ ap read.name_or_empty v.is.is in
+      let names : u.variable.name ≡ v.variable.name = sym (ap name_or_nothing u.is.is) ∙ n ∙ ap name_or_nothing v.is.is in
       let number : q.pos.var ≡ p.pos.var = own_number (variables_on p.pos.side a b) q.pos.var p.pos.var u.variable v.variable
       (differ_on p.pos.side) there v.is.is names in
       let test : Position → Bool = λ r. is_position_of p.pos.side p.pos.var r.pos in
@@ -129,22 +128,22 @@ module _ (a b : Fsmd) (left : IsSound a) (right : IsSound b) where
       e other f itself
 
   abbrev listed : Side → Position → List ℕ
-  listed side p = cond (same_side p.pos.side side) (read.name_of a b p.pos) []
+  listed side p = cond (same_side p.pos.side side) (position_name a b p.pos) []
 
   only_there : (k : ℕ) (p : Position) → slice_get all k ≡ Some p → (j : ℕ) (o : Option Position) → slice_get all j ≡ o
-      → option_map (listed p.pos.side) o ≡ Some (read.name_of a b p.pos) → j ≡ k
+      → option_map (listed p.pos.side) o ≡ Some (position_name a b p.pos) → j ≡ k
   only_there k p e j None f g = absurd (cc g)
-  only_there k p e j (Some q) f g = by_side (same_side q.pos.side p.pos.side) refl (let h : listed p.pos.side q ≡ read.name_of a b p.pos = cc g in h)
+  only_there k p e j (Some q) f g = by_side (same_side q.pos.side p.pos.side) refl (let h : listed p.pos.side q ≡ position_name a b p.pos = cc g in h)
     where
-      by_side : (t : Bool) → same_side q.pos.side p.pos.side ≡ t → cond t (read.name_of a b q.pos) [] ≡ read.name_of a b p.pos → j ≡ k
+      by_side : (t : Bool) → same_side q.pos.side p.pos.side ≡ t → cond t (position_name a b q.pos) [] ≡ position_name a b p.pos → j ≡ k
       by_side true s h = one_place j k q p f e (same_side_is q.pos.side p.pos.side s) h
       by_side false s h = let n : is_name [] ≡ true = ap is_name h ∙ name_there k p e in absurd (cc n)
 
-  place_listed : (k : ℕ) (p : Position) → slice_get all k ≡ Some p → first_place (names_on a b p.pos.side all) (read.name_of a b p.pos) ≡ Some k
+  place_listed : (k : ℕ) (p : Position) → slice_get all k ≡ Some p → first_place (names_on a b p.pos.side all) (position_name a b p.pos) ≡ Some k
   place_listed k p e =
       let f : Position → List ℕ = listed p.pos.side in
-      let own : f p ≡ read.name_of a b p.pos = ap (λ t. cond t (read.name_of a b p.pos) []) (same_side_self p.pos.side) in
-      found_at (names_on a b p.pos.side all) k (read.name_of a b p.pos) (slice_get-map f all k ∙ ap (option_map f) e ∙ ap Some own)
+      let own : f p ≡ position_name a b p.pos = ap (λ t. cond t (position_name a b p.pos) []) (same_side_self p.pos.side) in
+      found_at (names_on a b p.pos.side all) k (position_name a b p.pos) (slice_get-map f all k ∙ ap (option_map f) e ∙ ap Some own)
       (λ j g. only_there k p e j (slice_get all j) refl (sym (slice_get-map f all j) ∙ g))
 
   no_empty : (side : Side) (x : List ℕ) → is_name x ≡ true → place_named a b all side x ≡ first_place (names_on a b side all) x
@@ -153,37 +152,37 @@ module _ (a b : Fsmd) (left : IsSound a) (right : IsSound b) where
 
   -- a position is found by its name
   pub place_found : (k : ℕ) (p : Position) → slice_get all k ≡ Some p
-      → name_place (place_named a b all) all (needed_format all) p.pos.side (written.name_of a b p.pos) ≡ Some k
+      → name_place (place_named a b all) all (needed_format all) p.pos.side (position_name a b p.pos) ≡ Some k
   place_found k p e =
       let format = needed_format all in
       ap (λ x. name_place (place_named a b all) all format p.pos.side x) (sym (same_name a b p.pos))
-      ∙ ap (option_and_then (place_within format all)) (no_empty p.pos.side (read.name_of a b p.pos) (name_there k p e) ∙ place_listed k p e)
+      ∙ ap (option_and_then (place_within format all)) (no_empty p.pos.side (position_name a b p.pos) (name_there k p e) ∙ place_listed k p e)
       ∙ ap (option_and_then (λ q. cond (is_in_format format q.sort) (Some k) None)) e
       ∙ ap (λ t. cond t (Some k) None) (in_format all k p e)
 
   abbrev pub find : Find
   find = find_in (place_named a b all) all (needed_format all)
 
-  named_at : (k : ℕ) (p : Position) → slice_get all k ≡ Some p → IsNamed (written.name_of a b) find (sort_of_terms p.sort) p.pos
+  named_at : (k : ℕ) (p : Position) → slice_get all k ≡ Some p → IsNamed (position_name a b) find (sort_of_terms p.sort) p.pos
   named_at k p e =
-      let name : is_name (written.name_of a b p.pos) ≡ true = ap is_name (sym (same_name a b p.pos)) ∙ name_there k p e in
-      let n = parts_of_name (written.name_of a b p.pos) name in
+      let name : is_name (position_name a b p.pos) ≡ true = ap is_name (sym (same_name a b p.pos)) ∙ name_there k p e in
+      let n = parts_of_name (position_name a b p.pos) name in
       record {
-        word = and_from (is_word (written.name_of a b p.pos)) (not (is_reserved (written.name_of a b p.pos))) n.0 n.2;
-        short = short (length (written.name_of a b p.pos)) n.1;
+        word = and_from (is_word (position_name a b p.pos)) (not (is_reserved (position_name a b p.pos))) n.0 n.2;
+        short = short (length (position_name a b p.pos)) n.1;
         found = ap (option_and_then (λ j. option_map sorted_position (slice_get all j))) (place_found k p e) ∙ ap (option_map sorted_position) e;
       }
 
   -- each symbol of the pairing is named
-  pub named : (p : Pos) (s : TermSort) → is_position all (p, s) ≡ true → IsNamed (written.name_of a b) find s p
+  pub named : (p : Pos) (s : TermSort) → is_position all (p, s) ≡ true → IsNamed (position_name a b) find s p
   named p s h =
-      let test : Position → Bool = λ q. same_pos q.pos p && same_sort (sort_of_terms q.sort) s in
+      let test : Position → Bool = λ q. same_pos q.pos p && same_term_sort (sort_of_terms q.sort) s in
       let r = passing test all h in
-      let same : r.item.pos ≡ p = pos_equal r.item.pos p (and_first (same_pos r.item.pos p) (same_sort (sort_of_terms r.item.sort) s) r.passes) in
+      let same : r.item.pos ≡ p = pos_equal r.item.pos p (and_first (same_pos r.item.pos p) (same_term_sort (sort_of_terms r.item.sort) s) r.passes) in
       let sorts : sort_of_terms r.item.sort ≡ s = sorts_equal (sort_of_terms r.item.sort) s
-      (and_second (same_pos r.item.pos p) (same_sort (sort_of_terms r.item.sort) s) r.passes) in
-      subst (λ q. IsNamed (written.name_of a b) find s q) same
-      (subst (λ t. IsNamed (written.name_of a b) find t r.item.pos) sorts (named_at r.place r.item r.at))
+      (and_second (same_pos r.item.pos p) (same_term_sort (sort_of_terms r.item.sort) s) r.passes) in
+      subst (λ q. IsNamed (position_name a b) find s q) same
+      (subst (λ t. IsNamed (position_name a b) find t r.item.pos) sorts (named_at r.place r.item r.at))
 
   key_read : (place : Side → List ℕ → Option ℕ) (side : Side) (x : List ℕ) → place_by_key place (symbol_text side x) ≡ place side x
   key_read place Left x = refl
@@ -191,5 +190,5 @@ module _ (a b : Fsmd) (left : IsSound a) (right : IsSound b) where
 
   -- the key of a position names its place
   pub key_found : (k : ℕ) (p : Position) → slice_get all k ≡ Some p
-      → place_by_key (name_place (place_named a b all) all (needed_format all)) (symbol_text p.pos.side (written.name_of a b p.pos)) ≡ Some k
-  key_found k p e = key_read (name_place (place_named a b all) all (needed_format all)) p.pos.side (written.name_of a b p.pos) ∙ place_found k p e
+      → place_by_key (name_place (place_named a b all) all (needed_format all)) (symbol_text p.pos.side (position_name a b p.pos)) ≡ Some k
+  key_found k p e = key_read (name_place (place_named a b all) all (needed_format all)) p.pos.side (position_name a b p.pos) ∙ place_found k p e

@@ -11,8 +11,7 @@ use Rattle.base_lemmas.proofs.Quantifiers.{list_all_at}
 use Rattle.fs_model.specs.Machines.{State, Fsmd}
 use Rattle.fs_model.specs.Words.{reserved_words, is_reserved, is_name}
 use Rattle.fs_rules.specs.Places.{first_place}
-use Rattle.fs_rules.specs.Sound.{names_differ}
-use Rattle.fs_ast.specs.SoundMachines.{IsSound}
+use Rattle.fs_rules.specs.SoundParts.{names_differ, IsSound}
 use Rattle.fs_ast.specs.StoredBranches.{state_name_of}
 use Rattle.fs_cut.specs.Paths.{Point, Start, At, Done, is_point}
 use Rattle.fs_cut.proofs.Listed.{fork_state}
@@ -20,7 +19,7 @@ use Rattle.cert_bisimulation.specs.Tables.{Node}
 use Rattle.sym_facts.specs.Facts.{Fact}
 use Rattle.cert_writer.specs.WrittenCertificates.{point_written}
 use Rattle.cert_text.specs.CertificateNames.{machine_state_names, state_named}
-use Rattle.cert_text.specs.NodePointNames.{then_part, point_named, known_point, cut_point, node_is_at, noted, StateTables, points_read}
+use Rattle.cert_text.specs.NodePointNames.{then_part, point_named, known_point, cut_point, node_is_at, points_if_new, StateTables, points_read}
 use Rattle.cert_laws.proofs.Lookups.{any_at}
 use Rattle.cert_laws.proofs.Places.{found_at, parts_of_name}
 
@@ -95,7 +94,7 @@ module _ (a b : Fsmd) (left : IsSound a) (right : IsSound b) where
       ap
       (λ o. then_part (known_point i o)
       (λ X. then_part (known_point i (point_named (state_named b) (point_written b Q)))
-      (λ Y. then_part (cut_point i a X) (λ R. then_part (cut_point i b Y) (λ S. noted i earlier R S))))) (point_again a left P p)
-      ∙ ap (λ o. then_part (known_point i o) (λ Y. then_part (cut_point i a P) (λ R. then_part (cut_point i b Y) (λ S. noted i earlier R S))))
+      (λ Y. then_part (cut_point i a X) (λ R. then_part (cut_point i b Y) (λ S. points_if_new i earlier R S))))) (point_again a left P p)
+      ∙ ap (λ o. then_part (known_point i o) (λ Y. then_part (cut_point i a P) (λ R. then_part (cut_point i b Y) (λ S. points_if_new i earlier R S))))
       (point_again b right Q q)
       ∙ rw (p, q, free) refl

@@ -9,6 +9,7 @@ use Rattle.std.proofs.lemmas.Fmt.{decimal_by_steps_wide}
 use Rattle.std.proofs.lemmas.List.Sums.{fold-append}
 use Rattle.std.proofs.lemmas.Slice.Eq.{bytes_eq-Decides}
 use Rattle.base_lemmas.proofs.Booleans.{and_second}
+use Rattle.base_integers.specs.Digits.{with_digit, value_of_digits}
 use Rattle.fs_model.specs.declared.sides.Pos.{Pos}
 use Rattle.nf_terms.specs.declared.symbols.Sort.{Sort}
 use Rattle.nf_terms.specs.declared.symbols.Sort.TheVariants as sort
@@ -21,6 +22,7 @@ use Rattle.nf_terms.specs.TermLimits.{weight_limit}
 use Rattle.nf_terms.specs.Measures.{size_of_array, depth_of_array}
 use Rattle.nf_terms.specs.Forms.{IsNormalForm, sort_of_form}
 use Rattle.nf_terms.specs.Normal.{is_light, narrow_inside, IsNormal, IsNormalArray}
+use Rattle.nf_terms.specs.TermSorts.{same_term_sort}
 use Rattle.nf_rel.specs.Literals.{NormalLiteral, True, False, Is}
 use Rattle.nf_rel.specs.NormalLiterals.{is_normal, is_primitive, is_inner_number, is_normal_literal, IsNormalLiteral}
 use Rattle.nf_rel.proofs.NormalForms.{normal_is}
@@ -28,20 +30,19 @@ use Rattle.nf_rel.proofs.NormalLaws.{direction_is_normal}
 use Rattle.sym_facts.specs.Pairings.{form_within, literal_within}
 use Rattle.term_text.specs.TermTexts.{polynomial, array, list, polynomial_text, array_text, list_text}
 use Rattle.term_text.specs.SpellableTerms.{SpellsTermText}
-use Rattle.term_condition_text.specs.ConditionTexts.{condition_text, SpellsCondition as SpellsCondition}
+use Rattle.term_condition_text.specs.ConditionTexts.{condition_text, SpellsCondition}
 use Rattle.term_values.specs.declared.faults.TermError.{TermError}
 use Rattle.term_values.specs.declared.faults.TermError.TheVariants.{NumberTooBig, UnknownName, SortOf, NotNormal}
 use Rattle.term_values.specs.Checks.{Test, polynomial_passes, array_passes, list_passes, numbers_fit, names_known, sorts_fit, ones_left_out}
 use Rattle.term_values.specs.Conditions.{condition_value, written_condition_passes, integer_passes}
 use Rattle.term_values.specs.TermFaults.{is_normal_array, are_normal, is_normal_list, unless, fault_by, IsPolynomialOf, ReadsAsArray, ReadsAsList, IsLiteralOf}
-use Rattle.term_values.specs.NameMeanings.{Find, same_sort, name_has_sort}
-use Rattle.term_values.specs.DigitNumbers.{shifted, digits_number}
+use Rattle.term_values.specs.NameMeanings.{Find, name_has_sort}
 use Rattle.term_values.specs.TermValues.{exact, polynomial_value, array_value, list_value}
 use Rattle.term_writer.specs.NamedSymbols.{IsNamed, OfPolynomial, OfArray, OfList, OfLiteral}
 use Rattle.term_writer.specs.WrittenTerms.{polynomial_written, array_written, list_written, integer_written, literal_written as literal_in_words}
 use Rattle.term_writer.proofs.LiteralTexts.{inner_small}
 use Rattle.cert_writer.specs.WrittenCertificates.{form_written, literal_bytes}
-use Rattle.cert_text.specs.TextReaders.{TextReader, AreRead}
+use Rattle.cert_text.specs.TextMeanings.{TextMeanings, AreRead}
 use Rattle.cert_laws.proofs.Named.{polynomial_named, array_named, list_named, literal_named}
 use Rattle.cert_laws.proofs.Passing.{polynomial_passed, array_passed, list_passed, integer_passed}
 
@@ -64,13 +65,13 @@ pub record TextLaws (name : Pos → List ℕ) (find : Find) : Type 0 where
 
 -- ---- numbers
 
-more_digits : (n : ℕ) (ds : List ℕ) → 10 ≤ n → digits_number ds ≡ n / 10 → digits_number (ds ++ ((48 + n % 10) ∷ [])) ≡ n
-more_digits n ds h e = fold-append shifted 0 ds ((48 + n % 10) ∷ []) ∙ rw e (omega arith)
+more_digits : (n : ℕ) (ds : List ℕ) → 10 ≤ n → value_of_digits ds ≡ n / 10 → value_of_digits (ds ++ ((48 + n % 10) ∷ [])) ≡ n
+more_digits n ds h e = fold-append with_digit 0 ds ((48 + n % 10) ∷ []) ∙ rw e (omega arith)
 
-number_again : (n : ℕ) → n < 2 ^ 127 → digits_number (decimal n) ≡ n
-number_again n h = decimal_by_steps_wide (λ k ds. digits_number ds ≡ k) (λ k l. omega arith) more_digits n (lt_trans h (lit< tt))
+number_again : (n : ℕ) → n < 2 ^ 127 → value_of_digits (decimal n) ≡ n
+number_again n h = decimal_by_steps_wide (λ k ds. value_of_digits ds ≡ k) (λ k l. omega arith) more_digits n (lt_trans h (lit< tt))
 
-number_fits : (n : ℕ) → n < 2 ^ 127 → nat_le (digits_number (decimal n)) weight_limit ≡ true
+number_fits : (n : ℕ) → n < 2 ^ 127 → nat_le (value_of_digits (decimal n)) weight_limit ≡ true
 number_fits n h = ap (λ k. nat_le k weight_limit) (number_again n h) ∙ le-leb n weight_limit (omega (arith, h))
 
 no_one : (n : ℕ) → n < 2 ^ 127 → n ≢ 1 → not (bytes_eq (decimal n) (codes "1")) ≡ true
@@ -78,7 +79,7 @@ no_one n h d = by_test (bytes_eq (decimal n) (codes "1")) refl
   where
     by_test : (b : Bool) → bytes_eq (decimal n) (codes "1") ≡ b → not b ≡ true
     by_test true e =
-        let s : digits_number (decimal n) ≡ 1 = ap digits_number ((bytes_eq-Decides (decimal n) (codes "1")).0 e) in
+        let s : value_of_digits (decimal n) ≡ 1 = ap value_of_digits ((bytes_eq-Decides (decimal n) (codes "1")).0 e) in
         absurd (d (sym (number_again n h) ∙ s))
     by_test false e = refl
 
@@ -94,7 +95,7 @@ all_normal (p ∷ ps) h = and_from (is_normal p) (are_normal ps) (normal_is p h.
 list_is_normal : (l : lists.ListTerm) → IsNormalList l → is_normal_list l ≡ true
 list_is_normal l n = rw (all_normal l.items n.items, le-leb (size_of_list l) 4096 n.small, le-leb (depth_of_list l) 64 n.shallow) refl
 
-own_sort : (s : Sort) → same_sort s s ≡ true
+own_sort : (s : Sort) → same_term_sort s s ≡ true
 own_sort sort.Scalar = refl
 own_sort sort.Array = refl
 own_sort sort.List = refl
@@ -193,7 +194,8 @@ module _ (name : Pos → List ℕ) (find : Find) (laws : TextLaws name find) whe
         value = sym again;
       }
 
-  module _ (r : TextReader) (read : AreRead find r) (test : Pos × Sort → Bool) (named : (p : Pos) (s : Sort) → test (p, s) ≡ true → IsNamed name find s p) where
+  module _ (r : TextMeanings) (read : AreRead find r) (test : Pos × Sort → Bool)
+      (named : (p : Pos) (s : Sort) → test (p, s) ≡ true → IsNamed name find s p) where
     -- the text of a normal form is read as the form
     pub form_read : (f : Nf) → IsNormalForm f → form_within test f ≡ true → r.term (sort_of_form f) (form_written name f) ≡ Ok f
     form_read (Num p) n w = read.polynomial (form_written name (Num p)) p (polynomial_is p (polynomial_named (IsNamed name find) test named p w) n)

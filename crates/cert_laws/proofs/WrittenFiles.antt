@@ -6,15 +6,17 @@ use Rattle.std.specs.List.{list_all, list_any, slice_index_or}
 use Rattle.std.proofs.lemmas.Bool.Decides.{nat_tests}
 use Rattle.std.proofs.lemmas.Str.{IsUtf8-nil}
 use Rattle.base_lemmas.proofs.Booleans.{and_first, and_second}
+use Rattle.fs_rules.specs.SoundParts.{IsSound}
 use Rattle.json.proofs.Printed.Utf8.{IsUtf8-are_ascii}
 use Rattle.serde_json.specs.Data.{Members, no_members, string}
 use Rattle.fs_model.specs.Machines.{State, Fsmd}
 use Rattle.fs_model.specs.Words.{is_name}
-use Rattle.fs_ast.specs.SoundMachines.{IsSound}
 use Rattle.fs_cut.specs.Paths.{Point, Start, At, Done}
 use Rattle.fs_pair.specs.declared.positions.Position.{Position}
 use Rattle.fs_pair.specs.Positions.{positions}
+use Rattle.fs_pair.specs.Partners.{position_name}
 use Rattle.fs_model.specs.declared.sides.Pos.{Pos}
+use Rattle.fs_model.specs.Runs.{is_port}
 use Rattle.nf_terms.specs.declared.form.Nf.{Nf}
 use Rattle.nf_rel.specs.Literals.{NormalLiteral}
 use Rattle.cert_bisimulation.specs.declared.mode.Mode.{Mode}
@@ -25,12 +27,12 @@ use Rattle.cert_model.specs.Lawful.{IsLawful}
 use Rattle.term_text.specs.TermTexts.{symbol_text}
 use Rattle.cert_json.specs.Refusals.{IsFileOf}
 use Rattle.cert_json.specs.WrittenJson.{texts, named_texts, node_data, nodes_data}
+use Rattle.cert_json.specs.JsonTexts.{named_texts_of}
 use Rattle.cert_json_laws.specs.Orderly.{KeysRise, IsOrderly, AreOrderly, MembersAreOrderly}
 use Rattle.cert_json_laws.proofs.Putting.{rises, orderly}
 use Rattle.cert_json_laws.proofs.Again.{read_again}
 use Rattle.cert_json_laws.proofs.Utf8.{value_utf8}
-use Rattle.cert_writer.specs.PositionNames.{name_of, is_port}
-use Rattle.cert_writer.specs.WrittenCertificates.{form_written, literal_bytes, with_equation_member, equations_written, named_texts_of, point_written}
+use Rattle.cert_writer.specs.WrittenCertificates.{form_written, literal_bytes, with_equation_member, equations_written, point_written}
 use Rattle.cert_writer.specs.WrittenCertificates.{mode_written, node_written, file_written, certificate_text}
 use Rattle.cert_writer.proofs.Plain.{name_utf8, form_utf8, symbol_utf8, literal_utf8}
 use Rattle.cert_writer.proofs.Values.{equations_same}
@@ -67,28 +69,29 @@ mode_utf8 mode.Right = IsUtf8-are_ascii (codes "right") refl
 mode_utf8 mode.End = IsUtf8-are_ascii (codes "end") refl
 
 module _ (a b : Fsmd) (left : IsSound a) (right : IsSound b) where
-  literals_orderly : (ls : List NormalLiteral) → AreOrderly (texts (map (literal_bytes (name_of a b)) ls))
+  literals_orderly : (ls : List NormalLiteral) → AreOrderly (texts (map (literal_bytes (position_name a b)) ls))
   literals_orderly [] = tt
-  literals_orderly (l ∷ ls) = (literal_utf8 a b left right l [] (literal_bytes (name_of a b) l) refl refl, literals_orderly ls)
+  literals_orderly (l ∷ ls) = (literal_utf8 a b left right l [] (literal_bytes (position_name a b) l) refl refl, literals_orderly ls)
 
   -- ---- equations
 
   abbrev IsInOrder : Members → Type 0
   IsInOrder ms = KeysRise ms × MembersAreOrderly ms
 
-  equation_in_order : (p : Pos) (o : Option Nf) (ms : Members) → IsInOrder ms → IsInOrder (with_equation_member (name_of a b) p o ms)
+  equation_in_order : (p : Pos) (o : Option Nf) (ms : Members) → IsInOrder ms → IsInOrder (with_equation_member (position_name a b) p o ms)
   equation_in_order p None ms h = h
   equation_in_order p (Some f) ms h =
-      let key = symbol_text p.side (name_of a b p) in
-      let text = form_written (name_of a b) f in
+      let key = symbol_text p.side (position_name a b p) in
+      let text = form_written (position_name a b) f in
       (rises key (string text) ms h.0, orderly key (string text) ms (symbol_utf8 a b left right p [] key refl refl) (form_utf8 a b left right f text refl) h.1)
 
-  equations_in_order : (qs : List FactPosition) (ms : Members) → IsInOrder ms → IsInOrder (equations_written (name_of a b) ms qs)
+  equations_in_order : (qs : List FactPosition) (ms : Members) → IsInOrder ms → IsInOrder (equations_written (position_name a b) ms qs)
   equations_in_order [] ms h = h
-  equations_in_order (q ∷ qs) ms h = equations_in_order qs (with_equation_member (name_of a b) q.pos q.equation ms) (equation_in_order q.pos q.equation ms h)
+  equations_in_order (q ∷ qs) ms h = equations_in_order qs (with_equation_member (position_name a b) q.pos q.equation ms)
+      (equation_in_order q.pos q.equation ms h)
 
-  named_in_order : (qs : List FactPosition) → IsInOrder (named_texts (named_texts_of (equations_written (name_of a b) no_members qs)))
-  named_in_order qs = subst IsInOrder (sym (equations_same (name_of a b) qs)) (equations_in_order qs no_members (tt, tt))
+  named_in_order : (qs : List FactPosition) → IsInOrder (named_texts (named_texts_of (equations_written (position_name a b) no_members qs)))
+  named_in_order qs = subst IsInOrder (sym (equations_same (position_name a b) qs)) (equations_in_order qs no_members (tt, tt))
 
   -- ---- nodes
 

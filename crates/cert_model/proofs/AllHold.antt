@@ -6,13 +6,13 @@ use Rattle.std.specs.List.{list_all, flat_map, slice_index_or, AllByRecursion}
 use Rattle.std.proofs.lemmas.Bool.Decides.{nat_tests}
 use Rattle.std.proofs.lemmas.Bool.{and_from}
 use Rattle.base_lemmas.proofs.Booleans.{and_first, and_second, true_and_false}
+use Rattle.fs_rules.specs.SoundParts.{IsSound}
 use Rattle.fs_model.specs.declared.parts.Sort.{Sort}
 use Rattle.fs_model.specs.declared.parts.Sort.TheVariants as sort
 use Rattle.fs_model.specs.Machines.{Fsmd}
 use Rattle.fs_model.specs.Stores.{Store}
 use Rattle.fs_model.specs.Runs.{Inputs, start, content, SameBehaviour}
 use Rattle.fs_model.specs.Runs as runs
-use Rattle.fs_ast.specs.SoundMachines.{IsSound}
 use Rattle.fs_pair.specs.Interfaces.{interface_fault}
 use Rattle.fs_pair.specs.PairedOutputs.{OutputPair, output_pairs, AgreeOnOutput}
 use Rattle.fs_pair.specs.Positions.{positions}
@@ -32,7 +32,7 @@ use Rattle.fs_model.specs.declared.sides.Side.TheVariants as side
 use Rattle.fs_model.specs.declared.sides.Pos.{Pos}
 use Rattle.nf_terms.specs.declared.form.Nf.{Nf}
 use Rattle.nf_sums.proofs.Values.{goes_done}
-use Rattle.nf_subst.specs.Vectors.{number_at, array_form, list_at, meaning}
+use Rattle.nf_substitution.specs.Vectors.{number_at, array_form, list_at, vector_meaning}
 use Rattle.nf_rel.specs.Literals.{all_true_in, is_refuted}
 use Rattle.nf_rel.proofs.Truth.{refuted_false}
 use Rattle.sym_paths.specs.ValuationStores.{at, store_on, choose_side, pair}
@@ -140,7 +140,7 @@ record Reached (ns : List (Node Fact)) (P Q : Point) (falls : Node Fact → Bool
 
 reached : (ns : List (Node Fact)) (P Q : Point) (falls : Node Fact → Bool) (post : Post) (w : Valuation) (o : Option (Node Fact)) → node_at ns P Q ≡ o
     → reaches o falls post ≡ computed.Done None → all_true_in w post.conditions ≡ true
-    → Reached ns P Q falls (meaning post.vector w)
+    → Reached ns P Q falls (vector_meaning post.vector w)
 reached ns P Q falls post w None n e c = absurd (cc e)
 reached ns P Q falls post w (Some t) n e c =
     let s = goes_done (entails post t.fact) (λ m. computed.Done (first_missing m.equations m.literals (falls t))) None e in
@@ -150,7 +150,7 @@ reached ns P Q falls post w (Some t) n e c =
 
 start_reached : (ns : List (Node Fact)) (post : Post) (w : Valuation) (o : Option (Node Fact)) → node_at ns Start Start ≡ o
     → start_reaches o post ≡ computed.Done None → all_true_in w post.conditions ≡ true
-    → Reached ns Start Start (λ n. true) (meaning post.vector w)
+    → Reached ns Start Start (λ n. true) (vector_meaning post.vector w)
 start_reached ns post w None n e c = absurd (cc e)
 start_reached ns post w (Some t) n e c = reached ns Start Start (λ z. true) post w (Some t) n e c
 
@@ -194,17 +194,17 @@ move_leads a b ns n left right s u e h p q =
     (λ post. cond (is_refuted post.conditions) (computed.Done None) (reaches (node_at ns P Q) (rank_falls n) post)) None e in
     let post = x.middle in
     let r : Arrived a b n.fact.literals v left right w post = arrived a b n.fact.literals v left right post w x.first in
-    let own : meaning v w ≡ w = vector_means w n.fact.positions h.equations in
-    let pl : takes_if a left (store_on side.Left (meaning v w)) ≡ true = ap (λ z. takes_if a left (store_on side.Left z)) own ∙ p in
-    let qr : takes_if b right (store_on side.Right (meaning v w)) ≡ true = ap (λ z. takes_if b right (store_on side.Right z)) own ∙ q in
+    let own : vector_meaning v w ≡ w = vector_means w n.fact.positions h.equations in
+    let pl : takes_if a left (store_on side.Left (vector_meaning v w)) ≡ true = ap (λ z. takes_if a left (store_on side.Left z)) own ∙ p in
+    let qr : takes_if b right (store_on side.Right (vector_meaning v w)) ≡ true = ap (λ z. takes_if b right (store_on side.Right z)) own ∙ q in
     let c : all_true_in w post.conditions ≡ true = r.true_where ∙ and_from _ _ h.literals (and_from _ _ pl qr) in
     let t = reached ns P Q (rank_falls n) post w (node_at ns P Q) refl
     (cond_none (is_refuted post.conditions) _
     (not_refuted (is_refuted post.conditions) (all_true_in w post.conditions) c (refuted_false w post.conditions)) x.next) c in
-    let le : store_on side.Left (meaning post.vector w) ≡ effect_if a left s = r.left_end ∙ ap (λ z. effect_if a left (store_on side.Left z)) own in
-    let re : store_on side.Right (meaning post.vector w) ≡ effect_if b right u = r.right_end ∙ ap (λ z. effect_if b right (store_on side.Right z)) own in
-    let both : meaning post.vector w ≡ pair (effect_if a left s) (effect_if b right u) =
-    pair_of (meaning post.vector w) (effect_if a left s) (effect_if b right u) le re in
+    let le : store_on side.Left (vector_meaning post.vector w) ≡ effect_if a left s = r.left_end ∙ ap (λ z. effect_if a left (store_on side.Left z)) own in
+    let re : store_on side.Right (vector_meaning post.vector w) ≡ effect_if b right u = r.right_end ∙ ap (λ z. effect_if b right (store_on side.Right z)) own in
+    let both : vector_meaning post.vector w ≡ pair (effect_if a left s) (effect_if b right u) =
+    pair_of (vector_meaning post.vector w) (effect_if a left s) (effect_if b right u) le re in
     record {
       to = record {
         node = t.node;
@@ -232,7 +232,7 @@ given_none : (b : Bool) (r : Reason) → computed.Done (cond b None (Some r)) �
 given_none true r e = refl
 given_none false r e = absurd (cc e)
 
-contents_agree : (w : Valuation) (v : List (Pos × Nf)) → meaning v w ≡ w → (σ : Sort) (x z : ℕ) → same_forms v σ x (Some z) ≡ true
+contents_agree : (w : Valuation) (v : List (Pos × Nf)) → vector_meaning v w ≡ w → (σ : Sort) (x z : ℕ) → same_forms v σ x (Some z) ≡ true
     → content σ x (store_on side.Left w) ≡ content σ z (store_on side.Right w)
 contents_agree w v own sort.Scalar x z f =
     ap runs.Number
@@ -323,7 +323,7 @@ module _ (a b : Fsmd) (sound_a : IsSound a) (sound_b : IsSound b) (matched : int
       → Stands Holds ns Start Start (start a ins) (start b ins)
   starts_at first h e ins =
       let w = pair (start a ins) (start b ins) in
-      let own : meaning (vector_of first.positions) w ≡ w = vector_means w first.positions (h ins).equations in
+      let own : vector_meaning (vector_of first.positions) w ≡ w = vector_means w first.positions (h ins).equations in
       let t = start_reached ns (record { conditions = []; vector = vector_of first.positions }) w (node_at ns Start Start) refl e refl in
       record {
         node = t.node;

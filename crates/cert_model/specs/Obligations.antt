@@ -8,6 +8,7 @@ use Rattle.fs_cut.specs.Paths.{Point, Start, Path}
 use Rattle.fs_cut.specs.Paths as paths
 use Rattle.fs_cut.specs.Covers.{paths_of, same_point}
 use Rattle.fs_pair.specs.PairedOutputs.{OutputPair, output_pairs}
+use Rattle.fs_pair.specs.Positions.{positions}
 use Rattle.cert_bisimulation.specs.declared.mode.Mode.{Mode}
 use Rattle.cert_bisimulation.specs.declared.mode.Mode.TheVariants.{Both, Left, Right, End}
 use Rattle.cert_bisimulation.specs.Tables.{Node}
@@ -17,12 +18,13 @@ use Rattle.fs_model.specs.declared.sides.Pos.{Pos}
 use Rattle.nf_terms.specs.declared.form.Nf.{Nf}
 use Rattle.nf_terms.specs.declared.form.Nf.TheVariants.{Num, Arr, Seq}
 use Rattle.nf_terms.specs.Computed.{Computed, Done, Wide, Large, after}
-use Rattle.nf_subst.specs.Vectors.{number_at, array_form, list_at}
+use Rattle.nf_substitution.specs.Vectors.{number_at, array_form, list_at}
 use Rattle.nf_rel.specs.Literals.{is_refuted}
 use Rattle.sym_paths.specs.ValuationStores.{at}
 use Rattle.sym_paths.specs.Execution.{Post, arrive, end_of}
 use Rattle.sym_facts.specs.Facts.{Fact, vector_of}
 use Rattle.sym_facts.specs.Entailment.{entails}
+use Rattle.sym_facts.specs.Starts.{start_fact}
 use Rattle.cert_model.specs.declared.reason.Reason.{Reason}
 use Rattle.cert_model.specs.declared.reason.Reason.TheVariants as reason
 
@@ -126,3 +128,7 @@ verdict_from k (r ∷ rs) = verdict_by k r (verdict_from (k + 1) rs)
 
 abbrev pub verdict : (a b : Fsmd) → (start : Fact) → List (Node Fact) → Verdict
 verdict a b start ns = verdict_from 1 (obligations a b start ns)
+
+-- the verdict on nodes as a certificate of two machines
+abbrev pub verdict_on : (a b : Fsmd) → List (Node Fact) → Verdict
+verdict_on a b nodes = verdict a b (start_fact (positions a b)) nodes

@@ -1,9 +1,9 @@
 //! The law of certificates, over the definitions alone. The function does nothing.
 
 ghost use Rattle.std.specs.Prelude.{◌≡◌, List, None};
+ghost use Rattle.fs_rules.specs.SoundParts.{IsSound};
 ghost use Rattle.fs_model.specs.Machines.{Fsmd};
 ghost use Rattle.fs_model.specs.Runs.{SameBehaviour};
-ghost use Rattle.fs_ast.specs.SoundMachines.{IsSound};
 ghost use Rattle.fs_pair.specs.Interfaces.{interface_fault};
 ghost use Rattle.fs_pair.specs.Positions.{positions};
 ghost use Rattle.cert_bisimulation.specs.Tables.{Node as PlainNode};

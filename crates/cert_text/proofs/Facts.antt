@@ -16,7 +16,7 @@ use Rattle.nf_terms.specs.declared.symbols.Sort.{Sort as TermSort}
 use Rattle.nf_terms.specs.declared.symbols.Sort.TheVariants as term
 use Rattle.nf_terms.specs.declared.form.Nf.{Nf}
 use Rattle.nf_terms.proofs.Agreement.{own_pos}
-use Rattle.nf_subst.specs.Vectors.{same_sort}
+use Rattle.nf_terms.specs.TermSorts.{same_term_sort}
 use Rattle.nf_rel.specs.Literals.{NormalLiteral}
 use Rattle.sym_facts.specs.Facts.{sort_of_terms, has_its_sort}
 use Rattle.sym_facts.specs.FactParts.{with_equations, equation_within}
@@ -24,10 +24,10 @@ use Rattle.sym_facts.specs.Pairings.{is_position, form_within, literal_within}
 use Rattle.cert_text.specs.declared.names.Places.{Places}
 use Rattle.cert_text.specs.View.{place_in_tables, find_of}
 use Rattle.cert_text.specs.CertificateNames.{name_place, sorted_position, find_in}
-use Rattle.cert_text.specs.CertificateReading.{unwritten_of, unwritten, sort_at}
+use Rattle.cert_text.specs.CertificateReading.{unwritten_of, unwritten_equation, sort_at}
 use Rattle.cert_text.specs.Within.{AllFoundPass, FormWithin, LiteralWithin, AreEquationsOf}
 
-sort_itself : (s : TermSort) → same_sort s s ≡ true
+sort_itself : (s : TermSort) → same_term_sort s s ≡ true
 sort_itself term.Scalar = refl
 sort_itself term.Array = refl
 sort_itself term.List = refl
@@ -38,10 +38,11 @@ among : (ps : List Position) (k : ℕ) (q : Position) → slice_get ps k ≡ Som
 among [] k q e = absurd (cc e)
 among (p ∷ ps) zero q e =
     let h : p ≡ q = cc e in
-    or_left (same_pos p.pos q.pos && same_sort (sort_of_terms p.sort) (sort_of_terms q.sort)) (is_position ps (sorted_position q))
-    (subst (λ r. (same_pos r.pos q.pos && same_sort (sort_of_terms r.sort) (sort_of_terms q.sort)) ≡ true) (sym h)
-    (and_from (same_pos q.pos q.pos) (same_sort (sort_of_terms q.sort) (sort_of_terms q.sort)) (own_pos q.pos) (sort_itself (sort_of_terms q.sort))))
-among (p ∷ ps) (suc k) q e = or_right (same_pos p.pos q.pos && same_sort (sort_of_terms p.sort) (sort_of_terms q.sort)) (is_position ps (sorted_position q))
+    or_left (same_pos p.pos q.pos && same_term_sort (sort_of_terms p.sort) (sort_of_terms q.sort)) (is_position ps (sorted_position q))
+    (subst (λ r. (same_pos r.pos q.pos && same_term_sort (sort_of_terms r.sort) (sort_of_terms q.sort)) ≡ true) (sym h)
+    (and_from (same_pos q.pos q.pos) (same_term_sort (sort_of_terms q.sort) (sort_of_terms q.sort)) (own_pos q.pos) (sort_itself (sort_of_terms q.sort))))
+among (p ∷ ps) (suc k) q e = or_right (same_pos p.pos q.pos && same_term_sort (sort_of_terms p.sort) (sort_of_terms q.sort))
+    (is_position ps (sorted_position q))
     (among ps k q e)
 
 found_pass : (place : Side → List ℕ → Option ℕ) (ps : List Position) (format : ℕ) → AllFoundPass (find_in place ps format) (is_position ps)
@@ -75,21 +76,22 @@ unwritten_within test format sort.Port = by_test (format == 1)
     by_test true = refl
     by_test false = refl
 
-pub unwritten_fit : (format : ℕ) (ps : List Position) → AreEquationsOf ps (map (unwritten format) ps)
+pub unwritten_fit : (format : ℕ) (ps : List Position) → AreEquationsOf ps (map (unwritten_equation format) ps)
 unwritten_fit format ps = record { count = counted ps; sorts = sorted ps; within = inside ps }
   where
-    counted : (qs : List Position) → length (map (unwritten format) qs) ≡ length qs
+    counted : (qs : List Position) → length (map (unwritten_equation format) qs) ≡ length qs
     counted [] = refl
     counted (q ∷ qs) = ap suc (counted qs)
 
-    sorted : (qs : List Position) → list_all (λ q. has_its_sort q.sort q.equation) (with_equations qs (map (unwritten format) qs)) ≡ true
+    sorted : (qs : List Position) → list_all (λ q. has_its_sort q.sort q.equation) (with_equations qs (map (unwritten_equation format) qs)) ≡ true
     sorted [] = refl
-    sorted (q ∷ qs) = and_from (has_its_sort q.sort (unwritten format q))
-        (list_all (λ r. has_its_sort r.sort r.equation) (with_equations qs (map (unwritten format) qs))) (unwritten_sort format q.sort) (sorted qs)
+    sorted (q ∷ qs) = and_from (has_its_sort q.sort (unwritten_equation format q))
+        (list_all (λ r. has_its_sort r.sort r.equation) (with_equations qs (map (unwritten_equation format) qs))) (unwritten_sort format q.sort) (sorted qs)
 
-    inside : (qs : List Position) → list_all (equation_within (is_position ps)) (map (unwritten format) qs) ≡ true
+    inside : (qs : List Position) → list_all (equation_within (is_position ps)) (map (unwritten_equation format) qs) ≡ true
     inside [] = refl
-    inside (q ∷ qs) = and_from (equation_within (is_position ps) (unwritten format q)) (list_all (equation_within (is_position ps)) (map (unwritten format) qs))
+    inside (q ∷ qs) = and_from (equation_within (is_position ps) (unwritten_equation format q))
+        (list_all (equation_within (is_position ps)) (map (unwritten_equation format) qs))
         (unwritten_within (is_position ps) format q.sort) (inside qs)
 
 -- ---- an equation put at a place
@@ -101,7 +103,7 @@ put_sorts [] fs k f e h = refl
 put_sorts (p ∷ ps) [] k f e h = refl
 put_sorts (p ∷ ps) (g ∷ gs) zero f e h =
     and_from (has_its_sort p.sort (Some f)) (list_all (λ q. has_its_sort q.sort q.equation) (with_equations ps gs))
-    (subst (λ s. same_sort (sort_of_terms p.sort) s ≡ true) (sym e) (sort_itself (sort_of_terms p.sort)))
+    (subst (λ s. same_term_sort (sort_of_terms p.sort) s ≡ true) (sym e) (sort_itself (sort_of_terms p.sort)))
     (and_second (has_its_sort p.sort g) (list_all (λ q. has_its_sort q.sort q.equation) (with_equations ps gs)) h)
 put_sorts (p ∷ ps) (g ∷ gs) (suc k) f e h =
     and_from (has_its_sort p.sort g) (list_all (λ q. has_its_sort q.sort q.equation) (with_equations ps (set gs k (Some f))))

@@ -11,17 +11,18 @@ use Rattle.std.proofs.Math.Seq.{take-suc}
 use Rattle.indexmap.specs.IndexMap.{insert_entry}
 use Rattle.fs_model.specs.Limits.{most_states}
 use Rattle.fs_model.specs.Machines.{State, Fsmd}
-use Rattle.fs_rules.specs.Sound.{IsSound}
+use Rattle.fs_rules.specs.SoundParts.{IsSound}
 use Rattle.fs_pair.specs.declared.positions.Position.{Position}
-use Rattle.fs_pair.specs.SidedVariables.{same_side}
 use Rattle.fs_pair.specs.Paired.{IsPairing}
+use Rattle.fs_pair.specs.Partners.{position_name}
 use Rattle.fs_model.specs.declared.sides.Side.{Side}
-use Rattle.sym_facts.specs.FactParts.{most_positions}
+use Rattle.fs_model.specs.Sides.{same_side}
+use Rattle.sym_facts.specs.FactParts.{most_sorted_positions}
 use Rattle.sym_facts.proofs.Kept.{few_positions}
 use Rattle.fs_rules.specs.Places.{first_place}
 use Rattle.fs_rules.proofs.FirstFaults.{found_push}
 use Rattle.cert_text.specs.declared.table.NameTable.{NameTable}
-use Rattle.cert_text.specs.CertificateNames.{name_of, names_on}
+use Rattle.cert_text.specs.CertificateNames.{names_on}
 use Rattle.cert_text.specs.NameTables.{name_number, HasFirst}
 
 bytes_sym : (x y : List ℕ) → bytes_eq x y ≡ bytes_eq y x
@@ -101,6 +102,6 @@ pub few_names : {K : Type 0} (seen : K → List ℕ) (a b : Fsmd) (side : Side) 
     → map seen names ≡ names_on a b side ps → length names < 2 ^ 32
 few_names seen a b side ps names h e =
     let n : length names ≡ length ps = sym (length-map names seen) ∙ ap length e
-    ∙ length-map ps (λ (p : Position). cond (same_side p.pos.side side) (name_of a b p.pos) []) in
-    let few : length ps ≤ most_positions = few_positions ps h in
+    ∙ length-map ps (λ (p : Position). cond (same_side p.pos.side side) (position_name a b p.pos) []) in
+    let few : length ps ≤ most_sorted_positions = few_positions ps h in
     omega (arith, n, few)

@@ -13,7 +13,7 @@ use Rattle.cert_text.specs.declared.faults.CertError.TheVariants.{NotJson, Shape
 use Rattle.cert_text.specs.declared.faults.CertError.TheVariants.{NumberTooBig, TooMany, NoMemory, BadTerm, NotNormal}
 use Rattle.cert_text.specs.JsonParts.{file_format}
 use Rattle.cert_text.specs.CertificateNames.{place_named, find_in}
-use Rattle.cert_text.specs.TextFunctions.{texts_by}
+use Rattle.cert_text.specs.TextFunctions.{meanings_by}
 use Rattle.cert_text.specs.Refusals.{file_read, ComesTo, SpellsNodes, BreaksFirst, IsRefusedAsCertificate}
 use Rattle.cert_text.proofs.Readings.{texts_are_read}
 
@@ -21,7 +21,8 @@ use Rattle.cert_text.proofs.Readings.{texts_are_read}
 one_outcome : (a b : Fsmd) (d e : Data) (x y : Result (List (Node Fact)) CertError) → d ≡ e → ComesTo a b d x → ComesTo a b e y → x ≡ y
 one_outcome a b d e x y s h g =
     let find : Data → Find = λ v. find_in (place_named a b (positions a b)) (positions a b) (file_format v) in
-    sym (h (texts_by (find d)) (texts_are_read (find d))) ∙ (ap (λ v. file_read a b v (texts_by (find v))) s ∙ g (texts_by (find e)) (texts_are_read (find e)))
+    sym (h (meanings_by (find d)) (texts_are_read (find d)))
+    ∙ (ap (λ v. file_read a b v (meanings_by (find v))) s ∙ g (meanings_by (find e)) (texts_are_read (find e)))
 
 pub one_list : (a b : Fsmd) (bytes : List ℕ) (ns ms : List (Node Fact)) → SpellsNodes a b bytes ns → SpellsNodes a b bytes ms → ns ≡ ms
 one_list a b bytes ns ms h g = let e : Ok ns ≡ Ok ms = one_outcome a b h.value g.value (Ok ns) (Ok ms)

@@ -8,6 +8,7 @@ use Rattle.nf_terms.specs.NormalTerms as terms
 use Rattle.nf_terms.specs.declared.symbols.Sort.{Sort}
 use Rattle.nf_terms.specs.declared.symbols.Sort.TheVariants as sort
 use Rattle.nf_terms.specs.declared.form.Nf.TheVariants.{Num, Arr, Seq}
+use Rattle.nf_terms.specs.TermSorts.{same_term_sort}
 use Rattle.nf_rel.specs.NormalLiterals.{is_normal_literal}
 use Rattle.nf_rel.specs.declared.kind.Kind.{Kind}
 use Rattle.term_text.specs.TermTexts as text
@@ -24,16 +25,16 @@ use Rattle.term_condition_text.specs.ConditionParts.{condition_parts}
 use Rattle.term_condition_text.proofs.Whole.{false_spelled, comparison_spelled, only_false, no_parts, spelled_parts, front_spelled}
 use Rattle.term_values.specs.declared.faults.TermError.{TermError}
 use Rattle.term_values.specs.declared.faults.TermError.TheVariants.{BadTerm, NumberTooBig, UnknownName, SortOf, NotNormal, NoMemory}
-use Rattle.term_values.specs.NameMeanings.{Find, same_sort}
+use Rattle.term_values.specs.NameMeanings.{Find}
 use Rattle.term_values.specs.TermValues.{exact, polynomial_value, array_value, list_value}
 use Rattle.term_values.specs.Checks.{Test, numbers_fit, names_known, sorts_fit, ones_left_out}
 use Rattle.term_values.specs.Conditions.{condition_value, written_condition_passes}
 use Rattle.term_values.specs.TermFaults.{sort_of_term, unless, fault_by, term_passes, stands_normal, term_fault, condition_fault, HasFault, IsRefusedAsTerm}
 use Rattle.term_values.specs.TermFaults.{ConditionHasFault, IsRefusedCondition}
 use Rattle.cert_text.proofs.Symbols.{sorts_same}
-use Rattle.cert_text.specs.TextReaders.{TextReader, AreRead, Refuses}
+use Rattle.cert_text.specs.TextMeanings.{TextMeanings, AreRead, Refuses}
 use Rattle.cert_text.specs.TextFunctions.{beginning_of, if_of_sort, term_spelled_by, comparison_of, condition_spelled_by, term_form, unless_fault, term_judged}
-use Rattle.cert_text.specs.TextFunctions.{condition_judged, texts_by}
+use Rattle.cert_text.specs.TextFunctions.{condition_judged, meanings_by}
 
 -- ---- terms
 
@@ -67,7 +68,7 @@ is_spelled sort.List bytes t e = list_is_spelled bytes t e
 only : (s : Sort) (bytes : List ℕ) (t : TermSyntax) → term_spelled_by s bytes ≡ Some t → (sort_of_term t ≡ s) × SpellsTermText bytes t
 only s bytes t e = by_depth (nat_le (most_open 0 bytes) depth_limit) (term_reading bytes (beginning_of s)) refl refl e
   where
-    by_sort : (u : TermSyntax) (b : Bool) → same_sort s (sort_of_term u) ≡ b → nat_le (most_open 0 bytes) depth_limit ≡ true
+    by_sort : (u : TermSyntax) (b : Bool) → same_term_sort s (sort_of_term u) ≡ b → nat_le (most_open 0 bytes) depth_limit ≡ true
         → term_reading bytes (beginning_of s) ≡ Some u → cond b (Some u) None ≡ Some t → (sort_of_term t ≡ s) × SpellsTermText bytes t
     by_sort u false g d r f = absurd (cc f)
     by_sort u true g d r f =
@@ -80,7 +81,7 @@ only s bytes t e = by_depth (nat_le (most_open 0 bytes) depth_limit) (term_readi
         → cond b (if_of_sort s o) None ≡ Some t → (sort_of_term t ≡ s) × SpellsTermText bytes t
     by_depth false o d r f = absurd (cc f)
     by_depth true None d r f = absurd (cc f)
-    by_depth true (Some u) d r f = by_sort u (same_sort s (sort_of_term u)) refl d r f
+    by_depth true (Some u) d r f = by_sort u (same_term_sort s (sort_of_term u)) refl d r f
 
 term_read : (find : Find) (s : Sort) (bytes : List ℕ) (t : TermSyntax) → sort_of_term t ≡ s → SpellsTermText bytes t → term_fault find t ≡ None
     → term_judged find (term_spelled_by s bytes) ≡ Ok (term_form find t)
@@ -172,8 +173,8 @@ condition_refused find bytes NotNormal h = condition_has_fault find bytes NotNor
 condition_refused find bytes NoMemory h = tt
 
 -- these functions say of each text what its grammar says
-pub texts_are_read : (find : Find) → AreRead find (texts_by find)
-unfolding texts_by
+pub texts_are_read : (find : Find) → AreRead find (meanings_by find)
+unfolding meanings_by
 texts_are_read find = record {
   polynomial = λ bytes p h. term_read find sort.Scalar bytes (polynomial h.written) refl h.stands.spells h.stands.faultless
       ∙ ap (λ q. Ok (Num q)) (sym h.value);
@@ -227,7 +228,7 @@ first_fault passes find t =
     (either_fault c d (unless_any (passes (sorts_fit find)) SortOf refl) (unless_any (passes ones_left_out) NotNormal refl))))
     (unless_any t NotNormal refl)
 
-module _ (find : Find) (r : TextReader) (h : AreRead find r) where
+module _ (find : Find) (r : TextMeanings) (h : AreRead find r) where
   fault_same : (s : Sort) (bytes : List ℕ) (e : TermError) → is_fault e ≡ true → HasFault find s bytes e → r.term s bytes ≡ Err e
   fault_same s bytes BadTerm f i = absurd (no_truth f)
   fault_same s bytes NumberTooBig f i = h.no_term s bytes NumberTooBig i
@@ -278,6 +279,6 @@ module _ (find : Find) (r : TextReader) (h : AreRead find r) where
           (first_fault (λ test. written_condition_passes test c) find (is_normal_literal (condition_value (exact find) c)))
 
   -- functions that say what the grammar says are these
-  pub only_texts : r ≡ texts_by find
-  unfolding texts_by
+  pub only_texts : r ≡ meanings_by find
+  unfolding meanings_by
   only_texts = λ k. record { term = λ s bytes. term_same s bytes k; condition = λ bytes. condition_same bytes k }

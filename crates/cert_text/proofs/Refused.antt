@@ -22,9 +22,10 @@ use Rattle.cert_text.specs.declared.faults.Stop.TheVariants as stop
 use Rattle.cert_text.specs.JsonParts.{file_nodes, file_format}
 use Rattle.cert_text.specs.CertificateNames.{place_named, find_in, name_place, place_by_key}
 use Rattle.cert_text.specs.PartAnswers.{error_of}
-use Rattle.cert_text.specs.NodePointNames.{then_part, point_named, known_point, cut_point, node_is_at, noted, StateTables, points_read}
-use Rattle.cert_text.specs.TextFunctions.{texts_by}
-use Rattle.cert_text.specs.CertificateReading.{TermContext, Context, text_read, known_place, sort_at, equation_read, equation_put, equations_read, unwritten}
+use Rattle.cert_text.specs.NodePointNames.{then_part, point_named, known_point, cut_point, node_is_at, points_if_new, StateTables, points_read}
+use Rattle.cert_text.specs.TextFunctions.{meanings_by}
+use Rattle.cert_text.specs.CertificateReading.{TermContext, Context, text_read, known_place, sort_at, equation_read, equation_put, equations_read}
+use Rattle.cert_text.specs.CertificateReading.{unwritten_equation}
 use Rattle.cert_text.specs.CertificateReading.{conditions_read, solved_fact, node_fact, node_read, node_added, nodes_read}
 use Rattle.cert_text.specs.Refusals.{context_of, file_read, ComesTo, TellsNodes, BreaksFirst, IsRefusedAsCertificate}
 use Rattle.cert_text.proofs.Readings.{texts_are_read}
@@ -67,7 +68,7 @@ cut_passes i m P = by_test (is_point m P)
     by_test true = refl
     by_test false = refl
 
-noted_passes : (i : ℕ) (earlier : List (Node Fact)) (P Q : Point) → passes (noted i earlier P Q) ≡ true
+noted_passes : (i : ℕ) (earlier : List (Node Fact)) (P Q : Point) → passes (points_if_new i earlier P Q) ≡ true
 noted_passes i earlier P Q = by_test (list_any (node_is_at P Q) earlier)
   where
     by_test : (t : Bool) → passes (cond {A = Result (Point × Point) CertError} t (Err (errors.TwiceNode i)) (Ok (P, Q))) ≡ true
@@ -123,8 +124,8 @@ solved_passes i f (Some k) = refl
 fact_passes : (c : TermContext) (i : ℕ) (n : NodeText) → passes (node_fact c i n) ≡ true
 unfolding node_fact
 fact_passes c i n =
-    passes_after (equations_read c i (map (unwritten c.format) c.positions) n.equations) _
-    (equations_pass c i (map (unwritten c.format) c.positions) n.equations) (λ fs.
+    passes_after (equations_read c i (map (unwritten_equation c.format) c.positions) n.equations) _
+    (equations_pass c i (map (unwritten_equation c.format) c.positions) n.equations) (λ fs.
     passes_after (conditions_read c i [] n.conds) _ (conditions_pass c i [] n.conds)
     (λ ls. solved_passes i (fact_of c.positions fs ls) (first_unsolved (fact_of c.positions fs ls))))
 
@@ -147,7 +148,7 @@ no_truth e = cc
 
 comes_of_nodes : (a b : Fsmd) (d : Data) (e : CertError) → ComesTo a b d (Err e) → is_of_nodes e ≡ true
 comes_of_nodes a b d e h =
-    let r = texts_by (find_in (place_named a b (positions a b)) (positions a b) (file_format d)) in
+    let r = meanings_by (find_in (place_named a b (positions a b)) (positions a b) (file_format d)) in
     let come : file_read a b d r ≡ Err e = h r (texts_are_read (find_in (place_named a b (positions a b)) (positions a b) (file_format d))) in
     sym (ap passes come) ∙ nodes_pass (context_of a b (file_format d) r) 0 [] (file_nodes d)
 

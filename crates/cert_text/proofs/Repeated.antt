@@ -10,7 +10,7 @@ use Rattle.nf_terms.specs.declared.form.Nf.{Nf}
 use Rattle.term_values.specs.declared.faults.TermError.{TermError}
 use Rattle.cert_text.specs.declared.names.Places.{Places}
 use Rattle.cert_text.specs.declared.repeats.ReadText.{ReadText}
-use Rattle.cert_text.specs.TextFunctions.{texts_by}
+use Rattle.cert_text.specs.TextFunctions.{meanings_by}
 use Rattle.cert_text.specs.CertificateReading.{text_read, sort_at}
 use Rattle.cert_text.specs.Repeats.{IsReadAs, last_at, AreLast}
 use Rattle.cert_text.specs.View.{find_of}
@@ -32,10 +32,10 @@ text_told i (Ok g) f e = let h : g ≡ f = cc e in ap Ok h
 text_told i (Err g) f e = absurd (cc e)
 
 pub read_as : (t : Places) (i k : ℕ) (s : Sort) (text : List ℕ) (f : Nf) → s ≡ sort_at t.positions.now k
-    → text_read i ((texts_by (find_of t)).term s text) ≡ Ok f → sort_of_form f ≡ s → FormWithin (find_of t) f → IsReadAs t k text f
+    → text_read i ((meanings_by (find_of t)).term s text) ≡ Ok f → sort_of_form f ≡ s → FormWithin (find_of t) f → IsReadAs t k text f
 read_as t i k s text f is told sort within = record {
-  told = text_told i ((texts_by (find_of t)).term (sort_at t.positions.now k) text) f
-      (subst (λ q. text_read i ((texts_by (find_of t)).term q text) ≡ Ok f) is told);
+  told = text_told i ((meanings_by (find_of t)).term (sort_at t.positions.now k) text) f
+      (subst (λ q. text_read i ((meanings_by (find_of t)).term q text) ≡ Ok f) is told);
   sort = sort ∙ is;
   within = within;
 }

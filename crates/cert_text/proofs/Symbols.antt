@@ -12,6 +12,7 @@ use Rattle.nf_terms.specs.declared.form.Nf.TheVariants as form
 use Rattle.nf_terms.specs.NormalTerms as terms
 use Rattle.nf_terms.specs.Lists.{ListTerm}
 use Rattle.nf_terms.specs.Symbols.{symbols_of_atom, symbols_of_monomial, symbols_of, symbols_of_writes, symbols_of_array, symbols_of_items, symbols_of_list}
+use Rattle.nf_terms.specs.TermSorts.{same_term_sort}
 use Rattle.nf_symbols.proofs.Passing.{together}
 use Rattle.nf_rel.specs.NormalLiterals.{is_normal_literal}
 use Rattle.nf_rel.specs.Literals.{NormalLiteral}
@@ -23,7 +24,7 @@ use Rattle.term_text.specs.TermTexts.{Written, EmptyList, BareList, Pushed, poly
 use Rattle.term_condition_text.specs.ConditionTexts.{Condition, False, Compared}
 use Rattle.term_values.specs.declared.faults.TermError.{TermError}
 use Rattle.term_values.specs.declared.faults.TermError.TheVariants.{NumberTooBig, UnknownName, SortOf, NotNormal}
-use Rattle.term_values.specs.NameMeanings.{Find, position_meant, position, same_sort, name_has_sort}
+use Rattle.term_values.specs.NameMeanings.{Find, position_meant, position, name_has_sort}
 use Rattle.term_values.specs.TermValues.{exact, atom_value, atoms_of, sum_value, polynomial_value, array_value, list_items, list_value}
 use Rattle.term_values.specs.Checks.{Test, numbers_fit, names_known, sorts_fit, ones_left_out, atom_passes, monomial_passes, factor_passes, sum_passes}
 use Rattle.term_values.specs.Checks.{polynomial_passes, array_passes, list_passes}
@@ -53,7 +54,7 @@ sorted passes find e =
     let d : Option TermError = unless (passes ones_left_out) NotNormal in
     passed (passes (sorts_fit find)) SortOf (none_left c d (none_right b (option_or c d) (none_right a (option_or b (option_or c d)) e)))
 
-pub sorts_same : (s t : Sort) → same_sort s t ≡ true → t ≡ s
+pub sorts_same : (s t : Sort) → same_term_sort s t ≡ true → t ≡ s
 sorts_same sort.Scalar sort.Scalar e = refl
 sorts_same sort.Scalar sort.Array e = absurd (cc e)
 sorts_same sort.Scalar sort.List e = absurd (cc e)

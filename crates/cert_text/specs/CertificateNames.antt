@@ -1,42 +1,29 @@
 -- What the names of a certificate stand for.
-use Rattle.std.specs.Prelude.{ℕ, ◌==◌, Bool, true, false, not, ◌&&◌, cond, List, [], ◌∷◌, map, Option, Some, None, slice_get}
+use Rattle.std.specs.Prelude.{ℕ, ◌==◌, Bool, not, ◌&&◌, cond, List, [], ◌∷◌, map, Option, Some, None, slice_get}
 use Rattle.std.specs.Prelude.{option_and_then, option_map}
 use Rattle.fs_model.specs.declared.parts.Sort.{Sort}
 use Rattle.fs_model.specs.declared.parts.Sort.TheVariants as sort
-use Rattle.fs_model.specs.declared.parts.VarInfo.{VarInfo}
 use Rattle.fs_model.specs.Machines.{Fsmd}
 use Rattle.fs_rules.specs.Places.{first_place}
 use Rattle.fs_pair.specs.declared.positions.Position.{Position}
-use Rattle.fs_pair.specs.SidedVariables.{same_side}
-use Rattle.fs_pair.specs.Partners.{variables_on}
+use Rattle.fs_pair.specs.Partners.{position_name}
 use Rattle.fs_model.specs.declared.sides.Side.{Side}
 use Rattle.fs_model.specs.declared.sides.Side.TheVariants.{Left, Right}
 use Rattle.fs_model.specs.declared.sides.Pos.{Pos}
+use Rattle.fs_model.specs.Runs.{is_port}
+use Rattle.fs_model.specs.Sides.{same_side}
 use Rattle.nf_terms.specs.declared.symbols.Sort.{Sort as TermSort}
 use Rattle.sym_facts.specs.Facts.{sort_of_terms}
 use Rattle.term_values.specs.NameMeanings.{Find}
 
-abbrev pub name_or_empty : Option VarInfo → List ℕ
-name_or_empty None = []
-name_or_empty (Some v) = v.name
-
--- the name of a position
-abbrev pub name_of : (a b : Fsmd) → Pos → List ℕ
-name_of a b p = name_or_empty (slice_get (variables_on p.side a b) p.var)
-
 -- the names of one side along the positions, empty at those of the other side
 abbrev pub names_on : (a b : Fsmd) → Side → List Position → List (List ℕ)
-names_on a b side ps = map (λ p. cond (same_side p.pos.side side) (name_of a b p.pos) []) ps
+names_on a b side ps = map (λ p. cond (same_side p.pos.side side) (position_name a b p.pos) []) ps
 
 -- the place of the position of a name; the empty name has none
 abbrev pub place_named : (a b : Fsmd) → List Position → Side → List ℕ → Option ℕ
 place_named a b ps side [] = None
 place_named a b ps side (c ∷ cs) = first_place (names_on a b side ps) (c ∷ cs)
-
-abbrev pub is_port : Sort → Bool
-is_port sort.Scalar = false
-is_port sort.Array = false
-is_port sort.Port = true
 
 -- whether a sort has positions in a file of a format: in format 1 a port is none
 abbrev pub is_in_format : ℕ → Sort → Bool

@@ -23,7 +23,7 @@ use Rattle.cert_json.specs.WrittenJson.{NodeText}
 use Rattle.cert_text.specs.declared.faults.CertError.{CertError}
 use Rattle.cert_text.specs.declared.faults.CertError.TheVariants as errors
 use Rattle.cert_text.specs.CertificateNames.{is_in_format, name_place, place_by_key}
-use Rattle.cert_text.specs.TextReaders.{TextReader}
+use Rattle.cert_text.specs.TextMeanings.{TextMeanings}
 use Rattle.cert_text.specs.NodePointNames.{StateTables, then_part, points_read}
 
 -- what equations and conditions are read against: the places of names, the positions, the format, and what texts stand for
@@ -31,7 +31,7 @@ pub record TermContext : Type 0 where
   pub place : Side → List ℕ → Option ℕ
   pub positions : List Position
   pub format : ℕ
-  pub texts : TextReader
+  pub texts : TextMeanings
 
 -- what a file is read against
 pub record Context : Type 0 where
@@ -82,8 +82,8 @@ equations_read c i fs (e ∷ es) = then_part (equation_put c i fs e) (λ gs. equ
 abbrev pub unwritten_of : ℕ → Sort → Option Nf
 unwritten_of format s = cond (is_in_format format s) None (Some (Seq (bare_list base.Empty)))
 
-abbrev pub unwritten : ℕ → Position → Option Nf
-unwritten format p = unwritten_of format p.sort
+abbrev pub unwritten_equation : ℕ → Position → Option Nf
+unwritten_equation format p = unwritten_of format p.sort
 
 -- conditions in order, behind those before
 abbrev pub conditions_read : TermContext → ℕ → List NormalLiteral → List (List ℕ) → Result (List NormalLiteral) CertError
@@ -106,7 +106,7 @@ mode_named s = cond (bytes_eq s (codes "both")) mode.Both
 -- the fact of node i: its equations, then its conditions, and then whether it is solved
 unfoldable pub node_fact : TermContext → ℕ → NodeText → Result Fact CertError
 node_fact c i n =
-    then_part (equations_read c i (map (unwritten c.format) c.positions) n.equations) (λ fs.
+    then_part (equations_read c i (map (unwritten_equation c.format) c.positions) n.equations) (λ fs.
     then_part (conditions_read c i [] n.conds) (λ ls. fact_read c i fs ls))
 
 -- node i behind others: first its points, then its fact

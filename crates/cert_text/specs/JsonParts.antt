@@ -1,26 +1,14 @@
 -- The parts of a certificate in its JSON.
 use Rattle.std.specs.Prelude.{ℕ, List, [], ◌∷◌, Option, Some, None, option_and_then, codes}
-use Rattle.serde_json.specs.Data.{Data, Items, no_items, item, Members, no_members, member}
+use Rattle.serde_json.specs.Data.{Data, Items, no_items, item, Members, no_members}
 use Rattle.serde_json.specs.Find.{get, as_str, as_array, as_object}
 use Rattle.cert_json.specs.Shape.{whole_number_in}
 use Rattle.cert_json.specs.WrittenJson.{NodeText}
-
--- a text, empty where there is none
-abbrev pub text_or_empty : Option (List ℕ) → List ℕ
-text_or_empty None = []
-text_or_empty (Some s) = s
-
-abbrev pub text_of : Data → List ℕ
-text_of d = text_or_empty (as_str d)
+use Rattle.cert_json.specs.JsonTexts.{text_or_empty, text_of, named_texts_of}
 
 abbrev pub texts_of : Items → List (List ℕ)
 texts_of no_items = []
 texts_of (item d ds) = text_of d ∷ texts_of ds
-
--- the texts of members, with their names
-abbrev pub named_texts_of : Members → List (List ℕ × List ℕ)
-named_texts_of no_members = []
-named_texts_of (member k d ms) = (k, text_of d) ∷ named_texts_of ms
 
 abbrev pub items_or_none : Option Items → Items
 items_or_none None = no_items

@@ -1,6 +1,6 @@
 pub mod JsonParts
 pub mod CertificateNames
-pub mod TextReaders
+pub mod TextMeanings
 pub mod PartAnswers
 pub mod NodePointNames
 pub mod CertificateReading

@@ -33,8 +33,8 @@ abbrev pub node_is_at : (left right : Point) → Node Fact → Bool
 node_is_at P Q n = same_point n.left P && same_point n.right Q
 
 -- the points of node i, where no other node stands there
-abbrev pub noted : ℕ → List (Node Fact) → (left right : Point) → Result (Point × Point) CertError
-noted i earlier P Q = cond (list_any (node_is_at P Q) earlier) (Err (TwiceNode i)) (Ok (P, Q))
+abbrev pub points_if_new : ℕ → List (Node Fact) → (left right : Point) → Result (Point × Point) CertError
+points_if_new i earlier P Q = cond (list_any (node_is_at P Q) earlier) (Err (TwiceNode i)) (Ok (P, Q))
 
 -- what points are looked up in: two machines, and the numbers of their states by name
 pub record StateTables : Type 0 where
@@ -49,4 +49,4 @@ points_read i s earlier left right =
     then_part (known_point i (point_named s.left left)) (λ P.
     then_part (known_point i (point_named s.right right)) (λ Q.
     then_part (cut_point i s.a P) (λ R.
-    then_part (cut_point i s.b Q) (λ S. noted i earlier R S))))
+    then_part (cut_point i s.b Q) (λ S. points_if_new i earlier R S))))

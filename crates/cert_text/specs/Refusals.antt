@@ -15,23 +15,23 @@ use Rattle.cert_model.specs.declared.cert.Cert.{Cert}
 use Rattle.cert_model.specs.View.{node_of}
 use Rattle.cert_text.specs.JsonParts.{file_nodes, file_format}
 use Rattle.cert_text.specs.CertificateNames.{state_named, place_named, find_in}
-use Rattle.cert_text.specs.TextReaders.{TextReader, AreRead}
+use Rattle.cert_text.specs.TextMeanings.{TextMeanings, AreRead}
 use Rattle.cert_text.specs.CertificateReading.{Context, nodes_read}
 
 -- a file of two machines is read against their states, their positions by name, its format and what texts stand for
-abbrev pub context_of : (a b : Fsmd) → (format : ℕ) → TextReader → Context
+abbrev pub context_of : (a b : Fsmd) → (format : ℕ) → TextMeanings → Context
 context_of a b format r = record {
   states = record { a = a; b = b; left = state_named a; right = state_named b };
   terms = record { place = place_named a b (positions a b); positions = positions a b; format = format; texts = r };
 }
 
 -- what comes of the nodes of a file
-abbrev pub file_read : (a b : Fsmd) → Data → TextReader → Result (List (Node Fact)) CertError
+abbrev pub file_read : (a b : Fsmd) → Data → TextMeanings → Result (List (Node Fact)) CertError
 file_read a b d r = nodes_read (context_of a b (file_format d) r) 0 [] (file_nodes d)
 
 -- the nodes of a file come to this, whatever functions say what its texts stand for
 abbrev pub ComesTo : (a b : Fsmd) → Data → Result (List (Node Fact)) CertError → Type 0
-ComesTo a b d y = (r : TextReader) → AreRead (find_in (place_named a b (positions a b)) (positions a b) (file_format d)) r
+ComesTo a b d y = (r : TextMeanings) → AreRead (find_in (place_named a b (positions a b)) (positions a b) (file_format d)) r
     → file_read a b d r ≡ y
 
 -- an answer is what the nodes of a file come to, or memory was refused

@@ -4,14 +4,14 @@ use Rattle.nf_terms.specs.Forms.{sort_of_form}
 use Rattle.nf_terms.specs.declared.form.Nf.{Nf}
 use Rattle.cert_text.specs.declared.names.Places.{Places}
 use Rattle.cert_text.specs.declared.repeats.ReadText.{ReadText}
-use Rattle.cert_text.specs.TextFunctions.{texts_by}
+use Rattle.cert_text.specs.TextFunctions.{meanings_by}
 use Rattle.cert_text.specs.CertificateReading.{sort_at}
 use Rattle.cert_text.specs.View.{find_of}
 use Rattle.cert_text.specs.Within.{FormWithin}
 
 -- a text at a place stands for a form
 pub record IsReadAs (t : Places) (k : ℕ) (text : List ℕ) (f : Nf) : Type 0 where
-  pub told : (texts_by (find_of t)).term (sort_at t.positions.now k) text ≡ Ok f
+  pub told : (meanings_by (find_of t)).term (sort_at t.positions.now k) text ≡ Ok f
   pub sort : sort_of_form f ≡ sort_at t.positions.now k
   pub within : FormWithin (find_of t) f
 

@@ -7,6 +7,7 @@ use Rattle.nf_terms.specs.declared.symbols.Sort.{Sort}
 use Rattle.nf_terms.specs.declared.symbols.Sort.TheVariants as sort
 use Rattle.nf_terms.specs.declared.form.Nf.{Nf}
 use Rattle.nf_terms.specs.declared.form.Nf.TheVariants.{Num, Arr, Seq}
+use Rattle.nf_terms.specs.TermSorts.{same_term_sort}
 use Rattle.nf_rel.specs.Literals.{NormalLiteral}
 use Rattle.nf_rel.specs.declared.kind.Kind.{Kind}
 use Rattle.term_text.specs.TermTexts.{TermSyntax, polynomial, array, list}
@@ -16,11 +17,11 @@ use Rattle.term_condition_text.specs.ConditionTexts.{Integer, Condition, False, 
 use Rattle.term_condition_text.specs.ConditionParts.{condition_parts}
 use Rattle.term_values.specs.declared.faults.TermError.{TermError}
 use Rattle.term_values.specs.declared.faults.TermError.TheVariants.{BadTerm}
-use Rattle.term_values.specs.NameMeanings.{Find, same_sort}
+use Rattle.term_values.specs.NameMeanings.{Find}
 use Rattle.term_values.specs.TermValues.{exact, polynomial_value, array_value, list_value}
 use Rattle.term_values.specs.Conditions.{condition_value}
 use Rattle.term_values.specs.TermFaults.{sort_of_term, term_fault, condition_fault}
-use Rattle.cert_text.specs.TextReaders.{TextReader}
+use Rattle.cert_text.specs.TextMeanings.{TextMeanings}
 
 -- the state that a whole term of a sort begins in
 abbrev pub beginning_of : Sort → Owed
@@ -30,7 +31,7 @@ beginning_of sort.List = at_list
 
 abbrev pub if_of_sort : Sort → Option TermSyntax → Option TermSyntax
 if_of_sort s None = None
-if_of_sort s (Some t) = cond (same_sort s (sort_of_term t)) (Some t) None
+if_of_sort s (Some t) = cond (same_term_sort s (sort_of_term t)) (Some t) None
 
 -- the term of a sort that bytes spell
 abbrev pub term_spelled_by : Sort → List ℕ → Option TermSyntax
@@ -68,8 +69,8 @@ condition_judged find None = Err BadTerm
 condition_judged find (Some c) = unless_fault (condition_fault find c) (condition_value (exact find) c)
 
 -- what texts stand for, by their grammar
-unfoldable pub texts_by : Find → TextReader
-texts_by find = record {
+unfoldable pub meanings_by : Find → TextMeanings
+meanings_by find = record {
   term = λ s bytes. term_judged find (term_spelled_by s bytes);
   condition = λ bytes. condition_judged find (condition_spelled_by bytes);
 }

@@ -7,7 +7,7 @@ use Rattle.cert_text.specs.declared.context.Context.{Context as CodeContext}
 use Rattle.cert_text.specs.declared.names.Places.{Places}
 use Rattle.cert_text.specs.CertificateNames.{find_in}
 use Rattle.cert_text.specs.NodePointNames.{StateTables}
-use Rattle.cert_text.specs.TextFunctions.{texts_by}
+use Rattle.cert_text.specs.TextFunctions.{meanings_by}
 use Rattle.cert_text.specs.CertificateReading.{TermContext, Context}
 use Rattle.cert_text.specs.NameTables.{name_number}
 
@@ -23,7 +23,7 @@ abbrev pub states_in : CodeContext → StateTables
 states_in c = record { a = c.a.now; b = c.b.now; left = name_number c.left_states; right = name_number c.right_states }
 
 abbrev pub terms_in : Places → TermContext
-terms_in t = record { place = place_in_tables t; positions = t.positions.now; format = t.format; texts = texts_by (find_of t) }
+terms_in t = record { place = place_in_tables t; positions = t.positions.now; format = t.format; texts = meanings_by (find_of t) }
 
 abbrev pub context_in : CodeContext → Context
 context_in c = record { states = states_in c; terms = terms_in c.places }

@@ -4,7 +4,7 @@ ghost use Rattle.std.specs.Prelude.{◌≡◌, ℕ, List, IfOk};
 ghost use Rattle.fs_pair.specs.Positions.{positions};
 ghost use Rattle.cert_text.specs.CertificateNames.{state_named, place_named, find_in};
 ghost use Rattle.cert_text.specs.NameTables.{name_number};
-ghost use Rattle.cert_text.specs.TextFunctions.{texts_by};
+ghost use Rattle.cert_text.specs.TextFunctions.{meanings_by};
 ghost use Rattle.cert_text.specs.Refusals.{context_of as context_of_machines};
 ghost use Rattle.cert_text.specs.View.{context_in};
 
@@ -64,7 +64,7 @@ pub fn context_of<'a>(
     requires { p.now ≡ positions a.now b.now }
     ensures same { IfOk result
         (λ c. context_in c ≡ context_of_machines a.now b.now format
-        (texts_by (find_in (place_named a.now b.now (positions a.now b.now)) (positions a.now b.now) format))) }
+        (meanings_by (find_in (place_named a.now b.now (positions a.now b.now)) (positions a.now b.now) format))) }
     ensures pairing { IfOk result (λ c. c.pairing.now ≡ c.places.positions.now) }
 {
     let left_states = states_of(alloc, a)?;

@@ -2,14 +2,15 @@
 
 ghost use Rattle.std.specs.Prelude.{◌≡◌, ◌<◌, [], Ok, Some, length, map, IsTrue, IfOk, OnOk};
 ghost use Rattle.std.specs.List.{list_all, AllByRecursion};
+ghost use Rattle.cert_json.specs.JsonTexts.{named_texts_of};
 ghost use Rattle.serde_json.specs.View.{items_view, members_view};
 ghost use Rattle.nf_terms.specs.Forms.{sort_of_form};
 ghost use Rattle.nf_rel.specs.View.{literal_in};
 ghost use Rattle.sym_facts.specs.Facts.{may_be_kept};
-ghost use Rattle.cert_text.specs.JsonParts.{texts_of, named_texts_of};
+ghost use Rattle.cert_text.specs.JsonParts.{texts_of};
 ghost use Rattle.cert_text.specs.CertificateNames.{name_place, place_by_key};
 ghost use Rattle.cert_text.specs.PartAnswers.{Tells};
-ghost use Rattle.cert_text.specs.CertificateReading.{known_place as known, unwritten as unwritten_at, unwritten_of};
+ghost use Rattle.cert_text.specs.CertificateReading.{known_place as known, unwritten_equation as unwritten_at, unwritten_of};
 ghost use Rattle.cert_text.specs.CertificateReading.{sort_at as sort_of_place, equation_read, equation_put, equations_read};
 ghost use Rattle.cert_text.specs.CertificateReading.{conditions_read};
 ghost use Rattle.cert_text.specs.View.{place_in_tables, find_of, terms_in};
@@ -32,7 +33,7 @@ use serde_json::{Map, Value};
 use std::alloc::Global;
 
 // The equation of a position without key.
-fn unwritten(alloc: Global, format: u64, sort: Sort) -> Option<Nf>
+fn equation_without_key(alloc: Global, format: u64, sort: Sort) -> Option<Nf>
     ensures { result ≡ unwritten_of format sort }
 {
     if is_in_format(format, sort) {
@@ -52,7 +53,7 @@ pub fn all_unwritten(
 {
     let mut out = Vec::new(alloc);
     for position in positions {
-        out.push(unwritten(alloc, format, position.sort))?;
+        out.push(equation_without_key(alloc, format, position.sort))?;
     }
     Ok(out)
 }

@@ -5,7 +5,7 @@ ghost use Rattle.nf_terms.specs.Forms.{sort_of_form};
 ghost use Rattle.nf_rel.specs.View.{literal_in};
 ghost use Rattle.sym_facts.specs.Facts.{may_be_kept};
 ghost use Rattle.nf_terms.specs.declared.symbols.Sort.TheVariants as sorts;
-ghost use Rattle.cert_text.specs.TextFunctions.{texts_by};
+ghost use Rattle.cert_text.specs.TextFunctions.{meanings_by};
 ghost use Rattle.cert_text.specs.PartAnswers.{Tells, TellsText, stop_of};
 ghost use Rattle.cert_text.specs.CertificateReading.{text_read};
 ghost use Rattle.cert_text.specs.Within.{FormWithin, LiteralWithin};
@@ -23,7 +23,7 @@ use term_values::reader::{read_arr, read_poly, read_seq};
 // The polynomial of a text as a form.
 #[tactic(auto, using(crate::proofs::Told::number_texts))]
 fn read_number<N: Names>(alloc: Global, names: &N, text: &[u8]) -> Result<Nf, TermError>
-    ensures told { TellsText (λ f. f) result ((texts_by (N.find names.now)).term sorts.Scalar text.now) }
+    ensures told { TellsText (λ f. f) result ((meanings_by (N.find names.now)).term sorts.Scalar text.now) }
     ensures sort { IfOk result (λ f. sort_of_form f ≡ sorts.Scalar) }
     ensures within { IfOk result (FormWithin (N.find names.now)) }
 {
@@ -33,7 +33,7 @@ fn read_number<N: Names>(alloc: Global, names: &N, text: &[u8]) -> Result<Nf, Te
 // The array of a text as a form.
 #[tactic(auto, using(crate::proofs::Told::array_texts))]
 fn read_array<N: Names>(alloc: Global, names: &N, text: &[u8]) -> Result<Nf, TermError>
-    ensures told { TellsText (λ f. f) result ((texts_by (N.find names.now)).term sorts.Array text.now) }
+    ensures told { TellsText (λ f. f) result ((meanings_by (N.find names.now)).term sorts.Array text.now) }
     ensures sort { IfOk result (λ f. sort_of_form f ≡ sorts.Array) }
     ensures within { IfOk result (FormWithin (N.find names.now)) }
 {
@@ -43,7 +43,7 @@ fn read_array<N: Names>(alloc: Global, names: &N, text: &[u8]) -> Result<Nf, Ter
 // The list of a text as a form.
 #[tactic(auto, using(crate::proofs::Told::list_texts))]
 fn read_list<N: Names>(alloc: Global, names: &N, text: &[u8]) -> Result<Nf, TermError>
-    ensures told { TellsText (λ f. f) result ((texts_by (N.find names.now)).term sorts.List text.now) }
+    ensures told { TellsText (λ f. f) result ((meanings_by (N.find names.now)).term sorts.List text.now) }
     ensures sort { IfOk result (λ f. sort_of_form f ≡ sorts.List) }
     ensures within { IfOk result (FormWithin (N.find names.now)) }
 {
@@ -52,7 +52,7 @@ fn read_list<N: Names>(alloc: Global, names: &N, text: &[u8]) -> Result<Nf, Term
 
 // The term of a sort that a text stands for.
 fn term_of<N: Names>(alloc: Global, names: &N, sort: Sort, text: &[u8]) -> Result<Nf, TermError>
-    ensures told { TellsText (λ f. f) result ((texts_by (N.find names.now)).term sort text.now) }
+    ensures told { TellsText (λ f. f) result ((meanings_by (N.find names.now)).term sort text.now) }
     ensures sort { IfOk result (λ f. sort_of_form f ≡ sort) }
     ensures within { IfOk result (FormWithin (N.find names.now)) }
 {
@@ -66,7 +66,7 @@ fn term_of<N: Names>(alloc: Global, names: &N, sort: Sort, text: &[u8]) -> Resul
 // The literal that a text stands for.
 #[tactic(auto, using(crate::proofs::Told::condition_texts))]
 fn condition_of<N: Names>(alloc: Global, names: &N, text: &[u8]) -> Result<NLit, TermError>
-    ensures told { TellsText literal_in result ((texts_by (N.find names.now)).condition text.now) }
+    ensures told { TellsText literal_in result ((meanings_by (N.find names.now)).condition text.now) }
     ensures kept { IfOk result (λ l. may_be_kept (literal_in l) ≡ true) }
     ensures within { IfOk result (λ l. LiteralWithin (N.find names.now) (literal_in l)) }
 {
@@ -96,7 +96,7 @@ pub fn read_term<N: Names>(
     sort: Sort,
     text: &[u8],
 ) -> Result<Nf, Stop>
-    ensures told { Tells (λ f. f) result (text_read node ((texts_by (N.find names.now)).term sort text.now)) }
+    ensures told { Tells (λ f. f) result (text_read node ((meanings_by (N.find names.now)).term sort text.now)) }
     ensures sort { IfOk result (λ f. sort_of_form f ≡ sort) }
     ensures within { IfOk result (FormWithin (N.find names.now)) }
 {
@@ -114,7 +114,7 @@ pub fn read_condition<N: Names>(
     node: u32,
     text: &[u8],
 ) -> Result<NLit, Stop>
-    ensures told { Tells literal_in result (text_read node ((texts_by (N.find names.now)).condition text.now)) }
+    ensures told { Tells literal_in result (text_read node ((meanings_by (N.find names.now)).condition text.now)) }
     ensures kept { IfOk result (λ l. may_be_kept (literal_in l) ≡ true) }
     ensures within { IfOk result (λ l. LiteralWithin (N.find names.now) (literal_in l)) }
 {

@@ -5,15 +5,15 @@ ghost use Rattle.fs_model.specs.Machines.{Fsmd};
 ghost use Rattle.cert_bisimulation.specs.Tables.{Node};
 ghost use Rattle.sym_facts.specs.Facts.{Fact};
 ghost use Rattle.term_values.specs.NameMeanings.{Find};
-ghost use Rattle.cert_text.specs.TextReaders.{AreRead};
-ghost use Rattle.cert_text.specs.TextFunctions.{texts_by};
+ghost use Rattle.cert_text.specs.TextMeanings.{AreRead};
+ghost use Rattle.cert_text.specs.TextFunctions.{meanings_by};
 ghost use Rattle.cert_text.specs.Refusals.{SpellsNodes, IsRefusedAsCertificate};
 ghost use Rattle.cert_text.specs.declared.faults.CertError.{CertError};
 ghost use Rattle.cert_text.specs.declared.faults.CertError.TheVariants as errors;
 
 /// There are functions that say of each text what its grammar says: what speaks of all such functions speaks of some.
 pub fn texts_are_read()
-    ensures { (find : Find) → AreRead find (texts_by find) }
+    ensures { (find : Find) → AreRead find (meanings_by find) }
 {}
 
 /// Bytes spell at most one list of nodes. Where they spell one, they are refused for memory alone.

@@ -2,9 +2,9 @@
 
 ghost use Rattle.std.specs.Prelude.{◌≡◌, ◌<◌, ◌≤◌, length, map, IfOk, IfSome};
 ghost use Rattle.fs_model.specs.Limits.{most_states};
-ghost use Rattle.fs_pair.specs.Partners.{variables_on as variables_of};
+ghost use Rattle.fs_pair.specs.Partners.{variables_on as variables_of, position_name};
 ghost use Rattle.sym_facts.specs.Facts.{sort_of_terms as sort_for_terms};
-ghost use Rattle.cert_text.specs.CertificateNames.{is_in_format as in_format, names_on as names_of, name_of};
+ghost use Rattle.cert_text.specs.CertificateNames.{is_in_format as in_format, names_on as names_of};
 ghost use Rattle.cert_text.specs.CertificateNames.{machine_state_names as names_of_states, name_place, place_by_key};
 ghost use Rattle.cert_text.specs.View.{place_in_tables};
 
@@ -109,7 +109,7 @@ fn variables_on<'a>(side: Side, a: &'a Machine, b: &'a Machine) -> &'a [VarInfo]
 
 // The name of a position.
 fn name_at<'a>(a: &'a Machine, b: &'a Machine, pos: Pos) -> &'a [u8]
-    ensures { result.now ≡ name_of a.now b.now pos }
+    ensures { result.now ≡ position_name a.now b.now pos }
 {
     match variables_on(pos.side, a, b).get(pos.var as usize) {
         Some(variable) => variable.name.bytes(),

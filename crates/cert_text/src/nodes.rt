@@ -12,7 +12,8 @@ ghost use Rattle.cert_model.specs.View.{node_of};
 ghost use Rattle.cert_text.specs.JsonParts.{json_number as number_under, equations_in, node_text_in, node_texts};
 ghost use Rattle.cert_text.specs.PartAnswers.{Tells};
 ghost use Rattle.cert_text.specs.NodePointNames.{node_is_at};
-ghost use Rattle.cert_text.specs.CertificateReading.{mode_named as mode_of, unwritten, equations_read, fact_read, node_fact};
+ghost use Rattle.cert_text.specs.CertificateReading.{mode_named as mode_of, unwritten_equation, equations_read, fact_read};
+ghost use Rattle.cert_text.specs.CertificateReading.{node_fact};
 ghost use Rattle.cert_text.specs.CertificateReading.{node_read, node_added, nodes_read};
 ghost use Rattle.cert_text.specs.Repeats.{AreLast};
 ghost use Rattle.cert_text.specs.View.{find_of, terms_in, context_in};
@@ -58,7 +59,7 @@ fn read_equations(
 ) -> Result<Vec<Option<Nf>>, Stop>
     requires { AreLast c.now.places last.old.items }
     ensures told { Tells (λ fs. fs.items) result
-        (equations_read (terms_in c.now.places) node (map (unwritten c.now.places.format) c.now.places.positions.now)
+        (equations_read (terms_in c.now.places) node (map (unwritten_equation c.now.places.format) c.now.places.positions.now)
         (equations_in (view value.now))) }
     ensures kept { IfOk result (λ fs. AreEquationsOf c.now.places.positions.now fs.items) }
     ensures last { OnOk result (AreLast c.now.places last.new.items) }

@@ -1,9 +1,10 @@
 //! The parts of a certificate in its JSON.
 
 ghost use Rattle.std.specs.Prelude.{◌≡◌, option_map, option_and_then};
+ghost use Rattle.cert_json.specs.JsonTexts.{text_of as text_in};
 ghost use Rattle.serde_json.specs.Find.{get, as_array, as_object};
 ghost use Rattle.serde_json.specs.View.{view, items_view, members_view};
-ghost use Rattle.cert_text.specs.JsonParts.{text_of as text_in, text_at as text_under, json_number as number_under};
+ghost use Rattle.cert_text.specs.JsonParts.{text_at as text_under, json_number as number_under};
 ghost use Rattle.cert_text.specs.JsonParts.{items_or_none};
 
 use serde_json::{Map, Value};

@@ -9,7 +9,7 @@ ghost use Rattle.cert_model.specs.View.{node_of};
 ghost use Rattle.cert_text.specs.PartAnswers.{Tells};
 ghost use Rattle.cert_text.specs.NameTables.{name_number};
 ghost use Rattle.cert_text.specs.NodePointNames.{point_named as named, known_point as known, cut_point as cut};
-ghost use Rattle.cert_text.specs.NodePointNames.{node_is_at as stands_at, noted, points_read};
+ghost use Rattle.cert_text.specs.NodePointNames.{node_is_at as stands_at, points_if_new, points_read};
 ghost use Rattle.cert_text.specs.View.{states_in};
 
 use crate::context::Context;
@@ -111,7 +111,7 @@ fn free_points(
     right: Point,
 ) -> Result<(Point, Point), Stop>
     ensures told { Tells (λ P. (point_of P.0, point_of P.1)) result
-        (noted node (map node_of earlier.now) (point_of left) (point_of right)) }
+        (points_if_new node (map node_of earlier.now) (point_of left) (point_of right)) }
     ensures free { IfOk result (λ P. list_any (stands_at (point_of P.0) (point_of P.1)) (map node_of earlier.now) ≡ false) }
     ensures same { IfOk result (λ P. P ≡ (left, right)) }
 {

@@ -3,7 +3,7 @@
 ghost use Rattle.std.specs.Prelude.{◌≡◌, ◌<◌, length, option_map, IfOk, IfSome, OnOk};
 ghost use Rattle.nf_terms.specs.Forms.{sort_of_form};
 ghost use Rattle.cert_text.specs.PartAnswers.{Tells};
-ghost use Rattle.cert_text.specs.TextFunctions.{texts_by};
+ghost use Rattle.cert_text.specs.TextFunctions.{meanings_by};
 ghost use Rattle.cert_text.specs.CertificateReading.{text_read, sort_at as sort_of_place};
 ghost use Rattle.cert_text.specs.Repeats.{IsReadAs, last_at, AreLast};
 ghost use Rattle.cert_text.specs.View.{find_of};
@@ -58,7 +58,7 @@ fn sort_at(positions: &[Position], place: u32) -> TermSort
 }
 
 // The form of a text at a place, where that text was read last there. The one refusal is out of memory.
-fn repeated(
+fn find_repeated(
     alloc: Global,
     places: &Places<'_>,
     place: u32,
@@ -113,12 +113,12 @@ pub fn read_at(
     requires place { place < length places.now.positions.now }
     requires last { AreLast places.now last.old.items }
     ensures told { Tells (λ f. f) result
-        (text_read node ((texts_by (find_of places.now)).term (sort_of_place places.now.positions.now place) text.now)) }
+        (text_read node ((meanings_by (find_of places.now)).term (sort_of_place places.now.positions.now place) text.now)) }
     ensures sort { IfOk result (λ f. sort_of_form f ≡ sort_of_place places.now.positions.now place) }
     ensures within { IfOk result (FormWithin (find_of places.now)) }
     ensures last { OnOk result (AreLast places.now last.new.items) }
 {
-    if let Some(form) = repeated(alloc, places, place, text, last.as_slice())? {
+    if let Some(form) = find_repeated(alloc, places, place, text, last.as_slice())? {
         return Ok(form);
     }
     let sort = sort_at(places.positions, place);

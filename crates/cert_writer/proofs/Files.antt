@@ -11,7 +11,9 @@ use Rattle.serde_json.specs.Read.{read}
 use Rattle.serde_json.specs.Written.{has_float, items_have_float, members_have_float, compact_text}
 use Rattle.serde_json.proofs.OnLiterals.{serde_json_on_literals}
 use Rattle.fs_model.specs.Machines.{Fsmd}
+use Rattle.fs_model.specs.Runs.{is_port}
 use Rattle.fs_pair.specs.declared.positions.Position.{Position}
+use Rattle.fs_pair.specs.Partners.{position_name}
 use Rattle.cert_bisimulation.specs.declared.mode.Mode.{Mode}
 use Rattle.cert_bisimulation.specs.declared.mode.Mode.TheVariants as mode
 use Rattle.cert_bisimulation.specs.Tables.{Node}
@@ -20,7 +22,6 @@ use Rattle.cert_model.specs.Lawful.{IsLawful}
 use Rattle.cert_json.specs.Shape.{are_texts, name_texts, is_mode_name, is_node, are_nodes, is_format, is_file, has_many_conditions, some_has_many, has_too_many}
 use Rattle.cert_json.specs.Refusals.{IsFileOf}
 use Rattle.cert_json.specs.WrittenJson.{NodeText, texts, named_texts, node_data, nodes_data, file_data}
-use Rattle.cert_writer.specs.PositionNames.{name_of, is_port}
 use Rattle.cert_writer.specs.WrittenCertificates.{literal_bytes, mode_written, node_written, needed_format, file_written}
 use Rattle.cert_model.specs.Kept.{HasNormalFact}
 
@@ -112,7 +113,7 @@ nodes_len (n ∷ ns) = ap suc (nodes_len ns)
 node_few : (a b : Fsmd) (n : Node Fact) → HasNormalFact n → has_many_conditions (node_data (node_written a b n)) ≡ false
 unfolding serde_json_on_literals
 node_few a b n k = let ss = (node_written a b n).conds in
-    le-ltb 64 (items_len (texts ss)) (omega (arith, texts_len ss, length_map (literal_bytes (name_of a b)) n.fact.literals, k.fact.few))
+    le-ltb 64 (items_len (texts ss)) (omega (arith, texts_len ss, length_map (literal_bytes (position_name a b)) n.fact.literals, k.fact.few))
 
 nodes_few : (a b : Fsmd) (ns : List (Node Fact)) → AllByRecursion HasNormalFact ns → some_has_many (nodes_data (map (node_written a b) ns)) ≡ false
 nodes_few a b [] h = refl

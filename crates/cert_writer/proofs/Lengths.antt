@@ -8,19 +8,21 @@ use Rattle.std.specs.Cmp.Lexicographic.{slice_cmp}
 use Rattle.std.proofs.lemmas.Bool.Decides.{nat_tests}
 use Rattle.std.proofs.lemmas.Fmt.{length-decimal-le_wide}
 use Rattle.base_lemmas.proofs.Booleans.{and_first, and_second}
+use Rattle.fs_rules.specs.SoundParts.{IsSound}
 use Rattle.json.specs.Print.{escape, escape_byte, quoted}
 use Rattle.serde_json.specs.Data.{Data, unsigned, number, string, array, object, Items, item, Members, no_members, member, put}
 use Rattle.serde_json.specs.Written.{compact_text, items_text, members_text, comma_if}
 use Rattle.serde_json.proofs.OnLiterals.{serde_json_on_literals}
 use Rattle.fs_model.specs.Machines.{State, Fsmd}
 use Rattle.fs_model.specs.Words.{is_name}
-use Rattle.fs_ast.specs.SoundMachines.{IsSound}
 use Rattle.fs_cut.specs.Paths.{Point, Start, At, Done}
 use Rattle.fs_pair.specs.declared.positions.Position.{Position}
+use Rattle.fs_pair.specs.Partners.{position_name}
 use Rattle.cert_bisimulation.specs.declared.mode.Mode.{Mode}
 use Rattle.cert_bisimulation.specs.declared.mode.Mode.TheVariants as mode
 use Rattle.cert_bisimulation.specs.Tables.{Node}
 use Rattle.fs_model.specs.declared.sides.Pos.{Pos}
+use Rattle.fs_model.specs.Runs.{is_port}
 use Rattle.nf_terms.specs.declared.form.Nf.{Nf}
 use Rattle.nf_rel.specs.Literals.{NormalLiteral, True}
 use Rattle.nf_rel.specs.NormalLiterals.{is_normal_literal, same_literal}
@@ -29,7 +31,6 @@ use Rattle.term_text.specs.TermTexts.{symbol_text}
 use Rattle.term_writer.proofs.Plain.{is_plain, ArePlain}
 use Rattle.term_writer.proofs.Bound.{symbol_short}
 use Rattle.cert_json.specs.WrittenJson.{NodeText, texts, named_texts, node_data, nodes_data}
-use Rattle.cert_writer.specs.PositionNames.{name_of, is_port}
 use Rattle.cert_writer.specs.WrittenCertificates.{form_written, literal_bytes, with_equation_member, equations_written, point_written, mode_written}
 use Rattle.cert_writer.specs.WrittenCertificates.{node_written, needed_format, file_written}
 use Rattle.cert_model.specs.Sizes.{units_of}
@@ -104,18 +105,18 @@ kept_normal l e = and_second (not (same_literal l True)) (is_normal_literal l) e
 
 module _ (a b : Fsmd) (s : IsSound a) (t : IsSound b) where
   conditions_length : (later : Bool) (ls : List NormalLiteral) → list_all may_be_kept ls ≡ true
-      → length (items_text later (texts (map (literal_bytes (name_of a b)) ls))) ≤ 1 + 47 * size_of_literals ls
+      → length (items_text later (texts (map (literal_bytes (position_name a b)) ls))) ≤ 1 + 47 * size_of_literals ls
   conditions_length later [] e = omega arith
   conditions_length later (l ∷ ls) e =
-      let text = literal_bytes (name_of a b) l in
-      let rest = texts (map (literal_bytes (name_of a b)) ls) in
+      let text = literal_bytes (position_name a b) l in
+      let rest = texts (map (literal_bytes (position_name a b)) ls) in
       let n : is_normal_literal l ≡ true = kept_normal l (and_first (may_be_kept l) (list_all may_be_kept ls) e) in
       omega (
         arith,
         item_length later (string text) rest,
         comma_length later,
         quoted_length text (literal_plain a b s t l),
-        literal_length (name_of a b) (names_short a b s t) l n,
+        literal_length (position_name a b) (names_short a b s t) l n,
         conditions_length true ls (and_second (may_be_kept l) (list_all may_be_kept ls) e),
       )
 
@@ -130,27 +131,27 @@ counted q None qs = omega arith
 counted q (Some f) qs = omega arith
 
 equation_cost : (a b : Fsmd) → IsSound a → IsSound b → (p : Pos) (o : Option Nf) (ms : Members) → IsNormalEquation o
-    → cost (with_equation_member (name_of a b) p o ms) ≤ cost ms + 44 * some_count o + 47 * size_of_equation o
+    → cost (with_equation_member (position_name a b) p o ms) ≤ cost ms + 44 * some_count o + 47 * size_of_equation o
 equation_cost a b s t p None ms n = omega arith
 equation_cost a b s t p (Some f) ms n =
-    let key = symbol_text p.side (name_of a b p) in
-    let text = form_written (name_of a b) f in
+    let key = symbol_text p.side (position_name a b p) in
+    let text = form_written (position_name a b) f in
     omega (
       arith,
       put_cost key (string text) ms,
       quoted_length key (key_plain a b s t p),
       quoted_length text (form_plain a b s t f),
-      symbol_short p.side (name_of a b p) (names_short a b s t p),
-      form_length (name_of a b) (names_short a b s t) f n,
+      symbol_short p.side (position_name a b p) (names_short a b s t p),
+      form_length (position_name a b) (names_short a b s t) f n,
     )
 
 equations_cost : (a b : Fsmd) → IsSound a → IsSound b → (ms : Members) (qs : List FactPosition) → AllByRecursion (λ q. IsNormalEquation q.equation) qs
-    → cost (equations_written (name_of a b) ms qs) ≤ cost ms + 44 * length (filter (λ q. is_some q.equation) qs) + 47 * size_of_equations qs
+    → cost (equations_written (position_name a b) ms qs) ≤ cost ms + 44 * length (filter (λ q. is_some q.equation) qs) + 47 * size_of_equations qs
 equations_cost a b s t ms [] n = omega arith
 equations_cost a b s t ms (q ∷ qs) n =
     omega (
       arith,
-      equations_cost a b s t (with_equation_member (name_of a b) q.pos q.equation ms) qs n.1,
+      equations_cost a b s t (with_equation_member (position_name a b) q.pos q.equation ms) qs n.1,
       equation_cost a b s t q.pos q.equation ms n.0,
       counted q q.equation (filter (λ (r : FactPosition). is_some r.equation) qs),
     )
@@ -224,9 +225,9 @@ node_bound : (a b : Fsmd) → IsSound a → IsSound b → (n : Node Fact) → Ha
     * size_of_fact n.fact
 node_bound a b s t n k r =
     let w = node_written a b n in
-    let ms = equations_written (name_of a b) no_members n.fact.positions in
+    let ms = equations_written (position_name a b) no_members n.fact.positions in
     let same : length (members_text false (named_texts w.equations)) ≡ length (members_text false ms) =
-    ap (λ x. length (members_text false x)) (equations_same (name_of a b) n.fact.positions) in
+    ap (λ x. length (members_text false x)) (equations_same (position_name a b) n.fact.positions) in
     omega (
       arith,
       node_length w,

@@ -6,6 +6,7 @@ use Rattle.std.specs.Ordering.{nat_cmp, match_ordering}
 use Rattle.std.specs.Cmp.Lexicographic.{slice_cmp}
 use Rattle.std.proofs.lemmas.List.{drop_all, map_push}
 use Rattle.std.proofs.Math.Seq.{drop-cons}
+use Rattle.fs_pair.specs.Partners.{position_name}
 use Rattle.serde_json.specs.Data.{Data, unsigned, number, string, array, object, item, Members, no_members, member, put}
 use Rattle.serde_json.specs.View.{view, items_of}
 use Rattle.serde_json.specs.declared.value.Value.{Value, Array}
@@ -17,9 +18,9 @@ use Rattle.sym_facts.specs.Facts.{FactPosition, Fact}
 use Rattle.cert_bisimulation.specs.Tables.{Node}
 use Rattle.term_text.specs.TermTexts.{symbol_text}
 use Rattle.cert_json.specs.WrittenJson.{NodeText, texts, named_texts, node_data, nodes_data}
-use Rattle.cert_writer.specs.WrittenCertificates.{literal_bytes, form_written, with_equation_member, equations_written, text_of, named_texts_of, point_written}
+use Rattle.cert_json.specs.JsonTexts.{text_of, named_texts_of}
+use Rattle.cert_writer.specs.WrittenCertificates.{literal_bytes, form_written, with_equation_member, equations_written, point_written}
 use Rattle.cert_writer.specs.WrittenCertificates.{mode_written, node_written}
-use Rattle.cert_writer.specs.PositionNames.{name_of}
 
 -- ---- lists
 
@@ -109,14 +110,14 @@ pub node_is : (a b : Fsmd) (n : Node Fact) (v conds equations : Data) (left mode
     (member (codes "equations") equations
     (member (codes "left") (string left)
     (member (codes "mode") (string mode) (member (codes "rank") (number (unsigned n.rank)) (member (codes "right") (string right) no_members))))))
-    → conds ≡ array (texts (map (literal_bytes (name_of a b)) n.fact.literals))
-    → equations ≡ object (equations_written (name_of a b) no_members n.fact.positions)
+    → conds ≡ array (texts (map (literal_bytes (position_name a b)) n.fact.literals))
+    → equations ≡ object (equations_written (position_name a b) no_members n.fact.positions)
     → left ≡ point_written a n.left → mode ≡ mode_written n.mode → right ≡ point_written b n.right
     → v ≡ node_data (node_written a b n)
 node_is a b n v conds equations left mode right e f g l m r =
-    let c = array (texts (map (literal_bytes (name_of a b)) n.fact.literals)) in
-    let q = object (named_texts (named_texts_of (equations_written (name_of a b) no_members n.fact.positions))) in
+    let c = array (texts (map (literal_bytes (position_name a b)) n.fact.literals)) in
+    let q = object (named_texts (named_texts_of (equations_written (position_name a b) no_members n.fact.positions))) in
     e ∙ ap (λ d. with_parts d equations left mode n.rank right) f
-    ∙ ap (λ d. with_parts c d left mode n.rank right) (g ∙ ap object (sym (equations_same (name_of a b) n.fact.positions)))
+    ∙ ap (λ d. with_parts c d left mode n.rank right) (g ∙ ap object (sym (equations_same (position_name a b) n.fact.positions)))
     ∙ ap (λ s. with_parts c q s mode n.rank right) l ∙ ap (λ s. with_parts c q (point_written a n.left) s n.rank right) m
     ∙ ap (λ s. with_parts c q (point_written a n.left) (mode_written n.mode) n.rank s) r

@@ -1,4 +1,3 @@
-pub mod PositionNames
 pub mod WrittenCertificates
 pub mod CertificateLimits
 pub mod View

@@ -1,18 +1,19 @@
 -- How a certificate is written.
 use Rattle.std.specs.Prelude.{ℕ, cond, List, [], ◌∷◌, map, Option, Some, None, codes}
 use Rattle.std.specs.List.{list_any}
-use Rattle.serde_json.specs.Data.{Data, string, Members, no_members, member, put}
-use Rattle.serde_json.specs.Find.{as_str}
+use Rattle.serde_json.specs.Data.{Data, string, Members, no_members, put}
 use Rattle.serde_json.specs.Written.{compact_text}
 use Rattle.fs_model.specs.Machines.{Fsmd}
 use Rattle.fs_ast.specs.StoredBranches.{state_name_of as state_name}
 use Rattle.fs_cut.specs.Paths.{Point, Start, At, Done}
 use Rattle.fs_pair.specs.declared.positions.Position.{Position}
 use Rattle.fs_pair.specs.Positions.{positions}
+use Rattle.fs_pair.specs.Partners.{position_name}
 use Rattle.cert_bisimulation.specs.declared.mode.Mode.{Mode}
 use Rattle.cert_bisimulation.specs.declared.mode.Mode.TheVariants as mode
 use Rattle.cert_bisimulation.specs.Tables.{Node}
 use Rattle.fs_model.specs.declared.sides.Pos.{Pos}
+use Rattle.fs_model.specs.Runs.{is_port}
 use Rattle.nf_terms.specs.declared.form.Nf.{Nf}
 use Rattle.nf_terms.specs.declared.form.Nf.TheVariants.{Num, Arr, Seq}
 use Rattle.nf_rel.specs.Literals.{NormalLiteral}
@@ -21,7 +22,7 @@ use Rattle.term_text.specs.TermTexts.{symbol_text, polynomial_text, array_text, 
 use Rattle.term_condition_text.specs.ConditionTexts.{condition_text}
 use Rattle.term_writer.specs.WrittenTerms.{polynomial_written, array_written, list_written, literal_written as written_literal}
 use Rattle.cert_json.specs.WrittenJson.{NodeText, file_data}
-use Rattle.cert_writer.specs.PositionNames.{name_of, is_port}
+use Rattle.cert_json.specs.JsonTexts.{named_texts_of}
 
 abbrev pub form_written : (Pos → List ℕ) → Nf → List ℕ
 form_written name (Num p) = polynomial_text (polynomial_written name p)
@@ -41,19 +42,6 @@ abbrev pub equations_written : (Pos → List ℕ) → Members → List FactPosit
 equations_written name ms [] = ms
 equations_written name ms (q ∷ qs) = equations_written name (with_equation_member name q.pos q.equation ms) qs
 
--- a text, empty where there is none
-abbrev pub text_or_empty : Option (List ℕ) → List ℕ
-text_or_empty None = []
-text_or_empty (Some s) = s
-
-abbrev pub text_of : Data → List ℕ
-text_of d = text_or_empty (as_str d)
-
--- the texts of members, with their names
-abbrev pub named_texts_of : Members → List (List ℕ × List ℕ)
-named_texts_of no_members = []
-named_texts_of (member k d ms) = (k, text_of d) ∷ named_texts_of ms
-
 abbrev pub point_written : Fsmd → Point → List ℕ
 point_written m Start = codes "start"
 point_written m (At q) = state_name m q
@@ -67,8 +55,8 @@ mode_written mode.End = codes "end"
 
 abbrev pub node_written : (a b : Fsmd) → Node Fact → NodeText
 node_written a b n = record {
-  conds = map (literal_bytes (name_of a b)) n.fact.literals;
-  equations = named_texts_of (equations_written (name_of a b) no_members n.fact.positions);
+  conds = map (literal_bytes (position_name a b)) n.fact.literals;
+  equations = named_texts_of (equations_written (position_name a b) no_members n.fact.positions);
   left = point_written a n.left;
   mode = mode_written n.mode;
   rank = n.rank;

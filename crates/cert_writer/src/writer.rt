@@ -2,13 +2,13 @@
 
 ghost use Rattle.std.specs.Prelude.{◌≡◌, ◌≤◌, length, map, IfOk};
 ghost use Rattle.std.specs.List.{list_any, AllByRecursion};
+ghost use Rattle.fs_model.specs.Runs.{is_port};
+ghost use Rattle.fs_rules.specs.SoundParts.{IsSound};
 ghost use Rattle.serde_json.specs.View.{view};
-ghost use Rattle.fs_ast.specs.SoundMachines.{IsSound};
 ghost use Rattle.fs_pair.specs.Positions.{positions};
 ghost use Rattle.cert_model.specs.Lawful.{IsLawful};
 ghost use Rattle.cert_model.specs.View.{node_of};
 ghost use Rattle.cert_json.specs.Refusals.{IsFileOf};
-ghost use Rattle.cert_writer.specs.PositionNames.{is_port};
 ghost use Rattle.cert_writer.specs.WrittenCertificates.{needed_format as format_by, file_written, certificate_text};
 ghost use Rattle.cert_writer.specs.CertificateLimits.{most_bytes};
 ghost use Rattle.cert_model.specs.Kept.{HasNormalFact};

@@ -11,11 +11,11 @@ use Rattle.fs_model.specs.Source.{SourceState, Source}
 use Rattle.fs_model.specs.Machines.{State, Fsmd, transitions_of}
 use Rattle.fs_rules.specs.declared.check.CheckRule.TheVariants.{EndlessLine}
 use Rattle.fs_rules.specs.declared.check.CheckFault.{CheckFault}
-use Rattle.fs_rules.specs.MachineOfParts.{names_of, variables_of, state_names, place, machine_of}
-use Rattle.fs_rules.specs.Sound.{first_transition_target, is_cutpoint}
+use Rattle.fs_rules.specs.MachineOfParts.{names_of, variables_of, state_names, place_or_end, machine_of}
+use Rattle.fs_rules.specs.SoundParts.{first_transition_target, is_cutpoint}
 use Rattle.fs_rules.specs.Rules.{rule_rank, is_sooner, plain_faults, branch_faults, after_steps, IsEndless, IsFirstBroken}
 use Rattle.fs_rules.specs.FirstFault.{earliest}
-use Rattle.fs_ast.specs.Resolved.{placed_spelled, placed}
+use Rattle.fs_ast.specs.NumberedParts.{spelled_state_with_line, states_with_lines}
 use Rattle.fs_ast.specs.Shapes.{skeleton, forked_faults, endless_faults, IsFirstOfShapes}
 use Rattle.fs_rules.proofs.FirstFaults.{earliest-append}
 use Rattle.fs_rules.proofs.Rounds.{get_back, get_either}
@@ -159,11 +159,12 @@ plain_first p f e =
           (λ late. absurd (nothing_in_none (plain_faults p) f late.0 here)) b;
     }
 
-lines_are : (p : Source) → map (λ s. s.0) (placed p) ≡ map (λ s. s.line) p.states
-lines_are p = map_map (λ s. s.0) (placed_spelled (names_of (variables_of p.declarations)) (state_names p.states)) p.states
+lines_are : (p : Source) → map (λ s. s.0) (states_with_lines p) ≡ map (λ s. s.line) p.states
+lines_are p = map_map (λ s. s.0) (spelled_state_with_line (names_of (variables_of p.declarations)) (state_names p.states)) p.states
 
-pub shapes_first : (p : Source) (ss : List (ℕ × State)) (reset : ℕ) (first : Option CheckFault) (f : CheckFault) → plain_faults p ≡ [] → ss ≡ placed p
-    → reset ≡ place (state_names p.states) p.reset → first ≡ Some f → IsFirstOfShapes ss reset first
+pub shapes_first : (p : Source) (ss : List (ℕ × State)) (reset : ℕ) (first : Option CheckFault) (f : CheckFault) → plain_faults p ≡ []
+    → ss ≡ states_with_lines p
+    → reset ≡ place_or_end (state_names p.states) p.reset → first ≡ Some f → IsFirstOfShapes ss reset first
     → IsFirstBroken p f
 shapes_first p ss reset first f plain same at_reset some late =
     let a = forked_faults ss in
@@ -175,7 +176,7 @@ shapes_first p ss reset first f plain same at_reset some late =
     let states_same : (skeleton ss reset).states ≡ (machine_of p).states = ap (λ l. map (λ s. s.1) l) same ∙ placed_states p in
     let forked_same : a ≡ branch_faults p = ap forked_faults same ∙ forked_is p in
     let count : length ss ≡ length p.states = ap length same
-    ∙ length_map (placed_spelled (names_of (variables_of p.declarations)) (state_names p.states)) p.states in
+    ∙ length_map (spelled_state_with_line (names_of (variables_of p.declarations)) (state_names p.states)) p.states in
     let at : (k : ℕ) × (slice_get (a ++ b) k ≡ Some f) = ⊎_elim (λ n. absurd (cc)) (λ s. s) r.from in
     record {
       broken = inr (

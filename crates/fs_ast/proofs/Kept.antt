@@ -20,17 +20,20 @@ use Rattle.std.proofs.lemmas.Bool.{and_parts, or_parts, and_from, or_right, not-
 use Rattle.base_lemmas.proofs.Booleans.{or_other}
 use Rattle.base_lemmas.proofs.Lists.{bytes_eq-self, element_at, slice_get-of_map, length_map, map_map}
 use Rattle.fs_model.specs.Renamed.{guard_over}
-use Rattle.fs_rules.specs.MachineOfParts.{variables_of, names_of, state_names, place, line_spelled, state_spelled, machine_of}
+use Rattle.fs_rules.specs.MachineOfParts.{variables_of, names_of, state_names, place_or_end, transition_spelled, state_spelled, machine_of}
 use Rattle.fs_model.specs.Words.{is_name}
 use Rattle.fs_model.specs.Limits.{most_variables, most_states, most_emits}
 use Rattle.fs_model.specs.declared.parts.Sort.{Sort}
 use Rattle.fs_model.specs.Runs.{is_scalar, is_array, is_port}
-use Rattle.fs_rules.specs.Sound.{has_sort, other_sort_at, input_at, names_differ, all_differ, scalars_in_condition, arrays_in_condition, scalars_in_assignments}
-use Rattle.fs_rules.specs.Sound.{arrays_in_assignments, ports_in_assignments, emit_count, numbers_in_condition, numbers_in_assignments, numbers_in_states}
-use Rattle.fs_rules.specs.Sound.{is_text_number, changed_by, assigned_in, IsSoundTransition, IsSound, is_open, ends_open, branch_count, first_transition_target}
-use Rattle.fs_rules.specs.Sound.{is_cutpoint, reaches_cutpoint}
-use Rattle.fs_rules.specs.Rules.{at_lines, broken_where, declared_names, declared_states, repeated, past, is_known, uses_unknown, uses_wrong_sort}
-use Rattle.fs_rules.specs.Rules.{changes_input, line_faults, lines_faults, lacks_else, after_else, state_faults, plain_faults, branches_too_often}
+use Rattle.fs_rules.specs.SoundParts.{has_sort, other_sort_at, input_at, names_differ, all_differ, scalars_in_condition, arrays_in_condition}
+use Rattle.fs_rules.specs.SoundParts.{scalars_in_assignments}
+use Rattle.fs_rules.specs.SoundParts.{arrays_in_assignments, ports_in_assignments, emit_count, numbers_in_condition, numbers_in_assignments, numbers_in_states}
+use Rattle.fs_rules.specs.SoundParts.{is_text_number, changed_by, assigned_in, IsSoundTransition, IsSound, is_open, ends_open, branch_count}
+use Rattle.fs_rules.specs.SoundParts.{first_transition_target}
+use Rattle.fs_rules.specs.SoundParts.{is_cutpoint, reaches_cutpoint}
+use Rattle.fs_rules.specs.Rules.{at_lines, broken_where, declared_names, declared_states, repeated_lines, line_past_limit, is_known, uses_unknown}
+use Rattle.fs_rules.specs.Rules.{uses_wrong_sort}
+use Rattle.fs_rules.specs.Rules.{changes_input, transition_faults, transitions_faults, lacks_else, after_else, state_faults, plain_faults, branches_too_often}
 use Rattle.fs_rules.specs.Rules.{branch_faults, after_steps, BreaksNoRule}
 use Rattle.fs_rules.specs.Places.{declared_name_list}
 use Rattle.fs_rules.proofs.Naming.{names_declared, names_of_declared}
@@ -60,7 +63,7 @@ flat_nil f [] e k x at = absurd (cc)
 flat_nil f (y ∷ ys) e zero x at = let same : y ≡ x = cc in ap f (sym same) ∙ nil_left (f y) (flat_map f ys) e
 flat_nil f (y ∷ ys) e (suc k) x at = flat_nil f ys (nil_right (f y) (flat_map f ys) e) k x at
 
-pub few_past : (most : ℕ) (ds : List (ℕ × List ℕ)) → past most ds ≡ [] → length ds ≤ most
+pub few_past : (most : ℕ) (ds : List (ℕ × List ℕ)) → line_past_limit most ds ≡ [] → length ds ≤ most
 few_past zero [] e = omega arith
 few_past zero (d ∷ ds) e = absurd (cc)
 few_past (suc m) [] e = omega arith
@@ -80,10 +83,10 @@ record Apart (before : List (List ℕ)) (ns : List (List ℕ)) : Type 0 where
   differ : names_differ ns ≡ true
   apart : (x : List ℕ) → list_any (λ m. bytes_eq m x) before ≡ true → list_any (λ m. bytes_eq m x) ns ≡ false
 
-unrepeated : (before : List (List ℕ)) (ns : List (ℕ × List ℕ)) → repeated before ns ≡ [] → Apart before (declared_name_list ns)
+unrepeated : (before : List (List ℕ)) (ns : List (ℕ × List ℕ)) → repeated_lines before ns ≡ [] → Apart before (declared_name_list ns)
 unrepeated before [] e = record { differ = refl; apart = λ x h. refl }
 unrepeated before (n ∷ ns) e =
-    let h = unrepeated_head (list_any (λ m. bytes_eq m n.1) before) n.0 (repeated (n.1 ∷ before) ns) e in
+    let h = unrepeated_head (list_any (λ m. bytes_eq m n.1) before) n.0 (repeated_lines (n.1 ∷ before) ns) e in
     let rest = unrepeated (n.1 ∷ before) ns h.1 in
     record {
       differ = and_from (not (list_any (λ m. bytes_eq m n.1) (declared_name_list ns))) (names_differ (declared_name_list ns))
@@ -95,7 +98,7 @@ unrepeated before (n ∷ ns) e =
           (rest.apart x (or_right (bytes_eq n.1 x) (list_any (λ m. bytes_eq m x) before) seen));
     }
 
-pub differ : (ns : List (ℕ × List ℕ)) → repeated [] ns ≡ [] → names_differ (declared_name_list ns) ≡ true
+pub differ : (ns : List (ℕ × List ℕ)) → repeated_lines [] ns ≡ [] → names_differ (declared_name_list ns) ≡ true
 differ ns e = (unrepeated [] ns e).differ
 
 -- ---- one transition
@@ -132,7 +135,7 @@ record KeepsEach (vs : List VarInfo) (count : ℕ) (l : Transition ℕ ℕ) : Ty
   target : l.target < count
   emits : nat_lt most_emits (emit_count l.assignments) ≡ false
 
-keeps_each : (vs : List VarInfo) (count n : ℕ) (l : Transition ℕ ℕ) → line_faults vs count n l ≡ [] → KeepsEach vs count l
+keeps_each : (vs : List VarInfo) (count n : ℕ) (l : Transition ℕ ℕ) → transition_faults vs count n l ≡ [] → KeepsEach vs count l
 keeps_each vs count n l e =
     let a = kept_then (uses_unknown vs l) UnknownName n _ e in
     let b = kept_then (uses_wrong_sort vs l) WrongSort n _ a.1 in
@@ -149,7 +152,7 @@ keeps_each vs count n l e =
     }
 
 pub transition_sound : (vs : List VarInfo) (count n : ℕ) (l : Transition ℕ ℕ)
-    → list_all is_text_number (numbers_in_condition l.guard ++ numbers_in_assignments l.assignments) ≡ true → line_faults vs count n l ≡ []
+    → list_all is_text_number (numbers_in_condition l.guard ++ numbers_in_assignments l.assignments) ≡ true → transition_faults vs count n l ≡ []
     → IsSoundTransition vs count l
 transition_sound vs count n l right e =
     let scalars = scalars_in_condition l.guard ++ scalars_in_assignments l.assignments in
@@ -188,13 +191,13 @@ else_head true line rest other e = absurd (cc)
 else_head false line rest other e = (refl, e)
 
 pub open_end : (ns ss : List (List ℕ)) (ls : List SourceTransition) → lacks_else ls ≡ false → after_else false ls ≡ []
-    → ends_open (map (line_spelled ns ss) ls) ≡ true
+    → ends_open (map (transition_spelled ns ss) ls) ≡ true
 open_end ns ss [] e f = absurd (cc)
-open_end ns ss (l ∷ []) e f = open_guard (guard_over (place ns)) l.content.guard e
+open_end ns ss (l ∷ []) e f = open_guard (guard_over (place_or_end ns)) l.content.guard e
 open_end ns ss (l ∷ k ∷ ls) e f =
     let h = else_head (not (is_some l.content.guard)) k.line (after_else true ls) (after_else (not (is_some k.content.guard)) ls) f in
-    and_from (not (is_open (line_spelled ns ss l))) (ends_open (map (line_spelled ns ss) (k ∷ ls)))
-    (shut_guard (guard_over (place ns)) l.content.guard (not-false (is_some l.content.guard) h.0)) (open_end ns ss (k ∷ ls) e h.1)
+    and_from (not (is_open (transition_spelled ns ss l))) (ends_open (map (transition_spelled ns ss) (k ∷ ls)))
+    (shut_guard (guard_over (place_or_end ns)) l.content.guard (not-false (is_some l.content.guard) h.0)) (open_end ns ss (k ∷ ls) e h.1)
 
 -- ---- states by their places
 
@@ -202,9 +205,9 @@ abbrev pub no_state : State
 no_state = record { name = []; lines = [] }
 
 pub lines_some : (ns ss : List (List ℕ)) (sts : List SourceState) (q : ℕ) (s : SourceState) → slice_get sts q ≡ Some s
-    → (slice_index_or (map (state_spelled ns ss) sts) q no_state).lines ≡ map (line_spelled ns ss) s.lines
+    → (slice_index_or (map (state_spelled ns ss) sts) q no_state).lines ≡ map (transition_spelled ns ss) s.lines
 lines_some ns ss [] q s e = absurd (cc)
-lines_some ns ss (t ∷ sts) zero s e = let same : t ≡ s = cc in ap (λ x. map (line_spelled ns ss) x.lines) same
+lines_some ns ss (t ∷ sts) zero s e = let same : t ≡ s = cc in ap (λ x. map (transition_spelled ns ss) x.lines) same
 lines_some ns ss (t ∷ sts) (suc q) s e = lines_some ns ss sts q s e
 
 pub lines_none : (ns ss : List (List ℕ)) (sts : List SourceState) (q : ℕ) → slice_get sts q ≡ None
@@ -226,20 +229,20 @@ option_cases (Some x) = inr (x, refl)
 
 -- the plain rules, one by one
 pub record AreKept (p : Source) : Type 0 where
-  pub variables_once : repeated [] (declared_names p.declarations) ≡ []
-  pub variables_few : past most_variables (declared_names p.declarations) ≡ []
-  pub states_once : repeated [] (declared_states p.states) ≡ []
-  pub states_few : past most_states (declared_states p.states) ≡ []
-  pub reset : place (state_names p.states) p.reset < length p.states
+  pub variables_once : repeated_lines [] (declared_names p.declarations) ≡ []
+  pub variables_few : line_past_limit most_variables (declared_names p.declarations) ≡ []
+  pub states_once : repeated_lines [] (declared_states p.states) ≡ []
+  pub states_few : line_past_limit most_states (declared_states p.states) ≡ []
+  pub reset : place_or_end (state_names p.states) p.reset < length p.states
   pub states : flat_map (state_faults (variables_of p.declarations) (state_names p.states)) p.states ≡ []
 
 pub all_kept : (p : Source) → plain_faults p ≡ [] → AreKept p
 all_kept p e =
-    let a = at_lines TwiceNamed (repeated [] (declared_names p.declarations)) in
-    let b = at_lines TooMany (past most_variables (declared_names p.declarations)) in
-    let c = at_lines TwiceNamed (repeated [] (declared_states p.states)) in
-    let d = at_lines TooMany (past most_states (declared_states p.states)) in
-    let there = nat_lt (place (state_names p.states) p.reset) (length p.states) in
+    let a = at_lines TwiceNamed (repeated_lines [] (declared_names p.declarations)) in
+    let b = at_lines TooMany (line_past_limit most_variables (declared_names p.declarations)) in
+    let c = at_lines TwiceNamed (repeated_lines [] (declared_states p.states)) in
+    let d = at_lines TooMany (line_past_limit most_states (declared_states p.states)) in
+    let there = nat_lt (place_or_end (state_names p.states) p.reset) (length p.states) in
     let r = broken_where (not there) UnknownState p.reset_line in
     let s = flat_map (state_faults (variables_of p.declarations) (state_names p.states)) p.states in
     let e1 = nil_right a (b ++ (c ++ (d ++ (r ++ s)))) e in
@@ -247,11 +250,11 @@ all_kept p e =
     let e3 = nil_right c (d ++ (r ++ s)) e2 in
     let e4 = nil_right d (r ++ s) e3 in
     record {
-      variables_once = lines_nil TwiceNamed (repeated [] (declared_names p.declarations)) (nil_left a (b ++ (c ++ (d ++ (r ++ s)))) e);
-      variables_few = lines_nil TooMany (past most_variables (declared_names p.declarations)) (nil_left b (c ++ (d ++ (r ++ s))) e1);
-      states_once = lines_nil TwiceNamed (repeated [] (declared_states p.states)) (nil_left c (d ++ (r ++ s)) e2);
-      states_few = lines_nil TooMany (past most_states (declared_states p.states)) (nil_left d (r ++ s) e3);
-      reset = ltb-true (place (state_names p.states) p.reset) (length p.states)
+      variables_once = lines_nil TwiceNamed (repeated_lines [] (declared_names p.declarations)) (nil_left a (b ++ (c ++ (d ++ (r ++ s)))) e);
+      variables_few = lines_nil TooMany (line_past_limit most_variables (declared_names p.declarations)) (nil_left b (c ++ (d ++ (r ++ s))) e1);
+      states_once = lines_nil TwiceNamed (repeated_lines [] (declared_states p.states)) (nil_left c (d ++ (r ++ s)) e2);
+      states_few = lines_nil TooMany (line_past_limit most_states (declared_states p.states)) (nil_left d (r ++ s) e3);
+      reset = ltb-true (place_or_end (state_names p.states) p.reset) (length p.states)
           (not-false there (kept (not there) UnknownState p.reset_line (nil_left r s e4)));
       states = nil_right r s e4;
     }
@@ -283,29 +286,30 @@ state_ends p k q s at =
     let e = state_kept p k q s at in
     let n = broken_where (lacks_else s.lines) NoElse s.line in
     let a = at_lines AfterElse (after_else false s.lines) in
-    let l = lines_faults vs ss s.lines in
+    let l = transitions_faults vs ss s.lines in
     (kept (lacks_else s.lines) NoElse s.line (nil_left n (a ++ l) e), lines_nil AfterElse (after_else false s.lines) (nil_left a l (nil_right n (a ++ l) e)))
 
 pub lines_kept : (p : Source) → AreKept p → (q : ℕ) (s : SourceState) → slice_get p.states q ≡ Some s → (j : ℕ) (l : SourceTransition)
     → slice_get s.lines j ≡ Some l
-    → line_faults (variables_of p.declarations) (length p.states) l.line (line_spelled (names_of (variables_of p.declarations)) (state_names p.states) l) ≡ []
+    → transition_faults (variables_of p.declarations) (length p.states) l.line
+    (transition_spelled (names_of (variables_of p.declarations)) (state_names p.states) l) ≡ []
 lines_kept p k q s at j l there =
     let vs = variables_of p.declarations in
     let ss = state_names p.states in
     let e = state_kept p k q s at in
     let n = broken_where (lacks_else s.lines) NoElse s.line in
     let a = at_lines AfterElse (after_else false s.lines) in
-    let f = nil_right a (lines_faults vs ss s.lines) (nil_right n (a ++ lines_faults vs ss s.lines) e) in
-    let one = flat_nil (λ x. line_faults vs (length ss) x.line (line_spelled (names_of vs) ss x)) s.lines f j l there in
-    subst (λ c. line_faults vs c l.line (line_spelled (names_of vs) ss l) ≡ []) (length_map (λ (x : SourceState). x.name) p.states) one
+    let f = nil_right a (transitions_faults vs ss s.lines) (nil_right n (a ++ transitions_faults vs ss s.lines) e) in
+    let one = flat_nil (λ x. transition_faults vs (length ss) x.line (transition_spelled (names_of vs) ss x)) s.lines f j l there in
+    subst (λ c. transition_faults vs c l.line (transition_spelled (names_of vs) ss l) ≡ []) (length_map (λ (x : SourceState). x.name) p.states) one
 
 pub state_lines : (p : Source) → AreKept p → (q : ℕ) (s : SourceState) → slice_get p.states q ≡ Some s → (j : ℕ) (l : SourceTransition)
     → slice_get s.lines j ≡ Some l
-    → list_all is_text_number (numbers_in_transition (line_spelled (names_of (variables_of p.declarations)) (state_names p.states) l)) ≡ true
-    → IsSoundTransition (variables_of p.declarations) (length p.states) (line_spelled (names_of (variables_of p.declarations)) (state_names p.states) l)
+    → list_all is_text_number (numbers_in_transition (transition_spelled (names_of (variables_of p.declarations)) (state_names p.states) l)) ≡ true
+    → IsSoundTransition (variables_of p.declarations) (length p.states) (transition_spelled (names_of (variables_of p.declarations)) (state_names p.states) l)
 state_lines p k q s at j l there right =
     transition_sound (variables_of p.declarations) (length p.states) l.line
-    (line_spelled (names_of (variables_of p.declarations)) (state_names p.states) l) right (lines_kept p k q s at j l there)
+    (transition_spelled (names_of (variables_of p.declarations)) (state_names p.states) l) right (lines_kept p k q s at j l there)
 
 -- names and numbers of the machine that parts spell
 pub record AreRight (p : Source) : Type 0 where
@@ -337,8 +341,8 @@ sound p k forked ends right =
           (λ none. let empty : transitions_of (machine_of p) q ≡ [] = lines_none ns ss p.states q none in
           let gone : slice_get (transitions_of (machine_of p) q) j ≡ None = ap (λ ls. slice_get ls j) empty in absurd (cc))
           (λ some.
-          let is : transitions_of (machine_of p) q ≡ map (line_spelled ns ss) some.0.lines = lines_some ns ss p.states q some.0 some.1 in
-          let m = get_mapped (line_spelled ns ss) some.0.lines j l (ap (λ ls. slice_get ls j) (sym is) ∙ at) in
+          let is : transitions_of (machine_of p) q ≡ map (transition_spelled ns ss) some.0.lines = lines_some ns ss p.states q some.0 some.1 in
+          let m = get_mapped (transition_spelled ns ss) some.0.lines j l (ap (λ ls. slice_get ls j) (sym is) ∙ at) in
           let numbers = transition_numbers is_text_number (transitions_of (machine_of p) q) j l
           (state_numbers is_text_number (machine_of p).states q right.numbers) at in
           let one = state_lines p k q some.0 some.1 j m.0 m.1.0 (subst (λ x. list_all is_text_number (numbers_in_transition x) ≡ true) m.1.1 numbers) in
@@ -352,7 +356,7 @@ sound p k forked ends right =
           ⊎_elim
           (λ none. let zero_branches : branch_count (machine_of p) q ≡ 0 = ap (λ ls. length (branches_of ls)) (lines_none ns ss p.states q none) in omega arith)
           (λ some.
-          let tree = tree_of_transitions (map (line_spelled ns ss) some.0.lines) in
+          let tree = tree_of_transitions (map (transition_spelled ns ss) some.0.lines) in
           let is : branch_count (machine_of p) q ≡ count_leaves tree = ap (λ ls. length (branches_of ls)) (lines_some ns ss p.states q some.0 some.1)
           ∙ length_leaves tree [] in
           let ltb-false : count_leaves tree ≤ 64 = at_most (count_leaves tree)
@@ -396,6 +400,7 @@ lead_on p k q h =
     let s = element_at p.states q h in
     let e = state_ends p k q s.0 s.1 in
     let l = element_at s.0.lines 0 (has_first s.0.lines e.0) in
-    let low = (keeps_each vs (length p.states) l.0.line (line_spelled ns ss l.0) (lines_kept p k q s.0 s.1 0 l.0 l.1)).target in
+    let low = (keeps_each vs (length p.states) l.0.line (transition_spelled ns ss l.0) (lines_kept p k q s.0 s.1 0 l.0 l.1)).target in
     subst (λ ls. first_transition_target ls < length p.states) (sym (lines_some ns ss p.states q s.0 s.1))
-    (first_low (length p.states) (map (line_spelled ns ss) s.0.lines) (line_spelled ns ss l.0) (slice_get-of_map (line_spelled ns ss) s.0.lines 0 l.0 l.1) low)
+    (first_low (length p.states) (map (transition_spelled ns ss) s.0.lines) (transition_spelled ns ss l.0)
+    (slice_get-of_map (transition_spelled ns ss) s.0.lines 0 l.0 l.1) low)

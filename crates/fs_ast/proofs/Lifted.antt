@@ -15,8 +15,8 @@ use Rattle.fs_model.specs.Trees.{Branch, branches_of}
 use Rattle.fs_model.specs.PartFolds.{scalars, arrays, numbers, uses_in_literal, uses_in_condition, uses_in_assignments, guard_passes, condition_passes}
 use Rattle.fs_model.specs.PartFolds.{transition_passes, branch_passes}
 use Rattle.fs_model.proofs.Passing.{condition_uses, assignments_uses, branches_pass}
-use Rattle.fs_rules.specs.Sound.{scalar_at, array_at, port_at, input_at, is_text_number, scalars_in_assignment, arrays_in_assignment, port_in}
-use Rattle.fs_rules.specs.Sound.{ports_in_assignments, numbers_in_assignment, changed_by, assigned_in, all_differ, emit_count, IsSoundTransition, IsSound}
+use Rattle.fs_rules.specs.SoundParts.{scalar_at, array_at, port_at, input_at, is_text_number, scalars_in_assignment, arrays_in_assignment, port_in}
+use Rattle.fs_rules.specs.SoundParts.{ports_in_assignments, numbers_in_assignment, changed_by, assigned_in, all_differ, emit_count, IsSoundTransition, IsSound}
 use Rattle.fs_ast.specs.Branches.{is_sound_literal, is_sound_assignment, IsSoundBranch}
 
 -- ---- several tests together

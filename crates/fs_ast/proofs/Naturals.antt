@@ -12,9 +12,9 @@ use Rattle.fs_model.specs.Source.{SourceTransition, SourceState, Source}
 use Rattle.fs_model.specs.WellFormed.{is_natural_term, is_natural_guard, is_natural_assignment, operators_of_guard, operators_of_assignment}
 use Rattle.fs_model.specs.WellFormed.{is_well_formed_condition, is_well_formed_assignment, is_well_formed_transition, is_well_formed_state}
 use Rattle.fs_model.specs.WellFormed.{is_well_formed_declaration, is_well_formed}
-use Rattle.fs_rules.specs.MachineOfParts.{variables_of, names_of, state_names, place, line_spelled, state_spelled, machine_of}
-use Rattle.fs_rules.specs.Sound.{numbers_in, numbers_in_guard, numbers_in_condition, numbers_in_assignment, numbers_in_assignments, numbers_in_transitions}
-use Rattle.fs_rules.specs.Sound.{numbers_in_states}
+use Rattle.fs_rules.specs.MachineOfParts.{variables_of, names_of, state_names, place_or_end, transition_spelled, state_spelled, machine_of}
+use Rattle.fs_rules.specs.SoundParts.{numbers_in, numbers_in_guard, numbers_in_condition, numbers_in_assignment, numbers_in_assignments, numbers_in_transitions}
+use Rattle.fs_rules.specs.SoundParts.{numbers_in_states}
 use Rattle.fs_ast.specs.StoredBranches.{KeepsTypes}
 use Rattle.fs_ast.proofs.Numbers.{all_both, all_joined}
 use Rattle.fs_ast.proofs.Kept.{AreRight}
@@ -68,16 +68,16 @@ assignments f (a ∷ bs) h =
     (natural_assignment f a (and_first (is_natural_assignment a) (nat_le (operators_of_assignment a) most_operators) p.0)) (assignments f bs p.1)
 
 lines : (vs ss : List (List ℕ)) (ls : List SourceTransition) → list_all is_well_formed_transition ls ≡ true
-    → list_all is_natural (numbers_in_transitions (map (line_spelled vs ss) ls)) ≡ true
+    → list_all is_natural (numbers_in_transitions (map (transition_spelled vs ss) ls)) ≡ true
 lines vs ss [] h = refl
 lines vs ss (l ∷ ls) h =
     let p = and_parts (is_well_formed_transition l) (list_all is_well_formed_transition ls) h in
     let q = and_parts (is_well_formed_condition l.content.guard) (list_all is_well_formed_assignment l.content.assignments) p.0 in
-    let f = place vs in
+    let f = place_or_end vs in
     all_joined is_natural (numbers_in_condition (option_map (guard_over f) l.content.guard))
-    (numbers_in_assignments (map (assignment_over f) l.content.assignments) ++ numbers_in_transitions (map (line_spelled vs ss) ls))
+    (numbers_in_assignments (map (assignment_over f) l.content.assignments) ++ numbers_in_transitions (map (transition_spelled vs ss) ls))
     (condition f l.content.guard q.0)
-    (all_joined is_natural (numbers_in_assignments (map (assignment_over f) l.content.assignments)) (numbers_in_transitions (map (line_spelled vs ss) ls))
+    (all_joined is_natural (numbers_in_assignments (map (assignment_over f) l.content.assignments)) (numbers_in_transitions (map (transition_spelled vs ss) ls))
     (assignments f l.content.assignments q.1) (lines vs ss ls p.1))
 
 states : (vs ss : List (List ℕ)) (sts : List SourceState) → list_all is_well_formed_state sts ≡ true
@@ -85,7 +85,7 @@ states : (vs ss : List (List ℕ)) (sts : List SourceState) → list_all is_well
 states vs ss [] h = refl
 states vs ss (s ∷ sts) h =
     let p = and_parts (is_well_formed_state s) (list_all is_well_formed_state sts) h in
-    all_joined is_natural (numbers_in_transitions (map (line_spelled vs ss) s.lines)) (numbers_in_states (map (state_spelled vs ss) sts))
+    all_joined is_natural (numbers_in_transitions (map (transition_spelled vs ss) s.lines)) (numbers_in_states (map (state_spelled vs ss) sts))
     (lines vs ss s.lines p.0) (states vs ss sts p.1)
 
 pub right : (p : Source) → is_well_formed p ≡ true → KeepsTypes (machine_of p).variables (machine_of p).states → AreRight p

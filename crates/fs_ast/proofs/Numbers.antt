@@ -7,7 +7,7 @@ use Rattle.std.proofs.lemmas.Bool.{and_from}
 use Rattle.base_lemmas.proofs.Booleans.{and_first, and_second}
 use Rattle.fs_model.specs.Terms.{Assignment, Transition}
 use Rattle.fs_model.specs.Machines.{State}
-use Rattle.fs_rules.specs.Sound.{numbers_in_condition, numbers_in_assignment, numbers_in_assignments, numbers_in_transitions, numbers_in_states}
+use Rattle.fs_rules.specs.SoundParts.{numbers_in_condition, numbers_in_assignment, numbers_in_assignments, numbers_in_transitions, numbers_in_states}
 use Rattle.fs_rules.proofs.Turns.{taken_map}
 
 pub assignments_push : (bs : List (Assignment ℕ)) (a : Assignment ℕ) → numbers_in_assignments (bs ++ a ∷ []) ≡ numbers_in_assignments bs

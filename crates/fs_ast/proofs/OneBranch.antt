@@ -3,9 +3,9 @@ use Rattle.std.proofs.Common.{◌≡◌, ℕ, ◌+◌, ◌≤◌, List, [], ◌�
 use Rattle.std.specs.Prelude.{not, ◌&&◌}
 use Rattle.std.specs.Option.{is_none}
 use Rattle.base_lemmas.proofs.Booleans.{and_second}
+use Rattle.fs_rules.specs.SoundParts.{ends_open}
 use Rattle.fs_model.specs.Terms.{Guard, Test, Not, And, Or, Transition}
 use Rattle.fs_model.specs.Trees.{Tree, Empty, Leaf, Branch, tree_of_guard, tree_of_condition, tree_of_transitions, leaves, branches_of, count_leaves}
-use Rattle.fs_ast.specs.SoundMachines.{ends_open}
 use Rattle.fs_ast.proofs.Leaves.{length_leaves}
 
 count-guard : (g : Guard ℕ) (y n : Tree) → count_leaves y + count_leaves n ≤ count_leaves (tree_of_guard g y n)

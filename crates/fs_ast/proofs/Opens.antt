@@ -8,7 +8,7 @@ use Rattle.fs_model.specs.Stores.{Store}
 use Rattle.fs_model.specs.Meaning.{condition_holds, transition_taken}
 use Rattle.fs_model.specs.Trees.{Branch, branches_of, Effect}
 use Rattle.fs_model.proofs.Leaves.{one_leaf_open}
-use Rattle.fs_rules.specs.Sound.{ends_open, is_open}
+use Rattle.fs_rules.specs.SoundParts.{ends_open, is_open}
 use Rattle.fs_ast.specs.OpenBranches.{all_hold, TakesOneBranch}
 
 abbrev effect_of : Transition ℕ ℕ → Effect

@@ -10,22 +10,22 @@ use Rattle.fs_model.specs.Trees.{tree_of_transitions, branches_of, count_leaves}
 use Rattle.fs_rules.specs.declared.check.CheckRule.TheVariants.{EndlessLine}
 use Rattle.fs_rules.specs.declared.check.CheckFault.{CheckFault}
 use Rattle.fs_ast.specs.declared.resolve.State.{State as NumberedState}
-use Rattle.fs_rules.specs.Sound.{first_transition_target, branch_count, is_cutpoint, reaches_cutpoint}
+use Rattle.fs_rules.specs.SoundParts.{first_transition_target, branch_count, is_cutpoint, reaches_cutpoint}
 use Rattle.fs_rules.specs.Rules.{at_lines, after_steps, IsEndless}
-use Rattle.fs_ast.specs.Resolved.{resolved_state, placed_of}
-use Rattle.fs_rules.specs.TargetWalks.{walked, is_cut, walk_reaches_cut, IsRound, IsTargetList}
+use Rattle.fs_ast.specs.NumberedParts.{resolved_state, state_with_line}
+use Rattle.fs_rules.specs.TargetWalks.{state_after_walk, is_cut, walk_reaches_cut, IsRound, IsTargetList}
 use Rattle.fs_ast.specs.Shapes.{skeleton, forked_faults, endless_faults, LeadOn, IsFirstOfShapes}
 use Rattle.fs_rules.specs.FirstFault.{earliest}
 use Rattle.fs_ast.proofs.Leaves.{length_leaves}
 
 -- the line of a state
 pub line_there : (states : List NumberedState) (q : ℕ) (x : NumberedState) → q < length states → x ≡ get_or states q x
-    → slice_get (map (λ s. s.0) (map placed_of states)) q ≡ Some x.line
+    → slice_get (map (λ s. s.0) (map state_with_line states)) q ≡ Some x.line
 line_there [] q x h e = absurd (omega arith)
 line_there (y ∷ ys) zero x h e = ap (λ s. Some s.line) (sym e)
 line_there (y ∷ ys) (suc q) x h e = line_there ys q x (omega arith) e
 
-pub line_past : (states : List NumberedState) (q : ℕ) → length states ≤ q → slice_get (map (λ s. s.0) (map placed_of states)) q ≡ None
+pub line_past : (states : List NumberedState) (q : ℕ) → length states ≤ q → slice_get (map (λ s. s.0) (map state_with_line states)) q ≡ None
 line_past [] q h = refl
 line_past (y ∷ ys) zero h = absurd (omega arith)
 line_past (y ∷ ys) (suc q) h = line_past ys q (omega arith)
@@ -36,7 +36,7 @@ endless_one ss q o e = ap (λ l. at_lines EndlessLine (option_to_list l ++ [])) 
 
 -- the transitions of a state
 pub lines_there : (states : List NumberedState) (reset q : ℕ) (x : NumberedState) → q < length states → x ≡ get_or states q x
-    → transitions_of (skeleton (map placed_of states) reset) q ≡ (resolved_state x).lines
+    → transitions_of (skeleton (map state_with_line states) reset) q ≡ (resolved_state x).lines
 lines_there [] reset q x h e = absurd (omega arith)
 lines_there (y ∷ ys) reset zero x h e = ap (λ s. (resolved_state s).lines) (sym e)
 lines_there (y ∷ ys) reset (suc q) x h e = lines_there ys reset q x (omega arith) e
@@ -53,11 +53,11 @@ push_before (c ∷ bs) b (suc q) h = push_before bs b q (omega arith)
 -- one more cut
 pub cut_more : (states : List NumberedState) (reset place : ℕ) (x : NumberedState) (old new : List Bool) (b : Bool) → place < length states
     → x ≡ get_or states place x → length old ≡ place
-    → ((q : ℕ) → q < place → is_cut old q ≡ is_cutpoint (skeleton (map placed_of states) reset) q) → new ≡ old ++ b ∷ []
+    → ((q : ℕ) → q < place → is_cut old q ≡ is_cutpoint (skeleton (map state_with_line states) reset) q) → new ≡ old ++ b ∷ []
     → b ≡ (place == reset || nat_lt 1 (count_leaves (tree_of_transitions (resolved_state x).lines)))
-    → (q : ℕ) → q < place + 1 → is_cut new q ≡ is_cutpoint (skeleton (map placed_of states) reset) q
+    → (q : ℕ) → q < place + 1 → is_cut new q ≡ is_cutpoint (skeleton (map state_with_line states) reset) q
 cut_more states reset place x old new b h e count before put is q inside =
-    let m = skeleton (map placed_of states) reset in
+    let m = skeleton (map state_with_line states) reset in
     ⊎_elim
     (λ at.
     let branches : branch_count m place ≡ count_leaves (tree_of_transitions (resolved_state x).lines) =
@@ -70,7 +70,7 @@ cut_more states reset place x old new b h e count before put is q inside =
 -- where first transitions lead
 next_at : (states : List NumberedState) (reset q : ℕ)
     → slice_index (map (λ s. first_transition_target (resolved_state s).lines) states) q
-    ≡ first_transition_target (transitions_of (skeleton (map placed_of states) reset) q)
+    ≡ first_transition_target (transitions_of (skeleton (map state_with_line states) reset) q)
 next_at [] reset q = refl
 next_at (y ∷ ys) reset zero = refl
 next_at (y ∷ ys) reset (suc q) = next_at ys reset q
@@ -85,31 +85,31 @@ reach_same m next cut count leads cuts within (suc n) q h =
     (reach_same m next cut count leads cuts within n (slice_index next q) (within q h) ∙ ap (reaches_cutpoint m n) (leads q))
 
 pub graph_of : (states : List NumberedState) (next : List ℕ) (cut : List Bool) → next ≡ map (λ s. first_transition_target (resolved_state s).lines) states
-    → length cut ≡ length states → LeadOn (map placed_of states) → IsTargetList next cut
+    → length cut ≡ length states → LeadOn (map state_with_line states) → IsTargetList next cut
 graph_of states next cut e count lead =
     let same : length next ≡ length states = ap length e ∙ length_map (λ s. first_transition_target (resolved_state s).lines) states in
-    let placed : length (map placed_of states) ≡ length states = length_map placed_of states in
+    let placed : length (map state_with_line states) ≡ length states = length_map state_with_line states in
     record {
       same = count ∙ sym same;
       leads = λ q h.
-          let inside : q < length (map placed_of states) = omega arith in
-          let to : slice_index next q ≡ first_transition_target (transitions_of (skeleton (map placed_of states) 0) q) = ap (λ l. slice_index l q) e
+          let inside : q < length (map state_with_line states) = omega arith in
+          let to : slice_index next q ≡ first_transition_target (transitions_of (skeleton (map state_with_line states) 0) q) = ap (λ l. slice_index l q) e
           ∙ next_at states 0 q in
           let low = lead q inside in
           omega arith;
     }
 
 pub leads_of : (states : List NumberedState) (reset : ℕ) (next : List ℕ) → next ≡ map (λ s. first_transition_target (resolved_state s).lines) states → (q : ℕ)
-    → slice_index next q ≡ first_transition_target (transitions_of (skeleton (map placed_of states) reset) q)
+    → slice_index next q ≡ first_transition_target (transitions_of (skeleton (map state_with_line states) reset) q)
 leads_of states reset next e q = ap (λ l. slice_index l q) e ∙ next_at states reset q
 
 -- the steps of a machine and of its lists
 steps_same : (m : Fsmd) (next : List ℕ) → ((q : ℕ) → slice_index next q ≡ first_transition_target (transitions_of m q)) → (n q : ℕ)
-    → after_steps m n q ≡ walked next n q
+    → after_steps m n q ≡ state_after_walk next n q
 steps_same m next leads zero q = refl
-steps_same m next leads (suc n) q = steps_same m next leads n (first_transition_target (transitions_of m q)) ∙ ap (walked next n) (sym (leads q))
+steps_same m next leads (suc n) q = steps_same m next leads n (first_transition_target (transitions_of m q)) ∙ ap (state_after_walk next n) (sym (leads q))
 
-stays : (next : List ℕ) (count : ℕ) → ((q : ℕ) → q < count → slice_index next q < count) → (n q : ℕ) → q < count → walked next n q < count
+stays : (next : List ℕ) (count : ℕ) → ((q : ℕ) → q < count → slice_index next q < count) → (n q : ℕ) → q < count → state_after_walk next n q < count
 stays next count within zero q h = h
 stays next count within (suc n) q h = stays next count within n (slice_index next q) (within q h)
 
@@ -126,7 +126,7 @@ endless_of m next cut count leads cuts within q inside r = record {
   some = r.some;
   back = steps_same m next leads r.steps q ∙ r.back;
   uncut = λ k. ap (is_cutpoint m) (steps_same m next leads k q)
-      ∙ sym (cuts (walked next k q) (stays next count within k q (ltb-true q count inside))) ∙ r.uncut k;
+      ∙ sym (cuts (state_after_walk next k q) (stays next count within k q (ltb-true q count inside))) ∙ r.uncut k;
 }
 
 round_of : (m : Fsmd) (next : List ℕ) (cut : List Bool) (count : ℕ) → ((q : ℕ) → slice_index next q ≡ first_transition_target (transitions_of m q))
@@ -136,24 +136,24 @@ round_of m next cut count leads cuts within q low r = record {
   steps = r.steps;
   some = r.some;
   back = sym (steps_same m next leads r.steps q) ∙ r.back;
-  uncut = λ k. cuts (walked next k q) (stays next count within k q low) ∙ sym (ap (is_cutpoint m) (steps_same m next leads k q)) ∙ r.uncut k;
+  uncut = λ k. cuts (state_after_walk next k q) (stays next count within k q low) ∙ sym (ap (is_cutpoint m) (steps_same m next leads k q)) ∙ r.uncut k;
 }
 
 pub shapes_of : (states : List NumberedState) (reset : ℕ) (next : List ℕ) (cut : List Bool) (endless : List ℕ) (first : Option CheckFault)
     → next ≡ map (λ s. first_transition_target (resolved_state s).lines) states → length cut ≡ length states
-    → ((q : ℕ) → q < length states → is_cut cut q ≡ is_cutpoint (skeleton (map placed_of states) reset) q) → LeadOn (map placed_of states)
+    → ((q : ℕ) → q < length states → is_cut cut q ≡ is_cutpoint (skeleton (map state_with_line states) reset) q) → LeadOn (map state_with_line states)
     → list_all (λ q. nat_lt q (length next)) endless ≡ true → ((k q : ℕ) → slice_get endless k ≡ Some q → IsRound next cut q)
     → ((q : ℕ) → q < length next → IsRound next cut q → (k : ℕ) × (slice_get endless k ≡ Some q))
     → (length endless ≡ 0 → (q : ℕ) → q < length next → walk_reaches_cut next cut (length next) q ≡ true)
-    → first ≡ earliest (earliest None (forked_faults (map placed_of states))) (endless_faults (map placed_of states) endless)
-    → IsFirstOfShapes (map placed_of states) reset first
+    → first ≡ earliest (earliest None (forked_faults (map state_with_line states))) (endless_faults (map state_with_line states) endless)
+    → IsFirstOfShapes (map state_with_line states) reset first
 shapes_of states reset next cut endless first e count cuts lead inside rounds all reach is =
-    let ss = map placed_of states in
+    let ss = map state_with_line states in
     let m = skeleton ss reset in
     let g = graph_of states next cut e count lead in
     let same : length next ≡ length ss = ap length e ∙ length_map (λ s. first_transition_target (resolved_state s).lines) states
-    ∙ sym (length_map placed_of states) in
-    let placed : length ss ≡ length states = length_map placed_of states in
+    ∙ sym (length_map state_with_line states) in
+    let placed : length ss ≡ length states = length_map state_with_line states in
     let to = leads_of states reset next e in
     let cut_at : (k : ℕ) → k < length next → is_cut cut k ≡ is_cutpoint m k = λ k l. cuts k (omega arith) in
     record {

@@ -14,13 +14,13 @@ use Rattle.fs_model.specs.Trees.{branches_of}
 use Rattle.fs_rules.specs.declared.check.CheckRule.TheVariants.{EndlessLine}
 use Rattle.fs_rules.specs.declared.check.CheckFault.{CheckFault}
 use Rattle.fs_ast.specs.declared.resolve.State.{State as NumberedState}
-use Rattle.fs_rules.specs.MachineOfParts.{variables_of, names_of, state_names, place, machine_of}
-use Rattle.fs_rules.specs.Sound.{first_transition_target, is_cutpoint, reaches_cutpoint}
+use Rattle.fs_rules.specs.MachineOfParts.{variables_of, names_of, state_names, place_or_end, machine_of}
+use Rattle.fs_rules.specs.SoundParts.{first_transition_target, is_cutpoint, reaches_cutpoint}
 use Rattle.fs_rules.specs.Rules.{at_lines, branch_faults}
 use Rattle.fs_rules.specs.FirstFault.{sooner, earliest}
-use Rattle.fs_ast.specs.Resolved.{resolved_state, placed_of, placed_spelled, placed}
+use Rattle.fs_ast.specs.NumberedParts.{resolved_state, state_with_line, spelled_state_with_line, states_with_lines}
 use Rattle.fs_ast.specs.Shapes.{skeleton, forked_faults, endless_faults, LeadOn, IsFirstOfShapes}
-use Rattle.fs_rules.specs.Scoped.{IsScopeOf}
+use Rattle.fs_rules.specs.Scopes.{IsScopeOf}
 use Rattle.fs_rules.proofs.Turns.{flat_map_map}
 use Rattle.fs_ast.proofs.Kept.{AreKept, count_variables, count_states, lead_on, no_state}
 
@@ -53,33 +53,36 @@ if_ok (Ok x) f h = f x h
 if_ok (Err e) f h = tt
 
 pub placed_is : (p : Source) (vars : List VarInfo) (states : List SourceState) (resolved : List NumberedState) → IsScopeOf p vars states
-    → map placed_of resolved ≡ map (placed_spelled (names_of vars) (state_names states)) p.states → map placed_of resolved ≡ placed p
+    → map state_with_line resolved ≡ map (spelled_state_with_line (names_of vars) (state_names states)) p.states
+    → map state_with_line resolved ≡ states_with_lines p
 placed_is p vars states resolved s e = e
-    ∙ ap₂ (λ (v : List VarInfo) (n : List SourceState). map (placed_spelled (names_of v) (state_names n)) p.states) s.vars s.stated
+    ∙ ap₂ (λ (v : List VarInfo) (n : List SourceState). map (spelled_state_with_line (names_of v) (state_names n)) p.states) s.vars s.stated
 
-pub placed_states : (p : Source) → map (λ s. s.1) (placed p) ≡ (machine_of p).states
-placed_states p = map_map (λ s. s.1) (placed_spelled (names_of (variables_of p.declarations)) (state_names p.states)) p.states
+pub placed_states : (p : Source) → map (λ s. s.1) (states_with_lines p) ≡ (machine_of p).states
+placed_states p = map_map (λ s. s.1) (spelled_state_with_line (names_of (variables_of p.declarations)) (state_names p.states)) p.states
 
-pub states_are : (p : Source) (resolved : List NumberedState) → map placed_of resolved ≡ placed p → map resolved_state resolved ≡ (machine_of p).states
-states_are p resolved e = sym (map_map (λ s. s.1) placed_of resolved) ∙ ap (λ l. map (λ s. s.1) l) e ∙ placed_states p
+pub states_are : (p : Source) (resolved : List NumberedState) → map state_with_line resolved ≡ states_with_lines p
+    → map resolved_state resolved ≡ (machine_of p).states
+states_are p resolved e = sym (map_map (λ s. s.1) state_with_line resolved) ∙ ap (λ l. map (λ s. s.1) l) e ∙ placed_states p
 
 pub machine_is : (p : Source) (vars : List VarInfo) (states : List SourceState) (resolved : List NumberedState) (reset : ℕ) → IsScopeOf p vars states
-    → map placed_of resolved ≡ placed p → reset ≡ place (state_names p.states) p.reset
+    → map state_with_line resolved ≡ states_with_lines p → reset ≡ place_or_end (state_names p.states) p.reset
     → Path Fsmd (record { variables = vars; reset = reset; states = map resolved_state resolved }) (machine_of p)
 machine_is p vars states resolved reset s e f = let t = states_are p resolved e in λ i. record { variables = s.vars i; reset = f i; states = t i }
 
-pub leads_placed : (p : Source) → AreKept p → LeadOn (placed p)
+pub leads_placed : (p : Source) → AreKept p → LeadOn (states_with_lines p)
 leads_placed p k q h =
-    let count : length (placed p) ≡ length p.states = length_map (placed_spelled (names_of (variables_of p.declarations)) (state_names p.states)) p.states in
+    let count : length (states_with_lines p) ≡ length p.states =
+    length_map (spelled_state_with_line (names_of (variables_of p.declarations)) (state_names p.states)) p.states in
     let low = lead_on p k q (omega arith) in
-    let same : first_transition_target (transitions_of (skeleton (placed p) 0) q) ≡ first_transition_target (transitions_of (machine_of p) q) =
+    let same : first_transition_target (transitions_of (skeleton (states_with_lines p) 0) q) ≡ first_transition_target (transitions_of (machine_of p) q) =
     ap (λ st. first_transition_target (slice_index_or st q no_state).lines) (placed_states p) in
     omega arith
 
 -- ---- branches and endless lines
 
-pub forked_is : (p : Source) → forked_faults (placed p) ≡ branch_faults p
-forked_is p = flat_map_map _ (placed_spelled (names_of (variables_of p.declarations)) (state_names p.states)) p.states
+pub forked_is : (p : Source) → forked_faults (states_with_lines p) ≡ branch_faults p
+forked_is p = flat_map_map _ (spelled_state_with_line (names_of (variables_of p.declarations)) (state_names p.states)) p.states
 
 none_endless : (ss : List (ℕ × State)) (qs : List ℕ) → list_all (λ q. nat_lt q (length ss)) qs ≡ true → endless_faults ss qs ≡ [] → length qs ≡ 0
 none_endless ss [] e f = refl
@@ -102,14 +105,15 @@ reach_same m n e f (suc k) q =
     (reach_same m n e f k (first_transition_target (transitions_of m q))
     ∙ ap (λ st. reaches_cutpoint n k (first_transition_target (slice_index_or st q no_state).lines)) e)
 
-pub shapes_kept : (p : Source) (ss : List (ℕ × State)) (reset : ℕ) (first : Option CheckFault) → ss ≡ placed p → reset ≡ place (state_names p.states) p.reset
+pub shapes_kept : (p : Source) (ss : List (ℕ × State)) (reset : ℕ) (first : Option CheckFault) → ss ≡ states_with_lines p
+    → reset ≡ place_or_end (state_names p.states) p.reset
     → first ≡ None → IsFirstOfShapes ss reset first
     → (branch_faults p ≡ []) × ((q : ℕ) → q < length p.states → reaches_cutpoint (machine_of p) (length p.states) q ≡ true)
 shapes_kept p ss reset first e f none late =
     let n = nothing_noted (earliest None (forked_faults ss)) (endless_faults ss late.endless) (sym late.is_first ∙ none) in
     let b = nothing_noted None (forked_faults ss) n.0 in
     let count : length ss ≡ length p.states = ap length e
-    ∙ length_map (placed_spelled (names_of (variables_of p.declarations)) (state_names p.states)) p.states in
+    ∙ length_map (spelled_state_with_line (names_of (variables_of p.declarations)) (state_names p.states)) p.states in
     let st : (skeleton ss reset).states ≡ (machine_of p).states = ap (λ l. map (λ s. s.1) l) e ∙ placed_states p in (
       sym (ap forked_faults e ∙ forked_is p) ∙ b.1,
       λ q h. let low : q < length ss = omega arith in
@@ -117,9 +121,11 @@ shapes_kept p ss reset first e f none late =
           ∙ late.ends (none_endless ss late.endless late.inside n.1) q low,
     )
 
-pub reset_low : (p : Source) (reset : ℕ) (resolved : List NumberedState) → reset < length p.states → map placed_of resolved ≡ placed p → reset < length resolved
+pub reset_low : (p : Source) (reset : ℕ) (resolved : List NumberedState) → reset < length p.states → map state_with_line resolved ≡ states_with_lines p
+    → reset < length resolved
 reset_low p reset resolved h f =
-    let a : length (map placed_of resolved) ≡ length resolved = length_map placed_of resolved in
-    let b : length (placed p) ≡ length p.states = length_map (placed_spelled (names_of (variables_of p.declarations)) (state_names p.states)) p.states in
-    let c : length (map placed_of resolved) ≡ length (placed p) = ap length f in
+    let a : length (map state_with_line resolved) ≡ length resolved = length_map state_with_line resolved in
+    let b : length (states_with_lines p) ≡ length p.states =
+    length_map (spelled_state_with_line (names_of (variables_of p.declarations)) (state_names p.states)) p.states in
+    let c : length (map state_with_line resolved) ≡ length (states_with_lines p) = ap length f in
     omega arith

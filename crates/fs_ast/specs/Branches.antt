@@ -6,11 +6,11 @@ use Rattle.fs_model.specs.Limits.{most_emits}
 use Rattle.fs_model.specs.Terms.{Literal, Assignment}
 use Rattle.fs_model.specs.Trees.{Branch}
 use Rattle.fs_model.specs.PartFolds.{scalars, arrays, numbers, uses_in_literal}
-use Rattle.fs_rules.specs.Sound.{scalar_at, array_at, port_at, input_at, is_text_number, scalars_in_assignment}
-use Rattle.fs_rules.specs.Sound.{arrays_in_assignment, port_in, numbers_in_assignment, changed_by, assigned_in, all_differ}
-use Rattle.fs_rules.specs.Sound.{emit_count}
+use Rattle.fs_rules.specs.SoundParts.{scalar_at, array_at, port_at, input_at, is_text_number, scalars_in_assignment}
+use Rattle.fs_rules.specs.SoundParts.{arrays_in_assignment, port_in, numbers_in_assignment, changed_by, assigned_in, all_differ}
+use Rattle.fs_rules.specs.SoundParts.{emit_count}
 
--- a literal uses scalars as scalars and arrays as arrays, and has numbers that a text can have
+-- a literal uses scalars as scalars and arrays, and has numbers that a text can have
 abbrev pub is_sound_literal : List VarInfo → Literal ℕ → Bool
 is_sound_literal vs l = list_all (scalar_at vs) (uses_in_literal scalars l)
     && (list_all (array_at vs) (uses_in_literal arrays l) && list_all is_text_number (uses_in_literal numbers l))

@@ -5,12 +5,12 @@ use Rattle.fs_model.specs.Terms.{Guard, Test, Not, And, Or}
 use Rattle.fs_model.specs.Trees.{Tree, Empty, Leaf, Node}
 use Rattle.fs_ast.specs.declared.trees.DecisionTree.{DecisionTree}
 use Rattle.fs_ast.specs.declared.trees.DecisionTree.TheVariants as trees
-use Rattle.fs_ast.specs.Resolved.{resolved_line}
+use Rattle.fs_ast.specs.NumberedParts.{resolved_transition}
 
 -- the tree that a value of the code stands for
 abbrev pub tree_of : DecisionTree → Tree
 tree_of trees.Fail = Empty
-tree_of (trees.Leaf l) = Leaf (resolved_line l.now).assignments (resolved_line l.now).target
+tree_of (trees.Leaf l) = Leaf (resolved_transition l.now).assignments (resolved_transition l.now).target
 tree_of (trees.Test' l p on_yes q on_no) = Node (literal_of l.now) (tree_of on_yes) (tree_of on_no)
 
 -- the leaves of the tree of a guard, from those of its two subtrees

@@ -1,10 +1,7 @@
-pub mod BuiltMachine
-pub mod SoundMachines
-pub mod MachineRules
-pub mod Resolved
+pub mod NumberedParts
 pub mod Forks
 pub mod Shapes
 pub mod StoredBranches
-pub mod Built
+pub mod BuildAnswers
 pub mod OpenBranches
 pub mod Branches

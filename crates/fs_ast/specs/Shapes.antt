@@ -7,7 +7,7 @@ use Rattle.fs_model.specs.Machines.{State, Fsmd, transitions_of}
 use Rattle.fs_model.specs.Trees.{tree_of_transitions, count_leaves}
 use Rattle.fs_rules.specs.declared.check.CheckRule.TheVariants.{TooManyBranches, EndlessLine}
 use Rattle.fs_rules.specs.declared.check.CheckFault.{CheckFault}
-use Rattle.fs_rules.specs.Sound.{first_transition_target, reaches_cutpoint}
+use Rattle.fs_rules.specs.SoundParts.{first_transition_target, reaches_cutpoint}
 use Rattle.fs_rules.specs.Rules.{at_lines, broken_where, IsEndless}
 use Rattle.fs_rules.specs.FirstFault.{earliest}
 

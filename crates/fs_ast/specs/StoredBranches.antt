@@ -5,7 +5,7 @@ use Rattle.fs_model.specs.declared.parts.VarInfo.{VarInfo}
 use Rattle.fs_model.specs.Words.{is_name}
 use Rattle.fs_model.specs.Machines.{State, Fsmd}
 use Rattle.fs_model.specs.Trees.{Branch, branches_of}
-use Rattle.fs_rules.specs.Sound.{IsSound, numbers_in_states}
+use Rattle.fs_rules.specs.SoundParts.{IsSound, numbers_in_states}
 
 -- the name of a state
 abbrev pub state_name_of : Fsmd → ℕ → List ℕ

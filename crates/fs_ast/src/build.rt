@@ -4,11 +4,11 @@ ghost use Rattle.std.specs.Prelude.{◌≡◌, ◌<◌, [], IsTrue, IfOk, length
 ghost use Rattle.std.specs.Result.{OnOk, IfErr};
 ghost use Rattle.fs_model.specs.View.{source_of, source_state_of};
 ghost use Rattle.fs_model.specs.WellFormed.{is_well_formed};
-ghost use Rattle.fs_rules.specs.MachineOfParts.{state_names, place, machine_of};
+ghost use Rattle.fs_rules.specs.MachineOfParts.{state_names, place_or_end, machine_of};
 ghost use Rattle.fs_rules.specs.Rules.{plain_faults, Broken, IsFirstBroken, BreaksNoRule};
-ghost use Rattle.fs_rules.specs.Scoped.{IsScopeOf};
-ghost use Rattle.fs_ast.specs.Built.{IfCheck};
-ghost use Rattle.fs_ast.specs.Resolved.{placed_of, placed};
+ghost use Rattle.fs_rules.specs.Scopes.{IsScopeOf};
+ghost use Rattle.fs_ast.specs.BuildAnswers.{IfCheck};
+ghost use Rattle.fs_ast.specs.NumberedParts.{state_with_line, states_with_lines};
 
 use crate::machine::Machine;
 use crate::resolve::{State, resolve};
@@ -78,7 +78,7 @@ fn build_checked(alloc: Global, scope: Scope, parts: &Parts) -> Result<Machine, 
 fn numbered_states(alloc: Global, scope: &Scope, parts: &Parts) -> Result<Vec<State>, NoMemory>
     requires scope { IsScopeOf (source_of parts.now) scope.now.vars.items (map source_state_of scope.now.states.now) }
     requires plain { plain_faults (source_of parts.now) ≡ [] }
-    ensures { IfOk result (λ states. map placed_of states.items ≡ placed (source_of parts.now)) }
+    ensures { IfOk result (λ states. map state_with_line states.items ≡ states_with_lines (source_of parts.now)) }
 {
     resolve(alloc, scope, &parts.states)
 }
@@ -87,7 +87,7 @@ fn numbered_states(alloc: Global, scope: &Scope, parts: &Parts) -> Result<Vec<St
 fn reset_state(scope: &Scope, parts: &Parts) -> StateId
     requires scope { IsScopeOf (source_of parts.now) scope.now.vars.items (map source_state_of scope.now.states.now) }
     requires plain { plain_faults (source_of parts.now) ≡ [] }
-    ensures number { result.0 ≡ place (state_names (source_of parts.now).states) (source_of parts.now).reset }
+    ensures number { result.0 ≡ place_or_end (state_names (source_of parts.now).states) (source_of parts.now).reset }
     ensures within { result.0 < length (source_of parts.now).states }
 {
     scope.state_id(&parts.reset)

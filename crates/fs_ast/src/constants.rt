@@ -3,9 +3,9 @@
 ghost use Rattle.std.specs.Prelude.{◌≡◌, ◌++◌, map, IfOk};
 ghost use Rattle.std.specs.Result.{OnOk};
 ghost use Rattle.fs_model.specs.View.{term_of, guard_of, assignment_of};
-ghost use Rattle.fs_rules.specs.Sound.{numbers_in, numbers_in_guard, numbers_in_condition, numbers_in_assignment};
-ghost use Rattle.fs_rules.specs.Sound.{numbers_in_assignments, numbers_in_transitions, numbers_in_states};
-ghost use Rattle.fs_ast.specs.Resolved.{resolved_line, resolved_state};
+ghost use Rattle.fs_rules.specs.SoundParts.{numbers_in, numbers_in_guard, numbers_in_condition, numbers_in_assignment};
+ghost use Rattle.fs_rules.specs.SoundParts.{numbers_in_assignments, numbers_in_transitions, numbers_in_states};
+ghost use Rattle.fs_ast.specs.NumberedParts.{resolved_transition, resolved_state};
 
 use crate::resolve::{State, Transition};
 use fs_model::name::NoMemory;
@@ -24,7 +24,7 @@ pub fn constants_of(alloc: Global, states: &[State]) -> Result<Vec<i128>, NoMemo
 }
 
 fn add_lines(out: &mut Vec<i128>, lines: &[Transition]) -> Result<(), NoMemory>
-    ensures { OnOk result (out.new.items ≡ out.old.items ++ numbers_in_transitions (map resolved_line lines.now)) }
+    ensures { OnOk result (out.new.items ≡ out.old.items ++ numbers_in_transitions (map resolved_transition lines.now)) }
 {
     for line in lines {
         add_line(out, line)?;
@@ -35,7 +35,8 @@ fn add_lines(out: &mut Vec<i128>, lines: &[Transition]) -> Result<(), NoMemory>
 fn add_line(out: &mut Vec<i128>, line: &Transition) -> Result<(), NoMemory>
     ensures { OnOk result
         (out.new.items ≡ out.old.items
-        ++ (numbers_in_condition (resolved_line line.now).guard ++ numbers_in_assignments (resolved_line line.now).assignments)) }
+        ++ (numbers_in_condition (resolved_transition line.now).guard
+        ++ numbers_in_assignments (resolved_transition line.now).assignments)) }
 {
     if let Some(guard) = &line.guard {
         add_guard(out, guard)?;

@@ -2,7 +2,7 @@
 
 ghost use Rattle.std.specs.Prelude.{◌≡◌, map, option_map, IfOk};
 ghost use Rattle.fs_model.specs.View.{guard_of, assignment_of};
-ghost use Rattle.fs_ast.specs.Resolved.{resolved_line, resolved_state};
+ghost use Rattle.fs_ast.specs.NumberedParts.{resolved_transition, resolved_state};
 
 use crate::resolve::{State, Transition};
 use fs_model::name::NoMemory;
@@ -54,7 +54,7 @@ pub fn copy_assigns(
 
 // Copies of transitions.
 fn copy_lines(alloc: Global, lines: &[Transition]) -> Result<Vec<Transition>, NoMemory>
-    ensures { IfOk result (λ out. map resolved_line out.items ≡ map resolved_line lines.now) }
+    ensures { IfOk result (λ out. map resolved_transition out.items ≡ map resolved_transition lines.now) }
 {
     let mut out = Vec::new(alloc);
     for line in lines {

@@ -5,8 +5,8 @@ ghost use Rattle.std.specs.List.{list_all};
 ghost use Rattle.fs_model.specs.Machines.{transitions_of};
 ghost use Rattle.fs_model.specs.Trees.{branches_of};
 ghost use Rattle.fs_model.specs.View.{branch_of};
-ghost use Rattle.fs_rules.specs.Sound.{IsSound, numbers_in_states};
-ghost use Rattle.fs_ast.specs.Resolved.{resolved_state};
+ghost use Rattle.fs_rules.specs.SoundParts.{IsSound, numbers_in_states};
+ghost use Rattle.fs_ast.specs.NumberedParts.{resolved_state};
 ghost use Rattle.fs_ast.specs.StoredBranches.{state_name_of, KeepsTypes};
 ghost use Rattle.fs_model.specs.Words.{is_name};
 
@@ -34,7 +34,7 @@ impl Model for Machine {
     ghost use Rattle.fs_model.specs.Machines.{Fsmd};
     ghost use Rattle.fs_model.specs.Codes.{coded_fsmd};
     ghost use Rattle.fs_model.specs.View.{branch_of};
-    ghost use Rattle.fs_ast.specs.Resolved.{resolved_state};
+    ghost use Rattle.fs_ast.specs.NumberedParts.{resolved_state};
     ghost use Rattle.fs_ast.specs.StoredBranches.{IsStoredMachine};
 
     ghost Value = { Fsmd };

@@ -5,9 +5,9 @@ ghost use Rattle.fs_model.specs.Limits.{most_variables, most_states};
 ghost use Rattle.fs_model.specs.Renamed.{guard_over, assignment_over};
 ghost use Rattle.fs_model.specs.View.{named_guard, named_assignment, guard_of, assignment_of, source_transition_of};
 ghost use Rattle.fs_model.specs.View.{source_state_of};
-ghost use Rattle.fs_rules.specs.MachineOfParts.{place, names_of, line_spelled};
+ghost use Rattle.fs_rules.specs.MachineOfParts.{place_or_end, names_of, transition_spelled};
 ghost use Rattle.fs_rules.specs.Places.{names_stated};
-ghost use Rattle.fs_ast.specs.Resolved.{resolved_line, placed_of, placed_spelled};
+ghost use Rattle.fs_ast.specs.NumberedParts.{resolved_transition, state_with_line, spelled_state_with_line};
 
 use fs_model::copies::renamed_assignments;
 use fs_model::name::{Name, NoMemory};
@@ -40,12 +40,12 @@ fn condition(
 ) -> Result<Option<Guard<VarId>>, NoMemory>
     requires { length scope.now.vars.items ≤ most_variables }
     ensures { IfOk result
-        (λ g. option_map guard_of g ≡ option_map (guard_over (place (names_of scope.now.vars.items)))
+        (λ g. option_map guard_of g ≡ option_map (guard_over (place_or_end (names_of scope.now.vars.items)))
         (option_map named_guard guard.now)) }
 {
     match guard {
         None => Ok(None),
-        Some(guard) => Ok(Some(guard.renamed(alloc, scope)?)),
+        Some(guard) => Ok(Some(guard.copy_renamed(alloc, scope)?)),
     }
 }
 
@@ -57,7 +57,7 @@ fn assignments(
 ) -> Result<Vec<Assign<VarId>>, NoMemory>
     requires { length scope.now.vars.items ≤ most_variables }
     ensures { IfOk result
-        (λ out. map assignment_of out.items ≡ map (assignment_over (place (names_of scope.now.vars.items)))
+        (λ out. map assignment_of out.items ≡ map (assignment_over (place_or_end (names_of scope.now.vars.items)))
         (map named_assignment assigns.now)) }
 {
     Ok(renamed_assignments(alloc, assigns, scope)?)
@@ -68,7 +68,7 @@ fn numbered_line(alloc: Global, scope: &Scope, line: &RawLine) -> Result<Transit
     requires variables { length scope.now.vars.items ≤ most_variables }
     requires states { length scope.now.states.now ≤ most_states }
     ensures { IfOk result
-        (λ l. resolved_line l ≡ line_spelled (names_of scope.now.vars.items) (names_stated scope.now.states.now)
+        (λ l. resolved_transition l ≡ transition_spelled (names_of scope.now.vars.items) (names_stated scope.now.states.now)
         (source_transition_of line.now)) }
 {
     let guard = condition(alloc, scope, &line.guard)?;
@@ -89,8 +89,8 @@ fn numbered_lines(
     requires variables { length scope.now.vars.items ≤ most_variables }
     requires states { length scope.now.states.now ≤ most_states }
     ensures { IfOk result
-        (λ out. map resolved_line out.items
-        ≡ map (line_spelled (names_of scope.now.vars.items) (names_stated scope.now.states.now))
+        (λ out. map resolved_transition out.items
+        ≡ map (transition_spelled (names_of scope.now.vars.items) (names_stated scope.now.states.now))
         (map source_transition_of lines.now)) }
 {
     let mut out = Vec::new(alloc);
@@ -105,7 +105,7 @@ fn numbered_state(alloc: Global, scope: &Scope, state: &RawState) -> Result<Stat
     requires variables { length scope.now.vars.items ≤ most_variables }
     requires states { length scope.now.states.now ≤ most_states }
     ensures { IfOk result
-        (λ s. placed_of s ≡ placed_spelled (names_of scope.now.vars.items) (names_stated scope.now.states.now)
+        (λ s. state_with_line s ≡ spelled_state_with_line (names_of scope.now.vars.items) (names_stated scope.now.states.now)
         (source_state_of state.now)) }
 {
     let name = state.name.try_clone(alloc)?;
@@ -122,7 +122,8 @@ pub fn resolve(alloc: Global, scope: &Scope, states: &[RawState]) -> Result<Vec<
     requires variables { length scope.now.vars.items ≤ most_variables }
     requires states { length scope.now.states.now ≤ most_states }
     ensures { IfOk result
-        (λ out. map placed_of out.items ≡ map (placed_spelled (names_of scope.now.vars.items) (names_stated scope.now.states.now))
+        (λ out. map state_with_line out.items
+        ≡ map (spelled_state_with_line (names_of scope.now.vars.items) (names_stated scope.now.states.now))
         (map source_state_of states.now)) }
 {
     let mut out = Vec::new(alloc);

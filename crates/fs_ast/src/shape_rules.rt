@@ -1,9 +1,9 @@
 //! The rules on branches and on endless lines, which are looked at where no other rule is broken.
 
 ghost use Rattle.std.specs.Prelude.{◌≡◌, ◌<◌, ◌||◌, ◌==◌, ℕ, [], ◌∷◌, length, map, nat_lt, IfOk};
-ghost use Rattle.fs_rules.specs.Sound.{first_transition_target, is_cutpoint};
+ghost use Rattle.fs_rules.specs.SoundParts.{first_transition_target, is_cutpoint};
 ghost use Rattle.fs_rules.specs.FirstFault.{earliest};
-ghost use Rattle.fs_ast.specs.Resolved.{resolved_line, resolved_state, placed_of};
+ghost use Rattle.fs_ast.specs.NumberedParts.{resolved_transition, resolved_state, state_with_line};
 ghost use Rattle.fs_rules.specs.TargetWalks.{is_cut};
 ghost use Rattle.fs_model.specs.Trees.{tree_of_transitions, count_leaves};
 ghost use Rattle.fs_ast.specs.Shapes.{forked_faults, endless_faults, skeleton, LeadOn, IsFirstOfShapes};
@@ -23,9 +23,9 @@ pub fn check_shapes(
     states: &[State],
     reset: usize,
 ) -> Result<Option<CheckFault>, NoMemory>
-    requires leads { LeadOn (map placed_of states.now) }
+    requires leads { LeadOn (map state_with_line states.now) }
     requires reset { reset < length states.now }
-    ensures { IfOk result (λ first. IsFirstOfShapes (map placed_of states.now) reset first) }
+    ensures { IfOk result (λ first. IsFirstOfShapes (map state_with_line states.now) reset first) }
 {
     let mut faults = Faults::new();
     note_forked(states, &mut faults);
@@ -38,7 +38,7 @@ pub fn check_shapes(
 
 // Notes each state that has too many branches.
 fn note_forked(states: &[State], faults: &mut Faults)
-    ensures { faults.new.first ≡ earliest faults.old.first (forked_faults (map placed_of states.now)) }
+    ensures { faults.new.first ≡ earliest faults.old.first (forked_faults (map state_with_line states.now)) }
 {
     for state in states {
         let forked = count_leaves(state.lines.as_slice()) > BRANCH_LIMIT;
@@ -48,7 +48,7 @@ fn note_forked(states: &[State], faults: &mut Faults)
 
 // Notes states on endless lines.
 fn note_endless(states: &[State], endless: &[usize], faults: &mut Faults)
-    ensures { faults.new.first ≡ earliest faults.old.first (endless_faults (map placed_of states.now) endless.now) }
+    ensures { faults.new.first ≡ earliest faults.old.first (endless_faults (map state_with_line states.now) endless.now) }
 {
     for place in endless {
         note_endless_at(states, *place, faults);
@@ -57,7 +57,7 @@ fn note_endless(states: &[State], endless: &[usize], faults: &mut Faults)
 
 // Notes a state on an endless line.
 fn note_endless_at(states: &[State], place: usize, faults: &mut Faults)
-    ensures { faults.new.first ≡ earliest faults.old.first (endless_faults (map placed_of states.now) (place ∷ [])) }
+    ensures { faults.new.first ≡ earliest faults.old.first (endless_faults (map state_with_line states.now) (place ∷ [])) }
 {
     match states.get(place) {
         None => {}
@@ -78,7 +78,7 @@ fn first_targets(alloc: Global, states: &[State]) -> Result<Vec<usize>, NoMemory
 
 // Where the first of some transitions leads.
 fn first_transition_target(lines: &[Transition]) -> usize
-    ensures { result ≡ first_transition_target (map resolved_line lines.now) }
+    ensures { result ≡ first_transition_target (map resolved_transition lines.now) }
 {
     match lines {
         [] => 0,
@@ -98,7 +98,7 @@ fn cutpoints(alloc: Global, states: &[State], reset: usize) -> Result<Vec<bool>,
     ensures count { IfOk result (λ cut. length cut.items ≡ length states.now) }
     ensures cuts { IfOk result
         (λ cut. (q : ℕ) → q < length states.now
-        → is_cut cut.items q ≡ is_cutpoint (skeleton (map placed_of states.now) reset) q) }
+        → is_cut cut.items q ≡ is_cutpoint (skeleton (map state_with_line states.now) reset) q) }
 {
     let mut cut = Vec::new(alloc);
     for (place, state) in states.iter().enumerate() {

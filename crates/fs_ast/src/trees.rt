@@ -7,7 +7,7 @@ ghost use Rattle.std.specs.Result.{OnOk};
 ghost use Rattle.fs_model.specs.View.{literal_of, guard_of, branch_of};
 ghost use Rattle.fs_model.specs.Trees.{Leaf, tree_of_guard, tree_of_transitions, opposite, leaves, branches_of};
 ghost use Rattle.fs_model.specs.Trees.{count_leaves};
-ghost use Rattle.fs_ast.specs.Resolved.{resolved_line};
+ghost use Rattle.fs_ast.specs.NumberedParts.{resolved_transition};
 ghost use Rattle.fs_ast.specs.Forks.{tree_of, leaves_by, leaves_by_condition, capped_leaves};
 
 use crate::copies::copy_assigns;
@@ -28,7 +28,7 @@ enum DecisionTree<'a> {
 
 /// How many leaves the tree of transitions has, or 65 where there are more.
 pub fn count_leaves(lines: &[Transition]) -> u32
-    ensures { result ≡ capped_leaves (count_leaves (tree_of_transitions (map resolved_line lines.now))) }
+    ensures { result ≡ capped_leaves (count_leaves (tree_of_transitions (map resolved_transition lines.now))) }
 {
     let mut count = 0;
     for k in 0..lines.len() {
@@ -39,7 +39,7 @@ pub fn count_leaves(lines: &[Transition]) -> u32
 
 // How many leaves there are from one transition on.
 fn count_line(line: &Transition, rest: u32) -> u32
-    ensures { result ≡ capped_leaves (leaves_by_condition (resolved_line line.now).guard 1 rest) }
+    ensures { result ≡ capped_leaves (leaves_by_condition (resolved_transition line.now).guard 1 rest) }
 {
     match &line.guard {
         None => 1,
@@ -62,7 +62,7 @@ fn count_guard(guard: &Guard<VarId>, on_yes: u32, on_no: u32) -> u32
 
 /// The branches of the tree of transitions, yes before no.
 pub fn branches(alloc: Global, lines: &[Transition]) -> Result<Vec<Branch>, NoMemory>
-    ensures { IfOk result (λ out. map branch_of out.items ≡ branches_of (map resolved_line lines.now)) }
+    ensures { IfOk result (λ out. map branch_of out.items ≡ branches_of (map resolved_transition lines.now)) }
 {
     let tree = tree_of_lines(alloc, lines)?;
     let mut way = Vec::new(alloc);
@@ -73,7 +73,7 @@ pub fn branches(alloc: Global, lines: &[Transition]) -> Result<Vec<Branch>, NoMe
 
 // The tree of transitions.
 fn tree_of_lines<'a>(alloc: Global, lines: &'a [Transition]) -> Result<DecisionTree<'a>, NoMemory>
-    ensures { IfOk result (λ tree. tree_of tree ≡ tree_of_transitions (map resolved_line lines.now)) }
+    ensures { IfOk result (λ tree. tree_of tree ≡ tree_of_transitions (map resolved_transition lines.now)) }
 {
     match lines {
         [] => Ok(DecisionTree::Fail),
@@ -179,7 +179,8 @@ fn add_branch(
 ) -> Result<(), NoMemory>
     ensures { OnOk result
         (map branch_of out.new.items ≡ map branch_of out.old.items
-        ++ leaves (Leaf (resolved_line line.now).assignments (resolved_line line.now).target) (map literal_of way.now)) }
+        ++ leaves (Leaf (resolved_transition line.now).assignments (resolved_transition line.now).target)
+        (map literal_of way.now)) }
 {
     out.push(branch(alloc, way, line)?)?;
     Ok(())
@@ -190,8 +191,8 @@ fn branch(alloc: Global, way: &[Lit<VarId>], line: &Transition) -> Result<Branch
     ensures { IfOk result
         (λ b. branch_of b ≡ record {
           literals = map literal_of way.now;
-          assignments = (resolved_line line.now).assignments;
-          target = (resolved_line line.now).target;
+          assignments = (resolved_transition line.now).assignments;
+          target = (resolved_transition line.now).target;
         }) }
 {
     Ok(Branch {

@@ -15,11 +15,12 @@ use Rattle.fs_model.specs.Runs.{is_scalar, is_array, is_port}
 use Rattle.fs_rules.specs.declared.check.CheckRule.{CheckRule}
 use Rattle.fs_rules.specs.declared.check.CheckRule.TheVariants.{UnknownName, WrongSort, AssignInput, AssignedTwice, UnknownState, TooManyEmits}
 use Rattle.fs_rules.specs.declared.check.CheckFault.{CheckFault}
-use Rattle.fs_rules.specs.MachineOfParts.{place, line_spelled}
-use Rattle.fs_rules.specs.Sound.{IsSoundTransition, has_sort, other_sort_at, scalar_at, array_at, port_at, input_at, changed_by, assigned_in, all_differ}
-use Rattle.fs_rules.specs.Sound.{scalars_in_condition, arrays_in_condition, scalars_in_assignments, arrays_in_assignments, ports_in_assignments, emit_count}
-use Rattle.fs_rules.specs.Sound.{is_open, ends_open}
-use Rattle.fs_rules.specs.Rules.{broken_where, is_known, uses_unknown, uses_wrong_sort, changes_input, line_faults, lacks_else, after_else}
+use Rattle.fs_rules.specs.MachineOfParts.{place_or_end, transition_spelled}
+use Rattle.fs_rules.specs.SoundParts.{IsSoundTransition, has_sort, other_sort_at, scalar_at, array_at, port_at, input_at, changed_by, assigned_in, all_differ}
+use Rattle.fs_rules.specs.SoundParts.{scalars_in_condition, arrays_in_condition, scalars_in_assignments, arrays_in_assignments, ports_in_assignments}
+use Rattle.fs_rules.specs.SoundParts.{emit_count}
+use Rattle.fs_rules.specs.SoundParts.{is_open, ends_open}
+use Rattle.fs_rules.specs.Rules.{broken_where, is_known, uses_unknown, uses_wrong_sort, changes_input, transition_faults, lacks_else, after_else}
 
 -- ---- nothing in a list
 pub none_broken : (t : Bool) (r : CheckRule) (n : ℕ) → t ≡ false → broken_where t r n ≡ []
@@ -110,7 +111,7 @@ module _ (vs : List VarInfo) (l : Transition ℕ ℕ) (w : IsFaultless vs l.guar
       (or_from (list_any (other_sort_at is_array vs) arrays_of) (list_any (other_sort_at is_port vs) ports_of) (none_other is_array vs arrays_of w.arrays)
       (none_other is_port vs ports_of w.ports))
 
-  pub none_at_line : (count n : ℕ) → l.target < count → line_faults vs count n l ≡ []
+  pub none_at_line : (count n : ℕ) → l.target < count → transition_faults vs count n l ≡ []
   none_at_line count n h =
       nil_both (broken_where (uses_unknown vs l) UnknownName n) _ (none_broken (uses_unknown vs l) UnknownName n known)
       (nil_both (broken_where (uses_wrong_sort vs l) WrongSort n) _ (none_broken (uses_wrong_sort vs l) WrongSort n sorted)
@@ -131,15 +132,16 @@ guarded f None e = absurd (cc e)
 guarded f (Some x) e = refl
 
 module _ (ns ss : List (List ℕ)) where
-  pub has_else : (ls : List SourceTransition) → ends_open (map (line_spelled ns ss) ls) ≡ true → lacks_else ls ≡ false
+  pub has_else : (ls : List SourceTransition) → ends_open (map (transition_spelled ns ss) ls) ≡ true → lacks_else ls ≡ false
   has_else [] e = absurd (cc e)
-  has_else (l ∷ []) e = unguarded (guard_over (place ns)) l.content.guard e
-  has_else (l ∷ k ∷ ls) e = has_else (k ∷ ls) (and_second (not (is_open (line_spelled ns ss l))) (ends_open (map (line_spelled ns ss) (k ∷ ls))) e)
+  has_else (l ∷ []) e = unguarded (guard_over (place_or_end ns)) l.content.guard e
+  has_else (l ∷ k ∷ ls) e = has_else (k ∷ ls) (and_second (not (is_open (transition_spelled ns ss l))) (ends_open (map (transition_spelled ns ss) (k ∷ ls))) e)
 
-  pub else_last : (ls : List SourceTransition) → ends_open (map (line_spelled ns ss) ls) ≡ true → after_else false ls ≡ []
+  pub else_last : (ls : List SourceTransition) → ends_open (map (transition_spelled ns ss) ls) ≡ true → after_else false ls ≡ []
   else_last [] e = refl
   else_last (l ∷ []) e = refl
   else_last (l ∷ k ∷ ls) e =
       ap (λ t. after_else (not t) (k ∷ ls))
-      (guarded (guard_over (place ns)) l.content.guard (and_first (not (is_open (line_spelled ns ss l))) (ends_open (map (line_spelled ns ss) (k ∷ ls))) e))
-      ∙ else_last (k ∷ ls) (and_second (not (is_open (line_spelled ns ss l))) (ends_open (map (line_spelled ns ss) (k ∷ ls))) e)
+      (guarded (guard_over (place_or_end ns)) l.content.guard
+      (and_first (not (is_open (transition_spelled ns ss l))) (ends_open (map (transition_spelled ns ss) (k ∷ ls))) e))
+      ∙ else_last (k ∷ ls) (and_second (not (is_open (transition_spelled ns ss l))) (ends_open (map (transition_spelled ns ss) (k ∷ ls))) e)

@@ -11,9 +11,10 @@ use Rattle.fs_model.specs.Source.{SourceState, Source}
 use Rattle.fs_model.specs.Machines.{Fsmd, State, transitions_of}
 use Rattle.fs_model.specs.Trees.{tree_of_transitions, branches_of, count_leaves}
 use Rattle.fs_rules.specs.declared.check.CheckRule.TheVariants.{TwiceNamed, NoElse, AfterElse, TooManyBranches, UnknownState, TooMany}
-use Rattle.fs_rules.specs.MachineOfParts.{place, variables_of, names_of, state_names, line_spelled, state_spelled, machine_of}
-use Rattle.fs_rules.specs.Sound.{IsSound, names_differ, ends_open, branch_count}
-use Rattle.fs_rules.specs.Rules.{at_lines, broken_where, declared_names, declared_states, repeated, past, line_faults, lines_faults, lacks_else, after_else}
+use Rattle.fs_rules.specs.MachineOfParts.{place_or_end, variables_of, names_of, state_names, transition_spelled, state_spelled, machine_of}
+use Rattle.fs_rules.specs.SoundParts.{IsSound, names_differ, ends_open, branch_count}
+use Rattle.fs_rules.specs.Rules.{at_lines, broken_where, declared_names, declared_states, repeated_lines, line_past_limit, transition_faults}
+use Rattle.fs_rules.specs.Rules.{transitions_faults, lacks_else, after_else}
 use Rattle.fs_rules.specs.Rules.{state_faults, plain_faults, branches_too_often, IsEndless, BreaksNoRule}
 use Rattle.fs_rules.proofs.Naming.{names_declared, names_of_declared}
 use Rattle.fs_rules.proofs.Unbroken.{none_past}
@@ -61,10 +62,10 @@ module _ (p : Source) (keeps : KeepsRules (machine_of p)) where
   count = length_map (state_spelled (names_of V) SS) p.states
 
   -- ---- names
-  names_once : repeated [] (declared_names p.declarations) ≡ []
+  names_once : repeated_lines [] (declared_names p.declarations) ≡ []
   names_once = never_again [] (declared_names p.declarations) (ap names_differ (names_declared p.declarations) ∙ keeps.variables_differ) (λ x h. refl)
 
-  names_few : past most_variables (declared_names p.declarations) ≡ []
+  names_few : line_past_limit most_variables (declared_names p.declarations) ≡ []
   names_few =
       let a = length_map (λ (d : ℕ × List ℕ). d.1) (declared_names p.declarations) in
       let b = ap length (names_declared p.declarations) in
@@ -72,13 +73,13 @@ module _ (p : Source) (keeps : KeepsRules (machine_of p)) where
       let few = keeps.few_variables in
       none_past most_variables (declared_names p.declarations) (omega (arith, a, b, c, few))
 
-  states_once : repeated [] (declared_states p.states) ≡ []
+  states_once : repeated_lines [] (declared_states p.states) ≡ []
   states_once =
       never_again [] (declared_states p.states)
       (ap names_differ (names_of_declared p.states ∙ sym (map_map (λ (s : State). s.name) (state_spelled (names_of V) SS) p.states)) ∙ keeps.states_differ)
       (λ x h. refl)
 
-  states_few : past most_states (declared_states p.states) ≡ []
+  states_few : line_past_limit most_states (declared_states p.states) ≡ []
   states_few =
       let a = length_map {B = ℕ × List ℕ} (λ (s : SourceState). (s.line, s.name)) p.states in
       let few = keeps.few_states in
@@ -86,35 +87,36 @@ module _ (p : Source) (keeps : KeepsRules (machine_of p)) where
 
   -- ---- one state
   module _ (q : ℕ) (st : SourceState) (at : slice_get p.states q ≡ Some st) where
-    spelled_lines : transitions_of M q ≡ map (line_spelled (names_of V) SS) st.lines
+    spelled_lines : transitions_of M q ≡ map (transition_spelled (names_of V) SS) st.lines
     spelled_lines = lines_some (names_of V) SS p.states q st at
 
-    opens : ends_open (map (line_spelled (names_of V) SS) st.lines) ≡ true
+    opens : ends_open (map (transition_spelled (names_of V) SS) st.lines) ≡ true
     opens =
         let h = slice_get_within p.states q st at in
         ap ends_open (sym spelled_lines) ∙ keeps.open_last q (omega (arith, h, count))
 
-    lines_free : lines_faults V SS st.lines ≡ []
+    lines_free : transitions_faults V SS st.lines ≡ []
     lines_free =
-        none_flat (λ l. line_faults V (length SS) l.line (line_spelled (names_of V) SS l)) st.lines
+        none_flat (λ l. transition_faults V (length SS) l.line (transition_spelled (names_of V) SS l)) st.lines
         (λ j l e.
-        let there : slice_get (transitions_of M q) j ≡ Some (line_spelled (names_of V) SS l) =
-        ap (λ ls. slice_get ls j) spelled_lines ∙ slice_get-map (line_spelled (names_of V) SS) st.lines j ∙ ap (option_map (line_spelled (names_of V) SS)) e in
-        let low = keeps.leads_in q j (line_spelled (names_of V) SS l) there in
+        let there : slice_get (transitions_of M q) j ≡ Some (transition_spelled (names_of V) SS l) =
+        ap (λ ls. slice_get ls j) spelled_lines ∙ slice_get-map (transition_spelled (names_of V) SS) st.lines j
+        ∙ ap (option_map (transition_spelled (names_of V) SS)) e in
+        let low = keeps.leads_in q j (transition_spelled (names_of V) SS l) there in
         let same = length_map (λ (s : SourceState). s.name) p.states in
-        none_at_line V (line_spelled (names_of V) SS l) (keeps.faultless q j (line_spelled (names_of V) SS l) there)
+        none_at_line V (transition_spelled (names_of V) SS l) (keeps.faultless q j (transition_spelled (names_of V) SS l) there)
         (length SS) l.line (omega (arith, low, same, count)))
 
     state_free : state_faults V SS st ≡ []
     state_free =
         nil_both (broken_where (lacks_else st.lines) NoElse st.line) _
         (none_broken (lacks_else st.lines) NoElse st.line (has_else (names_of V) SS st.lines opens))
-        (nil_both (at_lines AfterElse (after_else false st.lines)) (lines_faults V SS st.lines)
+        (nil_both (at_lines AfterElse (after_else false st.lines)) (transitions_faults V SS st.lines)
         (ap (at_lines AfterElse) (else_last (names_of V) SS st.lines opens)) lines_free)
 
     branches_free : broken_where (branches_too_often (names_of V) SS st) TooManyBranches st.line ≡ []
     branches_free =
-        let tree = tree_of_transitions (map (line_spelled (names_of V) SS) st.lines) in
+        let tree = tree_of_transitions (map (transition_spelled (names_of V) SS) st.lines) in
         let is : branch_count M q ≡ count_leaves tree = ap (λ ls. length (branches_of ls)) spelled_lines ∙ length_leaves tree [] in
         let few = keeps.few_branches q in
         none_broken (nat_lt most_branches (count_leaves tree)) TooManyBranches st.line (le-ltb most_branches (count_leaves tree) (omega (arith, is, few)))
@@ -123,13 +125,13 @@ module _ (p : Source) (keeps : KeepsRules (machine_of p)) where
   plain : plain_faults p ≡ []
   plain =
       let low = keeps.reset_in in
-      nil_both (at_lines TwiceNamed (repeated [] (declared_names p.declarations))) _ (ap (at_lines TwiceNamed) names_once)
-      (nil_both (at_lines TooMany (past most_variables (declared_names p.declarations))) _ (ap (at_lines TooMany) names_few)
-      (nil_both (at_lines TwiceNamed (repeated [] (declared_states p.states))) _ (ap (at_lines TwiceNamed) states_once)
-      (nil_both (at_lines TooMany (past most_states (declared_states p.states))) _ (ap (at_lines TooMany) states_few)
-      (nil_both (broken_where (not (nat_lt (place SS p.reset) (length p.states))) UnknownState p.reset_line) _
-      (none_broken (not (nat_lt (place SS p.reset) (length p.states))) UnknownState p.reset_line
-      (ap not (lt-ltb (place SS p.reset) (length p.states) (omega (arith, low, count)))))
+      nil_both (at_lines TwiceNamed (repeated_lines [] (declared_names p.declarations))) _ (ap (at_lines TwiceNamed) names_once)
+      (nil_both (at_lines TooMany (line_past_limit most_variables (declared_names p.declarations))) _ (ap (at_lines TooMany) names_few)
+      (nil_both (at_lines TwiceNamed (repeated_lines [] (declared_states p.states))) _ (ap (at_lines TwiceNamed) states_once)
+      (nil_both (at_lines TooMany (line_past_limit most_states (declared_states p.states))) _ (ap (at_lines TooMany) states_few)
+      (nil_both (broken_where (not (nat_lt (place_or_end SS p.reset) (length p.states))) UnknownState p.reset_line) _
+      (none_broken (not (nat_lt (place_or_end SS p.reset) (length p.states))) UnknownState p.reset_line
+      (ap not (lt-ltb (place_or_end SS p.reset) (length p.states) (omega (arith, low, count)))))
       (none_flat (state_faults V SS) p.states state_free)))))
 
   pub lawful_where : ((q : ℕ) → q < length (machine_of p).states → IsEndless (machine_of p) q → ⊥) → BreaksNoRule p

@@ -6,8 +6,8 @@ use Rattle.std.specs.Str.{bytes_eq}
 use Rattle.std.proofs.lemmas.Slice.Eq.{bytes_eq-Decides}
 use Rattle.std.proofs.lemmas.Bool.{or_from, and_from, or_right, false_from_ne_true, not-true}
 use Rattle.base_lemmas.proofs.Booleans.{and_first, and_second, neither_first, neither_second}
-use Rattle.fs_rules.specs.Sound.{names_differ}
-use Rattle.fs_rules.specs.Rules.{repeated}
+use Rattle.fs_rules.specs.SoundParts.{names_differ}
+use Rattle.fs_rules.specs.Rules.{repeated_lines}
 use Rattle.fs_rules.specs.Places.{declared_name_list}
 
 abbrev pub is_listed : List ℕ → List (List ℕ) → Bool
@@ -19,12 +19,12 @@ unseen true line rest h i = absurd (cc h)
 unseen false line rest h i = i
 
 pub never_again : (before : List (List ℕ)) (ns : List (ℕ × List ℕ)) → names_differ (declared_name_list ns) ≡ true
-    → ((x : List ℕ) → is_listed x (declared_name_list ns) ≡ true → is_listed x before ≡ false) → repeated before ns ≡ []
+    → ((x : List ℕ) → is_listed x (declared_name_list ns) ≡ true → is_listed x before ≡ false) → repeated_lines before ns ≡ []
 never_again before [] h i = refl
 never_again before (n ∷ ns) h i =
     let fresh = not-true (is_listed n.1 (declared_name_list ns))
     (and_first (not (is_listed n.1 (declared_name_list ns))) (names_differ (declared_name_list ns)) h) in
-    unseen (list_any (λ m. bytes_eq m n.1) before) n.0 (repeated (n.1 ∷ before) ns)
+    unseen (list_any (λ m. bytes_eq m n.1) before) n.0 (repeated_lines (n.1 ∷ before) ns)
     (i n.1 (ap (λ b. b || is_listed n.1 (declared_name_list ns)) ((bytes_eq-Decides n.1 n.1).1 refl)))
     (never_again (n.1 ∷ before) ns (and_second (not (is_listed n.1 (declared_name_list ns))) (names_differ (declared_name_list ns)) h)
     (λ x e. or_from (bytes_eq n.1 x) (is_listed x before)

@@ -2,7 +2,7 @@
 
 ghost use Rattle.fs_model.specs.Source.{Source};
 ghost use Rattle.fs_rules.specs.MachineOfParts.{machine_of};
-ghost use Rattle.fs_rules.specs.Sound.{IsSound};
+ghost use Rattle.fs_rules.specs.SoundParts.{IsSound};
 ghost use Rattle.fs_rules.specs.Rules.{BreaksNoRule};
 
 /// Parts that spell a sound machine are lawful.

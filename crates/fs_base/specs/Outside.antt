@@ -8,7 +8,7 @@ use Rattle.fs_base.specs.declared.outside.StoreError.TheVariants.{Failed as NotS
 -- what is told of a name: nothing is known, no file stands there, or a file of these bytes
 pub data FileKnowledge : Type 0 where
   Unknown : FileKnowledge
-  Nothing : FileKnowledge
+  NoFile : FileKnowledge
   Bytes : List ℕ → FileKnowledge
 
 -- what is told of files: what stands under each name, how often each name failed to be read, and to be written, and the names
@@ -56,13 +56,13 @@ OthersHeld name old new = (other : List ℕ) → other ≢ name → new other �
 -- where it is told what a name holds, it is these bytes
 abbrev pub AreHeld : FileKnowledge → List ℕ → Type 0
 AreHeld Unknown bytes = Unit {0}
-AreHeld Nothing bytes = ⊥
+AreHeld NoFile bytes = ⊥
 AreHeld (Bytes held) bytes = bytes ≡ held
 
 -- where it is told what a name holds, it is more than so many bytes
 abbrev pub MoreAreHeld : FileKnowledge → ℕ → Type 0
 MoreAreHeld Unknown limit = Unit {0}
-MoreAreHeld Nothing limit = ⊥
+MoreAreHeld NoFile limit = ⊥
 MoreAreHeld (Bytes held) limit = limit < length held
 
 -- if the load failed, then P
@@ -86,7 +86,7 @@ WhereNoMemory P NoMemory = P
 -- what a name holds once bytes were stored under it: these bytes, where it is told
 abbrev pub held_after : FileKnowledge → List ℕ → FileKnowledge
 held_after Unknown bytes = Unknown
-held_after Nothing bytes = Bytes bytes
+held_after NoFile bytes = Bytes bytes
 held_after (Bytes held) bytes = Bytes bytes
 
 -- where it is told which names were loaded so far, they are those of before, and behind them these, in order. What was not told
@@ -113,14 +113,14 @@ LosesAtMost most (Some old) None = ⊥
 LosesAtMost most (Some old) (Some new) = length old ≤ length new + most
 
 -- what a sink got once it took more bytes, where it is told
-abbrev pub appended : Option (List ℕ) → List ℕ → Option (List ℕ)
-appended None bytes = None
-appended (Some got) bytes = Some (got ++ bytes)
+abbrev pub got_after : Option (List ℕ) → List ℕ → Option (List ℕ)
+got_after None bytes = None
+got_after (Some got) bytes = Some (got ++ bytes)
 
 -- the room that is left once so many bytes were taken, where it is told
-abbrev pub lowered : Option ℕ → ℕ → Option ℕ
-lowered None taken = None
-lowered (Some spare) taken = Some (spare - taken)
+abbrev pub room_after : Option ℕ → ℕ → Option ℕ
+room_after None taken = None
+room_after (Some spare) taken = Some (spare - taken)
 
 -- so many bytes have room, where it is told
 abbrev pub HasRoom : Option ℕ → ℕ → Type 0

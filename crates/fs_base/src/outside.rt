@@ -85,7 +85,7 @@ pub trait Files {
 /// What is told of it: `got` is the bytes taken so far, and `spare` the number of bytes for which room was made, each
 /// where it can be told, and no call changes whether it is told; `faults` counts its failures and never falls.
 pub trait Sink {
-    ghost use Rattle.fs_base.specs.Outside.{SinkTold, Rose, appended, lowered, HasRoom};
+    ghost use Rattle.fs_base.specs.Outside.{SinkTold, Rose, got_after, room_after, HasRoom};
 
     ghost told: { Self → SinkTold };
 
@@ -101,8 +101,8 @@ pub trait Sink {
         requires { HasRoom (told self.old).spare (length piece.now) }
         ensures within { IfOk result (λ taken. taken ≤ length piece.now) }
         ensures some { IfOk result (λ taken. 0 < length piece.now → 0 < taken) }
-        ensures got { IfOk result (λ taken. (told self.new).got ≡ appended (told self.old).got (take taken piece.now)) }
-        ensures spare { IfOk result (λ taken. (told self.new).spare ≡ lowered (told self.old).spare taken) }
+        ensures got { IfOk result (λ taken. (told self.new).got ≡ got_after (told self.old).got (take taken piece.now)) }
+        ensures spare { IfOk result (λ taken. (told self.new).spare ≡ room_after (told self.old).spare taken) }
         ensures failed { OnErr result (Rose (told self.old).faults (told self.new).faults) }
         ensures empty { OnErr result (0 < length piece.now) }
         ensures got_nothing { OnErr result ((told self.new).got ≡ (told self.old).got) }

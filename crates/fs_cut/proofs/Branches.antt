@@ -7,6 +7,7 @@ use Rattle.std.proofs.lemmas.List.Folds.{list_all-append}
 use Rattle.std.proofs.lemmas.Bool.{and_from, lt-ltb, ltb-true}
 use Rattle.base_lemmas.proofs.Booleans.{and_first, and_second}
 use Rattle.base_lemmas.proofs.Lists.{one_element}
+use Rattle.fs_rules.specs.SoundParts.{IsSound, branch_count, is_cutpoint, first_transition_target}
 use Rattle.fs_model.specs.Terms.{Literal, Guard, Test, Not, And, Or, Assignment, Transition}
 use Rattle.fs_model.specs.Machines.{Fsmd, transitions_of}
 use Rattle.fs_model.specs.Stores.{Store}
@@ -14,7 +15,6 @@ use Rattle.fs_model.specs.Meaning.{transition_taken, act_all}
 use Rattle.fs_model.specs.Runs.{Step as StepOf, AfterStep}
 use Rattle.fs_model.specs.Trees.{Tree, Empty, Leaf, Node, Branch, tree_of_guard, tree_of_condition, tree_of_transitions, leaves, branches_of, negated_literal}
 use Rattle.fs_model.specs.Trees.{branch_holds}
-use Rattle.fs_ast.specs.SoundMachines.{IsSound, branch_count, is_cutpoint, first_transition_target}
 use Rattle.fs_ast.proofs.Opens.{takes_one}
 use Rattle.fs_cut.specs.Paths.{BranchStep, branch_at, target_of, store_after}
 use Rattle.fs_cut.specs.Cuts.{taken_index, branch_taken}

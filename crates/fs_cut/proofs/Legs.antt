@@ -2,10 +2,10 @@
 use Rattle.std.proofs.Common.{◌≡◌, ℕ, zero, suc, ◌+◌, ◌<◌, ◌==◌, List, [], ◌∷◌, ◌++◌, length, map, ap, sym, refl, ◌∙◌, subst, arith, cond, Bool, true, false}
 use Rattle.std.specs.Prelude.{◌≢◌}
 use Rattle.std.proofs.lemmas.Bool.Decides.{nat_tests}
+use Rattle.fs_rules.specs.SoundParts.{IsSound, is_cutpoint}
 use Rattle.fs_model.specs.Machines.{Fsmd}
 use Rattle.fs_model.specs.Stores.{Store}
 use Rattle.fs_model.specs.Runs.{ReachesReset, FirstReturn}
-use Rattle.fs_ast.specs.SoundMachines.{IsSound, is_cutpoint}
 use Rattle.fs_cut.specs.Paths.{Point, Start, At, Done, Path, IsPath, BranchStep, is_point, state_of, target_of, Passes, steps_by, steps_in, store_after}
 use Rattle.fs_cut.specs.Paths.{store_after_steps, takes}
 use Rattle.fs_cut.specs.Covers.{path_by}

@@ -7,12 +7,13 @@ use Rattle.std.proofs.lemmas.Bool.Decides.{nat_tests}
 use Rattle.std.proofs.lemmas.List.FromFn.{get_or-map-range_with_len, length-map-range_with_len, length-range_with_len}
 use Rattle.std.proofs.lemmas.Bool.{and_from, eqb-true}
 use Rattle.base_lemmas.proofs.Booleans.{and_first, and_second, or_other}
+use Rattle.fs_rules.specs.SoundParts.{IsSound, branch_count, is_cutpoint, first_transition_target, reaches_cutpoint}
 use Rattle.fs_model.specs.Limits.{most_branches}
 use Rattle.fs_model.specs.Machines.{State, Fsmd, transitions_of}
 use Rattle.fs_model.specs.Trees.{branches_of}
-use Rattle.fs_ast.specs.SoundMachines.{IsSound, branch_count, is_cutpoint, first_transition_target, reaches_cutpoint}
 use Rattle.fs_cut.specs.Paths.{Point, Start, At, Done, Path, IsPath, is_fork, is_point, state_of, end_at, target_of, Passes}
-use Rattle.fs_cut.specs.Covers.{passed_states, reached, path_by, paths_by, paths_of, points_of, PointPaths, entries, cover_of, same_point, has_point}
+use Rattle.fs_cut.specs.Covers.{passed_states, state_reached, path_by, paths_by, paths_of, points_of, PointPaths, points_with_paths, cover_of, same_point}
+use Rattle.fs_cut.specs.Covers.{has_point}
 use Rattle.fs_cut.specs.Covers.{paths_from}
 use Rattle.fs_cut.specs.View.{listed_paths, ListsPoints}
 use Rattle.fs_cut.proofs.Branches.{target_in, some_branch, first_target}
@@ -45,13 +46,13 @@ passes_end m (x ∷ xs) q P w = passes_end m xs (target_of m q 0) P w.2
 
 -- ---- the states of a path
 passes_by : (m : Fsmd) (n q : ℕ) (b : Bool) → is_cutpoint m q ≡ b
-    → (is_cutpoint m q ≡ false → Passes m (target_of m q 0) (passed_states m n (target_of m q 0)) (end_at m (reached m n (target_of m q 0))))
-    → Passes m q (cond b [] (q ∷ passed_states m n (target_of m q 0))) (end_at m (cond b q (reached m n (target_of m q 0))))
+    → (is_cutpoint m q ≡ false → Passes m (target_of m q 0) (passed_states m n (target_of m q 0)) (end_at m (state_reached m n (target_of m q 0))))
+    → Passes m q (cond b [] (q ∷ passed_states m n (target_of m q 0))) (end_at m (cond b q (state_reached m n (target_of m q 0))))
 passes_by m n q true e next = (e, refl)
 passes_by m n q false e next = (e, refl, next e)
 
 pub passes : (m : Fsmd) → IsSound m → (n q : ℕ) → q < length m.states → reaches_cutpoint m n q ≡ true
-    → Passes m q (passed_states m n q) (end_at m (reached m n q))
+    → Passes m q (passed_states m n q) (end_at m (state_reached m n q))
 passes m sound zero q h c = (c, refl)
 passes m sound (suc n) q h c =
     passes_by m n q (is_cutpoint m q) refl (λ e. passes m sound n (target_of m q 0) (target_in m sound q 0 (some_branch m sound q h))
@@ -154,7 +155,7 @@ and_false false = refl
 
 module _ (m : Fsmd) (f : Point → List Path) where
   abbrev lists : List Point → Point → Bool
-  lists ps P = has_point (entries f ps) P
+  lists ps P = has_point (points_with_paths f ps) P
 
   fork_by : (x q : ℕ) (b : Bool) (ps : List Point) (a : Bool) → is_fork m x ≡ b → lists ps (At q) ≡ (is_fork m q && a)
       → lists (cond b (At x ∷ ps) ps) (At q) ≡ (is_fork m q && ((x == q) || a))
@@ -192,7 +193,7 @@ fork_ranges : (m : Fsmd) (q : ℕ) (b : Bool) → is_fork m q ≡ b → (is_fork
 fork_ranges m q true e = and_from _ _ e (range_has 0 (length m.states) q (omega arith) (omega (arith, fork_state m q e))) ∙ sym e
 fork_ranges m q false e = ap (λ (b : Bool). b && list_any (λ x. x == q) (range_with_len 0 (length m.states))) e ∙ sym e
 
-pub points_listed_by : (m : Fsmd) (f : Point → List Path) (P : Point) → has_point (entries f (points_of m)) P ≡ is_point m P
+pub points_listed_by : (m : Fsmd) (f : Point → List Path) (P : Point) → has_point (points_with_paths f (points_of m)) P ≡ is_point m P
 points_listed_by m f Start = refl
 points_listed_by m f (At q) = forks_listed m f (range_with_len 0 (length m.states)) q ∙ fork_ranges m q (is_fork m q) refl
 points_listed_by m f Done = done_listed m f (range_with_len 0 (length m.states))
@@ -212,23 +213,25 @@ same_is Done Start h = absurd (cc h)
 same_is Done (At r) h = absurd (cc h)
 same_is Done Done h = refl
 
-found_by : (f : Point → List Path) (p P : Point) (ps : List Point) (t : Bool) → same_point p P ≡ t → (same_point p P || has_point (entries f ps) P) ≡ true
-    → (has_point (entries f ps) P ≡ true → paths_from (entries f ps) P ≡ f P)
-    → cond t (f p) (paths_from (entries f ps) P) ≡ f P
+found_by : (f : Point → List Path) (p P : Point) (ps : List Point) (t : Bool) → same_point p P ≡ t
+    → (same_point p P || has_point (points_with_paths f ps) P) ≡ true
+    → (has_point (points_with_paths f ps) P ≡ true → paths_from (points_with_paths f ps) P ≡ f P)
+    → cond t (f p) (paths_from (points_with_paths f ps) P) ≡ f P
 found_by f p P ps true e h next = ap f (same_is p P e)
-found_by f p P ps false e h next = next (or_other (same_point p P) (has_point (entries f ps) P) e h)
+found_by f p P ps false e h next = next (or_other (same_point p P) (has_point (points_with_paths f ps) P) e h)
 
-pub found : (f : Point → List Path) (ps : List Point) (P : Point) → has_point (entries f ps) P ≡ true → paths_from (entries f ps) P ≡ f P
+pub found : (f : Point → List Path) (ps : List Point) (P : Point) → has_point (points_with_paths f ps) P ≡ true → paths_from (points_with_paths f ps) P ≡ f P
 found f [] P h = absurd (cc h)
 found f (p ∷ ps) P h = found_by f p P ps (same_point p P) refl h (found f ps P)
 
-missing_by : (f : Point → List Path) (p P : Point) (ps : List Point) (t : Bool) → same_point p P ≡ t → (same_point p P || has_point (entries f ps) P) ≡ false
-    → (has_point (entries f ps) P ≡ false → paths_from (entries f ps) P ≡ [])
-    → cond t (f p) (paths_from (entries f ps) P) ≡ []
-missing_by f p P ps true e h next = absurd (cc (sym (ap (λ (b : Bool). b || has_point (entries f ps) P) e) ∙ h))
-missing_by f p P ps false e h next = next (sym (ap (λ (b : Bool). b || has_point (entries f ps) P) e) ∙ h)
+missing_by : (f : Point → List Path) (p P : Point) (ps : List Point) (t : Bool) → same_point p P ≡ t
+    → (same_point p P || has_point (points_with_paths f ps) P) ≡ false
+    → (has_point (points_with_paths f ps) P ≡ false → paths_from (points_with_paths f ps) P ≡ [])
+    → cond t (f p) (paths_from (points_with_paths f ps) P) ≡ []
+missing_by f p P ps true e h next = absurd (cc (sym (ap (λ (b : Bool). b || has_point (points_with_paths f ps) P) e) ∙ h))
+missing_by f p P ps false e h next = next (sym (ap (λ (b : Bool). b || has_point (points_with_paths f ps) P) e) ∙ h)
 
-pub missing : (f : Point → List Path) (ps : List Point) (P : Point) → has_point (entries f ps) P ≡ false → paths_from (entries f ps) P ≡ []
+pub missing : (f : Point → List Path) (ps : List Point) (P : Point) → has_point (points_with_paths f ps) P ≡ false → paths_from (points_with_paths f ps) P ≡ []
 missing f [] P h = refl
 missing f (p ∷ ps) P h = missing_by f p P ps (same_point p P) refl h (missing f ps P)
 
@@ -238,13 +241,13 @@ others_missing m P h = missing (paths_of m) (points_of m) P (points_listed m P �
 pub paths_listed : (m : Fsmd) (P : Point) → is_point m P ≡ true → paths_from (cover_of m) P ≡ paths_of m P
 paths_listed m P h = found (paths_of m) (points_of m) P (points_listed m P ∙ h)
 
-pub points_are : (f : Point → List Path) (ps : List Point) → map (λ (e : PointPaths). e.point) (entries f ps) ≡ ps
+pub points_are : (f : Point → List Path) (ps : List Point) → map (λ (e : PointPaths). e.point) (points_with_paths f ps) ≡ ps
 points_are f [] = refl
 points_are f (p ∷ ps) = ap (λ (l : List Point). p ∷ l) (points_are f ps)
 
 -- ---- the cover that is made
 entries_same : (f g : Point → List Path) (test : Point → Bool) (ps : List Point) → list_all test ps ≡ true → ((P : Point) → test P ≡ true → f P ≡ g P)
-    → entries f ps ≡ entries g ps
+    → points_with_paths f ps ≡ points_with_paths g ps
 entries_same f g test [] h s = refl
 entries_same f g test (p ∷ ps) h s =
     ap₂ (λ (l : List Path) (es : List PointPaths). record { point = p; paths = l } ∷ es) (s p (and_first (test p) (list_all test ps) h))
@@ -273,9 +276,9 @@ listed_is m start forks e f (At q) h =
 listed_is m start forks e f Done h = refl
 
 pub cover_is : (m : Fsmd) (start : List Path) (forks : List (List Path)) (ps : List Point) → start ≡ paths_by m Start m.reset
-    → forks ≡ map (paths_at m) (range_with_len 0 (length m.states)) → ps ≡ points_of m → entries (listed_paths start forks) ps ≡ cover_of m
+    → forks ≡ map (paths_at m) (range_with_len 0 (length m.states)) → ps ≡ points_of m → points_with_paths (listed_paths start forks) ps ≡ cover_of m
 cover_is m start forks ps e f p =
-    ap (entries (listed_paths start forks)) p ∙ entries_same (listed_paths start forks) (paths_of m) (is_point m) (points_of m)
+    ap (points_with_paths (listed_paths start forks)) p ∙ entries_same (listed_paths start forks) (paths_of m) (is_point m) (points_of m)
     (all_points m (range_with_len 0 (length m.states))) (listed_is m start forks e f)
 
 -- what stands past the end of a list
@@ -303,5 +306,6 @@ pub lists_points : (m : Fsmd) (start : List Path) (forks : List (List Path)) (ps
     → ps ≡ points_of m → ListsPoints ps start forks
 lists_points m start forks ps f p = record {
   no_other = λ P h. none_listed m start forks f P
-      (sym (points_listed_by m (listed_paths start forks) P) ∙ ap (λ (l : List Point). has_point (entries (listed_paths start forks) l) P) (sym p) ∙ h);
+      (sym (points_listed_by m (listed_paths start forks) P)
+      ∙ ap (λ (l : List Point). has_point (points_with_paths (listed_paths start forks) l) P) (sym p) ∙ h);
 }

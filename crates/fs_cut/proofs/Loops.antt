@@ -4,13 +4,13 @@ use Rattle.std.proofs.Common.{append-nil, Bool, true, false}
 use Rattle.std.specs.Prelude.{cond, filter}
 use Rattle.std.specs.List.{slice_index_or, range_with_len}
 use Rattle.std.proofs.lemmas.List.{get_or-map, length-map}
+use Rattle.fs_rules.specs.SoundParts.{IsSound, branch_count, is_cutpoint}
 use Rattle.fs_model.specs.declared.parts.Branch.{Branch as CodeBranch}
 use Rattle.fs_model.specs.Machines.{Fsmd, transitions_of}
 use Rattle.fs_model.specs.Trees.{Branch, branches_of}
 use Rattle.fs_model.specs.View.{branch_of}
-use Rattle.fs_ast.specs.SoundMachines.{IsSound, branch_count, is_cutpoint}
 use Rattle.fs_cut.specs.Paths.{Point, At, Done, Path, is_fork, target_of}
-use Rattle.fs_cut.specs.Covers.{passed_states, reached, PointPaths, entries, has_point, paths_from, points_of}
+use Rattle.fs_cut.specs.Covers.{passed_states, state_reached, PointPaths, points_with_paths, has_point, paths_from, points_of}
 use Rattle.fs_cut.specs.View.{listed_paths, ListsPoints}
 use Rattle.fs_cut.proofs.Branches.{target_in, some_branch, no_branch}
 use Rattle.fs_cut.proofs.Listed.{found, missing, none_past}
@@ -73,18 +73,19 @@ passed_more m n k q t h c e =
     ap (λ i. passed_states m i q) j ∙ ap (λ b. cond b [] (q ∷ passed_states m (n - (k + 1)) (target_of m q 0))) c
     ∙ ap (λ x. q ∷ passed_states m (n - (k + 1)) x) (sym e)
 
-pub reached_more : (m : Fsmd) (n k q t : ℕ) → k < n → is_cutpoint m q ≡ false → t ≡ target_of m q 0 → reached m (n - k) q ≡ reached m (n - (k + 1)) t
+pub reached_more : (m : Fsmd) (n k q t : ℕ) → k < n → is_cutpoint m q ≡ false → t ≡ target_of m q 0
+    → state_reached m (n - k) q ≡ state_reached m (n - (k + 1)) t
 reached_more m n k q t h c e =
     let j : n - k ≡ suc (n - (k + 1)) = omega arith in
-    ap (λ i. reached m i q) j ∙ ap (λ b. cond b q (reached m (n - (k + 1)) (target_of m q 0))) c ∙ ap (λ x. reached m (n - (k + 1)) x) (sym e)
+    ap (λ i. state_reached m i q) j ∙ ap (λ b. cond b q (state_reached m (n - (k + 1)) (target_of m q 0))) c ∙ ap (λ x. state_reached m (n - (k + 1)) x) (sym e)
 
 pub passed_none : (m : Fsmd) (j q : ℕ) → is_cutpoint m q ≡ true → passed_states m j q ≡ []
 passed_none m zero q c = refl
 passed_none m (suc j) q c = ap (λ b. cond b [] (q ∷ passed_states m j (target_of m q 0))) c
 
-pub reached_here : (m : Fsmd) (j q : ℕ) → is_cutpoint m q ≡ true → reached m j q ≡ q
+pub reached_here : (m : Fsmd) (j q : ℕ) → is_cutpoint m q ≡ true → state_reached m j q ≡ q
 reached_here m zero q c = refl
-reached_here m (suc j) q c = ap (λ b. cond b q (reached m j (target_of m q 0))) c
+reached_here m (suc j) q c = ap (λ b. cond b q (state_reached m j (target_of m q 0))) c
 
 pub all_passed : (out whole rest : List ℕ) → rest ≡ [] → out ++ rest ≡ whole → out ≡ whole
 all_passed out whole rest e h = sym (append-nil out) ∙ ap (λ l. out ++ l) (sym e) ∙ h
@@ -112,14 +113,15 @@ points_done m old k n e h = sym (ap (λ j. old ++ (map At (filter (is_fork m) (r
 
 -- ---- what is found in a cover
 found_by : (start : List Path) (forks : List (List Path)) (ps : List Point) (P : Point) (t : Bool) → ListsPoints ps start forks
-    → has_point (entries (listed_paths start forks) ps) P ≡ t → paths_from (entries (listed_paths start forks) ps) P ≡ listed_paths start forks P
+    → has_point (points_with_paths (listed_paths start forks) ps) P ≡ t
+    → paths_from (points_with_paths (listed_paths start forks) ps) P ≡ listed_paths start forks P
 found_by start forks ps P true i h = found (listed_paths start forks) ps P h
 found_by start forks ps P false i h = missing (listed_paths start forks) ps P h ∙ sym (i.no_other P h)
 
 pub found_in : (start : List Path) (forks : List (List Path)) (ps : List Point) (es : List PointPaths) (P Q : Point) → ListsPoints ps start forks
-    → entries (listed_paths start forks) ps ≡ es → P ≡ Q → listed_paths start forks Q ≡ paths_from es P
+    → points_with_paths (listed_paths start forks) ps ≡ es → P ≡ Q → listed_paths start forks Q ≡ paths_from es P
 found_in start forks ps es P Q i e d =
-    ap (listed_paths start forks) (sym d) ∙ sym (found_by start forks ps P (has_point (entries (listed_paths start forks) ps) P) i refl)
+    ap (listed_paths start forks) (sym d) ∙ sym (found_by start forks ps P (has_point (points_with_paths (listed_paths start forks) ps) P) i refl)
     ∙ ap (λ (l : List PointPaths). paths_from l P) e
 
 pub some_at : {X Y : Type 0} (g : X → List Y) (xs ys : List X) (q : ℕ) (x : X) → ys ≡ xs → q < length ys → x ≡ slice_index_or ys q x

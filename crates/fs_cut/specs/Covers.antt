@@ -1,8 +1,8 @@
 -- The points of a machine, each with its paths.
 use Rattle.std.specs.Prelude.{ℕ, zero, suc, ◌==◌, Bool, true, false, cond, List, [], ◌∷◌, ◌++◌, map, length, filter}
 use Rattle.std.specs.List.{range_with_len, list_any}
+use Rattle.fs_rules.specs.SoundParts.{branch_count, is_cutpoint}
 use Rattle.fs_model.specs.Machines.{Fsmd}
-use Rattle.fs_ast.specs.SoundMachines.{branch_count, is_cutpoint}
 use Rattle.fs_cut.specs.Paths.{Point, Start, At, Done, Path, is_fork, end_at, target_of}
 
 -- from a state on, the states that are left by their one branch, at most n
@@ -11,9 +11,9 @@ passed_states m zero q = []
 passed_states m (suc n) q = cond (is_cutpoint m q) [] (q ∷ passed_states m n (target_of m q 0))
 
 -- the state to which they lead
-abbrev pub reached : Fsmd → ℕ → ℕ → ℕ
-reached m zero q = q
-reached m (suc n) q = cond (is_cutpoint m q) q (reached m n (target_of m q 0))
+abbrev pub state_reached : Fsmd → ℕ → ℕ → ℕ
+state_reached m zero q = q
+state_reached m (suc n) q = cond (is_cutpoint m q) q (state_reached m n (target_of m q 0))
 
 -- the path from a point by a branch of its state q
 abbrev pub path_by : Fsmd → Point → ℕ → ℕ → Path
@@ -23,7 +23,7 @@ path_by m P q k =
       from = P;
       branch = k;
       states = q ∷ passed_states m (length m.states) first;
-      to = end_at m (reached m (length m.states) first);
+      to = end_at m (state_reached m (length m.states) first);
     }
 
 -- the paths from a point by the branches of its state q, in order
@@ -46,12 +46,12 @@ pub record PointPaths : Type 0 where
   pub paths : List Path
 
 -- points with what is listed for each
-abbrev pub entries : (Point → List Path) → List Point → List PointPaths
-entries f ps = map (λ P. record { point = P; paths = f P }) ps
+abbrev pub points_with_paths : (Point → List Path) → List Point → List PointPaths
+points_with_paths f ps = map (λ P. record { point = P; paths = f P }) ps
 
 -- the cover of a machine
 abbrev pub cover_of : Fsmd → List PointPaths
-cover_of m = entries (paths_of m) (points_of m)
+cover_of m = points_with_paths (paths_of m) (points_of m)
 
 abbrev pub same_point : Point → Point → Bool
 same_point Start Start = true

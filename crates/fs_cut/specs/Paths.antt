@@ -1,11 +1,11 @@
 -- Points of a machine, and the paths between them.
 use Rattle.std.specs.Prelude.{◌≡◌, ◌≢◌, ℕ, ◌<◌, ◌==◌, nat_lt, Bool, true, false, not, ◌&&◌, cond, List, [], ◌∷◌, map}
 use Rattle.std.specs.List.{slice_index_or}
+use Rattle.fs_rules.specs.SoundParts.{branch_count, is_cutpoint}
 use Rattle.fs_model.specs.Machines.{Fsmd, transitions_of}
 use Rattle.fs_model.specs.Stores.{Store}
 use Rattle.fs_model.specs.Meaning.{act_all}
 use Rattle.fs_model.specs.Trees.{Branch, branches_of, branch_holds}
-use Rattle.fs_ast.specs.SoundMachines.{branch_count, is_cutpoint}
 
 -- the reset state as a run begins, a state with more than one branch, or the return to the reset state
 pub data Point : Type 0 where

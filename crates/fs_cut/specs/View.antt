@@ -5,7 +5,7 @@ use Rattle.fs_cut.specs.declared.cover.Point.{Point as CodePoint}
 use Rattle.fs_cut.specs.declared.cover.Point.TheVariants as code
 use Rattle.fs_cut.specs.declared.cover.Path.{Path as CodePath}
 use Rattle.fs_cut.specs.Paths.{Point, Start, At, Done, Path}
-use Rattle.fs_cut.specs.Covers.{entries, has_point}
+use Rattle.fs_cut.specs.Covers.{points_with_paths, has_point}
 
 abbrev pub point_of : CodePoint → Point
 point_of code.Start = Start
@@ -23,4 +23,5 @@ listed_paths start forks Done = []
 
 -- nothing is listed for what isn't among the points
 pub record ListsPoints (ps : List Point) (start : List Path) (forks : List (List Path)) : Type 0 where
-  pub no_other : (P : Point) → has_point (entries (listed_paths start forks) ps) P ≡ false → listed_paths start forks P ≡ []
+  pub no_other : (P : Point) → has_point (points_with_paths (listed_paths start forks) ps) P ≡ false
+      → listed_paths start forks P ≡ []

@@ -2,7 +2,7 @@
 //! IEEE TCAD 2008, and Banerjee and others, IEEE TCAD 2014).
 
 ghost use Rattle.std.specs.Prelude.{◌≡◌, map};
-ghost use Rattle.fs_cut.specs.Covers.{entries, paths_from};
+ghost use Rattle.fs_cut.specs.Covers.{points_with_paths, paths_from};
 ghost use Rattle.fs_cut.specs.View.{point_of, path_of, listed_paths, ListsPoints};
 
 use fs_model::parts::StateId;
@@ -41,12 +41,13 @@ pub struct Cover {
 
 impl Model for Cover {
     ghost use Rattle.std.specs.Prelude.{List, map};
-    ghost use Rattle.fs_cut.specs.Covers.{PointPaths, entries};
+    ghost use Rattle.fs_cut.specs.Covers.{PointPaths, points_with_paths};
     ghost use Rattle.fs_cut.specs.View.{point_of, path_of, listed_paths, ListsPoints};
 
     ghost Value = { List PointPaths };
 
-    ghost view = { λ c. entries (listed_paths (map path_of c.start.items) (map (λ ps. map path_of ps.items) c.forks.items))
+    ghost view = { λ c. points_with_paths
+        (listed_paths (map path_of c.start.items) (map (λ ps. map path_of ps.items) c.forks.items))
         (map point_of c.points.items) };
 
     ghost invariant = { λ c. ListsPoints (map point_of c.points.items) (map path_of c.start.items)
@@ -81,7 +82,8 @@ impl Cover {
     pub(crate) fn of(points: Vec<Point>, start: Vec<Path>, forks: Vec<Vec<Path>>) -> Cover
         requires { ListsPoints (map point_of points.items) (map path_of start.items)
             (map (λ ps. map path_of ps.items) forks.items) }
-        ensures { result ≡ entries (listed_paths (map path_of start.items) (map (λ ps. map path_of ps.items) forks.items))
+        ensures { result ≡ points_with_paths
+            (listed_paths (map path_of start.items) (map (λ ps. map path_of ps.items) forks.items))
             (map point_of points.items) }
     {
         Cover {

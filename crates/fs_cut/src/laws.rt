@@ -2,12 +2,12 @@
 
 ghost use Rattle.std.specs.Prelude.{◌≡◌, ◌≢◌, ℕ, ◌+◌, ◌<◌, ◌≤◌, true, false, List, [], length, map, Contains, IsTrue};
 ghost use Rattle.std.specs.List.{list_all, slice_index_or};
+ghost use Rattle.fs_rules.specs.SoundParts.{IsSound, branch_count};
 ghost use Rattle.fs_model.specs.Limits.{most_branches};
 ghost use Rattle.fs_model.specs.Machines.{Fsmd};
 ghost use Rattle.fs_model.specs.Stores.{Store};
 ghost use Rattle.fs_model.specs.Runs.{Step as StepOf};
 ghost use Rattle.fs_model.specs.Trees.{branch_holds};
-ghost use Rattle.fs_ast.specs.SoundMachines.{IsSound, branch_count};
 ghost use Rattle.fs_cut.specs.Paths.{Point, Done, Path, BranchStep, IsPath, is_point, state_of, branch_at, target_of, steps_in};
 ghost use Rattle.fs_cut.specs.Paths.{store_after, store_after_steps, takes};
 ghost use Rattle.fs_cut.specs.Covers.{path_by, paths_of, points_of, cover_of, has_point, paths_from};

@@ -2,9 +2,9 @@
 
 ghost use Rattle.std.specs.Prelude.{◌≡◌, ◌<◌, ◌++◌, length, map, IfOk};
 ghost use Rattle.std.specs.Result.{OnOk};
-ghost use Rattle.fs_ast.specs.SoundMachines.{branch_count, is_cutpoint};
+ghost use Rattle.fs_rules.specs.SoundParts.{branch_count, is_cutpoint};
 ghost use Rattle.fs_cut.specs.Paths.{is_fork, end_at, target_of};
-ghost use Rattle.fs_cut.specs.Covers.{passed_states, reached, path_by, paths_by};
+ghost use Rattle.fs_cut.specs.Covers.{passed_states, state_reached, path_by, paths_by};
 ghost use Rattle.fs_cut.specs.View.{point_of, path_of};
 
 use crate::cover::{Path, Point};
@@ -65,7 +65,7 @@ fn pass(m: &Machine, first: StateId, left: &mut Vec<StateId>) -> Result<StateId,
     requires { first.0 < length m.now.states }
     ensures passed { OnOk result
         (map (λ s. s.0) left.new.items ≡ map (λ s. s.0) left.old.items ++ passed_states m.now (length m.now.states) first.0) }
-    ensures reached { IfOk result (λ end. end.0 ≡ reached m.now (length m.now.states) first.0) }
+    ensures reached { IfOk result (λ end. end.0 ≡ state_reached m.now (length m.now.states) first.0) }
 {
     let mut at = first;
     // A cut comes within as many steps as there are states.

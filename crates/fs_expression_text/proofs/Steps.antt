@@ -7,7 +7,7 @@ use Rattle.fs_grammar.specs.declared.fault.TextFault.{TextFault}
 use Rattle.fs_grammar.specs.declared.token.TokenKind.{TokenKind}
 use Rattle.fs_grammar.specs.declared.token.TokenKind.TheVariants.{OpenBracket, OpenBrace, Plus, Minus, Bang, AndAnd, OrOr}
 use Rattle.fs_grammar.specs.declared.token.Token.{Token}
-use Rattle.fs_grammar.specs.Tokens.{kind_at, accepted}
+use Rattle.fs_grammar.specs.Tokens.{kind_at, tokens_after}
 use Rattle.fs_grammar.specs.PartEnds.{IsNoSum, EndsSum, IsNoAnd, EndsConjunction, IsNoOr, EndsGuard, IsNoIndex, EndsName, IsNoBrace, IsLiteral}
 use Rattle.fs_expression_text.specs.declared.operators.ProductOperator.{ProductOperator}
 use Rattle.fs_expression_text.specs.declared.operators.SumOperator.{SumOperator}
@@ -147,7 +147,7 @@ sum_goes_on o operator t s k h = rw h refl
 
 -- an operator that is taken goes on with a product
 pub takes_factor : (ts rest : List Token) (operator : ProductOperator) (p : Term (List ℕ)) (k : ProductContext) → product_operator_at ts ≡ Some operator
-    → accepted ts ≡ Ok rest → parse_expression ts (after_product p k) ≡ parse_expression rest (at_factor (next_factor operator p k))
+    → tokens_after ts ≡ Ok rest → parse_expression ts (after_product p k) ≡ parse_expression rest (at_factor (next_factor operator p k))
 takes_factor [] rest operator p k h e = absurd cc
 takes_factor (t ∷ ts) rest operator p k h e =
     let i = taken t.past_limit _ ts rest e in
@@ -155,7 +155,7 @@ takes_factor (t ∷ ts) rest operator p k h e =
 
 -- an operator that is taken goes on with a sum
 pub takes_operand : (ts rest : List Token) (operator : SumOperator) (s : Term (List ℕ)) (k : SumContext) → sum_operator_at ts ≡ Some operator
-    → accepted ts ≡ Ok rest → parse_expression ts (after_sum s k) ≡ parse_expression rest (at_factor (first_factor (next_product operator s k)))
+    → tokens_after ts ≡ Ok rest → parse_expression ts (after_sum s k) ≡ parse_expression rest (at_factor (first_factor (next_product operator s k)))
 takes_operand [] rest operator s k h e = absurd cc
 takes_operand (t ∷ ts) rest operator s k h e =
     let i = taken t.past_limit _ ts rest e in
@@ -188,7 +188,7 @@ or_goes_on OrOr g k h = refl
 or_goes_on _ g k h = absurd cc
 
 -- `&&` goes on with a conjunction
-pub takes_unit : (ts rest : List Token) (c : Guard (List ℕ)) (k : ConjunctionContext) → joins_units (kind_at ts) ≡ true → accepted ts ≡ Ok rest
+pub takes_unit : (ts rest : List Token) (c : Guard (List ℕ)) (k : ConjunctionContext) → joins_units (kind_at ts) ≡ true → tokens_after ts ≡ Ok rest
     → parse_expression ts (after_conjunction c k) ≡ parse_expression rest (at_unit (and_after c k))
 takes_unit [] rest c k h e = absurd cc
 takes_unit (t ∷ ts) rest c k h e =
@@ -196,7 +196,7 @@ takes_unit (t ∷ ts) rest c k h e =
     rw (and_goes_on t.kind c k h, i.0, i.1) refl
 
 -- `||` goes on with a guard
-pub takes_alternative : (ts rest : List Token) (g : Guard (List ℕ)) (k : GuardContext) → joins_alternatives (kind_at ts) ≡ true → accepted ts ≡ Ok rest
+pub takes_alternative : (ts rest : List Token) (g : Guard (List ℕ)) (k : GuardContext) → joins_alternatives (kind_at ts) ≡ true → tokens_after ts ≡ Ok rest
     → parse_expression ts (after_guard g k) ≡ parse_expression rest (at_unit (first_of_all (or_after g k)))
 takes_alternative [] rest g k h e = absurd cc
 takes_alternative (t ∷ ts) rest g k h e =

@@ -222,14 +222,14 @@ whole (after_product p k) = ends_product p k
 whole (after_sum s k) = ends_sum s k
 
 -- a token that cannot follow ends what is whole, and is left
-abbrev pub ended : {Y : Type 0} → Token → Option Whole → (Whole → Result Y TextFault) → Result Y TextFault
-ended t (Some w) after = after w
-ended t None after = Err (refusal (t ∷ []))
+abbrev pub end_whole : {Y : Type 0} → Token → Option Whole → (Whole → Result Y TextFault) → Result Y TextFault
+end_whole t (Some w) after = after w
+end_whole t None after = Err (refusal (t ∷ []))
 
 abbrev pub take_expression_token : {Y : Type 0} → Token → Option Inside → (Inside → Result Y TextFault) → Option Whole
     → (Whole → Result Y TextFault) → Result Y TextFault
 take_expression_token t (Some s) go w after = cond t.past_limit (Err (fault_at t Operators)) (go s)
-take_expression_token t None go w after = ended t w after
+take_expression_token t None go w after = end_whole t w after
 
 -- from a place inside on, what is read whole and the tokens after it, or the first fault
 abbrev pub parse_expression : List Token → Inside → Result (Whole × List Token) TextFault

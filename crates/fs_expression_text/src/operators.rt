@@ -50,7 +50,7 @@ pub fn sum_operator(tokens: &[Token]) -> Option<SumOperator>
 }
 
 /// A product of two factors by an operator.
-pub fn multiplied(
+pub fn make_product(
     alloc: Global,
     operator: ProductOperator,
     left: Expr<Name>,
@@ -68,7 +68,7 @@ pub fn multiplied(
 }
 
 /// A sum of two products by an operator.
-pub fn added(
+pub fn make_sum(
     alloc: Global,
     operator: SumOperator,
     left: Expr<Name>,

@@ -12,7 +12,7 @@ ghost use Rattle.fs_expression_text.specs.Inside.{product_done, at_factor, after
 ghost use Rattle.fs_expression_text.specs.Inside.{first_factor, parens, index};
 
 use crate::operators::{
-    ProductOperator, SumOperator, added, multiplied, product_operator, sum_operator,
+    ProductOperator, SumOperator, make_product, make_sum, product_operator, sum_operator,
 };
 use fs_grammar::fault::ReadError;
 use fs_grammar::token::{Token, TokenKind, accept, front, refuse};
@@ -154,7 +154,7 @@ fn product(alloc: Global, tokens: &[Token]) -> Result<(Expr<Name>, &[Token]), Re
     let (mut left, mut rest) = factor(alloc, tokens)?;
     'each: while let Some(operator) = product_operator(rest) {
         let (right, after) = further_factor(alloc, operator, rest)?;
-        left = multiplied(alloc, operator, left, right)?;
+        left = make_product(alloc, operator, left, right)?;
         rest = after;
     }
     Ok((left, rest))
@@ -202,7 +202,7 @@ pub fn sum(alloc: Global, tokens: &[Token]) -> Result<(Expr<Name>, &[Token]), Re
     let (mut left, mut rest) = operand(alloc, tokens)?;
     'each: while let Some(operator) = sum_operator(rest) {
         let (right, after) = further_operand(alloc, operator, rest)?;
-        left = added(alloc, operator, left, right)?;
+        left = make_sum(alloc, operator, left, right)?;
         rest = after;
     }
     Ok((left, rest))

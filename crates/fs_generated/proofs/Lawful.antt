@@ -15,9 +15,10 @@ use Rattle.fs_model.specs.WellFormed.{is_well_formed_state, is_well_formed}
 use Rattle.fs_model.specs.Trees.{branches_of}
 use Rattle.fs_rules.specs.declared.check.CheckRule.TheVariants.{TooManyBranches}
 use Rattle.fs_rules.specs.declared.check.CheckFault.{CheckFault}
-use Rattle.fs_rules.specs.MachineOfParts.{variables_of, names_of, state_names, state_spelled, place, machine_of}
-use Rattle.fs_rules.specs.Sound.{branch_count, is_cutpoint, reaches_cutpoint, first_transition_target}
-use Rattle.fs_rules.specs.Rules.{repeated, past, declared_names, declared_states, state_faults, branches_too_often, broken_where, plain_faults, branch_faults}
+use Rattle.fs_rules.specs.MachineOfParts.{variables_of, names_of, state_names, state_spelled, place_or_end, machine_of}
+use Rattle.fs_rules.specs.SoundParts.{branch_count, is_cutpoint, reaches_cutpoint, first_transition_target}
+use Rattle.fs_rules.specs.Rules.{repeated_lines, line_past_limit, declared_names, declared_states, state_faults, branches_too_often, broken_where, plain_faults}
+use Rattle.fs_rules.specs.Rules.{branch_faults}
 use Rattle.fs_rules.specs.Rules.{BreaksNoRule}
 use Rattle.fs_rules.proofs.Unbroken.{none_past}
 use Rattle.fs_ast.proofs.Kept.{lawful}
@@ -76,9 +77,9 @@ all_formed : (names : List (List ℕ)) (ss : List SourceState) → AllByRecursio
 all_formed names [] all = refl
 all_formed names (s ∷ ss) all = rw all.0.formed (all_formed names ss all.1)
 
-plain_none : (p : Source) → repeated [] (declared_names p.declarations) ≡ [] → past most_variables (declared_names p.declarations) ≡ []
-    → repeated [] (declared_states p.states) ≡ [] → past most_states (declared_states p.states) ≡ []
-    → nat_lt (place (state_names p.states) p.reset) (length p.states) ≡ true
+plain_none : (p : Source) → repeated_lines [] (declared_names p.declarations) ≡ [] → line_past_limit most_variables (declared_names p.declarations) ≡ []
+    → repeated_lines [] (declared_states p.states) ≡ [] → line_past_limit most_states (declared_states p.states) ≡ []
+    → nat_lt (place_or_end (state_names p.states) p.reset) (length p.states) ≡ true
     → flat_map (state_faults (variables_of p.declarations) (state_names p.states)) p.states ≡ [] → plain_faults p ≡ []
 plain_none p a b c d e f = rw (a, b, c, d, e, f) refl
 
@@ -89,9 +90,9 @@ plain round r n h =
     let count : length (declared_states ss) ≡ length ss = length_map (λ s. (s.line, s.name)) ss in
     let sum = length-append (flat_map round (range_with_len 0 n)) (last_state n ∷ []) in
     let few = few_states round r 0 n in
-    let reset : place names (entry_name 0) < length names = place_low names (entry_name 0) (has_entry round r n 0 (omega arith)) in
+    let reset : place_or_end names (entry_name 0) < length names = place_low names (entry_name 0) (has_entry round r n 0 (omega arith)) in
     let same : length names ≡ length ss = length_map (λ s. s.name) ss in
-    let inside : place names (entry_name 0) < length ss = omega arith in
+    let inside : place_or_end names (entry_name 0) < length ss = omega arith in
     plain_none (source round n) refl refl (none_repeated [] (declared_states ss) 0 tt (rise round r 0 n n (omega arith) h))
     (none_past most_states (declared_states ss) (omega arith))
     (grind (arith, nat_tests))
@@ -141,11 +142,11 @@ or_rest false b e h = absurd (cc)
 
 -- a state with the name of a head is one
 head_cut : (round : ℕ → List SourceState) → IsRound round → (n : ℕ) (t : List ℕ) → Has (state_names (generated_states round n)) t → is_head t ≡ true
-    → is_cutpoint (machine_of (source round n)) (place (state_names (generated_states round n)) t) ≡ true
+    → is_cutpoint (machine_of (source round n)) (place_or_end (state_names (generated_states round n)) t) ≡ true
 head_cut round r n t x head =
     let ss = generated_states round n in
     let names = state_names ss in
-    let q = place names t in
+    let q = place_or_end names t in
     let same : length names ≡ length ss = length_map (λ s. s.name) ss in
     let low : q < length names = place_low names t x in
     let inside : q < length ss = omega arith in

@@ -10,7 +10,7 @@ use Rattle.std.proofs.lemmas.Option.{slice_get_within}
 use Rattle.std.proofs.lemmas.List.{map-append}
 use Rattle.base_lemmas.proofs.Quantifiers.{each_append}
 use Rattle.base_lemmas.proofs.Lists.{slice_get-front, slice_get-of_map}
-use Rattle.fs_rules.specs.MachineOfParts.{place}
+use Rattle.fs_rules.specs.MachineOfParts.{place_or_end}
 use Rattle.fs_rules.proofs.Rounds.{get_back}
 
 -- an element stands in a list
@@ -66,16 +66,16 @@ tail n ns t zero e differ = let same : n ≡ t = cc in absurd (false≢true (sym
 tail n ns t (suc k) e differ = record { at = k; is = e }
 
 -- at the place of a name that stands in a list is that name
-pub place_at : (ns : List (List ℕ)) (t : List ℕ) → Has ns t → slice_get ns (place ns t) ≡ Some t
+pub place_at : (ns : List (List ℕ)) (t : List ℕ) → Has ns t → slice_get ns (place_or_end ns t) ≡ Some t
 place_at [] t h = let e = h.is in absurd (cc)
 place_at (n ∷ ns) t h =
-    elim (bytes_eq n t) as (λ b. bytes_eq n t ≡ b → slice_get (n ∷ ns) (cond b 0 (suc (place ns t))) ≡ Some t) [
+    elim (bytes_eq n t) as (λ b. bytes_eq n t ≡ b → slice_get (n ∷ ns) (cond b 0 (suc (place_or_end ns t))) ≡ Some t) [
       | true ↦ λ e. ap Some ((bytes_eq-Decides n t).0 e)
       | false ↦ λ e. place_at ns t (tail n ns t h.at h.is e)
     ] refl
 
-pub place_low : (ns : List (List ℕ)) (t : List ℕ) → Has ns t → place ns t < length ns
-place_low ns t h = slice_get_within ns (place ns t) t (place_at ns t h)
+pub place_low : (ns : List (List ℕ)) (t : List ℕ) → Has ns t → place_or_end ns t < length ns
+place_low ns t h = slice_get_within ns (place_or_end ns t) t (place_at ns t h)
 
 made_more : {X : Type 0} (f : ℕ → List X) (a n : ℕ) → flat_map f (range_with_len a (suc n)) ≡ flat_map f (range_with_len a n) ++ f (a + n)
 made_more f a zero = rw add-zero (append-nil (f a))

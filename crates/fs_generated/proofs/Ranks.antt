@@ -3,7 +3,7 @@ use Rattle.std.proofs.Common.{◌≡◌, ℕ, ◌+◌, ◌*◌, ◌-◌, ◌/◌
 use Rattle.std.specs.List.{AllByRecursion, list_any}
 use Rattle.std.specs.Str.{bytes_eq}
 use Rattle.std.proofs.lemmas.Slice.Eq.{bytes_eq-Decides}
-use Rattle.fs_rules.specs.Rules.{repeated}
+use Rattle.fs_rules.specs.Rules.{repeated_lines}
 use Rattle.fs_generated.specs.Generated.{entry_name, head_name, body_name}
 
 letter_rank : ℕ → ℕ
@@ -57,7 +57,7 @@ no_other [] n x = refl
 no_other (m ∷ ms) n x = rw (other_name m n x.0) (no_other ms n x.1)
 
 -- names whose ranks rise above those before are new
-pub none_repeated : (ms : List (List ℕ)) (ns : List (ℕ × List ℕ)) (r : ℕ) → Below r ms → Rises r ns → repeated ms ns ≡ []
+pub none_repeated : (ms : List (List ℕ)) (ns : List (ℕ × List ℕ)) (r : ℕ) → Below r ms → Rises r ns → repeated_lines ms ns ≡ []
 none_repeated ms [] r x h = refl
 none_repeated ms (n ∷ ns) r x h =
     let low = h.0 in

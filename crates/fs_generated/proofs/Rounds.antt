@@ -8,8 +8,8 @@ use Rattle.fs_model.specs.Terms.{Transition}
 use Rattle.fs_model.specs.Source.{SourceState}
 use Rattle.fs_model.specs.Trees.{branches_of}
 use Rattle.fs_model.specs.WellFormed.{is_well_formed_state}
-use Rattle.fs_rules.specs.MachineOfParts.{variables_of, names_of, line_spelled, place}
-use Rattle.fs_rules.specs.Sound.{first_transition_target}
+use Rattle.fs_rules.specs.MachineOfParts.{variables_of, names_of, transition_spelled, place_or_end}
+use Rattle.fs_rules.specs.SoundParts.{first_transition_target}
 use Rattle.fs_rules.specs.Rules.{state_faults, branches_too_often, declared_states}
 use Rattle.fs_generated.specs.declared.states.Side.{Side}
 use Rattle.fs_generated.specs.declared.states.Side.TheVariants.{Left, Right}
@@ -24,7 +24,7 @@ variables = variables_of declarations
 
 -- the transitions of a state over the places of names
 abbrev pub spelled : List (List ℕ) → SourceState → List (Transition ℕ ℕ)
-spelled names s = map (line_spelled (names_of variables) names) s.lines
+spelled names s = map (transition_spelled (names_of variables) names) s.lines
 
 -- whether a state has more than one branch
 abbrev pub forks : List (List ℕ) → SourceState → Bool
@@ -37,8 +37,8 @@ is_head (c ∷ rest) = eqb c 104
 -- paths are cut at a state or right behind it
 pub data Leads (names : List (List ℕ)) (s : SourceState) : Type 0 where
   Forks : forks names s ≡ true → Leads names s
-  ToHead : (t : List ℕ) → Has names t → is_head t ≡ true → first_transition_target (spelled names s) ≡ place names t → Leads names s
-  ToReset : first_transition_target (spelled names s) ≡ place names (entry_name 0) → Leads names s
+  ToHead : (t : List ℕ) → Has names t → is_head t ≡ true → first_transition_target (spelled names s) ≡ place_or_end names t → Leads names s
+  ToReset : first_transition_target (spelled names s) ≡ place_or_end names (entry_name 0) → Leads names s
 
 pub record IsFine (names : List (List ℕ)) (s : SourceState) : Type 0 where
   pub formed : is_well_formed_state s ≡ true
@@ -47,7 +47,7 @@ pub record IsFine (names : List (List ℕ)) (s : SourceState) : Type 0 where
   pub head_forks : (not (is_head s.name) || forks names s) ≡ true
   pub leads : Leads names s
 
-known : (names : List (List ℕ)) (t : List ℕ) → Has names t → nat_lt (place names t) (length names) ≡ true
+known : (names : List (List ℕ)) (t : List ℕ) → Has names t → nat_lt (place_or_end names t) (length names) ≡ true
 known names t h = let low = place_low names t h in grind (arith, nat_tests)
 
 not_negative : (k : ℕ) → int_lt (pos k) (pos 0) ≡ false

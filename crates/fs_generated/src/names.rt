@@ -34,7 +34,7 @@ fn last_digit(k: u32) -> u8
 }
 
 // A letter behind which the last three digits of a number stand.
-fn numbered(alloc: Global, letter: u8, k: u32) -> Result<Name, NoMemory>
+fn spell_name(alloc: Global, letter: u8, k: u32) -> Result<Name, NoMemory>
     requires { is_name (letter ∷ three_digits k) ≡ true }
     ensures { IfOk result (λ n. n ≡ letter ∷ three_digits k) }
 {
@@ -50,17 +50,17 @@ fn numbered(alloc: Global, letter: u8, k: u32) -> Result<Name, NoMemory>
 pub fn entry_name(alloc: Global, k: u32) -> Result<Name, NoMemory>
     ensures { IfOk result (λ n. n ≡ entry_name k) }
 {
-    numbered(alloc, b'p', k)
+    spell_name(alloc, b'p', k)
 }
 
 pub fn head_name(alloc: Global, k: u32) -> Result<Name, NoMemory>
     ensures { IfOk result (λ n. n ≡ head_name k) }
 {
-    numbered(alloc, b'h', k)
+    spell_name(alloc, b'h', k)
 }
 
 pub fn body_name(alloc: Global, k: u32) -> Result<Name, NoMemory>
     ensures { IfOk result (λ n. n ≡ body_name k) }
 {
-    numbered(alloc, b'e', k)
+    spell_name(alloc, b'e', k)
 }

@@ -8,7 +8,7 @@ ghost use Rattle.fs_generated.specs.Generated.{letter_assignment, transition, tu
 ghost use Rattle.fs_generated.specs.Generated.{take_summand};
 
 use crate::names::short_name;
-use fs_model::memory::boxed;
+use fs_model::memory::put_in_box;
 use fs_model::name::{Name, NoMemory};
 use fs_model::parts::{Assign, Expr, Guard, Lit, RawLine, Rel};
 use std::alloc::Global;
@@ -25,8 +25,8 @@ fn sum(alloc: Global, letter: u8, value: Expr<Name>) -> Result<Expr<Name>, NoMem
     requires { is_name (letter ∷ []) ≡ true }
     ensures { IfOk result (λ e. named_term e ≡ Sum (Variable (letter ∷ [])) (named_term value)) }
 {
-    let value = boxed(alloc, value)?;
-    let own = boxed(alloc, variable(alloc, letter)?)?;
+    let value = put_in_box(alloc, value)?;
+    let own = put_in_box(alloc, variable(alloc, letter)?)?;
     Ok(Expr::Add(own, value))
 }
 
@@ -62,8 +62,8 @@ pub fn add_to_sum(alloc: Global, value: Expr<Name>) -> Result<Assign<Name>, NoMe
 pub fn count_down(alloc: Global) -> Result<Assign<Name>, NoMemory>
     ensures { IfOk result (λ a. named_assignment a ≡ count_down) }
 {
-    let one = boxed(alloc, Expr::Num(1))?;
-    let own = boxed(alloc, variable(alloc, b'i')?)?;
+    let one = put_in_box(alloc, Expr::Num(1))?;
+    let own = put_in_box(alloc, variable(alloc, b'i')?)?;
     assign(alloc, b'i', Expr::Sub(own, one))
 }
 

@@ -5,7 +5,7 @@ use Rattle.fs_grammar.specs.declared.token.TokenKind.{TokenKind}
 use Rattle.fs_grammar.specs.declared.token.TokenKind.TheVariants.{Plus, Minus, Star, Slash, Percent, OpenBracket, Bang, OpenBrace}
 use Rattle.fs_grammar.specs.declared.token.TokenKind.TheVariants.{AndAnd, OrOr, When, Goto, Name}
 use Rattle.fs_grammar.specs.declared.token.Token.{Token}
-use Rattle.fs_grammar.specs.Tokens.{kind_at, accepted, refusal, ◌>>=◌}
+use Rattle.fs_grammar.specs.Tokens.{kind_at, tokens_after, refusal, ◌>>=◌}
 
 -- a token with which a sum does not go on
 abbrev pub IsNoSum : Option TokenKind → Type 0
@@ -73,7 +73,7 @@ begins_transition _ = false
 
 -- a name, and the tokens after it
 abbrev pub named_front : List Token → Option TokenKind → Result (List ℕ × List Token) TextFault
-named_front ts (Some (Name x)) = accepted ts >>= λ r. Ok (x, r)
+named_front ts (Some (Name x)) = tokens_after ts >>= λ r. Ok (x, r)
 named_front ts _ = Err (refusal ts)
 
 -- the name at the front, and the tokens after it

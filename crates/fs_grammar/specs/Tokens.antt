@@ -64,6 +64,6 @@ refusal [] = record { line = 0; column = 0; kind = Ended }
 refusal (t ∷ ts) = fault_at t (fault_of t.kind)
 
 -- the tokens after a first one that can follow
-abbrev pub accepted : List Token → Result (List Token) TextFault
-accepted [] = Err (refusal [])
-accepted (t ∷ ts) = cond t.past_limit (Err (fault_at t Operators)) (Ok ts)
+abbrev pub tokens_after : List Token → Result (List Token) TextFault
+tokens_after [] = Err (refusal [])
+tokens_after (t ∷ ts) = cond t.past_limit (Err (fault_at t Operators)) (Ok ts)

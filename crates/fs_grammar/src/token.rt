@@ -2,7 +2,7 @@
 
 ghost use Rattle.std.specs.Prelude.{◌≡◌, ◌<◌, length, IfOk, option_copied};
 ghost use Rattle.fs_grammar.specs.declared.fault.ReadError.TheVariants.{Text};
-ghost use Rattle.fs_grammar.specs.Tokens.{Gives, kind_at, line_at, fault_of, accepted, refusal};
+ghost use Rattle.fs_grammar.specs.Tokens.{Gives, kind_at, line_at, fault_of, tokens_after, refusal};
 
 use crate::fault::{ReadError, TextFault, TextKind, TextPlace};
 use fs_model::name::Name;
@@ -130,7 +130,7 @@ pub fn line_of(tokens: &[Token]) -> u32
 /// The tokens after the first, which can follow. The fault Operators where the first is
 /// past the limit.
 pub fn accept(tokens: &[Token]) -> Result<&[Token], ReadError>
-    ensures gives { Gives (λ r. r.now) result (accepted tokens.now) }
+    ensures gives { Gives (λ r. r.now) result (tokens_after tokens.now) }
     ensures shorter { IfOk result (λ r. length r.now < length tokens.now) }
 {
     match tokens {

@@ -1,19 +1,12 @@
 -- Numbers as input files spell them.
-use Rattle.std.specs.Prelude.{ℕ, ◌+◌, ◌*◌, ◌-◌, ◌^◌, ◌==◌, ◌&&◌, ◌||◌, nat_lt, Bool, false, not, cond, ℤ, pos, negsuc, neg_ℤ}
+use Rattle.std.specs.Prelude.{ℕ, ◌^◌, ◌==◌, ◌&&◌, ◌||◌, nat_lt, Bool, false, not, cond, ℤ, pos, negsuc, neg_ℤ}
 use Rattle.std.specs.Prelude.{List, [], ◌∷◌, Option, Some, None, codes}
-use Rattle.std.specs.List.{fold, list_all}
+use Rattle.std.specs.List.{list_all}
 use Rattle.std.specs.Str.{bytes_eq}
+use Rattle.base_integers.specs.Digits.{value_of_digits}
 use Rattle.fs_model.specs.Words.{is_digit}
 use Rattle.fs_inputs.specs.declared.numbers.Reading.{Reading}
 use Rattle.fs_inputs.specs.declared.numbers.Reading.TheVariants.{NoNumber, TooBig, Number}
-
--- a number with one digit more
-abbrev pub shifted : ℕ → ℕ → ℕ
-shifted n b = 10 * n + (b - 48)
-
--- the number of decimal digits
-abbrev pub decimal : List ℕ → ℕ
-decimal bytes = fold shifted 0 bytes
 
 -- decimal digits of which the first is not 0
 abbrev pub is_positive : List ℕ → Bool
@@ -28,8 +21,8 @@ is_natural bytes = is_positive bytes || bytes_eq bytes (codes "0")
 abbrev pub number_in : List ℕ → Option ℤ
 number_in [] = None
 number_in (b ∷ bytes) =
-    cond (b == 45) (cond (is_positive bytes) (Some (neg_ℤ (pos (decimal bytes)))) None)
-    (cond (is_natural (b ∷ bytes)) (Some (pos (decimal (b ∷ bytes)))) None)
+    cond (b == 45) (cond (is_positive bytes) (Some (neg_ℤ (pos (value_of_digits bytes)))) None)
+    (cond (is_natural (b ∷ bytes)) (Some (pos (value_of_digits (b ∷ bytes)))) None)
 
 -- a number of 128 bits: from -2^127 to 2^127 - 1
 abbrev pub fits : ℤ → Bool

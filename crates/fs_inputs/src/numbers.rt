@@ -2,8 +2,9 @@
 
 ghost use Rattle.std.specs.Prelude.{◌≡◌, ◌≤◌, ◌^◌, pos, neg_ℤ, Some, SomeIff};
 ghost use Rattle.std.specs.List.{list_all};
+ghost use Rattle.base_integers.specs.Digits.{value_of_digits};
 ghost use Rattle.fs_model.specs.Words.{is_digit};
-ghost use Rattle.fs_inputs.specs.Numbers.{decimal, is_positive, is_natural, number_in, number_reading};
+ghost use Rattle.fs_inputs.specs.Numbers.{is_positive, is_natural, number_in, number_reading};
 
 use fs_model::name::is_digit;
 
@@ -21,7 +22,7 @@ pub enum Reading {
 
 // The number of digits, and `None` exactly when it is above 2^127.
 fn magnitude(bytes: &[u8]) -> Option<u128>
-    ensures { SomeIff result (decimal bytes.now ≤ 2 ^ 127) (decimal bytes.now) }
+    ensures { SomeIff result (value_of_digits bytes.now ≤ 2 ^ 127) (value_of_digits bytes.now) }
 {
     let mut n: u128 = 0;
     for b in bytes {
@@ -37,7 +38,7 @@ fn magnitude(bytes: &[u8]) -> Option<u128>
 }
 
 fn natural(bytes: &[u8]) -> Reading
-    ensures { result ≡ number_reading (Some (pos (decimal bytes.now))) }
+    ensures { result ≡ number_reading (Some (pos (value_of_digits bytes.now))) }
 {
     match magnitude(bytes) {
         Some(n) => if n < LEAST {
@@ -50,7 +51,7 @@ fn natural(bytes: &[u8]) -> Reading
 }
 
 fn negative(bytes: &[u8]) -> Reading
-    ensures { result ≡ number_reading (Some (neg_ℤ (pos (decimal bytes.now)))) }
+    ensures { result ≡ number_reading (Some (neg_ℤ (pos (value_of_digits bytes.now)))) }
 {
     match magnitude(bytes) {
         Some(n) => if n < LEAST {

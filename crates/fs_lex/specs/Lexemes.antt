@@ -1,8 +1,9 @@
 -- What stands at the front of the bytes, and how many bytes it takes.
-use Rattle.std.specs.Prelude.{ℕ, ◌+◌, ◌*◌, ◌-◌, ◌^◌, pos, Bool, cond, not, ◌||◌, ◌==◌, nat_lt, Option, Some, None, List, [], ◌∷◌}
+use Rattle.std.specs.Prelude.{ℕ, ◌^◌, pos, Bool, cond, not, ◌||◌, ◌==◌, nat_lt, Option, Some, None, List, [], ◌∷◌}
 use Rattle.std.specs.Prelude.{take, codes}
-use Rattle.std.specs.List.{prefix_len, fold}
+use Rattle.std.specs.List.{prefix_len}
 use Rattle.std.specs.Str.{bytes_eq}
+use Rattle.base_integers.specs.Digits.{value_of_digits}
 use Rattle.fs_model.specs.Words.{is_letter, is_digit, is_word_byte, is_name}
 use Rattle.fs_model.specs.declared.parts.Rel.TheVariants.{Eq, Ne, Lt, Le, Gt, Ge}
 use Rattle.fs_model.specs.declared.parts.Role.TheVariants.{Input, Output, Local}
@@ -51,17 +52,9 @@ name_or_bad bs None = cond (is_name bs) (Name bs) (Bad Word)
 abbrev pub word_token : List ℕ → TokenKind
 word_token bs = name_or_bad bs (keyword_of bs)
 
--- a number with one digit more
-abbrev pub shifted : ℕ → ℕ → ℕ
-shifted n b = 10 * n + (b - 48)
-
--- the number that digits spell
-abbrev pub decimal : List ℕ → ℕ
-decimal bs = fold shifted 0 bs
-
 -- the token of a run of digits
 unfoldable pub number_token : List ℕ → TokenKind
-number_token bs = cond (nat_lt (decimal bs) (2 ^ 127)) (Number (pos (decimal bs))) (Bad flaws.Number)
+number_token bs = cond (nat_lt (value_of_digits bs) (2 ^ 127)) (Number (pos (value_of_digits bs))) (Bad flaws.Number)
 
 -- a punctuation of two bytes
 abbrev pub double_punctuation : ℕ → ℕ → Option TokenKind

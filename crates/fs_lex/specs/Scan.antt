@@ -20,8 +20,8 @@ place_after_bytes p [] = p
 place_after_bytes p (b ∷ bs) = place_after_bytes (place_after_byte p b) bs
 
 -- how many operators the guard or assignment has up to the token, where n stand before the token
-abbrev pub counted : TokenKind → ℕ → ℕ
-counted t n = cond (starts_expression t) 0 (cond (is_operator t) (n + 1) n)
+abbrev pub operators_up_to_token : TokenKind → ℕ → ℕ
+operators_up_to_token t n = cond (starts_expression t) 0 (cond (is_operator t) (n + 1) n)
 
 -- an operator after as many as there may be
 abbrev pub is_past_limit : TokenKind → ℕ → Bool
@@ -35,7 +35,7 @@ is_bad _ = false
 abbrev pub emit_token : Lexeme → TextPlace → ℕ → (ℕ → ℕ → List Token) → List Token
 emit_token (lexemes.Blank n) p operators go = go (n - 1) operators
 emit_token (lexemes.Token t n) p operators go = record { kind = t; past_limit = is_past_limit t operators; place = p }
-    ∷ cond (is_bad t) [] (go (n - 1) (counted t operators))
+    ∷ cond (is_bad t) [] (go (n - 1) (operators_up_to_token t operators))
 
 -- the tokens from a place on, where skip bytes still belong to the token before
 abbrev pub scan : List ℕ → ℕ → TextPlace → ℕ → List Token

@@ -4,9 +4,10 @@
 
 ghost use Rattle.std.specs.Prelude.{◌≡◌, ◌<◌, ◌≤◌, ◌^◌, length, IfOk, SomeIff};
 ghost use Rattle.std.specs.List.{prefix_len};
+ghost use Rattle.base_integers.specs.Digits.{value_of_digits};
 ghost use Rattle.fs_model.specs.Words.{is_digit, is_word_byte};
 ghost use Rattle.fs_grammar.specs.Tokens.{MadeAs};
-ghost use Rattle.fs_lex.specs.Lexemes.{is_space, is_in_comment, keyword_of, word_token, decimal, number_token};
+ghost use Rattle.fs_lex.specs.Lexemes.{is_space, is_in_comment, keyword_of, word_token, number_token};
 ghost use Rattle.fs_lex.specs.Lexemes.{double_punctuation, mark, operator, single_punctuation, punctuation_of, lexeme_of, size};
 
 use fs_grammar::fault::ReadError;
@@ -109,7 +110,7 @@ fn word(alloc: Global, bytes: &[u8]) -> Result<TokenKind, ReadError>
 
 // The number that digits spell, where it is below 2^127.
 fn value(bytes: &[u8]) -> Option<u128>
-    ensures { SomeIff result (decimal bytes.now < 2 ^ 127) (decimal bytes.now) }
+    ensures { SomeIff result (value_of_digits bytes.now < 2 ^ 127) (value_of_digits bytes.now) }
 {
     let mut n: u128 = 0;
     for b in bytes {

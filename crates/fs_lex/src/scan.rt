@@ -4,7 +4,7 @@ ghost use Rattle.std.specs.Prelude.{◌≡◌, ◌<◌, ◌≤◌, ◌+◌, ◌^
 ghost use Rattle.fs_model.specs.Limits.{most_text_bytes};
 ghost use Rattle.fs_grammar.specs.Tokens.{MadeAs};
 ghost use Rattle.fs_grammar.specs.Operators.{is_operator, starts_expression};
-ghost use Rattle.fs_lex.specs.Scan.{place_after_bytes, counted, is_past_limit, is_bad, tokens_of};
+ghost use Rattle.fs_lex.specs.Scan.{place_after_bytes, operators_up_to_token, is_past_limit, is_bad, tokens_of};
 
 use crate::lexemes::{Lexeme, next_lexeme};
 use fs_grammar::fault::{ReadError, TextPlace};
@@ -48,9 +48,9 @@ fn is_bad(kind: &TokenKind) -> bool
 }
 
 // The operators of the guard or assignment up to the token, where so many stand before it.
-fn counted(kind: &TokenKind, operators: usize) -> usize
+fn count_operators(kind: &TokenKind, operators: usize) -> usize
     requires { operators + 1 < 2 ^ 64 }
-    ensures is { result ≡ counted kind.now operators }
+    ensures is { result ≡ operators_up_to_token kind.now operators }
     ensures small { result ≤ operators + 1 }
 {
     if starts_expression(kind) {
@@ -70,7 +70,7 @@ fn is_past_limit(kind: &TokenKind, operators: usize) -> bool
 }
 
 // The place behind some bytes.
-fn moved(from: TextPlace, bytes: &[u8]) -> TextPlace
+fn move_place(from: TextPlace, bytes: &[u8]) -> TextPlace
     requires line { from.line + length bytes.now < 2 ^ 32 }
     requires column { from.column + length bytes.now < 2 ^ 32 }
     requires some { 0 < from.column }
@@ -112,13 +112,13 @@ pub fn tokens(alloc: Global, bytes: &[u8]) -> Result<Vec<Token>, ReadError>
         match next_lexeme(alloc, rest)? {
             Lexeme::Blank(n) => {
                 let (front, behind) = rest.split_at(n);
-                place = moved(place, front);
+                place = move_place(place, front);
                 rest = behind;
             }
             Lexeme::Token(kind, n) => {
                 let past_limit = is_past_limit(&kind, operators);
                 let bad = is_bad(&kind);
-                operators = counted(&kind, operators);
+                operators = count_operators(&kind, operators);
                 out.push(Token {
                     kind,
                     past_limit,
@@ -128,7 +128,7 @@ pub fn tokens(alloc: Global, bytes: &[u8]) -> Result<Vec<Token>, ReadError>
                     return Ok(out);
                 }
                 let (front, behind) = rest.split_at(n);
-                place = moved(place, front);
+                place = move_place(place, front);
                 rest = behind;
             }
         }

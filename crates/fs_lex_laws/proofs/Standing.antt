@@ -9,6 +9,7 @@ use Rattle.std.specs.Map.{lookup}
 use Rattle.std.specs.Str.{bytes_eq}
 use Rattle.std.proofs.lemmas.Map.Made.{is_some-lookup}
 use Rattle.base_lemmas.proofs.Booleans.{and_false}
+use Rattle.base_integers.specs.Digits.{with_digit, value_of_digits}
 use Rattle.fs_model.specs.declared.parts.Rel.TheVariants.{Lt, Gt}
 use Rattle.fs_model.specs.Limits.{most_number}
 use Rattle.fs_model.specs.Words.{is_letter, is_digit, is_word_byte, is_word, is_name, is_reserved}
@@ -18,7 +19,7 @@ use Rattle.fs_grammar.specs.declared.token.TokenKind.TheVariants.{Name, Number, 
 use Rattle.fs_grammar.specs.declared.token.TokenKind.TheVariants.{CloseBracket, OpenBrace, CloseBrace, Plus, Minus, Star, Slash, Percent, Bang, Relation, Bad}
 use Rattle.fs_grammar.specs.declared.token.TokenKind.TheVariants.{End}
 use Rattle.fs_grammar.specs.declared.token.Flaw.TheVariants as flaws
-use Rattle.fs_lex.specs.Lexemes.{is_space, keyword_of, name_or_bad, word_token, shifted, decimal, number_token, double_punctuation, mark, operator, or_operator}
+use Rattle.fs_lex.specs.Lexemes.{is_space, keyword_of, name_or_bad, word_token, number_token, double_punctuation, mark, operator, or_operator}
 use Rattle.fs_lex.specs.Lexemes.{single_punctuation}
 use Rattle.fs_lex_laws.specs.Vocabulary.{reserved_tokens, double_tokens, single_tokens, reserved_kind, punctuation_kind, is_number, number_value, is_lexeme}
 use Rattle.fs_lex_laws.specs.Tokenization.{IsLongest, StandsBefore}
@@ -160,14 +161,14 @@ word_stands b ws rest e p s =
 grown : (n d p v : ℕ) → (10 * n + d) * p + v ≡ n * (10 * p) + (d * p + v)
 grown n d p v = grind (arith)
 
-digits_value : (n : ℕ) (ds : List ℕ) → fold shifted n ds ≡ n * 10 ^ length ds + number_value ds
+digits_value : (n : ℕ) (ds : List ℕ) → fold with_digit n ds ≡ n * 10 ^ length ds + number_value ds
 digits_value n [] = omega arith
 digits_value n (d ∷ ds) =
     let power : 10 * 10 ^ length ds ≡ 10 ^ suc (length ds) = simp unary_clauses (mul_comm 10 (10 ^ length ds)) in
-    digits_value (shifted n d) ds ∙ grown n (d - 48) (10 ^ length ds) (number_value ds)
+    digits_value (with_digit n d) ds ∙ grown n (d - 48) (10 ^ length ds) (number_value ds)
     ∙ ap (λ (p : ℕ). n * p + ((d - 48) * 10 ^ length ds + number_value ds)) power
 
-decimal_value : (ds : List ℕ) → decimal ds ≡ number_value ds
+decimal_value : (ds : List ℕ) → value_of_digits ds ≡ number_value ds
 decimal_value ds = digits_value 0 ds ∙ omega arith
 
 number_kind_stands : (own rest : List ℕ) (v : ℕ) (t : Bool) → nat_lt v (2 ^ 127) ≡ t → v ≡ number_value own → IsTrue (is_number own) → IsLongest own rest
@@ -192,7 +193,7 @@ number_stands d ds rest k e p s =
           (no_word (ds ++ c ∷ more)) no_number
           (no_punctuation d (ds ++ c ∷ more) (digit_is_word_byte d e));
     } in
-    number_kind_stands own rest (decimal own) (nat_lt (decimal own) (2 ^ 127)) refl (decimal_value own) n longest_number
+    number_kind_stands own rest (value_of_digits own) (nat_lt (value_of_digits own) (2 ^ 127)) refl (decimal_value own) n longest_number
 
 -- ---- punctuation
 

@@ -14,7 +14,7 @@ use Rattle.fs_grammar.specs.declared.token.Token.{Token}
 use Rattle.fs_lex.specs.declared.lexemes.Lexeme.{Lexeme}
 use Rattle.fs_lex.specs.declared.lexemes.Lexeme.TheVariants as lexemes
 use Rattle.fs_lex.specs.Lexemes.{is_space, is_in_comment, word_token, number_token, double_punctuation, longest, punctuation_of, lexeme_of}
-use Rattle.fs_lex.specs.Scan.{place_after_bytes, scan, is_past_limit, is_bad, counted, tokens_of}
+use Rattle.fs_lex.specs.Scan.{place_after_bytes, scan, is_past_limit, is_bad, operators_up_to_token, tokens_of}
 use Rattle.fs_lex_laws.specs.Tokenization.{place_behind, StandsBefore, IsGap, nothing, blank, comment, IsLastGap, gap, open_comment, IsGapBefore, IsNextToken}
 use Rattle.fs_lex_laws.specs.Tokenization.{ends_text, AreTokens}
 use Rattle.fs_lex.proofs.Scans.{blank_scans, token_scans}
@@ -191,10 +191,11 @@ token_step n go bs t k front passed operators l some fits few stands g =
     sym (moved_behind (front ++ passed) own ∙ ap place_behind (append_assoc front passed own) ∙ ap place_behind (sym (append-nil behind))) in
     let shorter : length rest ≤ n = omega (arith, length-drop k bs) in
     let owned : 0 < length own = omega (arith, length-take-le k bs fits) in
-    let others : AreTokens behind rest (scan rest 0 (place_after_bytes p own) (counted t operators)) =
-    subst (λ (q : TextPlace). AreTokens behind rest (scan rest 0 q (counted t operators))) place (go rest shorter behind [] (counted t operators) nothing) in
+    let others : AreTokens behind rest (scan rest 0 (place_after_bytes p own) (operators_up_to_token t operators)) =
+    subst (λ (q : TextPlace). AreTokens behind rest (scan rest 0 q (operators_up_to_token t operators))) place
+    (go rest shorter behind [] (operators_up_to_token t operators) nothing) in
     subst (λ (ts : List Token). AreTokens front (passed ++ bs) ts) (sym (token_scans bs t k p operators l some fits))
-    (one_more (is_bad t) front (passed ++ bs) (token_at t operators p) (scan rest 0 (place_after_bytes p own) (counted t operators)) next
+    (one_more (is_bad t) front (passed ++ bs) (token_at t operators p) (scan rest 0 (place_after_bytes p own) (operators_up_to_token t operators)) next
     (ends_as_bad t own rest stands owned) (λ good. others))
 
 blank_read : (n : ℕ) → ((bs : List ℕ) → length bs ≤ n → (front passed : List ℕ) (operators : ℕ) → IsGap passed → From front passed bs operators)

@@ -7,7 +7,7 @@ use Rattle.fs_model.specs.declared.parts.Rel.{Rel}
 use Rattle.fs_model.specs.declared.parts.Rel.TheVariants.{Eq, Ne, Lt, Le, Gt, Ge}
 use Rattle.fs_model.specs.Terms.{Term, Number, Variable, Read, Sum, Difference, Product, Quotient, Remainder, Negative, Literal}
 use Rattle.fs_model.specs.Terms.{Guard, Test, Not, And, Or, Assignment, Assign, ArrayWrite, Emit, Transition}
-use Rattle.fs_model.specs.Stores.{Store, assigned, written, emitted}
+use Rattle.fs_model.specs.Stores.{Store, store_with_number, store_with_entry, store_with_emit}
 
 abbrev pub value : Term ℕ → Store → ℤ
 value (Number n) s = n
@@ -50,9 +50,9 @@ transition_taken (l ∷ ls) s = cond (condition_holds l.guard s) (Some l) (trans
 
 -- what an assignment does to a store, with its index and its right side, or what it emits, valued in the store before the step
 abbrev pub act : Assignment ℕ → Store → Store → Store
-act (Assign x e) before s = assigned s x (value e before)
-act (ArrayWrite x i e) before s = written s x (value i before) (value e before)
-act (Emit x e) before s = emitted s x (value e before)
+act (Assign x e) before s = store_with_number s x (value e before)
+act (ArrayWrite x i e) before s = store_with_entry s x (value i before) (value e before)
+act (Emit x e) before s = store_with_emit s x (value e before)
 
 -- the assignments of a transition, in order, all valued in the store before the step
 abbrev pub act_all : List (Assignment ℕ) → Store → Store → Store

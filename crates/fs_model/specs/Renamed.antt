@@ -30,22 +30,22 @@ assignment_over f (ArrayWrite x i e) = ArrayWrite (f x) (term_over f i) (term_ov
 assignment_over f (Emit x e) = Emit (f x) (term_over f e)
 
 -- the same transition, where f tells the variables and g the states
-abbrev pub line_over : {X Y S T : Type 0} → (X → Y) → (S → T) → Transition X S → Transition Y T
-line_over f g l = record {
+abbrev pub transition_over : {X Y S T : Type 0} → (X → Y) → (S → T) → Transition X S → Transition Y T
+transition_over f g l = record {
   guard = option_map (guard_over f) l.guard;
   target = g l.target;
   assignments = map (assignment_over f) l.assignments;
 }
 
 -- a term of the same operator between other operands
-abbrev pub between : {X Y : Type 0} → Term X → (a b : Term Y) → Term Y
-between (Difference c d) a b = Difference a b
-between (Product c d) a b = Product a b
-between (Quotient c d) a b = Quotient a b
-between (Remainder c d) a b = Remainder a b
-between _ a b = Sum a b
+abbrev pub term_with_operands : {X Y : Type 0} → Term X → (a b : Term Y) → Term Y
+term_with_operands (Difference c d) a b = Difference a b
+term_with_operands (Product c d) a b = Product a b
+term_with_operands (Quotient c d) a b = Quotient a b
+term_with_operands (Remainder c d) a b = Remainder a b
+term_with_operands _ a b = Sum a b
 
 -- a guard of the same connective between other guards
-abbrev pub joining : {X Y : Type 0} → Guard X → (a b : Guard Y) → Guard Y
-joining (Or c d) a b = Or a b
-joining _ a b = And a b
+abbrev pub guard_with_parts : {X Y : Type 0} → Guard X → (a b : Guard Y) → Guard Y
+guard_with_parts (Or c d) a b = Or a b
+guard_with_parts _ a b = And a b

@@ -9,17 +9,17 @@ pub record Store : Type 0 where
   pub port : ℕ → List ℤ
 
 -- the store after an assignment to a scalar
-abbrev pub assigned : Store → ℕ → ℤ → Store
-assigned s x v = record { scalar = λ y. cond (y == x) v (s.scalar y); array = s.array; port = s.port }
+abbrev pub store_with_number : Store → ℕ → ℤ → Store
+store_with_number s x v = record { scalar = λ y. cond (y == x) v (s.scalar y); array = s.array; port = s.port }
 
 -- the store after a write to an array at an index
-abbrev pub written : Store → ℕ → ℤ → ℤ → Store
-written s x i v = record {
+abbrev pub store_with_entry : Store → ℕ → ℤ → ℤ → Store
+store_with_entry s x i v = record {
   scalar = s.scalar;
   array = λ y j. cond (y == x) (cond (int_eq i j) v (s.array y j)) (s.array y j);
   port = s.port;
 }
 
 -- the store after a number is emitted to a port
-abbrev pub emitted : Store → ℕ → ℤ → Store
-emitted s x v = record { scalar = s.scalar; array = s.array; port = λ y. cond (y == x) (s.port y ++ v ∷ []) (s.port y) }
+abbrev pub store_with_emit : Store → ℕ → ℤ → Store
+store_with_emit s x v = record { scalar = s.scalar; array = s.array; port = λ y. cond (y == x) (s.port y ++ v ∷ []) (s.port y) }

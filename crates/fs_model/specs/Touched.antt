@@ -48,8 +48,8 @@ touched_by_transitions (l ∷ ls) s = touched_by_condition l.guard s
     ++ cond (condition_holds l.guard s) (touched_by_assignments l.assignments s) (touched_by_transitions ls s)
 
 -- the numbers touched by the step from a state and a store
-abbrev pub touched : Fsmd → ℕ → Store → List ℤ
-touched m q s = touched_by_transitions (transitions_of m q) s
+abbrev pub touched_by_step : Fsmd → ℕ → Store → List ℤ
+touched_by_step m q s = touched_by_transitions (transitions_of m q) s
 
 -- each number lies within 128 bits
 abbrev pub AllInRange : List ℤ → Type 0
@@ -59,5 +59,5 @@ AllInRange (z ∷ zs) = FitsSigned w128 z × AllInRange zs
 -- from state q and store s, each number touched by the next n steps lies within 128 bits, up to the return to the reset state
 abbrev pub StaysInRange : Fsmd → ℕ → ℕ → Store → Type 0
 StaysInRange m zero q s = Unit {0}
-StaysInRange m (suc n) q s = AllInRange (touched m q s)
+StaysInRange m (suc n) q s = AllInRange (touched_by_step m q s)
     × ((r : ℕ) (t : Store) → Step m q s r t → r ≢ m.reset → StaysInRange m n r t)

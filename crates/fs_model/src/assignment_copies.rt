@@ -14,7 +14,7 @@ use std::alloc::Global;
 pub fn copied_guard(alloc: Global, guard: &Guard) -> Result<Guard, NoMemory>
     ensures { IfOk result (λ g. named_guard g ≡ named_guard guard.now) }
 {
-    guard.renamed(alloc, &Unrenamed)
+    guard.copy_renamed(alloc, &Unrenamed)
 }
 
 /// A copy of a guard, where there is one.
@@ -32,7 +32,7 @@ pub fn copied_condition(alloc: Global, guard: &Option<Guard>) -> Result<Option<G
 pub fn copied_assignment(alloc: Global, assign: &Assign<Name>) -> Result<Assign<Name>, NoMemory>
     ensures { IfOk result (λ a. named_assignment a ≡ named_assignment assign.now) }
 {
-    assign.renamed(alloc, &Unrenamed)
+    assign.copy_renamed(alloc, &Unrenamed)
 }
 
 /// Adds copies of assignments.

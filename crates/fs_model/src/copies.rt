@@ -4,9 +4,10 @@ ghost use Rattle.std.specs.Prelude.{◌≡◌, map, IfOk};
 ghost use Rattle.fs_model.specs.View.{term_by, literal_by, guard_by, assignment_by, term_of, literal_of, guard_of, assignment_of};
 ghost use Rattle.fs_model.specs.View.{declaration_of};
 ghost use Rattle.fs_model.specs.Trees.{negated_literal};
-ghost use Rattle.fs_model.specs.Renamed.{term_over, literal_over, guard_over, assignment_over, between, joining};
+ghost use Rattle.fs_model.specs.Renamed.{term_over, literal_over, guard_over, assignment_over, term_with_operands};
+ghost use Rattle.fs_model.specs.Renamed.{guard_with_parts};
 
-use crate::memory::{both_boxed, boxed};
+use crate::memory::{both_boxed, put_in_box};
 use crate::name::{Name, NoMemory};
 use crate::parts::{Assign, Decl, Expr, Guard, Lit, VarId};
 use std::alloc::Global;
@@ -54,7 +55,7 @@ impl Rename<Name> for Unrenamed {
 
 // The expression of the same operator between other operands.
 fn same_operator<V, W>(expr: &Expr<V>, left: Box<Expr<W>>, right: Box<Expr<W>>) -> Expr<W>
-    ensures { term_by (λ x. x) result ≡ between (term_by (λ x. x) expr.now) (term_by (λ x. x) left.value)
+    ensures { term_by (λ x. x) result ≡ term_with_operands (term_by (λ x. x) expr.now) (term_by (λ x. x) left.value)
         (term_by (λ x. x) right.value) }
 {
     match expr {
@@ -68,7 +69,7 @@ fn same_operator<V, W>(expr: &Expr<V>, left: Box<Expr<W>>, right: Box<Expr<W>>) 
 
 // The guard of the same connective between other guards.
 fn same_connective<V, W>(guard: &Guard<V>, left: Box<Guard<W>>, right: Box<Guard<W>>) -> Guard<W>
-    ensures { guard_by (λ x. x) result ≡ joining (guard_by (λ x. x) guard.now) (guard_by (λ x. x) left.value)
+    ensures { guard_by (λ x. x) result ≡ guard_with_parts (guard_by (λ x. x) guard.now) (guard_by (λ x. x) left.value)
         (guard_by (λ x. x) right.value) }
 {
     match guard {
@@ -78,7 +79,7 @@ fn same_connective<V, W>(guard: &Guard<V>, left: Box<Guard<W>>, right: Box<Guard
 }
 
 // A variable and an expression, renamed.
-fn named<V, R: Rename<V>>(
+fn rename_with_value<V, R: Rename<V>>(
     alloc: Global,
     variable: &V,
     value: &Expr<V>,
@@ -88,13 +89,13 @@ fn named<V, R: Rename<V>>(
     ensures variable { IfOk result (λ p. p.0 ≡ R.renamed by.now variable.now) }
     ensures value { IfOk result (λ p. term_by (λ x. x) p.1 ≡ term_over (R.renamed by.now) (term_by (λ x. x) value.now)) }
 {
-    let value = value.renamed(alloc, by)?;
+    let value = value.copy_renamed(alloc, by)?;
     Ok((by.rename(alloc, variable)?, value))
 }
 
 impl<V> Expr<V> {
     /// A copy with its variables renamed.
-    pub fn renamed<R: Rename<V>>(&self, alloc: Global, by: &R) -> Result<Expr<R::To>, NoMemory>
+    pub fn copy_renamed<R: Rename<V>>(&self, alloc: Global, by: &R) -> Result<Expr<R::To>, NoMemory>
         requires { R.can_rename by.now }
         ensures { IfOk result (λ e. term_by (λ x. x) e ≡ term_over (R.renamed by.now) (term_by (λ x. x) self.now)) }
     {
@@ -102,7 +103,7 @@ impl<V> Expr<V> {
             Expr::Num(n) => Ok(Expr::Num(*n)),
             Expr::Var(x) => Ok(Expr::Var(by.rename(alloc, x)?)),
             Expr::Read(x, index) => {
-                let index = boxed(alloc, index.renamed(alloc, by)?)?;
+                let index = put_in_box(alloc, index.copy_renamed(alloc, by)?)?;
                 Ok(Expr::Read(by.rename(alloc, x)?, index))
             }
             Expr::Add(a, b)
@@ -110,39 +111,51 @@ impl<V> Expr<V> {
             | Expr::Mul(a, b)
             | Expr::Div(a, b)
             | Expr::Rem(a, b) => {
-                let (a, b) = both_boxed(alloc, a.renamed(alloc, by)?, b.renamed(alloc, by)?)?;
+                let (a, b) = both_boxed(
+                    alloc,
+                    a.copy_renamed(alloc, by)?,
+                    b.copy_renamed(alloc, by)?,
+                )?;
                 Ok(same_operator(self, a, b))
             }
-            Expr::Neg(a) => Ok(Expr::Neg(boxed(alloc, a.renamed(alloc, by)?)?)),
+            Expr::Neg(a) => Ok(Expr::Neg(put_in_box(alloc, a.copy_renamed(alloc, by)?)?)),
         }
     }
 }
 
 impl<V> Lit<V> {
     /// A copy with its variables renamed.
-    pub fn renamed<R: Rename<V>>(&self, alloc: Global, by: &R) -> Result<Lit<R::To>, NoMemory>
+    pub fn copy_renamed<R: Rename<V>>(&self, alloc: Global, by: &R) -> Result<Lit<R::To>, NoMemory>
         requires { R.can_rename by.now }
         ensures { IfOk result (λ l. literal_by (λ x. x) l ≡ literal_over (R.renamed by.now) (literal_by (λ x. x) self.now)) }
     {
         Ok(Lit {
             rel: self.rel,
-            left: self.left.renamed(alloc, by)?,
-            right: self.right.renamed(alloc, by)?,
+            left: self.left.copy_renamed(alloc, by)?,
+            right: self.right.copy_renamed(alloc, by)?,
         })
     }
 }
 
 impl<V> Guard<V> {
     /// A copy with its variables renamed.
-    pub fn renamed<R: Rename<V>>(&self, alloc: Global, by: &R) -> Result<Guard<R::To>, NoMemory>
+    pub fn copy_renamed<R: Rename<V>>(
+        &self,
+        alloc: Global,
+        by: &R,
+    ) -> Result<Guard<R::To>, NoMemory>
         requires { R.can_rename by.now }
         ensures { IfOk result (λ g. guard_by (λ x. x) g ≡ guard_over (R.renamed by.now) (guard_by (λ x. x) self.now)) }
     {
         match self {
-            Guard::Lit(lit) => Ok(Guard::Lit(lit.renamed(alloc, by)?)),
-            Guard::Not(a) => Ok(Guard::Not(boxed(alloc, a.renamed(alloc, by)?)?)),
+            Guard::Lit(lit) => Ok(Guard::Lit(lit.copy_renamed(alloc, by)?)),
+            Guard::Not(a) => Ok(Guard::Not(put_in_box(alloc, a.copy_renamed(alloc, by)?)?)),
             Guard::And(a, b) | Guard::Or(a, b) => {
-                let (a, b) = both_boxed(alloc, a.renamed(alloc, by)?, b.renamed(alloc, by)?)?;
+                let (a, b) = both_boxed(
+                    alloc,
+                    a.copy_renamed(alloc, by)?,
+                    b.copy_renamed(alloc, by)?,
+                )?;
                 Ok(same_connective(self, a, b))
             }
         }
@@ -151,23 +164,27 @@ impl<V> Guard<V> {
 
 impl<V> Assign<V> {
     /// A copy with its variables renamed.
-    pub fn renamed<R: Rename<V>>(&self, alloc: Global, by: &R) -> Result<Assign<R::To>, NoMemory>
+    pub fn copy_renamed<R: Rename<V>>(
+        &self,
+        alloc: Global,
+        by: &R,
+    ) -> Result<Assign<R::To>, NoMemory>
         requires { R.can_rename by.now }
         ensures { IfOk result
             (λ a. assignment_by (λ x. x) a ≡ assignment_over (R.renamed by.now) (assignment_by (λ x. x) self.now)) }
     {
         match self {
             Assign::Set(x, value) => {
-                let (x, value) = named(alloc, x, value, by)?;
+                let (x, value) = rename_with_value(alloc, x, value, by)?;
                 Ok(Assign::Set(x, value))
             }
             Assign::Put(x, index, value) => {
-                let index = index.renamed(alloc, by)?;
-                let (x, value) = named(alloc, x, value, by)?;
+                let index = index.copy_renamed(alloc, by)?;
+                let (x, value) = rename_with_value(alloc, x, value, by)?;
                 Ok(Assign::Put(x, index, value))
             }
             Assign::Emit(x, value) => {
-                let (x, value) = named(alloc, x, value, by)?;
+                let (x, value) = rename_with_value(alloc, x, value, by)?;
                 Ok(Assign::Emit(x, value))
             }
         }
@@ -187,7 +204,7 @@ pub fn renamed_assignments<V, R: Rename<V>>(
 {
     let mut out = Vec::new(alloc);
     for assign in assigns {
-        out.push(assign.renamed(alloc, by)?)?;
+        out.push(assign.copy_renamed(alloc, by)?)?;
     }
     Ok(out)
 }
@@ -198,7 +215,7 @@ impl Expr<VarId> {
     pub fn try_clone(&self, alloc: Global) -> Result<Expr<VarId>, NoMemory>
         ensures { IfOk result (λ e. term_of e ≡ term_of self.now) }
     {
-        self.renamed(alloc, &Unrenamed)
+        self.copy_renamed(alloc, &Unrenamed)
     }
 }
 
@@ -208,7 +225,7 @@ impl Lit<VarId> {
     pub fn try_clone(&self, alloc: Global) -> Result<Lit<VarId>, NoMemory>
         ensures { IfOk result (λ l. literal_of l ≡ literal_of self.now) }
     {
-        self.renamed(alloc, &Unrenamed)
+        self.copy_renamed(alloc, &Unrenamed)
     }
 
     /// A literal that holds exactly when this one does not.
@@ -229,7 +246,7 @@ impl Guard<VarId> {
     pub fn try_clone(&self, alloc: Global) -> Result<Guard<VarId>, NoMemory>
         ensures { IfOk result (λ g. guard_of g ≡ guard_of self.now) }
     {
-        self.renamed(alloc, &Unrenamed)
+        self.copy_renamed(alloc, &Unrenamed)
     }
 }
 
@@ -239,7 +256,7 @@ impl Assign<VarId> {
     pub fn try_clone(&self, alloc: Global) -> Result<Assign<VarId>, NoMemory>
         ensures { IfOk result (λ a. assignment_of a ≡ assignment_of self.now) }
     {
-        self.renamed(alloc, &Unrenamed)
+        self.copy_renamed(alloc, &Unrenamed)
     }
 }
 

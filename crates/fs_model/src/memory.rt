@@ -18,7 +18,7 @@ impl<T: Drop> From<AllocFailed<T>> for NoMemory {
 }
 
 /// The value in a box.
-pub fn boxed<T: Drop>(alloc: Global, value: T) -> Result<Box<T>, NoMemory>
+pub fn put_in_box<T: Drop>(alloc: Global, value: T) -> Result<Box<T>, NoMemory>
     ensures { IfOk result (λ b. b.value ≡ value) }
 {
     Ok(Box::new(alloc, value)?)
@@ -29,5 +29,5 @@ pub fn both_boxed<T: Drop>(alloc: Global, a: T, b: T) -> Result<(Box<T>, Box<T>)
     ensures left { IfOk result (λ p. p.0.value ≡ a) }
     ensures right { IfOk result (λ p. p.1.value ≡ b) }
 {
-    Ok((boxed(alloc, a)?, boxed(alloc, b)?))
+    Ok((put_in_box(alloc, a)?, put_in_box(alloc, b)?))
 }

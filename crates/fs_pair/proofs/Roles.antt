@@ -4,16 +4,16 @@ use Rattle.std.specs.Prelude.{not, ◌&&◌, slice_get}
 use Rattle.std.specs.Str.{bytes_eq}
 use Rattle.std.proofs.lemmas.Slice.Eq.{bytes_eq-Decides}
 use Rattle.base_lemmas.proofs.Options.{option_or_first, option_or_second, cond_none}
+use Rattle.fs_rules.specs.SoundParts.{IsSound, names_differ}
 use Rattle.fs_model.specs.declared.parts.Role.{Role}
 use Rattle.fs_model.specs.declared.parts.Role.TheVariants.{Input, Output, Local}
 use Rattle.fs_model.specs.declared.parts.VarInfo.{VarInfo}
 use Rattle.fs_model.specs.Machines.{Fsmd}
-use Rattle.fs_ast.specs.SoundMachines.{IsSound, names_differ}
 use Rattle.fs_model.specs.declared.sides.Side.{Side}
 use Rattle.fs_model.specs.declared.sides.Side.TheVariants.{Left, Right}
+use Rattle.fs_model.specs.Sides.{same_side}
 use Rattle.fs_pair.specs.declared.positions.Position.{Position}
 use Rattle.fs_pair.specs.Interfaces.{is_interface, same_role, same_sort, variable_named, is_like, lacks_match, first_unmatched, interface_fault}
-use Rattle.fs_pair.specs.SidedVariables.{same_side}
 use Rattle.fs_pair.specs.Partners.{variables_on, HasPartner}
 use Rattle.fs_pair.proofs.Once.{another_name, others_differ}
 

@@ -9,8 +9,9 @@ use Rattle.fs_model.specs.declared.parts.Sort.TheVariants.{Scalar, Array, Port}
 use Rattle.fs_model.specs.declared.parts.VarInfo.{VarInfo}
 use Rattle.fs_model.specs.declared.sides.Side.{Side}
 use Rattle.fs_model.specs.declared.sides.Side.TheVariants.{Left, Right}
+use Rattle.fs_model.specs.Sides.{same_side}
 use Rattle.fs_pair.specs.Interfaces.{same_sort}
-use Rattle.fs_pair.specs.SidedVariables.{same_name_and_sort, same_side}
+use Rattle.fs_pair.specs.SidedVariables.{same_name_and_sort}
 
 -- a test that is true only where another is, and the other way round
 pub as_often : (a b : Bool) → (a ≡ true → b ≡ true) → (b ≡ true → a ≡ true) → a ≡ b

@@ -9,9 +9,10 @@ use Rattle.fs_model.specs.declared.parts.VarInfo.{VarInfo}
 use Rattle.fs_model.specs.Machines.{Fsmd}
 use Rattle.fs_model.specs.declared.sides.Side.{Side}
 use Rattle.fs_model.specs.declared.sides.Side.TheVariants.{Left, Right}
+use Rattle.fs_model.specs.Sides.{same_side}
 use Rattle.fs_pair.specs.declared.positions.Position.{Position}
 use Rattle.fs_pair.specs.SidedVariables.{SidedVariable, sided_variables, same_name_and_sort, partner_among, with_partners, is_alone, all_sided_variables}
-use Rattle.fs_pair.specs.SidedVariables.{same_side, is_partner}
+use Rattle.fs_pair.specs.SidedVariables.{is_partner}
 use Rattle.fs_pair.specs.Positions.{position_of, positions}
 use Rattle.fs_pair.specs.Partners.{variables_on, IsVariable, StandsForVariable, HasPartner}
 use Rattle.fs_pair.proofs.Tests.{same_name, same_sorts}

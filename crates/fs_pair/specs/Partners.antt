@@ -6,8 +6,9 @@ use Rattle.fs_model.specs.Machines.{Fsmd}
 use Rattle.fs_model.specs.declared.sides.Side.{Side}
 use Rattle.fs_model.specs.declared.sides.Side.TheVariants.{Left, Right}
 use Rattle.fs_model.specs.declared.sides.Pos.{Pos}
+use Rattle.fs_model.specs.VariableNames.{name_or_nothing}
+use Rattle.fs_model.specs.Sides.{same_side}
 use Rattle.fs_pair.specs.declared.positions.Position.{Position}
-use Rattle.fs_pair.specs.SidedVariables.{same_side}
 use Rattle.fs_pair.specs.Positions.{positions}
 
 -- the variables of one of two machines
@@ -50,3 +51,7 @@ pub record ComesLater (p q : Position) : Type 0 where
   pub right : q.pos.side ≡ Right
   pub alone : q.partner ≡ None
   pub later : p.pos.var < q.pos.var
+
+-- the name of a position
+abbrev pub position_name : (a b : Fsmd) → Pos → List ℕ
+position_name a b p = name_or_nothing (slice_get (variables_on p.side a b) p.var)

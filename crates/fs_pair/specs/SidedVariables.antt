@@ -1,5 +1,5 @@
 -- The variables of two machines in one order.
-use Rattle.std.specs.Prelude.{ℕ, ◌+◌, Bool, true, false, not, ◌&&◌, List, [], ◌∷◌, ◌++◌, Option}
+use Rattle.std.specs.Prelude.{ℕ, ◌+◌, Bool, not, ◌&&◌, List, [], ◌∷◌, ◌++◌, Option}
 use Rattle.std.specs.List.{find, filter, list_any, flat_map}
 use Rattle.std.specs.Option.{option_to_list}
 use Rattle.std.specs.Str.{bytes_eq}
@@ -7,6 +7,7 @@ use Rattle.fs_model.specs.declared.parts.VarInfo.{VarInfo}
 use Rattle.fs_model.specs.declared.sides.Side.{Side}
 use Rattle.fs_model.specs.declared.sides.Side.TheVariants.{Left, Right}
 use Rattle.fs_model.specs.declared.sides.Pos.{Pos}
+use Rattle.fs_model.specs.Sides.{same_side}
 use Rattle.fs_pair.specs.Interfaces.{same_sort}
 
 -- a variable and its position
@@ -39,13 +40,6 @@ is_alone others s = not (list_any (λ t. same_name_and_sort s.variable t.variabl
 abbrev pub all_sided_variables : (left right : List VarInfo) → List SidedVariable
 all_sided_variables left right = with_partners (sided_variables Left 0 left) (sided_variables Right 0 right)
     ++ filter (is_alone (sided_variables Left 0 left)) (sided_variables Right 0 right)
-
--- whether two sides are one
-abbrev pub same_side : Side → Side → Bool
-same_side Left Left = true
-same_side Left Right = false
-same_side Right Left = false
-same_side Right Right = true
 
 -- whether t is the other side's variable of the name and the sort of s
 abbrev pub is_partner : SidedVariable → SidedVariable → Bool

@@ -31,7 +31,7 @@ pub fn same_sort(left: Sort, right: Sort) -> bool
 }
 
 /// The first variable of a name.
-pub fn named<'a>(vars: &'a [VarInfo], name: &Name) -> Option<&'a VarInfo>
+pub fn find_variable<'a>(vars: &'a [VarInfo], name: &Name) -> Option<&'a VarInfo>
     ensures { option_map (λ v. v.now) result ≡ variable_named vars.now name.now }
 {
     for variable in vars {
@@ -49,7 +49,7 @@ pub fn lacks_match(others: &[VarInfo], variable: &VarInfo) -> bool
     if !is_interface(variable.role) {
         return false;
     }
-    match named(others, &variable.name) {
+    match find_variable(others, &variable.name) {
         Some(other) => {
             !(same_role(variable.role, other.role) && same_sort(variable.sort, other.sort))
         }

@@ -2,16 +2,16 @@
 
 ghost use Rattle.std.specs.Prelude.{◌≡◌, ℕ, ◌+◌, ◌<◌, List, length, map, Some, None, slice_get};
 ghost use Rattle.std.specs.List.{count_by, filter, AllByRecursion};
+ghost use Rattle.fs_rules.specs.SoundParts.{IsSound};
 ghost use Rattle.fs_model.specs.Machines.{Fsmd};
 ghost use Rattle.fs_model.specs.Stores.{Store};
 ghost use Rattle.fs_model.specs.Runs.{output};
-ghost use Rattle.fs_ast.specs.SoundMachines.{IsSound};
 ghost use Rattle.fs_model.specs.declared.sides.Side.{Side};
 ghost use Rattle.fs_model.specs.declared.sides.Side.TheVariants.{Left, Right};
+ghost use Rattle.fs_model.specs.Sides.{same_side};
 ghost use Rattle.fs_pair.specs.declared.positions.Position.{Position};
 ghost use Rattle.fs_pair.specs.Interfaces.{interface_fault};
 ghost use Rattle.fs_pair.specs.Positions.{positions};
-ghost use Rattle.fs_pair.specs.SidedVariables.{same_side};
 ghost use Rattle.fs_pair.specs.PairedOutputs.{AgreeOnOutput, output_pairs};
 ghost use Rattle.fs_pair.specs.Partners.{variables_on, is_position_of, side_positions, StandsForVariable, HasPartner, ComesLater};
 

@@ -3,8 +3,9 @@
 ghost use Rattle.std.specs.Prelude.{◌≡◌, ◌<◌, ◌^◌, length, map, IfOk, Some, None};
 ghost use Rattle.std.specs.List.{position_from};
 ghost use Rattle.std.specs.Result.{OnOk, IfErr};
+ghost use Rattle.fs_model.specs.Sides.{same_side};
 ghost use Rattle.fs_pair.specs.Interfaces.{interface_fault};
-ghost use Rattle.fs_pair.specs.SidedVariables.{same_side, is_partner};
+ghost use Rattle.fs_pair.specs.SidedVariables.{is_partner};
 ghost use Rattle.fs_pair.specs.View.{sided_variable_of};
 ghost use Rattle.fs_pair.specs.Positions.{position_of, positions};
 ghost use Rattle.fs_pair.specs.Paired.{IsPairing};
@@ -113,7 +114,7 @@ fn partner(members: &[Member<'_>], member: &Member<'_>) -> Option<u32>
 }
 
 // The position of a member, with its partner among the members.
-fn placed(members: &[Member<'_>], member: &Member<'_>) -> Position
+fn place_member(members: &[Member<'_>], member: &Member<'_>) -> Position
     requires { length members.now < 2 ^ 32 }
     ensures { result ≡ position_of (map sided_variable_of members.now) (sided_variable_of member.now) }
 {
@@ -133,7 +134,7 @@ fn all_positions(alloc: Global, members: &[Member<'_>]) -> Result<Vec<Position>,
 {
     let mut out = Vec::new(alloc);
     for member in members {
-        out.push(placed(members, member))?;
+        out.push(place_member(members, member))?;
     }
     Ok(out)
 }

@@ -17,7 +17,7 @@ use Rattle.fs_grammar_laws.specs.Faults.{word_of, AreClear, IsLast, AreEndedToke
 use Rattle.fs_grammar_laws.proofs.Alternatives.{completed}
 use Rattle.fs_grammar_laws.proofs.Inside.{is_inside, IsInside, AreInside, front, sum_inside, guard_inside}
 use Rattle.fs_grammar_laws.proofs.Exact.{words_append, clear_more}
-use Rattle.fs_expression_text.specs.Inside.{Inside, expression_step, Whole, whole_sum, whole_guard, whole, ended, take_expression_token, parse_expression}
+use Rattle.fs_expression_text.specs.Inside.{Inside, expression_step, Whole, whole_sum, whole_guard, whole, end_whole, take_expression_token, parse_expression}
 use Rattle.fs_phrase_laws.specs.Expressions.{Expression, a_sum, a_guard, expression_start, rule_of, SpellsExpression, ExpressionGoesOn, ExpressionStandsFirst}
 use Rattle.fs_phrase_laws.specs.Expressions.{IsWrongInExpression, over_limit, cannot_follow, ExpressionStopsAt}
 use Rattle.fs_phrase_laws.proofs.SoundExpressions.{walk, sound}
@@ -90,7 +90,7 @@ stops e k t before i ts h w =
 
 -- a token that cannot follow
 left_off : (e : Expression) (t : Token) (ts before : List Token) (i : Inside) → Done e before i → expression_step i t.kind ≡ None → (o : Option Whole)
-    → whole i ≡ o → Answers e (before ++ t ∷ ts) (ended t o (λ w. Ok (w, t ∷ ts)))
+    → whole i ≡ o → Answers e (before ++ t ∷ ts) (end_whole t o (λ w. Ok (w, t ∷ ts)))
 left_off e t ts before i h s (Some w) g =
     record {
       before = before;

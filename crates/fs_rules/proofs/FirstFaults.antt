@@ -10,8 +10,8 @@ use Rattle.fs_rules.specs.declared.check.CheckRule.{CheckRule}
 use Rattle.fs_rules.specs.declared.check.CheckRule.TheVariants.{TwiceNamed}
 use Rattle.fs_rules.specs.declared.check.CheckFault.{CheckFault}
 use Rattle.fs_rules.specs.declared.names.Declared.{Declared}
-use Rattle.fs_rules.specs.MachineOfParts.{place}
-use Rattle.fs_rules.specs.Rules.{at_lines, broken_where, repeated, past}
+use Rattle.fs_rules.specs.MachineOfParts.{place_or_end}
+use Rattle.fs_rules.specs.Rules.{at_lines, broken_where, repeated_lines, line_past_limit}
 use Rattle.fs_rules.specs.FirstFault.{sooner, earliest}
 use Rattle.fs_rules.specs.Places.{declared_of, declared_name_list, first_place, place_in, FindsFirst, IsTableOf}
 
@@ -24,9 +24,9 @@ place_cases true o n p e = refl
 place_cases false None n p e = ap suc e
 place_cases false (Some x) n p e = ap suc e
 
-pub place_found : (ns : List (List ℕ)) (n : List ℕ) → place ns n ≡ unwrap_or (first_place ns n) (length ns)
+pub place_found : (ns : List (List ℕ)) (n : List ℕ) → place_or_end ns n ≡ unwrap_or (first_place ns n) (length ns)
 place_found [] n = refl
-place_found (m ∷ ns) n = place_cases (bytes_eq m n) (first_place ns n) (length ns) (place ns n) (place_found ns n)
+place_found (m ∷ ns) n = place_cases (bytes_eq m n) (first_place ns n) (length ns) (place_or_end ns n) (place_found ns n)
 
 push_cases : (b e : Bool) (o : Option ℕ) (n : ℕ)
     → cond b (Some 0) (option_map suc (cond (is_some o) o (cond e (Some n) None)))
@@ -71,10 +71,10 @@ some_cond None true n = refl
 some_cond None false n = refl
 
 pub repeats_is : (a b : List (List ℕ)) → ((n : List ℕ) → is_some (first_place a n) ≡ list_any (λ m. bytes_eq m n) b) → (ns : List (ℕ × List ℕ))
-    → repeats a ns ≡ repeated b ns
+    → repeats a ns ≡ repeated_lines b ns
 repeats_is a b same [] = refl
 repeats_is a b same (n ∷ ns) =
-    let rest : repeats (a ++ n.1 ∷ []) ns ≡ repeated (n.1 ∷ b) ns =
+    let rest : repeats (a ++ n.1 ∷ []) ns ≡ repeated_lines (n.1 ∷ b) ns =
     repeats_is (a ++ n.1 ∷ []) (n.1 ∷ b)
     (λ k. push_any (is_some (first_place a k)) (list_any (λ m. bytes_eq m k) b) (is_some (first_place (a ++ n.1 ∷ []) k)) (bytes_eq n.1 k) (same k)
     (ap is_some (found_push a n.1 k) ∙ some_cond (first_place a k) (bytes_eq n.1 k) (length a))) ns
@@ -110,12 +110,12 @@ length_taken xs zero h = refl
 length_taken [] (suc i) h = absurd (omega arith)
 length_taken (y ∷ ys) (suc i) h = ap suc (length_taken ys i (omega arith))
 
-pub first_past : (xs : List Declared) (i : ℕ) (x : Declared) → i < length xs → x ≡ get_or xs i x → past i (map declared_of xs) ≡ x.line ∷ []
+pub first_past : (xs : List Declared) (i : ℕ) (x : Declared) → i < length xs → x ≡ get_or xs i x → line_past_limit i (map declared_of xs) ≡ x.line ∷ []
 first_past [] i x h e = absurd (omega arith)
 first_past (y ∷ ys) zero x h e = ap (λ z. z.line ∷ []) (sym e)
 first_past (y ∷ ys) (suc i) x h e = first_past ys i x (omega arith) e
 
-pub none_past : (xs : List Declared) (i : ℕ) → length xs ≤ i → past i (map declared_of xs) ≡ []
+pub none_past : (xs : List Declared) (i : ℕ) → length xs ≤ i → line_past_limit i (map declared_of xs) ≡ []
 none_past [] zero h = refl
 none_past [] (suc i) h = refl
 none_past (y ∷ ys) zero h = absurd (omega arith)
@@ -173,13 +173,13 @@ pub earliest_three : (known : Option CheckFault) (a b c : List CheckFault) → e
 earliest_three known a b c = sym (earliest-append known a (b ++ c) ∙ earliest-append (earliest known a) b c)
 
 -- the place of a name by a table of the names
-pub place_by : (t : List (List ℕ × ℕ) × ℕ) (ns : List (List ℕ)) (n : List ℕ) → IsTableOf t ns → place ns n ≡ unwrap_or (place_in t.0 n) t.1
+pub place_by : (t : List (List ℕ × ℕ) × ℕ) (ns : List (List ℕ)) (n : List ℕ) → IsTableOf t ns → place_or_end ns n ≡ unwrap_or (place_in t.0 n) t.1
 place_by t ns n h = place_found ns n ∙ ap₂ unwrap_or (sym (h.first.finds n)) (sym h.count)
 
 within_cases : (b : Bool) (p n : ℕ) → p ≤ n → cond b 0 (suc p) ≤ suc n
 within_cases true p n h = omega arith
 within_cases false p n h = omega arith
 
-pub place_within : (ns : List (List ℕ)) (n : List ℕ) → place ns n ≤ length ns
+pub place_within : (ns : List (List ℕ)) (n : List ℕ) → place_or_end ns n ≤ length ns
 place_within [] n = omega arith
-place_within (m ∷ ns) n = within_cases (bytes_eq m n) (place ns n) (length ns) (place_within ns n)
+place_within (m ∷ ns) n = within_cases (bytes_eq m n) (place_or_end ns n) (length ns) (place_within ns n)

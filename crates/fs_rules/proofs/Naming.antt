@@ -6,11 +6,11 @@ use Rattle.base_lemmas.proofs.Lists.{length_map, map_map}
 use Rattle.fs_model.specs.declared.parts.VarInfo.{VarInfo}
 use Rattle.fs_model.specs.Source.{Declaration, SourceState, Source}
 use Rattle.fs_rules.specs.declared.check.CheckFault.{CheckFault}
-use Rattle.fs_rules.specs.MachineOfParts.{declared_by, variables_of, names_of, state_names, place}
+use Rattle.fs_rules.specs.MachineOfParts.{declared_by, variables_of, names_of, state_names, place_or_end}
 use Rattle.fs_rules.specs.Rules.{declared_names, declared_states}
 use Rattle.fs_rules.specs.FirstFault.{earliest}
 use Rattle.fs_rules.specs.Places.{declared_name_list}
-use Rattle.fs_rules.specs.Scoped.{IsScopeOf}
+use Rattle.fs_rules.specs.Scopes.{IsScopeOf}
 use Rattle.fs_rules.proofs.FirstFaults.{earliest-append, earliest_three}
 
 names_by : (d : Declaration) → declared_name_list (map (λ n. (d.line, n)) d.names) ≡ names_of (declared_by d)
@@ -41,7 +41,7 @@ plain_noted known one two three a b c d r s e f g =
     g ∙ ap (λ k. earliest k s) (f ∙ ap (λ k. earliest k r) e) ∙ earliest_three known (a ++ (b ++ (c ++ d))) r s ∙ ap (earliest known) (all_joined a b c d r s)
 
 pub reset_known : (p : Source) (vars : List VarInfo) (states : List SourceState) → IsScopeOf p vars states
-    → nat_lt (place (state_names states) p.reset) (length (state_names states)) ≡ nat_lt (place (state_names p.states) p.reset) (length p.states)
+    → nat_lt (place_or_end (state_names states) p.reset) (length (state_names states)) ≡ nat_lt (place_or_end (state_names p.states) p.reset) (length p.states)
 reset_known p vars states s =
-    ap (λ ss. nat_lt (place (state_names ss) p.reset) (length (state_names ss))) s.stated
-    ∙ ap (nat_lt (place (state_names p.states) p.reset)) (length_map (λ x. x.name) p.states)
+    ap (λ ss. nat_lt (place_or_end (state_names ss) p.reset) (length (state_names ss))) s.stated
+    ∙ ap (nat_lt (place_or_end (state_names p.states) p.reset)) (length_map (λ x. x.name) p.states)

@@ -8,8 +8,9 @@ use Rattle.fs_rules.specs.declared.check.CheckRule.TheVariants.{UnknownName, Wro
 use Rattle.fs_rules.specs.declared.check.CheckRule.TheVariants.{AfterElse}
 use Rattle.fs_rules.specs.declared.check.CheckFault.{CheckFault}
 use Rattle.fs_model.specs.Limits.{most_emits}
-use Rattle.fs_rules.specs.Sound.{assigned_in, all_differ, emit_count}
-use Rattle.fs_rules.specs.Rules.{uses_unknown, uses_wrong_sort, changes_input, line_faults, lines_faults, state_faults, at_lines, after_else, lacks_else}
+use Rattle.fs_rules.specs.SoundParts.{assigned_in, all_differ, emit_count}
+use Rattle.fs_rules.specs.Rules.{uses_unknown, uses_wrong_sort, changes_input, transition_faults, transitions_faults, state_faults, at_lines, after_else}
+use Rattle.fs_rules.specs.Rules.{lacks_else}
 use Rattle.fs_rules.specs.Rules.{broken_where}
 use Rattle.fs_rules.specs.FirstFault.{earliest}
 use Rattle.fs_rules.proofs.FirstFaults.{earliest-append, earliest_three}
@@ -17,13 +18,13 @@ use Rattle.fs_rules.proofs.FirstFaults.{earliest-append, earliest_three}
 pub state_noted : (vs : List VarInfo) (ss : List (List ℕ)) (s : SourceState) (ls : List SourceTransition) → ls ≡ s.lines
     → (known one two three : Option CheckFault) (b : Bool)
     → b ≡ lacks_else ls → one ≡ earliest known (broken_where b NoElse s.line) → two ≡ earliest one (at_lines AfterElse (after_else false ls))
-    → three ≡ earliest two (lines_faults vs ss ls)
+    → three ≡ earliest two (transitions_faults vs ss ls)
     → three ≡ earliest known (state_faults vs ss s)
 state_noted vs ss s ls same known one two three b e f g h =
-    h ∙ ap (λ k. earliest k (lines_faults vs ss ls))
+    h ∙ ap (λ k. earliest k (transitions_faults vs ss ls))
     (g ∙ ap (λ k. earliest k (at_lines AfterElse (after_else false ls))) (f ∙ ap (λ t. earliest known (broken_where t NoElse s.line)) e))
-    ∙ earliest_three known (broken_where (lacks_else ls) NoElse s.line) (at_lines AfterElse (after_else false ls)) (lines_faults vs ss ls)
-    ∙ ap (λ l. earliest known (broken_where (lacks_else l) NoElse s.line ++ (at_lines AfterElse (after_else false l) ++ lines_faults vs ss l))) same
+    ∙ earliest_three known (broken_where (lacks_else ls) NoElse s.line) (at_lines AfterElse (after_else false ls)) (transitions_faults vs ss ls)
+    ∙ ap (λ l. earliest known (broken_where (lacks_else l) NoElse s.line ++ (at_lines AfterElse (after_else false l) ++ transitions_faults vs ss l))) same
 
 pub line_noted : (vs : List VarInfo) (count n : ℕ) (l : Transition ℕ ℕ) (known one two three four five six : Option CheckFault)
     (unknown sort input twice target emits : Bool)
@@ -34,7 +35,7 @@ pub line_noted : (vs : List VarInfo) (count n : ℕ) (l : Transition ℕ ℕ) (k
     → three ≡ earliest two (broken_where input AssignInput n)
     → four ≡ earliest three (broken_where twice AssignedTwice n) → five ≡ earliest four (broken_where target UnknownState n)
     → six ≡ earliest five (broken_where emits TooManyEmits n)
-    → six ≡ earliest known (line_faults vs count n l)
+    → six ≡ earliest known (transition_faults vs count n l)
 line_noted vs count n l known one two three four five six unknown sort input twice target emits a b c d e m f g h i j o =
     let u = broken_where (uses_unknown vs l) UnknownName n in
     let w = broken_where (uses_wrong_sort vs l) WrongSort n in

@@ -12,7 +12,8 @@ use Rattle.base_lemmas.proofs.Lists.{slice_get-front}
 use Rattle.fs_rules.specs.declared.uncut_cycles.Pass.{Pass}
 use Rattle.fs_rules.specs.declared.uncut_cycles.Verdict.{Verdict}
 use Rattle.fs_rules.specs.declared.uncut_cycles.Verdict.TheVariants.{Endless}
-use Rattle.fs_rules.specs.TargetWalks.{walked, is_cut, walk_reaches_cut, IsRound, IsTargetList, pass_at, may_pass, IsWalk, NeverEnds, AreSettledWalks, judged}
+use Rattle.fs_rules.specs.TargetWalks.{state_after_walk, is_cut, walk_reaches_cut, IsRound, IsTargetList, pass_at, may_pass, IsTargetWalk, NeverEnds}
+use Rattle.fs_rules.specs.TargetWalks.{AreSettledWalks, walk_verdict}
 use Rattle.fs_rules.specs.TargetWalks.{trail, round_of_walk}
 use Rattle.fs_rules.proofs.Walks.{walked_last, walked_at, walked_add, get_old, get_new, get_none, judged_never, closed_is, end_known, settle_ends, settle_told}
 use Rattle.fs_rules.proofs.Walks.{closed_inside, and_both, some_pass, verdict_cases}
@@ -29,38 +30,42 @@ get_either [] ys k x e = inr (k, e)
 get_either (z ∷ xs) ys zero x e = inl (zero, e)
 get_either (z ∷ xs) ys (suc k) x e = ⊎_elim (λ l. inl (suc l.0, l.1)) (λ r. inr r) (get_either xs ys k x e)
 
-trail_at : (next : List ℕ) (n i q : ℕ) → i < n → slice_get (trail next n q) i ≡ Some (walked next i q)
+trail_at : (next : List ℕ) (n i q : ℕ) → i < n → slice_get (trail next n q) i ≡ Some (state_after_walk next i q)
 trail_at next zero i q h = absurd (omega arith)
 trail_at next (suc n) zero q h = refl
 trail_at next (suc n) (suc i) q h = trail_at next n i (slice_index next q) (omega arith)
 
-trail_in : (next : List ℕ) (n k q x : ℕ) → slice_get (trail next n q) k ≡ Some x → (k < n) × (x ≡ walked next k q)
+trail_in : (next : List ℕ) (n k q x : ℕ) → slice_get (trail next n q) k ≡ Some x → (k < n) × (x ≡ state_after_walk next k q)
 trail_in next zero k q x e = absurd (cc)
 trail_in next (suc n) zero q x e = (omega arith, cc)
 trail_in next (suc n) (suc k) q x e = let r = trail_in next n k (slice_index next q) x e in (omega (arith, r.0), r.1)
 
 -- ---- steps on a round
 
-step_back : (next : List ℕ) (q n : ℕ) → 0 < n → walked next n q ≡ q → (e f : ℕ) → f ≡ slice_index next e → (u : ℕ) × (walked next u e ≡ q) → (g : ℕ) → g ≡ f
-    → (u : ℕ) × (walked next u g ≡ q)
+step_back : (next : List ℕ) (q n : ℕ) → 0 < n → state_after_walk next n q ≡ q → (e f : ℕ) → f ≡ slice_index next e → (u : ℕ) × (state_after_walk next u e ≡ q)
+    → (g : ℕ) → g ≡ f
+    → (u : ℕ) × (state_after_walk next u g ≡ q)
 step_back next q zero some back e f is r g at = absurd (omega arith)
-step_back next q (suc n) some back e f is (zero, r) g at = (n, ap (walked next n) (at ∙ is ∙ ap (slice_index next) r) ∙ back)
-step_back next q (suc n) some back e f is (suc u, r) g at = (u, ap (walked next u) (at ∙ is) ∙ r)
+step_back next q (suc n) some back e f is (zero, r) g at = (n, ap (state_after_walk next n) (at ∙ is ∙ ap (slice_index next) r) ∙ back)
+step_back next q (suc n) some back e f is (suc u, r) g at = (u, ap (state_after_walk next u) (at ∙ is) ∙ r)
 
 -- what leads back is led back to
-pub back_from : (next : List ℕ) (q length_ : ℕ) → 0 < length_ → walked next length_ q ≡ q → (t : ℕ) → (u : ℕ) × (walked next u (walked next t q) ≡ q)
+pub back_from : (next : List ℕ) (q length_ : ℕ) → 0 < length_ → state_after_walk next length_ q ≡ q → (t : ℕ)
+    → (u : ℕ) × (state_after_walk next u (state_after_walk next t q) ≡ q)
 back_from next q n some back zero = (zero, refl)
-back_from next q n some back (suc t) = step_back next q n some back (walked next t q) (slice_index next (walked next t q)) refl (back_from next q n some back t)
-    (walked next (suc t) q) (walked_last next t q)
+back_from next q n some back (suc t) = step_back next q n some back (state_after_walk next t q)
+    (slice_index next (state_after_walk next t q)) refl (back_from next q n some back t)
+    (state_after_walk next (suc t) q) (walked_last next t q)
 
-around_step : (next : List ℕ) (q n : ℕ) → walked next n q ≡ q → (t i : ℕ) → i < n → walked next t q ≡ walked next i q → 0 < n
-    → (k : ℕ) × ((k < n) × (walked next (suc t) q ≡ walked next k q))
+around_step : (next : List ℕ) (q n : ℕ) → state_after_walk next n q ≡ q → (t i : ℕ) → i < n → state_after_walk next t q ≡ state_after_walk next i q → 0 < n
+    → (k : ℕ) × ((k < n) × (state_after_walk next (suc t) q ≡ state_after_walk next k q))
 around_step next q n back t i h e some =
-    let on : walked next (suc t) q ≡ walked next (suc i) q = walked_last next t q ∙ ap (slice_index next) e ∙ sym (walked_last next i q) in
+    let on : state_after_walk next (suc t) q ≡ state_after_walk next (suc i) q = walked_last next t q ∙ ap (slice_index next) e ∙ sym (walked_last next i q) in
     ⊎_elim (λ at. (zero, (some, on ∙ walked_at next (suc i) n q at ∙ back))) (λ apart. (suc i, (omega arith, on))) (cases_eq (suc i) n)
 
 -- where a round of some steps leads: each place is one of the first
-pub around : (next : List ℕ) (q n : ℕ) → 0 < n → walked next n q ≡ q → (t : ℕ) → (i : ℕ) × ((i < n) × (walked next t q ≡ walked next i q))
+pub around : (next : List ℕ) (q n : ℕ) → 0 < n → state_after_walk next n q ≡ q → (t : ℕ)
+    → (i : ℕ) × ((i < n) × (state_after_walk next t q ≡ state_after_walk next i q))
 around next q n some back zero = (zero, (some, refl))
 around next q n some back (suc t) = let r = around next q n some back t in around_step next q n back t r.0 r.1.0 r.1.1 some
 
@@ -70,11 +75,11 @@ around next q n some back (suc t) = let r = around next q n some back t in aroun
 record Closes (next : List ℕ) (cut : List Bool) (start end steps walk : ℕ) (after : List (Option Pass)) (p : Pass) : Type 0 where
   own : p.walk ≡ walk
   step : p.step < steps
-  at : end ≡ walked next p.step start
-  back : walked next (steps - p.step) end ≡ end
+  at : end ≡ state_after_walk next p.step start
+  back : state_after_walk next (steps - p.step) end ≡ end
 
 closes : (next : List ℕ) (cut : List Bool) (start end steps : ℕ) (before after : List (Option Pass)) (vs : List Verdict) (found : List ℕ) (p : Pass)
-    → AreSettledWalks next cut before vs found → IsWalk next cut start (length vs) before after end steps
+    → AreSettledWalks next cut before vs found → IsTargetWalk next cut start (length vs) before after end steps
     → pass_at after end ≡ Some p → slice_get vs p.walk ≡ None → Closes next cut start end steps (length vs) after p
 closes next cut start end steps before after vs found p s w is none =
     ⊎_elim
@@ -83,39 +88,39 @@ closes next cut start end steps before after vs found p s w is none =
       own = new.0;
       step = new.1;
       at = new.2;
-      back = ap (walked next (steps - p.step)) new.2 ∙ walked_add next p.step (steps - p.step) start
+      back = ap (state_after_walk next (steps - p.step)) new.2 ∙ walked_add next p.step (steps - p.step) start
           ∙ walked_at next (p.step + (steps - p.step)) steps start (omega (arith, new.1)) ∙ sym w.leads;
     })
     (w.adds end p is)
 
 -- the places of such a round are those that the walk passed
 on_path : (next : List ℕ) (cut : List Bool) (start end steps walk : ℕ) (before after : List (Option Pass)) (p : Pass)
-    → IsWalk next cut start walk before after end steps → Closes next cut start end steps walk after p
-    → (i : ℕ) → i < steps - p.step → pass_at after (walked next i end) ≡ Some (record { walk = walk; step = p.step + i })
+    → IsTargetWalk next cut start walk before after end steps → Closes next cut start end steps walk after p
+    → (i : ℕ) → i < steps - p.step → pass_at after (state_after_walk next i end) ≡ Some (record { walk = walk; step = p.step + i })
 on_path next cut start end steps walk before after p w c i h =
-    ap (pass_at after) (ap (walked next i) c.at ∙ walked_add next p.step i start) ∙ w.path (p.step + i) (omega arith)
+    ap (pass_at after) (ap (state_after_walk next i) c.at ∙ walked_add next p.step i start) ∙ w.path (p.step + i) (omega arith)
 
 settled_uncut : (next : List ℕ) (cut : List Bool) (start end steps : ℕ) (before after : List (Option Pass)) (vs : List Verdict) (found : List ℕ)
-    → AreSettledWalks next cut before vs found → IsWalk next cut start (length vs) before after end steps
+    → AreSettledWalks next cut before vs found → IsTargetWalk next cut start (length vs) before after end steps
     → (q : ℕ) (p : Pass) → pass_at after q ≡ Some p → is_cut cut q ≡ false
 settled_uncut next cut start end steps before after vs found s w q p e = ⊎_elim (λ old. s.uncut q p old) (λ new. new.3) (w.adds q p e)
 
 -- each state of a closed round leads back to itself
 closed_round : (next : List ℕ) (cut : List Bool) (start end steps : ℕ) (before after : List (Option Pass)) (vs : List Verdict) (found : List ℕ) (p : Pass)
     → AreSettledWalks next cut before vs found
-    → IsWalk next cut start (length vs) before after end steps → Closes next cut start end steps (length vs) after p → (j : ℕ)
-    → IsRound next cut (walked next j end)
+    → IsTargetWalk next cut start (length vs) before after end steps → Closes next cut start end steps (length vs) after p → (j : ℕ)
+    → IsRound next cut (state_after_walk next j end)
 closed_round next cut start end steps before after vs found p s w c j =
     let n = steps - p.step in
     let some : 0 < n = let h = c.step in omega arith in
     record {
       steps = n;
       some = some;
-      back = walked_add next j n end ∙ walked_at next (j + n) (n + j) end (omega arith) ∙ sym (walked_add next n j end) ∙ ap (walked next j) c.back;
+      back = walked_add next j n end ∙ walked_at next (j + n) (n + j) end (omega arith) ∙ sym (walked_add next n j end) ∙ ap (state_after_walk next j) c.back;
       uncut = λ m.
           let r = around next end n some c.back (j + m) in
           ap (is_cut cut) (walked_add next j m end ∙ r.1.1)
-          ∙ settled_uncut next cut start end steps before after vs found s w (walked next r.0 end) (record { walk = length vs; step = p.step + r.0 })
+          ∙ settled_uncut next cut start end steps before after vs found s w (state_after_walk next r.0 end) (record { walk = length vs; step = p.step + r.0 })
           (on_path next cut start end steps (length vs) before after p w c r.0 r.1.0);
     }
 
@@ -132,7 +137,7 @@ closed_by next walk end steps k q None e = absurd (cc)
 closed_by next walk end steps k q (Some p) e = (p, closed_if next (p.walk == walk) walk end steps k q p refl e)
 
 settle_rounds : (next : List ℕ) (cut : List Bool) (start end steps : ℕ) (before after : List (Option Pass)) (vs : List Verdict) (found : List ℕ)
-    → AreSettledWalks next cut before vs found → IsWalk next cut start (length vs) before after end steps
+    → AreSettledWalks next cut before vs found → IsTargetWalk next cut start (length vs) before after end steps
     → (k q : ℕ) → slice_get (found ++ round_of_walk next (length vs) end steps (pass_at after end)) k ≡ Some q → IsRound next cut q
 settle_rounds next cut start end steps before after vs found s w k q e =
     ⊎_elim (λ old. s.rounds old.0 q old.1)
@@ -146,8 +151,8 @@ settle_rounds next cut start end steps before after vs found s w k q e =
 -- ---- walks without end
 
 settle_goes : (next : List ℕ) (cut : List Bool) (start end steps : ℕ) (before after : List (Option Pass)) (vs : List Verdict) (found : List ℕ) (v : Verdict)
-    → AreSettledWalks next cut before vs found → IsWalk next cut start (length vs) before after end steps
-    → may_pass cut after end ≡ false → v ≡ judged (is_cut cut end) (pass_at after end) steps vs → (q : ℕ) (p : Pass) → pass_at after q ≡ Some p
+    → AreSettledWalks next cut before vs found → IsTargetWalk next cut start (length vs) before after end steps
+    → may_pass cut after end ≡ false → v ≡ walk_verdict (is_cut cut end) (pass_at after end) steps vs → (q : ℕ) (p : Pass) → pass_at after q ≡ Some p
     → slice_get (vs ++ v ∷ []) p.walk ≡ Some Endless → NeverEnds after (vs ++ v ∷ []) (slice_index next q)
 settle_goes next cut start end steps before after vs found v s w stop j q p e g =
     ⊎_elim
@@ -159,7 +164,7 @@ settle_goes next cut start end steps before after vs found v s w stop j q p e g 
     (λ new.
     let last : Some v ≡ Some Endless = sym (get_new vs v) ∙ ap (slice_get (vs ++ v ∷ [])) (sym new.0) ∙ g in
     let verdict : v ≡ Endless = cc in
-    let to : slice_index next q ≡ walked next (suc p.step) start = ap (slice_index next) new.2 ∙ sym (walked_last next p.step start) in
+    let to : slice_index next q ≡ state_after_walk next (suc p.step) start = ap (slice_index next) new.2 ∙ sym (walked_last next p.step start) in
     ⊎_elim
     (λ at.
     let n = judged_never (is_cut cut end) (pass_at after end) steps vs stop (sym j ∙ verdict) in
@@ -180,13 +185,13 @@ settle_goes next cut start end steps before after vs found v s w stop j q p e g 
 
 -- from a state without end all states are without end
 pub all_go : (next : List ℕ) (cut : List Bool) (passes : List (Option Pass)) (vs : List Verdict) (found : List ℕ) → AreSettledWalks next cut passes vs found
-    → (t q : ℕ) → NeverEnds passes vs q → NeverEnds passes vs (walked next t q)
+    → (t q : ℕ) → NeverEnds passes vs q → NeverEnds passes vs (state_after_walk next t q)
 all_go next cut passes vs found s zero q n = n
 all_go next cut passes vs found s (suc t) q n = all_go next cut passes vs found s t (slice_index next q) (s.goes q n.by n.passes_it n.endless)
 
 settle_found : (next : List ℕ) (cut : List Bool) (start end steps : ℕ) (before after : List (Option Pass)) (vs : List Verdict) (found : List ℕ) (v : Verdict)
-    → AreSettledWalks next cut before vs found → IsWalk next cut start (length vs) before after end steps
-    → may_pass cut after end ≡ false → v ≡ judged (is_cut cut end) (pass_at after end) steps vs → (q : ℕ) (p : Pass) → pass_at after q ≡ Some p
+    → AreSettledWalks next cut before vs found → IsTargetWalk next cut start (length vs) before after end steps
+    → may_pass cut after end ≡ false → v ≡ walk_verdict (is_cut cut end) (pass_at after end) steps vs → (q : ℕ) (p : Pass) → pass_at after q ≡ Some p
     → slice_get (vs ++ v ∷ []) p.walk ≡ Some Endless → IsRound next cut q
     → (k : ℕ) × (slice_get (found ++ round_of_walk next (length vs) end steps (pass_at after end)) k ≡ Some q)
 settle_found next cut start end steps before after vs found v s w stop j q p e g r =
@@ -199,10 +204,10 @@ settle_found next cut start end steps before after vs found v s w stop j q p e g
     let last : Some v ≡ Some Endless = sym (get_new vs v) ∙ ap (slice_get (vs ++ v ∷ [])) (sym new.0) ∙ g in
     let verdict : v ≡ Endless = cc in
     let n = judged_never (is_cut cut end) (pass_at after end) steps vs stop (sym j ∙ verdict) in
-    let ahead : end ≡ walked next (steps - p.step) q = w.leads ∙ walked_at next steps (p.step + (steps - p.step)) start (omega (arith, new.1))
-    ∙ sym (walked_add next p.step (steps - p.step) start) ∙ ap (walked next (steps - p.step)) (sym new.2) in
+    let ahead : end ≡ state_after_walk next (steps - p.step) q = w.leads ∙ walked_at next steps (p.step + (steps - p.step)) start (omega (arith, new.1))
+    ∙ sym (walked_add next p.step (steps - p.step) start) ∙ ap (state_after_walk next (steps - p.step)) (sym new.2) in
     let b = back_from next q r.steps r.some r.back (steps - p.step) in
-    let back : walked next b.0 end ≡ q = ap (walked next b.0) ahead ∙ b.1 in
+    let back : state_after_walk next b.0 end ≡ q = ap (state_after_walk next b.0) ahead ∙ b.1 in
     ⊎_elim
     (λ none.
     let c = closes next cut start end steps before after vs found n.by s w n.is none in
@@ -227,8 +232,8 @@ settle_found next cut start end steps before after vs found v s w stop j q p e g
 -- ---- the whole
 
 pub settle : (next : List ℕ) (cut : List Bool) (start end steps : ℕ) (before after : List (Option Pass)) (vs : List Verdict) (found : List ℕ) (v : Verdict)
-    → IsTargetList next cut → AreSettledWalks next cut before vs found → IsWalk next cut start (length vs) before after end steps
-    → may_pass cut after end ≡ false → v ≡ judged (is_cut cut end) (pass_at after end) steps vs
+    → IsTargetList next cut → AreSettledWalks next cut before vs found → IsTargetWalk next cut start (length vs) before after end steps
+    → may_pass cut after end ≡ false → v ≡ walk_verdict (is_cut cut end) (pass_at after end) steps vs
     → AreSettledWalks next cut after (vs ++ v ∷ []) (found ++ round_of_walk next (length vs) end steps (pass_at after end))
 settle next cut start end steps before after vs found v g s w stop j =
     let long : length (vs ++ v ∷ []) ≡ length vs + 1 = length-append vs (v ∷ []) in
@@ -248,16 +253,17 @@ settle next cut start end steps before after vs found v g s w stop j =
 pub settle_all : (next : List ℕ) (cut : List Bool) (start end steps walk : ℕ) (before after : List (Option Pass)) (pass : Option Pass) (vs told : List Verdict)
     (found more : List ℕ) (v : Verdict)
     → walk ≡ length vs → pass ≡ pass_at after end → IsTargetList next cut → AreSettledWalks next cut before vs found
-    → IsWalk next cut start walk before after end steps → may_pass cut after end ≡ false → v ≡ judged (is_cut cut end) pass steps vs
+    → IsTargetWalk next cut start walk before after end steps → may_pass cut after end ≡ false → v ≡ walk_verdict (is_cut cut end) pass steps vs
     → told ≡ vs ++ v ∷ [] → more ≡ found ++ round_of_walk next walk end steps pass → AreSettledWalks next cut after told more
 settle_all next cut start end steps walk before after pass vs told found more v same at g s w stop j e f =
-    let own : IsWalk next cut start (length vs) before after end steps = subst (λ k. IsWalk next cut start k before after end steps) same w in
-    let all = settle next cut start end steps before after vs found v g s own stop (j ∙ ap (λ o. judged (is_cut cut end) o steps vs) at) in
+    let own : IsTargetWalk next cut start (length vs) before after end steps = subst (λ k. IsTargetWalk next cut start k before after end steps) same w in
+    let all = settle next cut start end steps before after vs found v g s own stop (j ∙ ap (λ o. walk_verdict (is_cut cut end) o steps vs) at) in
     let f' : more ≡ found ++ round_of_walk next (length vs) end steps (pass_at after end) = f
     ∙ ap₂ (λ (k : ℕ) (o : Option Pass). found ++ round_of_walk next k end steps o) same at in
     subst (λ l. AreSettledWalks next cut after l more) (sym e) (subst (λ l. AreSettledWalks next cut after (vs ++ v ∷ []) l) (sym f') all)
 
-pub not_reached : (next : List ℕ) (cut : List Bool) (n q : ℕ) → walk_reaches_cut next cut n q ≡ true → ((k : ℕ) → is_cut cut (walked next k q) ≡ false) → ⊥
+pub not_reached : (next : List ℕ) (cut : List Bool) (n q : ℕ) → walk_reaches_cut next cut n q ≡ true
+    → ((k : ℕ) → is_cut cut (state_after_walk next k q) ≡ false) → ⊥
 not_reached next cut zero q e f = let g : is_cut cut q ≡ false = f zero in cc
 not_reached next cut (suc n) q e f = not_reached next cut n (slice_index next q)
     (or_other (is_cut cut q) (walk_reaches_cut next cut n (slice_index next q)) (f zero) e) (λ k. f (suc k))

@@ -13,19 +13,20 @@ use Rattle.std.proofs.lemmas.Option.{slice_get_past, slice_get_within}
 use Rattle.fs_rules.specs.declared.uncut_cycles.Pass.{Pass}
 use Rattle.fs_rules.specs.declared.uncut_cycles.Verdict.{Verdict}
 use Rattle.fs_rules.specs.declared.uncut_cycles.Verdict.TheVariants.{Ends, Endless}
-use Rattle.fs_rules.specs.TargetWalks.{walked, is_cut, walk_reaches_cut, IsTargetList, pass_at, pass_count, may_pass, IsWalk, AreSettledWalks, judged}
-use Rattle.fs_rules.specs.TargetWalks.{judged_by, trail, round_of_walk}
+use Rattle.fs_rules.specs.TargetWalks.{state_after_walk, is_cut, walk_reaches_cut, IsTargetList, pass_at, pass_count, may_pass, IsTargetWalk, AreSettledWalks}
+use Rattle.fs_rules.specs.TargetWalks.{walk_verdict}
+use Rattle.fs_rules.specs.TargetWalks.{walk_verdict_by, trail, round_of_walk}
 
 -- ---- steps
 
-pub walked_last : (next : List ℕ) (n q : ℕ) → walked next (suc n) q ≡ slice_index next (walked next n q)
+pub walked_last : (next : List ℕ) (n q : ℕ) → state_after_walk next (suc n) q ≡ slice_index next (state_after_walk next n q)
 walked_last next zero q = refl
 walked_last next (suc n) q = walked_last next n (slice_index next q)
 
-pub walked_at : (next : List ℕ) (n m q : ℕ) → n ≡ m → walked next n q ≡ walked next m q
-walked_at next n m q e = ap (λ k. walked next k q) e
+pub walked_at : (next : List ℕ) (n m q : ℕ) → n ≡ m → state_after_walk next n q ≡ state_after_walk next m q
+walked_at next n m q e = ap (λ k. state_after_walk next k q) e
 
-pub walked_add : (next : List ℕ) (n m q : ℕ) → walked next m (walked next n q) ≡ walked next (n + m) q
+pub walked_add : (next : List ℕ) (n m q : ℕ) → state_after_walk next m (state_after_walk next n q) ≡ state_after_walk next (n + m) q
 walked_add next zero m q = walked_at next m (zero + m) q (omega arith)
 walked_add next (suc n) m q = walked_add next n m (slice_index next q) ∙ walked_at next (suc (n + m)) (suc n + m) q (omega arith)
 
@@ -40,7 +41,7 @@ suc_left : (n m : ℕ) → suc (n + m) ≡ suc n + m
 suc_left n m = omega arith
 
 -- a state that leads to one from which a cut comes
-pub reaches_through : (next : List ℕ) (cut : List Bool) (n m q : ℕ) → walk_reaches_cut next cut m (walked next n q) ≡ true
+pub reaches_through : (next : List ℕ) (cut : List Bool) (n m q : ℕ) → walk_reaches_cut next cut m (state_after_walk next n q) ≡ true
     → walk_reaches_cut next cut (n + m) q ≡ true
 reaches_through next cut zero m q e = subst (λ k. walk_reaches_cut next cut k q ≡ true) (zero_left m) e
 reaches_through next cut (suc n) m q e =
@@ -81,27 +82,29 @@ put_other xs i q p o none there =
     let apart : q ≢ i = λ e. let same : pass_at xs q ≡ None = ap (pass_at xs) e ∙ none in cc in
     get_or-set_other xs i q (Some p) None apart ∙ there
 
-added_at : (next : List ℕ) (cut : List Bool) (start walk : ℕ) (after : List (Option Pass)) (end steps q : ℕ) (p : Pass) → end ≡ walked next steps start
+added_at : (next : List ℕ) (cut : List Bool) (start walk : ℕ) (after : List (Option Pass)) (end steps q : ℕ) (p : Pass)
+    → end ≡ state_after_walk next steps start
     → is_cut cut end ≡ false → end < length after → q ≡ end
     → pass_at (put_pass after end (record { walk = walk; step = steps })) q ≡ Some p
-    → (p.walk ≡ walk) × (p.step < steps + 1) × (q ≡ walked next p.step start) × (is_cut cut q ≡ false)
+    → (p.walk ≡ walk) × (p.step < steps + 1) × (q ≡ state_after_walk next p.step start) × (is_cut cut q ≡ false)
 added_at next cut start walk after end steps q p leads uncut inside at e =
     let r : Pass = record { walk = walk; step = steps } in
     let there : pass_at (put_pass after end r) q ≡ Some r = ap (pass_at (put_pass after end r)) at ∙ get_or-set_same after end (Some r) None inside in
     let is : p ≡ r = cc in
     let step : p.step ≡ steps = ap (λ x. x.step) is in
-    (ap (λ x. x.walk) is, omega arith, at ∙ leads ∙ ap (λ k. walked next k start) (sym step), ap (is_cut cut) at ∙ uncut)
+    (ap (λ x. x.walk) is, omega arith, at ∙ leads ∙ ap (λ k. state_after_walk next k start) (sym step), ap (is_cut cut) at ∙ uncut)
 
-path_at : (next : List ℕ) (start walk : ℕ) (after : List (Option Pass)) (end steps k : ℕ) → end ≡ walked next steps start → end < length after → k ≡ steps
-    → pass_at (put_pass after end (record { walk = walk; step = steps })) (walked next k start) ≡ Some (record { walk = walk; step = k })
+path_at : (next : List ℕ) (start walk : ℕ) (after : List (Option Pass)) (end steps k : ℕ) → end ≡ state_after_walk next steps start
+    → end < length after → k ≡ steps
+    → pass_at (put_pass after end (record { walk = walk; step = steps })) (state_after_walk next k start) ≡ Some (record { walk = walk; step = k })
 path_at next start walk after end steps k leads inside at =
     let r : Pass = record { walk = walk; step = steps } in
-    ap (pass_at (put_pass after end r)) (ap (λ j. walked next j start) at ∙ sym leads)
+    ap (pass_at (put_pass after end r)) (ap (λ j. state_after_walk next j start) at ∙ sym leads)
     ∙ get_or-set_same after end (Some r) None inside
     ∙ ap (λ j. Some (record { walk = walk; step = j })) (sym at)
 
 pub walk_start : (next : List ℕ) (cut : List Bool) (start walk : ℕ) (before : List (Option Pass)) → start < length next
-    → IsWalk next cut start walk before before start 0
+    → IsTargetWalk next cut start walk before before start 0
 walk_start next cut start walk before h = record {
   same = refl;
   leads = refl;
@@ -113,9 +116,9 @@ walk_start next cut start walk before h = record {
 }
 
 pub walk_more : (next : List ℕ) (cut : List Bool) (start walk : ℕ) (before after : List (Option Pass)) (end steps : ℕ) → IsTargetList next cut
-    → length before ≡ length next → IsWalk next cut start walk before after end steps
+    → length before ≡ length next → IsTargetWalk next cut start walk before after end steps
     → is_cut cut end ≡ false → pass_at after end ≡ None
-    → IsWalk next cut start walk before (put_pass after end (record { walk = walk; step = steps })) (slice_index next end) (steps + 1)
+    → IsTargetWalk next cut start walk before (put_pass after end (record { walk = walk; step = steps })) (slice_index next end) (steps + 1)
 walk_more next cut start walk before after end steps g same w uncut none =
     let r : Pass = record { walk = walk; step = steps } in
     let inside : end < length after = subst (λ n. end < n) (sym (w.same ∙ same)) w.within in
@@ -128,7 +131,7 @@ walk_more next cut start walk before after end steps g same w uncut none =
           (λ apart. ⊎_elim (λ old. inl old) (λ new. inr (new.0, omega arith, new.2, new.3))
           (w.adds q p (sym (get_or-set_other after end q (Some r) None apart) ∙ e))) (cases_eq q end);
       path = λ k h. ⊎_elim (λ at. path_at next start walk after end steps k w.leads inside at)
-          (λ apart. put_other after end (walked next k start) r (record { walk = walk; step = k }) none (w.path k (omega arith))) (cases_eq k steps);
+          (λ apart. put_other after end (state_after_walk next k start) r (record { walk = walk; step = k }) none (w.path k (omega arith))) (cases_eq k steps);
       count = let c : pass_count (put_pass after end r) ≡ pass_count after + 1 = passed_set after end r inside none in omega (arith, w.count);
     }
 
@@ -156,13 +159,13 @@ record Through (pass : Option Pass) (steps total : ℕ) (vs : List Verdict) : Ty
   there : slice_get vs by.walk ≡ Some (Ends base)
   sum : total ≡ base - by.step + steps
 
-judged_by_ends : (o : Option Verdict) (p : Pass) (steps total : ℕ) (vs : List Verdict) → slice_get vs p.walk ≡ o → judged_by steps p o ≡ Ends total
+judged_by_ends : (o : Option Verdict) (p : Pass) (steps total : ℕ) (vs : List Verdict) → slice_get vs p.walk ≡ o → walk_verdict_by steps p o ≡ Ends total
     → Through (Some p) steps total vs
 judged_by_ends None p steps total vs at e = absurd (cc)
 judged_by_ends (Some Endless) p steps total vs at e = absurd (cc)
 judged_by_ends (Some (Ends base)) p steps total vs at e = record { by = p; base = base; is = refl; there = at; sum = cc }
 
-judged_ends : (c : Bool) (pass : Option Pass) (steps total : ℕ) (vs : List Verdict) → judged c pass steps vs ≡ Ends total
+judged_ends : (c : Bool) (pass : Option Pass) (steps total : ℕ) (vs : List Verdict) → walk_verdict c pass steps vs ≡ Ends total
     → ((c ≡ true) × (total ≡ steps)) ⊎ Through pass steps total vs
 judged_ends true pass steps total vs e = inl (refl, cc)
 judged_ends false None steps total vs e = absurd (cc)
@@ -174,12 +177,14 @@ pub record Never (pass : Option Pass) (vs : List Verdict) : Type 0 where
   pub is : pass ≡ Some by
   pub there : (slice_get vs by.walk ≡ None) ⊎ (slice_get vs by.walk ≡ Some Endless)
 
-judged_by_never : (o : Option Verdict) (p : Pass) (steps : ℕ) (vs : List Verdict) → slice_get vs p.walk ≡ o → judged_by steps p o ≡ Endless → Never (Some p) vs
+judged_by_never : (o : Option Verdict) (p : Pass) (steps : ℕ) (vs : List Verdict) → slice_get vs p.walk ≡ o → walk_verdict_by steps p o ≡ Endless
+    → Never (Some p) vs
 judged_by_never None p steps vs at e = record { by = p; is = refl; there = inl at }
 judged_by_never (Some Endless) p steps vs at e = record { by = p; is = refl; there = inr at }
 judged_by_never (Some (Ends base)) p steps vs at e = absurd (cc)
 
-pub judged_never : (c : Bool) (pass : Option Pass) (steps : ℕ) (vs : List Verdict) → (not c && not (is_some pass)) ≡ false → judged c pass steps vs ≡ Endless
+pub judged_never : (c : Bool) (pass : Option Pass) (steps : ℕ) (vs : List Verdict) → (not c && not (is_some pass)) ≡ false
+    → walk_verdict c pass steps vs ≡ Endless
     → Never pass vs
 judged_never true pass steps vs stop e = absurd (cc)
 judged_never false None steps vs stop e = absurd (cc)
@@ -195,16 +200,17 @@ closed_is next walk end steps pass p is own = ap (round_of_walk next walk end st
     ∙ ap (λ b. cond b (trail next (steps - p.step) end) []) (eq-eqb p.walk walk own)
 
 -- a state passed on the way to an end from which a cut comes
-reach_new : (next : List ℕ) (cut : List Bool) (start end steps step q m : ℕ) → end ≡ walked next steps start → q ≡ walked next step start → step < steps
+reach_new : (next : List ℕ) (cut : List Bool) (start end steps step q m : ℕ) → end ≡ state_after_walk next steps start
+    → q ≡ state_after_walk next step start → step < steps
     → walk_reaches_cut next cut m end ≡ true → walk_reaches_cut next cut (steps - step + m) q ≡ true
 reach_new next cut start end steps step q m ends at h r =
-    let way : walked next (steps - step) q ≡ end = ap (walked next (steps - step)) at ∙ walked_add next step (steps - step) start
+    let way : state_after_walk next (steps - step) q ≡ end = ap (state_after_walk next (steps - step)) at ∙ walked_add next step (steps - step) start
     ∙ walked_at next (step + (steps - step)) steps start (omega arith) ∙ sym ends in
     reaches_through next cut (steps - step) m q (ap (walk_reaches_cut next cut m) way ∙ r)
 
 -- the pass at the end of a walk, where its walk has a verdict
 pub end_known : (next : List ℕ) (cut : List Bool) (start end steps : ℕ) (before after : List (Option Pass)) (vs : List Verdict) (p : Pass) (v : Verdict)
-    → IsWalk next cut start (length vs) before after end steps
+    → IsTargetWalk next cut start (length vs) before after end steps
     → pass_at after end ≡ Some p → slice_get vs p.walk ≡ Some v → pass_at before end ≡ Some p
 end_known next cut start end steps before after vs p v w is there =
     ⊎_elim (λ old. old) (λ new. let past : slice_get vs p.walk ≡ None = slice_get_past vs p.walk (omega (arith, new.0)) in absurd (cc)) (w.adds end p is)
@@ -219,8 +225,8 @@ fill_sum : (n m : ℕ) → n ≤ m → m - n + n ≡ m
 fill_sum n m h = omega arith
 
 pub settle_ends : (next : List ℕ) (cut : List Bool) (start end steps : ℕ) (before after : List (Option Pass)) (vs : List Verdict) (found : List ℕ) (v : Verdict)
-    → AreSettledWalks next cut before vs found → IsWalk next cut start (length vs) before after end steps
-    → v ≡ judged (is_cut cut end) (pass_at after end) steps vs
+    → AreSettledWalks next cut before vs found → IsTargetWalk next cut start (length vs) before after end steps
+    → v ≡ walk_verdict (is_cut cut end) (pass_at after end) steps vs
     → (q : ℕ) (p : Pass) (total : ℕ) → pass_at after q ≡ Some p → slice_get (vs ++ v ∷ []) p.walk ≡ Some (Ends total)
     → (p.step ≤ total) × (total ≤ pass_count after) × (walk_reaches_cut next cut (total - p.step) q ≡ true)
 settle_ends next cut start end steps before after vs found v s w j q p total e g =
@@ -250,8 +256,8 @@ settle_ends next cut start end steps before after vs found v s w j q p total e g
     (w.adds q p e)
 
 pub settle_told : (next : List ℕ) (cut : List Bool) (start end steps : ℕ) (before after : List (Option Pass)) (vs : List Verdict) (found : List ℕ) (v : Verdict)
-    → AreSettledWalks next cut before vs found → IsWalk next cut start (length vs) before after end steps → may_pass cut after end ≡ false
-    → v ≡ judged (is_cut cut end) (pass_at after end) steps vs
+    → AreSettledWalks next cut before vs found → IsTargetWalk next cut start (length vs) before after end steps → may_pass cut after end ≡ false
+    → v ≡ walk_verdict (is_cut cut end) (pass_at after end) steps vs
     → (k : ℕ) → slice_get (vs ++ v ∷ []) k ≡ Some Endless → 0 < length (found ++ round_of_walk next (length vs) end steps (pass_at after end))
 settle_told next cut start end steps before after vs found v s w stop j k g =
     let more = round_of_walk next (length vs) end steps (pass_at after end) in
@@ -297,7 +303,7 @@ closed_inside next cut walk end steps (Some p) g h = cond_inside (length next) (
 
 -- what is asked of the verdict before
 pub judge_safe : (next : List ℕ) (cut : List Bool) (start end steps : ℕ) (before after : List (Option Pass)) (vs : List Verdict) (found : List ℕ)
-    → AreSettledWalks next cut before vs found → IsWalk next cut start (length vs) before after end steps → length after < 2 ^ 63
+    → AreSettledWalks next cut before vs found → IsTargetWalk next cut start (length vs) before after end steps → length after < 2 ^ 63
     → (p : Pass) (total : ℕ) → pass_at after end ≡ Some p → slice_get vs p.walk ≡ Some (Ends total) → (p.step ≤ total) × (total + steps < 2 ^ 63)
 judge_safe next cut start end steps before after vs found s w small p total is there =
     let f = s.ends end p total (end_known next cut start end steps before after vs p (Ends total) w is there) there in
@@ -348,13 +354,13 @@ open_is cut passes q e = open_both (is_cut cut q) (pass_at passes q) e
 
 -- a walk's start was seen
 pub start_seen : (next : List ℕ) (cut : List Bool) (start walk end steps : ℕ) (before after : List (Option Pass))
-    → IsWalk next cut start walk before after end steps → may_pass cut after end ≡ false
+    → IsTargetWalk next cut start walk before after end steps → may_pass cut after end ≡ false
     → (is_cut cut start ≡ true) ⊎ (is_some (pass_at after start) ≡ true)
 start_seen next cut start walk end zero before after w stop =
     open_cases (is_cut cut start) (is_some (pass_at after start)) (ap (may_pass cut after) (sym w.leads) ∙ stop)
 start_seen next cut start walk end (suc steps) before after w stop = inr (ap is_some (w.path 0 (omega arith)))
 
 pub still_seen : (next : List ℕ) (cut : List Bool) (start walk end steps : ℕ) (before after : List (Option Pass))
-    → IsWalk next cut start walk before after end steps
+    → IsTargetWalk next cut start walk before after end steps
     → (q : ℕ) → is_some (pass_at before q) ≡ true → is_some (pass_at after q) ≡ true
 still_seen next cut start walk end steps before after w q some = let p = some_pass (pass_at before q) some in ap is_some (w.keeps q p.0 p.1)

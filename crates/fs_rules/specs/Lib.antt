@@ -1,8 +1,8 @@
 pub mod MachineOfParts
-pub mod Sound
+pub mod SoundParts
 pub mod Rules
 pub mod FirstFault
 pub mod Places
 pub mod Uses
 pub mod TargetWalks
-pub mod Scoped
+pub mod Scopes

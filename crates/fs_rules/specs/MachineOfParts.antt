@@ -4,14 +4,14 @@ use Rattle.std.specs.List.{flat_map}
 use Rattle.std.specs.Str.{bytes_eq}
 use Rattle.fs_model.specs.declared.parts.VarInfo.{VarInfo}
 use Rattle.fs_model.specs.Terms.{Transition}
-use Rattle.fs_model.specs.Renamed.{line_over}
+use Rattle.fs_model.specs.Renamed.{transition_over}
 use Rattle.fs_model.specs.Source.{Declaration, SourceTransition, SourceState, Source}
 use Rattle.fs_model.specs.Machines.{State, Fsmd}
 
 -- the first place of a name, and the length of the list where it has none
-abbrev pub place : List (List ℕ) → List ℕ → ℕ
-place [] name = 0
-place (n ∷ ns) name = cond (bytes_eq n name) 0 (suc (place ns name))
+abbrev pub place_or_end : List (List ℕ) → List ℕ → ℕ
+place_or_end [] name = 0
+place_or_end (n ∷ ns) name = cond (bytes_eq n name) 0 (suc (place_or_end ns name))
 
 abbrev pub declared_by : Declaration → List VarInfo
 declared_by d = map (λ n. record { name = n; role = d.role; sort = d.sort }) d.names
@@ -27,16 +27,16 @@ abbrev pub state_names : List SourceState → List (List ℕ)
 state_names ss = map (λ s. s.name) ss
 
 -- a transition over the places of names
-abbrev pub line_spelled : List (List ℕ) → List (List ℕ) → SourceTransition → Transition ℕ ℕ
-line_spelled vs ss l = line_over (place vs) (place ss) l.content
+abbrev pub transition_spelled : List (List ℕ) → List (List ℕ) → SourceTransition → Transition ℕ ℕ
+transition_spelled vs ss l = transition_over (place_or_end vs) (place_or_end ss) l.content
 
 abbrev pub state_spelled : List (List ℕ) → List (List ℕ) → SourceState → State
-state_spelled vs ss s = record { name = s.name; lines = map (line_spelled vs ss) s.lines }
+state_spelled vs ss s = record { name = s.name; lines = map (transition_spelled vs ss) s.lines }
 
 -- the machine that the parts spell
 abbrev pub machine_of : Source → Fsmd
 machine_of p = record {
   variables = variables_of p.declarations;
-  reset = place (state_names p.states) p.reset;
+  reset = place_or_end (state_names p.states) p.reset;
   states = map (state_spelled (names_of (variables_of p.declarations)) (state_names p.states)) p.states;
 }

@@ -13,12 +13,12 @@ use Rattle.fs_rules.specs.declared.check.CheckRule.TheVariants.{TwiceNamed, Unkn
 use Rattle.fs_rules.specs.declared.check.CheckRule.TheVariants.{NoElse, AfterElse, TooManyBranches, EndlessLine, UnknownState}
 use Rattle.fs_rules.specs.declared.check.CheckRule.TheVariants.{TooMany, TooManyEmits}
 use Rattle.fs_rules.specs.declared.check.CheckFault.{CheckFault}
-use Rattle.fs_rules.specs.MachineOfParts.{variables_of, names_of, state_names, place, line_spelled, machine_of}
+use Rattle.fs_rules.specs.MachineOfParts.{variables_of, names_of, state_names, place_or_end, transition_spelled, machine_of}
 use Rattle.fs_model.specs.Limits.{most_variables, most_states, most_branches, most_emits}
 use Rattle.fs_model.specs.Runs.{is_scalar, is_array, is_port}
-use Rattle.fs_rules.specs.Sound.{other_sort_at, input_at, all_differ, assigned_in, changed_by, scalars_in_condition}
-use Rattle.fs_rules.specs.Sound.{arrays_in_condition, scalars_in_assignments, arrays_in_assignments, ports_in_assignments}
-use Rattle.fs_rules.specs.Sound.{emit_count, is_cutpoint, first_transition_target}
+use Rattle.fs_rules.specs.SoundParts.{other_sort_at, input_at, all_differ, assigned_in, changed_by, scalars_in_condition}
+use Rattle.fs_rules.specs.SoundParts.{arrays_in_condition, scalars_in_assignments, arrays_in_assignments, ports_in_assignments}
+use Rattle.fs_rules.specs.SoundParts.{emit_count, is_cutpoint, first_transition_target}
 
 -- a rule at each of these lines
 abbrev pub at_lines : CheckRule → List ℕ → List CheckFault
@@ -36,14 +36,14 @@ abbrev pub declared_states : List SourceState → List (ℕ × List ℕ)
 declared_states ss = map (λ s. (s.line, s.name)) ss
 
 -- the lines at which a name stands that stood before
-abbrev pub repeated : List (List ℕ) → List (ℕ × List ℕ) → List ℕ
-repeated before [] = []
-repeated before (n ∷ ns) = cond (list_any (λ m. bytes_eq m n.1) before) (n.0 ∷ repeated (n.1 ∷ before) ns)
-    (repeated (n.1 ∷ before) ns)
+abbrev pub repeated_lines : List (List ℕ) → List (ℕ × List ℕ) → List ℕ
+repeated_lines before [] = []
+repeated_lines before (n ∷ ns) = cond (list_any (λ m. bytes_eq m n.1) before) (n.0 ∷ repeated_lines (n.1 ∷ before) ns)
+    (repeated_lines (n.1 ∷ before) ns)
 
 -- the line of the first that is past a limit
-abbrev pub past : ℕ → List (ℕ × List ℕ) → List ℕ
-past most ns = map (λ n. n.0) (take 1 (drop most ns))
+abbrev pub line_past_limit : ℕ → List (ℕ × List ℕ) → List ℕ
+line_past_limit most ns = map (λ n. n.0) (take 1 (drop most ns))
 
 -- uses of variables, each either declared or not, and each of the sort wanted or not
 abbrev pub is_known : List VarInfo → ℕ → Bool
@@ -65,8 +65,8 @@ abbrev pub changes_input : List VarInfo → Transition ℕ ℕ → Bool
 changes_input vs l = list_any (λ a. input_at vs (changed_by a)) l.assignments
 
 -- the rules of one transition, of which n is the line
-abbrev pub line_faults : List VarInfo → ℕ → ℕ → Transition ℕ ℕ → List CheckFault
-line_faults vs count n l =
+abbrev pub transition_faults : List VarInfo → ℕ → ℕ → Transition ℕ ℕ → List CheckFault
+transition_faults vs count n l =
     broken_where (uses_unknown vs l) UnknownName n
     ++ (broken_where (uses_wrong_sort vs l) WrongSort n ++ (broken_where (changes_input vs l) AssignInput n
     ++ (broken_where (not (all_differ (assigned_in l.assignments))) AssignedTwice n
@@ -84,26 +84,26 @@ abbrev pub after_else : Bool → List SourceTransition → List ℕ
 after_else seen [] = []
 after_else seen (l ∷ ls) = cond seen (l.line ∷ after_else true ls) (after_else (not (is_some l.content.guard)) ls)
 
-abbrev pub lines_faults : List VarInfo → List (List ℕ) → List SourceTransition → List CheckFault
-lines_faults vs ss ls = flat_map (λ l. line_faults vs (length ss) l.line (line_spelled (names_of vs) ss l)) ls
+abbrev pub transitions_faults : List VarInfo → List (List ℕ) → List SourceTransition → List CheckFault
+transitions_faults vs ss ls = flat_map (λ l. transition_faults vs (length ss) l.line (transition_spelled (names_of vs) ss l)) ls
 
 abbrev pub state_faults : List VarInfo → List (List ℕ) → SourceState → List CheckFault
 state_faults vs ss s = broken_where (lacks_else s.lines) NoElse s.line
-    ++ (at_lines AfterElse (after_else false s.lines) ++ lines_faults vs ss s.lines)
+    ++ (at_lines AfterElse (after_else false s.lines) ++ transitions_faults vs ss s.lines)
 
 -- the broken rules, those on branches and on endless lines left out
 abbrev pub plain_faults : Source → List CheckFault
 plain_faults p =
-    at_lines TwiceNamed (repeated [] (declared_names p.declarations))
-    ++ (at_lines TooMany (past most_variables (declared_names p.declarations))
-    ++ (at_lines TwiceNamed (repeated [] (declared_states p.states))
-    ++ (at_lines TooMany (past most_states (declared_states p.states))
-    ++ (broken_where (not (nat_lt (place (state_names p.states) p.reset) (length p.states))) UnknownState p.reset_line
+    at_lines TwiceNamed (repeated_lines [] (declared_names p.declarations))
+    ++ (at_lines TooMany (line_past_limit most_variables (declared_names p.declarations))
+    ++ (at_lines TwiceNamed (repeated_lines [] (declared_states p.states))
+    ++ (at_lines TooMany (line_past_limit most_states (declared_states p.states))
+    ++ (broken_where (not (nat_lt (place_or_end (state_names p.states) p.reset) (length p.states))) UnknownState p.reset_line
     ++ flat_map (state_faults (variables_of p.declarations) (state_names p.states)) p.states))))
 
 -- whether the tree of a state's transitions has too many leaves
 abbrev pub branches_too_often : List (List ℕ) → List (List ℕ) → SourceState → Bool
-branches_too_often vs ss s = nat_lt most_branches (count_leaves (tree_of_transitions (map (line_spelled vs ss) s.lines)))
+branches_too_often vs ss s = nat_lt most_branches (count_leaves (tree_of_transitions (map (transition_spelled vs ss) s.lines)))
 
 abbrev pub branch_faults : Source → List CheckFault
 branch_faults p =

@@ -8,9 +8,9 @@ use Rattle.fs_rules.specs.declared.uncut_cycles.Verdict.{Verdict}
 use Rattle.fs_rules.specs.declared.uncut_cycles.Verdict.TheVariants.{Ends, Endless}
 
 -- where n steps lead
-abbrev pub walked : List ℕ → ℕ → ℕ → ℕ
-walked next zero q = q
-walked next (suc n) q = walked next n (slice_index next q)
+abbrev pub state_after_walk : List ℕ → ℕ → ℕ → ℕ
+state_after_walk next zero q = q
+state_after_walk next (suc n) q = state_after_walk next n (slice_index next q)
 
 -- whether a state cuts paths
 abbrev pub is_cut : List Bool → ℕ → Bool
@@ -25,8 +25,8 @@ walk_reaches_cut next cut (suc n) q = is_cut cut q || walk_reaches_cut next cut 
 pub record IsRound (next : List ℕ) (cut : List Bool) (q : ℕ) : Type 0 where
   pub steps : ℕ
   pub some : 0 < steps
-  pub back : walked next steps q ≡ q
-  pub uncut : (k : ℕ) → is_cut cut (walked next k q) ≡ false
+  pub back : state_after_walk next steps q ≡ q
+  pub uncut : (k : ℕ) → is_cut cut (state_after_walk next k q) ≡ false
 
 -- each state leads to a state
 pub record IsTargetList (next : List ℕ) (cut : List Bool) : Type 0 where
@@ -46,15 +46,15 @@ abbrev pub may_pass : List Bool → List (Option Pass) → ℕ → Bool
 may_pass cut passes q = not (is_cut cut q) && not (is_some (pass_at passes q))
 
 -- one walk from a state, which passes states that were not passed before, up to a cut or a state that was
-pub record IsWalk (next : List ℕ) (cut : List Bool) (start walk : ℕ) (before after : List (Option Pass))
+pub record IsTargetWalk (next : List ℕ) (cut : List Bool) (start walk : ℕ) (before after : List (Option Pass))
     (end steps : ℕ) : Type 0 where
   pub same : length after ≡ length before
-  pub leads : end ≡ walked next steps start
+  pub leads : end ≡ state_after_walk next steps start
   pub within : end < length next
   pub keeps : (q : ℕ) (p : Pass) → pass_at before q ≡ Some p → pass_at after q ≡ Some p
   pub adds : (q : ℕ) (p : Pass) → pass_at after q ≡ Some p → (pass_at before q ≡ Some p)
-      ⊎ ((p.walk ≡ walk) × (p.step < steps) × (q ≡ walked next p.step start) × (is_cut cut q ≡ false))
-  pub path : (k : ℕ) → k < steps → pass_at after (walked next k start) ≡ Some (record { walk = walk; step = k })
+      ⊎ ((p.walk ≡ walk) × (p.step < steps) × (q ≡ state_after_walk next p.step start) × (is_cut cut q ≡ false))
+  pub path : (k : ℕ) → k < steps → pass_at after (state_after_walk next k start) ≡ Some (record { walk = walk; step = k })
   pub count : pass_count after ≡ pass_count before + steps
 
 -- a state that was passed by a walk without end
@@ -80,16 +80,16 @@ pub record AreSettledWalks (next : List ℕ) (cut : List Bool) (passes : List (O
       → (k : ℕ) × (slice_get found k ≡ Some q)
 
 -- what a walk comes to that stops at a state with this verdict on the walk that passed it, or with none yet
-abbrev pub judged_by : ℕ → Pass → Option Verdict → Verdict
-judged_by steps p None = Endless
-judged_by steps p (Some Endless) = Endless
-judged_by steps p (Some (Ends total)) = Ends (total - p.step + steps)
+abbrev pub walk_verdict_by : ℕ → Pass → Option Verdict → Verdict
+walk_verdict_by steps p None = Endless
+walk_verdict_by steps p (Some Endless) = Endless
+walk_verdict_by steps p (Some (Ends total)) = Ends (total - p.step + steps)
 
 -- what a walk comes to that stops after these steps, at a cut or at a state that was passed
-abbrev pub judged : Bool → Option Pass → ℕ → List Verdict → Verdict
-judged true pass steps verdicts = Ends steps
-judged false None steps verdicts = Endless
-judged false (Some p) steps verdicts = judged_by steps p (slice_get verdicts p.walk)
+abbrev pub walk_verdict : Bool → Option Pass → ℕ → List Verdict → Verdict
+walk_verdict true pass steps verdicts = Ends steps
+walk_verdict false None steps verdicts = Endless
+walk_verdict false (Some p) steps verdicts = walk_verdict_by steps p (slice_get verdicts p.walk)
 
 -- the states of that many steps, from one on
 abbrev pub trail : List ℕ → ℕ → ℕ → List ℕ

@@ -6,7 +6,7 @@ ghost use Rattle.fs_model.specs.View.{source_of, source_state_of};
 ghost use Rattle.fs_rules.specs.Rules.{plain_faults};
 ghost use Rattle.fs_rules.specs.FirstFault.{earliest};
 ghost use Rattle.fs_rules.specs.Places.{declared_of, declared_name_list, IsTableOf};
-ghost use Rattle.fs_rules.specs.Scoped.{IsScopeOf, name_faults, table_faults};
+ghost use Rattle.fs_rules.specs.Scopes.{IsScopeOf, name_faults, table_faults};
 
 use crate::check::{CheckFault, CheckRule};
 use crate::faults::Faults;

@@ -2,7 +2,7 @@
 //!
 //! Promises: the first broken rule of parts, and the numbers of names.
 //!
-//! Rules: `specs/Rules`, `specs/Sound`, `specs/MachineOfParts`.
+//! Rules: `specs/Rules`, `specs/SoundParts`, `specs/MachineOfParts`.
 //!
 //! Words:
 //! - cutpoint (of a machine): the reset state, or a state with more than one branch

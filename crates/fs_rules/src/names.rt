@@ -4,9 +4,9 @@ ghost use Rattle.std.specs.Prelude.{◌≡◌, ◌≤◌, ℕ, List, [], length,
 ghost use Rattle.std.specs.Option.{is_some};
 ghost use Rattle.std.specs.Result.{OnOk};
 ghost use Rattle.std.specs.Str.{bytes_eq};
-ghost use Rattle.fs_rules.specs.MachineOfParts.{place};
+ghost use Rattle.fs_rules.specs.MachineOfParts.{place_or_end};
 ghost use Rattle.fs_rules.specs.declared.check.CheckRule.TheVariants.{TwiceNamed, TooMany};
-ghost use Rattle.fs_rules.specs.Rules.{at_lines, broken_where, repeated, past};
+ghost use Rattle.fs_rules.specs.Rules.{at_lines, broken_where, repeated_lines, line_past_limit};
 ghost use Rattle.fs_rules.specs.FirstFault.{earliest};
 ghost use Rattle.fs_rules.specs.Places.{declared_of, declared_name_list, place_in, FindsFirst, IsTableOf};
 
@@ -49,7 +49,8 @@ impl NameTable {
     ) -> Result<NameTable, NoMemory>
         ensures table { IfOk result (λ t. IsTableOf t (declared_name_list (map declared_of declared.now))) }
         ensures noted { OnOk result
-            (faults.new.first ≡ earliest faults.old.first (at_lines TwiceNamed (repeated [] (map declared_of declared.now)))) }
+            (faults.new.first ≡ earliest faults.old.first
+            (at_lines TwiceNamed (repeated_lines [] (map declared_of declared.now)))) }
     {
         let places = first_places(alloc, declared, faults)?;
         Ok(NameTable {
@@ -60,7 +61,7 @@ impl NameTable {
 
     /// The first place of a name among those of the table, and their number where it is none of them.
     pub fn place(&self, name: &Name) -> usize
-        ensures place { (names : List (List ℕ)) → IsTableOf self.now names → result ≡ place names name.now }
+        ensures place { (names : List (List ℕ)) → IsTableOf self.now names → result ≡ place_or_end names name.now }
         ensures within { (names : List (List ℕ)) → IsTableOf self.now names → result ≤ length names }
     {
         match self.places.get(name) {
@@ -78,7 +79,7 @@ fn first_places(
 ) -> Result<IndexMap<Name, usize>, NoMemory>
     ensures finds { IfOk result (λ places. FindsFirst places.entries (declared_name_list (map declared_of declared.now))) }
     ensures noted { OnOk result
-        (faults.new.first ≡ earliest faults.old.first (at_lines TwiceNamed (repeated [] (map declared_of declared.now)))) }
+        (faults.new.first ≡ earliest faults.old.first (at_lines TwiceNamed (repeated_lines [] (map declared_of declared.now)))) }
 {
     let mut places = IndexMap::new(alloc);
     for (place, entry) in declared.iter().enumerate() {
@@ -121,7 +122,8 @@ fn put(places: &mut IndexMap<Name, usize>, name: Name, place: usize) -> Result<(
 
 /// Notes the first declared name that is past a limit.
 pub fn note_past(declared: &[Declared], most: usize, faults: &mut Faults)
-    ensures { faults.new.first ≡ earliest faults.old.first (at_lines TooMany (past most (map declared_of declared.now))) }
+    ensures { faults.new.first ≡ earliest faults.old.first
+        (at_lines TooMany (line_past_limit most (map declared_of declared.now))) }
 {
     if let Some(extra) = declared.get(most) {
         faults.note(CheckRule::TooMany, extra.line);

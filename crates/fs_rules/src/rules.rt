@@ -8,12 +8,14 @@ ghost use Rattle.std.specs.BTreeSet.{contains};
 ghost use Rattle.fs_model.specs.View.{named_term, named_guard, named_assignment, source_transition_of, source_state_of};
 ghost use Rattle.fs_rules.specs.declared.check.CheckRule.TheVariants.{AfterElse};
 ghost use Rattle.fs_model.specs.Renamed.{term_over, guard_over, assignment_over};
-ghost use Rattle.fs_rules.specs.MachineOfParts.{place, names_of, line_spelled};
-ghost use Rattle.fs_rules.specs.Sound.{scalars_in, arrays_in, scalars_in_guard, arrays_in_guard, scalars_in_condition};
-ghost use Rattle.fs_rules.specs.Sound.{arrays_in_condition, scalars_in_assignment, arrays_in_assignment, scalars_in_assignments};
-ghost use Rattle.fs_rules.specs.Sound.{arrays_in_assignments, port_in, ports_in_assignments, emits_of, emit_count, input_at};
-ghost use Rattle.fs_rules.specs.Sound.{changed_by, assigned_in, all_differ, occurs};
-ghost use Rattle.fs_rules.specs.Rules.{at_lines, line_faults, lines_faults, lacks_else, after_else, state_faults, changes_input};
+ghost use Rattle.fs_rules.specs.MachineOfParts.{place_or_end, names_of, transition_spelled};
+ghost use Rattle.fs_rules.specs.SoundParts.{scalars_in, arrays_in, scalars_in_guard, arrays_in_guard, scalars_in_condition};
+ghost use Rattle.fs_rules.specs.SoundParts.{arrays_in_condition, scalars_in_assignment, arrays_in_assignment};
+ghost use Rattle.fs_rules.specs.SoundParts.{scalars_in_assignments};
+ghost use Rattle.fs_rules.specs.SoundParts.{arrays_in_assignments, port_in, ports_in_assignments, emits_of, emit_count, input_at};
+ghost use Rattle.fs_rules.specs.SoundParts.{changed_by, assigned_in, all_differ, occurs};
+ghost use Rattle.fs_rules.specs.Rules.{at_lines, transition_faults, transitions_faults, lacks_else, after_else, state_faults};
+ghost use Rattle.fs_rules.specs.Rules.{changes_input};
 ghost use Rattle.std.specs.List.{flat_map};
 ghost use Rattle.fs_rules.specs.FirstFault.{earliest};
 ghost use Rattle.fs_rules.specs.Places.{names_stated};
@@ -48,7 +50,7 @@ fn either(a: Uses, b: Uses) -> Uses
 impl Scope<'_> {
     // What is wrong with a use as a scalar.
     fn scalar_use(&self, name: &Name) -> Uses
-        ensures { result ≡ uses_of self.now.vars.items (place (names_of self.now.vars.items) name.now ∷ []) [] [] }
+        ensures { result ≡ uses_of self.now.vars.items (place_or_end (names_of self.now.vars.items) name.now ∷ []) [] [] }
     {
         match self.variable(name) {
             None => Uses {
@@ -64,7 +66,7 @@ impl Scope<'_> {
 
     // What is wrong with a use as an array.
     fn array_use(&self, name: &Name) -> Uses
-        ensures { result ≡ uses_of self.now.vars.items [] (place (names_of self.now.vars.items) name.now ∷ []) [] }
+        ensures { result ≡ uses_of self.now.vars.items [] (place_or_end (names_of self.now.vars.items) name.now ∷ []) [] }
     {
         match self.variable(name) {
             None => Uses {
@@ -80,7 +82,7 @@ impl Scope<'_> {
 
     // What is wrong with a use as a port.
     fn port_use(&self, name: &Name) -> Uses
-        ensures { result ≡ uses_of self.now.vars.items [] [] (place (names_of self.now.vars.items) name.now ∷ []) }
+        ensures { result ≡ uses_of self.now.vars.items [] [] (place_or_end (names_of self.now.vars.items) name.now ∷ []) }
     {
         match self.variable(name) {
             None => Uses {
@@ -97,7 +99,7 @@ impl Scope<'_> {
     // What is wrong with the uses of an expression.
     #[tactic(auto, using(crate::proofs::Uses::either_terms))]
     fn expr_uses(&self, expr: &Expr<Name>) -> Uses
-        ensures { let t = term_over (place (names_of self.now.vars.items)) (named_term expr.now) in
+        ensures { let t = term_over (place_or_end (names_of self.now.vars.items)) (named_term expr.now) in
             result ≡ uses_of self.now.vars.items (scalars_in t) (arrays_in t) [] }
     {
         match expr {
@@ -119,7 +121,7 @@ impl Scope<'_> {
     // What is wrong with the uses of a guard.
     #[tactic(auto, using(crate::proofs::Uses::either_terms))]
     fn guard_uses(&self, guard: &Guard) -> Uses
-        ensures { let g = guard_over (place (names_of self.now.vars.items)) (named_guard guard.now) in
+        ensures { let g = guard_over (place_or_end (names_of self.now.vars.items)) (named_guard guard.now) in
             result ≡ uses_of self.now.vars.items (scalars_in_guard g) (arrays_in_guard g) [] }
     {
         match guard {
@@ -132,7 +134,7 @@ impl Scope<'_> {
     // What is wrong with the uses of an assignment.
     #[tactic(auto, using(crate::proofs::Uses::either_terms, crate::proofs::Uses::either_port))]
     fn assign_uses(&self, assign: &Assign<Name>) -> Uses
-        ensures { let a = assignment_over (place (names_of self.now.vars.items)) (named_assignment assign.now) in
+        ensures { let a = assignment_over (place_or_end (names_of self.now.vars.items)) (named_assignment assign.now) in
             result ≡ uses_of self.now.vars.items (scalars_in_assignment a) (arrays_in_assignment a) (port_in a) }
     {
         match assign {
@@ -147,7 +149,8 @@ impl Scope<'_> {
 
     // What is wrong with the uses of assignments.
     fn assigns_uses(&self, assigns: &[Assign<Name>]) -> Uses
-        ensures { let l = map (assignment_over (place (names_of self.now.vars.items))) (map named_assignment assigns.now) in
+        ensures { let l = map (assignment_over (place_or_end (names_of self.now.vars.items)))
+            (map named_assignment assigns.now) in
             result ≡ uses_of self.now.vars.items (scalars_in_assignments l) (arrays_in_assignments l) (ports_in_assignments l) }
     {
         let mut uses = Uses {
@@ -164,7 +167,7 @@ impl Scope<'_> {
     #[tactic(auto, using(crate::proofs::Uses::either_line))]
     fn line_uses(&self, line: &RawLine) -> Uses
         ensures { let vs = self.now.vars.items in
-            let l = line_spelled (names_of vs) (names_stated self.now.states.now) (source_transition_of line.now) in
+            let l = transition_spelled (names_of vs) (names_stated self.now.states.now) (source_transition_of line.now) in
             result ≡ uses_of vs (scalars_in_condition l.guard ++ scalars_in_assignments l.assignments)
             (arrays_in_condition l.guard ++ arrays_in_assignments l.assignments) (ports_in_assignments l.assignments) }
     {
@@ -179,7 +182,7 @@ impl Scope<'_> {
 impl Scope<'_> {
     // Whether an assignment changes an input.
     fn changes_input(&self, assign: &Assign<Name>) -> bool
-        ensures { let a = assignment_over (place (names_of self.now.vars.items)) (named_assignment assign.now) in
+        ensures { let a = assignment_over (place_or_end (names_of self.now.vars.items)) (named_assignment assign.now) in
             result ≡ input_at self.now.vars.items (changed_by a) }
     {
         let (Assign::Set(name, _) | Assign::Put(name, _, _) | Assign::Emit(name, _)) = assign;
@@ -192,7 +195,7 @@ impl Scope<'_> {
     // Whether one of some assignments changes an input.
     fn some_changes_input(&self, assigns: &[Assign<Name>]) -> bool
         ensures { result ≡ list_any (λ a. input_at self.now.vars.items (changed_by a))
-            (map (assignment_over (place (names_of self.now.vars.items))) (map named_assignment assigns.now)) }
+            (map (assignment_over (place_or_end (names_of self.now.vars.items))) (map named_assignment assigns.now)) }
     {
         assigns.iter().any(|assign| self.changes_input(assign))
     }
@@ -203,7 +206,8 @@ impl Scope<'_> {
             (λ twice. twice
             ≡ not
             (all_differ
-            (assigned_in (map (assignment_over (place (names_of self.now.vars.items))) (map named_assignment assigns.now))))) }
+            (assigned_in
+            (map (assignment_over (place_or_end (names_of self.now.vars.items))) (map named_assignment assigns.now))))) }
     {
         let mut seen = BTreeSet::new(alloc);
         for assign in assigns {
@@ -222,12 +226,12 @@ impl Scope<'_> {
     ) -> Result<bool, NoMemory>
         ensures again { IfOk result
             (λ again. again ≡ list_any (contains nat_cmp seen.old)
-            (assigned_in (assignment_over (place (names_of self.now.vars.items)) (named_assignment assign.now) ∷ []))) }
+            (assigned_in (assignment_over (place_or_end (names_of self.now.vars.items)) (named_assignment assign.now) ∷ []))) }
         ensures seen { OnOk result
             ((q : ℕ) → contains nat_cmp seen.new q
             ≡ (contains nat_cmp seen.old q
             || occurs q
-            (assigned_in (assignment_over (place (names_of self.now.vars.items)) (named_assignment assign.now) ∷ [])))) }
+            (assigned_in (assignment_over (place_or_end (names_of self.now.vars.items)) (named_assignment assign.now) ∷ [])))) }
     {
         match assign {
             Assign::Set(name, _) => add(seen, self.variable_place(name)),
@@ -238,8 +242,9 @@ impl Scope<'_> {
     // Notes each rule that a transition breaks.
     fn check_line(&self, alloc: Global, line: &RawLine, faults: &mut Faults) -> Result<(), NoMemory>
         ensures { OnOk result (faults.new.first ≡ earliest faults.old.first
-            (line_faults self.now.vars.items (length (names_stated self.now.states.now)) line.now.line
-            (line_spelled (names_of self.now.vars.items) (names_stated self.now.states.now) (source_transition_of line.now)))) }
+            (transition_faults self.now.vars.items (length (names_stated self.now.states.now)) line.now.line
+            (transition_spelled (names_of self.now.vars.items) (names_stated self.now.states.now)
+            (source_transition_of line.now)))) }
     {
         let uses = self.line_uses(line);
         let assigns = line.assigns.as_slice();
@@ -265,7 +270,7 @@ impl Scope<'_> {
     ) -> Result<(), NoMemory>
         ensures { OnOk result
             (faults.new.first ≡ earliest faults.old.first
-            (lines_faults self.now.vars.items (names_stated self.now.states.now) (map source_transition_of lines.now))) }
+            (transitions_faults self.now.vars.items (names_stated self.now.states.now) (map source_transition_of lines.now))) }
     {
         for line in lines {
             self.check_line(alloc, line, faults)?;

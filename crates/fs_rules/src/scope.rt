@@ -5,7 +5,7 @@ ghost use Rattle.std.specs.Option.{option_copied};
 ghost use Rattle.std.specs.Result.{OnOk};
 ghost use Rattle.fs_model.specs.Limits.{most_variables, most_states};
 ghost use Rattle.fs_model.specs.View.{declaration_of, source_state_of};
-ghost use Rattle.fs_rules.specs.MachineOfParts.{place, declared_by, variables_of, names_of};
+ghost use Rattle.fs_rules.specs.MachineOfParts.{place_or_end, declared_by, variables_of, names_of};
 ghost use Rattle.fs_rules.specs.Rules.{declared_names, declared_states};
 ghost use Rattle.fs_rules.specs.Places.{declared_of, names_stated, IsTableOf};
 
@@ -29,7 +29,7 @@ pub struct Scope<'p> {
 impl Scope<'_> {
     /// The place of a variable, and the number of variables where there is none of the name.
     pub fn variable_place(&self, name: &Name) -> usize
-        ensures place { result ≡ place (names_of self.now.vars.items) name.now }
+        ensures place { result ≡ place_or_end (names_of self.now.vars.items) name.now }
         ensures within { result ≤ length self.now.vars.items }
     {
         self.variable_places.place(name)
@@ -37,14 +37,14 @@ impl Scope<'_> {
 
     /// The variable of a name.
     pub fn variable(&self, name: &Name) -> Option<&VarInfo>
-        ensures { option_copied result ≡ slice_get self.now.vars.items (place (names_of self.now.vars.items) name.now) }
+        ensures { option_copied result ≡ slice_get self.now.vars.items (place_or_end (names_of self.now.vars.items) name.now) }
     {
         self.vars.get(self.variable_place(name))
     }
 
     /// The place of a state, and the number of states where there is none of the name.
     pub fn state_place(&self, name: &Name) -> usize
-        ensures place { result ≡ place (names_stated self.now.states.now) name.now }
+        ensures place { result ≡ place_or_end (names_stated self.now.states.now) name.now }
         ensures within { result ≤ length self.now.states.now }
     {
         self.state_places.place(name)
@@ -52,7 +52,7 @@ impl Scope<'_> {
 
     /// Whether a state has the name.
     pub fn knows_state(&self, name: &Name) -> bool
-        ensures { result ≡ nat_lt (place (names_stated self.now.states.now) name.now)
+        ensures { result ≡ nat_lt (place_or_end (names_stated self.now.states.now) name.now)
             (length (names_stated self.now.states.now)) }
     {
         self.state_place(name) < self.states.len()
@@ -61,7 +61,7 @@ impl Scope<'_> {
     /// The number of a variable.
     pub fn variable_id(&self, name: &Name) -> VarId
         requires { length self.now.vars.items ≤ most_variables }
-        ensures { result.0 ≡ place (names_of self.now.vars.items) name.now }
+        ensures { result.0 ≡ place_or_end (names_of self.now.vars.items) name.now }
     {
         VarId(self.variable_place(name) as u32)
     }
@@ -69,7 +69,7 @@ impl Scope<'_> {
     /// The number of a state.
     pub fn state_id(&self, name: &Name) -> StateId
         requires { length self.now.states.now ≤ most_states }
-        ensures { result.0 ≡ place (names_stated self.now.states.now) name.now }
+        ensures { result.0 ≡ place_or_end (names_stated self.now.states.now) name.now }
     {
         StateId(self.state_place(name) as u32)
     }
@@ -80,7 +80,7 @@ impl Rename<Name> for Scope<'_> {
 
     ghost can_rename = { λ s. length s.vars.items ≤ most_variables };
 
-    ghost renamed = { λ s name. record { 0 = place (names_of s.vars.items) name } };
+    ghost renamed = { λ s name. record { 0 = place_or_end (names_of s.vars.items) name } };
 
     fn rename(&self, _alloc: Global, variable: &Name) -> Result<VarId, NoMemory> {
         Ok(self.variable_id(variable))

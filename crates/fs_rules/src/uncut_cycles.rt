@@ -5,8 +5,9 @@ ghost use Rattle.std.specs.Prelude.{slice_index, nat_lt};
 ghost use Rattle.std.specs.List.{slice_get, list_all};
 ghost use Rattle.std.specs.Option.{is_some};
 ghost use Rattle.std.specs.Result.{OnOk};
-ghost use Rattle.fs_rules.specs.TargetWalks.{is_cut, walk_reaches_cut, IsRound, IsTargetList, pass_at, may_pass, judged, trail};
-ghost use Rattle.fs_rules.specs.TargetWalks.{round_of_walk, IsWalk, AreSettledWalks};
+ghost use Rattle.fs_rules.specs.TargetWalks.{is_cut, walk_reaches_cut, IsRound, IsTargetList, pass_at, may_pass, walk_verdict};
+ghost use Rattle.fs_rules.specs.TargetWalks.{trail};
+ghost use Rattle.fs_rules.specs.TargetWalks.{round_of_walk, IsTargetWalk, AreSettledWalks};
 ghost use Rattle.fs_rules.specs.declared.uncut_cycles.Pass.{Pass};
 ghost use Rattle.fs_rules.specs.declared.uncut_cycles.Verdict.TheVariants.{Ends};
 
@@ -106,7 +107,7 @@ fn take_walk(
     requires graph { IsTargetList next.now cut.now }
     requires start { start < length next.now }
     requires same { length passes.old.items ≡ length next.now }
-    ensures walk { IsWalk next.now cut.now start walk passes.old.items passes.new.items result.end result.steps }
+    ensures walk { IsTargetWalk next.now cut.now start walk passes.old.items passes.new.items result.end result.steps }
     ensures stops { may_pass cut.now passes.new.items result.end ≡ false }
 {
     let mut end = start;
@@ -132,7 +133,7 @@ fn may_pass(cut: &[bool], passes: &Vec<Option<Pass>>, state: usize) -> bool
 fn judge(at_cut: bool, pass: Option<Pass>, steps: usize, verdicts: &[Verdict]) -> Verdict
     requires { (p : Pass) (total : ℕ) → pass ≡ Some p → slice_get verdicts.now p.walk ≡ Some (Ends total)
         → (p.step ≤ total) × (total + steps < 2 ^ 63) }
-    ensures { result ≡ judged at_cut pass steps verdicts.now }
+    ensures { result ≡ walk_verdict at_cut pass steps verdicts.now }
 {
     if at_cut {
         return Verdict::Ends(steps);

@@ -13,7 +13,7 @@ use Rattle.base_lemmas.proofs.Booleans.{and_first, and_second}
 use Rattle.base_lemmas.proofs.Numbers.{eqb_suc}
 use Rattle.fs_model.specs.declared.parts.Sort.{Sort}
 use Rattle.fs_model.specs.declared.parts.Sort.TheVariants.{Scalar, Array, Port}
-use Rattle.fs_model.specs.Stores.{assigned, written, emitted}
+use Rattle.fs_model.specs.Stores.{store_with_number, store_with_entry, store_with_emit}
 use Rattle.fs_model.proofs.Stores.{store_ext}
 use Rattle.fs_runs.specs.declared.values.Value.{Value}
 use Rattle.fs_runs.specs.declared.values.Value.TheVariants.{Num, Arr}
@@ -80,7 +80,7 @@ written_there : (y x : ℕ) (i j v : ℤ) (vs : List Value) (o : Value) → slic
 written_there y x i j v vs o e = grind (arith, nat_tests, e)
 
 pub put_stands : (vs : List Value) (x : ℕ) (o n : Value) (i v : ℤ) → slice_get vs x ≡ Some o → PutsAtIndex i v o n
-    → store_from (slice_set vs x n) ≡ written (store_from vs) x i v
+    → store_from (slice_set vs x n) ≡ store_with_entry (store_from vs) x i v
 put_stands vs x o n i v e u = store_ext _ _ (number_stays vs x o n e u.number)
     (λ y j. ap (λ o. entry_in o j) (get-set_value vs x o n y e) ∙ entry_in-cond (y == x) n (slice_get vs y) j
     ∙ ap (λ w. cond (y == x) w (entry_in (slice_get vs y) j)) (u.entries j)
@@ -88,7 +88,7 @@ put_stands vs x o n i v e u = store_ext _ _ (number_stays vs x o n e u.number)
     (list_stays vs x o n e u.list)
 
 pub append_stands : (vs : List Value) (x : ℕ) (o n : Value) (v : ℤ) → slice_get vs x ≡ Some o → Appends v o n
-    → store_from (slice_set vs x n) ≡ emitted (store_from vs) x v
+    → store_from (slice_set vs x n) ≡ store_with_emit (store_from vs) x v
 append_stands vs x o n v e u = store_ext _ _ (number_stays vs x o n e u.number) (entries_stay vs x o n e u.entries)
     (λ y. ap value_list (get-set_value vs x o n y e) ∙ list_in-cond (y == x) n (slice_get vs y)
     ∙ ap (λ w. cond (y == x) w (value_list (slice_get vs y))) u.list
@@ -109,7 +109,7 @@ no_list (Arr m) v e = refl
 no_list (values.List l) v e = absurd (cc)
 
 pub set_stands : (vs : List Value) (x : ℕ) (o : Value) (v : ℤ) → slice_get vs x ≡ Some o → is_number_value (Some o) ≡ true
-    → store_from (slice_set vs x (Num v)) ≡ assigned (store_from vs) x v
+    → store_from (slice_set vs x (Num v)) ≡ store_with_number (store_from vs) x v
 set_stands vs x o v e u = store_ext _ _
     (λ y. ap value_number (get-set_value vs x o (Num v) y e) ∙ number_in-cond (y == x) (Num v) (slice_get vs y))
     (entries_stay vs x o (Num v) e (λ j. no_entries o j v u))

@@ -6,6 +6,8 @@ use Rattle.std.proofs.lemmas.Option.{slice_get-map}
 use Rattle.std.proofs.lemmas.Bool.{and_from}
 use Rattle.base_lemmas.proofs.Booleans.{and_first, and_second}
 use Rattle.base_lemmas.proofs.Quantifiers.{list_all_front, list_all_back}
+use Rattle.fs_rules.specs.SoundParts.{IsSound, IsSoundTransition, has_sort, scalar_at, array_at, port_at, scalars_in, arrays_in, scalars_in_assignments}
+use Rattle.fs_rules.specs.SoundParts.{arrays_in_assignments, ports_in_assignments, scalars_in_condition, arrays_in_condition}
 use Rattle.fs_model.specs.declared.parts.Sort.{Sort}
 use Rattle.fs_model.specs.declared.parts.VarInfo.{VarInfo}
 use Rattle.fs_model.specs.Terms.{Assignment, Assign, ArrayWrite, Emit, Transition}
@@ -13,10 +15,8 @@ use Rattle.fs_model.specs.Machines.{Fsmd, transitions_of}
 use Rattle.fs_model.specs.Stores.{Store}
 use Rattle.fs_model.specs.Meaning.{condition_holds, transition_taken, act_all}
 use Rattle.fs_model.specs.Runs.{Step, is_scalar, is_array as is_array_sort, is_port}
-use Rattle.fs_model.specs.Touched.{touched, touched_by_assignment, touched_by_assignments, AllInRange}
+use Rattle.fs_model.specs.Touched.{touched_by_step, touched_by_assignment, touched_by_assignments, AllInRange}
 use Rattle.fs_model.specs.Trees.{Branch, branches_of}
-use Rattle.fs_ast.specs.SoundMachines.{IsSound, IsSoundTransition, has_sort, scalar_at, array_at, port_at, scalars_in, arrays_in, scalars_in_assignments}
-use Rattle.fs_ast.specs.SoundMachines.{arrays_in_assignments, ports_in_assignments, scalars_in_condition, arrays_in_condition}
 use Rattle.fs_ast.specs.OpenBranches.{TakesOneBranch}
 use Rattle.fs_ast.proofs.Opens.{takes_one}
 use Rattle.fs_runs.specs.declared.values.Value.{Value}
@@ -124,8 +124,9 @@ suit_all (Emit x t ∷ rest) s vars vs e p q r =
 pub record Takes (m : Fsmd) (q : ℕ) (s : Store) (b : Branch) : Type 0 where
   pub step : Step m q s b.target (changed_all s (map (change_by s) b.assignments))
   pub target : b.target < length m.states
-  pub touched_there : AllInRange (touched m q s) → AllInRange (touched_by_branches (branches_of (transitions_of m q)) s) × AssignmentsFit s b.assignments
-  pub touched_back : AllInRange (touched_by_branches (branches_of (transitions_of m q)) s) → AssignmentsFit s b.assignments → AllInRange (touched m q s)
+  pub touched_there : AllInRange (touched_by_step m q s) → AllInRange (touched_by_branches (branches_of (transitions_of m q)) s)
+      × AssignmentsFit s b.assignments
+  pub touched_back : AllInRange (touched_by_branches (branches_of (transitions_of m q)) s) → AssignmentsFit s b.assignments → AllInRange (touched_by_step m q s)
   pub suit : (vs : List Value) → HasSorts m vs → AllSuit vs (map (change_by s) b.assignments)
 
 pub one_branch : (m : Fsmd) (q : ℕ) (s : Store) → IsSound m → q < length m.states → TakesOneBranch (transitions_of m q) s
@@ -140,7 +141,7 @@ pub touched_by_taken : TouchedByBranches
 touched_by_taken m q s b sound h e =
     let one = one_branch m q s sound h in
     let same : one.branch ≡ b = cc (e, one_open m q s sound h) in
-    subst (λ c. Both (AllInRange (touched m q s)) (BranchInRange m q s c)) same (touched_taken (transitions_of m q) s (sound.open_last q h) one)
+    subst (λ c. Both (AllInRange (touched_by_step m q s)) (BranchInRange m q s c)) same (touched_taken (transitions_of m q) s (sound.open_last q h) one)
 
 takes_branch : (m : Fsmd) (q : ℕ) (s : Store) → IsSound m → q < length m.states → (one : TakesOneBranch (transitions_of m q) s) → Takes m q s one.branch
 takes_branch m q s sound h one =
@@ -179,6 +180,6 @@ pub is_open : (m : Fsmd) (q : ℕ) (s : Store) → IsSound m → q < length m.st
 is_open m q s sound h = subst IsSome (sym (one_open m q s sound h)) refl
 
 pub past_taken : (e : StepStop) (m : Fsmd) (q : ℕ) (s : Store) (b : Branch) → Takes m q s b → PastOnly e (¬ AssignmentsFit s b.assignments)
-    → PastOnly e (¬ AllInRange (touched m q s))
+    → PastOnly e (¬ AllInRange (touched_by_step m q s))
 past_taken PastWide m q s b t refused = λ p. refused (t.touched_there p).1
 past_taken NoMemory m q s b t refused = tt

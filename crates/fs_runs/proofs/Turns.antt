@@ -4,7 +4,7 @@ use Rattle.std.proofs.lemmas.Bool.{cases_lt}
 use Rattle.fs_model.specs.Machines.{Fsmd}
 use Rattle.fs_model.specs.Stores.{Store}
 use Rattle.fs_model.specs.Runs.{Inputs, Step, ReachesReset, FirstReturn, Run, start, output}
-use Rattle.fs_model.specs.Touched.{touched, AllInRange, StaysInRange}
+use Rattle.fs_model.specs.Touched.{touched_by_step, AllInRange, StaysInRange}
 use Rattle.std.specs.Prelude.{List, IfOk, Result, Ok, Err}
 use Rattle.base_lemmas.proofs.Numbers.{plus_suc}
 use Rattle.fs_runs.specs.declared.run.Ended.{Ended}
@@ -35,7 +35,7 @@ pub step_returns : (m : Fsmd) (q r : ℕ) (s u : Store) → Step m q s r u → r
 step_returns m q r s u step h = record { state = r; store = u; step = step; after = (h, refl) }
 
 -- numbers in range
-pub range_step : (m : Fsmd) (n q r : ℕ) (s u : Store) → Step m q s r u → AllInRange (touched m q s) → StaysInRange m n r u → StaysInRange m (suc n) q s
+pub range_step : (m : Fsmd) (n q r : ℕ) (s u : Store) → Step m q s r u → AllInRange (touched_by_step m q s) → StaysInRange m n r u → StaysInRange m (suc n) q s
 range_step m n q r s u step a g = (
   a,
   λ r2 u2 step2 h.
@@ -44,7 +44,7 @@ range_step m n q r s u step a g = (
       subst (λ z. StaysInRange m n r2 z) f (subst (λ z. StaysInRange m n z u) e g),
 )
 
-pub range_last : (m : Fsmd) (q r : ℕ) (s u : Store) → Step m q s r u → AllInRange (touched m q s) → StaysInRange m 1 q s
+pub range_last : (m : Fsmd) (q r : ℕ) (s u : Store) → Step m q s r u → AllInRange (touched_by_step m q s) → StaysInRange m 1 q s
 range_last m q r s u step a = (a, λ r2 u2 step2 h. tt)
 
 pub range_rest : (m : Fsmd) (n q r : ℕ) (s u : Store) → Step m q s r u → r ≢ m.reset → StaysInRange m (suc n) q s → StaysInRange m n r u
@@ -87,7 +87,7 @@ split n k h = cases_split (cases_lt k n)
     cases_split (inr x) = inr x
 
 -- one more step that doesn't return
-pub at_next : (m : Fsmd) (k q r : ℕ) (s u : Store) (first : ℕ) (from : Store) → At m k q s first from → Step m q s r u → AllInRange (touched m q s)
+pub at_next : (m : Fsmd) (k q r : ℕ) (s u : Store) (first : ℕ) (from : Store) → At m k q s first from → Step m q s r u → AllInRange (touched_by_step m q s)
     → r ≢ m.reset → At m (k + 1) r u first from
 at_next m k q r s u first from a step range h = record {
   goes = λ n t g. subst (λ z. FirstReturn m z first from t) (plus_suc k n) (a.goes (suc n) t (step_goes m n q r s u t step h g));
@@ -101,7 +101,7 @@ pub ended_goes : (m : Fsmd) (k q r : ℕ) (s u : Store) (first : ℕ) (from : St
     → FirstReturn m (k + 1) first from u
 ended_goes m k q r s u first from a step h = a.goes 1 u (step_returns m q r s u step h)
 
-pub ended_range : (m : Fsmd) (k q r : ℕ) (s u : Store) (first : ℕ) (from : Store) → At m k q s first from → Step m q s r u → AllInRange (touched m q s)
+pub ended_range : (m : Fsmd) (k q r : ℕ) (s u : Store) (first : ℕ) (from : Store) → At m k q s first from → Step m q s r u → AllInRange (touched_by_step m q s)
     → StaysInRange m (k + 1) first from
 ended_range m k q r s u first from a step range = a.range 1 (range_last m q r s u step range)
 
@@ -111,7 +111,7 @@ last_zero k = omega arith
 less_one : (k : ℕ) → k + 0 ≡ k + 1 - 1
 less_one k = omega arith
 
-pub leaves_range : (m : Fsmd) (ins : Inputs) (limit k q : ℕ) (s : Store) → At m k q s m.reset (start m ins) → k < limit → ¬ AllInRange (touched m q s)
+pub leaves_range : (m : Fsmd) (ins : Inputs) (limit k q : ℕ) (s : Store) → At m k q s m.reset (start m ins) → k < limit → ¬ AllInRange (touched_by_step m q s)
     → LeavesRange m ins limit (k + 1)
 leaves_range m ins limit k q s a h out = record {
   counted = omega arith;

@@ -4,6 +4,7 @@ use Rattle.std.specs.Prelude.{not, ◌&&◌, ◌||◌, is_none, ℤ, Option, Som
 use Rattle.std.proofs.lemmas.List.Folds.{list_all-append}
 use Rattle.std.proofs.lemmas.Bool.{and_from}
 use Rattle.base_lemmas.proofs.Booleans.{and_first, and_second}
+use Rattle.fs_rules.specs.SoundParts.{ends_open, is_open}
 use Rattle.fs_model.specs.Terms.{Term, Number, Variable, Read, Sum, Difference, Product, Quotient, Remainder, Negative, Literal, Guard, Test, Not, And, Or}
 use Rattle.fs_model.specs.Terms.{Assignment, Transition}
 use Rattle.fs_model.specs.Stores.{Store}
@@ -12,7 +13,6 @@ use Rattle.fs_model.specs.Touched.{touched_by_term, touched_by_guard, touched_by
 use Rattle.fs_model.specs.Trees.{Tree, Empty, Leaf, Node, tree_of_guard, tree_of_condition, tree_of_transitions, negated_literal, Branch, leaves, branches_of}
 use Rattle.fs_model.specs.Trees.{literals_hold}
 use Rattle.fs_model.proofs.Leaves.{opposite_holds}
-use Rattle.fs_ast.specs.SoundMachines.{ends_open, is_open}
 use Rattle.fs_ast.specs.OpenBranches.{TakesOneBranch}
 use Rattle.fs_runs.specs.Reads.{EachFits, LiteralFits, touched_by_literal, touched_by_way, touched_by_branches, taken_branch, Both}
 

@@ -5,7 +5,7 @@ use Rattle.std.specs.List.{list_all}
 use Rattle.std.specs.Ordering.{int_cmp, int_eq}
 use Rattle.std.specs.BTreeMap.{get}
 use Rattle.fs_model.specs.Terms.{Assignment, Assign, ArrayWrite, Emit}
-use Rattle.fs_model.specs.Stores.{Store, assigned, written, emitted}
+use Rattle.fs_model.specs.Stores.{Store, store_with_number, store_with_entry, store_with_emit}
 use Rattle.fs_model.specs.Meaning.{value}
 use Rattle.fs_runs.specs.declared.values.Value.{Value}
 use Rattle.fs_runs.specs.declared.values.Value.TheVariants.{Num, Arr}
@@ -33,9 +33,9 @@ AssignmentsFit s (a ∷ rest) = AssignmentFits s a × AssignmentsFit s rest
 
 -- a store after a change, and after changes in order
 abbrev pub change_store : Store → Change → Store
-change_store s (Set x v) = assigned s x v
-change_store s (Put x i v) = written s x i v
-change_store s (Append x v) = emitted s x v
+change_store s (Set x v) = store_with_number s x v
+change_store s (Put x i v) = store_with_entry s x i v
+change_store s (Append x v) = store_with_emit s x v
 
 abbrev pub changed_all : Store → List Change → Store
 changed_all s [] = s

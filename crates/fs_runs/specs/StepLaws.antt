@@ -1,11 +1,11 @@
 -- What a step touches, told by branches, and what a run answers, once.
 use Rattle.std.specs.Prelude.{◌≡◌, ℕ, ◌<◌, length, Some}
+use Rattle.fs_rules.specs.SoundParts.{IsSound}
 use Rattle.fs_model.specs.Machines.{Fsmd, transitions_of}
 use Rattle.fs_model.specs.Stores.{Store}
 use Rattle.fs_model.specs.Runs.{Inputs}
-use Rattle.fs_model.specs.Touched.{touched, touched_by_assignments, AllInRange}
+use Rattle.fs_model.specs.Touched.{touched_by_step, touched_by_assignments, AllInRange}
 use Rattle.fs_model.specs.Trees.{Branch, branches_of}
-use Rattle.fs_ast.specs.SoundMachines.{IsSound}
 use Rattle.fs_runs.specs.declared.run.RunStop.{RunStop}
 use Rattle.fs_runs.specs.Reads.{touched_by_branches, taken_branch, Both}
 use Rattle.fs_runs.specs.Outcomes.{Outputs, EndsWith, IsStopped, IsStopOfRun}
@@ -20,7 +20,7 @@ abbrev pub TouchedByBranches : Type 0
 TouchedByBranches =
     (m : Fsmd) (q : ℕ) (s : Store) (b : Branch) → IsSound m → q < length m.states
     → taken_branch (branches_of (transitions_of m q)) s ≡ Some b
-    → Both (AllInRange (touched m q s)) (BranchInRange m q s b)
+    → Both (AllInRange (touched_by_step m q s)) (BranchInRange m q s b)
 
 -- two ends of a run are one
 abbrev pub OneEnd : Type 0

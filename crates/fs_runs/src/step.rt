@@ -3,7 +3,7 @@
 ghost use Rattle.std.specs.Prelude.{◌≡◌, ◌<◌, length, IfOk, IfErr};
 ghost use Rattle.std.specs.Result.{OnOk, OnErr};
 ghost use Rattle.fs_model.specs.Runs.{Step};
-ghost use Rattle.fs_model.specs.Touched.{touched, AllInRange};
+ghost use Rattle.fs_model.specs.Touched.{touched_by_step, AllInRange};
 ghost use Rattle.fs_runs.specs.Values.{store_of, IsStoreOf};
 ghost use Rattle.fs_runs.specs.Outcomes.{PastOnly};
 
@@ -33,8 +33,8 @@ pub fn step(alloc: Global, m: &Machine, store: &mut Store, s: StateId) -> Result
     requires store { IsStoreOf m.now store.old }
     ensures step { IfOk result (λ r. Step m.now s.0 (store_of store.old) r.0 (store_of store.new)) }
     ensures target { IfOk result (λ r. r.0 < length m.now.states) }
-    ensures in_range { OnOk result (AllInRange (touched m.now s.0 (store_of store.old))) }
-    ensures past { IfErr result (λ e. PastOnly e (¬ AllInRange (touched m.now s.0 (store_of store.old)))) }
+    ensures in_range { OnOk result (AllInRange (touched_by_step m.now s.0 (store_of store.old))) }
+    ensures past { IfErr result (λ e. PastOnly e (¬ AllInRange (touched_by_step m.now s.0 (store_of store.old)))) }
     ensures unchanged { OnErr result (store_of store.new ≡ store_of store.old) }
     ensures kept { IsStoreOf m.now store.new }
 {

@@ -17,37 +17,37 @@ use Rattle.fs_text_laws.proofs.Limit.{spelled_found, fault_stands}
 use Rattle.fs_text_laws.proofs.Read.{read_is_well_formed}
 use Rattle.fs_text_laws.specs.MachineTexts.{TextSpells, TextStops}
 use Rattle.fs_text_laws.proofs.Texts as texts
-use Rattle.fs_text.specs.SourceOfText.{spelled, IfText}
+use Rattle.fs_text.specs.SourceOfText.{source_spelled, IfText}
 
 module _ {P : Type 0} (view : P → Source) (bytes : List ℕ) where
-  pub spells : (r : Result P ReadError) → Gives view r (spelled bytes) → IfOk r (λ p. Spells (view p) (tokens_of bytes))
+  pub spells : (r : Result P ReadError) → Gives view r (source_spelled bytes) → IfOk r (λ p. Spells (view p) (tokens_of bytes))
   spells (Ok p) e = read_is_spelled (view p) (tokens_of bytes) e
   spells (Err e) h = tt
 
-  pub well_formed : (r : Result P ReadError) → Gives view r (spelled bytes) → IfOk r (λ p. IsTrue (is_well_formed (view p)))
+  pub well_formed : (r : Result P ReadError) → Gives view r (source_spelled bytes) → IfOk r (λ p. IsTrue (is_well_formed (view p)))
   well_formed (Ok p) e = read_is_well_formed bytes (view p) e
   well_formed (Err e) h = tt
 
-  pub fault : (r : Result P ReadError) → Gives view r (spelled bytes) → IfErr r (λ e. IfText e (StopsAt (tokens_of bytes)))
+  pub fault : (r : Result P ReadError) → Gives view r (source_spelled bytes) → IfErr r (λ e. IfText e (StopsAt (tokens_of bytes)))
   fault (Ok p) e = tt
   fault (Err (Text f)) e = fault_is_first (tokens_of bytes) f (tokens_ended bytes) e
   fault (Err NoMemory) e = tt
 
-  pub within : (r : Result P ReadError) → Gives view r (spelled bytes) → IfOk r (λ p. SpellWithin (tokens_of bytes) (view p))
+  pub within : (r : Result P ReadError) → Gives view r (source_spelled bytes) → IfOk r (λ p. SpellWithin (tokens_of bytes) (view p))
   within (Ok p) e = spelled_found bytes (view p) e
   within (Err e) h = tt
 
-  pub stops : (r : Result P ReadError) → Gives view r (spelled bytes)
+  pub stops : (r : Result P ReadError) → Gives view r (source_spelled bytes)
       → IfErr r (λ e. IfText e (λ f. (s : StopWithin (tokens_of bytes) f) × IsTokenIn bytes s.token))
   stops (Ok p) e = tt
   stops (Err (Text f)) e = fault_stands bytes f e
   stops (Err NoMemory) e = tt
 
-  pub text : (r : Result P ReadError) → Gives view r (spelled bytes) → IfOk r (λ p. TextSpells bytes (view p))
+  pub text : (r : Result P ReadError) → Gives view r (source_spelled bytes) → IfOk r (λ p. TextSpells bytes (view p))
   text (Ok p) e = texts.spells bytes (view p) e
   text (Err e) h = tt
 
-  pub faulty : (r : Result P ReadError) → Gives view r (spelled bytes) → IfErr r (λ e. IfText e (TextStops bytes))
+  pub faulty : (r : Result P ReadError) → Gives view r (source_spelled bytes) → IfErr r (λ e. IfText e (TextStops bytes))
   faulty (Ok p) e = tt
   faulty (Err (Text f)) e = texts.stops bytes f e
   faulty (Err NoMemory) e = tt

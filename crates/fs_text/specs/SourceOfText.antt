@@ -8,8 +8,8 @@ use Rattle.fs_grammar.specs.Grammar.{reading, at_start}
 use Rattle.fs_lex.specs.Scan.{tokens_of}
 
 -- the source that the bytes spell, or their first fault
-abbrev pub spelled : List ℕ → Result Source TextFault
-spelled bytes = reading (tokens_of bytes) at_start
+abbrev pub source_spelled : List ℕ → Result Source TextFault
+source_spelled bytes = reading (tokens_of bytes) at_start
 
 -- if the text is faulty, then P of its fault
 abbrev pub IfText : ReadError → (TextFault → Type 0) → Type 0

@@ -14,7 +14,7 @@ ghost use Rattle.fs_lex.specs.Scan.{tokens_of};
 ghost use Rattle.fs_lex_laws.specs.Tokenization.{IsTokenIn};
 ghost use Rattle.fs_text_laws.specs.Limit.{SpellWithin, StopWithin};
 ghost use Rattle.fs_text_laws.specs.MachineTexts.{TextSpells, TextStops};
-ghost use Rattle.fs_text.specs.SourceOfText.{spelled, IfText};
+ghost use Rattle.fs_text.specs.SourceOfText.{source_spelled, IfText};
 
 use fs_grammar::fault::ReadError;
 use fs_lex::tokens;
@@ -28,7 +28,7 @@ use std::alloc::Global;
 /// 128 of them before it in the one guard or assignment that it stands in. `NoMemory`: out of memory.
 pub fn read_parts(alloc: Global, bytes: &[u8]) -> Result<Parts, ReadError>
     requires { length bytes.now ≤ most_text_bytes }
-    ensures read { Gives source_of result (spelled bytes.now) }
+    ensures read { Gives source_of result (source_spelled bytes.now) }
     ensures spells { IfOk result (λ p. Spells (source_of p) (tokens_of bytes.now)) }
     ensures well_formed { IfOk result (λ p. IsTrue (is_well_formed (source_of p))) }
     ensures fault { IfErr result (λ e. IfText e (StopsAt (tokens_of bytes.now))) }

@@ -12,7 +12,7 @@ use Rattle.fs_grammar.specs.declared.token.Token.{Token}
 use Rattle.fs_lex.specs.declared.lexemes.Lexeme.{Lexeme}
 use Rattle.fs_lex.specs.declared.lexemes.Lexeme.TheVariants as lexemes
 use Rattle.fs_lex.specs.Lexemes.{lexeme_of}
-use Rattle.fs_lex.specs.Scan.{place_after_byte, scan, emit_token, is_past_limit, is_bad, counted, tokens_of}
+use Rattle.fs_lex.specs.Scan.{place_after_byte, scan, emit_token, is_past_limit, is_bad, operators_up_to_token, tokens_of}
 use Rattle.fs_lex_laws.specs.Vocabulary.{number_value}
 use Rattle.fs_lex_laws.specs.Tokenization.{StandsBefore, ends_text, AreTokens}
 use Rattle.fs_lex_laws.proofs.Tokenized.{tokenized}
@@ -23,7 +23,7 @@ use Rattle.fs_text_laws.specs.Kinds.{IsProper, end_once}
 -- each token is marked where it is an operator and 128 were counted before it, n of them before the first token
 abbrev AreMarked : ℕ → List Token → Type 0
 AreMarked n [] = Unit {0}
-AreMarked n (t ∷ ts) = (t.past_limit ≡ is_past_limit t.kind n) × AreMarked (counted t.kind n) ts
+AreMarked n (t ∷ ts) = (t.past_limit ≡ is_past_limit t.kind n) × AreMarked (operators_up_to_token t.kind n) ts
 
 marked_unless : (b : Bool) (n : ℕ) (ts : List Token) → AreMarked n ts → AreMarked n (cond b [] ts)
 marked_unless true n ts h = tt
@@ -31,7 +31,8 @@ marked_unless false n ts h = h
 
 emitted_marked : (x : Lexeme) (p : TextPlace) (n : ℕ) (go : ℕ → ℕ → List Token) → ((k m : ℕ) → AreMarked m (go k m)) → AreMarked n (emit_token x p n go)
 emitted_marked (lexemes.Blank k) p n go h = h (k - 1) n
-emitted_marked (lexemes.Token t k) p n go h = (refl, marked_unless (is_bad t) (counted t n) (go (k - 1) (counted t n)) (h (k - 1) (counted t n)))
+emitted_marked (lexemes.Token t k) p n go h =
+    (refl, marked_unless (is_bad t) (operators_up_to_token t n) (go (k - 1) (operators_up_to_token t n)) (h (k - 1) (operators_up_to_token t n)))
 
 scan_marked : (bs : List ℕ) (skip : ℕ) (p : TextPlace) (n : ℕ) → AreMarked n (scan bs skip p n)
 scan_marked [] skip p n = (refl, tt)
@@ -73,11 +74,11 @@ tokens_end bytes = ends_once (tokens_of bytes) [] bytes (tokenized bytes)
 -- each token is proper and marked
 abbrev pub AreCounted : ℕ → List Token → Type 0
 AreCounted n [] = Unit {0}
-AreCounted n (t ∷ ts) = IsProper t.kind × (t.past_limit ≡ is_past_limit t.kind n) × AreCounted (counted t.kind n) ts
+AreCounted n (t ∷ ts) = IsProper t.kind × (t.past_limit ≡ is_past_limit t.kind n) × AreCounted (operators_up_to_token t.kind n) ts
 
 both_so : (n : ℕ) (ts : List Token) → AllByRecursion (λ t. IsProper t.kind) ts → AreMarked n ts → AreCounted n ts
 both_so n [] h j = tt
-both_so n (t ∷ ts) h j = (h.0, j.0, both_so (counted t.kind n) ts h.1 j.1)
+both_so n (t ∷ ts) h j = (h.0, j.0, both_so (operators_up_to_token t.kind n) ts h.1 j.1)
 
 pub tokens_counted : (bytes : List ℕ) → AreCounted 0 (tokens_of bytes)
 tokens_counted bytes = both_so 0 (tokens_of bytes) (proper_each (tokens_of bytes) [] bytes (tokenized bytes))

@@ -21,7 +21,7 @@ use Rattle.fs_grammar_laws.proofs.Beginning.{leads, walk_append, stuck}
 use Rattle.fs_grammar_laws.proofs.Alternatives.{front_begins}
 use Rattle.fs_grammar_laws.proofs.Exact.{read_is_spelled, spelled_is_read, fault_is_first, first_is_fault, words_append}
 use Rattle.fs_grammar_laws.proofs.Expressions.{tokens_end}
-use Rattle.fs_lex.specs.Scan.{counted, is_past_limit, tokens_of}
+use Rattle.fs_lex.specs.Scan.{operators_up_to_token, is_past_limit, tokens_of}
 use Rattle.fs_lex_laws.specs.Tokenization.{IsTokenIn}
 use Rattle.fs_lex_laws.proofs.Stood.{stands_in_text}
 use Rattle.fs_text_laws.specs.Limit.{operator_count, IsOneTooMany, KeepLimit, SpellWithin, IsWrongWithin, StopWithin}
@@ -48,18 +48,18 @@ along [] n t behind i c =
     let same : n ≡ n + 0 = omega arith in
     c.1 ∙ ap (λ (k : ℕ). is_past_limit t.kind k) same
 along (u ∷ part) n t behind i c =
-    let same : counted u.kind n + operator_count part ≡ n + operator_count (u ∷ part) =
+    let same : operators_up_to_token u.kind n + operator_count part ≡ n + operator_count (u ∷ part) =
     one_counted (starts_expression u.kind) (is_operator u.kind) n (operator_count part) i.0 ∙ ap (λ (k : ℕ). n + k) (sym (count_more u part)) in
-    along part (counted u.kind n) t behind i.1 c.2 ∙ ap (λ (k : ℕ). is_past_limit t.kind k) same
+    along part (operators_up_to_token u.kind n) t behind i.1 c.2 ∙ ap (λ (k : ℕ). is_past_limit t.kind k) same
 
-from_start : (w : Token) (n : ℕ) → starts_expression w.kind ≡ true → counted w.kind n ≡ 0
+from_start : (w : Token) (n : ℕ) → starts_expression w.kind ≡ true → operators_up_to_token w.kind n ≡ 0
 from_start w n e = ap (λ (b : Bool). cond b 0 (cond (is_operator w.kind) (n + 1) n)) e
 
 -- what is counted behind the token after which a part begins
 since_start : (before : List Token) (w : Token) (rest : List Token) (n : ℕ) → starts_expression w.kind ≡ true → AreCounted n (before ++ w ∷ rest)
     → AreCounted 0 rest
 since_start [] w rest n e c = subst (λ (k : ℕ). AreCounted k rest) (from_start w n e) c.2
-since_start (u ∷ before) w rest n e c = since_start before w rest (counted u.kind n) e c.2
+since_start (u ∷ before) w rest n e c = since_start before w rest (operators_up_to_token u.kind n) e c.2
 
 counted_part : (ts : List Token) (part : List Token) (t : Token) (behind : List Token) (n : ℕ) → EndInExpression ts part → AreCounted n (ts ++ t ∷ behind)
     → AreCounted 0 (part ++ t ∷ behind)
@@ -85,10 +85,10 @@ one_few false false n e f h = h
 few : (part : List Token) (n : ℕ) (rest : List Token) → AreInside part → AreClear part → AreCounted n (part ++ rest) → n ≤ 128 → n + operator_count part ≤ 128
 few [] n rest i o c h = omega arith
 few (u ∷ part) n rest i o c h =
-    let less : counted u.kind n ≤ 128 = one_few (starts_expression u.kind) (is_operator u.kind) n i.0 (sym c.1 ∙ o.0) h in
-    let same : counted u.kind n + operator_count part ≡ n + operator_count (u ∷ part) =
+    let less : operators_up_to_token u.kind n ≤ 128 = one_few (starts_expression u.kind) (is_operator u.kind) n i.0 (sym c.1 ∙ o.0) h in
+    let same : operators_up_to_token u.kind n + operator_count part ≡ n + operator_count (u ∷ part) =
     one_counted (starts_expression u.kind) (is_operator u.kind) n (operator_count part) i.0 ∙ ap (λ (k : ℕ). n + k) (sym (count_more u part)) in
-    subst (λ (k : ℕ). k ≤ 128) same (few part (counted u.kind n) rest i.1 o.1 c.2 less)
+    subst (λ (k : ℕ). k ≤ 128) same (few part (operators_up_to_token u.kind n) rest i.1 o.1 c.2 less)
 
 clear_behind : (a b : List Token) → AreClear (a ++ b) → AreClear b
 clear_behind [] b h = h
@@ -110,7 +110,7 @@ both_true false b h = absurd cc
 marked_counts : (ts : List Token) (t : Token) (behind : List Token) (n : ℕ) → AreCounted n (ts ++ t ∷ behind) → t.past_limit ≡ true
     → IsTrue (is_operator t.kind)
 marked_counts [] t behind n c h = (both_true (is_operator t.kind) (nat_le 128 n) (sym c.1 ∙ h)).0
-marked_counts (u ∷ ts) t behind n c h = marked_counts ts t behind (counted u.kind n) c.2 h
+marked_counts (u ∷ ts) t behind n c h = marked_counts ts t behind (operators_up_to_token u.kind n) c.2 h
 
 -- the first marked token that can follow is one too many
 first_marked : (ts : List Token) (t : Token) (behind : List Token) (n : ℕ) → AreCounted n (ts ++ t ∷ behind) → AreClear ts → CanFollow (words ts) t

@@ -23,7 +23,7 @@ use Rattle.fs_grammar.specs.Grammar.{after_assignment_name, at_equals, at_unit, 
 use Rattle.fs_grammar.specs.Grammar.{factor_done, product_done, unit_done, conjunction_done, literal_done, step_factor, step_unit, step_guard, step_guarded}
 use Rattle.fs_grammar.specs.Grammar.{step_conjunction, step_joined, step_sum, step_summed, step_product, step_multiplied, step_name, step_transition}
 use Rattle.fs_grammar.specs.Grammar.{step_format, in_format_two, step}
-use Rattle.fs_lex.specs.Scan.{counted}
+use Rattle.fs_lex.specs.Scan.{operators_up_to_token}
 
 -- ---- the operators of a value that has been read, with a bracket where one is needed
 
@@ -131,14 +131,15 @@ conjunction_ends (or_after g k) c = omega arith
 
 -- ---- a token that can follow adds no more operators than it counts
 
-factor_costs : (t : TokenKind) (k : FactorContext) (c : ℕ) → operators_for_factor k ≤ c → IfSome (step_factor t k) (λ s. operators_owed s ≤ counted t c)
+factor_costs : (t : TokenKind) (k : FactorContext) (c : ℕ) → operators_for_factor k ≤ c
+    → IfSome (step_factor t k) (λ s. operators_owed s ≤ operators_up_to_token t c)
 factor_costs (Number n) k c h = omega (arith, factor_ends k (terms.Number n))
 factor_costs (Name x) k c h = h
 factor_costs Minus k c h = omega arith
 factor_costs OpenParen k c h = omega arith
 factor_costs _ k c h = tt
 
-unit_costs : (t : TokenKind) (k : UnitContext) (c : ℕ) → operators_for_unit k ≤ c → IfSome (step_unit t k) (λ s. operators_owed s ≤ counted t c)
+unit_costs : (t : TokenKind) (k : UnitContext) (c : ℕ) → operators_for_unit k ≤ c → IfSome (step_unit t k) (λ s. operators_owed s ≤ operators_up_to_token t c)
 unit_costs Bang k c h = omega arith
 unit_costs OpenBrace k c h = omega arith
 unit_costs t k c h = factor_costs t (first_factor (first_product (left k))) c h
@@ -147,22 +148,22 @@ braced : (g : Guard (List ℕ)) → operators_of_unit g ≤ 1 + operators_of_gua
 braced g = omega (arith, at_most_one (is_and g || is_or g))
 
 guard_costs : (t : TokenKind) (g : Guard (List ℕ)) (k : GuardContext) (c : ℕ) → operators_of_guard g + operators_for_guard k ≤ c
-    → IfSome (step_guard t g k) (λ s. operators_owed s ≤ counted t c)
+    → IfSome (step_guard t g k) (λ s. operators_owed s ≤ operators_up_to_token t c)
 guard_costs OrOr g k c h = omega arith
 guard_costs CloseBrace g (braces k) c h = omega (arith, unit_ends k g, braced g)
 guard_costs Goto g (transition_guard d n) c h = omega arith
 guard_costs _ g k c h = tt
 
-guarded_costs : (t : TokenKind) (s : ParseState) (c : ℕ) → operators_owed s ≤ c → IfSome (step_guarded t s) (λ s. operators_owed s ≤ counted t c)
+guarded_costs : (t : TokenKind) (s : ParseState) (c : ℕ) → operators_owed s ≤ c → IfSome (step_guarded t s) (λ s. operators_owed s ≤ operators_up_to_token t c)
 guarded_costs t (after_guard g k) c h = guard_costs t g k c h
 guarded_costs t _ c h = tt
 
 conjunction_costs : (t : TokenKind) (f : Guard (List ℕ)) (k : ConjunctionContext) (c : ℕ) → operators_of_conjunction f + operators_for_conjunction k ≤ c
-    → IfSome (step_conjunction t f k) (λ s. operators_owed s ≤ counted t c)
+    → IfSome (step_conjunction t f k) (λ s. operators_owed s ≤ operators_up_to_token t c)
 conjunction_costs AndAnd f k c h = omega arith
 conjunction_costs t f k c h = guarded_costs t (conjunction_done f k) c (omega (arith, conjunction_ends k f))
 
-joined_costs : (t : TokenKind) (s : ParseState) (c : ℕ) → operators_owed s ≤ c → IfSome (step_joined t s) (λ s. operators_owed s ≤ counted t c)
+joined_costs : (t : TokenKind) (s : ParseState) (c : ℕ) → operators_owed s ≤ c → IfSome (step_joined t s) (λ s. operators_owed s ≤ operators_up_to_token t c)
 joined_costs t (after_conjunction f k) c h = conjunction_costs t f k c h
 joined_costs t _ c h = tt
 
@@ -174,7 +175,7 @@ bracketed : (e : Term (List ℕ)) → operators_of_factor e ≤ 1 + operators_of
 bracketed e = omega (arith, at_most_one (is_sum e || is_product e))
 
 sum_costs : (t : TokenKind) (e : Term (List ℕ)) (k : SumContext) (c : ℕ) → operators_of_term e + operators_for_sum k ≤ c
-    → IfSome (step_sum t e k) (λ s. operators_owed s ≤ counted t c)
+    → IfSome (step_sum t e k) (λ s. operators_owed s ≤ operators_up_to_token t c)
 sum_costs Plus e k c h = omega arith
 sum_costs Minus e k c h = omega arith
 sum_costs CloseParen e (parens k) c h = omega (arith, factor_ends k e, bracketed e)
@@ -186,27 +187,28 @@ sum_costs Semicolon e (value o d) c h = omega arith
 sum_costs t e (right r l k) c h = joined_costs t (literal_done r l e k) c (omega (arith, literal_ends r l e k))
 sum_costs _ e k c h = tt
 
-summed_costs : (t : TokenKind) (s : ParseState) (c : ℕ) → operators_owed s ≤ c → IfSome (step_summed t s) (λ s. operators_owed s ≤ counted t c)
+summed_costs : (t : TokenKind) (s : ParseState) (c : ℕ) → operators_owed s ≤ c → IfSome (step_summed t s) (λ s. operators_owed s ≤ operators_up_to_token t c)
 summed_costs t (after_sum e k) c h = sum_costs t e k c h
 summed_costs t _ c h = tt
 
 product_costs : (t : TokenKind) (p : Term (List ℕ)) (k : ProductContext) (c : ℕ) → operators_of_product p + operators_for_product k ≤ c
-    → IfSome (step_product t p k) (λ s. operators_owed s ≤ counted t c)
+    → IfSome (step_product t p k) (λ s. operators_owed s ≤ operators_up_to_token t c)
 product_costs Star p k c h = omega arith
 product_costs Slash p k c h = omega arith
 product_costs Percent p k c h = omega arith
 product_costs t p k c h = summed_costs t (product_done p k) c (omega (arith, product_ends k p))
 
-multiplied_costs : (t : TokenKind) (s : ParseState) (c : ℕ) → operators_owed s ≤ c → IfSome (step_multiplied t s) (λ s. operators_owed s ≤ counted t c)
+multiplied_costs : (t : TokenKind) (s : ParseState) (c : ℕ) → operators_owed s ≤ c
+    → IfSome (step_multiplied t s) (λ s. operators_owed s ≤ operators_up_to_token t c)
 multiplied_costs t (after_product p k) c h = product_costs t p k c h
 multiplied_costs t _ c h = tt
 
 name_costs : (t : TokenKind) (x : List ℕ) (k : FactorContext) (c : ℕ) → operators_for_factor k ≤ c
-    → IfSome (step_name t x k) (λ s. operators_owed s ≤ counted t c)
+    → IfSome (step_name t x k) (λ s. operators_owed s ≤ operators_up_to_token t c)
 name_costs OpenBracket x k c h = omega arith
 name_costs t x k c h = multiplied_costs t (factor_done (Variable x) k) c (omega (arith, factor_ends k (Variable x)))
 
-line_costs : (t : TokenKind) (n : ℕ) (d : OpenState) (c : ℕ) → IfSome (step_transition n t d) (λ s. operators_owed s ≤ counted t c)
+line_costs : (t : TokenKind) (n : ℕ) (d : OpenState) (c : ℕ) → IfSome (step_transition n t d) (λ s. operators_owed s ≤ operators_up_to_token t c)
 line_costs When n d c = omega arith
 line_costs Goto n d c = omega arith
 line_costs State n d c = omega arith
@@ -220,7 +222,8 @@ two_costs : (f : Format) (s : ParseState) (c : ℕ) → operators_owed s ≤ c �
 two_costs One s c h = tt
 two_costs Two s c h = h
 
-pub step_costs : (s : ParseState) (n : ℕ) (t : TokenKind) (c : ℕ) → operators_owed s ≤ c → IfSome (step s n t) (λ s. operators_owed s ≤ counted t c)
+pub step_costs : (s : ParseState) (n : ℕ) (t : TokenKind) (c : ℕ) → operators_owed s ≤ c
+    → IfSome (step s n t) (λ s. operators_owed s ≤ operators_up_to_token t c)
 step_costs at_start n Fsmd c h = omega arith
 step_costs at_start n _ c h = tt
 step_costs at_format n (Number i) c h = format_costs (format_of i) c

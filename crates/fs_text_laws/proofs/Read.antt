@@ -11,7 +11,7 @@ use Rattle.fs_grammar.specs.declared.token.Token.{Token}
 use Rattle.fs_grammar.specs.Tokens.{refusal, fault_at}
 use Rattle.fs_grammar.specs.Grammar.{ParseState, at_start, step, finish_source, stop_source, take_token, reading}
 use Rattle.fs_grammar.specs.Operators.{is_operator, starts_expression}
-use Rattle.fs_lex.specs.Scan.{counted, tokens_of}
+use Rattle.fs_lex.specs.Scan.{operators_up_to_token, tokens_of}
 use Rattle.fs_text_laws.proofs.Operators.{operators_owed, step_costs}
 use Rattle.fs_text_laws.proofs.Fit.{IsFit, step_keeps, finish_fits}
 use Rattle.fs_text_laws.proofs.Counted.{AreCounted, tokens_counted}
@@ -51,8 +51,8 @@ pub reads_fit : (ts : List Token) (s : ParseState) (n : ℕ) (f : Source) → Ar
 reads_fit [] s n f c h b m q = absurd cc
 reads_fit (t ∷ ts) s n f c h b m q =
     next_fits t (step s t.place.line t.kind) (reading ts) (finish_source s) f
-    (λ e. with_both (step s t.place.line t.kind) IsFit (λ u. operators_owed u ≤ counted t.kind n) (λ u. reading ts u ≡ Ok f → IsSo f)
-    (λ u k j. reads_fit ts u (counted t.kind n) f c.2 k j (counts_few (starts_expression t.kind) (is_operator t.kind) n (sym c.1 ∙ e) m))
+    (λ e. with_both (step s t.place.line t.kind) IsFit (λ u. operators_owed u ≤ operators_up_to_token t.kind n) (λ u. reading ts u ≡ Ok f → IsSo f)
+    (λ u k j. reads_fit ts u (operators_up_to_token t.kind n) f c.2 k j (counts_few (starts_expression t.kind) (is_operator t.kind) n (sym c.1 ∙ e) m))
     (step_keeps s t.place.line t.kind c.0 h (omega arith)) (step_costs s t.place.line t.kind n b))
     (finish_fits s h) q
 

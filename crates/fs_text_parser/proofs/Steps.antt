@@ -12,7 +12,7 @@ use Rattle.fs_grammar.specs.declared.format.Format.TheVariants.{One, Two}
 use Rattle.fs_grammar.specs.declared.token.TokenKind.{TokenKind}
 use Rattle.fs_grammar.specs.declared.token.TokenKind.TheVariants.{State, When, Goto, Emit, Port, Name, Number, End}
 use Rattle.fs_grammar.specs.declared.token.Token.{Token}
-use Rattle.fs_grammar.specs.Tokens.{kind_at, line_at, refusal, accepted, ◌>>=◌}
+use Rattle.fs_grammar.specs.Tokens.{kind_at, line_at, refusal, tokens_after, ◌>>=◌}
 use Rattle.fs_grammar.specs.PartEnds.{EndsName, begins_transition, name_in}
 use Rattle.fs_grammar.specs.Grammar.{OpenState, OpenTransition, with_open_state, scalar, port, value, ParseState, at_format, at_semicolon, at_declaration}
 use Rattle.fs_grammar.specs.Grammar.{at_declared, at_reset, after_reset, at_state, at_state_name, after_state_name, at_transition, at_target, after_target}
@@ -49,7 +49,7 @@ transitions_end ts d h = same_reading ts (at_transition d) (at_state d.format (w
 -- ---- a token that is taken
 
 -- a token that can follow, and is not past the limit
-pub took : (ts rest : List Token) (w : TokenKind) (s n : ParseState) → kind_at ts ≡ Some w → step s (line_at ts) w ≡ Some n → accepted ts ≡ Ok rest
+pub took : (ts rest : List Token) (w : TokenKind) (s n : ParseState) → kind_at ts ≡ Some w → step s (line_at ts) w ≡ Some n → tokens_after ts ≡ Ok rest
     → reading ts s ≡ reading rest n
 took [] rest w s n e f g = absurd cc
 took (t ∷ ts) rest w s n e f g =
@@ -82,7 +82,8 @@ format_fails : (o : Option Format) → o ≡ None → step_format o ≡ None
 format_fails o e = rw e refl
 
 -- a number that says a format
-pub format_taken : (ts rest : List Token) (f : Format) → format_at ts ≡ Some f → accepted ts ≡ Ok rest → reading ts at_format ≡ reading rest (at_semicolon f)
+pub format_taken : (ts rest : List Token) (f : Format) → format_at ts ≡ Some f → tokens_after ts ≡ Ok rest
+    → reading ts at_format ≡ reading rest (at_semicolon f)
 format_taken [] rest f e g = absurd cc
 format_taken (t ∷ ts) rest f e g = took (t ∷ ts) rest t.kind at_format (at_semicolon f) refl
     (format_steps t.place.line t.kind ∙ format_leads (format_in (Some t.kind)) f e) g
@@ -95,7 +96,7 @@ abbrev ports : Format → List Declaration → ℕ → ParseState
 ports f ds n = at_declared f ds (record { line = n; role = Output; sort = sorts.Port; names = [] })
 
 -- the word `port` in a text of format 2
-pub port_taken : (ts rest : List Token) (f : Format) (ds : List Declaration) → kind_at ts ≡ Some Port → f ≡ Two → accepted ts ≡ Ok rest
+pub port_taken : (ts rest : List Token) (f : Format) (ds : List Declaration) → kind_at ts ≡ Some Port → f ≡ Two → tokens_after ts ≡ Ok rest
     → reading ts (at_declaration f ds) ≡ reading rest (at_declared f ds (record { line = line_at ts; role = Output; sort = sorts.Port; names = [] }))
 port_taken ts rest f ds k e g = took ts rest Port (at_declaration f ds) (ports f ds (line_at ts)) k (rw e refl) g
 
@@ -105,7 +106,7 @@ pub port_refused : (ts : List Token) (f : Format) (ds : List Declaration) → ki
 port_refused ts f ds k e = refused ts (at_declaration f ds) (λ w i. let is : w ≡ Port = cc in rw (is, e) refl) refl
 
 -- the word `emit` in a text of format 2
-pub emit_taken : (ts rest : List Token) (f : Format) (o : OpenTransition) → kind_at ts ≡ Some Emit → o.state.format ≡ f → f ≡ Two → accepted ts ≡ Ok rest
+pub emit_taken : (ts rest : List Token) (f : Format) (o : OpenTransition) → kind_at ts ≡ Some Emit → o.state.format ≡ f → f ≡ Two → tokens_after ts ≡ Ok rest
     → reading ts (at_assignment o) ≡ reading rest (at_port o)
 emit_taken ts rest f o k e i g = took ts rest Emit (at_assignment o) (at_port o) k (rw (e, i) refl) g
 

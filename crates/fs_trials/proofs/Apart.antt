@@ -7,7 +7,7 @@ use Rattle.fs_runs.specs.declared.run.Ended.{Ended}
 use Rattle.fs_runs.specs.declared.run.RunStop.{RunStop}
 use Rattle.fs_runs.specs.Outcomes.{IsStopped, IsStopOfRun, told_by}
 use Rattle.fs_runs.proofs.RunOnce.{one_end, end_or_stop}
-use Rattle.fs_show.specs.ItemTexts.{SameOutputs}
+use Rattle.fs_run_text.specs.ItemTexts.{SameOutputs}
 use Rattle.fs_trials.specs.Pool.{pool_of}
 use Rattle.fs_trials.specs.Candidates.{candidate_inputs, stated_inputs}
 use Rattle.fs_trials.specs.Differences.{ShowsDifference, DiffersAt, IsEnd, HasNoEnd, AreApart}

@@ -4,7 +4,7 @@ use Rattle.fs_model.specs.Machines.{Fsmd}
 use Rattle.fs_model.specs.Runs.{Inputs}
 use Rattle.fs_runs.specs.declared.run.Ended.{Ended}
 use Rattle.fs_runs.specs.Outcomes.{Outputs, EndsWith, HoldsEach, output_names, told_by}
-use Rattle.fs_show.specs.ItemTexts.{SameOutputs}
+use Rattle.fs_run_text.specs.ItemTexts.{SameOutputs}
 use Rattle.fs_trials.specs.Candidates.{stated_inputs}
 
 -- both runs end within a limit of steps and touch no number outside 128 bits, and an output differs

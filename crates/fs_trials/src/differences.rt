@@ -10,10 +10,10 @@ ghost use Rattle.fs_trials.specs.Differences.{ShowsDifference, DiffersAt, IsEnd,
 use crate::candidates::Candidates;
 use fs_ast::machine::Machine;
 use fs_pair::positions::Pairing;
+use fs_run_text::replay::same_outputs;
 use fs_runs::inputs::Inputs;
 use fs_runs::memory::NoMemory;
 use fs_runs::run::{Ended, RunStop, run};
-use fs_show::replay::same_outputs;
 use std::alloc::Global;
 
 /// A stated candidate that shows a difference: its number, its inputs, and how the run of each machine ended.

@@ -1,7 +1,7 @@
 //! The first candidate that shows a difference of two machines.
 
 use crate::first::first_number;
-use fs_text_machines::reading::machine;
+use fs_sample_machines::reading::machine;
 use std::alloc::Global;
 use std::test::Fail;
 

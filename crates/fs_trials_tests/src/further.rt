@@ -2,7 +2,7 @@
 
 use crate::first::first_found;
 use fs_runs::values::Value;
-use fs_text_machines::reading::machine;
+use fs_sample_machines::reading::machine;
 use fs_trials::candidates::Candidates;
 use std::alloc::Global;
 use std::test::Fail;

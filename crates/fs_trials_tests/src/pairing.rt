@@ -1,7 +1,7 @@
 //! The positions of two machines.
 
 use fs_pair::positions::{Position, same_interface};
-use fs_text_machines::reading::machine;
+use fs_sample_machines::reading::machine;
 use nf_terms::tree::Side;
 use std::alloc::Global;
 use std::test::Fail;

@@ -25,7 +25,7 @@ fn live_before(flow: &Flow, reset: usize, live: &[VariableSet]) -> VariableSet
     if flow.target == reset {
         flow.reads
     } else {
-        flow.reads.joined(live[flow.target].without(flow.writes))
+        flow.reads.union(live[flow.target].without(flow.writes))
     }
 }
 
@@ -38,7 +38,7 @@ fn grow(flow: &Flow, reset: usize, live: &mut Vec<VariableSet>) -> bool
     ensures grows { result ≡ true → flow_weight live.new.items < flow_weight live.old.items }
 {
     let old = live[flow.from];
-    let new = old.joined(live_before(flow, reset, live.as_slice()));
+    let new = old.union(live_before(flow, reset, live.as_slice()));
     live[flow.from] = new;
     new.bits != old.bits
 }

@@ -57,7 +57,7 @@ impl VariableSet {
     }
 
     /// The variables of either set.
-    pub fn joined(self, other: VariableSet) -> VariableSet
+    pub fn union(self, other: VariableSet) -> VariableSet
         ensures { has_variable result ≡ λ x. has_variable self x || has_variable other x }
     {
         VariableSet {

@@ -10,7 +10,7 @@ use Rattle.fs_grammar.specs.declared.token.Token.{Token}
 use Rattle.fs_grammar.specs.Tokens.{kind_at}
 use Rattle.fs_grammar.specs.Grammar.{ParseState, step, reading}
 use Rattle.fs_grammar.specs.Operators.{is_operator, starts_expression}
-use Rattle.fs_lex.specs.Scan.{scan, is_past_limit, counted}
+use Rattle.fs_lex.specs.Scan.{scan, is_past_limit, operators_up_to_token}
 
 -- on this line, at any column, and with at least so many operators still free, the bytes read as r from s on
 pub record Reads (line free : ℕ) (bytes : List ℕ) (s : ParseState) (r : Result Source TextFault) : Type 0 where
@@ -41,21 +41,21 @@ joined {line} {free} {s} {r} a b rest h = subst (λ (l : List ℕ). Reads line f
 -- the token can be taken where so many operators are free, and leaves so many
 pub record Room (t : TokenKind) (free remains : ℕ) : Type 0 where
   pub fits : (m : ℕ) → m + free ≤ 128 → is_past_limit t m ≡ false
-  pub leaves : (m : ℕ) → m + free ≤ 128 → counted t m + remains ≤ 128
+  pub leaves : (m : ℕ) → m + free ≤ 128 → operators_up_to_token t m + remains ≤ 128
 
 plain_fits : (t : TokenKind) (m : ℕ) → is_operator t ≡ false → is_past_limit t m ≡ false
 plain_fits t m o = rw o refl
 
-plain_counts : (t : TokenKind) (m : ℕ) → is_operator t ≡ false → starts_expression t ≡ false → counted t m ≡ m
+plain_counts : (t : TokenKind) (m : ℕ) → is_operator t ≡ false → starts_expression t ≡ false → operators_up_to_token t m ≡ m
 plain_counts t m o b = rw (b, o) refl
 
-border_counts : (t : TokenKind) (m : ℕ) → starts_expression t ≡ true → counted t m ≡ 0
+border_counts : (t : TokenKind) (m : ℕ) → starts_expression t ≡ true → operators_up_to_token t m ≡ 0
 border_counts t m b = rw b refl
 
 sign_fits : (t : TokenKind) (m free : ℕ) → is_operator t ≡ true → 0 < free → m + free ≤ 128 → is_past_limit t m ≡ false
 sign_fits t m free o h g = rw o (under m free g h)
 
-sign_counts : (t : TokenKind) (m : ℕ) → is_operator t ≡ true → starts_expression t ≡ false → counted t m ≡ m + 1
+sign_counts : (t : TokenKind) (m : ℕ) → is_operator t ≡ true → starts_expression t ≡ false → operators_up_to_token t m ≡ m + 1
 sign_counts t m o b = rw (b, o) refl
 
 pub plain_room : (t : TokenKind) (free : ℕ) → is_operator t ≡ false → starts_expression t ≡ false → Room t free free

@@ -9,6 +9,7 @@ use Rattle.std.proofs.Math.Nat.{lt_trans}
 use Rattle.std.proofs.lemmas.Fmt.{decimal_by_steps_wide}
 use Rattle.std.specs.List.{prefix_len, list_all}
 use Rattle.std.proofs.lemmas.Bool.{and_parts, not-true, lt-ltb}
+use Rattle.base_integers.specs.Digits.{with_digit, value_of_digits}
 use Rattle.fs_model.specs.Words.{is_letter, is_digit, is_word_byte, is_word, is_reserved, is_name}
 use Rattle.fs_model.specs.declared.parts.Role.TheVariants.{Input, Output, Local}
 use Rattle.fs_model.specs.Source.{Source}
@@ -22,9 +23,8 @@ use Rattle.fs_grammar.specs.declared.token.Token.{Token}
 use Rattle.fs_grammar.specs.Grammar.{ParseState, step, reading}
 use Rattle.fs_lex.specs.declared.lexemes.Lexeme.{Lexeme}
 use Rattle.fs_lex.specs.declared.lexemes.Lexeme.TheVariants as lexemes
-use Rattle.fs_lex.specs.Lexemes.{is_space, keyword_of, name_or_bad, word_token, shifted, number_token, lexeme_of}
-use Rattle.fs_lex.specs.Lexemes as lexing
-use Rattle.fs_lex.specs.Scan.{place_after_bytes, scan, is_past_limit, is_bad, counted}
+use Rattle.fs_lex.specs.Lexemes.{is_space, keyword_of, name_or_bad, word_token, number_token, lexeme_of}
+use Rattle.fs_lex.specs.Scan.{place_after_bytes, scan, is_past_limit, is_bad, operators_up_to_token}
 use Rattle.fs_lex.proofs.Scans.{token_scans}
 use Rattle.fs_write.proofs.Steps.{Reads, begins_no, took, Room, plain_room}
 
@@ -84,8 +84,8 @@ one_token {line} {free} {remains} {r} b w rest t s n e a bad room f d = record {
       let scanned = token_scans ((b ∷ w) ++ rest) t (length (b ∷ w)) p m e (omega arith) len in
       ap (λ (ts : List Token). reading ts s) scanned
       ∙ took t (is_past_limit t m) p _ s n r (room.fits m g) f
-      (rw bad (ap₂ (λ (bs : List ℕ) (q : TextPlace). reading (scan bs 0 q (counted t m)) n) (drop-append_seam (b ∷ w) rest) there)
-      ∙ d.so (column_after column (b ∷ w)) (counted t m) (room.leaves m g));
+      (rw bad (ap₂ (λ (bs : List ℕ) (q : TextPlace). reading (scan bs 0 q (operators_up_to_token t m)) n) (drop-append_seam (b ∷ w) rest) there)
+      ∙ d.so (column_after column (b ∷ w)) (operators_up_to_token t m) (room.leaves m g));
 }
 
 third : (a b c : Bool) (u v w x : Lexeme) → a ≡ false → b ≡ false → c ≡ true → cond a u (cond b v (cond c w x)) ≡ w
@@ -138,7 +138,7 @@ name_reads (b ∷ w) rest s n h stops f d =
 -- what the digits of a number are
 record Spells (n : ℕ) (ds : List ℕ) : Type 0 where
   digits : list_all is_digit ds ≡ true
-  value : lexing.decimal ds ≡ n
+  value : value_of_digits ds ≡ n
   some : 0 < length ds
 
 one_digit : (n : ℕ) → n < 10 → Spells n ((48 + n) ∷ [])
@@ -150,7 +150,7 @@ last_digit n = grind (arith, nat_tests)
 more_digits : (n : ℕ) (ds : List ℕ) → 10 ≤ n → Spells (n / 10) ds → Spells n (ds ++ ((48 + n % 10) ∷ []))
 more_digits n ds h e = record {
   digits = list_all-append is_digit ds ((48 + n % 10) ∷ []) ∙ rw e.digits (last_digit n);
-  value = fold-append shifted 0 ds ((48 + n % 10) ∷ []) ∙ rw e.value (omega arith);
+  value = fold-append with_digit 0 ds ((48 + n % 10) ∷ []) ∙ rw e.value (omega arith);
   some = omega (arith, length-append ds ((48 + n % 10) ∷ []));
 }
 
@@ -160,7 +160,7 @@ spelled n h = decimal_by_steps_wide Spells one_digit more_digits n (lt_trans h (
 small_number : (k : ℕ) → k < 2 ^ 127 → cond (nat_lt k (2 ^ 127)) (Number (pos k)) (Bad flaws.Number) ≡ Number (pos k)
 small_number k h = rw (lt-ltb k (2 ^ 127) h) refl
 
-unfolding_number : (ds : List ℕ) (n : ℕ) → lexing.decimal ds ≡ n → n < 2 ^ 127 → number_token ds ≡ Number (pos n)
+unfolding_number : (ds : List ℕ) (n : ℕ) → value_of_digits ds ≡ n → n < 2 ^ 127 → number_token ds ≡ Number (pos n)
 unfolding number_token
 unfolding_number ds n e h = ap (λ (k : ℕ). cond (nat_lt k (2 ^ 127)) (Number (pos k)) (Bad flaws.Number)) e ∙ small_number n h
 

@@ -10,7 +10,7 @@ use Rattle.fs_grammar_laws.specs.WordWalks.{words}
 use Rattle.fs_lex.specs.declared.lexemes.Lexeme.{Lexeme}
 use Rattle.fs_lex.specs.declared.lexemes.Lexeme.TheVariants as lexemes
 use Rattle.fs_lex.specs.Lexemes.{lexeme_of}
-use Rattle.fs_lex.specs.Scan.{place_after_byte, scan, emit_token, is_bad, counted}
+use Rattle.fs_lex.specs.Scan.{place_after_byte, scan, emit_token, is_bad, operators_up_to_token}
 use Rattle.fs_write_laws.specs.CommentLines.{lines_moved}
 use Rattle.fs_write_laws.proofs.MovedWords.{words_moved, file_moves}
 
@@ -47,7 +47,8 @@ emitted_moves : (n : ℕ) (x : Lexeme) (p q : TextPlace) (operators : ℕ) (befo
 emitted_moves n (lexemes.Blank k) p q operators before behind e h = h (k - 1) operators
 emitted_moves n (lexemes.Token t k) p q operators before behind e h = (
   record { kind = refl; past_limit = refl; line = e },
-  unless_bad n (is_bad t) (before (k - 1) (counted t operators)) (behind (k - 1) (counted t operators)) (h (k - 1) (counted t operators)),
+  unless_bad n (is_bad t) (before (k - 1) (operators_up_to_token t operators)) (behind (k - 1) (operators_up_to_token t operators))
+      (h (k - 1) (operators_up_to_token t operators)),
 )
 
 pub scan_moves : (n : ℕ) (bs : List ℕ) (skip : ℕ) (p q : TextPlace) (operators : ℕ) → q.line ≡ n + p.line

@@ -16,10 +16,12 @@ use Rattle.fs_rules.specs.declared.check.CheckRule.{CheckRule}
 use Rattle.fs_rules.specs.declared.check.CheckRule.TheVariants.{TwiceNamed, UnknownName, WrongSort, AssignInput, AssignedTwice, NoElse, AfterElse}
 use Rattle.fs_rules.specs.declared.check.CheckRule.TheVariants.{TooManyBranches, UnknownState, TooMany, TooManyEmits}
 use Rattle.fs_rules.specs.declared.check.CheckFault.{CheckFault}
-use Rattle.fs_rules.specs.MachineOfParts.{place, declared_by, variables_of, names_of, state_names, line_spelled, state_spelled, machine_of}
-use Rattle.fs_rules.specs.Sound.{all_differ, assigned_in, emit_count}
-use Rattle.fs_rules.specs.Rules.{at_lines, broken_where, declared_names, declared_states, repeated, past, uses_unknown, uses_wrong_sort, changes_input}
-use Rattle.fs_rules.specs.Rules.{line_faults, lacks_else, after_else, lines_faults, state_faults, plain_faults, branches_too_often, branch_faults, IsEndless}
+use Rattle.fs_rules.specs.MachineOfParts.{place_or_end, declared_by, variables_of, names_of, state_names, transition_spelled, state_spelled, machine_of}
+use Rattle.fs_rules.specs.SoundParts.{all_differ, assigned_in, emit_count}
+use Rattle.fs_rules.specs.Rules.{at_lines, broken_where, declared_names, declared_states, repeated_lines, line_past_limit, uses_unknown, uses_wrong_sort}
+use Rattle.fs_rules.specs.Rules.{changes_input}
+use Rattle.fs_rules.specs.Rules.{transition_faults, lacks_else, after_else, transitions_faults, state_faults, plain_faults, branches_too_often, branch_faults}
+use Rattle.fs_rules.specs.Rules.{IsEndless}
 use Rattle.fs_rules.specs.Rules.{EndlessAt, BreaksNoRule}
 use Rattle.fs_rules.proofs.Turns.{flat_map_map}
 use Rattle.fs_write.specs.CanonicalLines.{declaration_at_line_0, transition_at_line_0, state_at_line_0, without_lines}
@@ -33,8 +35,9 @@ variables_stay ds = flat_map_map declared_by declaration_at_line_0 ds
 names_stay : (ss : List SourceState) → state_names (map state_at_line_0 ss) ≡ state_names ss
 names_stay ss = map_map (λ (s : SourceState). s.name) state_at_line_0 ss
 
-lines_stay : (vs ns : List (List ℕ)) (ls : List SourceTransition) → map (line_spelled vs ns) (map transition_at_line_0 ls) ≡ map (line_spelled vs ns) ls
-lines_stay vs ns ls = map_map (line_spelled vs ns) transition_at_line_0 ls
+lines_stay : (vs ns : List (List ℕ)) (ls : List SourceTransition)
+    → map (transition_spelled vs ns) (map transition_at_line_0 ls) ≡ map (transition_spelled vs ns) ls
+lines_stay vs ns ls = map_map (transition_spelled vs ns) transition_at_line_0 ls
 
 states_stay : (vs ns : List (List ℕ)) (ss : List SourceState) → map (state_spelled vs ns) (map state_at_line_0 ss) ≡ map (state_spelled vs ns) ss
 states_stay vs ns [] = refl
@@ -43,7 +46,7 @@ states_stay vs ns (s ∷ ss) = ap₂ (λ (ls : List (Transition ℕ ℕ)) (rest 
 
 -- the machine of these variables and names of states
 abbrev machine_with : List VarInfo → List (List ℕ) → Source → List State → Fsmd
-machine_with vs ns s qs = record { variables = vs; reset = place ns s.reset; states = qs }
+machine_with vs ns s qs = record { variables = vs; reset = place_or_end ns s.reset; states = qs }
 
 unlined_machine : (s : Source) → machine_of (without_lines s) ≡ machine_of s
 unlined_machine s =
@@ -118,13 +121,13 @@ repeated_by : (t : Bool) (n : ℕ) (ks js : List ℕ) → ks ≡ map zero_for js
 repeated_by true n ks js e = ap (λ (l : List ℕ). 0 ∷ l) e
 repeated_by false n ks js e = e
 
-repeated_unlined : (before : List (List ℕ)) (ns : List (ℕ × List ℕ)) → repeated before (map named_at_0 ns) ≡ map zero_for (repeated before ns)
+repeated_unlined : (before : List (List ℕ)) (ns : List (ℕ × List ℕ)) → repeated_lines before (map named_at_0 ns) ≡ map zero_for (repeated_lines before ns)
 repeated_unlined before [] = refl
 repeated_unlined before (n ∷ ns) =
-    repeated_by (list_any (λ m. bytes_eq m n.1) before) n.0 (repeated (n.1 ∷ before) (map named_at_0 ns)) (repeated (n.1 ∷ before) ns)
+    repeated_by (list_any (λ m. bytes_eq m n.1) before) n.0 (repeated_lines (n.1 ∷ before) (map named_at_0 ns)) (repeated_lines (n.1 ∷ before) ns)
     (repeated_unlined (n.1 ∷ before) ns)
 
-past_unlined : (most : ℕ) (ns : List (ℕ × List ℕ)) → past most (map named_at_0 ns) ≡ map zero_for (past most ns)
+past_unlined : (most : ℕ) (ns : List (ℕ × List ℕ)) → line_past_limit most (map named_at_0 ns) ≡ map zero_for (line_past_limit most ns)
 past_unlined most ns =
     let line : ℕ × List ℕ → ℕ = λ n. n.0 in
     ap (λ (l : List (ℕ × List ℕ)). map line (take 1 l)) (drop-map named_at_0 most ns) ∙ ap (map line) (take-map named_at_0 1 (drop most ns))
@@ -132,7 +135,7 @@ past_unlined most ns =
 
 -- ---- transitions and states
 
-transition_unlined : (vs : List VarInfo) (count n : ℕ) (l : Transition ℕ ℕ) → line_faults vs count 0 l ≡ unlined (line_faults vs count n l)
+transition_unlined : (vs : List VarInfo) (count n : ℕ) (l : Transition ℕ ℕ) → transition_faults vs count 0 l ≡ unlined (transition_faults vs count n l)
 transition_unlined vs count n l =
     both_unlined _ _ _ _ (one_unlined (uses_unknown vs l) UnknownName n)
     (both_unlined _ _ _ _ (one_unlined (uses_wrong_sort vs l) WrongSort n)
@@ -152,12 +155,12 @@ after_unlined true (l ∷ ls) = ap (λ (ks : List ℕ). 0 ∷ ks) (after_unlined
 after_unlined false (l ∷ ls) = after_unlined (not (is_some l.content.guard)) ls
 
 transitions_unlined : (vs : List VarInfo) (ns : List (List ℕ)) (ls : List SourceTransition)
-    → lines_faults vs ns (map transition_at_line_0 ls) ≡ unlined (lines_faults vs ns ls)
+    → transitions_faults vs ns (map transition_at_line_0 ls) ≡ unlined (transitions_faults vs ns ls)
 transitions_unlined vs ns ls =
-    flat_map_map (λ (l : SourceTransition). line_faults vs (length ns) l.line (line_spelled (names_of vs) ns l)) transition_at_line_0 ls
-    ∙ flat_unlined (λ (l : SourceTransition). line_faults vs (length ns) 0 (line_spelled (names_of vs) ns l))
-    (λ (l : SourceTransition). line_faults vs (length ns) l.line (line_spelled (names_of vs) ns l))
-    (λ l. transition_unlined vs (length ns) l.line (line_spelled (names_of vs) ns l)) ls
+    flat_map_map (λ (l : SourceTransition). transition_faults vs (length ns) l.line (transition_spelled (names_of vs) ns l)) transition_at_line_0 ls
+    ∙ flat_unlined (λ (l : SourceTransition). transition_faults vs (length ns) 0 (transition_spelled (names_of vs) ns l))
+    (λ (l : SourceTransition). transition_faults vs (length ns) l.line (transition_spelled (names_of vs) ns l))
+    (λ l. transition_unlined vs (length ns) l.line (transition_spelled (names_of vs) ns l)) ls
 
 state_unlined : (vs : List VarInfo) (ns : List (List ℕ)) (s : SourceState) → state_faults vs ns (state_at_line_0 s) ≡ unlined (state_faults vs ns s)
 state_unlined vs ns s =
@@ -174,30 +177,33 @@ states_unlined vs ns ss =
 
 -- ---- all rules
 
-declarations_repeated : (ds : List Declaration) → repeated [] (declared_names (map declaration_at_line_0 ds)) ≡ map zero_for (repeated [] (declared_names ds))
-declarations_repeated ds = ap (repeated []) (declared_unlined ds) ∙ repeated_unlined [] (declared_names ds)
+declarations_repeated : (ds : List Declaration) → repeated_lines [] (declared_names (map declaration_at_line_0 ds))
+    ≡ map zero_for (repeated_lines [] (declared_names ds))
+declarations_repeated ds = ap (repeated_lines []) (declared_unlined ds) ∙ repeated_unlined [] (declared_names ds)
 
-declarations_past : (ds : List Declaration) → past most_variables (declared_names (map declaration_at_line_0 ds))
-    ≡ map zero_for (past most_variables (declared_names ds))
-declarations_past ds = ap (past most_variables) (declared_unlined ds) ∙ past_unlined most_variables (declared_names ds)
+declarations_past : (ds : List Declaration) → line_past_limit most_variables (declared_names (map declaration_at_line_0 ds))
+    ≡ map zero_for (line_past_limit most_variables (declared_names ds))
+declarations_past ds = ap (line_past_limit most_variables) (declared_unlined ds) ∙ past_unlined most_variables (declared_names ds)
 
-states_repeated : (ss : List SourceState) → repeated [] (declared_states (map state_at_line_0 ss)) ≡ map zero_for (repeated [] (declared_states ss))
-states_repeated ss = ap (repeated []) (stated_unlined ss) ∙ repeated_unlined [] (declared_states ss)
+states_repeated : (ss : List SourceState) → repeated_lines [] (declared_states (map state_at_line_0 ss)) ≡ map zero_for (repeated_lines [] (declared_states ss))
+states_repeated ss = ap (repeated_lines []) (stated_unlined ss) ∙ repeated_unlined [] (declared_states ss)
 
-states_past : (ss : List SourceState) → past most_states (declared_states (map state_at_line_0 ss)) ≡ map zero_for (past most_states (declared_states ss))
-states_past ss = ap (past most_states) (stated_unlined ss) ∙ past_unlined most_states (declared_states ss)
+states_past : (ss : List SourceState) → line_past_limit most_states (declared_states (map state_at_line_0 ss))
+    ≡ map zero_for (line_past_limit most_states (declared_states ss))
+states_past ss = ap (line_past_limit most_states) (stated_unlined ss) ∙ past_unlined most_states (declared_states ss)
 
-reset_unknown : (s : Source) → not (nat_lt (place (state_names (map state_at_line_0 s.states)) s.reset) (length (map state_at_line_0 s.states)))
-    ≡ not (nat_lt (place (state_names s.states) s.reset) (length s.states))
-reset_unknown s = ap₂ (λ (ns : List (List ℕ)) (n : ℕ). not (nat_lt (place ns s.reset) n)) (names_stay s.states) (length_map state_at_line_0 s.states)
+reset_unknown : (s : Source) → not (nat_lt (place_or_end (state_names (map state_at_line_0 s.states)) s.reset) (length (map state_at_line_0 s.states)))
+    ≡ not (nat_lt (place_or_end (state_names s.states) s.reset) (length s.states))
+reset_unknown s = ap₂ (λ (ns : List (List ℕ)) (n : ℕ). not (nat_lt (place_or_end ns s.reset) n)) (names_stay s.states) (length_map state_at_line_0 s.states)
 
 plain_unlined : (s : Source) → plain_faults (without_lines s) ≡ unlined (plain_faults s)
 plain_unlined s =
-    both_unlined _ _ _ _ (listed_unlined TwiceNamed _ (repeated [] (declared_names s.declarations)) (declarations_repeated s.declarations))
-    (both_unlined _ _ _ _ (listed_unlined TooMany _ (past most_variables (declared_names s.declarations)) (declarations_past s.declarations))
-    (both_unlined _ _ _ _ (listed_unlined TwiceNamed _ (repeated [] (declared_states s.states)) (states_repeated s.states))
-    (both_unlined _ _ _ _ (listed_unlined TooMany _ (past most_states (declared_states s.states)) (states_past s.states))
-    (both_unlined _ _ _ _ (same_unlined _ (not (nat_lt (place (state_names s.states) s.reset) (length s.states))) UnknownState s.reset_line (reset_unknown s))
+    both_unlined _ _ _ _ (listed_unlined TwiceNamed _ (repeated_lines [] (declared_names s.declarations)) (declarations_repeated s.declarations))
+    (both_unlined _ _ _ _ (listed_unlined TooMany _ (line_past_limit most_variables (declared_names s.declarations)) (declarations_past s.declarations))
+    (both_unlined _ _ _ _ (listed_unlined TwiceNamed _ (repeated_lines [] (declared_states s.states)) (states_repeated s.states))
+    (both_unlined _ _ _ _ (listed_unlined TooMany _ (line_past_limit most_states (declared_states s.states)) (states_past s.states))
+    (both_unlined _ _ _ _
+    (same_unlined _ (not (nat_lt (place_or_end (state_names s.states) s.reset) (length s.states))) UnknownState s.reset_line (reset_unknown s))
     (ap₂ (λ (vs : List VarInfo) (ns : List (List ℕ)). flat_map (state_faults vs ns) (map state_at_line_0 s.states)) (variables_stay s.declarations)
     (names_stay s.states)
     ∙ states_unlined (variables_of s.declarations) (state_names s.states) s.states)))))

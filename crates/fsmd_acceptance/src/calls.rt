@@ -8,7 +8,7 @@ use fs_model::parts::VarId;
 use fs_runs::inputs::{Inputs, start};
 use fs_runs::store::Store;
 use fs_runs::values::Value;
-use fs_text_machines::reading::machine;
+use fs_sample_machines::reading::machine;
 use std::alloc::Global;
 use std::test::Fail;
 

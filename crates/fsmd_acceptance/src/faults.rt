@@ -1,7 +1,7 @@
 //! Faults of texts: each kind, with its line and its column.
 
 use crate::asked::{each_pair, each_row};
-use fsmd_cases::answers::{Held, answers};
+use fsmd_test_tables::answers::{Held, answers};
 use std::alloc::AllocError;
 use std::test::Fail;
 

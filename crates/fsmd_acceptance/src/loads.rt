@@ -3,7 +3,7 @@
 use fs_base::memory::MemFiles;
 use fs_base::outside::Files;
 use fs_base::sinks::MemSink;
-use fsmd_cases::answers::words_of;
+use fsmd_test_tables::answers::words_of;
 use fsmd_tool::answer::Status;
 use fsmd_tool::drive::drive;
 use std::alloc::{AllocError, Global};

@@ -2,7 +2,7 @@
 //! return to the reset state. A path goes by one branch of a point's state, and on to the next point.
 
 use crate::asked::{cuts, each_row};
-use fsmd_cases::machines::{
+use fsmd_test_tables::machines::{
     COMMON_DIVISOR, COMMON_DIVISOR_SCHEDULE, EMITS_IN_TURN, LOOP_TESTED_AT_THE_BOTTOM,
     MAY_NEVER_END, NOTHING_TO_DO, SOLVER, SOLVER_SCHEDULE, SQUARE_OF_A_SUM, SUM_BEHIND_A_TEST,
 };

@@ -1,7 +1,7 @@
 //! Ports: what is read, checked, written, run and replayed of machines that emit numbers.
 
 use crate::asked::{each_pair, each_row, replays, runs};
-use fsmd_cases::machines::{EMITS_AT_ONCE, EMITS_EXCHANGED, EMITS_IN_TURN, TRACE_OF_A_LOOP};
+use fsmd_test_tables::machines::{EMITS_AT_ONCE, EMITS_EXCHANGED, EMITS_IN_TURN, TRACE_OF_A_LOOP};
 use std::alloc::AllocError;
 
 const BEHIND: &str = r"check a.fsmd b.fsmd¦{1}▸{2}¦{machine}¦¦bad input: a.fsmd:▸: {A}\n";

@@ -2,7 +2,7 @@
 //! limits, and what is wrong in a file of inputs.
 
 use crate::asked::{each_row, replays, runs};
-use fsmd_cases::machines::{
+use fsmd_test_tables::machines::{
     ENDS_AT_ONCE, LARGE_PRODUCT, MAY_NEVER_END, NOTHING_TO_DO, SOLVER, SOLVER_SCHEDULE,
     SQUARE_OF_A_SUM, SUM_OF_SQUARES,
 };

@@ -1,7 +1,7 @@
 //! What `shrink` puts: a smaller counterexample, or what `replay` puts of inputs that show no difference.
 
 use crate::asked::{each_row, shrinks};
-use fsmd_cases::machines::{
+use fsmd_test_tables::machines::{
     ENDS_AT_ONCE, LARGE_PRODUCT, MAY_NEVER_END, SQUARE_MULTIPLIED_OUT, SQUARE_OF_A_SUM,
     SUM_OF_SQUARES,
 };

@@ -1,8 +1,8 @@
 //! Programs that are compiled, and machines that are scheduled and bound.
 
 use crate::asked::{each_case, each_row, runs, schedules};
-use fsmd_cases::case::of_pair;
-use fsmd_cases::machines::SOLVER;
+use fsmd_test_tables::case::of_pair;
+use fsmd_test_tables::machines::SOLVER;
 use std::alloc::AllocError;
 
 const LOOP: &str = "prog; input a, n; output y; local i; { while i < n { y = y + a; i = i + 1; } }";

@@ -1,8 +1,8 @@
-//! Assertions of certificates: `fsmd_cases` says how a table is written.
+//! Assertions of certificates: `fsmd_test_tables` says how a table is written.
 
 use crate::worked::{SQUARE, SUM_PAST_A_TEST};
-use fsmd_cases::case::{Case, broken_row, case_of, of_pair};
-use fsmd_cases::machines::{
+use fsmd_test_tables::case::{Case, broken_row, case_of, of_pair};
+use fsmd_test_tables::machines::{
     SQUARE_MULTIPLIED_OUT, SQUARE_OF_A_SUM, SUM_BEFORE_A_TEST, SUM_BEHIND_A_TEST,
 };
 use std::alloc::{AllocError, Global};
@@ -75,7 +75,7 @@ pub fn holds<'a>(
 
 /// Asserts what `verify` puts of a certificate that is damaged in one place: a row has a piece of the certificate, what
 /// stands in its place where it first stands, and the reply.
-pub fn damaged(
+pub fn check_damaged(
     rt: &impl Abort,
     alloc: Global,
     left: &str,
@@ -94,7 +94,7 @@ pub fn damaged(
 
 /// The same of the certificate of a sum that was moved past a test.
 pub fn damaged_sum(rt: &impl Abort, alloc: Global, rows: &str) -> Result<(), AllocError> {
-    damaged(
+    check_damaged(
         rt,
         alloc,
         SUM_BEFORE_A_TEST,
@@ -106,7 +106,7 @@ pub fn damaged_sum(rt: &impl Abort, alloc: Global, rows: &str) -> Result<(), All
 
 /// The same of the certificate of the square of a sum.
 pub fn damaged_square(rt: &impl Abort, alloc: Global, rows: &str) -> Result<(), AllocError> {
-    damaged(
+    check_damaged(
         rt,
         alloc,
         SQUARE_OF_A_SUM,

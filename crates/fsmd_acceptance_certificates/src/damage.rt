@@ -1,8 +1,8 @@
 //! A certificate cut short at each byte, and damaged in each of its strings.
 
 use crate::worked::SUM_PAST_A_TEST;
-use fsmd_cases::answers::{Held, answers, end_of, pair_with};
-use fsmd_cases::machines::{SUM_BEFORE_A_TEST, SUM_BEHIND_A_TEST};
+use fsmd_test_tables::answers::{Held, answers, end_of, pair_with};
+use fsmd_test_tables::machines::{SUM_BEFORE_A_TEST, SUM_BEHIND_A_TEST};
 use std::alloc::{AllocError, Global};
 use std::process::Abort;
 

@@ -4,8 +4,8 @@ use crate::worked::SUM_PAST_A_TEST;
 use fs_base::memory::MemFiles;
 use fs_base::outside::Files;
 use fs_base::sinks::MemSink;
-use fsmd_cases::answers::words_of;
-use fsmd_cases::machines::{
+use fsmd_test_tables::answers::words_of;
+use fsmd_test_tables::machines::{
     SQUARE_MULTIPLIED_OUT, SQUARE_OF_A_SUM, SUM_BEFORE_A_TEST, SUM_BEHIND_A_TEST,
 };
 use fsmd_tool::answer::Status;

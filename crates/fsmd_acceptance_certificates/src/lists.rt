@@ -1,8 +1,8 @@
 //! Certificates of machines that emit, and the two formats.
 
-use crate::asked::{damaged, each_row, verifies};
+use crate::asked::{check_damaged, each_row, verifies};
 use crate::worked::{EMITS, TRACE};
-use fsmd_cases::machines::{
+use fsmd_test_tables::machines::{
     EMITS_AT_ONCE, EMITS_IN_TURN, TRACE_OF_A_LOOP, TRACE_OF_A_LOOP_SCHEDULE,
 };
 use std::alloc::AllocError;
@@ -21,7 +21,7 @@ const EMITTED: &str = r#""R.p":"L.p"¦"R.p":"none{L.a}{L.b}","L.p":"none{L.a}{L.
 
 #[test]
 fn lists_of_numbers(rt: HostRuntime) -> Result<(), AllocError> {
-    damaged(
+    check_damaged(
         &rt,
         rt.alloc(),
         EMITS_IN_TURN,
@@ -38,7 +38,7 @@ const TRACED: &str = r#""L.i <= 0"¦"L.i <= 1"¦yes
 
 #[test]
 fn a_trace_of_a_loop(rt: HostRuntime) -> Result<(), AllocError> {
-    damaged(
+    check_damaged(
         &rt,
         rt.alloc(),
         TRACE_OF_A_LOOP,

@@ -1,8 +1,8 @@
 //! Ranks: they fall where one machine moves alone, so that it does not do so for ever.
 
-use crate::asked::damaged;
+use crate::asked::check_damaged;
 use crate::worked::{LEFT_ALONE, NEVER_ENDING, RIGHT_ALONE};
-use fsmd_cases::machines::{COPIES, ENDS_AT_ONCE, MAY_NEVER_END, TESTS_AND_COPIES};
+use fsmd_test_tables::machines::{COPIES, ENDS_AT_ONCE, MAY_NEVER_END, TESTS_AND_COPIES};
 use std::alloc::AllocError;
 
 const CYCLE: &str = r#""format":1¦"format":1¦no: obligation 5, rank
@@ -13,7 +13,7 @@ const CYCLE: &str = r#""format":1¦"format":1¦no: obligation 5, rank
 // A cycle has no ranks that fall.
 #[test]
 fn a_cycle_of_one_machine(rt: HostRuntime) -> Result<(), AllocError> {
-    damaged(
+    check_damaged(
         &rt,
         rt.alloc(),
         MAY_NEVER_END,
@@ -35,7 +35,7 @@ const LEFT_RANKS: &str = r#""format":1¦"format":1¦yes
 
 #[test]
 fn ranks_of_the_left(rt: HostRuntime) -> Result<(), AllocError> {
-    damaged(
+    check_damaged(
         &rt,
         rt.alloc(),
         TESTS_AND_COPIES,
@@ -53,7 +53,7 @@ const RIGHT_RANKS: &str = r#""format":1¦"format":1¦yes
 
 #[test]
 fn ranks_of_the_right(rt: HostRuntime) -> Result<(), AllocError> {
-    damaged(
+    check_damaged(
         &rt,
         rt.alloc(),
         COPIES,

@@ -4,8 +4,8 @@ use crate::asked::{each_row, stores};
 use crate::worked::{
     LEFT_ALONE, LOOP_TURNED_ROUND, RIGHT_ALONE, SUM_OUT_OF_A_LOOP, SUM_PAST_A_TEST, TRACE,
 };
-use fsmd_cases::answers::{answers, end_of, pair_with};
-use fsmd_cases::machines::{
+use fsmd_test_tables::answers::{answers, end_of, pair_with};
+use fsmd_test_tables::machines::{
     COMMON_DIVISOR, COMMON_DIVISOR_SCHEDULE, COPIES, EMITS_AT_ONCE, EMITS_IN_TURN,
     LOOP_TESTED_AT_THE_BOTTOM, LOOP_TESTED_AT_THE_TOP, MAY_NEVER_END, SOLVER, SOLVER_SCHEDULE,
     SUM_BEFORE_A_LOOP, SUM_BEFORE_A_TEST, SUM_BEHIND_A_TEST, SUM_IN_A_LOOP, TESTS_AND_COPIES,

@@ -1,7 +1,7 @@
 //! Obligations at which an operation goes past a limit of terms.
 
 use crate::asked::{each_row, verifies};
-use fsmd_cases::machines::{GROWING_TERM, LARGE_PRODUCT};
+use fsmd_test_tables::machines::{GROWING_TERM, LARGE_PRODUCT};
 use std::alloc::AllocError;
 
 const WIDE: &str =

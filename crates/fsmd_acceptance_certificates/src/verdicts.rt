@@ -1,8 +1,8 @@
 //! What `verify` answers of certificates that are read: `yes`, or the first obligation that does not hold, and why.
 
-use crate::asked::{damaged, damaged_square, damaged_sum, holds, verifies};
+use crate::asked::{check_damaged, damaged_square, damaged_sum, holds, verifies};
 use crate::worked::{EMITS, LOOP_TURNED_ROUND, SQUARE, SUM_OUT_OF_A_LOOP, SUM_PAST_A_TEST, TRACE};
-use fsmd_cases::machines::{
+use fsmd_test_tables::machines::{
     EMITS_AT_ONCE, EMITS_IN_TURN, LOOP_TESTED_AT_THE_BOTTOM, LOOP_TESTED_AT_THE_TOP,
     SQUARE_MULTIPLIED_OUT, SQUARE_OF_A_SUM, SUM_BEFORE_A_LOOP, SUM_BEFORE_A_TEST,
     SUM_BEHIND_A_TEST, SUM_IN_A_LOOP, TRACE_OF_A_LOOP, TRACE_OF_A_LOOP_SCHEDULE,
@@ -150,7 +150,7 @@ const LOOPS: &str = r#""L.i <= 0"¦"L.i <= 5"¦yes
 
 #[test]
 fn a_sum_out_of_a_loop(rt: HostRuntime) -> Result<(), AllocError> {
-    damaged(
+    check_damaged(
         &rt,
         rt.alloc(),
         SUM_IN_A_LOOP,

@@ -1,8 +1,8 @@
 //! The same certificate written in other ways, with white space and other orders, and with nodes that are not needed.
 
-use crate::asked::{damaged, verifies};
+use crate::asked::{check_damaged, verifies};
 use crate::worked::SQUARE;
-use fsmd_cases::machines::{SQUARE_MULTIPLIED_OUT, SQUARE_OF_A_SUM};
+use fsmd_test_tables::machines::{SQUARE_MULTIPLIED_OUT, SQUARE_OF_A_SUM};
 use std::alloc::AllocError;
 
 // With white space; with the keys the other way round; with the nodes the other way round; with a node more.
@@ -41,7 +41,7 @@ const PIECES: &str = r#"{"format"¦\r\n\t {\r\n\t "format"¦yes
 // Of equal keys the last counts, and a string is what its escapes spell.
 #[test]
 fn pieces(rt: HostRuntime) -> Result<(), AllocError> {
-    damaged(
+    check_damaged(
         &rt,
         rt.alloc(),
         SQUARE_OF_A_SUM,

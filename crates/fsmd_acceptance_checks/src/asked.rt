@@ -1,6 +1,6 @@
-//! Assertions of checked pairs: `fsmd_cases` says how a table is written.
+//! Assertions of checked pairs: `fsmd_test_tables` says how a table is written.
 
-use fsmd_cases::case::{Case, broken_row, case_of, of_pair};
+use fsmd_test_tables::case::{Case, broken_row, case_of, of_pair};
 use std::alloc::{AllocError, Global};
 use std::process::Abort;
 

@@ -1,7 +1,7 @@
 //! Counterexamples of `check`: the first candidate from which both machines end with other outputs.
 
 use crate::asked::{checks, checks_within, each_row};
-use fsmd_cases::machines::{
+use fsmd_test_tables::machines::{
     CHANGING_SUM_BEFORE_A_LOOP, CHANGING_SUM_IN_A_LOOP, DIFFERENCE_BEHIND_A_TEST, SQUARE_OF_A_SUM,
     SUM_BEFORE_A_TEST, SUM_OF_SQUARES,
 };

@@ -1,7 +1,7 @@
 //! Ports in `check`: the lists of numbers that machines emit are outputs.
 
 use crate::asked::{checks, each_row};
-use fsmd_cases::machines::{
+use fsmd_test_tables::machines::{
     EMITS_AT_ONCE, EMITS_EXCHANGED, EMITS_IN_TURN, TRACE_OF_A_LOOP, TRACE_OF_A_LOOP_SCHEDULE,
 };
 use std::alloc::AllocError;

@@ -1,7 +1,7 @@
 //! What `check` names where it neither finds the same behaviour nor a candidate that shows a difference.
 
 use crate::asked::{checks, each_row};
-use fsmd_cases::machines::{ENDS_AT_ONCE, GROWING_TERM, LARGE_PRODUCT, MAY_NEVER_END};
+use fsmd_test_tables::machines::{ENDS_AT_ONCE, GROWING_TERM, LARGE_PRODUCT, MAY_NEVER_END};
 use std::alloc::AllocError;
 
 const COMPARED: &str =

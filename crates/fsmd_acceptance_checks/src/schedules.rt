@@ -1,7 +1,7 @@
 //! Machines that `check` finds to have the same behaviour, and the number of nodes of the table that shows it.
 
 use crate::asked::{checks, each_pair, each_row};
-use fsmd_cases::machines::{
+use fsmd_test_tables::machines::{
     COMMON_DIVISOR, COMMON_DIVISOR_SCHEDULE, LOOP_TESTED_AT_THE_BOTTOM, LOOP_TESTED_AT_THE_TOP,
     MAY_NEVER_END, NOTHING_TO_DO, SOLVER, SOLVER_SCHEDULE, SQUARE_MULTIPLIED_OUT, SQUARE_OF_A_SUM,
     SUM_BEFORE_A_LOOP, SUM_BEFORE_A_TEST, SUM_BEHIND_A_TEST, SUM_IN_A_LOOP,

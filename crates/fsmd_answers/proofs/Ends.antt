@@ -7,10 +7,10 @@ use Rattle.fs_model.specs.Machines.{Fsmd}
 use Rattle.fs_model.specs.Runs.{Inputs}
 use Rattle.fs_runs.specs.declared.run.RunStop.{RunStop}
 use Rattle.fs_runs.specs.Outcomes.{output_names, EndsWith, IsStopped}
-use Rattle.fs_show.specs.declared.ends.Side.TheVariants.{Only, Left, Right}
-use Rattle.fs_show.specs.ItemTexts.{SameOutputs}
+use Rattle.fs_run_text.specs.declared.ends.Side.TheVariants.{Only, Left, Right}
+use Rattle.fs_run_text.specs.ItemTexts.{SameOutputs}
 use Rattle.fs_runs.specs.Outcomes.{Outputs}
-use Rattle.fs_show.specs.EndTexts.{IsEndText, IsReplayText}
+use Rattle.fs_run_text.specs.EndTexts.{IsEndText, IsReplayText}
 use Rattle.fsmd_replies.specs.declared.answer.Answer.{Answer}
 use Rattle.fsmd_replies.specs.declared.answer.Answer.TheVariants.{Text, Differs}
 use Rattle.fsmd_answers.specs.RunAnswers.{IsOfStop, IsOfRun, Ended, Stopped}

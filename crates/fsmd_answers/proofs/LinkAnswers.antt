@@ -4,12 +4,12 @@ use Rattle.fsmd_words.specs.AskedWords.{Asked}
 use Rattle.fs_model.specs.Machines.{Fsmd}
 use Rattle.cert_bisimulation.specs.Tables.{Node}
 use Rattle.sym_facts.specs.Facts.{Fact}
-use Rattle.cert_model.specs.Obligations.{Verdict, Yes}
+use Rattle.cert_model.specs.Obligations.{Verdict, Yes, verdict_on}
 use Rattle.fsmd_replies.specs.declared.answer.Answer.{Answer}
 use Rattle.fsmd_answers.specs.declared.refused.Refused.{Refused as Refusal}
 use Rattle.fsmd_answers.specs.declared.refused.Refused.TheVariants.{Answered, NoMemory}
 use Rattle.fsmd_answers.specs.Refusing.{WhereAnswered}
-use Rattle.fsmd_answers.specs.Verdicts.{verdict_on, answer_to, IsJudged}
+use Rattle.fsmd_answers.specs.Verdicts.{answer_to, IsJudged}
 use Rattle.fsmd_answers.specs.Links.{AtLink}
 
 -- what the answer of a refusal meets, that of the link meets as told

@@ -7,8 +7,8 @@ use Rattle.fs_runs.specs.declared.run.Ended.{Ended}
 use Rattle.fs_runs.specs.InputValues.{inputs_of, signatures_of, input_signatures}
 use Rattle.fs_runs.specs.Outcomes.{output_names, told_by}
 use Rattle.fs_model.specs.Runs.{Inputs}
-use Rattle.fs_show.specs.ItemTexts.{input_names}
-use Rattle.fs_show.specs.EndTexts.{IsCounterexampleText}
+use Rattle.fs_run_text.specs.ItemTexts.{input_names}
+use Rattle.fs_run_text.specs.EndTexts.{IsCounterexampleText}
 use Rattle.fs_trials.specs.Candidates.{inputs_told}
 use Rattle.fs_trials.specs.Differences.{ShowsDifference, AreApart}
 use Rattle.fs_trials.proofs.Apart.{apart_shows}

@@ -8,7 +8,7 @@ use Rattle.fs_model.specs.Source.{Source}
 use Rattle.fs_rules.specs.MachineOfParts.{machine_of}
 use Rattle.fs_pair.specs.Interfaces.{interface_fault}
 use Rattle.cert_bisimulation.specs.Tables.{Node}
-use Rattle.cert_model.specs.Obligations.{Yes}
+use Rattle.cert_model.specs.Obligations.{Yes, verdict_on}
 use Rattle.sym_facts.specs.Facts.{Fact}
 use Rattle.hls_program_laws.specs.Programs.{Program}
 use Rattle.hls_unit_counts.specs.Counts.{Units}
@@ -26,8 +26,8 @@ use Rattle.fsmd_answers.specs.InputFiles.{RefusesInputs, SpellsInputs}
 use Rattle.fsmd_answers.specs.ProgramFiles.{RefusesProgram, SpellsProgram, IsOfProgram}
 use Rattle.fsmd_answers.specs.ScheduleFiles.{RefusesUnits, SpellUnits, IsOfSchedule}
 use Rattle.fsmd_answers.specs.BindingFiles.{RefusesBinding, SpellsBinding, IsOfBinding}
-use Rattle.fsmd_answers.specs.MachinePairAnswers.{IsOfPair, IsOfLoops}
-use Rattle.fsmd_answers.specs.Verdicts.{IsJudged, verdict_on}
+use Rattle.fsmd_answers.specs.ComparisonAnswers.{IsOfPair, IsOfLoops}
+use Rattle.fsmd_answers.specs.Verdicts.{IsJudged}
 use Rattle.fsmd_answers.specs.RunAnswers.{IsOfRun}
 use Rattle.fsmd_answers.specs.Replays.{IsOfReplay}
 use Rattle.fsmd_answers.specs.Shrinks.{IsOfShrink}
@@ -83,7 +83,7 @@ OpensBinding m P file r answer = Opens Binding (RefusesBinding m) (SpellsBinding
 pub data ComparesPairs (a b : Fsmd) (R : Answer → Type 0) (P : (file : ℕ) → Reading → Answer → Type 0)
     (file : ℕ) (r : Reading) (answer : Answer) : Type 0 where
   Other : R answer → r ≡ [] → ComparesPairs a b R P file r answer
-  Alike : interface_fault a b ≡ None → P file r answer → ComparesPairs a b R P file r answer
+  SameInterface : interface_fault a b ≡ None → P file r answer → ComparesPairs a b R P file r answer
 
 -- the next two files are those of machines with the same inputs and outputs
 abbrev pub OpensPair : (P : (a b : Fsmd) → (file : ℕ) → Reading → Answer → Type 0) → (file : ℕ) → Reading → Answer → Type 0

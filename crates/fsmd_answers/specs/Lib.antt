@@ -6,7 +6,7 @@ pub mod JsonKeys
 pub mod InputFiles
 pub mod Refusals
 pub mod Refusing
-pub mod MachinePairAnswers
+pub mod ComparisonAnswers
 pub mod Verdicts
 pub mod RunAnswers
 pub mod Replays

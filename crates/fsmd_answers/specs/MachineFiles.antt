@@ -6,8 +6,8 @@ use Rattle.fs_model.specs.Limits.{most_text_bytes}
 use Rattle.fs_grammar.specs.declared.fault.TextFault.{TextFault}
 use Rattle.fs_text_laws.specs.MachineTexts.{TextSpells, TextStops}
 use Rattle.fs_rules.specs.declared.check.CheckFault.{CheckFault}
-use Rattle.fs_ast.specs.BuiltMachine.{machine_of}
-use Rattle.fs_ast.specs.MachineRules.{BreaksNoRule, IsFirstBroken}
+use Rattle.fs_rules.specs.MachineOfParts.{machine_of}
+use Rattle.fs_rules.specs.Rules.{BreaksNoRule, IsFirstBroken}
 
 -- there are more bytes than are read
 abbrev pub IsTooLong : (limit : ℕ) → List ℕ → Type 0

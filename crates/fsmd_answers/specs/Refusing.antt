@@ -1,8 +1,8 @@
 -- What the bytes of a file give, or why no answer was found.
 use Rattle.std.specs.Prelude.{◌≡◌, ℕ, List}
+use Rattle.fs_rules.specs.MachineOfParts.{machine_of}
 use Rattle.fs_model.specs.Source.{Source}
 use Rattle.fs_model.specs.Machines.{Fsmd}
-use Rattle.fs_ast.specs.BuiltMachine.{machine_of}
 use Rattle.fsmd_replies.specs.declared.answer.Answer.{Answer}
 use Rattle.fsmd_answers.specs.declared.refused.Refused.{Refused as Refusal}
 use Rattle.fsmd_answers.specs.declared.refused.Refused.TheVariants.{Answered, NoMemory}

@@ -4,9 +4,9 @@ use Rattle.fs_model.specs.Machines.{Fsmd}
 use Rattle.fs_model.specs.Runs.{Inputs}
 use Rattle.fs_runs.specs.declared.run.RunStop.{RunStop}
 use Rattle.fs_runs.specs.Outcomes.{Outputs, output_names, EndsWith, IsStopped}
-use Rattle.fs_show.specs.declared.ends.Side.{Side}
-use Rattle.fs_show.specs.declared.ends.Side.TheVariants.{Only}
-use Rattle.fs_show.specs.EndTexts.{IsEndText, IsStopText}
+use Rattle.fs_run_text.specs.declared.ends.Side.{Side}
+use Rattle.fs_run_text.specs.declared.ends.Side.TheVariants.{Only}
+use Rattle.fs_run_text.specs.EndTexts.{IsEndText, IsStopText}
 use Rattle.fsmd_replies.specs.declared.answer.Answer.{Answer}
 use Rattle.fsmd_replies.specs.declared.answer.Answer.TheVariants.{Text, Undecided}
 use Rattle.fsmd_answers.specs.LineAnswers.{HasLines}

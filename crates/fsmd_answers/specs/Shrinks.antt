@@ -3,8 +3,8 @@ use Rattle.std.specs.Prelude.{ℕ, List}
 use Rattle.fs_model.specs.Machines.{Fsmd}
 use Rattle.fs_model.specs.Runs.{Inputs, Content}
 use Rattle.fs_runs.specs.Outcomes.{output_names}
-use Rattle.fs_show.specs.ItemTexts.{input_names}
-use Rattle.fs_show.specs.EndTexts.{IsCounterexampleText}
+use Rattle.fs_run_text.specs.ItemTexts.{input_names}
+use Rattle.fs_run_text.specs.EndTexts.{IsCounterexampleText}
 use Rattle.fs_trials.specs.Differences.{ShowsDifference}
 use Rattle.hls_shrink.specs.Shrunk.{ShowDifference, EndsIn}
 use Rattle.hls_shrink.specs.Given.{given_contents}

@@ -2,11 +2,9 @@
 use Rattle.std.specs.Prelude.{◌≡◌, List, ◌++◌, codes, decimal}
 use Rattle.fs_model.specs.Machines.{Fsmd}
 use Rattle.fs_model.specs.Runs.{SameBehaviour}
-use Rattle.fs_pair.specs.Positions.{positions}
 use Rattle.cert_bisimulation.specs.Tables.{Node}
 use Rattle.sym_facts.specs.Facts.{Fact}
-use Rattle.sym_facts.specs.Starts.{start_fact}
-use Rattle.cert_model.specs.Obligations.{Verdict, Yes, No, IsWide, IsLarge, verdict}
+use Rattle.cert_model.specs.Obligations.{Verdict, Yes, No, IsWide, IsLarge, verdict_on}
 use Rattle.fsmd_replies.specs.declared.answer.Answer.{Answer}
 use Rattle.fsmd_replies.specs.declared.answer.Answer.TheVariants.{Text, Differs, Undecided}
 use Rattle.fsmd_replies.specs.Reasons.{reason_text}
@@ -17,10 +15,6 @@ answer_to a b Yes = Text (codes "yes\n")
 answer_to a b (No k r) = Differs (codes "no: obligation " ++ (decimal k ++ (codes ", " ++ (reason_text a b r ++ codes "\n"))))
 answer_to a b (IsWide k) = Undecided (codes "undecided: obligation " ++ (decimal k ++ codes ", wide\n"))
 answer_to a b (IsLarge k) = Undecided (codes "undecided: obligation " ++ (decimal k ++ codes ", large\n"))
-
--- the verdict on nodes as a certificate of two machines
-abbrev pub verdict_on : (a b : Fsmd) → List (Node Fact) → Verdict
-verdict_on a b nodes = verdict a b (start_fact (positions a b)) nodes
 
 -- the answer to nodes as a certificate of two machines: by the verdict; where that is yes, the machines have the same behaviour
 pub record IsJudged (a b : Fsmd) (nodes : List (Node Fact)) (answer : Answer) : Type 0 where

@@ -6,7 +6,7 @@ ghost use Rattle.fs_pair.specs.Positions.{positions};
 ghost use Rattle.cert_model.specs.Lawful.{IsLawful};
 ghost use Rattle.cert_model.specs.View.{node_of};
 ghost use Rattle.cert_writer.specs.WrittenCertificates.{certificate_text};
-ghost use Rattle.fsmd_answers.specs.MachinePairAnswers.{AreSame, IsOfPair, kept};
+ghost use Rattle.fsmd_answers.specs.ComparisonAnswers.{AreSame, IsOfPair, text_to_store};
 
 use cert_model::cert::Cert;
 use cert_writer::writer::write_cert;
@@ -28,7 +28,7 @@ fn kept_text(
 ) -> Result<Option<Lines>, AllocError>
     requires paired { p.now ≡ positions a.now b.now }
     requires lawful { IsLawful a.now b.now (map node_of cert.now.nodes.items) }
-    ensures { IfOk result (λ text. text ≡ kept keeps (certificate_text a.now b.now (map node_of cert.now.nodes.items))) }
+    ensures { IfOk result (λ text. text ≡ text_to_store keeps (certificate_text a.now b.now (map node_of cert.now.nodes.items))) }
 {
     if !keeps {
         return Ok(None);

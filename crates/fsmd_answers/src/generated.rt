@@ -1,7 +1,7 @@
 //! Compares generated machines.
 
 ghost use Rattle.std.specs.Prelude.{◌≤◌, IfOk};
-ghost use Rattle.fsmd_answers.specs.MachinePairAnswers.{IsOfLoops};
+ghost use Rattle.fsmd_answers.specs.ComparisonAnswers.{IsOfLoops};
 
 use crate::compare::compare;
 use fs_generated::generate::generate;

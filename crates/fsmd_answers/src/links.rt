@@ -2,17 +2,17 @@
 
 ghost use Rattle.std.specs.Prelude.{◌≡◌, ◌≢◌, IfOk, None, Some, map};
 ghost use Rattle.std.specs.Result.{OnOk, IfErr};
-ghost use Rattle.fsmd_words.specs.AskedWords.{asked};
+ghost use Rattle.fsmd_words.specs.AskedWords.{asked_of_ask};
 ghost use Rattle.fs_pair.specs.Interfaces.{interface_fault};
 ghost use Rattle.fs_pair.specs.Positions.{positions};
 ghost use Rattle.cert_model.specs.Lawful.{IsLawful};
-ghost use Rattle.cert_model.specs.Obligations.{Yes};
+ghost use Rattle.cert_model.specs.Obligations.{Yes, verdict_on};
 ghost use Rattle.cert_model.specs.View.{node_of};
 ghost use Rattle.cert_check.specs.View.{verdict_in};
 ghost use Rattle.fsmd_replies.specs.declared.answer.Answer.TheVariants.{Link};
 ghost use Rattle.fsmd_answers.specs.declared.refused.Refused.TheVariants.{Answered};
 ghost use Rattle.fsmd_replies.specs.Statuses.{status_of};
-ghost use Rattle.fsmd_answers.specs.Verdicts.{verdict_on, answer_to, IsJudged};
+ghost use Rattle.fsmd_answers.specs.Verdicts.{answer_to, IsJudged};
 ghost use Rattle.fsmd_answers.specs.Links.{link_lines, AtLink, IsOfChain};
 ghost use Rattle.fsmd_answers.specs.Refusing.{WhereAnswered};
 
@@ -30,7 +30,8 @@ use std::alloc::{AllocError, Global};
 
 // An answer, told as that of the link of this number, from 1.
 fn told_at(alloc: Global, ask: &Ask, link: u32, stop: &Answer) -> Result<Answer, AllocError>
-    ensures { IfOk result (λ answer. answer ≡ Link (status_of stop.now) (link_lines (Some (asked ask.now)) link stop.now)) }
+    ensures { IfOk result
+        (λ answer. answer ≡ Link (status_of stop.now) (link_lines (Some (asked_of_ask ask.now)) link stop.now)) }
 {
     let mut bytes = format!(in alloc; "link {link}: ")?.into_bytes();
     let mut stop_lines = lines(alloc, stop, ask)?;
@@ -43,7 +44,7 @@ fn told_at(alloc: Global, ask: &Ask, link: u32, stop: &Answer) -> Result<Answer,
 
 /// A refusal, told as that of the link of this number, from 1: its lines behind `link K: `, with its status.
 pub fn at_link(alloc: Global, ask: &Ask, link: u32, refused: Refused) -> Refused
-    ensures { WhereAnswered (AtLink (Some (asked ask.now)) link (λ stop. refused ≡ Answered stop)) result }
+    ensures { WhereAnswered (AtLink (Some (asked_of_ask ask.now)) link (λ stop. refused ≡ Answered stop)) result }
 {
     match refused {
         Refused::Answered(stop) => match told_at(alloc, ask, link, &stop) {
@@ -75,7 +76,8 @@ fn verdict_at(
     verdict: Verdict,
 ) -> Result<Answer, AllocError>
     requires { pairing.now ≡ positions last.now next.now }
-    ensures { IfOk result (AtLink (Some (asked ask.now)) link (λ stop. stop ≡ answer_to last.now next.now (verdict_in verdict))) }
+    ensures { IfOk result
+        (AtLink (Some (asked_of_ask ask.now)) link (λ stop. stop ≡ answer_to last.now next.now (verdict_in verdict))) }
 {
     let stop = answer_to(alloc, last, next, pairing, verdict)?;
     told_at(alloc, ask, link, &stop)
@@ -100,7 +102,7 @@ pub fn add_link(
     ensures holds { OnOk result (verdict_on chain.last next (map node_of cert.now.nodes.items) ≡ Yes) }
     ensures fails { IfErr result (WhereAnswered (λ answer.
         (verdict_on chain.last next (map node_of cert.now.nodes.items) ≢ Yes)
-        × AtLink (Some (asked ask.now)) link (IsJudged chain.last next (map node_of cert.now.nodes.items)) answer)) }
+        × AtLink (Some (asked_of_ask ask.now)) link (IsJudged chain.last next (map node_of cert.now.nodes.items)) answer)) }
 {
     let last = copied(alloc, chain.last())?;
     let copy = copied(alloc, &next)?;

@@ -8,10 +8,10 @@ ghost use Rattle.fsmd_answers.specs.Replays.{IsOfReplay};
 ghost use Rattle.fsmd_replies.specs.declared.answer.Answer.TheVariants.{Text, Differs};
 
 use fs_ast::machine::Machine;
+use fs_run_text::ends::{Side, end_text, stop_text};
+use fs_run_text::replay::{Replay, replay_text};
 use fs_runs::inputs::Inputs;
 use fs_runs::run::{RunStop, run};
-use fs_show::ends::{Side, end_text, stop_text};
-use fs_show::replay::{Replay, replay_text};
 use fsmd_replies::answer::{Answer, Lines};
 use std::alloc::{AllocError, Global};
 

@@ -1,15 +1,15 @@
 -- Counterexamples: machines with the same behaviour have none, and others at most one.
 use Rattle.std.proofs.Common.{◌≡◌, ℕ, ◌<◌, List, sym, ◌∙◌, ap, subst, arith}
+use Rattle.fs_rules.specs.SoundParts.{IsSound}
 use Rattle.fs_model.specs.Machines.{Fsmd}
 use Rattle.fs_model.specs.Runs.{Inputs, Content, SameBehaviour, start, output}
 use Rattle.fs_model.proofs.Determined.{goes_once}
-use Rattle.fs_ast.specs.SoundMachines.{IsSound}
 use Rattle.fs_runs.specs.declared.run.Ended.{Ended}
 use Rattle.fs_runs.specs.Outcomes.{Outputs, output_names, told_by}
 use Rattle.fs_runs.proofs.RunOnce.{one_end}
-use Rattle.fs_show.specs.ItemTexts.{input_names}
-use Rattle.fs_show.specs.EndTexts.{IsCounterexampleText}
-use Rattle.fs_show.proofs.Once.{counterexample_once}
+use Rattle.fs_run_text.specs.ItemTexts.{input_names}
+use Rattle.fs_run_text.specs.EndTexts.{IsCounterexampleText}
+use Rattle.fs_run_text.proofs.Once.{counterexample_once}
 use Rattle.fs_trials.specs.Candidates.{stated_count, stated_contents, stated_inputs}
 use Rattle.fs_trials.specs.Differences.{ShowsDifference, DiffersAt, AreApart}
 use Rattle.fsmd_pair_answers.specs.PairAnswers.{IsCounterexample}

@@ -6,8 +6,8 @@ use Rattle.std.specs.List.{list_all, AllByRecursion}
 use Rattle.std.specs.Option.{option_map}
 use Rattle.base_lemmas.proofs.Booleans.{and_first, and_second}
 use Rattle.base_lemmas.proofs.Quantifiers.{each_weaker}
+use Rattle.fs_rules.specs.SoundParts.{IsSound}
 use Rattle.fs_model.specs.Machines.{Fsmd}
-use Rattle.fs_ast.specs.SoundMachines.{IsSound}
 use Rattle.fs_cut.specs.Paths.{Point, Start, At, Path, is_point, state_of}
 use Rattle.fs_cut.specs.Paths as cut
 use Rattle.fs_cut.specs.Covers.{paths_of, paths_from, cover_of, path_by, same_point}
@@ -18,7 +18,7 @@ use Rattle.nf_terms.specs.Computed.{Computed, Done, Wide, Large}
 use Rattle.fs_model.specs.declared.sides.Side.{Side}
 use Rattle.fs_model.specs.declared.sides.Side.TheVariants as side
 use Rattle.sym_facts.specs.Facts.{Fact}
-use Rattle.propagate.specs.Modes.{Traced, Found, WideAt, LargeAt, followed, on_path, is_open_path, count_open, count_from, mode_of_counts, mode_by}
+use Rattle.propagate.specs.Modes.{Traced, Found, WideAt, LargeAt, traced_then, on_path, is_open_path, count_open, count_from, mode_of_counts, mode_by}
 use Rattle.search_tables.specs.declared.moves.Move.{Move}
 use Rattle.search_tables.specs.SearchTables.{MachinePair, SearchNode, Table, PathPair, MoveEffect, Keeps, Changes, Meets, Exceeds, effect}
 use Rattle.search_tables.specs.Next.{mode_at, paths_in, move_by, path_at, Next, Nothing, Change, Stop, Excess, next_by, first_change_of, next_in, next_at}
@@ -64,7 +64,7 @@ record MetThen {S T : Type 0} (t : Traced S) (next : S → Traced T) (z : Side �
   pub found : t ≡ Found value
   pub later : met (next value) ≡ Some z
 
-met_in : {S T : Type 0} (t : Traced S) (next : S → Traced T) (z : Side × ℕ) → met (followed t next) ≡ Some z → (met t ≡ Some z) ⊎ MetThen t next z
+met_in : {S T : Type 0} (t : Traced S) (next : S → Traced T) (z : Side × ℕ) → met (traced_then t next) ≡ Some z → (met t ≡ Some z) ⊎ MetThen t next z
 met_in (Found x) next z e = inr (record { value = x; found = refl; later = e })
 met_in (WideAt d k left right) next z e = inl e
 met_in (LargeAt d k units depth) next z e = inl e
@@ -117,11 +117,11 @@ module _ (m : MachinePair) (sound_left : IsSound m.left) (sound_right : IsSound 
   rights n = count_from m.right side.Right n.fact (paths_of m.right n.right) 0
 
   abbrev by_counts : SearchNode → Traced Mode
-  by_counts n = followed (lefts n) (λ i. followed (rights n) (λ j. Found (mode_of_counts i j)))
+  by_counts n = traced_then (lefts n) (λ i. traced_then (rights n) (λ j. Found (mode_of_counts i j)))
 
   counts_met : (n : SearchNode) (z : Side × ℕ) → AtPoints n → met (by_counts n) ≡ Some z → OnSide n z.0 z.1
   counts_met n z h e =
-      elim (met_in (lefts n) (λ i. followed (rights n) (λ j. Found (mode_of_counts i j))) z e) as (λ _. OnSide n z.0 z.1) [
+      elim (met_in (lefts n) (λ i. traced_then (rights n) (λ j. Found (mode_of_counts i j))) z e) as (λ _. OnSide n z.0 z.1) [
         | inl here ↦ counting_met (OnSide n) m.left side.Left n.fact (paths_of m.left n.left) 0 z
             (branches m.left sound_left n.left (and_first (is_point m.left n.left) (is_point m.right n.right) h)) here
         | inr then ↦ elim (met_in (rights n) (λ j. Found (mode_of_counts then.value j)) z then.later) as (λ _. OnSide n z.0 z.1) [

@@ -7,9 +7,9 @@ use Rattle.std.specs.List.{AllByRecursion, position_from}
 use Rattle.std.specs.Option.{option_map, option_or}
 use Rattle.std.specs.Str.{bytes_eq}
 use Rattle.base_lemmas.proofs.Quantifiers.{each_weaker}
+use Rattle.fs_rules.specs.SoundParts.{IsSound}
 use Rattle.fs_model.specs.declared.parts.VarInfo.{VarInfo}
 use Rattle.fs_model.specs.Runs.{is_output}
-use Rattle.fs_ast.specs.SoundMachines.{IsSound}
 use Rattle.fs_cut.specs.Paths as cut
 use Rattle.fs_pair.specs.PairedOutputs.{OutputPair, output_pairs}
 use Rattle.nf_terms.specs.declared.form.Nf.{Nf}

@@ -1,8 +1,8 @@
 -- Two machines have one answer.
 use Rattle.std.proofs.Common.{◌≡◌, ◌⊎◌, inl, inr, ℕ, List, None, Some, Option, map, refl, sym, ◌∙◌, ap, ap₂, subst}
 use Rattle.std.proofs.lemmas.Bool.{false≢true}
+use Rattle.fs_rules.specs.SoundParts.{IsSound}
 use Rattle.fs_model.specs.Machines.{Fsmd}
-use Rattle.fs_ast.specs.SoundMachines.{IsSound}
 use Rattle.fs_pair.specs.Interfaces.{interface_fault}
 use Rattle.fs_model.specs.declared.sides.Side.{Side}
 use Rattle.cert_bisimulation.specs.Tables.{Node as CertificateNode}

@@ -10,7 +10,7 @@ use Rattle.search_ranks.specs.Graphs.{AreRanks, above}
 use Rattle.search_tables.specs.SearchTables.{MachinePair, SearchNode, Table}
 use Rattle.search_tables.specs.Next.{mode_at}
 use Rattle.search_tables.specs.LoneMoves.{lone_moves}
-use Rattle.search_tables.specs.Certifying.{table_node, Certifies}
+use Rattle.search_tables.specs.Certifying.{node_without_mode, Certifies}
 
 -- ---- ranks
 past : (xs : List ℕ) (i : ℕ) → length xs ≤ i → slice_index xs i ≡ 0
@@ -58,22 +58,22 @@ abbrev node_by : SearchNode → Mode → ℕ → CertificateNode Fact
 node_by n x r = record { left = n.left; right = n.right; mode = x; rank = r; fact = n.fact }
 
 abbrev ModeIs : MachinePair → CertificateNode Fact → Type 0
-ModeIs m c = mode_at m (table_node c) ≡ Found c.mode
+ModeIs m c = mode_at m (node_without_mode c) ≡ Found c.mode
 
-same_node : (m : MachinePair) (c d : CertificateNode Fact) → table_node c ≡ table_node d → ModeIs m c → ModeIs m d → c.rank ≡ d.rank → c ≡ d
+same_node : (m : MachinePair) (c d : CertificateNode Fact) → node_without_mode c ≡ node_without_mode d → ModeIs m c → ModeIs m d → c.rank ≡ d.rank → c ≡ d
 same_node m c d e p q r =
     let f : Found c.mode ≡ Found d.mode = sym p ∙ ap (mode_at m) e ∙ q in
     let x : c.mode ≡ d.mode = cc f in
-    ap (λ n. node_by n c.mode c.rank) e ∙ ap₂ (λ z k. node_by (table_node d) z k) x r
+    ap (λ n. node_by n c.mode c.rank) e ∙ ap₂ (λ z k. node_by (node_without_mode d) z k) x r
 
-same_nodes : (m : MachinePair) (cs ds : List (CertificateNode Fact)) → map table_node cs ≡ map table_node ds → AllByRecursion (ModeIs m) cs
+same_nodes : (m : MachinePair) (cs ds : List (CertificateNode Fact)) → map node_without_mode cs ≡ map node_without_mode ds → AllByRecursion (ModeIs m) cs
     → AllByRecursion (ModeIs m) ds → map (λ c. c.rank) cs ≡ map (λ c. c.rank) ds → cs ≡ ds
 same_nodes m [] [] e p q r = refl
 same_nodes m [] (d ∷ ds) e p q r = absurd (cc r)
 same_nodes m (c ∷ cs) [] e p q r = absurd (cc r)
 same_nodes m (c ∷ cs) (d ∷ ds) e p q r =
-    let here : table_node c ≡ table_node d = cc e in
-    let rest : map table_node cs ≡ map table_node ds = cc e in
+    let here : node_without_mode c ≡ node_without_mode d = cc e in
+    let rest : map node_without_mode cs ≡ map node_without_mode ds = cc e in
     let rank : c.rank ≡ d.rank = cc r in
     let ranks : map (λ c. c.rank) cs ≡ map (λ c. c.rank) ds = cc r in
     ap₂ (λ z zs. z ∷ zs) (same_node m c d here p.0 q.0 rank) (same_nodes m cs ds rest p.1 q.1 ranks)

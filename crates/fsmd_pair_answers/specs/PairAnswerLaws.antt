@@ -1,9 +1,9 @@
 -- What holds of answers.
 use Rattle.std.specs.Prelude.{◌≡◌, ◌⊎◌, ℕ, ◌-◌, true, false, List, Option, Some, None, length, map, slice_get}
+use Rattle.fs_rules.specs.SoundParts.{IsSound}
 use Rattle.fs_model.specs.declared.parts.VarInfo.{VarInfo}
 use Rattle.fs_model.specs.Machines.{Fsmd}
 use Rattle.fs_model.specs.Runs.{SameBehaviour, is_output}
-use Rattle.fs_ast.specs.SoundMachines.{IsSound}
 use Rattle.fs_cut.specs.Paths.{Point, Path, IsPath}
 use Rattle.fs_cut.specs.Covers.{paths_from, cover_of}
 use Rattle.fs_pair.specs.Interfaces.{interface_fault}

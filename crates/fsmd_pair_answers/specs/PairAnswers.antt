@@ -1,10 +1,10 @@
 -- Which answer two machines get.
 use Rattle.std.specs.Prelude.{◌≡◌, ◌⊎◌, ◌<◌, ℕ, Bool, true, false, IsTrue, List, map}
+use Rattle.fs_rules.specs.SoundParts.{IsSound}
 use Rattle.fs_model.specs.Machines.{Fsmd}
-use Rattle.fs_ast.specs.SoundMachines.{IsSound}
 use Rattle.fs_runs.specs.Outcomes.{output_names}
-use Rattle.fs_show.specs.ItemTexts.{input_names}
-use Rattle.fs_show.specs.EndTexts.{IsCounterexampleText}
+use Rattle.fs_run_text.specs.ItemTexts.{input_names}
+use Rattle.fs_run_text.specs.EndTexts.{IsCounterexampleText}
 use Rattle.fs_trials.specs.Candidates.{stated_count, stated_contents}
 use Rattle.fs_trials.specs.Differences.{DiffersAt}
 use Rattle.cert_bisimulation.specs.Tables.{Node}

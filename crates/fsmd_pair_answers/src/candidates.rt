@@ -5,13 +5,13 @@ ghost use Rattle.fs_pair.specs.Interfaces.{interface_fault};
 ghost use Rattle.fs_runs.specs.Values.{content_of};
 ghost use Rattle.fs_runs.specs.InputValues.{input_values, signatures_of, input_signatures};
 ghost use Rattle.fs_runs.specs.Outcomes.{output_names, told_by, HoldsEach};
-ghost use Rattle.fs_show.specs.ItemTexts.{input_names};
-ghost use Rattle.fs_show.specs.EndTexts.{IsCounterexampleText};
+ghost use Rattle.fs_run_text.specs.ItemTexts.{input_names};
+ghost use Rattle.fs_run_text.specs.EndTexts.{IsCounterexampleText};
 ghost use Rattle.fsmd_pair_answers.specs.PairAnswers.{IsCounterexample, NoneDiffers};
 
 use fs_ast::machine::Machine;
 use fs_pair::positions::Pairing;
-use fs_show::counterexample::counterexample_text;
+use fs_run_text::counterexample::counterexample_text;
 use fs_trials::differences::{Found, first_difference};
 use nf_terms::stop::NoMemory;
 use std::alloc::Global;

@@ -3,4 +3,3 @@ pub mod ObstacleTexts
 pub mod Reasons
 pub mod Replies
 pub mod Statuses
-pub mod Variables

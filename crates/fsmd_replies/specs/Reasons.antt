@@ -1,11 +1,11 @@
 -- Why an obligation fails, in words.
 use Rattle.std.specs.Prelude.{ℕ, List, [], ◌++◌, Option, Some, None, codes, decimal, slice_get}
 use Rattle.fs_model.specs.Machines.{Fsmd}
+use Rattle.fs_model.specs.VariableNames.{variable_name}
 use Rattle.fs_pair.specs.declared.positions.Position.{Position}
 use Rattle.fs_pair.specs.Partners.{variables_on}
 use Rattle.fs_pair.specs.Positions.{positions}
 use Rattle.term_text.specs.TermTexts.{symbol_text}
-use Rattle.fsmd_replies.specs.Variables.{variable_name}
 use Rattle.cert_model.specs.declared.reason.Reason.{Reason}
 use Rattle.cert_model.specs.declared.reason.Reason.TheVariants as reasons
 

@@ -86,9 +86,9 @@ node_count_text None = []
 node_count_text (Some node) = codes " node " ++ decimal node
 
 -- the line with which each reply to what is asked begins: of generated machines their number of loops
-abbrev pub opening : Option Asked → List ℕ
-opening (Some (Generate loops)) = codes "generated: " ++ (decimal loops ++ codes " loops\n")
-opening _ = []
+abbrev pub opening_line : Option Asked → List ℕ
+opening_line (Some (Generate loops)) = codes "generated: " ++ (decimal loops ++ codes " loops\n")
+opening_line _ = []
 
 -- the line that machines of the same behaviour get
 abbrev pub equivalent_text : (nodes : ℕ) → List ℕ
@@ -129,7 +129,7 @@ lines_of (CannotRead file) asked = codes "fault: cannot read " ++ (file_word_of 
 
 -- the reply of each answer to what is asked
 abbrev pub reply : Answer → Option Asked → List ℕ
-reply answer asked = opening asked ++ lines_of answer asked
+reply answer asked = opening_line asked ++ lines_of answer asked
 
 -- the reply where the certificate could not be stored
 abbrev pub unstored_reply : (name : List ℕ) → List ℕ

@@ -1,8 +1,8 @@
 //! The bytes of each answer.
 
 ghost use Rattle.std.specs.Prelude.{◌≡◌, ◌++◌, IfOk, codes, Some, string_bytes};
-ghost use Rattle.fsmd_words.specs.AskedWords.{asked};
-ghost use Rattle.fsmd_replies.specs.Replies.{opening, equivalent_text, lines_of, reply, unstored_reply};
+ghost use Rattle.fsmd_words.specs.AskedWords.{asked_of_ask};
+ghost use Rattle.fsmd_replies.specs.Replies.{opening_line, equivalent_text, lines_of, reply, unstored_reply};
 
 use crate::answer::Answer;
 use crate::refusals::{
@@ -36,7 +36,7 @@ fn equivalent(alloc: Global, nodes: u32) -> Result<String, AllocError>
 
 /// The lines of an answer to what is asked. The one refusal is out of memory.
 pub fn lines(alloc: Global, answer: &Answer, ask: &Ask) -> Result<Vec<u8>, AllocError>
-    ensures { IfOk result (λ bytes. bytes.items ≡ lines_of answer.now (Some (asked ask.now))) }
+    ensures { IfOk result (λ bytes. bytes.items ≡ lines_of answer.now (Some (asked_of_ask ask.now))) }
 {
     let text = match answer {
         Answer::Text { lines }
@@ -66,7 +66,7 @@ pub fn lines(alloc: Global, answer: &Answer, ask: &Ask) -> Result<Vec<u8>, Alloc
 
 // The line with which each reply to what is asked begins, if it begins with one.
 fn opening(alloc: Global, ask: &Ask) -> Result<Vec<u8>, AllocError>
-    ensures { IfOk result (λ bytes. bytes.items ≡ opening (Some (asked ask.now))) }
+    ensures { IfOk result (λ bytes. bytes.items ≡ opening_line (Some (asked_of_ask ask.now))) }
 {
     match ask {
         Ask::Generate { n } => Ok(format!(in alloc; "generated: {n} loops\n")?.into_bytes()),
@@ -76,7 +76,7 @@ fn opening(alloc: Global, ask: &Ask) -> Result<Vec<u8>, AllocError>
 
 /// The reply of an answer to what is asked. The one refusal is out of memory.
 pub fn reply(alloc: Global, answer: &Answer, ask: &Ask) -> Result<Vec<u8>, AllocError>
-    ensures { IfOk result (λ bytes. bytes.items ≡ reply answer.now (Some (asked ask.now))) }
+    ensures { IfOk result (λ bytes. bytes.items ≡ reply answer.now (Some (asked_of_ask ask.now))) }
 {
     let mut bytes = opening(alloc, ask)?;
     let mut lines = lines(alloc, answer, ask)?;

@@ -1,7 +1,7 @@
 //! The names of variables.
 
 ghost use Rattle.std.specs.Prelude.{◌≡◌};
-ghost use Rattle.fsmd_replies.specs.Variables.{variable_name};
+ghost use Rattle.fs_model.specs.VariableNames.{variable_name};
 
 use fs_model::parts::{VarId, VarInfo};
 

@@ -1,7 +1,7 @@
 //! The words that name the files of a command.
 
 ghost use Rattle.std.specs.Prelude.{◌≡◌, ℕ, List, [], length, map, get_or, Some, option_map, string_bytes};
-ghost use Rattle.fsmd_words.specs.AskedWords.{asked};
+ghost use Rattle.fsmd_words.specs.AskedWords.{asked_of_ask};
 ghost use Rattle.fsmd_replies.specs.AskedFiles.{in_chain, file_word_of, cert_of};
 
 use crate::answer::Operand;
@@ -9,7 +9,7 @@ use fsmd_words::asking::Ask;
 
 /// The word that names a file of what is asked, or no text where there is no such file. Takes no memory.
 pub fn word_of(ask: &Ask, file: Operand) -> &str
-    ensures { result.now ≡ file_word_of (Some (asked ask.now)) file }
+    ensures { result.now ≡ file_word_of (Some (asked_of_ask ask.now)) file }
 {
     let number = file.0;
     match ask {
@@ -81,7 +81,7 @@ fn place_in_chain(number: usize, count: usize) -> usize
 
 /// The word that names the file for a certificate, if there is one. Takes no memory.
 pub fn cert_word(ask: &Ask) -> Option<&str>
-    ensures { option_map (λ word. word.now) result ≡ cert_of (Some (asked ask.now)) }
+    ensures { option_map (λ word. word.now) result ≡ cert_of (Some (asked_of_ask ask.now)) }
 {
     match ask {
         Ask::Check {

@@ -2,6 +2,7 @@
 use Rattle.std.specs.Prelude.{◌≡◌, ℕ, Bool, List, ◌++◌, cond, codes, decimal}
 use Rattle.fs_model.specs.Machines.{Fsmd}
 use Rattle.fs_model.specs.Source.{Source}
+use Rattle.fs_model.specs.VariableNames.{variable_name}
 use Rattle.fs_rules.specs.MachineOfParts.{machine_of}
 use Rattle.fs_rules.specs.Rules.{BreaksNoRule}
 use Rattle.fs_ast.specs.StoredBranches.{state_name_of}
@@ -11,7 +12,6 @@ use Rattle.hls_binding_laws.specs.Conflicts.{Conflict, IsFirstConflict}
 use Rattle.hls_bind.specs.Results.{IsYes}
 use Rattle.fsmd_synthesis_answers.specs.declared.bindings.BindingAnswer.{BindingAnswer}
 use Rattle.fsmd_synthesis_answers.specs.declared.bindings.BindingAnswer.TheVariants.{Bound, Lost}
-use Rattle.fsmd_replies.specs.Variables.{variable_name}
 
 -- locals by their numbers, each with the name of its register
 abbrev pub Binding : Type 0

@@ -1,6 +1,7 @@
 -- Where a call ends with a fault, a file, the store of the certificate or the sink failed.
 use Rattle.std.proofs.Common.{◌≡◌, ◌∙◌, ℕ, zero, suc, false, ◌+◌, ◌*◌, ◌<◌, ◌≤◌, List, [], ◌∷◌, length, Option, Some, None, sym, ap, subst, arith}
 use Rattle.std.specs.Prelude.{is_some}
+use Rattle.cert_model.specs.Obligations.{verdict_on}
 use Rattle.fsmd_words.specs.AskedWords.{Asked, Check, Verify, Run, Replay, Fmt, Cuts, Generate, Compile, Schedule, Bind, Shrink, Chain}
 use Rattle.fs_base.specs.Outside.{FileKnowledge}
 use Rattle.fs_model.specs.Machines.{Fsmd}
@@ -27,17 +28,17 @@ use Rattle.fsmd_answers.specs.InputFiles.{HasInputFault, RefusesInputs, SpellsIn
 use Rattle.fsmd_answers.specs.ProgramFiles.{RefusesProgram, SpellsProgram, IsOfProgram}
 use Rattle.fsmd_answers.specs.ScheduleFiles.{HaveUnitFault, RefusesUnits, SpellUnits, IsOfSchedule}
 use Rattle.fsmd_answers.specs.BindingFiles.{HasBindingFault, RefusesBinding, SpellsBinding, IsOfBinding}
-use Rattle.fsmd_answers.specs.MachinePairAnswers.{IsOfPair, IsOfLoops, left_of, right_of}
-use Rattle.fsmd_answers.specs.Verdicts.{IsJudged, verdict_on}
+use Rattle.fsmd_answers.specs.ComparisonAnswers.{IsOfPair, IsOfLoops, left_of, right_of}
+use Rattle.fsmd_answers.specs.Verdicts.{IsJudged}
 use Rattle.fsmd_answers.specs.RunAnswers.{IsOfRun}
 use Rattle.fsmd_answers.specs.Replays.{IsOfReplay}
 use Rattle.fsmd_answers.specs.Shrinks.{IsOfShrink}
 use Rattle.fsmd_answers.specs.Links.{AtLink, links_in, links_of, IsOfChain}
-use Rattle.fsmd_answers.specs.Follows.{Ends, Opens, Refused, Spelled, ComparesPairs, Other, Alike, Judges, Fails, Holds, OpensMachine, OpensInputs}
+use Rattle.fsmd_answers.specs.Follows.{Ends, Opens, Refused, Spelled, ComparesPairs, Other, SameInterface, Judges, Fails, Holds, OpensMachine, OpensInputs}
 use Rattle.fsmd_answers.specs.Follows.{OpensCertificate, OpensUnits, OpensBinding, OpensPair, OpensLink, OpensLinks, FollowsFrom}
-use Rattle.fsmd_tool.specs.Calls.{Call, held, FailedToRead, MayBeRead, MayRead, IsCorrectFrom}
+use Rattle.fsmd_tool.specs.Calls.{Call, known_at_start, FailedToRead, MayBeRead, MayRead, IsCorrectFrom}
 use Rattle.fsmd_tool.specs.SinkReplies.{Put, IsPut, Whole, Cut}
-use Rattle.fsmd_tool.specs.CertificateStores.{stores, StoreEntry, stored_entry_of, to_store}
+use Rattle.fsmd_tool.specs.CertificateStores.{file_change, FileToStore, file_to_store_of, to_store}
 use Rattle.fsmd_tool.specs.Correct.{IsCorrectAnswer, IsDone, Kept, Stored, Unstored, Answered}
 use Rattle.fsmd_tool.specs.Clauses.{HasCause, FileFailed, CertificateUnstored, SinkFailed}
 use Rattle.fsmd_tool.proofs.Linked.{judges, certificates, nexts}
@@ -62,7 +63,7 @@ module _ (g : Call) (files : ℕ) (x : Answer) where
         → ((v : T) → IsCorrectFrom (P v) (n + 1) g x → OneFailed g files) → MayRead g n r → Opens T R S P n r x → OneFailed g files
     opens_by [] within own behind may o = absurd o
     opens_by (c ∷ rest) within own behind may (Refused p e) =
-        record { file = n; within = within; failed = faulted (held g (operand n)) (FailedToRead g (operand n)) c may.0 (own c p) }
+        record { file = n; within = within; failed = faulted (known_at_start g (operand n)) (FailedToRead g (operand n)) c may.0 (own c p) }
     opens_by (c ∷ rest) within own behind may (Spelled v h p) = behind v (record { reading = rest; may_be_read = may.1; follows = p })
 
     -- the next file failed, or one behind it
@@ -82,7 +83,7 @@ module _ (g : Call) (files : ℕ) (x : Answer) where
   module _ (a b : Fsmd) (R : Answer → Type 0) (P : (file : ℕ) → Reading → Answer → Type 0) (n : ℕ) where
     pairs_by : (r : Reading) → (R x → ⊥) → (IsCorrectFrom P n g x → OneFailed g files) → MayRead g n r → ComparesPairs a b R P n r x → OneFailed g files
     pairs_by r never behind may (Other p e) = absurd (never p)
-    pairs_by r never behind may (Alike e p) = behind (record { reading = r; may_be_read = may; follows = p })
+    pairs_by r never behind may (SameInterface e p) = behind (record { reading = r; may_be_read = may; follows = p })
 
     pairs : (R x → ⊥) → (IsCorrectFrom P n g x → OneFailed g files) → IsCorrectFrom (ComparesPairs a b R P) n g x → OneFailed g files
     pairs never behind c = pairs_by c.reading never behind c.may_be_read c.follows
@@ -202,13 +203,13 @@ put_cause : (g : Call) (p : Put) (x : Answer) (reply : List ℕ) → IsCorrectAn
 put_cause g p x reply c e (Whole w) = file_cause g p x c (sym w.status ∙ e)
 put_cause g p x reply c e (Cut w) = SinkFailed w.failed
 
-pub entry_named : (cert text : Option (List ℕ)) (x : StoreEntry) → stored_entry_of cert text ≡ Some x → cert ≡ Some x.name
+pub entry_named : (cert text : Option (List ℕ)) (x : FileToStore) → file_to_store_of cert text ≡ Some x → cert ≡ Some x.name
 entry_named None text x e = absurd (cc)
 entry_named (Some name) None x e = absurd (cc)
-entry_named (Some name) (Some bytes) x e = let same : record { name = name; bytes = bytes } ≡ x = cc in ap (λ (z : StoreEntry). Some z.name) same
+entry_named (Some name) (Some bytes) x e = let same : record { name = name; bytes = bytes } ≡ x = cc in ap (λ (z : FileToStore). Some z.name) same
 
 done_cause : (g : Call) (p : Put) (x : Answer) → IsCorrectAnswer g x → p.status ≡ statuses.Fault
-    → (reply : List ℕ) → IsDone (to_store g.asked x) reply (status_of x) (stores g.before g.now) p → HasCause g p
+    → (reply : List ℕ) → IsDone (to_store g.asked x) reply (status_of x) (file_change g.before g.now) p → HasCause g p
 done_cause g p x c e reply (Kept none k put) = put_cause g p x reply c e put
 done_cause g p x c e reply (Stored y some k put) = put_cause g p x reply c e put
 done_cause g p x c e reply (Unstored y some u put) = CertificateUnstored y.name (entry_named (cert_of g.asked) (certificate_in x) y some) u.failed

@@ -7,7 +7,7 @@ use Rattle.fs_model.specs.Machines.{Fsmd}
 use Rattle.fs_pair.specs.Interfaces.{interface_fault}
 use Rattle.cert_bisimulation.specs.Tables.{Node}
 use Rattle.sym_facts.specs.Facts.{Fact}
-use Rattle.cert_model.specs.Obligations.{Yes}
+use Rattle.cert_model.specs.Obligations.{Yes, verdict_on}
 use Rattle.fsmd_replies.specs.declared.answer.Status.TheVariants as statuses
 use Rattle.fsmd_replies.specs.declared.answer.Answer.{Answer}
 use Rattle.fsmd_replies.specs.Statuses.{status_of}
@@ -15,12 +15,12 @@ use Rattle.fsmd_replies.specs.AskedFiles.{operand}
 use Rattle.fsmd_answers.specs.MachineFiles.{SpellsMachine}
 use Rattle.fsmd_answers.specs.Readings.{Reading}
 use Rattle.fsmd_answers.specs.Refusals.{RefusesMachine, RefusesPair, RefusesCertificate, SpellsCertificate}
-use Rattle.fsmd_answers.specs.Verdicts.{IsJudged, verdict_on}
+use Rattle.fsmd_answers.specs.Verdicts.{IsJudged}
 use Rattle.fsmd_answers.specs.Links.{AtLink, links_of, IsOfChain}
 use Rattle.fsmd_replies.specs.Replies.{lines_of}
 use Rattle.fsmd_answers.specs.Follows.{Judges, Fails, Holds, OpensMachine, OpensLink, OpensLinks, FollowsFrom}
 use Rattle.fsmd_tool.specs.Asking.{is_chain}
-use Rattle.fsmd_tool.specs.Calls.{Call, held, MayHold, MayRead, IsCorrectFrom}
+use Rattle.fsmd_tool.specs.Calls.{Call, known_at_start, MayHold, MayRead, IsCorrectFrom}
 use Rattle.fsmd_tool.specs.SinkReplies.{Put}
 use Rattle.fsmd_tool.specs.Correct.{Answered}
 use Rattle.fsmd_tool.specs.Clauses.{LinksHold, IsChained}
@@ -47,9 +47,9 @@ module _ (o : Option Asked) (k : ℕ) (a b : Fsmd) (nodes : List (Node Fact)) (P
 record OfLink (g : Call) (n : ℕ) (last : Fsmd) (P : Fsmd → (file : ℕ) → Reading → Answer → Type 0) (x : Answer) : Type 0 where
   next : Fsmd
   nodes : List (Node Fact)
-  machine : MayHold (held g (operand n)) (SpellsMachine next)
+  machine : MayHold (known_at_start g (operand n)) (SpellsMachine next)
   alike : interface_fault last next ≡ None
-  certificate : MayHold (held g (operand (n + 1))) (SpellsCertificate last next nodes)
+  certificate : MayHold (known_at_start g (operand (n + 1))) (SpellsCertificate last next nodes)
   hold : verdict_on last next nodes ≡ Yes
   rest : IsCorrectFrom (P next) (n + 2) g x
 

@@ -15,11 +15,12 @@ use Rattle.fsmd_replies.specs.AskedFiles.{operand, compares, is_check, is_verify
 use Rattle.fsmd_answers.specs.MachineFiles.{SpellsMachine}
 use Rattle.fsmd_answers.specs.Readings.{FileContent, Readable, Unreadable, OfBytes, Reading}
 use Rattle.fsmd_answers.specs.Refusals.{RefusesMachine, RefusesPair, RefusesCertificate, SpellsCertificate}
-use Rattle.fsmd_answers.specs.MachinePairAnswers.{IsOfPair, left_of, right_of}
+use Rattle.fsmd_answers.specs.ComparisonAnswers.{IsOfPair, left_of, right_of}
 use Rattle.fsmd_answers.specs.Verdicts.{IsJudged}
-use Rattle.fsmd_answers.specs.Follows.{Ends, Opens, Refused, Spelled, ComparesPairs, Other, Alike, OpensMachine, OpensCertificate, OpensPair, FollowsFrom}
+use Rattle.fsmd_answers.specs.Follows.{Ends, Opens, Refused, Spelled, ComparesPairs, Other, SameInterface, OpensMachine, OpensCertificate, OpensPair}
+use Rattle.fsmd_answers.specs.Follows.{FollowsFrom}
 use Rattle.fsmd_answers.proofs.Loops.{loops_alike}
-use Rattle.fsmd_tool.specs.Calls.{Call, held, FailedToRead, MayBeRead, MayHold, MayRead, IsCorrectFrom}
+use Rattle.fsmd_tool.specs.Calls.{Call, known_at_start, FailedToRead, MayBeRead, MayHold, MayRead, IsCorrectFrom}
 use Rattle.fsmd_tool.specs.Correct.{IsCorrectAnswer}
 use Rattle.fsmd_tool.specs.Equivalent.{ArePairedMachines, OfFiles, OfLoops}
 use Rattle.fsmd_tool.proofs.Statuses.{HasStatus, is_refusal, not_refused, machine_refuses, pair_refuses, certificate_refuses}
@@ -33,7 +34,7 @@ may_hold k F Unreadable P m h = absurd h
 -- a value that the next file spells, and what follows from the files behind it
 pub record Opened (T : Type 0) (S : T → List ℕ → Type 0) (P : T → (file : ℕ) → Reading → Answer → Type 0) (n : ℕ) (g : Call) (x : Answer) : Type 0 where
   pub value : T
-  pub spells : MayHold (held g (operand n)) (S value)
+  pub spells : MayHold (known_at_start g (operand n)) (S value)
   pub rest : IsCorrectFrom (P value) (n + 1) g x
 
 module _ (T : Type 0) (R : Operand → FileContent → Answer → Type 0) (S : T → List ℕ → Type 0) (P : T → (file : ℕ) → Reading → Answer → Type 0)
@@ -44,7 +45,7 @@ module _ (T : Type 0) (R : Operand → FileContent → Answer → Type 0) (S : T
   opened (c ∷ rest) never may (Refused p e) = absurd (never c p)
   opened (c ∷ rest) never may (Spelled v h p) = record {
     value = v;
-    spells = may_hold (held g (operand n)) (FailedToRead g (operand n)) c (S v) may.0 h;
+    spells = may_hold (known_at_start g (operand n)) (FailedToRead g (operand n)) c (S v) may.0 h;
     rest = record { reading = rest; may_be_read = may.1; follows = p };
   }
 
@@ -68,7 +69,7 @@ pub record HaveTheSame (a b : Fsmd) (P : (file : ℕ) → Reading → Answer →
 module _ (a b : Fsmd) (R : Answer → Type 0) (P : (file : ℕ) → Reading → Answer → Type 0) (n : ℕ) (g : Call) (x : Answer) where
   have_the_same : (r : Reading) → (R x → ⊥) → MayRead g n r → ComparesPairs a b R P n r x → HaveTheSame a b P n g x
   have_the_same r never may (Other p e) = absurd (never p)
-  have_the_same r never may (Alike e p) = record { alike = e; rest = record { reading = r; may_be_read = may; follows = p } }
+  have_the_same r never may (SameInterface e p) = record { alike = e; rest = record { reading = r; may_be_read = may; follows = p } }
 
   pub alike_of : (R x → ⊥) → IsCorrectFrom (ComparesPairs a b R P) n g x → HaveTheSame a b P n g x
   alike_of never c = have_the_same c.reading never c.may_be_read c.follows
@@ -79,8 +80,8 @@ module _ (a b : Fsmd) (R : Answer → Type 0) (P : (file : ℕ) → Reading → 
 pub record OfPair (P : (a b : Fsmd) → (file : ℕ) → Reading → Answer → Type 0) (g : Call) (x : Answer) : Type 0 where
   pub left : Fsmd
   pub right : Fsmd
-  pub first : MayHold (held g (operand 0)) (SpellsMachine left)
-  pub second : MayHold (held g (operand 1)) (SpellsMachine right)
+  pub first : MayHold (known_at_start g (operand 0)) (SpellsMachine left)
+  pub second : MayHold (known_at_start g (operand 1)) (SpellsMachine right)
   pub alike : interface_fault left right ≡ None
   pub rest : IsCorrectFrom (P left right) 2 g x
 
@@ -140,9 +141,9 @@ pub record Checked (g : Call) (x : Answer) : Type 0 where
   pub left : Fsmd
   pub right : Fsmd
   pub nodes : List (Node Fact)
-  pub first : MayHold (held g (operand 0)) (SpellsMachine left)
-  pub second : MayHold (held g (operand 1)) (SpellsMachine right)
-  pub third : MayHold (held g (operand 2)) (SpellsCertificate left right nodes)
+  pub first : MayHold (known_at_start g (operand 0)) (SpellsMachine left)
+  pub second : MayHold (known_at_start g (operand 1)) (SpellsMachine right)
+  pub third : MayHold (known_at_start g (operand 2)) (SpellsCertificate left right nodes)
   pub alike : interface_fault left right ≡ None
   pub judged : IsJudged left right nodes x
 

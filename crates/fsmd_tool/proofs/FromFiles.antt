@@ -3,7 +3,7 @@ use Rattle.std.proofs.Common.{◌≡◌, ◌<◌, ◌+◌, ℕ, List, [], ◌∷
 use Rattle.std.specs.Prelude.{Result, Ok, Err, IfOk, None, replicate}
 use Rattle.std.proofs.lemmas.List.{length-replicate}
 use Rattle.std.specs.Result.{IfErr}
-use Rattle.fs_base.specs.Outside.{FileKnowledge, Unknown, Nothing, Bytes, AreHeld, MoreAreHeld}
+use Rattle.fs_base.specs.Outside.{FileKnowledge, Unknown, NoFile, Bytes, AreHeld, MoreAreHeld}
 use Rattle.fs_model.specs.Machines.{Fsmd}
 use Rattle.fs_model.specs.Source.{Source}
 use Rattle.fs_pair.specs.Interfaces.{interface_fault}
@@ -18,9 +18,9 @@ use Rattle.fsmd_answers.specs.Unread.{IsUnread, Long}
 use Rattle.fsmd_answers.specs.Refusals.{RefusesMachine, RefusesPair}
 use Rattle.fsmd_answers.specs.Refusing.{WhereAnswered, IsLoaded}
 use Rattle.fsmd_answers.specs.ProgramFiles.{IsOfProgramIn}
-use Rattle.fsmd_answers.specs.Follows.{Ends, Opens, Refused, Spelled, ComparesPairs, Other, Alike, OpensMachine, OpensPair}
+use Rattle.fsmd_answers.specs.Follows.{Ends, Opens, Refused, Spelled, ComparesPairs, Other, SameInterface, OpensMachine, OpensPair}
 use Rattle.fsmd_answers.proofs.Maps.{answer_map, ok_map, err_map}
-use Rattle.fsmd_tool.specs.Calls.{Call, held, MayHold, IsCorrectFrom, AnswersBy}
+use Rattle.fsmd_tool.specs.Calls.{Call, known_at_start, MayHold, IsCorrectFrom, AnswersBy}
 use Rattle.fsmd_tool.specs.Loading.{MayGive, GivesContent, NothingFollows, RefusesNext, RefusesBoth}
 
 -- what holds of answers, for another cause
@@ -49,7 +49,7 @@ longer n = let xs : List ℕ = replicate (n + 1) 0 in let e : length xs ≡ n + 
 pub too_long : (k h : FileKnowledge) (F : Type 0) (limit : ℕ) (file : Operand) → h ≡ k → MoreAreHeld h limit
     → MayGive k F (λ c. IsUnread limit file c (TooLong file limit))
 too_long Unknown h F limit file e m = record { content = Readable (longer limit).bytes; may = tt; meets = Long (longer limit).more refl }
-too_long Nothing h F limit file e m = absurd (subst (λ o. MoreAreHeld o limit) e m)
+too_long NoFile h F limit file e m = absurd (subst (λ o. MoreAreHeld o limit) e m)
 too_long (Bytes b) h F limit file e m = record { content = Readable b; may = refl; meets = Long (subst (λ o. MoreAreHeld o limit) e m) refl }
 
 -- a program that bytes spell is one that a file may hold
@@ -75,26 +75,27 @@ module _ (T : Type 0) (R : Operand → FileContent → Answer → Type 0) (S : T
     refused x m = record { reading = m.content ∷ []; may_be_read = (m.may, tt); follows = Refused m.meets refl }
 
     -- the next file spells a value
-    pub spelled : (v : T) (x : Answer) → MayHold (held g (operand n)) (S v) → IsCorrectFrom (P v) (n + 1) g x → IsCorrectFrom (Opens T R S P) n g x
+    pub spelled : (v : T) (x : Answer) → MayHold (known_at_start g (operand n)) (S v) → IsCorrectFrom (P v) (n + 1) g x → IsCorrectFrom (Opens T R S P) n g x
     spelled v x h c = record { reading = Readable h.bytes ∷ c.reading; may_be_read = (h.may, c.may_be_read); follows = Spelled v h.meet c.follows }
 
     pub refused_as : (e : Refusal) → WhereAnswered (GivesContent g (operand n) (R (operand n))) e → WhereAnswered (IsCorrectFrom (Opens T R S P) n g) e
     refused_as e h = answer_map (GivesContent g (operand n) (R (operand n))) (IsCorrectFrom (Opens T R S P) n g) refused e h
 
-    pub spelled_as : (v : T) → MayHold (held g (operand n)) (S v) → (r : Result Answer Refusal) → AnswersBy (IsCorrectFrom (P v) (n + 1) g) r
+    pub spelled_as : (v : T) → MayHold (known_at_start g (operand n)) (S v) → (r : Result Answer Refusal) → AnswersBy (IsCorrectFrom (P v) (n + 1) g) r
         → AnswersBy (IsCorrectFrom (Opens T R S P) n g) r
     spelled_as v h r a = answers_map (IsCorrectFrom (P v) (n + 1) g) (IsCorrectFrom (Opens T R S P) n g) (λ x c. spelled v x h c) r a
 
 -- the next file spells a value, and it is the last
-pub spelled_last : (T : Type 0) (R : Operand → FileContent → Answer → Type 0) (S : T → List ℕ → Type 0) (Q : T → Answer → Type 0) (n : ℕ) (g : Call) (v : T)
+pub spelled_last :
+    (T : Type 0) (R : Operand → FileContent → Answer → Type 0) (S : T → List ℕ → Type 0) (Q : T → Answer → Type 0) (n : ℕ) (g : Call) (v : T)
     (x : Answer)
-    → MayHold (held g (operand n)) (S v) → Q v x → IsCorrectFrom (Opens T R S (λ w. Ends (Q w))) n g x
+    → MayHold (known_at_start g (operand n)) (S v) → Q v x → IsCorrectFrom (Opens T R S (λ w. Ends (Q w))) n g x
 spelled_last T R S Q n g v x h q = spelled T R S (λ w. Ends (Q w)) n g v x h (ended (Q v) (n + 1) g x q)
 
 module _ (a b : Fsmd) (R : Answer → Type 0) (P : (file : ℕ) → Reading → Answer → Type 0) (n : ℕ) (g : Call) (x : Answer) where
   -- two machines have the same inputs and outputs
   pub alike : interface_fault a b ≡ None → IsCorrectFrom P n g x → IsCorrectFrom (ComparesPairs a b R P) n g x
-  alike e c = record { reading = c.reading; may_be_read = c.may_be_read; follows = Alike e c.follows }
+  alike e c = record { reading = c.reading; may_be_read = c.may_be_read; follows = SameInterface e c.follows }
 
 -- ---- the same, of what follows otherwise
 
@@ -110,7 +111,7 @@ pub pairs_map : (a b : Fsmd) (R Q : Answer → Type 0) (P M : (file : ℕ) → R
     → ((n : ℕ) (r : Reading) → P n r x → M n r y)
     → (n : ℕ) (r : Reading) → ComparesPairs a b R P n r x → ComparesPairs a b Q M n r y
 pairs_map a b R Q P M x y f h n r (Other p e) = Other (f p) e
-pairs_map a b R Q P M x y f h n r (Alike e p) = Alike e (h n r p)
+pairs_map a b R Q P M x y f h n r (SameInterface e p) = SameInterface e (h n r p)
 
 -- ---- two files of machines
 
@@ -135,7 +136,8 @@ module _ (P : (a b : Fsmd) → (file : ℕ) → Reading → Answer → Type 0) (
       (λ x c. record { reading = c.reading; may_be_read = c.may_be_read; follows = both_follow x 0 c.reading c.follows }) e h
 
   -- two files of machines, and what follows from the files behind them
-  pub pair_spelled : (a b : Fsmd) → MayHold (held g (operand 0)) (SpellsMachine a) → MayHold (held g (operand 1)) (SpellsMachine b) → interface_fault a b ≡ None
+  pub pair_spelled : (a b : Fsmd) → MayHold (known_at_start g (operand 0)) (SpellsMachine a) → MayHold (known_at_start g (operand 1)) (SpellsMachine b)
+      → interface_fault a b ≡ None
       → (r : Result Answer Refusal) → AnswersBy (IsCorrectFrom (P a b) 2 g) r → AnswersBy (IsCorrectFrom (OpensPair P) 0 g) r
   pair_spelled a b left right same r h =
       spelled_as Fsmd RefusesMachine SpellsMachine (λ v. OpensMachine (λ w. ComparesPairs v w (RefusesPair v w) (P v w))) 0 g a left r

@@ -16,9 +16,9 @@ use Rattle.fsmd_answers.specs.Readings.{FileContent, Readable, Reading}
 use Rattle.fsmd_answers.specs.Refusals.{RefusesPair}
 use Rattle.fsmd_answers.specs.Refusing.{WhereAnswered}
 use Rattle.fsmd_answers.specs.ProgramFiles.{RefusesProgram, SpellsProgram, IsOfProgram, IsOfProgramIn}
-use Rattle.fsmd_answers.specs.Follows.{Ends, Opens, Refused, Spelled, Other, Alike, OpensPair, OpensProgram}
+use Rattle.fsmd_answers.specs.Follows.{Ends, Opens, Refused, Spelled, Other, SameInterface, OpensPair, OpensProgram}
 use Rattle.fsmd_answers.proofs.Maps.{answer_map}
-use Rattle.fsmd_tool.specs.Calls.{Call, call, OnlyRead, LoadsFrom, held, MayHold, IsCorrectFrom, IsCorrectInOrder, AnswersBy}
+use Rattle.fsmd_tool.specs.Calls.{Call, call, OnlyRead, LoadsFrom, known_at_start, MayHold, IsCorrectFrom, IsCorrectInOrder, AnswersBy}
 use Rattle.fsmd_tool.specs.Loading.{GivesContent, RefusesNext, RefusesBoth}
 use Rattle.fsmd_tool.proofs.FromFiles.{answers_map, both_follow}
 use Rattle.fsmd_tool.proofs.Later.{read_map, each_since}
@@ -42,7 +42,8 @@ module _ (T : Type 0) (R : Operand → FileContent → Answer → Type 0) (S : T
 
   -- the next file spells a value; it was loaded, and then the files behind it
   pub spelled_in_order : (o : Option Asked) (old mid now : FilesTold) → OnlyRead old mid → LoadsFrom o n 1 old mid → (v : T)
-      → MayHold (held (call o old now) (operand n)) (S v) → (r : Result Answer Refusal) → AnswersBy (IsCorrectInOrder (P v) (n + 1) (call o mid now)) r
+      → MayHold (known_at_start (call o old now) (operand n)) (S v) → (r : Result Answer Refusal)
+      → AnswersBy (IsCorrectInOrder (P v) (n + 1) (call o mid now)) r
       → AnswersBy (IsCorrectInOrder (Opens T R S P) n (call o old now)) r
   spelled_in_order o old mid now read l v h r a =
       answers_map (IsCorrectInOrder (P v) (n + 1) (call o mid now)) (IsCorrectInOrder (Opens T R S P) n (call o old now))
@@ -58,7 +59,7 @@ module _ (T : Type 0) (R : Operand → FileContent → Answer → Type 0) (S : T
 -- the next file spells a value; it is the last, and it alone was loaded
 pub last_in_order : (T : Type 0) (R : Operand → FileContent → Answer → Type 0) (S : T → List ℕ → Type 0) (Q : T → Answer → Type 0) (n : ℕ) (g : Call) (v : T)
     (x : Answer)
-    → LoadsFrom g.asked n 1 g.before g.now → MayHold (held g (operand n)) (S v) → Q v x → IsCorrectInOrder (Opens T R S (λ w. Ends (Q w))) n g x
+    → LoadsFrom g.asked n 1 g.before g.now → MayHold (known_at_start g (operand n)) (S v) → Q v x → IsCorrectInOrder (Opens T R S (λ w. Ends (Q w))) n g x
 last_in_order T R S Q n g v x l h q = record {
   correct = record { reading = Readable h.bytes ∷ []; may_be_read = (h.may, tt); follows = Spelled v h.meet q };
   loads = l;
@@ -66,16 +67,17 @@ last_in_order T R S Q n g v x l h q = record {
 
 -- the file of a program, whose answer is made where it is read
 pub program_in_order : (g : Call) (r : Result Answer Refusal) → LoadsFrom g.asked 0 1 g.before g.now
-    → IfOk r (λ x. MayHold (held g (operand 0)) (λ bytes. IsOfProgramIn bytes x))
+    → IfOk r (λ x. MayHold (known_at_start g (operand 0)) (λ bytes. IsOfProgramIn bytes x))
     → IfErr r (WhereAnswered (GivesContent g (operand 0) (RefusesProgram (operand 0))))
     → AnswersBy (IsCorrectInOrder (OpensProgram (λ p. Ends (IsOfProgram p))) 0 g) r
 program_in_order g (Ok x) l h w =
     last_in_order Program RefusesProgram SpellsProgram IsOfProgram 0 g h.meet.program x l
-        (record { bytes = h.bytes; may = h.may; meet = h.meet.spells }) h.meet.is
+    (record { bytes = h.bytes; may = h.may; meet = h.meet.spells }) h.meet.is
 program_in_order g (Err e) l h w = refused_in_order Program RefusesProgram SpellsProgram (λ p. Ends (IsOfProgram p)) 0 g e l w
 
 -- the next file is that of a machine with other inputs or outputs than the one before it, and it alone was loaded
-pub next_in_order : (a b : Fsmd) (n : ℕ) (g : Call) (e : Refusal) → LoadsFrom g.asked n 1 g.before g.now → MayHold (held g (operand n)) (SpellsMachine b)
+pub next_in_order : (a b : Fsmd) (n : ℕ) (g : Call) (e : Refusal) → LoadsFrom g.asked n 1 g.before g.now
+    → MayHold (known_at_start g (operand n)) (SpellsMachine b)
     → WhereAnswered (RefusesPair a b) e → WhereAnswered (IsCorrectInOrder (RefusesNext a) n g) e
 next_in_order a b n g e l h w =
     answer_map (RefusesPair a b) (IsCorrectInOrder (RefusesNext a) n g)
@@ -103,7 +105,7 @@ module _ (P : (a b : Fsmd) → (file : ℕ) → Reading → Answer → Type 0) w
 
   -- two files of machines were loaded, and then the files behind them
   pub both_in_order : (o : Option Asked) (old mid now : FilesTold) → OnlyRead old mid → LoadsFrom o 0 2 old mid → (a b : Fsmd)
-      → MayHold (held (call o old now) (operand 0)) (SpellsMachine a) → MayHold (held (call o old now) (operand 1)) (SpellsMachine b)
+      → MayHold (known_at_start (call o old now) (operand 0)) (SpellsMachine a) → MayHold (known_at_start (call o old now) (operand 1)) (SpellsMachine b)
       → interface_fault a b ≡ None → (r : Result Answer Refusal) → AnswersBy (IsCorrectInOrder (P a b) 2 (call o mid now)) r
       → AnswersBy (IsCorrectInOrder (OpensPair P) 0 (call o old now)) r
   both_in_order o old mid now read l a b left right same r h =
@@ -118,7 +120,7 @@ module _ (P : (a b : Fsmd) → (file : ℕ) → Reading → Answer → Type 0) w
               read_map (call o mid now) (call o old now) (each_since o old mid now read) 2 c.correct.reading c.correct.may_be_read,
             ),
           );
-          follows = Spelled a left.meet (Spelled b right.meet (Alike same c.correct.follows));
+          follows = Spelled a left.meet (Spelled b right.meet (SameInterface same c.correct.follows));
         };
         loads = loads_on o 0 2 (length c.correct.reading) 2 (suc (suc (length c.correct.reading))) old mid now refl (omega arith) l c.loads;
       }) r h

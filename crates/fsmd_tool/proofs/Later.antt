@@ -9,9 +9,10 @@ use Rattle.fsmd_replies.specs.declared.answer.Operand.{Operand}
 use Rattle.fsmd_answers.specs.declared.refused.Refused.{Refused as Refusal}
 use Rattle.fsmd_replies.specs.AskedFiles.{operand, file_word_of}
 use Rattle.fsmd_answers.specs.Readings.{FileContent, Readable, Unreadable, Reading}
-use Rattle.fsmd_tool.specs.Calls.{Call, call, OnlyRead, held, FailedToRead, MayBeRead, MayHold, MayRead, IsCorrectFrom, AnswersBy}
+use Rattle.fsmd_tool.specs.Calls.{Call, call, OnlyRead, known_at_start, FailedToRead, MayBeRead, MayHold, MayRead, IsCorrectFrom, AnswersBy}
 use Rattle.fsmd_tool.specs.SinkReplies.{Put}
-use Rattle.fsmd_tool.specs.CertificateStores.{stores, IsUnchangedStore, IsStoredUnder, IsUnstored, StoreEntry, Leaves, LeftAlone, LeftStored, LeftUnstored}
+use Rattle.fsmd_tool.specs.CertificateStores.{file_change, IsUnchangedStore, IsStoredUnder, IsUnstored, FileToStore, Leaves, LeftAlone, LeftStored}
+use Rattle.fsmd_tool.specs.CertificateStores.{LeftUnstored}
 use Rattle.fsmd_tool.specs.CertificateStores.{NotStored, Untouched, Failed}
 use Rattle.fsmd_tool.specs.Correct.{IsDone, Kept, Stored, Unstored}
 use Rattle.fsmd_tool.proofs.FromFiles.{answers_map}
@@ -46,7 +47,8 @@ hold_kept h k P e m = record { bytes = m.bytes; may = subst (λ o. AreHeld o m.b
 
 -- in another call the same may have been read, where that is so of each file
 module _ (g k : Call)
-    (each : (file : Operand) (c : FileContent) → MayBeRead (held g file) (FailedToRead g file) c → MayBeRead (held k file) (FailedToRead k file)
+    (each : (file : Operand) (c : FileContent) → MayBeRead (known_at_start g file) (FailedToRead g file) c
+    → MayBeRead (known_at_start k file) (FailedToRead k file)
     c) where
   pub read_map : (n : ℕ) (r : Reading) → MayRead g n r → MayRead k n r
   read_map n [] m = tt
@@ -57,8 +59,8 @@ module _ (g k : Call)
 
 -- in a call that began before, where files were only read until then
 module _ (o : Option Asked) (old mid now : FilesTold) (read : OnlyRead old mid) where
-  pub each_since : (file : Operand) (c : FileContent) → MayBeRead (held (call o mid now) file) (FailedToRead (call o mid now) file) c
-      → MayBeRead (held (call o old now) file) (FailedToRead (call o old now) file) c
+  pub each_since : (file : Operand) (c : FileContent) → MayBeRead (known_at_start (call o mid now) file) (FailedToRead (call o mid now) file) c
+      → MayBeRead (known_at_start (call o old now) file) (FailedToRead (call o old now) file) c
   each_since file c m =
       may_kept (mid.holds (file_word_of o file)) (old.holds (file_word_of o file)) (FailedToRead (call o mid now) file) (FailedToRead (call o old now) file)
       (read.unchanged (file_word_of o file))
@@ -75,8 +77,8 @@ module _ (o : Option Asked) (old mid now : FilesTold) (read : OnlyRead old mid) 
 
 -- in a call that ends later, where no count of faults falls
 module _ (o : Option Asked) (old mid now : FilesTold) (begin : NoneFell old.faults mid.faults) (end : NoneFell mid.faults now.faults) where
-  pub each_until : (file : Operand) (c : FileContent) → MayBeRead (held (call o old mid) file) (FailedToRead (call o old mid) file) c
-      → MayBeRead (held (call o old now) file) (FailedToRead (call o old now) file) c
+  pub each_until : (file : Operand) (c : FileContent) → MayBeRead (known_at_start (call o old mid) file) (FailedToRead (call o old mid) file) c
+      → MayBeRead (known_at_start (call o old now) file) (FailedToRead (call o old now) file) c
   each_until file c m =
       may_kept (old.holds (file_word_of o file)) (old.holds (file_word_of o file)) (FailedToRead (call o old mid) file)
       (FailedToRead (call o old now) file) refl
@@ -92,35 +94,36 @@ module _ (o : Option Asked) (old mid now : FilesTold) (begin : NoneFell old.faul
 others_since : (name : List ℕ) (old mid now : List ℕ → FileKnowledge) → SameHeld old mid → OthersHeld name mid now → OthersHeld name old now
 others_since name old mid now same o = λ other away. o other away ∙ same other
 
-kept_since : (old mid now : FilesTold) → OnlyRead old mid → IsUnchangedStore (stores mid now) → IsUnchangedStore (stores old now)
+kept_since : (old mid now : FilesTold) → OnlyRead old mid → IsUnchangedStore (file_change mid now) → IsUnchangedStore (file_change old now)
 kept_since old mid now r k = λ name. k name ∙ r.unchanged name
 
-stored_since : (name bytes : List ℕ) (old mid now : FilesTold) → OnlyRead old mid → IsStoredUnder name bytes (stores mid now)
-    → IsStoredUnder name bytes (stores old now)
+stored_since : (name bytes : List ℕ) (old mid now : FilesTold) → OnlyRead old mid → IsStoredUnder name bytes (file_change mid now)
+    → IsStoredUnder name bytes (file_change old now)
 stored_since name bytes old mid now r s =
     record {
       stored = subst (λ k. now.holds name ≡ held_after k bytes) (r.unchanged name) s.stored;
       others = others_since name old.holds mid.holds now.holds r.unchanged s.others;
     }
 
-unstored_since : (name : List ℕ) (old mid now : FilesTold) → OnlyRead old mid → IsUnstored name (stores mid now) → IsUnstored name (stores old now)
+unstored_since : (name : List ℕ) (old mid now : FilesTold) → OnlyRead old mid → IsUnstored name (file_change mid now) → IsUnstored name (file_change old now)
 unstored_since name old mid now r s = record {
   failed = rose_since (old.store_faults name) (mid.store_faults name) (now.store_faults name) (r.store_counts name) s.failed;
   others = others_since name old.holds mid.holds now.holds r.unchanged s.others;
 }
 
 -- what was held until the store
-pub done_since : (e : Option StoreEntry) (reply : List ℕ) (meant : Status) (old mid now : FilesTold) (p : Put) → OnlyRead old mid
-    → IsDone e reply meant (stores mid now) p → IsDone e reply meant (stores old now) p
+pub done_since : (e : Option FileToStore) (reply : List ℕ) (meant : Status) (old mid now : FilesTold) (p : Put) → OnlyRead old mid
+    → IsDone e reply meant (file_change mid now) p → IsDone e reply meant (file_change old now) p
 done_since e reply meant old mid now p r (Kept none k put) = Kept none (kept_since old mid now r k) put
 done_since e reply meant old mid now p r (Stored x is s put) = Stored x is (stored_since x.name x.bytes old mid now r s) put
 done_since e reply meant old mid now p r (Unstored x is u put) = Unstored x is (unstored_since x.name old mid now r u) put
 
-pub not_stored_since : (e : Option StoreEntry) (old mid now : FilesTold) → OnlyRead old mid → NotStored e (stores mid now) → NotStored e (stores old now)
+pub not_stored_since : (e : Option FileToStore) (old mid now : FilesTold) → OnlyRead old mid → NotStored e (file_change mid now)
+    → NotStored e (file_change old now)
 not_stored_since e old mid now r (Untouched k) = Untouched (kept_since old mid now r k)
 not_stored_since e old mid now r (Failed x is u) = Failed x is (unstored_since x.name old mid now r u)
 
-pub leaves_since : (e : Option StoreEntry) (old mid now : FilesTold) → OnlyRead old mid → Leaves e (stores mid now) → Leaves e (stores old now)
+pub leaves_since : (e : Option FileToStore) (old mid now : FilesTold) → OnlyRead old mid → Leaves e (file_change mid now) → Leaves e (file_change old now)
 leaves_since e old mid now r (LeftAlone k) = LeftAlone (kept_since old mid now r k)
 leaves_since e old mid now r (LeftStored x is s) = LeftStored x is (stored_since x.name x.bytes old mid now r s)
 leaves_since e old mid now r (LeftUnstored x is u) = LeftUnstored x is (unstored_since x.name old mid now r u)

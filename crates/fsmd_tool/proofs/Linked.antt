@@ -9,7 +9,7 @@ use Rattle.fs_model.specs.Machines.{Fsmd}
 use Rattle.fs_pair.specs.Interfaces.{interface_fault}
 use Rattle.cert_bisimulation.specs.Tables.{Node}
 use Rattle.sym_facts.specs.Facts.{Fact}
-use Rattle.cert_model.specs.Obligations.{Yes}
+use Rattle.cert_model.specs.Obligations.{Yes, verdict_on}
 use Rattle.hls_shrink.specs.Chains.{ChainEnds}
 use Rattle.fsmd_replies.specs.declared.answer.Answer.{Answer}
 use Rattle.fsmd_replies.specs.declared.answer.Answer.TheVariants.{Link}
@@ -21,11 +21,11 @@ use Rattle.fsmd_answers.specs.MachineFiles.{SpellsMachine}
 use Rattle.fsmd_answers.specs.Readings.{Readable, Reading}
 use Rattle.fsmd_answers.specs.Refusals.{RefusesMachine, RefusesPair, RefusesCertificate, SpellsCertificate}
 use Rattle.fsmd_answers.specs.Refusing.{WhereAnswered}
-use Rattle.fsmd_answers.specs.Verdicts.{IsJudged, verdict_on}
+use Rattle.fsmd_answers.specs.Verdicts.{IsJudged}
 use Rattle.fsmd_answers.specs.Links.{AtLink, link_lines, links_in, links_of, IsOfChain}
-use Rattle.fsmd_answers.specs.Follows.{Opens, Refused, Spelled, ComparesPairs, Alike, Judges, Fails, Holds, OpensCertificate, OpensLink, OpensLinks}
+use Rattle.fsmd_answers.specs.Follows.{Opens, Refused, Spelled, ComparesPairs, SameInterface, Judges, Fails, Holds, OpensCertificate, OpensLink, OpensLinks}
 use Rattle.fsmd_answers.proofs.Maps.{answer_map, err_map}
-use Rattle.fsmd_tool.specs.Calls.{Call, call, OnlyRead, LoadsFrom, LoadsAtMost, held, MayHold, IsCorrectFrom, IsCorrectInOrder}
+use Rattle.fsmd_tool.specs.Calls.{Call, call, OnlyRead, LoadsFrom, LoadsAtMost, known_at_start, MayHold, IsCorrectFrom, IsCorrectInOrder}
 use Rattle.fsmd_tool.specs.Loading.{GivesContent, NothingFollows, RefusesNext, RefusesLink}
 use Rattle.fsmd_tool.specs.Clauses.{LinkHolds}
 use Rattle.fsmd_tool.proofs.FromFiles.{opens_map, pairs_map}
@@ -74,7 +74,7 @@ next_refused_as last n g e w =
 -- and so is a refusal of the certificate, which was loaded behind the machine
 pub certificate_refused : (o : Option Asked) (old mid now : FilesTold) (last next : Fsmd) (n : ℕ) (e : Refusal) → OnlyRead old mid
     → LoadsFrom o n 1 old mid → LoadsFrom o (n + 1) 1 mid now
-    → MayHold (held (call o old now) (operand n)) (SpellsMachine next) → interface_fault last next ≡ None
+    → MayHold (known_at_start (call o old now) (operand n)) (SpellsMachine next) → interface_fault last next ≡ None
     → WhereAnswered (GivesContent (call o mid now) (operand (n + 1)) (RefusesCertificate last next (operand (n + 1)))) e
     → WhereAnswered (IsCorrectInOrder (RefusesLink last) n (call o old now)) e
 certificate_refused o old mid now last next n e read first second machine same w =
@@ -84,7 +84,7 @@ certificate_refused o old mid now last next n e read first second machine same w
       correct = record {
         reading = Readable machine.bytes ∷ m.content ∷ [];
         may_be_read = (machine.may, (each_since o old mid now read (operand (n + 1)) m.content m.may, tt));
-        follows = Spelled next machine.meet (Alike same (Refused m.meets refl));
+        follows = Spelled next machine.meet (SameInterface same (Refused m.meets refl));
       };
       loads = loads_on o n 1 1 (n + 1) 2 old mid now refl (omega arith) first second;
     }) e w
@@ -125,14 +125,14 @@ link_refused o k last P n g e told h t =
 
 -- both files of a link were loaded, and the verdict on its certificate is not yes
 pub link_fails : (o : Option Asked) (k : ℕ) (last : Fsmd) (P : Fsmd → (file : ℕ) → Reading → Answer → Type 0) (n : ℕ) (g : Call) (next : Fsmd)
-    (nodes : List (Node Fact)) → MayHold (held g (operand n)) (SpellsMachine next) → interface_fault last next ≡ None
-    → MayHold (held g (operand (n + 1))) (SpellsCertificate last next nodes) → LoadsFrom g.asked n 2 g.before g.now → (x : Answer)
+    (nodes : List (Node Fact)) → MayHold (known_at_start g (operand n)) (SpellsMachine next) → interface_fault last next ≡ None
+    → MayHold (known_at_start g (operand (n + 1))) (SpellsCertificate last next nodes) → LoadsFrom g.asked n 2 g.before g.now → (x : Answer)
     → (verdict_on last next nodes ≢ Yes) × AtLink o k (IsJudged last next nodes) x → IsCorrectInOrder (OpensLink o k last P) n g x
 link_fails o k last P n g next nodes machine same cert both x h = record {
   correct = record {
     reading = Readable machine.bytes ∷ Readable cert.bytes ∷ [];
     may_be_read = (machine.may, (cert.may, tt));
-    follows = Spelled next machine.meet (Alike same (Spelled nodes cert.meet (Fails h.0 h.1 refl)));
+    follows = Spelled next machine.meet (SameInterface same (Spelled nodes cert.meet (Fails h.0 h.1 refl)));
   };
   loads = both;
 }
@@ -151,22 +151,22 @@ link_holds o asked k last P n old mid now Q h x read both c = record {
         read_map (call o mid now) (call o old now) (each_since o old mid now read) (n + 1 + 1) c.correct.reading c.correct.may_be_read,
       ),
     );
-    follows = Spelled h.next h.machine.meet (Alike h.alike (Spelled h.nodes h.certificate.meet (Holds h.hold c.correct.follows)));
+    follows = Spelled h.next h.machine.meet (SameInterface h.alike (Spelled h.nodes h.certificate.meet (Holds h.hold c.correct.follows)));
   };
   loads = loads_on o n 2 (length c.correct.reading) (n + 1 + 1) (suc (suc (length c.correct.reading))) old mid now (omega arith) (omega arith) both c.loads;
 }
 
 -- a chain with one machine more has one link more that holds
 pub link_made : {E : Type 0} (n : ℕ) (g : Call) (last loaded next : Fsmd) (nodes : List (Node Fact)) → loaded ≡ last
-    → MayHold (held g (operand n)) (SpellsMachine next) → interface_fault loaded next ≡ None
-    → MayHold (held g (operand (n + 1))) (SpellsCertificate loaded next nodes) → (r : Result ChainEnds E) → OnOk r (verdict_on last next nodes ≡ Yes)
+    → MayHold (known_at_start g (operand n)) (SpellsMachine next) → interface_fault loaded next ≡ None
+    → MayHold (known_at_start g (operand (n + 1))) (SpellsCertificate loaded next nodes) → (r : Result ChainEnds E) → OnOk r (verdict_on last next nodes ≡ Yes)
     → IfOk r (λ c. c.last ≡ next) → IfOk r (λ c. LinkHolds g n last (λ b. b ≡ c.last))
 link_made n g last loaded next nodes e machine same cert (Ok c) hold is = record {
   next = next;
   nodes = nodes;
   machine = machine;
   alike = subst (λ v. interface_fault v next ≡ None) e same;
-  certificate = subst (λ v. MayHold (held g (operand (n + 1))) (SpellsCertificate v next nodes)) e cert;
+  certificate = subst (λ v. MayHold (known_at_start g (operand (n + 1))) (SpellsCertificate v next nodes)) e cert;
   hold = hold;
   rest = sym is;
 }
@@ -174,13 +174,13 @@ link_made n g last loaded next nodes e machine same cert (Err x) hold is = tt
 
 -- and a chain that is given none has a link that fails
 pub link_unmade : {T : Type 0} (o : Option Asked) (k n : ℕ) (g : Call) (last loaded next : Fsmd) (nodes : List (Node Fact)) → loaded ≡ last
-    → MayHold (held g (operand n)) (SpellsMachine next) → interface_fault loaded next ≡ None
-    → MayHold (held g (operand (n + 1))) (SpellsCertificate loaded next nodes) → LoadsFrom g.asked n 2 g.before g.now → (r : Result T Refusal)
+    → MayHold (known_at_start g (operand n)) (SpellsMachine next) → interface_fault loaded next ≡ None
+    → MayHold (known_at_start g (operand (n + 1))) (SpellsCertificate loaded next nodes) → LoadsFrom g.asked n 2 g.before g.now → (r : Result T Refusal)
     → IfErr r (WhereAnswered (λ x. (verdict_on last next nodes ≢ Yes) × AtLink o k (IsJudged last next nodes) x))
     → IfErr r (WhereAnswered (IsCorrectInOrder (OpensLink o k last (λ b. NothingFollows)) n g))
 link_unmade o k n g last loaded next nodes e machine same cert both r h =
     let alike_too = subst (λ v. interface_fault v next ≡ None) e same in
-    let certificate = subst (λ v. MayHold (held g (operand (n + 1))) (SpellsCertificate v next nodes)) e cert in
+    let certificate = subst (λ v. MayHold (known_at_start g (operand (n + 1))) (SpellsCertificate v next nodes)) e cert in
     let P : Answer → Type 0 = λ x. (verdict_on last next nodes ≢ Yes) × AtLink o k (IsJudged last next nodes) x in
     let Q : Answer → Type 0 = IsCorrectInOrder (OpensLink o k last (λ b. NothingFollows)) n g in
     err_map (WhereAnswered P) (WhereAnswered Q) (λ t w. answer_map P Q

@@ -12,12 +12,13 @@ use Rattle.fsmd_answers.specs.declared.refused.Refused.{Refused as Refusal}
 use Rattle.fsmd_replies.specs.Statuses.{status_of, certificate_in}
 use Rattle.fsmd_replies.specs.AskedFiles.{cert_of}
 use Rattle.fsmd_replies.specs.Replies.{reply, unstored_reply}
-use Rattle.fsmd_answers.specs.MachinePairAnswers.{IsOfPair, IsOfLoops}
+use Rattle.fsmd_answers.specs.ComparisonAnswers.{IsOfPair, IsOfLoops}
 use Rattle.fsmd_answers.specs.Links.{links_of}
 use Rattle.fsmd_answers.specs.Follows.{Ends, OpensMachine, OpensPair, OpensLinks, FollowsFrom}
 use Rattle.fsmd_tool.specs.Calls.{Call, call, OnlyRead, IsCorrectFrom, IsCorrectInOrder, AnswersBy}
 use Rattle.fsmd_tool.specs.SinkReplies.{Put, IsPut}
-use Rattle.fsmd_tool.specs.CertificateStores.{StoreState, stores, IsUnchangedStore, IsUnstored, StoreEntry, to_store, Leaves, NotStored, Untouched, Failed}
+use Rattle.fsmd_tool.specs.CertificateStores.{FileChange, file_change, IsUnchangedStore, IsUnstored, FileToStore, to_store, Leaves, NotStored, Untouched}
+use Rattle.fsmd_tool.specs.CertificateStores.{Failed}
 use Rattle.fsmd_tool.specs.CertificateStores.{IsUnwritten, NoneWritten, WriteFailed}
 use Rattle.fsmd_tool.specs.Correct.{IsCorrectAnswer, IsDone, IsDoneFor, Kept, Unstored, Answered}
 use Rattle.fsmd_tool.specs.Clauses.{KeepsFiles}
@@ -39,7 +40,7 @@ answers_usage o files (Ok t) p e put =
       answer = Usage;
       correct = c.correct;
       loads = c.loads;
-      done = subst (λ w. IsDoneFor w Usage (stores files files) (p t)) (sym e) (Kept refl (λ name. refl) put);
+      done = subst (λ w. IsDoneFor w Usage (file_change files files) (p t)) (sym e) (Kept refl (λ name. refl) put);
     }
 answers_usage o files (Err x) p e put = tt
 
@@ -48,7 +49,7 @@ on_err (Ok t) P h = tt
 on_err (Err e) P h = h
 
 -- what was put in the place of the reply, where what is to be stored was not
-pub unstored : {E : Type 0} (x : StoreEntry) (reply : List ℕ) (meant : Status) (s : StoreState) (r : Result Status E) (p : Status → Put) → IsUnstored x.name s
+pub unstored : {E : Type 0} (x : FileToStore) (reply : List ℕ) (meant : Status) (s : FileChange) (r : Result Status E) (p : Status → Put) → IsUnstored x.name s
     → IfOk r (λ t. IsPut (unstored_reply x.name) Fault (p t)) → IfOk r (λ t. IsDone (Some x) reply meant s (p t))
 unstored x reply meant s (Ok t) p u put = Unstored x refl u put
 unstored x reply meant s (Err e) p u put = tt
@@ -56,7 +57,7 @@ unstored x reply meant s (Err e) p u put = tt
 -- what was put of an answer, over files that were loaded before
 pub answered : {E : Type 0} (o : Option Asked) (old mid now : FilesTold) (answer : Answer) (r : Result Status E) (p : Status → Put) → OnlyRead old mid
     → NoneFell mid.faults now.faults → now.loaded ≡ mid.loaded
-    → IsCorrectInOrder (FollowsFrom o) 0 (call o old mid) answer → IfOk r (λ t. IsDoneFor o answer (stores mid now) (p t))
+    → IsCorrectInOrder (FollowsFrom o) 0 (call o old mid) answer → IfOk r (λ t. IsDoneFor o answer (file_change mid now) (p t))
     → IfOk r (λ t. Answered (call o old now) (p t))
 answered o old mid now answer (Ok t) p read fell same correct done = record {
   answer = answer;
@@ -71,22 +72,22 @@ answered o old mid now answer (Ok t) p read fell same correct done = record {
 answered o old mid now answer (Err x) p read fell same correct done = tt
 
 pub keeps : (o : Option Asked) (old mid now : FilesTold) (answer : Answer) → OnlyRead old mid → NoneFell mid.faults now.faults
-    → IsCorrectAnswer (call o old mid) answer → Leaves (to_store o answer) (stores mid now) → KeepsFiles (call o old now)
+    → IsCorrectAnswer (call o old mid) answer → Leaves (to_store o answer) (file_change mid now) → KeepsFiles (call o old now)
 keeps o old mid now answer read fell correct leaves =
     keeps_files (call o old now) answer (correct_until o old mid now read.counts fell (FollowsFrom o) 0 answer correct)
     (leaves_since (to_store o answer) old mid now read leaves)
 
 -- nothing that the words ask to be stored was
-unwritten_of : (o : Option Asked) (answer : Answer) (s : StoreState) → NotStored (to_store o answer) s → IsUnwritten o s
+unwritten_of : (o : Option Asked) (answer : Answer) (s : FileChange) → NotStored (to_store o answer) s → IsUnwritten o s
 unwritten_of o answer s (Untouched k) = NoneWritten k
 unwritten_of o answer s (Failed x e u) = WriteFailed x.name (entry_named (cert_of o) (certificate_in answer) x e) u
 
 pub unwritten : {T E : Type 0} (o : Option Asked) (old mid now : FilesTold) (answer : Answer) (r : Result T E) → OnlyRead old mid
-    → OnErr r (NotStored (to_store o answer) (stores mid now)) → OnErr r (IsUnwritten o (stores old now))
+    → OnErr r (NotStored (to_store o answer) (file_change mid now)) → OnErr r (IsUnwritten o (file_change old now))
 unwritten o old mid now answer (Ok t) read n = tt
-unwritten o old mid now answer (Err e) read n = unwritten_of o answer (stores old now) (not_stored_since (to_store o answer) old mid now read n)
+unwritten o old mid now answer (Err e) read n = unwritten_of o answer (file_change old now) (not_stored_since (to_store o answer) old mid now read n)
 
-pub unwritten_to_words : {T E : Type 0} (o w : Option Asked) (s : StoreState) (r : Result T E) → w ≡ o → OnErr r (IsUnwritten o s) → OnErr r (IsUnwritten w s)
+pub unwritten_to_words : {T E : Type 0} (o w : Option Asked) (s : FileChange) (r : Result T E) → w ≡ o → OnErr r (IsUnwritten o s) → OnErr r (IsUnwritten w s)
 unwritten_to_words o w s r e h = subst (λ v. OnErr r (IsUnwritten v s)) (sym e) h
 
 -- what is answered to what is asked, where that is this

@@ -2,8 +2,9 @@
 use Rattle.std.proofs.Common.{◌≡◌, ◌∙◌, ℕ, Bool, true, false, List, ◌++◌, Option, Some, None, refl, sym, ap, subst, length, codes}
 use Rattle.std.specs.Prelude.{IsTrue, is_some}
 use Rattle.std.proofs.lemmas.Bool.{false≢true}
+use Rattle.cert_model.specs.Obligations.{verdict_on}
 use Rattle.fsmd_words.specs.AskedWords.{Asked, Check, Verify}
-use Rattle.fs_base.specs.Outside.{appended}
+use Rattle.fs_base.specs.Outside.{got_after}
 use Rattle.fs_model.specs.Machines.{Fsmd}
 use Rattle.cert_bisimulation.specs.Tables.{Node}
 use Rattle.sym_facts.specs.Facts.{Fact}
@@ -16,12 +17,12 @@ use Rattle.fsmd_replies.specs.declared.answer.Answer.TheVariants.{Equivalent, Te
 use Rattle.fsmd_replies.specs.Statuses.{status_of, certificate_in}
 use Rattle.fsmd_replies.specs.AskedFiles.{compares, is_verify, cert_of, step_limit}
 use Rattle.fsmd_answers.specs.LineAnswers.{HasLines}
-use Rattle.fsmd_answers.specs.MachinePairAnswers.{AreSame, IsOfPair, Same, Apart, Open, kept}
-use Rattle.fsmd_answers.specs.Verdicts.{verdict_on, answer_to}
-use Rattle.fsmd_replies.specs.Replies.{opening, lines_of, reply, equivalent_text, unstored_reply}
+use Rattle.fsmd_answers.specs.ComparisonAnswers.{AreSame, IsOfPair, Same, Apart, Open, text_to_store}
+use Rattle.fsmd_answers.specs.Verdicts.{answer_to}
+use Rattle.fsmd_replies.specs.Replies.{opening_line, lines_of, reply, equivalent_text, unstored_reply}
 use Rattle.fsmd_tool.specs.Calls.{Call}
 use Rattle.fsmd_tool.specs.SinkReplies.{Put, IsPut, Whole, Cut}
-use Rattle.fsmd_tool.specs.CertificateStores.{StoreState, stores, IsStoredUnder, StoreEntry, stored_entry, stored_entry_of, to_store, Leaves, LeftAlone}
+use Rattle.fsmd_tool.specs.CertificateStores.{FileChange, file_change, IsStoredUnder, FileToStore, file_to_store, file_to_store_of, to_store, Leaves, LeftAlone}
 use Rattle.fsmd_tool.specs.CertificateStores.{LeftStored, LeftUnstored}
 use Rattle.fsmd_tool.specs.Correct.{IsCorrectAnswer, IsDone, Kept, Stored, Unstored, Answered}
 use Rattle.fsmd_tool.specs.Equivalent.{HasPut, ArePairedMachines, AreEquivalent}
@@ -31,16 +32,16 @@ use Rattle.fsmd_tool.proofs.Found.{compared, checked}
 
 -- ---- what was put with a status that is none of a fault
 
-pub record IsWell (e : Option StoreEntry) (reply : List ℕ) (meant s : Status) (st : StoreState) (p : Put) : Type 0 where
+pub record IsWell (e : Option FileToStore) (reply : List ℕ) (meant s : Status) (st : FileChange) (p : Put) : Type 0 where
   pub meant_is : meant ≡ s
-  pub got : p.got_now ≡ appended p.got_before reply
-  pub stored : (x : StoreEntry) → e ≡ Some x → IsStoredUnder x.name x.bytes st
+  pub got : p.got_now ≡ got_after p.got_before reply
+  pub stored : (x : FileToStore) → e ≡ Some x → IsStoredUnder x.name x.bytes st
 
 cut_not : (s : Status) → is_refusal s ≡ false → statuses.Fault ≡ s → ⊥
 cut_not s away e = false≢true (sym away ∙ ap is_refusal (sym e))
 
-put_well : (e : Option StoreEntry) (reply : List ℕ) (meant s : Status) (st : StoreState) (p : Put) → is_refusal s ≡ false → p.status ≡ s
-    → ((x : StoreEntry) → e ≡ Some x → IsStoredUnder x.name x.bytes st) → IsPut reply meant p → IsWell e reply meant s st p
+put_well : (e : Option FileToStore) (reply : List ℕ) (meant s : Status) (st : FileChange) (p : Put) → is_refusal s ≡ false → p.status ≡ s
+    → ((x : FileToStore) → e ≡ Some x → IsStoredUnder x.name x.bytes st) → IsPut reply meant p → IsWell e reply meant s st p
 put_well e reply meant s st p away is h (Whole w) = record { meant_is = sym w.status ∙ is; got = w.got; stored = h }
 put_well e reply meant s st p away is h (Cut w) = absurd (cut_not s away (sym w.status ∙ is))
 
@@ -48,14 +49,14 @@ unstored_not : (reply : List ℕ) (s : Status) (p : Put) → is_refusal s ≡ fa
 unstored_not reply s p away is (Whole w) = cut_not s away (sym w.status ∙ is)
 unstored_not reply s p away is (Cut w) = cut_not s away (sym w.status ∙ is)
 
-only_entry : (e : Option StoreEntry) (x : StoreEntry) (st : StoreState) → e ≡ Some x → IsStoredUnder x.name x.bytes st → (y : StoreEntry) → e ≡ Some y
+only_entry : (e : Option FileToStore) (x : FileToStore) (st : FileChange) → e ≡ Some x → IsStoredUnder x.name x.bytes st → (y : FileToStore) → e ≡ Some y
     → IsStoredUnder y.name y.bytes st
 only_entry e x st is s y other = let same : Some x ≡ Some y = sym is ∙ other in let one : x ≡ y = cc in subst (λ z. IsStoredUnder z.name z.bytes st) one s
 
-no_entry : (e : Option StoreEntry) (st : StoreState) → e ≡ None → (y : StoreEntry) → e ≡ Some y → IsStoredUnder y.name y.bytes st
+no_entry : (e : Option FileToStore) (st : FileChange) → e ≡ None → (y : FileToStore) → e ≡ Some y → IsStoredUnder y.name y.bytes st
 no_entry e st none y some = absurd (let bad : None ≡ Some y = sym none ∙ some in cc)
 
-done_well : (e : Option StoreEntry) (reply : List ℕ) (meant s : Status) (st : StoreState) (p : Put) → is_refusal s ≡ false → p.status ≡ s
+done_well : (e : Option FileToStore) (reply : List ℕ) (meant s : Status) (st : FileChange) (p : Put) → is_refusal s ≡ false → p.status ≡ s
     → IsDone e reply meant st p
     → IsWell e reply meant s st p
 done_well e reply meant s st p away is (Kept none k put) = put_well e reply meant s st p away is (no_entry e st none) put
@@ -63,15 +64,15 @@ done_well e reply meant s st p away is (Stored x some k put) = put_well e reply 
 done_well e reply meant s st p away is (Unstored x some u put) = absurd (unstored_not (unstored_reply x.name) s p away is put)
 
 pub well : (g : Call) (p : Put) (s : Status) (a : Answered g p) → is_refusal s ≡ false → p.status ≡ s
-    → IsWell (to_store g.asked a.answer) (reply a.answer g.asked) (status_of a.answer) s (stores g.before g.now) p
-well g p s a away is = done_well (to_store g.asked a.answer) (reply a.answer g.asked) (status_of a.answer) s (stores g.before g.now) p away is a.done
+    → IsWell (to_store g.asked a.answer) (reply a.answer g.asked) (status_of a.answer) s (file_change g.before g.now) p
+well g p s a away is = done_well (to_store g.asked a.answer) (reply a.answer g.asked) (status_of a.answer) s (file_change g.before g.now) p away is a.done
 
 -- ---- the answer to two machines, by its status
 
 record Alike (keeps : Bool) (a b : Fsmd) (x : Answer) : Type 0 where
   nodes : List (Node Fact)
   same : AreSame a b nodes
-  is : x ≡ Equivalent (length nodes) (kept keeps (certificate_text a b nodes))
+  is : x ≡ Equivalent (length nodes) (text_to_store keeps (certificate_text a b nodes))
 
 fine : (limit : ℕ) (keeps : Bool) (a b : Fsmd) (x : Answer) → IsOfPair limit keeps a b x → HasStatus statuses.Fine x → Alike keeps a b x
 fine limit keeps a b x (Same ns same e) s = record { nodes = ns; same = same; is = e }
@@ -91,13 +92,13 @@ undecided limit keeps a b x (Apart l) s = absurd (let h : statuses.Differ ≡ st
 undecided limit keeps a b x (Open l) s = l
 
 -- what is to be stored of an equivalent answer
-stores_text : (o : Option Asked) (x : Answer) (nodes : ℕ) (text name : List ℕ) → x ≡ Equivalent nodes (kept (is_some (cert_of o)) text)
-    → cert_of o ≡ Some name → to_store o x ≡ Some (stored_entry name text)
+stores_text : (o : Option Asked) (x : Answer) (nodes : ℕ) (text name : List ℕ) → x ≡ Equivalent nodes (text_to_store (is_some (cert_of o)) text)
+    → cert_of o ≡ Some name → to_store o x ≡ Some (file_to_store name text)
 stores_text o x nodes text name is e = rw (is, e) refl
 
-pub put_lines : (g : Call) (p : Put) (x : Answer) (lines : List ℕ) → p.got_now ≡ appended p.got_before (reply x g.asked) → lines_of x g.asked ≡ lines
+pub put_lines : (g : Call) (p : Put) (x : Answer) (lines : List ℕ) → p.got_now ≡ got_after p.got_before (reply x g.asked) → lines_of x g.asked ≡ lines
     → HasPut g p lines
-put_lines g p x lines got is = got ∙ ap (λ l. appended p.got_before (opening g.asked ++ l)) is
+put_lines g p x lines got is = got ∙ ap (λ l. got_after p.got_before (opening_line g.asked ++ l)) is
 
 pub says_same : (g : Call) (p : Put) → Answered g p → p.status ≡ statuses.Fine → IsTrue (compares g.asked) → SaysSame g p
 says_same g p a e t =
@@ -113,7 +114,7 @@ says_same g p a e t =
       holds = k.same.shows.certificate;
       same = k.same.same;
       put = put_lines g p a.answer (equivalent_text (length k.nodes)) w.got (ap (λ x. lines_of x g.asked) k.is);
-      stored = λ name named. w.stored (stored_entry name (certificate_text c.left c.right k.nodes))
+      stored = λ name named. w.stored (file_to_store name (certificate_text c.left c.right k.nodes))
           (stores_text g.asked a.answer (length k.nodes) (certificate_text c.left c.right k.nodes) name k.is named);
     }
 
@@ -178,7 +179,7 @@ is_checked g p a e t =
       alike = c.alike;
       hold = yes;
       same = c.judged.same yes;
-      put = w.got ∙ ap (appended p.got_before) (no_opening g.asked t a.answer ∙ ap (λ x. lines_of x g.asked) is);
+      put = w.got ∙ ap (got_after p.got_before) (no_opening g.asked t a.answer ∙ ap (λ x. lines_of x g.asked) is);
     }
 
 -- ---- files that are changed
@@ -188,14 +189,14 @@ with_certificate : (x : Answer) (text : List ℕ) → certificate_in x ≡ Some 
 with_certificate (Equivalent nodes cert) text e = refl
 with_certificate _ text e = cc
 
-record IsEntry (cert text : Option (List ℕ)) (x : StoreEntry) : Type 0 where
+record IsEntry (cert text : Option (List ℕ)) (x : FileToStore) : Type 0 where
   named : cert ≡ Some x.name
   told : text ≡ Some x.bytes
 
-is_entry : (cert text : Option (List ℕ)) (x : StoreEntry) → stored_entry_of cert text ≡ Some x → IsEntry cert text x
+is_entry : (cert text : Option (List ℕ)) (x : FileToStore) → file_to_store_of cert text ≡ Some x → IsEntry cert text x
 is_entry None text x e = absurd (cc)
 is_entry (Some name) None x e = absurd (cc)
-is_entry (Some name) (Some bytes) x e = let same : stored_entry name bytes ≡ x =
+is_entry (Some name) (Some bytes) x e = let same : file_to_store name bytes ≡ x =
     cc in record { named = ap (λ z. Some z.name) same; told = ap (λ z. Some z.bytes) same }
 
 named_compares : (o : Option Asked) (name : List ℕ) → cert_of o ≡ Some name → IsTrue (compares o)
@@ -203,7 +204,7 @@ named_compares (Some (Check left right cert steps)) name e = refl
 named_compares _ name e = absurd (cc)
 
 -- what is to be stored is the text of a certificate that shows that the machines have the same behaviour
-record IsOfSearch (g : Call) (x : StoreEntry) : Type 0 where
+record IsOfSearch (g : Call) (x : FileToStore) : Type 0 where
   named : cert_of g.asked ≡ Some x.name
   left : Fsmd
   right : Fsmd
@@ -212,11 +213,11 @@ record IsOfSearch (g : Call) (x : StoreEntry) : Type 0 where
   same : AreSame left right nodes
   text : x.bytes ≡ certificate_text left right nodes
 
-kept_text : (keeps : Bool) (text bytes : List ℕ) → kept keeps text ≡ Some bytes → bytes ≡ text
+kept_text : (keeps : Bool) (text bytes : List ℕ) → text_to_store keeps text ≡ Some bytes → bytes ≡ text
 kept_text true text bytes e = cc
 kept_text false text bytes e = absurd (cc)
 
-of_search : (g : Call) (y : Answer) (x : StoreEntry) → IsCorrectAnswer g y → to_store g.asked y ≡ Some x → IsOfSearch g x
+of_search : (g : Call) (y : Answer) (x : FileToStore) → IsCorrectAnswer g y → to_store g.asked y ≡ Some x → IsOfSearch g x
 of_search g y x c e =
     let i = is_entry (cert_of g.asked) (certificate_in y) x e in
     let f = with_certificate y x.bytes i.told in
@@ -232,9 +233,9 @@ of_search g y x c e =
       text = kept_text (is_some (cert_of g.asked)) (certificate_text m.left m.right k.nodes) x.bytes (sym (ap certificate_in k.is) ∙ i.told);
     }
 
-pub keeps_files : (g : Call) (y : Answer) → IsCorrectAnswer g y → Leaves (to_store g.asked y) (stores g.before g.now) → KeepsFiles g
+pub keeps_files : (g : Call) (y : Answer) → IsCorrectAnswer g y → Leaves (to_store g.asked y) (file_change g.before g.now) → KeepsFiles g
 keeps_files g y c (LeftAlone k) = AllKept k
 keeps_files g y c (LeftStored x e h) = let o =
     of_search g y x c e in CertificateStored x.name o.named o.left o.right o.paired o.nodes o.same.shows
-    (subst (λ t. IsStoredUnder x.name t (stores g.before g.now)) o.text h)
+    (subst (λ t. IsStoredUnder x.name t (file_change g.before g.now)) o.text h)
 keeps_files g y c (LeftUnstored x e h) = let o = of_search g y x c e in CertificateFailed x.name o.named o.left o.right o.paired o.nodes o.same.shows h

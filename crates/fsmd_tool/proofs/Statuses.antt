@@ -23,7 +23,7 @@ use Rattle.fsmd_answers.specs.ProgramFiles.{RefusesProgram, UnreadProgram, Progr
 use Rattle.fsmd_answers.specs.ScheduleFiles.{IsOfSchedule, IsOver, InRows}
 use Rattle.fsmd_synthesis_answers.specs.BindingAnswers.{Binding}
 use Rattle.fsmd_answers.specs.BindingFiles.{IsOfBinding, IsBound, Loses}
-use Rattle.fsmd_answers.specs.MachinePairAnswers.{IsOfPair, Same, Apart, Open}
+use Rattle.fsmd_answers.specs.ComparisonAnswers.{IsOfPair, Same, Apart, Open}
 use Rattle.fsmd_answers.specs.Verdicts.{answer_to}
 use Rattle.fsmd_answers.specs.RunAnswers.{IsOfRun, Ended, Stopped}
 use Rattle.fsmd_answers.specs.Replays.{IsOfReplay, LeftStopped, RightStopped, Agreed, Differed}

@@ -45,8 +45,8 @@ abbrev pub LoadsNamed : Call → Type 0
 LoadsNamed g = LoadsAtMost g.asked 0 (length (files_of g.asked)) g.before g.now
 
 -- what is known of a file at the start of the call
-abbrev pub held : Call → Operand → FileKnowledge
-held g file = g.before.holds (file_word_of g.asked file)
+abbrev pub known_at_start : Call → Operand → FileKnowledge
+known_at_start g file = g.before.holds (file_word_of g.asked file)
 
 -- a file of the call failed to be read
 abbrev pub FailedToRead : Call → Operand → Type 0
@@ -67,7 +67,7 @@ pub record MayHold (known : FileKnowledge) (P : List ℕ → Type 0) : Type 0 wh
 abbrev pub MayRead : Call → (file : ℕ) → Reading → Type 0
 MayRead g file [] = Unit {0}
 MayRead g file (content ∷ rest) =
-    MayBeRead (held g (operand file)) (FailedToRead g (operand file)) content × MayRead g (file + 1) rest
+    MayBeRead (known_at_start g (operand file)) (FailedToRead g (operand file)) content × MayRead g (file + 1) rest
 
 -- the answer follows, by P, from what may have been read of the files from a number on
 pub record IsCorrectFrom (P : (file : ℕ) → Reading → Answer → Type 0) (file : ℕ) (g : Call) (answer : Answer) : Type 0 where

@@ -1,7 +1,7 @@
 -- What the status of a call tells of its files and of what was put.
 use Rattle.std.specs.Prelude.{◌≡◌, ◌<◌, ℕ, zero, suc, ◌+◌, List, ◌++◌, length, Some, None, codes, decimal}
 use Rattle.fsmd_words.specs.AskedWords.{Chain}
-use Rattle.fs_base.specs.Outside.{Rose, appended}
+use Rattle.fs_base.specs.Outside.{Rose, got_after}
 use Rattle.fs_model.specs.Machines.{Fsmd}
 use Rattle.fs_model.specs.Runs.{Inputs, Content, SameBehaviour}
 use Rattle.fs_model.specs.Source.{Source}
@@ -12,7 +12,7 @@ use Rattle.hls_shrink.specs.Shrunk.{ShowDifference, EndsIn}
 use Rattle.hls_shrink.specs.Given.{given_contents}
 use Rattle.cert_bisimulation.specs.Tables.{Node}
 use Rattle.sym_facts.specs.Facts.{Fact}
-use Rattle.cert_model.specs.Obligations.{Yes}
+use Rattle.cert_model.specs.Obligations.{Yes, verdict_on}
 use Rattle.cert_writer.specs.WrittenCertificates.{certificate_text}
 use Rattle.search.specs.SearchOutcomes.{machines}
 use Rattle.search_laws.specs.Certificates.{IsCertificate}
@@ -31,12 +31,11 @@ use Rattle.fsmd_answers.specs.Refusals.{SpellsCertificate}
 use Rattle.fsmd_answers.specs.InputFiles.{SpellsInputs}
 use Rattle.fsmd_answers.specs.Shrinks.{IsSmallText}
 use Rattle.fsmd_answers.specs.Links.{links_of}
-use Rattle.fsmd_answers.specs.Verdicts.{verdict_on}
 use Rattle.fsmd_replies.specs.Replies.{equivalent_text}
-use Rattle.fsmd_tool.specs.Calls.{Call, held, FailedToRead, MayHold}
+use Rattle.fsmd_tool.specs.Calls.{Call, known_at_start, FailedToRead, MayHold}
 use Rattle.fsmd_tool.specs.SinkReplies.{Put}
 use Rattle.fsmd_tool.specs.Equivalent.{ArePairedMachines, HasPut}
-use Rattle.fsmd_tool.specs.CertificateStores.{stores, IsUnchangedStore, IsStoredUnder, IsUnstored}
+use Rattle.fsmd_tool.specs.CertificateStores.{file_change, IsUnchangedStore, IsStoredUnder, IsUnstored}
 
 -- a certificate shows that the machines have the same behaviour: that of a closed search, or one that was found beyond a search
 -- that is left open, and judged. It holds: it is lawful, within the limits, and all its obligations hold. Its number of nodes was
@@ -51,7 +50,7 @@ pub record SaysSame (g : Call) (p : Put) : Type 0 where
   pub same : SameBehaviour left right
   pub put : HasPut g p (equivalent_text (length nodes))
   pub stored : (name : List ℕ) → cert_of g.asked ≡ Some name
-      → IsStoredUnder name (certificate_text left right nodes) (stores g.before g.now)
+      → IsStoredUnder name (certificate_text left right nodes) (file_change g.before g.now)
 
 -- runs of the machines from the first stated candidate that shows a difference end with other outputs, which was put
 pub record SaysDiffer (g : Call) (p : Put) : Type 0 where
@@ -77,19 +76,19 @@ pub record IsChecked (g : Call) (p : Put) : Type 0 where
   pub left : Fsmd
   pub right : Fsmd
   pub nodes : List (Node Fact)
-  pub first : MayHold (held g (operand 0)) (SpellsMachine left)
-  pub second : MayHold (held g (operand 1)) (SpellsMachine right)
-  pub third : MayHold (held g (operand 2)) (SpellsCertificate left right nodes)
+  pub first : MayHold (known_at_start g (operand 0)) (SpellsMachine left)
+  pub second : MayHold (known_at_start g (operand 1)) (SpellsMachine right)
+  pub third : MayHold (known_at_start g (operand 2)) (SpellsCertificate left right nodes)
   pub alike : interface_fault left right ≡ None
   pub hold : verdict_on left right nodes ≡ Yes
   pub same : SameBehaviour left right
-  pub put : p.got_now ≡ appended p.got_before (codes "yes\n")
+  pub put : p.got_now ≡ got_after p.got_before (codes "yes\n")
 
 -- the first file spells a program, where it is known what it holds; the text of what it is compiled to was put
 pub record IsCompiled (g : Call) (p : Put) : Type 0 where
   pub program : Program
   pub text : List ℕ
-  pub first : MayHold (held g (operand 0)) (SpellsProgram program)
+  pub first : MayHold (known_at_start g (operand 0)) (SpellsProgram program)
   pub is : IsCompiledText program text
   pub put : HasPut g p text
 
@@ -99,8 +98,8 @@ pub record IsInRows (g : Call) (p : Put) : Type 0 where
   pub parts : Source
   pub units : Units
   pub text : List ℕ
-  pub first : MayHold (held g (operand 0)) (SpellsParts parts)
-  pub second : MayHold (held g (operand 1)) (SpellUnits units)
+  pub first : MayHold (known_at_start g (operand 0)) (SpellsParts parts)
+  pub second : MayHold (known_at_start g (operand 1)) (SpellUnits units)
   pub is : IsScheduleText units parts text
   pub put : HasPut g p text
 
@@ -110,8 +109,8 @@ pub record IsInRegisters (g : Call) (p : Put) : Type 0 where
   pub parts : Source
   pub binding : Binding
   pub text : List ℕ
-  pub first : MayHold (held g (operand 0)) (SpellsParts parts)
-  pub second : MayHold (held g (operand 1)) (SpellsBinding (machine_of parts) binding)
+  pub first : MayHold (known_at_start g (operand 0)) (SpellsParts parts)
+  pub second : MayHold (known_at_start g (operand 1)) (SpellsBinding (machine_of parts) binding)
   pub is : IsBoundText parts binding text
   pub put : HasPut g p text
 
@@ -123,9 +122,9 @@ pub record IsShrunk (g : Call) (p : Put) : Type 0 where
   pub inputs : Inputs
   pub end : List Content
   pub lines : List ℕ
-  pub first : MayHold (held g (operand 0)) (SpellsMachine left)
-  pub second : MayHold (held g (operand 1)) (SpellsMachine right)
-  pub third : MayHold (held g (operand 2)) (SpellsInputs left inputs)
+  pub first : MayHold (known_at_start g (operand 0)) (SpellsMachine left)
+  pub second : MayHold (known_at_start g (operand 1)) (SpellsMachine right)
+  pub third : MayHold (known_at_start g (operand 2)) (SpellsInputs left inputs)
   pub alike : interface_fault left right ≡ None
   pub shows : ShowsDifference left right inputs (shrink_limit g.asked)
   pub ends : EndsIn (ShowDifference left right (shrink_limit g.asked)) (given_contents left inputs) end
@@ -138,9 +137,9 @@ pub record IsShrunk (g : Call) (p : Put) : Type 0 where
 pub record LinkHolds (g : Call) (file : ℕ) (last : Fsmd) (Rest : Fsmd → Type 0) : Type 0 where
   pub next : Fsmd
   pub nodes : List (Node Fact)
-  pub machine : MayHold (held g (operand file)) (SpellsMachine next)
+  pub machine : MayHold (known_at_start g (operand file)) (SpellsMachine next)
   pub alike : interface_fault last next ≡ None
-  pub certificate : MayHold (held g (operand (file + 1))) (SpellsCertificate last next nodes)
+  pub certificate : MayHold (known_at_start g (operand (file + 1))) (SpellsCertificate last next nodes)
   pub hold : verdict_on last next nodes ≡ Yes
   pub rest : Rest next
 
@@ -156,7 +155,7 @@ pub record IsChained (g : Call) (p : Put) : Type 0 where
   pub asked : g.asked ≡ Some (Chain words)
   pub first : Fsmd
   pub last : Fsmd
-  pub begins : MayHold (held g (operand 0)) (SpellsMachine first)
+  pub begins : MayHold (known_at_start g (operand 0)) (SpellsMachine first)
   pub hold : LinksHold g 1 (links_of words) first last
   pub same : SameBehaviour first last
   pub put : HasPut g p (codes "yes: " ++ (decimal (links_of words + 1) ++ codes " machines\n"))
@@ -164,13 +163,13 @@ pub record IsChained (g : Call) (p : Put) : Type 0 where
 -- no file was changed but the one for a certificate, and that only where one shows that the machines that are compared have the
 -- same behaviour: it was stored, or that failed
 pub data KeepsFiles (g : Call) : Type 0 where
-  AllKept : IsUnchangedStore (stores g.before g.now) → KeepsFiles g
+  AllKept : IsUnchangedStore (file_change g.before g.now) → KeepsFiles g
   CertificateStored : (name : List ℕ) → cert_of g.asked ≡ Some name → (a b : Fsmd) → ArePairedMachines g a b
       → (nodes : List (Node Fact)) → ShowsSame (machines a b) nodes
-      → IsStoredUnder name (certificate_text a b nodes) (stores g.before g.now) → KeepsFiles g
+      → IsStoredUnder name (certificate_text a b nodes) (file_change g.before g.now) → KeepsFiles g
   CertificateFailed : (name : List ℕ) → cert_of g.asked ≡ Some name → (a b : Fsmd) → ArePairedMachines g a b
       → (nodes : List (Node Fact)) → ShowsSame (machines a b) nodes
-      → IsUnstored name (stores g.before g.now) → KeepsFiles g
+      → IsUnstored name (file_change g.before g.now) → KeepsFiles g
 
 -- a file that is named to be read failed to be read, the certificate failed to be stored, or the sink failed
 pub data HasCause (g : Call) (p : Put) : Type 0 where

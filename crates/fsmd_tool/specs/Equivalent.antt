@@ -1,22 +1,22 @@
 -- What status 0 of a comparison tells. Nothing here speaks of how it was found.
 use Rattle.std.specs.Prelude.{◌≡◌, ℕ, IsTrue, List, ◌++◌, Some, None}
 use Rattle.fsmd_words.specs.AskedWords.{Generate}
-use Rattle.fs_base.specs.Outside.{appended}
+use Rattle.fs_base.specs.Outside.{got_after}
 use Rattle.fs_model.specs.Machines.{Fsmd}
 use Rattle.fs_model.specs.Runs.{SameBehaviour}
 use Rattle.fs_pair.specs.Interfaces.{interface_fault}
 use Rattle.fsmd_replies.specs.AskedFiles.{operand, is_check}
 use Rattle.fsmd_answers.specs.MachineFiles.{SpellsMachine}
-use Rattle.fsmd_answers.specs.MachinePairAnswers.{left_of, right_of}
-use Rattle.fsmd_replies.specs.Replies.{opening, equivalent_text}
-use Rattle.fsmd_tool.specs.Calls.{Call, held, MayHold}
+use Rattle.fsmd_answers.specs.ComparisonAnswers.{left_of, right_of}
+use Rattle.fsmd_replies.specs.Replies.{opening_line, equivalent_text}
+use Rattle.fsmd_tool.specs.Calls.{Call, known_at_start, MayHold}
 use Rattle.fsmd_tool.specs.SinkReplies.{Put}
 
 -- two machines are compared: those that the first two files of a check spell, each where it is known what it holds, or those of
 -- so many loops
 pub data AreCompared (g : Call) (a b : Fsmd) : Type 0 where
-  OfFiles : IsTrue (is_check g.asked) → MayHold (held g (operand 0)) (SpellsMachine a)
-      → MayHold (held g (operand 1)) (SpellsMachine b)
+  OfFiles : IsTrue (is_check g.asked) → MayHold (known_at_start g (operand 0)) (SpellsMachine a)
+      → MayHold (known_at_start g (operand 1)) (SpellsMachine b)
       → AreCompared g a b
   OfLoops : (loops : ℕ) → g.asked ≡ Some (Generate loops) → a ≡ left_of loops → b ≡ right_of loops → AreCompared g a b
 
@@ -27,7 +27,7 @@ pub record ArePairedMachines (g : Call) (a b : Fsmd) : Type 0 where
 
 -- this was put, behind the line with which each reply begins
 abbrev pub HasPut : Call → Put → List ℕ → Type 0
-HasPut g p lines = p.got_now ≡ appended p.got_before (opening g.asked ++ lines)
+HasPut g p lines = p.got_now ≡ got_after p.got_before (opening_line g.asked ++ lines)
 
 -- machines with the same inputs and outputs are compared, they have the same behaviour, and the line that says so was put, with
 -- some number of nodes

@@ -7,7 +7,7 @@ use Rattle.fsmd_replies.specs.declared.answer.Answer.{Answer}
 use Rattle.fsmd_answers.specs.Readings.{FileContent, Reading}
 use Rattle.fsmd_answers.specs.Refusals.{RefusesPair}
 use Rattle.fsmd_answers.specs.Follows.{ComparesPairs, OpensMachine, OpensCertificate}
-use Rattle.fsmd_tool.specs.Calls.{Call, held, FailedToRead, MayBeRead}
+use Rattle.fsmd_tool.specs.Calls.{Call, known_at_start, FailedToRead, MayBeRead}
 
 -- what may be read of a file meets P
 pub record MayGive (known : FileKnowledge) (Failed : Type 0) (P : FileContent → Type 0) : Type 0 where
@@ -17,7 +17,7 @@ pub record MayGive (known : FileKnowledge) (Failed : Type 0) (P : FileContent �
 
 -- what may be read of a file of the call meets P with the answer
 abbrev pub GivesContent : Call → Operand → (FileContent → Answer → Type 0) → Answer → Type 0
-GivesContent g file P answer = MayGive (held g file) (FailedToRead g file) (λ content. P content answer)
+GivesContent g file P answer = MayGive (known_at_start g file) (FailedToRead g file) (λ content. P content answer)
 
 -- ---- files that are refused one after another
 -- The answer follows, where nothing follows from what all of them spell.

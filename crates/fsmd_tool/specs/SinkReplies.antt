@@ -1,6 +1,6 @@
 -- What a sink got of a reply.
 use Rattle.std.specs.Prelude.{◌≡◌, ℕ, ◌<◌, List, length, take, Option}
-use Rattle.fs_base.specs.Outside.{SinkTold, Rose, appended}
+use Rattle.fs_base.specs.Outside.{SinkTold, Rose, got_after}
 use Rattle.fsmd_replies.specs.declared.answer.Status.{Status}
 use Rattle.fsmd_replies.specs.declared.answer.Status.TheVariants.{Fault}
 
@@ -13,8 +13,8 @@ pub record Put : Type 0 where
   pub faults_now : ℕ
 
 -- the same, by what is told of the sink before and now
-abbrev pub put : Status → (before now : SinkTold) → Put
-put status before now = record {
+abbrev pub put_between : Status → (before now : SinkTold) → Put
+put_between status before now = record {
   status = status;
   got_before = before.got;
   got_now = now.got;
@@ -25,7 +25,7 @@ put status before now = record {
 -- the sink got the whole reply
 pub record IsWhole (reply : List ℕ) (meant : Status) (p : Put) : Type 0 where
   pub status : p.status ≡ meant
-  pub got : p.got_now ≡ appended p.got_before reply
+  pub got : p.got_now ≡ got_after p.got_before reply
 
 -- the sink failed, and got a prefix of the reply
 pub record IsPartialPut (reply : List ℕ) (p : Put) : Type 0 where
@@ -33,7 +33,7 @@ pub record IsPartialPut (reply : List ℕ) (p : Put) : Type 0 where
   pub status : p.status ≡ Fault
   pub failed : Rose p.faults_before p.faults_now
   pub front : sent < length reply
-  pub got : p.got_now ≡ appended p.got_before (take sent reply)
+  pub got : p.got_now ≡ got_after p.got_before (take sent reply)
 
 -- the reply was put whole with its status, or cut
 pub data IsPut (reply : List ℕ) (meant : Status) (p : Put) : Type 0 where

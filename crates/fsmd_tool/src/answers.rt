@@ -1,13 +1,13 @@
 //! What each command answers, from its files.
 
 ghost use Rattle.std.specs.Prelude.{◌≡◌, None, ◌≤◌, Some};
-ghost use Rattle.fsmd_words.specs.AskedWords.{asked};
+ghost use Rattle.fsmd_words.specs.AskedWords.{asked_of_ask};
 ghost use Rattle.fs_pair.specs.Interfaces.{interface_fault};
 ghost use Rattle.fs_pair.specs.Positions.{positions};
 ghost use Rattle.fs_write.specs.Canonical.{canonical};
 ghost use Rattle.fs_path_text.specs.PathTexts.{paths_text};
 ghost use Rattle.fsmd_replies.specs.declared.answer.Answer.TheVariants.{Text};
-ghost use Rattle.fsmd_answers.specs.MachinePairAnswers.{IsOfPair};
+ghost use Rattle.fsmd_answers.specs.ComparisonAnswers.{IsOfPair};
 ghost use Rattle.fsmd_answers.specs.Verdicts.{IsJudged};
 ghost use Rattle.fsmd_answers.specs.RunAnswers.{IsOfRun};
 ghost use Rattle.fsmd_answers.specs.Replays.{IsOfReplay};
@@ -41,9 +41,9 @@ pub fn check<F: Files>(
 ) -> Result<Answer, Refused>
     requires { 1 ≤ steps }
     ensures answers { AnswersBy (IsCorrectInOrder (OpensPair (λ a b. Ends (IsOfPair steps keeps a b))) 0
-        (call (Some (asked ask.now)) (F.told files.old) (F.told files.new))) result }
+        (call (Some (asked_of_ask ask.now)) (F.told files.old) (F.told files.new))) result }
     ensures only_read { OnlyRead (F.told files.old) (F.told files.new) }
-    ensures at_most { LoadsAtMost (Some (asked ask.now)) 0 2 (F.told files.old) (F.told files.new) }
+    ensures at_most { LoadsAtMost (Some (asked_of_ask ask.now)) 0 2 (F.told files.old) (F.told files.new) }
 {
     let Pair {
         left,
@@ -66,9 +66,9 @@ fn verify_from<F: Files>(
     requires alike { interface_fault left.now right.now ≡ None }
     ensures answers { AnswersBy
         (IsCorrectInOrder (OpensCertificate left.now right.now (λ nodes. Ends (IsJudged left.now right.now nodes)))
-        2 (call (Some (asked ask.now)) (F.told files.old) (F.told files.new))) result }
+        2 (call (Some (asked_of_ask ask.now)) (F.told files.old) (F.told files.new))) result }
     ensures only_read { OnlyRead (F.told files.old) (F.told files.new) }
-    ensures at_most { LoadsAtMost (Some (asked ask.now)) 2 1 (F.told files.old) (F.told files.new) }
+    ensures at_most { LoadsAtMost (Some (asked_of_ask ask.now)) 2 1 (F.told files.old) (F.told files.new) }
 {
     let cert = load_certificate(alloc, Operand(2), ask, left, right, pairing, files)?;
     Ok(judge(alloc, left, right, pairing, &cert)?)
@@ -77,9 +77,9 @@ fn verify_from<F: Files>(
 /// What `verify` answers: whether a certificate shows that two machines have the same behaviour.
 pub fn verify_files<F: Files>(alloc: Global, ask: &Ask, files: &mut F) -> Result<Answer, Refused>
     ensures answers { AnswersBy (IsCorrectInOrder (OpensPair (λ a b. OpensCertificate a b (λ nodes. Ends (IsJudged a b nodes)))) 0
-        (call (Some (asked ask.now)) (F.told files.old) (F.told files.new))) result }
+        (call (Some (asked_of_ask ask.now)) (F.told files.old) (F.told files.new))) result }
     ensures only_read { OnlyRead (F.told files.old) (F.told files.new) }
-    ensures at_most { LoadsAtMost (Some (asked ask.now)) 0 3 (F.told files.old) (F.told files.new) }
+    ensures at_most { LoadsAtMost (Some (asked_of_ask ask.now)) 0 3 (F.told files.old) (F.told files.new) }
 {
     let Pair {
         left,
@@ -92,9 +92,9 @@ pub fn verify_files<F: Files>(alloc: Global, ask: &Ask, files: &mut F) -> Result
 /// What `fmt` answers: the canonical text of a machine.
 pub fn format_text<F: Files>(alloc: Global, ask: &Ask, files: &mut F) -> Result<Answer, Refused>
     ensures answers { AnswersBy (IsCorrectInOrder (OpensParts (λ parts. Ends (λ answer. answer ≡ Text (canonical parts)))) 0
-        (call (Some (asked ask.now)) (F.told files.old) (F.told files.new))) result }
+        (call (Some (asked_of_ask ask.now)) (F.told files.old) (F.told files.new))) result }
     ensures only_read { OnlyRead (F.told files.old) (F.told files.new) }
-    ensures at_most { LoadsAtMost (Some (asked ask.now)) 0 1 (F.told files.old) (F.told files.new) }
+    ensures at_most { LoadsAtMost (Some (asked_of_ask ask.now)) 0 1 (F.told files.old) (F.told files.new) }
 {
     let Loaded { parts, .. } = load(alloc, Operand(0), ask, files)?;
     match write_parts(alloc, &parts) {
@@ -108,9 +108,9 @@ pub fn format_text<F: Files>(alloc: Global, ask: &Ask, files: &mut F) -> Result<
 /// What `cuts` answers: the paths of a machine.
 pub fn cut_paths<F: Files>(alloc: Global, ask: &Ask, files: &mut F) -> Result<Answer, Refused>
     ensures answers { AnswersBy (IsCorrectInOrder (OpensMachine (λ m. Ends (λ answer. answer ≡ Text (paths_text m)))) 0
-        (call (Some (asked ask.now)) (F.told files.old) (F.told files.new))) result }
+        (call (Some (asked_of_ask ask.now)) (F.told files.old) (F.told files.new))) result }
     ensures only_read { OnlyRead (F.told files.old) (F.told files.new) }
-    ensures at_most { LoadsAtMost (Some (asked ask.now)) 0 1 (F.told files.old) (F.told files.new) }
+    ensures at_most { LoadsAtMost (Some (asked_of_ask ask.now)) 0 1 (F.told files.old) (F.told files.new) }
 {
     let machine = load_machine(alloc, Operand(0), ask, files)?;
     let lines = Lines::of(list_paths(alloc, &machine)?);
@@ -127,9 +127,9 @@ fn run_from<F: Files>(
 ) -> Result<Answer, Refused>
     requires { 1 ≤ steps }
     ensures answers { AnswersBy (IsCorrectInOrder (OpensInputs machine.now (λ ins. Ends (IsOfRun steps machine.now ins))) 1
-        (call (Some (asked ask.now)) (F.told files.old) (F.told files.new))) result }
+        (call (Some (asked_of_ask ask.now)) (F.told files.old) (F.told files.new))) result }
     ensures only_read { OnlyRead (F.told files.old) (F.told files.new) }
-    ensures at_most { LoadsAtMost (Some (asked ask.now)) 1 1 (F.told files.old) (F.told files.new) }
+    ensures at_most { LoadsAtMost (Some (asked_of_ask ask.now)) 1 1 (F.told files.old) (F.told files.new) }
 {
     let inputs = load_inputs(alloc, Operand(1), ask, machine, files)?;
     Ok(run_machine(alloc, machine, &inputs, steps)?)
@@ -144,9 +144,9 @@ pub fn run_files<F: Files>(
 ) -> Result<Answer, Refused>
     requires { 1 ≤ steps }
     ensures answers { AnswersBy (IsCorrectInOrder (OpensMachine (λ m. OpensInputs m (λ ins. Ends (IsOfRun steps m ins)))) 0
-        (call (Some (asked ask.now)) (F.told files.old) (F.told files.new))) result }
+        (call (Some (asked_of_ask ask.now)) (F.told files.old) (F.told files.new))) result }
     ensures only_read { OnlyRead (F.told files.old) (F.told files.new) }
-    ensures at_most { LoadsAtMost (Some (asked ask.now)) 0 2 (F.told files.old) (F.told files.new) }
+    ensures at_most { LoadsAtMost (Some (asked_of_ask ask.now)) 0 2 (F.told files.old) (F.told files.new) }
 {
     let machine = load_machine(alloc, Operand(0), ask, files)?;
     run_from(alloc, ask, &machine, steps, files)
@@ -164,9 +164,9 @@ fn replay_from<F: Files>(
     requires alike { interface_fault left.now right.now ≡ None }
     requires steps { 1 ≤ steps }
     ensures answers { AnswersBy (IsCorrectInOrder (OpensInputs left.now (λ ins. Ends (IsOfReplay steps left.now right.now ins))) 2
-        (call (Some (asked ask.now)) (F.told files.old) (F.told files.new))) result }
+        (call (Some (asked_of_ask ask.now)) (F.told files.old) (F.told files.new))) result }
     ensures only_read { OnlyRead (F.told files.old) (F.told files.new) }
-    ensures at_most { LoadsAtMost (Some (asked ask.now)) 2 1 (F.told files.old) (F.told files.new) }
+    ensures at_most { LoadsAtMost (Some (asked_of_ask ask.now)) 2 1 (F.told files.old) (F.told files.new) }
 {
     let inputs = load_inputs(alloc, Operand(2), ask, left, files)?;
     Ok(replay_machines(alloc, left, right, &inputs, steps)?)
@@ -181,9 +181,9 @@ pub fn replay_files<F: Files>(
 ) -> Result<Answer, Refused>
     requires { 1 ≤ steps }
     ensures answers { AnswersBy (IsCorrectInOrder (OpensPair (λ a b. OpensInputs a (λ ins. Ends (IsOfReplay steps a b ins)))) 0
-        (call (Some (asked ask.now)) (F.told files.old) (F.told files.new))) result }
+        (call (Some (asked_of_ask ask.now)) (F.told files.old) (F.told files.new))) result }
     ensures only_read { OnlyRead (F.told files.old) (F.told files.new) }
-    ensures at_most { LoadsAtMost (Some (asked ask.now)) 0 3 (F.told files.old) (F.told files.new) }
+    ensures at_most { LoadsAtMost (Some (asked_of_ask ask.now)) 0 3 (F.told files.old) (F.told files.new) }
 {
     let Pair { left, right, .. } = load_pair(alloc, ask, files)?;
     replay_from(alloc, ask, &left, &right, steps, files)

@@ -3,7 +3,7 @@
 
 ghost use Rattle.std.specs.Prelude.{◌≡◌, ◌+◌, ◌*◌, ◌<◌, ◌≤◌, length, map, string_bytes, IfOk, OnOk, None, Some};
 ghost use Rattle.std.specs.Result.{IfErr};
-ghost use Rattle.fsmd_words.specs.AskedWords.{asked};
+ghost use Rattle.fsmd_words.specs.AskedWords.{asked_of_ask};
 ghost use Rattle.fs_pair.specs.Interfaces.{interface_fault};
 ghost use Rattle.fs_pair.specs.Positions.{positions};
 ghost use Rattle.cert_model.specs.View.{node_of};
@@ -48,18 +48,19 @@ fn load_link<F: Files>(
     files: &mut F,
 ) -> Result<Link, Refused>
     requires { file < 128 }
-    ensures spells { IfOk result (λ l. MayHold ((F.told files.old).holds (file_word_of (Some (asked ask.now)) (operand file)))
+    ensures spells { IfOk result
+        (λ l. MayHold ((F.told files.old).holds (file_word_of (Some (asked_of_ask ask.now)) (operand file)))
         (SpellsMachine l.machine)) }
     ensures alike { IfOk result (λ l. interface_fault last.now l.machine ≡ None) }
     ensures paired { IfOk result (λ l. l.pairing ≡ positions last.now l.machine) }
     ensures certificate { IfOk result (λ l. MayHold
-        ((F.told files.old).holds (file_word_of (Some (asked ask.now)) (operand (file + 1))))
+        ((F.told files.old).holds (file_word_of (Some (asked_of_ask ask.now)) (operand (file + 1))))
         (SpellsCertificate last.now l.machine (map node_of l.cert.nodes.items))) }
     ensures refused { IfErr result (WhereAnswered (IsCorrectInOrder (RefusesLink last.now) file
-        (call (Some (asked ask.now)) (F.told files.old) (F.told files.new)))) }
+        (call (Some (asked_of_ask ask.now)) (F.told files.old) (F.told files.new)))) }
     ensures only_read { OnlyRead (F.told files.old) (F.told files.new) }
-    ensures loads { OnOk result (LoadsFrom (Some (asked ask.now)) file 2 (F.told files.old) (F.told files.new)) }
-    ensures at_most { LoadsAtMost (Some (asked ask.now)) file 2 (F.told files.old) (F.told files.new) }
+    ensures loads { OnOk result (LoadsFrom (Some (asked_of_ask ask.now)) file 2 (F.told files.old) (F.told files.new)) }
+    ensures at_most { LoadsAtMost (Some (asked_of_ask ask.now)) file 2 (F.told files.old) (F.told files.new) }
 {
     let Next { machine, pairing } = load_next(alloc, Operand(file), ask, last, files)?;
     let cert = load_certificate(
@@ -89,14 +90,14 @@ fn add_next<F: Files>(
 ) -> Result<Chain, Refused>
     requires { held < 64 }
     ensures first { IfOk result (λ longer. longer.first ≡ chain.first) }
-    ensures holds { IfOk result (λ longer. LinkHolds (call (Some (asked ask.now)) (F.told files.old) (F.told files.new))
+    ensures holds { IfOk result (λ longer. LinkHolds (call (Some (asked_of_ask ask.now)) (F.told files.old) (F.told files.new))
         (2 * held + 1) chain.last (λ next. next ≡ longer.last)) }
     ensures refused { IfErr result (WhereAnswered (IsCorrectInOrder
-        (OpensLink (Some (asked ask.now)) (held + 1) chain.last (λ _. NothingFollows)) (2 * held + 1)
-        (call (Some (asked ask.now)) (F.told files.old) (F.told files.new)))) }
+        (OpensLink (Some (asked_of_ask ask.now)) (held + 1) chain.last (λ _. NothingFollows)) (2 * held + 1)
+        (call (Some (asked_of_ask ask.now)) (F.told files.old) (F.told files.new)))) }
     ensures only_read { OnlyRead (F.told files.old) (F.told files.new) }
-    ensures loads { OnOk result (LoadsFrom (Some (asked ask.now)) (2 * held + 1) 2 (F.told files.old) (F.told files.new)) }
-    ensures at_most { LoadsAtMost (Some (asked ask.now)) (2 * held + 1) 2 (F.told files.old) (F.told files.new) }
+    ensures loads { OnOk result (LoadsFrom (Some (asked_of_ask ask.now)) (2 * held + 1) 2 (F.told files.old) (F.told files.new)) }
+    ensures at_most { LoadsAtMost (Some (asked_of_ask ask.now)) (2 * held + 1) 2 (F.told files.old) (F.told files.new) }
 {
     let link = match load_link(alloc, 2 * held + 1, ask, chain.last(), files) {
         Ok(link) => link,
@@ -130,10 +131,10 @@ fn links_from<F: Files>(
     files: &mut F,
 ) -> Result<Answer, Refused>
     requires { links ≤ 64 }
-    ensures answers { AnswersBy (IsCorrectInOrder (OpensLinks (Some (asked ask.now)) first first 0 links) 1
-        (call (Some (asked ask.now)) (F.told files.old) (F.told files.new))) result }
+    ensures answers { AnswersBy (IsCorrectInOrder (OpensLinks (Some (asked_of_ask ask.now)) first first 0 links) 1
+        (call (Some (asked_of_ask ask.now)) (F.told files.old) (F.told files.new))) result }
     ensures only_read { OnlyRead (F.told files.old) (F.told files.new) }
-    ensures at_most { LoadsAtMost (Some (asked ask.now)) 1 (2 * links) (F.told files.old) (F.told files.new) }
+    ensures at_most { LoadsAtMost (Some (asked_of_ask ask.now)) 1 (2 * links) (F.told files.old) (F.told files.new) }
 {
     let mut chain = chain_of(alloc, first)?;
     for held in 0..links {
@@ -161,10 +162,10 @@ pub fn chain_files<F: Files>(
 ) -> Result<Answer, Refused>
     requires { length words.now ≤ 129 }
     ensures answers { AnswersBy (IsCorrectInOrder
-        (OpensMachine (λ m. OpensLinks (Some (asked ask.now)) m m 0 (links_of (map string_bytes words.now)))) 0
-        (call (Some (asked ask.now)) (F.told files.old) (F.told files.new))) result }
+        (OpensMachine (λ m. OpensLinks (Some (asked_of_ask ask.now)) m m 0 (links_of (map string_bytes words.now)))) 0
+        (call (Some (asked_of_ask ask.now)) (F.told files.old) (F.told files.new))) result }
     ensures only_read { OnlyRead (F.told files.old) (F.told files.new) }
-    ensures at_most { LoadsAtMost (Some (asked ask.now)) 0 (1 + 2 * links_of (map string_bytes words.now))
+    ensures at_most { LoadsAtMost (Some (asked_of_ask ask.now)) 0 (1 + 2 * links_of (map string_bytes words.now))
         (F.told files.old) (F.told files.new) }
 {
     let first = load_machine(alloc, Operand(0), ask, files)?;

@@ -3,14 +3,14 @@
 ghost use Rattle.std.specs.Prelude.{◌≡◌, ◌≤◌, Some, IfOk};
 ghost use Rattle.std.specs.Result.{OnErr};
 ghost use Rattle.fs_base.specs.Outside.{NoneFell};
-ghost use Rattle.fsmd_words.specs.AskedWords.{IsWithinLimits, asked};
+ghost use Rattle.fsmd_words.specs.AskedWords.{IsWithinLimits, asked_of_ask};
 ghost use Rattle.fsmd_replies.specs.declared.answer.Status.TheVariants.{Fine, Differ, Undecided, Fault};
 ghost use Rattle.fsmd_answers.specs.Follows.{FollowsFrom};
 ghost use Rattle.fsmd_tool.specs.Asking.{asked_by_words, AskToCompare, AskToVerify, AskToCompile, AskToSchedule, AskToBind};
 ghost use Rattle.fsmd_tool.specs.Asking.{AskToShrink, AskToChain};
 ghost use Rattle.fsmd_tool.specs.Calls.{call, OnlyRead, LoadsNamed, IsCorrectInOrder, AnswersBy};
-ghost use Rattle.fsmd_tool.specs.SinkReplies.{put};
-ghost use Rattle.fsmd_tool.specs.CertificateStores.{stores, IsUnwritten};
+ghost use Rattle.fsmd_tool.specs.SinkReplies.{put_between};
+ghost use Rattle.fsmd_tool.specs.CertificateStores.{file_change, IsUnwritten};
 ghost use Rattle.fsmd_tool.specs.Correct.{Answered, Outcome};
 ghost use Rattle.fsmd_tool.specs.AlikeCalls.{AnswersPair, TellsOfAlike};
 ghost use Rattle.fsmd_tool.specs.Equivalent.{AreEquivalent};
@@ -32,11 +32,11 @@ use std::alloc::{AllocError, Global};
 
 // What a command answers.
 fn answer_command<F: Files>(alloc: Global, ask: &Ask, files: &mut F) -> Result<Answer, Refused>
-    requires { IsWithinLimits (asked ask.now) }
-    ensures answers { AnswersBy (IsCorrectInOrder (FollowsFrom (Some (asked ask.now))) 0
-        (call (Some (asked ask.now)) (F.told files.old) (F.told files.new))) result }
+    requires { IsWithinLimits (asked_of_ask ask.now) }
+    ensures answers { AnswersBy (IsCorrectInOrder (FollowsFrom (Some (asked_of_ask ask.now))) 0
+        (call (Some (asked_of_ask ask.now)) (F.told files.old) (F.told files.new))) result }
     ensures only_read { OnlyRead (F.told files.old) (F.told files.new) }
-    ensures loads { LoadsNamed (call (Some (asked ask.now)) (F.told files.old) (F.told files.new)) }
+    ensures loads { LoadsNamed (call (Some (asked_of_ask ask.now)) (F.told files.old) (F.told files.new)) }
 {
     match ask {
         Ask::Check { cert, steps, .. } => check(alloc, ask, *steps, cert.is_some(), files),
@@ -56,11 +56,11 @@ fn answer_command<F: Files>(alloc: Global, ask: &Ask, files: &mut F) -> Result<A
 
 // What is answered to what is asked.
 fn answer<F: Files>(alloc: Global, ask: &Ask, files: &mut F) -> Result<Answer, AllocError>
-    requires { IsWithinLimits (asked ask.now) }
-    ensures correct { IfOk result (IsCorrectInOrder (FollowsFrom (Some (asked ask.now))) 0
-        (call (Some (asked ask.now)) (F.told files.old) (F.told files.new))) }
+    requires { IsWithinLimits (asked_of_ask ask.now) }
+    ensures correct { IfOk result (IsCorrectInOrder (FollowsFrom (Some (asked_of_ask ask.now))) 0
+        (call (Some (asked_of_ask ask.now)) (F.told files.old) (F.told files.new))) }
     ensures only_read { OnlyRead (F.told files.old) (F.told files.new) }
-    ensures loads { LoadsNamed (call (Some (asked ask.now)) (F.told files.old) (F.told files.new)) }
+    ensures loads { LoadsNamed (call (Some (asked_of_ask ask.now)) (F.told files.old) (F.told files.new)) }
 {
     match answer_command(alloc, ask, files) {
         Ok(answer) => Ok(answer),
@@ -76,17 +76,18 @@ fn put_asked<F: Files, S: Sink>(
     files: &mut F,
     out: &mut S,
 ) -> Result<Status, AllocError>
-    requires { IsWithinLimits (asked ask.now) }
+    requires { IsWithinLimits (asked_of_ask ask.now) }
     ensures answered { IfOk result
-        (λ status. Answered (call (Some (asked ask.now)) (F.told files.old) (F.told files.new))
-        (put status (S.told out.old) (S.told out.new))) }
+        (λ status. Answered (call (Some (asked_of_ask ask.now)) (F.told files.old) (F.told files.new))
+        (put_between status (S.told out.old) (S.told out.new))) }
     ensures err { OnErr result ((S.told out.new).got ≡ (S.told out.old).got) }
-    ensures unwritten { OnErr result (IsUnwritten (Some (asked ask.now)) (stores (F.told files.old) (F.told files.new))) }
+    ensures unwritten { OnErr result
+        (IsUnwritten (Some (asked_of_ask ask.now)) (file_change (F.told files.old) (F.told files.new))) }
     ensures counts { NoneFell (F.told files.old).faults (F.told files.new).faults }
     ensures store_counts { NoneFell (F.told files.old).store_faults (F.told files.new).store_faults }
     ensures sink_counts { (S.told out.old).faults ≤ (S.told out.new).faults }
-    ensures unchanged { KeepsFiles (call (Some (asked ask.now)) (F.told files.old) (F.told files.new)) }
-    ensures loads { LoadsNamed (call (Some (asked ask.now)) (F.told files.old) (F.told files.new)) }
+    ensures unchanged { KeepsFiles (call (Some (asked_of_ask ask.now)) (F.told files.old) (F.told files.new)) }
+    ensures loads { LoadsNamed (call (Some (asked_of_ask ask.now)) (F.told files.old) (F.told files.new)) }
 {
     let answer = answer(alloc, ask, files)?;
     put_answer(alloc, &answer, ask, files, out)
@@ -101,9 +102,10 @@ fn put_reply<F: Files, S: Sink>(
 ) -> Result<Status, AllocError>
     ensures answered { IfOk result
         (λ status. Answered (call (asked_by_words words.now) (F.told files.old) (F.told files.new))
-        (put status (S.told out.old) (S.told out.new))) }
+        (put_between status (S.told out.old) (S.told out.new))) }
     ensures err { OnErr result ((S.told out.new).got ≡ (S.told out.old).got) }
-    ensures unwritten { OnErr result (IsUnwritten (asked_by_words words.now) (stores (F.told files.old) (F.told files.new))) }
+    ensures unwritten { OnErr result
+        (IsUnwritten (asked_by_words words.now) (file_change (F.told files.old) (F.told files.new))) }
     ensures counts { NoneFell (F.told files.old).faults (F.told files.new).faults }
     ensures store_counts { NoneFell (F.told files.old).store_faults (F.told files.new).store_faults }
     ensures sink_counts { (S.told out.old).faults ≤ (S.told out.new).faults }
@@ -132,42 +134,42 @@ pub fn drive<F: Files, S: Sink>(
     out: &mut S,
 ) -> Status
     ensures outcome { Outcome (call (asked_by_words words.now) (F.told files.old) (F.told files.new))
-        (put result (S.told out.old) (S.told out.new)) }
+        (put_between result (S.told out.old) (S.told out.new)) }
     ensures same_behaviour { result ≡ Fine → AskToCompare words.now
         → AreEquivalent (call (asked_by_words words.now) (F.told files.old) (F.told files.new))
-        (put result (S.told out.old) (S.told out.new)) }
+        (put_between result (S.told out.old) (S.told out.new)) }
     ensures equivalent { result ≡ Fine → AskToCompare words.now
         → SaysSame (call (asked_by_words words.now) (F.told files.old) (F.told files.new))
-        (put result (S.told out.old) (S.told out.new)) }
+        (put_between result (S.told out.old) (S.told out.new)) }
     ensures differ { result ≡ Differ → AskToCompare words.now
         → SaysDiffer (call (asked_by_words words.now) (F.told files.old) (F.told files.new))
-        (put result (S.told out.old) (S.told out.new)) }
+        (put_between result (S.told out.old) (S.told out.new)) }
     ensures undecided { result ≡ Undecided → AskToCompare words.now
         → SaysUndecided (call (asked_by_words words.now) (F.told files.old) (F.told files.new))
-        (put result (S.told out.old) (S.told out.new)) }
+        (put_between result (S.told out.old) (S.told out.new)) }
     ensures alike { AnswersPair result → AskToCompare words.now
         → TellsOfAlike (call (asked_by_words words.now) (F.told files.old) (F.told files.new))
-        (put result (S.told out.old) (S.told out.new)) }
+        (put_between result (S.told out.old) (S.told out.new)) }
     ensures checked { result ≡ Fine → AskToVerify words.now
         → IsChecked (call (asked_by_words words.now) (F.told files.old) (F.told files.new))
-        (put result (S.told out.old) (S.told out.new)) }
+        (put_between result (S.told out.old) (S.told out.new)) }
     ensures compiled { result ≡ Fine → AskToCompile words.now
         → IsCompiled (call (asked_by_words words.now) (F.told files.old) (F.told files.new))
-        (put result (S.told out.old) (S.told out.new)) }
+        (put_between result (S.told out.old) (S.told out.new)) }
     ensures in_rows { result ≡ Fine → AskToSchedule words.now
         → IsInRows (call (asked_by_words words.now) (F.told files.old) (F.told files.new))
-        (put result (S.told out.old) (S.told out.new)) }
+        (put_between result (S.told out.old) (S.told out.new)) }
     ensures in_registers { result ≡ Fine → AskToBind words.now
         → IsInRegisters (call (asked_by_words words.now) (F.told files.old) (F.told files.new))
-        (put result (S.told out.old) (S.told out.new)) }
+        (put_between result (S.told out.old) (S.told out.new)) }
     ensures shrunk { result ≡ Differ → AskToShrink words.now
         → IsShrunk (call (asked_by_words words.now) (F.told files.old) (F.told files.new))
-        (put result (S.told out.old) (S.told out.new)) }
+        (put_between result (S.told out.old) (S.told out.new)) }
     ensures chained { result ≡ Fine → AskToChain words.now
         → IsChained (call (asked_by_words words.now) (F.told files.old) (F.told files.new))
-        (put result (S.told out.old) (S.told out.new)) }
+        (put_between result (S.told out.old) (S.told out.new)) }
     ensures fault { result ≡ Fault → HasCause (call (asked_by_words words.now) (F.told files.old) (F.told files.new))
-        (put result (S.told out.old) (S.told out.new)) }
+        (put_between result (S.told out.old) (S.told out.new)) }
     ensures counts { NoneFell (F.told files.old).faults (F.told files.new).faults }
     ensures store_counts { NoneFell (F.told files.old).store_faults (F.told files.new).store_faults }
     ensures sink_counts { (S.told out.old).faults ≤ (S.told out.new).faults }

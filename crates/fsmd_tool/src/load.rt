@@ -2,7 +2,7 @@
 
 ghost use Rattle.std.specs.Prelude.{◌≡◌, ◌≤◌, length, map, IsTrue, IfOk, Some};
 ghost use Rattle.std.specs.Result.{IfErr};
-ghost use Rattle.fsmd_words.specs.AskedWords.{asked};
+ghost use Rattle.fsmd_words.specs.AskedWords.{asked_of_ask};
 ghost use Rattle.fs_base.specs.Outside.{AreHeld};
 ghost use Rattle.fs_model.specs.View.{source_of};
 ghost use Rattle.fs_model.specs.WellFormed.{is_well_formed};
@@ -50,14 +50,14 @@ fn load_bytes<F: Files>(
     files: &mut F,
 ) -> Result<Vec<u8>, Refused>
     ensures held { IfOk result
-        (λ bytes. AreHeld ((F.told files.old).holds (file_word_of (Some (asked ask.now)) file)) bytes.items) }
+        (λ bytes. AreHeld ((F.told files.old).holds (file_word_of (Some (asked_of_ask ask.now)) file)) bytes.items) }
     ensures within { IfOk result (λ bytes. length bytes.items ≤ limit) }
     ensures unread { IfErr result
         (WhereAnswered
-        (GivesContent (call (Some (asked ask.now)) (F.told files.old) (F.told files.new)) file (IsUnread limit file))) }
+        (GivesContent (call (Some (asked_of_ask ask.now)) (F.told files.old) (F.told files.new)) file (IsUnread limit file))) }
     ensures only_read { OnlyRead (F.told files.old) (F.told files.new) }
-    ensures loads { LoadsFrom (Some (asked ask.now)) file.0 1 (F.told files.old) (F.told files.new) }
-    ensures at_most { LoadsAtMost (Some (asked ask.now)) file.0 1 (F.told files.old) (F.told files.new) }
+    ensures loads { LoadsFrom (Some (asked_of_ask ask.now)) file.0 1 (F.told files.old) (F.told files.new) }
+    ensures at_most { LoadsAtMost (Some (asked_of_ask ask.now)) file.0 1 (F.told files.old) (F.told files.new) }
 {
     match files.load(alloc, word_of(ask, file), limit) {
         Ok(bytes) => Ok(bytes),
@@ -75,15 +75,15 @@ pub fn load<F: Files>(
     files: &mut F,
 ) -> Result<Loaded, Refused>
     ensures loaded { IfOk result
-        (λ l. MayHold ((F.told files.old).holds (file_word_of (Some (asked ask.now)) file))
+        (λ l. MayHold ((F.told files.old).holds (file_word_of (Some (asked_of_ask ask.now)) file))
         (IsLoaded (source_of l.parts) l.machine)) }
     ensures well_formed { IfOk result (λ l. IsTrue (is_well_formed (source_of l.parts))) }
     ensures refused { IfErr result
         (WhereAnswered
-        (GivesContent (call (Some (asked ask.now)) (F.told files.old) (F.told files.new)) file (RefusesMachine file))) }
+        (GivesContent (call (Some (asked_of_ask ask.now)) (F.told files.old) (F.told files.new)) file (RefusesMachine file))) }
     ensures only_read { OnlyRead (F.told files.old) (F.told files.new) }
-    ensures loads { LoadsFrom (Some (asked ask.now)) file.0 1 (F.told files.old) (F.told files.new) }
-    ensures at_most { LoadsAtMost (Some (asked ask.now)) file.0 1 (F.told files.old) (F.told files.new) }
+    ensures loads { LoadsFrom (Some (asked_of_ask ask.now)) file.0 1 (F.told files.old) (F.told files.new) }
+    ensures at_most { LoadsAtMost (Some (asked_of_ask ask.now)) file.0 1 (F.told files.old) (F.told files.new) }
 {
     let bytes = load_bytes(alloc, file, TEXT_LIMIT as u64, ask, files)?;
     read_machine(alloc, file, bytes.as_slice())
@@ -97,13 +97,13 @@ pub fn load_machine<F: Files>(
     files: &mut F,
 ) -> Result<Machine, Refused>
     ensures spells { IfOk result
-        (λ m. MayHold ((F.told files.old).holds (file_word_of (Some (asked ask.now)) file)) (SpellsMachine m)) }
+        (λ m. MayHold ((F.told files.old).holds (file_word_of (Some (asked_of_ask ask.now)) file)) (SpellsMachine m)) }
     ensures refused { IfErr result
         (WhereAnswered
-        (GivesContent (call (Some (asked ask.now)) (F.told files.old) (F.told files.new)) file (RefusesMachine file))) }
+        (GivesContent (call (Some (asked_of_ask ask.now)) (F.told files.old) (F.told files.new)) file (RefusesMachine file))) }
     ensures only_read { OnlyRead (F.told files.old) (F.told files.new) }
-    ensures loads { LoadsFrom (Some (asked ask.now)) file.0 1 (F.told files.old) (F.told files.new) }
-    ensures at_most { LoadsAtMost (Some (asked ask.now)) file.0 1 (F.told files.old) (F.told files.new) }
+    ensures loads { LoadsFrom (Some (asked_of_ask ask.now)) file.0 1 (F.told files.old) (F.told files.new) }
+    ensures at_most { LoadsAtMost (Some (asked_of_ask ask.now)) file.0 1 (F.told files.old) (F.told files.new) }
 {
     let Loaded { machine, .. } = load(alloc, file, ask, files)?;
     Ok(machine)
@@ -118,17 +118,17 @@ pub fn load_inputs<F: Files>(
     files: &mut F,
 ) -> Result<Inputs, Refused>
     ensures spells { IfOk result
-        (λ i. MayHold ((F.told files.old).holds (file_word_of (Some (asked ask.now)) file))
+        (λ i. MayHold ((F.told files.old).holds (file_word_of (Some (asked_of_ask ask.now)) file))
         (SpellsInputs machine.now (inputs_of i))) }
     ensures signatures { IfOk result (λ i. signatures_of i ≡ signatures machine.now) }
     ensures serves { IfOk result (λ i. Serves (signatures_of i) machine.now) }
     ensures refused { IfErr result
         (WhereAnswered
-        (GivesContent (call (Some (asked ask.now)) (F.told files.old) (F.told files.new)) file
+        (GivesContent (call (Some (asked_of_ask ask.now)) (F.told files.old) (F.told files.new)) file
         (RefusesInputs machine.now file))) }
     ensures only_read { OnlyRead (F.told files.old) (F.told files.new) }
-    ensures loads { LoadsFrom (Some (asked ask.now)) file.0 1 (F.told files.old) (F.told files.new) }
-    ensures at_most { LoadsAtMost (Some (asked ask.now)) file.0 1 (F.told files.old) (F.told files.new) }
+    ensures loads { LoadsFrom (Some (asked_of_ask ask.now)) file.0 1 (F.told files.old) (F.told files.new) }
+    ensures at_most { LoadsAtMost (Some (asked_of_ask ask.now)) file.0 1 (F.told files.old) (F.told files.new) }
 {
     let bytes = load_bytes(alloc, file, TEXT_LIMIT as u64, ask, files)?;
     read_inputs(alloc, file, bytes.as_slice(), machine)
@@ -146,15 +146,15 @@ pub fn load_certificate<F: Files>(
 ) -> Result<Cert, Refused>
     requires { p.now ≡ positions a.now b.now }
     ensures spells { IfOk result
-        (λ c. MayHold ((F.told files.old).holds (file_word_of (Some (asked ask.now)) file))
+        (λ c. MayHold ((F.told files.old).holds (file_word_of (Some (asked_of_ask ask.now)) file))
         (SpellsCertificate a.now b.now (map node_of c.nodes.items))) }
     ensures refused { IfErr result
         (WhereAnswered
-        (GivesContent (call (Some (asked ask.now)) (F.told files.old) (F.told files.new)) file
+        (GivesContent (call (Some (asked_of_ask ask.now)) (F.told files.old) (F.told files.new)) file
         (RefusesCertificate a.now b.now file))) }
     ensures only_read { OnlyRead (F.told files.old) (F.told files.new) }
-    ensures loads { LoadsFrom (Some (asked ask.now)) file.0 1 (F.told files.old) (F.told files.new) }
-    ensures at_most { LoadsAtMost (Some (asked ask.now)) file.0 1 (F.told files.old) (F.told files.new) }
+    ensures loads { LoadsFrom (Some (asked_of_ask ask.now)) file.0 1 (F.told files.old) (F.told files.new) }
+    ensures at_most { LoadsAtMost (Some (asked_of_ask ask.now)) file.0 1 (F.told files.old) (F.told files.new) }
 {
     let bytes = load_bytes(alloc, file, CERT_LIMIT, ask, files)?;
     read_certificate(alloc, file, bytes.as_slice(), a, b, p)
@@ -168,14 +168,14 @@ pub fn load_compiled<F: Files>(
     files: &mut F,
 ) -> Result<Answer, Refused>
     ensures compiled { IfOk result
-        (λ answer. MayHold ((F.told files.old).holds (file_word_of (Some (asked ask.now)) file))
+        (λ answer. MayHold ((F.told files.old).holds (file_word_of (Some (asked_of_ask ask.now)) file))
         (λ bytes. IsOfProgramIn bytes answer)) }
     ensures refused { IfErr result
         (WhereAnswered
-        (GivesContent (call (Some (asked ask.now)) (F.told files.old) (F.told files.new)) file (RefusesProgram file))) }
+        (GivesContent (call (Some (asked_of_ask ask.now)) (F.told files.old) (F.told files.new)) file (RefusesProgram file))) }
     ensures only_read { OnlyRead (F.told files.old) (F.told files.new) }
-    ensures loads { LoadsFrom (Some (asked ask.now)) file.0 1 (F.told files.old) (F.told files.new) }
-    ensures at_most { LoadsAtMost (Some (asked ask.now)) file.0 1 (F.told files.old) (F.told files.new) }
+    ensures loads { LoadsFrom (Some (asked_of_ask ask.now)) file.0 1 (F.told files.old) (F.told files.new) }
+    ensures at_most { LoadsAtMost (Some (asked_of_ask ask.now)) file.0 1 (F.told files.old) (F.told files.new) }
 {
     let bytes = load_bytes(alloc, file, TEXT_LIMIT as u64, ask, files)?;
     compile_program(alloc, file, bytes.as_slice())
@@ -189,13 +189,13 @@ pub fn load_units<F: Files>(
     files: &mut F,
 ) -> Result<Units, Refused>
     ensures spell { IfOk result
-        (λ u. MayHold ((F.told files.old).holds (file_word_of (Some (asked ask.now)) file)) (SpellUnits (units_in u))) }
+        (λ u. MayHold ((F.told files.old).holds (file_word_of (Some (asked_of_ask ask.now)) file)) (SpellUnits (units_in u))) }
     ensures refused { IfErr result
         (WhereAnswered
-        (GivesContent (call (Some (asked ask.now)) (F.told files.old) (F.told files.new)) file (RefusesUnits file))) }
+        (GivesContent (call (Some (asked_of_ask ask.now)) (F.told files.old) (F.told files.new)) file (RefusesUnits file))) }
     ensures only_read { OnlyRead (F.told files.old) (F.told files.new) }
-    ensures loads { LoadsFrom (Some (asked ask.now)) file.0 1 (F.told files.old) (F.told files.new) }
-    ensures at_most { LoadsAtMost (Some (asked ask.now)) file.0 1 (F.told files.old) (F.told files.new) }
+    ensures loads { LoadsFrom (Some (asked_of_ask ask.now)) file.0 1 (F.told files.old) (F.told files.new) }
+    ensures at_most { LoadsAtMost (Some (asked_of_ask ask.now)) file.0 1 (F.told files.old) (F.told files.new) }
 {
     let bytes = load_bytes(alloc, file, TEXT_LIMIT as u64, ask, files)?;
     read_units(alloc, file, bytes.as_slice())
@@ -210,15 +210,16 @@ pub fn load_binding<F: Files>(
     files: &mut F,
 ) -> Result<Binding, Refused>
     ensures spells { IfOk result
-        (λ b. MayHold ((F.told files.old).holds (file_word_of (Some (asked ask.now)) file)) (SpellsBinding machine.now b)) }
+        (λ b. MayHold ((F.told files.old).holds (file_word_of (Some (asked_of_ask ask.now)) file))
+        (SpellsBinding machine.now b)) }
     ensures of_machine { IfOk result (λ b. IsBindingOf machine.now.variables b) }
     ensures refused { IfErr result
         (WhereAnswered
-        (GivesContent (call (Some (asked ask.now)) (F.told files.old) (F.told files.new)) file
+        (GivesContent (call (Some (asked_of_ask ask.now)) (F.told files.old) (F.told files.new)) file
         (RefusesBinding machine.now file))) }
     ensures only_read { OnlyRead (F.told files.old) (F.told files.new) }
-    ensures loads { LoadsFrom (Some (asked ask.now)) file.0 1 (F.told files.old) (F.told files.new) }
-    ensures at_most { LoadsAtMost (Some (asked ask.now)) file.0 1 (F.told files.old) (F.told files.new) }
+    ensures loads { LoadsFrom (Some (asked_of_ask ask.now)) file.0 1 (F.told files.old) (F.told files.new) }
+    ensures at_most { LoadsAtMost (Some (asked_of_ask ask.now)) file.0 1 (F.told files.old) (F.told files.new) }
 {
     let bytes = load_bytes(alloc, file, TEXT_LIMIT as u64, ask, files)?;
     read_binding(alloc, file, bytes.as_slice(), machine)

@@ -2,7 +2,7 @@
 
 ghost use Rattle.std.specs.Prelude.{◌≡◌, IfOk, OnOk, Some, None};
 ghost use Rattle.std.specs.Result.{IfErr};
-ghost use Rattle.fsmd_words.specs.AskedWords.{asked};
+ghost use Rattle.fsmd_words.specs.AskedWords.{asked_of_ask};
 ghost use Rattle.fs_pair.specs.Interfaces.{interface_fault};
 ghost use Rattle.fs_pair.specs.Positions.{positions};
 ghost use Rattle.fsmd_replies.specs.AskedFiles.{operand, file_word_of};
@@ -58,15 +58,15 @@ pub fn load_next<F: Files>(
     left: &Machine,
     files: &mut F,
 ) -> Result<Next, Refused>
-    ensures spells { IfOk result (λ n. MayHold ((F.told files.old).holds (file_word_of (Some (asked ask.now)) file))
+    ensures spells { IfOk result (λ n. MayHold ((F.told files.old).holds (file_word_of (Some (asked_of_ask ask.now)) file))
         (SpellsMachine n.machine)) }
     ensures alike { IfOk result (λ n. interface_fault left.now n.machine ≡ None) }
     ensures paired { IfOk result (λ n. n.pairing ≡ positions left.now n.machine) }
     ensures refused { IfErr result (WhereAnswered (IsCorrectInOrder (RefusesNext left.now) file.0
-        (call (Some (asked ask.now)) (F.told files.old) (F.told files.new)))) }
+        (call (Some (asked_of_ask ask.now)) (F.told files.old) (F.told files.new)))) }
     ensures only_read { OnlyRead (F.told files.old) (F.told files.new) }
-    ensures loads { LoadsFrom (Some (asked ask.now)) file.0 1 (F.told files.old) (F.told files.new) }
-    ensures at_most { LoadsAtMost (Some (asked ask.now)) file.0 1 (F.told files.old) (F.told files.new) }
+    ensures loads { LoadsFrom (Some (asked_of_ask ask.now)) file.0 1 (F.told files.old) (F.told files.new) }
+    ensures at_most { LoadsAtMost (Some (asked_of_ask ask.now)) file.0 1 (F.told files.old) (F.told files.new) }
 {
     let machine = load_machine(alloc, file, ask, files)?;
     let pairing = pairing_of(alloc, left, &machine)?;
@@ -76,17 +76,17 @@ pub fn load_next<F: Files>(
 /// Loads the first two files of a call, the first one first, or answers the first refusal: of a file, and then that the machines
 /// have other inputs or outputs.
 pub fn load_pair<F: Files>(alloc: Global, ask: &Ask, files: &mut F) -> Result<Pair, Refused>
-    ensures left { IfOk result (λ p. MayHold ((F.told files.old).holds (file_word_of (Some (asked ask.now)) (operand 0)))
+    ensures left { IfOk result (λ p. MayHold ((F.told files.old).holds (file_word_of (Some (asked_of_ask ask.now)) (operand 0)))
         (SpellsMachine p.left)) }
-    ensures right { IfOk result (λ p. MayHold ((F.told files.old).holds (file_word_of (Some (asked ask.now)) (operand 1)))
+    ensures right { IfOk result (λ p. MayHold ((F.told files.old).holds (file_word_of (Some (asked_of_ask ask.now)) (operand 1)))
         (SpellsMachine p.right)) }
     ensures alike { IfOk result (λ p. interface_fault p.left p.right ≡ None) }
     ensures paired { IfOk result (λ p. p.pairing ≡ positions p.left p.right) }
     ensures refused { IfErr result (WhereAnswered (IsCorrectInOrder RefusesBoth 0
-        (call (Some (asked ask.now)) (F.told files.old) (F.told files.new)))) }
+        (call (Some (asked_of_ask ask.now)) (F.told files.old) (F.told files.new)))) }
     ensures only_read { OnlyRead (F.told files.old) (F.told files.new) }
-    ensures loads { OnOk result (LoadsFrom (Some (asked ask.now)) 0 2 (F.told files.old) (F.told files.new)) }
-    ensures at_most { LoadsAtMost (Some (asked ask.now)) 0 2 (F.told files.old) (F.told files.new) }
+    ensures loads { OnOk result (LoadsFrom (Some (asked_of_ask ask.now)) 0 2 (F.told files.old) (F.told files.new)) }
+    ensures at_most { LoadsAtMost (Some (asked_of_ask ask.now)) 0 2 (F.told files.old) (F.told files.new) }
 {
     let left = load_machine(alloc, Operand(0), ask, files)?;
     let Next { machine, pairing } = load_next(alloc, Operand(1), ask, &left, files)?;

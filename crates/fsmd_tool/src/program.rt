@@ -6,7 +6,7 @@ ghost use Rattle.std.specs.Result.{IfErr};
 ghost use Rattle.fsmd_replies.specs.declared.answer.Status.TheVariants.{NoMemory, Fault};
 ghost use Rattle.fsmd_tool.specs.Asking.{asked_by_words};
 ghost use Rattle.fsmd_tool.specs.Calls.{call};
-ghost use Rattle.fsmd_tool.specs.SinkReplies.{put};
+ghost use Rattle.fsmd_tool.specs.SinkReplies.{put_between};
 ghost use Rattle.fsmd_tool.specs.Running.{IsDriven, EndsSo};
 
 use crate::drive::drive;
@@ -50,7 +50,7 @@ pub fn run_words<F: Files, S: Sink>(
 ) -> Status
     ensures driven { IfOk words
         (λ all. IsDriven (call (asked_by_words (drop 1 all.items)) (F.told files.old) (F.told files.new))
-        (put result (S.told out.old) (S.told out.new))) }
+        (put_between result (S.told out.old) (S.told out.new))) }
     ensures without { IfErr words (λ e. (result ≡ NoMemory) ⊎ (result ≡ Fault)) }
     ensures same_files { IfErr words (λ e. F.told files.new ≡ F.told files.old) }
     ensures same_sink { IfErr words (λ e. S.told out.new ≡ S.told out.old) }

@@ -2,14 +2,14 @@
 
 ghost use Rattle.std.specs.Prelude.{◌≡◌, ◌≤◌, IfOk, IsTrue, Some, None, length, option_map};
 ghost use Rattle.std.specs.Result.{OnErr};
-ghost use Rattle.fsmd_words.specs.AskedWords.{asked};
+ghost use Rattle.fsmd_words.specs.AskedWords.{asked_of_ask};
 ghost use Rattle.fs_base.specs.Outside.{HasRoom, NoneFell};
 ghost use Rattle.fsmd_replies.specs.declared.answer.Answer.TheVariants.{Usage};
 ghost use Rattle.fsmd_replies.specs.declared.answer.Status.TheVariants.{Fault};
 ghost use Rattle.fsmd_replies.specs.Statuses.{status_of};
 ghost use Rattle.fsmd_replies.specs.Replies.{reply, unstored_reply};
-ghost use Rattle.fsmd_tool.specs.SinkReplies.{IsPut, put};
-ghost use Rattle.fsmd_tool.specs.CertificateStores.{stores, stored_entry, to_store, Leaves, NotStored};
+ghost use Rattle.fsmd_tool.specs.SinkReplies.{IsPut, put_between};
+ghost use Rattle.fsmd_tool.specs.CertificateStores.{file_change, file_to_store, to_store, Leaves, NotStored};
 ghost use Rattle.fsmd_tool.specs.Correct.{IsDone, IsDoneFor};
 
 use fs_base::outside::{Files, Sink, StoreError};
@@ -33,7 +33,7 @@ fn fits(room: Option<u64>, count: usize) -> bool
 // Puts a reply that has room, and gives the status that is meant, or `Fault` where the sink failed.
 fn put_fitting<S: Sink>(reply: &[u8], meant: Status, out: &mut S) -> Status
     requires { HasRoom (S.told out.old).spare (length reply.now) }
-    ensures put { IsPut reply.now meant (put result (S.told out.old) (S.told out.new)) }
+    ensures put { IsPut reply.now meant (put_between result (S.told out.old) (S.told out.new)) }
     ensures sink_counts { (S.told out.old).faults ≤ (S.told out.new).faults }
 {
     match put_all(out, reply) {
@@ -46,7 +46,7 @@ fn put_fitting<S: Sink>(reply: &[u8], meant: Status, out: &mut S) -> Status
 //
 // The error is out of memory: the reply is longer than the sink has room; then nothing was put.
 fn put_whole<S: Sink>(reply: &[u8], meant: Status, out: &mut S) -> Result<Status, AllocError>
-    ensures ok { IfOk result (λ status. IsPut reply.now meant (put status (S.told out.old) (S.told out.new))) }
+    ensures ok { IfOk result (λ status. IsPut reply.now meant (put_between status (S.told out.old) (S.told out.new))) }
     ensures err { OnErr result ((S.told out.new).got ≡ (S.told out.old).got) }
     ensures sink_counts { (S.told out.old).faults ≤ (S.told out.new).faults }
 {
@@ -62,7 +62,7 @@ fn put_whole<S: Sink>(reply: &[u8], meant: Status, out: &mut S) -> Result<Status
 /// The error is out of memory: the line is longer than the sink has room; then nothing was put.
 pub fn put_usage<S: Sink>(out: &mut S) -> Result<Status, AllocError>
     ensures ok { IfOk result
-        (λ status. IsPut (reply Usage None) (status_of Usage) (put status (S.told out.old) (S.told out.new))) }
+        (λ status. IsPut (reply Usage None) (status_of Usage) (put_between status (S.told out.old) (S.told out.new))) }
     ensures err { OnErr result ((S.told out.new).got ≡ (S.told out.old).got) }
     ensures sink_counts { (S.told out.old).faults ≤ (S.told out.new).faults }
 {
@@ -71,7 +71,8 @@ pub fn put_usage<S: Sink>(out: &mut S) -> Result<Status, AllocError>
 
 // Puts that the certificate could not be stored under a name.
 fn put_unstored<S: Sink>(alloc: Global, name: &str, out: &mut S) -> Result<Status, AllocError>
-    ensures ok { IfOk result (λ status. IsPut (unstored_reply name.now) Fault (put status (S.told out.old) (S.told out.new))) }
+    ensures ok { IfOk result
+        (λ status. IsPut (unstored_reply name.now) Fault (put_between status (S.told out.old) (S.told out.new))) }
     ensures err { OnErr result ((S.told out.new).got ≡ (S.told out.old).got) }
     ensures sink_counts { (S.told out.old).faults ≤ (S.told out.new).faults }
 {
@@ -88,8 +89,8 @@ struct Entry<'a> {
 
 // What is to be stored of an answer to what is asked: its certificate, under the word for it.
 fn to_store<'a>(answer: &'a Answer, ask: &'a Ask) -> Option<Entry<'a>>
-    ensures { option_map (λ e. stored_entry e.name.now e.bytes.now) result
-        ≡ to_store (Some (asked ask.entry.now)) answer.entry.now }
+    ensures { option_map (λ e. file_to_store e.name.now e.bytes.now) result
+        ≡ to_store (Some (asked_of_ask ask.entry.now)) answer.entry.now }
 {
     match (cert_word(ask), answer.certificate()) {
         (Some(name), Some(bytes)) => Some(Entry { name, bytes }),
@@ -108,13 +109,14 @@ fn put_stored<F: Files, S: Sink>(
 ) -> Result<Status, AllocError>
     requires { HasRoom (S.told out.old).spare (length reply.now) }
     ensures ok { IfOk result
-        (λ status. IsDone (Some (stored_entry item.now.name.now item.now.bytes.now)) reply.now meant
-        (stores (F.told files.old) (F.told files.new)) (put status (S.told out.old) (S.told out.new))) }
+        (λ status. IsDone (Some (file_to_store item.now.name.now item.now.bytes.now)) reply.now meant
+        (file_change (F.told files.old) (F.told files.new)) (put_between status (S.told out.old) (S.told out.new))) }
     ensures err { OnErr result ((S.told out.new).got ≡ (S.told out.old).got) }
-    ensures leaves { Leaves (Some (stored_entry item.now.name.now item.now.bytes.now))
-        (stores (F.told files.old) (F.told files.new)) }
+    ensures leaves { Leaves (Some (file_to_store item.now.name.now item.now.bytes.now))
+        (file_change (F.told files.old) (F.told files.new)) }
     ensures unstored { OnErr result
-        (NotStored (Some (stored_entry item.now.name.now item.now.bytes.now)) (stores (F.told files.old) (F.told files.new))) }
+        (NotStored (Some (file_to_store item.now.name.now item.now.bytes.now))
+        (file_change (F.told files.old) (F.told files.new))) }
     ensures counts { NoneFell (F.told files.old).faults (F.told files.new).faults }
     ensures store_counts { NoneFell (F.told files.old).store_faults (F.told files.new).store_faults }
     ensures loaded { (F.told files.new).loaded ≡ (F.told files.old).loaded }
@@ -141,12 +143,13 @@ pub fn put_answer<F: Files, S: Sink>(
     out: &mut S,
 ) -> Result<Status, AllocError>
     ensures ok { IfOk result
-        (λ status. IsDoneFor (Some (asked ask.now)) answer.now (stores (F.told files.old) (F.told files.new))
-        (put status (S.told out.old) (S.told out.new))) }
+        (λ status. IsDoneFor (Some (asked_of_ask ask.now)) answer.now (file_change (F.told files.old) (F.told files.new))
+        (put_between status (S.told out.old) (S.told out.new))) }
     ensures err { OnErr result ((S.told out.new).got ≡ (S.told out.old).got) }
-    ensures leaves { Leaves (to_store (Some (asked ask.now)) answer.now) (stores (F.told files.old) (F.told files.new)) }
+    ensures leaves { Leaves (to_store (Some (asked_of_ask ask.now)) answer.now)
+        (file_change (F.told files.old) (F.told files.new)) }
     ensures unstored { OnErr result
-        (NotStored (to_store (Some (asked ask.now)) answer.now) (stores (F.told files.old) (F.told files.new))) }
+        (NotStored (to_store (Some (asked_of_ask ask.now)) answer.now) (file_change (F.told files.old) (F.told files.new))) }
     ensures counts { NoneFell (F.told files.old).faults (F.told files.new).faults }
     ensures store_counts { NoneFell (F.told files.old).store_faults (F.told files.new).store_faults }
     ensures loaded { (F.told files.new).loaded ≡ (F.told files.old).loaded }

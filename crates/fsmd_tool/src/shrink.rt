@@ -1,7 +1,7 @@
 //! What `shrink` answers, from its files.
 
 ghost use Rattle.std.specs.Prelude.{◌≡◌, ◌≤◌, IsTrue, None, Some};
-ghost use Rattle.fsmd_words.specs.AskedWords.{asked};
+ghost use Rattle.fsmd_words.specs.AskedWords.{asked_of_ask};
 ghost use Rattle.fs_pair.specs.Interfaces.{interface_fault};
 ghost use Rattle.hls_shrink.specs.Given.{has_no_input_port};
 ghost use Rattle.fsmd_answers.specs.Shrinks.{IsOfShrink};
@@ -30,9 +30,9 @@ fn shrink_from<F: Files>(
     requires steps { 1 ≤ steps }
     ensures answers { AnswersBy (IsCorrectInOrder
         (OpensInputs pair.now.left (λ ins. Ends (IsOfShrink steps pair.now.left pair.now.right ins))) 2
-        (call (Some (asked ask.now)) (F.told files.old) (F.told files.new))) result }
+        (call (Some (asked_of_ask ask.now)) (F.told files.old) (F.told files.new))) result }
     ensures only_read { OnlyRead (F.told files.old) (F.told files.new) }
-    ensures at_most { LoadsAtMost (Some (asked ask.now)) 2 1 (F.told files.old) (F.told files.new) }
+    ensures at_most { LoadsAtMost (Some (asked_of_ask ask.now)) 2 1 (F.told files.old) (F.told files.new) }
 {
     let Pair {
         left,
@@ -53,9 +53,9 @@ pub fn shrink_files<F: Files>(
 ) -> Result<Answer, Refused>
     requires { 1 ≤ steps }
     ensures answers { AnswersBy (IsCorrectInOrder (OpensPair (λ a b. OpensInputs a (λ ins. Ends (IsOfShrink steps a b ins)))) 0
-        (call (Some (asked ask.now)) (F.told files.old) (F.told files.new))) result }
+        (call (Some (asked_of_ask ask.now)) (F.told files.old) (F.told files.new))) result }
     ensures only_read { OnlyRead (F.told files.old) (F.told files.new) }
-    ensures at_most { LoadsAtMost (Some (asked ask.now)) 0 3 (F.told files.old) (F.told files.new) }
+    ensures at_most { LoadsAtMost (Some (asked_of_ask ask.now)) 0 3 (F.told files.old) (F.told files.new) }
 {
     let pair = load_pair(alloc, ask, files)?;
     shrink_from(alloc, ask, &pair, steps, files)

@@ -1,7 +1,7 @@
 //! What the commands of synthesis answer, from their files.
 
 ghost use Rattle.std.specs.Prelude.{Some};
-ghost use Rattle.fsmd_words.specs.AskedWords.{asked};
+ghost use Rattle.fsmd_words.specs.AskedWords.{asked_of_ask};
 ghost use Rattle.fs_model.specs.View.{source_of};
 ghost use Rattle.fs_rules.specs.MachineOfParts.{machine_of};
 ghost use Rattle.hls_bind.specs.Results.{IsBuiltOf};
@@ -24,9 +24,9 @@ use std::alloc::Global;
 /// What `compile` answers: the canonical text of the machine of a program.
 pub fn compile_file<F: Files>(alloc: Global, ask: &Ask, files: &mut F) -> Result<Answer, Refused>
     ensures answers { AnswersBy (IsCorrectInOrder (OpensProgram (λ p. Ends (IsOfProgram p))) 0
-        (call (Some (asked ask.now)) (F.told files.old) (F.told files.new))) result }
+        (call (Some (asked_of_ask ask.now)) (F.told files.old) (F.told files.new))) result }
     ensures only_read { OnlyRead (F.told files.old) (F.told files.new) }
-    ensures at_most { LoadsAtMost (Some (asked ask.now)) 0 1 (F.told files.old) (F.told files.new) }
+    ensures at_most { LoadsAtMost (Some (asked_of_ask ask.now)) 0 1 (F.told files.old) (F.told files.new) }
 {
     load_compiled(alloc, Operand(0), ask, files)
 }
@@ -41,9 +41,9 @@ fn schedule_from<F: Files>(
     requires { IsBuiltOf (source_of loaded.now.parts) loaded.now.machine }
     ensures answers { AnswersBy (IsCorrectInOrder
         (OpensUnits (λ counts. Ends (IsOfSchedule (source_of loaded.now.parts) counts))) 1
-        (call (Some (asked ask.now)) (F.told files.old) (F.told files.new))) result }
+        (call (Some (asked_of_ask ask.now)) (F.told files.old) (F.told files.new))) result }
     ensures only_read { OnlyRead (F.told files.old) (F.told files.new) }
-    ensures at_most { LoadsAtMost (Some (asked ask.now)) 1 1 (F.told files.old) (F.told files.new) }
+    ensures at_most { LoadsAtMost (Some (asked_of_ask ask.now)) 1 1 (F.told files.old) (F.told files.new) }
 {
     let units = load_units(alloc, Operand(1), ask, files)?;
     Ok(schedule_machine(alloc, &loaded.parts, &loaded.machine, &units)?)
@@ -53,9 +53,9 @@ fn schedule_from<F: Files>(
 pub fn schedule_files<F: Files>(alloc: Global, ask: &Ask, files: &mut F) -> Result<Answer, Refused>
     ensures answers { AnswersBy (IsCorrectInOrder
         (OpensParts (λ parts. OpensUnits (λ counts. Ends (IsOfSchedule parts counts)))) 0
-        (call (Some (asked ask.now)) (F.told files.old) (F.told files.new))) result }
+        (call (Some (asked_of_ask ask.now)) (F.told files.old) (F.told files.new))) result }
     ensures only_read { OnlyRead (F.told files.old) (F.told files.new) }
-    ensures at_most { LoadsAtMost (Some (asked ask.now)) 0 2 (F.told files.old) (F.told files.new) }
+    ensures at_most { LoadsAtMost (Some (asked_of_ask ask.now)) 0 2 (F.told files.old) (F.told files.new) }
 {
     let loaded = load(alloc, Operand(0), ask, files)?;
     schedule_from(alloc, ask, &loaded, files)
@@ -71,9 +71,9 @@ fn bind_from<F: Files>(
     requires { IsBuiltOf (source_of loaded.now.parts) loaded.now.machine }
     ensures answers { AnswersBy (IsCorrectInOrder
         (OpensBinding (machine_of (source_of loaded.now.parts)) (λ b. Ends (IsOfBinding (source_of loaded.now.parts) b))) 1
-        (call (Some (asked ask.now)) (F.told files.old) (F.told files.new))) result }
+        (call (Some (asked_of_ask ask.now)) (F.told files.old) (F.told files.new))) result }
     ensures only_read { OnlyRead (F.told files.old) (F.told files.new) }
-    ensures at_most { LoadsAtMost (Some (asked ask.now)) 1 1 (F.told files.old) (F.told files.new) }
+    ensures at_most { LoadsAtMost (Some (asked_of_ask ask.now)) 1 1 (F.told files.old) (F.told files.new) }
 {
     let binding = load_binding(alloc, Operand(1), ask, &loaded.machine, files)?;
     Ok(bind_machine(alloc, &loaded.parts, &loaded.machine, &binding)?)
@@ -83,9 +83,9 @@ fn bind_from<F: Files>(
 pub fn bind_files<F: Files>(alloc: Global, ask: &Ask, files: &mut F) -> Result<Answer, Refused>
     ensures answers { AnswersBy (IsCorrectInOrder
         (OpensParts (λ parts. OpensBinding (machine_of parts) (λ b. Ends (IsOfBinding parts b)))) 0
-        (call (Some (asked ask.now)) (F.told files.old) (F.told files.new))) result }
+        (call (Some (asked_of_ask ask.now)) (F.told files.old) (F.told files.new))) result }
     ensures only_read { OnlyRead (F.told files.old) (F.told files.new) }
-    ensures at_most { LoadsAtMost (Some (asked ask.now)) 0 2 (F.told files.old) (F.told files.new) }
+    ensures at_most { LoadsAtMost (Some (asked_of_ask ask.now)) 0 2 (F.told files.old) (F.told files.new) }
 {
     let loaded = load(alloc, Operand(0), ask, files)?;
     bind_from(alloc, ask, &loaded, files)

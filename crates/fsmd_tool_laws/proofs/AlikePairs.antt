@@ -4,7 +4,7 @@ use Rattle.std.specs.Prelude.{is_some}
 use Rattle.fsmd_words.specs.AskedWords.{Generate}
 use Rattle.fs_model.specs.declared.parts.VarInfo.{VarInfo}
 use Rattle.fs_model.specs.Machines.{Fsmd}
-use Rattle.fs_rules.specs.Sound.{names_differ}
+use Rattle.fs_rules.specs.SoundParts.{names_differ}
 use Rattle.fs_rules.specs.Rules.{declared_names}
 use Rattle.fs_rules.proofs.Naming.{names_declared}
 use Rattle.fs_ast.proofs.Kept.{differ, all_kept}
@@ -16,7 +16,7 @@ use Rattle.fsmd_pair_answers.proofs.Alike.{closes_where_same, has_limit, no_coun
 use Rattle.fsmd_replies.specs.declared.answer.Answer.{Answer}
 use Rattle.fsmd_replies.specs.AskedFiles.{cert_of, is_check, step_limit, generated_steps}
 use Rattle.fsmd_answers.specs.MachineFiles.{SpellsMachine}
-use Rattle.fsmd_answers.specs.MachinePairAnswers.{IsOfPair, Same, Apart, Open, left_of, right_of}
+use Rattle.fsmd_answers.specs.ComparisonAnswers.{IsOfPair, Same, Apart, Open, left_of, right_of}
 use Rattle.fsmd_tool.specs.Calls.{Call}
 use Rattle.fsmd_tool.specs.SinkReplies.{Put}
 use Rattle.fsmd_tool.specs.Correct.{Outcome}

@@ -17,8 +17,8 @@ use Rattle.cert_text.specs.declared.faults.CertError.TheVariants.{NotJson, Shape
 use Rattle.cert_text.specs.declared.faults.CertError.TheVariants.{NumberTooBig, TooMany, NoMemory, BadTerm, NotNormal}
 use Rattle.cert_text.specs.JsonParts.{file_format}
 use Rattle.cert_text.specs.CertificateNames.{place_named, find_in}
-use Rattle.cert_text.specs.TextReaders.{AreRead}
-use Rattle.cert_text.specs.TextFunctions.{texts_by}
+use Rattle.cert_text.specs.TextMeanings.{AreRead}
+use Rattle.cert_text.specs.TextFunctions.{meanings_by}
 use Rattle.cert_text.specs.Refusals.{file_read, SpellsNodes, BreaksFirst, IsRefusedAsCertificate}
 use Rattle.fsmd_replies.specs.declared.answer.Operand.{Operand}
 use Rattle.fsmd_replies.specs.declared.answer.Answer.{Answer}
@@ -35,12 +35,12 @@ pub record ReadInOneWay : Type 0 where
   pub same : (a b : Fsmd) → (bytes : List ℕ) → (ns ms : List (Node Fact)) → SpellsNodes a b bytes ns → SpellsNodes a b bytes ms → ns ≡ ms
   pub taken : (a b : Fsmd) → (bytes : List ℕ) → (ns : List (Node Fact)) → (e : CertError) → SpellsNodes a b bytes ns
       → IsRefusedAsCertificate a b bytes e → e ≡ NoMemory
-  pub texts : (find : Find) → AreRead find (texts_by find)
+  pub texts : (find : Find) → AreRead find (meanings_by find)
 
 pub in_one_way : ((a b : Fsmd) → (bytes : List ℕ) → (ns ms : List (Node Fact)) → SpellsNodes a b bytes ns → SpellsNodes a b bytes ms → ns ≡ ms)
     → ((a b : Fsmd) → (bytes : List ℕ) → (ns : List (Node Fact)) → (e : CertError) → SpellsNodes a b bytes ns → IsRefusedAsCertificate a b bytes e
     → e ≡ NoMemory)
-    → ((find : Find) → AreRead find (texts_by find)) → ReadInOneWay
+    → ((find : Find) → AreRead find (meanings_by find)) → ReadInOneWay
 in_one_way same taken texts = record { same = same; taken = taken; texts = texts }
 
 -- ---- why bytes are refused is one
@@ -84,8 +84,8 @@ one_break : (w : ReadInOneWay) → (a b : Fsmd) (bytes : List ℕ) (e f : CertEr
 one_break w a b bytes e f p q =
     let same : p.value ≡ q.value = one_value bytes p.value q.value p.file.json q.file.json in
     err_same e f
-    (sym (p.first (texts_by (find_for a b p.value)) (w.texts (find_for a b p.value)))
-    ∙ (ap (λ d. file_read a b d (texts_by (find_for a b d))) same ∙ q.first (texts_by (find_for a b q.value)) (w.texts (find_for a b q.value))))
+    (sym (p.first (meanings_by (find_for a b p.value)) (w.texts (find_for a b p.value)))
+    ∙ (ap (λ d. file_read a b d (meanings_by (find_for a b d))) same ∙ q.first (meanings_by (find_for a b q.value)) (w.texts (find_for a b q.value))))
 
 ground_once : (w : ReadInOneWay) → (a b : Fsmd) (bytes : List ℕ) (e f : CertError) → Ground a b bytes e → Ground a b bytes f → e ≡ f
 ground_once w a b bytes e f (OfText p h) (OfText q k) = h ∙ sym k

@@ -25,13 +25,13 @@ use Rattle.fsmd_answers.specs.InputFiles.{SpellsInputs, RefusesInputs}
 use Rattle.fsmd_answers.specs.ProgramFiles.{RefusesProgram, SpellsProgram, IsOfProgram}
 use Rattle.fsmd_answers.specs.ScheduleFiles.{RefusesUnits, SpellUnits, IsOfSchedule}
 use Rattle.fsmd_answers.specs.BindingFiles.{RefusesBinding, SpellsBinding, IsOfBinding}
-use Rattle.fsmd_answers.specs.MachinePairAnswers.{IsOfPair, IsOfLoops}
+use Rattle.fsmd_answers.specs.ComparisonAnswers.{IsOfPair, IsOfLoops}
 use Rattle.fsmd_answers.specs.Verdicts.{IsJudged, answer_to}
 use Rattle.fsmd_answers.specs.RunAnswers.{IsOfRun}
 use Rattle.fsmd_answers.specs.Replays.{IsOfReplay}
 use Rattle.fsmd_answers.specs.Shrinks.{IsOfShrink}
 use Rattle.fsmd_answers.specs.Follows.{Ends, OpensInputs, OpensCertificate, OpensUnits, OpensBinding, FollowsFrom}
-use Rattle.fsmd_tool.specs.Calls.{Call, held, FailedToRead, MayRead, IsCorrectFrom}
+use Rattle.fsmd_tool.specs.Calls.{Call, known_at_start, FailedToRead, MayRead, IsCorrectFrom}
 use Rattle.fsmd_tool.specs.Correct.{IsCorrectAnswer}
 use Rattle.fsmd_tool.proofs.Found.{end_of}
 use Rattle.fsmd_tool_laws.specs.Agreement.{Agree}
@@ -60,7 +60,8 @@ agree_from : (g : Call) (file : ℕ) (r s : Reading) → MayRead g file r → Ma
 agree_from g file [] s m n h = tt
 agree_from g file (c ∷ r) [] m n h = tt
 agree_from g file (c ∷ r) (d ∷ s) m n h = (
-  settled_same (held g (operand file)) (FailedToRead g (operand file)) c d (h file (first_below file (length r)) (first_below file (length s))) m.0 n.0,
+  settled_same (known_at_start g (operand file)) (FailedToRead g (operand file)) c d
+      (h file (first_below file (length r)) (first_below file (length s))) m.0 n.0,
   agree_from g (file + 1) r s m.1 n.1 (λ k a b. h k (below k file (length r) a) (below k file (length s) b)),
 )
 

@@ -1,9 +1,9 @@
 -- The file of a machine is refused in one way, and not where it spells a machine.
 use Rattle.std.proofs.Common.{◌≡◌, ℕ, List, refl, sym, ◌∙◌, ap}
+use Rattle.fs_rules.specs.MachineOfParts.{machine_of}
 use Rattle.fs_model.specs.Limits.{most_text_bytes}
 use Rattle.fs_model.specs.Machines.{Fsmd}
 use Rattle.fs_model.specs.Source.{Source}
-use Rattle.fs_ast.specs.BuiltMachine.{machine_of}
 use Rattle.fsmd_replies.specs.declared.answer.Operand.{Operand}
 use Rattle.fsmd_replies.specs.declared.answer.Answer.{Answer}
 use Rattle.fsmd_replies.specs.declared.answer.Answer.TheVariants.{TextRefused, CheckRefused}

@@ -25,15 +25,15 @@ use Rattle.fsmd_answers.specs.InputFiles.{HasInputFault, RefusesInputs}
 use Rattle.fsmd_answers.specs.ProgramFiles.{RefusesProgram}
 use Rattle.fsmd_answers.specs.ScheduleFiles.{HaveUnitFault, RefusesUnits, SpellUnits, IsOver}
 use Rattle.fsmd_answers.specs.BindingFiles.{HasBindingFault, RefusesBinding}
-use Rattle.fsmd_answers.specs.MachinePairAnswers.{IsOfPair}
+use Rattle.fsmd_answers.specs.ComparisonAnswers.{IsOfPair}
 use Rattle.fsmd_answers.specs.Verdicts.{IsJudged}
 use Rattle.fsmd_answers.specs.Replays.{IsOfReplay}
 use Rattle.fsmd_answers.specs.Shrinks.{IsOfShrink}
 use Rattle.fsmd_answers.specs.Links.{AtLink, link_lines}
-use Rattle.fsmd_answers.specs.Follows.{Ends, Refused, Spelled, OpensInputs, OpensCertificate, Other, Alike, OpensPair, FollowsFrom, Follows}
-use Rattle.fsmd_tool.specs.Calls.{Call, held, FailedToRead, MayRead}
+use Rattle.fsmd_answers.specs.Follows.{Ends, Refused, Spelled, OpensInputs, OpensCertificate, Other, SameInterface, OpensPair, FollowsFrom, Follows}
+use Rattle.fsmd_tool.specs.Calls.{Call, known_at_start, FailedToRead, MayRead}
 use Rattle.fsmd_tool.specs.SinkReplies.{Put, IsPut, Whole, Cut}
-use Rattle.fsmd_tool.specs.CertificateStores.{StoreState, stores, IsUnchangedStore, StoreEntry, stored_entry_of, to_store}
+use Rattle.fsmd_tool.specs.CertificateStores.{FileChange, file_change, IsUnchangedStore, FileToStore, file_to_store_of, to_store}
 use Rattle.fsmd_tool.specs.Correct.{IsCorrectAnswer, IsDone, Kept, Stored, Unstored, IsDoneFor, Outcome, Answers, Starves}
 use Rattle.fsmd_tool.proofs.Statuses.{HasStatus, is_refusal, machine_refuses, program_refuses, keys_refuse, certificate_refuses, machine_fault, program_fault}
 use Rattle.fsmd_tool.proofs.Statuses.{keys_fault, certificate_fault}
@@ -76,27 +76,27 @@ not_certified : (y : Answer) → status_of y ≡ statuses.BadInput → certifica
 not_certified (Equivalent nodes cert) s = absurd (let h : statuses.Fine ≡ statuses.BadInput = s in cc)
 not_certified y s = refl
 
-not_stored : (name : Option (List ℕ)) → stored_entry_of name None ≡ None
+not_stored : (name : Option (List ℕ)) → file_to_store_of name None ≡ None
 not_stored None = refl
 not_stored (Some name) = refl
 
-done_unstored : (e : Option StoreEntry) (line : List ℕ) (meant : Status) (s : StoreState) (p : Put) → e ≡ None → IsDone e line meant s p
+done_unstored : (e : Option FileToStore) (line : List ℕ) (meant : Status) (s : FileChange) (p : Put) → e ≡ None → IsDone e line meant s p
     → IsUnchangedStore s × IsPut line meant p
 done_unstored e line meant s p none (Kept n k put) = (k, put)
 done_unstored e line meant s p none (Stored x is k put) = absurd (some_none x e is none)
 done_unstored e line meant s p none (Unstored x is k put) = absurd (some_none x e is none)
 
-refusal_done : (y : Answer) (g : Call) (p : Put) → status_of y ≡ statuses.BadInput → IsDoneFor g.asked y (stores g.before g.now) p → EndsByRefusal y g p
+refusal_done : (y : Answer) (g : Call) (p : Put) → status_of y ≡ statuses.BadInput → IsDoneFor g.asked y (file_change g.before g.now) p → EndsByRefusal y g p
 refusal_done y g p s d =
-    let none : stored_entry_of (cert_of g.asked) (certificate_in y) ≡ None =
-    ap (stored_entry_of (cert_of g.asked)) (not_certified y s) ∙ not_stored (cert_of g.asked) in
-    let done = done_unstored (stored_entry_of (cert_of g.asked) (certificate_in y)) (reply y g.asked) (status_of y) (stores g.before g.now) p none d in
+    let none : file_to_store_of (cert_of g.asked) (certificate_in y) ≡ None =
+    ap (file_to_store_of (cert_of g.asked)) (not_certified y s) ∙ not_stored (cert_of g.asked) in
+    let done = done_unstored (file_to_store_of (cert_of g.asked) (certificate_in y)) (reply y g.asked) (status_of y) (file_change g.before g.now) p none d in
     WithLine done.0 (subst (λ t. IsPut (reply y g.asked) t p) s done.1)
 
 pub refusal_ends : (w : ReadInOneWay) → (g : Call) (p : Put) (y : Answer) → IsFirstRefusal g y → Outcome g p → EndsByRefusal y g p
 refusal_ends w g p y k (Answers a) =
     let e : a.answer ≡ y = only_refusal w g a.answer y k a.correct in
-    refusal_done y g p k.status (subst (λ x. IsDoneFor g.asked x (stores g.before g.now) p) e a.done)
+    refusal_done y g p k.status (subst (λ x. IsDoneFor g.asked x (file_change g.before g.now) p) e a.done)
 refusal_ends w g p y k (Starves m) = WithoutMemory m
 
 -- ---- where a call ends as a refusal does
@@ -105,7 +105,7 @@ put_status : (line : List ℕ) (meant : Status) (p : Put) → p.status ≡ statu
 put_status line meant p s (Whole w) = sym w.status ∙ s
 put_status line meant p s (Cut c) = absurd (let h : statuses.Fault ≡ statuses.BadInput = sym c.status ∙ s in cc)
 
-done_status : (e : Option StoreEntry) (line : List ℕ) (meant : Status) (s : StoreState) (p : Put) → p.status ≡ statuses.BadInput
+done_status : (e : Option FileToStore) (line : List ℕ) (meant : Status) (s : FileChange) (p : Put) → p.status ≡ statuses.BadInput
     → IsDone e line meant s p → meant ≡ statuses.BadInput
 done_status e line meant s p b (Kept n k put) = put_status line meant p b put
 done_status e line meant s p b (Stored x is k put) = put_status line meant p b put
@@ -116,10 +116,10 @@ done_status e line meant s p b (Unstored x is k put) =
 reading_is : (g : Call) (file : ℕ) (r : Reading) → MayRead g file r → ((k : ℕ) → k < file + length r → IsSettled g k) → r ≡ read_from g file (length r)
 reading_is g file [] m h = refl
 reading_is g file (c ∷ r) m h =
-    let first : c ≡ read_of (held g (operand file)) =
-    settled_read (held g (operand file)) (FailedToRead g (operand file)) c (h file (first_below file (length r))) m.0 in
+    let first : c ≡ read_of (known_at_start g (operand file)) =
+    settled_read (known_at_start g (operand file)) (FailedToRead g (operand file)) c (h file (first_below file (length r))) m.0 in
     ap (λ d. d ∷ r) first
-    ∙ ap (λ s. read_of (held g (operand file)) ∷ s) (reading_is g (file + 1) r m.1 (λ k b. h k (below k file (length r) b)))
+    ∙ ap (λ s. read_of (known_at_start g (operand file)) ∷ s) (reading_is g (file + 1) r m.1 (λ k b. h k (below k file (length r) b)))
 
 refusal_first : (g : Call) (x : Answer) → AreSettledUpToRefused g → IsCorrectAnswer g x → status_of x ≡ statuses.BadInput → IsFirstRefusal g x
 refusal_first g x u p s =
@@ -134,7 +134,7 @@ refusal_first g x u p s =
 
 pub only_refusals : (g : Call) (p : Put) → AreSettledUpToRefused g → Outcome g p → p.status ≡ statuses.BadInput → HasFirstRefusal g
 only_refusals g p u (Answers a) s =
-    let status = done_status (to_store g.asked a.answer) (reply a.answer g.asked) (status_of a.answer) (stores g.before g.now) p s a.done in
+    let status = done_status (to_store g.asked a.answer) (reply a.answer g.asked) (status_of a.answer) (file_change g.before g.now) p s a.done in
     record { refusal = a.answer; is_first = refusal_first g a.answer u a.correct status }
 only_refusals g p u (Starves m) s = absurd (let h : statuses.NoMemory ≡ statuses.BadInput = sym m.status ∙ s in cc)
 
@@ -170,7 +170,7 @@ module _ (R : Operand → FileContent → Answer → Type 0) (g : Call) (file : 
   refused_settled : IsSettled g file
   refused_settled = known_settled g file (λ bytes. R (operand file) (Readable bytes) x) k
 
-  refused_meets : R (operand file) (read_of (held g (operand file))) x
+  refused_meets : R (operand file) (read_of (known_at_start g (operand file))) x
   refused_meets = subst (λ h. R (operand file) (read_of h) x) (sym k.known) k.meet
 
 -- ---- the first file, and the first two
@@ -195,7 +195,7 @@ pub first_is : (g : Call) (x : Answer) → opens_machine g.asked ≡ true → Is
 first_is g x t k = record {
   count = 1;
   settled = only_first g (refused_settled RefusesMachine g 0 x k);
-  follows = first_follows g.asked (read_of (held g (operand 0))) x t (refused_meets RefusesMachine g 0 x k);
+  follows = first_follows g.asked (read_of (known_at_start g (operand 0))) x t (refused_meets RefusesMachine g 0 x k);
   status = machine_status g 0 x k;
 }
 
@@ -231,13 +231,13 @@ interface_is g x a b t l r k = record {
 
 certificate_follows : (o : Option Asked) (c d e : FileContent) (x : Answer) (a b : Fsmd) → is_verify o ≡ true → OfBytes c (SpellsMachine a)
     → OfBytes d (SpellsMachine b) → interface_fault a b ≡ None → RefusesCertificate a b (operand 2) e x → FollowsFrom o 0 (c ∷ d ∷ e ∷ []) x
-certificate_follows (Some (Verify left right cert)) c d e x a b t l r i k = Spelled a l (Spelled b r (Alike i (Refused k refl)))
+certificate_follows (Some (Verify left right cert)) c d e x a b t l r i k = Spelled a l (Spelled b r (SameInterface i (Refused k refl)))
 certificate_follows o c d e x a b t l r i k = absurd (not_true t)
 
 inputs_follow : (o : Option Asked) (c d e : FileContent) (x : Answer) (a b : Fsmd) → runs_pair o ≡ true → OfBytes c (SpellsMachine a)
     → OfBytes d (SpellsMachine b) → interface_fault a b ≡ None → RefusesInputs a (operand 2) e x → FollowsFrom o 0 (c ∷ d ∷ e ∷ []) x
-inputs_follow (Some (Replay left right ins steps)) c d e x a b t l r i k = Spelled a l (Spelled b r (Alike i (Refused k refl)))
-inputs_follow (Some (Shrink left right ins steps)) c d e x a b t l r i k = Spelled a l (Spelled b r (Alike i (Refused k refl)))
+inputs_follow (Some (Replay left right ins steps)) c d e x a b t l r i k = Spelled a l (Spelled b r (SameInterface i (Refused k refl)))
+inputs_follow (Some (Shrink left right ins steps)) c d e x a b t l r i k = Spelled a l (Spelled b r (SameInterface i (Refused k refl)))
 inputs_follow o c d e x a b t l r i k = absurd (not_true t)
 
 pub certificate_is : (g : Call) (x : Answer) (a b : Fsmd) → is_verify g.asked ≡ true → SpellPair g a b → IsKnownToBeRefused g 2 (RefusesCertificate a b) x
@@ -246,7 +246,8 @@ certificate_is g x a b t p k = record {
   count = 3;
   settled = only_three g (known_settled g 0 (SpellsMachine a) p.left) (known_settled g 1 (SpellsMachine b) p.right)
       (refused_settled (RefusesCertificate a b) g 2 x k);
-  follows = certificate_follows g.asked (read_of (held g (operand 0))) (read_of (held g (operand 1))) (read_of (held g (operand 2))) x a b t
+  follows = certificate_follows g.asked (read_of (known_at_start g (operand 0))) (read_of (known_at_start g (operand 1)))
+      (read_of (known_at_start g (operand 2))) x a b t
       (known_meets g 0 (SpellsMachine a) p.left) (known_meets g 1 (SpellsMachine b) p.right) p.alike
       (refused_meets (RefusesCertificate a b) g 2 x k);
   status = certificate_status a b g 2 x k;
@@ -258,7 +259,8 @@ inputs_of_pair_are g x a b t p k = record {
   count = 3;
   settled = only_three g (known_settled g 0 (SpellsMachine a) p.left) (known_settled g 1 (SpellsMachine b) p.right)
       (refused_settled (RefusesInputs a) g 2 x k);
-  follows = inputs_follow g.asked (read_of (held g (operand 0))) (read_of (held g (operand 1))) (read_of (held g (operand 2))) x a b t
+  follows = inputs_follow g.asked (read_of (known_at_start g (operand 0))) (read_of (known_at_start g (operand 1)))
+      (read_of (known_at_start g (operand 2))) x a b t
       (known_meets g 0 (SpellsMachine a) p.left) (known_meets g 1 (SpellsMachine b) p.right) p.alike
       (refused_meets (RefusesInputs a) g 2 x k);
   status = inputs_status a g 2 x k;
@@ -348,7 +350,7 @@ link_machine_is g x links last h k =
     let o : Option Asked = Some (Chain h.words) in
     let meets = refused_meets RefusesMachine g file x k in
     link_is g x links 1 last h (one_settled g file (refused_settled RefusesMachine g file x k))
-    (λ P. Refused (told_at o (links + 1) (RefusesMachine (operand file) (read_of (held g (operand file)))) x meets (machine_status g file x k)) refl)
+    (λ P. Refused (told_at o (links + 1) (RefusesMachine (operand file) (read_of (known_at_start g (operand file)))) x meets (machine_status g file x k)) refl)
 
 pub link_interface_is : (g : Call) (x : Answer) (links : ℕ) (last next : Fsmd) → HoldUpToLink g links last
     → IsKnown g (2 * links + 1) (SpellsMachine next) → RefusesPair last next x → IsFirstRefusal g (refusal_at g.asked (links + 1) x)
@@ -373,4 +375,4 @@ link_certificate_is g x links last next h l i refused =
     let status = certificate_status last next g (file + 1) x k in
     link_is g x links 2 last h (both_settled g file (known_settled g file (SpellsMachine next) l) (refused_settled R g (file + 1) x k))
     (λ P. Spelled next (known_meets g file (SpellsMachine next) l)
-    (Alike i (Refused (told_at o (links + 1) (R (operand (file + 1)) (read_of (held g (operand (file + 1))))) x meets status) refl)))
+    (SameInterface i (Refused (told_at o (links + 1) (R (operand (file + 1)) (read_of (known_at_start g (operand (file + 1))))) x meets status) refl)))

@@ -28,14 +28,14 @@ use Rattle.fsmd_answers.specs.InputFiles.{SpellsInputs, RefusesInputs}
 use Rattle.fsmd_answers.specs.ProgramFiles.{RefusesProgram, SpellsProgram, IsOfProgram}
 use Rattle.fsmd_answers.specs.ScheduleFiles.{RefusesUnits, SpellUnits, IsOfSchedule}
 use Rattle.fsmd_answers.specs.BindingFiles.{RefusesBinding, SpellsBinding, IsOfBinding}
-use Rattle.fsmd_answers.specs.MachinePairAnswers.{IsOfPair, IsOfLoops, left_of, right_of}
+use Rattle.fsmd_answers.specs.ComparisonAnswers.{IsOfPair, IsOfLoops, left_of, right_of}
 use Rattle.fsmd_answers.specs.Verdicts.{IsJudged}
 use Rattle.fsmd_answers.specs.RunAnswers.{IsOfRun}
 use Rattle.fsmd_answers.specs.Replays.{IsOfReplay}
 use Rattle.fsmd_answers.specs.Shrinks.{IsOfShrink}
 use Rattle.fsmd_answers.specs.Links.{AtLink, link_lines, links_of, IsOfChain}
 use Rattle.fsmd_answers.specs.Follows.{Ends, OpensWith, Refused, Spelled, Opens, OpensMachine, OpensInputs, OpensCertificate, OpensUnits, OpensBinding}
-use Rattle.fsmd_answers.specs.Follows.{ComparesPairs, Other, Alike, OpensPair, Judges, Fails, Holds, OpensLinks, FollowsFrom}
+use Rattle.fsmd_answers.specs.Follows.{ComparesPairs, Other, SameInterface, OpensPair, Judges, Fails, Holds, OpensLinks, FollowsFrom}
 use Rattle.fsmd_tool_laws.specs.Agreement.{Agree}
 use Rattle.fsmd_tool_laws.specs.OneAnswer.{AreComparedIn, OfFiles, OfLoops, SaySame, One, OfPair}
 use Rattle.fsmd_tool_laws.proofs.Contents.{some_none, OpensInOneWay, one_spelled}
@@ -104,9 +104,9 @@ module _ (T : Type 0) (R : Operand → FileContent → Answer → Type 0) (S : T
 pairs_by : (Say : Said) → IsSaidOfOne Say → (a b : Fsmd) (R : Answer → Type 0) (P : Rule) → ((x y : Answer) → R x → R y → x ≡ y)
     → ((x : Answer) → R x → interface_fault a b ≡ None → ⊥) → IsOneBy Say P → IsOneBy Say (ComparesPairs a b R P)
 pairs_by Say same a b R P once apart one file r s x y g (Other p e) (Other q h) = (e ∙ sym h, same s x y (once x y p q))
-pairs_by Say same a b R P once apart one file r s x y g (Other p e) (Alike i q) = absurd (apart x p i)
-pairs_by Say same a b R P once apart one file r s x y g (Alike i p) (Other q h) = absurd (apart y q i)
-pairs_by Say same a b R P once apart one file r s x y g (Alike i p) (Alike j q) = one file r s x y g p q
+pairs_by Say same a b R P once apart one file r s x y g (Other p e) (SameInterface i q) = absurd (apart x p i)
+pairs_by Say same a b R P once apart one file r s x y g (SameInterface i p) (Other q h) = absurd (apart y q i)
+pairs_by Say same a b R P once apart one file r s x y g (SameInterface i p) (SameInterface j q) = one file r s x y g p q
 
 interfaces_once : (a b : Fsmd) (x y : Answer) → RefusesPair a b x → RefusesPair a b y → x ≡ y
 interfaces_once a b x y l k = l.is ∙ ap Interfaces (same_Some l.lines k.lines (sym l.holds ∙ k.holds)) ∙ sym k.is

@@ -1,6 +1,6 @@
 -- What is known of files settles what was read of them, and what follows from it.
 use Rattle.std.proofs.Common.{◌≡◌, ℕ, ◌+◌, List, [], ◌∷◌, None, refl, sym, ◌∙◌, ap, subst}
-use Rattle.fs_base.specs.Outside.{FileKnowledge, Unknown, Nothing, Bytes}
+use Rattle.fs_base.specs.Outside.{FileKnowledge, Unknown, NoFile, Bytes}
 use Rattle.fs_model.specs.Machines.{Fsmd}
 use Rattle.fs_pair.specs.Interfaces.{interface_fault}
 use Rattle.fsmd_replies.specs.declared.answer.Operand.{Operand}
@@ -9,8 +9,8 @@ use Rattle.fsmd_replies.specs.AskedFiles.{operand}
 use Rattle.fsmd_answers.specs.MachineFiles.{SpellsMachine}
 use Rattle.fsmd_answers.specs.Readings.{FileContent, Readable, Unreadable, OfBytes, Reading}
 use Rattle.fsmd_answers.specs.Refusals.{RefusesMachine, RefusesPair}
-use Rattle.fsmd_answers.specs.Follows.{Ends, OpensWith, Refused, Spelled, Opens, OpensMachine, ComparesPairs, Other, Alike, OpensPair}
-use Rattle.fsmd_tool.specs.Calls.{Call, held, FailedToRead, MayBeRead, MayRead, IsCorrectFrom}
+use Rattle.fsmd_answers.specs.Follows.{Ends, OpensWith, Refused, Spelled, Opens, OpensMachine, ComparesPairs, Other, SameInterface, OpensPair}
+use Rattle.fsmd_tool.specs.Calls.{Call, known_at_start, FailedToRead, MayBeRead, MayRead, IsCorrectFrom}
 use Rattle.fsmd_tool_laws.specs.Settled.{Settles, IsSettled, IsKnown, SpellPair, read_of}
 use Rattle.fsmd_tool_laws.proofs.Contents.{OpensInOneWay, one_spelled}
 use Rattle.fsmd_tool_laws.proofs.Files.{machine_opens}
@@ -20,17 +20,17 @@ use Rattle.fsmd_tool_laws.proofs.Following.{Rule, other_or_alike}
 
 pub settled_same : (k : FileKnowledge) (F : Type 0) (c d : FileContent) → Settles k F → MayBeRead k F c → MayBeRead k F d → c ≡ d
 settled_same Unknown F c d s m n = absurd s
-settled_same Nothing F (Readable b) d s m n = absurd m
-settled_same Nothing F Unreadable (Readable b) s m n = absurd n
-settled_same Nothing F Unreadable Unreadable s m n = refl
+settled_same NoFile F (Readable b) d s m n = absurd m
+settled_same NoFile F Unreadable (Readable b) s m n = absurd n
+settled_same NoFile F Unreadable Unreadable s m n = refl
 settled_same (Bytes b) F Unreadable d s m n = absurd (s m)
 settled_same (Bytes b) F (Readable x) Unreadable s m n = absurd (s n)
 settled_same (Bytes b) F (Readable x) (Readable y) s m n = ap Readable (m ∙ sym n)
 
 pub settled_read : (k : FileKnowledge) (F : Type 0) (c : FileContent) → Settles k F → MayBeRead k F c → c ≡ read_of k
 settled_read Unknown F c s m = absurd s
-settled_read Nothing F (Readable b) s m = absurd m
-settled_read Nothing F Unreadable s m = refl
+settled_read NoFile F (Readable b) s m = absurd m
+settled_read NoFile F Unreadable s m = refl
 settled_read (Bytes b) F (Readable x) s m = ap Readable m
 settled_read (Bytes b) F Unreadable s m = absurd (s m)
 
@@ -38,14 +38,14 @@ settled_read (Bytes b) F Unreadable s m = absurd (s m)
 pub known_settled : (g : Call) (file : ℕ) (P : List ℕ → Type 0) → IsKnown g file P → IsSettled g file
 known_settled g file P k = subst (λ h. Settles h (FailedToRead g (operand file))) (sym k.known) k.was_read
 
-pub known_meets : (g : Call) (file : ℕ) (P : List ℕ → Type 0) → IsKnown g file P → OfBytes (read_of (held g (operand file))) P
+pub known_meets : (g : Call) (file : ℕ) (P : List ℕ → Type 0) → IsKnown g file P → OfBytes (read_of (known_at_start g (operand file))) P
 known_meets g file P k = subst (λ h. OfBytes (read_of h) P) (sym k.known) k.meet
 
 known_read : (g : Call) (file : ℕ) (P : List ℕ → Type 0) (c : FileContent) → IsKnown g file P
-    → MayBeRead (held g (operand file)) (FailedToRead g (operand file)) c
+    → MayBeRead (known_at_start g (operand file)) (FailedToRead g (operand file)) c
     → OfBytes c P
 known_read g file P c k m =
-    subst (λ d. OfBytes d P) (sym (settled_read (held g (operand file)) (FailedToRead g (operand file)) c (known_settled g file P k) m))
+    subst (λ d. OfBytes d P) (sym (settled_read (known_at_start g (operand file)) (FailedToRead g (operand file)) c (known_settled g file P k) m))
     (known_meets g file P k)
 
 -- ---- what follows, file by file
@@ -72,7 +72,7 @@ module _ (T : Type 0) (R : Operand → FileContent → Answer → Type 0) (S : T
 alike_of : (a b : Fsmd) (R : Answer → Type 0) (P : Rule) (file : ℕ) (r : Reading) (x : Answer) → ((y : Answer) → R y → interface_fault a b ≡ None → ⊥)
     → interface_fault a b ≡ None → ComparesPairs a b R P file r x → P file r x
 alike_of a b R P file r x apart i (Other p e) = absurd (apart x p i)
-alike_of a b R P file r x apart i (Alike j p) = p
+alike_of a b R P file r x apart i (SameInterface j p) = p
 
 -- what follows from two machines with the same inputs and outputs
 pub alike : (a b : Fsmd) (R : Answer → Type 0) (P : Rule) (file : ℕ) (g : Call) (x : Answer) → ((y : Answer) → R y → interface_fault a b ≡ None → ⊥)

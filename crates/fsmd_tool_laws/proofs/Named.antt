@@ -24,14 +24,14 @@ use Rattle.fsmd_answers.specs.InputFiles.{SpellsInputs, RefusesInputs}
 use Rattle.fsmd_answers.specs.ProgramFiles.{RefusesProgram, SpellsProgram, IsOfProgram}
 use Rattle.fsmd_answers.specs.ScheduleFiles.{RefusesUnits, SpellUnits, IsOfSchedule}
 use Rattle.fsmd_answers.specs.BindingFiles.{RefusesBinding, SpellsBinding, IsOfBinding}
-use Rattle.fsmd_answers.specs.MachinePairAnswers.{IsOfPair, IsOfLoops}
+use Rattle.fsmd_answers.specs.ComparisonAnswers.{IsOfPair, IsOfLoops}
 use Rattle.fsmd_answers.specs.Verdicts.{IsJudged}
 use Rattle.fsmd_answers.specs.RunAnswers.{IsOfRun}
 use Rattle.fsmd_answers.specs.Replays.{IsOfReplay}
 use Rattle.fsmd_answers.specs.Shrinks.{IsOfShrink}
 use Rattle.fsmd_answers.specs.Links.{AtLink, links_in, IsOfChain}
 use Rattle.fsmd_answers.specs.Follows.{Ends, OpensWith, Refused, Spelled, Opens, OpensMachine, OpensInputs, OpensCertificate, OpensUnits, OpensBinding}
-use Rattle.fsmd_answers.specs.Follows.{ComparesPairs, Other, Alike, OpensPair, Judges, Fails, Holds, OpensLinks, FollowsFrom}
+use Rattle.fsmd_answers.specs.Follows.{ComparesPairs, Other, SameInterface, OpensPair, Judges, Fails, Holds, OpensLinks, FollowsFrom}
 use Rattle.fsmd_tool_laws.proofs.Following.{Rule, BehindCertificate, BehindPair, BehindMachine}
 
 -- an answer follows by P from at most so many files
@@ -63,7 +63,7 @@ module _ (T : Type 0) (R : Operand → FileContent → Answer → Type 0) (S : T
 
 pairs : (a b : Fsmd) (R : Answer → Type 0) (P : Rule) (n : ℕ) → IsWithin n P → IsWithin n (ComparesPairs a b R P)
 pairs a b R P n within file r x (Other p e) = at_end r n e
-pairs a b R P n within file r x (Alike i p) = within file r x p
+pairs a b R P n within file r x (SameInterface i p) = within file r x p
 
 judges : (o : Option Asked) (link : ℕ) (a b : Fsmd) (nodes : List (Node Fact)) (P : Rule) (n : ℕ) → IsWithin n P → IsWithin n (Judges o link a b nodes P)
 judges o link a b nodes P n within file r x (Fails v p e) = at_end r n e

@@ -9,10 +9,10 @@ use Rattle.fsmd_replies.specs.declared.answer.Answer.{Answer}
 use Rattle.fsmd_replies.specs.Statuses.{status_of, certificate_in}
 use Rattle.fsmd_replies.specs.AskedFiles.{cert_of, is_check, step_limit, generated_steps}
 use Rattle.fsmd_replies.specs.Replies.{reply}
-use Rattle.fsmd_answers.specs.MachinePairAnswers.{IsOfPair, Same, Apart, Open, left_of, right_of}
+use Rattle.fsmd_answers.specs.ComparisonAnswers.{IsOfPair, Same, Apart, Open, left_of, right_of}
 use Rattle.fsmd_tool.specs.Calls.{Call}
 use Rattle.fsmd_tool.specs.SinkReplies.{Put, IsWhole, IsPut, Whole, Cut}
-use Rattle.fsmd_tool.specs.CertificateStores.{StoreState, stores, StoreEntry, to_store}
+use Rattle.fsmd_tool.specs.CertificateStores.{FileChange, file_change, FileToStore, to_store}
 use Rattle.fsmd_tool.specs.Correct.{IsCorrectAnswer, IsDone, Kept, Stored, Unstored, Outcome, Answers, Starves}
 use Rattle.fsmd_tool.proofs.Causes.{entry_named}
 use Rattle.fsmd_tool_laws.specs.Settled.{SpellPair}
@@ -28,8 +28,8 @@ put_whole : (reply : List ℕ) (meant : Status) (p : Put) → ¬ Rose p.faults_b
 put_whole reply meant p never (Whole w) = w
 put_whole reply meant p never (Cut c) = absurd (never c.failed)
 
-done_whole : (e : Option StoreEntry) (reply : List ℕ) (meant : Status) (s : StoreState) (p : Put) → ¬ Rose p.faults_before p.faults_now
-    → ((x : StoreEntry) → e ≡ Some x → ¬ Rose (s.faults_before x.name) (s.faults_now x.name))
+done_whole : (e : Option FileToStore) (reply : List ℕ) (meant : Status) (s : FileChange) (p : Put) → ¬ Rose p.faults_before p.faults_now
+    → ((x : FileToStore) → e ≡ Some x → ¬ Rose (s.faults_before x.name) (s.faults_now x.name))
     → IsDone e reply meant s p → IsWhole reply meant p
 done_whole e reply meant s p never written (Kept none k put) = put_whole reply meant p never put
 done_whole e reply meant s p never written (Stored x is k put) = put_whole reply meant p never put
@@ -40,7 +40,7 @@ pub ends_by : (P : Answer → Type 0) (g : Call) (p : Put) → NothingFailed g p
 ends_by P g p n h (Answers a) =
     WithAnswer a.answer a.correct (h a.answer a.correct)
     (done_whole (to_store g.asked a.answer) (reply a.answer g.asked) (status_of a.answer)
-    (stores g.before g.now) p n.put (λ x is. n.stored x.name (entry_named (cert_of g.asked) (certificate_in a.answer) x is)) a.done)
+    (file_change g.before g.now) p n.put (λ x is. n.stored x.name (entry_named (cert_of g.asked) (certificate_in a.answer) x is)) a.done)
 ends_by P g p n h (Starves k) = OutOfMemory k
 
 -- a call ends with such a status where each answer that is correct has one

@@ -13,7 +13,7 @@ use Rattle.fsmd_replies.specs.declared.answer.Answer.TheVariants.{Equivalent, Di
 use Rattle.fsmd_replies.specs.declared.answer.Status.TheVariants.{Differ}
 use Rattle.fsmd_replies.specs.Statuses.{status_of}
 use Rattle.fsmd_answers.specs.LineAnswers.{HasLines}
-use Rattle.fsmd_answers.specs.MachinePairAnswers.{AreSame, IsOfPair, Same, Apart, Open, kept}
+use Rattle.fsmd_answers.specs.ComparisonAnswers.{AreSame, IsOfPair, Same, Apart, Open, text_to_store}
 use Rattle.fsmd_tool_laws.specs.OneAnswer.{IsBeyond, Found, NoneFound, AreOne, Equal, GoBeyond}
 
 open_once : (limit : ℕ) (a b : Fsmd) (x y : Answer) → HasLines (IsUndecided limit a b) Undecided x → HasLines (IsUndecided limit a b) Undecided y
@@ -25,15 +25,16 @@ left_undecided : (limit : ℕ) (a b : Fsmd) (x : Answer) → HasLines (IsUndecid
 left_undecided limit a b x p = NoneFound (record { lines = p.lines; holds = p.holds.obstacle; is = p.is })
 
 certificates_once : (keeps : Bool) (a b : Fsmd) (n k : Nodes) (x y : Answer) → AreSame a b n → AreSame a b k
-    → x ≡ Equivalent (length n) (kept keeps (certificate_text a b n)) → y ≡ Equivalent (length k) (kept keeps (certificate_text a b k)) → AreOne a b x y
+    → x ≡ Equivalent (length n) (text_to_store keeps (certificate_text a b n)) → y ≡ Equivalent (length k) (text_to_store keeps (certificate_text a b k))
+    → AreOne a b x y
 certificates_once keeps a b n k x y p q e f =
-    ⊎_elim (λ s. Equal (e ∙ ap (λ (v : Nodes). Equivalent (length v) (kept keeps (certificate_text a b v))) s ∙ sym f))
+    ⊎_elim (λ s. Equal (e ∙ ap (λ (v : Nodes). Equivalent (length v) (text_to_store keeps (certificate_text a b v))) s ∙ sym f))
     (λ c. GoBeyond c.0.left_open (Found n c.0 keeps e) (Found k c.1 keeps f))
     (one_or_beyond (machines a b) n k p.shows q.shows)
 
 -- a certificate beside a line is found beyond the search
 beyond_once : (limit : ℕ) (keeps : Bool) (a b : Fsmd) (n : Nodes) (x y : Answer) → AreSame a b n
-    → x ≡ Equivalent (length n) (kept keeps (certificate_text a b n)) → HasLines (IsUndecided limit a b) Undecided y
+    → x ≡ Equivalent (length n) (text_to_store keeps (certificate_text a b n)) → HasLines (IsUndecided limit a b) Undecided y
     → IsLeftOpen (machines a b) × IsBeyond a b x × IsBeyond a b y
 beyond_once limit keeps a b n x y p e q = let c = only_beyond (machines a b) n q.lines p.shows q.holds.obstacle in
     (c.left_open, Found n c keeps e, left_undecided limit a b y q)

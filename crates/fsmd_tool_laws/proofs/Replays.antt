@@ -3,10 +3,10 @@ use Rattle.std.proofs.Common.{◌≡◌, ℕ, List, sym, ◌∙◌, ap, subst}
 use Rattle.fs_model.specs.Machines.{Fsmd}
 use Rattle.fs_model.specs.Runs.{Inputs}
 use Rattle.fs_runs.specs.Outcomes.{Outputs, output_names}
-use Rattle.fs_show.specs.declared.ends.Side.TheVariants as sides
-use Rattle.fs_show.specs.ItemTexts.{SameOutputs}
-use Rattle.fs_show.specs.EndTexts.{IsReplayText}
-use Rattle.fs_show.proofs.Once.{replay_once}
+use Rattle.fs_run_text.specs.declared.ends.Side.TheVariants as sides
+use Rattle.fs_run_text.specs.ItemTexts.{SameOutputs}
+use Rattle.fs_run_text.specs.EndTexts.{IsReplayText}
+use Rattle.fs_run_text.proofs.Once.{replay_once}
 use Rattle.fsmd_replies.specs.declared.answer.Answer.{Answer}
 use Rattle.fsmd_replies.specs.declared.answer.Answer.TheVariants.{Text, Differs}
 use Rattle.fsmd_answers.specs.LineAnswers.{HasLines}

@@ -5,11 +5,11 @@ use Rattle.fs_model.specs.Runs.{Inputs}
 use Rattle.fs_runs.specs.declared.run.RunStop.{RunStop}
 use Rattle.fs_runs.specs.Outcomes.{Outputs, output_names, EndsWith, IsStopped}
 use Rattle.fs_runs.proofs.RunOnce.{one_end, one_stop, end_or_stop}
-use Rattle.fs_show.specs.declared.ends.Side.{Side}
-use Rattle.fs_show.specs.declared.ends.Side.TheVariants.{Only}
-use Rattle.fs_show.specs.EndTexts.{IsEndText, IsStopText}
-use Rattle.fs_show.proofs.Once.{end_once, stop_once}
-use Rattle.fs_show.proofs.RunOnce.{told_of_run}
+use Rattle.fs_run_text.specs.declared.ends.Side.{Side}
+use Rattle.fs_run_text.specs.declared.ends.Side.TheVariants.{Only}
+use Rattle.fs_run_text.specs.EndTexts.{IsEndText, IsStopText}
+use Rattle.fs_run_text.proofs.Once.{end_once, stop_once}
+use Rattle.fs_run_text.proofs.RunOnce.{told_of_run}
 use Rattle.fsmd_replies.specs.declared.answer.Answer.{Answer}
 use Rattle.fsmd_replies.specs.declared.answer.Answer.TheVariants.{Text, Undecided}
 use Rattle.fsmd_answers.specs.LineAnswers.{HasLines}

@@ -12,7 +12,7 @@ use Rattle.fsmd_replies.specs.AskedFiles.{operand, files_of, compares}
 use Rattle.fsmd_answers.specs.MachineFiles.{SpellsParts, SpellsMachine}
 use Rattle.fsmd_answers.specs.Readings.{FileContent, OfBytes, Reading}
 use Rattle.fsmd_answers.specs.Refusals.{RefusesMachine, RefusesPair}
-use Rattle.fsmd_answers.specs.MachinePairAnswers.{IsOfPair}
+use Rattle.fsmd_answers.specs.ComparisonAnswers.{IsOfPair}
 use Rattle.fsmd_answers.specs.Verdicts.{IsJudged}
 use Rattle.fsmd_answers.specs.RunAnswers.{IsOfRun}
 use Rattle.fsmd_answers.specs.Replays.{IsOfReplay}
@@ -21,8 +21,8 @@ use Rattle.fsmd_answers.specs.ScheduleFiles.{IsOfSchedule}
 use Rattle.fsmd_answers.specs.BindingFiles.{IsOfBinding}
 use Rattle.fsmd_answers.specs.Links.{AtLink, links_of, IsOfChain}
 use Rattle.fsmd_answers.specs.Follows.{Ends, Refused, Spelled, Opens, OpensMachine, OpensInputs, OpensCertificate, OpensUnits, OpensBinding, ComparesPairs}
-use Rattle.fsmd_answers.specs.Follows.{Other, Alike, OpensLinks, Follows}
-use Rattle.fsmd_tool.specs.Calls.{Call, held, FailedToRead, MayRead}
+use Rattle.fsmd_answers.specs.Follows.{Other, SameInterface, OpensLinks, Follows}
+use Rattle.fsmd_tool.specs.Calls.{Call, known_at_start, FailedToRead, MayRead}
 use Rattle.fsmd_tool.specs.Correct.{IsCorrectAnswer}
 use Rattle.fsmd_tool_laws.specs.Agreement.{Agree}
 use Rattle.fsmd_tool_laws.specs.Settled.{IsSettled, AreSettled, IsKnown, read_of, read_from, IsRefusedAsMachine, AreSettledUpToRefused}
@@ -43,7 +43,7 @@ pub read_so : (g : Call) (file : ℕ) (r : Reading) (count : ℕ) → MayRead g 
 read_so g file [] count m h = tt
 read_so g file (c ∷ r) zero m h = tt
 read_so g file (c ∷ r) (suc count) m h = (
-  settled_read (held g (operand file)) (FailedToRead g (operand file)) c (h file (first_below file count)) m.0,
+  settled_read (known_at_start g (operand file)) (FailedToRead g (operand file)) c (h file (first_below file count)) m.0,
   read_so g (file + 1) r count m.1
       (λ k b. h k (below k file count b)),
 )
@@ -138,7 +138,7 @@ pub first_refused : (g : Call) → IsRefusedAsMachine g 0 → AreSettledUpToRefu
 first_refused g k = record {
   count = 1;
   settled = only_first g k.settled;
-  none_behind = λ r x a f. first_stops (read_of (held g (operand 0))) k.answer k.refuses g.asked r x a f;
+  none_behind = λ r x a f. first_stops (read_of (known_at_start g (operand 0))) k.answer k.refuses g.asked r x a f;
 }
 
 -- ---- the second file is refused, or the machines have other inputs or outputs
@@ -157,7 +157,7 @@ Two R Q P = Opens Fsmd RefusesMachine SpellsMachine (λ a. Opens Fsmd (R a) Spel
 module _ (R : Fsmd → Operand → FileContent → Answer → Type 0) (Q : (a b : Fsmd) → Answer → Type 0) (P : (a b : Fsmd) → Rule) (x : Answer) where
   pairs_end : (file : ℕ) (r : Reading) (a b : Fsmd) → (interface_fault a b ≡ None → ⊥) → ComparesPairs a b (Q a b) (P a b) file r x → r ≡ []
   pairs_end file r a b none (Other p e) = e
-  pairs_end file r a b none (Alike i p) = absurd (none i)
+  pairs_end file r a b none (SameInterface i p) = absurd (none i)
 
   second_ends : (file : ℕ) (c : FileContent) (r : Reading) (a : Fsmd) → OfBytes c (SpellsMachine a) → NoPair (c ∷ r)
       → Opens Fsmd (R a) SpellsMachine (λ b. ComparesPairs a b (Q a b) (P a b)) file r x → length r ≤ 1
@@ -222,7 +222,8 @@ not_spelled c d y p (e ∷ []) a m n l i = absurd l
 not_spelled c d y p (e ∷ f ∷ r) a m n l i = machine_opens.not_both (operand 1) d n y (subst (λ k. OfBytes k (SpellsMachine n)) a.1.0 l.1) p
 
 pub second_refused : (g : Call) → IsSettled g 0 → IsRefusedAsMachine g 1 → AreSettledUpToRefused g
-second_refused g s k = two_settled g s k.settled (not_spelled (read_of (held g (operand 0))) (read_of (held g (operand 1))) k.answer k.refuses)
+second_refused g s k = two_settled g s k.settled
+    (not_spelled (read_of (known_at_start g (operand 0))) (read_of (known_at_start g (operand 1))) k.answer k.refuses)
 
 spelled_same : (c d : FileContent) (m n : Fsmd) → c ≡ d → OfBytes c (SpellsMachine m) → OfBytes d (SpellsMachine n) → m ≡ n
 spelled_same c d m n e p q = one_spelled Fsmd RefusesMachine SpellsMachine machine_opens d m n (subst (λ k. OfBytes k (SpellsMachine m)) e p) q
@@ -240,5 +241,5 @@ pub others_spelled : (g : Call) (a b : Fsmd) → IsKnown g 0 (SpellsMachine a) �
     → AreSettledUpToRefused g
 others_spelled g a b left right name fault =
     two_settled g (known_settled g 0 (SpellsMachine a) left) (known_settled g 1 (SpellsMachine b) right)
-    (not_alike (read_of (held g (operand 0))) (read_of (held g (operand 1))) a b (known_meets g 0 (SpellsMachine a) left)
+    (not_alike (read_of (known_at_start g (operand 0))) (read_of (known_at_start g (operand 1))) a b (known_meets g 0 (SpellsMachine a) left)
     (known_meets g 1 (SpellsMachine b) right) (some_none name (interface_fault a b) fault))

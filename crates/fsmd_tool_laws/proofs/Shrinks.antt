@@ -4,9 +4,9 @@ use Rattle.fs_model.specs.Machines.{Fsmd}
 use Rattle.fs_model.specs.Runs.{Inputs, Content}
 use Rattle.fs_runs.specs.InputValues.{input_signatures}
 use Rattle.fs_runs.specs.Outcomes.{Outputs, output_names}
-use Rattle.fs_show.specs.ItemTexts.{input_names}
-use Rattle.fs_show.specs.EndTexts.{IsCounterexampleText}
-use Rattle.fs_show.proofs.Once.{counterexample_once}
+use Rattle.fs_run_text.specs.ItemTexts.{input_names}
+use Rattle.fs_run_text.specs.EndTexts.{IsCounterexampleText}
+use Rattle.fs_run_text.proofs.Once.{counterexample_once}
 use Rattle.fs_trials.specs.Candidates.{inputs_told}
 use Rattle.hls_shrink.specs.Shrunk.{ShowDifference}
 use Rattle.hls_shrink.specs.Given.{given_contents}

@@ -6,15 +6,15 @@ use Rattle.fsmd_words.specs.AskedWords.{Asked, Chain}
 use Rattle.fs_model.specs.Machines.{Fsmd}
 use Rattle.cert_bisimulation.specs.Tables.{Node}
 use Rattle.sym_facts.specs.Facts.{Fact}
-use Rattle.cert_model.specs.Obligations.{Yes}
+use Rattle.cert_model.specs.Obligations.{Yes, verdict_on}
 use Rattle.fsmd_replies.specs.declared.answer.Answer.{Answer}
 use Rattle.fsmd_replies.specs.declared.answer.Answer.TheVariants.{Link}
 use Rattle.fsmd_replies.specs.Statuses.{status_of}
 use Rattle.fsmd_answers.specs.MachineFiles.{SpellsMachine}
 use Rattle.fsmd_answers.specs.Refusals.{SpellsCertificate}
-use Rattle.fsmd_answers.specs.Verdicts.{IsJudged, verdict_on, answer_to}
+use Rattle.fsmd_answers.specs.Verdicts.{IsJudged, answer_to}
 use Rattle.fsmd_answers.specs.Links.{AtLink, link_lines, links_of}
-use Rattle.fsmd_answers.specs.Follows.{Spelled, Alike, Fails, Holds, OpensLinks, Follows}
+use Rattle.fsmd_answers.specs.Follows.{Spelled, SameInterface, Fails, Holds, OpensLinks, Follows}
 use Rattle.fsmd_tool.specs.Calls.{Call}
 use Rattle.fsmd_tool_laws.specs.Settled.{IsSettled, IsKnown, SpellLink, AreKnownToHold, read_from, AreSettledUpToRefused}
 use Rattle.fsmd_tool_laws.proofs.Certificates.{ReadInOneWay}
@@ -83,7 +83,7 @@ link_fails : (o : Option Asked) (g : Call) (link file : ℕ) (last next : Fsmd) 
     → verdict_on last next nodes ≢ Yes → OpensLinkWith o link last P file (read_from g file 2) (told o last next nodes link)
 link_fails o g link file last next nodes P k stops =
     Spelled next (known_meets g file (SpellsMachine next) k.machine)
-    (Alike k.alike
+    (SameInterface k.alike
     (Spelled nodes (known_meets g (file + 1) (SpellsCertificate last next nodes) k.certificate) (Fails stops (is_told o last next nodes link stops) refl)))
 
 -- what follows behind a link that holds
@@ -93,7 +93,7 @@ link_holds : (o : Option Asked) (g : Call) (link file count : ℕ) (last next : 
     → OpensLinkWith o link last P file (read_from g file (suc (suc count))) x
 link_holds o g link file count last next nodes P x k holds p =
     Spelled next (known_meets g file (SpellsMachine next) k.machine)
-    (Alike k.alike (Spelled nodes (known_meets g (file + 1) (SpellsCertificate last next nodes) k.certificate) (Holds holds p)))
+    (SameInterface k.alike (Spelled nodes (known_meets g (file + 1) (SpellsCertificate last next nodes) k.certificate) (Holds holds p)))
 
 rest_known : (g : Call) (file known : ℕ) (so_far last : Fsmd) → AreKnownToHold g (file + 2) known so_far last
     → AreKnownToHold g (file + 1 + 1) known so_far last

@@ -11,8 +11,8 @@ use Rattle.fs_rules.specs.declared.check.CheckRule.{CheckRule}
 use Rattle.fs_rules.specs.declared.check.CheckRule.TheVariants.{TwiceNamed, UnknownName, WrongSort, AssignInput, AssignedTwice, NoElse, AfterElse}
 use Rattle.fs_rules.specs.declared.check.CheckRule.TheVariants.{TooManyBranches, EndlessLine, UnknownState, TooMany, TooManyEmits}
 use Rattle.fs_rules.specs.declared.check.CheckFault.{CheckFault}
-use Rattle.fs_ast.specs.BuiltMachine.{machine_of}
-use Rattle.fs_ast.specs.MachineRules.{rule_rank, is_sooner, plain_faults, branch_faults, IsFirstBroken, BreaksNoRule}
+use Rattle.fs_rules.specs.MachineOfParts.{machine_of}
+use Rattle.fs_rules.specs.Rules.{rule_rank, is_sooner, plain_faults, branch_faults, IsFirstBroken, BreaksNoRule}
 use Rattle.fs_model.specs.Limits.{most_text_bytes}
 use Rattle.fs_text_laws.proofs.Texts.{one_source, one_fault, not_both}
 use Rattle.fsmd_answers.specs.MachineFiles.{SpellsParts, SpellsMachine, IsTooLong, HasTextFault, HasCheckFault}

@@ -15,7 +15,7 @@ use Rattle.fsmd_answers.specs.Links.{link_lines, links_of}
 use Rattle.fsmd_answers.specs.Follows.{Follows}
 use Rattle.fsmd_tool.specs.Calls.{Call}
 use Rattle.fsmd_tool.specs.SinkReplies.{Put, IsPut}
-use Rattle.fsmd_tool.specs.CertificateStores.{stores, IsUnchangedStore}
+use Rattle.fsmd_tool.specs.CertificateStores.{file_change, IsUnchangedStore}
 use Rattle.fsmd_tool.specs.Correct.{IsStarved}
 use Rattle.fsmd_tool_laws.specs.Settled.{IsSettled, IsKnown, AreKnownToHold, read_from}
 
@@ -84,5 +84,5 @@ refusal_at asked link refusal = Link BadInput (link_lines asked link refusal)
 -- nothing was stored, and the line of a refusal was put with the status of bad input, whole, or cut by a sink that failed; or
 -- there was no memory
 pub data EndsByRefusal (refusal : Answer) (g : Call) (p : Put) : Type 0 where
-  WithLine : IsUnchangedStore (stores g.before g.now) → IsPut (reply refusal g.asked) BadInput p → EndsByRefusal refusal g p
+  WithLine : IsUnchangedStore (file_change g.before g.now) → IsPut (reply refusal g.asked) BadInput p → EndsByRefusal refusal g p
   WithoutMemory : IsStarved g p → EndsByRefusal refusal g p

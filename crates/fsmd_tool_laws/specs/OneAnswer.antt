@@ -13,13 +13,13 @@ use Rattle.fsmd_replies.specs.AskedFiles.{is_check}
 use Rattle.fsmd_answers.specs.LineAnswers.{HasLines}
 use Rattle.fsmd_answers.specs.MachineFiles.{SpellsMachine}
 use Rattle.fsmd_answers.specs.Readings.{OfBytes, Reading}
-use Rattle.fsmd_answers.specs.MachinePairAnswers.{kept, left_of, right_of}
+use Rattle.fsmd_answers.specs.ComparisonAnswers.{text_to_store, left_of, right_of}
 
 -- what may be answered where no stated candidate shows a difference and the search is left open: a certificate that is found
 -- beyond it and holds, by its number of nodes and its text where that is to be stored; or the line of the search's obstacle
 pub data IsBeyond (a b : Fsmd) (answer : Answer) : Type 0 where
   Found : (nodes : List (Node Fact)) → IsFoundBeyond (machines a b) nodes → (keeps : Bool)
-      → answer ≡ Equivalent (length nodes) (kept keeps (certificate_text a b nodes)) → IsBeyond a b answer
+      → answer ≡ Equivalent (length nodes) (text_to_store keeps (certificate_text a b nodes)) → IsBeyond a b answer
   NoneFound : HasLines (HasObstacle (machines a b)) Undecided answer → IsBeyond a b answer
 
 -- two answers to two machines are one; or the search of these machines is left open, and both say what may be answered there

@@ -1,19 +1,18 @@
 -- When what was read of the files of a call is settled.
 use Rattle.std.specs.Prelude.{◌≡◌, ◌<◌, ◌≤◌, ℕ, zero, suc, ◌+◌, List, [], ◌∷◌, length, None}
-use Rattle.fs_base.specs.Outside.{FileKnowledge, Unknown, Nothing, Bytes}
+use Rattle.fs_base.specs.Outside.{FileKnowledge, Unknown, NoFile, Bytes}
 use Rattle.fs_model.specs.Machines.{Fsmd}
 use Rattle.fs_pair.specs.Interfaces.{interface_fault}
 use Rattle.cert_bisimulation.specs.Tables.{Node}
 use Rattle.sym_facts.specs.Facts.{Fact}
-use Rattle.cert_model.specs.Obligations.{Yes}
+use Rattle.cert_model.specs.Obligations.{Yes, verdict_on}
 use Rattle.fsmd_replies.specs.declared.answer.Answer.{Answer}
 use Rattle.fsmd_replies.specs.AskedFiles.{operand}
 use Rattle.fsmd_answers.specs.MachineFiles.{SpellsMachine}
 use Rattle.fsmd_answers.specs.Readings.{FileContent, Readable, Unreadable, Reading}
 use Rattle.fsmd_answers.specs.Refusals.{RefusesMachine, SpellsCertificate}
-use Rattle.fsmd_answers.specs.Verdicts.{verdict_on}
 use Rattle.fsmd_answers.specs.Follows.{Follows}
-use Rattle.fsmd_tool.specs.Calls.{Call, held, FailedToRead}
+use Rattle.fsmd_tool.specs.Calls.{Call, known_at_start, FailedToRead}
 use Rattle.fsmd_tool_laws.specs.Agreement.{Agree}
 
 -- ---- files that are settled
@@ -21,12 +20,12 @@ use Rattle.fsmd_tool_laws.specs.Agreement.{Agree}
 -- it is known that there is no file; or it is known what bytes the file has, and it did not fail to be read
 abbrev pub Settles : FileKnowledge → (Failed : Type 0) → Type 0
 Settles Unknown Failed = ⊥
-Settles Nothing Failed = Unit {0}
+Settles NoFile Failed = Unit {0}
 Settles (Bytes bytes) Failed = Failed → ⊥
 
 -- the same of the file of a number
 abbrev pub IsSettled : Call → (file : ℕ) → Type 0
-IsSettled g file = Settles (held g (operand file)) (FailedToRead g (operand file))
+IsSettled g file = Settles (known_at_start g (operand file)) (FailedToRead g (operand file))
 
 -- each file that both readings opened is settled
 pub record AreSettled (g : Call) (r s : Reading) : Type 0 where
@@ -37,7 +36,7 @@ pub record AreSettled (g : Call) (r s : Reading) : Type 0 where
 -- it is known that the file of a number has bytes that meet P, and it did not fail to be read
 pub record IsKnown (g : Call) (file : ℕ) (P : List ℕ → Type 0) : Type 0 where
   pub bytes : List ℕ
-  pub known : held g (operand file) ≡ Bytes bytes
+  pub known : known_at_start g (operand file) ≡ Bytes bytes
   pub meet : P bytes
   pub was_read : ¬ FailedToRead g (operand file)
 
@@ -72,19 +71,19 @@ AreKnownToHold g file (suc links) last end = IsKnownToHold g file last (λ next.
 -- what is read of a file of which this is known, where it is settled
 abbrev pub read_of : FileKnowledge → FileContent
 read_of Unknown = Unreadable
-read_of Nothing = Unreadable
+read_of NoFile = Unreadable
 read_of (Bytes bytes) = Readable bytes
 
 -- what is read of so many files from a number on, where they are settled
 abbrev pub read_from : Call → (file count : ℕ) → Reading
 read_from g file zero = []
-read_from g file (suc count) = read_of (held g (operand file)) ∷ read_from g (file + 1) count
+read_from g file (suc count) = read_of (known_at_start g (operand file)) ∷ read_from g (file + 1) count
 
 -- it is settled what is read of the file of a number, and as that of a machine it is refused
 pub record IsRefusedAsMachine (g : Call) (file : ℕ) : Type 0 where
   pub settled : IsSettled g file
   pub answer : Answer
-  pub refuses : RefusesMachine (operand file) (read_of (held g (operand file))) answer
+  pub refuses : RefusesMachine (operand file) (read_of (known_at_start g (operand file))) answer
 
 -- so many files of the call are settled, and no file behind these is opened, whatever it holds: an answer follows from no reading
 -- that agrees with what is read of these and that goes further. So it is with all files that are named, and with those up to the

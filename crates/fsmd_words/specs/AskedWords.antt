@@ -25,23 +25,23 @@ pub data Asked : Type 0 where
   Shrink : (left right inputs : Text) → (steps : ℕ) → Asked
   Chain : (files : List Text) → Asked
 
-abbrev pub asked : Ask → Asked
-asked (asks.Check left right cert steps) =
+abbrev pub asked_of_ask : Ask → Asked
+asked_of_ask (asks.Check left right cert steps) =
     Check (string_bytes left) (string_bytes right) (option_map string_bytes cert) steps
-asked (asks.Verify left right cert) =
+asked_of_ask (asks.Verify left right cert) =
     Verify (string_bytes left) (string_bytes right) (string_bytes cert)
-asked (asks.Run machine inputs steps) = Run (string_bytes machine) (string_bytes inputs) steps
-asked (asks.Replay left right inputs steps) =
+asked_of_ask (asks.Run machine inputs steps) = Run (string_bytes machine) (string_bytes inputs) steps
+asked_of_ask (asks.Replay left right inputs steps) =
     Replay (string_bytes left) (string_bytes right) (string_bytes inputs) steps
-asked (asks.Fmt machine) = Fmt (string_bytes machine)
-asked (asks.Cuts machine) = Cuts (string_bytes machine)
-asked (asks.Generate n) = Generate n
-asked (asks.Compile program) = Compile (string_bytes program)
-asked (asks.Schedule machine units) = Schedule (string_bytes machine) (string_bytes units)
-asked (asks.Bind machine binding) = Bind (string_bytes machine) (string_bytes binding)
-asked (asks.Shrink left right inputs steps) =
+asked_of_ask (asks.Fmt machine) = Fmt (string_bytes machine)
+asked_of_ask (asks.Cuts machine) = Cuts (string_bytes machine)
+asked_of_ask (asks.Generate n) = Generate n
+asked_of_ask (asks.Compile program) = Compile (string_bytes program)
+asked_of_ask (asks.Schedule machine units) = Schedule (string_bytes machine) (string_bytes units)
+asked_of_ask (asks.Bind machine binding) = Bind (string_bytes machine) (string_bytes binding)
+asked_of_ask (asks.Shrink left right inputs steps) =
     Shrink (string_bytes left) (string_bytes right) (string_bytes inputs) steps
-asked (asks.Chain files) = Chain (map string_bytes files.items)
+asked_of_ask (asks.Chain files) = Chain (map string_bytes files.items)
 
 -- ---- fields, by the matches of a command
 

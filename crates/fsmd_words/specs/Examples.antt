@@ -123,8 +123,10 @@ pub record OtherStepsAreRefused : Type 0 where
   pub replay : (left right inputs steps : Text) → IsPlainWord left → IsPlainWord right → IsPlainWord inputs → IsPlainWord steps
       → SpellsNoSteps steps → FailBy (codes "replay" ∷ left ∷ right ∷ inputs ∷ codes "--steps" ∷ steps ∷ []) kinds.ValueValidation
   pub replay_attached : (left right inputs steps : Text) → IsPlainWord left → IsPlainWord right → IsPlainWord inputs
-      → SpellsNoSteps steps → FailBy (codes "replay" ∷ left ∷ right ∷ inputs ∷ (codes "--steps=" ++ steps) ∷ []) kinds.ValueValidation
+      → SpellsNoSteps steps
+      → FailBy (codes "replay" ∷ left ∷ right ∷ inputs ∷ (codes "--steps=" ++ steps) ∷ []) kinds.ValueValidation
   pub shrink : (left right inputs steps : Text) → IsPlainWord left → IsPlainWord right → IsPlainWord inputs → IsPlainWord steps
       → SpellsNoSteps steps → FailBy (codes "shrink" ∷ left ∷ right ∷ inputs ∷ codes "--steps" ∷ steps ∷ []) kinds.ValueValidation
   pub shrink_attached : (left right inputs steps : Text) → IsPlainWord left → IsPlainWord right → IsPlainWord inputs
-      → SpellsNoSteps steps → FailBy (codes "shrink" ∷ left ∷ right ∷ inputs ∷ (codes "--steps=" ++ steps) ∷ []) kinds.ValueValidation
+      → SpellsNoSteps steps
+      → FailBy (codes "shrink" ∷ left ∷ right ∷ inputs ∷ (codes "--steps=" ++ steps) ∷ []) kinds.ValueValidation

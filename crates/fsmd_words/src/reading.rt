@@ -2,7 +2,7 @@
 
 ghost use Rattle.std.specs.Prelude.{◌≡◌, IfOk, IfErr, IfSome, Some, None, false};
 ghost use Rattle.clap.specs.Words.{found_of, rows_of};
-ghost use Rattle.fsmd_words.specs.AskedWords.{IsByTurns, asked, asked_by, bind_of, chain_of_rows, check_of, is_by_turns};
+ghost use Rattle.fsmd_words.specs.AskedWords.{IsByTurns, asked_of_ask, asked_by, bind_of, chain_of_rows, check_of, is_by_turns};
 ghost use Rattle.fsmd_words.specs.AskedWords.{replay_of, run_of, schedule_of_rows, shrink_of, verify_of};
 ghost use Rattle.fsmd_words.specs.declared.asking.AskError.TheVariants.{Usage};
 
@@ -12,7 +12,7 @@ use clap::ArgMatches;
 use std::alloc::{AllocError, Global};
 
 fn check(alloc: Global, found: &ArgMatches) -> Result<Ask, AllocError>
-    ensures { IfOk result (λ ask. asked ask ≡ check_of (rows_of (found_of found.now))) }
+    ensures { IfOk result (λ ask. asked_of_ask ask ≡ check_of (rows_of (found_of found.now))) }
 {
     Ok(Ask::Check {
         left: word(alloc, found, "left")?,
@@ -23,7 +23,7 @@ fn check(alloc: Global, found: &ArgMatches) -> Result<Ask, AllocError>
 }
 
 fn verify(alloc: Global, found: &ArgMatches) -> Result<Ask, AllocError>
-    ensures { IfOk result (λ ask. asked ask ≡ verify_of (rows_of (found_of found.now))) }
+    ensures { IfOk result (λ ask. asked_of_ask ask ≡ verify_of (rows_of (found_of found.now))) }
 {
     Ok(Ask::Verify {
         left: word(alloc, found, "left")?,
@@ -33,7 +33,7 @@ fn verify(alloc: Global, found: &ArgMatches) -> Result<Ask, AllocError>
 }
 
 fn run(alloc: Global, found: &ArgMatches) -> Result<Ask, AllocError>
-    ensures { IfOk result (λ ask. asked ask ≡ run_of (rows_of (found_of found.now))) }
+    ensures { IfOk result (λ ask. asked_of_ask ask ≡ run_of (rows_of (found_of found.now))) }
 {
     Ok(Ask::Run {
         machine: word(alloc, found, "machine")?,
@@ -43,7 +43,7 @@ fn run(alloc: Global, found: &ArgMatches) -> Result<Ask, AllocError>
 }
 
 fn replay(alloc: Global, found: &ArgMatches) -> Result<Ask, AllocError>
-    ensures { IfOk result (λ ask. asked ask ≡ replay_of (rows_of (found_of found.now))) }
+    ensures { IfOk result (λ ask. asked_of_ask ask ≡ replay_of (rows_of (found_of found.now))) }
 {
     Ok(Ask::Replay {
         left: word(alloc, found, "left")?,
@@ -54,7 +54,7 @@ fn replay(alloc: Global, found: &ArgMatches) -> Result<Ask, AllocError>
 }
 
 fn schedule(alloc: Global, found: &ArgMatches) -> Result<Ask, AllocError>
-    ensures { IfOk result (λ ask. asked ask ≡ schedule_of_rows (rows_of (found_of found.now))) }
+    ensures { IfOk result (λ ask. asked_of_ask ask ≡ schedule_of_rows (rows_of (found_of found.now))) }
 {
     Ok(Ask::Schedule {
         machine: word(alloc, found, "machine")?,
@@ -63,7 +63,7 @@ fn schedule(alloc: Global, found: &ArgMatches) -> Result<Ask, AllocError>
 }
 
 fn bind(alloc: Global, found: &ArgMatches) -> Result<Ask, AllocError>
-    ensures { IfOk result (λ ask. asked ask ≡ bind_of (rows_of (found_of found.now))) }
+    ensures { IfOk result (λ ask. asked_of_ask ask ≡ bind_of (rows_of (found_of found.now))) }
 {
     Ok(Ask::Bind {
         machine: word(alloc, found, "machine")?,
@@ -72,7 +72,7 @@ fn bind(alloc: Global, found: &ArgMatches) -> Result<Ask, AllocError>
 }
 
 fn shrink(alloc: Global, found: &ArgMatches) -> Result<Ask, AllocError>
-    ensures { IfOk result (λ ask. asked ask ≡ shrink_of (rows_of (found_of found.now))) }
+    ensures { IfOk result (λ ask. asked_of_ask ask ≡ shrink_of (rows_of (found_of found.now))) }
 {
     Ok(Ask::Shrink {
         left: word(alloc, found, "left")?,
@@ -83,7 +83,7 @@ fn shrink(alloc: Global, found: &ArgMatches) -> Result<Ask, AllocError>
 }
 
 fn chain(alloc: Global, found: &ArgMatches) -> Result<Ask, AllocError>
-    ensures { IfOk result (λ ask. asked ask ≡ chain_of_rows (rows_of (found_of found.now))) }
+    ensures { IfOk result (λ ask. asked_of_ask ask ≡ chain_of_rows (rows_of (found_of found.now))) }
 {
     Ok(Ask::Chain {
         files: words(alloc, found, "files")?,
@@ -92,7 +92,7 @@ fn chain(alloc: Global, found: &ArgMatches) -> Result<Ask, AllocError>
 
 // What the command of this name asks, by its matches. `Usage` comes only for a name that is no command's.
 fn matched(alloc: Global, name: &str, found: &ArgMatches) -> Result<Ask, AskError>
-    ensures ok { IfOk result (λ ask. asked_by name.now (rows_of (found_of found.now)) ≡ Some (asked ask)) }
+    ensures ok { IfOk result (λ ask. asked_by name.now (rows_of (found_of found.now)) ≡ Some (asked_of_ask ask)) }
     ensures usage { IfErr result (λ error. error ≡ Usage → asked_by name.now (rows_of (found_of found.now)) ≡ None) }
 {
     match name {
@@ -120,7 +120,7 @@ fn matched(alloc: Global, name: &str, found: &ArgMatches) -> Result<Ask, AskErro
 
 // The files of a chain are machine and certificate by turns, from a machine to a machine.
 fn stands_by_turns(ask: &Ask) -> bool
-    ensures { result ≡ is_by_turns (asked ask.now) }
+    ensures { result ≡ is_by_turns (asked_of_ask ask.now) }
 {
     match ask {
         Ask::Chain { files } => files.len() % 2 == 1,
@@ -132,7 +132,7 @@ fn stands_by_turns(ask: &Ask) -> bool
 /// the files of a chain are not machine and certificate by turns.
 pub fn read(alloc: Global, name: &str, found: &ArgMatches) -> Result<Ask, AskError>
     ensures ok { IfOk result
-        (λ ask. (asked_by name.now (rows_of (found_of found.now)) ≡ Some (asked ask)) × IsByTurns (asked ask)) }
+        (λ ask. (asked_by name.now (rows_of (found_of found.now)) ≡ Some (asked_of_ask ask)) × IsByTurns (asked_of_ask ask)) }
     ensures usage { IfErr result (λ error. error ≡ Usage
         → IfSome (asked_by name.now (rows_of (found_of found.now))) (λ what. is_by_turns what ≡ false)) }
 {

@@ -1,7 +1,7 @@
 //! The words of the command line.
 
 ghost use Rattle.std.specs.Prelude.{◌≡◌, IfOk, IfErr, None, Some, map, string_bytes};
-ghost use Rattle.fsmd_words.specs.AskedWords.{AreTaken, IsWithinLimits, asked, asked_of};
+ghost use Rattle.fsmd_words.specs.AskedWords.{AreTaken, IsWithinLimits, asked_of_ask, asked_of};
 ghost use Rattle.fsmd_words.specs.declared.asking.AskError.TheVariants as errors;
 
 use crate::asking::{Ask, AskError};
@@ -16,11 +16,11 @@ use std::alloc::Global;
 /// words that are not taken: `clap` refuses them, as it does a request for help, or the number of a chain's files is
 /// even. `NoMemory` comes where memory is refused.
 pub fn ask(alloc: Global, words: &[String]) -> Result<Ask, AskError>
-    ensures ok { IfOk result (λ ask. asked_of (map string_bytes words.now) ≡ Some (asked ask)) }
+    ensures ok { IfOk result (λ ask. asked_of (map string_bytes words.now) ≡ Some (asked_of_ask ask)) }
     ensures taken { IfOk result (λ _. AreTaken (map string_bytes words.now)) }
     ensures usage { IfErr result (λ error. error ≡ errors.Usage → AreTaken (map string_bytes words.now) → ⊥) }
     ensures none { IfErr result (λ error. error ≡ errors.Usage → asked_of (map string_bytes words.now) ≡ None) }
-    ensures limits { IfOk result (λ ask. IsWithinLimits (asked ask)) }
+    ensures limits { IfOk result (λ ask. IsWithinLimits (asked_of_ask ask)) }
 {
     let command = command_line(alloc)?;
     match command.try_get_matches_from(words) {

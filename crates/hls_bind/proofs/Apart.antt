@@ -16,7 +16,7 @@ use Rattle.fs_variable_sets.proofs.Members.{met_by}
 use Rattle.fs_variable_sets.proofs.Bits.{past_bits}
 use Rattle.hls_bind.specs.declared.binding.BoundLocal.{BoundLocal}
 use Rattle.hls_bind.specs.BindingEntries.{binding_entry}
-use Rattle.hls_bind.specs.Lost.{Pair, is_lost, lost_with, lost_by}
+use Rattle.hls_bind.specs.ConflictSearch.{LostPair, is_lost, lost_with, lost_by}
 use Rattle.hls_bind.specs.Shared.{shares, others_from, others_in}
 
 -- ---- what is gathered stays
@@ -111,10 +111,10 @@ module _ (w l : ℕ → Bool) (all : List (ℕ × List ℕ)) (es : List BoundLoc
       (lost_by w l all (map binding_entry (drop (k + 1) es)))
   turn = ap (λ (ds : List BoundLocal). lost_by w l all (map binding_entry ds)) (drop_next es k one h at)
 
-  pub none_here : (o : Option Pair) → cond (w one.local.0) (lost_with w l (binding_entry one) all) None ≡ None
+  pub none_here : (o : Option LostPair) → cond (w one.local.0) (lost_with w l (binding_entry one) all) None ≡ None
       → lost_by w l all (map binding_entry (drop k es)) ≡ o → lost_by w l all (map binding_entry (drop (k + 1) es)) ≡ o
   none_here o e g = sym (turn ∙ ap (λ q. option_or q (lost_by w l all (map binding_entry (drop (k + 1) es)))) e) ∙ g
 
-  pub some_here : (o : Option Pair) (p : Pair) → cond (w one.local.0) (lost_with w l (binding_entry one) all) None ≡ Some p
+  pub some_here : (o : Option LostPair) (p : LostPair) → cond (w one.local.0) (lost_with w l (binding_entry one) all) None ≡ Some p
       → lost_by w l all (map binding_entry (drop k es)) ≡ o → Some p ≡ o
   some_here o p e g = sym (turn ∙ ap (λ q. option_or q (lost_by w l all (map binding_entry (drop (k + 1) es)))) e) ∙ g

@@ -11,7 +11,7 @@ use Rattle.fs_model.specs.Trees.{Branch, branches_of}
 use Rattle.fs_model.specs.View.{branch_of}
 use Rattle.std.proofs.lemmas.List.{get_or-map}
 use Rattle.base_lemmas.proofs.Lists.{drop_next}
-use Rattle.fs_rules.specs.Sound.{IsSound, branch_count, assigned_in}
+use Rattle.fs_rules.specs.SoundParts.{IsSound, branch_count, assigned_in}
 use Rattle.fs_cut.specs.Paths.{branch_at}
 use Rattle.fs_cut.proofs.Branches.{no_branch}
 use Rattle.fs_cut.proofs.Loops.{target_is_in, count_is}
@@ -19,12 +19,12 @@ use Rattle.fs_rules.specs.MachineOfParts.{names_of, variables_of}
 use Rattle.fs_model.specs.Source.{Source, Declaration, SourceState}
 use Rattle.fs_model.specs.PartFolds.{scalars, uses_in_literal}
 use Rattle.hls_binding_laws.specs.Liveness.{read_by, read_by_assignment}
-use Rattle.hls_binding_laws.specs.Bindings.{renamed, remaining, of_registers, state_renamed, bound_parts}
+use Rattle.hls_binding_laws.specs.Bindings.{bound_name, remaining_declarations, of_registers, state_renamed, bound_parts}
 use Rattle.fs_variable_sets.specs.Sets.{also_all}
 use Rattle.fs_variable_sets.proofs.Members.{also_joined}
 use Rattle.hls_bind.specs.BindingMembers.{register_given, entry_at, binding_from}
-use Rattle.hls_bind.specs.BranchFlows.{low, Transfer, transfer_by, transfers_at, transfers_below}
-use Rattle.hls_bind.specs.Lost.{first_from}
+use Rattle.hls_bind.specs.BranchFlows.{has_below_128, Transfer, transfer_by, transfers_at, transfers_below}
+use Rattle.hls_bind.specs.ConflictSearch.{first_from}
 
 dropped_suc : {A : Type 0} (xs : List A) (i : ℕ) (x : A) → i < length xs → x ≡ get_or xs i x → drop i xs ≡ x ∷ drop (suc i) xs
 dropped_suc [] i x h e = absurd (omega arith)
@@ -66,11 +66,11 @@ read_more f view xs i x old new whole h e put g =
 abbrev pub made_transfer : (from target : ℕ) → (reads writes : ℕ → Bool) → Transfer
 made_transfer from target reads writes = record { from = from; target = target; reads = reads; writes = writes }
 
-pub transfer_is : (from : ℕ) (x : Branch) (lits reads writes : ℕ → Bool) → lits ≡ low (flat_map (uses_in_literal scalars) x.literals)
-    → reads ≡ also_all (flat_map read_by_assignment x.assignments) lits → writes ≡ low (assigned_in x.assignments)
+pub transfer_is : (from : ℕ) (x : Branch) (lits reads writes : ℕ → Bool) → lits ≡ has_below_128 (flat_map (uses_in_literal scalars) x.literals)
+    → reads ≡ also_all (flat_map read_by_assignment x.assignments) lits → writes ≡ has_below_128 (assigned_in x.assignments)
     → made_transfer from x.target reads writes ≡ transfer_by from x
 transfer_is from x lits reads writes e f g =
-    let all : reads ≡ low (read_by x) = f ∙ ap (also_all (flat_map read_by_assignment x.assignments)) e
+    let all : reads ≡ has_below_128 (read_by x) = f ∙ ap (also_all (flat_map read_by_assignment x.assignments)) e
     ∙ sym (also_joined (flat_map (uses_in_literal scalars) x.literals) (flat_map read_by_assignment x.assignments) (λ y. false)) in
     ap₂ (λ (i j : ℕ → Bool). made_transfer from x.target i j) all g
 
@@ -106,13 +106,13 @@ abbrev pub made_parts : List Declaration → ℕ → List ℕ → List SourceSta
 made_parts ds line reset ss = record { declarations = ds; reset_line = line; reset = reset; states = ss }
 
 pub parts_are : (b : List (ℕ × List ℕ)) (names : List (List ℕ)) (p : Source) (vs : List VarInfo) (ds : List Declaration) (reset : List ℕ)
-    (ss : List SourceState) → vs ≡ variables_of p.declarations → ds ≡ remaining b (names_of vs) p.declarations ++ of_registers p.reset_line names
+    (ss : List SourceState) → vs ≡ variables_of p.declarations → ds ≡ remaining_declarations b (names_of vs) p.declarations ++ of_registers p.reset_line names
     → reset ≡ p.reset
-    → ss ≡ map (state_renamed (renamed b (names_of vs))) p.states → made_parts ds p.reset_line reset ss ≡ bound_parts b names p
+    → ss ≡ map (state_renamed (bound_name b (names_of vs))) p.states → made_parts ds p.reset_line reset ss ≡ bound_parts b names p
 parts_are b names p vs ds reset ss at e f g =
-    let declared : ds ≡ remaining b (names_of (variables_of p.declarations)) p.declarations ++ of_registers p.reset_line names = e
-    ∙ ap (λ (ws : List VarInfo). remaining b (names_of ws) p.declarations ++ of_registers p.reset_line names) at in
-    let states : ss ≡ map (state_renamed (renamed b (names_of (variables_of p.declarations)))) p.states = g
-    ∙ ap (λ (ws : List VarInfo). map (state_renamed (renamed b (names_of ws))) p.states) at in
+    let declared : ds ≡ remaining_declarations b (names_of (variables_of p.declarations)) p.declarations ++ of_registers p.reset_line names = e
+    ∙ ap (λ (ws : List VarInfo). remaining_declarations b (names_of ws) p.declarations ++ of_registers p.reset_line names) at in
+    let states : ss ≡ map (state_renamed (bound_name b (names_of (variables_of p.declarations)))) p.states = g
+    ∙ ap (λ (ws : List VarInfo). map (state_renamed (bound_name b (names_of ws))) p.states) at in
     ap (λ (r : List ℕ). made_parts ds p.reset_line r ss) f
     ∙ ap₂ (λ (x : List Declaration) (y : List SourceState). made_parts x p.reset_line p.reset y) declared states

@@ -8,7 +8,7 @@ use Rattle.std.specs.Str.{bytes_eq}
 use Rattle.std.proofs.lemmas.Slice.Eq.{bytes_eq-Decides}
 use Rattle.std.proofs.lemmas.Bool.Decides.{nat_tests}
 use Rattle.fs_model.specs.Machines.{Fsmd}
-use Rattle.fs_rules.specs.Sound.{IsSound, branch_count, assigned_in}
+use Rattle.fs_rules.specs.SoundParts.{IsSound, branch_count, assigned_in}
 use Rattle.fs_cut.specs.Paths.{branch_at, target_of}
 use Rattle.fs_cut.proofs.Branches.{target_in}
 use Rattle.hls_binding_laws.specs.Liveness.{writes, IsLive}
@@ -24,8 +24,8 @@ use Rattle.hls_binding_laws.proofs.Variables.{some_there}
 use Rattle.fs_variable_sets.specs.declared.VariableSet.{VariableSet}
 use Rattle.fs_variable_sets.specs.Flows.{has_at}
 use Rattle.hls_bind.specs.Live.{HasLive}
-use Rattle.hls_bind.specs.Lost.{Pair, is_lost, lost_with, lost_by, written_at, live_after, doubled_conflict, conflict_at, conflict_in, first_from}
-use Rattle.hls_bind.specs.Lost.{first_conflict}
+use Rattle.hls_bind.specs.ConflictSearch.{LostPair, is_lost, lost_with, lost_by, written_at, live_after, doubled_conflict, conflict_at, conflict_in, first_from}
+use Rattle.hls_bind.specs.ConflictSearch.{first_conflict}
 use Rattle.hls_bind.proofs.Listed.{members}
 use Rattle.hls_bind.proofs.Alive.{is_there}
 
@@ -74,7 +74,7 @@ module _ (w l : ℕ → Bool) where
   abbrev Loses : (one : ℕ × List ℕ) → ℕ → List ℕ → Type 0
   Loses one y s = is_lost w l one (y, s) ≡ true
 
-  record IsFirstOther (one : ℕ × List ℕ) (es : List (ℕ × List ℕ)) (p : Pair) : Type 0 where
+  record IsFirstOther (one : ℕ × List ℕ) (es : List (ℕ × List ℕ)) (p : LostPair) : Type 0 where
     name : List ℕ
     entry : register es p.other ≡ Some name
     lost : Loses one p.other name
@@ -85,12 +85,12 @@ module _ (w l : ℕ → Bool) where
   one_lost : (one d : ℕ × List ℕ) (x : ℕ) (r : List ℕ) → IsHead d x r → Loses one x r → is_lost w l one d ≡ true
   one_lost one d x r h i = ap₂ (λ (n : ℕ) (s : List ℕ). is_lost w l one (n, s)) h.number h.name ∙ i
 
-  other_by : (one d : ℕ × List ℕ) (es : List (ℕ × List ℕ)) (p : Pair) (t : Bool) → is_lost w l one d ≡ t → list_all (λ c. nat_lt d.0 c.0) es ≡ true
+  other_by : (one d : ℕ × List ℕ) (es : List (ℕ × List ℕ)) (p : LostPair) (t : Bool) → is_lost w l one d ≡ t → list_all (λ c. nat_lt d.0 c.0) es ≡ true
       → cond t (Some (record { written = one.0; other = d.0; twice = w d.0 })) (lost_with w l one es) ≡ Some p
       → (lost_with w l one es ≡ Some p → IsFirstOther one es p) → IsFirstOther one (d ∷ es) p
   other_by one d es p true e h i next =
       let same : record { written = one.0; other = d.0; twice = w d.0 } ≡ p = cc i in
-      subst (λ (q : Pair). IsFirstOther one (d ∷ es) q) same (record {
+      subst (λ (q : LostPair). IsFirstOther one (d ∷ es) q) same (record {
         name = d.1;
         entry = head_entry d es;
         lost = e;
@@ -115,7 +115,7 @@ module _ (w l : ℕ → Bool) where
         ];
       }
 
-  first_other : (one : ℕ × List ℕ) (es : List (ℕ × List ℕ)) (p : Pair) → is_rising es ≡ true → lost_with w l one es ≡ Some p → IsFirstOther one es p
+  first_other : (one : ℕ × List ℕ) (es : List (ℕ × List ℕ)) (p : LostPair) → is_rising es ≡ true → lost_with w l one es ≡ Some p → IsFirstOther one es p
   first_other one [] p h e = absurd (cc e)
   first_other one (d ∷ es) p h e = other_by one d es p (is_lost w l one d) refl (and_first (list_all (λ c. nat_lt d.0 c.0) es) (is_rising es) h) e
       (first_other one es p (and_second (list_all (λ c. nat_lt d.0 c.0) es) (is_rising es) h))
@@ -136,14 +136,14 @@ module _ (w l : ℕ → Bool) where
 
   -- ---- the written local
   module _ (all : List (ℕ × List ℕ)) (rising : is_rising all ≡ true) where
-    record IsFirstPair (es : List (ℕ × List ℕ)) (p : Pair) : Type 0 where
+    record IsFirstPair (es : List (ℕ × List ℕ)) (p : LostPair) : Type 0 where
       name : List ℕ
       entry : register es p.written ≡ Some name
       writes : w p.written ≡ true
       other : IsFirstOther (p.written, name) all p
       first : (x : ℕ) (r : List ℕ) → register es x ≡ Some r → w x ≡ true → x < p.written → (y : ℕ) (s : List ℕ) → register all y ≡ Some s → Loses (x, r) y s → ⊥
 
-    abbrev of_one : ℕ × List ℕ → Option Pair
+    abbrev of_one : ℕ × List ℕ → Option LostPair
     of_one d = cond (w d.0) (lost_with w l d all) None
 
     none_of_one : (d : ℕ × List ℕ) (x : ℕ) (r : List ℕ) → IsHead d x r → of_one d ≡ None → w x ≡ true → (y : ℕ) (s : List ℕ) → register all y ≡ Some s
@@ -152,15 +152,15 @@ module _ (w l : ℕ → Bool) where
         let none : of_one (x, r) ≡ None = ap₂ (λ (n : ℕ) (q : List ℕ). of_one (n, q)) (sym head.number) (sym head.name) ∙ e in
         no_other (x, r) all (sym (ap (λ t. cond t (lost_with w l (x, r) all) None) h) ∙ none) y s at lost
 
-    some_of_one : (d : ℕ × List ℕ) (p : Pair) (t : Bool) → w d.0 ≡ t → cond t (lost_with w l d all) None ≡ Some p → (t ≡ true) × IsFirstOther d all p
+    some_of_one : (d : ℕ × List ℕ) (p : LostPair) (t : Bool) → w d.0 ≡ t → cond t (lost_with w l d all) None ≡ Some p → (t ≡ true) × IsFirstOther d all p
     some_of_one d p true e h = (refl, first_other d all p rising h)
     some_of_one d p false e h = absurd (cc h)
 
-    pair_by : (d : ℕ × List ℕ) (es : List (ℕ × List ℕ)) (p : Pair) (o : Option Pair) → of_one d ≡ o → list_all (λ c. nat_lt d.0 c.0) es ≡ true
+    pair_by : (d : ℕ × List ℕ) (es : List (ℕ × List ℕ)) (p : LostPair) (o : Option LostPair) → of_one d ≡ o → list_all (λ c. nat_lt d.0 c.0) es ≡ true
         → option_or o (lost_by w l all es) ≡ Some p → (lost_by w l all es ≡ Some p → IsFirstPair es p) → IsFirstPair (d ∷ es) p
     pair_by d es p (Some q) e h i next =
         let same : q ≡ p = cc i in
-        let x = some_of_one d p (w d.0) refl (e ∙ ap (λ (c : Pair). Some c) same) in
+        let x = some_of_one d p (w d.0) refl (e ∙ ap (λ (c : LostPair). Some c) same) in
         let number : d.0 ≡ p.written = sym x.1.written in
         record {
           name = d.1;
@@ -185,12 +185,12 @@ module _ (w l : ℕ → Bool) where
           ];
         }
 
-    first_pair : (es : List (ℕ × List ℕ)) (p : Pair) → is_rising es ≡ true → lost_by w l all es ≡ Some p → IsFirstPair es p
+    first_pair : (es : List (ℕ × List ℕ)) (p : LostPair) → is_rising es ≡ true → lost_by w l all es ≡ Some p → IsFirstPair es p
     first_pair [] p h e = absurd (cc e)
     first_pair (d ∷ es) p h e = pair_by d es p (of_one d) refl (and_first (list_all (λ c. nat_lt d.0 c.0) es) (is_rising es) h) e
         (first_pair es p (and_second (list_all (λ c. nat_lt d.0 c.0) es) (is_rising es) h))
 
-    no_pair_by : (d : ℕ × List ℕ) (es : List (ℕ × List ℕ)) (o : Option Pair) → of_one d ≡ o → option_or o (lost_by w l all es) ≡ None → (x : ℕ) (r : List ℕ)
+    no_pair_by : (d : ℕ × List ℕ) (es : List (ℕ × List ℕ)) (o : Option LostPair) → of_one d ≡ o → option_or o (lost_by w l all es) ≡ None → (x : ℕ) (r : List ℕ)
         → register (d ∷ es) x ≡ Some r → w x ≡ true → (y : ℕ) (s : List ℕ) → register all y ≡ Some s
         → Loses (x, r) y s
         → (lost_by w l all es ≡ None → (z : ℕ) (q : List ℕ) → register es z ≡ Some q → w z ≡ true → (v : ℕ) (u : List ℕ) → register all v ≡ Some u
@@ -352,13 +352,13 @@ module _ (b : List (ℕ × List ℕ)) (m : Fsmd) (sets : List VariableSet) (soun
       none_at_state c h (none_from (conflict_in b m sets) 0 (length m.states) e c.state (omega arith) (omega (arith, some_there)))
 
   -- ---- the one that is found
-  record IsFound (q k : ℕ) (p : Pair) : Type 0 where
+  record IsFound (q k : ℕ) (p : LostPair) : Type 0 where
     numbered : k < branch_count m q
     pair : IsFirstPair (W q k) (L q k) b rising b p
     states : (i : ℕ) → i < q → conflict_in b m sets i ≡ None
     branches : (i : ℕ) → i < k → conflict_at b m sets q i ≡ None
 
-  module _ (q k : ℕ) (p : Pair) (at : IsFound q k p) where
+  module _ (q k : ℕ) (p : LostPair) (at : IsFound q k p) where
     abbrev c : Conflict
     c = record { state = q; branch = k; written = p.written; other = p.other }
 

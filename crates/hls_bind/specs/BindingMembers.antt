@@ -4,12 +4,12 @@ use Rattle.std.specs.Prelude.{string_bytes}
 use Rattle.std.specs.Option.{option_or}
 use Rattle.std.specs.List.{list_any}
 use Rattle.std.specs.Str.{bytes_eq}
+use Rattle.fs_rules.specs.MachineOfParts.{place_or_end, names_of}
 use Rattle.serde_json.specs.Data.{Data, Members, no_members, member}
 use Rattle.base_json_files.specs.Json.{IsJson, IsNotJson}
 use Rattle.serde_json.specs.Find.{as_str, as_object}
 use Rattle.fs_model.specs.declared.parts.VarInfo.{VarInfo}
 use Rattle.fs_model.specs.Words.{is_name}
-use Rattle.fs_ast.specs.BuiltMachine.{place, names_of}
 use Rattle.hls_binding_laws.specs.Bindings.{is_scalar_local}
 use Rattle.hls_bind.specs.declared.faults.Fault.{Fault}
 use Rattle.hls_bind.specs.declared.faults.Fault.TheVariants as faults
@@ -22,7 +22,7 @@ is_taken vs name = list_any (λ v. bytes_eq v.name name) vs
 
 -- whether the name is that of a scalar local
 abbrev pub names_local : List VarInfo → List ℕ → Bool
-names_local vs name = is_scalar_local (slice_get vs (place (names_of vs) name))
+names_local vs name = is_scalar_local (slice_get vs (place_or_end (names_of vs) name))
 
 -- what is wrong with the value of a local: a register is a string, a name, and no name of a variable
 abbrev pub register_fault : List VarInfo → Option (List ℕ) → Option Fault

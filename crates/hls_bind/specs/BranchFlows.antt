@@ -2,14 +2,14 @@
 use Rattle.std.specs.Prelude.{ℕ, zero, suc, Bool, false, List, [], ◌++◌, map}
 use Rattle.fs_model.specs.Machines.{Fsmd, transitions_of}
 use Rattle.fs_model.specs.Trees.{Branch, branches_of}
-use Rattle.fs_rules.specs.Sound.{assigned_in}
+use Rattle.fs_rules.specs.SoundParts.{assigned_in}
 use Rattle.fs_variable_sets.specs.Sets.{has_variable, also_all}
 use Rattle.fs_variable_sets.specs.declared.flows.Flow.{Flow}
 use Rattle.hls_binding_laws.specs.Liveness.{read_by}
 
 -- the variables of a list that are numbered below 128
-abbrev pub low : List ℕ → ℕ → Bool
-low xs = also_all xs (λ x. false)
+abbrev pub has_below_128 : List ℕ → ℕ → Bool
+has_below_128 xs = also_all xs (λ x. false)
 
 -- a branch by its two states, and by what it reads and writes
 pub record Transfer : Type 0 where
@@ -23,7 +23,12 @@ transfer_of f = record { from = f.from; target = f.target; reads = has_variable 
 
 -- what a branch of a state does
 abbrev pub transfer_by : ℕ → Branch → Transfer
-transfer_by q b = record { from = q; target = b.target; reads = low (read_by b); writes = low (assigned_in b.assignments) }
+transfer_by q b = record {
+  from = q;
+  target = b.target;
+  reads = has_below_128 (read_by b);
+  writes = has_below_128 (assigned_in b.assignments);
+}
 
 -- what the branches of a state do
 abbrev pub transfers_at : Fsmd → ℕ → List Transfer

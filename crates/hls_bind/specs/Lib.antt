@@ -2,6 +2,6 @@ pub mod BindingEntries
 pub mod BindingMembers
 pub mod BranchFlows
 pub mod Live
-pub mod Lost
+pub mod ConflictSearch
 pub mod Results
 pub mod Shared

@@ -3,16 +3,16 @@
 ghost use Rattle.std.specs.Prelude.{◌≡◌, ◌<◌, ◌==◌, ◌||◌, false, cond, length, map, None, IfOk};
 ghost use Rattle.std.specs.Option.{option_map};
 ghost use Rattle.fs_model.specs.View.{branch_of};
-ghost use Rattle.fs_rules.specs.Sound.{branch_count};
+ghost use Rattle.fs_rules.specs.SoundParts.{branch_count};
 ghost use Rattle.fs_cut.specs.Paths.{branch_at};
 ghost use Rattle.fs_variable_sets.specs.Sets.{has_variable, sets_meet};
 ghost use Rattle.fs_variable_sets.specs.Flows.{has_at};
 ghost use Rattle.hls_bind.specs.BindingEntries.{binding_entry, lost_pair, conflict_of};
 ghost use Rattle.hls_bind.specs.Shared.{others_in};
-ghost use Rattle.hls_bind.specs.Lost.{is_lost, lost_with, lost_by, conflict_at, conflict_in, first_conflict};
+ghost use Rattle.hls_bind.specs.ConflictSearch.{is_lost, lost_with, lost_by, conflict_at, conflict_in, first_conflict};
 
 use crate::binding::BoundLocal;
-use crate::flows::assigned;
+use crate::flows::assigned_scalars;
 use crate::sharing::{Sharing, others_of_each};
 use fs_ast::machine::Machine;
 use fs_model::name::NoMemory;
@@ -167,7 +167,7 @@ fn conflict_at(
 {
     let branch = branch_at(m, state, number);
     let after = live_after(m, live, branch.target);
-    match lost_by(assigned(branch), after, all) {
+    match lost_by(assigned_scalars(branch), after, all) {
         Some(pair) => Some(Conflict {
             state,
             branch: number,

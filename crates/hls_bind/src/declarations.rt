@@ -2,9 +2,10 @@
 
 ghost use Rattle.std.specs.Prelude.{◌≡◌, ◌++◌, true, map, filter, IfOk};
 ghost use Rattle.std.specs.Result.{OnOk};
+ghost use Rattle.fs_rules.specs.MachineOfParts.{names_of};
 ghost use Rattle.fs_model.specs.View.{declaration_of};
-ghost use Rattle.fs_ast.specs.BuiltMachine.{names_of};
-ghost use Rattle.hls_binding_laws.specs.Bindings.{is_rising, AreRegisters, stays, without, remaining, of_registers};
+ghost use Rattle.hls_binding_laws.specs.Bindings.{is_rising, AreRegisters, stays, declaration_without_bound};
+ghost use Rattle.hls_binding_laws.specs.Bindings.{remaining_declarations, of_registers};
 ghost use Rattle.hls_bind.specs.BindingEntries.{binding_entry};
 
 use crate::binding::BoundLocal;
@@ -38,7 +39,8 @@ fn names_left(alloc: Global, registers: &Registers, names: &[Name]) -> Result<Ve
 // A declaration without bound locals.
 fn without(alloc: Global, registers: &Registers, decl: &Decl) -> Result<Decl, NoMemory>
     ensures { IfOk result
-        (λ d. declaration_of d ≡ without (map binding_entry registers.now.entries.now) (names_of registers.now.vars.now)
+        (λ d. declaration_of d ≡ declaration_without_bound (map binding_entry registers.now.entries.now)
+        (names_of registers.now.vars.now)
         (declaration_of decl.now)) }
 {
     Ok(Decl {
@@ -56,7 +58,7 @@ pub fn remaining(
     decls: &[Decl],
 ) -> Result<Vec<Decl>, NoMemory>
     ensures { IfOk result
-        (λ out. map declaration_of out.items ≡ remaining (map binding_entry registers.now.entries.now)
+        (λ out. map declaration_of out.items ≡ remaining_declarations (map binding_entry registers.now.entries.now)
         (names_of registers.now.vars.now) (map declaration_of decls.now)) }
 {
     let mut out = Vec::new(alloc);

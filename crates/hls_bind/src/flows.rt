@@ -5,10 +5,10 @@ ghost use Rattle.std.specs.List.{flat_map};
 ghost use Rattle.std.specs.Result.{OnOk};
 ghost use Rattle.fs_model.specs.View.{term_of, literal_of, assignment_of, branch_of};
 ghost use Rattle.fs_model.specs.PartFolds.{scalars, uses_in_literal};
-ghost use Rattle.fs_rules.specs.Sound.{scalars_in, assigned_in};
+ghost use Rattle.fs_rules.specs.SoundParts.{scalars_in, assigned_in};
 ghost use Rattle.fs_variable_sets.specs.Sets.{has_variable, also_all};
 ghost use Rattle.hls_binding_laws.specs.Liveness.{read_by_assignment};
-ghost use Rattle.hls_bind.specs.BranchFlows.{low, transfer_of, transfer_by, transfers_at, transfers_below};
+ghost use Rattle.hls_bind.specs.BranchFlows.{has_below_128, transfer_of, transfer_by, transfers_at, transfers_below};
 ghost use Rattle.hls_bind.specs.Live.{HasLive};
 
 use fs_ast::machine::Machine;
@@ -54,7 +54,7 @@ fn with_assignment(set: VariableSet, assign: &Assign<VarId>) -> VariableSet
 
 // The scalars that literals read.
 fn read_by_literals(lits: &[Lit<VarId>]) -> VariableSet
-    ensures { has_variable result ≡ low (flat_map (uses_in_literal scalars) (map literal_of lits.now)) }
+    ensures { has_variable result ≡ has_below_128 (flat_map (uses_in_literal scalars) (map literal_of lits.now)) }
 {
     let mut set = VariableSet::empty();
     for lit in lits {
@@ -75,8 +75,8 @@ fn with_assignments(set: VariableSet, assigns: &[Assign<VarId>]) -> VariableSet
 }
 
 /// The scalars that a branch assigns.
-pub fn assigned(branch: &Branch) -> VariableSet
-    ensures { has_variable result ≡ low (assigned_in (branch_of branch.now).assignments) }
+pub fn assigned_scalars(branch: &Branch) -> VariableSet
+    ensures { has_variable result ≡ has_below_128 (assigned_in (branch_of branch.now).assignments) }
 {
     let mut set = VariableSet::empty();
     for assign in &branch.assigns {
@@ -95,7 +95,7 @@ fn flow(from: u32, branch: &Branch) -> Flow
         from: from as usize,
         target: branch.target.0 as usize,
         reads: with_assignments(read_by_literals(&branch.lits), &branch.assigns),
-        writes: assigned(branch),
+        writes: assigned_scalars(branch),
     }
 }
 

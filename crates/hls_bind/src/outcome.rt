@@ -4,7 +4,7 @@ ghost use Rattle.std.specs.Prelude.{◌≡◌, ◌++◌, map, IfOk};
 ghost use Rattle.std.specs.Option.{option_map};
 ghost use Rattle.fs_model.specs.View.{source_of, declaration_of};
 ghost use Rattle.fs_rules.specs.MachineOfParts.{machine_of, names_of, variables_of};
-ghost use Rattle.hls_binding_laws.specs.Bindings.{IsBindingOf, remaining, of_registers, bound_parts};
+ghost use Rattle.hls_binding_laws.specs.Bindings.{IsBindingOf, remaining_declarations, of_registers, bound_parts};
 ghost use Rattle.hls_bind.specs.BindingEntries.{binding_entry, conflict_of};
 ghost use Rattle.hls_bind.specs.Results.{IsBuiltOf, IsBoundParts, HasNoConflict, IsVerdict, IsRight};
 
@@ -58,7 +58,7 @@ fn declarations(
     names: Vec<Name>,
 ) -> Result<Vec<Decl>, NoMemory>
     ensures { IfOk result
-        (λ ds. map declaration_of ds.items ≡ remaining (map binding_entry registers.now.entries.now)
+        (λ ds. map declaration_of ds.items ≡ remaining_declarations (map binding_entry registers.now.entries.now)
         (names_of registers.now.vars.now) (source_of parts.now).declarations ++ of_registers parts.now.reset_line names.items) }
 {
     let mut decls = remaining(alloc, registers, &parts.decls)?;

@@ -19,12 +19,12 @@ use Rattle.fs_model.specs.Meaning.{act_all}
 use Rattle.fs_model.specs.Runs.{AfterStep, ReachesReset, FirstReturn, Run, Inputs, Content, start, first_scalar, first_array, is_input, is_scalar, is_array}
 use Rattle.fs_model.specs.Runs.{SameBehaviour}
 use Rattle.fs_model.specs.Trees.{Branch, branches_of, branch_holds}
-use Rattle.fs_ast.specs.BuiltMachine.{line_over, assignment_over}
-use Rattle.fs_rules.specs.Sound.{IsSound, branch_count, array_at, has_sort, arrays_in_condition, arrays_in_assignments}
+use Rattle.fs_rules.specs.SoundParts.{IsSound, branch_count, array_at, has_sort, arrays_in_condition, arrays_in_assignments}
 use Rattle.fs_cut.specs.Paths.{branch_at, target_of, store_after}
 use Rattle.fs_cut.specs.Cuts.{branch_taken}
 use Rattle.fs_model.proofs.Passing.{branches_pass, condition_uses}
 use Rattle.fs_model.specs.PartFolds.{arrays, condition_passes, transition_passes, branch_passes}
+use Rattle.fs_model.specs.Renamed.{transition_over, assignment_over}
 use Rattle.fs_cut.proofs.Branches.{no_branch, test_at, step_at, target_in, taken_is, taken_holds, takes_branch, step_down, step_up}
 use Rattle.hls_binding_laws.specs.Liveness.{reads, writes, read_by, read_by_assignment, IsLive}
 use Rattle.hls_binding_laws.specs.Bindings.{is_local, is_scalar_local}
@@ -55,7 +55,7 @@ no_array (Some v) h i = no_array_by (is_local v.role) v.sort h i
 -- ---- machines over other numbers
 pub lines_over : (f : ℕ → ℕ) (ss : List State) (q : ℕ)
     → (slice_index_or (map (state_over f) ss) q (record { name = []; lines = [] })).lines
-    ≡ map (line_over f (λ r. r)) (slice_index_or ss q (record { name = []; lines = [] })).lines
+    ≡ map (transition_over f (λ r. r)) (slice_index_or ss q (record { name = []; lines = [] })).lines
 lines_over f [] q = refl
 lines_over f (s ∷ ss) zero = refl
 lines_over f (s ∷ ss) (suc q) = lines_over f ss q

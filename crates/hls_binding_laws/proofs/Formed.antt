@@ -5,6 +5,7 @@ use Rattle.std.specs.List.{list_all}
 use Rattle.std.proofs.lemmas.List.Folds.{list_all-append}
 use Rattle.std.proofs.lemmas.Bool.{and_from}
 use Rattle.base_lemmas.proofs.Booleans.{and_first, and_second, and_true}
+use Rattle.fs_rules.specs.MachineOfParts.{names_of, variables_of}
 use Rattle.fs_model.specs.declared.parts.Role.TheVariants.{Local}
 use Rattle.fs_model.specs.declared.parts.Sort.TheVariants.{Scalar}
 use Rattle.fs_model.specs.Limits.{most_operators}
@@ -15,8 +16,8 @@ use Rattle.fs_model.specs.Source.{Declaration, SourceTransition, SourceState, So
 use Rattle.fs_model.specs.WellFormed.{is_sum, is_product, is_and, is_or, bracket, operators_of_term, operators_of_guard, operators_of_assignment}
 use Rattle.fs_model.specs.WellFormed.{is_natural_term, is_natural_guard, is_natural_assignment, is_well_formed_condition, is_well_formed_assignment}
 use Rattle.fs_model.specs.WellFormed.{is_well_formed_transition, is_well_formed_state, is_well_formed_declaration, is_well_formed}
-use Rattle.fs_ast.specs.BuiltMachine.{names_of, variables_of}
-use Rattle.hls_binding_laws.specs.Bindings.{renamed, without, remaining, of_registers, transition_renamed, state_renamed, bound_parts}
+use Rattle.hls_binding_laws.specs.Bindings.{bound_name, declaration_without_bound, remaining_declarations, of_registers, transition_renamed, state_renamed}
+use Rattle.hls_binding_laws.specs.Bindings.{bound_parts}
 
 module _ {X Y : Type 0} (f : X → Y) where
   sums : (e : Term X) → is_sum (term_over f e) ≡ is_sum e
@@ -144,12 +145,13 @@ left_by e true d r x ds h i j k = and_from (is_well_formed_declaration x) (list_
 left_by e false d r x ds h i j k = k
 
 module _ (b : List (ℕ × List ℕ)) (vs : List (List ℕ)) where
-  remaining_formed : (ds : List Declaration) → list_all is_well_formed_declaration ds ≡ true → list_all is_well_formed_declaration (remaining b vs ds) ≡ true
+  remaining_formed : (ds : List Declaration) → list_all is_well_formed_declaration ds ≡ true
+      → list_all is_well_formed_declaration (remaining_declarations b vs ds) ≡ true
   remaining_formed [] h = refl
   remaining_formed (d ∷ ds) h =
-      let w = without b vs d in
+      let w = declaration_without_bound b vs d in
       let here = and_second (not (length d.names == 0)) _ (and_first (is_well_formed_declaration d) (list_all is_well_formed_declaration ds) h) in
-      left_by (length w.names == 0) (not (length w.names == 0)) _ true w (remaining b vs ds) refl refl here
+      left_by (length w.names == 0) (not (length w.names == 0)) _ true w (remaining_declarations b vs ds) refl refl here
       (remaining_formed ds (and_second (is_well_formed_declaration d) (list_all is_well_formed_declaration ds) h))
 
 registers_by : (t : Bool) (d : Declaration) → (length d.names == 0) ≡ t → is_well_formed_declaration d ≡ not (length d.names == 0)
@@ -168,7 +170,8 @@ bound_formed b rs p h =
     let ds = and_first (list_all is_well_formed_declaration p.declarations) (list_all is_well_formed_state p.states) h in
     let ss = and_second (list_all is_well_formed_declaration p.declarations) (list_all is_well_formed_state p.states) h in
     and_from (list_all is_well_formed_declaration (bound_parts b rs p).declarations) (list_all is_well_formed_state (bound_parts b rs p).states)
-    (list_all-append is_well_formed_declaration (remaining b vs p.declarations) (of_registers p.reset_line rs)
-    ∙ and_from (list_all is_well_formed_declaration (remaining b vs p.declarations)) (list_all is_well_formed_declaration (of_registers p.reset_line rs))
+    (list_all-append is_well_formed_declaration (remaining_declarations b vs p.declarations) (of_registers p.reset_line rs)
+    ∙ and_from (list_all is_well_formed_declaration (remaining_declarations b vs p.declarations))
+    (list_all is_well_formed_declaration (of_registers p.reset_line rs))
     (remaining_formed b vs p.declarations ds) (registers_formed p.reset_line rs))
-    (states_formed (renamed b vs) p.states ∙ ss)
+    (states_formed (bound_name b vs) p.states ∙ ss)

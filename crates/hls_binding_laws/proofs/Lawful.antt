@@ -11,8 +11,8 @@ use Rattle.fs_model.specs.Terms.{Term, Number, Variable, Read, Sum, Difference, 
 use Rattle.fs_model.specs.Terms.{Assign, ArrayWrite, Emit, Transition}
 use Rattle.fs_model.specs.Renamed.{term_over, guard_over, assignment_over}
 use Rattle.fs_model.specs.PartFolds.{Listing, scalars, arrays, uses_in, uses_in_guard, uses_in_condition, uses_in_assignment, uses_in_assignments}
-use Rattle.fs_rules.specs.Sound.{has_sort, input_at, changed_by, assigned_in, occurs, all_differ, scalars_in_condition, arrays_in_condition}
-use Rattle.fs_rules.specs.Sound.{scalars_in_assignments, arrays_in_assignments, port_in, ports_in_assignments}
+use Rattle.fs_rules.specs.SoundParts.{has_sort, input_at, changed_by, assigned_in, occurs, all_differ, scalars_in_condition, arrays_in_condition}
+use Rattle.fs_rules.specs.SoundParts.{scalars_in_assignments, arrays_in_assignments, port_in, ports_in_assignments}
 
 -- ---- tests
 

@@ -9,8 +9,8 @@ use Rattle.base_lemmas.proofs.Lists.{bytes_eq-true, bytes_eq-self}
 use Rattle.fs_model.specs.declared.parts.VarInfo.{VarInfo}
 use Rattle.fs_model.specs.Stores.{Store}
 use Rattle.fs_model.specs.Runs.{Content, content, output_from, is_output}
-use Rattle.fs_ast.specs.BuiltMachine.{place, names_of}
-use Rattle.fs_rules.specs.Sound.{names_differ}
+use Rattle.fs_rules.specs.SoundParts.{names_differ}
+use Rattle.fs_rules.specs.MachineOfParts.{place_or_end, names_of}
 
 -- the first variable of a name
 abbrev pub look : List VarInfo → List ℕ → Option VarInfo
@@ -22,12 +22,12 @@ abbrev pub or_else : Option VarInfo → Option VarInfo → Option VarInfo
 or_else None b = b
 or_else (Some v) b = Some v
 
-get_by : (v : VarInfo) (vs : List VarInfo) (n : List ℕ) (t : Bool) → bytes_eq v.name n ≡ t → slice_get vs (place (names_of vs) n) ≡ look vs n
-    → slice_get (v ∷ vs) (cond t 0 (suc (place (names_of vs) n))) ≡ cond t (Some v) (look vs n)
+get_by : (v : VarInfo) (vs : List VarInfo) (n : List ℕ) (t : Bool) → bytes_eq v.name n ≡ t → slice_get vs (place_or_end (names_of vs) n) ≡ look vs n
+    → slice_get (v ∷ vs) (cond t 0 (suc (place_or_end (names_of vs) n))) ≡ cond t (Some v) (look vs n)
 get_by v vs n true e h = refl
 get_by v vs n false e h = h
 
-pub get_place : (vs : List VarInfo) (n : List ℕ) → slice_get vs (place (names_of vs) n) ≡ look vs n
+pub get_place : (vs : List VarInfo) (n : List ℕ) → slice_get vs (place_or_end (names_of vs) n) ≡ look vs n
 get_place [] n = refl
 get_place (v ∷ vs) n = get_by v vs n (bytes_eq v.name n) refl (get_place vs n)
 
@@ -84,8 +84,8 @@ module _ (keep : List ℕ → Bool) where
 
 -- ---- names that differ
 other_by : (v w : VarInfo) (vs : List VarInfo) (x : ℕ) (t : Bool) → bytes_eq v.name w.name ≡ t → not (list_any (λ m. bytes_eq m v.name) (names_of vs)) ≡ true
-    → list_any (λ m. bytes_eq m w.name) (names_of vs) ≡ true → place (names_of vs) w.name ≡ x
-    → cond t 0 (suc (place (names_of vs) w.name)) ≡ suc x
+    → list_any (λ m. bytes_eq m w.name) (names_of vs) ≡ true → place_or_end (names_of vs) w.name ≡ x
+    → cond t 0 (suc (place_or_end (names_of vs) w.name)) ≡ suc x
 other_by v w vs x true e h i p =
     let same = bytes_eq-true v.name w.name e in
     let f : list_any (λ m. bytes_eq m v.name) (names_of vs) ≡ true = rw same i in
@@ -97,7 +97,7 @@ listed [] x w h = cc
 listed (v ∷ vs) zero w h = let same : v ≡ w = cc h in let e : bytes_eq v.name w.name ≡ true = rw same (bytes_eq-self w.name) in rw e refl
 listed (v ∷ vs) (suc x) w h = or_right (bytes_eq v.name w.name) (list_any (λ m. bytes_eq m w.name) (names_of vs)) (listed vs x w h)
 
-pub place_own : (vs : List VarInfo) (x : ℕ) (w : VarInfo) → names_differ (names_of vs) ≡ true → slice_get vs x ≡ Some w → place (names_of vs) w.name ≡ x
+pub place_own : (vs : List VarInfo) (x : ℕ) (w : VarInfo) → names_differ (names_of vs) ≡ true → slice_get vs x ≡ Some w → place_or_end (names_of vs) w.name ≡ x
 place_own [] x w d h = cc
 place_own (v ∷ vs) zero w d h = let same : v ≡ w = cc h in let e : bytes_eq v.name w.name ≡ true = rw same (bytes_eq-self w.name) in rw e refl
 place_own (v ∷ vs) (suc x) w d h =
@@ -119,20 +119,20 @@ gone vs n h = look_none vs n (sym (names_any vs n) ∙ h)
 
 output_by : (v : VarInfo) (vs : List VarInfo) (j : ℕ) (s : Store) (n : List ℕ) (o t : Bool) → is_output v.role ≡ o → bytes_eq v.name n ≡ t
     → not (list_any (λ m. bytes_eq m v.name) (names_of vs)) ≡ true
-    → output_from vs (j + 1) s n ≡ shown (look vs n) (j + 1 + place (names_of vs) n) s
+    → output_from vs (j + 1) s n ≡ shown (look vs n) (j + 1 + place_or_end (names_of vs) n) s
     → cond (o && t) (Some (content v.sort j s)) (output_from vs (j + 1) s n) ≡ shown (cond t (Some v) (look vs n))
-    (j + cond t 0 (suc (place (names_of vs) n))) s
+    (j + cond t 0 (suc (place_or_end (names_of vs) n))) s
 output_by v vs j s n true true e g d h = let z : j + 0 ≡ j = omega arith in rw (e, z) refl
 output_by v vs j s n false true e g d h =
     let same = bytes_eq-true v.name n g in
     rw e
-    (h ∙ ap (λ (u : Option VarInfo). shown u (j + 1 + place (names_of vs) n) s)
+    (h ∙ ap (λ (u : Option VarInfo). shown u (j + 1 + place_or_end (names_of vs) n) s)
     (gone vs n (not-true (list_any (λ m. bytes_eq m n) (names_of vs)) (subst (λ k. not (list_any (λ m. bytes_eq m k) (names_of vs)) ≡ true) same d))))
 output_by v vs j s n true false e g d h = h ∙ ap (λ i. shown (look vs n) i s) (omega arith)
 output_by v vs j s n false false e g d h = h ∙ ap (λ i. shown (look vs n) i s) (omega arith)
 
 pub output_is : (vs : List VarInfo) (j : ℕ) (s : Store) (n : List ℕ) → names_differ (names_of vs) ≡ true
-    → output_from vs j s n ≡ shown (look vs n) (j + place (names_of vs) n) s
+    → output_from vs j s n ≡ shown (look vs n) (j + place_or_end (names_of vs) n) s
 output_is [] j s n d = refl
 output_is (v ∷ vs) j s n d =
     output_by v vs j s n (is_output v.role) (bytes_eq v.name n) refl refl

@@ -15,8 +15,8 @@ use Rattle.std.proofs.lemmas.List.{map-append}
 use Rattle.base_lemmas.proofs.Booleans.{and_first, and_second}
 use Rattle.base_lemmas.proofs.Lists.{bytes_eq-true, bytes_eq-self}
 use Rattle.fs_model.specs.declared.parts.VarInfo.{VarInfo}
-use Rattle.fs_rules.specs.MachineOfParts.{place, names_of}
-use Rattle.fs_rules.specs.Sound.{names_differ}
+use Rattle.fs_rules.specs.MachineOfParts.{place_or_end, names_of}
+use Rattle.fs_rules.specs.SoundParts.{names_differ}
 use Rattle.fs_ast_laws.proofs.Repeats.{is_listed, kept_absent, kept_differ}
 use Rattle.hls_binding_laws.specs.Bindings.{register, IsBindingOf, AreRegisters}
 use Rattle.hls_binding_laws.proofs.Looks.{place_own}
@@ -109,7 +109,7 @@ module _ (b : List (ℕ × List ℕ)) (vs : List VarInfo) (rs : List (List ℕ))
   -- the registers of variables, one for each that has one
   abbrev taken : List VarInfo → List (List ℕ)
   taken [] = []
-  taken (v ∷ us) = option_to_list (register b (place ns v.name)) ++ taken us
+  taken (v ∷ us) = option_to_list (register b (place_or_end ns v.name)) ++ taken us
 
   counted_by : (v : VarInfo) (us kept : List VarInfo) (gone : List (List ℕ)) (o : Option (List ℕ)) → length kept + length gone ≡ length us
       → length (cond (not (is_some o)) (v ∷ kept) kept) + length (option_to_list o ++ gone) ≡ suc (length us)
@@ -118,7 +118,7 @@ module _ (b : List (ℕ × List ℕ)) (vs : List VarInfo) (rs : List (List ℕ))
 
   counted : (us : List VarInfo) → length (filter (keeps b ns) us) + length (taken us) ≡ length us
   counted [] = omega arith
-  counted (v ∷ us) = counted_by v us (filter (keeps b ns) us) (taken us) (register b (place ns v.name)) (counted us)
+  counted (v ∷ us) = counted_by v us (filter (keeps b ns) us) (taken us) (register b (place_or_end ns v.name)) (counted us)
 
   in_taken_by : (o : Option (List ℕ)) (r : List ℕ) (rest : List (List ℕ)) → o ≡ Some r → is_listed r (option_to_list o ++ rest) ≡ true
   in_taken_by None r rest h = absurd (cc h)
@@ -128,12 +128,12 @@ module _ (b : List (ℕ × List ℕ)) (vs : List VarInfo) (rs : List (List ℕ))
   after_taken None r rest h = h
   after_taken (Some q) r rest h = or_right (bytes_eq q r) (is_listed r rest) h
 
-  in_taken : (us : List VarInfo) (k : ℕ) (v : VarInfo) (r : List ℕ) → slice_get us k ≡ Some v → register b (place ns v.name) ≡ Some r
+  in_taken : (us : List VarInfo) (k : ℕ) (v : VarInfo) (r : List ℕ) → slice_get us k ≡ Some v → register b (place_or_end ns v.name) ≡ Some r
       → is_listed r (taken us) ≡ true
   in_taken [] k v r h e = absurd (cc h)
   in_taken (u ∷ us) zero v r h e = let same : u ≡ v = cc h in
-      in_taken_by (register b (place ns u.name)) r (taken us) (ap (λ (w : VarInfo). register b (place ns w.name)) same ∙ e)
-  in_taken (u ∷ us) (suc k) v r h e = after_taken (register b (place ns u.name)) r (taken us) (in_taken us k v r h e)
+      in_taken_by (register b (place_or_end ns u.name)) r (taken us) (ap (λ (w : VarInfo). register b (place_or_end ns w.name)) same ∙ e)
+  in_taken (u ∷ us) (suc k) v r h e = after_taken (register b (place_or_end ns u.name)) r (taken us) (in_taken us k v r h e)
 
   each_taken : (r : List ℕ) → is_listed r rs ≡ true → is_listed r (taken vs) ≡ true
   each_taken r h =

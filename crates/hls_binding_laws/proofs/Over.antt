@@ -9,10 +9,10 @@ use Rattle.fs_model.specs.Terms.{Transition}
 use Rattle.fs_model.specs.Stores.{Store}
 use Rattle.fs_model.specs.Meaning.{value, relates, literal_holds}
 use Rattle.fs_model.specs.Trees.{Tree, Empty, Leaf, Node, Branch, tree_of_guard, tree_of_condition, tree_of_transitions, leaves, branches_of, negated_literal}
-use Rattle.fs_ast.specs.BuiltMachine.{term_over, literal_over, guard_over, assignment_over, line_over}
-use Rattle.fs_rules.specs.Sound.{scalars_in, arrays_in}
-use Rattle.fs_rules.specs.Sound.{occurs}
+use Rattle.fs_rules.specs.SoundParts.{scalars_in, arrays_in}
+use Rattle.fs_rules.specs.SoundParts.{occurs}
 use Rattle.fs_model.specs.PartFolds.{scalars, uses_in_literal}
+use Rattle.fs_model.specs.Renamed.{term_over, literal_over, guard_over, assignment_over, transition_over}
 
 -- ---- members
 abbrev pub has : List ℕ → ℕ → Bool
@@ -89,7 +89,7 @@ module _ (f : ℕ → ℕ) where
   over_line None y n = refl
   over_line (Some g) y n = over_formula g y n
 
-  over_lines : (ls : List (Transition ℕ ℕ)) → tree_of_transitions (map (line_over f (λ q. q)) ls) ≡ tree_over f (tree_of_transitions ls)
+  over_lines : (ls : List (Transition ℕ ℕ)) → tree_of_transitions (map (transition_over f (λ q. q)) ls) ≡ tree_over f (tree_of_transitions ls)
   over_lines [] = refl
   over_lines (l ∷ ls) = ap (λ (t : Tree). tree_of_condition (option_map (guard_over f) l.guard) (Leaf (map (assignment_over f) l.assignments) l.target) t)
       (over_lines ls) ∙ over_line l.guard (Leaf l.assignments l.target) (tree_of_transitions ls)
@@ -110,5 +110,5 @@ module _ (f : ℕ → ℕ) where
       ∙ ap₂ (λ (a b : List Branch). a ++ b) (over_leaves y (way ++ l ∷ [])) (over_leaves n (way ++ negated_literal l ∷ []))
       ∙ sym (map_two (leaves y (way ++ l ∷ [])) (leaves n (way ++ negated_literal l ∷ [])))
 
-  pub over_branches : (ls : List (Transition ℕ ℕ)) → branches_of (map (line_over f (λ q. q)) ls) ≡ map (branch_over f) (branches_of ls)
+  pub over_branches : (ls : List (Transition ℕ ℕ)) → branches_of (map (transition_over f (λ q. q)) ls) ≡ map (branch_over f) (branches_of ls)
   over_branches ls = ap (λ (t : Tree). leaves t []) (over_lines ls) ∙ over_leaves (tree_of_transitions ls) []

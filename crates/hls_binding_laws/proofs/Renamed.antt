@@ -13,12 +13,13 @@ use Rattle.fs_model.specs.Source.{SourceTransition, SourceState, Source}
 use Rattle.fs_model.specs.Machines.{Fsmd, State}
 use Rattle.fs_model.specs.declared.parts.Sort.{Sort}
 use Rattle.fs_model.specs.Runs.{SameBehaviour, is_scalar, is_array, is_port}
-use Rattle.fs_ast.specs.BuiltMachine.{place, names_of, variables_of, state_names, term_over, guard_over, assignment_over, line_over, state_spelled, machine_of}
-use Rattle.fs_rules.specs.Sound.{IsSound, scalar_at, array_at, port_at, has_sort, port_in, ports_in_assignments, scalars_in, arrays_in, scalars_in_guard}
-use Rattle.fs_rules.specs.Sound.{arrays_in_guard, scalars_in_condition, arrays_in_condition, scalars_in_assignment, arrays_in_assignment}
-use Rattle.fs_rules.specs.Sound.{scalars_in_assignments, arrays_in_assignments}
+use Rattle.fs_model.specs.Renamed.{term_over, guard_over, assignment_over, transition_over}
+use Rattle.fs_rules.specs.SoundParts.{IsSound, scalar_at, array_at, port_at, has_sort, port_in, ports_in_assignments, scalars_in, arrays_in, scalars_in_guard}
+use Rattle.fs_rules.specs.SoundParts.{arrays_in_guard, scalars_in_condition, arrays_in_condition, scalars_in_assignment, arrays_in_assignment}
+use Rattle.fs_rules.specs.SoundParts.{scalars_in_assignments, arrays_in_assignments}
+use Rattle.fs_rules.specs.MachineOfParts.{place_or_end, names_of, variables_of, state_names, state_spelled, machine_of}
 use Rattle.hls_binding_laws.proofs.Renaming.{state_over, IsBoundBy, NeverClobbers}
-use Rattle.hls_binding_laws.specs.Bindings.{register, is_bound, renamed, transition_renamed, state_renamed, bound_parts, IsBindingOf, AreRegisters}
+use Rattle.hls_binding_laws.specs.Bindings.{register, is_bound, bound_name, transition_renamed, state_renamed, bound_parts, IsBindingOf, AreRegisters}
 use Rattle.hls_binding_laws.specs.Conflicts.{Conflict, IsShared, Clobbers}
 use Rattle.hls_binding_laws.proofs.Bound.{same_behaviour}
 use Rattle.hls_binding_laws.proofs.Looks.{get_place, look_name}
@@ -125,10 +126,10 @@ module _ (g g' : List ℕ → ℕ) (r : List ℕ → List ℕ) (f : ℕ → ℕ)
   FineLine l = Fine (scalars_in_condition l.guard ++ scalars_in_assignments l.assignments) (arrays_in_condition l.guard ++ arrays_in_assignments l.assignments)
       × (list_all P (ports_in_assignments l.assignments) ≡ true)
 
-  pub line : (to : List ℕ → ℕ) (c : Transition (List ℕ) (List ℕ)) → FineLine (line_over g to c)
-      → line_over g' to (line_over r (λ s. s) c) ≡ line_over f (λ q. q) (line_over g to c)
+  pub line : (to : List ℕ → ℕ) (c : Transition (List ℕ) (List ℕ)) → FineLine (transition_over g to c)
+      → transition_over g' to (transition_over r (λ s. s) c) ≡ transition_over f (λ q. q) (transition_over g to c)
   line to c h =
-      let l = line_over g to c in
+      let l = transition_over g to c in
       ap₂ (λ (x : Option (Guard ℕ)) (ys : List (Assignment ℕ)). record { guard = x; target = to c.target; assignments = ys })
       (condition c.guard
       (front (scalars_in_condition l.guard) (scalars_in_assignments l.assignments) (arrays_in_condition l.guard) (arrays_in_assignments l.assignments) h.0))
@@ -136,14 +137,15 @@ module _ (g g' : List ℕ → ℕ) (r : List ℕ → List ℕ) (f : ℕ → ℕ)
       (back (scalars_in_condition l.guard) (scalars_in_assignments l.assignments) (arrays_in_condition l.guard) (arrays_in_assignments l.assignments) h.0) h.1)
 
   lines : (to : List ℕ → ℕ) (ls : List SourceTransition)
-      → ((l : Transition ℕ ℕ) (k : ℕ) → slice_get (map (λ c. line_over g to c.content) ls) k ≡ Some l → FineLine l)
-      → map (λ c. line_over g' to c.content) (map (transition_renamed r) ls) ≡ map (line_over f (λ q. q)) (map (λ c. line_over g to c.content) ls)
+      → ((l : Transition ℕ ℕ) (k : ℕ) → slice_get (map (λ c. transition_over g to c.content) ls) k ≡ Some l → FineLine l)
+      → map (λ c. transition_over g' to c.content) (map (transition_renamed r) ls)
+      ≡ map (transition_over f (λ q. q)) (map (λ c. transition_over g to c.content) ls)
   lines to [] h = refl
-  lines to (l ∷ ls) h = ap₂ (λ (x : Transition ℕ ℕ) (xs : List (Transition ℕ ℕ)). x ∷ xs) (line to l.content (h (line_over g to l.content) 0 refl))
+  lines to (l ∷ ls) h = ap₂ (λ (x : Transition ℕ ℕ) (xs : List (Transition ℕ ℕ)). x ∷ xs) (line to l.content (h (transition_over g to l.content) 0 refl))
       (lines to ls (λ m k e. h m (suc k) e))
 
   abbrev spelled_by : (List ℕ → ℕ) → (List ℕ → ℕ) → SourceState → State
-  spelled_by h to s = record { name = s.name; lines = map (λ c. line_over h to c.content) s.lines }
+  spelled_by h to s = record { name = s.name; lines = map (λ c. transition_over h to c.content) s.lines }
 
   pub states : (to : List ℕ → ℕ) (ss : List SourceState)
       → ((q : ℕ) (l : Transition ℕ ℕ) (k : ℕ) → slice_get (slice_index_or (map (spelled_by g to) ss) q (record { name = []; lines = [] })).lines k
@@ -179,20 +181,21 @@ module _ (b : List (ℕ × List ℕ)) (rs : List (List ℕ)) (p : Source) (sound
   f = number_for b vs rs binds are sound.variables_differ
 
   abbrev to : List ℕ → ℕ
-  to = place (state_names p.states)
+  to = place_or_end (state_names p.states)
 
-  pub name_by : (n : List ℕ) (test : Sort → Bool) → has_sort test (slice_get vs (place names n)) ≡ true
-      → place (names_of ws) (renamed b names n) ≡ f (place names n)
+  pub name_by : (n : List ℕ) (test : Sort → Bool) → has_sort test (slice_get vs (place_or_end names n)) ≡ true
+      → place_or_end (names_of ws) (bound_name b names n) ≡ f (place_or_end names n)
   name_by n test h =
-      let v = sorted_in test (slice_get vs (place names n)) h in
+      let v = sorted_in test (slice_get vs (place_or_end names n)) h in
       let named : v.0.name ≡ n = look_name vs n v.0 (sym (get_place vs n) ∙ v.1) in
-      let at : name_at b vs rs binds are sound.variables_differ (slice_get vs (place names n)) ≡ n =
+      let at : name_at b vs rs binds are sound.variables_differ (slice_get vs (place_or_end names n)) ≡ n =
       ap (name_at b vs rs binds are sound.variables_differ) v.1 ∙ named in
-      sym (inside_is b vs rs binds are sound.variables_differ (place names n) (slice_get_within vs (place names n) v.0 v.1)
-      ∙ ap (λ (x : List ℕ). place (names_of ws) (unwrap_or (register b (place names n)) x)) at)
+      sym (inside_is b vs rs binds are sound.variables_differ (place_or_end names n) (slice_get_within vs (place_or_end names n) v.0 v.1)
+      ∙ ap (λ (x : List ℕ). place_or_end (names_of ws) (unwrap_or (register b (place_or_end names n)) x)) at)
 
-  states_are : map (state_spelled (names_of ws) (state_names p.states)) (map (state_renamed (renamed b names)) p.states) ≡ map (state_over f) m.states
-  states_are = states (place names) (place (names_of ws)) (renamed b names) f (scalar_at vs) (array_at vs) (port_at vs) (λ n h. name_by n is_scalar h)
+  states_are : map (state_spelled (names_of ws) (state_names p.states)) (map (state_renamed (bound_name b names)) p.states) ≡ map (state_over f) m.states
+  states_are = states (place_or_end names) (place_or_end (names_of ws)) (bound_name b names) f (scalar_at vs) (array_at vs) (port_at vs)
+      (λ n h. name_by n is_scalar h)
       (λ n h. name_by n is_array h) (λ n h. name_by n is_port h) to p.states
       (λ q l k e. let s = sound.transitions_sound q l k e in ((s.scalars, s.arrays), s.ports))
 
@@ -202,13 +205,13 @@ module _ (b : List (ℕ × List ℕ)) (rs : List (List ℕ)) (p : Source) (sound
   abbrev made : List VarInfo → List (List ℕ) → Fsmd
   made us ns = record {
     variables = us;
-    reset = place ns p.reset;
-    states = map (state_spelled (names_of us) ns) (map (state_renamed (renamed b names)) p.states);
+    reset = place_or_end ns p.reset;
+    states = map (state_spelled (names_of us) ns) (map (state_renamed (bound_name b names)) p.states);
   }
 
   -- the machine of the parts with registers has the same states over other numbers
   pub is_k : machine_of (bound_parts b rs p) ≡ k
-  is_k = ap₂ made (variables_bound b names p.reset_line rs p.declarations) (same_states (renamed b names) p.states)
+  is_k = ap₂ made (variables_bound b names p.reset_line rs p.declarations) (same_states (bound_name b names) p.states)
       ∙ ap (λ (ss : List State). record { variables = ws; reset = m.reset; states = ss }) states_are
 
   module _ (sound_k : IsSound (machine_of (bound_parts b rs p))) (safe : (c : Conflict) → Clobbers b (machine_of p) c → ⊥) where

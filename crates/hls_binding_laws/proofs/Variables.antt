@@ -20,10 +20,11 @@ use Rattle.fs_model.specs.Source.{Declaration}
 use Rattle.fs_model.specs.Stores.{Store}
 use Rattle.fs_model.specs.Runs.{Content, content, output_from, is_output, is_scalar}
 use Rattle.fs_model.specs.Runs as runs
-use Rattle.fs_ast.specs.BuiltMachine.{place, names_of, variables_of, declared_by}
-use Rattle.fs_rules.specs.Sound.{names_differ}
+use Rattle.fs_rules.specs.SoundParts.{names_differ}
+use Rattle.fs_rules.specs.MachineOfParts.{place_or_end, names_of, variables_of, declared_by}
 use Rattle.hls_binding_laws.proofs.Renaming.{Agree}
-use Rattle.hls_binding_laws.specs.Bindings.{is_local, is_scalar_local, register, is_bound, stays, without, remaining, of_registers, IsBindingOf, AreRegisters}
+use Rattle.hls_binding_laws.specs.Bindings.{is_local, is_scalar_local, register, is_bound, stays, declaration_without_bound, remaining_declarations}
+use Rattle.hls_binding_laws.specs.Bindings.{of_registers, IsBindingOf, AreRegisters}
 use Rattle.hls_binding_laws.proofs.Looks.{look, or_else, get_place, look_name, look_joined, look_none, look_stays, look_goes, place_own, shown, output_is}
 
 -- a register as a variable
@@ -62,17 +63,17 @@ module _ (b : List (ℕ × List ℕ)) (vs : List (List ℕ)) where
   abbrev pub keeps : VarInfo → Bool
   keeps v = stays b vs v.name
 
-  variables_remain : (ds : List Declaration) → variables_of (remaining b vs ds) ≡ filter keeps (variables_of ds)
+  variables_remain : (ds : List Declaration) → variables_of (remaining_declarations b vs ds) ≡ filter keeps (variables_of ds)
   variables_remain [] = refl
   variables_remain (d ∷ ds) =
-      let w = without b vs d in
-      dropped w (remaining b vs ds) (length w.names == 0) refl
+      let w = declaration_without_bound b vs d in
+      dropped w (remaining_declarations b vs ds) (length w.names == 0) refl
       ∙ ap₂ (λ (x y : List VarInfo). x ++ y) (names_kept (stays b vs) d d.names) (variables_remain ds)
       ∙ sym (filter-append keeps (declared_by d) (variables_of ds))
 
   pub variables_bound : (line : ℕ) (rs : List (List ℕ)) (ds : List Declaration)
-      → variables_of (remaining b vs ds ++ of_registers line rs) ≡ filter keeps (variables_of ds) ++ map as_local rs
-  variables_bound line rs ds = flat_map-append declared_by (remaining b vs ds) (of_registers line rs)
+      → variables_of (remaining_declarations b vs ds ++ of_registers line rs) ≡ filter keeps (variables_of ds) ++ map as_local rs
+  variables_bound line rs ds = flat_map-append declared_by (remaining_declarations b vs ds) (of_registers line rs)
       ∙ ap₂ (λ (x y : List VarInfo). x ++ y) (variables_remain ds) (of_them line rs)
 
 -- ---- looking up among registers
@@ -130,13 +131,13 @@ module _ (b : List (ℕ × List ℕ)) (vs : List VarInfo) (rs : List (List ℕ))
 
   -- the number of a variable among the new ones; those past the last stay past the last
   abbrev pub number_for : ℕ → ℕ
-  number_for x = cond (nat_lt x (length vs)) (place (names_of new) (name_for x)) (length new + (x - length vs))
+  number_for x = cond (nat_lt x (length vs)) (place_or_end (names_of new) (name_for x)) (length new + (x - length vs))
 
-  pub inside_is : (x : ℕ) → x < length vs → number_for x ≡ place (names_of new) (name_for x)
+  pub inside_is : (x : ℕ) → x < length vs → number_for x ≡ place_or_end (names_of new) (name_for x)
   inside_is x h = rw (lt-ltb x (length vs) h) refl
 
   -- ---- looking up
-  look_kept : (n : List ℕ) (v : VarInfo) → register b (place (names_of vs) n) ≡ None → look vs n ≡ Some v → look new n ≡ Some v
+  look_kept : (n : List ℕ) (v : VarInfo) → register b (place_or_end (names_of vs) n) ≡ None → look vs n ≡ Some v → look new n ≡ Some v
   look_kept n v e h =
       let k : stays b (names_of vs) n ≡ true = rw e refl in
       look_joined (filter (keeps b (names_of vs)) vs) (map as_local rs) n
@@ -159,10 +160,10 @@ module _ (b : List (ℕ × List ℕ)) (vs : List VarInfo) (rs : List (List ℕ))
   bound_inside x r e = let s = some_there (slice_get vs x) (binds.locals x r e) in slice_get_within vs x s.0 s.1
 
   -- the number of a local with a register is that of the register
-  pub bound_number : (x : ℕ) (r : List ℕ) → register b x ≡ Some r → number_for x ≡ place (names_of new) r
+  pub bound_number : (x : ℕ) (r : List ℕ) → register b x ≡ Some r → number_for x ≡ place_or_end (names_of new) r
   bound_number x r e = inside_is x (bound_inside x r e) ∙ rw e refl
 
-  pub kept_number : (x : ℕ) (v : VarInfo) → register b x ≡ None → slice_get vs x ≡ Some v → number_for x ≡ place (names_of new) v.name
+  pub kept_number : (x : ℕ) (v : VarInfo) → register b x ≡ None → slice_get vs x ≡ Some v → number_for x ≡ place_or_end (names_of new) v.name
   kept_number x v e h = inside_is x (slice_get_within vs x v h) ∙ rw (e, h) refl
 
   there_kept : (x : ℕ) (v : VarInfo) → register b x ≡ None → slice_get vs x ≡ Some v → slice_get new (number_for x) ≡ Some v
@@ -200,7 +201,7 @@ module _ (b : List (ℕ × List ℕ)) (vs : List VarInfo) (rs : List (List ℕ))
       let w = element_at vs y i in
       let equal : Some v ≡ Some w.0 = sym (there_kept x v e h) ∙ ap (slice_get new) same ∙ there_kept y w.0 g w.1 in
       let vw : v ≡ w.0 = cc equal in
-      sym (place_own vs x v differ h) ∙ ap (λ (u : VarInfo). place (names_of vs) u.name) vw ∙ place_own vs y w.0 differ w.1
+      sym (place_own vs x v differ h) ∙ ap (λ (u : VarInfo). place_or_end (names_of vs) u.name) vw ∙ place_own vs y w.0 differ w.1
   apart_in x y v (Some r) e h g i same =
       let equal : Some v ≡ Some (as_local r) = sym (there_kept x v e h) ∙ ap (slice_get new) same ∙ there_bound y r g in
       let vr : v ≡ as_local r = cc equal in
@@ -234,29 +235,30 @@ module _ (b : List (ℕ × List ℕ)) (vs : List VarInfo) (rs : List (List ℕ))
     content_by Array x h = ap (λ (g : ℤ → ℤ). runs.Entries g) (agree.arrays x h)
     content_by Port x h = ap (λ (ns : List ℤ). runs.Emitted ns) (agree.ports x h)
 
-    shown_by : (n : List ℕ) (o : Option VarInfo) (r : Option (List ℕ)) → look vs n ≡ o → register b (place (names_of vs) n) ≡ r
-        → shown o (0 + place (names_of vs) n) s ≡ shown (look new n) (0 + place (names_of new) n) t
+    shown_by : (n : List ℕ) (o : Option VarInfo) (r : Option (List ℕ)) → look vs n ≡ o → register b (place_or_end (names_of vs) n) ≡ r
+        → shown o (0 + place_or_end (names_of vs) n) s ≡ shown (look new n) (0 + place_or_end (names_of new) n) t
     shown_by n None r h e =
-        sym (ap (λ (u : Option VarInfo). shown u (0 + place (names_of new) n) t) (look_rest n (no_by n (stays b (names_of vs) n) refl h))
-        ∙ local_hidden rs n (0 + place (names_of new) n) t)
+        sym (ap (λ (u : Option VarInfo). shown u (0 + place_or_end (names_of new) n) t) (look_rest n (no_by n (stays b (names_of vs) n) refl h))
+        ∙ local_hidden rs n (0 + place_or_end (names_of new) n) t)
     shown_by n (Some v) (Some r) h e =
-        let x = place (names_of vs) n in
+        let x = place_or_end (names_of vs) n in
         let k : stays b (names_of vs) n ≡ false = rw e refl in
         let there : slice_get vs x ≡ Some v = get_place vs n ∙ h in
         let local : is_scalar_local (Some v) ≡ true = subst (λ (u : Option VarInfo). is_scalar_local u ≡ true) there (binds.locals x r e) in
         let role : is_output v.role ≡ false = local_role v.role (is_scalar v.sort) local in
         rw role
-        (sym (ap (λ (u : Option VarInfo). shown u (0 + place (names_of new) n) t) (look_rest n (look_goes (stays b (names_of vs)) vs n k))
-        ∙ local_hidden rs n (0 + place (names_of new) n) t))
+        (sym (ap (λ (u : Option VarInfo). shown u (0 + place_or_end (names_of new) n) t) (look_rest n (look_goes (stays b (names_of vs)) vs n k))
+        ∙ local_hidden rs n (0 + place_or_end (names_of new) n) t))
     shown_by n (Some v) None h e =
-        let x = place (names_of vs) n in
+        let x = place_or_end (names_of vs) n in
         let there : slice_get vs x ≡ Some v = get_place vs n ∙ h in
         let free : is_bound b x ≡ false = rw e refl in
         let named : v.name ≡ n = look_name vs n v h in
-        let number : number_for x ≡ place (names_of new) n = kept_number x v e there ∙ ap (place (names_of new)) named in
+        let number : number_for x ≡ place_or_end (names_of new) n = kept_number x v e there ∙ ap (place_or_end (names_of new)) named in
         let z : 0 + x ≡ x = omega arith in
-        let w : 0 + place (names_of new) n ≡ number_for x = omega (arith, number) in
+        let w : 0 + place_or_end (names_of new) n ≡ number_for x = omega (arith, number) in
         rw (look_kept n v e h, z, w) (ap (λ (c : Content). cond (is_output v.role) (Some c) None) (content_by v.sort x free))
 
     pub same_output : (n : List ℕ) → output_from vs 0 s n ≡ output_from new 0 t n
-    same_output n = output_is vs 0 s n differ ∙ shown_by n (look vs n) (register b (place (names_of vs) n)) refl refl ∙ sym (output_is new 0 t n differ_new)
+    same_output n = output_is vs 0 s n differ ∙ shown_by n (look vs n) (register b (place_or_end (names_of vs) n)) refl refl
+        ∙ sym (output_is new 0 t n differ_new)

@@ -12,15 +12,15 @@ use Rattle.fs_model.specs.declared.parts.Sort.{Sort}
 use Rattle.fs_model.specs.declared.parts.Sort.TheVariants.{Scalar, Array, Port}
 use Rattle.fs_model.specs.declared.parts.VarInfo.{VarInfo}
 use Rattle.fs_model.specs.Terms.{Assignment, Transition}
-use Rattle.fs_model.specs.Renamed.{guard_over, line_over}
+use Rattle.fs_model.specs.Renamed.{guard_over, transition_over}
 use Rattle.fs_model.specs.Source.{Source}
 use Rattle.fs_model.specs.Machines.{Fsmd, State, transitions_of}
 use Rattle.fs_model.specs.Runs.{is_scalar, is_array, is_port, is_input}
 use Rattle.fs_model.specs.Trees.{branches_of}
 use Rattle.fs_rules.specs.MachineOfParts.{variables_of, machine_of}
-use Rattle.fs_rules.specs.Sound.{IsSound, IsSoundTransition, names_differ, ends_open, has_sort, scalar_at, array_at, port_at, input_at, is_input_of}
-use Rattle.fs_rules.specs.Sound.{assigned_in, occurs, all_differ, scalars_in_condition, arrays_in_condition, scalars_in_assignments, arrays_in_assignments}
-use Rattle.fs_rules.specs.Sound.{ports_in_assignments, branch_count, first_transition_target, is_cutpoint, reaches_cutpoint}
+use Rattle.fs_rules.specs.SoundParts.{IsSound, IsSoundTransition, names_differ, ends_open, has_sort, scalar_at, array_at, port_at, input_at, is_input_of}
+use Rattle.fs_rules.specs.SoundParts.{assigned_in, occurs, all_differ, scalars_in_condition, arrays_in_condition, scalars_in_assignments, arrays_in_assignments}
+use Rattle.fs_rules.specs.SoundParts.{ports_in_assignments, branch_count, first_transition_target, is_cutpoint, reaches_cutpoint}
 use Rattle.fs_rules.specs.Rules.{IsEndless, BreaksNoRule}
 use Rattle.fs_rules.proofs.Uses.{emits_over}
 use Rattle.fs_ast.proofs.Kept.{no_state, get_mapped, not_endless}
@@ -71,7 +71,7 @@ local_test (Some v) h = role_test v.role (is_scalar v.sort) h
 
 -- ---- transitions over other numbers
 
-open_over : (g : ℕ → ℕ) (ls : List (Transition ℕ ℕ)) → ends_open (map (line_over g (λ q. q)) ls) ≡ ends_open ls
+open_over : (g : ℕ → ℕ) (ls : List (Transition ℕ ℕ)) → ends_open (map (transition_over g (λ q. q)) ls) ≡ ends_open ls
 open_over g [] = refl
 open_over g (l ∷ []) = is_none-map (guard_over g) l.guard
 open_over g (l ∷ k ∷ ls) = ap₂ (λ (x y : Bool). not x && y) (is_none-map (guard_over g) l.guard) (open_over g (k ∷ ls))
@@ -83,12 +83,12 @@ state_in (s ∷ ss) zero j l e = omega arith
 state_in (s ∷ ss) (suc q) j l e = omega (arith, state_in ss q j l e)
 
 -- ---- machines over other numbers
-first_over : (g : ℕ → ℕ) (ls : List (Transition ℕ ℕ)) → first_transition_target (map (line_over g (λ q. q)) ls) ≡ first_transition_target ls
+first_over : (g : ℕ → ℕ) (ls : List (Transition ℕ ℕ)) → first_transition_target (map (transition_over g (λ q. q)) ls) ≡ first_transition_target ls
 first_over g [] = refl
 first_over g (l ∷ ls) = refl
 
 module _ (g : ℕ → ℕ) (a c : Fsmd) (reset : c.reset ≡ a.reset) (states : c.states ≡ map (state_over g) a.states) where
-  its_lines : (q : ℕ) → transitions_of c q ≡ map (line_over g (λ r. r)) (transitions_of a q)
+  its_lines : (q : ℕ) → transitions_of c q ≡ map (transition_over g (λ r. r)) (transitions_of a q)
   its_lines q = ap (λ (ss : List State). (slice_index_or ss q (record { name = []; lines = [] })).lines) states ∙ lines_over g a.states q
 
   same_count : (q : ℕ) → branch_count c q ≡ branch_count a q
@@ -164,7 +164,7 @@ module _ (b : List (ℕ × List ℕ)) (rs : List (List ℕ)) (p : Source) (sound
       one x y h i e = one_by x y h i e (is_bound b x) (is_bound b y) (x == y) refl refl refl
 
       abbrev N : Transition ℕ ℕ
-      N = line_over F (λ r. r) L
+      N = transition_over F (λ r. r) L
 
       once : all_differ (assigned_in N.assignments) ≡ true
       once = ap all_differ (assigned_over F L.assignments) ∙ still_differ F (assigned_in L.assignments) one s.assigned_once
@@ -188,12 +188,12 @@ module _ (b : List (ℕ × List ℕ)) (rs : List (List ℕ)) (p : Source) (sound
     state_count : length K.states ≡ length M.states
     state_count = length_map (state_over F) M.states
 
-    lines_of : (q : ℕ) → transitions_of K q ≡ map (line_over F (λ r. r)) (transitions_of M q)
+    lines_of : (q : ℕ) → transitions_of K q ≡ map (transition_over F (λ r. r)) (transitions_of M q)
     lines_of q = its_lines F M K refl refl q
 
     old_line : (q j : ℕ) (l : Transition ℕ ℕ) → slice_get (transitions_of K q) j ≡ Some l
-        → (L : Transition ℕ ℕ) × ((slice_get (transitions_of M q) j ≡ Some L) × (l ≡ line_over F (λ r. r) L))
-    old_line q j l e = get_mapped (line_over F (λ r. r)) (transitions_of M q) j l (subst (λ z. slice_get z j ≡ Some l) (lines_of q) e)
+        → (L : Transition ℕ ℕ) × ((slice_get (transitions_of M q) j ≡ Some L) × (l ≡ transition_over F (λ r. r) L))
+    old_line q j l e = get_mapped (transition_over F (λ r. r)) (transitions_of M q) j l (subst (λ z. slice_get z j ≡ Some l) (lines_of q) e)
 
     keeps_rules : KeepsRules K
     keeps_rules = record {

@@ -7,13 +7,14 @@ use Rattle.std.specs.Option.{unwrap_or, is_some}
 use Rattle.std.specs.Ordering.{nat_cmp}
 use Rattle.std.specs.Cmp.Lexicographic.{slice_cmp}
 use Rattle.std.specs.Str.{bytes_eq}
+use Rattle.fs_rules.specs.MachineOfParts.{place_or_end, names_of, variables_of}
 use Rattle.fs_model.specs.declared.parts.Role.{Role}
 use Rattle.fs_model.specs.declared.parts.Role.TheVariants.{Local}
 use Rattle.fs_model.specs.declared.parts.Sort.TheVariants.{Scalar}
 use Rattle.fs_model.specs.declared.parts.VarInfo.{VarInfo}
 use Rattle.fs_model.specs.Runs.{is_scalar}
 use Rattle.fs_model.specs.Source.{Declaration, SourceTransition, SourceState, Source}
-use Rattle.fs_ast.specs.BuiltMachine.{place, line_over, names_of, variables_of}
+use Rattle.fs_model.specs.Renamed.{transition_over}
 
 abbrev pub is_local : Role → Bool
 is_local Local = true
@@ -50,26 +51,26 @@ pub record AreRegisters (b : List (ℕ × List ℕ)) (rs : List (List ℕ)) : Ty
 -- ---- parts
 
 -- the name that stands for a name of these variables
-abbrev pub renamed : List (ℕ × List ℕ) → List (List ℕ) → List ℕ → List ℕ
-renamed b vs n = unwrap_or (register b (place vs n)) n
+abbrev pub bound_name : List (ℕ × List ℕ) → List (List ℕ) → List ℕ → List ℕ
+bound_name b vs n = unwrap_or (register b (place_or_end vs n)) n
 
 -- whether a name stays declared
 abbrev pub stays : List (ℕ × List ℕ) → List (List ℕ) → List ℕ → Bool
-stays b vs n = not (is_bound b (place vs n))
+stays b vs n = not (is_bound b (place_or_end vs n))
 
-abbrev pub without : List (ℕ × List ℕ) → List (List ℕ) → Declaration → Declaration
-without b vs d = record { line = d.line; role = d.role; sort = d.sort; names = filter (stays b vs) d.names }
+abbrev pub declaration_without_bound : List (ℕ × List ℕ) → List (List ℕ) → Declaration → Declaration
+declaration_without_bound b vs d = record { line = d.line; role = d.role; sort = d.sort; names = filter (stays b vs) d.names }
 
 -- the declarations without bound locals, those that are then empty left out
-abbrev pub remaining : List (ℕ × List ℕ) → List (List ℕ) → List Declaration → List Declaration
-remaining b vs ds = filter (λ d. not (length d.names == 0)) (map (without b vs) ds)
+abbrev pub remaining_declarations : List (ℕ × List ℕ) → List (List ℕ) → List Declaration → List Declaration
+remaining_declarations b vs ds = filter (λ d. not (length d.names == 0)) (map (declaration_without_bound b vs) ds)
 
 -- one declaration of the registers, if there are any
 abbrev pub of_registers : ℕ → List (List ℕ) → List Declaration
 of_registers line rs = cond (length rs == 0) [] (record { line = line; role = Local; sort = Scalar; names = rs } ∷ [])
 
 abbrev pub transition_renamed : (List ℕ → List ℕ) → SourceTransition → SourceTransition
-transition_renamed f l = record { line = l.line; content = line_over f (λ s. s) l.content }
+transition_renamed f l = record { line = l.line; content = transition_over f (λ s. s) l.content }
 
 abbrev pub state_renamed : (List ℕ → List ℕ) → SourceState → SourceState
 state_renamed f s = record { line = s.line; name = s.name; lines = map (transition_renamed f) s.lines }
@@ -79,8 +80,8 @@ abbrev pub bound_parts : List (ℕ × List ℕ) → (registers : List (List ℕ)
 bound_parts b rs p =
     let vs = names_of (variables_of p.declarations) in
     record {
-      declarations = remaining b vs p.declarations ++ of_registers p.reset_line rs;
+      declarations = remaining_declarations b vs p.declarations ++ of_registers p.reset_line rs;
       reset_line = p.reset_line;
       reset = p.reset;
-      states = map (state_renamed (renamed b vs)) p.states;
+      states = map (state_renamed (bound_name b vs)) p.states;
     }

@@ -12,37 +12,40 @@ use Rattle.hls_line_filling.specs.declared.profiles.Profile.{Profile}
 use Rattle.hls_line_filling.specs.declared.effects.Edge.{Edge}
 use Rattle.hls_line_filling.specs.declared.effects.Edge.TheVariants.{Apart, Weak, Strict}
 use Rattle.hls_line_rows.specs.ItemUnits.{Units, none_used, suffice}
-use Rattle.hls_line_rows.specs.Filling.{Graph, Rows, place_item, is_before, is_by, lets, is_ready, more_units, may_stand, next_item, row_filled, all_placed}
+use Rattle.hls_line_rows.specs.Filling.{ItemGraph, Rows, place_item, is_before, is_by, leaves_row_open, is_ready, more_units, may_stand, next_item, row_filled}
+use Rattle.hls_line_rows.specs.Filling.{all_placed}
 use Rattle.hls_line_rows.specs.Filling.{filled_from}
 use Rattle.hls_line_rows.proofs.Fills.{all_range, in_all, is_none_of, highest_passes}
 use Rattle.hls_line_filling.specs.Profiles.{edge_at, strict_in, weak_in, graph_in}
 use Rattle.hls_line_filling.specs.WaitingItems.{rows_in, AreReady, AreWaiting, AreLow, AreReleased, waits_below, holds_back, same_edge}
 
 -- ---- none waits where all let
-count_zero : (g : Graph) (rows : Rows) (r j n : ℕ) → ((i : ℕ) → i < n → lets g rows r i j ≡ true) → waits_below g rows r j n ≡ 0
+count_zero : (g : ItemGraph) (rows : Rows) (r j n : ℕ) → ((i : ℕ) → i < n → leaves_row_open g rows r i j ≡ true) → waits_below g rows r j n ≡ 0
 count_zero g rows r j zero h = refl
-count_zero g rows r j (suc n) h = let e : lets g rows r n j ≡ true = h n (omega arith) in
+count_zero g rows r j (suc n) h = let e : leaves_row_open g rows r n j ≡ true = h n (omega arith) in
     rw e (omega (arith, count_zero g rows r j n (λ i p. h i (omega (arith, p)))))
 
-zero_step : (g : Graph) (rows : Rows) (r j n i : ℕ) (b : Bool) → lets g rows r n j ≡ b → (t : Bool) → (i == n) ≡ t → waits_below g rows r j n + cond b 0 1 ≡ 0
-    → i < suc n → (waits_below g rows r j n ≡ 0 → i < n → lets g rows r i j ≡ true) → lets g rows r i j ≡ true
+zero_step : (g : ItemGraph) (rows : Rows) (r j n i : ℕ) (b : Bool) → leaves_row_open g rows r n j ≡ b → (t : Bool) → (i == n) ≡ t
+    → waits_below g rows r j n + cond b 0 1 ≡ 0
+    → i < suc n → (waits_below g rows r j n ≡ 0 → i < n → leaves_row_open g rows r i j ≡ true) → leaves_row_open g rows r i j ≡ true
 zero_step g rows r j n i false f t e h p w = absurd (omega (arith, h))
-zero_step g rows r j n i true f true e h p w = let c : n ≡ i = grind (arith, nat_tests) in subst (λ z. lets g rows r z j ≡ true) c f
+zero_step g rows r j n i true f true e h p w = let c : n ≡ i = grind (arith, nat_tests) in subst (λ z. leaves_row_open g rows r z j ≡ true) c f
 zero_step g rows r j n i true f false e h p w = w (omega (arith, h)) (let d : i ≢ n = grind (arith, nat_tests) in omega (arith, d, p))
 
-zero_lets : (g : Graph) (rows : Rows) (r j n i : ℕ) → waits_below g rows r j n ≡ 0 → i < n → lets g rows r i j ≡ true
+zero_lets : (g : ItemGraph) (rows : Rows) (r j n i : ℕ) → waits_below g rows r j n ≡ 0 → i < n → leaves_row_open g rows r i j ≡ true
 zero_lets g rows r j zero i e p = absurd (omega (arith, p))
-zero_lets g rows r j (suc n) i e p = zero_step g rows r j n i (lets g rows r n j) refl (i == n) refl e p (λ f q. zero_lets g rows r j n i f q)
+zero_lets g rows r j (suc n) i e p = zero_step g rows r j n i (leaves_row_open g rows r n j) refl (i == n) refl e p (λ f q. zero_lets g rows r j n i f q)
 
-ready_is : (g : Graph) (rows : Rows) (r j x : ℕ) (t : Bool) → is_ready g rows r j ≡ t → x ≡ waits_below g rows r j j → (x == 0) ≡ t
+ready_is : (g : ItemGraph) (rows : Rows) (r j x : ℕ) (t : Bool) → is_ready g rows r j ≡ t → x ≡ waits_below g rows r j j → (x == 0) ≡ t
 ready_is g rows r j x true e f = let z : waits_below g rows r j j ≡ 0 =
-    count_zero g rows r j j (λ i p. in_all (λ k. lets g rows r k j) j 0 i e (omega arith) (omega (arith, p))) in grind (arith, nat_tests)
+    count_zero g rows r j j (λ i p. in_all (λ k. leaves_row_open g rows r k j) j 0 i e (omega arith) (omega (arith, p))) in grind (arith, nat_tests)
 ready_is g rows r j zero false e f =
-    absurd (let h : is_ready g rows r j ≡ true = all_range (λ k. lets g rows r k j) j 0 (λ i p q. zero_lets g rows r j j i (sym f) (omega (arith, q))) in
+    absurd
+    (let h : is_ready g rows r j ≡ true = all_range (λ k. leaves_row_open g rows r k j) j 0 (λ i p q. zero_lets g rows r j j i (sym f) (omega (arith, q))) in
     cc (sym e ∙ h))
 ready_is g rows r j (suc x) false e f = grind (arith, nat_tests)
 
-pub are_ready : (g : Graph) (rows : Rows) (r : ℕ) (waits : List ℕ) → AreWaiting g rows r waits → AreReady g rows r waits
+pub are_ready : (g : ItemGraph) (rows : Rows) (r : ℕ) (waits : List ℕ) → AreWaiting g rows r waits → AreReady g rows r waits
 are_ready g rows r waits w = record { ready = λ j h. ready_is g rows r j (slice_index_or waits j 0) (is_ready g rows r j) refl (w.counted j h) }
 
 -- ---- an item that is placed
@@ -66,7 +69,7 @@ put_mid x y u w true b e h = rw e (omega (arith, h))
 put_mid x y u w false b e h = rw e (omega (arith, h))
 
 module _ (table : List Profile) (rows : Rows) (k r j : ℕ) (free : is_none (rows k) ≡ true) where
-  abbrev G : Graph
+  abbrev G : ItemGraph
   G = graph_in table
 
   abbrev E : Edge
@@ -77,13 +80,13 @@ module _ (table : List Profile) (rows : Rows) (k r j : ℕ) (free : is_none (row
       → waits_below (graph_in table) (place_item rows k r) r j n
       + cond (cond (G.strict n j) (is_before r (cond t (Some r) (rows n))) (cond (G.weak n j) (is_by r (cond t (Some r) (rows n))) true)) 0 1
       + cond (nat_lt k (suc n)) (cond (same_edge E Weak) 1 0) 0
-      ≡ waits_below (graph_in table) rows r j n + cond (lets (graph_in table) rows r n j) 0 1
+      ≡ waits_below (graph_in table) rows r j n + cond (leaves_row_open (graph_in table) rows r n j) 0 1
   put_step n true e h =
       let c : k ≡ n = grind (arith, nat_tests) in
       let a : nat_lt k n ≡ false = grind (arith, nat_tests) in
       let b : nat_lt k (suc n) ≡ true = grind (arith, nat_tests) in
-      let here : ◌≡◌ {A = ℕ} (cond (lets (graph_in table) rows r n j) 0 1) (cond (cond (strict_in E) false (cond (weak_in E) false true)) 0 1) =
-      subst (λ z. ◌≡◌ {A = ℕ} (cond (lets (graph_in table) rows r z j) 0 1) (cond (cond (strict_in E) false (cond (weak_in E) false true)) 0 1)) c
+      let here : ◌≡◌ {A = ℕ} (cond (leaves_row_open (graph_in table) rows r n j) 0 1) (cond (cond (strict_in E) false (cond (weak_in E) false true)) 0 1) =
+      subst (λ z. ◌≡◌ {A = ℕ} (cond (leaves_row_open (graph_in table) rows r z j) 0 1) (cond (cond (strict_in E) false (cond (weak_in E) false true)) 0 1)) c
       (ap (λ (o : Option ℕ). cond {A = ℕ} (cond (strict_in E) (is_before r o) (cond (weak_in E) (is_by r o) true)) 0 1) (is_none_of (rows k) free)) in
       let there : ◌≡◌ {A = ℕ} (cond (cond (G.strict n j) (nat_lt r r) (cond (G.weak n j) (not (nat_lt r r)) true)) 0 1)
       (cond (cond (strict_in E) (nat_lt r r) (cond (weak_in E) (not (nat_lt r r)) true)) 0 1) =
@@ -162,12 +165,12 @@ pub rows_put : (rows : List (Option ℕ)) (k r : ℕ) → k < length rows → ro
 rows_put rows k r h = λ j i. rows_step rows k r i (i == k) refl h j
 
 -- ---- one item
-stops : (g : Graph) (units : Units) (n r : ℕ) (rows : Rows) (used : Units) (o : Option ℕ) → o ≡ None
+stops : (g : ItemGraph) (units : Units) (n r : ℕ) (rows : Rows) (used : Units) (o : Option ℕ) → o ≡ None
     → elim o as (λ _. Rows) [ None ↦ rows | Some k ↦ row_filled g units n r (place_item rows k r) (more_units used (g.uses k)) ] ≡ rows
 stops g units n r rows used None e = refl
 stops g units n r rows used (Some k) e = absurd (cc e)
 
-goes : (g : Graph) (units : Units) (n r : ℕ) (rows : Rows) (used : Units) (k : ℕ) (o : Option ℕ) → o ≡ Some k
+goes : (g : ItemGraph) (units : Units) (n r : ℕ) (rows : Rows) (used : Units) (k : ℕ) (o : Option ℕ) → o ≡ Some k
     → elim o as (λ _. Rows) [
       | None ↦ rows
       | Some k ↦ row_filled g units n r (place_item rows k r) (more_units used (g.uses k))
@@ -175,24 +178,24 @@ goes : (g : Graph) (units : Units) (n r : ℕ) (rows : Rows) (used : Units) (k :
 goes g units n r rows used k None e = absurd (cc e)
 goes g units n r rows used k (Some i) e = let c : i ≡ k = cc e in ap (λ z. row_filled g units n r (place_item rows z r) (more_units used (g.uses z))) c
 
-pub row_stops : (g : Graph) (units : Units) (n r : ℕ) (rows : Rows) (used : Units) → None ≡ next_item g units rows r used
+pub row_stops : (g : ItemGraph) (units : Units) (n r : ℕ) (rows : Rows) (used : Units) → None ≡ next_item g units rows r used
     → row_filled g units (suc n) r rows used ≡ rows
 row_stops g units n r rows used e = stops g units n r rows used (next_item g units rows r used) (sym e)
 
-pub row_goes : (g : Graph) (units : Units) (n r : ℕ) (rows new : Rows) (used after : Units) (k : ℕ) → Some k ≡ next_item g units rows r used
+pub row_goes : (g : ItemGraph) (units : Units) (n r : ℕ) (rows new : Rows) (used after : Units) (k : ℕ) → Some k ≡ next_item g units rows r used
     → new ≡ place_item rows k r → after ≡ more_units used (g.uses k) → row_filled g units (suc n) r rows used ≡ row_filled g units n r new after
 row_goes g units n r rows new used after k e f h = goes g units n r rows used k (next_item g units rows r used) (sym e)
     ∙ sym (ap (λ z. row_filled g units n r z after) f ∙ ap (row_filled g units n r (place_item rows k r)) h)
 
 -- what comes next
-pub item_stands : (g : Graph) (units : Units) (rows : Rows) (r : ℕ) (used : Units) (k : ℕ) → Some k ≡ next_item g units rows r used
+pub item_stands : (g : ItemGraph) (units : Units) (rows : Rows) (r : ℕ) (used : Units) (k : ℕ) → Some k ≡ next_item g units rows r used
     → may_stand g units rows r used k ≡ true
 item_stands g units rows r used k e = (highest_passes (may_stand g units rows r used) g.height g.count k (sym e)).is
 
-pub item_free : (g : Graph) (units : Units) (rows : Rows) (r : ℕ) (used : Units) (k : ℕ) → Some k ≡ next_item g units rows r used → rows k ≡ None
+pub item_free : (g : ItemGraph) (units : Units) (rows : Rows) (r : ℕ) (used : Units) (k : ℕ) → Some k ≡ next_item g units rows r used → rows k ≡ None
 item_free g units rows r used k e = is_none_of (rows k) (and_first _ _ (and_first _ _ (item_stands g units rows r used k e)))
 
-pub item_fits : (g : Graph) (units : Units) (rows : Rows) (r : ℕ) (used : Units) (k : ℕ) → Some k ≡ next_item g units rows r used
+pub item_fits : (g : ItemGraph) (units : Units) (rows : Rows) (r : ℕ) (used : Units) (k : ℕ) → Some k ≡ next_item g units rows r used
     → suffice units used (g.uses k) ≡ true
 item_fits g units rows r used k e = and_second (is_none (rows k) && is_ready g rows r k) (suffice units used (g.uses k)) (item_stands g units rows r used k e)
 
@@ -201,7 +204,7 @@ low_step : (rows : Rows) (k r j l : ℕ) (t : Bool) → cond t (Some r) (rows j)
 low_step rows k r j l true e h = let c : r ≡ l = cc e in omega (arith, c)
 low_step rows k r j l false e h = h e
 
-pub low_put : (g : Graph) (rows new : Rows) (k r : ℕ) → new ≡ place_item rows k r → AreLow g rows r → AreLow g new r
+pub low_put : (g : ItemGraph) (rows new : Rows) (k r : ℕ) → new ≡ place_item rows k r → AreLow g rows r → AreLow g new r
 low_put g rows new k r e w = subst (λ (z : Rows). AreLow g z r) (sym e) (record { low = λ j l h f. low_step rows k r j l (j == k) f (λ d. w.low j l h d) })
 
 -- ---- whether all are placed
@@ -217,22 +220,22 @@ pub are_all : (rows : Rows) (n : ℕ) → ((j : ℕ) → j < n → is_none (rows
 are_all rows n h = sym (all_range (λ k. not (is_none (rows k))) n 0 (λ j p q. ap not (h j (omega (arith, q)))))
 
 -- ---- one row
-next_by : (g : Graph) (units : Units) (n r : ℕ) (rows : Rows) (t : Bool) → all_placed g rows ≡ t
+next_by : (g : ItemGraph) (units : Units) (n r : ℕ) (rows : Rows) (t : Bool) → all_placed g rows ≡ t
     → filled_from g units (suc n) r rows ≡ cond t (record { rows = rows; count = r })
     (filled_from g units n (suc r) (row_filled g units g.count r rows none_used))
 next_by g units n r rows t e =
     ap (λ b. cond b (record { rows = rows; count = r }) (filled_from g units n (suc r) (row_filled g units g.count r rows none_used))) e
 
-pub next_row : (g : Graph) (units : Units) (n r : ℕ) (rows new : Rows) → all_placed g rows ≡ false → new ≡ row_filled g units g.count r rows none_used
+pub next_row : (g : ItemGraph) (units : Units) (n r : ℕ) (rows new : Rows) → all_placed g rows ≡ false → new ≡ row_filled g units g.count r rows none_used
     → filled_from g units (suc n) r rows ≡ filled_from g units n (suc r) new
 next_row g units n r rows new e f = next_by g units n r rows false e ∙ ap (filled_from g units n (suc r)) (sym f)
 
-pub no_row : (g : Graph) (units : Units) (n r : ℕ) (rows : Rows) → all_placed g rows ≡ true
+pub no_row : (g : ItemGraph) (units : Units) (n r : ℕ) (rows : Rows) → all_placed g rows ≡ true
     → filled_from g units (suc n) r rows ≡ record { rows = rows; count = r }
 no_row g units n r rows e = next_by g units n r rows true e
 
-pub first_low : (g : Graph) (rows : Rows) → rows ≡ (λ i. None) → AreLow g rows 0
+pub first_low : (g : ItemGraph) (rows : Rows) → rows ≡ (λ i. None) → AreLow g rows 0
 first_low g rows e = record { low = λ j k h f. absurd (let d : rows j ≡ None = ap (λ (z : Rows). z j) e in cc (sym d ∙ f)) }
 
-pub low_more : (g : Graph) (rows : Rows) (r : ℕ) → AreLow g rows r → AreLow g rows (r + 1)
+pub low_more : (g : ItemGraph) (rows : Rows) (r : ℕ) → AreLow g rows r → AreLow g rows (r + 1)
 low_more g rows r w = record { low = λ j k h f. (let i : k ≤ r = w.low j k h f in omega (arith, i)) }

@@ -3,8 +3,8 @@ use Rattle.std.proofs.Common.{◌≡◌, ℕ, zero, suc, List, [], ◌∷◌, re
 use Rattle.std.specs.Prelude.{not, ◌&&◌, ◌||◌, nat_lt, cond, slice_get}
 use Rattle.std.specs.List.{slice_index_or}
 use Rattle.base_lemmas.proofs.Booleans.{and_false, or_false}
-use Rattle.fs_rules.specs.Sound.{assigned_in, occurs}
-use Rattle.hls_line_rows.specs.Items.{Item, reads_of_item, changes, stored_in, emits, meet, is_strict, is_weak}
+use Rattle.fs_rules.specs.SoundParts.{assigned_in, occurs}
+use Rattle.hls_line_rows.specs.Items.{Item, reads_of_item, changes, stored_in, emits, has_common_number, is_strict, is_weak}
 use Rattle.hls_line_rows.specs.ItemUnits.{used_by}
 use Rattle.hls_line_rows.specs.Heights.{heights}
 use Rattle.hls_line_rows.specs.Filling.{graph_of}
@@ -51,7 +51,7 @@ module _ (e f : Effects) (a b : Item) (is_e : sets_of e ≡ sets_from a none_cha
       (ap₂ (λ x y. x || y) (meets_is e.assigns f.assigns (assigned_in a) (assigned_in b) (assigns_is e a is_e) (assigns_is f b is_f) in_b.assigns)
       (ap₂ (λ x y. x && y) (emits_is e a is_e) (emits_is f b is_f)))
 
-  weak_is : is_weak_in e f ≡ (meet (changes b) (reads_of_item a) || meet (stored_in a) (stored_in b))
+  weak_is : is_weak_in e f ≡ (has_common_number (changes b) (reads_of_item a) || has_common_number (stored_in a) (stored_in b))
   weak_is =
       ap₂ (λ x y. x || y) (meets_is f.changes e.reads (changes b) (reads_of_item a) (changes_is f b is_f) (reads_is e a is_e) in_a.reads)
       (meets_is e.writes f.writes (stored_in a) (stored_in b) (writes_is e a is_e) (writes_is f b is_f) in_b.writes)

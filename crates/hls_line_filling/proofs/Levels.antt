@@ -6,7 +6,7 @@ use Rattle.std.proofs.lemmas.Bool.Decides.{nat_tests}
 use Rattle.std.proofs.Math.ListN.{set}
 use Rattle.std.proofs.lemmas.List.{get_or-set_same, get_or-set_other}
 use Rattle.hls_line_rows.specs.Items.{Item}
-use Rattle.hls_line_rows.specs.Heights.{through, height_over, heights}
+use Rattle.hls_line_rows.specs.Heights.{strict_edges_through, height_over, heights}
 use Rattle.hls_line_rows.proofs.Lists.{heights_fall}
 use Rattle.hls_line_filling.specs.declared.effects.Effects.{Effects}
 use Rattle.hls_line_filling.specs.declared.effects.Edge.{Edge}
@@ -20,14 +20,15 @@ through_by Weak h = refl
 through_by Strict h = refl
 
 over_bound : (a : Item) (items : List Item) (hs : List ℕ) (most : ℕ)
-    → ((j : ℕ) → j < length items → through a (slice_index_or items j []) (slice_index_or hs j 0) ≤ most) → height_over a items hs ≤ most
+    → ((j : ℕ) → j < length items → strict_edges_through a (slice_index_or items j []) (slice_index_or hs j 0) ≤ most) → height_over a items hs ≤ most
 over_bound a [] hs most w = omega arith
 over_bound a (b ∷ bs) [] most w = omega arith
 over_bound a (b ∷ bs) (h ∷ hs) most w = omega (arith, w 0 (omega arith), over_bound a bs hs most (λ j p. w (suc j) (omega (arith, p))))
 
 -- an item is no higher than the highest walk through one behind it
 bounded : (items : List Item) (i most : ℕ) → i < length items
-    → ((j : ℕ) → i < j → j < length items → through (slice_index_or items i []) (slice_index_or items j []) (slice_index_or (heights items) j 0) ≤ most)
+    → ((j : ℕ) → i < j → j < length items → strict_edges_through (slice_index_or items i []) (slice_index_or items j [])
+    (slice_index_or (heights items) j 0) ≤ most)
     → slice_index_or (heights items) i 0 ≤ most
 bounded [] i most h w = absurd (omega (arith, h))
 bounded (a ∷ items) zero most h w = over_bound a items (heights items) most (λ j p. w (suc j) (omega arith) (omega (arith, p)))
@@ -133,7 +134,8 @@ module _ (effects : List Effects) (known : List ℕ) (i : ℕ) where
 -- the edges between items, by their effects
 abbrev pub SameEdges : List Effects → List Item → Type 0
 SameEdges effects items = (i j h : ℕ) → i < length items → j < length items
-    → through_edge (edge_of_effects (slice_get effects i) (slice_get effects j)) h ≡ through (slice_index_or items i []) (slice_index_or items j []) h
+    → through_edge (edge_of_effects (slice_get effects i) (slice_get effects j)) h
+    ≡ strict_edges_through (slice_index_or items i []) (slice_index_or items j []) h
 
 module _ (effects : List Effects) (items : List Item) (known : List ℕ) (count : length effects ≡ length items) (edges : SameEdges effects items)
     (are : AreHeights effects 0 known) where
@@ -143,8 +145,8 @@ module _ (effects : List Effects) (items : List Item) (known : List ℕ) (count 
   height_from zero i h l = absurd (omega (arith, h, l))
   height_from (suc k) i h l =
       let walk : (j : ℕ) → i < j → j < length items
-      → at effects known i j ≡ through (slice_index_or items i []) (slice_index_or items j []) (slice_index_or (heights items) j 0) =
-      (λ j p q. edges i j (slice_index_or known j 0) h q ∙ ap (through (slice_index_or items i []) (slice_index_or items j []))
+      → at effects known i j ≡ strict_edges_through (slice_index_or items i []) (slice_index_or items j []) (slice_index_or (heights items) j 0) =
+      (λ j p q. edges i j (slice_index_or known j 0) h q ∙ ap (strict_edges_through (slice_index_or items i []) (slice_index_or items j []))
       (height_from k j q (omega (arith, l, p)))) in
       let e : slice_index_or known i 0 ≡ height_upto effects known i (length effects) = are.known i (omega arith) (omega (arith, h, count)) in
       let up : height_upto effects known i (length effects) ≤ slice_index_or (heights items) i 0 =

@@ -6,8 +6,8 @@ use Rattle.std.proofs.lemmas.Option.{slice_get_within}
 use Rattle.base_lemmas.proofs.Lists.{element_at}
 use Rattle.hls_line_rows.specs.Items.{Item, is_strict}
 use Rattle.hls_line_rows.specs.ItemUnits.{Units}
-use Rattle.hls_line_rows.specs.Heights.{through, heights, greatest, chain_of}
-use Rattle.hls_line_rows.specs.Filling.{graph_of, filling}
+use Rattle.hls_line_rows.specs.Heights.{strict_edges_through, heights, greatest, chain_of}
+use Rattle.hls_line_rows.specs.Filling.{graph_of, filling_of}
 use Rattle.hls_line_filling.specs.declared.effects.Effects.{Effects}
 use Rattle.hls_line_filling.specs.declared.uses.Uses.{Uses}
 use Rattle.hls_line_filling.specs.declared.profiles.Profile.{Profile}
@@ -27,7 +27,8 @@ same_numbers (x ∷ xs) (y ∷ ys) e h = ap (λ z. z ∷ xs) (h 0 (omega arith))
 
 module _ (effects : List Effects) (uses : List Uses) (items : List Item) (are : AreCountedOf effects uses items) where
   edges_by : (i j h : ℕ) → i < length items → j < length items → (e f : Effects) → slice_get effects i ≡ Some e → slice_get effects j ≡ Some f
-      → through_edge (edge_of_effects (slice_get effects i) (slice_get effects j)) h ≡ through (slice_index_or items i []) (slice_index_or items j []) h
+      → through_edge (edge_of_effects (slice_get effects i) (slice_get effects j)) h
+      ≡ strict_edges_through (slice_index_or items i []) (slice_index_or items j []) h
   edges_by i j h p q e f d g =
       let s = strict_between e f (slice_index_or items i []) (slice_index_or items j []) (are.effects i e d) (are.effects j f g) (are.within i p)
       (are.within j q) in
@@ -61,8 +62,8 @@ module _ (effects : List Effects) (uses : List Uses) (items : List Item) (are : 
   }
 
   pub plan_is : (known : List ℕ) (table : List Profile) (units : Units) → AreHeights effects 0 known → length known ≡ length effects
-      → AreJoined effects known uses table → filling (graph_in table) units ≡ filling (graph_of items) units
-  plan_is known table units h l j = ap (λ g. filling g units) (same_graph table items (are_profiles known table h l j))
+      → AreJoined effects known uses table → filling_of (graph_in table) units ≡ filling_of (graph_of items) units
+  plan_is known table units h l j = ap (λ g. filling_of g units) (same_graph table items (are_profiles known table h l j))
 
   pub chain_is : (known : List ℕ) → AreHeights effects 0 known → length known ≡ length effects → greatest known ≡ chain_of items
   chain_is known h l = ap greatest (known_heights known h l)

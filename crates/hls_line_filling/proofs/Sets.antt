@@ -6,8 +6,8 @@ use Rattle.std.proofs.lemmas.Bool.{both_ways, and_parts, and_from, false_from_ne
 use Rattle.std.proofs.lemmas.Bool.Decides.{nat_tests}
 use Rattle.base_lemmas.proofs.Booleans.{or_true}
 use Rattle.fs_model.specs.Terms.{Assign, ArrayWrite, Emit}
-use Rattle.fs_rules.specs.Sound.{assigned_in, occurs}
-use Rattle.hls_line_rows.specs.Items.{Item, read_in, reads_of_item, changes, stored_in, emits, meet}
+use Rattle.fs_rules.specs.SoundParts.{assigned_in, occurs}
+use Rattle.hls_line_rows.specs.Items.{Item, read_in, reads_of_item, changes, stored_in, emits, has_common_number}
 use Rattle.fs_variable_sets.specs.declared.VariableSet.{VariableSet}
 use Rattle.fs_variable_sets.specs.Sets.{has_variable, also_all, sets_meet}
 use Rattle.fs_variable_sets.proofs.Members.{in_all, some_met, met_by}
@@ -89,11 +89,12 @@ record Common (xs ys : List ℕ) : Type 0 where
   in_first : occurs variable xs ≡ true
   in_second : occurs variable ys ≡ true
 
-common_step : (y : ℕ) (xs ys : List ℕ) (t : Bool) → occurs y xs ≡ t → (t || meet xs ys) ≡ true → (meet xs ys ≡ true → Common xs ys) → Common xs (y ∷ ys)
+common_step : (y : ℕ) (xs ys : List ℕ) (t : Bool) → occurs y xs ≡ t → (t || has_common_number xs ys) ≡ true → (has_common_number xs ys ≡ true → Common xs ys)
+    → Common xs (y ∷ ys)
 common_step y xs ys true e h w = record { variable = y; in_first = e; in_second = (let d : (y == y) ≡ true = grind (arith, nat_tests) in rw d refl) }
 common_step y xs ys false e h w = let c = w h in record { variable = c.variable; in_first = c.in_first; in_second = rw c.in_second (or_true (y == c.variable)) }
 
-common : (xs ys : List ℕ) → meet xs ys ≡ true → Common xs ys
+common : (xs ys : List ℕ) → has_common_number xs ys ≡ true → Common xs ys
 common xs [] h = absurd (cc h)
 common xs (y ∷ ys) h = common_step y xs ys (occurs y xs) refl h (common xs ys)
 
@@ -106,25 +107,26 @@ has_room : (x : ℕ) (ys : List ℕ) → occurs x ys ≡ true → all_in ys ≡ 
 has_room x [] h a = absurd (cc h)
 has_room x (y ∷ ys) h a = room_step x y ys (y == x) refl h a (has_room x ys)
 
-meet_step : (y z : ℕ) (xs zs : List ℕ) (t : Bool) → (z == y) ≡ t → occurs y xs ≡ true → (t || occurs y zs) ≡ true → (occurs y zs ≡ true → meet xs zs ≡ true)
-    → (occurs z xs || meet xs zs) ≡ true
+meet_step : (y z : ℕ) (xs zs : List ℕ) (t : Bool) → (z == y) ≡ t → occurs y xs ≡ true → (t || occurs y zs) ≡ true
+    → (occurs y zs ≡ true → has_common_number xs zs ≡ true)
+    → (occurs z xs || has_common_number xs zs) ≡ true
 meet_step y z xs zs true e p q w = let c : z ≡ y = grind (arith, nat_tests) in rw c (rw p refl)
-meet_step y z xs zs false e p q w = let m : meet xs zs ≡ true = w q in rw m (or_true (occurs z xs))
+meet_step y z xs zs false e p q w = let m : has_common_number xs zs ≡ true = w q in rw m (or_true (occurs z xs))
 
-meet_by : (y : ℕ) (xs ys : List ℕ) → occurs y xs ≡ true → occurs y ys ≡ true → meet xs ys ≡ true
+meet_by : (y : ℕ) (xs ys : List ℕ) → occurs y xs ≡ true → occurs y ys ≡ true → has_common_number xs ys ≡ true
 meet_by y xs [] p q = absurd (cc q)
 meet_by y xs (z ∷ zs) p q = meet_step y z xs zs (z == y) refl p q (meet_by y xs zs p)
 
 module _ (a b : VariableSet) (xs ys : List ℕ) (first : IsSetOf a xs) (second : IsSetOf b ys) where
-  no_common : meet xs ys ≡ false → sets_meet (has_variable a) (has_variable b) ≡ false
+  no_common : has_common_number xs ys ≡ false → sets_meet (has_variable a) (has_variable b) ≡ false
   no_common h = false_from_ne_true (sets_meet (has_variable a) (has_variable b)) (λ e.
       let c = some_met (has_variable a) (has_variable b) e in
       let two = and_parts (has_variable a c.0) (has_variable b c.0) c.1 in
       let x = and_parts (occurs c.0 xs) (nat_lt c.0 128) (sym (first c.0) ∙ two.0) in
       let y = and_parts (occurs c.0 ys) (nat_lt c.0 128) (sym (second c.0) ∙ two.1) in
-      both_ways (meet xs ys) h (meet_by c.0 xs ys x.0 y.0))
+      both_ways (has_common_number xs ys) h (meet_by c.0 xs ys x.0 y.0))
 
-  is_common : all_in ys ≡ true → meet xs ys ≡ true → sets_meet (has_variable a) (has_variable b) ≡ true
+  is_common : all_in ys ≡ true → has_common_number xs ys ≡ true → sets_meet (has_variable a) (has_variable b) ≡ true
   is_common r h =
       let c = common xs ys h in
       let room : nat_lt c.variable 128 ≡ true = has_room c.variable ys c.in_second r in
@@ -133,9 +135,9 @@ module _ (a b : VariableSet) (xs ys : List ℕ) (first : IsSetOf a xs) (second :
       let y : has_variable b c.variable ≡ true = second c.variable ∙ and_from (occurs c.variable ys) (nat_lt c.variable 128) c.in_second room in
       met_by (has_variable a) (has_variable b) c.variable low (and_from (has_variable a c.variable) (has_variable b c.variable) x y)
 
-  meets_by : (t : Bool) → meet xs ys ≡ t → all_in ys ≡ true → sets_meet (has_variable a) (has_variable b) ≡ t
+  meets_by : (t : Bool) → has_common_number xs ys ≡ t → all_in ys ≡ true → sets_meet (has_variable a) (has_variable b) ≡ t
   meets_by true h r = is_common r h
   meets_by false h r = no_common h
 
-  pub meets_is : all_in ys ≡ true → sets_meet (has_variable a) (has_variable b) ≡ meet xs ys
-  meets_is r = meets_by (meet xs ys) refl r
+  pub meets_is : all_in ys ≡ true → sets_meet (has_variable a) (has_variable b) ≡ has_common_number xs ys
+  meets_is r = meets_by (has_common_number xs ys) refl r

@@ -6,22 +6,22 @@ use Rattle.std.proofs.lemmas.Bool.Decides.{nat_tests}
 use Rattle.hls_line_filling.specs.declared.profiles.Profile.{Profile}
 use Rattle.hls_line_filling.specs.declared.effects.Edge.{Edge}
 use Rattle.hls_line_filling.specs.declared.effects.Edge.TheVariants.{Apart, Weak, Strict}
-use Rattle.hls_line_rows.specs.Filling.{Graph, Rows, is_before, is_by, is_in, lets}
+use Rattle.hls_line_rows.specs.Filling.{ItemGraph, Rows, is_before, is_by, is_in, leaves_row_open}
 use Rattle.hls_line_filling.specs.Profiles.{edge_at, strict_in, weak_in, graph_in}
 use Rattle.hls_line_filling.specs.WaitingItems.{AreWaiting, AreReleased, AreTurned, AreLow, waits_below, waits_turned, holds_back, same_edge}
 
-none_turned : (g : Graph) (rows : Rows) (r j n : ℕ) → waits_turned g rows r 0 j n ≡ waits_below g rows r j n
+none_turned : (g : ItemGraph) (rows : Rows) (r j n : ℕ) → waits_turned g rows r 0 j n ≡ waits_below g rows r j n
 none_turned g rows r j zero = refl
 none_turned g rows r j (suc n) = let e : nat_lt n 0 ≡ false = grind (arith, nat_tests) in rw e (omega (arith, none_turned g rows r j n))
 
-all_turned : (g : Graph) (rows : Rows) (r m j n : ℕ) → n ≤ m → waits_turned g rows r m j n ≡ waits_below g rows (suc r) j n
+all_turned : (g : ItemGraph) (rows : Rows) (r m j n : ℕ) → n ≤ m → waits_turned g rows r m j n ≡ waits_below g rows (suc r) j n
 all_turned g rows r m j zero h = refl
 all_turned g rows r m j (suc n) h = let e : nat_lt n m ≡ true = grind (arith, nat_tests) in rw e (omega (arith, all_turned g rows r m j n (omega (arith, h))))
 
-pub before_turn : (g : Graph) (rows : Rows) (r : ℕ) (waits : List ℕ) → AreWaiting g rows r waits → AreTurned g rows r 0 waits
+pub before_turn : (g : ItemGraph) (rows : Rows) (r : ℕ) (waits : List ℕ) → AreWaiting g rows r waits → AreTurned g rows r 0 waits
 before_turn g rows r waits w = record { counted = λ j h. w.counted j h ∙ sym (none_turned g rows r j j) }
 
-pub after_turn : (g : Graph) (rows : Rows) (r : ℕ) (waits : List ℕ) → AreTurned g rows r g.count waits → AreWaiting g rows (suc r) waits
+pub after_turn : (g : ItemGraph) (rows : Rows) (r : ℕ) (waits : List ℕ) → AreTurned g rows r g.count waits → AreWaiting g rows (suc r) waits
 after_turn g rows r waits w = record { counted = λ j h. w.counted j h ∙ all_turned g rows r g.count j j (omega (arith, h)) }
 
 apart_one : (b : Bool) → ◌≡◌ {A = ℕ} (0 + cond b 0 0) 0
@@ -77,15 +77,18 @@ module _ (table : List Profile) (rows : Rows) (r m j : ℕ) (low : (k : ℕ) →
       let b : nat_lt m (suc n) ≡ true = grind (arith, nat_tests) in
       let d : nat_lt n (suc m) ≡ true = grind (arith, nat_tests) in
       let f : nat_lt n m ≡ false = grind (arith, nat_tests) in
-      let one : ◌≡◌ {A = ℕ} (cond (lets (graph_in table) rows (suc r) n j) 0 1 + One) (cond (lets (graph_in table) rows r n j) 0 1) =
-      subst (λ z. ◌≡◌ {A = ℕ} (cond (lets (graph_in table) rows (suc r) z j) 0 1 + One) (cond (lets (graph_in table) rows r z j) 0 1)) (sym c)
+      let one : ◌≡◌ {A = ℕ} (cond (leaves_row_open (graph_in table) rows (suc r) n j) 0 1 + One) (cond (leaves_row_open (graph_in table) rows r n j) 0 1) =
+      subst (λ z. ◌≡◌ {A = ℕ} (cond (leaves_row_open (graph_in table) rows (suc r) z j) 0 1 + One) (cond (leaves_row_open (graph_in table) rows r z j) 0 1))
+      (sym c)
       (turned_one E r (rows m) low) in
-      turn_last _ _ One (lets (graph_in table) rows (suc r) n j) (lets (graph_in table) rows r n j) (nat_lt m n) (nat_lt m (suc n)) (nat_lt n (suc m))
+      turn_last _ _ One (leaves_row_open (graph_in table) rows (suc r) n j) (leaves_row_open (graph_in table) rows r n j) (nat_lt m n) (nat_lt m (suc n))
+      (nat_lt n (suc m))
       (nat_lt n m) a b d f h one
   turn_step n false e h =
       let a : nat_lt m (suc n) ≡ nat_lt m n = grind (arith, nat_tests) in
       let d : nat_lt n (suc m) ≡ nat_lt n m = grind (arith, nat_tests) in
-      turn_mid _ _ One (lets (graph_in table) rows (suc r) n j) (lets (graph_in table) rows r n j) (nat_lt m n) (nat_lt m (suc n)) (nat_lt n (suc m))
+      turn_mid _ _ One (leaves_row_open (graph_in table) rows (suc r) n j) (leaves_row_open (graph_in table) rows r n j) (nat_lt m n) (nat_lt m (suc n))
+      (nat_lt n (suc m))
       (nat_lt n m) a d h
 
   turn_waits : (n : ℕ) → waits_turned (graph_in table) rows r (suc m) j n + cond (nat_lt m n) One 0 ≡ waits_turned (graph_in table) rows r m j n

@@ -5,8 +5,8 @@ use Rattle.std.specs.List.{list_all, slice_index_or}
 use Rattle.hls_unit_counts.specs.declared.units.Unit.TheVariants.{Add, Mul, Div, Mem}
 use Rattle.hls_line_rows.specs.ItemUnits.{Units, none_used, used_by}
 use Rattle.hls_line_rows.specs.Heights.{heights}
-use Rattle.hls_line_rows.specs.Filling.{Graph}
-use Rattle.fs_rules.specs.Sound.{assigned_in}
+use Rattle.hls_line_rows.specs.Filling.{ItemGraph}
+use Rattle.fs_rules.specs.SoundParts.{assigned_in}
 use Rattle.hls_line_rows.specs.Items.{Item, reads_of_item, stored_in}
 use Rattle.hls_line_filling.specs.declared.effects.Effects.{Effects}
 use Rattle.hls_line_filling.specs.declared.effects.Edge.{Edge}
@@ -16,8 +16,8 @@ use Rattle.hls_line_filling.specs.declared.profiles.Profile.{Profile}
 use Rattle.hls_line_filling.specs.EffectSets.{edge_between, sets_of, sets_from, none_changed}
 
 -- a count, at most 2^64 - 1
-abbrev pub capped : ℕ → ℕ
-capped n = min n (2 ^ 64 - 1)
+abbrev pub capped_count : ℕ → ℕ
+capped_count n = min n (2 ^ 64 - 1)
 
 abbrev pub units_of_uses : Uses → Units
 units_of_uses u Add = u.add
@@ -52,7 +52,7 @@ abbrev pub profile_units : Option Profile → Units
 profile_units None = none_used
 profile_units (Some p) = units_of_uses p.uses
 
-abbrev pub graph_in : List Profile → Graph
+abbrev pub graph_in : List Profile → ItemGraph
 graph_in table = record {
   count = length table;
   strict = λ i j. strict_in (edge_at table i j);

@@ -2,7 +2,7 @@
 use Rattle.std.specs.Prelude.{◌≡◌, ℕ, zero, suc, ◌+◌, ◌<◌, ◌≤◌, ◌==◌, nat_lt, Bool, true, false, ◌&&◌, cond, List, length, Option}
 use Rattle.std.specs.Prelude.{Some, None}
 use Rattle.std.specs.List.{slice_index_or}
-use Rattle.hls_line_rows.specs.Filling.{Graph, Rows, lets, is_ready}
+use Rattle.hls_line_rows.specs.Filling.{ItemGraph, Rows, leaves_row_open, is_ready}
 use Rattle.hls_line_filling.specs.declared.effects.Edge.{Edge}
 use Rattle.hls_line_filling.specs.declared.effects.Edge.TheVariants.{Apart, Weak, Strict}
 use Rattle.hls_line_filling.specs.declared.profiles.Profile.{Profile}
@@ -17,7 +17,7 @@ abbrev pub none_placed : Rows
 none_placed i = None
 
 -- an item waits for no earlier one exactly where it may stand in the row
-pub record AreReady (g : Graph) (rows : Rows) (r : ℕ) (waits : List ℕ) : Type 0 where
+pub record AreReady (g : ItemGraph) (rows : Rows) (r : ℕ) (waits : List ℕ) : Type 0 where
   pub ready : (j : ℕ) → j < g.count → (slice_index_or waits j 0 == 0) ≡ is_ready g rows r j
 
 abbrev pub IsBelow : ℕ → Option ℕ → Type 0
@@ -25,12 +25,12 @@ IsBelow n None = Unit {0}
 IsBelow n (Some k) = k < n
 
 -- of the items below n, how many hold item j back from row r
-abbrev pub waits_below : Graph → Rows → ℕ → ℕ → ℕ → ℕ
+abbrev pub waits_below : ItemGraph → Rows → ℕ → ℕ → ℕ → ℕ
 waits_below g rows r j zero = 0
-waits_below g rows r j (suc n) = waits_below g rows r j n + cond (lets g rows r n j) 0 1
+waits_below g rows r j (suc n) = waits_below g rows r j n + cond (leaves_row_open g rows r n j) 0 1
 
 -- for each item, how many earlier ones hold it back
-pub record AreWaiting (g : Graph) (rows : Rows) (r : ℕ) (waits : List ℕ) : Type 0 where
+pub record AreWaiting (g : ItemGraph) (rows : Rows) (r : ℕ) (waits : List ℕ) : Type 0 where
   pub counted : (j : ℕ) → j < g.count → slice_index_or waits j 0 ≡ waits_below g rows r j j
 
 abbrev pub same_edge : Edge → Edge → Bool
@@ -54,14 +54,14 @@ pub record AreReleased (table : List Profile) (edge : Edge) (k : ℕ) (old new :
   pub waits : (j : ℕ) → j < length old → slice_index_or new j 0 + cond (holds_back table edge k j) 1 0 ≡ slice_index_or old j 0
 
 -- the same while a row turns: the items below m are looked at from the next row on
-abbrev pub waits_turned : Graph → Rows → ℕ → ℕ → ℕ → ℕ → ℕ
+abbrev pub waits_turned : ItemGraph → Rows → ℕ → ℕ → ℕ → ℕ → ℕ
 waits_turned g rows r m j zero = 0
 waits_turned g rows r m j (suc n) = waits_turned g rows r m j n
-    + cond (cond (nat_lt n m) (lets g rows (suc r) n j) (lets g rows r n j)) 0 1
+    + cond (cond (nat_lt n m) (leaves_row_open g rows (suc r) n j) (leaves_row_open g rows r n j)) 0 1
 
-pub record AreTurned (g : Graph) (rows : Rows) (r m : ℕ) (waits : List ℕ) : Type 0 where
+pub record AreTurned (g : ItemGraph) (rows : Rows) (r m : ℕ) (waits : List ℕ) : Type 0 where
   pub counted : (j : ℕ) → j < g.count → slice_index_or waits j 0 ≡ waits_turned g rows r m j j
 
 -- no item is placed in a later row
-pub record AreLow (g : Graph) (rows : Rows) (r : ℕ) : Type 0 where
+pub record AreLow (g : ItemGraph) (rows : Rows) (r : ℕ) : Type 0 where
   pub low : (j k : ℕ) → j < g.count → rows j ≡ Some k → k ≤ r

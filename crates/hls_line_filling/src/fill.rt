@@ -1,7 +1,7 @@
 //! Which item is placed next.
 
 ghost use Rattle.std.specs.Prelude.{◌≡◌, ◌<◌, ℕ, suc, cond, true, None, length, slice_get};
-ghost use Rattle.hls_line_rows.specs.Filling.{may_stand, higher, next_item, place_item, more_units, row_filled};
+ghost use Rattle.hls_line_rows.specs.Filling.{may_stand, higher_of, next_item, place_item, more_units, row_filled};
 ghost use Rattle.hls_line_rows.specs.ItemUnits.{suffice, none_used};
 ghost use Rattle.hls_line_rows.specs.ItemUnits.{units_in};
 ghost use Rattle.hls_line_filling.specs.Profiles.{units_of_uses, profile_units, graph_in};
@@ -36,7 +36,7 @@ fn may_stand(
 fn higher(table: &[Profile], j: usize, best: Option<usize>) -> usize
     requires in_range { j < length table.now }
     requires best { IsBelow (length table.now) best }
-    ensures higher { result ≡ higher (graph_in table.now).height j best }
+    ensures higher { result ≡ higher_of (graph_in table.now).height j best }
     ensures in_range { result < length table.now }
 {
     match best {

@@ -4,7 +4,7 @@ ghost use Rattle.std.specs.Prelude.{◌≡◌, ◌≤◌, length, List, IfOk};
 ghost use Rattle.hls_line_rows.specs.Items.{Item};
 ghost use Rattle.hls_line_rows.specs.ItemUnits.{units_in};
 ghost use Rattle.hls_line_rows.specs.Heights.{chain_of};
-ghost use Rattle.hls_line_rows.specs.Filling.{graph_of, filling};
+ghost use Rattle.hls_line_rows.specs.Filling.{graph_of, filling_of};
 ghost use Rattle.hls_line_filling.specs.Plans.{AreCountedOf, AreJoined, filled_in};
 
 use crate::effects::Effects;
@@ -60,7 +60,7 @@ pub fn make_plan(
     requires same { length uses.now ≡ length effects.now }
     ensures rows { IfOk result
         (λ p. (items : List Item) → AreCountedOf effects.now uses.now items
-        → filled_in p ≡ filling (graph_of items) (units_in units.now)) }
+        → filled_in p ≡ filling_of (graph_of items) (units_in units.now)) }
     ensures chain { IfOk result (λ p. (items : List Item) → AreCountedOf effects.now uses.now items → p.chain ≡ chain_of items) }
     ensures count { IfOk result (λ p. length p.rows.items ≡ length effects.now) }
 {

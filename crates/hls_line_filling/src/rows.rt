@@ -1,7 +1,7 @@
 //! All rows, one after another.
 
 ghost use Rattle.std.specs.Prelude.{◌≡◌, ◌<◌, ◌≤◌, ℕ, suc, cond, true, None, length, IfOk};
-ghost use Rattle.hls_line_rows.specs.Filling.{all_placed, filled_from, filling};
+ghost use Rattle.hls_line_rows.specs.Filling.{all_placed, filled_from, filling_of};
 ghost use Rattle.hls_line_rows.specs.ItemUnits.{units_in};
 ghost use Rattle.hls_line_filling.specs.Profiles.{graph_in};
 ghost use Rattle.hls_line_filling.specs.WaitingItems.{rows_in, none_placed, AreWaiting, AreLow};
@@ -62,7 +62,7 @@ fn fill(table: &[Profile], rows: &mut [Option<u32>], waits: &mut [u32], units: &
     requires waits { length waits.now ≡ length table.now }
     requires empty { rows_in rows.now ≡ none_placed }
     requires waiting { AreWaiting (graph_in table.now) (rows_in rows.now) 0 waits.now }
-    ensures { record { rows = rows_in rows.new; count = result } ≡ filling (graph_in table.now) (units_in units.now) }
+    ensures { record { rows = rows_in rows.new; count = result } ≡ filling_of (graph_in table.now) (units_in units.now) }
 {
     for r in 0..table.len() {
         if !fill_next(table, rows, waits, units, r as u32) {
@@ -85,7 +85,7 @@ pub struct Filling {
 pub fn make_filling(alloc: Global, table: &[Profile], units: &Units) -> Result<Filling, NoMemory>
     requires few { length table.now ≤ 4096 }
     ensures filling { IfOk result
-        (λ f. record { rows = rows_in f.rows.items; count = f.count } ≡ filling (graph_in table.now) (units_in units.now)) }
+        (λ f. record { rows = rows_in f.rows.items; count = f.count } ≡ filling_of (graph_in table.now) (units_in units.now)) }
     ensures count { IfOk result (λ f. length f.rows.items ≡ length table.now) }
 {
     let mut waits = first_waits(alloc, table)?;

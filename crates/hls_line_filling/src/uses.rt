@@ -4,7 +4,7 @@ ghost use Rattle.std.specs.Prelude.{◌≡◌, ◌+◌, ◌-◌, map};
 ghost use Rattle.fs_model.specs.View.{term_of, assignment_of};
 ghost use Rattle.hls_line_rows.specs.ItemUnits.{one_of, used_by_term, used_by_assignment, used_by, units_in, suffice};
 ghost use Rattle.hls_unit_counts.specs.declared.units.Unit.{Unit as Kind};
-ghost use Rattle.hls_line_filling.specs.Profiles.{units_of_uses, capped};
+ghost use Rattle.hls_line_filling.specs.Profiles.{units_of_uses, capped_count};
 
 use fs_model::parts::{Assign, Expr, VarId};
 use hls_unit_counts::{Unit, Units};
@@ -27,14 +27,14 @@ fn one_of(used: Unit, kind: Unit) -> u64
 
 // Two counts together, at most `u64::MAX`.
 fn both(left: u64, right: u64) -> u64
-    ensures { result ≡ capped (left + right) }
+    ensures { result ≡ capped_count (left + right) }
 {
     left.saturating_add(right)
 }
 
 // How many units of a kind an expression uses.
 fn used_by_term(expr: &Expr<VarId>, kind: Unit) -> u64
-    ensures { result ≡ capped (used_by_term (term_of expr.now) kind) }
+    ensures { result ≡ capped_count (used_by_term (term_of expr.now) kind) }
 {
     match expr {
         Expr::Num(_) | Expr::Var(_) => 0,
@@ -63,7 +63,7 @@ fn used_by_term(expr: &Expr<VarId>, kind: Unit) -> u64
 
 // How many units of a kind an assignment uses.
 fn used_by_assignment(assign: &Assign<VarId>, kind: Unit) -> u64
-    ensures { result ≡ capped (used_by_assignment (assignment_of assign.now) kind) }
+    ensures { result ≡ capped_count (used_by_assignment (assignment_of assign.now) kind) }
 {
     match assign {
         Assign::Set(_, value) | Assign::Emit(_, value) => used_by_term(value, kind),
@@ -78,7 +78,7 @@ fn used_by_assignment(assign: &Assign<VarId>, kind: Unit) -> u64
 
 /// How many units of a kind assignments use, at most `u64::MAX`.
 pub fn used_by(assigns: &[Assign<VarId>], kind: Unit) -> u64
-    ensures { result ≡ capped (used_by (map assignment_of assigns.now) kind) }
+    ensures { result ≡ capped_count (used_by (map assignment_of assigns.now) kind) }
 {
     let mut used = 0u64;
     for assign in assigns {
@@ -89,7 +89,7 @@ pub fn used_by(assigns: &[Assign<VarId>], kind: Unit) -> u64
 
 /// How many units of each kind assignments use, each at most `u64::MAX`.
 pub fn uses_of(assigns: &[Assign<VarId>]) -> Uses
-    ensures { (kind : Kind) → units_of_uses result kind ≡ capped (used_by (map assignment_of assigns.now) kind) }
+    ensures { (kind : Kind) → units_of_uses result kind ≡ capped_count (used_by (map assignment_of assigns.now) kind) }
 {
     let add = used_by(assigns, Unit::Add);
     let mul = used_by(assigns, Unit::Mul);

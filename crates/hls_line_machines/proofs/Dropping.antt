@@ -12,12 +12,12 @@ use Rattle.fs_model.specs.Machines.{Fsmd, transitions_of}
 use Rattle.fs_model.specs.Runs.{SameBehaviour}
 use Rattle.fs_model.specs.Trees.{Tree, Empty, Leaf, Node, Branch, tree_of_guard, tree_of_condition, tree_of_transitions, leaves, negated_literal}
 use Rattle.fs_model.proofs.Behaviour.{transitive}
-use Rattle.fs_rules.specs.Sound.{IsSound, ends_open, occurs}
+use Rattle.fs_rules.specs.SoundParts.{IsSound, ends_open, occurs}
 use Rattle.hls_line_rows.specs.Items.{Item}
 use Rattle.hls_line_machines.specs.StraightLines.{all_states, is_straight, straight_line_at, exit_of, is_inner, is_first_of_line, firsts}
-use Rattle.hls_line_machines.specs.Replaced.{Move, after_row, moves, all_moves, move_transition, replaced, KeepsStores}
-use Rattle.hls_line_machines.specs.Selected.{IsClosedUnderTargets}
-use Rattle.hls_line_machines.specs.Scheduled.{is_kept, kept_states, scheduled}
+use Rattle.hls_line_machines.specs.RowMachines.{Move, after_row, moves, all_moves, move_transition, machine_with_rows, KeepsStores}
+use Rattle.hls_line_machines.specs.MachineSelections.{IsClosedUnderTargets}
+use Rattle.hls_line_machines.specs.ScheduledMachines.{is_kept, kept_states, scheduled_machine}
 use Rattle.hls_line_machines.proofs.Among.{Among, passes_test, was_among, stays_among, joined_from, in_joined, in_range, range_within, some_of, any_of}
 use Rattle.hls_line_machines.proofs.Among.{occurs_among}
 use Rattle.hls_line_machines.proofs.Trails.{has_source, Station, enters_from, leaves_line}
@@ -176,7 +176,7 @@ module _ (m : Fsmd) (sound : IsSound m) (rows : ℕ → List Item) (keeps : Keep
       let i : q < 0 + length m.states = range_within 0 (length m.states) q (was_among (is_kept m rows) q (all_states m) a) in
       record { within = omega (arith, i); kind = kind_by q (is_straight m q) refl (passes_test (is_kept m rows) q (all_states m) a) }
 
-  pub stays : (q : ℕ) → q < length m.states → is_straight m q ≡ false → transitions_of (replaced m rows) q ≡ transitions_of m q
+  pub stays : (q : ℕ) → q < length m.states → is_straight m q ≡ false → transitions_of (machine_with_rows m rows) q ≡ transitions_of m q
   stays q h e =
       lines_replaced m sound rows keeps q h
       ∙ not_found (all_moves m rows) q (transitions_of m q)
@@ -199,7 +199,7 @@ module _ (m : Fsmd) (sound : IsSound m) (rows : ℕ → List Item) (keeps : Keep
             subst (λ z. occurs z Keep ≡ true) y.2 (kept y.0.state (move_in m sound rows keeps y.0 g) (kept_by y.0 y.0.state g refl)))
       ]
 
-  leads_by : (q : ℕ) (l : Transition ℕ ℕ) (k : ℕ) → q < length m.states → Kind q → slice_get (transitions_of (replaced m rows) q) k ≡ Some l
+  leads_by : (q : ℕ) (l : Transition ℕ ℕ) (k : ℕ) → q < length m.states → Kind q → slice_get (transitions_of (machine_with_rows m rows) q) k ≡ Some l
       → occurs l.target Keep ≡ true
   leads_by q l k h (inl e) f =
       let g : slice_get (transitions_of m q) k ≡ Some l = subst (λ z. slice_get z k ≡ Some l) (stays q h e) f in
@@ -210,25 +210,27 @@ module _ (m : Fsmd) (sound : IsSound m) (rows : ℕ → List Item) (keeps : Keep
             (in_leaves l.target (tree_of_transitions (transitions_of m q)) [] (some_line (transitions_of m q) k l (sound.open_last q h) g))),
       )
   leads_by q l k h (inr x) f =
-      let d : Does (replaced m rows) x.0 = does m sound rows keeps x.0 x.1 in
+      let d : Does (machine_with_rows m rows) x.0 = does m sound rows keeps x.0 x.1 in
       subst (λ z. occurs z Keep ≡ true)
-      (sym (only_at x.0 (transitions_of (replaced m rows) q) k l (subst (λ z. transitions_of (replaced m rows) z ≡ move_transition x.0 ∷ []) x.2 d.0) f))
+      (sym
+      (only_at x.0 (transitions_of (machine_with_rows m rows) q) k l
+      (subst (λ z. transitions_of (machine_with_rows m rows) z ≡ move_transition x.0 ∷ []) x.2 d.0) f))
       (after_move x.0 x.1)
 
-  open_by : (q : ℕ) → q < length m.states → Kind q → ends_open (transitions_of (replaced m rows) q) ≡ true
+  open_by : (q : ℕ) → q < length m.states → Kind q → ends_open (transitions_of (machine_with_rows m rows) q) ≡ true
   open_by q h (inl e) = subst (λ z. ends_open z ≡ true) (sym (stays q h e)) (sound.open_last q h)
   open_by q h (inr x) =
-      let d : Does (replaced m rows) x.0 = does m sound rows keeps x.0 x.1 in
-      subst (λ z. ends_open z ≡ true) (sym (subst (λ z. transitions_of (replaced m rows) z ≡ move_transition x.0 ∷ []) x.2 d.0)) refl
+      let d : Does (machine_with_rows m rows) x.0 = does m sound rows keeps x.0 x.1 in
+      subst (λ z. ends_open z ≡ true) (sym (subst (λ z. transitions_of (machine_with_rows m rows) z ≡ move_transition x.0 ∷ []) x.2 d.0)) refl
 
-  pub closed : IsClosedUnderTargets (replaced m rows) Keep
+  pub closed : IsClosedUnderTargets (machine_with_rows m rows) Keep
   closed = record {
     reset = station_kept m.reset (at_reset m sound rows keeps);
     leads = λ q l k h e. (let w = of_kept q h in leads_by q l k w.within w.kind e);
     goes_on = λ q h. (let w = of_kept q h in open_by q w.within w.kind);
   }
 
-pub scheduled_behaves : (m : Fsmd) (rows : ℕ → List Item) → IsSound m → KeepsStores m rows → SameBehaviour m (scheduled m rows)
+pub scheduled_behaves : (m : Fsmd) (rows : ℕ → List Item) → IsSound m → KeepsStores m rows → SameBehaviour m (scheduled_machine m rows)
 scheduled_behaves m rows sound keeps =
-    transitive m (replaced m rows) (scheduled m rows) (replaced_behaves m sound rows keeps)
-    (selected_behaves (replaced m rows) (kept_states m rows) (closed m sound rows keeps))
+    transitive m (machine_with_rows m rows) (scheduled_machine m rows) (replaced_behaves m sound rows keeps)
+    (selected_behaves (machine_with_rows m rows) (kept_states m rows) (closed m sound rows keeps))

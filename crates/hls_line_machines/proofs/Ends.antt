@@ -10,15 +10,15 @@ use Rattle.base_lemmas.proofs.Booleans.{or_other}
 use Rattle.fs_model.specs.Terms.{Guard, Test, Not, And, Or, Transition}
 use Rattle.fs_model.specs.Machines.{State, Fsmd, transitions_of}
 use Rattle.fs_model.specs.Trees.{Tree, Leaf, tree_of_guard, tree_of_condition, tree_of_transitions, branches_of, count_leaves}
-use Rattle.fs_rules.specs.Sound.{IsSound, occurs, ends_open, is_cutpoint, branch_count, reaches_cutpoint, first_transition_target}
+use Rattle.fs_rules.specs.SoundParts.{IsSound, occurs, ends_open, is_cutpoint, branch_count, reaches_cutpoint, first_transition_target}
 use Rattle.fs_rules.specs.Rules.{after_steps, IsEndless}
 use Rattle.fs_cut.proofs.Branches.{first_target}
 use Rattle.hls_line_rows.specs.Items.{Item}
 use Rattle.hls_line_machines.specs.StraightLines.{all_states, is_straight, follows, next_state, exit_from, straight_line_at, exit_of, is_inner}
 use Rattle.hls_line_machines.specs.StraightLines.{is_first_of_line, firsts}
-use Rattle.hls_line_machines.specs.Replaced.{Move, after_row, moves, state_at, replaced, KeepsStores}
-use Rattle.hls_line_machines.specs.Selected.{selected_place, renumbered, IsClosedUnderTargets}
-use Rattle.hls_line_machines.specs.Scheduled.{kept_states, scheduled}
+use Rattle.hls_line_machines.specs.RowMachines.{Move, after_row, moves, state_at, machine_with_rows, KeepsStores}
+use Rattle.hls_line_machines.specs.MachineSelections.{selected_place, transition_renumbered, IsClosedUnderTargets}
+use Rattle.hls_line_machines.specs.ScheduledMachines.{kept_states, scheduled_machine}
 use Rattle.hls_line_machines.proofs.Among.{Among, occurs_among, joined_from, passes_test, was_among, range_within}
 use Rattle.hls_line_machines.proofs.Trails.{member, next_in, follows_on, Station, leaves_line}
 use Rattle.hls_line_machines.proofs.Replacing.{Does, does, straight_first, begins, both_of}
@@ -71,16 +71,17 @@ same_guard None y n y' n' e f = e
 same_guard (Some g) y n y' n' e f = same_formula g y n y' n' e f
 
 same_count : (keep : List ℕ) (ls : List (Transition ℕ ℕ))
-    → count_leaves (tree_of_transitions (map (renumbered keep) ls)) ≡ count_leaves (tree_of_transitions ls)
+    → count_leaves (tree_of_transitions (map (transition_renumbered keep) ls)) ≡ count_leaves (tree_of_transitions ls)
 same_count keep [] = refl
-same_count keep (l ∷ ls) = same_guard l.guard (Leaf l.assignments (selected_place keep l.target)) (tree_of_transitions (map (renumbered keep) ls))
+same_count keep (l ∷ ls) = same_guard l.guard (Leaf l.assignments (selected_place keep l.target)) (tree_of_transitions (map (transition_renumbered keep) ls))
     (Leaf l.assignments l.target) (tree_of_transitions ls) refl (same_count keep ls)
 
-pub same_branches : (keep : List ℕ) (ls : List (Transition ℕ ℕ)) → length (branches_of (map (renumbered keep) ls)) ≡ length (branches_of ls)
-same_branches keep ls = length_leaves (tree_of_transitions (map (renumbered keep) ls)) [] ∙ same_count keep ls ∙ sym (length_leaves (tree_of_transitions ls) [])
+pub same_branches : (keep : List ℕ) (ls : List (Transition ℕ ℕ)) → length (branches_of (map (transition_renumbered keep) ls)) ≡ length (branches_of ls)
+same_branches keep ls = length_leaves (tree_of_transitions (map (transition_renumbered keep) ls)) [] ∙ same_count keep ls
+    ∙ sym (length_leaves (tree_of_transitions ls) [])
 
 target_renumbered : (keep : List ℕ) (ls : List (Transition ℕ ℕ)) → ends_open ls ≡ true
-    → first_transition_target (map (renumbered keep) ls) ≡ selected_place keep (first_transition_target ls)
+    → first_transition_target (map (transition_renumbered keep) ls) ≡ selected_place keep (first_transition_target ls)
 target_renumbered keep [] e = absurd (cc e)
 target_renumbered keep (l ∷ ls) e = refl
 
@@ -107,13 +108,13 @@ module _ (m : Fsmd) (sound : IsSound m) (rows : ℕ → List Item) (keeps : Keep
   Keep = kept_states m rows
 
   abbrev Old : Fsmd
-  Old = replaced m rows
+  Old = machine_with_rows m rows
 
-  is_closed : IsClosedUnderTargets (replaced m rows) (kept_states m rows)
+  is_closed : IsClosedUnderTargets (machine_with_rows m rows) (kept_states m rows)
   is_closed = closed m sound rows keeps
 
   -- the steps of the renumbered machine are those of the other
-  step_kept : (n q : ℕ) → occurs q Keep ≡ true → (after_steps (scheduled m rows) n (selected_place Keep q) ≡ selected_place Keep (after_steps Old n q))
+  step_kept : (n q : ℕ) → occurs q Keep ≡ true → (after_steps (scheduled_machine m rows) n (selected_place Keep q) ≡ selected_place Keep (after_steps Old n q))
       × (occurs (after_steps Old n q) Keep ≡ true)
   step_kept zero q h = (refl, h)
   step_kept (suc n) q h =
@@ -121,21 +122,22 @@ module _ (m : Fsmd) (sound : IsSound m) (rows : ℕ → List Item) (keeps : Keep
       let f = first_among (transitions_of Old q) o in
       let k : occurs (first_transition_target (transitions_of Old q)) Keep ≡ true =
       subst (λ z. occurs z Keep ≡ true) (sym f.2) (is_closed.leads q f.0 0 h f.1) in
-      let t : first_transition_target (transitions_of (scheduled m rows) (selected_place Keep q))
+      let t : first_transition_target (transitions_of (scheduled_machine m rows) (selected_place Keep q))
       ≡ selected_place Keep (first_transition_target (transitions_of Old q)) = ap first_transition_target (lines_kept Old Keep is_closed q h)
       ∙ target_renumbered Keep (transitions_of Old q) o in
       let rest = step_kept n (first_transition_target (transitions_of Old q)) k in
-      (ap (after_steps (scheduled m rows) n) t ∙ rest.0, rest.1)
+      (ap (after_steps (scheduled_machine m rows) n) t ∙ rest.0, rest.1)
 
   -- a state that is in no line is a cutpoint
-  pub cut_kept : (q : ℕ) → q < length m.states → occurs q Keep ≡ true → is_straight m q ≡ false → is_cutpoint (scheduled m rows) (selected_place Keep q) ≡ true
+  pub cut_kept : (q : ℕ) → q < length m.states → occurs q Keep ≡ true → is_straight m q ≡ false
+      → is_cutpoint (scheduled_machine m rows) (selected_place Keep q) ≡ true
   cut_kept q h k e =
       let c : is_cutpoint m q ≡ true = not-false (is_cutpoint m q) e in
-      let b : branch_count (scheduled m rows) (selected_place Keep q) ≡ branch_count m q =
-      ap (λ ls. length (branches_of ls)) (lines_kept Old Keep is_closed q k ∙ ap (map (renumbered Keep)) (stays m sound rows keeps q h e))
+      let b : branch_count (scheduled_machine m rows) (selected_place Keep q) ≡ branch_count m q =
+      ap (λ ls. length (branches_of ls)) (lines_kept Old Keep is_closed q k ∙ ap (map (transition_renumbered Keep)) (stays m sound rows keeps q h e))
       ∙ same_branches Keep (transitions_of m q) in
       cut_by m q (selected_place Keep q) (selected_place Keep m.reset) (branch_count m q)
-      (branch_count (scheduled m rows) (selected_place Keep q)) b (λ d. ap (selected_place Keep) d) c
+      (branch_count (scheduled_machine m rows) (selected_place Keep q)) b (λ d. ap (selected_place Keep) d) c
 
   nearer : (N q : ℕ) → q < length m.states → is_straight m q ≡ true → reaches_cutpoint m (suc N) q ≡ true → reaches_cutpoint m N (next_state m q) ≡ true
   nearer N q h e r =
@@ -229,27 +231,30 @@ module _ (m : Fsmd) (sound : IsSound m) (rows : ℕ → List Item) (keeps : Keep
   kept_cut q o = let w = of_kept m sound rows keeps q o in kept_cut_by q w.within o w.kind
 
   -- ---- in the renumbered machine
-  pub lines_here : (p : ℕ) → p < length Keep → transitions_of (scheduled m rows) p ≡ map (renumbered Keep) (transitions_of Old (slice_index_or Keep p 0))
+  pub lines_here : (p : ℕ) → p < length Keep → transitions_of (scheduled_machine m rows) p
+      ≡ map (transition_renumbered Keep) (transitions_of Old (slice_index_or Keep p 0))
   lines_here p h = ap (λ (x : State). x.lines)
-      (at_index (λ q. record { name = (state_at Old q).name; lines = map (renumbered Keep) (transitions_of Old q) }) Keep p
+      (at_index (λ q. record { name = (state_at Old q).name; lines = map (transition_renumbered Keep) (transitions_of Old q) }) Keep p
       (record { name = []; lines = [] }) h)
 
   pub here_kept : (p : ℕ) → p < length Keep → occurs (slice_index_or Keep p 0) Keep ≡ true
   here_kept p h = occurs_among (slice_index_or Keep p 0) Keep (member Keep p 0 h)
 
-  pub nowhere_endless : (p : ℕ) → p < length Keep → IsEndless (scheduled m rows) p → ⊥
+  pub nowhere_endless : (p : ℕ) → p < length Keep → IsEndless (scheduled_machine m rows) p → ⊥
   nowhere_endless p h e =
       let q : ℕ = slice_index_or Keep p 0 in
       let o : ends_open (transitions_of Old q) ≡ true = is_closed.goes_on q (here_kept p h) in
       let f = first_among (transitions_of Old q) o in
       let t : ℕ = first_transition_target (transitions_of Old q) in
       let k : occurs t Keep ≡ true = subst (λ z. occurs z Keep ≡ true) (sym f.2) (is_closed.leads q f.0 0 (here_kept p h) f.1) in
-      let g : first_transition_target (transitions_of (scheduled m rows) p) ≡ selected_place Keep t = ap first_transition_target (lines_here p h)
+      let g : first_transition_target (transitions_of (scheduled_machine m rows) p) ≡ selected_place Keep t = ap first_transition_target (lines_here p h)
       ∙ target_renumbered Keep (transitions_of Old q) o in
       let c = kept_cut t k in
-      let there : after_steps (scheduled m rows) (suc c.comes.steps) p ≡ selected_place Keep c.state = ap (after_steps (scheduled m rows) c.comes.steps) g
+      let there : after_steps (scheduled_machine m rows) (suc c.comes.steps) p ≡ selected_place Keep c.state =
+      ap (after_steps (scheduled_machine m rows) c.comes.steps) g
       ∙ (step_kept c.comes.steps t k).0 ∙ ap (selected_place Keep) c.comes.there in
-      let yes_cut : is_cutpoint (scheduled m rows) (after_steps (scheduled m rows) (suc c.comes.steps) p) ≡ true =
-      subst (λ z. is_cutpoint (scheduled m rows) z ≡ true) (sym there) (cut_kept c.state c.within c.kept c.cut) in
-      let no_cut : is_cutpoint (scheduled m rows) (after_steps (scheduled m rows) (suc c.comes.steps) p) ≡ false = e.uncut (suc c.comes.steps) in
+      let yes_cut : is_cutpoint (scheduled_machine m rows) (after_steps (scheduled_machine m rows) (suc c.comes.steps) p) ≡ true =
+      subst (λ z. is_cutpoint (scheduled_machine m rows) z ≡ true) (sym there) (cut_kept c.state c.within c.kept c.cut) in
+      let no_cut : is_cutpoint (scheduled_machine m rows) (after_steps (scheduled_machine m rows) (suc c.comes.steps) p) ≡ false =
+      e.uncut (suc c.comes.steps) in
       cc (sym no_cut ∙ yes_cut)

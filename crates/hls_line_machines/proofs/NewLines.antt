@@ -14,15 +14,15 @@ use Rattle.base_lemmas.proofs.Lists.{one_element, length_map}
 use Rattle.fs_model.specs.Terms.{Literal, Guard, Test, Not, And, Or, Transition}
 use Rattle.fs_model.specs.Machines.{State, Fsmd, transitions_of}
 use Rattle.fs_model.specs.Trees.{Tree, Empty, Leaf, Node, Branch, tree_of_guard, tree_of_condition, tree_of_transitions, leaves, branches_of, negated_literal}
-use Rattle.fs_rules.specs.Sound.{IsSound, occurs, is_cutpoint, branch_count, reaches_cutpoint, first_transition_target}
+use Rattle.fs_rules.specs.SoundParts.{IsSound, occurs, is_cutpoint, branch_count, reaches_cutpoint, first_transition_target}
 use Rattle.fs_cut.specs.Paths.{target_of}
 use Rattle.fs_cut.proofs.Branches.{target_in, some_branch, first_target, few}
 use Rattle.hls_line_rows.specs.Items.{Item}
 use Rattle.hls_line_machines.specs.StraightLines.{all_states, sources, is_only, is_straight, follows, next_state, line_from, exit_from, straight_line_at}
 use Rattle.hls_line_machines.specs.StraightLines.{exit_of, is_inner, is_first_of_line}
-use Rattle.hls_line_machines.specs.Replaced.{Move, after_row, moves, all_moves, move_transition, lines_by, replaced, state_at, KeepsStores}
-use Rattle.hls_line_machines.specs.Selected.{selected_place, renumbered, IsClosedUnderTargets}
-use Rattle.hls_line_machines.specs.Scheduled.{is_kept, kept_states, scheduled}
+use Rattle.hls_line_machines.specs.RowMachines.{Move, after_row, moves, all_moves, move_transition, transitions_by, machine_with_rows, state_at, KeepsStores}
+use Rattle.hls_line_machines.specs.MachineSelections.{selected_place, transition_renumbered, IsClosedUnderTargets}
+use Rattle.hls_line_machines.specs.ScheduledMachines.{is_kept, kept_states, scheduled_machine}
 use Rattle.hls_line_machines.proofs.Among.{Among, passes_test, was_among, joined_from, in_range, range_within, some_of, any_of}
 use Rattle.hls_line_machines.proofs.Trails.{member, is_source, has_source, is_the_only, follows_only, follows_straight, follows_on, comes_before, Trail, inner}
 use Rattle.hls_line_machines.proofs.Trails.{apart, next_in, enters_from, leaves_line}
@@ -138,7 +138,8 @@ condition_renumbered : (keep : List ℕ) (g : Option (Guard ℕ)) (y n : Tree)
 condition_renumbered keep None y n = refl
 condition_renumbered keep (Some g) y n = guard_renumbered keep g y n
 
-tree_renumbered : (keep : List ℕ) (ls : List (Transition ℕ ℕ)) → tree_of_transitions (map (renumbered keep) ls) ≡ renumbered_tree keep (tree_of_transitions ls)
+tree_renumbered : (keep : List ℕ) (ls : List (Transition ℕ ℕ))
+    → tree_of_transitions (map (transition_renumbered keep) ls) ≡ renumbered_tree keep (tree_of_transitions ls)
 tree_renumbered keep [] = refl
 tree_renumbered keep (l ∷ ls) =
     ap (λ z. tree_of_condition l.guard (Leaf l.assignments (selected_place keep l.target)) z) (tree_renumbered keep ls)
@@ -151,7 +152,8 @@ leaves_renumbered keep (Node l y n) way =
     ap₂ (λ (xs ys : List Branch). xs ++ ys) (leaves_renumbered keep y (way ++ l ∷ [])) (leaves_renumbered keep n (way ++ negated_literal l ∷ []))
     ∙ sym (map-append (renumbered_branch keep) (leaves y (way ++ l ∷ [])) (leaves n (way ++ negated_literal l ∷ [])))
 
-branches_renumbered : (keep : List ℕ) (ls : List (Transition ℕ ℕ)) → branches_of (map (renumbered keep) ls) ≡ map (renumbered_branch keep) (branches_of ls)
+branches_renumbered : (keep : List ℕ) (ls : List (Transition ℕ ℕ))
+    → branches_of (map (transition_renumbered keep) ls) ≡ map (renumbered_branch keep) (branches_of ls)
 branches_renumbered keep ls = ap (λ t. leaves t []) (tree_renumbered keep ls) ∙ leaves_renumbered keep (tree_of_transitions ls) []
 
 -- ---- which branches lead to a state
@@ -328,24 +330,29 @@ module _ (m : Fsmd) (sound : IsSound m) (rows : ℕ → List Item) (keeps : Keep
   Keep = kept_states m rows
 
   abbrev New : Fsmd
-  New = scheduled m rows
+  New = scheduled_machine m rows
 
   abbrev to : ℕ → ℕ
   to q = selected_place (kept_states m rows) q
 
-  is_closed : IsClosedUnderTargets (replaced m rows) (kept_states m rows)
+  is_closed : IsClosedUnderTargets (machine_with_rows m rows) (kept_states m rows)
   is_closed = closed m sound rows keeps
 
-  states_count : length (scheduled m rows).states ≡ length (kept_states m rows)
+  states_count : length (scheduled_machine m rows).states ≡ length (kept_states m rows)
   states_count =
-      length_map (λ q. record { name = (state_at (replaced m rows) q).name; lines = map (renumbered Keep) (transitions_of (replaced m rows) q) }) Keep
+      length_map
+      (λ q. record {
+        name = (state_at (machine_with_rows m rows) q).name;
+        lines = map (transition_renumbered Keep) (transitions_of (machine_with_rows m rows) q);
+      }) Keep
 
   -- of a row
   has_place : (x : Move) → Among x (all_moves m rows) → occurs x.state Keep ≡ true
   has_place x h = kept m sound rows keeps x.state (move_in m sound rows keeps x h) (kept_by m sound rows keeps x x.state h refl)
 
-  lines_moved : (x : Move) → Among x (all_moves m rows) → transitions_of New (to x.state) ≡ renumbered Keep (move_transition x) ∷ []
-  lines_moved x h = lines_kept (replaced m rows) Keep is_closed x.state (has_place x h) ∙ ap (map (renumbered Keep)) (does m sound rows keeps x h).0
+  lines_moved : (x : Move) → Among x (all_moves m rows) → transitions_of New (to x.state) ≡ transition_renumbered Keep (move_transition x) ∷ []
+  lines_moved x h = lines_kept (machine_with_rows m rows) Keep is_closed x.state (has_place x h)
+      ∙ ap (map (transition_renumbered Keep)) (does m sound rows keeps x h).0
 
   abbrev branch_of_move : Move → Branch
   branch_of_move x = record { literals = []; assignments = x.assignments; target = to x.target }
@@ -370,9 +377,11 @@ module _ (m : Fsmd) (sound : IsSound m) (rows : ℕ → List Item) (keeps : Keep
   in_new q k = omega (arith, place_in Keep q k, states_count)
 
   -- of a state that is in no line
-  branches_kept : (q p : ℕ) → q < length m.states → is_straight m q ≡ false → transitions_of New p ≡ map (renumbered Keep) (transitions_of (replaced m rows) q)
+  branches_kept : (q p : ℕ) → q < length m.states → is_straight m q ≡ false
+      → transitions_of New p ≡ map (transition_renumbered Keep) (transitions_of (machine_with_rows m rows) q)
       → branches_of (transitions_of New p) ≡ map (renumbered_branch Keep) (branches_of (transitions_of m q))
-  branches_kept q p h s e = ap branches_of (e ∙ ap (map (renumbered Keep)) (stays m sound rows keeps q h s)) ∙ branches_renumbered Keep (transitions_of m q)
+  branches_kept q p h s e = ap branches_of (e ∙ ap (map (transition_renumbered Keep)) (stays m sound rows keeps q h s))
+      ∙ branches_renumbered Keep (transitions_of m q)
 
   -- where a branch leads to a state
   record LedFrom (p t : ℕ) : Type 0 where
@@ -521,8 +530,8 @@ module _ (m : Fsmd) (sound : IsSound m) (rows : ℕ → List Item) (keeps : Keep
         → leads (branches_of (transitions_of m p)) out ≡ true → ⊥
     other_source l p a b c d s k =
         let kept_p : occurs p Keep ≡ true = kept m sound rows keeps p d (not_straight s) in
-        let same : transitions_of New (to p) ≡ map (renumbered Keep) (transitions_of (replaced m rows) p) =
-        lines_kept (replaced m rows) Keep is_closed p kept_p in
+        let same : transitions_of New (to p) ≡ map (transition_renumbered Keep) (transitions_of (machine_with_rows m rows) p) =
+        lines_kept (machine_with_rows m rows) Keep is_closed p kept_p in
         let up : leads (branches_of (transitions_of New (to p))) (to out) ≡ true =
         ap (λ bs. leads bs (to out)) (branches_kept p (to p) d s same) ∙ leads_up Keep (branches_of (transitions_of m p)) out k in
         let q : p ≡ x.state = from_row p kept_p (has_source New (to p) (to out) (in_new p kept_p) up) in
@@ -621,10 +630,14 @@ module _ (m : Fsmd) (sound : IsSound m) (rows : ℕ → List Item) (keeps : Keep
   name_kept q i f =
       let o : occurs q Keep ≡ true = station_kept m sound rows keeps q (i, outer_first m sound rows keeps q f) in
       ap (λ (x : State). x.name)
-      (at_place (λ k. record { name = (state_at (replaced m rows) k).name; lines = map (renumbered Keep) (transitions_of (replaced m rows) k) }) Keep q
+      (at_place
+      (λ k. record {
+        name = (state_at (machine_with_rows m rows) k).name;
+        lines = map (transition_renumbered Keep) (transitions_of (machine_with_rows m rows) k);
+      }) Keep q
       (record { name = []; lines = [] }) o)
       ∙ ap (λ (x : State). x.name)
-      (get_or-map-range_with_len (λ k. record { name = (state_at m k).name; lines = lines_by (all_moves m rows) k (transitions_of m k) }) 0
+      (get_or-map-range_with_len (λ k. record { name = (state_at m k).name; lines = transitions_by (all_moves m rows) k (transitions_of m k) }) 0
       (length m.states) q q (record { name = []; lines = [] }) i (omega arith))
 
   -- there are no more rows than states that are kept

@@ -11,14 +11,14 @@ use Rattle.fs_model.specs.Machines.{State, Fsmd, transitions_of}
 use Rattle.fs_model.specs.Stores.{Store}
 use Rattle.fs_model.specs.Meaning.{transition_taken, act_all}
 use Rattle.fs_model.specs.Runs.{Step, SameBehaviour}
-use Rattle.fs_rules.specs.Sound.{IsSound, branch_count, is_cutpoint}
+use Rattle.fs_rules.specs.SoundParts.{IsSound, branch_count, is_cutpoint}
 use Rattle.fs_cut.specs.Paths.{target_of, store_after}
 use Rattle.fs_cut.specs.Cuts.{branch_taken}
 use Rattle.fs_cut.proofs.Branches.{target_in, takes_branch, only_branch, step_taken, step_at}
-use Rattle.hls_line_rows.specs.Items.{Item, done}
+use Rattle.hls_line_rows.specs.Items.{Item, store_after_items}
 use Rattle.hls_line_machines.specs.StraightLines.{all_states, is_straight, follows, next_state, line_from, exit_from, straight_line_at, exit_of, is_inner}
 use Rattle.hls_line_machines.specs.StraightLines.{is_first_of_line, firsts, item_of, items_at}
-use Rattle.hls_line_machines.specs.Replaced.{Move, after_row, moves, all_moves, move_transition, lines_by, state_at, replaced, KeepsStores}
+use Rattle.hls_line_machines.specs.RowMachines.{Move, after_row, moves, all_moves, move_transition, transitions_by, state_at, machine_with_rows, KeepsStores}
 use Rattle.hls_line_machines.proofs.Among.{Among, passes_test, was_among, stays_among, joined_from, in_joined, in_range, range_within, some_of}
 use Rattle.hls_line_machines.proofs.Trails.{Trail, apart, walk, line_in, trail_straight, next_in, Station, enters, leaves_line, follows_straight, follows_on}
 use Rattle.hls_line_machines.proofs.Paces.{Passes, Pace, same_by_paces}
@@ -28,14 +28,14 @@ both_of b c e f = grind arith
 
 -- ---- the transitions of a state by moves
 found_step : (y x : Move) (ys : List Move) (others : List (Transition ℕ ℕ)) (t : Bool) → (y.state == x.state) ≡ t → (y.state ≡ x.state → y ≡ x)
-    → (x ≡ y) ⊎ Among x ys → (Among x ys → lines_by ys x.state others ≡ move_transition x ∷ [])
-    → cond t (move_transition y ∷ []) (lines_by ys x.state others) ≡ move_transition x ∷ []
+    → (x ≡ y) ⊎ Among x ys → (Among x ys → transitions_by ys x.state others ≡ move_transition x ∷ [])
+    → cond t (move_transition y ∷ []) (transitions_by ys x.state others) ≡ move_transition x ∷ []
 found_step y x ys others true e u w next_one = ap (λ z. move_transition z ∷ []) (u (grind (arith, nat_tests)))
 found_step y x ys others false e u (inl f) next_one = absurd (let g : x.state ≡ y.state = ap (λ z. z.state) f in grind (arith, nat_tests))
 found_step y x ys others false e u (inr w) next_one = next_one w
 
 found : (xs : List Move) (x : Move) (others : List (Transition ℕ ℕ)) → Among x xs → ((y : Move) → Among y xs → y.state ≡ x.state → y ≡ x)
-    → lines_by xs x.state others ≡ move_transition x ∷ []
+    → transitions_by xs x.state others ≡ move_transition x ∷ []
 found [] x others h u = absurd h
 found (y ∷ ys) x others h u = found_step y x ys others (y.state == x.state) refl (u y (inl refl)) h (λ w. found ys x others w (λ z v. u z (inr v)))
 
@@ -44,9 +44,10 @@ other_step : (y : Move) (q : ℕ) (here others : List (Transition ℕ ℕ)) (t :
 other_step y q here others true e n h = absurd (n (grind (arith, nat_tests)))
 other_step y q here others false e n h = h
 
-pub not_found : (xs : List Move) (q : ℕ) (others : List (Transition ℕ ℕ)) → ((y : Move) → Among y xs → y.state ≢ q) → lines_by xs q others ≡ others
+pub not_found : (xs : List Move) (q : ℕ) (others : List (Transition ℕ ℕ)) → ((y : Move) → Among y xs → y.state ≢ q) → transitions_by xs q others ≡ others
 not_found [] q others h = refl
-not_found (y ∷ ys) q others h = other_step y q (lines_by ys q others) others (y.state == q) refl (h y (inl refl)) (not_found ys q others (λ z w. h z (inr w)))
+not_found (y ∷ ys) q others h = other_step y q (transitions_by ys q others) others (y.state == q) refl (h y (inl refl))
+    (not_found ys q others (λ z w. h z (inr w)))
 
 -- ---- moves by their places
 record PlacedAt {X : Type 0} (x : X) (xs : List X) : Type 0 where
@@ -80,7 +81,7 @@ does_move : (M : Fsmd) (x : Move) (s : Store) → Does M x → Step M x.state s 
 does_move M x s d = record { line = move_transition x; taken = ap (λ ls. transition_taken ls s) d.0; target = refl; store = refl }
 
 goes_through : (M : Fsmd) (exit q : ℕ) (qs : List ℕ) (a : Item) (rows : List Item) (s : Store) → length (a ∷ rows) ≤ length (q ∷ qs)
-    → ((x : Move) → Among x (moves exit (q ∷ qs) (a ∷ rows)) → Does M x) → Passes M (suc (count rows)) q s exit (done (a ∷ rows) s)
+    → ((x : Move) → Among x (moves exit (q ∷ qs) (a ∷ rows)) → Does M x) → Passes M (suc (count rows)) q s exit (store_after_items (a ∷ rows) s)
 goes_through M exit q qs a [] s h d =
     let x : Move = record { state = q; assignments = a; target = exit } in
     let e : Does M x = d x (inl refl) in
@@ -100,11 +101,11 @@ goes_through M exit q (r ∷ qs) a (b ∷ rows) s h d =
 
 module _ (m : Fsmd) (sound : IsSound m) (rows : ℕ → List Item) (keeps : KeepsStores m rows) where
   abbrev pub New : Fsmd
-  New = replaced m rows
+  New = machine_with_rows m rows
 
-  pub lines_replaced : (q : ℕ) → q < length m.states → transitions_of New q ≡ lines_by (all_moves m rows) q (transitions_of m q)
+  pub lines_replaced : (q : ℕ) → q < length m.states → transitions_of New q ≡ transitions_by (all_moves m rows) q (transitions_of m q)
   lines_replaced q h = ap (λ (x : State). x.lines)
-      (get_or-map-range_with_len (λ k. record { name = (state_at m k).name; lines = lines_by (all_moves m rows) k (transitions_of m k) }) 0
+      (get_or-map-range_with_len (λ k. record { name = (state_at m k).name; lines = transitions_by (all_moves m rows) k (transitions_of m k) }) 0
       (length m.states) q q (record { name = []; lines = [] }) h (omega arith))
 
   -- where a move stands
@@ -173,14 +174,14 @@ module _ (m : Fsmd) (sound : IsSound m) (rows : ℕ → List Item) (keeps : Keep
 
   old_rest : (n q : ℕ) (s : Store) (t : Bool) → follows m q (next_state m q) ≡ t
       → (follows m q (next_state m q) ≡ true → Passes m (suc (more n (next_state m q))) (next_state m q) s (exit_from m n (next_state m q))
-      (done (map (item_of m) (line_from m n (next_state m q))) s))
+      (store_after_items (map (item_of m) (line_from m n (next_state m q))) s))
       → Passes m (cond t (suc (more n (next_state m q))) 0) (next_state m q) s (cond t (exit_from m n (next_state m q)) (next_state m q))
-      (done (map (item_of m) (cond t (line_from m n (next_state m q)) [])) s)
+      (store_after_items (map (item_of m) (cond t (line_from m n (next_state m q)) [])) s)
   old_rest n q s true e h = h e
   old_rest n q s false e h = (refl, refl)
 
   old_line : (n q : ℕ) (s : Store) → q < length m.states → is_straight m q ≡ true
-      → Passes m (suc (more n q)) q s (exit_from m n q) (done (map (item_of m) (line_from m n q)) s)
+      → Passes m (suc (more n q)) q s (exit_from m n q) (store_after_items (map (item_of m) (line_from m n q)) s)
   old_line zero q s h e = (not_reset q e, record { state = next_state m q; store = act_all (item_of m q) s s; step = old_step q s h e; after = (refl, refl) })
   old_line (suc n) q s h e = (
     not_reset q e,
@@ -202,7 +203,7 @@ module _ (m : Fsmd) (sound : IsSound m) (rows : ℕ → List Item) (keeps : Keep
   begins (suc n) q = (cond (follows m q (next_state m q)) (line_from m n (next_state m q)) [], refl)
 
   rows_pass : (q : ℕ) (s : Store) (bs : List Item) → rows q ≡ bs → q < length m.states → is_first_of_line m q ≡ true
-      → (n : ℕ) × Passes New (suc n) q s (exit_of m q) (done bs s)
+      → (n : ℕ) × Passes New (suc n) q s (exit_of m q) (store_after_items bs s)
   rows_pass q s [] e h f = absurd (keeps.some q h f e)
   rows_pass q s (a ∷ rest) e h f =
       let line = begins (length m.states) q in
@@ -220,16 +221,17 @@ module _ (m : Fsmd) (sound : IsSound m) (rows : ℕ → List Item) (keeps : Keep
   line_pace : (q : ℕ) (s : Store) → Station m sound q → is_straight m q ≡ true → Pace m New Pairs q q s
   line_pace q s at_station e =
       let f : is_first_of_line m q ≡ true = both_of (is_straight m q) (is_inner m q) e at_station.1 in
-      let old : Passes m (suc (more (length m.states) q)) q s (exit_of m q) (done (items_at m q) s) = old_line (length m.states) q s at_station.0 e in
+      let old : Passes m (suc (more (length m.states) q)) q s (exit_of m q) (store_after_items (items_at m q) s) =
+      old_line (length m.states) q s at_station.0 e in
       let new = rows_pass q s (rows q) refl at_station.0 f in
-      let passes : Passes New (suc new.0) q s (exit_of m q) (done (items_at m q) s) =
+      let passes : Passes New (suc new.0) q s (exit_of m q) (store_after_items (items_at m q) s) =
       subst (λ z. Passes New (suc new.0) q s (exit_of m q) z) (keeps.stores q s at_station.0 f) new.1 in
       record {
         left = more (length m.states) q;
         right = new.0;
         to_left = exit_of m q;
         to_right = exit_of m q;
-        store = done (items_at m q) s;
+        store = store_after_items (items_at m q) s;
         leads_left = old.1;
         leads_right = passes.1;
         related = (refl, leaves_line m sound (length m.states) q at_station.0 e (sound.cut q at_station.0));
@@ -282,5 +284,5 @@ module _ (m : Fsmd) (sound : IsSound m) (rows : ℕ → List Item) (keeps : Keep
         (λ g. let w = some_of (λ p. follows m p m.reset) (all_states m) g in not_reset m.reset (follows_on m w.0 m.reset w.2) refl),
   )
 
-  pub replaced_behaves : SameBehaviour m (replaced m rows)
+  pub replaced_behaves : SameBehaviour m (machine_with_rows m rows)
   replaced_behaves = same_by_paces m New Pairs refl (refl, at_reset) (λ q p w e. sym w.0 ∙ e) (λ q p w e. w.0 ∙ e) pace

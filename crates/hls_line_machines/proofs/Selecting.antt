@@ -9,10 +9,10 @@ use Rattle.fs_model.specs.Machines.{State, Fsmd, transitions_of}
 use Rattle.fs_model.specs.Stores.{Store}
 use Rattle.fs_model.specs.Meaning.{condition_holds, transition_taken, act_all}
 use Rattle.fs_model.specs.Runs.{SameBehaviour}
-use Rattle.fs_rules.specs.Sound.{occurs}
+use Rattle.fs_rules.specs.SoundParts.{occurs}
 use Rattle.fs_ast.proofs.Opens.{takes_one}
-use Rattle.hls_line_machines.specs.Replaced.{state_at}
-use Rattle.hls_line_machines.specs.Selected.{selected_place, renumbered, selected, IsClosedUnderTargets}
+use Rattle.hls_line_machines.specs.RowMachines.{state_at}
+use Rattle.hls_line_machines.specs.MachineSelections.{selected_place, transition_renumbered, machine_of_states, IsClosedUnderTargets}
 use Rattle.hls_line_machines.proofs.Paces.{Pace, same_by_paces}
 
 -- what stands at the place of a number
@@ -44,32 +44,34 @@ stands [] s l e = absurd (cc e)
 stands (k ∷ ls) s l e = stands_step l k ls (transition_taken ls s) (condition_holds k.guard s) e (λ f. stands ls s l f)
 
 taken_step : (keep : List ℕ) (k : Transition ℕ ℕ) (o : Option (Transition ℕ ℕ)) (t : Bool)
-    → cond t (Some (renumbered keep k)) (option_map (renumbered keep) o) ≡ option_map (renumbered keep) (cond t (Some k) o)
+    → cond t (Some (transition_renumbered keep k)) (option_map (transition_renumbered keep) o) ≡ option_map (transition_renumbered keep) (cond t (Some k) o)
 taken_step keep k o true = refl
 taken_step keep k o false = refl
 
 taken_renumbered : (keep : List ℕ) (ls : List (Transition ℕ ℕ)) (s : Store)
-    → transition_taken (map (renumbered keep) ls) s ≡ option_map (renumbered keep) (transition_taken ls s)
+    → transition_taken (map (transition_renumbered keep) ls) s ≡ option_map (transition_renumbered keep) (transition_taken ls s)
 taken_renumbered keep [] s = refl
 taken_renumbered keep (l ∷ ls) s =
-    ap (λ o. cond (condition_holds l.guard s) (Some (renumbered keep l)) o) (taken_renumbered keep ls s)
+    ap (λ o. cond (condition_holds l.guard s) (Some (transition_renumbered keep l)) o) (taken_renumbered keep ls s)
     ∙ taken_step keep l (transition_taken ls s) (condition_holds l.guard s)
 
 module _ (m : Fsmd) (keep : List ℕ) (closed : IsClosedUnderTargets m keep) where
   abbrev Kept : ℕ → ℕ → Type 0
   Kept q p = (occurs q keep ≡ true) × (p ≡ selected_place keep q)
 
-  pub lines_kept : (q : ℕ) → occurs q keep ≡ true → transitions_of (selected m keep) (selected_place keep q) ≡ map (renumbered keep) (transitions_of m q)
+  pub lines_kept : (q : ℕ) → occurs q keep ≡ true → transitions_of (machine_of_states m keep) (selected_place keep q)
+      ≡ map (transition_renumbered keep) (transitions_of m q)
   lines_kept q h = ap (λ (x : State). x.lines)
-      (at_place (λ k. record { name = (state_at m k).name; lines = map (renumbered keep) (transitions_of m k) }) keep q (record { name = []; lines = [] }) h)
+      (at_place (λ k. record { name = (state_at m k).name; lines = map (transition_renumbered keep) (transitions_of m k) }) keep q
+      (record { name = []; lines = [] }) h)
 
-  pace : (q p : ℕ) (s : Store) → Kept q p → Pace m (selected m keep) Kept q p s
+  pace : (q p : ℕ) (s : Store) → Kept q p → Pace m (machine_of_states m keep) Kept q p s
   pace q p s k =
       let o = takes_one (transitions_of m q) s (closed.goes_on q k.0) in
       let w = stands (transitions_of m q) s o.line o.taken in
-      let t : transition_taken (transitions_of (selected m keep) p) s ≡ Some (renumbered keep o.line) =
-      ap (λ x. transition_taken (transitions_of (selected m keep) x) s) k.1 ∙ ap (λ ls. transition_taken ls s) (lines_kept q k.0)
-      ∙ taken_renumbered keep (transitions_of m q) s ∙ ap (option_map (renumbered keep)) o.taken in
+      let t : transition_taken (transitions_of (machine_of_states m keep) p) s ≡ Some (transition_renumbered keep o.line) =
+      ap (λ x. transition_taken (transitions_of (machine_of_states m keep) x) s) k.1 ∙ ap (λ ls. transition_taken ls s) (lines_kept q k.0)
+      ∙ taken_renumbered keep (transitions_of m q) s ∙ ap (option_map (transition_renumbered keep)) o.taken in
       record {
         left = 0;
         right = 0;
@@ -85,12 +87,12 @@ module _ (m : Fsmd) (keep : List ℕ) (closed : IsClosedUnderTargets m keep) whe
         leads_right = record {
           state = selected_place keep o.line.target;
           store = act_all o.line.assignments s s;
-          step = record { line = renumbered keep o.line; taken = t; target = refl; store = refl };
+          step = record { line = transition_renumbered keep o.line; taken = t; target = refl; store = refl };
           after = (refl, refl);
         };
         related = (closed.leads q o.line w.index k.0 w.is, refl);
       }
 
-  pub selected_behaves : SameBehaviour m (selected m keep)
-  selected_behaves = same_by_paces m (selected m keep) Kept refl (closed.reset, refl) (λ q p k e. k.1 ∙ ap (selected_place keep) e)
+  pub selected_behaves : SameBehaviour m (machine_of_states m keep)
+  selected_behaves = same_by_paces m (machine_of_states m keep) Kept refl (closed.reset, refl) (λ q p k e. k.1 ∙ ap (selected_place keep) e)
       (λ q p k e. same_place keep q m.reset k.0 closed.reset (sym k.1 ∙ e)) pace

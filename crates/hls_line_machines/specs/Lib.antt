@@ -1,4 +1,4 @@
 pub mod StraightLines
-pub mod Replaced
-pub mod Selected
-pub mod Scheduled
+pub mod RowMachines
+pub mod MachineSelections
+pub mod ScheduledMachines

@@ -3,33 +3,33 @@
 ghost use Rattle.std.specs.Prelude.{◌≡◌, ℕ, suc, ◌<◌, true, false, List, length};
 ghost use Rattle.fs_model.specs.Machines.{Fsmd};
 ghost use Rattle.fs_model.specs.Runs.{SameBehaviour};
-ghost use Rattle.fs_rules.specs.Sound.{IsSound};
+ghost use Rattle.fs_rules.specs.SoundParts.{IsSound};
 ghost use Rattle.fs_rules.specs.Rules.{IsEndless};
 ghost use Rattle.hls_line_rows.specs.Items.{Item};
 ghost use Rattle.hls_line_machines.specs.StraightLines.{is_straight, follows, straight_line_at, is_first_of_line, StandsInLine};
-ghost use Rattle.hls_line_machines.specs.Selected.{selected, selected_place, IsClosedUnderTargets};
-ghost use Rattle.hls_line_machines.specs.Scheduled.{kept_states, scheduled};
-ghost use Rattle.hls_line_machines.specs.Replaced.{replaced, state_at, KeepsStores};
+ghost use Rattle.hls_line_machines.specs.MachineSelections.{machine_of_states, selected_place, IsClosedUnderTargets};
+ghost use Rattle.hls_line_machines.specs.ScheduledMachines.{kept_states, scheduled_machine};
+ghost use Rattle.hls_line_machines.specs.RowMachines.{machine_with_rows, state_at, KeepsStores};
 
 /// States to which nothing leads may be left out, and the others numbered anew.
 pub fn unreached_states_may_go()
-    ensures { (m : Fsmd) (keep : List ℕ) → IsClosedUnderTargets m keep → SameBehaviour m (selected m keep) }
+    ensures { (m : Fsmd) (keep : List ℕ) → IsClosedUnderTargets m keep → SameBehaviour m (machine_of_states m keep) }
 {}
 
 /// Rows that end with the stores of their lines may stand in place of these.
 pub fn rows_stand_for_lines()
-    ensures { (m : Fsmd) (rows : ℕ → List Item) → IsSound m → KeepsStores m rows → SameBehaviour m (replaced m rows) }
+    ensures { (m : Fsmd) (rows : ℕ → List Item) → IsSound m → KeepsStores m rows → SameBehaviour m (machine_with_rows m rows) }
 {}
 
 /// A machine whose lines are in rows behaves as it did.
 pub fn a_scheduled_machine_behaves()
-    ensures { (m : Fsmd) (rows : ℕ → List Item) → IsSound m → KeepsStores m rows → SameBehaviour m (scheduled m rows) }
+    ensures { (m : Fsmd) (rows : ℕ → List Item) → IsSound m → KeepsStores m rows → SameBehaviour m (scheduled_machine m rows) }
 {}
 
 /// From each state of a scheduled machine a cutpoint comes.
 pub fn a_scheduled_machine_is_nowhere_endless()
     ensures { (m : Fsmd) (rows : ℕ → List Item) (q : ℕ) → IsSound m → KeepsStores m rows → q < length (kept_states m rows)
-        → IsEndless (scheduled m rows) q → ⊥ }
+        → IsEndless (scheduled_machine m rows) q → ⊥ }
 {}
 
 /// Each straight state stands in exactly one line, at one place.
@@ -51,11 +51,12 @@ pub fn a_line_is_longest()
 /// state for each row.
 pub fn rows_are_lines_of_the_new_machine()
     ensures first { (m : Fsmd) (rows : ℕ → List Item) (q : ℕ) → IsSound m → KeepsStores m rows → q < length m.states
-        → is_first_of_line m q ≡ true → is_first_of_line (scheduled m rows) (selected_place (kept_states m rows) q) ≡ true }
+        → is_first_of_line m q ≡ true → is_first_of_line (scheduled_machine m rows)
+        (selected_place (kept_states m rows) q) ≡ true }
     ensures length { (m : Fsmd) (rows : ℕ → List Item) (q : ℕ) → IsSound m → KeepsStores m rows → q < length m.states
         → is_first_of_line m q ≡ true
-        → length (straight_line_at (scheduled m rows) (selected_place (kept_states m rows) q)) ≡ length (rows q) }
+        → length (straight_line_at (scheduled_machine m rows) (selected_place (kept_states m rows) q)) ≡ length (rows q) }
     ensures name { (m : Fsmd) (rows : ℕ → List Item) (q : ℕ) → IsSound m → KeepsStores m rows → q < length m.states
         → is_first_of_line m q ≡ true
-        → (state_at (scheduled m rows) (selected_place (kept_states m rows) q)).name ≡ (state_at m q).name }
+        → (state_at (scheduled_machine m rows) (selected_place (kept_states m rows) q)).name ≡ (state_at m q).name }
 {}

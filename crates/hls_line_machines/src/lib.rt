@@ -2,7 +2,7 @@
 //!
 //! Promises: the straight lines of a machine; with rows in their place it behaves as before.
 //!
-//! Rules: `specs/StraightLines`, `specs/Replaced`, `specs/Selected`, `specs/Scheduled`, `src/laws`.
+//! Rules: `specs/StraightLines`, `specs/RowMachines`, `specs/MachineSelections`, `specs/ScheduledMachines`, `src/laws`.
 //!
 //! Words:
 //! - move (of a row): a state whose one transition is the row

@@ -7,7 +7,7 @@ use Rattle.std.proofs.lemmas.Bool.{ltb-true}
 use Rattle.base_lemmas.proofs.Booleans.{and_first, and_second}
 use Rattle.hls_line_rows.specs.Items.{is_strict, is_weak}
 use Rattle.hls_line_rows.specs.Placings.{Placed, items_of, respects_edge, is_valid, all_below}
-use Rattle.hls_line_rows.specs.Heights.{through, height_over, heights, chain_of}
+use Rattle.hls_line_rows.specs.Heights.{strict_edges_through, height_over, heights, chain_of}
 
 -- each item's row and height together are below n
 abbrev pub Room : ℕ → List Placed → List ℕ → Type 0
@@ -28,7 +28,7 @@ over_room : (n : ℕ) (p : Placed) (ps : List Placed) (hs : List ℕ) → p.row 
 over_room n p [] hs i v w = omega (arith, i)
 over_room n p (q ∷ ps) [] i v w = omega (arith, i)
 over_room n p (q ∷ ps) (h ∷ hs) i v w =
-    max_room n p.row (through p.item q.item h) (height_over p.item (items_of ps) hs)
+    max_room n p.row (strict_edges_through p.item q.item h) (height_over p.item (items_of ps) hs)
     (edge_room n p.row q.row h (is_strict p.item q.item) (is_weak p.item q.item) i w.0 (and_first (respects_edge p q) (list_all (respects_edge p) ps) v))
     (over_room n p ps hs i (and_second (respects_edge p q) (list_all (respects_edge p) ps) v) w.1)
 

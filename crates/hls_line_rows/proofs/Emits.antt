@@ -6,7 +6,7 @@ use Rattle.std.proofs.lemmas.Bool.Decides.{nat_tests}
 use Rattle.std.proofs.lemmas.Bool.{leb-true}
 use Rattle.base_lemmas.proofs.Booleans.{and_first, and_second, neither_second}
 use Rattle.fs_model.specs.Terms.{Assign, ArrayWrite, Emit}
-use Rattle.fs_rules.specs.Sound.{emit_count}
+use Rattle.fs_rules.specs.SoundParts.{emit_count}
 use Rattle.hls_line_rows.specs.Items.{Item, emits, is_strict, is_weak}
 use Rattle.hls_line_rows.specs.Placings.{Placed, respects_edge, is_valid, join_assignments, row_at}
 use Rattle.hls_line_rows.proofs.Rows.{no_strict}

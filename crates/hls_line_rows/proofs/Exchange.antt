@@ -7,10 +7,10 @@ use Rattle.std.proofs.lemmas.Bool.{and_from}
 use Rattle.base_lemmas.proofs.Booleans.{and_first, and_second, neither_first, neither_second, not_or_second}
 use Rattle.base_integers.specs.Division.{quotient, remainder}
 use Rattle.fs_model.specs.Terms.{Term, Number, Variable, Read, Sum, Difference, Product, Quotient, Remainder, Negative, Assignment, Assign, ArrayWrite, Emit}
-use Rattle.fs_model.specs.Stores.{Store, assigned, written, emitted}
+use Rattle.fs_model.specs.Stores.{Store, store_with_number, store_with_entry, store_with_emit}
 use Rattle.fs_model.specs.Meaning.{value, act, act_all}
-use Rattle.fs_rules.specs.Sound.{assigned_in, occurs}
-use Rattle.hls_line_rows.specs.Items.{Item, read_in, variables_read_by, reads_of_item, changes, stored_in, emits, meet, is_strict, is_weak}
+use Rattle.fs_rules.specs.SoundParts.{assigned_in, occurs}
+use Rattle.hls_line_rows.specs.Items.{Item, read_in, variables_read_by, reads_of_item, changes, stored_in, emits, has_common_number, is_strict, is_weak}
 
 -- two stores hold the same in each of these variables
 abbrev pub Agree : List ℕ → Store → Store → Type 0
@@ -42,9 +42,9 @@ same_value (Remainder a b) s t h = ap₂ remainder (same_value a s t (agree_left
 same_value (Negative a) s t h = ap neg_ℤ (same_value a s t h)
 
 same_act : (a : Assignment ℕ) (s t u : Store) → Agree (variables_read_by a) s t → act a s u ≡ act a t u
-same_act (Assign x e) s t u h = ap (assigned u x) (same_value e s t h)
-same_act (Emit x e) s t u h = ap (emitted u x) (same_value e s t h)
-same_act (ArrayWrite x i e) s t u h = ap₂ (written u x) (same_value i s t (agree_left (read_in i) (read_in e) s t h))
+same_act (Assign x e) s t u h = ap (store_with_number u x) (same_value e s t h)
+same_act (Emit x e) s t u h = ap (store_with_emit u x) (same_value e s t h)
+same_act (ArrayWrite x i e) s t u h = ap₂ (store_with_entry u x) (same_value i s t (agree_left (read_in i) (read_in e) s t h))
     (same_value e s t (agree_right (read_in i) (read_in e) s t h))
 
 -- stores that agree on what an item reads give it the same right sides and indices
@@ -86,11 +86,14 @@ array_stays (ArrayWrite y i e ∷ rest) x s t h =
     ∙ ap (λ b. λ j. cond b (cond (int_eq (value i s) j) (value e s) (t.array x j)) (t.array x j)) (other x y (occurs x (changes rest)) h)
 
 -- what reads nothing that an item changes reads the same after it
-pub agree_after : (a : Item) (xs : List ℕ) (s : Store) → meet (changes a) xs ≡ false → Agree xs s (act_all a s s)
+pub agree_after : (a : Item) (xs : List ℕ) (s : Store) → has_common_number (changes a) xs ≡ false → Agree xs s (act_all a s s)
 agree_after a [] s h = tt
 agree_after a (x ∷ xs) s h =
-    let here : occurs x (changes a) ≡ false = neither_first (occurs x (changes a)) (meet (changes a) xs) h in
-    (sym (scalar_stays a x s s here), sym (array_stays a x s s here), agree_after a xs s (neither_second (occurs x (changes a)) (meet (changes a) xs) h))
+    let here : occurs x (changes a) ≡ false = neither_first (occurs x (changes a)) (has_common_number (changes a) xs) h in (
+      sym (scalar_stays a x s s here),
+      sym (array_stays a x s s here),
+      agree_after a xs s (neither_second (occurs x (changes a)) (has_common_number (changes a) xs) h),
+    )
 
 -- an action of one item goes past another item that assigns and writes nothing that it does
 abbrev pub is_apart : Assignment ℕ → Item → Bool
@@ -98,10 +101,12 @@ is_apart (Assign x e) b = not (occurs x (assigned_in b))
 is_apart (ArrayWrite x i e) b = not (occurs x (stored_in b))
 is_apart (Emit x e) b = not (emits b)
 
-assigns_swap : (x y : ℕ) (v w : ℤ) (t : Store) → (y == x) ≡ false → assigned (assigned t x v) y w ≡ assigned (assigned t y w) x v
+assigns_swap : (x y : ℕ) (v w : ℤ) (t : Store) → (y == x) ≡ false
+    → store_with_number (store_with_number t x v) y w ≡ store_with_number (store_with_number t y w) x v
 assigns_swap x y v w t h = λ j. record { scalar = λ z. swapped x y z v w (t.scalar z) h j; array = t.array; port = t.port }
 
-writes_swap : (x y : ℕ) (i k v w : ℤ) (t : Store) → (y == x) ≡ false → written (written t x i v) y k w ≡ written (written t y k w) x i v
+writes_swap : (x y : ℕ) (i k v w : ℤ) (t : Store) → (y == x) ≡ false
+    → store_with_entry (store_with_entry t x i v) y k w ≡ store_with_entry (store_with_entry t y k w) x i v
 writes_swap x y i k v w t h = λ j. record { scalar = t.scalar; array = λ z n. spread x y z (int_eq i n) (int_eq k n) v w (t.array z n) h j; port = t.port }
 
 past : (a : Assignment ℕ) (b : Item) (s r t : Store) → is_apart a b ≡ true → act_all b s (act a r t) ≡ act a r (act_all b s t)
@@ -135,15 +140,15 @@ pub record Unbound (a b : Item) : Type 0 where
   pub strict : is_strict a b ≡ false
   pub weak : is_weak a b ≡ false
 
-pub meet_nothing : (xs : List ℕ) → meet [] xs ≡ false
+pub meet_nothing : (xs : List ℕ) → has_common_number [] xs ≡ false
 meet_nothing [] = refl
 meet_nothing (x ∷ xs) = meet_nothing xs
 
-pub meet_first : (y : ℕ) (ys xs : List ℕ) → meet (y ∷ ys) xs ≡ false → occurs y xs ≡ false
+pub meet_first : (y : ℕ) (ys xs : List ℕ) → has_common_number (y ∷ ys) xs ≡ false → occurs y xs ≡ false
 meet_first y ys [] h = refl
 meet_first y ys (x ∷ xs) h = grind (arith, nat_tests, meet_first y ys xs)
 
-pub meet_later : (y : ℕ) (ys xs : List ℕ) → meet (y ∷ ys) xs ≡ false → meet ys xs ≡ false
+pub meet_later : (y : ℕ) (ys xs : List ℕ) → has_common_number (y ∷ ys) xs ≡ false → has_common_number ys xs ≡ false
 meet_later y ys [] h = refl
 meet_later y ys (x ∷ xs) h = grind (arith, nat_tests, meet_later y ys xs)
 
@@ -155,7 +160,8 @@ nothing_emits : (b : Item) (c : Bool) → (true && c) ≡ false → (emits b && 
 nothing_emits b true h = absurd (cc h)
 nothing_emits b false h = grind arith
 
-apart_items : (a b : Item) → meet (assigned_in a) (assigned_in b) ≡ false → meet (stored_in a) (stored_in b) ≡ false → (emits a && emits b) ≡ false
+apart_items : (a b : Item) → has_common_number (assigned_in a) (assigned_in b) ≡ false → has_common_number (stored_in a) (stored_in b) ≡ false
+    → (emits a && emits b) ≡ false
     → all_apart a b ≡ true
 apart_items [] b p q r = refl
 apart_items (Assign x e ∷ rest) b p q r = and_from _ _ (ap not (meet_first x (assigned_in rest) (assigned_in b) p))
@@ -175,7 +181,8 @@ unbound_by false c e h = h
 -- neighbours without an edge may be exchanged
 pub exchange : (a b : Item) (s : Store) → Unbound a b → act_all b (act_all a s s) (act_all a s s) ≡ act_all a (act_all b s s) (act_all b s s)
 exchange a b s h =
-    let apart : (meet (changes b) (reads_of_item a) || meet (stored_in a) (stored_in b)) ≡ false = unbound_by (is_strict a b) _ h.strict h.weak in
+    let apart : (has_common_number (changes b) (reads_of_item a) || has_common_number (stored_in a) (stored_in b)) ≡ false =
+    unbound_by (is_strict a b) _ h.strict h.weak in
     sym (read_before a b s (act_all a s s) h.strict)
     ∙ pass a b s s s
     (apart_items a b (neither_first _ _ (neither_second _ _ h.strict)) (neither_second _ _ apart) (neither_second _ _ (neither_second _ _ h.strict)))

@@ -8,8 +8,9 @@ use Rattle.std.proofs.lemmas.Bool.{and_from, not-true, lt-ltb}
 use Rattle.std.proofs.lemmas.Option.{same_Some}
 use Rattle.base_lemmas.proofs.Booleans.{and_first, and_second}
 use Rattle.hls_line_rows.specs.ItemUnits.{Units, none_used, suffice}
-use Rattle.hls_line_rows.specs.Filling.{Graph, Rows, place_item, lets, is_ready, may_stand, higher, highest, next_item, more_units, row_filled, all_placed}
-use Rattle.hls_line_rows.specs.Filling.{Filled, filled_from, filling, EachItemFits}
+use Rattle.hls_line_rows.specs.Filling.{ItemGraph, Rows, place_item, leaves_row_open, is_ready, may_stand, higher_of, highest_number, next_item, more_units}
+use Rattle.hls_line_rows.specs.Filling.{row_filled, all_placed}
+use Rattle.hls_line_rows.specs.Filling.{Filled, filled_from, filling_of, EachItemFits}
 
 -- ---- tests of a range
 pub all_range : (f : ℕ → Bool) (n a : ℕ) → ((j : ℕ) → a ≤ j → j < a + n → f j ≡ true) → list_all f (range_with_len a n) ≡ true
@@ -39,32 +40,33 @@ pick_step : (test : ℕ → Bool) (n p k : ℕ) (b : Bool) → test n ≡ true �
 pick_step test n p k true e w f = record { within = omega (arith, f); is = subst (λ z. test z ≡ true) f e }
 pick_step test n p k false e w f = subst (Passes test (suc n)) f (wider test n p w)
 
-higher_passes : (test : ℕ → Bool) (height : ℕ → ℕ) (n k : ℕ) (o : Option ℕ) → ((p : ℕ) → o ≡ Some p → Passes test n p) → test n ≡ true → higher height n o ≡ k
+higher_passes : (test : ℕ → Bool) (height : ℕ → ℕ) (n k : ℕ) (o : Option ℕ) → ((p : ℕ) → o ≡ Some p → Passes test n p) → test n ≡ true
+    → higher_of height n o ≡ k
     → Passes test (suc n) k
 higher_passes test height n k None w e f = record { within = omega (arith, f); is = subst (λ z. test z ≡ true) f e }
 higher_passes test height n k (Some p) w e f = pick_step test n p k (nat_lt (height p) (height n)) e (w p refl) f
 
 passes_step : (test : ℕ → Bool) (height : ℕ → ℕ) (n k : ℕ) (o : Option ℕ) (t : Bool) → test n ≡ t → ((p : ℕ) → o ≡ Some p → Passes test n p)
-    → cond t (Some (higher height n o)) o ≡ Some k → Passes test (suc n) k
-passes_step test height n k o true e w f = higher_passes test height n k o w e (same_Some (higher height n o) k f)
+    → cond t (Some (higher_of height n o)) o ≡ Some k → Passes test (suc n) k
+passes_step test height n k o true e w f = higher_passes test height n k o w e (same_Some (higher_of height n o) k f)
 passes_step test height n k o false e w f = wider test n k (w k f)
 
-pub highest_passes : (test : ℕ → Bool) (height : ℕ → ℕ) (n k : ℕ) → highest test height n ≡ Some k → Passes test n k
+pub highest_passes : (test : ℕ → Bool) (height : ℕ → ℕ) (n k : ℕ) → highest_number test height n ≡ Some k → Passes test n k
 highest_passes test height zero k e = absurd (cc e)
-highest_passes test height (suc n) k e = passes_step test height n k (highest test height n) (test n) refl (λ p f. highest_passes test height n p f) e
+highest_passes test height (suc n) k e = passes_step test height n k (highest_number test height n) (test n) refl (λ p f. highest_passes test height n p f) e
 
 last_step : (test : ℕ → Bool) (n j : ℕ) (t : Bool) → (j == n) ≡ t → test n ≡ false → j < suc n → (j < n → test j ≡ false) → test j ≡ false
 last_step test n j true e f i w = let g : n ≡ j = grind (arith, nat_tests) in subst (λ z. test z ≡ false) g f
 last_step test n j false e f i w = w (let d : j ≢ n = grind (arith, nat_tests) in omega (arith, d, i))
 
-none_step : (test : ℕ → Bool) (height : ℕ → ℕ) (n j : ℕ) (o : Option ℕ) (t : Bool) → test n ≡ t → cond t (Some (higher height n o)) o ≡ None → j < suc n
+none_step : (test : ℕ → Bool) (height : ℕ → ℕ) (n j : ℕ) (o : Option ℕ) (t : Bool) → test n ≡ t → cond t (Some (higher_of height n o)) o ≡ None → j < suc n
     → (o ≡ None → j < n → test j ≡ false) → test j ≡ false
 none_step test height n j o true e f i w = absurd (cc f)
 none_step test height n j o false e f i w = last_step test n j (j == n) refl e i (w f)
 
-pub none_passes : (test : ℕ → Bool) (height : ℕ → ℕ) (n j : ℕ) → highest test height n ≡ None → j < n → test j ≡ false
+pub none_passes : (test : ℕ → Bool) (height : ℕ → ℕ) (n j : ℕ) → highest_number test height n ≡ None → j < n → test j ≡ false
 none_passes test height zero j e i = absurd (omega (arith, i))
-none_passes test height (suc n) j e i = none_step test height n j (highest test height n) (test n) refl e i (λ f h. none_passes test height n j f h)
+none_passes test height (suc n) j e i = none_step test height n j (highest_number test height n) (test n) refl e i (λ f h. none_passes test height n j f h)
 
 -- ---- how many are open
 abbrev pub open_below : Rows → ℕ → ℕ
@@ -143,7 +145,7 @@ lets_some : (a b : Bool) (k r : ℕ) → k < r → cond a (nat_lt k r) (cond b (
 lets_some a b k r h = grind (arith, nat_tests)
 
 -- a row has an item
-pub record InRow (g : Graph) (rows : Rows) (r : ℕ) : Type 0 where
+pub record InRow (g : ItemGraph) (rows : Rows) (r : ℕ) : Type 0 where
   pub number : ℕ
   pub within : number < g.count
   pub is : rows number ≡ Some r
@@ -162,7 +164,7 @@ pub open_differs : (rows : Rows) (k j q : ℕ) → is_none (rows k) ≡ true →
 open_differs rows k j q e f =
     λ h. (let i : is_none (rows j) ≡ true = subst (λ z. is_none (rows z) ≡ true) (sym h) e in let l : is_none (rows j) ≡ false = ap is_none f in cc (sym l ∙ i))
 
-module _ (g : Graph) (units : Units) (S : ℕ → Rows → Type 0) (I : ℕ → Rows → Units → Type 0)
+module _ (g : ItemGraph) (units : Units) (S : ℕ → Rows → Type 0) (I : ℕ → Rows → Units → Type 0)
     (starts : (r : ℕ) (rows : Rows) → S r rows → I r rows none_used)
     (keeps : (r : ℕ) (rows : Rows) (used : Units) (k : ℕ) → I r rows used → k < g.count → may_stand g units rows r used k ≡ true
     → I r (place_item rows k r) (more_units used (g.uses k)))
@@ -247,14 +249,14 @@ module _ (g : Graph) (units : Units) (S : ℕ → Rows → Type 0) (I : ℕ → 
     pub no_more : f.count ≤ g.count
 
   -- an item before which all are placed may be placed first
-  lets_placed : (rows : Rows) (r i j : ℕ) (o : Option ℕ) → rows i ≡ o → is_none o ≡ false → ((k : ℕ) → o ≡ Some k → k < r) → lets g rows r i j ≡ true
+  lets_placed : (rows : Rows) (r i j : ℕ) (o : Option ℕ) → rows i ≡ o → is_none o ≡ false → ((k : ℕ) → o ≡ Some k → k < r) → leaves_row_open g rows r i j ≡ true
   lets_placed rows r i j None e f h = absurd (cc f)
   lets_placed rows r i j (Some k) e f h = rw e (lets_some (g.strict i j) (g.weak i j) k r (h k refl))
 
   pub row_begins : (r : ℕ) (rows : Rows) → S r rows → 0 < open_below rows g.count → (j : ℕ) × (j < g.count) × (may_stand g units rows r none_used j ≡ true)
   row_begins r rows s h =
       let o = first_open rows g.count h in
-      let ready : is_ready g rows r o.number ≡ true = all_range (λ i. lets g rows r i o.number) o.number 0
+      let ready : is_ready g rows r o.number ≡ true = all_range (λ i. leaves_row_open g rows r i o.number) o.number 0
       (λ i p q. lets_placed rows r i o.number (rows i) refl (o.others i (omega (arith, q))) (λ k e. low r rows i k s (omega (arith, q, o.within)) e)) in (
         o.number,
         o.within,
@@ -291,5 +293,5 @@ module _ (g : Graph) (units : Units) (S : ℕ → Rows → Type 0) (I : ℕ → 
       record { holds = s; placed = λ j p. none_open rows g.count j z p; no_more = omega (arith, b) }
   fills (suc n) r rows s h b = fills_step n r rows (all_placed g rows) refl s h b (λ out t p q. fills n (suc r) out t p q)
 
-  pub filling_ends : S 0 (λ i. None) → Ends (filling g units)
+  pub filling_ends : S 0 (λ i. None) → Ends (filling_of g units)
   filling_ends s = fills g.count 0 (λ i. None) s (omega (arith, open_all g.count)) (omega (arith, open_all g.count))

@@ -3,9 +3,9 @@ use Rattle.std.proofs.Common.{◌≡◌, ℕ, zero, suc, ◌<◌, ◌≤◌, Lis
 use Rattle.std.specs.Prelude.{cond, max}
 use Rattle.std.specs.List.{slice_index_or}
 use Rattle.hls_line_rows.specs.Items.{Item, is_strict, is_weak}
-use Rattle.hls_line_rows.specs.Heights.{through, height_over, heights, greatest, chain_of}
+use Rattle.hls_line_rows.specs.Heights.{strict_edges_through, height_over, heights, greatest, chain_of}
 use Rattle.hls_line_rows.specs.Filling.{graph_of}
-use Rattle.hls_line_rows.specs.Walks.{IsWalk, stays, strictly, weakly, AreGreatest, IsGreatestChain}
+use Rattle.hls_line_rows.specs.Walks.{IsItemWalk, stays, strictly, weakly, AreGreatest, IsGreatestChain}
 use Rattle.hls_line_rows.proofs.Lists.{heights_fall, below_chain}
 
 -- ---- no walk has more
@@ -18,12 +18,12 @@ above_weak true b h i e p = omega (arith, p)
 above_weak false true h i e p = p
 above_weak false false h i e p = absurd (cc e)
 
-inside : (items : List Item) (i n : ℕ) → IsWalk (graph_of items) i n → i < length items
+inside : (items : List Item) (i n : ℕ) → IsItemWalk (graph_of items) i n → i < length items
 inside items _ _ (stays i p) = p
 inside items _ _ (strictly i j k p e w) = let q = inside items j k w in omega (arith, p, q)
 inside items _ _ (weakly i j n p e w) = let q = inside items j n w in omega (arith, p, q)
 
-no_more : (items : List Item) (i n : ℕ) → IsWalk (graph_of items) i n → n ≤ slice_index_or (heights items) i 0
+no_more : (items : List Item) (i n : ℕ) → IsItemWalk (graph_of items) i n → n ≤ slice_index_or (heights items) i 0
 no_more items _ _ (stays i p) = omega arith
 no_more items _ _ (strictly i j k p e w) =
     let up = above_strict (is_strict (slice_index_or items i []) (slice_index_or items j [])) (is_weak (slice_index_or items i []) (slice_index_or items j []))
@@ -38,7 +38,7 @@ no_more items _ _ (weakly i j n p e w) =
 
 -- ---- a walk has as many
 -- a walk of later items, behind one more
-behind : (a : Item) (items : List Item) (i n : ℕ) → IsWalk (graph_of items) i n → IsWalk (graph_of (a ∷ items)) (suc i) n
+behind : (a : Item) (items : List Item) (i n : ℕ) → IsItemWalk (graph_of items) i n → IsItemWalk (graph_of (a ∷ items)) (suc i) n
 behind a items _ _ (stays i p) = stays (suc i) (omega (arith, p))
 behind a items _ _ (strictly i j k p e w) = strictly (suc i) (suc j) k (omega (arith, p)) e (behind a items j k w)
 behind a items _ _ (weakly i j n p e w) = weakly (suc i) (suc j) n (omega (arith, p)) e (behind a items j n w)
@@ -47,7 +47,7 @@ behind a items _ _ (weakly i j n p e w) = weakly (suc i) (suc j) n (omega (arith
 record IsReached (a : Item) (items : List Item) (hs : List ℕ) (n : ℕ) : Type 0 where
   number : ℕ
   within : number < length items
-  height : n ≡ through a (slice_index_or items number []) (slice_index_or hs number 0)
+  height : n ≡ strict_edges_through a (slice_index_or items number []) (slice_index_or hs number 0)
 
 later : (a b : Item) (items : List Item) (h : ℕ) (hs : List ℕ) (n : ℕ) → IsReached a items hs n → IsReached a (b ∷ items) (h ∷ hs) n
 later a b items h hs n r = record { number = suc r.number; within = (let p = r.within in omega (arith, p)); height = r.height }
@@ -61,7 +61,7 @@ none_or_reached : (a : Item) (items : List Item) → (height_over a items (heigh
     ⊎ IsReached a items (heights items) (height_over a items (heights items))
 none_or_reached a [] = inl refl
 none_or_reached a (b ∷ items) =
-    elim (max_cases (through a b (height_over b items (heights items))) (height_over a items (heights items))) [
+    elim (max_cases (strict_edges_through a b (height_over b items (heights items))) (height_over a items (heights items))) [
       | inl e ↦ inr (record { number = 0; within = omega arith; height = e })
       | inr e ↦ elim (none_or_reached a items) [
         | inl z ↦ inl (omega (arith, e, z))
@@ -73,21 +73,21 @@ none_or_reached a (b ∷ items) =
     ]
 
 by_edge : (a : Item) (items : List Item) (j h n : ℕ) (s t : Bool) → is_strict a (slice_index_or items j []) ≡ s → is_weak a (slice_index_or items j []) ≡ t
-    → IsWalk (graph_of items) j h → n ≡ cond s (suc h) (cond t h 0) → IsWalk (graph_of (a ∷ items)) 0 n
-by_edge a items j h n true t e f w g = subst (IsWalk (graph_of (a ∷ items)) 0) (sym g) (strictly 0 (suc j) h (omega arith) e (behind a items j h w))
-by_edge a items j h n false true e f w g = subst (IsWalk (graph_of (a ∷ items)) 0) (sym g) (weakly 0 (suc j) h (omega arith) f (behind a items j h w))
-by_edge a items j h n false false e f w g = subst (IsWalk (graph_of (a ∷ items)) 0) (sym g) (stays 0 (omega arith))
+    → IsItemWalk (graph_of items) j h → n ≡ cond s (suc h) (cond t h 0) → IsItemWalk (graph_of (a ∷ items)) 0 n
+by_edge a items j h n true t e f w g = subst (IsItemWalk (graph_of (a ∷ items)) 0) (sym g) (strictly 0 (suc j) h (omega arith) e (behind a items j h w))
+by_edge a items j h n false true e f w g = subst (IsItemWalk (graph_of (a ∷ items)) 0) (sym g) (weakly 0 (suc j) h (omega arith) f (behind a items j h w))
+by_edge a items j h n false false e f w g = subst (IsItemWalk (graph_of (a ∷ items)) 0) (sym g) (stays 0 (omega arith))
 
-from_first : (a : Item) (items : List Item) → ((i : ℕ) → i < length items → IsWalk (graph_of items) i (slice_index_or (heights items) i 0))
-    → IsWalk (graph_of (a ∷ items)) 0 (height_over a items (heights items))
+from_first : (a : Item) (items : List Item) → ((i : ℕ) → i < length items → IsItemWalk (graph_of items) i (slice_index_or (heights items) i 0))
+    → IsItemWalk (graph_of (a ∷ items)) 0 (height_over a items (heights items))
 from_first a items next =
     elim (none_or_reached a items) [
-      | inl z ↦ subst (IsWalk (graph_of (a ∷ items)) 0) (sym z) (stays 0 (omega arith))
+      | inl z ↦ subst (IsItemWalk (graph_of (a ∷ items)) 0) (sym z) (stays 0 (omega arith))
       | inr r ↦ by_edge a items r.number (slice_index_or (heights items) r.number 0) (height_over a items (heights items))
           (is_strict a (slice_index_or items r.number [])) (is_weak a (slice_index_or items r.number [])) refl refl (next r.number r.within) r.height
     ]
 
-as_many : (items : List Item) (i : ℕ) → i < length items → IsWalk (graph_of items) i (slice_index_or (heights items) i 0)
+as_many : (items : List Item) (i : ℕ) → i < length items → IsItemWalk (graph_of items) i (slice_index_or (heights items) i 0)
 as_many [] i p = absurd (omega (arith, p))
 as_many (a ∷ items) zero p = from_first a items (as_many items)
 as_many (a ∷ items) (suc i) p = behind a items i (slice_index_or (heights items) i 0) (as_many items i (omega (arith, p)))
@@ -118,5 +118,5 @@ is_greatest_chain items = record {
   no_greater = λ i n w. (let up = no_more items i n w in let low = below_chain items i (inside items i n w) in omega (arith, up, low));
   walks =
       λ n e.
-      (let t = top_of items n e in record { first = t.number; walk = subst (IsWalk (graph_of items) t.number) t.height (as_many items t.number t.within) });
+      (let t = top_of items n e in record { first = t.number; walk = subst (IsItemWalk (graph_of items) t.number) t.height (as_many items t.number t.within) });
 }

@@ -7,8 +7,9 @@ use Rattle.std.proofs.lemmas.Bool.{and_from, not-true, lt-ltb}
 use Rattle.std.proofs.lemmas.Option.{same_Some}
 use Rattle.base_lemmas.proofs.Booleans.{and_second}
 use Rattle.hls_line_rows.specs.ItemUnits.{Units, none_used, suffice}
-use Rattle.hls_line_rows.specs.Filling.{Graph, Rows, place_item, is_before, is_by, lets, is_ready, may_stand, higher, highest, next_item, more_units}
-use Rattle.hls_line_rows.specs.Filling.{row_filled, all_placed, Filled, filled_from, filling, EachItemFits}
+use Rattle.hls_line_rows.specs.Filling.{ItemGraph, Rows, place_item, is_before, is_by, leaves_row_open, is_ready, may_stand, higher_of, highest_number}
+use Rattle.hls_line_rows.specs.Filling.{next_item, more_units}
+use Rattle.hls_line_rows.specs.Filling.{row_filled, all_placed, Filled, filled_from, filling_of, EachItemFits}
 use Rattle.hls_line_rows.specs.ListSchedules.{IsBefore, IsNoLater, MayStand, GoesFirst, IsListSchedule, ends, places, goes_on, HasItem}
 use Rattle.hls_line_rows.proofs.Fills.{all_range, in_all, is_none_of, highest_passes, none_passes, open_below, none_open, put_open, open_all, one_less, InRow}
 use Rattle.hls_line_rows.proofs.Fills.{put_other, open_differs, EndsRow, row_ends, row_begins, some_open, filling_ends}
@@ -58,19 +59,20 @@ picked test height n p k true e l f w = let h : height p < height n = grind (ari
 picked test height n p k false e l f w = let h : height n ≤ height p = grind (arith, nat_tests) in
     subst (IsFirstHighest test height (suc n)) f (last_is_no_higher test height n p h l w)
 
-highest_of : (test : ℕ → Bool) (height : ℕ → ℕ) (n k : ℕ) (o : Option ℕ) → highest test height n ≡ o → ((p : ℕ) → o ≡ Some p → IsFirstHighest test height n p)
-    → higher height n o ≡ k → IsFirstHighest test height (suc n) k
+highest_of : (test : ℕ → Bool) (height : ℕ → ℕ) (n k : ℕ) (o : Option ℕ) → highest_number test height n ≡ o
+    → ((p : ℕ) → o ≡ Some p → IsFirstHighest test height n p)
+    → higher_of height n o ≡ k → IsFirstHighest test height (suc n) k
 highest_of test height n k None e w f = only_last test height n k f (λ j p g. (let h = none_passes test height n j e p in cc (h, g)))
 highest_of test height n k (Some p) e w f = picked test height n p k (nat_lt (height p) (height n)) refl (highest_passes test height n p e).within f (w p refl)
 
-first_step : (test : ℕ → Bool) (height : ℕ → ℕ) (n k : ℕ) (o : Option ℕ) (t : Bool) → highest test height n ≡ o → test n ≡ t
-    → ((p : ℕ) → o ≡ Some p → IsFirstHighest test height n p) → cond t (Some (higher height n o)) o ≡ Some k → IsFirstHighest test height (suc n) k
-first_step test height n k o true e g w f = highest_of test height n k o e w (same_Some (higher height n o) k f)
+first_step : (test : ℕ → Bool) (height : ℕ → ℕ) (n k : ℕ) (o : Option ℕ) (t : Bool) → highest_number test height n ≡ o → test n ≡ t
+    → ((p : ℕ) → o ≡ Some p → IsFirstHighest test height n p) → cond t (Some (higher_of height n o)) o ≡ Some k → IsFirstHighest test height (suc n) k
+first_step test height n k o true e g w f = highest_of test height n k o e w (same_Some (higher_of height n o) k f)
 first_step test height n k o false e g w f = last_fails test height n k g (w k f)
 
-first_highest : (test : ℕ → Bool) (height : ℕ → ℕ) (n k : ℕ) → highest test height n ≡ Some k → IsFirstHighest test height n k
+first_highest : (test : ℕ → Bool) (height : ℕ → ℕ) (n k : ℕ) → highest_number test height n ≡ Some k → IsFirstHighest test height n k
 first_highest test height zero k e = absurd (cc e)
-first_highest test height (suc n) k e = first_step test height n k (highest test height n) (test n) refl refl (λ p f. first_highest test height n p f) e
+first_highest test height (suc n) k e = first_step test height n k (highest_number test height n) (test n) refl refl (λ p f. first_highest test height n p f) e
 
 -- ---- what may be placed, as a test and as a relation
 strict_before : (rows : Rows) (i r : ℕ) (a b : Bool) (o : Option ℕ) → rows i ≡ o → a ≡ true → cond a (is_before r o) (cond b (is_by r o) true) ≡ true
@@ -102,7 +104,7 @@ lets_by rows i r false false s w = refl
 is_open_by : (o : Option ℕ) → o ≡ None → is_none o ≡ true
 is_open_by o e = ap is_none e
 
-module _ (g : Graph) (units : Units) where
+module _ (g : ItemGraph) (units : Units) where
   may_of : (rows : Rows) (r : ℕ) (used : Units) (j : ℕ) → j < g.count → may_stand g units rows r used j ≡ true → MayStand g units rows r used j
   may_of rows r used j n e = record {
     within = n;
@@ -114,7 +116,7 @@ module _ (g : Graph) (units : Units) where
 
   test_of : (rows : Rows) (r : ℕ) (used : Units) (j : ℕ) → MayStand g units rows r used j → may_stand g units rows r used j ≡ true
   test_of rows r used j m =
-      let ready : is_ready g rows r j ≡ true = all_range (λ i. lets g rows r i j) j 0
+      let ready : is_ready g rows r j ≡ true = all_range (λ i. leaves_row_open g rows r i j) j 0
       (λ i p q. lets_by rows i r (g.strict i j) (g.weak i j) (λ s. m.strict i (omega (arith, q)) s) (λ w. m.weak i (omega (arith, q)) w)) in
       and_from (is_none (rows j) && is_ready g rows r j) (suffice units used (g.uses j))
       (and_from (is_none (rows j)) (is_ready g rows r j) (is_open_by (rows j) m.is_open) ready) (does_suffice units used (g.uses j) m.fits)
@@ -160,7 +162,7 @@ module _ (g : Graph) (units : Units) where
   row_run (suc n) r rows used f h rest = row_step n r rows used f (next_item g units rows r used) refl h rest
       (λ k p w. row_run n r (place_item rows k r) (more_units used (g.uses k)) f p w)
 
-module _ (g : Graph) (units : Units) (each : EachItemFits g units) where
+module _ (g : ItemGraph) (units : Units) (each : EachItemFits g units) where
   abbrev EndsAt : (r : ℕ) → Rows → Units → Rows → Type 0
   EndsAt = EndsRow g units (Begun g units) (Going g units) (begins g units) (keeps g units) (λ r rows used w stuck some. w.begun)
       (λ r rows j k b n e. b.low j k n e) each
@@ -204,18 +206,18 @@ module _ (g : Graph) (units : Units) (each : EachItemFits g units) where
       ends r rows (λ j p. no_open rows j (none_open rows g.count j z p))
   fill_run (suc n) r rows b h l = fill_step n r rows (all_placed g rows) refl b h l (λ out c p q. fill_run n (suc r) out c p q)
 
-pub is_list_schedule : (g : Graph) (units : Units) → EachItemFits g units → IsListSchedule g units 0 (λ i. None) none_used (filling g units)
+pub is_list_schedule : (g : ItemGraph) (units : Units) → EachItemFits g units → IsListSchedule g units 0 (λ i. None) none_used (filling_of g units)
 is_list_schedule g units each = fill_run g units each g.count 0 (λ i. None) (begun_first g units) (omega (arith, open_all g.count))
     (omega (arith, open_all g.count))
 
 -- ---- each row has an item
-has_put : (g : Graph) (rows : Rows) (k r q : ℕ) → is_none (rows k) ≡ true → HasItem g rows q → HasItem g (place_item rows k r) q
+has_put : (g : ItemGraph) (rows : Rows) (k r q : ℕ) → is_none (rows k) ≡ true → HasItem g rows q → HasItem g (place_item rows k r) q
 has_put g rows k r q o h = record { item = h.item; within = h.within; is = put_other rows k r h.item (open_differs rows k h.item q o h.is) ∙ h.is }
 
-in_row : (g : Graph) (rows : Rows) (r : ℕ) → InRow g rows r → HasItem g rows r
+in_row : (g : ItemGraph) (rows : Rows) (r : ℕ) → InRow g rows r → HasItem g rows r
 in_row g rows r i = record { item = i.number; within = i.within; is = i.is }
 
-module _ (g : Graph) (units : Units) where
+module _ (g : ItemGraph) (units : Units) where
   record BegunFull (r : ℕ) (rows : Rows) : Type 0 where
     base : Begun g units r rows
     full : (q : ℕ) → q < r → HasItem g rows q
@@ -244,6 +246,6 @@ module _ (g : Graph) (units : Units) where
   first_full : BegunFull 0 (λ i. None)
   first_full = record { base = begun_first g units; full = λ q p. absurd (omega (arith, p)) }
 
-  pub has_item : EachItemFits g units → (r : ℕ) → r < (filling g units).count → HasItem g (filling g units).rows r
+  pub has_item : EachItemFits g units → (r : ℕ) → r < (filling_of g units).count → HasItem g (filling_of g units).rows r
   has_item each =
       (filling_ends g units BegunFull GoingFull begins_full keeps_full turns_full (λ r rows j k b n e. b.base.low j k n e) each first_full).holds.full

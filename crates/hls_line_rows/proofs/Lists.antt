@@ -6,8 +6,8 @@ use Rattle.std.proofs.lemmas.Bool.{and_from}
 use Rattle.hls_line_rows.specs.Items.{Item, is_strict, is_weak}
 use Rattle.hls_line_rows.specs.Placings.{items_of, respects_edge, is_valid, all_below}
 use Rattle.hls_line_rows.specs.ItemUnits.{Units}
-use Rattle.hls_line_rows.specs.Heights.{through, height_over, heights, chain_of}
-use Rattle.hls_line_rows.specs.Filling.{graph_of, Rows, is_before, is_by, filling, EachItemFits, row_or, placed_from, placed_by}
+use Rattle.hls_line_rows.specs.Heights.{strict_edges_through, height_over, heights, chain_of}
+use Rattle.hls_line_rows.specs.Filling.{graph_of, Rows, is_before, is_by, filling_of, EachItemFits, row_or, placed_from, placed_by}
 use Rattle.hls_line_rows.proofs.Placings.{is_filled}
 
 pub same_items : (items : List Item) (k : ℕ) (rows : Rows) → items_of (placed_from k items rows) ≡ items
@@ -65,32 +65,32 @@ pair_fits a b (Some i) None r e f h = absurd (cc f)
 pair_fits a b (Some i) (Some j) r e f h = h j refl
 
 module _ (items : List Item) (units : Units) (each : EachItemFits (graph_of items) units) where
-  pairs : Pairwise (λ i. slice_index_or items i []) (filling (graph_of items) units).rows (length items)
+  pairs : Pairwise (λ i. slice_index_or items i []) (filling_of (graph_of items) units).rows (length items)
   pairs i j p q =
-      let rows = (filling (graph_of items) units).rows in
+      let rows = (filling_of (graph_of items) units).rows in
       pair_fits (is_strict (slice_index_or items i []) (slice_index_or items j [])) (is_weak (slice_index_or items i []) (slice_index_or items j [])) (rows i)
-      (rows j) (filling (graph_of items) units).count
+      (rows j) (filling_of (graph_of items) units).count
       ((is_filled (graph_of items) units each).placed i (omega (arith, p, q))) ((is_filled (graph_of items) units each).placed j q)
       (λ k e. (is_filled (graph_of items) units each).valid i j k p q e)
 
-  pub placed_valid : is_valid (placed_by items (filling (graph_of items) units)) ≡ true
-  placed_valid = all_fit (λ i. slice_index_or items i []) (filling (graph_of items) units).rows (length items) pairs items 0
+  pub placed_valid : is_valid (placed_by items (filling_of (graph_of items) units)) ≡ true
+  placed_valid = all_fit (λ i. slice_index_or items i []) (filling_of (graph_of items) units).rows (length items) pairs items 0
       (λ i p. ap (λ z. slice_index_or items z []) (let e : 0 + i ≡ i = omega arith in e)) (omega arith)
 
-  pub placed_below : all_below (filling (graph_of items) units).count (placed_by items (filling (graph_of items) units)) ≡ true
-  placed_below = low_rows items 0 (filling (graph_of items) units).count (filling (graph_of items) units).rows
+  pub placed_below : all_below (filling_of (graph_of items) units).count (placed_by items (filling_of (graph_of items) units)) ≡ true
+  placed_below = low_rows items 0 (filling_of (graph_of items) units).count (filling_of (graph_of items) units).rows
       (λ j p. (is_filled (graph_of items) units each).placed j (omega (arith, p)))
 
 -- ---- heights by number
 -- the height of an item is more than that of one to which it has a strict edge, and no less on a weak one
 over_each : (a : Item) (items : List Item) (j : ℕ) → j < length items
-    → through a (slice_index_or items j []) (slice_index_or (heights items) j 0) ≤ height_over a items (heights items)
+    → strict_edges_through a (slice_index_or items j []) (slice_index_or (heights items) j 0) ≤ height_over a items (heights items)
 over_each a [] j h = absurd (omega (arith, h))
 over_each a (b ∷ items) zero h = omega arith
 over_each a (b ∷ items) (suc j) h = omega (arith, over_each a items j (omega (arith, h)))
 
 pub heights_fall : (items : List Item) (i j : ℕ) → i < j → j < length items
-    → through (slice_index_or items i []) (slice_index_or items j []) (slice_index_or (heights items) j 0) ≤ slice_index_or (heights items) i 0
+    → strict_edges_through (slice_index_or items i []) (slice_index_or items j []) (slice_index_or (heights items) j 0) ≤ slice_index_or (heights items) i 0
 heights_fall [] i j p q = absurd (omega (arith, q))
 heights_fall (a ∷ items) zero zero p q = absurd (omega (arith, p))
 heights_fall (a ∷ items) (suc i) zero p q = absurd (omega (arith, p))

@@ -10,7 +10,8 @@ use Rattle.base_lemmas.proofs.Numbers.{eqb_self}
 use Rattle.hls_unit_counts.specs.declared.units.Unit.{Unit as Kind}
 use Rattle.hls_unit_counts.specs.declared.units.Unit.TheVariants.{Add, Mul, Div, Mem}
 use Rattle.hls_line_rows.specs.ItemUnits.{Units, none_used, suffice}
-use Rattle.hls_line_rows.specs.Filling.{Graph, Rows, place_item, is_before, is_by, is_in, lets, is_ready, may_stand, more_units, filling, used_below, used_in}
+use Rattle.hls_line_rows.specs.Filling.{ItemGraph, Rows, place_item, is_before, is_by, is_in, leaves_row_open, is_ready, may_stand, more_units, filling_of}
+use Rattle.hls_line_rows.specs.Filling.{used_below, used_in}
 use Rattle.hls_line_rows.specs.Filling.{used_by_all, EachItemFits, IsFilled}
 use Rattle.hls_line_rows.proofs.Fills.{in_all, is_none_of, put_other, Ends, filling_ends}
 
@@ -67,7 +68,7 @@ now_used x y v u true true e f h i = omega (arith, h, i)
 now_used x y v u true false e f h i = absurd (cc f)
 now_used x y v u false b e f h i = absurd (cc e)
 
-module _ (g : Graph) where
+module _ (g : ItemGraph) where
   used_step : (rows : Rows) (k r q n : ℕ) (x : Kind) (t : Bool) → (n == k) ≡ t → is_none (rows k) ≡ true
       → used_below g (place_item rows k r) q n x ≡ used_below g rows q n x + cond (nat_lt k n) (cond (r == q) (g.uses k x) 0) 0
       → used_below g (place_item rows k r) q n x + cond (is_in q (cond t (Some r) (rows n))) (g.uses n x) 0 ≡ used_below g rows q n x
@@ -127,12 +128,12 @@ lets_none true b l k o e = absurd (cc e)
 lets_none false true l k o e = absurd (cc e)
 lets_none false false l k o e = refl
 
-module _ (g : Graph) where
+module _ (g : ItemGraph) where
   -- what is let depends on the first item's row alone
-  pub lets_same : (rows other : Rows) (l i j : ℕ) → rows i ≡ other i → lets g rows l i j ≡ lets g other l i j
+  pub lets_same : (rows other : Rows) (l i j : ℕ) → rows i ≡ other i → leaves_row_open g rows l i j ≡ leaves_row_open g other l i j
   lets_same rows other l i j e = ap (λ o. cond (g.strict i j) (is_before l o) (cond (g.weak i j) (is_by l o) true)) e
 
-  pub lets_open : (rows other : Rows) (l k i j : ℕ) → is_none (rows i) ≡ true → lets g rows l i j ≡ true → lets g other k i j ≡ true
+  pub lets_open : (rows other : Rows) (l k i j : ℕ) → is_none (rows i) ≡ true → leaves_row_open g rows l i j ≡ true → leaves_row_open g other k i j ≡ true
   lets_open rows other l k i j e h = lets_none (g.strict i j) (g.weak i j) l k (other i)
       (subst (λ o. cond (g.strict i j) (is_before l o) (cond (g.weak i j) (is_by l o) true) ≡ true) (is_none_of (rows i) e) h)
 
@@ -140,16 +141,17 @@ module _ (g : Graph) where
   stands units rows r used j e = and_first (is_none (rows j)) (is_ready g rows r j)
       (and_first (is_none (rows j) && is_ready g rows r j) (suffice units used (g.uses j)) e)
 
-  pub stands_ready : (units : Units) (rows : Rows) (r : ℕ) (used : Units) (j i : ℕ) → may_stand g units rows r used j ≡ true → i < j → lets g rows r i j ≡ true
+  pub stands_ready : (units : Units) (rows : Rows) (r : ℕ) (used : Units) (j i : ℕ) → may_stand g units rows r used j ≡ true → i < j
+      → leaves_row_open g rows r i j ≡ true
   stands_ready units rows r used j i e h =
-      in_all (λ k. lets g rows r k j) j 0 i
+      in_all (λ k. leaves_row_open g rows r k j) j 0 i
       (and_second (is_none (rows j)) (is_ready g rows r j) (and_first (is_none (rows j) && is_ready g rows r j) (suffice units used (g.uses j)) e))
       (omega arith) (omega (arith, h))
 
-module _ (g : Graph) (units : Units) where
+module _ (g : ItemGraph) (units : Units) where
   -- at the beginning of a row
   pub record Begun (r : ℕ) (rows : Rows) : Type 0 where
-    pub valid : (i j k : ℕ) → i < j → j < g.count → rows j ≡ Some k → lets g rows k i j ≡ true
+    pub valid : (i j k : ℕ) → i < j → j < g.count → rows j ≡ Some k → leaves_row_open g rows k i j ≡ true
     pub low : (j k : ℕ) → j < g.count → rows j ≡ Some k → k < r
     pub within : (q : ℕ) (x : Kind) → used_in g rows q x ≤ units x
 
@@ -165,14 +167,14 @@ module _ (g : Graph) (units : Units) where
   }
 
   valid_put : (r : ℕ) (rows : Rows) (used : Units) (k : ℕ) → Going r rows used → may_stand g units rows r used k ≡ true → (i j l : ℕ) (s t : Bool)
-      → (j == k) ≡ t → (i == k) ≡ s → i < j → j < g.count → cond t (Some r) (rows j) ≡ Some l → lets g (place_item rows k r) l i j ≡ true
+      → (j == k) ≡ t → (i == k) ≡ s → i < j → j < g.count → cond t (Some r) (rows j) ≡ Some l → leaves_row_open g (place_item rows k r) l i j ≡ true
   valid_put r rows used k w e i j l s true p q h n f =
       let c : j ≡ k = grind (arith, nat_tests) in
       let d : r ≡ l = same_Some r l f in
       let u : i < k = omega (arith, h, c) in
       let v : i ≢ k = omega (arith, u) in
-      subst (λ z. lets g (place_item rows k r) l i z ≡ true) (sym c)
-      (subst (λ z. lets g (place_item rows k r) z i k ≡ true) d
+      subst (λ z. leaves_row_open g (place_item rows k r) l i z ≡ true) (sym c)
+      (subst (λ z. leaves_row_open g (place_item rows k r) z i k ≡ true) d
       (lets_same g (place_item rows k r) rows r i k (put_other rows k r i v) ∙ stands_ready g units rows r used k i e u))
   valid_put r rows used k w e i j l true false p q h n f =
       let c : i ≡ k = grind (arith, nat_tests) in
@@ -215,9 +217,9 @@ module _ (g : Graph) (units : Units) where
     within = λ q x. (let z : used_in g (λ i. None) q x ≡ 0 = none_in g (λ i. None) q g.count x (λ j k n e. absurd (cc e)) in omega (arith, z));
   }
 
-module _ (g : Graph) (units : Units) (each : EachItemFits g units) where
+module _ (g : ItemGraph) (units : Units) (each : EachItemFits g units) where
   fill_holds : Ends g units (Begun g units) (Going g units) (begins g units) (keeps g units) (λ r rows used w stuck some. w.begun)
-      (λ r rows j k b n e. b.low j k n e) each (filling g units)
+      (λ r rows j k b n e. b.low j k n e) each (filling_of g units)
   fill_holds = filling_ends g units (Begun g units) (Going g units) (begins g units) (keeps g units) (λ r rows used w stuck some. w.begun)
       (λ r rows j k b n e. b.low j k n e) each (begun_first g units)
 
@@ -225,12 +227,12 @@ module _ (g : Graph) (units : Units) (each : EachItemFits g units) where
   is_low r None e h = absurd (cc e)
   is_low r (Some k) e h = lt-ltb k r (h k refl)
 
-  pub is_filled : IsFilled g units (filling g units)
+  pub is_filled : IsFilled g units (filling_of g units)
   is_filled =
       let w = fill_holds in
       record {
-        placed = λ j n. is_low (filling g units).count ((filling g units).rows j) (w.placed j n) (λ k e. w.holds.low j k n e);
+        placed = λ j n. is_low (filling_of g units).count ((filling_of g units).rows j) (w.placed j n) (λ k e. w.holds.low j k n e);
         valid = λ i j k h n e. w.holds.valid i j k h n e;
-        within = λ r. does_suffice units none_used (used_in g (filling g units).rows r) (λ x. (omega (arith, w.holds.within r x)));
+        within = λ r. does_suffice units none_used (used_in g (filling_of g units).rows r) (λ x. (omega (arith, w.holds.within r x)));
         no_more = w.no_more;
       }

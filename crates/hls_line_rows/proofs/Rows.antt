@@ -7,8 +7,8 @@ use Rattle.std.proofs.lemmas.Bool.{or_from}
 use Rattle.base_lemmas.proofs.Booleans.{and_first, and_second, neither_first, neither_second}
 use Rattle.fs_model.specs.Stores.{Store}
 use Rattle.fs_model.specs.Meaning.{act, act_all}
-use Rattle.fs_rules.specs.Sound.{occurs}
-use Rattle.hls_line_rows.specs.Items.{Item, done, variables_read_by, reads_of_item, changes, meet, is_strict, is_weak}
+use Rattle.fs_rules.specs.SoundParts.{occurs}
+use Rattle.hls_line_rows.specs.Items.{Item, store_after_items, variables_read_by, reads_of_item, changes, has_common_number, is_strict, is_weak}
 use Rattle.hls_line_rows.specs.Placings.{Placed, items_of, respects_edge, is_valid, all_below, join_assignments, row_at, rows_from, rows_of}
 use Rattle.hls_line_rows.proofs.Exchange.{Unbound, exchange, same_acts, agree_after}
 
@@ -19,9 +19,9 @@ AllUnbound a (q ∷ qs) = Unbound a q.item × AllUnbound a qs
 
 -- an item goes past items to which it has no edge
 goes_past : (a : Item) (qs : List Placed) (s : Store) → AllUnbound a qs
-    → done (items_of qs) (act_all a s s) ≡ act_all a (done (items_of qs) s) (done (items_of qs) s)
+    → store_after_items (items_of qs) (act_all a s s) ≡ act_all a (store_after_items (items_of qs) s) (store_after_items (items_of qs) s)
 goes_past a [] s h = refl
-goes_past a (q ∷ qs) s h = ap (done (items_of qs)) (exchange a q.item s h.0) ∙ goes_past a qs (act_all q.item s s) h.1
+goes_past a (q ∷ qs) s h = ap (store_after_items (items_of qs)) (exchange a q.item s h.0) ∙ goes_past a qs (act_all q.item s s) h.1
 
 -- a test that leaves no edge where the second lies in an earlier row
 pub no_strict : (a b x y : Bool) → cond a x (cond b (not y) true) ≡ true → x ≡ false → a ≡ false
@@ -58,19 +58,21 @@ from k ps = filter (λ p. not (nat_lt p.row k)) ps
 split_step : (p : Placed) (here after row : List Placed) (k : ℕ) (s : Store) (l m t : Bool)
     → nat_lt p.row k ≡ l → nat_lt p.row (suc k) ≡ m → (p.row == k) ≡ t
     → (nat_lt p.row k ≡ false → (p.row == k) ≡ false → AllUnbound p.item row)
-    → ((u : Store) → done (items_of here) u ≡ done (items_of after) (done (items_of row) u))
-    → done (items_of (cond (not l) (p ∷ here) here)) s ≡ done (items_of (cond (not m) (p ∷ after) after)) (done (items_of (cond t (p ∷ row) row)) s)
+    → ((u : Store) → store_after_items (items_of here) u ≡ store_after_items (items_of after) (store_after_items (items_of row) u))
+    → store_after_items (items_of (cond (not l) (p ∷ here) here)) s ≡ store_after_items (items_of (cond (not m) (p ∷ after) after))
+    (store_after_items (items_of (cond t (p ∷ row) row)) s)
 split_step p here after row k s true true false a b c un ih = ih s
 split_step p here after row k s true true true a b c un ih = absurd (grind (arith, nat_tests))
 split_step p here after row k s true false t a b c un ih = absurd (grind (arith, nat_tests))
 split_step p here after row k s false true true a b c un ih = ih (act_all p.item s s)
-split_step p here after row k s false false false a b c un ih = ih (act_all p.item s s) ∙ ap (done (items_of after)) (goes_past p.item row s (un a c))
+split_step p here after row k s false false false a b c un ih = ih (act_all p.item s s)
+    ∙ ap (store_after_items (items_of after)) (goes_past p.item row s (un a c))
 split_step p here after row k s false false true a b c un ih = absurd (grind (arith, nat_tests))
 split_step p here after row k s false true false a b c un ih = absurd (grind (arith, nat_tests))
 
 -- the items of row k may be done first
 split : (ps : List Placed) (k : ℕ) (s : Store) → is_valid ps ≡ true
-    → done (items_of (from k ps)) s ≡ done (items_of (from (suc k) ps)) (done (items_of (row_at k ps)) s)
+    → store_after_items (items_of (from k ps)) s ≡ store_after_items (items_of (from (suc k) ps)) (store_after_items (items_of (row_at k ps)) s)
 split [] k s v = refl
 split (p ∷ ps) k s v =
     split_step p (from k ps) (from (suc k) ps) (row_at k ps) k s (nat_lt p.row k) (nat_lt p.row (suc k)) (p.row == k) refl refl refl
@@ -86,36 +88,39 @@ reads_both : (a b : Item) → reads_of_item (a ++ b) ≡ reads_of_item a ++ read
 reads_both [] b = refl
 reads_both (x ∷ a) b = ap (λ z. variables_read_by x ++ z) (reads_both a b) ∙ sym (append_assoc (variables_read_by x) (reads_of_item a) (reads_of_item b))
 
-pub meet_both : (xs ys zs : List ℕ) → meet xs ys ≡ false → meet xs zs ≡ false → meet xs (ys ++ zs) ≡ false
+pub meet_both : (xs ys zs : List ℕ) → has_common_number xs ys ≡ false → has_common_number xs zs ≡ false → has_common_number xs (ys ++ zs) ≡ false
 meet_both xs [] zs p q = q
-meet_both xs (y ∷ ys) zs p q = or_from (occurs y xs) (meet xs (ys ++ zs)) (neither_first _ _ p)
-    (meet_both xs ys zs (neither_second (occurs y xs) (meet xs ys) p) q)
+meet_both xs (y ∷ ys) zs p q = or_from (occurs y xs) (has_common_number xs (ys ++ zs)) (neither_first _ _ p)
+    (meet_both xs ys zs (neither_second (occurs y xs) (has_common_number xs ys) p) q)
 
-same_row : (p q : Placed) (k : ℕ) → (p.row == k) ≡ true → (q.row == k) ≡ true → respects_edge p q ≡ true → meet (changes p.item) (reads_of_item q.item) ≡ false
+same_row :
+    (p q : Placed) (k : ℕ) → (p.row == k) ≡ true → (q.row == k) ≡ true → respects_edge p q ≡ true
+    → has_common_number (changes p.item) (reads_of_item q.item) ≡ false
 same_row p q k e f h =
     let x : nat_lt p.row q.row ≡ false = grind (arith, nat_tests) in
     neither_first _ _ (no_strict (is_strict p.item q.item) (is_weak p.item q.item) (nat_lt p.row q.row) (nat_lt q.row p.row) h x)
 
 unread_step :
     (p q : Placed) (qs : List Placed) (k : ℕ) (t : Bool) → (q.row == k) ≡ t
-    → ((q.row == k) ≡ true → meet (changes p.item) (reads_of_item q.item) ≡ false) → meet (changes p.item) (reads_of_item (join_assignments qs)) ≡ false
-    → meet (changes p.item) (reads_of_item (join_assignments (cond t (q ∷ qs) qs))) ≡ false
+    → ((q.row == k) ≡ true → has_common_number (changes p.item) (reads_of_item q.item) ≡ false)
+    → has_common_number (changes p.item) (reads_of_item (join_assignments qs)) ≡ false
+    → has_common_number (changes p.item) (reads_of_item (join_assignments (cond t (q ∷ qs) qs))) ≡ false
 unread_step p q qs k true e h rest = rw (reads_both q.item (join_assignments qs))
     (meet_both (changes p.item) (reads_of_item q.item) (reads_of_item (join_assignments qs)) (h e) rest)
 unread_step p q qs k false e h rest = rest
 
 unread_in :
     (p : Placed) (qs : List Placed) (k : ℕ) → (p.row == k) ≡ true → list_all (respects_edge p) qs ≡ true
-    → meet (changes p.item) (reads_of_item (join_assignments (row_at k qs))) ≡ false
+    → has_common_number (changes p.item) (reads_of_item (join_assignments (row_at k qs))) ≡ false
 unread_in p [] k t v = refl
 unread_in p (q ∷ qs) k t v =
     unread_step p q (row_at k qs) k (q.row == k) refl (λ e. same_row p q k t e (and_first (respects_edge p q) (list_all (respects_edge p) qs) v))
     (unread_in p qs k t (and_second (respects_edge p q) (list_all (respects_edge p) qs) v))
 
 once_step : (p : Placed) (row : List Placed) (k : ℕ) (s : Store) (t : Bool) → (p.row == k) ≡ t
-    → ((p.row == k) ≡ true → meet (changes p.item) (reads_of_item (join_assignments row)) ≡ false)
-    → ((u : Store) → act_all (join_assignments row) u u ≡ done (items_of row) u)
-    → act_all (join_assignments (cond t (p ∷ row) row)) s s ≡ done (items_of (cond t (p ∷ row) row)) s
+    → ((p.row == k) ≡ true → has_common_number (changes p.item) (reads_of_item (join_assignments row)) ≡ false)
+    → ((u : Store) → act_all (join_assignments row) u u ≡ store_after_items (items_of row) u)
+    → act_all (join_assignments (cond t (p ∷ row) row)) s s ≡ store_after_items (items_of (cond t (p ∷ row) row)) s
 once_step p row k s true e h ih =
     in_turn p.item (join_assignments row) s s
     ∙ same_acts (join_assignments row) s (act_all p.item s s) (act_all p.item s s) (agree_after p.item (reads_of_item (join_assignments row)) s (h e))
@@ -123,7 +128,8 @@ once_step p row k s true e h ih =
 once_step p row k s false e h ih = ih s
 
 -- a row done at once is its items done one after another
-at_once : (ps : List Placed) (k : ℕ) (s : Store) → is_valid ps ≡ true → act_all (join_assignments (row_at k ps)) s s ≡ done (items_of (row_at k ps)) s
+at_once : (ps : List Placed) (k : ℕ) (s : Store) → is_valid ps ≡ true
+    → act_all (join_assignments (row_at k ps)) s s ≡ store_after_items (items_of (row_at k ps)) s
 at_once [] k s v = refl
 at_once (p ∷ ps) k s v =
     once_step p (row_at k ps) k s (p.row == k) refl
@@ -145,15 +151,17 @@ from_zero [] = refl
 from_zero (p ∷ ps) = let e : nat_lt p.row 0 ≡ false = grind (arith, nat_tests) in rw e (ap (λ z. p ∷ z) (from_zero ps))
 
 rows_keep : (n k : ℕ) (ps : List Placed) (s : Store) → is_valid ps ≡ true → all_below (k + n) ps ≡ true
-    → done (rows_from k n ps) s ≡ done (items_of (from k ps)) s
-rows_keep zero k ps s v h = ap (λ z. done (items_of z) s) (sym (none_from ps k (subst (λ z. all_below z ps ≡ true) (let e : k + 0 ≡ k = omega arith in e) h)))
+    → store_after_items (rows_from k n ps) s ≡ store_after_items (items_of (from k ps)) s
+rows_keep zero k ps s v h = ap (λ z. store_after_items (items_of z) s)
+    (sym (none_from ps k (subst (λ z. all_below z ps ≡ true) (let e : k + 0 ≡ k = omega arith in e) h)))
 rows_keep (suc n) k ps s v h =
     rows_keep n (suc k) ps (act_all (join_assignments (row_at k ps)) s s) v
     (subst (λ z. all_below z ps ≡ true) (let e : k + suc n ≡ suc k + n = omega arith in e) h)
-    ∙ ap (done (items_of (from (suc k) ps))) (at_once ps k s v)
+    ∙ ap (store_after_items (items_of (from (suc k) ps))) (at_once ps k s v)
     ∙ sym (split ps k s v)
 
-pub rows_keep_the_store : (ps : List Placed) (n : ℕ) (s : Store) → is_valid ps ≡ true → all_below n ps ≡ true → done (rows_of n ps) s ≡ done (items_of ps) s
+pub rows_keep_the_store : (ps : List Placed) (n : ℕ) (s : Store) → is_valid ps ≡ true → all_below n ps ≡ true
+    → store_after_items (rows_of n ps) s ≡ store_after_items (items_of ps) s
 rows_keep_the_store ps n s v h =
     rows_keep n 0 ps s v (subst (λ z. all_below z ps ≡ true) (let e : n ≡ 0 + n = omega arith in e) h)
-    ∙ ap (λ z. done (items_of z) s) (from_zero ps)
+    ∙ ap (λ z. store_after_items (items_of z) s) (from_zero ps)

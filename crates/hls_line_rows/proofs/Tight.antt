@@ -9,7 +9,8 @@ use Rattle.std.proofs.lemmas.Option.{same_Some}
 use Rattle.hls_line_rows.specs.Items.{Item, is_strict, is_weak}
 use Rattle.hls_line_rows.specs.ItemUnits.{Units, none_used, suffice}
 use Rattle.hls_line_rows.specs.Heights.{heights, chain_of}
-use Rattle.hls_line_rows.specs.Filling.{Graph, graph_of, Rows, place_item, is_before, is_by, lets, is_ready, may_stand, more_units, filling, used_in}
+use Rattle.hls_line_rows.specs.Filling.{ItemGraph, graph_of, Rows, place_item, is_before, is_by, leaves_row_open, is_ready, may_stand, more_units, filling_of}
+use Rattle.hls_line_rows.specs.Filling.{used_in}
 use Rattle.hls_line_rows.specs.Filling.{used_by_all, EachItemFits, placed_by}
 use Rattle.hls_line_rows.proofs.Fills.{InRow, put_other, filling_ends}
 use Rattle.hls_line_rows.proofs.Placings.{suffices, does_suffice, used_open, lets_same, lets_open, stands, Begun, Going, begins, keeps, begun_first}
@@ -17,10 +18,10 @@ use Rattle.hls_line_rows.proofs.Chains.{no_shorter}
 use Rattle.hls_line_rows.proofs.Lists.{same_items, placed_valid, placed_below, heights_fall, below_chain}
 
 -- an earlier item holds another back from a row
-pub record Held (g : Graph) (rows : Rows) (r j : ℕ) : Type 0 where
+pub record Held (g : ItemGraph) (rows : Rows) (r j : ℕ) : Type 0 where
   pub by : ℕ
   pub before : by < j
-  pub holds : lets g rows r by j ≡ false
+  pub holds : leaves_row_open g rows r by j ≡ false
 
 fails_step : (f : ℕ → Bool) (n a : ℕ) (t : Bool) → f a ≡ t → (t && list_all f (range_with_len (a + 1) n)) ≡ false
     → (list_all f (range_with_len (a + 1) n) ≡ false → (i : ℕ) × (i < a + 1 + n) × (f i ≡ false)) → (i : ℕ) × (i < a + suc n) × (f i ≡ false)
@@ -42,8 +43,8 @@ some_fails : (f : ℕ → Bool) (n a : ℕ) → list_all f (range_with_len a n) 
 some_fails f zero a e = absurd (cc e)
 some_fails f (suc n) a e = fails_step f n a (f a) refl e (λ h. some_fails f n (a + 1) h)
 
-module _ (g : Graph) where
-  held_by : (rows : Rows) (k r p j i : ℕ) (t : Bool) → (i == k) ≡ t → r ≡ suc p → is_none (rows k) ≡ true → lets g rows p i j ≡ false
+module _ (g : ItemGraph) where
+  held_by : (rows : Rows) (k r p j i : ℕ) (t : Bool) → (i == k) ≡ t → r ≡ suc p → is_none (rows k) ≡ true → leaves_row_open g rows p i j ≡ false
       → cond (g.strict i j) (is_before p (cond t (Some r) (rows i))) (cond (g.weak i j) (is_by p (cond t (Some r) (rows i))) true) ≡ false
   held_by rows k r p j i true c e f h = subst (λ z. cond (g.strict i j) (is_before p (Some z)) (cond (g.weak i j) (is_by p (Some z)) true) ≡ false) (sym e)
       (held_put_by (g.strict i j) (g.weak i j) p (rows i) h)
@@ -54,17 +55,18 @@ module _ (g : Graph) where
   held_put rows k r p j e f h = record { by = h.by; before = h.before; holds = held_by rows k r p j h.by (h.by == k) refl e f h.holds }
 
   -- an edge from an item that is not placed
-  held_kept : (rows : Rows) (k r l q j : ℕ) → is_none (rows k) ≡ true → (h : Held g rows l j) → lets g rows q h.by j ≡ true → Held g (place_item rows k r) l j
+  held_kept : (rows : Rows) (k r l q j : ℕ) → is_none (rows k) ≡ true → (h : Held g rows l j) → leaves_row_open g rows q h.by j ≡ true
+      → Held g (place_item rows k r) l j
   held_kept rows k r l q j f h v = record {
     by = h.by;
     before = h.before;
     holds = lets_same g (place_item rows k r) rows l h.by j
         (put_other rows k r h.by
-        (λ e. (let a : lets g rows l h.by j ≡ true = lets_open g rows rows q l h.by j (subst (λ z. is_none (rows z) ≡ true) (sym e) f) v in
-        let b : lets g rows l h.by j ≡ false = h.holds in cc (sym b ∙ a)))) ∙ h.holds;
+        (λ e. (let a : leaves_row_open g rows l h.by j ≡ true = lets_open g rows rows q l h.by j (subst (λ z. is_none (rows z) ≡ true) (sym e) f) v in
+        let b : leaves_row_open g rows l h.by j ≡ false = h.holds in cc (sym b ∙ a)))) ∙ h.holds;
   }
 
-module _ (g : Graph) (units : Units) (ample : suffice units none_used (used_by_all g g.count) ≡ true) where
+module _ (g : ItemGraph) (units : Units) (ample : suffice units none_used (used_by_all g g.count) ≡ true) where
   pub record BegunTight (r : ℕ) (rows : Rows) : Type 0 where
     pub base : Begun g units r rows
     pub tight : (j k : ℕ) → j < g.count → rows j ≡ Some (suc k) → Held g rows k j
@@ -111,7 +113,7 @@ module _ (g : Graph) (units : Units) (ample : suffice units none_used (used_by_a
       (open_room (used_in g rows r x) (used x) (g.uses j x) (used_by_all g g.count x) (units x) (nat_lt j g.count) (lt-ltb j g.count n) (w.base.now x)
       (used_open g rows r j g.count x o) (suffices units none_used (used_by_all g g.count) ample x))) in
       let ready : is_ready g rows r j ≡ false = third_fails (is_none (rows j)) (is_ready g rows r j) (suffice units used (g.uses j)) o fits e in
-      let h = some_fails (λ i. lets g rows r i j) j 0 ready in
+      let h = some_fails (λ i. leaves_row_open g rows r i j) j 0 ready in
       record { by = h.0; before = (let i : h.0 < 0 + j = h.1 in omega (arith, i)); holds = h.2 }
 
   turns_tight : (r : ℕ) (rows : Rows) (used : Units) → GoingTight r rows used → ((j : ℕ) → j < g.count → may_stand g units rows r used j ≡ false)
@@ -131,7 +133,7 @@ module _ (g : Graph) (units : Units) (ample : suffice units none_used (used_by_a
     top = λ p c. absurd (omega (arith, c));
   }
 
-  pub tight_holds : EachItemFits g units → BegunTight (filling g units).count (filling g units).rows
+  pub tight_holds : EachItemFits g units → BegunTight (filling_of g units).count (filling_of g units).rows
   tight_holds each =
       (filling_ends g units BegunTight GoingTight begins_tight keeps_tight turns_tight (λ r rows j k b n e. b.base.low j k n e) each begun_tight_first).holds
 
@@ -148,10 +150,10 @@ held_edge false false l hi hj n o e f p h = absurd (cc f)
 
 module _ (items : List Item) (units : Units) (each : EachItemFits (graph_of items) units)
     (ample : suffice units none_used (used_by_all (graph_of items) (length items)) ≡ true) where
-  abbrev G : Graph
+  abbrev G : ItemGraph
   G = graph_of items
 
-  item_room : (b j k : ℕ) → j < b → j < length items → (filling (graph_of items) units).rows j ≡ Some k
+  item_room : (b j k : ℕ) → j < b → j < length items → (filling_of (graph_of items) units).rows j ≡ Some k
       → k + slice_index_or (heights items) j 0 < chain_of items
   item_room zero j k c n e = absurd (omega (arith, c))
   item_room (suc b) j zero c n e = omega (arith, below_chain items j n)
@@ -160,22 +162,22 @@ module _ (items : List Item) (units : Units) (each : EachItemFits (graph_of item
       let h = w.tight j l n e in
       held_edge (is_strict (slice_index_or items h.by []) (slice_index_or items j []))
       (is_weak (slice_index_or items h.by []) (slice_index_or items j [])) l (slice_index_or (heights items) h.by 0) (slice_index_or (heights items) j 0)
-      (chain_of items) ((filling (graph_of items) units).rows h.by)
+      (chain_of items) ((filling_of (graph_of items) units).rows h.by)
       (w.base.valid h.by j (suc l) h.before n e) h.holds (heights_fall items h.by j h.before n)
       (λ k f. item_room b h.by k (let i : h.by < j = h.before in omega (arith, i, c)) (let i : h.by < j = h.before in omega (arith, i, n)) f)
 
-  last_room : (r : ℕ) → (filling (graph_of items) units).count ≡ r → r ≤ chain_of items
+  last_room : (r : ℕ) → (filling_of (graph_of items) units).count ≡ r → r ≤ chain_of items
   last_room zero e = omega arith
   last_room (suc p) e =
       let t = (tight_holds (graph_of items) units ample each).top p e in
       let r : p + slice_index_or (heights items) t.number 0 < chain_of items = item_room (suc t.number) t.number p (omega arith) t.within t.is in
       omega (arith, r)
 
-  pub length_is_chain : (filling (graph_of items) units).count ≡ chain_of items
+  pub length_is_chain : (filling_of (graph_of items) units).count ≡ chain_of items
   length_is_chain =
-      let up : (filling (graph_of items) units).count ≤ chain_of items = last_room (filling (graph_of items) units).count refl in
-      let down : chain_of items ≤ (filling (graph_of items) units).count =
-      subst (λ z. chain_of z ≤ (filling (graph_of items) units).count) (same_items items 0 (filling (graph_of items) units).rows)
-      (no_shorter (placed_by items (filling (graph_of items) units)) (filling (graph_of items) units).count (placed_valid items units each)
+      let up : (filling_of (graph_of items) units).count ≤ chain_of items = last_room (filling_of (graph_of items) units).count refl in
+      let down : chain_of items ≤ (filling_of (graph_of items) units).count =
+      subst (λ z. chain_of z ≤ (filling_of (graph_of items) units).count) (same_items items 0 (filling_of (graph_of items) units).rows)
+      (no_shorter (placed_by items (filling_of (graph_of items) units)) (filling_of (graph_of items) units).count (placed_valid items units each)
       (placed_below items units each)) in
       omega (arith, up, down)

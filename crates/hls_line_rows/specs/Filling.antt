@@ -10,14 +10,14 @@ use Rattle.hls_line_rows.specs.ItemUnits.{Units, none_used, used_by, suffice}
 use Rattle.hls_line_rows.specs.Heights.{heights}
 
 -- items by their numbers
-pub record Graph : Type 0 where
+pub record ItemGraph : Type 0 where
   pub count : ℕ
   pub strict : ℕ → ℕ → Bool
   pub weak : ℕ → ℕ → Bool
   pub height : ℕ → ℕ
   pub uses : ℕ → Units
 
-abbrev pub graph_of : List Item → Graph
+abbrev pub graph_of : List Item → ItemGraph
 graph_of items = record {
   count = length items;
   strict = λ i j. is_strict (slice_index_or items i []) (slice_index_or items j []);
@@ -42,33 +42,34 @@ is_by r None = false
 is_by r (Some k) = not (nat_lt r k)
 
 -- whether item i leaves row r open to a later item j
-abbrev pub lets : Graph → Rows → ℕ → ℕ → ℕ → Bool
-lets g rows r i j = cond (g.strict i j) (is_before r (rows i)) (cond (g.weak i j) (is_by r (rows i)) true)
+abbrev pub leaves_row_open : ItemGraph → Rows → ℕ → ℕ → ℕ → Bool
+leaves_row_open g rows r i j = cond (g.strict i j) (is_before r (rows i)) (cond (g.weak i j) (is_by r (rows i)) true)
 
-abbrev pub is_ready : Graph → Rows → ℕ → ℕ → Bool
-is_ready g rows r j = list_all (λ i. lets g rows r i j) (range_with_len 0 j)
+abbrev pub is_ready : ItemGraph → Rows → ℕ → ℕ → Bool
+is_ready g rows r j = list_all (λ i. leaves_row_open g rows r i j) (range_with_len 0 j)
 
 -- whether an item may be placed in row r, of whose units so many are used
-abbrev pub may_stand : Graph → Units → Rows → ℕ → Units → ℕ → Bool
+abbrev pub may_stand : ItemGraph → Units → Rows → ℕ → Units → ℕ → Bool
 may_stand g units rows r used j = is_none (rows j) && is_ready g rows r j && suffice units used (g.uses j)
 
 -- of the numbers below n that pass the test, the one of greatest height, and of these the first
-abbrev pub higher : (ℕ → ℕ) → ℕ → Option ℕ → ℕ
-higher height n None = n
-higher height n (Some k) = cond (nat_lt (height k) (height n)) n k
+abbrev pub higher_of : (ℕ → ℕ) → ℕ → Option ℕ → ℕ
+higher_of height n None = n
+higher_of height n (Some k) = cond (nat_lt (height k) (height n)) n k
 
-abbrev pub highest : (ℕ → Bool) → (ℕ → ℕ) → ℕ → Option ℕ
-highest test height zero = None
-highest test height (suc n) = cond (test n) (Some (higher height n (highest test height n))) (highest test height n)
+abbrev pub highest_number : (ℕ → Bool) → (ℕ → ℕ) → ℕ → Option ℕ
+highest_number test height zero = None
+highest_number test height (suc n) = cond (test n) (Some (higher_of height n (highest_number test height n)))
+    (highest_number test height n)
 
-abbrev pub next_item : Graph → Units → Rows → ℕ → Units → Option ℕ
-next_item g units rows r used = highest (may_stand g units rows r used) g.height g.count
+abbrev pub next_item : ItemGraph → Units → Rows → ℕ → Units → Option ℕ
+next_item g units rows r used = highest_number (may_stand g units rows r used) g.height g.count
 
 abbrev pub more_units : Units → Units → Units
 more_units used uses k = used k + uses k
 
 -- row r is filled, by n more items at most
-abbrev pub row_filled : Graph → Units → ℕ → ℕ → Rows → Units → Rows
+abbrev pub row_filled : ItemGraph → Units → ℕ → ℕ → Rows → Units → Rows
 row_filled g units zero r rows used = rows
 row_filled g units (suc n) r rows used =
     elim (next_item g units rows r used) as (λ _. Rows) [
@@ -76,7 +77,7 @@ row_filled g units (suc n) r rows used =
       | Some k ↦ row_filled g units n r (place_item rows k r) (more_units used (g.uses k))
     ]
 
-abbrev pub all_placed : Graph → Rows → Bool
+abbrev pub all_placed : ItemGraph → Rows → Bool
 all_placed g rows = list_all (λ i. not (is_none (rows i))) (range_with_len 0 g.count)
 
 pub record Filled : Type 0 where
@@ -84,39 +85,39 @@ pub record Filled : Type 0 where
   pub count : ℕ
 
 -- n rows at most are filled, from row r on
-abbrev pub filled_from : Graph → Units → ℕ → ℕ → Rows → Filled
+abbrev pub filled_from : ItemGraph → Units → ℕ → ℕ → Rows → Filled
 filled_from g units zero r rows = record { rows = rows; count = r }
 filled_from g units (suc n) r rows = cond (all_placed g rows) (record { rows = rows; count = r })
     (filled_from g units n (suc r) (row_filled g units g.count r rows none_used))
 
-abbrev pub filling : Graph → Units → Filled
-filling g units = filled_from g units g.count 0 (λ i. None)
+abbrev pub filling_of : ItemGraph → Units → Filled
+filling_of g units = filled_from g units g.count 0 (λ i. None)
 
 abbrev pub is_in : ℕ → Option ℕ → Bool
 is_in r None = false
 is_in r (Some k) = k == r
 
 -- what is used in row r by items below n
-abbrev pub used_below : Graph → Rows → ℕ → ℕ → Units
+abbrev pub used_below : ItemGraph → Rows → ℕ → ℕ → Units
 used_below g rows r zero k = 0
 used_below g rows r (suc n) k = used_below g rows r n k + cond (is_in r (rows n)) (g.uses n k) 0
 
-abbrev pub used_in : Graph → Rows → ℕ → Units
+abbrev pub used_in : ItemGraph → Rows → ℕ → Units
 used_in g rows r k = used_below g rows r g.count k
 
 -- what all items below n use
-abbrev pub used_by_all : Graph → ℕ → Units
+abbrev pub used_by_all : ItemGraph → ℕ → Units
 used_by_all g zero k = 0
 used_by_all g (suc n) k = used_by_all g n k + g.uses n k
 
 -- each item alone is within the units
-abbrev pub EachItemFits : Graph → Units → Type 0
+abbrev pub EachItemFits : ItemGraph → Units → Type 0
 EachItemFits g units = (j : ℕ) → j < g.count → suffice units none_used (g.uses j) ≡ true
 
 -- what holds of a filling
-pub record IsFilled (g : Graph) (units : Units) (f : Filled) : Type 0 where
+pub record IsFilled (g : ItemGraph) (units : Units) (f : Filled) : Type 0 where
   pub placed : (j : ℕ) → j < g.count → is_before f.count (f.rows j) ≡ true
-  pub valid : (i j k : ℕ) → i < j → j < g.count → f.rows j ≡ Some k → lets g f.rows k i j ≡ true
+  pub valid : (i j k : ℕ) → i < j → j < g.count → f.rows j ≡ Some k → leaves_row_open g f.rows k i j ≡ true
   pub within : (r : ℕ) → suffice units none_used (used_in g f.rows r) ≡ true
   pub no_more : f.count ≤ g.count
 
@@ -135,4 +136,4 @@ placed_by items f = placed_from 0 items f.rows
 
 -- the rows of a line, each as one item
 abbrev pub new_rows : Units → List Item → List Item
-new_rows units items = let f = filling (graph_of items) units in rows_of f.count (placed_by items f)
+new_rows units items = let f = filling_of (graph_of items) units in rows_of f.count (placed_by items f)

@@ -3,14 +3,14 @@ use Rattle.std.specs.Prelude.{ℕ, suc, cond, max, List, [], ◌∷◌}
 use Rattle.hls_line_rows.specs.Items.{Item, is_strict, is_weak}
 
 -- the strict edges of a walk that begins with the edge from an item to one of a height
-abbrev pub through : Item → Item → ℕ → ℕ
-through a b height = cond (is_strict a b) (suc height) (cond (is_weak a b) height 0)
+abbrev pub strict_edges_through : Item → Item → ℕ → ℕ
+strict_edges_through a b height = cond (is_strict a b) (suc height) (cond (is_weak a b) height 0)
 
 -- the greatest number of strict edges on walks from an item to later ones, whose heights are these
 abbrev pub height_over : Item → List Item → List ℕ → ℕ
 height_over a [] hs = 0
 height_over a (b ∷ bs) [] = 0
-height_over a (b ∷ bs) (h ∷ hs) = max (through a b h) (height_over a bs hs)
+height_over a (b ∷ bs) (h ∷ hs) = max (strict_edges_through a b h) (height_over a bs hs)
 
 abbrev pub heights : List Item → List ℕ
 heights [] = []

@@ -5,16 +5,16 @@ use Rattle.fs_model.specs.Terms.{Term, Number, Variable, Read, Sum, Difference, 
 use Rattle.fs_model.specs.Terms.{Assignment, Assign, ArrayWrite, Emit}
 use Rattle.fs_model.specs.Stores.{Store}
 use Rattle.fs_model.specs.Meaning.{act_all}
-use Rattle.fs_rules.specs.Sound.{changed_by, assigned_in, occurs}
+use Rattle.fs_rules.specs.SoundParts.{changed_by, assigned_in, occurs}
 
 -- an item: the assignments of one transition, over numbers of variables
 abbrev pub Item : Type 0
 Item = List (Assignment ℕ)
 
 -- items one after another: each has its right sides, indices and emitted numbers valued in the store before it
-abbrev pub done : List Item → Store → Store
-done [] s = s
-done (a ∷ items) s = done items (act_all a s s)
+abbrev pub store_after_items : List Item → Store → Store
+store_after_items [] s = s
+store_after_items (a ∷ items) s = store_after_items items (act_all a s s)
 
 -- the variables that a term reads, arrays with their indices
 abbrev pub read_in : Term ℕ → List ℕ
@@ -56,13 +56,15 @@ emits (ArrayWrite x i e ∷ rest) = emits rest
 emits (Emit x e ∷ rest) = true
 
 -- whether one of the second list occurs in the first
-abbrev pub meet : List ℕ → List ℕ → Bool
-meet xs ys = list_any (λ y. occurs y xs) ys
+abbrev pub has_common_number : List ℕ → List ℕ → Bool
+has_common_number xs ys = list_any (λ y. occurs y xs) ys
 
 -- of two items in their order: the second reads what the first changes, or both assign the same scalar, or both emit
 abbrev pub is_strict : Item → Item → Bool
-is_strict i j = meet (changes i) (reads_of_item j) || (meet (assigned_in i) (assigned_in j) || (emits i && emits j))
+is_strict i j = has_common_number (changes i) (reads_of_item j)
+    || (has_common_number (assigned_in i) (assigned_in j) || (emits i && emits j))
 
 -- otherwise: the first reads what the second changes, or both write the same array
 abbrev pub is_weak : Item → Item → Bool
-is_weak i j = not (is_strict i j) && (meet (changes j) (reads_of_item i) || meet (stored_in i) (stored_in j))
+is_weak i j = not (is_strict i j)
+    && (has_common_number (changes j) (reads_of_item i) || has_common_number (stored_in i) (stored_in j))

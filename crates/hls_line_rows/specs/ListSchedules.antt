@@ -2,7 +2,7 @@
 use Rattle.std.specs.Prelude.{◌≡◌, ℕ, suc, ◌+◌, ◌<◌, ◌≤◌, true, Some, None}
 use Rattle.hls_unit_counts.specs.declared.units.Unit.{Unit as Kind}
 use Rattle.hls_line_rows.specs.ItemUnits.{Units, none_used}
-use Rattle.hls_line_rows.specs.Filling.{Graph, Rows, place_item, more_units, Filled}
+use Rattle.hls_line_rows.specs.Filling.{ItemGraph, Rows, place_item, more_units, Filled}
 
 -- an item has a row before another, or one that is no later
 pub record IsBefore (rows : Rows) (i r : ℕ) : Type 0 where
@@ -16,7 +16,7 @@ pub record IsNoLater (rows : Rows) (i r : ℕ) : Type 0 where
   pub no_later : row ≤ r
 
 -- an item may be placed in row r, of whose units so many are used
-pub record MayStand (g : Graph) (units : Units) (rows : Rows) (r : ℕ) (used : Units) (j : ℕ) : Type 0 where
+pub record MayStand (g : ItemGraph) (units : Units) (rows : Rows) (r : ℕ) (used : Units) (j : ℕ) : Type 0 where
   pub within : j < g.count
   pub is_open : rows j ≡ None
   pub strict : (i : ℕ) → i < j → g.strict i j ≡ true → IsBefore rows i r
@@ -24,14 +24,14 @@ pub record MayStand (g : Graph) (units : Units) (rows : Rows) (r : ℕ) (used : 
   pub fits : (k : Kind) → used k + g.uses j k ≤ units k
 
 -- of the items that may be placed the one of greatest height, and of these the first
-pub record GoesFirst (g : Graph) (units : Units) (rows : Rows) (r : ℕ) (used : Units) (k : ℕ) : Type 0 where
+pub record GoesFirst (g : ItemGraph) (units : Units) (rows : Rows) (r : ℕ) (used : Units) (k : ℕ) : Type 0 where
   pub may : MayStand g units rows r used k
   pub no_higher : (j : ℕ) → MayStand g units rows r used j → g.height j ≤ g.height k
   pub first : (j : ℕ) → MayStand g units rows r used j → g.height j ≡ g.height k → k ≤ j
 
 -- from row r on, of whose units so many are used, items are placed one by one, each the one that goes first; the next row
 -- begins where none may be placed, and all ends where each has a row
-pub data IsListSchedule (g : Graph) (units : Units) : ℕ → Rows → Units → Filled → Type 0 where
+pub data IsListSchedule (g : ItemGraph) (units : Units) : ℕ → Rows → Units → Filled → Type 0 where
   ends : (r : ℕ) (rows : Rows) → ((j : ℕ) → j < g.count → rows j ≡ None → ⊥)
       → IsListSchedule g units r rows none_used (record { rows = rows; count = r })
   places : (r k : ℕ) (rows : Rows) (used : Units) (f : Filled) → GoesFirst g units rows r used k
@@ -40,7 +40,7 @@ pub data IsListSchedule (g : Graph) (units : Units) : ℕ → Rows → Units →
       → IsListSchedule g units (suc r) rows none_used f → IsListSchedule g units r rows used f
 
 -- an item of a row
-pub record HasItem (g : Graph) (rows : Rows) (r : ℕ) : Type 0 where
+pub record HasItem (g : ItemGraph) (rows : Rows) (r : ℕ) : Type 0 where
   pub item : ℕ
   pub within : item < g.count
   pub is : rows item ≡ Some r

@@ -5,7 +5,7 @@ ghost use Rattle.hls_line_rows.specs.Items.{Item};
 ghost use Rattle.hls_line_rows.specs.Placings.{Placed, items_of, is_valid, all_below};
 ghost use Rattle.hls_line_rows.specs.ItemUnits.{Units, none_used, suffice};
 ghost use Rattle.hls_line_rows.specs.Heights.{chain_of};
-ghost use Rattle.hls_line_rows.specs.Filling.{Graph, graph_of, used_by_all, EachItemFits, filling, IsFilled, placed_by};
+ghost use Rattle.hls_line_rows.specs.Filling.{ItemGraph, graph_of, used_by_all, EachItemFits, filling_of, IsFilled, placed_by};
 ghost use Rattle.hls_line_rows.specs.Walks.{AreGreatest, IsGreatestChain};
 ghost use Rattle.hls_line_rows.specs.ListSchedules.{IsListSchedule, HasItem};
 
@@ -16,23 +16,23 @@ pub fn no_placing_is_shorter_than_the_chain()
 
 /// Each item is placed, on each edge as it must be, each row is within the units, and there are no more rows than items.
 pub fn a_filling_is_a_valid_placing()
-    ensures { (g : Graph) (units : Units) → EachItemFits g units → IsFilled g units (filling g units) }
+    ensures { (g : ItemGraph) (units : Units) → EachItemFits g units → IsFilled g units (filling_of g units) }
 {}
 
 /// The items of a line with the rows of its filling are a valid placing, in the line's order.
 pub fn a_line_is_placed()
-    ensures items { (items : List Item) (units : Units) → items_of (placed_by items (filling (graph_of items) units)) ≡ items }
+    ensures items { (items : List Item) (units : Units) → items_of (placed_by items (filling_of (graph_of items) units)) ≡ items }
     ensures valid { (items : List Item) (units : Units) → EachItemFits (graph_of items) units
-        → is_valid (placed_by items (filling (graph_of items) units)) ≡ true }
+        → is_valid (placed_by items (filling_of (graph_of items) units)) ≡ true }
     ensures below { (items : List Item) (units : Units) → EachItemFits (graph_of items) units
-        → all_below (filling (graph_of items) units).count (placed_by items (filling (graph_of items) units)) ≡ true }
+        → all_below (filling_of (graph_of items) units).count (placed_by items (filling_of (graph_of items) units)) ≡ true }
 {}
 
 /// Where the units suffice for all items together, the filling is as long as the chain.
 pub fn with_units_for_all_the_length_is_the_chain()
     ensures { (items : List Item) (units : Units) → EachItemFits (graph_of items) units
         → suffice units none_used (used_by_all (graph_of items) (length items)) ≡ true
-        → (filling (graph_of items) units).count ≡ chain_of items }
+        → (filling_of (graph_of items) units).count ≡ chain_of items }
 {}
 
 /// The height of each item is the greatest number of strict edges on walks from it, and the chain of a line is 1 plus the
@@ -45,8 +45,8 @@ pub fn heights_are_greatest_walks()
 /// A filling is a list schedule: of the items that may be placed in a row the highest goes first, at a tie the first of
 /// the line, and a row ends where none may be placed. Each row has an item.
 pub fn a_filling_is_a_list_schedule()
-    ensures schedule { (g : Graph) (units : Units) → EachItemFits g units
-        → IsListSchedule g units 0 (λ i. None) none_used (filling g units) }
-    ensures rows { (g : Graph) (units : Units) → EachItemFits g units → (r : ℕ) → r < (filling g units).count
-        → HasItem g (filling g units).rows r }
+    ensures schedule { (g : ItemGraph) (units : Units) → EachItemFits g units
+        → IsListSchedule g units 0 (λ i. None) none_used (filling_of g units) }
+    ensures rows { (g : ItemGraph) (units : Units) → EachItemFits g units → (r : ℕ) → r < (filling_of g units).count
+        → HasItem g (filling_of g units).rows r }
 {}

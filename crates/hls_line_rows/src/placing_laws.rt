@@ -3,14 +3,14 @@
 ghost use Rattle.std.specs.Prelude.{◌≡◌, ℕ, ◌≤◌, nat_le, true, List};
 ghost use Rattle.std.specs.List.{list_all};
 ghost use Rattle.fs_model.specs.Stores.{Store};
-ghost use Rattle.fs_rules.specs.Sound.{all_differ, assigned_in, emit_count};
-ghost use Rattle.hls_line_rows.specs.Items.{done};
+ghost use Rattle.fs_rules.specs.SoundParts.{all_differ, assigned_in, emit_count};
+ghost use Rattle.hls_line_rows.specs.Items.{store_after_items};
 ghost use Rattle.hls_line_rows.specs.Placings.{Placed, items_of, is_valid, all_below, join_assignments, row_at, rows_of};
 
 /// The rows of a valid placing end with the store with which the items end one after another.
 pub fn a_valid_placing_keeps_the_store()
     ensures { (ps : List Placed) (n : ℕ) (s : Store) → is_valid ps ≡ true → all_below n ps ≡ true
-        → done (rows_of n ps) s ≡ done (items_of ps) s }
+        → store_after_items (rows_of n ps) s ≡ store_after_items (items_of ps) s }
 {}
 
 /// A row of a valid placing assigns no scalar twice where no item does.

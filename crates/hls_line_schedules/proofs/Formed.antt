@@ -10,12 +10,13 @@ use Rattle.fs_model.specs.Machines.{Fsmd}
 use Rattle.fs_model.specs.WellFormed.{is_well_formed_condition, is_well_formed_assignment, is_well_formed_transition, is_well_formed_state}
 use Rattle.fs_model.specs.WellFormed.{is_well_formed_declaration, is_well_formed}
 use Rattle.hls_line_rows.specs.ItemUnits.{Units}
-use Rattle.hls_line_rows.specs.Filling.{graph_of, filling}
+use Rattle.hls_line_rows.specs.Filling.{graph_of, filling_of}
 use Rattle.hls_line_machines.specs.StraightLines.{all_states, is_straight, straight_line_at, exit_of, firsts, items_at}
-use Rattle.hls_line_machines.specs.Replaced.{MoveOver, moves}
+use Rattle.hls_line_machines.specs.RowMachines.{MoveOver, moves}
 use Rattle.hls_line_machines.proofs.Among.{Among, joined_from}
 use Rattle.hls_line_schedules.proofs.Within.{move_row, row_joined}
-use Rattle.hls_line_schedules.specs.SourceRows.{source_state, first_assignments, named_item, placed_in_line, named_rows, named_moves, Done, first_done}
+use Rattle.hls_line_schedules.specs.SourceRows.{source_state, first_assignments, named_item, placed_in_line, named_rows, named_moves, RowEffect}
+use Rattle.hls_line_schedules.specs.SourceRows.{first_row_effect}
 use Rattle.hls_line_schedules.specs.Sources.{state_by, states_by, scheduled_source}
 use Rattle.hls_line_schedules.proofs.Lists.{among_mapped}
 use Rattle.hls_line_schedules.proofs.Found.{found_in}
@@ -42,19 +43,19 @@ module _ (units : Units) (p : Source) (m : Fsmd) (formed : list_all is_well_form
   move_formed : (x : MoveOver (List ℕ)) → Among x (named_moves units p m) → list_all is_well_formed_assignment x.assignments ≡ true
   move_formed x h =
       let w = joined_from (λ q. moves (exit_of m q) (straight_line_at m q) (named_rows units p m q)) x (firsts m) h in
-      let g = filling (graph_of (items_at m w.0)) units in
+      let g = filling_of (graph_of (items_at m w.0)) units in
       let j = row_joined (placed_in_line p (straight_line_at m w.0) g) g.count 0 x.assignments
       (move_row (exit_of m w.0) (straight_line_at m w.0) (named_rows units p m w.0) x w.2) in
       subst (λ z. list_all is_well_formed_assignment z ≡ true) (sym j.1)
       (row_passes is_well_formed_assignment (λ a. a) refl (λ a b. refl) (map (named_item p) (straight_line_at m w.0)) g j.0
       (item_formed (straight_line_at m w.0)))
 
-  by_row : (q : ℕ) (o : Option Done) → first_done (named_moves units p m) q ≡ o → list_all is_well_formed_state (state_by p m q o) ≡ true
+  by_row : (q : ℕ) (o : Option RowEffect) → first_row_effect (named_moves units p m) q ≡ o → list_all is_well_formed_state (state_by p m q o) ≡ true
   by_row q None e = one_or_none (is_straight m q) (source_state p q) (state_formed q)
   by_row q (Some d) e =
       let w = found_in (named_moves units p m) q d e in
       let f : list_all is_well_formed_assignment d.0 ≡ true =
-      subst (λ (z : Done). list_all is_well_formed_assignment z.0 ≡ true) w.does (move_formed w.move w.among) in
+      subst (λ (z : RowEffect). list_all is_well_formed_assignment z.0 ≡ true) w.does (move_formed w.move w.among) in
       and_from (list_all is_well_formed_assignment d.0 && true) true (and_from (list_all is_well_formed_assignment d.0) true f refl) refl
 
 pub scheduled_formed : (units : Units) (p : Source) (m : Fsmd) → is_well_formed p ≡ true → is_well_formed (scheduled_source units p m) ≡ true
@@ -62,5 +63,5 @@ scheduled_formed units p m h =
     let ds = and_first (list_all is_well_formed_declaration p.declarations) (list_all is_well_formed_state p.states) h in
     let ss = and_second (list_all is_well_formed_declaration p.declarations) (list_all is_well_formed_state p.states) h in
     and_from (list_all is_well_formed_declaration p.declarations) (list_all is_well_formed_state (scheduled_source units p m).states) ds
-    (all_flat is_well_formed_state (states_by p m (first_done (named_moves units p m))) (all_states m)
-    (λ q. by_row units p m ss q (first_done (named_moves units p m) q) refl))
+    (all_flat is_well_formed_state (states_by p m (first_row_effect (named_moves units p m))) (all_states m)
+    (λ q. by_row units p m ss q (first_row_effect (named_moves units p m) q) refl))

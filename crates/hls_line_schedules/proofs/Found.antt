@@ -8,14 +8,14 @@ use Rattle.base_lemmas.proofs.Booleans.{and_first}
 use Rattle.fs_model.specs.Terms.{Assignment}
 use Rattle.fs_model.specs.Source.{Source}
 use Rattle.fs_model.specs.Machines.{Fsmd}
-use Rattle.fs_rules.specs.Sound.{IsSound}
+use Rattle.fs_rules.specs.SoundParts.{IsSound}
 use Rattle.hls_line_machines.specs.StraightLines.{all_states, is_straight, follows, next_state, line_from, straight_line_at, exit_of, is_inner}
 use Rattle.hls_line_machines.specs.StraightLines.{is_first_of_line, firsts}
-use Rattle.hls_line_machines.specs.Replaced.{MoveOver, after_row, moves, all_moves}
+use Rattle.hls_line_machines.specs.RowMachines.{MoveOver, after_row, moves, all_moves}
 use Rattle.hls_line_machines.proofs.Among.{Among, passes_test, was_among, range_within, joined_from}
 use Rattle.hls_line_machines.proofs.Trails.{next_in, follows_on, Station, leaves_line}
 use Rattle.hls_line_rows.specs.ItemUnits.{Units}
-use Rattle.hls_line_schedules.specs.SourceRows.{named_rows, named_moves, Done, first_done}
+use Rattle.hls_line_schedules.specs.SourceRows.{named_rows, named_moves, RowEffect, first_row_effect}
 use Rattle.hls_line_schedules.specs.Sources.{states_by, source_by_rows, scheduled_source}
 use Rattle.hls_line_schedules.proofs.Lists.{flat_same}
 
@@ -25,40 +25,41 @@ or_step d o a b true e = refl
 or_step d o a b false e = e
 
 -- of moves one after another, the first that is found
-pub found_joined : (xs ys : List (MoveOver (List ℕ))) (q : ℕ) → first_done (xs ++ ys) q ≡ option_or (first_done xs q) (first_done ys q)
+pub found_joined : (xs ys : List (MoveOver (List ℕ))) (q : ℕ) → first_row_effect (xs ++ ys) q ≡ option_or (first_row_effect xs q) (first_row_effect ys q)
 found_joined [] ys q = refl
-found_joined (x ∷ xs) ys q = or_step (x.assignments, x.target) (first_done (xs ++ ys) q) (first_done xs q) (first_done ys q) (x.state == q)
+found_joined (x ∷ xs) ys q = or_step (x.assignments, x.target) (first_row_effect (xs ++ ys) q) (first_row_effect xs q) (first_row_effect ys q) (x.state == q)
     (found_joined xs ys q)
 
 any_step : {A : Type 0} (d : A) (o : Option A) (b t : Bool) → is_some o ≡ b → is_some (cond t (Some d) o) ≡ (t || b)
 any_step d o b true e = refl
 any_step d o b false e = e
 
-pub any_found : (xs : List (MoveOver (List ℕ))) (q : ℕ) → is_some (first_done xs q) ≡ list_any (λ x. x.state == q) xs
+pub any_found : (xs : List (MoveOver (List ℕ))) (q : ℕ) → is_some (first_row_effect xs q) ≡ list_any (λ x. x.state == q) xs
 any_found [] q = refl
-any_found (x ∷ xs) q = any_step (x.assignments, x.target) (first_done xs q) (list_any (λ y. y.state == q) xs) (x.state == q) (any_found xs q)
+any_found (x ∷ xs) q = any_step (x.assignments, x.target) (first_row_effect xs q) (list_any (λ y. y.state == q) xs) (x.state == q) (any_found xs q)
 
 -- it is what a move of the state does
-pub record IsFoundIn (xs : List (MoveOver (List ℕ))) (d : Done) : Type 0 where
+pub record IsFoundIn (xs : List (MoveOver (List ℕ))) (d : RowEffect) : Type 0 where
   pub move : MoveOver (List ℕ)
   pub among : Among move xs
   pub does : (move.assignments, move.target) ≡ d
 
-in_step : (x : MoveOver (List ℕ)) (xs : List (MoveOver (List ℕ))) (o : Option Done) (d : Done) (t : Bool) → cond t (Some (x.assignments, x.target)) o ≡ Some d
+in_step : (x : MoveOver (List ℕ)) (xs : List (MoveOver (List ℕ))) (o : Option RowEffect) (d : RowEffect) (t : Bool)
+    → cond t (Some (x.assignments, x.target)) o ≡ Some d
     → (o ≡ Some d → IsFoundIn xs d) → IsFoundIn (x ∷ xs) d
 in_step x xs o d true e next = record { move = x; among = inl refl; does = cc e }
 in_step x xs o d false e next = let w = next e in record { move = w.move; among = inr w.among; does = w.does }
 
-pub found_in : (xs : List (MoveOver (List ℕ))) (q : ℕ) (d : Done) → first_done xs q ≡ Some d → IsFoundIn xs d
+pub found_in : (xs : List (MoveOver (List ℕ))) (q : ℕ) (d : RowEffect) → first_row_effect xs q ≡ Some d → IsFoundIn xs d
 found_in [] q d e = absurd (cc e)
-found_in (x ∷ xs) q d e = in_step x xs (first_done xs q) d (x.state == q) e (found_in xs q d)
+found_in (x ∷ xs) q d e = in_step x xs (first_row_effect xs q) d (x.state == q) e (found_in xs q d)
 
 -- rows that are found for each state of a machine
-pub text_by_rows : (units : Units) (p : Source) (m : Fsmd) (rows : ℕ → Option Done)
-    → ((q : ℕ) → q < length m.states → rows q ≡ first_done (named_moves units p m) q) → source_by_rows p m rows ≡ scheduled_source units p m
+pub text_by_rows : (units : Units) (p : Source) (m : Fsmd) (rows : ℕ → Option RowEffect)
+    → ((q : ℕ) → q < length m.states → rows q ≡ first_row_effect (named_moves units p m) q) → source_by_rows p m rows ≡ scheduled_source units p m
 text_by_rows units p m rows h =
     ap (λ ss. record { declarations = p.declarations; reset_line = p.reset_line; reset = p.reset; states = ss })
-    (flat_same (states_by p m rows) (states_by p m (first_done (named_moves units p m))) (all_states m)
+    (flat_same (states_by p m rows) (states_by p m (first_row_effect (named_moves units p m))) (all_states m)
     (λ q w. let i : q < 0 + length m.states = range_within 0 (length m.states) q w in ap (λ o. states_by p m (λ k. o) q) (h q (omega (arith, i)))))
 
 -- ---- where rows lead
@@ -116,7 +117,7 @@ module _ (m : Fsmd) (sound : IsSound m) where
         | inr v ↦ (line_is w.0 x.target w.1 v).within
       ]
 
-  pub found_leads_in : (units : Units) (p : Source) (q : ℕ) (d : Done) → first_done (named_moves units p m) q ≡ Some d → d.1 < length m.states
+  pub found_leads_in : (units : Units) (p : Source) (q : ℕ) (d : RowEffect) → first_row_effect (named_moves units p m) q ≡ Some d → d.1 < length m.states
   found_leads_in units p q d e =
       let w = found_in (named_moves units p m) q d e in
-      subst (λ (z : Done). z.1 < length m.states) w.does (leads_in (named_rows units p m) w.move w.among)
+      subst (λ (z : RowEffect). z.1 < length m.states) w.does (leads_in (named_rows units p m) w.move w.among)

@@ -15,9 +15,10 @@ use Rattle.fs_model.specs.Source.{Source}
 use Rattle.fs_model.specs.Machines.{State, Fsmd, transitions_of}
 use Rattle.fs_model.specs.Trees.{branches_of}
 use Rattle.fs_rules.specs.MachineOfParts.{machine_of}
-use Rattle.fs_rules.specs.Sound.{IsSound, scalar_at, array_at, port_at, input_at, changed_by, assigned_in, all_differ, scalars_in_condition}
-use Rattle.fs_rules.specs.Sound.{arrays_in_condition, scalars_in_assignments, arrays_in_assignments, port_in, ports_in_assignments, emit_count, names_differ}
-use Rattle.fs_rules.specs.Sound.{occurs, is_open, ends_open, branch_count}
+use Rattle.fs_rules.specs.SoundParts.{IsSound, scalar_at, array_at, port_at, input_at, changed_by, assigned_in, all_differ, scalars_in_condition}
+use Rattle.fs_rules.specs.SoundParts.{arrays_in_condition, scalars_in_assignments, arrays_in_assignments, port_in, ports_in_assignments, emit_count}
+use Rattle.fs_rules.specs.SoundParts.{names_differ}
+use Rattle.fs_rules.specs.SoundParts.{occurs, is_open, ends_open, branch_count}
 use Rattle.fs_rules.specs.Rules.{IsEndless, BreaksNoRule}
 use Rattle.fs_ast.proofs.Kept.{no_state, get_mapped}
 use Rattle.fs_ast_laws.proofs.Repeats.{kept_differ}
@@ -28,12 +29,12 @@ use Rattle.hls_line_rows.specs.Placings.{is_valid, join_assignments, row_at}
 use Rattle.hls_line_rows.proofs.Once.{assigns_once}
 use Rattle.hls_line_rows.proofs.Emits.{emits_few}
 use Rattle.hls_line_rows.specs.ItemUnits.{Units}
-use Rattle.hls_line_rows.specs.Filling.{graph_of, filling, placed_by}
+use Rattle.hls_line_rows.specs.Filling.{graph_of, filling_of, placed_by}
 use Rattle.hls_line_rows.proofs.Lists.{placed_valid}
 use Rattle.hls_line_machines.specs.StraightLines.{all_states, straight_line_at, exit_of, is_first_of_line, firsts, item_of, items_at}
-use Rattle.hls_line_machines.specs.Replaced.{Move, moves, all_moves, move_transition, lines_by, state_at, replaced, KeepsStores}
-use Rattle.hls_line_machines.specs.Selected.{selected_place, renumbered, IsClosedUnderTargets}
-use Rattle.hls_line_machines.specs.Scheduled.{is_kept, kept_states}
+use Rattle.hls_line_machines.specs.RowMachines.{Move, moves, all_moves, move_transition, transitions_by, state_at, machine_with_rows, KeepsStores}
+use Rattle.hls_line_machines.specs.MachineSelections.{selected_place, transition_renumbered, IsClosedUnderTargets}
+use Rattle.hls_line_machines.specs.ScheduledMachines.{is_kept, kept_states}
 use Rattle.hls_line_machines.proofs.Among.{Among, passes_test, joined_from, occurs_among}
 use Rattle.hls_line_machines.proofs.Replacing.{Does, does}
 use Rattle.hls_line_machines.proofs.Dropping.{Kind, of_kept, stays, closed}
@@ -59,7 +60,7 @@ ports_joined (c ∷ a) b = ap (λ (r : List ℕ). port_in c ++ r) (ports_joined 
     ∙ sym (append_assoc (port_in c) (ports_in_assignments a) (ports_in_assignments b))
 
 -- ---- renumbered transitions
-open_renumbered : (keep : List ℕ) (ls : List (Transition ℕ ℕ)) → ends_open (map (renumbered keep) ls) ≡ ends_open ls
+open_renumbered : (keep : List ℕ) (ls : List (Transition ℕ ℕ)) → ends_open (map (transition_renumbered keep) ls) ≡ ends_open ls
 open_renumbered keep [] = refl
 open_renumbered keep (l ∷ []) = refl
 open_renumbered keep (l ∷ k ∷ ls) = ap (λ b. not (is_open l) && b) (open_renumbered keep (k ∷ ls))
@@ -80,7 +81,7 @@ module _ (m : Fsmd) (units : Units) (sound : IsSound m) (within : IsWithin units
   keep = kept_states m rows
 
   abbrev New : Fsmd
-  New = replaced m rows
+  New = machine_with_rows m rows
 
   keeps : KeepsStores m rows
   keeps = keeps_stores m units sound within
@@ -106,10 +107,10 @@ module _ (m : Fsmd) (units : Units) (sound : IsSound m) (within : IsWithin units
       subst (λ z. IsFaultless m.variables None z) (sym (r.2 ∙ l.2)) f
 
   row_faultless : (q k : ℕ) → Among q (firsts m)
-      → IsFaultless m.variables None (join_assignments (row_at k (placed_by (items_at m q) (filling (graph_of (items_at m q)) units))))
+      → IsFaultless m.variables None (join_assignments (row_at k (placed_by (items_at m q) (filling_of (graph_of (items_at m q)) units))))
   row_faultless q k w =
       let items = items_at m q in
-      let g = filling (graph_of items) units in
+      let g = filling_of (graph_of items) units in
       let s = first_is m sound q w in
       let valid : is_valid (placed_by items g) ≡ true = placed_valid items units
       (each_fits m units sound within q s.within (passes_test (is_first_of_line m) q (all_states m) w)) in
@@ -128,7 +129,7 @@ module _ (m : Fsmd) (units : Units) (sound : IsSound m) (within : IsWithin units
   move_faultless : (x : Move) → Among x (all_moves m rows) → IsFaultless m.variables None x.assignments
   move_faultless x h =
       let w = joined_from (λ q. moves (exit_of m q) (straight_line_at m q) (rows q)) x (firsts m) h in
-      let g = filling (graph_of (items_at m w.0)) units in
+      let g = filling_of (graph_of (items_at m w.0)) units in
       let j = row_joined (placed_by (items_at m w.0) g) g.count 0 x.assignments (move_row (exit_of m w.0) (straight_line_at m w.0) (rows w.0) x w.2) in
       subst (λ z. IsFaultless m.variables None z) (sym j.1) (row_faultless w.0 j.0 w.1)
 
@@ -156,7 +157,7 @@ module _ (m : Fsmd) (units : Units) (sound : IsSound m) (within : IsWithin units
   S = schedule_of units m
 
   abbrev selected_state : ℕ → State
-  selected_state q = record { name = (state_at New q).name; lines = map (renumbered keep) (transitions_of New q) }
+  selected_state q = record { name = (state_at New q).name; lines = map (transition_renumbered keep) (transitions_of New q) }
 
   state_count : length S.states ≡ length keep
   state_count = length_map selected_state keep
@@ -166,7 +167,7 @@ module _ (m : Fsmd) (units : Units) (sound : IsSound m) (within : IsWithin units
       each_at (λ (s : State). (k : ℕ) (l : Transition ℕ ℕ) → slice_get s.lines k ≡ Some l → IsFaultless m.variables l.guard l.assignments) selected_state
       keep q no_state
       (λ r w k l e.
-      let x = get_mapped (renumbered keep) (transitions_of New r) k l e in
+      let x = get_mapped (transition_renumbered keep) (transitions_of New r) k l e in
       let o = of_kept m sound rows keeps r (occurs_among r keep w) in
       subst (λ (z : Transition ℕ ℕ). IsFaultless m.variables z.guard z.assignments) (sym x.1.1) (line_by r k x.0 o.within o.kind x.1.0))
       (λ k l e. absurd (cc e))
@@ -175,7 +176,7 @@ module _ (m : Fsmd) (units : Units) (sound : IsSound m) (within : IsWithin units
   leads_in q =
       each_at (λ (s : State). (k : ℕ) (l : Transition ℕ ℕ) → slice_get s.lines k ≡ Some l → l.target < length S.states) selected_state keep q no_state
       (λ r w k l e.
-      let x = get_mapped (renumbered keep) (transitions_of New r) k l e in
+      let x = get_mapped (transition_renumbered keep) (transitions_of New r) k l e in
       let low : selected_place keep x.0.target < length keep = place_below keep x.0.target (shut.leads r x.0 k (occurs_among r keep w) x.1.0) in
       subst (λ (z : Transition ℕ ℕ). z.target < length S.states) (sym x.1.1) (omega (arith, low, state_count)))
       (λ k l e. absurd (cc e))
@@ -196,7 +197,7 @@ module _ (m : Fsmd) (units : Units) (sound : IsSound m) (within : IsWithin units
   new_name : (q : ℕ) → q < length m.states → (state_at New q).name ≡ (state_at m q).name
   new_name q h =
       ap (λ (s : State). s.name)
-      (get_or-map-range_with_len (λ k. record { name = (state_at m k).name; lines = lines_by (all_moves m rows) k (transitions_of m k) }) 0
+      (get_or-map-range_with_len (λ k. record { name = (state_at m k).name; lines = transitions_by (all_moves m rows) k (transitions_of m k) }) 0
       (length m.states) q q no_state h (omega arith))
 
   all_names : map (λ q. (state_at New q).name) (all_states m) ≡ map (λ (s : State). s.name) m.states

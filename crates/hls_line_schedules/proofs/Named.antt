@@ -8,13 +8,13 @@ use Rattle.fs_model.specs.Terms.{Assignment, Transition}
 use Rattle.fs_model.specs.Renamed.{assignment_over}
 use Rattle.fs_model.specs.Source.{SourceTransition, Source}
 use Rattle.fs_model.specs.Machines.{State, Fsmd, transitions_of}
-use Rattle.fs_rules.specs.MachineOfParts.{place, variables_of, names_of, state_names, line_spelled, state_spelled, machine_of}
-use Rattle.fs_rules.specs.Sound.{IsSound}
+use Rattle.fs_rules.specs.MachineOfParts.{place_or_end, variables_of, names_of, state_names, transition_spelled, state_spelled, machine_of}
+use Rattle.fs_rules.specs.SoundParts.{IsSound}
 use Rattle.hls_line_rows.specs.Placings.{PlacedOver, join_assignments, row_at, rows_from, rows_of}
 use Rattle.hls_line_rows.specs.ItemUnits.{Units}
-use Rattle.hls_line_rows.specs.Filling.{Rows, Filled, row_or, placed_from, placed_by, graph_of, filling}
+use Rattle.hls_line_rows.specs.Filling.{Rows, Filled, row_or, placed_from, placed_by, graph_of, filling_of}
 use Rattle.hls_line_machines.specs.StraightLines.{straight_line_at, exit_of, firsts, item_of, items_at}
-use Rattle.hls_line_machines.specs.Replaced.{MoveOver, after_row, moves, all_moves, state_at}
+use Rattle.hls_line_machines.specs.RowMachines.{MoveOver, after_row, moves, all_moves, state_at}
 use Rattle.hls_line_machines.proofs.Among.{Among}
 use Rattle.hls_line_schedules.specs.Schedules.{rows_by}
 use Rattle.hls_line_schedules.proofs.Schedules.{its_line}
@@ -96,30 +96,30 @@ module _ (p : Source) where
   pub spelled_at : (q : ℕ) → state_at M q ≡ state_spelled names stated (source_state p q)
   spelled_at q = get_or-map (state_spelled names stated) p.states q (record { line = 0; name = []; lines = [] })
 
-  pub lines_at : (q : ℕ) → transitions_of M q ≡ map (line_spelled names stated) (source_state p q).lines
+  pub lines_at : (q : ℕ) → transitions_of M q ≡ map (transition_spelled names stated) (source_state p q).lines
   lines_at q = ap (λ (s : State). s.lines) (spelled_at q)
 
-  first_spelled : (ls : List SourceTransition) (l : Transition ℕ ℕ) → map (line_spelled names stated) ls ≡ l ∷ []
-      → item_over (place names) (first_assignments ls) ≡ l.assignments
+  first_spelled : (ls : List SourceTransition) (l : Transition ℕ ℕ) → map (transition_spelled names stated) ls ≡ l ∷ []
+      → item_over (place_or_end names) (first_assignments ls) ≡ l.assignments
   first_spelled [] l e = absurd (cc e)
-  first_spelled (k ∷ ks) l e = let same : line_spelled names stated k ≡ l = cc e in ap (λ (z : Transition ℕ ℕ). z.assignments) same
+  first_spelled (k ∷ ks) l e = let same : transition_spelled names stated k ≡ l = cc e in ap (λ (z : Transition ℕ ℕ). z.assignments) same
 
   module _ (sound : IsSound (machine_of p)) where
-    item_is : (q : ℕ) → IsStraight M sound q → item_of M q ≡ item_over (place names) (named_item p q)
+    item_is : (q : ℕ) → IsStraight M sound q → item_of M q ≡ item_over (place_or_end names) (named_item p q)
     item_is q s =
         let l = its_line M sound q s.within s.straight in
         l.2 ∙ sym (first_spelled (source_state p q).lines l.0 (sym (lines_at q) ∙ l.1))
 
-    items_are : (q : ℕ) → Among q (firsts M) → items_at M q ≡ map (item_over (place names)) (map (named_item p) (straight_line_at M q))
+    items_are : (q : ℕ) → Among q (firsts M) → items_at M q ≡ map (item_over (place_or_end names)) (map (named_item p) (straight_line_at M q))
     items_are q w =
-        map_same (item_of M) (λ r. item_over (place names) (named_item p r)) (straight_line_at M q) (λ r v. item_is r (line_is M sound q r w v))
-        ∙ sym (map_map (item_over (place names)) (named_item p) (straight_line_at M q))
+        map_same (item_of M) (λ r. item_over (place_or_end names) (named_item p r)) (straight_line_at M q) (λ r v. item_is r (line_is M sound q r w v))
+        ∙ sym (map_map (item_over (place_or_end names)) (named_item p) (straight_line_at M q))
 
-    rows_are : (units : Units) (q : ℕ) → Among q (firsts M) → rows_by units M q ≡ map (item_over (place names)) (named_rows units p M q)
+    rows_are : (units : Units) (q : ℕ) → Among q (firsts M) → rows_by units M q ≡ map (item_over (place_or_end names)) (named_rows units p M q)
     rows_are units q w =
-        let g = filling (graph_of (items_at M q)) units in
+        let g = filling_of (graph_of (items_at M q)) units in
         ap (λ (items : List (List (Assignment ℕ))). rows_of g.count (placed_by items g)) (items_are q w)
-        ∙ filled_over (place names) (map (named_item p) (straight_line_at M q)) g
+        ∙ filled_over (place_or_end names) (map (named_item p) (straight_line_at M q)) g
 
-    pub moves_are : (units : Units) → all_moves M (rows_by units M) ≡ map (move_over (place names)) (named_moves units p M)
-    moves_are units = all_moves_over (place names) M (named_rows units p M) (rows_by units M) (rows_are units)
+    pub moves_are : (units : Units) → all_moves M (rows_by units M) ≡ map (move_over (place_or_end names)) (named_moves units p M)
+    moves_are units = all_moves_over (place_or_end names) M (named_rows units p M) (rows_by units M) (rows_are units)

@@ -7,8 +7,8 @@ use Rattle.std.specs.List.{slice_index_or}
 use Rattle.std.proofs.lemmas.Bool.Decides.{nat_tests}
 use Rattle.std.proofs.Math.ListN.{drop_of_length-le}
 use Rattle.hls_line_rows.specs.Placings.{PlacedOver, join_assignments, row_at, rows_from, rows_of}
-use Rattle.hls_line_machines.specs.Replaced.{MoveOver, after_row, moves}
-use Rattle.hls_line_schedules.specs.SourceRows.{Done, first_done}
+use Rattle.hls_line_machines.specs.RowMachines.{MoveOver, after_row, moves}
+use Rattle.hls_line_schedules.specs.SourceRows.{RowEffect, first_row_effect}
 
 -- where row k of n leads, of a line of these states that leads to an exit
 abbrev pub row_leads : ℕ → List ℕ → ℕ → ℕ → ℕ
@@ -69,9 +69,9 @@ put_by d (Some e) rest true = refl
 put_by d (Some e) rest false = refl
 
 -- a state that has no row yet, and is state k, has row k: what is found later stays the same
-pub row_put : (exit : ℕ) (qs : List ℕ) (n : ℕ) (ps : List (PlacedOver (List ℕ))) (k q : ℕ) (o : Option Done) → k < n → k < length qs
+pub row_put : (exit : ℕ) (qs : List ℕ) (n : ℕ) (ps : List (PlacedOver (List ℕ))) (k q : ℕ) (o : Option RowEffect) → k < n → k < length qs
     → option_or (cond ((slice_index_or qs k 0 == q) && is_none o) (Some (join_assignments (row_at k ps), row_leads exit qs n k)) o)
-    (first_done (moves_left exit qs n ps (suc k)) q) ≡ option_or o (first_done (moves_left exit qs n ps k) q)
+    (first_row_effect (moves_left exit qs n ps (suc k)) q) ≡ option_or o (first_row_effect (moves_left exit qs n ps k) q)
 row_put exit qs n ps k q o h i =
-    put_by (join_assignments (row_at k ps), row_leads exit qs n k) o (first_done (moves_left exit qs n ps (suc k)) q) (slice_index_or qs k 0 == q)
-    ∙ ap (λ xs. option_or o (first_done xs q)) (sym (one_left exit qs n ps k h i))
+    put_by (join_assignments (row_at k ps), row_leads exit qs n k) o (first_row_effect (moves_left exit qs n ps (suc k)) q) (slice_index_or qs k 0 == q)
+    ∙ ap (λ xs. option_or o (first_row_effect xs q)) (sym (one_left exit qs n ps k h i))

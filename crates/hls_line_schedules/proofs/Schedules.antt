@@ -9,20 +9,20 @@ use Rattle.fs_model.specs.Terms.{Transition}
 use Rattle.fs_model.specs.Machines.{Fsmd, transitions_of}
 use Rattle.fs_model.specs.Runs.{SameBehaviour}
 use Rattle.fs_model.specs.Trees.{Branch, branches_of}
-use Rattle.fs_rules.specs.Sound.{IsSound, is_cutpoint}
+use Rattle.fs_rules.specs.SoundParts.{IsSound, is_cutpoint}
 use Rattle.fs_cut.specs.Paths.{branch_at}
 use Rattle.fs_ast.proofs.OneBranch.{only_transition}
 use Rattle.fs_cut.proofs.Branches.{some_branch, few}
-use Rattle.hls_line_rows.specs.Items.{Item, done}
+use Rattle.hls_line_rows.specs.Items.{Item, store_after_items}
 use Rattle.hls_line_rows.specs.Placings.{Placed, rows_from}
 use Rattle.hls_line_rows.proofs.Rows.{rows_keep_the_store}
 use Rattle.hls_line_machines.specs.StraightLines.{is_straight, next_state, line_from, straight_line_at, is_inner, is_first_of_line, item_of, items_at, follows}
-use Rattle.hls_line_machines.specs.Replaced.{KeepsStores}
+use Rattle.hls_line_machines.specs.RowMachines.{KeepsStores}
 use Rattle.hls_line_machines.proofs.Trails.{next_in, follows_on}
 use Rattle.hls_line_machines.proofs.Dropping.{scheduled_behaves}
 use Rattle.hls_line_rows.specs.ItemUnits.{Units, none_used, used_by, suffice}
 use Rattle.hls_line_rows.specs.Heights.{chain_of, heights}
-use Rattle.hls_line_rows.specs.Filling.{graph_of, filling, EachItemFits, used_by_all, placed_by}
+use Rattle.hls_line_rows.specs.Filling.{graph_of, filling_of, EachItemFits, used_by_all, placed_by}
 use Rattle.hls_line_rows.proofs.Chains.{no_shorter}
 use Rattle.hls_line_rows.proofs.Placings.{is_filled}
 use Rattle.hls_line_rows.proofs.Lists.{same_items, placed_valid, placed_below, below_chain}
@@ -77,8 +77,8 @@ module _ (m : Fsmd) (units : Units) (sound : IsSound m) (within : IsWithin units
   some_item (suc n) q = omega arith
 
   -- the number of rows
-  pub rows_count : (q : ℕ) → length (rows_by units m q) ≡ (filling (graph_of (items_at m q)) units).count
-  rows_count q = length_rows (filling (graph_of (items_at m q)) units).count 0 (placed_by (items_at m q) (filling (graph_of (items_at m q)) units))
+  pub rows_count : (q : ℕ) → length (rows_by units m q) ≡ (filling_of (graph_of (items_at m q)) units).count
+  rows_count q = length_rows (filling_of (graph_of (items_at m q)) units).count 0 (placed_by (items_at m q) (filling_of (graph_of (items_at m q)) units))
 
   pub no_longer : (q : ℕ) → q < length m.states → is_first_of_line m q ≡ true → length (rows_by units m q) ≤ length (straight_line_at m q)
   no_longer q h e =
@@ -88,7 +88,7 @@ module _ (m : Fsmd) (units : Units) (sound : IsSound m) (within : IsWithin units
 
   pub at_least_chain : (q : ℕ) → q < length m.states → is_first_of_line m q ≡ true → chain_of (items_at m q) ≤ length (rows_by units m q)
   at_least_chain q h e =
-      let f = filling (graph_of (items_at m q)) units in
+      let f = filling_of (graph_of (items_at m q)) units in
       let w : chain_of (items_at m q) ≤ f.count = subst (λ z. chain_of z ≤ f.count) (same_items (items_at m q) 0 f.rows)
       (no_shorter (placed_by (items_at m q) f) f.count (placed_valid (items_at m q) units (each_fits q h e))
       (placed_below (items_at m q) units (each_fits q h e))) in
@@ -108,10 +108,10 @@ module _ (m : Fsmd) (units : Units) (sound : IsSound m) (within : IsWithin units
         (let c : slice_index_or (heights (items_at m q)) 0 0 < chain_of (items_at m q) = below_chain (items_at m q) 0 (some_item (length m.states) q) in
         omega (arith, c, at_least_chain q h e));
     no_more = λ q h e. no_longer q h e;
-    stores = λ q s h e. (let f = filling (graph_of (items_at m q)) units in
+    stores = λ q s h e. (let f = filling_of (graph_of (items_at m q)) units in
         rows_keep_the_store (placed_by (items_at m q) f) f.count s (placed_valid (items_at m q) units (each_fits q h e))
         (placed_below (items_at m q) units (each_fits q h e))
-        ∙ ap (λ z. done z s) (same_items (items_at m q) 0 f.rows));
+        ∙ ap (λ z. store_after_items z s) (same_items (items_at m q) 0 f.rows));
   }
 
   pub behaves : SameBehaviour m (schedule_of units m)

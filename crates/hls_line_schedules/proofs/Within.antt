@@ -5,17 +5,18 @@ use Rattle.std.specs.Prelude.{◌==◌, cond, slice_get}
 use Rattle.std.specs.List.{slice_index_or}
 use Rattle.fs_model.specs.Terms.{Assignment, Transition}
 use Rattle.fs_model.specs.Machines.{State, Fsmd, transitions_of}
-use Rattle.fs_rules.specs.Sound.{IsSound}
+use Rattle.fs_rules.specs.SoundParts.{IsSound}
 use Rattle.hls_line_rows.specs.Items.{Item}
 use Rattle.hls_line_rows.specs.Placings.{PlacedOver, Placed, join_assignments, row_at, rows_from}
 use Rattle.hls_line_machines.specs.StraightLines.{all_states, straight_line_at, exit_of, is_first_of_line, firsts, items_at}
-use Rattle.hls_line_machines.specs.Replaced.{MoveOver, Move, moves, all_moves, move_transition, lines_by, state_at, replaced}
-use Rattle.hls_line_machines.specs.Selected.{renumbered}
-use Rattle.hls_line_machines.specs.Scheduled.{kept_states}
+use Rattle.hls_line_machines.specs.RowMachines.{MoveOver, Move, moves, all_moves, move_transition, transitions_by, state_at, machine_with_rows}
+use Rattle.hls_line_machines.specs.MachineSelections.{transition_renumbered}
+use Rattle.hls_line_machines.specs.ScheduledMachines.{kept_states}
 use Rattle.hls_line_machines.proofs.Among.{Among, joined_from, passes_test, was_among, range_within}
 use Rattle.hls_unit_counts.specs.declared.units.Unit.{Unit as Kind}
 use Rattle.hls_line_rows.specs.ItemUnits.{Units, none_used, used_by, suffice}
-use Rattle.hls_line_rows.specs.Filling.{Graph, graph_of, Rows, is_in, is_before, filling, used_below, used_in, EachItemFits, row_or, placed_from, placed_by}
+use Rattle.hls_line_rows.specs.Filling.{ItemGraph, graph_of, Rows, is_in, is_before, filling_of, used_below, used_in, EachItemFits, row_or, placed_from}
+use Rattle.hls_line_rows.specs.Filling.{placed_by}
 use Rattle.hls_line_rows.specs.Filling.{new_rows}
 use Rattle.hls_line_rows.proofs.Placings.{suffices, does_suffice, is_filled}
 use Rattle.hls_line_schedules.specs.Schedules.{IsWithin, rows_by, schedule_of}
@@ -41,7 +42,7 @@ used_more : (y u a w v : ℕ) (b : Bool) → u ≡ a → v ≡ cond b a 0 + w �
 used_more y u a w v true e h = omega (arith, e, h)
 used_more y u a w v false e h = omega (arith, e, h)
 
-module _ (g : Graph) (item : ℕ → Item) (uses : (i : ℕ) (x : Kind) → g.uses i x ≡ used_by (item i) x) (rows : Rows) (n : ℕ) where
+module _ (g : ItemGraph) (item : ℕ → Item) (uses : (i : ℕ) (x : Kind) → g.uses i x ≡ used_by (item i) x) (rows : Rows) (n : ℕ) where
   used_from : (items : List Item) (k r : ℕ) (x : Kind) → ((i : ℕ) → i < length items → item (k + i) ≡ slice_index_or items i [])
       → ((j : ℕ) → j < k + length items → is_before n (rows j) ≡ true)
       → used_below g rows r k x + used_by (join_assignments (row_at r (placed_from k items rows))) x ≡ used_below g rows r (k + length items) x
@@ -73,7 +74,7 @@ rows_within units ps h n k a w = let j = row_joined ps n k a w in subst (λ z. s
 
 filled_within : (items : List Item) (units : Units) → EachItemFits (graph_of items) units → AllRows units (new_rows units items)
 filled_within items units each =
-    let f = filling (graph_of items) units in
+    let f = filling_of (graph_of items) units in
     let w = is_filled (graph_of items) units each in
     rows_within units (placed_by items f)
     (λ r. does_suffice units none_used (used_by (join_assignments (row_at r (placed_by items f)))) (λ x.
@@ -106,13 +107,14 @@ by_step units x ls true h f = one_fits units x h
 by_step units x ls false h f = f
 
 by_fits : (units : Units) (xs : List Move) (q : ℕ) (others : List (Transition ℕ ℕ))
-    → ((x : Move) → Among x xs → suffice units none_used (used_by x.assignments) ≡ true) → Fits units others → Fits units (lines_by xs q others)
+    → ((x : Move) → Among x xs → suffice units none_used (used_by x.assignments) ≡ true) → Fits units others → Fits units (transitions_by xs q others)
 by_fits units [] q others h f = f
-by_fits units (x ∷ xs) q others h f = by_step units x (lines_by xs q others) (x.state == q) (h x (inl refl)) (by_fits units xs q others (λ y w. h y (inr w)) f)
+by_fits units (x ∷ xs) q others h f = by_step units x (transitions_by xs q others) (x.state == q) (h x (inl refl))
+    (by_fits units xs q others (λ y w. h y (inr w)) f)
 
-renumbered_fits : (units : Units) (keep : List ℕ) (ls : List (Transition ℕ ℕ)) → Fits units ls → Fits units (map (renumbered keep) ls)
+renumbered_fits : (units : Units) (keep : List ℕ) (ls : List (Transition ℕ ℕ)) → Fits units ls → Fits units (map (transition_renumbered keep) ls)
 renumbered_fits units keep [] f k l e = absurd (cc e)
-renumbered_fits units keep (x ∷ ls) f zero l e = let g : renumbered keep x ≡ l = cc e in
+renumbered_fits units keep (x ∷ ls) f zero l e = let g : transition_renumbered keep x ≡ l = cc e in
     subst (λ (z : Transition ℕ ℕ). suffice units none_used (used_by z.assignments) ≡ true) g (f 0 x refl)
 renumbered_fits units keep (x ∷ ls) f (suc k) l e = renumbered_fits units keep ls (λ j y d. f (suc j) y d) k l e
 
@@ -132,15 +134,15 @@ module _ (m : Fsmd) (units : Units) (sound : IsSound m) (within : IsWithin units
       filled_within (items_at m w.0) units (each_fits m units sound within w.0 j (passes_test (is_first_of_line m) w.0 (all_states m) w.1)) x.assignments
       (move_row (exit_of m w.0) (straight_line_at m w.0) (rows_by units m w.0) x w.2)
 
-  replaced_fits : (q : ℕ) → Fits units (transitions_of (replaced m (rows_by units m)) q)
-  replaced_fits q = at_fits units (λ k. record { name = (state_at m k).name; lines = lines_by (all_moves m (rows_by units m)) k (transitions_of m k) })
+  replaced_fits : (q : ℕ) → Fits units (transitions_of (machine_with_rows m (rows_by units m)) q)
+  replaced_fits q = at_fits units (λ k. record { name = (state_at m k).name; lines = transitions_by (all_moves m (rows_by units m)) k (transitions_of m k) })
       (all_states m) q (λ k. by_fits units (all_moves m (rows_by units m)) k (transitions_of m k) moves_fit (within k))
 
   pub stays_within : IsWithin units (schedule_of units m)
   stays_within q =
       at_fits units
       (λ k. record {
-        name = (state_at (replaced m (rows_by units m)) k).name;
-        lines = map (renumbered (kept_states m (rows_by units m))) (transitions_of (replaced m (rows_by units m)) k);
+        name = (state_at (machine_with_rows m (rows_by units m)) k).name;
+        lines = map (transition_renumbered (kept_states m (rows_by units m))) (transitions_of (machine_with_rows m (rows_by units m)) k);
       }) (kept_states m (rows_by units m)) q
-      (λ k. renumbered_fits units (kept_states m (rows_by units m)) (transitions_of (replaced m (rows_by units m)) k) (replaced_fits k))
+      (λ k. renumbered_fits units (kept_states m (rows_by units m)) (transitions_of (machine_with_rows m (rows_by units m)) k) (replaced_fits k))

@@ -4,8 +4,8 @@ use Rattle.fs_model.specs.Terms.{Transition}
 use Rattle.fs_model.specs.Machines.{Fsmd, transitions_of}
 use Rattle.hls_line_rows.specs.Items.{Item}
 use Rattle.hls_line_machines.specs.StraightLines.{items_at}
-use Rattle.hls_line_machines.specs.Selected.{selected_place}
-use Rattle.hls_line_machines.specs.Scheduled.{kept_states, scheduled}
+use Rattle.hls_line_machines.specs.MachineSelections.{selected_place}
+use Rattle.hls_line_machines.specs.ScheduledMachines.{kept_states, scheduled_machine}
 use Rattle.hls_line_rows.specs.ItemUnits.{Units, none_used, used_by, suffice}
 use Rattle.hls_line_rows.specs.Filling.{new_rows}
 
@@ -19,7 +19,7 @@ abbrev pub rows_by : Units → Fsmd → ℕ → List Item
 rows_by units m q = new_rows units (items_at m q)
 
 abbrev pub schedule_of : Units → Fsmd → Fsmd
-schedule_of units m = scheduled m (rows_by units m)
+schedule_of units m = scheduled_machine m (rows_by units m)
 
 -- the number of a state in the scheduled machine, where it has one
 abbrev pub scheduled_place : Units → Fsmd → ℕ → ℕ

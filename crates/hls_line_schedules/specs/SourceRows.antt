@@ -6,9 +6,9 @@ use Rattle.fs_model.specs.Source.{SourceTransition, SourceState, Source}
 use Rattle.fs_model.specs.Machines.{Fsmd}
 use Rattle.hls_line_rows.specs.Placings.{PlacedOver, join_assignments, row_at, rows_of}
 use Rattle.hls_line_rows.specs.ItemUnits.{Units}
-use Rattle.hls_line_rows.specs.Filling.{Filled, graph_of, filling, placed_by}
+use Rattle.hls_line_rows.specs.Filling.{Filled, graph_of, filling_of, placed_by}
 use Rattle.hls_line_machines.specs.StraightLines.{straight_line_at, items_at}
-use Rattle.hls_line_machines.specs.Replaced.{MoveOver, all_moves}
+use Rattle.hls_line_machines.specs.RowMachines.{MoveOver, all_moves}
 
 abbrev pub source_state : Source → ℕ → SourceState
 source_state p q = slice_index_or p.states q (record { line = 0; name = []; lines = [] })
@@ -35,17 +35,17 @@ rows_in_line p qs f = rows_of f.count (placed_in_line p qs f)
 
 -- the rows of the line from a state on, by its filling
 abbrev pub named_rows : Units → Source → Fsmd → ℕ → List (List (Assignment (List ℕ)))
-named_rows units p m q = rows_in_line p (straight_line_at m q) (filling (graph_of (items_at m q)) units)
+named_rows units p m q = rows_in_line p (straight_line_at m q) (filling_of (graph_of (items_at m q)) units)
 
 -- the rows of all lines in their states
 abbrev pub named_moves : Units → Source → Fsmd → List (MoveOver (List ℕ))
 named_moves units p m = all_moves m (named_rows units p m)
 
 -- what a state does by a row: the assignments, and the state that comes after
-abbrev pub Done : Type 0
-Done = List (Assignment (List ℕ)) × ℕ
+abbrev pub RowEffect : Type 0
+RowEffect = List (Assignment (List ℕ)) × ℕ
 
 -- what the first of moves that is of a state does
-abbrev pub first_done : List (MoveOver (List ℕ)) → ℕ → Option Done
-first_done [] q = None
-first_done (x ∷ xs) q = cond (x.state == q) (Some (x.assignments, x.target)) (first_done xs q)
+abbrev pub first_row_effect : List (MoveOver (List ℕ)) → ℕ → Option RowEffect
+first_row_effect [] q = None
+first_row_effect (x ∷ xs) q = cond (x.state == q) (Some (x.assignments, x.target)) (first_row_effect xs q)

@@ -5,10 +5,10 @@ use Rattle.fs_model.specs.Source.{SourceState, Source}
 use Rattle.fs_model.specs.Machines.{Fsmd}
 use Rattle.hls_line_machines.specs.StraightLines.{all_states, is_straight}
 use Rattle.hls_line_rows.specs.ItemUnits.{Units}
-use Rattle.hls_line_schedules.specs.SourceRows.{source_state, named_moves, Done, first_done}
+use Rattle.hls_line_schedules.specs.SourceRows.{source_state, named_moves, RowEffect, first_row_effect}
 
 -- a state with a row for its one transition, which stands at the line of the state
-abbrev pub state_with_row : Source → SourceState → Done → SourceState
+abbrev pub state_with_row : Source → SourceState → RowEffect → SourceState
 state_with_row p s d = record {
   line = s.line;
   name = s.name;
@@ -16,15 +16,15 @@ state_with_row p s d = record {
 }
 
 -- a state as it will be: with its row where it has one, not at all where it has none and stands in a line, and else as it is
-abbrev pub state_by : Source → Fsmd → ℕ → Option Done → List SourceState
+abbrev pub state_by : Source → Fsmd → ℕ → Option RowEffect → List SourceState
 state_by p m q None = cond (is_straight m q) [] (source_state p q ∷ [])
 state_by p m q (Some d) = state_with_row p (source_state p q) d ∷ []
 
-abbrev pub states_by : Source → Fsmd → (ℕ → Option Done) → ℕ → List SourceState
+abbrev pub states_by : Source → Fsmd → (ℕ → Option RowEffect) → ℕ → List SourceState
 states_by p m rows q = state_by p m q (rows q)
 
 -- the parts with these rows
-abbrev pub source_by_rows : Source → Fsmd → (ℕ → Option Done) → Source
+abbrev pub source_by_rows : Source → Fsmd → (ℕ → Option RowEffect) → Source
 source_by_rows p m rows = record {
   declarations = p.declarations;
   reset_line = p.reset_line;
@@ -34,4 +34,4 @@ source_by_rows p m rows = record {
 
 -- the parts of which the machine is m, with each line in the rows of its filling
 abbrev pub scheduled_source : Units → Source → Fsmd → Source
-scheduled_source units p m = source_by_rows p m (first_done (named_moves units p m))
+scheduled_source units p m = source_by_rows p m (first_row_effect (named_moves units p m))

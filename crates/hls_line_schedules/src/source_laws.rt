@@ -5,11 +5,11 @@ ghost use Rattle.fs_model.specs.Source.{Source};
 ghost use Rattle.fs_model.specs.Machines.{Fsmd};
 ghost use Rattle.fs_model.specs.WellFormed.{is_well_formed};
 ghost use Rattle.fs_rules.specs.MachineOfParts.{machine_of};
-ghost use Rattle.fs_rules.specs.Sound.{IsSound};
+ghost use Rattle.fs_rules.specs.SoundParts.{IsSound};
 ghost use Rattle.fs_rules.specs.Rules.{BreaksNoRule};
 ghost use Rattle.hls_line_rows.specs.ItemUnits.{Units};
 ghost use Rattle.hls_line_schedules.specs.Schedules.{IsWithin, schedule_of};
-ghost use Rattle.hls_line_schedules.specs.SourceRows.{named_moves, Done, first_done};
+ghost use Rattle.hls_line_schedules.specs.SourceRows.{named_moves, RowEffect, first_row_effect};
 ghost use Rattle.hls_line_schedules.specs.Sources.{source_by_rows, scheduled_source};
 
 /// The parts of a scheduled machine spell it.
@@ -29,13 +29,13 @@ pub fn a_scheduled_text_is_lawful()
 
 /// The rows of states decide the parts: where each state has the row that the lines give it, they are the scheduled ones.
 pub fn rows_decide_the_text()
-    ensures { (units : Units) (p : Source) (m : Fsmd) (rows : ℕ → Option Done)
-        → ((q : ℕ) → q < length m.states → rows q ≡ first_done (named_moves units p m) q)
+    ensures { (units : Units) (p : Source) (m : Fsmd) (rows : ℕ → Option RowEffect)
+        → ((q : ℕ) → q < length m.states → rows q ≡ first_row_effect (named_moves units p m) q)
         → source_by_rows p m rows ≡ scheduled_source units p m }
 {}
 
 /// The row of each state leads to a state.
 pub fn rows_lead_to_states()
-    ensures { (units : Units) (p : Source) (m : Fsmd) (q : ℕ) (d : Done) → IsSound m
-        → first_done (named_moves units p m) q ≡ Some d → d.1 < length m.states }
+    ensures { (units : Units) (p : Source) (m : Fsmd) (q : ℕ) (d : RowEffect) → IsSound m
+        → first_row_effect (named_moves units p m) q ≡ Some d → d.1 < length m.states }
 {}

@@ -14,8 +14,8 @@ arrivals_of (q ∷ []) = Once (record { 0 = q })
 arrivals_of (q ∷ p ∷ rest) = Often
 
 -- a state, once for each of its branches that leads to another
-abbrev pub leading : ℕ → ℕ → List Branch → List ℕ
-leading q r bs = map (λ b. q) (filter (λ b. b.target == r) bs)
+abbrev pub source_per_branch : ℕ → ℕ → List Branch → List ℕ
+source_per_branch q r bs = map (λ b. q) (filter (λ b. b.target == r) bs)
 
 -- of each state how often it is led to
 pub record AreArrivals (m : Fsmd) (table : List Arrivals) : Type 0 where

@@ -4,7 +4,7 @@ ghost use Rattle.std.specs.Prelude.{◌≡◌, ℕ, ◌<◌, ◌++◌, List, [],
 ghost use Rattle.std.specs.List.{slice_index_or};
 ghost use Rattle.fs_model.specs.View.{branch_of};
 ghost use Rattle.hls_line_machines.specs.StraightLines.{is_only};
-ghost use Rattle.hls_line_tracing.specs.Arrivals.{arrivals_of, leading, AreArrivals};
+ghost use Rattle.hls_line_tracing.specs.Arrivals.{arrivals_of, source_per_branch, AreArrivals};
 ghost use Rattle.hls_line_tracing.specs.declared.arrivals.Arrivals.TheVariants as variants;
 
 use fs_ast::machine::Machine;
@@ -47,7 +47,8 @@ fn arrive(table: &mut Vec<Arrivals>, from: StateId, branch: &Branch)
     ensures count { length table.new.items ≡ length table.old.items }
     ensures known { (r : ℕ) (qs : List ℕ) → r < length table.old.items
         → slice_index_or table.old.items r variants.Never ≡ arrivals_of qs
-        → slice_index_or table.new.items r variants.Never ≡ arrivals_of (qs ++ leading from.0 r (branch_of branch.now ∷ [])) }
+        → slice_index_or table.new.items r variants.Never ≡ arrivals_of
+        (qs ++ source_per_branch from.0 r (branch_of branch.now ∷ [])) }
 {
     let place = branch.target.0 as usize;
     if place < table.len() {
@@ -60,7 +61,8 @@ fn arrive_all(table: &mut Vec<Arrivals>, from: StateId, branches: &[Branch])
     ensures count { length table.new.items ≡ length table.old.items }
     ensures known { (r : ℕ) (qs : List ℕ) → r < length table.old.items
         → slice_index_or table.old.items r variants.Never ≡ arrivals_of qs
-        → slice_index_or table.new.items r variants.Never ≡ arrivals_of (qs ++ leading from.0 r (map branch_of branches.now)) }
+        → slice_index_or table.new.items r variants.Never ≡ arrivals_of
+        (qs ++ source_per_branch from.0 r (map branch_of branches.now)) }
 {
     for branch in branches {
         arrive(table, from, branch);

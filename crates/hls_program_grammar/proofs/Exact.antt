@@ -19,13 +19,13 @@ use Rattle.fs_grammar_laws.specs.Faults.{word_of, IsPlain, AreEndedTokens}
 use Rattle.fs_grammar_laws.proofs.Exact.{words_append}
 use Rattle.fs_text_laws.proofs.Read.{counts_few}
 use Rattle.hls_program_laws.specs.Programs.{Program}
-use Rattle.hls_program_grammar.specs.Marks.{opens_unit, is_counted, starts_anew, operators_up_to, is_past_program_limit}
+use Rattle.hls_program_grammar.specs.Marks.{opens_relation, is_counted, starts_anew, operators_up_to, is_past_program_limit}
 use Rattle.hls_program_grammar.specs.ProgramGrammar.{ProgramParseState, at_prog, at_end, is_deep, program_step, finish_program, stop_program}
 use Rattle.hls_program_grammar.specs.ProgramGrammar.{take_program_token, program_reading}
 use Rattle.hls_program_grammar.specs.ProgramSpelling.{IsProgram}
 use Rattle.hls_program_grammar.specs.ProgramBeginnings.{BeginsProgram}
-use Rattle.hls_program_grammar.specs.ProgramLimits.{IsOneTooManyInProgram, IsTooDeep, KeepLimits, SpellProgramWithin, CanFollowInProgram, IsWrongInProgram}
-use Rattle.hls_program_grammar.specs.ProgramLimits.{StopProgramWithin}
+use Rattle.hls_program_grammar.specs.ProgramLimits.{IsOneTooManyInProgram, IsTooDeep, KeepLimits, TokensSpellProgram, CanFollowInProgram, IsWrongInProgram}
+use Rattle.hls_program_grammar.specs.ProgramLimits.{TokensStopProgram}
 use Rattle.hls_program_grammar.proofs.Walks.{walk, walk_append, walk_more}
 use Rattle.hls_program_grammar.proofs.Complete.{complete}
 use Rattle.hls_program_grammar.proofs.Sound.{sound}
@@ -40,11 +40,11 @@ use Rattle.hls_program_grammar.proofs.Strangers.{end_steps, bad_steps, last_step
 -- each token is marked where it is counted and 128 were counted before it
 abbrev pub AreMarked : Bool → ℕ → List Token → Type 0
 AreMarked u k [] = Unit {0}
-AreMarked u k (t ∷ ts) = (t.past_limit ≡ is_past_program_limit u t.kind k) × AreMarked (opens_unit u t.kind) (operators_up_to u t.kind k) ts
+AreMarked u k (t ∷ ts) = (t.past_limit ≡ is_past_program_limit u t.kind k) × AreMarked (opens_relation u t.kind) (operators_up_to u t.kind k) ts
 
 marked_behind : (a ts : List Token) (u : Bool) (k : ℕ) → AreMarked u k (a ++ ts) → AreMarked (unit_behind u (words a)) (count_behind u k (words a)) ts
 marked_behind [] ts u k m = m
-marked_behind (t ∷ a) ts u k m = marked_behind a ts (opens_unit u t.kind) (operators_up_to u t.kind k) m.1
+marked_behind (t ∷ a) ts u k m = marked_behind a ts (opens_relation u t.kind) (operators_up_to u t.kind k) m.1
 
 mark_at : (before : List Token) (t : Token) (ts : List Token) → AreMarked false 0 (before ++ t ∷ ts)
     → t.past_limit ≡ is_past_program_limit (unit_behind false (words before)) t.kind (count_behind false 0 (words before))
@@ -135,8 +135,8 @@ record Runs (ts : List Token) : Type 0 where
   begins : BeginsProgram (words ts)
 
 abbrev Answers : List Token → Result Program TextFault → Type 0
-Answers ts (Ok p) = SpellProgramWithin ts p
-Answers ts (Err f) = StopProgramWithin ts f ⊎ Runs ts
+Answers ts (Ok p) = TokensSpellProgram ts p
+Answers ts (Err f) = TokensStopProgram ts f ⊎ Runs ts
 
 stops : (k : TextKind) (t : Token) (before : List Token) (s : ProgramParseState) (ts : List Token) → Done before s → IsWrongInProgram k (words before) t
     → Answers (before ++ t ∷ ts) (Err (fault_at t k))
@@ -237,7 +237,7 @@ exact : (ts : List Token) → AreMarked false 0 ts → Answers ts (program_readi
 exact ts m = answers ts [] at_prog nothing_done m
 
 -- What is read is spelled.
-pub read_spelled : (ts : List Token) (p : Program) → AreMarked false 0 ts → program_reading ts at_prog ≡ Ok p → SpellProgramWithin ts p
+pub read_spelled : (ts : List Token) (p : Program) → AreMarked false 0 ts → program_reading ts at_prog ≡ Ok p → TokensSpellProgram ts p
 read_spelled ts p m e = subst (λ (r : Result Program TextFault). Answers ts r) e (exact ts m)
 
 -- ---- a list that has its end
@@ -256,7 +256,7 @@ no_run ts h r =
     stuck (words ts) w r.begins
 
 -- A fault is at the first token that is wrong.
-pub fault_found : (ts : List Token) (f : TextFault) → AreMarked false 0 ts → AreEndedTokens ts → program_reading ts at_prog ≡ Err f → StopProgramWithin ts f
+pub fault_found : (ts : List Token) (f : TextFault) → AreMarked false 0 ts → AreEndedTokens ts → program_reading ts at_prog ≡ Err f → TokensStopProgram ts f
 fault_found ts f m h e = elim (subst (λ (r : Result Program TextFault). Answers ts r) e (exact ts m)) [ inl s ↦ s | inr r ↦ absurd (no_run ts h r) ]
 
 -- ---- what is spelled is read
@@ -293,7 +293,7 @@ ends_at : (t : Token) (behind : List Token) (p : Program) → t.kind ≡ End →
 ends_at t behind p e = rw e refl
 
 -- What is spelled is read.
-pub spelled_read : (ts : List Token) (p : Program) → AreMarked false 0 ts → SpellProgramWithin ts p → program_reading ts at_prog ≡ Ok p
+pub spelled_read : (ts : List Token) (p : Program) → AreMarked false 0 ts → TokensSpellProgram ts p → program_reading ts at_prog ≡ Ok p
 spelled_read ts p m h =
     ap (λ (l : List Token). program_reading l at_prog) h.parts
     ∙ reads_on h.before (h.token ∷ h.behind) [] at_prog (at_end p) nothing_done (subst (AreMarked false 0) h.parts m) h.limits
@@ -386,7 +386,7 @@ stopped_at None k before t behind e b m l h = absurd (stuck (words before) e b)
 stopped_at (Some r) k before t behind e b m l h = reads_on before (t ∷ behind) [] at_prog r nothing_done m l e ∙ wrong_at k before t behind r e m h
 
 -- The first token that is wrong is the fault.
-pub fault_read : (ts : List Token) (f : TextFault) → AreMarked false 0 ts → StopProgramWithin ts f → program_reading ts at_prog ≡ Err f
+pub fault_read : (ts : List Token) (f : TextFault) → AreMarked false 0 ts → TokensStopProgram ts f → program_reading ts at_prog ≡ Err f
 fault_read ts f m h =
     let at_token : fault_at h.token f.kind ≡ f = rw (sym h.line, sym h.column) refl in
     ap (λ (l : List Token). program_reading l at_prog) h.parts

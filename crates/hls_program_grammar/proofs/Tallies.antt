@@ -14,7 +14,7 @@ use Rattle.fs_grammar_laws.specs.Spelling as grammar
 use Rattle.fs_grammar_laws.specs.Spelling.{Word, at, IsFactor, IsProduct, IsSum, IsUnit, IsConjunction, IsGuard, IsDestination, IsAssignment, IsDeclaration}
 use Rattle.fs_grammar_laws.specs.Spelling.{AreDeclarations}
 use Rattle.hls_program_laws.specs.Programs.{Block}
-use Rattle.hls_program_grammar.specs.Marks.{opens_unit, is_counted, starts_anew, operators_up_to, is_past_program_limit}
+use Rattle.hls_program_grammar.specs.Marks.{opens_relation, is_counted, starts_anew, operators_up_to, is_past_program_limit}
 use Rattle.hls_program_grammar.specs.ProgramSpelling.{IsStatement, assigns, chooses, chooses_else, repeats, IsBlock, block, AreStatements, no_statements}
 use Rattle.hls_program_grammar.specs.ProgramSpelling.{more_statements}
 use Rattle.hls_program_grammar.specs.ProgramBeginnings.{OpensBlock, outermost, yes_block, no_block, body, IsInBlock, opened, IsInProgramExpression, in_choice}
@@ -26,26 +26,26 @@ use Rattle.hls_program_grammar.specs.ProgramLimits.{word_operator_count, IsOneTo
 -- whether a unit of a guard may begin behind the words
 abbrev pub unit_behind : Bool → List Word → Bool
 unit_behind u [] = u
-unit_behind u (at n t ∷ ws) = unit_behind (opens_unit u t) ws
+unit_behind u (at n t ∷ ws) = unit_behind (opens_relation u t) ws
 
 -- how many operators were counted behind them, where k were before
 abbrev pub count_behind : Bool → ℕ → List Word → ℕ
 count_behind u k [] = k
-count_behind u k (at n t ∷ ws) = count_behind (opens_unit u t) (operators_up_to u t k) ws
+count_behind u k (at n t ∷ ws) = count_behind (opens_relation u t) (operators_up_to u t k) ws
 
 pub unit_append : (a b : List Word) (u : Bool) → unit_behind u (a ++ b) ≡ unit_behind (unit_behind u a) b
 unit_append [] b u = refl
-unit_append (at n t ∷ a) b u = unit_append a b (opens_unit u t)
+unit_append (at n t ∷ a) b u = unit_append a b (opens_relation u t)
 
 pub count_append : (a b : List Word) (u : Bool) (k : ℕ) → count_behind u k (a ++ b) ≡ count_behind (unit_behind u a) (count_behind u k a) b
 count_append [] b u k = refl
-count_append (at n t ∷ a) b u k = count_append a b (opens_unit u t) (operators_up_to u t k)
+count_append (at n t ∷ a) b u k = count_append a b (opens_relation u t) (operators_up_to u t k)
 
 -- ---- words with which no guard and no assignment begins anew
 
 abbrev IsCalm : Bool → List Word → Type 0
 IsCalm u [] = Unit {0}
-IsCalm u (at n t ∷ ws) = (starts_anew u t ≡ false) × IsCalm (opens_unit u t) ws
+IsCalm u (at n t ∷ ws) = (starts_anew u t ≡ false) × IsCalm (opens_relation u t) ws
 
 -- Such words, and whether a unit may begin behind them.
 record Calm (u : Bool) (ws : List Word) (v : Bool) : Type 0 where
@@ -54,15 +54,15 @@ record Calm (u : Bool) (ws : List Word) (v : Bool) : Type 0 where
 
 calm_append : (a b : List Word) (u : Bool) → IsCalm u a → IsCalm (unit_behind u a) b → IsCalm u (a ++ b)
 calm_append [] b u h k = k
-calm_append (at n t ∷ a) b u h k = (h.0, calm_append a b (opens_unit u t) h.1 k)
+calm_append (at n t ∷ a) b u h k = (h.0, calm_append a b (opens_relation u t) h.1 k)
 
 calm_front : (a b : List Word) (u : Bool) → IsCalm u (a ++ b) → IsCalm u a
 calm_front [] b u h = tt
-calm_front (at n t ∷ a) b u h = (h.0, calm_front a b (opens_unit u t) h.1)
+calm_front (at n t ∷ a) b u h = (h.0, calm_front a b (opens_relation u t) h.1)
 
 calm_back : (a b : List Word) (u : Bool) → IsCalm u (a ++ b) → IsCalm (unit_behind u a) b
 calm_back [] b u h = h
-calm_back (at n t ∷ a) b u h = calm_back a b (opens_unit u t) h.1
+calm_back (at n t ∷ a) b u h = calm_back a b (opens_relation u t) h.1
 
 join : (u v w : Bool) (a b : List Word) → Calm u a v → Calm v b w → Calm u (a ++ b) w
 join u v w a b h k = record {
@@ -70,10 +70,10 @@ join u v w a b h k = record {
   leads = unit_append a b u ∙ ap (λ (x : Bool). unit_behind x b) h.leads ∙ k.leads;
 }
 
-word : (n : ℕ) (t : TokenKind) (u v : Bool) (ws : List Word) → starts_anew u t ≡ false → Calm (opens_unit u t) ws v → Calm u (at n t ∷ ws) v
+word : (n : ℕ) (t : TokenKind) (u v : Bool) (ws : List Word) → starts_anew u t ≡ false → Calm (opens_relation u t) ws v → Calm u (at n t ∷ ws) v
 word n t u v ws e h = record { calm = (e, h.calm); leads = h.leads }
 
-last : (n : ℕ) (t : TokenKind) (u v : Bool) → starts_anew u t ≡ false → opens_unit u t ≡ v → Calm u (at n t ∷ []) v
+last : (n : ℕ) (t : TokenKind) (u v : Bool) → starts_anew u t ≡ false → opens_relation u t ≡ v → Calm u (at n t ∷ []) v
 last n t u v e q = record { calm = (e, tt); leads = q }
 
 mutual
@@ -156,7 +156,7 @@ calm_counts [] u k h = omega arith
 calm_counts (at n t ∷ ws) u k h =
     let one : operators_up_to u t k ≡ k + cond (is_operator t) 1 0 =
     counted_by (starts_anew u t) (is_counted u t) (is_operator t) k h.0 (operator_counted t u h.0) in
-    omega (arith, one, calm_counts ws (opens_unit u t) (operators_up_to u t k) h.1)
+    omega (arith, one, calm_counts ws (opens_relation u t) (operators_up_to u t k) h.1)
 
 -- ---- behind statements and blocks nothing is counted
 
@@ -261,7 +261,7 @@ pub record InPart (ws part more : List Word) : Type 0 where
 from_none : (n m : ℕ) → n ≡ 0 + m → n ≡ m
 from_none n m e = omega (arith, e)
 
-guard_counts : (a part more : List Word) (n : ℕ) (t : TokenKind) → ((u : Bool) → opens_unit u t ≡ true) → ((u : Bool) (k : ℕ) → operators_up_to u t k ≡ 0)
+guard_counts : (a part more : List Word) (n : ℕ) (t : TokenKind) → ((u : Bool) → opens_relation u t ≡ true) → ((u : Bool) (k : ℕ) → operators_up_to u t k ≡ 0)
     → Calm true (part ++ more) false → InPart (a ++ (at n t ∷ part)) part more
 guard_counts a part more n t e f c =
     let u = unit_behind false a in

@@ -18,11 +18,11 @@ use Rattle.fs_lex_laws.proofs.Unique.{one_list}
 use Rattle.fs_text_laws.proofs.Ended.{tokens_ended}
 use Rattle.hls_program_laws.specs.Programs.{Program}
 use Rattle.hls_program_grammar.specs.ProgramKeywords.{program_kind}
-use Rattle.hls_program_grammar.specs.Marks.{opens_unit, operators_up_to, marked_token, mark_tokens, program_tokens}
+use Rattle.hls_program_grammar.specs.Marks.{opens_relation, operators_up_to, marked_token, mark_tokens, program_tokens}
 use Rattle.hls_program_grammar.specs.ProgramGrammar.{at_prog, program_reading}
 use Rattle.hls_program_grammar.specs.ProgramSpelling.{IsProgram}
 use Rattle.hls_program_grammar.specs.ProgramBeginnings.{BeginsProgram}
-use Rattle.hls_program_grammar.specs.ProgramLimits.{KeepLimits, SpellProgramWithin, IsWrongInProgram, StopProgramWithin}
+use Rattle.hls_program_grammar.specs.ProgramLimits.{KeepLimits, TokensSpellProgram, IsWrongInProgram, TokensStopProgram}
 use Rattle.hls_program_grammar.specs.ProgramTexts.{program_token, TextSpellsProgram, ProgramTextStops}
 use Rattle.hls_program_grammar.proofs.Exact.{AreMarked, read_spelled, fault_found, spelled_read, fault_read}
 
@@ -30,7 +30,7 @@ use Rattle.hls_program_grammar.proofs.Exact.{AreMarked, read_spelled, fault_foun
 
 pub marks : (ts : List Token) (u : Bool) (k : ℕ) → AreMarked u k (mark_tokens u k ts)
 marks [] u k = tt
-marks (t ∷ ts) u k = (refl, marks ts (opens_unit u (program_kind t.kind)) (operators_up_to u (program_kind t.kind) k))
+marks (t ∷ ts) u k = (refl, marks ts (opens_relation u (program_kind t.kind)) (operators_up_to u (program_kind t.kind) k))
 
 last_kind : (t : TokenKind) → IsLast t → IsLast (program_kind t)
 last_kind (Bad j) h = tt
@@ -40,7 +40,7 @@ last_kind _ h = absurd h
 ended_by : (a : List Token) (t : Token) (u : Bool) (k : ℕ) → IsLast t.kind → AreEndedTokens (mark_tokens u k (a ++ t ∷ []))
 ended_by [] t u k h = record { before = []; token = marked_token u k t; parts = refl; last = last_kind t.kind h }
 ended_by (x ∷ a) t u k h =
-    let e = ended_by a t (opens_unit u (program_kind x.kind)) (operators_up_to u (program_kind x.kind) k) h in
+    let e = ended_by a t (opens_relation u (program_kind x.kind)) (operators_up_to u (program_kind x.kind) k) h in
     record { before = marked_token u k x ∷ e.before; token = e.token; parts = ap (λ (l : List Token). marked_token u k x ∷ l) e.parts; last = e.last }
 
 program_ended : (ts : List Token) → AreEndedTokens ts → AreEndedTokens (program_tokens ts)
@@ -55,7 +55,7 @@ bare t = record { kind = t.kind; past_limit = false; place = t.place }
 marked_bare : (ts : List Token) (u : Bool) (k : ℕ) → map bare (mark_tokens u k ts) ≡ map program_token ts
 marked_bare [] u k = refl
 marked_bare (t ∷ ts) u k = ap (λ (l : List Token). program_token t ∷ l)
-    (marked_bare ts (opens_unit u (program_kind t.kind)) (operators_up_to u (program_kind t.kind) k))
+    (marked_bare ts (opens_relation u (program_kind t.kind)) (operators_up_to u (program_kind t.kind) k))
 
 bare_words : (ts : List Token) → words (map bare ts) ≡ words ts
 bare_words [] = refl
@@ -94,7 +94,7 @@ cut_bare (u ∷ us) (x ∷ a) t b e =
 cut_words : (before a : List Token) → map bare before ≡ a → words before ≡ words a
 cut_words before a e = sym (bare_words before) ∙ ap words e
 
-spell_bare : (us : List Token) (p : Program) → SpellProgramWithin us p → SpellProgramWithin (map bare us) p
+spell_bare : (us : List Token) (p : Program) → TokensSpellProgram us p → TokensSpellProgram (map bare us) p
 spell_bare us p h = record {
   before = map bare h.before;
   token = bare h.token;
@@ -105,7 +105,7 @@ spell_bare us p h = record {
   limits = subst KeepLimits (sym (bare_words h.before)) h.limits;
 }
 
-bare_spell : (us : List Token) (p : Program) → SpellProgramWithin (map bare us) p → SpellProgramWithin us p
+bare_spell : (us : List Token) (p : Program) → TokensSpellProgram (map bare us) p → TokensSpellProgram us p
 bare_spell us p h =
     let c = cut_bare us h.before h.token h.behind h.parts in
     let same : words h.before ≡ words c.before = sym (cut_words c.before h.before c.first) in
@@ -125,7 +125,7 @@ alike : (k : TextKind) (ws : List Word) (t : Token) → (IsWrongInProgram k ws (
 alike BadByte ws t = (λ h. h, λ h. h)
 alike _ ws t = (λ h. h, λ h. h)
 
-stop_bare : (us : List Token) (f : TextFault) → StopProgramWithin us f → StopProgramWithin (map bare us) f
+stop_bare : (us : List Token) (f : TextFault) → TokensStopProgram us f → TokensStopProgram (map bare us) f
 stop_bare us f h = record {
   before = map bare h.before;
   token = bare h.token;
@@ -138,7 +138,7 @@ stop_bare us f h = record {
   column = h.column;
 }
 
-bare_stop : (us : List Token) (f : TextFault) → StopProgramWithin (map bare us) f → StopProgramWithin us f
+bare_stop : (us : List Token) (f : TextFault) → TokensStopProgram (map bare us) f → TokensStopProgram us f
 bare_stop us f h =
     let c = cut_bare us h.before h.token h.behind h.parts in
     let same : words h.before ≡ words c.before = sym (cut_words c.before h.before c.first) in
@@ -181,26 +181,26 @@ pub spells : (bytes : List ℕ) (p : Program) → program_reading (program_token
 spells bytes p e = record {
   tokens = tokens_of bytes;
   are = tokenized bytes;
-  spell = subst (λ (l : List Token). SpellProgramWithin l p) (marked_bare (tokens_of bytes) false 0)
+  spell = subst (λ (l : List Token). TokensSpellProgram l p) (marked_bare (tokens_of bytes) false 0)
       (spell_bare (read_tokens bytes) p (read_spelled (read_tokens bytes) p (marks (tokens_of bytes) false 0) e));
 }
 
 pub reads : (bytes : List ℕ) (p : Program) → TextSpellsProgram bytes p → program_reading (program_tokens (tokens_of bytes)) at_prog ≡ Ok p
 reads bytes p t = spelled_read (read_tokens bytes) p (marks (tokens_of bytes) false 0)
-    (bare_spell (read_tokens bytes) p (subst (λ (l : List Token). SpellProgramWithin l p) (made_alike bytes t.tokens t.are) t.spell))
+    (bare_spell (read_tokens bytes) p (subst (λ (l : List Token). TokensSpellProgram l p) (made_alike bytes t.tokens t.are) t.spell))
 
 pub stops : (bytes : List ℕ) (f : TextFault) → program_reading (program_tokens (tokens_of bytes)) at_prog ≡ Err f → ProgramTextStops bytes f
 stops bytes f e = record {
   tokens = tokens_of bytes;
   are = tokenized bytes;
-  stop = subst (λ (l : List Token). StopProgramWithin l f) (marked_bare (tokens_of bytes) false 0)
+  stop = subst (λ (l : List Token). TokensStopProgram l f) (marked_bare (tokens_of bytes) false 0)
       (stop_bare (read_tokens bytes) f
       (fault_found (read_tokens bytes) f (marks (tokens_of bytes) false 0) (program_ended (tokens_of bytes) (tokens_ended bytes)) e));
 }
 
 pub refuses : (bytes : List ℕ) (f : TextFault) → ProgramTextStops bytes f → program_reading (program_tokens (tokens_of bytes)) at_prog ≡ Err f
 refuses bytes f t = fault_read (read_tokens bytes) f (marks (tokens_of bytes) false 0)
-    (bare_stop (read_tokens bytes) f (subst (λ (l : List Token). StopProgramWithin l f) (made_alike bytes t.tokens t.are) t.stop))
+    (bare_stop (read_tokens bytes) f (subst (λ (l : List Token). TokensStopProgram l f) (made_alike bytes t.tokens t.are) t.stop))
 
 settled : (bytes : List ℕ) (r : Result Program TextFault) → program_reading (program_tokens (tokens_of bytes)) at_prog ≡ r
     → ((p : Program) × TextSpellsProgram bytes p) ⊎ ((f : TextFault) × ProgramTextStops bytes f)

@@ -23,7 +23,7 @@ use Rattle.fs_grammar_laws.specs.Spelling.{Word, at, IsFactor, IsProduct, IsSum,
 use Rattle.fs_grammar_laws.specs.Spelling.{AreDeclarations}
 use Rattle.fs_grammar_laws.specs.WordWalks.{words}
 use Rattle.fs_grammar_laws.proofs.Inside.{front}
-use Rattle.fs_lex.specs.Scan.{counted as counted_by_scan, tokens_of}
+use Rattle.fs_lex.specs.Scan.{operators_up_to_token as counted_by_scan, tokens_of}
 use Rattle.fs_text_laws.specs.Kinds.{IsProper}
 use Rattle.fs_text_laws.proofs.Counted.{AreCounted, tokens_counted}
 use Rattle.hls_program_laws.specs.Programs.{Block, End, Do, If, While, Program}
@@ -31,12 +31,12 @@ use Rattle.hls_program_laws.specs.WellFormedPrograms.{most_depth, is_free, is_pr
 use Rattle.hls_program_laws.specs.WellFormedPrograms.{is_program_assignment, is_program_declaration, depth, is_well_formed_program}
 use Rattle.hls_program_parts.proofs.Fits.{fits, fits_joined, fits_if, fits_while}
 use Rattle.hls_program_grammar.specs.ProgramKeywords.{word_or_name, program_kind}
-use Rattle.hls_program_grammar.specs.Marks.{opens_unit, operators_up_to, mark_tokens, program_tokens}
+use Rattle.hls_program_grammar.specs.Marks.{opens_relation, operators_up_to, mark_tokens, program_tokens}
 use Rattle.hls_program_grammar.specs.ProgramSpelling.{first_line, IsStatement, assigns, chooses, chooses_else, repeats, IsBlock, block, AreStatements}
 use Rattle.hls_program_grammar.specs.ProgramSpelling.{no_statements, more_statements, IsProgram, program}
 use Rattle.hls_program_grammar.specs.ProgramBeginnings.{OpensBlock, outermost, yes_block, no_block, body, IsInBlock, opened, IsInProgramExpression, in_choice}
 use Rattle.hls_program_grammar.specs.ProgramBeginnings.{in_repetition, in_assignment}
-use Rattle.hls_program_grammar.specs.ProgramLimits.{word_operator_count, KeepLimits, SpellProgramWithin}
+use Rattle.hls_program_grammar.specs.ProgramLimits.{word_operator_count, KeepLimits, TokensSpellProgram}
 use Rattle.hls_program_grammar.specs.ProgramTexts.{TextSpellsProgram}
 use Rattle.hls_program_grammar.proofs.Counts.{guard_counts, assignment_counts, Split, split}
 use Rattle.hls_program_grammar.proofs.Exact.{read_spelled}
@@ -308,13 +308,13 @@ kind_fit _ h = tt
 marked_fit : (ts : List Token) (u : Bool) (k n : ℕ) → AreCounted n ts → AreFitTokens (mark_tokens u k ts)
 marked_fit [] u k n h = tt
 marked_fit (t ∷ ts) u k n h =
-    (kind_fit t.kind h.0, marked_fit ts (opens_unit u (program_kind t.kind)) (operators_up_to u (program_kind t.kind) k) (counted_by_scan t.kind n) h.2)
+    (kind_fit t.kind h.0, marked_fit ts (opens_relation u (program_kind t.kind)) (operators_up_to u (program_kind t.kind) k) (counted_by_scan t.kind n) h.2)
 
 front_fit : (a b : List Token) → AreFitTokens (a ++ b) → AreFit (words a)
 front_fit [] b h = tt
 front_fit (t ∷ a) b h = (h.0, front_fit a b h.1)
 
-spelled_fits : (ts : List Token) (p : Program) → AreFitTokens ts → SpellProgramWithin ts p → IsTrue (is_well_formed_program p)
+spelled_fits : (ts : List Token) (p : Program) → AreFitTokens ts → TokensSpellProgram ts p → IsTrue (is_well_formed_program p)
 spelled_fits ts p f h = program_fits p (words h.before) h.spelled h.limits (front_fit h.before (h.token ∷ h.behind) (subst AreFitTokens h.parts f))
 
 -- What bytes spell is well formed.

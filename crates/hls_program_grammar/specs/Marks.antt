@@ -10,14 +10,14 @@ use Rattle.hls_program_grammar.specs.ProgramKeywords.{program_kind}
 
 -- whether a unit of a guard may begin behind a token, so that a brace there is one of a guard; unit tells it of the place before
 -- the token
-abbrev pub opens_unit : Bool → TokenKind → Bool
-opens_unit unit If = true
-opens_unit unit While = true
-opens_unit unit Bang = true
-opens_unit unit AndAnd = true
-opens_unit unit OrOr = true
-opens_unit unit OpenBrace = unit
-opens_unit unit _ = false
+abbrev pub opens_relation : Bool → TokenKind → Bool
+opens_relation unit If = true
+opens_relation unit While = true
+opens_relation unit Bang = true
+opens_relation unit AndAnd = true
+opens_relation unit OrOr = true
+opens_relation unit OpenBrace = unit
+opens_relation unit _ = false
 
 -- the operators and opening brackets of guards and assignments; the brace of a block is none
 abbrev pub is_counted : Bool → TokenKind → Bool
@@ -51,7 +51,7 @@ marked_token unit n t = record {
 -- the tokens of a program, where n operators stand before the first
 abbrev pub mark_tokens : Bool → ℕ → List Token → List Token
 mark_tokens unit n [] = []
-mark_tokens unit n (t ∷ ts) = marked_token unit n t ∷ mark_tokens (opens_unit unit (program_kind t.kind))
+mark_tokens unit n (t ∷ ts) = marked_token unit n t ∷ mark_tokens (opens_relation unit (program_kind t.kind))
     (operators_up_to unit (program_kind t.kind) n) ts
 
 abbrev pub program_tokens : List Token → List Token

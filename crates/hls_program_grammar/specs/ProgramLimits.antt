@@ -48,7 +48,7 @@ abbrev pub KeepLimits : List Word → Type 0
 KeepLimits ws = (a b : List Word) (w : Word) → ws ≡ a ++ w ∷ b → (IsOneTooManyInProgram a w → ⊥) × (IsTooDeep a w → ⊥)
 
 -- The tokens up to the end spell the program, within the limits.
-pub record SpellProgramWithin (ts : List Token) (p : Program) : Type 0 where
+pub record TokensSpellProgram (ts : List Token) (p : Program) : Type 0 where
   pub before : List Token
   pub token : Token
   pub behind : List Token
@@ -72,7 +72,7 @@ IsWrongInProgram Nested ws t = CanFollowInProgram ws t × IsTooDeep ws (word_of 
 IsWrongInProgram Ended ws t = (t.kind ≡ End) × ((p : Program) → IsProgram p ws → ⊥)
 
 -- The tokens before begin a program within the limits, and the next one is wrong.
-pub record StopProgramWithin (ts : List Token) (f : TextFault) : Type 0 where
+pub record TokensStopProgram (ts : List Token) (f : TextFault) : Type 0 where
   pub before : List Token
   pub token : Token
   pub behind : List Token

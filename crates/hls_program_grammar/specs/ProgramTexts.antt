@@ -6,7 +6,7 @@ use Rattle.fs_grammar.specs.declared.token.Token.{Token}
 use Rattle.fs_lex_laws.specs.Tokenization.{AreTokens}
 use Rattle.hls_program_laws.specs.Programs.{Program}
 use Rattle.hls_program_grammar.specs.ProgramKeywords.{program_kind}
-use Rattle.hls_program_grammar.specs.ProgramLimits.{SpellProgramWithin, StopProgramWithin}
+use Rattle.hls_program_grammar.specs.ProgramLimits.{TokensSpellProgram, TokensStopProgram}
 
 -- a token of a text as one of a program, without a mark
 abbrev pub program_token : Token → Token
@@ -16,10 +16,10 @@ program_token t = record { kind = program_kind t.kind; past_limit = false; place
 pub record TextSpellsProgram (bytes : List ℕ) (p : Program) : Type 0 where
   pub tokens : List Token
   pub are : AreTokens [] bytes tokens
-  pub spell : SpellProgramWithin (map program_token tokens) p
+  pub spell : TokensSpellProgram (map program_token tokens) p
 
 -- The bytes are faulty here: this is the first of their tokens that is wrong.
 pub record ProgramTextStops (bytes : List ℕ) (f : TextFault) : Type 0 where
   pub tokens : List Token
   pub are : AreTokens [] bytes tokens
-  pub stop : StopProgramWithin (map program_token tokens) f
+  pub stop : TokensStopProgram (map program_token tokens) f

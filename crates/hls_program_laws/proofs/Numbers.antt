@@ -8,7 +8,7 @@ use Rattle.std.proofs.lemmas.Slice.Eq.{bytes_eq-Decides}
 use Rattle.std.proofs.lemmas.Fmt.{decimal_injective}
 use Rattle.fs_model.specs.Terms.{Transition}
 use Rattle.fs_model.specs.Machines.{Fsmd, State}
-use Rattle.fs_rules.specs.MachineOfParts.{state_names, place, line_spelled, state_spelled}
+use Rattle.fs_rules.specs.MachineOfParts.{state_names, place_or_end, transition_spelled, state_spelled}
 use Rattle.hls_program_laws.specs.Programs.{Block, End, Do, If, While, block_over}
 use Rattle.hls_program_laws.specs.Compiled.{count, first, states_of, state_name, numbered_states}
 use Rattle.hls_program_laws.proofs.Laid.{Stands, Laid}
@@ -37,14 +37,14 @@ name_once a b h i e =
     decimal_injective a b h i digits
 
 place_by : (j i : ℕ) (xs : List Row) (t : Bool) → bytes_eq (state_name j) (state_name (j + suc i)) ≡ t → j + suc i < 2 ^ 64
-    → place (state_names (numbered_states (suc j) xs)) (state_name (suc j + i)) ≡ i
-    → cond t 0 (suc (place (state_names (numbered_states (suc j) xs)) (state_name (j + suc i)))) ≡ suc i
+    → place_or_end (state_names (numbered_states (suc j) xs)) (state_name (suc j + i)) ≡ i
+    → cond t 0 (suc (place_or_end (state_names (numbered_states (suc j) xs)) (state_name (j + suc i)))) ≡ suc i
 place_by j i xs true e k h = let same = name_once j (j + suc i) (omega (arith, k)) k e in absurd (omega (arith, same))
 place_by j i xs false e k h =
     let n : j + suc i ≡ suc j + i = omega arith in
-    ap suc (ap (λ a. place (state_names (numbered_states (suc j) xs)) (state_name a)) n ∙ h)
+    ap suc (ap (λ a. place_or_end (state_names (numbered_states (suc j) xs)) (state_name a)) n ∙ h)
 
-pub place_number : (j : ℕ) (xs : List Row) (i : ℕ) → i < length xs → j + i < 2 ^ 64 → place (state_names (numbered_states j xs)) (state_name (j + i)) ≡ i
+pub place_number : (j : ℕ) (xs : List Row) (i : ℕ) → i < length xs → j + i < 2 ^ 64 → place_or_end (state_names (numbered_states j xs)) (state_name (j + i)) ≡ i
 place_number j [] i h k = absurd (omega arith)
 place_number j (x ∷ xs) zero h k =
     let n : j ≡ j + 0 = omega arith in
@@ -55,7 +55,7 @@ place_number j (x ∷ xs) (suc i) h k = place_by j i xs (bytes_eq (state_name j)
 
 -- ---- the transitions of a state by its number
 abbrev pub spelled_row : List (List ℕ) → List (List ℕ) → Row → List (Transition ℕ ℕ)
-spelled_row vs ss s = map (line_spelled vs ss) (map (λ l. record { line = s.0; content = l }) s.1)
+spelled_row vs ss s = map (transition_spelled vs ss) (map (λ l. record { line = s.0; content = l }) s.1)
 
 pub no_row : Row
 no_row = (0, [])
@@ -108,11 +108,11 @@ length_numbered n (r ∷ rows) = ap suc (length_numbered (suc n) rows)
 -- ---- a block lies where its rows are
 module _ (m : Fsmd) (vs ss : List (List ℕ)) where
   abbrev pub spot : ℕ → ℕ
-  spot n = place ss (state_name n)
+  spot n = place_or_end ss (state_name n)
 
-  pub lies : (b : Block (List ℕ)) (n k : ℕ) → Rows m spot vs ss n (states_of state_name b n k) → Laid m spot (block_over (place vs) b) n k
+  pub lies : (b : Block (List ℕ)) (n k : ℕ) → Rows m spot vs ss n (states_of state_name b n k) → Laid m spot (block_over (place_or_end vs) b) n k
   lies End n k h = tt
-  lies (Do line a rest) n k h = rw (first_over (place vs) rest (suc n) k) (h.0, lies rest (suc n) k h.1)
+  lies (Do line a rest) n k h = rw (first_over (place_or_end vs) rest (suc n) k) (h.0, lies rest (suc n) k h.1)
   lies (If line g y z rest) n k h =
       let other = suc n + count y in
       let after = other + count z in
@@ -125,11 +125,11 @@ module _ (m : Fsmd) (vs ss : List (List ℕ)) where
       let second_part = lies z other next (rows_front m spot vs ss other zs rs behind) in
       let last_part = lies rest after k (rows_back m spot vs ss other after zs rs (omega (arith, length_states state_name z other next)) behind) in
       rw (
-        count_over (place vs) y,
-        count_over (place vs) z,
-        first_over (place vs) rest after k,
-        first_over (place vs) z other next,
-        first_over (place vs) y (suc n) next,
+        count_over (place_or_end vs) y,
+        count_over (place_or_end vs) z,
+        first_over (place_or_end vs) rest after k,
+        first_over (place_or_end vs) z other next,
+        first_over (place_or_end vs) y (suc n) next,
       ) (h.0, first_part, second_part, last_part)
   lies (While line g body rest) n k h =
       let after = suc n + count body in
@@ -137,4 +137,5 @@ module _ (m : Fsmd) (vs ss : List (List ℕ)) where
       let rs = states_of state_name rest after k in
       let first_part = lies body (suc n) n (rows_front m spot vs ss (suc n) bs rs h.1) in
       let last_part = lies rest after k (rows_back m spot vs ss (suc n) after bs rs (omega (arith, length_states state_name body (suc n) n)) h.1) in
-      rw (count_over (place vs) body, first_over (place vs) rest after k, first_over (place vs) body (suc n) n) (h.0, first_part, last_part)
+      rw (count_over (place_or_end vs) body, first_over (place_or_end vs) rest after k, first_over (place_or_end vs) body (suc n) n)
+      (h.0, first_part, last_part)

@@ -6,7 +6,7 @@ use Rattle.fs_model.specs.Machines.{Fsmd, transitions_of}
 use Rattle.fs_model.specs.Stores.{Store}
 use Rattle.fs_model.specs.Meaning.{transition_taken, act_all}
 use Rattle.fs_model.specs.Runs.{AfterStep, ReachesReset, Run, Inputs, Content, start}
-use Rattle.fs_rules.specs.MachineOfParts.{variables_of, names_of, state_names, place, machine_of}
+use Rattle.fs_rules.specs.MachineOfParts.{variables_of, names_of, state_names, place_or_end, machine_of}
 use Rattle.fs_model.specs.Limits.{most_states}
 use Rattle.hls_program_laws.specs.Programs.{Block, Program}
 use Rattle.hls_program_laws.specs.ProgramMeaning.{Does, ProgRun, DoesAs, numbered_body}
@@ -43,7 +43,7 @@ module _ (p : Program) (few : count p.body < most_states) where
   at_own n h =
       let z : 0 + n ≡ n = omega arith in
       let top : most_states < 2 ^ 64 = lit< tt in
-      ap (λ j. place ss (state_name j)) (sym z) ∙ place_number 0 all n h (omega (arith, h, length_all, few, top))
+      ap (λ j. place_or_end ss (state_name j)) (sym z) ∙ place_number 0 all n h (omega (arith, h, length_all, few, top))
 
   has_lines : (n : ℕ) → n < length all → transitions_of m (at n) ≡ spelled_row vs ss (slice_index_or all n no_row)
   has_lines n h = ap (transitions_of m) (at_own n h) ∙ lines_at vs ss 0 all n (record { name = []; lines = [] }) h
@@ -66,7 +66,7 @@ module _ (p : Program) (few : count p.body < most_states) where
       (rows_from 1 rows (omega arith) (omega arith) (λ i k. let e : 1 + i ≡ suc i = omega arith in ap (λ j. slice_index_or all j no_row) e))
 
   first_lines : transitions_of m m.reset ≡ always (at (first (numbered_body p) 1 0)) [] ∷ []
-  first_lines = rw (first_over (place vs) p.body 1 0) (has_lines 0 (omega arith))
+  first_lines = rw (first_over (place_or_end vs) p.body 1 0) (has_lines 0 (omega arith))
 
   pub program_runs : (ins : Inputs) (outs : List ℕ → Option Content) → ProgRun p ins outs → (n : ℕ) × Run m ins outs n
   program_runs ins outs r =

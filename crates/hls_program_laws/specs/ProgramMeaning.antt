@@ -6,7 +6,7 @@ use Rattle.fs_model.specs.Machines.{Fsmd}
 use Rattle.fs_model.specs.Stores.{Store}
 use Rattle.fs_model.specs.Meaning.{holds, act}
 use Rattle.fs_model.specs.Runs.{Inputs, Content, Run, start_store, output_from}
-use Rattle.fs_rules.specs.MachineOfParts.{variables_of, names_of, place}
+use Rattle.fs_rules.specs.MachineOfParts.{variables_of, names_of, place_or_end}
 use Rattle.hls_program_laws.specs.Programs.{Block, End, Do, If, While, Program, block_over}
 
 -- a block that begins with one store ends with another
@@ -27,7 +27,7 @@ program_variables p = variables_of p.declarations
 
 -- the outermost block over the numbers of variables
 abbrev pub numbered_body : Program → Block ℕ
-numbered_body p = block_over (place (names_of (program_variables p))) p.body
+numbered_body p = block_over (place_or_end (names_of (program_variables p))) p.body
 
 -- from these inputs the program ends with these outputs
 pub record ProgRun (p : Program) (ins : Inputs) (outs : List ℕ → Option Content) : Type 0 where

@@ -11,7 +11,7 @@ use Rattle.fs_grammar.specs.declared.token.TokenKind.{TokenKind}
 use Rattle.fs_grammar.specs.declared.token.TokenKind.TheVariants.{If as IfWord, Else, While as WhileWord, Declare, Name, OpenBracket, OpenBrace, CloseBrace}
 use Rattle.fs_grammar.specs.declared.token.TokenKind.TheVariants.{End as EndOfBytes}
 use Rattle.fs_grammar.specs.declared.token.Token.{Token}
-use Rattle.fs_grammar.specs.Tokens.{kind_at, line_at, fault_at, accepted, ◌>>=◌}
+use Rattle.fs_grammar.specs.Tokens.{kind_at, line_at, fault_at, tokens_after, ◌>>=◌}
 use Rattle.fs_grammar.specs.PartEnds.{IsNoIndex, EndsName, name_in}
 use Rattle.fs_grammar.specs.Grammar.{scalar}
 use Rattle.fs_expression_text.specs.Inside.{whole_guard, at_sum, at_guard, sum_alone, guard_alone}
@@ -24,7 +24,7 @@ use Rattle.hls_program_grammar.specs.ProgramGrammar.{Named, Open, outermost, in_
 use Rattle.hls_program_grammar.specs.ProgramGrammar.{at_declaration, in_declaration, at_block, at_statement, after_name, at_equals, inside, after, after_yes}
 use Rattle.hls_program_grammar.specs.ProgramGrammar.{at_no, close_block, is_deep, program_step, finish_program, program_reading}
 use Rattle.hls_program_grammar.proofs.Complete.{joined_end, joined_assoc}
-use Rattle.hls_program_text.specs.Fronts.{role_in, role_at, IsNoKeyword, opened}
+use Rattle.hls_program_text.specs.Fronts.{role_in, role_at, IsNoKeyword, tokens_behind_brace}
 
 -- two parse states read alike where each token leads both to the same, and both end alike
 same_reading : (ts : List Token) (a b : ProgramParseState) → ((n : ℕ) (t : TokenKind) → kind_at ts ≡ Some t → program_step a n t ≡ program_step b n t)
@@ -42,7 +42,7 @@ taken_by false false f g ts n e = refl
 
 -- a token that can follow, and opens no block
 taken : (ts : List Token) (w : TokenKind) (s n : ProgramParseState) → kind_at ts ≡ Some w → program_step s (line_at ts) w ≡ Some n → is_deep n ≡ false
-    → program_reading ts s ≡ (accepted ts >>= λ r. program_reading r n)
+    → program_reading ts s ≡ (tokens_after ts >>= λ r. program_reading r n)
 taken [] w s n e f d = absurd cc
 taken (t ∷ ts) w s n e f d =
     let is : t.kind ≡ w = cc in
@@ -56,12 +56,12 @@ role_is _ r e = absurd cc
 
 -- the role with which a declaration begins
 pub role_taken : (ts : List Token) (r : Role) (ds : List Declaration) → role_at ts ≡ Some r
-    → program_reading ts (at_declaration ds) ≡ (accepted ts >>= λ v. program_reading v (in_declaration ds (declaring.at_sort (line_at ts) r)))
+    → program_reading ts (at_declaration ds) ≡ (tokens_after ts >>= λ v. program_reading v (in_declaration ds (declaring.at_sort (line_at ts) r)))
 role_taken ts r ds e = taken ts (Declare r) (at_declaration ds) (in_declaration ds (declaring.at_sort (line_at ts) r)) (role_is (kind_at ts) r e) refl refl
 
 -- the bracket that opens the index of a destination
 pub bracket_taken : (ts : List Token) (o : Open) (b : Named) (n : ℕ) (x : List ℕ) → kind_at ts ≡ Some OpenBracket
-    → program_reading ts (after_name o b n x) ≡ (accepted ts >>= λ r. program_reading r (inside (for_index o b n x) (at_sum sum_alone)))
+    → program_reading ts (after_name o b n x) ≡ (tokens_after ts >>= λ r. program_reading r (inside (for_index o b n x) (at_sum sum_alone)))
 bracket_taken ts o b n x e = taken ts OpenBracket (after_name o b n x) (inside (for_index o b n x) (at_sum sum_alone)) e refl refl
 
 closes_shallow : (o : Open) (b : Named) → is_deep (close_block o b) ≡ false
@@ -72,16 +72,16 @@ closes_shallow (in_body o d n g) b = refl
 
 -- the brace that closes a block
 pub block_closed : (ts : List Token) (o : Open) (b : Named) → kind_at ts ≡ Some CloseBrace
-    → program_reading ts (at_statement o b) ≡ (accepted ts >>= λ r. program_reading r (close_block o b))
+    → program_reading ts (at_statement o b) ≡ (tokens_after ts >>= λ r. program_reading r (close_block o b))
 block_closed ts o b e = taken ts CloseBrace (at_statement o b) (close_block o b) e refl (closes_shallow o b)
 
 -- the words of choices and loops
 pub if_taken : (ts : List Token) (o : Open) (b : Named) → kind_at ts ≡ Some IfWord
-    → program_reading ts (at_statement o b) ≡ (accepted ts >>= λ r. program_reading r (inside (for_if o b (line_at ts)) (at_guard guard_alone)))
+    → program_reading ts (at_statement o b) ≡ (tokens_after ts >>= λ r. program_reading r (inside (for_if o b (line_at ts)) (at_guard guard_alone)))
 if_taken ts o b e = taken ts IfWord (at_statement o b) (inside (for_if o b (line_at ts)) (at_guard guard_alone)) e refl refl
 
 pub while_taken : (ts : List Token) (o : Open) (b : Named) → kind_at ts ≡ Some WhileWord
-    → program_reading ts (at_statement o b) ≡ (accepted ts >>= λ r. program_reading r (inside (for_while o b (line_at ts)) (at_guard guard_alone)))
+    → program_reading ts (at_statement o b) ≡ (tokens_after ts >>= λ r. program_reading r (inside (for_while o b (line_at ts)) (at_guard guard_alone)))
 while_taken ts o b e = taken ts WhileWord (at_statement o b) (inside (for_while o b (line_at ts)) (at_guard guard_alone)) e refl refl
 
 -- ---- what may be left out
@@ -162,31 +162,33 @@ opened_cases false false f g ts n = refl
 opens_by : (w : TokenKind) (past_limit : Bool) (place : TextPlace) (ts : List Token) (s : ProgramParseState) (o : Open)
     → program_step s place.line OpenBrace ≡ Some (at_block o) → (IsNoBrace w → program_step s place.line w ≡ None) → finish_program s ≡ None
     → program_reading (record { kind = w; past_limit = past_limit; place = place } ∷ ts) s
-    ≡ (opened (depth_of o) (record { kind = w; past_limit = past_limit; place = place } ∷ ts) >>= λ r. program_reading r (at_block o))
+    ≡ (tokens_behind_brace (depth_of o) (record { kind = w; past_limit = past_limit; place = place } ∷ ts) >>= λ r. program_reading r (at_block o))
 opens_by OpenBrace past_limit place ts s o e h f = rw e (opened_cases past_limit (nat_lt most_depth (depth_of o)) _ _ ts (at_block o))
 opens_by EndOfBytes past_limit place ts s o e h f = rw (h tt, f) refl
 opens_by w past_limit place ts s o e h f = rw (h tt) refl
 
 opens : (ts : List Token) (s : ProgramParseState) (o : Open) → ((n : ℕ) → program_step s n OpenBrace ≡ Some (at_block o))
     → ((n : ℕ) (w : TokenKind) → kind_at ts ≡ Some w → IsNoBrace w → program_step s n w ≡ None) → finish_program s ≡ None
-    → program_reading ts s ≡ (opened (depth_of o) ts >>= λ r. program_reading r (at_block o))
+    → program_reading ts s ≡ (tokens_behind_brace (depth_of o) ts >>= λ r. program_reading r (at_block o))
 opens [] s o e h f = refl
 opens (t ∷ ts) s o e h f = opens_by t.kind t.past_limit t.place ts s o (e t.place.line) (h t.place.line t.kind refl) f
 
 -- the first block of a choice
 pub opens_yes : (ts : List Token) (o : Open) (b : Named) (n : ℕ) (g : Guard (List ℕ))
-    → program_reading ts (after (for_if o b n) (whole_guard g)) ≡ (opened (suc (depth_of o)) ts >>= λ r. program_reading r (at_block (in_yes o b n g)))
+    → program_reading ts (after (for_if o b n) (whole_guard g))
+    ≡ (tokens_behind_brace (suc (depth_of o)) ts >>= λ r. program_reading r (at_block (in_yes o b n g)))
 opens_yes ts o b n g = opens ts (after (for_if o b n) (whole_guard g)) (in_yes o b n g) (λ m. refl)
     (λ m. elim [ OpenBrace ↦ λ i h. absurd h | _ ↦ λ i h. refl ]) refl
 
 -- the second block of a choice
 pub opens_no : (ts : List Token) (o : Open) (b : Named) (n : ℕ) (g : Guard (List ℕ)) (y : Named)
-    → program_reading ts (at_no o b n g y) ≡ (opened (suc (depth_of o)) ts >>= λ r. program_reading r (at_block (in_no o b n g y)))
+    → program_reading ts (at_no o b n g y) ≡ (tokens_behind_brace (suc (depth_of o)) ts >>= λ r. program_reading r (at_block (in_no o b n g y)))
 opens_no ts o b n g y = opens ts (at_no o b n g y) (in_no o b n g y) (λ m. refl) (λ m. elim [ OpenBrace ↦ λ i h. absurd h | _ ↦ λ i h. refl ]) refl
 
 -- the block of a loop
 pub opens_body : (ts : List Token) (o : Open) (b : Named) (n : ℕ) (g : Guard (List ℕ))
-    → program_reading ts (after (for_while o b n) (whole_guard g)) ≡ (opened (suc (depth_of o)) ts >>= λ r. program_reading r (at_block (in_body o b n g)))
+    → program_reading ts (after (for_while o b n) (whole_guard g))
+    ≡ (tokens_behind_brace (suc (depth_of o)) ts >>= λ r. program_reading r (at_block (in_body o b n g)))
 opens_body ts o b n g = opens ts (after (for_while o b n) (whole_guard g)) (in_body o b n g) (λ m. refl)
     (λ m. elim [ OpenBrace ↦ λ i h. absurd h | _ ↦ λ i h. refl ]) refl
 
@@ -197,7 +199,7 @@ no_role n _ ds e h = refl
 
 -- the outermost block
 pub opens_outermost : (ts : List Token) (ds : List Declaration) → role_at ts ≡ None
-    → program_reading ts (at_declaration ds) ≡ (opened 0 ts >>= λ r. program_reading r (at_block (outermost ds)))
+    → program_reading ts (at_declaration ds) ≡ (tokens_behind_brace 0 ts >>= λ r. program_reading r (at_block (outermost ds)))
 opens_outermost ts ds e = opens ts (at_declaration ds) (outermost ds) (λ m. refl) (λ m t i h. no_role m t ds (rw i at e) h) refl
 
 -- each way to open a block

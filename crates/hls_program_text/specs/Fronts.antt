@@ -7,7 +7,7 @@ use Rattle.fs_grammar.specs.declared.fault.TextFault.{TextFault}
 use Rattle.fs_grammar.specs.declared.token.TokenKind.{TokenKind}
 use Rattle.fs_grammar.specs.declared.token.TokenKind.TheVariants.{If, While, Declare, OpenBrace, CloseBrace}
 use Rattle.fs_grammar.specs.declared.token.Token.{Token}
-use Rattle.fs_grammar.specs.Tokens.{kind_at, accepted, refusal, fault_at, ◌>>=◌}
+use Rattle.fs_grammar.specs.Tokens.{kind_at, tokens_after, refusal, fault_at, ◌>>=◌}
 use Rattle.fs_grammar.specs.Grammar.{Destination, scalar, element}
 use Rattle.hls_program_laws.specs.WellFormedPrograms.{most_depth}
 
@@ -37,14 +37,15 @@ destination x None = scalar x
 destination x (Some i) = element x i
 
 -- the fault of a brace that opens a block too deep in others
-abbrev pub nested : List Token → TextFault
-nested [] = record { line = 0; column = 0; kind = Nested }
-nested (t ∷ ts) = fault_at t Nested
+abbrev pub nested_fault : List Token → TextFault
+nested_fault [] = record { line = 0; column = 0; kind = Nested }
+nested_fault (t ∷ ts) = fault_at t Nested
 
-abbrev pub opened_by : ℕ → List Token → Option TokenKind → Result (List Token) TextFault
-opened_by depth ts (Some OpenBrace) = accepted ts >>= λ r. cond (nat_lt most_depth depth) (Err (nested ts)) (Ok r)
-opened_by depth ts _ = Err (refusal ts)
+abbrev pub tokens_behind_brace_by : ℕ → List Token → Option TokenKind → Result (List Token) TextFault
+tokens_behind_brace_by depth ts (Some OpenBrace) =
+    tokens_after ts >>= λ r. cond (nat_lt most_depth depth) (Err (nested_fault ts)) (Ok r)
+tokens_behind_brace_by depth ts _ = Err (refusal ts)
 
 -- the tokens behind the brace that opens a block within so many others
-abbrev pub opened : ℕ → List Token → Result (List Token) TextFault
-opened depth ts = opened_by depth ts (kind_at ts)
+abbrev pub tokens_behind_brace : ℕ → List Token → Result (List Token) TextFault
+tokens_behind_brace depth ts = tokens_behind_brace_by depth ts (kind_at ts)

@@ -15,7 +15,7 @@ ghost use Rattle.hls_program_parts.specs.View.{block_of_statement, block_of};
 ghost use Rattle.hls_program_grammar.specs.ProgramGrammar.{Open, Named, depth_of, for_if, for_while, program_reading};
 ghost use Rattle.hls_program_grammar.specs.ProgramGrammar.{at_declaration, at_block, at_statement, inside, after, after_yes};
 ghost use Rattle.hls_program_grammar.specs.ProgramGrammar.{at_no, at_end, close_block};
-ghost use Rattle.hls_program_text.specs.Fronts.{role_at, ends_block, IsNoKeyword, nested, opened};
+ghost use Rattle.hls_program_text.specs.Fronts.{role_at, ends_block, IsNoKeyword, nested_fault, tokens_behind_brace};
 
 use crate::assignments::assignment;
 use crate::expressions::guard;
@@ -28,8 +28,8 @@ use hls_program_parts::well_formed::DEPTH_LIMIT;
 use std::alloc::Global;
 
 // The fault of a brace that opens a block too deep in others.
-fn nested(tokens: &[Token]) -> ReadError
-    ensures { result ≡ Text (nested tokens.now) }
+fn fault_of_brace(tokens: &[Token]) -> ReadError
+    ensures { result ≡ Text (nested_fault tokens.now) }
 {
     let (line, column) = match tokens {
         [] => (0, 0),
@@ -44,7 +44,7 @@ fn nested(tokens: &[Token]) -> ReadError
 
 // The brace that opens a block within so many others.
 fn open_brace(depth: u32, tokens: &[Token]) -> Result<&[Token], ReadError>
-    ensures gives { Gives (λ r. r.now) result (opened depth tokens.now) }
+    ensures gives { Gives (λ r. r.now) result (tokens_behind_brace depth tokens.now) }
     ensures shorter { IfOk result (λ r. length r.now < length tokens.now) }
     ensures shallow { OnOk result (depth ≤ most_depth) }
 {
@@ -52,7 +52,7 @@ fn open_brace(depth: u32, tokens: &[Token]) -> Result<&[Token], ReadError>
         Some(TokenKind::OpenBrace) => {
             let rest = accept(tokens)?;
             if depth > DEPTH_LIMIT {
-                return Err(nested(tokens));
+                return Err(fault_of_brace(tokens));
             }
             Ok(rest)
         }

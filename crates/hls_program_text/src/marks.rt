@@ -4,7 +4,8 @@
 
 ghost use Rattle.std.specs.Prelude.{◌≡◌, ◌<◌, ◌≤◌, ◌+◌, ◌^◌};
 ghost use Rattle.fs_grammar.specs.Tokens.{MadeAs};
-ghost use Rattle.hls_program_grammar.specs.Marks.{opens_unit, is_counted, starts_anew, operators_up_to, is_past_program_limit};
+ghost use Rattle.hls_program_grammar.specs.Marks.{opens_relation, is_counted, starts_anew, operators_up_to};
+ghost use Rattle.hls_program_grammar.specs.Marks.{is_past_program_limit};
 ghost use Rattle.hls_program_grammar.specs.Marks.{marked_token, program_tokens};
 ghost use Rattle.hls_program_grammar.specs.ProgramKeywords.{program_word, program_kind};
 
@@ -48,7 +49,7 @@ fn program_kind(kind: TokenKind) -> TokenKind
 
 // Whether a unit of a guard may begin behind the token; `unit` tells it of the place before the token.
 fn opens_unit(unit: bool, kind: &TokenKind) -> bool
-    ensures { result ≡ opens_unit unit kind.now }
+    ensures { result ≡ opens_relation unit kind.now }
 {
     match kind {
         TokenKind::If | TokenKind::While | TokenKind::Bang | TokenKind::AndAnd | TokenKind::OrOr =>
@@ -91,7 +92,7 @@ fn starts_anew(unit: bool, kind: &TokenKind) -> bool
 }
 
 // The operators of the guard or assignment up to the token, where so many stand before it.
-fn counted(unit: bool, kind: &TokenKind, operators: usize) -> usize
+fn count_operators(unit: bool, kind: &TokenKind, operators: usize) -> usize
     requires { operators + 1 < 2 ^ 64 }
     ensures is { result ≡ operators_up_to unit kind.now operators }
     ensures small { result ≤ operators + 1 }
@@ -113,7 +114,7 @@ fn is_past_limit(unit: bool, kind: &TokenKind, operators: usize) -> bool
 }
 
 // A token of a program, behind so many operators.
-fn marked(unit: bool, operators: usize, token: Token) -> Token
+fn mark_token(unit: bool, operators: usize, token: Token) -> Token
     ensures { result ≡ marked_token unit operators token }
 {
     let place = token.place;
@@ -135,8 +136,8 @@ pub fn program_tokens(alloc: Global, tokens: Vec<Token>) -> Result<Vec<Token>, R
     let mut unit = false;
     let mut operators = 0;
     'each: while let Some(token) = rest.next() {
-        let token = marked(unit, operators, token);
-        operators = counted(unit, &token.kind, operators);
+        let token = mark_token(unit, operators, token);
+        operators = count_operators(unit, &token.kind, operators);
         unit = opens_unit(unit, &token.kind);
         out.push(token)?;
     }

@@ -6,14 +6,14 @@ use Rattle.std.proofs.lemmas.List.{take_all}
 use Rattle.base_lemmas.proofs.Lists.{length_map, map_map}
 use Rattle.fs_model.specs.declared.parts.StateId.{StateId}
 use Rattle.fs_model.specs.Machines.{Fsmd}
-use Rattle.fs_rules.specs.Sound.{IsSound}
+use Rattle.fs_rules.specs.SoundParts.{IsSound}
 use Rattle.hls_unit_counts.specs.declared.units.Unit.{Unit as Kind}
 use Rattle.hls_unit_counts.specs.declared.units.Unit.TheVariants.{Add}
 use Rattle.hls_line_rows.specs.Items.{Item}
 use Rattle.hls_line_machines.specs.StraightLines.{is_first_of_line, firsts, straight_line_at, item_of, items_at}
 use Rattle.hls_line_rows.specs.ItemUnits.{Units, used_by}
 use Rattle.hls_line_rows.specs.Heights.{chain_of}
-use Rattle.hls_line_rows.specs.Filling.{Filled, graph_of, filling, is_before, IsFilled}
+use Rattle.hls_line_rows.specs.Filling.{Filled, graph_of, filling_of, is_before, IsFilled}
 use Rattle.hls_line_rows.proofs.Placings.{is_filled}
 use Rattle.hls_line_schedules.specs.Schedules.{IsWithin, rows_by}
 use Rattle.hls_line_schedules.proofs.Schedules.{each_fits, rows_count}
@@ -21,7 +21,7 @@ use Rattle.hls_line_filling.specs.declared.effects.Effects.{Effects}
 use Rattle.hls_line_filling.specs.declared.uses.Uses.{Uses}
 use Rattle.hls_line_filling.specs.declared.plan.Plan.{Plan}
 use Rattle.hls_line_filling.specs.EffectSets.{sets_of, sets_from, none_changed}
-use Rattle.hls_line_filling.specs.Profiles.{units_of_uses, capped}
+use Rattle.hls_line_filling.specs.Profiles.{units_of_uses, capped_count}
 use Rattle.hls_line_filling.specs.Plans.{filled_in}
 use Rattle.hls_unit_limits.specs.Counted.{AreCounted}
 use Rattle.hls_sched.specs.RowMoves.{IsPlanFor}
@@ -48,28 +48,29 @@ count_items m q states e = length_map (item_of m) (straight_line_at m q) ∙ ap 
 pub are_counted : (m : Fsmd) (q : ℕ) (states first second : List StateId) (es effects : List Effects) (us uses : List Uses)
     → map (λ (s : StateId). s.0) states ≡ straight_line_at m q → first ≡ states → second ≡ states → es ≡ effects → us ≡ uses
     → map sets_of effects ≡ map (λ (s : StateId). sets_from (item_of m s.0) none_changed) first
-    → ((kind : Kind) → map (λ (u : Uses). units_of_uses u kind) uses ≡ map (λ (s : StateId). capped (used_by (item_of m s.0) kind)) second)
+    → ((kind : Kind) → map (λ (u : Uses). units_of_uses u kind) uses ≡ map (λ (s : StateId). capped_count (used_by (item_of m s.0) kind)) second)
     → AreCounted es us (items_at m q)
 are_counted m q states first second es effects us uses line same_first same_second same_effects same_uses e f =
     let sets : map sets_of es ≡ map (λ (a : Item). sets_from a none_changed) (items_at m q) =
     ap (map sets_of) same_effects ∙ e ∙ ap (map (λ (s : StateId). sets_from (item_of m s.0) none_changed)) same_first
     ∙ of_items m (λ (a : Item). sets_from a none_changed) q states line in
-    let counts : (kind : Kind) → map (λ (u : Uses). units_of_uses u kind) us ≡ map (λ (a : Item). capped (used_by a kind)) (items_at m q) =
-    λ kind. ap (map (λ (u : Uses). units_of_uses u kind)) same_uses ∙ f kind ∙ ap (map (λ (s : StateId). capped (used_by (item_of m s.0) kind))) same_second
-    ∙ of_items m (λ (a : Item). capped (used_by a kind)) q states line in
+    let counts : (kind : Kind) → map (λ (u : Uses). units_of_uses u kind) us ≡ map (λ (a : Item). capped_count (used_by a kind)) (items_at m q) =
+    λ kind. ap (map (λ (u : Uses). units_of_uses u kind)) same_uses ∙ f kind
+    ∙ ap (map (λ (s : StateId). capped_count (used_by (item_of m s.0) kind))) same_second
+    ∙ of_items m (λ (a : Item). capped_count (used_by a kind)) q states line in
     record {
       count = sym (length_map sets_of es) ∙ ap length sets ∙ length_map (λ (a : Item). sets_from a none_changed) (items_at m q);
       same = sym (length_map (λ (u : Uses). units_of_uses u Add) us) ∙ ap length (counts Add)
-          ∙ length_map (λ (a : Item). capped (used_by a Add)) (items_at m q);
+          ∙ length_map (λ (a : Item). capped_count (used_by a Add)) (items_at m q);
       effects = λ i x h. by_index sets_of (λ (a : Item). sets_from a none_changed) es (items_at m q) i x sets h;
-      uses = λ i u kind h. by_index (λ (x : Uses). units_of_uses x kind) (λ (a : Item). capped (used_by a kind)) us (items_at m q) i u (counts kind) h;
+      uses = λ i u kind h. by_index (λ (x : Uses). units_of_uses x kind) (λ (a : Item). capped_count (used_by a kind)) us (items_at m q) i u (counts kind) h;
     }
 
 -- a plan of a line places each item
 pub plan_for : (m : Fsmd) (units : Units) (q count : ℕ) (p : Plan) → IsSound m → IsWithin units m → q < length m.states → is_first_of_line m q ≡ true
-    → filled_in p ≡ filling (graph_of (items_at m q)) units → length p.rows.items ≡ count → length (items_at m q) ≡ count → IsPlanFor count p
+    → filled_in p ≡ filling_of (graph_of (items_at m q)) units → length p.rows.items ≡ count → length (items_at m q) ≡ count → IsPlanFor count p
 plan_for m units q count p sound within low first e all same =
-    let f : Filled = filling (graph_of (items_at m q)) units in
+    let f : Filled = filling_of (graph_of (items_at m q)) units in
     let w : IsFilled (graph_of (items_at m q)) units f = is_filled (graph_of (items_at m q)) units (each_fits m units sound within q low first) in
     let rows : p.count ≡ f.count = ap (λ (z : Filled). z.count) e in
     record {
@@ -83,7 +84,7 @@ abbrev pub made_report : (first before after chain : ℕ) → Report
 made_report first before after chain = record { first = first; before = before; after = after; chain = chain }
 
 pub report_is : (m : Fsmd) (units : Units) (q before : ℕ) (states : List StateId) (p : Plan) → IsSound m → IsWithin units m → before ≡ length states
-    → map (λ (s : StateId). s.0) states ≡ straight_line_at m q → filled_in p ≡ filling (graph_of (items_at m q)) units → p.chain ≡ chain_of (items_at m q)
+    → map (λ (s : StateId). s.0) states ≡ straight_line_at m q → filled_in p ≡ filling_of (graph_of (items_at m q)) units → p.chain ≡ chain_of (items_at m q)
     → made_report q before p.count p.chain ≡ report_at units m q
 report_is m units q before states p sound within all line e chain =
     let rows : p.count ≡ length (rows_by units m q) = ap (λ (z : Filled). z.count) e ∙ sym (rows_count m units sound within q) in

@@ -7,9 +7,9 @@ use Rattle.base_lemmas.proofs.Lists.{length_map}
 use Rattle.fs_model.specs.Source.{Source}
 use Rattle.fs_model.specs.Machines.{Fsmd}
 use Rattle.fs_model.specs.Runs.{SameBehaviour}
-use Rattle.fs_rules.specs.Sound.{IsSound}
+use Rattle.fs_rules.specs.SoundParts.{IsSound}
 use Rattle.hls_line_machines.specs.StraightLines.{all_states, is_first_of_line, firsts}
-use Rattle.hls_line_machines.specs.Replaced.{MoveOver}
+use Rattle.hls_line_machines.specs.RowMachines.{MoveOver}
 use Rattle.hls_line_machines.proofs.Among.{range_within}
 use Rattle.hls_line_machines.proofs.Trails.{member}
 use Rattle.hls_line_machines.proofs.NewLines.{has_rows, is_first, name_kept}
@@ -19,7 +19,7 @@ use Rattle.hls_line_rows.proofs.Chains.{no_shorter}
 use Rattle.hls_line_schedules.specs.Schedules.{IsWithin, rows_by, schedule_of}
 use Rattle.hls_line_schedules.proofs.Schedules.{no_longer, at_least_chain, chain_where_ample, keeps_stores, behaves}
 use Rattle.hls_line_schedules.proofs.Within.{stays_within}
-use Rattle.hls_line_schedules.specs.SourceRows.{named_moves, first_done}
+use Rattle.hls_line_schedules.specs.SourceRows.{named_moves, first_row_effect}
 use Rattle.hls_line_schedules.specs.Sources.{source_by_rows, scheduled_source}
 use Rattle.hls_sched.specs.declared.scheduling.LineReport.{LineReport}
 use Rattle.hls_sched.specs.Reports.{report_of, report_at, reports, KeepsLengths}
@@ -30,9 +30,9 @@ all_of P f xs zs e h k d low =
     subst P (ap (λ l. get_or l k (f d)) (sym e) ∙ get_or-map f xs k d (f d) low) (h k (f d) (omega (arith, count, low)))
 
 -- the parts with the moves of all lines
-pub parts_are : (units : Units) (p out : Source) (m : Fsmd) (ms : List (MoveOver (List ℕ))) → out ≡ source_by_rows p m (first_done ms)
+pub parts_are : (units : Units) (p out : Source) (m : Fsmd) (ms : List (MoveOver (List ℕ))) → out ≡ source_by_rows p m (first_row_effect ms)
     → ms ≡ named_moves units p m → out ≡ scheduled_source units p m
-parts_are units p out m ms e h = e ∙ ap (λ (xs : List (MoveOver (List ℕ))). source_by_rows p m (first_done xs)) h
+parts_are units p out m ms e h = e ∙ ap (λ (xs : List (MoveOver (List ℕ))). source_by_rows p m (first_row_effect xs)) h
 
 first_of_line : (m : Fsmd) (k d : ℕ) → k < length (firsts m) → (get_or (firsts m) k d < length m.states) × (is_first_of_line m (get_or (firsts m) k d) ≡ true)
 first_of_line m k d low =

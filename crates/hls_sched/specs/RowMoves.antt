@@ -5,10 +5,10 @@ use Rattle.fs_model.specs.declared.parts.StateId.{StateId}
 use Rattle.fs_model.specs.Terms.{Assignment}
 use Rattle.fs_model.specs.Source.{Source}
 use Rattle.hls_line_rows.specs.Filling.{Filled, is_before}
-use Rattle.hls_line_machines.specs.Replaced.{MoveOver}
+use Rattle.hls_line_machines.specs.RowMachines.{MoveOver}
 use Rattle.hls_line_filling.specs.declared.plan.Plan.{Plan}
 use Rattle.hls_line_filling.specs.WaitingItems.{rows_in}
-use Rattle.hls_line_schedules.specs.SourceRows.{named_item, row_of, Done}
+use Rattle.hls_line_schedules.specs.SourceRows.{named_item, row_of, RowEffect}
 use Rattle.hls_sched.specs.declared.moves.Move.{Move}
 
 -- the items of states, one after another
@@ -16,7 +16,7 @@ abbrev pub joined_items : Source → List StateId → List (Assignment (List ℕ
 joined_items p states = flat_map (named_item p) (map (λ q. q.0) states)
 
 -- what a move does: the assignments of its items, and the state that comes after
-abbrev pub done_by : Source → Move → Done
+abbrev pub done_by : Source → Move → RowEffect
 done_by p x = (joined_items p x.items.items, x.target.0)
 
 abbrev pub move_of : Source → Move → MoveOver (List ℕ)

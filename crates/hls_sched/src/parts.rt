@@ -5,7 +5,7 @@ ghost use Rattle.std.specs.List.{All};
 ghost use Rattle.std.specs.Result.{OnOk};
 ghost use Rattle.fs_model.specs.Source.{Source};
 ghost use Rattle.fs_model.specs.View.{named_assignment, source_state_of, source_of};
-ghost use Rattle.hls_line_schedules.specs.SourceRows.{first_assignments, first_done};
+ghost use Rattle.hls_line_schedules.specs.SourceRows.{first_assignments, first_row_effect};
 ghost use Rattle.hls_line_schedules.specs.Sources.{state_with_row, states_by, source_by_rows};
 ghost use Rattle.hls_sched.specs.RowMoves.{joined_items, done_by, move_of, IsMoveAmong};
 
@@ -20,7 +20,8 @@ use std::alloc::Global;
 
 // The move of a state, where there is one.
 fn move_of_state(moves: &[Move], state: StateId) -> Option<&Move>
-    ensures found { (p : Source) → option_map (λ x. done_by p x.now) result ≡ first_done (map (move_of p) moves.now) state.0 }
+    ensures found { (p : Source) → option_map (λ x. done_by p x.now) result
+        ≡ first_row_effect (map (move_of p) moves.now) state.0 }
     ensures among { (count : ℕ) → All (IsMoveAmong count) moves.now → IfSome result (λ x. IsMoveAmong count x.now) }
 {
     for one in moves {
@@ -102,7 +103,7 @@ fn add_state(
     requires state { state.0 < length parts.now.states.items }
     ensures { OnOk result
         (map source_state_of out.new.items ≡ map source_state_of out.old.items
-        ++ states_by (source_of parts.now) m.now (first_done (map (move_of (source_of parts.now)) moves.now)) state.0) }
+        ++ states_by (source_of parts.now) m.now (first_row_effect (map (move_of (source_of parts.now)) moves.now)) state.0) }
 {
     let old = &parts.states[state.0 as usize];
     match move_of_state(moves, state) {
@@ -125,7 +126,8 @@ fn moved_states(
     requires machine { length m.now.states ≡ length parts.now.states.items }
     ensures { IfOk result
         (λ out. map source_state_of out.items
-        ≡ (source_by_rows (source_of parts.now) m.now (first_done (map (move_of (source_of parts.now)) moves.now))).states) }
+        ≡ (source_by_rows (source_of parts.now) m.now
+        (first_row_effect (map (move_of (source_of parts.now)) moves.now))).states) }
 {
     let mut out = Vec::new(alloc);
     for q in 0..m.state_count() {
@@ -146,7 +148,7 @@ pub fn moved_parts(
     requires machine { length m.now.states ≡ length parts.now.states.items }
     ensures { IfOk result
         (λ out. source_of out ≡ source_by_rows (source_of parts.now) m.now
-        (first_done (map (move_of (source_of parts.now)) moves.now))) }
+        (first_row_effect (map (move_of (source_of parts.now)) moves.now))) }
 {
     let states = moved_states(alloc, parts, m, moves)?;
     let decls = copied_declarations(alloc, &parts.decls)?;

@@ -6,10 +6,10 @@ ghost use Rattle.hls_line_machines.specs.StraightLines.{item_of, items_at};
 ghost use Rattle.hls_unit_counts.specs.declared.units.Unit.{Unit as Kind};
 ghost use Rattle.hls_line_rows.specs.ItemUnits.{used_by, units_in};
 ghost use Rattle.hls_line_rows.specs.Heights.{chain_of};
-ghost use Rattle.hls_line_rows.specs.Filling.{graph_of, filling};
+ghost use Rattle.hls_line_rows.specs.Filling.{graph_of, filling_of};
 ghost use Rattle.hls_line_schedules.specs.Schedules.{IsWithin};
 ghost use Rattle.hls_line_filling.specs.EffectSets.{sets_of, sets_from, none_changed};
-ghost use Rattle.hls_line_filling.specs.Profiles.{units_of_uses, capped};
+ghost use Rattle.hls_line_filling.specs.Profiles.{units_of_uses, capped_count};
 ghost use Rattle.hls_line_filling.specs.Plans.{filled_in};
 ghost use Rattle.hls_sched.specs.RowMoves.{IsPlanFor};
 ghost use Rattle.hls_sched.specs.CodeLines.{IsLineFrom};
@@ -43,7 +43,7 @@ fn all_uses(alloc: Global, m: &Machine, states: &[StateId]) -> Result<Vec<Uses>,
     requires { All (λ q. q.0 < length m.now.states) states.now }
     ensures { IfOk result
         (λ out. (kind : Kind) → map (λ u. units_of_uses u kind) out.items
-        ≡ map (λ q. capped (used_by (item_of m.now q.0) kind)) states.now) }
+        ≡ map (λ q. capped_count (used_by (item_of m.now q.0) kind)) states.now) }
 {
     let mut out = Vec::new(alloc);
     for state in states {
@@ -62,7 +62,7 @@ pub fn plan_line(
 ) -> Result<Plan, NoMemory>
     requires within { IsWithin (units_in units.now) m.now }
     requires line { IsLineFrom m.now first.0 line.now }
-    ensures rows { IfOk result (λ p. filled_in p ≡ filling (graph_of (items_at m.now first.0)) (units_in units.now)) }
+    ensures rows { IfOk result (λ p. filled_in p ≡ filling_of (graph_of (items_at m.now first.0)) (units_in units.now)) }
     ensures chain { IfOk result (λ p. p.chain ≡ chain_of (items_at m.now first.0)) }
     ensures plan { IfOk result (λ p. IsPlanFor (length line.now.states.items) p) }
 {

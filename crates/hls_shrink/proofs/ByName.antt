@@ -8,6 +8,8 @@ use Rattle.std.proofs.lemmas.List.Folds.{list_all-append}
 use Rattle.std.proofs.lemmas.Slice.Eq.{bytes_eq-Decides}
 use Rattle.base_lemmas.proofs.Booleans.{and_first, and_second, neither_first, neither_second}
 use Rattle.base_lemmas.proofs.Lists.{bytes_eq-false_turned}
+use Rattle.fs_rules.specs.SoundParts.{names_differ}
+use Rattle.fs_rules.specs.MachineOfParts.{declared_by, variables_of}
 use Rattle.fs_model.specs.declared.parts.Role.{Role}
 use Rattle.fs_model.specs.declared.parts.Role.TheVariants as roles
 use Rattle.fs_model.specs.declared.parts.Sort.{Sort}
@@ -16,8 +18,6 @@ use Rattle.fs_model.specs.declared.parts.VarInfo.{VarInfo}
 use Rattle.fs_model.specs.Runs.{Content, is_input, is_output, is_port}
 use Rattle.fs_model.specs.Source.{Declaration}
 use Rattle.fs_model.specs.WellFormed.{is_well_formed_declaration, is_well_formed_state}
-use Rattle.fs_ast.specs.SoundMachines.{names_differ}
-use Rattle.fs_ast.specs.BuiltMachine.{declared_by, variables_of}
 use Rattle.fs_runs.specs.declared.inputs.Input.{Input}
 use Rattle.fs_runs.specs.declared.inputs.Inputs.{Inputs}
 use Rattle.fs_runs.specs.Values.{content_of, sort_of}

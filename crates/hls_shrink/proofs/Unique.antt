@@ -5,7 +5,7 @@ use Rattle.std.specs.Prelude.{unsigned_abs, int_div, neg_ℤ, map, ◌⊎◌, �
 use Rattle.std.proofs.Math.Nat.{div-mul-le_self}
 use Rattle.std.proofs.lemmas.Bool.Decides.{nat_tests}
 use Rattle.fs_model.specs.Runs.{Content, Number, Entries, Emitted}
-use Rattle.fs_show.proofs.Listed.{listing_once}
+use Rattle.fs_run_text.proofs.Listed.{listing_once}
 use Rattle.hls_shrink.specs.declared.entries.Entry.{Entry}
 use Rattle.hls_shrink.specs.InputEntries.{at_input, AreEntriesOf, AreEntries}
 use Rattle.hls_shrink.specs.Reductions.{is_beyond_one, contents_with, reductions_at, reductions}

@@ -1,11 +1,11 @@
 -- Laws of the chain of first reductions, and of what inputs are given.
 use Rattle.std.specs.Prelude.{◌≡◌, ℕ, List, IsTrue}
+use Rattle.fs_rules.specs.MachineOfParts.{machine_of}
+use Rattle.fs_rules.specs.SoundParts.{IsSound}
 use Rattle.fs_model.specs.Source.{Source}
 use Rattle.fs_model.specs.Machines.{Fsmd}
 use Rattle.fs_model.specs.Runs.{Content}
 use Rattle.fs_model.specs.WellFormed.{is_well_formed}
-use Rattle.fs_ast.specs.BuiltMachine.{machine_of}
-use Rattle.fs_ast.specs.SoundMachines.{IsSound}
 use Rattle.fs_runs.specs.declared.inputs.Inputs.{Inputs}
 use Rattle.fs_runs.specs.InputValues.{signatures_of, input_signatures, inputs_of}
 use Rattle.hls_shrink.specs.declared.entries.Entry.{Entry}

@@ -6,11 +6,11 @@ ghost use Rattle.fs_model.specs.Runs.{SameBehaviour};
 ghost use Rattle.fs_pair.specs.Interfaces.{interface_fault};
 ghost use Rattle.fs_pair.specs.Positions.{positions};
 ghost use Rattle.cert_model.specs.Lawful.{IsLawful};
-ghost use Rattle.cert_model.specs.Obligations.{Yes};
+ghost use Rattle.cert_model.specs.Obligations.{Yes, verdict_on};
 ghost use Rattle.cert_model.specs.View.{node_of};
 ghost use Rattle.cert_check.specs.View.{verdict_in};
 ghost use Rattle.cert_check.specs.declared.verdict.Verdict.TheVariants.{Yes as Holds};
-ghost use Rattle.hls_shrink.specs.ChainStops.{verdict_on, IsStopOf};
+ghost use Rattle.hls_shrink.specs.ChainStops.{IsStopOf};
 
 use cert_check::verdict::Verdict;
 use cert_check::verify::verify;

@@ -36,7 +36,7 @@ pub fn first_reduction(
         (λ o. o ≡ None → NoneHas (ShowDifference a.now b.now steps) (reductions (contents_in inputs.now) entries.now)) }
 {
     for entry in entries {
-        if let Some(small) = reduced(alloc, a, b, inputs, entry, steps)? {
+        if let Some(small) = reduce_at(alloc, a, b, inputs, entry, steps)? {
             return Ok(Some(small));
         }
     }
@@ -44,7 +44,7 @@ pub fn first_reduction(
 }
 
 // The first reduction at an entry that shows a difference: with 0 there, or with half the number.
-fn reduced(
+fn reduce_at(
     alloc: Global,
     a: &Machine,
     b: &Machine,
@@ -63,13 +63,13 @@ fn reduced(
     ensures none { IfOk result
         (λ o. o ≡ None → NoneHas (ShowDifference a.now b.now steps) (reductions_at (contents_in inputs.now) entry.now)) }
 {
-    if let Some(small) = tried(alloc, a, b, inputs, entry, &0, steps)? {
+    if let Some(small) = try_number(alloc, a, b, inputs, entry, &0, steps)? {
         return Ok(Some(small));
     }
     if !is_beyond_one(&entry.number) {
         return Ok(None);
     }
-    tried(alloc, a, b, inputs, entry, &half(&entry.number), steps)
+    try_number(alloc, a, b, inputs, entry, &half(&entry.number), steps)
 }
 
 // Whether a number can be halved so that it stays other than 0.
@@ -87,7 +87,7 @@ fn half(number: &i128) -> i128
 }
 
 // Inputs with another number where an entry is, if they show a difference.
-fn tried(
+fn try_number(
     alloc: Global,
     a: &Machine,
     b: &Machine,

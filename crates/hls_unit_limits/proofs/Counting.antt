@@ -15,7 +15,7 @@ use Rattle.fs_model.specs.Runs.{is_scalar, is_array}
 use Rattle.fs_model.specs.Terms.{Term, Number, Variable, Read, Sum, Difference, Product, Quotient, Remainder, Negative, Assignment, Assign, ArrayWrite, Emit}
 use Rattle.fs_model.specs.Machines.{Fsmd, transitions_of}
 use Rattle.fs_model.specs.Trees.{branches_of}
-use Rattle.fs_rules.specs.Sound.{IsSound, has_sort, scalar_at, array_at, scalars_in, arrays_in, scalars_in_assignment, arrays_in_assignment, assigned_in}
+use Rattle.fs_rules.specs.SoundParts.{IsSound, has_sort, scalar_at, array_at, scalars_in, arrays_in, scalars_in_assignment, arrays_in_assignment, assigned_in}
 use Rattle.fs_ast.specs.Branches.{is_sound_assignment}
 use Rattle.fs_ast.proofs.Lifted.{branch_sound}
 use Rattle.fs_cut.specs.Paths.{branch_at}
@@ -31,7 +31,7 @@ use Rattle.hls_line_schedules.specs.Schedules.{IsWithin}
 use Rattle.hls_line_schedules.proofs.Schedules.{each_fits}
 use Rattle.hls_line_filling.specs.declared.effects.Effects.{Effects}
 use Rattle.hls_line_filling.specs.declared.uses.Uses.{Uses}
-use Rattle.hls_line_filling.specs.Profiles.{capped, IsWithinSets}
+use Rattle.hls_line_filling.specs.Profiles.{capped_count, IsWithinSets}
 use Rattle.hls_line_filling.specs.Plans.{AreCountedOf}
 use Rattle.hls_unit_limits.specs.Counted.{AreCounts, AreCounted}
 
@@ -127,7 +127,7 @@ module _ (vs : List VarInfo) (few : length vs ≤ 128) where
       record { reads = reads_pass low item s a; assigns = assigned_pass low item s; writes = stored_pass low item a }
 
 -- ---- the items of a line
-count_is : (n most : ℕ) → n ≤ most → most < 2 ^ 64 → capped n ≡ n
+count_is : (n most : ℕ) → n ≤ most → most < 2 ^ 64 → capped_count n ≡ n
 count_is n most h i = omega (arith, h, i)
 
 module _ (m : Fsmd) (sound : IsSound m) where
@@ -146,7 +146,7 @@ module _ (m : Fsmd) (sound : IsSound m) where
 
   module _ (units : Units) (within : IsWithin units m) (counts : AreCounts units) (q : ℕ) (h : q < length m.states) (e : is_first_of_line m q ≡ true) where
     use_is : (i : ℕ) (kind : Kind) → i < length (items_at m q)
-        → capped (used_by (slice_index_or (items_at m q) i []) kind) ≡ used_by (slice_index_or (items_at m q) i []) kind
+        → capped_count (used_by (slice_index_or (items_at m q) i []) kind) ≡ used_by (slice_index_or (items_at m q) i []) kind
     use_is i kind l =
         let each : EachItemFits (graph_of (items_at m q)) units = each_fits m units sound within q h e in
         let few : 0 + used_by (slice_index_or (items_at m q) i []) kind ≤ units kind =

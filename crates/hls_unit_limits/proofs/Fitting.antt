@@ -11,7 +11,7 @@ use Rattle.base_lemmas.proofs.Options.{is_none-map}
 use Rattle.fs_model.specs.Terms.{Transition}
 use Rattle.fs_model.specs.Machines.{Fsmd, transitions_of}
 use Rattle.fs_model.specs.Trees.{Branch, branches_of}
-use Rattle.fs_rules.specs.Sound.{IsSound}
+use Rattle.fs_rules.specs.SoundParts.{IsSound}
 use Rattle.fs_cut.proofs.Loops.{range_map_step}
 use Rattle.hls_unit_counts.specs.declared.units.Unit.{Unit as Kind}
 use Rattle.hls_unit_counts.specs.declared.units.Unit.TheVariants.{Add, Mul, Div, Mem}

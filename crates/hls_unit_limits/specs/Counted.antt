@@ -7,7 +7,7 @@ use Rattle.hls_line_rows.specs.ItemUnits.{Units, used_by}
 use Rattle.hls_line_filling.specs.declared.effects.Effects.{Effects}
 use Rattle.hls_line_filling.specs.declared.uses.Uses.{Uses}
 use Rattle.hls_line_filling.specs.EffectSets.{sets_of, sets_from, none_changed}
-use Rattle.hls_line_filling.specs.Profiles.{units_of_uses, capped}
+use Rattle.hls_line_filling.specs.Profiles.{units_of_uses, capped_count}
 
 -- no count of units is greater than a count of uses can be
 abbrev pub AreCounts : Units → Type 0
@@ -19,4 +19,4 @@ pub record AreCounted (es : List Effects) (us : List Uses) (items : List Item) :
   pub same : length us ≡ length items
   pub effects : (i : ℕ) (e : Effects) → slice_get es i ≡ Some e → sets_of e ≡ sets_from (slice_index_or items i []) none_changed
   pub uses : (i : ℕ) (u : Uses) (kind : Kind) → slice_get us i ≡ Some u
-      → units_of_uses u kind ≡ capped (used_by (slice_index_or items i []) kind)
+      → units_of_uses u kind ≡ capped_count (used_by (slice_index_or items i []) kind)

@@ -10,7 +10,7 @@ use Rattle.nf_terms.specs.Order.{same_polynomial}
 use Rattle.nf_terms.specs.Normal.{ordered, ordered_writes, is_written}
 use Rattle.nf_terms.specs.declared.tree.Base.{Base}
 use Rattle.nf_terms.specs.declared.tree.PolyTree.{PolyTree}
-use Rattle.nf_terms.specs.Tidied.{goes_after, with_write, rising_stretches, last_writes, tidied}
+use Rattle.nf_terms.specs.Tidied.{goes_after, with_write, rising_stretches, last_writes, tidy_array}
 use Rattle.nf_arrays.specs.Writes.{written_last, with_last_write, indices_ordered}
 use Rattle.nf_arrays.proofs.Tidy.{tidy_write}
 use Rattle.nf_arrays.proofs.Stopping.{writes_in, index_at}
@@ -152,5 +152,5 @@ ended writes rest out i v h e = h.tidied ∙ ap (λ l. tidied_from l i v) (sym (
 
 -- what is made of an array
 pub write_whole : (a : ArrayTerm) (i v : Polynomial) (b : Base) (ws ts : Writes) → b ≡ base_of a → ws ≡ writes_over a
-    → ts ≡ rising_stretches (last_writes (written_last ws i v)) → Over b ts ≡ tidied (with_last_write a i v)
+    → ts ≡ rising_stretches (last_writes (written_last ws i v)) → Over b ts ≡ tidy_array (with_last_write a i v)
 write_whole (Over d us) i v b ws ts e f g = λ k. Over (e k) ((g ∙ ap (λ t. rising_stretches (last_writes (written_last t i v))) f) k)

@@ -9,7 +9,7 @@ use Rattle.nf_terms.specs.Measures.{size_of, depth_of, size_of_writes, depth_of_
 use Rattle.nf_terms.specs.Normal.{IsNormal, IsNormalArray, ordered, ordered_writes, is_written, write_rises, narrow_writes, ordered_array, narrow_array}
 use Rattle.nf_terms.specs.Normal.{is_light, narrow_inside, differ_by_constant, constant_part}
 use Rattle.nf_terms.specs.TermLimits.{depth_limit, size_limit}
-use Rattle.nf_terms.specs.Tidied.{last_writes, goes_after, with_write, rising_stretches, tidied}
+use Rattle.nf_terms.specs.Tidied.{last_writes, goes_after, with_write, rising_stretches, tidy_array}
 use Rattle.nf_arrays.specs.Writes.{written_last, with_last_write, write_array}
 use Rattle.nf_terms.specs.Computed.{Large, if_small}
 use Rattle.nf_terms.specs.Normal.{constant_sum}
@@ -199,7 +199,7 @@ pub record IsWritten (units : ℕ) (a : ArrayTerm) : Type 0 where
   pub narrow : narrow_array a ≡ true
 
 pub write_ordered : (a : ArrayTerm) (i v : Polynomial) → IsNormalArray a → IsNormal i → IsNormal v
-    → IsWritten (size_of_array a + 1 + size_of i + size_of v) (tidied (with_last_write a i v))
+    → IsWritten (size_of_array a + 1 + size_of i + size_of v) (tidy_array (with_last_write a i v))
 write_ordered (Over b ws) i v n m k = record {
   ordered = rising_ordered (last_writes (written_last ws i v))
       (last_once (written_last ws i v) (parts_last ws i v (parts_of_tidy ws n.ordered) m.ordered k.ordered));
@@ -214,16 +214,16 @@ pub written_normal : (units : ℕ) (a : ArrayTerm) → IsWritten units a → uni
 written_normal units a h u d = record { ordered = h.ordered; small = omega (arith, h.size); shallow = d; narrow = h.narrow }
 
 module _ (a : ArrayTerm) (i v : Polynomial) (n : IsNormalArray a) (m : IsNormal i) (k : IsNormal v) (units : ℕ)
-    (u : units ≡ size_of_array a + 1 + size_of i + size_of v) (t : ArrayTerm) (e : t ≡ tidied (with_last_write a i v)) (s : units ≤ size_limit) where
+    (u : units ≡ size_of_array a + 1 + size_of i + size_of v) (t : ArrayTerm) (e : t ≡ tidy_array (with_last_write a i v)) (s : units ≤ size_limit) where
   is_written_now : IsWritten units t
-  is_written_now = subst (λ x. IsWritten units x) (sym e) (subst (λ x. IsWritten x (tidied (with_last_write a i v))) (sym u) (write_ordered a i v n m k))
+  is_written_now = subst (λ x. IsWritten units x) (sym e) (subst (λ x. IsWritten x (tidy_array (with_last_write a i v))) (sym u) (write_ordered a i v n m k))
 
   -- a write whose result is too deep
   pub write_deep : (r : ℕ) → r ≡ min (depth_of_array t) (2 ^ 32 - 1) → depth_limit < r → write_array a i v ≡ Large units r
   write_deep r f h =
       let d : r ≡ depth_of_array t = omega (arith, is_written_now.depth, f) in
-      (λ j. if_small (sym u j) (depth_of_array (tidied (with_last_write a i v))) (tidied (with_last_write a i v)))
-      ∙ small_deep units (depth_of_array (tidied (with_last_write a i v))) (tidied (with_last_write a i v)) s (omega (arith, h, d, ap depth_of_array e))
+      (λ j. if_small (sym u j) (depth_of_array (tidy_array (with_last_write a i v))) (tidy_array (with_last_write a i v)))
+      ∙ small_deep units (depth_of_array (tidy_array (with_last_write a i v))) (tidy_array (with_last_write a i v)) s (omega (arith, h, d, ap depth_of_array e))
       ∙ ap (Large units) (sym (d ∙ ap depth_of_array e))
 
   -- a write whose result is small
@@ -231,8 +231,8 @@ module _ (a : ArrayTerm) (i v : Polynomial) (n : IsNormalArray a) (m : IsNormal 
   write_small r f h = written_normal units t is_written_now s (omega (arith, is_written_now.depth, f, h))
 
 -- ---- tidy writes stay as they are
-pub normal_tidied : (a : ArrayTerm) → IsNormalArray a → tidied a ≡ a
+pub normal_tidied : (a : ArrayTerm) → IsNormalArray a → tidy_array a ≡ a
 normal_tidied a n = tidied_stays a n.ordered
 
-pub same_arrays : (a b : ArrayTerm) → IsNormalArray a → IsNormalArray b → tidied a ≡ tidied b → a ≡ b
+pub same_arrays : (a b : ArrayTerm) → IsNormalArray a → IsNormalArray b → tidy_array a ≡ tidy_array b → a ≡ b
 same_arrays a b n m e = sym (normal_tidied a n) ∙ e ∙ normal_tidied b m

@@ -7,7 +7,7 @@ use Rattle.nf_terms.specs.Lists.{ListTerm, size_of_items, size_of_list, depth_of
 use Rattle.nf_terms.specs.Computed.{Done}
 use Rattle.nf_terms.proofs.Items.{pushed_normal}
 use Rattle.nf_sums.proofs.Values.{small_is}
-use Rattle.nf_arrays.specs.Pushes.{with_last_item, pushed}
+use Rattle.nf_arrays.specs.Pushes.{with_last_item, list_with_item}
 
 pub size-more : (ps : List Polynomial) (p : Polynomial) → size_of_items (ps ++ p ∷ []) ≡ size_of_items ps + 1 + size_of p
 size-more [] p = omega arith
@@ -24,7 +24,7 @@ values_more w [] p = refl
 values_more w (q ∷ ps) p = ap (λ l. value_of w q ∷ l) (values_more w ps p)
 
 -- a push is the list with the value behind
-pub push_value : (w : Valuation) (l m : ListTerm) (p : Polynomial) → pushed l p ≡ Done m → items_in w m ≡ items_in w l ++ value_of w p ∷ []
+pub push_value : (w : Valuation) (l m : ListTerm) (p : Polynomial) → list_with_item l p ≡ Done m → items_in w m ≡ items_in w l ++ value_of w p ∷ []
 push_value w l m p e =
     sym (ap (items_in w) (small_is (size_of_list l + 1 + size_of p) (depth_of_list (with_last_item l p)) (with_last_item l p) m e))
     ∙ ap (λ t. items_of_base w l.base ++ t) (values_more w l.items p)

@@ -16,11 +16,11 @@ use Rattle.nf_terms.specs.declared.tree.Base.{Base}
 use Rattle.nf_terms.specs.declared.tree.Base.TheVariants as starts
 use Rattle.nf_terms.specs.Computed.{Computed, Done}
 use Rattle.nf_terms.specs.Normal.{constant_sum}
-use Rattle.nf_terms.specs.Tidied.{last_writes, goes_after, with_write, rising_stretches, tidied}
+use Rattle.nf_terms.specs.Tidied.{last_writes, goes_after, with_write, rising_stretches, tidy_array}
 use Rattle.nf_terms.proofs.Partings.{value_of_number}
 use Rattle.nf_sums.proofs.Constants.{equal_of_same, parts_equal}
 use Rattle.nf_sums.proofs.Values.{value_parts, small_is}
-use Rattle.nf_arrays.specs.NewAtoms.{polynomial_of_atom, new_atom, divided, remainder_of}
+use Rattle.nf_arrays.specs.NewAtoms.{polynomial_of_atom, new_atom, quotient_of, remainder_of}
 use Rattle.nf_arrays.specs.Writes.{written_last, with_last_write, write_array, are_apart, stop_at, prefix_for, last_value, read_here, read_at}
 
 -- ---- McCarthy's laws
@@ -195,7 +195,7 @@ module _ (w : Valuation) where
   rising_kept (Write i v ws) f = placed_kept i v (rising_stretches ws) f ∙ rising_kept ws (stored f (value_of w i) (value_of w v))
 
   -- a tidied array holds what the array holds
-  pub tidied_kept : (a : ArrayTerm) → contents w (tidied a) ≡ contents w a
+  pub tidied_kept : (a : ArrayTerm) → contents w (tidy_array a) ≡ contents w a
   tidied_kept (Over b ws) = rising_kept (last_writes ws) (contents_of_base w b) ∙ last_kept ws (contents_of_base w b)
 
   last_write_kept : (a : ArrayTerm) (i v : Polynomial) → contents w (with_last_write a i v) ≡ stored (contents w a) (value_of w i) (value_of w v)
@@ -206,7 +206,7 @@ module _ (w : Valuation) where
   write_value a b i v e =
       sym
       (ap (contents w)
-      (small_is (size_of_array a + 1 + size_of i + size_of v) (depth_of_array (tidied (with_last_write a i v))) (tidied (with_last_write a i v)) b e))
+      (small_is (size_of_array a + 1 + size_of i + size_of v) (depth_of_array (tidy_array (with_last_write a i v))) (tidy_array (with_last_write a i v)) b e))
       ∙ tidied_kept (with_last_write a i v) ∙ last_write_kept a i v
 
   -- ---- quotients and remainders
@@ -217,7 +217,7 @@ module _ (w : Valuation) where
   constant_value (Plus (Times a m) c p) h = absurd (cc h)
 
   module _ (p q r : Polynomial) where
-    pub quotient_value : divided p q ≡ Done r → value_of w r ≡ quotient (value_of w p) (value_of w q)
+    pub quotient_value : quotient_of p q ≡ Done r → value_of w r ≡ quotient (value_of w p) (value_of w q)
     quotient_value e = by_value (is_constant p && is_constant q) refl e
       where
         by_value : (t : Bool) → is_constant p && is_constant q ≡ t

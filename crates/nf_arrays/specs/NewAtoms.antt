@@ -17,8 +17,8 @@ abbrev pub new_atom : Atom → Computed Polynomial
 new_atom a = if_small (size_of (polynomial_of_atom a)) (depth_of (polynomial_of_atom a)) (polynomial_of_atom a)
 
 -- the quotient of two numbers, else an atom
-abbrev pub divided : Polynomial → Polynomial → Computed Polynomial
-divided p q =
+abbrev pub quotient_of : Polynomial → Polynomial → Computed Polynomial
+quotient_of p q =
     cond (is_constant p && is_constant q) (Done (polynomial_of_number (quotient (constant_sum p) (constant_sum q))))
     (new_atom (Quotient p q))
 

@@ -10,5 +10,5 @@ abbrev pub with_last_item : ListTerm → Polynomial → ListTerm
 with_last_item l p = record { base = l.base; items = l.items ++ p ∷ [] }
 
 -- a list after the value p is pushed
-abbrev pub pushed : ListTerm → Polynomial → Computed ListTerm
-pushed l p = if_small (size_of_list l + 1 + size_of p) (depth_of_list (with_last_item l p)) (with_last_item l p)
+abbrev pub list_with_item : ListTerm → Polynomial → Computed ListTerm
+list_with_item l p = if_small (size_of_list l + 1 + size_of p) (depth_of_list (with_last_item l p)) (with_last_item l p)

@@ -8,7 +8,7 @@ use Rattle.nf_terms.specs.Normal.{differ_by_constant, ordered, last_index}
 use Rattle.nf_terms.specs.declared.tree.Base.TheVariants as base
 use Rattle.nf_terms.specs.Computed.{Computed, Done, if_small}
 use Rattle.nf_terms.specs.Normal.{constant_sum}
-use Rattle.nf_terms.specs.Tidied.{tidied}
+use Rattle.nf_terms.specs.Tidied.{tidy_array}
 use Rattle.nf_arrays.specs.NewAtoms.{new_atom}
 
 -- one more write behind the others
@@ -22,8 +22,8 @@ with_last_write (Over b ws) i v = Over b (written_last ws i v)
 
 -- an array after the value v is written at the index i
 abbrev pub write_array : ArrayTerm → (i v : Polynomial) → Computed ArrayTerm
-write_array a i v = if_small (size_of_array a + 1 + size_of i + size_of v) (depth_of_array (tidied (with_last_write a i v)))
-    (tidied (with_last_write a i v))
+write_array a i v = if_small (size_of_array a + 1 + size_of i + size_of v) (depth_of_array (tidy_array (with_last_write a i v)))
+    (tidy_array (with_last_write a i v))
 
 -- whether two indices differ by a constant that is not 0
 abbrev pub are_apart : Polynomial → Polynomial → Bool

@@ -6,7 +6,7 @@ ghost use Rattle.nf_terms.specs.NormalTerms.{polynomial_of_number};
 ghost use Rattle.nf_terms.specs.Normal.{is_constant};
 ghost use Rattle.nf_terms.specs.Computed.{Answers, Done};
 ghost use Rattle.nf_terms.specs.Normal.{constant_sum};
-ghost use Rattle.nf_arrays.specs.NewAtoms.{divided, remainder_of};
+ghost use Rattle.nf_arrays.specs.NewAtoms.{quotient_of, remainder_of};
 
 use crate::atoms::new_atom;
 use base_integers::{quotient, remainder};
@@ -43,7 +43,7 @@ fn folded_quotient(alloc: Global, c: &i128, d: &i128) -> Result<Poly, NfStop>
 /// depth 0, or else where the depth is past 64. `Wide` never comes. `NoMemory` comes when memory runs out.
 #[tactic(auto, using(crate::proofs::NewAtoms::new_atoms))]
 pub fn div(alloc: Global, l: &Poly, r: &Poly) -> Result<Poly, NfStop>
-    ensures { Answers result (divided l.now r.now) }
+    ensures { Answers result (quotient_of l.now r.now) }
 {
     let _sizes = (l.size(), r.size()); // The calls tell the proof that both forms are normal.
     if let Some(c) = number_of(l) {

@@ -7,9 +7,9 @@ ghost use Rattle.nf_terms.specs.TermMeaning.{Valuation, value_of, contents, item
 ghost use Rattle.nf_terms.specs.Lists.{ListTerm};
 ghost use Rattle.nf_terms.specs.Normal.{IsNormalArray};
 ghost use Rattle.nf_terms.specs.Computed.{Done};
-ghost use Rattle.nf_terms.specs.Tidied.{tidied};
-ghost use Rattle.nf_arrays.specs.NewAtoms.{divided, remainder_of};
-ghost use Rattle.nf_arrays.specs.Pushes.{pushed};
+ghost use Rattle.nf_terms.specs.Tidied.{tidy_array};
+ghost use Rattle.nf_arrays.specs.NewAtoms.{quotient_of, remainder_of};
+ghost use Rattle.nf_arrays.specs.Pushes.{list_with_item};
 ghost use Rattle.nf_arrays.specs.Writes.{read_at, write_array};
 
 /// A law, with nothing to run: McCarthy's two equations hold of what an array holds after a write.
@@ -28,12 +28,12 @@ pub fn reads_and_writes_keep_the_meaning()
 
 /// A law, with nothing to run: a tidied array holds what the array holds.
 pub fn tidied_arrays_keep_the_meaning()
-    ensures { (w : Valuation) (a : ArrayTerm) → contents w (tidied a) ≡ contents w a }
+    ensures { (w : Valuation) (a : ArrayTerm) → contents w (tidy_array a) ≡ contents w a }
 {}
 
 /// A law, with nothing to run: quotients and remainders are those of the values.
 pub fn divisions_keep_the_meaning()
-    ensures quotient { (w : Valuation) (p q r : Polynomial) → divided p q ≡ Done r
+    ensures quotient { (w : Valuation) (p q r : Polynomial) → quotient_of p q ≡ Done r
         → value_of w r ≡ quotient (value_of w p) (value_of w q) }
     ensures remainder { (w : Valuation) (p q r : Polynomial) → remainder_of p q ≡ Done r
         → value_of w r ≡ remainder (value_of w p) (value_of w q) }
@@ -41,12 +41,12 @@ pub fn divisions_keep_the_meaning()
 
 /// A law, with nothing to run: a normal array is its own tidied form, so that normal arrays with the same tidied form are equal.
 pub fn normal_arrays_are_unique()
-    ensures tidied { (a : ArrayTerm) → IsNormalArray a → tidied a ≡ a }
-    ensures equal { (a b : ArrayTerm) → IsNormalArray a → IsNormalArray b → tidied a ≡ tidied b → a ≡ b }
+    ensures tidied { (a : ArrayTerm) → IsNormalArray a → tidy_array a ≡ a }
+    ensures equal { (a b : ArrayTerm) → IsNormalArray a → IsNormalArray b → tidy_array a ≡ tidy_array b → a ≡ b }
 {}
 
 /// A law, with nothing to run: a push is the list with the value behind.
 pub fn pushes_keep_the_meaning()
-    ensures { (w : Valuation) (l m : ListTerm) (p : Polynomial) → pushed l p ≡ Done m
+    ensures { (w : Valuation) (l m : ListTerm) (p : Polynomial) → list_with_item l p ≡ Done m
         → items_in w m ≡ items_in w l ++ value_of w p ∷ [] }
 {}

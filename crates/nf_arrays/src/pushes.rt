@@ -2,7 +2,7 @@
 
 ghost use Rattle.std.specs.Prelude.{◌≡◌, ◌+◌, ◌-◌, ◌++◌, ◌∷◌, [], max, IfOk};
 ghost use Rattle.nf_terms.specs.Computed.{Answers};
-ghost use Rattle.nf_arrays.specs.Pushes.{pushed};
+ghost use Rattle.nf_arrays.specs.Pushes.{list_with_item};
 
 use nf_terms::limits::{DEPTH_LIMIT, SIZE_LIMIT};
 use nf_terms::poly::Poly;
@@ -28,7 +28,7 @@ fn copied_with(alloc: Global, items: &[Poly], last: &Poly) -> Result<Vec<Poly>, 
 /// with depth 0, or else where the depth of the result is past 64. `Wide` never comes. `NoMemory` comes when memory runs out.
 #[tactic(auto, using(crate::proofs::Pushing::pushing))]
 pub fn push(alloc: Global, s: &Seq, v: &Poly) -> Result<Seq, NfStop>
-    ensures { Answers result (pushed s.now v.now) }
+    ensures { Answers result (list_with_item s.now v.now) }
 {
     let units = s.size() + 1 + v.size();
     if units > SIZE_LIMIT {

@@ -53,7 +53,7 @@ fn stopping<'a>(writes: &'a [(PolyTree, PolyTree)], i: &PolyTree) -> &'a [(PolyT
 }
 
 // A copy of writes.
-fn copied(
+fn copy_writes(
     alloc: Global,
     writes: &[(PolyTree, PolyTree)],
 ) -> Result<Vec<(PolyTree, PolyTree)>, NoMemory>
@@ -78,7 +78,7 @@ fn read_atom(
     ensures { Answers result (new_atom_of (Read (Over base (writes_of (map write_in writes.now))) i.now)) }
 {
     let _size = i.size(); // The call tells the proof that the form is normal.
-    let writes = copied(alloc, writes)?;
+    let writes = copy_writes(alloc, writes)?;
     let array = Box::new(alloc, ArrTree { base, writes })?;
     let index = Box::new(alloc, i.tree().try_clone(alloc)?)?;
     new_atom(alloc, Atom::Read(array, index))

@@ -5,7 +5,7 @@ ghost use Rattle.nf_terms.specs.NormalTerms.{Polynomial, Over, writes_of};
 ghost use Rattle.nf_terms.specs.View.{polynomial_in, array_in, write_in};
 ghost use Rattle.nf_terms.specs.Normal.{ordered, ordered_writes};
 ghost use Rattle.nf_terms.specs.Computed.{Answers};
-ghost use Rattle.nf_terms.specs.Tidied.{goes_after, with_write, rising_stretches, last_writes, tidied};
+ghost use Rattle.nf_terms.specs.Tidied.{goes_after, with_write, rising_stretches, last_writes, tidy_array};
 ghost use Rattle.nf_arrays.specs.Writes.{written_last, with_last_write, indices_ordered, write_array};
 
 use crate::reads::is_same;
@@ -98,7 +98,7 @@ fn array_of(base: Base, writes: Vec<(PolyTree, PolyTree)>) -> ArrTree
 
 // The tree of an array after a write.
 fn written_tree(alloc: Global, a: &Arr, i: &Poly, v: &Poly) -> Result<ArrTree, NoMemory>
-    ensures { IfOk result (λ tree. array_in tree ≡ tidied (with_last_write a.now i.now v.now)) }
+    ensures { IfOk result (λ tree. array_in tree ≡ tidy_array (with_last_write a.now i.now v.now)) }
 {
     let writes = tidied_with(alloc, a.writes(), i.tree(), v.tree())?;
     let base = a.base();

@@ -14,7 +14,7 @@ use Rattle.nf_bank.specs.Atoms.{holds_atom, with_one, with_atom, with_inner, wit
 use Rattle.nf_bank.specs.HeldAtoms.{holds_monomial, holds_terms, holds_writes, holds_array, holds_inner, IsClosedUnderAtoms}
 use Rattle.nf_bank.specs.AtomNumbers.{bound_over, bound_of_number, bound_of_term, bound_of_sum, bound_of_write, bound_of_array, bound_of_node, atom_of_number}
 use Rattle.nf_bank.specs.AtomNumbers.{monomial_over, sum_over, write_over, array_over, atom_over}
-use Rattle.nf_bank.specs.AtomGraphs.{grown, atoms_of, AreBelow, IsAtomGraph}
+use Rattle.nf_bank.specs.AtomGraphs.{with_node_atoms, atoms_of, AreBelow, IsAtomGraph}
 use Rattle.nf_bank.proofs.Bounds.{max_left, max_right}
 use Rattle.nf_bank.proofs.Places.{equal_atoms, there, at_place}
 use Rattle.nf_bank.proofs.Growing.{front_length}
@@ -67,17 +67,19 @@ module _ (atoms : List Atom) where
   node_held (node.Rem p q) h = sums_held p q h
 
 closed_along : (atoms : List Atom) (ns : List Node) → AreBelow (length atoms) ns → (a : Atom)
-    → (holds_atom a atoms ≡ true → holds_inner a (grown atoms ns) ≡ true) → holds_atom a (grown atoms ns) ≡ true → holds_inner a (grown atoms ns) ≡ true
+    → (holds_atom a atoms ≡ true → holds_inner a (with_node_atoms atoms ns) ≡ true) → holds_atom a (with_node_atoms atoms ns) ≡ true
+    → holds_inner a (with_node_atoms atoms ns) ≡ true
 closed_along atoms [] b a f h = f h
 closed_along atoms (m ∷ ns) b a f h =
     closed_along (atoms ++ atom_over atoms m ∷ []) ns (next_below atoms (atom_over atoms m) ns b.1) a
     (λ i. by_last (holds_atom a atoms) (same_atom a (atom_over atoms m)) refl refl (sym (holds_push a (atom_over atoms m) atoms) ∙ i)) h
   where
-    by_last : (s t : Bool) → holds_atom a atoms ≡ s → same_atom a (atom_over atoms m) ≡ t → s || t ≡ true → holds_inner a (grown atoms (m ∷ ns)) ≡ true
+    by_last : (s t : Bool) → holds_atom a atoms ≡ s → same_atom a (atom_over atoms m) ≡ t → s || t ≡ true
+        → holds_inner a (with_node_atoms atoms (m ∷ ns)) ≡ true
     by_last true t i j k = f i
     by_last false false i j k = absurd (cc k)
     by_last false true i j k =
-        let whole = grown atoms (m ∷ ns) in
+        let whole = with_node_atoms atoms (m ∷ ns) in
         let g = grown_front atoms (m ∷ ns) in
         let e : a ≡ atom_over whole m = equal_atoms a (atom_over atoms m) j ∙ sym (node_stays atoms whole m g b.0) in
         subst (λ x. holds_inner x whole ≡ true) (sym e) (node_held whole m (omega (arith, b.0, front_length atoms whole g)))

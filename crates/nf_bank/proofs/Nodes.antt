@@ -14,24 +14,25 @@ use Rattle.nf_bank.specs.Nodes.{same_node}
 use Rattle.nf_bank.specs.Equal.{nodes_decide}
 use Rattle.nf_bank.specs.Atoms.{holds_atom, with_one, atom_place, IsBank, IsFront}
 use Rattle.nf_bank.specs.AtomNumbers.{bound_of_node, atom_at, atom_over}
-use Rattle.nf_bank.specs.AtomGraphs.{grown, atoms_of, AreBelow, IsAtomGraph}
+use Rattle.nf_bank.specs.AtomGraphs.{with_node_atoms, atoms_of, AreBelow, IsAtomGraph}
 use Rattle.nf_bank.proofs.Fronts.{front_one}
 use Rattle.nf_bank.proofs.Places.{equal_atoms, own_atom, one_place, bank_one, bank_taken, found_at}
 use Rattle.nf_bank.proofs.Growing.{nodes_grow, nodes_tell, front_length, front_stays}
 
 -- ---- the atoms of nodes
 
-pub grown_front : (atoms : List Atom) (ns : List Node) → IsFront atoms (grown atoms ns)
+pub grown_front : (atoms : List Atom) (ns : List Node) → IsFront atoms (with_node_atoms atoms ns)
 grown_front atoms [] = record { rest = []; split = sym (append-nil atoms) }
 grown_front atoms (n ∷ ns) =
     let f = grown_front (atoms ++ atom_over atoms n ∷ []) ns in
     record { rest = atom_over atoms n ∷ f.rest; split = f.split ∙ append_assoc atoms (atom_over atoms n ∷ []) f.rest }
 
-grown-last : (atoms : List Atom) (ns : List Node) (n : Node) → grown atoms (ns ++ n ∷ []) ≡ grown atoms ns ++ atom_over (grown atoms ns) n ∷ []
+grown-last : (atoms : List Atom) (ns : List Node) (n : Node) → with_node_atoms atoms (ns ++ n ∷ []) ≡ with_node_atoms atoms ns
+    ++ atom_over (with_node_atoms atoms ns) n ∷ []
 grown-last atoms [] n = refl
 grown-last atoms (m ∷ ns) n = grown-last (atoms ++ atom_over atoms m ∷ []) ns n
 
-length-grown : (atoms : List Atom) (ns : List Node) → length (grown atoms ns) ≡ length atoms + length ns
+length-grown : (atoms : List Atom) (ns : List Node) → length (with_node_atoms atoms ns) ≡ length atoms + length ns
 length-grown atoms [] = omega arith
 length-grown atoms (n ∷ ns) = omega (arith, length-grown (atoms ++ atom_over atoms n ∷ []) ns, length_push atoms (atom_over atoms n))
 
@@ -47,14 +48,14 @@ next_below atoms a ns b = subst (λ k. AreBelow k ns) (sym (length_push atoms a)
 
 -- the atom that stands at the place of a node
 placed_along : (atoms : List Atom) (ns : List Node) (k : ℕ) (n : Node) → AreBelow (length atoms) ns → slice_get ns k ≡ Some n
-    → slice_get (grown atoms ns) (length atoms + k) ≡ Some (atom_over (grown atoms ns) n)
+    → slice_get (with_node_atoms atoms ns) (length atoms + k) ≡ Some (atom_over (with_node_atoms atoms ns) n)
 placed_along atoms [] k n b e = cc
 placed_along atoms (m ∷ ns) zero n b e =
     let q : m ≡ n = cc in
     let f = grown_front (atoms ++ atom_over atoms m ∷ []) ns in
     let g = grown_front atoms (m ∷ ns) in
     ap (λ l. slice_get l (length atoms + 0)) f.split ∙ at_last atoms (atom_over atoms m) f.rest
-    ∙ ap Some (sym (node_stays atoms (grown atoms (m ∷ ns)) m g b.0) ∙ ap (atom_over (grown atoms (m ∷ ns))) q)
+    ∙ ap Some (sym (node_stays atoms (with_node_atoms atoms (m ∷ ns)) m g b.0) ∙ ap (atom_over (with_node_atoms atoms (m ∷ ns))) q)
   where
     at_last : (l : List Atom) (a : Atom) (rest : List Atom) → slice_get ((l ++ a ∷ []) ++ rest) (length l + 0) ≡ Some a
     at_last [] a rest = refl
@@ -64,7 +65,7 @@ placed_along atoms (m ∷ ns) zero n b e =
         sucs n = omega arith
 placed_along atoms (m ∷ ns) (suc k) n b e =
     let next = atoms ++ atom_over atoms m ∷ [] in
-    subst (λ j. slice_get (grown next ns) j ≡ Some (atom_over (grown next ns) n)) (lengths (length_push atoms (atom_over atoms m)))
+    subst (λ j. slice_get (with_node_atoms next ns) j ≡ Some (atom_over (with_node_atoms next ns) n)) (lengths (length_push atoms (atom_over atoms m)))
     (placed_along next ns k n (next_below atoms (atom_over atoms m) ns b.1) e)
   where
     lengths : {l : ℕ} → l ≡ length atoms + 1 → l + k ≡ length atoms + suc k
@@ -111,12 +112,14 @@ pub holds_push : (a b : Atom) (atoms : List Atom) → holds_atom a (atoms ++ b �
 holds_push a b atoms = list_any-append (same_atom a) atoms (b ∷ []) ∙ ap (λ x. holds_atom a atoms || x) (or_false (same_atom a b))
 
 module _ (n : Node) where
-  held_along : (atoms : List Atom) (ns : List Node) → AreBelow (length atoms) ns → IsBank (grown atoms ns) → bound_of_node n ≤ length (grown atoms ns)
-      → holds_atom (atom_over (grown atoms ns) n) (grown atoms ns) ≡ holds_atom (atom_over (grown atoms ns) n) atoms || list_any (same_node n) ns
+  held_along : (atoms : List Atom) (ns : List Node) → AreBelow (length atoms) ns → IsBank (with_node_atoms atoms ns)
+      → bound_of_node n ≤ length (with_node_atoms atoms ns)
+      → holds_atom (atom_over (with_node_atoms atoms ns) n) (with_node_atoms atoms ns) ≡ holds_atom (atom_over (with_node_atoms atoms ns) n) atoms
+      || list_any (same_node n) ns
   held_along atoms [] b u h = sym (or_false (holds_atom (atom_over atoms n) atoms))
   held_along atoms (m ∷ ns) b u h =
       let next = atoms ++ atom_over atoms m ∷ [] in
-      let whole = grown next ns in
+      let whole = with_node_atoms next ns in
       let a = atom_over whole n in
       let f = grown_front atoms (m ∷ ns) in
       let kept : atom_over whole m ≡ atom_over atoms m = node_stays atoms whole m f b.0 in
@@ -195,10 +198,10 @@ below_taken k zero ns b = tt
 below_taken k (suc i) [] b = tt
 below_taken k (suc i) (n ∷ ns) b = (b.0, below_taken (k + 1) i ns b.1)
 
-grown_taken : (atoms : List Atom) (i : ℕ) (ns : List Node) → grown atoms (take i ns) ≡ take (length atoms + i) (grown atoms ns)
+grown_taken : (atoms : List Atom) (i : ℕ) (ns : List Node) → with_node_atoms atoms (take i ns) ≡ take (length atoms + i) (with_node_atoms atoms ns)
 grown_taken atoms zero ns =
     let f = grown_front atoms ns in
-    sym (ap (λ k. take k (grown atoms ns)) (plus (length atoms)) ∙ ap (take (length atoms)) f.split ∙ take-append_seam atoms f.rest)
+    sym (ap (λ k. take k (with_node_atoms atoms ns)) (plus (length atoms)) ∙ ap (take (length atoms)) f.split ∙ take-append_seam atoms f.rest)
   where
     plus : (k : ℕ) → k + 0 ≡ k
     plus k = omega arith
@@ -210,7 +213,7 @@ grown_taken atoms (suc i) [] = sym (all_taken atoms (length atoms + suc i) (omeg
     all_taken (a ∷ l) zero h = absurd (omega arith)
     all_taken (a ∷ l) (suc k) h = ap (λ t. a ∷ t) (all_taken l k (omega arith))
 grown_taken atoms (suc i) (n ∷ ns) =
-    grown_taken (atoms ++ atom_over atoms n ∷ []) i ns ∙ ap (λ k. take k (grown (atoms ++ atom_over atoms n ∷ []) ns))
+    grown_taken (atoms ++ atom_over atoms n ∷ []) i ns ∙ ap (λ k. take k (with_node_atoms (atoms ++ atom_over atoms n ∷ []) ns))
     (lengths (length_push atoms (atom_over atoms n)))
   where
     lengths : {l : ℕ} → l ≡ length atoms + 1 → l + i ≡ length atoms + suc i

@@ -6,13 +6,13 @@ use Rattle.nf_bank.specs.Atoms.{IsBank}
 use Rattle.nf_bank.specs.AtomNumbers.{bound_of_node, atom_over}
 
 -- some atoms, and those of the nodes behind them
-abbrev pub grown : List Atom → List Node → List Atom
-grown atoms [] = atoms
-grown atoms (n ∷ ns) = grown (atoms ++ atom_over atoms n ∷ []) ns
+abbrev pub with_node_atoms : List Atom → List Node → List Atom
+with_node_atoms atoms [] = atoms
+with_node_atoms atoms (n ∷ ns) = with_node_atoms (atoms ++ atom_over atoms n ∷ []) ns
 
 -- the atoms of nodes
 abbrev pub atoms_of : List Node → List Atom
-atoms_of ns = grown [] ns
+atoms_of ns = with_node_atoms [] ns
 
 -- each node from place k on has smaller numbers alone
 abbrev pub AreBelow : ℕ → List Node → Type 0

@@ -3,7 +3,7 @@
 ghost use Rattle.std.specs.Prelude.{◌≡◌, ◌<◌, ◌≤◌, [], length, take, slice_get, false, Some, None, Option, MatchOption, is_some};
 ghost use Rattle.std.specs.Prelude.{IfOk, OnOk, OnErr};
 ghost use Rattle.nf_terms.specs.View.{atom_in};
-ghost use Rattle.nf_bank.specs.Atoms.{holds_atom as holds_atom, atom_place, with_one, with_atom, IsBank, IsFront};
+ghost use Rattle.nf_bank.specs.Atoms.{holds_atom, atom_place, with_one, with_atom, IsBank, IsFront};
 ghost use Rattle.nf_bank.specs.HeldAtoms.{IsClosedUnderAtoms};
 ghost use Rattle.nf_bank.specs.AtomNumbers.{bound_of_node, atom_of_number, atom_over};
 

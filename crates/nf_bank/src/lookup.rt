@@ -2,7 +2,7 @@
 
 ghost use Rattle.std.specs.Prelude.{◌≡◌, false, Some, IfOk, IfErr};
 ghost use Rattle.nf_terms.specs.View.{atom_in, monomial_in, polynomial_in, array_in};
-ghost use Rattle.nf_bank.specs.Atoms.{holds_atom as holds_atom, atom_place};
+ghost use Rattle.nf_bank.specs.Atoms.{holds_atom, atom_place};
 ghost use Rattle.nf_bank.specs.HeldAtoms.{holds_inner, holds_monomial, holds_terms, holds_array};
 ghost use Rattle.nf_bank.specs.AtomNumbers.{SpellsMonomial, SpellsSum, SpellsArray, SpellsAtom};
 

@@ -18,7 +18,7 @@ use Rattle.nf_terms.proofs.Reducing.{reduced_normal, part_normal}
 use Rattle.nf_terms.specs.Normal.{constant_sum}
 use Rattle.nf_terms.specs.TermLimits.{weight_limit}
 use Rattle.nf_rel.specs.Gcd.{gcd}
-use Rattle.nf_rel.specs.Literals.{common_divisor, divide_coefficients, signed_number, begins_positive, Form, form_holds, truth, bounded, bounded_by}
+use Rattle.nf_rel.specs.Literals.{common_divisor, divide_coefficients, signed_number, begins_positive, Form, form_holds, truth, bounded_literal, bounded_by}
 use Rattle.nf_rel.specs.Literals.{literal_form}
 use Rattle.nf_rel.proofs.CommonDivisors.{gcd_is, AllMultiples, all_multiples, exact}
 
@@ -101,12 +101,12 @@ pub none_by : (f : Form) (p : Polynomial) → common_divisor (part_with_atoms p)
 none_by f p e = ap (λ g. bounded_by f (part_with_atoms p) g (constant_sum p)) e
 
 by_divisor : (f : Form) (q : Polynomial) (g : ℕ) (c : ℤ) → g ≢ 0
-    → bounded_by f q g c ≡ bounded f (begins_positive q) (divide_coefficients q (signed_number (begins_positive q) (pos g))) g c
+    → bounded_by f q g c ≡ bounded_literal f (begins_positive q) (divide_coefficients q (signed_number (begins_positive q) (pos g))) g c
 by_divisor f q zero c h = absurd (h refl)
 by_divisor f q (suc n) c h = refl
 
 pub some_by : (f : Form) (p : Polynomial) → common_divisor (part_with_atoms p) ≢ 0
-    → literal_form f p ≡ bounded f (begins_positive (part_with_atoms p))
+    → literal_form f p ≡ bounded_literal f (begins_positive (part_with_atoms p))
     (divide_coefficients (part_with_atoms p) (signed_number (begins_positive (part_with_atoms p)) (pos (common_divisor (part_with_atoms p)))))
     (common_divisor (part_with_atoms p)) (constant_sum p)
 some_by f p h = by_divisor f (part_with_atoms p) (common_divisor (part_with_atoms p)) (constant_sum p) h

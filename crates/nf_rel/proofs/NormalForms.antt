@@ -19,7 +19,7 @@ use Rattle.nf_rel.specs.declared.kind.Kind.TheVariants.{Ge, Le, Eq, Ne}
 use Rattle.nf_terms.proofs.Partings.{ordered_term}
 use Rattle.nf_terms.proofs.Reducing.{part_normal}
 use Rattle.nf_rel.specs.Literals.{NormalLiteral, True, False, Is, truth, common_divisor, divide_coefficients, begins_positive, signed_number, Form, AtLeastZero}
-use Rattle.nf_rel.specs.Literals.{IsZero, IsNotZero, form_holds, bounded, bounded_by, literal_form}
+use Rattle.nf_rel.specs.Literals.{IsZero, IsNotZero, form_holds, bounded_literal, bounded_by, literal_form}
 use Rattle.nf_rel.specs.NormalLiterals.{is_normal, lacks_constant, is_primitive, is_inner_number, IsNormalLiteral}
 use Rattle.nf_rel.proofs.Floors.{lt_true, is_lt, not_lt}
 use Rattle.nf_rel.proofs.CommonDivisors.{gcd_is, AllMultiples, all_multiples}
@@ -126,7 +126,7 @@ module _ (d : Polynomial) (n : ℕ) (c : ℤ) (normal : is_normal d ≡ true) (p
   by_rest true l m x y = x
   by_rest false l m x y = y
 
-  bounded_normal : (form : Form) (b : Bool) → IsNormalLiteral (bounded form b d (suc n) c)
+  bounded_normal : (form : Form) (b : Bool) → IsNormalLiteral (bounded_literal form b d (suc n) c)
   bounded_normal AtLeastZero true = with_bound Ge (neg_ℤ f) (signed_small true f floor)
   bounded_normal AtLeastZero false = with_bound Le f (inner_is f floor)
   bounded_normal IsZero b = by_rest (int_eq (int_rem_euclid c (pos (suc n))) (pos 0))

@@ -19,7 +19,7 @@ use Rattle.nf_terms.specs.RawSums.{raw_negation, raw_difference, IsNormalFormOf}
 use Rattle.nf_terms.specs.Computed.{Done, IfDone, after}
 use Rattle.nf_terms.specs.TermKeys.{polynomial_same}
 use Rattle.nf_terms.proofs.Simple.{number_normal}
-use Rattle.nf_sums.specs.Operations.{subtracted}
+use Rattle.nf_sums.specs.Operations.{normal_difference}
 use Rattle.nf_sums.proofs.Exact.{subtracted_form}
 use Rattle.nf_sums.proofs.Forms.{negation_normal}
 use Rattle.nf_sums.proofs.Values.{goes_done}
@@ -34,7 +34,7 @@ use Rattle.nf_rel.proofs.NormalForms.{form_normal}
 one_normal : IsNormal one
 one_normal = number_normal (pos 1) (omega arith)
 
-difference_normal : (p q s : Polynomial) → IsNormal p → IsNormal q → subtracted p q ≡ Done s → IsNormal s
+difference_normal : (p q s : Polynomial) → IsNormal p → IsNormal q → normal_difference p q ≡ Done s → IsNormal s
 difference_normal p q s m n e =
     let f : IfDone (Done s) (λ x. IsNormalFormOf x (raw_difference p q)) =
     subst (λ c. IfDone c (λ x. IsNormalFormOf x (raw_difference p q))) e (subtracted_form p q m n) in
@@ -43,9 +43,10 @@ difference_normal p q s m n e =
 done_form : (f : Form) (p : Polynomial) (n : NormalLiteral) → IsNormal p → Done (literal_form f p) ≡ Done n → IsNormalLiteral n
 done_form f p n h e = let s : literal_form f p ≡ n = cc e in subst IsNormalLiteral s (form_normal f p h)
 
-done_less : (p : Polynomial) (n : NormalLiteral) → IsNormal p → after (subtracted p one) (λ q. Done (literal_form AtLeastZero q)) ≡ Done n → IsNormalLiteral n
+done_less : (p : Polynomial) (n : NormalLiteral) → IsNormal p → after (normal_difference p one) (λ q. Done (literal_form AtLeastZero q)) ≡ Done n
+    → IsNormalLiteral n
 done_less p n h e =
-    let s = goes_done (subtracted p one) (λ q. Done (literal_form AtLeastZero q)) n e in
+    let s = goes_done (normal_difference p one) (λ q. Done (literal_form AtLeastZero q)) n e in
     done_form AtLeastZero s.middle n (difference_normal p one s.middle h one_normal s.first) s.next
 
 by_relation : (relation : Rel) (p : Polynomial) (n : NormalLiteral) → IsNormal p → against_zero relation p ≡ Done n → IsNormalLiteral n
@@ -58,7 +59,7 @@ by_relation rel.Lt p n h e = done_less (raw_negation p) n (negation_normal p h) 
 
 pub literal_normal : (relation : Rel) (l r : Polynomial) (n : NormalLiteral) → IsNormal l → IsNormal r → literal relation l r ≡ Done n → IsNormalLiteral n
 literal_normal relation l r n hl hr e =
-    let s = goes_done (subtracted l r) (against_zero relation) n e in
+    let s = goes_done (normal_difference l r) (against_zero relation) n e in
     by_relation relation s.middle n (difference_normal l r s.middle hl hr s.first) s.next
 
 pub direction_is_normal : (d : Polynomial) (k : Kind) (b : ℤ) → IsNormalLiteral (Is d k b) → IsNormal d

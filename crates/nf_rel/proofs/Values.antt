@@ -15,11 +15,11 @@ use Rattle.nf_terms.specs.RawSums.{raw_negation}
 use Rattle.base_integers.proofs.Ring.{neg-mul_z, mul-neg_z}
 use Rattle.nf_sums.proofs.Forms.{negation_value}
 use Rattle.nf_terms.specs.Computed.{Done, after}
-use Rattle.nf_sums.specs.Operations.{subtracted}
+use Rattle.nf_sums.specs.Operations.{normal_difference}
 use Rattle.nf_sums.proofs.Values.{subtracted_value, value_parts, goes_done}
 use Rattle.nf_rel.specs.declared.kind.Kind.TheVariants.{Eq, Ne}
 use Rattle.nf_rel.specs.Literals.{NormalLiteral, True, False, Is, is_true_in, truth, common_divisor, divide_coefficients, begins_positive, signed_number, Form}
-use Rattle.nf_rel.specs.Literals.{AtLeastZero, IsZero, IsNotZero, form_holds, bounded, bounded_by, literal_form, one, against_zero, literal}
+use Rattle.nf_rel.specs.Literals.{AtLeastZero, IsZero, IsNotZero, form_holds, bounded_literal, bounded_by, literal_form, one, against_zero, literal}
 use Rattle.nf_rel.proofs.Floors.{lt_true, lt_false, is_lt, not_lt, Floor, floor_of, at_least, equal_where, never_equal}
 use Rattle.nf_rel.proofs.CommonDivisors.{AllMultiples, all_multiples, no_divisor, value_divided}
 
@@ -45,7 +45,7 @@ truth_is w false = refl
 
 -- the direction as it is, or negated
 bounded_holds : (w : Valuation) (f : Form) (b : Bool) (d : Polynomial) (n : ℕ) (c : ℤ)
-    → is_true_in w (bounded f b d (suc n) c) ≡ form_holds f (pos (suc n) *ℤ signed_number b (value_of w d) +ℤ c)
+    → is_true_in w (bounded_literal f b d (suc n) c) ≡ form_holds f (pos (suc n) *ℤ signed_number b (value_of w d) +ℤ c)
 bounded_holds w AtLeastZero true d n c =
     let k = floor_of (suc n) c (omega arith) in
     sym (at_least (suc n) (value_of w d) (int_div_euclid c (pos (suc n))) c (int_rem_euclid c (pos (suc n))) k.parts k.low k.high)
@@ -120,10 +120,10 @@ done_form : (w : Valuation) (f : Form) (p : Polynomial) (n : NormalLiteral) → 
 done_form w f p n e = let s : literal_form f p ≡ n = cc e in ap (is_true_in w) (sym s) ∙ literal_form_holds w f p
 
 -- the same after 1 is taken away
-done_less : (w : Valuation) (p : Polynomial) (n : NormalLiteral) → after (subtracted p one) (λ q. Done (literal_form AtLeastZero q)) ≡ Done n
+done_less : (w : Valuation) (p : Polynomial) (n : NormalLiteral) → after (normal_difference p one) (λ q. Done (literal_form AtLeastZero q)) ≡ Done n
     → is_true_in w n ≡ not (int_lt (value_of w p -ℤ pos 1) (pos 0))
 done_less w p n e =
-    let s = goes_done (subtracted p one) (λ q. Done (literal_form AtLeastZero q)) n e in
+    let s = goes_done (normal_difference p one) (λ q. Done (literal_form AtLeastZero q)) n e in
     done_form w AtLeastZero s.middle n s.next ∙ ap (λ z. not (int_lt z (pos 0))) (subtracted_value w p one s.middle s.first)
 
 by_relation : (w : Valuation) (relation : Rel) (p : Polynomial) (n : NormalLiteral) (a b : ℤ) → value_of w p ≡ a -ℤ b → against_zero relation p ≡ Done n
@@ -150,5 +150,5 @@ by_relation w rel.Lt p n a b v e = done_less w (raw_negation p) n e ∙ by_test 
 pub literal_means : (relation : Rel) (l r : Polynomial) (n : NormalLiteral) (w : Valuation) → literal relation l r ≡ Done n
     → is_true_in w n ≡ relates relation (value_of w l) (value_of w r)
 literal_means relation l r n w e =
-    let s = goes_done (subtracted l r) (against_zero relation) n e in
+    let s = goes_done (normal_difference l r) (against_zero relation) n e in
     by_relation w relation s.middle n (value_of w l) (value_of w r) (subtracted_value w l r s.middle s.first) s.next

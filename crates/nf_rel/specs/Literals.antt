@@ -12,7 +12,7 @@ use Rattle.nf_terms.specs.Normal.{part_with_atoms, constant_sum}
 use Rattle.nf_terms.specs.TermMeaning.{Valuation, value_of}
 use Rattle.nf_terms.specs.RawSums.{raw_negation}
 use Rattle.nf_terms.specs.Computed.{Computed, Done, after}
-use Rattle.nf_sums.specs.Operations.{subtracted}
+use Rattle.nf_sums.specs.Operations.{normal_difference}
 use Rattle.nf_rel.specs.declared.kind.Kind.{Kind}
 use Rattle.nf_rel.specs.declared.kind.Kind.TheVariants.{Ge, Le, Eq, Ne}
 use Rattle.nf_rel.specs.Gcd.{gcd}
@@ -74,17 +74,17 @@ form_holds IsZero z = int_eq z (pos 0)
 form_holds IsNotZero z = not (int_eq z (pos 0))
 
 -- g times a direction, as it is or negated, plus c is compared with 0
-abbrev pub bounded : Form → (positive : Bool) → Polynomial → (g : ℕ) → (c : ℤ) → NormalLiteral
-bounded AtLeastZero true d g c = Is d Ge (neg_ℤ (int_div_euclid c (pos g)))
-bounded AtLeastZero false d g c = Is d Le (int_div_euclid c (pos g))
-bounded IsZero positive d g c = cond (int_eq (int_rem_euclid c (pos g)) (pos 0))
+abbrev pub bounded_literal : Form → (positive : Bool) → Polynomial → (g : ℕ) → (c : ℤ) → NormalLiteral
+bounded_literal AtLeastZero true d g c = Is d Ge (neg_ℤ (int_div_euclid c (pos g)))
+bounded_literal AtLeastZero false d g c = Is d Le (int_div_euclid c (pos g))
+bounded_literal IsZero positive d g c = cond (int_eq (int_rem_euclid c (pos g)) (pos 0))
     (Is d Eq (signed_number positive (neg_ℤ (int_div_euclid c (pos g))))) False
-bounded IsNotZero positive d g c = cond (int_eq (int_rem_euclid c (pos g)) (pos 0))
+bounded_literal IsNotZero positive d g c = cond (int_eq (int_rem_euclid c (pos g)) (pos 0))
     (Is d Ne (signed_number positive (neg_ℤ (int_div_euclid c (pos g))))) True
 
 abbrev pub bounded_by : Form → Polynomial → (g : ℕ) → (c : ℤ) → NormalLiteral
 bounded_by f q zero c = truth (form_holds f c)
-bounded_by f q (suc n) c = bounded f (begins_positive q)
+bounded_by f q (suc n) c = bounded_literal f (begins_positive q)
     (divide_coefficients q (signed_number (begins_positive q) (pos (suc n)))) (suc n) c
 
 -- the literal of a polynomial that is compared with 0
@@ -99,13 +99,13 @@ abbrev pub against_zero : Rel → Polynomial → Computed NormalLiteral
 against_zero rel.Eq p = Done (literal_form IsZero p)
 against_zero rel.Ne p = Done (literal_form IsNotZero p)
 against_zero rel.Ge p = Done (literal_form AtLeastZero p)
-against_zero rel.Gt p = after (subtracted p one) (λ q. Done (literal_form AtLeastZero q))
+against_zero rel.Gt p = after (normal_difference p one) (λ q. Done (literal_form AtLeastZero q))
 against_zero rel.Le p = Done (literal_form AtLeastZero (raw_negation p))
-against_zero rel.Lt p = after (subtracted (raw_negation p) one) (λ q. Done (literal_form AtLeastZero q))
+against_zero rel.Lt p = after (normal_difference (raw_negation p) one) (λ q. Done (literal_form AtLeastZero q))
 
 -- the literal of a relation
 abbrev pub literal : Rel → (l r : Polynomial) → Computed NormalLiteral
-literal relation l r = after (subtracted l r) (against_zero relation)
+literal relation l r = after (normal_difference l r) (against_zero relation)
 
 abbrev pub negate : NormalLiteral → NormalLiteral
 negate True = False

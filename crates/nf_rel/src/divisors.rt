@@ -64,7 +64,7 @@ fn push_divided(
 
 /// The monomials with atoms, each coefficient divided.
 #[tactic(auto, using(crate::proofs::Divided::weights))]
-pub fn divided(
+pub fn divide_monomials(
     alloc: Global,
     terms: &[(MonoTree, i128)],
     by: &i128,

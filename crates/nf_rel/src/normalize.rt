@@ -6,14 +6,14 @@ ghost use Rattle.nf_terms.specs.View.{term_in};
 ghost use Rattle.nf_terms.specs.Normal.{IsNormal, part_with_atoms, constant_sum};
 ghost use Rattle.nf_terms.specs.TermLimits.{weight_limit};
 ghost use Rattle.nf_terms.specs.Computed.{Answers, Done, after};
-ghost use Rattle.nf_sums.specs.Operations.{subtracted};
-ghost use Rattle.nf_rel.specs.Literals.{AtLeastZero, truth, form_holds, signed_number, bounded};
+ghost use Rattle.nf_sums.specs.Operations.{normal_difference};
+ghost use Rattle.nf_rel.specs.Literals.{AtLeastZero, truth, form_holds, signed_number, bounded_literal};
 ghost use Rattle.nf_rel.specs.Literals.{divide_coefficients as divided_form, common_divisor, literal_form, literal as literal_by};
 ghost use Rattle.nf_rel.specs.Literals.{against_zero, one as one_form};
 ghost use Rattle.nf_rel.specs.NormalLiterals.{IsNormalLiteral};
 ghost use Rattle.nf_rel.specs.View.{literal_in, normal_literal_of, form_in};
 
-use crate::divisors::{divided, divisor};
+use crate::divisors::{divide_monomials, divisor};
 use crate::kind::Kind;
 use crate::literals::{Bound, NLit};
 use crate::primitive::begins_positive;
@@ -54,11 +54,11 @@ fn signed(positive: bool, number: &i128) -> i128
 }
 
 // A direction with its bound.
-fn bounded(form: Form, positive: bool, dir: Poly, divisor: &i128, constant: &i128) -> NLit
+fn bound_direction(form: Form, positive: bool, dir: Poly, divisor: &i128, constant: &i128) -> NLit
     requires some { unsigned_abs divisor.now ≢ 0 }
     requires natural { divisor.now ≡ pos (unsigned_abs divisor.now) }
     requires small { unsigned_abs constant.now + 1 ≤ weight_limit }
-    ensures { literal_in result ≡ bounded (form_in form) positive dir (unsigned_abs divisor.now) constant.now }
+    ensures { literal_in result ≡ bounded_literal (form_in form) positive dir (unsigned_abs divisor.now) constant.now }
 {
     let floor = constant.div_euclid(*divisor);
     let rest = constant.rem_euclid(*divisor);
@@ -141,7 +141,7 @@ fn direction(alloc: Global, p: &Poly, positive: bool, divisor: &i128) -> Result<
         (λ d. d ≡ divided_form (part_with_atoms p.now) (signed_number positive (pos (common_divisor (part_with_atoms p.now))))) }
 {
     let by = signed(positive, divisor);
-    let monos = divided(alloc, p.monos(), &by)?;
+    let monos = divide_monomials(alloc, p.monos(), &by)?;
     Ok(from_terms(monos))
 }
 
@@ -157,7 +157,7 @@ fn by_divisor(alloc: Global, form: Form, p: &Poly) -> Result<NLit, NoMemory>
     }
     let positive = begins_positive(p.monos());
     let dir = direction(alloc, p, positive, &divisor)?;
-    Ok(bounded(form, positive, dir, &divisor, &constant))
+    Ok(bound_direction(form, positive, dir, &divisor, &constant))
 }
 
 // The same, which is in normal form.
@@ -173,7 +173,7 @@ fn literal_form(alloc: Global, form: Form, p: &Poly) -> Result<NLit, NoMemory>
 // The literal of a polynomial less 1, at least 0.
 fn above_zero(alloc: Global, p: &Poly) -> Result<NLit, NfStop>
     ensures literal { Answers (normal_literal_of result)
-        (after (subtracted p.now one_form) (λ q. Done (literal_form AtLeastZero q))) }
+        (after (normal_difference p.now one_form) (λ q. Done (literal_form AtLeastZero q))) }
     ensures normal { IfOk result (λ l. IsNormalLiteral (literal_in l)) }
 {
     let one = Poly::number(alloc, 1)?;

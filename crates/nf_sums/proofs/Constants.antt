@@ -9,7 +9,7 @@ use Rattle.nf_terms.specs.TermKeys.{polynomial_ties, polynomial_same}
 use Rattle.nf_terms.specs.Normal.{ordered, part_with_atoms, constant_part, differ_by_constant}
 use Rattle.nf_terms.specs.RawSums.{raw_sum}
 use Rattle.nf_terms.specs.Normal.{constant_sum}
-pub use Rattle.nf_terms.proofs.Partings.{last_one, parted}
+use Rattle.nf_terms.proofs.Partings.{last_one, parted}
 use Rattle.nf_terms.proofs.Partings.{ordered_term}
 
 -- polynomials that are the same are equal

@@ -22,7 +22,7 @@ use Rattle.nf_sums.proofs.Unique.{normal_forms_equal}
 use Rattle.nf_terms.specs.Computed.{Computed, Done, Wide, Large, IfDone, if_small}
 use Rattle.nf_sums.specs.RawSumForms.{normal_form}
 use Rattle.nf_terms.specs.Means.{IsNumberOf}
-use Rattle.nf_sums.specs.Operations.{operation, added, subtracted, multiplied, negated, number}
+use Rattle.nf_sums.specs.Operations.{operation, normal_sum, normal_difference, normal_product, normal_negation, number}
 use Rattle.nf_sums.proofs.Collecting.{worth-form, worth-form_ordered, form_ordered, size-form, weight-form, fits-form}
 use Rattle.nf_sums.proofs.RawProducts.{size-product, weight-product, fits-product, monomials_of_ordered, monomials_of_sum, atoms_of_monomials, atoms_of_product}
 
@@ -131,25 +131,25 @@ module _ (p q : Polynomial) (m : IsNormal p) (n : IsNormal q) where
       (omega (arith, s, negation_size q))
 
   pub sum_gives : weight_of p + weight_of q ≤ weight_limit → size_of p + size_of q ≤ size_limit → (s : Polynomial) → IsNormalFormOf s (raw_sum p q)
-      → added p q ≡ Done s
+      → normal_sum p q ≡ Done s
   sum_gives = operation_gives p q (raw_sum p q) (weight_of p + weight_of q) (size_of p + size_of q) form_added
 
   pub product_gives : weight_of p * weight_of q ≤ weight_limit → size_of p * size_of q ≤ size_limit → (s : Polynomial) → IsNormalFormOf s (raw_product p q)
-      → multiplied p q ≡ Done s
+      → normal_product p q ≡ Done s
   product_gives = operation_gives p q (raw_product p q) (weight_of p * weight_of q) (size_of p * size_of q) form_multiplied
 
   pub difference_gives : weight_of p + weight_of q ≤ weight_limit → size_of p + size_of q ≤ size_limit → (s : Polynomial)
-      → IsNormalFormOf s (raw_difference p q) → subtracted p q ≡ Done s
+      → IsNormalFormOf s (raw_difference p q) → normal_difference p q ≡ Done s
   difference_gives = operation_gives p q (raw_difference p q) (weight_of p + weight_of q) (size_of p + size_of q) form_subtracted
 
   -- ---- forms and meaning
-  pub added_form : IfDone (added p q) (λ s. IsNormalFormOf s (raw_sum p q))
+  pub added_form : IfDone (normal_sum p q) (λ s. IsNormalFormOf s (raw_sum p q))
   added_form = operation_form p q (raw_sum p q) (weight_of p + weight_of q) (size_of p + size_of q) form_added
 
-  pub subtracted_form : IfDone (subtracted p q) (λ s. IsNormalFormOf s (raw_difference p q))
+  pub subtracted_form : IfDone (normal_difference p q) (λ s. IsNormalFormOf s (raw_difference p q))
   subtracted_form = operation_form p q (raw_difference p q) (weight_of p + weight_of q) (size_of p + size_of q) form_subtracted
 
-  pub multiplied_form : IfDone (multiplied p q) (λ s. IsNormalFormOf s (raw_product p q))
+  pub multiplied_form : IfDone (normal_product p q) (λ s. IsNormalFormOf s (raw_product p q))
   multiplied_form = operation_form p q (raw_product p q) (weight_of p * weight_of q) (size_of p * size_of q) form_multiplied
 
   means : (raw : Polynomial) (weight units : ℕ) (value : Valuation → ℤ) → (weight ≤ weight_limit → units ≤ size_limit → IsNormalFormOf (normal_form raw) raw)
@@ -161,11 +161,11 @@ module _ (p q : Polynomial) (m : IsNormal p) (n : IsNormal q) where
       by_cases c (IsWide n) = tt
       by_cases c (IsLarge h n) = tt
 
-  pub added_means : IfDone (added p q) (IsNumberOf (λ w. value_of w p +ℤ value_of w q))
+  pub added_means : IfDone (normal_sum p q) (IsNumberOf (λ w. value_of w p +ℤ value_of w q))
   added_means = means (raw_sum p q) (weight_of p + weight_of q) (size_of p + size_of q) _ form_added
       (sum_value p q (normal_form (raw_sum p q)) (form_of_sum p q m n))
 
-  pub subtracted_means : IfDone (subtracted p q) (IsNumberOf (λ w. value_of w p -ℤ value_of w q))
+  pub subtracted_means : IfDone (normal_difference p q) (IsNumberOf (λ w. value_of w p -ℤ value_of w q))
   subtracted_means =
       means (raw_difference p q) (weight_of p + weight_of q) (size_of p + size_of q) (λ w. value_of w p -ℤ value_of w q) form_subtracted
       (λ w. omega (
@@ -175,14 +175,14 @@ module _ (p q : Polynomial) (m : IsNormal p) (n : IsNormal q) where
         negation_value w q,
       ))
 
-  pub multiplied_means : IfDone (multiplied p q) (IsNumberOf (λ w. value_of w p *ℤ value_of w q))
+  pub multiplied_means : IfDone (normal_product p q) (IsNumberOf (λ w. value_of w p *ℤ value_of w q))
   multiplied_means = means (raw_product p q) (weight_of p * weight_of q) (size_of p * size_of q) _ form_multiplied
       (product_value p q (normal_form (raw_product p q)) (form_of_product p q m n))
 
-pub negated_means : (p : Polynomial) → IsNormal p → IsNumberOf (λ w. neg_ℤ (value_of w p)) (negated p)
+pub negated_means : (p : Polynomial) → IsNormal p → IsNumberOf (λ w. neg_ℤ (value_of w p)) (normal_negation p)
 negated_means p n = record { normal = negation_normal p n; means = λ w. negation_value w p }
 
-pub negated_form : (p : Polynomial) → IsNormal p → IsNormalFormOf (negated p) (raw_negation p)
+pub negated_form : (p : Polynomial) → IsNormal p → IsNormalFormOf (normal_negation p) (raw_negation p)
 negated_form p n = negation_form p n
 
 pub number_means : (c : ℤ) → IfDone (number c) (IsNumberOf (λ w. c))

@@ -6,7 +6,7 @@ use Rattle.base_lemmas.proofs.Orderings.{is_lt-true}
 use Rattle.nf_terms.specs.NormalTerms.{Atom, Monomial, Polynomial, ArrayTerm, Writes, Symbol, Read, Quotient, Remainder, One, Times, Zero, Plus, Over, NoWrites}
 use Rattle.nf_terms.specs.NormalTerms.{Write}
 use Rattle.nf_terms.specs.Order.{cmp_monomial}
-use Rattle.nf_terms.specs.Tidied.{tidied}
+use Rattle.nf_terms.specs.Tidied.{tidy_array}
 use Rattle.nf_terms.specs.Lists.{ListTerm, AreNormalItems, IsNormalList}
 use Rattle.nf_terms.specs.Normal.{IsNormal, IsNormalArray, ordered, ordered_atom, ordered_monomial, ordered_array, ordered_writes, atom_rises, monomial_rises}
 use Rattle.nf_terms.specs.Normal.{is_constant, stays_read}
@@ -69,7 +69,7 @@ mutual
       ∙ (λ k. Write (form_stays i t.index k) (form_stays v t.value k) ws)
 
   pub array_stays : (a : ArrayTerm) → ordered_array a ≡ true → settled_array a ≡ a
-  array_stays (Over b ws) o = (λ k. tidied (Over b (writes_stay ws o k))) ∙ tidied_stays (Over b ws) o
+  array_stays (Over b ws) o = (λ k. tidy_array (Over b (writes_stay ws o k))) ∙ tidied_stays (Over b ws) o
 
 -- ---- atoms in order are settled, in whatever order they stand
 

@@ -5,7 +5,7 @@ use Rattle.base_lemmas.proofs.Booleans.{and_first, and_second}
 use Rattle.base_lemmas.proofs.Integers.{int_lt-turned}
 use Rattle.nf_terms.specs.NormalTerms.{Polynomial, ArrayTerm, Writes, Over, NoWrites, Write}
 use Rattle.nf_terms.specs.Normal.{ordered, ordered_writes, ordered_array, is_written, write_rises, differ_by_constant, constant_part, constant_sum}
-use Rattle.nf_terms.specs.Tidied.{last_writes, with_write, rising_stretches, tidied}
+use Rattle.nf_terms.specs.Tidied.{last_writes, with_write, rising_stretches, tidy_array}
 use Rattle.nf_sums.proofs.Constants.{constant_is}
 
 -- the first of the writes of an array in order, and the rest
@@ -54,5 +54,5 @@ pub rising_stay : (ws : Writes) → ordered_writes ws ≡ true → rising_stretc
 rising_stay NoWrites h = refl
 rising_stay (Write i v ws) h = let t = ordered_write i v ws h in ap (with_write i v) (rising_stay ws t.rest) ∙ placed_first i v ws t.index t.rest t.rises
 
-pub tidied_stays : (a : ArrayTerm) → ordered_array a ≡ true → tidied a ≡ a
+pub tidied_stays : (a : ArrayTerm) → ordered_array a ≡ true → tidy_array a ≡ a
 tidied_stays (Over b ws) h = ap (Over b) (ap rising_stretches (last_stays ws h) ∙ rising_stay ws h)

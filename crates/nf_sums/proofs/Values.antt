@@ -13,7 +13,7 @@ use Rattle.nf_sums.proofs.Worth.{value_worth, value-product}
 use Rattle.nf_sums.proofs.Forms.{negation_value}
 use Rattle.nf_terms.specs.Computed.{Computed, Done, Wide, Large, after, IfDone, if_small}
 use Rattle.nf_sums.specs.RawSumForms.{normal_form}
-use Rattle.nf_sums.specs.Operations.{operation, added, subtracted, multiplied}
+use Rattle.nf_sums.specs.Operations.{operation, normal_sum, normal_difference, normal_product}
 use Rattle.nf_terms.specs.Normal.{constant_sum}
 use Rattle.nf_terms.proofs.Partings.{value-sum}
 use Rattle.nf_sums.proofs.Collecting.{worth-form}
@@ -51,18 +51,18 @@ operation_is p q weight units raw x e = by_test (nat_le weight weight_limit) e
     by_test false h = absurd (cc h)
 
 module _ (w : Valuation) (p q r : Polynomial) where
-  pub added_value : added p q ≡ Done r → value_of w r ≡ value_of w p +ℤ value_of w q
+  pub added_value : normal_sum p q ≡ Done r → value_of w r ≡ value_of w p +ℤ value_of w q
   added_value e =
       sym (ap (value_of w) (operation_is p q (weight_of p + weight_of q) (size_of p + size_of q) (raw_sum p q) r e)) ∙ value_form w (raw_sum p q)
       ∙ value-sum w p q
 
-  pub subtracted_value : subtracted p q ≡ Done r → value_of w r ≡ value_of w p -ℤ value_of w q
+  pub subtracted_value : normal_difference p q ≡ Done r → value_of w r ≡ value_of w p -ℤ value_of w q
   subtracted_value e =
       let f = sym (ap (value_of w) (operation_is p q (weight_of p + weight_of q) (size_of p + size_of q) (raw_difference p q) r e))
       ∙ value_form w (raw_difference p q) ∙ value-sum w p (raw_negation q) in
       omega (arith, ints, f, negation_value w q)
 
-  pub multiplied_value : multiplied p q ≡ Done r → value_of w r ≡ value_of w p *ℤ value_of w q
+  pub multiplied_value : normal_product p q ≡ Done r → value_of w r ≡ value_of w p *ℤ value_of w q
   multiplied_value e =
       sym (ap (value_of w) (operation_is p q (weight_of p * weight_of q) (size_of p * size_of q) (raw_product p q) r e)) ∙ value_form w (raw_product p q)
       ∙ value-product w p q

@@ -7,26 +7,26 @@ use Rattle.nf_terms.specs.RawSums.{raw_sum, raw_difference, raw_negation, raw_pr
 use Rattle.nf_sums.specs.RawSumForms.{normal_form}
 
 -- whether an operation of this weight and raw size, on sides of these weights, is narrow and small
-abbrev pub checked : (left right weight units : ℕ) → Computed (Unit {0})
-checked left right weight units = if_narrow left right weight (if_small units 0 tt)
+abbrev pub within_limits : (left right weight units : ℕ) → Computed (Unit {0})
+within_limits left right weight units = if_narrow left right weight (if_small units 0 tt)
 
 -- the normal form of a raw sum, where an operation on p and q of this weight and raw size is narrow and small
 abbrev pub operation : (p q : Polynomial) → (weight units : ℕ) → Polynomial → Computed Polynomial
 operation p q weight units raw = if_narrow (weight_of p) (weight_of q) weight
     (if_small units (depth_of (normal_form raw)) (normal_form raw))
 
-abbrev pub added : Polynomial → Polynomial → Computed Polynomial
-added p q = operation p q (weight_of p + weight_of q) (size_of p + size_of q) (raw_sum p q)
+abbrev pub normal_sum : Polynomial → Polynomial → Computed Polynomial
+normal_sum p q = operation p q (weight_of p + weight_of q) (size_of p + size_of q) (raw_sum p q)
 
-abbrev pub subtracted : Polynomial → Polynomial → Computed Polynomial
-subtracted p q = operation p q (weight_of p + weight_of q) (size_of p + size_of q) (raw_difference p q)
+abbrev pub normal_difference : Polynomial → Polynomial → Computed Polynomial
+normal_difference p q = operation p q (weight_of p + weight_of q) (size_of p + size_of q) (raw_difference p q)
 
-abbrev pub multiplied : Polynomial → Polynomial → Computed Polynomial
-multiplied p q = operation p q (weight_of p * weight_of q) (size_of p * size_of q) (raw_product p q)
+abbrev pub normal_product : Polynomial → Polynomial → Computed Polynomial
+normal_product p q = operation p q (weight_of p * weight_of q) (size_of p * size_of q) (raw_product p q)
 
 -- each coefficient negated: neither too wide nor too large
-abbrev pub negated : Polynomial → Polynomial
-negated p = raw_negation p
+abbrev pub normal_negation : Polynomial → Polynomial
+normal_negation p = raw_negation p
 
 -- a number alone, where it weighs no more than a polynomial may
 abbrev pub number : ℤ → Computed Polynomial

@@ -5,7 +5,7 @@ use Rattle.nf_terms.specs.NormalTerms.{Times, Zero, Plus, Over, NoWrites, Write}
 use Rattle.nf_terms.specs.Lists.{ListTerm}
 use Rattle.nf_terms.specs.Normal.{IsNormal}
 use Rattle.nf_terms.specs.RawSums.{total}
-use Rattle.nf_terms.specs.Tidied.{tidied}
+use Rattle.nf_terms.specs.Tidied.{tidy_array}
 use Rattle.nf_sums.specs.RawSumForms.{normal_form}
 
 abbrev mutual
@@ -33,7 +33,7 @@ abbrev mutual
 
   -- the tidied form over the normal forms of indices and values
   pub settled_array : ArrayTerm → ArrayTerm
-  settled_array (Over b ws) = tidied (Over b (settled_writes ws))
+  settled_array (Over b ws) = tidy_array (Over b (settled_writes ws))
 
 -- raw sums: every bag of atoms has the same total coefficient in both, where atoms that are the same count as one
 pub record SameSum (p q : Polynomial) : Type 0 where

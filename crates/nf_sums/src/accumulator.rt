@@ -10,7 +10,7 @@ ghost use Rattle.nf_terms.specs.TermLimits.{weight_limit, size_limit};
 ghost use Rattle.nf_terms.specs.Normal.{IsNormal, ordered};
 ghost use Rattle.nf_terms.specs.RawSums.{raw_sum, IsNormalFormOf};
 ghost use Rattle.nf_terms.specs.Computed.{Answers};
-ghost use Rattle.nf_sums.specs.Operations.{added};
+ghost use Rattle.nf_sums.specs.Operations.{normal_sum};
 ghost use Rattle.nf_sums.specs.RawSumForms.{with_term, with_terms};
 ghost use Rattle.nf_sums.specs.Accumulators.{stand_before, begins_behind, begins_with, coefficient_of, with_first, with_more};
 ghost use Rattle.nf_sums.specs.Accumulators.{IsMeasured};
@@ -284,7 +284,7 @@ impl Accumulator {
     }
 
     // The sum with a polynomial, where it is narrow and small.
-    fn joined(self, alloc: Global, p: &Poly) -> Result<Accumulator, NoMemory>
+    fn add_terms(self, alloc: Global, p: &Poly) -> Result<Accumulator, NoMemory>
         requires narrow { weight_of self + weight_of p.now ≤ weight_limit }
         requires small { size_of self + size_of p.now ≤ size_limit }
         ensures { IfOk result (λ s. IsNormalFormOf s (raw_sum self p.now)) }
@@ -300,11 +300,11 @@ impl Accumulator {
     /// `Large` comes exactly where it is not and the sum of the sizes is past 4,096, and carries that sum, with depth 0.
     /// `NoMemory` comes where memory is refused.
     pub fn add(self, alloc: Global, p: &Poly) -> Result<Accumulator, NfStop>
-        ensures { Answers result (added self p.now) }
+        ensures { Answers result (normal_sum self p.now) }
     {
         let left = self.sum.weight;
         let right = p.weight();
         check_limits(left, right, left + right, self.sum.size + p.size())?;
-        Ok(self.joined(alloc, p)?)
+        Ok(self.add_terms(alloc, p)?)
     }
 }

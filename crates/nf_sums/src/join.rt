@@ -53,7 +53,7 @@ fn merged_atoms(alloc: Global, l: &[Atom], r: &[Atom]) -> Result<Vec<Atom>, NoMe
 }
 
 /// The product of two ordered monomials.
-pub fn joined(alloc: Global, l: &MonoTree, r: &MonoTree) -> Result<MonoTree, NoMemory>
+pub fn multiply_monomials(alloc: Global, l: &MonoTree, r: &MonoTree) -> Result<MonoTree, NoMemory>
     requires left { IsTrue (ordered_monomial (monomial_in l.now)) }
     requires right { IsTrue (ordered_monomial (monomial_in r.now)) }
     ensures { IfOk result (λ m. IsOrderedJoin (monomial_in l.now) (monomial_in r.now) (monomial_in m)) }

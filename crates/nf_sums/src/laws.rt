@@ -11,7 +11,7 @@ ghost use Rattle.nf_terms.specs.TermParts.{HasNormalParts};
 ghost use Rattle.nf_terms.specs.RawSums.{raw_sum, raw_difference, raw_product, raw_negation};
 ghost use Rattle.nf_sums.specs.RawSumForms.{normal_form};
 ghost use Rattle.nf_sums.specs.Sameness.{settled, settled_atom, IsFormOf, SameSum, SameArray, SameAtom, SameList};
-ghost use Rattle.nf_sums.specs.Operations.{added, subtracted, multiplied, negated, number};
+ghost use Rattle.nf_sums.specs.Operations.{normal_sum, normal_difference, normal_product, normal_negation, number};
 
 /// Normal forms that are the same are equal.
 #[tactic(auto, using(crate::proofs::Settling::equal_forms))]
@@ -35,22 +35,23 @@ pub fn same_terms_settle_alike()
 /// What the operations give is normal, and the same as the raw sum.
 #[tactic(auto, using(crate::proofs::Given::given))]
 pub fn operations_give_normal_forms()
-    ensures sum { (p q : Polynomial) → IsNormal p → IsNormal q → IfDone (added p q) (λ s. IsFormOf s (raw_sum p q)) }
+    ensures sum { (p q : Polynomial) → IsNormal p → IsNormal q → IfDone (normal_sum p q) (λ s. IsFormOf s (raw_sum p q)) }
     ensures difference { (p q : Polynomial) → IsNormal p → IsNormal q
-        → IfDone (subtracted p q) (λ s. IsFormOf s (raw_difference p q)) }
-    ensures product { (p q : Polynomial) → IsNormal p → IsNormal q → IfDone (multiplied p q) (λ s. IsFormOf s (raw_product p q)) }
-    ensures negation { (p : Polynomial) → IsNormal p → IsFormOf (negated p) (raw_negation p) }
+        → IfDone (normal_difference p q) (λ s. IsFormOf s (raw_difference p q)) }
+    ensures product { (p q : Polynomial) → IsNormal p → IsNormal q
+        → IfDone (normal_product p q) (λ s. IsFormOf s (raw_product p q)) }
+    ensures negation { (p : Polynomial) → IsNormal p → IsFormOf (normal_negation p) (raw_negation p) }
 {}
 
 /// What the operations give means what was asked, in every pair of stores.
 #[tactic(auto, using(crate::proofs::Exact::meanings))]
 pub fn operations_keep_the_meaning()
     ensures sum { (p q : Polynomial) → IsNormal p → IsNormal q
-        → IfDone (added p q) (IsNumberOf (λ w. value_of w p +ℤ value_of w q)) }
+        → IfDone (normal_sum p q) (IsNumberOf (λ w. value_of w p +ℤ value_of w q)) }
     ensures difference { (p q : Polynomial) → IsNormal p → IsNormal q
-        → IfDone (subtracted p q) (IsNumberOf (λ w. value_of w p -ℤ value_of w q)) }
+        → IfDone (normal_difference p q) (IsNumberOf (λ w. value_of w p -ℤ value_of w q)) }
     ensures product { (p q : Polynomial) → IsNormal p → IsNormal q
-        → IfDone (multiplied p q) (IsNumberOf (λ w. value_of w p *ℤ value_of w q)) }
-    ensures negation { (p : Polynomial) → IsNormal p → IsNumberOf (λ w. neg_ℤ (value_of w p)) (negated p) }
+        → IfDone (normal_product p q) (IsNumberOf (λ w. value_of w p *ℤ value_of w q)) }
+    ensures negation { (p : Polynomial) → IsNormal p → IsNumberOf (λ w. neg_ℤ (value_of w p)) (normal_negation p) }
     ensures number { (c : ℤ) → IfDone (number c) (IsNumberOf (λ w. c)) }
 {}

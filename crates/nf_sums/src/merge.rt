@@ -104,7 +104,7 @@ fn push_both(
 
 /// The sum of two ordered lists of terms, whose weights together are within the limit; the right one counts by a sign.
 #[tactic(auto, using(crate::proofs::Turns::turns))]
-pub fn merged(
+pub fn merge_terms(
     alloc: Global,
     l: &[(MonoTree, i128)],
     r: &[(MonoTree, i128)],

@@ -29,7 +29,10 @@ pub fn push_negated(
 
 /// The negation of a list of terms.
 #[tactic(auto, using(crate::proofs::Negations::negations))]
-pub fn negated(alloc: Global, terms: &[(MonoTree, i128)]) -> Result<Vec<(MonoTree, i128)>, NoMemory>
+pub fn negate_terms(
+    alloc: Global,
+    terms: &[(MonoTree, i128)],
+) -> Result<Vec<(MonoTree, i128)>, NoMemory>
     requires { weight_of (polynomial_of (map term_in terms.now)) ≤ weight_limit }
     ensures { IfOk result (λ v. polynomial_of (map term_in v.items) ≡ raw_negation (polynomial_of (map term_in terms.now))) }
 {

@@ -8,7 +8,7 @@ ghost use Rattle.nf_terms.specs.TermLimits.{weight_limit};
 ghost use Rattle.nf_terms.specs.Normal.{ordered};
 ghost use Rattle.nf_sums.specs.OrderedSums.{IsOrderedProduct};
 
-use crate::join::joined;
+use crate::join::multiply_monomials;
 use crate::owned::merged_owned;
 use nf_terms::copies::push_term;
 use nf_terms::stop::NoMemory;
@@ -53,7 +53,12 @@ fn single(
     let Some((other, factor)) = r.first() else {
         return Ok(out);
     };
-    push_product(&mut out, joined(alloc, mono, other)?, coefficient, factor)?;
+    push_product(
+        &mut out,
+        multiply_monomials(alloc, mono, other)?,
+        coefficient,
+        factor,
+    )?;
     Ok(out)
 }
 

@@ -8,12 +8,13 @@ ghost use Rattle.nf_terms.specs.TermLimits.{weight_limit, size_limit};
 ghost use Rattle.nf_terms.specs.Computed.{Answers};
 ghost use Rattle.nf_terms.specs.Normal.{IsNormal, constant_part as constant_of_polynomial, is_constant as constant};
 ghost use Rattle.nf_terms.specs.RawSums.{raw_sum, raw_difference, raw_product, IsNormalFormOf};
-ghost use Rattle.nf_sums.specs.Operations.{added, subtracted, multiplied as product_of, negated as negated_of};
+ghost use Rattle.nf_sums.specs.Operations.{normal_sum, normal_difference, normal_product as product_of};
+ghost use Rattle.nf_sums.specs.Operations.{normal_negation as negated_of};
 ghost use Rattle.nf_sums.specs.Operations.{number as number_of};
 
 use crate::limits::check_limits;
-use crate::merge::{Sign, merged};
-use crate::negation::negated;
+use crate::merge::{Sign, merge_terms};
+use crate::negation::negate_terms;
 use crate::product::multiplied;
 use nf_terms::constants::{constant_part, is_constant};
 use nf_terms::poly::Poly;
@@ -48,7 +49,7 @@ fn narrow_sum(alloc: Global, l: &Poly, r: &Poly) -> Result<Poly, NoMemory>
     requires small { size_of l.now + size_of r.now ≤ size_limit }
     ensures { IfOk result (λ p. IsNormalFormOf p (raw_sum l.now r.now)) }
 {
-    let terms = merged(alloc, l.monos(), r.monos(), Sign::Plus)?;
+    let terms = merge_terms(alloc, l.monos(), r.monos(), Sign::Plus)?;
     Ok(from_terms(terms))
 }
 
@@ -58,7 +59,7 @@ fn narrow_difference(alloc: Global, l: &Poly, r: &Poly) -> Result<Poly, NoMemory
     requires small { size_of l.now + size_of r.now ≤ size_limit }
     ensures { IfOk result (λ p. IsNormalFormOf p (raw_difference l.now r.now)) }
 {
-    let terms = merged(alloc, l.monos(), r.monos(), Sign::Minus)?;
+    let terms = merge_terms(alloc, l.monos(), r.monos(), Sign::Minus)?;
     Ok(from_terms(terms))
 }
 
@@ -78,7 +79,7 @@ fn narrow_product(alloc: Global, l: &Poly, r: &Poly) -> Result<Poly, NoMemory>
 /// `Large` comes exactly where it is not and the sum of the sizes is past 4,096, and carries that sum, with depth 0.
 /// `NoMemory` comes where memory is refused.
 pub fn add(alloc: Global, l: &Poly, r: &Poly) -> Result<Poly, NfStop>
-    ensures { Answers result (added l.now r.now) }
+    ensures { Answers result (normal_sum l.now r.now) }
 {
     let left = l.weight();
     let right = r.weight();
@@ -90,7 +91,7 @@ pub fn add(alloc: Global, l: &Poly, r: &Poly) -> Result<Poly, NfStop>
 ///
 /// `Wide` and `Large` come exactly where they come for the sum, and `NoMemory` where memory is refused.
 pub fn sub(alloc: Global, l: &Poly, r: &Poly) -> Result<Poly, NfStop>
-    ensures { Answers result (subtracted l.now r.now) }
+    ensures { Answers result (normal_difference l.now r.now) }
 {
     let left = l.weight();
     let right = r.weight();
@@ -116,7 +117,7 @@ pub fn mul(alloc: Global, l: &Poly, r: &Poly) -> Result<Poly, NfStop>
 pub fn neg(alloc: Global, p: &Poly) -> Result<Poly, NoMemory>
     ensures { IfOk result (λ n. n ≡ negated_of p.now) }
 {
-    let terms = negated(alloc, p.monos())?;
+    let terms = negate_terms(alloc, p.monos())?;
     Ok(from_terms(terms))
 }
 

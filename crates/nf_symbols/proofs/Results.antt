@@ -15,7 +15,7 @@ use Rattle.std.specs.Prelude.{nat_le, unsigned_abs}
 use Rattle.nf_terms.specs.declared.symbols.Sort.{Sort}
 use Rattle.fs_model.specs.declared.sides.Pos.{Pos}
 use Rattle.nf_sums.specs.RawSumForms.{with_atom, sorted_monomial, by_order, plus, with_term, normal_form}
-use Rattle.nf_sums.specs.Operations.{operation, added, subtracted, multiplied, number}
+use Rattle.nf_sums.specs.Operations.{operation, normal_sum, normal_difference, normal_product, number}
 use Rattle.nf_sums.proofs.Values.{small_is}
 use Rattle.nf_symbols.proofs.Passing.{front, back, together}
 
@@ -109,16 +109,16 @@ module _ (test : Pos × Sort → Bool) where
       by_test true g = sym (ap (λ z. list_all test (symbols_of z)) (small_is units (depth_of (normal_form raw)) (normal_form raw) r g)) ∙ normal_within raw h
       by_test false g = absurd (cc g)
 
-  pub added_within : (p q r : Polynomial) → list_all test (symbols_of p) ≡ true → list_all test (symbols_of q) ≡ true → added p q ≡ Done r
+  pub added_within : (p q r : Polynomial) → list_all test (symbols_of p) ≡ true → list_all test (symbols_of q) ≡ true → normal_sum p q ≡ Done r
       → list_all test (symbols_of r) ≡ true
   added_within p q r h g e = operation_within p q (weight_of p + weight_of q) (size_of p + size_of q) (raw_sum p q) r (raw_sum_within p q h g) e
 
-  pub subtracted_within : (p q r : Polynomial) → list_all test (symbols_of p) ≡ true → list_all test (symbols_of q) ≡ true → subtracted p q ≡ Done r
+  pub subtracted_within : (p q r : Polynomial) → list_all test (symbols_of p) ≡ true → list_all test (symbols_of q) ≡ true → normal_difference p q ≡ Done r
       → list_all test (symbols_of r) ≡ true
   subtracted_within p q r h g e = operation_within p q (weight_of p + weight_of q) (size_of p + size_of q)
       (raw_difference p q) r (raw_sum_within p (raw_negation q) h (negation_within q g)) e
 
-  pub multiplied_within : (p q r : Polynomial) → list_all test (symbols_of p) ≡ true → list_all test (symbols_of q) ≡ true → multiplied p q ≡ Done r
+  pub multiplied_within : (p q r : Polynomial) → list_all test (symbols_of p) ≡ true → list_all test (symbols_of q) ≡ true → normal_product p q ≡ Done r
       → list_all test (symbols_of r) ≡ true
   multiplied_within p q r h g e = operation_within p q (weight_of p * weight_of q) (size_of p * size_of q) (raw_product p q) r (product_within p q h g) e
 

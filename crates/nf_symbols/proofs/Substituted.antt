@@ -16,14 +16,15 @@ use Rattle.nf_terms.specs.declared.tree.Base.TheVariants as base
 use Rattle.nf_terms.specs.declared.tree.SeqBase.{SeqBase}
 use Rattle.nf_terms.specs.declared.tree.SeqBase.TheVariants as list
 use Rattle.nf_terms.specs.declared.form.Nf.{Nf}
-use Rattle.nf_sums.specs.Operations.{added, multiplied, number}
+use Rattle.nf_sums.specs.Operations.{normal_sum, normal_product, number}
 use Rattle.nf_sums.proofs.Values.{goes_done}
-use Rattle.nf_arrays.specs.NewAtoms.{divided, remainder_of}
+use Rattle.nf_arrays.specs.NewAtoms.{quotient_of, remainder_of}
 use Rattle.nf_arrays.specs.Writes.{write_array, read_at}
-use Rattle.nf_arrays.specs.Pushes.{pushed}
-use Rattle.nf_subst.specs.Vectors.{number_at, array_of_base, list_of_base}
-use Rattle.nf_subst.specs.Substitution.{atom_substituted, atoms_substituted, terms_substituted, writes_substituted, array_substituted, substituted}
-use Rattle.nf_subst.specs.Substitution.{items_substituted, list_substituted}
+use Rattle.nf_arrays.specs.Pushes.{list_with_item}
+use Rattle.nf_substitution.specs.Vectors.{number_at, array_of_base, list_of_base}
+use Rattle.nf_substitution.specs.Substitution.{atom_substituted, atoms_substituted, terms_substituted, writes_substituted, array_substituted}
+use Rattle.nf_substitution.specs.Substitution.{polynomial_substituted}
+use Rattle.nf_substitution.specs.Substitution.{items_substituted, list_substituted}
 use Rattle.nf_symbols.specs.SymbolTests.{LeadsTo}
 use Rattle.nf_symbols.proofs.Passing.{front, back}
 use Rattle.nf_symbols.proofs.Results.{added_within, multiplied_within, number_done_within}
@@ -44,8 +45,8 @@ module _ (from to : Pos × Sort → Bool) (v : List (Pos × Nf)) (leads : LeadsT
         read_within to s.middle t.middle r (array_over b s.middle (front from (symbols_of_array b) (symbols_of i) h) s.first)
         (sum_over i Zero t.middle (back from (symbols_of_array b) (symbols_of i) h) refl t.first) t.next
     atom_over (Quotient p q) r h e =
-        let s = goes_done (terms_substituted v p Zero) (λ x. after (terms_substituted v q Zero) (λ y. divided x y)) r e in
-        let t = goes_done (terms_substituted v q Zero) (λ y. divided s.middle y) r s.next in
+        let s = goes_done (terms_substituted v p Zero) (λ x. after (terms_substituted v q Zero) (λ y. quotient_of x y)) r e in
+        let t = goes_done (terms_substituted v q Zero) (λ y. quotient_of s.middle y) r s.next in
         quotient_within to s.middle t.middle r (sum_over p Zero s.middle (front from (symbols_of p) (symbols_of q) h) refl s.first)
         (sum_over q Zero t.middle (back from (symbols_of p) (symbols_of q) h) refl t.first) t.next
     atom_over (Remainder p q) r h e =
@@ -58,8 +59,8 @@ module _ (from to : Pos × Sort → Bool) (v : List (Pos × Nf)) (leads : LeadsT
         → atoms_substituted v m p ≡ Done r → list_all to (symbols_of r) ≡ true
     product_over One p r h g e = (let k : p ≡ r = cc e in sym (ap (λ z. list_all to (symbols_of z)) k)) ∙ g
     product_over (Times t m) p r h g e =
-        let s = goes_done (atom_substituted v t) (λ q. after (multiplied p q) (λ x. atoms_substituted v m x)) r e in
-        let u = goes_done (multiplied p s.middle) (λ x. atoms_substituted v m x) r s.next in
+        let s = goes_done (atom_substituted v t) (λ q. after (normal_product p q) (λ x. atoms_substituted v m x)) r e in
+        let u = goes_done (normal_product p s.middle) (λ x. atoms_substituted v m x) r s.next in
         product_over m u.middle r (back from (symbols_of_atom t) (symbols_of_monomial m) h)
         (multiplied_within to p s.middle u.middle g (atom_over t s.middle (front from (symbols_of_atom t) (symbols_of_monomial m) h) s.first) u.first) u.next
 
@@ -67,8 +68,8 @@ module _ (from to : Pos × Sort → Bool) (v : List (Pos × Nf)) (leads : LeadsT
         → list_all to (symbols_of r) ≡ true
     sum_over Zero s r h g e = (let k : s ≡ r = cc e in sym (ap (λ z. list_all to (symbols_of z)) k)) ∙ g
     sum_over (Plus m c p) s r h g e =
-        let x = goes_done (after (number c) (λ n. atoms_substituted v m n)) (λ q. after (added s q) (λ y. terms_substituted v p y)) r e in
-        let t = goes_done (added s x.middle) (λ y. terms_substituted v p y) r x.next in
+        let x = goes_done (after (number c) (λ n. atoms_substituted v m n)) (λ q. after (normal_sum s q) (λ y. terms_substituted v p y)) r e in
+        let t = goes_done (normal_sum s x.middle) (λ y. terms_substituted v p y) r x.next in
         let n = goes_done (number c) (λ n. atoms_substituted v m n) x.middle x.first in
         sum_over p t.middle r (back from (symbols_of_monomial m) (symbols_of p) h)
         (added_within to s x.middle t.middle g
@@ -94,7 +95,7 @@ module _ (from to : Pos × Sort → Bool) (v : List (Pos × Nf)) (leads : LeadsT
     array_over (Over c ws) r h e = writes_over ws (array_of_base v c) r (back from (symbols_of_base c) (symbols_of_writes ws) h)
         (base_over c (front from (symbols_of_base c) (symbols_of_writes ws) h)) e
 
-  pub polynomial_over : (p r : Polynomial) → list_all from (symbols_of p) ≡ true → substituted v p ≡ Done r → list_all to (symbols_of r) ≡ true
+  pub polynomial_over : (p r : Polynomial) → list_all from (symbols_of p) ≡ true → polynomial_substituted v p ≡ Done r → list_all to (symbols_of r) ≡ true
   polynomial_over p r h e = sum_over p Zero r h refl e
 
   pub array_term_over : (b r : ArrayTerm) → list_all from (symbols_of_array b) ≡ true → array_substituted v b ≡ Done r → list_all to (symbols_of_array r) ≡ true
@@ -108,8 +109,8 @@ module _ (from to : Pos × Sort → Bool) (v : List (Pos × Nf)) (leads : LeadsT
       → items_substituted v ps l ≡ Done m → list_all to (symbols_of_list m) ≡ true
   items_over [] l m h g e = (let k : l ≡ m = cc e in sym (ap (λ z. list_all to (symbols_of_list z)) k)) ∙ g
   items_over (p ∷ ps) l m h g e =
-      let s = goes_done (substituted v p) (λ q. after (pushed l q) (λ n. items_substituted v ps n)) m e in
-      let t = goes_done (pushed l s.middle) (λ n. items_substituted v ps n) m s.next in
+      let s = goes_done (polynomial_substituted v p) (λ q. after (list_with_item l q) (λ n. items_substituted v ps n)) m e in
+      let t = goes_done (list_with_item l s.middle) (λ n. items_substituted v ps n) m s.next in
       items_over ps t.middle m (back from (symbols_of p) (symbols_of_items ps) h)
       (pushed_within to l t.middle s.middle g (polynomial_over p s.middle (front from (symbols_of p) (symbols_of_items ps) h) s.first) t.first) t.next
 

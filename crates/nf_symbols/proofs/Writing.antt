@@ -8,7 +8,7 @@ use Rattle.nf_terms.specs.Lists.{ListTerm, size_of_list, depth_of_list}
 use Rattle.nf_terms.specs.Order.{same_polynomial}
 use Rattle.nf_terms.specs.Measures.{size_of, size_of_array, depth_of, depth_of_array}
 use Rattle.nf_terms.specs.Normal.{is_constant, constant_sum, is_written, last_index}
-use Rattle.nf_terms.specs.Tidied.{last_writes, goes_after, with_write, rising_stretches, tidied}
+use Rattle.nf_terms.specs.Tidied.{last_writes, goes_after, with_write, rising_stretches, tidy_array}
 use Rattle.nf_terms.specs.Symbols.{symbols_of_base, symbols_of_atom, symbols_of_monomial, symbols_of, symbols_of_writes, symbols_of_array, symbols_of_list_base}
 use Rattle.nf_terms.specs.Symbols.{symbols_of_items, symbols_of_list}
 use Rattle.nf_terms.specs.Computed.{Computed, Done}
@@ -17,9 +17,9 @@ use Rattle.fs_model.specs.declared.sides.Pos.{Pos}
 use Rattle.nf_terms.specs.declared.tree.Base.{Base}
 use Rattle.nf_terms.specs.declared.tree.Base.TheVariants as base
 use Rattle.nf_sums.proofs.Values.{small_is}
-use Rattle.nf_arrays.specs.NewAtoms.{polynomial_of_atom, new_atom, divided, remainder_of}
+use Rattle.nf_arrays.specs.NewAtoms.{polynomial_of_atom, new_atom, quotient_of, remainder_of}
 use Rattle.nf_arrays.specs.Writes.{written_last, with_last_write, write_array, are_apart, stop_at, prefix_for, last_value, read_here, read_at}
-use Rattle.nf_arrays.specs.Pushes.{with_last_item, pushed}
+use Rattle.nf_arrays.specs.Pushes.{with_last_item, list_with_item}
 use Rattle.nf_symbols.proofs.Passing.{front, back, together}
 use Rattle.nf_symbols.proofs.Results.{number_within}
 
@@ -118,7 +118,7 @@ module _ (test : Pos × Sort → Bool) where
       (behind_within ws i v (rest_within j x ws h) g k)
 
   tidied_within : (a : ArrayTerm) (i v : Polynomial) → list_all test (symbols_of_array a) ≡ true → list_all test (symbols_of i) ≡ true
-      → list_all test (symbols_of v) ≡ true → list_all test (symbols_of_array (tidied (with_last_write a i v))) ≡ true
+      → list_all test (symbols_of v) ≡ true → list_all test (symbols_of_array (tidy_array (with_last_write a i v))) ≡ true
   tidied_within (Over b ws) i v h g k =
       together test (symbols_of_base b) (symbols_of_writes (rising_stretches (last_writes (written_last ws i v))))
       (front test (symbols_of_base b) (symbols_of_writes ws) h)
@@ -130,11 +130,11 @@ module _ (test : Pos × Sort → Bool) where
   written_within a b i v h g k e =
       sym
       (ap (λ z. list_all test (symbols_of_array z))
-      (small_is (size_of_array a + 1 + size_of i + size_of v) (depth_of_array (tidied (with_last_write a i v))) (tidied (with_last_write a i v)) b e))
+      (small_is (size_of_array a + 1 + size_of i + size_of v) (depth_of_array (tidy_array (with_last_write a i v))) (tidy_array (with_last_write a i v)) b e))
       ∙ tidied_within a i v h g k
 
   -- ---- quotients and remainders
-  pub quotient_within : (p q r : Polynomial) → list_all test (symbols_of p) ≡ true → list_all test (symbols_of q) ≡ true → divided p q ≡ Done r
+  pub quotient_within : (p q r : Polynomial) → list_all test (symbols_of p) ≡ true → list_all test (symbols_of q) ≡ true → quotient_of p q ≡ Done r
       → list_all test (symbols_of r) ≡ true
   quotient_within p q r h g e = by_test (is_constant p && is_constant q) e
     where
@@ -162,7 +162,8 @@ module _ (test : Pos × Sort → Bool) where
       together test (symbols_of q) (symbols_of_items (ps ++ p ∷ [])) (front test (symbols_of q) (symbols_of_items ps) h)
       (items_within ps p (back test (symbols_of q) (symbols_of_items ps) h) g)
 
-  pub pushed_within : (l m : ListTerm) (p : Polynomial) → list_all test (symbols_of_list l) ≡ true → list_all test (symbols_of p) ≡ true → pushed l p ≡ Done m
+  pub pushed_within : (l m : ListTerm) (p : Polynomial) → list_all test (symbols_of_list l) ≡ true → list_all test (symbols_of p) ≡ true
+      → list_with_item l p ≡ Done m
       → list_all test (symbols_of_list m) ≡ true
   pushed_within l m p h g e =
       sym

@@ -8,7 +8,7 @@ use Rattle.nf_terms.specs.declared.symbols.Sort.{Sort}
 use Rattle.nf_terms.specs.declared.symbols.Sort.TheVariants as sort
 use Rattle.fs_model.specs.declared.sides.Pos.{Pos}
 use Rattle.nf_terms.specs.declared.form.Nf.{Nf}
-use Rattle.nf_subst.specs.Vectors.{number_at, array_form, list_at}
+use Rattle.nf_substitution.specs.Vectors.{number_at, array_form, list_at}
 
 -- two valuations agree on the symbols that pass
 pub record AgreeAt (test : Pos × Sort → Bool) (v w : Valuation) : Type 0 where

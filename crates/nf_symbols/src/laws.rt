@@ -11,8 +11,8 @@ ghost use Rattle.nf_terms.specs.Computed.{Done};
 ghost use Rattle.nf_terms.specs.declared.symbols.Sort.{Sort};
 ghost use Rattle.fs_model.specs.declared.sides.Pos.{Pos};
 ghost use Rattle.nf_terms.specs.declared.form.Nf.{Nf};
-ghost use Rattle.nf_sums.specs.Operations.{added, subtracted, multiplied};
-ghost use Rattle.nf_subst.specs.Substitution.{substituted, array_substituted, list_substituted};
+ghost use Rattle.nf_sums.specs.Operations.{normal_sum, normal_difference, normal_product};
+ghost use Rattle.nf_substitution.specs.Substitution.{polynomial_substituted, array_substituted, list_substituted};
 ghost use Rattle.nf_symbols.specs.SymbolTests.{AgreeAt, LeadsTo, is_other};
 
 /// What a term means depends on its symbols, each as it is used, and on no others.
@@ -28,17 +28,17 @@ pub fn symbols_decide_the_meaning()
 /// Sums, differences and products have no other symbols than their operands.
 pub fn operations_add_no_symbols()
     ensures sum { (test : Pos × Sort → Bool) (p q r : Polynomial) → list_all test (symbols_of p) ≡ true
-        → list_all test (symbols_of q) ≡ true → added p q ≡ Done r → list_all test (symbols_of r) ≡ true }
+        → list_all test (symbols_of q) ≡ true → normal_sum p q ≡ Done r → list_all test (symbols_of r) ≡ true }
     ensures difference { (test : Pos × Sort → Bool) (p q r : Polynomial) → list_all test (symbols_of p) ≡ true
-        → list_all test (symbols_of q) ≡ true → subtracted p q ≡ Done r → list_all test (symbols_of r) ≡ true }
+        → list_all test (symbols_of q) ≡ true → normal_difference p q ≡ Done r → list_all test (symbols_of r) ≡ true }
     ensures product { (test : Pos × Sort → Bool) (p q r : Polynomial) → list_all test (symbols_of p) ≡ true
-        → list_all test (symbols_of q) ≡ true → multiplied p q ≡ Done r → list_all test (symbols_of r) ≡ true }
+        → list_all test (symbols_of q) ≡ true → normal_product p q ≡ Done r → list_all test (symbols_of r) ≡ true }
 {}
 
 /// A substituted term has the symbols that the vector's forms have at the term's symbols, and no others.
 pub fn substitution_leads_to_the_vectors_symbols()
     ensures numbers { (from to : Pos × Sort → Bool) (v : List (Pos × Nf)) (p r : Polynomial) → LeadsTo from to v
-        → list_all from (symbols_of p) ≡ true → substituted v p ≡ Done r → list_all to (symbols_of r) ≡ true }
+        → list_all from (symbols_of p) ≡ true → polynomial_substituted v p ≡ Done r → list_all to (symbols_of r) ≡ true }
     ensures arrays { (from to : Pos × Sort → Bool) (v : List (Pos × Nf)) (a b : ArrayTerm) → LeadsTo from to v
         → list_all from (symbols_of_array a) ≡ true → array_substituted v a ≡ Done b → list_all to (symbols_of_array b) ≡ true }
     ensures lists { (from to : Pos × Sort → Bool) (v : List (Pos × Nf)) (l m : ListTerm) → LeadsTo from to v

@@ -11,25 +11,25 @@ use Rattle.nf_terms.specs.TermKeys.{key_atom, key_monomial, key_polynomial, key_
 use Rattle.nf_terms.specs.TermKeys.{polynomial_by_key, array_by_key, atom_ties, monomial_ties, polynomial_ties, array_ties}
 
 -- an order by keys is total, where what ties is the same
-pub keyed : {T : Type 0} (cmp : T → T → Ordering) (key : T → Key) → ((x y : T) → cmp x y ≡ cmp_key (key x) (key y))
+pub total_by_keys : {T : Type 0} (cmp : T → T → Ordering) (key : T → Key) → ((x y : T) → cmp x y ≡ cmp_key (key x) (key y))
     → ((x y : T) → cmp x y ≡ Equal → x ≡ y) → IsTotalOrder cmp
-keyed cmp key same ties = record {
+total_by_keys cmp key same ties = record {
   antisymm = λ x y. same x y ∙ key_reverse (key x) (key y) ∙ ap ordering_reverse (sym (same y x));
   trans = λ x y z p q. same x z ∙ key_trans (key x) (key y) (key z) (sym (same x y) ∙ p) (sym (same y z) ∙ q);
   congr = λ x y z e. ap (λ t. cmp t z) (ties x y e);
 }
 
 pub atoms_total : IsTotalOrder cmp_atom
-atoms_total = keyed cmp_atom key_atom atom_by_key atom_ties
+atoms_total = total_by_keys cmp_atom key_atom atom_by_key atom_ties
 
 pub monomials_total : IsTotalOrder cmp_monomial
-monomials_total = keyed cmp_monomial key_monomial monomial_by_key monomial_ties
+monomials_total = total_by_keys cmp_monomial key_monomial monomial_by_key monomial_ties
 
 pub polynomials_total : IsTotalOrder cmp_polynomial
-polynomials_total = keyed cmp_polynomial key_polynomial polynomial_by_key polynomial_ties
+polynomials_total = total_by_keys cmp_polynomial key_polynomial polynomial_by_key polynomial_ties
 
 pub arrays_total : IsTotalOrder cmp_array
-arrays_total = keyed cmp_array key_array array_by_key array_ties
+arrays_total = total_by_keys cmp_array key_array array_by_key array_ties
 
 pub polynomials_equal : IsEquivalence (eq_by_cmp cmp_polynomial)
 polynomials_equal = eq_by_cmp_equiv polynomials_total

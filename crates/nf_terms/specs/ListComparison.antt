@@ -8,7 +8,7 @@ use Rattle.nf_terms.specs.NormalTerms.{Polynomial}
 use Rattle.nf_terms.specs.Lists.{ListTerm, cmp_list_base, cmp_items, cmp_list}
 use Rattle.nf_terms.specs.Keys.{Key, Leaf, Node, cmp_key, key_ties}
 use Rattle.nf_terms.specs.TermKeys.{key_pos, key_polynomial, inj_pos, inj_polynomial, both, pos_by_key, polynomial_by_key}
-use Rattle.nf_terms.specs.Comparison.{keyed}
+use Rattle.nf_terms.specs.Comparison.{total_by_keys}
 use Rattle.nf_terms.specs.declared.tree.SeqBase.{SeqBase}
 use Rattle.nf_terms.specs.declared.tree.SeqBase.TheVariants as base
 
@@ -61,7 +61,7 @@ pub list_ties : (x y : ListTerm) → cmp_list x y ≡ Equal → x ≡ y
 list_ties x y e = inj_list x y (key_ties (key_list x) (key_list y) (sym (list_by_key x y) ∙ e))
 
 pub lists_total : IsTotalOrder cmp_list
-lists_total = keyed cmp_list key_list list_by_key list_ties
+lists_total = total_by_keys cmp_list key_list list_by_key list_ties
 
 pub lists_equal : IsEquivalence (eq_by_cmp cmp_list)
 lists_equal = eq_by_cmp_equiv lists_total

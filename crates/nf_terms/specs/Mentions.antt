@@ -1,19 +1,11 @@
 -- Which symbols a term mentions.
-use Rattle.std.specs.Prelude.{Bool, true, false, ◌||◌, ◌&&◌, ◌==◌}
+use Rattle.std.specs.Prelude.{Bool, false, ◌||◌, ◌&&◌, ◌==◌}
 use Rattle.nf_terms.specs.NormalTerms.{Atom, Monomial, Polynomial, ArrayTerm, Writes, Symbol, Read, Quotient, Remainder, One}
 use Rattle.nf_terms.specs.NormalTerms.{Times, Zero, Plus, Over, NoWrites, Write}
-use Rattle.fs_model.specs.declared.sides.Side.{Side}
-use Rattle.fs_model.specs.declared.sides.Side.TheVariants.{Left, Right}
 use Rattle.fs_model.specs.declared.sides.Pos.{Pos}
+use Rattle.fs_model.specs.Sides.{same_side}
 use Rattle.nf_terms.specs.declared.tree.Base.{Base}
 use Rattle.nf_terms.specs.declared.tree.Base.TheVariants as base
-
--- whether two sides are the same
-abbrev pub same_side : Side → Side → Bool
-same_side Left Left = true
-same_side Left Right = false
-same_side Right Left = false
-same_side Right Right = true
 
 -- whether two symbols are the same
 abbrev pub same_pos : Pos → Pos → Bool

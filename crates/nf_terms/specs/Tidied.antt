@@ -23,5 +23,5 @@ rising_stretches NoWrites = NoWrites
 rising_stretches (Write i v ws) = with_write i v (rising_stretches ws)
 
 -- the writes that count, each stretch in rising order
-abbrev pub tidied : ArrayTerm → ArrayTerm
-tidied (Over b ws) = Over b (rising_stretches (last_writes ws))
+abbrev pub tidy_array : ArrayTerm → ArrayTerm
+tidy_array (Over b ws) = Over b (rising_stretches (last_writes ws))

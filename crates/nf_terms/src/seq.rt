@@ -68,7 +68,7 @@ fn see_normal(items: &[Poly])
 }
 
 // Copies of items.
-fn copied(alloc: Global, items: &[Poly]) -> Result<Vec<Poly>, NoMemory>
+fn copy_items(alloc: Global, items: &[Poly]) -> Result<Vec<Poly>, NoMemory>
     ensures { IfOk result (λ v. v.items ≡ items.now) }
 {
     let mut out = Vec::with_capacity(alloc, items.len())?;
@@ -228,7 +228,7 @@ impl Seq {
     {
         Ok(Seq {
             base: self.base,
-            items: copied(alloc, &self.items)?,
+            items: copy_items(alloc, &self.items)?,
         })
     }
 

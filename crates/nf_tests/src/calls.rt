@@ -6,7 +6,7 @@ use crate::forms::{form, normal, sum, written_form};
 use crate::trees::Tree;
 use crate::trouble::Trouble;
 use nf_bank::bank::{AtomId, Bank};
-use nf_subst::vector::Vector;
+use nf_substitution::vector::Vector;
 use nf_terms::coefficients::{Change, part_with_atoms, with_coefficients};
 use nf_terms::form::Nf;
 use nf_terms::order::is_same_atom;

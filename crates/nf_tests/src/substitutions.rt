@@ -3,8 +3,8 @@
 use crate::forms::form;
 use crate::trees::position;
 use crate::trouble::Trouble;
-use nf_subst::subst::{Subst, subst_arr, subst_poly, subst_seq};
-use nf_subst::vector::Vector;
+use nf_substitution::subst::{Subst, subst_arr, subst_poly, subst_seq};
+use nf_substitution::vector::Vector;
 use nf_terms::form::Nf;
 use nf_terms::stop::NfStop;
 use std::alloc::Global;

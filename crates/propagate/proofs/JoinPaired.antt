@@ -15,11 +15,12 @@ use Rattle.nf_terms.specs.declared.symbols.Sort.TheVariants as term
 use Rattle.fs_model.specs.declared.sides.Pos.{Pos}
 use Rattle.nf_terms.specs.declared.form.Nf.{Nf}
 use Rattle.nf_terms.specs.declared.form.Nf.TheVariants.{Num, Arr, Seq}
-use Rattle.nf_sums.specs.Operations.{added, subtracted}
+use Rattle.nf_terms.specs.TermSorts.{same_term_sort}
+use Rattle.nf_sums.specs.Operations.{normal_sum, normal_difference}
 use Rattle.nf_sums.proofs.Values.{goes_done}
-use Rattle.nf_subst.specs.Vectors.{same_sort, number_at}
-use Rattle.nf_subst.specs.Substitution.{substituted}
-use Rattle.nf_subst.specs.SamePlaces.{sorts_equal}
+use Rattle.nf_substitution.specs.Vectors.{number_at}
+use Rattle.nf_substitution.specs.Substitution.{polynomial_substituted}
+use Rattle.nf_substitution.specs.SamePlaces.{sorts_equal}
 use Rattle.nf_rel.specs.Literals.{NormalLiteral}
 use Rattle.sym_paths.specs.Execution.{Post}
 use Rattle.sym_facts.specs.Facts.{FactPosition, Fact, IsFact, sort_of_terms, form_or_symbol, vector_of, has_its_sort, may_be_kept}
@@ -28,7 +29,8 @@ use Rattle.sym_facts.specs.Pairings.{is_position, form_within, IsFactOf}
 use Rattle.sym_facts.specs.FactParts.{are_distinct_positions, IsKept}
 use Rattle.sym_facts.proofs.Vectors.{positions_again}
 use Rattle.sym_facts.proofs.Kept.{form_sort as one_of_kept}
-use Rattle.propagate.specs.Joins.{Freed, symbol_like, number_tied_to, number_tied, is_alike, form_tied, tied, with_equation, freed_with, position_joined}
+use Rattle.propagate.specs.Joins.{Freed, symbol_like, number_tied_to, number_tied, is_alike, form_tied, tied_equation, with_equation, freed_with}
+use Rattle.propagate.specs.Joins.{position_joined}
 use Rattle.propagate.specs.Joins.{is_among, positions_joined, join}
 use Rattle.propagate.specs.JoinSteps.{joined_from, literals_from}
 use Rattle.propagate.proofs.JoinTurns.{made, join_in_turn}
@@ -53,21 +55,23 @@ module _ (v : List (Pos × Nf)) where
   tie_sort p t q (Arr a) later x next e = next e
   tie_sort p t q (Seq l) later x next e = next e
   tie_sort p t q (Num u) later x next e =
-      let i = goes_done (subtracted t u)
-      (λ d. after (subtracted (number_at v p) (number_at v q))
-      (λ c. after (substituted v d) (λ s. cond (same_polynomial c s) (after (added (polynomial_of_symbol q) d) (λ z. Done (Some (Num z)))) later)))
+      let i = goes_done (normal_difference t u)
+      (λ d. after (normal_difference (number_at v p) (number_at v q))
+      (λ c. after (polynomial_substituted v d)
+      (λ s. cond (same_polynomial c s) (after (normal_sum (polynomial_of_symbol q) d) (λ z. Done (Some (Num z)))) later)))
       (Some x) e in
-      let j = goes_done (subtracted (number_at v p) (number_at v q))
-      (λ c. after (substituted v i.middle) (λ s. cond (same_polynomial c s) (after (added (polynomial_of_symbol q) i.middle) (λ z. Done (Some (Num z)))) later))
+      let j = goes_done (normal_difference (number_at v p) (number_at v q))
+      (λ c. after (polynomial_substituted v i.middle)
+      (λ s. cond (same_polynomial c s) (after (normal_sum (polynomial_of_symbol q) i.middle) (λ z. Done (Some (Num z)))) later))
       (Some x) i.next in
-      let k = goes_done (substituted v i.middle)
-      (λ s. cond (same_polynomial j.middle s) (after (added (polynomial_of_symbol q) i.middle) (λ z. Done (Some (Num z)))) later) (Some x) j.next in
+      let k = goes_done (polynomial_substituted v i.middle)
+      (λ s. cond (same_polynomial j.middle s) (after (normal_sum (polynomial_of_symbol q) i.middle) (λ z. Done (Some (Num z)))) later) (Some x) j.next in
       by_test i.middle (same_polynomial j.middle k.middle) k.next
     where
-      by_test : (d : Polynomial) (b : Bool) → cond {A = Computed (Option Nf)} b (after (added (polynomial_of_symbol q) d) (λ z. Done (Some (Num z)))) later
+      by_test : (d : Polynomial) (b : Bool) → cond {A = Computed (Option Nf)} b (after (normal_sum (polynomial_of_symbol q) d) (λ z. Done (Some (Num z)))) later
           ≡ Done (Some x) → sort_of_form x ≡ term.Scalar
       by_test d true g =
-          let z = goes_done (added (polynomial_of_symbol q) d) (λ y. Done (Some (Num y))) (Some x) g in
+          let z = goes_done (normal_sum (polynomial_of_symbol q) d) (λ y. Done (Some (Num y))) (Some x) g in
           let y : Num z.middle ≡ x = cc z.next in
           sym (ap sort_of_form y)
       by_test d false g = next g
@@ -87,15 +91,15 @@ module _ (v : List (Pos × Nf)) where
           sym (ap sort_of_form y) ∙ sort_like f.pos t
       by_test false g next = next g
 
-  tied_sort : (p : Pos) (t : Nf) (fs : List Freed) (x : Nf) → tied v p t fs ≡ Done (Some x) → sort_of_form x ≡ sort_of_form t
+  tied_sort : (p : Pos) (t : Nf) (fs : List Freed) (x : Nf) → tied_equation v p t fs ≡ Done (Some x) → sort_of_form x ≡ sort_of_form t
   tied_sort p (Num t) fs x e = number_sort p t fs x e
   tied_sort p (Arr a) fs x e = form_sort p (Arr a) fs x (let k : form_tied v p (Arr a) fs ≡ Some x = cc e in k)
   tied_sort p (Seq l) fs x e = form_sort p (Seq l) fs x (let k : form_tied v p (Seq l) fs ≡ Some x = cc e in k)
 
-  still_sort : (s : Sort) (p : Pos) (t : Nf) (fs : List Freed) (o : Option Nf) → tied v p t fs ≡ Done o → has_its_sort s (Some t) ≡ true
+  still_sort : (s : Sort) (p : Pos) (t : Nf) (fs : List Freed) (o : Option Nf) → tied_equation v p t fs ≡ Done o → has_its_sort s (Some t) ≡ true
       → has_its_sort s o ≡ true
   still_sort s p t fs None e h = refl
-  still_sort s p t fs (Some x) e h = ap (same_sort (sort_of_terms s)) (tied_sort p t fs x e) ∙ h
+  still_sort s p t fs (Some x) e h = ap (same_term_sort (sort_of_terms s)) (tied_sort p t fs x e) ∙ h
 
   abbrev AllSorts : List FactPosition → Type 0
   AllSorts qs = list_all (λ q. has_its_sort q.sort q.equation) qs ≡ true
@@ -112,7 +116,7 @@ module _ (v : List (Pos × Nf)) where
       let k : p ∷ t.middle ≡ qs = cc t.next in
       subst AllSorts k (and_from _ _ h (next fs t.middle t.first))
   sorts_step true p (Some f) s fs later qs h next e =
-      let i = goes_done (tied v p.pos f fs) (λ r. after (later (freed_with p.pos f r fs)) (λ rest. Done (with_equation p r ∷ rest))) qs e in
+      let i = goes_done (tied_equation v p.pos f fs) (λ r. after (later (freed_with p.pos f r fs)) (λ rest. Done (with_equation p r ∷ rest))) qs e in
       let t = goes_done (later (freed_with p.pos f i.middle fs)) (λ rest. Done (with_equation p i.middle ∷ rest)) qs i.next in
       let k : with_equation p i.middle ∷ t.middle ≡ qs = cc t.next in
       subst AllSorts k

@@ -10,9 +10,9 @@ use Rattle.nf_terms.specs.declared.symbols.Sort.TheVariants as term
 use Rattle.fs_model.specs.declared.sides.Pos.{Pos}
 use Rattle.nf_terms.specs.declared.form.Nf.{Nf}
 use Rattle.nf_terms.specs.declared.form.Nf.TheVariants.{Num, Arr, Seq}
-use Rattle.nf_sums.specs.Operations.{added, subtracted}
-use Rattle.nf_subst.specs.Vectors.{number_at}
-use Rattle.nf_subst.specs.Substitution.{substituted}
+use Rattle.nf_sums.specs.Operations.{normal_sum, normal_difference}
+use Rattle.nf_substitution.specs.Vectors.{number_at}
+use Rattle.nf_substitution.specs.Substitution.{polynomial_substituted}
 use Rattle.nf_symbols.proofs.Results.{added_within, subtracted_within}
 use Rattle.sym_paths.specs.Execution.{Post}
 use Rattle.sym_facts.specs.Facts.{FactPosition, Fact}
@@ -41,8 +41,9 @@ module _ (test : Pos × TermSort → Bool) (Q : Pos → Type 0) where
   own_symbol_within q (Seq t) h = and_from (test (q, term.List)) true h refl
 
   module _ (v : List (Pos × Nf)) where
-    numbers : (p q : Pos) (t x d e s r : Polynomial) → Freeable p (Num t) → Freeable q (Num x) → Q q → subtracted t x ≡ Done d
-        → subtracted (number_at v p) (number_at v q) ≡ Done e → substituted v d ≡ Done s → e ≡ s → added (polynomial_of_symbol q) d ≡ Done r
+    numbers : (p q : Pos) (t x d e s r : Polynomial) → Freeable p (Num t) → Freeable q (Num x) → Q q → normal_difference t x ≡ Done d
+        → normal_difference (number_at v p) (number_at v q) ≡ Done e → polynomial_substituted v d ≡ Done s → e ≡ s
+        → normal_sum (polynomial_of_symbol q) d ≡ Done r
         → Inside p (Some (Num r))
     numbers p q t x d e s r hp hq free_q hd he hs same hr =
         added_within test (polynomial_of_symbol q) d r (own_symbol_within q (Num t) (hq.1 free_q)) (subtracted_within test t x d hp.0 hq.0 hd) hr

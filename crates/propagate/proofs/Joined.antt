@@ -16,27 +16,29 @@ use Rattle.nf_terms.specs.Computed.{Computed, Done, after}
 use Rattle.fs_model.specs.declared.sides.Pos.{Pos}
 use Rattle.nf_terms.specs.declared.form.Nf.{Nf}
 use Rattle.nf_terms.specs.declared.form.Nf.TheVariants.{Num, Arr, Seq}
-use Rattle.nf_sums.specs.Operations.{added, subtracted}
+use Rattle.nf_sums.specs.Operations.{normal_sum, normal_difference}
 use Rattle.nf_sums.proofs.Values.{goes_done, added_value, subtracted_value}
 use Rattle.nf_sums.proofs.Constants.{equal_of_same}
-use Rattle.nf_subst.specs.Vectors.{number_at, array_form, list_at, meaning}
-use Rattle.nf_subst.specs.Substitution.{substituted}
-use Rattle.nf_subst.proofs.Values.{substituted_value}
+use Rattle.nf_substitution.specs.Vectors.{number_at, array_form, list_at, vector_meaning}
+use Rattle.nf_substitution.specs.Substitution.{polynomial_substituted}
+use Rattle.nf_substitution.proofs.Values.{substituted_value}
 use Rattle.nf_rel.specs.Literals.{NormalLiteral, is_true_in, all_true_in}
 use Rattle.sym_paths.specs.Sequences.{each}
 use Rattle.sym_paths.specs.Execution.{Post}
 use Rattle.sym_facts.specs.Facts.{FactPosition, Fact, EquationHolds, EquationsHold, HoldsIn}
 use Rattle.sym_facts.specs.Entailment.{form_like, equation_met, literal_met, false_places, Missing, entails}
 use Rattle.sym_facts.proofs.FactVectors.{symbol_value}
-use Rattle.propagate.specs.Joins.{Freed, symbol_like, number_tied_to, number_tied, is_alike, form_tied, tied, with_equation, freed_with, position_joined}
+use Rattle.propagate.specs.Joins.{Freed, symbol_like, number_tied_to, number_tied, is_alike, form_tied, tied_equation, with_equation, freed_with}
+use Rattle.propagate.specs.Joins.{position_joined}
 use Rattle.propagate.specs.Joins.{is_among, positions_joined, literals_kept, join}
 use Rattle.propagate.proofs.Arriving.{forms_equal, equation_true, one_literal_true}
 use Rattle.propagate.proofs.Passes.{FreePass, AllEquations, free_asked, equations_hold}
 
 -- E is to hold of the new equations; P is known of the position of an equation that fails, and Q of one that is freed
 module _ (v : List (Pos × Nf)) (P : Pos → Nf → Type 0) (Q : Pos → Type 0) (E : Pos → Option Nf → Type 0)
-    (number_ties : (p q : Pos) (t x d e s r : Polynomial) → P p (Num t) → P q (Num x) → Q q → subtracted t x ≡ Done d
-    → subtracted (number_at v p) (number_at v q) ≡ Done e → substituted v d ≡ Done s → e ≡ s → added (polynomial_of_symbol q) d ≡ Done r → E p (Some (Num r)))
+    (number_ties : (p q : Pos) (t x d e s r : Polynomial) → P p (Num t) → P q (Num x) → Q q → normal_difference t x ≡ Done d
+    → normal_difference (number_at v p) (number_at v q) ≡ Done e → polynomial_substituted v d ≡ Done s → e ≡ s → normal_sum (polynomial_of_symbol q) d ≡ Done r
+    → E p (Some (Num r)))
     (form_ties : (p q : Pos) (t : Nf) → P p t → P q t → Q q → form_like v p t ≡ form_like v q t → E p (Some (symbol_like q t)))
     (free : (p : Pos) → E p None) where
   abbrev pub AllFreed : List Freed → Type 0
@@ -50,28 +52,32 @@ module _ (v : List (Pos × Nf)) (P : Pos → Nf → Type 0) (Q : Pos → Type 0)
   number_to : (p : Pos) (t : Polynomial) (q : Pos) (o : Nf) (later : Computed (Option Nf)) (r : Nf) → P p (Num t) → P q o → Q q
       → (later ≡ Done (Some r) → E p (Some r)) → number_tied_to v p t q o later ≡ Done (Some r) → E p (Some r)
   number_to p t q (Num x) later r hp hq free_q next e =
-      let i = goes_done (subtracted t x)
-      (λ d. after (subtracted (number_at v p) (number_at v q))
-      (λ c. after (substituted v d) (λ s. cond (same_polynomial c s) (after (added (polynomial_of_symbol q) d) (λ z. Done (Some (Num z)))) later)))
+      let i = goes_done (normal_difference t x)
+      (λ d. after (normal_difference (number_at v p) (number_at v q))
+      (λ c. after (polynomial_substituted v d)
+      (λ s. cond (same_polynomial c s) (after (normal_sum (polynomial_of_symbol q) d) (λ z. Done (Some (Num z)))) later)))
       (Some r) e in
-      let j = goes_done (subtracted (number_at v p) (number_at v q))
-      (λ c. after (substituted v i.middle) (λ s. cond (same_polynomial c s) (after (added (polynomial_of_symbol q) i.middle) (λ z. Done (Some (Num z)))) later))
+      let j = goes_done (normal_difference (number_at v p) (number_at v q))
+      (λ c. after (polynomial_substituted v i.middle)
+      (λ s. cond (same_polynomial c s) (after (normal_sum (polynomial_of_symbol q) i.middle) (λ z. Done (Some (Num z)))) later))
       (Some r) i.next in
-      let k = goes_done (substituted v i.middle)
-      (λ s. cond (same_polynomial j.middle s) (after (added (polynomial_of_symbol q) i.middle) (λ z. Done (Some (Num z)))) later) (Some r) j.next in
+      let k = goes_done (polynomial_substituted v i.middle)
+      (λ s. cond (same_polynomial j.middle s) (after (normal_sum (polynomial_of_symbol q) i.middle) (λ z. Done (Some (Num z)))) later) (Some r) j.next in
       compared i.middle j.middle k.middle i.first j.first k.first k.next
     where
-      by_test : (d c s : Polynomial) → subtracted t x ≡ Done d → subtracted (number_at v p) (number_at v q) ≡ Done c → substituted v d ≡ Done s → (m : Bool)
+      by_test : (d c s : Polynomial) → normal_difference t x ≡ Done d → normal_difference (number_at v p) (number_at v q) ≡ Done c
+          → polynomial_substituted v d ≡ Done s → (m : Bool)
           → same_polynomial c s ≡ m
-          → cond {A = Computed (Option Nf)} m (after (added (polynomial_of_symbol q) d) (λ z. Done (Some (Num z)))) later ≡ Done (Some r) → E p (Some r)
+          → cond {A = Computed (Option Nf)} m (after (normal_sum (polynomial_of_symbol q) d) (λ z. Done (Some (Num z)))) later ≡ Done (Some r) → E p (Some r)
       by_test d c s hd hc hs true m g =
-          let z = goes_done (added (polynomial_of_symbol q) d) (λ y. Done (Some (Num y))) (Some r) g in
+          let z = goes_done (normal_sum (polynomial_of_symbol q) d) (λ y. Done (Some (Num y))) (Some r) g in
           let y : Num z.middle ≡ r = cc z.next in
           subst (λ a. E p (Some a)) y (number_ties p q t x d c s z.middle hp hq free_q hd hc hs (equal_of_same c s m) z.first)
       by_test d c s hd hc hs false m g = next g
 
-      compared : (d c s : Polynomial) → subtracted t x ≡ Done d → subtracted (number_at v p) (number_at v q) ≡ Done c → substituted v d ≡ Done s
-          → cond {A = Computed (Option Nf)} (same_polynomial c s) (after (added (polynomial_of_symbol q) d) (λ z. Done (Some (Num z)))) later
+      compared : (d c s : Polynomial) → normal_difference t x ≡ Done d → normal_difference (number_at v p) (number_at v q) ≡ Done c
+          → polynomial_substituted v d ≡ Done s
+          → cond {A = Computed (Option Nf)} (same_polynomial c s) (after (normal_sum (polynomial_of_symbol q) d) (λ z. Done (Some (Num z)))) later
           ≡ Done (Some r) → E p (Some r)
       compared d c s hd hc hs g = by_test d c s hd hc hs (same_polynomial c s) refl g
   number_to p t q (Arr x) later r hp hq free_q next e = next e
@@ -95,7 +101,7 @@ module _ (v : List (Pos × Nf)) (P : Pos → Nf → Type 0) (Q : Pos → Type 0)
           subst (λ a. E p (Some a)) y (form_ties p f.pos t hp (subst (P f.pos) (sym i) h.0.0) h.0.1 (j ∙ sym (ap (form_like v f.pos) i)))
       by_test false m g next = next g
 
-  tied_holds : (p : Pos) (t : Nf) (fs : List Freed) (o : Option Nf) → P p t → AllFreed fs → tied v p t fs ≡ Done o → E p o
+  tied_holds : (p : Pos) (t : Nf) (fs : List Freed) (o : Option Nf) → P p t → AllFreed fs → tied_equation v p t fs ≡ Done o → E p o
   tied_holds p t fs None hp h e = free p
   tied_holds p (Num t) fs (Some r) hp h e = number_tied_holds p t fs r hp h e
   tied_holds p (Arr a) fs (Some r) hp h e = form_tied_holds p (Arr a) fs r hp h (let k : form_tied v p (Arr a) fs ≡ Some r = cc e in k)
@@ -128,7 +134,7 @@ module _ (v : List (Pos × Nf)) (P : Pos → Nf → Type 0) (Q : Pos → Type 0)
   by_position p false o s fs later qs h g next e m = kept p fs later qs (subst (E p.pos) (sym s) h) g next e m
   by_position p true None s fs later qs h g next e m = kept p fs later qs (subst (E p.pos) (sym s) (free p.pos)) g next e m
   by_position p true (Some t) s fs later qs h g next e m =
-      let i = goes_done (tied v p.pos t fs) (λ r. after (later (freed_with p.pos t r fs)) (λ rest. Done (with_equation p r ∷ rest))) qs e in
+      let i = goes_done (tied_equation v p.pos t fs) (λ r. after (later (freed_with p.pos t r fs)) (λ rest. Done (with_equation p r ∷ rest))) qs e in
       let j = goes_done (later (freed_with p.pos t i.middle fs)) (λ rest. Done (with_equation p i.middle ∷ rest)) qs i.next in
       let k : with_equation p i.middle ∷ j.middle ≡ qs = cc j.next in
       let n : FreePass (λ s. Q) (with_equation p i.middle ∷ j.middle) = subst (FreePass (λ s. Q)) (sym k) m in
@@ -180,8 +186,9 @@ module _ (w : Valuation) (v : List (Pos × Nf)) where
   abbrev Old : Pos → Nf → Type 0
   Old p o = EquationHolds w p (Some o)
 
-  old_numbers : (p q : Pos) (t x d e s r : Polynomial) → Old p (Num t) → Old q (Num x) → Unit {0} → subtracted t x ≡ Done d
-      → subtracted (number_at v p) (number_at v q) ≡ Done e → substituted v d ≡ Done s → e ≡ s → added (polynomial_of_symbol q) d ≡ Done r
+  old_numbers : (p q : Pos) (t x d e s r : Polynomial) → Old p (Num t) → Old q (Num x) → Unit {0} → normal_difference t x ≡ Done d
+      → normal_difference (number_at v p) (number_at v q) ≡ Done e → polynomial_substituted v d ≡ Done s → e ≡ s
+      → normal_sum (polynomial_of_symbol q) d ≡ Done r
       → w.scalar p ≡ value_of w r
   old_numbers p q t x d e s r hp hq u hd he hs same hr =
       let i : w.scalar p ≡ value_of w t = hp in
@@ -242,12 +249,12 @@ module _ (w : Valuation) (post : Post) where
   abbrev Arrives : Pos → Nf → Type 0
   Arrives p o = Unit {0}
 
-  new_numbers : (p q : Pos) (t x d e s r : Polynomial) → Arrives p (Num t) → Arrives q (Num x) → Unit {0} → subtracted t x ≡ Done d
-      → subtracted (number_at post.vector p) (number_at post.vector q) ≡ Done e → substituted post.vector d ≡ Done s → e ≡ s
-      → added (polynomial_of_symbol q) d ≡ Done r
-      → (meaning post.vector w).scalar p ≡ value_of (meaning post.vector w) r
+  new_numbers : (p q : Pos) (t x d e s r : Polynomial) → Arrives p (Num t) → Arrives q (Num x) → Unit {0} → normal_difference t x ≡ Done d
+      → normal_difference (number_at post.vector p) (number_at post.vector q) ≡ Done e → polynomial_substituted post.vector d ≡ Done s → e ≡ s
+      → normal_sum (polynomial_of_symbol q) d ≡ Done r
+      → (vector_meaning post.vector w).scalar p ≡ value_of (vector_meaning post.vector w) r
   new_numbers p q t x d e s r hp hq u hd he hs same hr =
-      let n = meaning post.vector w in
+      let n = vector_meaning post.vector w in
       let a = number_at post.vector p in
       let b = number_at post.vector q in
       let k : value_of w e ≡ value_of n d = ap (value_of w) same ∙ substituted_value w post.vector d s hs in
@@ -258,25 +265,26 @@ module _ (w : Valuation) (post : Post) where
       sum_back p q a b e d r i j k l m = omega (arith, ints)
 
   new_forms : (p q : Pos) (t : Nf) → Arrives p t → Arrives q t → Unit {0} → form_like post.vector p t ≡ form_like post.vector q t
-      → EquationHolds (meaning post.vector w) p (Some (symbol_like q t))
+      → EquationHolds (vector_meaning post.vector w) p (Some (symbol_like q t))
   new_forms p q (Num t) hp hq u m =
       let k : number_at post.vector p ≡ number_at post.vector q = cc m in
-      let i : (meaning post.vector w).scalar p ≡ (meaning post.vector w).scalar q = ap (value_of w) k in
-      i ∙ sym (symbol_value (meaning post.vector w) q)
+      let i : (vector_meaning post.vector w).scalar p ≡ (vector_meaning post.vector w).scalar q = ap (value_of w) k in
+      i ∙ sym (symbol_value (vector_meaning post.vector w) q)
   new_forms p q (Arr t) hp hq u m = let k : array_form post.vector p ≡ array_form post.vector q = cc m in ap (contents w) k
   new_forms p q (Seq t) hp hq u m =
       let k : list_at post.vector p ≡ list_at post.vector q = cc m in
-      let i : (meaning post.vector w).list p ≡ (meaning post.vector w).list q = ap (items_in w) k in
-      i ∙ sym (append-nil ((meaning post.vector w).list q))
+      let i : (vector_meaning post.vector w).list p ≡ (vector_meaning post.vector w).list q = ap (items_in w) k in
+      i ∙ sym (append-nil ((vector_meaning post.vector w).list q))
 
   new_known : (f b : Bool) (p : Pos) (o : Option Nf) → (f ≡ false → b ≡ true) → equation_met post.vector p o ≡ Done b
-      → Known post.vector Arrives (λ q. Unit {0}) (EquationHolds (meaning post.vector w)) new_numbers new_forms (λ q. tt) f p o
+      → Known post.vector Arrives (λ q. Unit {0}) (EquationHolds (vector_meaning post.vector w)) new_numbers new_forms (λ q. tt) f p o
   new_known false b p o h e = equation_true w post.vector p o b e (h refl)
   new_known true b p None h e = tt
   new_known true b p (Some t) h e = tt
 
   all_new : (k : ℕ) (missing : List ℕ) (ps : List FactPosition) (bs : List Bool) → each (λ p. equation_met post.vector p.pos p.equation) ps ≡ Done bs
-      → Marks k missing bs → AllKnown post.vector Arrives (λ q. Unit {0}) (EquationHolds (meaning post.vector w)) new_numbers new_forms (λ q. tt) k missing ps
+      → Marks k missing bs → AllKnown post.vector Arrives (λ q. Unit {0}) (EquationHolds (vector_meaning post.vector w)) new_numbers new_forms
+      (λ q. tt) k missing ps
   all_new k missing [] bs e m = tt
   all_new k missing (p ∷ ps) bs e m =
       let s = goes_done (equation_met post.vector p.pos p.equation)
@@ -287,7 +295,7 @@ module _ (w : Valuation) (post : Post) where
       (new_known (is_among k missing) s.middle p.pos p.equation m'.0 s.first, all_new (k + 1) missing ps t.middle t.first m'.1)
 
   literals_new : (k : ℕ) (missing : List ℕ) (ls : List NormalLiteral) (bs : List Bool) → all_true_in w post.conditions ≡ true
-      → each (λ l. literal_met post l) ls ≡ Done bs → Marks k missing bs → all_true_in (meaning post.vector w) (literals_kept k missing ls) ≡ true
+      → each (λ l. literal_met post l) ls ≡ Done bs → Marks k missing bs → all_true_in (vector_meaning post.vector w) (literals_kept k missing ls) ≡ true
   literals_new k missing [] bs c e m = refl
   literals_new k missing (l ∷ ls) bs c e m =
       let s = goes_done (literal_met post l) (λ y. after (each (λ x. literal_met post x) ls) (λ ys. Done (y ∷ ys))) bs e in
@@ -296,17 +304,17 @@ module _ (w : Valuation) (post : Post) where
       let m' : Marks k missing (s.middle ∷ t.middle) = subst (Marks k missing) k' m in
       by_test (is_among k missing) (λ f. one_literal_true w post l s.middle c s.first (m'.0 f)) refl (literals_new (k + 1) missing ls t.middle c t.first m'.1)
     where
-      by_test : (b : Bool) → (is_among k missing ≡ false → is_true_in (meaning post.vector w) l ≡ true) → is_among k missing ≡ b
-          → all_true_in (meaning post.vector w) (literals_kept (k + 1) missing ls) ≡ true
-          → all_true_in (meaning post.vector w) (cond b (literals_kept (k + 1) missing ls) (l ∷ literals_kept (k + 1) missing ls)) ≡ true
+      by_test : (b : Bool) → (is_among k missing ≡ false → is_true_in (vector_meaning post.vector w) l ≡ true) → is_among k missing ≡ b
+          → all_true_in (vector_meaning post.vector w) (literals_kept (k + 1) missing ls) ≡ true
+          → all_true_in (vector_meaning post.vector w) (cond b (literals_kept (k + 1) missing ls) (l ∷ literals_kept (k + 1) missing ls)) ≡ true
       by_test true f i g = g
       by_test false f i g = and_from _ _ (f i) g
 
 pub join_of_post : (w : Valuation) (old new : Fact) (post : Post) (missing : Missing) → entails post old ≡ Done missing → join old post missing ≡ Done new
-    → all_true_in w post.conditions ≡ true → HoldsIn (meaning post.vector w) new
+    → all_true_in w post.conditions ≡ true → HoldsIn (vector_meaning post.vector w) new
 join_of_post w old new post missing g e c =
     let j = joining old new post missing e in
-    let u = meaning post.vector w in
+    let u = vector_meaning post.vector w in
     let a = goes_done (each (λ p. equation_met post.vector p.pos p.equation) old.positions)
     (λ es. after (each (λ l. literal_met post l) old.literals) (λ ls. Done (record { equations = false_places 0 es; literals = false_places 0 ls }))) missing g
     in

@@ -13,13 +13,13 @@ use Rattle.nf_terms.specs.Symbols.{symbols_of_monomial, symbols_of}
 use Rattle.nf_terms.specs.Computed.{Done}
 use Rattle.nf_terms.specs.declared.symbols.Sort.{Sort as TermSort}
 use Rattle.fs_model.specs.declared.sides.Pos.{Pos}
-use Rattle.nf_sums.specs.Operations.{subtracted}
+use Rattle.nf_sums.specs.Operations.{normal_difference}
 use Rattle.nf_sums.proofs.Values.{goes_done}
 use Rattle.nf_symbols.proofs.Passing.{front, back, together}
 use Rattle.nf_symbols.proofs.Results.{subtracted_within, negation_within}
 use Rattle.nf_rel.specs.declared.kind.Kind.TheVariants.{Eq, Ne}
 use Rattle.nf_rel.specs.Literals.{NormalLiteral, True, False, Is, truth, common_divisor, divide_coefficients, begins_positive, signed_number, Form, AtLeastZero}
-use Rattle.nf_rel.specs.Literals.{IsZero, IsNotZero, form_holds, bounded, bounded_by, literal_form, one, against_zero, literal}
+use Rattle.nf_rel.specs.Literals.{IsZero, IsNotZero, form_holds, bounded_literal, bounded_by, literal_form, one, against_zero, literal}
 use Rattle.sym_facts.specs.Pairings.{literal_within}
 
 module _ (test : Pos × TermSort → Bool) where
@@ -44,7 +44,8 @@ module _ (test : Pos × TermSort → Bool) where
   chosen true l m h g = h
   chosen false l m h g = g
 
-  bounded_within : (f : Form) (b : Bool) (d : Polynomial) (g : ℕ) (c : ℤ) → list_all test (symbols_of d) ≡ true → literal_within test (bounded f b d g c) ≡ true
+  bounded_within : (f : Form) (b : Bool) (d : Polynomial) (g : ℕ) (c : ℤ) → list_all test (symbols_of d) ≡ true
+      → literal_within test (bounded_literal f b d g c) ≡ true
   bounded_within AtLeastZero true d g c h = h
   bounded_within AtLeastZero false d g c h = h
   bounded_within IsZero b d g c h = chosen (int_eq (int_rem_euclid c (pos g)) (pos 0))
@@ -71,14 +72,14 @@ module _ (test : Pos × TermSort → Bool) where
   against_within rel.Ge p m h e = done_within AtLeastZero p m h e
   against_within rel.Le p m h e = done_within AtLeastZero (raw_negation p) m (negation_within test p h) e
   against_within rel.Gt p m h e =
-      let s = goes_done (subtracted p one) (λ q. Done (literal_form AtLeastZero q)) m e in
+      let s = goes_done (normal_difference p one) (λ q. Done (literal_form AtLeastZero q)) m e in
       done_within AtLeastZero s.middle m (subtracted_within test p one s.middle h refl s.first) s.next
   against_within rel.Lt p m h e =
-      let s = goes_done (subtracted (raw_negation p) one) (λ q. Done (literal_form AtLeastZero q)) m e in
+      let s = goes_done (normal_difference (raw_negation p) one) (λ q. Done (literal_form AtLeastZero q)) m e in
       done_within AtLeastZero s.middle m (subtracted_within test (raw_negation p) one s.middle (negation_within test p h) refl s.first) s.next
 
   pub literal_form_within : (r : Rel) (p q : Polynomial) (m : NormalLiteral) → list_all test (symbols_of p) ≡ true → list_all test (symbols_of q) ≡ true
       → literal r p q ≡ Done m → literal_within test m ≡ true
   literal_form_within r p q m h g e =
-      let s = goes_done (subtracted p q) (against_zero r) m e in
+      let s = goes_done (normal_difference p q) (against_zero r) m e in
       against_within r s.middle m (subtracted_within test p q s.middle h g s.first) s.next

@@ -15,18 +15,21 @@ use Rattle.nf_terms.specs.declared.symbols.Sort.TheVariants as term
 use Rattle.fs_model.specs.declared.sides.Pos.{Pos}
 use Rattle.nf_terms.specs.declared.form.Nf.{Nf}
 use Rattle.nf_terms.specs.declared.form.Nf.TheVariants.{Num, Arr, Seq}
-use Rattle.nf_sums.specs.Operations.{added, subtracted}
+use Rattle.nf_terms.specs.TermSorts.{same_term_sort}
+use Rattle.nf_sums.specs.Operations.{normal_sum, normal_difference}
 use Rattle.nf_sums.proofs.Values.{goes_done}
-use Rattle.nf_subst.specs.Vectors.{same_sort, number_at}
-use Rattle.nf_subst.specs.Substitution.{substituted, array_substituted, list_substituted}
-use Rattle.nf_subst.specs.SamePlaces.{own_pos, own_sort}
+use Rattle.nf_substitution.specs.Vectors.{number_at}
+use Rattle.nf_substitution.specs.Substitution.{polynomial_substituted, array_substituted, list_substituted}
+use Rattle.nf_substitution.specs.SamePlaces.{own_pos, own_sort}
 use Rattle.sym_paths.specs.Execution.{Post}
 use Rattle.sym_facts.specs.Facts.{FactPosition, Fact, sort_of_terms, own_symbol, form_or_symbol, vector_of}
 use Rattle.sym_facts.specs.Entailment.{form_substituted}
 use Rattle.sym_facts.specs.Pairings.{is_position, form_within, IsFactOf}
 use Rattle.sym_facts.proofs.StartSolved.{own_sort_of}
-use Rattle.propagate.specs.Rebases.{value_at, number_held, form_held, symbol_found, first_by, first_pass, RebaseState, with_mark, Solution, solved, second_by}
-use Rattle.propagate.specs.Rebases.{second_pass, number_tied_to, number_tied, form_tied, tied, equation_found, freed_with, with_equation, third_pass, rebase}
+use Rattle.propagate.specs.Rebases.{value_at, number_held, form_held, symbol_found, first_by, first_pass, RebaseState, with_mark, Solution}
+use Rattle.propagate.specs.Rebases.{second_pass_solution, second_by}
+use Rattle.propagate.specs.Rebases.{second_pass, number_tied_to, number_tied, form_tied, rebase_tied_equation, equation_found, freed_with, with_equation}
+use Rattle.propagate.specs.Rebases.{third_pass, rebase}
 use Rattle.propagate.proofs.Arriving.{forms_equal}
 use Rattle.propagate.proofs.Passes.{AllPass, FreePass, AllEquations}
 use Rattle.propagate.proofs.Rebased.{rebasing}
@@ -54,7 +57,7 @@ second_many v [] [] ms r m e = let k : record { free = []; meanings = ms } ≡ r
 second_many v [] (b ∷ bs) ms r m e = absurd m
 second_many v (p ∷ ps) [] ms r m e = absurd m
 second_many v (p ∷ ps) (b ∷ bs) ms r m e =
-    let s = goes_done (solved b v ms p.sort p.pos) (λ o. second_by b o ms (λ ns. second_pass v ps bs ns)) r e in
+    let s = goes_done (second_pass_solution b v ms p.sort p.pos) (λ o. second_by b o ms (λ ns. second_pass v ps bs ns)) r e in
     by_solution s.middle s.next (λ ns x i. second_many v ps bs ns x m i)
   where
     by_solution : (o : Option Solution) → second_by b o ms (λ ns. second_pass v ps bs ns) ≡ Done r
@@ -76,7 +79,7 @@ sort_of_value v sort.Array p = refl
 sort_of_value v sort.Port p = refl
 
 substituted_sort : (ms : List (Pos × Nf)) (f g : Nf) → form_substituted ms f ≡ Done g → sort_of_form g ≡ sort_of_form f
-substituted_sort ms (Num p) g e = let s = goes_done (substituted ms p) (λ q. Done (Num q)) g e in let k : Num s.middle ≡ g = cc s.next in
+substituted_sort ms (Num p) g e = let s = goes_done (polynomial_substituted ms p) (λ q. Done (Num q)) g e in let k : Num s.middle ≡ g = cc s.next in
     sym (ap sort_of_form k)
 substituted_sort ms (Arr a) g e = let s = goes_done (array_substituted ms a) (λ q. Done (Arr q)) g e in let k : Arr s.middle ≡ g = cc s.next in
     sym (ap sort_of_form k)
@@ -111,17 +114,18 @@ module _ (v ms : List (Pos × Nf)) where
       by_sort sort.Array q g next = next g
       by_sort sort.Port q g next = next g
       by_sort sort.Scalar q g next =
-          let s = goes_done (subtracted t (number_at v q))
-          (λ d. cond (number_held ms d) (after (substituted ms d) (λ c. after (added (polynomial_of_symbol q) c) (λ r. Done (Some (Num r)))))
+          let s = goes_done (normal_difference t (number_at v q))
+          (λ d. cond (number_held ms d) (after (polynomial_substituted ms d) (λ c. after (normal_sum (polynomial_of_symbol q) c) (λ r. Done (Some (Num r)))))
           (number_tied v ms t qs)) (Some x) g in
           by_test s.middle (number_held ms s.middle) s.next
         where
           by_test : (d : Polynomial) (b : Bool)
-              → cond {A = Computed (Option Nf)} b (after (substituted ms d) (λ c. after (added (polynomial_of_symbol q) c) (λ r. Done (Some (Num r)))))
+              → cond {A = Computed (Option Nf)} b
+              (after (polynomial_substituted ms d) (λ c. after (normal_sum (polynomial_of_symbol q) c) (λ r. Done (Some (Num r)))))
               (number_tied v ms t qs) ≡ Done (Some x) → sort_of_form x ≡ term.Scalar
           by_test d true k =
-              let a = goes_done (substituted ms d) (λ c. after (added (polynomial_of_symbol q) c) (λ r. Done (Some (Num r)))) (Some x) k in
-              let b = goes_done (added (polynomial_of_symbol q) a.middle) (λ r. Done (Some (Num r))) (Some x) a.next in
+              let a = goes_done (polynomial_substituted ms d) (λ c. after (normal_sum (polynomial_of_symbol q) c) (λ r. Done (Some (Num r)))) (Some x) k in
+              let b = goes_done (normal_sum (polynomial_of_symbol q) a.middle) (λ r. Done (Some (Num r))) (Some x) a.next in
               let l : Num b.middle ≡ x = cc b.next in
               sym (ap sort_of_form l)
           by_test d false k = next k
@@ -138,7 +142,7 @@ module _ (v ms : List (Pos × Nf)) where
           ∙ sym (ap sort_of_form (forms_equal t (value_at v q.sort q.pos) i))
       by_test false i g next = next g
 
-  tied_sort : (t : Nf) (qs : List Position) (x : Nf) → tied v ms t qs ≡ Done (Some x) → sort_of_form x ≡ sort_of_form t
+  tied_sort : (t : Nf) (qs : List Position) (x : Nf) → rebase_tied_equation v ms t qs ≡ Done (Some x) → sort_of_form x ≡ sort_of_form t
   tied_sort (Num p) qs x e = number_sort p qs x e
   tied_sort (Arr a) qs x e = form_sort (Arr a) qs x (let k : form_tied v (Arr a) qs ≡ Some x = cc e in k)
   tied_sort (Seq l) qs x e = form_sort (Seq l) qs x (let k : form_tied v (Seq l) qs ≡ Some x = cc e in k)
@@ -149,7 +153,7 @@ module _ (v ms : List (Pos × Nf)) where
   found_sort s p qs (Some x) e = by_test (form_held ms (value_at v s p)) e ∙ sort_of_value v s p
     where
       by_test : (b : Bool) → cond {A = Computed (Option Nf)} b (after (form_substituted ms (value_at v s p)) (λ r. Done (Some r)))
-          (tied v ms (value_at v s p) qs) ≡ Done (Some x) → sort_of_form x ≡ sort_of_form (value_at v s p)
+          (rebase_tied_equation v ms (value_at v s p) qs) ≡ Done (Some x) → sort_of_form x ≡ sort_of_form (value_at v s p)
       by_test true g =
           let a = goes_done (form_substituted ms (value_at v s p)) (λ r. Done (Some r)) (Some x) g in
           let k : a.middle ≡ x = cc a.next in
@@ -208,7 +212,7 @@ pub listed : (whole qs : List Position) → ((x : Pos × TermSort) → is_positi
 listed whole [] h = tt
 listed whole (q ∷ qs) h = (
   h (q.pos, sort_of_terms q.sort) (ap₂ (λ x y. (x && y) || is_position qs (q.pos, sort_of_terms q.sort)) (own_pos q.pos) (own_sort (sort_of_terms q.sort))),
-  listed whole qs (λ x i. h x (or_right (same_pos q.pos x.0 && same_sort (sort_of_terms q.sort) x.1) (is_position qs x) i)),
+  listed whole qs (λ x i. h x (or_right (same_pos q.pos x.0 && same_term_sort (sort_of_terms q.sort) x.1) (is_position qs x) i)),
 )
 
 pub rebase_paired : (post : Post) (ps : List Position) (f : Fact) → rebase post ps ≡ Done f → IsFactOf ps f

@@ -13,12 +13,14 @@ use Rattle.fs_model.specs.declared.sides.Pos.{Pos}
 use Rattle.nf_terms.specs.declared.form.Nf.{Nf}
 use Rattle.nf_terms.specs.declared.form.Nf.TheVariants.{Num}
 use Rattle.nf_sums.proofs.Values.{goes_done}
-use Rattle.nf_subst.specs.Vectors.{same_sort, is_entry_at, form_at, with_form}
-use Rattle.nf_subst.specs.SamePlaces.{pos_equal}
-use Rattle.nf_subst.proofs.Entries.{form_put}
+use Rattle.nf_substitution.specs.Vectors.{is_entry_at, form_at, with_form}
+use Rattle.nf_substitution.specs.SamePlaces.{pos_equal}
+use Rattle.nf_substitution.proofs.Entries.{form_put}
 use Rattle.nf_terms.specs.TermMeaning.{Valuation}
+use Rattle.nf_terms.specs.TermSorts.{same_term_sort}
 use Rattle.sym_facts.specs.Facts.{FactPosition, EquationHolds, EquationsHold, sort_of_terms, own_symbol}
-use Rattle.propagate.specs.Rebases.{value_at, is_held, bare_symbol, RebaseState, with_mark, unheld, symbol_found, first_by, first_pass, Solution, solved}
+use Rattle.propagate.specs.Rebases.{value_at, is_held, bare_symbol, RebaseState, with_mark, unheld_symbol, symbol_found, first_by, first_pass, Solution}
+use Rattle.propagate.specs.Rebases.{second_pass_solution}
 use Rattle.propagate.specs.Rebases.{second_by, second_pass, equation_found, freed_with, with_equation, third_pass}
 
 -- each form of a vector passes, with the position at which it stands
@@ -29,26 +31,27 @@ pub none_all : (P : Pos → Nf → Type 0) → AllForms P []
 none_all P = record { at = λ s q f e. absurd (cc e) }
 
 pub put_all : (P : Pos → Nf → Type 0) (ms : List (Pos × Nf)) (x : Pos) (f : Nf) → AllForms P ms → P x f → AllForms P (with_form x f ms)
-put_all P ms x f h p = record { at = λ s q g e. by_test s q g (same_pos q x && same_sort s (sort_of_form f)) refl (sym (form_put ms x q f s) ∙ e) }
+put_all P ms x f h p = record { at = λ s q g e. by_test s q g (same_pos q x && same_term_sort s (sort_of_form f)) refl (sym (form_put ms x q f s) ∙ e) }
   where
-    by_test : (s : TermSort) (q : Pos) (g : Nf) (b : Bool) → same_pos q x && same_sort s (sort_of_form f) ≡ b
+    by_test : (s : TermSort) (q : Pos) (g : Nf) (b : Bool) → same_pos q x && same_term_sort s (sort_of_form f) ≡ b
         → cond b (Some f) (form_at s q ms) ≡ Some g → P q g
     by_test s q g true i e =
         let k : f ≡ g = cc e in
-        let j : q ≡ x = pos_equal q x (and_first (same_pos q x) (same_sort s (sort_of_form f)) i) in
+        let j : q ≡ x = pos_equal q x (and_first (same_pos q x) (same_term_sort s (sort_of_form f)) i) in
         subst (P q) k (subst (λ z. P z f) (sym j) p)
     by_test s q g false i e = h.at s q g e
 
 -- what is found for a sort is of the sort
-pub sort_found : (s : TermSort) (q : Pos) (ms : List (Pos × Nf)) (f : Nf) → form_at s q ms ≡ Some f → same_sort s (sort_of_form f) ≡ true
+pub sort_found : (s : TermSort) (q : Pos) (ms : List (Pos × Nf)) (f : Nf) → form_at s q ms ≡ Some f → same_term_sort s (sort_of_form f) ≡ true
 sort_found s q [] f e = absurd (cc e)
 sort_found s q (m ∷ ms) f e = by_test (is_entry_at s q m) refl e (λ g. sort_found s q ms f g)
   where
-    by_test : (b : Bool) → is_entry_at s q m ≡ b → cond b (Some m.1) (form_at s q ms) ≡ Some f → (form_at s q ms ≡ Some f → same_sort s (sort_of_form f) ≡ true)
-        → same_sort s (sort_of_form f) ≡ true
+    by_test : (b : Bool) → is_entry_at s q m ≡ b → cond b (Some m.1) (form_at s q ms) ≡ Some f
+        → (form_at s q ms ≡ Some f → same_term_sort s (sort_of_form f) ≡ true)
+        → same_term_sort s (sort_of_form f) ≡ true
     by_test true i g next =
         let k : m.1 ≡ f = cc g in
-        subst (λ z. same_sort s (sort_of_form z) ≡ true) k (and_second (same_pos q m.0) (same_sort s (sort_of_form m.1)) i)
+        subst (λ z. same_term_sort s (sort_of_form z) ≡ true) k (and_second (same_pos q m.0) (same_term_sort s (sort_of_form m.1)) i)
     by_test false i g next = next g
 
 -- each position that is marked as free passes
@@ -76,7 +79,7 @@ one_more : (Q : Sort → Pos → Type 0) (qs : List Position) (p : Position) →
 one_more Q [] p h g = (g, tt)
 one_more Q (q ∷ qs) p h g = (h.0, one_more Q qs p h.1 g)
 
-unheld_is : (ms : List (Pos × Nf)) (s : TermSort) (o : Option Pos) (x : Pos) → unheld ms s o ≡ Some x → o ≡ Some x
+unheld_is : (ms : List (Pos × Nf)) (s : TermSort) (o : Option Pos) (x : Pos) → unheld_symbol ms s o ≡ Some x → o ≡ Some x
 unheld_is ms s None x e = e
 unheld_is ms s (Some y) x e = by_test (is_held ms (y, s)) e
   where
@@ -87,7 +90,8 @@ unheld_is ms s (Some y) x e = by_test (is_held ms (y, s)) e
 -- P is to hold of the new meanings, and Q holds of the positions that are freed
 module _ (v : List (Pos × Nf)) (P : Pos → Nf → Type 0) (Q : Sort → Pos → Type 0)
     (bare : (s : Sort) (p x : Pos) → Q s p → bare_symbol (value_at v s p) ≡ Some x → P x (own_symbol s p))
-    (split_off : (ms : List (Pos × Nf)) (p : Pos) (x : Solution) → Q sort.Scalar p → AllForms P ms → solved false v ms sort.Scalar p ≡ Done (Some x)
+    (split_off : (ms : List (Pos × Nf)) (p : Pos) (x : Solution) → Q sort.Scalar p → AllForms P ms
+    → second_pass_solution false v ms sort.Scalar p ≡ Done (Some x)
     → P x.symbol (Num x.meaning)) where
   pub first_all : (ps : List Position) (ms : List (Pos × Nf)) → AllForms P ms → Marked Q ps (first_pass v ps ms).free → AllForms P (first_pass v ps ms).meanings
   first_all [] ms h m = h
@@ -102,7 +106,8 @@ module _ (v : List (Pos × Nf)) (P : Pos → Nf → Type 0) (Q : Sort → Pos �
           (put_all P ms x (own_symbol p.sort p.pos) h
           (bare p.sort p.pos x (n.0 refl) (unheld_is ms (sort_of_terms p.sort) (bare_symbol (value_at v p.sort p.pos)) x e))) n.1
 
-  solution_holds : (b : Bool) (ms : List (Pos × Nf)) (s : Sort) (p : Pos) (x : Solution) → Q s p → AllForms P ms → solved b v ms s p ≡ Done (Some x)
+  solution_holds : (b : Bool) (ms : List (Pos × Nf)) (s : Sort) (p : Pos) (x : Solution) → Q s p → AllForms P ms
+      → second_pass_solution b v ms s p ≡ Done (Some x)
       → P x.symbol (Num x.meaning)
   solution_holds true ms s p x q h e = absurd (cc e)
   solution_holds false ms sort.Scalar p x q h e = split_off ms p x q h e
@@ -117,10 +122,10 @@ module _ (v : List (Pos × Nf)) (P : Pos → Nf → Type 0) (Q : Sort → Pos �
   second_all [] bs ms r h e m = let k : record { free = []; meanings = ms } ≡ r = cc e in (subst (λ (z : RebaseState). AllForms P z.meanings) k h, tt)
   second_all (p ∷ ps) [] ms r h e m = let k : record { free = []; meanings = ms } ≡ r = cc e in (subst (λ (z : RebaseState). AllForms P z.meanings) k h, tt)
   second_all (p ∷ ps) (b ∷ bs) ms r h e m =
-      let s = goes_done (solved b v ms p.sort p.pos) (λ o. second_by b o ms (λ ns. second_pass v ps bs ns)) r e in
+      let s = goes_done (second_pass_solution b v ms p.sort p.pos) (λ o. second_by b o ms (λ ns. second_pass v ps bs ns)) r e in
       by_solution s.middle s.first s.next (λ ns x i g n. second_all ps bs ns x i g n)
     where
-      by_solution : (o : Option Solution) → solved b v ms p.sort p.pos ≡ Done o → second_by b o ms (λ ns. second_pass v ps bs ns) ≡ Done r
+      by_solution : (o : Option Solution) → second_pass_solution b v ms p.sort p.pos ≡ Done o → second_by b o ms (λ ns. second_pass v ps bs ns) ≡ Done r
           → ((ns : List (Pos × Nf)) (x : RebaseState) → AllForms P ns → second_pass v ps bs ns ≡ Done x → Marked Q ps x.free → Second ps bs x)
           → Second (p ∷ ps) (b ∷ bs) r
       by_solution None i g again =

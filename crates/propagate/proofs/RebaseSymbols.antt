@@ -18,10 +18,10 @@ use Rattle.nf_terms.specs.declared.tree.Base.TheVariants as base
 use Rattle.nf_terms.specs.declared.tree.SeqBase.TheVariants as list
 use Rattle.nf_terms.specs.declared.form.Nf.{Nf}
 use Rattle.nf_terms.specs.declared.form.Nf.TheVariants.{Num, Arr, Seq}
-use Rattle.nf_sums.specs.Operations.{added, subtracted, number}
+use Rattle.nf_sums.specs.Operations.{normal_sum, normal_difference, number}
 use Rattle.nf_sums.proofs.Values.{goes_done}
-use Rattle.nf_subst.specs.Vectors.{form_at, number_or, array_or, list_or, number_at}
-use Rattle.nf_subst.specs.Substitution.{substituted, array_substituted, list_substituted}
+use Rattle.nf_substitution.specs.Vectors.{form_at, number_or, array_or, list_or, number_at}
+use Rattle.nf_substitution.specs.Substitution.{polynomial_substituted, array_substituted, list_substituted}
 use Rattle.nf_symbols.specs.SymbolTests.{LeadsTo}
 use Rattle.nf_symbols.proofs.Results.{added_within, subtracted_within, number_done_within}
 use Rattle.nf_symbols.proofs.Substituted.{polynomial_over, array_term_over, list_over}
@@ -32,8 +32,10 @@ use Rattle.sym_facts.specs.Facts.{Fact, sort_of_terms, own_symbol, most_literals
 use Rattle.sym_facts.specs.Entailment.{form_substituted, relation_of, literal_substituted}
 use Rattle.sym_facts.specs.Pairings.{form_within, literal_within}
 use Rattle.sym_facts.specs.FactParts.{equation_within}
-use Rattle.propagate.specs.Rebases.{value_at, is_held, number_held, form_held, literal_held, bare_symbol, first_pass, Split, split, less_rest, Solution}
-use Rattle.propagate.specs.Rebases.{solution, solved, number_tied_to, number_tied, form_tied, tied, equation_found, with_needed, conditions_over, rebase}
+use Rattle.propagate.specs.Rebases.{value_at, is_held, number_held, form_held, literal_held, bare_symbol, first_pass, Split, split_off_symbol, less_rest}
+use Rattle.propagate.specs.Rebases.{Solution}
+use Rattle.propagate.specs.Rebases.{solution, second_pass_solution, number_tied_to, number_tied, form_tied, rebase_tied_equation, equation_found, with_needed}
+use Rattle.propagate.specs.Rebases.{conditions_over, rebase}
 use Rattle.propagate.proofs.LiteralSymbols.{literal_form_within}
 use Rattle.propagate.proofs.Passes.{AllForms, none_all, sort_found, AllPass, FreePass, AllEquations, first_all, second_all, third_all}
 use Rattle.propagate.proofs.Rebased.{needed_pass, taken_pass, rebasing}
@@ -84,13 +86,13 @@ module _ (test : Pos × TermSort → Bool) where
       lists q (Some (Arr a)) e g = absurd (cc (sort_found term.List q ms (Arr a) e))
       lists q (Some (Seq l)) e g = h.at term.List q (Seq l) e
 
-  number_over : (ms : List (Pos × Nf)) (p r : Polynomial) → AllForms Over ms → number_held ms p ≡ true → substituted ms p ≡ Done r
+  number_over : (ms : List (Pos × Nf)) (p r : Polynomial) → AllForms Over ms → number_held ms p ≡ true → polynomial_substituted ms p ≡ Done r
       → list_all test (symbols_of r) ≡ true
   number_over ms p r h i e = polynomial_over (is_held ms) test ms (leads ms h) p r i e
 
   form_over : (ms : List (Pos × Nf)) (f g : Nf) → AllForms Over ms → form_held ms f ≡ true → form_substituted ms f ≡ Done g → form_within test g ≡ true
   form_over ms (Num p) g h i e =
-      let s = goes_done (substituted ms p) (λ q. Done (Num q)) g e in
+      let s = goes_done (polynomial_substituted ms p) (λ q. Done (Num q)) g e in
       let k : Num s.middle ≡ g = cc s.next in
       subst (λ z. form_within test z ≡ true) k (number_over ms p s.middle h i s.first)
   form_over ms (Arr a) g h i e =
@@ -111,9 +113,10 @@ module _ (test : Pos × TermSort → Bool) where
     bare_over : (s : Sort) (p x : Pos) → Passes s p → bare_symbol (value_at v s p) ≡ Some x → Over x (own_symbol s p)
     bare_over s p x h e = own_within s p h
 
-    split_over : (ms : List (Pos × Nf)) (p : Pos) (y : Solution) → Passes sort.Scalar p → AllForms Over ms → solved false v ms sort.Scalar p ≡ Done (Some y)
+    split_over : (ms : List (Pos × Nf)) (p : Pos) (y : Solution) → Passes sort.Scalar p → AllForms Over ms
+        → second_pass_solution false v ms sort.Scalar p ≡ Done (Some y)
         → Over y.symbol (Num y.meaning)
-    split_over ms p y q h e = by_split (split ms (number_at v p)) e
+    split_over ms p y q h e = by_split (split_off_symbol ms (number_at v p)) e
       where
         by_split : (o : Option Split) → solution ms p o ≡ Done (Some y) → list_all test (symbols_of y.meaning) ≡ true
         by_split None g = absurd (cc g)
@@ -121,10 +124,11 @@ module _ (test : Pos × TermSort → Bool) where
           where
             by_test : (b : Bool) → number_held ms x.rest ≡ b
                 → cond {A = Computed (Option Solution)} b
-                (after (substituted ms x.rest) (λ r. after (less_rest x.positive p r) (λ t. Done (Some (record { symbol = x.symbol; meaning = t })))))
+                (after (polynomial_substituted ms x.rest)
+                (λ r. after (less_rest x.positive p r) (λ t. Done (Some (record { symbol = x.symbol; meaning = t })))))
                 (Done None) ≡ Done (Some y) → list_all test (symbols_of y.meaning) ≡ true
             by_test true i k =
-                let a = goes_done (substituted ms x.rest)
+                let a = goes_done (polynomial_substituted ms x.rest)
                 (λ r. after (less_rest x.positive p r) (λ t. Done (Some (record { symbol = x.symbol; meaning = t })))) (Some y) k in
                 let b = goes_done (less_rest x.positive p a.middle) (λ t. Done (Some (record { symbol = x.symbol; meaning = t }))) (Some y) a.next in
                 let z : Solution = record { symbol = x.symbol; meaning = b.middle } in
@@ -144,17 +148,19 @@ module _ (test : Pos × TermSort → Bool) where
           by_sort sort.Array q i g next = next g
           by_sort sort.Port q i g next = next g
           by_sort sort.Scalar q i g next =
-              let s = goes_done (subtracted t (number_at v q))
-              (λ d. cond (number_held ms d) (after (substituted ms d) (λ c. after (added (polynomial_of_symbol q) c) (λ r. Done (Some (Num r)))))
+              let s = goes_done (normal_difference t (number_at v q))
+              (λ d. cond (number_held ms d)
+              (after (polynomial_substituted ms d) (λ c. after (normal_sum (polynomial_of_symbol q) c) (λ r. Done (Some (Num r)))))
               (number_tied v ms t qs)) (Some x) g in
               by_test s.middle (number_held ms s.middle) refl s.next
             where
               by_test : (d : Polynomial) (b : Bool) → number_held ms d ≡ b
-                  → cond {A = Computed (Option Nf)} b (after (substituted ms d) (λ c. after (added (polynomial_of_symbol q) c) (λ r. Done (Some (Num r)))))
+                  → cond {A = Computed (Option Nf)} b
+                  (after (polynomial_substituted ms d) (λ c. after (normal_sum (polynomial_of_symbol q) c) (λ r. Done (Some (Num r)))))
                   (number_tied v ms t qs) ≡ Done (Some x) → form_within test x ≡ true
               by_test d true j k =
-                  let a = goes_done (substituted ms d) (λ c. after (added (polynomial_of_symbol q) c) (λ r. Done (Some (Num r)))) (Some x) k in
-                  let b = goes_done (added (polynomial_of_symbol q) a.middle) (λ r. Done (Some (Num r))) (Some x) a.next in
+                  let a = goes_done (polynomial_substituted ms d) (λ c. after (normal_sum (polynomial_of_symbol q) c) (λ r. Done (Some (Num r)))) (Some x) k in
+                  let b = goes_done (normal_sum (polynomial_of_symbol q) a.middle) (λ r. Done (Some (Num r))) (Some x) a.next in
                   let l : Num b.middle ≡ x = cc b.next in
                   subst (λ z. form_within test z ≡ true) l
                   (added_within test (polynomial_of_symbol q) a.middle b.middle (own_within sort.Scalar q i) (number_over ms d a.middle good j a.first) b.first)
@@ -171,7 +177,8 @@ module _ (test : Pos × TermSort → Bool) where
               subst (λ z. form_within test z ≡ true) k (own_within q.sort q.pos h.0)
           by_test false g next = next g
 
-      tied_over : (p : Pos) (t : Nf) (qs : List Position) (x : Nf) → AllPass Passes qs → tied v ms t qs ≡ Done (Some x) → form_within test x ≡ true
+      tied_over : (p : Pos) (t : Nf) (qs : List Position) (x : Nf) → AllPass Passes qs → rebase_tied_equation v ms t qs ≡ Done (Some x)
+          → form_within test x ≡ true
       tied_over p (Num t) qs x h e = number_tied_over p t qs x h e
       tied_over p (Arr a) qs x h e = form_tied_over (Arr a) qs x h (let k : form_tied v (Arr a) qs ≡ Some x = cc e in k)
       tied_over p (Seq l) qs x h e = form_tied_over (Seq l) qs x h (let k : form_tied v (Seq l) qs ≡ Some x = cc e in k)
@@ -182,7 +189,8 @@ module _ (test : Pos × TermSort → Bool) where
         where
           by_test :
               (b : Bool) → form_held ms (value_at v s p) ≡ b
-              → cond {A = Computed (Option Nf)} b (after (form_substituted ms (value_at v s p)) (λ r. Done (Some r))) (tied v ms (value_at v s p) qs)
+              → cond {A = Computed (Option Nf)} b (after (form_substituted ms (value_at v s p)) (λ r. Done (Some r)))
+              (rebase_tied_equation v ms (value_at v s p) qs)
               ≡ Done (Some x) → form_within test x ≡ true
           by_test true i g =
               let a = goes_done (form_substituted ms (value_at v s p)) (λ r. Done (Some r)) (Some x) g in
@@ -195,7 +203,7 @@ module _ (test : Pos × TermSort → Bool) where
       literal_over True m h e = let k : True ≡ m = cc e in subst (λ z. literal_within test z ≡ true) k refl
       literal_over False m h e = let k : False ≡ m = cc e in subst (λ z. literal_within test z ≡ true) k refl
       literal_over (Is d k b) m h e =
-          let s = goes_done (substituted ms d) (λ x. after (number b) (λ c. literal (relation_of k) x c)) m e in
+          let s = goes_done (polynomial_substituted ms d) (λ x. after (number b) (λ c. literal (relation_of k) x c)) m e in
           let t = goes_done (number b) (λ c. literal (relation_of k) s.middle c) m s.next in
           literal_form_within test (relation_of k) s.middle t.middle m (number_over ms d s.middle good h s.first)
           (number_done_within test b t.middle t.first) t.next

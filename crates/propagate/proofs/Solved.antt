@@ -10,7 +10,7 @@ use Rattle.nf_terms.specs.Computed.{Computed, Done, after}
 use Rattle.fs_model.specs.declared.sides.Pos.{Pos}
 use Rattle.nf_terms.specs.declared.form.Nf.{Nf}
 use Rattle.nf_sums.proofs.Values.{goes_done}
-use Rattle.nf_subst.specs.SamePlaces.{pos_equal, own_pos}
+use Rattle.nf_substitution.specs.SamePlaces.{pos_equal, own_pos}
 use Rattle.nf_symbols.specs.SymbolTests.{is_other}
 use Rattle.nf_symbols.proofs.Mentioned.{number_other, form_other}
 use Rattle.nf_rel.specs.Literals.{NormalLiteral, True, False, Is}
@@ -19,7 +19,7 @@ use Rattle.sym_facts.specs.Facts.{FactPosition, Fact, equation_mentions, literal
 use Rattle.sym_facts.specs.Entailment.{Missing}
 use Rattle.sym_facts.specs.Pairings.{literal_within}
 use Rattle.sym_facts.specs.FactParts.{equation_within, are_distinct_positions}
-use Rattle.propagate.specs.Joins.{Freed, tied, with_equation, freed_with, position_joined, is_among, positions_joined, join}
+use Rattle.propagate.specs.Joins.{Freed, tied_equation, with_equation, freed_with, position_joined, is_among, positions_joined, join}
 use Rattle.propagate.specs.Rebases.{rebase}
 use Rattle.propagate.proofs.Passes.{FreePass, AllEquations}
 use Rattle.propagate.proofs.Joined.{joining}
@@ -193,7 +193,7 @@ shape_step v true p None s fs later ps qs next e =
     let k : p ∷ t.middle ≡ qs = cc t.next in
     subst (Shape (p ∷ ps)) k ((refl, refl, λ i. i), next fs t.middle t.first)
 shape_step v true p (Some f) s fs later ps qs next e =
-    let i = goes_done (tied v p.pos f fs) (λ r. after (later (freed_with p.pos f r fs)) (λ rest. Done (with_equation p r ∷ rest))) qs e in
+    let i = goes_done (tied_equation v p.pos f fs) (λ r. after (later (freed_with p.pos f r fs)) (λ rest. Done (with_equation p r ∷ rest))) qs e in
     let t = goes_done (later (freed_with p.pos f i.middle fs)) (λ rest. Done (with_equation p i.middle ∷ rest)) qs i.next in
     let k : with_equation p i.middle ∷ t.middle ≡ qs = cc t.next in
     subst (Shape (p ∷ ps)) k ((refl, refl, λ n. absurd (let m : Some f ≡ None = sym s ∙ n in cc m)), next (freed_with p.pos f i.middle fs) t.middle t.first)

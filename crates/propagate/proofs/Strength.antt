@@ -17,7 +17,7 @@ use Rattle.fs_pair.specs.declared.positions.Position.{Position}
 use Rattle.sym_facts.specs.Facts.{FactPosition, Fact, most_literals}
 use Rattle.sym_facts.specs.Entailment.{equation_met, literal_met, false_places, Missing, entails, is_nothing}
 use Rattle.propagate.specs.Strength.{with_equation_count, strength}
-use Rattle.propagate.specs.Joins.{Freed, tied, with_equation, freed_with, position_joined, is_among, positions_joined, literals_kept, join}
+use Rattle.propagate.specs.Joins.{Freed, tied_equation, with_equation, freed_with, position_joined, is_among, positions_joined, literals_kept, join}
 use Rattle.propagate.specs.Rebases.{with_needed, rebase}
 use Rattle.propagate.proofs.Joined.{joining}
 use Rattle.propagate.proofs.Rebased.{rebasing}
@@ -60,7 +60,7 @@ no_more_step v true p None s fs later qs n next e =
     let k : p ∷ t.middle ≡ qs = cc t.next in
     subst (λ z. count z ≤ 0 + n) k (none_adds p.equation (count t.middle) n s (next fs t.middle t.first))
 no_more_step v true p (Some f) s fs later qs n next e =
-    let i = goes_done (tied v p.pos f fs) (λ r. after (later (freed_with p.pos f r fs)) (λ rest. Done (with_equation p r ∷ rest))) qs e in
+    let i = goes_done (tied_equation v p.pos f fs) (λ r. after (later (freed_with p.pos f r fs)) (λ rest. Done (with_equation p r ∷ rest))) qs e in
     let t = goes_done (later (freed_with p.pos f i.middle fs)) (λ rest. Done (with_equation p i.middle ∷ rest)) qs i.next in
     let k : with_equation p i.middle ∷ t.middle ≡ qs = cc t.next in
     subst (λ z. count z ≤ 1 + n) k (at_most_one i.middle (next (freed_with p.pos f i.middle fs) t.middle t.first))
@@ -89,7 +89,7 @@ abbrev fails : ℕ → List ℕ → List FactPosition → Bool
 fails k missing [] = false
 fails k missing (p ∷ ps) = (is_among k missing && is_some p.equation) || fails (k + 1) missing ps
 
-first_freed : (v : List (Pos × Nf)) (p : Pos) (f : Nf) (o : Option Nf) → tied v p f [] ≡ Done o → o ≡ None
+first_freed : (v : List (Pos × Nf)) (p : Pos) (f : Nf) (o : Option Nf) → tied_equation v p f [] ≡ Done o → o ≡ None
 first_freed v p (Num t) o e = let k : None ≡ o = cc e in sym k
 first_freed v p (Arr a) o e = let k : None ≡ o = cc e in sym k
 first_freed v p (Seq l) o e = let k : None ≡ o = cc e in sym k
@@ -116,7 +116,7 @@ fewer v k missing (p ∷ ps) qs e h =
     by_position false o s e h next same = kept e h next
     by_position true None s e h next same = kept e h next
     by_position true (Some f) s e h next same =
-        let i = goes_done (tied v p.pos f [])
+        let i = goes_done (tied_equation v p.pos f [])
         (λ r. after (positions_joined v (k + 1) missing (freed_with p.pos f r []) ps) (λ rest. Done (with_equation p r ∷ rest))) qs e in
         let t = goes_done (positions_joined v (k + 1) missing (freed_with p.pos f i.middle []) ps) (λ rest. Done (with_equation p i.middle ∷ rest)) qs i.next in
         let n : with_equation p i.middle ∷ t.middle ≡ qs = cc t.next in

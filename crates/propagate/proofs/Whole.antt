@@ -9,8 +9,8 @@ use Rattle.fs_pair.specs.Paired.{IsPairing}
 use Rattle.nf_terms.specs.Forms.{sort_of_form}
 use Rattle.fs_model.specs.declared.sides.Pos.{Pos}
 use Rattle.nf_terms.specs.declared.form.Nf.{Nf}
-use Rattle.nf_subst.specs.Vectors.{same_sort}
-use Rattle.nf_subst.specs.SamePlaces.{own_sort}
+use Rattle.nf_terms.specs.TermSorts.{same_term_sort}
+use Rattle.nf_substitution.specs.SamePlaces.{own_sort}
 use Rattle.sym_facts.specs.Facts.{FactPosition, Fact, sort_of_terms, form_or_symbol, vector_of, has_its_sort, is_solved, may_be_kept, most_literals}
 use Rattle.sym_facts.specs.Pairings.{IsFactOf}
 use Rattle.sym_facts.specs.FactParts.{are_distinct_positions, IsKept}
@@ -19,7 +19,7 @@ use Rattle.sym_facts.proofs.Vectors.{positions_again}
 
 pub sort_kept : (s : Sort) (p : Pos) (o : Option Nf) → sort_of_form (form_or_symbol s p o) ≡ sort_of_terms s → has_its_sort s o ≡ true
 sort_kept s p None e = refl
-sort_kept s p (Some f) e = ap (same_sort (sort_of_terms s)) e ∙ own_sort (sort_of_terms s)
+sort_kept s p (Some f) e = ap (same_term_sort (sort_of_terms s)) e ∙ own_sort (sort_of_terms s)
 
 pub sorts_kept :
     (ps : List Position) (qs : List FactPosition) → map (λ q. q.sort) qs ≡ map (λ p. p.sort) ps

@@ -6,7 +6,7 @@ use Rattle.fs_model.specs.declared.sides.Pos.{Pos}
 use Rattle.nf_terms.specs.declared.form.Nf.{Nf}
 use Rattle.nf_rel.specs.Literals.{NormalLiteral}
 use Rattle.sym_facts.specs.Facts.{FactPosition}
-use Rattle.propagate.specs.Joins.{Freed, number_tied_to, tied, freed_with, with_equation}
+use Rattle.propagate.specs.Joins.{Freed, number_tied_to, tied_equation, freed_with, with_equation}
 
 -- a form that is found, or else what comes later
 abbrev pub or_later : Option Nf → (later : Computed (Option Nf)) → Computed (Option Nf)
@@ -14,21 +14,21 @@ or_later None later = later
 or_later (Some f) later = Done (Some f)
 
 -- a number tied to the first of the freed positions that it can be tied to
-abbrev pub first_tie : List (Pos × Nf) → Pos → Polynomial → List Freed → Computed (Option Nf)
-first_tie v p t [] = Done None
-first_tie v p t (f ∷ fs) = after (number_tied_to v p t f.pos f.old (Done None)) (λ o. or_later o (first_tie v p t fs))
+abbrev pub join_tie : List (Pos × Nf) → Pos → Polynomial → List Freed → Computed (Option Nf)
+join_tie v p t [] = Done None
+join_tie v p t (f ∷ fs) = after (number_tied_to v p t f.pos f.old (Done None)) (λ o. or_later o (join_tie v p t fs))
 
 -- the equation that a position gets
 abbrev pub equation_joined : List (Pos × Nf) → (fails : Bool) → Pos → Option Nf → List Freed → Computed (Option Nf)
 equation_joined v false p o fs = Done o
 equation_joined v true p None fs = Done None
-equation_joined v true p (Some t) fs = tied v p t fs
+equation_joined v true p (Some t) fs = tied_equation v p t fs
 
 -- the freed positions after a position
-abbrev pub freed_after : (fails : Bool) → Pos → (old new : Option Nf) → List Freed → List Freed
-freed_after false p old new fs = fs
-freed_after true p None new fs = fs
-freed_after true p (Some t) new fs = freed_with p t new fs
+abbrev pub freed_by_join : (fails : Bool) → Pos → (old new : Option Nf) → List Freed → List Freed
+freed_by_join false p old new fs = fs
+freed_by_join true p None new fs = fs
+freed_by_join true p (Some t) new fs = freed_with p t new fs
 
 -- whether a place is the first of those that are left
 abbrev pub is_first_place : ℕ → List ℕ → Bool
@@ -45,7 +45,7 @@ abbrev pub joined_from : List (Pos × Nf) → ℕ → (left : List ℕ) → List
 joined_from v k left fs [] = Done []
 joined_from v k left fs (p ∷ ps) =
     after (equation_joined v (is_first_place k left) p.pos p.equation fs)
-    (λ o. after (joined_from v (k + 1) (left_behind k left) (freed_after (is_first_place k left) p.pos p.equation o fs) ps)
+    (λ o. after (joined_from v (k + 1) (left_behind k left) (freed_by_join (is_first_place k left) p.pos p.equation o fs) ps)
     (λ rest. Done (with_equation p o ∷ rest)))
 
 -- the literals from index k on, where these indices are left

@@ -11,9 +11,9 @@ use Rattle.nf_terms.specs.declared.tree.Base.TheVariants as base
 use Rattle.nf_terms.specs.declared.tree.SeqBase.TheVariants as list
 use Rattle.nf_terms.specs.declared.form.Nf.{Nf}
 use Rattle.nf_terms.specs.declared.form.Nf.TheVariants.{Num, Arr, Seq}
-use Rattle.nf_sums.specs.Operations.{added, subtracted}
-use Rattle.nf_subst.specs.Vectors.{number_at}
-use Rattle.nf_subst.specs.Substitution.{substituted}
+use Rattle.nf_sums.specs.Operations.{normal_sum, normal_difference}
+use Rattle.nf_substitution.specs.Vectors.{number_at}
+use Rattle.nf_substitution.specs.Substitution.{polynomial_substituted}
 use Rattle.nf_rel.specs.Literals.{NormalLiteral}
 use Rattle.sym_paths.specs.Execution.{Post}
 use Rattle.sym_facts.specs.Facts.{FactPosition, Fact}
@@ -34,8 +34,9 @@ symbol_like p (Seq l) = Seq (bare_list (list.Sym p))
 -- that does
 abbrev pub number_tied_to : List (Pos × Nf) → Pos → Polynomial → Pos → Nf → (later : Computed (Option Nf)) → Computed (Option Nf)
 number_tied_to v p t q (Num u) later =
-    after (subtracted t u) (λ d. after (subtracted (number_at v p) (number_at v q)) (λ e. after (substituted v d) (λ s.
-    cond (same_polynomial e s) (after (added (polynomial_of_symbol q) d) (λ r. Done (Some (Num r)))) later)))
+    after (normal_difference t u)
+    (λ d. after (normal_difference (number_at v p) (number_at v q)) (λ e. after (polynomial_substituted v d) (λ s.
+    cond (same_polynomial e s) (after (normal_sum (polynomial_of_symbol q) d) (λ r. Done (Some (Num r)))) later)))
 number_tied_to v p t q (Arr a) later = later
 number_tied_to v p t q (Seq l) later = later
 
@@ -52,10 +53,10 @@ form_tied v p t [] = None
 form_tied v p t (f ∷ fs) = cond (is_alike v p t f) (Some (symbol_like f.pos t)) (form_tied v p t fs)
 
 -- the new equation of a position whose equation fails, where it is tied
-abbrev pub tied : List (Pos × Nf) → Pos → Nf → List Freed → Computed (Option Nf)
-tied v p (Num t) fs = number_tied v p t fs
-tied v p (Arr a) fs = Done (form_tied v p (Arr a) fs)
-tied v p (Seq l) fs = Done (form_tied v p (Seq l) fs)
+abbrev pub tied_equation : List (Pos × Nf) → Pos → Nf → List Freed → Computed (Option Nf)
+tied_equation v p (Num t) fs = number_tied v p t fs
+tied_equation v p (Arr a) fs = Done (form_tied v p (Arr a) fs)
+tied_equation v p (Seq l) fs = Done (form_tied v p (Seq l) fs)
 
 abbrev pub with_equation : FactPosition → Option Nf → FactPosition
 with_equation p o = record { pos = p.pos; sort = p.sort; equation = o }
@@ -71,7 +72,7 @@ abbrev pub position_joined : List (Pos × Nf) → (fails : Bool) → FactPositio
 position_joined v false p o fs later = after (later fs) (λ rest. Done (p ∷ rest))
 position_joined v true p None fs later = after (later fs) (λ rest. Done (p ∷ rest))
 position_joined v true p (Some t) fs later =
-    after (tied v p.pos t fs) (λ r. after (later (freed_with p.pos t r fs)) (λ rest. Done (with_equation p r ∷ rest)))
+    after (tied_equation v p.pos t fs) (λ r. after (later (freed_with p.pos t r fs)) (λ rest. Done (with_equation p r ∷ rest)))
 
 abbrev pub is_among : ℕ → List ℕ → Bool
 is_among k ks = list_any (λ j. j == k) ks

@@ -20,10 +20,10 @@ pub data Traced (T : Type 0) : Type 0 where
   LargeAt : Side → (branch : ℕ) → (units depth : ℕ) → Traced T
 
 -- goes on with what is found
-abbrev pub followed : {S T : Type 0} → Traced S → (S → Traced T) → Traced T
-followed (Found x) next = next x
-followed (WideAt d k left right) next = WideAt d k left right
-followed (LargeAt d k units depth) next = LargeAt d k units depth
+abbrev pub traced_then : {S T : Type 0} → Traced S → (S → Traced T) → Traced T
+traced_then (Found x) next = next x
+traced_then (WideAt d k left right) next = WideAt d k left right
+traced_then (LargeAt d k units depth) next = LargeAt d k units depth
 
 -- what is computed for a path
 abbrev pub on_path : {T : Type 0} → Side → (branch : ℕ) → Computed T → Traced T
@@ -42,7 +42,7 @@ count_open n more = cond more (n + 1) n
 -- how many paths of a side are not refuted under a fact, beside those that are counted so far
 abbrev pub count_from : Fsmd → Side → Fact → List Path → ℕ → Traced ℕ
 count_from m d f [] n = Found n
-count_from m d f (p ∷ ps) n = followed (on_path d p.branch (is_open_path m d f p))
+count_from m d f (p ∷ ps) n = traced_then (on_path d p.branch (is_open_path m d f p))
     (λ more. count_from m d f ps (count_open n more))
 
 -- a machine that has one way on at most moves alone where the other has more
@@ -60,5 +60,5 @@ mode_by false false f = f
 abbrev pub mode_of : (a b : Fsmd) → Fact → (left right : Point) → Traced Mode
 mode_of a b f P Q =
     mode_by (same_point P paths.Done) (same_point Q paths.Done)
-    (followed (count_from a side.Left f (paths_of a P) 0)
-    (λ n. followed (count_from b side.Right f (paths_of b Q) 0) (λ k. Found (mode_of_counts n k))))
+    (traced_then (count_from a side.Left f (paths_of a P) 0)
+    (λ n. traced_then (count_from b side.Right f (paths_of b Q) 0) (λ k. Found (mode_of_counts n k))))

@@ -9,12 +9,13 @@ use Rattle.nf_terms.specs.declared.symbols.Sort.TheVariants as term
 use Rattle.fs_model.specs.declared.sides.Pos.{Pos}
 use Rattle.nf_terms.specs.declared.form.Nf.{Nf}
 use Rattle.nf_terms.specs.declared.form.Nf.TheVariants.{Num}
-use Rattle.nf_subst.specs.Vectors.{with_form}
+use Rattle.nf_substitution.specs.Vectors.{with_form}
 use Rattle.nf_rel.specs.Literals.{NormalLiteral}
 use Rattle.sym_paths.specs.Execution.{Post}
 use Rattle.sym_facts.specs.Facts.{FactPosition, Fact, own_symbol, most_literals}
 use Rattle.propagate.specs.declared.splits.Signed.{Signed}
-use Rattle.propagate.specs.Rebases.{value_at, is_held, lone_symbol, RebaseState, with_mark, symbol_found, Split, Solution, solved}
+use Rattle.propagate.specs.Rebases.{value_at, is_held, lone_symbol, RebaseState, with_mark, symbol_found, Split, Solution}
+use Rattle.propagate.specs.Rebases.{second_pass_solution}
 use Rattle.propagate.specs.Rebases.{number_tied_to, equation_found, freed_with, with_equation, with_needed, conditions_over}
 use Rattle.propagate.specs.JoinSteps.{or_later}
 
@@ -68,7 +69,7 @@ turn_of free None ms = record { is_free = free; meanings = ms }
 turn_of free (Some x) ms = record { is_free = true; meanings = with_form x.symbol (Num x.meaning) ms }
 
 abbrev pub second_turn : (free : Bool) → (v ms : List (Pos × Nf)) → Sort → Pos → Computed RebaseTurn
-second_turn free v ms s p = after (solved free v ms s p) (λ o. Done (turn_of free o ms))
+second_turn free v ms s p = after (second_pass_solution free v ms s p) (λ o. Done (turn_of free o ms))
 
 abbrev pub second_from : List (Pos × Nf) → List Position → List Bool → List (Pos × Nf) → Computed RebaseState
 second_from v [] bs ms = Done (record { free = []; meanings = ms })
@@ -78,24 +79,24 @@ second_from v (p ∷ ps) (b ∷ bs) ms = after (second_turn b v ms p.sort p.pos)
 
 -- ---- the third pass
 -- a number tied to the first of the freed positions that it can be tied to
-abbrev pub first_tie : (v ms : List (Pos × Nf)) → Polynomial → List Position → Computed (Option Nf)
-first_tie v ms t [] = Done None
-first_tie v ms t (q ∷ qs) = after (number_tied_to v ms t q.sort q.pos (Done None)) (λ o. or_later o (first_tie v ms t qs))
+abbrev pub rebase_tie : (v ms : List (Pos × Nf)) → Polynomial → List Position → Computed (Option Nf)
+rebase_tie v ms t [] = Done None
+rebase_tie v ms t (q ∷ qs) = after (number_tied_to v ms t q.sort q.pos (Done None)) (λ o. or_later o (rebase_tie v ms t qs))
 
 abbrev pub equation_given : (free : Bool) → (v ms : List (Pos × Nf)) → Position → List Position → Computed (Option Nf)
 equation_given true v ms p qs = Done None
 equation_given false v ms p qs = equation_found v ms (value_at v p.sort p.pos) qs
 
-abbrev pub freed_after : (free : Bool) → Position → Option Nf → List Position → List Position
-freed_after true p o qs = qs
-freed_after false p o qs = freed_with p o qs
+abbrev pub freed_by_rebase : (free : Bool) → Position → Option Nf → List Position → List Position
+freed_by_rebase true p o qs = qs
+freed_by_rebase false p o qs = freed_with p o qs
 
 abbrev pub third_from : (v ms : List (Pos × Nf)) → List Position → List Bool → (freed : List Position)
     → Computed (List FactPosition)
 third_from v ms [] bs qs = Done []
 third_from v ms (p ∷ ps) [] qs = Done []
 third_from v ms (p ∷ ps) (b ∷ bs) qs = after (equation_given b v ms p qs)
-    (λ o. after (third_from v ms ps bs (freed_after b p o qs)) (λ rest. Done (with_equation p o ∷ rest)))
+    (λ o. after (third_from v ms ps bs (freed_by_rebase b p o qs)) (λ rest. Done (with_equation p o ∷ rest)))
 
 -- ---- the literals
 abbrev pub conditions_kept : List (Pos × Nf) → List NormalLiteral → Computed (List NormalLiteral)

@@ -21,9 +21,9 @@ use Rattle.nf_terms.specs.declared.symbols.Sort.{Sort as TermSort}
 use Rattle.nf_terms.specs.declared.symbols.Sort.TheVariants as term
 use Rattle.nf_terms.specs.declared.form.Nf.{Nf}
 use Rattle.nf_terms.specs.declared.form.Nf.TheVariants.{Num, Arr, Seq}
-use Rattle.nf_sums.specs.Operations.{added, subtracted}
-use Rattle.nf_subst.specs.Vectors.{form_at, number_at, array_form, list_at, with_form}
-use Rattle.nf_subst.specs.Substitution.{substituted}
+use Rattle.nf_sums.specs.Operations.{normal_sum, normal_difference}
+use Rattle.nf_substitution.specs.Vectors.{form_at, number_at, array_form, list_at, with_form}
+use Rattle.nf_substitution.specs.Substitution.{polynomial_substituted}
 use Rattle.nf_rel.specs.Literals.{NormalLiteral, True}
 use Rattle.nf_rel.specs.NormalLiterals.{same_literal}
 use Rattle.sym_paths.specs.Execution.{Post}
@@ -101,12 +101,12 @@ abbrev pub with_mark : Bool → RebaseState → RebaseState
 with_mark b h = record { free = b ∷ h.free; meanings = h.meanings }
 
 -- the symbol that is not held and that the value of a position is
-abbrev pub unheld : List (Pos × Nf) → TermSort → Option Pos → Option Pos
-unheld ms s None = None
-unheld ms s (Some x) = cond (is_held ms (x, s)) None (Some x)
+abbrev pub unheld_symbol : List (Pos × Nf) → TermSort → Option Pos → Option Pos
+unheld_symbol ms s None = None
+unheld_symbol ms s (Some x) = cond (is_held ms (x, s)) None (Some x)
 
 abbrev pub symbol_found : (v ms : List (Pos × Nf)) → Sort → Pos → Option Pos
-symbol_found v ms s p = unheld ms (sort_of_terms s) (bare_symbol (value_at v s p))
+symbol_found v ms s p = unheld_symbol ms (sort_of_terms s) (bare_symbol (value_at v s p))
 
 -- a position that has found a symbol is free, and its own symbol is the new meaning
 abbrev pub first_by : Option Pos → Sort → Pos → List (Pos × Nf) → (later : List (Pos × Nf) → RebaseState) → RebaseState
@@ -137,14 +137,14 @@ split_at ms c None p later = later
 split_at ms c (Some s) p later = split_by (is_held ms (s, term.Scalar)) (int_eq c (pos 1)) (int_eq c (neg_ℤ (pos 1))) s p later
 
 -- the first symbol alone that is not held, with the coefficient 1 or -1, and the rest
-abbrev pub split : List (Pos × Nf) → Polynomial → Option Split
-split ms Zero = None
-split ms (Plus m c p) = split_at ms c (lone_symbol m) p (option_map (with_more_of_split m c) (split ms p))
+abbrev pub split_off_symbol : List (Pos × Nf) → Polynomial → Option Split
+split_off_symbol ms Zero = None
+split_off_symbol ms (Plus m c p) = split_at ms c (lone_symbol m) p (option_map (with_more_of_split m c) (split_off_symbol ms p))
 
 -- the position's symbol less the rest, or the rest less it
 abbrev pub less_rest : (positive : Bool) → Pos → Polynomial → Computed Polynomial
-less_rest true p r = subtracted (polynomial_of_symbol p) r
-less_rest false p r = subtracted r (polynomial_of_symbol p)
+less_rest true p r = normal_difference (polynomial_of_symbol p) r
+less_rest false p r = normal_difference r (polynomial_of_symbol p)
 
 -- a symbol with its new meaning
 pub record Solution : Type 0 where
@@ -156,14 +156,14 @@ abbrev pub solution : List (Pos × Nf) → Pos → Option Split → Computed (Op
 solution ms p None = Done None
 solution ms p (Some x) =
     cond (number_held ms x.rest)
-    (after (substituted ms x.rest)
+    (after (polynomial_substituted ms x.rest)
     (λ r. after (less_rest x.positive p r) (λ t. Done (Some (record { symbol = x.symbol; meaning = t }))))) (Done None)
 
-abbrev pub solved : (free : Bool) → (v ms : List (Pos × Nf)) → Sort → Pos → Computed (Option Solution)
-solved true v ms s p = Done None
-solved false v ms sort.Scalar p = solution ms p (split ms (number_at v p))
-solved false v ms sort.Array p = Done None
-solved false v ms sort.Port p = Done None
+abbrev pub second_pass_solution : (free : Bool) → (v ms : List (Pos × Nf)) → Sort → Pos → Computed (Option Solution)
+second_pass_solution true v ms s p = Done None
+second_pass_solution false v ms sort.Scalar p = solution ms p (split_off_symbol ms (number_at v p))
+second_pass_solution false v ms sort.Array p = Done None
+second_pass_solution false v ms sort.Port p = Done None
 
 abbrev pub second_by : (free : Bool) → Option Solution → List (Pos × Nf) → (later : List (Pos × Nf) → Computed RebaseState)
     → Computed RebaseState
@@ -173,16 +173,17 @@ second_by free (Some x) ms later = after (later (with_form x.symbol (Num x.meani
 abbrev pub second_pass : List (Pos × Nf) → List Position → List Bool → List (Pos × Nf) → Computed RebaseState
 second_pass v [] bs ms = Done (record { free = []; meanings = ms })
 second_pass v (p ∷ ps) [] ms = Done (record { free = []; meanings = ms })
-second_pass v (p ∷ ps) (b ∷ bs) ms = after (solved b v ms p.sort p.pos) (λ o. second_by b o ms (λ ns. second_pass v ps bs ns))
+second_pass v (p ∷ ps) (b ∷ bs) ms = after (second_pass_solution b v ms p.sort p.pos)
+    (λ o. second_by b o ms (λ ns. second_pass v ps bs ns))
 
 -- ---- the third pass: each other position gets its value over held symbols, is tied, or is freed
 -- a number is tied to the first number freed in this pass from which it differs by held symbols alone
 abbrev pub number_tied_to : (v ms : List (Pos × Nf)) → Polynomial → Sort → Pos → (later : Computed (Option Nf))
     → Computed (Option Nf)
 number_tied_to v ms t sort.Scalar q later =
-    after (subtracted t (number_at v q))
+    after (normal_difference t (number_at v q))
     (λ d. cond (number_held ms d)
-    (after (substituted ms d) (λ e. after (added (polynomial_of_symbol q) e) (λ r. Done (Some (Num r))))) later)
+    (after (polynomial_substituted ms d) (λ e. after (normal_sum (polynomial_of_symbol q) e) (λ r. Done (Some (Num r))))) later)
 number_tied_to v ms t sort.Array q later = later
 number_tied_to v ms t sort.Port q later = later
 
@@ -195,14 +196,15 @@ abbrev pub form_tied : List (Pos × Nf) → Nf → List Position → Option Nf
 form_tied v t [] = None
 form_tied v t (q ∷ qs) = cond (same_form t (value_at v q.sort q.pos)) (Some (own_symbol q.sort q.pos)) (form_tied v t qs)
 
-abbrev pub tied : (v ms : List (Pos × Nf)) → Nf → List Position → Computed (Option Nf)
-tied v ms (Num t) qs = number_tied v ms t qs
-tied v ms (Arr a) qs = Done (form_tied v (Arr a) qs)
-tied v ms (Seq l) qs = Done (form_tied v (Seq l) qs)
+abbrev pub rebase_tied_equation : (v ms : List (Pos × Nf)) → Nf → List Position → Computed (Option Nf)
+rebase_tied_equation v ms (Num t) qs = number_tied v ms t qs
+rebase_tied_equation v ms (Arr a) qs = Done (form_tied v (Arr a) qs)
+rebase_tied_equation v ms (Seq l) qs = Done (form_tied v (Seq l) qs)
 
 -- the equation of a position with this value, where it gets one
 abbrev pub equation_found : (v ms : List (Pos × Nf)) → Nf → List Position → Computed (Option Nf)
-equation_found v ms t qs = cond (form_held ms t) (after (form_substituted ms t) (λ r. Done (Some r))) (tied v ms t qs)
+equation_found v ms t qs = cond (form_held ms t) (after (form_substituted ms t) (λ r. Done (Some r)))
+    (rebase_tied_equation v ms t qs)
 
 -- the positions that are freed in this pass, with one more where it gets no equation
 abbrev pub freed_with : Position → (equation : Option Nf) → List Position → List Position

@@ -6,7 +6,7 @@ ghost use Rattle.nf_terms.specs.Computed.{Answers};
 ghost use Rattle.nf_rel.specs.NormalLiterals.{is_normal_literal, same_literal};
 ghost use Rattle.nf_rel.specs.Literals.{True};
 ghost use Rattle.nf_rel.specs.View.{literal_in};
-ghost use Rattle.sym_paths.specs.View.{told};
+ghost use Rattle.sym_paths.specs.View.{answer_in_data};
 ghost use Rattle.sym_facts.specs.Facts.{may_be_kept};
 ghost use Rattle.propagate.specs.Rebases.{is_needless, with_needed, conditions_over};
 ghost use Rattle.propagate.specs.RebaseSteps.{conditions_kept};
@@ -14,8 +14,8 @@ ghost use Rattle.propagate.specs.RebaseSteps.{conditions_kept};
 use crate::held_symbols::literal_held;
 use nf_rel::copies::is_same;
 use nf_rel::literals::NLit;
-use nf_subst::subst::Subst;
-use nf_subst::vector::Vector;
+use nf_substitution::subst::Subst;
+use nf_substitution::vector::Vector;
 use nf_terms::stop::{NfStop, NoMemory};
 use std::alloc::Global;
 use sym_facts::entailment::substitute_literal;
@@ -56,7 +56,7 @@ fn conditions_over(
     conditions: &[NLit],
 ) -> Result<Vec<NLit>, NfStop>
     requires { s.old.vector ≡ meanings.now }
-    ensures answers { Answers (told (λ ls. map literal_in ls.items) result)
+    ensures answers { Answers (answer_in_data (λ ls. map literal_in ls.items) result)
         (conditions_over meanings.now (map literal_in conditions.now)) }
     ensures normal { IfOk result (λ ls. list_all is_normal_literal (map literal_in ls.items) ≡ true) }
 {
@@ -70,7 +70,7 @@ fn conditions_over(
 }
 
 // The literals that are not true, each once.
-fn needed(alloc: Global, literals: &[NLit]) -> Result<Vec<NLit>, NoMemory>
+fn keep_needed(alloc: Global, literals: &[NLit]) -> Result<Vec<NLit>, NoMemory>
     ensures { IfOk result (λ out. map literal_in out.items ≡ with_needed [] (map literal_in literals.now)) }
 {
     let mut out: Vec<NLit> = Vec::new(alloc);
@@ -92,12 +92,12 @@ pub fn conditions_kept(
     conditions: &[NLit],
 ) -> Result<Vec<NLit>, NfStop>
     requires { s.old.vector ≡ meanings.now }
-    ensures answers { Answers (told (λ ls. map literal_in ls.items) result)
+    ensures answers { Answers (answer_in_data (λ ls. map literal_in ls.items) result)
         (conditions_kept meanings.now (map literal_in conditions.now)) }
     ensures kept { IfOk result (λ ls. IsTrue (list_all may_be_kept (map literal_in ls.items))) }
 {
     let over = conditions_over(alloc, s, meanings, conditions)?;
-    let mut out = needed(alloc, over.as_slice())?;
+    let mut out = keep_needed(alloc, over.as_slice())?;
     out.truncate(MOST_LITERALS);
     Ok(out)
 }

@@ -3,15 +3,15 @@
 ghost use Rattle.std.specs.Prelude.{◌≡◌, IfOk, None};
 ghost use Rattle.fs_model.specs.declared.parts.Sort.TheVariants as variable;
 ghost use Rattle.nf_terms.specs.Computed.{Answers, Done};
-ghost use Rattle.propagate.specs.Rebases.{number_tied_to, form_tied, tied, equation_found};
-ghost use Rattle.propagate.specs.RebaseSteps.{first_tie};
+ghost use Rattle.propagate.specs.Rebases.{number_tied_to, form_tied, rebase_tied_equation, equation_found};
+ghost use Rattle.propagate.specs.RebaseSteps.{rebase_tie};
 
 use crate::held_symbols::{form_held, number_held};
 use crate::values::{difference_from, value_at};
 use fs_model::parts::Sort;
 use fs_pair::positions::Position;
-use nf_subst::subst::Subst;
-use nf_subst::vector::Vector;
+use nf_substitution::subst::Subst;
+use nf_substitution::vector::Vector;
 use nf_sums::sums::add;
 use nf_terms::form::Nf;
 use nf_terms::poly::Poly;
@@ -72,7 +72,7 @@ fn number_tied(
     freed: &[Position],
 ) -> Result<Option<Nf>, NfStop>
     requires { s.old.vector ≡ meanings.now }
-    ensures answers { Answers result (first_tie v.now meanings.now number.now freed.now) }
+    ensures answers { Answers result (rebase_tie v.now meanings.now number.now freed.now) }
     ensures vector { s.new.vector ≡ s.old.vector }
 {
     for q in freed {
@@ -103,7 +103,7 @@ fn form_tied(
 
 // A form, tied to the first position that is freed that it can be tied to.
 #[tactic(auto, using(crate::proofs::RebaseTurns::ties_in_turn))]
-fn tied(
+fn tie_freed_form(
     alloc: Global,
     s: &mut Subst<'_>,
     v: &Vector,
@@ -112,7 +112,7 @@ fn tied(
     freed: &[Position],
 ) -> Result<Option<Nf>, NfStop>
     requires { s.old.vector ≡ meanings.now }
-    ensures answers { Answers result (tied v.now meanings.now form.now freed.now) }
+    ensures answers { Answers result (rebase_tied_equation v.now meanings.now form.now freed.now) }
     ensures vector { s.new.vector ≡ s.old.vector }
 {
     match form {
@@ -140,5 +140,5 @@ pub fn equation_found(
     if form_held(alloc, meanings, form)? {
         return Ok(Some(substitute(alloc, s, form)?));
     }
-    tied(alloc, s, v, meanings, form, freed)
+    tie_freed_form(alloc, s, v, meanings, form, freed)
 }

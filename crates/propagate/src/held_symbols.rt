@@ -6,7 +6,7 @@ ghost use Rattle.nf_rel.specs.View.{literal_in};
 ghost use Rattle.propagate.specs.Rebases.{is_held, number_held, form_held, literal_held};
 
 use nf_rel::literals::NLit;
-use nf_subst::vector::Vector;
+use nf_substitution::vector::Vector;
 use nf_terms::form::Nf;
 use nf_terms::poly::Poly;
 use nf_terms::stop::NoMemory;

@@ -3,22 +3,22 @@
 ghost use Rattle.std.specs.Prelude.{◌≡◌, ◌≤◌, ◌<◌, ◌^◌, [], map, length, IfOk};
 ghost use Rattle.nf_terms.specs.Computed.{Answers, Done};
 ghost use Rattle.nf_rel.specs.View.{literal_in};
-ghost use Rattle.sym_paths.specs.View.{told, post_in};
+ghost use Rattle.sym_paths.specs.View.{answer_in_data, post_in};
 ghost use Rattle.sym_facts.specs.Entailment.{entails};
 ghost use Rattle.sym_facts.specs.Pairings.{IsFactOf};
-ghost use Rattle.sym_facts.specs.FactParts.{most_positions};
+ghost use Rattle.sym_facts.specs.FactParts.{most_sorted_positions};
 ghost use Rattle.sym_facts.specs.View.{position_in, missing_in};
-ghost use Rattle.propagate.specs.Joins.{tied, freed_with, join as joined};
-ghost use Rattle.propagate.specs.JoinSteps.{equation_joined, freed_after, is_first_place, left_behind, joined_from};
+ghost use Rattle.propagate.specs.Joins.{tied_equation, freed_with, join as joined};
+ghost use Rattle.propagate.specs.JoinSteps.{equation_joined, freed_by_join, is_first_place, left_behind, joined_from};
 ghost use Rattle.propagate.specs.JoinSteps.{literals_from};
 ghost use Rattle.propagate.specs.View.{freed_in};
 
-use crate::ties::{Freed, tied};
+use crate::ties::{Freed, tie_equation};
 use fs_pair::positions::Pairing;
 use nf_rel::literals::NLit;
-use nf_subst::shared_form::SharedForm;
-use nf_subst::subst::Subst;
-use nf_subst::vector::Vector;
+use nf_substitution::shared_form::SharedForm;
+use nf_substitution::subst::Subst;
+use nf_substitution::vector::Vector;
 use nf_terms::stop::{NfStop, NoMemory};
 use nf_terms::tree::Pos;
 use std::alloc::Global;
@@ -57,12 +57,12 @@ fn tied_or_freed<'a>(
     freed: &mut Vec<Freed<'a>>,
 ) -> Result<Option<SharedForm>, NfStop>
     requires { s.old.vector ≡ v.now }
-    ensures answers { Answers result (tied v.now pos old.now (map freed_in freed.old.items)) }
+    ensures answers { Answers result (tied_equation v.now pos old.now (map freed_in freed.old.items)) }
     ensures freed { IfOk result (λ o. map freed_in freed.new.items ≡ freed_with pos old.now o (map freed_in freed.old.items)) }
     ensures vector { s.new.vector ≡ s.old.vector }
 {
     let form = old.form();
-    if let Some(tie) = tied(alloc, s, v, &pos, form, freed.as_slice())? {
+    if let Some(tie) = tie_equation(alloc, s, v, &pos, form, freed.as_slice())? {
         return Ok(Some(SharedForm::of(alloc, tie)?));
     }
     freed.push(Freed { pos, old: form })?;
@@ -83,7 +83,7 @@ fn equation_joined<'a>(
         (equation_joined v.now fails (position_in position.now).pos (position_in position.now).equation
         (map freed_in freed.old.items)) }
     ensures freed { IfOk result
-        (λ o. map freed_in freed.new.items ≡ freed_after fails (position_in position.now).pos
+        (λ o. map freed_in freed.new.items ≡ freed_by_join fails (position_in position.now).pos
         (position_in position.now).equation o (map freed_in freed.old.items)) }
     ensures vector { s.new.vector ≡ s.old.vector }
 {
@@ -105,8 +105,8 @@ fn positions_joined(
     positions: &[FactPosition],
 ) -> Result<Vec<FactPosition>, NfStop>
     requires vector { s.old.vector ≡ v.now }
-    requires few { length positions.now ≤ most_positions }
-    ensures { Answers (told (λ out. map position_in out.items) result)
+    requires few { length positions.now ≤ most_sorted_positions }
+    ensures { Answers (answer_in_data (λ out. map position_in out.items) result)
         (joined_from v.now 0 missing.now [] (map position_in positions.now)) }
 {
     let mut freed = Vec::new(alloc);

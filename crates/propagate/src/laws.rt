@@ -4,7 +4,7 @@ ghost use Rattle.std.specs.Prelude.{◌≡◌, ◌+◌, ◌<◌, ◌≤◌, leng
 ghost use Rattle.fs_pair.specs.declared.positions.Position.{Position};
 ghost use Rattle.nf_terms.specs.TermMeaning.{Valuation};
 ghost use Rattle.nf_terms.specs.Computed.{Done};
-ghost use Rattle.nf_subst.specs.Vectors.{meaning};
+ghost use Rattle.nf_substitution.specs.Vectors.{vector_meaning};
 ghost use Rattle.nf_rel.specs.Literals.{all_true_in};
 ghost use Rattle.sym_paths.specs.Execution.{Post};
 ghost use Rattle.sym_facts.specs.Facts.{Fact, HoldsIn, is_solved, most_literals};
@@ -21,13 +21,13 @@ pub fn joins_hold()
     ensures old { (w : Valuation) (old new : Fact) (post : Post) (missing : Missing) → join old post missing ≡ Done new
         → HoldsIn w old → HoldsIn w new }
     ensures post { (w : Valuation) (old new : Fact) (post : Post) (missing : Missing) → entails post old ≡ Done missing
-        → join old post missing ≡ Done new → all_true_in w post.conditions ≡ true → HoldsIn (meaning post.vector w) new }
+        → join old post missing ≡ Done new → all_true_in w post.conditions ≡ true → HoldsIn (vector_meaning post.vector w) new }
 {}
 
 /// The rebased fact holds of what the post's vector means where the post's conditions are true.
 pub fn rebases_hold()
     ensures { (w : Valuation) (post : Post) (ps : List Position) (f : Fact) → rebase post ps ≡ Done f
-        → all_true_in w post.conditions ≡ true → HoldsIn (meaning post.vector w) f }
+        → all_true_in w post.conditions ≡ true → HoldsIn (vector_meaning post.vector w) f }
 {}
 
 /// A join of a solved fact, and every rebase, is solved: no position with an equation is mentioned.

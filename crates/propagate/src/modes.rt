@@ -14,7 +14,7 @@ use cert_bisimulation::mode::Mode;
 use fs_ast::machine::Machine;
 use fs_cut::cover::{Cover, Path, Point};
 use nf_refutation::refutation::is_refuted;
-use nf_subst::vector::Vector;
+use nf_substitution::vector::Vector;
 use nf_terms::stop::{NfStop, NoMemory};
 use nf_terms::tree::Side;
 use std::alloc::Global;

@@ -2,22 +2,23 @@
 
 ghost use Rattle.std.specs.Prelude.{◌≡◌, [], map, is_some, IfOk};
 ghost use Rattle.nf_terms.specs.Computed.{Answers};
-ghost use Rattle.sym_paths.specs.View.{told, post_in};
+ghost use Rattle.sym_paths.specs.View.{answer_in_data, post_in};
 ghost use Rattle.sym_facts.specs.View.{position_in};
 ghost use Rattle.propagate.specs.Rebases.{symbol_found, rebase as rebased};
-ghost use Rattle.propagate.specs.RebaseSteps.{with_found, first_pass_from, second_turn, second_from, equation_given, freed_after};
+ghost use Rattle.propagate.specs.RebaseSteps.{with_found, first_pass_from, second_turn, second_from, equation_given};
+ghost use Rattle.propagate.specs.RebaseSteps.{freed_by_rebase};
 ghost use Rattle.propagate.specs.RebaseSteps.{third_from};
 
 use crate::bare_symbols::bare_symbol;
 use crate::conditions::conditions_kept;
 use crate::equations::equation_found;
 use crate::held_symbols::is_held;
-use crate::solutions::solved;
+use crate::solutions::solve_position;
 use crate::values::{sort_of_terms, value_at};
 use fs_pair::positions::{Pairing, Position};
-use nf_subst::shared_form::SharedForm;
-use nf_subst::subst::Subst;
-use nf_subst::vector::Vector;
+use nf_substitution::shared_form::SharedForm;
+use nf_substitution::subst::Subst;
+use nf_substitution::vector::Vector;
 use nf_terms::form::Nf;
 use nf_terms::stop::{NfStop, NoMemory};
 use nf_terms::tree::Pos;
@@ -107,11 +108,11 @@ fn holds_solution(
     meanings: &mut Vector,
     marked: &Marked,
 ) -> Result<bool, NfStop>
-    ensures { Answers (told (λ b. record { is_free = b; meanings = meanings.new }) result)
+    ensures { Answers (answer_in_data (λ b. record { is_free = b; meanings = meanings.new }) result)
         (second_turn marked.now.is_free v.now meanings.old marked.now.position.sort marked.now.position.pos) }
 {
     let position = marked.position;
-    match solved(
+    match solve_position(
         alloc,
         marked.is_free,
         v,
@@ -135,7 +136,8 @@ fn second_pass(
     positions: &[Marked],
 ) -> Result<Vec<Marked>, NfStop>
     ensures positions { IfOk result (λ out. map (λ m. m.position) out.items ≡ map (λ m. m.position) positions.now) }
-    ensures held { Answers (told (λ out. record { free = map (λ m. m.is_free) out.items; meanings = meanings.new }) result)
+    ensures held { Answers
+        (answer_in_data (λ out. record { free = map (λ m. m.is_free) out.items; meanings = meanings.new }) result)
         (second_from v.now (map (λ m. m.position) positions.now) (map (λ m. m.is_free) positions.now) meanings.old) }
 {
     let mut out = Vec::new(alloc);
@@ -160,7 +162,8 @@ fn equation_given(
 ) -> Result<Option<SharedForm>, NfStop>
     requires { s.old.vector ≡ meanings.now }
     ensures answers { Answers result (equation_given marked.now.is_free v.now meanings.now marked.now.position freed.old.items) }
-    ensures freed { IfOk result (λ o. freed.new.items ≡ freed_after marked.now.is_free marked.now.position o freed.old.items) }
+    ensures freed { IfOk result
+        (λ o. freed.new.items ≡ freed_by_rebase marked.now.is_free marked.now.position o freed.old.items) }
     ensures vector { s.new.vector ≡ s.old.vector }
 {
     if marked.is_free {
@@ -184,7 +187,7 @@ fn third_pass(
     positions: &[Marked],
 ) -> Result<Vec<FactPosition>, NfStop>
     requires { s.old.vector ≡ meanings.now }
-    ensures answers { Answers (told (λ out. map position_in out.items) result)
+    ensures answers { Answers (answer_in_data (λ out. map position_in out.items) result)
         (third_from v.now meanings.now (map (λ m. m.position) positions.now) (map (λ m. m.is_free) positions.now) []) }
     ensures vector { s.new.vector ≡ s.old.vector }
 {

@@ -2,15 +2,15 @@
 
 ghost use Rattle.std.specs.Prelude.{Some, option_map};
 ghost use Rattle.nf_terms.specs.Computed.{Answers};
-ghost use Rattle.sym_paths.specs.View.{told};
-ghost use Rattle.propagate.specs.Rebases.{split, less_rest, solution, solved};
+ghost use Rattle.sym_paths.specs.View.{answer_in_data};
+ghost use Rattle.propagate.specs.Rebases.{split_off_symbol, less_rest, solution, second_pass_solution};
 ghost use Rattle.propagate.specs.View.{split_in, solution_in};
 
 use crate::held_symbols::number_held;
 use crate::splits::{Split, split_off};
 use fs_model::parts::Sort;
-use nf_subst::subst::subst_poly;
-use nf_subst::vector::Vector;
+use nf_substitution::subst::subst_poly;
+use nf_substitution::vector::Vector;
 use nf_sums::sums::sub;
 use nf_terms::poly::Poly;
 use nf_terms::stop::NfStop;
@@ -43,7 +43,7 @@ fn solution_of(
     p: Pos,
     parts: &Split,
 ) -> Result<Option<Solution>, NfStop>
-    ensures { Answers (told (option_map solution_in) result) (solution meanings.now p (Some (split_in parts.now))) }
+    ensures { Answers (answer_in_data (option_map solution_in) result) (solution meanings.now p (Some (split_in parts.now))) }
 {
     if !number_held(alloc, meanings, &parts.rest)? {
         return Ok(None);
@@ -63,7 +63,8 @@ fn number_solved(
     p: Pos,
     number: &Poly,
 ) -> Result<Option<Solution>, NfStop>
-    ensures { Answers (told (option_map solution_in) result) (solution meanings.now p (split meanings.now number.now)) }
+    ensures { Answers (answer_in_data (option_map solution_in) result)
+        (solution meanings.now p (split_off_symbol meanings.now number.now)) }
 {
     match split_off(alloc, meanings, number)? {
         Some(parts) => solution_of(alloc, meanings, p, &parts),
@@ -75,7 +76,7 @@ fn number_solved(
 ///
 /// `Wide` and `Large` come exactly at the first operation that is not narrow, or narrow and not small: the substitution in the
 /// rest, and then the difference. `NoMemory`: out of memory.
-pub fn solved(
+pub fn solve_position(
     alloc: Global,
     is_free: bool,
     v: &Vector,
@@ -83,7 +84,7 @@ pub fn solved(
     sort: Sort,
     p: Pos,
 ) -> Result<Option<Solution>, NfStop>
-    ensures { Answers (told (option_map solution_in) result) (solved is_free v.now meanings.now sort p) }
+    ensures { Answers (answer_in_data (option_map solution_in) result) (second_pass_solution is_free v.now meanings.now sort p) }
 {
     if is_free {
         return Ok(None);

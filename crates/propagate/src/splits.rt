@@ -4,13 +4,13 @@ ghost use Rattle.std.specs.Prelude.{◌≡◌, ◌+◌, ◌<◌, ◌++◌, lengt
 ghost use Rattle.nf_terms.specs.NormalTerms.{polynomial_of};
 ghost use Rattle.nf_terms.specs.Normal.{IsNormal};
 ghost use Rattle.nf_terms.specs.View.{monomial_in, term_in};
-ghost use Rattle.propagate.specs.Rebases.{split};
+ghost use Rattle.propagate.specs.Rebases.{split_off_symbol};
 ghost use Rattle.propagate.specs.RebaseSteps.{signed_term};
 ghost use Rattle.propagate.specs.View.{split_in};
 
 use crate::bare_symbols::lone_symbol;
 use crate::held_symbols::is_held;
-use nf_subst::vector::Vector;
+use nf_substitution::vector::Vector;
 use nf_terms::copies::push_term_copy;
 use nf_terms::poly::Poly;
 use nf_terms::stop::NoMemory;
@@ -94,7 +94,7 @@ fn without(alloc: Global, terms: &[(MonoTree, i128)], place: usize) -> Result<Po
 /// The first symbol alone of a number that is not held, with the coefficient 1 or -1, and the rest. The one refusal is out of
 /// memory.
 pub fn split_off(alloc: Global, meanings: &Vector, number: &Poly) -> Result<Option<Split>, NoMemory>
-    ensures { IfOk result (λ o. option_map split_in o ≡ split meanings.now number.now) }
+    ensures { IfOk result (λ o. option_map split_in o ≡ split_off_symbol meanings.now number.now) }
 {
     let terms = number.monos();
     for (place, (mono, coefficient)) in terms.iter().enumerate() {

@@ -3,13 +3,13 @@
 ghost use Rattle.std.specs.Prelude.{◌≡◌, map, IfOk, None};
 ghost use Rattle.nf_terms.specs.Computed.{Answers, Done};
 ghost use Rattle.nf_terms.specs.declared.form.Nf.TheVariants as form;
-ghost use Rattle.propagate.specs.Joins.{symbol_like, number_tied_to, is_alike, form_tied, tied};
-ghost use Rattle.propagate.specs.JoinSteps.{first_tie};
+ghost use Rattle.propagate.specs.Joins.{symbol_like, number_tied_to, is_alike, form_tied, tied_equation};
+ghost use Rattle.propagate.specs.JoinSteps.{join_tie};
 ghost use Rattle.propagate.specs.View.{freed_in};
 
 use crate::values::difference_from;
-use nf_subst::subst::Subst;
-use nf_subst::vector::Vector;
+use nf_substitution::subst::Subst;
+use nf_substitution::vector::Vector;
 use nf_sums::sums::{add, sub};
 use nf_terms::arr::Arr;
 use nf_terms::form::Nf;
@@ -93,7 +93,7 @@ fn number_tied(
     freed: &[Freed<'_>],
 ) -> Result<Option<Nf>, NfStop>
     requires { s.old.vector ≡ v.now }
-    ensures answers { Answers result (first_tie v.now p.now number.now (map freed_in freed.now)) }
+    ensures answers { Answers result (join_tie v.now p.now number.now (map freed_in freed.now)) }
     ensures vector { s.new.vector ≡ s.old.vector }
 {
     for other in freed {
@@ -142,7 +142,7 @@ fn form_tied(
 
 /// The new equation of a position whose equation fails, where it is tied to a freed position.
 #[tactic(auto, using(crate::proofs::JoinTurns::ties_in_turn))]
-pub fn tied(
+pub fn tie_equation(
     alloc: Global,
     s: &mut Subst<'_>,
     v: &Vector,
@@ -151,7 +151,7 @@ pub fn tied(
     freed: &[Freed<'_>],
 ) -> Result<Option<Nf>, NfStop>
     requires { s.old.vector ≡ v.now }
-    ensures answers { Answers result (tied v.now p.now form.now (map freed_in freed.now)) }
+    ensures answers { Answers result (tied_equation v.now p.now form.now (map freed_in freed.now)) }
     ensures vector { s.new.vector ≡ s.old.vector }
 {
     match form {

@@ -2,13 +2,13 @@
 
 ghost use Rattle.std.specs.Prelude.{◌≡◌, IfOk};
 ghost use Rattle.nf_terms.specs.Computed.{Answers};
-ghost use Rattle.nf_sums.specs.Operations.{subtracted};
-ghost use Rattle.nf_subst.specs.Vectors.{number_at};
+ghost use Rattle.nf_sums.specs.Operations.{normal_difference};
+ghost use Rattle.nf_substitution.specs.Vectors.{number_at};
 ghost use Rattle.sym_facts.specs.Facts.{sort_of_terms};
 ghost use Rattle.propagate.specs.Rebases.{value_at};
 
 use fs_model::parts::Sort;
-use nf_subst::vector::Vector;
+use nf_substitution::vector::Vector;
 use nf_sums::sums::sub;
 use nf_terms::form::Nf;
 use nf_terms::poly::Poly;
@@ -43,7 +43,7 @@ pub fn value_at(alloc: Global, v: &Vector, sort: Sort, p: &Pos) -> Result<Nf, No
 ///
 /// `Wide` and `Large` come exactly where the difference is not narrow, or narrow and not small. `NoMemory`: out of memory.
 pub fn difference_from(alloc: Global, v: &Vector, number: &Poly, q: &Pos) -> Result<Poly, NfStop>
-    ensures { Answers result (subtracted number.now (number_at v.now q.now)) }
+    ensures { Answers result (normal_difference number.now (number_at v.now q.now)) }
 {
     let other = v.number(alloc, q)?;
     sub(alloc, number, &other)

@@ -20,11 +20,11 @@ use Rattle.cert_model.specs.Obligations.{same_alone}
 use Rattle.search_ranks.specs.Walks.{InRange, lists_in}
 use Rattle.search_tables.specs.declared.nodes.TableNode.{TableNode}
 use Rattle.search_tables.specs.View.{table_in, table_node_in}
-use Rattle.search_tables.specs.SearchTables.{MachinePair, SearchNode, Table, Target, Unknown, Known, node_target, PathPair}
+use Rattle.search_tables.specs.SearchTables.{MachinePair, SearchNode, Table, Target, Unknown, Known, node_target, PathPair, arrival}
 use Rattle.search_tables.specs.Next.{mode_at, paths_in}
 use Rattle.search_tables.specs.LoneMoves.{moves_alone, if_alone, lone_target, lone_targets, lone_in, lone_from, lone_moves}
 use Rattle.search_tables.proofs.Forming.{known_in}
-use Rattle.search_closing.specs.LoneSideMoves.{arrival, AreShort}
+use Rattle.search_closing.specs.LoneSideMoves.{AreShort}
 
 -- node j is there, and moves in a mode in which one machine moves alone
 pub record IsLone (m : MachinePair) (T : Table) (x : Mode) (j : ℕ) : Type 0 where

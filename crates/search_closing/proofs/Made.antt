@@ -15,7 +15,7 @@ use Rattle.search_ranks.specs.declared.ranking.Ranking.TheVariants as rankings
 use Rattle.search_tables.specs.SearchTables.{MachinePair, Table}
 use Rattle.search_tables.specs.Next.{mode_at}
 use Rattle.search_tables.specs.LoneMoves.{lone_moves, Spins}
-use Rattle.search_tables.specs.Certifying.{table_node, Certifies}
+use Rattle.search_tables.specs.Certifying.{node_without_mode, Certifies}
 use Rattle.search_closing.specs.Closings.{GivesClosing, HasCount, IsMadeOf, ClosesBy}
 use Rattle.search_closing.specs.ClosedModes.{AreModes, cycle_side}
 use Rattle.search_closing.specs.declared.closing.Closing.{Closing}
@@ -25,8 +25,8 @@ use Rattle.search_closing.proofs.Sides.{spins}
 abbrev found : Mode → Traced Mode
 found x = Found x
 
-each_found : (m : MachinePair) (cs : List (CertificateNode Fact)) → map found (map (λ c. c.mode) cs) ≡ map (mode_at m) (map table_node cs)
-    → AllByRecursion (λ c. mode_at m (table_node c) ≡ Found c.mode) cs
+each_found : (m : MachinePair) (cs : List (CertificateNode Fact)) → map found (map (λ c. c.mode) cs) ≡ map (mode_at m) (map node_without_mode cs)
+    → AllByRecursion (λ c. mode_at m (node_without_mode c) ≡ Found c.mode) cs
 each_found m [] e = tt
 each_found m (c ∷ cs) e = (cc e, each_found m cs (cc e))
 

@@ -8,10 +8,9 @@ use Rattle.cert_model.specs.Obligations.{same_alone}
 use Rattle.nf_terms.specs.Computed.{Computed, Done, Wide, Large}
 use Rattle.nf_rel.specs.Literals.{is_refuted}
 use Rattle.sym_paths.specs.Execution.{Post, end_of}
-use Rattle.search_tables.specs.SearchTables.{MachinePair, SearchNode, Table, Target, Unknown, Known, node_target, PathPair}
+use Rattle.search_tables.specs.SearchTables.{MachinePair, SearchNode, Table, Target, Unknown, Known, node_target, PathPair, arrival}
 use Rattle.search_tables.specs.Next.{mode_at}
 use Rattle.search_tables.specs.LoneMoves.{moves_alone, if_alone, lone_target as target_by, lone_targets}
-use Rattle.search_closing.specs.LoneSideMoves.{arrival}
 
 -- ---- the number of a node from which the same machine moves alone
 pub known_alone : (m : MachinePair) (x y : Mode) (t : Target) (k : ℕ) (n : SearchNode) (b : Bool) → t ≡ Known k n → mode_at m n ≡ Found y → same_alone x y ≡ b

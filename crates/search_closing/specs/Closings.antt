@@ -10,7 +10,7 @@ use Rattle.search_ranks.specs.declared.ranking.Ranking.{Ranking}
 use Rattle.search_ranks.specs.declared.ranking.Ranking.TheVariants as rankings
 use Rattle.search_tables.specs.SearchTables.{MachinePair, Table}
 use Rattle.search_tables.specs.LoneMoves.{lone_moves, Spins}
-use Rattle.search_tables.specs.Certifying.{table_node, Certifies}
+use Rattle.search_tables.specs.Certifying.{node_without_mode, Certifies}
 use Rattle.search_closing.specs.ClosedModes.{cycle_side}
 use Rattle.search_closing.specs.declared.closing.Closing.{Closing}
 use Rattle.search_closing.specs.declared.closing.Closing.TheVariants as closings
@@ -34,7 +34,7 @@ HasCount n (rankings.Cycle cycle) = Unit {0}
 
 -- the nodes of a table with these modes and ranks
 pub record IsMadeOf (T : Table) (modes : List Mode) (ranks : List ℕ) (nodes : List (CertificateNode Fact)) : Type 0 where
-  pub nodes_are : map table_node nodes ≡ T
+  pub nodes_are : map node_without_mode nodes ≡ T
   pub modes_are : map (λ c. c.mode) nodes ≡ modes
   pub ranks_are : map (λ c. c.rank) nodes ≡ ranks
 

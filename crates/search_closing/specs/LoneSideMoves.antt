@@ -6,20 +6,14 @@ use Rattle.fs_cut.specs.Paths.{Path}
 use Rattle.cert_bisimulation.specs.declared.mode.Mode.{Mode}
 use Rattle.fs_model.specs.declared.sides.Side.{Side}
 use Rattle.fs_model.specs.declared.sides.Side.TheVariants as side
-use Rattle.nf_terms.specs.Computed.{Computed}
-use Rattle.sym_paths.specs.Execution.{Post, arrive, end_of}
-use Rattle.sym_facts.specs.Facts.{vector_of}
-use Rattle.search_tables.specs.SearchTables.{MachinePair, SearchNode, Table, Keeps, PathPair, effect}
+use Rattle.sym_paths.specs.Execution.{end_of}
+use Rattle.search_tables.specs.SearchTables.{MachinePair, SearchNode, Table, Keeps, PathPair, effect, arrival}
 use Rattle.search_tables.specs.LoneMoves.{lone_target as target_by}
 
 -- a path that one side takes alone
 abbrev pub lone_path : Side → Path → PathPair
 lone_path side.Left p = record { left = Some p; right = None }
 lone_path side.Right q = record { left = None; right = Some q }
-
--- what arrives by paths from a node
-abbrev pub arrival : MachinePair → SearchNode → PathPair → Computed Post
-arrival m n x = arrive m.left m.right n.fact.literals (vector_of n.fact.positions) x.left x.right
 
 -- where a node leads by paths in a mode in which one machine moves alone, if that moves alone from there too
 abbrev pub lone_move_target : MachinePair → Table → SearchNode → Mode → PathPair → List ℕ

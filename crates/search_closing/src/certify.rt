@@ -2,7 +2,7 @@
 
 ghost use Rattle.std.specs.Prelude.{◌≡◌, length, map, IfOk};
 ghost use Rattle.cert_model.specs.View.{node_of};
-ghost use Rattle.search_tables.specs.Certifying.{table_node};
+ghost use Rattle.search_tables.specs.Certifying.{node_without_mode};
 ghost use Rattle.search_tables.specs.View.{table_in};
 
 use cert_bisimulation::mode::Mode;
@@ -20,7 +20,7 @@ pub(crate) fn certify(
 ) -> Result<Vec<Node>, NoMemory>
     requires modes { length modes.now ≡ length nodes.items }
     requires ranks { length ranks.now ≡ length nodes.items }
-    ensures nodes { IfOk result (λ out. map table_node (map node_of out.items) ≡ table_in nodes.items) }
+    ensures nodes { IfOk result (λ out. map node_without_mode (map node_of out.items) ≡ table_in nodes.items) }
     ensures modes { IfOk result (λ out. map (λ c. c.mode) (map node_of out.items) ≡ modes.now) }
     ensures ranks { IfOk result (λ out. map (λ c. c.rank) (map node_of out.items) ≡ ranks.now) }
 {

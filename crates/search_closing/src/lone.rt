@@ -7,15 +7,15 @@ ghost use Rattle.fs_cut.specs.View.{point_of, path_of};
 ghost use Rattle.nf_terms.specs.Computed.{Answers, Done, after};
 ghost use Rattle.nf_rel.specs.Literals.{is_refuted as refuted};
 ghost use Rattle.sym_paths.specs.Execution.{end_of};
-ghost use Rattle.sym_paths.specs.View.{told, post_in};
+ghost use Rattle.sym_paths.specs.View.{answer_in_data, post_in};
 ghost use Rattle.propagate.specs.Modes.{Found};
 ghost use Rattle.cert_model.specs.Obligations.{same_alone};
 ghost use Rattle.search_ranks.specs.Walks.{lists_in};
-ghost use Rattle.search_tables.specs.SearchTables.{Keeps, node_target, effect};
+ghost use Rattle.search_tables.specs.SearchTables.{Keeps, node_target, effect, arrival};
 ghost use Rattle.search_tables.specs.Next.{mode_at, paths_in, IsClosed};
 ghost use Rattle.search_tables.specs.LoneMoves.{lone_mode, if_alone, lone_targets as targets_by, lone_in, lone_moves as graph_of};
 ghost use Rattle.search_tables.specs.View.{table_in, table_node_in};
-ghost use Rattle.search_closing.specs.LoneSideMoves.{lone_path, arrival, Keep, lone_move_target as target_by, AreShort};
+ghost use Rattle.search_closing.specs.LoneSideMoves.{lone_path, Keep, lone_move_target as target_by, AreShort};
 ghost use Rattle.search_closing.specs.View.{covered_machines, as_list};
 
 use crate::covered::Covered;
@@ -74,7 +74,7 @@ fn arrive_alone(
     side: Side,
     path: &Path,
 ) -> Result<Post, NfStop>
-    ensures { Answers (told post_in result)
+    ensures { Answers (answer_in_data post_in result)
         (arrival (covered_machines m.now) (table_node_in node.now) (lone_path side (path_of path.now))) }
 {
     match side {

@@ -27,7 +27,7 @@ use Rattle.search_tables.specs.declared.moves.Move.{Move}
 use Rattle.search_tables.specs.SearchTables.{MachinePair, positions_of, SearchNode, Table, units, most_units, start_node, first_table}
 use Rattle.search_tables.specs.Next.{Change, next_move}
 use Rattle.search_tables.specs.Legal.{MovesLead, Makes}
-use Rattle.search_tables.specs.Certifying.{table_node}
+use Rattle.search_tables.specs.Certifying.{node_without_mode}
 use Rattle.search_tables.proofs.Changing.{next_does, arrives_so}
 use Rattle.search.specs.SearchOutcomes.{machines, IsClosedWith}
 use Rattle.search_laws.specs.Certificates.{IsCertificate}
@@ -51,9 +51,9 @@ equations_few ps few (c ∷ cs) h = omega (arith, few, equations_in ps c.fact h.
 
 -- ---- units
 
-units_same : (cs : List (CertificateNode Fact)) → units_of cs ≡ units (map table_node cs)
+units_same : (cs : List (CertificateNode Fact)) → units_of cs ≡ units (map node_without_mode cs)
 units_same [] = refl
-units_same (c ∷ cs) = omega (arith, sum_by-cons (λ (n : SearchNode). size_of_fact n.fact) (table_node c) (map table_node cs), units_same cs)
+units_same (c ∷ cs) = omega (arith, sum_by-cons (λ (n : SearchNode). size_of_fact n.fact) (node_without_mode c) (map node_without_mode cs), units_same cs)
 
 own_small : (s : Sort) (q : Option Pos) → size_of_equation (start_form Input side.Right s q) ≤ 2
 own_small s None = omega arith

@@ -16,11 +16,11 @@ use Rattle.search_places.specs.declared.pairs.PointPair.{PointPair}
 use Rattle.search_places.specs.declared.entry.Item.{Item}
 use Rattle.search_places.specs.declared.entry.Entry.{Entry}
 use Rattle.search_places.specs.Pairs.{same_pair}
-use Rattle.search_places.specs.NodeLines.{line_of_node, lines_in, table_of}
+use Rattle.search_places.specs.NodeLines.{record_of_node, node_records, table_of}
 use Rattle.search_places.specs.NodeChanges.{StandsAt, fresh, PutsNode}
 
 abbrev nodes : List (PointPair × Entry) → List SearchNode
-nodes es = table_of (lines_in es)
+nodes es = table_of (node_records es)
 
 -- how many keys come before a pair
 abbrev before : PointPair → List (PointPair × Entry) → ℕ
@@ -38,7 +38,7 @@ record Present (p : PointPair) (i : ℕ) (es : List (PointPair × Entry)) : Type
   place : ℕ
   entry : PointPair × Entry
   is_in : slice_get es place ≡ Some entry
-  target : target_from (point_of p.left) (point_of p.right) i (nodes es) ≡ Known (i + place) (line_of_node entry).node
+  target : target_from (point_of p.left) (point_of p.right) i (nodes es) ≡ Known (i + place) (record_of_node entry).node
   number : before p es ≡ place
   found : lookup (same_pair p) es ≡ Some entry.1
   set : (v : Entry) → insert_entry same_pair es p v ≡ slice_set es place (entry.0, v)
@@ -54,8 +54,8 @@ seek p i (e ∷ es) = by_test (same_pair p e.0) refl (seek p (i + 1) es)
           place = 0;
           entry = e;
           is_in = refl;
-          target = ap (λ b. cond b (Known i (line_of_node e).node) (target_from (point_of p.left) (point_of p.right) (i + 1) (nodes es))) t
-              ∙ ap (λ j. Known j (line_of_node e).node) at;
+          target = ap (λ b. cond b (Known i (record_of_node e).node) (target_from (point_of p.left) (point_of p.right) (i + 1) (nodes es))) t
+              ∙ ap (λ j. Known j (record_of_node e).node) at;
           number = ap (λ b. cond (not b) (1 + before p es) 0) t;
           found = ap (λ b. cond b (Some e.1) (lookup (same_pair p) es)) t;
           set = λ v. ap (λ b. cond b ((e.0, v) ∷ es) (e ∷ insert_entry same_pair es p v)) t;
@@ -63,7 +63,7 @@ seek p i (e ∷ es) = by_test (same_pair p e.0) refl (seek p (i + 1) es)
     by_test false t (inl a) =
         let many : 1 + before p es ≡ length (e ∷ es) = omega (arith, a.number) in
         inl (record {
-          target = ap (λ b. cond b (Known i (line_of_node e).node) (target_from (point_of p.left) (point_of p.right) (i + 1) (nodes es))) t ∙ a.target;
+          target = ap (λ b. cond b (Known i (record_of_node e).node) (target_from (point_of p.left) (point_of p.right) (i + 1) (nodes es))) t ∙ a.target;
           number = ap (λ b. cond (not b) (1 + before p es) 0) t ∙ many;
           none = ap (λ b. cond b (Some e.1) (lookup (same_pair p) es)) t ∙ a.none;
           last = λ v. ap (λ b. cond b ((e.0, v) ∷ es) (e ∷ insert_entry same_pair es p v)) t ∙ ap (λ xs. e ∷ xs) (a.last v);
@@ -75,8 +75,8 @@ seek p i (e ∷ es) = by_test (same_pair p e.0) refl (seek p (i + 1) es)
           place = suc s.place;
           entry = s.entry;
           is_in = s.is_in;
-          target = ap (λ b. cond b (Known i (line_of_node e).node) (target_from (point_of p.left) (point_of p.right) (i + 1) (nodes es))) t ∙ s.target
-              ∙ ap (λ j. Known j (line_of_node s.entry).node) at;
+          target = ap (λ b. cond b (Known i (record_of_node e).node) (target_from (point_of p.left) (point_of p.right) (i + 1) (nodes es))) t ∙ s.target
+              ∙ ap (λ j. Known j (record_of_node s.entry).node) at;
           number = ap (λ b. cond (not b) (1 + before p es) 0) t ∙ many;
           found = ap (λ b. cond b (Some e.1) (lookup (same_pair p) es)) t ∙ s.found;
           set = λ v. ap (λ b. cond b ((e.0, v) ∷ es) (e ∷ insert_entry same_pair es p v)) t ∙ ap (λ xs. e ∷ xs) (s.set v);
@@ -84,39 +84,39 @@ seek p i (e ∷ es) = by_test (same_pair p e.0) refl (seek p (i + 1) es)
 
 -- a pair that is looked up
 pub stands : (p : PointPair) (es : List (PointPair × Entry)) (o : Option ℕ) → o ≡ position (same_pair p) (keys_of es)
-    → StandsAt (lines_in es) (point_of p.left) (point_of p.right) o
+    → StandsAt (node_records es) (point_of p.left) (point_of p.right) o
 stands p es o h = by_case (seek p 0 es)
   where
     many : length (keys_of es) ≡ length es
     many = length-map es (λ (e : PointPair × Entry). e.0)
 
-    by_case : Absent p 0 es ⊎ Present p 0 es → StandsAt (lines_in es) (point_of p.left) (point_of p.right) o
+    by_case : Absent p 0 es ⊎ Present p 0 es → StandsAt (node_records es) (point_of p.left) (point_of p.right) o
     by_case (inl a) =
         let n = a.number in
         let test : nat_lt (before p es) (length (keys_of es)) ≡ false = grind (arith, nat_tests, many) in
-        subst (StandsAt (lines_in es) (point_of p.left) (point_of p.right)) (sym (h ∙ ap (λ b. cond b (Some (before p es)) None) test)) a.target
+        subst (StandsAt (node_records es) (point_of p.left) (point_of p.right)) (sym (h ∙ ap (λ b. cond b (Some (before p es)) None) test)) a.target
     by_case (inr s) =
         let n = s.number in
         let lt = slice_get_within es s.place s.entry s.is_in in
         let test : nat_lt (before p es) (length (keys_of es)) ≡ true = grind (arith, nat_tests, many) in
         let at : 0 + s.place ≡ s.place = omega arith in
-        subst (StandsAt (lines_in es) (point_of p.left) (point_of p.right)) (sym (h ∙ ap (λ b. cond b (Some (before p es)) None) test ∙ ap Some s.number))
-        (line_of_node s.entry, slice_get-of_map line_of_node es s.place s.entry s.is_in, s.target ∙ ap (λ j. Known j (line_of_node s.entry).node) at)
+        subst (StandsAt (node_records es) (point_of p.left) (point_of p.right)) (sym (h ∙ ap (λ b. cond b (Some (before p es)) None) test ∙ ap Some s.number))
+        (record_of_node s.entry, slice_get-of_map record_of_node es s.place s.entry s.is_in, s.target ∙ ap (λ j. Known j (record_of_node s.entry).node) at)
 
 -- a pair that is put where no node stands
 pub puts_last : (p : PointPair) (f : Fact) (a : Vec Item Global) (es es' : List (PointPair × Entry)) (k : ℕ) (ys : List Item)
     → es' ≡ insert_entry same_pair es p (record { fact = f; moves = None; arrivals = a }) → a.items ≡ [] → k ≡ before p es → lookup (same_pair p) es ≡ None
-    → ys ≡ [] → PutsNode (lines_in es) (lines_in es') (point_of p.left) (point_of p.right) f k ys
+    → ys ≡ [] → PutsNode (node_records es) (node_records es') (point_of p.left) (point_of p.right) f k ys
 puts_last p f a es es' k ys e none n o y = by_case (seek p 0 es)
   where
-    by_case : Absent p 0 es ⊎ Present p 0 es → PutsNode (lines_in es) (lines_in es') (point_of p.left) (point_of p.right) f k ys
+    by_case : Absent p 0 es ⊎ Present p 0 es → PutsNode (node_records es) (node_records es') (point_of p.left) (point_of p.right) f k ys
     by_case (inl s) =
         let v : Entry = record { fact = f; moves = None; arrivals = a } in
         inl (record {
           target = s.target;
-          number = n ∙ s.number ∙ sym (length-map es line_of_node);
-          last = ap lines_in (e ∙ s.last v) ∙ map-append line_of_node es ((p, v) ∷ [])
-              ∙ ap (λ (bs : List Item). lines_in es ++ (record { node = (line_of_node (p, v)).node; moves = None; arrivals = bs }) ∷ []) none;
+          number = n ∙ s.number ∙ sym (length-map es record_of_node);
+          last = ap node_records (e ∙ s.last v) ∙ map-append record_of_node es ((p, v) ∷ [])
+              ∙ ap (λ (bs : List Item). node_records es ++ (record { node = (record_of_node (p, v)).node; moves = None; arrivals = bs }) ∷ []) none;
           none = y;
         })
     by_case (inr s) = absurd (let a = s.found in cc)
@@ -124,10 +124,10 @@ puts_last p f a es es' k ys e none n o y = by_case (seek p 0 es)
 -- a pair that is put where a node stands
 pub puts_again : (p : PointPair) (f : Fact) (a : Vec Item Global) (es es' : List (PointPair × Entry)) (k : ℕ) (old : Entry)
     → es' ≡ insert_entry same_pair es p (record { fact = f; moves = None; arrivals = a }) → a.items ≡ [] → k ≡ before p es → lookup (same_pair p) es ≡ Some old
-    → PutsNode (lines_in es) (lines_in es') (point_of p.left) (point_of p.right) f k old.arrivals.items
+    → PutsNode (node_records es) (node_records es') (point_of p.left) (point_of p.right) f k old.arrivals.items
 puts_again p f a es es' k old e none n o = by_case (seek p 0 es)
   where
-    by_case : Absent p 0 es ⊎ Present p 0 es → PutsNode (lines_in es) (lines_in es') (point_of p.left) (point_of p.right) f k old.arrivals.items
+    by_case : Absent p 0 es ⊎ Present p 0 es → PutsNode (node_records es) (node_records es') (point_of p.left) (point_of p.right) f k old.arrivals.items
     by_case (inl s) = absurd (let a = s.none in cc)
     by_case (inr s) =
         let v : Entry = record { fact = f; moves = None; arrivals = a } in
@@ -135,12 +135,13 @@ puts_again p f a es es' k old e none n o = by_case (seek p 0 es)
         let at : s.place ≡ k = sym (n ∙ s.number) in
         let from : 0 + s.place ≡ k = omega (arith, at) in
         inr (record {
-          old = line_of_node s.entry;
-          is_in = subst (λ j. slice_get (lines_in es) j ≡ Some (line_of_node s.entry)) at (slice_get-of_map line_of_node es s.place s.entry s.is_in);
-          target = s.target ∙ ap (λ j. Known j (line_of_node s.entry).node) from;
-          set = ap lines_in (e ∙ s.set v) ∙ map-set line_of_node es s.place (s.entry.0, v)
-              ∙ ap (λ (bs : List Item). slice_set (lines_in es) s.place (record { node = (line_of_node (s.entry.0, v)).node; moves = None; arrivals = bs }))
+          old = record_of_node s.entry;
+          is_in = subst (λ j. slice_get (node_records es) j ≡ Some (record_of_node s.entry)) at (slice_get-of_map record_of_node es s.place s.entry s.is_in);
+          target = s.target ∙ ap (λ j. Known j (record_of_node s.entry).node) from;
+          set = ap node_records (e ∙ s.set v) ∙ map-set record_of_node es s.place (s.entry.0, v)
+              ∙ ap
+              (λ (bs : List Item). slice_set (node_records es) s.place (record { node = (record_of_node (s.entry.0, v)).node; moves = None; arrivals = bs }))
               none
-              ∙ ap (λ j. slice_set (lines_in es) j (fresh (line_of_node s.entry).node.left (line_of_node s.entry).node.right f)) at;
+              ∙ ap (λ j. slice_set (node_records es) j (fresh (record_of_node s.entry).node.left (record_of_node s.entry).node.right f)) at;
           woken = ap (λ (b : Entry). b.arrivals.items) same;
         })

@@ -5,9 +5,9 @@ use Rattle.std.specs.Prelude.{slice_get}
 use Rattle.std.specs.List.{flat_map, range_with_len, AllByRecursion}
 use Rattle.base_lemmas.proofs.Quantifiers.{each_weaker, each_at}
 use Rattle.base_lemmas.proofs.Lists.{map_map}
+use Rattle.fs_rules.specs.SoundParts.{branch_count}
 use Rattle.fs_model.specs.Machines.{Fsmd}
 use Rattle.fs_model.specs.Limits.{most_branches}
-use Rattle.fs_ast.specs.SoundMachines.{branch_count}
 use Rattle.fs_cut.specs.Paths.{Point, Start, At, Done, Path}
 use Rattle.fs_cut.specs.Covers.{path_by, paths_of}
 use Rattle.cert_bisimulation.specs.declared.mode.Mode.{Mode}

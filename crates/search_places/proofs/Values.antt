@@ -6,7 +6,7 @@ use Rattle.base_lemmas.proofs.Lists.{slice_get-of_map}
 use Rattle.indexmap.specs.IndexMap.{set_value_at}
 use Rattle.search_places.specs.declared.pairs.PointPair.{PointPair}
 use Rattle.search_places.specs.declared.entry.Entry.{Entry}
-use Rattle.search_places.specs.NodeLines.{line_of_node, lines_in}
+use Rattle.search_places.specs.NodeLines.{record_of_node, node_records}
 use Rattle.search_ranks.proofs.Lists.{get_map_back}
 
 set_is : (es : List (PointPair × Entry)) (k : ℕ) (e : PointPair × Entry) (v : Entry) → slice_get es k ≡ Some e → set_value_at es k v ≡ slice_set es k (e.0, v)
@@ -17,14 +17,14 @@ set_is (a ∷ es) (suc k) e v g = ap (λ xs. a ∷ xs) (set_is es k e v g)
 -- the entry with a value, and the lines where it has another
 pub record Held (es : List (PointPair × Entry)) (k : ℕ) (old : Entry) : Type 0 where
   pub pair : PointPair
-  pub is_in : slice_get (lines_in es) k ≡ Some (line_of_node (pair, old))
-  pub set : (v : Entry) → lines_in (set_value_at es k v) ≡ slice_set (lines_in es) k (line_of_node (pair, v))
+  pub is_in : slice_get (node_records es) k ≡ Some (record_of_node (pair, old))
+  pub set : (v : Entry) → node_records (set_value_at es k v) ≡ slice_set (node_records es) k (record_of_node (pair, v))
 
 pub held : (es : List (PointPair × Entry)) (k : ℕ) (old : Entry) → slice_get (map (λ (e : PointPair × Entry). e.1) es) k ≡ Some old → Held es k old
 held es k old g =
     let b = get_map_back (λ (e : PointPair × Entry). e.1) es k old g in
     subst (Held es k) b.2 (record {
       pair = b.0.0;
-      is_in = slice_get-of_map line_of_node es k b.0 b.1;
-      set = λ v. ap lines_in (set_is es k b.0 v b.1) ∙ map-set line_of_node es k (b.0.0, v);
+      is_in = slice_get-of_map record_of_node es k b.0 b.1;
+      set = λ v. ap node_records (set_is es k b.0 v b.1) ∙ map-set record_of_node es k (b.0.0, v);
     })

@@ -10,7 +10,7 @@ use Rattle.search_places.specs.declared.entry.Item.{Item}
 use Rattle.search_places.specs.declared.entry.Entry.{Entry}
 
 -- a node, the moves of its mode once that is found, and the items that arrive at it
-pub record Line : Type 0 where
+pub record NodeRecord : Type 0 where
   pub node : SearchNode
   pub moves : Option (List Move)
   pub arrivals : List Item
@@ -21,16 +21,16 @@ node_with_fact P Q f = record { left = P; right = Q; fact = f }
 abbrev pub item : ℕ → ℕ → Item
 item i p = record { node = i; place = p }
 
-abbrev pub line_of_node : PointPair × Entry → Line
-line_of_node e = record {
+abbrev pub record_of_node : PointPair × Entry → NodeRecord
+record_of_node e = record {
   node = node_with_fact (point_of e.0.left) (point_of e.0.right) e.1.fact;
   moves = option_map (λ v. v.items) e.1.moves;
   arrivals = e.1.arrivals.items;
 }
 
-abbrev pub lines_in : List (PointPair × Entry) → List Line
-lines_in es = map line_of_node es
+abbrev pub node_records : List (PointPair × Entry) → List NodeRecord
+node_records es = map record_of_node es
 
 -- the nodes alone
-abbrev pub table_of : List Line → Table
+abbrev pub table_of : List NodeRecord → Table
 table_of ls = map (λ l. l.node) ls

@@ -4,7 +4,7 @@ ghost use Rattle.std.specs.Prelude.{◌≡◌, ◌<◌, Some, slice_get, IfOk, O
 ghost use Rattle.fs_cut.specs.View.{point_of};
 ghost use Rattle.indexmap.specs.IndexMap.{index_map_len};
 ghost use Rattle.search_tables.specs.View.{table_in};
-ghost use Rattle.search_places.specs.NodeLines.{lines_in, table_of};
+ghost use Rattle.search_places.specs.NodeLines.{node_records, table_of};
 ghost use Rattle.search_places.specs.NodeChanges.{StandsAt, PutsNode, SetsMoves, ListsArrival};
 ghost use Rattle.search_places.specs.View.{standing_in};
 
@@ -34,7 +34,7 @@ pub struct Made {
 
 /// The number of the node at two points, if there is one.
 pub fn find(nodes: &IndexMap<PointPair, Entry>, left: Point, right: Point) -> Option<usize>
-    ensures { StandsAt (lines_in nodes.now.entries) (point_of left) (point_of right) result }
+    ensures { StandsAt (node_records nodes.now.entries) (point_of left) (point_of right) result }
 {
     nodes.get_index_of(&PointPair { left, right })
 }
@@ -42,7 +42,7 @@ pub fn find(nodes: &IndexMap<PointPair, Entry>, left: Point, right: Point) -> Op
 /// A node by its number.
 pub fn node_at(nodes: &IndexMap<PointPair, Entry>, number: usize) -> Standing<'_>
     requires { number < index_map_len nodes.now }
-    ensures { slice_get (lines_in nodes.now.entries) number ≡ Some (standing_in result) }
+    ensures { slice_get (node_records nodes.now.entries) number ≡ Some (standing_in result) }
 {
     match nodes.get_index(number) {
         Some((points, entry)) => Standing {
@@ -63,7 +63,7 @@ pub fn put(
     fact: Fact,
 ) -> Result<Made, NoMemory>
     ensures { IfOk result
-        (λ p. PutsNode (lines_in nodes.old.entries) (lines_in nodes.new.entries) (point_of left)
+        (λ p. PutsNode (node_records nodes.old.entries) (node_records nodes.new.entries) (point_of left)
         (point_of right) fact p.number p.arrivals.items) }
 {
     let fresh = Entry {
@@ -87,7 +87,7 @@ pub fn put(
 /// Notes the moves of the mode of a node.
 pub fn set_moves(nodes: &mut IndexMap<PointPair, Entry>, number: usize, moves: Vec<Move>)
     requires { number < index_map_len nodes.old }
-    ensures { SetsMoves (lines_in nodes.old.entries) (lines_in nodes.new.entries) number moves.items }
+    ensures { SetsMoves (node_records nodes.old.entries) (node_records nodes.new.entries) number moves.items }
 {
     match nodes.get_index_mut(number) {
         Some(entry) => entry.moves = Some(moves),
@@ -102,7 +102,7 @@ pub fn list_arrival(
     item: Item,
 ) -> Result<(), NoMemory>
     requires { number < index_map_len nodes.old }
-    ensures { OnOk result (ListsArrival (lines_in nodes.old.entries) (lines_in nodes.new.entries) number item) }
+    ensures { OnOk result (ListsArrival (node_records nodes.old.entries) (node_records nodes.new.entries) number item) }
 {
     match nodes.get_index_mut(number) {
         Some(entry) => {
@@ -115,7 +115,7 @@ pub fn list_arrival(
 
 /// The nodes alone, in order. The one refusal is out of memory.
 pub fn table(alloc: Global, nodes: IndexMap<PointPair, Entry>) -> Result<Vec<TableNode>, NoMemory>
-    ensures { IfOk result (λ out. table_in out.items ≡ table_of (lines_in nodes.entries)) }
+    ensures { IfOk result (λ out. table_in out.items ≡ table_of (node_records nodes.entries)) }
 {
     let mut out = Vec::new(alloc);
     for (points, entry) in nodes {

@@ -10,7 +10,7 @@ use Rattle.search_ranks.specs.Graphs.{above}
 use Rattle.search_ranks.specs.declared.marks.Mark.{Mark}
 use Rattle.search_ranks.specs.declared.marks.Mark.TheVariants.{New, Open, Ranked}
 use Rattle.search_ranks.specs.declared.marks.Frame.{Frame}
-use Rattle.search_ranks.specs.Walks.{rank_of, ranks_in, one_if_ranked, ranked, IsRanked, AreRight, Looks, Extends}
+use Rattle.search_ranks.specs.Walks.{rank_of, ranks_in, one_if_ranked, ranked_count, IsRanked, AreRight, Looks, Extends}
 use Rattle.search_ranks.proofs.Lists.{set_same, set_other, same_or_not}
 
 pub rank_at : (M : List Mark) (j r : ℕ) → slice_get M j ≡ Some (Ranked r) → slice_index (ranks_in M) j ≡ r
@@ -38,11 +38,12 @@ extends_set M i old new g d = record {
 }
 
 pub ranked_set : (M : List Mark) (i : ℕ) (old new : Mark) → slice_get M i ≡ Some old
-    → ranked (slice_set M i new) + one_if_ranked old ≡ ranked M + one_if_ranked new
-ranked_set M i old new g = subst (λ o. ranked (slice_set M i new) + one_if_ranked o ≡ ranked M + one_if_ranked new) (get_or_from_slice_get M i old old g)
+    → ranked_count (slice_set M i new) + one_if_ranked old ≡ ranked_count M + one_if_ranked new
+ranked_set M i old new g = subst (λ o. ranked_count (slice_set M i new) + one_if_ranked o ≡ ranked_count M + one_if_ranked new)
+    (get_or_from_slice_get M i old old g)
     (sum_by-set one_if_ranked M i new old (slice_get_within M i old g))
 
-pub looks_on : (E : List (List ℕ)) (M M' : List Mark) (f : Frame) → Extends M M' → ranked M ≤ ranked M' → Looks E M f → Looks E M' f
+pub looks_on : (E : List (List ℕ)) (M M' : List Mark) (f : Frame) → Extends M M' → ranked_count M ≤ ranked_count M' → Looks E M f → Looks E M' f
 looks_on E M M' f e le l = record {
   targets = l.targets;
   from = l.from;
@@ -54,11 +55,11 @@ looks_on E M M' f e le l = record {
 
 -- an open node gets its rank
 pub right_ranked : (E : List (List ℕ)) (M : List Mark) (i d r : ℕ) (js : List ℕ) → AreRight E M → slice_get M i ≡ Some (Open d) → slice_get E i ≡ Some js
-    → AllByRecursion (IsRanked M) js → r ≡ above (ranks_in M) js → r ≤ ranked M → AreRight E (slice_set M i (Ranked r))
+    → AllByRecursion (IsRanked M) js → r ≡ above (ranks_in M) js → r ≤ ranked_count M → AreRight E (slice_set M i (Ranked r))
 right_ranked E M i d r js right g h all e low =
     let M' = slice_set M i (Ranked r) in
     let ext : Extends M M' = extends_set M i (Open d) (Ranked r) g (λ q z. cc) in
-    let more : ranked M' ≡ ranked M + 1 = (let s = ranked_set M i (Open d) (Ranked r) g in omega (arith, s)) in
+    let more : ranked_count M' ≡ ranked_count M + 1 = (let s = ranked_set M i (Open d) (Ranked r) g in omega (arith, s)) in
     record {
       count = length-set M i (Ranked r) ∙ right.count;
       targets = λ j q ks a b. elim (same_or_not j i) [
@@ -89,7 +90,7 @@ pub right_opened : (E : List (List ℕ)) (M : List Mark) (i d : ℕ) → AreRigh
 right_opened E M i d right g =
     let M' = slice_set M i (Open d) in
     let ext : Extends M M' = extends_set M i New (Open d) g (λ q z. cc) in
-    let more : ranked M' ≡ ranked M = (let s = ranked_set M i New (Open d) g in omega (arith, s)) in
+    let more : ranked_count M' ≡ ranked_count M = (let s = ranked_set M i New (Open d) g in omega (arith, s)) in
     let back = λ (j q : ℕ) (a : slice_get M' j ≡ Some (Ranked q)). open_other M i j d q g a in
     record {
       count = length-set M i (Open d) ∙ right.count;

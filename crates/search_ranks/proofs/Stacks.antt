@@ -9,7 +9,7 @@ use Rattle.search_ranks.specs.Graphs.{HasEdge, Follow, IsCycle, above}
 use Rattle.search_ranks.specs.declared.marks.Mark.{Mark}
 use Rattle.search_ranks.specs.declared.marks.Mark.TheVariants.{New, Open, Ranked}
 use Rattle.search_ranks.specs.declared.marks.Frame.{Frame}
-use Rattle.search_ranks.specs.Walks.{ranks_in, ranked, IsRanked, AreRight, Looks, IsStack, Extends, new_work}
+use Rattle.search_ranks.specs.Walks.{ranks_in, ranked_count, IsRanked, AreRight, Looks, IsStack, Extends, new_work}
 use Rattle.search_ranks.proofs.Lists.{set_same, set_other, get_last, get_snoc, same_or_not}
 use Rattle.search_ranks.proofs.Marking.{rank_at, extends_set, ranked_set, looks_on}
 
@@ -83,7 +83,7 @@ stack_push E M S j js g h last s =
     let M' = slice_set M j (Open (length S)) in
     let u = frame j 0 0 in
     let ext : Extends M M' = extends_set M j New (Open (length S)) g (λ q z. cc) in
-    let more : ranked M' ≡ ranked M = (let x = ranked_set M j New (Open (length S)) g in omega (arith, x)) in
+    let more : ranked_count M' ≡ ranked_count M = (let x = ranked_set M j New (Open (length S)) g in omega (arith, x)) in
     let here : slice_get M' j ≡ Some (Open (length S)) = set_same M j New (Open (length S)) g in
     record {
       looks = λ d f a. elim (get_snoc S u d f a) [
@@ -116,7 +116,7 @@ stack_pop E M B t r s =
     let M' = slice_set M t.node (Ranked r) in
     let top = s.marked (length B) t (get_last B t) in
     let ext : Extends M M' = extends_set M t.node (Open (length B)) (Ranked r) top (λ q z. cc) in
-    let more : ranked M' ≡ ranked M + 1 = (let x = ranked_set M t.node (Open (length B)) (Ranked r) top in omega (arith, x)) in
+    let more : ranked_count M' ≡ ranked_count M + 1 = (let x = ranked_set M t.node (Open (length B)) (Ranked r) top in omega (arith, x)) in
     record {
       looks = λ d f a. looks_on E M M' f ext (omega (arith, more)) (s.looks d f (slice_get-front B (t ∷ []) d f a));
       marked = λ d f a.

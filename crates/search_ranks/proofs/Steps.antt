@@ -10,7 +10,7 @@ use Rattle.search_ranks.specs.Graphs.{HasEdge, IsCycle, above}
 use Rattle.search_ranks.specs.declared.marks.Mark.{Mark}
 use Rattle.search_ranks.specs.declared.marks.Mark.TheVariants.{New, Open, Ranked}
 use Rattle.search_ranks.specs.declared.marks.Frame.{Frame}
-use Rattle.search_ranks.specs.Walks.{ranks_in, one_if_ranked, ranked, IsRanked, AreRight, Looks, IsStack, Extends, frame_work, walk_work, InRange, Walked}
+use Rattle.search_ranks.specs.Walks.{ranks_in, one_if_ranked, ranked_count, IsRanked, AreRight, Looks, IsStack, Extends, frame_work, walk_work, InRange, Walked}
 use Rattle.search_ranks.specs.Walks.{IsUnderWay, NoneOpen, frame_nodes}
 use Rattle.search_ranks.proofs.Lists.{set_same, set_other, same_or_not, get_last, get_snoc}
 use Rattle.search_ranks.proofs.Marking.{extends_set, right_ranked, right_opened}
@@ -123,7 +123,7 @@ at_most New = omega arith
 at_most (Open d) = omega arith
 at_most (Ranked r) = omega arith
 
-few_ranked : (M : List Mark) → ranked M ≤ length M
+few_ranked : (M : List Mark) → ranked_count M ≤ length M
 few_ranked [] = omega arith
 few_ranked (m ∷ M) = let h = few_ranked M in let c = sum_by-cons one_if_ranked m M in let o = at_most m in omega (arith, c)
 

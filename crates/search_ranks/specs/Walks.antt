@@ -24,8 +24,8 @@ one_if_ranked (Ranked r) = 1
 one_if_ranked New = 0
 one_if_ranked (Open d) = 0
 
-abbrev pub ranked : List Mark → ℕ
-ranked M = sum_by one_if_ranked M
+abbrev pub ranked_count : List Mark → ℕ
+ranked_count M = sum_by one_if_ranked M
 
 pub record IsRanked (M : List Mark) (j : ℕ) : Type 0 where
   pub rank : ℕ
@@ -37,7 +37,7 @@ pub record AreRight (E : List (List ℕ)) (M : List Mark) : Type 0 where
   pub targets : (i r : ℕ) (js : List ℕ) → slice_get M i ≡ Some (Ranked r) → slice_get E i ≡ Some js
       → AllByRecursion (IsRanked M) js
   pub rank : (i r : ℕ) (js : List ℕ) → slice_get M i ≡ Some (Ranked r) → slice_get E i ≡ Some js → r ≡ above (ranks_in M) js
-  pub low : (i r : ℕ) → slice_get M i ≡ Some (Ranked r) → r < ranked M
+  pub low : (i r : ℕ) → slice_get M i ≡ Some (Ranked r) → r < ranked_count M
 
 -- a node whose first targets were looked at
 pub record Looks (E : List (List ℕ)) (M : List Mark) (f : Frame) : Type 0 where
@@ -46,7 +46,7 @@ pub record Looks (E : List (List ℕ)) (M : List Mark) (f : Frame) : Type 0 wher
   pub within : f.next ≤ length targets
   pub done : AllByRecursion (IsRanked M) (take f.next targets)
   pub best : f.best ≡ above (ranks_in M) (take f.next targets)
-  pub low : f.best ≤ ranked M
+  pub low : f.best ≤ ranked_count M
 
 -- the stack is a path of open nodes, and has them all
 pub record IsStack (E : List (List ℕ)) (M : List Mark) (S : List Frame) : Type 0 where

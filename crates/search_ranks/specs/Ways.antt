@@ -86,6 +86,6 @@ pub record NoneBelow (E : List (List ℕ)) (n : ℕ) : Type 0 where
   pub each : (i : ℕ) → i < n → NoWayBack E i
 
 -- the cycle that begins at the least node on any, or none where there is none
-abbrev pub IsLeast : List (List ℕ) → Option (Vec ℕ Global) → Type 0
-IsLeast E None = NoneBelow E (length E)
-IsLeast E (Some v) = IsCycle E v.items × BeginsLeast E v.items
+abbrev pub IsLeastCycle : List (List ℕ) → Option (Vec ℕ Global) → Type 0
+IsLeastCycle E None = NoneBelow E (length E)
+IsLeastCycle E (Some v) = IsCycle E v.items × BeginsLeast E v.items

@@ -2,7 +2,7 @@
 
 ghost use Rattle.std.specs.Prelude.{◌≡◌, ◌<◌, ◌++◌, ◌∷◌, [], false, length, IfOk, OnOk, map};
 ghost use Rattle.search_ranks.specs.Walks.{lists_in, InRange};
-ghost use Rattle.search_ranks.specs.Ways.{IsSearch, IsEntered, AfterTurn, GoesBack, IsLeast, steps_in, way_work};
+ghost use Rattle.search_ranks.specs.Ways.{IsSearch, IsEntered, AfterTurn, GoesBack, IsLeastCycle, steps_in, way_work};
 
 use crate::marks::Step;
 use crate::memory::NoMemory;
@@ -108,7 +108,7 @@ fn way_back(alloc: Global, edges: &[Vec<u32>], root: u32) -> Result<Option<Vec<u
 /// The cycle that begins at the least node on any, if there is a cycle.
 pub(crate) fn least_cycle(alloc: Global, edges: &[Vec<u32>]) -> Result<Option<Vec<u32>>, NoMemory>
     requires { InRange (lists_in edges.now) }
-    ensures { IfOk result (IsLeast (lists_in edges.now)) }
+    ensures { IfOk result (IsLeastCycle (lists_in edges.now)) }
 {
     'roots: for root in 0..edges.len() {
         match way_back(alloc, edges, root as u32)? {

@@ -7,7 +7,7 @@ use crate::state::{State, clear};
 use cert_bisimulation::mode::Mode;
 use fs_cut::cover::{Path, Point};
 use nf_refutation::refutation::is_refuted;
-use nf_subst::vector::Vector;
+use nf_substitution::vector::Vector;
 use nf_terms::stop::NoMemory;
 use nf_terms::tree::Side;
 use search_strengthening_terms::stop::{Stop, unless_stopped};

@@ -8,7 +8,7 @@ use crate::sides::Sides;
 use cert_machine_pairs::outputs::{is_output, number_of, same_forms};
 use fs_cut::cover::Point;
 use fs_model::parts::VarInfo;
-use nf_subst::vector::Vector;
+use nf_substitution::vector::Vector;
 use nf_terms::stop::NoMemory;
 use std::alloc::Global;
 

@@ -3,8 +3,8 @@
 use crate::tested_facts::LITERAL_LIMIT;
 use nf_rel::clashes::implied;
 use nf_rel::literals::NLit;
-use nf_subst::subst::Subst;
-use nf_subst::vector::Vector;
+use nf_substitution::subst::Subst;
+use nf_substitution::vector::Vector;
 use nf_terms::stop::NoMemory;
 use search_strengthening_terms::stop::{Stop, unless_stopped};
 use search_strengthening_terms::work::Work;

@@ -1,6 +1,6 @@
 //! Values of positions over those that are free.
 
-use nf_subst::vector::Vector;
+use nf_substitution::vector::Vector;
 use nf_terms::stop::NoMemory;
 use nf_terms::tree::Pos;
 use std::alloc::Global;

@@ -2,7 +2,7 @@
 
 ghost use Rattle.std.specs.Prelude.{◌≡◌, map, IfOk, IfSome};
 ghost use Rattle.std.specs.List.{list_all};
-ghost use Rattle.nf_subst.specs.Vectors.{same_sort as same};
+ghost use Rattle.nf_terms.specs.TermSorts.{same_term_sort as same};
 ghost use Rattle.nf_rel.specs.View.{literal_in};
 ghost use Rattle.sym_facts.specs.Facts.{has_its_sort, may_be_kept, sort_of_terms as terms_of_sort};
 ghost use Rattle.sym_facts.specs.Pairings.{IsFactOf, is_position, literal_within};

@@ -3,7 +3,7 @@
 use crate::claims::{Claims, form_at};
 use nf_rel::clashes::implied;
 use nf_rel::literals::NLit;
-use nf_subst::subst::Subst;
+use nf_substitution::subst::Subst;
 use nf_terms::form::Nf;
 use nf_terms::stop::NoMemory;
 use search_strengthening_terms::stop::{Stop, unless_stopped};

@@ -4,7 +4,7 @@ use crate::universe::{Term, Universe};
 use fs_pair::positions::Position;
 use nf_rel::copies::is_same;
 use nf_rel::literals::NLit;
-use nf_subst::vector::Vector;
+use nf_substitution::vector::Vector;
 use nf_terms::form::Nf;
 use nf_terms::stop::NoMemory;
 use nf_terms::symbols::Sort;
@@ -106,7 +106,7 @@ impl<'p> Collection<'p> {
     }
 
     /// The vector in which each position has its own symbol.
-    pub fn own(&self) -> &Vector {
+    pub fn own_symbols(&self) -> &Vector {
         &self.own
     }
 

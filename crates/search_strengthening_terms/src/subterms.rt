@@ -22,7 +22,7 @@ fn add_term(
     side: Side,
     e: &Expr<VarId>,
 ) -> Result<(), NoMemory> {
-    match unless_stopped(evaluate(alloc, side, all.own(), e))? {
+    match unless_stopped(evaluate(alloc, side, all.own_symbols(), e))? {
         Some(value) => all.add_form(alloc, Nf::Num(value)),
         None => Ok(()),
     }
@@ -106,10 +106,10 @@ fn add_literal(
     side: Side,
     l: &Lit<VarId>,
 ) -> Result<(), NoMemory> {
-    let Some(left) = unless_stopped(evaluate(alloc, side, all.own(), &l.left))? else {
+    let Some(left) = unless_stopped(evaluate(alloc, side, all.own_symbols(), &l.left))? else {
         return Ok(());
     };
-    let Some(right) = unless_stopped(evaluate(alloc, side, all.own(), &l.right))? else {
+    let Some(right) = unless_stopped(evaluate(alloc, side, all.own_symbols(), &l.right))? else {
         return Ok(());
     };
     match unless_stopped(literal(alloc, l.rel, &left, &right))? {

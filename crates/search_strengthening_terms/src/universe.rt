@@ -90,10 +90,10 @@ fn add_put(
     let Assign::Put(x, i, e) = assign else {
         return Ok(());
     };
-    let Some(index) = unless_stopped(evaluate(alloc, side, all.own(), i))? else {
+    let Some(index) = unless_stopped(evaluate(alloc, side, all.own_symbols(), i))? else {
         return Ok(());
     };
-    let Some(value) = unless_stopped(evaluate(alloc, side, all.own(), e))? else {
+    let Some(value) = unless_stopped(evaluate(alloc, side, all.own_symbols(), e))? else {
         return Ok(());
     };
     add_writes(alloc, all, Pos { side, var: x.0 }, &index, &value)

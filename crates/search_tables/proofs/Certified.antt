@@ -5,7 +5,7 @@ use Rattle.std.specs.Option.{option_map}
 use Rattle.std.specs.List.{AllByRecursion}
 use Rattle.base_lemmas.proofs.Options.{option_or_parts}
 use Rattle.base_lemmas.proofs.Quantifiers.{each_at}
-use Rattle.fs_ast.specs.SoundMachines.{IsSound}
+use Rattle.fs_rules.specs.SoundParts.{IsSound}
 use Rattle.fs_cut.specs.Paths.{Start}
 use Rattle.fs_cut.specs.Covers.{paths_of}
 use Rattle.fs_pair.specs.Interfaces.{interface_fault}
@@ -28,7 +28,7 @@ use Rattle.search_tables.specs.SearchTables.{MachinePair, positions_of, SearchNo
 use Rattle.search_tables.specs.Next.{mode_at, paths_in, Nothing, next_move}
 use Rattle.search_tables.specs.Legal.{Difference, first_differing, output_at, difference_at, stuck_from, stuck, Makes}
 use Rattle.search_tables.specs.LoneMoves.{lone_targets, lone_in, lone_from, lone_moves}
-use Rattle.search_tables.specs.Certifying.{table_node, Certifies}
+use Rattle.search_tables.specs.Certifying.{node_without_mode, Certifies}
 use Rattle.search_tables.proofs.Lists.{all_in, all_maps, all_flat, all_flats}
 use Rattle.search_tables.proofs.Closing.{quiet}
 use Rattle.search_tables.proofs.Fitting.{mode_is_fit}
@@ -44,9 +44,9 @@ yes_where_held k [] h = refl
 yes_where_held k (r ∷ rs) h = ap (λ z. verdict_by k z (verdict_from (k + 1) rs)) h.0 ∙ yes_where_held (k + 1) rs h.1
 
 mapped_at : (cs : List (CertificateNode Fact)) (k : ℕ) (c : CertificateNode Fact) → slice_get cs k ≡ Some c
-    → slice_get (map table_node cs) k ≡ Some (table_node c)
+    → slice_get (map node_without_mode cs) k ≡ Some (node_without_mode c)
 mapped_at [] k c e = absurd (cc e)
-mapped_at (d ∷ cs) zero c e = let i : d ≡ c = cc e in ap (λ z. Some (table_node z)) i
+mapped_at (d ∷ cs) zero c e = let i : d ≡ c = cc e in ap (λ z. Some (node_without_mode z)) i
 mapped_at (d ∷ cs) (suc k) c e = mapped_at cs k c e
 
 lone_at : (m : MachinePair) (T : Table) (ns : List SearchNode) (k : ℕ) (n : SearchNode) → slice_get ns k ≡ Some n
@@ -82,16 +82,16 @@ outputs_hold c (o ∷ os) h =
     by_test true e = (refl, e)
     by_test false e = absurd (cc e)
 
-module _ (m : MachinePair) (cs : List (CertificateNode Fact)) (modes : AllByRecursion (λ c. mode_at m (table_node c) ≡ Found c.mode) cs) where
+module _ (m : MachinePair) (cs : List (CertificateNode Fact)) (modes : AllByRecursion (λ c. mode_at m (node_without_mode c) ≡ Found c.mode) cs) where
   abbrev T : Table
-  T = map table_node cs
+  T = map node_without_mode cs
 
   abbrev ranks : List ℕ
   ranks = map (λ c. c.rank) cs
 
   -- ---- a node
-  by_mode : (c : CertificateNode Fact) (x : Mode) → mode_fits x c.left c.right ≡ true → output_at m (table_node c) ≡ None
-      → AllByRecursion (λ y. judge_move m.left m.right cs c y.left y.right ≡ Done None) (paths_in m (table_node c) x)
+  by_mode : (c : CertificateNode Fact) (x : Mode) → mode_fits x c.left c.right ≡ true → output_at m (node_without_mode c) ≡ None
+      → AllByRecursion (λ y. judge_move m.left m.right cs c y.left y.right ≡ Done None) (paths_in m (node_without_mode c) x)
       → AllByRecursion Held (moves_by x m.left m.right cs c)
   by_mode c Both fits outputs h =
       all_flats (λ y. judge_move m.left m.right cs c y.left y.right ≡ Done None) Held
@@ -111,27 +111,28 @@ module _ (m : MachinePair) (cs : List (CertificateNode Fact)) (modes : AllByRecu
       → AllByRecursion Held (owed_by m.left m.right cs c)
   node_holds closed free are k c e =
       let g = mapped_at cs k c e in
-      let mode : mode_at m (table_node c) ≡ Found c.mode = each_at (λ d. mode_at m (table_node d) ≡ Found d.mode) cs k c modes e in
+      let mode : mode_at m (node_without_mode c) ≡ Found c.mode = each_at (λ d. mode_at m (node_without_mode d) ≡ Found d.mode) cs k c modes e in
       let fits = mode_is_fit m.left m.right c.fact c.left c.right c.mode mode in
-      let q = quiet m T k (table_node c) closed g in
+      let q = quiet m T k (node_without_mode c) closed g in
       let found : Found q.mode ≡ Found c.mode = sym q.found ∙ mode in
       let same : q.mode ≡ c.mode = cc found in
-      let rank : c.rank ≡ above ranks (lone_targets m T (table_node c) c.mode (paths_in m (table_node c) c.mode)) =
-      sym (rank_at cs k c e) ∙ are.each k (lone_in m T (table_node c) (mode_at m (table_node c))) (lone_at m T T k (table_node c) g)
-      ∙ ap (λ z. above ranks (lone_in m T (table_node c) z)) mode in (
+      let rank : c.rank ≡ above ranks (lone_targets m T (node_without_mode c) c.mode (paths_in m (node_without_mode c) c.mode)) =
+      sym (rank_at cs k c e) ∙ are.each k (lone_in m T (node_without_mode c) (mode_at m (node_without_mode c))) (lone_at m T T k (node_without_mode c) g)
+      ∙ ap (λ z. above ranks (lone_in m T (node_without_mode c) z)) mode in (
         ap (λ b. Done (cond b None (Some reason.Mode))) fits,
-        by_mode c c.mode fits (none_stuck m T 0 k (table_node c) free g)
-            (moves_hold m cs modes c (paths_in m (table_node c) c.mode)
-            (subst (λ x. AllByRecursion (λ y. effect m T (table_node c) y ≡ Keeps) (paths_in m (table_node c) x)) same q.keep) (omega (arith, rank))),
+        by_mode c c.mode fits (none_stuck m T 0 k (node_without_mode c) free g)
+            (moves_hold m cs modes c (paths_in m (node_without_mode c) c.mode)
+            (subst (λ x. AllByRecursion (λ y. effect m T (node_without_mode c) y ≡ Keeps) (paths_in m (node_without_mode c) x)) same q.keep)
+            (omega (arith, rank))),
       )
 
   -- ---- the start
   start_held : (rest : List SearchNode) → IsSound m.left → interface_fault m.left m.right ≡ None → (ds : List (CertificateNode Fact))
-      → map table_node ds ≡ start_node m ∷ rest
+      → map node_without_mode ds ≡ start_node m ∷ rest
       → Held (start_reaches (node_at ds Start Start) (record { conditions = []; vector = vector_of (start_fact (positions_of m)).positions }))
   start_held rest sound matched [] e = absurd (cc e)
   start_held rest sound matched (d ∷ ds) e =
-      let same : table_node d ≡ start_node m = cc e in
+      let same : node_without_mode d ≡ start_node m = cc e in
       let post : Post = record { conditions = []; vector = vector_of (start_fact (positions_of m)).positions } in
       let first : node_at (d ∷ ds) Start Start ≡ Some d = ap (λ (n : SearchNode). cond (is_at Start Start n) (Some d) (node_at ds Start Start)) same in
       let entailed : entails post d.fact ≡ Done (record { equations = []; literals = [] }) = ap (λ (n : SearchNode). entails post n.fact) same
@@ -153,4 +154,4 @@ certified m sound matched moves T ranks cs makes closed free are h =
     let s = begins_with_start m moves T makes in
     let t = sym h.nodes in
     all_held m cs h.modes s.0 sound matched (h.nodes ∙ s.1) (subst (λ U. next_move m U ≡ Nothing) t closed) (subst (λ U. stuck m U ≡ None) t free)
-    (subst (λ rs. AreRanks (lone_moves m (map table_node cs)) rs) (sym h.ranks_are) (subst (λ U. AreRanks (lone_moves m U) ranks) t are))
+    (subst (λ rs. AreRanks (lone_moves m (map node_without_mode cs)) rs) (sym h.ranks_are) (subst (λ U. AreRanks (lone_moves m U) ranks) t are))

@@ -18,7 +18,8 @@ use Rattle.cert_model.specs.Lawful.{most_nodes}
 use Rattle.search_tables.specs.declared.moves.Move.{Move}
 use Rattle.search_tables.specs.declared.outcome.Budget.TheVariants.{Nodes, Units}
 use Rattle.search_tables.specs.SearchTables.{MachinePair, SearchNode, Table, units, most_units, Target, Unknown, Known, node_target, with_fact, MoveEffect}
-use Rattle.search_tables.specs.SearchTables.{Keeps, Changes, Meets, Exceeds, within_units, add_node, weakened, keep_or_join, look_up_target, arrived, PathPair}
+use Rattle.search_tables.specs.SearchTables.{Keeps, Changes, Meets, Exceeds, within_units, add_node, weaken_node, keep_or_join, look_up_target}
+use Rattle.search_tables.specs.SearchTables.{effect_of_arrival, PathPair}
 use Rattle.search_tables.specs.SearchTables.{effect}
 use Rattle.search_tables.specs.Next.{mode_at, paths_in, move_by, Next, Nothing, Change, Stop, Excess, next_by, first_change_of, next_in, next_at, or_next}
 use Rattle.search_tables.specs.Next.{next_from, next_move}
@@ -132,7 +133,7 @@ module _ (ps : List Position) (T U : Table) (P Q : Point) where
   adds post (Large u d) t lt q h = absurd (cc h)
 
   weakens : (post : Post) (k : ℕ) (n : SearchNode) (x : Missing) (c : Computed Fact) → node_target T P Q ≡ Known k n → entails post n.fact ≡ Done x
-      → is_nothing x ≡ false → join n.fact post x ≡ c → weakened T k n c ≡ Changes U → Changed post
+      → is_nothing x ≡ false → join n.fact post x ≡ c → weaken_node T k n c ≡ Changes U → Changed post
   weakens post k n x (Done f) t e s q h =
       let w = within (with_fact T k n f) U h in
       (w.1, inr (record { number = k; node = n; target = t; missing = x; compared_to = e; something = s; fact = f; joined = q; is = w.0 }))
@@ -143,7 +144,7 @@ module _ (ps : List Position) (T U : Table) (P Q : Point) where
       → keep_or_join T k n post c ≡ Changes U → Changed post
   compares post k n (Done x) t e h = by_test (is_nothing x) refl h
     where
-      by_test : (b : Bool) → is_nothing x ≡ b → cond b Keeps (weakened T k n (join n.fact post x)) ≡ Changes U → Changed post
+      by_test : (b : Bool) → is_nothing x ≡ b → cond b Keeps (weaken_node T k n (join n.fact post x)) ≡ Changes U → Changed post
       by_test true s g = absurd (cc g)
       by_test false s g = weakens post k n x (join n.fact post x) t e s refl g
   compares post k n (Wide l r) t e h = absurd (cc h)
@@ -157,7 +158,7 @@ module _ (ps : List Position) (T U : Table) (P Q : Point) where
       by_test false e g = absurd (cc g)
   looks post (Known k n) t h = compares post k n (entails post n.fact) t refl h
 
-  pub arrives_so : (c : Computed Post) → arrived ps T P Q c ≡ Changes U → Arrives ps T U P Q c
+  pub arrives_so : (c : Computed Post) → effect_of_arrival ps T P Q c ≡ Changes U → Arrives ps T U P Q c
   arrives_so (Done post) h = by_test (is_refuted post.conditions) refl h
     where
       by_test : (b : Bool) → is_refuted post.conditions ≡ b → cond b Keeps (look_up_target ps T P Q post (node_target T P Q)) ≡ Changes U

@@ -16,7 +16,7 @@ use Rattle.propagate.specs.Modes.{Traced, Found, WideAt, LargeAt}
 use Rattle.search_tables.specs.declared.moves.Move.{Move}
 use Rattle.search_tables.specs.declared.outcome.Budget.TheVariants.{Nodes, Units}
 use Rattle.search_tables.specs.SearchTables.{MachinePair, SearchNode, Table, Target, Unknown, Known, node_target, with_fact, MoveEffect, Keeps, Changes, Meets}
-use Rattle.search_tables.specs.SearchTables.{Exceeds, within_units, add_node, weakened, keep_or_join, look_up_target, arrived, PathPair, effect}
+use Rattle.search_tables.specs.SearchTables.{Exceeds, within_units, add_node, weaken_node, keep_or_join, look_up_target, effect_of_arrival, PathPair, effect}
 use Rattle.search_tables.specs.Next.{mode_at, paths_in, move_by, Next, Nothing, Change, Stop, Excess, next_by, first_change_of, next_in, next_at, or_next}
 use Rattle.search_tables.specs.Next.{next_from, next_move}
 
@@ -90,7 +90,7 @@ not_added T P Q (Done f) h = not_within (T ++ record { left = P; right = Q; fact
 not_added T P Q (Wide l r) h = cc h
 not_added T P Q (Large u d) h = cc h
 
-not_weakened : (T : Table) (k : ℕ) (n : SearchNode) (c : Computed Fact) → weakened T k n c ≡ Keeps → ⊥
+not_weakened : (T : Table) (k : ℕ) (n : SearchNode) (c : Computed Fact) → weaken_node T k n c ≡ Keeps → ⊥
 not_weakened T k n (Done f) h = not_within (with_fact T k n f) h
 not_weakened T k n (Wide l r) h = cc h
 not_weakened T k n (Large u d) h = cc h
@@ -99,7 +99,7 @@ not_new : (T : Table) (P Q : Point) (c : Computed Fact) (b : Bool) → cond b (a
 not_new T P Q c true h = not_added T P Q c h
 not_new T P Q c false h = cc h
 
-is_entailed : (T : Table) (k : ℕ) (n : SearchNode) (c : Computed Fact) (b : Bool) → cond b Keeps (weakened T k n c) ≡ Keeps → b ≡ true
+is_entailed : (T : Table) (k : ℕ) (n : SearchNode) (c : Computed Fact) (b : Bool) → cond b Keeps (weaken_node T k n c) ≡ Keeps → b ≡ true
 is_entailed T k n c true h = refl
 is_entailed T k n c false h = absurd (not_weakened T k n c h)
 
@@ -128,7 +128,7 @@ kept_post ps T P Q post true q h = inl q
 kept_post ps T P Q post false q h = inr (kept_target ps T P Q post (node_target T P Q) q refl h)
 
 -- what arrives and keeps the table is refuted, or arrives at a node whose fact is entailed
-pub kept : (ps : List Position) (T : Table) (P Q : Point) (c : Computed Post) → arrived ps T P Q c ≡ Keeps → Arrival T P Q c
+pub kept : (ps : List Position) (T : Table) (P Q : Point) (c : Computed Post) → effect_of_arrival ps T P Q c ≡ Keeps → Arrival T P Q c
 kept ps T P Q (Done post) h = record { post = post; arrives = refl; holds = kept_post ps T P Q post (is_refuted post.conditions) refl h }
 kept ps T P Q (Wide l r) h = absurd (cc h)
 kept ps T P Q (Large u d) h = absurd (cc h)

@@ -9,7 +9,7 @@ use Rattle.cert_bisimulation.specs.declared.mode.Mode.{Mode}
 use Rattle.cert_bisimulation.specs.declared.mode.Mode.TheVariants.{Both, Left, Right, End}
 use Rattle.fs_model.specs.declared.sides.Side.TheVariants as side
 use Rattle.sym_facts.specs.Facts.{Fact}
-use Rattle.propagate.specs.Modes.{Traced, Found, WideAt, LargeAt, followed, count_from, mode_of_counts, mode_by, mode_of}
+use Rattle.propagate.specs.Modes.{Traced, Found, WideAt, LargeAt, traced_then, count_from, mode_of_counts, mode_by, mode_of}
 use Rattle.cert_model.specs.Obligations.{is_done, mode_fits}
 
 -- whether a machine moves
@@ -35,7 +35,8 @@ counts_move n k = by_tests (nat_le n 1) (nat_le k 1)
     by_tests false false = refl
 
 -- what is found after counting is what is found after some count
-followed_found : (P : Mode → Type 0) (x : Mode) (t : Traced ℕ) (next : ℕ → Traced Mode) → ((k : ℕ) → next k ≡ Found x → P x) → followed t next ≡ Found x → P x
+followed_found : (P : Mode → Type 0) (x : Mode) (t : Traced ℕ) (next : ℕ → Traced Mode) → ((k : ℕ) → next k ≡ Found x → P x)
+    → traced_then t next ≡ Found x → P x
 followed_found P x (Found k) next h e = h k e
 followed_found P x (WideAt d k l r) next h e = absurd (cc e)
 followed_found P x (LargeAt d k u v) next h e = absurd (cc e)
@@ -57,7 +58,7 @@ pub mode_is_fit : (a b : Fsmd) (f : Fact) (P Q : Point) (x : Mode) → mode_of a
 mode_is_fit a b f P Q x e =
     let right = count_from b side.Right f (paths_of b Q) 0 in
     fits_by (is_done P) (is_done Q) x P Q
-    (followed (count_from a side.Left f (paths_of a P) 0) (λ n. followed right (λ k. Found (mode_of_counts n k)))) refl refl
-    (followed_found (λ y. is_moving y ≡ true) x (count_from a side.Left f (paths_of a P) 0) (λ n. followed right (λ k. Found (mode_of_counts n k)))
+    (traced_then (count_from a side.Left f (paths_of a P) 0) (λ n. traced_then right (λ k. Found (mode_of_counts n k)))) refl refl
+    (followed_found (λ y. is_moving y ≡ true) x (count_from a side.Left f (paths_of a P) 0) (λ n. traced_then right (λ k. Found (mode_of_counts n k)))
     (λ n. followed_found (λ y. is_moving y ≡ true) x right (λ k. Found (mode_of_counts n k))
     (λ k g. ap is_moving (sym (found_same (mode_of_counts n k) x g)) ∙ counts_move n k))) e

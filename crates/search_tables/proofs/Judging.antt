@@ -22,7 +22,7 @@ use Rattle.search_ranks.specs.Graphs.{above}
 use Rattle.search_tables.specs.SearchTables.{MachinePair, positions_of, SearchNode, Table, Known, node_target, Keeps, PathPair, effect}
 use Rattle.search_tables.specs.Next.{mode_at}
 use Rattle.search_tables.specs.LoneMoves.{moves_alone, if_alone, lone_target, lone_targets}
-use Rattle.search_tables.specs.Certifying.{table_node}
+use Rattle.search_tables.specs.Certifying.{node_without_mode}
 use Rattle.search_tables.proofs.Targets.{standing}
 use Rattle.search_tables.proofs.Closing.{Into, Arrival, kept}
 
@@ -67,9 +67,9 @@ none_missing x falls h f =
     ap (λ ks. first_missing ks x.literals falls) e ∙ ap (λ ks. first_missing [] ks falls) l ∙ ap (λ b. first_missing [] [] b) f
 
 -- ---- moves
-module _ (m : MachinePair) (cs : List (CertificateNode Fact)) (modes : AllByRecursion (λ c. mode_at m (table_node c) ≡ Found c.mode) cs) where
+module _ (m : MachinePair) (cs : List (CertificateNode Fact)) (modes : AllByRecursion (λ c. mode_at m (node_without_mode c) ≡ Found c.mode) cs) where
   abbrev T : Table
-  T = map table_node cs
+  T = map node_without_mode cs
 
   abbrev ranks : List ℕ
   ranks = map (λ c. c.rank) cs
@@ -84,7 +84,7 @@ module _ (m : MachinePair) (cs : List (CertificateNode Fact)) (modes : AllByRecu
       let s = standing P Q 0 cs t.number t.node t.target in
       let at : t.number ≡ s.place = omega (arith, s.number) in
       let mode : mode_at m t.node ≡ Found s.node.mode = subst (λ n. mode_at m n ≡ Found s.node.mode) s.same
-      (each_at (λ d. mode_at m (table_node d) ≡ Found d.mode) cs s.place s.node modes s.is_in) in
+      (each_at (λ d. mode_at m (node_without_mode d) ≡ Found d.mode) cs s.place s.node modes s.is_in) in
       let rank : slice_index ranks t.number ≡ s.node.rank = ap (slice_index ranks) at ∙ rank_at cs s.place s.node s.is_in in
       let falls : rank_falls c s.node ≡ true = falls_by (same_alone c.mode s.node.mode) s.node.rank c.rank (λ h.
       let lt = lower m T ranks c.mode P Q post t.number c.rank t.node t.is_open t.target (ap (moves_alone c.mode) mode ∙ h) le in
@@ -107,13 +107,14 @@ module _ (m : MachinePair) (cs : List (CertificateNode Fact)) (modes : AllByRecu
             ∙ target_reached c (end_of c.left x.left) (end_of c.right x.right) a.post le' t
       ]
 
-  pub moves_hold : (c : CertificateNode Fact) (xs : List PathPair) → AllByRecursion (λ x. effect m T (table_node c) x ≡ Keeps) xs
-      → above ranks (lone_targets m T (table_node c) c.mode xs) ≤ c.rank → AllByRecursion (λ x. judge_move m.left m.right cs c x.left x.right ≡ Done None) xs
+  pub moves_hold : (c : CertificateNode Fact) (xs : List PathPair) → AllByRecursion (λ x. effect m T (node_without_mode c) x ≡ Keeps) xs
+      → above ranks (lone_targets m T (node_without_mode c) c.mode xs) ≤ c.rank
+      → AllByRecursion (λ x. judge_move m.left m.right cs c x.left x.right ≡ Done None) xs
   moves_hold c [] keep le = tt
   moves_hold c (x ∷ xs) keep le =
       let r = arrive m.left m.right c.fact.literals (vector_of c.fact.positions) x.left x.right in
       let one = lone_target m T c.mode (end_of c.left x.left) (end_of c.right x.right) r in
-      let rest = lone_targets m T (table_node c) c.mode xs in
+      let rest = lone_targets m T (node_without_mode c) c.mode xs in
       let le1 : above ranks one ≤ c.rank = omega (arith, above_left ranks one rest, le) in
       let le2 : above ranks rest ≤ c.rank = omega (arith, above_right ranks one rest, le) in
       (move_holds c x r le1 (kept (positions_of m) T (end_of c.left x.left) (end_of c.right x.right) r keep.0), moves_hold c xs keep.1 le2)

@@ -13,17 +13,17 @@ use Rattle.sym_facts.specs.Pairings.{IsFactOf}
 use Rattle.cert_model.specs.Lawful.{most_rank, points_differ, IsLawful}
 use Rattle.search_tables.specs.SearchTables.{MachinePair, positions_of, SearchNode, Table}
 use Rattle.search_tables.specs.TableInvariants.{nodes_differ, IsWellFormed}
-use Rattle.search_tables.specs.Certifying.{table_node, Certifies}
+use Rattle.search_tables.specs.Certifying.{node_without_mode, Certifies}
 
-all_again : (f : SearchNode → Bool) (cs : List (CertificateNode Fact)) → list_all (λ c. f (table_node c)) cs ≡ list_all f (map table_node cs)
+all_again : (f : SearchNode → Bool) (cs : List (CertificateNode Fact)) → list_all (λ c. f (node_without_mode c)) cs ≡ list_all f (map node_without_mode cs)
 all_again f [] = refl
-all_again f (c ∷ cs) = ap (λ b. f (table_node c) && b) (all_again f cs)
+all_again f (c ∷ cs) = ap (λ b. f (node_without_mode c) && b) (all_again f cs)
 
-any_again : (f : SearchNode → Bool) (cs : List (CertificateNode Fact)) → list_any (λ c. f (table_node c)) cs ≡ list_any f (map table_node cs)
+any_again : (f : SearchNode → Bool) (cs : List (CertificateNode Fact)) → list_any (λ c. f (node_without_mode c)) cs ≡ list_any f (map node_without_mode cs)
 any_again f [] = refl
-any_again f (c ∷ cs) = ap (λ b. f (table_node c) || b) (any_again f cs)
+any_again f (c ∷ cs) = ap (λ b. f (node_without_mode c) || b) (any_again f cs)
 
-differ_again : (cs : List (CertificateNode Fact)) → points_differ cs ≡ nodes_differ (map table_node cs)
+differ_again : (cs : List (CertificateNode Fact)) → points_differ cs ≡ nodes_differ (map node_without_mode cs)
 differ_again [] = refl
 differ_again (c ∷ cs) = ap₂ (λ b d. not b && d) (any_again (λ k. same_point c.left k.left && same_point c.right k.right) cs) (differ_again cs)
 
@@ -35,7 +35,7 @@ ranks_low (c ∷ cs) h =
     let test : nat_le c.rank most_rank ≡ true = grind (arith, nat_tests) in
     and_from (nat_le c.rank most_rank) (list_all (λ d. nat_le d.rank most_rank) cs) test (ranks_low cs (λ i. h (suc i)))
 
-facts_again : (P : Fact → Type 0) (cs : List (CertificateNode Fact)) → AllByRecursion (λ (n : SearchNode). P n.fact) (map table_node cs)
+facts_again : (P : Fact → Type 0) (cs : List (CertificateNode Fact)) → AllByRecursion (λ (n : SearchNode). P n.fact) (map node_without_mode cs)
     → AllByRecursion (λ (c : CertificateNode Fact). P c.fact) cs
 facts_again P [] h = tt
 facts_again P (c ∷ cs) h = (h.0, facts_again P cs h.1)
@@ -44,9 +44,9 @@ pub lawful : (m : MachinePair) (T : Table) (ranks : List ℕ) (cs : List (Certif
     → AllByRecursion (λ n. IsFactOf (positions_of m) n.fact) T → ((i : ℕ) → slice_index ranks i ≤ most_rank) → Certifies m T ranks cs
     → IsLawful m.left m.right cs
 lawful m T ranks cs w facts low h =
-    let v : IsWellFormed m (map table_node cs) = subst (IsWellFormed m) (sym h.nodes) w in
+    let v : IsWellFormed m (map node_without_mode cs) = subst (IsWellFormed m) (sym h.nodes) w in
     record {
-      few = omega (arith, v.few, length-map cs table_node);
+      few = omega (arith, v.few, length-map cs node_without_mode);
       points = all_again (λ n. is_point m.left n.left && is_point m.right n.right) cs ∙ v.points;
       differ = differ_again cs ∙ v.differ;
       ranks = ranks_low cs (subst (λ rs. (i : ℕ) → slice_index rs i ≤ most_rank) (sym h.ranks_are) low);

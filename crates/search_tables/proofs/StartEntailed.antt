@@ -2,11 +2,11 @@
 use Rattle.std.proofs.Common.{◌≡◌, ◌+◌, ℕ, zero, suc, pos, refl, ap, sym, subst, ◌∙◌, Bool, true, false, cond, List, [], ◌∷◌, map, Some, None}
 use Rattle.std.specs.Prelude.{◌&&◌, slice_get}
 use Rattle.std.specs.List.{AllByRecursion}
+use Rattle.fs_rules.specs.SoundParts.{IsSound}
 use Rattle.fs_model.specs.declared.parts.Role.TheVariants.{Input}
 use Rattle.fs_model.specs.declared.parts.Sort.{Sort}
 use Rattle.fs_model.specs.declared.parts.Sort.TheVariants.{Scalar, Array, Port}
 use Rattle.fs_model.specs.Machines.{Fsmd}
-use Rattle.fs_ast.specs.SoundMachines.{IsSound}
 use Rattle.fs_pair.specs.declared.positions.Position.{Position}
 use Rattle.fs_pair.specs.Interfaces.{interface_fault}
 use Rattle.fs_pair.specs.Positions.{position_of, positions}
@@ -24,10 +24,11 @@ use Rattle.nf_terms.specs.declared.form.Nf.TheVariants.{Num, Arr, Seq}
 use Rattle.fs_model.specs.declared.sides.Pos.{Pos}
 use Rattle.nf_terms.specs.declared.tree.Base.TheVariants as base
 use Rattle.nf_terms.specs.declared.tree.SeqBase.TheVariants as list
+use Rattle.nf_terms.specs.TermSorts.{same_term_sort}
 use Rattle.fs_model.specs.declared.sides.Side.TheVariants as side
-use Rattle.nf_sums.specs.Operations.{added, multiplied}
-use Rattle.nf_subst.specs.Vectors.{same_sort, form_at, number_or, array_or, list_or, number_at, array_form, list_at}
-use Rattle.nf_subst.specs.SamePlaces.{pos_equal, own_pos, own_sort}
+use Rattle.nf_sums.specs.Operations.{normal_sum, normal_product}
+use Rattle.nf_substitution.specs.Vectors.{form_at, number_or, array_or, list_or, number_at, array_form, list_at}
+use Rattle.nf_substitution.specs.SamePlaces.{pos_equal, own_pos, own_sort}
 use Rattle.sym_paths.specs.Sequences.{each}
 use Rattle.sym_facts.specs.Facts.{FactPosition, own_symbol, form_or_symbol, vector_of}
 use Rattle.sym_facts.specs.Entailment.{form_like, equation_met, false_places, entails}
@@ -68,17 +69,17 @@ module _ (all : List Position) where
       let i : q ≡ p = cc e in
       subst (λ (z : Position). form_at (sort_of_form (form_of p)) p.pos (entries (z ∷ ps)) ≡ Some (form_of p)) (sym i)
       (ap
-      (λ t. cond (t && same_sort (sort_of_form (form_of p)) (sort_of_form (form_of p))) (Some (form_of p))
+      (λ t. cond (t && same_term_sort (sort_of_form (form_of p)) (sort_of_form (form_of p))) (Some (form_of p))
       (form_at (sort_of_form (form_of p)) p.pos (entries ps))) (own_pos p.pos)
       ∙ ap (λ t. cond t (Some (form_of p)) (form_at (sort_of_form (form_of p)) p.pos (entries ps))) (own_sort (sort_of_form (form_of p))))
   form_found p (q ∷ ps) once (suc k) e = by_test (same_pos p.pos q.pos) refl (form_found p ps (λ j r g. once (suc j) r g) k e)
     where
       by_test : (t : Bool) → same_pos p.pos q.pos ≡ t → form_at (sort_of_form (form_of p)) p.pos (entries ps) ≡ Some (form_of p)
-          → cond (t && same_sort (sort_of_form (form_of p)) (sort_of_form (form_of q))) (Some (form_of q))
+          → cond (t && same_term_sort (sort_of_form (form_of p)) (sort_of_form (form_of q))) (Some (form_of q))
           (form_at (sort_of_form (form_of p)) p.pos (entries ps)) ≡ Some (form_of p)
       by_test true h later =
           ap
-          (λ (z : Position). cond (same_sort (sort_of_form (form_of p)) (sort_of_form (form_of z))) (Some (form_of z))
+          (λ (z : Position). cond (same_term_sort (sort_of_form (form_of p)) (sort_of_form (form_of z))) (Some (form_of z))
           (form_at (sort_of_form (form_of p)) p.pos (entries ps))) (once 0 q refl h)
           ∙ ap (λ t. cond t (Some (form_of p)) (form_at (sort_of_form (form_of p)) p.pos (entries ps))) (own_sort (sort_of_form (form_of p)))
       by_test false h later = later
@@ -92,7 +93,7 @@ symbol_again v Scalar p q e g =
     let y : number_at v q ≡ polynomial_of_symbol q = ap (number_or (polynomial_of_symbol q)) g in
     ap
     (λ z. after
-    (after (after (after (multiplied (polynomial_of_number (pos 1)) z) (λ t. Done t)) (λ t. after (added Zero t) (λ r. Done r))) (λ r. Done (Num r)))
+    (after (after (after (normal_product (polynomial_of_number (pos 1)) z) (λ t. Done t)) (λ t. after (normal_sum Zero t) (λ r. Done r))) (λ r. Done (Num r)))
     (λ f. Done (same_form (form_like v p (Num (polynomial_of_symbol q))) f))) y
     ∙ ap (λ z. Done (same_form (Num z) (Num (polynomial_of_symbol q)))) x
     ∙ ap Done (own_form (Num (polynomial_of_symbol q)))

@@ -4,10 +4,10 @@ use Rattle.std.specs.Prelude.{◌&&◌, ◌==◌, length, slice_set}
 use Rattle.std.specs.List.{range_with_len, AllByRecursion}
 use Rattle.std.proofs.lemmas.Bool.{and_right}
 use Rattle.base_lemmas.proofs.Quantifiers.{each_weaker, each_at}
+use Rattle.fs_rules.specs.SoundParts.{branch_count}
 use Rattle.fs_model.specs.Machines.{Fsmd}
-use Rattle.fs_ast.specs.SoundMachines.{branch_count}
 use Rattle.fs_cut.specs.Paths.{Point, Start, At, Done, Path, end_at, target_of}
-use Rattle.fs_cut.specs.Covers.{same_point, reached, path_by, paths_of}
+use Rattle.fs_cut.specs.Covers.{same_point, state_reached, path_by, paths_of}
 use Rattle.fs_pair.specs.declared.positions.Position.{Position}
 use Rattle.cert_bisimulation.specs.declared.mode.Mode.{Mode}
 use Rattle.cert_bisimulation.specs.declared.mode.Mode.TheVariants.{Both, Left, Right, End}
@@ -37,9 +37,9 @@ EndsOff p = same_point Start p.to ≡ false
 
 paths_end_off : (m : Fsmd) (P : Point) → AllByRecursion EndsOff (paths_of m P)
 paths_end_off m Start = all_mapped EndsOff (path_by m Start m.reset) (range_with_len 0 (branch_count m m.reset))
-    (λ k. not_start m (reached m (length m.states) (target_of m m.reset k)))
+    (λ k. not_start m (state_reached m (length m.states) (target_of m m.reset k)))
 paths_end_off m (At q) = all_mapped EndsOff (path_by m (At q) q) (range_with_len 0 (branch_count m q))
-    (λ k. not_start m (reached m (length m.states) (target_of m q k)))
+    (λ k. not_start m (state_reached m (length m.states) (target_of m q k)))
 paths_end_off m Done = tt
 
 moves_leave : (m : MachinePair) (n : SearchNode) (x : Mode) → AllByRecursion (LeavesStart n) (paths_in m n x)

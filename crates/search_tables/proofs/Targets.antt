@@ -6,7 +6,7 @@ use Rattle.cert_bisimulation.specs.Tables.{Node as CertificateNode}
 use Rattle.sym_facts.specs.Facts.{Fact}
 use Rattle.cert_model.specs.Obligations.{node_at}
 use Rattle.search_tables.specs.SearchTables.{SearchNode, Known, target_from, is_at}
-use Rattle.search_tables.specs.Certifying.{table_node}
+use Rattle.search_tables.specs.Certifying.{node_without_mode}
 
 pub known_same : (j k : ℕ) (a n : SearchNode) → Known j a ≡ Known k n → (j ≡ k) × (a ≡ n)
 known_same j k a n e = (cc e, cc e)
@@ -17,18 +17,19 @@ pub record Stands (cs : List (CertificateNode Fact)) (P Q : Point) (i k : ℕ) (
   pub number : k ≡ i + place
   pub node : CertificateNode Fact
   pub is_in : slice_get cs place ≡ Some node
-  pub same : table_node node ≡ t
+  pub same : node_without_mode node ≡ t
   pub first : node_at cs P Q ≡ Some node
 
-pub standing : (P Q : Point) (i : ℕ) (cs : List (CertificateNode Fact)) (k : ℕ) (t : SearchNode) → target_from P Q i (map table_node cs) ≡ Known k t
+pub standing : (P Q : Point) (i : ℕ) (cs : List (CertificateNode Fact)) (k : ℕ) (t : SearchNode) → target_from P Q i (map node_without_mode cs) ≡ Known k t
     → Stands cs P Q i k t
 standing P Q i [] k t e = absurd (cc e)
-standing P Q i (c ∷ cs) k t e = by_test (is_at P Q (table_node c)) refl e (λ g. standing P Q (i + 1) cs k t g)
+standing P Q i (c ∷ cs) k t e = by_test (is_at P Q (node_without_mode c)) refl e (λ g. standing P Q (i + 1) cs k t g)
   where
-    by_test : (b : Bool) → is_at P Q (table_node c) ≡ b → cond b (Known i (table_node c)) (target_from P Q (i + 1) (map table_node cs)) ≡ Known k t
-        → (target_from P Q (i + 1) (map table_node cs) ≡ Known k t → Stands cs P Q (i + 1) k t) → Stands (c ∷ cs) P Q i k t
+    by_test : (b : Bool) → is_at P Q (node_without_mode c) ≡ b
+        → cond b (Known i (node_without_mode c)) (target_from P Q (i + 1) (map node_without_mode cs)) ≡ Known k t
+        → (target_from P Q (i + 1) (map node_without_mode cs) ≡ Known k t → Stands cs P Q (i + 1) k t) → Stands (c ∷ cs) P Q i k t
     by_test true h g again =
-        let s = known_same i k (table_node c) t g in
+        let s = known_same i k (node_without_mode c) t g in
         record { place = 0; number = omega (arith, s.0); node = c; is_in = refl; same = s.1; first = ap (λ b. cond b (Some c) (node_at cs P Q)) h }
     by_test false h g again =
         let s = again g in

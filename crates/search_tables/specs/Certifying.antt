@@ -8,11 +8,11 @@ use Rattle.search_tables.specs.SearchTables.{MachinePair, SearchNode, Table}
 use Rattle.search_tables.specs.Next.{mode_at}
 
 -- the points and the fact of a certificate's node
-abbrev pub table_node : CertificateNode Fact → SearchNode
-table_node c = record { left = c.left; right = c.right; fact = c.fact }
+abbrev pub node_without_mode : CertificateNode Fact → SearchNode
+node_without_mode c = record { left = c.left; right = c.right; fact = c.fact }
 
 -- a certificate has the nodes of a table in order, each with its mode and its rank
 pub record Certifies (m : MachinePair) (T : Table) (ranks : List ℕ) (cs : List (CertificateNode Fact)) : Type 0 where
-  pub nodes : map table_node cs ≡ T
-  pub modes : AllByRecursion (λ c. mode_at m (table_node c) ≡ Found c.mode) cs
+  pub nodes : map node_without_mode cs ≡ T
+  pub modes : AllByRecursion (λ c. mode_at m (node_without_mode c) ≡ Found c.mode) cs
   pub ranks_are : map (λ c. c.rank) cs ≡ ranks

@@ -95,12 +95,12 @@ add_node T P Q c = with_computed c (λ f. within_units (T ++ record { left = P; 
 abbrev pub with_fact : Table → ℕ → SearchNode → Fact → Table
 with_fact T k n f = slice_set T k (record { left = n.left; right = n.right; fact = f })
 
-abbrev pub weakened : Table → ℕ → SearchNode → Computed Fact → MoveEffect
-weakened T k n c = with_computed c (λ f. within_units (with_fact T k n f))
+abbrev pub weaken_node : Table → ℕ → SearchNode → Computed Fact → MoveEffect
+weaken_node T k n c = with_computed c (λ f. within_units (with_fact T k n f))
 
 -- a known target keeps its fact where that is entailed, and gets the joined fact otherwise
 abbrev pub keep_or_join : Table → ℕ → SearchNode → Post → Computed Missing → MoveEffect
-keep_or_join T k n post c = with_computed c (λ x. cond (is_nothing x) Keeps (weakened T k n (join n.fact post x)))
+keep_or_join T k n post c = with_computed c (λ x. cond (is_nothing x) Keeps (weaken_node T k n (join n.fact post x)))
 
 -- an unknown target becomes a node with the rebased fact, where there is place for one more
 abbrev pub look_up_target : List Position → Table → Point → Point → Post → Target → MoveEffect
@@ -108,8 +108,8 @@ look_up_target ps T P Q post Unknown = cond (nat_lt (length T) most_nodes) (add_
 look_up_target ps T P Q post (Known k n) = keep_or_join T k n post (entails post n.fact)
 
 -- what arrives at two points: a refuted post does nothing
-abbrev pub arrived : List Position → Table → Point → Point → Computed Post → MoveEffect
-arrived ps T P Q c =
+abbrev pub effect_of_arrival : List Position → Table → Point → Point → Computed Post → MoveEffect
+effect_of_arrival ps T P Q c =
     with_computed c (λ post. cond (is_refuted post.conditions) Keeps (look_up_target ps T P Q post (node_target T P Q)))
 
 -- one path of each side that moves
@@ -119,5 +119,9 @@ pub record PathPair : Type 0 where
 
 -- what moving from a node by these paths does to a table
 abbrev pub effect : MachinePair → Table → SearchNode → PathPair → MoveEffect
-effect m T n x = arrived (positions_of m) T (end_of n.left x.left) (end_of n.right x.right)
+effect m T n x = effect_of_arrival (positions_of m) T (end_of n.left x.left) (end_of n.right x.right)
     (arrive m.left m.right n.fact.literals (vector_of n.fact.positions) x.left x.right)
+
+-- what arrives by paths from a node
+abbrev pub arrival : MachinePair → SearchNode → PathPair → Computed Post
+arrival m n x = arrive m.left m.right n.fact.literals (vector_of n.fact.positions) x.left x.right

@@ -2,8 +2,8 @@
 
 ghost use Rattle.std.specs.Prelude.{◌+◌, ◌*◌, length, ◌≤◌, slice_index, ◌≡◌, ◌⊎◌, ℕ, List, [], None};
 ghost use Rattle.std.specs.List.{AllByRecursion};
+ghost use Rattle.fs_rules.specs.SoundParts.{IsSound};
 ghost use Rattle.fs_model.specs.Machines.{Fsmd};
-ghost use Rattle.fs_ast.specs.SoundMachines.{IsSound};
 ghost use Rattle.fs_pair.specs.Interfaces.{interface_fault};
 ghost use Rattle.fs_pair.specs.Positions.{positions};
 ghost use Rattle.cert_bisimulation.specs.Tables.{Node as CertificateNode};

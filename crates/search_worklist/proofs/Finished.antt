@@ -14,7 +14,7 @@ use Rattle.search_tables.specs.SearchTables.{MachinePair, SearchNode, units, nod
 use Rattle.search_tables.specs.Next.{paths_in, move_by}
 use Rattle.search_tables.proofs.Forming.{known_in}
 use Rattle.search_places.specs.declared.entry.Item.{Item}
-use Rattle.search_places.specs.NodeLines.{Line, item, line_of_node, table_of}
+use Rattle.search_places.specs.NodeLines.{NodeRecord, item, record_of_node, table_of}
 use Rattle.search_places.specs.NodeChanges.{ListsArrival}
 use Rattle.search_places.specs.ItemOrder.{waits, IsLeastWaiting, Drops}
 use Rattle.search_ranks.proofs.Lists.{get_snoc, get_map_back, set_same, set_other, same_or_not}
@@ -30,19 +30,20 @@ use Rattle.search_places.proofs.Moved.{again}
 use Rattle.search_worklist.proofs.Keeping.{Lists, lists_none, lists_one, lists_this, move_done}
 use Rattle.search_worklist.proofs.Found.{weight_set, apart}
 
-abbrev more_arrivals : Line → Item → Line
+abbrev more_arrivals : NodeRecord → Item → NodeRecord
 more_arrivals l y = record { node = l.node; moves = l.moves; arrivals = l.arrivals ++ y ∷ [] }
 
 -- the item is listed as arriving, or nothing is
-pub record MayList (ls ls' : List Line) (y : Item) : Type 0 where
+pub record MayList (ls ls' : List NodeRecord) (y : Item) : Type 0 where
   pub lists : Lists ls ls'
   pub weights : sum_by line_weight ls' ≡ sum_by line_weight ls
   pub back : (j : ℕ) (z : Item) → Arrives ls' j z → Arrives ls j z ⊎ (y ≡ z)
 
-pub lists_nothing : (ls : List Line) (y : Item) → MayList ls ls y
+pub lists_nothing : (ls : List NodeRecord) (y : Item) → MayList ls ls y
 lists_nothing ls y = record { lists = lists_none ls; weights = refl; back = λ j z a. inl a }
 
-listed_by : (ls : List Line) (k : ℕ) (old : Line) (x : Item) (j : ℕ) (y : Item) → slice_get ls k ≡ Some old → Arrives (slice_set ls k (more_arrivals old x)) j y
+listed_by : (ls : List NodeRecord) (k : ℕ) (old : NodeRecord) (x : Item) (j : ℕ) (y : Item) → slice_get ls k ≡ Some old
+    → Arrives (slice_set ls k (more_arrivals old x)) j y
     → Arrives ls j y ⊎ (x ≡ y)
 listed_by ls k old x j y g a = elim (same_or_not j k) [
   | inl e ↦
@@ -50,14 +51,14 @@ listed_by ls k old x j y g a = elim (same_or_not j k) [
       subst (λ z. slice_get (slice_set ls k (more_arrivals old x)) z ≡ Some a.line) e a.is_in in
       let b : slice_get (slice_set ls k (more_arrivals old x)) k ≡ Some (more_arrivals old x) = set_same ls k old (more_arrivals old x) g in
       let s : a.line ≡ more_arrivals old x = cc in
-      elim (get_snoc old.arrivals x a.place y (subst (λ (z : Line). slice_get z.arrivals a.place ≡ Some y) s a.listed)) [
+      elim (get_snoc old.arrivals x a.place y (subst (λ (z : NodeRecord). slice_get z.arrivals a.place ≡ Some y) s a.listed)) [
         | inl z ↦ inl (record { line = old; is_in = rw e g; place = a.place; listed = z })
         | inr z ↦ inr z.1
       ])
   | inr d ↦ inl (record { line = a.line; is_in = sym (set_other ls k j (more_arrivals old x) d) ∙ a.is_in; place = a.place; listed = a.listed })
 ]
 
-pub lists_arrival : (ls ls' : List Line) (k : ℕ) (y : Item) → ListsArrival ls ls' k y → MayList ls ls' y
+pub lists_arrival : (ls ls' : List NodeRecord) (k : ℕ) (y : Item) → ListsArrival ls ls' k y → MayList ls ls' y
 lists_arrival ls ls' k y h =
     subst (λ z. MayList ls z y) (sym h.set) (record {
       lists = lists_one ls k h.old (more_arrivals h.old y) y h.is_in refl refl refl;
@@ -65,10 +66,10 @@ lists_arrival ls ls' k y h =
       back = λ j z a. listed_by ls k h.old y j z h.is_in a;
     })
 
-module _ (m : MachinePair) (ls ls' : List Line) (w w2 : BTreeSet Item) (n : ℕ) (ready : Ready m ls w n) (y : Item) (p : ℕ) (at : y.place ≡ suc p)
+module _ (m : MachinePair) (ls ls' : List NodeRecord) (w w2 : BTreeSet Item) (n : ℕ) (ready : Ready m ls w n) (y : Item) (p : ℕ) (at : y.place ≡ suc p)
     (waited : waits w y ≡ true) (more : MayList ls ls' y)
     (drops : Drops (waits w) (waits w2) y) (fewer : btree_set_len w2 < btree_set_len w)
-    (settles : (l : Line) (mode : Mode) (x : PathPair) → slice_get ls y.node ≡ Some l → l.moves ≡ Some (map (move_by y.node) (paths_in m l.node mode))
+    (settles : (l : NodeRecord) (mode : Mode) (x : PathPair) → slice_get ls y.node ≡ Some l → l.moves ≡ Some (map (move_by y.node) (paths_in m l.node mode))
     → slice_get (paths_in m l.node mode) p ≡ Some x → IsSettledMove m ls' l.node x (item y.node (suc p))) where
   is_item : y ≡ item y.node (suc p)
   is_item = λ k. record { node = y.node; place = at k }
@@ -98,8 +99,8 @@ module _ (m : MachinePair) (ls ls' : List Line) (w w2 : BTreeSet Item) (n : ℕ)
 
 -- ---- what settles an item
 -- the move of an item is the one that was tried
-same_moves : (t l : Line) (xs ys : List Move) → t ≡ l → t.moves ≡ Some xs → l.moves ≡ Some ys → xs ≡ ys
-same_moves t l xs ys e g h = let k = ap (λ (q : Line). q.moves) e in cc
+same_moves : (t l : NodeRecord) (xs ys : List Move) → t ≡ l → t.moves ≡ Some xs → l.moves ≡ Some ys → xs ≡ ys
+same_moves t l xs ys e g h = let k = ap (λ (q : NodeRecord). q.moves) e in cc
 
 same_paths : (m : MachinePair) (i : ℕ) (n : SearchNode) (mode : Mode) (p : ℕ) (x y : PathPair) (at : Move) → slice_get (paths_in m n mode) p ≡ Some x
     → slice_get (paths_in m n mode) p ≡ Some y → move_by i y ≡ at → (move_by i x ≡ at) × (paths_at m n at ≡ x)
@@ -108,7 +109,8 @@ same_paths m i n mode p x y at g h e =
     let is : move_by i x ≡ at = sym (ap (move_by i) same) ∙ e in
     (is, ap (paths_at m n) (sym is) ∙ again m i n mode p x g)
 
-chosen : (m : MachinePair) (ls : List Line) (y : Item) (at : Move) (t : IsMoveAt ls y at) (l : Line) (mode : Mode) (x : PathPair) (p : ℕ) → y.place ≡ suc p
+chosen : (m : MachinePair) (ls : List NodeRecord) (y : Item) (at : Move) (t : IsMoveAt ls y at) (l : NodeRecord) (mode : Mode) (x : PathPair) (p : ℕ)
+    → y.place ≡ suc p
     → slice_get ls y.node ≡ Some l → l.moves ≡ Some (map (move_by y.node) (paths_in m l.node mode)) → slice_get (paths_in m l.node mode) p ≡ Some x
     → (move_by y.node x ≡ at) × (paths_at m l.node at ≡ x)
 chosen m ls y at t l mode x p e g h z =
@@ -120,33 +122,35 @@ chosen m ls y at t l mode x p e g h z =
     same_paths m y.node l.node mode p x b.0 at z b.1 b.2
 
 -- what settles an item, for each way in which its move may be named
-abbrev pub Settles : (m : MachinePair) (ls ls' : List Line) (y : Item) (p : ℕ) → Type 0
-Settles m ls ls' y p = (l : Line) (mode : Mode) (x : PathPair) → slice_get ls y.node ≡ Some l → l.moves ≡ Some (map (move_by y.node) (paths_in m l.node mode))
+abbrev pub Settles : (m : MachinePair) (ls ls' : List NodeRecord) (y : Item) (p : ℕ) → Type 0
+Settles m ls ls' y p = (l : NodeRecord) (mode : Mode) (x : PathPair) → slice_get ls y.node ≡ Some l
+    → l.moves ≡ Some (map (move_by y.node) (paths_in m l.node mode))
     → slice_get (paths_in m l.node mode) p ≡ Some x → IsSettledMove m ls' l.node x (item y.node (suc p))
 
-pub none_settles : (m : MachinePair) (ls : List Line) (y : Item) (p : ℕ) → y.place ≡ suc p → NoMoveAt ls y → Settles m ls ls y p
+pub none_settles : (m : MachinePair) (ls : List NodeRecord) (y : Item) (p : ℕ) → y.place ≡ suc p → NoMoveAt ls y → Settles m ls ls y p
 none_settles m ls y p e none l mode x g h z =
     let gone = none l (map (move_by y.node) (paths_in m l.node mode)) p g h e in
     let there = slice_get-of_map (move_by y.node) (paths_in m l.node mode) p x z in
     absurd (cc)
 
 -- the line of the move that was tried, and its paths
-pub same_line : (m : MachinePair) (ls : List Line) (y : Item) (at : Move) (r : Result Trial NfStop) (l : Line) (x : PathPair) (a : TriesAt m ls at r)
+pub same_line : (m : MachinePair) (ls : List NodeRecord) (y : Item) (at : Move) (r : Result Trial NfStop) (l : NodeRecord) (x : PathPair)
+    (a : TriesAt m ls at r)
     → slice_get ls y.node ≡ Some l → move_by y.node x ≡ at → paths_at m l.node at ≡ x → Tries m (table_of ls) l.node x r
 same_line m ls y at r l x a g is paths =
     let node : at.node ≡ y.node = sym (ap (λ (z : Move). z.node) is) in
     let there : slice_get ls y.node ≡ Some a.line = subst (λ i. slice_get ls i ≡ Some a.line) node a.is_in in
     let line : a.line ≡ l = cc in
-    subst (λ z. Tries m (table_of ls) l.node z r) paths (subst (λ (z : Line). Tries m (table_of ls) z.node (paths_at m z.node at) r) line a.tries)
+    subst (λ z. Tries m (table_of ls) l.node z r) paths (subst (λ (z : NodeRecord). Tries m (table_of ls) z.node (paths_at m z.node at) r) line a.tries)
 
-pub refuted_settles : (m : MachinePair) (ls : List Line) (y : Item) (at : Move) (t : IsMoveAt ls y at) (p : ℕ) → y.place ≡ suc p
+pub refuted_settles : (m : MachinePair) (ls : List NodeRecord) (y : Item) (at : Move) (t : IsMoveAt ls y at) (p : ℕ) → y.place ≡ suc p
     → TriesAt m ls at (Ok tried.Refuted) → Settles m ls ls y p
 refuted_settles m ls y at t p e a l mode x g h z =
     let c = chosen m ls y at t l mode x p e g h z in
     let r = same_line m ls y at (Ok tried.Refuted) l x a g c.0 c.1 in
     record { post = r.0; valued = r.1; holds = inl r.2 }
 
-pub entailed_settles : (m : MachinePair) (ls ls' : List Line) (y : Item) (at : Move) (t : IsMoveAt ls y at) (p k : ℕ) → y.place ≡ suc p
+pub entailed_settles : (m : MachinePair) (ls ls' : List NodeRecord) (y : Item) (at : Move) (t : IsMoveAt ls y at) (p k : ℕ) → y.place ≡ suc p
     → TriesAt m ls at (Ok (tried.Entailed k)) → ListsArrival ls ls' k y → Settles m ls ls' y p
 entailed_settles m ls ls' y at t p k place a h l mode x g known z =
     let c = chosen m ls y at t l mode x p place g known z in
@@ -175,18 +179,18 @@ entailed_settles m ls ls' y at t p k place a h l mode x g known z =
     }
 
 -- the target of a move that was tried is a node
-target_within : (ls : List Line) (P Q : Point) (post : Post) (k : ℕ) → IsEntailed (table_of ls) P Q post k → k < length ls
+target_within : (ls : List NodeRecord) (P Q : Point) (post : Post) (k : ℕ) → IsEntailed (table_of ls) P Q post k → k < length ls
 target_within ls P Q post k e =
     let j = known_in P Q 0 (table_of ls) k e.node e.target in
     let h = slice_get_within (table_of ls) j.0 e.node j.2 in
-    omega (arith, j.1, h, length-map ls (λ (l : Line). l.node))
+    omega (arith, j.1, h, length-map ls (λ (l : NodeRecord). l.node))
 
 pub entailed_within : (m : MachinePair) (s : State) (at : Move) (k : ℕ) → TriesAt m (lines s) at (Ok (tried.Entailed k)) → k < length s.entries.entries
 entailed_within m s at k a =
     let n = a.line.node in
     let x = paths_at m n at in
     let t = a.tries in
-    omega (arith, target_within (lines s) (end_of n.left x.left) (end_of n.right x.right) t.0 k t.2.1, length-map s.entries.entries line_of_node)
+    omega (arith, target_within (lines s) (end_of n.left x.left) (end_of n.right x.right) t.0 k t.2.1, length-map s.entries.entries record_of_node)
 
 -- a turn that ends an item
 pub place_before : (n : ℕ) → n ≢ 0 → (p : ℕ) × (n ≡ suc p)

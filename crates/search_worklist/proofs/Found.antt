@@ -12,7 +12,7 @@ use Rattle.search_tables.specs.declared.moves.Move.{Move}
 use Rattle.search_tables.specs.SearchTables.{MachinePair, units}
 use Rattle.search_tables.specs.Next.{mode_at, paths_in, move_by}
 use Rattle.search_places.specs.declared.entry.Item.{Item}
-use Rattle.search_places.specs.NodeLines.{Line, item, table_of}
+use Rattle.search_places.specs.NodeLines.{NodeRecord, item, table_of}
 use Rattle.search_places.specs.NodeChanges.{SetsMoves}
 use Rattle.search_places.specs.ItemOrder.{waits, AddsMoves, Drops}
 use Rattle.search_ranks.proofs.Lists.{set_same, set_other, same_or_not}
@@ -23,13 +23,15 @@ use Rattle.search_worklist.specs.Waiting.{Arrives, IsWaiting}
 use Rattle.search_worklist.specs.States.{lines, Ready, IsReady, line_weight, work_of}
 use Rattle.search_worklist.proofs.Keeping.{mode_found}
 
-abbrev found_line : Line → List Move → Line
+abbrev found_line : NodeRecord → List Move → NodeRecord
 found_line l xs = record { node = l.node; moves = Some xs; arrivals = l.arrivals }
 
-same_nodes : (ls : List Line) (k : ℕ) (old new : Line) → slice_get ls k ≡ Some old → new.node ≡ old.node → table_of (slice_set ls k new) ≡ table_of ls
-same_nodes ls k old new g n = map-set_same (λ (l : Line). l.node) ls k new old (n ∙ sym (ap (λ (l : Line). l.node) (get_or_from_slice_get ls k old old g)))
+same_nodes : (ls : List NodeRecord) (k : ℕ) (old new : NodeRecord) → slice_get ls k ≡ Some old → new.node ≡ old.node
+    → table_of (slice_set ls k new) ≡ table_of ls
+same_nodes ls k old new g n = map-set_same (λ (l : NodeRecord). l.node) ls k new old
+    (n ∙ sym (ap (λ (l : NodeRecord). l.node) (get_or_from_slice_get ls k old old g)))
 
-pub weight_set : (ls : List Line) (k : ℕ) (old new : Line) → slice_get ls k ≡ Some old
+pub weight_set : (ls : List NodeRecord) (k : ℕ) (old new : NodeRecord) → slice_get ls k ≡ Some old
     → sum_by line_weight (slice_set ls k new) + line_weight old ≡ sum_by line_weight ls + line_weight new
 weight_set ls k old new g = subst (λ l. sum_by line_weight (slice_set ls k new) + line_weight l ≡ sum_by line_weight ls + line_weight new)
     (get_or_from_slice_get ls k old old g) (sum_by-set line_weight ls k new old (slice_get_within ls k old g))
@@ -38,17 +40,18 @@ pub apart : (i p j q : ℕ) → ((i ≡ j) × (p ≡ q) → ⊥) → item j q �
 apart i p j q d e = d (sym (ap (λ (z : Item). z.node) e), sym (ap (λ (z : Item). z.place) e))
 
 -- what arrives after a change arrived before it
-pub arrives_back : (ls : List Line) (k : ℕ) (old new : Line) (j : ℕ) (y : Item) → slice_get ls k ≡ Some old
+pub arrives_back : (ls : List NodeRecord) (k : ℕ) (old new : NodeRecord) (j : ℕ) (y : Item) → slice_get ls k ≡ Some old
     → ((p : ℕ) → slice_get new.arrivals p ≡ Some y → slice_get old.arrivals p ≡ Some y) → Arrives (slice_set ls k new) j y → Arrives ls j y
 arrives_back ls k old new j y g h a = elim (same_or_not j k) [
   | inl e ↦ (let i : slice_get (slice_set ls k new) k ≡ Some a.line = subst (λ z. slice_get (slice_set ls k new) z ≡ Some a.line) e a.is_in in
       let b : slice_get (slice_set ls k new) k ≡ Some new = set_same ls k old new g in
       let s : a.line ≡ new = cc in
-      record { line = old; is_in = rw e g; place = a.place; listed = h a.place (subst (λ (z : Line). slice_get z.arrivals a.place ≡ Some y) s a.listed) })
+      record { line = old; is_in = rw e g; place = a.place; listed = h a.place (subst (λ (z : NodeRecord). slice_get z.arrivals a.place ≡ Some y) s a.listed) })
   | inr d ↦ record { line = a.line; is_in = sym (set_other ls k j new d) ∙ a.is_in; place = a.place; listed = a.listed }
 ]
 
-module _ (m : MachinePair) (ls ls' : List Line) (w w1 w2 : BTreeSet Item) (n : ℕ) (ready : Ready m ls w n) (k : ℕ) (l : Line) (mode : Mode) (xs : List Move)
+module _ (m : MachinePair) (ls ls' : List NodeRecord) (w w1 w2 : BTreeSet Item) (n : ℕ) (ready : Ready m ls w n) (k : ℕ) (l : NodeRecord) (mode : Mode)
+    (xs : List Move)
     (is_in : slice_get ls k ≡ Some l) (found : mode_at m l.node ≡ Found mode) (listed : xs ≡ map (move_by k) (paths_in m l.node mode))
     (few : length xs ≤ most_moves)
     (waited : waits w (item k 0) ≡ true) (adds : AddsMoves (waits w) (waits w1) k (length xs)) (more : btree_set_len w1 ≤ btree_set_len w + length xs)
@@ -71,7 +74,7 @@ module _ (m : MachinePair) (ls ls' : List Line) (w w1 w2 : BTreeSet Item) (n : �
         | inr a ↦ subst (λ j. j < length ls) (sym a.0) (slice_get_within ls k l is_in)
       ]))
 
-  found_none : (i : ℕ) (z : Line) → slice_get (slice_set ls k (found_line l xs)) i ≡ Some z → waits w2 (item i 0) ≡ true → z.moves ≡ None
+  found_none : (i : ℕ) (z : NodeRecord) → slice_get (slice_set ls k (found_line l xs)) i ≡ Some z → waits w2 (item i 0) ≡ true → z.moves ≡ None
   found_none i z g h = elim (same_or_not i k) [
     | inl e ↦ absurd (let a : waits w2 (item k 0) ≡ true = subst (λ j. waits w2 (item j 0) ≡ true) e h in let b = drops.gone in cc)
     | inr d ↦ ready.unfound i z (sym (set_other ls k i (found_line l xs) d) ∙ g)
@@ -81,7 +84,7 @@ module _ (m : MachinePair) (ls ls' : List Line) (w w1 w2 : BTreeSet Item) (n : �
   found_ready : Ready m ls' w2 n
   found_ready = record {
     waiting = subst (λ z. IsWaiting m z (waits w2)) (sym set_here) found_waiting;
-    unfound = subst (λ a. (i : ℕ) (z : Line) → slice_get a i ≡ Some z → waits w2 (item i 0) ≡ true → z.moves ≡ None) (sym set_here) found_none;
+    unfound = subst (λ a. (i : ℕ) (z : NodeRecord) → slice_get a i ≡ Some z → waits w2 (item i 0) ≡ true → z.moves ≡ None) (sym set_here) found_none;
     listed = λ j y a.
         let b : Arrives (slice_set ls k (found_line l xs)) j y = subst (λ z. Arrives z j y) set_here a in
         let r = ready.listed j y (arrives_back ls k l (found_line l xs) j y is_in (λ p z. z) b) in
@@ -96,7 +99,7 @@ module _ (m : MachinePair) (ls ls' : List Line) (w w1 w2 : BTreeSet Item) (n : �
       let e : sum_by line_weight ls' ≡ sum_by line_weight (slice_set ls k (found_line l xs)) = ap (sum_by line_weight) set_here in
       omega (arith, h, s, e, more, fewer, few)
 
-pub found_turned : (m : MachinePair) (s t : State) (w : BTreeSet Item) (k : ℕ) (l : Line) (mode : Mode) (xs : List Move) → IsReady m s → t.units ≡ s.units
+pub found_turned : (m : MachinePair) (s t : State) (w : BTreeSet Item) (k : ℕ) (l : NodeRecord) (mode : Mode) (xs : List Move) → IsReady m s → t.units ≡ s.units
     → slice_get (lines s) k ≡ Some l → mode_at m l.node ≡ Found mode → xs ≡ map (move_by k) (paths_in m l.node mode) → length xs ≤ most_moves
     → waits s.waiting (item k 0) ≡ true
     → AddsMoves (waits s.waiting) (waits w) k (length xs) → btree_set_len w ≤ btree_set_len s.waiting + length xs → Drops (waits w) (waits t.waiting) (item k 0)

@@ -25,13 +25,14 @@ use Rattle.search_tables.specs.declared.moves.Move.{Move}
 use Rattle.search_tables.specs.declared.outcome.Budget.{Budget}
 use Rattle.search_tables.specs.declared.outcome.Budget.TheVariants.{Nodes, Units}
 use Rattle.search_tables.specs.SearchTables.{MachinePair, positions_of, SearchNode, Table, units, most_units, Unknown, Known, node_target, with_fact, TooWide}
-use Rattle.search_tables.specs.SearchTables.{TooLarge, MoveEffect, Keeps, Changes, Meets, Exceeds, within_units, add_node, weakened, keep_or_join}
-use Rattle.search_tables.specs.SearchTables.{look_up_target, arrived, PathPair, effect}
+use Rattle.search_tables.specs.SearchTables.{arrival}
+use Rattle.search_tables.specs.SearchTables.{TooLarge, MoveEffect, Keeps, Changes, Meets, Exceeds, within_units, add_node, weaken_node, keep_or_join}
+use Rattle.search_tables.specs.SearchTables.{look_up_target, effect_of_arrival, PathPair, effect}
 use Rattle.search_tables.specs.Next.{mode_at, path_at, next_by, or_next, next_move}
 use Rattle.search_tables.specs.Legal.{stuck}
 use Rattle.search_tables.proofs.Forming.{known_in}
 use Rattle.search_places.specs.declared.entry.Item.{Item}
-use Rattle.search_places.specs.NodeLines.{Line, node_with_fact, table_of}
+use Rattle.search_places.specs.NodeLines.{NodeRecord, node_with_fact, table_of}
 use Rattle.search_places.specs.ItemOrder.{IsLeastWaiting}
 use Rattle.search_worklist.specs.declared.ends.End.{End}
 use Rattle.search_worklist.specs.declared.ends.End.TheVariants as end
@@ -44,7 +45,7 @@ use Rattle.search_places.specs.Moves.{path_in, paths_at}
 use Rattle.search_worklist.specs.NodeUpdates.{put_by, put_fact, change_table}
 use Rattle.search_worklist.specs.Trials.{GivesChange, GivesTrial, IsMet, TellsChange, TellsTrial, Tries, TriesAt}
 use Rattle.search_worklist.specs.Turns.{IsNext, IsEndAt, IsMoveAt}
-use Rattle.search_worklist.specs.Waiting.{arrival, IsWaiting}
+use Rattle.search_worklist.specs.Waiting.{IsWaiting}
 use Rattle.search_places.proofs.Moved.{again}
 use Rattle.search_worklist.proofs.Least.{Comes, mode_next, move_next}
 use Rattle.search_worklist.proofs.Finished.{same_line}
@@ -149,8 +150,8 @@ module _ (ps : List Position) (T : Table) (P Q : Point) (post : Post) where
     compare_stops stop.NoMemory e = tt
 
     module _ (x : Missing) (missing : entails post n.fact ≡ Done x) (something : is_nothing x ≡ false) where
-      joined_is : (c : Computed Fact) → join n.fact post x ≡ c → effect_there ≡ weakened T k n c
-      joined_is c e = compared_is (Done x) missing ∙ ap (λ b. cond b Keeps (weakened T k n (join n.fact post x))) something ∙ ap (weakened T k n) e
+      joined_is : (c : Computed Fact) → join n.fact post x ≡ c → effect_there ≡ weaken_node T k n c
+      joined_is c e = compared_is (Done x) missing ∙ ap (λ b. cond b Keeps (weaken_node T k n (join n.fact post x))) something ∙ ap (weaken_node T k n) e
 
       pub join_stops : (s : NfStop) → Answers (Err s) (join n.fact post x) → IsMet s effect_there
       join_stops (stop.Wide l r) e = joined_is (Wide l r) e
@@ -173,8 +174,8 @@ tells_change T P Q post e (Err s) h = h
 
 -- ---- moves
 module _ (m : MachinePair) (T : Table) (n : SearchNode) (x : PathPair) where
-  effect_is : (c : Computed Post) → arrival m n x ≡ c → effect m T n x ≡ arrived (positions_of m) T (end_of n.left x.left) (end_of n.right x.right) c
-  effect_is c e = ap (arrived (positions_of m) T (end_of n.left x.left) (end_of n.right x.right)) e
+  effect_is : (c : Computed Post) → arrival m n x ≡ c → effect m T n x ≡ effect_of_arrival (positions_of m) T (end_of n.left x.left) (end_of n.right x.right) c
+  effect_is c e = ap (effect_of_arrival (positions_of m) T (end_of n.left x.left) (end_of n.right x.right)) e
 
   pub arrive_stops : (s : NfStop) → Answers (Err s) (arrival m n x) → Tries m T n x (Err s)
   arrive_stops (stop.Wide l r) e = effect_is (Wide l r) e
@@ -207,13 +208,13 @@ arrives_by m n at l r c e d h = sym (ap₂ (arrive m.left m.right n.fact.literal
 
 -- ---- steps
 -- a move that comes first, with what was told of it
-pub record IsFirst (m : MachinePair) (ls : List Line) (at : Move) (r : Result Trial NfStop) : Type 0 where
+pub record IsFirst (m : MachinePair) (ls : List NodeRecord) (at : Move) (r : Result Trial NfStop) : Type 0 where
   pub node : SearchNode
   pub paths : PathPair
   pub comes : Comes m (table_of ls) (λ rest. next_by at (effect m (table_of ls) node paths) rest)
   pub tries : Tries m (table_of ls) node paths r
 
-pub is_first : (m : MachinePair) (ls : List Line) (waits : Item → Bool) (y : Item) (at : Move) (r : Result Trial NfStop) → IsWaiting m ls waits
+pub is_first : (m : MachinePair) (ls : List NodeRecord) (waits : Item → Bool) (y : Item) (at : Move) (r : Result Trial NfStop) → IsWaiting m ls waits
     → IsLeastWaiting waits y.node y.place → (t : IsMoveAt ls y at) → TriesAt m ls at r → IsFirst m ls at r
 is_first m ls waits y at r w least t a =
     let low : IsLeastWaiting waits y.node (suc t.number) = subst (λ p. IsLeastWaiting waits y.node p) t.place least in
@@ -231,23 +232,25 @@ module _ (m : MachinePair) (T : Table) (at : Move) (e : MoveEffect) (c : Comes m
   end_next f (stop.Large u d) x i h = subst (EndsSo m T) (sym i) (f, u, d, comes_so (Meets (TooLarge u d)) h)
   end_next f stop.NoMemory x i h = absurd i
 
-pub change_next : (m : MachinePair) (ls : List Line) (at : Move) (c : MadeChange) → IsFirst m ls at (Ok (tried.Changes c))
+pub change_next : (m : MachinePair) (ls : List NodeRecord) (at : Move) (c : MadeChange) → IsFirst m ls at (Ok (tried.Changes c))
     → IsNext m (table_of ls) (step.Changes at c)
 change_next m ls at c f = (
   comes_so m (table_of ls) at (effect m (table_of ls) f.node f.paths) f.comes (Changes (change_table (table_of ls) c)) f.tries.2.0,
   f.tries.2.1,
 )
 
-pub excess_next : (m : MachinePair) (ls : List Line) (at : Move) (b : Budget) → stuck m (table_of ls) ≡ None → IsFirst m ls at (Ok (tried.Exceeds b))
+pub excess_next : (m : MachinePair) (ls : List NodeRecord) (at : Move) (b : Budget) → stuck m (table_of ls) ≡ None → IsFirst m ls at (Ok (tried.Exceeds b))
     → IsNext m (table_of ls) (step.Ends (end.Exhausted at b))
 excess_next m ls at b s f = (s, comes_so m (table_of ls) at (effect m (table_of ls) f.node f.paths) f.comes (Exceeds b) f.tries.2)
 
-pub stop_next : (m : MachinePair) (ls : List Line) (at : Move) (s : NfStop) (x : End) → stuck m (table_of ls) ≡ None → IsFirst m ls at (Err s) → IsEndAt at s x
+pub stop_next : (m : MachinePair) (ls : List NodeRecord) (at : Move) (s : NfStop) (x : End) → stuck m (table_of ls) ≡ None → IsFirst m ls at (Err s)
+    → IsEndAt at s x
     → IsNext m (table_of ls) (step.Ends x)
 stop_next m ls at s x h f i = end_next m (table_of ls) at (effect m (table_of ls) f.node f.paths) f.comes h s x i f.tries
 
 -- the event of a mode is next
-pub mode_stops : (m : MachinePair) (ls : List Line) (waits : Item → Bool) (i : ℕ) (l : Line) (s : NfStop) (d : Side) (k : ℕ) (x : End) → IsWaiting m ls waits
+pub mode_stops : (m : MachinePair) (ls : List NodeRecord) (waits : Item → Bool) (i : ℕ) (l : NodeRecord) (s : NfStop) (d : Side) (k : ℕ) (x : End)
+    → IsWaiting m ls waits
     → IsLeastWaiting waits i 0 → slice_get ls i ≡ Some l → stuck m (table_of ls) ≡ None
     → IsStopAt s d k (mode_at m l.node) → IsEndAt (path_at i d k) s x → IsNext m (table_of ls) (step.Ends x)
 mode_stops m ls waits i l (stop.Wide a b) d k x w least g f h e =

@@ -13,21 +13,21 @@ use Rattle.search_tables.specs.declared.moves.Move.{Move}
 use Rattle.search_tables.specs.SearchTables.{MachinePair, SearchNode, Known, node_target, PathPair}
 use Rattle.search_tables.specs.Next.{mode_at, paths_in, move_by}
 use Rattle.search_places.specs.declared.entry.Item.{Item}
-use Rattle.search_places.specs.NodeLines.{Line, item, table_of}
+use Rattle.search_places.specs.NodeLines.{NodeRecord, item, table_of}
 use Rattle.search_ranks.proofs.Lists.{set_same, set_other, get_last, get_snoc, same_or_not, not_before}
 use Rattle.search_worklist.specs.Waiting.{Arrives, IsSettledMove, Rests, IsWaiting}
 use Rattle.search_worklist.proofs.Lookups.{target_front, target_other}
 
-abbrev Status : (m : MachinePair) (ls : List Line) (waits : Item → Bool) (n : SearchNode) (x : PathPair) (y : Item) → Type 0
+abbrev Status : (m : MachinePair) (ls : List NodeRecord) (waits : Item → Bool) (n : SearchNode) (x : PathPair) (y : Item) → Type 0
 Status m ls waits n x y = (waits y ≡ true) ⊎ IsSettledMove m ls n x y
 
-rests_on : (m : MachinePair) (ls ls' : List Line) (waits waits' : Item → Bool) (i : ℕ) (n : SearchNode) (moves : Option (List Move))
+rests_on : (m : MachinePair) (ls ls' : List NodeRecord) (waits waits' : Item → Bool) (i : ℕ) (n : SearchNode) (moves : Option (List Move))
     → Rests m ls waits i n moves
     → ((q : ℕ) (x : PathPair) → Status m ls waits n x (item i (suc q)) → Status m ls' waits' n x (item i (suc q))) → Rests m ls' waits' i n moves
 rests_on m ls ls' waits waits' i n moves r pass = record { mode = r.mode; found = r.found; listed = r.listed; each = λ p x g. pass p x (r.each p x g) }
 
 -- a settled move stays settled where its target stays, or waits
-settled_on : (m : MachinePair) (ls ls' : List Line) (waits' : Item → Bool) (n : SearchNode) (x : PathPair) (y : Item) → IsSettledMove m ls n x y
+settled_on : (m : MachinePair) (ls ls' : List NodeRecord) (waits' : Item → Bool) (n : SearchNode) (x : PathPair) (y : Item) → IsSettledMove m ls n x y
     → ((P Q : Point) (k : ℕ) (g : SearchNode) → node_target (table_of ls) P Q ≡ Known k g → Arrives ls k y
     → (waits' y ≡ true) ⊎ ((node_target (table_of ls') P Q ≡ Known k g) × Arrives ls' k y))
     → Status m ls' waits' n x y
@@ -58,7 +58,7 @@ settled_on m ls ls' waits' n x y s on =
     ]
 
 -- a node is added, and waits
-module _ (m : MachinePair) (ls : List Line) (waits waits' : Item → Bool) (w : IsWaiting m ls waits) (l : Line)
+module _ (m : MachinePair) (ls : List NodeRecord) (waits waits' : Item → Bool) (w : IsWaiting m ls waits) (l : NodeRecord)
     (stay : (y : Item) → waits y ≡ true → waits' y ≡ true) (fresh : waits' (item (length ls) 0) ≡ true)
     (in_table : (i p : ℕ) → waits' (item i p) ≡ true → i < length (ls ++ l ∷ [])) where
   arrives_front : (k : ℕ) (y : Item) → Arrives ls k y → Arrives (ls ++ l ∷ []) k y
@@ -84,7 +84,8 @@ module _ (m : MachinePair) (ls : List Line) (waits waits' : Item → Bool) (w : 
   }
 
 -- the fact of node k changes: it waits, and so do the items that arrived at it
-module _ (m : MachinePair) (ls : List Line) (waits waits' : Item → Bool) (w : IsWaiting m ls waits) (k : ℕ) (old new : Line) (is_in : slice_get ls k ≡ Some old)
+module _ (m : MachinePair) (ls : List NodeRecord) (waits waits' : Item → Bool) (w : IsWaiting m ls waits) (k : ℕ) (old new : NodeRecord)
+    (is_in : slice_get ls k ≡ Some old)
     (left : new.node.left ≡ old.node.left) (right : new.node.right ≡ old.node.right)
     (stay : (y : Item) → waits y ≡ true → waits' y ≡ true) (fresh : waits' (item k 0) ≡ true) (woken : (y : Item) → Arrives ls k y → waits' y ≡ true)
     (in_table : (i p : ℕ) → waits' (item i p) ≡ true → i < length (slice_set ls k new)) where
@@ -98,7 +99,7 @@ module _ (m : MachinePair) (ls : List Line) (waits waits' : Item → Bool) (w : 
       | inl e ↦ inl (woken y (subst (λ i. Arrives ls i y) e z))
       | inr d ↦ inr (
         rw map-set
-            (target_other P Q 0 j k old.node new.node g (table_of ls) (slice_get-of_map (λ (z : Line). z.node) ls k old is_in) left right
+            (target_other P Q 0 j k old.node new.node g (table_of ls) (slice_get-of_map (λ (z : NodeRecord). z.node) ls k old is_in) left right
             (λ e. d (omega arith)) t),
         arrives_other j y d z,
       )
@@ -117,14 +118,15 @@ module _ (m : MachinePair) (ls : List Line) (waits waits' : Item → Bool) (w : 
   }
 
 -- a node's mode is found, and its moves wait
-module _ (m : MachinePair) (ls : List Line) (waits waits' : Item → Bool) (w : IsWaiting m ls waits) (k : ℕ) (old new : Line) (is_in : slice_get ls k ≡ Some old)
+module _ (m : MachinePair) (ls : List NodeRecord) (waits waits' : Item → Bool) (w : IsWaiting m ls waits) (k : ℕ) (old new : NodeRecord)
+    (is_in : slice_get ls k ≡ Some old)
     (same : new.node ≡ old.node) (arrivals : new.arrivals ≡ old.arrivals) (mode : Mode) (found : mode_at m new.node ≡ Found mode)
     (listed : new.moves ≡ Some (map (move_by k) (paths_in m new.node mode)))
     (stay : (j q : ℕ) → waits (item j q) ≡ true → ((j ≡ k) × (q ≡ 0) → ⊥) → waits' (item j q) ≡ true)
     (fresh : (p : ℕ) → p < length (paths_in m new.node mode) → waits' (item k (suc p)) ≡ true)
     (in_table : (i p : ℕ) → waits' (item i p) ≡ true → i < length (slice_set ls k new)) where
   same_table : table_of (slice_set ls k new) ≡ table_of ls
-  same_table = map-set_same (λ (l : Line). l.node) ls k new old (same ∙ sym (ap (λ (l : Line). l.node) (get_or_from_slice_get ls k old old is_in)))
+  same_table = map-set_same (λ (l : NodeRecord). l.node) ls k new old (same ∙ sym (ap (λ (l : NodeRecord). l.node) (get_or_from_slice_get ls k old old is_in)))
 
   arrives_same : (j : ℕ) (y : Item) → Arrives ls j y → Arrives (slice_set ls k new) j y
   arrives_same j y a = elim (same_or_not j k) [
@@ -134,7 +136,7 @@ module _ (m : MachinePair) (ls : List Line) (waits waits' : Item → Bool) (w : 
           line = new;
           is_in = rw e (set_same ls k old new is_in);
           place = a.place;
-          listed = rw arrivals (subst (λ (z : Line). slice_get z.arrivals a.place ≡ Some y) l a.listed);
+          listed = rw arrivals (subst (λ (z : NodeRecord). slice_get z.arrivals a.place ≡ Some y) l a.listed);
         })
     | inr d ↦ record { line = a.line; is_in = set_other ls k j new d ∙ a.is_in; place = a.place; listed = a.listed }
   ]
@@ -152,7 +154,7 @@ module _ (m : MachinePair) (ls : List Line) (waits waits' : Item → Bool) (w : 
       | inl e ↦ (let i : slice_get (slice_set ls k new) k ≡ Some l = subst (λ z. slice_get (slice_set ls k new) z ≡ Some l) e g in
           let h : slice_get (slice_set ls k new) k ≡ Some new = set_same ls k old new is_in in
           let n : new ≡ l = cc in
-          subst (λ (z : Line). Rests m (slice_set ls k new) waits' j z.node z.moves) n
+          subst (λ (z : NodeRecord). Rests m (slice_set ls k new) waits' j z.node z.moves) n
           (subst (λ z. Rests m (slice_set ls k new) waits' z new.node new.moves) (sym e)
           (record { mode = mode; found = found; listed = listed; each = λ p x g. inl (fresh p (slice_get_within (paths_in m new.node mode) p x g)) })))
       | inr d ↦ rests_on m ls (slice_set ls k new) waits waits' j l.node l.moves
@@ -163,24 +165,24 @@ module _ (m : MachinePair) (ls : List Line) (waits waits' : Item → Bool) (w : 
   }
 
 -- more items are listed as arriving, and nothing else changes
-pub record Lists (ls ls' : List Line) : Type 0 where
+pub record Lists (ls ls' : List NodeRecord) : Type 0 where
   pub same : table_of ls' ≡ table_of ls
-  pub lines : (j : ℕ) (l : Line) → slice_get ls' j ≡ Some l → (k : Line) × (slice_get ls j ≡ Some k) × (k.node ≡ l.node) × (k.moves ≡ l.moves)
+  pub lines : (j : ℕ) (l : NodeRecord) → slice_get ls' j ≡ Some l → (k : NodeRecord) × (slice_get ls j ≡ Some k) × (k.node ≡ l.node) × (k.moves ≡ l.moves)
   pub arrives : (j : ℕ) (y : Item) → Arrives ls j y → Arrives ls' j y
   pub count : length ls' ≡ length ls
 
-pub lists_none : (ls : List Line) → Lists ls ls
+pub lists_none : (ls : List NodeRecord) → Lists ls ls
 lists_none ls = record { same = refl; lines = λ j l g. (l, g, refl, refl); arrives = λ j y a. a; count = refl }
 
-pub lists_one : (ls : List Line) (k : ℕ) (old new : Line) (y : Item) → slice_get ls k ≡ Some old → new.node ≡ old.node → new.moves ≡ old.moves
+pub lists_one : (ls : List NodeRecord) (k : ℕ) (old new : NodeRecord) (y : Item) → slice_get ls k ≡ Some old → new.node ≡ old.node → new.moves ≡ old.moves
     → new.arrivals ≡ old.arrivals ++ y ∷ [] → Lists ls (slice_set ls k new)
 lists_one ls k old new y is_in n ms a = record {
-  same = map-set_same (λ (l : Line). l.node) ls k new old (n ∙ sym (ap (λ (l : Line). l.node) (get_or_from_slice_get ls k old old is_in)));
+  same = map-set_same (λ (l : NodeRecord). l.node) ls k new old (n ∙ sym (ap (λ (l : NodeRecord). l.node) (get_or_from_slice_get ls k old old is_in)));
   lines = λ j l g. elim (same_or_not j k) [
     | inl e ↦ (let i : slice_get (slice_set ls k new) k ≡ Some l = subst (λ z. slice_get (slice_set ls k new) z ≡ Some l) e g in
         let h : slice_get (slice_set ls k new) k ≡ Some new = set_same ls k old new is_in in
         let s : new ≡ l = cc in
-        (old, rw e is_in, sym n ∙ ap (λ (z : Line). z.node) s, sym ms ∙ ap (λ (z : Line). z.moves) s))
+        (old, rw e is_in, sym n ∙ ap (λ (z : NodeRecord). z.node) s, sym ms ∙ ap (λ (z : NodeRecord). z.moves) s))
     | inr d ↦ (l, sym (set_other ls k j new d) ∙ g, refl, refl)
   ];
   arrives = λ j z w. elim (same_or_not j k) [
@@ -190,7 +192,7 @@ lists_one ls k old new y is_in n ms a = record {
           line = new;
           is_in = rw e (set_same ls k old new is_in);
           place = w.place;
-          listed = rw a (slice_get-front old.arrivals (y ∷ []) w.place z (subst (λ (b : Line). slice_get b.arrivals w.place ≡ Some z) l w.listed));
+          listed = rw a (slice_get-front old.arrivals (y ∷ []) w.place z (subst (λ (b : NodeRecord). slice_get b.arrivals w.place ≡ Some z) l w.listed));
         })
     | inr d ↦ record { line = w.line; is_in = set_other ls k j new d ∙ w.is_in; place = w.place; listed = w.listed }
   ];
@@ -198,7 +200,7 @@ lists_one ls k old new y is_in n ms a = record {
 }
 
 -- the item that was added is listed
-pub lists_this : (ls : List Line) (k : ℕ) (old new : Line) (y : Item) → slice_get ls k ≡ Some old → new.arrivals ≡ old.arrivals ++ y ∷ []
+pub lists_this : (ls : List NodeRecord) (k : ℕ) (old new : NodeRecord) (y : Item) → slice_get ls k ≡ Some old → new.arrivals ≡ old.arrivals ++ y ∷ []
     → Arrives (slice_set ls k new) k y
 lists_this ls k old new y is_in a = record {
   line = new;
@@ -208,15 +210,15 @@ lists_this ls k old new y is_in a = record {
 }
 
 -- an item no longer waits, which is settled, or no move in its node's mode
-module _ (m : MachinePair) (ls ls' : List Line) (waits waits' : Item → Bool) (w : IsWaiting m ls waits) (more : Lists ls ls') (i p : ℕ)
+module _ (m : MachinePair) (ls ls' : List NodeRecord) (waits waits' : Item → Bool) (w : IsWaiting m ls waits) (more : Lists ls ls') (i p : ℕ)
     (stay : (j q : ℕ) → waits (item j q) ≡ true → ((j ≡ i) × (q ≡ suc p) → ⊥) → waits' (item j q) ≡ true)
-    (settles : (l : Line) (mode : Mode) (x : PathPair) → slice_get ls i ≡ Some l → l.moves ≡ Some (map (move_by i) (paths_in m l.node mode))
+    (settles : (l : NodeRecord) (mode : Mode) (x : PathPair) → slice_get ls i ≡ Some l → l.moves ≡ Some (map (move_by i) (paths_in m l.node mode))
     → slice_get (paths_in m l.node mode) p ≡ Some x → IsSettledMove m ls' l.node x (item i (suc p)))
     (in_table : (j q : ℕ) → waits' (item j q) ≡ true → j < length ls') where
   pass_more : (n : SearchNode) (x : PathPair) (y : Item) → IsSettledMove m ls n x y → Status m ls' waits' n x y
   pass_more n x y s = settled_on m ls ls' waits' n x y s (λ P Q k g t z. inr (ap (λ T. node_target T P Q) more.same ∙ t, more.arrives k y z))
 
-  wakes : (l : Line) (mode : Mode) (x : PathPair) (j q : ℕ) → slice_get ls j ≡ Some l → l.moves ≡ Some (map (move_by j) (paths_in m l.node mode))
+  wakes : (l : NodeRecord) (mode : Mode) (x : PathPair) (j q : ℕ) → slice_get ls j ≡ Some l → l.moves ≡ Some (map (move_by j) (paths_in m l.node mode))
       → slice_get (paths_in m l.node mode) q ≡ Some x → waits (item j (suc q)) ≡ true → Status m ls' waits' l.node x (item j (suc q))
   wakes l mode x j q g h z f =
       elim (same_or_not j i) [
@@ -229,7 +231,7 @@ module _ (m : MachinePair) (ls ls' : List Line) (waits waits' : Item → Bool) (
         | inr d ↦ inl (stay j (suc q) f (λ a. d a.0))
       ]
 
-  each_on : (l : Line) (j : ℕ) → slice_get ls j ≡ Some l → (r : Rests m ls waits j l.node l.moves) → Rests m ls' waits' j l.node l.moves
+  each_on : (l : NodeRecord) (j : ℕ) → slice_get ls j ≡ Some l → (r : Rests m ls waits j l.node l.moves) → Rests m ls' waits' j l.node l.moves
   each_on l j g r = record {
     mode = r.mode;
     found = r.found;

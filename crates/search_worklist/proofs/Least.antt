@@ -11,32 +11,34 @@ use Rattle.sym_paths.specs.Execution.{Post, end_of}
 use Rattle.propagate.specs.Joins.{join}
 use Rattle.propagate.specs.Modes.{Traced, Found}
 use Rattle.search_tables.specs.declared.moves.Move.{Move}
-use Rattle.search_tables.specs.SearchTables.{MachinePair, positions_of, SearchNode, Table, node_target, keep_or_join, look_up_target, weakened, Keeps, arrived}
+use Rattle.search_tables.specs.SearchTables.{MachinePair, positions_of, SearchNode, Table, node_target, keep_or_join, look_up_target, weaken_node, Keeps}
+use Rattle.search_tables.specs.SearchTables.{effect_of_arrival}
 use Rattle.search_tables.specs.SearchTables.{PathPair, effect}
 use Rattle.search_tables.specs.Next.{Next, Nothing, mode_at, paths_in, move_by, next_by, first_change_of, next_in, next_at, or_next, next_from, next_move}
 use Rattle.search_places.specs.declared.entry.Item.{Item}
-use Rattle.search_places.specs.NodeLines.{Line, item, table_of}
+use Rattle.search_places.specs.NodeLines.{NodeRecord, item, table_of}
 use Rattle.search_places.specs.ItemOrder.{IsLeastWaiting}
 use Rattle.search_ranks.proofs.Lists.{get_map_back}
 use Rattle.search_worklist.specs.Waiting.{IsEntailed, IsSettledMove, IsWaiting}
 
 -- a post that entails the fact of its target keeps the table
 entailed_keeps : (ps : List Position) (T : Table) (P Q : Point) (post : Post) (k : ℕ) → is_refuted post.conditions ≡ false → IsEntailed T P Q post k
-    → arrived ps T P Q (Done post) ≡ Keeps
+    → effect_of_arrival ps T P Q (Done post) ≡ Keeps
 entailed_keeps ps T P Q post k o e =
     ap (λ b. cond b Keeps (look_up_target ps T P Q post (node_target T P Q))) o ∙ ap (look_up_target ps T P Q post) e.target
     ∙ ap (keep_or_join T k e.node post) e.compared
-    ∙ ap (λ b. cond b Keeps (weakened T k e.node (join e.node.fact post e.missing))) e.nothing
+    ∙ ap (λ b. cond b Keeps (weaken_node T k e.node (join e.node.fact post e.missing))) e.nothing
 
 -- a settled move keeps the table
-settled_keeps : (m : MachinePair) (ls : List Line) (n : SearchNode) (x : PathPair) (y : Item) → IsSettledMove m ls n x y → effect m (table_of ls) n x ≡ Keeps
+settled_keeps : (m : MachinePair) (ls : List NodeRecord) (n : SearchNode) (x : PathPair) (y : Item) → IsSettledMove m ls n x y
+    → effect m (table_of ls) n x ≡ Keeps
 settled_keeps m ls n x y s =
     let ps = positions_of m in
     let T = table_of ls in
     let P = end_of n.left x.left in
     let Q = end_of n.right x.right in
-    ap (arrived ps T P Q) s.valued
-    ∙ elim s.holds as (λ z. arrived ps T P Q (Done s.post) ≡ Keeps) [
+    ap (effect_of_arrival ps T P Q) s.valued
+    ∙ elim s.holds as (λ z. effect_of_arrival ps T P Q (Done s.post) ≡ Keeps) [
       | inl r ↦ ap (λ b. cond b Keeps (look_up_target ps T P Q s.post (node_target T P Q))) r
       | inr a ↦ entailed_keeps ps T P Q s.post a.number a.is_open a.entailed
     ]
@@ -89,12 +91,12 @@ pub record Comes (m : MachinePair) (T : Table) (first : Next → Next) : Type 0 
   pub after : Next
   pub is : next_move m T ≡ or_next (first rest) after
 
-module _ (m : MachinePair) (ls : List Line) (waits : Item → Bool) (w : IsWaiting m ls waits) where
+module _ (m : MachinePair) (ls : List NodeRecord) (waits : Item → Bool) (w : IsWaiting m ls waits) where
   keeps_by : (n : SearchNode) (x : PathPair) (y : Item) → waits y ≡ false → (waits y ≡ true) ⊎ IsSettledMove m ls n x y → effect m (table_of ls) n x ≡ Keeps
   keeps_by n x y f s = elim s [ inl h ↦ (let e = f in cc) | inr h ↦ settled_keeps m ls n x y h ]
 
   -- at a node of which nothing waits nothing is next
-  quiet_line : (j : ℕ) (l : Line) → slice_get ls j ≡ Some l → ((q : ℕ) → waits (item j q) ≡ false) → next_at m (table_of ls) j l.node ≡ Nothing
+  quiet_line : (j : ℕ) (l : NodeRecord) → slice_get ls j ≡ Some l → ((q : ℕ) → waits (item j q) ≡ false) → next_at m (table_of ls) j l.node ≡ Nothing
   quiet_line j l g f =
       let r = w.rests j l g (f 0) in
       ap (next_in m (table_of ls) j l.node) r.found
@@ -102,7 +104,7 @@ module _ (m : MachinePair) (ls : List Line) (waits : Item → Bool) (w : IsWaiti
 
   quiet_node : (j : ℕ) (n : SearchNode) → slice_get (table_of ls) j ≡ Some n → ((q : ℕ) → waits (item j q) ≡ false) → next_at m (table_of ls) j n ≡ Nothing
   quiet_node j n g f =
-      let b = get_map_back (λ (l : Line). l.node) ls j n g in
+      let b = get_map_back (λ (l : NodeRecord). l.node) ls j n g in
       subst (λ a. next_at m (table_of ls) j a ≡ Nothing) b.2 (quiet_line j b.0 b.1 f)
 
   -- where nothing waits, nothing is next
@@ -113,16 +115,16 @@ module _ (m : MachinePair) (ls : List Line) (waits : Item → Bool) (w : IsWaiti
   abbrev later : ℕ → Next
   later i = next_from m (table_of ls) (i + 1) (drop (suc i) (table_of ls))
 
-  least_next : (i p : ℕ) (l : Line) → IsLeastWaiting waits i p → slice_get ls i ≡ Some l
+  least_next : (i p : ℕ) (l : NodeRecord) → IsLeastWaiting waits i p → slice_get ls i ≡ Some l
       → next_move m (table_of ls) ≡ or_next (next_at m (table_of ls) i l.node) (later i)
   least_next i p l least g =
       let at : 0 + i ≡ i = omega arith in
-      pass_nodes m (table_of ls) (table_of ls) 0 i l.node (slice_get-of_map (λ (k : Line). k.node) ls i l g)
+      pass_nodes m (table_of ls) (table_of ls) 0 i l.node (slice_get-of_map (λ (k : NodeRecord). k.node) ls i l g)
       (λ j n lt z. let on : j ≡ 0 + j = omega arith in subst (λ k. next_at m (table_of ls) k n ≡ Nothing) on (quiet_node j n z (λ q. least.of_earlier j q lt)))
       ∙ ap (λ k. or_next (next_at m (table_of ls) k l.node) (next_from m (table_of ls) (k + 1) (drop (suc i) (table_of ls)))) at
 
   -- the least item is a node: its mode comes first
-  pub mode_next : (i : ℕ) (l : Line) (r : Traced Mode) → IsLeastWaiting waits i 0 → slice_get ls i ≡ Some l → mode_at m l.node ≡ r
+  pub mode_next : (i : ℕ) (l : NodeRecord) (r : Traced Mode) → IsLeastWaiting waits i 0 → slice_get ls i ≡ Some l → mode_at m l.node ≡ r
       → Comes m (table_of ls) (λ rest. next_in m (table_of ls) i l.node r)
   mode_next i l r least g h = record {
     rest = Nothing;
@@ -138,7 +140,7 @@ module _ (m : MachinePair) (ls : List Line) (waits : Item → Bool) (w : IsWaiti
     pub is : move_by i paths ≡ at
     pub comes : Comes m (table_of ls) (λ rest. next_by at (effect m (table_of ls) n paths) rest)
 
-  chosen_by : (i p : ℕ) (l : Line) (mode : Mode) (x : PathPair) (at : Move) → IsLeastWaiting waits i (suc p) → slice_get ls i ≡ Some l
+  chosen_by : (i p : ℕ) (l : NodeRecord) (mode : Mode) (x : PathPair) (at : Move) → IsLeastWaiting waits i (suc p) → slice_get ls i ≡ Some l
       → mode_at m l.node ≡ Found mode → slice_get (paths_in m l.node mode) p ≡ Some x → move_by i x ≡ at
       → ((q : ℕ) (y : PathPair) → q < p → slice_get (paths_in m l.node mode) q ≡ Some y → effect m (table_of ls) l.node y ≡ Keeps) → Chosen i p l.node at
   chosen_by i p l mode x at least g found listed is keeps =
@@ -159,7 +161,7 @@ module _ (m : MachinePair) (ls : List Line) (waits : Item → Bool) (w : IsWaiti
         };
       }
 
-  pub move_next : (i p : ℕ) (l : Line) (xs : List Move) (at : Move) → IsLeastWaiting waits i (suc p) → slice_get ls i ≡ Some l → l.moves ≡ Some xs
+  pub move_next : (i p : ℕ) (l : NodeRecord) (xs : List Move) (at : Move) → IsLeastWaiting waits i (suc p) → slice_get ls i ≡ Some l → l.moves ≡ Some xs
       → slice_get xs p ≡ Some at → Chosen i p l.node at
   move_next i p l xs at least g k z =
       let r = w.rests i l g (least.of_same 0 (omega arith)) in

@@ -8,7 +8,7 @@ use Rattle.std.specs.List.{list_all}
 use Rattle.base_lemmas.proofs.Booleans.{and_first, and_second}
 use Rattle.base_lemmas.proofs.Quantifiers.{each_at}
 use Rattle.base_lemmas.proofs.Lists.{slice_get-of_map}
-use Rattle.fs_ast.specs.SoundMachines.{IsSound}
+use Rattle.fs_rules.specs.SoundParts.{IsSound}
 use Rattle.fs_cut.specs.Paths.{is_point}
 use Rattle.sym_facts.specs.Facts.{most_literals}
 use Rattle.sym_facts.specs.Pairings.{IsFactOf}
@@ -23,7 +23,7 @@ use Rattle.search_tables.proofs.Bounded.{legal_short}
 use Rattle.search_tables.specs.View.{table_in}
 use Rattle.search_places.specs.declared.pairs.PointPair.{PointPair}
 use Rattle.search_places.specs.declared.entry.Entry.{Entry}
-use Rattle.search_places.specs.NodeLines.{Line, line_of_node, lines_in, table_of}
+use Rattle.search_places.specs.NodeLines.{NodeRecord, record_of_node, node_records, table_of}
 use Rattle.search_worklist.specs.declared.ends.End.{End}
 use Rattle.search_worklist.specs.declared.ends.Ended.{Ended}
 use Rattle.search_worklist.specs.SearchEnds.{EndsSo, IsEnded}
@@ -67,9 +67,9 @@ all_at f [] k n h e = absurd (cc e)
 all_at f (a ∷ ns) zero n h e = let s : a ≡ n = cc e in ap f (sym s) ∙ and_first (f a) (list_all f ns) h
 all_at f (a ∷ ns) (suc k) n h e = all_at f ns k n (and_second (f a) (list_all f ns) h) e
 
-module _ (m : MachinePair) (ls : List Line) (h : IsMade m (table_of ls)) (k : ℕ) (l : Line) (g : slice_get ls k ≡ Some l) where
+module _ (m : MachinePair) (ls : List NodeRecord) (h : IsMade m (table_of ls)) (k : ℕ) (l : NodeRecord) (g : slice_get ls k ≡ Some l) where
   pub node_in : slice_get (table_of ls) k ≡ Some l.node
-  node_in = slice_get-of_map (λ (z : Line). z.node) ls k l g
+  node_in = slice_get-of_map (λ (z : NodeRecord). z.node) ls k l g
 
   at_points : is_point m.left l.node.left && is_point m.right l.node.right ≡ true
   at_points = all_at (λ (n : SearchNode). is_point m.left n.left && is_point m.right n.right) (table_of ls) k l.node h.formed.points node_in
@@ -84,8 +84,13 @@ module _ (m : MachinePair) (ls : List Line) (h : IsMade m (table_of ls)) (k : �
   fact_of = each_at (λ (n : SearchNode). IsFactOf (positions_of m) n.fact) (table_of ls) k l.node h.facts node_in
 
 -- ---- the end of a search
-pub number_in : (es : List (PointPair × Entry)) (k : ℕ) (n : SearchNode) → slice_get (table_of (lines_in es)) k ≡ Some n → k < length es
-number_in es k n g = omega (arith, slice_get_within (table_of (lines_in es)) k n g, length-map (lines_in es) (λ (l : Line). l.node), length-map es line_of_node)
+pub number_in : (es : List (PointPair × Entry)) (k : ℕ) (n : SearchNode) → slice_get (table_of (node_records es)) k ≡ Some n → k < length es
+number_in es k n g = omega (
+  arith,
+  slice_get_within (table_of (node_records es)) k n g,
+  length-map (node_records es) (λ (l : NodeRecord). l.node),
+  length-map es record_of_node,
+)
 
 pub ends_with : (m : MachinePair) (T : Table) (xs : Vec Move Global) (x : End) (e : Ended) → Makes m xs.items T → EndsSo m T x
     → IsEndedWith T xs x e → IsEnded m e

@@ -7,22 +7,22 @@ use Rattle.search_tables.specs.SearchTables.{MachinePair, positions_of, Table, u
 use Rattle.search_tables.specs.Legal.{stuck}
 use Rattle.search_tables.specs.TableInvariants.{IsWellFormed}
 use Rattle.search_places.specs.declared.entry.Item.{Item}
-use Rattle.search_places.specs.NodeLines.{Line, item, lines_in, table_of}
+use Rattle.search_places.specs.NodeLines.{NodeRecord, item, node_records, table_of}
 use Rattle.search_places.specs.ItemOrder.{waits}
 use Rattle.search_worklist.specs.declared.state.State.{State}
 use Rattle.search_places.specs.Moves.{most_moves}
 use Rattle.search_worklist.specs.Waiting.{Arrives, IsWaiting}
 
-abbrev pub lines : State → List Line
-lines s = lines_in s.entries.entries
+abbrev pub lines : State → List NodeRecord
+lines s = node_records s.entries.entries
 
 abbrev pub table : State → Table
 table s = table_of (lines s)
 
 -- what holds of nodes, of what waits and of the number of units between turns. The moves of a node that waits are not known
-pub record Ready (m : MachinePair) (ls : List Line) (w : BTreeSet Item) (n : ℕ) : Type 0 where
+pub record Ready (m : MachinePair) (ls : List NodeRecord) (w : BTreeSet Item) (n : ℕ) : Type 0 where
   pub waiting : IsWaiting m ls (waits w)
-  pub unfound : (i : ℕ) (l : Line) → slice_get ls i ≡ Some l → waits w (item i 0) ≡ true → l.moves ≡ None
+  pub unfound : (i : ℕ) (l : NodeRecord) → slice_get ls i ≡ Some l → waits w (item i 0) ≡ true → l.moves ≡ None
   pub listed : (k : ℕ) (y : Item) → Arrives ls k y → (y.node < length ls) × (y.place ≢ 0)
   pub sized : n ≡ units (table_of ls)
 
@@ -36,11 +36,11 @@ pub record IsMade (m : MachinePair) (T : Table) : Type 0 where
   pub agrees : stuck m T ≡ None
 
 -- a node whose mode is not found counts more than its moves
-abbrev pub line_weight : Line → ℕ
+abbrev pub line_weight : NodeRecord → ℕ
 line_weight l = cond (is_none l.moves) (most_moves + 1) 0
 
 -- what is to be done before the table changes
-abbrev pub work_of : List Line → BTreeSet Item → ℕ
+abbrev pub work_of : List NodeRecord → BTreeSet Item → ℕ
 work_of ls w = sum_by line_weight ls + btree_set_len w
 
 abbrev pub work : State → ℕ

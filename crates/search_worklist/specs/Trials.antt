@@ -8,13 +8,14 @@ use Rattle.nf_rel.specs.Literals.{is_refuted}
 use Rattle.sym_paths.specs.Execution.{Post, end_of}
 use Rattle.search_tables.specs.declared.moves.Move.{Move}
 use Rattle.search_tables.specs.SearchTables.{MachinePair, SearchNode, Table, units, TooWide, TooLarge, MoveEffect, Changes, Meets}
+use Rattle.search_tables.specs.SearchTables.{arrival}
 use Rattle.search_tables.specs.SearchTables.{Exceeds, PathPair, effect}
 use Rattle.search_worklist.specs.declared.trial.Trial.{Trial}
 use Rattle.search_worklist.specs.declared.trial.Trial.TheVariants as tried
-use Rattle.search_places.specs.NodeLines.{Line, table_of}
+use Rattle.search_places.specs.NodeLines.{NodeRecord, table_of}
 use Rattle.search_places.specs.Moves.{paths_at}
 use Rattle.search_worklist.specs.NodeUpdates.{change_table}
-use Rattle.search_worklist.specs.Waiting.{arrival, IsEntailed}
+use Rattle.search_worklist.specs.Waiting.{IsEntailed}
 
 -- an effect that does not keep the table
 abbrev pub GivesChange : Table → MoveEffect → Trial → Type 0
@@ -53,7 +54,7 @@ Tries m T n x (Ok t) = (post : Post) × (arrival m n x ≡ Done post)
 Tries m T n x (Err s) = IsMet s (effect m T n x)
 
 -- the effect of a move of its node
-pub record TriesAt (m : MachinePair) (ls : List Line) (at : Move) (r : Result Trial NfStop) : Type 0 where
-  pub line : Line
+pub record TriesAt (m : MachinePair) (ls : List NodeRecord) (at : Move) (r : Result Trial NfStop) : Type 0 where
+  pub line : NodeRecord
   pub is_in : slice_get ls at.node ≡ Some line
   pub tries : Tries m (table_of ls) line.node (paths_at m line.node at) r

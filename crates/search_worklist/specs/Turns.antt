@@ -8,7 +8,7 @@ use Rattle.search_tables.specs.declared.moves.Move.{Move}
 use Rattle.search_tables.specs.SearchTables.{MachinePair, Table, units}
 use Rattle.search_tables.specs.Next.{mode_at, Change, next_move}
 use Rattle.search_places.specs.declared.entry.Item.{Item}
-use Rattle.search_places.specs.NodeLines.{Line}
+use Rattle.search_places.specs.NodeLines.{NodeRecord}
 use Rattle.search_worklist.specs.declared.ends.End.{End}
 use Rattle.search_worklist.specs.declared.ends.End.TheVariants as end
 use Rattle.search_worklist.specs.declared.state.State.{State}
@@ -41,14 +41,14 @@ IsEndAt at (stop.Large units depth) e = e ≡ end.Large at
 IsEndAt at stop.NoMemory e = ⊥
 
 -- node i has this mode
-pub record ModeFound (m : MachinePair) (ls : List Line) (i : ℕ) (x : Mode) : Type 0 where
-  pub line : Line
+pub record ModeFound (m : MachinePair) (ls : List NodeRecord) (i : ℕ) (x : Mode) : Type 0 where
+  pub line : NodeRecord
   pub is_in : slice_get ls i ≡ Some line
   pub found : mode_at m line.node ≡ Found x
 
 -- an item's move, in the mode of its node
-pub record IsMoveAt (ls : List Line) (y : Item) (at : Move) : Type 0 where
-  pub line : Line
+pub record IsMoveAt (ls : List NodeRecord) (y : Item) (at : Move) : Type 0 where
+  pub line : NodeRecord
   pub is_in : slice_get ls y.node ≡ Some line
   pub moves : List Move
   pub known : line.moves ≡ Some moves
@@ -57,6 +57,6 @@ pub record IsMoveAt (ls : List Line) (y : Item) (at : Move) : Type 0 where
   pub listed : slice_get moves number ≡ Some at
 
 -- an item has no move in the mode of its node
-abbrev pub NoMoveAt : List Line → Item → Type 0
-NoMoveAt ls y = (l : Line) (xs : List Move) (p : ℕ) → slice_get ls y.node ≡ Some l → l.moves ≡ Some xs → y.place ≡ suc p
+abbrev pub NoMoveAt : List NodeRecord → Item → Type 0
+NoMoveAt ls y = (l : NodeRecord) (xs : List Move) (p : ℕ) → slice_get ls y.node ≡ Some l → l.moves ≡ Some xs → y.place ≡ suc p
     → slice_get xs p ≡ None

@@ -8,7 +8,7 @@ ghost use Rattle.fs_cut.specs.View.{point_of};
 ghost use Rattle.fs_pair.specs.PairedOutputs.{output_pairs};
 ghost use Rattle.indexmap.specs.IndexMap.{index_map_len};
 ghost use Rattle.search_tables.specs.Legal.{first_differing as differing};
-ghost use Rattle.search_places.specs.NodeLines.{lines_in, table_of};
+ghost use Rattle.search_places.specs.NodeLines.{node_records, table_of};
 ghost use Rattle.search_worklist.specs.DifferingOutputs.{OutputAt};
 ghost use Rattle.search_worklist.specs.View.{machines_in};
 
@@ -17,7 +17,7 @@ use cert_machine_pairs::outputs::{is_output, number_of, same_forms};
 use fs_cut::cover::Point;
 use fs_model::parts::VarInfo;
 use indexmap::IndexMap;
-use nf_subst::vector::Vector;
+use nf_substitution::vector::Vector;
 use nf_terms::stop::NoMemory;
 use search_places::entry::Entry;
 use search_places::nodes::node_at;
@@ -83,7 +83,7 @@ pub fn output_at(
     number: usize,
 ) -> Result<Option<u32>, NoMemory>
     requires { number < index_map_len entries.now }
-    ensures { IfOk result (OutputAt (machines_in m.now) (table_of (lines_in entries.now.entries)) number) }
+    ensures { IfOk result (OutputAt (machines_in m.now) (table_of (node_records entries.now.entries)) number) }
 {
     let node = node_at(entries, number);
     if !is_end(node.points) {

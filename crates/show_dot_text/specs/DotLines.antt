@@ -2,7 +2,7 @@
 use Rattle.std.specs.Prelude.{ℕ, Bool, cond, List, [], ◌++◌, codes}
 use Rattle.show_dot_text.specs.declared.graphs.Look.{Look}
 use Rattle.show_dot_text.specs.declared.graphs.Look.TheVariants.{Boxed, Bare, Marked}
-use Rattle.show_dot_text.specs.Quotes.{quoted}
+use Rattle.show_dot_text.specs.Quotes.{quoted_text}
 
 -- how a node looks
 abbrev pub look_text : Look → List ℕ
@@ -16,16 +16,16 @@ mark_text marked = cond marked (codes ", color=red") []
 
 -- the end of a line: a label, and how it looks
 unfoldable pub label_text : (label look : List ℕ) → List ℕ
-label_text label look = codes " [label=" ++ (quoted label ++ (look ++ codes "];\n"))
+label_text label look = codes " [label=" ++ (quoted_text label ++ (look ++ codes "];\n"))
 
 -- a node: its name and its label
 unfoldable pub node_line : (name label : List ℕ) → Look → List ℕ
-node_line name label look = codes "  " ++ (quoted name ++ label_text label (look_text look))
+node_line name label look = codes "  " ++ (quoted_text name ++ label_text label (look_text look))
 
 -- an edge: the names of its nodes, and its label
 unfoldable pub edge_line : (from to label : List ℕ) → (marked : Bool) → List ℕ
 edge_line from to label marked = codes "  "
-    ++ (quoted from ++ (codes " -> " ++ (quoted to ++ label_text label (mark_text marked))))
+    ++ (quoted_text from ++ (codes " -> " ++ (quoted_text to ++ label_text label (mark_text marked))))
 
 -- a graph with these lines
 unfoldable pub graph_text : (lines : List ℕ) → List ℕ

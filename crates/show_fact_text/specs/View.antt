@@ -1,8 +1,8 @@
 -- The names that two machines give.
 use Rattle.std.specs.Prelude.{ℕ, List}
+use Rattle.fs_pair.specs.Partners.{position_name}
 use Rattle.fs_model.specs.declared.sides.Pos.{Pos}
-use Rattle.cert_writer.specs.PositionNames.{name_of}
 use Rattle.show_fact_text.specs.declared.names.SideNames.{SideNames}
 
 abbrev pub side_names_in : SideNames → Pos → List ℕ
-side_names_in n = name_of n.left.now n.right.now
+side_names_in n = position_name n.left.now n.right.now

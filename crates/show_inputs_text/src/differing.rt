@@ -8,7 +8,7 @@ use crate::values::inputs_file;
 use fs_ast::machine::Machine;
 use fs_inputs::{InputError, read_inputs};
 use fs_pair::positions::Pairing;
-use fs_show::laws::inputs_serve_both;
+use fs_run_text::laws::inputs_serve_both;
 use fs_trials::differences::{differing_ends, first_difference};
 use nf_terms::stop::NoMemory;
 use std::alloc::Global;

@@ -1,23 +1,16 @@
 -- The picture of a machine: its states and its branches as the nodes and edges of a graph.
-use Rattle.std.specs.Prelude.{ℕ, ◌+◌, false, List, [], ◌∷◌, ◌++◌, length, Option, Some, None, slice_get, codes, decimal}
+use Rattle.std.specs.Prelude.{ℕ, ◌+◌, false, List, [], ◌∷◌, ◌++◌, length, codes, decimal}
 use Rattle.std.specs.List.{flat_map, range_with_len}
 use Rattle.fs_model.specs.declared.parts.VarInfo.{VarInfo}
 use Rattle.fs_model.specs.Terms.{Literal, Test, Assignment}
 use Rattle.fs_model.specs.Renamed.{literal_over, assignment_over}
 use Rattle.fs_model.specs.Machines.{Fsmd, transitions_of}
 use Rattle.fs_model.specs.Trees.{Branch, branches_of}
+use Rattle.fs_model.specs.VariableNames.{variable_name}
 use Rattle.fs_ast.specs.StoredBranches.{state_name_of}
 use Rattle.fs_write.specs.Canonical.{guard_text, assignment_text}
 use Rattle.show_dot_text.specs.declared.graphs.Look.TheVariants.{Boxed, Bare}
 use Rattle.show_dot_text.specs.DotLines.{node_line, edge_line, graph_text}
-
-abbrev pub name_or_none : Option VarInfo → List ℕ
-name_or_none None = []
-name_or_none (Some v) = v.name
-
--- the name of a variable
-abbrev pub variable_name : List VarInfo → ℕ → List ℕ
-variable_name vs x = name_or_none (slice_get vs x)
 
 -- ---- the label of a branch
 

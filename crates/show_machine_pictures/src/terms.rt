@@ -5,8 +5,9 @@ ghost use Rattle.std.specs.Fmt.{signed_decimal};
 ghost use Rattle.fs_model.specs.View.{term_of, literal_of, assignment_of};
 ghost use Rattle.fs_model.specs.Renamed.{term_over};
 ghost use Rattle.fs_model.specs.WellFormed.{is_sum, is_product};
+ghost use Rattle.fs_model.specs.VariableNames.{variable_name};
 ghost use Rattle.fs_write.specs.Canonical.{in_parens, operator_text, relation_text, infix_term_text};
-ghost use Rattle.show_machine_pictures.specs.Pictures.{variable_name, branch_literal_text, named_assignment_text};
+ghost use Rattle.show_machine_pictures.specs.Pictures.{branch_literal_text, named_assignment_text};
 
 use fs_model::parts::{Assign, Expr, Lit, Rel, VarId, VarInfo};
 use itoa::Buffer;
@@ -52,7 +53,12 @@ fn in_parens(alloc: Global, needed: bool, text: &[u8]) -> Result<Vec<u8>, AllocE
 }
 
 // A text behind others.
-fn joined(alloc: Global, front: &[u8], middle: &[u8], back: &[u8]) -> Result<Vec<u8>, AllocError>
+fn concatenate(
+    alloc: Global,
+    front: &[u8],
+    middle: &[u8],
+    back: &[u8],
+) -> Result<Vec<u8>, AllocError>
     ensures { IfOk result (λ whole. whole.items ≡ front.now ++ (middle.now ++ back.now)) }
 {
     let mut whole = front.to_vec(alloc)?;
@@ -120,14 +126,14 @@ fn term_text(
             let left = term_text(alloc, variables, a)?;
             let right = term_text(alloc, variables, b)?;
             let right = in_parens(alloc, is_sum(b), right.as_slice())?;
-            joined(alloc, left.as_slice(), operator(expr), right.as_slice())
+            concatenate(alloc, left.as_slice(), operator(expr), right.as_slice())
         }
         Expr::Mul(a, b) | Expr::Div(a, b) | Expr::Rem(a, b) => {
             let left = term_text(alloc, variables, a)?;
             let left = in_parens(alloc, is_sum(a), left.as_slice())?;
             let right = term_text(alloc, variables, b)?;
             let right = in_parens(alloc, is_sum(b) || is_product(b), right.as_slice())?;
-            joined(alloc, left.as_slice(), operator(expr), right.as_slice())
+            concatenate(alloc, left.as_slice(), operator(expr), right.as_slice())
         }
         Expr::Neg(a) => {
             let text = term_text(alloc, variables, a)?;
@@ -161,7 +167,7 @@ pub fn literal_text(
 {
     let left = term_text(alloc, variables, &literal.left)?;
     let right = term_text(alloc, variables, &literal.right)?;
-    joined(
+    concatenate(
         alloc,
         left.as_slice(),
         relation(literal.rel),
@@ -209,7 +215,7 @@ pub fn assignment_text(
     match assign {
         Assign::Set(x, value) => {
             let value = term_text(alloc, variables, value)?;
-            joined(
+            concatenate(
                 alloc,
                 variable_name(variables, *x),
                 b" = ",

@@ -7,8 +7,8 @@ use Rattle.std.specs.Option.{option_map}
 use Rattle.fsmd_pair_answers.proofs.Branches.{not_done}
 use Rattle.base_lemmas.proofs.Booleans.{and_first, and_second}
 use Rattle.base_lemmas.proofs.Quantifiers.{each_weaker}
+use Rattle.fs_rules.specs.SoundParts.{IsSound}
 use Rattle.fs_model.specs.Machines.{Fsmd}
-use Rattle.fs_ast.specs.SoundMachines.{IsSound}
 use Rattle.fs_cut.specs.Paths.{Point, Path, is_point, state_of}
 use Rattle.fs_cut.specs.Covers.{paths_of, paths_from, cover_of, path_by}
 use Rattle.fs_cut.proofs.Listed.{paths_count, paths_in_order, paths_listed}
@@ -31,7 +31,7 @@ use Rattle.search_tables.proofs.Lists.{all_in, all_from, all_flat}
 use Rattle.search_tables.proofs.Changing.{Adds, Weakens, arrives_so}
 use Rattle.search_tables.proofs.Forming.{well_formed}
 use Rattle.show_search_views.specs.MoveReplays as turns
-use Rattle.show_search_views.specs.MoveReplays.{branch_path, turn_at, turn_by_paths, turn_by, settled, turn, with_turn, with_turns}
+use Rattle.show_search_views.specs.MoveReplays.{branch_path, turn_at, turn_by_paths, turn_by, turn_or_idle, turn_of_move, with_turn, with_turns}
 
 -- ---- branches of a point
 
@@ -159,37 +159,37 @@ module _ (m : MachinePair) (T U : Table) (y : Move) where
 
 -- ---- its turn
 module _ (ps : List Position) (T U : Table) (P Q : Point) where
-  adds_again : (post : Post) → Adds ps T U P Q post → with_turn T (settled (turn_at ps P Q post (node_target T P Q))) ≡ U
+  adds_again : (post : Post) → Adds ps T U P Q post → with_turn T (turn_or_idle (turn_at ps P Q post (node_target T P Q))) ≡ U
   adds_again post a =
-      ap (λ (t : Target). with_turn T (settled (turn_at ps P Q post t))) a.target
-      ∙ ap (λ (c : Computed Fact). with_turn T (settled (after c (λ f. Done (turns.Makes P Q f))))) a.rebased
+      ap (λ (t : Target). with_turn T (turn_or_idle (turn_at ps P Q post t))) a.target
+      ∙ ap (λ (c : Computed Fact). with_turn T (turn_or_idle (after c (λ f. Done (turns.Makes P Q f))))) a.rebased
       ∙ a.is
 
-  weakens_again : (post : Post) → Weakens T U P Q post → with_turn T (settled (turn_at ps P Q post (node_target T P Q))) ≡ U
+  weakens_again : (post : Post) → Weakens T U P Q post → with_turn T (turn_or_idle (turn_at ps P Q post (node_target T P Q))) ≡ U
   weakens_again post w =
-      ap (λ (t : Target). with_turn T (settled (turn_at ps P Q post t))) w.target
+      ap (λ (t : Target). with_turn T (turn_or_idle (turn_at ps P Q post t))) w.target
       ∙ ap
       (λ (c : Computed Missing). with_turn T
-      (settled (after c (λ x. after (join w.node.fact post x) (λ f. Done (turns.Weakens w.number w.node.left w.node.right post x f)))))) w.compared_to
-      ∙ ap (λ (c : Computed Fact). with_turn T (settled (after c (λ f. Done (turns.Weakens w.number w.node.left w.node.right post w.missing f))))) w.joined
+      (turn_or_idle (after c (λ x. after (join w.node.fact post x) (λ f. Done (turns.Weakens w.number w.node.left w.node.right post x f)))))) w.compared_to
+      ∙ ap (λ (c : Computed Fact). with_turn T (turn_or_idle (after c (λ f. Done (turns.Weakens w.number w.node.left w.node.right post w.missing f))))) w.joined
       ∙ w.is
 
 module _ (m : MachinePair) where
   by_paths_again : (T U : Table) (n : SearchNode) (x : PathPair) → effect m T n x ≡ Changes U
-      → with_turn T (settled (turn_by_paths (positions_of m) m T n x.left x.right)) ≡ U
+      → with_turn T (turn_or_idle (turn_by_paths (positions_of m) m T n x.left x.right)) ≡ U
   by_paths_again T U n x e =
       let ps = positions_of m in
       let P = end_of n.left x.left in
       let Q = end_of n.right x.right in
       let a = arrives_so ps T U P Q (arrive m.left m.right n.fact.literals (vector_of n.fact.positions) x.left x.right) e in
-      ap (λ (c : Computed Post). with_turn T (settled (after c (λ post. turn_at ps P Q post (node_target T P Q))))) a.arrives
-      ∙ elim a.changes as (λ _. with_turn T (settled (turn_at ps P Q a.post (node_target T P Q))) ≡ U) [
+      ap (λ (c : Computed Post). with_turn T (turn_or_idle (after c (λ post. turn_at ps P Q post (node_target T P Q))))) a.arrives
+      ∙ elim a.changes as (λ _. with_turn T (turn_or_idle (turn_at ps P Q a.post (node_target T P Q))) ≡ U) [
         | inl b ↦ adds_again ps T U P Q a.post b
         | inr b ↦ weakens_again ps T U P Q a.post b
       ]
 
   turn_again : (T U : Table) (y : Move) → list_all (λ n. is_point m.left n.left && is_point m.right n.right) T ≡ true → next_move m T ≡ Change y U
-      → with_turn T (turn (positions_of m) m T y) ≡ U
+      → with_turn T (turn_of_move (positions_of m) m T y) ≡ U
   turn_again T U y all e =
       let ps = positions_of m in
       let d = from_does m T U y 0 T all e in
@@ -197,8 +197,8 @@ module _ (m : MachinePair) where
       let there : slice_get T y.node ≡ Some d.node = ap (slice_get T) place ∙ d.is_in in
       let left : branch_path m.left d.node.left y.left ≡ d.paths.left = ap (branch_path m.left d.node.left) d.left ∙ d.branches.left in
       let right : branch_path m.right d.node.right y.right ≡ d.paths.right = ap (branch_path m.right d.node.right) d.right ∙ d.branches.right in
-      ap (λ (o : Option SearchNode). with_turn T (settled (turn_by ps m T y o))) there
-      ∙ ap₂ (λ (l r : Option Path). with_turn T (settled (turn_by_paths ps m T d.node l r))) left right
+      ap (λ (o : Option SearchNode). with_turn T (turn_or_idle (turn_by ps m T y o))) there
+      ∙ ap₂ (λ (l r : Option Path). with_turn T (turn_or_idle (turn_by_paths ps m T d.node l r))) left right
       ∙ by_paths_again T U d.node d.paths d.does
 
   lead_more : (xs : List Move) (S T U : Table) (x : Move) → MovesLead m S xs T → stuck m T ≡ None → next_move m T ≡ Change x U → MovesLead m S (xs ++ x ∷ []) U

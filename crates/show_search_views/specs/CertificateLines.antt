@@ -7,12 +7,12 @@ use Rattle.cert_writer.specs.WrittenCertificates.{mode_written}
 use Rattle.search_tables.specs.SearchTables.{MachinePair}
 use Rattle.show_fact_text.specs.FactLines.{fact_lines}
 use Rattle.show_search_views.specs.MoveLines.{points_text}
-use Rattle.show_search_views.specs.View.{position_name}
+use Rattle.show_search_views.specs.View.{position_name_in}
 
 -- a node: its points and its mode, and then its fact
 abbrev pub node_text : MachinePair → Node Fact → List ℕ
 node_text m n = points_text m n.left n.right
-    ++ (codes ", " ++ (mode_written n.mode ++ (codes "\n" ++ fact_lines (codes "  ") (position_name m) n.fact)))
+    ++ (codes ", " ++ (mode_written n.mode ++ (codes "\n" ++ fact_lines (codes "  ") (position_name_in m) n.fact)))
 
 -- the nodes of a certificate in order, behind a heading
 abbrev pub certificate_lines : (heading : List ℕ) → MachinePair → List (Node Fact) → List ℕ

@@ -18,8 +18,8 @@ use Rattle.search_tables.specs.SearchTables.{MachinePair, SearchNode, Table, fir
 use Rattle.fsmd_replies.specs.ObstacleTexts.{text_of_lookup, both_sides, side_text}
 use Rattle.cert_writer.specs.WrittenCertificates.{form_written}
 use Rattle.show_fact_text.specs.FactLines.{position_line, condition_line, fact_lines}
-use Rattle.show_search_views.specs.MoveReplays.{Turn, Idle, Makes, Weakens, turn, with_turn}
-use Rattle.show_search_views.specs.View.{position_name}
+use Rattle.show_search_views.specs.MoveReplays.{Turn, Idle, Makes, Weakens, turn_of_move, with_turn}
+use Rattle.show_search_views.specs.View.{position_name_in}
 
 -- the path of a side that moves, and `-` for one that does not
 abbrev pub shown_path : Fsmd → (branch : Option ℕ) → Option Path → List ℕ
@@ -102,11 +102,11 @@ turn_lines name m T x (Weakens k P Q post y f) = move_line m T x (codes " weaken
 -- what moves do, one after another
 abbrev pub turns_lines : List Position → MachinePair → Table → List Move → List ℕ
 turns_lines ps m T [] = []
-turns_lines ps m T (x ∷ xs) = turn_lines (position_name m) m T x (turn ps m T x)
-    ++ turns_lines ps m (with_turn T (turn ps m T x)) xs
+turns_lines ps m T (x ∷ xs) = turn_lines (position_name_in m) m T x (turn_of_move ps m T x)
+    ++ turns_lines ps m (with_turn T (turn_of_move ps m T x)) xs
 
 abbrev pub start_move_lines : MachinePair → List ℕ
-start_move_lines m = node_lines (position_name m) m Start Start (start_fact (positions_of m))
+start_move_lines m = node_lines (position_name_in m) m Start Start (start_fact (positions_of m))
 
 -- the history of a search: the start node, and then what each move does
 abbrev pub history_text : MachinePair → List Move → List ℕ

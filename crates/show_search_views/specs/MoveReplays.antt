@@ -46,14 +46,14 @@ turn_by ps m T x None = Done Idle
 turn_by ps m T x (Some n) = turn_from ps m T n x
 
 -- an operation that is not narrow, or narrow and not small, does nothing
-abbrev pub settled : Computed Turn → Turn
-settled (Done t) = t
-settled (Wide left right) = Idle
-settled (Large units depth) = Idle
+abbrev pub turn_or_idle : Computed Turn → Turn
+turn_or_idle (Done t) = t
+turn_or_idle (Wide left right) = Idle
+turn_or_idle (Large units depth) = Idle
 
 -- what a move does to a table
-abbrev pub turn : List Position → MachinePair → Table → Move → Turn
-turn ps m T x = settled (turn_by ps m T x (slice_get T x.node))
+abbrev pub turn_of_move : List Position → MachinePair → Table → Move → Turn
+turn_of_move ps m T x = turn_or_idle (turn_by ps m T x (slice_get T x.node))
 
 -- the table after a turn
 abbrev pub with_turn : Table → Turn → Table
@@ -64,7 +64,7 @@ with_turn T (Weakens k P Q post x f) = slice_set T k (record { left = P; right =
 -- the table after moves
 abbrev pub with_turns : List Position → MachinePair → Table → List Move → Table
 with_turns ps m T [] = T
-with_turns ps m T (x ∷ xs) = with_turns ps m (with_turn T (turn ps m T x)) xs
+with_turns ps m T (x ∷ xs) = with_turns ps m (with_turn T (turn_of_move ps m T x)) xs
 
 -- the facts of a table are of these positions, and so is that of a turn
 abbrev pub AreOf : List Position → Table → Type 0

@@ -12,9 +12,9 @@ use Rattle.search_tables.specs.SearchTables.{MachinePair, SearchNode, Table, fir
 use Rattle.search_tables.specs.Legal.{Makes}
 use Rattle.search.specs.SearchOutcomes.{IsSearchOutcome}
 use Rattle.show_fact_text.specs.FactLines.{fact_lines}
-use Rattle.show_search_views.specs.MoveReplays.{Turn, Idle, Makes as MakesNode, Weakens, turn, with_turn, with_turns}
+use Rattle.show_search_views.specs.MoveReplays.{Turn, Idle, Makes as MakesNode, Weakens, turn_of_move, with_turn, with_turns}
 use Rattle.show_search_views.specs.MoveLines.{moved_at, points_text}
-use Rattle.show_search_views.specs.View.{position_name}
+use Rattle.show_search_views.specs.View.{position_name_in}
 
 -- ---- nodes
 
@@ -32,7 +32,7 @@ look_at marks k = cond (list_any (λ j. j == k) marks) Marked Boxed
 
 -- the points of a node, and its fact
 unfoldable pub node_label : MachinePair → SearchNode → List ℕ
-node_label m n = points_text m n.left n.right ++ (codes "\n" ++ fact_lines [] (position_name m) n.fact)
+node_label m n = points_text m n.left n.right ++ (codes "\n" ++ fact_lines [] (position_name_in m) n.fact)
 
 abbrev pub table_node_line : MachinePair → (marks : List ℕ) → (number : ℕ) → SearchNode → List ℕ
 table_node_line m marks k n = node_line (decimal k) (node_label m n) (look_at marks k)
@@ -56,7 +56,7 @@ turn_edge m T x (Weakens k P Q post y f) = move_edge m T x k
 
 abbrev pub turns_edges : List Position → MachinePair → Table → List Move → List ℕ
 turns_edges ps m T [] = []
-turns_edges ps m T (x ∷ xs) = turn_edge m T x (turn ps m T x) ++ turns_edges ps m (with_turn T (turn ps m T x)) xs
+turns_edges ps m T (x ∷ xs) = turn_edge m T x (turn_of_move ps m T x) ++ turns_edges ps m (with_turn T (turn_of_move ps m T x)) xs
 
 -- ---- the graph
 

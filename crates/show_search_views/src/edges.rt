@@ -2,7 +2,7 @@
 
 ghost use Rattle.std.specs.Prelude.{◌≡◌, ◌++◌, IfOk, OnOk, slice_get};
 ghost use Rattle.search_tables.specs.View.{table_in};
-ghost use Rattle.show_search_views.specs.MoveReplays.{turn, with_turn, with_turns, AreOf};
+ghost use Rattle.show_search_views.specs.MoveReplays.{turn_of_move, with_turn, with_turns, AreOf};
 ghost use Rattle.show_search_views.specs.MoveLines.{moved_at};
 ghost use Rattle.show_search_views.specs.View.{side_machines, turn_in};
 ghost use Rattle.show_search_views.specs.SearchPictures.{move_edge, turn_edge, turns_edges};
@@ -82,9 +82,10 @@ fn draw_move(
     requires { AreOf m.now.pairing.now (table_in nodes.old.items) }
     ensures edge { OnOk result (out.new.items ≡ out.old.items
         ++ turn_edge (side_machines m.now) (table_in nodes.old.items) at
-        (turn m.now.pairing.now (side_machines m.now) (table_in nodes.old.items) at)) }
+        (turn_of_move m.now.pairing.now (side_machines m.now) (table_in nodes.old.items) at)) }
     ensures table { OnOk result (table_in nodes.new.items
-        ≡ with_turn (table_in nodes.old.items) (turn m.now.pairing.now (side_machines m.now) (table_in nodes.old.items) at)) }
+        ≡ with_turn (table_in nodes.old.items)
+        (turn_of_move m.now.pairing.now (side_machines m.now) (table_in nodes.old.items) at)) }
     ensures facts { OnOk result (AreOf m.now.pairing.now (table_in nodes.new.items)) }
 {
     let turn = turn(alloc, m, nodes.as_slice(), at)?;

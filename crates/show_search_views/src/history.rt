@@ -6,9 +6,9 @@ ghost use Rattle.fs_pair.specs.Positions.{positions};
 ghost use Rattle.search.specs.SearchOutcomes.{machines};
 ghost use Rattle.search_tables.specs.SearchTables.{first_table};
 ghost use Rattle.search_tables.specs.View.{table_in};
-ghost use Rattle.show_search_views.specs.MoveReplays.{turn, with_turn, AreOf};
+ghost use Rattle.show_search_views.specs.MoveReplays.{turn_of_move, with_turn, AreOf};
 ghost use Rattle.show_search_views.specs.MoveLines.{turn_lines, turns_lines, start_move_lines, history_text};
-ghost use Rattle.show_search_views.specs.View.{side_machines, position_name};
+ghost use Rattle.show_search_views.specs.View.{side_machines, position_name_in};
 
 use crate::lines::{write_node, write_turn};
 use crate::sides::Sides;
@@ -50,10 +50,11 @@ fn tell_move(
 ) -> Result<(), NoMemory>
     requires { AreOf m.now.pairing.now (table_in nodes.old.items) }
     ensures lines { OnOk result (out.new.items ≡ out.old.items
-        ++ turn_lines (position_name (side_machines m.now)) (side_machines m.now) (table_in nodes.old.items) at
-        (turn m.now.pairing.now (side_machines m.now) (table_in nodes.old.items) at)) }
+        ++ turn_lines (position_name_in (side_machines m.now)) (side_machines m.now) (table_in nodes.old.items) at
+        (turn_of_move m.now.pairing.now (side_machines m.now) (table_in nodes.old.items) at)) }
     ensures table { OnOk result (table_in nodes.new.items
-        ≡ with_turn (table_in nodes.old.items) (turn m.now.pairing.now (side_machines m.now) (table_in nodes.old.items) at)) }
+        ≡ with_turn (table_in nodes.old.items)
+        (turn_of_move m.now.pairing.now (side_machines m.now) (table_in nodes.old.items) at)) }
     ensures facts { OnOk result (AreOf m.now.pairing.now (table_in nodes.new.items)) }
 {
     let names = SideNames {

@@ -3,11 +3,11 @@
 ghost use Rattle.std.specs.Prelude.{◌≡◌, IfOk, OnOk, slice_get, slice_set};
 ghost use Rattle.fs_cut.specs.View.{point_of};
 ghost use Rattle.nf_terms.specs.Computed.{Answers};
-ghost use Rattle.sym_paths.specs.View.{told, post_in};
+ghost use Rattle.sym_paths.specs.View.{answer_in_data, post_in};
 ghost use Rattle.sym_facts.specs.Pairings.{IsFactOf};
 ghost use Rattle.search_tables.specs.SearchTables.{Unknown, Known, node_target};
 ghost use Rattle.search_tables.specs.View.{table_node_in, table_in};
-ghost use Rattle.show_search_views.specs.MoveReplays.{turn_at, turn_from, turn_by, turn, with_turn, AreOf, HasFactOf};
+ghost use Rattle.show_search_views.specs.MoveReplays.{turn_at, turn_from, turn_by, turn_of_move, with_turn, AreOf, HasFactOf};
 ghost use Rattle.show_search_views.specs.View.{side_machines, turn_in};
 
 use crate::points::{Standing, end_of, find};
@@ -28,7 +28,8 @@ use sym_paths::execution::Post;
 
 // What a post does that arrives where no node stands.
 fn make(alloc: Global, p: &Pairing, left: Point, right: Point, post: &Post) -> Result<Turn, NfStop>
-    ensures answers { Answers (told turn_in result) (turn_at p.now (point_of left) (point_of right) (post_in post.now) Unknown) }
+    ensures answers { Answers (answer_in_data turn_in result)
+        (turn_at p.now (point_of left) (point_of right) (post_in post.now) Unknown) }
     ensures fact { IfOk result (λ t. HasFactOf p.now (turn_in t)) }
 {
     rebased_facts_are_of_the_positions();
@@ -46,7 +47,7 @@ fn weaken(
     post: Post,
 ) -> Result<Turn, NfStop>
     requires { IsFactOf p.now standing.now.node.now.fact }
-    ensures answers { Answers (told turn_in result)
+    ensures answers { Answers (answer_in_data turn_in result)
         (turn_at p.now (point_of left) (point_of right) (post_in post)
         (Known standing.now.number (table_node_in standing.now.node.now))) }
     ensures fact { IfOk result (λ t. HasFactOf p.now (turn_in t)) }
@@ -74,7 +75,7 @@ fn turn_at(
     post: Post,
 ) -> Result<Turn, NfStop>
     requires { AreOf p.now (table_in nodes.now) }
-    ensures answers { Answers (told turn_in result)
+    ensures answers { Answers (answer_in_data turn_in result)
         (turn_at p.now (point_of left) (point_of right) (post_in post)
         (node_target (table_in nodes.now) (point_of left) (point_of right))) }
     ensures fact { IfOk result (λ t. HasFactOf p.now (turn_in t)) }
@@ -94,7 +95,7 @@ fn turn_from(
     at: Move,
 ) -> Result<Turn, NfStop>
     requires { AreOf m.now.pairing.now (table_in nodes.now) }
-    ensures answers { Answers (told turn_in result)
+    ensures answers { Answers (answer_in_data turn_in result)
         (turn_from m.now.pairing.now (side_machines m.now) (table_in nodes.now) (table_node_in node.now) at) }
     ensures fact { IfOk result (λ t. HasFactOf m.now.pairing.now (turn_in t)) }
 {
@@ -114,7 +115,7 @@ fn turn_from(
 // What a move of its node does.
 fn turn_by(alloc: Global, m: &Sides<'_>, nodes: &[TableNode], at: Move) -> Result<Turn, NfStop>
     requires { AreOf m.now.pairing.now (table_in nodes.now) }
-    ensures answers { Answers (told turn_in result)
+    ensures answers { Answers (answer_in_data turn_in result)
         (turn_by m.now.pairing.now (side_machines m.now) (table_in nodes.now) at (slice_get (table_in nodes.now) at.node)) }
     ensures fact { IfOk result (λ t. HasFactOf m.now.pairing.now (turn_in t)) }
 {
@@ -127,7 +128,7 @@ fn turn_by(alloc: Global, m: &Sides<'_>, nodes: &[TableNode], at: Move) -> Resul
 /// What a move does to a table. The one refusal is out of memory.
 pub fn turn(alloc: Global, m: &Sides<'_>, nodes: &[TableNode], at: Move) -> Result<Turn, NoMemory>
     requires { AreOf m.now.pairing.now (table_in nodes.now) }
-    ensures turn { IfOk result (λ t. turn_in t ≡ turn m.now.pairing.now (side_machines m.now) (table_in nodes.now) at) }
+    ensures turn { IfOk result (λ t. turn_in t ≡ turn_of_move m.now.pairing.now (side_machines m.now) (table_in nodes.now) at) }
     ensures fact { IfOk result (λ t. HasFactOf m.now.pairing.now (turn_in t)) }
 {
     match turn_by(alloc, m, nodes, at) {

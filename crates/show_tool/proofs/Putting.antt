@@ -11,7 +11,7 @@ use Rattle.fsmd_replies.specs.AskedFiles.{cert_of}
 use Rattle.fsmd_replies.specs.Replies.{reply}
 use Rattle.fsmd_tool.specs.Calls.{call, OnlyRead, IsCorrectFrom}
 use Rattle.fsmd_tool.specs.SinkReplies.{Put, IsPut}
-use Rattle.fsmd_tool.specs.CertificateStores.{StoreState, stores, IsUnchangedStore, StoreEntry, stored_entry_of, to_store, Leaves, LeftAlone, LeftStored}
+use Rattle.fsmd_tool.specs.CertificateStores.{FileChange, file_change, IsUnchangedStore, FileToStore, file_to_store_of, to_store, Leaves, LeftAlone, LeftStored}
 use Rattle.fsmd_tool.specs.CertificateStores.{LeftUnstored}
 use Rattle.fsmd_tool.specs.Correct.{IsDone, IsDoneFor, Kept, Stored, Unstored}
 use Rattle.fsmd_tool.proofs.Later.{correct_until, leaves_since}
@@ -54,14 +54,14 @@ no_certificate words s e =
 -- ---- what is put
 
 nothing_stored : (s : ShownView) (answer : Answer) → cert_of (Some s.asked) ≡ None → to_store (Some s.asked) answer ≡ None
-nothing_stored s answer e = ap (λ o. stored_entry_of o (certificate_in answer)) e
+nothing_stored s answer e = ap (λ o. file_to_store_of o (certificate_in answer)) e
 
-put_alone : (e : Option StoreEntry) (r : List ℕ) (meant : Status) (s : StoreState) (p : Put) → e ≡ None → IsDone e r meant s p → IsPut r meant p
+put_alone : (e : Option FileToStore) (r : List ℕ) (meant : Status) (s : FileChange) (p : Put) → e ≡ None → IsDone e r meant s p → IsPut r meant p
 put_alone e r meant s p none (Kept same k put) = put
 put_alone e r meant s p none (Stored x is stored put) = absurd (let bad : Some x ≡ None = sym is ∙ none in cc)
 put_alone e r meant s p none (Unstored x is stored put) = absurd (let bad : Some x ≡ None = sym is ∙ none in cc)
 
-kept_alone : (e : Option StoreEntry) (s : StoreState) → e ≡ None → Leaves e s → IsUnchangedStore s
+kept_alone : (e : Option FileToStore) (s : FileChange) → e ≡ None → Leaves e s → IsUnchangedStore s
 kept_alone e s none (LeftAlone k) = k
 kept_alone e s none (LeftStored x is stored) = absurd (let bad : Some x ≡ None = sym is ∙ none in cc)
 kept_alone e s none (LeftUnstored x is stored) = absurd (let bad : Some x ≡ None = sym is ∙ none in cc)
@@ -70,19 +70,20 @@ kept_alone e s none (LeftUnstored x is stored) = absurd (let bad : Some x ≡ No
 pub shown : {E : Type 0} (s : ShownView) (old mid now : FilesTold) (answer : Answer) (r : Result Status E) (p : Status → Put) → cert_of (Some s.asked) ≡ None
     → OnlyRead old mid
     → NoneFell mid.faults now.faults → IsCorrectFrom (ShownFrom s.view) 0 (call (Some s.asked) old mid) answer
-    → IfOk r (λ t. IsDoneFor (Some s.asked) answer (stores mid now) (p t))
+    → IfOk r (λ t. IsDoneFor (Some s.asked) answer (file_change mid now) (p t))
     → IfOk r (λ t. IsShown s old now (p t))
 shown s old mid now answer (Ok t) p none read fell correct done = record {
   answer = answer;
   correct = correct_until (Some s.asked) old mid now read.counts fell (ShownFrom s.view) 0 answer correct;
-  put = put_alone (to_store (Some s.asked) answer) (reply answer (Some s.asked)) (status_of answer) (stores mid now) (p t) (nothing_stored s answer none) done;
+  put = put_alone (to_store (Some s.asked) answer) (reply answer (Some s.asked)) (status_of answer) (file_change mid now) (p t)
+      (nothing_stored s answer none) done;
 }
 shown s old mid now answer (Err x) p none read fell correct done = tt
 
 pub kept : (s : ShownView) (old mid now : FilesTold) (answer : Answer) → cert_of (Some s.asked) ≡ None → OnlyRead old mid
-    → Leaves (to_store (Some s.asked) answer) (stores mid now) → IsUnchangedStore (stores old now)
+    → Leaves (to_store (Some s.asked) answer) (file_change mid now) → IsUnchangedStore (file_change old now)
 kept s old mid now answer none read leaves =
-    kept_alone (to_store (Some s.asked) answer) (stores old now) (nothing_stored s answer none)
+    kept_alone (to_store (Some s.asked) answer) (file_change old now) (nothing_stored s answer none)
     (leaves_since (to_store (Some s.asked) answer) old mid now read leaves)
 
 -- what is asked by words

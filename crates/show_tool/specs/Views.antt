@@ -16,7 +16,7 @@ use Rattle.fsmd_replies.specs.declared.answer.Answer.{Answer}
 use Rattle.fsmd_replies.specs.declared.answer.Answer.TheVariants.{Text, Differs, Undecided}
 use Rattle.fsmd_answers.specs.LineAnswers.{HasLines}
 use Rattle.fsmd_replies.specs.Replies.{equivalent_text}
-use Rattle.fsmd_answers.specs.MachinePairAnswers.{IsOfPair}
+use Rattle.fsmd_answers.specs.ComparisonAnswers.{IsOfPair}
 use Rattle.fsmd_answers.specs.Verdicts.{IsJudged}
 use Rattle.fsmd_answers.specs.Readings.{Reading}
 use Rattle.fsmd_answers.specs.Follows.{Ends, OpensMachine, OpensPair, OpensCertificate}

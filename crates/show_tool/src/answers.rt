@@ -6,7 +6,7 @@ ghost use Rattle.fs_pair.specs.Positions.{positions};
 ghost use Rattle.cert_model.specs.Lawful.{IsLawful};
 ghost use Rattle.cert_model.specs.View.{node_of};
 ghost use Rattle.show_search_views.specs.Demands.{obligation_lines};
-ghost use Rattle.fsmd_answers.specs.MachinePairAnswers.{IsOfPair};
+ghost use Rattle.fsmd_answers.specs.ComparisonAnswers.{IsOfPair};
 ghost use Rattle.fsmd_replies.specs.Replies.{equivalent_text};
 ghost use Rattle.show_tool.specs.Views.{answer_behind, behind, IsOfPicture, IsOfWhy, IsOfInputs, IsOfCertificate};
 

@@ -5,9 +5,9 @@ ghost use Rattle.std.specs.Result.{OnErr};
 ghost use Rattle.fs_base.specs.Outside.{NoneFell};
 ghost use Rattle.fsmd_replies.specs.AskedFiles.{cert_of};
 ghost use Rattle.fsmd_tool.specs.Calls.{call, OnlyRead, IsCorrectFrom};
-ghost use Rattle.fsmd_tool.specs.SinkReplies.{put};
-ghost use Rattle.fsmd_tool.specs.CertificateStores.{stores, IsUnchangedStore};
-ghost use Rattle.show_words.specs.ViewWords.{shown};
+ghost use Rattle.fsmd_tool.specs.SinkReplies.{put_between};
+ghost use Rattle.fsmd_tool.specs.CertificateStores.{file_change, IsUnchangedStore};
+ghost use Rattle.show_words.specs.ViewWords.{shown_view};
 ghost use Rattle.show_tool.specs.Views.{ShownFrom};
 ghost use Rattle.show_tool.specs.ViewCalls.{shown_by_words, IsShown, ViewOutcome, PutsOf};
 
@@ -24,8 +24,8 @@ use std::alloc::{AllocError, Global};
 
 // What is answered to what is asked to be shown.
 fn answer<F: Files>(alloc: Global, show: &Show, files: &mut F) -> Result<Answer, AllocError>
-    ensures correct { IfOk result (IsCorrectFrom (ShownFrom (shown show.now).view) 0
-        (call (Some (shown show.now).asked) (F.told files.old) (F.told files.new))) }
+    ensures correct { IfOk result (IsCorrectFrom (ShownFrom (shown_view show.now).view) 0
+        (call (Some (shown_view show.now).asked) (F.told files.old) (F.told files.new))) }
     ensures only_read { OnlyRead (F.told files.old) (F.told files.new) }
 {
     match answer_view(alloc, show, files) {
@@ -42,11 +42,11 @@ fn put_shown<F: Files, S: Sink>(
     files: &mut F,
     out: &mut S,
 ) -> Result<Status, AllocError>
-    requires { cert_of (Some (shown show.now).asked) ≡ None }
-    ensures shown { IfOk result (λ status. IsShown (shown show.now) (F.told files.old) (F.told files.new)
-        (put status (S.told out.old) (S.told out.new))) }
+    requires { cert_of (Some (shown_view show.now).asked) ≡ None }
+    ensures shown { IfOk result (λ status. IsShown (shown_view show.now) (F.told files.old) (F.told files.new)
+        (put_between status (S.told out.old) (S.told out.new))) }
     ensures err { OnErr result ((S.told out.new).got ≡ (S.told out.old).got) }
-    ensures kept { IsUnchangedStore (stores (F.told files.old) (F.told files.new)) }
+    ensures kept { IsUnchangedStore (file_change (F.told files.old) (F.told files.new)) }
     ensures counts { NoneFell (F.told files.old).faults (F.told files.new).faults }
     ensures sink_counts { (S.told out.old).faults ≤ (S.told out.new).faults }
 {
@@ -62,9 +62,9 @@ fn put_reply<F: Files, S: Sink>(
     out: &mut S,
 ) -> Result<Status, AllocError>
     ensures shown { IfOk result (λ status. PutsOf (shown_by_words words.now) (F.told files.old) (F.told files.new)
-        (put status (S.told out.old) (S.told out.new))) }
+        (put_between status (S.told out.old) (S.told out.new))) }
     ensures err { OnErr result ((S.told out.new).got ≡ (S.told out.old).got) }
-    ensures kept { IsUnchangedStore (stores (F.told files.old) (F.told files.new)) }
+    ensures kept { IsUnchangedStore (file_change (F.told files.old) (F.told files.new)) }
     ensures counts { NoneFell (F.told files.old).faults (F.told files.new).faults }
     ensures sink_counts { (S.told out.old).faults ≤ (S.told out.new).faults }
 {
@@ -87,8 +87,8 @@ pub fn drive_show<F: Files, S: Sink>(
     out: &mut S,
 ) -> Status
     ensures outcome { ViewOutcome (shown_by_words words.now) (F.told files.old) (F.told files.new)
-        (put result (S.told out.old) (S.told out.new)) }
-    ensures kept { IsUnchangedStore (stores (F.told files.old) (F.told files.new)) }
+        (put_between result (S.told out.old) (S.told out.new)) }
+    ensures kept { IsUnchangedStore (file_change (F.told files.old) (F.told files.new)) }
     ensures counts { NoneFell (F.told files.old).faults (F.told files.new).faults }
     ensures sink_counts { (S.told out.old).faults ≤ (S.told out.new).faults }
 {

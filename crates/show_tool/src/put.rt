@@ -4,7 +4,7 @@ ghost use Rattle.std.specs.Prelude.{◌≡◌, ◌≤◌, IfOk, IsTrue};
 ghost use Rattle.std.specs.Result.{OnErr};
 ghost use Rattle.fs_base.specs.Outside.{HasRoom};
 ghost use Rattle.fsmd_replies.specs.declared.answer.Status.TheVariants.{Usage};
-ghost use Rattle.fsmd_tool.specs.SinkReplies.{IsPut, put};
+ghost use Rattle.fsmd_tool.specs.SinkReplies.{IsPut, put_between};
 ghost use Rattle.show_tool.specs.ViewCalls.{usage_text};
 
 use fs_base::outside::Sink;
@@ -29,7 +29,7 @@ fn fits(room: Option<u64>, count: usize) -> bool
 //
 // The error is out of memory: the line is longer than the sink has room; then nothing was put.
 fn put_line<S: Sink>(line: &[u8], meant: Status, out: &mut S) -> Result<Status, AllocError>
-    ensures ok { IfOk result (λ status. IsPut line.now meant (put status (S.told out.old) (S.told out.new))) }
+    ensures ok { IfOk result (λ status. IsPut line.now meant (put_between status (S.told out.old) (S.told out.new))) }
     ensures err { OnErr result ((S.told out.new).got ≡ (S.told out.old).got) }
     ensures sink_counts { (S.told out.old).faults ≤ (S.told out.new).faults }
 {
@@ -46,7 +46,7 @@ fn put_line<S: Sink>(line: &[u8], meant: Status, out: &mut S) -> Result<Status, 
 ///
 /// The error is out of memory: the line is longer than the sink has room; then nothing was put.
 pub fn put_usage<S: Sink>(out: &mut S) -> Result<Status, AllocError>
-    ensures ok { IfOk result (λ status. IsPut usage_text Usage (put status (S.told out.old) (S.told out.new))) }
+    ensures ok { IfOk result (λ status. IsPut usage_text Usage (put_between status (S.told out.old) (S.told out.new))) }
     ensures err { OnErr result ((S.told out.new).got ≡ (S.told out.old).got) }
     ensures sink_counts { (S.told out.old).faults ≤ (S.told out.new).faults }
 {

@@ -1,14 +1,14 @@
 //! What each view answers, from its files.
 
 ghost use Rattle.std.specs.Prelude.{◌≡◌, None, Some};
-ghost use Rattle.fsmd_words.specs.AskedWords.{asked};
+ghost use Rattle.fsmd_words.specs.AskedWords.{asked_of_ask};
 ghost use Rattle.fs_pair.specs.Interfaces.{interface_fault};
 ghost use Rattle.fs_pair.specs.Positions.{positions};
 ghost use Rattle.show_machine_pictures.specs.Pictures.{picture_of};
 ghost use Rattle.fsmd_replies.specs.declared.answer.Answer.TheVariants.{Text};
 ghost use Rattle.fsmd_answers.specs.Follows.{Ends, OpensPair, OpensMachine, OpensCertificate};
 ghost use Rattle.fsmd_tool.specs.Calls.{call, OnlyRead, IsCorrectFrom, AnswersBy};
-ghost use Rattle.show_words.specs.ViewWords.{shown};
+ghost use Rattle.show_words.specs.ViewWords.{shown_view};
 ghost use Rattle.show_tool.specs.Views.{IsOfPicture, IsOfWhy, IsOfInputs, IsOfCertificate, ShownFrom};
 
 use crate::answers::{certificate_of, differing_machines, picture_machines, why_machines};
@@ -27,7 +27,7 @@ use std::alloc::Global;
 // What `machine` answers: the picture of a machine.
 fn show_machine<F: Files>(alloc: Global, ask: &Ask, files: &mut F) -> Result<Answer, Refused>
     ensures answers { AnswersBy (IsCorrectFrom (OpensMachine (λ m. Ends (λ answer. answer ≡ Text (picture_of m)))) 0
-        (call (Some (asked ask.now)) (F.told files.old) (F.told files.new))) result }
+        (call (Some (asked_of_ask ask.now)) (F.told files.old) (F.told files.new))) result }
     ensures only_read { OnlyRead (F.told files.old) (F.told files.new) }
 {
     let machine = load_machine(alloc, Operand(0), ask, files)?;
@@ -38,7 +38,7 @@ fn show_machine<F: Files>(alloc: Global, ask: &Ask, files: &mut F) -> Result<Ans
 // What `pair` answers: the picture of the search of two machines.
 fn show_pair<F: Files>(alloc: Global, ask: &Ask, files: &mut F) -> Result<Answer, Refused>
     ensures answers { AnswersBy (IsCorrectFrom (OpensPair (λ a b. Ends (IsOfPicture a b))) 0
-        (call (Some (asked ask.now)) (F.told files.old) (F.told files.new))) result }
+        (call (Some (asked_of_ask ask.now)) (F.told files.old) (F.told files.new))) result }
     ensures only_read { OnlyRead (F.told files.old) (F.told files.new) }
 {
     let Pair {
@@ -52,7 +52,7 @@ fn show_pair<F: Files>(alloc: Global, ask: &Ask, files: &mut F) -> Result<Answer
 // What `why` answers.
 fn show_why<F: Files>(alloc: Global, ask: &Ask, files: &mut F) -> Result<Answer, Refused>
     ensures answers { AnswersBy (IsCorrectFrom (OpensPair (λ a b. Ends (IsOfWhy 10000 a b))) 0
-        (call (Some (asked ask.now)) (F.told files.old) (F.told files.new))) result }
+        (call (Some (asked_of_ask ask.now)) (F.told files.old) (F.told files.new))) result }
     ensures only_read { OnlyRead (F.told files.old) (F.told files.new) }
 {
     let Pair {
@@ -66,7 +66,7 @@ fn show_why<F: Files>(alloc: Global, ask: &Ask, files: &mut F) -> Result<Answer,
 // What `inputs` answers.
 fn show_inputs<F: Files>(alloc: Global, ask: &Ask, files: &mut F) -> Result<Answer, Refused>
     ensures answers { AnswersBy (IsCorrectFrom (OpensPair (λ a b. Ends (IsOfInputs 10000 a b))) 0
-        (call (Some (asked ask.now)) (F.told files.old) (F.told files.new))) result }
+        (call (Some (asked_of_ask ask.now)) (F.told files.old) (F.told files.new))) result }
     ensures only_read { OnlyRead (F.told files.old) (F.told files.new) }
 {
     let Pair {
@@ -90,7 +90,7 @@ fn show_certificate_of<F: Files>(
     requires alike { interface_fault left.now right.now ≡ None }
     ensures answers { AnswersBy (IsCorrectFrom
         (OpensCertificate left.now right.now (λ nodes. Ends (IsOfCertificate left.now right.now nodes))) 2
-        (call (Some (asked ask.now)) (F.told files.old) (F.told files.new))) result }
+        (call (Some (asked_of_ask ask.now)) (F.told files.old) (F.told files.new))) result }
     ensures only_read { OnlyRead (F.told files.old) (F.told files.new) }
 {
     let cert = load_certificate(alloc, Operand(2), ask, left, right, pairing, files)?;
@@ -101,7 +101,7 @@ fn show_certificate_of<F: Files>(
 fn show_certificate<F: Files>(alloc: Global, ask: &Ask, files: &mut F) -> Result<Answer, Refused>
     ensures answers { AnswersBy (IsCorrectFrom
         (OpensPair (λ a b. OpensCertificate a b (λ nodes. Ends (IsOfCertificate a b nodes)))) 0
-        (call (Some (asked ask.now)) (F.told files.old) (F.told files.new))) result }
+        (call (Some (asked_of_ask ask.now)) (F.told files.old) (F.told files.new))) result }
     ensures only_read { OnlyRead (F.told files.old) (F.told files.new) }
 {
     let Pair {
@@ -114,8 +114,8 @@ fn show_certificate<F: Files>(alloc: Global, ask: &Ask, files: &mut F) -> Result
 
 /// What a view answers.
 pub fn answer_view<F: Files>(alloc: Global, show: &Show, files: &mut F) -> Result<Answer, Refused>
-    ensures answers { AnswersBy (IsCorrectFrom (ShownFrom (shown show.now).view) 0
-        (call (Some (shown show.now).asked) (F.told files.old) (F.told files.new))) result }
+    ensures answers { AnswersBy (IsCorrectFrom (ShownFrom (shown_view show.now).view) 0
+        (call (Some (shown_view show.now).asked) (F.told files.old) (F.told files.new))) result }
     ensures only_read { OnlyRead (F.told files.old) (F.told files.new) }
 {
     match show.view {

@@ -2,7 +2,7 @@
 use Rattle.std.specs.Prelude.{◌≡◌, List, [], ◌∷◌, Option, Some, None, codes, option_and_then, if◌then◌else◌}
 use Rattle.std.specs.Str.{bytes_eq}
 use Rattle.clap.specs.Words.{Kinds, Row, Text, subcommand_of, fault_of}
-use Rattle.fsmd_words.specs.AskedWords.{Asked, Check, Verify, Fmt, asked, match_word}
+use Rattle.fsmd_words.specs.AskedWords.{Asked, Check, Verify, Fmt, asked_of_ask, match_word}
 use Rattle.show_words.specs.declared.asking.View.{View}
 use Rattle.show_words.specs.declared.asking.View.TheVariants.{Machine, Pair, Why, Certificate, Inputs}
 use Rattle.show_words.specs.declared.asking.Show.{Show}
@@ -13,8 +13,8 @@ pub record ShownView : Type 0 where
   pub view : View
   pub asked : Asked
 
-abbrev pub shown : Show → ShownView
-shown s = record { view = s.view; asked = asked s.ask }
+abbrev pub shown_view : Show → ShownView
+shown_view s = record { view = s.view; asked = asked_of_ask s.ask }
 
 -- ---- commands, by their matches
 

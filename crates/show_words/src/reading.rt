@@ -3,7 +3,7 @@
 ghost use Rattle.std.specs.Prelude.{◌≡◌, IfOk, IfErr, Some, None};
 ghost use Rattle.clap.specs.Words.{found_of, rows_of};
 ghost use Rattle.fsmd_words.specs.declared.asking.AskError.TheVariants.{Usage};
-ghost use Rattle.show_words.specs.ViewWords.{certificate_of, machine_view_of, pair_view_of, shown, shown_by};
+ghost use Rattle.show_words.specs.ViewWords.{certificate_of, machine_view_of, pair_view_of, shown_view, shown_by};
 
 use crate::asking::{Show, View};
 use crate::matched::word;
@@ -12,7 +12,7 @@ use fsmd_words::asking::{Ask, AskError};
 use std::alloc::{AllocError, Global};
 
 fn machine(alloc: Global, found: &ArgMatches) -> Result<Show, AllocError>
-    ensures { IfOk result (λ show. shown show ≡ machine_view_of (rows_of (found_of found.now))) }
+    ensures { IfOk result (λ show. shown_view show ≡ machine_view_of (rows_of (found_of found.now))) }
 {
     let ask = Ask::Fmt {
         machine: word(alloc, found, "machine")?,
@@ -25,7 +25,7 @@ fn machine(alloc: Global, found: &ArgMatches) -> Result<Show, AllocError>
 
 // A view of two machines, of which `check` is asked.
 fn pair(alloc: Global, view: View, found: &ArgMatches) -> Result<Show, AllocError>
-    ensures { IfOk result (λ show. shown show ≡ pair_view_of view (rows_of (found_of found.now))) }
+    ensures { IfOk result (λ show. shown_view show ≡ pair_view_of view (rows_of (found_of found.now))) }
 {
     let ask = Ask::Check {
         left: word(alloc, found, "left")?,
@@ -37,7 +37,7 @@ fn pair(alloc: Global, view: View, found: &ArgMatches) -> Result<Show, AllocErro
 }
 
 fn certificate(alloc: Global, found: &ArgMatches) -> Result<Show, AllocError>
-    ensures { IfOk result (λ show. shown show ≡ certificate_of (rows_of (found_of found.now))) }
+    ensures { IfOk result (λ show. shown_view show ≡ certificate_of (rows_of (found_of found.now))) }
 {
     let ask = Ask::Verify {
         left: word(alloc, found, "left")?,
@@ -52,7 +52,7 @@ fn certificate(alloc: Global, found: &ArgMatches) -> Result<Show, AllocError>
 
 /// What the command of this name asks to see, by its matches. `Usage` comes only for a name that is no command's.
 pub fn read(alloc: Global, name: &str, found: &ArgMatches) -> Result<Show, AskError>
-    ensures ok { IfOk result (λ show. shown_by name.now (rows_of (found_of found.now)) ≡ Some (shown show)) }
+    ensures ok { IfOk result (λ show. shown_by name.now (rows_of (found_of found.now)) ≡ Some (shown_view show)) }
     ensures usage { IfErr result (λ error. error ≡ Usage → shown_by name.now (rows_of (found_of found.now)) ≡ None) }
 {
     match name {

@@ -12,13 +12,13 @@ use Rattle.nf_terms.specs.RawSums.{raw_negation}
 use Rattle.nf_terms.specs.Computed.{Done}
 use Rattle.nf_terms.specs.declared.symbols.Sort.{Sort}
 use Rattle.fs_model.specs.declared.sides.Pos.{Pos}
-use Rattle.nf_sums.specs.Operations.{subtracted}
+use Rattle.nf_sums.specs.Operations.{normal_difference}
 use Rattle.nf_sums.proofs.Values.{goes_done}
 use Rattle.nf_symbols.proofs.Passing.{front, back, together}
 use Rattle.nf_symbols.proofs.Results.{negation_within, subtracted_within, number_within}
 use Rattle.nf_rel.specs.declared.kind.Kind.TheVariants.{Eq, Ne}
 use Rattle.nf_rel.specs.Literals.{NormalLiteral, True, False, Is, truth, common_divisor, divide_coefficients, begins_positive, signed_number, Form, AtLeastZero}
-use Rattle.nf_rel.specs.Literals.{IsZero, IsNotZero, form_holds, bounded, bounded_by, literal_form, one, against_zero, literal}
+use Rattle.nf_rel.specs.Literals.{IsZero, IsNotZero, form_holds, bounded_literal, bounded_by, literal_form, one, against_zero, literal}
 use Rattle.sym_facts.specs.Pairings.{literal_within}
 
 module _ (test : Pos × Sort → Bool) where
@@ -48,7 +48,7 @@ module _ (test : Pos × Sort → Bool) where
   either_in true l m h g = h
   either_in false l m h g = g
 
-  bounded_in : (f : Form) (positive : Bool) (d : Polynomial) (g : ℕ) (c : ℤ) → In d → LiteralIn (bounded f positive d g c)
+  bounded_in : (f : Form) (positive : Bool) (d : Polynomial) (g : ℕ) (c : ℤ) → In d → LiteralIn (bounded_literal f positive d g c)
   bounded_in AtLeastZero true d g c h = h
   bounded_in AtLeastZero false d g c h = h
   bounded_in IsZero positive d g c h = either_in (int_eq (int_rem_euclid c (pos g)) (pos 0))
@@ -71,15 +71,15 @@ module _ (test : Pos × Sort → Bool) where
   against_in rel.Ne p n h e = form_in IsNotZero p n h e
   against_in rel.Ge p n h e = form_in AtLeastZero p n h e
   against_in rel.Gt p n h e =
-      let s = goes_done (subtracted p one) (λ q. Done (literal_form AtLeastZero q)) n e in
+      let s = goes_done (normal_difference p one) (λ q. Done (literal_form AtLeastZero q)) n e in
       form_in AtLeastZero s.middle n (subtracted_within test p one s.middle h (number_within test (pos 1)) s.first) s.next
   against_in rel.Le p n h e = form_in AtLeastZero (raw_negation p) n (negation_within test p h) e
   against_in rel.Lt p n h e =
-      let s = goes_done (subtracted (raw_negation p) one) (λ q. Done (literal_form AtLeastZero q)) n e in
+      let s = goes_done (normal_difference (raw_negation p) one) (λ q. Done (literal_form AtLeastZero q)) n e in
       form_in AtLeastZero s.middle n
       (subtracted_within test (raw_negation p) one s.middle (negation_within test p h) (number_within test (pos 1)) s.first) s.next
 
   pub literal_in : (relation : Rel) (l r : Polynomial) (n : NormalLiteral) → In l → In r → literal relation l r ≡ Done n → LiteralIn n
   literal_in relation l r n h g e =
-      let s = goes_done (subtracted l r) (against_zero relation) n e in
+      let s = goes_done (normal_difference l r) (against_zero relation) n e in
       against_in relation s.middle n (subtracted_within test l r s.middle h g s.first) s.next

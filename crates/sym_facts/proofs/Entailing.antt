@@ -16,9 +16,9 @@ use Rattle.nf_terms.specs.declared.form.Nf.{Nf}
 use Rattle.nf_terms.specs.declared.form.Nf.TheVariants.{Num, Arr, Seq}
 use Rattle.nf_sums.specs.Operations.{number}
 use Rattle.nf_sums.proofs.Values.{goes_done}
-use Rattle.nf_subst.specs.Vectors.{number_at, array_form, list_at, meaning}
-use Rattle.nf_subst.specs.Substitution.{substituted, array_substituted, list_substituted}
-use Rattle.nf_subst.proofs.Values.{substituted_value, array_value, list_value, number_is}
+use Rattle.nf_substitution.specs.Vectors.{number_at, array_form, list_at, vector_meaning}
+use Rattle.nf_substitution.specs.Substitution.{polynomial_substituted, array_substituted, list_substituted}
+use Rattle.nf_substitution.proofs.Values.{substituted_value, array_value, list_value, number_is}
 use Rattle.nf_rel.specs.declared.kind.Kind.{Kind}
 use Rattle.nf_rel.specs.declared.kind.Kind.TheVariants.{Ge, Le, Eq, Ne}
 use Rattle.nf_rel.specs.Literals.{NormalLiteral, True, False, Is, meets, is_true_in, all_true_in, literal, is_implied}
@@ -67,11 +67,11 @@ met v p f b e h =
     record { form = s.middle; substituted_to = s.first; same = z ∙ h }
 
 module _ (w : Valuation) (post : Post) where
-  equation_true : (p : Pos) (o : Option Nf) (b : Bool) → equation_met post.vector p o ≡ Done b → b ≡ true → EquationHolds (meaning post.vector w) p o
+  equation_true : (p : Pos) (o : Option Nf) (b : Bool) → equation_met post.vector p o ≡ Done b → b ≡ true → EquationHolds (vector_meaning post.vector w) p o
   equation_true p None b e h = tt
   equation_true p (Some (Num q)) b e h =
       let m = met post.vector p (Num q) b e h in
-      let t = goes_done (substituted post.vector q) (λ r. Done (Num r)) m.form m.substituted_to in
+      let t = goes_done (polynomial_substituted post.vector q) (λ r. Done (Num r)) m.form m.substituted_to in
       let k : Num t.middle ≡ m.form = cc t.next in
       ap (value_of w) (numbers_equal (number_at post.vector p) t.middle (ap (same_form (Num (number_at post.vector p))) k ∙ m.same))
       ∙ substituted_value w post.vector q t.middle t.first
@@ -89,7 +89,7 @@ module _ (w : Valuation) (post : Post) where
       ∙ list_value w post.vector l t.middle t.first
 
   equations_true : (ps : List FactPosition) (bs : List Bool) → each (λ p. equation_met post.vector p.pos p.equation) ps ≡ Done bs → AllTrue bs
-      → EquationsHold (meaning post.vector w) ps
+      → EquationsHold (vector_meaning post.vector w) ps
   equations_true [] bs e h = tt
   equations_true (p ∷ ps) bs e h =
       let s = goes_done (equation_met post.vector p.pos p.equation)
@@ -99,25 +99,25 @@ module _ (w : Valuation) (post : Post) where
       let all : AllTrue (s.middle ∷ t.middle) = subst AllTrue k h in
       (equation_true p.pos p.equation s.middle s.first all.0, equations_true ps t.middle t.first all.1)
 
-  substituted_true : (l m : NormalLiteral) → literal_substituted post.vector l ≡ Done m → is_true_in w m ≡ is_true_in (meaning post.vector w) l
+  substituted_true : (l m : NormalLiteral) → literal_substituted post.vector l ≡ Done m → is_true_in w m ≡ is_true_in (vector_meaning post.vector w) l
   substituted_true True m e = let k : True ≡ m = cc e in sym (ap (is_true_in w) k)
   substituted_true False m e = let k : False ≡ m = cc e in sym (ap (is_true_in w) k)
   substituted_true (Is d k b) m e =
-      let s = goes_done (substituted post.vector d) (λ x. after (number b) (λ c. literal (relation_of k) x c)) m e in
+      let s = goes_done (polynomial_substituted post.vector d) (λ x. after (number b) (λ c. literal (relation_of k) x c)) m e in
       let t = goes_done (number b) (λ c. literal (relation_of k) s.middle c) m s.next in
       literal_means (relation_of k) s.middle t.middle m w t.next
       ∙ ap₂ (relates (relation_of k)) (substituted_value w post.vector d s.middle s.first) (number_is w b t.middle t.first)
-      ∙ related k (value_of (meaning post.vector w) d) b
+      ∙ related k (value_of (vector_meaning post.vector w) d) b
 
   literal_true : (l : NormalLiteral) (b : Bool) → all_true_in w post.conditions ≡ true → literal_met post l ≡ Done b → b ≡ true
-      → is_true_in (meaning post.vector w) l ≡ true
+      → is_true_in (vector_meaning post.vector w) l ≡ true
   literal_true l b c e h =
       let u = goes_done (literal_substituted post.vector l) (λ m. Done (is_implied post.conditions m)) b e in
       let i : is_implied post.conditions u.middle ≡ true = (let z : is_implied post.conditions u.middle ≡ b = cc u.next in z ∙ h) in
       sym (substituted_true l u.middle u.first) ∙ implied_true w post.conditions u.middle i c
 
   literals_true : (ls : List NormalLiteral) (bs : List Bool) → all_true_in w post.conditions ≡ true → each (λ l. literal_met post l) ls ≡ Done bs → AllTrue bs
-      → all_true_in (meaning post.vector w) ls ≡ true
+      → all_true_in (vector_meaning post.vector w) ls ≡ true
   literals_true [] bs c e h = refl
   literals_true (l ∷ ls) bs c e h =
       let s = goes_done (literal_met post l) (λ y. after (each (λ x. literal_met post x) ls) (λ ys. Done (y ∷ ys))) bs e in
@@ -127,7 +127,7 @@ module _ (w : Valuation) (post : Post) where
       and_from _ _ (literal_true l s.middle c s.first all.0) (literals_true ls t.middle c t.first all.1)
 
   pub entailed : (f : Fact) (e : Missing) → entails post f ≡ Done e → e.equations ≡ [] → e.literals ≡ [] → all_true_in w post.conditions ≡ true
-      → HoldsIn (meaning post.vector w) f
+      → HoldsIn (vector_meaning post.vector w) f
   entailed f e g none_e none_l c =
       let s = goes_done (each (λ p. equation_met post.vector p.pos p.equation) f.positions)
       (λ es. after (each (λ l. literal_met post l) f.literals) (λ ls. Done (record { equations = false_places 0 es; literals = false_places 0 ls }))) e g in

@@ -18,8 +18,9 @@ use Rattle.nf_terms.specs.declared.tree.Base.TheVariants as base
 use Rattle.nf_terms.specs.declared.tree.SeqBase.TheVariants as list
 use Rattle.nf_terms.specs.declared.form.Nf.{Nf}
 use Rattle.nf_terms.specs.declared.form.Nf.TheVariants.{Num, Arr, Seq}
-use Rattle.nf_subst.specs.Vectors.{same_sort, form_at, number_or, array_or, list_or, number_at, array_form, list_at, meaning}
-use Rattle.nf_subst.specs.SamePlaces.{pos_equal}
+use Rattle.nf_terms.specs.TermSorts.{same_term_sort}
+use Rattle.nf_substitution.specs.Vectors.{form_at, number_or, array_or, list_or, number_at, array_form, list_at, vector_meaning}
+use Rattle.nf_substitution.specs.SamePlaces.{pos_equal}
 use Rattle.sym_facts.specs.Facts.{FactPosition, own_symbol, form_or_symbol, vector_of, EquationHolds, EquationsHold}
 
 pub valuation_ext : (v w : Valuation) → ((p : Pos) → v.scalar p ≡ w.scalar p) → ((p : Pos) → v.array p ≡ w.array p) → ((p : Pos) → v.list p ≡ w.list p) → v ≡ w
@@ -29,8 +30,8 @@ pub symbol_value : (w : Valuation) (p : Pos) → value_of w (polynomial_of_symbo
 symbol_value w p = omega (arith, ints)
 
 -- an entry of another sort is passed over
-other_sort : (s : TermSort) (q p : Pos) (f : Nf) (v : List (Pos × Nf)) → same_sort s (sort_of_form f) ≡ false → form_at s p ((q, f) ∷ v) ≡ form_at s p v
-other_sort s q p f v e = ap (λ b. cond {A = Option Nf} b (Some f) (form_at s p v)) (and_right (same_pos p q) (same_sort s (sort_of_form f)) e)
+other_sort : (s : TermSort) (q p : Pos) (f : Nf) (v : List (Pos × Nf)) → same_term_sort s (sort_of_form f) ≡ false → form_at s p ((q, f) ∷ v) ≡ form_at s p v
+other_sort s q p f v e = ap (λ b. cond {A = Option Nf} b (Some f) (form_at s p v)) (and_right (same_pos p q) (same_term_sort s (sort_of_form f)) e)
 
 module _ (w : Valuation) where
   abbrev number_in : Pos → Option Nf → ℤ
@@ -96,5 +97,5 @@ module _ (w : Valuation) where
   lists_own (q ∷ ps) h p = list_first q.pos p (form_or_symbol q.sort q.pos q.equation) (vector_of ps) (form_holds q.sort q.pos q.equation h.0)
       (lists_own ps h.1 p)
 
-  pub vector_means : (ps : List FactPosition) → EquationsHold w ps → meaning (vector_of ps) w ≡ w
-  vector_means ps h = valuation_ext (meaning (vector_of ps) w) w (numbers_own ps h) (arrays_own ps h) (lists_own ps h)
+  pub vector_means : (ps : List FactPosition) → EquationsHold w ps → vector_meaning (vector_of ps) w ≡ w
+  vector_means ps h = valuation_ext (vector_meaning (vector_of ps) w) w (numbers_own ps h) (arrays_own ps h) (lists_own ps h)

@@ -11,26 +11,27 @@ use Rattle.base_lemmas.proofs.Booleans.{and_first, and_second, one_or_none_more}
 use Rattle.fs_model.specs.declared.parts.Sort.{Sort}
 use Rattle.fs_model.specs.declared.parts.Sort.TheVariants as sort
 use Rattle.fs_pair.specs.declared.positions.Position.{Position}
-use Rattle.fs_pair.specs.SidedVariables.{all_sided_variables, same_side as same}
+use Rattle.fs_pair.specs.SidedVariables.{all_sided_variables}
 use Rattle.fs_pair.specs.Positions.{positions, position_of}
 use Rattle.fs_pair.specs.Partners.{is_position_of, variables_on}
 use Rattle.fs_pair.specs.Paired.{IsPairing}
 use Rattle.fs_pair.proofs.Lengths.{length_sided}
 use Rattle.fs_pair.proofs.Once.{many, position_once}
 use Rattle.fs_pair.proofs.Variables.{stands_for}
-use Rattle.nf_terms.specs.Mentions.{same_side, same_pos}
+use Rattle.nf_terms.specs.Mentions.{same_pos}
 use Rattle.fs_model.specs.declared.sides.Pos.{Pos}
 use Rattle.fs_model.specs.declared.sides.Side.{Side}
 use Rattle.fs_model.specs.declared.sides.Side.TheVariants.{Left, Right}
+use Rattle.fs_model.specs.Sides.{same_side as same, same_side}
 use Rattle.nf_terms.specs.Forms.{sort_of_form}
 use Rattle.nf_terms.specs.declared.symbols.Sort.{Sort as TermSort}
 use Rattle.nf_terms.specs.declared.form.Nf.{Nf}
-use Rattle.nf_subst.specs.SamePlaces.{own_pos, sorts_equal}
+use Rattle.nf_substitution.specs.SamePlaces.{own_pos, sorts_equal}
 use Rattle.nf_rel.specs.Literals.{NormalLiteral}
 use Rattle.sym_facts.specs.Facts.{FactPosition, Fact, IsFact, sort_of_terms, form_or_symbol, vector_of, has_its_sort, is_unsolved, may_be_kept, most_literals}
 use Rattle.sym_facts.specs.Pairings.{is_position, form_within, literal_within, IsFactOf}
 use Rattle.sym_facts.specs.Starts.{start_fact, start_position}
-use Rattle.sym_facts.specs.FactParts.{with_equations, fact_of, equation_within, first_unsolved, are_distinct_positions, most_positions, IsKept}
+use Rattle.sym_facts.specs.FactParts.{with_equations, fact_of, equation_within, first_unsolved, are_distinct_positions, most_sorted_positions, IsKept}
 use Rattle.sym_facts.proofs.StartSolved.{solved, listed, symbol_within}
 use Rattle.sym_facts.proofs.Vectors.{turned, positions_again}
 
@@ -80,7 +81,7 @@ all_positions_differ ps h = subst (λ qs. are_distinct_positions (map (λ p. p.p
         let within = slice_get_within (variables_on q.pos.side h.left h.right) q.pos.var v.variable v.is.is in
         omega (arith, many_counts (at_same q) (positions h.left h.right), position_once h.left h.right h.left_sound h.right_sound q.pos.side q.pos.var within)
 
-pub few_positions : (ps : List Position) → IsPairing ps → length ps ≤ most_positions
+pub few_positions : (ps : List Position) → IsPairing ps → length ps ≤ most_sorted_positions
 few_positions ps h =
     let ss = all_sided_variables h.left.variables h.right.variables in
     omega (
@@ -183,7 +184,7 @@ parts_kept ps fs ls p e s few kept u = record {
 }
 
 pub few_parts : (ps : List Position) (fs : List (Option Nf)) (qs : List FactPosition) → IsPairing ps → length fs ≡ length ps → qs ≡ with_equations ps fs
-    → length qs ≤ most_positions
+    → length qs ≤ most_sorted_positions
 few_parts ps fs qs p e i =
     omega (
       arith,

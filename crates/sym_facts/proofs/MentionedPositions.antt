@@ -9,11 +9,12 @@ use Rattle.std.proofs.lemmas.List.{length-set, get_or-set_other, length-replicat
 use Rattle.std.proofs.lemmas.List.Folds.{list_all-append}
 use Rattle.base_lemmas.proofs.Booleans.{or_false, or_true}
 use Rattle.nf_terms.specs.Forms.{mentions_form}
-use Rattle.nf_terms.specs.Mentions.{same_side, same_pos, mentions}
+use Rattle.nf_terms.specs.Mentions.{same_pos, mentions}
 use Rattle.nf_terms.specs.declared.symbols.Sort.{Sort}
 use Rattle.fs_model.specs.declared.sides.Pos.{Pos}
 use Rattle.fs_model.specs.declared.sides.Side.{Side}
 use Rattle.fs_model.specs.declared.sides.Side.TheVariants.{Left, Right}
+use Rattle.fs_model.specs.Sides.{same_side}
 use Rattle.nf_terms.specs.declared.form.Nf.{Nf}
 use Rattle.nf_symbols.specs.SymbolTests.{is_other}
 use Rattle.nf_symbols.proofs.Mentioned.{form_other, number_other}

@@ -16,8 +16,8 @@ use Rattle.nf_terms.specs.declared.form.Nf.{Nf}
 use Rattle.nf_terms.specs.declared.form.Nf.TheVariants.{Num, Arr, Seq}
 use Rattle.nf_sums.specs.Operations.{number}
 use Rattle.nf_sums.proofs.Values.{goes_done}
-use Rattle.nf_subst.specs.Vectors.{is_entry_at, form_at, number_or, array_or, list_or}
-use Rattle.nf_subst.specs.Substitution.{substituted, array_substituted, list_substituted}
+use Rattle.nf_substitution.specs.Vectors.{is_entry_at, form_at, number_or, array_or, list_or}
+use Rattle.nf_substitution.specs.Substitution.{polynomial_substituted, array_substituted, list_substituted}
 use Rattle.nf_symbols.specs.SymbolTests.{LeadsTo}
 use Rattle.nf_symbols.proofs.Results.{number_done_within}
 use Rattle.nf_symbols.proofs.Substituted.{polynomial_over, array_term_over, list_over}
@@ -75,7 +75,7 @@ module _ (test : Pos × Sort → Bool) where
 module _ (from to : Pos × Sort → Bool) (v : List (Pos × Nf)) (leads : LeadsTo from to v) where
   pub form_over : (f g : Nf) → form_within from f ≡ true → form_substituted v f ≡ Done g → form_within to g ≡ true
   form_over (Num p) g h e =
-      let s = goes_done (substituted v p) (λ q. Done (Num q)) g e in
+      let s = goes_done (polynomial_substituted v p) (λ q. Done (Num q)) g e in
       let k : Num s.middle ≡ g = cc s.next in
       ap (form_within to) (sym k) ∙ polynomial_over from to v leads p s.middle h s.first
   form_over (Arr a) g h e =
@@ -91,6 +91,6 @@ module _ (from to : Pos × Sort → Bool) (v : List (Pos × Nf)) (leads : LeadsT
   literal_over True m h e = let k : True ≡ m = cc e in ap (literal_within to) (sym k)
   literal_over False m h e = let k : False ≡ m = cc e in ap (literal_within to) (sym k)
   literal_over (Is c j n) m h e =
-      let s = goes_done (substituted v c) (λ x. after (number n) (λ y. literal (relation_of j) x y)) m e in
+      let s = goes_done (polynomial_substituted v c) (λ x. after (number n) (λ y. literal (relation_of j) x y)) m e in
       let t = goes_done (number n) (λ y. literal (relation_of j) s.middle y) m s.next in
       literal_in to (relation_of j) s.middle t.middle m (polynomial_over from to v leads c s.middle h s.first) (number_done_within to n t.middle t.first) t.next

@@ -5,13 +5,13 @@ use Rattle.std.specs.List.{list_all, slice_index_or}
 use Rattle.std.proofs.lemmas.Bool.{and_from}
 use Rattle.base_lemmas.proofs.Booleans.{and_first, and_second}
 use Rattle.base_lemmas.proofs.Quantifiers.{list_all_weaker}
+use Rattle.fs_rules.specs.SoundParts.{IsSound, scalar_at, array_at, port_at, input_at, is_text_number, scalars_in, arrays_in, scalars_in_assignment}
+use Rattle.fs_rules.specs.SoundParts.{arrays_in_assignment, port_in, numbers_in_assignment, changed_by}
 use Rattle.fs_model.specs.Machines.{Fsmd, transitions_of}
 use Rattle.fs_model.specs.Terms.{Term, Number, Variable, Read, Sum, Difference, Product, Quotient, Remainder, Negative, Literal, Assignment, Assign, ArrayWrite}
 use Rattle.fs_model.specs.Terms.{Emit}
 use Rattle.fs_model.specs.Trees.{Branch, branches_of}
 use Rattle.fs_model.specs.PartFolds.{scalars, arrays, numbers, uses_in_literal}
-use Rattle.fs_ast.specs.SoundMachines.{IsSound, scalar_at, array_at, port_at, input_at, is_text_number, scalars_in, arrays_in, scalars_in_assignment}
-use Rattle.fs_ast.specs.SoundMachines.{arrays_in_assignment, port_in, numbers_in_assignment, changed_by}
 use Rattle.fs_ast.specs.Branches.{is_sound_literal, is_sound_assignment}
 use Rattle.fs_ast.proofs.Lifted.{branch_sound}
 use Rattle.fs_cut.specs.Paths.{Path, BranchStep, state_of, branch_at, steps_in}
@@ -28,12 +28,12 @@ use Rattle.fs_model.specs.declared.sides.Side.{Side}
 use Rattle.fs_model.specs.declared.sides.Side.TheVariants.{Left, Right}
 use Rattle.nf_terms.specs.declared.form.Nf.{Nf}
 use Rattle.nf_terms.specs.declared.form.Nf.TheVariants.{Num, Arr, Seq}
-use Rattle.nf_sums.specs.Operations.{added, subtracted, multiplied, negated}
+use Rattle.nf_sums.specs.Operations.{normal_sum, normal_difference, normal_product, normal_negation}
 use Rattle.nf_sums.proofs.Values.{goes_done}
-use Rattle.nf_arrays.specs.NewAtoms.{divided, remainder_of}
+use Rattle.nf_arrays.specs.NewAtoms.{quotient_of, remainder_of}
 use Rattle.nf_arrays.specs.Writes.{write_array, read_at}
-use Rattle.nf_arrays.specs.Pushes.{pushed}
-use Rattle.nf_subst.specs.Vectors.{number_at, array_form as array_form, list_at, with_form}
+use Rattle.nf_arrays.specs.Pushes.{list_with_item}
+use Rattle.nf_substitution.specs.Vectors.{number_at, array_form, list_at, with_form}
 use Rattle.nf_symbols.proofs.Passing.{front, back, together}
 use Rattle.nf_symbols.proofs.Results.{added_within, subtracted_within, multiplied_within, negation_within, number_done_within}
 use Rattle.nf_symbols.proofs.Writing.{read_within, written_within, pushed_within, quotient_within, remainder_within}
@@ -71,22 +71,22 @@ module _ (test : Pos × TermSort → Bool) (side : Side) (v : List (Pos × Nf)) 
       ((forms_lead test v within).arrays (at side x) (and_first (array_in x) (list_all array_in (arrays_in i)) g))
       (evaluated_in i s.middle h (and_second (array_in x) (list_all array_in (arrays_in i)) g) s.first) s.next
   evaluated_in (Sum p q) r h g e =
-      let o = operands side v p q (λ x y. added x y) r e in
+      let o = operands side v p q (λ x y. normal_sum x y) r e in
       added_within test o.left o.right r
       (evaluated_in p o.left (front scalar_in (scalars_in p) (scalars_in q) h) (front array_in (arrays_in p) (arrays_in q) g) o.left_done)
       (evaluated_in q o.right (back scalar_in (scalars_in p) (scalars_in q) h) (back array_in (arrays_in p) (arrays_in q) g) o.right_done) o.done
   evaluated_in (Difference p q) r h g e =
-      let o = operands side v p q (λ x y. subtracted x y) r e in
+      let o = operands side v p q (λ x y. normal_difference x y) r e in
       subtracted_within test o.left o.right r
       (evaluated_in p o.left (front scalar_in (scalars_in p) (scalars_in q) h) (front array_in (arrays_in p) (arrays_in q) g) o.left_done)
       (evaluated_in q o.right (back scalar_in (scalars_in p) (scalars_in q) h) (back array_in (arrays_in p) (arrays_in q) g) o.right_done) o.done
   evaluated_in (Product p q) r h g e =
-      let o = operands side v p q (λ x y. multiplied x y) r e in
+      let o = operands side v p q (λ x y. normal_product x y) r e in
       multiplied_within test o.left o.right r
       (evaluated_in p o.left (front scalar_in (scalars_in p) (scalars_in q) h) (front array_in (arrays_in p) (arrays_in q) g) o.left_done)
       (evaluated_in q o.right (back scalar_in (scalars_in p) (scalars_in q) h) (back array_in (arrays_in p) (arrays_in q) g) o.right_done) o.done
   evaluated_in (Quotient p q) r h g e =
-      let o = operands side v p q (λ x y. divided x y) r e in
+      let o = operands side v p q (λ x y. quotient_of x y) r e in
       quotient_within test o.left o.right r
       (evaluated_in p o.left (front scalar_in (scalars_in p) (scalars_in q) h) (front array_in (arrays_in p) (arrays_in q) g) o.left_done)
       (evaluated_in q o.right (back scalar_in (scalars_in p) (scalars_in q) h) (back array_in (arrays_in p) (arrays_in q) g) o.right_done) o.done
@@ -96,8 +96,8 @@ module _ (test : Pos × TermSort → Bool) (side : Side) (v : List (Pos × Nf)) 
       (evaluated_in p o.left (front scalar_in (scalars_in p) (scalars_in q) h) (front array_in (arrays_in p) (arrays_in q) g) o.left_done)
       (evaluated_in q o.right (back scalar_in (scalars_in p) (scalars_in q) h) (back array_in (arrays_in p) (arrays_in q) g) o.right_done) o.done
   evaluated_in (Negative p) r h g e =
-      let s = goes_done (evaluate side v p) (λ x. Done (negated x)) r e in
-      let k : negated s.middle ≡ r = cc s.next in
+      let s = goes_done (evaluate side v p) (λ x. Done (normal_negation x)) r e in
+      let k : normal_negation s.middle ≡ r = cc s.next in
       ap (λ z. list_all test (symbols_of z)) (sym k) ∙ negation_within test s.middle (evaluated_in p s.middle h g s.first)
 
   literal_in : (l : Literal ℕ) (n : NormalLiteral) → list_all scalar_in (uses_in_literal scalars l) ≡ true → list_all array_in (uses_in_literal arrays l) ≡ true
@@ -231,7 +231,7 @@ module _ (a b : Fsmd) (sound : IsSound a) (other : IsSound b) where
         ((forms_lead (is_position ps) u is.symbols).arrays (at side x) f.0) f.1 f.2 s.first in
         subst (IsVectorOf ps) k (put_is_vector (at side x) (Arr s.middle) ps u is f.0 i)
     change_keeps (PushTo x p) u r f is e =
-        let s = goes_done (pushed (list_at u (at side x)) p) (λ t. Done (with_form (at side x) (Seq t) u)) r e in
+        let s = goes_done (list_with_item (list_at u (at side x)) p) (λ t. Done (with_form (at side x) (Seq t) u)) r e in
         let k : with_form (at side x) (Seq s.middle) u ≡ r = cc s.next in
         let i = pushed_within (is_position ps) (list_at u (at side x)) s.middle p
         ((forms_lead (is_position ps) u is.symbols).lists (at side x) f.0) f.1 s.first in

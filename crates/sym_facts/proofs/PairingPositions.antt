@@ -6,14 +6,13 @@ use Rattle.std.specs.List.{list_all, list_any}
 use Rattle.std.proofs.lemmas.List.Sums.{length-filter}
 use Rattle.std.proofs.lemmas.Bool.{or_left, and_from, or_right, eqb-true}
 use Rattle.base_lemmas.proofs.Booleans.{and_first, and_second}
+use Rattle.fs_rules.specs.SoundParts.{IsSound, has_sort, scalar_at, array_at, port_at}
 use Rattle.fs_model.specs.declared.parts.Sort.{Sort}
 use Rattle.fs_model.specs.declared.parts.Sort.TheVariants.{Scalar, Array, Port}
 use Rattle.fs_model.specs.declared.parts.VarInfo.{VarInfo}
 use Rattle.fs_model.specs.Machines.{Fsmd}
 use Rattle.fs_model.specs.Runs.{is_scalar, is_array, is_port}
-use Rattle.fs_ast.specs.SoundMachines.{IsSound, has_sort, scalar_at, array_at, port_at}
 use Rattle.fs_pair.specs.declared.positions.Position.{Position}
-use Rattle.fs_pair.specs.SidedVariables.{same_side}
 use Rattle.fs_pair.specs.Positions.{positions}
 use Rattle.fs_pair.specs.Partners.{variables_on, is_position_of as stands_at}
 use Rattle.fs_pair.proofs.Tests.{same_side_is}
@@ -25,9 +24,11 @@ use Rattle.nf_terms.specs.declared.symbols.Sort.{Sort as TermSort}
 use Rattle.nf_terms.specs.declared.symbols.Sort.TheVariants as term
 use Rattle.fs_model.specs.declared.sides.Pos.{Pos}
 use Rattle.fs_model.specs.declared.sides.Side.{Side}
+use Rattle.fs_model.specs.Sides.{same_side}
 use Rattle.nf_terms.specs.declared.form.Nf.{Nf}
-use Rattle.nf_subst.specs.Vectors.{same_sort, is_entry_at, with_form}
-use Rattle.nf_subst.specs.SamePlaces.{pos_equal, own_pos, sorts_equal, own_sort}
+use Rattle.nf_terms.specs.TermSorts.{same_term_sort}
+use Rattle.nf_substitution.specs.Vectors.{is_entry_at, with_form}
+use Rattle.nf_substitution.specs.SamePlaces.{pos_equal, own_pos, sorts_equal, own_sort}
 use Rattle.sym_paths.specs.ValuationStores.{at}
 use Rattle.sym_facts.specs.Facts.{sort_of_terms}
 use Rattle.sym_facts.specs.Pairings.{is_position, form_within, IsVectorOf}
@@ -110,17 +111,17 @@ present : (ps : List Position) (v : List (Pos × Nf)) → map (λ e. e.0) v ≡ 
     → list_any (is_entry_at s q) v ≡ true
 present [] v m n q s h = absurd (cc h)
 present (p ∷ ps) [] m n q s h = absurd (cc m)
-present (p ∷ ps) (e ∷ v) m n q s h = by_test (same_pos p.pos q && same_sort (sort_of_terms p.sort) s) refl h (λ g. present ps v (cc m) (cc n) q s g)
+present (p ∷ ps) (e ∷ v) m n q s h = by_test (same_pos p.pos q && same_term_sort (sort_of_terms p.sort) s) refl h (λ g. present ps v (cc m) (cc n) q s g)
   where
-    by_test : (t : Bool) → same_pos p.pos q && same_sort (sort_of_terms p.sort) s ≡ t → t || is_position ps (q, s) ≡ true
+    by_test : (t : Bool) → same_pos p.pos q && same_term_sort (sort_of_terms p.sort) s ≡ t → t || is_position ps (q, s) ≡ true
         → (is_position ps (q, s) ≡ true → list_any (is_entry_at s q) v ≡ true) → list_any (is_entry_at s q) (e ∷ v) ≡ true
     by_test true g k again =
         let i : e.0 ≡ p.pos = cc m in
         let j : sort_of_form e.1 ≡ sort_of_terms p.sort = cc n in
-        let x : e.0 ≡ q = i ∙ pos_equal p.pos q (and_first (same_pos p.pos q) (same_sort (sort_of_terms p.sort) s) g) in
-        let y : sort_of_form e.1 ≡ s = j ∙ sorts_equal (sort_of_terms p.sort) s (and_second (same_pos p.pos q) (same_sort (sort_of_terms p.sort) s) g) in
+        let x : e.0 ≡ q = i ∙ pos_equal p.pos q (and_first (same_pos p.pos q) (same_term_sort (sort_of_terms p.sort) s) g) in
+        let y : sort_of_form e.1 ≡ s = j ∙ sorts_equal (sort_of_terms p.sort) s (and_second (same_pos p.pos q) (same_term_sort (sort_of_terms p.sort) s) g) in
         or_left (is_entry_at s q e) (list_any (is_entry_at s q) v)
-        (and_from (same_pos q e.0) (same_sort s (sort_of_form e.1)) (ap (same_pos q) x ∙ own_pos q) (ap (same_sort s) y ∙ own_sort s))
+        (and_from (same_pos q e.0) (same_term_sort s (sort_of_form e.1)) (ap (same_pos q) x ∙ own_pos q) (ap (same_term_sort s) y ∙ own_sort s))
     by_test false g k again = or_right (is_entry_at s q e) (list_any (is_entry_at s q) v) (again k)
 
 module _ (p : Pos) (f : Nf) where
@@ -143,7 +144,7 @@ module _ (p : Pos) (f : Nf) where
           → (list_any (is_entry_at (sort_of_form f) p) v ≡ true → map (λ x. sort_of_form x.1) (with_form p f v) ≡ map (λ x. sort_of_form x.1) v)
           → map (λ x. sort_of_form x.1) (cond t ((e.0, f) ∷ v) (e ∷ with_form p f v)) ≡ map (λ x. sort_of_form x.1) (e ∷ v)
       by_test true i g again = ap (λ s. s ∷ map (λ x. sort_of_form x.1) v)
-          (sorts_equal (sort_of_form f) (sort_of_form e.1) (and_second (same_pos p e.0) (same_sort (sort_of_form f) (sort_of_form e.1)) i))
+          (sorts_equal (sort_of_form f) (sort_of_form e.1) (and_second (same_pos p e.0) (same_term_sort (sort_of_form f) (sort_of_form e.1)) i))
       by_test false i g again = ap (λ l. sort_of_form e.1 ∷ l) (again g)
 
   put_within : (test : Pos × TermSort → Bool) (v : List (Pos × Nf)) → form_within test f ≡ true → list_all (λ e. form_within test e.1) v ≡ true

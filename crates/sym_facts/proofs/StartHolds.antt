@@ -4,6 +4,7 @@ use Rattle.std.specs.Prelude.{not, ◌&&◌, option_map, slice_get}
 use Rattle.std.specs.Str.{bytes_eq}
 use Rattle.std.proofs.lemmas.Slice.Eq.{bytes_eq-Decides}
 use Rattle.base_lemmas.proofs.Options.{option_or_second}
+use Rattle.fs_rules.specs.SoundParts.{IsSound}
 use Rattle.fs_model.specs.declared.parts.Role.{Role}
 use Rattle.fs_model.specs.declared.parts.Role.TheVariants.{Input, Output, Local}
 use Rattle.fs_model.specs.declared.parts.Sort.{Sort}
@@ -11,10 +12,8 @@ use Rattle.fs_model.specs.declared.parts.Sort.TheVariants.{Scalar, Array, Port}
 use Rattle.fs_model.specs.declared.parts.VarInfo.{VarInfo}
 use Rattle.fs_model.specs.Machines.{Fsmd}
 use Rattle.fs_model.specs.Runs.{Inputs, start, first_scalar, first_array, is_input, is_scalar, is_array}
-use Rattle.fs_ast.specs.SoundMachines.{IsSound}
 use Rattle.fs_pair.specs.declared.positions.Position.{Position}
 use Rattle.fs_pair.specs.Interfaces.{is_interface, same_role, same_sort, variable_named, is_like, first_unmatched, interface_fault}
-use Rattle.fs_pair.specs.SidedVariables.{same_side}
 use Rattle.fs_pair.specs.Positions.{positions}
 use Rattle.fs_pair.specs.Partners.{variables_on, IsVariable, HasPartner}
 use Rattle.fs_pair.proofs.Once.{own_number}
@@ -25,6 +24,7 @@ use Rattle.nf_terms.specs.TermMeaning.{Valuation}
 use Rattle.fs_model.specs.declared.sides.Pos.{Pos}
 use Rattle.fs_model.specs.declared.sides.Side.{Side}
 use Rattle.fs_model.specs.declared.sides.Side.TheVariants as side
+use Rattle.fs_model.specs.Sides.{same_side}
 use Rattle.sym_paths.specs.ValuationStores.{choose_side, pair}
 use Rattle.sym_facts.specs.Facts.{own_symbol, EquationHolds, EquationsHold, Holds}
 use Rattle.sym_facts.specs.Starts.{zero_of, input_form, start_form, partner_in, start_position, start_fact}

@@ -3,12 +3,12 @@ use Rattle.std.proofs.Common.{◌≡◌, ℕ, zero, suc, List, [], ◌∷◌, ma
 use Rattle.std.specs.Prelude.{not, ◌&&◌, ◌||◌, is_none, slice_get}
 use Rattle.std.specs.List.{list_all, list_any}
 use Rattle.std.proofs.lemmas.Bool.{or_from, or_left, and_from, or_right}
+use Rattle.fs_rules.specs.SoundParts.{IsSound}
 use Rattle.fs_model.specs.declared.parts.Role.{Role}
 use Rattle.fs_model.specs.declared.parts.Role.TheVariants.{Input, Output, Local}
 use Rattle.fs_model.specs.declared.parts.Sort.{Sort}
 use Rattle.fs_model.specs.declared.parts.Sort.TheVariants.{Scalar, Array, Port}
 use Rattle.fs_model.specs.Machines.{Fsmd}
-use Rattle.fs_ast.specs.SoundMachines.{IsSound}
 use Rattle.fs_pair.specs.declared.positions.Position.{Position}
 use Rattle.fs_pair.specs.Interfaces.{interface_fault}
 use Rattle.fs_pair.specs.Positions.{positions}
@@ -18,11 +18,11 @@ use Rattle.nf_terms.specs.Mentions.{same_pos}
 use Rattle.nf_terms.specs.Forms.{mentions_form, sort_of_form}
 use Rattle.nf_terms.specs.declared.form.Nf.{Nf}
 use Rattle.nf_terms.specs.declared.symbols.Sort.{Sort as TermSort}
+use Rattle.nf_terms.specs.TermSorts.{same_term_sort}
 use Rattle.fs_model.specs.declared.sides.Pos.{Pos}
 use Rattle.fs_model.specs.declared.sides.Side.{Side}
 use Rattle.fs_model.specs.declared.sides.Side.TheVariants as side
-use Rattle.nf_subst.specs.Vectors.{same_sort}
-use Rattle.nf_subst.specs.SamePlaces.{pos_equal, own_pos, own_sort}
+use Rattle.nf_substitution.specs.SamePlaces.{pos_equal, own_pos, own_sort}
 use Rattle.sym_facts.specs.Facts.{sort_of_terms, own_symbol, form_or_symbol, vector_of, equation_mentions, is_mentioned, is_unsolved, has_its_sort, IsFact}
 use Rattle.sym_facts.specs.Pairings.{is_position, form_within, IsFactOf}
 use Rattle.sym_facts.specs.Starts.{zero_of, start_form, partner_in, start_position, start_fact}
@@ -59,7 +59,7 @@ zero_sort_of Array = refl
 zero_sort_of Port = refl
 
 of_its_sort : (s : Sort) (f : Nf) → sort_of_form f ≡ sort_of_terms s → has_its_sort s (Some f) ≡ true
-of_its_sort s f e = ap (same_sort (sort_of_terms s)) e ∙ own_sort (sort_of_terms s)
+of_its_sort s f e = ap (same_term_sort (sort_of_terms s)) e ∙ own_sort (sort_of_terms s)
 
 zero_within : (test : Pos × TermSort → Bool) (s : Sort) → form_within test (zero_of s) ≡ true
 zero_within test Scalar = refl
@@ -87,11 +87,11 @@ listed [] k p s e h = absurd (cc e)
 listed (q ∷ ps) zero p s e h =
     let i : q ≡ p = cc e in
     let same : sort_of_terms q.sort ≡ sort_of_terms s = ap sort_of_terms (ap (λ (z : Position). z.sort) i ∙ h) in
-    let here : same_pos q.pos p.pos && same_sort (sort_of_terms q.sort) (sort_of_terms s) ≡ true =
-    and_from (same_pos q.pos p.pos) (same_sort (sort_of_terms q.sort) (sort_of_terms s)) (ap (λ (z : Position). same_pos z.pos p.pos) i ∙ own_pos p.pos)
-    (ap (λ z. same_sort z (sort_of_terms s)) same ∙ own_sort (sort_of_terms s)) in
-    or_left (same_pos q.pos p.pos && same_sort (sort_of_terms q.sort) (sort_of_terms s)) (is_position ps (p.pos, sort_of_terms s)) here
-listed (q ∷ ps) (suc k) p s e h = or_right (same_pos q.pos p.pos && same_sort (sort_of_terms q.sort) (sort_of_terms s))
+    let here : same_pos q.pos p.pos && same_term_sort (sort_of_terms q.sort) (sort_of_terms s) ≡ true =
+    and_from (same_pos q.pos p.pos) (same_term_sort (sort_of_terms q.sort) (sort_of_terms s)) (ap (λ (z : Position). same_pos z.pos p.pos) i ∙ own_pos p.pos)
+    (ap (λ z. same_term_sort z (sort_of_terms s)) same ∙ own_sort (sort_of_terms s)) in
+    or_left (same_pos q.pos p.pos && same_term_sort (sort_of_terms q.sort) (sort_of_terms s)) (is_position ps (p.pos, sort_of_terms s)) here
+listed (q ∷ ps) (suc k) p s e h = or_right (same_pos q.pos p.pos && same_term_sort (sort_of_terms q.sort) (sort_of_terms s))
     (is_position ps (p.pos, sort_of_terms s)) (listed ps k p s e h)
 
 module _ (a b : Fsmd) where

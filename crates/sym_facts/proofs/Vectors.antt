@@ -6,8 +6,9 @@ use Rattle.nf_terms.specs.Mentions.{same_pos}
 use Rattle.nf_terms.specs.Forms.{sort_of_form}
 use Rattle.fs_model.specs.declared.sides.Pos.{Pos}
 use Rattle.nf_terms.specs.declared.form.Nf.{Nf}
-use Rattle.nf_subst.specs.Vectors.{same_sort, with_form}
-use Rattle.nf_subst.specs.SamePlaces.{pos_equal, own_pos}
+use Rattle.nf_terms.specs.TermSorts.{same_term_sort}
+use Rattle.nf_substitution.specs.Vectors.{with_form}
+use Rattle.nf_substitution.specs.SamePlaces.{pos_equal, own_pos}
 use Rattle.sym_facts.specs.Facts.{FactPosition, vector_of}
 use Rattle.sym_facts.specs.FactParts.{are_distinct_positions}
 
@@ -39,7 +40,7 @@ with_last (e ∷ done) rest p f h =
     let first = not (list_any (same_pos e.0) (map (λ d. d.0) done ++ p ∷ rest)) in
     let others = are_distinct_positions (map (λ d. d.0) done ++ p ∷ rest) in
     let other : same_pos p e.0 ≡ false = turned p e.0 (none_at_end (same_pos e.0) (map (λ d. d.0) done) rest p (and_first first others h)) in
-    ap (λ b. cond (b && same_sort (sort_of_form f) (sort_of_form e.1)) ((e.0, f) ∷ done) (e ∷ with_form p f done)) other
+    ap (λ b. cond (b && same_term_sort (sort_of_form f) (sort_of_form e.1)) ((e.0, f) ∷ done) (e ∷ with_form p f done)) other
     ∙ ap (λ es. e ∷ es) (with_last done rest p f (and_second first others h))
 
 pub positions_again : (ps : List FactPosition) → map (λ e. e.0) (vector_of ps) ≡ map (λ p. p.pos) ps

@@ -8,8 +8,8 @@ use Rattle.fs_model.specs.declared.sides.Pos.{Pos}
 use Rattle.nf_terms.specs.declared.form.Nf.{Nf}
 use Rattle.nf_terms.specs.declared.form.Nf.TheVariants.{Num, Arr, Seq}
 use Rattle.nf_sums.specs.Operations.{number}
-use Rattle.nf_subst.specs.Vectors.{number_at, array_form, list_at}
-use Rattle.nf_subst.specs.Substitution.{substituted, array_substituted, list_substituted}
+use Rattle.nf_substitution.specs.Vectors.{number_at, array_form, list_at}
+use Rattle.nf_substitution.specs.Substitution.{polynomial_substituted, array_substituted, list_substituted}
 use Rattle.nf_rel.specs.declared.kind.Kind.{Kind}
 use Rattle.nf_rel.specs.declared.kind.Kind.TheVariants.{Ge, Le, Eq, Ne}
 use Rattle.nf_rel.specs.Literals.{NormalLiteral, True, False, Is, literal, is_implied}
@@ -19,7 +19,7 @@ use Rattle.sym_facts.specs.Facts.{Fact}
 
 -- a form with the vector's forms in place of its symbols
 abbrev pub form_substituted : List (Pos × Nf) → Nf → Computed Nf
-form_substituted v (Num p) = after (substituted v p) (λ q. Done (Num q))
+form_substituted v (Num p) = after (polynomial_substituted v p) (λ q. Done (Num q))
 form_substituted v (Arr a) = after (array_substituted v a) (λ b. Done (Arr b))
 form_substituted v (Seq l) = after (list_substituted v l) (λ m. Done (Seq m))
 
@@ -44,7 +44,7 @@ relation_of Ne = rel.Ne
 abbrev pub literal_substituted : List (Pos × Nf) → NormalLiteral → Computed NormalLiteral
 literal_substituted v True = Done True
 literal_substituted v False = Done False
-literal_substituted v (Is d k b) = after (substituted v d) (λ e. after (number b) (λ c. literal (relation_of k) e c))
+literal_substituted v (Is d k b) = after (polynomial_substituted v d) (λ e. after (number b) (λ c. literal (relation_of k) e c))
 
 -- whether a literal, substituted, is implied by the arriving conditions
 abbrev pub literal_met : Post → NormalLiteral → Computed Bool

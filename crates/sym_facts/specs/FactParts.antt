@@ -43,11 +43,11 @@ are_distinct_positions [] = true
 are_distinct_positions (p ∷ ps) = not (list_any (same_pos p) ps) && are_distinct_positions ps
 
 -- how many positions two machines have at most
-abbrev pub most_positions : ℕ
-most_positions = 384
+abbrev pub most_sorted_positions : ℕ
+most_sorted_positions = 384
 
 -- what is kept of each fact: it is one, its positions differ, and they are few
 pub record IsKept (f : Fact) : Type 0 where
   pub fact : IsFact f
   pub differ : IsTrue (are_distinct_positions (map (λ p. p.pos) f.positions))
-  pub short : length f.positions ≤ most_positions
+  pub short : length f.positions ≤ most_sorted_positions

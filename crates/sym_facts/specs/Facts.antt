@@ -17,7 +17,7 @@ use Rattle.nf_terms.specs.declared.tree.Base.TheVariants as base
 use Rattle.nf_terms.specs.declared.tree.SeqBase.TheVariants as list
 use Rattle.nf_terms.specs.declared.form.Nf.{Nf}
 use Rattle.nf_terms.specs.declared.form.Nf.TheVariants.{Num, Arr, Seq}
-use Rattle.nf_subst.specs.Vectors.{same_sort}
+use Rattle.nf_terms.specs.TermSorts.{same_term_sort}
 use Rattle.nf_rel.specs.Literals.{NormalLiteral, True, False, Is, all_true_in}
 use Rattle.nf_rel.specs.NormalLiterals.{is_normal_literal, same_literal, size_of_literal}
 use Rattle.sym_paths.specs.ValuationStores.{pair}
@@ -96,7 +96,7 @@ is_solved f = list_all (λ q. not (is_unsolved f q)) f.positions
 -- whether the form of an equation is of the sort of its position
 abbrev pub has_its_sort : Sort → Option Nf → Bool
 has_its_sort s None = true
-has_its_sort s (Some f) = same_sort (sort_of_terms s) (sort_of_form f)
+has_its_sort s (Some f) = same_term_sort (sort_of_terms s) (sort_of_form f)
 
 -- the size of a fact: 1, the sizes of its equations, and for each literal 1 and the size of its direction
 abbrev pub size_of_equation : Option Nf → ℕ

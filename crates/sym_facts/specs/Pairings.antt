@@ -8,14 +8,14 @@ use Rattle.nf_terms.specs.declared.symbols.Sort.{Sort as TermSort}
 use Rattle.fs_model.specs.declared.sides.Pos.{Pos}
 use Rattle.nf_terms.specs.declared.form.Nf.{Nf}
 use Rattle.nf_terms.specs.Forms.{sort_of_form}
-use Rattle.nf_subst.specs.Vectors.{same_sort}
+use Rattle.nf_terms.specs.TermSorts.{same_term_sort}
 use Rattle.nf_rel.specs.Literals.{NormalLiteral, True, False, Is}
 use Rattle.sym_paths.specs.Execution.{Post}
 use Rattle.sym_facts.specs.Facts.{Fact, sort_of_terms, vector_of}
 
 -- whether a symbol is a position and is used in its sort
 abbrev pub is_position : List Position → Pos × TermSort → Bool
-is_position ps x = list_any (λ p. same_pos p.pos x.0 && same_sort (sort_of_terms p.sort) x.1) ps
+is_position ps x = list_any (λ p. same_pos p.pos x.0 && same_term_sort (sort_of_terms p.sort) x.1) ps
 
 -- whether each symbol of a form, and of a literal, passes a test
 abbrev pub form_within : (Pos × TermSort → Bool) → Nf → Bool

@@ -5,14 +5,14 @@ ghost use Rattle.fs_cut.specs.View.{path_of};
 ghost use Rattle.nf_terms.specs.Computed.{Answers};
 ghost use Rattle.nf_rel.specs.View.{literal_in};
 ghost use Rattle.sym_paths.specs.Execution.{execute_if, arrive as arrived};
-ghost use Rattle.sym_paths.specs.View.{told, post_in};
+ghost use Rattle.sym_paths.specs.View.{answer_in_data, post_in};
 ghost use Rattle.sym_facts.specs.Facts.{vector_of};
 
 use crate::fact::{Fact, copied_literals};
 use fs_ast::machine::Machine;
 use fs_cut::cover::Path;
 use nf_rel::literals::NLit;
-use nf_subst::vector::Vector;
+use nf_substitution::vector::Vector;
 use nf_terms::stop::NfStop;
 use nf_terms::tree::Side;
 use std::alloc::Global;
@@ -26,7 +26,7 @@ fn advance_if(
     side: Side,
     v: &mut Vector,
 ) -> Result<Vec<NLit>, NfStop>
-    ensures { Answers (told (λ ls. record { conditions = map literal_in ls.items; vector = v.new }) result)
+    ensures { Answers (answer_in_data (λ ls. record { conditions = map literal_in ls.items; vector = v.new }) result)
         (execute_if m.now (option_map (λ p. path_of p.now) path.entry) side v.old) }
 {
     match path {
@@ -48,7 +48,7 @@ pub fn arrive(
     left: Option<&Path>,
     right: Option<&Path>,
 ) -> Result<Post, NfStop>
-    ensures { Answers (told post_in result)
+    ensures { Answers (answer_in_data post_in result)
         (arrived a.now b.now fact.now.literals (vector_of fact.now.positions) (option_map (λ p. path_of p.now) left.entry)
         (option_map (λ p. path_of p.now) right.entry)) }
 {

@@ -5,7 +5,7 @@ ghost use Rattle.nf_terms.specs.Computed.{Answers};
 ghost use Rattle.nf_rel.specs.NormalLiterals.{IsNormalLiteral};
 ghost use Rattle.nf_rel.specs.View.{literal_in};
 ghost use Rattle.sym_paths.specs.Sequences.{each};
-ghost use Rattle.sym_paths.specs.View.{told, post_in};
+ghost use Rattle.sym_paths.specs.View.{answer_in_data, post_in};
 ghost use Rattle.sym_facts.specs.Entailment.{form_substituted, form_like as like, equation_met as equation_is_met};
 ghost use Rattle.sym_facts.specs.Entailment.{relation_of as relation, literal_substituted, literal_met as literal_is_met};
 ghost use Rattle.sym_facts.specs.Entailment.{false_places as places_of_false, entails as entailed};
@@ -17,9 +17,9 @@ use nf_rel::clashes::implied;
 use nf_rel::kind::Kind;
 use nf_rel::literals::NLit;
 use nf_rel::normalize::literal;
-use nf_subst::shared_form::SharedForm;
-use nf_subst::subst::Subst;
-use nf_subst::vector::Vector;
+use nf_substitution::shared_form::SharedForm;
+use nf_substitution::subst::Subst;
+use nf_substitution::vector::Vector;
 use nf_sums::sums::number;
 use nf_terms::form::Nf;
 use nf_terms::stop::{NfStop, NoMemory};
@@ -102,7 +102,7 @@ fn equations_met(
     positions: &[FactPosition],
 ) -> Result<Vec<bool>, NfStop>
     requires { s.old.vector ≡ v.now }
-    ensures answers { Answers (told (λ bs. bs.items) result)
+    ensures answers { Answers (answer_in_data (λ bs. bs.items) result)
         (each (λ p. equation_is_met v.now p.pos p.equation) (map position_in positions.now)) }
     ensures many { IfOk result (λ bs. length bs.items ≡ length positions.now) }
     ensures vector { s.new.vector ≡ s.old.vector }
@@ -130,7 +130,7 @@ fn relation_of(kind: Kind) -> Rel
 ///
 /// `Wide` and `Large` come exactly at the first operation that is not narrow, or narrow and not small. `NoMemory`: out of memory.
 pub fn substitute_literal(alloc: Global, s: &mut Subst, l: &NLit) -> Result<NLit, NfStop>
-    ensures answers { Answers (told literal_in result) (literal_substituted s.old.vector (literal_in l.now)) }
+    ensures answers { Answers (answer_in_data literal_in result) (literal_substituted s.old.vector (literal_in l.now)) }
     ensures normal { IfOk result (λ m. IsNormalLiteral (literal_in m)) }
     ensures vector { s.new.vector ≡ s.old.vector }
 {
@@ -163,7 +163,7 @@ fn literals_met(
     literals: &[NLit],
 ) -> Result<Vec<bool>, NfStop>
     requires { s.old.vector ≡ (post_in post.now).vector }
-    ensures answers { Answers (told (λ bs. bs.items) result)
+    ensures answers { Answers (answer_in_data (λ bs. bs.items) result)
         (each (λ l. literal_is_met (post_in post.now) l) (map literal_in literals.now)) }
     ensures many { IfOk result (λ bs. length bs.items ≡ length literals.now) }
     ensures vector { s.new.vector ≡ s.old.vector }
@@ -183,7 +183,7 @@ fn fact_equations_met(
     target: &Fact,
 ) -> Result<Vec<bool>, NfStop>
     requires { s.old.vector ≡ (post_in post.now).vector }
-    ensures answers { Answers (told (λ bs. bs.items) result)
+    ensures answers { Answers (answer_in_data (λ bs. bs.items) result)
         (each (λ p. equation_is_met (post_in post.now).vector p.pos p.equation) target.now.positions) }
     ensures few { IfOk result (λ bs. length bs.items < 2 ^ 32) }
     ensures vector { s.new.vector ≡ s.old.vector }
@@ -199,7 +199,7 @@ fn fact_literals_met(
     target: &Fact,
 ) -> Result<Vec<bool>, NfStop>
     requires { s.old.vector ≡ (post_in post.now).vector }
-    ensures answers { Answers (told (λ bs. bs.items) result)
+    ensures answers { Answers (answer_in_data (λ bs. bs.items) result)
         (each (λ l. literal_is_met (post_in post.now) l) target.now.literals) }
     ensures few { IfOk result (λ bs. length bs.items < 2 ^ 32) }
 {
@@ -227,7 +227,7 @@ fn false_places(alloc: Global, members: &[bool]) -> Result<Vec<u32>, NoMemory>
 /// `Wide` and `Large` come exactly at the first operation that is not narrow, or narrow and not small: those of equations come
 /// first, in the order of positions, and then those of literals. `NoMemory`: out of memory.
 pub fn entails(alloc: Global, post: &Post, target: &Fact) -> Result<Entail, NfStop>
-    ensures { Answers (told missing_in result) (entailed (post_in post.now) target.now) }
+    ensures { Answers (answer_in_data missing_in result) (entailed (post_in post.now) target.now) }
 {
     let mut s = Subst::new(alloc, &post.vector);
     let equations = fact_equations_met(alloc, &mut s, post, target)?;

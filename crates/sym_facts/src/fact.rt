@@ -9,15 +9,15 @@ ghost use Rattle.sym_facts.specs.Facts.{size_of_equation as equation_size, size_
 ghost use Rattle.sym_facts.specs.Facts.{size_of_literals as literals_size, own_symbol as symbol_of, form_or_symbol, vector_of};
 ghost use Rattle.sym_facts.specs.Pairings.{IsFactOf, is_position, literal_within};
 ghost use Rattle.sym_facts.specs.FactParts.{with_equations as positions_with, fact_of, equation_within, equation_at};
-ghost use Rattle.sym_facts.specs.FactParts.{are_distinct_positions, most_positions, IsKept};
+ghost use Rattle.sym_facts.specs.FactParts.{are_distinct_positions, most_sorted_positions, IsKept};
 ghost use Rattle.sym_facts.specs.View.{TellsSolved, position_in};
 
 use crate::parts::{first_unsolved, with_equations};
 use fs_model::parts::Sort;
 use fs_pair::positions::Pairing;
 use nf_rel::literals::NLit;
-use nf_subst::shared_form::SharedForm;
-use nf_subst::vector::Vector;
+use nf_substitution::shared_form::SharedForm;
+use nf_substitution::vector::Vector;
 use nf_terms::arr::Arr;
 use nf_terms::form::Nf;
 use nf_terms::poly::Poly;
@@ -150,7 +150,7 @@ impl Fact {
     /// The positions in the pairing's order, at most 384.
     pub fn positions(&self) -> &[FactPosition]
         ensures same { map position_in result.now ≡ self.now.positions }
-        ensures few { length result.now ≤ most_positions }
+        ensures few { length result.now ≤ most_sorted_positions }
     {
         self.positions.as_slice()
     }
@@ -202,9 +202,9 @@ fn size_of_equation(position: &FactPosition) -> u64
 
 // The sizes of equations.
 fn size_of_equations(positions: &[FactPosition]) -> u64
-    requires { length positions.now ≤ most_positions }
+    requires { length positions.now ≤ most_sorted_positions }
     ensures same { result ≡ equations_size (map position_in positions.now) }
-    ensures small { result ≤ most_positions * size_limit }
+    ensures small { result ≤ most_sorted_positions * size_limit }
 {
     let mut size = 0;
     for position in positions {

@@ -2,9 +2,9 @@
 
 ghost use Rattle.std.specs.Prelude.{◌≡◌, ℕ, Bool, IsTrue, true, List, [], Option, None};
 ghost use Rattle.std.specs.List.{list_all};
+ghost use Rattle.fs_rules.specs.SoundParts.{IsSound};
 ghost use Rattle.fs_model.specs.Machines.{Fsmd};
 ghost use Rattle.fs_model.specs.Runs.{Inputs, start};
-ghost use Rattle.fs_ast.specs.SoundMachines.{IsSound};
 ghost use Rattle.fs_cut.specs.Paths.{Path, BranchStep, branch_at};
 ghost use Rattle.fs_pair.specs.Interfaces.{interface_fault};
 ghost use Rattle.fs_pair.specs.Positions.{positions};
@@ -14,7 +14,7 @@ ghost use Rattle.nf_terms.specs.declared.symbols.Sort.{Sort as TermSort};
 ghost use Rattle.fs_model.specs.declared.sides.Pos.{Pos as PlainPos};
 ghost use Rattle.fs_model.specs.declared.sides.Side.{Side};
 ghost use Rattle.nf_terms.specs.declared.form.Nf.{Nf as PlainForm};
-ghost use Rattle.nf_subst.specs.Vectors.{meaning};
+ghost use Rattle.nf_substitution.specs.Vectors.{vector_meaning};
 ghost use Rattle.nf_symbols.specs.SymbolTests.{LeadsTo};
 ghost use Rattle.nf_rel.specs.Literals.{NormalLiteral, all_true_in};
 ghost use Rattle.sym_paths.specs.ValuationStores.{choose_side};
@@ -29,9 +29,9 @@ ghost use Rattle.sym_facts.specs.Starts.{start_fact};
 /// Where all equations hold, the vector of a fact means the pair of stores itself. A fact that a post entails holds of the stores
 /// that the post's vector means.
 pub fn facts_mean_their_vectors()
-    ensures vector { (w : Valuation) (ps : List PlainPosition) → EquationsHold w ps → meaning (vector_of ps) w ≡ w }
+    ensures vector { (w : Valuation) (ps : List PlainPosition) → EquationsHold w ps → vector_meaning (vector_of ps) w ≡ w }
     ensures entailed { (w : Valuation) (post : Post) (f : PlainFact) (e : Missing) → entails post f ≡ Done e → e.equations ≡ []
-        → e.literals ≡ [] → all_true_in w post.conditions ≡ true → HoldsIn (meaning post.vector w) f }
+        → e.literals ≡ [] → all_true_in w post.conditions ≡ true → HoldsIn (vector_meaning post.vector w) f }
 {}
 
 /// The start fact holds of the two start stores of every input.

@@ -11,14 +11,14 @@ use Rattle.nf_terms.specs.Computed.{Computed, Done, after}
 use Rattle.fs_model.specs.declared.sides.Side.{Side}
 use Rattle.fs_model.specs.declared.sides.Pos.{Pos}
 use Rattle.nf_terms.specs.declared.form.Nf.{Nf}
-use Rattle.nf_sums.specs.Operations.{added, subtracted, multiplied, negated}
+use Rattle.nf_sums.specs.Operations.{normal_sum, normal_difference, normal_product, normal_negation}
 use Rattle.nf_sums.proofs.Forms.{negation_value}
 use Rattle.nf_sums.proofs.Values.{goes_done, added_value, subtracted_value, multiplied_value}
-use Rattle.nf_arrays.specs.NewAtoms.{divided, remainder_of}
+use Rattle.nf_arrays.specs.NewAtoms.{quotient_of, remainder_of}
 use Rattle.nf_arrays.specs.Writes.{read_at}
 use Rattle.nf_arrays.proofs.Values.{read_value, quotient_value, remainder_value}
-use Rattle.nf_subst.specs.Vectors.{number_at, array_form, meaning}
-use Rattle.nf_subst.proofs.Values.{number_is}
+use Rattle.nf_substitution.specs.Vectors.{number_at, array_form, vector_meaning}
+use Rattle.nf_substitution.proofs.Values.{number_is}
 use Rattle.nf_rel.specs.Literals.{NormalLiteral, is_true_in, literal}
 use Rattle.nf_rel.proofs.Values.{literal_means}
 use Rattle.sym_paths.specs.ValuationStores.{at, store_on}
@@ -41,40 +41,41 @@ operands side v a b f r e =
     record { left = s.middle; right = t.middle; left_done = s.first; right_done = t.first; done = t.next }
 
 module _ (w : Valuation) (side : Side) (v : List (Pos × Nf)) where
-  pub evaluated : (e : Term ℕ) (r : Polynomial) → evaluate side v e ≡ Done r → value_of w r ≡ value e (store_on side (meaning v w))
+  pub evaluated : (e : Term ℕ) (r : Polynomial) → evaluate side v e ≡ Done r → value_of w r ≡ value e (store_on side (vector_meaning v w))
   evaluated (Number n) r e = number_is w n r e
   evaluated (Variable x) r e = let k : number_at v (at side x) ≡ r = cc e in sym (ap (value_of w) k)
   evaluated (Read x i) r e =
       let s = goes_done (evaluate side v i) (λ j. read_at (array_form v (at side x)) j) r e in
       read_value w (array_form v (at side x)) s.middle r s.next ∙ ap (contents w (array_form v (at side x))) (evaluated i s.middle s.first)
   evaluated (Sum a b) r e =
-      let o = operands side v a b (λ p q. added p q) r e in
+      let o = operands side v a b (λ p q. normal_sum p q) r e in
       added_value w o.left o.right r o.done ∙ ap₂ (λ x y. x +ℤ y) (evaluated a o.left o.left_done) (evaluated b o.right o.right_done)
   evaluated (Difference a b) r e =
-      let o = operands side v a b (λ p q. subtracted p q) r e in
+      let o = operands side v a b (λ p q. normal_difference p q) r e in
       subtracted_value w o.left o.right r o.done ∙ ap₂ (λ x y. x -ℤ y) (evaluated a o.left o.left_done) (evaluated b o.right o.right_done)
   evaluated (Product a b) r e =
-      let o = operands side v a b (λ p q. multiplied p q) r e in
+      let o = operands side v a b (λ p q. normal_product p q) r e in
       multiplied_value w o.left o.right r o.done ∙ ap₂ (λ x y. x *ℤ y) (evaluated a o.left o.left_done) (evaluated b o.right o.right_done)
   evaluated (Quotient a b) r e =
-      let o = operands side v a b (λ p q. divided p q) r e in
+      let o = operands side v a b (λ p q. quotient_of p q) r e in
       quotient_value w o.left o.right r o.done ∙ ap₂ quotient (evaluated a o.left o.left_done) (evaluated b o.right o.right_done)
   evaluated (Remainder a b) r e =
       let o = operands side v a b (λ p q. remainder_of p q) r e in
       remainder_value w o.left o.right r o.done ∙ ap₂ remainder (evaluated a o.left o.left_done) (evaluated b o.right o.right_done)
   evaluated (Negative a) r e =
-      let s = goes_done (evaluate side v a) (λ p. Done (negated p)) r e in
-      let k : negated s.middle ≡ r = cc s.next in
+      let s = goes_done (evaluate side v a) (λ p. Done (normal_negation p)) r e in
+      let k : normal_negation s.middle ≡ r = cc s.next in
       sym (ap (value_of w) k) ∙ negation_value w s.middle ∙ ap neg_ℤ (evaluated a s.middle s.first)
 
-  literal_evaluated : (l : Literal ℕ) (n : NormalLiteral) → evaluate_literal side v l ≡ Done n → is_true_in w n ≡ literal_holds l (store_on side (meaning v w))
+  literal_evaluated : (l : Literal ℕ) (n : NormalLiteral) → evaluate_literal side v l ≡ Done n
+      → is_true_in w n ≡ literal_holds l (store_on side (vector_meaning v w))
   literal_evaluated l n e =
       let s = goes_done (evaluate side v l.left) (λ p. after (evaluate side v l.right) (λ q. literal l.relation p q)) n e in
       let t = goes_done (evaluate side v l.right) (λ q. literal l.relation s.middle q) n s.next in
       literal_means l.relation s.middle t.middle n w t.next ∙ ap₂ (relates l.relation) (evaluated l.left s.middle s.first) (evaluated l.right t.middle t.first)
 
   pub literals_evaluated : (ls : List (Literal ℕ)) (ns : List NormalLiteral) → each (λ l. evaluate_literal side v l) ls ≡ Done ns
-      → list_all (is_true_in w) ns ≡ list_all (λ l. literal_holds l (store_on side (meaning v w))) ls
+      → list_all (is_true_in w) ns ≡ list_all (λ l. literal_holds l (store_on side (vector_meaning v w))) ls
   literals_evaluated [] ns e = let k : [] ≡ ns = cc e in sym (ap (list_all (is_true_in w)) k)
   literals_evaluated (l ∷ ls) ns e =
       let s = goes_done (evaluate_literal side v l) (λ y. after (each (λ k. evaluate_literal side v k) ls) (λ ys. Done (y ∷ ys))) ns e in

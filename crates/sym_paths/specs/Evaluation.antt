@@ -8,11 +8,11 @@ use Rattle.fs_model.specs.declared.sides.Side.{Side}
 use Rattle.fs_model.specs.declared.sides.Pos.{Pos}
 use Rattle.nf_terms.specs.declared.form.Nf.{Nf}
 use Rattle.nf_terms.specs.declared.form.Nf.TheVariants.{Num, Arr, Seq}
-use Rattle.nf_sums.specs.Operations.{added, subtracted, multiplied, negated, number}
-use Rattle.nf_arrays.specs.NewAtoms.{divided, remainder_of}
+use Rattle.nf_sums.specs.Operations.{normal_sum, normal_difference, normal_product, normal_negation, number}
+use Rattle.nf_arrays.specs.NewAtoms.{quotient_of, remainder_of}
 use Rattle.nf_arrays.specs.Writes.{write_array, read_at}
-use Rattle.nf_arrays.specs.Pushes.{pushed}
-use Rattle.nf_subst.specs.Vectors.{number_at, array_form, list_at, with_form}
+use Rattle.nf_arrays.specs.Pushes.{list_with_item}
+use Rattle.nf_substitution.specs.Vectors.{number_at, array_form, list_at, with_form}
 use Rattle.nf_rel.specs.Literals.{NormalLiteral, literal}
 use Rattle.sym_paths.specs.ValuationStores.{at}
 use Rattle.sym_paths.specs.Sequences.{each}
@@ -22,12 +22,12 @@ abbrev pub evaluate : Side → List (Pos × Nf) → Term ℕ → Computed Polyno
 evaluate side v (Number n) = number n
 evaluate side v (Variable x) = Done (number_at v (at side x))
 evaluate side v (Read x i) = after (evaluate side v i) (λ j. read_at (array_form v (at side x)) j)
-evaluate side v (Sum a b) = after (evaluate side v a) (λ p. after (evaluate side v b) (λ q. added p q))
-evaluate side v (Difference a b) = after (evaluate side v a) (λ p. after (evaluate side v b) (λ q. subtracted p q))
-evaluate side v (Product a b) = after (evaluate side v a) (λ p. after (evaluate side v b) (λ q. multiplied p q))
-evaluate side v (Quotient a b) = after (evaluate side v a) (λ p. after (evaluate side v b) (λ q. divided p q))
+evaluate side v (Sum a b) = after (evaluate side v a) (λ p. after (evaluate side v b) (λ q. normal_sum p q))
+evaluate side v (Difference a b) = after (evaluate side v a) (λ p. after (evaluate side v b) (λ q. normal_difference p q))
+evaluate side v (Product a b) = after (evaluate side v a) (λ p. after (evaluate side v b) (λ q. normal_product p q))
+evaluate side v (Quotient a b) = after (evaluate side v a) (λ p. after (evaluate side v b) (λ q. quotient_of p q))
 evaluate side v (Remainder a b) = after (evaluate side v a) (λ p. after (evaluate side v b) (λ q. remainder_of p q))
-evaluate side v (Negative a) = after (evaluate side v a) (λ p. Done (negated p))
+evaluate side v (Negative a) = after (evaluate side v a) (λ p. Done (normal_negation p))
 
 abbrev pub evaluate_literal : Side → List (Pos × Nf) → Literal ℕ → Computed NormalLiteral
 evaluate_literal side v l = after (evaluate side v l.left) (λ p. after (evaluate side v l.right) (λ q. literal l.relation p q))
@@ -47,7 +47,7 @@ evaluate_assignment side v (Emit x e) = after (evaluate side v e) (λ p. Done (P
 abbrev pub change : Side → Change → List (Pos × Nf) → Computed (List (Pos × Nf))
 change side (SetTo x p) v = Done (with_form (at side x) (Num p) v)
 change side (PutAt x j p) v = after (write_array (array_form v (at side x)) j p) (λ a. Done (with_form (at side x) (Arr a) v))
-change side (PushTo x p) v = after (pushed (list_at v (at side x)) p) (λ l. Done (with_form (at side x) (Seq l) v))
+change side (PushTo x p) v = after (list_with_item (list_at v (at side x)) p) (λ l. Done (with_form (at side x) (Seq l) v))
 
 abbrev pub change_all : Side → List Change → List (Pos × Nf) → Computed (List (Pos × Nf))
 change_all side [] v = Done v

@@ -9,9 +9,9 @@ use Rattle.sym_paths.specs.declared.assignments.Change.TheVariants as code
 use Rattle.sym_paths.specs.Evaluation.{Change, SetTo, PutAt, PushTo}
 
 -- an answer with a value in other words
-abbrev pub told : {S T : Type 0} → (S → T) → Result S NfStop → Result T NfStop
-told f (Ok s) = Ok (f s)
-told f (Err stop) = Err stop
+abbrev pub answer_in_data : {S T : Type 0} → (S → T) → Result S NfStop → Result T NfStop
+answer_in_data f (Ok s) = Ok (f s)
+answer_in_data f (Err stop) = Err stop
 
 abbrev pub post_in : CodePost → Post
 post_in p = record { conditions = map literal_in p.conds.items; vector = p.vector }

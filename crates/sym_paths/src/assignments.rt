@@ -6,13 +6,13 @@ ghost use Rattle.nf_terms.specs.Computed.{Answers};
 ghost use Rattle.sym_paths.specs.Sequences.{each};
 ghost use Rattle.sym_paths.specs.Evaluation.{evaluate_assignment as evaluated_assignment, change as changed};
 ghost use Rattle.sym_paths.specs.Evaluation.{change_all as changed_all, act_over as acted, PutAt, PushTo};
-ghost use Rattle.sym_paths.specs.View.{told, change_in};
+ghost use Rattle.sym_paths.specs.View.{answer_in_data, change_in};
 
 use crate::evaluation::{at, evaluate};
 use fs_model::parts::{Assign, VarId};
 use nf_arrays::pushes::push;
 use nf_arrays::writes::write;
-use nf_subst::vector::Vector;
+use nf_substitution::vector::Vector;
 use nf_terms::form::Nf;
 use nf_terms::poly::Poly;
 use nf_terms::stop::NfStop;
@@ -38,7 +38,7 @@ fn evaluate_assignment(
     v: &Vector,
     assignment: &Assign<VarId>,
 ) -> Result<Change, NfStop>
-    ensures { Answers (told change_in result) (evaluated_assignment side v.now (assignment_of assignment.now)) }
+    ensures { Answers (answer_in_data change_in result) (evaluated_assignment side v.now (assignment_of assignment.now)) }
 {
     match assignment {
         Assign::Set(x, e) => Ok(Change::Set(*x, evaluate(alloc, side, v, e)?)),
@@ -62,7 +62,7 @@ fn evaluate_assignments(
     v: &Vector,
     assignments: &[Assign<VarId>],
 ) -> Result<Vec<Change>, NfStop>
-    ensures { Answers (told (λ cs. map change_in cs.items) result)
+    ensures { Answers (answer_in_data (λ cs. map change_in cs.items) result)
         (each (λ a. evaluated_assignment side v.now a) (map assignment_of assignments.now)) }
 {
     let mut out = Vec::new(alloc);
@@ -81,7 +81,7 @@ fn put(
     value: &Poly,
     v: &mut Vector,
 ) -> Result<(), NfStop>
-    ensures { Answers (told (λ _. v.new) result) (changed side (PutAt x.0 index.now value.now) v.old) }
+    ensures { Answers (answer_in_data (λ _. v.new) result) (changed side (PutAt x.0 index.now value.now) v.old) }
 {
     let array = v.array(alloc, &at(side, x))?;
     let written = write(alloc, &array, index, value)?;
@@ -90,7 +90,7 @@ fn put(
 
 // Adds a number to a list of a vector.
 fn emit(alloc: Global, side: Side, x: VarId, value: &Poly, v: &mut Vector) -> Result<(), NfStop>
-    ensures { Answers (told (λ _. v.new) result) (changed side (PushTo x.0 value.now) v.old) }
+    ensures { Answers (answer_in_data (λ _. v.new) result) (changed side (PushTo x.0 value.now) v.old) }
 {
     let list = v.list(alloc, &at(side, x))?;
     let pushed = push(alloc, &list, value)?;
@@ -99,7 +99,7 @@ fn emit(alloc: Global, side: Side, x: VarId, value: &Poly, v: &mut Vector) -> Re
 
 // Changes a vector.
 fn apply(alloc: Global, side: Side, c: Change, v: &mut Vector) -> Result<(), NfStop>
-    ensures { Answers (told (λ _. v.new) result) (changed side (change_in c) v.old) }
+    ensures { Answers (answer_in_data (λ _. v.new) result) (changed side (change_in c) v.old) }
 {
     match c {
         Change::Set(x, value) => Ok(v.put(at(side, x), Nf::Num(value))?),
@@ -114,7 +114,7 @@ fn apply(alloc: Global, side: Side, c: Change, v: &mut Vector) -> Result<(), NfS
 
 // Changes a vector, in order.
 fn apply_all(alloc: Global, side: Side, changes: Vec<Change>, v: &mut Vector) -> Result<(), NfStop>
-    ensures { Answers (told (λ _. v.new) result) (changed_all side (map change_in changes.items) v.old) }
+    ensures { Answers (answer_in_data (λ _. v.new) result) (changed_all side (map change_in changes.items) v.old) }
 {
     for c in changes {
         apply(alloc, side, c, v)?;
@@ -129,7 +129,7 @@ pub(crate) fn act_over(
     assignments: &[Assign<VarId>],
     v: &mut Vector,
 ) -> Result<(), NfStop>
-    ensures { Answers (told (λ _. v.new) result) (acted side (map assignment_of assignments.now) v.old) }
+    ensures { Answers (answer_in_data (λ _. v.new) result) (acted side (map assignment_of assignments.now) v.old) }
 {
     let changes = evaluate_assignments(alloc, side, v, assignments)?;
     apply_all(alloc, side, changes, v)

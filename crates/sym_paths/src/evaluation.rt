@@ -7,14 +7,14 @@ ghost use Rattle.nf_rel.specs.View.{literal_in};
 ghost use Rattle.sym_paths.specs.ValuationStores.{at as position_of};
 ghost use Rattle.sym_paths.specs.Sequences.{each};
 ghost use Rattle.sym_paths.specs.Evaluation.{evaluate as evaluated, evaluate_literal as evaluated_literal};
-ghost use Rattle.sym_paths.specs.View.{told};
+ghost use Rattle.sym_paths.specs.View.{answer_in_data};
 
 use fs_model::parts::{Expr, Lit, VarId};
 use nf_arrays::division::{div, rem};
 use nf_arrays::reads::read;
 use nf_rel::literals::NLit;
 use nf_rel::normalize::literal;
-use nf_subst::vector::Vector;
+use nf_substitution::vector::Vector;
 use nf_sums::sums::{add, mul, neg, number, sub};
 use nf_terms::poly::Poly;
 use nf_terms::stop::NfStop;
@@ -77,7 +77,7 @@ pub fn evaluate(alloc: Global, side: Side, v: &Vector, e: &Expr<VarId>) -> Resul
 
 // The normal form of a literal over a vector.
 fn evaluate_literal(alloc: Global, side: Side, v: &Vector, l: &Lit<VarId>) -> Result<NLit, NfStop>
-    ensures { Answers (told literal_in result) (evaluated_literal side v.now (literal_of l.now)) }
+    ensures { Answers (answer_in_data literal_in result) (evaluated_literal side v.now (literal_of l.now)) }
 {
     let left = evaluate(alloc, side, v, &l.left)?;
     let right = evaluate(alloc, side, v, &l.right)?;
@@ -93,7 +93,7 @@ pub(crate) fn evaluate_literals(
     v: &Vector,
     literals: &[Lit<VarId>],
 ) -> Result<Vec<NLit>, NfStop>
-    ensures { Answers (told (λ ls. map literal_in ls.items) result)
+    ensures { Answers (answer_in_data (λ ls. map literal_in ls.items) result)
         (each (λ l. evaluated_literal side v.now l) (map literal_of literals.now)) }
 {
     let mut out = Vec::new(alloc);

@@ -9,7 +9,7 @@ ghost use Rattle.nf_rel.specs.View.{literal_in};
 ghost use Rattle.fs_cut.specs.Paths.{state_of, branch_at, steps_in};
 ghost use Rattle.fs_cut.specs.View.{point_of, path_of};
 ghost use Rattle.sym_paths.specs.Execution.{conditions as conditions_of, steps_over, execute as executed};
-ghost use Rattle.sym_paths.specs.View.{told, post_in};
+ghost use Rattle.sym_paths.specs.View.{answer_in_data, post_in};
 
 use crate::assignments::act_over;
 use crate::evaluation::evaluate_literals;
@@ -17,7 +17,7 @@ use fs_ast::machine::Machine;
 use fs_cut::cover::{Path, Point};
 use fs_model::parts::{Assign, Branch, Lit, StateId, VarId};
 use nf_rel::literals::NLit;
-use nf_subst::vector::Vector;
+use nf_substitution::vector::Vector;
 use nf_terms::stop::NfStop;
 use nf_terms::tree::Side;
 use std::alloc::Global;
@@ -78,7 +78,7 @@ fn take_steps(
     side: Side,
     v: &mut Vector,
 ) -> Result<(), NfStop>
-    ensures { Answers (told (λ _. v.new) result) (steps_over m.now side (steps_in (path_of path.now)) v.old) }
+    ensures { Answers (answer_in_data (λ _. v.new) result) (steps_over m.now side (steps_in (path_of path.now)) v.old) }
 {
     let mut number = path.branch;
     for state in &path.states {
@@ -99,7 +99,8 @@ pub fn conditions(
     side: Side,
     v: &Vector,
 ) -> Result<Vec<NLit>, NfStop>
-    ensures { Answers (told (λ ls. map literal_in ls.items) result) (conditions_of m.now (path_of path.now) side v.now) }
+    ensures { Answers (answer_in_data (λ ls. map literal_in ls.items) result)
+        (conditions_of m.now (path_of path.now) side v.now) }
 {
     let literals = literals(m, state_at(m, path.from), path.branch);
     evaluate_literals(alloc, side, v, literals)
@@ -119,7 +120,7 @@ pub fn advance(
     side: Side,
     v: &mut Vector,
 ) -> Result<Vec<NLit>, NfStop>
-    ensures { Answers (told (λ ls. record { conditions = map literal_in ls.items; vector = v.new }) result)
+    ensures { Answers (answer_in_data (λ ls. record { conditions = map literal_in ls.items; vector = v.new }) result)
         (executed m.now (path_of path.now) side v.old) }
 {
     let conds = conditions(alloc, m, path, side, v)?;
@@ -137,7 +138,7 @@ pub fn execute(
     side: Side,
     v: &Vector,
 ) -> Result<Post, NfStop>
-    ensures { Answers (told post_in result) (executed m.now (path_of path.now) side v.now) }
+    ensures { Answers (answer_in_data post_in result) (executed m.now (path_of path.now) side v.now) }
 {
     let mut vector = v.try_clone(alloc)?;
     let conds = advance(alloc, m, path, side, &mut vector)?;

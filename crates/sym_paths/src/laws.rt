@@ -10,7 +10,7 @@ ghost use Rattle.fs_model.specs.declared.sides.Side.TheVariants.{Left, Right};
 ghost use Rattle.fs_model.specs.declared.sides.Pos.{Pos};
 ghost use Rattle.nf_terms.specs.declared.form.Nf.{Nf};
 ghost use Rattle.nf_terms.specs.declared.symbols.Sort.{Sort};
-ghost use Rattle.nf_subst.specs.Vectors.{form_at, meaning};
+ghost use Rattle.nf_substitution.specs.Vectors.{form_at, vector_meaning};
 ghost use Rattle.nf_rel.specs.Literals.{NormalLiteral, all_true_in};
 ghost use Rattle.sym_paths.specs.ValuationStores.{at, store_on, other};
 ghost use Rattle.sym_paths.specs.Execution.{Post, conditions, steps_over, execute, arrive, takes_if, effect_if};
@@ -19,12 +19,13 @@ ghost use Rattle.sym_paths.specs.Execution.{Post, conditions, steps_over, execut
 /// machine's store stays.
 pub fn paths_mean_their_steps()
     ensures conditions { (m : Fsmd) (p : Path) (side : Side) (v : List (Pos × Nf)) (ls : List NormalLiteral) (w : Valuation)
-        → conditions m p side v ≡ Done ls → all_true_in w ls ≡ takes m p (store_on side (meaning v w)) }
+        → conditions m p side v ≡ Done ls → all_true_in w ls ≡ takes m p (store_on side (vector_meaning v w)) }
     ensures end { (m : Fsmd) (p : Path) (side : Side) (v u : List (Pos × Nf)) (w : Valuation)
         → steps_over m side (steps_in p) v ≡ Done u
-        → store_on side (meaning u w) ≡ store_after_steps m (steps_in p) (store_on side (meaning v w)) }
+        → store_on side (vector_meaning u w) ≡ store_after_steps m (steps_in p) (store_on side (vector_meaning v w)) }
     ensures stays { (m : Fsmd) (p : Path) (side : Side) (v u : List (Pos × Nf)) (w : Valuation)
-        → steps_over m side (steps_in p) v ≡ Done u → store_on (other side) (meaning u w) ≡ store_on (other side) (meaning v w) }
+        → steps_over m side (steps_in p) v ≡ Done u
+        → store_on (other side) (vector_meaning u w) ≡ store_on (other side) (vector_meaning v w) }
 {}
 
 /// The forms of the other machine's positions stay where a path of one machine is executed: they are the same terms, and do not
@@ -43,11 +44,11 @@ pub fn arrivals_mean_their_paths()
         (w : Valuation) → arrive a b ls v left right ≡ Done post
         → all_true_in w post.conditions
         ≡ (all_true_in w ls
-        && (takes_if a left (store_on Left (meaning v w)) && takes_if b right (store_on Right (meaning v w)))) }
+        && (takes_if a left (store_on Left (vector_meaning v w)) && takes_if b right (store_on Right (vector_meaning v w)))) }
     ensures left { (a b : Fsmd) (ls : List NormalLiteral) (v : List (Pos × Nf)) (left right : Option Path) (post : Post)
         (w : Valuation) → arrive a b ls v left right ≡ Done post
-        → store_on Left (meaning post.vector w) ≡ effect_if a left (store_on Left (meaning v w)) }
+        → store_on Left (vector_meaning post.vector w) ≡ effect_if a left (store_on Left (vector_meaning v w)) }
     ensures right { (a b : Fsmd) (ls : List NormalLiteral) (v : List (Pos × Nf)) (left right : Option Path) (post : Post)
         (w : Valuation) → arrive a b ls v left right ≡ Done post
-        → store_on Right (meaning post.vector w) ≡ effect_if b right (store_on Right (meaning v w)) }
+        → store_on Right (vector_meaning post.vector w) ≡ effect_if b right (store_on Right (vector_meaning v w)) }
 {}

@@ -1,11 +1,12 @@
 -- Where each number is within the limit, a written term stands for what its exact numbers say.
 use Rattle.std.proofs.Common.{◌≡◌, ℕ, ◌≤◌, min, nat_le, ℤ, pos, neg_ℤ, true, ◌&&◌, List, [], ◌∷◌, refl, ap, ap₂, ◌∙◌, arith}
 use Rattle.std.proofs.lemmas.Bool.{and_parts, leb-true}
+use Rattle.base_integers.specs.Digits.{value_of_digits}
 use Rattle.nf_terms.specs.TermLimits.{weight_limit}
 use Rattle.nf_terms.specs.NormalTerms as terms
 use Rattle.term_text.specs.TermTexts.{Atom, Monomial, Sum, Polynomial, ArrayTerm, ListSyntax, Symbol, Read, Quotient, Remainder, Number, One, Times, Positive}
 use Rattle.term_text.specs.TermTexts.{Negative, Plus, Minus, Zero, Of, ZeroArray, Bare, Written, EmptyList, BareList, Pushed}
-use Rattle.term_values.specs.DigitNumbers.{digits_number, clipped}
+use Rattle.term_values.specs.DigitNumbers.{clipped_number}
 use Rattle.term_values.specs.NameMeanings.{Find}
 use Rattle.term_values.specs.Checks.{numbers_fit, factor_passes, atom_passes, monomial_passes, sum_passes, polynomial_passes, array_passes, list_passes}
 use Rattle.term_values.specs.TermValues.{within_limit, exact, coefficient, atom_value, atoms_of, sum_value, polynomial_value, array_value, list_base}
@@ -14,10 +15,10 @@ use Rattle.term_values.specs.TermValues.{list_items, list_value}
 unclipped : (n : ℕ) → n ≤ weight_limit → min n weight_limit ≡ n
 unclipped n h = omega (arith, h)
 
-pub number_exact : (ds : List ℕ) → nat_le (digits_number ds) weight_limit ≡ true → clipped ds ≡ digits_number ds
-number_exact ds e = unclipped (digits_number ds) (leb-true (digits_number ds) weight_limit e)
+pub number_exact : (ds : List ℕ) → nat_le (value_of_digits ds) weight_limit ≡ true → clipped_number ds ≡ value_of_digits ds
+number_exact ds e = unclipped (value_of_digits ds) (leb-true (value_of_digits ds) weight_limit e)
 
-coefficient_exact : (m : Monomial) → monomial_passes numbers_fit m ≡ true → coefficient clipped m ≡ coefficient digits_number m
+coefficient_exact : (m : Monomial) → monomial_passes numbers_fit m ≡ true → coefficient clipped_number m ≡ coefficient value_of_digits m
 coefficient_exact (Number ds) e = number_exact ds e
 coefficient_exact (One a) e = refl
 coefficient_exact (Times m a) e =
@@ -51,19 +52,19 @@ mutual
 
   sum_exact : (find : Find) (s : Sum) (rest : terms.Polynomial) → sum_passes numbers_fit s ≡ true
       → sum_value (within_limit find) s rest ≡ sum_value (exact find) s rest
-  sum_exact find (Positive m) rest e = plus (atoms_of (within_limit find) m terms.One) (atoms_of (exact find) m terms.One) (coefficient clipped m)
-      (coefficient digits_number m) pos rest (atoms_exact find m terms.One e) (coefficient_exact m e)
-  sum_exact find (Negative m) rest e = plus (atoms_of (within_limit find) m terms.One) (atoms_of (exact find) m terms.One) (coefficient clipped m)
-      (coefficient digits_number m) (λ n. neg_ℤ (pos n)) rest (atoms_exact find m terms.One e) (coefficient_exact m e)
+  sum_exact find (Positive m) rest e = plus (atoms_of (within_limit find) m terms.One) (atoms_of (exact find) m terms.One) (coefficient clipped_number m)
+      (coefficient value_of_digits m) pos rest (atoms_exact find m terms.One e) (coefficient_exact m e)
+  sum_exact find (Negative m) rest e = plus (atoms_of (within_limit find) m terms.One) (atoms_of (exact find) m terms.One) (coefficient clipped_number m)
+      (coefficient value_of_digits m) (λ n. neg_ℤ (pos n)) rest (atoms_exact find m terms.One e) (coefficient_exact m e)
   sum_exact find (Plus s m) rest e =
       let p = and_parts (sum_passes numbers_fit s) (monomial_passes numbers_fit m) e in
       ap (sum_value (within_limit find) s)
-      (plus (atoms_of (within_limit find) m terms.One) (atoms_of (exact find) m terms.One) (coefficient clipped m)
-      (coefficient digits_number m) pos rest (atoms_exact find m terms.One p.1) (coefficient_exact m p.1)) ∙ sum_exact find s _ p.0
+      (plus (atoms_of (within_limit find) m terms.One) (atoms_of (exact find) m terms.One) (coefficient clipped_number m)
+      (coefficient value_of_digits m) pos rest (atoms_exact find m terms.One p.1) (coefficient_exact m p.1)) ∙ sum_exact find s _ p.0
   sum_exact find (Minus s m) rest e =
       let p = and_parts (sum_passes numbers_fit s) (monomial_passes numbers_fit m) e in
       ap (sum_value (within_limit find) s)
-      (plus (atoms_of (within_limit find) m terms.One) (atoms_of (exact find) m terms.One) (coefficient clipped m) (coefficient digits_number m)
+      (plus (atoms_of (within_limit find) m terms.One) (atoms_of (exact find) m terms.One) (coefficient clipped_number m) (coefficient value_of_digits m)
       (λ n. neg_ℤ (pos n)) rest (atoms_exact find m terms.One p.1) (coefficient_exact m p.1)) ∙ sum_exact find s _ p.0
 
   pub polynomial_exact : (find : Find) (p : Polynomial) → polynomial_passes numbers_fit p ≡ true

@@ -4,6 +4,7 @@ use Rattle.std.specs.Prelude.{IfOk, IfErr}
 use Rattle.std.specs.Cmp.{signed_Decides}
 use Rattle.std.proofs.lemmas.Int.{ints}
 use Rattle.std.proofs.lemmas.Bool.{and_parts, and_left, and_from, and_right}
+use Rattle.base_integers.specs.Digits.{value_of_digits}
 use Rattle.nf_terms.specs.NormalTerms.{Polynomial}
 use Rattle.nf_terms.specs.Normal.{IsNormal}
 use Rattle.nf_rel.specs.declared.kind.Kind.{Kind}
@@ -17,7 +18,7 @@ use Rattle.term_condition_text.specs.ConditionTexts.{Integer, ZeroInteger, Posit
 use Rattle.term_values.specs.declared.faults.TermError.{TermError}
 use Rattle.term_values.specs.declared.faults.TermError.TheVariants.{BadTerm, NumberTooBig, UnknownName, SortOf, NotNormal, NoMemory}
 use Rattle.term_values.specs.NameMeanings.{Find}
-use Rattle.term_values.specs.DigitNumbers.{digits_number, clipped}
+use Rattle.term_values.specs.DigitNumbers.{clipped_number}
 use Rattle.term_values.specs.TermValues.{within_limit, exact}
 use Rattle.term_values.specs.Checks.{numbers_fit, polynomial_passes}
 use Rattle.term_values.specs.Conditions.{integer_value, condition_value, integer_passes, written_condition_passes}
@@ -50,7 +51,7 @@ no_polynomial d k b e = and_left (is_normal d && is_primitive d) (is_inner_numbe
 
 -- ---- exact numbers
 
-integer_exact : (i : Integer) → integer_passes numbers_fit i ≡ true → integer_value clipped i ≡ integer_value digits_number i
+integer_exact : (i : Integer) → integer_passes numbers_fit i ≡ true → integer_value clipped_number i ≡ integer_value value_of_digits i
 integer_exact ZeroInteger e = refl
 integer_exact (Positive ds) e = ap (λ n. pos n) (number_exact ds e)
 integer_exact (Negative ds) e = ap (λ n. neg_ℤ (pos n)) (number_exact ds e)

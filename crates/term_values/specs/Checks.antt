@@ -1,6 +1,7 @@
 -- A test of each number and each name of a written term.
 use Rattle.std.specs.Prelude.{ℕ, Bool, true, not, ◌&&◌, nat_le, List, is_some, codes}
 use Rattle.std.specs.Str.{bytes_eq}
+use Rattle.base_integers.specs.Digits.{value_of_digits}
 use Rattle.nf_terms.specs.TermLimits.{weight_limit}
 use Rattle.fs_model.specs.declared.sides.Side.{Side}
 use Rattle.nf_terms.specs.declared.symbols.Sort.{Sort}
@@ -8,7 +9,6 @@ use Rattle.nf_terms.specs.declared.symbols.Sort.TheVariants as sort
 use Rattle.term_text.specs.TermTexts.{Atom, Monomial, Sum, Polynomial, ArrayTerm, ListSyntax, Symbol, Read, Quotient, Remainder}
 use Rattle.term_text.specs.TermTexts.{Number, One, Times, Positive, Negative, Plus, Minus, Zero, Of, ZeroArray, Bare, Written}
 use Rattle.term_text.specs.TermTexts.{EmptyList, BareList, Pushed}
-use Rattle.term_values.specs.DigitNumbers.{digits_number}
 use Rattle.term_values.specs.NameMeanings.{Find, name_has_sort}
 
 -- of a number, of a number before an atom, and of a name where a sort is needed
@@ -63,7 +63,7 @@ any_name wanted s x = true
 
 -- each number is at most 2^127 - 1
 abbrev pub numbers_fit : Test
-numbers_fit = record { number = λ ds. nat_le (digits_number ds) weight_limit; factor = any_digits; name = any_name }
+numbers_fit = record { number = λ ds. nat_le (value_of_digits ds) weight_limit; factor = any_digits; name = any_name }
 
 -- each name stands for a position
 abbrev pub names_known : Find → Test

@@ -1,10 +1,10 @@
 -- What names stand for.
-use Rattle.std.specs.Prelude.{ℕ, Bool, true, false, List, Option, Some, None}
+use Rattle.std.specs.Prelude.{ℕ, Bool, false, List, Option, Some, None}
 use Rattle.fs_model.specs.declared.sides.Side.{Side}
 use Rattle.fs_model.specs.declared.sides.Side.TheVariants.{Left}
 use Rattle.fs_model.specs.declared.sides.Pos.{Pos}
 use Rattle.nf_terms.specs.declared.symbols.Sort.{Sort}
-use Rattle.nf_terms.specs.declared.symbols.Sort.TheVariants.{Scalar, Array, List as ListSort}
+use Rattle.nf_terms.specs.TermSorts.{same_term_sort}
 
 -- the position of a name of a side, and its sort
 abbrev pub Find : Type 0
@@ -22,18 +22,7 @@ position_meant (Some p) = p.0
 abbrev pub position : Find → Side → List ℕ → Pos
 position find s x = position_meant (find s x)
 
-abbrev pub same_sort : Sort → Sort → Bool
-same_sort Scalar Scalar = true
-same_sort Scalar Array = false
-same_sort Scalar ListSort = false
-same_sort Array Scalar = false
-same_sort Array Array = true
-same_sort Array ListSort = false
-same_sort ListSort Scalar = false
-same_sort ListSort Array = false
-same_sort ListSort ListSort = true
-
 -- whether a name that stands for something stands for something of this sort
 abbrev pub name_has_sort : Sort → Option (Pos × Sort) → Bool
 name_has_sort wanted None = false
-name_has_sort wanted (Some p) = same_sort wanted p.1
+name_has_sort wanted (Some p) = same_term_sort wanted p.1

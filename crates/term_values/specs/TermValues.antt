@@ -1,5 +1,6 @@
 -- The term that a written term stands for.
 use Rattle.std.specs.Prelude.{ℕ, pos, neg_ℤ, List, [], ◌∷◌}
+use Rattle.base_integers.specs.Digits.{value_of_digits}
 use Rattle.fs_model.specs.declared.sides.Side.{Side}
 use Rattle.fs_model.specs.declared.sides.Pos.{Pos}
 use Rattle.nf_terms.specs.declared.tree.Base.TheVariants as bases
@@ -10,7 +11,7 @@ use Rattle.nf_terms.specs.Lists.{ListTerm}
 use Rattle.term_text.specs.TermTexts as text
 use Rattle.term_text.specs.TermTexts.{Symbol, Read, Quotient, Remainder, Number, One, Times, Positive, Negative, Plus, Minus}
 use Rattle.term_text.specs.TermTexts.{Zero, Of, ZeroArray, Bare, Written, EmptyList, BareList, Pushed}
-use Rattle.term_values.specs.DigitNumbers.{digits_number, clipped}
+use Rattle.term_values.specs.DigitNumbers.{clipped_number}
 use Rattle.term_values.specs.NameMeanings.{Find, position}
 
 -- what digits and names stand for
@@ -19,10 +20,10 @@ pub record Interpretation : Type 0 where
   pub place : Side → List ℕ → Pos
 
 abbrev pub exact : Find → Interpretation
-exact find = record { number = digits_number; place = position find }
+exact find = record { number = value_of_digits; place = position find }
 
 abbrev pub within_limit : Find → Interpretation
-within_limit find = record { number = clipped; place = position find }
+within_limit find = record { number = clipped_number; place = position find }
 
 -- the coefficient that is written, 1 where there is none
 abbrev pub coefficient : (List ℕ → ℕ) → text.Monomial → ℕ

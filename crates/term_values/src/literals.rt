@@ -5,14 +5,14 @@ ghost use Rattle.nf_rel.specs.Literals as literals;
 ghost use Rattle.nf_rel.specs.NormalLiterals.{is_normal_literal};
 ghost use Rattle.nf_rel.specs.View.{literal_in};
 ghost use Rattle.term_condition_text.specs.View.{integer_in, condition_in};
-ghost use Rattle.term_values.specs.DigitNumbers.{clipped};
+ghost use Rattle.term_values.specs.DigitNumbers.{clipped_number};
 ghost use Rattle.term_values.specs.TermValues.{within_limit};
 ghost use Rattle.term_values.specs.Conditions.{integer_value, condition_value};
 ghost use Rattle.term_values.specs.TermFaults.{IsJudgedAs, IsLiteralOf, IsRefusedCondition};
 
 use crate::faults::{TermError, WrittenTerm, fault};
 use crate::names::Names;
-use crate::numbers::clipped;
+use crate::numbers::clip_number;
 use crate::reader::normal_polynomial;
 use nf_rel::kind::Kind;
 use nf_rel::literals::{Bound, NLit};
@@ -25,18 +25,18 @@ use term_condition_text::reader::read_condition;
 
 // The number that is written.
 fn integer(written: &WrittenInteger<'_>) -> i128
-    ensures { result ≡ integer_value clipped (integer_in written.now) }
+    ensures { result ≡ integer_value clipped_number (integer_in written.now) }
 {
     match written {
         WrittenInteger::Zero => 0,
-        WrittenInteger::Positive(digits) => clipped(digits),
-        WrittenInteger::Negative(digits) => -clipped(digits),
+        WrittenInteger::Positive(digits) => clip_number(digits),
+        WrittenInteger::Negative(digits) => -clip_number(digits),
     }
 }
 
 // The literal of a direction and a bound, where it is in normal form.
 #[tactic(auto, using(crate::proofs::LiteralForms::literal_forms))]
-fn bounded(dir: Poly, kind: Kind, bound: &i128) -> Result<NLit, TermError>
+fn bound_direction(dir: Poly, kind: Kind, bound: &i128) -> Result<NLit, TermError>
     ensures { IsJudgedAs literal_in result (is_normal_literal (literals.Is dir kind bound.now)) (literals.Is dir kind bound.now) }
 {
     let _ = dir.tree();
@@ -69,7 +69,7 @@ fn normal_literal<N: Names>(
         WrittenCondition::Compared(polynomial, kind, number) => {
             let dir = normal_polynomial(alloc, names, polynomial)?;
             let bound = integer(number);
-            bounded(dir, *kind, &bound)
+            bound_direction(dir, *kind, &bound)
         }
     }
 }

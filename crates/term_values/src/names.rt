@@ -1,7 +1,8 @@
 //! What names stand for.
 
 ghost use Rattle.std.specs.Prelude.{◌≡◌, is_some};
-ghost use Rattle.term_values.specs.NameMeanings.{position, name_has_sort, same_sort};
+ghost use Rattle.nf_terms.specs.TermSorts.{same_term_sort};
+ghost use Rattle.term_values.specs.NameMeanings.{position, name_has_sort};
 
 use nf_terms::symbols::Sort;
 use nf_terms::tree::{Pos, Side};
@@ -40,7 +41,7 @@ pub fn is_known<N: Names>(names: &N, side: Side, name: &[u8]) -> bool
 }
 
 fn same_sort(wanted: Sort, sort: Sort) -> bool
-    ensures { result ≡ same_sort wanted sort }
+    ensures { result ≡ same_term_sort wanted sort }
 {
     match wanted {
         Sort::Scalar => match sort {

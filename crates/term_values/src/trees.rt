@@ -4,13 +4,13 @@ ghost use Rattle.std.specs.Prelude.{◌≡◌, ◌++◌, map, pos, List, IfOk, u
 ghost use Rattle.nf_terms.specs.NormalTerms as terms;
 ghost use Rattle.nf_terms.specs.View as view;
 ghost use Rattle.term_text.specs.View as text;
-ghost use Rattle.term_values.specs.DigitNumbers.{clipped};
+ghost use Rattle.term_values.specs.DigitNumbers.{clipped_number};
 ghost use Rattle.term_values.specs.TermValues.{within_limit, coefficient, atom_value, atoms_of, polynomial_value, array_value};
 ghost use Rattle.term_values.specs.TermValues.{list_base};
 ghost use Rattle.term_values.specs.ListParts.{under_sign, base_value};
 
 use crate::names::{Names, position};
-use crate::numbers::clipped;
+use crate::numbers::clip_number;
 use nf_terms::copies::{push_atom, push_term};
 use nf_terms::stop::NoMemory;
 use nf_terms::tree::{ArrTree, Atom, Base, MonoTree, PolyTree, SeqBase};
@@ -22,11 +22,11 @@ use term_text::tree::{
 
 // The coefficient that a monomial begins with: 1 where it begins with an atom.
 fn head_number(head: &WrittenHead<'_>) -> i128
-    ensures number { result ≡ pos (coefficient clipped (text.head_in head.now)) }
+    ensures number { result ≡ pos (coefficient clipped_number (text.head_in head.now)) }
     ensures natural { result ≡ pos (unsigned_abs result) }
 {
     match head {
-        WrittenHead::Number(digits) => clipped(digits),
+        WrittenHead::Number(digits) => clip_number(digits),
         WrittenHead::One(_) => 1,
     }
 }
@@ -34,7 +34,7 @@ fn head_number(head: &WrittenHead<'_>) -> i128
 // The coefficient of a monomial under its sign.
 #[tactic(auto, using(crate::proofs::Lists::coefficient_tree))]
 fn signed_number(minus: bool, monomial: &WrittenMonomial<'_>) -> i128
-    ensures { result ≡ under_sign minus (coefficient clipped (text.written_monomial_in monomial.now)) }
+    ensures { result ≡ under_sign minus (coefficient clipped_number (text.written_monomial_in monomial.now)) }
 {
     let number = head_number(&monomial.head);
     if minus { -number } else { number }

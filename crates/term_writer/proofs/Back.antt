@@ -8,6 +8,7 @@ use Rattle.std.proofs.lemmas.Bool.Decides.{nat_tests}
 use Rattle.std.proofs.lemmas.Fmt.{decimal_by_steps_wide}
 use Rattle.std.proofs.lemmas.List.Sums.{fold-append}
 use Rattle.base_lemmas.proofs.Quantifiers.{list_all_push}
+use Rattle.base_integers.specs.Digits.{with_digit, value_of_digits}
 use Rattle.fs_model.specs.Words.{is_digit}
 use Rattle.fs_model.specs.declared.sides.Pos.{Pos}
 use Rattle.nf_terms.specs.declared.tree.Base.TheVariants as bases
@@ -19,9 +20,9 @@ use Rattle.nf_terms.specs.Measures.{weight_of}
 use Rattle.nf_terms.specs.Normal.{narrow_atom, narrow_monomial, narrow_inside, narrow_writes, narrow_array, is_light}
 use Rattle.term_values.specs.NameMeanings.{Find, position_meant}
 use Rattle.term_writer.specs.NamedSymbols.{IsNamed, OfAtom, OfMonomial, OfPolynomial, OfWrites, OfArray}
-use Rattle.term_writer.specs.WrittenTerms.{begun, continued, atom_written, times_written, monomial_written, sum_written, polynomial_written, writes_written}
+use Rattle.term_writer.specs.WrittenTerms.{sum_of_term, sum_with_term, atom_written, times_written, monomial_written, sum_written, polynomial_written}
+use Rattle.term_writer.specs.WrittenTerms.{writes_written}
 use Rattle.term_writer.specs.WrittenTerms.{array_written}
-use Rattle.term_values.specs.DigitNumbers.{shifted, digits_number}
 use Rattle.term_values.specs.TermValues.{exact, coefficient, atom_value, atoms_of, sum_value, polynomial_value, array_value}
 use Rattle.term_writer.proofs.Bound.{light_is}
 
@@ -29,7 +30,7 @@ use Rattle.term_writer.proofs.Bound.{light_is}
 
 pub record NumberOf (n : ℕ) (ds : List ℕ) : Type 0 where
   pub digits : list_all is_digit ds ≡ true
-  pub value : digits_number ds ≡ n
+  pub value : value_of_digits ds ≡ n
   pub positive : 0 < n → is_number_text ds ≡ true
 
 digit_is : (n : ℕ) → n < 10 → is_digit (48 + n) ≡ true
@@ -49,7 +50,7 @@ one_digit n h = record {
 more_digits : (n : ℕ) (ds : List ℕ) → 10 ≤ n → NumberOf (n / 10) ds → NumberOf n (ds ++ ((48 + n % 10) ∷ []))
 more_digits n ds h e = record {
   digits = list_all_push is_digit ds (48 + n % 10) e.digits (digit_is (n % 10) (omega arith));
-  value = fold-append shifted 0 ds ((48 + n % 10) ∷ []) ∙ rw e.value (omega arith);
+  value = fold-append with_digit 0 ds ((48 + n % 10) ∷ []) ∙ rw e.value (omega arith);
   positive = λ some. number_more ds (48 + n % 10) (digit_is (n % 10) (omega arith)) (e.positive (omega (arith, h)));
 }
 
@@ -58,16 +59,17 @@ digits_of n h = decimal_by_steps_wide NumberOf one_digit more_digits n (lt_trans
 
 -- ---- back to the term
 
-coefficient_times : (name : Pos → List ℕ) (w : Monomial) (m : terms.Monomial) → coefficient digits_number (times_written name w m) ≡ coefficient digits_number w
+coefficient_times : (name : Pos → List ℕ) (w : Monomial) (m : terms.Monomial)
+    → coefficient value_of_digits (times_written name w m) ≡ coefficient value_of_digits w
 coefficient_times name w terms.One = refl
 coefficient_times name w (terms.Times a m) = coefficient_times name (Times w (atom_written name a)) m
 
 coefficient_head : (b : Bool) (n : ℕ) (a : Atom) → n < 2 ^ 127 → (b ≡ true → n ≡ 1)
-    → coefficient digits_number (cond b (One a) (Times (Number (decimal n)) a)) ≡ n
+    → coefficient value_of_digits (cond b (One a) (Times (Number (decimal n)) a)) ≡ n
 coefficient_head true n a h e = sym (e refl)
 coefficient_head false n a h e = (digits_of n h).value
 
-coefficient_back : (name : Pos → List ℕ) (n : ℕ) (m : terms.Monomial) → n < 2 ^ 127 → coefficient digits_number (monomial_written name n m) ≡ n
+coefficient_back : (name : Pos → List ℕ) (n : ℕ) (m : terms.Monomial) → n < 2 ^ 127 → coefficient value_of_digits (monomial_written name n m) ≡ n
 coefficient_back name n terms.One h = (digits_of n h).value
 coefficient_back name n (terms.Times a m) h =
     coefficient_times name (cond (n == 1) (One (atom_written name a)) (Times (Number (decimal n)) (atom_written name a))) m
@@ -78,13 +80,13 @@ head_atoms : (find : Find) (b : Bool) (ds : List ℕ) (a : Atom) (m : terms.Mono
 head_atoms find true ds a m = refl
 head_atoms find false ds a m = refl
 
-begun_back : (find : Find) (c : ℤ) (w : Monomial) (p : terms.Polynomial) → coefficient digits_number w ≡ unsigned_abs c
-    → sum_value (exact find) (begun c w) p ≡ terms.Plus (atoms_of (exact find) w terms.One) c p
+begun_back : (find : Find) (c : ℤ) (w : Monomial) (p : terms.Polynomial) → coefficient value_of_digits w ≡ unsigned_abs c
+    → sum_value (exact find) (sum_of_term c w) p ≡ terms.Plus (atoms_of (exact find) w terms.One) c p
 begun_back find (pos n) w p e = ap (λ k. terms.Plus (atoms_of (exact find) w terms.One) (pos k) p) e
 begun_back find (negsuc n) w p e = ap (λ k. terms.Plus (atoms_of (exact find) w terms.One) (neg_ℤ (pos k)) p) e
 
-continued_back : (find : Find) (s : Sum) (c : ℤ) (w : Monomial) (p : terms.Polynomial) → coefficient digits_number w ≡ unsigned_abs c
-    → sum_value (exact find) (continued s c w) p ≡ sum_value (exact find) s (terms.Plus (atoms_of (exact find) w terms.One) c p)
+continued_back : (find : Find) (s : Sum) (c : ℤ) (w : Monomial) (p : terms.Polynomial) → coefficient value_of_digits w ≡ unsigned_abs c
+    → sum_value (exact find) (sum_with_term s c w) p ≡ sum_value (exact find) s (terms.Plus (atoms_of (exact find) w terms.One) c p)
 continued_back find s (pos n) w p e = ap (λ k. sum_value (exact find) s (terms.Plus (atoms_of (exact find) w terms.One) (pos k) p)) e
 continued_back find s (negsuc n) w p e = ap (λ k. sum_value (exact find) s (terms.Plus (atoms_of (exact find) w terms.One) (neg_ℤ (pos k)) p)) e
 
@@ -128,7 +130,7 @@ mutual
   sum_back name find s (terms.Plus m c p) f l e =
       let q = and_parts (narrow_monomial m) (narrow_inside p) e in
       let w = monomial_written name (unsigned_abs c) m in
-      sum_back name find (continued s c w) p f.1 (omega (arith, l)) q.1
+      sum_back name find (sum_with_term s c w) p f.1 (omega (arith, l)) q.1
       ∙ continued_back find s c w p (coefficient_back name (unsigned_abs c) m (omega (arith, l)))
       ∙ ap (λ n. sum_value (exact find) s (terms.Plus n c p)) (monomial_back name find (unsigned_abs c) m f.0 q.0)
 
@@ -140,7 +142,7 @@ mutual
       let q = and_parts (narrow_monomial m) (narrow_inside p) e in
       let t = light_is (terms.Plus m c p) l in
       let w = monomial_written name (unsigned_abs c) m in
-      sum_back name find (begun c w) p f.1 (omega (arith, t)) q.1
+      sum_back name find (sum_of_term c w) p f.1 (omega (arith, t)) q.1
       ∙ begun_back find c w p (coefficient_back name (unsigned_abs c) m (omega (arith, t)))
       ∙ ap (λ n. terms.Plus n c p) (monomial_back name find (unsigned_abs c) m f.0 q.0)
 

@@ -15,7 +15,8 @@ use Rattle.nf_terms.specs.Normal.{narrow_atom, narrow_monomial, narrow_inside, n
 use Rattle.term_text.specs.TermTexts.{Atom, Monomial, Sum, ArrayTerm, Number, One, Times, ZeroArray, Bare, Written, symbol_text, atom_text, monomial_text}
 use Rattle.term_text.specs.TermTexts.{sum_text, polynomial_text, array_text}
 use Rattle.term_writer.specs.NamedSymbols.{IsShort, OfAtom, OfMonomial, OfPolynomial, OfWrites, OfArray}
-use Rattle.term_writer.specs.WrittenTerms.{begun, continued, atom_written, times_written, monomial_written, sum_written, polynomial_written, writes_written}
+use Rattle.term_writer.specs.WrittenTerms.{sum_of_term, sum_with_term, atom_written, times_written, monomial_written, sum_written, polynomial_written}
+use Rattle.term_writer.specs.WrittenTerms.{writes_written}
 use Rattle.term_writer.specs.WrittenTerms.{array_written}
 
 pub light_is : (p : terms.Polynomial) → is_light p ≡ true → weight_of p < 2 ^ 127
@@ -41,11 +42,11 @@ four a b c d = omega (arith, three a b (c ++ d), length-append c d)
 five : (a b c d e : List ℕ) → length (a ++ (b ++ (c ++ (d ++ e)))) ≡ length a + length b + length c + length d + length e
 five a b c d e = omega (arith, four a b c (d ++ e), length-append d e)
 
-begun_bound : (c : ℤ) (m : Monomial) → length (sum_text (begun c m)) ≤ 1 + length (monomial_text m)
+begun_bound : (c : ℤ) (m : Monomial) → length (sum_text (sum_of_term c m)) ≤ 1 + length (monomial_text m)
 begun_bound (pos n) m = omega arith
 begun_bound (negsuc n) m = omega arith
 
-continued_bound : (s : Sum) (c : ℤ) (m : Monomial) → length (sum_text (continued s c m)) ≤ length (sum_text s) + 3 + length (monomial_text m)
+continued_bound : (s : Sum) (c : ℤ) (m : Monomial) → length (sum_text (sum_with_term s c m)) ≤ length (sum_text s) + 3 + length (monomial_text m)
 continued_bound s (pos n) m = omega (arith, three (sum_text s) (codes " + ") (monomial_text m))
 continued_bound s (negsuc n) m = omega (arith, three (sum_text s) (codes " - ") (monomial_text m))
 
@@ -115,7 +116,7 @@ mutual
       let w = monomial_written name (unsigned_abs c) m in
       omega (
         arith,
-        sum_bound name (continued s c w) p h.1 (omega (arith, light)) q.1,
+        sum_bound name (sum_with_term s c w) p h.1 (omega (arith, light)) q.1,
         continued_bound s c w,
         monomial_bound name (unsigned_abs c) m h.0 (omega (arith, light)) q.0,
       )
@@ -127,7 +128,12 @@ mutual
       let q = and_parts (narrow_monomial m) (narrow_inside p) e in
       let l = light_is (terms.Plus m c p) light in
       let w = monomial_written name (unsigned_abs c) m in
-      omega (arith, sum_bound name (begun c w) p h.1 (omega (arith, l)) q.1, begun_bound c w, monomial_bound name (unsigned_abs c) m h.0 (omega (arith, l)) q.0)
+      omega (
+        arith,
+        sum_bound name (sum_of_term c w) p h.1 (omega (arith, l)) q.1,
+        begun_bound c w,
+        monomial_bound name (unsigned_abs c) m h.0 (omega (arith, l)) q.0,
+      )
 
   writes_bound : (name : Pos → List ℕ) (w : ArrayTerm) (ws : terms.Writes) → OfWrites (IsShort name) ws → narrow_writes ws ≡ true
       → length (array_text (writes_written name w ws)) ≤ length (array_text w) + 47 * size_of_writes ws
@@ -160,4 +166,9 @@ some_bound name m c p h light e =
     let q = and_parts (narrow_monomial m) (narrow_inside p) e in
     let l = light_is (terms.Plus m c p) light in
     let w = monomial_written name (unsigned_abs c) m in
-    omega (arith, sum_bound name (begun c w) p h.1 (omega (arith, l)) q.1, begun_bound c w, monomial_bound name (unsigned_abs c) m h.0 (omega (arith, l)) q.0)
+    omega (
+      arith,
+      sum_bound name (sum_of_term c w) p h.1 (omega (arith, l)) q.1,
+      begun_bound c w,
+      monomial_bound name (unsigned_abs c) m h.0 (omega (arith, l)) q.0,
+    )

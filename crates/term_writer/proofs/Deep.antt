@@ -11,18 +11,19 @@ use Rattle.term_text.specs.SpellableTerms.{polynomial_spelled, array_spelled}
 use Rattle.term_text.specs.Brackets.{most_open, atom_depth, monomial_depth, sum_depth, polynomial_depth, array_depth}
 use Rattle.term_text.proofs.Depths.{term_open}
 use Rattle.term_text.specs.TermTexts as text
-use Rattle.term_writer.specs.WrittenTerms.{begun, continued, atom_written, times_written, monomial_written, sum_written, polynomial_written, writes_written}
+use Rattle.term_writer.specs.WrittenTerms.{sum_of_term, sum_with_term, atom_written, times_written, monomial_written, sum_written, polynomial_written}
+use Rattle.term_writer.specs.WrittenTerms.{writes_written}
 use Rattle.term_writer.specs.WrittenTerms.{array_written}
 
 head_depth : (b : Bool) (ds : List ℕ) (a : Atom) → monomial_depth (cond b (One a) (Times (Number ds) a)) ≡ atom_depth a
 head_depth true ds a = refl
 head_depth false ds a = omega arith
 
-begun_depth : (c : ℤ) (m : Monomial) → sum_depth (begun c m) ≡ monomial_depth m
+begun_depth : (c : ℤ) (m : Monomial) → sum_depth (sum_of_term c m) ≡ monomial_depth m
 begun_depth (pos n) m = refl
 begun_depth (negsuc n) m = refl
 
-continued_depth : (s : Sum) (c : ℤ) (m : Monomial) → sum_depth (continued s c m) ≡ max (sum_depth s) (monomial_depth m)
+continued_depth : (s : Sum) (c : ℤ) (m : Monomial) → sum_depth (sum_with_term s c m) ≡ max (sum_depth s) (monomial_depth m)
 continued_depth s (pos n) m = refl
 continued_depth s (negsuc n) m = refl
 
@@ -33,7 +34,8 @@ mutual
   atom_deep name (terms.Quotient a b) = omega (arith, polynomial_deep name a, polynomial_deep name b)
   atom_deep name (terms.Remainder a b) = omega (arith, polynomial_deep name a, polynomial_deep name b)
 
-  times_deep : (name : Pos → List ℕ) (w : Monomial) (m : terms.Monomial)
+  times_deep :
+      (name : Pos → List ℕ) (w : Monomial) (m : terms.Monomial)
       → monomial_depth (times_written name w m) ≡ max (monomial_depth w) (depth_of_monomial m)
   times_deep name w terms.One = omega arith
   times_deep name w (terms.Times a m) = omega (arith, times_deep name (Times w (atom_written name a)) m, atom_deep name a)
@@ -52,13 +54,13 @@ mutual
   sum_deep name s terms.Zero = omega arith
   sum_deep name s (terms.Plus m c p) =
       let w = monomial_written name (unsigned_abs c) m in
-      omega (arith, sum_deep name (continued s c w) p, continued_depth s c w, monomial_deep name (unsigned_abs c) m)
+      omega (arith, sum_deep name (sum_with_term s c w) p, continued_depth s c w, monomial_deep name (unsigned_abs c) m)
 
   pub polynomial_deep : (name : Pos → List ℕ) (p : terms.Polynomial) → polynomial_depth (polynomial_written name p) ≡ depth_of p
   polynomial_deep name terms.Zero = refl
   polynomial_deep name (terms.Plus m c p) =
       let w = monomial_written name (unsigned_abs c) m in
-      omega (arith, sum_deep name (begun c w) p, begun_depth c w, monomial_deep name (unsigned_abs c) m)
+      omega (arith, sum_deep name (sum_of_term c w) p, begun_depth c w, monomial_deep name (unsigned_abs c) m)
 
   writes_deep : (name : Pos → List ℕ) (w : ArrayTerm) (ws : terms.Writes) → array_depth (writes_written name w ws) ≡ max (array_depth w) (depth_of_writes ws)
   writes_deep name w terms.NoWrites = omega arith

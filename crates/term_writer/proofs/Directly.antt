@@ -10,7 +10,8 @@ use Rattle.nf_terms.specs.NormalTerms as terms
 use Rattle.nf_terms.specs.Lists as lists
 use Rattle.term_text.specs.TermTexts.{Atom, Monomial, Sum, ArrayTerm, ListSyntax, Number, One, Times, ZeroArray, Bare, Written, Pushed, atom_text}
 use Rattle.term_text.specs.TermTexts.{monomial_text, sum_text, polynomial_text, array_text, list_text}
-use Rattle.term_writer.specs.WrittenTerms.{begun, continued, atom_written, times_written, monomial_written, sum_written, polynomial_written, writes_written}
+use Rattle.term_writer.specs.WrittenTerms.{sum_of_term, sum_with_term, atom_written, times_written, monomial_written, sum_written, polynomial_written}
+use Rattle.term_writer.specs.WrittenTerms.{writes_written}
 use Rattle.term_writer.specs.WrittenTerms.{array_written, items_written, list_base_written, list_written, integer_written, literal_written}
 use Rattle.nf_rel.specs.declared.kind.Kind.{Kind}
 use Rattle.nf_rel.specs.Literals.{Is}
@@ -22,11 +23,11 @@ head_text : (b : Bool) (ds : List ℕ) (a : Atom) → monomial_text (cond b (One
 head_text true ds a = refl
 head_text false ds a = sym (append_assoc ds (codes "*") (atom_text a))
 
-begun_text : (c : ℤ) (m : Monomial) → sum_text (begun c m) ≡ sign true c ++ monomial_text m
+begun_text : (c : ℤ) (m : Monomial) → sum_text (sum_of_term c m) ≡ sign true c ++ monomial_text m
 begun_text (pos n) m = refl
 begun_text (negsuc n) m = refl
 
-continued_text : (s : Sum) (c : ℤ) (m : Monomial) → sum_text (continued s c m) ≡ sum_text s ++ (sign false c ++ monomial_text m)
+continued_text : (s : Sum) (c : ℤ) (m : Monomial) → sum_text (sum_with_term s c m) ≡ sum_text s ++ (sign false c ++ monomial_text m)
 continued_text s (pos n) m = refl
 continued_text s (negsuc n) m = refl
 
@@ -58,7 +59,7 @@ mutual
   sum_same name s terms.Zero = sym (append-nil (sum_text s))
   sum_same name s (terms.Plus m c p) =
       let w = monomial_written name (unsigned_abs c) m in
-      sum_same name (continued s c w) p
+      sum_same name (sum_with_term s c w) p
       ∙ ap (λ (xs : List ℕ). xs ++ terms_direct name false p)
       (continued_text s c w ∙ ap (λ (xs : List ℕ). sum_text s ++ (sign false c ++ xs)) (monomial_same name (unsigned_abs c) m))
       ∙ append_assoc (sum_text s) (sign false c ++ monomial_direct name (unsigned_abs c) m) (terms_direct name false p)
@@ -68,7 +69,7 @@ mutual
   polynomial_same name terms.Zero = refl
   polynomial_same name (terms.Plus m c p) =
       let w = monomial_written name (unsigned_abs c) m in
-      sum_same name (begun c w) p
+      sum_same name (sum_of_term c w) p
       ∙ ap (λ (xs : List ℕ). xs ++ terms_direct name false p) (begun_text c w ∙ ap (λ (xs : List ℕ). sign true c ++ xs) (monomial_same name (unsigned_abs c) m))
       ∙ append_assoc (sign true c) (monomial_direct name (unsigned_abs c) m) (terms_direct name false p)
 

@@ -5,6 +5,7 @@ use Rattle.std.proofs.lemmas.Bool.Decides.{nat_tests}
 use Rattle.std.specs.Cmp.{signed_Decides}
 use Rattle.std.proofs.lemmas.Int.{ints}
 use Rattle.std.proofs.lemmas.Bool.{and_parts}
+use Rattle.base_integers.specs.Digits.{value_of_digits}
 use Rattle.fs_model.specs.declared.sides.Pos.{Pos}
 use Rattle.nf_terms.specs.NormalTerms as terms
 use Rattle.nf_terms.specs.Measures.{size_of, depth_of}
@@ -17,7 +18,6 @@ use Rattle.term_text.specs.TermTexts.{polynomial_text}
 use Rattle.term_condition_text.specs.ConditionTexts.{integer_text, kind_text, condition_text, integer_spelled, SpellsCondition}
 use Rattle.term_condition_text.proofs.Whole.{same_brackets}
 use Rattle.term_values.specs.NameMeanings.{Find}
-use Rattle.term_values.specs.DigitNumbers.{digits_number}
 use Rattle.term_values.specs.TermValues.{exact}
 use Rattle.term_values.specs.Conditions.{integer_value, condition_value}
 use Rattle.term_writer.specs.NamedSymbols.{IsNamed, IsShort, OfLiteral}
@@ -89,7 +89,7 @@ literal_bound name (Is (terms.Plus m c p) k b) h e =
 
 -- ---- meaning
 
-integer_back : (z : ℤ) → is_inner_number z ≡ true → integer_value digits_number (integer_written z) ≡ z
+integer_back : (z : ℤ) → is_inner_number z ≡ true → integer_value value_of_digits (integer_written z) ≡ z
 integer_back (pos zero) e = refl
 integer_back (pos (suc n)) e = ap pos (digits_of (suc n) (inner_small (pos (suc n)) e)).value
 integer_back (negsuc n) e = ap (λ k. neg_ℤ (pos k)) (digits_of (suc n) (inner_small (negsuc n) e)).value

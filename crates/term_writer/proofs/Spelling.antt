@@ -14,7 +14,8 @@ use Rattle.term_text.specs.TermTexts.{Atom, Monomial, Sum, ArrayTerm, Number, On
 use Rattle.term_text.specs.SpellableTerms.{is_number_text, atom_spelled, monomial_spelled, sum_spelled, polynomial_spelled, array_spelled}
 use Rattle.term_values.specs.NameMeanings.{Find}
 use Rattle.term_writer.specs.NamedSymbols.{IsNamed, OfAtom, OfMonomial, OfPolynomial, OfWrites, OfArray}
-use Rattle.term_writer.specs.WrittenTerms.{begun, continued, atom_written, times_written, monomial_written, sum_written, polynomial_written, writes_written}
+use Rattle.term_writer.specs.WrittenTerms.{sum_of_term, sum_with_term, atom_written, times_written, monomial_written, sum_written, polynomial_written}
+use Rattle.term_writer.specs.WrittenTerms.{writes_written}
 use Rattle.term_writer.specs.WrittenTerms.{array_written}
 use Rattle.term_writer.proofs.Bound.{light_is}
 use Rattle.term_writer.proofs.Back.{digits_of}
@@ -24,11 +25,11 @@ head_spelled : (b : Bool) (ds : List ℕ) (a : Atom) → is_number_text ds ≡ t
 head_spelled true ds a e f = f
 head_spelled false ds a e f = and_from (is_number_text ds) (atom_spelled a) e f
 
-begun_spelled : (c : ℤ) (m : Monomial) → monomial_spelled m ≡ true → sum_spelled (begun c m) ≡ true
+begun_spelled : (c : ℤ) (m : Monomial) → monomial_spelled m ≡ true → sum_spelled (sum_of_term c m) ≡ true
 begun_spelled (pos n) m e = e
 begun_spelled (negsuc n) m e = e
 
-continued_spelled : (s : Sum) (c : ℤ) (m : Monomial) → sum_spelled s ≡ true → monomial_spelled m ≡ true → sum_spelled (continued s c m) ≡ true
+continued_spelled : (s : Sum) (c : ℤ) (m : Monomial) → sum_spelled s ≡ true → monomial_spelled m ≡ true → sum_spelled (sum_with_term s c m) ≡ true
 continued_spelled s (pos n) m e f = and_from (sum_spelled s) (monomial_spelled m) e f
 continued_spelled s (negsuc n) m e f = and_from (sum_spelled s) (monomial_spelled m) e f
 
@@ -85,7 +86,7 @@ mutual
       let r = and_parts (not (int_eq c (pos 0)) && ordered_monomial m && monomial_rises m p) (ordered p) o in
       let t = and_parts (not (int_eq c (pos 0))) (ordered_monomial m) (and_parts (not (int_eq c (pos 0)) && ordered_monomial m) (monomial_rises m p) r.0).0 in
       let w = monomial_written name (unsigned_abs c) m in
-      sum_spells name find (continued s c w) p h.1
+      sum_spells name find (sum_with_term s c w) p h.1
       (continued_spelled s c w f (monomial_spells name find (unsigned_abs c) m h.0 (abs_pos c t.0) (omega (arith, l)) q.0 t.1)) (omega (arith, l)) q.1 r.1
 
   pub polynomial_spells : (name : Pos → List ℕ) (find : Find) (p : terms.Polynomial) → OfPolynomial (IsNamed name find) p → is_light p ≡ true
@@ -97,7 +98,8 @@ mutual
       let r = and_parts (not (int_eq c (pos 0)) && ordered_monomial m && monomial_rises m p) (ordered p) o in
       let t = and_parts (not (int_eq c (pos 0))) (ordered_monomial m) (and_parts (not (int_eq c (pos 0)) && ordered_monomial m) (monomial_rises m p) r.0).0 in
       let w = monomial_written name (unsigned_abs c) m in
-      sum_spells name find (begun c w) p h.1 (begun_spelled c w (monomial_spells name find (unsigned_abs c) m h.0 (abs_pos c t.0) (omega (arith, k)) q.0 t.1))
+      sum_spells name find (sum_of_term c w) p h.1
+      (begun_spelled c w (monomial_spells name find (unsigned_abs c) m h.0 (abs_pos c t.0) (omega (arith, k)) q.0 t.1))
       (omega (arith, k)) q.1 r.1
 
   writes_spells : (name : Pos → List ℕ) (find : Find) (w : ArrayTerm) (ws : terms.Writes) → OfWrites (IsNamed name find) ws → array_spelled w ≡ true

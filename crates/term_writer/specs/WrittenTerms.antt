@@ -15,13 +15,13 @@ use Rattle.term_condition_text.specs.ConditionTexts as conditions
 use Rattle.term_condition_text.specs.ConditionTexts.{Integer, ZeroInteger, Condition, False, Compared}
 
 -- a first monomial, and a later one, under the sign of its coefficient
-abbrev pub begun : ℤ → Monomial → Sum
-begun (pos n) m = Positive m
-begun (negsuc n) m = Negative m
+abbrev pub sum_of_term : ℤ → Monomial → Sum
+sum_of_term (pos n) m = Positive m
+sum_of_term (negsuc n) m = Negative m
 
-abbrev pub continued : Sum → ℤ → Monomial → Sum
-continued s (pos n) m = Plus s m
-continued s (negsuc n) m = Minus s m
+abbrev pub sum_with_term : Sum → ℤ → Monomial → Sum
+sum_with_term s (pos n) m = Plus s m
+sum_with_term s (negsuc n) m = Minus s m
 
 abbrev mutual
   pub atom_written : (Pos → List ℕ) → terms.Atom → Atom
@@ -43,11 +43,11 @@ abbrev mutual
 
   pub sum_written : (Pos → List ℕ) → Sum → terms.Polynomial → Sum
   sum_written name s terms.Zero = s
-  sum_written name s (terms.Plus m c p) = sum_written name (continued s c (monomial_written name (unsigned_abs c) m)) p
+  sum_written name s (terms.Plus m c p) = sum_written name (sum_with_term s c (monomial_written name (unsigned_abs c) m)) p
 
   pub polynomial_written : (Pos → List ℕ) → terms.Polynomial → Polynomial
   polynomial_written name terms.Zero = Zero
-  polynomial_written name (terms.Plus m c p) = Of (sum_written name (begun c (monomial_written name (unsigned_abs c) m)) p)
+  polynomial_written name (terms.Plus m c p) = Of (sum_written name (sum_of_term c (monomial_written name (unsigned_abs c) m)) p)
 
   pub writes_written : (Pos → List ℕ) → ArrayTerm → terms.Writes → ArrayTerm
   writes_written name a terms.NoWrites = a

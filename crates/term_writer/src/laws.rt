@@ -10,7 +10,7 @@ ghost use Rattle.nf_rel.specs.Literals.{NormalLiteral, True};
 ghost use Rattle.nf_rel.specs.NormalLiterals.{IsNormalLiteral, size_of_literal};
 ghost use Rattle.term_text.specs.TermTexts.{polynomial, array, list, polynomial_text, array_text, list_text};
 ghost use Rattle.term_text.specs.SpellableTerms.{SpellsTermText};
-ghost use Rattle.term_condition_text.specs.ConditionTexts.{condition_text, SpellsCondition as SpellsCondition};
+ghost use Rattle.term_condition_text.specs.ConditionTexts.{condition_text, SpellsCondition};
 ghost use Rattle.term_values.specs.NameMeanings.{Find};
 ghost use Rattle.term_values.specs.TermValues.{exact, polynomial_value, array_value, list_value};
 ghost use Rattle.term_values.specs.Conditions.{condition_value};

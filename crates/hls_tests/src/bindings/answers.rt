@@ -9,7 +9,7 @@ ghost use Rattle.hls_bind.specs.Results.{IsBuiltOf};
 use fs_ast::machine::Machine;
 use fs_model::name::Name;
 use fs_model::parts::{Parts, VarId};
-use fs_text_machines::reading::parts_and_machine;
+use fs_sample_machines::reading::parts_and_machine;
 use fs_write::write_parts;
 use hls_bind::{BindError, Binding, Bound, bind, read_binding};
 use std::alloc::Global;

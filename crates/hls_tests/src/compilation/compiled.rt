@@ -1,6 +1,8 @@
 //! Programs and the texts of their machines.
 
-use crate::compilation::programs::{adds, answer, compiled, copies, less, scalars, variable};
+use crate::compilation::programs::{
+    adds, answer, compile_or_fail, copies, less, scalars, variable,
+};
 use fs_ast::check::{CheckFault, CheckRule};
 use fs_inputs::read_inputs;
 use fs_model::parts::{Decl, Expr, Role};
@@ -14,7 +16,7 @@ use std::test::Fail;
 
 // The text of a program's machine.
 fn text(alloc: Global, program: &Program) -> Result<Vec<u8>, Fail> {
-    let compiled = compiled(alloc, program)?;
+    let compiled = compile_or_fail(alloc, program)?;
     if !compiled.parts.is_well_formed() {
         return Err("parts of no text".into());
     }
@@ -93,7 +95,7 @@ fn a_loop_goes_back_to_its_guard(rt: HostRuntime) -> Result<(), Fail> {
 
 // How a run of a program's machine from inputs ends.
 fn ended(alloc: Global, program: &Program, inputs: &str) -> Result<Ended, Fail> {
-    let compiled = compiled(alloc, program)?;
+    let compiled = compile_or_fail(alloc, program)?;
     let Ok(inputs) = read_inputs(alloc, inputs.as_bytes(), &compiled.machine) else {
         return Err("no inputs".into());
     };

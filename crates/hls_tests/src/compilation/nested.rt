@@ -1,6 +1,6 @@
 //! Blocks in blocks.
 
-use crate::compilation::programs::{compiled, less, scalars};
+use crate::compilation::programs::{compile_or_fail, less, scalars};
 use fs_model::parts::Role;
 use hls_lang::program::{Program, Stmt};
 use std::alloc::Global;
@@ -30,6 +30,6 @@ fn blocks_nest_64_deep(rt: HostRuntime) -> Result<(), Fail> {
     let deepest = loops(alloc, 64)?;
     assert_eq!(rt; deepest.is_well_formed(), true);
     assert_eq!(rt; loops(alloc, 65)?.is_well_formed(), false);
-    assert_eq!(rt; compiled(alloc, &deepest)?.machine.state_count(), 65);
+    assert_eq!(rt; compile_or_fail(alloc, &deepest)?.machine.state_count(), 65);
     Ok(())
 }

@@ -1,6 +1,6 @@
 //! Parts of programs.
 
-use fs_model::memory::boxed;
+use fs_model::memory::put_in_box;
 use fs_model::name::Name;
 use fs_model::parts::{Assign, Decl, Expr, Guard, Lit, Rel, Role, Sort};
 use hls_lang::compile::{Compiled, compile};
@@ -32,10 +32,10 @@ pub fn copies(alloc: Global, line: u32, left: &str, right: &str) -> Result<Stmt,
 
 /// `sum = sum + value;` on a line.
 pub fn adds(alloc: Global, line: u32, sum: &str, value: Expr<Name>) -> Result<Stmt, Fail> {
-    let Ok(value) = boxed(alloc, value) else {
+    let Ok(value) = put_in_box(alloc, value) else {
         return Err("no memory".into());
     };
-    let Ok(before) = boxed(alloc, variable(alloc, sum)?) else {
+    let Ok(before) = put_in_box(alloc, variable(alloc, sum)?) else {
         return Err("no memory".into());
     };
     let assign = Assign::Set(name(alloc, sum)?, Expr::Add(before, value));
@@ -78,7 +78,7 @@ pub fn answer(alloc: Global, program: &Program) -> Result<Result<Compiled, LangE
 }
 
 /// What a program is compiled to.
-pub fn compiled(alloc: Global, program: &Program) -> Result<Compiled, Fail> {
+pub fn compile_or_fail(alloc: Global, program: &Program) -> Result<Compiled, Fail> {
     match answer(alloc, program)? {
         Ok(compiled) => Ok(compiled),
         Err(_) => Err("refused".into()),

@@ -1,7 +1,7 @@
 //! Transitions that use more of a unit than is given.
 
-use fs_text_machines::reading::machine;
-use fs_text_machines::samples::SOLVER;
+use fs_sample_machines::reading::machine;
+use fs_sample_machines::samples::SOLVER;
 use hls_unit_counts::{Unit, read_units};
 use hls_unit_limits::over::over_in;
 use std::alloc::Global;

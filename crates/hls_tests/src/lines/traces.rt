@@ -1,8 +1,8 @@
 //! The lines of machines.
 
 use fs_model::parts::StateId;
-use fs_text_machines::reading::machine;
-use fs_text_machines::samples::SOLVER;
+use fs_sample_machines::reading::machine;
+use fs_sample_machines::samples::SOLVER;
 use hls_line_tracing::arrivals::count_arrivals;
 use hls_line_tracing::lines::{Line, firsts, is_straight, item, trace_line};
 use std::alloc::Global;

@@ -2,8 +2,8 @@
 
 use fs_ast::machine::Machine;
 use fs_model::parts::StateId;
-use fs_text_machines::reading::machine;
-use fs_text_machines::samples::{EMITS, PRODUCTS, SOLVER};
+use fs_sample_machines::reading::machine;
+use fs_sample_machines::samples::{EMITS, PRODUCTS, SOLVER};
 use hls_line_filling::effects::Effects;
 use hls_line_filling::plan::{Plan, make_plan};
 use hls_line_filling::uses::{Uses, uses_of};

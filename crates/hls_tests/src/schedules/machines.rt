@@ -7,7 +7,7 @@ ghost use Rattle.fs_rules.specs.MachineOfParts.{machine_of};
 
 use fs_ast::machine::Machine;
 use fs_model::parts::Parts;
-use fs_text_machines::reading::parts_and_machine;
+use fs_sample_machines::reading::parts_and_machine;
 use fs_write::write_parts;
 use hls_sched::{LineReport, SchedError, Scheduled, Unit, Units, read_units, schedule};
 use std::alloc::Global;
@@ -65,7 +65,7 @@ fn what_comes(alloc: Global, parts: &Parts, m: &Machine, units: &Units) -> Resul
 
 /// What is told of the lines and the canonical text of the scheduled machine, or the state and the unit of which too
 /// much is used.
-pub fn scheduled(alloc: Global, text: &str, units: &str) -> Result<String, Fail> {
+pub fn tell_schedule(alloc: Global, text: &str, units: &str) -> Result<String, Fail> {
     let (parts, machine) = parts_and_machine(alloc, text)?;
     let Ok(units) = read_units(alloc, units.as_bytes()) else {
         return Err("no counts".into());

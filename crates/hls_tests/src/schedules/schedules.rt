@@ -1,7 +1,7 @@
 //! Scheduled machines.
 
-use crate::schedules::machines::scheduled;
-use fs_text_machines::samples::{EMITS, PRODUCTS, SOLVER};
+use crate::schedules::machines::tell_schedule;
+use fs_sample_machines::samples::{EMITS, PRODUCTS, SOLVER};
 use std::test::Fail;
 
 const SOLVER_IN_FOUR_ROWS: &str = "2: 9 to 4, chain 4
@@ -44,11 +44,11 @@ state s3:
 #[test]
 fn solver_in_rows(rt: HostRuntime) -> Result<(), Fail> {
     let alloc = rt.alloc();
-    let four = scheduled(alloc, SOLVER, "{\"add\": 1, \"mul\": 2}")?;
+    let four = tell_schedule(alloc, SOLVER, "{\"add\": 1, \"mul\": 2}")?;
     assert_eq!(rt; four.as_str(), SOLVER_IN_FOUR_ROWS);
-    let six = scheduled(alloc, SOLVER, "{\"add\": 1, \"mul\": 1}")?;
+    let six = tell_schedule(alloc, SOLVER, "{\"add\": 1, \"mul\": 1}")?;
     assert!(rt; six.as_str().starts_with("2: 9 to 6, chain 4\n"));
-    let over = scheduled(alloc, SOLVER, "{\"mul\": 0}")?;
+    let over = tell_schedule(alloc, SOLVER, "{\"mul\": 0}")?;
     assert_eq!(rt; over.as_str(), "over 2 mul");
     Ok(())
 }
@@ -57,7 +57,7 @@ fn solver_in_rows(rt: HostRuntime) -> Result<(), Fail> {
 #[test]
 fn nothing_moves(rt: HostRuntime) -> Result<(), Fail> {
     let alloc = rt.alloc();
-    let same = scheduled(alloc, CHAIN, "{}")?;
+    let same = tell_schedule(alloc, CHAIN, "{}")?;
     assert_eq!(rt;
         same.as_str().strip_prefix("1: 3 to 3, chain 3\n"),
         Some(CHAIN)
@@ -70,9 +70,9 @@ fn nothing_moves(rt: HostRuntime) -> Result<(), Fail> {
 #[test]
 fn rows_of_one(rt: HostRuntime) -> Result<(), Fail> {
     let alloc = rt.alloc();
-    let products = scheduled(alloc, PRODUCTS, "{\"mul\": 1}")?;
+    let products = tell_schedule(alloc, PRODUCTS, "{\"mul\": 1}")?;
     assert!(rt; products.as_str().starts_with("1: 3 to 3, chain 1\n"));
-    let emits = scheduled(alloc, EMITS, "{}")?;
+    let emits = tell_schedule(alloc, EMITS, "{}")?;
     assert!(rt; emits.as_str().starts_with("1: 3 to 2, chain 2\n"));
     Ok(())
 }

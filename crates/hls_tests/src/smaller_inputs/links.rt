@@ -2,7 +2,7 @@
 
 use cert_text::reader::read_cert;
 use fs_pair::positions::same_interface;
-use fs_text_machines::reading::machine;
+use fs_sample_machines::reading::machine;
 use hls_shrink::{Chain, ChainStop};
 use std::alloc::Global;
 use std::test::Fail;

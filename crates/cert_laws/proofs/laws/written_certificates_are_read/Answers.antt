@@ -1,11 +1,11 @@
-use Rattle.cert_writer.specs.PositionNames.{name_of}
+use Rattle.fs_pair.specs.Partners.{position_name}
 use Rattle.cert_laws.proofs.Places.{find}
 use Rattle.cert_laws.proofs.Nodes.{written_nodes}
 use Rattle.cert_laws.proofs.laws.written_certificates_are_read.Goals as goal
 
 pub returns : goal.returns
 returns c = λ a b bytes ns left right lawful normal file.
-    (let name = name_of a b in
+    (let name = position_name a b in
     let found = find a b left right in
     written_nodes a b left right (record {
       polynomial_spelled = c.written_terms_are_spelled.ensures.polynomial name found;

@@ -5,7 +5,7 @@ use Rattle.cert_model.specs.declared.cert.Node.{Node as CodeNode}
 use Rattle.cert_model.specs.View.{node_of}
 use Rattle.fs_pair.specs.Positions.{positions}
 use Rattle.cert_text.specs.CertificateNames.{place_named, find_in}
-use Rattle.cert_text.specs.TextFunctions.{texts_by}
+use Rattle.cert_text.specs.TextFunctions.{meanings_by}
 use Rattle.cert_text.specs.JsonParts.{node_texts}
 use Rattle.cert_text.proofs.Contexts.{come_to, stopped_to, lawful_here}
 use Rattle.cert_text.proofs.Shapes.{nodes_few}
@@ -30,5 +30,6 @@ returns-clause-lawful c =
     let n : length (map node_of c.in_ok-nodes.nodes.items) ≡ length c.in_ok-nodes.nodes.items = length-map c.in_ok-nodes.nodes.items node_of in
     let few : length c.take_items.result.items ≤ 4096 = nodes_few (view c.args.value.now) c.take_items.result.items c.take_items.ensures c.requires.few in
     lawful_here c.args.a.now c.args.b.now c.in_ok-context.context c.number_at.result
-    (texts_by (find_in (place_named c.args.a.now c.args.b.now (positions c.args.a.now c.args.b.now)) (positions c.args.a.now c.args.b.now) c.number_at.result))
+    (meanings_by
+    (find_in (place_named c.args.a.now c.args.b.now (positions c.args.a.now c.args.b.now)) (positions c.args.a.now c.args.b.now) c.number_at.result))
     (map node_of c.in_ok-nodes.nodes.items) c.in_ok-context.ensures.same c.in_ok-nodes.ensures.of (omega (arith, n, few, c.in_ok-nodes.ensures.count))

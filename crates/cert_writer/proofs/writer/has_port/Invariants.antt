@@ -1,6 +1,6 @@
 use Rattle.std.proofs.Common.{◌≡◌, drop}
 use Rattle.std.specs.List.{list_any}
-use Rattle.cert_writer.specs.PositionNames.{is_port}
+use Rattle.fs_model.specs.Runs.{is_port}
 use Rattle.cert_writer.proofs.writer.has_port.Given as goal
 
 abbrev pub invariant-loop-position : goal.invariant-loop-position

@@ -1,8 +1,8 @@
 use Rattle.std.proofs.Common.{◌∙◌, sym, ap, subst}
 use Rattle.std.specs.Prelude.{map}
 use Rattle.fs_model.specs.View.{source_of}
-use Rattle.fs_rules.specs.Sound.{IsSound}
-use Rattle.fs_ast.specs.Resolved.{placed_of}
+use Rattle.fs_rules.specs.SoundParts.{IsSound}
+use Rattle.fs_ast.specs.NumberedParts.{state_with_line}
 use Rattle.fs_ast.specs.Shapes.{LeadOn}
 use Rattle.fs_model.specs.Machines.{Fsmd}
 use Rattle.fs_ast.specs.StoredBranches.{KeepsTypes}
@@ -15,19 +15,20 @@ use Rattle.fs_ast.proofs.build.build_checked.Goals as goal
 pub check_shapes-requires-clause-leads : goal.check_shapes-requires-clause-leads
 check_shapes-requires-clause-leads c =
     let p = source_of c.args.parts.now in
-    subst LeadOn (sym (ap (map placed_of) c.as_slice.ensures.value ∙ c.in-Ok.ensures)) (leads_placed p (all_kept p c.requires.plain))
+    subst LeadOn (sym (ap (map state_with_line) c.as_slice.ensures.value ∙ c.in-Ok.ensures)) (leads_placed p (all_kept p c.requires.plain))
 
 pub check_shapes-requires-clause-reset : goal.check_shapes-requires-clause-reset
 check_shapes-requires-clause-reset c =
     let p = source_of c.args.parts.now in
     reset_low p c.reset_state-reset.result.0 c.as_slice.result.now c.reset_state-reset.ensures.within
-    (ap (map placed_of) c.as_slice.ensures.value ∙ c.in-Ok.ensures)
+    (ap (map state_with_line) c.as_slice.ensures.value ∙ c.in-Ok.ensures)
 
 pub of-requires : goal.of-requires
 of-requires c =
     let p = source_of c.args.parts.now in
     let reset = c.reset_state-reset in
-    let late = shapes_kept p _ reset.result.0 _ (ap (map placed_of) c.as_slice.ensures.value ∙ c.in-Ok.ensures) reset.ensures.number c.in-Ok-None.field-0-is
+    let late = shapes_kept p _ reset.result.0 _ (ap (map state_with_line) c.as_slice.ensures.value ∙ c.in-Ok.ensures) reset.ensures.number
+    c.in-Ok-None.field-0-is
     c.in-Ok-None.ensures in
     let is = machine_is p c.args.scope.vars.items _ c.in-Ok.states.items reset.result.0 c.requires.scope c.in-Ok.ensures reset.ensures.number in
     λ kept. subst IsSound (sym is)
@@ -41,12 +42,13 @@ returns-in-Ok-of-clause-spelled c =
 pub returns-in-Ok-of-clause-lawful : goal.returns-in-Ok-of-clause-lawful
 returns-in-Ok-of-clause-lawful c =
     let p = source_of c.args.parts.now in
-    let late = shapes_kept p _ _ _ (ap (map placed_of) c.as_slice.ensures.value ∙ c.in-Ok.ensures) c.reset_state-reset.ensures.number c.in-Ok-None.field-0-is
+    let late = shapes_kept p _ _ _ (ap (map state_with_line) c.as_slice.ensures.value ∙ c.in-Ok.ensures) c.reset_state-reset.ensures.number
+    c.in-Ok-None.field-0-is
     c.in-Ok-None.ensures in
     lawful p c.requires.plain late.0 late.1
 
 pub returns-in-Ok-Some-clause-first : goal.returns-in-Ok-Some-clause-first
 returns-in-Ok-Some-clause-first c =
     shapes_first (source_of c.args.parts.now) _ c.reset_state-reset.result.0 c.in-Ok-Some.field-0 c.in-Ok-Some.fault c.requires.plain
-    (ap (map placed_of) c.as_slice.ensures.value ∙ c.in-Ok.ensures) c.reset_state-reset.ensures.number
+    (ap (map state_with_line) c.as_slice.ensures.value ∙ c.in-Ok.ensures) c.reset_state-reset.ensures.number
     c.in-Ok-Some.field-0-is c.in-Ok-Some.ensures

@@ -3,7 +3,7 @@ use Rattle.std.specs.Prelude.{map}
 use Rattle.fs_model.specs.View.{source_of, source_state_of}
 use Rattle.fs_rules.specs.MachineOfParts.{names_of}
 use Rattle.fs_rules.specs.Places.{names_stated}
-use Rattle.fs_ast.specs.Resolved.{placed_spelled}
+use Rattle.fs_ast.specs.NumberedParts.{spelled_state_with_line}
 use Rattle.fs_ast.proofs.Kept.{all_kept}
 use Rattle.fs_ast.proofs.Whole.{few_vars, few_stated, if_ok, placed_is}
 use Rattle.fs_ast.proofs.build.numbered_states.Goals as goal
@@ -19,5 +19,5 @@ returns c =
     let vs = c.args.scope.now.vars.items in
     if_ok c.resolve.result
     (λ out e. placed_is (source_of c.args.parts.now) vs _ out.items c.requires.scope
-    (e ∙ ap (λ l. map (placed_spelled (names_of vs) (names_stated c.args.scope.now.states.now)) (map source_state_of l)) c.deref.ensures.value))
+    (e ∙ ap (λ l. map (spelled_state_with_line (names_of vs) (names_stated c.args.scope.now.states.now)) (map source_state_of l)) c.deref.ensures.value))
     c.resolve.ensures

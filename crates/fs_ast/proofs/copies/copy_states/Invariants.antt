@@ -1,6 +1,6 @@
 use Rattle.std.proofs.Common.{◌≡◌, take}
 use Rattle.std.specs.Prelude.{map}
-use Rattle.fs_ast.specs.Resolved.{resolved_state}
+use Rattle.fs_ast.specs.NumberedParts.{resolved_state}
 use Rattle.fs_ast.proofs.copies.copy_states.Given as goal
 
 abbrev pub invariant-loop-state : goal.invariant-loop-state

@@ -1,7 +1,7 @@
 use Rattle.std.proofs.Common.{◌∙◌, ap, ap₂, length}
 use Rattle.std.specs.Prelude.{map}
 use Rattle.fs_rules.specs.FirstFault.{earliest}
-use Rattle.fs_ast.specs.Resolved.{placed_of}
+use Rattle.fs_ast.specs.NumberedParts.{state_with_line}
 use Rattle.fs_rules.specs.TargetWalks.{is_cut}
 use Rattle.fs_ast.specs.Shapes.{forked_faults, endless_faults}
 use Rattle.fs_ast.proofs.Shapes.{graph_of, shapes_of}
@@ -21,5 +21,5 @@ returns c =
     (λ q h. ap (λ l. is_cut l q) c.as_slice-2.ensures.value ∙ c.in_ok-cut.ensures.cuts q h)
     c.requires.leads c.in_ok-endless.ensures.inside c.in_ok-endless.ensures.rounds c.in_ok-endless.ensures.all c.in_ok-endless.ensures.reach
     (c.note_endless.ensures
-    ∙ ap₂ (λ k l. earliest k (endless_faults (map placed_of states) l))
-    (c.note_forked.ensures ∙ ap (λ k. earliest k (forked_faults (map placed_of states))) c.new-faults.ensures) c.as_slice-3.ensures.value)
+    ∙ ap₂ (λ k l. earliest k (endless_faults (map state_with_line states) l))
+    (c.note_forked.ensures ∙ ap (λ k. earliest k (forked_faults (map state_with_line states))) c.new-faults.ensures) c.as_slice-3.ensures.value)

@@ -2,7 +2,7 @@ use Rattle.std.proofs.Common.{◌≡◌, ◌∙◌, ◌+◌, ◌-◌, ◌<◌, �
 use Rattle.std.specs.Prelude.{map, ℕ}
 use Rattle.base_lemmas.proofs.Lists.{map_drop_next}
 use Rattle.fs_model.specs.Trees.{tree_of_transitions, count_leaves}
-use Rattle.fs_ast.specs.Resolved.{resolved_line}
+use Rattle.fs_ast.specs.NumberedParts.{resolved_transition}
 use Rattle.fs_ast.specs.Forks.{capped_leaves}
 use Rattle.fs_ast.proofs.Leaves.{count_more}
 use Rattle.fs_ast.proofs.trees.count_leaves.Goals as goal
@@ -18,7 +18,8 @@ loop-k-preserved c =
     let within : i < n = omega arith in
     let after : n - k ≡ i + 1 = omega arith in
     let before : i ≡ n - (k + 1) = omega arith in
-    count_more (resolved_line x) (map resolved_line (drop (n - k) xs)) c.loop-k.count c.count_line-count.result c.loop-k.invariant c.count_line-count.ensures
+    count_more (resolved_transition x) (map resolved_transition (drop (n - k) xs)) c.loop-k.count c.count_line-count.result c.loop-k.invariant
+    c.count_line-count.ensures
     ∙ ap (λ ls. capped_leaves (count_leaves (tree_of_transitions ls)))
-    (ap (λ j. resolved_line x ∷ map resolved_line (drop j xs)) after ∙ sym (map_drop_next resolved_line xs i x within c.index-lines-lines.is)
-    ∙ ap (λ j. map resolved_line (drop j xs)) before)
+    (ap (λ j. resolved_transition x ∷ map resolved_transition (drop j xs)) after ∙ sym (map_drop_next resolved_transition xs i x within c.index-lines-lines.is)
+    ∙ ap (λ j. map resolved_transition (drop j xs)) before)

@@ -1,5 +1,5 @@
 use Rattle.std.proofs.Common.{◌≡◌, ◌-◌, ◌<◌, ◌++◌, length, map}
-use Rattle.fs_cut.specs.Covers.{passed_states, reached}
+use Rattle.fs_cut.specs.Covers.{passed_states, state_reached}
 use Rattle.fs_cut.proofs.walk.pass.Given as goal
 
 abbrev pub invariant-states : goal.invariant-states
@@ -8,5 +8,5 @@ invariant-states l = record {
   within : l.at.0 < length l.m.states;
   left : map (λ s. s.0) l.left.items ++ passed_states l.m (length l.m.states - l.counter) l.at.0 ≡ map (λ s. s.0) l.initial.left.items
       ++ passed_states l.m (length l.m.states) l.fn.first.0;
-  to : reached l.m (length l.m.states - l.counter) l.at.0 ≡ reached l.m (length l.m.states) l.fn.first.0;
+  to : state_reached l.m (length l.m.states - l.counter) l.at.0 ≡ state_reached l.m (length l.m.states) l.fn.first.0;
 }

@@ -22,8 +22,8 @@ each-preserved c =
       rw (
         c.in_ok-push-in-Token.ensures.items,
         c.is_past_limit-past_limit.ensures,
-        c.counted-operators.ensures.is,
-        c.moved-place-in-Token.ensures.is,
+        c.count_operators-operators.ensures.is,
+        c.move_place-place-in-Token.ensures.is,
         front,
         back,
       ) g,

@@ -4,10 +4,10 @@ use Rattle.fs_model.specs.View.{declaration_of, source_of, source_state_of}
 use Rattle.fs_rules.specs.declared.check.CheckRule.TheVariants.{TwiceNamed, TooMany}
 use Rattle.fs_rules.specs.MachineOfParts.{names_of, state_names}
 use Rattle.fs_model.specs.Limits.{most_variables, most_states}
-use Rattle.fs_rules.specs.Rules.{at_lines, declared_names, declared_states, repeated, past}
+use Rattle.fs_rules.specs.Rules.{at_lines, declared_names, declared_states, repeated_lines, line_past_limit}
 use Rattle.fs_rules.specs.FirstFault.{earliest}
 use Rattle.fs_rules.specs.Places.{declared_of, declared_name_list, IsTableOf}
-use Rattle.fs_rules.specs.Scoped.{table_faults}
+use Rattle.fs_rules.specs.Scopes.{table_faults}
 use Rattle.fs_rules.proofs.Naming.{names_declared, names_of_declared, names_noted}
 use Rattle.fs_rules.proofs.checked.declare.Goals as goal
 
@@ -39,7 +39,7 @@ returns-clause-noted c =
     in
     let one = c.noted_table.new.faults.first in
     names_noted c.args.faults.now.first one c.noted_table-2.new.faults.first
-    (at_lines TwiceNamed (repeated [] ds)) (at_lines TooMany (past most_variables ds)) (at_lines TwiceNamed (repeated [] ss))
-    (at_lines TooMany (past most_states ss))
+    (at_lines TwiceNamed (repeated_lines [] ds)) (at_lines TooMany (line_past_limit most_variables ds)) (at_lines TwiceNamed (repeated_lines [] ss))
+    (at_lines TooMany (line_past_limit most_states ss))
     (c.in_ok-variable_places.ensures.noted ∙ ap (λ l. earliest c.args.faults.now.first (table_faults most_variables l)) variables)
     (c.in_ok-state_places.ensures.noted ∙ ap (λ l. earliest one (table_faults most_states l)) states)

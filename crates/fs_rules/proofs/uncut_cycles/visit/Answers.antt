@@ -2,7 +2,7 @@ use Rattle.std.proofs.Common.{◌≡◌, ◌∙◌, ◌<◌, ◌^◌, length, sy
 use Rattle.std.specs.Prelude.{None}
 use Rattle.std.specs.List.{slice_get}
 use Rattle.std.proofs.lemmas.List.{get_or_read}
-use Rattle.fs_rules.specs.TargetWalks.{is_cut, pass_at, judged, IsWalk}
+use Rattle.fs_rules.specs.TargetWalks.{is_cut, pass_at, walk_verdict, IsTargetWalk}
 use Rattle.fs_rules.proofs.Walks.{judge_safe}
 use Rattle.fs_rules.proofs.Rounds.{settle_all}
 use Rattle.fs_rules.proofs.Results.{on_ok}
@@ -18,7 +18,7 @@ judge-verdict-requires c =
     let walk = c.take_walk-stop.ensures.walk in
     let vs = w.verdicts.items in
     let number : c.len-walk.result ≡ length vs = omega (arith, c.len-walk.ensures, w.verdicts.ok) in
-    let own = subst (λ k. IsWalk next cut c.args.start k w.passes.items after.items stop.end stop.steps) number walk in
+    let own = subst (λ k. IsTargetWalk next cut c.args.start k w.passes.items after.items stop.end stop.steps) number walk in
     let inside : stop.end < length after.items = omega (arith, walk.within, walk.same, c.requires.settled.same) in
     let small : length after.items < 2 ^ 63 = omega (arith, after.ok, after.small) in
     let at : c.index-pass.result.now ≡ pass_at after.items stop.end = get_or_read after.items _ _ inside c.index-pass.ensures None in
@@ -37,6 +37,6 @@ returns-clause-settled c =
     c.index-pass.result.now w.verdicts.items _ w.found.items _ c.judge-verdict.result number
     (get_or_read c.take_walk-stop.new.passes.items _ _ inside c.index-pass.ensures None) c.requires.graph c.requires.settled c.take_walk-stop.ensures.walk
     c.take_walk-stop.ensures.stops
-    (c.judge-verdict.ensures ∙ ap (judged (is_cut c.args.cut.now stop.end) c.index-pass.result.now stop.steps) c.as_slice.ensures.value) e
+    (c.judge-verdict.ensures ∙ ap (walk_verdict (is_cut c.args.cut.now stop.end) c.index-pass.result.now stop.steps) c.as_slice.ensures.value) e
     c.in_ok-add_round.ensures)
     c.push.ensures

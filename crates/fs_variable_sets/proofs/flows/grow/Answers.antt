@@ -17,5 +17,5 @@ returns c =
     let before = c.live_before.ensures ∙ ap (λ (s : List VariableSet). live_before c.args.reset s flow) c.as_slice.ensures.value in
     let range : Fits w128 o.bits = search rules in
     let few : o.bits < 2 ^ 128 = search (rules, range) in
-    let g = grown c.args.reset live flow o c.live_before.result c.joined-new.result c.requires.inside read before c.joined-new.ensures _ refl few in
+    let g = grown c.args.reset live flow o c.live_before.result c.union-new.result c.requires.inside read before c.union-new.ensures _ refl few in
     record { count = g.count; stepped = g.stepped; settled = g.settled; grows = g.grows }

@@ -1,5 +1,5 @@
 use Rattle.fs_runs.specs.InputValues.{inputs_of, signatures_of}
-use Rattle.fs_show.proofs.Serving.{serves_both}
+use Rattle.fs_run_text.proofs.Serving.{serves_both}
 use Rattle.fsmd_answers.specs.Replays.{IsOfReplay}
 use Rattle.fsmd_answers.specs.Shrinks.{IsOfShrink, Replayed}
 use Rattle.fsmd_answers.proofs.Maps.{ok_map}

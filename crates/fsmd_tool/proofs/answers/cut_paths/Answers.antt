@@ -1,5 +1,5 @@
 use Rattle.std.proofs.Common.{◌≡◌, ◌∙◌, rules, ap, Some}
-use Rattle.fsmd_words.specs.AskedWords.{asked}
+use Rattle.fsmd_words.specs.AskedWords.{asked_of_ask}
 use Rattle.fsmd_answers.specs.Refusing.{WhereAnswered}
 use Rattle.fsmd_tool.specs.Calls.{call, IsCorrectInOrder}
 use Rattle.fs_model.specs.Machines.{Fsmd}
@@ -14,7 +14,7 @@ use Rattle.fsmd_tool.proofs.answers.cut_paths.Goals as goal
 pub returns-in_err-machine-clause-answers : goal.returns-in_err-machine-clause-answers
 returns-in_err-machine-clause-answers g c =
     let h : WhereAnswered (IsCorrectInOrder (OpensMachine (λ m. Ends (λ answer. answer ≡ Text (paths_text m)))) 0
-    (call (Some (asked c.args.ask.now)) (g.F.Files.told c.args.files.now) (g.F.Files.told c.load_machine.new.files))) c.in_err-machine.field-0.0 =
+    (call (Some (asked_of_ask c.args.ask.now)) (g.F.Files.told c.args.files.now) (g.F.Files.told c.load_machine.new.files))) c.in_err-machine.field-0.0 =
     refused_in_order Fsmd RefusesMachine SpellsMachine (λ m. Ends (λ answer. answer ≡ Text (paths_text m))) 0 _ _ c.load_machine.ensures.loads
     c.in_err-machine.ensures.refused in
     search rules

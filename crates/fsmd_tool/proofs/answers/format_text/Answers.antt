@@ -1,5 +1,5 @@
 use Rattle.std.proofs.Common.{◌≡◌, ◌∙◌, rules, ap, Some}
-use Rattle.fsmd_words.specs.AskedWords.{asked}
+use Rattle.fsmd_words.specs.AskedWords.{asked_of_ask}
 use Rattle.fsmd_answers.specs.Refusing.{WhereAnswered}
 use Rattle.fsmd_tool.specs.Calls.{call, IsCorrectInOrder}
 use Rattle.fs_model.specs.Source.{Source}
@@ -15,7 +15,7 @@ use Rattle.fsmd_tool.proofs.answers.format_text.Goals as goal
 pub returns-in_err-parts-clause-answers : goal.returns-in_err-parts-clause-answers
 returns-in_err-parts-clause-answers g c =
     let h : WhereAnswered (IsCorrectInOrder (OpensParts (λ parts. Ends (λ answer. answer ≡ Text (canonical parts)))) 0
-    (call (Some (asked c.args.ask.now)) (g.F.Files.told c.args.files.now) (g.F.Files.told c.load.new.files))) c.in_err-parts.field-0.0 =
+    (call (Some (asked_of_ask c.args.ask.now)) (g.F.Files.told c.args.files.now) (g.F.Files.told c.load.new.files))) c.in_err-parts.field-0.0 =
     refused_in_order Source RefusesMachine SpellsParts (λ parts. Ends (λ answer. answer ≡ Text (canonical parts))) 0 _ _ c.load.ensures.loads
     c.in_err-parts.ensures.refused in
     search rules

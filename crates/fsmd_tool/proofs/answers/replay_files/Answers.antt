@@ -1,5 +1,5 @@
 use Rattle.std.proofs.Common.{rules, Some, refl, arith}
-use Rattle.fsmd_words.specs.AskedWords.{asked}
+use Rattle.fsmd_words.specs.AskedWords.{asked_of_ask}
 use Rattle.fsmd_answers.specs.Refusing.{WhereAnswered}
 use Rattle.fsmd_tool.specs.Calls.{call, IsCorrectInOrder}
 use Rattle.fsmd_answers.specs.Replays.{IsOfReplay}
@@ -11,7 +11,7 @@ use Rattle.fsmd_tool.proofs.answers.replay_files.Goals as goal
 pub returns-in_err-left-clause-answers : goal.returns-in_err-left-clause-answers
 returns-in_err-left-clause-answers g c =
     let h : WhereAnswered (IsCorrectInOrder (OpensPair (λ a b. OpensInputs a (λ ins. Ends (IsOfReplay c.args.steps a b ins)))) 0
-    (call (Some (asked c.args.ask.now)) (g.F.Files.told c.args.files.now) (g.F.Files.told c.load_pair.new.files))) c.in_err-left.field-0.0 =
+    (call (Some (asked_of_ask c.args.ask.now)) (g.F.Files.told c.args.files.now) (g.F.Files.told c.load_pair.new.files))) c.in_err-left.field-0.0 =
     both_refused_in_order (λ a b. OpensInputs a (λ ins. Ends (IsOfReplay c.args.steps a b ins))) _ _ c.in_err-left.ensures.refused in
     search rules
 

@@ -1,10 +1,10 @@
 use Rattle.std.proofs.Common.{rules, Some}
-use Rattle.fsmd_words.specs.AskedWords.{asked}
+use Rattle.fsmd_words.specs.AskedWords.{asked_of_ask}
 use Rattle.fsmd_answers.specs.Refusing.{WhereAnswered}
 use Rattle.fsmd_tool.specs.Calls.{call, IsCorrectInOrder}
 use Rattle.fs_model.specs.Runs.{Inputs}
 use Rattle.fs_runs.specs.InputValues.{inputs_of}
-use Rattle.fs_show.proofs.Serving.{serves_both}
+use Rattle.fs_run_text.proofs.Serving.{serves_both}
 use Rattle.fsmd_answers.specs.InputFiles.{RefusesInputs, SpellsInputs}
 use Rattle.fsmd_answers.specs.Replays.{IsOfReplay}
 use Rattle.fsmd_answers.specs.Follows.{Ends, OpensInputs}
@@ -15,7 +15,7 @@ pub returns-in_err-inputs-clause-answers : goal.returns-in_err-inputs-clause-ans
 returns-in_err-inputs-clause-answers g c =
     let h : WhereAnswered (IsCorrectInOrder (OpensInputs c.args.left.now
     (λ v. Ends (IsOfReplay c.args.steps c.args.left.now c.args.right.now v))) 2
-    (call (Some (asked c.args.ask.now)) (g.F.Files.told c.args.files.now) (g.F.Files.told c.load_inputs.new.files))) c.in_err-inputs.field-0.0 =
+    (call (Some (asked_of_ask c.args.ask.now)) (g.F.Files.told c.args.files.now) (g.F.Files.told c.load_inputs.new.files))) c.in_err-inputs.field-0.0 =
     refused_in_order Inputs (RefusesInputs c.args.left.now) (SpellsInputs c.args.left.now) (λ v. Ends
     (IsOfReplay c.args.steps c.args.left.now c.args.right.now v))
     2 _ _ c.load_inputs.ensures.loads c.in_err-inputs.ensures.refused in

@@ -1,5 +1,5 @@
 use Rattle.std.proofs.Common.{rules, Some}
-use Rattle.fsmd_words.specs.AskedWords.{asked}
+use Rattle.fsmd_words.specs.AskedWords.{asked_of_ask}
 use Rattle.fsmd_answers.specs.Refusing.{WhereAnswered}
 use Rattle.fsmd_tool.specs.Calls.{call, IsCorrectInOrder}
 use Rattle.fs_model.specs.Runs.{Inputs}
@@ -14,7 +14,7 @@ pub returns-in_err-inputs-clause-answers : goal.returns-in_err-inputs-clause-ans
 returns-in_err-inputs-clause-answers g c =
     let h : WhereAnswered (IsCorrectInOrder (OpensInputs c.args.machine.now
     (λ v. Ends (IsOfRun c.args.steps c.args.machine.now v))) 1
-    (call (Some (asked c.args.ask.now)) (g.F.Files.told c.args.files.now) (g.F.Files.told c.load_inputs.new.files))) c.in_err-inputs.field-0.0 =
+    (call (Some (asked_of_ask c.args.ask.now)) (g.F.Files.told c.args.files.now) (g.F.Files.told c.load_inputs.new.files))) c.in_err-inputs.field-0.0 =
     refused_in_order Inputs (RefusesInputs c.args.machine.now) (SpellsInputs c.args.machine.now) (λ v. Ends (IsOfRun c.args.steps c.args.machine.now v))
     1 _ _ c.load_inputs.ensures.loads c.in_err-inputs.ensures.refused in
     search rules

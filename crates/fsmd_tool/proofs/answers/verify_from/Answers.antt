@@ -1,5 +1,5 @@
 use Rattle.std.proofs.Common.{rules, Some}
-use Rattle.fsmd_words.specs.AskedWords.{asked}
+use Rattle.fsmd_words.specs.AskedWords.{asked_of_ask}
 use Rattle.fsmd_answers.specs.Refusing.{WhereAnswered}
 use Rattle.fsmd_tool.specs.Calls.{call, IsCorrectInOrder}
 use Rattle.std.specs.Prelude.{List, map}
@@ -15,7 +15,7 @@ use Rattle.fsmd_tool.proofs.answers.verify_from.Goals as goal
 pub returns-in_err-cert-clause-answers : goal.returns-in_err-cert-clause-answers
 returns-in_err-cert-clause-answers g c =
     let h : WhereAnswered (IsCorrectInOrder (OpensCertificate c.args.left.now c.args.right.now (λ v. Ends (IsJudged c.args.left.now c.args.right.now v))) 2
-    (call (Some (asked c.args.ask.now)) (g.F.Files.told c.args.files.now) (g.F.Files.told c.load_certificate.new.files))) c.in_err-cert.field-0.0 =
+    (call (Some (asked_of_ask c.args.ask.now)) (g.F.Files.told c.args.files.now) (g.F.Files.told c.load_certificate.new.files))) c.in_err-cert.field-0.0 =
     refused_in_order (List (Node Fact)) (RefusesCertificate c.args.left.now c.args.right.now) (SpellsCertificate c.args.left.now c.args.right.now)
     (λ v. Ends (IsJudged c.args.left.now c.args.right.now v)) 2 _ _ c.load_certificate.ensures.loads c.in_err-cert.ensures.refused in
     search rules

@@ -1,6 +1,6 @@
 use Rattle.std.proofs.Common.{◌+◌, ◌*◌, Some}
 use Rattle.std.specs.Prelude.{map}
-use Rattle.fsmd_words.specs.AskedWords.{asked}
+use Rattle.fsmd_words.specs.AskedWords.{asked_of_ask}
 use Rattle.cert_model.specs.View.{node_of}
 use Rattle.fsmd_tool.specs.Loading.{NothingFollows}
 use Rattle.fsmd_tool.proofs.Linked.{link_refused, link_made, link_unmade}
@@ -9,7 +9,7 @@ use Rattle.fsmd_tool.proofs.chain.add_next.Goals as goal
 pub returns-in-Err-clause-refused : goal.returns-in-Err-clause-refused
 returns-in-Err-clause-refused g c =
     let h = rw c.last.ensures.last at c.in-Err.ensures.refused in
-    link_refused (Some (asked c.args.ask.now)) (c.args.held + 1) c.args.chain.last (λ b. NothingFollows) (2 * c.args.held + 1)
+    link_refused (Some (asked_of_ask c.args.ask.now)) (c.args.held + 1) c.args.chain.last (λ b. NothingFollows) (2 * c.args.held + 1)
     _ c.in-Err.refused c.at_link.result h c.at_link.ensures
 
 pub add_link-requires-clause-paired : goal.add_link-requires-clause-paired
@@ -29,6 +29,6 @@ returns-clause-holds g c =
 
 pub returns-clause-refused : goal.returns-clause-refused
 returns-clause-refused g c =
-    link_unmade (Some (asked c.args.ask.now)) (c.args.held + 1) (2 * c.args.held + 1) _ c.args.chain.last c.last.result.now c.in-Ok.link.machine
+    link_unmade (Some (asked_of_ask c.args.ask.now)) (c.args.held + 1) (2 * c.args.held + 1) _ c.args.chain.last c.last.result.now c.in-Ok.link.machine
     (map node_of c.in-Ok.link.cert.nodes.items) c.last.ensures.last c.in-Ok.ensures.spells c.in-Ok.ensures.alike c.in-Ok.ensures.certificate
     c.in-Ok.ensures.loads c.add_link.result c.add_link.ensures.fails

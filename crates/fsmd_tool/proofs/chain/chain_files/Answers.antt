@@ -1,5 +1,5 @@
 use Rattle.std.proofs.Common.{◌+◌, ◌*◌, Some, rules, refl, sym, ap, subst, map, string_bytes, arith}
-use Rattle.fsmd_words.specs.AskedWords.{asked}
+use Rattle.fsmd_words.specs.AskedWords.{asked_of_ask}
 use Rattle.fs_model.specs.Machines.{Fsmd}
 use Rattle.fsmd_answers.specs.MachineFiles.{SpellsMachine}
 use Rattle.fsmd_answers.specs.Refusals.{RefusesMachine}
@@ -13,19 +13,22 @@ use Rattle.fsmd_tool.proofs.chain.chain_files.Goals as goal
 
 pub returns-in_err-first-clause-answers : goal.returns-in_err-first-clause-answers
 returns-in_err-first-clause-answers g c =
-    let h : WhereAnswered (IsCorrectInOrder (OpensMachine (λ m. OpensLinks (Some (asked c.args.ask.now)) m m 0 (links_of (map string_bytes c.args.words.now))))
-    0 (call (Some (asked c.args.ask.now)) (g.F.Files.told c.args.files.now) (g.F.Files.told c.load_machine.new.files))) c.in_err-first.field-0.0 =
-    refused_in_order Fsmd RefusesMachine SpellsMachine (λ m. OpensLinks (Some (asked c.args.ask.now)) m m 0 (links_of (map string_bytes c.args.words.now)))
+    let h : WhereAnswered
+    (IsCorrectInOrder (OpensMachine (λ m. OpensLinks (Some (asked_of_ask c.args.ask.now)) m m 0 (links_of (map string_bytes c.args.words.now))))
+    0 (call (Some (asked_of_ask c.args.ask.now)) (g.F.Files.told c.args.files.now) (g.F.Files.told c.load_machine.new.files))) c.in_err-first.field-0.0 =
+    refused_in_order Fsmd RefusesMachine SpellsMachine
+    (λ m. OpensLinks (Some (asked_of_ask c.args.ask.now)) m m 0 (links_of (map string_bytes c.args.words.now)))
     0 _ _ c.load_machine.ensures.loads c.in_err-first.ensures.refused in
     search rules
 
 pub returns-clause-answers : goal.returns-clause-answers
 returns-clause-answers g c =
     let m = c.in_ok-first.first in
-    let h = subst (λ n. AnswersBy (IsCorrectInOrder (OpensLinks (Some (asked c.args.ask.now)) m m 0 n) 1
-    (call (Some (asked c.args.ask.now)) (g.F.Files.told c.load_machine.new.files) (g.F.Files.told c.links_from.new.files))) c.links_from.result)
+    let h = subst (λ n. AnswersBy (IsCorrectInOrder (OpensLinks (Some (asked_of_ask c.args.ask.now)) m m 0 n) 1
+    (call (Some (asked_of_ask c.args.ask.now)) (g.F.Files.told c.load_machine.new.files) (g.F.Files.told c.links_from.new.files))) c.links_from.result)
     c.link_count.ensures.links c.links_from.ensures.answers in
-    spelled_in_order Fsmd RefusesMachine SpellsMachine (λ v. OpensLinks (Some (asked c.args.ask.now)) v v 0 (links_of (map string_bytes c.args.words.now)))
+    spelled_in_order Fsmd RefusesMachine SpellsMachine
+    (λ v. OpensLinks (Some (asked_of_ask c.args.ask.now)) v v 0 (links_of (map string_bytes c.args.words.now)))
     0 _ _ _ (g.F.Files.told c.links_from.new.files) c.load_machine.ensures.only_read c.load_machine.ensures.loads m c.in_ok-first.ensures.spells
     c.links_from.result h
 

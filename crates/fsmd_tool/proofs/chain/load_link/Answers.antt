@@ -1,5 +1,5 @@
 use Rattle.std.proofs.Common.{◌+◌, rules, Some, refl, arith}
-use Rattle.fsmd_words.specs.AskedWords.{asked}
+use Rattle.fsmd_words.specs.AskedWords.{asked_of_ask}
 use Rattle.fsmd_answers.specs.Refusing.{WhereAnswered}
 use Rattle.fsmd_tool.specs.Calls.{call, IsCorrectInOrder}
 use Rattle.fsmd_tool.specs.Loading.{RefusesLink}
@@ -10,14 +10,14 @@ use Rattle.fsmd_tool.proofs.chain.load_link.Goals as goal
 pub returns-in_err-machine-clause-refused : goal.returns-in_err-machine-clause-refused
 returns-in_err-machine-clause-refused g c =
     let h : WhereAnswered (IsCorrectInOrder (RefusesLink c.args.last.now) c.args.file
-    (call (Some (asked c.args.ask.now)) (g.F.Files.told c.args.files.now) (g.F.Files.told c.load_next.new.files))) c.in_err-machine.field-0.0 =
+    (call (Some (asked_of_ask c.args.ask.now)) (g.F.Files.told c.args.files.now) (g.F.Files.told c.load_next.new.files))) c.in_err-machine.field-0.0 =
     next_refused_as c.args.last.now c.args.file _ _ c.in_err-machine.ensures.refused in
     search rules
 
 pub returns-in_err-cert-clause-refused : goal.returns-in_err-cert-clause-refused
 returns-in_err-cert-clause-refused g c =
     let h : WhereAnswered (IsCorrectInOrder (RefusesLink c.args.last.now) c.args.file
-    (call (Some (asked c.args.ask.now)) (g.F.Files.told c.args.files.now) (g.F.Files.told c.load_certificate.new.files))) c.in_err-cert.field-0.0 =
+    (call (Some (asked_of_ask c.args.ask.now)) (g.F.Files.told c.args.files.now) (g.F.Files.told c.load_certificate.new.files))) c.in_err-cert.field-0.0 =
     certificate_refused _ _ _ _ c.args.last.now c.in_ok-machine.field-0.machine c.args.file _ c.load_next.ensures.only_read c.load_next.ensures.loads
     c.load_certificate.ensures.loads c.in_ok-machine.ensures.spells
     c.in_ok-machine.ensures.alike c.in_err-cert.ensures.refused in

@@ -1,5 +1,5 @@
 use Rattle.std.proofs.Common.{refl}
-use Rattle.fsmd_tool.specs.SinkReplies.{put}
+use Rattle.fsmd_tool.specs.SinkReplies.{put_between}
 use Rattle.fsmd_tool.specs.CertificateStores.{NoneWritten}
 use Rattle.fsmd_tool.proofs.Loads.{at_most_none, named_by_words}
 use Rattle.fsmd_tool.proofs.Putting.{answers_usage, to_words, keeps_to_words, unwritten_to_words, on_err}
@@ -7,7 +7,7 @@ use Rattle.fsmd_tool.proofs.drive.put_reply.Goals as goal
 
 pub returns-in-Ok-clause-answered : goal.returns-in-Ok-clause-answered
 returns-in-Ok-clause-answered g c =
-    to_words _ _ _ _ c.put_asked.result (λ s. put s (g.S.Sink.told c.args.out.now) (g.S.Sink.told c.put_asked.new.out)) c.in-Ok.ensures.ok
+    to_words _ _ _ _ c.put_asked.result (λ s. put_between s (g.S.Sink.told c.args.out.now) (g.S.Sink.told c.put_asked.new.out)) c.in-Ok.ensures.ok
     c.put_asked.ensures.answered
 
 pub returns-in-Ok-clause-unchanged : goal.returns-in-Ok-clause-unchanged
@@ -15,7 +15,7 @@ returns-in-Ok-clause-unchanged g c = keeps_to_words _ _ _ _ c.in-Ok.ensures.ok c
 
 pub returns-in-Err-Usage-clause-answered : goal.returns-in-Err-Usage-clause-answered
 returns-in-Err-Usage-clause-answered g c =
-    answers_usage _ (g.F.Files.told c.args.files.now) c.put_usage.result (λ s. put s (g.S.Sink.told c.args.out.now) (g.S.Sink.told c.put_usage.new.out))
+    answers_usage _ (g.F.Files.told c.args.files.now) c.put_usage.result (λ s. put_between s (g.S.Sink.told c.args.out.now) (g.S.Sink.told c.put_usage.new.out))
     (c.in-Err-Usage.ensures.none c.in-Err-Usage.field-0-is) c.put_usage.ensures.ok
 
 pub returns-in-Ok-clause-unwritten : goal.returns-in-Ok-clause-unwritten

@@ -1,6 +1,6 @@
 use Rattle.std.proofs.Common.{rules, Some, refl, arith}
 use Rattle.std.specs.Prelude.{Err}
-use Rattle.fsmd_words.specs.AskedWords.{asked}
+use Rattle.fsmd_words.specs.AskedWords.{asked_of_ask}
 use Rattle.fsmd_answers.specs.Refusing.{WhereAnswered}
 use Rattle.fsmd_tool.specs.Calls.{call, IsCorrectInOrder}
 use Rattle.fs_model.specs.Machines.{Fsmd}
@@ -13,14 +13,14 @@ use Rattle.fsmd_tool.proofs.pair.load_pair.Goals as goal
 
 pub returns-in_err-left-clause-refused : goal.returns-in_err-left-clause-refused
 returns-in_err-left-clause-refused g c =
-    let h : WhereAnswered (IsCorrectInOrder RefusesBoth 0 (call (Some (asked c.args.ask.now)) (g.F.Files.told c.args.files.now)
+    let h : WhereAnswered (IsCorrectInOrder RefusesBoth 0 (call (Some (asked_of_ask c.args.ask.now)) (g.F.Files.told c.args.files.now)
     (g.F.Files.told c.load_machine.new.files))) c.in_err-left.field-0.0 =
     refused_in_order Fsmd RefusesMachine SpellsMachine RefusesNext 0 _ _ c.load_machine.ensures.loads c.in_err-left.ensures.refused in
     search rules
 
 pub returns-in_err-machine-clause-refused : goal.returns-in_err-machine-clause-refused
 returns-in_err-machine-clause-refused g c =
-    let h : WhereAnswered (IsCorrectInOrder RefusesBoth 0 (call (Some (asked c.args.ask.now)) (g.F.Files.told c.args.files.now)
+    let h : WhereAnswered (IsCorrectInOrder RefusesBoth 0 (call (Some (asked_of_ask c.args.ask.now)) (g.F.Files.told c.args.files.now)
     (g.F.Files.told c.load_next.new.files))) c.in_err-machine.field-0.0 =
     spelled_in_order Fsmd RefusesMachine SpellsMachine RefusesNext 0 _ _ _ (g.F.Files.told c.load_next.new.files) c.load_machine.ensures.only_read
     c.load_machine.ensures.loads c.in_ok-left.left c.in_ok-left.ensures.spells (Err c.in_err-machine.field-0.0) c.in_err-machine.ensures.refused in

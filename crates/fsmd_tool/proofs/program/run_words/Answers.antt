@@ -1,7 +1,7 @@
 use Rattle.std.proofs.Common.{◌∙◌, ap, drop}
 use Rattle.fsmd_tool.specs.Asking.{asked_by_words}
 use Rattle.fsmd_tool.specs.Calls.{call}
-use Rattle.fsmd_tool.specs.SinkReplies.{put}
+use Rattle.fsmd_tool.specs.SinkReplies.{put_between}
 use Rattle.fsmd_tool.specs.Running.{IsDriven}
 use Rattle.fsmd_tool.proofs.Running.{if_ok, by_words}
 use Rattle.fsmd_tool.proofs.program.run_words.Goals as goal
@@ -9,7 +9,7 @@ use Rattle.fsmd_tool.proofs.program.run_words.Goals as goal
 pub returns-in-Ok-clause-driven : goal.returns-in-Ok-clause-driven
 returns-in-Ok-clause-driven g c =
     let d : IsDriven (call (asked_by_words c.behind_first.result.now) (g.F.Files.told c.args.files.now) (g.F.Files.told c.drive.new.files))
-    (put c.drive.result (g.S.Sink.told c.args.out.now) (g.S.Sink.told c.drive.new.out)) = record {
+    (put_between c.drive.result (g.S.Sink.told c.args.out.now) (g.S.Sink.told c.drive.new.out)) = record {
       outcome = c.drive.ensures.outcome;
       same_behaviour = c.drive.ensures.same_behaviour;
       equivalent = c.drive.ensures.equivalent;

@@ -1,5 +1,5 @@
 use Rattle.std.proofs.Common.{rules, Some}
-use Rattle.fsmd_words.specs.AskedWords.{asked}
+use Rattle.fsmd_words.specs.AskedWords.{asked_of_ask}
 use Rattle.fsmd_answers.specs.Refusing.{WhereAnswered}
 use Rattle.fsmd_tool.specs.Calls.{call, IsCorrectInOrder}
 use Rattle.fs_model.specs.View.{source_of}
@@ -16,7 +16,7 @@ returns-in_err-binding-clause-answers g c =
     let m = machine_of p in
     let r = rw c.requires.spelled at c.in_err-binding.ensures.refused in
     let h : WhereAnswered (IsCorrectInOrder (OpensBinding m (λ b. Ends (IsOfBinding p b))) 1
-    (call (Some (asked c.args.ask.now)) (g.F.Files.told c.args.files.now) (g.F.Files.told c.load_binding.new.files))) c.in_err-binding.field-0.0 =
+    (call (Some (asked_of_ask c.args.ask.now)) (g.F.Files.told c.args.files.now) (g.F.Files.told c.load_binding.new.files))) c.in_err-binding.field-0.0 =
     refused_in_order Binding (RefusesBinding m) (SpellsBinding m) (λ b. Ends (IsOfBinding p b)) 1 _ _ c.load_binding.ensures.loads r in
     search rules
 

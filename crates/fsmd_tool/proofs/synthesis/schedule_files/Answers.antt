@@ -1,5 +1,5 @@
 use Rattle.std.proofs.Common.{rules, Some, refl, arith}
-use Rattle.fsmd_words.specs.AskedWords.{asked}
+use Rattle.fsmd_words.specs.AskedWords.{asked_of_ask}
 use Rattle.fsmd_answers.specs.Refusing.{WhereAnswered}
 use Rattle.fsmd_tool.specs.Calls.{call, IsCorrectInOrder}
 use Rattle.fs_model.specs.Source.{Source}
@@ -16,7 +16,7 @@ use Rattle.fsmd_tool.proofs.synthesis.schedule_files.Goals as goal
 pub returns-in_err-loaded-clause-answers : goal.returns-in_err-loaded-clause-answers
 returns-in_err-loaded-clause-answers g c =
     let h : WhereAnswered (IsCorrectInOrder (OpensParts (λ parts. OpensUnits (λ counts. Ends (IsOfSchedule parts counts)))) 0
-    (call (Some (asked c.args.ask.now)) (g.F.Files.told c.args.files.now) (g.F.Files.told c.load.new.files))) c.in_err-loaded.field-0.0 =
+    (call (Some (asked_of_ask c.args.ask.now)) (g.F.Files.told c.args.files.now) (g.F.Files.told c.load.new.files))) c.in_err-loaded.field-0.0 =
     refused_in_order Source RefusesMachine SpellsParts (λ parts. OpensUnits (λ counts. Ends (IsOfSchedule parts counts))) 0 _ _ c.load.ensures.loads
     c.in_err-loaded.ensures.refused in
     search rules

@@ -1,5 +1,5 @@
 use Rattle.std.proofs.Common.{rules, Some}
-use Rattle.fsmd_words.specs.AskedWords.{asked}
+use Rattle.fsmd_words.specs.AskedWords.{asked_of_ask}
 use Rattle.fsmd_answers.specs.Refusing.{WhereAnswered}
 use Rattle.fsmd_tool.specs.Calls.{call, IsCorrectInOrder}
 use Rattle.fs_model.specs.View.{source_of}
@@ -12,7 +12,7 @@ use Rattle.fsmd_tool.proofs.synthesis.schedule_from.Goals as goal
 pub returns-in_err-units-clause-answers : goal.returns-in_err-units-clause-answers
 returns-in_err-units-clause-answers g c =
     let h : WhereAnswered (IsCorrectInOrder (OpensUnits (λ v. Ends (IsOfSchedule (source_of c.args.loaded.now.parts) v))) 1
-    (call (Some (asked c.args.ask.now)) (g.F.Files.told c.args.files.now) (g.F.Files.told c.load_units.new.files))) c.in_err-units.field-0.0 =
+    (call (Some (asked_of_ask c.args.ask.now)) (g.F.Files.told c.args.files.now) (g.F.Files.told c.load_units.new.files))) c.in_err-units.field-0.0 =
     refused_in_order Units RefusesUnits SpellUnits (λ v. Ends (IsOfSchedule (source_of c.args.loaded.now.parts) v)) 1 _ _ c.load_units.ensures.loads
     c.in_err-units.ensures.refused in
     search rules

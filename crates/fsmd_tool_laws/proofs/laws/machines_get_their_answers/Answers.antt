@@ -3,7 +3,7 @@ use Rattle.fs_write.specs.Canonical.{canonical}
 use Rattle.fs_path_text.specs.PathTexts.{paths_text}
 use Rattle.fsmd_replies.specs.declared.answer.Answer.TheVariants.{Text}
 use Rattle.fsmd_replies.specs.AskedFiles.{cert_of, step_limit}
-use Rattle.fsmd_answers.specs.MachinePairAnswers.{IsOfPair, IsOfLoops}
+use Rattle.fsmd_answers.specs.ComparisonAnswers.{IsOfPair, IsOfLoops}
 use Rattle.fsmd_answers.specs.Verdicts.{IsJudged}
 use Rattle.fsmd_answers.specs.RunAnswers.{IsOfRun}
 use Rattle.fsmd_answers.specs.Replays.{IsOfReplay}

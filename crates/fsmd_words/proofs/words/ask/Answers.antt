@@ -2,7 +2,7 @@ use Rattle.std.proofs.Common.{◌≡◌, ◌∙◌, rules, ap, sym, subst, map, 
 use Rattle.std.proofs.lemmas.Result.{IfOk-weaker, IfErr-weaker}
 use Rattle.clap.specs.Words.{App, Kinds, HasKind, fault_of, found_of, kind_of, is_simple, is_simple_and_free, rows_of, subcommand_of}
 use Rattle.clap.specs.declared.error.kind.ErrorKind.TheVariants.{OutOfMemory}
-use Rattle.fsmd_words.specs.AskedWords.{AreParsed, asked, asked_by, matched_of}
+use Rattle.fsmd_words.specs.AskedWords.{AreParsed, asked_of_ask, asked_by, matched_of}
 use Rattle.fsmd_words.proofs.Named.{are_taken, not_taken, refused_asks, sub_asks, taken_asks}
 use Rattle.fsmd_words.proofs.Limits.{is_within}
 use Rattle.fsmd_words.proofs.words.ask.Goals as goal
@@ -27,13 +27,13 @@ returns-in-Some-clause-ok c =
     let words = map string_bytes c.args.words.now in
     let k = (goal.at.returns-in-Some-clause-ok c).In-Some in
     IfOk-weaker c.read.result _ _
-    (λ ask h. taken_asks words (are_taken words (asked ask) (parsed k) (sym (asks k) ∙ h.0) h.1) ∙ (sym (asks k) ∙ h.0)) c.read.ensures.ok
+    (λ ask h. taken_asks words (are_taken words (asked_of_ask ask) (parsed k) (sym (asks k) ∙ h.0) h.1) ∙ (sym (asks k) ∙ h.0)) c.read.ensures.ok
 
 pub returns-in-Some-clause-taken : goal.returns-in-Some-clause-taken
 returns-in-Some-clause-taken c =
     let words = map string_bytes c.args.words.now in
     let k = (goal.at.returns-in-Some-clause-taken c).In-Some in
-    IfOk-weaker c.read.result _ _ (λ ask h. are_taken words (asked ask) (parsed k) (sym (asks k) ∙ h.0) h.1) c.read.ensures.ok
+    IfOk-weaker c.read.result _ _ (λ ask h. are_taken words (asked_of_ask ask) (parsed k) (sym (asks k) ∙ h.0) h.1) c.read.ensures.ok
 
 pub returns-in-Some-clause-usage : goal.returns-in-Some-clause-usage
 returns-in-Some-clause-usage c =
@@ -52,7 +52,8 @@ returns-in-Some-clause-limits c =
     let words = map string_bytes c.args.words.now in
     let k = (goal.at.returns-in-Some-clause-limits c).In-Some in
     IfOk-weaker c.read.result _ _
-    (λ ask h. is_within words _ (taken_asks words (are_taken words (asked ask) (parsed k) (sym (asks k) ∙ h.0) h.1) ∙ (sym (asks k) ∙ h.0))) c.read.ensures.ok
+    (λ ask h. is_within words _ (taken_asks words (are_taken words (asked_of_ask ask) (parsed k) (sym (asks k) ∙ h.0) h.1) ∙ (sym (asks k) ∙ h.0)))
+    c.read.ensures.ok
 
 pub returns-clause-usage : goal.returns-clause-usage
 returns-clause-usage c = λ _ taken.

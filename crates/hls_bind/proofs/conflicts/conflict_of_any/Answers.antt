@@ -2,7 +2,7 @@ use Rattle.std.proofs.Common.{◌<◌, ◌∙◌, sym, ap, arith, length}
 use Rattle.std.specs.Prelude.{map}
 use Rattle.std.specs.Option.{option_map}
 use Rattle.hls_bind.specs.BindingEntries.{binding_entry, conflict_of}
-use Rattle.hls_bind.specs.Lost.{conflict_in, first_conflict}
+use Rattle.hls_bind.specs.ConflictSearch.{conflict_in, first_conflict}
 use Rattle.hls_bind.proofs.Loops.{first_none}
 use Rattle.hls_bind.proofs.conflicts.conflict_of_any.Goals as goal
 

@@ -1,7 +1,7 @@
 use Rattle.std.proofs.Common.{◌≡◌, ◌-◌, length}
 use Rattle.std.specs.Prelude.{map}
 use Rattle.hls_bind.specs.BindingEntries.{binding_entry}
-use Rattle.hls_bind.specs.Lost.{first_from, conflict_in, first_conflict}
+use Rattle.hls_bind.specs.ConflictSearch.{first_from, conflict_in, first_conflict}
 use Rattle.hls_bind.proofs.conflicts.conflict_of_any.Given as goal
 
 abbrev pub invariant-loop-state : goal.invariant-loop-state

@@ -3,7 +3,7 @@ use Rattle.std.specs.Prelude.{map}
 use Rattle.std.specs.Option.{option_map}
 use Rattle.fs_variable_sets.specs.Sets.{has_variable}
 use Rattle.hls_bind.specs.BindingEntries.{binding_entry, lost_pair}
-use Rattle.hls_bind.specs.Lost.{lost_by}
+use Rattle.hls_bind.specs.ConflictSearch.{lost_by}
 use Rattle.hls_bind.specs.Shared.{others_in}
 use Rattle.hls_bind.proofs.Apart.{shared_at, others_low, none_here, some_here}
 use Rattle.hls_bind.proofs.conflicts.lost_by.Goals as goal

@@ -2,7 +2,7 @@ use Rattle.std.proofs.Common.{◌≡◌, drop}
 use Rattle.std.specs.Prelude.{map, length}
 use Rattle.fs_variable_sets.specs.Sets.{has_variable}
 use Rattle.hls_bind.specs.BindingEntries.{binding_entry}
-use Rattle.hls_bind.specs.Lost.{lost_by}
+use Rattle.hls_bind.specs.ConflictSearch.{lost_by}
 use Rattle.hls_bind.proofs.conflicts.lost_by.Given as goal
 
 abbrev pub invariant-loop-k : goal.invariant-loop-k

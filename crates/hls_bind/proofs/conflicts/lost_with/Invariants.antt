@@ -2,7 +2,7 @@ use Rattle.std.proofs.Common.{◌≡◌, drop}
 use Rattle.std.specs.Prelude.{map}
 use Rattle.fs_variable_sets.specs.Sets.{has_variable}
 use Rattle.hls_bind.specs.BindingEntries.{binding_entry}
-use Rattle.hls_bind.specs.Lost.{lost_with}
+use Rattle.hls_bind.specs.ConflictSearch.{lost_with}
 use Rattle.hls_bind.proofs.conflicts.lost_with.Given as goal
 
 abbrev pub invariant-loop-other : goal.invariant-loop-other

@@ -2,7 +2,7 @@ use Rattle.std.proofs.Common.{◌∙◌, ap}
 use Rattle.std.specs.Prelude.{map}
 use Rattle.std.specs.Option.{option_map}
 use Rattle.hls_bind.specs.BindingEntries.{binding_entry, conflict_of}
-use Rattle.hls_bind.specs.Lost.{first_conflict}
+use Rattle.hls_bind.specs.ConflictSearch.{first_conflict}
 use Rattle.hls_bind.proofs.Losses.{verdict_of}
 use Rattle.hls_bind.proofs.outcome.conflict.Goals as goal
 

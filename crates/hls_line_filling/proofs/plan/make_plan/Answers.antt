@@ -1,7 +1,7 @@
 use Rattle.std.proofs.Common.{ℕ, List, ◌∙◌, sym, ap, subst, length}
 use Rattle.hls_line_rows.specs.ItemUnits.{units_in}
 use Rattle.hls_line_rows.specs.Heights.{greatest}
-use Rattle.hls_line_rows.specs.Filling.{filling}
+use Rattle.hls_line_rows.specs.Filling.{filling_of}
 use Rattle.hls_line_filling.specs.declared.profiles.Profile.{Profile}
 use Rattle.hls_line_filling.specs.Profiles.{graph_in}
 use Rattle.hls_line_filling.specs.KnownHeights.{AreLowHeights}
@@ -17,7 +17,7 @@ chain-requires-clause-low c =
 pub returns-clause-rows : goal.returns-clause-rows
 returns-clause-rows c = λ items are.
     c.in_ok-rows.ensures.filling
-    ∙ ap (λ (t : List Profile). filling (graph_in t) (units_in c.args.units.now)) c.as_slice-2.ensures.value
+    ∙ ap (λ (t : List Profile). filling_of (graph_in t) (units_in c.args.units.now)) c.as_slice-2.ensures.value
     ∙ plan_is c.args.effects.now c.args.uses.now items are c.in_ok-heights.heights.items c.in_ok-table.table.items
     (units_in c.args.units.now) c.in_ok-heights.ensures.heights c.in_ok-heights.ensures.count
     (subst (λ (hs : List ℕ). AreJoined c.args.effects.now hs c.args.uses.now c.in_ok-table.table.items) c.as_slice.ensures.value c.in_ok-table.ensures)

@@ -2,9 +2,9 @@ use Rattle.std.proofs.Common.{◌≡◌, take, map}
 use Rattle.hls_unit_counts.specs.declared.units.Unit.{Unit as Kind}
 use Rattle.hls_line_machines.specs.StraightLines.{item_of}
 use Rattle.hls_line_rows.specs.ItemUnits.{used_by}
-use Rattle.hls_line_filling.specs.Profiles.{units_of_uses, capped}
+use Rattle.hls_line_filling.specs.Profiles.{units_of_uses, capped_count}
 use Rattle.hls_sched.proofs.plans.all_uses.Given as goal
 
 abbrev pub invariant-loop-state : goal.invariant-loop-state
 invariant-loop-state l = (kind : Kind) → map (λ u. units_of_uses u kind) l.out.items
-    ≡ map (λ q. capped (used_by (item_of l.m q.0) kind)) (take l.state-index l.states)
+    ≡ map (λ q. capped_count (used_by (item_of l.m q.0) kind)) (take l.state-index l.states)

@@ -5,5 +5,6 @@ use Rattle.nf_sums.proofs.product.single.Goals as goal
 pub returns : goal.returns
 returns c =
     single_product _ _ _ _ c.in-Some.field-0.now c.in-Some-first.field-0.now _ _ c.requires.left_short c.in-Some.ensures.item.3.0 c.in-Some.ensures.item.1
-    c.requires.right_short c.in-Some-first.ensures.item.3.0 c.in-Some-first.ensures.item.1 c.requires.left c.requires.right c.in_ok-joined.ensures refl
+    c.requires.right_short c.in-Some-first.ensures.item.3.0 c.in-Some-first.ensures.item.1 c.requires.left c.requires.right
+    c.in_ok-multiply_monomials.ensures refl
     c.new-out.ensures.items c.in_ok-push_product.ensures

@@ -1,6 +1,6 @@
 use Rattle.std.proofs.Common.{ap, sym, ◌∙◌, map, take, Some}
 use Rattle.nf_terms.specs.View.{term_in}
-use Rattle.propagate.specs.Rebases.{split}
+use Rattle.propagate.specs.Rebases.{split_off_symbol}
 use Rattle.propagate.proofs.Splitting.{split_here, none_split}
 use Rattle.propagate.proofs.RebaseTurns.{splits_in_turn}
 use Rattle.propagate.proofs.splits.split_off.Goals as goal
@@ -13,11 +13,11 @@ returns-in-Some c =
     ∙ sym
     (split_here ms (map term_in (take c.loop-place.place ts)) c.index-terms-place.result c.loop-place.place ts c.in-Some.found c.loop-place-test.true
     c.index-terms-place.is c.in-Some.ensures)
-    ∙ c.loop-place.invariant ∙ splits_in_turn ms (map term_in ts) ∙ ap (split ms) c.monos-terms.ensures.same
+    ∙ c.loop-place.invariant ∙ splits_in_turn ms (map term_in ts) ∙ ap (split_off_symbol ms) c.monos-terms.ensures.same
 
 pub returns : goal.returns
 returns c =
     let ms = c.args.meanings.now in
     let ts = c.monos-terms.result.now in
     sym (none_split ms (map term_in (take c.loop-place.place ts)) c.loop-place.place ts c.loop-place-test.false)
-    ∙ c.loop-place.invariant ∙ splits_in_turn ms (map term_in ts) ∙ ap (split ms) c.monos-terms.ensures.same
+    ∙ c.loop-place.invariant ∙ splits_in_turn ms (map term_in ts) ∙ ap (split_off_symbol ms) c.monos-terms.ensures.same

@@ -1,10 +1,10 @@
 use Rattle.std.proofs.Common.{◌≡◌, map, drop}
-use Rattle.propagate.specs.JoinSteps.{first_tie}
+use Rattle.propagate.specs.JoinSteps.{join_tie}
 use Rattle.propagate.specs.View.{freed_in}
 use Rattle.propagate.proofs.ties.number_tied.Given as goal
 
 abbrev pub invariant-loop-other : goal.invariant-loop-other
 invariant-loop-other l = record {
   vector : l.s.vector ≡ l.initial.s.vector;
-  rest : first_tie l.v l.p l.number (map freed_in (drop l.other-index l.freed)) ≡ first_tie l.v l.p l.number (map freed_in l.freed);
+  rest : join_tie l.v l.p l.number (map freed_in (drop l.other-index l.freed)) ≡ join_tie l.v l.p l.number (map freed_in l.freed);
 }

@@ -1,7 +1,7 @@
 use Rattle.std.proofs.Common.{◌∙◌, ap, sym, List}
 use Rattle.std.specs.Prelude.{slice_set}
 use Rattle.search_places.specs.declared.entry.Item.{Item}
-use Rattle.search_places.specs.NodeLines.{line_of_node, lines_in}
+use Rattle.search_places.specs.NodeLines.{record_of_node, node_records}
 use Rattle.search_places.proofs.Values.{held}
 use Rattle.search_places.proofs.nodes.list_arrival.Goals as goal
 
@@ -11,10 +11,11 @@ returns c =
     let es = c.args.nodes.now.entries in
     let h = held es c.args.number old (sym c.in-Some.ensures.value) in
     record {
-      old = line_of_node (h.pair, old);
+      old = record_of_node (h.pair, old);
       is_in = h.is_in;
       set = h.set (record { fact = old.fact; moves = old.moves; arrivals = c.push.new.self })
           ∙ ap
-          (λ (a : List Item). slice_set (lines_in es) c.args.number
-          (record { node = (line_of_node (h.pair, old)).node; moves = (line_of_node (h.pair, old)).moves; arrivals = a })) c.in_ok-push-in-Some.ensures.items;
+          (λ (a : List Item). slice_set (node_records es) c.args.number
+          (record { node = (record_of_node (h.pair, old)).node; moves = (record_of_node (h.pair, old)).moves; arrivals = a }))
+          c.in_ok-push-in-Some.ensures.items;
     }

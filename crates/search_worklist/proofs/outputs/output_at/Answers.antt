@@ -3,7 +3,7 @@ use Rattle.base_lemmas.proofs.Lists.{slice_get-of_map}
 use Rattle.fs_pair.specs.PairedOutputs.{output_pairs}
 use Rattle.sym_facts.specs.Facts.{vector_of}
 use Rattle.search_tables.specs.Legal.{first_differing}
-use Rattle.search_places.specs.NodeLines.{Line, lines_in}
+use Rattle.search_places.specs.NodeLines.{NodeRecord, node_records}
 use Rattle.search_places.specs.View.{standing_in}
 use Rattle.search_worklist.proofs.Legal.{if_ok}
 use Rattle.search_worklist.proofs.outputs.output_at.Goals as goal
@@ -14,7 +14,7 @@ returns-then-not-is_end c =
     let m = c.args.m.now in
     record {
       node = l.node;
-      is_in = slice_get-of_map (λ (z : Line). z.node) (lines_in c.args.entries.now.entries) c.args.number l c.node_at-node.ensures;
+      is_in = slice_get-of_map (λ (z : NodeRecord). z.node) (node_records c.args.entries.now.entries) c.args.number l c.node_at-node.ensures;
       differs = ap (λ b. cond b (first_differing (vector_of l.node.fact.positions) (output_pairs 0 m.left.now.variables m.right.now.variables)) None)
           c.if-not-is_end.ensures;
     }
@@ -26,7 +26,7 @@ returns c =
     let v = vector_of l.node.fact.positions in
     if_ok c.first_differing.result (λ o h. record {
       node = l.node;
-      is_in = slice_get-of_map (λ (z : Line). z.node) (lines_in c.args.entries.now.entries) c.args.number l c.node_at-node.ensures;
+      is_in = slice_get-of_map (λ (z : NodeRecord). z.node) (node_records c.args.entries.now.entries) c.args.number l c.node_at-node.ensures;
       differs = h ∙ ap (λ u. first_differing u (output_pairs 0 c.vars.result.now c.vars-2.result.now)) c.in_ok-v.ensures
           ∙ ap₂ (λ ls rs. first_differing v (output_pairs 0 ls rs)) c.vars.ensures.vars c.vars-2.ensures.vars
           ∙ ap (λ b. cond b (first_differing v (output_pairs 0 m.left.now.variables m.right.now.variables)) None) c.if-not-is_end.ensures;

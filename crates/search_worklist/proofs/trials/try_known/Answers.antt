@@ -4,7 +4,7 @@ use Rattle.sym_paths.specs.View.{post_in}
 use Rattle.sym_facts.specs.Pairings.{IsFactOf}
 use Rattle.sym_facts.specs.View.{missing_in}
 use Rattle.search_tables.specs.SearchTables.{positions_of, Known, node_target, within_units}
-use Rattle.search_places.specs.NodeLines.{Line}
+use Rattle.search_places.specs.NodeLines.{NodeRecord}
 use Rattle.search_places.specs.View.{standing_in}
 use Rattle.search_worklist.specs.NodeUpdates.{put_fact}
 use Rattle.search_worklist.specs.States.{lines, table}
@@ -21,7 +21,7 @@ returns-then-is_nothing c =
       c.requires.is_open,
       record {
         node = l.node;
-        target = s.2 ∙ ap (λ (z : Line). Known c.args.number z.node) same;
+        target = s.2 ∙ ap (λ (z : NodeRecord). Known c.args.number z.node) same;
         missing = missing_in c.in_ok-miss.miss;
         compared = c.in_ok-miss.ensures;
         nothing = sym c.if-is_nothing.ensures;
@@ -50,7 +50,7 @@ returns c =
     let l = standing_in c.node_at.result in
     let s = c.requires.stands in
     let same : s.0 ≡ l = (let a = s.1 in let b = c.node_at.ensures in cc) in
-    let there : node_target T P Q ≡ Known c.args.number l.node = s.2 ∙ ap (λ (z : Line). Known c.args.number z.node) same in
+    let there : node_target T P Q ≡ Known c.args.number l.node = s.2 ∙ ap (λ (z : NodeRecord). Known c.args.number z.node) same in
     gives_change T P Q post (effect_there ps T P Q post) (within_units (put_fact T P Q f)) c.changed.result
     (join_gives ps T P Q post c.args.number l.node there (missing_in c.in_ok-miss.miss) c.in_ok-miss.ensures
     (sym c.if-is_nothing.ensures) f c.in_ok-fact.ensures)

@@ -2,7 +2,7 @@ use Rattle.std.proofs.Common.{◌≡◌, ◌+◌, ◌≤◌, length, rules, ap�
 use Rattle.std.specs.BTreeSet.{btree_set_len}
 use Rattle.propagate.specs.Modes.{Found}
 use Rattle.search_tables.specs.Next.{mode_at}
-use Rattle.search_places.specs.NodeLines.{Line}
+use Rattle.search_places.specs.NodeLines.{NodeRecord}
 use Rattle.search_places.specs.Moves.{moves_in_mode}
 use Rattle.search_places.specs.ItemOrder.{waits, AddsMoves}
 use Rattle.search_places.specs.View.{standing_in}
@@ -30,7 +30,7 @@ returns c =
     let same : t.line ≡ l = (let a = t.is_in in let b = c.node_at.ensures in cc) in
     let many : c.len.result ≡ length xs = search rules in
     found_turned m c.args.state.now _ c.add_moves.new.waiting c.args.node l c.args.mode xs c.requires.ready refl c.node_at.ensures
-    (subst (λ (z : Line). mode_at m z.node ≡ Found c.args.mode) same t.found)
+    (subst (λ (z : NodeRecord). mode_at m z.node ≡ Found c.args.mode) same t.found)
     (c.in_ok-moves.ensures.moves ∙ ap₂ (λ ps qs. moves_in_mode c.args.node ps qs c.args.mode) c.left_paths-lefts.ensures.paths
     c.right_paths-rights.ensures.paths ∙ sym (moves_are m c.args.node l.node c.args.mode)) c.in_ok-moves.ensures.few c.requires.waits
     (subst (λ n. AddsMoves (waits c.args.state.now.waiting) (waits c.add_moves.new.waiting) c.args.node n) many c.in_ok-add_moves.ensures.added)

@@ -1,6 +1,6 @@
 use Rattle.std.proofs.Common.{map, string_bytes, sym, subst}
 use Rattle.std.specs.Prelude.{IfOk}
-use Rattle.fsmd_tool.specs.SinkReplies.{put}
+use Rattle.fsmd_tool.specs.SinkReplies.{put_between}
 use Rattle.show_tool.specs.ViewCalls.{PutsOf}
 use Rattle.show_tool.proofs.Putting.{to_words, no_certificate}
 use Rattle.show_tool.proofs.drive.put_reply.Goals as goal
@@ -10,7 +10,7 @@ put_shown-requires g c = no_certificate (map string_bytes c.args.words.now) _ c.
 
 pub returns-in-Ok-clause-shown : goal.returns-in-Ok-clause-shown
 returns-in-Ok-clause-shown g c =
-    to_words _ _ _ _ c.put_shown.result (λ s. put s (g.S.Sink.told c.args.out.now) (g.S.Sink.told c.put_shown.new.out)) c.in-Ok.ensures.ok
+    to_words _ _ _ _ c.put_shown.result (λ s. put_between s (g.S.Sink.told c.args.out.now) (g.S.Sink.told c.put_shown.new.out)) c.in-Ok.ensures.ok
     c.put_shown.ensures.shown
 
 pub returns-in-Err-Usage-clause-shown : goal.returns-in-Err-Usage-clause-shown
@@ -19,4 +19,4 @@ returns-in-Err-Usage-clause-shown g c =
     subst
     (λ w. IfOk c.put_usage.result
     (λ t. PutsOf w (g.F.Files.told c.args.files.now) (g.F.Files.told c.args.files.now)
-    (put t (g.S.Sink.told c.args.out.now) (g.S.Sink.told c.put_usage.new.out)))) (sym none) c.put_usage.ensures.ok
+    (put_between t (g.S.Sink.told c.args.out.now) (g.S.Sink.told c.put_usage.new.out)))) (sym none) c.put_usage.ensures.ok

@@ -1,5 +1,5 @@
 use Rattle.std.proofs.Common.{rules, Some}
-use Rattle.fsmd_words.specs.AskedWords.{asked}
+use Rattle.fsmd_words.specs.AskedWords.{asked_of_ask}
 use Rattle.fsmd_answers.specs.Refusing.{WhereAnswered}
 use Rattle.fsmd_tool.specs.Calls.{call, IsCorrectFrom}
 use Rattle.std.specs.Prelude.{List, map}
@@ -15,7 +15,7 @@ use Rattle.show_tool.proofs.views.show_certificate_of.Goals as goal
 pub returns-in_err-cert-clause-answers : goal.returns-in_err-cert-clause-answers
 returns-in_err-cert-clause-answers g c =
     let h : WhereAnswered (IsCorrectFrom (OpensCertificate c.args.left.now c.args.right.now (λ v. Ends (IsOfCertificate c.args.left.now c.args.right.now v))) 2
-    (call (Some (asked c.args.ask.now)) (g.F.Files.told c.args.files.now) (g.F.Files.told c.load_certificate.new.files))) c.in_err-cert.field-0.0 =
+    (call (Some (asked_of_ask c.args.ask.now)) (g.F.Files.told c.args.files.now) (g.F.Files.told c.load_certificate.new.files))) c.in_err-cert.field-0.0 =
     refused_as (List (Node Fact)) (RefusesCertificate c.args.left.now c.args.right.now) (SpellsCertificate c.args.left.now c.args.right.now)
     (λ v. Ends (IsOfCertificate c.args.left.now c.args.right.now v)) 2 _ _ c.in_err-cert.ensures.refused in
     search rules

@@ -1,5 +1,5 @@
 use Rattle.std.proofs.Common.{rules, Some}
-use Rattle.fsmd_words.specs.AskedWords.{asked}
+use Rattle.fsmd_words.specs.AskedWords.{asked_of_ask}
 use Rattle.fsmd_answers.specs.Refusing.{WhereAnswered}
 use Rattle.fsmd_tool.specs.Calls.{call, IsCorrectFrom}
 use Rattle.std.specs.Prelude.{Ok}
@@ -12,7 +12,7 @@ use Rattle.show_tool.proofs.views.show_inputs.Goals as goal
 pub returns-in_err-left-clause-answers : goal.returns-in_err-left-clause-answers
 returns-in_err-left-clause-answers g c =
     let h : WhereAnswered (IsCorrectFrom (OpensPair (λ a b. Ends (IsOfInputs 10000 a b))) 0
-    (call (Some (asked c.args.ask.now)) (g.F.Files.told c.args.files.now) (g.F.Files.told c.load_pair.new.files))) c.in_err-left.field-0.0 =
+    (call (Some (asked_of_ask c.args.ask.now)) (g.F.Files.told c.args.files.now) (g.F.Files.told c.load_pair.new.files))) c.in_err-left.field-0.0 =
     pair_refused (λ a b. Ends (IsOfInputs 10000 a b)) _ _ (correct_of _ _ _ _ c.in_err-left.ensures.refused) in
     search rules
 

@@ -1,5 +1,5 @@
 use Rattle.std.proofs.Common.{◌≡◌, ◌∙◌, rules, ap, Some}
-use Rattle.fsmd_words.specs.AskedWords.{asked}
+use Rattle.fsmd_words.specs.AskedWords.{asked_of_ask}
 use Rattle.fsmd_answers.specs.Refusing.{WhereAnswered}
 use Rattle.fsmd_tool.specs.Calls.{call, IsCorrectFrom}
 use Rattle.fs_model.specs.Machines.{Fsmd}
@@ -14,7 +14,7 @@ use Rattle.show_tool.proofs.views.show_machine.Goals as goal
 pub returns-in_err-machine-clause-answers : goal.returns-in_err-machine-clause-answers
 returns-in_err-machine-clause-answers g c =
     let h : WhereAnswered (IsCorrectFrom (OpensMachine (λ m. Ends (λ answer. answer ≡ Text (picture_of m)))) 0
-    (call (Some (asked c.args.ask.now)) (g.F.Files.told c.args.files.now) (g.F.Files.told c.load_machine.new.files))) c.in_err-machine.field-0.0 =
+    (call (Some (asked_of_ask c.args.ask.now)) (g.F.Files.told c.args.files.now) (g.F.Files.told c.load_machine.new.files))) c.in_err-machine.field-0.0 =
     refused_as Fsmd RefusesMachine SpellsMachine (λ m. Ends (λ answer. answer ≡ Text (picture_of m))) 0 _ _ c.in_err-machine.ensures.refused in
     search rules
 

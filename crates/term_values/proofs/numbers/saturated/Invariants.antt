@@ -1,8 +1,8 @@
 use Rattle.std.proofs.Common.{◌≡◌, ◌-◌, ◌^◌, ◌<◌, min, drop}
 use Rattle.std.specs.List.{fold}
-use Rattle.term_values.specs.DigitNumbers.{shifted, digits_number}
+use Rattle.base_integers.specs.Digits.{with_digit, value_of_digits}
 use Rattle.term_values.proofs.numbers.saturated.Given as goal
 
 abbrev pub invariant-loop-digit : goal.invariant-loop-digit
-invariant-loop-digit l = (min (fold shifted l.number (drop l.digit-index l.digits)) (2 ^ 128 - 1) ≡ min (digits_number l.digits) (2 ^ 128 - 1))
+invariant-loop-digit l = (min (fold with_digit l.number (drop l.digit-index l.digits)) (2 ^ 128 - 1) ≡ min (value_of_digits l.digits) (2 ^ 128 - 1))
     × (l.number < 2 ^ 128)

@@ -6,8 +6,8 @@ use Rattle.std.specs.List.{list_any}
 use Rattle.base_lemmas.proofs.Lists.{map_map}
 use Rattle.fs_model.specs.View.{named_assignment}
 use Rattle.fs_model.specs.Renamed.{assignment_over}
-use Rattle.fs_rules.specs.MachineOfParts.{place, names_of}
-use Rattle.fs_rules.specs.Sound.{assigned_in, all_differ}
+use Rattle.fs_rules.specs.MachineOfParts.{place_or_end, names_of}
+use Rattle.fs_rules.specs.SoundParts.{assigned_in, all_differ}
 use Rattle.fs_rules.proofs.Uses.{seen_start, seen_more, seen_again, seen_all}
 use Rattle.fs_rules.proofs.scope.Scope.assigns_twice.Goals as goal
 
@@ -16,14 +16,14 @@ loop-assign-init c = seen_start _ _ _ (λ q. ap (λ ks. list_any (is_at (nat_cmp
 
 pub loop-assign-preserved : goal.loop-assign-preserved
 loop-assign-preserved c =
-    let f = place (names_of c.args.self.now.vars.items) in
+    let f = place_or_end (names_of c.args.self.now.vars.items) in
     let made = c.in_ok-assigns_again.ensures in
     seen_more (λ a. assignment_over f (named_assignment a)) c.args.assigns.now c.loop-assign.assign-index c.assign-item.result c.loop-assign-test.true
     c.assign-item.is _ _ c.loop-assign.invariant (sym c.if-branch.false ∙ made.again) made.seen
 
 pub returns-then-branch : goal.returns-then-branch
 returns-then-branch c =
-    let f = place (names_of c.args.self.now.vars.items) in
+    let f = place_or_end (names_of c.args.self.now.vars.items) in
     let xs = c.args.assigns.now in
     sym
     (ap (λ l. not (all_differ (assigned_in l))) (map_map (assignment_over f) named_assignment xs)
@@ -33,7 +33,7 @@ returns-then-branch c =
 
 pub returns : goal.returns
 returns c =
-    let f = place (names_of c.args.self.now.vars.items) in
+    let f = place_or_end (names_of c.args.self.now.vars.items) in
     let xs = c.args.assigns.now in
     sym
     (ap (λ l. not (all_differ (assigned_in l))) (map_map (assignment_over f) named_assignment xs)

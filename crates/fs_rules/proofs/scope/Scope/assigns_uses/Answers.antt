@@ -2,8 +2,8 @@ use Rattle.std.proofs.Common.{◌∙◌, sym, ap, ap₂, take}
 use Rattle.std.specs.Prelude.{map}
 use Rattle.fs_model.specs.View.{named_assignment}
 use Rattle.fs_model.specs.Renamed.{assignment_over}
-use Rattle.fs_rules.specs.MachineOfParts.{place, names_of}
-use Rattle.fs_rules.specs.Sound.{scalars_in_assignments, arrays_in_assignments, ports_in_assignments}
+use Rattle.fs_rules.specs.MachineOfParts.{place_or_end, names_of}
+use Rattle.fs_rules.specs.SoundParts.{scalars_in_assignments, arrays_in_assignments, ports_in_assignments}
 use Rattle.fs_rules.specs.Uses.{uses_of, either_of}
 use Rattle.fs_rules.proofs.Turns.{taken_twice}
 use Rattle.fs_rules.proofs.Uses.{uses_push}
@@ -12,7 +12,7 @@ use Rattle.fs_rules.proofs.scope.Scope.assigns_uses.Goals as goal
 pub loop-assign-preserved : goal.loop-assign-preserved
 loop-assign-preserved c =
     let vs = c.args.self.now.vars.items in
-    let over = assignment_over (place (names_of vs)) in
+    let over = assignment_over (place_or_end (names_of vs)) in
     let xs = c.args.assigns.now in
     let i = c.loop-assign.assign-index in
     let x = c.assign-item.result in

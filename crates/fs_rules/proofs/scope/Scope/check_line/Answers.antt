@@ -3,8 +3,8 @@ use Rattle.std.specs.Prelude.{map, not, nat_lt}
 use Rattle.std.specs.List.{list_any}
 use Rattle.fs_model.specs.View.{named_assignment, source_transition_of}
 use Rattle.fs_model.specs.Renamed.{assignment_over}
-use Rattle.fs_rules.specs.MachineOfParts.{place, names_of, line_spelled}
-use Rattle.fs_rules.specs.Sound.{input_at, changed_by, assigned_in, all_differ, emit_count}
+use Rattle.fs_rules.specs.MachineOfParts.{place_or_end, names_of, transition_spelled}
+use Rattle.fs_rules.specs.SoundParts.{input_at, changed_by, assigned_in, all_differ, emit_count}
 use Rattle.fs_rules.specs.Places.{names_stated}
 use Rattle.fs_model.specs.Limits.{most_emits}
 use Rattle.fs_rules.proofs.Uses.{emits_over}
@@ -15,9 +15,9 @@ pub returns : goal.returns
 returns c =
     let vs = c.args.self.now.vars.items in
     let ss = names_stated c.args.self.now.states.now in
-    let over = assignment_over (place (names_of vs)) in
+    let over = assignment_over (place_or_end (names_of vs)) in
     let same = c.as_slice-assigns.ensures.value in
-    line_noted vs (length ss) c.args.line.now.line (line_spelled (names_of vs) ss (source_transition_of c.args.line.now)) c.args.faults.now.first _ _ _ _
+    line_noted vs (length ss) c.args.line.now.line (transition_spelled (names_of vs) ss (source_transition_of c.args.line.now)) c.args.faults.now.first _ _ _ _
     _ _ _ _ _ _ _ _
     (ap (λ u. u.unknown) c.line_uses-uses.ensures) (ap (λ u. u.wrong_sort) c.line_uses-uses.ensures)
     (c.some_changes_input-changes_input.ensures ∙ ap (λ xs. list_any (λ a. input_at vs (changed_by a)) (map over (map named_assignment xs))) same)
@@ -25,5 +25,5 @@ returns c =
     (ap not c.knows_state-no_target.ensures)
     (ap (nat_lt most_emits)
     (c.emit_count-emits.ensures ∙ ap (λ xs. emit_count (map named_assignment xs)) same
-    ∙ sym (emits_over (place (names_of vs)) (map named_assignment c.args.line.now.assigns.items))))
+    ∙ sym (emits_over (place_or_end (names_of vs)) (map named_assignment c.args.line.now.assigns.items))))
     c.note_where.ensures c.note_where-2.ensures c.note_where-3.ensures c.note_where-4.ensures c.note_where-5.ensures c.note_where-6.ensures

@@ -1,7 +1,7 @@
 use Rattle.std.proofs.Common.{length}
 use Rattle.fs_model.specs.View.{source_transition_of}
-use Rattle.fs_rules.specs.MachineOfParts.{names_of, line_spelled}
-use Rattle.fs_rules.specs.Rules.{line_faults}
+use Rattle.fs_rules.specs.MachineOfParts.{names_of, transition_spelled}
+use Rattle.fs_rules.specs.Rules.{transition_faults}
 use Rattle.fs_rules.specs.FirstFault.{earliest}
 use Rattle.fs_rules.specs.Places.{names_stated}
 use Rattle.fs_rules.proofs.FirstFaults.{earliest-append}
@@ -12,5 +12,6 @@ pub loop-line-preserved : goal.loop-line-preserved
 loop-line-preserved c =
     let vs = c.args.self.now.vars.items in
     let ss = names_stated c.args.self.now.states.now in
-    left_flat earliest earliest-append source_transition_of (λ l. line_faults vs (length ss) l.line (line_spelled (names_of vs) ss l)) c.args.lines.now
+    left_flat earliest earliest-append source_transition_of (λ l. transition_faults vs (length ss) l.line (transition_spelled (names_of vs) ss l))
+    c.args.lines.now
     c.loop-line.line-index c.line-item.result c.loop-line-test.true c.line-item.is _ _ _ c.in_ok-check_line.ensures c.loop-line.invariant

@@ -5,14 +5,14 @@ use Rattle.std.proofs.lemmas.Iterator.Search.{any_from_yields_List}
 use Rattle.base_lemmas.proofs.Quantifiers.{list_any_map}
 use Rattle.fs_model.specs.View.{named_assignment}
 use Rattle.fs_model.specs.Renamed.{assignment_over}
-use Rattle.fs_rules.specs.MachineOfParts.{place, names_of}
-use Rattle.fs_rules.specs.Sound.{input_at, changed_by}
+use Rattle.fs_rules.specs.MachineOfParts.{place_or_end, names_of}
+use Rattle.fs_rules.specs.SoundParts.{input_at, changed_by}
 use Rattle.fs_rules.proofs.scope.Scope.some_changes_input.Goals as goal
 
 pub returns : goal.returns
 returns c =
     let vs = c.args.self.now.vars.items in
-    let over = assignment_over (place (names_of vs)) in
+    let over = assignment_over (place_or_end (names_of vs)) in
     any_from_yields_List (λ x. input_at vs (changed_by (over (named_assignment x)))) _ _ _ c.any.ensures.ran (YieldsList-from_slice c.args.assigns.now cc)
     (λ x b q k. search (rules, tests))
     ∙ sym (list_any_map (λ a. input_at vs (changed_by (over a))) named_assignment c.args.assigns.now)

@@ -1,5 +1,5 @@
 use Rattle.fs_runs.specs.InputValues.{signatures_of}
-use Rattle.fs_show.proofs.Serving.{serves_both}
+use Rattle.fs_run_text.proofs.Serving.{serves_both}
 use Rattle.hls_tests.proofs.smaller_inputs.small.text.Goals as goal
 
 pub differing_ends-requires-clause-right : goal.differing_ends-requires-clause-right

@@ -9,5 +9,5 @@ pub returns : goal.returns
 returns c =
     let narrow : weight_of c.args.self + weight_of c.args.p.now ≤ weight_limit = search rules in
     let small : size_of c.args.self + size_of c.args.p.now ≤ size_limit = search rules in
-    sum_gives _ _ (subst IsNormal c.self.view_is c.self.invariant.normal) c.weight-right.ensures.normal narrow small c.in_ok-joined.field-0
-    c.in_ok-joined.ensures
+    sum_gives _ _ (subst IsNormal c.self.view_is c.self.invariant.normal) c.weight-right.ensures.normal narrow small c.in_ok-add_terms.field-0
+    c.in_ok-add_terms.ensures

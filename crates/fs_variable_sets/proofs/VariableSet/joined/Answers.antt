@@ -1,5 +1,0 @@
-use Rattle.fs_variable_sets.proofs.Bits.{has_either}
-use Rattle.fs_variable_sets.proofs.VariableSet.joined.Goals as goal
-
-pub returns : goal.returns
-returns c = has_either c.args.self c.args.other

@@ -1,0 +1,12 @@
+use Rattle.std.proofs.Common.{arith}
+use Rattle.nf_sums.proofs.Turns.{weight_at}
+use Rattle.nf_rel.proofs.Divided.{divided_all}
+use Rattle.nf_rel.proofs.divisors.divide_monomials.Goals as goal
+
+pub push_divided-requires-clause-small : goal.push_divided-requires-clause-small
+push_divided-requires-clause-small c =
+    omega (arith, weight_at c.args.terms.now c.loop-mono.mono-index c.loop-mono-item.result c.loop-mono-test.true c.loop-mono-item.is, c.requires.small)
+
+pub returns : goal.returns
+returns c = divided_all c.args.by.now c.args.terms.now c.loop-mono.out.items c.loop-mono.mono-index c.loop-mono.invariant
+    (omega (arith, c.loop-mono-test.false))

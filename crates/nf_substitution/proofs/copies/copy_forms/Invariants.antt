@@ -1,0 +1,7 @@
+use Rattle.std.proofs.Common.{◌≡◌, ◌++◌}
+use Rattle.nf_substitution.proofs.copies.copy_forms.Given as goal
+
+abbrev pub invariant-loop-place : goal.invariant-loop-place
+invariant-loop-place l = record {
+  rest : l.copy.entries ++ l.place-iterator ≡ l.forms.entries;
+}

@@ -1,0 +1,152 @@
+//! The substituted values of terms that are given by numbers.
+
+ghost use Rattle.std.specs.Prelude.{◌<◌, ◌≤◌, length};
+ghost use Rattle.nf_terms.specs.Computed.{Answers, after};
+ghost use Rattle.nf_sums.specs.Operations.{number as number_of};
+ghost use Rattle.nf_bank.specs.AtomNumbers.{bound_of_term, bound_of_sum, bound_of_array, bound_of_node, atom_of_number};
+ghost use Rattle.nf_bank.specs.AtomNumbers.{monomial_over, sum_over, array_over, atom_over};
+ghost use Rattle.nf_substitution.specs.Substitution.{atom_substituted, atoms_substituted, polynomial_substituted};
+ghost use Rattle.nf_substitution.specs.Substitution.{array_substituted};
+ghost use Rattle.nf_substitution.specs.Keeping.{AreValues};
+
+use crate::memo::Memo;
+use crate::vector::Vector;
+use nf_arrays::division::{div, rem};
+use nf_arrays::reads::read;
+use nf_arrays::writes::write;
+use nf_bank::bank::Bank;
+use nf_bank::node::{Array, AtomId, Node, Term};
+use nf_sums::accumulator::Accumulator;
+use nf_sums::sums::{mul, number};
+use nf_terms::arr::Arr;
+use nf_terms::poly::Poly;
+use nf_terms::stop::NfStop;
+use std::alloc::Global;
+
+// The value of the atom of a number, which is found once.
+#[cycle(evaluation)]
+#[tactic(auto, using(crate::proofs::Known::found))]
+fn number_value(
+    alloc: Global,
+    vector: &Vector,
+    bank: &Bank,
+    memo: &mut Memo,
+    id: AtomId,
+) -> Result<Poly, NfStop>
+    requires within { id.0 < length bank.now }
+    requires known { AreValues vector.now bank.now memo.old }
+    ensures answers { Answers result (atom_substituted vector.now (atom_of_number bank.now id)) }
+    ensures known { AreValues vector.now bank.now memo.new }
+{
+    if let Some(value) = memo.get(alloc, id)? {
+        return Ok(value);
+    }
+    let value = atom_value(alloc, vector, bank, memo, bank.node(id))?;
+    memo.keep(alloc, id, &value)?;
+    Ok(value)
+}
+
+// The operation of an atom on its substituted parts.
+#[cycle(evaluation)]
+fn atom_value(
+    alloc: Global,
+    vector: &Vector,
+    bank: &Bank,
+    memo: &mut Memo,
+    node: &Node,
+) -> Result<Poly, NfStop>
+    requires within { bound_of_node node.now ≤ length bank.now }
+    requires known { AreValues vector.now bank.now memo.old }
+    ensures answers { Answers result (atom_substituted vector.now (atom_over bank.now node.now)) }
+    ensures known { AreValues vector.now bank.now memo.new }
+{
+    match node {
+        Node::Sym(p) => Ok(vector.number(alloc, p)?),
+        Node::Read(array, index) => {
+            let array = array_value(alloc, vector, bank, memo, array)?;
+            let index = sum_value(alloc, vector, bank, memo, index.as_slice())?;
+            read(alloc, &array, &index)
+        }
+        Node::Div(left, right) => {
+            let left = sum_value(alloc, vector, bank, memo, left.as_slice())?;
+            let right = sum_value(alloc, vector, bank, memo, right.as_slice())?;
+            div(alloc, &left, &right)
+        }
+        Node::Rem(left, right) => {
+            let left = sum_value(alloc, vector, bank, memo, left.as_slice())?;
+            let right = sum_value(alloc, vector, bank, memo, right.as_slice())?;
+            rem(alloc, &left, &right)
+        }
+    }
+}
+
+// A coefficient times the values of the atoms of a monomial.
+#[cycle(evaluation)]
+#[tactic(auto, using(nf_bank::proofs::Bounds::bound_of_item))]
+fn term_value(
+    alloc: Global,
+    vector: &Vector,
+    bank: &Bank,
+    memo: &mut Memo,
+    term: &Term,
+) -> Result<Poly, NfStop>
+    requires within { bound_of_term term.now ≤ length bank.now }
+    requires known { AreValues vector.now bank.now memo.old }
+    ensures answers { Answers result
+        (after (number_of term.now.coefficient) (atoms_substituted vector.now (monomial_over bank.now term.now.atoms))) }
+    ensures known { AreValues vector.now bank.now memo.new }
+{
+    let mut so_far = number(alloc, &term.coefficient)?;
+    for id in term.atoms.as_slice() {
+        let factor = number_value(alloc, vector, bank, memo, *id)?;
+        so_far = mul(alloc, &so_far, &factor)?;
+    }
+    Ok(so_far)
+}
+
+/// A polynomial with the vector's forms in place of its symbols.
+#[cycle(evaluation)]
+#[tactic(auto, using(nf_bank::proofs::Bounds::bound_of_item))]
+pub(crate) fn sum_value(
+    alloc: Global,
+    vector: &Vector,
+    bank: &Bank,
+    memo: &mut Memo,
+    terms: &[Term],
+) -> Result<Poly, NfStop>
+    requires within { bound_of_sum terms.now ≤ length bank.now }
+    requires known { AreValues vector.now bank.now memo.old }
+    ensures answers { Answers result (polynomial_substituted vector.now (sum_over bank.now terms.now)) }
+    ensures known { AreValues vector.now bank.now memo.new }
+{
+    let mut so_far = Accumulator::new(alloc);
+    for term in terms {
+        let value = term_value(alloc, vector, bank, memo, term)?;
+        so_far = so_far.add(alloc, &value)?;
+    }
+    Ok(so_far.into_poly())
+}
+
+/// An array with the vector's forms in place of its symbols.
+#[cycle(evaluation)]
+#[tactic(auto, using(nf_bank::proofs::Bounds::bound_of_item))]
+pub(crate) fn array_value(
+    alloc: Global,
+    vector: &Vector,
+    bank: &Bank,
+    memo: &mut Memo,
+    array: &Array,
+) -> Result<Arr, NfStop>
+    requires within { bound_of_array array.now ≤ length bank.now }
+    requires known { AreValues vector.now bank.now memo.old }
+    ensures answers { Answers result (array_substituted vector.now (array_over bank.now array.now)) }
+    ensures known { AreValues vector.now bank.now memo.new }
+{
+    let mut so_far = vector.array_base(alloc, &array.base)?;
+    for entry in array.writes.as_slice() {
+        let index = sum_value(alloc, vector, bank, memo, entry.index.as_slice())?;
+        let value = sum_value(alloc, vector, bank, memo, entry.value.as_slice())?;
+        so_far = write(alloc, &so_far, &index, &value)?;
+    }
+    Ok(so_far)
+}

@@ -1,0 +1,91 @@
+//! The values of atoms by their numbers.
+
+ghost use Rattle.std.specs.Prelude.{◌≡◌, ◌≢◌, ◌<◌, ℕ, [], Some, length, take, option_map, IfOk, OnOk, OnErr};
+ghost use Rattle.nf_substitution.specs.Keeping.{known_value};
+
+use nf_bank::node::AtomId;
+use nf_terms::poly::Poly;
+use nf_terms::stop::NoMemory;
+use std::alloc::Global;
+use std::marker::Model;
+
+/// The values of atoms by their numbers, as far as they are known.
+#[derive(Drop)]
+pub(crate) struct Memo {
+    by_number: Vec<Option<Poly>>,
+}
+
+impl Model for Memo {
+    ghost use Rattle.std.specs.Prelude.{List, Option};
+    ghost use Rattle.std.specs.Coded.{coded_list, coded_option};
+    ghost use Rattle.nf_terms.specs.NormalTerms.{Polynomial};
+    ghost use Rattle.nf_terms.specs.Codes.{coded_polynomial};
+
+    ghost Value = { List (Option Polynomial) };
+
+    ghost coded = { coded_list (coded_option coded_polynomial) };
+
+    ghost view = { λ v. v.by_number.items };
+}
+
+impl Memo {
+    /// No value.
+    pub(crate) fn new(alloc: Global) -> Memo
+        ensures { result ≡ [] }
+    {
+        Memo {
+            by_number: Vec::new(alloc),
+        }
+    }
+
+    // The value of a number.
+    fn known(&self, id: AtomId) -> Option<&Poly>
+        ensures { option_map (λ p. p.now) result ≡ known_value self.now id.0 }
+    {
+        match self.by_number.get(id.0 as usize) {
+            Some(value) => value.as_ref(),
+            None => None,
+        }
+    }
+
+    /// A copy of the value of a number, if it is known. The one refusal is out of memory.
+    pub(crate) fn get(&self, alloc: Global, id: AtomId) -> Result<Option<Poly>, NoMemory>
+        ensures { IfOk result (λ value. value ≡ known_value self.now id.0) }
+    {
+        match self.known(id) {
+            Some(value) => Ok(Some(value.try_clone(alloc)?)),
+            None => Ok(None),
+        }
+    }
+
+    // Makes room for the value of a number.
+    #[tactic(auto, using(crate::proofs::Known::none_more))]
+    fn make_room(&mut self, id: AtomId) -> Result<(), NoMemory>
+        ensures room { OnOk result (id.0 < length self.new) }
+        ensures same { (k : ℕ) → known_value self.new k ≡ known_value self.old k }
+    {
+        while self.by_number.len() as u64 <= id.0 {
+            self.by_number.push(None)?;
+        }
+        Ok(())
+    }
+
+    /// Keeps a copy of the value of a number. The one refusal is out of memory.
+    pub(crate) fn keep(&mut self, alloc: Global, id: AtomId, value: &Poly) -> Result<(), NoMemory>
+        ensures kept { OnOk result (known_value self.new id.0 ≡ Some value.now) }
+        ensures others { (k : ℕ) → k ≢ id.0 → known_value self.new k ≡ known_value self.old k }
+        ensures refused { OnErr result ((k : ℕ) → known_value self.new k ≡ known_value self.old k) }
+    {
+        let copy = value.try_clone(alloc)?;
+        self.make_room(id)?;
+        self.by_number[id.0 as usize] = Some(copy);
+        Ok(())
+    }
+
+    /// Forgets the values of all numbers but the first ones, as many as `count`.
+    pub(crate) fn truncate(&mut self, count: u64)
+        ensures { self.new ≡ take count self.old }
+    {
+        self.by_number.truncate(count as usize);
+    }
+}

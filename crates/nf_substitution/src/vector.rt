@@ -1,0 +1,184 @@
+//! Vectors: normal forms for positions.
+
+ghost use Rattle.std.specs.Prelude.{◌≡◌, [], Some, option_map, IsTrue, IfOk, OnOk, OnErr};
+ghost use Rattle.nf_substitution.specs.Vectors.{form_at, form_of, has_form, number_at, array_form, list_at, array_of_base};
+ghost use Rattle.nf_substitution.specs.Vectors.{list_of_base};
+ghost use Rattle.nf_substitution.specs.Vectors.{with_form, AreNormalForms};
+
+use crate::copies::copy_forms;
+use crate::place::Place;
+use crate::shared_form::SharedForm;
+use indexmap::IndexMap;
+use nf_terms::arr::Arr;
+use nf_terms::form::Nf;
+use nf_terms::poly::Poly;
+use nf_terms::seq::Seq;
+use nf_terms::stop::NoMemory;
+use nf_terms::symbols::Sort;
+use nf_terms::tree::{Base, Pos, SeqBase};
+use std::alloc::Global;
+use std::marker::Model;
+
+/// Normal forms for positions, at most one of each sort for a position. A form is found in constant time.
+#[derive(Drop)]
+pub struct Vector {
+    forms: IndexMap<Place, SharedForm>,
+}
+
+impl Model for Vector {
+    ghost use Rattle.std.specs.Prelude.{List, map};
+    ghost use Rattle.fs_model.specs.declared.sides.Pos.{Pos};
+    ghost use Rattle.nf_terms.specs.declared.form.Nf.{Nf};
+    ghost use Rattle.nf_substitution.specs.VectorPlaces.{coded_vector, position_entry, ArePlaced};
+
+    ghost Value = { List (Pos × Nf) };
+
+    ghost coded = { coded_vector };
+
+    ghost view = { λ v. map position_entry v.forms.entries };
+
+    ghost invariant = { λ v. ArePlaced v.forms.entries };
+}
+
+impl Vector {
+    /// No form for any position. It takes no memory.
+    pub fn new(alloc: Global) -> Vector
+        ensures { result ≡ [] }
+    {
+        Vector {
+            forms: IndexMap::new(alloc),
+        }
+    }
+
+    /// A copy, which shares the forms. The one refusal is out of memory.
+    pub fn try_clone(&self, alloc: Global) -> Result<Vector, NoMemory>
+        ensures { IfOk result (λ copy. copy ≡ self.now) }
+    {
+        let forms = copy_forms(alloc, &self.forms)?;
+        Ok(Vector { forms })
+    }
+
+    /// What holds of each vector; nothing runs.
+    #[tactic(auto, using(crate::proofs::Entries::normal_forms))]
+    pub fn holds(&self)
+        ensures { AreNormalForms self.now }
+    {
+        let _forms = &self.forms; // The read tells the proof what the type promises of its values.
+    }
+
+    // The allocator.
+    fn allocator(&self) -> Global {
+        *self.forms.allocator()
+    }
+
+    /// Gives a position this form, in the place of its form of the same sort, and leaves the other positions.
+    ///
+    /// The one refusal is out of memory, and leaves the vector unchanged.
+    pub fn put(&mut self, p: Pos, value: Nf) -> Result<(), NoMemory>
+        ensures put { OnOk result (self.new ≡ with_form p value self.old) }
+        ensures refused { OnErr result (self.new ≡ self.old) }
+    {
+        let shared = SharedForm::of(self.allocator(), value)?;
+        self.put_shared(p, shared)?;
+        Ok(())
+    }
+
+    /// As `put`, of a form that is shared.
+    #[tactic(auto, using(crate::proofs::Entries::put_placed, crate::proofs::Entries::put_seen))]
+    pub fn put_shared(&mut self, p: Pos, value: SharedForm) -> Result<(), NoMemory>
+        ensures put { OnOk result (self.new ≡ with_form p value self.old) }
+        ensures refused { OnErr result (self.new ≡ self.old) }
+    {
+        let place = Place {
+            pos: p,
+            sort: value.sort(),
+        };
+        self.forms.insert(place, value)?;
+        Ok(())
+    }
+
+    /// The form of this sort for a position, as it is shared.
+    pub fn shared_form(&self, sort: Sort, p: Pos) -> Option<&SharedForm>
+        ensures { option_map (λ f. f.now) result ≡ form_at sort p self.now }
+    {
+        let place = Place { pos: p, sort };
+        self.forms.get(&place)
+    }
+
+    /// The form of this sort for a position.
+    pub fn form(&self, sort: Sort, p: Pos) -> Option<&Nf>
+        ensures { option_map (λ f. f.now) result ≡ form_at sort p self.now }
+    {
+        match self.shared_form(sort, p) {
+            Some(shared) => Some(shared.form()),
+            None => None,
+        }
+    }
+
+    /// The form of a position that has one: its number, else its array, else its list.
+    pub fn get(&self, p: Pos) -> &Nf
+        requires { IsTrue (has_form p self.now) }
+        ensures { form_of p self.now ≡ Some result.now }
+    {
+        if let Some(number) = self.form(Sort::Scalar, p) {
+            return number;
+        }
+        if let Some(array) = self.form(Sort::Array, p) {
+            return array;
+        }
+        match self.form(Sort::List, p) {
+            Some(list) => list,
+            None => unreachable!(),
+        }
+    }
+
+    /// A copy of the number of a position, or the position's symbol. The one refusal is out of memory.
+    pub fn number(&self, alloc: Global, p: &Pos) -> Result<Poly, NoMemory>
+        ensures { IfOk result (λ n. n ≡ number_at self.now p.now) }
+    {
+        match self.form(Sort::Scalar, *p) {
+            Some(Nf::Num(number)) => number.try_clone(alloc),
+            _ => Poly::symbol(alloc, *p),
+        }
+    }
+
+    /// A copy of the array of a position, or the position's symbol. The one refusal is out of memory.
+    pub fn array(&self, alloc: Global, p: &Pos) -> Result<Arr, NoMemory>
+        ensures { IfOk result (λ a. a ≡ array_form self.now p.now) }
+    {
+        match self.form(Sort::Array, *p) {
+            Some(Nf::Arr(array)) => array.try_clone(alloc),
+            _ => Ok(Arr::bare(alloc, Base::Sym(*p))),
+        }
+    }
+
+    /// A copy of the list of a position, or the position's symbol. The one refusal is out of memory.
+    pub fn list(&self, alloc: Global, p: &Pos) -> Result<Seq, NoMemory>
+        ensures { IfOk result (λ l. l ≡ list_at self.now p.now) }
+    {
+        match self.form(Sort::List, *p) {
+            Some(Nf::Seq(list)) => list.try_clone(alloc),
+            _ => Ok(Seq::bare(alloc, SeqBase::Sym(*p))),
+        }
+    }
+
+    /// A copy of the array of a base. The one refusal is out of memory.
+    pub fn array_base(&self, alloc: Global, base: &Base) -> Result<Arr, NoMemory>
+        ensures { IfOk result (λ a. a ≡ array_of_base self.now base.now) }
+    {
+        match base {
+            Base::Zero => Ok(Arr::bare(alloc, Base::Zero)),
+            Base::Sym(p) => self.array(alloc, p),
+        }
+    }
+
+    /// A copy of the list of a base. The one refusal is out of memory.
+    pub fn list_base(&self, alloc: Global, base: &SeqBase) -> Result<Seq, NoMemory>
+        ensures { IfOk result (λ l. l ≡ list_of_base self.now base.now) }
+    {
+        match base {
+            SeqBase::Empty => Ok(Seq::bare(alloc, SeqBase::Empty)),
+            SeqBase::Sym(p) => self.list(alloc, p),
+        }
+    }
+}
